@@ -1,0 +1,79 @@
+-- The character classes of YAML 1.2.2, chapter 5 (and 6.9, 7.3 for names, tags and plain scalars), as tests on a
+-- character's code. No class holds 0x110000, which stands for "no character" (`code` of `Text`).
+use Rattle.std.specs.Prelude.{ℕ, Bool, true, false, ◌==◌, nat_le, not, ◌&&◌, ◌||◌}
+use Rattle.yf_chars.specs.declared.context.Ctx.{Ctx}
+use Rattle.yf_chars.specs.declared.context.Ctx.TheVariants.{BlockOut, BlockIn, FlowOut, FlowIn, BlockKey, FlowKey}
+
+-- the codes from the first to the last
+unfoldable pub is_between : ℕ → ℕ → ℕ → Bool
+is_between low high c = nat_le low c && nat_le c high
+
+-- c-printable
+unfoldable pub is_printable : ℕ → Bool
+is_printable c = (c == 0x09) || (c == 0x0A) || (c == 0x0D) || is_between 0x20 0x7E c || (c == 0x85)
+    || is_between 0xA0 0xD7FF c || is_between 0xE000 0xFFFD c || is_between 0x10000 0x10FFFF c
+
+-- nb-json
+unfoldable pub is_nb_json : ℕ → Bool
+is_nb_json c = (c == 0x09) || is_between 0x20 0x10FFFF c
+
+-- b-char: a character of a line break
+unfoldable pub is_break_char : ℕ → Bool
+is_break_char c = (c == 0x0A) || (c == 0x0D)
+
+-- nb-char: printable, no line break and no byte order mark
+unfoldable pub is_nb_char : ℕ → Bool
+is_nb_char c = is_printable c && (not (is_break_char c) && not (c == 0xFEFF))
+
+-- s-white: space or tab
+unfoldable pub is_white : ℕ → Bool
+is_white c = (c == 0x20) || (c == 0x09)
+
+-- ns-char
+unfoldable pub is_ns_char : ℕ → Bool
+is_ns_char c = is_nb_char c && not (is_white c)
+
+-- c-flow-indicator: , [ ] { }
+unfoldable pub is_flow_indicator : ℕ → Bool
+is_flow_indicator c = (c == 44) || (c == 91) || (c == 93) || (c == 123) || (c == 125)
+
+-- c-indicator: - ? : , [ ] { } # & * ! | > ' " % @ and the backquote
+unfoldable pub is_indicator : ℕ → Bool
+is_indicator c = is_flow_indicator c || (c == 45) || (c == 63) || (c == 58) || (c == 35) || (c == 38) || (c == 42)
+    || (c == 33) || (c == 124) || (c == 62) || (c == 39) || (c == 34) || (c == 37) || (c == 64) || (c == 96)
+
+-- ns-dec-digit
+unfoldable pub is_digit : ℕ → Bool
+is_digit c = is_between 48 57 c
+
+-- ns-hex-digit
+unfoldable pub is_hex_digit : ℕ → Bool
+is_hex_digit c = is_digit c || is_between 65 70 c || is_between 97 102 c
+
+-- ns-word-char: a digit, an ASCII letter or -
+unfoldable pub is_word_char : ℕ → Bool
+is_word_char c = is_digit c || is_between 65 90 c || is_between 97 122 c || (c == 45)
+
+-- ns-uri-char as a single character: % alone is none, it begins an escape of three characters
+-- word characters and # ; / ? : @ & = + $ , _ . ! ~ * ' ( ) [ ]
+unfoldable pub is_uri_char : ℕ → Bool
+is_uri_char c = is_word_char c || (c == 35) || (c == 59) || (c == 47) || (c == 63) || (c == 58) || (c == 64) || (c == 38)
+    || (c == 61) || (c == 43) || (c == 36) || (c == 44) || (c == 95) || (c == 46) || (c == 33) || (c == 126) || (c == 42)
+    || (c == 39) || (c == 40) || (c == 41) || (c == 91) || (c == 93)
+
+-- ns-tag-char as a single character: ns-uri-char without ! and the flow indicators
+unfoldable pub is_tag_char : ℕ → Bool
+is_tag_char c = is_uri_char c && (not (c == 33) && not (is_flow_indicator c))
+
+-- ns-anchor-char
+unfoldable pub is_anchor_char : ℕ → Bool
+is_anchor_char c = is_ns_char c && not (is_flow_indicator c)
+
+-- ns-plain-safe(c); no character is plain in the two block contexts
+unfoldable pub is_plain_safe : ℕ → Ctx → Bool
+is_plain_safe c BlockOut = false
+is_plain_safe c BlockIn = false
+is_plain_safe c FlowOut = is_ns_char c
+is_plain_safe c BlockKey = is_ns_char c
+is_plain_safe c FlowIn = is_ns_char c && not (is_flow_indicator c)
+is_plain_safe c FlowKey = is_ns_char c && not (is_flow_indicator c)

@@ -1,0 +1,7 @@
+//! Characters: the classes of YAML 1.2.2, escapes, the check that bytes are UTF-8, and the one way in which the
+//! crates above read a character at a byte offset.
+#![tactic(auto)]
+
+pub mod classes;
+pub mod context;
+pub mod error;

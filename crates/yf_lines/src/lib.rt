@@ -1,0 +1,7 @@
+//! Lines and places of a text, the faults that all crates answer, texts that borrow from their source, and readers
+//! and writers that tell whether they have failed.
+#![tactic(auto)]
+
+pub mod fault;
+pub mod place;
+pub mod text;
