@@ -1,6 +1,6 @@
 -- The character classes of YAML 1.2.2, chapter 5 (and 6.9, 7.3 for names, tags and plain scalars), as tests on a
 -- character's code. No class holds 0x110000, which stands for "no character" (`code` of `Text`).
-use Rattle.std.specs.Prelude.{ℕ, Bool, true, false, ◌==◌, nat_le, not, ◌&&◌, ◌||◌}
+use Rattle.std.specs.Prelude.{ℕ, Bool, false, ◌==◌, nat_le, not, ◌&&◌, ◌||◌}
 use Rattle.yf_chars.specs.declared.context.Ctx.{Ctx}
 use Rattle.yf_chars.specs.declared.context.Ctx.TheVariants.{BlockOut, BlockIn, FlowOut, FlowIn, BlockKey, FlowKey}
 
