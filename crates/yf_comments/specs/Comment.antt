@@ -1,0 +1,11 @@
+-- What a comment is to a contract: its bytes, its place and its note, and not where in memory its text lies.
+use Rattle.std.specs.Prelude.{ℕ, Bool, List}
+use Rattle.yf_comments.specs.declared.comment.Comment.{Comment}
+
+pub record CommentValue : Type 0 where
+  pub text : List ℕ
+  pub offset : ℕ
+  pub blank_before : Bool
+
+abbrev pub comment_value : Comment → CommentValue
+comment_value c = record { text = c.text.now; offset = c.offset; blank_before = c.blank_before }

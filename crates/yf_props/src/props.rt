@@ -1,0 +1,20 @@
+//! The properties of a node, as they are written.
+
+/// The properties of a node (c-ns-properties, production 96), each of which may be missing.
+#[derive(Clone, Copy, Debug)]
+pub struct Props<'a> {
+    /// The name behind the `&`.
+    pub anchor: Option<&'a str>,
+    pub tag: Option<Tag<'a>>,
+}
+
+/// A tag as it is written (c-ns-tag-property, production 97).
+#[derive(Clone, Copy, Debug)]
+pub enum Tag<'a> {
+    /// `!<..>`: the text between `<` and `>`.
+    Verbatim(&'a str),
+    /// A shorthand: its handle with the exclamation marks, and the suffix behind it, its escapes not yet read.
+    Short { handle: &'a str, suffix: &'a str },
+    /// A lone `!`.
+    NonSpecific,
+}
