@@ -77,3 +77,7 @@ is_plain_safe c FlowOut = is_ns_char c
 is_plain_safe c BlockKey = is_ns_char c
 is_plain_safe c FlowIn = is_ns_char c && not (is_flow_indicator c)
 is_plain_safe c FlowKey = is_ns_char c && not (is_flow_indicator c)
+
+-- what may follow a document marker, and `-`, `?` or `:` as an indicator: white, a break or the end of the text
+unfoldable pub is_white_or_end : ℕ → Bool
+is_white_or_end c = is_white c || is_break_char c || (c == 0x110000)
