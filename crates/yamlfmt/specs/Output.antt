@@ -1,6 +1,8 @@
 -- What writing a text to a writer does.
 use Rattle.std.specs.Prelude.{◌≡◌, ℕ, List, ◌++◌, Bool, true, Option, Result, MatchResult}
 use Rattle.std.specs.Io.KnownBytes.{Appends}
+use Rattle.std.specs.List.{flat_map}
+use Rattle.std.specs.Borrow.{Bor}
 use Rattle.yf_lines.specs.declared.fault.Fault.{Fault}
 use Rattle.yf_lines.specs.declared.fault.Fault.TheVariants.{WriteFailed}
 
@@ -22,3 +24,7 @@ abbrev pub Writes : Option (List ℕ) → Option (List ℕ) → Bool → Bool �
 Writes old new before after text outcome = MatchResult outcome
     (λ _. Wrote old new before after text)
     (λ fault. (fault ≡ WriteFailed) × Broke old new after text)
+
+-- the texts joined
+abbrev pub texts : List (Bor (List ℕ)) → List ℕ
+texts parts = flat_map (λ part. part.now) parts

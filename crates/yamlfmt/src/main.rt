@@ -3,6 +3,7 @@
 
 mod input;
 mod output;
+mod report;
 
 fn main(rt: HostRuntime) {
     let _ = rt;

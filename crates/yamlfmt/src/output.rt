@@ -1,5 +1,5 @@
 //! Writing a whole text.
-ghost use Rattle.yamlfmt.specs.Output.{Writes};
+ghost use Rattle.yamlfmt.specs.Output.{Writes, texts};
 
 use yf_lines::fault::Fault;
 use yf_lines::watched::Sink;
@@ -22,6 +22,17 @@ pub fn write_text<W: Sink>(writer: &mut W, bytes: &[u8]) -> Result<(), Fault>
             return Err(Fault::WriteFailed);
         }
         rest = &rest[count..];
+    }
+    Ok(())
+}
+
+/// Writes the texts one after another, up to the first that is not written whole.
+pub fn write_texts<W: Sink>(writer: &mut W, parts: &[&str]) -> Result<(), Fault>
+    ensures { Writes (W.contents writer.old) (W.contents writer.new)
+        (W.has_failed writer.old) (W.has_failed writer.new) (texts parts.now) result }
+{
+    for part in parts {
+        write_text(writer, part.as_bytes())?;
     }
     Ok(())
 }
