@@ -1,5 +1,5 @@
 //! Readers and writers that tell whether they have failed.
-ghost use Rattle.std.specs.Prelude.{◌≡◌, Bool, false};
+ghost use Rattle.std.specs.Prelude.{◌≡◌, Bool, true, false};
 ghost use Rattle.std.specs.Io.{ReadsAtMost, WritesAtMost};
 ghost use Rattle.std.specs.Io.KnownBytes.{ReadConsumes, WriteAppends, Keeps};
 
@@ -70,6 +70,14 @@ impl<T> Watched<T> {
         &self.inner
     }
 
+    // A call has failed.
+    fn note_failure(&mut self)
+        ensures inner { watched_inner self.new ≡ watched_inner self.old }
+        ensures failed { watched_failed self.new ≡ true }
+    {
+        self.failed = true;
+    }
+
     /// Gives the reader or writer back.
     pub fn into_inner(self) -> T
         ensures { result ≡ watched_inner self }
@@ -91,7 +99,7 @@ impl<T: Read> Read for Watched<T> {
         match self.inner.read(buffer) {
             Ok(count) => Ok(count),
             Err(error) => {
-                self.failed = true;
+                self.note_failure();
                 Err(error)
             }
         }
@@ -125,12 +133,12 @@ impl<T: Write> Write for Watched<T> {
         match self.inner.write(bytes) {
             Ok(count) => {
                 if count == 0 && !bytes.is_empty() {
-                    self.failed = true;
+                    self.note_failure();
                 }
                 Ok(count)
             }
             Err(error) => {
-                self.failed = true;
+                self.note_failure();
                 Err(error)
             }
         }
@@ -143,7 +151,7 @@ impl<T: Write> Write for Watched<T> {
         match self.inner.flush() {
             Ok(()) => Ok(()),
             Err(error) => {
-                self.failed = true;
+                self.note_failure();
                 Err(error)
             }
         }
@@ -161,5 +169,29 @@ impl<T: Write> Sink for Watched<T> {
 
     fn failed(&self) -> bool {
         self.failed
+    }
+}
+
+#[cfg(test)]
+mod tests {
+    use super::*;
+
+    #[test]
+    fn gives_the_writer_back(rt: HostRuntime) {
+        let mut writer = Watched::new(Vec::new(rt.alloc()));
+        assert!(rt; writer.write_watched(b"a").is_ok());
+        assert!(rt; writer.flush().is_ok());
+        assert!(rt; !writer.failed());
+        assert_eq!(rt; writer.into_inner().as_slice(), b"a".as_slice());
+    }
+
+    #[test]
+    fn gives_the_reader_back(rt: HostRuntime) {
+        let mut reader = Watched::new(b"ab".as_slice());
+        let mut buffer = [0; 1];
+        assert!(rt; reader.read_watched(&mut buffer).is_ok());
+        assert!(rt; !reader.failed());
+        assert_eq!(rt; buffer[0], b'a');
+        assert_eq!(rt; reader.into_inner(), b"b".as_slice());
     }
 }
