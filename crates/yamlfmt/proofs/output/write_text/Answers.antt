@@ -1,5 +1,5 @@
 use Rattle.std.proofs.Common.{◌≡◌, rules, refl}
-use Rattle.yamlfmt.proofs.OutputLemmas.{progress_more, progress_done, progress_broke, Keeps-nothing}
+use Rattle.yamlfmt.proofs.OutputLemmas.{progress_more, progress_broke, Keeps-nothing}
 use Rattle.yamlfmt.proofs.output.write_text.Goals as goal
 
 pub returns-in-Err : goal.returns-in-Err
