@@ -5,4 +5,8 @@
 pub mod classes;
 pub mod context;
 pub mod error;
+<<<<<<< HEAD
 pub mod text;
+=======
+pub mod utf8;
+>>>>>>> io
