@@ -1,0 +1,5 @@
+pub mod Content
+pub mod Event
+pub mod Nested
+pub mod Notation
+pub mod Reading

@@ -1,0 +1,11 @@
+//! Readings: the flat list of events with their places, its notation and its content.
+#![tactic(auto)]
+
+pub mod document;
+pub mod event;
+pub mod events;
+pub mod lists;
+pub mod part;
+pub mod reading;
+pub mod row;
+pub mod slices;
