@@ -5,6 +5,7 @@ pub mod document;
 pub mod event;
 pub mod events;
 pub mod lists;
+pub mod nesting;
 pub mod part;
 pub mod reading;
 pub mod row;
