@@ -1,10 +1,12 @@
 -- One event of the pass, by what it does to what is awaited.
-use Rattle.std.proofs.Common.{ℕ, suc, zero, ◌+◌, ◌-◌, ◌<◌, ◌≤◌, ◌≡◌, Bool, true, false, List, [], ◌∷◌, ◌++◌, Option, Some, None, length, refl, sym, ap, ◌∙◌, arith, length-append}
+use Rattle.std.proofs.Common.{ℕ, suc, zero, ◌+◌, ◌-◌, ◌<◌, ◌≤◌, ◌≡◌, Bool, true, false, List, [], ◌∷◌, ◌++◌, Option, Some, None, length, refl, sym, ap, ◌∙◌, arith, length-append, map, drop, ◌==◌}
 use Rattle.std.specs.Prelude.{reverse}
-use Rattle.std.proofs.lemmas.List.{reverse-append}
+use Rattle.std.proofs.lemmas.Bool.Decides.{nat_tests}
+use Rattle.std.proofs.lemmas.List.{reverse-append, length-reverse, drop_all}
 use Rattle.yf_events.specs.Event.{EventValue}
-use Rattle.yf_events.specs.Nesting.{Advances, move_at, run, runs_on, follow, enter}
+use Rattle.yf_events.specs.Nesting.{Advances, move_at, run, runs_on, is_over}
 use Rattle.yf_events.specs.declared.nesting.Awaited.{Awaited}
+use Rattle.yf_events.specs.declared.nesting.Awaited.TheVariants.{Stream, Documents, Root, Closing, Items, Keys, Values, Nothing}
 use Rattle.yf_events.specs.declared.nesting.Move.TheVariants.{Refuse, Stay, Open, Close}
 
 refused_at : (r : ℕ) (f : Awaited) (b : List Awaited) (e : EventValue) (es : List EventValue) → move_at f e ≡ Refuse → run r f b (e ∷ es) ≡ false
@@ -64,3 +66,33 @@ closes limit f t b a e m l is =
 pub bare : (limit : ℕ) (f : Awaited) (b a : List Awaited) (e : EventValue) → move_at f e ≡ Close → b ≡ a ++ [] → length b ≡ 0 → Advances limit f b e None a
 bare limit f [] a e m is n = record { same = λ es. bare_at (limit - 0) f e es m }
 bare limit f (x ∷ b) a e m is n = absurd (omega (arith, n))
+
+-- The end of the pass
+
+not_zero : (n : ℕ) → (suc n == 0) ≡ false
+not_zero n = grind (arith, nat_tests)
+
+over_is : (b : List Awaited) → is_over Nothing b ≡ (length b == 0)
+over_is [] = refl
+over_is (x ∷ b) = sym (not_zero (length b))
+
+pub over_at : (r : ℕ) (b : List Awaited) → run r Nothing (reverse b) [] ≡ (length b == 0)
+unfolding run
+over_at r b = over_is (reverse b) ∙ ap (λ n. n == 0) (length-reverse b)
+
+not_over : (f : Awaited) (b : List Awaited) → (f ≡ Nothing → ⊥) → is_over f b ≡ false
+not_over Nothing b h = absurd (h refl)
+not_over Stream b h = refl
+not_over Documents b h = refl
+not_over Root b h = refl
+not_over Closing b h = refl
+not_over Items b h = refl
+not_over Keys b h = refl
+not_over Values b h = refl
+
+pub not_over_at : (r : ℕ) (f : Awaited) (b : List Awaited) → (f ≡ Nothing → ⊥) → run r f b [] ≡ false
+unfolding run
+not_over_at r f b h = not_over f b h
+
+pub past_end : {X : Type 0} (g : X → EventValue) (i : ℕ) (xs : List X) → length xs ≤ i → map g (drop i xs) ≡ []
+past_end g i xs l = ap (map g) (drop_all i xs l)
