@@ -5,3 +5,4 @@
 pub mod classes;
 pub mod context;
 pub mod error;
+pub mod utf8;

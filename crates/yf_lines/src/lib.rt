@@ -5,3 +5,4 @@
 pub mod fault;
 pub mod place;
 pub mod text;
+pub mod watched;
