@@ -1,5 +1,5 @@
 //! Lists of events and of comments.
-ghost use Rattle.std.specs.Prelude.{◌≡◌, [], ◌∷◌, ◌++◌, map, if◌then◌else◌, is_ok};
+ghost use Rattle.std.specs.Prelude.{◌≡◌, ◌<◌, [], ◌∷◌, ◌++◌, length, map, slice_get, if◌then◌else◌, is_ok};
 
 use crate::event::PlacedEvent;
 use std::alloc::{AllocError, Global};
@@ -37,6 +37,28 @@ impl<'a> Events<'a> {
         ensures { self.new ≡ (if is_ok result then self.old ++ placed_value event.entry ∷ [] else self.old) }
     {
         self.list.push(event)?;
+        Ok(())
+    }
+
+    pub fn len(&self) -> usize
+        ensures { result ≡ length self.now }
+    {
+        self.list.len()
+    }
+
+    /// The event at an index.
+    pub fn at(&self, i: usize) -> &PlacedEvent<'a>
+        requires { i < length self.now }
+        ensures { slice_get self.now i ≡ Some (placed_value result.now) }
+    {
+        &self.list[i]
+    }
+
+    /// Moves all events of another list to the end.
+    pub fn append(&mut self, mut other: Events<'a>) -> Result<(), AllocError>
+        ensures { self.new ≡ (if is_ok result then self.old ++ other.entry else self.old) }
+    {
+        self.list.append(&mut other.list)?;
         Ok(())
     }
 
@@ -78,6 +100,28 @@ impl<'a> Comments<'a> {
         ensures { self.new ≡ (if is_ok result then self.old ++ comment_value comment.entry ∷ [] else self.old) }
     {
         self.list.push(comment)?;
+        Ok(())
+    }
+
+    pub fn len(&self) -> usize
+        ensures { result ≡ length self.now }
+    {
+        self.list.len()
+    }
+
+    /// The comment at an index.
+    pub fn at(&self, i: usize) -> &Comment<'a>
+        requires { i < length self.now }
+        ensures { slice_get self.now i ≡ Some (comment_value result.now) }
+    {
+        &self.list[i]
+    }
+
+    /// Moves all comments of another list to the end.
+    pub fn append(&mut self, mut other: Comments<'a>) -> Result<(), AllocError>
+        ensures { self.new ≡ (if is_ok result then self.old ++ other.entry else self.old) }
+    {
+        self.list.append(&mut other.list)?;
         Ok(())
     }
 

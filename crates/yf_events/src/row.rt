@@ -1,5 +1,5 @@
 //! A list of values.
-ghost use Rattle.std.specs.Prelude.{◌≡◌, [], ◌∷◌, ◌++◌, if◌then◌else◌, is_ok};
+ghost use Rattle.std.specs.Prelude.{◌≡◌, ◌<◌, [], ◌∷◌, ◌++◌, length, slice_get, if◌then◌else◌, is_ok};
 
 use std::alloc::{AllocError, Global};
 use std::marker::Model;
@@ -25,6 +25,20 @@ impl<T> Row<T> {
         Row {
             list: Vec::new(alloc),
         }
+    }
+
+    pub fn len(&self) -> usize
+        ensures { result ≡ length self.now }
+    {
+        self.list.len()
+    }
+
+    /// The value at an index.
+    pub fn at(&self, i: usize) -> &T
+        requires { i < length self.now }
+        ensures { slice_get self.now i ≡ Some result.now }
+    {
+        &self.list[i]
     }
 
     pub fn as_slice(&self) -> &[T]
