@@ -55,7 +55,7 @@ passes (more_nodes {x = x} {y = w} n m) = λ room b y l.
 passes no_pairs = λ room b y l. refl
 passes (more_pairs {k = k} {v = v} {y = w} n m o) = λ room b y l.
     rw (append_assoc {A = EventValue} k (v ++ w) y, append_assoc {A = EventValue} v w y)
-        (passes n room Keys Values b (v ++ (w ++ y)) l refl ∙ passes m room Values Keys b (w ++ y) l refl ∙ passes o room b y l)
+    (passes n room Keys Values b (v ++ (w ++ y)) l refl ∙ passes m room Values Keys b (w ++ y) l refl ∙ passes o room b y l)
 passes no_documents = λ room b y l. refl
 passes (more_documents closed n m) = λ room b y l. document_step _ room b _ closed _ _ y (passes n) (passes m) l
 

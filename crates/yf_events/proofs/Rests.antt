@@ -15,13 +15,13 @@ data Rest : ℕ → Awaited → List Awaited → List EventValue → Type 0 wher
   over : {r : ℕ} → Rest r Nothing [] []
   stream_left : {r : ℕ} {b : List Awaited} {y : List EventValue} → Rest r Documents b y → Rest r Stream b (stream_starts ∷ y)
   documents_left : {r : ℕ} {b : List Awaited} {x y : List EventValue}
-    → Nested many_documents r x → Rest r Nothing b y → Rest r Documents b (x ++ (stream_ends ∷ y))
+      → Nested many_documents r x → Rest r Nothing b y → Rest r Documents b (x ++ (stream_ends ∷ y))
   root_left : {r : ℕ} {b : List Awaited} {x y : List EventValue} → Nested one_node r x → Rest r Closing b y → Rest r Root b (x ++ y)
   closing_left : {r : ℕ} {b : List Awaited} {y : List EventValue} (marked : Bool) → Rest r Documents b y → Rest r Closing b (document_ends marked ∷ y)
   items_left : {r : ℕ} {t : Awaited} {b : List Awaited} {x y : List EventValue}
-    → Nested many_nodes r x → Rest (suc r) t b y → Rest r Items (t ∷ b) (x ++ (sequence_ends ∷ y))
+      → Nested many_nodes r x → Rest (suc r) t b y → Rest r Items (t ∷ b) (x ++ (sequence_ends ∷ y))
   keys_left : {r : ℕ} {t : Awaited} {b : List Awaited} {x y : List EventValue}
-    → Nested many_pairs r x → Rest (suc r) t b y → Rest r Keys (t ∷ b) (x ++ (mapping_ends ∷ y))
+      → Nested many_pairs r x → Rest (suc r) t b y → Rest r Keys (t ∷ b) (x ++ (mapping_ends ∷ y))
   values_left : {r : ℕ} {b : List Awaited} {x y : List EventValue} → Nested one_node r x → Rest r Keys b y → Rest r Values b (x ++ y)
 
 more_items : {r : ℕ} {b : List Awaited} {x z : List EventValue} → Nested one_node r x → Rest r Items b z → Rest r Items b (x ++ z)

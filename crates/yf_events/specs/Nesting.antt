@@ -89,4 +89,4 @@ runs_on (Some top) room below es = run room top below es
 
 pub record Advances (limit : ℕ) (top : Awaited) (below : List Awaited) (e : EventValue) (next : Option Awaited) (after : List Awaited) : Type 0 where
   pub same : (es : List EventValue)
-    → run (limit - length below) top (reverse below) (e ∷ es) ≡ runs_on next (limit - length after) (reverse after) es
+      → run (limit - length below) top (reverse below) (e ∷ es) ≡ runs_on next (limit - length after) (reverse after) es

@@ -1,7 +1,8 @@
 -- What a reading is: lists that fit each other, and events that are well nested.
-use Rattle.std.specs.Prelude.{ℕ, Bool, true, false, List, [], ◌∷◌, ◌++◌, Option, Some, None, length, map, ◌≡◌, count_by, nat_lt}
+use Rattle.std.specs.Prelude.{option_map, slice_get, ℕ, Bool, true, false, List, [], ◌∷◌, ◌++◌, Option, Some, None, length, map, ◌≡◌, count_by, nat_lt}
 use Rattle.yf_events.specs.Event.{EventValue, Placed, scalar_node, alias_node, sequence_starts, sequence_ends, mapping_starts, mapping_ends}
 use Rattle.yf_events.specs.Nested.{IsStream}
+use Rattle.yf_events.specs.declared.event.Entry.{Entry}
 use Rattle.yf_events.specs.declared.event.Span.{Span}
 use Rattle.yf_events.specs.declared.lists.Lists.{Lists}
 use Rattle.yf_events.specs.declared.reading.TheConstants.{DEPTH}
@@ -9,6 +10,16 @@ use Rattle.yf_events.specs.declared.reading.TheConstants.{DEPTH}
 -- the events themselves
 abbrev pub events_of : Lists → List EventValue
 events_of r = map (λ e. e.event) r.events
+
+-- of each event the part of the text, the entry and the lines
+abbrev pub spans_of : Lists → List (Option Span)
+spans_of r = map (λ e. e.span) r.events
+
+abbrev pub entries_of : Lists → List (Option Entry)
+entries_of r = map (λ e. e.entry) r.events
+
+abbrev pub folded_of : Lists → List (List (List ℕ))
+folded_of r = map (λ e. e.folded) r.events
 
 -- each event has its resolved tag or none, and each comment its note
 pub record Fits (r : Lists) : Type 0 where
@@ -50,6 +61,10 @@ documents_before r offset = count_by (λ d. nat_lt d.start offset) r.documents
 
 abbrev pub leaves_before : Lists → ℕ → ℕ
 leaves_before r offset = count_by (λ start. nat_lt start offset) (leaf_starts r.events)
+
+-- the place of the comment at an index
+abbrev pub place_at : Lists → ℕ → Option (ℕ × ℕ)
+place_at r k = option_map (λ c. (documents_before r c.offset, leaves_before r c.offset)) (slice_get r.comments k)
 
 -- what is true of every reading, with the list of its leaves that is kept beside it
 pub record Holds (r : Lists) (leaves : List ℕ) : Type 0 where

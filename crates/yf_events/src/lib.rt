@@ -4,6 +4,7 @@
 pub mod document;
 pub mod event;
 pub mod events;
+pub mod leaves;
 pub mod lists;
 pub mod nesting;
 pub mod part;

@@ -9,4 +9,4 @@ abbrev pub invariant-loop-placed : goal.invariant-loop-placed
 invariant-loop-placed l =
     (vec_len l.below ≤ l.limit)
     × (run (l.limit - length l.below.items) l.top (reverse l.below.items) (map (λ e. event_value e.event) (drop l.placed-index l.events))
-        ≡ run l.limit Stream [] (map (λ e. event_value e.event) l.events))
+    ≡ run l.limit Stream [] (map (λ e. event_value e.event) l.events))
