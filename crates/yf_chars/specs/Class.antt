@@ -1,6 +1,6 @@
 -- The character classes of YAML 1.2.2, chapter 5 (and 6.9, 7.3 for names, tags and plain scalars), as tests on a
 -- character's code. No class holds 0x110000, which stands for "no character" (`code` of `Text`).
-use Rattle.std.specs.Prelude.{ℕ, Bool, true, false, ◌==◌, nat_le, not, ◌&&◌, ◌||◌}
+use Rattle.std.specs.Prelude.{ℕ, Bool, false, ◌==◌, nat_le, not, ◌&&◌, ◌||◌}
 use Rattle.yf_chars.specs.declared.context.Ctx.{Ctx}
 use Rattle.yf_chars.specs.declared.context.Ctx.TheVariants.{BlockOut, BlockIn, FlowOut, FlowIn, BlockKey, FlowKey}
 
@@ -77,3 +77,7 @@ is_plain_safe c FlowOut = is_ns_char c
 is_plain_safe c BlockKey = is_ns_char c
 is_plain_safe c FlowIn = is_ns_char c && not (is_flow_indicator c)
 is_plain_safe c FlowKey = is_ns_char c && not (is_flow_indicator c)
+
+-- what may follow a document marker, and `-`, `?` or `:` as an indicator: white, a break or the end of the text
+unfoldable pub is_white_or_end : ℕ → Bool
+is_white_or_end c = is_white c || is_break_char c || (c == 0x110000)

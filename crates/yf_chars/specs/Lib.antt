@@ -1,1 +1,3 @@
+pub mod Chain
 pub mod Class
+pub mod Text

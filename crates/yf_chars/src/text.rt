@@ -1,0 +1,38 @@
+//! Characters of a text at byte offsets: the one base on which all readers stand.
+ghost use Rattle.std.specs.Prelude.{◌≡◌, ◌≢◌, ◌+◌, ◌<◌, ◌≤◌, ◌==◌, length, MatchOption, MatchBool};
+ghost use Rattle.std.specs.Str.{IsCharBoundary};
+ghost use Rattle.yf_chars.specs.Text.{code, before, no_char, Reads};
+
+/// The character that begins at the byte offset, and the offset behind it; `None` at the end of the text.
+///
+/// ASCII takes one test and no decoding.
+pub fn peek(s: &str, at: usize) -> Option<(char, usize)>
+    requires { IsCharBoundary s.now at }
+    ensures { MatchOption result ((code s.now at ≡ no_char) × (at ≡ length s.now)) (λ p. Reads s.now at p.0 p.1) }
+{
+    let bytes = s.as_bytes();
+    if at == bytes.len() {
+        return None;
+    }
+    let byte = bytes[at];
+    if byte < 128 {
+        return Some((char::from(byte), at + 1));
+    }
+    match s[at..].chars().next() {
+        Some(c) => Some((c, at + c.len_utf8())),
+        None => unreachable!(),
+    }
+}
+
+/// Whether that ASCII character begins at the byte offset.
+pub fn stands(s: &str, at: usize, byte: u8) -> bool
+    requires { byte < 128 }
+    ensures value { result ≡ (code s.now at == byte) }
+    ensures cases { MatchBool result (Reads s.now at byte (at + 1)) (code s.now at ≢ byte) }
+{
+    let bytes = s.as_bytes();
+    if at < bytes.len() {
+        return bytes[at] == byte;
+    }
+    false
+}
