@@ -2,7 +2,6 @@
 #![tactic(auto)]
 
 mod input;
-mod output;
 mod report;
 #[cfg(test)]
 mod tests;
@@ -10,9 +9,9 @@ mod tests;
 use input::read_all;
 use report::report;
 use std::alloc::Global;
-use std::env;
 use std::process::ExitCode;
 use std::rt::Env;
+use std::env;
 use yf_chars::utf8::check_utf8;
 use yf_lines::fault::Fault;
 use yf_lines::watched::{Source, Watched};

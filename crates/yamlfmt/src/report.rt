@@ -1,11 +1,12 @@
 //! What the program prints for a fault, and the status with which it then ends.
 ghost use Rattle.std.specs.Prelude.{◌≡◌, ◌⊎◌};
-ghost use Rattle.yamlfmt.specs.Output.{Writes, Wrote, Broke};
+ghost use Rattle.yf_lines.specs.Output.{Writes, Wrote, Broke};
 ghost use Rattle.yamlfmt.specs.Report.{fault_line, fault_status, refusal_line};
 
 use crate::output::{write_text, write_texts};
 use itoa::Buffer;
 use yf_lines::fault::Fault;
+use yf_lines::output::{write_text, write_texts};
 use yf_lines::place::Place;
 use yf_lines::watched::Sink;
 

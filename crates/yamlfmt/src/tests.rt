@@ -1,12 +1,12 @@
 //! What the contracts leave to the system: that reading and writing succeed, and what a failing reader or writer gives.
 
 use crate::input::read_all;
-use crate::output::write_text;
 use crate::report::report;
 use std::io;
 use std::io::{Read, Write};
 use std::test::Fail;
 use yf_lines::fault::Fault;
+use yf_lines::output::write_text;
 use yf_lines::place::Place;
 use yf_lines::text::OwnedText;
 use yf_lines::watched::{Sink, Source, Watched};

@@ -5,8 +5,5 @@
 pub mod classes;
 pub mod context;
 pub mod error;
-<<<<<<< HEAD
 pub mod text;
-=======
 pub mod utf8;
->>>>>>> io

@@ -7,7 +7,7 @@ use Rattle.std.proofs.KnownBytes.{Appends-trans, Appends-kept}
 use Rattle.std.proofs.lemmas.List.{take_rest}
 use Rattle.yf_lines.specs.declared.fault.Fault.{Fault}
 use Rattle.yf_lines.specs.declared.fault.Fault.TheVariants.{WriteFailed}
-use Rattle.yamlfmt.specs.Output.{Wrote, Broke, Writes, texts}
+use Rattle.yf_lines.specs.Output.{Wrote, Broke, Writes, texts}
 
 -- the part of the text before `rest` was appended, and no write has failed
 pub record Progress (old new : Option (List ℕ)) (before after : Bool) (text rest : List ℕ) : Type 0 where
