@@ -3,7 +3,6 @@ ghost use Rattle.std.specs.Prelude.{◌≡◌, ◌⊎◌};
 ghost use Rattle.yf_lines.specs.Output.{Writes, Wrote, Broke};
 ghost use Rattle.yamlfmt.specs.Report.{fault_line, fault_status, refusal_line};
 
-use crate::output::{write_text, write_texts};
 use itoa::Buffer;
 use yf_lines::fault::Fault;
 use yf_lines::output::{write_text, write_texts};
