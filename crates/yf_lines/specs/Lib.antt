@@ -1,2 +1,3 @@
 pub mod Basic
+pub mod Lines
 pub mod Text

@@ -3,5 +3,6 @@
 #![tactic(auto)]
 
 pub mod fault;
+pub mod line;
 pub mod place;
 pub mod text;

@@ -1,0 +1,75 @@
+-- The lines of a text t, the place of an offset, and the forbidden lines (YAML 1.2.2, 5.4 and 9.1.2). A line ends with
+-- its break, CR LF, CR or LF; the text behind the last break is a line where it is not empty. Offsets count bytes.
+use Rattle.std.specs.Prelude.{◌≡◌, ◌≢◌, ℕ, ◌+◌, ◌<◌, ◌≤◌, Bool, true, false, ◌==◌, nat_lt, List, [], ◌∷◌, length, slice_get, Some}
+use Rattle.yf_chars.specs.Chain.{Chain, Many}
+use Rattle.yf_chars.specs.Class.{is_break_char}
+use Rattle.yf_chars.specs.Text.{code, no_char}
+use Rattle.yf_lines.specs.Basic.{Break, Spaces, is_marker}
+use Rattle.yf_lines.specs.declared.line.Line.{Line}
+
+-- no character of a break stands from i on before j
+pub record Unbroken (t : List ℕ) (i j : ℕ) : Type 0 where
+  pub order : i ≤ j
+  pub none : (h : ℕ) → i ≤ h → h < j → is_break_char (code t h) ≡ false
+
+-- where a line's text ends and where the next line begins: round a break, or both at the end of the text
+pub data LineEnd (t : List ℕ) : ℕ → ℕ → Type 0 where
+  at_break : {i j : ℕ} → Break t i j → LineEnd t i j
+  at_end : {i : ℕ} → i ≡ length t → LineEnd t i i
+
+-- k spaces stand from i on, and no more
+pub record Indented (t : List ℕ) (i k : ℕ) : Type 0 where
+  pub spaces : Spaces t i k
+  pub stops : code t (i + k) ≢ 32
+
+-- one line, from its start to the start of the next
+pub data OneLine (t : List ℕ) : ℕ → ℕ → List Line → Type 0 where
+  one_line : {i h j k : ℕ} → i < j → Unbroken t i h → LineEnd t h j → Indented t i k
+      → OneLine t i j (record { start = i; end = h; next = j; indent = k } ∷ [])
+
+-- all lines of the text, in order
+abbrev pub AreLines : List ℕ → List Line → Type 0
+AreLines t ls = Chain (OneLine t) 0 (length t) ls
+
+-- the byte order mark
+abbrev pub is_mark : ℕ → Bool
+is_mark c = c == 0xFEFF
+
+-- a character, and not the end of the text
+abbrev pub is_char : ℕ → Bool
+is_char c = nat_lt c no_char
+
+-- byte order marks stand from i to j, and none at j
+pub record Marks (t : List ℕ) (i j : ℕ) : Type 0 where
+  pub marks : List ℕ
+  pub run : Many t is_mark i j marks
+  pub stops : is_mark (code t j) ≡ false
+
+-- the line holds the offset: from its start to before the start of the next. The end of the text is held by a last line
+-- without a break
+pub data Holds (l : Line) (offset : ℕ) : Type 0 where
+  inside : l.start ≤ offset → offset < l.next → Holds l offset
+  at_text_end : l.end ≡ l.next → l.next ≡ offset → Holds l offset
+
+-- the column of an offset in the line that begins at i: one more than the number of characters between the line's marks
+-- and the offset. An offset at a mark of the line's start has column 1
+pub data ColumnOf (t : List ℕ) (i offset : ℕ) : ℕ → Type 0 where
+  among_marks : {j : ℕ} → Marks t i j → offset < j → ColumnOf t i offset 1
+  behind_marks : {j : ℕ} {x : List ℕ} → Marks t i j → Many t is_char j offset x → ColumnOf t i offset (length x + 1)
+
+-- at the end of the text a line would begin: the text is empty, or it ends with a break
+pub data NewLine (t : List ℕ) : Type 0 where
+  of_empty : length t ≡ 0 → NewLine t
+  of_break : {i : ℕ} → Break t i (length t) → NewLine t
+
+-- line and column of an offset, both from 1: those in the line that holds it, or column 1 of the line that would follow
+pub data PlaceOf (t : List ℕ) (offset : ℕ) : ℕ → ℕ → Type 0 where
+  in_line : {ls : List Line} {l : Line} {c : ℕ} (k : ℕ) → AreLines t ls → slice_get ls k ≡ Some l → Holds l offset
+      → ColumnOf t l.start offset c → PlaceOf t offset (k + 1) c
+  behind_lines : {ls : List Line} → AreLines t ls → offset ≡ length t → NewLine t → PlaceOf t offset (length ls + 1) 1
+
+-- the line begins, behind its marks, with a document marker
+pub record IsForbiddenLine (t : List ℕ) (l : Line) : Type 0 where
+  pub at : ℕ
+  pub behind : Marks t l.start at
+  pub marker : is_marker t at ≡ true
