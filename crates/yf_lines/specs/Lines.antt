@@ -1,6 +1,6 @@
 -- The lines of a text t, the place of an offset, and the forbidden lines (YAML 1.2.2, 5.4 and 9.1.2). A line ends with
 -- its break, CR LF, CR or LF; the text behind the last break is a line where it is not empty. Offsets count bytes.
-use Rattle.std.specs.Prelude.{◌≡◌, ◌≢◌, ℕ, ◌+◌, ◌<◌, ◌≤◌, Bool, true, false, ◌==◌, nat_lt, List, [], ◌∷◌, length, slice_get, Some}
+use Rattle.std.specs.Prelude.{◌≡◌, ◌≢◌, ℕ, ◌+◌, ◌-◌, ◌<◌, ◌≤◌, Bool, true, false, ◌==◌, nat_lt, List, [], ◌∷◌, length, slice_get, Some}
 use Rattle.yf_chars.specs.Chain.{Chain, Many}
 use Rattle.yf_chars.specs.Class.{is_break_char}
 use Rattle.yf_chars.specs.Text.{code, no_char}
@@ -30,6 +30,15 @@ pub data OneLine (t : List ℕ) : ℕ → ℕ → List Line → Type 0 where
 -- all lines of the text, in order
 abbrev pub AreLines : List ℕ → List Line → Type 0
 AreLines t ls = Chain (OneLine t) 0 (length t) ls
+
+-- what a table of lines is: a text and its lines
+pub record Table : Type 0 where
+  pub text : List ℕ
+  pub lines : List Line
+
+-- the offset does not stand inside of a CR LF
+pub record Apart (t : List ℕ) (i : ℕ) : Type 0 where
+  pub no_cr : code t i ≡ 10 → code t (i - 1) ≢ 13
 
 -- the byte order mark
 abbrev pub is_mark : ℕ → Bool

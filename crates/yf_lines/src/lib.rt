@@ -6,4 +6,5 @@ pub mod basic;
 pub mod fault;
 pub mod line;
 pub mod place;
+pub mod table;
 pub mod text;

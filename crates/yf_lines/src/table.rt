@@ -1,0 +1,137 @@
+//! The lines of a text, found once and kept.
+ghost use Rattle.std.specs.Prelude.{◌≡◌, ◌↔◌, ◌≢◌, ◌+◌, ◌-◌, ◌<◌, ◌≤◌, ◌⊎◌, ℕ, true, false, Some, [], ◌∷◌, length, slice_get, IfOk, MatchBool};
+ghost use Rattle.std.specs.Str.{IsCharBoundary};
+ghost use Rattle.yf_chars.specs.Class.{is_break_char};
+ghost use Rattle.yf_chars.specs.Text.{code};
+ghost use Rattle.yf_lines.specs.Lines.{AreLines, OneLine, Unbroken, Apart};
+
+use std::alloc::{AllocError, Global};
+use std::marker::Model;
+
+use crate::basic::{line_break, skip_spaces};
+use crate::line::Line;
+use yf_chars::text::stands;
+
+/// A text and all its lines. In a contract it is a record of the text's bytes and the list of the lines.
+#[derive(Debug, Drop)]
+pub struct LineTable<'a> {
+    text: &'a str,
+    lines: Vec<Line>,
+}
+
+impl<'a> Model for LineTable<'a> {
+    ghost use Rattle.yf_lines.specs.Lines.{AreLines, Table};
+
+    ghost Value = { Table };
+
+    ghost view = { λ a. record { text = a.text.now; lines = a.lines.items } };
+
+    ghost invariant = { λ a. AreLines a.text.now a.lines.items };
+}
+
+impl<'a> LineTable<'a> {
+    /// Finds the lines of the text, in one pass.
+    ///
+    /// # Errors
+    ///
+    /// `AllocError` where a growth of memory was refused.
+    pub fn build(alloc: Global, text: &'a str) -> Result<LineTable<'a>, AllocError>
+        ensures text { IfOk result (λ table. table.text ≡ text.now) }
+        ensures lines { IfOk result (λ table. AreLines text.now table.lines) }
+    {
+        let mut lines = Vec::new(alloc);
+        let mut at = 0;
+        while at < text.len() {
+            let line = read_line(text, at);
+            lines.push(line)?;
+            at = line.next;
+        }
+        Ok(LineTable { text, lines })
+    }
+
+    /// The text that the table was built of.
+    pub fn text(&self) -> &'a str
+        ensures { result.now ≡ self.now.text }
+    {
+        self.text
+    }
+
+    /// How many lines the text has.
+    pub fn len(&self) -> usize
+        ensures count { result ≡ length self.now.lines }
+        ensures lines { AreLines self.now.text self.now.lines }
+    {
+        self.lines.len()
+    }
+
+    /// Whether the text is empty, and so without lines.
+    pub fn is_empty(&self) -> bool
+        ensures { result ≡ true ↔ (self.now.lines ≡ []) }
+    {
+        self.lines.is_empty()
+    }
+
+    /// The line of that index, from 0.
+    pub fn line(&self, i: usize) -> Line
+        requires { i < length self.now.lines }
+        ensures line { slice_get self.now.lines i ≡ Some result }
+        ensures lines { AreLines self.now.text self.now.lines }
+    {
+        self.lines[i]
+    }
+}
+
+// The line that begins at the offset.
+fn read_line(text: &str, start: usize) -> Line
+    requires inside { start < length text.now }
+    requires boundary { IsCharBoundary text.now start }
+    requires apart { Apart text.now start }
+    ensures line { OneLine text.now start result.next (result ∷ []) }
+    ensures order { start < result.next }
+    ensures boundary { IsCharBoundary text.now result.next }
+    ensures apart { Apart text.now result.next }
+{
+    let past_spaces = skip_spaces(text, start);
+    let indent = past_spaces - start;
+    let end = line_end(text, past_spaces);
+    match line_break(text, end) {
+        Some(next) => Line {
+            start,
+            end,
+            next,
+            indent,
+        },
+        None => Line {
+            start,
+            end,
+            next: end,
+            indent,
+        },
+    }
+}
+
+// The offset of the first character of a break from there on, or the end of the text.
+fn line_end(text: &str, at: usize) -> usize
+    requires { at ≤ length text.now }
+    ensures unbroken { Unbroken text.now at result }
+    ensures stops { (is_break_char (code text.now result) ≡ true) ⊎ (result ≡ length text.now) }
+{
+    let mut end = at;
+    while end < text.len() {
+        if break_char_stands(text, end) {
+            return end;
+        }
+        end += 1;
+    }
+    end
+}
+
+// Whether a character of a line break begins at the offset.
+fn break_char_stands(text: &str, at: usize) -> bool
+    ensures { result ≡ is_break_char (code text.now at) }
+{
+    if stands(text, at, b'\n') {
+        return true;
+    }
+    stands(text, at, b'\r')
+}
