@@ -13,7 +13,7 @@ use Rattle.yf_chars.proofs.ChainLemmas.{chain_chosen}
 use Rattle.yf_lines.specs.declared.line.Line.{Line}
 use Rattle.yf_lines.specs.Basic.{Break, Spaces}
 use Rattle.yf_lines.specs.Basic.Break.{cr_lf, lone_cr, lone_lf}
-use Rattle.yf_lines.specs.Lines.{Unbroken, LineEnd, Indented, OneLine, AreLines, Apart}
+use Rattle.yf_lines.specs.Lines.{Unbroken, LineEnd, Indented, IsLine, OneLine, AreLines, Apart}
 use Rattle.yf_lines.specs.Lines.LineEnd.{at_break, at_end}
 use Rattle.yf_lines.specs.Lines.OneLine.{one_line}
 use Rattle.yf_lines.proofs.BasicLemmas.{break_char, break_forward, break_unique, break_end}
@@ -83,58 +83,50 @@ same_indent {k = k} {k' = k'} a b =
     (λ (l : k' ≤ k). ⊎_elim (λ (q : k ≡ k'). q) (λ (q : k ≢ k'). absurd (no_fewer b a (omega arith))) (cases_eq k k'))
     (cases_lt k k')
 
--- what a line is made of
+-- the line of a step
 pub record Made (t : List ℕ) (i j : ℕ) (x : List Line) : Type 0 where
   pub line : Line
   pub is : x ≡ line ∷ []
   pub start : line.start ≡ i
   pub next : line.next ≡ j
-  pub forward : i < j
-  pub unbroken : Unbroken t i line.end
-  pub ends : LineEnd t line.end j
-  pub indented : Indented t i line.indent
+  pub made : IsLine t line
 
 pub line_made : {t : List ℕ} {i j : ℕ} {x : List Line} → OneLine t i j x → Made t i j x
-line_made (one_line {i} {h} {j} {k} f n e d) = record {
-  line = record { start = i; end = h; next = j; indent = k };
-  is = refl;
-  start = refl;
-  next = refl;
-  forward = f;
-  unbroken = n;
-  ends = e;
-  indented = d;
-}
+line_made (one_line {l} m) = record { line = l; is = refl; start = refl; next = refl; made = m }
 
 abbrev pub line_by : ℕ → ℕ → ℕ → ℕ → Line
 line_by i h j k = record { start = i; end = h; next = j; indent = k }
 
-same_line : (a b : Line) → a.start ≡ b.start → a.end ≡ b.end → a.next ≡ b.next → a.indent ≡ b.indent → a ≡ b
-same_line a b s e n d =
+same_fields : (a b : Line) → a.start ≡ b.start → a.end ≡ b.end → a.next ≡ b.next → a.indent ≡ b.indent → a ≡ b
+same_fields a b s e n d =
     ap (λ w. line_by w a.end a.next a.indent) s
     ∙ ap (λ w. line_by b.start w a.next a.indent) e
     ∙ ap (λ w. line_by b.start b.end w a.indent) n
     ∙ ap (λ w. line_by b.start b.end b.next w) d
 
-same_lines_made : {t : List ℕ} {i j k : ℕ} {x y : List Line} → Made t i j x → Made t i k y → (j ≡ k) × (x ≡ y)
-same_lines_made {t} {i} {j} {k} {x} {y} a b =
-    let e : a.line.end ≡ b.line.end = same_end a.unbroken a.ends b.unbroken b.ends in
-    let ends : LineEnd t b.line.end j = rw e at a.ends in
-    let n : j ≡ k = same_next ends b.ends in
-    let d : a.line.indent ≡ b.line.indent = same_indent a.indented b.indented in
-    let s : a.line.start ≡ b.line.start = a.start ∙ sym b.start in
-    let m : a.line.next ≡ b.line.next = a.next ∙ n ∙ sym b.next in
-    (n, a.is ∙ ap (λ l. l ∷ []) (same_line a.line b.line s e m d) ∙ sym b.is)
+-- the line that begins at an offset is the only one
+pub same_line : (t : List ℕ) (a b : Line) → IsLine t a → IsLine t b → a.start ≡ b.start → a ≡ b
+same_line t a b m n s =
+    let u : Unbroken t b.start a.end = subst (λ i. Unbroken t i a.end) s m.unbroken in
+    let d : Indented t b.start a.indent = subst (λ i. Indented t i a.indent) s m.indented in
+    let e : a.end ≡ b.end = same_end u m.ends n.unbroken n.ends in
+    let ends : LineEnd t b.end a.next = subst (λ h. LineEnd t h a.next) e m.ends in
+    same_fields a b s e (same_next ends n.ends) (same_indent d n.indented)
+
+same_made : {t : List ℕ} {i j k : ℕ} {x y : List Line} → Made t i j x → Made t i k y → (j ≡ k) × (x ≡ y)
+same_made {t} {i} {j} {k} {x} {y} a b =
+    let e : a.line ≡ b.line = same_line t a.line b.line a.made b.made (a.start ∙ sym b.start) in
+    (sym a.next ∙ ap (λ l. l.next) e ∙ b.next, a.is ∙ ap (λ l. l ∷ []) e ∙ sym b.is)
 
 pub line_functional : (t : List ℕ) → Functional (OneLine t)
 line_functional t = record {
-  one_end = λ a b. (same_lines_made (line_made a) (line_made b)).0;
-  one_meaning = λ a b. (same_lines_made (line_made a) (line_made b)).1;
-  forward = λ a. (line_made a).forward;
+  one_end = λ a b. (same_made (line_made a) (line_made b)).0;
+  one_meaning = λ a b. (same_made (line_made a) (line_made b)).1;
+  forward = λ a. let m = line_made a in let o = m.made.order in omega (arith, m.start, m.next);
 }
 
 no_line_at_end : {t : List ℕ} {i j : ℕ} {x : List Line} → i ≡ length t → Made t i j x → ⊥
-no_line_at_end e a = let w = end_within a.ends in let f = a.forward in absurd (omega (arith, w.1))
+no_line_at_end e a = let w = end_within a.made.ends in let o = a.made.order in absurd (omega (arith, w.1, a.start))
 
 pub lines_stuck : (t : List ℕ) → Stuck (OneLine t (length t))
 lines_stuck t = record { none = λ j x s. no_line_at_end refl (line_made s) }
@@ -221,7 +213,18 @@ module _ (t : List ℕ) (i h m : ℕ) (inside : i < length t) (order : i ≤ h) 
   line_to_break j b =
       let f : m < j = break_forward b in
       let o : i ≤ m = whole_line.order in
-      one_line (omega arith) whole_line (at_break b) (indented_to t i h order spaces no_space)
+      one_line {l = line_by i m j (h - i)} (record {
+        order = omega arith;
+        unbroken = whole_line;
+        ends = at_break b;
+        indented = indented_to t i h order spaces no_space;
+      })
 
   pub line_to_end : m ≡ length t → OneLine t i m (line_by i m m (h - i) ∷ [])
-  line_to_end e = one_line (omega arith) whole_line (at_end e) (indented_to t i h order spaces no_space)
+  line_to_end e =
+      one_line {l = line_by i m m (h - i)} (record {
+        order = omega arith;
+        unbroken = whole_line;
+        ends = at_end e;
+        indented = indented_to t i h order spaces no_space;
+      })

@@ -22,10 +22,16 @@ pub record Indented (t : List ℕ) (i k : ℕ) : Type 0 where
   pub spaces : Spaces t i k
   pub stops : code t (i + k) ≢ 32
 
+-- a line of the text: it has a character at least, its break among them
+pub record IsLine (t : List ℕ) (l : Line) : Type 0 where
+  pub order : l.start < l.next
+  pub unbroken : Unbroken t l.start l.end
+  pub ends : LineEnd t l.end l.next
+  pub indented : Indented t l.start l.indent
+
 -- one line, from its start to the start of the next
 pub data OneLine (t : List ℕ) : ℕ → ℕ → List Line → Type 0 where
-  one_line : {i h j k : ℕ} → i < j → Unbroken t i h → LineEnd t h j → Indented t i k
-      → OneLine t i j (record { start = i; end = h; next = j; indent = k } ∷ [])
+  one_line : {l : Line} → IsLine t l → OneLine t l.start l.next (l ∷ [])
 
 -- all lines of the text, in order
 abbrev pub AreLines : List ℕ → List Line → Type 0
