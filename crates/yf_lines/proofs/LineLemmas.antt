@@ -1,19 +1,19 @@
 -- Laws of lines: each is the only one that begins where it does, and the lines of a text are one list.
 use Rattle.std.proofs.Common.{◌≡◌, ◌≢◌, ℕ, suc, ◌+◌, ◌-◌, ◌<◌, ◌≤◌, Bool, true, false, List, [], ◌∷◌, ◌++◌, length, Some, refl, sym, ap, ◌∙◌, subst, inl, inr, ◌⊎◌, ⊎_elim, arith, true≢false, eqb}
 use Rattle.std.proofs.lemmas.Bool.{cases_lt, cases_eq, ne_eqb, eqb-true}
-use Rattle.std.proofs.lemmas.Str.{IsCharBoundary-end}
+use Rattle.std.proofs.lemmas.Str.{IsCharBoundary-end, IsCharBoundary-before_ascii}
 use Rattle.std.specs.List.{slice_get}
 use Rattle.std.specs.Str.{IsUtf8, IsCharBoundary}
 use Rattle.yf_chars.specs.Text.{code, no_char, Reads}
 use Rattle.yf_chars.specs.Class.{is_break_char}
 use Rattle.yf_chars.specs.Chain.{Chain, Functional, Stuck, Chosen, Nowhere}
 use Rattle.yf_chars.specs.Chain.Chain.{done, step}
-use Rattle.yf_chars.proofs.TextLemmas.{within_from_code, code-past, code-end, reads_byte}
+use Rattle.yf_chars.proofs.TextLemmas.{within_from_code, code-past, byte_from_code, reads_byte}
 use Rattle.yf_chars.proofs.ChainLemmas.{chain_chosen}
 use Rattle.yf_lines.specs.declared.line.Line.{Line}
 use Rattle.yf_lines.specs.Basic.{Break, Spaces}
 use Rattle.yf_lines.specs.Basic.Break.{cr_lf, lone_cr, lone_lf}
-use Rattle.yf_lines.specs.Lines.{Unbroken, LineEnd, Indented, IsLine, OneLine, AreLines, Apart}
+use Rattle.yf_lines.specs.Lines.{Unbroken, LineEnd, Indented, IsLine, IsCutAt, OneLine, AreLines, Apart}
 use Rattle.yf_lines.specs.Lines.LineEnd.{at_break, at_end}
 use Rattle.yf_lines.specs.Lines.OneLine.{one_line}
 use Rattle.yf_lines.proofs.BasicLemmas.{break_char, break_forward, break_unique, break_end}
@@ -228,3 +228,23 @@ module _ (t : List ℕ) (i h m : ℕ) (inside : i < length t) (order : i ≤ h) 
         ends = at_end e;
         indented = indented_to t i h order spaces no_space;
       })
+
+-- where the text may be cut
+boundary_at_low : (t : List ℕ) (i : ℕ) → IsUtf8 t → code t i < 128 → IsCharBoundary t i
+boundary_at_low t i u l =
+    let b = byte_from_code t i u l in
+    IsCharBoundary-before_ascii t i b.0 (omega (arith, b.1))
+
+break_starts_low : {t : List ℕ} {i j : ℕ} → Break t i j → code t i < 128
+break_starts_low {t} {i} b = ⊎_elim (λ (e : code t i ≡ 13). omega arith) (λ (e : code t i ≡ 10). omega arith) (break_char b)
+
+end_cut : {t : List ℕ} {h j : ℕ} → IsUtf8 t → LineEnd t h j → IsCharBoundary t h
+end_cut {t} {h} u (at_break b) = boundary_at_low t h u (break_starts_low b)
+end_cut {t} u (at_end e) = subst (λ k. IsCharBoundary t k) (sym e) (IsCharBoundary-end t)
+
+next_cut : {t : List ℕ} {h j : ℕ} → IsUtf8 t → LineEnd t h j → IsCharBoundary t j
+next_cut u (at_break b) = break_boundary u b
+next_cut {t} u (at_end e) = subst (λ k. IsCharBoundary t k) (sym e) (IsCharBoundary-end t)
+
+pub line_cut : (t : List ℕ) (l : Line) → IsUtf8 t → IsLine t l → IsCharBoundary t l.start → IsCutAt t l
+line_cut t l u m b = record { start = b; end = end_cut u m.ends; next = next_cut u m.ends }

@@ -1,6 +1,7 @@
 -- The lines of a text t, the place of an offset, and the forbidden lines (YAML 1.2.2, 5.4 and 9.1.2). A line ends with
 -- its break, CR LF, CR or LF; the text behind the last break is a line where it is not empty. Offsets count bytes.
 use Rattle.std.specs.Prelude.{◌≡◌, ◌≢◌, ℕ, ◌+◌, ◌-◌, ◌<◌, ◌≤◌, Bool, true, false, ◌==◌, nat_lt, List, [], ◌∷◌, length, slice_get, Some}
+use Rattle.std.specs.Str.{IsCharBoundary, IsUtf8}
 use Rattle.yf_chars.specs.Chain.{Chain, Many}
 use Rattle.yf_chars.specs.Class.{is_break_char}
 use Rattle.yf_chars.specs.Text.{code, no_char}
@@ -29,6 +30,12 @@ pub record IsLine (t : List ℕ) (l : Line) : Type 0 where
   pub ends : LineEnd t l.end l.next
   pub indented : Indented t l.start l.indent
 
+-- the text can be cut where the line begins, where it ends, and where the next begins
+pub record IsCutAt (t : List ℕ) (l : Line) : Type 0 where
+  pub start : IsCharBoundary t l.start
+  pub end : IsCharBoundary t l.end
+  pub next : IsCharBoundary t l.next
+
 -- one line, from its start to the start of the next
 pub data OneLine (t : List ℕ) : ℕ → ℕ → List Line → Type 0 where
   one_line : {l : Line} → IsLine t l → OneLine t l.start l.next (l ∷ [])
@@ -41,6 +48,11 @@ AreLines t ls = Chain (OneLine t) 0 (length t) ls
 pub record Table : Type 0 where
   pub text : List ℕ
   pub lines : List Line
+
+-- what holds of each table
+pub record IsTable (t : List ℕ) (ls : List Line) : Type 0 where
+  pub utf8 : IsUtf8 t
+  pub lines : AreLines t ls
 
 -- the offset does not stand inside of a CR LF
 pub record Apart (t : List ℕ) (i : ℕ) : Type 0 where

@@ -3,7 +3,7 @@ ghost use Rattle.std.specs.Prelude.{◌≡◌, ◌↔◌, ◌≢◌, ◌+◌, �
 ghost use Rattle.std.specs.Str.{IsCharBoundary};
 ghost use Rattle.yf_chars.specs.Class.{is_break_char};
 ghost use Rattle.yf_chars.specs.Text.{code};
-ghost use Rattle.yf_lines.specs.Lines.{AreLines, OneLine, Unbroken, Apart};
+ghost use Rattle.yf_lines.specs.Lines.{AreLines, IsLine, IsCutAt, OneLine, Unbroken, Apart};
 
 use std::alloc::{AllocError, Global};
 use std::marker::Model;
@@ -20,13 +20,13 @@ pub struct LineTable<'a> {
 }
 
 impl<'a> Model for LineTable<'a> {
-    ghost use Rattle.yf_lines.specs.Lines.{AreLines, Table};
+    ghost use Rattle.yf_lines.specs.Lines.{IsTable, Table};
 
     ghost Value = { Table };
 
     ghost view = { λ a. record { text = a.text.now; lines = a.lines.items } };
 
-    ghost invariant = { λ a. AreLines a.text.now a.lines.items };
+    ghost invariant = { λ a. IsTable a.text.now a.lines.items };
 }
 
 impl<'a> LineTable<'a> {
@@ -74,7 +74,9 @@ impl<'a> LineTable<'a> {
     /// The line of that index, from 0.
     pub fn line(&self, i: usize) -> Line
         requires { i < length self.now.lines }
-        ensures line { slice_get self.now.lines i ≡ Some result }
+        ensures item { slice_get self.now.lines i ≡ Some result }
+        ensures line { IsLine self.now.text result }
+        ensures cut { IsCutAt self.now.text result }
         ensures lines { AreLines self.now.text self.now.lines }
     {
         self.lines[i]
