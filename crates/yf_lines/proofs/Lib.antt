@@ -1,3 +1,4 @@
 pub mod BasicLemmas
 pub mod LineLemmas
 pub mod TableLemmas
+pub mod MarkLemmas

@@ -46,7 +46,7 @@ break_boundary {t = t} {i = i} u (lone_cr a b) = (reads_byte t i 13 u a (omega a
 break_boundary {t = t} {i = i} u (lone_lf a b) = (reads_byte t i 10 u a (omega arith)).boundary
 
 -- where a line's text ends
-end_within : {t : List ℕ} {h j : ℕ} → LineEnd t h j → (h ≤ j) × (j ≤ length t)
+pub end_within : {t : List ℕ} {h j : ℕ} → LineEnd t h j → (h ≤ j) × (j ≤ length t)
 end_within (at_break b) = let f = break_forward b in let w = break_within b in (omega arith, w)
 end_within (at_end e) = (omega arith, omega arith)
 

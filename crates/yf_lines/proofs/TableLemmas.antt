@@ -9,8 +9,11 @@ use Rattle.std.specs.Str.{IsUtf8, IsCharBoundary}
 use Rattle.yf_chars.specs.Chain.{Chain}
 use Rattle.yf_chars.specs.Chain.Chain.{done, step}
 use Rattle.yf_lines.specs.declared.line.Line.{Line}
-use Rattle.yf_lines.specs.Lines.{IsLine, IsCutAt, OneLine, AreLines}
-use Rattle.yf_lines.proofs.LineLemmas.{Made, line_made, line_cut}
+use Rattle.yf_lines.specs.Basic.{LineStart}
+use Rattle.yf_lines.specs.Basic.LineStart.{at_text, after_break}
+use Rattle.yf_lines.specs.Lines.LineEnd.{at_break, at_end}
+use Rattle.yf_lines.specs.Lines.{LineEnd, IsLine, IsCutAt, OneLine, AreLines}
+use Rattle.yf_lines.proofs.LineLemmas.{Made, line_made, line_cut, end_within}
 
 -- lines that follow one another from i to j
 abbrev pub Follow : List ℕ → ℕ → ℕ → List Line → Type 0
@@ -109,3 +112,20 @@ table_line t ls k l a e = (line_at t ls 0 (length t) k l (follow a) e).made
 
 pub table_cut : (t : List ℕ) (ls : List Line) (k : ℕ) (l : Line) → IsUtf8 t → AreLines t ls → slice_get ls k ≡ Some l → IsCutAt t l
 table_cut t ls k l u a e = follow_cut t ls 0 (length t) k l u (IsCharBoundary-start t u) (follow a) e
+
+-- each line begins at the start of a line
+next_start : {t : List ℕ} {h j : ℕ} → LineEnd t h j → (LineStart t j) ⊎ (length t ≤ j)
+next_start (at_break b) = inl (after_break b)
+next_start (at_end e) = inr (omega arith)
+
+start_of_line : (t : List ℕ) (i : ℕ) (l : Line) → IsLine t l → l.start ≡ i → (LineStart t i) ⊎ (length t ≤ i) → LineStart t l.start
+start_of_line t i l m e (inl s) = subst (λ k. LineStart t k) (sym e) s
+start_of_line t i l m e (inr s) = let o = m.order in let w = end_within m.ends in absurd (omega (arith, w.1))
+
+follow_start : (t : List ℕ) (ls : List Line) (i j k : ℕ) (l : Line) → (LineStart t i) ⊎ (length t ≤ i) → Follow t i j ls → slice_get ls k ≡ Some l → LineStart t l.start
+follow_start t [] i j k l s f e = absurd (nothing_there k l e)
+follow_start t (m ∷ ls) i j zero l s f e = subst (λ w. LineStart t w.start) (some_same e) (start_of_line t i m f.1 f.0 s)
+follow_start t (m ∷ ls) i j (suc k) l s f e = follow_start t ls m.next j k l (next_start f.1.ends) f.2 e
+
+pub table_start : (t : List ℕ) (ls : List Line) (k : ℕ) (l : Line) → AreLines t ls → slice_get ls k ≡ Some l → LineStart t l.start
+table_start t ls k l a e = follow_start t ls 0 (length t) k l (inl at_text) (follow a) e

@@ -95,8 +95,8 @@ pub data PlaceOf (t : List ℕ) (offset : ℕ) : ℕ → ℕ → Type 0 where
       → ColumnOf t l.start offset c → PlaceOf t offset (k + 1) c
   behind_lines : {ls : List Line} → AreLines t ls → offset ≡ length t → NewLine t → PlaceOf t offset (length ls + 1) 1
 
--- the line begins, behind its marks, with a document marker
-pub record IsForbiddenLine (t : List ℕ) (l : Line) : Type 0 where
+-- the line that begins at i is forbidden: behind its marks it begins with a document marker
+pub record IsForbiddenLine (t : List ℕ) (i : ℕ) : Type 0 where
   pub at : ℕ
-  pub behind : Marks t l.start at
+  pub behind : Marks t i at
   pub marker : is_marker t at ≡ true

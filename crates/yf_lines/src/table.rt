@@ -1,14 +1,15 @@
 //! The lines of a text, found once and kept.
-ghost use Rattle.std.specs.Prelude.{◌≡◌, ◌↔◌, ◌≢◌, ◌+◌, ◌-◌, ◌<◌, ◌≤◌, ◌⊎◌, ℕ, true, false, Some, [], ◌∷◌, length, slice_get, IfOk, MatchBool};
+ghost use Rattle.std.specs.Prelude.{◌≡◌, ◌↔◌, ◌≢◌, ◌+◌, ◌-◌, ◌<◌, ◌≤◌, ◌⊎◌, ℕ, true, false, Some, [], ◌∷◌, length, slice_get, IfOk, IfSome, MatchBool};
 ghost use Rattle.std.specs.Str.{IsCharBoundary};
 ghost use Rattle.yf_chars.specs.Class.{is_break_char};
 ghost use Rattle.yf_chars.specs.Text.{code};
-ghost use Rattle.yf_lines.specs.Lines.{AreLines, IsLine, IsCutAt, OneLine, Unbroken, Apart};
+ghost use Rattle.yf_lines.specs.Basic.{Forbidden, Clear};
+ghost use Rattle.yf_lines.specs.Lines.{AreLines, IsLine, IsCutAt, OneLine, Unbroken, Apart, Marks, IsForbiddenLine};
 
 use std::alloc::{AllocError, Global};
 use std::marker::Model;
 
-use crate::basic::{line_break, skip_spaces};
+use crate::basic::{line_break, mark_stands, marker_stands, skip_spaces};
 use crate::line::Line;
 use yf_chars::text::stands;
 
@@ -81,6 +82,40 @@ impl<'a> LineTable<'a> {
     {
         self.lines[i]
     }
+
+    /// Whether the line of that index is forbidden: whether it begins, behind its byte order marks, with a document
+    /// marker (c-forbidden, production 206).
+    pub fn is_forbidden(&self, i: usize) -> bool
+        requires { i < length self.now.lines }
+        ensures line { IfSome (slice_get self.now.lines i) (λ l. MatchBool result (IsForbiddenLine self.now.text l.start) (IsForbiddenLine self.now.text l.start → ⊥)) }
+        ensures within { IfSome (slice_get self.now.lines i) (λ l. MatchBool result ((h : ℕ) × (l.start ≤ h) × (h < l.next) × Forbidden self.now.text h) (Clear self.now.text l.start l.next)) }
+    {
+        let start = self.line(i).start;
+        is_forbidden_line(self.text, start)
+    }
+}
+
+// Whether the line that begins at the offset is forbidden.
+fn is_forbidden_line(text: &str, start: usize) -> bool
+    requires { IsCharBoundary text.now start }
+    ensures { MatchBool result (IsForbiddenLine text.now start) (IsForbiddenLine text.now start → ⊥) }
+{
+    let at = skip_marks(text, start);
+    marker_stands(text, at)
+}
+
+// The offset behind all byte order marks that stand at the offset.
+fn skip_marks(text: &str, at: usize) -> usize
+    requires { IsCharBoundary text.now at }
+    ensures marks { Marks text.now at result }
+    ensures boundary { IsCharBoundary text.now result }
+    ensures order { at ≤ result }
+{
+    let mut end = at;
+    while mark_stands(text, end) {
+        end += 3;
+    }
+    end
 }
 
 // The line that begins at the offset.
