@@ -2,3 +2,4 @@ pub mod BasicLemmas
 pub mod LineLemmas
 pub mod TableLemmas
 pub mod MarkLemmas
+pub mod PlaceLemmas

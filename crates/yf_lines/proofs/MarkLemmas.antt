@@ -97,7 +97,7 @@ inside_end : {t : List ℕ} {e n : ℕ} (h : ℕ) → LineEnd t e n → e < h �
 inside_end h (at_end q) l s c = absurd (omega arith)
 inside_end h (at_break b) l s c = inside_break h b l s c
 
-ends_by_break : (t : List ℕ) (h : ℕ) → (code t (h - 1) ≡ 10) ⊎ ((code t (h - 1) ≡ 13) × (code t h ≢ 10)) → is_break_char (code t (h - 1)) ≡ true
+pub ends_by_break : (t : List ℕ) (h : ℕ) → (code t (h - 1) ≡ 10) ⊎ ((code t (h - 1) ≡ 13) × (code t h ≢ 10)) → is_break_char (code t (h - 1)) ≡ true
 ends_by_break t h (inl e) = lf_breaks t (h - 1) e
 ends_by_break t h (inr e) = cr_breaks t (h - 1) e.0
 

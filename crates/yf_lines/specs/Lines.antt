@@ -84,6 +84,11 @@ pub data ColumnOf (t : List ℕ) (i offset : ℕ) : ℕ → Type 0 where
   among_marks : {j : ℕ} → Marks t i j → offset < j → ColumnOf t i offset 1
   behind_marks : {j : ℕ} {x : List ℕ} → Marks t i j → Many t is_char j offset x → ColumnOf t i offset (length x + 1)
 
+-- k lines begin at the offset or before, and no other does
+pub record Begun (ls : List Line) (offset k : ℕ) : Type 0 where
+  pub before : (m : ℕ) (l : Line) → slice_get ls m ≡ Some l → m < k → l.start ≤ offset
+  pub behind : (m : ℕ) (l : Line) → slice_get ls m ≡ Some l → k ≤ m → offset < l.start
+
 -- at the end of the text a line would begin: the text is empty, or it ends with a break
 pub data NewLine (t : List ℕ) : Type 0 where
   of_empty : length t ≡ 0 → NewLine t

@@ -1,17 +1,19 @@
 //! The lines of a text, found once and kept.
 ghost use Rattle.std.specs.Prelude.{◌≡◌, ◌↔◌, ◌≢◌, ◌+◌, ◌-◌, ◌<◌, ◌≤◌, ◌⊎◌, ℕ, true, false, Some, [], ◌∷◌, length, slice_get, IfOk, IfSome, MatchBool};
+ghost use Rattle.std.specs.List.Sorted.{IsNonDecreasingBy};
 ghost use Rattle.std.specs.Str.{IsCharBoundary};
 ghost use Rattle.yf_chars.specs.Class.{is_break_char};
 ghost use Rattle.yf_chars.specs.Text.{code};
 ghost use Rattle.yf_lines.specs.Basic.{Forbidden, Clear};
-ghost use Rattle.yf_lines.specs.Lines.{AreLines, IsLine, IsCutAt, OneLine, Unbroken, Apart, Marks, IsForbiddenLine};
+ghost use Rattle.yf_lines.specs.Lines.{AreLines, IsLine, IsCutAt, OneLine, Unbroken, Apart, Marks, IsForbiddenLine, PlaceOf, Begun, ColumnOf};
 
 use std::alloc::{AllocError, Global};
 use std::marker::Model;
 
 use crate::basic::{line_break, mark_stands, marker_stands, skip_spaces};
 use crate::line::Line;
-use yf_chars::text::stands;
+use crate::place::Place;
+use yf_chars::text::{peek, stands};
 
 /// A text and all its lines. In a contract it is a record of the text's bytes and the list of the lines.
 #[derive(Debug, Drop)]
@@ -93,6 +95,64 @@ impl<'a> LineTable<'a> {
         let start = self.line(i).start;
         is_forbidden_line(self.text, start)
     }
+
+    /// The place of the offset: its line and column, both from 1.
+    ///
+    /// The line is found by halving, and the column by counting the characters of that line alone.
+    pub fn place(&self, offset: usize) -> Place
+        requires { IsCharBoundary self.now.text offset }
+        ensures { PlaceOf self.now.text offset result.line result.column }
+    {
+        let begun = lines_begun(self.lines.as_slice(), offset);
+        if begun == 0 {
+            return Place { line: 1, column: 1 };
+        }
+        let line = self.line(begun - 1);
+        if line.end < line.next {
+            if offset == line.next {
+                return Place {
+                    line: begun + 1,
+                    column: 1,
+                };
+            }
+        }
+        Place {
+            line: begun,
+            column: column_in_line(self.text, line.start, offset),
+        }
+    }
+}
+
+// How many of the lines begin at the offset or before.
+fn lines_begun(lines: &[Line], offset: usize) -> usize
+    requires { IsNonDecreasingBy (λ l. l.start) lines.now }
+    ensures bound { result ≤ length lines.now }
+    ensures begun { Begun lines.now offset result }
+{
+    lines.partition_point(|line| line.start <= offset)
+}
+
+// The column of the offset, from 1, in the line that begins at `start`.
+fn column_in_line(text: &str, start: usize, offset: usize) -> usize
+    requires start { IsCharBoundary text.now start }
+    requires offset { IsCharBoundary text.now offset }
+    ensures { ColumnOf text.now start offset result }
+{
+    let mut at = skip_marks(text, start);
+    let mut column = 1;
+    if offset < at {
+        return column;
+    }
+    while at < offset {
+        match peek(text, at) {
+            Some((_, next)) => {
+                at = next;
+                column += 1;
+            }
+            None => unreachable!(),
+        }
+    }
+    column
 }
 
 // Whether the line that begins at the offset is forbidden.
