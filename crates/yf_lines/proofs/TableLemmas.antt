@@ -40,7 +40,7 @@ pub record LineAt (t : List ℕ) (i j : ℕ) (ls : List Line) (k : ℕ) (l : Lin
   pub first : k ≡ 0 → l.start ≡ i
   pub last : k + 1 ≡ length ls → l.next ≡ j
 
-some_same : {a b : Line} → Some a ≡ Some b → a ≡ b
+pub some_same : {a b : Line} → Some a ≡ Some b → a ≡ b
 some_same e = cc
 
 nothing_there : (k : ℕ) (l : Line) → slice_get [] k ≡ Some l → ⊥

@@ -6,5 +6,6 @@ pub mod basic;
 pub mod fault;
 pub mod line;
 pub mod place;
+pub mod source_text;
 pub mod table;
 pub mod text;

@@ -1,10 +1,11 @@
 //! The lines of a text, found once and kept.
-ghost use Rattle.std.specs.Prelude.{◌≡◌, ◌↔◌, ◌≢◌, ◌+◌, ◌-◌, ◌<◌, ◌≤◌, ◌⊎◌, ℕ, true, false, Some, [], ◌∷◌, length, slice_get, IfOk, IfSome, MatchBool};
+ghost use Rattle.std.specs.Prelude.{◌≡◌, ◌↔◌, ◌≢◌, ◌+◌, ◌-◌, ◌<◌, ◌≤◌, ◌⊎◌, ℕ, true, false, Some, List, [], ◌∷◌, length, slice_get, IfOk, IfSome, IsTrue, MatchBool};
 ghost use Rattle.std.specs.List.Sorted.{IsNonDecreasingBy};
 ghost use Rattle.std.specs.Str.{IsCharBoundary};
 ghost use Rattle.yf_chars.specs.Class.{is_break_char};
 ghost use Rattle.yf_chars.specs.Text.{code};
 ghost use Rattle.yf_lines.specs.Basic.{Forbidden, Clear};
+ghost use Rattle.yf_lines.specs.declared.line.Line.{Line};
 ghost use Rattle.yf_lines.specs.Lines.{AreLines, IsLine, IsCutAt, OneLine, Unbroken, Apart, Marks, IsForbiddenLine, PlaceOf, Begun, ColumnOf};
 
 use std::alloc::{AllocError, Global};
@@ -41,6 +42,7 @@ impl<'a> LineTable<'a> {
     pub fn build(alloc: Global, text: &'a str) -> Result<LineTable<'a>, AllocError>
         ensures text { IfOk result (λ table. table.text ≡ text.now) }
         ensures lines { IfOk result (λ table. AreLines text.now table.lines) }
+        ensures only { IfOk result (λ table. (ls : List Line) → AreLines text.now ls → ls ≡ table.lines) }
     {
         let mut lines = Vec::new(alloc);
         let mut at = 0;
@@ -69,7 +71,7 @@ impl<'a> LineTable<'a> {
 
     /// Whether the text is empty, and so without lines.
     pub fn is_empty(&self) -> bool
-        ensures { result ≡ true ↔ (self.now.lines ≡ []) }
+        ensures { IsTrue result ↔ (self.now.lines ≡ []) }
     {
         self.lines.is_empty()
     }
@@ -101,7 +103,8 @@ impl<'a> LineTable<'a> {
     /// The line is found by halving, and the column by counting the characters of that line alone.
     pub fn place(&self, offset: usize) -> Place
         requires { IsCharBoundary self.now.text offset }
-        ensures { PlaceOf self.now.text offset result.line result.column }
+        ensures place { PlaceOf self.now.text offset result.line result.column }
+        ensures only { (line column : ℕ) → PlaceOf self.now.text offset line column → (line ≡ result.line) × (column ≡ result.column) }
     {
         let begun = lines_begun(self.lines.as_slice(), offset);
         if begun == 0 {

@@ -1,11 +1,10 @@
-use Rattle.std.proofs.Common.{◌++◌, [], ◌∷◌, List, sym, subst}
+use Rattle.std.proofs.Common.{◌≡◌, length, subst, arith}
 use Rattle.std.proofs.lemmas.Str.{IsCharBoundary-start}
 use Rattle.yf_chars.specs.Chain.{Chain}
 use Rattle.yf_chars.specs.Chain.Chain.{done}
 use Rattle.yf_chars.proofs.ChainLemmas.{chain_more}
 use Rattle.yf_lines.specs.Lines.{OneLine}
-use Rattle.yf_lines.specs.declared.line.Line.{Line}
-use Rattle.yf_lines.proofs.LineLemmas.{apart_at_start}
+use Rattle.yf_lines.proofs.LineLemmas.{apart_at_start, lines_unique}
 use Rattle.yf_lines.proofs.table.LineTable.build.Goals as goal
 
 pub loop-at-init : goal.loop-at-init
@@ -21,3 +20,9 @@ loop-at-preserved c = record {
   boundary = c.read_line-line.ensures.boundary;
   apart = c.read_line-line.ensures.apart
 }
+
+pub returns-clause-only : goal.returns-clause-only
+returns-clause-only c = λ ls a.
+    let t = c.args.text.now in
+    let e : c.loop-at.at ≡ length t = omega (arith, c.loop-at-test.false, c.loop-at.invariant.boundary.0) in
+    lines_unique t ls c.loop-at.lines.items a (subst (λ j. Chain (OneLine t) 0 j c.loop-at.lines.items) e c.loop-at.invariant.lines)
