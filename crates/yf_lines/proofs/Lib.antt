@@ -3,3 +3,4 @@ pub mod LineLemmas
 pub mod TableLemmas
 pub mod MarkLemmas
 pub mod PlaceLemmas
+pub mod OutputLemmas

@@ -1,3 +1,6 @@
 pub mod Basic
 pub mod Lines
+pub mod Output
+pub mod Steady
 pub mod Text
+pub mod Watched
