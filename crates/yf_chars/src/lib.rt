@@ -5,4 +5,5 @@
 pub mod classes;
 pub mod context;
 pub mod error;
+pub mod escapes;
 pub mod text;
