@@ -32,7 +32,10 @@ pub fn read_escape(s: &str, at: usize) -> Option<Escape>
         None => {}
     }
     match numbered(s, at, b'U', 8) {
-        Some(value) => return Some(Escape { value, end: at + 10 }),
+        Some(value) => return Some(Escape {
+            value,
+            end: at + 10,
+        }),
         None => {}
     }
     if !stands(s, at, b'\\') {
@@ -62,7 +65,10 @@ fn paired(s: &str, at: usize, value: u32) -> Escape
         None => alone,
         Some(low) => {
             if is_low(low) {
-                return Escape { value: 0x10000 + (value - 0xD800) * 0x400 + (low - 0xDC00), end: at + 12 };
+                return Escape {
+                    value: 0x10000 + (value - 0xD800) * 0x400 + (low - 0xDC00),
+                    end: at + 12,
+                };
             }
             alone
         }

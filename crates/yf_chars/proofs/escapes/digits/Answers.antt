@@ -1,9 +1,8 @@
-use Rattle.std.proofs.Common.{◌≡◌, ap, ◌+◌, ◌*◌, ◌<◌, ◌^◌, arith, rules, add-zero, add-one, Fits, w32, refl, sym, subst, ◌∙◌}
+use Rattle.std.proofs.Common.{◌≡◌, ap, ◌+◌, ◌<◌, arith, add-zero, sym, subst, ◌∙◌}
 use Rattle.std.specs.Char.{digit_value}
 use Rattle.std.specs.Str.{IsCharBoundary}
 use Rattle.yf_chars.specs.Text.{code, Reads}
 use Rattle.yf_chars.proofs.TextLemmas.{next_ascii}
-use Rattle.yf_chars.specs.Escape.{Digits}
 use Rattle.yf_chars.proofs.EscapeLemmas.{no_digits, more_digits, room_for_digit, digit_below, power_more}
 use Rattle.yf_chars.proofs.escapes.digits.Goals as goal
 
@@ -32,7 +31,7 @@ loop-index-preserved c =
     let end : c.in-Some.field-0-1 ≡ at + 1 = sym read.end ∙ next_ascii c.args.s.now at low in
     let same : at + 1 ≡ c.args.at + (c.loop-index.index + 1) = omega arith in
     record {
-  so_far = more_digits c.loop-index.invariant.so_far (ap digit_value read.char ∙ sym digit.1) (omega (arith, digit));
-  small = rw power_more (omega (arith, digit, c.loop-index.invariant.small));
-  boundary = subst (λ j. IsCharBoundary c.args.s.now j) (end ∙ same) read.boundary;
-}
+      so_far = more_digits c.loop-index.invariant.so_far (ap digit_value read.char ∙ sym digit.1) (omega (arith, digit));
+      small = rw power_more (omega (arith, digit, c.loop-index.invariant.small));
+      boundary = subst (λ j. IsCharBoundary c.args.s.now j) (end ∙ same) read.boundary;
+    }

@@ -1,5 +1,4 @@
-use Rattle.std.proofs.Common.{◌≡◌, ◌<◌, ◌^◌, ℕ, ◌+◌}
-use Rattle.std.specs.Char.{digit_value}
+use Rattle.std.proofs.Common.{◌<◌, ◌^◌, ◌+◌}
 use Rattle.std.specs.Str.{IsCharBoundary}
 use Rattle.yf_chars.specs.Escape.{Digits}
 use Rattle.yf_chars.proofs.escapes.digits.Given as goal

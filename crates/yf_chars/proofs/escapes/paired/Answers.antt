@@ -1,6 +1,4 @@
-use Rattle.std.proofs.Common.{◌≡◌, ℕ, ◌+◌, ◌*◌, ◌-◌, ◌≤◌, sym, subst, arith, true, false, ◌∙◌}
-use Rattle.yf_chars.specs.Chain.{Chosen}
-use Rattle.yf_chars.specs.Escape as Escapes
+use Rattle.std.proofs.Common.{◌≤◌, sym, arith, ◌∙◌}
 use Rattle.yf_chars.proofs.EscapeLemmas.{chosen_four, chosen_half, chosen_pair, high_bounds, low_bounds, joined_is, no_low, not_low}
 use Rattle.yf_chars.proofs.escapes.paired.Goals as goal
 

@@ -1,4 +1,4 @@
-use Rattle.std.proofs.Common.{◌≡◌, ◌+◌, ◌<◌, ℕ, sym, ap, ◌∙◌, subst, arith, Some}
+use Rattle.std.proofs.Common.{◌≡◌, ◌+◌, ◌<◌, sym, ap, ◌∙◌, subst, arith, Some}
 use Rattle.yf_chars.specs.Chain.{Chosen}
 use Rattle.yf_chars.specs.Escape as Escapes
 use Rattle.yf_chars.specs.Text.{code, Reads}
