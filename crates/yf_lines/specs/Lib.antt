@@ -1,2 +1,3 @@
 pub mod Basic
 pub mod Text
+pub mod Fold

@@ -4,5 +4,6 @@
 
 pub mod basic;
 pub mod fault;
+pub mod fold;
 pub mod place;
 pub mod text;
