@@ -7,3 +7,4 @@ pub mod context;
 pub mod error;
 pub mod escapes;
 pub mod text;
+pub mod utf8;

@@ -1,3 +1,4 @@
 pub mod BasicLemmas
 pub mod ClearLemmas
 pub mod FoldLemmas
+pub mod OutputLemmas

@@ -1,3 +1,6 @@
 pub mod Basic
+pub mod Output
+pub mod Steady
 pub mod Text
 pub mod Fold
+pub mod Watched

@@ -5,5 +5,7 @@
 pub mod basic;
 pub mod fault;
 pub mod fold;
+pub mod output;
 pub mod place;
 pub mod text;
+pub mod watched;
