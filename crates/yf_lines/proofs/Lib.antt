@@ -3,4 +3,6 @@ pub mod LineLemmas
 pub mod TableLemmas
 pub mod MarkLemmas
 pub mod PlaceLemmas
+pub mod ClearLemmas
+pub mod FoldLemmas
 pub mod OutputLemmas
