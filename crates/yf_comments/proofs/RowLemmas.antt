@@ -150,3 +150,53 @@ module _ {t : List ℕ} where
     one_meaning = λ a b. (rest_unique a.rest b.rest).1;
     forward = λ a. a.later;
   }
+
+  -- a rest that goes nowhere has no comment
+  pub rest_still : {i j : ℕ} {x : List CommentValue} → LineRest t i j x → j ≤ i → (j ≡ i) × (x ≡ [])
+  rest_still r l =
+      let f = view_forward (rest_view r) in
+      let e : _ ≡ _ = omega arith in
+      (e, f.1 e)
+
+  no_whites : {i h : ℕ} {w : List ℕ} → Many t is_white i h w → i ≡ length t → h ≡ i
+  no_whites {i} {h} m e =
+      let c = many_chosen t is_white (done {i = i}) (none_white (code t i) (end_code t e)) in
+      let a = c.longest h _ m in
+      let b = chain_forward (one_functional t is_white) m in
+      omega arith
+
+  view_at_end : {i j : ℕ} {x : List CommentValue} → RestView t i j x → i ≡ length t → i < j → ⊥
+  view_at_end {i} {j} (bare_view m e) f l =
+      let same = no_whites m f in
+      let e' : BreakOrEnd t i j = subst (λ v. BreakOrEnd t v j) same e in
+      let still = end_unique e' (by_end f) in
+      absurd (omega arith)
+  view_at_end (comment_view m c e) f l =
+      let same = no_whites m f in
+      let g = end_code t (same ∙ f) in
+      let h = text_hash c in
+      absurd (omega arith)
+
+  pub rest_at_end : {i j : ℕ} {x : List CommentValue} → LineRest t i j x → i ≡ length t → i < j → ⊥
+  rest_at_end r e l = view_at_end (rest_view r) e l
+
+  -- whites that stand where the rest begins end before the rest does, or with it at the end of the text
+  view_tail : {i j k : ℕ} {w : List ℕ} {x : List CommentValue} → Many t is_white i j w → RestView t i k x
+      → (j ≤ k) × (j ≡ k → (x ≡ []) × (k ≡ length t))
+  view_tail {j = j} {k = k} {w = w} m (bare_view {h = h} n e) =
+      let a = (many_chosen t is_white n (end_white e)).longest j w m in
+      let b = break_or_end_forward e in
+      (omega arith, λ (same : j ≡ k). (refl, still_end (omega arith) e))
+    where
+      still_end : {h k : ℕ} → k ≤ h → BreakOrEnd t h k → k ≡ length t
+      still_end l (by_break b) = let f = break_forward b in absurd (omega arith)
+      still_end l (by_end e) = e
+  view_tail {j = j} {k = k} {w = w} m (comment_view {h = h} n c e) =
+      let a = (many_chosen t is_white n (hash_white (code t h) (text_hash c))).longest j w m in
+      let b = break_or_end_forward e in
+      let d = text_later c in
+      (omega arith, λ (same : j ≡ k). absurd (omega arith))
+
+  pub rest_tail : {i j k : ℕ} {w : List ℕ} {x : List CommentValue} → Many t is_white i j w → LineRest t i k x
+      → (j ≤ k) × (j ≡ k → (x ≡ []) × (k ≡ length t))
+  rest_tail m r = view_tail m (rest_view r)
