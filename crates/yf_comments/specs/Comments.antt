@@ -1,6 +1,6 @@
 -- Comments and separation (YAML 1.2.2, 6.6 and 6.7) as relations between byte offsets of a text t. What they mean is
 -- the list of their comments. n is an indentation, from -1; c is a context.
-use Rattle.std.specs.Prelude.{◌≡◌, ℕ, ◌+◌, ◌<◌, ℤ, Bool, true, false, ◌==◌, ◌||◌, List, [], ◌∷◌, ◌++◌, length, slice_range}
+use Rattle.std.specs.Prelude.{◌≡◌, ℕ, ◌+◌, ◌<◌, ◌≤◌, ℤ, Bool, true, false, ◌==◌, ◌||◌, List, [], ◌∷◌, ◌++◌, length, slice_range}
 use Rattle.yf_chars.specs.declared.context.Ctx.{Ctx}
 use Rattle.yf_chars.specs.Text.{code, next}
 use Rattle.yf_chars.specs.Class.{is_white, is_break_char, is_nb_char}
@@ -63,3 +63,14 @@ pub data Separate (t : List ℕ) (n : ℤ) (c : Ctx) : ℕ → ℕ → List Comm
 pub record Row (t : List ℕ) (i j : ℕ) (x : List CommentValue) : Type 0 where
   pub rest : LineRest t i j x
   pub later : i < j
+
+-- what a reader has kept: rows from i to j, whose comments stand in the list b behind those of a
+pub record Kept (t : List ℕ) (i j : ℕ) (a b : List CommentValue) : Type 0 where
+  pub more : List CommentValue
+  pub rows : Chain (Row t) i j more
+  pub list : b ≡ a ++ more
+
+-- what is derived from i as a separation outside keys where the prefix of the last line begins at p or before it
+pub data Upto (t : List ℕ) (n : ℤ) (i p : ℕ) : ℕ → List CommentValue → Type 0 where
+  upto_line : {j : ℕ} → SeparateInLine t i j → Upto t n i p j []
+  upto_lines : {h j : ℕ} {y : List CommentValue} → LineEnd t i h y → h ≤ p → FlowPrefix t n h j → Upto t n i p j y
