@@ -1,1 +1,4 @@
+pub mod Handles
+pub mod Names
+pub mod Properties
 pub mod Props
