@@ -1,12 +1,13 @@
 -- The laws of reading a character at an offset.
-use Rattle.std.proofs.Common.{◌≡◌, ◌≢◌, ℕ, ◌+◌, ◌<◌, ◌≤◌, true, false, ◌||◌, List, add-zero, get_or-drop, [], ◌∷◌, ◌++◌, length, take, drop, get_or, refl, sym, ap, add-one, drop-cons, append-nil, ◌∙◌, subst, ⊎_elim, arith, ltb, leb, eqb, MatchBool}
+use Rattle.std.proofs.Math.Bool.{and-false}
+use Rattle.std.proofs.Common.{suc, ◌≡◌, ◌≢◌, ℕ, ◌+◌, ◌<◌, ◌≤◌, true, false, ◌||◌, List, add-zero, get_or-drop, [], ◌∷◌, ◌++◌, length, take, drop, get_or, refl, sym, ap, add-one, drop-cons, append-nil, ◌∙◌, subst, ⊎_elim, arith, ltb, leb, eqb, MatchBool}
 use Rattle.std.proofs.Math.Seq.{take-add, take-append_seam}
 use Rattle.std.proofs.lemmas.List.{length-drop}
 use Rattle.std.proofs.lemmas.Str as S
 use Rattle.std.proofs.lemmas.Str.{len_utf8_bounds, length-encode}
 use Rattle.std.specs.Char.{len_utf8, IsScalar}
-use Rattle.std.specs.Str.{chars, IsCharBoundary, IsUtf8}
-use Rattle.std.proofs.lemmas.Bool.{eq-eqb, ne_eqb, cases_eq, lt-ltb, le-ltb, le-leb, ltb-true, leb-true, cases_lt, cases_Bool, and_parts}
+use Rattle.std.specs.Str.{chars, chars_after, IsCharBoundary, IsUtf8}
+use Rattle.std.proofs.lemmas.Bool.{eq-eqb, ne_eqb, cases_eq, lt-ltb, le-ltb, le-leb, ltb-true, leb-true, lt-leb, cases_lt, cases_Bool, and_parts}
 use lib.Utf8.{scalars, scalar, encodes, encode, scalar_cases}
 use Rattle.yf_chars.specs.Text.{no_char, first_or_none, last_or, begins, code, next, before, Reads}
 
@@ -183,3 +184,97 @@ match_byte t i b u low =
     ⊎_elim (λ (e : code t i ≡ b). rw (eq-eqb (code t i) b e) (reads_byte t i b u e low))
     (λ (n : code t i ≢ b). rw (ne_eqb (code t i) b n) n)
     (cases_eq (code t i) b)
+
+-- the byte order mark is the bytes EF BB BF
+first-chars_after : (c : ℕ) (bs : List ℕ) → first_or_none (chars_after 0 c bs) ≡ c
+first-chars_after c [] = refl
+first-chars_after c (b ∷ bs) = refl
+
+begins_from_lead : (t : List ℕ) (i : ℕ) → i < length t → 192 ≤ get_or t i 0 → begins t i ≡ true
+begins_from_lead t i l h = begins_from_boundary t i (omega arith, λ _ _. h) l
+
+-- a byte that continues a character begins none
+pub code-inside : (t : List ℕ) (i : ℕ) → 128 ≤ get_or t i 0 → get_or t i 0 < 192 → code t i ≡ no_char
+unfolding code begins
+code-inside t i l h = rw (le-ltb (get_or t i 0) 128 l, lt-leb 192 (get_or t i 0) h, and-false (ltb i (length t)))
+
+three_bytes : (t : List ℕ) (i a b c : ℕ) → i + 2 < length t → get_or t i 0 ≡ a → get_or t (i + 1) 0 ≡ b → get_or t (i + 2) 0 ≡ c
+    → drop i t ≡ a ∷ b ∷ c ∷ drop (suc (suc (suc i))) t
+three_bytes t i a b c l e f g =
+    let l0 : i < length t = omega arith in
+    let l1 : suc i < length t = omega arith in
+    let l2 : suc (suc i) < length t = omega arith in
+    let f' : get_or t (suc i) 0 ≡ b = rw (add-one i) at f in
+    let g' : get_or t (suc (suc i)) 0 ≡ c = ap (λ k. get_or t k 0) (omega arith) ∙ g in
+    drop-cons t i 0 l0
+    ∙ ap (λ w. get_or t i 0 ∷ w) (drop-cons t (suc i) 0 l1 ∙ ap (λ w. get_or t (suc i) 0 ∷ w) (drop-cons t (suc (suc i)) 0 l2))
+    ∙ ap (λ w. w ∷ get_or t (suc i) 0 ∷ get_or t (suc (suc i)) 0 ∷ drop (suc (suc (suc i))) t) e
+    ∙ ap (λ w. a ∷ w ∷ get_or t (suc (suc i)) 0 ∷ drop (suc (suc (suc i))) t) f'
+    ∙ ap (λ w. a ∷ b ∷ w ∷ drop (suc (suc (suc i))) t) g'
+
+chars-mark : (rest : List ℕ) → first_or_none (chars (239 ∷ 187 ∷ 191 ∷ rest)) ≡ 0xFEFF
+unfolding chars
+chars-mark rest = first-chars_after 0xFEFF rest
+
+pub mark_from_bytes : (t : List ℕ) (i : ℕ) → i + 2 < length t → get_or t i 0 ≡ 239 → get_or t (i + 1) 0 ≡ 187 → get_or t (i + 2) 0 ≡ 191
+    → code t i ≡ 0xFEFF
+mark_from_bytes t i l e f g =
+    let w : i < length t = omega arith in
+    let lead : 192 ≤ get_or t i 0 = omega arith in
+    code-there t i (begins_from_lead t i w lead)
+    ∙ ap (λ v. first_or_none (chars v)) (three_bytes t i 239 187 191 l e f g)
+    ∙ chars-mark (drop (suc (suc (suc i))) t)
+
+-- the bytes of a character that stands at an offset
+pub drop_there : (t : List ℕ) (i : ℕ) → IsUtf8 t → begins t i ≡ true → (rest : List ℕ) × (drop i t ≡ encode (code t i) ++ rest)
+drop_there t i u h =
+    let b : IsCharBoundary t i = boundary_from_begins t i h in
+    let l : i < length t = within_from_begins t i h in
+    let u' : IsUtf8 (drop i t) = S.IsUtf8-drop t i u b in
+    let cut = first_of t i u'.0 l u'.1.1 in
+    let r : Reads t i cut.0 (i + len_utf8 cut.0) = reads_char t i cut.0 (encodes cut.1) u b l cut.2 in
+    (encodes cut.1, cut.2 ∙ ap (λ c. encode c ++ encodes cut.1) (sym r.char))
+
+encode-mark : encode 0xFEFF ≡ 239 ∷ 187 ∷ 191 ∷ []
+unfolding encode
+encode-mark = refl
+
+begins_from_code : (t : List ℕ) (i : ℕ) → code t i < no_char → begins t i ≡ true
+begins_from_code t i h =
+    ⊎_elim (λ (e : begins t i ≡ true). e)
+    (λ (e : begins t i ≡ false). let same : code t i ≡ no_char = code-nowhere t i e in absurd (omega arith))
+    (cases_Bool (begins t i))
+
+byte_of : (t : List ℕ) (i k : ℕ) (xs : List ℕ) → drop i t ≡ xs → get_or t (i + k) 0 ≡ get_or xs k 0
+byte_of t i k xs e = sym (get_or-drop i t k 0) ∙ ap (λ w. get_or w k 0) e
+
+pub bytes_from_mark : (t : List ℕ) (i : ℕ) → IsUtf8 t → code t i ≡ 0xFEFF
+    → (i + 2 < length t) × (get_or t i 0 ≡ 239) × (get_or t (i + 1) 0 ≡ 187) × (get_or t (i + 2) 0 ≡ 191)
+bytes_from_mark t i u e =
+    let h : begins t i ≡ true = begins_from_code t i (omega arith) in
+    let cut = drop_there t i u h in
+    let is : drop i t ≡ 239 ∷ 187 ∷ 191 ∷ cut.0 = cut.1 ∙ ap (λ c. encode c ++ cut.0) e ∙ ap (λ w. w ++ cut.0) encode-mark in
+    let long : length (drop i t) ≡ suc (suc (suc (length cut.0))) = ap length is in
+    let l : i < length t = within_from_begins t i h in (
+      omega (arith, length-drop i t),
+      ap (λ k. get_or t k 0) (sym (add-zero i)) ∙ byte_of t i 0 (239 ∷ 187 ∷ 191 ∷ cut.0) is,
+      byte_of t i 1 (239 ∷ 187 ∷ 191 ∷ cut.0) is,
+      byte_of t i 2 (239 ∷ 187 ∷ 191 ∷ cut.0) is,
+    )
+
+pub next-mark : (t : List ℕ) (i : ℕ) → code t i ≡ 0xFEFF → next t i ≡ i + 3
+unfolding next
+next-mark t i e = ap (λ c. i + len_utf8 c) e
+
+-- at a boundary before the end a character stands, and at the end none
+pub code_at_boundary : (t : List ℕ) (i : ℕ) → IsUtf8 t → IsCharBoundary t i → i < length t → code t i < no_char
+code_at_boundary t i u b l = (reads_there t i u (begins_from_boundary t i b l)).below
+
+pub end_test : (t : List ℕ) (i : ℕ) → IsUtf8 t → IsCharBoundary t i → eqb i (length t) ≡ eqb (code t i) no_char
+end_test t i u b =
+    ⊎_elim
+    (λ (e : i ≡ length t). rw (eq-eqb i (length t) e, eq-eqb (code t i) no_char (code-past t i (omega arith))))
+    (λ (n : i ≢ length t).
+    let low = code_at_boundary t i u b (omega (arith, b.0)) in
+    rw (ne_eqb i (length t) n, ne_eqb (code t i) no_char (λ e. omega arith)))
+    (cases_eq i (length t))

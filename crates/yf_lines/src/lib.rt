@@ -2,6 +2,7 @@
 //! and writers that tell whether they have failed.
 #![tactic(auto)]
 
+pub mod basic;
 pub mod fault;
 pub mod place;
 pub mod text;

@@ -1,0 +1,194 @@
+//! The basic structures that all readers share (YAML 1.2.2, 5.4 and 6.1 to 6.5): line breaks, whites, indentation, the
+//! start of a line and document markers. Offsets count bytes.
+ghost use Rattle.std.specs.Prelude.{◌≡◌, ◌≢◌, ◌+◌, ◌-◌, ◌<◌, ◌≤◌, ◌==◌, ℕ, Bool, true, false, List, length, IfSome, MatchOption, MatchBool};
+ghost use Rattle.std.specs.Str.{IsCharBoundary};
+ghost use Rattle.yf_chars.specs.Chain.{Many, Nowhere};
+ghost use Rattle.yf_chars.specs.Class.{is_white, is_white_or_end};
+ghost use Rattle.yf_chars.specs.Text.{code, Reads};
+ghost use Rattle.yf_lines.specs.Basic.{Break, LineStart, Spaces, Forbidden, is_marker, is_three};
+
+use yf_chars::text::stands;
+
+/// Reads a line break (b-break, production 28): the offset behind it, or `None` where no break begins.
+///
+/// No break begins between the two characters of a CR LF.
+pub fn line_break(s: &str, at: usize) -> Option<usize>
+    ensures reads { MatchOption result (Nowhere (Break s.now at)) (λ j. Break s.now at j) }
+    ensures boundary { IfSome result (λ j. IsCharBoundary s.now j) }
+    ensures order { IfSome result (λ j. at < j) }
+{
+    if stands(s, at, b'\r') {
+        if stands(s, at + 1, b'\n') {
+            return Some(at + 2);
+        }
+        return Some(at + 1);
+    }
+    if stands(s, at, b'\n') {
+        if stands(s, at.saturating_sub(1), b'\r') {
+            return None;
+        }
+        return Some(at + 1);
+    }
+    None
+}
+
+/// Whether a white (space or tab) begins at the offset.
+pub fn white_stands(s: &str, at: usize) -> bool
+    ensures value { result ≡ is_white (code s.now at) }
+    ensures read { MatchBool result (Reads s.now at (code s.now at) (at + 1)) (is_white (code s.now at) ≡ false) }
+{
+    if stands(s, at, b' ') {
+        return true;
+    }
+    stands(s, at, b'\t')
+}
+
+/// The offset behind all whites that stand at the offset.
+pub fn skip_whites(s: &str, at: usize) -> usize
+    requires { IsCharBoundary s.now at }
+    ensures whites { (x : List ℕ) × Many s.now is_white at result x }
+    ensures all { is_white (code s.now result) ≡ false }
+    ensures boundary { IsCharBoundary s.now result }
+    ensures order { at ≤ result }
+{
+    let mut end = at;
+    while white_stands(s, end) {
+        end += 1;
+    }
+    end
+}
+
+/// The offset behind all spaces that stand at the offset.
+pub fn skip_spaces(s: &str, at: usize) -> usize
+    requires { IsCharBoundary s.now at }
+    ensures spaces { Spaces s.now at (result - at) }
+    ensures all { code s.now result ≢ 32 }
+    ensures boundary { IsCharBoundary s.now result }
+    ensures order { at ≤ result }
+{
+    let mut end = at;
+    while stands(s, end, b' ') {
+        end += 1;
+    }
+    end
+}
+
+/// Whether a byte order mark (U+FEFF) begins at the offset.
+pub fn mark_stands(s: &str, at: usize) -> bool
+    ensures { MatchBool result (code s.now at ≡ 0xFEFF) (code s.now at ≢ 0xFEFF) }
+{
+    let bytes = s.as_bytes();
+    if bytes.len() < 3 {
+        return false;
+    }
+    if at > bytes.len() - 3 {
+        return false;
+    }
+    if bytes[at] != 0xEF {
+        return false;
+    }
+    if bytes[at + 1] != 0xBB {
+        return false;
+    }
+    bytes[at + 2] == 0xBF
+}
+
+// Whether a byte order mark ends at the offset.
+fn mark_ends(s: &str, at: usize) -> bool
+    ensures { MatchBool result ((3 ≤ at) × (code s.now (at - 3) ≡ 0xFEFF)) (3 ≤ at → code s.now (at - 3) ≢ 0xFEFF) }
+{
+    if at < 3 {
+        return false;
+    }
+    mark_stands(s, at - 3)
+}
+
+/// Whether a line break ends at the offset.
+pub fn break_ends(s: &str, at: usize) -> bool
+    ensures { MatchBool result ((i : ℕ) × Break s.now i at) ((i : ℕ) → Break s.now i at → ⊥) }
+{
+    if at == 0 {
+        return false;
+    }
+    if stands(s, at - 1, b'\n') {
+        return true;
+    }
+    if stands(s, at - 1, b'\r') {
+        if stands(s, at, b'\n') {
+            return false;
+        }
+        return true;
+    }
+    false
+}
+
+/// Whether the offset is the start of a line: of the text, behind a break, or behind byte order marks that stand there.
+pub fn is_line_start(s: &str, at: usize) -> bool
+    ensures { MatchBool result (LineStart s.now at) (LineStart s.now at → ⊥) }
+{
+    let mut start = at;
+    while mark_ends(s, start) {
+        start -= 3;
+    }
+    if start == 0 {
+        return true;
+    }
+    break_ends(s, start)
+}
+
+/// Whether white, a line break or the end of the text follows at the offset.
+pub fn white_or_end_stands(s: &str, at: usize) -> bool
+    requires { IsCharBoundary s.now at }
+    ensures { result ≡ is_white_or_end (code s.now at) }
+{
+    if white_stands(s, at) {
+        return true;
+    }
+    if stands(s, at, b'\n') {
+        return true;
+    }
+    if stands(s, at, b'\r') {
+        return true;
+    }
+    at == s.len()
+}
+
+/// Whether a document marker, `---` or `...` before white, a break or the end of the text, stands at the offset
+/// (c-directives-end, production 203; c-document-end, production 204).
+pub fn marker_stands(s: &str, at: usize) -> bool
+    ensures { result ≡ is_marker s.now at }
+{
+    if three_stand(s, at, b'-') {
+        return white_or_end_stands(s, at + 3);
+    }
+    if three_stand(s, at, b'.') {
+        return white_or_end_stands(s, at + 3);
+    }
+    false
+}
+
+// Whether that ASCII character stands three times from the offset on.
+fn three_stand(s: &str, at: usize, byte: u8) -> bool
+    requires { byte < 128 }
+    ensures value { result ≡ is_three s.now at byte }
+    ensures boundary { result ≡ true → IsCharBoundary s.now (at + 3) }
+{
+    if stands(s, at, byte) {
+        if stands(s, at + 1, byte) {
+            return stands(s, at + 2, byte);
+        }
+        return false;
+    }
+    false
+}
+
+/// Whether a forbidden line begins at the offset: a document marker at the start of a line (c-forbidden,
+/// production 206).
+pub fn is_forbidden_at(s: &str, at: usize) -> bool
+    ensures { MatchBool result (Forbidden s.now at) (Forbidden s.now at → ⊥) }
+{
+    if marker_stands(s, at) {
+        return is_line_start(s, at);
+    }
+    false
+}
