@@ -1,10 +1,10 @@
 -- The lines of a block scalar (YAML 1.2.2, sections 8.1.1.1, 8.1.2 and 8.1.3) as relations between byte offsets of a
 -- text t, each the start of a line or the end of the text. n is the indentation of the collection around, from -1; k is
 -- the number of spaces of the content's indentation.
-use Rattle.std.specs.Prelude.{◌≡◌, ◌≢◌, ℕ, ◌+◌, ◌<◌, ◌≤◌, ℤ, pos, negsuc, max, not, Bool, true, false, ◌==◌, nat_lt, ◌&&◌, List, [], ◌∷◌, ◌++◌, length, slice_range, Some, None}
+use Rattle.std.specs.Prelude.{◌≡◌, ◌≢◌, ℕ, ◌+◌, ◌<◌, ◌≤◌, ℤ, pos, negsuc, max, Bool, true, false, nat_lt, List, [], ◌∷◌, ◌++◌, length, slice_range, Some, None}
 use Rattle.yf_chars.specs.Text.{code, next, no_char}
-use Rattle.yf_chars.specs.Class.{is_break_char, is_nb_char}
-use Rattle.yf_chars.specs.Chain.{Chain, Many, Stuck, Chosen}
+use Rattle.yf_chars.specs.Class.{is_nb_char}
+use Rattle.yf_chars.specs.Chain.{Chain, Many, Stuck, Chosen, Nowhere}
 use Rattle.yf_lines.specs.Basic.{Spaces, Break, is_marker}
 use Rattle.yf_comments.specs.Comment.{CommentValue}
 use Rattle.yf_comments.specs.Comments.{LineEnd}
@@ -72,8 +72,10 @@ pub record Taken (t : List ℕ) (k i : ℕ) (ls : List (List ℕ)) (o : Bool) (c
   pub most : Stuck (Line t k j)
 
 -- a character other than space, and no break
-unfoldable pub is_other : ℕ → Bool
-is_other c = not (c == 32) && (not (is_break_char c) && not (c == no_char))
+pub record Other (t : List ℕ) (i : ℕ) : Type 0 where
+  pub inside : code t i ≢ no_char
+  pub no_space : code t i ≢ 32
+  pub no_break : Nowhere (Break t i)
 
 -- a document marker begins the line, byte order marks before it not counted
 pub data MarkerLine (t : List ℕ) : ℕ → Type 0 where
@@ -88,7 +90,7 @@ pub record Detected (t : List ℕ) (n : ℤ) (i k : ℕ) : Type 0 where
   pub before : Chain (Bare t) i at widths
   pub within : largest widths ≤ k
   pub spaces : Spaces t at k
-  pub other : is_other (code t (at + k)) ≡ true
+  pub other : Other t (at + k)
   pub deep : least n ≤ k
   pub clear : MarkerLine t at → ⊥
 
@@ -96,7 +98,7 @@ pub record Detected (t : List ℕ) (n : ℤ) (i k : ℕ) : Type 0 where
 -- spaces before another character, or begins with a document marker
 pub data Shallow (t : List ℕ) (n : ℤ) (i : ℕ) : Type 0 where
   missing : (m : ℕ) → Spaces t i m → i + m ≡ length t → Shallow t n i
-  left_of : (m : ℕ) → Spaces t i m → is_other (code t (i + m)) ≡ true → m < least n → Shallow t n i
+  left_of : (m : ℕ) → Spaces t i m → Other t (i + m) → m < least n → Shallow t n i
   forbidden : MarkerLine t i → Shallow t n i
 
 -- a comment's note where the lines of a scalar stand before it: the empty lines of a kept tail are content

@@ -5,3 +5,4 @@ pub mod body;
 pub mod content;
 pub mod header;
 pub mod lines;
+mod rows;
