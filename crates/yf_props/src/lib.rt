@@ -2,4 +2,5 @@
 #![tactic(auto)]
 
 pub mod alias;
+pub mod handles;
 pub mod props;
