@@ -1,4 +1,5 @@
 pub mod Advances
 pub mod Build
+pub mod EscapedRuns
 pub mod Nests
 pub mod Rests

@@ -2,6 +2,7 @@
 #![tactic(auto)]
 
 pub mod document;
+pub mod escapes;
 pub mod event;
 pub mod events;
 pub mod leaves;
