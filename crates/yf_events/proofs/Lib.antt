@@ -2,4 +2,5 @@ pub mod Advances
 pub mod Build
 pub mod EscapedRuns
 pub mod Nests
+pub mod PieceRuns
 pub mod Rests

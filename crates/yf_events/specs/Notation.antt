@@ -30,16 +30,16 @@ unfoldable pub escaped : List ℕ → List ℕ
 escaped text = flat_map escaped_byte text
 
 -- a space, `&` and the anchor
-unfoldable pub anchor_part : Option (List ℕ) → List ℕ
+abbrev pub anchor_part : Option (List ℕ) → List ℕ
 anchor_part None = []
 anchor_part (Some name) = codes " &" ++ name
 
 -- a space and the resolved tag between `<` and `>`
-unfoldable pub tag_part : Option (List ℕ) → List ℕ
+abbrev pub tag_part : Option (List ℕ) → List ℕ
 tag_part None = []
 tag_part (Some tag) = codes " <" ++ (escaped tag ++ codes ">")
 
-unfoldable pub style_sign : ScalarStyle → List ℕ
+abbrev pub style_sign : ScalarStyle → List ℕ
 style_sign Plain = codes ":"
 style_sign Single = codes "'"
 style_sign Double = codes "\""
@@ -47,7 +47,7 @@ style_sign Literal = codes "|"
 style_sign Folded = codes ">"
 
 -- a part that stands there only if the test holds
-unfoldable pub part_if : Bool → List ℕ → List ℕ
+abbrev pub part_if : Bool → List ℕ → List ℕ
 part_if true part = part
 part_if false part = []
 

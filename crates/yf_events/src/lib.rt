@@ -8,6 +8,7 @@ pub mod events;
 pub mod leaves;
 pub mod lists;
 pub mod nesting;
+pub mod notation;
 pub mod part;
 pub mod reading;
 pub mod row;
