@@ -1,6 +1,8 @@
 //! Readings: the flat list of events with their places, its notation and its content.
 #![tactic(auto)]
 
+pub mod content;
+mod contents;
 pub mod document;
 pub mod escapes;
 pub mod event;
