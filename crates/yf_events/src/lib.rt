@@ -2,7 +2,6 @@
 #![tactic(auto)]
 
 pub mod content;
-mod contents;
 pub mod document;
 pub mod escapes;
 pub mod event;

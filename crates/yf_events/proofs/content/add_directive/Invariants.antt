@@ -1,6 +1,6 @@
 use Rattle.std.proofs.Common.{◌≡◌, ◌++◌, map, drop}
 use Rattle.yf_events.specs.Content.{before_value, items_of_directive, a_word}
-use Rattle.yf_events.proofs.contents.add_directive.Given as goal
+use Rattle.yf_events.proofs.content.add_directive.Given as goal
 
 abbrev pub invariant-loop-word : goal.invariant-loop-word
 invariant-loop-word l =

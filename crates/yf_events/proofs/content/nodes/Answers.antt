@@ -1,7 +1,7 @@
 use Rattle.std.proofs.Common.{arith, sym, ap, ◌∙◌, ◌++◌, append-nil, map}
 use Rattle.yf_events.specs.Content.{item_value}
 use Rattle.yf_events.proofs.ContentRuns.{event_added, nodes_at_start, nodes_past}
-use Rattle.yf_events.proofs.contents.nodes.Goals as goal
+use Rattle.yf_events.proofs.content.nodes.Goals as goal
 
 pub loop-i-init : goal.loop-i-init
 loop-i-init c = rw c.new-items.ensures.items (nodes_at_start c.args.reading.now)

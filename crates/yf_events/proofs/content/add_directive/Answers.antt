@@ -1,6 +1,6 @@
 use Rattle.yf_events.specs.Content.{before_value}
 use Rattle.yf_events.proofs.ContentRuns.{directive_begins, pushed}
-use Rattle.yf_events.proofs.contents.add_directive.Goals as goal
+use Rattle.yf_events.proofs.content.add_directive.Goals as goal
 
 pub loop-word-init : goal.loop-word-init
 loop-word-init c =
