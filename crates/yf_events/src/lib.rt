@@ -14,3 +14,6 @@ pub mod part;
 pub mod reading;
 pub mod row;
 pub mod slices;
+
+#[cfg(test)]
+mod tests;
