@@ -10,5 +10,6 @@ pub mod output;
 pub mod place;
 pub mod source_text;
 pub mod table;
+pub mod steady;
 pub mod text;
 pub mod watched;
