@@ -23,8 +23,7 @@ fn ends_a_line_with_a_comment(rt: HostRuntime) -> Result<(), Fail> {
     let found = line_end(rt.alloc(), "x # c\n  y", 1)?.ok_or("none")?;
     assert_eq!(rt; found.end, 6);
     let comment = found.comments.as_slice().first().ok_or("no comment")?;
-    let text = comment.text;
-    assert!(rt; text == "# c");
+    assert_eq!(rt; comment.offset, 2);
     Ok(())
 }
 
