@@ -1,4 +1,3 @@
 pub mod Handles
 pub mod Names
-pub mod Properties
 pub mod Props
