@@ -284,3 +284,7 @@ module _ {t : List ℕ} where
 
   pub rest_moves : {i j : ℕ} {x : List CommentValue} → LineRest t i j x → i < length t → i < j
   rest_moves r l = view_moves (rest_view r) l
+
+  pub stuck_at_solid : {i h : ℕ} {w : List ℕ} → Many t is_white i h w → is_white (code t h) ≡ false → code t h ≢ 35
+      → Nowhere (BreakOrEnd t h) → Stuck (LineRest t i)
+  stuck_at_solid m s n none = record { none = λ j y r. view_bare m s n none (rest_view r) }

@@ -16,15 +16,15 @@ use Rattle.yf_lines.specs.Basic.Indent.{exactly}
 use Rattle.yf_lines.specs.Basic.FlowPrefix.{indented, set_off}
 use Rattle.yf_lines.proofs.BasicLemmas.{white_of_space, break_forward}
 use Rattle.yf_comments.specs.Comment.{CommentValue}
-use Rattle.yf_comments.specs.Comments.{LineRest, LineEnd, Row, SeparateLines, Separate, Upto}
+use Rattle.yf_comments.specs.Comments.{BreakOrEnd, LineRest, LineEnd, Row, SeparateLines, Separate, Upto}
 use Rattle.yf_comments.specs.Comments.BreakOrEnd.{by_break, by_end}
 use Rattle.yf_comments.specs.Comments.LineRest.{nothing, whites, comment}
 use Rattle.yf_comments.specs.Comments.LineEnd.{past_rest, from_start}
 use Rattle.yf_comments.specs.Comments.SeparateLines.{in_line, over_lines}
 use Rattle.yf_comments.specs.Comments.Separate.{in_key, in_node}
 use Rattle.yf_comments.specs.Comments.Upto.{upto_line, upto_lines}
-use Rattle.yf_comments.proofs.RowLemmas.{rest_tail, row_functional, separate_whites, no_separation, end_white, rest_moves}
-use Rattle.yf_comments.proofs.LineEndLemmas.{line_end_rows, lines_rows, rows_ended, rows_line_end}
+use Rattle.yf_comments.proofs.RowLemmas.{rest_tail, row_functional, separate_whites, no_separation, end_white, rest_moves, stuck_at_solid}
+use Rattle.yf_comments.proofs.LineEndLemmas.{line_end_rows, lines_rows, rows_ended, rows_line_end, row_stuck}
 
 -- spaces, indentation and the prefix of a flow line are whites
 module _ (t : List ℕ) where
@@ -326,3 +326,42 @@ module _ {t : List ℕ} {n : ℤ} {c : Ctx} {i : ℕ} where
 
   pub node_stuck : is_key c ≡ false → Stuck (SeparateLines t n i) → Stuck (Separate t n c i)
   node_stuck k d = stuck_along (λ j y u. by_lines k u) d
+
+-- a character that begins neither whites nor a comment nor the end of a line
+pub record Solid (t : List ℕ) (k : ℕ) : Type 0 where
+  pub not_white : is_white (code t k) ≡ false
+  pub no_comment : code t k ≢ 35
+  pub no_end : Nowhere (BreakOrEnd t k)
+
+-- a separation as a tail of whites behind rows
+record Separated (t : List ℕ) (i j : ℕ) (y : List CommentValue) : Type 0 where
+  place : ℕ
+  rows : Chain (Row t) i place y
+  run : List ℕ
+  whites_run : Many t is_white place j run
+
+module _ {t : List ℕ} {n : ℤ} {i : ℕ} where
+  lines_separated : {j : ℕ} {y : List CommentValue} → SeparateLines t n i j y → Separated t i j y
+  lines_separated (in_line s) = let w = separate_whites s in record { place = i; rows = done; run = w.0; whites_run = w.1 }
+  lines_separated (over_lines {h = h} d f) = let w = prefix_whites f in record { place = h; rows = line_end_rows d; run = w.0; whites_run = w.1 }
+
+module _ {t : List ℕ} {n : ℤ} {c : Ctx} {i : ℕ} where
+  separated : {j : ℕ} {y : List CommentValue} → Separate t n c i j y → Separated t i j y
+  separated (in_key k s) = let w = separate_whites s in record { place = i; rows = done; run = w.0; whites_run = w.1 }
+  separated (in_node k d) = lines_separated d
+
+  -- a separation that ends before such a character is the longest
+  solid_longest : {k j : ℕ} {x y : List CommentValue} → Solid t k → Separate t n c i k x → Separate t n c i j y → j ≤ k
+  solid_longest {k} {j} {x} {y} s d e =
+      let a = separated d in
+      let b = separated e in
+      let stuck = row_stuck (stuck_at_solid a.whites_run s.not_white s.no_comment s.no_end) in
+      let l = (chain_chosen row_functional a.rows stuck).longest b.place y b.rows in
+      (tail_behind b.whites_run l a.whites_run s.not_white (chain_meet row_functional b.rows a.rows)).0
+
+  pub separate_solid : {k e : ℕ} {x y : List CommentValue} → Solid t k → Separate t n c i k x → Chosen (Separate t n c i) e y → (k ≡ e) × (x ≡ y)
+  separate_solid {k} {e} {x} {y} s d f =
+      let a = solid_longest s d f.derived in
+      let b = f.longest k x d in
+      let same : k ≡ e = omega arith in
+      (same, f.only x (subst (λ v. Separate t n c i v x) same d))
