@@ -51,6 +51,9 @@ module _ {S : ℕ → ℕ → List ℕ → Type 0} where
   pub run_stuck : {i j : ℕ} → Stuck (S i) → Run S i j → ⊥
   run_stuck stuck r = no_way stuck r.chain r.some
 
+pub run_from : {S : ℕ → ℕ → List ℕ → Type 0} {i j : ℕ} {x : List ℕ} → Chain S i j x → i < j → Stuck (S j) → Run S i j
+run_from {x = x} c l s = record { characters = x; chain = c; some = l; all = s }
+
 pub run_of : (t : List ℕ) (p : ℕ → Bool) {i j : ℕ} {x : List ℕ} → Many t p i j x → i < j → p (code t j) ≡ false → Run (One t p) i j
 run_of t p {j = j} {x = x} m l e = record { characters = x; chain = m; some = l; all = one_stuck t p j e }
 
