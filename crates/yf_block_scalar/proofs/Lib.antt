@@ -1,3 +1,5 @@
 pub mod BodyLemmas
 pub mod ContentLemmas
 pub mod IndentLemmas
+pub mod ReaderLemmas
+pub mod TrailLemmas

@@ -6,4 +6,6 @@ pub mod content;
 pub mod header;
 mod indent;
 pub mod lines;
+pub mod reader;
 mod rows;
+mod trail;
