@@ -4,8 +4,10 @@
 pub mod body;
 pub mod content;
 pub mod header;
+pub mod header_reader;
 mod indent;
 pub mod lines;
 pub mod reader;
+mod rest;
 mod rows;
 mod trail;

@@ -39,7 +39,7 @@ pub(crate) struct Rows<'a> {
 }
 
 // The offset behind all nb-chars that stand at the offset.
-fn skip_nb_chars(s: &str, at: usize) -> usize
+pub(crate) fn skip_nb_chars(s: &str, at: usize) -> usize
     requires { IsCharBoundary s.now at }
     ensures chars { (x : List ℕ) × Many s.now is_nb_char at result x }
     ensures all { is_nb_char (code s.now result) ≡ false }
