@@ -1,13 +1,14 @@
 -- The longest separation: behind the last line at whose start there is enough indentation.
-use Rattle.std.proofs.Common.{◌≡◌, ◌≢◌, ℕ, ℤ, pos, suc, zero, ◌+◌, ◌<◌, ◌≤◌, Bool, true, false, ◌⊎◌, inl, inr, ⊎_elim, List, [], ◌∷◌, ◌++◌, length, refl, sym, ap, ◌∙◌, subst, arith, append-nil, add-zero, add-one}
-use Rattle.std.proofs.lemmas.Bool.{cases_lt}
+use Rattle.std.proofs.Common.{◌≡◌, ◌≢◌, ℕ, ℤ, pos, ◌<ℤ◌, suc, zero, ◌+◌, ◌<◌, ◌≤◌, Bool, true, false, ◌⊎◌, inl, inr, ⊎_elim, List, [], ◌∷◌, ◌++◌, length, refl, sym, ap, ◌∙◌, subst, arith, append-nil, add-zero, true≢false}
+use Rattle.std.proofs.lemmas.Bool.{cases_lt, cases_Bool}
+use Rattle.std.proofs.lemmas.Int.{ints}
 use Rattle.yf_chars.specs.declared.context.Ctx.{Ctx}
 use Rattle.yf_chars.specs.Text.{code, next, no_char}
 use Rattle.yf_chars.specs.Class.{is_white}
 use Rattle.yf_chars.specs.Chain.{Chain, Functional, Stuck, Chosen, Nowhere, Farthest, One, Many}
 use Rattle.yf_chars.specs.Chain.Chain.{done, step}
 use Rattle.yf_chars.proofs.TextLemmas.{next_ascii, code-end}
-use Rattle.yf_chars.proofs.ChainLemmas.{Meets, chain_append, chain_forward, chain_chosen, chain_meet, one_functional, many_chosen, many_more}
+use Rattle.yf_chars.proofs.ChainLemmas.{Meets, chain_append, chain_more, chain_forward, chain_chosen, chain_meet, one_functional, many_chosen, many_more}
 use Rattle.yf_chars.proofs.ChainLemmas.Meets.{goes_on, falls_short}
 use Rattle.yf_lines.specs.Basic.{is_key, LineStart, Spaces, Indent, SeparateInLine, FlowPrefix}
 use Rattle.yf_lines.specs.Basic.SeparateInLine.{by_whites, at_start}
@@ -15,14 +16,15 @@ use Rattle.yf_lines.specs.Basic.Indent.{exactly}
 use Rattle.yf_lines.specs.Basic.FlowPrefix.{indented, set_off}
 use Rattle.yf_lines.proofs.BasicLemmas.{white_of_space, break_forward}
 use Rattle.yf_comments.specs.Comment.{CommentValue}
-use Rattle.yf_comments.specs.Comments.{BreakOrEnd, LineRest, LineEnd, Row, Separate, Upto}
+use Rattle.yf_comments.specs.Comments.{BreakOrEnd, LineRest, LineEnd, Row, SeparateLines, Separate, Upto}
 use Rattle.yf_comments.specs.Comments.BreakOrEnd.{by_break, by_end}
 use Rattle.yf_comments.specs.Comments.LineRest.{nothing, whites, comment}
 use Rattle.yf_comments.specs.Comments.LineEnd.{past_rest, from_start}
-use Rattle.yf_comments.specs.Comments.Separate.{in_line, over_lines}
+use Rattle.yf_comments.specs.Comments.SeparateLines.{in_line, over_lines}
+use Rattle.yf_comments.specs.Comments.Separate.{in_key, in_node}
 use Rattle.yf_comments.specs.Comments.Upto.{upto_line, upto_lines}
-use Rattle.yf_comments.proofs.RowLemmas.{rest_tail, row_functional, separate_whites, no_separation, end_white}
-use Rattle.yf_comments.proofs.LineEndLemmas.{line_end_rows, lines_rows, rows_ended}
+use Rattle.yf_comments.proofs.RowLemmas.{rest_tail, row_functional, separate_whites, no_separation, end_white, rest_moves}
+use Rattle.yf_comments.proofs.LineEndLemmas.{line_end_rows, lines_rows, rows_ended, rows_line_end}
 
 -- spaces, indentation and the prefix of a flow line are whites
 module _ (t : List ℕ) where
@@ -100,7 +102,7 @@ module _ {t : List ℕ} {n : ℤ} {i : ℕ} where
   upto_tail l (upto_lines {h = h} d b f) =
       let w = prefix_whites f in record { place = h; rows = line_end_rows d; within = b; run = w.0; whites = w.1 }
 
-  pub upto_best : {q e : ℕ} {z : List CommentValue} {v : List ℕ} → Upto t n i q e z → Chain (Row t) i q z
+  upto_best : {q e : ℕ} {z : List CommentValue} {v : List ℕ} → Upto t n i q e z → Chain (Row t) i q z
       → Many t is_white q e v → is_white (code t e) ≡ false → Chosen (Upto t n i q) e z
   upto_best {q} {e} {z} u c w s = record {
     derived = u;
@@ -110,11 +112,11 @@ module _ {t : List ℕ} {n : ℤ} {i : ℕ} where
         sym ((tail_behind a.whites a.within w s (chain_meet row_functional a.rows c)).1 refl);
   }
 
-  pub upto_more : {p q j : ℕ} {y : List CommentValue} → p ≤ q → Upto t n i p j y → Upto t n i q j y
+  upto_more : {p q j : ℕ} {y : List CommentValue} → p ≤ q → Upto t n i p j y → Upto t n i q j y
   upto_more l (upto_line s) = upto_line s
   upto_more l (upto_lines d b f) = upto_lines d (omega arith) f
 
-  pub upto_less : {p q j : ℕ} {x x' y : List CommentValue} → Chain (Row t) i p x → Row t p q x' → Nowhere (FlowPrefix t n q)
+  upto_less : {p q j : ℕ} {x x' y : List CommentValue} → Chain (Row t) i p x → Row t p q x' → Nowhere (FlowPrefix t n q)
       → Upto t n i q j y → Upto t n i p j y
   upto_less c r none (upto_line s) = upto_line s
   upto_less {p} {q} {j} {y = y} c r none (upto_lines {h = h} d b f) =
@@ -122,17 +124,17 @@ module _ {t : List ℕ} {n : ℤ} {i : ℕ} where
       (λ (l : q ≤ h). let e : h ≡ q = omega arith in absurd (none.none j (subst (λ v. FlowPrefix t n v j) e f)))
       (split r (chain_meet row_functional (line_end_rows d) c))
 
-  pub upto_separate : {c : Ctx} {p j : ℕ} {y : List CommentValue} → is_key c ≡ false → Upto t n i p j y → Separate t n c i j y
-  upto_separate k (upto_line s) = in_line s
-  upto_separate k (upto_lines d b f) = over_lines k d f
+  upto_separate : {p j : ℕ} {y : List CommentValue} → Upto t n i p j y → SeparateLines t n i j y
+  upto_separate (upto_line s) = in_line s
+  upto_separate (upto_lines d b f) = over_lines d f
 
-  pub separate_upto : {c : Ctx} {p j : ℕ} {x y : List CommentValue} → Chain (Row t) i p x → Stuck (Row t p) → Separate t n c i j y → Upto t n i p j y
+  separate_upto : {p j : ℕ} {x y : List CommentValue} → Chain (Row t) i p x → Stuck (Row t p) → SeparateLines t n i j y → Upto t n i p j y
   separate_upto c s (in_line a) = upto_line a
-  separate_upto c s (over_lines {h = h} {x = y} k d f) =
+  separate_upto c s (over_lines {h = h} {x = y} d f) =
       upto_lines d ((chain_chosen row_functional c s).longest h y (line_end_rows d)) f
 
 -- what is chosen of one relation is chosen of another that derives the same
-pub chosen_along : {X : Type 0} {P Q : ℕ → X → Type 0} {j : ℕ} {x : X} → ((k : ℕ) (y : X) → P k y → Q k y) → ((k : ℕ) (y : X) → Q k y → P k y)
+chosen_along : {X : Type 0} {P Q : ℕ → X → Type 0} {j : ℕ} {x : X} → ((k : ℕ) (y : X) → P k y → Q k y) → ((k : ℕ) (y : X) → Q k y → P k y)
     → Chosen P j x → Chosen Q j x
 chosen_along {j = j} {x = x} f g c = record {
   derived = f j x c.derived;
@@ -140,7 +142,7 @@ chosen_along {j = j} {x = x} f g c = record {
   only = λ y d. c.only y (g j y d);
 }
 
-pub stuck_along : {X : Type 0} {P Q : ℕ → X → Type 0} → ((k : ℕ) (y : X) → Q k y → P k y) → Stuck P → Stuck Q
+stuck_along : {X : Type 0} {P Q : ℕ → X → Type 0} → ((k : ℕ) (y : X) → Q k y → P k y) → Stuck P → Stuck Q
 stuck_along g s = record { none = λ k y d. s.none k y (g k y d) }
 
 -- indentation and whites, as a reader finds them
@@ -248,3 +250,77 @@ module _ {t : List ℕ} where
     derived = p;
     longest = λ k q. let m = prefix_whites q in (many_chosen t is_white (prefix_whites p).1 w).longest k m.0 m.1;
   }
+
+-- a reader's walk over rows
+pub rows_next : {t : List ℕ} {i p q : ℕ} {b c : List CommentValue} → Chain (Row t) i p b → p < length t
+    → (x : List CommentValue) × LineRest t p q x × (c ≡ b ++ x) → Chain (Row t) i q c
+rows_next {t} {i} {q = q} c l f = subst (λ v. Chain (Row t) i q v) (sym f.2) (chain_more c (record { rest = f.1; later = rest_moves f.1 l }))
+
+module _ {t : List ℕ} {n : ℤ} {i : ℕ} where
+  pub best_here : {p q e : ℕ} {b c : List CommentValue} → Chain (Row t) i p b → p < length t
+      → (x : List CommentValue) × LineRest t p q x × (c ≡ b ++ x) → Farthest (FlowPrefix t n q) e → is_white (code t e) ≡ false
+      → Chosen (Upto t n i q) e c
+  best_here k l f p w =
+      let rows = rows_next k l f in
+      let a = rest_moves f.1 l in
+      let b = chain_forward row_functional k in
+      upto_best (upto_lines (rows_line_end rows (omega arith)) (omega arith) p.derived) rows (prefix_whites p.derived).1 w
+
+  pub best_still : {p q e : ℕ} {b c w : List CommentValue} → Chain (Row t) i p b → p < length t
+      → (x : List CommentValue) × LineRest t p q x × (c ≡ b ++ x) → Nowhere (FlowPrefix t n q) → Chosen (Upto t n i p) e w → Chosen (Upto t n i q) e w
+  best_still k l f none d =
+      let a = rest_moves f.1 l in
+      chosen_along (λ j y u. upto_more (omega arith) u) (λ j y u. upto_less k (record { rest = f.1; later = a }) none u) d
+
+  pub stuck_still : {p q : ℕ} {b c : List CommentValue} → Chain (Row t) i p b → p < length t
+      → (x : List CommentValue) × LineRest t p q x × (c ≡ b ++ x) → Nowhere (FlowPrefix t n q) → Stuck (Upto t n i p) → Stuck (Upto t n i q)
+  stuck_still k l f none d =
+      let a = rest_moves f.1 l in
+      stuck_along (λ j y u. upto_less k (record { rest = f.1; later = a }) none u) d
+
+  pub lines_chosen : {p e : ℕ} {x w : List CommentValue} → Chain (Row t) i p x → Stuck (Row t p) → Chosen (Upto t n i p) e w
+      → Chosen (SeparateLines t n i) e w
+  lines_chosen k s d = chosen_along (λ j y u. upto_separate u) (λ j y u. separate_upto k s u) d
+
+  pub lines_stuck : {p : ℕ} {x : List CommentValue} → Chain (Row t) i p x → Stuck (Row t p) → Stuck (Upto t n i p) → Stuck (SeparateLines t n i)
+  lines_stuck k s d = stuck_along (λ j y u. separate_upto k s u) d
+
+-- where no line is passed
+indent_negative : {t : List ℕ} {n : ℤ} {i j : ℕ} → n <ℤ pos 0 → Indent t n i j → ⊥
+indent_negative l (exactly k e s) = let h = rw e at l in omega (arith, ints)
+
+prefix_negative : {t : List ℕ} {n : ℤ} {i j : ℕ} → n <ℤ pos 0 → FlowPrefix t n i j → ⊥
+prefix_negative l (indented d) = indent_negative l d
+prefix_negative l (set_off d s) = indent_negative l d
+
+module _ {t : List ℕ} {n : ℤ} {c : Ctx} {i : ℕ} where
+  alone : {j : ℕ} {x : List CommentValue} → (is_key c ≡ true) ⊎ (n <ℤ pos 0) → Separate t n c i j x → SeparateInLine t i j × (x ≡ [])
+  alone o (in_key k s) = (s, refl)
+  alone (inl e) (in_node k d) = absurd (true≢false (sym e ∙ k))
+  alone (inr l) (in_node k d) = negative l d where
+    negative : {j : ℕ} {x : List CommentValue} → n <ℤ pos 0 → SeparateLines t n i j x → SeparateInLine t i j × (x ≡ [])
+    negative l (in_line s) = (s, refl)
+    negative l (over_lines d f) = absurd (prefix_negative l f)
+
+  from_line : {j : ℕ} → SeparateInLine t i j → Separate t n c i j []
+  from_line s = ⊎_elim (λ (k : is_key c ≡ true). in_key k s) (λ (k : is_key c ≡ false). in_node k (in_line s)) (cases_Bool (is_key c))
+
+  pub alone_chosen : {e : ℕ} → (is_key c ≡ true) ⊎ (n <ℤ pos 0) → Farthest (SeparateInLine t i) e → Chosen (Separate t n c i) e []
+  alone_chosen o f = record {
+    derived = from_line f.derived;
+    longest = λ k y d. f.longest k (alone o d).0;
+    only = λ y d. (alone o d).1;
+  }
+
+  pub alone_stuck : (is_key c ≡ true) ⊎ (n <ℤ pos 0) → Nowhere (SeparateInLine t i) → Stuck (Separate t n c i)
+  alone_stuck o f = record { none = λ k y d. f.none k (alone o d).0 }
+
+  by_lines : {j : ℕ} {x : List CommentValue} → is_key c ≡ false → Separate t n c i j x → SeparateLines t n i j x
+  by_lines k (in_key e s) = absurd (true≢false (sym e ∙ k))
+  by_lines k (in_node e d) = d
+
+  pub node_chosen : {e : ℕ} {w : List CommentValue} → is_key c ≡ false → Chosen (SeparateLines t n i) e w → Chosen (Separate t n c i) e w
+  node_chosen k d = chosen_along (λ j y u. in_node k u) (λ j y u. by_lines k u) d
+
+  pub node_stuck : is_key c ≡ false → Stuck (SeparateLines t n i) → Stuck (Separate t n c i)
+  node_stuck k d = stuck_along (λ j y u. by_lines k u) d

@@ -1,12 +1,12 @@
 //! Separation (YAML 1.2.2, section 6.7).
-ghost use Rattle.std.specs.Prelude.{◌≡◌, ◌+◌, ◌-◌, ◌<◌, ◌≤◌, ℕ, ℤ, pos, ◌<ℤ◌, List, [], ◌++◌, Bool, true, false, Option, Some, None, length, IfOk, IfSome, IfNone, MatchOption, MatchBool, ◌⊎◌};
+ghost use Rattle.std.specs.Prelude.{◌≡◌, ◌+◌, ◌-◌, ◌<◌, ◌≤◌, ℕ, ℤ, pos, ◌<ℤ◌, List, [], ◌++◌, take, Bool, true, false, Option, Some, None, length, IfOk, IfSome, IfNone, MatchOption, MatchBool, ◌⊎◌};
 ghost use Rattle.std.specs.Str.{IsCharBoundary};
 ghost use Rattle.yf_chars.specs.Chain.{Chain, Chosen, Stuck, Nowhere, Farthest};
 ghost use Rattle.yf_chars.specs.Class.{is_white};
 ghost use Rattle.yf_chars.specs.Text.{code};
 ghost use Rattle.yf_lines.specs.Basic.{is_key, LineStart, SeparateInLine, FlowPrefix};
 ghost use Rattle.yf_comments.specs.Comment.{CommentValue};
-ghost use Rattle.yf_comments.specs.Comments.{Separate, Upto};
+ghost use Rattle.yf_comments.specs.Comments.{Row, Separate, SeparateLines, Upto};
 
 use crate::comments::{Comments, Separation};
 use crate::lines::next_row;
@@ -83,4 +83,80 @@ fn first_reach(s: &str, at: usize, width: usize) -> Option<Reach>
         }
     }
     None
+}
+
+// How far a separation goes from there, behind rows of comments, which it keeps all.
+fn last_reach<'a>(s: &'a str, at: usize, width: usize, comments: &mut Comments<'a>) -> Result<Option<Reach>, AllocError>
+    requires boundary { IsCharBoundary s.now at }
+    requires fresh { comments.old ≡ [] }
+    ensures reads { IfOk result (λ o. (p : ℕ) × Chain (Row s.now) at p comments.new × Stuck (Row s.now p)
+        × MatchOption o (Stuck (Upto s.now (pos width) at p)) (λ r. Chosen (Upto s.now (pos width) at p) r.end (take r.count comments.new))) }
+    ensures boundary { IfOk result (λ o. IfSome o (λ r. IsCharBoundary s.now r.end)) }
+{
+    let mut reach = first_reach(s, at, width);
+    let mut place = at;
+    let mut starts = is_line_start(s, at);
+    'rows: while place < s.len() {
+        match next_row(s, place, starts, comments)? {
+            Some(next) => {
+                place = next;
+                starts = true;
+                match flow_line_prefix(s, place, width) {
+                    Some(end) => {
+                        reach = Some(Reach {
+                            end,
+                            count: comments.len(),
+                        });
+                    }
+                    None => {}
+                }
+            }
+            None => return Ok(reach),
+        }
+    }
+    Ok(reach)
+}
+
+/// Reads a separation that may go over lines (s-separate-lines(n), production 81): the longest.
+///
+/// It ends in the last line at whose start the indentation stands, so a comment line that is indented less is not in it.
+pub fn separate_lines<'a>(alloc: Global, s: &'a str, at: usize, width: usize) -> Result<Option<Separation<'a>>, AllocError>
+    requires { IsCharBoundary s.now at }
+    ensures reads { IfOk result (λ o. MatchOption o (Stuck (SeparateLines s.now (pos width) at)) (λ p. Chosen (SeparateLines s.now (pos width) at) p.end p.comments)) }
+    ensures boundary { IfOk result (λ o. IfSome o (λ p. IsCharBoundary s.now p.end)) }
+{
+    let mut comments = Comments::new(alloc);
+    match last_reach(s, at, width, &mut comments)? {
+        Some(reach) => {
+            comments.truncate(reach.count);
+            Ok(Some(Separation {
+                comments,
+                end: reach.end,
+            }))
+        }
+        None => Ok(None),
+    }
+}
+
+/// Reads a separation (s-separate(n,c), production 80): the longest, with its comments.
+///
+/// In the two key contexts, and where `n` is negative, it is whites alone, or nothing at the start of a line.
+pub fn separate<'a>(alloc: Global, s: &'a str, at: usize, n: i32, ctx: Ctx) -> Result<Option<Separation<'a>>, AllocError>
+    requires { IsCharBoundary s.now at }
+    ensures reads { IfOk result (λ o. MatchOption o (Stuck (Separate s.now n ctx at)) (λ p. Chosen (Separate s.now n ctx at) p.end p.comments)) }
+    ensures boundary { IfOk result (λ o. IfSome o (λ p. IsCharBoundary s.now p.end)) }
+{
+    match line_width(n, ctx) {
+        Some(width) => match separate_lines(alloc, s, at, width)? {
+            Some(separation) => Ok(Some(separation)),
+            None => Ok(None),
+        },
+        None => match separate_in_line(s, at) {
+            Some(end) => Ok(Some(Separation {
+                comments: Comments::new(alloc),
+                end,
+            })),
+            None => Ok(None),
+        },
+    }
 }

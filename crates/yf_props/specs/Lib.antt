@@ -1,2 +1,3 @@
--- MAIN SESSION TO HELPER comments: read ../READ-ME-FIRST.txt before you work on this crate (and drop this line)
+pub mod Handles
+pub mod Names
 pub mod Props
