@@ -1,11 +1,11 @@
 -- The longest separation: behind the last line at whose start there is enough indentation.
-use Rattle.std.proofs.Common.{◌≡◌, ◌≢◌, ℕ, ℤ, pos, ◌<ℤ◌, suc, zero, ◌+◌, ◌<◌, ◌≤◌, Bool, true, false, ◌⊎◌, inl, inr, ⊎_elim, List, [], ◌∷◌, ◌++◌, length, refl, sym, ap, ◌∙◌, subst, arith, append-nil, add-zero, true≢false}
+use Rattle.std.proofs.Common.{◌≡◌, ◌≢◌, ℕ, ℤ, pos, ◌<ℤ◌, suc, zero, ◌+◌, ◌<◌, ◌≤◌, true, false, ◌⊎◌, inl, inr, ⊎_elim, List, [], ◌∷◌, ◌++◌, length, refl, sym, ap, ◌∙◌, subst, arith, append-nil, add-zero, true≢false}
 use Rattle.std.proofs.lemmas.Bool.{cases_lt, cases_Bool}
 use Rattle.std.proofs.lemmas.Int.{ints}
 use Rattle.yf_chars.specs.declared.context.Ctx.{Ctx}
 use Rattle.yf_chars.specs.Text.{code, next, no_char}
 use Rattle.yf_chars.specs.Class.{is_white}
-use Rattle.yf_chars.specs.Chain.{Chain, Functional, Stuck, Chosen, Nowhere, Farthest, One, Many}
+use Rattle.yf_chars.specs.Chain.{Chain, Stuck, Chosen, Nowhere, Farthest, One, Many}
 use Rattle.yf_chars.specs.Chain.Chain.{done, step}
 use Rattle.yf_chars.proofs.TextLemmas.{next_ascii, code-end}
 use Rattle.yf_chars.proofs.ChainLemmas.{Meets, chain_append, chain_more, chain_forward, chain_chosen, chain_meet, one_functional, many_chosen, many_more}
@@ -16,7 +16,7 @@ use Rattle.yf_lines.specs.Basic.Indent.{exactly}
 use Rattle.yf_lines.specs.Basic.FlowPrefix.{indented, set_off}
 use Rattle.yf_lines.proofs.BasicLemmas.{white_of_space, break_forward}
 use Rattle.yf_comments.specs.Comment.{CommentValue}
-use Rattle.yf_comments.specs.Comments.{BreakOrEnd, LineRest, LineEnd, Row, SeparateLines, Separate, Upto}
+use Rattle.yf_comments.specs.Comments.{LineRest, LineEnd, Row, SeparateLines, Separate, Upto}
 use Rattle.yf_comments.specs.Comments.BreakOrEnd.{by_break, by_end}
 use Rattle.yf_comments.specs.Comments.LineRest.{nothing, whites, comment}
 use Rattle.yf_comments.specs.Comments.LineEnd.{past_rest, from_start}
@@ -232,11 +232,13 @@ module _ {t : List ℕ} where
 
   -- at the end of the text
   pub stuck_at_end : {n : ℤ} {i : ℕ} → Nowhere (SeparateInLine t i) → n ≢ pos 0 → Stuck (Upto t n i i)
-  stuck_at_end {n} {i} s f = record { none = λ j x d. no_upto s (λ h y e l k p.
-      let same = end_stays s e l in
-      let m = chain_forward row_functional (line_end_rows e) in
-      let at : h ≡ length t = omega arith in
-      f (prefix_at_end at p)) d }
+  stuck_at_end {n} {i} s f = record {
+    none = λ j x d. no_upto s (λ h y e l k p.
+        let same = end_stays s e l in
+        let m = chain_forward row_functional (line_end_rows e) in
+        let at : h ≡ length t = omega arith in
+        f (prefix_at_end at p)) d;
+  }
 
   pub upto_at_end : {n : ℤ} {i : ℕ} → i ≡ length t → n ≡ pos 0 → Chosen (Upto t n i i) i []
   upto_at_end {n} {i} e f =
