@@ -123,7 +123,7 @@ fn style_at(s: &str, at: usize) -> Option<bool>
 /// either order, then a comment or nothing, and the end of the line.
 ///
 /// `None` where no header begins at the byte offset. It takes no memory.
-pub fn read_header<'a>(s: &'a str, at: usize) -> Option<HeaderLine<'a>>
+pub fn block_header<'a>(s: &'a str, at: usize) -> Option<HeaderLine<'a>>
     ensures reads { MatchOption result (Stuck (BlockHeader s.now at)) (λ r. Chosen (BlockHeader s.now at) r.end (header_value r.header r.comment)) }
     ensures boundary { IfSome result (λ r. IsCharBoundary s.now r.end) }
 {

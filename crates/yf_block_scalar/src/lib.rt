@@ -7,7 +7,10 @@ pub mod header;
 pub mod header_reader;
 mod indent;
 pub mod lines;
+pub mod read;
 pub mod reader;
 mod rest;
 mod rows;
 mod trail;
+#[cfg(test)]
+mod tests;

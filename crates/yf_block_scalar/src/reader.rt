@@ -1,5 +1,5 @@
 //! Reads the lines of a block scalar (YAML 1.2.2, sections 8.1.1.1, 8.1.2 and 8.1.3).
-ghost use Rattle.std.specs.Prelude.{◌≡◌, ◌+◌, ◌<◌, ◌^◌, ◌≤ℤ◌, pos, ℕ, List, [], false, None, length, IfOk, IfErr, MatchOption};
+ghost use Rattle.std.specs.Prelude.{◌≡◌, ◌+◌, ◌<◌, ◌^◌, ◌≤ℤ◌, pos, ℕ, List, [], false, None, length, IfOk, MatchOption};
 ghost use Rattle.std.specs.Str.{IsCharBoundary};
 ghost use Rattle.yf_chars.specs.Chain.{Chain, Stuck};
 ghost use Rattle.yf_lines.specs.Basic.{LineStart};
@@ -14,7 +14,6 @@ use crate::rows::{Rows, read_rows};
 use crate::trail::read_trail;
 use std::alloc::{AllocError, Global};
 use yf_comments::comments::Separation;
-use yf_lines::fault::Fault;
 
 // Whether a comment directly behind so many empty lines of a scalar's tail has a blank line before it: the empty lines of
 // a kept tail are content.
@@ -76,7 +75,16 @@ fn read_bare<'a>(alloc: Global, s: &'a str, at: usize, least: usize, count: usiz
     })
 }
 
-fn read_lines<'a>(alloc: Global, s: &'a str, at: usize, n: i32, header: Header) -> Result<Option<BlockText<'a>>, AllocError>
+/// Reads the lines of a block scalar behind its header: its content lines and the empty lines among them, its tail, and
+/// the comment lines behind it.
+///
+/// `at` is the byte offset where the line behind the header begins, and `n` the indentation of the collection around the
+/// scalar, from -1. `None` where a line of spaces alone before the content has more spaces than the content.
+///
+/// # Errors
+///
+/// `AllocError` where a growth of memory was refused.
+pub fn block_body<'a>(alloc: Global, s: &'a str, at: usize, n: i32, header: Header) -> Result<Option<BlockText<'a>>, AllocError>
     requires boundary { IsCharBoundary s.now at }
     requires starts { at < length s.now → LineStart s.now at }
     requires small { n ≤ℤ pos (2 ^ 30) }
@@ -98,24 +106,5 @@ fn read_lines<'a>(alloc: Global, s: &'a str, at: usize, n: i32, header: Header) 
             }
             Indentation::TooLong => Ok(None),
         },
-    }
-}
-
-/// Reads the lines of a block scalar behind its header: its content lines and the empty lines among them, its tail, and
-/// the comment lines behind it.
-///
-/// `at` is the byte offset where the line behind the header begins, and `n` the indentation of the collection around the
-/// scalar, from -1. `None` where a line of spaces alone before the content has more spaces than the content. The one
-/// error is `Fault::Memory`.
-pub fn read_body<'a>(alloc: Global, s: &'a str, at: usize, n: i32, header: Header) -> Result<Option<BlockText<'a>>, Fault>
-    requires boundary { IsCharBoundary s.now at }
-    requires starts { at < length s.now → LineStart s.now at }
-    requires small { n ≤ℤ pos (2 ^ 30) }
-    ensures reads { IfOk result (λ o. MatchOption o (Stuck (Body s.now n header at)) (λ b. (b.header ≡ header) × (b.comment ≡ None) × Body s.now n header at b.next (body_value b))) }
-    ensures refused { IfErr result (λ f. f ≡ Fault.Memory) }
-{
-    match read_lines(alloc, s, at, n, header) {
-        Ok(block) => Ok(block),
-        Err(_refused) => Err(Fault::Memory),
     }
 }

@@ -1,5 +1,5 @@
 use Rattle.yf_block_scalar.proofs.HeaderLemmas.{marks_inside, header_chosen, header_stuck, no_header}
-use Rattle.yf_block_scalar.proofs.header_reader.read_header.Goals as goal
+use Rattle.yf_block_scalar.proofs.header_reader.block_header.Goals as goal
 
 pub line_rest-requires-clause-inside : goal.line_rest-requires-clause-inside
 line_rest-requires-clause-inside c = marks_inside c.utf8.s c.in-Some.ensures.reads c.read_marks-digit.ensures.reads

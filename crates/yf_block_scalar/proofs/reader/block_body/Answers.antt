@@ -2,7 +2,7 @@ use Rattle.std.proofs.Common.{◌≡◌, ◌+◌, ◌∙◌, ap, sym, to_z-of_z}
 use Rattle.yf_block_scalar.proofs.BodyLemmas.{bares_starts}
 use Rattle.yf_block_scalar.specs.Body.{base, least, body_value}
 use Rattle.yf_block_scalar.proofs.ReaderLemmas.{body_indicated, body_detected, body_without, body_none}
-use Rattle.yf_block_scalar.proofs.reader.read_lines.Goals as goal
+use Rattle.yf_block_scalar.proofs.reader.block_body.Goals as goal
 
 pub read_bare-requires-clause-starts : goal.read_bare-requires-clause-starts
 read_bare-requires-clause-starts c = λ l. bares_starts c.requires.starts c.in-Missing.ensures.finds.1.0 l
