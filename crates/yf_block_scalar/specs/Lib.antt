@@ -3,3 +3,4 @@ pub mod Content
 pub mod Header
 pub mod Indentation
 pub mod LineOffset
+pub mod Written

@@ -12,5 +12,6 @@ pub mod reader;
 mod rest;
 mod rows;
 mod trail;
+pub mod write;
 #[cfg(test)]
 mod tests;
