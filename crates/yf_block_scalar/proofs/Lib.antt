@@ -4,3 +4,4 @@ pub mod HeaderLemmas
 pub mod IndentLemmas
 pub mod ReaderLemmas
 pub mod TrailLemmas
+pub mod UniqueLemmas

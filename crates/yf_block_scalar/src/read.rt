@@ -40,7 +40,7 @@ pub fn read_header<'a>(src: &Src<'a>, at: usize) -> Option<HeaderLine<'a>>
 pub fn read_body<'a>(alloc: Global, src: &Src<'a>, line: usize, n: i32, header: Header) -> Result<Option<BlockText<'a>>, Fault>
     requires within { line ≤ length src.now.lines }
     requires small { n ≤ℤ pos (2 ^ 30) }
-    ensures { MatchResult result (λ o. MatchOption o (Stuck (Body src.now.text n header (line_offset src.now line))) (λ b. (b.header ≡ header) × (b.comment ≡ None) × Body src.now.text n header (line_offset src.now line) b.next (body_value b))) (λ fault. fault ≡ Fault.Memory) }
+    ensures { MatchResult result (λ o. MatchOption o (Stuck (Body src.now.text n header (line_offset src.now line))) (λ b. (b.header ≡ header) × (b.comment ≡ None) × Chosen (Body src.now.text n header (line_offset src.now line)) b.next (body_value b) × IsCharBoundary src.now.text b.next)) (λ fault. fault ≡ Fault.Memory) }
 {
     match block_body(alloc, src.text(), offset_of_line(src, line), n, header) {
         Ok(found) => Ok(found),

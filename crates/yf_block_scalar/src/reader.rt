@@ -1,7 +1,7 @@
 //! Reads the lines of a block scalar (YAML 1.2.2, sections 8.1.1.1, 8.1.2 and 8.1.3).
-ghost use Rattle.std.specs.Prelude.{◌≡◌, ◌+◌, ◌<◌, ◌^◌, ◌≤ℤ◌, pos, ℕ, List, [], false, None, length, IfOk, MatchOption};
+ghost use Rattle.std.specs.Prelude.{◌≡◌, ◌+◌, ◌<◌, ◌^◌, ◌≤ℤ◌, pos, ℕ, List, [], false, None, length, IfOk, IfSome, MatchOption};
 ghost use Rattle.std.specs.Str.{IsCharBoundary};
-ghost use Rattle.yf_chars.specs.Chain.{Chain, Stuck};
+ghost use Rattle.yf_chars.specs.Chain.{Chosen, Stuck};
 ghost use Rattle.yf_lines.specs.Basic.{LineStart};
 ghost use Rattle.yf_comments.specs.Comment.{CommentValue};
 ghost use Rattle.yf_block_scalar.specs.Body.{Body, Taken, Trail, is_gap_tail, first_noted, body_value};
@@ -31,6 +31,7 @@ fn read_indented<'a>(alloc: Global, s: &'a str, at: usize, indent: usize, header
     requires boundary { IsCharBoundary s.now at }
     requires starts { at < length s.now → LineStart s.now at }
     ensures reads { IfOk result (λ b. (p : ℕ) × (x : List CommentValue) × (Taken s.now indent at b.lines b.open_end b.tail p × Trail s.now indent p b.next x × (b.comments ≡ first_noted (is_gap_tail header.chomp b.tail) x))) }
+    ensures boundary { IfOk result (λ b. IsCharBoundary s.now b.next) }
     ensures header { IfOk result (λ b. b.header ≡ header) }
     ensures comment { IfOk result (λ b. b.comment ≡ None) }
 {
@@ -60,6 +61,7 @@ fn read_bare<'a>(alloc: Global, s: &'a str, at: usize, least: usize, count: usiz
     ensures lines { IfOk result (λ b. b.lines ≡ []) }
     ensures open_end { IfOk result (λ b. b.open_end ≡ false) }
     ensures tail { IfOk result (λ b. b.tail ≡ count) }
+    ensures boundary { IfOk result (λ b. IsCharBoundary s.now b.next) }
     ensures header { IfOk result (λ b. b.header ≡ header) }
     ensures comment { IfOk result (λ b. b.comment ≡ None) }
 {
@@ -88,7 +90,8 @@ pub fn block_body<'a>(alloc: Global, s: &'a str, at: usize, n: i32, header: Head
     requires boundary { IsCharBoundary s.now at }
     requires starts { at < length s.now → LineStart s.now at }
     requires small { n ≤ℤ pos (2 ^ 30) }
-    ensures reads { IfOk result (λ o. MatchOption o (Stuck (Body s.now n header at)) (λ b. (b.header ≡ header) × (b.comment ≡ None) × Body s.now n header at b.next (body_value b))) }
+    ensures reads { IfOk result (λ o. MatchOption o (Stuck (Body s.now n header at)) (λ b. (b.header ≡ header) × (b.comment ≡ None) × Chosen (Body s.now n header at) b.next (body_value b))) }
+    ensures boundary { IfOk result (λ o. IfSome o (λ b. IsCharBoundary s.now b.next)) }
 {
     match header.digit {
         Some(digit) => {
