@@ -1,7 +1,7 @@
 //! The lists that a reading is made of.
 ghost use Rattle.std.specs.Prelude.{◌≡◌, [], ◌∷◌, ◌++◌, IfOk};
 
-use crate::document::Doc;
+use crate::document::Documents;
 use crate::event::PlacedEvent;
 use crate::events::{Comments, Events};
 use crate::row::Row;
@@ -20,7 +20,7 @@ pub struct Lists<'a> {
     /// For each comment, whether it stands on the line on which the last leaf with characters that begins before it
     /// ends.
     pub on_leaf_line: Row<bool>,
-    pub documents: Row<Doc<'a>>,
+    pub documents: Documents<'a>,
     /// The byte offsets of the escapes that are no character.
     pub escapes: Row<usize>,
 }
@@ -39,7 +39,7 @@ impl<'a> Lists<'a> {
             resolved: Row::new(alloc),
             comments: Comments::new(alloc),
             on_leaf_line: Row::new(alloc),
-            documents: Row::new(alloc),
+            documents: Documents::new(alloc),
             escapes: Row::new(alloc),
         }
     }
