@@ -3,7 +3,8 @@ ghost use Rattle.std.specs.Prelude.{◌≡◌, [], ◌∷◌, ◌++◌, IfOk};
 
 use crate::document::Documents;
 use crate::event::PlacedEvent;
-use crate::events::{Comments, Events};
+use crate::comments::Comments;
+use crate::events::Events;
 use crate::row::Row;
 use std::alloc::{AllocError, Global};
 use yf_comments::comment::Comment;

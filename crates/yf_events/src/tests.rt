@@ -11,7 +11,8 @@ use yf_lines::text::{OwnedText, Text};
 use yf_lines::watched::Watched;
 use yf_props::props::{Props, Tag};
 
-use crate::document::{Directive, Directives, Doc};
+use crate::directive::{Directive, Directives};
+use crate::document::Doc;
 use crate::event::{Entry, Event, PlacedEvent, ScalarStyle, Span};
 use crate::lists::Lists;
 use crate::notation::write_events;
