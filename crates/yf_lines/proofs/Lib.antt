@@ -1,2 +1,3 @@
 pub mod BasicLemmas
+pub mod ClearLemmas
 pub mod OutputLemmas
