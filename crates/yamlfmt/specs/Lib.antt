@@ -1,2 +1,4 @@
+pub mod FirstLists
+pub mod FirstPath
 pub mod Input
 pub mod Report
