@@ -193,11 +193,12 @@ fn unplaced<'a>(alloc: Global, event: Event<'a>) -> PlacedEvent<'a>
 fn stream_of<'a>(alloc: Global, entries: Entries<'a>) -> Result<Events<'a>, AllocError>
     ensures { IfOk result (λ events. map (λ p. p.event) events ≡ sequence_around (map (λ p. p.event) entries.entry.events)) }
 {
+    let Entries { events: items, end } = entries;
     let mut events = Events::new(alloc);
     events.push(unplaced(alloc, Event::StreamStart))?;
     events.push(unplaced(alloc, Event::DocStart { explicit: false }))?;
-    events.push(sequence_start(alloc, entries.end))?;
-    events.append(entries.events)?;
+    events.push(sequence_start(alloc, end))?;
+    events.append(items)?;
     events.push(unplaced(alloc, Event::SeqEnd))?;
     events.push(unplaced(alloc, Event::DocEnd { explicit: false }))?;
     events.push(unplaced(alloc, Event::StreamEnd))?;
