@@ -134,3 +134,16 @@ fn write_event<'x, W: Sink>(writer: &mut W, event: &'x Event<'x>, tag: Option<&'
         Event::Alias { name } => write_texts(writer, &["=ALI *", name, "\n"]),
     }
 }
+
+/// Writes the notation of all events of a reading.
+///
+/// Answers `Fault::WriteFailed` where a write fails or takes no bytes; a front of the notation has then been written.
+/// Takes no memory.
+pub fn write_events<W: Sink>(reading: &Reading, writer: &mut W) -> Result<(), Fault>
+    ensures { Writes (W.contents writer.old) (W.contents writer.new) (W.has_failed writer.old) (W.has_failed writer.new) (Notation.notation_of reading.now) result }
+{
+    for i in 0..reading.len() {
+        write_event(writer, reading.event(i), reading.resolved(i))?;
+    }
+    Ok(())
+}

@@ -6,5 +6,6 @@ pub mod basic;
 pub mod fault;
 pub mod output;
 pub mod place;
+pub mod steady;
 pub mod text;
 pub mod watched;
