@@ -2,3 +2,4 @@ pub mod FirstLists
 pub mod FirstPath
 pub mod Input
 pub mod Report
+pub mod Run
