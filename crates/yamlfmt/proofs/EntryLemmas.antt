@@ -17,7 +17,7 @@ use Rattle.yf_plain.specs.Plain.{PlainItem, PlainLine, PlainFront, is_plain_char
 use Rattle.yf_plain.specs.Plain.PlainItem.{set_off}
 use Rattle.yf_plain.specs.Plain.PlainLine.{one_line}
 use Rattle.yf_plain.proofs.PlainLemmas.{ns_not_white, ns_below, plain_is_ns, first_is_ns, item_stuck, line_chosen, line_forward}
-use Rattle.yamlfmt.specs.FirstPath.{LineEnd, EntryLine, IsSequence, Derives}
+use Rattle.yamlfmt.specs.FirstPath.{Item, LineEnd, EntryLine}
 use Rattle.yamlfmt.specs.FirstLists.{EntryAt}
 use Rattle.yamlfmt.specs.FirstPath.LineEnd.{with_break, with_text}
 use Rattle.yamlfmt.specs.FirstPath.EntryLine.{an_entry}
@@ -119,7 +119,7 @@ front_same {t} {c} {g} {h} {k} {x} {y} a s b r =
     (same, sym (p.only y (subst (λ n. PlainLine t c g n y) (sym same) b.text)))
 
 -- the parts of a line with an entry
-pub record Parts (t : List ℕ) (i j : ℕ) (y : List (List ℕ)) : Type 0 where
+pub record Parts (t : List ℕ) (i j : ℕ) (y : List Item) : Type 0 where
   pub from : ℕ
   pub to : ℕ
   pub stop : ℕ
@@ -132,40 +132,45 @@ pub record Parts (t : List ℕ) (i j : ℕ) (y : List (List ℕ)) : Type 0 where
   pub scalar : PlainFront t FlowOut from to chars
   pub blanks : Many t is_white to stop blank
   pub end : LineEnd t stop j
-  pub are : y ≡ chars ∷ []
+  pub are : y ≡ record { dash = i; start = from; stop = to; chars = chars } ∷ []
 
-pub entry_parts : {t : List ℕ} {i j : ℕ} {y : List (List ℕ)} → EntryLine t i j y → Parts t i j y
+pub entry_parts : {t : List ℕ} {i j : ℕ} {y : List Item} → EntryLine t i j y → Parts t i j y
 entry_parts (an_entry {g = g} {h = h} {k = k} {v = v} {w = w} {x = x} d a l f b e) = record {
   from = g; to = h; stop = k; gap = v; blank = w; chars = x; dash = d; gaps = a; some = l; scalar = f; blanks = b; end = e; are = refl;
 }
 
-scalar_stuck : {t : List ℕ} {i j : ℕ} {y : List (List ℕ)} (p : Parts t i j y) → Stuck (PlainItem t FlowOut p.to)
+scalar_stuck : {t : List ℕ} {i j : ℕ} {y : List Item} (p : Parts t i j y) → Stuck (PlainItem t FlowOut p.to)
 scalar_stuck p = item_stuck p.blanks (end_no_white p.end) (end_not_plain FlowOut p.end)
 
-same_from : {t : List ℕ} {i j : ℕ} {y : List (List ℕ)} {g : ℕ} {v : List ℕ} (p : Parts t i j y) → Many t is_white (i + 1) g v → is_white (code t g) ≡ false → p.from ≡ g
+same_from : {t : List ℕ} {i j : ℕ} {y : List Item} {g : ℕ} {v : List ℕ} (p : Parts t i j y) → Many t is_white (i + 1) g v → is_white (code t g) ≡ false → p.from ≡ g
 same_from {t} p a s = (many_unique t is_white p.gaps (line_begins p.scalar.text) a s).0
 
-same_scalar : {t : List ℕ} {i j k : ℕ} {y z : List (List ℕ)} (p : Parts t i j y) (q : Parts t i k z) → (p.to ≡ q.to) × (p.chars ≡ q.chars)
+same_scalar : {t : List ℕ} {i j k : ℕ} {y z : List Item} (p : Parts t i j y) (q : Parts t i k z) → (p.to ≡ q.to) × (p.chars ≡ q.chars)
 same_scalar {t} p q =
     let e = same_from p q.gaps (line_begins q.scalar.text) in
     front_same p.scalar (scalar_stuck p) (subst (λ n. PlainFront t FlowOut n q.to q.chars) (sym e) q.scalar) (scalar_stuck q)
 
-same_stop : {t : List ℕ} {i j : ℕ} {y : List (List ℕ)} {h k : ℕ} {w : List ℕ} (p : Parts t i j y) → p.to ≡ h → Many t is_white h k w → is_white (code t k) ≡ false → p.stop ≡ k
+same_stop : {t : List ℕ} {i j : ℕ} {y : List Item} {h k : ℕ} {w : List ℕ} (p : Parts t i j y) → p.to ≡ h → Many t is_white h k w → is_white (code t k) ≡ false → p.stop ≡ k
 same_stop {t} {k = k} {w = w} p e b s =
     (many_unique t is_white p.blanks (end_no_white p.end) (subst (λ n. Many t is_white n k w) (sym e) b) s).0
 
-entry_end : {t : List ℕ} {i j k : ℕ} {y z : List (List ℕ)} → EntryLine t i j y → EntryLine t i k z → j ≡ k
+entry_end : {t : List ℕ} {i j k : ℕ} {y z : List Item} → EntryLine t i j y → EntryLine t i k z → j ≡ k
 entry_end {t} {k = k} a b =
     let p = entry_parts a in let q = entry_parts b in
     let e = same_stop p (same_scalar p q).0 q.blanks (end_no_white q.end) in
     line_end_unique p.end (subst (λ n. LineEnd t n k) (sym e) q.end)
 
-entry_meaning : {t : List ℕ} {i j k : ℕ} {y z : List (List ℕ)} → EntryLine t i j y → EntryLine t i k z → y ≡ z
-entry_meaning a b =
+entry_meaning : {t : List ℕ} {i j k : ℕ} {y z : List Item} → EntryLine t i j y → EntryLine t i k z → y ≡ z
+entry_meaning {i = i} a b =
     let p = entry_parts a in let q = entry_parts b in
-    p.are ∙ ap (λ w. w ∷ []) (same_scalar p q).1 ∙ sym q.are
+    let same = same_scalar p q in
+    p.are
+    ∙ ap (λ g. record { dash = i; start = g; stop = p.to; chars = p.chars } ∷ []) (same_from p q.gaps (line_begins q.scalar.text))
+    ∙ ap (λ h. record { dash = i; start = q.from; stop = h; chars = p.chars } ∷ []) same.0
+    ∙ ap (λ x. record { dash = i; start = q.from; stop = q.to; chars = x } ∷ []) same.1
+    ∙ sym q.are
 
-entry_forward : {t : List ℕ} {i j : ℕ} {y : List (List ℕ)} → EntryLine t i j y → i < j
+entry_forward : {t : List ℕ} {i j : ℕ} {y : List Item} → EntryLine t i j y → i < j
 entry_forward {t} a =
     let p = entry_parts a in
     let f = line_forward p.scalar.text in
@@ -183,18 +188,18 @@ no_dash n = record { none = λ j y a. n (entry_parts a).dash }
 
 pub no_gap : {t : List ℕ} {i g : ℕ} {v : List ℕ} → g ≡ i + 1 → Many t is_white (i + 1) g v → is_white (code t g) ≡ false → Stuck (EntryLine t i)
 no_gap {t} {i} {g} e a s = record { none = λ j y d. go (entry_parts d) } where
-  go : {j : ℕ} {y : List (List ℕ)} → Parts t i j y → ⊥
+  go : {j : ℕ} {y : List Item} → Parts t i j y → ⊥
   go p = let same = same_from p a s in let l = p.some in absurd (omega arith)
 
 pub no_scalar : {t : List ℕ} {i g : ℕ} {v : List ℕ} → Many t is_white (i + 1) g v → is_white (code t g) ≡ false → Stuck (PlainFront t FlowOut g) → Stuck (EntryLine t i)
 no_scalar {t} {i} {g} a s n = record { none = λ j y d. go (entry_parts d) } where
-  go : {j : ℕ} {y : List (List ℕ)} → Parts t i j y → ⊥
+  go : {j : ℕ} {y : List Item} → Parts t i j y → ⊥
   go p = n.none p.to p.chars (subst (λ m. PlainFront t FlowOut m p.to p.chars) (same_from p a s) p.scalar)
 
 pub no_end : {t : List ℕ} {i g h k : ℕ} {v w x : List ℕ} → Many t is_white (i + 1) g v → is_white (code t g) ≡ false → Chosen (PlainFront t FlowOut g) h x
     → Many t is_white h k w → is_white (code t k) ≡ false → Nowhere (LineEnd t k) → Stuck (EntryLine t i)
 no_end {t} {i} {g} {h} {k} {x = x} a s f b r n = record { none = λ j y d. go (entry_parts d) } where
-  go : {j : ℕ} {y : List (List ℕ)} → Parts t i j y → ⊥
+  go : {j : ℕ} {y : List Item} → Parts t i j y → ⊥
   go {j} p =
       let front : PlainFront t FlowOut g p.to p.chars = subst (λ m. PlainFront t FlowOut m p.to p.chars) (same_from p a s) p.scalar in
       let l = f.longest p.to p.chars front in
@@ -209,7 +214,6 @@ pub entry_found : {t : List ℕ} {i g h k j : ℕ} {v w x : List ℕ} → IsUtf8
 entry_found {t} {i} {g} {h} {k} {j} {v} {w} {x} u d a o n f bg bh b l bj =
     let spelled = line_spelled u f.derived.text in
     record {
-      dash = refl;
       chars = x;
       entry = an_entry d.char a (omega arith) f.derived b l;
       order = spelled.order;

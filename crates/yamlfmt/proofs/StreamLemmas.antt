@@ -9,40 +9,47 @@ use Rattle.yf_events.specs.Reading.{Fits, events_of}
 use Rattle.yf_events.specs.declared.lists.Lists.{Lists}
 use Rattle.yf_events.specs.declared.reading.TheConstants.{DEPTH}
 use Rattle.yf_props.specs.Props.{no_props}
-use Rattle.yamlfmt.specs.FirstPath.{scalar_event, sequence_around, sequence_events, untagged, printed}
-use Rattle.yamlfmt.specs.FirstLists.{IsMadeOf}
+use Rattle.yamlfmt.specs.FirstPath.{Item, item_event, sequence_events, untagged, printed}
+use Rattle.yamlfmt.specs.FirstLists.{unplaced, placed_item, stop_behind, stream_around, lists_around, lists_of}
 
-nested_scalars : (d : ℕ) (xs : List (List ℕ)) → Nested many_nodes d (map scalar_event xs)
-nested_scalars d [] = no_nodes
-nested_scalars d (x ∷ xs) = more_nodes a_scalar (nested_scalars d xs)
+nested_items : (d : ℕ) (items : List Item) → Nested many_nodes d (map item_event items)
+nested_items d [] = no_nodes
+nested_items d (x ∷ items) = more_nodes a_scalar (nested_items d items)
 
 ends_joined : (es : List EventValue)
     → ((es ++ sequence_ends ∷ []) ++ document_ends false ∷ []) ++ stream_ends ∷ [] ≡ es ++ (sequence_ends ∷ document_ends false ∷ stream_ends ∷ [])
 ends_joined es = simp append_assoc
 
-pub is_a_stream : (d : ℕ) (xs : List (List ℕ)) → IsStream (suc d) (sequence_events xs)
-is_a_stream d xs =
+is_a_stream : (d : ℕ) (items : List Item) → IsStream (suc d) (sequence_events items)
+is_a_stream d items =
     subst (λ w. IsStream (suc d) (stream_starts ∷ document_starts false ∷ sequence_starts false no_props ∷ w))
-    (ends_joined (map scalar_event xs))
-    (a_stream (more_documents false (a_sequence (nested_scalars d xs)) no_documents))
+    (ends_joined (map item_event items))
+    (a_stream (more_documents false (a_sequence (nested_items d items)) no_documents))
 
-pub stream_of_lists : {lists : Lists} (xs : List (List ℕ)) → IsMadeOf lists (sequence_events xs) → IsStream DEPTH (events_of lists)
-stream_of_lists xs m = rw m.are (is_a_stream 1023 xs)
+-- the events of the lists
+item_events : (items : List Item) (rest : List Placed) → map (λ p. p.event) (map placed_item items ++ rest) ≡ map item_event items ++ map (λ p. p.event) rest
+item_events [] rest = refl
+item_events (x ∷ items) rest = ap (λ w. item_event x ∷ w) (item_events items rest)
 
-pub lists_fit : {lists : Lists} {es : List EventValue} → IsMadeOf lists es → Fits lists
-lists_fit {lists} m = record {
-  tags = ap length m.no_tags ∙ length-replicate (length lists.events) None;
-  notes = ap length m.no_notes ∙ sym (ap length m.no_comments);
-}
+pub events_are : (items : List Item) → events_of (lists_of items) ≡ sequence_events items
+events_are items =
+    ap (λ w. stream_starts ∷ document_starts false ∷ sequence_starts false no_props ∷ w)
+    (item_events items (unplaced sequence_ends ∷ unplaced (document_ends false) ∷ unplaced stream_ends ∷ []))
 
-zip_untagged : (es : List EventValue) → zip es (replicate (length es) None) ≡ map untagged es
+pub stream_of_lists : {lists : Lists} (items : List Item) → lists ≡ lists_of items → IsStream DEPTH (events_of lists)
+stream_of_lists items e = rw (e, events_are items) (is_a_stream 1023 items)
+
+pub lists_fit : (stop : ℕ) (items : List Placed) → Fits (lists_around stop items)
+lists_fit stop items = record { tags = length-replicate (length (stream_around stop items)) None; notes = refl }
+
+-- their notation
+zip_untagged : (ps : List Placed) → zip (map (λ p. p.event) ps) (replicate (length ps) None) ≡ map untagged (map (λ p. p.event) ps)
 zip_untagged [] = refl
-zip_untagged (e ∷ es) = ap (λ w. untagged e ∷ w) (zip_untagged es)
+zip_untagged (p ∷ ps) = ap (λ w. untagged p.event ∷ w) (zip_untagged ps)
 
-pub notation_is : {lists : Lists} (xs : List (List ℕ)) → IsMadeOf lists (sequence_events xs) → notation_of lists ≡ printed xs
+pub notation_is : {lists : Lists} (items : List Item) → lists ≡ lists_of items → notation_of lists ≡ printed items
 unfolding notation_of printed
-notation_is {lists} xs m =
-    let many : length lists.events ≡ length (events_of lists) = sym (length-map lists.events (λ (e : Placed). e.event)) in
-    ap (λ w. notation (zip (events_of lists) w)) (m.no_tags ∙ ap (λ n. replicate n None) many)
-    ∙ ap notation (zip_untagged (events_of lists))
-    ∙ ap (λ w. notation (map untagged w)) m.are
+notation_is items e =
+    ap (λ r. notation (zip (events_of r) r.resolved)) e
+    ∙ ap notation (zip_untagged (stream_around (stop_behind 0 items) (map placed_item items)))
+    ∙ ap (λ w. notation (map untagged w)) (events_are items)

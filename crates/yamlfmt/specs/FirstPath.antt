@@ -18,49 +18,54 @@ pub data LineEnd (t : List ℕ) : ℕ → ℕ → Type 0 where
   with_break : {i j : ℕ} → Break t i j → LineEnd t i j
   with_text : {i : ℕ} → i ≡ length t → LineEnd t i i
 
+-- an entry: where its `-` stands, and its scalar from one offset to another, with its characters
+pub record Item : Type 0 where
+  pub dash : ℕ
+  pub start : ℕ
+  pub stop : ℕ
+  pub chars : List ℕ
+
 -- a line with an entry: `-`, one white or more, a plain scalar of the characters x, whites, and the line's end
-pub data EntryLine (t : List ℕ) : ℕ → ℕ → List (List ℕ) → Type 0 where
+pub data EntryLine (t : List ℕ) : ℕ → ℕ → List Item → Type 0 where
   an_entry : {i g h k j : ℕ} {v w x : List ℕ} → code t i ≡ 45 → Many t is_white (i + 1) g v → i + 1 < g
-      → PlainFront t FlowOut g h x → Many t is_white h k w → LineEnd t k j → EntryLine t i j (x ∷ [])
+      → PlainFront t FlowOut g h x → Many t is_white h k w → LineEnd t k j
+      → EntryLine t i j (record { dash = i; start = g; stop = h; chars = x } ∷ [])
 
--- the whole text is such lines, at least one: the characters of its scalars
-pub record IsSequence (t : List ℕ) (scalars : List (List ℕ)) : Type 0 where
-  pub lines : Chain (EntryLine t) 0 (length t) scalars
-  pub any : 0 < length scalars
+-- the whole text is such lines, at least one
+pub record IsSequence (t : List ℕ) (items : List Item) : Type 0 where
+  pub lines : Chain (EntryLine t) 0 (length t) items
+  pub any : 0 < length items
 
--- the same, and no other scalars are
-pub record Derives (t : List ℕ) (scalars : List (List ℕ)) : Type 0 where
-  pub derived : IsSequence t scalars
-  pub only : (others : List (List ℕ)) → IsSequence t others → others ≡ scalars
+-- the same, and it is so of no other entries
+pub record Derives (t : List ℕ) (items : List Item) : Type 0 where
+  pub derived : IsSequence t items
+  pub only : (others : List Item) → IsSequence t others → others ≡ items
 
 -- the text is no such sequence, and the place is the start of the first line that is no entry; the empty text has one line
 pub record NoEntryAt (t : List ℕ) (place : Place) : Type 0 where
   pub start : ℕ
-  pub before : List (List ℕ)
+  pub before : List Item
   pub lines : Chain (EntryLine t) 0 start before
   pub stuck : Stuck (EntryLine t start)
   pub left : (start < length t) ⊎ (length t ≡ 0)
   pub line : place.line ≡ length before + 1
   pub column : place.column ≡ 1
-  pub none : (scalars : List (List ℕ)) → IsSequence t scalars → ⊥
+  pub none : (items : List Item) → IsSequence t items → ⊥
 
--- the event of a scalar with those characters
-abbrev pub scalar_event : List ℕ → EventValue
-scalar_event x = scalar_node no_props Plain (encode_utf8_all x)
+-- the event of an entry's scalar
+abbrev pub item_event : Item → EventValue
+item_event item = scalar_node no_props Plain (encode_utf8_all item.chars)
 
--- the events of the stream: a bare document, and in it a block sequence of those items
-abbrev pub sequence_around : List EventValue → List EventValue
-sequence_around items =
+-- the events of the stream: a bare document, and in it a block sequence
+abbrev pub sequence_events : List Item → List EventValue
+sequence_events items =
     (stream_starts ∷ document_starts false ∷ sequence_starts false no_props ∷ [])
-    ++ (items ++ (sequence_ends ∷ document_ends false ∷ stream_ends ∷ []))
-
-abbrev pub sequence_events : List (List ℕ) → List EventValue
-sequence_events scalars = sequence_around (map scalar_event scalars)
+    ++ (map item_event items ++ (sequence_ends ∷ document_ends false ∷ stream_ends ∷ []))
 
 -- no node has a tag
 abbrev pub untagged : EventValue → EventValue × Option (List ℕ)
 untagged event = (event, None)
 
 -- the lines that are printed: the notation of these events
-unfoldable pub printed : List (List ℕ) → List ℕ
-printed scalars = notation (map untagged (sequence_events scalars))
+unfoldable pub printed : List Item → List ℕ
+printed items = notation (map untagged (sequence_events items))

@@ -6,30 +6,30 @@ use Rattle.yf_lines.specs.declared.fault.Fault.{Fault}
 use Rattle.yf_lines.specs.declared.fault.Fault.TheVariants.{NotUtf8, Memory, ReadFailed, WriteFailed, Unsupported}
 use Rattle.yf_lines.specs.Output.{Wrote, Broke}
 use Rattle.yamlfmt.specs.declared.run.TheConstants.{INPUT_LIMIT}
-use Rattle.yamlfmt.specs.FirstPath.{Derives, NoEntryAt, printed}
+use Rattle.yamlfmt.specs.FirstPath.{Item, Derives, NoEntryAt, printed}
 use Rattle.yamlfmt.specs.Input.{ReadRefusal}
 
 -- the bytes that were read: all that the reader had, where that is known
 abbrev pub Gave : Option (List ℕ) → List ℕ → Type 0
 Gave known bytes = IfSome known (λ all. bytes ≡ all)
 
--- the text was read, it is a sequence of these scalars, and its events were written
+-- the text was read, it is a sequence of these entries, and its events were written
 pub record Printed (known old new : Option (List ℕ)) (before after : Bool) : Type 0 where
   pub text : List ℕ
-  pub scalars : List (List ℕ)
+  pub items : List Item
   pub gave : Gave known text
   pub utf8 : IsUtf8 text
-  pub derives : Derives text scalars
-  pub wrote : Wrote old new before after (printed scalars)
+  pub derives : Derives text items
+  pub wrote : Wrote old new before after (printed items)
 
 -- the same, but the writer failed behind a front of what was to be written
 pub record BrokeOff (known old new : Option (List ℕ)) (after : Bool) : Type 0 where
   pub text : List ℕ
-  pub scalars : List (List ℕ)
+  pub items : List Item
   pub gave : Gave known text
   pub utf8 : IsUtf8 text
-  pub derives : Derives text scalars
-  pub broke : Broke old new after (printed scalars)
+  pub derives : Derives text items
+  pub broke : Broke old new after (printed items)
 
 -- the bytes are no text, and their longest front that is one ends at the offset
 pub record GaveNoText (known : Option (List ℕ)) (offset : ℕ) : Type 0 where

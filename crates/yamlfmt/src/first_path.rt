@@ -1,13 +1,12 @@
 //! The part of YAML that is read so far: one bare document that is a block sequence of plain scalars, each with its `-`
 //! on a line of its own, at column 1 (YAML 1.2.2, sections 7.3.3 and 8.2.1). Offsets count bytes.
-ghost use Rattle.std.specs.Prelude.{◌≡◌, ◌+◌, ◌-◌, ◌≤◌, ℕ, List, [], length, map, take, drop, replicate, false, None, IfOk, IfSome, MatchOption, MatchResult};
+ghost use Rattle.std.specs.Prelude.{◌≡◌, ◌-◌, ◌≤◌, List, length, map, take, drop, replicate, None, IfOk, IfSome, MatchOption, MatchResult};
 ghost use Rattle.std.specs.Str.{IsCharBoundary};
 ghost use Rattle.yf_chars.specs.Chain.{Nowhere, Stuck};
-ghost use Rattle.yf_events.specs.Event.{event_value, scalar_node, sequence_starts};
-ghost use Rattle.yf_events.specs.declared.event.ScalarStyle.TheVariants.{Plain};
+ghost use Rattle.yf_events.specs.Event.{event_value, placed_value};
 ghost use Rattle.yf_props.specs.Props.{no_props, props_value};
-ghost use Rattle.yamlfmt.specs.FirstPath.{LineEnd, EntryLine, Derives, scalar_event, sequence_around, sequence_events};
-ghost use Rattle.yamlfmt.specs.FirstLists.{EntryAt, IsMadeOf, Refusal};
+ghost use Rattle.yamlfmt.specs.FirstPath.{Item, LineEnd, EntryLine, Derives};
+ghost use Rattle.yamlfmt.specs.FirstLists as Made;
 
 use std::alloc::{AllocError, Global};
 use yf_chars::context::Ctx;
@@ -47,7 +46,7 @@ struct Entries<'a> {
 /// Answers `Fault::Unsupported` with the start of the first line that is no entry, which is line 1 for the empty text,
 /// and `Fault::Memory` in the place of either where a growth of memory was refused.
 pub fn read_sequence<'a>(alloc: Global, text: &'a str) -> Result<Lists<'a>, Fault>
-    ensures { MatchResult result (λ lists. (scalars : List (List ℕ)) × Derives text.now scalars × IsMadeOf lists (sequence_events scalars)) (λ fault. Refusal text.now fault) }
+    ensures { MatchResult result (λ lists. (items : List Item) × Derives text.now items × (lists ≡ Made.lists_of items)) (λ fault. Made.Refusal text.now fault) }
 {
     let entries = read_entries(alloc, text)?;
     match lists_of(alloc, entries) {
@@ -59,8 +58,8 @@ pub fn read_sequence<'a>(alloc: Global, text: &'a str) -> Result<Lists<'a>, Faul
 // The events of the entries, line by line.
 fn read_entries<'a>(alloc: Global, text: &'a str) -> Result<Entries<'a>, Fault>
     ensures { MatchResult result
-        (λ e. (scalars : List (List ℕ)) × Derives text.now scalars × (map (λ p. p.event) e.events ≡ map scalar_event scalars))
-        (λ fault. Refusal text.now fault) }
+        (λ e. (items : List Item) × Derives text.now items × (e.events ≡ map Made.placed_item items) × (e.end ≡ Made.stop_behind 0 items))
+        (λ fault. Made.Refusal text.now fault) }
 {
     let mut events = Events::new(alloc);
     let mut at = 0;
@@ -89,7 +88,7 @@ fn read_entries<'a>(alloc: Global, text: &'a str) -> Result<Entries<'a>, Fault>
 // A line that is an entry: `-`, one white or more, a plain scalar on one line, whites.
 fn entry_line(s: &str, at: usize) -> Option<ScalarLine>
     requires { IsCharBoundary s.now at }
-    ensures { MatchOption result (Stuck (EntryLine s.now at)) (λ line. EntryAt s.now at line) }
+    ensures { MatchOption result (Stuck (EntryLine s.now at)) (λ line. Made.EntryAt s.now at line) }
 {
     if !stands(s, at, b'-') {
         return None;
@@ -131,7 +130,7 @@ fn scalar_in<'a>(alloc: Global, text: &'a str, line: ScalarLine) -> PlacedEvent<
     requires order { line.scalar.start ≤ line.scalar.end }
     requires starts { IsCharBoundary text.now line.scalar.start }
     requires ends { IsCharBoundary text.now line.scalar.end }
-    ensures { event_value result.event ≡ scalar_node no_props Plain (take (line.scalar.end - line.scalar.start) (drop line.scalar.start text.now)) }
+    ensures { placed_value result ≡ Made.placed_scalar line.dash line.scalar.start line.scalar.end (take (line.scalar.end - line.scalar.start) (drop line.scalar.start text.now)) }
 {
     PlacedEvent {
         event: Event::Scalar {
@@ -162,7 +161,7 @@ fn no_props<'a>() -> Props<'a>
 
 // The start of the sequence, which reaches from the first `-` to the end of the last scalar.
 fn sequence_start<'a>(alloc: Global, end: usize) -> PlacedEvent<'a>
-    ensures { event_value result.event ≡ sequence_starts false no_props }
+    ensures { placed_value result ≡ Made.placed_start end }
 {
     PlacedEvent {
         event: Event::SeqStart {
@@ -178,7 +177,7 @@ fn sequence_start<'a>(alloc: Global, end: usize) -> PlacedEvent<'a>
 
 // An event that stands for no text.
 fn unplaced<'a>(alloc: Global, event: Event<'a>) -> PlacedEvent<'a>
-    ensures { event_value result.event ≡ event_value event.entry }
+    ensures { placed_value result ≡ Made.unplaced (event_value event.entry) }
 {
     PlacedEvent {
         event,
@@ -191,7 +190,7 @@ fn unplaced<'a>(alloc: Global, event: Event<'a>) -> PlacedEvent<'a>
 
 // The events of the stream: a bare document, and in it the sequence.
 fn stream_of<'a>(alloc: Global, entries: Entries<'a>) -> Result<Events<'a>, AllocError>
-    ensures { IfOk result (λ events. map (λ p. p.event) events ≡ sequence_around (map (λ p. p.event) entries.entry.events)) }
+    ensures { IfOk result (λ events. events ≡ Made.stream_around entries.entry.end entries.entry.events) }
 {
     let Entries { events: items, end } = entries;
     let mut events = Events::new(alloc);
@@ -218,7 +217,7 @@ fn no_tags(alloc: Global, count: usize) -> Result<Row<Option<OwnedText>>, AllocE
 
 // The lists of the stream; its one document has no directives.
 fn lists_of<'a>(alloc: Global, entries: Entries<'a>) -> Result<Lists<'a>, AllocError>
-    ensures { IfOk result (λ lists. IsMadeOf lists (sequence_around (map (λ p. p.event) entries.entry.events))) }
+    ensures { IfOk result (λ lists. lists ≡ Made.lists_around entries.entry.end entries.entry.events) }
 {
     let events = stream_of(alloc, entries)?;
     let resolved = no_tags(alloc, events.len())?;

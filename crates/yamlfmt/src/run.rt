@@ -1,7 +1,7 @@
 //! The runs of the program, over any reader and any writer.
-ghost use Rattle.std.specs.Prelude.{◌≡◌, ℕ, List, IfErr, OnOk, MatchResult};
+ghost use Rattle.std.specs.Prelude.{◌≡◌, List, IfErr, OnOk, MatchResult};
 ghost use Rattle.yf_events.specs.Notation.{notation_of};
-ghost use Rattle.yamlfmt.specs.FirstPath.{Derives, printed};
+ghost use Rattle.yamlfmt.specs.FirstPath.{Item, Derives, printed};
 ghost use Rattle.yamlfmt.specs.FirstLists.{Refusal};
 ghost use Rattle.yamlfmt.specs.Run.{Printed, Refused};
 
@@ -41,7 +41,7 @@ pub fn run_events<R: Source, W: Sink>(alloc: Global, reader: &mut R, writer: &mu
 // The reading of a whole text.
 fn read_stream<'a>(alloc: Global, text: &'a str) -> Result<Reading<'a>, Fault>
     ensures { MatchResult result
-        (λ reading. (scalars : List (List ℕ)) × Derives text.now scalars × (notation_of reading ≡ printed scalars))
+        (λ reading. (items : List Item) × Derives text.now items × (notation_of reading ≡ printed items))
         (λ fault. Refusal text.now fault) }
 {
     let lists = read_sequence(alloc, text)?;

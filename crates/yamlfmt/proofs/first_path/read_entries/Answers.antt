@@ -1,6 +1,4 @@
-use Rattle.std.proofs.Common.{refl, sym, subst, rules}
 use Rattle.std.proofs.lemmas.Str.{IsCharBoundary-start}
-use Rattle.yf_events.specs.Event.{placed_value}
 use Rattle.yamlfmt.proofs.SequenceLemmas.{nothing_yet, not_an_entry, one_more, all_read, shorter}
 use Rattle.yamlfmt.proofs.first_path.read_entries.Goals as goal
 
@@ -12,11 +10,11 @@ returns-in_default c = not_an_entry c.lines.invariant c.in_default.ensures
 
 pub returns-then-entry-text : goal.returns-then-entry-text
 returns-then-entry-text c =
-    rw c.in-Ok.ensures (all_read c.lines.invariant c.in-Some.ensures c.if-entry-text.true (placed_value c.scalar_in.result) c.scalar_in.ensures)
+    rw c.in-Ok.ensures (all_read c.lines.invariant c.in-Some.ensures c.if-entry-text.true (record { is = c.scalar_in.ensures }))
 
 pub lines-smaller : goal.lines-smaller
 lines-smaller c = shorter c.in-Some.ensures
 
 pub lines-preserved : goal.lines-preserved
 lines-preserved c =
-    rw c.in-Ok.ensures (one_more c.lines.invariant c.in-Some.ensures c.if-entry-text.false (placed_value c.scalar_in.result) c.scalar_in.ensures)
+    rw c.in-Ok.ensures (one_more c.lines.invariant c.in-Some.ensures c.if-entry-text.false (record { is = c.scalar_in.ensures }))
