@@ -136,7 +136,19 @@ pub record Parts (t : List ℕ) (i j : ℕ) (y : List Item) : Type 0 where
 
 pub entry_parts : {t : List ℕ} {i j : ℕ} {y : List Item} → EntryLine t i j y → Parts t i j y
 entry_parts (an_entry {g = g} {h = h} {k = k} {v = v} {w = w} {x = x} d a l f b e) = record {
-  from = g; to = h; stop = k; gap = v; blank = w; chars = x; dash = d; gaps = a; some = l; scalar = f; blanks = b; end = e; are = refl;
+  from = g;
+  to = h;
+  stop = k;
+  gap = v;
+  blank = w;
+  chars = x;
+  dash = d;
+  gaps = a;
+  some = l;
+  scalar = f;
+  blanks = b;
+  end = e;
+  are = refl;
 }
 
 scalar_stuck : {t : List ℕ} {i j : ℕ} {y : List Item} (p : Parts t i j y) → Stuck (PlainItem t FlowOut p.to)

@@ -5,12 +5,12 @@ use Rattle.std.specs.List.{zip}
 use Rattle.yf_events.specs.Event.{EventValue, Placed, stream_starts, stream_ends, document_starts, document_ends, sequence_starts, sequence_ends, scalar_node}
 use Rattle.yf_events.specs.Nested.{Shape, one_node, many_nodes, many_documents, Nested, a_scalar, a_sequence, no_nodes, more_nodes, no_documents, more_documents, IsStream, a_stream}
 use Rattle.yf_events.specs.Notation.{notation, notation_of}
-use Rattle.yf_events.specs.Reading.{Fits, events_of}
+use Rattle.yf_events.specs.Reading.{events_of}
 use Rattle.yf_events.specs.declared.lists.Lists.{Lists}
 use Rattle.yf_events.specs.declared.reading.TheConstants.{DEPTH}
 use Rattle.yf_props.specs.Props.{no_props}
 use Rattle.yamlfmt.specs.FirstPath.{Item, item_event, sequence_events, untagged, printed}
-use Rattle.yamlfmt.specs.FirstLists.{unplaced, placed_item, stop_behind, stream_around, lists_around, lists_of}
+use Rattle.yamlfmt.specs.FirstLists.{unplaced, placed_item, stop_behind, stream_around, lists_of}
 
 nested_items : (d : ℕ) (items : List Item) → Nested many_nodes d (map item_event items)
 nested_items d [] = no_nodes
@@ -38,9 +38,6 @@ events_are items =
 
 pub stream_of_lists : {lists : Lists} (items : List Item) → lists ≡ lists_of items → IsStream DEPTH (events_of lists)
 stream_of_lists items e = rw (e, events_are items) (is_a_stream 1023 items)
-
-pub lists_fit : (stop : ℕ) (items : List Placed) → Fits (lists_around stop items)
-lists_fit stop items = record { tags = length-replicate (length (stream_around stop items)) None; notes = refl }
 
 -- their notation
 zip_untagged : (ps : List Placed) → zip (map (λ p. p.event) ps) (replicate (length ps) None) ≡ map untagged (map (λ p. p.event) ps)

@@ -54,11 +54,11 @@ pub record Untouched (old new : Option (List ℕ)) (before after : Bool) : Type 
 -- (known: what the reader had; read_before, read_after: the note that it has failed; the others: the same of the writer)
 abbrev pub Refused : Option (List ℕ) → Bool → Bool → Option (List ℕ) → Option (List ℕ) → Bool → Bool → Fault → Type 0
 Refused known read_before read_after old new before after (NotUtf8 offset) =
-    GaveNoText known offset × Untouched old new before after
+    GaveNoText known offset × Untouched old new before after × (read_after ≡ read_before)
 Refused known read_before read_after old new before after (Unsupported place) =
-    GaveNoSequence known place × Untouched old new before after
-Refused known read_before read_after old new before after Memory = (read_after ≡ read_before) × Untouched old new before after
+    GaveNoSequence known place × Untouched old new before after × (read_after ≡ read_before)
+Refused known read_before read_after old new before after Memory = Untouched old new before after × (read_after ≡ read_before)
 Refused known read_before read_after old new before after ReadFailed =
     ReadRefusal known INPUT_LIMIT read_before read_after ReadFailed × Untouched old new before after
-Refused known read_before read_after old new before after WriteFailed = BrokeOff known old new after
+Refused known read_before read_after old new before after WriteFailed = BrokeOff known old new after × (read_after ≡ read_before)
 Refused known read_before read_after old new before after _ = ⊥

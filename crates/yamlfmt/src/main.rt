@@ -10,9 +10,9 @@ mod tests;
 
 use report::report;
 use run::run_events;
+use std::env;
 use std::process::ExitCode;
 use std::rt::Env;
-use std::env;
 use yf_lines::watched::Watched;
 
 /// The status for words on the command line that mean nothing.

@@ -24,8 +24,13 @@ pub const INPUT_LIMIT: usize = 1_073_741_824;
 /// (`ReadFailed`), bytes that are no text (`NotUtf8`), a text of another part of YAML (`Unsupported`), and a write that
 /// fails or takes nothing (`WriteFailed`). `Memory` may come in the place of each answer but `ReadFailed`, where a
 /// growth of memory was refused.
-pub fn run_events<R: Source, W: Sink>(alloc: Global, reader: &mut R, writer: &mut W) -> Result<(), Fault>
+pub fn run_events<R: Source, W: Sink>(
+    alloc: Global,
+    reader: &mut R,
+    writer: &mut W,
+) -> Result<(), Fault>
     ensures events { OnOk result (Printed (R.remaining reader.old) (W.contents writer.old) (W.contents writer.new) (W.has_failed writer.old) (W.has_failed writer.new)) }
+    ensures reader { OnOk result (R.has_failed reader.new ≡ R.has_failed reader.old) }
     ensures refusals { IfErr result (λ fault. Refused (R.remaining reader.old) (R.has_failed reader.old) (R.has_failed reader.new)
         (W.contents writer.old) (W.contents writer.new) (W.has_failed writer.old) (W.has_failed writer.new) fault) }
 {
