@@ -1,19 +1,19 @@
 -- Laws of the lines of a sequence of plain scalars.
-use Rattle.std.proofs.Common.{◌≡◌, ◌≢◌, ℕ, ◌+◌, ◌-◌, ◌<◌, ◌≤◌, Bool, true, false, List, [], ◌∷◌, ◌++◌, length, map, take, drop, refl, sym, ap, ◌∙◌, subst, inl, inr, ◌⊎◌, ⊎_elim, arith, encode_utf8_all}
-use Rattle.std.proofs.lemmas.Bool.{cases_eq, cases_lt, cases_Bool, true≢false}
+use Rattle.std.proofs.Common.{◌≡◌, ◌≢◌, ℕ, ◌+◌, ◌<◌, ◌≤◌, Bool, true, false, List, [], ◌∷◌, length, refl, sym, ap, ◌∙◌, subst, inl, inr, ◌⊎◌, ⊎_elim, arith}
+use Rattle.std.proofs.lemmas.Bool.{cases_Bool, true≢false}
 use Rattle.std.specs.Str.{IsUtf8, IsCharBoundary}
 use Rattle.yf_chars.specs.declared.context.Ctx.{Ctx}
 use Rattle.yf_chars.specs.declared.context.Ctx.TheVariants.{FlowOut}
-use Rattle.yf_chars.specs.Text.{code, next, Reads, no_char}
+use Rattle.yf_chars.specs.Text.{code, Reads, no_char}
 use Rattle.yf_chars.specs.Class.{is_ns_char, is_nb_char, is_printable, is_between, is_break_char, is_white}
 use Rattle.yf_chars.specs.Chain.{Chain, Many, Functional, Stuck, Chosen, Nowhere}
 use Rattle.yf_chars.specs.Chain.Chain.{done, step}
-use Rattle.yf_chars.proofs.ChainLemmas.{chain_forward, chain_more, many_unique, one_functional, stuck_unique}
-use Rattle.yf_chars.proofs.TextLemmas.{reads_real, code-end, code-past}
+use Rattle.yf_chars.proofs.ChainLemmas.{chain_forward, many_unique, one_functional}
+use Rattle.yf_chars.proofs.TextLemmas.{reads_real, code-end}
 use Rattle.yf_lines.specs.Basic.{Break}
 use Rattle.yf_lines.proofs.BasicLemmas.{break_char, break_forward, break_unique}
 use Rattle.yf_lines.proofs.ClearLemmas.{Spelled, spelled_nothing, spelled_join, spelled_char, spelled_whites, spelled_slice}
-use Rattle.yf_plain.specs.Plain.{PlainItem, PlainLine, PlainFront, is_plain_char, is_plain_first}
+use Rattle.yf_plain.specs.Plain.{PlainItem, PlainLine, PlainFront, is_plain_char}
 use Rattle.yf_plain.specs.Plain.PlainItem.{set_off}
 use Rattle.yf_plain.specs.Plain.PlainLine.{one_line}
 use Rattle.yf_plain.proofs.PlainLemmas.{ns_not_white, ns_below, plain_is_ns, first_is_ns, item_stuck, line_chosen, line_forward}

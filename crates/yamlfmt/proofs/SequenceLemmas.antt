@@ -1,17 +1,13 @@
 -- What the lines read so far are, and what they leave open.
-use Rattle.std.proofs.Common.{◌≡◌, ◌≢◌, ℕ, ◌+◌, ◌-◌, ◌<◌, ◌≤◌, Bool, true, false, List, [], ◌∷◌, ◌++◌, length, map, take, drop, refl, sym, ap, ◌∙◌, subst, inl, inr, ◌⊎◌, ⊎_elim, arith, encode_utf8_all}
+use Rattle.std.proofs.Common.{◌≡◌, ◌≢◌, ℕ, ◌+◌, ◌-◌, ◌<◌, ◌≤◌, List, [], ◌∷◌, ◌++◌, length, map, take, drop, refl, sym, ap, ◌∙◌, subst, inl, inr, ◌⊎◌, ⊎_elim, arith}
 use Rattle.std.proofs.lemmas.List.{length-append, map-append}
-use Rattle.std.proofs.lemmas.Bool.{cases_eq, cases_lt}
-use Rattle.std.specs.Str.{IsUtf8, IsCharBoundary}
-use Rattle.yf_chars.specs.Text.{code, no_char}
-use Rattle.yf_chars.specs.Chain.{Chain, Functional, Stuck}
+use Rattle.std.proofs.lemmas.Bool.{cases_lt}
+use Rattle.std.specs.Str.{IsCharBoundary}
+use Rattle.yf_chars.specs.Chain.{Chain, Stuck}
 use Rattle.yf_chars.specs.Chain.Chain.{done, step}
 use Rattle.yf_chars.proofs.ChainLemmas.{chain_forward, chain_more, stuck_unique}
 use Rattle.yf_chars.proofs.TextLemmas.{code-end}
-use Rattle.yf_lines.specs.declared.place.Place.{Place}
-use Rattle.yf_events.specs.Event.{EventValue, Placed, scalar_node}
-use Rattle.yf_events.specs.declared.event.ScalarStyle.TheVariants.{Plain}
-use Rattle.yf_props.specs.Props.{no_props}
+use Rattle.yf_events.specs.Event.{Placed}
 use Rattle.yamlfmt.specs.declared.first_path.ScalarLine.{ScalarLine}
 use Rattle.yamlfmt.specs.FirstPath.{Item, EntryLine, IsSequence, Derives, NoEntryAt}
 use Rattle.yamlfmt.specs.FirstLists.{EntryAt, placed_scalar, placed_item, stop_behind}

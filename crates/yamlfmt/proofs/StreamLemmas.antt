@@ -1,9 +1,8 @@
 -- The events of a sequence of plain scalars are a stream, and its notation is what is printed.
-use Rattle.std.proofs.Common.{◌≡◌, ◌≢◌, ℕ, suc, ◌+◌, ◌-◌, ◌<◌, ◌≤◌, false, List, [], ◌∷◌, ◌++◌, length, map, replicate, None, Option, refl, sym, ap, ◌∙◌, subst, arith, append_assoc}
-use Rattle.std.proofs.lemmas.List.{length-map, length-replicate}
+use Rattle.std.proofs.Common.{◌≡◌, ℕ, suc, false, List, [], ◌∷◌, ◌++◌, length, map, replicate, None, refl, ap, ◌∙◌, subst, append_assoc}
 use Rattle.std.specs.List.{zip}
-use Rattle.yf_events.specs.Event.{EventValue, Placed, stream_starts, stream_ends, document_starts, document_ends, sequence_starts, sequence_ends, scalar_node}
-use Rattle.yf_events.specs.Nested.{Shape, one_node, many_nodes, many_documents, Nested, a_scalar, a_sequence, no_nodes, more_nodes, no_documents, more_documents, IsStream, a_stream}
+use Rattle.yf_events.specs.Event.{EventValue, Placed, stream_starts, stream_ends, document_starts, document_ends, sequence_starts, sequence_ends}
+use Rattle.yf_events.specs.Nested.{many_nodes, Nested, a_scalar, a_sequence, no_nodes, more_nodes, no_documents, more_documents, IsStream, a_stream}
 use Rattle.yf_events.specs.Notation.{notation, notation_of}
 use Rattle.yf_events.specs.Reading.{events_of}
 use Rattle.yf_events.specs.declared.lists.Lists.{Lists}

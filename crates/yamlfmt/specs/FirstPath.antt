@@ -1,6 +1,6 @@
 -- The part of YAML that is read so far: one bare document that is a block sequence of plain scalars, each with its `-`
 -- on a line of its own, at column 1. Offsets count the bytes of a text t.
-use Rattle.std.specs.Prelude.{◌≡◌, ℕ, suc, ◌+◌, ◌<◌, ◌⊎◌, Bool, false, List, [], ◌∷◌, ◌++◌, length, map, Option, None, encode_utf8_all}
+use Rattle.std.specs.Prelude.{◌≡◌, ℕ, ◌+◌, ◌<◌, ◌⊎◌, false, List, [], ◌∷◌, ◌++◌, length, map, Option, None, encode_utf8_all}
 use Rattle.yf_chars.specs.declared.context.Ctx.TheVariants.{FlowOut}
 use Rattle.yf_chars.specs.Text.{code}
 use Rattle.yf_chars.specs.Class.{is_white}

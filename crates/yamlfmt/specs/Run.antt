@@ -1,5 +1,5 @@
 -- What a run that prints events does, by what its reader gave.
-use Rattle.std.specs.Prelude.{◌≡◌, ℕ, List, Bool, Option, IfSome, Result, MatchResult}
+use Rattle.std.specs.Prelude.{◌≡◌, ℕ, List, Bool, Option, IfSome}
 use Rattle.std.specs.Str.{IsUtf8, IsValidUpTo}
 use Rattle.yf_lines.specs.declared.place.Place.{Place}
 use Rattle.yf_lines.specs.declared.fault.Fault.{Fault}
