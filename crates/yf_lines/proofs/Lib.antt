@@ -1,5 +1,4 @@
 pub mod BasicLemmas
-pub mod ClearLemmas
 pub mod LineLemmas
 pub mod TableLemmas
 pub mod MarkLemmas
