@@ -1,2 +1,5 @@
+pub mod FirstLists
+pub mod FirstPath
 pub mod Input
 pub mod Report
+pub mod Run
