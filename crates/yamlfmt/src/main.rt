@@ -3,6 +3,7 @@
 
 mod input;
 mod report;
+mod settings;
 #[cfg(test)]
 mod tests;
 
