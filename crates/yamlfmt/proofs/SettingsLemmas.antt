@@ -14,8 +14,12 @@ use Rattle.std.specs.Ordering.{match_ordering, is_le, ordering_reverse}
 use Rattle.std.specs.String.{string_cmp}
 use Rattle.toml.specs.Data.{Data, Members, no_members, member, get_member}
 use Rattle.toml.specs.View.{view, members_view}
+use Rattle.toml.specs.Errors.{IsBlank}
+use Rattle.toml.specs.Parse.{parse_document, lines}
 use Rattle.toml.proofs.Views.{Entry}
-use Rattle.yamlfmt.specs.Settings.{is_right, IsRight, IsWrong, IsLeastWrong}
+use Rattle.yamlfmt.specs.Settings.{is_right, IsRight, IsWrong, IsLeastWrong, RefusesSettings}
+use Rattle.yf_lines.specs.declared.fault.Fault.{Fault}
+use Rattle.yf_lines.specs.declared.fault.Fault.TheVariants.{Config, Memory}
 
 -- the first key whose value is wrong
 abbrev pub first_wrong : Members → Option (List ℕ)
@@ -112,3 +116,24 @@ pub first_is_least : (ms : Members) (key : List ℕ) → Ascend ms → first_wro
 first_is_least no_members key ascend first = cc
 first_is_least (member l d rest) key ascend first =
     least_by (is_right l d) l d rest key refl first ascend.0 (first_is_least rest key ascend.1)
+
+pub first_found : (e : Entry) (es : List Entry) → is_right (string_bytes e.0) (view e.1) ≡ false → first_wrong (members_view (e ∷ es)) ≡ Some (string_bytes e.0)
+first_found e es wrong = rw wrong refl
+
+-- a text with no key has the empty table
+blank_is_empty : (text : List ℕ) → IsBlank text → parse_document text ≡ Some no_members
+unfolding parse_document lines
+blank_is_empty text blank = rw blank refl
+
+-- a text with a wrong key has a key
+pub wrong_is_not_blank : (text : List ℕ) (table : Members) (key : List ℕ) → parse_document text ≡ Some table → IsLeastWrong table key → IsBlank text → ⊥
+wrong_is_not_blank text table key read least blank =
+    let empty : table ≡ no_members = same_Some _ _ (sym read ∙ blank_is_empty text blank) in
+    let found : get_member key no_members ≡ Some least.wrong.0 = subst (λ (t : Members). get_member key t ≡ Some least.wrong.0) empty least.wrong.1 in
+    cc
+
+-- a wrong key is named, or memory has run out
+pub refuses_key : (text : List ℕ) (table : Members) (key : List ℕ) (fault : Fault) → parse_document text ≡ Some table → IsLeastWrong table key
+    → (fault ≡ Config key) ⊎ (fault ≡ Memory) → RefusesSettings text fault
+refuses_key text table key fault read least (inl e) = rw (e, read) least
+refuses_key text table key fault read least (inr e) = rw e (λ blank. wrong_is_not_blank text table key read least blank)

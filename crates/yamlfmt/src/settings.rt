@@ -1,6 +1,6 @@
 //! The settings file: which style its TOML text sets.
-ghost use Rattle.std.specs.Prelude.{◌≡◌, ℕ, ◌≤◌, Some, codes, true, MatchOption, MatchResult};
-ghost use Rattle.std.specs.Prelude.{List, option_map, string_bytes};
+ghost use Rattle.std.specs.Prelude.{◌≡◌, ◌⊎◌, ℕ, ◌≤◌, [], Some, codes, true, MatchOption, MatchResult};
+ghost use Rattle.std.specs.Prelude.{List, option_map};
 ghost use Rattle.toml.specs.Data.{get_member};
 ghost use Rattle.toml.specs.View.{view, table_view};
 ghost use Rattle.yamlfmt.specs.Settings.{number_between, indent_of, max_line_of, quotes_of, seq_indent_of, is_right, IsRight, IsLeastWrong};
@@ -29,24 +29,38 @@ const SEQ_INDENT: &str = "seq_indent";
 pub fn style_from_toml(alloc: Global, text: &str) -> Result<Style, Fault>
     ensures { MatchResult result (λ style. SetsStyle text.now style) (λ fault. RefusesSettings text.now fault) }
 {
-    let table = match toml::table_from_str(alloc, text) {
-        Ok(table) => table,
-        Err(error) => return Err(if error.is_memory() { Fault::Memory } else { wrong_key(String::new(alloc)) }),
-    };
-    if let Some(key) = least_wrong_key(&table) {
-        return match String::from_str(alloc, key) {
-            Ok(copy) => Err(wrong_key(copy)),
-            Err(_) => Err(Fault::Memory),
-        };
+    match toml::table_from_str(alloc, text) {
+        Ok(table) => match least_wrong_key(&table) {
+            Some(key) => Err(wrong_key(alloc, key)),
+            None => Ok(style_of(&table)),
+        },
+        Err(error) => {
+            if error.is_memory() {
+                return Err(Fault::Memory);
+            }
+            Err(no_key(alloc))
+        }
     }
-    Ok(style_of(&table))
 }
 
-fn wrong_key(key: String) -> Fault
-    ensures { result ≡ Fault.Config (string_bytes key) }
+// The fault of a text that is no TOML.
+fn no_key(alloc: Global) -> Fault
+    ensures { result ≡ Fault.Config [] }
 {
     Fault::Config {
-        key: OwnedText::new(key),
+        key: OwnedText::new(String::new(alloc)),
+    }
+}
+
+// The fault of a key.
+fn wrong_key(alloc: Global, key: &str) -> Fault
+    ensures { (result ≡ Fault.Config key.now) ⊎ (result ≡ Fault.Memory) }
+{
+    match String::from_str(alloc, key) {
+        Ok(copy) => Fault::Config {
+            key: OwnedText::new(copy),
+        },
+        Err(_) => Fault::Memory,
     }
 }
 
