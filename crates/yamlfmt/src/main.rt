@@ -1,6 +1,7 @@
 //! yamlfmt: prints the events of a YAML stream, checks its style and rewrites it in one house style.
 #![tactic(auto)]
 
+mod command_line;
 mod input;
 mod report;
 mod settings;
