@@ -1,1 +1,2 @@
 pub mod SettingsLemmas
+pub mod CommandLineLemmas
