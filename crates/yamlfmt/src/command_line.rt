@@ -83,9 +83,10 @@ fn yamlfmt_command<'a>(alloc: Global) -> Result<Command<'a>, AllocError>
     ensures { IfOk result (λ c. app_of c ≡ yamlfmt) }
 {
     let events = reading_command(alloc, EVENTS, "Print the events of a YAML stream")?;
-    let check = reading_command(alloc, CHECK, "Print where a YAML stream departs from the house style")?;
+    let check = reading_command(alloc, CHECK, "Print where a YAML stream departs from the house style (not there yet)")?;
     let fmt = fmt_command(alloc)?;
     Command::new(alloc, "yamlfmt")
+        .bin_name("yamlfmt")?
         .about("Prints the events of a YAML stream, checks its style and rewrites it in one house style")
         .no_binary_name(true)
         .subcommand_required(true)
@@ -115,7 +116,7 @@ fn fmt_command<'a>(alloc: Global) -> Result<Command<'a>, AllocError>
     let write = write_flag(alloc);
     let file = file_word(alloc);
     Command::new(alloc, FMT)
-        .about("Print a YAML stream in the house style")
+        .about("Print a YAML stream in the house style (not there yet)")
         .arg(config)?
         .arg(write)?
         .arg(file)

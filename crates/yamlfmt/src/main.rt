@@ -7,6 +7,10 @@ mod report;
 mod settings;
 #[cfg(test)]
 mod tests;
+#[cfg(test)]
+mod settings_tests;
+#[cfg(test)]
+mod command_line_tests;
 
 use input::read_all;
 use report::report;

@@ -11,7 +11,7 @@ top a = a.top
 pub returns : goal.returns
 unfolding yamlfmt
 returns c =
-    let named : app_of c.about.result ≡ new_app (codes "yamlfmt") = ap app_of_fields c.about.ensures ∙ c.new.ensures.app in
+    let named : app_of c.about.result ≡ new_app (codes "yamlfmt") = ap app_of_fields c.about.ensures ∙ ap app_of_fields c.in_ok-bin_name.ensures.0 ∙ c.new.ensures.app in
     let bare : app_of c.no_binary_name.result ≡ on_top (λ s. record s { no_binary_name = true }) (new_app (codes "yamlfmt")) =
         ap app_of_fields c.no_binary_name.ensures ∙ ap (on_top (λ s. record s { no_binary_name = true })) named in
     let wanting : app_of c.subcommand_required.result ≡ on_top (λ s. record s { no_binary_name = true; subcommand_required = true }) (new_app (codes "yamlfmt")) =
