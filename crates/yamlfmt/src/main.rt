@@ -1,12 +1,18 @@
 //! yamlfmt: prints the events of a YAML stream, checks its style and rewrites it in one house style.
 #![tactic(auto)]
 
+mod command_line;
 mod first_path;
 mod input;
 mod report;
 mod run;
+mod settings;
 #[cfg(test)]
 mod tests;
+#[cfg(test)]
+mod settings_tests;
+#[cfg(test)]
+mod command_line_tests;
 
 use report::report;
 use run::run_events;
