@@ -18,12 +18,34 @@ use yf_chars::text::peek;
 use yf_lines::basic::{is_forbidden_at, skip_whites};
 use yf_lines::fault::Fault;
 use yf_lines::fold::{flow_folded, indent_width};
+use yf_lines::source_text::Src;
 use yf_lines::text::{OwnedText, Text};
 
-/// Reads a plain scalar (ns-plain(n,c), production 131): its text, folded, and the byte offset behind it, or `None` where
-/// no plain scalar begins. In keys it stands on one line. No plain scalar covers a document marker at the start of a line.
+/// Reads a plain scalar (ns-plain(n,c), production 131) that begins at the byte offset: its text, folded, and the offset
+/// behind it, or `None` where no plain scalar begins. `n` is the indentation, from -1.
 ///
-/// The text is a slice of the source where the scalar stands on one line. `Fault::Memory` is the only error.
+/// In keys it stands on one line. No plain scalar covers a document marker at the start of a line. The text is a slice of
+/// the source where the scalar stands on one line.
+///
+/// # Errors
+///
+/// `Fault::Memory` alone.
+pub fn read_plain<'a>(
+    alloc: Global,
+    src: &Src<'a>,
+    at: usize,
+    n: i32,
+    ctx: Ctx,
+) -> Result<Option<(Text<'a>, usize)>, Fault>
+    requires { IsCharBoundary src.now.text at }
+    ensures reads { IfOk result (λ o. MatchOption o (Stuck (Plain src.now.text n ctx at)) (λ p. (x : List ℕ) × (text_bytes p.0 ≡ encode_utf8_all x) × Chosen (Plain src.now.text n ctx at) p.1 x)) }
+    ensures boundary { IfOk result (λ o. IfSome o (λ p. IsCharBoundary src.now.text p.1)) }
+    ensures refused { IfErr result (λ e. e ≡ Fault.Memory) }
+{
+    read_plain_in(alloc, src.text(), at, n, ctx)
+}
+
+/// The same in a text without its lines.
 pub fn read_plain_in<'a>(
     alloc: Global,
     s: &'a str,
