@@ -2,5 +2,5 @@
 #![tactic(auto)]
 
 pub mod double;
-mod gap;
+pub mod gap;
 pub mod single;
