@@ -4,3 +4,6 @@
 pub mod double;
 pub mod gap;
 pub mod single;
+
+#[cfg(test)]
+mod tests;
