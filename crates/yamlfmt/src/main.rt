@@ -2,17 +2,17 @@
 #![tactic(auto)]
 
 mod command_line;
+#[cfg(test)]
+mod command_line_tests;
 mod first_path;
 mod input;
 mod report;
 mod run;
 mod settings;
 #[cfg(test)]
-mod tests;
-#[cfg(test)]
 mod settings_tests;
 #[cfg(test)]
-mod command_line_tests;
+mod tests;
 
 use report::report;
 use run::run_events;
