@@ -33,9 +33,9 @@ pub chosen_cases : {X : Type 0} {P : ℕ → X → Type 0} {j k : ℕ} {x y : X}
 chosen_cases {P = P} {j = j} {k = k} {y = y} c d = ⊎_elim
     (λ (l : k < j). inl l)
     (λ (l : j ≤ k).
-        let m = c.longest k y d in
-        let e : k ≡ j = omega arith in
-        inr (e, c.only y (subst (λ v. P v y) e d)))
+    let m = c.longest k y d in
+    let e : k ≡ j = omega arith in
+    inr (e, c.only y (subst (λ v. P v y) e d)))
     (cases_lt k j)
 
 pub chosen_same : {X : Type 0} (P : ℕ → X → Type 0) {j k : ℕ} {x y : X} → k ≡ j → y ≡ x → Chosen P j x → Chosen P k y

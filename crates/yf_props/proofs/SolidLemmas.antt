@@ -144,7 +144,7 @@ module _ {t : List ℕ} where
 
   solid_then : {i h j : ℕ} → AllSolid t i h → AllSolid t h j → AllSolid t i j
   solid_then {i} {h} a b = record {
-    each = λ m l k. ⊎_elim (λ (f : m < h). a.each m l f) (λ (f : h ≤ m). b.each m f k) (cases_lt m h)
+    each = λ m l k. ⊎_elim (λ (f : m < h). a.each m l f) (λ (f : h ≤ m). b.each m f k) (cases_lt m h);
   }
 
   solid_none : {i : ℕ} → AllSolid t i i
