@@ -1,11 +1,11 @@
 -- Names are as long as their characters go, so where one ends is unique.
-use Rattle.std.proofs.Common.{◌≡◌, ◌≢◌, ℕ, ◌+◌, ◌<◌, ◌≤◌, Bool, true, false, ◌⊎◌, inl, inr, ⊎_elim, List, [], ◌∷◌, ◌++◌, slice_range, refl, sym, ap, ◌∙◌, subst, arith, true≢false}
+use Rattle.std.proofs.Common.{◌≡◌, ◌≢◌, ℕ, ◌+◌, ◌<◌, ◌≤◌, Bool, true, false, ◌⊎◌, inl, inr, ⊎_elim, List, [], ◌∷◌, ◌++◌, slice_range, sym, ap, ◌∙◌, subst, arith}
 use Rattle.std.proofs.lemmas.Bool.{cases_lt}
-use Rattle.yf_chars.specs.Text.{code, next, no_char, Reads}
+use Rattle.yf_chars.specs.Text.{code, no_char, Reads}
 use Rattle.yf_chars.specs.Class.{is_anchor_char, is_ns_char, is_nb_char, is_printable, is_between, is_break_char, is_white, is_flow_indicator}
 use Rattle.yf_chars.specs.Chain.{Chain, Functional, Stuck, Chosen, One, Many}
 use Rattle.yf_chars.specs.Chain.Chain.{done, step}
-use Rattle.yf_chars.proofs.ChainLemmas.{chain_forward, many_more, one_functional, one_stuck, stuck_unique}
+use Rattle.yf_chars.proofs.ChainLemmas.{many_more, one_functional, one_stuck, stuck_unique}
 use Rattle.yf_props.specs.Names.{AnchorChar, Run, Anchor, Alias}
 use Rattle.yf_props.specs.Names.Anchor.{ampersand_name}
 use Rattle.yf_props.specs.Names.Alias.{asterisk_name}

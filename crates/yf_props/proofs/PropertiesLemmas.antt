@@ -1,5 +1,5 @@
 -- Which properties are the longest.
-use Rattle.std.proofs.Common.{◌≡◌, ◌≢◌, ℕ, ℤ, ◌+◌, ◌-◌, ◌<◌, ◌≤◌, ◌⊎◌, inl, inr, ⊎_elim, List, refl, sym, ap, ◌∙◌, subst, arith}
+use Rattle.std.proofs.Common.{◌≡◌, ℕ, ℤ, ◌-◌, ◌<◌, ◌⊎◌, inl, inr, ⊎_elim, List, ap, ◌∙◌, subst, arith}
 use Rattle.std.specs.Str.{IsUtf8}
 use Rattle.yf_chars.specs.declared.context.Ctx.{Ctx}
 use Rattle.yf_chars.specs.Text.{code}
@@ -11,8 +11,8 @@ use Rattle.yf_props.specs.Names.{Anchor, TagProperty, Properties, PropertiesValu
 use Rattle.yf_props.specs.Names.Properties.{by_tag, by_anchor, tag_first, anchor_first}
 use Rattle.yf_props.proofs.NameLemmas.{chosen_over, chosen_cases, anchor_parts, anchor_unique}
 use Rattle.yf_props.proofs.TagLemmas.{tag_mark, tag_later}
-use Rattle.yf_props.proofs.SeparationEnds.{Solid, Apparent, solid_apparent, separate_forward, apparent_last, no_separation_inside}
-use Rattle.yf_props.proofs.SolidLemmas.{AllSolid, tag_all_solid}
+use Rattle.yf_props.proofs.SeparationEnds.{Apparent, solid_apparent, separate_forward, apparent_last, no_separation_inside}
+use Rattle.yf_props.proofs.SolidLemmas.{tag_all_solid}
 
 module _ {t : List ℕ} where
   mark_apparent : {k : ℕ} → code t k ≡ 33 → Apparent t k

@@ -1,15 +1,15 @@
 -- Each character of a tag is a visible character of ASCII.
-use Rattle.std.proofs.Common.{◌≡◌, ◌≢◌, ℕ, ◌+◌, ◌-◌, ◌<◌, ◌≤◌, Bool, true, false, ◌⊎◌, inl, inr, ⊎_elim, List, [], ◌∷◌, ◌++◌, refl, sym, ap, ◌∙◌, subst, arith, leb, eqb, not, ◌&&◌, true≢false}
+use Rattle.std.proofs.Common.{◌≡◌, ℕ, ◌+◌, ◌<◌, ◌≤◌, Bool, true, false, ⊎_elim, List, refl, sym, ◌∙◌, subst, arith, leb, eqb, not, ◌&&◌, true≢false}
 use Rattle.std.proofs.lemmas.Bool.{cases_lt, ne_eqb, lt-leb, and_parts}
 use Rattle.std.proofs.Math.Bool.{and-false}
 use Rattle.yf_chars.specs.Text.{code, next}
 use Rattle.yf_chars.specs.Class.{is_between, is_digit, is_hex_digit, is_word_char, is_uri_char, is_tag_char, is_flow_indicator}
-use Rattle.yf_chars.specs.Chain.{Chain, One}
+use Rattle.yf_chars.specs.Chain.{Chain}
 use Rattle.yf_chars.specs.Chain.Chain.{done, step}
 use Rattle.yf_chars.specs.Chain.One.{one}
 use Rattle.yf_chars.proofs.TextLemmas.{next_ascii}
 use Rattle.yf_props.specs.Props.{TagValue}
-use Rattle.yf_props.specs.Names.{Spelled, WordChar, UriChar, TagChar, Run, Handle, VerbatimTag, ShorthandTag, TagProperty}
+use Rattle.yf_props.specs.Names.{Spelled, WordChar, Handle, VerbatimTag, ShorthandTag, TagProperty}
 use Rattle.yf_props.specs.Names.Spelled.{as_itself, as_escape}
 use Rattle.yf_props.specs.Names.Handle.{primary_handle, secondary_handle, named_handle}
 use Rattle.yf_props.specs.Names.VerbatimTag.{in_brackets}

@@ -1,10 +1,10 @@
 -- Characters of tags and their runs, and that a tag with the longest handle is the longest tag.
-use Rattle.std.proofs.Common.{◌≡◌, ◌≢◌, ℕ, ◌+◌, ◌<◌, ◌≤◌, Bool, true, false, ◌⊎◌, inl, inr, ⊎_elim, List, [], ◌∷◌, ◌++◌, slice_range, refl, sym, ap, ◌∙◌, subst, arith, leb, true≢false}
+use Rattle.std.proofs.Common.{◌≡◌, ◌≢◌, ℕ, ◌+◌, ◌<◌, ◌≤◌, Bool, true, false, ◌⊎◌, inl, inr, ⊎_elim, List, slice_range, refl, sym, ap, ◌∙◌, subst, arith, leb, true≢false}
 use Rattle.std.proofs.Math.Bool.{and-false}
 use Rattle.std.proofs.lemmas.Bool.{cases_lt, ne_eqb, lt-leb}
-use Rattle.yf_chars.specs.Text.{code, next, no_char, Reads}
+use Rattle.yf_chars.specs.Text.{code, no_char, Reads}
 use Rattle.yf_chars.specs.Class.{is_between, is_digit, is_hex_digit, is_word_char, is_uri_char, is_tag_char, is_flow_indicator}
-use Rattle.yf_chars.specs.Chain.{Chain, Functional, Stuck, Chosen, One, Many}
+use Rattle.yf_chars.specs.Chain.{Chain, Functional, Stuck, Chosen, Many}
 use Rattle.yf_chars.specs.Chain.Chain.{done, step}
 use Rattle.yf_chars.specs.Chain.One.{one}
 use Rattle.yf_chars.proofs.TextLemmas.{next_ascii, next_later}

@@ -1,6 +1,5 @@
 use Rattle.std.proofs.Common.{◌≡◌, ◌+◌, ap, ◌∙◌, sym, arith, slice_range, subst}
 use Rattle.yf_chars.specs.Chain.{Stuck, Chosen}
-use Rattle.yf_chars.specs.Text.{code}
 use Rattle.yf_props.specs.Names.{TagChar, Run, ShorthandTag}
 use Rattle.yf_props.specs.Props.TagValue.{IsShort}
 use Rattle.yf_props.proofs.NameLemmas.{run_from}

@@ -1,5 +1,4 @@
-use Rattle.std.proofs.Common.{◌≡◌, [], ◌∷◌, ◌++◌, true, sym, ap, ◌∙◌, subst, arith}
-use Rattle.yf_chars.specs.Chain.{Many}
+use Rattle.std.proofs.Common.{◌≡◌, [], true, sym, ◌∙◌, arith}
 use Rattle.yf_chars.specs.Chain.Chain.{done}
 use Rattle.yf_chars.specs.Class.{is_word_char}
 use Rattle.yf_chars.specs.Text.{code, Reads}

@@ -1,6 +1,5 @@
-use Rattle.std.proofs.Common.{◌≡◌, ◌+◌, ◌<◌, ap, sym, arith, slice_range, subst, refl}
+use Rattle.std.proofs.Common.{◌≡◌, ◌+◌, ap, arith, slice_range, subst}
 use Rattle.yf_chars.specs.Chain.{Stuck}
-use Rattle.yf_chars.specs.Text.{code}
 use Rattle.yf_props.specs.Names.{UriChar, Run}
 use Rattle.yf_props.specs.Props.TagValue.{IsVerbatim}
 use Rattle.yf_props.proofs.NameLemmas.{run_from}

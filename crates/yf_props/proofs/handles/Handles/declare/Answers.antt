@@ -1,4 +1,4 @@
-use Rattle.std.proofs.Common.{◌≡◌, ◌++◌, [], ◌∷◌, not, is_some, map, true, false, sym, ap, ◌∙◌, refl, IfOk, Ok, if◌then◌else◌, Bool, subst, Result}
+use Rattle.std.proofs.Common.{◌≡◌, ◌++◌, [], ◌∷◌, not, map, true, false, sym, ap, ◌∙◌, refl}
 use Rattle.yf_props.specs.Handles.{declaration, is_declared}
 use Rattle.yf_props.proofs.HandleLemmas.{is_declared-map, new_declaration}
 use Rattle.yf_props.proofs.handles.Handles.declare.Goals as goal

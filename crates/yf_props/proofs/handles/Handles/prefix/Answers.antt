@@ -1,4 +1,4 @@
-use Rattle.std.proofs.Common.{◌≡◌, Option, Some, None, sym, ap, ◌∙◌, MatchOption, option_copied}
+use Rattle.std.proofs.Common.{◌≡◌, Some, None, sym, ap, ◌∙◌, option_copied}
 use Rattle.yf_props.specs.Props.{name_value}
 use Rattle.yf_props.specs.Handles.{default_prefix, or_else, declared_prefix, prefix_of}
 use Rattle.yf_props.proofs.HandleLemmas.{lookup_declaration}

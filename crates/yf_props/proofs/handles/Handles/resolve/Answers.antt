@@ -1,4 +1,4 @@
-use Rattle.std.proofs.Common.{◌≡◌, ap, ◌∙◌, sym, subst, inr, refl}
+use Rattle.std.proofs.Common.{◌∙◌, sym, subst, inr, refl}
 use Rattle.yf_props.specs.declared.props.Tag.TheVariants.{Short}
 use Rattle.yf_props.specs.Props.{tag_value}
 use Rattle.yf_props.specs.Handles.{TagText, UnknownHandleOf}
