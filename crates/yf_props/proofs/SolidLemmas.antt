@@ -15,6 +15,7 @@ use Rattle.yf_props.specs.Names.Handle.{primary_handle, secondary_handle, named_
 use Rattle.yf_props.specs.Names.VerbatimTag.{in_brackets}
 use Rattle.yf_props.specs.Names.ShorthandTag.{handle_suffix}
 use Rattle.yf_props.specs.Names.TagProperty.{verbatim_tag, shorthand_tag, non_specific_tag}
+use Rattle.yf_props.proofs.TagLemmas.{word_uri}
 use Rattle.yf_props.proofs.SeparationEnds.{Solid}
 
 -- below the space and above the tilde no character is in the classes
@@ -88,10 +89,6 @@ uri_solid c e = record {
   low = ⊎_elim (λ (l : c < 33). absurd (true≢false (sym e ∙ low_uri c l))) (λ (l : 33 ≤ c). l) (cases_lt c 33);
   high = ⊎_elim (λ (l : c < 127). l) (λ (l : 127 ≤ c). absurd (true≢false (sym e ∙ high_uri c l))) (cases_lt c 127);
 }
-
-word_uri : (c : ℕ) → is_word_char c ≡ true → is_uri_char c ≡ true
-unfolding is_uri_char
-word_uri c e = rw e
 
 word_solid : (c : ℕ) → is_word_char c ≡ true → Solid c
 word_solid c e = uri_solid c (word_uri c e)

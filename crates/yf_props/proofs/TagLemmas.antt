@@ -104,7 +104,7 @@ word_apart : (c x : ℕ) → is_word_char c ≡ true → is_word_char x ≡ fals
 word_apart c x e f = λ q. true≢false (sym e ∙ ap is_word_char q ∙ f)
 
 -- a word character is a character of a suffix
-word_uri : (c : ℕ) → is_word_char c ≡ true → is_uri_char c ≡ true
+pub word_uri : (c : ℕ) → is_word_char c ≡ true → is_uri_char c ≡ true
 unfolding is_uri_char
 word_uri c e = rw e
 

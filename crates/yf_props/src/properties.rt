@@ -1,5 +1,5 @@
 //! Properties of a node (YAML 1.2.2, section 6.9).
-ghost use Rattle.std.specs.Prelude.{◌≡◌, ℕ, ℤ, List, IfOk, IfSome, MatchOption};
+ghost use Rattle.std.specs.Prelude.{◌≡◌, IfOk, IfSome, MatchOption};
 ghost use Rattle.std.specs.Str.{IsCharBoundary};
 ghost use Rattle.yf_chars.specs.Chain.{Chosen, Stuck};
 ghost use Rattle.yf_props.specs.Names.{Anchor, TagProperty, anchor_only, tag_only, Properties as PropertiesOf};

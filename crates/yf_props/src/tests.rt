@@ -1,7 +1,8 @@
 //! What no clause says: that calls succeed, at texts whose names and ends were worked out by hand from the productions.
 
+use crate::alias::alias_node;
 use crate::handles::Handles;
-use crate::properties::Properties;
+use crate::properties::{Properties, node_properties};
 use crate::props::Tag;
 use crate::read::{read_alias, read_props};
 use std::alloc::Global;
@@ -75,6 +76,14 @@ fn reads_an_anchor_before_a_comment(rt: HostRuntime) -> Result<(), Fail> {
     assert_eq!(rt; found.end, 4);
     assert_eq!(rt; found.props.anchor, Some("a"));
     assert_eq!(rt; found.tag_offset, None);
+    Ok(())
+}
+
+#[test]
+fn reads_at_a_text(rt: HostRuntime) -> Result<(), Fail> {
+    assert_eq!(rt; alias_node("*\u{E9} x", 0), Some(("\u{E9}", 3)));
+    let found = node_properties(rt.alloc(), "&a", 0, -1, Ctx::BlockIn)?.ok_or("none")?;
+    assert_eq!(rt; found.end, 2);
     Ok(())
 }
 

@@ -26,3 +26,17 @@ returns-clause-declared c =
           rw w.result-is (sym (ap not absent), added)
       | in-Err w ↦ rw w.result-is tt
     ]
+
+pub returns-clause-refused : goal.returns-clause-refused
+returns-clause-refused c =
+    let m = c.self.inside.prefixes in
+    let h = c.args.handle in
+    let absent : is_declared c.args.self.now h.now ≡ false =
+    ap (λ ds. is_declared ds h.now) (sym c.self.view_is)
+    ∙ is_declared-map m.entries h.now ∙ sym c.contains_key.ensures ∙ c.if-contains_key.false in
+    elim c.match-insert.branch [
+      | in-Ok w ↦ rw w.result-is tt
+      | in-Err w ↦
+          let kept : map declaration c.insert.new.self.entries ≡ c.args.self.now = ap (map declaration) w.in-Err.ensures.err ∙ c.self.view_is in
+          rw w.result-is (refl, kept, absent)
+    ]
