@@ -1,11 +1,11 @@
 -- Names are as long as their characters go, so where one ends is unique.
-use Rattle.std.proofs.Common.{◌≡◌, ◌≢◌, ℕ, ◌+◌, ◌<◌, ◌≤◌, Bool, true, false, ◌⊎◌, inl, inr, ⊎_elim, List, [], ◌∷◌, ◌++◌, slice_range, refl, sym, ap, ◌∙◌, subst, arith, true≢false}
+use Rattle.std.proofs.Common.{◌≡◌, ◌≢◌, ℕ, ◌+◌, ◌<◌, ◌≤◌, Bool, false, ◌⊎◌, inl, inr, ⊎_elim, List, slice_range, sym, ap, subst, arith}
 use Rattle.std.proofs.lemmas.Bool.{cases_lt}
-use Rattle.yf_chars.specs.Text.{code, next, no_char, Reads}
+use Rattle.yf_chars.specs.Text.{code, no_char}
 use Rattle.yf_chars.specs.Class.{is_anchor_char, is_ns_char, is_nb_char, is_printable, is_between, is_break_char, is_white, is_flow_indicator}
 use Rattle.yf_chars.specs.Chain.{Chain, Functional, Stuck, Chosen, One, Many}
 use Rattle.yf_chars.specs.Chain.Chain.{done, step}
-use Rattle.yf_chars.proofs.ChainLemmas.{chain_forward, many_more, one_functional, one_stuck, stuck_unique}
+use Rattle.yf_chars.proofs.ChainLemmas.{one_functional, one_stuck, stuck_unique}
 use Rattle.yf_props.specs.Names.{AnchorChar, Run, Anchor, Alias}
 use Rattle.yf_props.specs.Names.Anchor.{ampersand_name}
 use Rattle.yf_props.specs.Names.Alias.{asterisk_name}
@@ -33,9 +33,9 @@ pub chosen_cases : {X : Type 0} {P : ℕ → X → Type 0} {j k : ℕ} {x y : X}
 chosen_cases {P = P} {j = j} {k = k} {y = y} c d = ⊎_elim
     (λ (l : k < j). inl l)
     (λ (l : j ≤ k).
-        let m = c.longest k y d in
-        let e : k ≡ j = omega arith in
-        inr (e, c.only y (subst (λ v. P v y) e d)))
+    let m = c.longest k y d in
+    let e : k ≡ j = omega arith in
+    inr (e, c.only y (subst (λ v. P v y) e d)))
     (cases_lt k j)
 
 pub chosen_same : {X : Type 0} (P : ℕ → X → Type 0) {j k : ℕ} {x y : X} → k ≡ j → y ≡ x → Chosen P j x → Chosen P k y
@@ -59,13 +59,6 @@ run_from {x = x} c l s = record { characters = x; chain = c; some = l; all = s }
 
 pub run_of : (t : List ℕ) (p : ℕ → Bool) {i j : ℕ} {x : List ℕ} → Many t p i j x → i < j → p (code t j) ≡ false → Run (One t p) i j
 run_of t p {j = j} {x = x} m l e = record { characters = x; chain = m; some = l; all = one_stuck t p j e }
-
--- a run and the next character of its class
-pub many_past : (t : List ℕ) (p : ℕ → Bool) {i j c k : ℕ} {x : List ℕ} → Many t p i j x → Reads t j c k → p c ≡ true
-    → Many t p i k (x ++ code t j ∷ [])
-many_past t p {i = i} {j = j} {x = x} m r e =
-    let f : p (code t j) ≡ true = ap p r.char ∙ e in
-    subst (λ k. Many t p i k (x ++ code t j ∷ [])) r.end (many_more t p m f)
 
 -- aliases and anchors
 module _ {t : List ℕ} where

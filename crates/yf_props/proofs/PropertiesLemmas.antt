@@ -1,5 +1,5 @@
 -- Which properties are the longest.
-use Rattle.std.proofs.Common.{◌≡◌, ◌≢◌, ℕ, ℤ, ◌+◌, ◌-◌, ◌<◌, ◌≤◌, ◌⊎◌, inl, inr, ⊎_elim, List, refl, sym, ap, ◌∙◌, subst, arith}
+use Rattle.std.proofs.Common.{◌≡◌, ℕ, ℤ, ◌-◌, ◌<◌, ◌⊎◌, inl, inr, ⊎_elim, List, ap, ◌∙◌, subst, arith}
 use Rattle.std.specs.Str.{IsUtf8}
 use Rattle.yf_chars.specs.declared.context.Ctx.{Ctx}
 use Rattle.yf_chars.specs.Text.{code}
@@ -11,8 +11,8 @@ use Rattle.yf_props.specs.Names.{Anchor, TagProperty, Properties, PropertiesValu
 use Rattle.yf_props.specs.Names.Properties.{by_tag, by_anchor, tag_first, anchor_first}
 use Rattle.yf_props.proofs.NameLemmas.{chosen_over, chosen_cases, anchor_parts, anchor_unique}
 use Rattle.yf_props.proofs.TagLemmas.{tag_mark, tag_later}
-use Rattle.yf_props.proofs.SeparationEnds.{Solid, Apparent, solid_apparent, separate_forward, apparent_last, no_separation_inside}
-use Rattle.yf_props.proofs.SolidLemmas.{AllSolid, tag_all_solid}
+use Rattle.yf_props.proofs.SeparationEnds.{Apparent, solid_apparent, separate_forward, apparent_last, no_separation_inside}
+use Rattle.yf_props.proofs.SolidLemmas.{tag_all_solid}
 
 module _ {t : List ℕ} where
   mark_apparent : {k : ℕ} → code t k ≡ 33 → Apparent t k
@@ -54,8 +54,11 @@ module _ {t : List ℕ} {n : ℤ} {c : Ctx} where
       let e' : TagProperty t k l v' = subst (λ w. TagProperty t w l v') same.0 e in
       ⊎_elim (λ (m : l < j). inl m)
       (λ (m : (l ≡ j) × (v' ≡ v)).
-          inr (m.0, ap (λ w. tag_with_anchor w v' a' x') same.0 ∙ ap (λ w. tag_with_anchor k w a' x') m.1
-              ∙ ap (λ w. tag_with_anchor k v w x') f.1 ∙ ap (λ w. tag_with_anchor k v a w) same.1))
+      inr (
+        m.0,
+        ap (λ w. tag_with_anchor w v' a' x') same.0 ∙ ap (λ w. tag_with_anchor k w a' x') m.1
+            ∙ ap (λ w. tag_with_anchor k v w x') f.1 ∙ ap (λ w. tag_with_anchor k v a w) same.1,
+      ))
       (chosen_cases g e')
 
   pub anchor_then_tag : {i h k j : ℕ} {a : List ℕ} {x : List CommentValue} {v : TagValue} → Anchor t i h a
@@ -106,11 +109,11 @@ module _ {t : List ℕ} (u : IsUtf8 t) {n : ℤ} {c : Ctx} where
   past_tag {i} {h} {k} {j} {a = a} {x} {v} g s b (tag_first {h = h'} {k = k'} {j = l} {tag = v'} {x = x'} {name = a'} d r e) =
       ⊎_elim (λ (m : h' < h). absurd ((short_stuck d g.derived m).none k' x' r))
       (λ (m : (h' ≡ h) × (v' ≡ v)).
-          let r' : Separate t n c h k' x' = subst (λ w. Separate t n c w k' x') m.0 r in
-          let same = last_is s r' (and_apparent (anchor_parts e).0) in
-          let e' : Anchor t k l a' = subst (λ w. Anchor t w l a') same.0 e in
-          let f = anchor_unique b e' in
-          inr (f.0, ap (λ w. tag_with_anchor i w a' x') m.1 ∙ ap (λ w. tag_with_anchor i v w x') f.1 ∙ ap (λ w. tag_with_anchor i v a w) same.1))
+      let r' : Separate t n c h k' x' = subst (λ w. Separate t n c w k' x') m.0 r in
+      let same = last_is s r' (and_apparent (anchor_parts e).0) in
+      let e' : Anchor t k l a' = subst (λ w. Anchor t w l a') same.0 e in
+      let f = anchor_unique b e' in
+      inr (f.0, ap (λ w. tag_with_anchor i w a' x') m.1 ∙ ap (λ w. tag_with_anchor i v w x') f.1 ∙ ap (λ w. tag_with_anchor i v a w) same.1))
       (chosen_cases g d)
 
   pub tag_then_anchor : {i h k j : ℕ} {a : List ℕ} {x : List CommentValue} {v : TagValue} → Chosen (TagProperty t i) h v

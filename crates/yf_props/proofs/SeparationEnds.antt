@@ -1,22 +1,22 @@
 -- A separation that ends before a character with which none goes on is the longest, and none begins behind a character of
 -- a tag and before another.
-use Rattle.std.proofs.Common.{◌≡◌, ◌≢◌, ℕ, ℤ, ◌+◌, ◌<◌, ◌≤◌, Bool, true, false, ◌⊎◌, inl, inr, ⊎_elim, List, [], ◌∷◌, ◌++◌, length, refl, sym, ap, ◌∙◌, subst, arith, true≢false, get_or}
+use Rattle.std.proofs.Common.{◌≡◌, ◌≢◌, ℕ, ℤ, ◌+◌, ◌<◌, ◌≤◌, true, false, ⊎_elim, List, [], refl, sym, ap, ◌∙◌, subst, arith, get_or}
 use Rattle.std.proofs.lemmas.Bool.{cases_Bool}
 use Rattle.std.specs.Str.{IsUtf8}
 use Rattle.yf_chars.specs.declared.context.Ctx.{Ctx}
 use Rattle.yf_chars.specs.Text.{code, next, no_char}
 use Rattle.yf_chars.specs.Class.{is_white}
-use Rattle.yf_chars.specs.Chain.{Chain, Stuck, Nowhere, One, Many}
+use Rattle.yf_chars.specs.Chain.{Chain, Stuck, Nowhere, Many}
 use Rattle.yf_chars.specs.Chain.Chain.{done, step}
 use Rattle.yf_chars.proofs.TextLemmas.{code-end, code-inside, next-mark, bytes_from_mark}
 use Rattle.yf_chars.proofs.ChainLemmas.{Meets, chain_forward, chain_meet, one_functional, many_chosen, many_unique}
 use Rattle.yf_chars.proofs.ChainLemmas.Meets.{goes_on, falls_short}
-use Rattle.yf_lines.specs.Basic.{Break, LineStart, SeparateInLine, FlowPrefix}
+use Rattle.yf_lines.specs.Basic.{Break, LineStart, SeparateInLine}
 use Rattle.yf_lines.specs.Basic.Break.{cr_lf, lone_cr, lone_lf}
 use Rattle.yf_lines.specs.Basic.LineStart.{at_text, after_break, after_mark}
 use Rattle.yf_lines.proofs.BasicLemmas.{white_cases, break_char}
 use Rattle.yf_comments.specs.Comment.{CommentValue}
-use Rattle.yf_comments.specs.Comments.{BreakOrEnd, LineRest, LineEnd, SeparateLines, Separate, Row}
+use Rattle.yf_comments.specs.Comments.{BreakOrEnd, LineRest, SeparateLines, Separate, Row}
 use Rattle.yf_comments.specs.Comments.BreakOrEnd.{by_break, by_end}
 use Rattle.yf_comments.specs.Comments.LineRest.{nothing, whites, comment}
 use Rattle.yf_comments.specs.Comments.SeparateLines.{in_line, over_lines}

@@ -1,20 +1,21 @@
 -- Each character of a tag is a visible character of ASCII.
-use Rattle.std.proofs.Common.{◌≡◌, ◌≢◌, ℕ, ◌+◌, ◌-◌, ◌<◌, ◌≤◌, Bool, true, false, ◌⊎◌, inl, inr, ⊎_elim, List, [], ◌∷◌, ◌++◌, refl, sym, ap, ◌∙◌, subst, arith, leb, eqb, not, ◌&&◌, true≢false}
+use Rattle.std.proofs.Common.{◌≡◌, ℕ, ◌+◌, ◌<◌, ◌≤◌, Bool, true, false, ⊎_elim, List, refl, sym, ◌∙◌, subst, arith, leb, eqb, not, ◌&&◌, true≢false}
 use Rattle.std.proofs.lemmas.Bool.{cases_lt, ne_eqb, lt-leb, and_parts}
 use Rattle.std.proofs.Math.Bool.{and-false}
 use Rattle.yf_chars.specs.Text.{code, next}
 use Rattle.yf_chars.specs.Class.{is_between, is_digit, is_hex_digit, is_word_char, is_uri_char, is_tag_char, is_flow_indicator}
-use Rattle.yf_chars.specs.Chain.{Chain, One}
+use Rattle.yf_chars.specs.Chain.{Chain}
 use Rattle.yf_chars.specs.Chain.Chain.{done, step}
 use Rattle.yf_chars.specs.Chain.One.{one}
 use Rattle.yf_chars.proofs.TextLemmas.{next_ascii}
 use Rattle.yf_props.specs.Props.{TagValue}
-use Rattle.yf_props.specs.Names.{Spelled, WordChar, UriChar, TagChar, Run, Handle, VerbatimTag, ShorthandTag, TagProperty}
+use Rattle.yf_props.specs.Names.{Spelled, WordChar, Handle, VerbatimTag, ShorthandTag, TagProperty}
 use Rattle.yf_props.specs.Names.Spelled.{as_itself, as_escape}
 use Rattle.yf_props.specs.Names.Handle.{primary_handle, secondary_handle, named_handle}
 use Rattle.yf_props.specs.Names.VerbatimTag.{in_brackets}
 use Rattle.yf_props.specs.Names.ShorthandTag.{handle_suffix}
 use Rattle.yf_props.specs.Names.TagProperty.{verbatim_tag, shorthand_tag, non_specific_tag}
+use Rattle.yf_props.proofs.TagLemmas.{word_uri}
 use Rattle.yf_props.proofs.SeparationEnds.{Solid}
 
 -- below the space and above the tilde no character is in the classes
@@ -89,10 +90,6 @@ uri_solid c e = record {
   high = ⊎_elim (λ (l : c < 127). l) (λ (l : 127 ≤ c). absurd (true≢false (sym e ∙ high_uri c l))) (cases_lt c 127);
 }
 
-word_uri : (c : ℕ) → is_word_char c ≡ true → is_uri_char c ≡ true
-unfolding is_uri_char
-word_uri c e = rw e
-
 word_solid : (c : ℕ) → is_word_char c ≡ true → Solid c
 word_solid c e = uri_solid c (word_uri c e)
 
@@ -144,7 +141,7 @@ module _ {t : List ℕ} where
 
   solid_then : {i h j : ℕ} → AllSolid t i h → AllSolid t h j → AllSolid t i j
   solid_then {i} {h} a b = record {
-    each = λ m l k. ⊎_elim (λ (f : m < h). a.each m l f) (λ (f : h ≤ m). b.each m f k) (cases_lt m h)
+    each = λ m l k. ⊎_elim (λ (f : m < h). a.each m l f) (λ (f : h ≤ m). b.each m f k) (cases_lt m h);
   }
 
   solid_none : {i : ℕ} → AllSolid t i i

@@ -1,10 +1,10 @@
 -- Characters of tags and their runs, and that a tag with the longest handle is the longest tag.
-use Rattle.std.proofs.Common.{◌≡◌, ◌≢◌, ℕ, ◌+◌, ◌<◌, ◌≤◌, Bool, true, false, ◌⊎◌, inl, inr, ⊎_elim, List, [], ◌∷◌, ◌++◌, slice_range, refl, sym, ap, ◌∙◌, subst, arith, leb, true≢false}
+use Rattle.std.proofs.Common.{◌≡◌, ◌≢◌, ℕ, ◌+◌, ◌<◌, ◌≤◌, Bool, true, false, ◌⊎◌, inl, inr, ⊎_elim, List, slice_range, refl, sym, ap, ◌∙◌, subst, arith, leb, true≢false}
 use Rattle.std.proofs.Math.Bool.{and-false}
 use Rattle.std.proofs.lemmas.Bool.{cases_lt, ne_eqb, lt-leb}
-use Rattle.yf_chars.specs.Text.{code, next, no_char, Reads}
+use Rattle.yf_chars.specs.Text.{code, no_char, Reads}
 use Rattle.yf_chars.specs.Class.{is_between, is_digit, is_hex_digit, is_word_char, is_uri_char, is_tag_char, is_flow_indicator}
-use Rattle.yf_chars.specs.Chain.{Chain, Functional, Stuck, Chosen, One, Many}
+use Rattle.yf_chars.specs.Chain.{Chain, Functional, Stuck, Chosen, Many}
 use Rattle.yf_chars.specs.Chain.Chain.{done, step}
 use Rattle.yf_chars.specs.Chain.One.{one}
 use Rattle.yf_chars.proofs.TextLemmas.{next_ascii, next_later}
@@ -104,7 +104,7 @@ word_apart : (c x : ℕ) → is_word_char c ≡ true → is_word_char x ≡ fals
 word_apart c x e f = λ q. true≢false (sym e ∙ ap is_word_char q ∙ f)
 
 -- a word character is a character of a suffix
-word_uri : (c : ℕ) → is_word_char c ≡ true → is_uri_char c ≡ true
+pub word_uri : (c : ℕ) → is_word_char c ≡ true → is_uri_char c ≡ true
 unfolding is_uri_char
 word_uri c e = rw e
 
@@ -157,7 +157,7 @@ module _ (t : List ℕ) (p : ℕ → Bool) (none : p 37 ≡ false) where
 
   pub spelled_stuck : (i : ℕ) → p (code t i) ≡ false → code t i ≢ 37 → Stuck (Spelled t p i)
   spelled_stuck i e n = record {
-    none = λ j x s. ⊎_elim (λ (f : p (code t i) ≡ true). true≢false (sym f ∙ e)) (λ (f : code t i ≡ 37). n f) (spelled_first s)
+    none = λ j x s. ⊎_elim (λ (f : p (code t i) ≡ true). true≢false (sym f ∙ e)) (λ (f : code t i ≡ 37). n f) (spelled_first s);
   }
 
   hex_parts : {i j : ℕ} {x : List ℕ} → Spelled t p i j x → code t i ≡ 37
@@ -212,9 +212,9 @@ module _ (t : List ℕ) (i w : ℕ) (x : List ℕ) (m : Many t is_word_char (i +
   long_handle a b = ⊎_elim
       (λ (l : i + 1 < w). named_handle a (record { characters = x; chain = m; some = l; all = one_stuck t is_word_char w e }) b)
       (λ (l : w ≤ i + 1).
-          let f = chain_forward (one_functional t is_word_char) m in
-          let same : w ≡ i + 1 = omega arith in
-          subst (λ k. Handle t i k) (omega arith) (secondary_handle a (ap (code t) (sym same) ∙ b)))
+      let f = chain_forward (one_functional t is_word_char) m in
+      let same : w ≡ i + 1 = omega arith in
+      subst (λ k. Handle t i k) (omega arith) (secondary_handle a (ap (code t) (sym same) ∙ b)))
       (cases_lt (i + 1) w)
 
   short_end : {k : ℕ} → code t w ≡ 33 → Run (TagChar t) (i + 1) k → k ≡ w
@@ -224,14 +224,14 @@ module _ (t : List ℕ) (i w : ℕ) (x : List ℕ) (m : Many t is_word_char (i +
       → (k < j) ⊎ ((k ≡ j) × (y ≡ IsShort (slice_range t i (w + 1)) (slice_range t (w + 1) j)))
   other_handle {j} b r (handle_suffix {h = h} {j = k} a s) = ⊎_elim
       (λ (p : h ≡ i + 1).
-          let s' : Run (TagChar t) (i + 1) k = subst (λ v. Run (TagChar t) v k) p s in
-          let f = short_end b s' in
-          let l = r.some in
-          inl (omega arith))
+      let s' : Run (TagChar t) (i + 1) k = subst (λ v. Run (TagChar t) v k) p s in
+      let f = short_end b s' in
+      let l = r.some in
+      inl (omega arith))
       (λ (p : (h ≡ w + 1) × (code t w ≡ 33)).
-          let s' : Run (TagChar t) (w + 1) k = subst (λ v. Run (TagChar t) v k) p.0 s in
-          let f : k ≡ j = run_unique tag_functional s' r in
-          inr (f, ap (λ v. IsShort (slice_range t i v) (slice_range t v k)) p.0 ∙ ap (λ v. IsShort (slice_range t i (w + 1)) (slice_range t (w + 1) v)) f))
+      let s' : Run (TagChar t) (w + 1) k = subst (λ v. Run (TagChar t) v k) p.0 s in
+      let f : k ≡ j = run_unique tag_functional s' r in
+      inr (f, ap (λ v. IsShort (slice_range t i v) (slice_range t v k)) p.0 ∙ ap (λ v. IsShort (slice_range t i (w + 1)) (slice_range t (w + 1) v)) f))
       (handle_cases a)
 
   pub no_long_mark : code t w ≢ 33 → (h j : ℕ) → Handle t i h → i + 1 < h → Run (TagChar t) h j → ⊥

@@ -1,8 +1,7 @@
 //! Tag handles (YAML 1.2.2, section 6.8.2), and what tags stand for (section 6.9.1).
-ghost use Rattle.std.specs.Prelude.{◌≡◌, ◌⊎◌, ◌++◌, [], ◌∷◌, ℕ, List, Bool, not, is_some, Option, Some, None, Ok, Err, MatchOption, MatchResult, IfOk, IfErr, if◌then◌else◌, codes};
-ghost use Rattle.std.specs.String.{string_bytes};
+ghost use Rattle.std.specs.Prelude.{◌≡◌, ◌⊎◌, ◌++◌, [], ◌∷◌, ℕ, List, false, not, Option, Some, None, Ok, Err, MatchOption, IfOk, IfErr, if◌then◌else◌, codes};
 ghost use Rattle.yf_props.specs.Props.{tag_value};
-ghost use Rattle.yf_props.specs.Handles.{declared_prefix, default_prefix, prefix_of, SuffixText, TagText, UnknownHandleOf, is_declared};
+ghost use Rattle.yf_props.specs.Handles.{default_prefix, prefix_of, SuffixText, TagText, UnknownHandleOf, is_declared};
 
 use crate::props::Tag;
 use indexmap::IndexMap;
@@ -80,7 +79,7 @@ impl<'a> Handles<'a> {
     pub fn declare(&mut self, handle: &'a str, prefix: &'a str) -> Result<bool, Fault>
         ensures declared { IfOk result (λ fresh. (fresh ≡ not (is_declared self.old handle.entry.now))
             × (self.new ≡ (if fresh then self.old ++ (handle.entry.now, prefix.entry.now) ∷ [] else self.old))) }
-        ensures refused { IfErr result (λ fault. (fault ≡ Fault.Memory) × (self.new ≡ self.old)) }
+        ensures refused { IfErr result (λ fault. (fault ≡ Fault.Memory) × (self.new ≡ self.old) × (is_declared self.old handle.entry.now ≡ false)) }
     {
         if self.prefixes.contains_key(handle) {
             return Ok(false);

@@ -1,5 +1,5 @@
 //! Properties of a node (YAML 1.2.2, section 6.9).
-ghost use Rattle.std.specs.Prelude.{◌≡◌, ℕ, ℤ, List, IfOk, IfSome, MatchOption};
+ghost use Rattle.std.specs.Prelude.{◌≡◌, IfOk, IfSome, MatchOption};
 ghost use Rattle.std.specs.Str.{IsCharBoundary};
 ghost use Rattle.yf_chars.specs.Chain.{Chosen, Stuck};
 ghost use Rattle.yf_props.specs.Names.{Anchor, TagProperty, anchor_only, tag_only, Properties as PropertiesOf};
@@ -74,10 +74,12 @@ fn behind_anchor<'a>(
     ensures boundary { IfOk result (λ p. IsCharBoundary s.now p.end) }
 {
     match separate(alloc, s, end, n, ctx)? {
-        Some(Separation {
-            comments,
-            end: start,
-        }) => match tag_property(s, start) {
+        Some(
+            Separation {
+                comments,
+                end: start,
+            },
+        ) => match tag_property(s, start) {
             Some(TagPart { tag, end: tag_end }) => Ok(Properties {
                 props: Props {
                     anchor: Some(anchor),
@@ -108,10 +110,12 @@ fn behind_tag<'a>(
     ensures boundary { IfOk result (λ p. IsCharBoundary s.now p.end) }
 {
     match separate(alloc, s, part.end, n, ctx)? {
-        Some(Separation {
-            comments,
-            end: start,
-        }) => match anchor_property(s, start) {
+        Some(
+            Separation {
+                comments,
+                end: start,
+            },
+        ) => match anchor_property(s, start) {
             Some((anchor, anchor_end)) => Ok(Properties {
                 props: Props {
                     anchor: Some(anchor),

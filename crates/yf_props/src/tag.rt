@@ -1,5 +1,5 @@
 //! Tags (YAML 1.2.2, section 6.9.1).
-ghost use Rattle.std.specs.Prelude.{◌≡◌, ◌+◌, ◌<◌, ◌≤◌, ℕ, List, Bool, true, false, slice_range, IfSome, MatchOption, MatchBool};
+ghost use Rattle.std.specs.Prelude.{◌≡◌, ◌+◌, ◌<◌, ◌≤◌, ℕ, List, true, false, IfSome, MatchOption};
 ghost use Rattle.std.specs.Str.{IsCharBoundary};
 ghost use Rattle.yf_chars.specs.Chain.{Chain, Chosen, Stuck, Many};
 ghost use Rattle.yf_chars.specs.Class.{is_hex_digit, is_word_char};

@@ -1,4 +1,4 @@
-use Rattle.std.proofs.Common.{◌≡◌, ◌+◌, sym, subst}
+use Rattle.std.proofs.Common.{◌≡◌, sym, subst}
 use Rattle.yf_chars.specs.Chain.{Chosen}
 use Rattle.yf_chars.specs.Text.{code}
 use Rattle.yf_props.specs.Names.{Anchor}

@@ -1,6 +1,6 @@
-use Rattle.std.proofs.Common.{◌≡◌, sym, w32}
+use Rattle.std.proofs.Common.{w32}
 use Rattle.std.proofs.lemmas.Int.{to_z-of_z}
-use Rattle.yf_chars.specs.Chain.{Chosen, Stuck}
+use Rattle.yf_chars.specs.Chain.{Stuck}
 use Rattle.yf_comments.specs.Comments.{Separate}
 use Rattle.yf_props.specs.Names.{Properties}
 use Rattle.yf_props.proofs.NameLemmas.{chosen_same}

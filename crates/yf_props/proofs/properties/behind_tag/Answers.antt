@@ -1,8 +1,8 @@
-use Rattle.std.proofs.Common.{◌≡◌, sym, subst, w32, Some}
+use Rattle.std.proofs.Common.{w32}
 use Rattle.std.proofs.lemmas.Int.{to_z-of_z}
-use Rattle.yf_chars.specs.Chain.{Chosen, Stuck}
+use Rattle.yf_chars.specs.Chain.{Stuck}
 use Rattle.yf_comments.specs.Comments.{Separate}
-use Rattle.yf_props.specs.Names.{Properties, Anchor}
+use Rattle.yf_props.specs.Names.{Properties}
 use Rattle.yf_props.proofs.NameLemmas.{chosen_same}
 use Rattle.yf_props.proofs.PropertiesLemmas.{tag_then_anchor, tag_alone, no_anchor_behind}
 use Rattle.yf_props.proofs.properties.behind_tag.Goals as goal

@@ -1,6 +1,5 @@
 use Rattle.std.proofs.Common.{◌≡◌, ◌+◌, ap, ◌∙◌, sym, arith, slice_range, subst}
 use Rattle.yf_chars.specs.Chain.{Stuck, Chosen}
-use Rattle.yf_chars.specs.Text.{code}
 use Rattle.yf_props.specs.Names.{TagChar, Run, ShorthandTag}
 use Rattle.yf_props.specs.Props.TagValue.{IsShort}
 use Rattle.yf_props.proofs.NameLemmas.{run_from}
@@ -19,7 +18,7 @@ returns-then-end-start-clause-reads c =
     let a : slice_range t i (w + 1) ≡ c.range.result.now = sym c.range.ensures.value in
     let b : slice_range t (w + 1) j ≡ c.range-then-end-start.result.now = sym c.range-then-end-start.ensures.value in
     subst (λ v. Chosen (ShorthandTag t i) j v)
-      (ap (λ v. IsShort v (slice_range t (w + 1) j)) a ∙ ap (λ v. IsShort c.range.result.now v) b) d
+    (ap (λ v. IsShort v (slice_range t (w + 1) j)) a ∙ ap (λ v. IsShort c.range.result.now v) b) d
 
 pub returns-then-stands-clause-reads : goal.returns-then-stands-clause-reads
 returns-then-stands-clause-reads c =

@@ -1,5 +1,5 @@
 use Rattle.std.proofs.Common.{◌≡◌, ap, sym, ◌∙◌, subst, true, ◌∷◌, []}
-use Rattle.yf_chars.specs.Text.{code, next, Reads}
+use Rattle.yf_chars.specs.Text.{code, Reads}
 use Rattle.yf_props.specs.Chars.{class_of}
 use Rattle.yf_props.specs.Names.{Spelled}
 use Rattle.yf_props.specs.Names.Spelled.{as_itself, as_escape}

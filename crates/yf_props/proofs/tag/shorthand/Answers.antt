@@ -16,7 +16,7 @@ returns-then-end-start-clause-reads c =
     let a : slice_range t i (i + 1) ≡ c.range.result.now = sym c.range.ensures.value in
     let b : slice_range t (i + 1) j ≡ c.range-then-end-start.result.now = sym c.range-then-end-start.ensures.value in
     subst (λ v. Chosen (ShorthandTag t i) j v)
-      (ap (λ v. IsShort v (slice_range t (i + 1) j)) a ∙ ap (λ v. IsShort c.range.result.now v) b) d
+    (ap (λ v. IsShort v (slice_range t (i + 1) j)) a ∙ ap (λ v. IsShort c.range.result.now v) b) d
 
 pub returns-else-end-start-clause-reads : goal.returns-else-end-start-clause-reads
 returns-else-end-start-clause-reads c =

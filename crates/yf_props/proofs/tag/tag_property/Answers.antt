@@ -1,4 +1,4 @@
-use Rattle.std.proofs.Common.{◌≡◌, sym, subst}
+use Rattle.std.proofs.Common.{sym, subst}
 use Rattle.yf_chars.specs.Chain.{Chosen}
 use Rattle.yf_props.specs.Names.{TagProperty}
 use Rattle.yf_props.proofs.TagLemmas.{verbatim_tag_chosen, shorthand_tag_chosen, non_specific_chosen, no_mark}

@@ -1,6 +1,5 @@
-use Rattle.std.proofs.Common.{◌≡◌, ◌+◌, ◌<◌, ap, sym, arith, slice_range, subst, refl}
+use Rattle.std.proofs.Common.{◌≡◌, ◌+◌, ap, arith, slice_range, subst}
 use Rattle.yf_chars.specs.Chain.{Stuck}
-use Rattle.yf_chars.specs.Text.{code}
 use Rattle.yf_props.specs.Names.{UriChar, Run}
 use Rattle.yf_props.specs.Props.TagValue.{IsVerbatim}
 use Rattle.yf_props.proofs.NameLemmas.{run_from}
@@ -11,7 +10,7 @@ pub returns-then-stands-3-clause-reads : goal.returns-then-stands-3-clause-reads
 returns-then-stands-3-clause-reads c =
     let t = c.args.s.now in
     let run : Run (UriChar t) (c.args.at + 2) c.skip_chars-end.result =
-        run_from c.skip_chars-end.ensures.chars.1 c.if-end-at.true c.skip_chars-end.ensures.all in
+    run_from c.skip_chars-end.ensures.chars.1 c.if-end-at.true c.skip_chars-end.ensures.all in
     let d = verbatim_chosen {i = c.args.at} c.if-stands.ensures.cases.char c.if-stands-2.ensures.cases.char run c.if-stands-3.ensures.cases.char in
     (slice_range t (c.args.at + 2) c.skip_chars-end.result, d, ap IsVerbatim c.range.ensures.value)
 
@@ -19,7 +18,7 @@ pub returns-then-end-at-clause-reads : goal.returns-then-end-at-clause-reads
 returns-then-end-at-clause-reads c =
     let t = c.args.s.now in
     let run : Run (UriChar t) (c.args.at + 2) c.skip_chars-end.result =
-        run_from c.skip_chars-end.ensures.chars.1 c.if-end-at.true c.skip_chars-end.ensures.all in
+    run_from c.skip_chars-end.ensures.chars.1 c.if-end-at.true c.skip_chars-end.ensures.all in
     open_verbatim run c.if-stands-3.ensures.cases
 
 pub returns-then-stands-2-clause-reads : goal.returns-then-stands-2-clause-reads

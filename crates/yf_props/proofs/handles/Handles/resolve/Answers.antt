@@ -1,4 +1,4 @@
-use Rattle.std.proofs.Common.{◌≡◌, ap, ◌∙◌, sym, subst, inr, refl}
+use Rattle.std.proofs.Common.{◌∙◌, sym, subst, inr, refl}
 use Rattle.yf_props.specs.declared.props.Tag.TheVariants.{Short}
 use Rattle.yf_props.specs.Props.{tag_value}
 use Rattle.yf_props.specs.Handles.{TagText, UnknownHandleOf}
@@ -17,13 +17,13 @@ returns-in-Ok-clause-text c =
     let ds = c.args.self.now in
     let text = c.in-Ok.text in
     elim c.match-tag.branch [
-      in-Verbatim w ↦
-        let h = rw (sym w.resolved-is ∙ c.in-Ok.is) at w.joined-resolved.ensures in
-        subst (λ t. TagText ds (tag_value t) text) (sym w.in-Verbatim.is) (verbatim_is h)
+      | in-Verbatim w ↦
+          let h = rw (sym w.resolved-is ∙ c.in-Ok.is) at w.joined-resolved.ensures in
+          subst (λ t. TagText ds (tag_value t) text) (sym w.in-Verbatim.is) (verbatim_is h)
       | in-Short+in-Some w ↦
-        let h = rw (sym w.resolved-is ∙ c.in-Ok.is) at w.with_suffix.ensures in
-        subst (λ t. TagText ds (tag_value t) text) (sym w.in-Short.is) (shorthand_is w.in-Some.ensures h)
+          let h = rw (sym w.resolved-is ∙ c.in-Ok.is) at w.with_suffix.ensures in
+          subst (λ t. TagText ds (tag_value t) text) (sym w.in-Short.is) (shorthand_is w.in-Some.ensures h)
       | in-NonSpecific w ↦
-        let h = rw (sym w.resolved-is ∙ c.in-Ok.is) at w.joined-resolved-in-NonSpecific.ensures in
-        subst (λ t. TagText ds (tag_value t) text) (sym w.in-NonSpecific.is) (non_specific_is h)
+          let h = rw (sym w.resolved-is ∙ c.in-Ok.is) at w.joined-resolved-in-NonSpecific.ensures in
+          subst (λ t. TagText ds (tag_value t) text) (sym w.in-NonSpecific.is) (non_specific_is h)
     ]
