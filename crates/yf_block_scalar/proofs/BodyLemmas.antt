@@ -58,7 +58,7 @@ space_line_there t at e j l s b =
     record { spaces = s; ends = subst (λ h. Break t h j) same b }
 
 -- nb-chars end at a break and at the end of the text
-no_nb_13 : is_nb_char 13 ≡ false
+pub no_nb_13 : is_nb_char 13 ≡ false
 unfolding is_nb_char is_printable is_between is_break_char
 no_nb_13 = refl
 
@@ -234,7 +234,7 @@ stuck_at t i c e s a b =
     let q : code t (i + 0) ≡ c = ap (code t) here ∙ e in
     bare_stuck t i 0 (record { each = λ m l. absurd (omega arith) }) (λ h. s (sym q ∙ h)) (no_break_code t (i + 0) c q a b)
 
-marker_code : (t : List ℕ) (i : ℕ) → is_marker t i ≡ true → (code t i ≡ 45) ⊎ (code t i ≡ 46)
+pub marker_code : (t : List ℕ) (i : ℕ) → is_marker t i ≡ true → (code t i ≡ 45) ⊎ (code t i ≡ 46)
 marker_code t i e =
     ⊎_elim (λ (h : code t i ≡ 45). inl h) (λ (n : code t i ≢ 45).
     ⊎_elim (λ (h : code t i ≡ 46). inr h) (λ (m : code t i ≢ 46).

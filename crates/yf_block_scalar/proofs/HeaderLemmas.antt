@@ -165,6 +165,13 @@ only_neither {t} {i} n m k e f x s = here x s where
   here (digit_sign {h = h} {d = d} x y) s = absurd (n h d x)
   here (sign_digit {h = h} {c = c} y x) s = absurd (m h c y)
 
+pub mark_inside : (t : List ℕ) (i : ℕ) → IsUtf8 t → code t i < 128 → 3 ≤ i + 1 → code t ((i + 1) - 3) ≢ 0xFEFF
+mark_inside t i u high l w =
+    let b = bytes_from_mark t ((i + 1) - 3) u w in
+    let p : i ≡ ((i + 1) - 3) + 2 = omega arith in
+    let inside : code t i ≡ no_char = ap (code t) p ∙ code-inside t (((i + 1) - 3) + 2) (omega (arith, b.3)) (omega (arith, b.3)) in
+    absurd (omega arith)
+
 -- behind a header's characters no line starts
 pub inside_line : (t : List ℕ) (i : ℕ) → IsUtf8 t → 33 ≤ code t i → code t i < 128 → LineStart t (i + 1) → ⊥
 inside_line t i u low high =
@@ -172,13 +179,6 @@ inside_line t i u low high =
     let q : code t ((i + 1) - 1) ≡ code t i = ap (code t) e in
     no_start t (i + 1) (λ z. absurd (omega arith)) (mark_inside t i u high)
     (no_break_end t (i + 1) (λ w. absurd (omega arith)) (λ w _. absurd (omega arith)))
-  where
-  mark_inside : (t : List ℕ) (i : ℕ) → IsUtf8 t → code t i < 128 → 3 ≤ i + 1 → code t ((i + 1) - 3) ≢ 0xFEFF
-  mark_inside t i u high l w =
-      let b = bytes_from_mark t ((i + 1) - 3) u w in
-      let p : i ≡ ((i + 1) - 3) + 2 = omega arith in
-      let inside : code t i ≡ no_char = ap (code t) p ∙ code-inside t (((i + 1) - 3) + 2) (omega (arith, b.3)) (omega (arith, b.3)) in
-      absurd (omega arith)
 
 style_inside : {t : List ℕ} {i j : ℕ} {f : Bool} → IsUtf8 t → Style t i j f → LineStart t j → ⊥
 style_inside {t} {i} u (literal_sign e) s = inside_line t i u (omega arith) (omega arith) s

@@ -5,3 +5,5 @@ pub mod IndentLemmas
 pub mod ReaderLemmas
 pub mod TrailLemmas
 pub mod UniqueLemmas
+pub mod WrittenLemmas
+pub mod DerivedLemmas
