@@ -3,7 +3,7 @@ ghost use Rattle.std.specs.Prelude.{◌≡◌, ◌++◌, ◌+◌, ◌<◌, ◌�
 ghost use Rattle.std.specs.String.{string_bytes};
 ghost use Rattle.yf_block_scalar.specs.Body.{base};
 ghost use Rattle.yf_block_scalar.specs.Content.{literal};
-ghost use Rattle.yf_block_scalar.specs.Written.{body_bytes, break_bytes, comment_bytes, digit_bytes, header_bytes, indented, sign_bytes, style_bytes, tail_bytes, written_of};
+ghost use Rattle.yf_block_scalar.specs.Written.{IsRead, IsScalar, body_bytes, break_bytes, comment_bytes, digit_bytes, header_bytes, indented, sign_bytes, style_bytes, tail_bytes, written_of};
 
 use crate::body::BlockText;
 use crate::content::push_feeds;
@@ -19,7 +19,7 @@ use yf_lines::fault::Fault;
 ///
 /// A header with a digit is written with the digit that this column needs. Empty lines are written empty, the tail only
 /// where the header keeps it. Where the last content line ended at the end of the text, it is written without a break,
-/// unless the header strips it.
+/// unless the header strips it. What is appended is a block scalar at `n` with the same content.
 ///
 /// # Errors
 ///
@@ -29,6 +29,7 @@ pub fn write_block(alloc: Global, out: &mut String, block: &BlockText, column: u
     requires right { base n < column }
     requires near { column ≤ base n + 9 }
     ensures written { OnOk result (string_bytes out.new ≡ string_bytes out.old ++ written_of block.now column n) }
+    ensures read { IsScalar block.now → OnOk result (IsRead (written_of block.now column n) n block.now) }
     ensures unchanged { OnErr result (string_bytes out.new ≡ string_bytes out.old) }
     ensures refused { IfErr result (λ fault. fault ≡ Fault.Memory) }
 {
