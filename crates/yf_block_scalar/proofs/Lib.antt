@@ -3,6 +3,7 @@ pub mod ContentLemmas
 pub mod HeaderLemmas
 pub mod IndentLemmas
 pub mod ReaderLemmas
+pub mod ScalarLemmas
 pub mod TrailLemmas
 pub mod UniqueLemmas
 pub mod WrittenLemmas

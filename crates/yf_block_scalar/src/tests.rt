@@ -3,6 +3,7 @@
 use crate::body::BlockText;
 use crate::content::content;
 use crate::read::{read_body, read_header};
+use crate::write::write_block;
 use std::test::Fail;
 use yf_lines::source_text::Src;
 
@@ -13,6 +14,17 @@ fn content_of(rt: HostRuntime, text: &str, n: i32) -> Result<String, Fail> {
     let line = src.lines().len().min(1);
     let block = read_body(rt.alloc(), &src, line, n.min(9), head.header)?.ok_or("no scalar")?;
     Ok(content(rt.alloc(), &block)?)
+}
+
+// The scalar whose header begins the text, written at column 2.
+fn written(rt: HostRuntime, text: &str) -> Result<String, Fail> {
+    let src = Src::new(rt.alloc(), text)?;
+    let head = read_header(&src, 0).ok_or("no header")?;
+    let line = src.lines().len().min(1);
+    let block = read_body(rt.alloc(), &src, line, 0, head.header)?.ok_or("no scalar")?;
+    let mut out = String::new(rt.alloc());
+    write_block(rt.alloc(), &mut out, &block, 2, 0)?;
+    Ok(out)
 }
 
 #[test]
@@ -114,5 +126,25 @@ fn reads_headers(rt: HostRuntime) -> Result<(), Fail> {
     let head = read_header(&src, 0).ok_or("no header")?;
     assert_eq!(rt; head.end, 7);
     assert_eq!(rt; head.comment.ok_or("no comment")?.text, "# c");
+    Ok(())
+}
+
+#[test]
+fn writes_lines_at_their_column(rt: HostRuntime) -> Result<(), Fail> {
+    assert_eq!(rt; written(rt, "|2\n    x\n\n- >")?.as_str(), "|2\n    x\n");
+    assert_eq!(rt; written(rt, ">\n a\n b\n\n   c\n")?.as_str(), ">\n  a\n  b\n\n    c\n");
+    Ok(())
+}
+
+#[test]
+fn writes_a_kept_tail(rt: HostRuntime) -> Result<(), Fail> {
+    assert_eq!(rt; written(rt, "|+\n a\n\n")?.as_str(), "|+\n  a\n\n");
+    Ok(())
+}
+
+#[test]
+fn writes_an_open_line_without_its_break(rt: HostRuntime) -> Result<(), Fail> {
+    assert_eq!(rt; written(rt, "|\n x")?.as_str(), "|\n  x");
+    assert_eq!(rt; written(rt, "|-\n x")?.as_str(), "|-\n  x\n");
     Ok(())
 }
