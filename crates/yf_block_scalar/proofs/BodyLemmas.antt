@@ -1,18 +1,18 @@
 -- Laws of the lines of a block scalar: where they end, that they are unique, and how a scalar is read line by line.
-use Rattle.std.proofs.Common.{◌≡◌, ◌≢◌, ℕ, zero, suc, ◌+◌, ◌-◌, ◌<◌, ◌≤◌, ℤ, max, Bool, true, false, true≢false, List, [], ◌∷◌, ◌++◌, length, MatchBool, take, drop, slice_range, refl, sym, ap, ◌∙◌, subst, arith, ⊎_elim, ◌⊎◌, inl, inr, append_assoc, append-nil, add-zero, length-append}
+use Rattle.std.proofs.Common.{◌≡◌, ◌≢◌, ℕ, zero, suc, ◌+◌, ◌-◌, ◌<◌, ◌≤◌, ℤ, max, Bool, true, false, true≢false, List, [], ◌∷◌, ◌++◌, length, MatchBool, take, slice_range, refl, sym, ap, ◌∙◌, subst, arith, ⊎_elim, ◌⊎◌, inl, inr, append_assoc, append-nil, add-zero, length-append}
 use Rattle.std.proofs.Math.Seq.{take-append_seam}
 use Rattle.std.proofs.lemmas.Bool.{cases_eq, cases_lt}
 use Rattle.std.specs.Str.{IsUtf8, IsCharBoundary}
-use Rattle.yf_chars.specs.Text.{code, next, Reads, no_char}
+use Rattle.yf_chars.specs.Text.{code, next, no_char}
 use Rattle.yf_chars.specs.Class.{is_nb_char, is_printable, is_between, is_break_char}
-use Rattle.yf_chars.specs.Chain.{Chain, Many, Stuck, Chosen, Functional, Nowhere}
+use Rattle.yf_chars.specs.Chain.{Chain, Many, Stuck, Functional, Nowhere}
 use Rattle.yf_chars.specs.Chain.Chain.{done, step}
 use Rattle.yf_chars.proofs.TextLemmas.{reads_byte, reads_real, code-end, next-mark, code_at_boundary}
-use Rattle.yf_chars.proofs.ChainLemmas.{chain_append, chain_one, chain_more, many_chosen, many_unique, stuck_unique}
+use Rattle.yf_chars.proofs.ChainLemmas.{chain_more, many_unique, stuck_unique}
 use Rattle.yf_lines.specs.Basic.{Spaces, Break, LineStart, is_marker}
 use Rattle.yf_lines.specs.Basic.LineStart.{after_break}
 use Rattle.yf_lines.proofs.BasicLemmas.{break_char, break_forward, break_unique, no_break_here, no_marker, three_first}
-use Rattle.yf_block_scalar.specs.Body.{SpaceLine, Bare, largest, Ends, Content, Line, Lines, Tail, Taken, Other, Indented, Detected, Shallow, MarkerLine, least}
+use Rattle.yf_block_scalar.specs.Body.{SpaceLine, Bare, largest, Ends, Content, Line, Lines, Tail, Taken, Other, Indented, Detected, Shallow, MarkerLine}
 use Rattle.yf_block_scalar.specs.Body.Bare.{bare}
 use Rattle.yf_block_scalar.specs.Body.Ends.{by_break, by_text}
 use Rattle.yf_block_scalar.specs.Body.Content.{content}

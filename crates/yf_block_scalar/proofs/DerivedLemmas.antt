@@ -1,37 +1,36 @@
 -- A block scalar that is written is read again.
-use Rattle.std.proofs.Common.{◌≡◌, ◌≢◌, ℕ, ℤ, pos, negsuc, zero, suc, ◌+◌, ◌-◌, ◌<◌, ◌≤◌, max, Bool, true, false, true≢false, List, [], ◌∷◌, ◌++◌, length, map, take, drop, get_or, slice_range, replicate, Option, Some, None, refl, sym, ap, ◌∙◌, subst, arith, ⊎_elim, ◌⊎◌, inl, inr, append_assoc, append-nil, length-append, length-drop, add-zero, if◌then◌else◌}
+use Rattle.std.proofs.Common.{◌≡◌, ◌≢◌, ℕ, ℤ, pos, negsuc, zero, suc, ◌+◌, ◌-◌, ◌<◌, ◌≤◌, Bool, true, false, true≢false, List, [], ◌∷◌, ◌++◌, length, map, get_or, replicate, Option, Some, None, refl, sym, ap, ◌∙◌, subst, arith, ⊎_elim, append_assoc, add-zero}
 use Rattle.std.proofs.lemmas.List.{length-replicate, get_or-drop}
 use Rattle.std.proofs.lemmas.Bool.{cases_Bool}
-use Rattle.std.specs.Str.{IsUtf8, IsCharBoundary}
+use Rattle.std.specs.Str.{IsUtf8}
 use lib.Utf8.{encodes}
-use Rattle.yf_chars.specs.Text.{code, next, Reads, no_char}
-use Rattle.yf_chars.specs.Class.{is_white, is_nb_char, is_between}
-use Rattle.yf_chars.specs.Chain.{Chain, Many, One, Stuck}
+use Rattle.yf_chars.specs.Text.{code, next, Reads}
+use Rattle.yf_chars.specs.Class.{is_white, is_nb_char}
+use Rattle.yf_chars.specs.Chain.{Many, One, Stuck}
 use Rattle.yf_chars.specs.Chain.Chain.{done, step}
 use Rattle.yf_chars.specs.Chain.One.{one}
 use Rattle.yf_chars.proofs.TextLemmas.{code-past, byte_from_code}
-use Rattle.yf_lines.specs.Basic.{Spaces, Break, SeparateInLine, is_marker}
+use Rattle.yf_lines.specs.Basic.{SeparateInLine}
 use Rattle.yf_lines.specs.Basic.SeparateInLine.{by_whites}
 use Rattle.yf_lines.proofs.BasicLemmas.{break_char, white_of_space, white_cases, no_break_end}
 use Rattle.yf_comments.specs.declared.comment.Comment.{Comment}
 use Rattle.yf_comments.specs.Comment.{CommentValue}
-use Rattle.yf_comments.specs.Comments.{BlankBefore, Noted, CommentText, BreakOrEnd, LineRest}
+use Rattle.yf_comments.specs.Comments.{BlankBefore, LineRest}
 use Rattle.yf_comments.specs.Comments.Noted.{not_noted}
 use Rattle.yf_comments.specs.Comments.CommentText.{comment_text}
 use Rattle.yf_comments.specs.Comments.BreakOrEnd.{by_break}
 use Rattle.yf_comments.specs.Comments.LineRest.{nothing, comment}
 use Rattle.yf_comments.proofs.BlankLemmas.{before_past, no_before}
 use Rattle.yf_block_scalar.specs.declared.body.BlockText.{BlockText}
-use Rattle.yf_block_scalar.specs.declared.header.Header.{Header}
 use Rattle.yf_block_scalar.specs.declared.header.Chomp.{Chomp}
 use Rattle.yf_block_scalar.specs.declared.header.Chomp.TheVariants.{Strip, Clip, Keep}
-use Rattle.yf_block_scalar.specs.Header.{Style, Digit, Sign, Indicators, BlockHeader, HeaderValue}
+use Rattle.yf_block_scalar.specs.Header.{Style, Digit, Indicators}
 use Rattle.yf_block_scalar.specs.Header.Style.{literal_sign, folded_sign}
 use Rattle.yf_block_scalar.specs.Header.Digit.{digit}
 use Rattle.yf_block_scalar.specs.Header.Sign.{strip_sign, keep_sign}
 use Rattle.yf_block_scalar.specs.Header.Indicators.{neither, digit_alone, sign_alone, digit_sign}
 use Rattle.yf_block_scalar.specs.Header.BlockHeader.{block_header}
-use Rattle.yf_block_scalar.specs.Body.{SpaceLine, Bare, largest, Ends, Content, Line, Lines, Tail, Taken, Other, Indented, Detected, MarkerLine, Trail, Body, BodyValue, base, least, is_gap_tail, first_noted}
+use Rattle.yf_block_scalar.specs.Body.{SpaceLine, largest, Content, Line, Lines, Taken, Indented, Detected, MarkerLine, Trail, Body, base, least}
 use Rattle.yf_block_scalar.specs.Body.Bare.{bare}
 use Rattle.yf_block_scalar.specs.Body.Content.{content}
 use Rattle.yf_block_scalar.specs.Body.Line.{empty_line, content_line}
@@ -39,7 +38,7 @@ use Rattle.yf_block_scalar.specs.Body.Lines.{up_to}
 use Rattle.yf_block_scalar.specs.Body.MarkerLine.{marker_here, past_mark}
 use Rattle.yf_block_scalar.specs.Body.Trail.{no_comment}
 use Rattle.yf_block_scalar.specs.Body.Body.{indicated, detected}
-use Rattle.yf_block_scalar.specs.Content.{feeds, literal, literal_behind, content_of}
+use Rattle.yf_block_scalar.specs.Content.{feeds, literal_behind, content_of}
 use Rattle.yf_block_scalar.specs.Written.{style_bytes, digit_bytes, sign_bytes, comment_bytes, header_bytes, indented, tail_bytes, break_bytes, body_bytes, written_of, IsLineText, AreLineTexts, EndsWithContent, StartsUnspaced, IsCommentText, IsScalar, IsRead}
 use Rattle.yf_block_scalar.proofs.BodyLemmas.{no_nb_end, break_no_nb}
 use Rattle.yf_block_scalar.proofs.HeaderLemmas.{between_from, mark_inside}
@@ -100,7 +99,7 @@ indented_made : {t : List ℕ} {k q : ℕ} {n : ℤ} {x : List ℕ} (ls : List (
 indented_made {t} {k} {q} {n} {x} ls r u wide deep text full first s =
     let bytes : encodes text.chars ≡ x = text.bytes in
     let shape : indented k x ++ r ≡ replicate k 32 ++ (encodes text.chars ++ r) =
-        ap (λ w. w ++ r) (indented_full k x full) ∙ append_assoc (replicate k 32) x r ∙ ap (λ w. replicate k 32 ++ (w ++ r)) (sym bytes) in
+    ap (λ w. w ++ r) (indented_full k x full) ∙ append_assoc (replicate k 32) x r ∙ ap (λ w. replicate k 32 ++ (w ++ r)) (sym bytes) in
     let s' : Rest t q (replicate k 32 ++ (encodes text.chars ++ r)) = subst (λ w. Rest t q w) shape s in
     let spaces = rest_spaces k q u s' in
     let chars = rest_chars text.chars (q + k) u text.each spaces.1 in
@@ -108,10 +107,10 @@ indented_made {t} {k} {q} {n} {x} ls r u wide deep text full first s =
     let nb : is_nb_char (code t (q + k)) ≡ true = many_nb chars.0.1 (omega arith) in
     let start : code t q ≡ 32 = ap (code t) (sym (add-zero q)) ∙ spaces.0.each 0 wide in
     let no_space : code t (q + k) ≢ 32 = λ e.
-        let byte = byte_from_code t (q + k) u (omega arith) in
-        let here : get_or t (q + k) 0 ≡ get_or (x ++ r) 0 0 =
-            ap (λ w. get_or t w 0) (sym (add-zero (q + k))) ∙ sym (get_or-drop (q + k) t 0 0) ∙ ap (λ w. get_or w 0 0) spaces.1.bytes ∙ ap (λ w. get_or (w ++ r) 0 0) bytes in
-        unspaced_first x ls full first r (sym here ∙ byte.1 ∙ e) in
+    let byte = byte_from_code t (q + k) u (omega arith) in
+    let here : get_or t (q + k) 0 ≡ get_or (x ++ r) 0 0 =
+    ap (λ w. get_or t w 0) (sym (add-zero (q + k))) ∙ sym (get_or-drop (q + k) t 0 0) ∙ ap (λ w. get_or w 0 0) spaces.1.bytes ∙ ap (λ w. get_or (w ++ r) 0 0) bytes in
+    unspaced_first x ls full first r (sym here ∙ byte.1 ∙ e) in
     record {
       spaces = spaces.0;
       other = record {
@@ -132,23 +131,23 @@ detected_made {t} {k} {n} post [] x q u wide deep texts first s =
     ⊎_elim (λ (e : x ≡ []). absurd (unspaced_none x e first)) (λ (f : x ≢ []).
     record { at = q; widths = []; before = done; within = omega arith; first = indented_made [] _ u wide deep texts.0 f first s }) (empty_or x)
   where
-  unspaced_none : (x : List ℕ) → x ≡ [] → StartsUnspaced (x ∷ []) → ⊥
-  unspaced_none [] e s = s
-  unspaced_none (c ∷ x) e s = let long : suc (length x) ≡ 0 = ap length e in absurd (omega arith)
+    unspaced_none : (x : List ℕ) → x ≡ [] → StartsUnspaced (x ∷ []) → ⊥
+    unspaced_none [] e s = s
+    unspaced_none (c ∷ x) e s = let long : suc (length x) ≡ 0 = ap length e in absurd (omega arith)
 detected_made {t} {k} {n} post (y ∷ ls) x q u wide deep texts first s =
     let s' : Rest t q (indented k x ++ (10 ∷ (indented k y ++ (literal_behind (map (indented k) ls) ++ post)))) = subst (λ w. Rest t q w) (behind_line k x y ls post) s in
     ⊎_elim
     (λ (e : x ≡ []).
-      let bare_rest : Rest t q (10 ∷ (indented k y ++ (literal_behind (map (indented k) ls) ++ post))) =
-          subst (λ w. Rest t q (indented k w ++ (10 ∷ (indented k y ++ (literal_behind (map (indented k) ls) ++ post))))) e s' in
-      let got = empty_made u bare_rest in
-      detected_more got.0 (detected_made post ls y (q + 1) u wide deep texts.1 (unspaced_rest x e first) got.1))
+    let bare_rest : Rest t q (10 ∷ (indented k y ++ (literal_behind (map (indented k) ls) ++ post))) =
+    subst (λ w. Rest t q (indented k w ++ (10 ∷ (indented k y ++ (literal_behind (map (indented k) ls) ++ post))))) e s' in
+    let got = empty_made u bare_rest in
+    detected_more got.0 (detected_made post ls y (q + 1) u wide deep texts.1 (unspaced_rest x e first) got.1))
     (λ (f : x ≢ []). record { at = q; widths = []; before = done; within = omega arith; first = indented_made (y ∷ ls) _ u wide deep texts.0 f first s })
     (empty_or x)
   where
-  unspaced_rest : (x : List ℕ) → x ≡ [] → StartsUnspaced (x ∷ y ∷ ls) → StartsUnspaced (y ∷ ls)
-  unspaced_rest [] e s = s
-  unspaced_rest (c ∷ x) e s = let long : suc (length x) ≡ 0 = ap length e in absurd (omega arith)
+    unspaced_rest : (x : List ℕ) → x ≡ [] → StartsUnspaced (x ∷ y ∷ ls) → StartsUnspaced (y ∷ ls)
+    unspaced_rest [] e s = s
+    unspaced_rest (c ∷ x) e s = let long : suc (length x) ≡ 0 = ap length e in absurd (omega arith)
 
 -- the header that is written: characters at their places
 record Last (t : List ℕ) (k : ℕ) : Type 0 where
@@ -232,13 +231,14 @@ no_blank {t} {q} u l a b e =
     no_before t u q (no_white_there (code t (q - 1)) low) (λ long m. mark_there long m)
     (no_break_end t q (λ z. absurd (omega arith)) (λ z _. absurd (omega arith))) (λ z. let h = a.char in absurd (omega arith)) two_back
   where
-  no_white_there : (c : ℕ) → 33 ≤ c → is_white c ≡ false
-  no_white_there c low = ⊎_elim (λ (w : is_white c ≡ true). ⊎_elim (λ (h : c ≡ 32). absurd (omega arith)) (λ (h : c ≡ 9). absurd (omega arith)) (white_cases c w))
-      (λ (w : is_white c ≡ false). w) (cases_Bool (is_white c))
-  mark_there : 3 ≤ q → code t (q - 3) ≡ 0xFEFF → ⊥
-  mark_there long m =
-      let same : l.place + 1 - 3 ≡ q - 3 = omega (arith, l.is) in
-      mark_inside t l.place u l.high (omega (arith, l.is)) (ap (code t) same ∙ m)
+    no_white_there : (c : ℕ) → 33 ≤ c → is_white c ≡ false
+    no_white_there c low = ⊎_elim (λ (w : is_white c ≡ true). ⊎_elim (λ (h : c ≡ 32). absurd (omega arith)) (λ (h : c ≡ 9). absurd (omega arith)) (white_cases c w))
+        (λ (w : is_white c ≡ false). w) (cases_Bool (is_white c))
+
+    mark_there : 3 ≤ q → code t (q - 3) ≡ 0xFEFF → ⊥
+    mark_there long m =
+        let same : l.place + 1 - 3 ≡ q - 3 = omega (arith, l.is) in
+        mark_inside t l.place u l.high (omega (arith, l.is)) (ap (code t) same ∙ m)
 
 record Commented (t : List ℕ) (q : ℕ) (r : List ℕ) : Type 0 where
   place : ℕ
@@ -300,7 +300,7 @@ body_made : {t : List ℕ} {q : ℕ} (n : ℤ) (column : ℕ) (d : Option ℕ) (
     → IsUtf8 t → base n < column → AreLineTexts (x ∷ ls) → EndsWithContent (x ∷ ls) → (d ≡ None → StartsUnspaced (x ∷ ls)) → (o ≡ true → count ≡ 0)
     → Rest t q (indented column x ++ (literal_behind (map (indented column) ls) ++ (break_bytes c o ++ tail_bytes c count)))
     → Body t n (record { folded = f; digit = digit_of d (column - base n); chomp = c }) q (length t)
-        (record { lines = x ∷ ls; open_end = open_of c o; tail = tail_of c count; comments = [] })
+    (record { lines = x ∷ ls; open_end = open_of c o; tail = tail_of c count; comments = [] })
 body_made {t} {q} n column None f c x ls count o u right texts last first behind s =
     let lasts = lines_made ls x q u (omega arith) texts last (behind_made c o count behind) s in
     let taken = taken_made (tail_of c count) u lasts in

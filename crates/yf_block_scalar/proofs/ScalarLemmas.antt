@@ -1,9 +1,9 @@
 -- What is read is a scalar that can be written.
-use Rattle.std.proofs.Common.{◌≡◌, ◌≢◌, ℕ, ℤ, zero, suc, ◌+◌, ◌-◌, ◌<◌, ◌≤◌, max, Bool, true, false, true≢false, List, [], ◌∷◌, ◌++◌, length, take, drop, get_or, slice_range, Option, Some, None, refl, sym, ap, ◌∙◌, subst, arith, ⊎_elim, ◌⊎◌, length-append, length-drop, length-take, add-zero}
+use Rattle.std.proofs.Common.{◌≡◌, ◌≢◌, ℕ, ℤ, ◌+◌, ◌-◌, ◌<◌, ◌≤◌, Bool, true, false, true≢false, List, [], ◌∷◌, ◌++◌, length, take, drop, get_or, slice_range, Option, Some, None, refl, sym, ap, ◌∙◌, subst, arith, ⊎_elim, add-zero}
 use Rattle.std.proofs.Math.Seq.{take-append-add}
 use Rattle.std.proofs.lemmas.List.{get_or-drop, get_or-take}
 use Rattle.std.proofs.lemmas.Bool.{cases_Bool, cases_lt}
-use Rattle.std.proofs.lemmas.Str.{length-encode, drop_past_char, len_utf8_bounds}
+use Rattle.std.proofs.lemmas.Str.{length-encode, drop_past_char}
 use Rattle.std.specs.Char.{len_utf8}
 use Rattle.std.specs.Str.{IsUtf8}
 use lib.Utf8.{encode, encodes}
@@ -14,19 +14,20 @@ use Rattle.yf_chars.specs.Chain.Chain.{done, step}
 use Rattle.yf_chars.specs.Chain.One.{one}
 use Rattle.yf_chars.proofs.TextLemmas.{drop_there, code_from_byte, code-past}
 use Rattle.yf_chars.proofs.ChainLemmas.{chain_forward, one_functional}
-use Rattle.yf_lines.specs.Basic.{Spaces, Break}
-use Rattle.yf_lines.proofs.BasicLemmas.{break_char, break_unique}
+use Rattle.yf_lines.proofs.BasicLemmas.{break_char}
+use Rattle.yf_comments.specs.declared.comment.Comment.{Comment}
+use Rattle.yf_block_scalar.specs.declared.body.BlockText.{BlockText}
 use Rattle.yf_block_scalar.specs.declared.header.Header.{Header}
-use Rattle.yf_block_scalar.specs.Body.{SpaceLine, Bare, largest, Ends, Content, Line, Lines, Tail, Taken, Indented, Detected, Shallow, Body, BodyValue}
+use Rattle.yf_block_scalar.specs.Body.{Bare, largest, Ends, Content, Line, Lines, Taken, Indented, Body, BodyValue, body_value}
 use Rattle.yf_block_scalar.specs.Body.Bare.{bare}
 use Rattle.yf_block_scalar.specs.Body.Ends.{by_break, by_text}
 use Rattle.yf_block_scalar.specs.Body.Content.{content}
 use Rattle.yf_block_scalar.specs.Body.Line.{empty_line, content_line}
 use Rattle.yf_block_scalar.specs.Body.Lines.{no_content, up_to}
 use Rattle.yf_block_scalar.specs.Body.Body.{indicated, detected, without_content}
-use Rattle.yf_block_scalar.specs.Written.{AllNb, IsLineText, AreLineTexts, EndsWithContent, StartsUnspaced}
-use Rattle.yf_block_scalar.proofs.BodyLemmas.{no_nb_end, spaces_unique, break_no_space, bare_functional, indented_stuck}
-use Rattle.yf_block_scalar.proofs.UniqueLemmas.{content_text, some_first, not_empty_too, space_line_unique, lines_chain}
+use Rattle.yf_block_scalar.specs.Written.{AllNb, IsLineText, AreLineTexts, EndsWithContent, StartsUnspaced, IsCommentText, IsScalar}
+use Rattle.yf_block_scalar.proofs.BodyLemmas.{no_nb_end, indented_stuck}
+use Rattle.yf_block_scalar.proofs.UniqueLemmas.{content_text, not_empty_too, space_line_unique, lines_chain}
 
 -- the bytes of nb-chars
 code_nowhere : (t : List ℕ) (i : ℕ) → begins t i ≡ false → code t i ≡ no_char
@@ -48,9 +49,11 @@ one_bytes {t} {q} h ys u (one e) l more =
     let cut = drop_there t q u (nb_begins t q e) in
     let n_is = next_is t q in
     let behind : drop (next t q) t ≡ cut.0 = ap (λ w. drop w t) n_is ∙ drop_past_char t cut.0 q c cut.1 in
-    let long : h - q ≡ length (encode c) + (h - next t q) = omega (arith, length-encode c, n_is) in
-    (ap (λ w. take (h - q) w) cut.1 ∙ ap (λ w. take w (encode c ++ cut.0)) long ∙ take-append-add (encode c) cut.0 (h - next t q)
-    ∙ ap (λ w. encode c ++ take (h - next t q) w) (sym behind) ∙ ap (λ w. encode c ++ w) more.0, (e, more.1))
+    let long : h - q ≡ length (encode c) + (h - next t q) = omega (arith, length-encode c, n_is) in (
+      ap (λ w. take (h - q) w) cut.1 ∙ ap (λ w. take w (encode c ++ cut.0)) long ∙ take-append-add (encode c) cut.0 (h - next t q)
+          ∙ ap (λ w. encode c ++ take (h - next t q) w) (sym behind) ∙ ap (λ w. encode c ++ w) more.0,
+      (e, more.1),
+    )
 
 many_bytes : {t : List ℕ} {q h : ℕ} {y : List ℕ} → IsUtf8 t → Many t is_nb_char q h y → (take (h - q) (drop q t) ≡ encodes y) × AllNb y
 many_bytes {t} {q} u done = let none : q - q ≡ 0 = omega arith in (ap (λ w. take w (drop q t)) none, tt)
@@ -116,7 +119,7 @@ first_byte {t} {n} {i} {k} {h} u d l e =
     ⊎_elim (λ (w : i + k < length t).
     let room : 0 < h - (i + k) = omega arith in
     let same : get_or (slice_range t (i + k) h) 0 0 ≡ get_or t (i + k) 0 =
-        get_or-take (h - (i + k)) (drop (i + k) t) 0 0 room ∙ get_or-drop (i + k) t 0 0 ∙ ap (λ z. get_or t z 0) (add-zero (i + k)) in
+    get_or-take (h - (i + k)) (drop (i + k) t) 0 0 room ∙ get_or-drop (i + k) t 0 0 ∙ ap (λ z. get_or t z 0) (add-zero (i + k)) in
     let byte : get_or t (i + k) 0 ≡ 32 = sym same ∙ e in
     d.other.no_space (code_from_byte t (i + k) u w (omega arith) ∙ byte))
     (λ (w : length t ≤ i + k). d.other.inside (code-past t (i + k) w)) (cases_lt (i + k) (length t))
@@ -167,3 +170,18 @@ body_scalar u (detected e f a b) n = record {
   behind = taken_open a;
 }
 body_scalar u (without_content e c s b) n = absurd (n refl)
+
+no_comment_text : (c : Option Comment) → c ≡ None → IsCommentText c
+no_comment_text None e = tt
+no_comment_text (Some c) e = cc
+
+pub to_scalar : {t : List ℕ} {n : ℤ} {h : Header} {i j : ℕ} (b : BlockText) → IsUtf8 t → b.header ≡ h → b.comment ≡ None → Body t n h i j (body_value b) → b.lines ≢ [] → IsScalar b
+to_scalar b u same none body full =
+    let s = body_scalar u body full in
+    record {
+      lines = s.lines;
+      last = s.last;
+      first = λ e. s.first (sym (ap (λ (w : Header). w.digit) same) ∙ e);
+      comment = no_comment_text b.comment none;
+      behind = s.behind;
+    }

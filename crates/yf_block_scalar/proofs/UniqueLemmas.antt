@@ -1,21 +1,21 @@
 -- A block scalar is unique: one end and one meaning.
-use Rattle.std.proofs.Common.{◌≡◌, ◌≢◌, ℕ, ℤ, zero, suc, ◌+◌, ◌-◌, ◌<◌, ◌≤◌, Bool, true, false, true≢false, List, [], ◌∷◌, ◌++◌, length, take, drop, slice_range, replicate, Option, Some, None, refl, sym, ap, ◌∙◌, subst, arith, ⊎_elim, ◌⊎◌, inl, inr, append_assoc, append-nil, length-append, add-zero, length-take, length-drop}
+use Rattle.std.proofs.Common.{◌≡◌, ℕ, ℤ, zero, suc, ◌+◌, ◌-◌, ◌<◌, ◌≤◌, Bool, true, false, true≢false, List, [], ◌∷◌, ◌++◌, length, drop, slice_range, replicate, Some, None, refl, sym, ap, ◌∙◌, subst, arith, ⊎_elim, length-append, length-take, length-drop}
 use Rattle.std.proofs.lemmas.Bool.{cases_lt}
 use Rattle.std.proofs.lemmas.List.{length-replicate}
-use Rattle.yf_chars.specs.Text.{code, next, no_char}
+use Rattle.yf_chars.specs.Text.{code, no_char}
 use Rattle.yf_chars.specs.Class.{is_nb_char}
-use Rattle.yf_chars.specs.Chain.{Chain, Many, One, Stuck, Chosen, Functional}
+use Rattle.yf_chars.specs.Chain.{Chain, Many, One, Chosen, Functional}
 use Rattle.yf_chars.specs.Chain.Chain.{done, step}
 use Rattle.yf_chars.specs.Chain.One.{one}
 use Rattle.yf_chars.proofs.TextLemmas.{code-end, within_from_code}
 use Rattle.yf_chars.proofs.ChainLemmas.{Meets, chain_append, chain_one, chain_meet, stuck_unique}
 use Rattle.yf_chars.proofs.ChainLemmas.Meets.{goes_on, falls_short}
-use Rattle.yf_lines.specs.Basic.{Spaces, Break}
+use Rattle.yf_lines.specs.Basic.{Break}
 use Rattle.yf_lines.proofs.BasicLemmas.{break_char, break_forward, break_unique}
 use Rattle.yf_comments.specs.Comment.{CommentValue}
 use Rattle.yf_comments.specs.Comments.{LineEnd}
 use Rattle.yf_block_scalar.specs.declared.header.Header.{Header}
-use Rattle.yf_block_scalar.specs.Body.{SpaceLine, Bare, largest, Ends, Content, Line, Lines, Tail, Taken, Indented, Detected, Shallow, Trail, Body, BodyValue, base, least, is_gap_tail, first_noted}
+use Rattle.yf_block_scalar.specs.Body.{SpaceLine, Bare, largest, Ends, Content, Line, Lines, Taken, Indented, Detected, Shallow, Trail, Body, BodyValue, base, least, is_gap_tail, first_noted}
 use Rattle.yf_block_scalar.specs.Body.Bare.{bare}
 use Rattle.yf_block_scalar.specs.Body.Ends.{by_break, by_text}
 use Rattle.yf_block_scalar.specs.Body.Content.{content}

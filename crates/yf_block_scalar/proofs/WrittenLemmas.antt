@@ -1,27 +1,25 @@
 -- What is written is derived again: characters, lines and the whole scalar, from what stands behind a place.
-use Rattle.std.proofs.Common.{◌≡◌, ◌≢◌, ℕ, zero, suc, ◌+◌, ◌-◌, ◌<◌, ◌≤◌, Bool, true, false, true≢false, List, [], ◌∷◌, ◌++◌, length, map, take, drop, slice_range, replicate, refl, sym, ap, ◌∙◌, subst, arith, ⊎_elim, ◌⊎◌, inl, inr, append_assoc, append-nil, length-append, length-drop, length-take, add-zero, add_assoc, encode_utf8_all}
-use Rattle.std.proofs.Math.Seq.{take-append_seam, drop-length}
+use Rattle.std.proofs.Common.{◌≡◌, ◌≢◌, ℕ, zero, suc, ◌+◌, ◌-◌, ◌<◌, Bool, true, false, true≢false, List, [], ◌∷◌, ◌++◌, length, map, take, drop, slice_range, replicate, refl, sym, ap, ◌∙◌, subst, arith, ⊎_elim, ◌⊎◌, inl, inr, append_assoc, length-append, length-drop, add-zero}
+use Rattle.std.proofs.Math.Seq.{take-append_seam}
 use Rattle.std.proofs.lemmas.Bool.{cases_Bool}
 use Rattle.std.proofs.lemmas.Str as S
 use Rattle.std.proofs.lemmas.Str.{len_utf8_bounds, length-encode, encode_ascii, len_utf8_ascii, drop_past_char}
 use Rattle.std.specs.Char.{len_utf8}
-use Rattle.std.specs.Str.{chars, IsUtf8, IsCharBoundary}
+use Rattle.std.specs.Str.{IsUtf8, IsCharBoundary}
 use lib.Utf8.{encode, encodes}
 use Rattle.yf_chars.specs.Text.{code, next, before, last_or, Reads, no_char}
 use Rattle.yf_chars.specs.Class.{is_nb_char}
-use Rattle.yf_chars.specs.Chain.{Chain, Many, One, Stuck}
+use Rattle.yf_chars.specs.Chain.{Chain, Many}
 use Rattle.yf_chars.specs.Chain.Chain.{done, step}
 use Rattle.yf_chars.specs.Chain.One.{one}
-use Rattle.yf_chars.proofs.TextLemmas.{reads_char, reads_byte, code-end, code-past}
-use Rattle.yf_chars.proofs.ChainLemmas.{chain_more}
+use Rattle.yf_chars.proofs.TextLemmas.{reads_char, reads_byte}
 use Rattle.yf_lines.specs.Basic.{Spaces, Break, is_marker}
 use Rattle.yf_lines.specs.Basic.Break.{lone_lf}
-use Rattle.yf_block_scalar.specs.Body.{SpaceLine, Bare, largest, Ends, Content, Line, Lines, Tail, Taken}
+use Rattle.yf_block_scalar.specs.Body.{SpaceLine, Bare, Ends, Content, Line}
 use Rattle.yf_block_scalar.specs.Body.Bare.{bare}
 use Rattle.yf_block_scalar.specs.Body.Ends.{by_break, by_text}
 use Rattle.yf_block_scalar.specs.Body.Content.{content}
 use Rattle.yf_block_scalar.specs.Body.Line.{empty_line, content_line}
-use Rattle.yf_block_scalar.specs.Body.Lines.{up_to}
 use Rattle.yf_block_scalar.specs.Content.{feeds, literal_behind}
 use Rattle.yf_block_scalar.specs.Written.{indented, AllNb, IsLineText, AreLineTexts, EndsWithContent}
 use Rattle.yf_block_scalar.proofs.BodyLemmas.{no_nb_13, marker_code}
@@ -104,13 +102,13 @@ rest_break {t} {q} {r} u s =
     let got = rest_ascii 10 u (omega arith) (λ e. absurd (omega arith)) s in
     (lone_lf got.0.char (λ e. no_cr e got.0.char), got.1)
   where
-  no_cr : code t (q - 1) ≡ 13 → code t q ≡ 10 → ⊥
-  no_cr e f = ⊎_elim (λ (z : q ≡ 0). let same : q - 1 ≡ q = omega arith in let both : code t q ≡ 13 = ap (code t) (sym same) ∙ e in absurd (omega arith))
-      (λ (z : 0 < q).
-      let read = reads_byte t (q - 1) 13 u e (omega arith) in
-      let same : q - 1 + 1 ≡ q = omega arith in
-      s.clean (ap (before t) (sym same) ∙ read.back))
-      (zero_or q)
+    no_cr : code t (q - 1) ≡ 13 → code t q ≡ 10 → ⊥
+    no_cr e f = ⊎_elim (λ (z : q ≡ 0). let same : q - 1 ≡ q = omega arith in let both : code t q ≡ 13 = ap (code t) (sym same) ∙ e in absurd (omega arith))
+        (λ (z : 0 < q).
+        let read = reads_byte t (q - 1) 13 u e (omega arith) in
+        let same : q - 1 + 1 ≡ q = omega arith in
+        s.clean (ap (before t) (sym same) ∙ read.back))
+        (zero_or q)
 
 -- a content line that is written
 pub some_chars : (cs : List ℕ) → encodes cs ≢ [] → 0 < length (encodes cs)
@@ -158,7 +156,7 @@ content_made : {t : List ℕ} {k q : ℕ} {x r r' : List ℕ} {o : Bool} → IsU
 content_made {t} {k} {q} {x} {r} {r'} {o} u pos text full b s =
     let bytes : encodes text.chars ≡ x = text.bytes in
     let shape : indented k x ++ r ≡ replicate k 32 ++ (encodes text.chars ++ r) =
-        ap (λ w. w ++ r) (indented_full k x full) ∙ append_assoc (replicate k 32) x r ∙ ap (λ w. replicate k 32 ++ (w ++ r)) (sym bytes) in
+    ap (λ w. w ++ r) (indented_full k x full) ∙ append_assoc (replicate k 32) x r ∙ ap (λ w. replicate k 32 ++ (w ++ r)) (sym bytes) in
     let s' : Rest t q (replicate k 32 ++ (encodes text.chars ++ r)) = subst (λ w. Rest t q w) shape s in
     let spaces = rest_spaces k q u s' in
     let chars = rest_chars text.chars (q + k) u text.each spaces.1 in
@@ -168,7 +166,7 @@ content_made {t} {k} {q} {x} {r} {r'} {o} u pos text full b s =
     let first : code t q ≡ 32 = ap (code t) (sym (add-zero q)) ∙ spaces.0.each 0 pos in
     let made : Content t k q end.place (slice_range t (q + k) h) o = content spaces.0 chars.0.1 (omega arith) end.ends (space_marker t q first) in
     let slice : slice_range t (q + k) h ≡ x =
-        ap (λ w. take (h - (q + k)) w) spaces.1.bytes ∙ taken_back (encodes text.chars) r (q + k) h refl ∙ bytes in
+    ap (λ w. take (h - (q + k)) w) spaces.1.bytes ∙ taken_back (encodes text.chars) r (q + k) h refl ∙ bytes in
     record { place = end.place; line = subst (λ w. Content t k q end.place w o) slice made; rest = end.rest }
 
 -- an empty line that is written
@@ -218,16 +216,16 @@ lines_made {t} {k} {o} {post} {r} (y ∷ ls) x q u pos texts full b s =
     let s' : Rest t q (indented k x ++ (10 ∷ (indented k y ++ (literal_behind (map (indented k) ls) ++ post)))) = subst (λ w. Rest t q w) (behind_line k x y ls post) s in
     ⊎_elim
     (λ (e : x ≡ []).
-      let bare : Rest t q (10 ∷ (indented k y ++ (literal_behind (map (indented k) ls) ++ post))) =
-          subst (λ w. Rest t q (indented k w ++ (10 ∷ (indented k y ++ (literal_behind (map (indented k) ls) ++ post))))) e s' in
-      let got = empty_made u bare in
-      let more = lines_made ls y (q + 1) u pos texts.1 full b got.1 in
-      let line : Line t k q (q + 1) ([] ∷ []) = empty_line got.0 (omega arith) in
-      lasts_more (subst (λ w. Line t k q (q + 1) (w ∷ [])) (sym e) line) more)
+    let bare : Rest t q (10 ∷ (indented k y ++ (literal_behind (map (indented k) ls) ++ post))) =
+    subst (λ w. Rest t q (indented k w ++ (10 ∷ (indented k y ++ (literal_behind (map (indented k) ls) ++ post))))) e s' in
+    let got = empty_made u bare in
+    let more = lines_made ls y (q + 1) u pos texts.1 full b got.1 in
+    let line : Line t k q (q + 1) ([] ∷ []) = empty_line got.0 (omega arith) in
+    lasts_more (subst (λ w. Line t k q (q + 1) (w ∷ [])) (sym e) line) more)
     (λ (n : x ≢ []).
-      let made = content_made u pos texts.0 n break_behind s' in
-      let more = lines_made ls y made.place u pos texts.1 full b made.rest in
-      lasts_more (content_line made.line) more)
+    let made = content_made u pos texts.0 n break_behind s' in
+    let more = lines_made ls y made.place u pos texts.1 full b made.rest in
+    lasts_more (content_line made.line) more)
     (empty_or x)
 
 -- the tail that is written

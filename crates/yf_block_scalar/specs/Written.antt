@@ -1,7 +1,7 @@
 -- How a block scalar is written (YAML 1.2.2, section 8.1) at a column, counted from 0, that lies so many columns (the
 -- width, 1 to 9) right of the indentation around it. Texts are bytes.
 use Rattle.yf_chars.specs.Class.{is_nb_char}
-use Rattle.std.specs.Prelude.{length, encode_utf8_all, ◌≡◌, ◌≢◌, ℕ, ◌+◌, ◌-◌, ℤ, Bool, true, false, List, [], ◌∷◌, ◌++◌, map, replicate, if◌then◌else◌, Option, Some, None}
+use Rattle.std.specs.Prelude.{length, encode_utf8_all, ◌≡◌, ◌≢◌, ℕ, ◌+◌, ◌-◌, ℤ, Bool, true, List, [], ◌∷◌, ◌++◌, map, replicate, if◌then◌else◌, Option, Some, None}
 use Rattle.yf_comments.specs.declared.comment.Comment.{Comment}
 use Rattle.yf_block_scalar.specs.declared.body.BlockText.{BlockText}
 use Rattle.yf_block_scalar.specs.declared.header.Header.{Header}

@@ -24,7 +24,13 @@ use yf_lines::fault::Fault;
 /// # Errors
 ///
 /// `Fault::Memory` where a growth of memory was refused; the text is then as it was.
-pub fn write_block(alloc: Global, out: &mut String, block: &BlockText, column: usize, n: i32) -> Result<(), Fault>
+pub fn write_block(
+    alloc: Global,
+    out: &mut String,
+    block: &BlockText,
+    column: usize,
+    n: i32,
+) -> Result<(), Fault>
     requires small { n ≤ℤ pos (2 ^ 30) }
     requires right { base n < column }
     requires near { column ≤ base n + 9 }
@@ -49,12 +55,22 @@ fn write_new(alloc: Global, block: &BlockText, column: usize, n: i32) -> Result<
     ensures { IfOk result (λ text. string_bytes text ≡ written_of block.now column n) }
 {
     let mut text = String::new(alloc);
-    push_header(&mut text, &block.header, &block.comment, column - base_of(n))?;
+    push_header(
+        &mut text,
+        &block.header,
+        &block.comment,
+        column - base_of(n),
+    )?;
     push_body(&mut text, block, column)?;
     Ok(text)
 }
 
-fn push_header(text: &mut String, header: &Header, comment: &Option<Comment>, width: usize) -> Result<(), AllocError>
+fn push_header(
+    text: &mut String,
+    header: &Header,
+    comment: &Option<Comment>,
+    width: usize,
+) -> Result<(), AllocError>
     requires { width ≤ 9 }
     ensures { OnOk result (string_bytes text.new ≡ string_bytes text.old ++ header_bytes header.now comment.now width) }
 {
