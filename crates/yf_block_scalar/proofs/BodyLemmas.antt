@@ -1,18 +1,18 @@
 -- Laws of the lines of a block scalar: where they end, that they are unique, and how a scalar is read line by line.
-use Rattle.std.proofs.Common.{◌≡◌, ◌≢◌, ℕ, zero, suc, ◌+◌, ◌-◌, ◌<◌, ◌≤◌, ℤ, max, Bool, true, false, true≢false, List, [], ◌∷◌, ◌++◌, length, MatchBool, take, drop, slice_range, refl, sym, ap, ◌∙◌, subst, arith, ⊎_elim, ◌⊎◌, inl, inr, append_assoc, append-nil, add-zero, length-append}
+use Rattle.std.proofs.Common.{◌≡◌, ◌≢◌, ℕ, zero, suc, ◌+◌, ◌-◌, ◌<◌, ◌≤◌, ℤ, max, Bool, true, false, true≢false, List, [], ◌∷◌, ◌++◌, length, MatchBool, take, slice_range, refl, sym, ap, ◌∙◌, subst, arith, ⊎_elim, ◌⊎◌, inl, inr, append_assoc, append-nil, add-zero, length-append}
 use Rattle.std.proofs.Math.Seq.{take-append_seam}
 use Rattle.std.proofs.lemmas.Bool.{cases_eq, cases_lt}
 use Rattle.std.specs.Str.{IsUtf8, IsCharBoundary}
-use Rattle.yf_chars.specs.Text.{code, next, Reads, no_char}
+use Rattle.yf_chars.specs.Text.{code, next, no_char}
 use Rattle.yf_chars.specs.Class.{is_nb_char, is_printable, is_between, is_break_char}
-use Rattle.yf_chars.specs.Chain.{Chain, Many, Stuck, Chosen, Functional, Nowhere}
+use Rattle.yf_chars.specs.Chain.{Chain, Many, Stuck, Functional, Nowhere}
 use Rattle.yf_chars.specs.Chain.Chain.{done, step}
 use Rattle.yf_chars.proofs.TextLemmas.{reads_byte, reads_real, code-end, next-mark, code_at_boundary}
-use Rattle.yf_chars.proofs.ChainLemmas.{chain_append, chain_one, chain_more, many_chosen, many_unique, stuck_unique}
+use Rattle.yf_chars.proofs.ChainLemmas.{chain_more, many_unique, stuck_unique}
 use Rattle.yf_lines.specs.Basic.{Spaces, Break, LineStart, is_marker}
 use Rattle.yf_lines.specs.Basic.LineStart.{after_break}
 use Rattle.yf_lines.proofs.BasicLemmas.{break_char, break_forward, break_unique, no_break_here, no_marker, three_first}
-use Rattle.yf_block_scalar.specs.Body.{SpaceLine, Bare, largest, Ends, Content, Line, Lines, Tail, Taken, Other, Indented, Detected, Shallow, MarkerLine, least}
+use Rattle.yf_block_scalar.specs.Body.{SpaceLine, Bare, largest, Ends, Content, Line, Lines, Tail, Taken, Other, Indented, Detected, Shallow, MarkerLine}
 use Rattle.yf_block_scalar.specs.Body.Bare.{bare}
 use Rattle.yf_block_scalar.specs.Body.Ends.{by_break, by_text}
 use Rattle.yf_block_scalar.specs.Body.Content.{content}
@@ -58,7 +58,7 @@ space_line_there t at e j l s b =
     record { spaces = s; ends = subst (λ h. Break t h j) same b }
 
 -- nb-chars end at a break and at the end of the text
-no_nb_13 : is_nb_char 13 ≡ false
+pub no_nb_13 : is_nb_char 13 ≡ false
 unfolding is_nb_char is_printable is_between is_break_char
 no_nb_13 = refl
 
@@ -234,7 +234,7 @@ stuck_at t i c e s a b =
     let q : code t (i + 0) ≡ c = ap (code t) here ∙ e in
     bare_stuck t i 0 (record { each = λ m l. absurd (omega arith) }) (λ h. s (sym q ∙ h)) (no_break_code t (i + 0) c q a b)
 
-marker_code : (t : List ℕ) (i : ℕ) → is_marker t i ≡ true → (code t i ≡ 45) ⊎ (code t i ≡ 46)
+pub marker_code : (t : List ℕ) (i : ℕ) → is_marker t i ≡ true → (code t i ≡ 45) ⊎ (code t i ≡ 46)
 marker_code t i e =
     ⊎_elim (λ (h : code t i ≡ 45). inl h) (λ (n : code t i ≢ 45).
     ⊎_elim (λ (h : code t i ≡ 46). inr h) (λ (m : code t i ≢ 46).

@@ -1,14 +1,14 @@
 -- The header of a block scalar: its indicators are unique before white, a break or the end of the text, and so it is.
-use Rattle.std.proofs.Common.{◌≡◌, ◌≢◌, ℕ, ◌+◌, ◌-◌, ◌<◌, ◌≤◌, Bool, true, false, true≢false, List, [], ◌∷◌, ◌++◌, length, Option, Some, None, refl, sym, ap, ◌∙◌, subst, arith, ⊎_elim, ◌⊎◌, inl, inr, get_or}
+use Rattle.std.proofs.Common.{◌≡◌, ◌≢◌, ℕ, ◌+◌, ◌-◌, ◌<◌, ◌≤◌, Bool, true, false, List, length, Option, Some, None, refl, sym, ap, ◌∙◌, subst, arith, ⊎_elim, ◌⊎◌, inl, inr, get_or}
 use Rattle.std.proofs.lemmas.Bool.{cases_eq, cases_Bool, eqb-true, and_parts, leb-true, le-leb}
 use Rattle.std.specs.Str.{IsUtf8, IsCharBoundary}
-use Rattle.yf_chars.specs.Text.{code, next, no_char}
-use Rattle.yf_chars.specs.Class.{is_white, is_white_or_end, is_between, is_break_char}
-use Rattle.yf_chars.specs.Chain.{Chain, Many, Stuck, Chosen, One}
+use Rattle.yf_chars.specs.Text.{code, no_char}
+use Rattle.yf_chars.specs.Class.{is_white, is_white_or_end, is_between}
+use Rattle.yf_chars.specs.Chain.{Many, Stuck, Chosen, One}
 use Rattle.yf_chars.specs.Chain.Chain.{done, step}
 use Rattle.yf_chars.specs.Chain.One.{one}
 use Rattle.yf_chars.proofs.TextLemmas.{code-end, code-past, code-inside, code_from_byte, byte_from_code, reads_ascii, bytes_from_mark}
-use Rattle.yf_lines.specs.Basic.{Break, LineStart, SeparateInLine}
+use Rattle.yf_lines.specs.Basic.{LineStart, SeparateInLine}
 use Rattle.yf_lines.specs.Basic.SeparateInLine.{by_whites, at_start}
 use Rattle.yf_lines.proofs.BasicLemmas.{break_char, white_cases, no_break_end, no_start, ends_by_white, ends_by_code, ends_at_lf, ends_at_cr, ends_at_end, ends_not}
 use Rattle.yf_comments.specs.Comment.{CommentValue}
@@ -16,9 +16,8 @@ use Rattle.yf_comments.specs.Comments.{BreakOrEnd, LineRest}
 use Rattle.yf_comments.specs.Comments.BreakOrEnd.{by_break, by_end}
 use Rattle.yf_comments.specs.Comments.LineRest.{nothing, whites, comment}
 use Rattle.yf_comments.proofs.RowLemmas.{rest_unique}
-use Rattle.yf_block_scalar.specs.declared.header.Header.{Header}
 use Rattle.yf_block_scalar.specs.declared.header.Chomp.{Chomp}
-use Rattle.yf_block_scalar.specs.declared.header.Chomp.TheVariants.{Strip, Clip, Keep}
+use Rattle.yf_block_scalar.specs.declared.header.Chomp.TheVariants.{Clip}
 use Rattle.yf_block_scalar.specs.Header.{Style, Digit, Sign, Indicators, BlockHeader, HeaderValue}
 use Rattle.yf_block_scalar.specs.Header.Style.{literal_sign, folded_sign}
 use Rattle.yf_block_scalar.specs.Header.Digit.{digit}
@@ -165,6 +164,13 @@ only_neither {t} {i} n m k e f x s = here x s where
   here (digit_sign {h = h} {d = d} x y) s = absurd (n h d x)
   here (sign_digit {h = h} {c = c} y x) s = absurd (m h c y)
 
+pub mark_inside : (t : List ℕ) (i : ℕ) → IsUtf8 t → code t i < 128 → 3 ≤ i + 1 → code t ((i + 1) - 3) ≢ 0xFEFF
+mark_inside t i u high l w =
+    let b = bytes_from_mark t ((i + 1) - 3) u w in
+    let p : i ≡ ((i + 1) - 3) + 2 = omega arith in
+    let inside : code t i ≡ no_char = ap (code t) p ∙ code-inside t (((i + 1) - 3) + 2) (omega (arith, b.3)) (omega (arith, b.3)) in
+    absurd (omega arith)
+
 -- behind a header's characters no line starts
 pub inside_line : (t : List ℕ) (i : ℕ) → IsUtf8 t → 33 ≤ code t i → code t i < 128 → LineStart t (i + 1) → ⊥
 inside_line t i u low high =
@@ -172,13 +178,6 @@ inside_line t i u low high =
     let q : code t ((i + 1) - 1) ≡ code t i = ap (code t) e in
     no_start t (i + 1) (λ z. absurd (omega arith)) (mark_inside t i u high)
     (no_break_end t (i + 1) (λ w. absurd (omega arith)) (λ w _. absurd (omega arith)))
-  where
-  mark_inside : (t : List ℕ) (i : ℕ) → IsUtf8 t → code t i < 128 → 3 ≤ i + 1 → code t ((i + 1) - 3) ≢ 0xFEFF
-  mark_inside t i u high l w =
-      let b = bytes_from_mark t ((i + 1) - 3) u w in
-      let p : i ≡ ((i + 1) - 3) + 2 = omega arith in
-      let inside : code t i ≡ no_char = ap (code t) p ∙ code-inside t (((i + 1) - 3) + 2) (omega (arith, b.3)) (omega (arith, b.3)) in
-      absurd (omega arith)
 
 style_inside : {t : List ℕ} {i j : ℕ} {f : Bool} → IsUtf8 t → Style t i j f → LineStart t j → ⊥
 style_inside {t} {i} u (literal_sign e) s = inside_line t i u (omega arith) (omega arith) s
@@ -244,7 +243,7 @@ header_same {t} {i} {h} {k} {f = f} {d = d} {c = c} u a only (block_header {h = 
     let digit_is : Option ℕ → HeaderValue = λ w. record { header = record { folded = f; digit = w; chomp = q }; comments = x } in
     let chomp_is : Chomp → HeaderValue = λ w. record { header = record { folded = f; digit = d; chomp = w }; comments = x } in
     let header_is : record { header = record { folded = e; digit = p; chomp = q }; comments = x } ≡ record { header = record { folded = f; digit = d; chomp = c }; comments = x } =
-        ap folded_are e1.1 ∙ ap digit_is e2.1 ∙ ap chomp_is e2.2 in
+    ap folded_are e1.1 ∙ ap digit_is e2.1 ∙ ap chomp_is e2.2 in
     subst (λ w. Same t h k f d c j w) (sym header_is) made
 
 pub header_stuck : {t : List ℕ} {i h k : ℕ} {f : Bool} {d : Option ℕ} {c : Chomp} → IsUtf8 t → Style t i h f → Only t h k d c
@@ -268,6 +267,7 @@ header_chosen {t} {i} {h} {k} {j} {f} {d} {c} {x} u a y only r = record {
 } where
   rest_longest : {m : ℕ} {v : HeaderValue} → Same t h k f d c m v → m ≤ j
   rest_longest (same {j = m} q) = let e = (rest_unique q r).0 in omega arith
+
   rest_only : {m : ℕ} {v : HeaderValue} → Same t h k f d c m v → v ≡ record { header = record { folded = f; digit = d; chomp = c }; comments = x }
   rest_only (same q) =
       let comments_are : List CommentValue → HeaderValue = λ w. record { header = record { folded = f; digit = d; chomp = c }; comments = w } in

@@ -1,7 +1,7 @@
 -- From the first line that is not of spaces alone to the indentation of the content.
-use Rattle.std.proofs.Common.{◌≡◌, ℕ, ℤ, ◌≤◌, ◌<◌, List, length, sym, ap, ◌∙◌, subst, arith}
+use Rattle.std.proofs.Common.{◌≡◌, ℕ, ℤ, ◌<◌, List, length, sym, ◌∙◌, subst, arith}
 use Rattle.yf_chars.specs.Chain.{Chain}
-use Rattle.yf_block_scalar.specs.Body.{Bare, largest, Shallow, Indented, Detected}
+use Rattle.yf_block_scalar.specs.Body.{Bare, largest, Shallow}
 use Rattle.yf_block_scalar.specs.Indentation.{Judges, Finds}
 use Rattle.yf_block_scalar.specs.declared.indent.Indentation.{Indentation}
 use Rattle.yf_block_scalar.specs.declared.indent.Indentation.TheVariants.{Found, Missing, TooLong}

@@ -3,5 +3,8 @@ pub mod ContentLemmas
 pub mod HeaderLemmas
 pub mod IndentLemmas
 pub mod ReaderLemmas
+pub mod ScalarLemmas
 pub mod TrailLemmas
 pub mod UniqueLemmas
+pub mod WrittenLemmas
+pub mod DerivedLemmas

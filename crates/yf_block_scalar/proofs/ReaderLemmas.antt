@@ -1,5 +1,5 @@
 -- A block scalar from its parts, and that there is none.
-use Rattle.std.proofs.Common.{◌≡◌, ℕ, ℤ, ◌+◌, Bool, false, List, [], length, Option, Some, None, refl, sym, ap, ◌∙◌, subst}
+use Rattle.std.proofs.Common.{◌≡◌, ℕ, ℤ, ◌+◌, Bool, false, List, [], length, Some, None, sym, ap, ◌∙◌, subst}
 use Rattle.yf_chars.specs.Chain.{Chain, Stuck}
 use Rattle.yf_comments.specs.Comment.{CommentValue}
 use Rattle.yf_block_scalar.specs.declared.header.Header.{Header}
@@ -36,7 +36,7 @@ pub body_without : {t : List ℕ} {i p j count k : ℕ} {x : List CommentValue} 
 body_without {t} {i} {p} {j} {count} {k} {x} n h widths v e f s l q b c z o m =
     let b' : Trail t (least n) p j x = subst (λ w. Trail t w p j x) q b in
     let made : Body t n h i j (record { lines = []; open_end = false; tail = length widths; comments = first_noted (is_gap_tail h.chomp (length widths)) x }) =
-        without_content e f s b' in
+    without_content e f s b' in
     let c' : v.comments ≡ first_noted (is_gap_tail h.chomp (length widths)) x = c ∙ ap (λ w. first_noted (is_gap_tail h.chomp w) x) (sym l) in
     let same : v ≡ record { lines = []; open_end = false; tail = length widths; comments = first_noted (is_gap_tail h.chomp (length widths)) x } = value_is z o (m ∙ sym l) c' in
     subst (λ w. Body t n h i j w) (sym same) made

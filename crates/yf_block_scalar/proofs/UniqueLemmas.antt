@@ -1,21 +1,21 @@
 -- A block scalar is unique: one end and one meaning.
-use Rattle.std.proofs.Common.{◌≡◌, ◌≢◌, ℕ, ℤ, zero, suc, ◌+◌, ◌-◌, ◌<◌, ◌≤◌, Bool, true, false, true≢false, List, [], ◌∷◌, ◌++◌, length, take, drop, slice_range, replicate, Option, Some, None, refl, sym, ap, ◌∙◌, subst, arith, ⊎_elim, ◌⊎◌, inl, inr, append_assoc, append-nil, length-append, add-zero, length-take, length-drop}
+use Rattle.std.proofs.Common.{◌≡◌, ℕ, ℤ, zero, suc, ◌+◌, ◌-◌, ◌<◌, ◌≤◌, Bool, true, false, true≢false, List, [], ◌∷◌, ◌++◌, length, drop, slice_range, replicate, Some, None, refl, sym, ap, ◌∙◌, subst, arith, ⊎_elim, length-append, length-take, length-drop}
 use Rattle.std.proofs.lemmas.Bool.{cases_lt}
 use Rattle.std.proofs.lemmas.List.{length-replicate}
-use Rattle.yf_chars.specs.Text.{code, next, no_char}
+use Rattle.yf_chars.specs.Text.{code, no_char}
 use Rattle.yf_chars.specs.Class.{is_nb_char}
-use Rattle.yf_chars.specs.Chain.{Chain, Many, One, Stuck, Chosen, Functional}
+use Rattle.yf_chars.specs.Chain.{Chain, Many, One, Chosen, Functional}
 use Rattle.yf_chars.specs.Chain.Chain.{done, step}
 use Rattle.yf_chars.specs.Chain.One.{one}
 use Rattle.yf_chars.proofs.TextLemmas.{code-end, within_from_code}
 use Rattle.yf_chars.proofs.ChainLemmas.{Meets, chain_append, chain_one, chain_meet, stuck_unique}
 use Rattle.yf_chars.proofs.ChainLemmas.Meets.{goes_on, falls_short}
-use Rattle.yf_lines.specs.Basic.{Spaces, Break}
+use Rattle.yf_lines.specs.Basic.{Break}
 use Rattle.yf_lines.proofs.BasicLemmas.{break_char, break_forward, break_unique}
 use Rattle.yf_comments.specs.Comment.{CommentValue}
 use Rattle.yf_comments.specs.Comments.{LineEnd}
 use Rattle.yf_block_scalar.specs.declared.header.Header.{Header}
-use Rattle.yf_block_scalar.specs.Body.{SpaceLine, Bare, largest, Ends, Content, Line, Lines, Tail, Taken, Indented, Detected, Shallow, Trail, Body, BodyValue, base, least, is_gap_tail, first_noted}
+use Rattle.yf_block_scalar.specs.Body.{SpaceLine, Bare, largest, Ends, Content, Line, Lines, Taken, Indented, Detected, Shallow, Trail, Body, BodyValue, base, least, is_gap_tail, first_noted}
 use Rattle.yf_block_scalar.specs.Body.Bare.{bare}
 use Rattle.yf_block_scalar.specs.Body.Ends.{by_break, by_text}
 use Rattle.yf_block_scalar.specs.Body.Content.{content}
@@ -55,7 +55,7 @@ many_nb : {t : List ℕ} {i j : ℕ} {x : List ℕ} → Many t is_nb_char i j x 
 many_nb done l = absurd (omega arith)
 many_nb (step s c) l = one_nb s
 
-not_empty_too : {t : List ℕ} {k i m j l : ℕ} {x : List ℕ} {o : Bool} → SpaceLine t i m j → m ≤ k → Content t k i l x o → ⊥
+pub not_empty_too : {t : List ℕ} {k i m j l : ℕ} {x : List ℕ} {o : Bool} → SpaceLine t i m j → m ≤ k → Content t k i l x o → ⊥
 not_empty_too {t} {k} {i} {m} s l (content a n b q c) =
     ⊎_elim (λ (h : m < k). break_no_space s.ends (a.each m h))
     (λ (h : k ≤ m).
@@ -63,7 +63,7 @@ not_empty_too {t} {k} {i} {m} s l (content a n b q c) =
     true≢false (sym (many_nb n b) ∙ ap (λ w. is_nb_char (code t (i + w))) (sym same) ∙ break_no_nb s.ends))
     (cases_lt m k)
 
-space_line_unique : {t : List ℕ} {i m d j k : ℕ} → SpaceLine t i m j → SpaceLine t i d k → j ≡ k
+pub space_line_unique : {t : List ℕ} {i m d j k : ℕ} → SpaceLine t i m j → SpaceLine t i d k → j ≡ k
 space_line_unique {t} {i} {k = k} a b =
     let same = spaces_unique a.spaces (break_no_space a.ends) b.spaces (break_no_space b.ends) in
     break_unique a.ends (subst (λ w. Break t (i + w) k) (sym same) b.ends)
@@ -142,11 +142,11 @@ ends_within {t} {h} (by_break b) =
     omega arith
 ends_within (by_text e) = omega arith
 
-some_first : (x : List ℕ) → 0 < length x → (c : ℕ) × (y : List ℕ) × (x ≡ c ∷ y)
+pub some_first : (x : List ℕ) → 0 < length x → (c : ℕ) × (y : List ℕ) × (x ≡ c ∷ y)
 some_first [] l = absurd (omega arith)
 some_first (c ∷ y) l = (c, y, refl)
 
-content_text : {t : List ℕ} {k i j : ℕ} {x : List ℕ} {o : Bool} → Content t k i j x o → 0 < length x
+pub content_text : {t : List ℕ} {k i j : ℕ} {x : List ℕ} {o : Bool} → Content t k i j x o → 0 < length x
 content_text {t} {k} {i} (content {h = h} a m b q c) =
     let w = ends_within q in
     omega (arith, length-take (h - (i + k)) (drop (i + k) t), length-drop (i + k) t)
@@ -157,7 +157,7 @@ lines_trimmed (up_to {ls = ls} {x = x} c d) =
     let f = some_first x (content_text d) in
     ap (λ w. trimmed (ls ++ w ∷ [])) f.2 ∙ trimmed-full ls f.0 f.1 ∙ ap (λ w. ls ++ w ∷ []) (sym f.2)
 
-lines_chain : {t : List ℕ} {k i j : ℕ} {ls : List (List ℕ)} {o : Bool} → Lines t k i j ls o → Chain (Line t k) i j ls
+pub lines_chain : {t : List ℕ} {k i j : ℕ} {ls : List (List ℕ)} {o : Bool} → Lines t k i j ls o → Chain (Line t k) i j ls
 lines_chain no_content = done
 lines_chain (up_to c d) = chain_append c (chain_one (content_line d))
 

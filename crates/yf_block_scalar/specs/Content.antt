@@ -1,7 +1,7 @@
 -- What a block scalar means (YAML 1.2.2, sections 8.1.1.2, 8.1.2 and 8.1.3) as a function of its lines: those from the
 -- first one behind the header to the last content line, without their indentation and breaks, an empty line as [].
 -- Texts are bytes of UTF-8; 10 is the line feed.
-use Rattle.std.specs.Prelude.{◌≡◌, ℕ, ◌+◌, ◌==◌, Bool, true, false, ◌||◌, List, [], ◌∷◌, ◌++◌, if◌then◌else◌, replicate}
+use Rattle.std.specs.Prelude.{ℕ, ◌+◌, ◌==◌, Bool, true, false, ◌||◌, List, [], ◌∷◌, ◌++◌, if◌then◌else◌, replicate}
 use Rattle.yf_chars.specs.Class.{is_white}
 use Rattle.yf_block_scalar.specs.declared.header.Header.{Header}
 use Rattle.yf_block_scalar.specs.declared.header.Chomp.{Chomp}

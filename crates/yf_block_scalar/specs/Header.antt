@@ -1,5 +1,5 @@
 -- The header of a block scalar (YAML 1.2.2, section 8.1.1) as relations between byte offsets of a text t.
-use Rattle.std.specs.Prelude.{◌≡◌, ℕ, ◌+◌, ◌-◌, Bool, true, false, List, [], Option, Some, None}
+use Rattle.std.specs.Prelude.{◌≡◌, ℕ, ◌+◌, ◌-◌, Bool, true, false, List, Option, Some, None}
 use Rattle.yf_chars.specs.Text.{code}
 use Rattle.yf_chars.specs.Class.{is_between}
 use Rattle.yf_comments.specs.declared.comment.Comment.{Comment}

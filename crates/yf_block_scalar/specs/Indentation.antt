@@ -1,9 +1,8 @@
 -- What the reader finds out about the indentation of a scalar's content, where the header does not give it.
-use Rattle.std.specs.Prelude.{◌≡◌, ℕ, ◌+◌, ◌<◌, ◌≤◌, ℤ, List, length}
+use Rattle.std.specs.Prelude.{◌≡◌, ℕ, ◌<◌, ◌≤◌, ℤ, List, length}
 use Rattle.std.specs.Str.{IsCharBoundary}
 use Rattle.yf_chars.specs.Chain.{Chain}
-use Rattle.yf_lines.specs.Basic.{Spaces}
-use Rattle.yf_block_scalar.specs.Body.{Bare, largest, Indented, Detected, Shallow}
+use Rattle.yf_block_scalar.specs.Body.{Bare, Indented, Detected, Shallow}
 use Rattle.yf_block_scalar.specs.declared.indent.Indentation.{Indentation}
 use Rattle.yf_block_scalar.specs.declared.indent.Indentation.TheVariants.{Found, Missing, TooLong}
 

@@ -1,5 +1,5 @@
 -- Where a line of a text begins.
-use Rattle.std.specs.Prelude.{ℕ, List, length, slice_get, Option, Some, None}
+use Rattle.std.specs.Prelude.{ℕ, length, slice_get, Option, Some, None}
 use Rattle.yf_lines.specs.Lines.{Table}
 use Rattle.yf_lines.specs.declared.line.Line.{Line}
 

@@ -1,13 +1,15 @@
 -- How a block scalar is written (YAML 1.2.2, section 8.1) at a column, counted from 0, that lies so many columns (the
 -- width, 1 to 9) right of the indentation around it. Texts are bytes.
-use Rattle.std.specs.Prelude.{ℕ, ◌+◌, ◌-◌, ℤ, Bool, true, false, List, [], ◌∷◌, ◌++◌, map, replicate, if◌then◌else◌, Option, Some, None}
+use Rattle.yf_chars.specs.Class.{is_nb_char}
+use Rattle.std.specs.Prelude.{length, encode_utf8_all, ◌≡◌, ◌≢◌, ℕ, ◌+◌, ◌-◌, ℤ, Bool, true, List, [], ◌∷◌, ◌++◌, map, replicate, if◌then◌else◌, Option, Some, None}
 use Rattle.yf_comments.specs.declared.comment.Comment.{Comment}
 use Rattle.yf_block_scalar.specs.declared.body.BlockText.{BlockText}
 use Rattle.yf_block_scalar.specs.declared.header.Header.{Header}
 use Rattle.yf_block_scalar.specs.declared.header.Chomp.{Chomp}
 use Rattle.yf_block_scalar.specs.declared.header.Chomp.TheVariants.{Strip, Clip, Keep}
-use Rattle.yf_block_scalar.specs.Body.{base}
-use Rattle.yf_block_scalar.specs.Content.{feeds, literal}
+use Rattle.yf_block_scalar.specs.Body.{base, Body, BodyValue}
+use Rattle.yf_block_scalar.specs.Header.{BlockHeader, HeaderValue}
+use Rattle.yf_block_scalar.specs.Content.{feeds, literal, content_of}
 
 abbrev pub style_bytes : Bool → List ℕ
 style_bytes b = if b then 62 ∷ [] else 124 ∷ []
@@ -53,3 +55,52 @@ body_bytes c (x ∷ ls) tail open_end column = literal (map (indented column) (x
 
 abbrev pub written_of : BlockText → ℕ → ℤ → List ℕ
 written_of b column n = header_bytes b.header b.comment (column - base n) ++ body_bytes b.header.chomp b.lines b.tail b.open_end column
+
+-- the characters of a line are nb-chars
+abbrev pub AllNb : List ℕ → Type 0
+AllNb [] = Unit {0}
+AllNb (c ∷ cs) = (is_nb_char c ≡ true) × AllNb cs
+
+pub record IsLineText (x : List ℕ) : Type 0 where
+  pub chars : List ℕ
+  pub bytes : encode_utf8_all chars ≡ x
+  pub each : AllNb chars
+
+abbrev pub AreLineTexts : List (List ℕ) → Type 0
+AreLineTexts [] = Unit {0}
+AreLineTexts (x ∷ ls) = IsLineText x × AreLineTexts ls
+
+-- there is a content line, and the last line is one
+abbrev pub EndsWithContent : List (List ℕ) → Type 0
+EndsWithContent [] = ⊥
+EndsWithContent (x ∷ []) = x ≢ []
+EndsWithContent (x ∷ y ∷ ls) = EndsWithContent (y ∷ ls)
+
+-- the first content line begins with no space
+abbrev pub StartsUnspaced : List (List ℕ) → Type 0
+StartsUnspaced [] = ⊥
+StartsUnspaced ([] ∷ ls) = StartsUnspaced ls
+StartsUnspaced ((c ∷ x) ∷ ls) = c ≢ 32
+
+-- a comment's text: # and nb-chars
+abbrev pub IsCommentText : Option Comment → Type 0
+IsCommentText None = Unit {0}
+IsCommentText (Some c) = (x : List ℕ) × ((c.text.now ≡ 35 ∷ x) × IsLineText x)
+
+-- a scalar as a text can hold it, with a content line: its lines and comment are of nb-chars, an indentation that is to be
+-- detected is that of its first content line, and behind a line that ends at the end of the text stands nothing
+pub record IsScalar (b : BlockText) : Type 0 where
+  pub lines : AreLineTexts b.lines
+  pub last : EndsWithContent b.lines
+  pub first : b.header.digit ≡ None → StartsUnspaced b.lines
+  pub comment : IsCommentText b.comment
+  pub behind : b.open_end ≡ true → b.tail ≡ 0
+
+-- the text is a block scalar at n with the same content: its header begins it, and its lines reach to its end
+pub record IsRead (t : List ℕ) (n : ℤ) (b : BlockText) : Type 0 where
+  pub place : ℕ
+  pub header : HeaderValue
+  pub body : BodyValue
+  pub head : BlockHeader t 0 place header
+  pub rest : Body t n header.header place (length t) body
+  pub same : content_of header.header body.lines body.tail body.open_end ≡ content_of b.header b.lines b.tail b.open_end

@@ -106,7 +106,12 @@ fn push_folded(text: &mut String, lines: &Lines) -> Result<(), AllocError>
 }
 
 // The lines from that number on, which stand behind a content line that is spaced or not.
-fn push_folded_behind(text: &mut String, lines: &Lines, from: usize, spaced: bool) -> Result<(), AllocError>
+fn push_folded_behind(
+    text: &mut String,
+    lines: &Lines,
+    from: usize,
+    spaced: bool,
+) -> Result<(), AllocError>
     ensures { OnOk result (string_bytes text.new ≡ string_bytes text.old ++ folded_behind spaced 0 (drop from lines.now)) }
 {
     let mut index = from;
@@ -129,7 +134,12 @@ fn push_folded_behind(text: &mut String, lines: &Lines, from: usize, spaced: boo
 }
 
 // What stands between two content lines with so many empty lines between them.
-fn push_joint(text: &mut String, first_spaced: bool, second_spaced: bool, empty: usize) -> Result<(), AllocError>
+fn push_joint(
+    text: &mut String,
+    first_spaced: bool,
+    second_spaced: bool,
+    empty: usize,
+) -> Result<(), AllocError>
     ensures { OnOk result (string_bytes text.new ≡ string_bytes text.old ++ joint (first_spaced || second_spaced) empty) }
 {
     if first_spaced {

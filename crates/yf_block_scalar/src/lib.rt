@@ -11,7 +11,7 @@ pub mod read;
 pub mod reader;
 mod rest;
 mod rows;
-mod trail;
-pub mod write;
 #[cfg(test)]
 mod tests;
+mod trail;
+pub mod write;

@@ -1,11 +1,12 @@
 //! The readers of block scalars over a text with its lines.
-ghost use Rattle.std.specs.Prelude.{◌≡◌, ◌<◌, ◌≤◌, ◌≤ℤ◌, ◌^◌, pos, None, length, MatchOption, MatchResult};
+ghost use Rattle.std.specs.Prelude.{◌≡◌, ◌≢◌, [], ◌<◌, ◌≤◌, ◌≤ℤ◌, ◌^◌, pos, None, length, MatchOption, MatchResult};
 ghost use Rattle.std.specs.Str.{IsCharBoundary};
 ghost use Rattle.yf_chars.specs.Chain.{Chosen, Stuck};
 ghost use Rattle.yf_block_scalar.specs.Body.{Body, body_value};
 ghost use Rattle.yf_block_scalar.specs.Header.{BlockHeader, header_value};
 ghost use Rattle.yf_lines.specs.Basic.{LineStart};
 ghost use Rattle.yf_block_scalar.specs.LineOffset.{line_offset};
+ghost use Rattle.yf_block_scalar.specs.Written.{IsScalar};
 
 use crate::body::BlockText;
 use crate::header::Header;
@@ -32,15 +33,22 @@ pub fn read_header<'a>(src: &Src<'a>, at: usize) -> Option<HeaderLine<'a>>
 /// lines among them, the tail, and the comment lines behind it.
 ///
 /// `line` is the index of the line behind the header, and `n` the indentation of the collection around the scalar, from
-/// -1. `None` where a line of spaces alone before the content has more spaces than the content.
+/// -1. `None` where a line of spaces alone before the content has more spaces than the content. A scalar with a content
+/// line can be written by `write_block`.
 ///
 /// # Errors
 ///
 /// `Fault::Memory` where a growth of memory was refused.
-pub fn read_body<'a>(alloc: Global, src: &Src<'a>, line: usize, n: i32, header: Header) -> Result<Option<BlockText<'a>>, Fault>
+pub fn read_body<'a>(
+    alloc: Global,
+    src: &Src<'a>,
+    line: usize,
+    n: i32,
+    header: Header,
+) -> Result<Option<BlockText<'a>>, Fault>
     requires within { line ≤ length src.now.lines }
     requires small { n ≤ℤ pos (2 ^ 30) }
-    ensures { MatchResult result (λ o. MatchOption o (Stuck (Body src.now.text n header (line_offset src.now line))) (λ b. (b.header ≡ header) × (b.comment ≡ None) × Chosen (Body src.now.text n header (line_offset src.now line)) b.next (body_value b) × IsCharBoundary src.now.text b.next)) (λ fault. fault ≡ Fault.Memory) }
+    ensures { MatchResult result (λ o. MatchOption o (Stuck (Body src.now.text n header (line_offset src.now line))) (λ b. (b.header ≡ header) × (b.comment ≡ None) × Chosen (Body src.now.text n header (line_offset src.now line)) b.next (body_value b) × IsCharBoundary src.now.text b.next × (b.lines ≢ [] → IsScalar b))) (λ fault. fault ≡ Fault.Memory) }
 {
     match block_body(alloc, src.text(), offset_of_line(src, line), n, header) {
         Ok(found) => Ok(found),

@@ -1,10 +1,11 @@
 //! Reads the lines of a block scalar (YAML 1.2.2, sections 8.1.1.1, 8.1.2 and 8.1.3).
-ghost use Rattle.std.specs.Prelude.{◌≡◌, ◌+◌, ◌<◌, ◌^◌, ◌≤ℤ◌, pos, ℕ, List, [], false, None, length, IfOk, IfSome, MatchOption};
+ghost use Rattle.std.specs.Prelude.{◌≡◌, ◌≢◌, ◌+◌, ◌<◌, ◌^◌, ◌≤ℤ◌, pos, ℕ, List, [], false, None, length, IfOk, IfSome, MatchOption};
 ghost use Rattle.std.specs.Str.{IsCharBoundary};
 ghost use Rattle.yf_chars.specs.Chain.{Chosen, Stuck};
 ghost use Rattle.yf_lines.specs.Basic.{LineStart};
 ghost use Rattle.yf_comments.specs.Comment.{CommentValue};
 ghost use Rattle.yf_block_scalar.specs.Body.{Body, Taken, Trail, is_gap_tail, first_noted, body_value};
+ghost use Rattle.yf_block_scalar.specs.Written.{IsScalar};
 
 use crate::body::BlockText;
 use crate::header::{Chomp, Header};
@@ -27,7 +28,13 @@ fn is_gap(chomp: Chomp, count: usize) -> bool
 }
 
 // Reads the scalar whose content has that indentation.
-fn read_indented<'a>(alloc: Global, s: &'a str, at: usize, indent: usize, header: Header) -> Result<BlockText<'a>, AllocError>
+fn read_indented<'a>(
+    alloc: Global,
+    s: &'a str,
+    at: usize,
+    indent: usize,
+    header: Header,
+) -> Result<BlockText<'a>, AllocError>
     requires boundary { IsCharBoundary s.now at }
     requires starts { at < length s.now → LineStart s.now at }
     ensures reads { IfOk result (λ b. (p : ℕ) × (x : List CommentValue) × (Taken s.now indent at b.lines b.open_end b.tail p × Trail s.now indent p b.next x × (b.comments ≡ first_noted (is_gap_tail header.chomp b.tail) x))) }
@@ -41,7 +48,13 @@ fn read_indented<'a>(alloc: Global, s: &'a str, at: usize, indent: usize, header
         tail,
         next,
     } = read_rows(alloc, s, at, indent)?;
-    let Separation { comments, end } = read_trail(alloc, s, next, indent, is_gap(header.chomp, tail))?;
+    let Separation { comments, end } = read_trail(
+        alloc,
+        s,
+        next,
+        indent,
+        is_gap(header.chomp, tail),
+    )?;
     Ok(BlockText {
         header,
         comment: None,
@@ -54,7 +67,14 @@ fn read_indented<'a>(alloc: Global, s: &'a str, at: usize, indent: usize, header
 }
 
 // Reads what is left of a scalar without content, behind its empty lines.
-fn read_bare<'a>(alloc: Global, s: &'a str, at: usize, least: usize, count: usize, header: Header) -> Result<BlockText<'a>, AllocError>
+fn read_bare<'a>(
+    alloc: Global,
+    s: &'a str,
+    at: usize,
+    least: usize,
+    count: usize,
+    header: Header,
+) -> Result<BlockText<'a>, AllocError>
     requires boundary { IsCharBoundary s.now at }
     requires starts { at < length s.now → LineStart s.now at }
     ensures reads { IfOk result (λ b. (x : List CommentValue) × (Trail s.now least at b.next x × (b.comments ≡ first_noted (is_gap_tail header.chomp count) x))) }
@@ -65,7 +85,13 @@ fn read_bare<'a>(alloc: Global, s: &'a str, at: usize, least: usize, count: usiz
     ensures header { IfOk result (λ b. b.header ≡ header) }
     ensures comment { IfOk result (λ b. b.comment ≡ None) }
 {
-    let Separation { comments, end } = read_trail(alloc, s, at, least, is_gap(header.chomp, count))?;
+    let Separation { comments, end } = read_trail(
+        alloc,
+        s,
+        at,
+        least,
+        is_gap(header.chomp, count),
+    )?;
     Ok(BlockText {
         header,
         comment: None,
@@ -86,11 +112,18 @@ fn read_bare<'a>(alloc: Global, s: &'a str, at: usize, least: usize, count: usiz
 /// # Errors
 ///
 /// `AllocError` where a growth of memory was refused.
-pub fn block_body<'a>(alloc: Global, s: &'a str, at: usize, n: i32, header: Header) -> Result<Option<BlockText<'a>>, AllocError>
+pub fn block_body<'a>(
+    alloc: Global,
+    s: &'a str,
+    at: usize,
+    n: i32,
+    header: Header,
+) -> Result<Option<BlockText<'a>>, AllocError>
     requires boundary { IsCharBoundary s.now at }
     requires starts { at < length s.now → LineStart s.now at }
     requires small { n ≤ℤ pos (2 ^ 30) }
     ensures reads { IfOk result (λ o. MatchOption o (Stuck (Body s.now n header at)) (λ b. (b.header ≡ header) × (b.comment ≡ None) × Chosen (Body s.now n header at) b.next (body_value b))) }
+    ensures scalar { IfOk result (λ o. IfSome o (λ b. b.lines ≢ [] → IsScalar b)) }
     ensures boundary { IfOk result (λ o. IfSome o (λ b. IsCharBoundary s.now b.next)) }
 {
     match header.digit {

@@ -133,7 +133,12 @@ pub(crate) fn content_line(s: &str, at: usize, indent: usize) -> Option<ContentP
 }
 
 // Reads every line that the scalar can take from the offset on, with that indentation.
-pub(crate) fn read_rows<'a>(alloc: Global, s: &'a str, at: usize, indent: usize) -> Result<Rows<'a>, AllocError>
+pub(crate) fn read_rows<'a>(
+    alloc: Global,
+    s: &'a str,
+    at: usize,
+    indent: usize,
+) -> Result<Rows<'a>, AllocError>
     requires { IsCharBoundary s.now at }
     ensures reads { IfOk result (λ r. Taken s.now indent at r.lines r.open_end r.tail r.next) }
     ensures boundary { IfOk result (λ r. IsCharBoundary s.now r.next) }

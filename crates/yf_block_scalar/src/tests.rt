@@ -3,6 +3,7 @@
 use crate::body::BlockText;
 use crate::content::content;
 use crate::read::{read_body, read_header};
+use crate::write::write_block;
 use std::test::Fail;
 use yf_lines::source_text::Src;
 
@@ -15,6 +16,17 @@ fn content_of(rt: HostRuntime, text: &str, n: i32) -> Result<String, Fail> {
     Ok(content(rt.alloc(), &block)?)
 }
 
+// The scalar whose header begins the text, written at column 2.
+fn written(rt: HostRuntime, text: &str) -> Result<String, Fail> {
+    let src = Src::new(rt.alloc(), text)?;
+    let head = read_header(&src, 0).ok_or("no header")?;
+    let line = src.lines().len().min(1);
+    let block = read_body(rt.alloc(), &src, line, 0, head.header)?.ok_or("no scalar")?;
+    let mut out = String::new(rt.alloc());
+    write_block(rt.alloc(), &mut out, &block, 2, 0)?;
+    Ok(out)
+}
+
 #[test]
 fn keeps_more_indented_lines(rt: HostRuntime) -> Result<(), Fail> {
     assert_eq!(rt; content_of(rt, "|2\n    x\n\n- >", 0)?.as_str(), "  x\n");
@@ -23,7 +35,10 @@ fn keeps_more_indented_lines(rt: HostRuntime) -> Result<(), Fail> {
 
 #[test]
 fn folds_lines(rt: HostRuntime) -> Result<(), Fail> {
-    assert_eq!(rt; content_of(rt, ">\n a\n b\n\n   c\n", 0)?.as_str(), "a b\n\n  c\n");
+    assert_eq!(rt;
+        content_of(rt, ">\n a\n b\n\n   c\n", 0)?.as_str(),
+        "a b\n\n  c\n"
+    );
     Ok(())
 }
 
@@ -60,16 +75,23 @@ fn takes_digit_and_sign(rt: HostRuntime) -> Result<(), Fail> {
 
 #[test]
 fn folds_but_spaced_lines(rt: HostRuntime) -> Result<(), Fail> {
-    let text = ">\n\n folded\n line\n\n next\n line\n   * bullet\n\n   * list\n   * lines\n\n last\n line\n\n# Comment\n";
+    let text =
+        ">\n\n folded\n line\n\n next\n line\n   * bullet\n\n   * list\n   * lines\n\n last\n line\n\n# Comment\n";
     let content = content_of(rt, text, 0)?;
-    assert_eq!(rt; content.as_str(), "\nfolded line\nnext line\n  * bullet\n\n  * list\n  * lines\n\nlast line\n");
+    assert_eq!(rt;
+        content.as_str(),
+        "\nfolded line\nnext line\n  * bullet\n\n  * list\n  * lines\n\nlast line\n"
+    );
     Ok(())
 }
 
 #[test]
 fn leads_with_empty_lines(rt: HostRuntime) -> Result<(), Fail> {
     let text = "|\n \n  \n  literal\n   \n  \n  text\n\n # Comment\n";
-    assert_eq!(rt; content_of(rt, text, 0)?.as_str(), "\n\nliteral\n \n\ntext\n");
+    assert_eq!(rt;
+        content_of(rt, text, 0)?.as_str(),
+        "\n\nliteral\n \n\ntext\n"
+    );
     Ok(())
 }
 
@@ -100,7 +122,10 @@ fn refuses_a_longer_empty_line(rt: HostRuntime) -> Result<(), Fail> {
     let src = Src::new(rt.alloc(), "|\n   \n  a\n")?;
     let head = read_header(&src, 0).ok_or("no header")?;
     assert!(rt; 1 <= src.lines().len());
-    assert_eq!(rt; read_body(rt.alloc(), &src, 1, 0, head.header)?.is_none(), true);
+    assert_eq!(rt;
+        read_body(rt.alloc(), &src, 1, 0, head.header)?.is_none(),
+        true
+    );
     Ok(())
 }
 
@@ -114,5 +139,28 @@ fn reads_headers(rt: HostRuntime) -> Result<(), Fail> {
     let head = read_header(&src, 0).ok_or("no header")?;
     assert_eq!(rt; head.end, 7);
     assert_eq!(rt; head.comment.ok_or("no comment")?.text, "# c");
+    Ok(())
+}
+
+#[test]
+fn writes_lines_at_their_column(rt: HostRuntime) -> Result<(), Fail> {
+    assert_eq!(rt; written(rt, "|2\n    x\n\n- >")?.as_str(), "|2\n    x\n");
+    assert_eq!(rt;
+        written(rt, ">\n a\n b\n\n   c\n")?.as_str(),
+        ">\n  a\n  b\n\n    c\n"
+    );
+    Ok(())
+}
+
+#[test]
+fn writes_a_kept_tail(rt: HostRuntime) -> Result<(), Fail> {
+    assert_eq!(rt; written(rt, "|+\n a\n\n")?.as_str(), "|+\n  a\n\n");
+    Ok(())
+}
+
+#[test]
+fn writes_an_open_line_without_its_break(rt: HostRuntime) -> Result<(), Fail> {
+    assert_eq!(rt; written(rt, "|\n x")?.as_str(), "|\n  x");
+    assert_eq!(rt; written(rt, "|-\n x")?.as_str(), "|-\n  x\n");
     Ok(())
 }

@@ -13,7 +13,11 @@ use yf_comments::lines::line_end;
 use yf_lines::basic::skip_spaces;
 
 // The same comments, the first of them with that note.
-fn note_first<'a>(alloc: Global, comments: Comments<'a>, blank: bool) -> Result<Comments<'a>, AllocError>
+fn note_first<'a>(
+    alloc: Global,
+    comments: Comments<'a>,
+    blank: bool,
+) -> Result<Comments<'a>, AllocError>
     ensures { IfOk result (λ c. c ≡ first_noted blank comments.entry) }
 {
     let count = comments.len();
@@ -48,7 +52,13 @@ fn no_comments<'a>(alloc: Global, at: usize) -> Separation<'a>
 
 // Reads the comment lines that belong to a scalar of that indentation (l-trail-comments, production 169); the first of
 // them is noted to stand behind a blank line or not.
-pub(crate) fn read_trail<'a>(alloc: Global, s: &'a str, at: usize, indent: usize, blank: bool) -> Result<Separation<'a>, AllocError>
+pub(crate) fn read_trail<'a>(
+    alloc: Global,
+    s: &'a str,
+    at: usize,
+    indent: usize,
+    blank: bool,
+) -> Result<Separation<'a>, AllocError>
     requires boundary { IsCharBoundary s.now at }
     requires starts { at < length s.now → LineStart s.now at }
     ensures reads { IfOk result (λ p. (x : List CommentValue) × (Trail s.now indent at p.end x × (p.comments ≡ first_noted blank x))) }

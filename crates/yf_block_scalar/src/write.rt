@@ -3,7 +3,7 @@ ghost use Rattle.std.specs.Prelude.{◌≡◌, ◌++◌, ◌+◌, ◌<◌, ◌�
 ghost use Rattle.std.specs.String.{string_bytes};
 ghost use Rattle.yf_block_scalar.specs.Body.{base};
 ghost use Rattle.yf_block_scalar.specs.Content.{literal};
-ghost use Rattle.yf_block_scalar.specs.Written.{body_bytes, break_bytes, comment_bytes, digit_bytes, header_bytes, indented, sign_bytes, style_bytes, tail_bytes, written_of};
+ghost use Rattle.yf_block_scalar.specs.Written.{IsRead, IsScalar, body_bytes, break_bytes, comment_bytes, digit_bytes, header_bytes, indented, sign_bytes, style_bytes, tail_bytes, written_of};
 
 use crate::body::BlockText;
 use crate::content::push_feeds;
@@ -19,16 +19,23 @@ use yf_lines::fault::Fault;
 ///
 /// A header with a digit is written with the digit that this column needs. Empty lines are written empty, the tail only
 /// where the header keeps it. Where the last content line ended at the end of the text, it is written without a break,
-/// unless the header strips it.
+/// unless the header strips it. What is appended is a block scalar at `n` with the same content.
 ///
 /// # Errors
 ///
 /// `Fault::Memory` where a growth of memory was refused; the text is then as it was.
-pub fn write_block(alloc: Global, out: &mut String, block: &BlockText, column: usize, n: i32) -> Result<(), Fault>
+pub fn write_block(
+    alloc: Global,
+    out: &mut String,
+    block: &BlockText,
+    column: usize,
+    n: i32,
+) -> Result<(), Fault>
     requires small { n ≤ℤ pos (2 ^ 30) }
     requires right { base n < column }
     requires near { column ≤ base n + 9 }
     ensures written { OnOk result (string_bytes out.new ≡ string_bytes out.old ++ written_of block.now column n) }
+    ensures read { IsScalar block.now → OnOk result (IsRead (written_of block.now column n) n block.now) }
     ensures unchanged { OnErr result (string_bytes out.new ≡ string_bytes out.old) }
     ensures refused { IfErr result (λ fault. fault ≡ Fault.Memory) }
 {
@@ -48,12 +55,22 @@ fn write_new(alloc: Global, block: &BlockText, column: usize, n: i32) -> Result<
     ensures { IfOk result (λ text. string_bytes text ≡ written_of block.now column n) }
 {
     let mut text = String::new(alloc);
-    push_header(&mut text, &block.header, &block.comment, column - base_of(n))?;
+    push_header(
+        &mut text,
+        &block.header,
+        &block.comment,
+        column - base_of(n),
+    )?;
     push_body(&mut text, block, column)?;
     Ok(text)
 }
 
-fn push_header(text: &mut String, header: &Header, comment: &Option<Comment>, width: usize) -> Result<(), AllocError>
+fn push_header(
+    text: &mut String,
+    header: &Header,
+    comment: &Option<Comment>,
+    width: usize,
+) -> Result<(), AllocError>
     requires { width ≤ 9 }
     ensures { OnOk result (string_bytes text.new ≡ string_bytes text.old ++ header_bytes header.now comment.now width) }
 {

@@ -1,4 +1,4 @@
-use Rattle.std.proofs.Common.{◌≡◌, ◌≤◌, ◌<◌, ◌+◌, ◌-◌, ap, sym, ◌∙◌, subst, arith, get_or, length}
+use Rattle.std.proofs.Common.{◌≤◌, ◌<◌, ◌+◌, ◌-◌, ap, sym, subst, arith, get_or, length}
 use Rattle.yf_block_scalar.specs.Header.{Digit}
 use Rattle.yf_block_scalar.proofs.HeaderLemmas.{digit_from_byte, digit_boundary, no_digit_end, no_digit_byte}
 use Rattle.yf_block_scalar.proofs.header_reader.digit_at.Goals as goal

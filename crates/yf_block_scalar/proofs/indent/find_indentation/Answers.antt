@@ -1,4 +1,4 @@
-use Rattle.std.proofs.Common.{◌≡◌, ◌≤◌, ◌+◌, ◌++◌, ◌∷◌, [], ℕ, List, length, max, refl, ap, sym, ◌∙◌, arith, to_z-of_z}
+use Rattle.std.proofs.Common.{◌+◌, ◌++◌, ◌∷◌, [], max, refl, ap, sym, ◌∙◌, arith, to_z-of_z}
 use Rattle.yf_chars.specs.Chain.Chain.{done}
 use Rattle.yf_chars.proofs.ChainLemmas.{chain_more}
 use Rattle.yf_block_scalar.specs.Body.Bare.{bare}

@@ -1,8 +1,7 @@
-use Rattle.std.proofs.Common.{◌≡◌, ◌^◌, ◌≤ℤ◌, pos, ℕ, List, MatchBool, ◌+◌, ◌-◌, ◌*◌, ◌<◌, ◌≤◌, length, ℤ, ◌+ℤ◌, ◌-ℤ◌, ◌*ℤ◌, ◌<ℤ◌, FitsSigned, to_z, of_z}
+use Rattle.std.proofs.Common.{◌≡◌, ℕ, List, ◌-◌, ◌≤◌, length}
 use Rattle.std.specs.Str.{IsCharBoundary}
 use Rattle.yf_chars.specs.Chain.{Chain}
-use Rattle.yf_block_scalar.specs.Body.{base, least, SpaceLine, MarkerLine, Bare, largest}
-use Rattle.yf_block_scalar.specs.Indentation.{Finds, Judges}
+use Rattle.yf_block_scalar.specs.Body.{Bare, largest}
 use Rattle.yf_block_scalar.proofs.indent.find_indentation.Given as goal
 
 abbrev pub invariant-lines : goal.invariant-lines

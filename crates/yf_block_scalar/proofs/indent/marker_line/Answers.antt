@@ -1,4 +1,4 @@
-use Rattle.std.proofs.Common.{◌≡◌, ◌≤◌, ◌<◌, ◌+◌, length, arith}
+use Rattle.std.proofs.Common.{arith}
 use Rattle.yf_block_scalar.proofs.BodyLemmas.{mark_within, marker_past, marker_rest, match_marker}
 use Rattle.yf_block_scalar.proofs.indent.marker_line.Goals as goal
 

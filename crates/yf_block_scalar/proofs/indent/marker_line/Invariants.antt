@@ -1,7 +1,5 @@
-use Rattle.std.proofs.Common.{◌≡◌, ◌^◌, ◌≤ℤ◌, pos, ℕ, MatchBool, ◌+◌, ◌-◌, ◌*◌, ◌<◌, ◌≤◌, length}
-use Rattle.std.specs.Str.{IsCharBoundary}
-use Rattle.yf_block_scalar.specs.Body.{base, least, SpaceLine, MarkerLine}
-use Rattle.yf_block_scalar.specs.Indentation.{Finds, Judges}
+use Rattle.std.proofs.Common.{◌-◌, length}
+use Rattle.yf_block_scalar.specs.Body.{MarkerLine}
 use Rattle.yf_block_scalar.proofs.indent.marker_line.Given as goal
 
 abbrev pub invariant-loop-place : goal.invariant-loop-place

@@ -1,7 +1,8 @@
-use Rattle.std.proofs.Common.{◌≡◌, ◌+◌, ◌∙◌, ap, sym, to_z-of_z}
+use Rattle.std.proofs.Common.{◌+◌, ap, to_z-of_z}
 use Rattle.yf_block_scalar.proofs.BodyLemmas.{bares_starts}
-use Rattle.yf_block_scalar.specs.Body.{base, least, body_value}
+use Rattle.yf_block_scalar.specs.Body.{body_value}
 use Rattle.yf_block_scalar.proofs.ReaderLemmas.{body_indicated, body_detected, body_without, body_none}
+use Rattle.yf_block_scalar.proofs.ScalarLemmas.{to_scalar}
 use Rattle.yf_block_scalar.proofs.UniqueLemmas.{body_chosen}
 use Rattle.yf_block_scalar.proofs.reader.block_body.Goals as goal
 
@@ -31,3 +32,18 @@ pub returns-in-TooLong-clause-reads : goal.returns-in-TooLong-clause-reads
 returns-in-TooLong-clause-reads c =
     let found = rw (to_z-of_z c.ranges.n) at c.in-TooLong.ensures.finds in
     body_none c.args.n c.args.header c.in-None.is found.0 found.1
+
+pub returns-in_ok-block-in-Some-clause-scalar : goal.returns-in_ok-block-in-Some-clause-scalar
+returns-in_ok-block-in-Some-clause-scalar c =
+    let r = returns-in_ok-block-in-Some-clause-reads c in
+    λ full. to_scalar c.in_ok-block-in-Some.block c.utf8.s r.0 r.1 r.2.derived full
+
+pub returns-in_ok-block-in-Found-clause-scalar : goal.returns-in_ok-block-in-Found-clause-scalar
+returns-in_ok-block-in-Found-clause-scalar c =
+    let r = returns-in_ok-block-in-Found-clause-reads c in
+    λ full. to_scalar c.in_ok-block-in-Found.block c.utf8.s r.0 r.1 r.2.derived full
+
+pub returns-in_ok-block-in-Missing-clause-scalar : goal.returns-in_ok-block-in-Missing-clause-scalar
+returns-in_ok-block-in-Missing-clause-scalar c =
+    let r = returns-in_ok-block-in-Missing-clause-reads c in
+    λ full. to_scalar c.in_ok-block-in-Missing.block c.utf8.s r.0 r.1 r.2.derived full

@@ -1,7 +1,6 @@
-use Rattle.std.proofs.Common.{◌≡◌, ◌≤◌, ◌<◌, false, ap, sym, ◌∙◌, arith}
+use Rattle.std.proofs.Common.{◌≡◌, ◌<◌, false, ap, sym, ◌∙◌, arith}
 use Rattle.yf_chars.specs.Text.{code}
 use Rattle.yf_chars.specs.Class.{is_white}
-use Rattle.yf_lines.specs.Basic.{SeparateInLine}
 use Rattle.yf_lines.specs.Basic.SeparateInLine.{by_whites}
 use Rattle.yf_comments.specs.Comments.LineRest.{nothing, whites, comment}
 use Rattle.yf_comments.proofs.RowLemmas.{text_from, stuck_behind_comment, stuck_behind_whites, stuck_alone, no_separation}

@@ -21,9 +21,11 @@ returns-then-end-s-clause-reads c =
     (by_text c.if-end-s.true) (sym c.marker_stands.ensures ∙ c.if-marker_stands.false)
 
 pub returns-then-end-s-clause-boundary : goal.returns-then-end-s-clause-boundary
-returns-then-end-s-clause-boundary c =
-    (spaces_boundary c.args.s.now c.args.at c.args.indent c.utf8.s c.requires (spaces_fewer c.args.indent c.if-first-at.false c.skip_spaces-first.ensures.spaces),
-    c.skip_nb_chars-end.ensures.boundary, c.skip_nb_chars-end.ensures.boundary)
+returns-then-end-s-clause-boundary c = (
+  spaces_boundary c.args.s.now c.args.at c.args.indent c.utf8.s c.requires (spaces_fewer c.args.indent c.if-first-at.false c.skip_spaces-first.ensures.spaces),
+  c.skip_nb_chars-end.ensures.boundary,
+  c.skip_nb_chars-end.ensures.boundary,
+)
 
 pub returns-in-Some-clause-reads : goal.returns-in-Some-clause-reads
 returns-in-Some-clause-reads c =
@@ -31,9 +33,11 @@ returns-in-Some-clause-reads c =
     (by_break c.in-Some.ensures.reads) (sym c.marker_stands.ensures ∙ c.if-marker_stands.false)
 
 pub returns-in-Some-clause-boundary : goal.returns-in-Some-clause-boundary
-returns-in-Some-clause-boundary c =
-    (spaces_boundary c.args.s.now c.args.at c.args.indent c.utf8.s c.requires (spaces_fewer c.args.indent c.if-first-at.false c.skip_spaces-first.ensures.spaces),
-    c.skip_nb_chars-end.ensures.boundary, c.in-Some.ensures.boundary)
+returns-in-Some-clause-boundary c = (
+  spaces_boundary c.args.s.now c.args.at c.args.indent c.utf8.s c.requires (spaces_fewer c.args.indent c.if-first-at.false c.skip_spaces-first.ensures.spaces),
+  c.skip_nb_chars-end.ensures.boundary,
+  c.in-Some.ensures.boundary,
+)
 
 pub returns-in-None-clause-reads : goal.returns-in-None-clause-reads
 returns-in-None-clause-reads c = λ j x o d. no_end c.skip_nb_chars-end.result c.skip_nb_chars-end.ensures.chars.1 c.skip_nb_chars-end.ensures.all c.if-end-s.false c.in-None.ensures.reads d

@@ -1,8 +1,6 @@
-use Rattle.std.proofs.Common.{length, ◌-◌, ◌≡◌, ◌<◌, ◌++◌, List, drop, map, IfOk, ℕ, ◌+◌, ◌*◌, ◌≤◌}
-use Rattle.std.specs.Str.{IsCharBoundary}
-use Rattle.yf_lines.specs.Basic.{LineStart}
-use Rattle.yf_comments.specs.Comment.{CommentValue, comment_value}
-use Rattle.yf_block_scalar.specs.Body.{Trail, first_noted}
+use Rattle.std.proofs.Common.{length, ◌-◌, ◌≡◌, ◌++◌, drop, map}
+use Rattle.yf_comments.specs.Comment.{comment_value}
+use Rattle.yf_block_scalar.specs.Body.{first_noted}
 use Rattle.yf_block_scalar.proofs.trail.note_first.Given as goal
 
 abbrev pub invariant-loop-index : goal.invariant-loop-index
