@@ -1,5 +1,5 @@
 -- What an event is to a contract: its names and texts are lists of bytes, wherever in memory they lie.
-use Rattle.std.specs.Prelude.{ℕ, Bool, List, Option}
+use Rattle.std.specs.Prelude.{ℕ, zero, suc, Bool, List, [], ◌∷◌, Option, Some}
 use Rattle.yf_lines.specs.Text.{text_bytes}
 use Rattle.yf_props.specs.Props.{PropsValue, props_value}
 use Rattle.yf_events.specs.declared.event.Entry.{Entry}
@@ -50,3 +50,14 @@ pub record Placed : Type 0 where
 abbrev pub placed_value : PlacedEvent → Placed
 placed_value e =
     record { event = event_value e.event; span = e.span; tag_offset = e.tag_offset; entry = e.entry; folded = e.folded }
+
+-- the events, of which the one at an index begins this entry, or has this part of the text
+abbrev pub with_entry : List Placed → ℕ → Entry → List Placed
+with_entry [] i entry = []
+with_entry (e ∷ es) zero entry = record e { entry = Some entry } ∷ es
+with_entry (e ∷ es) (suc i) entry = e ∷ with_entry es i entry
+
+abbrev pub with_span : List Placed → ℕ → Span → List Placed
+with_span [] i span = []
+with_span (e ∷ es) zero span = record e { span = Some span } ∷ es
+with_span (e ∷ es) (suc i) span = e ∷ with_span es i span

@@ -1,7 +1,7 @@
 //! Lists of events.
-ghost use Rattle.std.specs.Prelude.{◌≡◌, ◌<◌, [], ◌∷◌, ◌++◌, length, map, slice_get, if◌then◌else◌, is_ok};
+ghost use Rattle.std.specs.Prelude.{◌≡◌, ◌<◌, ◌≤◌, [], ◌∷◌, ◌++◌, drop, take, length, map, slice_get, if◌then◌else◌, is_ok};
 
-use crate::event::PlacedEvent;
+use crate::event::{Entry, PlacedEvent, Span};
 use std::alloc::{AllocError, Global};
 use std::marker::Model;
 
@@ -21,7 +21,7 @@ impl<'a> Model for Events<'a> {
 }
 
 impl<'a> Events<'a> {
-    ghost use Rattle.yf_events.specs.Event.{placed_value};
+    ghost use Rattle.yf_events.specs.Event.{placed_value, with_entry, with_span};
 
     pub fn new(alloc: Global) -> Events<'a>
         ensures { result ≡ [] }
@@ -59,6 +59,38 @@ impl<'a> Events<'a> {
     {
         self.list.append(&mut other.list)?;
         Ok(())
+    }
+
+    /// Puts an event before the one at an index, or at the end.
+    pub fn insert(&mut self, i: usize, event: PlacedEvent<'a>) -> Result<(), AllocError>
+        requires { i ≤ length self.old }
+        ensures { self.new ≡ (if is_ok result then take i self.old ++ placed_value event.entry ∷ drop i self.old else self.old) }
+    {
+        self.list.insert(i, event)?;
+        Ok(())
+    }
+
+    /// Keeps the first events alone.
+    pub fn truncate(&mut self, count: usize)
+        ensures { self.new ≡ take count self.old }
+    {
+        self.list.truncate(count);
+    }
+
+    /// Gives the event at an index its entry.
+    pub fn set_entry(&mut self, i: usize, entry: Entry)
+        requires { i < length self.old }
+        ensures { self.new ≡ with_entry self.old i entry }
+    {
+        self.list[i].entry = Some(entry);
+    }
+
+    /// Gives the event at an index its part of the text.
+    pub fn set_span(&mut self, i: usize, span: Span)
+        requires { i < length self.old }
+        ensures { self.new ≡ with_span self.old i span }
+    {
+        self.list[i].span = Some(span);
     }
 
     pub fn as_slice(&self) -> &[PlacedEvent<'a>]

@@ -1,9 +1,9 @@
 //! The lists that a reading is made of.
 ghost use Rattle.std.specs.Prelude.{◌≡◌, [], ◌∷◌, ◌++◌, IfOk};
 
+use crate::comments::Comments;
 use crate::document::Documents;
 use crate::event::PlacedEvent;
-use crate::comments::Comments;
 use crate::events::Events;
 use crate::row::Row;
 use std::alloc::{AllocError, Global};

@@ -144,7 +144,7 @@ impl<'a> Reading<'a> {
         ensures { place_at self.now k ≡ Some result }
     {
         let offset = self.lists.comments.at(k).offset;
-        let documents = documents_before(self.lists.documents.as_slice(), offset);
+        let documents = documents_before(self.documents(), offset);
         let leaves = starts_before(self.leaf_starts.as_slice(), offset);
         (documents, leaves)
     }

@@ -56,4 +56,12 @@ impl<T: Drop> Row<T> {
         self.list.push(value)?;
         Ok(())
     }
+
+    /// Moves all values of another list to the end.
+    pub fn append(&mut self, mut other: Row<T>) -> Result<(), AllocError>
+        ensures { self.new ≡ (if is_ok result then self.old ++ other else self.old) }
+    {
+        self.list.append(&mut other.list)?;
+        Ok(())
+    }
 }

@@ -2,15 +2,6 @@
 ghost use Rattle.std.specs.Prelude.{IfOk};
 ghost use Rattle.yf_events.specs.Reading.{Fits};
 
-use std::alloc::Global;
-use std::test::Fail;
-
-use yf_comments::comment::Comment;
-use yf_lines::fault::Fault;
-use yf_lines::text::{OwnedText, Text};
-use yf_lines::watched::Watched;
-use yf_props::props::{Props, Tag};
-
 use crate::directive::{Directive, Directives};
 use crate::document::Doc;
 use crate::event::{Entry, Event, PlacedEvent, ScalarStyle, Span};
@@ -18,6 +9,13 @@ use crate::lists::Lists;
 use crate::notation::write_events;
 use crate::reading::Reading;
 use crate::slices::Slices;
+use std::alloc::Global;
+use std::test::Fail;
+use yf_comments::comment::Comment;
+use yf_lines::fault::Fault;
+use yf_lines::text::{OwnedText, Text};
+use yf_lines::watched::Watched;
+use yf_props::props::{Props, Tag};
 
 const NONE: Props<'static> = Props {
     anchor: None,
@@ -57,7 +55,11 @@ fn add<'a>(alloc: Global, lists: &mut Lists<'a>, event: Event<'a>) -> Result<(),
 }
 
 /// The reading of a stream of one document with these nodes.
-fn reading_of<'a>(alloc: Global, explicit: bool, nodes: Vec<Event<'a>>) -> Result<Option<Reading<'a>>, Fail> {
+fn reading_of<'a>(
+    alloc: Global,
+    explicit: bool,
+    nodes: Vec<Event<'a>>,
+) -> Result<Option<Reading<'a>>, Fail> {
     let mut lists = Lists::new(alloc);
     add(alloc, &mut lists, Event::StreamStart)?;
     add(alloc, &mut lists, Event::DocStart { explicit })?;
@@ -90,9 +92,16 @@ fn an_open_sequence_is_no_reading(rt: HostRuntime) -> Result<(), Fail> {
 fn texts_are_written_with_escapes(rt: HostRuntime) -> Result<(), Fail> {
     let quote = scalar(ScalarStyle::Single, "it's");
     let escapes = scalar(ScalarStyle::Double, "\r \\ \n \t \u{8} \u{0} \u{1f} \u{e9}");
-    let nodes = vec![in rt.alloc(); sequence(false), quote, escapes, scalar(ScalarStyle::Plain, ""), Event::SeqEnd]?;
+    let nodes = vec![in rt.alloc();
+        sequence(false),
+        quote,
+        escapes,
+        scalar(ScalarStyle::Plain, ""),
+        Event::SeqEnd,
+    ]?;
     let bytes = written(rt.alloc(), false, nodes)?;
-    let wanted = "+STR\n+DOC\n+SEQ\n=VAL 'it's\n=VAL \"\\r \\\\ \\n \\t \\b \\x00 \\x1F \u{e9}\n=VAL :\n-SEQ\n-DOC\n-STR\n";
+    let wanted =
+        "+STR\n+DOC\n+SEQ\n=VAL 'it's\n=VAL \"\\r \\\\ \\n \\t \\b \\x00 \\x1F \u{e9}\n=VAL :\n-SEQ\n-DOC\n-STR\n";
     assert_eq!(rt; bytes.as_slice(), wanted.as_bytes());
     Ok(())
 }
@@ -101,9 +110,17 @@ fn texts_are_written_with_escapes(rt: HostRuntime) -> Result<(), Fail> {
 fn single_pairs_and_aliases_are_written(rt: HostRuntime) -> Result<(), Fail> {
     let alias = Event::Alias { name: "a" };
     let block = scalar(ScalarStyle::Literal, "b\n");
-    let nodes = vec![in rt.alloc(); sequence(true), mapping(true), alias, block, Event::MapEnd, Event::SeqEnd]?;
+    let nodes = vec![in rt.alloc();
+        sequence(true),
+        mapping(true),
+        alias,
+        block,
+        Event::MapEnd,
+        Event::SeqEnd,
+    ]?;
     let bytes = written(rt.alloc(), true, nodes)?;
-    let wanted = b"+STR\n+DOC ---\n+SEQ []\n+MAP {}\n=ALI *a\n=VAL |b\\n\n-MAP\n-SEQ\n-DOC ...\n-STR\n";
+    let wanted =
+        b"+STR\n+DOC ---\n+SEQ []\n+MAP {}\n=ALI *a\n=VAL |b\\n\n-MAP\n-SEQ\n-DOC ...\n-STR\n";
     assert_eq!(rt; bytes.as_slice(), wanted.as_slice());
     Ok(())
 }
@@ -116,22 +133,35 @@ fn document<'a>(alloc: Global) -> Result<Doc<'a>, Fail> {
     words.push("a")?;
     let mut directives = Directives::new(alloc);
     directives.push(Directive { offset: 0, words })?;
-    Ok(Doc { start: 7, directives })
+    Ok(Doc {
+        start: 7,
+        directives,
+    })
 }
 
 fn block<'a>(alloc: Global) -> Result<PlacedEvent<'a>, Fail> {
     let mut folded = Slices::new(alloc);
     folded.push("b")?;
-    let tag = Some(Tag::Short { handle: "!!", suffix: "str" });
+    let tag = Some(Tag::Short {
+        handle: "!!",
+        suffix: "str",
+    });
     Ok(PlacedEvent {
         event: Event::Scalar {
-            props: Props { anchor: Some("x"), tag },
+            props: Props {
+                anchor: Some("x"),
+                tag,
+            },
             style: ScalarStyle::Folded,
             text: Text::Part("b\n"),
         },
         span: Some(Span { start: 13, end: 32 }),
         tag_offset: Some(16),
-        entry: Some(Entry { start: 11, colon: None, blank_before: false }),
+        entry: Some(Entry {
+            start: 11,
+            colon: None,
+            blank_before: false,
+        }),
         folded,
     })
 }
@@ -153,7 +183,14 @@ fn block_lists<'a>(alloc: Global) -> Result<Lists<'a>, Fail>
 
 fn block_reading<'a>(alloc: Global) -> Result<Option<Reading<'a>>, Fail> {
     let mut lists = block_lists(alloc)?;
-    lists.push_comment(Comment { text: "# c", offset: 24, blank_before: false }, false)?;
+    lists.push_comment(
+        Comment {
+            text: "# c",
+            offset: 24,
+            blank_before: false,
+        },
+        false,
+    )?;
     lists.documents.push(document(alloc)?)?;
     let reading = Reading::build(alloc, lists)?;
     Ok(reading)
@@ -165,7 +202,14 @@ fn a_reading_tells_of_its_events(rt: HostRuntime) -> Result<(), Fail> {
     assert_eq!(rt; reading.len(), 7);
     assert!(rt; matches!(reading.event(1), Event::DocStart { explicit: true }));
     assert_eq!(rt; reading.span(3), Some(Span { start: 13, end: 32 }));
-    assert_eq!(rt; reading.entry(3), Some(Entry { start: 11, colon: None, blank_before: false }));
+    assert_eq!(rt;
+        reading.entry(3),
+        Some(Entry {
+            start: 11,
+            colon: None,
+            blank_before: false
+        })
+    );
     assert_eq!(rt; reading.folded_lines(3).len(), 1);
     Ok(())
 }
@@ -215,8 +259,18 @@ fn have_same_content(alloc: Global, one: &Reading, other: &Reading) -> Result<bo
 
 #[test]
 fn content_looks_past_styles_and_markers(rt: HostRuntime) -> Result<(), Fail> {
-    let one = vec![in rt.alloc(); mapping(true), scalar(ScalarStyle::Single, "a"), scalar(ScalarStyle::Folded, "b\n"), Event::MapEnd]?;
-    let other = vec![in rt.alloc(); mapping(false), scalar(ScalarStyle::Double, "a"), scalar(ScalarStyle::Double, "b\n"), Event::MapEnd]?;
+    let one = vec![in rt.alloc();
+        mapping(true),
+        scalar(ScalarStyle::Single, "a"),
+        scalar(ScalarStyle::Folded, "b\n"),
+        Event::MapEnd,
+    ]?;
+    let other = vec![in rt.alloc();
+        mapping(false),
+        scalar(ScalarStyle::Double, "a"),
+        scalar(ScalarStyle::Double, "b\n"),
+        Event::MapEnd,
+    ]?;
     assert!(rt; alike(rt.alloc(), one, other)?);
     Ok(())
 }
