@@ -3,3 +3,5 @@ pub mod FirstPath
 pub mod Input
 pub mod Report
 pub mod Run
+pub mod Settings
+pub mod CommandLine

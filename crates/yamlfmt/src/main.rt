@@ -1,10 +1,16 @@
 //! yamlfmt: prints the events of a YAML stream, checks its style and rewrites it in one house style.
 #![tactic(auto)]
 
+mod command_line;
+#[cfg(test)]
+mod command_line_tests;
 mod first_path;
 mod input;
 mod report;
 mod run;
+mod settings;
+#[cfg(test)]
+mod settings_tests;
 #[cfg(test)]
 mod tests;
 

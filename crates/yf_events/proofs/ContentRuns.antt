@@ -5,7 +5,7 @@ use Rattle.std.specs.Prelude.{slice_get}
 use Rattle.std.proofs.lemmas.List.{drop_all, length-map, map-append}
 use Rattle.std.proofs.lemmas.Simd.{map-map}
 use Rattle.std.specs.Borrow.{Bor}
-use Rattle.yf_events.specs.declared.document.Directive.{Directive}
+use Rattle.yf_events.specs.declared.directive.Directive.{Directive}
 use Rattle.yf_events.specs.Content.{ContentValue, items_of_event, nodes_of, BeforeValue, a_directive, a_word, items_of_directive}
 use Rattle.yf_events.specs.Event.{EventValue}
 use Rattle.yf_events.specs.Reading.{events_of}

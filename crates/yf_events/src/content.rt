@@ -5,7 +5,8 @@ ghost use Rattle.yf_events.specs.Content.{before_value, content_of, content_valu
 ghost use Rattle.yf_events.specs.Event.{event_value};
 ghost use Rattle.yf_props.specs.Props.{name_value};
 
-use crate::document::{Directive, Doc};
+use crate::directive::Directive;
+use crate::document::Doc;
 use crate::event::{Event, ScalarStyle};
 use crate::reading::Reading;
 use std::alloc::{AllocError, Global};

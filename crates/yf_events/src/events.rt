@@ -1,10 +1,9 @@
-//! Lists of events and of comments.
+//! Lists of events.
 ghost use Rattle.std.specs.Prelude.{◌≡◌, ◌<◌, [], ◌∷◌, ◌++◌, length, map, slice_get, if◌then◌else◌, is_ok};
 
 use crate::event::PlacedEvent;
 use std::alloc::{AllocError, Global};
 use std::marker::Model;
-pub use yf_comments::comments::Comments;
 
 /// Events in order. In a contract it is the list of what they are.
 #[derive(Debug, Drop)]

@@ -1,14 +1,16 @@
 //! Readings: the flat list of events with their places, its notation and its content.
 #![tactic(auto)]
 
+pub mod comments;
 pub mod content;
+pub mod directive;
 pub mod document;
-pub mod escapes;
+mod escapes;
 pub mod event;
 pub mod events;
-pub mod leaves;
+mod leaves;
 pub mod lists;
-pub mod nesting;
+mod nesting;
 pub mod notation;
 pub mod part;
 pub mod reading;

@@ -1,9 +1,10 @@
 //! The lists that a reading is made of.
 ghost use Rattle.std.specs.Prelude.{◌≡◌, [], ◌∷◌, ◌++◌, IfOk};
 
-use crate::document::Doc;
+use crate::document::Documents;
 use crate::event::PlacedEvent;
-use crate::events::{Comments, Events};
+use crate::comments::Comments;
+use crate::events::Events;
 use crate::row::Row;
 use std::alloc::{AllocError, Global};
 use yf_comments::comment::Comment;
@@ -20,7 +21,7 @@ pub struct Lists<'a> {
     /// For each comment, whether it stands on the line on which the last leaf with characters that begins before it
     /// ends.
     pub on_leaf_line: Row<bool>,
-    pub documents: Row<Doc<'a>>,
+    pub documents: Documents<'a>,
     /// The byte offsets of the escapes that are no character.
     pub escapes: Row<usize>,
 }
@@ -39,7 +40,7 @@ impl<'a> Lists<'a> {
             resolved: Row::new(alloc),
             comments: Comments::new(alloc),
             on_leaf_line: Row::new(alloc),
-            documents: Row::new(alloc),
+            documents: Documents::new(alloc),
             escapes: Row::new(alloc),
         }
     }

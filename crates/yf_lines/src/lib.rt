@@ -8,6 +8,7 @@ pub mod line;
 pub mod fold;
 pub mod output;
 pub mod place;
+pub mod quotes;
 pub mod source_text;
 pub mod table;
 pub mod steady;
