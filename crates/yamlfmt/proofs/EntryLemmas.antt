@@ -17,9 +17,10 @@ use Rattle.yf_plain.specs.Plain.{PlainItem, PlainLine, PlainFront, is_plain_char
 use Rattle.yf_plain.specs.Plain.PlainItem.{set_off}
 use Rattle.yf_plain.specs.Plain.PlainLine.{one_line}
 use Rattle.yf_plain.proofs.PlainLemmas.{ns_not_white, ns_below, plain_is_ns, first_is_ns, item_stuck, line_chosen, line_forward}
-use Rattle.yamlfmt.specs.FirstPath.{Item, LineEnd, EntryLine}
+use Rattle.yamlfmt.specs.FirstPath.{Item, EntryLine}
 use Rattle.yamlfmt.specs.FirstLists.{EntryAt}
-use Rattle.yamlfmt.specs.FirstPath.LineEnd.{with_break, with_text}
+use Rattle.yf_lines.specs.Lines.{LineEnd}
+use Rattle.yf_lines.specs.Lines.LineEnd.{at_break, at_end}
 use Rattle.yamlfmt.specs.FirstPath.EntryLine.{an_entry}
 
 -- what stands at the end of a line is no white, and no character of a scalar
@@ -48,8 +49,8 @@ unfolding is_white
 white_at_end = refl
 
 end_char : {t : List ℕ} {i j : ℕ} → LineEnd t i j → (code t i ≡ 13) ⊎ ((code t i ≡ 10) ⊎ (code t i ≡ no_char))
-end_char (with_break b) = ⊎_elim (λ (e : code _ _ ≡ 13). inl e) (λ (e : code _ _ ≡ 10). inr (inl e)) (break_char b)
-end_char {t} {i} (with_text e) = inr (inr (ap (code t) e ∙ code-end t))
+end_char (at_break b) = ⊎_elim (λ (e : code _ _ ≡ 13). inl e) (λ (e : code _ _ ≡ 10). inr (inl e)) (break_char b)
+end_char {t} {i} (at_end e) = inr (inr (ap (code t) e ∙ code-end t))
 
 end_test : {t : List ℕ} {i j : ℕ} (p : ℕ → Bool) → p 13 ≡ false → p 10 ≡ false → p no_char ≡ false → LineEnd t i j → p (code t i) ≡ false
 end_test {t} {i} p a b c l =
@@ -69,8 +70,8 @@ end_not_plain {t} {i} c l =
     (λ (e : is_plain_char t c i ≡ false). e) (cases_Bool (is_plain_char t c i))
 
 end_order : {t : List ℕ} {i j : ℕ} → LineEnd t i j → i ≤ j
-end_order (with_break b) = let f = break_forward b in omega arith
-end_order (with_text e) = omega arith
+end_order (at_break b) = let f = break_forward b in omega arith
+end_order (at_end e) = omega arith
 
 no_break_past : {t : List ℕ} {i j : ℕ} → i ≡ length t → Break t i j → ⊥
 no_break_past {t} {i} e b =
@@ -78,16 +79,16 @@ no_break_past {t} {i} e b =
     ⊎_elim (λ (q : code t i ≡ 13). absurd (omega arith)) (λ (q : code t i ≡ 10). absurd (omega arith)) (break_char b)
 
 line_end_unique : {t : List ℕ} {i j k : ℕ} → LineEnd t i j → LineEnd t i k → j ≡ k
-line_end_unique (with_break a) (with_break b) = break_unique a b
-line_end_unique (with_break a) (with_text e) = absurd (no_break_past e a)
-line_end_unique (with_text e) (with_break b) = absurd (no_break_past e b)
-line_end_unique (with_text e) (with_text f) = refl
+line_end_unique (at_break a) (at_break b) = break_unique a b
+line_end_unique (at_break a) (at_end e) = absurd (no_break_past e a)
+line_end_unique (at_end e) (at_break b) = absurd (no_break_past e b)
+line_end_unique (at_end e) (at_end f) = refl
 
 pub no_line_end : {t : List ℕ} {i : ℕ} → i ≢ length t → Nowhere (Break t i) → Nowhere (LineEnd t i)
 no_line_end {t} {i} n s = record { none = λ j l. go n s l } where
   go : {j : ℕ} → i ≢ length t → Nowhere (Break t i) → LineEnd t i j → ⊥
-  go {j} n s (with_break b) = s.none j b
-  go n s (with_text e) = n e
+  go {j} n s (at_break b) = s.none j b
+  go n s (at_end e) = n e
 
 -- what characters the scalar on a line spells
 item_spelled : {t : List ℕ} {c : Ctx} {i j : ℕ} {x : List ℕ} → IsUtf8 t → PlainItem t c i j x → Spelled t i j x

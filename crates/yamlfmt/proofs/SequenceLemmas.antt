@@ -1,5 +1,5 @@
 -- What the lines read so far are, and what they leave open.
-use Rattle.std.proofs.Common.{◌≡◌, ◌≢◌, ℕ, ◌+◌, ◌-◌, ◌<◌, ◌≤◌, List, [], ◌∷◌, ◌++◌, length, map, take, drop, refl, sym, ap, ◌∙◌, subst, inl, inr, ◌⊎◌, ⊎_elim, arith}
+use Rattle.std.proofs.Common.{◌≡◌, ◌≢◌, ℕ, ◌-◌, ◌<◌, ◌≤◌, List, [], ◌∷◌, ◌++◌, length, map, take, drop, refl, sym, ap, ◌∙◌, subst, inl, inr, ◌⊎◌, ⊎_elim, arith}
 use Rattle.std.proofs.lemmas.List.{length-append, map-append}
 use Rattle.std.proofs.lemmas.Bool.{cases_lt}
 use Rattle.std.specs.Str.{IsCharBoundary}
@@ -7,6 +7,8 @@ use Rattle.yf_chars.specs.Chain.{Chain, Stuck}
 use Rattle.yf_chars.specs.Chain.Chain.{done, step}
 use Rattle.yf_chars.proofs.ChainLemmas.{chain_forward, chain_more, stuck_unique}
 use Rattle.yf_chars.proofs.TextLemmas.{code-end}
+use Rattle.yf_lines.specs.declared.place.Place.{Place}
+use Rattle.yf_lines.specs.Lines.{PlaceOf}
 use Rattle.yf_events.specs.Event.{Placed}
 use Rattle.yamlfmt.specs.declared.first_path.ScalarLine.{ScalarLine}
 use Rattle.yamlfmt.specs.FirstPath.{Item, EntryLine, IsSequence, Derives, NoEntryAt}
@@ -14,13 +16,11 @@ use Rattle.yamlfmt.specs.FirstLists.{EntryAt, placed_scalar, placed_item, stop_b
 use Rattle.yamlfmt.proofs.EntryLemmas.{entry_functional, no_dash}
 
 -- the lines up to the offset are entries, and the events are theirs
-pub record SoFar (t : List ℕ) (at line : ℕ) (events : List Placed) : Type 0 where
+pub record SoFar (t : List ℕ) (at : ℕ) (events : List Placed) : Type 0 where
   pub items : List Item
   pub lines : Chain (EntryLine t) 0 at items
   pub boundary : IsCharBoundary t at
   pub left : (at < length t) ⊎ (length t ≡ 0)
-  pub count : line ≡ length items + 1
-  pub few : length items ≤ at
   pub are : events ≡ map placed_item items
 
 -- no line begins at the end of the text
@@ -45,27 +45,25 @@ no_sequence {t} {at} c s l q =
     (λ (h : length t ≡ 0). let none = no_lines (sym h) q.lines in let any = q.any in absurd (omega arith)) l
 
 -- the first line that is no entry
-pub not_an_entry : {t : List ℕ} {at line : ℕ} {events : List Placed} → SoFar t at line events → Stuck (EntryLine t at) → NoEntryAt t (record { line = line; column = 1 })
-not_an_entry {at = at} f s = record {
+pub not_an_entry : {t : List ℕ} {at : ℕ} {events : List Placed} {place : Place} → SoFar t at events → Stuck (EntryLine t at)
+    → PlaceOf t at place.line place.column → NoEntryAt t place
+not_an_entry {at = at} f s p = record {
   start = at;
   before = f.items;
   lines = f.lines;
   stuck = s;
   left = f.left;
-  line = f.count;
-  column = refl;
+  place_is = p;
   none = λ items q. no_sequence f.lines s f.left q;
 }
 
 -- before the first line
-pub nothing_yet : (t : List ℕ) → IsCharBoundary t 0 → SoFar t 0 1 []
+pub nothing_yet : (t : List ℕ) → IsCharBoundary t 0 → SoFar t 0 []
 nothing_yet t b = record {
   items = [];
   lines = done;
   boundary = b;
   left = ⊎_elim (λ (h : 0 < length t). inl h) (λ (h : length t ≤ 0). inr (omega arith)) (cases_lt 0 (length t));
-  count = refl;
-  few = omega arith;
   are = refl;
 }
 
@@ -77,25 +75,22 @@ item_at {l = l} e = record { dash = l.dash; start = l.scalar.start; stop = l.sca
 pub record ReadsItem (t : List ℕ) (l : ScalarLine) (p : Placed) : Type 0 where
   pub is : p ≡ placed_scalar l.dash l.scalar.start l.scalar.end (take (l.scalar.end - l.scalar.start) (drop l.scalar.start t))
 
-added : {t : List ℕ} {at line : ℕ} {events : List Placed} {l : ScalarLine} {p : Placed} (f : SoFar t at line events) (e : EntryAt t at l) → ReadsItem t l p
+added : {t : List ℕ} {at : ℕ} {events : List Placed} {l : ScalarLine} {p : Placed} (f : SoFar t at events) (e : EntryAt t at l) → ReadsItem t l p
     → events ++ p ∷ [] ≡ map placed_item (f.items ++ item_at e ∷ [])
 added {l = l} {p = p} f e q =
     ap (λ w. w ++ p ∷ []) f.are
     ∙ ap (λ w. map placed_item f.items ++ w ∷ []) (q.is ∙ ap (placed_scalar l.dash l.scalar.start l.scalar.end) e.bytes)
     ∙ sym (map-append placed_item f.items (item_at e ∷ []))
 
-pub one_more : {t : List ℕ} {at line : ℕ} {events : List Placed} {l : ScalarLine} {p : Placed} → SoFar t at line events → EntryAt t at l → l.next ≢ length t
-    → ReadsItem t l p → SoFar t l.next (line + 1) (events ++ p ∷ [])
+pub one_more : {t : List ℕ} {at : ℕ} {events : List Placed} {l : ScalarLine} {p : Placed} → SoFar t at events → EntryAt t at l → l.next ≢ length t
+    → ReadsItem t l p → SoFar t l.next (events ++ p ∷ [])
 one_more {t} {at} {l = l} f e n q =
     let on = (entry_functional t).forward e.entry in
-    let size = length-append f.items (item_at e ∷ []) in
     record {
       items = f.items ++ item_at e ∷ [];
       lines = chain_more f.lines e.entry;
       boundary = e.boundary;
       left = inl (omega (arith, e.boundary.0));
-      count = omega (arith, f.count);
-      few = omega (arith, f.few);
       are = added f e q;
     }
 
@@ -104,7 +99,7 @@ stop-snoc n [] item = refl
 stop-snoc n (x ∷ items) item = stop-snoc x.stop items item
 
 -- the last line
-pub all_read : {t : List ℕ} {at line : ℕ} {events : List Placed} {l : ScalarLine} {p : Placed} → SoFar t at line events → EntryAt t at l → l.next ≡ length t
+pub all_read : {t : List ℕ} {at : ℕ} {events : List Placed} {l : ScalarLine} {p : Placed} → SoFar t at events → EntryAt t at l → l.next ≡ length t
     → ReadsItem t l p
     → (items : List Item) × Derives t items × (events ++ p ∷ [] ≡ map placed_item items) × (l.scalar.end ≡ stop_behind 0 items)
 all_read {t} {at} f e n q =

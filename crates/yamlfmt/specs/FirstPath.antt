@@ -6,17 +6,12 @@ use Rattle.yf_chars.specs.Text.{code}
 use Rattle.yf_chars.specs.Class.{is_white}
 use Rattle.yf_chars.specs.Chain.{Chain, Many, Stuck}
 use Rattle.yf_lines.specs.declared.place.Place.{Place}
-use Rattle.yf_lines.specs.Basic.{Break}
+use Rattle.yf_lines.specs.Lines.{LineEnd, PlaceOf}
 use Rattle.yf_plain.specs.Plain.{PlainFront}
 use Rattle.yf_props.specs.Props.{no_props}
 use Rattle.yf_events.specs.declared.event.ScalarStyle.TheVariants.{Plain}
 use Rattle.yf_events.specs.Event.{EventValue, stream_starts, stream_ends, document_starts, document_ends, sequence_starts, sequence_ends, scalar_node}
 use Rattle.yf_events.specs.Notation.{notation}
-
--- a line ends with a break, or where the text does
-pub data LineEnd (t : List ℕ) : ℕ → ℕ → Type 0 where
-  with_break : {i j : ℕ} → Break t i j → LineEnd t i j
-  with_text : {i : ℕ} → i ≡ length t → LineEnd t i i
 
 -- an entry: where its `-` stands, and its scalar from one offset to another, with its characters
 pub record Item : Type 0 where
@@ -41,15 +36,14 @@ pub record Derives (t : List ℕ) (items : List Item) : Type 0 where
   pub derived : IsSequence t items
   pub only : (others : List Item) → IsSequence t others → others ≡ items
 
--- the text is no such sequence, and the place is the start of the first line that is no entry; the empty text has one line
+-- the text is no such sequence: from there on, at the place, a line is no entry, and each before it is one
 pub record NoEntryAt (t : List ℕ) (place : Place) : Type 0 where
   pub start : ℕ
   pub before : List Item
   pub lines : Chain (EntryLine t) 0 start before
   pub stuck : Stuck (EntryLine t start)
   pub left : (start < length t) ⊎ (length t ≡ 0)
-  pub line : place.line ≡ length before + 1
-  pub column : place.column ≡ 1
+  pub place_is : PlaceOf t start place.line place.column
   pub none : (items : List Item) → IsSequence t items → ⊥
 
 -- the event of an entry's scalar

@@ -5,7 +5,8 @@ ghost use Rattle.std.specs.Str.{IsCharBoundary};
 ghost use Rattle.yf_chars.specs.Chain.{Nowhere, Stuck};
 ghost use Rattle.yf_events.specs.Event.{event_value, placed_value};
 ghost use Rattle.yf_props.specs.Props.{no_props, props_value};
-ghost use Rattle.yamlfmt.specs.FirstPath.{Item, LineEnd, EntryLine, Derives};
+ghost use Rattle.yf_lines.specs.Lines.{LineEnd, PlaceOf};
+ghost use Rattle.yamlfmt.specs.FirstPath.{Item, EntryLine, Derives};
 ghost use Rattle.yamlfmt.specs.FirstLists as Made;
 
 use std::alloc::{AllocError, Global};
@@ -22,6 +23,7 @@ use yf_events::slices::Slices;
 use yf_lines::basic::{line_break, skip_whites};
 use yf_lines::fault::Fault;
 use yf_lines::place::Place;
+use yf_lines::table::LineTable;
 use yf_lines::text::{OwnedText, Text};
 use yf_plain::plain::read_plain_line;
 use yf_props::props::Props;
@@ -65,12 +67,12 @@ fn read_entries<'a>(alloc: Global, text: &'a str) -> Result<Entries<'a>, Fault>
 {
     let mut events = Events::new(alloc);
     let mut at = 0;
-    let mut line = 1;
     'lines: loop {
         let Some(entry) = entry_line(text, at) else {
-            return Err(Fault::Unsupported {
-                place: Place { line, column: 1 },
-            });
+            match place_in(alloc, text, at) {
+                Ok(place) => return Err(Fault::Unsupported { place }),
+                Err(AllocError) => return Err(Fault::Memory),
+            }
         };
         match events.push(scalar_in(alloc, text, entry)) {
             Ok(()) => {}
@@ -83,8 +85,16 @@ fn read_entries<'a>(alloc: Global, text: &'a str) -> Result<Entries<'a>, Fault>
             });
         }
         at = entry.next;
-        line += 1;
     }
+}
+
+// Line and column of an offset.
+fn place_in(alloc: Global, text: &str, at: usize) -> Result<Place, AllocError>
+    requires { IsCharBoundary text.now at }
+    ensures { IfOk result (λ place. PlaceOf text.now at place.line place.column) }
+{
+    let table = LineTable::build(alloc, text)?;
+    Ok(table.place(at))
 }
 
 // A line that is an entry: `-`, one white or more, a plain scalar on one line, whites.
