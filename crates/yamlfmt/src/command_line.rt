@@ -11,10 +11,15 @@ use std::alloc::{AllocError, Global};
 use yf_lines::text::OwnedText;
 
 const EVENTS: &str = "events";
+
 const CHECK: &str = "check";
+
 const FMT: &str = "fmt";
+
 const CONFIG: &str = "config";
+
 const WRITE: &str = "write";
+
 const FILE: &str = "file";
 
 /// What is to be done with a stream.
@@ -83,11 +88,17 @@ fn yamlfmt_command<'a>(alloc: Global) -> Result<Command<'a>, AllocError>
     ensures { IfOk result (λ c. app_of c ≡ yamlfmt) }
 {
     let events = reading_command(alloc, EVENTS, "Print the events of a YAML stream")?;
-    let check = reading_command(alloc, CHECK, "Print where a YAML stream departs from the house style (not there yet)")?;
+    let check = reading_command(
+        alloc,
+        CHECK,
+        "Print where a YAML stream departs from the house style (not there yet)",
+    )?;
     let fmt = fmt_command(alloc)?;
     Command::new(alloc, "yamlfmt")
         .bin_name("yamlfmt")?
-        .about("Prints the events of a YAML stream, checks its style and rewrites it in one house style")
+        .about(
+            "Prints the events of a YAML stream, checks its style and rewrites it in one house style",
+        )
         .no_binary_name(true)
         .subcommand_required(true)
         .arg_required_else_help(true)
@@ -96,7 +107,11 @@ fn yamlfmt_command<'a>(alloc: Global) -> Result<Command<'a>, AllocError>
         .subcommand(fmt)
 }
 
-fn reading_command<'a>(alloc: Global, name: &'a str, about: &'a str) -> Result<Command<'a>, AllocError>
+fn reading_command<'a>(
+    alloc: Global,
+    name: &'a str,
+    about: &'a str,
+) -> Result<Command<'a>, AllocError>
     ensures shape { IfOk result (λ c. app_of c ≡ reading_command name.entry.now) }
     ensures local { IfOk result (λ c. (out-Command c).has_globals ≡ false) }
 {
@@ -210,7 +225,11 @@ fn verb_of(name: &str) -> Option<Verb>
 }
 
 // The value of an option or of a word, as a text of its own.
-fn text_given(alloc: Global, given: &ArgMatches<'_>, id: &str) -> Result<Option<OwnedText>, AllocError>
+fn text_given(
+    alloc: Global,
+    given: &ArgMatches<'_>,
+    id: &str,
+) -> Result<Option<OwnedText>, AllocError>
     ensures { IfOk result (λ text. text ≡ first_of id.now (rows_of (found_of given.now))) }
 {
     match given.get_str(id) {
@@ -234,7 +253,12 @@ fn no_command(alloc: Global) -> Result<Usage, AllocError>
     ensures { IfOk result IsWrong }
 {
     let command = yamlfmt_command(alloc)?;
-    refusal(alloc, command, ErrorKind::MissingSubcommand, "a command is missing")
+    refusal(
+        alloc,
+        command,
+        ErrorKind::MissingSubcommand,
+        "a command is missing",
+    )
 }
 
 // The refusal of `--write` without a file.
@@ -242,11 +266,21 @@ fn no_file(alloc: Global) -> Result<Usage, AllocError>
     ensures { IfOk result IsWrong }
 {
     let command = fmt_command(alloc)?.bin_name("yamlfmt fmt")?;
-    refusal(alloc, command, ErrorKind::MissingRequiredArgument, "the argument '--write' needs a FILE")
+    refusal(
+        alloc,
+        command,
+        ErrorKind::MissingRequiredArgument,
+        "the argument '--write' needs a FILE",
+    )
 }
 
 // A refusal with a message and the usage of the command.
-fn refusal(alloc: Global, mut command: Command<'_>, kind: ErrorKind, message: &str) -> Result<Usage, AllocError>
+fn refusal(
+    alloc: Global,
+    mut command: Command<'_>,
+    kind: ErrorKind,
+    message: &str,
+) -> Result<Usage, AllocError>
     ensures { IfOk result IsWrong }
 {
     let error = command.error(kind, message)?;

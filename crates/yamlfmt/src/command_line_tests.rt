@@ -91,7 +91,8 @@ fn refuses_other_words(rt: HostRuntime) -> Result<(), Fail> {
 
 #[test]
 fn says_how_it_is_used(rt: HostRuntime) -> Result<(), Fail> {
-    let overview = "Prints the events of a YAML stream, checks its style and rewrites it in one house style
+    let overview =
+        "Prints the events of a YAML stream, checks its style and rewrites it in one house style
 
 Usage: yamlfmt <COMMAND>
 

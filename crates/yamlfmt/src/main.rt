@@ -2,22 +2,22 @@
 #![tactic(auto)]
 
 mod command_line;
+#[cfg(test)]
+mod command_line_tests;
 mod input;
 mod report;
 mod settings;
 #[cfg(test)]
-mod tests;
-#[cfg(test)]
 mod settings_tests;
 #[cfg(test)]
-mod command_line_tests;
+mod tests;
 
 use input::read_all;
 use report::report;
 use std::alloc::Global;
+use std::env;
 use std::process::ExitCode;
 use std::rt::Env;
-use std::env;
 use yf_chars::utf8::check_utf8;
 use yf_lines::fault::Fault;
 use yf_lines::watched::{Source, Watched};

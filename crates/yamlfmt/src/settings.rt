@@ -15,8 +15,11 @@ use yf_lines::quotes::Quotes;
 use yf_lines::text::OwnedText;
 
 const INDENT: &str = "indent";
+
 const MAX_LINE: &str = "max_line";
+
 const QUOTES: &str = "quotes";
+
 const SEQ_INDENT: &str = "seq_indent";
 
 /// The style that a settings text sets: a TOML document with the keys `indent` (an integer from 2 to 8), `max_line` (an

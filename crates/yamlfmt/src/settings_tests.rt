@@ -31,8 +31,14 @@ fn sets_what_is_named(rt: HostRuntime) -> Result<(), Fail> {
     for (text, indent, max_line, quotes, seq_indent) in &texts {
         match style_from_toml(rt.alloc(), text) {
             Ok(style) => {
-                assert!(rt; style.indent == *indent && style.max_line == *max_line, "{text}");
-                assert!(rt; style.quotes == *quotes && style.seq_indent == *seq_indent, "{text}");
+                assert!(rt;
+                    style.indent == *indent && style.max_line == *max_line,
+                    "{text}"
+                );
+                assert!(rt;
+                    style.quotes == *quotes && style.seq_indent == *seq_indent,
+                    "{text}"
+                );
             }
             Err(fault) => panic!(rt; "{text}: {fault}"),
         }
