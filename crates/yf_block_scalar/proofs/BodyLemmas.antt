@@ -9,7 +9,8 @@ use Rattle.yf_chars.specs.Chain.{Chain, Many, Stuck, Chosen, Functional, Nowhere
 use Rattle.yf_chars.specs.Chain.Chain.{done, step}
 use Rattle.yf_chars.proofs.TextLemmas.{reads_byte, reads_real, code-end, next-mark, code_at_boundary}
 use Rattle.yf_chars.proofs.ChainLemmas.{chain_append, chain_one, chain_more, many_chosen, many_unique, stuck_unique}
-use Rattle.yf_lines.specs.Basic.{Spaces, Break, is_marker}
+use Rattle.yf_lines.specs.Basic.{Spaces, Break, LineStart, is_marker}
+use Rattle.yf_lines.specs.Basic.LineStart.{after_break}
 use Rattle.yf_lines.proofs.BasicLemmas.{break_char, break_forward, break_unique, no_break_here, no_marker, three_first}
 use Rattle.yf_block_scalar.specs.Body.{SpaceLine, Bare, largest, Ends, Content, Line, Lines, Tail, Taken, Other, Indented, Detected, Shallow, MarkerLine, least}
 use Rattle.yf_block_scalar.specs.Body.Bare.{bare}
@@ -328,3 +329,27 @@ other_there t at first u b n l s no_space no_line =
     let inside : code t first < no_char = code_at_boundary t first u b within in
     let none : (j : ℕ) → Break t first j → ⊥ = λ j q. no_line (first - at) j (space_line_there t at first j l s q) in
     subst (λ w. Other t w) same (record { inside = λ (e : code t first ≡ no_char). absurd (omega arith); no_space = no_space; no_break = record { none = none } })
+
+-- the lines of a scalar end at the start of a line, or at the end of the text
+ends_starts : {t : List ℕ} {h j : ℕ} {o : Bool} → Ends t h j o → j < length t → LineStart t j
+ends_starts (by_break b) l = after_break b
+ends_starts (by_text e) l = absurd (omega arith)
+
+content_starts : {t : List ℕ} {k i j : ℕ} {x : List ℕ} {o : Bool} → Content t k i j x o → j < length t → LineStart t j
+content_starts (content s m n q c) l = ends_starts q l
+
+lines_starts : {t : List ℕ} {k i j : ℕ} {ls : List (List ℕ)} {o : Bool} → (i < length t → LineStart t i) → Lines t k i j ls o
+    → j < length t → LineStart t j
+lines_starts s no_content l = s l
+lines_starts s (up_to c d) l = content_starts d l
+
+bare_next : {t : List ℕ} {i j : ℕ} {x : List ℕ} → Bare t i j x → LineStart t j
+bare_next (bare m a) = after_break a.ends
+
+pub bares_starts : {t : List ℕ} {i j : ℕ} {x : List ℕ} → (i < length t → LineStart t i) → Chain (Bare t) i j x → j < length t → LineStart t j
+bares_starts s done l = s l
+bares_starts s (step b c) l = bares_starts (λ _. bare_next b) c l
+
+pub taken_starts : {t : List ℕ} {k i p count : ℕ} {ls : List (List ℕ)} {o : Bool} → (i < length t → LineStart t i) → Taken t k i ls o count p
+    → p < length t → LineStart t p
+taken_starts s d l = bares_starts (λ h. lines_starts s d.lines h) d.tail.lines l

@@ -8,6 +8,7 @@ use Rattle.yf_chars.specs.Chain.{Chain, Many, Stuck, Chosen, Nowhere}
 use Rattle.yf_lines.specs.Basic.{Spaces, Break, is_marker}
 use Rattle.yf_comments.specs.Comment.{CommentValue}
 use Rattle.yf_comments.specs.Comments.{LineEnd}
+use Rattle.yf_block_scalar.specs.declared.body.BlockText.{BlockText}
 use Rattle.yf_block_scalar.specs.declared.header.Header.{Header}
 use Rattle.yf_block_scalar.specs.declared.header.Chomp.{Chomp}
 use Rattle.yf_block_scalar.specs.declared.header.Chomp.TheVariants.{Strip, Clip, Keep}
@@ -140,3 +141,7 @@ pub data Body (t : List ℕ) (n : ℤ) (h : Header) : ℕ → ℕ → BodyValue 
   without_content : {i p j : ℕ} {widths : List ℕ} {x : List CommentValue} → h.digit ≡ None
       → Chain (Bare t) i p widths → Shallow t n p → Trail t (least n) p j x
       → Body t n h i j (record { lines = []; open_end = false; tail = length widths; comments = first_noted (is_gap_tail h.chomp (length widths)) x })
+
+-- what a block scalar is to a contract: its lines, not its header
+abbrev pub body_value : BlockText → BodyValue
+body_value b = record { lines = b.lines; open_end = b.open_end; tail = b.tail; comments = b.comments }

@@ -1,8 +1,8 @@
-//! The lines of a block scalar (YAML 1.2.2, sections 8.1.1.1, 8.1.2 and 8.1.3).
-
+//! A block scalar as it is written (YAML 1.2.2, section 8.1).
 use crate::header::Header;
 use crate::lines::Lines;
 use yf_comments::comment::Comment;
+use yf_comments::comments::Comments;
 
 /// A block scalar as it is written.
 #[derive(Debug, Drop)]
@@ -16,6 +16,8 @@ pub struct BlockText<'a> {
     pub tail: usize,
     /// Whether the last content line ends at the end of the text, with no break.
     pub open_end: bool,
+    /// The comments of the comment lines behind the tail.
+    pub comments: Comments<'a>,
     /// The byte offset of the first line that is not taken.
     pub next: usize,
 }

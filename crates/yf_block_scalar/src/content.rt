@@ -54,7 +54,7 @@ fn push_lines(text: &mut String, is_folded: bool, lines: &Lines) -> Result<(), A
 }
 
 // So many line feeds.
-fn push_feeds(text: &mut String, count: usize) -> Result<(), AllocError>
+pub(crate) fn push_feeds(text: &mut String, count: usize) -> Result<(), AllocError>
     ensures { OnOk result (string_bytes text.new ≡ string_bytes text.old ++ feeds count) }
 {
     for _done in 0..count {

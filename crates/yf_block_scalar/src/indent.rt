@@ -2,7 +2,7 @@
 ghost use Rattle.std.specs.Prelude.{◌≡◌, ◌^◌, ◌≤ℤ◌, pos, ℕ, max, MatchBool};
 ghost use Rattle.std.specs.Str.{IsCharBoundary};
 ghost use Rattle.yf_block_scalar.specs.Body.{base, least, SpaceLine, MarkerLine};
-ghost use Rattle.yf_block_scalar.specs.Indentation.{Finds, Judges};
+ghost use Rattle.yf_block_scalar.specs.Indentation.{EndsAtBoundary, Finds, Judges};
 
 use crate::rows::space_line;
 use yf_lines::basic::{mark_stands, marker_stands, skip_spaces};
@@ -55,7 +55,8 @@ fn longer(first: usize, second: usize) -> usize
 pub(crate) fn find_indentation(s: &str, at: usize, n: i32) -> Indentation
     requires boundary { IsCharBoundary s.now at }
     requires small { n ≤ℤ pos (2 ^ 30) }
-    ensures { Finds s.now n at result }
+    ensures finds { Finds s.now n at result }
+    ensures boundary { EndsAtBoundary s.now result }
 {
     let mut place = at;
     let mut count = 0;
@@ -77,7 +78,8 @@ fn judge_line(s: &str, at: usize, n: i32, count: usize, longest: usize) -> Inden
     requires boundary { IsCharBoundary s.now at }
     requires small { n ≤ℤ pos (2 ^ 30) }
     requires other { (m j : ℕ) → SpaceLine s.now at m j → ⊥ }
-    ensures { Judges s.now n at count longest result }
+    ensures judges { Judges s.now n at count longest result }
+    ensures boundary { EndsAtBoundary s.now result }
 {
     let first = skip_spaces(s, at);
     if first == s.len() {

@@ -4,6 +4,14 @@
 pub mod body;
 pub mod content;
 pub mod header;
+pub mod header_reader;
 mod indent;
 pub mod lines;
+pub mod read;
+pub mod reader;
+mod rest;
 mod rows;
+mod trail;
+pub mod write;
+#[cfg(test)]
+mod tests;

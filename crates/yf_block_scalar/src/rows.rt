@@ -4,6 +4,7 @@ ghost use Rattle.std.specs.Str.{IsCharBoundary};
 ghost use Rattle.yf_chars.specs.Chain.{Many};
 ghost use Rattle.yf_chars.specs.Class.{is_nb_char};
 ghost use Rattle.yf_chars.specs.Text.{code};
+ghost use Rattle.yf_lines.specs.Basic.{LineStart};
 ghost use Rattle.yf_block_scalar.specs.Body.{SpaceLine, Content, Taken};
 
 use crate::lines::Lines;
@@ -38,7 +39,7 @@ pub(crate) struct Rows<'a> {
 }
 
 // The offset behind all nb-chars that stand at the offset.
-fn skip_nb_chars(s: &str, at: usize) -> usize
+pub(crate) fn skip_nb_chars(s: &str, at: usize) -> usize
     requires { IsCharBoundary s.now at }
     ensures chars { (x : List ℕ) × Many s.now is_nb_char at result x }
     ensures all { is_nb_char (code s.now result) ≡ false }
@@ -136,6 +137,7 @@ pub(crate) fn read_rows<'a>(alloc: Global, s: &'a str, at: usize, indent: usize)
     requires { IsCharBoundary s.now at }
     ensures reads { IfOk result (λ r. Taken s.now indent at r.lines r.open_end r.tail r.next) }
     ensures boundary { IfOk result (λ r. IsCharBoundary s.now r.next) }
+    ensures starts { IfOk result (λ r. (at < length s.now → LineStart s.now at) → r.next < length s.now → LineStart s.now r.next) }
 {
     let mut lines = Lines::new(alloc);
     let mut open_end = false;

@@ -1,13 +1,17 @@
 //! What no clause says: that calls succeed, at texts whose ends and comments were worked out by hand from the productions.
 
 use crate::lines::line_end;
-use crate::separation::{flow_line_prefix, separate, separate_in_line};
+use crate::read::{read_line_end, read_separation};
+use crate::separation::{flow_line_prefix, separate, separate_in_line, separate_lines};
 use std::test::Fail;
 use yf_chars::context::Ctx;
+use yf_lines::source_text::Src;
 
 #[test]
 fn separates_over_a_comment(rt: HostRuntime) -> Result<(), Fail> {
-    let found = separate(rt.alloc(), "x # c\n  y", 1, 2, Ctx::FlowOut)?.ok_or("none")?;
+    let src = Src::new(rt.alloc(), "x # c\n  y")?;
+    assert!(rt; src.text().is_char_boundary(1));
+    let found = read_separation(rt.alloc(), &src, 1, 2, Ctx::FlowOut)?.ok_or("none")?;
     assert_eq!(rt; found.end, 8);
     assert_eq!(rt; found.comments.len(), 1);
     let comment = found.comments.as_slice().first().ok_or("no comment")?;
@@ -20,11 +24,12 @@ fn separates_over_a_comment(rt: HostRuntime) -> Result<(), Fail> {
 
 #[test]
 fn ends_a_line_with_a_comment(rt: HostRuntime) -> Result<(), Fail> {
-    let found = line_end(rt.alloc(), "x # c\n  y", 1)?.ok_or("none")?;
+    let src = Src::new(rt.alloc(), "x # c\n  y")?;
+    assert!(rt; src.text().is_char_boundary(1));
+    let found = read_line_end(rt.alloc(), &src, 1)?.ok_or("none")?;
     assert_eq!(rt; found.end, 6);
     let comment = found.comments.as_slice().first().ok_or("no comment")?;
-    let text = comment.text;
-    assert!(rt; text == "# c");
+    assert_eq!(rt; comment.offset, 2);
     Ok(())
 }
 
@@ -76,6 +81,13 @@ fn notes_a_blank_line(rt: HostRuntime) -> Result<(), Fail> {
     let found = line_end(rt.alloc(), "a\n \t\n# c", 1)?.ok_or("none")?;
     let comment = found.comments.as_slice().first().ok_or("no comment")?;
     assert_eq!(rt; comment.blank_before, true);
+    Ok(())
+}
+
+#[test]
+fn separates_over_lines(rt: HostRuntime) -> Result<(), Fail> {
+    let found = separate_lines(rt.alloc(), "x\n\n  y", 1, 2)?.ok_or("none")?;
+    assert_eq!(rt; found.end, 5);
     Ok(())
 }
 

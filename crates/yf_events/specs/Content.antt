@@ -12,7 +12,7 @@ use Rattle.yf_events.specs.declared.content.DirectiveItem.{DirectiveItem}
 use Rattle.yf_events.specs.declared.content.DirectiveItem.TheVariants as Before
 use Rattle.yf_events.specs.declared.content.Kind.{Kind}
 use Rattle.yf_events.specs.declared.content.Kind.TheVariants.{Tagged, PlainAndSteady, Untagged}
-use Rattle.yf_events.specs.declared.document.Directive.{Directive}
+use Rattle.yf_events.specs.declared.directive.Directive.{Directive}
 use Rattle.yf_events.specs.declared.document.Doc.{Doc}
 use Rattle.yf_events.specs.declared.event.ScalarStyle.{ScalarStyle}
 use Rattle.yf_events.specs.declared.event.ScalarStyle.TheVariants.{Plain, Single, Double, Literal, Folded}

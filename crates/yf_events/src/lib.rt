@@ -1,19 +1,20 @@
 //! Readings: the flat list of events with their places, its notation and its content.
 #![tactic(auto)]
 
+pub mod comments;
 pub mod content;
+pub mod directive;
 pub mod document;
-pub mod escapes;
+mod escapes;
 pub mod event;
 pub mod events;
-pub mod leaves;
+mod leaves;
 pub mod lists;
-pub mod nesting;
+mod nesting;
 pub mod notation;
 pub mod part;
 pub mod reading;
 pub mod row;
 pub mod slices;
-
 #[cfg(test)]
 mod tests;

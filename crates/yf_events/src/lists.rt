@@ -1,9 +1,10 @@
 //! The lists that a reading is made of.
 ghost use Rattle.std.specs.Prelude.{◌≡◌, [], ◌∷◌, ◌++◌, IfOk};
 
-use crate::document::Doc;
+use crate::document::Documents;
 use crate::event::PlacedEvent;
-use crate::events::{Comments, Events};
+use crate::comments::Comments;
+use crate::events::Events;
 use crate::row::Row;
 use std::alloc::{AllocError, Global};
 use yf_comments::comment::Comment;
@@ -20,7 +21,7 @@ pub struct Lists<'a> {
     /// For each comment, whether it stands on the line on which the last leaf with characters that begins before it
     /// ends.
     pub on_leaf_line: Row<bool>,
-    pub documents: Row<Doc<'a>>,
+    pub documents: Documents<'a>,
     /// The byte offsets of the escapes that are no character.
     pub escapes: Row<usize>,
 }
@@ -39,14 +40,18 @@ impl<'a> Lists<'a> {
             resolved: Row::new(alloc),
             comments: Comments::new(alloc),
             on_leaf_line: Row::new(alloc),
-            documents: Row::new(alloc),
+            documents: Documents::new(alloc),
             escapes: Row::new(alloc),
         }
     }
 
     /// Adds an event at the end, with the resolved tag of the node that it begins. After a refused growth the event
     /// may stand there without its tag.
-    pub fn push_event(&mut self, event: PlacedEvent<'a>, tag: Option<OwnedText>) -> Result<(), AllocError>
+    pub fn push_event(
+        &mut self,
+        event: PlacedEvent<'a>,
+        tag: Option<OwnedText>,
+    ) -> Result<(), AllocError>
         ensures added { IfOk result (λ _. self.new ≡ record self.old { events = self.old.events ++ placed_value event.entry ∷ []; resolved = self.old.resolved ++ tag ∷ [] }) }
         ensures fit { Fits self.old → IfOk result (λ _. Fits self.new) }
     {
@@ -55,7 +60,11 @@ impl<'a> Lists<'a> {
     }
 
     /// Adds a comment at the end, with its note. After a refused growth the comment may stand there without its note.
-    pub fn push_comment(&mut self, comment: Comment<'a>, on_leaf_line: bool) -> Result<(), AllocError>
+    pub fn push_comment(
+        &mut self,
+        comment: Comment<'a>,
+        on_leaf_line: bool,
+    ) -> Result<(), AllocError>
         ensures added { IfOk result (λ _. self.new ≡ record self.old { comments = self.old.comments ++ comment_value comment.entry ∷ []; on_leaf_line = self.old.on_leaf_line ++ on_leaf_line ∷ [] }) }
         ensures fit { Fits self.old → IfOk result (λ _. Fits self.new) }
     {

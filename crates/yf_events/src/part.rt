@@ -1,6 +1,7 @@
 //! What the readers of nodes give.
 
-use crate::events::{Comments, Events};
+use crate::comments::Comments;
+use crate::events::Events;
 use crate::row::Row;
 
 /// One node: its events, the comments in it, and the byte offsets of the escapes in it that are no character.

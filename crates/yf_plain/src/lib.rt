@@ -2,3 +2,8 @@
 #![tactic(auto)]
 
 pub mod plain;
+
+pub use yf_lines::steady::is_steady;
+
+#[cfg(test)]
+mod tests;

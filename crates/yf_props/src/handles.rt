@@ -64,7 +64,9 @@ fn with_suffix(alloc: Global, prefix: &str, suffix: &str) -> Result<OwnedText, A
 impl<'a> Handles<'a> {
     /// The handles of a document without TAG directives: `!` stands for `!`, and `!!` for `tag:yaml.org,2002:`.
     pub fn new(alloc: Global) -> Handles<'a>
-        ensures { result ≡ [] }
+        ensures none { result ≡ [] }
+        ensures primary { prefix_of result (codes "!") ≡ Some (codes "!") }
+        ensures secondary { prefix_of result (codes "!!") ≡ Some (codes "tag:yaml.org,2002:") }
     {
         Handles {
             prefixes: IndexMap::new(alloc),

@@ -3,4 +3,9 @@
 
 pub mod alias;
 pub mod handles;
+pub mod properties;
 pub mod props;
+pub mod read;
+mod tag;
+#[cfg(test)]
+mod tests;

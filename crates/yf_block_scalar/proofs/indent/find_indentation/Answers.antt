@@ -19,7 +19,7 @@ lines-preserved c =
       few = omega (arith, c.lines.invariant.few, c.in-Some.ensures.order);
     }
 
-pub returns-in-None : goal.returns-in-None
-returns-in-None c =
+pub returns-in-None-clause-finds : goal.returns-in-None-clause-finds
+returns-in-None-clause-finds c =
     let old = c.lines.invariant.before in
-    find_from_judge c.args.n old.0 old.1.0 old.1.1 old.1.2 c.judge_line.result (rw (to_z-of_z c.ranges.n) at c.judge_line.ensures)
+    find_from_judge c.args.n old.0 old.1.0 old.1.1 old.1.2 c.judge_line.result (rw (to_z-of_z c.ranges.n) at c.judge_line.ensures.judges)

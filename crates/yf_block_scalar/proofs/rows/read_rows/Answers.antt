@@ -1,5 +1,5 @@
 use Rattle.std.proofs.Common.{◌-◌, ◌++◌, ◌∷◌, [], take, arith, ap, ◌∙◌}
-use Rattle.yf_block_scalar.proofs.BodyLemmas.{reading_none, reading_empty, reading_content, reading_done, no_line}
+use Rattle.yf_block_scalar.proofs.BodyLemmas.{reading_none, reading_empty, reading_content, reading_done, no_line, taken_starts}
 use Rattle.yf_block_scalar.proofs.rows.read_rows.Goals as goal
 
 pub rows-init : goal.rows-init
@@ -23,3 +23,6 @@ returns-in-None-content_line-clause-reads c =
     let d = reading_done c.rows.invariant.reading (no_line c.in-None.ensures.reads c.in-None-content_line.ensures.reads) in
     let same = c.truncate.ensures ∙ ap (λ w. take (w - c.rows.tail) c.rows.lines) c.len.ensures in
     rw same d
+
+pub returns-in-None-content_line-clause-starts : goal.returns-in-None-content_line-clause-starts
+returns-in-None-content_line-clause-starts c = λ starts within. taken_starts starts (returns-in-None-content_line-clause-reads c) within
