@@ -12,7 +12,8 @@ use std::alloc::{AllocError, Global};
 use yf_chars::context::Ctx;
 use yf_chars::text::stands;
 use yf_comments::comments::Comments;
-use yf_events::document::Doc;
+use yf_events::directive::Directives;
+use yf_events::document::{Doc, Documents};
 use yf_events::event::{Entry, Event, PlacedEvent, ScalarStyle, Span};
 use yf_events::events::Events;
 use yf_events::lists::Lists;
@@ -222,10 +223,10 @@ fn lists_of<'a>(alloc: Global, entries: Entries<'a>) -> Result<Lists<'a>, AllocE
 {
     let events = stream_of(alloc, entries)?;
     let resolved = no_tags(alloc, events.len())?;
-    let mut documents = Row::new(alloc);
+    let mut documents = Documents::new(alloc);
     documents.push(Doc {
         start: 0,
-        directives: Row::new(alloc),
+        directives: Directives::new(alloc),
     })?;
     Ok(Lists {
         events,
