@@ -5,3 +5,4 @@ pub mod Report
 pub mod Run
 pub mod Settings
 pub mod CommandLine
+pub mod Program

@@ -6,6 +6,7 @@ mod command_line;
 mod command_line_tests;
 mod first_path;
 mod input;
+mod program;
 mod report;
 mod run;
 mod settings;
@@ -14,37 +15,69 @@ mod settings_tests;
 #[cfg(test)]
 mod tests;
 
+use command_line::{Cmd, parse_line};
+use program::{answer_usage, read_style, run};
 use report::report;
-use run::run_events;
 use std::env;
+use std::fs::File;
+use std::io;
 use std::process::ExitCode;
-use std::rt::Env;
+use yf_emit::style::Style;
+use yf_lines::fault::Fault;
+use yf_lines::text::OwnedText;
 use yf_lines::watched::Watched;
 
-/// The status for words on the command line that mean nothing.
-const USAGE: u8 = 3;
+/// The status for a command line that cannot be read.
+const UNREADABLE: u8 = 3;
 
 fn main(rt: HostRuntime) -> ExitCode {
-    if !asks_for_events(&rt) {
-        let _ = eprintln!(rt; "usage: yamlfmt events < FILE");
-        return ExitCode::from(USAGE);
-    }
-    let mut reader = Watched::new(rt.reader());
-    let mut writer = Watched::new(rt.stdout());
-    match run_events(rt.alloc(), &mut reader, &mut writer) {
-        Ok(()) => ExitCode::SUCCESS,
-        Err(fault) => ExitCode::from(report(&fault, &mut Watched::new(rt.stderr()))),
-    }
+    let Ok(words) = words_given(&rt) else {
+        let _ = eprintln!(rt; "error: the command line cannot be read");
+        return ExitCode::from(UNREADABLE);
+    };
+    let mut error_stream = Watched::new(rt.stderr());
+    let status = match parse_line(rt.alloc(), words.as_slice()) {
+        Ok(command) => match run_files(&rt, &command) {
+            Ok(status) => status,
+            Err(fault) => report(&fault, &mut error_stream),
+        },
+        Err(usage) => answer_usage(&usage, &mut Watched::new(rt.stdout()), &mut error_stream),
+    };
+    ExitCode::from(status)
 }
 
-/// Whether the only word after the program's name is `events`.
-fn asks_for_events(rt: &(impl Env + Alloc)) -> bool {
-    let Ok(mut words) = env::args(rt) else {
-        return false;
-    };
+/// The words after the program's name.
+fn words_given(rt: &HostRuntime) -> io::Result<Vec<String>> {
+    let mut words = env::args(rt)?;
     let _program = words.next();
-    match words.next() {
-        Some(word) if word.as_str() == "events" => words.next().is_none(),
-        _ => false,
+    Ok(words.collect(rt.alloc())?)
+}
+
+/// Does a command over its files: the settings are read first.
+fn run_files(rt: &HostRuntime, command: &Cmd) -> Result<u8, Fault> {
+    let alloc = rt.alloc();
+    let style = match &command.config {
+        Some(path) => read_style(alloc, &mut Watched::new(open(rt, path)?))?,
+        None => Style::house(),
+    };
+    let mut writer = Watched::new(rt.stdout());
+    let mut error_stream = Watched::new(rt.stderr());
+    Ok(match &command.file {
+        Some(path) => {
+            let mut reader = Watched::new(open(rt, path)?);
+            run(alloc, command, &style, &mut reader, &mut writer, &mut error_stream)
+        }
+        None => {
+            let mut reader = Watched::new(rt.reader());
+            run(alloc, command, &style, &mut reader, &mut writer, &mut error_stream)
+        }
+    })
+}
+
+/// A file that cannot be opened is one that cannot be read.
+fn open(rt: &HostRuntime, path: &OwnedText) -> Result<File, Fault> {
+    match File::open(rt, path.as_str()) {
+        Ok(file) => Ok(file),
+        Err(_) => Err(Fault::ReadFailed),
     }
 }

@@ -47,7 +47,7 @@ pub fn style_from_toml(alloc: Global, text: &str) -> Result<Style, Fault>
 }
 
 // The fault of a text that is no TOML.
-fn no_key(alloc: Global) -> Fault
+pub fn no_key(alloc: Global) -> Fault
     ensures { result ≡ Fault.Config [] }
 {
     Fault::Config {

@@ -1,0 +1,71 @@
+-- What the program does for a command, over a reader, a writer and a stream for its faults.
+use Rattle.std.specs.Prelude.{◌≡◌, ◌⊎◌, ℕ, List, [], Bool, Option, codes}
+use Rattle.std.specs.Str.{IsUtf8}
+use Rattle.yf_emit.specs.declared.style.Style.{Style}
+use Rattle.yf_lines.specs.declared.fault.Fault.{Fault}
+use Rattle.yf_lines.specs.declared.fault.Fault.TheVariants as fault
+use Rattle.yf_lines.specs.Output.{Wrote, Broke}
+use Rattle.yamlfmt.specs.declared.command_line.Usage.{Usage}
+use Rattle.yamlfmt.specs.declared.command_line.Usage.TheVariants as usage
+use Rattle.yamlfmt.specs.declared.command_line.Verb.{Verb}
+use Rattle.yamlfmt.specs.declared.command_line.Verb.TheVariants.{Events, Check, Fmt}
+use Rattle.yamlfmt.specs.declared.run.TheConstants.{INPUT_LIMIT}
+use Rattle.yamlfmt.specs.Input.{ReadRefusal}
+use Rattle.yamlfmt.specs.Report.{fault_line, fault_status}
+use Rattle.yamlfmt.specs.Run.{Gave, Printed, Refused, Untouched}
+use Rattle.yamlfmt.specs.Settings.{SetsStyle, RefusesSettings}
+
+-- the text was written to the stream, or the stream has failed behind a front of it
+abbrev pub Reached : Option (List ℕ) → Option (List ℕ) → Bool → Bool → List ℕ → Type 0
+Reached old new before after text = Wrote old new before after text ⊎ Broke old new after text
+
+-- a run has ended well, and nothing was written to the stream of faults
+abbrev pub EndsWell : ℕ → Option (List ℕ) → Option (List ℕ) → Bool → Bool → Type 0
+EndsWell status old new before after = (status ≡ 0) × Untouched old new before after
+
+-- the fault's line was written to the stream of faults, and its status is the run's
+abbrev pub EndsBy : Fault → ℕ → Option (List ℕ) → Option (List ℕ) → Bool → Bool → Type 0
+EndsBy f status old new before after = (status ≡ fault_status f) × Reached old new before after (fault_line f)
+
+-- the bytes that were read set the style
+abbrev pub FileSets : Option (List ℕ) → Style → Type 0
+FileSets known style = (text : List ℕ) × Gave known text × IsUtf8 text × SetsStyle text style
+
+-- why a settings file is refused: it could not be read; it is no text, where the key is empty; its text is refused
+-- (before, after: the note that the reader has failed)
+abbrev pub FileRefused : Option (List ℕ) → Bool → Bool → Fault → Type 0
+FileRefused known before after fault.Memory = after ≡ before
+FileRefused known before after (fault.Config key) = (after ≡ before) × ((text : List ℕ) × Gave known text
+    × (((¬ IsUtf8 text) × (key ≡ [])) ⊎ (IsUtf8 text × RefusesSettings text (fault.Config key))))
+FileRefused known before after fault.ReadFailed = ReadRefusal known INPUT_LIMIT before after fault.ReadFailed
+FileRefused known before after _ = ⊥
+
+-- help was written, or could not be; a refusal was written to the stream of faults
+-- (old, new, before, after: the writer's; at, to, was, is: those of the stream of faults)
+abbrev pub Answered : Usage → ℕ → Option (List ℕ) → Option (List ℕ) → Bool → Bool
+    → Option (List ℕ) → Option (List ℕ) → Bool → Bool → Type 0
+Answered (usage.Help text) status old new before after at to was is =
+    (Wrote old new before after text × EndsWell status at to was is)
+    ⊎ (Broke old new after text × EndsBy fault.WriteFailed status at to was is)
+Answered (usage.Wrong text) status old new before after at to was is =
+    (status ≡ 3) × Untouched old new before after × Reached at to was is text
+Answered usage.Memory status old new before after at to was is =
+    Untouched old new before after × EndsBy fault.Memory status at to was is
+
+-- a command that is not there yet
+abbrev pub IsAbsent : List ℕ → ℕ → Option (List ℕ) → Option (List ℕ) → Bool → Bool
+    → Option (List ℕ) → Option (List ℕ) → Bool → Bool → Type 0
+IsAbsent line status old new before after at to was is =
+    (status ≡ 3) × Untouched old new before after × Reached at to was is line
+
+-- what a command does
+-- (known, read_before, read_after: what the reader had, and the note that it has failed; the others as above)
+abbrev pub Ran : Verb → ℕ → Option (List ℕ) → Bool → Bool → Option (List ℕ) → Option (List ℕ) → Bool → Bool
+    → Option (List ℕ) → Option (List ℕ) → Bool → Bool → Type 0
+Ran Events status known read_before read_after old new before after at to was is =
+    (Printed known old new before after × (read_after ≡ read_before) × EndsWell status at to was is)
+    ⊎ ((f : Fault) × Refused known read_before read_after old new before after f × EndsBy f status at to was is)
+Ran Check status known read_before read_after old new before after at to was is =
+    IsAbsent (codes "error: the command 'check' is not there yet\n") status old new before after at to was is
+Ran Fmt status known read_before read_after old new before after at to was is =
+    IsAbsent (codes "error: the command 'fmt' is not there yet\n") status old new before after at to was is

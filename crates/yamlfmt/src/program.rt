@@ -1,0 +1,82 @@
+//! What the program does for a command line, over any reader, any writer and any stream for its faults.
+ghost use Rattle.std.specs.Prelude.{◌≡◌, MatchResult};
+ghost use Rattle.yf_lines.specs.Output.{Writes};
+ghost use Rattle.yamlfmt.specs.Program.{Answered, FileRefused, FileSets, IsAbsent, Ran};
+
+use crate::command_line::{Cmd, Usage, Verb};
+use crate::input::read_all;
+use crate::report::report;
+use crate::run::{INPUT_LIMIT, run_events};
+use crate::settings::{no_key, style_from_toml};
+use std::alloc::Global;
+use yf_chars::utf8::check_utf8;
+use yf_emit::style::Style;
+use yf_lines::fault::Fault;
+use yf_lines::output::write_text;
+use yf_lines::watched::{Sink, Source};
+
+/// The status of a run that ended well.
+const GOOD: u8 = 0;
+
+/// The status for words on the command line that are refused.
+const USAGE: u8 = 3;
+
+/// Does the command, and answers the status: that of the run, or of the fault whose line was written to the stream of
+/// faults. Of the command only its verb counts: reader and writer are those of its files.
+pub fn run<R: Source, W: Sink, E: Sink>(
+    alloc: Global,
+    command: &Cmd,
+    _style: &Style,
+    reader: &mut R,
+    writer: &mut W,
+    error_stream: &mut E,
+) -> u8
+    ensures { Ran command.now.verb result (R.remaining reader.old) (R.has_failed reader.old) (R.has_failed reader.new)
+        (W.contents writer.old) (W.contents writer.new) (W.has_failed writer.old) (W.has_failed writer.new)
+        (E.contents error_stream.old) (E.contents error_stream.new) (E.has_failed error_stream.old) (E.has_failed error_stream.new) }
+{
+    match command.verb {
+        Verb::Events => match run_events(alloc, reader, writer) {
+            Ok(()) => GOOD,
+            Err(fault) => report(&fault, error_stream),
+        },
+        Verb::Check => {
+            let _ = write_text(error_stream, b"error: the command 'check' is not there yet\n");
+            USAGE
+        }
+        Verb::Fmt => {
+            let _ = write_text(error_stream, b"error: the command 'fmt' is not there yet\n");
+            USAGE
+        }
+    }
+}
+
+/// The style that a settings file sets. Bytes that are no text are `Fault::Config` with the empty key.
+pub fn read_style<R: Source>(alloc: Global, reader: &mut R) -> Result<Style, Fault>
+    ensures { MatchResult result (λ style. FileSets (R.remaining reader.old) style)
+        (λ fault. FileRefused (R.remaining reader.old) (R.has_failed reader.old) (R.has_failed reader.new) fault) }
+{
+    let bytes = read_all(alloc, reader, INPUT_LIMIT)?;
+    match check_utf8(bytes.as_slice()) {
+        Ok(text) => style_from_toml(alloc, text),
+        Err(_) => Err(no_key(alloc)),
+    }
+}
+
+/// Writes help to the writer, and why words are refused to the stream of faults, and answers the status.
+pub fn answer_usage<W: Sink, E: Sink>(usage: &Usage, writer: &mut W, error_stream: &mut E) -> u8
+    ensures { Answered usage.now result (W.contents writer.old) (W.contents writer.new) (W.has_failed writer.old) (W.has_failed writer.new)
+        (E.contents error_stream.old) (E.contents error_stream.new) (E.has_failed error_stream.old) (E.has_failed error_stream.new) }
+{
+    match usage {
+        Usage::Help(text) => match write_text(writer, text.as_str().as_bytes()) {
+            Ok(()) => GOOD,
+            Err(fault) => report(&fault, error_stream),
+        },
+        Usage::Wrong(text) => {
+            let _ = write_text(error_stream, text.as_str().as_bytes());
+            USAGE
+        }
+        Usage::Memory => report(&Fault::Memory, error_stream),
+    }
+}
