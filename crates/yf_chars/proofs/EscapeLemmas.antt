@@ -1,5 +1,5 @@
 -- Laws of escapes: from a place there is one escape at most.
-use Rattle.std.proofs.Common.{◌≡◌, ℕ, ◌+◌, ◌-◌, ◌*◌, ◌^◌, ◌<◌, ◌≤◌, true, false, true≢false, Some, None, refl, sym, ap, ◌∙◌, subst, ⊎_elim, arith, add-one, leb, List, [], ◌∷◌, ◌++◌, ◌/◌, ◌%◌, encode_utf8_all, encode_utf8, append-nil, append_assoc}
+use Rattle.std.proofs.Common.{◌≢◌, ◌⊎◌, ◌≡◌, ℕ, ◌+◌, ◌-◌, ◌*◌, ◌^◌, ◌<◌, ◌≤◌, true, false, true≢false, Some, None, refl, sym, ap, ◌∙◌, subst, ⊎_elim, arith, add-one, leb, List, [], ◌∷◌, ◌++◌, ◌/◌, ◌%◌, encode_utf8_all, encode_utf8, append-nil, append_assoc}
 use native.Mathlib.Numerals.{unary_clauses}
 use Rattle.std.proofs.Math.Nat.{pow-le-pow_right}
 use Rattle.std.proofs.lemmas.Bool.{cases_lt, and_parts, leb-true}
@@ -239,3 +239,55 @@ glue a x y z p q r = r ∙ ap (λ w. w ++ z) (glue_two a x y p q) ∙ append_ass
 
 pub glue_more : {d e : List ℕ} (a z w : List ℕ) → d ≡ a ++ z → e ≡ d ++ w → e ≡ a ++ (z ++ w)
 glue_more a z w p q = q ∙ ap (λ v. v ++ w) p ∙ append_assoc a z w
+
+-- an escape is one
+escape_chosen : {t : List ℕ} {i j v : ℕ} → Escape t i j v → Chosen (Escape t i) j v
+escape_chosen (by_letter b e) = chosen_letter b e
+escape_chosen (by_two n) = chosen_two n
+escape_chosen (by_four n h) = chosen_four n h
+escape_chosen (by_half n h o) = chosen_half n h o
+escape_chosen (by_pair n h o l) = chosen_pair n h o l
+escape_chosen (by_eight n) = chosen_eight n
+
+pub escape_unique : {t : List ℕ} {i j k v w : ℕ} → Escape t i j v → Escape t i k w → (j ≡ k) × (v ≡ w)
+escape_unique {t} {i} {j} {k} {v} {w} a b =
+    let f = (escape_chosen a).longest k w b in
+    let g = (escape_chosen b).longest j v a in
+    let same : j ≡ k = omega arith in
+    (same, (escape_chosen b).only v (subst (λ m. Escape t i m v) same a))
+
+-- it begins with a backslash, moves on, and no line break stands behind the backslash
+pub escape_backslash : {t : List ℕ} {i j v : ℕ} → Escape t i j v → code t i ≡ 92
+escape_backslash (by_letter b e) = b
+escape_backslash (by_two n) = n.backslash
+escape_backslash (by_four n h) = n.backslash
+escape_backslash (by_half n h o) = n.backslash
+escape_backslash (by_pair n h o l) = n.backslash
+escape_backslash (by_eight n) = n.backslash
+
+pub escape_forward : {t : List ℕ} {i j v : ℕ} → Escape t i j v → i < j
+escape_forward (by_letter b e) = omega arith
+escape_forward (by_two n) = omega arith
+escape_forward (by_four n h) = omega arith
+escape_forward (by_half n h o) = omega arith
+escape_forward (by_pair n h o l) = omega arith
+escape_forward (by_eight n) = omega arith
+
+unnamed_lf : named 10 ≡ None
+unfolding named
+unnamed_lf = refl
+
+unnamed_cr : named 13 ≡ None
+unfolding named
+unnamed_cr = refl
+
+no_break_letter : {t : List ℕ} {i d k v : ℕ} → Numbered t i d k v → d ≢ 10 → d ≢ 13 → (code t (i + 1) ≡ 13) ⊎ (code t (i + 1) ≡ 10) → ⊥
+no_break_letter n a b o = ⊎_elim (λ e. b (sym n.letter ∙ e)) (λ e. a (sym n.letter ∙ e)) o
+
+pub escape_no_break : {t : List ℕ} {i j v : ℕ} → Escape t i j v → (code t (i + 1) ≡ 13) ⊎ (code t (i + 1) ≡ 10) → ⊥
+escape_no_break {t} {i} (by_letter b e) o = ⊎_elim (λ (q : code t (i + 1) ≡ 13). no_name 13 unnamed_cr q e) (λ (q : code t (i + 1) ≡ 10). no_name 10 unnamed_lf q e) o
+escape_no_break (by_two n) o = no_break_letter n (λ q. omega arith) (λ q. omega arith) o
+escape_no_break (by_four n h) o = no_break_letter n (λ q. omega arith) (λ q. omega arith) o
+escape_no_break (by_half n h p) o = no_break_letter n (λ q. omega arith) (λ q. omega arith) o
+escape_no_break (by_pair n h p l) o = no_break_letter n (λ q. omega arith) (λ q. omega arith) o
+escape_no_break (by_eight n) o = no_break_letter n (λ q. omega arith) (λ q. omega arith) o

@@ -1,1 +1,3 @@
+pub mod BodyLemmas
+pub mod DoubleLemmas
 pub mod MarkLemmas
