@@ -31,7 +31,7 @@ unfolding is_nb_json is_between
 json_cr = refl
 
 -- the escapes' and the quotes' own characters are no whites
-white_backslash : is_white 92 ≡ false
+pub white_backslash : is_white 92 ≡ false
 unfolding is_white
 white_backslash = refl
 
@@ -91,7 +91,7 @@ pub char_functional : (t : List ℕ) → Functional (DoubleChar t)
 char_functional t = record { one_end = λ a b. char_end a b; one_meaning = λ a b. char_meaning a b; forward = λ a. char_forward a }
 
 -- where a gap may end: no break is there, nor an escaped one
-record Good (t : List ℕ) (k : ℕ) : Type 0 where
+pub record Good (t : List ℕ) (k : ℕ) : Type 0 where
   pub no_break : Nowhere (Break t k)
   pub no_escaped : code t k ≡ 92 → (l : ℕ) → Break t (k + 1) l → ⊥
 
@@ -105,11 +105,11 @@ good_char {t} {k} {l} a = go (written a) where
       let q = escape_backslash e in
       record { no_break = no_break_here t k (λ f. omega arith) (λ f. omega arith); no_escaped = λ f j b. escape_no_break e (break_char b) }
 
-good_place : {t : List ℕ} {k : ℕ} → ((l : ℕ) × (z : List Piece) × DoubleChar t k l z) ⊎ (code t k ≡ 34) → Good t k
+pub good_place : {t : List ℕ} {k : ℕ} → ((l : ℕ) × (z : List Piece) × DoubleChar t k l z) ⊎ (code t k ≡ 34) → Good t k
 good_place (inl c) = good_char c.2
 good_place {t} {k} (inr q) = record { no_break = no_break_here t k (λ f. omega arith) (λ f. omega arith); no_escaped = λ f j b. omega arith }
 
-to_fold : {t : List ℕ} {n : ℤ} {i j : ℕ} {x : List ℕ} → FlowFolded t n i j x → is_white (code t j) ≡ false → Good t j → FoldsTo t n i j x
+pub to_fold : {t : List ℕ} {n : ℤ} {i j : ℕ} {x : List ℕ} → FlowFolded t n i j x → is_white (code t j) ≡ false → Good t j → FoldsTo t n i j x
 to_fold f w g = record { folded = f; no_white = w; no_break = g.no_break }
 
 -- a gap by its kind

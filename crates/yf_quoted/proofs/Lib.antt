@@ -1,3 +1,4 @@
 pub mod BodyLemmas
 pub mod DoubleLemmas
+pub mod GapLemmas
 pub mod MarkLemmas

@@ -1,10 +1,10 @@
 -- The inside of quoted scalars, character by character, as their readers go on: a gap of whites or a break, and a
 -- character or the closing quote behind it.
-use Rattle.std.specs.Prelude.{◌⊎◌, ◌==◌, IsSome, encode_utf8_all, ◌≡◌, ℕ, ◌+◌, ℤ, pos, Bool, true, false, List, [], ◌∷◌, ◌++◌, Option, Some, None, if◌then◌else◌, slice_range}
-use Rattle.yf_chars.specs.Text.{code}
-use Rattle.yf_chars.specs.Class.{is_white}
+use Rattle.std.specs.Prelude.{◌≢◌, ◌⊎◌, ◌==◌, IsSome, encode_utf8_all, ◌≡◌, ℕ, ◌+◌, ℤ, pos, Bool, true, false, List, [], ◌∷◌, ◌++◌, Option, Some, None, if◌then◌else◌, slice_range}
+use Rattle.yf_chars.specs.Text.{code, Reads}
+use Rattle.yf_chars.specs.Class.{is_white, is_nb_json}
 use Rattle.yf_chars.specs.Chain.{Chain, Many, Stuck, Nowhere}
-use Rattle.yf_lines.specs.Basic.{Break, Clear, FlowFolded}
+use Rattle.yf_lines.specs.Basic.{Break, Forbidden, Clear, FlowFolded}
 use Rattle.yf_lines.specs.Fold.{FoldsTo, fold_text, line_feeds}
 use Rattle.yf_quoted.specs.Quoted.Piece.{good, bad}
 use Rattle.yf_quoted.specs.Quoted.{Piece, DoubleChar, DoubleBreak, goods, text_of, first_bad}
@@ -76,3 +76,30 @@ pub record NoDoubleGap (t : List ℕ) (o : Option ℕ) (i : ℕ) : Type 0 where
 abbrev pub piece : Option ℕ → ℕ → Piece
 piece (Some v) p = good v
 piece None p = bad p
+
+-- a character that stands for itself in double quotes, where no forbidden line begins
+pub record Simple (t : List ℕ) (i j : ℕ) : Type 0 where
+  pub json : is_nb_json (code t i) ≡ true
+  pub no_backslash : code t i ≢ 92
+  pub no_quote : code t i ≢ 34
+  pub reads : Reads t i (code t i) j
+  pub allowed : Forbidden t i → ⊥
+
+pub record NoSimple (t : List ℕ) (i : ℕ) : Type 0 where
+  pub none : is_nb_json (code t i) ≡ true → code t i ≢ 92 → code t i ≢ 34 → (Forbidden t i → ⊥) → ⊥
+
+-- no character of a double-quoted scalar is there that covers no forbidden line
+pub record NoDoubleChar (t : List ℕ) (i : ℕ) : Type 0 where
+  pub none : (j : ℕ) (y : List Piece) → DoubleChar t i j y → Clear t i j → ⊥
+
+-- the rest of a double-quoted scalar behind its opening quote, with the bytes of its text and its first bad escape
+pub record DoubleRead (t : List ℕ) (o : Option ℕ) (i : ℕ) (bytes : List ℕ) (wrong : Option ℕ) (j : ℕ) : Type 0 where
+  pub text : List Piece
+  pub close : ℕ
+  pub body : Body t goods (DoubleChar t) (DoubleBreaks t o) 34 i close text
+  pub end : close + 1 ≡ j
+  pub is : bytes ≡ encode_utf8_all (text_of text)
+  pub first : wrong ≡ first_bad text
+
+pub record NoDoubleBody (t : List ℕ) (o : Option ℕ) (i : ℕ) : Type 0 where
+  pub none : (k : ℕ) (y : List Piece) → Body t goods (DoubleChar t) (DoubleBreaks t o) 34 i k y → ⊥
