@@ -291,3 +291,60 @@ escape_no_break (by_four n h) o = no_break_letter n (λ q. omega arith) (λ q. o
 escape_no_break (by_half n h p) o = no_break_letter n (λ q. omega arith) (λ q. omega arith) o
 escape_no_break (by_pair n h p l) o = no_break_letter n (λ q. omega arith) (λ q. omega arith) o
 escape_no_break (by_eight n) o = no_break_letter n (λ q. omega arith) (λ q. omega arith) o
+
+-- no - and no . is part of an escape
+pub record NoSign (t : List ℕ) (i j : ℕ) : Type 0 where
+  pub none : (m : ℕ) → i ≤ m → m < j → (code t m ≢ 45) × (code t m ≢ 46)
+
+value_no_sign : (c : ℕ) → digit_value c < 16 → (c ≢ 45) × (c ≢ 46)
+value_no_sign c l = (λ e. digit_dash (subst (λ w. digit_value w < 16) e l), λ e. digit_dot (subst (λ w. digit_value w < 16) e l)) where
+  digit_dash : digit_value 45 < 16 → ⊥
+  digit_dash l = omega arith
+  digit_dot : digit_value 46 < 16 → ⊥
+  digit_dot l = omega arith
+
+unnamed_dash : named 45 ≡ None
+unfolding named
+unnamed_dash = refl
+
+unnamed_dot : named 46 ≡ None
+unfolding named
+unnamed_dot = refl
+
+numbered_no_sign : {t : List ℕ} {i c k v : ℕ} → Numbered t i c k v → c ≢ 45 → c ≢ 46 → NoSign t i (i + 2 + k)
+numbered_no_sign {t} {i} {c} {k} n a b = record {
+  none = λ m l h. ⊎_elim
+      (λ (e : m < i + 2). two m l e)
+      (λ (e : i + 2 ≤ m).
+      let q : (i + 2) + (m - (i + 2)) ≡ m = omega arith in
+      value_no_sign (code t m) (subst (λ w. digit_value (code t w) < 16) q (n.digits.each (m - (i + 2)) (omega arith))))
+      (cases_lt m (i + 2));
+} where
+  two : (m : ℕ) → i ≤ m → m < i + 2 → (code t m ≢ 45) × (code t m ≢ 46)
+  two m l h = ⊎_elim
+      (λ (e : m < i + 1). let q : m ≡ i = omega arith in let z : code t m ≡ 92 = ap (code t) q ∙ n.backslash in (λ f. omega arith, λ f. omega arith))
+      (λ (e : i + 1 ≤ m). let q : m ≡ i + 1 = omega arith in let z : code t m ≡ c = ap (code t) q ∙ n.letter in (λ f. a (sym z ∙ f), λ f. b (sym z ∙ f)))
+      (cases_lt m (i + 1))
+
+letter_no_sign : {t : List ℕ} {i v : ℕ} → code t i ≡ 92 → named (code t (i + 1)) ≡ Some v → NoSign t i (i + 2)
+letter_no_sign {t} {i} b n = record {
+  none = λ m l h. ⊎_elim
+      (λ (e : m < i + 1). let q : m ≡ i = omega arith in let z : code t m ≡ 92 = ap (code t) q ∙ b in (λ f. omega arith, λ f. omega arith))
+      (λ (e : i + 1 ≤ m). let q : m ≡ i + 1 = omega arith in let z : code t m ≡ code t (i + 1) = ap (code t) q in
+      (λ f. no_name 45 unnamed_dash (sym z ∙ f) n, λ f. no_name 46 unnamed_dot (sym z ∙ f) n))
+      (cases_lt m (i + 1));
+}
+
+no_sign_to : {t : List ℕ} {i j k : ℕ} → j ≡ k → NoSign t i j → NoSign t i k
+no_sign_to {t} {i} e n = subst (λ m. NoSign t i m) e n
+
+pub escape_no_sign : {t : List ℕ} {i j v : ℕ} → Escape t i j v → NoSign t i j
+escape_no_sign (by_letter b e) = letter_no_sign b e
+escape_no_sign (by_two n) = no_sign_to (omega arith) (numbered_no_sign n (λ e. omega arith) (λ e. omega arith))
+escape_no_sign (by_four n h) = no_sign_to (omega arith) (numbered_no_sign n (λ e. omega arith) (λ e. omega arith))
+escape_no_sign (by_half n h o) = no_sign_to (omega arith) (numbered_no_sign n (λ e. omega arith) (λ e. omega arith))
+escape_no_sign {t} (by_pair {i = i} n h o l) =
+    let a = numbered_no_sign n (λ e. omega arith) (λ e. omega arith) in
+    let b = numbered_no_sign o (λ e. omega arith) (λ e. omega arith) in
+    record { none = λ m f g. ⊎_elim (λ (e : m < i + 6). a.none m f (omega arith)) (λ (e : i + 6 ≤ m). b.none m e (omega arith)) (cases_lt m (i + 6)) }
+escape_no_sign (by_eight n) = no_sign_to (omega arith) (numbered_no_sign n (λ e. omega arith) (λ e. omega arith))

@@ -393,3 +393,7 @@ fold_order {t} {n} (past_whites s d p) =
     let f = break_forward parts.ends in
     let g = chain_forward (empty_functional t n) parts.empties in
     let l = chain_forward (one_functional t is_white) (whites_of_prefix p).1 in omega arith
+
+-- the lines behind a break cover whites and breaks alone
+pub clear_lines : {t : List ℕ} {n : ℤ} {i j : ℕ} {x : List ℕ} → IsUtf8 t → FoldLines t n i j x → Clear t i j
+clear_lines u l = clear_join (clear_empties u l.empties) (clear_whites u (whites_of_prefix l.content.prefix).1)

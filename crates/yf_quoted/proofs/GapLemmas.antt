@@ -12,8 +12,10 @@ use Rattle.yf_chars.proofs.ChainLemmas.{many_unique, chain_forward, one_function
 use Rattle.yf_lines.specs.Basic.{Break, Empty, FlowPrefix, FlowFolded}
 use Rattle.yf_lines.specs.Fold.{FoldsTo, FoldLines, ContentAt, line_feeds, fold_text}
 use Rattle.yf_lines.proofs.BasicLemmas.{break_char, break_unique, no_break_here}
-use Rattle.yf_lines.proofs.ClearLemmas.{Spelled, spelled_whites, spelled_slice}
-use Rattle.yf_lines.proofs.FoldLemmas.{folds_functional, fold_not_item, lines_unique, break_no_white, Whites}
+use Rattle.yf_chars.proofs.TextLemmas.{reads_byte}
+use Rattle.yf_lines.proofs.BasicLemmas.{clear_join}
+use Rattle.yf_lines.proofs.ClearLemmas.{clear_whites, clear_char, clear_break, not_forbidden, Spelled, spelled_whites, spelled_slice}
+use Rattle.yf_lines.proofs.FoldLemmas.{clear_fold, clear_lines, folds_functional, fold_not_item, lines_unique, break_no_white, Whites}
 use Rattle.yf_quoted.specs.Quoted.{DoubleChar, DoubleBreak, Piece, goods, text_of, first_bad}
 use Rattle.yf_quoted.specs.Quoted.DoubleBreak.{folded_break, escaped_break}
 use Rattle.yf_quoted.specs.Body.{Gap, DoubleBreaks, PlainGap, NoPlainGap, DoubleGoesOn, DoubleGap, NoDoubleGap, gap_bytes}
@@ -119,6 +121,7 @@ double_of_plain {t} {o} {i} u l e (of_whites {j = j} {x = x} m n b) = record {
   only = λ k y g c. whites_only m n b e g (good_place c);
   bytes = append-nil (take (j - i) (drop i t)) ∙ spelled_slice l (spelled_whites u m) ∙ ap encode_utf8_all (sym (text_of_goods x));
   no_bad = no_bad_goods x;
+  clear = clear_whites u m;
 }
 double_of_plain {t} {o} {i} u l e (of_fold {feeds = feeds} {j = j} w s f) = record {
   text = goods (fold_text feeds);
@@ -126,6 +129,7 @@ double_of_plain {t} {o} {i} u l e (of_fold {feeds = feeds} {j = j} w s f) = reco
   only = λ k y g c. fold_only f s g (good_place c);
   bytes = fold_gap_bytes t i feeds ∙ ap encode_utf8_all (sym (text_of_goods (fold_text feeds)));
   no_bad = no_bad_goods (fold_text feeds);
+  clear = clear_fold u f;
 }
 
 -- no gap behind a break that no line goes on from
@@ -173,6 +177,8 @@ escaped_found {t} {i = i} {h = h} {feeds = feeds} {x = x} u n m q b d = record {
   bytes = ap (λ s. s ++ line_feeds feeds) (spelled_slice n (spelled_whites u m)) ∙ ap (λ s. encode_utf8_all x ++ s) (sym (feeds_bytes feeds))
       ∙ sym (encodes-append x (line_feeds feeds)) ∙ ap encode_utf8_all (sym (text_of_goods (x ++ line_feeds feeds))) ∙ ap (λ s. encode_utf8_all (text_of s)) (goods_append x (line_feeds feeds));
   no_bad = ap first_bad (sym (goods_append x (line_feeds feeds))) ∙ no_bad_goods (x ++ line_feeds feeds);
+  clear = clear_join (clear_whites u m) (clear_join (clear_char u (reads_byte t h 92 u q (omega arith)) (not_forbidden t h (λ e. omega arith) (λ e. omega arith)))
+      (clear_join (clear_break b) (clear_lines u d)));
 }
 
 pub no_escaped_lines : {t : List ℕ} {w i h l : ℕ} {x : List ℕ} → Many t is_white i h x → code t h ≡ 92 → Break t (h + 1) l → Stuck (FoldLines t (pos w) l)

@@ -68,6 +68,7 @@ pub record DoubleGap (t : List ℕ) (o : Option ℕ) (i blank_end : ℕ) (space 
   pub only : (k : ℕ) (y : List Piece) → Gap t goods (DoubleBreaks t o) i k y → DoubleGoesOn t k → (k ≡ j) × (y ≡ text)
   pub bytes : gap_bytes t i blank_end space feeds ≡ encode_utf8_all (text_of text)
   pub no_bad : first_bad text ≡ None
+  pub clear : Clear t i j
 
 pub record NoDoubleGap (t : List ℕ) (o : Option ℕ) (i : ℕ) : Type 0 where
   pub none : (k : ℕ) (y : List Piece) → Gap t goods (DoubleBreaks t o) i k y → DoubleGoesOn t k → ⊥
@@ -76,6 +77,17 @@ pub record NoDoubleGap (t : List ℕ) (o : Option ℕ) (i : ℕ) : Type 0 where
 abbrev pub piece : Option ℕ → ℕ → Piece
 piece (Some v) p = good v
 piece None p = bad p
+
+-- the character that is shown for it
+abbrev pub shown : Option ℕ → ℕ
+shown (Some v) = v
+shown None = 0xFFFD
+
+-- the first bad escape, after one more character at p
+abbrev pub first_of : Option ℕ → Option ℕ → ℕ → Option ℕ
+first_of (Some b) v p = Some b
+first_of None (Some v) p = None
+first_of None None p = Some p
 
 -- a character that stands for itself in double quotes, where no forbidden line begins
 pub record Simple (t : List ℕ) (i j : ℕ) : Type 0 where

@@ -3,8 +3,8 @@ ghost use Rattle.std.specs.Prelude.{◌≡◌, ◌<◌, ◌≤◌, ◌++◌, ◌
 ghost use Rattle.std.specs.Str.{IsCharBoundary};
 ghost use Rattle.yf_lines.specs.Basic.{Clear};
 ghost use Rattle.yf_lines.specs.Text.{text_bytes};
-ghost use Rattle.yf_quoted.specs.Body.{Simple, NoSimple, NoDoubleChar, DoubleRead, NoDoubleBody, piece};
-ghost use Rattle.yf_quoted.specs.Quoted.{DoubleChar};
+ghost use Rattle.yf_quoted.specs.Body.{Simple, NoSimple, NoDoubleChar, DoubleRead, NoDoubleBody, piece, shown, first_of};
+ghost use Rattle.yf_quoted.specs.Quoted as Q;
 ghost use Rattle.yf_chars.specs.Text.{Reads};
 
 use crate::gap::{double_gap, lines_width, push_gap};
@@ -148,7 +148,7 @@ struct DoubleChar {
 // A character of a double-quoted scalar (nb-double-char, production 107).
 fn double_char(s: &str, at: usize) -> Option<DoubleChar>
     requires { IsCharBoundary s.now at }
-    ensures reads { MatchOption result (NoDoubleChar s.now at) (λ c. DoubleChar s.now at c.end (piece c.value at ∷ []) × Clear s.now at c.end) }
+    ensures reads { MatchOption result (NoDoubleChar s.now at) (λ c. Q.DoubleChar s.now at c.end (piece c.value at ∷ []) × Clear s.now at c.end) }
     ensures boundary { IfSome result (λ c. IsCharBoundary s.now c.end) }
     ensures order { IfSome result (λ c. at < c.end) }
 {
@@ -186,17 +186,33 @@ fn double_body<'a>(alloc: Global, s: &'a str, at: usize, width: Option<usize>) -
         match double_char(s, gap.end) {
             None => return Ok(None),
             Some(c) => {
-                match c.value {
-                    Some(value) => text.push(value)?,
-                    None => {
-                        text.push('\u{FFFD}')?;
-                        if bad.is_none() {
-                            bad = Some(gap.end);
-                        }
-                    }
-                }
+                text.push(shown(c.value))?;
+                bad = first_of(bad, c.value, gap.end);
                 end = c.end;
             }
         }
+    }
+}
+
+// The character that is shown for a value: U+FFFD where an escape is none.
+fn shown(value: Option<char>) -> char
+    ensures { result ≡ shown value }
+{
+    match value {
+        Some(c) => c,
+        None => '\u{FFFD}',
+    }
+}
+
+// The first bad escape, after one more character at the place.
+fn first_of(bad: Option<usize>, value: Option<char>, place: usize) -> Option<usize>
+    ensures { result ≡ first_of bad value place }
+{
+    match bad {
+        Some(first) => Some(first),
+        None => match value {
+            Some(_) => None,
+            None => Some(place),
+        },
     }
 }
