@@ -40,11 +40,11 @@ unfolding is_white
 white_quote = refl
 
 -- how a character is written
-data Written (t : List ℕ) (i j : ℕ) (x : List Piece) : Type 0 where
+pub data Written (t : List ℕ) (i j : ℕ) (x : List Piece) : Type 0 where
   itself : code t i ≢ 92 → code t i ≢ 34 → is_nb_json (code t i) ≡ true → next t i ≡ j → x ≡ good (code t i) ∷ [] → Written t i j x
   by_escape : (v : ℕ) → Escape t i j v → Written t i j x
 
-written : {t : List ℕ} {i j : ℕ} {x : List Piece} → DoubleChar t i j x → Written t i j x
+pub written : {t : List ℕ} {i j : ℕ} {x : List Piece} → DoubleChar t i j x → Written t i j x
 written (unescaped e n m) = itself n m e refl refl
 written (escaped {v = v} e s) = by_escape v e
 written (wrong {v = v} e s) = by_escape v e
@@ -58,12 +58,12 @@ char_end {t} {i} {j} {k} a b = go (written a) (written b) where
   go (by_escape v f) (by_escape w g) = (escape_unique f g).0
 
 -- what an escape means, by its number
-data Meant (t : List ℕ) (i j : ℕ) (x : List Piece) : Type 0 where
+pub data Meant (t : List ℕ) (i j : ℕ) (x : List Piece) : Type 0 where
   as_itself : code t i ≢ 92 → x ≡ good (code t i) ∷ [] → Meant t i j x
   as_char : (v : ℕ) → Escape t i j v → IsScalar v → x ≡ good v ∷ [] → Meant t i j x
   as_wrong : (v : ℕ) → Escape t i j v → (IsScalar v → ⊥) → x ≡ bad i ∷ [] → Meant t i j x
 
-meant : {t : List ℕ} {i j : ℕ} {x : List Piece} → DoubleChar t i j x → Meant t i j x
+pub meant : {t : List ℕ} {i j : ℕ} {x : List Piece} → DoubleChar t i j x → Meant t i j x
 meant (unescaped e n m) = as_itself n refl
 meant (escaped {v = v} e s) = as_char v e s refl
 meant (wrong {v = v} e s) = as_wrong v e s refl

@@ -2,3 +2,4 @@ pub mod BodyLemmas
 pub mod DoubleLemmas
 pub mod GapLemmas
 pub mod MarkLemmas
+pub mod ReadLemmas
