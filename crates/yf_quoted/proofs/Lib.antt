@@ -1,1 +1,5 @@
+pub mod BodyLemmas
+pub mod DoubleLemmas
+pub mod GapLemmas
 pub mod MarkLemmas
+pub mod ReadLemmas

@@ -1,6 +1,10 @@
 //! The reader of double-quoted scalars. Offsets count bytes.
-ghost use Rattle.std.specs.Prelude.{◌≡◌, ◌<◌, ◌≤◌, ◌++◌, ◌+◌, ℕ, Bool, true, false, List, IfSome, IfOk, IfErr, MatchOption, length};
+ghost use Rattle.std.specs.Prelude.{◌≡◌, ◌<◌, ◌≤◌, ◌++◌, ◌+◌, ◌∷◌, [], ℕ, Bool, true, false, List, IfSome, IfOk, IfErr, MatchOption, length};
 ghost use Rattle.std.specs.Str.{IsCharBoundary};
+ghost use Rattle.yf_lines.specs.Basic.{Clear};
+ghost use Rattle.yf_lines.specs.Text.{text_bytes};
+ghost use Rattle.yf_quoted.specs.Body.{Simple, NoSimple, NoDoubleChar, DoubleRead, NoDoubleBody, piece, shown, first_of};
+ghost use Rattle.yf_quoted.specs.Quoted as Q;
 ghost use Rattle.yf_chars.specs.Text.{Reads};
 
 use crate::gap::{double_gap, lines_width, push_gap};
@@ -110,6 +114,7 @@ fn simple_end(s: &str, at: usize) -> Option<usize>
 // The offset behind a character that stands for itself.
 fn simple_char(s: &str, at: usize) -> Option<usize>
     requires { IsCharBoundary s.now at }
+    ensures reads { MatchOption result (NoSimple s.now at) (λ j. Simple s.now at j) }
     ensures boundary { IfSome result (λ j. IsCharBoundary s.now j) }
     ensures order { IfSome result (λ j. at < j) }
 {
@@ -143,6 +148,7 @@ struct DoubleChar {
 // A character of a double-quoted scalar (nb-double-char, production 107).
 fn double_char(s: &str, at: usize) -> Option<DoubleChar>
     requires { IsCharBoundary s.now at }
+    ensures reads { MatchOption result (NoDoubleChar s.now at) (λ c. Q.DoubleChar s.now at c.end (piece c.value at ∷ []) × Clear s.now at c.end) }
     ensures boundary { IfSome result (λ c. IsCharBoundary s.now c.end) }
     ensures order { IfSome result (λ c. at < c.end) }
 {
@@ -161,6 +167,7 @@ fn double_char(s: &str, at: usize) -> Option<DoubleChar>
 // The rest of a double-quoted scalar behind its opening quote.
 fn double_body<'a>(alloc: Global, s: &'a str, at: usize, width: Option<usize>) -> Result<Option<Double<'a>>, AllocError>
     requires { IsCharBoundary s.now at }
+    ensures reads { IfOk result (λ o. MatchOption o (NoDoubleBody s.now width at) (λ p. DoubleRead s.now width at (text_bytes p.text) p.bad p.end)) }
     ensures boundary { IfOk result (λ o. IfSome o (λ p. IsCharBoundary s.now p.end)) }
     ensures place { IfOk result (λ o. IfSome o (λ p. IfSome p.bad (λ b. IsCharBoundary s.now b))) }
 {
@@ -179,17 +186,33 @@ fn double_body<'a>(alloc: Global, s: &'a str, at: usize, width: Option<usize>) -
         match double_char(s, gap.end) {
             None => return Ok(None),
             Some(c) => {
-                match c.value {
-                    Some(value) => text.push(value)?,
-                    None => {
-                        text.push('\u{FFFD}')?;
-                        if bad.is_none() {
-                            bad = Some(gap.end);
-                        }
-                    }
-                }
+                text.push(shown(c.value))?;
+                bad = first_of(bad, c.value, gap.end);
                 end = c.end;
             }
         }
+    }
+}
+
+// The character that is shown for a value: U+FFFD where an escape is none.
+fn shown(value: Option<char>) -> char
+    ensures { result ≡ shown value }
+{
+    match value {
+        Some(c) => c,
+        None => '\u{FFFD}',
+    }
+}
+
+// The first bad escape, after one more character at the place.
+fn first_of(bad: Option<usize>, value: Option<char>, place: usize) -> Option<usize>
+    ensures { result ≡ first_of bad value place }
+{
+    match bad {
+        Some(first) => Some(first),
+        None => match value {
+            Some(_) => None,
+            None => Some(place),
+        },
     }
 }

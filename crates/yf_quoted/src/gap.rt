@@ -1,9 +1,11 @@
 //! What stands between two characters of a quoted scalar: whites, or a line break. Offsets count bytes.
-ghost use Rattle.std.specs.Prelude.{◌≡◌, ◌<◌, ◌≤◌, ◌++◌, ◌∷◌, [], if◌then◌else◌, ℕ, pos, Bool, true, false, List, Option, IfSome, OnOk, MatchOption, length};
+ghost use Rattle.std.specs.Prelude.{◌≡◌, ◌+◌, ◌<◌, ◌≤◌, ◌++◌, ◌∷◌, [], if◌then◌else◌, ℕ, pos, Bool, true, false, List, Option, IfSome, OnOk, MatchOption, length};
 ghost use Rattle.std.specs.Str.{IsCharBoundary};
 ghost use Rattle.std.specs.String.{string_bytes};
 ghost use Rattle.yf_lines.specs.Fold.{line_feeds};
-ghost use Rattle.yf_quoted.specs.Body.{gap_bytes};
+ghost use Rattle.yf_chars.specs.Text.{code};
+ghost use Rattle.yf_lines.specs.Basic.{Break};
+ghost use Rattle.yf_quoted.specs.Body.{gap_bytes, PlainGap, NoPlainGap, DoubleGap, NoDoubleGap};
 
 use std::alloc::AllocError;
 use yf_chars::context::Ctx;
@@ -23,6 +25,7 @@ pub struct Gap {
 /// What stands between two characters of a single-quoted scalar; line breaks are read where there is a width.
 pub fn single_gap(s: &str, at: usize, width: Option<usize>) -> Option<Gap>
     requires { IsCharBoundary s.now at }
+    ensures reads { MatchOption result (NoPlainGap s.now width at) (λ g. PlainGap s.now width at g.blank_end g.space g.feeds g.end) }
     ensures boundary { IfSome result (λ g. IsCharBoundary s.now g.blank_end × IsCharBoundary s.now g.end) }
     ensures order { IfSome result (λ g. (at ≤ g.blank_end) × (at ≤ g.end)) }
 {
@@ -43,24 +46,43 @@ pub fn single_gap(s: &str, at: usize, width: Option<usize>) -> Option<Gap>
 /// The same in a double-quoted scalar, where a break may be escaped (s-double-escaped(n), production 112).
 pub fn double_gap(s: &str, at: usize, width: Option<usize>) -> Option<Gap>
     requires { IsCharBoundary s.now at }
+    ensures reads { MatchOption result (NoDoubleGap s.now width at) (λ g. DoubleGap s.now width at g.blank_end g.space g.feeds g.end) }
     ensures boundary { IfSome result (λ g. IsCharBoundary s.now g.blank_end × IsCharBoundary s.now g.end) }
     ensures order { IfSome result (λ g. (at ≤ g.blank_end) × (at ≤ g.end)) }
 {
     match width {
-        None => single_gap(s, at, None),
+        None => match single_gap(s, at, None) {
+            None => None,
+            Some(gap) => Some(gap),
+        },
         Some(lines) => {
             let place = skip_whites(s, at);
-            if !stands(s, place, b'\\') {
-                return single_gap(s, at, width);
-            }
-            match line_break(s, place + 1) {
-                None => single_gap(s, at, width),
+            match escaped_break(s, place) {
+                None => match single_gap(s, at, Some(lines)) {
+                    None => None,
+                    Some(gap) => Some(gap),
+                },
                 Some(next_line) => match fold_lines(s, next_line, lines) {
                     None => None,
                     Some(fold) => Some(Gap { blank_end: place, space: false, feeds: fold.feeds, end: fold.end }),
                 },
             }
         }
+    }
+}
+
+// The offset behind a backslash and the line break behind it.
+fn escaped_break(s: &str, at: usize) -> Option<usize>
+    ensures reads { MatchOption result (code s.now at ≡ 92 → (l : ℕ) → Break s.now (at + 1) l → ⊥) (λ l. (code s.now at ≡ 92) × Break s.now (at + 1) l) }
+    ensures boundary { IfSome result (λ l. IsCharBoundary s.now l) }
+    ensures order { IfSome result (λ l. at < l) }
+{
+    if !stands(s, at, b'\\') {
+        return None;
+    }
+    match line_break(s, at + 1) {
+        None => None,
+        Some(next_line) => Some(next_line),
     }
 }
 
