@@ -3,3 +3,4 @@ pub mod SequenceLemmas
 pub mod StreamLemmas
 pub mod SettingsLemmas
 pub mod CommandLineLemmas
+pub mod ProgramLemmas

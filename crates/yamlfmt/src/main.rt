@@ -7,6 +7,8 @@ mod command_line_tests;
 mod first_path;
 mod input;
 mod program;
+#[cfg(test)]
+mod program_tests;
 mod report;
 mod run;
 mod settings;
@@ -18,10 +20,9 @@ mod tests;
 use command_line::{Cmd, parse_line};
 use program::{answer_usage, read_style, run};
 use report::report;
-use std::env;
 use std::fs::File;
-use std::io;
 use std::process::ExitCode;
+use std::{env, io};
 use yf_emit::style::Style;
 use yf_lines::fault::Fault;
 use yf_lines::text::OwnedText;
@@ -65,11 +66,25 @@ fn run_files(rt: &HostRuntime, command: &Cmd) -> Result<u8, Fault> {
     Ok(match &command.file {
         Some(path) => {
             let mut reader = Watched::new(open(rt, path)?);
-            run(alloc, command, &style, &mut reader, &mut writer, &mut error_stream)
+            run(
+                alloc,
+                command,
+                &style,
+                &mut reader,
+                &mut writer,
+                &mut error_stream,
+            )
         }
         None => {
             let mut reader = Watched::new(rt.reader());
-            run(alloc, command, &style, &mut reader, &mut writer, &mut error_stream)
+            run(
+                alloc,
+                command,
+                &style,
+                &mut reader,
+                &mut writer,
+                &mut error_stream,
+            )
         }
     })
 }

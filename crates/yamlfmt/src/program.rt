@@ -41,7 +41,10 @@ pub fn run<R: Source, W: Sink, E: Sink>(
             Err(fault) => report(&fault, error_stream),
         },
         Verb::Check => {
-            let _ = write_text(error_stream, b"error: the command 'check' is not there yet\n");
+            let _ = write_text(
+                error_stream,
+                b"error: the command 'check' is not there yet\n",
+            );
             USAGE
         }
         Verb::Fmt => {
@@ -57,9 +60,13 @@ pub fn read_style<R: Source>(alloc: Global, reader: &mut R) -> Result<Style, Fau
         (λ fault. FileRefused (R.remaining reader.old) (R.has_failed reader.old) (R.has_failed reader.new) fault) }
 {
     let bytes = read_all(alloc, reader, INPUT_LIMIT)?;
-    match check_utf8(bytes.as_slice()) {
-        Ok(text) => style_from_toml(alloc, text),
-        Err(_) => Err(no_key(alloc)),
+    let text = match check_utf8(bytes.as_slice()) {
+        Ok(text) => text,
+        Err(_) => return Err(no_key(alloc)),
+    };
+    match style_from_toml(alloc, text) {
+        Ok(style) => Ok(style),
+        Err(fault) => Err(fault),
     }
 }
 
