@@ -1,23 +1,25 @@
 //! yamlfmt: prints the events of a YAML stream, checks its style and rewrites it in one house style.
 #![tactic(auto)]
 
+mod command_line;
+#[cfg(test)]
+mod command_line_tests;
+mod first_path;
 mod input;
 mod report;
+mod run;
+mod settings;
+#[cfg(test)]
+mod settings_tests;
 #[cfg(test)]
 mod tests;
 
-use input::read_all;
 use report::report;
-use std::alloc::Global;
+use run::run_events;
+use std::env;
 use std::process::ExitCode;
 use std::rt::Env;
-use std::{env, io};
-use yf_chars::utf8::check_utf8;
-use yf_lines::fault::Fault;
-use yf_lines::watched::{Source, Watched};
-
-/// More bytes than these are not read.
-const INPUT_LIMIT: usize = 1_073_741_824;
+use yf_lines::watched::Watched;
 
 /// The status for words on the command line that mean nothing.
 const USAGE: u8 = 3;
@@ -27,7 +29,9 @@ fn main(rt: HostRuntime) -> ExitCode {
         let _ = eprintln!(rt; "usage: yamlfmt events < FILE");
         return ExitCode::from(USAGE);
     }
-    match read_text(rt.alloc(), &mut Watched::new(rt.reader())) {
+    let mut reader = Watched::new(rt.reader());
+    let mut writer = Watched::new(rt.stdout());
+    match run_events(rt.alloc(), &mut reader, &mut writer) {
         Ok(()) => ExitCode::SUCCESS,
         Err(fault) => ExitCode::from(report(&fault, &mut Watched::new(rt.stderr()))),
     }
@@ -42,14 +46,5 @@ fn asks_for_events(rt: &(impl Env + Alloc)) -> bool {
     match words.next() {
         Some(word) if word.as_str() == "events" => words.next().is_none(),
         _ => false,
-    }
-}
-
-/// Reads the whole input and checks that it is text.
-fn read_text<R: Source>(alloc: Global, reader: &mut R) -> Result<(), Fault> {
-    let bytes = read_all(alloc, reader, INPUT_LIMIT)?;
-    match check_utf8(bytes.as_slice()) {
-        Ok(_text) => Ok(()),
-        Err(bad) => Err(Fault::NotUtf8 { offset: bad.offset }),
     }
 }

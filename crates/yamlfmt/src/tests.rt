@@ -2,6 +2,7 @@
 
 use crate::input::read_all;
 use crate::report::report;
+use crate::run::run_events;
 use std::io;
 use std::io::{Read, Write};
 use std::test::Fail;
@@ -29,6 +30,23 @@ struct BrokenReader;
 impl Read for BrokenReader {
     fn read(&mut self, _buffer: &mut [u8]) -> io::Result<usize> {
         Err(io::Error::from(io::ErrorKind::Other))
+    }
+}
+
+/// Gives one line, and then fails.
+#[derive(Drop)]
+struct CutReader {
+    given: bool,
+}
+
+impl Read for CutReader {
+    fn read(&mut self, buffer: &mut [u8]) -> io::Result<usize> {
+        if self.given || buffer.len() < 4 {
+            return Err(io::Error::from(io::ErrorKind::Other));
+        }
+        self.given = true;
+        buffer[..4].copy_from_slice(b"- a\n");
+        Ok(4)
     }
 }
 
@@ -202,4 +220,90 @@ fn keeps_the_status_where_the_report_fails(rt: HostRuntime) {
     let mut stream = Watched::new(StuckWriter);
     assert_eq!(rt; report(&Fault::Memory, &mut stream), 3);
     assert!(rt; stream.failed());
+}
+
+#[test]
+fn prints_the_events_of_a_sequence(rt: HostRuntime) {
+    let mut reader = Watched::new(b"- a\n- b\n".as_slice());
+    let mut writer = Watched::new(Vec::new(rt.alloc()));
+    assert!(rt; run_events(rt.alloc(), &mut reader, &mut writer).is_ok());
+    let lines = b"+STR\n+DOC\n+SEQ\n=VAL :a\n=VAL :b\n-SEQ\n-DOC\n-STR\n";
+    assert_eq!(rt; writer.get_ref().as_slice(), lines.as_slice());
+}
+
+#[test]
+fn prints_what_is_plain_in_a_scalar(rt: HostRuntime) {
+    let mut reader = Watched::new(b"-\ta \n- b-c#d\n- x:y".as_slice());
+    let mut writer = Watched::new(Vec::new(rt.alloc()));
+    assert!(rt; run_events(rt.alloc(), &mut reader, &mut writer).is_ok());
+    let lines = b"+STR\n+DOC\n+SEQ\n=VAL :a\n=VAL :b-c#d\n=VAL :x:y\n-SEQ\n-DOC\n-STR\n";
+    assert_eq!(rt; writer.get_ref().as_slice(), lines.as_slice());
+}
+
+#[test]
+fn refuses_other_texts(rt: HostRuntime) {
+    let inputs = [
+        (b"- a: b\n".as_slice(), "1:1 refused: unsupported\n"),
+        (b"- a\n b\n".as_slice(), "2:1 refused: unsupported\n"),
+        (b"a\xFF".as_slice(), "byte 1 refused: not-utf8\n"),
+        (b"".as_slice(), "1:1 refused: unsupported\n"),
+    ];
+    for (input, line) in &inputs {
+        let mut reader = Watched::new(*input);
+        let mut writer = Watched::new(Vec::new(rt.alloc()));
+        match run_events(rt.alloc(), &mut reader, &mut writer) {
+            Ok(()) => panic!(rt; "accepted, and not {line}"),
+            Err(fault) => {
+                let mut stream = Watched::new(Vec::new(rt.alloc()));
+                assert_eq!(rt; report(&fault, &mut stream), 2, "{line}");
+                assert_eq!(rt; stream.get_ref().as_slice(), line.as_bytes());
+            }
+        }
+        assert!(rt; writer.get_ref().is_empty());
+    }
+}
+
+#[test]
+fn answers_a_writer_that_fails_in_the_lines(rt: HostRuntime) {
+    let full = FullWriter {
+        taken: Vec::new(rt.alloc()),
+        room: 3,
+    };
+    let mut reader = Watched::new(b"- a\n- b\n".as_slice());
+    let mut writer = Watched::new(full);
+    assert!(rt;
+        matches!(
+            run_events(rt.alloc(), &mut reader, &mut writer),
+            Err(Fault::WriteFailed)
+        )
+    );
+    assert!(rt; writer.failed());
+    assert_eq!(rt; writer.get_ref().taken.as_slice(), b"+ST".as_slice());
+}
+
+#[test]
+fn writes_nothing_where_the_reader_fails(rt: HostRuntime) {
+    let mut reader = Watched::new(BrokenReader);
+    let mut writer = Watched::new(Vec::new(rt.alloc()));
+    assert!(rt;
+        matches!(
+            run_events(rt.alloc(), &mut reader, &mut writer),
+            Err(Fault::ReadFailed)
+        )
+    );
+    assert!(rt; writer.get_ref().is_empty());
+}
+
+#[test]
+fn writes_nothing_where_the_reader_fails_behind_a_line(rt: HostRuntime) {
+    let mut reader = Watched::new(CutReader { given: false });
+    let mut writer = Watched::new(Vec::new(rt.alloc()));
+    assert!(rt;
+        matches!(
+            run_events(rt.alloc(), &mut reader, &mut writer),
+            Err(Fault::ReadFailed)
+        )
+    );
+    assert!(rt; reader.failed());
+    assert!(rt; writer.get_ref().is_empty());
 }

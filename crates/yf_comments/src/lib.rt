@@ -1,4 +1,11 @@
-//! Comments (YAML 1.2.2, section 6.6).
+//! Comments (YAML 1.2.2, section 6.6) and separation (section 6.7).
 #![tactic(auto)]
 
+pub mod blank;
 pub mod comment;
+pub mod comments;
+pub mod lines;
+pub mod read;
+pub mod separation;
+#[cfg(test)]
+mod tests;

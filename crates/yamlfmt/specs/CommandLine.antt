@@ -1,0 +1,107 @@
+-- The commands of the program, and what the words of a command line ask for. How words are read as a command with
+-- options is the command-line library's definition of a parse.
+use Rattle.std.specs.Prelude.{◌≡◌, ◌≢◌, ◌⊎◌, ⊤, ℕ, Bool, true, false, List, [], Option, Some, None, IsSome, codes, MatchOption, IsSomeAnd}
+use Rattle.std.specs.Str.{bytes_eq}
+use Rattle.clap.specs.Words.{App, Row, Rule, Shape, Text, first_of, new_app, new_rule, subcommand_of, with_rule, with_subcommand, IsAmong, fault_of}
+use Rattle.clap.specs.Simple.{on_top}
+use Rattle.clap.specs.declared.builder.action.ArgAction.TheVariants.{SetTrue}
+use Rattle.clap.specs.declared.error.kind.ErrorKind.{ErrorKind}
+use Rattle.clap.specs.declared.error.kind.ErrorKind.TheVariants.{DisplayHelp, OutOfMemory}
+use Rattle.yamlfmt.specs.declared.command_line.Cmd.{Cmd}
+use Rattle.yamlfmt.specs.declared.command_line.Usage.{Usage}
+use Rattle.yamlfmt.specs.declared.command_line.Usage.TheVariants.{Help, Wrong, Memory}
+use Rattle.yamlfmt.specs.declared.command_line.Verb.{Verb}
+use Rattle.yamlfmt.specs.declared.command_line.Verb.TheVariants.{Events, Check, Fmt}
+
+-- `--config FILE`
+abbrev pub config_option : Rule
+config_option = record (new_rule (codes "config")) { long = Some (codes "config"); value_names = 1 }
+
+-- `--write`
+abbrev pub write_flag : Rule
+write_flag = record (new_rule (codes "write")) { long = Some (codes "write"); action = Some SetTrue }
+
+-- `FILE`
+abbrev pub file_word : Rule
+file_word = record (new_rule (codes "file")) { value_names = 1 }
+
+-- `NAME [--config FILE] [FILE]`
+abbrev pub reading_command : Text → App
+reading_command name = with_rule (with_rule (new_app name) config_option) file_word
+
+-- `fmt [--config FILE] [--write] [FILE]`
+abbrev pub writing_command : App
+writing_command = with_rule (with_rule (with_rule (new_app (codes "fmt")) config_option) write_flag) file_word
+
+-- one of the commands is wanted; without any word, the help is the refusal; the program's name is not among the words
+abbrev pub wants_command : Shape → Shape
+wants_command s = record s { no_binary_name = true; subcommand_required = true; arg_required_else_help = true }
+
+-- `yamlfmt COMMAND`
+unfoldable pub yamlfmt : App
+yamlfmt =
+    with_subcommand (with_subcommand (with_subcommand (on_top wants_command (new_app (codes "yamlfmt")))
+    (reading_command (codes "events")).top)
+    (reading_command (codes "check")).top)
+    writing_command.top
+
+-- ---- what is asked for
+
+abbrev pub verb_word : Verb → Text
+verb_word Events = codes "events"
+verb_word Check = codes "check"
+verb_word Fmt = codes "fmt"
+
+-- the command that the words name, and what they give for its options
+abbrev pub Met : Type 0
+Met = Option (Text × List Row)
+
+abbrev pub is_set : Option Text → Bool
+is_set (Some value) = bytes_eq value (codes "true")
+is_set None = false
+
+-- the command line has this command, with these files and this flag, and `--write` only where there is a file
+pub record Asks (met : Met) (cmd : Cmd) : Type 0 where
+  pub given : List Row
+  pub command : met ≡ Some (verb_word cmd.verb, given)
+  pub config : cmd.config ≡ first_of (codes "config") given
+  pub file : cmd.file ≡ first_of (codes "file") given
+  pub write : cmd.write ≡ is_set (first_of (codes "write") given)
+  pub written : cmd.write ≡ true → IsSome cmd.file
+
+abbrev pub NamesNoVerb : Met → Type 0
+NamesNoVerb met = MatchOption met ⊤ (λ m. (verb : Verb) → m.0 ≢ verb_word verb)
+
+abbrev pub WritesNoFile : Met → Type 0
+WritesNoFile met =
+    IsSomeAnd met (λ m. (is_set (first_of (codes "write") m.1) ≡ true) × (first_of (codes "file") m.1 ≡ None))
+
+-- what the words name is no command, or has `--write` without a file
+abbrev pub Lacks : Met → Usage → Type 0
+Lacks met (Help text) = ⊥
+Lacks met (Wrong text) = NamesNoVerb met ⊎ WritesNoFile met
+Lacks met Memory = ⊤
+
+abbrev pub IsWrong : Usage → Type 0
+IsWrong (Help text) = ⊥
+IsWrong (Wrong text) = ⊤
+IsWrong Memory = ⊥
+
+-- how a refusal of each kind is answered
+abbrev pub Answers : ErrorKind → Usage → Type 0
+Answers kind (Help text) = kind ≡ DisplayHelp
+Answers kind (Wrong text) = (kind ≢ DisplayHelp) × (kind ≢ OutOfMemory)
+Answers kind Memory = ⊤
+
+-- the words are taken, and ask for the command
+abbrev pub AsksFor : List Text → Cmd → Type 0
+AsksFor words cmd = (fault_of yamlfmt words ≡ []) × Asks (subcommand_of yamlfmt words) cmd
+
+-- help is answered where it is asked for; the words are wrong where they are not taken, name no command or have
+-- `--write` without a file
+abbrev pub RefusesWords : List Text → Usage → Type 0
+RefusesWords words (Help text) = IsAmong DisplayHelp (fault_of yamlfmt words)
+RefusesWords words (Wrong text) =
+    ((kind : ErrorKind) × (kind ≢ DisplayHelp) × IsAmong kind (fault_of yamlfmt words))
+    ⊎ (NamesNoVerb (subcommand_of yamlfmt words) ⊎ WritesNoFile (subcommand_of yamlfmt words))
+RefusesWords words Memory = ⊤

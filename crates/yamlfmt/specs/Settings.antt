@@ -1,0 +1,78 @@
+-- The settings that a TOML table holds: each key's value, which keys are wrong, and the least of these.
+use Rattle.std.specs.Prelude.{◌≡◌, ℕ, pos, Bool, true, false, ◌&&◌, nat_le, List, [], Option, Some, None, is_some, unwrap_or, option_and_then, if◌then◌else◌, codes, MatchOption, IsSomeAnd}
+use Rattle.std.specs.Str.{bytes_eq}
+use Rattle.std.specs.Ordering.{nat_cmp, is_le}
+use Rattle.std.specs.Cmp.Lexicographic.{slice_cmp}
+use Rattle.toml.specs.Data.{Data, string, integer, as_bool, Members, get_member}
+use Rattle.toml.specs.Parse.{parse_document}
+use Rattle.toml.specs.Errors.{IsBlank}
+use Rattle.yf_emit.specs.declared.style.Style.{Style}
+use Rattle.yf_lines.specs.declared.quotes.Quotes.{Quotes}
+use Rattle.yf_lines.specs.declared.quotes.Quotes.TheVariants.{Single, Double}
+use Rattle.yf_lines.specs.declared.fault.Fault.{Fault}
+use Rattle.yf_lines.specs.declared.fault.Fault.TheVariants.{Config, Memory}
+
+-- an integer from `least` to `most`
+abbrev pub number_between : ℕ → ℕ → Data → Option ℕ
+number_between least most (integer (pos n)) = if nat_le least n && nat_le n most then Some n else None
+number_between least most _ = None
+
+abbrev pub indent_of : Data → Option ℕ
+indent_of = number_between 2 8
+
+abbrev pub max_line_of : Data → Option ℕ
+max_line_of = number_between 40 1000
+
+-- the word `double` or the word `single`
+abbrev pub quotes_of : Data → Option Quotes
+quotes_of (string word) =
+    if bytes_eq word (codes "double") then Some Double
+    else if bytes_eq word (codes "single") then Some Single
+    else None
+quotes_of _ = None
+
+abbrev pub seq_indent_of : Data → Option Bool
+seq_indent_of = as_bool
+
+-- the key is one of the settings, and the value is one that it may have
+abbrev pub is_right : List ℕ → Data → Bool
+is_right key value =
+    if bytes_eq key (codes "indent") then is_some (indent_of value)
+    else if bytes_eq key (codes "max_line") then is_some (max_line_of value)
+    else if bytes_eq key (codes "quotes") then is_some (quotes_of value)
+    else if bytes_eq key (codes "seq_indent") then is_some (seq_indent_of value)
+    else false
+
+abbrev pub IsRight : Members → List ℕ → Type 0
+IsRight table key = (value : Data) → get_member key table ≡ Some value → is_right key value ≡ true
+
+abbrev pub IsWrong : Members → List ℕ → Type 0
+IsWrong table key = (value : Data) × (get_member key table ≡ Some value) × (is_right key value ≡ false)
+
+-- the least wrong key, by bytes
+pub record IsLeastWrong (table : Members) (key : List ℕ) : Type 0 where
+  pub wrong : IsWrong table key
+  pub least : (other : List ℕ) → IsWrong table other → is_le (slice_cmp nat_cmp key other) ≡ true
+
+-- the value at a key, and the one of the house style where the table has none
+abbrev pub setting : {X : Type 0} → (Data → Option X) → List ℕ → X → Members → X
+setting read key house table = unwrap_or (option_and_then read (get_member key table)) house
+
+-- the style that a table with right keys sets
+pub record Sets (table : Members) (style : Style) : Type 0 where
+  pub right : (key : List ℕ) → IsRight table key
+  pub indent : style.indent ≡ setting indent_of (codes "indent") 2 table
+  pub max_line : style.max_line ≡ setting max_line_of (codes "max_line") 100 table
+  pub quotes : style.quotes ≡ setting quotes_of (codes "quotes") Double table
+  pub seq_indent : style.seq_indent ≡ setting seq_indent_of (codes "seq_indent") true table
+
+-- the text is TOML, and its table sets the style
+abbrev pub SetsStyle : List ℕ → Style → Type 0
+SetsStyle text style = IsSomeAnd (parse_document text) (λ table. Sets table style)
+
+-- the empty key where the text is no TOML, the least wrong key where it is; memory, only where the text has a key
+abbrev pub RefusesSettings : List ℕ → Fault → Type 0
+RefusesSettings text (Config key) =
+    MatchOption (parse_document text) (key ≡ []) (λ table. IsLeastWrong table key)
+RefusesSettings text Memory = IsBlank text → ⊥
+RefusesSettings text _ = ⊥

@@ -1,0 +1,288 @@
+//! The command line: which command the words ask for.
+ghost use Rattle.std.specs.Prelude.{◌≡◌, ◌≢◌, false, map, IfOk, MatchOption, MatchResult, string_bytes};
+ghost use Rattle.clap.specs.Words.{app_of, first_of, found_of, kind_of, rows_of, rule_of, subcommand_rows_of};
+ghost use Rattle.clap.specs.declared.builder.command.Command.TheViews.{out-Command};
+ghost use Rattle.yamlfmt.specs.CommandLine.{config_option, file_word, write_flag, reading_command, writing_command, yamlfmt};
+ghost use Rattle.yamlfmt.specs.CommandLine.{Answers, Asks, AsksFor, IsWrong, Lacks, RefusesWords, is_set, verb_word};
+
+use clap::error::ErrorKind;
+use clap::{Arg, ArgAction, ArgMatches, Command, Error};
+use std::alloc::{AllocError, Global};
+use yf_lines::text::OwnedText;
+
+const EVENTS: &str = "events";
+
+const CHECK: &str = "check";
+
+const FMT: &str = "fmt";
+
+const CONFIG: &str = "config";
+
+const WRITE: &str = "write";
+
+const FILE: &str = "file";
+
+/// What is to be done with a stream.
+#[derive(Clone, Copy, Debug, PartialEq, Eq)]
+pub enum Verb {
+    /// Print its events.
+    Events,
+    /// Print where it departs from the house style.
+    Check,
+    /// Print it in the house style.
+    Fmt,
+}
+
+/// A command line.
+#[derive(Debug, Drop)]
+pub struct Cmd {
+    pub verb: Verb,
+    /// The settings file.
+    pub config: Option<OwnedText>,
+    /// The file to read in place of standard input.
+    pub file: Option<OwnedText>,
+    /// Whether the file is to be rewritten. There is a file then.
+    pub write: bool,
+}
+
+/// Why the words of a command line give no command.
+#[derive(Debug, Drop)]
+pub enum Usage {
+    /// Help was asked for; its text, for standard output.
+    Help(OwnedText),
+    /// The words are none that the program takes; why, for standard error.
+    Wrong(OwnedText),
+    /// A growth of memory was refused.
+    Memory,
+}
+
+impl From<AllocError> for Usage {
+    ghost use Rattle.yamlfmt.specs.declared.command_line.Usage.TheVariants.{Memory};
+
+    ghost from_gives = { λ _ usage. usage ≡ Memory };
+
+    fn from(_error: AllocError) -> Usage {
+        Usage::Memory
+    }
+}
+
+/// The command that the words after the program's name ask for:
+///
+/// - `events [--config FILE] [FILE]`
+/// - `check [--config FILE] [FILE]`
+/// - `fmt [--config FILE] [--write] [FILE]`, where `--write` needs FILE.
+///
+/// Any other words are `Usage::Wrong`, with a text that says why; `--help` and `help` are `Usage::Help`. `Usage::Memory`
+/// may come in the place of each answer, where a growth of memory was refused.
+pub fn parse_line(alloc: Global, words: &[String]) -> Result<Cmd, Usage>
+    ensures { MatchResult result (AsksFor (map string_bytes words.now)) (RefusesWords (map string_bytes words.now)) }
+{
+    let command = yamlfmt_command(alloc)?;
+    match command.try_get_matches_from(words) {
+        Ok(matches) => command_met(alloc, &matches),
+        Err(error) => Err(usage_of(alloc, &error)),
+    }
+}
+
+fn yamlfmt_command<'a>(alloc: Global) -> Result<Command<'a>, AllocError>
+    ensures { IfOk result (λ c. app_of c ≡ yamlfmt) }
+{
+    let events = reading_command(alloc, EVENTS, "Print the events of a YAML stream")?;
+    let check = reading_command(
+        alloc,
+        CHECK,
+        "Print where a YAML stream departs from the house style (not there yet)",
+    )?;
+    let fmt = fmt_command(alloc)?;
+    Command::new(alloc, "yamlfmt")
+        .bin_name("yamlfmt")?
+        .about(
+            "Prints the events of a YAML stream, checks its style and rewrites it in one house style",
+        )
+        .no_binary_name(true)
+        .subcommand_required(true)
+        .arg_required_else_help(true)
+        .subcommand(events)?
+        .subcommand(check)?
+        .subcommand(fmt)
+}
+
+fn reading_command<'a>(
+    alloc: Global,
+    name: &'a str,
+    about: &'a str,
+) -> Result<Command<'a>, AllocError>
+    ensures shape { IfOk result (λ c. app_of c ≡ reading_command name.entry.now) }
+    ensures local { IfOk result (λ c. (out-Command c).has_globals ≡ false) }
+{
+    let config = config_option(alloc);
+    let file = file_word(alloc);
+    Command::new(alloc, name)
+        .about(about)
+        .arg(config)?
+        .arg(file)
+}
+
+fn fmt_command<'a>(alloc: Global) -> Result<Command<'a>, AllocError>
+    ensures shape { IfOk result (λ c. app_of c ≡ writing_command) }
+    ensures local { IfOk result (λ c. (out-Command c).has_globals ≡ false) }
+{
+    let config = config_option(alloc);
+    let write = write_flag(alloc);
+    let file = file_word(alloc);
+    Command::new(alloc, FMT)
+        .about("Print a YAML stream in the house style (not there yet)")
+        .arg(config)?
+        .arg(write)?
+        .arg(file)
+}
+
+fn config_option<'a>(alloc: Global) -> Arg<'a>
+    ensures rule { rule_of result ≡ config_option }
+    ensures local { result.global ≡ false }
+{
+    Arg::new(alloc, CONFIG)
+        .long(CONFIG)
+        .value_name("FILE")
+        .help("Read the settings of the house style from this TOML file")
+}
+
+fn write_flag<'a>(alloc: Global) -> Arg<'a>
+    ensures rule { rule_of result ≡ write_flag }
+    ensures local { result.global ≡ false }
+{
+    Arg::new(alloc, WRITE)
+        .long(WRITE)
+        .action(ArgAction::SetTrue)
+        .help("Rewrite FILE in place of printing")
+}
+
+fn file_word<'a>(alloc: Global) -> Arg<'a>
+    ensures rule { rule_of result ≡ file_word }
+    ensures local { result.global ≡ false }
+{
+    Arg::new(alloc, FILE)
+        .value_name("FILE")
+        .help("The stream to read, in place of standard input")
+}
+
+// How a refusal is answered.
+fn usage_of(alloc: Global, error: &Error) -> Usage
+    ensures { Answers (kind_of error.now) result }
+{
+    let text = match format!(in alloc; "{error}") {
+        Ok(text) => OwnedText::new(text),
+        Err(_) => return Usage::Memory,
+    };
+    match error.kind() {
+        ErrorKind::OutOfMemory => Usage::Memory,
+        ErrorKind::DisplayHelp => Usage::Help(text),
+        _ => Usage::Wrong(text),
+    }
+}
+
+// The command that was met, with what was given for it.
+fn command_met(alloc: Global, matches: &ArgMatches<'_>) -> Result<Cmd, Usage>
+    ensures { MatchResult result (Asks (subcommand_rows_of matches.now)) (Lacks (subcommand_rows_of matches.now)) }
+{
+    let (name, given) = match matches.subcommand() {
+        Some(met) => met,
+        None => return Err(no_command(alloc)?),
+    };
+    let verb = match verb_of(name) {
+        Some(verb) => verb,
+        None => return Err(no_command(alloc)?),
+    };
+    let config = text_given(alloc, given, CONFIG)?;
+    let file = text_given(alloc, given, FILE)?;
+    let write = is_given(given, WRITE);
+    if write {
+        if file.is_none() {
+            return Err(no_file(alloc)?);
+        }
+    }
+    Ok(Cmd {
+        verb,
+        config,
+        file,
+        write,
+    })
+}
+
+fn verb_of(name: &str) -> Option<Verb>
+    ensures { MatchOption result ((verb : Verb) → name.now ≢ verb_word verb) (λ verb. name.now ≡ verb_word verb) }
+{
+    if name == EVENTS {
+        return Some(Verb::Events);
+    }
+    if name == CHECK {
+        return Some(Verb::Check);
+    }
+    if name == FMT {
+        return Some(Verb::Fmt);
+    }
+    None
+}
+
+// The value of an option or of a word, as a text of its own.
+fn text_given(
+    alloc: Global,
+    given: &ArgMatches<'_>,
+    id: &str,
+) -> Result<Option<OwnedText>, AllocError>
+    ensures { IfOk result (λ text. text ≡ first_of id.now (rows_of (found_of given.now))) }
+{
+    match given.get_str(id) {
+        Some(text) => Ok(Some(OwnedText::new(String::from_str(alloc, text)?))),
+        None => Ok(None),
+    }
+}
+
+// Whether a flag is set.
+fn is_given(given: &ArgMatches<'_>, id: &str) -> bool
+    ensures { result ≡ is_set (first_of id.now (rows_of (found_of given.now))) }
+{
+    match given.get_str(id) {
+        Some(value) => value == "true",
+        None => false,
+    }
+}
+
+// The refusal of words that name no command.
+fn no_command(alloc: Global) -> Result<Usage, AllocError>
+    ensures { IfOk result IsWrong }
+{
+    let command = yamlfmt_command(alloc)?;
+    refusal(
+        alloc,
+        command,
+        ErrorKind::MissingSubcommand,
+        "a command is missing",
+    )
+}
+
+// The refusal of `--write` without a file.
+fn no_file(alloc: Global) -> Result<Usage, AllocError>
+    ensures { IfOk result IsWrong }
+{
+    let command = fmt_command(alloc)?.bin_name("yamlfmt fmt")?;
+    refusal(
+        alloc,
+        command,
+        ErrorKind::MissingRequiredArgument,
+        "the argument '--write' needs a FILE",
+    )
+}
+
+// A refusal with a message and the usage of the command.
+fn refusal(
+    alloc: Global,
+    mut command: Command<'_>,
+    kind: ErrorKind,
+    message: &str,
+) -> Result<Usage, AllocError>
+    ensures { IfOk result IsWrong }
+{
+    let error = command.error(kind, message)?;
+    Ok(Usage::Wrong(OwnedText::new(format!(in alloc; "{error}")?)))
+}

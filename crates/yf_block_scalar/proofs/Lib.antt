@@ -1,0 +1,7 @@
+pub mod BodyLemmas
+pub mod ContentLemmas
+pub mod HeaderLemmas
+pub mod IndentLemmas
+pub mod ReaderLemmas
+pub mod TrailLemmas
+pub mod UniqueLemmas

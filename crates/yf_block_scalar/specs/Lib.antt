@@ -1,0 +1,6 @@
+pub mod Body
+pub mod Content
+pub mod Header
+pub mod Indentation
+pub mod LineOffset
+pub mod Written

@@ -1,0 +1,55 @@
+-- How a block scalar is written (YAML 1.2.2, section 8.1) at a column, counted from 0, that lies so many columns (the
+-- width, 1 to 9) right of the indentation around it. Texts are bytes.
+use Rattle.std.specs.Prelude.{ℕ, ◌+◌, ◌-◌, ℤ, Bool, true, false, List, [], ◌∷◌, ◌++◌, map, replicate, if◌then◌else◌, Option, Some, None}
+use Rattle.yf_comments.specs.declared.comment.Comment.{Comment}
+use Rattle.yf_block_scalar.specs.declared.body.BlockText.{BlockText}
+use Rattle.yf_block_scalar.specs.declared.header.Header.{Header}
+use Rattle.yf_block_scalar.specs.declared.header.Chomp.{Chomp}
+use Rattle.yf_block_scalar.specs.declared.header.Chomp.TheVariants.{Strip, Clip, Keep}
+use Rattle.yf_block_scalar.specs.Body.{base}
+use Rattle.yf_block_scalar.specs.Content.{feeds, literal}
+
+abbrev pub style_bytes : Bool → List ℕ
+style_bytes b = if b then 62 ∷ [] else 124 ∷ []
+
+-- a header with a digit has the width as its digit
+abbrev pub digit_bytes : Option ℕ → ℕ → List ℕ
+digit_bytes None width = []
+digit_bytes (Some d) width = (48 + width) ∷ []
+
+abbrev pub sign_bytes : Chomp → List ℕ
+sign_bytes Strip = 45 ∷ []
+sign_bytes Clip = []
+sign_bytes Keep = 43 ∷ []
+
+-- a comment stands behind two spaces
+abbrev pub comment_bytes : Option Comment → List ℕ
+comment_bytes None = []
+comment_bytes (Some c) = 32 ∷ 32 ∷ c.text.now
+
+abbrev pub header_bytes : Header → Option Comment → ℕ → List ℕ
+header_bytes h c width = style_bytes h.folded ++ digit_bytes h.digit width ++ sign_bytes h.chomp ++ comment_bytes c ++ 10 ∷ []
+
+-- a line at the column; an empty line has no spaces
+abbrev pub indented : ℕ → List ℕ → List ℕ
+indented column [] = []
+indented column (c ∷ x) = replicate column 32 ++ (c ∷ x)
+
+-- only the tail of a kept scalar is written
+abbrev pub tail_bytes : Chomp → ℕ → List ℕ
+tail_bytes Strip tail = []
+tail_bytes Clip tail = []
+tail_bytes Keep tail = feeds tail
+
+-- the break behind the last content line; where that line ended at the end of the text, only a stripped scalar has one
+abbrev pub break_bytes : Chomp → Bool → List ℕ
+break_bytes Strip open_end = 10 ∷ []
+break_bytes Clip open_end = if open_end then [] else 10 ∷ []
+break_bytes Keep open_end = if open_end then [] else 10 ∷ []
+
+abbrev pub body_bytes : Chomp → List (List ℕ) → ℕ → Bool → ℕ → List ℕ
+body_bytes c [] tail open_end column = tail_bytes c tail
+body_bytes c (x ∷ ls) tail open_end column = literal (map (indented column) (x ∷ ls)) ++ break_bytes c open_end ++ tail_bytes c tail
+
+abbrev pub written_of : BlockText → ℕ → ℤ → List ℕ
+written_of b column n = header_bytes b.header b.comment (column - base n) ++ body_bytes b.header.chomp b.lines b.tail b.open_end column

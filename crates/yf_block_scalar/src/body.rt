@@ -1,0 +1,23 @@
+//! A block scalar as it is written (YAML 1.2.2, section 8.1).
+use crate::header::Header;
+use crate::lines::Lines;
+use yf_comments::comment::Comment;
+use yf_comments::comments::Comments;
+
+/// A block scalar as it is written.
+#[derive(Debug, Drop)]
+pub struct BlockText<'a> {
+    pub header: Header,
+    /// The comment behind the header.
+    pub comment: Option<Comment<'a>>,
+    /// The lines up to the last content line.
+    pub lines: Lines<'a>,
+    /// How many empty lines stand behind the last content line.
+    pub tail: usize,
+    /// Whether the last content line ends at the end of the text, with no break.
+    pub open_end: bool,
+    /// The comments of the comment lines behind the tail.
+    pub comments: Comments<'a>,
+    /// The byte offset of the first line that is not taken.
+    pub next: usize,
+}

@@ -1,0 +1,17 @@
+//! Literal and folded block scalars (YAML 1.2.2, section 8.1).
+#![tactic(auto)]
+
+pub mod body;
+pub mod content;
+pub mod header;
+pub mod header_reader;
+mod indent;
+pub mod lines;
+pub mod read;
+pub mod reader;
+mod rest;
+mod rows;
+mod trail;
+pub mod write;
+#[cfg(test)]
+mod tests;

@@ -1,0 +1,63 @@
+//! The readers of block scalars over a text with its lines.
+ghost use Rattle.std.specs.Prelude.{◌≡◌, ◌<◌, ◌≤◌, ◌≤ℤ◌, ◌^◌, pos, None, length, MatchOption, MatchResult};
+ghost use Rattle.std.specs.Str.{IsCharBoundary};
+ghost use Rattle.yf_chars.specs.Chain.{Chosen, Stuck};
+ghost use Rattle.yf_block_scalar.specs.Body.{Body, body_value};
+ghost use Rattle.yf_block_scalar.specs.Header.{BlockHeader, header_value};
+ghost use Rattle.yf_lines.specs.Basic.{LineStart};
+ghost use Rattle.yf_block_scalar.specs.LineOffset.{line_offset};
+
+use crate::body::BlockText;
+use crate::header::Header;
+use crate::header_reader::{HeaderLine, block_header};
+use crate::reader::block_body;
+use std::alloc::{AllocError, Global};
+use yf_lines::fault::Fault;
+use yf_lines::source_text::Src;
+
+/// Reads the header of a block scalar, with its `|` or `>`, from a byte offset on (YAML 1.2.2, section 8.1.1): a digit from
+/// 1 to 9 and a sign, each at most once and in either order, then a comment or nothing, and the end of the line.
+///
+/// `None` where no header begins there. It takes no memory.
+pub fn read_header<'a>(src: &Src<'a>, at: usize) -> Option<HeaderLine<'a>>
+    ensures { MatchOption result (Stuck (BlockHeader src.now.text at)) (λ r. Chosen (BlockHeader src.now.text at) r.end (header_value r.header r.comment) × IsCharBoundary src.now.text r.end) }
+{
+    match block_header(src.text(), at) {
+        Some(found) => Some(found),
+        None => None,
+    }
+}
+
+/// Reads a block scalar behind its header (YAML 1.2.2, sections 8.1.1.1, 8.1.2 and 8.1.3): the content lines and the empty
+/// lines among them, the tail, and the comment lines behind it.
+///
+/// `line` is the index of the line behind the header, and `n` the indentation of the collection around the scalar, from
+/// -1. `None` where a line of spaces alone before the content has more spaces than the content.
+///
+/// # Errors
+///
+/// `Fault::Memory` where a growth of memory was refused.
+pub fn read_body<'a>(alloc: Global, src: &Src<'a>, line: usize, n: i32, header: Header) -> Result<Option<BlockText<'a>>, Fault>
+    requires within { line ≤ length src.now.lines }
+    requires small { n ≤ℤ pos (2 ^ 30) }
+    ensures { MatchResult result (λ o. MatchOption o (Stuck (Body src.now.text n header (line_offset src.now line))) (λ b. (b.header ≡ header) × (b.comment ≡ None) × Chosen (Body src.now.text n header (line_offset src.now line)) b.next (body_value b) × IsCharBoundary src.now.text b.next)) (λ fault. fault ≡ Fault.Memory) }
+{
+    match block_body(alloc, src.text(), offset_of_line(src, line), n, header) {
+        Ok(found) => Ok(found),
+        Err(AllocError) => Err(Fault::Memory),
+    }
+}
+
+// The byte offset where the line begins; behind the last line, the text's length.
+fn offset_of_line(src: &Src, line: usize) -> usize
+    requires { line ≤ length src.now.lines }
+    ensures value { result ≡ line_offset src.now line }
+    ensures boundary { IsCharBoundary src.now.text result }
+    ensures starts { result < length src.now.text → LineStart src.now.text result }
+{
+    let lines = src.lines();
+    if line < lines.len() {
+        return lines.line(line).start;
+    }
+    src.text().len()
+}

@@ -1,0 +1,113 @@
+//! Reads the lines of a block scalar (YAML 1.2.2, sections 8.1.1.1, 8.1.2 and 8.1.3).
+ghost use Rattle.std.specs.Prelude.{◌≡◌, ◌+◌, ◌<◌, ◌^◌, ◌≤ℤ◌, pos, ℕ, List, [], false, None, length, IfOk, IfSome, MatchOption};
+ghost use Rattle.std.specs.Str.{IsCharBoundary};
+ghost use Rattle.yf_chars.specs.Chain.{Chosen, Stuck};
+ghost use Rattle.yf_lines.specs.Basic.{LineStart};
+ghost use Rattle.yf_comments.specs.Comment.{CommentValue};
+ghost use Rattle.yf_block_scalar.specs.Body.{Body, Taken, Trail, is_gap_tail, first_noted, body_value};
+
+use crate::body::BlockText;
+use crate::header::{Chomp, Header};
+use crate::indent::{Indentation, base_of, find_indentation, least_of};
+use crate::lines::Lines;
+use crate::rows::{Rows, read_rows};
+use crate::trail::read_trail;
+use std::alloc::{AllocError, Global};
+use yf_comments::comments::Separation;
+
+// Whether a comment directly behind so many empty lines of a scalar's tail has a blank line before it: the empty lines of
+// a kept tail are content.
+fn is_gap(chomp: Chomp, count: usize) -> bool
+    ensures { result ≡ is_gap_tail chomp count }
+{
+    match chomp {
+        Chomp::Strip | Chomp::Clip => count > 0,
+        Chomp::Keep => false,
+    }
+}
+
+// Reads the scalar whose content has that indentation.
+fn read_indented<'a>(alloc: Global, s: &'a str, at: usize, indent: usize, header: Header) -> Result<BlockText<'a>, AllocError>
+    requires boundary { IsCharBoundary s.now at }
+    requires starts { at < length s.now → LineStart s.now at }
+    ensures reads { IfOk result (λ b. (p : ℕ) × (x : List CommentValue) × (Taken s.now indent at b.lines b.open_end b.tail p × Trail s.now indent p b.next x × (b.comments ≡ first_noted (is_gap_tail header.chomp b.tail) x))) }
+    ensures boundary { IfOk result (λ b. IsCharBoundary s.now b.next) }
+    ensures header { IfOk result (λ b. b.header ≡ header) }
+    ensures comment { IfOk result (λ b. b.comment ≡ None) }
+{
+    let Rows {
+        lines,
+        open_end,
+        tail,
+        next,
+    } = read_rows(alloc, s, at, indent)?;
+    let Separation { comments, end } = read_trail(alloc, s, next, indent, is_gap(header.chomp, tail))?;
+    Ok(BlockText {
+        header,
+        comment: None,
+        lines,
+        tail,
+        open_end,
+        comments,
+        next: end,
+    })
+}
+
+// Reads what is left of a scalar without content, behind its empty lines.
+fn read_bare<'a>(alloc: Global, s: &'a str, at: usize, least: usize, count: usize, header: Header) -> Result<BlockText<'a>, AllocError>
+    requires boundary { IsCharBoundary s.now at }
+    requires starts { at < length s.now → LineStart s.now at }
+    ensures reads { IfOk result (λ b. (x : List CommentValue) × (Trail s.now least at b.next x × (b.comments ≡ first_noted (is_gap_tail header.chomp count) x))) }
+    ensures lines { IfOk result (λ b. b.lines ≡ []) }
+    ensures open_end { IfOk result (λ b. b.open_end ≡ false) }
+    ensures tail { IfOk result (λ b. b.tail ≡ count) }
+    ensures boundary { IfOk result (λ b. IsCharBoundary s.now b.next) }
+    ensures header { IfOk result (λ b. b.header ≡ header) }
+    ensures comment { IfOk result (λ b. b.comment ≡ None) }
+{
+    let Separation { comments, end } = read_trail(alloc, s, at, least, is_gap(header.chomp, count))?;
+    Ok(BlockText {
+        header,
+        comment: None,
+        lines: Lines::new(alloc),
+        tail: count,
+        open_end: false,
+        comments,
+        next: end,
+    })
+}
+
+/// Reads the lines of a block scalar behind its header: its content lines and the empty lines among them, its tail, and
+/// the comment lines behind it.
+///
+/// `at` is the byte offset where the line behind the header begins, and `n` the indentation of the collection around the
+/// scalar, from -1. `None` where a line of spaces alone before the content has more spaces than the content.
+///
+/// # Errors
+///
+/// `AllocError` where a growth of memory was refused.
+pub fn block_body<'a>(alloc: Global, s: &'a str, at: usize, n: i32, header: Header) -> Result<Option<BlockText<'a>>, AllocError>
+    requires boundary { IsCharBoundary s.now at }
+    requires starts { at < length s.now → LineStart s.now at }
+    requires small { n ≤ℤ pos (2 ^ 30) }
+    ensures reads { IfOk result (λ o. MatchOption o (Stuck (Body s.now n header at)) (λ b. (b.header ≡ header) × (b.comment ≡ None) × Chosen (Body s.now n header at) b.next (body_value b))) }
+    ensures boundary { IfOk result (λ o. IfSome o (λ b. IsCharBoundary s.now b.next)) }
+{
+    match header.digit {
+        Some(digit) => {
+            let block = read_indented(alloc, s, at, base_of(n) + digit as usize, header)?;
+            Ok(Some(block))
+        }
+        None => match find_indentation(s, at, n) {
+            Indentation::Found(indent) => {
+                let block = read_indented(alloc, s, at, indent, header)?;
+                Ok(Some(block))
+            }
+            Indentation::Missing(count, next) => {
+                let block = read_bare(alloc, s, next, least_of(n), count, header)?;
+                Ok(Some(block))
+            }
+            Indentation::TooLong => Ok(None),
+        },
+    }
+}

@@ -1,0 +1,40 @@
+//! The settings of the house style.
+ghost use Rattle.std.specs.Prelude.{◌≡◌, ◌≤◌, true};
+
+use yf_lines::quotes::Quotes;
+
+/// The settings of the house style. Each value of this type is within the ranges that its fields name.
+#[derive(Clone, Copy, Debug, PartialEq, Eq)]
+pub struct Style {
+    /// By how many columns an entry stands to the right of the entry that holds it, 2 to 8.
+    pub indent: usize,
+    /// The last column, from 1, that the closing bracket of a flow collection on one line may have, 40 to 1000.
+    pub max_line: usize,
+    /// The quotes of scalars that can be written in either.
+    pub quotes: Quotes,
+    /// Whether the entries of a sequence that is the value of an implicit key stand to the right of the key. Where they
+    /// do not, they stand at the key's column.
+    pub seq_indent: bool,
+    pub ghost indent_from: { 2 ≤ indent },
+    pub ghost indent_to: { indent ≤ 8 },
+    pub ghost max_line_from: { 40 ≤ max_line },
+    pub ghost max_line_to: { max_line ≤ 1000 },
+}
+
+impl Style {
+    /// The style where nothing is set: indent 2, lines of 100 columns, double quotes, sequences to the right of their
+    /// keys.
+    pub fn house() -> Style
+        ensures indent { result.indent ≡ 2 }
+        ensures max_line { result.max_line ≡ 100 }
+        ensures quotes { result.quotes ≡ Quotes.Double }
+        ensures seq_indent { result.seq_indent ≡ true }
+    {
+        Style {
+            indent: 2,
+            max_line: 100,
+            quotes: Quotes::Double,
+            seq_indent: true,
+        }
+    }
+}

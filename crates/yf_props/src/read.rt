@@ -1,0 +1,50 @@
+//! The readers of properties and aliases over a text with its lines.
+ghost use Rattle.std.specs.Prelude.{◌≡◌, IfSome, MatchOption, MatchResult};
+ghost use Rattle.std.specs.Str.{IsCharBoundary};
+ghost use Rattle.yf_chars.specs.Chain.{Chosen, Stuck};
+ghost use Rattle.yf_props.specs.Names.{Alias, Properties as PropertiesOf};
+ghost use Rattle.yf_props.specs.Properties.{properties_value};
+
+use crate::alias::alias_node;
+use crate::properties::{Properties, node_properties};
+use std::alloc::{AllocError, Global};
+use yf_chars::context::Ctx;
+use yf_lines::fault::Fault;
+use yf_lines::source_text::Src;
+
+/// Reads an alias (c-ns-alias-node, production 104) from a byte offset on: its name, without the `*`, and the byte offset
+/// behind it.
+///
+/// The name is as long as its characters go; `None` where no alias begins there.
+pub fn read_alias<'a>(src: &Src<'a>, at: usize) -> Option<(&'a str, usize)>
+    ensures reads { MatchOption result (Stuck (Alias src.now.text at)) (λ p. Chosen (Alias src.now.text at) p.1 p.0.now) }
+    ensures boundary { IfSome result (λ p. IsCharBoundary src.now.text p.1) }
+{
+    match alias_node(src.text(), at) {
+        Some((name, end)) => Some((name, end)),
+        None => None,
+    }
+}
+
+/// Reads properties (c-ns-properties(n,c), production 96) from a byte offset on: a tag, an anchor, or both in either order
+/// with separation between them, whose comments come with them. `n` is an indentation, from -1.
+///
+/// Names are as long as their characters go; `None` where no properties begin there.
+///
+/// # Errors
+///
+/// `Fault::Memory` where a growth of memory was refused.
+pub fn read_props<'a>(
+    alloc: Global,
+    src: &Src<'a>,
+    at: usize,
+    n: i32,
+    ctx: Ctx,
+) -> Result<Option<Properties<'a>>, Fault>
+    ensures { MatchResult result (λ o. MatchOption o (Stuck (PropertiesOf src.now.text n ctx at)) (λ p. Chosen (PropertiesOf src.now.text n ctx at) p.end (properties_value p) × IsCharBoundary src.now.text p.end)) (λ fault. fault ≡ Fault.Memory) }
+{
+    match node_properties(alloc, src.text(), at, n, ctx) {
+        Ok(found) => Ok(found),
+        Err(AllocError) => Err(Fault::Memory),
+    }
+}
