@@ -26,6 +26,11 @@ use Rattle.yf_quoted.specs.Body.{Gap, Step, Body, DoubleBreaks, WidthOf, SimpleC
 use Rattle.yf_quoted.specs.Body.Gap.{by_whites, by_break}
 use Rattle.yf_quoted.specs.Body.WidthOf.{of_key, of_lines, of_negative}
 use Rattle.yf_quoted.specs.Body.SimpleChar.{simply}
+use Rattle.yf_lines.specs.declared.fault.Fault.TheVariants.{EscapeValue}
+use Rattle.yf_lines.specs.declared.place.Place.{Place}
+use Rattle.yf_lines.specs.Lines.{PlaceOf}
+use Rattle.yf_quoted.specs.Fault.{DoubleFault}
+use Rattle.yf_quoted.specs.Fault.DoubleFault.{for_escape}
 use Rattle.yf_quoted.proofs.BodyLemmas.{items_order, rest_order, lines_body, body_lines, body_clear, body_chars, chars_body, body_unique}
 use Rattle.yf_quoted.proofs.DoubleLemmas.{white_quote, double_laws, double_means, no_quote_char, char_functional}
 
@@ -192,3 +197,12 @@ pub body_read : {t bytes : List ℕ} {n : ℤ} {c : Ctx} {o wrong : Option ℕ} 
     → (y : List Piece) × (bytes ≡ encode_utf8_all (text_of y)) × (wrong ≡ first_bad y) × Chosen (DoubleQuoted t n c i) j y
 body_read {t} {n = n} {c = c} {i = i} u w q r =
     (r.text, r.is, r.first, subst (λ k. Chosen (DoubleQuoted t n c i) k r.text) r.end (double_chosen u w q r.body))
+
+-- a bad escape in the longest part
+pub fault_from : {t s : List ℕ} {n m : ℤ} {c : Ctx} {i b j : ℕ} {place : Place} {bytes : List ℕ} {wrong : Option ℕ}
+    → (x : List Piece) × (bytes ≡ encode_utf8_all (text_of x)) × (wrong ≡ first_bad x) × Chosen (DoubleQuoted s m c i) j x
+    → s ≡ t → m ≡ n → wrong ≡ Some b → PlaceOf t b place.line place.column → DoubleFault t n c i (EscapeValue place)
+fault_from {t} {s} {n} {m} {c} {i} {j = j} r e f w p =
+    let one : Chosen (DoubleQuoted t m c i) j r.0 = subst (λ v. Chosen (DoubleQuoted v m c i) j r.0) e r.3 in
+    let two : Chosen (DoubleQuoted t n c i) j r.0 = subst (λ v. Chosen (DoubleQuoted t v c i) j r.0) f one in
+    for_escape two (sym r.2 ∙ w) p
