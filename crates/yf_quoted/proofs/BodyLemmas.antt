@@ -91,11 +91,11 @@ module _ {A : Type 0} {t : List ℕ} {put : List ℕ → List A} {C B : ℕ → 
   item_order l (set_off {i = i} {h = h} {x = x} w n c) =
       let f = l.order i h (put x) (by_whites w n) in let g = l.chars.forward c in omega arith
 
-  items_order : {i j : ℕ} {x : List A} → Laws t put C B quote → Chain (Item t put C) i j x → i ≤ j
+  pub items_order : {i j : ℕ} {x : List A} → Laws t put C B quote → Chain (Item t put C) i j x → i ≤ j
   items_order l done = omega arith
   items_order l (step s c) = let f = item_order l s in let g = items_order l c in omega arith
 
-  rest_order : {i j : ℕ} {x : List A} → Laws t put C B quote → is_white (code t j) ≡ false → Rest t put C B i j x → i ≤ j
+  pub rest_order : {i j : ℕ} {x : List A} → Laws t put C B quote → is_white (code t j) ≡ false → Rest t put C B i j x → i ≤ j
   rest_order l q (blank {i = i} {j = j} {x = x} w) = l.order i j (put x) (by_whites w q)
   rest_order l q (last_break {i = i} {j = j} {x = x} b) = l.order i j x (by_break b q)
   rest_order l q (next_line {i = i} {h = h} {x = x} b n c d r) =

@@ -35,7 +35,7 @@ pub white_backslash : is_white 92 ≡ false
 unfolding is_white
 white_backslash = refl
 
-white_quote : is_white 34 ≡ false
+pub white_quote : is_white 34 ≡ false
 unfolding is_white
 white_quote = refl
 

@@ -3,3 +3,4 @@ pub mod DoubleLemmas
 pub mod GapLemmas
 pub mod MarkLemmas
 pub mod ReadLemmas
+pub mod QuotedLemmas

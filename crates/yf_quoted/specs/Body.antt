@@ -1,10 +1,11 @@
 -- The inside of quoted scalars, character by character, as their readers go on: a gap of whites or a break, and a
 -- character or the closing quote behind it.
-use Rattle.std.specs.Prelude.{◌≢◌, ◌⊎◌, ◌==◌, IsSome, encode_utf8_all, ◌≡◌, ℕ, ◌+◌, ℤ, pos, Bool, true, false, List, [], ◌∷◌, ◌++◌, Option, Some, None, if◌then◌else◌, slice_range}
+use Rattle.std.specs.Prelude.{◌<ℤ◌, ◌≢◌, ◌⊎◌, ◌==◌, IsSome, encode_utf8_all, ◌≡◌, ℕ, ◌+◌, ℤ, pos, Bool, true, false, List, [], ◌∷◌, ◌++◌, Option, Some, None, if◌then◌else◌, slice_range}
+use Rattle.yf_chars.specs.declared.context.Ctx.{Ctx}
 use Rattle.yf_chars.specs.Text.{code, Reads}
 use Rattle.yf_chars.specs.Class.{is_white, is_nb_json}
 use Rattle.yf_chars.specs.Chain.{Chain, Many, Stuck, Nowhere}
-use Rattle.yf_lines.specs.Basic.{Break, Forbidden, Clear, FlowFolded}
+use Rattle.yf_lines.specs.Basic.{Break, Forbidden, Clear, FlowFolded, is_flow, is_key}
 use Rattle.yf_lines.specs.Fold.{FoldsTo, fold_text, line_feeds}
 use Rattle.yf_quoted.specs.Quoted.Piece.{good, bad}
 use Rattle.yf_quoted.specs.Quoted.{Piece, DoubleChar, DoubleBreak, goods, text_of, first_bad}
@@ -115,3 +116,13 @@ pub record DoubleRead (t : List ℕ) (o : Option ℕ) (i : ℕ) (bytes : List �
 
 pub record NoDoubleBody (t : List ℕ) (o : Option ℕ) (i : ℕ) : Type 0 where
   pub none : (k : ℕ) (y : List Piece) → Body t goods (DoubleChar t) (DoubleBreaks t o) 34 i k y → ⊥
+
+-- the width by which the lines of a quoted scalar are indented; a key has none, and no line is indented by less than nothing
+pub data WidthOf (n : ℤ) (c : Ctx) : Option ℕ → Type 0 where
+  of_key : is_key c ≡ true → WidthOf n c None
+  of_lines : (w : ℕ) → is_flow c ≡ true → n ≡ pos w → WidthOf n c (Some w)
+  of_negative : is_flow c ≡ true → n <ℤ pos 0 → WidthOf n c None
+
+-- characters that stand for themselves in double quotes
+pub data SimpleChar (t : List ℕ) : ℕ → ℕ → List ℕ → Type 0 where
+  simply : {i j : ℕ} → Simple t i j → SimpleChar t i j (code t i ∷ [])

@@ -1,13 +1,15 @@
 //! The reader of double-quoted scalars. Offsets count bytes.
-ghost use Rattle.std.specs.Prelude.{◌≡◌, ◌<◌, ◌≤◌, ◌++◌, ◌+◌, ◌∷◌, [], ℕ, Bool, true, false, List, IfSome, IfOk, IfErr, MatchOption, length};
+ghost use Rattle.std.specs.Prelude.{◌≡◌, ◌<◌, ◌≤◌, ◌++◌, ◌+◌, ◌∷◌, [], ℕ, Bool, true, false, List, IfSome, IfOk, IfErr, MatchOption, length, encode_utf8_all};
 ghost use Rattle.std.specs.Str.{IsCharBoundary};
 ghost use Rattle.yf_lines.specs.Basic.{Clear};
 ghost use Rattle.yf_lines.specs.Text.{text_bytes};
-ghost use Rattle.yf_quoted.specs.Body.{Simple, NoSimple, NoDoubleChar, DoubleRead, NoDoubleBody, piece, shown, first_of};
+ghost use Rattle.yf_quoted.specs.Body.{Simple, NoSimple, NoDoubleChar, SimpleChar, DoubleRead, NoDoubleBody, piece, shown, first_of};
+ghost use Rattle.yf_chars.specs.Chain.{Chain, Stuck, Chosen};
 ghost use Rattle.yf_quoted.specs.Quoted as Q;
+ghost use Rattle.yf_quoted.specs.Fault.{DoubleFault, BadPlace};
 ghost use Rattle.yf_chars.specs.Text.{Reads};
 
-use crate::gap::{double_gap, lines_width, push_gap};
+use crate::gap::{double_gap, is_block, lines_width, push_gap};
 use std::alloc::{AllocError, Global};
 use yf_chars::classes::is_nb_json;
 use yf_chars::context::Ctx;
@@ -29,6 +31,8 @@ use yf_lines::text::{OwnedText, Text};
 /// `Fault::EscapeValue` at the first escape whose number is no character; `Fault::Memory`.
 pub fn read_double<'a>(alloc: Global, src: &Src<'a>, at: usize, n: i32, ctx: Ctx) -> Result<Option<(Text<'a>, usize)>, Fault>
     requires { IsCharBoundary src.now.text at }
+    ensures reads { IfOk result (λ o. MatchOption o (Stuck (Q.DoubleQuoted src.now.text n ctx at)) (λ p. (x : List Q.Piece) × (text_bytes p.0 ≡ encode_utf8_all (Q.text_of x)) × (Q.first_bad x ≡ None) × Chosen (Q.DoubleQuoted src.now.text n ctx at) p.1 x)) }
+    ensures refused { IfErr result (λ e. DoubleFault src.now.text n ctx at e) }
     ensures boundary { IfOk result (λ o. IfSome o (λ p. IsCharBoundary src.now.text p.1)) }
 {
     match double_in(alloc, src.text(), at, n, ctx) {
@@ -49,6 +53,7 @@ pub fn read_double<'a>(alloc: Global, src: &Src<'a>, at: usize, n: i32, ctx: Ctx
 /// `Fault::Memory` alone.
 pub fn scan_double<'a>(alloc: Global, src: &Src<'a>, at: usize, n: i32, ctx: Ctx) -> Result<Option<(Text<'a>, Option<Place>, usize)>, Fault>
     requires { IsCharBoundary src.now.text at }
+    ensures reads { IfOk result (λ o. MatchOption o (Stuck (Q.DoubleQuoted src.now.text n ctx at)) (λ p. (x : List Q.Piece) × (text_bytes p.0 ≡ encode_utf8_all (Q.text_of x)) × BadPlace src.now.text (Q.first_bad x) p.1 × Chosen (Q.DoubleQuoted src.now.text n ctx at) p.2 x)) }
     ensures boundary { IfOk result (λ o. IfSome o (λ p. IsCharBoundary src.now.text p.2)) }
     ensures refused { IfErr result (λ e. e ≡ Fault.Memory) }
 {
@@ -77,24 +82,30 @@ struct Double<'a> {
 // The same in a text without its lines.
 fn double_in<'a>(alloc: Global, s: &'a str, at: usize, n: i32, ctx: Ctx) -> Result<Option<Double<'a>>, AllocError>
     requires { IsCharBoundary s.now at }
+    ensures reads { IfOk result (λ o. MatchOption o (Stuck (Q.DoubleQuoted s.now n ctx at)) (λ p. (x : List Q.Piece) × (text_bytes p.text ≡ encode_utf8_all (Q.text_of x)) × (p.bad ≡ Q.first_bad x) × Chosen (Q.DoubleQuoted s.now n ctx at) p.end x)) }
     ensures boundary { IfOk result (λ o. IfSome o (λ p. IsCharBoundary s.now p.end)) }
     ensures place { IfOk result (λ o. IfSome o (λ p. IfSome p.bad (λ b. IsCharBoundary s.now b))) }
 {
-    if matches!(ctx, Ctx::BlockOut | Ctx::BlockIn) {
+    if is_block(ctx) {
         return Ok(None);
     }
     if !stands(s, at, b'"') {
         return Ok(None);
     }
+    let width = lines_width(n, ctx);
     match simple_end(s, at + 1) {
         Some(close) => Ok(Some(Double { text: Text::Part(&s[at + 1..close]), bad: None, end: close + 1 })),
-        None => double_body(alloc, s, at + 1, lines_width(n, ctx)),
+        None => match double_body(alloc, s, at + 1, width)? {
+            None => Ok(None),
+            Some(read) => Ok(Some(read)),
+        },
     }
 }
 
 // The place of the closing quote, where only characters that stand for themselves stand before it.
 fn simple_end(s: &str, at: usize) -> Option<usize>
     requires { IsCharBoundary s.now at }
+    ensures reads { IfSome result (λ j. (x : List ℕ) × Chain (SimpleChar s.now) at j x) }
     ensures boundary { IfSome result (λ j. IsCharBoundary s.now j) }
     ensures order { IfSome result (λ j. at ≤ j) }
     ensures close { IfSome result (λ j. Reads s.now j 34 (j + 1)) }

@@ -4,8 +4,8 @@ ghost use Rattle.std.specs.Str.{IsCharBoundary};
 ghost use Rattle.std.specs.String.{string_bytes};
 ghost use Rattle.yf_lines.specs.Fold.{line_feeds};
 ghost use Rattle.yf_chars.specs.Text.{code};
-ghost use Rattle.yf_lines.specs.Basic.{Break};
-ghost use Rattle.yf_quoted.specs.Body.{gap_bytes, PlainGap, NoPlainGap, DoubleGap, NoDoubleGap};
+ghost use Rattle.yf_lines.specs.Basic.{Break, is_block, is_key};
+ghost use Rattle.yf_quoted.specs.Body.{gap_bytes, PlainGap, NoPlainGap, DoubleGap, NoDoubleGap, WidthOf};
 
 use std::alloc::AllocError;
 use yf_chars::context::Ctx;
@@ -119,9 +119,29 @@ fn push_feeds(text: &mut String, feeds: usize) -> Result<(), AllocError>
 }
 
 /// The indentation of the lines of a quoted scalar, where it may have several: no key has.
-pub fn lines_width(n: i32, ctx: Ctx) -> Option<usize> {
-    match ctx {
-        Ctx::FlowOut | Ctx::FlowIn => indent_width(n),
-        _ => None,
+pub fn lines_width(n: i32, ctx: Ctx) -> Option<usize>
+    requires { is_block ctx ≡ false }
+    ensures { WidthOf n ctx result }
+{
+    if is_key(ctx) {
+        return None;
     }
+    match indent_width(n) {
+        None => None,
+        Some(width) => Some(width),
+    }
+}
+
+/// Whether no scalar stands in that context.
+pub fn is_block(ctx: Ctx) -> bool
+    ensures { result ≡ is_block ctx }
+{
+    matches!(ctx, Ctx::BlockOut | Ctx::BlockIn)
+}
+
+// Whether a scalar in that context stands on one line.
+fn is_key(ctx: Ctx) -> bool
+    ensures { result ≡ is_key ctx }
+{
+    matches!(ctx, Ctx::BlockKey | Ctx::FlowKey)
 }

@@ -6,7 +6,7 @@ ghost use Rattle.yf_lines.specs.Text.{text_bytes};
 ghost use Rattle.std.specs.Str.{IsCharBoundary};
 ghost use Rattle.yf_chars.specs.Text.{Reads};
 
-use crate::gap::{lines_width, push_gap, single_gap};
+use crate::gap::{is_block, lines_width, push_gap, single_gap};
 use std::alloc::{AllocError, Global};
 use yf_chars::classes::is_nb_json;
 use yf_chars::context::Ctx;
@@ -49,7 +49,7 @@ fn single_in<'a>(alloc: Global, s: &'a str, at: usize, n: i32, ctx: Ctx) -> Resu
     requires { IsCharBoundary s.now at }
     ensures boundary { IfOk result (λ o. IfSome o (λ p. IsCharBoundary s.now p.end)) }
 {
-    if matches!(ctx, Ctx::BlockOut | Ctx::BlockIn) {
+    if is_block(ctx) {
         return Ok(None);
     }
     if !stands(s, at, b'\'') {
