@@ -3,16 +3,16 @@ use Rattle.std.proofs.Common.{◌≡◌, ◌≢◌, ℕ, ℤ, ◌+◌, ◌-◌, 
 use Rattle.std.proofs.Math.Seq.{take-append-add}
 use Rattle.std.proofs.lemmas.List.{get_or-drop, get_or-take}
 use Rattle.std.proofs.lemmas.Bool.{cases_Bool, cases_lt}
-use Rattle.std.proofs.lemmas.Str.{length-encode, drop_past_char}
+use Rattle.std.proofs.lemmas.Str.{length-encode, drop_past_char, encode_ascii}
 use Rattle.std.specs.Char.{len_utf8}
 use Rattle.std.specs.Str.{IsUtf8}
 use lib.Utf8.{encode, encodes}
 use Rattle.yf_chars.specs.Text.{code, next, begins, no_char}
-use Rattle.yf_chars.specs.Class.{is_nb_char}
+use Rattle.yf_chars.specs.Class.{is_nb_char, is_printable, is_between, is_break_char}
 use Rattle.yf_chars.specs.Chain.{Chain, Many, One}
 use Rattle.yf_chars.specs.Chain.Chain.{done, step}
 use Rattle.yf_chars.specs.Chain.One.{one}
-use Rattle.yf_chars.proofs.TextLemmas.{drop_there, code_from_byte, code-past}
+use Rattle.yf_chars.proofs.TextLemmas.{drop_there, code_from_byte, code-past, next_ascii}
 use Rattle.yf_chars.proofs.ChainLemmas.{chain_forward, one_functional}
 use Rattle.yf_lines.proofs.BasicLemmas.{break_char}
 use Rattle.yf_comments.specs.declared.comment.Comment.{Comment}
@@ -185,3 +185,18 @@ to_scalar b u same none body full =
       comment = no_comment_text b.comment none;
       behind = s.behind;
     }
+
+-- a comment's text
+nb_hash : is_nb_char 35 ≡ true
+unfolding is_nb_char is_printable is_between is_break_char
+nb_hash = refl
+
+pub hash_text : {t : List ℕ} {j : ℕ} {x : List ℕ} (i : ℕ) → IsUtf8 t → code t i ≡ 35 → Many t is_nb_char (i + 1) j x
+    → (y : List ℕ) × ((slice_range t i j ≡ 35 ∷ y) × IsLineText y)
+hash_text {t} {j} {x} i u e m =
+    let nb : is_nb_char (code t i) ≡ true = ap is_nb_char e ∙ nb_hash in
+    let one_long : next t i ≡ i + 1 = next_ascii t i (omega arith) in
+    let m' : Many t is_nb_char (next t i) j x = subst (λ w. Many t is_nb_char w j x) (sym one_long) m in
+    let whole : Many t is_nb_char i j (code t i ∷ [] ++ x) = step (one nb) m' in
+    let b = many_bytes u whole in
+    (encodes x, (b.0 ∙ ap (λ w. encode w ++ encodes x) e ∙ ap (λ w. w ++ encodes x) (encode_ascii 35 (omega arith)), record { chars = x; bytes = refl; each = b.1.1 }))

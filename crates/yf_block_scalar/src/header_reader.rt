@@ -7,6 +7,7 @@ ghost use Rattle.yf_chars.specs.Text.{code};
 ghost use Rattle.yf_comments.specs.Comment.{row_comments};
 ghost use Rattle.yf_block_scalar.specs.declared.header.Chomp.{Chomp};
 ghost use Rattle.yf_block_scalar.specs.Header.{BlockHeader, Digit, Indicators, Sign, Style, header_value};
+ghost use Rattle.yf_block_scalar.specs.Written.{IsCommentText};
 
 use crate::header::{Chomp, Header};
 use crate::rest::{Rest, line_rest};
@@ -125,6 +126,7 @@ fn style_at(s: &str, at: usize) -> Option<bool>
 /// `None` where no header begins at the byte offset. It takes no memory.
 pub fn block_header<'a>(s: &'a str, at: usize) -> Option<HeaderLine<'a>>
     ensures reads { MatchOption result (Stuck (BlockHeader s.now at)) (λ r. Chosen (BlockHeader s.now at) r.end (header_value r.header r.comment)) }
+    ensures comment { IfSome result (λ r. IsCommentText r.comment) }
     ensures boundary { IfSome result (λ r. IsCharBoundary s.now r.end) }
 {
     match style_at(s, at) {

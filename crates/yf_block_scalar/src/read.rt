@@ -6,7 +6,7 @@ ghost use Rattle.yf_block_scalar.specs.Body.{Body, body_value};
 ghost use Rattle.yf_block_scalar.specs.Header.{BlockHeader, header_value};
 ghost use Rattle.yf_lines.specs.Basic.{LineStart};
 ghost use Rattle.yf_block_scalar.specs.LineOffset.{line_offset};
-ghost use Rattle.yf_block_scalar.specs.Written.{IsScalar};
+ghost use Rattle.yf_block_scalar.specs.Written.{IsCommentText, IsScalar};
 
 use crate::body::BlockText;
 use crate::header::Header;
@@ -21,7 +21,7 @@ use yf_lines::source_text::Src;
 ///
 /// `None` where no header begins there. It takes no memory.
 pub fn read_header<'a>(src: &Src<'a>, at: usize) -> Option<HeaderLine<'a>>
-    ensures { MatchOption result (Stuck (BlockHeader src.now.text at)) (λ r. Chosen (BlockHeader src.now.text at) r.end (header_value r.header r.comment) × IsCharBoundary src.now.text r.end) }
+    ensures { MatchOption result (Stuck (BlockHeader src.now.text at)) (λ r. Chosen (BlockHeader src.now.text at) r.end (header_value r.header r.comment) × IsCharBoundary src.now.text r.end × IsCommentText r.comment) }
 {
     match block_header(src.text(), at) {
         Some(found) => Some(found),

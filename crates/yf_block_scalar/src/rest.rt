@@ -5,6 +5,7 @@ ghost use Rattle.yf_chars.specs.Chain.{Nowhere, Stuck};
 ghost use Rattle.yf_lines.specs.Basic.{LineStart};
 ghost use Rattle.yf_comments.specs.Comment.{row_comments};
 ghost use Rattle.yf_comments.specs.Comments.{BreakOrEnd, LineRest};
+ghost use Rattle.yf_block_scalar.specs.Written.{IsCommentText};
 
 use crate::rows::skip_nb_chars;
 use yf_chars::text::stands;
@@ -39,6 +40,7 @@ pub(crate) fn line_rest<'a>(s: &'a str, at: usize) -> Option<Rest<'a>>
     requires boundary { IsCharBoundary s.now at }
     requires inside { LineStart s.now at → ⊥ }
     ensures reads { MatchOption result (Stuck (LineRest s.now at)) (λ r. LineRest s.now at r.end (row_comments r.comment)) }
+    ensures comment { IfSome result (λ r. IsCommentText r.comment) }
     ensures boundary { IfSome result (λ r. IsCharBoundary s.now r.end) }
 {
     let place = skip_whites(s, at);

@@ -4,6 +4,7 @@ use Rattle.yf_chars.specs.Class.{is_white}
 use Rattle.yf_lines.specs.Basic.SeparateInLine.{by_whites}
 use Rattle.yf_comments.specs.Comments.LineRest.{nothing, whites, comment}
 use Rattle.yf_comments.proofs.RowLemmas.{text_from, stuck_behind_comment, stuck_behind_whites, stuck_alone, no_separation}
+use Rattle.yf_block_scalar.proofs.ScalarLemmas.{hash_text}
 use Rattle.yf_block_scalar.proofs.rest.line_rest.Goals as goal
 
 pub returns-in-Some-clause-reads : goal.returns-in-Some-clause-reads
@@ -38,3 +39,8 @@ pub returns-in-None-break_or_end-2-clause-reads : goal.returns-in-None-break_or_
 returns-in-None-break_or_end-2-clause-reads c =
     let later : c.args.at < c.skip_whites-place.result = omega (arith, c.skip_whites-place.ensures.order) in
     stuck_behind_whites (by_whites c.skip_whites-place.ensures.whites.1 later) c.skip_whites-place.ensures.all c.if-stands.ensures.cases c.in-None-break_or_end-2.ensures.reads
+
+pub returns-in-Some-break_or_end-clause-comment : goal.returns-in-Some-break_or_end-clause-comment
+returns-in-Some-break_or_end-clause-comment c =
+    let text = hash_text c.skip_whites-place.result c.utf8.s c.if-stands.ensures.cases.char c.skip_nb_chars-text_end.ensures.chars.1 in
+    (text.0, (c.range.ensures.value ∙ text.1.0, text.1.1))
