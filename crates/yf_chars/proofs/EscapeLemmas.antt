@@ -300,6 +300,7 @@ value_no_sign : (c : ℕ) → digit_value c < 16 → (c ≢ 45) × (c ≢ 46)
 value_no_sign c l = (λ e. digit_dash (subst (λ w. digit_value w < 16) e l), λ e. digit_dot (subst (λ w. digit_value w < 16) e l)) where
   digit_dash : digit_value 45 < 16 → ⊥
   digit_dash l = omega arith
+
   digit_dot : digit_value 46 < 16 → ⊥
   digit_dot l = omega arith
 

@@ -121,11 +121,14 @@ module _ {A : Type 0} {t : List ℕ} {put : List ℕ → List A} {C B : ℕ → 
       let rest = rest_steps l q r (clear_back (omega arith) a) in
       let first : Step t put C B i k (x ++ y) = record { at = h; front = x; char = y; gap = by_break b n; is = c; clear = clear_front (omega arith) a; text = refl } in
       record {
-    at = rest.at; front = (x ++ y) ++ (z ++ rest.front); last = rest.last;
-    steps = step first (chain_append (items_steps l d (clear_front (omega arith) (clear_back (omega arith) a))) rest.steps);
-    gap = rest.gap; clear = rest.clear;
-    text = ap (λ w. x ++ (y ++ (z ++ w))) rest.text ∙ simp append_assoc;
-  }
+        at = rest.at;
+        front = (x ++ y) ++ (z ++ rest.front);
+        last = rest.last;
+        steps = step first (chain_append (items_steps l d (clear_front (omega arith) (clear_back (omega arith) a))) rest.steps);
+        gap = rest.gap;
+        clear = rest.clear;
+        text = ap (λ w. x ++ (y ++ (z ++ w))) rest.text ∙ simp append_assoc;
+      }
 
   pub lines_body : {i h j : ℕ} {x y : List A} → Laws t put C B quote → Means t put C quote → Chain (Item t put C) i h x → Rest t put C B h j y
       → code t j ≡ quote → Clear t i j → Body t put C B quote i j (x ++ y)
@@ -135,11 +138,15 @@ module _ {A : Type 0} {t : List ℕ} {put : List ℕ → List A} {C B : ℕ → 
       let g = rest_order l n r in
       let rest = rest_steps l n r (clear_back f a) in
       record {
-    at = rest.at; front = x ++ rest.front; last = rest.last;
-    steps = chain_append (items_steps l d (clear_front g a)) rest.steps;
-    gap = rest.gap; clear = rest.clear; closing = q;
-    text = ap (λ w. x ++ w) rest.text ∙ sym (append_assoc x rest.front rest.last);
-  }
+        at = rest.at;
+        front = x ++ rest.front;
+        last = rest.last;
+        steps = chain_append (items_steps l d (clear_front g a)) rest.steps;
+        gap = rest.gap;
+        clear = rest.clear;
+        closing = q;
+        text = ap (λ w. x ++ w) rest.text ∙ sym (append_assoc x rest.front rest.last);
+      }
 
 -- steps as lines
 record Lines {A : Type 0} (t : List ℕ) (put : List ℕ → List A) (C B : ℕ → ℕ → List A → Type 0) (i j : ℕ) (x : List A) : Type 0 where
@@ -157,11 +164,19 @@ module _ {A : Type 0} {t : List ℕ} {put : List ℕ → List A} {C B : ℕ → 
 
   step_lines : {i h k j : ℕ} {x z : List A} (y : List A) → Gap t put B i h x → C h k y → Lines t put C B k j z → Lines t put C B i j ((x ++ y) ++ z)
   step_lines y (by_whites {x = x} w n) c l = record {
-    mid = l.mid; front = (put x ++ y) ++ l.front; back = l.back; items = step (set_off w n c) l.items; rest = l.rest;
+    mid = l.mid;
+    front = (put x ++ y) ++ l.front;
+    back = l.back;
+    items = step (set_off w n c) l.items;
+    rest = l.rest;
     text = ap (λ v. (put x ++ y) ++ v) l.text ∙ sym (append_assoc (put x ++ y) l.front l.back);
   }
   step_lines y (by_break {i = i} {x = x} b n) c l = record {
-    mid = i; front = []; back = x ++ (y ++ (l.front ++ l.back)); items = done; rest = next_line b n c l.items l.rest;
+    mid = i;
+    front = [];
+    back = x ++ (y ++ (l.front ++ l.back));
+    items = done;
+    rest = next_line b n c l.items l.rest;
     text = ap (λ v. (x ++ y) ++ v) l.text ∙ append_assoc x y (l.front ++ l.back);
   }
 
@@ -220,8 +235,14 @@ module _ {A : Type 0} {t : List ℕ} {put : List ℕ → List A} {C B : ℕ → 
   white_going {g} {m = m} {y = y} l no_break e q a (step {h = h} {x = x} {y = z} s c) gap b =
       let p = put (code t g ∷ []) in
       let first : Step t put C B g h (p ++ x) = record {
-        at = s.at; front = p ++ s.front; char = s.char; gap = white_gap l no_break e q s.gap; is = s.is; clear = clear_join a s.clear;
-        text = ap (λ v. p ++ v) s.text ∙ sym (append_assoc p s.front s.char) } in
+        at = s.at;
+        front = p ++ s.front;
+        char = s.char;
+        gap = white_gap l no_break e q s.gap;
+        is = s.is;
+        clear = clear_join a s.clear;
+        text = ap (λ v. p ++ v) s.text ∙ sym (append_assoc p s.front s.char);
+      } in
       record { at = m; front = (p ++ x) ++ z; last = y; steps = step first c; gap = gap; clear = b; text = simp append_assoc }
 
   chars_going : {i j : ℕ} {x : List A} → Functional C → Means t put C quote → ((i j : ℕ) (x : List A) → B i j x → ⊥) → Chain C i j x → code t j ≡ quote
@@ -239,8 +260,15 @@ module _ {A : Type 0} {t : List ℕ} {put : List ℕ → List A} {C B : ℕ → 
       (white_going m no_break e w.0 (clear_front o a) rest.steps rest.gap rest.clear))
       (λ (n : is_white (code t i) ≡ false).
       let first : Step t put C B i h x = record { at = i; front = put []; char = x; gap = by_whites done n; is = c; clear = clear_front o a; text = ap (λ v. v ++ x) (sym m.nothing) } in
-      record { at = rest.at; front = x ++ rest.front; last = rest.last; steps = step first rest.steps; gap = rest.gap; clear = rest.clear;
-        text = ap (λ v. x ++ v) rest.text ∙ sym (append_assoc x rest.front rest.last) })
+      record {
+        at = rest.at;
+        front = x ++ rest.front;
+        last = rest.last;
+        steps = step first rest.steps;
+        gap = rest.gap;
+        clear = rest.clear;
+        text = ap (λ v. x ++ v) rest.text ∙ sym (append_assoc x rest.front rest.last);
+      })
       (cases_Bool (is_white (code t i)))
 
   pub chars_body : {i j : ℕ} {x : List A} → Functional C → Means t put C quote → ((i j : ℕ) (x : List A) → B i j x → ⊥) → Chain C i j x → code t j ≡ quote

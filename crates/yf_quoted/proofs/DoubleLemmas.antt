@@ -99,6 +99,7 @@ good_char : {t : List ℕ} {k l : ℕ} {z : List Piece} → DoubleChar t k l z �
 good_char {t} {k} {l} a = go (written a) where
   json : (d : ℕ) → is_nb_json d ≡ false → is_nb_json (code t k) ≡ true → code t k ≢ d
   json d n e q = true≢false (sym e ∙ ap is_nb_json q ∙ n)
+
   go : {z : List Piece} → Written t k l z → Good t k
   go (itself n m e p q) = record { no_break = no_break_here t k (json 13 json_cr e) (json 10 json_lf e); no_escaped = λ f j b. n f }
   go (by_escape v e) =
@@ -127,12 +128,15 @@ kind_unique : {t : List ℕ} {n : ℤ} {i j k : ℕ} {x y : List Piece} → Kind
 kind_unique {t} {n} {i} {j} {k} {x} {y} a g b h = go a b where
   backslash : (m : ℕ) → code t m ≡ 92 → is_white (code t m) ≡ false
   backslash m e = ap is_white e ∙ white_backslash
+
   no_fold : {m : ℕ} {w : List ℕ} → Many t is_white i m w → code t m ≡ 92 → (e : ℕ) (v : List ℕ) → FoldsTo t n i e v → ⊥
   no_fold {m} w e z v f = fold_not_item w (no_break_here t m (λ q. omega arith) (λ q. omega arith)) (backslash m e) f
+
   never : {m z : ℕ} {w v : List ℕ} {e : ℕ} → Many t is_white i e w → is_white (code t e) ≡ false → Good t e → Many t is_white i m v → code t m ≡ 92 → Break t (m + 1) z → ⊥
   never {m} {z} {e = e} w f o u q b =
       let same = many_unique t is_white w f u (backslash m q) in
       o.no_escaped (ap (code t) same.0 ∙ q) z (subst (λ d. Break t (d + 1) z) (sym same.0) b)
+
   go : Kind t n i j x → Kind t n i k y → (j ≡ k) × (x ≡ y)
   go (whites_alone w m f p) (whites_alone v o e q) = let same = many_unique t is_white m f o e in (same.0, p ∙ ap goods same.1 ∙ sym q)
   go (whites_alone w m f p) (one_fold v o e q) = absurd (fold_not_item m g.no_break f (to_fold o e h))

@@ -191,6 +191,7 @@ no_escaped_lines {t} {w} {i} {h} {l} m q b s = record { none = λ k y g c. go g 
       let line : l' ≡ l = break_unique (subst (λ r. Break t (r + 1) l') same.0 b') b in
       let two : FoldLines t (pos w) l' k z' = record { line = _; empties = c'; content = record { prefix = p'; no_white = v; no_break = g.no_break } } in
       s.none k z' (subst (λ r. FoldLines t (pos w) r k z') line two)
+
   go : {k : ℕ} {y : List Piece} → Gap t goods (DoubleBreaks t (Some w)) i k y → Good t k → ⊥
   go (by_whites v e) g =
       let same = many_unique t is_white m (backslash t h q) v e in

@@ -19,10 +19,10 @@ marked_more t bs None r h e = h
 marked_more t {ds} bs (Some m) r h e =
     let same : take m.len ds ≡ take m.len bs = ap (take m.len) e ∙ take-append-le m.len bs r h.within in
     record {
-  within = omega (arith, h.within, ap length e, length-append bs r);
-  front = subst (λ w. IsUtf8 w) (sym same) h.front;
-  boundary = h.boundary;
-}
+      within = omega (arith, h.within, ap length e, length-append bs r);
+      front = subst (λ w. IsUtf8 w) (sym same) h.front;
+      boundary = h.boundary;
+    }
 
 pub marked_split : (t bs : List ℕ) (o : Option Mark) → IsUtf8 bs → IfSome o (Marked t bs) → IfSome o (λ m. IsSplitPoint bs m.len)
 marked_split t bs None u h = h

@@ -87,6 +87,7 @@ no_negative : {t : List ℕ} {n : ℤ} {i j : ℕ} → n <ℤ pos 0 → FlowPref
 no_negative {t} {n} l p = go p where
   indent : {i j : ℕ} → Indent t n i j → ⊥
   indent (exactly k e s) = omega (arith, ints)
+
   go : {i j : ℕ} → FlowPrefix t n i j → ⊥
   go (indented d) = indent d
   go (set_off d s) = indent d
@@ -140,8 +141,14 @@ quoted_body {i = i} w q = let e = q.end in let l = inside_order w q.inside q.clo
 pub double_chosen : {t : List ℕ} {n : ℤ} {c : Ctx} {o : Option ℕ} {i j : ℕ} {x : List Piece} → IsUtf8 t → WidthOf n c o → code t i ≡ 34
     → Body t goods (DoubleChar t) (DoubleBreaks t o) 34 (i + 1) j x → Chosen (DoubleQuoted t n c i) (j + 1) x
 double_chosen {t} {n} {c} {o} {i} {j} {x} u w q b = record {
-  derived = record { close = j; opening = q; inside = body_inside w b; closing = b.closing; end = refl;
-    clear = clear_join (clear_byte u q (omega arith)) (clear_join (body_clear b) (clear_byte u b.closing (omega arith))) };
+  derived = record {
+    close = j;
+    opening = q;
+    inside = body_inside w b;
+    closing = b.closing;
+    end = refl;
+    clear = clear_join (clear_byte u q (omega arith)) (clear_join (body_clear b) (clear_byte u b.closing (omega arith)));
+  };
   longest = λ k y d. let s = same d in let e = d.end in omega (arith, s.0);
   only = λ y d. (same d).1;
 } where

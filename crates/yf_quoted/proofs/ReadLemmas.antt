@@ -84,10 +84,10 @@ unfolding or_else
 first_more x y o p n =
     first_append x (y ++ piece o p ∷ []) ∙ ap (or_else (first_bad x)) (first_append y (piece o p ∷ []) ∙ ap (λ w. or_else w (first_bad (piece o p ∷ []))) n)
     ∙ go (first_bad x) o where
-  go : (a o : Option ℕ) → or_else a (first_bad (piece o p ∷ [])) ≡ first_of a o p
-  go (Some a) o = refl
-  go None (Some v) = refl
-  go None None = refl
+      go : (a o : Option ℕ) → or_else a (first_bad (piece o p ∷ [])) ≡ first_of a o p
+      go (Some a) o = refl
+      go None (Some v) = refl
+      go None None = refl
 
 pub first_none : (x y : List Piece) → first_bad y ≡ None → first_bad (x ++ y) ≡ first_bad x
 unfolding or_else
@@ -113,14 +113,14 @@ pub one_more : {t : List ℕ} {o : Option ℕ} {i j blank_end feeds k l : ℕ} {
 one_more {t} {j = j} {blank_end = blank_end} {feeds = feeds} {k = k} {space = space} v s g c p q =
     let shape = encode_utf8_all (text_of s.text) in
     record {
-  text = s.text ++ (g.text ++ piece v k ∷ []);
-  steps = chain_more s.steps (record { at = k; front = g.text; char = piece v k ∷ []; gap = g.gap; is = c.0; clear = clear_join g.clear c.1; text = refl });
-  is = q ∙ ap (λ w. w ++ encode_utf8 (shown v)) (p ∙ ap (λ w. w ++ gap_bytes t j blank_end space feeds) s.is ∙ ap (λ w. shape ++ w) g.bytes)
-      ∙ append_assoc shape (encode_utf8_all (text_of g.text)) (encode_utf8 (shown v))
-      ∙ ap (λ w. shape ++ (encode_utf8_all (text_of g.text) ++ w)) (sym (piece_bytes v k))
-      ∙ ap (λ w. shape ++ w) (sym (pieces_bytes g.text (piece v k ∷ []))) ∙ sym (pieces_bytes s.text (g.text ++ piece v k ∷ []));
-  first = ap (λ w. first_of w v k) s.first ∙ sym (first_more s.text g.text v k g.no_bad);
-}
+      text = s.text ++ (g.text ++ piece v k ∷ []);
+      steps = chain_more s.steps (record { at = k; front = g.text; char = piece v k ∷ []; gap = g.gap; is = c.0; clear = clear_join g.clear c.1; text = refl });
+      is = q ∙ ap (λ w. w ++ encode_utf8 (shown v)) (p ∙ ap (λ w. w ++ gap_bytes t j blank_end space feeds) s.is ∙ ap (λ w. shape ++ w) g.bytes)
+          ∙ append_assoc shape (encode_utf8_all (text_of g.text)) (encode_utf8 (shown v))
+          ∙ ap (λ w. shape ++ (encode_utf8_all (text_of g.text) ++ w)) (sym (piece_bytes v k))
+          ∙ ap (λ w. shape ++ w) (sym (pieces_bytes g.text (piece v k ∷ []))) ∙ sym (pieces_bytes s.text (g.text ++ piece v k ∷ []));
+      first = ap (λ w. first_of w v k) s.first ∙ sym (first_more s.text g.text v k g.no_bad);
+    }
 
 pub closed : {t : List ℕ} {o : Option ℕ} {i j blank_end feeds k : ℕ} {space : Bool} {bytes with_gap : List ℕ} {wrong : Option ℕ}
     → SoFar t o i j bytes wrong → DoubleGap t o j blank_end space feeds k → code t k ≡ 34
@@ -146,6 +146,7 @@ pub no_char_body : {t : List ℕ} {o : Option ℕ} {i j blank_end feeds k : ℕ}
 no_char_body {t} {o} {j = j} {k = k} s g q n = record { none = no_body (double_laws t o) no_quote_char s.steps (record { none = stuck }) shut } where
   shut : (h : ℕ) (y : List Piece) → Gap t goods (DoubleBreaks t o) j h y → code t h ≡ 34 → ⊥
   shut h y d e = q (sym (ap (code t) (g.only h y d (inr e)).0) ∙ e)
+
   stuck : (h : ℕ) (y : List Piece) → Step t goods (DoubleChar t) (DoubleBreaks t o) j h y → ⊥
   stuck h y st =
       let same = g.only st.at st.front st.gap (inl (h, st.char, st.is)) in

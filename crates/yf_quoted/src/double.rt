@@ -29,7 +29,13 @@ use yf_lines::text::{OwnedText, Text};
 /// # Errors
 ///
 /// `Fault::EscapeValue` at the first escape whose number is no character; `Fault::Memory`.
-pub fn read_double<'a>(alloc: Global, src: &Src<'a>, at: usize, n: i32, ctx: Ctx) -> Result<Option<(Text<'a>, usize)>, Fault>
+pub fn read_double<'a>(
+    alloc: Global,
+    src: &Src<'a>,
+    at: usize,
+    n: i32,
+    ctx: Ctx,
+) -> Result<Option<(Text<'a>, usize)>, Fault>
     requires { IsCharBoundary src.now.text at }
     ensures reads { IfOk result (λ o. MatchOption o (Stuck (Q.DoubleQuoted src.now.text n ctx at)) (λ p. (x : List Q.Piece) × (text_bytes p.0 ≡ encode_utf8_all (Q.text_of x)) × (Q.first_bad x ≡ None) × Chosen (Q.DoubleQuoted src.now.text n ctx at) p.1 x)) }
     ensures refused { IfErr result (λ e. DoubleFault src.now.text n ctx at e) }
@@ -39,7 +45,9 @@ pub fn read_double<'a>(alloc: Global, src: &Src<'a>, at: usize, n: i32, ctx: Ctx
         Ok(None) => Ok(None),
         Ok(Some(read)) => match read.bad {
             None => Ok(Some((read.text, read.end))),
-            Some(bad) => Err(Fault::EscapeValue { place: src.place(bad) }),
+            Some(bad) => Err(Fault::EscapeValue {
+                place: src.place(bad),
+            }),
         },
         Err(_) => Err(Fault::Memory),
     }
@@ -51,7 +59,13 @@ pub fn read_double<'a>(alloc: Global, src: &Src<'a>, at: usize, n: i32, ctx: Ctx
 /// # Errors
 ///
 /// `Fault::Memory` alone.
-pub fn scan_double<'a>(alloc: Global, src: &Src<'a>, at: usize, n: i32, ctx: Ctx) -> Result<Option<(Text<'a>, Option<Place>, usize)>, Fault>
+pub fn scan_double<'a>(
+    alloc: Global,
+    src: &Src<'a>,
+    at: usize,
+    n: i32,
+    ctx: Ctx,
+) -> Result<Option<(Text<'a>, Option<Place>, usize)>, Fault>
     requires { IsCharBoundary src.now.text at }
     ensures reads { IfOk result (λ o. MatchOption o (Stuck (Q.DoubleQuoted src.now.text n ctx at)) (λ p. (x : List Q.Piece) × (text_bytes p.0 ≡ encode_utf8_all (Q.text_of x)) × BadPlace src.now.text (Q.first_bad x) p.1 × Chosen (Q.DoubleQuoted src.now.text n ctx at) p.2 x)) }
     ensures boundary { IfOk result (λ o. IfSome o (λ p. IsCharBoundary src.now.text p.2)) }
@@ -80,7 +94,13 @@ struct Double<'a> {
 }
 
 // The same in a text without its lines.
-fn double_in<'a>(alloc: Global, s: &'a str, at: usize, n: i32, ctx: Ctx) -> Result<Option<Double<'a>>, AllocError>
+fn double_in<'a>(
+    alloc: Global,
+    s: &'a str,
+    at: usize,
+    n: i32,
+    ctx: Ctx,
+) -> Result<Option<Double<'a>>, AllocError>
     requires { IsCharBoundary s.now at }
     ensures reads { IfOk result (λ o. MatchOption o (Stuck (Q.DoubleQuoted s.now n ctx at)) (λ p. (x : List Q.Piece) × (text_bytes p.text ≡ encode_utf8_all (Q.text_of x)) × (p.bad ≡ Q.first_bad x) × Chosen (Q.DoubleQuoted s.now n ctx at) p.end x)) }
     ensures boundary { IfOk result (λ o. IfSome o (λ p. IsCharBoundary s.now p.end)) }
@@ -94,7 +114,11 @@ fn double_in<'a>(alloc: Global, s: &'a str, at: usize, n: i32, ctx: Ctx) -> Resu
     }
     let width = lines_width(n, ctx);
     match simple_end(s, at + 1) {
-        Some(close) => Ok(Some(Double { text: Text::Part(&s[at + 1..close]), bad: None, end: close + 1 })),
+        Some(close) => Ok(Some(Double {
+            text: Text::Part(&s[at + 1..close]),
+            bad: None,
+            end: close + 1,
+        })),
         None => match double_body(alloc, s, at + 1, width)? {
             None => Ok(None),
             Some(read) => Ok(Some(read)),
@@ -166,17 +190,28 @@ fn double_char(s: &str, at: usize) -> Option<DoubleChar>
     match peek(s, at) {
         None => None,
         Some((c, _)) => match simple_char(s, at) {
-            Some(end) => Some(DoubleChar { value: Some(c), end }),
+            Some(end) => Some(DoubleChar {
+                value: Some(c),
+                end,
+            }),
             None => match read_escape(s, at) {
                 None => None,
-                Some(escape) => Some(DoubleChar { value: char::from_u32(escape.value), end: escape.end }),
+                Some(escape) => Some(DoubleChar {
+                    value: char::from_u32(escape.value),
+                    end: escape.end,
+                }),
             },
         },
     }
 }
 
 // The rest of a double-quoted scalar behind its opening quote.
-fn double_body<'a>(alloc: Global, s: &'a str, at: usize, width: Option<usize>) -> Result<Option<Double<'a>>, AllocError>
+fn double_body<'a>(
+    alloc: Global,
+    s: &'a str,
+    at: usize,
+    width: Option<usize>,
+) -> Result<Option<Double<'a>>, AllocError>
     requires { IsCharBoundary s.now at }
     ensures reads { IfOk result (λ o. MatchOption o (NoDoubleBody s.now width at) (λ p. DoubleRead s.now width at (text_bytes p.text) p.bad p.end)) }
     ensures boundary { IfOk result (λ o. IfSome o (λ p. IsCharBoundary s.now p.end)) }
@@ -192,7 +227,11 @@ fn double_body<'a>(alloc: Global, s: &'a str, at: usize, width: Option<usize>) -
         };
         push_gap(&mut text, s, end, gap)?;
         if stands(s, gap.end, b'"') {
-            return Ok(Some(Double { text: Text::Owned(OwnedText::new(text)), bad, end: gap.end + 1 }));
+            return Ok(Some(Double {
+                text: Text::Owned(OwnedText::new(text)),
+                bad,
+                end: gap.end + 1,
+            }));
         }
         match double_char(s, gap.end) {
             None => return Ok(None),

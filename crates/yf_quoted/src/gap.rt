@@ -30,14 +30,24 @@ pub fn single_gap(s: &str, at: usize, width: Option<usize>) -> Option<Gap>
     ensures order { IfSome result (λ g. (at ≤ g.blank_end) × (at ≤ g.end)) }
 {
     let place = skip_whites(s, at);
-    let whites = Gap { blank_end: place, space: false, feeds: 0, end: place };
+    let whites = Gap {
+        blank_end: place,
+        space: false,
+        feeds: 0,
+        end: place,
+    };
     match width {
         None => Some(whites),
         Some(width) => match line_break(s, place) {
             None => Some(whites),
             Some(_) => match flow_folded(s, at, width) {
                 None => None,
-                Some(fold) => Some(Gap { blank_end: at, space: fold.feeds == 0, feeds: fold.feeds, end: fold.end }),
+                Some(fold) => Some(Gap {
+                    blank_end: at,
+                    space: fold.feeds == 0,
+                    feeds: fold.feeds,
+                    end: fold.end,
+                }),
             },
         },
     }
@@ -64,7 +74,12 @@ pub fn double_gap(s: &str, at: usize, width: Option<usize>) -> Option<Gap>
                 },
                 Some(next_line) => match fold_lines(s, next_line, lines) {
                     None => None,
-                    Some(fold) => Some(Gap { blank_end: place, space: false, feeds: fold.feeds, end: fold.end }),
+                    Some(fold) => Some(Gap {
+                        blank_end: place,
+                        space: false,
+                        feeds: fold.feeds,
+                        end: fold.end,
+                    }),
                 },
             }
         }

@@ -21,8 +21,8 @@ pub chars-preserved : goal.chars-preserved
 chars-preserved c =
     let value = c.in-Some-double_char.c.value in
     record {
-  read = rw c.first_of-bad.ensures (one_more value c.chars.invariant.read c.in-Some.ensures.reads c.in-Some-double_char.ensures.reads c.in_ok-push_gap.ensures
-      (c.in_ok-push-in-Some-double_char.ensures.bytes ∙ ap (λ w. string_bytes c.push_gap.new.text ++ encode_utf8 w) c.shown.ensures));
-  boundary = c.in-Some-double_char.ensures.boundary;
-  place = rw c.first_of-bad.ensures (first_place c.args.s.now c.chars.bad value c.in-Some.gap.end c.chars.invariant.place c.in-Some.ensures.boundary.1);
-}
+      read = rw c.first_of-bad.ensures (one_more value c.chars.invariant.read c.in-Some.ensures.reads c.in-Some-double_char.ensures.reads c.in_ok-push_gap.ensures
+          (c.in_ok-push-in-Some-double_char.ensures.bytes ∙ ap (λ w. string_bytes c.push_gap.new.text ++ encode_utf8 w) c.shown.ensures));
+      boundary = c.in-Some-double_char.ensures.boundary;
+      place = rw c.first_of-bad.ensures (first_place c.args.s.now c.chars.bad value c.in-Some.gap.end c.chars.invariant.place c.in-Some.ensures.boundary.1);
+    }
