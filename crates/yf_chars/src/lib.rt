@@ -6,3 +6,4 @@ pub mod classes;
 pub mod context;
 pub mod error;
 pub mod text;
+pub mod utf8;

@@ -1,2 +1,4 @@
 pub mod Basic
+pub mod Steady
 pub mod Text
+pub mod Watched

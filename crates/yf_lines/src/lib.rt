@@ -6,3 +6,4 @@ pub mod basic;
 pub mod fault;
 pub mod place;
 pub mod text;
+pub mod watched;

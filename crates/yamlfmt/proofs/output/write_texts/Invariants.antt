@@ -1,0 +1,9 @@
+-- What is left of the parts is what is still to be written.
+use Rattle.std.proofs.Common.{drop}
+use Rattle.yamlfmt.specs.Output.{texts}
+use Rattle.yamlfmt.proofs.OutputLemmas.{Progress}
+use Rattle.yamlfmt.proofs.output.write_texts.Given as goal
+
+abbrev pub invariant-loop-part : goal.invariant-loop-part
+invariant-loop-part g l = Progress (g.W.Write.contents l.initial.writer) (g.W.Write.contents l.writer)
+    (g.W.Sink.has_failed l.initial.writer) (g.W.Sink.has_failed l.writer) (texts l.parts) (texts (drop l.part-index l.parts))

@@ -1,0 +1,154 @@
+//! What the contracts leave to the system: that reading and writing succeed, and what a failing reader or writer gives.
+
+use std::io;
+use std::io::{Read, Write};
+use std::test::Fail;
+
+use yf_lines::fault::Fault;
+use yf_lines::place::Place;
+use yf_lines::text::OwnedText;
+use yf_lines::watched::{Sink, Source, Watched};
+
+use crate::input::read_all;
+use crate::output::write_text;
+use crate::report::report;
+
+/// Gives the same byte for ever.
+#[derive(Drop)]
+struct EndlessReader;
+
+impl Read for EndlessReader {
+    fn read(&mut self, buffer: &mut [u8]) -> io::Result<usize> {
+        buffer.fill(b'x');
+        Ok(buffer.len())
+    }
+}
+
+/// Fails at once.
+#[derive(Drop)]
+struct BrokenReader;
+
+impl Read for BrokenReader {
+    fn read(&mut self, _buffer: &mut [u8]) -> io::Result<usize> {
+        Err(io::Error::from(io::ErrorKind::Other))
+    }
+}
+
+/// Takes as many bytes as it has room for, and then fails.
+#[derive(Drop)]
+struct FullWriter {
+    taken: Vec<u8>,
+    room: usize,
+}
+
+impl Write for FullWriter {
+    fn write(&mut self, bytes: &[u8]) -> io::Result<usize> {
+        if self.room == 0 {
+            return Err(io::Error::from(io::ErrorKind::Other));
+        }
+        let count = bytes.len().min(self.room);
+        self.taken.extend_from_slice(&bytes[..count])?;
+        self.room -= count;
+        Ok(count)
+    }
+
+    fn flush(&mut self) -> io::Result<()> {
+        Ok(())
+    }
+}
+
+/// Takes no bytes, and says that this is well.
+#[derive(Drop)]
+struct StuckWriter;
+
+impl Write for StuckWriter {
+    fn write(&mut self, _bytes: &[u8]) -> io::Result<usize> {
+        Ok(0)
+    }
+
+    fn flush(&mut self) -> io::Result<()> {
+        Ok(())
+    }
+}
+
+#[test]
+fn reads_up_to_the_limit(rt: HostRuntime) {
+    let mut reader = Watched::new(b"0123456789".as_slice());
+    match read_all(rt.alloc(), &mut reader, 10) {
+        Ok(bytes) => assert_eq!(rt; bytes.as_slice(), b"0123456789".as_slice()),
+        Err(fault) => panic!(rt; "{fault}"),
+    }
+    assert!(rt; !reader.failed());
+    let mut reader = Watched::new(b"0123456789".as_slice());
+    assert!(rt; matches!(read_all(rt.alloc(), &mut reader, 9), Err(Fault::ReadFailed)));
+}
+
+#[test]
+fn leaves_a_reader_that_never_ends(rt: HostRuntime) {
+    let mut reader = Watched::new(EndlessReader);
+    assert!(rt; matches!(read_all(rt.alloc(), &mut reader, 10), Err(Fault::ReadFailed)));
+    assert!(rt; !reader.failed());
+}
+
+#[test]
+fn answers_a_failed_read(rt: HostRuntime) {
+    let mut reader = Watched::new(BrokenReader);
+    assert!(rt; matches!(read_all(rt.alloc(), &mut reader, 10), Err(Fault::ReadFailed)));
+    assert!(rt; reader.failed());
+}
+
+#[test]
+fn writes_a_front_and_fails(rt: HostRuntime) {
+    let full = FullWriter {
+        taken: Vec::new(rt.alloc()),
+        room: 3,
+    };
+    let mut writer = Watched::new(full);
+    assert!(rt; matches!(write_text(&mut writer, b"---\n- a\n"), Err(Fault::WriteFailed)));
+    assert!(rt; writer.failed());
+    assert_eq!(rt; writer.get_ref().taken.as_slice(), b"---".as_slice());
+}
+
+#[test]
+fn leaves_a_writer_that_takes_nothing(rt: HostRuntime) {
+    let mut writer = Watched::new(StuckWriter);
+    assert!(rt; matches!(write_text(&mut writer, b"a"), Err(Fault::WriteFailed)));
+    assert!(rt; writer.failed());
+    let mut idle = Watched::new(StuckWriter);
+    assert!(rt; write_text(&mut idle, b"").is_ok());
+    assert!(rt; !idle.failed());
+}
+
+#[test]
+fn reports_faults(rt: HostRuntime) -> Result<(), Fail> {
+    let place = Place { line: 12, column: 7 };
+    let key = OwnedText::new(String::from_str(rt.alloc(), "indent")?);
+    let faults = [
+        (Fault::NotUtf8 { offset: 2 }, 2, "byte 2 refused: not-utf8\n"),
+        (Fault::Syntax { place, what: "an entry" }, 2, "12:7 refused: syntax\n"),
+        (Fault::TooDeep { place }, 2, "12:7 refused: too-deep\n"),
+        (Fault::UnknownHandle { place }, 2, "12:7 refused: unknown-handle\n"),
+        (Fault::UnknownAlias { place }, 2, "12:7 refused: unknown-alias\n"),
+        (Fault::RepeatedDirective { place }, 2, "12:7 refused: repeated-directive\n"),
+        (Fault::BadVersion { place }, 2, "12:7 refused: bad-version\n"),
+        (Fault::EscapeValue { place }, 2, "12:7 refused: escape-value\n"),
+        (Fault::Memory, 3, "no memory\n"),
+        (Fault::ReadFailed, 3, "read failed\n"),
+        (Fault::WriteFailed, 3, "write failed\n"),
+        (Fault::Config { key }, 3, "config: indent\n"),
+        (Fault::Unsupported { place }, 2, "12:7 refused: unsupported\n"),
+    ];
+    for (fault, status, line) in &faults {
+        let mut stream = Watched::new(Vec::new(rt.alloc()));
+        assert_eq!(rt; report(fault, &mut stream), *status, "{line}");
+        assert_eq!(rt; stream.get_ref().as_slice(), line.as_bytes());
+    }
+    Ok(())
+}
+
+#[test]
+fn keeps_the_status_where_the_report_fails(rt: HostRuntime) {
+    let mut stream = Watched::new(StuckWriter);
+    assert_eq!(rt; report(&Fault::Memory, &mut stream), 3);
+    assert!(rt; stream.failed());
+}

@@ -1,0 +1,98 @@
+-- One event of the pass, by what it does to what is awaited.
+use Rattle.std.proofs.Common.{ℕ, suc, zero, ◌+◌, ◌-◌, ◌<◌, ◌≤◌, ◌≡◌, Bool, true, false, List, [], ◌∷◌, ◌++◌, Option, Some, None, length, refl, sym, ap, ◌∙◌, arith, length-append, map, drop, ◌==◌}
+use Rattle.std.specs.Prelude.{reverse}
+use Rattle.std.proofs.lemmas.Bool.Decides.{nat_tests}
+use Rattle.std.proofs.lemmas.List.{reverse-append, length-reverse, drop_all}
+use Rattle.yf_events.specs.Event.{EventValue}
+use Rattle.yf_events.specs.Nesting.{Advances, move_at, run, runs_on, is_over}
+use Rattle.yf_events.specs.declared.nesting.Awaited.{Awaited}
+use Rattle.yf_events.specs.declared.nesting.Awaited.TheVariants.{Stream, Documents, Root, Closing, Items, Keys, Values, Nothing}
+use Rattle.yf_events.specs.declared.nesting.Move.TheVariants.{Refuse, Stay, Open, Close}
+
+refused_at : (r : ℕ) (f : Awaited) (b : List Awaited) (e : EventValue) (es : List EventValue) → move_at f e ≡ Refuse → run r f b (e ∷ es) ≡ false
+unfolding run
+refused_at r f b e es m = rw m refl
+
+stays_at : (r : ℕ) (f g : Awaited) (b : List Awaited) (e : EventValue) (es : List EventValue) → move_at f e ≡ Stay g → run r f b (e ∷ es) ≡ run r g b es
+unfolding run
+stays_at r f g b e es m = rw m refl
+
+full_at : (f t u : Awaited) (b : List Awaited) (e : EventValue) (es : List EventValue) → move_at f e ≡ Open t u → run zero f b (e ∷ es) ≡ false
+unfolding run
+full_at f t u b e es m = rw m refl
+
+opens_at : (r : ℕ) (f t u : Awaited) (b : List Awaited) (e : EventValue) (es : List EventValue) → move_at f e ≡ Open t u
+    → run (suc r) f b (e ∷ es) ≡ run r u (t ∷ b) es
+unfolding run
+opens_at r f t u b e es m = rw m refl
+
+closes_at : (r : ℕ) (f t : Awaited) (b : List Awaited) (e : EventValue) (es : List EventValue) → move_at f e ≡ Close
+    → run r f (t ∷ b) (e ∷ es) ≡ run (suc r) t b es
+unfolding run
+closes_at r f t b e es m = rw m refl
+
+bare_at : (r : ℕ) (f : Awaited) (e : EventValue) (es : List EventValue) → move_at f e ≡ Close → run r f [] (e ∷ es) ≡ false
+unfolding run
+bare_at r f e es m = rw m refl
+
+pub refused : (limit : ℕ) (f : Awaited) (b : List Awaited) (e : EventValue) → move_at f e ≡ Refuse → Advances limit f b e None b
+refused limit f b e m = record { same = λ es. refused_at _ f _ e es m }
+
+pub stays : (limit : ℕ) (f g : Awaited) (b : List Awaited) (e : EventValue) → move_at f e ≡ Stay g → Advances limit f b e (Some g) b
+stays limit f g b e m = record { same = λ es. stays_at _ f g _ e es m }
+
+pub full : (limit : ℕ) (f t u : Awaited) (b : List Awaited) (e : EventValue) → move_at f e ≡ Open t u → length b ≡ limit → Advances limit f b e None b
+full limit f t u b e m l =
+    let none : limit - length b ≡ zero = omega (arith, l) in
+    record { same = λ es. rw none (full_at f t u (reverse b) e es m) }
+
+turned : (b : List Awaited) (t : Awaited) → reverse (b ++ (t ∷ [])) ≡ t ∷ reverse b
+turned b t = reverse-append b (t ∷ [])
+
+pub opens : (limit : ℕ) (f t u : Awaited) (b a : List Awaited) (e : EventValue) → move_at f e ≡ Open t u → length b < limit → a ≡ b ++ (t ∷ [])
+    → Advances limit f b e (Some u) a
+opens limit f t u b a e m l is =
+    let longer : length a ≡ length b + 1 = ap length is ∙ length-append b (t ∷ []) in
+    let more : limit - length b ≡ suc (limit - length a) = omega (arith, longer, l) in
+    record { same = λ es. rw more (opens_at (limit - length a) f t u (reverse b) e es m ∙ ap (λ w. run (limit - length a) u w es) (sym (ap reverse is ∙ turned b t))) }
+
+pub closes : (limit : ℕ) (f t : Awaited) (b a : List Awaited) (e : EventValue) → move_at f e ≡ Close → length b ≤ limit → b ≡ a ++ (t ∷ [])
+    → Advances limit f b e (Some t) a
+closes limit f t b a e m l is =
+    let longer : length b ≡ length a + 1 = ap length is ∙ length-append a (t ∷ []) in
+    let more : suc (limit - length b) ≡ limit - length a = omega (arith, longer, l) in
+    record { same = λ es. ap (λ w. run (limit - length b) f w (e ∷ es)) (ap reverse is ∙ turned a t) ∙ closes_at (limit - length b) f t (reverse a) e es m ∙ ap (λ n. run n t (reverse a) es) more }
+
+pub bare : (limit : ℕ) (f : Awaited) (b a : List Awaited) (e : EventValue) → move_at f e ≡ Close → b ≡ a ++ [] → length b ≡ 0 → Advances limit f b e None a
+bare limit f [] a e m is n = record { same = λ es. bare_at (limit - 0) f e es m }
+bare limit f (x ∷ b) a e m is n = absurd (omega (arith, n))
+
+-- The end of the pass
+
+not_zero : (n : ℕ) → (suc n == 0) ≡ false
+not_zero n = grind (arith, nat_tests)
+
+over_is : (b : List Awaited) → is_over Nothing b ≡ (length b == 0)
+over_is [] = refl
+over_is (x ∷ b) = sym (not_zero (length b))
+
+pub over_at : (r : ℕ) (b : List Awaited) → run r Nothing (reverse b) [] ≡ (length b == 0)
+unfolding run
+over_at r b = over_is (reverse b) ∙ ap (λ n. n == 0) (length-reverse b)
+
+not_over : (f : Awaited) (b : List Awaited) → (f ≡ Nothing → ⊥) → is_over f b ≡ false
+not_over Nothing b h = absurd (h refl)
+not_over Stream b h = refl
+not_over Documents b h = refl
+not_over Root b h = refl
+not_over Closing b h = refl
+not_over Items b h = refl
+not_over Keys b h = refl
+not_over Values b h = refl
+
+pub not_over_at : (r : ℕ) (f : Awaited) (b : List Awaited) → (f ≡ Nothing → ⊥) → run r f b [] ≡ false
+unfolding run
+not_over_at r f b h = not_over f b h
+
+pub past_end : {X : Type 0} (g : X → EventValue) (i : ℕ) (xs : List X) → length xs ≤ i → map g (drop i xs) ≡ []
+past_end g i xs l = ap (map g) (drop_all i xs l)

@@ -1,0 +1,4 @@
+pub mod Advances
+pub mod Build
+pub mod Nests
+pub mod Rests

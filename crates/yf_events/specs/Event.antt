@@ -1,0 +1,52 @@
+-- What an event is to a contract: its names and texts are lists of bytes, wherever in memory they lie.
+use Rattle.std.specs.Prelude.{ℕ, Bool, List, Option}
+use Rattle.yf_lines.specs.Text.{text_bytes}
+use Rattle.yf_props.specs.Props.{PropsValue, props_value}
+use Rattle.yf_events.specs.declared.event.Entry.{Entry}
+use Rattle.yf_events.specs.declared.event.Event.{Event}
+use Rattle.yf_events.specs.declared.event.Event.TheVariants.{StreamStart, StreamEnd, DocStart, DocEnd, SeqStart, SeqEnd, MapStart, MapEnd, Scalar, Alias}
+use Rattle.yf_events.specs.declared.event.PlacedEvent.{PlacedEvent}
+use Rattle.yf_events.specs.declared.event.ScalarStyle.{ScalarStyle}
+use Rattle.yf_events.specs.declared.event.Span.{Span}
+
+pub data EventValue : Type 0 where
+  stream_starts : EventValue
+  stream_ends : EventValue
+  -- whether `---` or `...` is written
+  document_starts : Bool → EventValue
+  document_ends : Bool → EventValue
+  -- whether it is a flow collection
+  sequence_starts : Bool → PropsValue → EventValue
+  sequence_ends : EventValue
+  mapping_starts : Bool → PropsValue → EventValue
+  mapping_ends : EventValue
+  scalar_node : PropsValue → ScalarStyle → List ℕ → EventValue
+  alias_node : List ℕ → EventValue
+
+abbrev pub event_value : Event → EventValue
+event_value StreamStart = stream_starts
+event_value StreamEnd = stream_ends
+event_value (DocStart explicit) = document_starts explicit
+event_value (DocEnd explicit) = document_ends explicit
+event_value (SeqStart flow props) = sequence_starts flow (props_value props)
+event_value SeqEnd = sequence_ends
+event_value (MapStart flow props) = mapping_starts flow (props_value props)
+event_value MapEnd = mapping_ends
+event_value (Scalar props style text) = scalar_node (props_value props) style (text_bytes text)
+event_value (Alias name) = alias_node name.now
+
+-- an event with where it stands
+pub record Placed : Type 0 where
+  pub event : EventValue
+  -- the node's text with its properties
+  pub span : Option Span
+  -- where its tag begins
+  pub tag_offset : Option ℕ
+  -- the entry that it begins, as its item or key
+  pub entry : Option Entry
+  -- the lines of a folded scalar
+  pub folded : List (List ℕ)
+
+abbrev pub placed_value : PlacedEvent → Placed
+placed_value e =
+    record { event = event_value e.event; span = e.span; tag_offset = e.tag_offset; entry = e.entry; folded = e.folded }

@@ -1,0 +1,6 @@
+pub mod Content
+pub mod Event
+pub mod Nested
+pub mod Nesting
+pub mod Notation
+pub mod Reading

@@ -1,0 +1,36 @@
+-- When events are well nested: each collection's end stands behind its nodes, a mapping holds pairs, each document one
+-- root node, and no more collections than a limit are open at once.
+use Rattle.std.specs.Prelude.{ℕ, suc, Bool, List, [], ◌∷◌, ◌++◌}
+use Rattle.yf_props.specs.Props.{PropsValue}
+use Rattle.yf_events.specs.declared.event.ScalarStyle.{ScalarStyle}
+use Rattle.yf_events.specs.Event.{EventValue, stream_starts, stream_ends, document_starts, document_ends, sequence_starts, sequence_ends, mapping_starts, mapping_ends, scalar_node, alias_node}
+
+-- what a list of events stands for
+pub data Shape : Type 0 where
+  one_node : Shape
+  many_nodes : Shape
+  many_pairs : Shape
+  many_documents : Shape
+
+-- the events of such a part, in which as many collections are open at once as the limit allows
+pub data Nested : Shape → ℕ → List EventValue → Type 0 where
+  a_scalar : {d : ℕ} {props : PropsValue} {style : ScalarStyle} {text : List ℕ}
+      → Nested one_node d (scalar_node props style text ∷ [])
+  an_alias : {d : ℕ} {name : List ℕ} → Nested one_node d (alias_node name ∷ [])
+  a_sequence : {d : ℕ} {flow : Bool} {props : PropsValue} {x : List EventValue}
+      → Nested many_nodes d x → Nested one_node (suc d) (sequence_starts flow props ∷ (x ++ (sequence_ends ∷ [])))
+  a_mapping : {d : ℕ} {flow : Bool} {props : PropsValue} {x : List EventValue}
+      → Nested many_pairs d x → Nested one_node (suc d) (mapping_starts flow props ∷ (x ++ (mapping_ends ∷ [])))
+  no_nodes : {d : ℕ} → Nested many_nodes d []
+  more_nodes : {d : ℕ} {x y : List EventValue} → Nested one_node d x → Nested many_nodes d y → Nested many_nodes d (x ++ y)
+  no_pairs : {d : ℕ} → Nested many_pairs d []
+  more_pairs : {d : ℕ} {k v y : List EventValue} → Nested one_node d k → Nested one_node d v → Nested many_pairs d y
+      → Nested many_pairs d (k ++ (v ++ y))
+  no_documents : {d : ℕ} → Nested many_documents d []
+  more_documents : {d : ℕ} {marked : Bool} {x y : List EventValue} (closed : Bool) → Nested one_node d x → Nested many_documents d y
+      → Nested many_documents d (document_starts marked ∷ (x ++ (document_ends closed ∷ y)))
+
+-- the events of a whole stream
+pub data IsStream : ℕ → List EventValue → Type 0 where
+  a_stream : {d : ℕ} {x : List EventValue} → Nested many_documents d x
+      → IsStream d (stream_starts ∷ (x ++ (stream_ends ∷ [])))

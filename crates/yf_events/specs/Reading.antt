@@ -1,0 +1,73 @@
+-- What a reading is: lists that fit each other, and events that are well nested.
+use Rattle.std.specs.Prelude.{option_map, slice_get, ℕ, Bool, true, false, List, [], ◌∷◌, ◌++◌, Option, Some, None, length, map, ◌≡◌, count_by, nat_lt}
+use Rattle.yf_events.specs.Event.{EventValue, Placed, scalar_node, alias_node, sequence_starts, sequence_ends, mapping_starts, mapping_ends}
+use Rattle.yf_events.specs.Nested.{IsStream}
+use Rattle.yf_events.specs.declared.event.Entry.{Entry}
+use Rattle.yf_events.specs.declared.event.Span.{Span}
+use Rattle.yf_events.specs.declared.lists.Lists.{Lists}
+use Rattle.yf_events.specs.declared.reading.TheConstants.{DEPTH}
+
+-- the events themselves
+abbrev pub events_of : Lists → List EventValue
+events_of r = map (λ e. e.event) r.events
+
+-- of each event the part of the text, the entry and the lines
+abbrev pub spans_of : Lists → List (Option Span)
+spans_of r = map (λ e. e.span) r.events
+
+abbrev pub entries_of : Lists → List (Option Entry)
+entries_of r = map (λ e. e.entry) r.events
+
+abbrev pub folded_of : Lists → List (List (List ℕ))
+folded_of r = map (λ e. e.folded) r.events
+
+-- each event has its resolved tag or none, and each comment its note
+pub record Fits (r : Lists) : Type 0 where
+  pub tags : length r.resolved ≡ length r.events
+  pub notes : length r.on_leaf_line ≡ length r.comments
+
+-- the event ends a collection
+abbrev pub is_end : EventValue → Bool
+is_end sequence_ends = true
+is_end mapping_ends = true
+is_end _ = false
+
+-- the end of a collection is the next event
+abbrev pub ends_next : List Placed → Bool
+ends_next [] = false
+ends_next (e ∷ rest) = is_end e.event
+
+-- the event begins a leaf: a scalar, an alias, or a collection whose end is the next event
+abbrev pub begins_leaf : EventValue → List Placed → Bool
+begins_leaf (scalar_node _ _ _) rest = true
+begins_leaf (alias_node _) rest = true
+begins_leaf (sequence_starts _ _) rest = ends_next rest
+begins_leaf (mapping_starts _ _) rest = ends_next rest
+begins_leaf _ rest = false
+
+-- where the leaves with characters begin; an empty node is none, and has no span
+abbrev pub start_in : Bool → Option Span → List ℕ
+start_in true (Some span) = span.start ∷ []
+start_in true None = []
+start_in false span = []
+
+abbrev pub leaf_starts : List Placed → List ℕ
+leaf_starts [] = []
+leaf_starts (e ∷ rest) = start_in (begins_leaf e.event rest) e.span ++ leaf_starts rest
+
+-- the place of a comment at an offset: how many documents begin before it, and how many leaves with characters
+abbrev pub documents_before : Lists → ℕ → ℕ
+documents_before r offset = count_by (λ d. nat_lt d.start offset) r.documents
+
+abbrev pub leaves_before : Lists → ℕ → ℕ
+leaves_before r offset = count_by (λ start. nat_lt start offset) (leaf_starts r.events)
+
+-- the place of the comment at an index
+abbrev pub place_at : Lists → ℕ → Option (ℕ × ℕ)
+place_at r k = option_map (λ c. (documents_before r c.offset, leaves_before r c.offset)) (slice_get r.comments k)
+
+-- what is true of every reading, with the list of its leaves that is kept beside it
+pub record Holds (r : Lists) (leaves : List ℕ) : Type 0 where
+  pub fits : Fits r
+  pub stream : IsStream DEPTH (events_of r)
+  pub leaves_are : leaves ≡ leaf_starts r.events

@@ -1,0 +1,80 @@
+//! The events of a stream (YAML 1.2.2, section 3.1.1 "Dump", the serialization events), each with its place.
+
+use crate::slices::Slices;
+use yf_lines::text::Text;
+use yf_props::props::Props;
+
+/// How a scalar is written (YAML 1.2.2, sections 7.3 and 8.1).
+#[derive(Clone, Copy, Debug, PartialEq, Eq)]
+pub enum ScalarStyle {
+    Plain,
+    Single,
+    Double,
+    Literal,
+    Folded,
+}
+
+/// One event. `explicit` says whether `---` or `...` is written, `flow` whether the collection is a flow collection
+/// (a single pair is one).
+#[derive(Debug, Drop)]
+pub enum Event<'a> {
+    StreamStart,
+    StreamEnd,
+    DocStart {
+        explicit: bool,
+    },
+    DocEnd {
+        explicit: bool,
+    },
+    SeqStart {
+        flow: bool,
+        props: Props<'a>,
+    },
+    SeqEnd,
+    MapStart {
+        flow: bool,
+        props: Props<'a>,
+    },
+    MapEnd,
+    Scalar {
+        props: Props<'a>,
+        style: ScalarStyle,
+        text: Text<'a>,
+    },
+    Alias {
+        name: &'a str,
+    },
+}
+
+/// The part of the text from one byte offset to another.
+#[derive(Clone, Copy, Debug, PartialEq, Eq)]
+pub struct Span {
+    pub start: usize,
+    pub end: usize,
+}
+
+/// An entry of a collection.
+#[derive(Clone, Copy, Debug, PartialEq, Eq)]
+pub struct Entry {
+    /// The byte offset of its `-` or `?`, else of its item or key, else of the `:` of an empty key.
+    pub start: usize,
+    /// The byte offset of its `:`, where it has one.
+    pub colon: Option<usize>,
+    /// Whether a blank line stands before it, with nothing but whites and line breaks between.
+    pub blank_before: bool,
+}
+
+/// An event with where it stands in the text.
+#[derive(Debug, Drop)]
+pub struct PlacedEvent<'a> {
+    pub event: Event<'a>,
+    /// The text of the node with its properties, at the event that begins it. An empty node has none, and neither has
+    /// any other event.
+    pub span: Option<Span>,
+    /// The byte offset of the `!` of the node's tag.
+    pub tag_offset: Option<usize>,
+    /// The entry that the event begins, as its item or key.
+    pub entry: Option<Entry>,
+    /// The lines of a scalar that was read as a folded one.
+    pub folded: Slices<'a>,
+}

@@ -1,0 +1,133 @@
+//! Lists of events and of comments.
+ghost use Rattle.std.specs.Prelude.{◌≡◌, ◌<◌, [], ◌∷◌, ◌++◌, length, map, slice_get, if◌then◌else◌, is_ok};
+
+use crate::event::PlacedEvent;
+use std::alloc::{AllocError, Global};
+use std::marker::Model;
+use yf_comments::comment::Comment;
+
+/// Events in order. In a contract it is the list of what they are.
+#[derive(Debug, Drop)]
+pub struct Events<'a> {
+    list: Vec<PlacedEvent<'a>>,
+}
+
+impl<'a> Model for Events<'a> {
+    ghost use Rattle.std.specs.Prelude.{List, map};
+    ghost use Rattle.yf_events.specs.Event.{Placed, placed_value};
+
+    ghost Value = { List Placed };
+
+    ghost view = { λ e. map placed_value e.list.items };
+}
+
+impl<'a> Events<'a> {
+    ghost use Rattle.yf_events.specs.Event.{placed_value};
+
+    pub fn new(alloc: Global) -> Events<'a>
+        ensures { result ≡ [] }
+    {
+        Events {
+            list: Vec::new(alloc),
+        }
+    }
+
+    /// Adds an event at the end.
+    pub fn push(&mut self, event: PlacedEvent<'a>) -> Result<(), AllocError>
+        ensures { self.new ≡ (if is_ok result then self.old ++ placed_value event.entry ∷ [] else self.old) }
+    {
+        self.list.push(event)?;
+        Ok(())
+    }
+
+    pub fn len(&self) -> usize
+        ensures { result ≡ length self.now }
+    {
+        self.list.len()
+    }
+
+    /// The event at an index.
+    pub fn at(&self, i: usize) -> &PlacedEvent<'a>
+        requires { i < length self.now }
+        ensures { slice_get self.now i ≡ Some (placed_value result.now) }
+    {
+        &self.list[i]
+    }
+
+    /// Moves all events of another list to the end.
+    pub fn append(&mut self, mut other: Events<'a>) -> Result<(), AllocError>
+        ensures { self.new ≡ (if is_ok result then self.old ++ other.entry else self.old) }
+    {
+        self.list.append(&mut other.list)?;
+        Ok(())
+    }
+
+    pub fn as_slice(&self) -> &[PlacedEvent<'a>]
+        ensures { map placed_value result.now ≡ self.now }
+    {
+        self.list.as_slice()
+    }
+}
+
+/// Comments in order. In a contract it is the list of what they are.
+#[derive(Debug, Drop)]
+pub struct Comments<'a> {
+    list: Vec<Comment<'a>>,
+}
+
+impl<'a> Model for Comments<'a> {
+    ghost use Rattle.std.specs.Prelude.{List, map};
+    ghost use Rattle.yf_comments.specs.Comment.{CommentValue, comment_value};
+
+    ghost Value = { List CommentValue };
+
+    ghost view = { λ c. map comment_value c.list.items };
+}
+
+impl<'a> Comments<'a> {
+    ghost use Rattle.yf_comments.specs.Comment.{comment_value};
+
+    pub fn new(alloc: Global) -> Comments<'a>
+        ensures { result ≡ [] }
+    {
+        Comments {
+            list: Vec::new(alloc),
+        }
+    }
+
+    /// Adds a comment at the end.
+    pub fn push(&mut self, comment: Comment<'a>) -> Result<(), AllocError>
+        ensures { self.new ≡ (if is_ok result then self.old ++ comment_value comment.entry ∷ [] else self.old) }
+    {
+        self.list.push(comment)?;
+        Ok(())
+    }
+
+    pub fn len(&self) -> usize
+        ensures { result ≡ length self.now }
+    {
+        self.list.len()
+    }
+
+    /// The comment at an index.
+    pub fn at(&self, i: usize) -> &Comment<'a>
+        requires { i < length self.now }
+        ensures { slice_get self.now i ≡ Some (comment_value result.now) }
+    {
+        &self.list[i]
+    }
+
+    /// Moves all comments of another list to the end.
+    pub fn append(&mut self, mut other: Comments<'a>) -> Result<(), AllocError>
+        ensures { self.new ≡ (if is_ok result then self.old ++ other.entry else self.old) }
+    {
+        self.list.append(&mut other.list)?;
+        Ok(())
+    }
+
+    pub fn as_slice(&self) -> &[Comment<'a>]
+        ensures { map comment_value result.now ≡ self.now }
+    {
+        self.list.as_slice()
+    }
+}

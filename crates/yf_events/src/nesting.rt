@@ -1,0 +1,149 @@
+//! The test whether events are a well nested stream, in one pass.
+ghost use Rattle.std.specs.Prelude.{◌≡◌, ◌+◌, ◌≤◌, [], map, IfOk, MatchOption, vec_len};
+ghost use Rattle.yf_events.specs.Event.{event_value};
+ghost use Rattle.yf_events.specs.Nesting as Nesting;
+
+use crate::event::{Event, PlacedEvent};
+use std::alloc::{AllocError, Global};
+
+/// What may come next.
+#[derive(Clone, Copy, Debug)]
+pub enum Awaited {
+    /// The start of the stream.
+    Stream,
+    /// A document, or the end of the stream.
+    Documents,
+    /// The root node of a document.
+    Root,
+    /// The end of a document.
+    Closing,
+    /// An item of a sequence, or its end.
+    Items,
+    /// A key of a mapping, or its end.
+    Keys,
+    /// The value of a key.
+    Values,
+    /// Nothing more.
+    Nothing,
+}
+
+/// What an event does to what is awaited.
+#[derive(Clone, Copy, Debug)]
+pub enum Move {
+    /// It may not come here.
+    Refuse,
+    /// This is awaited next.
+    Stay(Awaited),
+    /// It opens a collection, in which `within` is awaited, and `behind` once the collection has ended.
+    Open { behind: Awaited, within: Awaited },
+    /// It ends the innermost collection.
+    Close,
+}
+
+/// What is awaited behind a node, if one may stand here.
+fn after_node(top: Awaited) -> Option<Awaited>
+    ensures { result ≡ Nesting.after_node top }
+{
+    match top {
+        Awaited::Root => Some(Awaited::Closing),
+        Awaited::Items => Some(Awaited::Items),
+        Awaited::Keys => Some(Awaited::Values),
+        Awaited::Values => Some(Awaited::Keys),
+        Awaited::Stream | Awaited::Documents | Awaited::Closing | Awaited::Nothing => None,
+    }
+}
+
+fn open(top: Awaited, within: Awaited) -> Move
+    ensures { result ≡ Nesting.open_if (Nesting.after_node top) within }
+{
+    match after_node(top) {
+        Some(behind) => Move::Open { behind, within },
+        None => Move::Refuse,
+    }
+}
+
+fn move_at(top: Awaited, event: &Event) -> Move
+    ensures { result ≡ Nesting.move_at top (event_value event.now) }
+{
+    match event {
+        Event::StreamStart => match top {
+            Awaited::Stream => Move::Stay(Awaited::Documents),
+            _ => Move::Refuse,
+        },
+        Event::StreamEnd => match top {
+            Awaited::Documents => Move::Stay(Awaited::Nothing),
+            _ => Move::Refuse,
+        },
+        Event::DocStart { .. } => match top {
+            Awaited::Documents => Move::Stay(Awaited::Root),
+            _ => Move::Refuse,
+        },
+        Event::DocEnd { .. } => match top {
+            Awaited::Closing => Move::Stay(Awaited::Documents),
+            _ => Move::Refuse,
+        },
+        Event::SeqStart { .. } => open(top, Awaited::Items),
+        Event::MapStart { .. } => open(top, Awaited::Keys),
+        Event::SeqEnd => match top {
+            Awaited::Items => Move::Close,
+            _ => Move::Refuse,
+        },
+        Event::MapEnd => match top {
+            Awaited::Keys => Move::Close,
+            _ => Move::Refuse,
+        },
+        Event::Scalar { .. } | Event::Alias { .. } => match after_node(top) {
+            Some(next) => Move::Stay(next),
+            None => Move::Refuse,
+        },
+    }
+}
+
+/// Goes past one event: what is awaited behind it, or None where it may not come. `below` holds what is awaited behind
+/// each open collection, the innermost last.
+fn advance(
+    top: Awaited,
+    below: &mut Vec<Awaited>,
+    event: &Event,
+    limit: usize,
+) -> Result<Option<Awaited>, AllocError>
+    requires { vec_len below.old ≤ limit }
+    ensures room { IfOk result (λ o. vec_len below.new ≤ limit) }
+    ensures runs { IfOk result (λ o. Nesting.Advances limit top below.old.items (event_value event.now) o below.new.items) }
+{
+    match move_at(top, event) {
+        Move::Refuse => Ok(None),
+        Move::Stay(next) => Ok(Some(next)),
+        Move::Open { behind, within } => {
+            if below.len() == limit {
+                return Ok(None);
+            }
+            below.push(behind)?;
+            Ok(Some(within))
+        }
+        Move::Close => match below.pop() {
+            Some(behind) => Ok(Some(behind)),
+            None => Ok(None),
+        },
+    }
+}
+
+/// Whether the events are a well nested stream with no more collections open at once than the limit.
+pub fn is_stream(alloc: Global, events: &[PlacedEvent], limit: usize) -> Result<bool, AllocError>
+    ensures { IfOk result (λ b. b ≡ Nesting.run limit Awaited.Stream [] (map (λ e. event_value e.event) events.now)) }
+{
+    let mut below: Vec<Awaited> = Vec::new(alloc);
+    let mut top = Awaited::Stream;
+    for placed in events {
+        match advance(top, &mut below, &placed.event, limit)? {
+            Some(next) => {
+                top = next;
+            }
+            None => return Ok(false),
+        }
+    }
+    match top {
+        Awaited::Nothing => Ok(below.is_empty()),
+        _ => Ok(false),
+    }
+}

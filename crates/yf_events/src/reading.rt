@@ -1,0 +1,163 @@
+//! Readings.
+ghost use Rattle.std.specs.Prelude.{◌≡◌, ◌<◌, count_by, length, map, nat_lt, slice_get, IfOk, MatchOption, MatchResult};
+ghost use Rattle.std.specs.Option.{option_map};
+
+use crate::document::Doc;
+use crate::event::{Entry, Event, Span};
+use crate::leaves::leaf_starts;
+use crate::lists::Lists;
+use crate::nesting::is_stream;
+use crate::row::Row;
+use std::alloc::{AllocError, Global};
+use std::marker::Model;
+use yf_comments::comment::Comment;
+use yf_lines::fault::Fault;
+
+/// How many collections may be open at once. A single pair of a flow sequence counts as a mapping.
+pub const DEPTH: usize = 1024;
+
+/// What a stream of YAML says: its events, comments and documents, each with its place. The events are well nested,
+/// and at most `DEPTH` collections are open at once. In a contract it is the lists that it was made of.
+#[derive(Debug, Drop)]
+pub struct Reading<'a> {
+    lists: Lists<'a>,
+    leaf_starts: Row<usize>,
+}
+
+impl<'a> Model for Reading<'a> {
+    ghost use Rattle.yf_events.specs.declared.lists.Lists.{Lists};
+
+    ghost Value = { Lists };
+
+    ghost view = { λ r. r.lists };
+
+    ghost use Rattle.yf_events.specs.Reading.{Holds};
+
+    ghost invariant = { λ r. Holds r.lists r.leaf_starts };
+}
+
+impl<'a> Reading<'a> {
+    ghost use Rattle.yf_comments.specs.Comment.{comment_value};
+    ghost use Rattle.yf_events.specs.Event.{event_value};
+    ghost use Rattle.yf_events.specs.Nested.{IsStream};
+    ghost use Rattle.yf_events.specs.Reading.{Fits, documents_before, leaves_before, entries_of, events_of, folded_of, spans_of, place_at};
+
+    /// The reading that the lists make; None where the events are no well nested stream, or more than `DEPTH`
+    /// collections are open at once. Each event has its resolved tag or none, and each comment its note (conditions).
+    /// Answers `Fault::Memory` where a growth of memory was refused.
+    pub fn build(alloc: Global, lists: Lists<'a>) -> Result<Option<Reading<'a>>, Fault>
+        requires { Fits lists }
+        ensures { MatchResult result (λ o. MatchOption o (IsStream DEPTH (events_of lists.entry) → ⊥) (λ r. (r ≡ lists.entry) × IsStream DEPTH (events_of r))) (λ fault. fault ≡ Fault.Memory) }
+    {
+        match Reading::build_within(alloc, lists) {
+            Ok(reading) => Ok(reading),
+            Err(AllocError) => Err(Fault::Memory),
+        }
+    }
+
+    fn build_within(alloc: Global, lists: Lists<'a>) -> Result<Option<Reading<'a>>, AllocError>
+        requires { Fits lists }
+        ensures { IfOk result (λ o. MatchOption o (IsStream DEPTH (events_of lists.entry) → ⊥) (λ r. (r ≡ lists.entry) × IsStream DEPTH (events_of r))) }
+    {
+        if is_stream(alloc, lists.events.as_slice(), DEPTH)? {
+            let leaf_starts = leaf_starts(alloc, lists.events.as_slice())?;
+            return Ok(Some(Reading { lists, leaf_starts }));
+        }
+        Ok(None)
+    }
+
+    /// How many events there are, `StreamStart` and `StreamEnd` counted.
+    pub fn len(&self) -> usize
+        ensures { result ≡ length self.now.events }
+    {
+        self.lists.events.len()
+    }
+
+    /// The event at an index; `StreamStart` is event 0.
+    pub fn event(&self, i: usize) -> &Event<'a>
+        requires { i < length self.now.events }
+        ensures { slice_get (events_of self.now) i ≡ Some (event_value result.now) }
+    {
+        &self.lists.events.at(i).event
+    }
+
+    /// The part of the text that the node has which the event begins, with its properties. An empty node has none.
+    pub fn span(&self, i: usize) -> Option<Span>
+        requires { i < length self.now.events }
+        ensures { slice_get (spans_of self.now) i ≡ Some result }
+    {
+        self.lists.events.at(i).span
+    }
+
+    /// The entry that the event begins, as its item or key.
+    pub fn entry(&self, i: usize) -> Option<Entry>
+        requires { i < length self.now.events }
+        ensures { slice_get (entries_of self.now) i ≡ Some result }
+    {
+        self.lists.events.at(i).entry
+    }
+
+    /// The lines of the scalar that the event is, where it was read as a folded one; else none.
+    pub fn folded_lines(&self, i: usize) -> &[&'a str]
+        requires { i < length self.now.events }
+        ensures { slice_get (folded_of self.now) i ≡ Some (map (λ line. line.now) result.now) }
+    {
+        self.lists.events.at(i).folded.as_slice()
+    }
+
+    /// The resolved tag of the node that the event begins, where one is written.
+    pub fn resolved(&self, i: usize) -> Option<&str>
+        requires { i < length self.now.events }
+        ensures { slice_get self.now.resolved i ≡ Some (option_map (λ tag. tag.now) result) }
+    {
+        match self.lists.resolved.at(i) {
+            Some(tag) => Some(tag.as_str()),
+            None => None,
+        }
+    }
+
+    /// The comments, in order of the text.
+    pub fn comments(&self) -> &[Comment<'a>]
+        ensures { map comment_value result.now ≡ self.now.comments }
+    {
+        self.lists.comments.as_slice()
+    }
+
+    /// The documents, in order of the text.
+    pub fn documents(&self) -> &[Doc<'a>]
+        ensures { result.now ≡ self.now.documents }
+    {
+        self.lists.documents.as_slice()
+    }
+
+    /// Whether a comment stands on the line on which the last leaf with characters that begins before it ends.
+    pub fn on_leaf_line(&self, k: usize) -> bool
+        requires { k < length self.now.comments }
+        ensures { slice_get self.now.on_leaf_line k ≡ Some result }
+    {
+        *self.lists.on_leaf_line.at(k)
+    }
+
+    /// The place of a comment: how many documents begin before it, and how many leaves with characters.
+    pub fn place_of(&self, k: usize) -> (usize, usize)
+        requires { k < length self.now.comments }
+        ensures { place_at self.now k ≡ Some result }
+    {
+        let offset = self.lists.comments.at(k).offset;
+        let documents = documents_before(self.lists.documents.as_slice(), offset);
+        let leaves = starts_before(self.leaf_starts.as_slice(), offset);
+        (documents, leaves)
+    }
+}
+
+fn documents_before(documents: &[Doc], offset: usize) -> usize
+    ensures { result ≡ count_by (λ d. nat_lt d.start offset) documents.now }
+{
+    documents.iter().filter(|d| d.start < offset).count()
+}
+
+fn starts_before(starts: &[usize], offset: usize) -> usize
+    ensures { result ≡ count_by (λ start. nat_lt start offset) starts.now }
+{
+    starts.iter().filter(|start| **start < offset).count()
+}
