@@ -1,1 +1,2 @@
 pub mod Comment
+pub mod Comments

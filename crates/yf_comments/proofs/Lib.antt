@@ -1,0 +1,3 @@
+pub mod LineEndLemmas
+pub mod RowLemmas
+pub mod SeparateLemmas

@@ -1,0 +1,202 @@
+-- The rest of a line: where it ends and what it means are unique, and comment lines are a chain of such rests.
+use Rattle.std.proofs.Common.{◌≡◌, ◌≢◌, ℕ, ◌+◌, ◌<◌, ◌≤◌, Bool, true, false, ◌⊎◌, inl, inr, ⊎_elim, List, [], ◌∷◌, ◌++◌, length, slice_range, refl, sym, ap, ◌∙◌, subst, arith, true≢false, append_assoc, append-nil}
+use Rattle.std.proofs.lemmas.Bool.{cases_lt}
+use Rattle.yf_chars.specs.Text.{code, next, no_char}
+use Rattle.yf_chars.specs.Class.{is_white, is_nb_char, is_printable, is_between, is_break_char}
+use Rattle.yf_chars.specs.Chain.{Chain, Functional, Stuck, Chosen, One, Many}
+use Rattle.yf_chars.specs.Chain.Chain.{done, step}
+use Rattle.yf_chars.proofs.TextLemmas.{code-end}
+use Rattle.yf_chars.proofs.ChainLemmas.{chain_append, chain_one, chain_more, chain_forward, chain_chosen, chain_meet, one_functional, one_stuck, many_chosen, many_unique}
+use Rattle.yf_lines.specs.Basic.{Break, LineStart, SeparateInLine}
+use Rattle.yf_lines.specs.Basic.SeparateInLine.{by_whites, at_start}
+use Rattle.yf_lines.specs.Basic.LineStart.{after_break}
+use Rattle.yf_lines.proofs.BasicLemmas.{break_char, break_forward, break_unique}
+use Rattle.yf_comments.specs.Comment.{CommentValue}
+use Rattle.yf_comments.specs.Comments.{BlankBefore, Noted, CommentText, BreakOrEnd, LineRest, CommentLine, LineEnd, Row}
+use Rattle.yf_comments.specs.Comments.Noted.{noted, not_noted}
+use Rattle.yf_comments.specs.Comments.CommentText.{comment_text}
+use Rattle.yf_comments.specs.Comments.BreakOrEnd.{by_break, by_end}
+use Rattle.yf_comments.specs.Comments.LineRest.{nothing, whites, comment}
+use Rattle.yf_comments.specs.Comments.CommentLine.{whites_line, comment_line}
+use Rattle.yf_comments.specs.Comments.LineEnd.{past_rest, from_start}
+
+-- which characters no white and no character of a comment is
+hash_white : (c : ℕ) → c ≡ 35 → is_white c ≡ false
+unfolding is_white
+hash_white c e = ap is_white e
+
+break_white : (c : ℕ) → (c ≡ 13) ⊎ (c ≡ 10) → is_white c ≡ false
+unfolding is_white
+break_white c (inl e) = ap is_white e
+break_white c (inr e) = ap is_white e
+
+none_white : (c : ℕ) → c ≡ no_char → is_white c ≡ false
+unfolding is_white
+none_white c e = ap is_white e
+
+break_nb : (c : ℕ) → (c ≡ 13) ⊎ (c ≡ 10) → is_nb_char c ≡ false
+unfolding is_nb_char is_printable is_between is_break_char
+break_nb c (inl e) = ap is_nb_char e
+break_nb c (inr e) = ap is_nb_char e
+
+none_nb : (c : ℕ) → c ≡ no_char → is_nb_char c ≡ false
+unfolding is_nb_char is_printable is_between is_break_char
+none_nb c e = ap is_nb_char e
+
+end_code : (t : List ℕ) {i : ℕ} → i ≡ length t → code t i ≡ no_char
+end_code t e = ap (code t) e ∙ code-end t
+
+module _ {t : List ℕ} where
+  pub end_white : {i j : ℕ} → BreakOrEnd t i j → is_white (code t i) ≡ false
+  end_white {i} (by_break b) = break_white (code t i) (break_char b)
+  end_white {i} (by_end e) = none_white (code t i) (end_code t e)
+
+  pub end_nb : {i j : ℕ} → BreakOrEnd t i j → is_nb_char (code t i) ≡ false
+  end_nb {i} (by_break b) = break_nb (code t i) (break_char b)
+  end_nb {i} (by_end e) = none_nb (code t i) (end_code t e)
+
+  end_hash : {i j : ℕ} → code t i ≡ 35 → BreakOrEnd t i j → ⊥
+  end_hash e (by_break b) = ⊎_elim (λ (h : _ ≡ 13). absurd (omega arith)) (λ (h : _ ≡ 10). absurd (omega arith)) (break_char b)
+  end_hash e (by_end f) = let g = end_code t f in absurd (omega arith)
+
+  pub break_or_end_forward : {i j : ℕ} → BreakOrEnd t i j → i ≤ j
+  break_or_end_forward (by_break b) = let h = break_forward b in omega arith
+  break_or_end_forward (by_end e) = omega arith
+
+  break_not_end : {i j : ℕ} → Break t i j → i ≡ length t → ⊥
+  break_not_end b e = let g = end_code t e in
+      ⊎_elim (λ (h : _ ≡ 13). absurd (omega arith)) (λ (h : _ ≡ 10). absurd (omega arith)) (break_char b)
+
+  pub end_unique : {i j k : ℕ} → BreakOrEnd t i j → BreakOrEnd t i k → j ≡ k
+  end_unique (by_break a) (by_break b) = break_unique a b
+  end_unique (by_break a) (by_end e) = absurd (break_not_end a e)
+  end_unique (by_end e) (by_break a) = absurd (break_not_end a e)
+  end_unique (by_end e) (by_end f) = refl
+
+  -- the next line begins there, or nothing is left
+  pub end_next : {i j : ℕ} → BreakOrEnd t i j → LineStart t j ⊎ (j ≡ length t)
+  end_next (by_break b) = inl (after_break b)
+  end_next (by_end e) = inr e
+
+  pub noted_unique : {i : ℕ} {a b : Bool} → Noted t i a → Noted t i b → a ≡ b
+  noted_unique (noted p) (noted q) = refl
+  noted_unique (noted p) (not_noted q) = absurd (q p)
+  noted_unique (not_noted p) (noted q) = absurd (p q)
+  noted_unique (not_noted p) (not_noted q) = refl
+
+  pub text_hash : {i j : ℕ} {x : List CommentValue} → CommentText t i j x → code t i ≡ 35
+  text_hash (comment_text e m n) = e
+
+  text_later : {i j : ℕ} {x : List CommentValue} → CommentText t i j x → i < j
+  text_later (comment_text e m n) = let h = chain_forward (one_functional t is_nb_char) m in omega arith
+
+  pub text_unique : {i j k : ℕ} {x y : List CommentValue} → CommentText t i j x → is_nb_char (code t j) ≡ false
+      → CommentText t i k y → is_nb_char (code t k) ≡ false → (j ≡ k) × (x ≡ y)
+  text_unique {i} (comment_text {j = j} {b = a} e m n) p (comment_text {j = k} {b = b} f l o) q =
+      let same : j ≡ k = (many_unique t is_nb_char m p l q).0 in
+      let note : a ≡ b = noted_unique n o in
+      (same, cc)
+
+  pub separate_whites : {i j : ℕ} → SeparateInLine t i j → (w : List ℕ) × Many t is_white i j w
+  separate_whites (by_whites {x = x} m l) = (x, m)
+  separate_whites (at_start s) = ([], done)
+
+-- a rest of a line by the place where its whites end
+data RestView (t : List ℕ) : ℕ → ℕ → List CommentValue → Type 0 where
+  bare_view : {i h j : ℕ} {w : List ℕ} → Many t is_white i h w → BreakOrEnd t h j → RestView t i j []
+  comment_view : {i h k j : ℕ} {w : List ℕ} {x : List CommentValue} → Many t is_white i h w → CommentText t h k x → BreakOrEnd t k j → RestView t i j x
+
+module _ {t : List ℕ} where
+  rest_view : {i j : ℕ} {x : List CommentValue} → LineRest t i j x → RestView t i j x
+  rest_view (nothing e) = bare_view done e
+  rest_view (whites s e) = bare_view (separate_whites s).1 e
+  rest_view (comment s c e) = comment_view (separate_whites s).1 c e
+
+  view_unique : {i j k : ℕ} {x y : List CommentValue} → RestView t i j x → RestView t i k y → (j ≡ k) × (x ≡ y)
+  view_unique (bare_view {h = h} {j = j} m e) (bare_view {h = g} {j = k} n f) =
+      let same : h ≡ g = (many_unique t is_white m (end_white e) n (end_white f)).0 in
+      let f' : BreakOrEnd t h k = subst (λ v. BreakOrEnd t v k) (sym same) f in
+      (end_unique e f', refl)
+  view_unique (bare_view {h = h} m e) (comment_view {h = g} n c f) =
+      let same : g ≡ h = (many_unique t is_white n (hash_white (code t g) (text_hash c)) m (end_white e)).0 in
+      absurd (end_hash (ap (code t) (sym same) ∙ text_hash c) e)
+  view_unique (comment_view {h = g} n c f) (bare_view {h = h} m e) =
+      let same : g ≡ h = (many_unique t is_white n (hash_white (code t g) (text_hash c)) m (end_white e)).0 in
+      absurd (end_hash (ap (code t) (sym same) ∙ text_hash c) e)
+  view_unique (comment_view {h = h} {k = k} {j = j} {x = x} m c e) (comment_view {h = g} {k = l} {j = o} {x = y} n d f) =
+      let same : h ≡ g = (many_unique t is_white m (hash_white (code t h) (text_hash c)) n (hash_white (code t g) (text_hash d))).0 in
+      let d' : CommentText t h l y = subst (λ v. CommentText t v l y) (sym same) d in
+      let both = text_unique c (end_nb e) d' (end_nb f) in
+      let f' : BreakOrEnd t k o = subst (λ v. BreakOrEnd t v o) (sym both.0) f in
+      (end_unique e f', both.1)
+
+  view_forward : {i j : ℕ} {x : List CommentValue} → RestView t i j x → (i ≤ j) × (j ≡ i → x ≡ [])
+  view_forward (bare_view m e) =
+      let a = chain_forward (one_functional t is_white) m in
+      let b = break_or_end_forward e in
+      (omega arith, λ _. refl)
+  view_forward (comment_view m c e) =
+      let a = chain_forward (one_functional t is_white) m in
+      let b = break_or_end_forward e in
+      let d = text_later c in
+      (omega arith, λ (same : _ ≡ _). absurd (omega arith))
+
+  pub rest_unique : {i j k : ℕ} {x y : List CommentValue} → LineRest t i j x → LineRest t i k y → (j ≡ k) × (x ≡ y)
+  rest_unique r s = view_unique (rest_view r) (rest_view s)
+
+  pub row_functional : Functional (Row t)
+  row_functional = record {
+    one_end = λ a b. (rest_unique a.rest b.rest).0;
+    one_meaning = λ a b. (rest_unique a.rest b.rest).1;
+    forward = λ a. a.later;
+  }
+
+  -- a rest that goes nowhere has no comment
+  pub rest_still : {i j : ℕ} {x : List CommentValue} → LineRest t i j x → j ≤ i → (j ≡ i) × (x ≡ [])
+  rest_still r l =
+      let f = view_forward (rest_view r) in
+      let e : _ ≡ _ = omega arith in
+      (e, f.1 e)
+
+  no_whites : {i h : ℕ} {w : List ℕ} → Many t is_white i h w → i ≡ length t → h ≡ i
+  no_whites {i} {h} m e =
+      let c = many_chosen t is_white (done {i = i}) (none_white (code t i) (end_code t e)) in
+      let a = c.longest h _ m in
+      let b = chain_forward (one_functional t is_white) m in
+      omega arith
+
+  view_at_end : {i j : ℕ} {x : List CommentValue} → RestView t i j x → i ≡ length t → i < j → ⊥
+  view_at_end {i} {j} (bare_view m e) f l =
+      let same = no_whites m f in
+      let e' : BreakOrEnd t i j = subst (λ v. BreakOrEnd t v j) same e in
+      let still = end_unique e' (by_end f) in
+      absurd (omega arith)
+  view_at_end (comment_view m c e) f l =
+      let same = no_whites m f in
+      let g = end_code t (same ∙ f) in
+      let h = text_hash c in
+      absurd (omega arith)
+
+  pub rest_at_end : {i j : ℕ} {x : List CommentValue} → LineRest t i j x → i ≡ length t → i < j → ⊥
+  rest_at_end r e l = view_at_end (rest_view r) e l
+
+  -- whites that stand where the rest begins end before the rest does, or with it at the end of the text
+  view_tail : {i j k : ℕ} {w : List ℕ} {x : List CommentValue} → Many t is_white i j w → RestView t i k x
+      → (j ≤ k) × (j ≡ k → (x ≡ []) × (k ≡ length t))
+  view_tail {j = j} {k = k} {w = w} m (bare_view {h = h} n e) =
+      let a = (many_chosen t is_white n (end_white e)).longest j w m in
+      let b = break_or_end_forward e in
+      (omega arith, λ (same : j ≡ k). (refl, still_end (omega arith) e))
+    where
+      still_end : {h k : ℕ} → k ≤ h → BreakOrEnd t h k → k ≡ length t
+      still_end l (by_break b) = let f = break_forward b in absurd (omega arith)
+      still_end l (by_end e) = e
+  view_tail {j = j} {k = k} {w = w} m (comment_view {h = h} n c e) =
+      let a = (many_chosen t is_white n (hash_white (code t h) (text_hash c))).longest j w m in
+      let b = break_or_end_forward e in
+      let d = text_later c in
+      (omega arith, λ (same : j ≡ k). absurd (omega arith))
+
+  pub rest_tail : {i j k : ℕ} {w : List ℕ} {x : List CommentValue} → Many t is_white i j w → LineRest t i k x
+      → (j ≤ k) × (j ≡ k → (x ≡ []) × (k ≡ length t))
+  rest_tail m r = view_tail m (rest_view r)
