@@ -2,23 +2,19 @@
 #![tactic(auto)]
 
 mod input;
-mod output;
 mod report;
 #[cfg(test)]
 mod tests;
 
+use input::read_all;
+use report::report;
 use std::alloc::Global;
-use std::env;
-use std::io;
 use std::process::ExitCode;
 use std::rt::Env;
-
+use std::env;
 use yf_chars::utf8::check_utf8;
 use yf_lines::fault::Fault;
 use yf_lines::watched::{Source, Watched};
-
-use input::read_all;
-use report::report;
 
 /// More bytes than these are not read.
 const INPUT_LIMIT: usize = 1_073_741_824;

@@ -1,14 +1,13 @@
 //! What the program prints for a fault, and the status with which it then ends.
 ghost use Rattle.std.specs.Prelude.{◌≡◌, ◌⊎◌};
-ghost use Rattle.yamlfmt.specs.Output.{Writes, Wrote, Broke};
+ghost use Rattle.yf_lines.specs.Output.{Writes, Wrote, Broke};
 ghost use Rattle.yamlfmt.specs.Report.{fault_line, fault_status, refusal_line};
 
 use itoa::Buffer;
 use yf_lines::fault::Fault;
+use yf_lines::output::{write_text, write_texts};
 use yf_lines::place::Place;
 use yf_lines::watched::Sink;
-
-use crate::output::{write_text, write_texts};
 
 /// Writes the fault's line to the error stream and answers the fault's status: 2 where the stream is refused, 3 for
 /// memory, files and settings.
@@ -18,9 +17,9 @@ use crate::output::{write_text, write_texts};
 pub fn report<E: Sink>(fault: &Fault, error_stream: &mut E) -> u8
     ensures status { result ≡ fault_status fault.now }
     ensures line { Wrote (E.contents error_stream.old) (E.contents error_stream.new)
-            (E.has_failed error_stream.old) (E.has_failed error_stream.new) (fault_line fault.now)
+        (E.has_failed error_stream.old) (E.has_failed error_stream.new) (fault_line fault.now)
         ⊎ Broke (E.contents error_stream.old) (E.contents error_stream.new)
-            (E.has_failed error_stream.new) (fault_line fault.now) }
+        (E.has_failed error_stream.new) (fault_line fault.now) }
 {
     let _ = write_line(fault, error_stream);
     status_of(fault)

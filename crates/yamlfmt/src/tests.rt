@@ -1,17 +1,15 @@
 //! What the contracts leave to the system: that reading and writing succeed, and what a failing reader or writer gives.
 
+use crate::input::read_all;
+use crate::report::report;
 use std::io;
 use std::io::{Read, Write};
 use std::test::Fail;
-
 use yf_lines::fault::Fault;
+use yf_lines::output::write_text;
 use yf_lines::place::Place;
 use yf_lines::text::OwnedText;
 use yf_lines::watched::{Sink, Source, Watched};
-
-use crate::input::read_all;
-use crate::output::write_text;
-use crate::report::report;
 
 /// Gives the same byte for ever.
 #[derive(Drop)]
@@ -86,14 +84,24 @@ fn reads_up_to_the_limit(rt: HostRuntime) {
 #[test]
 fn leaves_a_reader_that_never_ends(rt: HostRuntime) {
     let mut reader = Watched::new(EndlessReader);
-    assert!(rt; matches!(read_all(rt.alloc(), &mut reader, 10), Err(Fault::ReadFailed)));
+    assert!(rt;
+        matches!(
+            read_all(rt.alloc(), &mut reader, 10),
+            Err(Fault::ReadFailed)
+        )
+    );
     assert!(rt; !reader.failed());
 }
 
 #[test]
 fn answers_a_failed_read(rt: HostRuntime) {
     let mut reader = Watched::new(BrokenReader);
-    assert!(rt; matches!(read_all(rt.alloc(), &mut reader, 10), Err(Fault::ReadFailed)));
+    assert!(rt;
+        matches!(
+            read_all(rt.alloc(), &mut reader, 10),
+            Err(Fault::ReadFailed)
+        )
+    );
     assert!(rt; reader.failed());
 }
 
@@ -104,7 +112,12 @@ fn writes_a_front_and_fails(rt: HostRuntime) {
         room: 3,
     };
     let mut writer = Watched::new(full);
-    assert!(rt; matches!(write_text(&mut writer, b"---\n- a\n"), Err(Fault::WriteFailed)));
+    assert!(rt;
+        matches!(
+            write_text(&mut writer, b"---\n- a\n"),
+            Err(Fault::WriteFailed)
+        )
+    );
     assert!(rt; writer.failed());
     assert_eq!(rt; writer.get_ref().taken.as_slice(), b"---".as_slice());
 }
@@ -121,22 +134,60 @@ fn leaves_a_writer_that_takes_nothing(rt: HostRuntime) {
 
 #[test]
 fn reports_faults(rt: HostRuntime) -> Result<(), Fail> {
-    let place = Place { line: 12, column: 7 };
+    let place = Place {
+        line: 12,
+        column: 7,
+    };
     let key = OwnedText::new(String::from_str(rt.alloc(), "indent")?);
     let faults = [
-        (Fault::NotUtf8 { offset: 2 }, 2, "byte 2 refused: not-utf8\n"),
-        (Fault::Syntax { place, what: "an entry" }, 2, "12:7 refused: syntax\n"),
+        (
+            Fault::NotUtf8 { offset: 2 },
+            2,
+            "byte 2 refused: not-utf8\n",
+        ),
+        (
+            Fault::Syntax {
+                place,
+                what: "an entry",
+            },
+            2,
+            "12:7 refused: syntax\n",
+        ),
         (Fault::TooDeep { place }, 2, "12:7 refused: too-deep\n"),
-        (Fault::UnknownHandle { place }, 2, "12:7 refused: unknown-handle\n"),
-        (Fault::UnknownAlias { place }, 2, "12:7 refused: unknown-alias\n"),
-        (Fault::RepeatedDirective { place }, 2, "12:7 refused: repeated-directive\n"),
-        (Fault::BadVersion { place }, 2, "12:7 refused: bad-version\n"),
-        (Fault::EscapeValue { place }, 2, "12:7 refused: escape-value\n"),
+        (
+            Fault::UnknownHandle { place },
+            2,
+            "12:7 refused: unknown-handle\n",
+        ),
+        (
+            Fault::UnknownAlias { place },
+            2,
+            "12:7 refused: unknown-alias\n",
+        ),
+        (
+            Fault::RepeatedDirective { place },
+            2,
+            "12:7 refused: repeated-directive\n",
+        ),
+        (
+            Fault::BadVersion { place },
+            2,
+            "12:7 refused: bad-version\n",
+        ),
+        (
+            Fault::EscapeValue { place },
+            2,
+            "12:7 refused: escape-value\n",
+        ),
         (Fault::Memory, 3, "no memory\n"),
         (Fault::ReadFailed, 3, "read failed\n"),
         (Fault::WriteFailed, 3, "write failed\n"),
         (Fault::Config { key }, 3, "config: indent\n"),
-        (Fault::Unsupported { place }, 2, "12:7 refused: unsupported\n"),
+        (
+            Fault::Unsupported { place },
+            2,
+            "12:7 refused: unsupported\n",
+        ),
     ];
     for (fault, status, line) in &faults {
         let mut stream = Watched::new(Vec::new(rt.alloc()));

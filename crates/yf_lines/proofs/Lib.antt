@@ -1,1 +1,2 @@
 pub mod BasicLemmas
+pub mod OutputLemmas

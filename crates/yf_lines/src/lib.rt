@@ -4,6 +4,7 @@
 
 pub mod basic;
 pub mod fault;
+pub mod output;
 pub mod place;
 pub mod text;
 pub mod watched;

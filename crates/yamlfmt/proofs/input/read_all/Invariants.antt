@@ -6,7 +6,7 @@ use Rattle.yamlfmt.proofs.input.read_all.Given as goal
 abbrev pub invariant-loop-buffer : goal.invariant-loop-buffer
 invariant-loop-buffer g l = record {
   taken : Consumes (g.R.Read.remaining l.initial.reader) (g.R.Read.remaining l.reader) l.bytes.items;
-  same : g.R.Source.has_failed l.reader ≡ g.R.Source.has_failed l.initial.reader
+  same : g.R.Source.has_failed l.reader ≡ g.R.Source.has_failed l.initial.reader;
 }
 
 abbrev pub decreases-loop-buffer : goal.decreases-loop-buffer

@@ -7,7 +7,7 @@ use Rattle.std.proofs.KnownBytes.{Appends-trans, Appends-kept}
 use Rattle.std.proofs.lemmas.List.{take_rest}
 use Rattle.yf_lines.specs.declared.fault.Fault.{Fault}
 use Rattle.yf_lines.specs.declared.fault.Fault.TheVariants.{WriteFailed}
-use Rattle.yamlfmt.specs.Output.{Wrote, Broke, Writes, texts}
+use Rattle.yf_lines.specs.Output.{Wrote, Broke, Writes, texts}
 
 -- the part of the text before `rest` was appended, and no write has failed
 pub record Progress (old new : Option (List ℕ)) (before after : Bool) (text rest : List ℕ) : Type 0 where
@@ -24,13 +24,13 @@ progress_more old mid new before between after text rest count p taken same = re
   split = p.split ∙ ap (λ l. p.written ++ l) (sym (take-append-drop count rest)) ∙ sym (append_assoc p.written (take count rest) (drop count rest))
       ∙ ap (λ l. (p.written ++ take count rest) ++ l) (sym (take_rest rest count));
   appended = Appends-trans old mid new p.written (take count rest) p.appended taken;
-  same = same ∙ p.same
+  same = same ∙ p.same;
 }
 
 pub progress_done : (old new : Option (List ℕ)) (before after : Bool) (text : List ℕ) → Progress old new before after text [] → Wrote old new before after text
 progress_done old new before after text p = record {
   appended = subst (Appends old new) (sym (p.split ∙ append-nil p.written)) p.appended;
-  same = p.same
+  same = p.same;
 }
 
 -- a write that fails after some progress
@@ -41,7 +41,7 @@ progress_broke old mid new before between after text rest p kept failed = record
   front = p.written;
   rest = rest;
   split = p.split;
-  appended = Appends-kept old mid new p.written p.appended kept
+  appended = Appends-kept old mid new p.written p.appended kept;
 }
 
 -- a write that takes nothing keeps what was there
@@ -67,7 +67,7 @@ progress_part old mid new before between after text first rest p q = record {
   written = p.written ++ first;
   split = p.split ∙ sym (append_assoc p.written first rest);
   appended = Appends-trans old mid new p.written first p.appended q.appended;
-  same = q.same ∙ p.same
+  same = q.same ∙ p.same;
 }
 
 pub progress_part_broke : (old mid new : Option (List ℕ)) (before between after : Bool) (text first rest : List ℕ)
@@ -77,7 +77,7 @@ progress_part_broke old mid new before between after text first rest p q = recor
   front = p.written ++ q.front;
   rest = q.rest ++ rest;
   split = p.split ∙ ap (λ l. p.written ++ l) (ap (λ l. l ++ rest) q.split ∙ append_assoc q.front q.rest rest) ∙ sym (append_assoc p.written q.front (q.rest ++ rest));
-  appended = Appends-trans old mid new p.written q.front p.appended q.appended
+  appended = Appends-trans old mid new p.written q.front p.appended q.appended;
 }
 
 -- a refusal that is handed on

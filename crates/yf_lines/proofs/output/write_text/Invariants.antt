@@ -1,7 +1,7 @@
 -- What is gone from `rest` was appended, and no write has failed.
 use Rattle.std.proofs.Common.{length}
-use Rattle.yamlfmt.proofs.OutputLemmas.{Progress}
-use Rattle.yamlfmt.proofs.output.write_text.Given as goal
+use Rattle.yf_lines.proofs.OutputLemmas.{Progress}
+use Rattle.yf_lines.proofs.output.write_text.Given as goal
 
 abbrev pub invariant-loop-rest : goal.invariant-loop-rest
 invariant-loop-rest g l = Progress (g.W.Write.contents l.initial.writer) (g.W.Write.contents l.writer)

@@ -1,8 +1,8 @@
 -- What is left of the parts is what is still to be written.
 use Rattle.std.proofs.Common.{drop}
-use Rattle.yamlfmt.specs.Output.{texts}
-use Rattle.yamlfmt.proofs.OutputLemmas.{Progress}
-use Rattle.yamlfmt.proofs.output.write_texts.Given as goal
+use Rattle.yf_lines.specs.Output.{texts}
+use Rattle.yf_lines.proofs.OutputLemmas.{Progress}
+use Rattle.yf_lines.proofs.output.write_texts.Given as goal
 
 abbrev pub invariant-loop-part : goal.invariant-loop-part
 invariant-loop-part g l = Progress (g.W.Write.contents l.initial.writer) (g.W.Write.contents l.writer)

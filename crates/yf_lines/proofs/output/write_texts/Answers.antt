@@ -1,8 +1,7 @@
-use Rattle.std.proofs.Common.{◌≡◌, [], rules, refl, drop, drop_of_length-le}
+use Rattle.std.proofs.Common.{◌≡◌, [], refl, drop, drop_of_length-le}
 use Rattle.std.proofs.KnownBytes.{Appends-nil}
-use Rattle.yamlfmt.specs.Output.{texts}
-use Rattle.yamlfmt.proofs.OutputLemmas.{Progress, progress_done, progress_part, progress_part_broke, writes_refused, next_part}
-use Rattle.yamlfmt.proofs.output.write_texts.Goals as goal
+use Rattle.yf_lines.proofs.OutputLemmas.{progress_done, progress_part, progress_part_broke, writes_refused, next_part}
+use Rattle.yf_lines.proofs.output.write_texts.Goals as goal
 
 pub loop-part-init : goal.loop-part-init
 loop-part-init g c = record { written = []; split = refl; appended = Appends-nil _; same = refl }

@@ -1,6 +1,6 @@
 use Rattle.std.proofs.Common.{◌≡◌, rules, refl}
-use Rattle.yamlfmt.proofs.OutputLemmas.{progress_more, progress_done, progress_broke, Keeps-nothing}
-use Rattle.yamlfmt.proofs.output.write_text.Goals as goal
+use Rattle.yf_lines.proofs.OutputLemmas.{progress_more, progress_broke, Keeps-nothing}
+use Rattle.yf_lines.proofs.output.write_text.Goals as goal
 
 pub returns-in-Err : goal.returns-in-Err
 returns-in-Err g c = (refl, progress_broke _ _ _ _ _ _ _ _ c.loop-rest.invariant c.in-Err.ensures.bytes c.in-Err.ensures.note)

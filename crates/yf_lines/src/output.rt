@@ -1,8 +1,8 @@
 //! Writing a whole text.
-ghost use Rattle.yamlfmt.specs.Output.{Writes, texts};
+ghost use Rattle.yf_lines.specs.Output.{Writes, texts};
 
-use yf_lines::fault::Fault;
-use yf_lines::watched::Sink;
+use crate::fault::Fault;
+use crate::watched::Sink;
 
 /// Writes all the bytes, by as many writes as it takes.
 ///
