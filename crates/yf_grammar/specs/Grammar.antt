@@ -72,10 +72,10 @@ characters_between t i j = length (chars (take (j - i) (drop i t)))
 abbrev pub KEY_LIMIT : ℕ
 KEY_LIMIT = 1024
 
--- the `:` may be read behind a node of that kind: no plain character follows behind one like YAML's
-abbrev pub is_adjacent : Bool → List ℕ → ℕ → Ctx → Type 0
-is_adjacent true t i c = Unit {0}
-is_adjacent false t i c = is_plain_safe (code t i) c ≡ false
+-- a `:` before the offset may be read behind a node of that kind: where that is like YAML's, no plain character follows
+abbrev pub MayBeColon : Bool → List ℕ → ℕ → Ctx → Type 0
+MayBeColon true t i c = Unit {0}
+MayBeColon false t i c = is_plain_safe (code t i) c ≡ false
 
 -- the separation before the value: it may be missing behind a JSON key alone
 abbrev pub ValueSeparate : Bool → List ℕ → ℤ → Ctx → ℕ → ℕ → List CommentValue → Type 0
@@ -167,10 +167,10 @@ pub data Derives (t : List ℕ) : ℕ → Production → ℕ → ℕ → Meaning
       → Derives t h (Implicit n c s) i j (entering s (Some i) (empty_node i) ⊕ x)
 
   -- c-ns-flow-map-separate-value(n,c) and c-ns-flow-map-adjacent-value(n,c)
-  empty_value : {i : ℕ} {json : Bool} {n : ℤ} {c : Ctx} → is_block c ≡ false → code t i ≡ 58 → is_adjacent json t (i + 1) c
+  empty_value : {i : ℕ} {json : Bool} {n : ℤ} {c : Ctx} → is_block c ≡ false → code t i ≡ 58 → MayBeColon json t (i + 1) c
       → Derives t 0 (ValueOf json n c) i (i + 1) (empty_node (i + 1))
   a_value : {h i k j : ℕ} {json : Bool} {n : ℤ} {c : Ctx} (cs : List CommentValue) {x : Meaning} → code t i ≡ 58
-      → is_adjacent json t (i + 1) c → ValueSeparate json t n c (i + 1) k cs → Derives t h (FlowNode n c) k j x
+      → MayBeColon json t (i + 1) c → ValueSeparate json t n c (i + 1) k cs → Derives t h (FlowNode n c) k j x
       → Derives t h (ValueOf json n c) i j (behind cs x)
 
   -- ns-s-implicit-yaml-key(c) and c-s-implicit-json-key(c)

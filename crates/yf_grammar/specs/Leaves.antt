@@ -15,3 +15,11 @@ pub record PropertiesValue : Type 0 where
   pub comments : List CommentValue
 
 pub data Properties (t : List ℕ) (n : ℤ) (c : Ctx) : ℕ → ℕ → PropertiesValue → Type 0 where
+
+-- with the condition that no forbidden line is covered
+pub data Plain (t : List ℕ) (n : ℤ) (c : Ctx) : ℕ → ℕ → List ℕ → Type 0 where
+pub data Single (t : List ℕ) (n : ℤ) (c : Ctx) : ℕ → ℕ → List ℕ → Type 0 where
+pub record DoubleValue : Type 0 where
+  pub text : List ℕ
+  pub escapes : List ℕ
+pub data Double (t : List ℕ) (n : ℤ) (c : Ctx) : ℕ → ℕ → DoubleValue → Type 0 where
