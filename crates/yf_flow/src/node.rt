@@ -1,0 +1,207 @@
+//! Nodes: what may stand as an item, a key or a value, and the events of them.
+
+use crate::frame::{Frame, Kind, Node, Role, Scene};
+use crate::leaf::{keep_comments, read_alias, read_plain, read_props, read_separation, read_single, scan_double, Properties};
+use crate::look::content_begins;
+use std::alloc::{AllocError, Global};
+use yf_chars::text::stands;
+use yf_events::event::{Entry, Event, PlacedEvent, ScalarStyle, Span};
+use yf_events::part::Part;
+use yf_events::slices::Slices;
+use yf_lines::text::Text;
+use yf_props::props::Props;
+
+/// What is known of a node before its content: where it begins, its properties, and the entry that it begins.
+#[derive(Clone, Copy)]
+pub(crate) struct Lead<'a> {
+    pub(crate) start: usize,
+    pub(crate) props: Props<'a>,
+    pub(crate) tag_offset: Option<usize>,
+    pub(crate) entry: Option<Entry>,
+}
+
+/// What was found where a node is awaited.
+pub(crate) enum Begun {
+    /// A node without nodes in it.
+    Leaf(Node),
+    /// The opening bracket of a collection; its first entry is awaited at `Frame::entry`.
+    Opened(Frame),
+    Nothing,
+    /// An opening bracket, where no further collection may be opened.
+    TooDeep(usize),
+}
+
+impl<'a> Lead<'a> {
+    /// Without properties.
+    pub(crate) fn bare(start: usize, entry: Option<Entry>) -> Lead<'a> {
+        Lead {
+            start,
+            props: Props {
+                anchor: None,
+                tag: None,
+            },
+            tag_offset: None,
+            entry,
+        }
+    }
+
+    /// The event that begins the node, which ends at an offset.
+    fn placed(self, alloc: Global, event: Event<'a>, end: usize) -> PlacedEvent<'a> {
+        PlacedEvent {
+            event,
+            span: Some(Span {
+                start: self.start,
+                end,
+            }),
+            tag_offset: self.tag_offset,
+            entry: self.entry,
+            folded: Slices::new(alloc),
+        }
+    }
+}
+
+/// The event of an empty node without properties, or of the end of a collection.
+pub(crate) fn unplaced<'a>(alloc: Global, event: Event<'a>, entry: Option<Entry>) -> PlacedEvent<'a> {
+    PlacedEvent {
+        event,
+        span: None,
+        tag_offset: None,
+        entry,
+        folded: Slices::new(alloc),
+    }
+}
+
+/// An empty node without properties.
+pub(crate) fn empty_node<'a>(alloc: Global, entry: Option<Entry>) -> PlacedEvent<'a> {
+    let event = Event::Scalar {
+        props: Props {
+            anchor: None,
+            tag: None,
+        },
+        style: ScalarStyle::Plain,
+        text: Text::Part(""),
+    };
+    unplaced(alloc, event, entry)
+}
+
+/// Begins a node (ns-flow-node, production 161), where so many collections are open.
+pub(crate) fn begin_node<'a>(alloc: Global, scene: Scene<'a>, at: usize, entry: Option<Entry>, depth: usize, part: &mut Part<'a>) -> Result<Begun, AllocError> {
+    match read_alias(scene.text, at) {
+        Some(alias) => {
+            let event = Event::Alias { name: alias.name };
+            part.events.push(Lead::bare(at, entry).placed(alloc, event, alias.end))?;
+            return Ok(Begun::Leaf(Node { end: alias.end, json: false, deepest: depth }));
+        }
+        None => {}
+    }
+    match read_props(alloc, scene.text, at, scene.indentation, scene.context)? {
+        Some(properties) => propertied_node(alloc, scene, at, properties, entry, depth, part),
+        None => {
+            let lead = Lead::bare(at, entry);
+            if content_begins(scene.text, at) {
+                return json_content(alloc, scene, at, lead, depth, part);
+            }
+            plain_node(alloc, scene, at, lead, depth, part)
+        }
+    }
+}
+
+// A node with properties: its content is a plain scalar, a quoted scalar or a flow collection, and else it is empty.
+fn propertied_node<'a>(alloc: Global, scene: Scene<'a>, at: usize, properties: Properties<'a>, entry: Option<Entry>, depth: usize, part: &mut Part<'a>) -> Result<Begun, AllocError> {
+    let lead = Lead { start: at, props: properties.props, tag_offset: properties.tag_offset, entry };
+    keep_comments(&properties.comments, part)?;
+    match read_separation(alloc, scene.text, properties.end, scene.indentation, scene.context)? {
+        Some(separation) => {
+            if content_begins(scene.text, separation.end) {
+                keep_comments(&separation.comments, part)?;
+                return json_content(alloc, scene, separation.end, lead, depth, part);
+            }
+            match read_plain(alloc, scene.text, separation.end, scene.indentation, scene.context)? {
+                Some(plain) => {
+                    keep_comments(&separation.comments, part)?;
+                    push_scalar(alloc, lead, ScalarStyle::Plain, plain.text, plain.end, part)?;
+                    return Ok(Begun::Leaf(Node { end: plain.end, json: false, deepest: depth }));
+                }
+                None => {}
+            }
+        }
+        None => {}
+    }
+    push_scalar(alloc, lead, ScalarStyle::Plain, Text::Part(""), properties.end, part)?;
+    Ok(Begun::Leaf(Node { end: properties.end, json: false, deepest: depth }))
+}
+
+pub(crate) fn push_scalar<'a>(alloc: Global, lead: Lead<'a>, style: ScalarStyle, text: Text<'a>, end: usize, part: &mut Part<'a>) -> Result<(), AllocError> {
+    let event = Event::Scalar { props: lead.props, style, text };
+    part.events.push(lead.placed(alloc, event, end))
+}
+
+// A plain scalar as a node (ns-plain, production 131).
+fn plain_node<'a>(alloc: Global, scene: Scene<'a>, at: usize, lead: Lead<'a>, depth: usize, part: &mut Part<'a>) -> Result<Begun, AllocError> {
+    match read_plain(alloc, scene.text, at, scene.indentation, scene.context)? {
+        Some(plain) => {
+            push_scalar(alloc, lead, ScalarStyle::Plain, plain.text, plain.end, part)?;
+            Ok(Begun::Leaf(Node { end: plain.end, json: false, deepest: depth }))
+        }
+        None => Ok(Begun::Nothing),
+    }
+}
+
+// A quoted scalar, or the opening bracket of a flow collection (c-flow-json-content, production 157).
+fn json_content<'a>(alloc: Global, scene: Scene<'a>, at: usize, lead: Lead<'a>, depth: usize, part: &mut Part<'a>) -> Result<Begun, AllocError> {
+    if stands(scene.text, at, b'\'') {
+        return single_node(alloc, scene, at, lead, depth, part);
+    }
+    if stands(scene.text, at, b'"') {
+        return double_node(alloc, scene, at, lead, depth, part);
+    }
+    if stands(scene.text, at, b'[') {
+        return open(alloc, scene, at, Kind::Sequence, lead, depth, part);
+    }
+    if stands(scene.text, at, b'{') {
+        return open(alloc, scene, at, Kind::Mapping, lead, depth, part);
+    }
+    Ok(Begun::Nothing)
+}
+
+fn single_node<'a>(alloc: Global, scene: Scene<'a>, at: usize, lead: Lead<'a>, depth: usize, part: &mut Part<'a>) -> Result<Begun, AllocError> {
+    match read_single(alloc, scene.text, at, scene.indentation, scene.context)? {
+        Some(single) => {
+            push_scalar(alloc, lead, ScalarStyle::Single, single.text, single.end, part)?;
+            Ok(Begun::Leaf(Node { end: single.end, json: true, deepest: depth }))
+        }
+        None => Ok(Begun::Nothing),
+    }
+}
+
+fn double_node<'a>(alloc: Global, scene: Scene<'a>, at: usize, lead: Lead<'a>, depth: usize, part: &mut Part<'a>) -> Result<Begun, AllocError> {
+    match scan_double(alloc, scene.text, at, scene.indentation, scene.context, part)? {
+        Some(double) => {
+            push_scalar(alloc, lead, ScalarStyle::Double, double.text, double.end, part)?;
+            Ok(Begun::Leaf(Node { end: double.end, json: true, deepest: depth }))
+        }
+        None => Ok(Begun::Nothing),
+    }
+}
+
+// Opens the collection whose bracket stands there, if there is room for it. Where it ends is noted once it is closed.
+fn open<'a>(alloc: Global, scene: Scene<'a>, at: usize, kind: Kind, lead: Lead<'a>, depth: usize, part: &mut Part<'a>) -> Result<Begun, AllocError> {
+    if depth >= scene.limit {
+        return Ok(Begun::TooDeep(at));
+    }
+    let event = part.events.len();
+    let start = match kind {
+        Kind::Sequence => Event::SeqStart { flow: true, props: lead.props },
+        Kind::Mapping | Kind::Pair => Event::MapStart { flow: true, props: lead.props },
+    };
+    part.events.push(lead.placed(alloc, start, at + 1))?;
+    Ok(Begun::Opened(Frame {
+        kind,
+        depth: depth + 1,
+        deepest: depth + 1,
+        event,
+        entry: at + 1,
+        entry_event: event,
+        role: Role::Item,
+    }))
+}

@@ -1,0 +1,101 @@
+//! The reader of flow nodes: one forward pass, with a stack of the open collections.
+
+use crate::entries::{finish_node, start_entry, take_node, Below};
+use crate::frame::{Frame, Scene, State, Step};
+use crate::leaf::{keep_comments, read_props};
+use crate::node::{begin_node, push_scalar, Begun, Lead};
+use smallvec::SmallVec;
+use std::alloc::{AllocError, Global};
+use yf_chars::context::Ctx;
+use yf_events::event::ScalarStyle;
+use yf_events::events::{Comments, Events};
+use yf_events::part::Part;
+use yf_events::row::Row;
+use yf_lines::text::Text;
+
+/// What a reader of flow nodes found.
+#[derive(Debug, Drop)]
+pub(crate) enum Outcome<'a> {
+    /// A node, and the byte offset behind it.
+    Found { part: Part<'a>, end: usize },
+    Nothing,
+    /// Nothing within the limit of open collections; the bracket or entry at the offset would open a further one.
+    TooDeep(usize),
+}
+
+// How a flow collection ends.
+#[derive(Clone, Copy)]
+enum Ending {
+    End(usize),
+    Nothing,
+    TooDeep(usize),
+}
+
+/// Reads a flow node (ns-flow-node, production 161) in which no more collections are open at once than the limit.
+pub(crate) fn read_node<'a>(alloc: Global, text: &'a str, at: usize, indentation: i32, context: Ctx, limit: usize) -> Result<Outcome<'a>, AllocError> {
+    match inner_context(context) {
+        None => Ok(Outcome::Nothing),
+        Some(inner) => {
+            let scene = Scene { text, indentation, context, limit };
+            let mut part = new_part(alloc);
+            let ending = match begin_node(alloc, scene, at, None, 0, &mut part)? {
+                Begun::Leaf(node) => Ending::End(node.end),
+                Begun::Opened(frame) => read_collection(alloc, Scene { context: inner, ..scene }, frame, &mut part)?,
+                Begun::Nothing => Ending::Nothing,
+                Begun::TooDeep(place) => Ending::TooDeep(place),
+            };
+            match ending {
+                Ending::End(end) => Ok(Outcome::Found { part, end }),
+                Ending::Nothing => properties_alone(alloc, scene, at, Outcome::Nothing),
+                Ending::TooDeep(place) => properties_alone(alloc, scene, at, Outcome::TooDeep(place)),
+            }
+        }
+    }
+}
+
+// The context within flow collections of that context (in-flow(c)); no flow node stands in the two block contexts.
+fn inner_context(context: Ctx) -> Option<Ctx> {
+    match context {
+        Ctx::BlockOut | Ctx::BlockIn => None,
+        Ctx::FlowOut | Ctx::FlowIn => Some(Ctx::FlowIn),
+        Ctx::BlockKey | Ctx::FlowKey => Some(Ctx::FlowKey),
+    }
+}
+
+fn new_part<'a>(alloc: Global) -> Part<'a> {
+    Part {
+        events: Events::new(alloc),
+        comments: Comments::new(alloc),
+        escapes: Row::new(alloc),
+    }
+}
+
+// Reads the entries of a collection up to its closing bracket.
+fn read_collection<'a>(alloc: Global, scene: Scene<'a>, frame: Frame, part: &mut Part<'a>) -> Result<Ending, AllocError> {
+    let mut below: Below = SmallVec::new(alloc);
+    let mut state = State { top: frame, step: Step::Entry(frame.entry) };
+    'steps: loop {
+        state = match state.step {
+            Step::Entry(at) => start_entry(alloc, scene, at, state.top, &mut below, part)?,
+            Step::Node(at) => take_node(alloc, scene, at, state.top, &mut below, part)?,
+            Step::Ended(node) => finish_node(alloc, scene, node, state.top, &mut below, part)?,
+            Step::Done(end) => return Ok(Ending::End(end)),
+            Step::Failed => return Ok(Ending::Nothing),
+            Step::TooDeep(place) => return Ok(Ending::TooDeep(place)),
+        };
+    }
+}
+
+// Where the content behind properties is not derived, the node is empty and the properties are all of it.
+fn properties_alone<'a>(alloc: Global, scene: Scene<'a>, at: usize, otherwise: Outcome<'a>) -> Result<Outcome<'a>, AllocError> {
+    match read_props(alloc, scene.text, at, scene.indentation, scene.context)? {
+        None => Ok(otherwise),
+        Some(properties) => {
+            let mut part = new_part(alloc);
+            keep_comments(&properties.comments, &mut part)?;
+            let lead = Lead { start: at, props: properties.props, tag_offset: properties.tag_offset, entry: None };
+            push_scalar(alloc, lead, ScalarStyle::Plain, Text::Part(""), properties.end, &mut part)?;
+            Ok(Outcome::Found { part, end: properties.end })
+        }
+    }
+}
