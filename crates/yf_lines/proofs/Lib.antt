@@ -1,2 +1,6 @@
 pub mod BasicLemmas
+pub mod LineLemmas
+pub mod TableLemmas
+pub mod MarkLemmas
+pub mod PlaceLemmas
 pub mod OutputLemmas

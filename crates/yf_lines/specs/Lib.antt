@@ -1,4 +1,5 @@
 pub mod Basic
+pub mod Lines
 pub mod Output
 pub mod Steady
 pub mod Text
