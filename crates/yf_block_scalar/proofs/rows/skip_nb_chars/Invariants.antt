@@ -1,0 +1,13 @@
+use Rattle.std.proofs.Common.{◌≡◌, ◌≢◌, ◌+◌, ◌-◌, ◌<◌, ◌≤◌, ℕ, Bool, false, List, [], length, slice_range, IfOk, IfSome, MatchOption, ◌*◌}
+use Rattle.std.specs.Str.{IsCharBoundary}
+use Rattle.yf_chars.specs.Chain.{Many}
+use Rattle.yf_chars.specs.Class.{is_nb_char}
+use Rattle.yf_chars.specs.Text.{code}
+use Rattle.yf_block_scalar.specs.Body.{SpaceLine, Content, Taken}
+use Rattle.yf_block_scalar.proofs.rows.skip_nb_chars.Given as goal
+
+abbrev pub invariant-chars : goal.invariant-chars
+invariant-chars l = record { chars : (x : List ℕ) × Many l.s is_nb_char l.at l.end x; boundary : IsCharBoundary l.s l.end; order : l.at ≤ l.end }
+
+abbrev pub decreases-chars : goal.decreases-chars
+decreases-chars l = length l.s - l.end
