@@ -2,11 +2,13 @@
 #![tactic(auto)]
 
 pub mod document;
+pub mod escapes;
 pub mod event;
 pub mod events;
 pub mod leaves;
 pub mod lists;
 pub mod nesting;
+pub mod notation;
 pub mod part;
 pub mod reading;
 pub mod row;
