@@ -1,10 +1,7 @@
 pub mod BasicLemmas
-<<<<<<< HEAD
 pub mod LineLemmas
 pub mod TableLemmas
 pub mod MarkLemmas
 pub mod PlaceLemmas
 pub mod OutputLemmas
-=======
 pub mod ClearLemmas
->>>>>>> scalars

@@ -7,11 +7,8 @@ pub mod fault;
 pub mod line;
 pub mod output;
 pub mod place;
-<<<<<<< HEAD
 pub mod source_text;
 pub mod table;
-=======
 pub mod steady;
->>>>>>> events
 pub mod text;
 pub mod watched;

@@ -1,6 +1,3 @@
-<<<<<<< HEAD
 -- MAIN SESSION TO HELPER comments: read ../READ-ME-FIRST.txt before you work on this crate (and drop this line)
-=======
 pub mod Names
->>>>>>> props
 pub mod Props
