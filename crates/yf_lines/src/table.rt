@@ -235,3 +235,68 @@ fn break_char_stands(text: &str, at: usize) -> bool
     }
     stands(text, at, b'\r')
 }
+
+#[cfg(test)]
+mod tests {
+    use super::*;
+    use std::test::Fail;
+
+    #[test]
+    fn finds_the_lines(rt: HostRuntime) -> Result<(), Fail> {
+        let cases = [
+            ("", [].as_slice()),
+            ("\n\n", [[0, 0, 1, 0], [1, 1, 2, 0]].as_slice()),
+            ("a\r\nb", [[0, 1, 3, 0], [3, 4, 4, 0]].as_slice()),
+            ("a\r  b\r", [[0, 1, 2, 0], [2, 5, 6, 2]].as_slice()),
+            (" \ta\n  ", [[0, 3, 4, 1], [4, 6, 6, 2]].as_slice()),
+            ("\u{feff}c\n\u{e9}", [[0, 4, 5, 0], [5, 7, 7, 0]].as_slice()),
+        ];
+        for (text, lines) in cases {
+            let table = LineTable::build(rt.alloc(), text)?;
+            assert_eq!(rt; table.text(), text);
+            assert_eq!(rt; table.len(), lines.len(), "of {text:?}");
+            assert_eq!(rt; table.is_empty(), text.is_empty());
+            for (i, line) in lines.iter().enumerate() {
+                assert!(rt; i < table.len());
+                let found = table.line(i);
+                assert_eq!(rt; [found.start, found.end, found.next, found.indent], *line, "of {text:?}");
+            }
+        }
+        Ok(())
+    }
+
+    #[test]
+    fn finds_places(rt: HostRuntime) -> Result<(), Fail> {
+        let cases = [
+            ("", [[0, 1, 1]].as_slice()),
+            ("a\r\nb", [[0, 1, 1], [2, 1, 3], [3, 2, 1], [4, 2, 2]].as_slice()),
+            ("a\n", [[1, 1, 2], [2, 2, 1]].as_slice()),
+            ("a\rb\r", [[1, 1, 2], [2, 2, 1], [4, 3, 1]].as_slice()),
+            ("\u{e9}\u{20ac}x\n  \u{fc}", [[2, 1, 2], [5, 1, 3], [7, 2, 1], [9, 2, 3], [11, 2, 4]].as_slice()),
+            ("\u{feff}\u{feff}ab\n\u{feff}c", [[0, 1, 1], [3, 1, 1], [6, 1, 1], [8, 1, 3], [9, 2, 1], [12, 2, 1], [13, 2, 2]].as_slice()),
+            ("\u{feff}", [[3, 1, 1]].as_slice()),
+        ];
+        for (text, places) in cases {
+            let table = LineTable::build(rt.alloc(), text)?;
+            for [offset, line, column] in places {
+                assert!(rt; table.text().is_char_boundary(*offset));
+                let place = table.place(*offset);
+                assert_eq!(rt; [place.line, place.column], [*line, *column], "of {text:?} at {offset}");
+            }
+        }
+        Ok(())
+    }
+
+    #[test]
+    fn finds_forbidden_lines(rt: HostRuntime) -> Result<(), Fail> {
+        let text = "--- a\n---a\n...\n\u{feff}---\n----\n ---\n...\u{a0}\n..";
+        let forbidden = [true, false, true, true, false, false, false, false];
+        let table = LineTable::build(rt.alloc(), text)?;
+        assert_eq!(rt; table.len(), forbidden.len());
+        for (i, wanted) in forbidden.iter().enumerate() {
+            assert!(rt; i < table.len());
+            assert_eq!(rt; table.is_forbidden(i), *wanted, "line {i}");
+        }
+        Ok(())
+    }
+}
