@@ -5,3 +5,5 @@ pub mod MarkLemmas
 pub mod PlaceLemmas
 pub mod OutputLemmas
 pub mod ClearLemmas
+pub mod FoldLemmas
+pub mod OutputLemmas

@@ -5,6 +5,7 @@
 pub mod basic;
 pub mod fault;
 pub mod line;
+pub mod fold;
 pub mod output;
 pub mod place;
 pub mod source_text;
