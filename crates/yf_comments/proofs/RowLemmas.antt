@@ -267,3 +267,22 @@ pub text_from : {t : List ℕ} {i j : ℕ} (x : List ℕ) (b : Bool) → code t 
     → CommentText t i j (record { text = x; offset = i; blank_before = b } ∷ [])
 text_from {t} {i} {j} x b e m s h =
     subst (λ v. CommentText t i j (record { text = v; offset = i; blank_before = b } ∷ [])) (sym s) (comment_text e m.1 (noted_from b h))
+
+module _ {t : List ℕ} where
+  end_moves : {i j : ℕ} → BreakOrEnd t i j → (i < j) ⊎ (i ≡ length t)
+  end_moves (by_break b) = inl (break_forward b)
+  end_moves (by_end e) = inr e
+
+  view_moves : {i j : ℕ} {x : List CommentValue} → RestView t i j x → i < length t → i < j
+  view_moves (bare_view m e) l =
+      let a = chain_forward (one_functional t is_white) m in
+      let b = break_or_end_forward e in
+      ⊎_elim (λ (h : _ < _). omega arith) (λ (h : _ ≡ length t). omega arith) (end_moves e)
+  view_moves (comment_view m c e) l =
+      let a = chain_forward (one_functional t is_white) m in
+      let b = break_or_end_forward e in
+      let d = text_later c in
+      omega arith
+
+  pub rest_moves : {i j : ℕ} {x : List CommentValue} → LineRest t i j x → i < length t → i < j
+  rest_moves r l = view_moves (rest_view r) l

@@ -6,6 +6,13 @@ use crate::comment::Comment;
 use std::alloc::{AllocError, Global};
 use std::marker::Model;
 
+/// What was read: the comments in it, and the offset behind it.
+#[derive(Debug, Drop)]
+pub struct Separation<'a> {
+    pub comments: Comments<'a>,
+    pub end: usize,
+}
+
 /// Comments in the order of the text. In a contract it is the list of what they are.
 #[derive(Debug, Drop)]
 pub struct Comments<'a> {

@@ -1,18 +1,20 @@
 //! Comments, and the lines that hold nothing else (YAML 1.2.2, section 6.6).
-ghost use Rattle.std.specs.Prelude.{◌≡◌, ◌≢◌, ◌+◌, ◌-◌, ◌<◌, ◌≤◌, ℕ, List, [], ◌∷◌, ◌++◌, Bool, true, false, Option, Some, None, length, IfOk, IfSome, MatchOption, MatchBool};
+ghost use Rattle.std.specs.Prelude.{◌≡◌, ◌≢◌, ◌+◌, ◌-◌, ◌<◌, ◌≤◌, ℕ, List, [], ◌∷◌, ◌++◌, Bool, true, false, Option, Some, None, length, IfOk, IfSome, IfNone, MatchOption, MatchBool};
 ghost use Rattle.std.specs.Str.{IsCharBoundary};
 ghost use Rattle.yf_chars.specs.Chain.{Chosen, Stuck, Many, Nowhere, Farthest};
 ghost use Rattle.yf_chars.specs.Class.{is_nb_char, is_white};
 ghost use Rattle.yf_chars.specs.Text.{code};
 ghost use Rattle.yf_lines.specs.Basic.{LineStart, SeparateInLine};
 ghost use Rattle.yf_comments.specs.Comment.{CommentValue, comment_value, row_comments};
-ghost use Rattle.yf_comments.specs.Comments.{CommentText, BreakOrEnd, LineRest};
+ghost use Rattle.yf_comments.specs.Comments.{CommentText, BreakOrEnd, LineRest, LineEnd, Kept, Row as IsRow};
 
 use crate::blank::is_blank_before;
 use crate::comment::Comment;
+use crate::comments::{Comments, Separation};
+use std::alloc::{AllocError, Global};
 use yf_chars::classes::is_nb_char;
 use yf_chars::text::{peek, stands};
-use yf_lines::basic::{line_break, skip_whites};
+use yf_lines::basic::{is_line_start, line_break, skip_whites};
 
 // A comment that was read, and the offset behind it.
 #[derive(Clone, Copy)]
@@ -23,9 +25,9 @@ struct CommentPart<'a> {
 
 // The rest of a line that was read: its comment, if it has one, and the offset behind its break.
 #[derive(Clone, Copy)]
-pub(crate) struct Row<'a> {
-    pub(crate) comment: Option<Comment<'a>>,
-    pub(crate) end: usize,
+struct Row<'a> {
+    comment: Option<Comment<'a>>,
+    end: usize,
 }
 
 // The offset behind all characters of a comment that stand at the offset.
@@ -112,7 +114,7 @@ fn past_whites<'a>(s: &'a str, at: usize, place: usize) -> Option<Row<'a>>
 
 // Reads what is left of a line: whites, a comment where a white or the start of the line stands before it, and a break
 // or the end of the text (s-b-comment, production 77).
-pub(crate) fn line_rest<'a>(s: &'a str, at: usize, starts: bool) -> Option<Row<'a>>
+fn line_rest<'a>(s: &'a str, at: usize, starts: bool) -> Option<Row<'a>>
     requires boundary { IsCharBoundary s.now at }
     requires starts { MatchBool starts (LineStart s.now at) (LineStart s.now at → ⊥) }
     ensures reads { MatchOption result (Stuck (LineRest s.now at)) (λ r. LineRest s.now at r.end (row_comments r.comment)) }
@@ -131,5 +133,73 @@ pub(crate) fn line_rest<'a>(s: &'a str, at: usize, starts: bool) -> Option<Row<'
             end: next,
         }),
         None => None,
+    }
+}
+
+// Reads what is left of a line, and keeps its comment; the offset behind it, or `None`, with no comment kept.
+pub(crate) fn next_row<'a>(s: &'a str, at: usize, starts: bool, comments: &mut Comments<'a>) -> Result<Option<usize>, AllocError>
+    requires boundary { IsCharBoundary s.now at }
+    requires starts { MatchBool starts (LineStart s.now at) (LineStart s.now at → ⊥) }
+    ensures reads { IfOk result (λ o. MatchOption o (Stuck (LineRest s.now at)) (λ e. (x : List CommentValue) × LineRest s.now at e x × (comments.new ≡ comments.old ++ x))) }
+    ensures unchanged { IfOk result (λ o. IfNone o (comments.new ≡ comments.old)) }
+    ensures boundary { IfOk result (λ o. IfSome o (λ e. IsCharBoundary s.now e)) }
+{
+    match line_rest(s, at, starts) {
+        Some(Row { comment, end }) => {
+            match comment {
+                Some(text) => {
+                    comments.push(text)?;
+                    Ok(Some(end))
+                }
+                None => Ok(Some(end)),
+            }
+        }
+        None => Ok(None),
+    }
+}
+
+// Reads comment lines (l-comment, production 78) as long as there are any, from the start of a line or the end of the
+// text on.
+fn comment_lines<'a>(s: &'a str, at: usize, comments: &mut Comments<'a>) -> Result<usize, AllocError>
+    requires boundary { IsCharBoundary s.now at }
+    requires starts { at < length s.now → LineStart s.now at }
+    ensures reads { IfOk result (λ e. Kept s.now at e comments.old comments.new) }
+    ensures all { IfOk result (λ e. Stuck (IsRow s.now e)) }
+    ensures boundary { IfOk result (λ e. IsCharBoundary s.now e) }
+{
+    let mut end = at;
+    'lines: while end < s.len() {
+        match next_row(s, end, true, comments)? {
+            Some(next) => {
+                end = next;
+            }
+            None => return Ok(end),
+        }
+    }
+    Ok(end)
+}
+
+/// Reads the end of a line and the comment lines behind it (s-l-comments, production 79): as much as there is.
+///
+/// What is left of the line may hold a comment; at the start of a line there need be nothing at all.
+/// `None` where neither the rest of a line nor the start of one is there, as between the CR and the LF of one break.
+pub fn line_end<'a>(alloc: Global, s: &'a str, at: usize) -> Result<Option<Separation<'a>>, AllocError>
+    requires { IsCharBoundary s.now at }
+    ensures reads { IfOk result (λ o. MatchOption o (Stuck (LineEnd s.now at)) (λ p. Chosen (LineEnd s.now at) p.end p.comments)) }
+    ensures boundary { IfOk result (λ o. IfSome o (λ p. IsCharBoundary s.now p.end)) }
+{
+    let starts = is_line_start(s, at);
+    let mut comments = Comments::new(alloc);
+    match next_row(s, at, starts, &mut comments)? {
+        Some(next) => {
+            let end = comment_lines(s, next, &mut comments)?;
+            Ok(Some(Separation { comments, end }))
+        }
+        None => {
+            if starts {
+                return Ok(Some(Separation { comments, end: at }));
+            }
+            Ok(None)
+        }
     }
 }
