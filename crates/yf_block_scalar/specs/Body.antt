@@ -82,17 +82,21 @@ pub data MarkerLine (t : List ℕ) : ℕ → Type 0 where
   marker_here : {i : ℕ} → is_marker t i ≡ true → MarkerLine t i
   past_mark : {i : ℕ} → code t i ≡ 0xFEFF → MarkerLine t (next t i) → MarkerLine t i
 
--- the content's indentation, detected: the first line that holds a character other than space has k spaces before it,
--- at least n + 1, and no earlier line is longer
+-- a line with k spaces, at least n + 1, before another character, and no document marker
+pub record Indented (t : List ℕ) (n : ℤ) (i k : ℕ) : Type 0 where
+  pub spaces : Spaces t i k
+  pub other : Other t (i + k)
+  pub deep : least n ≤ k
+  pub clear : MarkerLine t i → ⊥
+
+-- the content's indentation, detected: that of the first line that holds a character other than space; no earlier line
+-- has more than k spaces
 pub record Detected (t : List ℕ) (n : ℤ) (i k : ℕ) : Type 0 where
   pub at : ℕ
   pub widths : List ℕ
   pub before : Chain (Bare t) i at widths
   pub within : largest widths ≤ k
-  pub spaces : Spaces t at k
-  pub other : Other t (at + k)
-  pub deep : least n ≤ k
-  pub clear : MarkerLine t at → ⊥
+  pub first : Indented t n at k
 
 -- no indentation is to be detected at a line: it is the last one and holds spaces at most, or has fewer than n + 1
 -- spaces before another character, or begins with a document marker

@@ -4,5 +4,6 @@
 pub mod body;
 pub mod content;
 pub mod header;
+mod indent;
 pub mod lines;
 mod rows;

@@ -1,7 +1,6 @@
 use Rattle.std.proofs.Common.{◌≡◌, length, get_or, ap, sym, ◌∙◌, eqb, false}
 use Rattle.yf_chars.specs.Class.{is_white}
 use Rattle.yf_lines.proofs.BasicLemmas.{white_of_space, white_only_tab}
-use Rattle.yf_block_scalar.specs.Content.{is_spaced}
 use Rattle.yf_block_scalar.proofs.ContentLemmas.{spaced_first}
 use Rattle.yf_block_scalar.proofs.content.begins_white.Goals as goal
 

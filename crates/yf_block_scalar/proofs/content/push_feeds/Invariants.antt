@@ -1,6 +1,6 @@
-use Rattle.std.proofs.Common.{◌≡◌, ◌++◌, ◌||◌, ◌+◌, [], length, drop, if◌then◌else◌, IfOk, IfErr, OnOk, ℕ, ◌-◌, ◌*◌, ◌<◌, ◌≤◌}
+use Rattle.std.proofs.Common.{◌≡◌, ◌++◌}
 use Rattle.std.specs.String.{string_bytes}
-use Rattle.yf_block_scalar.specs.Content.{content_of, feeds, is_spaced, joint, folded_behind, folded, literal}
+use Rattle.yf_block_scalar.specs.Content.{feeds}
 use Rattle.yf_block_scalar.proofs.content.push_feeds.Given as goal
 
 abbrev pub invariant-loop-done : goal.invariant-loop-done

@@ -1,6 +1,6 @@
-use Rattle.std.proofs.Common.{◌≡◌, ◌++◌, ◌||◌, ◌+◌, [], length, drop, if◌then◌else◌, IfOk, IfErr, OnOk, ℕ, ◌-◌, ◌*◌, ◌<◌, ◌≤◌}
+use Rattle.std.proofs.Common.{◌≡◌, ◌++◌, length, drop, ◌-◌}
 use Rattle.std.specs.String.{string_bytes}
-use Rattle.yf_block_scalar.specs.Content.{content_of, feeds, is_spaced, joint, folded_behind, folded, literal, literal_behind}
+use Rattle.yf_block_scalar.specs.Content.{literal_behind}
 use Rattle.yf_block_scalar.proofs.content.push_literal.Given as goal
 
 abbrev pub invariant-loop-index : goal.invariant-loop-index

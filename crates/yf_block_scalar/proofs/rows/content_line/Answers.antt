@@ -1,4 +1,4 @@
-use Rattle.std.proofs.Common.{◌≡◌, ◌≤◌, arith, sym, ◌∙◌}
+use Rattle.std.proofs.Common.{sym, ◌∙◌}
 use Rattle.yf_block_scalar.specs.Body.Ends.{by_break, by_text}
 use Rattle.yf_block_scalar.proofs.BodyLemmas.{few_spaces, no_marker_line, spaces_boundary, spaces_fewer, no_text, no_end, content_there}
 use Rattle.yf_block_scalar.proofs.rows.content_line.Goals as goal

@@ -1,6 +1,5 @@
-use Rattle.std.proofs.Common.{◌≡◌, ◌≤◌, ◌<◌, ◌+◌, ◌-◌, ◌++◌, ◌∷◌, [], ℕ, List, take, length, slice_range, arith, sym, ap, ◌∙◌, subst}
-use Rattle.yf_block_scalar.specs.Body.{Taken}
-use Rattle.yf_block_scalar.proofs.BodyLemmas.{Reading, reading_none, reading_empty, reading_content, reading_done, no_line}
+use Rattle.std.proofs.Common.{◌-◌, ◌++◌, ◌∷◌, [], take, arith, ap, ◌∙◌}
+use Rattle.yf_block_scalar.proofs.BodyLemmas.{reading_none, reading_empty, reading_content, reading_done, no_line}
 use Rattle.yf_block_scalar.proofs.rows.read_rows.Goals as goal
 
 pub rows-init : goal.rows-init

@@ -1,9 +1,5 @@
-use Rattle.std.proofs.Common.{◌≡◌, ◌≢◌, ◌+◌, ◌-◌, ◌<◌, ◌≤◌, ℕ, Bool, false, List, [], length, slice_range, IfOk, IfSome, MatchOption, ◌*◌}
+use Rattle.std.proofs.Common.{◌-◌, ◌≤◌, length}
 use Rattle.std.specs.Str.{IsCharBoundary}
-use Rattle.yf_chars.specs.Chain.{Many}
-use Rattle.yf_chars.specs.Class.{is_nb_char}
-use Rattle.yf_chars.specs.Text.{code}
-use Rattle.yf_block_scalar.specs.Body.{SpaceLine, Content, Taken}
 use Rattle.yf_block_scalar.proofs.BodyLemmas.{Reading}
 use Rattle.yf_block_scalar.proofs.rows.read_rows.Given as goal
 

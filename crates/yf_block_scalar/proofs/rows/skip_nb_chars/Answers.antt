@@ -1,5 +1,5 @@
-use Rattle.std.proofs.Common.{◌≡◌, ◌≤◌, ◌++◌, ◌∷◌, [], List, ℕ, true, false, sym, ap, ◌∙◌, subst, arith}
-use Rattle.yf_chars.specs.Text.{code, next, no_char}
+use Rattle.std.proofs.Common.{◌≡◌, ◌++◌, ◌∷◌, [], List, ℕ, true, sym, ap, ◌∙◌, subst, arith}
+use Rattle.yf_chars.specs.Text.{code, next}
 use Rattle.yf_chars.specs.Chain.{Many}
 use Rattle.yf_chars.specs.Chain.Chain.{done}
 use Rattle.yf_chars.specs.Class.{is_nb_char}

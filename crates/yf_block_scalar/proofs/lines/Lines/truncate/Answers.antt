@@ -1,4 +1,4 @@
-use Rattle.std.proofs.Common.{◌≡◌, take, map, sym}
+use Rattle.std.proofs.Common.{sym}
 use Rattle.std.proofs.lemmas.List.{take-map}
 use Rattle.yf_block_scalar.proofs.lines.Lines.truncate.Goals as goal
 
