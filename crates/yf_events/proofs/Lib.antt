@@ -1,5 +1,6 @@
 pub mod Advances
 pub mod Build
+pub mod ContentRuns
 pub mod EscapedRuns
 pub mod Nests
 pub mod PieceRuns

@@ -33,14 +33,14 @@ drop_nil : {X : Type 0} (i : ℕ) → drop i (let none : List X = [] in none) �
 drop_nil zero = refl
 drop_nil (suc i) = refl
 
-zip_at : {X Y : Type 0} (xs : List X) (ys : List Y) (i : ℕ) (x : X) (y : Y) → slice_get xs i ≡ Some x → slice_get ys i ≡ Some y
+pub zip_at : {X Y : Type 0} (xs : List X) (ys : List Y) (i : ℕ) (x : X) (y : Y) → slice_get xs i ≡ Some x → slice_get ys i ≡ Some y
     → drop i (zip xs ys) ≡ (x, y) ∷ drop (suc i) (zip xs ys)
 zip_at [] ys i x y p q = cc
 zip_at (a ∷ xs) [] i x y p q = cc
 zip_at (a ∷ xs) (b ∷ ys) zero x y p q = ap (λ w. (w, b) ∷ zip xs ys) (some_parts p) ∙ ap (λ w. (x, w) ∷ zip xs ys) (some_parts q)
 zip_at (a ∷ xs) (b ∷ ys) (suc i) x y p q = zip_at xs ys i x y p q
 
-zip_past : {X Y : Type 0} (xs : List X) (ys : List Y) (i : ℕ) → length xs ≤ i → drop i (zip xs ys) ≡ []
+pub zip_past : {X Y : Type 0} (xs : List X) (ys : List Y) (i : ℕ) → length xs ≤ i → drop i (zip xs ys) ≡ []
 zip_past [] ys i l = drop_nil i
 zip_past (a ∷ xs) [] i l = drop_nil i
 zip_past (a ∷ xs) (b ∷ ys) zero l = absurd (omega arith)

@@ -1,6 +1,7 @@
 //! Readings: the flat list of events with their places, its notation and its content.
 #![tactic(auto)]
 
+pub mod content;
 pub mod document;
 pub mod escapes;
 pub mod event;
@@ -13,3 +14,6 @@ pub mod part;
 pub mod reading;
 pub mod row;
 pub mod slices;
+
+#[cfg(test)]
+mod tests;
