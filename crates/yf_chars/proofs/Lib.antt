@@ -1,2 +1,3 @@
 pub mod ChainLemmas
+pub mod EscapeLemmas
 pub mod TextLemmas

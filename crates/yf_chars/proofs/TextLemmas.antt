@@ -80,7 +80,7 @@ unfolding code begins
 code-end t = rw (le-ltb (length t) (length t) (omega arith))
 
 -- where the offset begins no character, there is none
-code-nowhere : (t : List ℕ) (i : ℕ) → begins t i ≡ false → code t i ≡ no_char
+pub code-nowhere : (t : List ℕ) (i : ℕ) → begins t i ≡ false → code t i ≡ no_char
 unfolding code
 code-nowhere t i h = rw h
 
@@ -91,7 +91,7 @@ within_from_begins t i h = ltb-true i (length t) (and_parts (ltb i (length t)) (
 lead_from_tests : (b : ℕ) → (ltb b 128 || leb 192 b) ≡ true → 128 ≤ b → 192 ≤ b
 lead_from_tests b h l = leb-true 192 b (rw (le-ltb b 128 l) at h)
 
-boundary_from_begins : (t : List ℕ) (i : ℕ) → begins t i ≡ true → IsCharBoundary t i
+pub boundary_from_begins : (t : List ℕ) (i : ℕ) → begins t i ≡ true → IsCharBoundary t i
 unfolding begins
 boundary_from_begins t i h =
     let parts = and_parts (ltb i (length t)) (ltb (get_or t i 0) 128 || leb 192 (get_or t i 0)) h in

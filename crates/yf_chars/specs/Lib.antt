@@ -1,3 +1,4 @@
 pub mod Chain
 pub mod Class
+pub mod Escape
 pub mod Text

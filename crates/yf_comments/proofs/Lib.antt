@@ -1,3 +1,4 @@
+pub mod BlankLemmas
 pub mod LineEndLemmas
 pub mod RowLemmas
 pub mod SeparateLemmas

@@ -1,5 +1,5 @@
 -- A line's end with comment lines is a chain of rests of lines that hold a character, so the greedy one is the longest.
-use Rattle.std.proofs.Common.{◌≡◌, ℕ, ◌+◌, ◌<◌, ◌≤◌, Bool, true, false, ◌⊎◌, inl, inr, ⊎_elim, List, [], ◌∷◌, ◌++◌, length, refl, sym, ap, ◌∙◌, subst, arith}
+use Rattle.std.proofs.Common.{◌≡◌, ℕ, ◌+◌, ◌<◌, ◌≤◌, ◌⊎◌, ⊎_elim, List, [], ◌∷◌, ◌++◌, length, refl, sym, ap, ◌∙◌, subst, arith, append_assoc, append-nil}
 use Rattle.std.proofs.lemmas.Bool.{cases_lt}
 use Rattle.yf_chars.specs.Chain.{Chain, Functional, Stuck, Chosen}
 use Rattle.yf_chars.specs.Chain.Chain.{done, step}
@@ -7,11 +7,11 @@ use Rattle.yf_chars.proofs.ChainLemmas.{chain_more, chain_one, chain_forward, ch
 use Rattle.yf_lines.specs.Basic.{LineStart}
 use Rattle.yf_lines.specs.Basic.SeparateInLine.{at_start}
 use Rattle.yf_comments.specs.Comment.{CommentValue}
-use Rattle.yf_comments.specs.Comments.{LineRest, CommentLine, LineEnd, Row}
+use Rattle.yf_comments.specs.Comments.{LineRest, CommentLine, LineEnd, Row, Kept}
 use Rattle.yf_comments.specs.Comments.LineRest.{nothing, whites, comment}
 use Rattle.yf_comments.specs.Comments.CommentLine.{whites_line, comment_line}
 use Rattle.yf_comments.specs.Comments.LineEnd.{past_rest, from_start}
-use Rattle.yf_comments.proofs.RowLemmas.{end_next, rest_still, rest_at_end, row_functional}
+use Rattle.yf_comments.proofs.RowLemmas.{end_next, rest_still, rest_at_end, rest_moves, row_functional}
 
 module _ {t : List ℕ} where
   line_rest : {i j : ℕ} {x : List CommentValue} → CommentLine t i j x → LineRest t i j x
@@ -38,7 +38,7 @@ module _ {t : List ℕ} where
           rw f.1 c')
       (cases_lt i h)
 
-  lines_rows : {i j : ℕ} {x : List CommentValue} → Chain (CommentLine t) i j x → Chain (Row t) i j x
+  pub lines_rows : {i j : ℕ} {x : List CommentValue} → Chain (CommentLine t) i j x → Chain (Row t) i j x
   lines_rows done = done
   lines_rows (step s c) = rest_rows (line_rest s) (lines_rows c)
 
@@ -86,3 +86,31 @@ module _ {t : List ℕ} where
 
   pub line_end_stuck : {i : ℕ} → (LineStart t i → ⊥) → Stuck (LineRest t i) → Stuck (LineEnd t i)
   line_end_stuck n s = record { none = λ j x d. nowhere_to_end n s d }
+
+-- what a reader has kept, and how it goes on
+pub kept_none : (t : List ℕ) (i : ℕ) (a : List CommentValue) → Kept t i i a a
+kept_none t i a = record { more = []; rows = done; list = sym (append-nil a) }
+
+pub kept_more : {t : List ℕ} {i j k : ℕ} {a b c : List CommentValue} → Kept t i j a b → j < length t
+    → (x : List CommentValue) × LineRest t j k x × (c ≡ b ++ x) → Kept t i k a c
+kept_more {a = a} k l f = record {
+  more = k.more ++ f.0;
+  rows = chain_more k.rows (record { rest = f.1; later = rest_moves f.1 l });
+  list = f.2 ∙ ap (λ v. v ++ f.0) k.list ∙ append_assoc a k.more f.0;
+}
+
+pub next_starts : {t : List ℕ} {i j : ℕ} {x : List CommentValue} → LineRest t i j x → j < length t → LineStart t j
+next_starts {t} {j = j} r l = ⊎_elim (λ (s : LineStart t j). s) (λ (e : j ≡ length t). absurd (omega arith)) (rest_next r)
+
+rows_after : {t : List ℕ} {i j : ℕ} {x : List CommentValue} → LineStart t i ⊎ (i ≡ length t) → Chain (Row t) i j x → Chain (CommentLine t) i j x
+rows_after {t} {i} s c = ⊎_elim (λ (l : LineStart t i). rows_lines l c) (λ (e : i ≡ length t). lines_ended e c) s
+
+pub line_end_from : {t : List ℕ} {i h j : ℕ} {a b c : List CommentValue} → a ≡ [] → (x : List CommentValue) × LineRest t i h x × (b ≡ a ++ x)
+    → Kept t h j b c → Stuck (Row t j) → Chosen (LineEnd t i) j c
+line_end_from {t} {i} {h} {j} {a} {b} {c} n f k s =
+    let d : LineEnd t i j (f.0 ++ k.more) = past_rest f.1 (rows_after (rest_next f.1) k.rows) in
+    let e : f.0 ++ k.more ≡ c = sym (k.list ∙ ap (λ v. v ++ k.more) (f.2 ∙ ap (λ v. v ++ f.0) n)) in
+    subst (λ v. Chosen (LineEnd t i) j v) e (line_end_chosen d s)
+
+pub line_end_start : {t : List ℕ} {i : ℕ} {b : List CommentValue} → LineStart t i → Stuck (LineRest t i) → b ≡ [] → Chosen (LineEnd t i) i b
+line_end_start {t} {i} l s e = subst (λ v. Chosen (LineEnd t i) i v) (sym e) (line_end_chosen (from_start l done) (row_stuck s))

@@ -1,12 +1,12 @@
 -- The rest of a line: where it ends and what it means are unique, and comment lines are a chain of such rests.
-use Rattle.std.proofs.Common.{◌≡◌, ◌≢◌, ℕ, ◌+◌, ◌<◌, ◌≤◌, Bool, true, false, ◌⊎◌, inl, inr, ⊎_elim, List, [], ◌∷◌, ◌++◌, length, slice_range, refl, sym, ap, ◌∙◌, subst, arith, true≢false, append_assoc, append-nil}
+use Rattle.std.proofs.Common.{◌≡◌, ◌≢◌, ℕ, ◌+◌, ◌<◌, ◌≤◌, Bool, true, false, ◌⊎◌, inl, inr, ⊎_elim, List, [], ◌∷◌, ◌++◌, length, slice_range, refl, sym, ap, ◌∙◌, subst, arith, MatchBool}
 use Rattle.std.proofs.lemmas.Bool.{cases_lt}
-use Rattle.yf_chars.specs.Text.{code, next, no_char}
+use Rattle.yf_chars.specs.Text.{code, no_char, Reads}
 use Rattle.yf_chars.specs.Class.{is_white, is_nb_char, is_printable, is_between, is_break_char}
-use Rattle.yf_chars.specs.Chain.{Chain, Functional, Stuck, Chosen, One, Many}
+use Rattle.yf_chars.specs.Chain.{Chain, Functional, Stuck, Chosen, Nowhere, One, Many}
 use Rattle.yf_chars.specs.Chain.Chain.{done, step}
 use Rattle.yf_chars.proofs.TextLemmas.{code-end}
-use Rattle.yf_chars.proofs.ChainLemmas.{chain_append, chain_one, chain_more, chain_forward, chain_chosen, chain_meet, one_functional, one_stuck, many_chosen, many_unique}
+use Rattle.yf_chars.proofs.ChainLemmas.{chain_append, chain_one, chain_more, chain_forward, chain_chosen, chain_meet, one_functional, one_stuck, many_chosen, many_more, many_unique}
 use Rattle.yf_lines.specs.Basic.{Break, LineStart, SeparateInLine}
 use Rattle.yf_lines.specs.Basic.SeparateInLine.{by_whites, at_start}
 use Rattle.yf_lines.specs.Basic.LineStart.{after_break}
@@ -39,7 +39,7 @@ unfolding is_nb_char is_printable is_between is_break_char
 break_nb c (inl e) = ap is_nb_char e
 break_nb c (inr e) = ap is_nb_char e
 
-none_nb : (c : ℕ) → c ≡ no_char → is_nb_char c ≡ false
+pub none_nb : (c : ℕ) → c ≡ no_char → is_nb_char c ≡ false
 unfolding is_nb_char is_printable is_between is_break_char
 none_nb c e = ap is_nb_char e
 
@@ -200,3 +200,89 @@ module _ {t : List ℕ} where
   pub rest_tail : {i j k : ℕ} {w : List ℕ} {x : List CommentValue} → Many t is_white i j w → LineRest t i k x
       → (j ≤ k) × (j ≡ k → (x ≡ []) × (k ≡ length t))
   rest_tail m r = view_tail m (rest_view r)
+
+  -- where nothing is left of a line
+  view_hash : {i h k : ℕ} {w : List ℕ} {x : List CommentValue} → Many t is_white i h w → CommentText t h k x → is_nb_char (code t k) ≡ false
+      → Nowhere (BreakOrEnd t k) → {j : ℕ} {y : List CommentValue} → RestView t i j y → ⊥
+  view_hash {h = h} m c n none (bare_view {h = g} o e) =
+      let same = (many_unique t is_white m (hash_white (code t h) (text_hash c)) o (end_white e)).0 in
+      end_hash (ap (code t) (sym same) ∙ text_hash c) e
+  view_hash {h = h} {k = k} m c n none (comment_view {h = g} {k = l} {j = j} {x = y} o d e) =
+      let same = (many_unique t is_white m (hash_white (code t h) (text_hash c)) o (hash_white (code t g) (text_hash d))).0 in
+      let d' : CommentText t h l y = subst (λ v. CommentText t v l y) (sym same) d in
+      let both = text_unique c n d' (end_nb e) in
+      none.none j (subst (λ v. BreakOrEnd t v j) (sym both.0) e)
+
+  pub stuck_behind_comment : {i h k : ℕ} {x : List CommentValue} → SeparateInLine t i h → CommentText t h k x → is_nb_char (code t k) ≡ false
+      → Nowhere (BreakOrEnd t k) → Stuck (LineRest t i)
+  stuck_behind_comment s c n none = record { none = λ j y r. view_hash (separate_whites s).1 c n none (rest_view r) }
+
+  view_bare : {i h : ℕ} {w : List ℕ} → Many t is_white i h w → is_white (code t h) ≡ false → code t h ≢ 35
+      → Nowhere (BreakOrEnd t h) → {j : ℕ} {y : List CommentValue} → RestView t i j y → ⊥
+  view_bare {h = h} m s n none (bare_view {h = g} {j = j} o e) =
+      let same = (many_unique t is_white m s o (end_white e)).0 in
+      none.none j (subst (λ v. BreakOrEnd t v j) (sym same) e)
+  view_bare {h = h} m s n none (comment_view {h = g} o d e) =
+      let same = (many_unique t is_white m s o (hash_white (code t g) (text_hash d))).0 in
+      n (ap (code t) same ∙ text_hash d)
+
+  pub stuck_behind_whites : {i h : ℕ} → SeparateInLine t i h → is_white (code t h) ≡ false → code t h ≢ 35
+      → Nowhere (BreakOrEnd t h) → Stuck (LineRest t i)
+  stuck_behind_whites s w n none = record { none = λ j y r. view_bare (separate_whites s).1 w n none (rest_view r) }
+
+  -- neither whites nor the start of a line
+  pub no_separation : {i j : ℕ} → is_white (code t i) ≡ false → (LineStart t i → ⊥) → SeparateInLine t i j → ⊥
+  no_separation {i} {j} w n (by_whites {x = x} m l) =
+      let c = (many_chosen t is_white (done {i = i}) w).longest j x m in
+      absurd (omega arith)
+  no_separation w n (at_start s) = n s
+
+  rest_alone : {i j : ℕ} {x : List CommentValue} → ((h : ℕ) → SeparateInLine t i h → ⊥) → Nowhere (BreakOrEnd t i) → LineRest t i j x → ⊥
+  rest_alone {j = j} n none (nothing e) = none.none j e
+  rest_alone n none (whites {h = h} s e) = n h s
+  rest_alone n none (comment {h = h} s c e) = n h s
+
+  pub stuck_alone : {i : ℕ} → ((h : ℕ) → SeparateInLine t i h → ⊥) → Nowhere (BreakOrEnd t i) → Stuck (LineRest t i)
+  stuck_alone n none = record { none = λ j x r. rest_alone n none r }
+
+  pub separate_from : {i h : ℕ} {w : List ℕ} → Many t is_white i h w → LineStart t i → SeparateInLine t i h
+  separate_from {i} {h} m s =
+      let l = chain_forward (one_functional t is_white) m in
+      ⊎_elim (λ (a : i < h). by_whites m a)
+      (λ (a : h ≤ i). let e : i ≡ h = omega arith in subst (λ v. SeparateInLine t i v) e (at_start s))
+      (cases_lt i h)
+
+-- one more character of a run, as a reader takes it
+pub many_read : {t : List ℕ} {p : ℕ → Bool} {i j c k : ℕ} {x : List ℕ} → Many t p i j x → Reads t j c k → p c ≡ true → (y : List ℕ) × Many t p i k y
+many_read {t} {p} {i} {j} {c} {k} {x} m r e =
+    let more = many_more t p m (ap p r.char ∙ e) in
+    (x ++ code t j ∷ [], subst (λ v. Many t p i v (x ++ code t j ∷ [])) r.end more)
+
+pub noted_from : {t : List ℕ} {i : ℕ} (b : Bool) → MatchBool b (BlankBefore t i) (BlankBefore t i → ⊥) → Noted t i b
+noted_from true h = noted h
+noted_from false h = not_noted h
+
+pub text_from : {t : List ℕ} {i j : ℕ} (x : List ℕ) (b : Bool) → code t i ≡ 35 → (y : List ℕ) × Many t is_nb_char (i + 1) j y
+    → x ≡ slice_range t i j → MatchBool b (BlankBefore t i) (BlankBefore t i → ⊥)
+    → CommentText t i j (record { text = x; offset = i; blank_before = b } ∷ [])
+text_from {t} {i} {j} x b e m s h =
+    subst (λ v. CommentText t i j (record { text = v; offset = i; blank_before = b } ∷ [])) (sym s) (comment_text e m.1 (noted_from b h))
+
+module _ {t : List ℕ} where
+  end_moves : {i j : ℕ} → BreakOrEnd t i j → (i < j) ⊎ (i ≡ length t)
+  end_moves (by_break b) = inl (break_forward b)
+  end_moves (by_end e) = inr e
+
+  view_moves : {i j : ℕ} {x : List CommentValue} → RestView t i j x → i < length t → i < j
+  view_moves (bare_view m e) l =
+      let a = chain_forward (one_functional t is_white) m in
+      let b = break_or_end_forward e in
+      ⊎_elim (λ (h : _ < _). omega arith) (λ (h : _ ≡ length t). omega arith) (end_moves e)
+  view_moves (comment_view m c e) l =
+      let a = chain_forward (one_functional t is_white) m in
+      let b = break_or_end_forward e in
+      let d = text_later c in
+      omega arith
+
+  pub rest_moves : {i j : ℕ} {x : List CommentValue} → LineRest t i j x → i < length t → i < j
+  rest_moves r l = view_moves (rest_view r) l

@@ -1,5 +1,5 @@
 -- What a comment is to a contract: its bytes, its place and its note, and not where in memory its text lies.
-use Rattle.std.specs.Prelude.{ℕ, Bool, List}
+use Rattle.std.specs.Prelude.{ℕ, Bool, List, [], ◌∷◌, Option, Some, None}
 use Rattle.yf_comments.specs.declared.comment.Comment.{Comment}
 
 pub record CommentValue : Type 0 where
@@ -9,3 +9,8 @@ pub record CommentValue : Type 0 where
 
 abbrev pub comment_value : Comment → CommentValue
 comment_value c = record { text = c.text.now; offset = c.offset; blank_before = c.blank_before }
+
+-- the comments of a line, one at most
+abbrev pub row_comments : Option Comment → List CommentValue
+row_comments None = []
+row_comments (Some c) = comment_value c ∷ []

@@ -1,6 +1,6 @@
 -- Comments and separation (YAML 1.2.2, 6.6 and 6.7) as relations between byte offsets of a text t. What they mean is
 -- the list of their comments. n is an indentation, from -1; c is a context.
-use Rattle.std.specs.Prelude.{◌≡◌, ℕ, ◌+◌, ◌<◌, ℤ, Bool, true, false, ◌==◌, ◌||◌, List, [], ◌∷◌, ◌++◌, length, slice_range}
+use Rattle.std.specs.Prelude.{◌≡◌, ℕ, ◌+◌, ◌<◌, ◌≤◌, ℤ, Bool, true, false, ◌==◌, ◌||◌, List, [], ◌∷◌, ◌++◌, length, slice_range}
 use Rattle.yf_chars.specs.declared.context.Ctx.{Ctx}
 use Rattle.yf_chars.specs.Text.{code, next}
 use Rattle.yf_chars.specs.Class.{is_white, is_break_char, is_nb_char}
@@ -54,12 +54,28 @@ pub data LineEnd (t : List ℕ) : ℕ → ℕ → List CommentValue → Type 0 w
   past_rest : {i h j : ℕ} {x y : List CommentValue} → LineRest t i h x → Chain (CommentLine t) h j y → LineEnd t i j (x ++ y)
   from_start : {i j : ℕ} {x : List CommentValue} → LineStart t i → Chain (CommentLine t) i j x → LineEnd t i j x
 
--- s-separate(n,c)
+-- s-separate-lines(n)
+pub data SeparateLines (t : List ℕ) (n : ℤ) : ℕ → ℕ → List CommentValue → Type 0 where
+  in_line : {i j : ℕ} → SeparateInLine t i j → SeparateLines t n i j []
+  over_lines : {i h j : ℕ} {x : List CommentValue} → LineEnd t i h x → FlowPrefix t n h j → SeparateLines t n i j x
+
+-- s-separate(n,c): in keys it passes no line
 pub data Separate (t : List ℕ) (n : ℤ) (c : Ctx) : ℕ → ℕ → List CommentValue → Type 0 where
-  in_line : {i j : ℕ} → SeparateInLine t i j → Separate t n c i j []
-  over_lines : {i h j : ℕ} {x : List CommentValue} → is_key c ≡ false → LineEnd t i h x → FlowPrefix t n h j → Separate t n c i j x
+  in_key : {i j : ℕ} → is_key c ≡ true → SeparateInLine t i j → Separate t n c i j []
+  in_node : {i j : ℕ} {x : List CommentValue} → is_key c ≡ false → SeparateLines t n i j x → Separate t n c i j x
 
 -- a line's rest that holds a character: one step of a reader
 pub record Row (t : List ℕ) (i j : ℕ) (x : List CommentValue) : Type 0 where
   pub rest : LineRest t i j x
   pub later : i < j
+
+-- what a reader has kept: rows from i to j, whose comments stand in the list b behind those of a
+pub record Kept (t : List ℕ) (i j : ℕ) (a b : List CommentValue) : Type 0 where
+  pub more : List CommentValue
+  pub rows : Chain (Row t) i j more
+  pub list : b ≡ a ++ more
+
+-- s-separate-lines(n) from i where the prefix of the last line begins at p or before it
+pub data Upto (t : List ℕ) (n : ℤ) (i p : ℕ) : ℕ → List CommentValue → Type 0 where
+  upto_line : {j : ℕ} → SeparateInLine t i j → Upto t n i p j []
+  upto_lines : {h j : ℕ} {y : List CommentValue} → LineEnd t i h y → h ≤ p → FlowPrefix t n h j → Upto t n i p j y

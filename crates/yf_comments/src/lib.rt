@@ -1,4 +1,8 @@
-//! Comments (YAML 1.2.2, section 6.6).
+//! Comments (YAML 1.2.2, section 6.6) and separation (section 6.7).
 #![tactic(auto)]
 
+pub mod blank;
 pub mod comment;
+pub mod comments;
+pub mod lines;
+pub mod separation;

@@ -3,4 +3,5 @@ pub mod Event
 pub mod Nested
 pub mod Nesting
 pub mod Notation
+pub mod Pieces
 pub mod Reading

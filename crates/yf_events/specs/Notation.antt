@@ -1,7 +1,7 @@
 -- The notation of events as bytes: one line for each event, as the YAML test suite writes them. Backslash, line feed,
 -- tab, carriage return and backspace are escaped in texts and tags, and so is every other character below x20.
-use Rattle.std.specs.Prelude.{ℕ, ◌+◌, ◌/◌, ◌%◌, Bool, true, false, List, [], ◌∷◌, ◌++◌, Option, Some, None, ◌==◌, nat_lt, if◌then◌else◌, codes}
-use Rattle.std.specs.List.{flat_map, zip}
+use Rattle.std.specs.Prelude.{ℕ, ◌+◌, ◌/◌, ◌%◌, Bool, true, false, List, [], ◌∷◌, ◌++◌, Option, Some, None, ◌==◌, ◌||◌, nat_lt, if◌then◌else◌, codes}
+use Rattle.std.specs.List.{concat, flat_map, zip}
 use Rattle.yf_events.specs.Event.{EventValue, stream_starts, stream_ends, document_starts, document_ends, sequence_starts, sequence_ends, mapping_starts, mapping_ends, scalar_node, alias_node}
 use Rattle.yf_events.specs.Reading.{events_of}
 use Rattle.yf_events.specs.declared.event.ScalarStyle.{ScalarStyle}
@@ -22,20 +22,24 @@ escaped_byte c =
     if c == 8 then codes "\\b" else
     if nat_lt c 32 then 92 ∷ 120 ∷ hex_digit (c / 16) ∷ hex_digit (c % 16) ∷ [] else c ∷ []
 
+-- whether a byte is escaped
+unfoldable pub is_escaped : ℕ → Bool
+is_escaped c = (c == 92) || nat_lt c 32
+
 unfoldable pub escaped : List ℕ → List ℕ
 escaped text = flat_map escaped_byte text
 
 -- a space, `&` and the anchor
-unfoldable pub anchor_part : Option (List ℕ) → List ℕ
+abbrev pub anchor_part : Option (List ℕ) → List ℕ
 anchor_part None = []
 anchor_part (Some name) = codes " &" ++ name
 
 -- a space and the resolved tag between `<` and `>`
-unfoldable pub tag_part : Option (List ℕ) → List ℕ
+abbrev pub tag_part : Option (List ℕ) → List ℕ
 tag_part None = []
-tag_part (Some tag) = codes " <" ++ escaped tag ++ codes ">"
+tag_part (Some tag) = codes " <" ++ (escaped tag ++ codes ">")
 
-unfoldable pub style_sign : ScalarStyle → List ℕ
+abbrev pub style_sign : ScalarStyle → List ℕ
 style_sign Plain = codes ":"
 style_sign Single = codes "'"
 style_sign Double = codes "\""
@@ -43,7 +47,7 @@ style_sign Literal = codes "|"
 style_sign Folded = codes ">"
 
 -- a part that stands there only if the test holds
-unfoldable pub part_if : Bool → List ℕ → List ℕ
+abbrev pub part_if : Bool → List ℕ → List ℕ
 part_if true part = part
 part_if false part = []
 
@@ -51,17 +55,17 @@ part_if false part = []
 unfoldable pub event_line : EventValue → Option (List ℕ) → List ℕ
 event_line stream_starts tag = codes "+STR\n"
 event_line stream_ends tag = codes "-STR\n"
-event_line (document_starts marked) tag = codes "+DOC" ++ part_if marked (codes " ---") ++ codes "\n"
-event_line (document_ends marked) tag = codes "-DOC" ++ part_if marked (codes " ...") ++ codes "\n"
+event_line (document_starts marked) tag = concat (codes "+DOC" ∷ part_if marked (codes " ---") ∷ codes "\n" ∷ [])
+event_line (document_ends marked) tag = concat (codes "-DOC" ∷ part_if marked (codes " ...") ∷ codes "\n" ∷ [])
 event_line (sequence_starts flow props) tag =
-    codes "+SEQ" ++ part_if flow (codes " []") ++ anchor_part props.anchor ++ tag_part tag ++ codes "\n"
+    concat (codes "+SEQ" ∷ part_if flow (codes " []") ∷ anchor_part props.anchor ∷ tag_part tag ∷ codes "\n" ∷ [])
 event_line sequence_ends tag = codes "-SEQ\n"
 event_line (mapping_starts flow props) tag =
-    codes "+MAP" ++ part_if flow (codes " {}") ++ anchor_part props.anchor ++ tag_part tag ++ codes "\n"
+    concat (codes "+MAP" ∷ part_if flow (codes " {}") ∷ anchor_part props.anchor ∷ tag_part tag ∷ codes "\n" ∷ [])
 event_line mapping_ends tag = codes "-MAP\n"
 event_line (scalar_node props style text) tag =
-    codes "=VAL" ++ anchor_part props.anchor ++ tag_part tag ++ codes " " ++ style_sign style ++ escaped text ++ codes "\n"
-event_line (alias_node name) tag = codes "=ALI *" ++ name ++ codes "\n"
+    concat (codes "=VAL" ∷ anchor_part props.anchor ∷ tag_part tag ∷ codes " " ∷ style_sign style ∷ escaped text ∷ codes "\n" ∷ [])
+event_line (alias_node name) tag = concat (codes "=ALI *" ∷ name ∷ codes "\n" ∷ [])
 
 -- events, each with its resolved tag
 unfoldable pub notation : List (EventValue × Option (List ℕ)) → List ℕ

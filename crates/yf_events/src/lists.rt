@@ -1,8 +1,12 @@
 //! The lists that a reading is made of.
+ghost use Rattle.std.specs.Prelude.{◌≡◌, [], ◌∷◌, ◌++◌, IfOk};
 
 use crate::document::Doc;
+use crate::event::PlacedEvent;
 use crate::events::{Comments, Events};
 use crate::row::Row;
+use std::alloc::{AllocError, Global};
+use yf_comments::comment::Comment;
 use yf_lines::text::OwnedText;
 
 /// What was read of a stream, in order of the text.
@@ -19,4 +23,43 @@ pub struct Lists<'a> {
     pub documents: Row<Doc<'a>>,
     /// The byte offsets of the escapes that are no character.
     pub escapes: Row<usize>,
+}
+
+impl<'a> Lists<'a> {
+    ghost use Rattle.yf_comments.specs.Comment.{comment_value};
+    ghost use Rattle.yf_events.specs.Event.{placed_value};
+    ghost use Rattle.yf_events.specs.Reading.{Fits};
+
+    /// Empty lists.
+    pub fn new(alloc: Global) -> Lists<'a>
+        ensures { result ≡ record { events = []; resolved = []; comments = []; on_leaf_line = []; documents = []; escapes = [] } }
+    {
+        Lists {
+            events: Events::new(alloc),
+            resolved: Row::new(alloc),
+            comments: Comments::new(alloc),
+            on_leaf_line: Row::new(alloc),
+            documents: Row::new(alloc),
+            escapes: Row::new(alloc),
+        }
+    }
+
+    /// Adds an event at the end, with the resolved tag of the node that it begins. After a refused growth the event
+    /// may stand there without its tag.
+    pub fn push_event(&mut self, event: PlacedEvent<'a>, tag: Option<OwnedText>) -> Result<(), AllocError>
+        ensures added { IfOk result (λ _. self.new ≡ record self.old { events = self.old.events ++ placed_value event.entry ∷ []; resolved = self.old.resolved ++ tag ∷ [] }) }
+        ensures fit { Fits self.old → IfOk result (λ _. Fits self.new) }
+    {
+        self.events.push(event)?;
+        self.resolved.push(tag)
+    }
+
+    /// Adds a comment at the end, with its note. After a refused growth the comment may stand there without its note.
+    pub fn push_comment(&mut self, comment: Comment<'a>, on_leaf_line: bool) -> Result<(), AllocError>
+        ensures added { IfOk result (λ _. self.new ≡ record self.old { comments = self.old.comments ++ comment_value comment.entry ∷ []; on_leaf_line = self.old.on_leaf_line ++ on_leaf_line ∷ [] }) }
+        ensures fit { Fits self.old → IfOk result (λ _. Fits self.new) }
+    {
+        self.comments.push(comment)?;
+        self.on_leaf_line.push(on_leaf_line)
+    }
 }

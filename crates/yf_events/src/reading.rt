@@ -1,6 +1,5 @@
 //! Readings.
 ghost use Rattle.std.specs.Prelude.{◌≡◌, ◌<◌, count_by, length, map, nat_lt, slice_get, IfOk, MatchOption, MatchResult};
-ghost use Rattle.std.specs.Option.{option_map};
 
 use crate::document::Doc;
 use crate::event::{Entry, Event, Span};
@@ -39,6 +38,7 @@ impl<'a> Model for Reading<'a> {
 impl<'a> Reading<'a> {
     ghost use Rattle.yf_comments.specs.Comment.{comment_value};
     ghost use Rattle.yf_events.specs.Event.{event_value};
+    ghost use Rattle.yf_props.specs.Props.{name_value};
     ghost use Rattle.yf_events.specs.Nested.{IsStream};
     ghost use Rattle.yf_events.specs.Reading.{Fits, documents_before, leaves_before, entries_of, events_of, folded_of, spans_of, place_at};
 
@@ -108,7 +108,7 @@ impl<'a> Reading<'a> {
     /// The resolved tag of the node that the event begins, where one is written.
     pub fn resolved(&self, i: usize) -> Option<&str>
         requires { i < length self.now.events }
-        ensures { slice_get self.now.resolved i ≡ Some (option_map (λ tag. tag.now) result) }
+        ensures { slice_get self.now.resolved i ≡ Some (name_value result) }
     {
         match self.lists.resolved.at(i) {
             Some(tag) => Some(tag.as_str()),

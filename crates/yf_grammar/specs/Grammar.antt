@@ -1,17 +1,21 @@
 -- The nested productions as one inductive relation: `Derives t h p i j x` says that the production p derives the
 -- characters of the text t from i to j with the meaning x, and that h collections are open at once at most (a single
--- pair counts as a mapping). n is an indentation, from -1; c is a context. Flow nodes: YAML 1.2.2, chapter 7.
-use Rattle.std.specs.Prelude.{◌≡◌, ℕ, suc, max, ◌+◌, ◌-◌, ◌≤◌, ℤ, pos, Bool, true, false, List, [], ◌∷◌, ◌++◌, Option, Some, None, length, take, drop, encode_utf8_all}
+-- pair counts as a mapping). n is an indentation, from -1; c is a context; m is the column of the entries of a block
+-- collection. Flow nodes: YAML 1.2.2, chapter 7; block nodes: chapter 8.
+use Rattle.std.specs.Prelude.{◌≡◌, ℕ, suc, max, ◌+◌, ◌-◌, ◌≤◌, ℤ, pos, ◌+ℤ◌, ◌≤ℤ◌, Bool, true, false, List, [], ◌∷◌, ◌++◌, Option, Some, None, length, take, drop, encode_utf8_all}
 use Rattle.std.specs.Str.{chars}
 use Rattle.yf_chars.specs.declared.context.Ctx.{Ctx}
 use Rattle.yf_chars.specs.declared.context.Ctx.TheVariants.{BlockOut, BlockIn, FlowOut, FlowIn, BlockKey, FlowKey}
 use Rattle.yf_chars.specs.Text.{code}
-use Rattle.yf_chars.specs.Class.{is_plain_safe}
-use Rattle.yf_lines.specs.Basic.{is_block, SeparateInLine, Clear}
+use Rattle.yf_chars.specs.Class.{is_ns_char, is_plain_safe, is_white_or_end}
+use Rattle.yf_lines.specs.Basic.{is_block, SeparateInLine, Spaces}
 use Rattle.yf_comments.specs.Comment.{CommentValue}
-use Rattle.yf_comments.specs.Comments.{Separate}
+use Rattle.yf_comments.specs.Comments.{Separate, LineEnd}
 use Rattle.yf_events.specs.declared.event.ScalarStyle.TheVariants.{Plain, Single, Double}
-use Rattle.yf_grammar.specs.Leaves.{PlainText, SingleQuoted, DoubleQuoted, Alias, Properties, PropertiesValue}
+use Rattle.yf_plain.specs.Plain.{PlainText}
+use Rattle.yf_props.specs.Names.{Alias, Properties, PropertiesValue}
+use Rattle.yf_grammar.specs.BlockScalar.{BlockScalar}
+use Rattle.yf_grammar.specs.Leaves.{SingleQuoted, DoubleQuoted}
 use Rattle.yf_grammar.specs.Meaning.{Meaning, ◌⊕◌, behind, noting, scalar, alias_to, empty_node, collection, with_props, entering}
 
 -- where a flag stands for the kind of a collection, true is a sequence; where one stands for the kind of a node, true is
@@ -35,6 +39,16 @@ pub data Production : Type 0 where
   ValueOf : Bool → ℤ → Ctx → Production
   -- ns-s-implicit-yaml-key(c) or c-s-implicit-json-key(c)
   KeyOf : Bool → Ctx → Production
+  -- s-l+block-node(n,c)
+  BlockNode : ℤ → Ctx → Production
+  -- l+block-sequence and ns-l-compact-sequence, or l+block-mapping and ns-l-compact-mapping, from the first entry on;
+  -- one entry of them
+  BlockEntries : Bool → ℕ → Production
+  BlockEntry : Bool → ℕ → Production
+  -- s-l+block-indented(n,c), where n is a column
+  BlockIndented : ℕ → Ctx → Production
+  -- c-l-block-map-implicit-value: the `:` and the value
+  BlockValue : ℕ → Production
 
 -- in-flow(c)
 abbrev pub in_flow : Ctx → Ctx
@@ -81,6 +95,17 @@ MayBeColon false t i c = is_plain_safe (code t i) c ≡ false
 abbrev pub ValueSeparate : Bool → List ℕ → ℤ → Ctx → ℕ → ℕ → List CommentValue → Type 0
 ValueSeparate true = MaySeparate
 ValueSeparate false = Separate
+
+-- the least column of a block collection's entries in a node at n: a sequence may stand at its key's column
+abbrev pub least_column : Bool → ℤ → Ctx → ℤ
+least_column true n BlockOut = n
+least_column _ n _ = n +ℤ pos 1
+
+-- an explicit entry's `:` stands at the column m of the line that begins at j (s-indent, `:`, and white or the line's end)
+pub record ColonLine (t : List ℕ) (m j : ℕ) : Type 0 where
+  pub indent : Spaces t j m
+  pub colon : code t (j + m) ≡ 58
+  pub behind : is_white_or_end (code t (j + m + 1)) ≡ true
 
 pub data Derives (t : List ℕ) : ℕ → Production → ℕ → ℕ → Meaning → Type 0 where
   -- ns-flow-node(n,c)
@@ -176,3 +201,68 @@ pub data Derives (t : List ℕ) : ℕ → Production → ℕ → ℕ → Meaning
   -- ns-s-implicit-yaml-key(c) and c-s-implicit-json-key(c)
   a_key : {h i k j : ℕ} {json : Bool} {c : Ctx} {x : Meaning} → Derives t h (NodeOf json (pos 0) c) i k x
       → MaySeparateInLine t k j → characters_between t i j ≤ KEY_LIMIT → Derives t h (KeyOf json c) i j x
+
+  -- s-l+block-scalar(n,c)
+  a_block_scalar : {i k j : ℕ} {n : ℤ} {c : Ctx} {cs : List CommentValue} {x : Meaning} → is_block c ≡ true
+      → Separate t (n +ℤ pos 1) c i k cs → BlockScalar t n k j x → Derives t 0 (BlockNode n c) i j (behind cs x)
+  a_block_scalar_with : {i f g k j : ℕ} {n : ℤ} {c : Ctx} {cs ds : List CommentValue} {p : PropertiesValue} {x : Meaning}
+      → is_block c ≡ true → Separate t (n +ℤ pos 1) c i f cs → Properties t (n +ℤ pos 1) c f g p
+      → Separate t (n +ℤ pos 1) c g k ds → BlockScalar t n k j x
+      → Derives t 0 (BlockNode n c) i j (behind (cs ++ p.comments ++ ds) (with_props p.props p.tag_offset f g x))
+
+  -- s-l+block-collection(n,c)
+  a_block_collection : {h i k m j : ℕ} {sequence : Bool} {n : ℤ} {c : Ctx} {cs : List CommentValue} {x : Meaning}
+      → is_block c ≡ true → LineEnd t i k cs → Spaces t k m → least_column sequence n c ≤ℤ pos m
+      → Derives t h (BlockEntries sequence m) (k + m) j x
+      → Derives t (suc h) (BlockNode n c) i j (behind cs (collection sequence false (k + m) x.finish x))
+  a_block_collection_with : {h i f g k m j : ℕ} {sequence : Bool} {n : ℤ} {c : Ctx} {cs ds : List CommentValue} {p : PropertiesValue}
+      {x : Meaning} → is_block c ≡ true → Separate t (n +ℤ pos 1) c i f cs → Properties t (n +ℤ pos 1) c f g p → LineEnd t g k ds
+      → Spaces t k m → least_column sequence n c ≤ℤ pos m → Derives t h (BlockEntries sequence m) (k + m) j x
+      → Derives t (suc h) (BlockNode n c) i j
+          (behind (cs ++ p.comments ++ ds) (with_props p.props p.tag_offset f g (collection sequence false (k + m) x.finish x)))
+
+  -- s-l+flow-in-block(n)
+  flow_in_block : {h i k l j : ℕ} {n : ℤ} {c : Ctx} {cs ds : List CommentValue} {x : Meaning} → is_block c ≡ true
+      → Separate t (n +ℤ pos 1) FlowOut i k cs → Derives t h (FlowNode (n +ℤ pos 1) FlowOut) k l x → LineEnd t l j ds
+      → Derives t h (BlockNode n c) i j (behind cs (noting x ds))
+
+  -- the entries of a block collection, all at one column; the first begins at once
+  a_last_entry : {h m i j : ℕ} {sequence : Bool} {x : Meaning} → Derives t h (BlockEntry sequence m) i j x
+      → Derives t h (BlockEntries sequence m) i j x
+  an_entry_before : {h g m i k j : ℕ} {sequence : Bool} {x y : Meaning} → Derives t h (BlockEntry sequence m) i k x → Spaces t k m
+      → Derives t g (BlockEntries sequence m) (k + m) j y → Derives t (max h g) (BlockEntries sequence m) i j (x ⊕ y)
+
+  -- c-l-block-seq-entry(n)
+  a_dash_entry : {h m i j : ℕ} {x : Meaning} → code t i ≡ 45 → is_ns_char (code t (i + 1)) ≡ false
+      → Derives t h (BlockIndented m BlockIn) (i + 1) j x → Derives t h (BlockEntry true m) i j (entering i None x)
+
+  -- c-l-block-map-explicit-entry(n): white or the line's end follows `?` and `:`; the value is empty only where no such
+  -- `:` stands on the next line
+  an_explicit_entry_with : {h g m i k j : ℕ} {x y : Meaning} → code t i ≡ 63 → is_white_or_end (code t (i + 1)) ≡ true
+      → Derives t h (BlockIndented m BlockOut) (i + 1) k x → ColonLine t m k
+      → Derives t g (BlockIndented m BlockOut) (k + m + 1) j y
+      → Derives t (max h g) (BlockEntry false m) i j (entering i (Some (k + m)) x ⊕ y)
+  an_explicit_key_alone : {h m i j : ℕ} {x : Meaning} → code t i ≡ 63 → is_white_or_end (code t (i + 1)) ≡ true
+      → Derives t h (BlockIndented m BlockOut) (i + 1) j x → (ColonLine t m j → ⊥)
+      → Derives t h (BlockEntry false m) i j (entering i None x ⊕ empty_node x.finish)
+
+  -- ns-l-block-map-implicit-entry(n)
+  a_keyed_entry : {h g m i k j : ℕ} {json : Bool} {x y : Meaning} → Derives t h (KeyOf json BlockKey) i k x
+      → Derives t g (BlockValue m) k j y → Derives t (max h g) (BlockEntry false m) i j (entering i (Some k) x ⊕ y)
+  an_unkeyed_entry : {h m i j : ℕ} {x : Meaning} → Derives t h (BlockValue m) i j x
+      → Derives t h (BlockEntry false m) i j (entering i (Some i) (empty_node i) ⊕ x)
+
+  -- c-l-block-map-implicit-value(n)
+  a_block_value : {h m i j : ℕ} {x : Meaning} → code t i ≡ 58 → Derives t h (BlockNode (pos m) BlockOut) (i + 1) j x
+      → Derives t h (BlockValue m) i j x
+  an_empty_block_value : {m i j : ℕ} {cs : List CommentValue} → code t i ≡ 58 → LineEnd t (i + 1) j cs
+      → Derives t 0 (BlockValue m) i j (noting (empty_node (i + 1)) cs)
+
+  -- s-l+block-indented(n,c): a compact collection, a node, or nothing, behind an indicator
+  a_compact_collection : {h l m i j : ℕ} {sequence : Bool} {c : Ctx} {x : Meaning} → is_block c ≡ true → Spaces t i l
+      → Derives t h (BlockEntries sequence (m + 1 + l)) (i + l) j x
+      → Derives t (suc h) (BlockIndented m c) i j (collection sequence false (i + l) x.finish x)
+  an_indented_node : {h m i j : ℕ} {c : Ctx} {x : Meaning} → Derives t h (BlockNode (pos m) c) i j x
+      → Derives t h (BlockIndented m c) i j x
+  nothing_indented : {m i j : ℕ} {c : Ctx} {cs : List CommentValue} → is_block c ≡ true → LineEnd t i j cs
+      → Derives t 0 (BlockIndented m c) i j (noting (empty_node i) cs)

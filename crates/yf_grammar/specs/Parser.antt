@@ -10,7 +10,9 @@ use Rattle.yf_chars.specs.Chain.{Stuck, Chosen, Many}
 use Rattle.yf_comments.specs.Comment.{CommentValue}
 use Rattle.yf_comments.specs.Comments.{Separate}
 use Rattle.yf_events.specs.declared.event.ScalarStyle.TheVariants.{Plain as PlainStyle, Single as SingleStyle, Double as DoubleStyle}
-use Rattle.yf_grammar.specs.Leaves.{Plain, Single, Double, DoubleValue, Alias, Properties, PropertiesValue}
+use Rattle.yf_plain.specs.Plain.{Plain}
+use Rattle.yf_props.specs.Names.{Alias, Properties, PropertiesValue}
+use Rattle.yf_grammar.specs.Leaves.{Single, Double, DoubleValue}
 use Rattle.yf_grammar.specs.Grammar.{in_flow, opening, closing, characters_between, KEY_LIMIT, MayBeColon}
 use Rattle.yf_grammar.specs.Meaning.{Meaning, ◌⊕◌, behind, noting, scalar, alias_to, empty_node, collection, with_props, entering}
 

@@ -85,3 +85,33 @@ pub writes_refused : (old new : Option (List ℕ)) (before after : Bool) (text :
     → IsErrAnd outcome (λ e. e ≡ fault) → fault ≡ WriteFailed → Broke old new after text → Writes old new before after text outcome
 writes_refused old new before after text fault (Ok done) gives same p = absurd gives
 writes_refused old new before after text fault (Err e) gives same p = (gives ∙ same, p)
+
+-- ---- one text written, and then another
+
+pub broke_first : (old new : Option (List ℕ)) (after : Bool) (text more : List ℕ) → Broke old new after text → Broke old new after (text ++ more)
+broke_first old new after text more p = record {
+  failed = p.failed;
+  front = p.front;
+  rest = p.rest ++ more;
+  split = ap (λ l. l ++ more) p.split ∙ append_assoc p.front p.rest more;
+  appended = p.appended
+}
+
+pub broke_second : (old mid new : Option (List ℕ)) (before between after : Bool) (text more : List ℕ)
+    → Wrote old mid before between text → Broke mid new after more → Broke old new after (text ++ more)
+broke_second old mid new before between after text more p q = record {
+  failed = q.failed;
+  front = text ++ q.front;
+  rest = q.rest;
+  split = ap (λ l. text ++ l) q.split ∙ sym (append_assoc text q.front q.rest);
+  appended = Appends-trans old mid new text q.front p.appended q.appended
+}
+
+pub writes_second : (old mid new : Option (List ℕ)) (before between after : Bool) (text more : List ℕ) (outcome : Result Unit Fault)
+    → Wrote old mid before between text → Writes mid new between after more outcome → Writes old new before after (text ++ more) outcome
+writes_second old mid new before between after text more (Ok done) p q = record {
+  appended = Appends-trans old mid new text more p.appended q.appended;
+  same = q.same ∙ p.same
+}
+writes_second old mid new before between after text more (Err e) p q =
+    (q.0, broke_second old mid new before between after text more p q.1)

@@ -93,8 +93,8 @@ pub fn mark_stands(s: &str, at: usize) -> bool
     bytes[at + 2] == 0xBF
 }
 
-// Whether a byte order mark ends at the offset.
-fn mark_ends(s: &str, at: usize) -> bool
+/// Whether a byte order mark ends at the offset.
+pub fn mark_ends(s: &str, at: usize) -> bool
     ensures { MatchBool result ((3 ≤ at) × (code s.now (at - 3) ≡ 0xFEFF)) (3 ≤ at → code s.now (at - 3) ≢ 0xFEFF) }
 {
     if at < 3 {

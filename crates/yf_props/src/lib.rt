@@ -1,4 +1,6 @@
-//! Node properties: anchors and tags (YAML 1.2.2, section 6.9).
+//! Node properties: anchors and tags (YAML 1.2.2, section 6.9), aliases (7.1) and tag handles (6.8.2).
 #![tactic(auto)]
 
+pub mod alias;
+pub mod handles;
 pub mod props;

@@ -1,0 +1,41 @@
+-- The header of a block scalar (YAML 1.2.2, section 8.1.1) as relations between byte offsets of a text t.
+use Rattle.std.specs.Prelude.{◌≡◌, ℕ, ◌+◌, ◌-◌, Bool, true, false, List, [], Option, Some, None}
+use Rattle.yf_chars.specs.Text.{code}
+use Rattle.yf_chars.specs.Class.{is_between}
+use Rattle.yf_comments.specs.Comment.{CommentValue}
+use Rattle.yf_comments.specs.Comments.{LineRest}
+use Rattle.yf_block_scalar.specs.declared.header.Header.{Header}
+use Rattle.yf_block_scalar.specs.declared.header.Chomp.{Chomp}
+use Rattle.yf_block_scalar.specs.declared.header.Chomp.TheVariants.{Strip, Clip, Keep}
+
+-- c-literal or c-folded; the flag says whether it is folded
+pub data Style (t : List ℕ) : ℕ → ℕ → Bool → Type 0 where
+  literal_sign : {i : ℕ} → code t i ≡ 124 → Style t i (i + 1) false
+  folded_sign : {i : ℕ} → code t i ≡ 62 → Style t i (i + 1) true
+
+-- c-indentation-indicator, a digit from 1 to 9, or none
+pub data Digit (t : List ℕ) : ℕ → ℕ → Option ℕ → Type 0 where
+  no_digit : {i : ℕ} → Digit t i i None
+  one_digit : {i : ℕ} → is_between 49 57 (code t i) ≡ true → Digit t i (i + 1) (Some (code t i - 48))
+
+-- c-chomping-indicator
+pub data Sign (t : List ℕ) : ℕ → ℕ → Chomp → Type 0 where
+  no_sign : {i : ℕ} → Sign t i i Clip
+  strip_sign : {i : ℕ} → code t i ≡ 45 → Sign t i (i + 1) Strip
+  keep_sign : {i : ℕ} → code t i ≡ 43 → Sign t i (i + 1) Keep
+
+-- both in either order
+pub data Indicators (t : List ℕ) : ℕ → ℕ → Option ℕ → Chomp → Type 0 where
+  digit_first : {i h j : ℕ} {d : Option ℕ} {c : Chomp} → Digit t i h d → Sign t h j c → Indicators t i j d c
+  sign_first : {i h j : ℕ} {d : Option ℕ} {c : Chomp} → Sign t i h c → Digit t h j d → Indicators t i j d c
+
+-- what a header means, and the comments behind it: one or none
+pub record HeaderValue : Type 0 where
+  pub header : Header
+  pub comments : List CommentValue
+
+-- c-b-block-header with the style before it
+pub data BlockHeader (t : List ℕ) : ℕ → ℕ → HeaderValue → Type 0 where
+  block_header : {i h k j : ℕ} {f : Bool} {d : Option ℕ} {c : Chomp} {x : List CommentValue} → Style t i h f
+      → Indicators t h k d c → LineRest t k j x
+      → BlockHeader t i j (record { header = record { folded = f; digit = d; chomp = c }; comments = x })

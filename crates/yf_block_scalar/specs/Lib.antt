@@ -1,0 +1,4 @@
+pub mod Body
+pub mod Content
+pub mod Header
+pub mod Indentation

@@ -1,0 +1,22 @@
+//! The header of a block scalar (YAML 1.2.2, section 8.1.1).
+
+/// What becomes of the line breaks behind the last content line (section 8.1.1.2, the chomping indicator).
+#[derive(Clone, Copy, Debug, PartialEq, Eq)]
+pub enum Chomp {
+    /// `-`: none of them is content.
+    Strip,
+    /// No sign: the last content line's break is content.
+    Clip,
+    /// `+`: that break and the empty lines behind it are content.
+    Keep,
+}
+
+/// The header of a block scalar (c-b-block-header, production 162).
+#[derive(Clone, Copy, Debug, PartialEq, Eq)]
+pub struct Header {
+    /// `>`, else `|`.
+    pub folded: bool,
+    /// The indentation indicator, 1 to 9.
+    pub digit: Option<u8>,
+    pub chomp: Chomp,
+}

@@ -1,0 +1,97 @@
+//! The indentation of a block scalar's content (YAML 1.2.2, section 8.1.1.1).
+ghost use Rattle.std.specs.Prelude.{◌≡◌, ◌^◌, ◌≤ℤ◌, pos, ℕ, max, MatchBool};
+ghost use Rattle.std.specs.Str.{IsCharBoundary};
+ghost use Rattle.yf_block_scalar.specs.Body.{base, least, SpaceLine, MarkerLine};
+ghost use Rattle.yf_block_scalar.specs.Indentation.{Finds, Judges};
+
+use crate::rows::space_line;
+use yf_lines::basic::{mark_stands, marker_stands, skip_spaces};
+
+// What is known of the content's indentation where the header does not give it.
+#[derive(Drop)]
+pub(crate) enum Indentation {
+    // The content is indented by so many spaces.
+    Found(usize),
+    // There is no content: so many lines of spaces alone end at the offset.
+    Missing(usize, usize),
+    // A line of spaces alone before the content has more spaces than the content.
+    TooLong,
+}
+
+// max(n, 0), from where an indentation indicator counts.
+pub(crate) fn base_of(n: i32) -> usize
+    requires { n ≤ℤ pos (2 ^ 30) }
+    ensures { result ≡ base n }
+{
+    if n < 0 { 0 } else { n as usize }
+}
+
+// n + 1, the fewest spaces of an indentation that is detected.
+pub(crate) fn least_of(n: i32) -> usize
+    requires { n ≤ℤ pos (2 ^ 30) }
+    ensures { result ≡ least n }
+{
+    if n < 0 { 0 } else { n as usize + 1 }
+}
+
+// Whether a document marker begins the line, byte order marks before it not counted.
+fn marker_line(s: &str, at: usize) -> bool
+    ensures { MatchBool result (MarkerLine s.now at) (MarkerLine s.now at → ⊥) }
+{
+    let mut place = at;
+    while mark_stands(s, place) {
+        place += 3;
+    }
+    marker_stands(s, place)
+}
+
+fn longer(first: usize, second: usize) -> usize
+    ensures { result ≡ max first second }
+{
+    if first < second { second } else { first }
+}
+
+// Finds the indentation of the content whose lines begin at the offset.
+pub(crate) fn find_indentation(s: &str, at: usize, n: i32) -> Indentation
+    requires boundary { IsCharBoundary s.now at }
+    requires small { n ≤ℤ pos (2 ^ 30) }
+    ensures { Finds s.now n at result }
+{
+    let mut place = at;
+    let mut count = 0;
+    let mut longest = 0;
+    'lines: loop {
+        match space_line(s, place) {
+            Some(part) => {
+                longest = longer(longest, part.width);
+                count += 1;
+                place = part.next;
+            }
+            None => return judge_line(s, place, n, count, longest),
+        }
+    }
+}
+
+// Judges the first line that is not of spaces alone, before which so many such lines stand, the longest of that width.
+fn judge_line(s: &str, at: usize, n: i32, count: usize, longest: usize) -> Indentation
+    requires boundary { IsCharBoundary s.now at }
+    requires small { n ≤ℤ pos (2 ^ 30) }
+    requires other { (m j : ℕ) → SpaceLine s.now at m j → ⊥ }
+    ensures { Judges s.now n at count longest result }
+{
+    let first = skip_spaces(s, at);
+    if first == s.len() {
+        return Indentation::Missing(count, at);
+    }
+    if marker_line(s, at) {
+        return Indentation::Missing(count, at);
+    }
+    let width = first - at;
+    if width < least_of(n) {
+        return Indentation::Missing(count, at);
+    }
+    if width < longest {
+        return Indentation::TooLong;
+    }
+    Indentation::Found(width)
+}

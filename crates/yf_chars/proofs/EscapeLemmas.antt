@@ -1,0 +1,168 @@
+-- Laws of escapes: from a place there is one escape at most.
+use Rattle.std.proofs.Common.{◌≡◌, ℕ, ◌+◌, ◌-◌, ◌*◌, ◌^◌, ◌<◌, ◌≤◌, true, false, true≢false, Some, None, refl, sym, ap, ◌∙◌, subst, ⊎_elim, arith, add-one, leb, List}
+use native.Mathlib.Numerals.{unary_clauses}
+use Rattle.std.proofs.Math.Nat.{pow-le-pow_right}
+use Rattle.std.proofs.lemmas.Bool.{cases_lt, and_parts, leb-true}
+use Rattle.std.proofs.lemmas.Bool.Decides.{nat_tests}
+use Rattle.std.specs.Char.{digit_value}
+use Rattle.yf_chars.specs.Text.{code}
+use Rattle.yf_chars.specs.Chain.{Stuck, Chosen}
+use Rattle.yf_chars.specs.Class.{is_between}
+use Rattle.yf_chars.specs.Escape.{named, number, Digits, Numbered, is_high, is_low, joined, NoLow, Escape}
+use Rattle.yf_chars.specs.Escape.Escape.{by_letter, by_two, by_four, by_half, by_pair, by_eight}
+
+-- what has one end and one meaning is the longest
+pub chosen_only : {X : Type 0} {P : ℕ → X → Type 0} {j : ℕ} {x : X} → P j x → ((k : ℕ) (y : X) → P k y → (k ≡ j) × (y ≡ x)) → Chosen P j x
+chosen_only {j = j} d u = record {
+  derived = d;
+  longest = λ k y e. let same = u k y e in omega (arith, same.0);
+  only = λ y e. (u j y e).1;
+}
+
+-- digits
+pub no_digits : (t : List ℕ) (i : ℕ) → Digits t i 0 0
+unfolding number
+no_digits t i = record { each = λ m l. absurd (omega arith); value = refl }
+
+pub more_digits : {t : List ℕ} {i k v d : ℕ} → Digits t i k v → digit_value (code t (i + k)) ≡ d → d < 16 → Digits t i (k + 1) (v * 16 + d)
+unfolding number
+more_digits {t} {i} {k} {v} {d} s e l = record {
+  each = λ m h. ⊎_elim (λ (b : m < k). s.each m b)
+      (λ (b : k ≤ m). let same : k ≡ m = omega arith in subst (λ w. digit_value (code t (i + w)) < 16) same (rw e l)) (cases_lt m k);
+  value = rw add-one (rw (s.value, e) refl);
+}
+
+pub room_for_digit : (v k : ℕ) → v < 16 ^ k → k < 8 → v * 16 + 15 < 16 ^ 8
+room_for_digit v k l h =
+    let p : 16 ^ k ≤ 16 ^ 7 = pow-le-pow_right {n = 16} (omega arith) {i = k} {j = 7} (omega arith) in
+    omega arith
+
+pub digits_unique : {t : List ℕ} {i k v w : ℕ} → Digits t i k v → Digits t i k w → v ≡ w
+digits_unique a b = sym a.value ∙ b.value
+
+pub numbered_unique : {t : List ℕ} {i c k v w : ℕ} → Numbered t i c k v → Numbered t i c k w → v ≡ w
+numbered_unique a b = digits_unique a.digits b.digits
+
+-- the three letters that digits follow name nothing themselves
+pub unnamed_x : named 120 ≡ None
+unfolding named
+unnamed_x = refl
+
+pub unnamed_u : named 117 ≡ None
+unfolding named
+unnamed_u = refl
+
+pub unnamed_U : named 85 ≡ None
+unfolding named
+unnamed_U = refl
+
+pub named_below : (c v : ℕ) → named c ≡ Some v → c < 128
+unfolding named
+named_below c v e = grind (arith, nat_tests)
+
+pub digit_below : (c : ℕ) → digit_value c < 16 → c < 128
+digit_below c l = grind (arith, nat_tests)
+
+pub power_more : (k : ℕ) → 16 ^ (k + 1) ≡ 16 ^ k * 16
+power_more k = rw add-one (simp unary_clauses)
+
+pub unnamed_end : named 0x110000 ≡ None
+unfolding named
+unnamed_end = refl
+
+pub high_bounds : (v : ℕ) → is_high v ≡ true → (0xD800 ≤ v) × (v ≤ 0xDBFF)
+unfolding is_high is_between
+high_bounds v e = let parts = and_parts (leb 0xD800 v) (leb v 0xDBFF) e in (leb-true _ _ parts.0, leb-true _ _ parts.1)
+
+pub low_bounds : (v : ℕ) → is_low v ≡ true → (0xDC00 ≤ v) × (v ≤ 0xDFFF)
+unfolding is_low is_between
+low_bounds v e = let parts = and_parts (leb 0xDC00 v) (leb v 0xDFFF) e in (leb-true _ _ parts.0, leb-true _ _ parts.1)
+
+pub joined_is : (v w : ℕ) → joined v w ≡ 0x10000 + (v - 0xD800) * 0x400 + (w - 0xDC00)
+unfolding joined
+joined_is v w = refl
+
+pub no_low : {t : List ℕ} {i : ℕ} → ((v : ℕ) → Numbered t i 117 4 v → ⊥) → NoLow t i
+no_low n = record { none = λ v a l. n v a }
+
+pub not_low : {t : List ℕ} {i w : ℕ} → Numbered t i 117 4 w → is_low w ≡ false → NoLow t i
+not_low n e = record { none = λ v a l. true≢false (sym l ∙ ap is_low (numbered_unique a n) ∙ e) }
+
+pub no_name : {c v : ℕ} (d : ℕ) → named d ≡ None → c ≡ d → named c ≡ Some v → ⊥
+no_name {c} {v} d n e s = let s' : named d ≡ Some v = rw e at s in cc
+
+-- one escape at most
+pub chosen_letter : {t : List ℕ} {i v : ℕ} → code t i ≡ 92 → named (code t (i + 1)) ≡ Some v → Chosen (Escape t i) (i + 2) v
+chosen_letter {t} {i} {v} b e = chosen_only (by_letter b e) (λ k y d. only e d) where
+  only : {k y : ℕ} → named (code t (i + 1)) ≡ Some v → Escape t i k y → (k ≡ i + 2) × (y ≡ v)
+  only e (by_letter a f) = (refl, cc)
+  only e (by_two n) = absurd (no_name 120 unnamed_x n.letter e)
+  only e (by_four n h) = absurd (no_name 117 unnamed_u n.letter e)
+  only e (by_half n h l) = absurd (no_name 117 unnamed_u n.letter e)
+  only e (by_pair n h m l) = absurd (no_name 117 unnamed_u n.letter e)
+  only e (by_eight n) = absurd (no_name 85 unnamed_U n.letter e)
+
+pub chosen_two : {t : List ℕ} {i v : ℕ} → Numbered t i 120 2 v → Chosen (Escape t i) (i + 4) v
+chosen_two {t} {i} {v} n = chosen_only (by_two n) (λ k y d. only n d) where
+  only : {k y : ℕ} → Numbered t i 120 2 v → Escape t i k y → (k ≡ i + 4) × (y ≡ v)
+  only n (by_letter a f) = absurd (no_name 120 unnamed_x n.letter f)
+  only n (by_two m) = (refl, numbered_unique m n)
+  only n (by_four m h) = let a = n.letter in let b = m.letter in absurd (omega arith)
+  only n (by_half m h l) = let a = n.letter in let b = m.letter in absurd (omega arith)
+  only n (by_pair m h o l) = let a = n.letter in let b = m.letter in absurd (omega arith)
+  only n (by_eight m) = let a = n.letter in let b = m.letter in absurd (omega arith)
+
+pub chosen_eight : {t : List ℕ} {i v : ℕ} → Numbered t i 85 8 v → Chosen (Escape t i) (i + 10) v
+chosen_eight {t} {i} {v} n = chosen_only (by_eight n) (λ k y d. only n d) where
+  only : {k y : ℕ} → Numbered t i 85 8 v → Escape t i k y → (k ≡ i + 10) × (y ≡ v)
+  only n (by_letter a f) = absurd (no_name 85 unnamed_U n.letter f)
+  only n (by_two m) = let a = n.letter in let b = m.letter in absurd (omega arith)
+  only n (by_four m h) = let a = n.letter in let b = m.letter in absurd (omega arith)
+  only n (by_half m h l) = let a = n.letter in let b = m.letter in absurd (omega arith)
+  only n (by_pair m h o l) = let a = n.letter in let b = m.letter in absurd (omega arith)
+  only n (by_eight m) = (refl, numbered_unique m n)
+
+pub chosen_four : {t : List ℕ} {i v : ℕ} → Numbered t i 117 4 v → is_high v ≡ false → Chosen (Escape t i) (i + 6) v
+chosen_four {t} {i} {v} n h = chosen_only (by_four n h) (λ k y d. only n h d) where
+  only : {k y : ℕ} → Numbered t i 117 4 v → is_high v ≡ false → Escape t i k y → (k ≡ i + 6) × (y ≡ v)
+  only n h (by_letter a f) = absurd (no_name 117 unnamed_u n.letter f)
+  only n h (by_two m) = let a = n.letter in let b = m.letter in absurd (omega arith)
+  only n h (by_four m g) = (refl, numbered_unique m n)
+  only n h (by_half m g l) = (refl, numbered_unique m n)
+  only n h (by_pair m g o l) = absurd (true≢false (sym g ∙ ap is_high (numbered_unique m n) ∙ h))
+  only n h (by_eight m) = let a = n.letter in let b = m.letter in absurd (omega arith)
+
+pub chosen_half : {t : List ℕ} {i v : ℕ} → Numbered t i 117 4 v → is_high v ≡ true → NoLow t (i + 6) → Chosen (Escape t i) (i + 6) v
+chosen_half {t} {i} {v} n h o = chosen_only (by_half n h o) (λ k y d. only n o d) where
+  only : {k y : ℕ} → Numbered t i 117 4 v → NoLow t (i + 6) → Escape t i k y → (k ≡ i + 6) × (y ≡ v)
+  only n o (by_letter a f) = absurd (no_name 117 unnamed_u n.letter f)
+  only n o (by_two m) = let a = n.letter in let b = m.letter in absurd (omega arith)
+  only n o (by_four m g) = (refl, numbered_unique m n)
+  only n o (by_half m g l) = (refl, numbered_unique m n)
+  only n o (by_pair {w = w} m g p l) = absurd (o.none w p l)
+  only n o (by_eight m) = let a = n.letter in let b = m.letter in absurd (omega arith)
+
+pub chosen_pair : {t : List ℕ} {i v w : ℕ} → Numbered t i 117 4 v → is_high v ≡ true → Numbered t (i + 6) 117 4 w → is_low w ≡ true
+    → Chosen (Escape t i) (i + 12) (joined v w)
+chosen_pair {t} {i} {v} {w} n h o l = chosen_only (by_pair n h o l) (λ k y d. only n h o l d) where
+  only : {k y : ℕ} → Numbered t i 117 4 v → is_high v ≡ true → Numbered t (i + 6) 117 4 w → is_low w ≡ true → Escape t i k y
+      → (k ≡ i + 12) × (y ≡ joined v w)
+  only n h o l (by_letter a f) = absurd (no_name 117 unnamed_u n.letter f)
+  only n h o l (by_two m) = let a = n.letter in let b = m.letter in absurd (omega arith)
+  only n h o l (by_four m g) = absurd (true≢false (sym h ∙ ap is_high (numbered_unique n m) ∙ g))
+  only n h o l (by_half m g q) = absurd (q.none w o l)
+  only n h o l (by_pair m g p q) = (refl, (let a = numbered_unique m n in let b = numbered_unique p o in cc))
+  only n h o l (by_eight m) = let a = n.letter in let b = m.letter in absurd (omega arith)
+
+-- none at all
+pub no_escape : {t : List ℕ} {i : ℕ} → ((v : ℕ) → Numbered t i 117 4 v → ⊥) → ((v : ℕ) → Numbered t i 120 2 v → ⊥)
+    → ((v : ℕ) → Numbered t i 85 8 v → ⊥) → ((v : ℕ) → code t i ≡ 92 → named (code t (i + 1)) ≡ Some v → ⊥) → Stuck (Escape t i)
+no_escape {t} {i} u x e l = record { none = λ j v d. none u x e l d } where
+  none : {j v : ℕ} → ((v : ℕ) → Numbered t i 117 4 v → ⊥) → ((v : ℕ) → Numbered t i 120 2 v → ⊥)
+      → ((v : ℕ) → Numbered t i 85 8 v → ⊥) → ((v : ℕ) → code t i ≡ 92 → named (code t (i + 1)) ≡ Some v → ⊥) → Escape t i j v → ⊥
+  none u x e l (by_letter {v = v} b f) = l v b f
+  none u x e l (by_two {v = v} n) = x v n
+  none u x e l (by_four {v = v} n h) = u v n
+  none u x e l (by_half {v = v} n h q) = u v n
+  none u x e l (by_pair {v = v} n h o q) = u v n
+  none u x e l (by_eight {v = v} n) = e v n

@@ -1,0 +1,155 @@
+//! Escapes of double-quoted scalars (YAML 1.2.2, section 5.7), read and written.
+ghost use Rattle.std.specs.Prelude.{◌≡◌, ◌+◌, ◌<◌, ◌≤◌, ℕ, IfSome, OnSome, MatchOption, length};
+ghost use Rattle.std.specs.Str.{IsCharBoundary};
+ghost use Rattle.yf_chars.specs.Chain.{Stuck, Chosen};
+ghost use Rattle.yf_chars.specs.Escape as Escapes;
+
+use crate::text::{peek, stands};
+
+/// An escape that stands in a text: the number that it writes, and the byte offset behind it.
+///
+/// The number need not be a character: half of a pair and numbers above U+10FFFF are given as they are.
+#[derive(Clone, Copy, Debug, PartialEq, Eq)]
+pub struct Escape {
+    pub value: u32,
+    pub end: usize,
+}
+
+/// Reads the escape (c-ns-esc-char, production 62) that begins with the backslash at the byte offset.
+///
+/// `None` where no escape stands there. `\u` with a high surrogate and `\u` with a low one directly behind it are one
+/// escape, for the one character that the pair encodes in UTF-16.
+pub fn read_escape(s: &str, at: usize) -> Option<Escape>
+    ensures reads { MatchOption result (Stuck (Escapes.Escape s.now at)) (λ e. Chosen (Escapes.Escape s.now at) e.end e.value) }
+    ensures boundary { IfSome result (λ e. IsCharBoundary s.now e.end) }
+{
+    match numbered(s, at, b'u', 4) {
+        Some(value) => return Some(paired(s, at, value)),
+        None => {}
+    }
+    match numbered(s, at, b'x', 2) {
+        Some(value) => return Some(Escape { value, end: at + 4 }),
+        None => {}
+    }
+    match numbered(s, at, b'U', 8) {
+        Some(value) => return Some(Escape {
+            value,
+            end: at + 10,
+        }),
+        None => {}
+    }
+    if !stands(s, at, b'\\') {
+        return None;
+    }
+    match peek(s, at + 1) {
+        None => None,
+        Some((letter, end)) => match named(letter) {
+            None => None,
+            Some(value) => Some(Escape { value, end }),
+        },
+    }
+}
+
+// The escape that begins with that number by \u: with the low half of a pair that may stand behind it.
+fn paired(s: &str, at: usize, value: u32) -> Escape
+    requires number { Escapes.Numbered s.now at 117 4 value }
+    requires behind { IsCharBoundary s.now (at + 6) }
+    ensures reads { Chosen (Escapes.Escape s.now at) result.end result.value }
+    ensures boundary { IsCharBoundary s.now result.end }
+{
+    let alone = Escape { value, end: at + 6 };
+    if !is_high(value) {
+        return alone;
+    }
+    match numbered(s, at + 6, b'u', 4) {
+        None => alone,
+        Some(low) => {
+            if is_low(low) {
+                return Escape {
+                    value: 0x10000 + (value - 0xD800) * 0x400 + (low - 0xDC00),
+                    end: at + 12,
+                };
+            }
+            alone
+        }
+    }
+}
+
+// The first half of a pair.
+#[tactic(auto, unfolding(crate::specs::Escape::is_high, crate::specs::Class::is_between))]
+fn is_high(value: u32) -> bool
+    ensures { result ≡ Escapes.is_high value }
+{
+    matches!(value, 0xD800..=0xDBFF)
+}
+
+// The second half of a pair.
+#[tactic(auto, unfolding(crate::specs::Escape::is_low, crate::specs::Class::is_between))]
+fn is_low(value: u32) -> bool
+    ensures { result ≡ Escapes.is_low value }
+{
+    matches!(value, 0xDC00..=0xDFFF)
+}
+
+// What a single letter behind the backslash stands for.
+#[tactic(auto, unfolding(crate::specs::Escape::named))]
+fn named(letter: char) -> Option<u32>
+    ensures { result ≡ Escapes.named letter }
+{
+    match letter {
+        '0' => Some(0x00),
+        'a' => Some(0x07),
+        'b' => Some(0x08),
+        't' | '\t' => Some(0x09),
+        'n' => Some(0x0A),
+        'v' => Some(0x0B),
+        'f' => Some(0x0C),
+        'r' => Some(0x0D),
+        'e' => Some(0x1B),
+        ' ' => Some(0x20),
+        '"' => Some(0x22),
+        '/' => Some(0x2F),
+        '\\' => Some(0x5C),
+        'N' => Some(0x85),
+        '_' => Some(0xA0),
+        'L' => Some(0x2028),
+        'P' => Some(0x2029),
+        _ => None,
+    }
+}
+
+// The number of an escape by that letter, which so many hexadecimal digits follow.
+fn numbered(s: &str, at: usize, letter: u8, count: usize) -> Option<u32>
+    requires ascii { letter < 128 }
+    requires few { count ≤ 8 }
+    ensures reads { MatchOption result ((v : ℕ) → Escapes.Numbered s.now at letter count v → ⊥) (λ v. Escapes.Numbered s.now at letter count v) }
+    ensures end { OnSome result (IsCharBoundary s.now (at + 2 + count)) }
+{
+    if !stands(s, at, b'\\') {
+        return None;
+    }
+    if !stands(s, at + 1, letter) {
+        return None;
+    }
+    digits(s, at + 2, count)
+}
+
+// The number that so many hexadecimal digits write from the offset on.
+fn digits(s: &str, at: usize, count: usize) -> Option<u32>
+    requires boundary { IsCharBoundary s.now at }
+    requires few { count ≤ 8 }
+    ensures reads { MatchOption result ((v : ℕ) → Escapes.Digits s.now at count v → ⊥) (λ v. Escapes.Digits s.now at count v) }
+    ensures end { OnSome result (IsCharBoundary s.now (at + count)) }
+{
+    let mut value = 0;
+    for index in 0..count {
+        match peek(s, at + index) {
+            None => return None,
+            Some((c, _)) => match c.to_digit(16) {
+                None => return None,
+                Some(digit) => value = value * 16 + digit,
+            },
+        }
+    }
+    Some(value)
+}

@@ -1,0 +1,64 @@
+//! Whether a blank line stands before a place.
+ghost use Rattle.std.specs.Prelude.{◌≡◌, ◌≢◌, ◌-◌, ◌<◌, ◌≤◌, ℕ, MatchBool, MatchOption, length};
+ghost use Rattle.yf_chars.specs.Text.{code};
+ghost use Rattle.yf_lines.specs.Basic.{Break};
+ghost use Rattle.yf_comments.specs.Comments.{BlankBefore};
+
+use yf_chars::text::stands;
+use yf_lines::basic::{mark_ends, white_stands};
+
+// The offset of the break that ends at the offset.
+fn break_before(s: &str, at: usize) -> Option<usize>
+    ensures { MatchOption result ((i : ℕ) → Break s.now i at → ⊥) (λ i. Break s.now i at) }
+{
+    if at == 0 {
+        return None;
+    }
+    if stands(s, at - 1, b'\n') {
+        if stands(s, at.saturating_sub(2), b'\r') {
+            return Some(at - 2);
+        }
+        return Some(at - 1);
+    }
+    if stands(s, at - 1, b'\r') {
+        if stands(s, at, b'\n') {
+            return None;
+        }
+        return Some(at - 1);
+    }
+    None
+}
+
+/// Whether, going back from the offset over whites, line breaks and byte order marks, a line of whites alone is met.
+///
+/// The walk ends at the first other character, so walks from different comments do not overlap.
+pub fn is_blank_before(s: &str, at: usize) -> bool
+    requires { code s.now at ≡ 10 → code s.now (at - 1) ≢ 13 }
+    ensures { MatchBool result (BlankBefore s.now at) (BlankBefore s.now at → ⊥) }
+{
+    let mut place = at;
+    // whether whites alone stand between the place and a line break
+    let mut blank = false;
+    'back: while place > 0 {
+        if white_stands(s, place - 1) {
+            place -= 1;
+            continue;
+        }
+        if mark_ends(s, place) {
+            place -= 3;
+            blank = false;
+            continue;
+        }
+        match break_before(s, place) {
+            Some(start) => {
+                if blank {
+                    return true;
+                }
+                place = start;
+                blank = true;
+            }
+            None => return false,
+        }
+    }
+    blank
+}

@@ -1,0 +1,66 @@
+//! A list of comments.
+ghost use Rattle.std.specs.Prelude.{◌≡◌, [], ◌∷◌, ◌++◌, length, map, take, is_ok, if◌then◌else◌};
+ghost use Rattle.yf_comments.specs.Comment.{CommentValue, comment_value};
+
+use crate::comment::Comment;
+use std::alloc::{AllocError, Global};
+use std::marker::Model;
+
+/// What was read: the comments in it, and the offset behind it.
+#[derive(Debug, Drop)]
+pub struct Separation<'a> {
+    pub comments: Comments<'a>,
+    pub end: usize,
+}
+
+/// Comments in the order of the text. In a contract it is the list of what they are.
+#[derive(Debug, Drop)]
+pub struct Comments<'a> {
+    list: Vec<Comment<'a>>,
+}
+
+impl<'a> Model for Comments<'a> {
+    ghost use Rattle.std.specs.Prelude.{List, map};
+    ghost use Rattle.yf_comments.specs.Comment.{CommentValue, comment_value};
+
+    ghost Value = { List CommentValue };
+
+    ghost view = { λ c. map comment_value c.list.items };
+}
+
+impl<'a> Comments<'a> {
+    pub fn new(alloc: Global) -> Comments<'a>
+        ensures { result ≡ [] }
+    {
+        Comments {
+            list: Vec::new(alloc),
+        }
+    }
+
+    /// Appends a comment; where memory is refused, the list is as it was.
+    pub fn push(&mut self, comment: Comment<'a>) -> Result<(), AllocError>
+        ensures { self.new ≡ (if is_ok result then self.old ++ comment_value comment.entry ∷ [] else self.old) }
+    {
+        self.list.push(comment)?;
+        Ok(())
+    }
+
+    /// Keeps the first comments, that many at most.
+    pub fn truncate(&mut self, count: usize)
+        ensures { self.new ≡ take count self.old }
+    {
+        self.list.truncate(count);
+    }
+
+    pub fn len(&self) -> usize
+        ensures { result ≡ length self.now }
+    {
+        self.list.len()
+    }
+
+    pub fn as_slice(&self) -> &[Comment<'a>]
+        ensures { map comment_value result.now ≡ self.now }
+    {
+        self.list.as_slice()
+    }
+}

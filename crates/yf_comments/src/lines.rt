@@ -1,0 +1,205 @@
+//! Comments, and the lines that hold nothing else (YAML 1.2.2, section 6.6).
+ghost use Rattle.std.specs.Prelude.{◌≡◌, ◌≢◌, ◌+◌, ◌-◌, ◌<◌, ◌≤◌, ℕ, List, [], ◌∷◌, ◌++◌, Bool, true, false, Option, Some, None, length, IfOk, IfSome, IfNone, MatchOption, MatchBool};
+ghost use Rattle.std.specs.Str.{IsCharBoundary};
+ghost use Rattle.yf_chars.specs.Chain.{Chosen, Stuck, Many, Nowhere, Farthest};
+ghost use Rattle.yf_chars.specs.Class.{is_nb_char, is_white};
+ghost use Rattle.yf_chars.specs.Text.{code};
+ghost use Rattle.yf_lines.specs.Basic.{LineStart, SeparateInLine};
+ghost use Rattle.yf_comments.specs.Comment.{CommentValue, comment_value, row_comments};
+ghost use Rattle.yf_comments.specs.Comments.{CommentText, BreakOrEnd, LineRest, LineEnd, Kept, Row as IsRow};
+
+use crate::blank::is_blank_before;
+use crate::comment::Comment;
+use crate::comments::{Comments, Separation};
+use std::alloc::{AllocError, Global};
+use yf_chars::classes::is_nb_char;
+use yf_chars::text::{peek, stands};
+use yf_lines::basic::{is_line_start, line_break, skip_whites};
+
+// A comment that was read, and the offset behind it.
+#[derive(Clone, Copy)]
+struct CommentPart<'a> {
+    comment: Comment<'a>,
+    end: usize,
+}
+
+// The rest of a line that was read: its comment, if it has one, and the offset behind its break.
+#[derive(Clone, Copy)]
+struct Row<'a> {
+    comment: Option<Comment<'a>>,
+    end: usize,
+}
+
+// The offset behind all characters of a comment that stand at the offset.
+fn skip_nb_chars(s: &str, at: usize) -> usize
+    requires { IsCharBoundary s.now at }
+    ensures chars { (x : List ℕ) × Many s.now is_nb_char at result x }
+    ensures all { is_nb_char (code s.now result) ≡ false }
+    ensures boundary { IsCharBoundary s.now result }
+    ensures order { at ≤ result }
+{
+    let mut end = at;
+    'chars: loop {
+        match peek(s, end) {
+            Some((c, next)) => {
+                if is_nb_char(c) {
+                    end = next;
+                } else {
+                    return end;
+                }
+            }
+            None => return end,
+        }
+    }
+}
+
+// Reads a comment's text (c-nb-comment-text, production 75), as long as its characters go.
+fn comment_text<'a>(s: &'a str, at: usize) -> Option<CommentPart<'a>>
+    ensures reads { MatchOption result (code s.now at ≢ 35) (λ p. CommentText s.now at p.end (comment_value p.comment ∷ [])) }
+    ensures all { IfSome result (λ p. is_nb_char (code s.now p.end) ≡ false) }
+    ensures boundary { IfSome result (λ p. IsCharBoundary s.now p.end) }
+{
+    if stands(s, at, b'#') {
+        let end = skip_nb_chars(s, at + 1);
+        let comment = Comment {
+            text: &s[at..end],
+            offset: at,
+            blank_before: is_blank_before(s, at),
+        };
+        return Some(CommentPart { comment, end });
+    }
+    None
+}
+
+// Reads a line break or the end of the text (b-comment, production 76).
+fn break_or_end(s: &str, at: usize) -> Option<usize>
+    requires { at ≤ length s.now }
+    ensures reads { MatchOption result (Nowhere (BreakOrEnd s.now at)) (λ j. BreakOrEnd s.now at j) }
+    ensures boundary { IfSome result (λ j. IsCharBoundary s.now j) }
+{
+    if at == s.len() {
+        return Some(at);
+    }
+    match line_break(s, at) {
+        Some(end) => Some(end),
+        None => None,
+    }
+}
+
+// Reads what is left of a line behind its whites: a comment, if there is one, and a break or the end of the text.
+fn past_whites<'a>(s: &'a str, at: usize, place: usize) -> Option<Row<'a>>
+    requires boundary { IsCharBoundary s.now place }
+    requires separate { SeparateInLine s.now at place }
+    requires all { is_white (code s.now place) ≡ false }
+    ensures reads { MatchOption result (Stuck (LineRest s.now at)) (λ r. LineRest s.now at r.end (row_comments r.comment)) }
+    ensures boundary { IfSome result (λ r. IsCharBoundary s.now r.end) }
+{
+    match comment_text(s, place) {
+        Some(CommentPart { comment, end }) => match break_or_end(s, end) {
+            Some(next) => Some(Row {
+                comment: Some(comment),
+                end: next,
+            }),
+            None => None,
+        },
+        None => match break_or_end(s, place) {
+            Some(next) => Some(Row {
+                comment: None,
+                end: next,
+            }),
+            None => None,
+        },
+    }
+}
+
+// Reads what is left of a line: whites, a comment where a white or the start of the line stands before it, and a break
+// or the end of the text (s-b-comment, production 77).
+fn line_rest<'a>(s: &'a str, at: usize, starts: bool) -> Option<Row<'a>>
+    requires boundary { IsCharBoundary s.now at }
+    requires starts { MatchBool starts (LineStart s.now at) (LineStart s.now at → ⊥) }
+    ensures reads { MatchOption result (Stuck (LineRest s.now at)) (λ r. LineRest s.now at r.end (row_comments r.comment)) }
+    ensures boundary { IfSome result (λ r. IsCharBoundary s.now r.end) }
+{
+    let place = skip_whites(s, at);
+    if starts {
+        return past_whites(s, at, place);
+    }
+    if place > at {
+        return past_whites(s, at, place);
+    }
+    match break_or_end(s, at) {
+        Some(next) => Some(Row {
+            comment: None,
+            end: next,
+        }),
+        None => None,
+    }
+}
+
+// Reads what is left of a line, and keeps its comment; the offset behind it, or `None`, with no comment kept.
+pub(crate) fn next_row<'a>(s: &'a str, at: usize, starts: bool, comments: &mut Comments<'a>) -> Result<Option<usize>, AllocError>
+    requires boundary { IsCharBoundary s.now at }
+    requires starts { MatchBool starts (LineStart s.now at) (LineStart s.now at → ⊥) }
+    ensures reads { IfOk result (λ o. MatchOption o (Stuck (LineRest s.now at)) (λ e. (x : List CommentValue) × LineRest s.now at e x × (comments.new ≡ comments.old ++ x))) }
+    ensures unchanged { IfOk result (λ o. IfNone o (comments.new ≡ comments.old)) }
+    ensures boundary { IfOk result (λ o. IfSome o (λ e. IsCharBoundary s.now e)) }
+{
+    match line_rest(s, at, starts) {
+        Some(Row { comment, end }) => {
+            match comment {
+                Some(text) => {
+                    comments.push(text)?;
+                    Ok(Some(end))
+                }
+                None => Ok(Some(end)),
+            }
+        }
+        None => Ok(None),
+    }
+}
+
+// Reads comment lines (l-comment, production 78) as long as there are any, from the start of a line or the end of the
+// text on.
+fn comment_lines<'a>(s: &'a str, at: usize, comments: &mut Comments<'a>) -> Result<usize, AllocError>
+    requires boundary { IsCharBoundary s.now at }
+    requires starts { at < length s.now → LineStart s.now at }
+    ensures reads { IfOk result (λ e. Kept s.now at e comments.old comments.new) }
+    ensures all { IfOk result (λ e. Stuck (IsRow s.now e)) }
+    ensures boundary { IfOk result (λ e. IsCharBoundary s.now e) }
+{
+    let mut end = at;
+    'lines: while end < s.len() {
+        match next_row(s, end, true, comments)? {
+            Some(next) => {
+                end = next;
+            }
+            None => return Ok(end),
+        }
+    }
+    Ok(end)
+}
+
+/// Reads the end of a line and the comment lines behind it (s-l-comments, production 79): as much as there is.
+///
+/// What is left of the line may hold a comment; at the start of a line there need be nothing at all.
+/// `None` where neither the rest of a line nor the start of one is there, as between the CR and the LF of one break.
+pub fn line_end<'a>(alloc: Global, s: &'a str, at: usize) -> Result<Option<Separation<'a>>, AllocError>
+    requires { IsCharBoundary s.now at }
+    ensures reads { IfOk result (λ o. MatchOption o (Stuck (LineEnd s.now at)) (λ p. Chosen (LineEnd s.now at) p.end p.comments)) }
+    ensures boundary { IfOk result (λ o. IfSome o (λ p. IsCharBoundary s.now p.end)) }
+{
+    let starts = is_line_start(s, at);
+    let mut comments = Comments::new(alloc);
+    match next_row(s, at, starts, &mut comments)? {
+        Some(next) => {
+            let end = comment_lines(s, next, &mut comments)?;
+            Ok(Some(Separation { comments, end }))
+        }
+        None => {
+            if starts {
+                return Ok(Some(Separation { comments, end: at }));
+            }
+            Ok(None)
+        }
+    }
+}

@@ -1,0 +1,162 @@
+//! Separation (YAML 1.2.2, section 6.7).
+ghost use Rattle.std.specs.Prelude.{◌≡◌, ◌+◌, ◌-◌, ◌<◌, ◌≤◌, ℕ, ℤ, pos, ◌<ℤ◌, List, [], ◌++◌, take, Bool, true, false, Option, Some, None, length, IfOk, IfSome, IfNone, MatchOption, MatchBool, ◌⊎◌};
+ghost use Rattle.std.specs.Str.{IsCharBoundary};
+ghost use Rattle.yf_chars.specs.Chain.{Chain, Chosen, Stuck, Nowhere, Farthest};
+ghost use Rattle.yf_chars.specs.Class.{is_white};
+ghost use Rattle.yf_chars.specs.Text.{code};
+ghost use Rattle.yf_lines.specs.Basic.{is_key, LineStart, SeparateInLine, FlowPrefix};
+ghost use Rattle.yf_comments.specs.Comment.{CommentValue};
+ghost use Rattle.yf_comments.specs.Comments.{Row, Separate, SeparateLines, Upto};
+
+use crate::comments::{Comments, Separation};
+use crate::lines::next_row;
+use std::alloc::{AllocError, Global};
+use yf_chars::context::Ctx;
+use yf_lines::basic::{is_line_start, skip_spaces, skip_whites};
+
+// How far a separation goes, and how many of the comments read so far are in it.
+#[derive(Clone, Copy)]
+struct Reach {
+    end: usize,
+    count: usize,
+}
+
+/// Reads whites, or nothing at the start of a line (s-separate-in-line, production 66): as many as there are.
+pub fn separate_in_line(s: &str, at: usize) -> Option<usize>
+    requires { IsCharBoundary s.now at }
+    ensures reads { MatchOption result (Nowhere (SeparateInLine s.now at)) (λ e. Farthest (SeparateInLine s.now at) e) }
+    ensures all { MatchOption result (is_white (code s.now at) ≡ false) (λ e. is_white (code s.now e) ≡ false) }
+    ensures boundary { IfSome result (λ e. IsCharBoundary s.now e) }
+{
+    let end = skip_whites(s, at);
+    if end > at {
+        return Some(end);
+    }
+    if is_line_start(s, at) {
+        return Some(end);
+    }
+    None
+}
+
+/// Reads the prefix of a line in flow (s-flow-line-prefix(n), production 69), with all whites behind the indentation.
+pub fn flow_line_prefix(s: &str, at: usize, width: usize) -> Option<usize>
+    requires { IsCharBoundary s.now at }
+    ensures reads { MatchOption result (Nowhere (FlowPrefix s.now (pos width) at)) (λ e. Farthest (FlowPrefix s.now (pos width) at) e) }
+    ensures all { IfSome result (λ e. is_white (code s.now e) ≡ false) }
+    ensures boundary { IfSome result (λ e. IsCharBoundary s.now e) }
+{
+    let spaces = skip_spaces(s, at);
+    if spaces - at < width {
+        return None;
+    }
+    Some(skip_whites(s, at))
+}
+
+// The indentation that a separation over lines has, if it may go over lines: not in keys, and not where n is negative.
+fn line_width(n: i32, ctx: Ctx) -> Option<usize>
+    ensures { MatchOption result ((is_key ctx ≡ true) ⊎ (n <ℤ pos 0)) (λ w. (is_key ctx ≡ false) × (n ≡ pos w)) }
+{
+    match ctx {
+        Ctx::BlockKey | Ctx::FlowKey => return None,
+        Ctx::BlockOut | Ctx::BlockIn | Ctx::FlowOut | Ctx::FlowIn => {}
+    }
+    if n < 0 {
+        return None;
+    }
+    Some(n as usize)
+}
+
+// The longest separation that passes no line.
+fn first_reach(s: &str, at: usize, width: usize) -> Option<Reach>
+    requires { IsCharBoundary s.now at }
+    ensures reads { MatchOption result (Stuck (Upto s.now (pos width) at at)) (λ r. Chosen (Upto s.now (pos width) at at) r.end []) }
+    ensures none { IfSome result (λ r. r.count ≡ 0) }
+    ensures boundary { IfSome result (λ r. IsCharBoundary s.now r.end) }
+{
+    match separate_in_line(s, at) {
+        Some(end) => return Some(Reach { end, count: 0 }),
+        None => {}
+    }
+    if at == s.len() {
+        if width == 0 {
+            return Some(Reach { end: at, count: 0 });
+        }
+    }
+    None
+}
+
+// How far a separation goes from there, behind rows of comments, which it keeps all.
+fn last_reach<'a>(s: &'a str, at: usize, width: usize, comments: &mut Comments<'a>) -> Result<Option<Reach>, AllocError>
+    requires boundary { IsCharBoundary s.now at }
+    requires fresh { comments.old ≡ [] }
+    ensures reads { IfOk result (λ o. (p : ℕ) × Chain (Row s.now) at p comments.new × Stuck (Row s.now p)
+        × MatchOption o (Stuck (Upto s.now (pos width) at p)) (λ r. Chosen (Upto s.now (pos width) at p) r.end (take r.count comments.new))) }
+    ensures boundary { IfOk result (λ o. IfSome o (λ r. IsCharBoundary s.now r.end)) }
+{
+    let mut reach = first_reach(s, at, width);
+    let mut place = at;
+    let mut starts = is_line_start(s, at);
+    'rows: while place < s.len() {
+        match next_row(s, place, starts, comments)? {
+            Some(next) => {
+                place = next;
+                starts = true;
+                match flow_line_prefix(s, place, width) {
+                    Some(end) => {
+                        reach = Some(Reach {
+                            end,
+                            count: comments.len(),
+                        });
+                    }
+                    None => {}
+                }
+            }
+            None => return Ok(reach),
+        }
+    }
+    Ok(reach)
+}
+
+/// Reads a separation that may go over lines (s-separate-lines(n), production 81): the longest.
+///
+/// It ends in the last line at whose start the indentation stands, so a comment line that is indented less is not in it.
+pub fn separate_lines<'a>(alloc: Global, s: &'a str, at: usize, width: usize) -> Result<Option<Separation<'a>>, AllocError>
+    requires { IsCharBoundary s.now at }
+    ensures reads { IfOk result (λ o. MatchOption o (Stuck (SeparateLines s.now (pos width) at)) (λ p. Chosen (SeparateLines s.now (pos width) at) p.end p.comments)) }
+    ensures boundary { IfOk result (λ o. IfSome o (λ p. IsCharBoundary s.now p.end)) }
+{
+    let mut comments = Comments::new(alloc);
+    match last_reach(s, at, width, &mut comments)? {
+        Some(reach) => {
+            comments.truncate(reach.count);
+            Ok(Some(Separation {
+                comments,
+                end: reach.end,
+            }))
+        }
+        None => Ok(None),
+    }
+}
+
+/// Reads a separation (s-separate(n,c), production 80): the longest, with its comments.
+///
+/// In the two key contexts, and where `n` is negative, it is whites alone, or nothing at the start of a line.
+pub fn separate<'a>(alloc: Global, s: &'a str, at: usize, n: i32, ctx: Ctx) -> Result<Option<Separation<'a>>, AllocError>
+    requires { IsCharBoundary s.now at }
+    ensures reads { IfOk result (λ o. MatchOption o (Stuck (Separate s.now n ctx at)) (λ p. Chosen (Separate s.now n ctx at) p.end p.comments)) }
+    ensures boundary { IfOk result (λ o. IfSome o (λ p. IsCharBoundary s.now p.end)) }
+{
+    match line_width(n, ctx) {
+        Some(width) => match separate_lines(alloc, s, at, width)? {
+            Some(separation) => Ok(Some(separation)),
+            None => Ok(None),
+        },
+        None => match separate_in_line(s, at) {
+            Some(end) => Ok(Some(Separation {
+                comments: Comments::new(alloc),
+                end,
+            })),
+            None => Ok(None),
+        },
+    }
+}

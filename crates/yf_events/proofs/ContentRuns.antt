@@ -1,0 +1,72 @@
+-- Lists of items that grow as their sources are passed.
+use Rattle.std.proofs.Common.{ℕ, zero, suc, ◌+◌, ◌<◌, ◌≤◌, ◌≡◌, List, [], ◌∷◌, ◌++◌, Option, Some, length, map, drop, get_or, refl, sym, ap, ◌∙◌, subst, append_assoc, append-nil, drop-cons, add-one, arith}
+use Rattle.std.specs.List.{flat_map, zip}
+use Rattle.std.specs.Prelude.{slice_get}
+use Rattle.std.proofs.lemmas.List.{drop_all, length-map, map-append}
+use Rattle.std.proofs.lemmas.Simd.{map-map}
+use Rattle.std.specs.Borrow.{Bor}
+use Rattle.yf_events.specs.declared.document.Directive.{Directive}
+use Rattle.yf_events.specs.Content.{ContentValue, items_of_event, nodes_of, BeforeValue, a_directive, a_word, items_of_directive}
+use Rattle.yf_events.specs.Event.{EventValue}
+use Rattle.yf_events.specs.Reading.{events_of}
+use Rattle.yf_events.specs.declared.lists.Lists.{Lists}
+use Rattle.yf_events.proofs.PieceRuns.{zip_at, zip_past}
+
+-- one source more, which adds h of it
+pub flat_next : {X B : Type 0} (h : X → List B) (m n t : List B) (xs : List X) (i : ℕ) (d : X) → i < length xs
+    → m ++ flat_map h (drop i xs) ≡ t → n ≡ m ++ h (get_or xs i d) → n ++ flat_map h (drop (i + 1) xs) ≡ t
+flat_next h m n t xs i d within is more =
+    let cut : drop i xs ≡ get_or xs i d ∷ drop (i + 1) xs = rw add-one (drop-cons xs i d within) in
+    ap (λ w. w ++ flat_map h (drop (i + 1) xs)) more ∙ append_assoc m (h (get_or xs i d)) (flat_map h (drop (i + 1) xs))
+        ∙ ap (λ w. m ++ w) (sym (ap (flat_map h) cut)) ∙ is
+
+pub flat_over : {X B : Type 0} (h : X → List B) (m t : List B) (xs : List X) (i : ℕ) → length xs ≤ i → m ++ flat_map h (drop i xs) ≡ t → m ≡ t
+flat_over h m t xs i past is = sym (append-nil m) ∙ ap (λ w. m ++ flat_map h w) (sym (drop_all i xs past)) ∙ is
+
+pub map_next : {X B : Type 0} (h : X → B) (m n t : List B) (xs : List X) (i : ℕ) (d : X) → i < length xs
+    → m ++ map h (drop i xs) ≡ t → n ≡ m ++ (h (get_or xs i d) ∷ []) → n ++ map h (drop (i + 1) xs) ≡ t
+map_next h m n t xs i d within is more =
+    let cut : drop i xs ≡ get_or xs i d ∷ drop (i + 1) xs = rw add-one (drop-cons xs i d within) in
+    ap (λ w. w ++ map h (drop (i + 1) xs)) more ∙ append_assoc m (h (get_or xs i d) ∷ []) (map h (drop (i + 1) xs))
+        ∙ ap (λ w. m ++ w) (sym (ap (map h) cut)) ∙ is
+
+pub map_over : {X B : Type 0} (h : X → B) (m t : List B) (xs : List X) (i : ℕ) → length xs ≤ i → m ++ map h (drop i xs) ≡ t → m ≡ t
+map_over h m t xs i past is = sym (append-nil m) ∙ ap (λ w. m ++ map h w) (sym (drop_all i xs past)) ∙ is
+
+-- the view of a list that was pushed to
+pub pushed : {A B : Type 0} (f : A → B) (before after : List A) (x : A) → after ≡ before ++ (x ∷ []) → map f after ≡ map f before ++ (f x ∷ [])
+pushed f before after x is = ap (map f) is ∙ map-append f before (x ∷ [])
+
+-- what the events from an index on add to the content
+unfoldable pub nodes_from : Lists → ℕ → List ContentValue
+nodes_from r i = flat_map (λ e. items_of_event e.0 e.1) (drop i (zip (events_of r) r.resolved))
+
+pub nodes_at_start : (r : Lists) → nodes_from r 0 ≡ nodes_of r
+unfolding nodes_from nodes_of
+nodes_at_start r = refl
+
+pub nodes_next : (r : Lists) (i : ℕ) (e : EventValue) (tag : Option (List ℕ)) → slice_get (events_of r) i ≡ Some e → slice_get r.resolved i ≡ Some tag
+    → nodes_from r i ≡ items_of_event e tag ++ nodes_from r (i + 1)
+unfolding nodes_from
+nodes_next r i e tag p q =
+    let cut : drop i (zip (events_of r) r.resolved) ≡ (e, tag) ∷ drop (i + 1) (zip (events_of r) r.resolved) = rw add-one (zip_at (events_of r) r.resolved i e tag p q) in
+    ap (flat_map (λ e. items_of_event e.0 e.1)) cut
+
+pub nodes_past : (r : Lists) (i : ℕ) → length r.events ≤ i → nodes_from r i ≡ []
+unfolding nodes_from
+nodes_past r i past =
+    ap (flat_map (λ e. items_of_event e.0 e.1)) (zip_past (events_of r) r.resolved i (omega (arith, length-map r.events (λ e. e.event), past)))
+
+-- what one event adds
+pub event_added : (r : Lists) (i : ℕ) (e : EventValue) (tag : Option (List ℕ)) (x m n t : List ContentValue) → slice_get (events_of r) i ≡ Some e → slice_get r.resolved i ≡ Some tag
+    → x ≡ items_of_event e tag → n ≡ m ++ x → m ++ nodes_from r i ≡ t → n ++ nodes_from r (i + 1) ≡ t
+event_added r i e tag x m n t p q one more is =
+    ap (λ w. w ++ nodes_from r (i + 1)) more ∙ append_assoc m x (nodes_from r (i + 1))
+        ∙ ap (λ w. m ++ w) (sym (nodes_next r i e tag p q ∙ ap (λ w. w ++ nodes_from r (i + 1)) (sym one))) ∙ is
+
+-- a directive's beginning, and then its words
+pub directive_begins : (d : Directive) (words : List (Bor (List ℕ))) (m n : List BeforeValue) → map (λ word. word.now) words ≡ d.words
+    → n ≡ m ++ (a_directive ∷ []) → n ++ map (λ word. a_word word.now) words ≡ m ++ items_of_directive d
+directive_begins d words m n e more =
+    ap (λ w. w ++ map (λ word. a_word word.now) words) more ∙ append_assoc m (a_directive ∷ []) (map (λ word. a_word word.now) words)
+        ∙ ap (λ w. m ++ (a_directive ∷ w)) (sym (map-map (λ w. a_word w) (λ word. word.now) words) ∙ ap (map (λ w. a_word w)) e)

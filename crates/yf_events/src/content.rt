@@ -1,0 +1,189 @@
+//! The content of a reading: what it says, whatever its styles, markers and places.
+ghost use Rattle.std.specs.Prelude.{◌≡◌, ◌++◌, map, IfOk, MatchResult};
+ghost use Rattle.std.specs.List.{flat_map};
+ghost use Rattle.yf_events.specs.Content.{before_value, content_of, content_value, item_value, items_listed, items_of_directive, items_of_document, items_of_event, kind_of, kind_value, nodes_of};
+ghost use Rattle.yf_events.specs.Event.{event_value};
+ghost use Rattle.yf_props.specs.Props.{name_value};
+
+use crate::document::{Directive, Doc};
+use crate::event::{Event, ScalarStyle};
+use crate::reading::Reading;
+use std::alloc::{AllocError, Global};
+use yf_lines::fault::Fault;
+use yf_lines::steady::is_steady;
+
+/// What is known of a scalar's type.
+#[derive(Clone, Copy, Debug, PartialEq, Eq)]
+pub enum Kind<'r> {
+    /// It has this resolved tag.
+    Tagged(&'r str),
+    /// It has no tag, is plain, and may stay plain on one line, so that a schema may take it for a number or the like.
+    PlainAndSteady,
+    /// It has no tag, and is none of those.
+    Untagged,
+}
+
+/// One item of the content.
+#[derive(Clone, Copy, Debug, PartialEq, Eq)]
+pub enum ContentItem<'r> {
+    /// A document begins.
+    Document,
+    Scalar {
+        anchor: Option<&'r str>,
+        kind: Kind<'r>,
+        text: &'r str,
+    },
+    Alias {
+        name: &'r str,
+    },
+    Sequence {
+        anchor: Option<&'r str>,
+        tag: Option<&'r str>,
+    },
+    SequenceEnd,
+    Mapping {
+        anchor: Option<&'r str>,
+        tag: Option<&'r str>,
+    },
+    MappingEnd,
+}
+
+/// One item of what stands before the documents.
+#[derive(Clone, Copy, Debug, PartialEq, Eq)]
+pub enum DirectiveItem<'r> {
+    /// The directives of the next document follow.
+    Document,
+    /// The words of a directive follow.
+    Directive,
+    /// One word.
+    Word(&'r str),
+}
+
+/// The content of a reading: its documents, each with the words of its directives and its tree. Of a node it keeps the
+/// kind, the anchor, the resolved tag, and the text, the name, the items or the pairs; of a scalar without a tag also
+/// whether it is plain and steady.
+#[derive(Debug, Drop, PartialEq, Eq)]
+pub struct Content<'r> {
+    directives: Vec<DirectiveItem<'r>>,
+    nodes: Vec<ContentItem<'r>>,
+}
+
+fn scalar_kind<'r>(tag: Option<&'r str>, style: ScalarStyle, text: &str) -> Kind<'r>
+    ensures { kind_value result ≡ kind_of (name_value tag.entry) style text.now }
+{
+    match tag {
+        Some(name) => Kind::Tagged(name),
+        None => match style {
+            ScalarStyle::Plain => {
+                if is_steady(text) {
+                    return Kind::PlainAndSteady;
+                }
+                Kind::Untagged
+            }
+            ScalarStyle::Single | ScalarStyle::Double | ScalarStyle::Literal | ScalarStyle::Folded => Kind::Untagged,
+        },
+    }
+}
+
+/// What an event adds to the content, with the resolved tag of the node that it begins.
+fn item<'r>(event: &'r Event<'r>, tag: Option<&'r str>) -> Option<ContentItem<'r>>
+    ensures { items_listed result ≡ items_of_event (event_value event.now) (name_value tag.entry) }
+{
+    match event {
+        Event::StreamStart | Event::StreamEnd | Event::DocEnd { .. } => None,
+        Event::DocStart { .. } => Some(ContentItem::Document),
+        Event::SeqStart { props, .. } => Some(ContentItem::Sequence {
+            anchor: props.anchor,
+            tag,
+        }),
+        Event::SeqEnd => Some(ContentItem::SequenceEnd),
+        Event::MapStart { props, .. } => Some(ContentItem::Mapping {
+            anchor: props.anchor,
+            tag,
+        }),
+        Event::MapEnd => Some(ContentItem::MappingEnd),
+        Event::Scalar { props, style, text } => {
+            let text = text.as_str();
+            Some(ContentItem::Scalar {
+                anchor: props.anchor,
+                kind: scalar_kind(tag, *style, text),
+                text,
+            })
+        }
+        Event::Alias { name } => Some(ContentItem::Alias { name }),
+    }
+}
+
+fn add_item<'r>(items: &mut Vec<ContentItem<'r>>, added: Option<ContentItem<'r>>) -> Result<(), AllocError>
+    ensures { IfOk result (λ _. map item_value items.new.items ≡ map item_value items.old.items ++ items_listed added.entry) }
+{
+    match added {
+        Some(item) => {
+            items.push(item)?;
+            Ok(())
+        }
+        None => Ok(()),
+    }
+}
+
+fn nodes<'r>(alloc: Global, reading: &'r Reading<'r>) -> Result<Vec<ContentItem<'r>>, AllocError>
+    ensures { IfOk result (λ items. map item_value items.items ≡ nodes_of reading.now) }
+{
+    let mut items = Vec::new(alloc);
+    for i in 0..reading.len() {
+        add_item(&mut items, item(reading.event(i), reading.resolved(i)))?;
+    }
+    Ok(items)
+}
+
+fn add_directive<'r>(items: &mut Vec<DirectiveItem<'r>>, directive: &'r Directive<'r>) -> Result<(), AllocError>
+    ensures { IfOk result (λ _. map before_value items.new.items ≡ map before_value items.old.items ++ items_of_directive directive.now) }
+{
+    items.push(DirectiveItem::Directive)?;
+    for word in directive.words.as_slice() {
+        items.push(DirectiveItem::Word(word))?;
+    }
+    Ok(())
+}
+
+fn add_document<'r>(items: &mut Vec<DirectiveItem<'r>>, document: &'r Doc<'r>) -> Result<(), AllocError>
+    ensures { IfOk result (λ _. map before_value items.new.items ≡ map before_value items.old.items ++ items_of_document document.now) }
+{
+    items.push(DirectiveItem::Document)?;
+    for directive in document.directives.as_slice() {
+        add_directive(items, directive)?;
+    }
+    Ok(())
+}
+
+fn directives<'r>(alloc: Global, documents: &'r [Doc<'r>]) -> Result<Vec<DirectiveItem<'r>>, AllocError>
+    ensures { IfOk result (λ items. map before_value items.items ≡ flat_map items_of_document documents.now) }
+{
+    let mut items = Vec::new(alloc);
+    for document in documents {
+        add_document(&mut items, document)?;
+    }
+    Ok(items)
+}
+
+impl<'a> Reading<'a> {
+    /// What the reading says, whatever its styles, markers and places. Answers `Fault::Memory` where a growth of memory
+    /// was refused.
+    pub fn content<'r>(&'r self, alloc: Global) -> Result<Content<'r>, Fault>
+        ensures { MatchResult result (λ content. content_value content ≡ content_of self.now) (λ fault. fault ≡ Fault.Memory) }
+    {
+        match content_within(alloc, self) {
+            Ok(content) => Ok(content),
+            Err(AllocError) => Err(Fault::Memory),
+        }
+    }
+}
+
+#[tactic(auto, unfolding(crate::specs::Content::content_of))]
+fn content_within<'r>(alloc: Global, reading: &'r Reading<'r>) -> Result<Content<'r>, AllocError>
+    ensures { IfOk result (λ content. content_value content ≡ content_of reading.now) }
+{
+    let directives = directives(alloc, reading.documents())?;
+    let nodes = nodes(alloc, reading)?;
+    Ok(Content { directives, nodes })
+}

@@ -1,0 +1,149 @@
+//! The notation of events: one line for each, as the YAML test suite writes them.
+ghost use Rattle.std.specs.Prelude.{◌≡◌, ◌<◌, length, slice_get, Some};
+ghost use Rattle.std.specs.List.{flat_map};
+ghost use Rattle.yf_events.specs.Event.{event_value};
+ghost use Rattle.yf_events.specs.Notation as Notation;
+ghost use Rattle.yf_events.specs.Pieces.{piece_bytes};
+ghost use Rattle.yf_lines.specs.Output.{Writes};
+ghost use Rattle.yf_props.specs.Props.{name_value};
+
+use crate::escapes::write_escaped;
+use crate::event::{Event, ScalarStyle};
+use crate::reading::Reading;
+use yf_lines::fault::Fault;
+use yf_lines::output::{write_text, write_texts};
+use yf_lines::watched::Sink;
+
+/// A piece of a line.
+#[derive(Clone, Copy)]
+pub enum Piece<'a> {
+    /// A text as it is.
+    Plain(&'a str),
+    /// A text with its escapes.
+    Escaped(&'a str),
+    /// An anchor, with the space and the `&` before it.
+    Anchor(Option<&'a str>),
+    /// A resolved tag, with the space before it and `<` and `>` around it.
+    Tag(Option<&'a str>),
+}
+
+fn write_anchor<W: Sink>(writer: &mut W, anchor: Option<&str>) -> Result<(), Fault>
+    ensures { Writes (W.contents writer.old) (W.contents writer.new) (W.has_failed writer.old) (W.has_failed writer.new) (Notation.anchor_part (name_value anchor.entry)) result }
+{
+    match anchor {
+        Some(name) => write_texts(writer, &[" &", name]),
+        None => write_text(writer, b""),
+    }
+}
+
+fn write_tag<W: Sink>(writer: &mut W, tag: Option<&str>) -> Result<(), Fault>
+    ensures { Writes (W.contents writer.old) (W.contents writer.new) (W.has_failed writer.old) (W.has_failed writer.new) (Notation.tag_part (name_value tag.entry)) result }
+{
+    match tag {
+        Some(name) => {
+            write_text(writer, b" <")?;
+            write_escaped(writer, name)?;
+            write_text(writer, b">")
+        }
+        None => write_text(writer, b""),
+    }
+}
+
+fn write_piece<W: Sink>(writer: &mut W, piece: &Piece) -> Result<(), Fault>
+    ensures { Writes (W.contents writer.old) (W.contents writer.new) (W.has_failed writer.old) (W.has_failed writer.new) (piece_bytes piece.now) result }
+{
+    match piece {
+        Piece::Plain(text) => write_text(writer, text.as_bytes()),
+        Piece::Escaped(text) => write_escaped(writer, text),
+        Piece::Anchor(anchor) => write_anchor(writer, *anchor),
+        Piece::Tag(tag) => write_tag(writer, *tag),
+    }
+}
+
+fn write_pieces<W: Sink>(writer: &mut W, pieces: &[Piece]) -> Result<(), Fault>
+    ensures { Writes (W.contents writer.old) (W.contents writer.new) (W.has_failed writer.old) (W.has_failed writer.new) (flat_map piece_bytes pieces.now) result }
+{
+    for piece in pieces {
+        write_piece(writer, piece)?;
+    }
+    Ok(())
+}
+
+/// The sign of a scalar's style.
+fn style_sign(style: ScalarStyle) -> &'static str
+    ensures { result.now ≡ Notation.style_sign style }
+{
+    match style {
+        ScalarStyle::Plain => ":",
+        ScalarStyle::Single => "'",
+        ScalarStyle::Double => "\"",
+        ScalarStyle::Literal => "|",
+        ScalarStyle::Folded => ">",
+    }
+}
+
+/// The part, if it is to stand there; else nothing.
+fn part_if<'s>(stands: bool, part: &'s str) -> &'s str
+    ensures { result.now ≡ Notation.part_if stands part.now }
+{
+    if stands { part } else { "" }
+}
+
+/// Writes the line of an event, with the resolved tag of the node that it begins.
+#[tactic(auto, unfolding(crate::specs::Notation::event_line))]
+fn write_event<'x, W: Sink>(writer: &mut W, event: &'x Event<'x>, tag: Option<&'x str>) -> Result<(), Fault>
+    ensures { Writes (W.contents writer.old) (W.contents writer.new) (W.has_failed writer.old) (W.has_failed writer.new) (Notation.event_line (event_value event.now) (name_value tag.entry)) result }
+{
+    match event {
+        Event::StreamStart => write_text(writer, b"+STR\n"),
+        Event::StreamEnd => write_text(writer, b"-STR\n"),
+        Event::DocStart { explicit } => write_texts(writer, &["+DOC", part_if(*explicit, " ---"), "\n"]),
+        Event::DocEnd { explicit } => write_texts(writer, &["-DOC", part_if(*explicit, " ..."), "\n"]),
+        Event::SeqStart { flow, props } => {
+            let brackets = part_if(*flow, " []");
+            write_pieces(
+                writer,
+                &[Piece::Plain("+SEQ"), Piece::Plain(brackets), Piece::Anchor(props.anchor), Piece::Tag(tag), Piece::Plain("\n")],
+            )
+        }
+        Event::SeqEnd => write_text(writer, b"-SEQ\n"),
+        Event::MapStart { flow, props } => {
+            let brackets = part_if(*flow, " {}");
+            write_pieces(
+                writer,
+                &[Piece::Plain("+MAP"), Piece::Plain(brackets), Piece::Anchor(props.anchor), Piece::Tag(tag), Piece::Plain("\n")],
+            )
+        }
+        Event::MapEnd => write_text(writer, b"-MAP\n"),
+        Event::Scalar { props, style, text } => {
+            let sign = style_sign(*style);
+            let text = text.as_str();
+            write_pieces(
+                writer,
+                &[
+                    Piece::Plain("=VAL"),
+                    Piece::Anchor(props.anchor),
+                    Piece::Tag(tag),
+                    Piece::Plain(" "),
+                    Piece::Plain(sign),
+                    Piece::Escaped(text),
+                    Piece::Plain("\n"),
+                ],
+            )
+        }
+        Event::Alias { name } => write_texts(writer, &["=ALI *", name, "\n"]),
+    }
+}
+
+/// Writes the notation of all events of a reading.
+///
+/// Answers `Fault::WriteFailed` where a write fails or takes no bytes; a front of the notation has then been written.
+/// Takes no memory.
+pub fn write_events<W: Sink>(reading: &Reading, writer: &mut W) -> Result<(), Fault>
+    ensures { Writes (W.contents writer.old) (W.contents writer.new) (W.has_failed writer.old) (W.has_failed writer.new) (Notation.notation_of reading.now) result }
+{
+    for i in 0..reading.len() {
+        write_event(writer, reading.event(i), reading.resolved(i))?;
+    }
+    Ok(())
+}

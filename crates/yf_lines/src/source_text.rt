@@ -1,0 +1,81 @@
+//! A text as the readers take it: with its lines.
+ghost use Rattle.std.specs.Prelude.{◌≡◌, ℕ, List, IfOk};
+ghost use Rattle.std.specs.Str.{IsCharBoundary};
+ghost use Rattle.yf_lines.specs.declared.line.Line.{Line};
+ghost use Rattle.yf_lines.specs.Lines.{AreLines, PlaceOf};
+
+use std::alloc::{AllocError, Global};
+use std::marker::Model;
+
+use crate::place::Place;
+use crate::table::LineTable;
+
+/// A text and the table of its lines. In a contract it is what its table is.
+#[derive(Debug, Drop)]
+pub struct Src<'a> {
+    table: LineTable<'a>,
+}
+
+impl<'a> Model for Src<'a> {
+    ghost use Rattle.yf_lines.specs.Lines.{Table};
+
+    ghost Value = { Table };
+
+    ghost view = { λ s. s.table };
+}
+
+impl<'a> Src<'a> {
+    /// Finds the lines of the text.
+    ///
+    /// # Errors
+    ///
+    /// `AllocError` where a growth of memory was refused.
+    pub fn new(alloc: Global, text: &'a str) -> Result<Src<'a>, AllocError>
+        ensures text { IfOk result (λ src. src.text ≡ text.now) }
+        ensures lines { IfOk result (λ src. AreLines text.now src.lines) }
+        ensures only { IfOk result (λ src. (ls : List Line) → AreLines text.now ls → ls ≡ src.lines) }
+    {
+        let table = LineTable::build(alloc, text)?;
+        Ok(Src { table })
+    }
+
+    /// The text.
+    pub fn text(&self) -> &'a str
+        ensures { result.now ≡ self.now.text }
+    {
+        self.table.text()
+    }
+
+    /// The text's lines.
+    pub fn lines(&self) -> &LineTable<'a>
+        ensures { result.now ≡ self.now }
+    {
+        &self.table
+    }
+
+    /// The place of the offset: its line and column, both from 1.
+    pub fn place(&self, offset: usize) -> Place
+        requires { IsCharBoundary self.now.text offset }
+        ensures place { PlaceOf self.now.text offset result.line result.column }
+        ensures only { (line column : ℕ) → PlaceOf self.now.text offset line column → (line ≡ result.line) × (column ≡ result.column) }
+    {
+        self.table.place(offset)
+    }
+}
+
+#[cfg(test)]
+mod tests {
+    use super::*;
+    use std::test::Fail;
+
+    #[test]
+    fn keeps_text_and_lines(rt: HostRuntime) -> Result<(), Fail> {
+        let src = Src::new(rt.alloc(), "a\r\nb")?;
+        assert_eq!(rt; src.text(), "a\r\nb");
+        assert_eq!(rt; src.lines().len(), 2);
+        assert!(rt; src.text().is_char_boundary(3));
+        let place = src.place(3);
+        assert_eq!(rt; [place.line, place.column], [2, 1]);
+        Ok(())
+    }
+}

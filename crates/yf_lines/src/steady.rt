@@ -1,0 +1,73 @@
+//! Texts that stay what they are when they are written as a plain scalar on one line.
+ghost use Rattle.std.specs.Prelude.{◌≡◌, ◌<◌};
+ghost use Rattle.yf_lines.specs.Steady as Steady;
+
+/// Whether the bytes begin with three times the same one, and then end or go on with a white.
+#[tactic(auto, unfolding(crate::specs::Steady::is_marker_of))]
+fn is_marker_of(byte: u8, bytes: &[u8]) -> bool
+    requires { 0 < byte }
+    ensures { result ≡ Steady.is_marker_of byte bytes.now }
+{
+    if bytes.len() < 3 {
+        return false;
+    }
+    if bytes[0] != byte || bytes[1] != byte || bytes[2] != byte {
+        return false;
+    }
+    if bytes.len() == 3 {
+        return true;
+    }
+    bytes[3] == b' ' || bytes[3] == b'\t'
+}
+
+#[tactic(auto, unfolding(crate::specs::Steady::is_only))]
+fn is_only(byte: u8, bytes: &[u8]) -> bool
+    ensures { result ≡ Steady.is_only byte bytes.now }
+{
+    if bytes.len() == 1 {
+        return bytes[0] == byte;
+    }
+    false
+}
+
+#[tactic(auto, unfolding(crate::specs::Steady::ends_with_colon))]
+fn ends_with_colon(bytes: &[u8]) -> bool
+    ensures { result ≡ Steady.ends_with_colon bytes.now }
+{
+    if bytes.is_empty() {
+        return false;
+    }
+    bytes[bytes.len() - 1] == b':'
+}
+
+#[tactic(auto, unfolding(crate::specs::Steady::has_line_feed))]
+fn has_line_feed(bytes: &[u8]) -> bool
+    ensures { result ≡ Steady.has_line_feed bytes.now }
+{
+    bytes.contains(&b'\n')
+}
+
+/// Whether a plain scalar of this text may stay plain on one line: it holds no line feed, does not end with `:`, is
+/// not `-` or `?`, and does not begin with `---` or `...` followed by white or the end.
+#[tactic(auto, unfolding(crate::specs::Steady::is_steady))]
+pub fn is_steady(text: &str) -> bool
+    ensures { result ≡ Steady.is_steady text.now }
+{
+    let bytes = text.as_bytes();
+    if has_line_feed(bytes) {
+        return false;
+    }
+    if ends_with_colon(bytes) {
+        return false;
+    }
+    if is_only(b'-', bytes) {
+        return false;
+    }
+    if is_only(b'?', bytes) {
+        return false;
+    }
+    if is_marker_of(b'-', bytes) {
+        return false;
+    }
+    !is_marker_of(b'.', bytes)
+}

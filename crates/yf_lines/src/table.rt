@@ -1,0 +1,302 @@
+//! The lines of a text, found once and kept.
+ghost use Rattle.std.specs.Prelude.{◌≡◌, ◌↔◌, ◌≢◌, ◌+◌, ◌-◌, ◌<◌, ◌≤◌, ◌⊎◌, ℕ, true, false, Some, List, [], ◌∷◌, length, slice_get, IfOk, IfSome, IsTrue, MatchBool};
+ghost use Rattle.std.specs.List.Sorted.{IsNonDecreasingBy};
+ghost use Rattle.std.specs.Str.{IsCharBoundary};
+ghost use Rattle.yf_chars.specs.Class.{is_break_char};
+ghost use Rattle.yf_chars.specs.Text.{code};
+ghost use Rattle.yf_lines.specs.Basic.{Forbidden, Clear};
+ghost use Rattle.yf_lines.specs.declared.line.Line.{Line};
+ghost use Rattle.yf_lines.specs.Lines.{AreLines, IsLine, IsCutAt, OneLine, Unbroken, Apart, Marks, IsForbiddenLine, PlaceOf, Begun, ColumnOf};
+
+use std::alloc::{AllocError, Global};
+use std::marker::Model;
+
+use crate::basic::{line_break, mark_stands, marker_stands, skip_spaces};
+use crate::line::Line;
+use crate::place::Place;
+use yf_chars::text::{peek, stands};
+
+/// A text and all its lines. In a contract it is a record of the text's bytes and the list of the lines.
+#[derive(Debug, Drop)]
+pub struct LineTable<'a> {
+    text: &'a str,
+    lines: Vec<Line>,
+}
+
+impl<'a> Model for LineTable<'a> {
+    ghost use Rattle.yf_lines.specs.Lines.{IsTable, Table};
+
+    ghost Value = { Table };
+
+    ghost view = { λ a. record { text = a.text.now; lines = a.lines.items } };
+
+    ghost invariant = { λ a. IsTable a.text.now a.lines.items };
+}
+
+impl<'a> LineTable<'a> {
+    /// Finds the lines of the text, in one pass.
+    ///
+    /// # Errors
+    ///
+    /// `AllocError` where a growth of memory was refused.
+    pub fn build(alloc: Global, text: &'a str) -> Result<LineTable<'a>, AllocError>
+        ensures text { IfOk result (λ table. table.text ≡ text.now) }
+        ensures lines { IfOk result (λ table. AreLines text.now table.lines) }
+        ensures only { IfOk result (λ table. (ls : List Line) → AreLines text.now ls → ls ≡ table.lines) }
+    {
+        let mut lines = Vec::new(alloc);
+        let mut at = 0;
+        while at < text.len() {
+            let line = read_line(text, at);
+            lines.push(line)?;
+            at = line.next;
+        }
+        Ok(LineTable { text, lines })
+    }
+
+    /// The text that the table was built of.
+    pub fn text(&self) -> &'a str
+        ensures { result.now ≡ self.now.text }
+    {
+        self.text
+    }
+
+    /// How many lines the text has.
+    pub fn len(&self) -> usize
+        ensures count { result ≡ length self.now.lines }
+        ensures lines { AreLines self.now.text self.now.lines }
+    {
+        self.lines.len()
+    }
+
+    /// Whether the text is empty, and so without lines.
+    pub fn is_empty(&self) -> bool
+        ensures { IsTrue result ↔ (self.now.lines ≡ []) }
+    {
+        self.lines.is_empty()
+    }
+
+    /// The line of that index, from 0.
+    pub fn line(&self, i: usize) -> Line
+        requires { i < length self.now.lines }
+        ensures item { slice_get self.now.lines i ≡ Some result }
+        ensures line { IsLine self.now.text result }
+        ensures cut { IsCutAt self.now.text result }
+        ensures lines { AreLines self.now.text self.now.lines }
+    {
+        self.lines[i]
+    }
+
+    /// Whether the line of that index is forbidden: whether it begins, behind its byte order marks, with a document
+    /// marker (c-forbidden, production 206).
+    pub fn is_forbidden(&self, i: usize) -> bool
+        requires { i < length self.now.lines }
+        ensures line { IfSome (slice_get self.now.lines i) (λ l. MatchBool result (IsForbiddenLine self.now.text l.start) (IsForbiddenLine self.now.text l.start → ⊥)) }
+        ensures within { IfSome (slice_get self.now.lines i) (λ l. MatchBool result ((h : ℕ) × (l.start ≤ h) × (h < l.next) × Forbidden self.now.text h) (Clear self.now.text l.start l.next)) }
+    {
+        let start = self.line(i).start;
+        is_forbidden_line(self.text, start)
+    }
+
+    /// The place of the offset: its line and column, both from 1.
+    ///
+    /// The line is found by halving, and the column by counting the characters of that line alone.
+    pub fn place(&self, offset: usize) -> Place
+        requires { IsCharBoundary self.now.text offset }
+        ensures place { PlaceOf self.now.text offset result.line result.column }
+        ensures only { (line column : ℕ) → PlaceOf self.now.text offset line column → (line ≡ result.line) × (column ≡ result.column) }
+    {
+        let begun = lines_begun(self.lines.as_slice(), offset);
+        if begun == 0 {
+            return Place { line: 1, column: 1 };
+        }
+        let line = self.line(begun - 1);
+        if line.end < line.next {
+            if offset == line.next {
+                return Place {
+                    line: begun + 1,
+                    column: 1,
+                };
+            }
+        }
+        Place {
+            line: begun,
+            column: column_in_line(self.text, line.start, offset),
+        }
+    }
+}
+
+// How many of the lines begin at the offset or before.
+fn lines_begun(lines: &[Line], offset: usize) -> usize
+    requires { IsNonDecreasingBy (λ l. l.start) lines.now }
+    ensures bound { result ≤ length lines.now }
+    ensures begun { Begun lines.now offset result }
+{
+    lines.partition_point(|line| line.start <= offset)
+}
+
+// The column of the offset, from 1, in the line that begins at `start`.
+fn column_in_line(text: &str, start: usize, offset: usize) -> usize
+    requires start { IsCharBoundary text.now start }
+    requires offset { IsCharBoundary text.now offset }
+    ensures { ColumnOf text.now start offset result }
+{
+    let mut at = skip_marks(text, start);
+    let mut column = 1;
+    if offset < at {
+        return column;
+    }
+    while at < offset {
+        match peek(text, at) {
+            Some((_, next)) => {
+                at = next;
+                column += 1;
+            }
+            None => unreachable!(),
+        }
+    }
+    column
+}
+
+// Whether the line that begins at the offset is forbidden.
+fn is_forbidden_line(text: &str, start: usize) -> bool
+    requires { IsCharBoundary text.now start }
+    ensures { MatchBool result (IsForbiddenLine text.now start) (IsForbiddenLine text.now start → ⊥) }
+{
+    let at = skip_marks(text, start);
+    marker_stands(text, at)
+}
+
+// The offset behind all byte order marks that stand at the offset.
+fn skip_marks(text: &str, at: usize) -> usize
+    requires { IsCharBoundary text.now at }
+    ensures marks { Marks text.now at result }
+    ensures boundary { IsCharBoundary text.now result }
+    ensures order { at ≤ result }
+{
+    let mut end = at;
+    while mark_stands(text, end) {
+        end += 3;
+    }
+    end
+}
+
+// The line that begins at the offset.
+fn read_line(text: &str, start: usize) -> Line
+    requires inside { start < length text.now }
+    requires boundary { IsCharBoundary text.now start }
+    requires apart { Apart text.now start }
+    ensures line { OneLine text.now start result.next (result ∷ []) }
+    ensures order { start < result.next }
+    ensures boundary { IsCharBoundary text.now result.next }
+    ensures apart { Apart text.now result.next }
+{
+    let past_spaces = skip_spaces(text, start);
+    let indent = past_spaces - start;
+    let end = line_end(text, past_spaces);
+    match line_break(text, end) {
+        Some(next) => Line {
+            start,
+            end,
+            next,
+            indent,
+        },
+        None => Line {
+            start,
+            end,
+            next: end,
+            indent,
+        },
+    }
+}
+
+// The offset of the first character of a break from there on, or the end of the text.
+fn line_end(text: &str, at: usize) -> usize
+    requires { at ≤ length text.now }
+    ensures unbroken { Unbroken text.now at result }
+    ensures stops { (is_break_char (code text.now result) ≡ true) ⊎ (result ≡ length text.now) }
+{
+    let mut end = at;
+    while end < text.len() {
+        if break_char_stands(text, end) {
+            return end;
+        }
+        end += 1;
+    }
+    end
+}
+
+// Whether a character of a line break begins at the offset.
+fn break_char_stands(text: &str, at: usize) -> bool
+    ensures { result ≡ is_break_char (code text.now at) }
+{
+    if stands(text, at, b'\n') {
+        return true;
+    }
+    stands(text, at, b'\r')
+}
+
+#[cfg(test)]
+mod tests {
+    use super::*;
+    use std::test::Fail;
+
+    #[test]
+    fn finds_the_lines(rt: HostRuntime) -> Result<(), Fail> {
+        let cases = [
+            ("", [].as_slice()),
+            ("\n\n", [[0, 0, 1, 0], [1, 1, 2, 0]].as_slice()),
+            ("a\r\nb", [[0, 1, 3, 0], [3, 4, 4, 0]].as_slice()),
+            ("a\r  b\r", [[0, 1, 2, 0], [2, 5, 6, 2]].as_slice()),
+            (" \ta\n  ", [[0, 3, 4, 1], [4, 6, 6, 2]].as_slice()),
+            ("\u{feff}c\n\u{e9}", [[0, 4, 5, 0], [5, 7, 7, 0]].as_slice()),
+        ];
+        for (text, lines) in cases {
+            let table = LineTable::build(rt.alloc(), text)?;
+            assert_eq!(rt; table.text(), text);
+            assert_eq!(rt; table.len(), lines.len(), "of {text:?}");
+            assert_eq!(rt; table.is_empty(), text.is_empty());
+            for (i, line) in lines.iter().enumerate() {
+                assert!(rt; i < table.len());
+                let found = table.line(i);
+                assert_eq!(rt; [found.start, found.end, found.next, found.indent], *line, "of {text:?}");
+            }
+        }
+        Ok(())
+    }
+
+    #[test]
+    fn finds_places(rt: HostRuntime) -> Result<(), Fail> {
+        let cases = [
+            ("", [[0, 1, 1]].as_slice()),
+            ("a\r\nb", [[0, 1, 1], [2, 1, 3], [3, 2, 1], [4, 2, 2]].as_slice()),
+            ("a\n", [[1, 1, 2], [2, 2, 1]].as_slice()),
+            ("a\rb\r", [[1, 1, 2], [2, 2, 1], [4, 3, 1]].as_slice()),
+            ("\u{e9}\u{20ac}x\n  \u{fc}", [[2, 1, 2], [5, 1, 3], [7, 2, 1], [9, 2, 3], [11, 2, 4]].as_slice()),
+            ("\u{feff}\u{feff}ab\n\u{feff}c", [[0, 1, 1], [3, 1, 1], [6, 1, 1], [8, 1, 3], [9, 2, 1], [12, 2, 1], [13, 2, 2]].as_slice()),
+            ("\u{feff}", [[3, 1, 1]].as_slice()),
+        ];
+        for (text, places) in cases {
+            let table = LineTable::build(rt.alloc(), text)?;
+            for [offset, line, column] in places {
+                assert!(rt; table.text().is_char_boundary(*offset));
+                let place = table.place(*offset);
+                assert_eq!(rt; [place.line, place.column], [*line, *column], "of {text:?} at {offset}");
+            }
+        }
+        Ok(())
+    }
+
+    #[test]
+    fn finds_forbidden_lines(rt: HostRuntime) -> Result<(), Fail> {
+        let text = "--- a\n---a\n...\n\u{feff}---\n----\n ---\n...\u{a0}\n..";
+        let forbidden = [true, false, true, true, false, false, false, false];
+        let table = LineTable::build(rt.alloc(), text)?;
+        assert_eq!(rt; table.len(), forbidden.len());
+        for (i, wanted) in forbidden.iter().enumerate() {
+            assert!(rt; i < table.len());
+            assert_eq!(rt; table.is_forbidden(i), *wanted, "line {i}");
+        }
+        Ok(())
+    }
+}

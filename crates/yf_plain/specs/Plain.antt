@@ -1,0 +1,55 @@
+-- Plain scalars (YAML 1.2.2, section 7.3.3) as relations between byte offsets of a text t: what stands from i to j is
+-- derived with the text x, a list of characters. n is an indentation, from -1; c is a context.
+use Rattle.std.specs.Prelude.{◌≡◌, ℕ, ◌+◌, ℤ, Bool, true, ◌==◌, ◌&&◌, ◌||◌, not, List, [], ◌∷◌, ◌++◌}
+use Rattle.yf_chars.specs.declared.context.Ctx.{Ctx}
+use Rattle.yf_chars.specs.Text.{code, next, before}
+use Rattle.yf_chars.specs.Class.{is_ns_char, is_indicator, is_white, is_plain_safe}
+use Rattle.yf_chars.specs.Chain.{Chain, Many}
+use Rattle.yf_lines.specs.Basic.{FlowFolded, Clear, is_flow, is_key}
+
+-- the indicators ? : and -
+unfoldable pub is_sign : ℕ → Bool
+is_sign c = (c == 63) || (c == 58) || (c == 45)
+
+-- ns-plain-first(c): the character at i may begin a plain scalar; one of ? : - may where it is followed by a
+-- character that is safe
+unfoldable pub is_plain_first : List ℕ → Ctx → ℕ → Bool
+is_plain_first t c i =
+    (is_ns_char (code t i) && not (is_indicator (code t i)))
+    || (is_sign (code t i) && is_plain_safe (code t (i + 1)) c)
+
+-- ns-plain-char(c): the character at i may stand in a plain scalar; # may behind a character that is no white, and :
+-- before one that is safe
+unfoldable pub is_plain_char : List ℕ → Ctx → ℕ → Bool
+is_plain_char t c i =
+    (is_plain_safe (code t i) c && (not (code t i == 58) && not (code t i == 35)))
+    || ((code t i == 35) && is_ns_char (before t i))
+    || ((code t i == 58) && is_plain_safe (code t (i + 1)) c)
+
+-- whites, and the character behind them: one round of nb-ns-plain-in-line(c)
+pub data PlainItem (t : List ℕ) (c : Ctx) : ℕ → ℕ → List ℕ → Type 0 where
+  set_off : {i h : ℕ} {x : List ℕ} → Many t is_white i h x → is_plain_char t c h ≡ true → PlainItem t c i (next t h) (x ++ code t h ∷ [])
+
+-- ns-plain-one-line(c)
+pub data PlainLine (t : List ℕ) (c : Ctx) : ℕ → ℕ → List ℕ → Type 0 where
+  one_line : {i j : ℕ} {x : List ℕ} → is_plain_first t c i ≡ true → Chain (PlainItem t c) (next t i) j x → PlainLine t c i j (code t i ∷ x)
+
+-- s-ns-plain-next-line(n,c): a folded break, and the characters of the line behind it
+pub data PlainNext (t : List ℕ) (n : ℤ) (c : Ctx) : ℕ → ℕ → List ℕ → Type 0 where
+  next_line : {i h j : ℕ} {x y : List ℕ} → FlowFolded t n i h x → is_plain_char t c h ≡ true → Chain (PlainItem t c) (next t h) j y
+      → PlainNext t n c i j (x ++ code t h ∷ y)
+
+-- ns-plain(n,c): keys are on one line; none in the two block contexts
+pub data PlainText (t : List ℕ) (n : ℤ) (c : Ctx) : ℕ → ℕ → List ℕ → Type 0 where
+  as_key : {i j : ℕ} {x : List ℕ} → is_key c ≡ true → PlainLine t c i j x → PlainText t n c i j x
+  as_lines : {i h j : ℕ} {x y : List ℕ} → is_flow c ≡ true → PlainLine t c i h x → Chain (PlainNext t n c) h j y → PlainText t n c i j (x ++ y)
+
+-- the part of a plain scalar on its first line, where it begins no forbidden line
+pub record PlainFront (t : List ℕ) (c : Ctx) (i j : ℕ) (x : List ℕ) : Type 0 where
+  pub text : PlainLine t c i j x
+  pub clear : Clear t i j
+
+-- a plain scalar: it covers no forbidden line
+pub record Plain (t : List ℕ) (n : ℤ) (c : Ctx) (i j : ℕ) (x : List ℕ) : Type 0 where
+  pub text : PlainText t n c i j x
+  pub clear : Clear t i j

@@ -1,0 +1,4 @@
+//! Plain scalars (YAML 1.2.2, section 7.3.3): their reader, and which texts stay plain when they are written.
+#![tactic(auto)]
+
+pub mod plain;

@@ -1,0 +1,84 @@
+-- Names are as long as their characters go, so where one ends is unique.
+use Rattle.std.proofs.Common.{◌≡◌, ◌≢◌, ℕ, ◌+◌, ◌<◌, ◌≤◌, Bool, true, false, List, [], ◌∷◌, ◌++◌, slice_range, refl, sym, ap, ◌∙◌, subst, arith, true≢false}
+use Rattle.yf_chars.specs.Text.{code, next, no_char, Reads}
+use Rattle.yf_chars.specs.Class.{is_anchor_char, is_ns_char, is_nb_char, is_printable, is_between, is_break_char, is_white, is_flow_indicator}
+use Rattle.yf_chars.specs.Chain.{Chain, Functional, Stuck, Chosen, One, Many}
+use Rattle.yf_chars.specs.Chain.Chain.{done, step}
+use Rattle.yf_chars.proofs.ChainLemmas.{chain_forward, many_more, one_functional, one_stuck, stuck_unique}
+use Rattle.yf_props.specs.Names.{AnchorChar, Run, Anchor, Alias}
+use Rattle.yf_props.specs.Names.Anchor.{ampersand_name}
+use Rattle.yf_props.specs.Names.Alias.{asterisk_name}
+
+-- what is derived in one way alone is chosen
+pub chosen_alone : {X : Type 0} {P : ℕ → X → Type 0} {j : ℕ} {x : X} → P j x
+    → ((k : ℕ) (y : X) → P k y → (k ≡ j) × (y ≡ x)) → Chosen P j x
+chosen_alone {j = j} d same = record {
+  derived = d;
+  longest = λ k y e. let s = (same k y e).0 in omega arith;
+  only = λ y e. (same j y e).1;
+}
+
+-- runs
+module _ {S : ℕ → ℕ → List ℕ → Type 0} where
+  pub run_unique : {i j k : ℕ} → Functional S → Run S i j → Run S i k → j ≡ k
+  run_unique f r s = (stuck_unique f r.chain r.all s.chain s.all).0
+
+  no_way : {i j : ℕ} {x : List ℕ} → Stuck (S i) → Chain S i j x → i < j → ⊥
+  no_way stuck done l = absurd (omega arith)
+  no_way stuck (step {h = h} {x = x} s c) l = stuck.none h x s
+
+  -- where there is no character there is no run
+  pub run_stuck : {i j : ℕ} → Stuck (S i) → Run S i j → ⊥
+  run_stuck stuck r = no_way stuck r.chain r.some
+
+pub run_of : (t : List ℕ) (p : ℕ → Bool) {i j : ℕ} {x : List ℕ} → Many t p i j x → i < j → p (code t j) ≡ false → Run (One t p) i j
+run_of t p {j = j} {x = x} m l e = record { characters = x; chain = m; some = l; all = one_stuck t p j e }
+
+-- a run and the next character of its class
+pub many_past : (t : List ℕ) (p : ℕ → Bool) {i j c k : ℕ} {x : List ℕ} → Many t p i j x → Reads t j c k → p c ≡ true
+    → Many t p i k (x ++ code t j ∷ [])
+many_past t p {i = i} {j = j} {x = x} m r e =
+    let f : p (code t j) ≡ true = ap p r.char ∙ e in
+    subst (λ k. Many t p i k (x ++ code t j ∷ [])) r.end (many_more t p m f)
+
+-- aliases and anchors
+module _ {t : List ℕ} where
+  name_unique : {i j k : ℕ} → Run (AnchorChar t) i j → Run (AnchorChar t) i k → j ≡ k
+  name_unique r s = run_unique (one_functional t is_anchor_char) r s
+
+  pub alias_unique : {i j k : ℕ} {x y : List ℕ} → Alias t i j x → Alias t i k y → (k ≡ j) × (y ≡ x)
+  alias_unique {i} (asterisk_name e r) (asterisk_name f s) =
+      let same = name_unique s r in (same, ap (slice_range t (i + 1)) same)
+
+  pub anchor_unique : {i j k : ℕ} {x y : List ℕ} → Anchor t i j x → Anchor t i k y → (k ≡ j) × (y ≡ x)
+  anchor_unique {i} (ampersand_name e r) (ampersand_name f s) =
+      let same = name_unique s r in (same, ap (slice_range t (i + 1)) same)
+
+  pub alias_chosen : {i j : ℕ} → code t i ≡ 42 → Run (AnchorChar t) (i + 1) j → Chosen (Alias t i) j (slice_range t (i + 1) j)
+  alias_chosen {i} {j} e r = let d = asterisk_name e r in chosen_alone d (λ k y f. alias_unique d f)
+
+  pub anchor_chosen : {i j : ℕ} → code t i ≡ 38 → Run (AnchorChar t) (i + 1) j → Chosen (Anchor t i) j (slice_range t (i + 1) j)
+  anchor_chosen {i} {j} e r = let d = ampersand_name e r in chosen_alone d (λ k y f. anchor_unique d f)
+
+  alias_parts : {i j : ℕ} {x : List ℕ} → Alias t i j x → (code t i ≡ 42) × Run (AnchorChar t) (i + 1) j
+  alias_parts (asterisk_name e r) = (e, r)
+
+  anchor_parts : {i j : ℕ} {x : List ℕ} → Anchor t i j x → (code t i ≡ 38) × Run (AnchorChar t) (i + 1) j
+  anchor_parts (ampersand_name e r) = (e, r)
+
+  pub no_alias_here : {i : ℕ} → code t i ≢ 42 → Stuck (Alias t i)
+  no_alias_here n = record { none = λ j x a. n (alias_parts a).0 }
+
+  pub no_anchor_here : {i : ℕ} → code t i ≢ 38 → Stuck (Anchor t i)
+  no_anchor_here n = record { none = λ j x a. n (anchor_parts a).0 }
+
+  pub no_alias_name : {i : ℕ} → is_anchor_char (code t (i + 1)) ≡ false → Stuck (Alias t i)
+  no_alias_name {i} n = record { none = λ j x a. run_stuck (one_stuck t is_anchor_char (i + 1) n) (alias_parts a).1 }
+
+  pub no_anchor_name : {i : ℕ} → is_anchor_char (code t (i + 1)) ≡ false → Stuck (Anchor t i)
+  no_anchor_name {i} n = record { none = λ j x a. run_stuck (one_stuck t is_anchor_char (i + 1) n) (anchor_parts a).1 }
+
+-- at the end of the text no character of a name stands
+pub no_anchor_char : (c : ℕ) → c ≡ no_char → is_anchor_char c ≡ false
+unfolding is_anchor_char is_ns_char is_nb_char is_printable is_between is_break_char is_white is_flow_indicator
+no_anchor_char c e = ap is_anchor_char e

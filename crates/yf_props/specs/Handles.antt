@@ -1,0 +1,54 @@
+-- The tag handles of a document (YAML 1.2.2, 6.8.2), and the text of a tag (6.9.1).
+use Rattle.std.specs.Prelude.{◌≡◌, ℕ, List, [], ◌∷◌, ◌++◌, Bool, is_some, Option, Some, None, codes, cond}
+use Rattle.std.specs.Borrow.{Bor}
+use Rattle.std.specs.Map.{lookup}
+use Rattle.std.specs.Str.{IsUtf8, bytes_eq}
+use Rattle.percent_encoding.specs.Percent.{percent_decode}
+use Rattle.yf_props.specs.Props.{TagValue}
+use Rattle.yf_props.specs.Props.TagValue.{IsVerbatim, IsShort, IsNonSpecific}
+
+-- a handle, with its exclamation marks, and its prefix
+abbrev pub Declaration : Type 0
+Declaration = List ℕ × List ℕ
+
+-- the prefix that is declared for a handle
+abbrev pub declared_prefix : List Declaration → List ℕ → Option (List ℕ)
+declared_prefix ds handle = lookup (bytes_eq handle) ds
+
+-- the prefix that a handle has where none is declared for it
+abbrev pub default_prefix : List ℕ → Option (List ℕ)
+default_prefix handle = cond (bytes_eq handle (codes "!")) (Some (codes "!"))
+    (cond (bytes_eq handle (codes "!!")) (Some (codes "tag:yaml.org,2002:")) None)
+
+abbrev pub or_else : Option (List ℕ) → Option (List ℕ) → Option (List ℕ)
+or_else None q = q
+or_else (Some x) q = Some x
+
+-- the prefix of a handle: the declared one, or else the default
+abbrev pub prefix_of : List Declaration → List ℕ → Option (List ℕ)
+prefix_of ds handle = or_else (declared_prefix ds handle) (default_prefix handle)
+
+-- what a suffix stands for: each % with two hexadecimal digits is a byte, but where the bytes are then no text the suffix
+-- stands for itself
+pub data SuffixText (suffix : List ℕ) : List ℕ → Type 0 where
+  as_decoded : IsUtf8 (percent_decode suffix) → SuffixText suffix (percent_decode suffix)
+  as_written : ¬ (IsUtf8 (percent_decode suffix)) → SuffixText suffix suffix
+
+-- what a tag stands for, with these declarations
+pub data TagText (ds : List Declaration) : TagValue → List ℕ → Type 0 where
+  verbatim_text : {text : List ℕ} → TagText ds (IsVerbatim text) text
+  shorthand_text : {handle prefix suffix x : List ℕ} → prefix_of ds handle ≡ Some prefix → SuffixText suffix x
+      → TagText ds (IsShort handle suffix) (prefix ++ x)
+  non_specific_text : TagText ds IsNonSpecific (codes "!")
+
+-- the tag's handle is neither declared nor a default
+pub data UnknownHandleOf (ds : List Declaration) : TagValue → Type 0 where
+  no_prefix : {handle suffix : List ℕ} → prefix_of ds handle ≡ None → UnknownHandleOf ds (IsShort handle suffix)
+
+-- whether a declaration of the handle stands
+abbrev pub is_declared : List Declaration → List ℕ → Bool
+is_declared ds handle = is_some (declared_prefix ds handle)
+
+-- what an entry of the map is to a contract
+abbrev pub declaration : Bor (List ℕ) × Bor (List ℕ) → Declaration
+declaration e = (e.0.now, e.1.now)

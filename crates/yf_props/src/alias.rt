@@ -1,0 +1,77 @@
+//! Names of anchors and aliases (YAML 1.2.2, sections 6.9.2 and 7.1).
+ghost use Rattle.std.specs.Prelude.{◌≡◌, ◌+◌, ◌<◌, ◌≤◌, ℕ, List, false, slice_range, IfSome, MatchOption};
+ghost use Rattle.std.specs.Str.{IsCharBoundary};
+ghost use Rattle.yf_chars.specs.Chain.{Chosen, Stuck, Many};
+ghost use Rattle.yf_chars.specs.Class.{is_anchor_char};
+ghost use Rattle.yf_chars.specs.Text.{code};
+ghost use Rattle.yf_props.specs.Names.{AnchorChar, Run, Alias, Anchor};
+
+use yf_chars::classes::is_anchor_char;
+use yf_chars::text::{peek, stands};
+
+// The offset behind all characters of a name that stand at the offset.
+fn skip_anchor_chars(s: &str, at: usize) -> usize
+    requires { IsCharBoundary s.now at }
+    ensures chars { (x : List ℕ) × Many s.now is_anchor_char at result x }
+    ensures all { is_anchor_char (code s.now result) ≡ false }
+    ensures boundary { IsCharBoundary s.now result }
+    ensures order { at ≤ result }
+{
+    let mut end = at;
+    'chars: loop {
+        match peek(s, end) {
+            Some((c, next)) => {
+                if is_anchor_char(c) {
+                    end = next;
+                } else {
+                    return end;
+                }
+            }
+            None => return end,
+        }
+    }
+}
+
+// Reads the name of an anchor or an alias (ns-anchor-name, production 103) and gives it with the offset behind it.
+fn anchor_name<'a>(s: &'a str, at: usize) -> Option<(&'a str, usize)>
+    requires { IsCharBoundary s.now at }
+    ensures reads { MatchOption result (is_anchor_char (code s.now at) ≡ false) (λ p. Run (AnchorChar s.now) at p.1) }
+    ensures name { IfSome result (λ p. p.0.now ≡ slice_range s.now at p.1) }
+    ensures boundary { IfSome result (λ p. IsCharBoundary s.now p.1) }
+{
+    let end = skip_anchor_chars(s, at);
+    if end > at {
+        return Some((&s[at..end], end));
+    }
+    None
+}
+
+/// Reads an alias (c-ns-alias-node, production 104): its name, without the `*`, and the byte offset behind it.
+///
+/// The name is as long as its characters go; `None` where no alias begins at the offset.
+pub fn read_alias<'a>(s: &'a str, at: usize) -> Option<(&'a str, usize)>
+    ensures reads { MatchOption result (Stuck (Alias s.now at)) (λ p. Chosen (Alias s.now at) p.1 p.0.now) }
+    ensures boundary { IfSome result (λ p. IsCharBoundary s.now p.1) }
+{
+    if stands(s, at, b'*') {
+        return match anchor_name(s, at + 1) {
+            Some((name, end)) => Some((name, end)),
+            None => None,
+        };
+    }
+    None
+}
+
+// Reads an anchor (c-ns-anchor-property, production 101): its name, without the `&`, and the offset behind it.
+pub(crate) fn read_anchor<'a>(s: &'a str, at: usize) -> Option<(&'a str, usize)>
+    ensures reads { MatchOption result (Stuck (Anchor s.now at)) (λ p. Chosen (Anchor s.now at) p.1 p.0.now) }
+    ensures boundary { IfSome result (λ p. IsCharBoundary s.now p.1) }
+{
+    if stands(s, at, b'&') {
+        return match anchor_name(s, at + 1) {
+            Some((name, end)) => Some((name, end)),
+            None => None,
+        };
+    }
+    None
+}
