@@ -1,7 +1,7 @@
 //! Lists of events and of comments.
-ghost use Rattle.std.specs.Prelude.{◌≡◌, ◌<◌, [], ◌∷◌, ◌++◌, length, map, slice_get, if◌then◌else◌, is_ok};
+ghost use Rattle.std.specs.Prelude.{◌≡◌, ◌<◌, ◌≤◌, [], ◌∷◌, ◌++◌, length, map, slice_get, if◌then◌else◌, is_ok};
 
-use crate::event::PlacedEvent;
+use crate::event::{Entry, PlacedEvent, Span};
 use std::alloc::{AllocError, Global};
 use std::marker::Model;
 use yf_comments::comment::Comment;
@@ -22,6 +22,7 @@ impl<'a> Model for Events<'a> {
 }
 
 impl<'a> Events<'a> {
+    ghost use Rattle.std.specs.List.{insert};
     ghost use Rattle.yf_events.specs.Event.{placed_value};
 
     pub fn new(alloc: Global) -> Events<'a>
@@ -38,6 +39,42 @@ impl<'a> Events<'a> {
     {
         self.list.push(event)?;
         Ok(())
+    }
+
+    /// Adds an event before the one at an index, or at the end where the index is the length.
+    pub fn insert(&mut self, i: usize, event: PlacedEvent<'a>) -> Result<(), AllocError>
+        requires { i ≤ length self.old }
+        ensures { self.new ≡ (if is_ok result then insert self.old i (placed_value event.entry) else self.old) }
+    {
+        self.list.insert(i, event)?;
+        Ok(())
+    }
+
+    /// Sets where the node ends that the event at an index begins. A node without a place, as an empty one, stays so.
+    pub fn set_end(&mut self, i: usize, end: usize)
+        requires { i < length self.old }
+        ensures { length self.new ≡ length self.old }
+    {
+        if let Some(span) = self.list[i].span {
+            self.list[i].span = Some(Span {
+                start: span.start,
+                end,
+            });
+        }
+    }
+
+    /// Sets where the `:` stands of the entry that the event at an index begins, if it begins one.
+    pub fn set_colon(&mut self, i: usize, colon: usize)
+        requires { i < length self.old }
+        ensures { length self.new ≡ length self.old }
+    {
+        if let Some(entry) = self.list[i].entry {
+            self.list[i].entry = Some(Entry {
+                start: entry.start,
+                colon: Some(colon),
+                blank_before: entry.blank_before,
+            });
+        }
     }
 
     pub fn len(&self) -> usize

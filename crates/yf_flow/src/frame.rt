@@ -13,24 +13,26 @@ pub(crate) struct Scene<'a> {
 }
 
 /// What an open collection is. A single pair is a mapping without brackets, in a sequence.
-#[derive(Clone, Copy, PartialEq, Eq)]
+#[derive(Clone, Copy, Default)]
 pub(crate) enum Kind {
+    #[default]
     Sequence,
     Mapping,
     Pair,
 }
 
 /// What a node is to the entry that it stands in.
-#[derive(Clone, Copy)]
+#[derive(Clone, Copy, Default)]
 pub(crate) enum Role {
     /// An item of a sequence, or the key of a single pair.
+    #[default]
     Item,
     Key,
     Value,
 }
 
 /// An open collection: what is left to do of it, once the node within it has been read.
-#[derive(Clone, Copy)]
+#[derive(Clone, Copy, Default)]
 pub(crate) struct Frame {
     pub(crate) kind: Kind,
     /// How many collections are open, this one counted.

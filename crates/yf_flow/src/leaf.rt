@@ -5,17 +5,12 @@ use std::alloc::{AllocError, Global};
 use yf_chars::classes::{is_anchor_char, is_ns_char, is_indicator, is_plain_safe};
 use yf_chars::context::Ctx;
 use yf_chars::text::{peek, stands};
-use yf_comments::comment::Comment;
-use yf_events::events::Comments;
+use yf_comments::comments::Comments as Kept;
+use yf_comments::separation::separate;
 use yf_events::part::Part;
-use yf_lines::basic::{is_line_start, line_break, skip_spaces, skip_whites};
+use yf_lines::basic::skip_whites;
 use yf_lines::text::Text;
 use yf_props::props::{Props, Tag};
-
-pub(crate) struct Alias<'a> {
-    pub(crate) name: &'a str,
-    pub(crate) end: usize,
-}
 
 #[derive(Drop)]
 pub(crate) struct Scalar<'a> {
@@ -27,13 +22,7 @@ pub(crate) struct Scalar<'a> {
 pub(crate) struct Properties<'a> {
     pub(crate) props: Props<'a>,
     pub(crate) tag_offset: Option<usize>,
-    pub(crate) comments: Comments<'a>,
-    pub(crate) end: usize,
-}
-
-#[derive(Drop)]
-pub(crate) struct Separation<'a> {
-    pub(crate) comments: Comments<'a>,
+    pub(crate) comments: Kept<'a>,
     pub(crate) end: usize,
 }
 
@@ -43,7 +32,7 @@ pub(crate) struct Gap {
     pub(crate) is_separation: bool,
 }
 
-pub(crate) fn keep_comments<'a>(comments: &Comments<'a>, part: &mut Part<'a>) -> Result<(), AllocError> {
+pub(crate) fn keep_comments<'a>(comments: &Kept<'a>, part: &mut Part<'a>) -> Result<(), AllocError> {
     for comment in comments.as_slice() {
         part.comments.push(*comment)?;
     }
@@ -53,7 +42,7 @@ pub(crate) fn keep_comments<'a>(comments: &Comments<'a>, part: &mut Part<'a>) ->
 /// Reads the separation at an offset, if there is one, and keeps its comments (s-separate(n,c), production 80): where it
 /// ends.
 pub(crate) fn read_separation_into<'a>(alloc: Global, scene: Scene<'a>, at: usize, part: &mut Part<'a>) -> Result<Option<usize>, AllocError> {
-    match read_separation(alloc, scene.text, at, scene.indentation, scene.context)? {
+    match separate(alloc, scene.text, at, scene.indentation, scene.context)? {
         Some(separation) => {
             keep_comments(&separation.comments, part)?;
             Ok(Some(separation.end))
@@ -85,20 +74,9 @@ fn name_end(s: &str, at: usize) -> usize {
     }
 }
 
-pub(crate) fn read_alias<'a>(s: &'a str, at: usize) -> Option<Alias<'a>> {
-    if !stands(s, at, b'*') {
-        return None;
-    }
-    let end = name_end(s, at + 1);
-    if end == at + 1 {
-        return None;
-    }
-    Some(Alias { name: &s[at + 1..end], end })
-}
-
 pub(crate) fn read_props<'a>(alloc: Global, s: &'a str, at: usize, n: i32, ctx: Ctx) -> Result<Option<Properties<'a>>, AllocError> {
     if stands(s, at, b'!') {
-        return Ok(Some(Properties { props: Props { anchor: None, tag: Some(Tag::NonSpecific) }, tag_offset: Some(at), comments: Comments::new(alloc), end: at + 1 }));
+        return Ok(Some(Properties { props: Props { anchor: None, tag: Some(Tag::NonSpecific) }, tag_offset: Some(at), comments: Kept::new(alloc), end: at + 1 }));
     }
     if !stands(s, at, b'&') {
         return Ok(None);
@@ -107,7 +85,7 @@ pub(crate) fn read_props<'a>(alloc: Global, s: &'a str, at: usize, n: i32, ctx: 
     if end == at + 1 {
         return Ok(None);
     }
-    Ok(Some(Properties { props: Props { anchor: Some(&s[at + 1..end]), tag: None }, tag_offset: None, comments: Comments::new(alloc), end }))
+    Ok(Some(Properties { props: Props { anchor: Some(&s[at + 1..end]), tag: None }, tag_offset: None, comments: Kept::new(alloc), end }))
 }
 
 pub(crate) fn read_plain<'a>(alloc: Global, s: &'a str, at: usize, n: i32, ctx: Ctx) -> Result<Option<Scalar<'a>>, AllocError> {
@@ -184,52 +162,3 @@ pub(crate) fn scan_double<'a>(alloc: Global, s: &'a str, at: usize, n: i32, ctx:
     Ok(quoted(s, at, b'"'))
 }
 
-pub(crate) fn read_separation<'a>(alloc: Global, s: &'a str, at: usize, n: i32, ctx: Ctx) -> Result<Option<Separation<'a>>, AllocError> {
-    let mut comments = Comments::new(alloc);
-    let mut end = skip_whites(s, at);
-    let in_line = end > at || is_line_start(s, at);
-    let key = match ctx {
-        Ctx::BlockKey | Ctx::FlowKey => true,
-        _ => false,
-    };
-    let mut some = in_line;
-    let mut best = end;
-    if key {
-        if some {
-            return Ok(Some(Separation { comments, end: best }));
-        }
-        return Ok(None);
-    }
-    let mut starts = in_line;
-    loop {
-        let mut place = skip_whites(s, end);
-        if starts || place > end {
-            if stands(s, place, b'#') {
-                let from = place;
-                loop {
-                    match peek(s, place) {
-                        Some(('\n' | '\r', _)) | None => break,
-                        Some((_, next)) => place = next,
-                    }
-                }
-                comments.push(Comment { text: &s[from..place], offset: from, blank_before: false })?;
-            }
-        }
-        match line_break(s, place) {
-            Some(next) => {
-                end = next;
-                starts = true;
-                let spaces = skip_spaces(s, end);
-                if spaces - end >= n as usize {
-                    best = skip_whites(s, end);
-                    some = true;
-                }
-            }
-            None => break,
-        }
-    }
-    if some {
-        return Ok(Some(Separation { comments, end: best }));
-    }
-    Ok(None)
-}

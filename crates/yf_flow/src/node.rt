@@ -1,14 +1,16 @@
 //! Nodes: what may stand as an item, a key or a value, and the events of them.
 
 use crate::frame::{Frame, Kind, Node, Role, Scene};
-use crate::leaf::{keep_comments, read_alias, read_plain, read_props, read_separation, read_single, scan_double, Properties};
+use crate::leaf::{keep_comments, read_plain, read_props, read_single, scan_double, Properties};
 use crate::look::content_begins;
 use std::alloc::{AllocError, Global};
 use yf_chars::text::stands;
+use yf_comments::separation::separate;
 use yf_events::event::{Entry, Event, PlacedEvent, ScalarStyle, Span};
 use yf_events::part::Part;
 use yf_events::slices::Slices;
 use yf_lines::text::Text;
+use yf_props::alias::read_alias;
 use yf_props::props::Props;
 
 /// What is known of a node before its content: where it begins, its properties, and the entry that it begins.
@@ -87,10 +89,10 @@ pub(crate) fn empty_node<'a>(alloc: Global, entry: Option<Entry>) -> PlacedEvent
 /// Begins a node (ns-flow-node, production 161), where so many collections are open.
 pub(crate) fn begin_node<'a>(alloc: Global, scene: Scene<'a>, at: usize, entry: Option<Entry>, depth: usize, part: &mut Part<'a>) -> Result<Begun, AllocError> {
     match read_alias(scene.text, at) {
-        Some(alias) => {
-            let event = Event::Alias { name: alias.name };
-            part.events.push(Lead::bare(at, entry).placed(alloc, event, alias.end))?;
-            return Ok(Begun::Leaf(Node { end: alias.end, json: false, deepest: depth }));
+        Some((name, end)) => {
+            let event = Event::Alias { name };
+            part.events.push(Lead::bare(at, entry).placed(alloc, event, end))?;
+            return Ok(Begun::Leaf(Node { end, json: false, deepest: depth }));
         }
         None => {}
     }
@@ -110,7 +112,7 @@ pub(crate) fn begin_node<'a>(alloc: Global, scene: Scene<'a>, at: usize, entry: 
 fn propertied_node<'a>(alloc: Global, scene: Scene<'a>, at: usize, properties: Properties<'a>, entry: Option<Entry>, depth: usize, part: &mut Part<'a>) -> Result<Begun, AllocError> {
     let lead = Lead { start: at, props: properties.props, tag_offset: properties.tag_offset, entry };
     keep_comments(&properties.comments, part)?;
-    match read_separation(alloc, scene.text, properties.end, scene.indentation, scene.context)? {
+    match separate(alloc, scene.text, properties.end, scene.indentation, scene.context)? {
         Some(separation) => {
             if content_begins(scene.text, separation.end) {
                 keep_comments(&separation.comments, part)?;
