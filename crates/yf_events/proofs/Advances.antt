@@ -1,10 +1,10 @@
 -- One event of the pass, by what it does to what is awaited.
-use Rattle.std.proofs.Common.{ℕ, suc, zero, ◌+◌, ◌-◌, ◌<◌, ◌≤◌, ◌≡◌, Bool, true, false, List, [], ◌∷◌, ◌++◌, Option, Some, None, length, refl, sym, ap, ◌∙◌, arith, length-append, map, drop, ◌==◌}
+use Rattle.std.proofs.Common.{ℕ, suc, zero, ◌+◌, ◌-◌, ◌<◌, ◌≤◌, ◌≡◌, false, List, [], ◌∷◌, ◌++◌, Some, None, length, refl, sym, ap, ◌∙◌, arith, length-append, map, drop, ◌==◌}
 use Rattle.std.specs.Prelude.{reverse}
 use Rattle.std.proofs.lemmas.Bool.Decides.{nat_tests}
 use Rattle.std.proofs.lemmas.List.{reverse-append, length-reverse, drop_all}
 use Rattle.yf_events.specs.Event.{EventValue}
-use Rattle.yf_events.specs.Nesting.{Advances, move_at, run, runs_on, is_over}
+use Rattle.yf_events.specs.Nesting.{Advances, move_at, run, is_over}
 use Rattle.yf_events.specs.declared.nesting.Awaited.{Awaited}
 use Rattle.yf_events.specs.declared.nesting.Awaited.TheVariants.{Stream, Documents, Root, Closing, Items, Keys, Values, Nothing}
 use Rattle.yf_events.specs.declared.nesting.Move.TheVariants.{Refuse, Stay, Open, Close}

@@ -1,8 +1,8 @@
 -- From the pass over a slice of events to the reading's events.
-use Rattle.std.proofs.Common.{ℕ, ◌≡◌, Bool, true, false, List, [], map, refl, sym, ap, ◌∙◌, subst}
+use Rattle.std.proofs.Common.{ℕ, ◌≡◌, Bool, true, false, List, [], map, sym, ap, ◌∙◌}
 use Rattle.std.proofs.lemmas.Simd.{map-map}
 use Rattle.std.proofs.lemmas.Bool.{false≢true}
-use Rattle.yf_events.specs.Event.{EventValue, event_value, Placed, placed_value}
+use Rattle.yf_events.specs.Event.{event_value, placed_value}
 use Rattle.yf_events.specs.Nested.{IsStream}
 use Rattle.yf_events.specs.Nesting.{run}
 use Rattle.yf_events.specs.Reading.{events_of}

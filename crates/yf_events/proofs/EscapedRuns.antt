@@ -1,12 +1,11 @@
 -- A text is written in runs of bytes that are not escaped, and the escapes between them.
-use Rattle.std.proofs.Common.{ℕ, zero, suc, ◌+◌, ◌-◌, ◌<◌, ◌≤◌, ◌≡◌, Bool, true, false, List, [], ◌∷◌, ◌++◌, length, take, drop, get_or, refl, sym, ap, ◌∙◌, arith, append_assoc, append-nil, take-append-drop, drop-cons, add-one, slice_index, Option, subst, ◌||◌, ◌==◌, nat_lt, cond, ◌/◌, ◌%◌}
-use Rattle.std.specs.List.{flat_map}
+use Rattle.std.proofs.Common.{ℕ, zero, suc, ◌-◌, ◌<◌, ◌≤◌, ◌≡◌, Bool, false, List, [], ◌∷◌, ◌++◌, length, take, drop, refl, sym, ap, ◌∙◌, arith, take-append-drop, slice_index, Option, subst}
 use Rattle.std.proofs.lemmas.List.Concat.{flat_map-append}
-use Rattle.std.proofs.lemmas.List.{drop_all, take_rest}
+use Rattle.std.proofs.lemmas.List.{take_rest}
 use Rattle.std.proofs.lemmas.Bool.Decides.{nat_tests}
 use Rattle.yf_lines.specs.Output.{Wrote}
 use Rattle.yf_lines.proofs.OutputLemmas.{Progress, progress_done}
-use Rattle.yf_events.specs.Notation.{escaped, escaped_byte, is_escaped, hex_digit}
+use Rattle.yf_events.specs.Notation.{escaped, escaped_byte, is_escaped}
 
 escaped_nil : escaped [] ≡ []
 unfolding escaped

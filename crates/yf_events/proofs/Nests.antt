@@ -1,11 +1,11 @@
 -- The one-pass test accepts exactly the well nested streams.
-use Rattle.std.proofs.Common.{ℕ, suc, zero, ◌+◌, ◌≤◌, ◌≡◌, Bool, true, false, List, [], ◌∷◌, ◌++◌, Option, Some, None, refl, sym, ap, ◌∙◌, subst, append_assoc, arith}
+use Rattle.std.proofs.Common.{ℕ, suc, zero, ◌≤◌, ◌≡◌, Bool, true, List, [], ◌∷◌, ◌++◌, Some, refl, ◌∙◌, append_assoc, arith}
 use Rattle.yf_props.specs.Props.{PropsValue}
-use Rattle.yf_events.specs.Event.{EventValue, stream_starts, stream_ends, document_starts, document_ends, sequence_starts, sequence_ends, mapping_starts, mapping_ends, scalar_node, alias_node}
+use Rattle.yf_events.specs.Event.{EventValue, stream_starts, stream_ends, document_starts, document_ends, sequence_starts, sequence_ends, mapping_starts, mapping_ends}
 use Rattle.yf_events.specs.Nested.{Shape, one_node, many_nodes, many_pairs, many_documents, Nested, a_scalar, an_alias, a_sequence, a_mapping, no_nodes, more_nodes, no_pairs, more_pairs, no_documents, more_documents, IsStream, a_stream}
-use Rattle.yf_events.specs.Nesting.{after_node, move_at, enter, run, stay_if, open_if}
+use Rattle.yf_events.specs.Nesting.{after_node, move_at, run, stay_if}
 use Rattle.yf_events.specs.declared.nesting.Awaited.{Awaited}
-use Rattle.yf_events.specs.declared.nesting.Awaited.TheVariants.{Stream, Documents, Root, Closing, Items, Keys, Values, Nothing}
+use Rattle.yf_events.specs.declared.nesting.Awaited.TheVariants.{Stream, Documents, Root, Closing, Items, Keys, Values}
 
 -- Complete: each part is passed over
 

@@ -1,14 +1,12 @@
 -- What the one-pass test accepts is a well nested stream.
-use Rattle.std.proofs.Common.{ℕ, suc, zero, ◌+◌, ◌≤◌, ◌≡◌, Bool, true, false, List, [], ◌∷◌, ◌++◌, Option, Some, None, refl, sym, ap, ◌∙◌, subst, append_assoc, arith}
+use Rattle.std.proofs.Common.{ℕ, suc, zero, ◌≡◌, Bool, true, List, [], ◌∷◌, ◌++◌, Option, Some, None, refl, sym, subst, append_assoc}
 use Rattle.yf_props.specs.Props.{PropsValue}
 use Rattle.yf_events.specs.Event.{EventValue, stream_starts, stream_ends, document_starts, document_ends, sequence_starts, sequence_ends, mapping_starts, mapping_ends, scalar_node, alias_node}
-use Rattle.yf_events.specs.Nested.{Shape, one_node, many_nodes, many_pairs, many_documents, Nested, a_scalar, an_alias, a_sequence, a_mapping, no_nodes, more_nodes, no_pairs, more_pairs, no_documents, more_documents, IsStream, a_stream}
-use Rattle.yf_events.specs.Nesting.{after_node, move_at, enter, run, stay_if, open_if, at_stream, at_documents, at_closing, at_items, at_keys, follow, leave, is_over}
+use Rattle.yf_events.specs.Nested.{one_node, many_nodes, many_pairs, many_documents, Nested, a_scalar, an_alias, a_sequence, a_mapping, no_nodes, more_nodes, no_pairs, more_pairs, no_documents, more_documents, IsStream, a_stream}
+use Rattle.yf_events.specs.Nesting.{after_node, run, stay_if, open_if, at_stream, at_documents, at_closing, at_items, at_keys, follow, is_over}
 use Rattle.yf_events.specs.declared.event.ScalarStyle.{ScalarStyle}
 use Rattle.yf_events.specs.declared.nesting.Awaited.{Awaited}
 use Rattle.yf_events.specs.declared.nesting.Awaited.TheVariants.{Stream, Documents, Root, Closing, Items, Keys, Values, Nothing}
-use Rattle.yf_events.specs.declared.nesting.Move.{Move}
-use Rattle.yf_events.specs.declared.nesting.Move.TheVariants.{Refuse, Stay, Open, Close}
 
 -- what may still come: the rest of what is awaited, and then of what lies around it
 data Rest : ℕ → Awaited → List Awaited → List EventValue → Type 0 where

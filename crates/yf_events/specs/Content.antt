@@ -1,5 +1,5 @@
 -- The content of a reading: what it says, without styles of collections, markers and places.
-use Rattle.std.specs.Prelude.{ℕ, Bool, true, false, List, [], ◌∷◌, ◌++◌, Option, Some, None, map}
+use Rattle.std.specs.Prelude.{ℕ, Bool, true, false, List, [], ◌∷◌, Option, Some, None, map}
 use Rattle.std.specs.List.{flat_map, zip}
 use Rattle.yf_lines.specs.Steady.{is_steady}
 use Rattle.yf_props.specs.Props.{name_value}

@@ -1,8 +1,12 @@
 //! The steps within a flow collection: entries, keys, values, single pairs, and the closing bracket. Each step leads on to
 //! a later place of the text, and none goes back.
+ghost use Rattle.std.specs.Prelude.{◌≡◌, ◌+◌, ◌-◌, ◌*◌, ◌<◌, ◌≤◌, length, IfOk, IfSome};
+ghost use Rattle.std.specs.List.{All};
+ghost use Rattle.std.specs.Str.{IsCharBoundary};
+ghost use Rattle.yf_flow.specs.Machine.{Awaiting, Indexed, Ready, Place, left};
 
 use crate::frame::{Frame, Kind, Node, Role, Scene, State, Step};
-use crate::leaf::{read_gap, read_separation_into};
+use crate::gap::{read_gap, read_separation_into};
 use crate::look::{closes, colon_stands, entry_ends, is_blank_before_entry, is_key_line};
 use crate::node::{begin_node, empty_node, unplaced, Begun};
 use smallvec::SmallVec;
@@ -41,7 +45,13 @@ fn failed(top: Frame) -> State {
 }
 
 /// Begins the node that is awaited at the offset.
-pub(crate) fn take_node<'a>(alloc: Global, scene: Scene<'a>, at: usize, top: Frame, below: &mut Below, part: &mut Part<'a>) -> Result<State, AllocError> {
+pub(crate) fn take_node<'a>(alloc: Global, scene: Scene<'a>, at: usize, top: Frame, below: &mut Below, part: &mut Part<'a>) -> Result<State, AllocError>
+    requires boundary { IsCharBoundary scene.text.now at }
+    requires top { Awaiting scene.text.now (length part.old.events) top }
+    requires below { All (Indexed scene.text.now (length part.old.events)) below.old.items }
+    ensures ready { IfOk result (λ s. Ready scene.entry.text.now at (length part.new.events) below.new.items s) }
+    ensures moves { IfOk result (λ s. left (length scene.entry.text.now) s.step < 2 * (length scene.entry.text.now - at)) }
+{
     let entry = entry_begun(scene.text, top);
     match begin_node(alloc, scene, at, entry, top.depth, part)? {
         Begun::Leaf(node) => Ok(State { top, step: Step::Ended(node) }),
@@ -56,10 +66,16 @@ pub(crate) fn take_node<'a>(alloc: Global, scene: Scene<'a>, at: usize, top: Fra
 
 /// Begins the entry that is awaited, or closes the collection (ns-s-flow-seq-entries, production 138;
 /// ns-s-flow-map-entries, production 141).
-pub(crate) fn start_entry<'a>(alloc: Global, scene: Scene<'a>, at: usize, top: Frame, below: &mut Below, part: &mut Part<'a>) -> Result<State, AllocError> {
+pub(crate) fn start_entry<'a>(alloc: Global, scene: Scene<'a>, at: usize, top: Frame, below: &mut Below, part: &mut Part<'a>) -> Result<State, AllocError>
+    requires boundary { IsCharBoundary scene.text.now at }
+    requires top { Awaiting scene.text.now (length part.old.events) top }
+    requires below { All (Indexed scene.text.now (length part.old.events)) below.old.items }
+    ensures ready { IfOk result (λ s. Ready scene.entry.text.now at (length part.new.events) below.new.items s) }
+    ensures moves { IfOk result (λ s. left (length scene.entry.text.now) s.step ≤ 2 * (length scene.entry.text.now - at)) }
+{
     let place = read_gap(alloc, scene, at, part)?.end;
     if closes(scene.text, place, top.kind) {
-        return close(alloc, place, top, below, part);
+        return close(alloc, scene, place, top, below, part);
     }
     let top = top.with_entry(place, part.events.len());
     if stands(scene.text, place, b'?') {
@@ -75,7 +91,13 @@ pub(crate) fn start_entry<'a>(alloc: Global, scene: Scene<'a>, at: usize, top: F
 }
 
 // What stands behind the `?` of an entry and its separation (ns-flow-map-explicit-entry, production 143).
-fn explicit_entry<'a>(alloc: Global, scene: Scene<'a>, at: usize, top: Frame, below: &mut Below, part: &mut Part<'a>) -> Result<State, AllocError> {
+fn explicit_entry<'a>(alloc: Global, scene: Scene<'a>, at: usize, top: Frame, below: &mut Below, part: &mut Part<'a>) -> Result<State, AllocError>
+    requires boundary { IsCharBoundary scene.text.now at }
+    requires top { Awaiting scene.text.now (length part.old.events) top }
+    requires below { All (Indexed scene.text.now (length part.old.events)) below.old.items }
+    ensures ready { IfOk result (λ s. Ready scene.entry.text.now at (length part.new.events) below.new.items s) }
+    ensures moves { IfOk result (λ s. left (length scene.entry.text.now) s.step ≤ 2 * (length scene.entry.text.now - at)) }
+{
     match in_mapping(alloc, scene, top, below, part)? {
         None => Ok(State { top, step: Step::TooDeep(top.entry) }),
         Some(top) => {
@@ -94,7 +116,13 @@ fn explicit_entry<'a>(alloc: Global, scene: Scene<'a>, at: usize, top: Frame, be
 }
 
 // A value without a key, from its `:` on (c-ns-flow-map-empty-key-entry, production 146).
-fn lone_value<'a>(alloc: Global, scene: Scene<'a>, colon: usize, top: Frame, below: &mut Below, part: &mut Part<'a>) -> Result<State, AllocError> {
+fn lone_value<'a>(alloc: Global, scene: Scene<'a>, colon: usize, top: Frame, below: &mut Below, part: &mut Part<'a>) -> Result<State, AllocError>
+    requires boundary { IsCharBoundary scene.text.now (colon + 1) }
+    requires top { Awaiting scene.text.now (length part.old.events) top }
+    requires below { All (Indexed scene.text.now (length part.old.events)) below.old.items }
+    ensures ready { IfOk result (λ s. Ready scene.entry.text.now colon (length part.new.events) below.new.items s) }
+    ensures moves { IfOk result (λ s. left (length scene.entry.text.now) s.step ≤ 2 * (length scene.entry.text.now - colon)) }
+{
     match in_mapping(alloc, scene, top, below, part)? {
         None => Ok(State { top, step: Step::TooDeep(top.entry) }),
         Some(top) => keyless_value(alloc, scene, colon, top, below, part),
@@ -102,14 +130,26 @@ fn lone_value<'a>(alloc: Global, scene: Scene<'a>, colon: usize, top: Frame, bel
 }
 
 // The empty key of an entry, and its value from the `:` on.
-fn keyless_value<'a>(alloc: Global, scene: Scene<'a>, colon: usize, top: Frame, below: &mut Below, part: &mut Part<'a>) -> Result<State, AllocError> {
+fn keyless_value<'a>(alloc: Global, scene: Scene<'a>, colon: usize, top: Frame, below: &mut Below, part: &mut Part<'a>) -> Result<State, AllocError>
+    requires boundary { IsCharBoundary scene.text.now (colon + 1) }
+    requires top { Awaiting scene.text.now (length part.old.events) top }
+    requires below { All (Indexed scene.text.now (length part.old.events)) below.old.items }
+    ensures ready { IfOk result (λ s. Ready scene.entry.text.now colon (length part.new.events) below.new.items s) }
+    ensures moves { IfOk result (λ s. left (length scene.entry.text.now) s.step ≤ 2 * (length scene.entry.text.now - colon)) }
+{
     let entry = entry_at(scene.text, top.entry, Some(colon));
     part.events.push(empty_node(alloc, Some(entry)))?;
     await_value(alloc, scene, colon, false, top, below, part)
 }
 
 // The mapping that an entry with `?` or `:` belongs to: in a sequence it is a single pair, which begins with the entry.
-fn in_mapping<'a>(alloc: Global, scene: Scene<'a>, top: Frame, below: &mut Below, part: &mut Part<'a>) -> Result<Option<Frame>, AllocError> {
+fn in_mapping<'a>(alloc: Global, scene: Scene<'a>, top: Frame, below: &mut Below, part: &mut Part<'a>) -> Result<Option<Frame>, AllocError>
+    requires top { Awaiting scene.text.now (length part.old.events) top }
+    requires below { All (Indexed scene.text.now (length part.old.events)) below.old.items }
+    ensures below { IfOk result (λ _. All (Indexed scene.entry.text.now (length part.new.events)) below.new.items) }
+    ensures top { IfOk result (λ o. IfSome o (λ f. Awaiting scene.entry.text.now (length part.new.events) f)) }
+    ensures room { IfOk result (λ o. IfSome o (λ f. f.entry ≡ top.entry)) }
+{
     match top.kind {
         Kind::Mapping | Kind::Pair => Ok(Some(top)),
         Kind::Sequence => {
@@ -125,7 +165,7 @@ fn in_mapping<'a>(alloc: Global, scene: Scene<'a>, top: Frame, below: &mut Below
                 deepest: top.depth + 1,
                 event,
                 entry: top.entry,
-                entry_event: event + 1,
+                entry_event: part.events.len(),
                 role: Role::Key,
             }))
         }
@@ -150,7 +190,13 @@ fn pair_start<'a>(alloc: Global, text: &str, start: usize) -> PlacedEvent<'a> {
 }
 
 /// Goes on behind a node of the collection.
-pub(crate) fn finish_node<'a>(alloc: Global, scene: Scene<'a>, node: Node, top: Frame, below: &mut Below, part: &mut Part<'a>) -> Result<State, AllocError> {
+pub(crate) fn finish_node<'a>(alloc: Global, scene: Scene<'a>, node: Node, top: Frame, below: &mut Below, part: &mut Part<'a>) -> Result<State, AllocError>
+    requires boundary { IsCharBoundary scene.text.now node.end }
+    requires top { Indexed scene.text.now (length part.old.events) top }
+    requires below { All (Indexed scene.text.now (length part.old.events)) below.old.items }
+    ensures ready { IfOk result (λ s. Ready scene.entry.text.now node.end (length part.new.events) below.new.items s) }
+    ensures moves { IfOk result (λ s. left (length scene.entry.text.now) s.step ≤ 2 * (length scene.entry.text.now - node.end)) }
+{
     match top.role {
         Role::Item => behind_item(alloc, scene, node, top, below, part),
         Role::Key => behind_key(alloc, scene, node, top.reaching(node.deepest), below, part),
@@ -160,7 +206,13 @@ pub(crate) fn finish_node<'a>(alloc: Global, scene: Scene<'a>, node: Node, top: 
 
 // Behind an item of a sequence: where a `:` follows on its line, it is the key of a single pair
 // (ns-flow-pair-entry, production 151).
-fn behind_item<'a>(alloc: Global, scene: Scene<'a>, node: Node, top: Frame, below: &mut Below, part: &mut Part<'a>) -> Result<State, AllocError> {
+fn behind_item<'a>(alloc: Global, scene: Scene<'a>, node: Node, top: Frame, below: &mut Below, part: &mut Part<'a>) -> Result<State, AllocError>
+    requires boundary { IsCharBoundary scene.text.now node.end }
+    requires top { Indexed scene.text.now (length part.old.events) top }
+    requires below { All (Indexed scene.text.now (length part.old.events)) below.old.items }
+    ensures ready { IfOk result (λ s. Ready scene.entry.text.now node.end (length part.new.events) below.new.items s) }
+    ensures moves { IfOk result (λ s. left (length scene.entry.text.now) s.step ≤ 2 * (length scene.entry.text.now - node.end)) }
+{
     let colon = skip_whites(scene.text, node.end);
     if colon_stands(scene, colon, node.json) {
         if is_key_line(scene.text, top.entry, colon) {
@@ -174,7 +226,13 @@ fn behind_item<'a>(alloc: Global, scene: Scene<'a>, node: Node, top: Frame, belo
 }
 
 // The item that was read last becomes the key of a single pair.
-fn pair_of_key<'a>(alloc: Global, scene: Scene<'a>, node: Node, colon: usize, top: Frame, below: &mut Below, part: &mut Part<'a>) -> Result<State, AllocError> {
+fn pair_of_key<'a>(alloc: Global, scene: Scene<'a>, node: Node, colon: usize, top: Frame, below: &mut Below, part: &mut Part<'a>) -> Result<State, AllocError>
+    requires boundary { IsCharBoundary scene.text.now (colon + 1) }
+    requires top { Indexed scene.text.now (length part.old.events) top }
+    requires below { All (Indexed scene.text.now (length part.old.events)) below.old.items }
+    ensures ready { IfOk result (λ s. Ready scene.entry.text.now colon (length part.new.events) below.new.items s) }
+    ensures moves { IfOk result (λ s. left (length scene.entry.text.now) s.step ≤ 2 * (length scene.entry.text.now - colon)) }
+{
     let event = top.entry_event;
     part.events.set_colon(event, colon);
     part.events.insert(event, pair_start(alloc, scene.text, top.entry))?;
@@ -192,7 +250,13 @@ fn pair_of_key<'a>(alloc: Global, scene: Scene<'a>, node: Node, colon: usize, to
 }
 
 // Behind the key of an entry of a mapping, or of a single pair with `?`.
-fn behind_key<'a>(alloc: Global, scene: Scene<'a>, node: Node, top: Frame, below: &mut Below, part: &mut Part<'a>) -> Result<State, AllocError> {
+fn behind_key<'a>(alloc: Global, scene: Scene<'a>, node: Node, top: Frame, below: &mut Below, part: &mut Part<'a>) -> Result<State, AllocError>
+    requires boundary { IsCharBoundary scene.text.now node.end }
+    requires top { Indexed scene.text.now (length part.old.events) top }
+    requires below { All (Indexed scene.text.now (length part.old.events)) below.old.items }
+    ensures ready { IfOk result (λ s. Ready scene.entry.text.now node.end (length part.new.events) below.new.items s) }
+    ensures moves { IfOk result (λ s. left (length scene.entry.text.now) s.step ≤ 2 * (length scene.entry.text.now - node.end)) }
+{
     let place = read_gap(alloc, scene, node.end, part)?.end;
     if colon_stands(scene, place, node.json) {
         part.events.set_colon(top.entry_event, place);
@@ -204,7 +268,13 @@ fn behind_key<'a>(alloc: Global, scene: Scene<'a>, node: Node, top: Frame, below
 
 // What stands behind the `:` at an offset: a node, or nothing. Behind a key that is not like JSON's, separation must
 // come before the node (c-ns-flow-map-separate-value, production 147; c-ns-flow-map-adjacent-value, production 149).
-fn await_value<'a>(alloc: Global, scene: Scene<'a>, colon: usize, json: bool, top: Frame, below: &mut Below, part: &mut Part<'a>) -> Result<State, AllocError> {
+fn await_value<'a>(alloc: Global, scene: Scene<'a>, colon: usize, json: bool, top: Frame, below: &mut Below, part: &mut Part<'a>) -> Result<State, AllocError>
+    requires boundary { IsCharBoundary scene.text.now (colon + 1) }
+    requires top { Indexed scene.text.now (length part.old.events) top }
+    requires below { All (Indexed scene.text.now (length part.old.events)) below.old.items }
+    ensures ready { IfOk result (λ s. Ready scene.entry.text.now colon (length part.new.events) below.new.items s) }
+    ensures moves { IfOk result (λ s. left (length scene.entry.text.now) s.step ≤ 2 * (length scene.entry.text.now - colon)) }
+{
     let gap = read_gap(alloc, scene, colon + 1, part)?;
     if entry_ends(scene.text, gap.end) {
         part.events.push(empty_node(alloc, None))?;
@@ -218,7 +288,13 @@ fn await_value<'a>(alloc: Global, scene: Scene<'a>, colon: usize, json: bool, to
 
 // An entry has been read whose last node or indicator ends at `finish`; what follows is read from `at` on. A single pair
 // ends with it.
-fn end_entry<'a>(alloc: Global, scene: Scene<'a>, finish: usize, at: usize, top: Frame, below: &mut Below, part: &mut Part<'a>) -> Result<State, AllocError> {
+fn end_entry<'a>(alloc: Global, scene: Scene<'a>, finish: usize, at: usize, top: Frame, below: &mut Below, part: &mut Part<'a>) -> Result<State, AllocError>
+    requires boundary { IsCharBoundary scene.text.now at }
+    requires top { Indexed scene.text.now (length part.old.events) top }
+    requires below { All (Indexed scene.text.now (length part.old.events)) below.old.items }
+    ensures ready { IfOk result (λ s. Ready scene.entry.text.now at (length part.new.events) below.new.items s) }
+    ensures moves { IfOk result (λ s. left (length scene.entry.text.now) s.step ≤ 2 * (length scene.entry.text.now - at)) }
+{
     match top.kind {
         Kind::Sequence | Kind::Mapping => after_entry(alloc, scene, at, top, below, part),
         Kind::Pair => {
@@ -233,19 +309,31 @@ fn end_entry<'a>(alloc: Global, scene: Scene<'a>, finish: usize, at: usize, top:
 }
 
 // Behind an entry: a comma, or the bracket that closes the collection.
-fn after_entry<'a>(alloc: Global, scene: Scene<'a>, at: usize, top: Frame, below: &mut Below, part: &mut Part<'a>) -> Result<State, AllocError> {
+fn after_entry<'a>(alloc: Global, scene: Scene<'a>, at: usize, top: Frame, below: &mut Below, part: &mut Part<'a>) -> Result<State, AllocError>
+    requires boundary { IsCharBoundary scene.text.now at }
+    requires top { Indexed scene.text.now (length part.old.events) top }
+    requires below { All (Indexed scene.text.now (length part.old.events)) below.old.items }
+    ensures ready { IfOk result (λ s. Ready scene.entry.text.now at (length part.new.events) below.new.items s) }
+    ensures moves { IfOk result (λ s. left (length scene.entry.text.now) s.step ≤ 2 * (length scene.entry.text.now - at)) }
+{
     let place = read_gap(alloc, scene, at, part)?.end;
     if stands(scene.text, place, b',') {
         return Ok(State { top, step: Step::Entry(place + 1) });
     }
     if closes(scene.text, place, top.kind) {
-        return close(alloc, place, top, below, part);
+        return close(alloc, scene, place, top, below, part);
     }
     Ok(failed(top))
 }
 
 // Closes the collection by the bracket at an offset.
-fn close<'a>(alloc: Global, at: usize, top: Frame, below: &mut Below, part: &mut Part<'a>) -> Result<State, AllocError> {
+fn close<'a>(alloc: Global, scene: Scene<'a>, at: usize, top: Frame, below: &mut Below, part: &mut Part<'a>) -> Result<State, AllocError>
+    requires boundary { IsCharBoundary scene.text.now (at + 1) }
+    requires top { top.event < length part.old.events }
+    requires below { All (Indexed scene.text.now (length part.old.events)) below.old.items }
+    ensures ready { IfOk result (λ s. Ready scene.entry.text.now at (length part.new.events) below.new.items s) }
+    ensures moves { IfOk result (λ s. left (length scene.entry.text.now) s.step ≤ 2 * (length scene.entry.text.now - at)) }
+{
     let event = match top.kind {
         Kind::Sequence => Event::SeqEnd,
         Kind::Mapping | Kind::Pair => Event::MapEnd,

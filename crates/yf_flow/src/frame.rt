@@ -89,6 +89,7 @@ impl Frame {
     pub(crate) fn with_entry(self, entry: usize, entry_event: usize) -> Frame
         ensures event { result.event ≡ self.event }
         ensures index { result.entry_event ≡ entry_event }
+        ensures entry { result.entry ≡ entry }
     {
         let role = match self.kind {
             Kind::Sequence => Role::Item,
@@ -106,6 +107,7 @@ impl Frame {
     pub(crate) fn with_value(self) -> Frame
         ensures event { result.event ≡ self.event }
         ensures index { result.entry_event ≡ self.entry_event }
+        ensures entry { result.entry ≡ self.entry }
     {
         Frame {
             role: Role::Value,
@@ -117,6 +119,7 @@ impl Frame {
     pub(crate) fn reaching(self, deepest: usize) -> Frame
         ensures event { result.event ≡ self.event }
         ensures index { result.entry_event ≡ self.entry_event }
+        ensures entry { result.entry ≡ self.entry }
     {
         Frame {
             deepest: self.deepest.max(deepest),

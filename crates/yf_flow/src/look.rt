@@ -1,4 +1,7 @@
 //! Tests of what stands at a place of a flow node. They look and read nothing.
+ghost use Rattle.std.specs.Prelude.{◌≡◌, ◌+◌, ◌≤◌, true, false};
+ghost use Rattle.std.specs.Str.{IsCharBoundary};
+ghost use Rattle.yf_chars.specs.Text.{code, Reads};
 
 use crate::frame::{Kind, Scene};
 use yf_chars::classes::is_plain_safe;
@@ -6,7 +9,9 @@ use yf_chars::text::{peek, stands};
 use yf_comments::blank::is_blank_before;
 
 /// Whether the bracket stands there that closes a collection of that kind.
-pub(crate) fn closes(text: &str, at: usize, kind: Kind) -> bool {
+pub(crate) fn closes(text: &str, at: usize, kind: Kind) -> bool
+    ensures { result ≡ true → IsCharBoundary text.now (at + 1) }
+{
     match kind {
         Kind::Sequence => stands(text, at, b']'),
         Kind::Mapping => stands(text, at, b'}'),
@@ -41,7 +46,9 @@ pub(crate) fn content_begins(text: &str, at: usize) -> bool {
 
 /// Whether the `:` of a value stands there, behind a node like those of JSON or another one, or no node at all: behind
 /// the others no plain character may follow it.
-pub(crate) fn colon_stands(scene: Scene, at: usize, json: bool) -> bool {
+pub(crate) fn colon_stands(scene: Scene, at: usize, json: bool) -> bool
+    ensures { result ≡ true → IsCharBoundary scene.entry.text.now (at + 1) }
+{
     if stands(scene.text, at, b':') {
         if json {
             return true;
@@ -58,10 +65,12 @@ pub(crate) fn colon_stands(scene: Scene, at: usize, json: bool) -> bool {
 pub(crate) const KEY_LIMIT: usize = 1024;
 
 /// Whether the characters between the offsets are all on one line, and no more than an implicit key may have.
-pub(crate) fn is_key_line(text: &str, start: usize, end: usize) -> bool {
+pub(crate) fn is_key_line(text: &str, start: usize, end: usize) -> bool
+    requires { IsCharBoundary text.now start }
+{
     let mut at = start;
     let mut room = KEY_LIMIT;
-    while at < end {
+    'characters: while at < end {
         if room == 0 {
             return false;
         }

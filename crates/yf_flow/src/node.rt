@@ -1,7 +1,11 @@
 //! Nodes: what may stand as an item, a key or a value, and the events of them.
+ghost use Rattle.std.specs.Prelude.{◌≡◌, ◌+◌, ◌<◌, ◌≤◌, length, IfOk};
+ghost use Rattle.std.specs.Str.{IsCharBoundary};
+ghost use Rattle.yf_flow.specs.Machine.{BegunAt, Place};
 
 use crate::frame::{Frame, Kind, Node, Role, Scene};
-use crate::leaf::{keep_comments, read_plain, read_props, read_single, scan_double, Properties};
+use crate::gap::keep_comments;
+use crate::stand_in::{read_plain, read_props, read_single, scan_double, Properties};
 use crate::look::content_begins;
 use std::alloc::{AllocError, Global};
 use yf_chars::text::stands;
@@ -87,7 +91,11 @@ pub(crate) fn empty_node<'a>(alloc: Global, entry: Option<Entry>) -> PlacedEvent
 }
 
 /// Begins a node (ns-flow-node, production 161), where so many collections are open.
-pub(crate) fn begin_node<'a>(alloc: Global, scene: Scene<'a>, at: usize, entry: Option<Entry>, depth: usize, part: &mut Part<'a>) -> Result<Begun, AllocError> {
+pub(crate) fn begin_node<'a>(alloc: Global, scene: Scene<'a>, at: usize, entry: Option<Entry>, depth: usize, part: &mut Part<'a>) -> Result<Begun, AllocError>
+    requires boundary { IsCharBoundary scene.text.now at }
+    ensures begun { IfOk result (λ b. BegunAt scene.entry.text.now at (length part.old.events) (length part.new.events) b) }
+    ensures grows { IfOk result (λ _. length part.old.events ≤ length part.new.events) }
+{
     match read_alias(scene.text, at) {
         Some((name, end)) => {
             let event = Event::Alias { name };
@@ -109,7 +117,12 @@ pub(crate) fn begin_node<'a>(alloc: Global, scene: Scene<'a>, at: usize, entry: 
 }
 
 // A node with properties: its content is a plain scalar, a quoted scalar or a flow collection, and else it is empty.
-fn propertied_node<'a>(alloc: Global, scene: Scene<'a>, at: usize, properties: Properties<'a>, entry: Option<Entry>, depth: usize, part: &mut Part<'a>) -> Result<Begun, AllocError> {
+fn propertied_node<'a>(alloc: Global, scene: Scene<'a>, at: usize, properties: Properties<'a>, entry: Option<Entry>, depth: usize, part: &mut Part<'a>) -> Result<Begun, AllocError>
+    requires boundary { IsCharBoundary scene.text.now at }
+    requires place { Place scene.text.now (at + 1) properties.end }
+    ensures begun { IfOk result (λ b. BegunAt scene.entry.text.now at (length part.old.events) (length part.new.events) b) }
+    ensures grows { IfOk result (λ _. length part.old.events ≤ length part.new.events) }
+{
     let lead = Lead { start: at, props: properties.props, tag_offset: properties.tag_offset, entry };
     keep_comments(&properties.comments, part)?;
     match separate(alloc, scene.text, properties.end, scene.indentation, scene.context)? {
@@ -133,13 +146,19 @@ fn propertied_node<'a>(alloc: Global, scene: Scene<'a>, at: usize, properties: P
     Ok(Begun::Leaf(Node { end: properties.end, json: false, deepest: depth }))
 }
 
-pub(crate) fn push_scalar<'a>(alloc: Global, lead: Lead<'a>, style: ScalarStyle, text: Text<'a>, end: usize, part: &mut Part<'a>) -> Result<(), AllocError> {
+pub(crate) fn push_scalar<'a>(alloc: Global, lead: Lead<'a>, style: ScalarStyle, text: Text<'a>, end: usize, part: &mut Part<'a>) -> Result<(), AllocError>
+    ensures { IfOk result (λ _. length part.new.events ≡ length part.old.events + 1) }
+{
     let event = Event::Scalar { props: lead.props, style, text };
     part.events.push(lead.placed(alloc, event, end))
 }
 
 // A plain scalar as a node (ns-plain, production 131).
-fn plain_node<'a>(alloc: Global, scene: Scene<'a>, at: usize, lead: Lead<'a>, depth: usize, part: &mut Part<'a>) -> Result<Begun, AllocError> {
+fn plain_node<'a>(alloc: Global, scene: Scene<'a>, at: usize, lead: Lead<'a>, depth: usize, part: &mut Part<'a>) -> Result<Begun, AllocError>
+    requires boundary { IsCharBoundary scene.text.now at }
+    ensures begun { IfOk result (λ b. BegunAt scene.entry.text.now at (length part.old.events) (length part.new.events) b) }
+    ensures grows { IfOk result (λ _. length part.old.events ≤ length part.new.events) }
+{
     match read_plain(alloc, scene.text, at, scene.indentation, scene.context)? {
         Some(plain) => {
             push_scalar(alloc, lead, ScalarStyle::Plain, plain.text, plain.end, part)?;
@@ -150,7 +169,11 @@ fn plain_node<'a>(alloc: Global, scene: Scene<'a>, at: usize, lead: Lead<'a>, de
 }
 
 // A quoted scalar, or the opening bracket of a flow collection (c-flow-json-content, production 157).
-fn json_content<'a>(alloc: Global, scene: Scene<'a>, at: usize, lead: Lead<'a>, depth: usize, part: &mut Part<'a>) -> Result<Begun, AllocError> {
+fn json_content<'a>(alloc: Global, scene: Scene<'a>, at: usize, lead: Lead<'a>, depth: usize, part: &mut Part<'a>) -> Result<Begun, AllocError>
+    requires boundary { IsCharBoundary scene.text.now at }
+    ensures begun { IfOk result (λ b. BegunAt scene.entry.text.now at (length part.old.events) (length part.new.events) b) }
+    ensures grows { IfOk result (λ _. length part.old.events ≤ length part.new.events) }
+{
     if stands(scene.text, at, b'\'') {
         return single_node(alloc, scene, at, lead, depth, part);
     }
@@ -166,7 +189,11 @@ fn json_content<'a>(alloc: Global, scene: Scene<'a>, at: usize, lead: Lead<'a>, 
     Ok(Begun::Nothing)
 }
 
-fn single_node<'a>(alloc: Global, scene: Scene<'a>, at: usize, lead: Lead<'a>, depth: usize, part: &mut Part<'a>) -> Result<Begun, AllocError> {
+fn single_node<'a>(alloc: Global, scene: Scene<'a>, at: usize, lead: Lead<'a>, depth: usize, part: &mut Part<'a>) -> Result<Begun, AllocError>
+    requires boundary { IsCharBoundary scene.text.now at }
+    ensures begun { IfOk result (λ b. BegunAt scene.entry.text.now at (length part.old.events) (length part.new.events) b) }
+    ensures grows { IfOk result (λ _. length part.old.events ≤ length part.new.events) }
+{
     match read_single(alloc, scene.text, at, scene.indentation, scene.context)? {
         Some(single) => {
             push_scalar(alloc, lead, ScalarStyle::Single, single.text, single.end, part)?;
@@ -176,7 +203,11 @@ fn single_node<'a>(alloc: Global, scene: Scene<'a>, at: usize, lead: Lead<'a>, d
     }
 }
 
-fn double_node<'a>(alloc: Global, scene: Scene<'a>, at: usize, lead: Lead<'a>, depth: usize, part: &mut Part<'a>) -> Result<Begun, AllocError> {
+fn double_node<'a>(alloc: Global, scene: Scene<'a>, at: usize, lead: Lead<'a>, depth: usize, part: &mut Part<'a>) -> Result<Begun, AllocError>
+    requires boundary { IsCharBoundary scene.text.now at }
+    ensures begun { IfOk result (λ b. BegunAt scene.entry.text.now at (length part.old.events) (length part.new.events) b) }
+    ensures grows { IfOk result (λ _. length part.old.events ≤ length part.new.events) }
+{
     match scan_double(alloc, scene.text, at, scene.indentation, scene.context, part)? {
         Some(double) => {
             push_scalar(alloc, lead, ScalarStyle::Double, double.text, double.end, part)?;
@@ -187,7 +218,12 @@ fn double_node<'a>(alloc: Global, scene: Scene<'a>, at: usize, lead: Lead<'a>, d
 }
 
 // Opens the collection whose bracket stands there, if there is room for it. Where it ends is noted once it is closed.
-fn open<'a>(alloc: Global, scene: Scene<'a>, at: usize, kind: Kind, lead: Lead<'a>, depth: usize, part: &mut Part<'a>) -> Result<Begun, AllocError> {
+fn open<'a>(alloc: Global, scene: Scene<'a>, at: usize, kind: Kind, lead: Lead<'a>, depth: usize, part: &mut Part<'a>) -> Result<Begun, AllocError>
+    requires boundary { IsCharBoundary scene.text.now at }
+    requires behind { IsCharBoundary scene.text.now (at + 1) }
+    ensures begun { IfOk result (λ b. BegunAt scene.entry.text.now at (length part.old.events) (length part.new.events) b) }
+    ensures grows { IfOk result (λ _. length part.old.events ≤ length part.new.events) }
+{
     if depth >= scene.limit {
         return Ok(Begun::TooDeep(at));
     }

@@ -1,8 +1,12 @@
 //! The reader of flow nodes: one forward pass, with a stack of the open collections.
+ghost use Rattle.std.specs.Prelude.{◌≡◌, ◌+◌, ◌<◌, ◌≤◌, length, IfOk};
+ghost use Rattle.std.specs.Str.{IsCharBoundary};
+ghost use Rattle.yf_flow.specs.Machine.{Awaiting, EndingAt, OutcomeAt};
 
 use crate::entries::{finish_node, start_entry, take_node, Below};
 use crate::frame::{Frame, Scene, State, Step};
-use crate::leaf::{keep_comments, read_props};
+use crate::gap::keep_comments;
+use crate::stand_in::read_props;
 use crate::node::{begin_node, push_scalar, Begun, Lead};
 use smallvec::SmallVec;
 use std::alloc::{AllocError, Global};
@@ -32,7 +36,10 @@ enum Ending {
 }
 
 /// Reads a flow node (ns-flow-node, production 161) in which no more collections are open at once than the limit.
-pub(crate) fn read_node<'a>(alloc: Global, text: &'a str, at: usize, indentation: i32, context: Ctx, limit: usize) -> Result<Outcome<'a>, AllocError> {
+pub(crate) fn read_node<'a>(alloc: Global, text: &'a str, at: usize, indentation: i32, context: Ctx, limit: usize) -> Result<Outcome<'a>, AllocError>
+    requires { IsCharBoundary text.now at }
+    ensures { IfOk result (λ o. OutcomeAt text.now at o) }
+{
     match inner_context(context) {
         None => Ok(Outcome::Nothing),
         Some(inner) => {
@@ -71,7 +78,11 @@ fn new_part<'a>(alloc: Global) -> Part<'a> {
 }
 
 // Reads the entries of a collection up to its closing bracket.
-fn read_collection<'a>(alloc: Global, scene: Scene<'a>, frame: Frame, part: &mut Part<'a>) -> Result<Ending, AllocError> {
+fn read_collection<'a>(alloc: Global, scene: Scene<'a>, frame: Frame, part: &mut Part<'a>) -> Result<Ending, AllocError>
+    requires boundary { IsCharBoundary scene.text.now frame.entry }
+    requires top { Awaiting scene.text.now (length part.old.events) frame }
+    ensures { IfOk result (λ e. EndingAt scene.entry.text.now frame.entry e) }
+{
     let mut below: Below = SmallVec::new(alloc);
     let mut state = State { top: frame, step: Step::Entry(frame.entry) };
     'steps: loop {
@@ -87,7 +98,11 @@ fn read_collection<'a>(alloc: Global, scene: Scene<'a>, frame: Frame, part: &mut
 }
 
 // Where the content behind properties is not derived, the node is empty and the properties are all of it.
-fn properties_alone<'a>(alloc: Global, scene: Scene<'a>, at: usize, otherwise: Outcome<'a>) -> Result<Outcome<'a>, AllocError> {
+fn properties_alone<'a>(alloc: Global, scene: Scene<'a>, at: usize, otherwise: Outcome<'a>) -> Result<Outcome<'a>, AllocError>
+    requires boundary { IsCharBoundary scene.text.now at }
+    requires otherwise { OutcomeAt scene.text.now at otherwise }
+    ensures { IfOk result (λ o. OutcomeAt scene.entry.text.now at o) }
+{
     match read_props(alloc, scene.text, at, scene.indentation, scene.context)? {
         None => Ok(otherwise),
         Some(properties) => {

@@ -1,8 +1,8 @@
-use Rattle.std.proofs.Common.{◌≡◌, [], refl, sym, ap, ◌∙◌, arith, take, drop, ◌++◌, ◌+◌}
+use Rattle.std.proofs.Common.{[], refl, sym, ap, arith}
 use Rattle.std.proofs.KnownBytes.{Appends-nil}
 use Rattle.std.proofs.lemmas.Bool.Decides.{nat_tests}
 use Rattle.yf_events.specs.Notation.{escaped}
-use Rattle.yf_lines.proofs.OutputLemmas.{progress_done, progress_part, progress_part_broke, writes_refused}
+use Rattle.yf_lines.proofs.OutputLemmas.{progress_part, progress_part_broke, writes_refused}
 use Rattle.yf_events.proofs.EscapedRuns.{at_run, at_end, at_escape}
 use Rattle.yf_events.proofs.escapes.write_escaped.Goals as goal
 

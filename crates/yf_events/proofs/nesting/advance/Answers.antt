@@ -1,4 +1,4 @@
-use Rattle.std.proofs.Common.{arith, ◌∙◌, sym, rules}
+use Rattle.std.proofs.Common.{arith, ◌∙◌, sym}
 use Rattle.yf_events.proofs.Advances.{refused, stays, full, opens, closes, bare}
 use Rattle.yf_events.proofs.nesting.advance.Goals as goal
 

@@ -1,5 +1,4 @@
-use Rattle.std.proofs.Common.{arith, ◌∙◌, sym, ap, rules, ◌==◌}
-use Rattle.yf_events.specs.Nesting.{run}
+use Rattle.std.proofs.Common.{◌∙◌, sym, ap, ◌==◌}
 use Rattle.yf_events.proofs.Advances.{over_at, not_over_at, past_end}
 use Rattle.yf_events.proofs.nesting.is_stream.Goals as goal
 

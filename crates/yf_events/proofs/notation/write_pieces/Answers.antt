@@ -1,4 +1,3 @@
-use Rattle.std.proofs.Common.{◌≡◌, [], refl, sym, ap, ◌∙◌}
 use Rattle.yf_lines.proofs.OutputLemmas.{progress_part, progress_part_broke, writes_refused}
 use Rattle.yf_events.specs.Pieces.{piece_bytes}
 use Rattle.yf_events.proofs.PieceRuns.{next_item}

@@ -1,4 +1,3 @@
-use Rattle.std.proofs.Common.{◌≡◌, [], refl, sym, ap, ◌∙◌}
 use Rattle.yf_lines.proofs.OutputLemmas.{broke_first, broke_second, writes_second, writes_refused}
 use Rattle.yf_events.proofs.notation.write_tag.Goals as goal
 

@@ -1,0 +1,37 @@
+-- The open collections: what holds of them stays so when events are added, and when one is opened or closed.
+use Rattle.std.proofs.Common.{◌≡◌, ℕ, ◌+◌, ◌-◌, ◌*◌, ◌<◌, ◌≤◌, List, [], ◌∷◌, ◌++◌, Option, length, option_to_list, IfSome, subst, sym, arith, Σ}
+use Rattle.std.proofs.lemmas.List.Elements.{All-append, All-pop, All-weaker, All-cons, All-nil}
+use Rattle.std.specs.List.{All}
+use Rattle.std.specs.Str.{IsCharBoundary}
+use Rattle.yf_flow.specs.declared.frame.Frame.{Frame}
+use Rattle.yf_flow.specs.declared.frame.State.{State}
+use Rattle.yf_flow.specs.declared.frame.Step.{Step}
+use Rattle.yf_flow.specs.declared.frame.Step.TheVariants.{Node, Entry, Ended, Done, Failed, TooDeep}
+use Rattle.yf_flow.specs.Machine.{Place, Indexed, Awaiting, StepReady, Ready, left}
+
+pub indexed_more : {t : List ℕ} (m k : ℕ) → m ≤ k → (f : Frame) → Indexed t m f → Indexed t k f
+indexed_more m k l f i = record { event = omega (arith, i.event); entry = omega (arith, i.entry); place = i.place }
+
+pub frames_more : {t : List ℕ} (m k : ℕ) (fs : List Frame) → m ≤ k → All (Indexed t m) fs → All (Indexed t k) fs
+frames_more {t} m k fs l a = All-weaker (Indexed t m) (Indexed t k) (indexed_more m k l) fs a
+
+pub frames_pushed : {t : List ℕ} (m k : ℕ) (fs gs : List Frame) (f : Frame) → gs ≡ fs ++ f ∷ [] → m ≤ k
+    → All (Indexed t m) fs → Indexed t k f → All (Indexed t k) gs
+frames_pushed {t} m k fs gs f e l a i =
+    let whole = All-append (Indexed t k) fs (f ∷ []) (frames_more m k fs l a) (All-cons (Indexed t k) f [] i (All-nil (Indexed t k))) in
+    subst (λ xs. All (Indexed t k) xs) (sym e) whole
+
+-- a step is ready from any earlier offset
+pub place_since : {t : List ℕ} {at p : ℕ} (from : ℕ) → from ≤ at → Place t at p → Place t from p
+place_since from l p = record { boundary = p.boundary; order = omega (arith, p.order) }
+
+pub step_since : {t : List ℕ} {at : ℕ} (from m : ℕ) (top : Frame) (s : Step) → from ≤ at → StepReady t at m top s → StepReady t from m top s
+step_since from m top (Node p) l r = (place_since from l r.0, r.1)
+step_since from m top (Entry p) l r = (place_since from l r.0, r.1)
+step_since from m top (Ended node) l r = (place_since from l r.0, r.1)
+step_since from m top (Done end) l r = place_since from l r
+step_since from m top Failed l r = r
+step_since from m top (TooDeep p) l r = r
+
+pub ready_since : {t : List ℕ} {at : ℕ} (from m : ℕ) (fs : List Frame) (s : State) → from ≤ at → Ready t at m fs s → Ready t from m fs s
+ready_since from m fs s l r = record { below = r.below; step = step_since from m s.top s.step l r.step }
