@@ -1,14 +1,14 @@
 -- Going back from a place over whites, breaks and marks.
-use Rattle.std.proofs.Common.{◌≡◌, ◌≢◌, ℕ, ◌+◌, ◌-◌, ◌<◌, ◌≤◌, Bool, true, false, ◌||◌, ◌⊎◌, inl, inr, ⊎_elim, List, refl, sym, ap, ◌∙◌, subst, arith, eqb, true≢false, MatchBool}
-use Rattle.std.proofs.lemmas.Bool.{cases_eq, cases_lt, cases_Bool, eq-eqb, ne_eqb, eqb-true}
+use Rattle.std.proofs.Common.{◌≡◌, ◌≢◌, ℕ, ◌+◌, ◌-◌, ◌<◌, ◌≤◌, Bool, true, false, ◌⊎◌, inl, inr, ⊎_elim, List, refl, sym, ap, ◌∙◌, subst, arith, true≢false, MatchBool}
+use Rattle.std.proofs.lemmas.Bool.{cases_eq, cases_lt, cases_Bool, ne_eqb, eqb-true}
 use Rattle.std.specs.Char.{len_utf8}
 use Rattle.std.specs.Str.{IsUtf8}
-use Rattle.yf_chars.specs.Text.{code, next, before, no_char, Reads}
+use Rattle.yf_chars.specs.Text.{code, next, before, no_char}
 use Rattle.yf_chars.specs.Class.{is_white, is_break_char}
 use Rattle.yf_chars.proofs.TextLemmas.{reads_real, next_ascii, next_later, next-mark}
 use Rattle.yf_lines.specs.Basic.{Break}
 use Rattle.yf_lines.specs.Basic.Break.{cr_lf, lone_cr, lone_lf}
-use Rattle.yf_lines.proofs.BasicLemmas.{white_below, break_forward, break_end, break_from_lf, break_from_cr}
+use Rattle.yf_lines.proofs.BasicLemmas.{white_below, break_forward, break_from_lf, break_from_cr}
 use Rattle.yf_comments.specs.Comments.{is_gap, Blank, BlankBefore}
 use Rattle.yf_comments.specs.Comments.Blank.{text_begins, break_ends, white_ends}
 use Rattle.yf_comments.specs.Comments.BlankBefore.{blank_line, past_gap}
@@ -221,23 +221,24 @@ module _ (t : List ℕ) (u : IsUtf8 t) where
   no_before j w m b o d = go (before_view d) where
     at_char : (i : ℕ) → code t i < 128 → next t i ≡ j → (0 < j) × (j - 1 ≡ i)
     at_char i l f = let e = next_ascii t i l in (omega arith, omega arith)
+
     go : BeforeView t j → ⊥
     go (line_view i c k) = b i k
     go (gap_view i c v f) =
         ⊎_elim (λ (h : (is_white (code t i) ≡ true) ⊎ ((code t i ≡ 10) ⊎ (code t i ≡ 13))).
         ⊎_elim
         (λ (h : is_white (code t i) ≡ true). let a = at_char i (white_below (code t i) h) f in
-            true≢false (sym h ∙ ap (λ k. is_white (code t k)) (sym a.1) ∙ w))
+        true≢false (sym h ∙ ap (λ k. is_white (code t k)) (sym a.1) ∙ w))
         (λ (h : (code t i ≡ 10) ⊎ (code t i ≡ 13)). ⊎_elim
-            (λ (l : code t i ≡ 10). let a = at_char i (omega arith) f in
-                let k = break_from_lf t j a.0 (ap (code t) a.1 ∙ l) in b k.0 k.1)
-            (λ (l : code t i ≡ 13). let a = at_char i (omega arith) f in
-                let k = break_from_cr t j a.0 (ap (code t) a.1 ∙ l) (λ e. o e (ap (code t) a.1 ∙ l)) in b k.0 k.1)
-            h)
+        (λ (l : code t i ≡ 10). let a = at_char i (omega arith) f in
+        let k = break_from_lf t j a.0 (ap (code t) a.1 ∙ l) in b k.0 k.1)
+        (λ (l : code t i ≡ 13). let a = at_char i (omega arith) f in
+        let k = break_from_cr t j a.0 (ap (code t) a.1 ∙ l) (λ e. o e (ap (code t) a.1 ∙ l)) in b k.0 k.1)
+        h)
         h)
         (λ (h : code t i ≡ 0xFEFF). let e = next-mark t i h in
-            let s : j - 3 ≡ i = omega arith in
-            m (omega arith) (ap (code t) s ∙ h))
+        let s : j - 3 ≡ i = omega arith in
+        m (omega arith) (ap (code t) s ∙ h))
         (gap_cases (code t i) v)
 
   pub no_blank : (j : ℕ) → 0 < j → is_white (code t (j - 1)) ≡ false → ((i : ℕ) → Break t i j → ⊥) → Blank t j → ⊥
@@ -269,14 +270,18 @@ module _ (t : List ℕ) (u : IsUtf8 t) (i j : ℕ) where
   walk_white b z w k = record { there = λ e. k.there (on b e); back = λ d. off b (k.back d); outside = λ e. absurd (white_not _ 10 white_lf w e) } where
     n : next t (j - 1) ≡ j
     n = char_before (j - 1) z refl (white_below (code t (j - 1)) w)
+
     on_gap : BlankBefore t (j - 1) → BlankBefore t j
     on_gap d = subst (λ v. BlankBefore t v) n (past_gap d (gap_of_white _ w))
+
     off_gap : BlankBefore t j → BlankBefore t (j - 1)
     off_gap d = before_past t u (j - 1) (omega (arith, white_below (code t (j - 1)) w)) n (white_not _ 10 white_lf w) (white_not _ 13 white_cr w) d
+
     on : (b : Bool) → Ends t (j - 1) b → Ends t j b
     on true (inl d) = inl (subst (λ v. Blank t v) n (white_ends d w))
     on true (inr d) = inr (on_gap d)
     on false d = on_gap d
+
     off : (b : Bool) → Ends t j b → Ends t (j - 1) b
     off true (inl d) = inl (blank_past_white t u (j - 1) w n d)
     off true (inr d) = inr (off_gap d)
@@ -286,13 +291,17 @@ module _ (t : List ℕ) (u : IsUtf8 t) (i j : ℕ) where
   walk_mark b z m k = record { there = λ e. k.there (on b e); back = λ d. off b (k.back d); outside = λ e. absurd (omega arith) } where
     n : next t (j - 3) ≡ j
     n = next-mark t (j - 3) m ∙ omega arith
+
     on_gap : BlankBefore t (j - 3) → BlankBefore t j
     on_gap d = subst (λ v. BlankBefore t v) n (past_gap d (gap_of_char _ 0xFEFF m gap_mark))
+
     off_gap : BlankBefore t j → BlankBefore t (j - 3)
     off_gap d = before_past t u (j - 3) (omega arith) n (omega arith) (omega arith) d
+
     on : (b : Bool) → BlankBefore t (j - 3) → Ends t j b
     on true d = inr (on_gap d)
     on false d = on_gap d
+
     off : (b : Bool) → Ends t j b → BlankBefore t (j - 3)
     off true (inl d) = absurd (no_blank_past t u (j - 3) m n d)
     off true (inr d) = off_gap d
@@ -330,8 +339,8 @@ break_of_two t j z c l =
     ⊎_elim
     (λ (h : j < 2). let s : j - 2 ≡ j - 1 = omega arith in let e = ap (code t) s in absurd (omega arith))
     (λ (h : 2 ≤ j). let s : (j - 2) + 1 ≡ j - 1 = omega arith in
-        let e : (j - 2) + 2 ≡ j = omega arith in
-        subst (λ k. Break t (j - 2) k) e (cr_lf c (ap (code t) s ∙ l)))
+    let e : (j - 2) + 2 ≡ j = omega arith in
+    subst (λ k. Break t (j - 2) k) e (cr_lf c (ap (code t) s ∙ l)))
     (cases_lt j 2)
 
 pub break_of_lf : (t : List ℕ) (j : ℕ) → 0 < j → code t (j - 2) ≢ 13 → code t (j - 1) ≡ 10 → Break t (j - 1) j

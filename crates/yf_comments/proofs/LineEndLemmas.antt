@@ -1,9 +1,9 @@
 -- A line's end with comment lines is a chain of rests of lines that hold a character, so the greedy one is the longest.
-use Rattle.std.proofs.Common.{◌≡◌, ℕ, ◌+◌, ◌<◌, ◌≤◌, ◌⊎◌, ⊎_elim, List, [], ◌∷◌, ◌++◌, length, refl, sym, ap, ◌∙◌, subst, arith, append_assoc, append-nil}
+use Rattle.std.proofs.Common.{◌≡◌, ℕ, ◌<◌, ◌≤◌, ◌⊎◌, ⊎_elim, List, [], ◌++◌, length, refl, sym, ap, ◌∙◌, subst, arith, append_assoc, append-nil}
 use Rattle.std.proofs.lemmas.Bool.{cases_lt}
-use Rattle.yf_chars.specs.Chain.{Chain, Functional, Stuck, Chosen}
+use Rattle.yf_chars.specs.Chain.{Chain, Stuck, Chosen}
 use Rattle.yf_chars.specs.Chain.Chain.{done, step}
-use Rattle.yf_chars.proofs.ChainLemmas.{chain_more, chain_one, chain_forward, chain_chosen}
+use Rattle.yf_chars.proofs.ChainLemmas.{chain_more, chain_chosen}
 use Rattle.yf_lines.specs.Basic.{LineStart}
 use Rattle.yf_lines.specs.Basic.SeparateInLine.{at_start}
 use Rattle.yf_comments.specs.Comment.{CommentValue}
@@ -34,8 +34,8 @@ module _ {t : List ℕ} where
   rest_rows {i} {h} {j} {x} {y} r c = ⊎_elim
       (λ (l : i < h). step (record { rest = r; later = l }) c)
       (λ (l : h ≤ i). let f = rest_still r l in
-          let c' : Chain (Row t) i j y = subst (λ v. Chain (Row t) v j y) f.0 c in
-          rw f.1 c')
+      let c' : Chain (Row t) i j y = subst (λ v. Chain (Row t) v j y) f.0 c in
+      rw f.1 c')
       (cases_lt i h)
 
   pub lines_rows : {i j : ℕ} {x : List CommentValue} → Chain (CommentLine t) i j x → Chain (Row t) i j x

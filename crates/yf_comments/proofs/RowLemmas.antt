@@ -3,22 +3,20 @@ use Rattle.std.proofs.Common.{◌≡◌, ◌≢◌, ℕ, ◌+◌, ◌<◌, ◌�
 use Rattle.std.proofs.lemmas.Bool.{cases_lt}
 use Rattle.yf_chars.specs.Text.{code, no_char, Reads}
 use Rattle.yf_chars.specs.Class.{is_white, is_nb_char, is_printable, is_between, is_break_char}
-use Rattle.yf_chars.specs.Chain.{Chain, Functional, Stuck, Chosen, Nowhere, One, Many}
-use Rattle.yf_chars.specs.Chain.Chain.{done, step}
+use Rattle.yf_chars.specs.Chain.{Functional, Stuck, Nowhere, Many}
+use Rattle.yf_chars.specs.Chain.Chain.{done}
 use Rattle.yf_chars.proofs.TextLemmas.{code-end}
-use Rattle.yf_chars.proofs.ChainLemmas.{chain_append, chain_one, chain_more, chain_forward, chain_chosen, chain_meet, one_functional, one_stuck, many_chosen, many_more, many_unique}
+use Rattle.yf_chars.proofs.ChainLemmas.{chain_forward, one_functional, many_chosen, many_more, many_unique}
 use Rattle.yf_lines.specs.Basic.{Break, LineStart, SeparateInLine}
 use Rattle.yf_lines.specs.Basic.SeparateInLine.{by_whites, at_start}
 use Rattle.yf_lines.specs.Basic.LineStart.{after_break}
 use Rattle.yf_lines.proofs.BasicLemmas.{break_char, break_forward, break_unique}
 use Rattle.yf_comments.specs.Comment.{CommentValue}
-use Rattle.yf_comments.specs.Comments.{BlankBefore, Noted, CommentText, BreakOrEnd, LineRest, CommentLine, LineEnd, Row}
+use Rattle.yf_comments.specs.Comments.{BlankBefore, Noted, CommentText, BreakOrEnd, LineRest, Row}
 use Rattle.yf_comments.specs.Comments.Noted.{noted, not_noted}
 use Rattle.yf_comments.specs.Comments.CommentText.{comment_text}
 use Rattle.yf_comments.specs.Comments.BreakOrEnd.{by_break, by_end}
 use Rattle.yf_comments.specs.Comments.LineRest.{nothing, whites, comment}
-use Rattle.yf_comments.specs.Comments.CommentLine.{whites_line, comment_line}
-use Rattle.yf_comments.specs.Comments.LineEnd.{past_rest, from_start}
 
 -- which characters no white and no character of a comment is
 hash_white : (c : ℕ) → c ≡ 35 → is_white c ≡ false
@@ -286,3 +284,7 @@ module _ {t : List ℕ} where
 
   pub rest_moves : {i j : ℕ} {x : List CommentValue} → LineRest t i j x → i < length t → i < j
   rest_moves r l = view_moves (rest_view r) l
+
+  pub stuck_at_solid : {i h : ℕ} {w : List ℕ} → Many t is_white i h w → is_white (code t h) ≡ false → code t h ≢ 35
+      → Nowhere (BreakOrEnd t h) → Stuck (LineRest t i)
+  stuck_at_solid m s n none = record { none = λ j y r. view_bare m s n none (rest_view r) }

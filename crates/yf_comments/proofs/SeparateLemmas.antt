@@ -1,11 +1,11 @@
 -- The longest separation: behind the last line at whose start there is enough indentation.
-use Rattle.std.proofs.Common.{◌≡◌, ◌≢◌, ℕ, ℤ, pos, ◌<ℤ◌, suc, zero, ◌+◌, ◌<◌, ◌≤◌, Bool, true, false, ◌⊎◌, inl, inr, ⊎_elim, List, [], ◌∷◌, ◌++◌, length, refl, sym, ap, ◌∙◌, subst, arith, append-nil, add-zero, true≢false}
+use Rattle.std.proofs.Common.{◌≡◌, ◌≢◌, ℕ, ℤ, pos, ◌<ℤ◌, suc, zero, ◌+◌, ◌<◌, ◌≤◌, true, false, ◌⊎◌, inl, inr, ⊎_elim, List, [], ◌∷◌, ◌++◌, length, refl, sym, ap, ◌∙◌, subst, arith, append-nil, add-zero, true≢false}
 use Rattle.std.proofs.lemmas.Bool.{cases_lt, cases_Bool}
 use Rattle.std.proofs.lemmas.Int.{ints}
 use Rattle.yf_chars.specs.declared.context.Ctx.{Ctx}
 use Rattle.yf_chars.specs.Text.{code, next, no_char}
 use Rattle.yf_chars.specs.Class.{is_white}
-use Rattle.yf_chars.specs.Chain.{Chain, Functional, Stuck, Chosen, Nowhere, Farthest, One, Many}
+use Rattle.yf_chars.specs.Chain.{Chain, Stuck, Chosen, Nowhere, Farthest, One, Many}
 use Rattle.yf_chars.specs.Chain.Chain.{done, step}
 use Rattle.yf_chars.proofs.TextLemmas.{next_ascii, code-end}
 use Rattle.yf_chars.proofs.ChainLemmas.{Meets, chain_append, chain_more, chain_forward, chain_chosen, chain_meet, one_functional, many_chosen, many_more}
@@ -23,8 +23,8 @@ use Rattle.yf_comments.specs.Comments.LineEnd.{past_rest, from_start}
 use Rattle.yf_comments.specs.Comments.SeparateLines.{in_line, over_lines}
 use Rattle.yf_comments.specs.Comments.Separate.{in_key, in_node}
 use Rattle.yf_comments.specs.Comments.Upto.{upto_line, upto_lines}
-use Rattle.yf_comments.proofs.RowLemmas.{rest_tail, row_functional, separate_whites, no_separation, end_white, rest_moves}
-use Rattle.yf_comments.proofs.LineEndLemmas.{line_end_rows, lines_rows, rows_ended, rows_line_end}
+use Rattle.yf_comments.proofs.RowLemmas.{rest_tail, row_functional, separate_whites, no_separation, end_white, rest_moves, stuck_at_solid}
+use Rattle.yf_comments.proofs.LineEndLemmas.{line_end_rows, lines_rows, rows_ended, rows_line_end, row_stuck}
 
 -- spaces, indentation and the prefix of a flow line are whites
 module _ (t : List ℕ) where
@@ -232,11 +232,13 @@ module _ {t : List ℕ} where
 
   -- at the end of the text
   pub stuck_at_end : {n : ℤ} {i : ℕ} → Nowhere (SeparateInLine t i) → n ≢ pos 0 → Stuck (Upto t n i i)
-  stuck_at_end {n} {i} s f = record { none = λ j x d. no_upto s (λ h y e l k p.
-      let same = end_stays s e l in
-      let m = chain_forward row_functional (line_end_rows e) in
-      let at : h ≡ length t = omega arith in
-      f (prefix_at_end at p)) d }
+  stuck_at_end {n} {i} s f = record {
+    none = λ j x d. no_upto s (λ h y e l k p.
+        let same = end_stays s e l in
+        let m = chain_forward row_functional (line_end_rows e) in
+        let at : h ≡ length t = omega arith in
+        f (prefix_at_end at p)) d;
+  }
 
   pub upto_at_end : {n : ℤ} {i : ℕ} → i ≡ length t → n ≡ pos 0 → Chosen (Upto t n i i) i []
   upto_at_end {n} {i} e f =
@@ -324,3 +326,42 @@ module _ {t : List ℕ} {n : ℤ} {c : Ctx} {i : ℕ} where
 
   pub node_stuck : is_key c ≡ false → Stuck (SeparateLines t n i) → Stuck (Separate t n c i)
   node_stuck k d = stuck_along (λ j y u. by_lines k u) d
+
+-- a character that begins neither whites nor a comment nor the end of a line
+pub record Solid (t : List ℕ) (k : ℕ) : Type 0 where
+  pub not_white : is_white (code t k) ≡ false
+  pub no_comment : code t k ≢ 35
+  pub no_end : Nowhere (BreakOrEnd t k)
+
+-- a separation as a tail of whites behind rows
+record Separated (t : List ℕ) (i j : ℕ) (y : List CommentValue) : Type 0 where
+  place : ℕ
+  rows : Chain (Row t) i place y
+  run : List ℕ
+  whites_run : Many t is_white place j run
+
+module _ {t : List ℕ} {n : ℤ} {i : ℕ} where
+  lines_separated : {j : ℕ} {y : List CommentValue} → SeparateLines t n i j y → Separated t i j y
+  lines_separated (in_line s) = let w = separate_whites s in record { place = i; rows = done; run = w.0; whites_run = w.1 }
+  lines_separated (over_lines {h = h} d f) = let w = prefix_whites f in record { place = h; rows = line_end_rows d; run = w.0; whites_run = w.1 }
+
+module _ {t : List ℕ} {n : ℤ} {c : Ctx} {i : ℕ} where
+  separated : {j : ℕ} {y : List CommentValue} → Separate t n c i j y → Separated t i j y
+  separated (in_key k s) = let w = separate_whites s in record { place = i; rows = done; run = w.0; whites_run = w.1 }
+  separated (in_node k d) = lines_separated d
+
+  -- a separation that ends before such a character is the longest
+  solid_longest : {k j : ℕ} {x y : List CommentValue} → Solid t k → Separate t n c i k x → Separate t n c i j y → j ≤ k
+  solid_longest {k} {j} {x} {y} s d e =
+      let a = separated d in
+      let b = separated e in
+      let stuck = row_stuck (stuck_at_solid a.whites_run s.not_white s.no_comment s.no_end) in
+      let l = (chain_chosen row_functional a.rows stuck).longest b.place y b.rows in
+      (tail_behind b.whites_run l a.whites_run s.not_white (chain_meet row_functional b.rows a.rows)).0
+
+  pub separate_solid : {k e : ℕ} {x y : List CommentValue} → Solid t k → Separate t n c i k x → Chosen (Separate t n c i) e y → (k ≡ e) × (x ≡ y)
+  separate_solid {k} {e} {x} {y} s d f =
+      let a = solid_longest s d f.derived in
+      let b = f.longest k x d in
+      let same : k ≡ e = omega arith in
+      (same, f.only x (subst (λ v. Separate t n c i v x) same d))

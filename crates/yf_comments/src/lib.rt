@@ -5,4 +5,7 @@ pub mod blank;
 pub mod comment;
 pub mod comments;
 pub mod lines;
+pub mod read;
 pub mod separation;
+#[cfg(test)]
+mod tests;

@@ -137,7 +137,12 @@ fn line_rest<'a>(s: &'a str, at: usize, starts: bool) -> Option<Row<'a>>
 }
 
 // Reads what is left of a line, and keeps its comment; the offset behind it, or `None`, with no comment kept.
-pub(crate) fn next_row<'a>(s: &'a str, at: usize, starts: bool, comments: &mut Comments<'a>) -> Result<Option<usize>, AllocError>
+pub(crate) fn next_row<'a>(
+    s: &'a str,
+    at: usize,
+    starts: bool,
+    comments: &mut Comments<'a>,
+) -> Result<Option<usize>, AllocError>
     requires boundary { IsCharBoundary s.now at }
     requires starts { MatchBool starts (LineStart s.now at) (LineStart s.now at → ⊥) }
     ensures reads { IfOk result (λ o. MatchOption o (Stuck (LineRest s.now at)) (λ e. (x : List CommentValue) × LineRest s.now at e x × (comments.new ≡ comments.old ++ x))) }
@@ -160,7 +165,11 @@ pub(crate) fn next_row<'a>(s: &'a str, at: usize, starts: bool, comments: &mut C
 
 // Reads comment lines (l-comment, production 78) as long as there are any, from the start of a line or the end of the
 // text on.
-fn comment_lines<'a>(s: &'a str, at: usize, comments: &mut Comments<'a>) -> Result<usize, AllocError>
+fn comment_lines<'a>(
+    s: &'a str,
+    at: usize,
+    comments: &mut Comments<'a>,
+) -> Result<usize, AllocError>
     requires boundary { IsCharBoundary s.now at }
     requires starts { at < length s.now → LineStart s.now at }
     ensures reads { IfOk result (λ e. Kept s.now at e comments.old comments.new) }
@@ -183,7 +192,11 @@ fn comment_lines<'a>(s: &'a str, at: usize, comments: &mut Comments<'a>) -> Resu
 ///
 /// What is left of the line may hold a comment; at the start of a line there need be nothing at all.
 /// `None` where neither the rest of a line nor the start of one is there, as between the CR and the LF of one break.
-pub fn line_end<'a>(alloc: Global, s: &'a str, at: usize) -> Result<Option<Separation<'a>>, AllocError>
+pub fn line_end<'a>(
+    alloc: Global,
+    s: &'a str,
+    at: usize,
+) -> Result<Option<Separation<'a>>, AllocError>
     requires { IsCharBoundary s.now at }
     ensures reads { IfOk result (λ o. MatchOption o (Stuck (LineEnd s.now at)) (λ p. Chosen (LineEnd s.now at) p.end p.comments)) }
     ensures boundary { IfOk result (λ o. IfSome o (λ p. IsCharBoundary s.now p.end)) }

@@ -86,7 +86,12 @@ fn first_reach(s: &str, at: usize, width: usize) -> Option<Reach>
 }
 
 // How far a separation goes from there, behind rows of comments, which it keeps all.
-fn last_reach<'a>(s: &'a str, at: usize, width: usize, comments: &mut Comments<'a>) -> Result<Option<Reach>, AllocError>
+fn last_reach<'a>(
+    s: &'a str,
+    at: usize,
+    width: usize,
+    comments: &mut Comments<'a>,
+) -> Result<Option<Reach>, AllocError>
     requires boundary { IsCharBoundary s.now at }
     requires fresh { comments.old ≡ [] }
     ensures reads { IfOk result (λ o. (p : ℕ) × Chain (Row s.now) at p comments.new × Stuck (Row s.now p)
@@ -120,7 +125,12 @@ fn last_reach<'a>(s: &'a str, at: usize, width: usize, comments: &mut Comments<'
 /// Reads a separation that may go over lines (s-separate-lines(n), production 81): the longest.
 ///
 /// It ends in the last line at whose start the indentation stands, so a comment line that is indented less is not in it.
-pub fn separate_lines<'a>(alloc: Global, s: &'a str, at: usize, width: usize) -> Result<Option<Separation<'a>>, AllocError>
+pub fn separate_lines<'a>(
+    alloc: Global,
+    s: &'a str,
+    at: usize,
+    width: usize,
+) -> Result<Option<Separation<'a>>, AllocError>
     requires { IsCharBoundary s.now at }
     ensures reads { IfOk result (λ o. MatchOption o (Stuck (SeparateLines s.now (pos width) at)) (λ p. Chosen (SeparateLines s.now (pos width) at) p.end p.comments)) }
     ensures boundary { IfOk result (λ o. IfSome o (λ p. IsCharBoundary s.now p.end)) }
@@ -141,7 +151,13 @@ pub fn separate_lines<'a>(alloc: Global, s: &'a str, at: usize, width: usize) ->
 /// Reads a separation (s-separate(n,c), production 80): the longest, with its comments.
 ///
 /// In the two key contexts, and where `n` is negative, it is whites alone, or nothing at the start of a line.
-pub fn separate<'a>(alloc: Global, s: &'a str, at: usize, n: i32, ctx: Ctx) -> Result<Option<Separation<'a>>, AllocError>
+pub fn separate<'a>(
+    alloc: Global,
+    s: &'a str,
+    at: usize,
+    n: i32,
+    ctx: Ctx,
+) -> Result<Option<Separation<'a>>, AllocError>
     requires { IsCharBoundary s.now at }
     ensures reads { IfOk result (λ o. MatchOption o (Stuck (Separate s.now n ctx at)) (λ p. Chosen (Separate s.now n ctx at) p.end p.comments)) }
     ensures boundary { IfOk result (λ o. IfSome o (λ p. IsCharBoundary s.now p.end)) }

@@ -3,6 +3,8 @@ pub mod LineLemmas
 pub mod TableLemmas
 pub mod MarkLemmas
 pub mod PlaceLemmas
+pub mod ClearLemmas
+pub mod FoldLemmas
 pub mod OutputLemmas
 pub mod ClearLemmas
 pub mod FoldLemmas

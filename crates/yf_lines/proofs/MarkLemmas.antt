@@ -101,7 +101,8 @@ pub ends_by_break : (t : List ℕ) (h : ℕ) → (code t (h - 1) ≡ 10) ⊎ ((c
 ends_by_break t h (inl e) = lf_breaks t (h - 1) e
 ends_by_break t h (inr e) = cr_breaks t (h - 1) e.0
 
-break_at_start : {t : List ℕ} {i h : ℕ} (l : Line) → IsLine t l → Break t i h → l.start ≤ h → h < l.next → l.start ≡ h
+-- in a line a break ends nowhere but at its start
+pub break_at_start : {t : List ℕ} {i h : ℕ} (l : Line) → IsLine t l → Break t i h → l.start ≤ h → h < l.next → l.start ≡ h
 break_at_start {t} {i} {h} l m b o s =
     ⊎_elim (λ (q : l.start ≡ h). q)
     (λ (n : l.start ≢ h).

@@ -129,3 +129,24 @@ follow_start t (m ∷ ls) i j (suc k) l s f e = follow_start t ls m.next j k l (
 
 pub table_start : (t : List ℕ) (ls : List Line) (k : ℕ) (l : Line) → AreLines t ls → slice_get ls k ≡ Some l → LineStart t l.start
 table_start t ls k l a e = follow_start t ls 0 (length t) k l (inl at_text) (follow a) e
+
+-- the line that an offset before the end of the text is in
+pub record LineOf (ls : List Line) (e : ℕ) : Type 0 where
+  pub index : ℕ
+  pub line : Line
+  pub is : slice_get ls index ≡ Some line
+  pub from : line.start ≤ e
+  pub before : e < line.next
+
+follow_of : (t : List ℕ) (ls : List Line) (i j e : ℕ) → Follow t i j ls → i ≤ e → e < j → LineOf ls e
+follow_of t [] i j e f o l = absurd (omega (arith, f))
+follow_of t (m ∷ ls) i j e f o l =
+    ⊎_elim
+    (λ (s : e < m.next). record { index = 0; line = m; is = refl; from = omega (arith, f.0); before = s })
+    (λ (s : m.next ≤ e).
+    let r = follow_of t ls m.next j e f.2 s l in
+    record { index = suc r.index; line = r.line; is = r.is; from = r.from; before = r.before })
+    (cases_lt e m.next)
+
+pub line_of : (t : List ℕ) (ls : List Line) (e : ℕ) → AreLines t ls → e < length t → LineOf ls e
+line_of t ls e a l = follow_of t ls 0 (length t) e (follow a) (omega arith) l

@@ -4,7 +4,7 @@ ghost use Rattle.std.specs.List.Sorted.{IsNonDecreasingBy};
 ghost use Rattle.std.specs.Str.{IsCharBoundary};
 ghost use Rattle.yf_chars.specs.Class.{is_break_char};
 ghost use Rattle.yf_chars.specs.Text.{code};
-ghost use Rattle.yf_lines.specs.Basic.{Forbidden, Clear};
+ghost use Rattle.yf_lines.specs.Basic.{LineStart, Forbidden, Clear};
 ghost use Rattle.yf_lines.specs.declared.line.Line.{Line};
 ghost use Rattle.yf_lines.specs.Lines.{AreLines, IsLine, IsCutAt, OneLine, Unbroken, Apart, Marks, IsForbiddenLine, PlaceOf, Begun, ColumnOf};
 
@@ -80,6 +80,7 @@ impl<'a> LineTable<'a> {
         requires { i < length self.now.lines }
         ensures item { slice_get self.now.lines i ≡ Some result }
         ensures line { IsLine self.now.text result }
+        ensures start { LineStart self.now.text result.start }
         ensures cut { IsCutAt self.now.text result }
         ensures lines { AreLines self.now.text self.now.lines }
     {

@@ -1,4 +1,4 @@
-use Rattle.std.proofs.Common.{◌≡◌, ◌+◌, ◌-◌, ap, ◌∙◌, sym, subst, arith}
+use Rattle.std.proofs.Common.{ap, ◌∙◌, sym, arith}
 use Rattle.yf_chars.specs.Text.{code}
 use Rattle.yf_comments.proofs.BlankLemmas.{break_of_two, break_of_lf, break_of_cr}
 use Rattle.yf_comments.proofs.blank.break_before.Goals as goal

@@ -1,5 +1,5 @@
 use Rattle.std.proofs.Common.{◌∙◌}
-use Rattle.yf_comments.proofs.LineEndLemmas.{next_starts, line_end_from, line_end_start, line_end_stuck}
+use Rattle.yf_comments.proofs.LineEndLemmas.{next_starts, line_end_from, line_end_start}
 use Rattle.yf_comments.proofs.lines.line_end.Goals as goal
 
 pub comment_lines-requires-clause-starts : goal.comment_lines-requires-clause-starts

@@ -1,4 +1,4 @@
-use Rattle.std.proofs.Common.{◌≡◌, ◌≢◌, pos, ap, refl, arith}
+use Rattle.std.proofs.Common.{◌≡◌, ◌≢◌, pos, ap}
 use Rattle.yf_comments.proofs.SeparateLemmas.{upto_first, upto_at_end, stuck_at_end, stuck_first}
 use Rattle.yf_comments.proofs.separation.first_reach.Goals as goal
 

@@ -1,4 +1,4 @@
-use Rattle.std.proofs.Common.{◌≡◌, ◌≢◌, ◌+◌, ◌-◌, refl, ap, sym, ◌∙◌, arith}
+use Rattle.std.proofs.Common.{◌≡◌, ◌+◌, ◌-◌, refl, ap, sym, ◌∙◌, arith}
 use Rattle.yf_chars.specs.Text.{code}
 use Rattle.yf_comments.proofs.SeparateLemmas.{no_prefix, prefix_from, prefix_farthest, fewer_spaces}
 use Rattle.yf_comments.proofs.separation.flow_line_prefix.Goals as goal

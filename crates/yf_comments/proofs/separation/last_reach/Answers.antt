@@ -1,4 +1,4 @@
-use Rattle.std.proofs.Common.{◌≡◌, ℕ, Option, Some, None, MatchOption, IfSome, pos, ◌+◌, ◌++◌, ◌<◌, ◌≤◌, List, length, take, [], refl, ap, sym, ◌∙◌, subst, arith, length-append}
+use Rattle.std.proofs.Common.{◌≡◌, ℕ, Option, Some, None, MatchOption, IfSome, pos, ◌+◌, ◌++◌, ◌<◌, ◌≤◌, List, length, take, [], ap, sym, ◌∙◌, subst, arith, length-append}
 use Rattle.std.proofs.lemmas.List.{take-append-le, take_all}
 use Rattle.std.specs.Str.{IsCharBoundary}
 use Rattle.yf_chars.specs.Chain.{Chain, Chosen, Stuck, Nowhere}
@@ -67,8 +67,12 @@ rows-preserved-in-Some-flow_line_prefix c =
       rows = rows_next c.rows.invariant.rows c.rows-test.true f;
       boundary = rw c.in-Some.is at c.in_ok-next.ensures.boundary;
       starts = next_starts f.1;
-      best = (subst (λ v. Chosen (Upto c.args.s.now (pos c.args.width) c.args.at c.in-Some.next) c.in-Some-flow_line_prefix.end v) (sym all)
-          (best_here c.rows.invariant.rows c.rows-test.true f p.reads p.all), omega (arith, c.len.ensures), p.boundary);
+      best = (
+        subst (λ v. Chosen (Upto c.args.s.now (pos c.args.width) c.args.at c.in-Some.next) c.in-Some-flow_line_prefix.end v) (sym all)
+            (best_here c.rows.invariant.rows c.rows-test.true f p.reads p.all),
+        omega (arith, c.len.ensures),
+        p.boundary,
+      );
     }
 
 pub rows-smaller : goal.rows-smaller

@@ -1,4 +1,4 @@
-use Rattle.std.proofs.Common.{pos, ◌-◌, ◌<◌, ◌≤◌, length, take, MatchOption, MatchBool, IfSome}
+use Rattle.std.proofs.Common.{pos, ◌-◌, ◌<◌, ◌≤◌, length, take, MatchOption, MatchBool}
 use Rattle.std.specs.Str.{IsCharBoundary}
 use Rattle.yf_chars.specs.Chain.{Chain, Chosen, Stuck}
 use Rattle.yf_lines.specs.Basic.{LineStart}

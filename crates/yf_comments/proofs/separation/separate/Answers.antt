@@ -1,8 +1,8 @@
-use Rattle.std.proofs.Common.{ℤ, sym, subst, w32}
+use Rattle.std.proofs.Common.{sym, subst, w32}
 use Rattle.std.proofs.lemmas.Int.{to_z-of_z}
-use Rattle.yf_chars.specs.Chain.{Chosen, Stuck}
+use Rattle.yf_chars.specs.Chain.{Chosen}
 use Rattle.yf_comments.specs.Comments.{SeparateLines, Separate}
-use Rattle.yf_comments.proofs.SeparateLemmas.{alone_chosen, alone_stuck, node_chosen, node_stuck}
+use Rattle.yf_comments.proofs.SeparateLemmas.{alone_chosen, alone_stuck, node_chosen}
 use Rattle.yf_comments.proofs.separation.separate.Goals as goal
 
 pub returns-in-Some-2-clause-reads : goal.returns-in-Some-2-clause-reads
