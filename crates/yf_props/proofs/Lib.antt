@@ -1,2 +1,3 @@
 pub mod HandleLemmas
 pub mod NameLemmas
+pub mod TagLemmas

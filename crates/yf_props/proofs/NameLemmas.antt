@@ -1,5 +1,6 @@
 -- Names are as long as their characters go, so where one ends is unique.
-use Rattle.std.proofs.Common.{◌≡◌, ◌≢◌, ℕ, ◌+◌, ◌<◌, ◌≤◌, Bool, true, false, List, [], ◌∷◌, ◌++◌, slice_range, refl, sym, ap, ◌∙◌, subst, arith, true≢false}
+use Rattle.std.proofs.Common.{◌≡◌, ◌≢◌, ℕ, ◌+◌, ◌<◌, ◌≤◌, Bool, true, false, ◌⊎◌, inl, inr, ⊎_elim, List, [], ◌∷◌, ◌++◌, slice_range, refl, sym, ap, ◌∙◌, subst, arith, true≢false}
+use Rattle.std.proofs.lemmas.Bool.{cases_lt}
 use Rattle.yf_chars.specs.Text.{code, next, no_char, Reads}
 use Rattle.yf_chars.specs.Class.{is_anchor_char, is_ns_char, is_nb_char, is_printable, is_between, is_break_char, is_white, is_flow_indicator}
 use Rattle.yf_chars.specs.Chain.{Chain, Functional, Stuck, Chosen, One, Many}
@@ -18,6 +19,25 @@ chosen_alone {j = j} d same = record {
   only = λ y e. (same j y e).1;
 }
 
+-- and what ends further than all else that is derived, or is the same
+pub chosen_over : {X : Type 0} {P : ℕ → X → Type 0} {j : ℕ} {x : X} → P j x
+    → ((k : ℕ) (y : X) → P k y → (k < j) ⊎ ((k ≡ j) × (y ≡ x))) → Chosen P j x
+chosen_over {X} {P} {j} {x} d other = record {
+  derived = d;
+  longest = λ k y e. ⊎_elim (λ (l : k < j). omega arith) (λ (s : (k ≡ j) × (y ≡ x)). omega (arith, s.0)) (other k y e);
+  only = λ y e. ⊎_elim (λ (l : j < j). absurd (omega arith)) (λ (s : (j ≡ j) × (y ≡ x)). s.1) (other j y e);
+}
+
+-- what is chosen is one of these
+pub chosen_cases : {X : Type 0} {P : ℕ → X → Type 0} {j k : ℕ} {x y : X} → Chosen P j x → P k y → (k < j) ⊎ ((k ≡ j) × (y ≡ x))
+chosen_cases {P = P} {j = j} {k = k} {y = y} c d = ⊎_elim
+    (λ (l : k < j). inl l)
+    (λ (l : j ≤ k).
+        let m = c.longest k y d in
+        let e : k ≡ j = omega arith in
+        inr (e, c.only y (subst (λ v. P v y) e d)))
+    (cases_lt k j)
+
 -- runs
 module _ {S : ℕ → ℕ → List ℕ → Type 0} where
   pub run_unique : {i j k : ℕ} → Functional S → Run S i j → Run S i k → j ≡ k
@@ -30,6 +50,9 @@ module _ {S : ℕ → ℕ → List ℕ → Type 0} where
   -- where there is no character there is no run
   pub run_stuck : {i j : ℕ} → Stuck (S i) → Run S i j → ⊥
   run_stuck stuck r = no_way stuck r.chain r.some
+
+pub run_from : {S : ℕ → ℕ → List ℕ → Type 0} {i j : ℕ} {x : List ℕ} → Chain S i j x → i < j → Stuck (S j) → Run S i j
+run_from {x = x} c l s = record { characters = x; chain = c; some = l; all = s }
 
 pub run_of : (t : List ℕ) (p : ℕ → Bool) {i j : ℕ} {x : List ℕ} → Many t p i j x → i < j → p (code t j) ≡ false → Run (One t p) i j
 run_of t p {j = j} {x = x} m l e = record { characters = x; chain = m; some = l; all = one_stuck t p j e }

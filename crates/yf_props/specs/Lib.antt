@@ -1,3 +1,4 @@
+pub mod Chars
 pub mod Handles
 pub mod Names
 pub mod Props

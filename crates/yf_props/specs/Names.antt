@@ -50,12 +50,19 @@ pub data Handle (t : List ℕ) : ℕ → ℕ → Type 0 where
   secondary_handle : {i : ℕ} → code t i ≡ 33 → code t (i + 1) ≡ 33 → Handle t i (i + 2)
   named_handle : {i j : ℕ} → code t i ≡ 33 → Run (WordChar t) (i + 1) j → code t j ≡ 33 → Handle t i (j + 1)
 
--- c-ns-tag-property: !<..>, a handle and a suffix, or a ! that no character of a suffix follows
+-- c-verbatim-tag, which means what stands between < and >
+pub data VerbatimTag (t : List ℕ) : ℕ → ℕ → List ℕ → Type 0 where
+  in_brackets : {i j : ℕ} → code t i ≡ 33 → code t (i + 1) ≡ 60 → Run (UriChar t) (i + 2) j → code t j ≡ 62
+      → VerbatimTag t i (j + 1) (slice_range t (i + 2) j)
+
+-- c-ns-shorthand-tag: a handle and a suffix
+pub data ShorthandTag (t : List ℕ) : ℕ → ℕ → TagValue → Type 0 where
+  handle_suffix : {i h j : ℕ} → Handle t i h → Run (TagChar t) h j → ShorthandTag t i j (IsShort (slice_range t i h) (slice_range t h j))
+
+-- c-ns-tag-property; no character of a suffix follows a ! that is a tag alone (c-non-specific-tag)
 pub data TagProperty (t : List ℕ) : ℕ → ℕ → TagValue → Type 0 where
-  verbatim_tag : {i j : ℕ} → code t i ≡ 33 → code t (i + 1) ≡ 60 → Run (UriChar t) (i + 2) j → code t j ≡ 62
-      → TagProperty t i (j + 1) (IsVerbatim (slice_range t (i + 2) j))
-  shorthand_tag : {i h j : ℕ} → Handle t i h → Run (TagChar t) h j
-      → TagProperty t i j (IsShort (slice_range t i h) (slice_range t h j))
+  verbatim_tag : {i j : ℕ} {text : List ℕ} → VerbatimTag t i j text → TagProperty t i j (IsVerbatim text)
+  shorthand_tag : {i j : ℕ} {tag : TagValue} → ShorthandTag t i j tag → TagProperty t i j tag
   non_specific_tag : {i : ℕ} → code t i ≡ 33 → Stuck (TagChar t (i + 1)) → TagProperty t i (i + 1) IsNonSpecific
 
 -- what properties mean: the properties, where the ! of their tag stands, and the comments between the two

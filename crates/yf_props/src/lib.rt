@@ -4,3 +4,4 @@
 pub mod alias;
 pub mod handles;
 pub mod props;
+mod tag;

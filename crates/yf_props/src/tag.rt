@@ -1,0 +1,206 @@
+//! Tags (YAML 1.2.2, section 6.9.1).
+ghost use Rattle.std.specs.Prelude.{◌≡◌, ◌+◌, ◌<◌, ◌≤◌, ℕ, List, Bool, true, false, slice_range, IfSome, MatchOption, MatchBool};
+ghost use Rattle.std.specs.Str.{IsCharBoundary};
+ghost use Rattle.yf_chars.specs.Chain.{Chain, Chosen, Stuck, Many};
+ghost use Rattle.yf_chars.specs.Class.{is_hex_digit, is_word_char};
+ghost use Rattle.yf_chars.specs.Text.{code, Reads};
+ghost use Rattle.yf_props.specs.Chars.{class_of};
+ghost use Rattle.yf_props.specs.Names.{Spelled, TagChar, Run, Handle, VerbatimTag, ShorthandTag, TagProperty};
+ghost use Rattle.yf_props.specs.Props.{tag_value};
+ghost use Rattle.yf_props.specs.Props.TagValue.{IsVerbatim};
+
+use crate::props::Tag;
+use yf_chars::classes::{is_hex_digit, is_tag_char, is_uri_char, is_word_char};
+use yf_chars::text::{peek, stands};
+
+// Which characters a part of a tag may hold as themselves: all of a URI, or those of a suffix.
+#[derive(Clone, Copy)]
+enum Chars {
+    Uri,
+    Suffix,
+}
+
+// A tag that was read, and the offset behind it.
+#[derive(Clone, Copy)]
+pub(crate) struct TagPart<'a> {
+    pub(crate) tag: Tag<'a>,
+    pub(crate) end: usize,
+}
+
+// Whether the class holds the character.
+fn is_of(class: Chars, c: char) -> bool
+    ensures { result ≡ class_of class c }
+{
+    match class {
+        Chars::Uri => is_uri_char(c),
+        Chars::Suffix => is_tag_char(c),
+    }
+}
+
+// Whether a hexadecimal digit begins at the offset.
+fn hex_stands(s: &str, at: usize) -> bool
+    requires { IsCharBoundary s.now at }
+    ensures value { result ≡ is_hex_digit (code s.now at) }
+    ensures boundary { result ≡ true → IsCharBoundary s.now (at + 1) }
+{
+    match peek(s, at) {
+        Some((c, _)) => is_hex_digit(c),
+        None => false,
+    }
+}
+
+// Reads a character of the class, or `%` with two hexadecimal digits, and gives the offset behind it.
+fn read_char(s: &str, at: usize, class: Chars) -> Option<usize>
+    requires { IsCharBoundary s.now at }
+    ensures reads { MatchOption result (Stuck (Spelled s.now (class_of class) at)) (λ j. (x : List ℕ) × Spelled s.now (class_of class) at j x) }
+    ensures boundary { IfSome result (λ j. IsCharBoundary s.now j) }
+    ensures order { IfSome result (λ j. at < j) }
+{
+    if stands(s, at, b'%') {
+        if hex_stands(s, at + 1) {
+            if hex_stands(s, at + 2) {
+                return Some(at + 3);
+            }
+            return None;
+        }
+        return None;
+    }
+    match peek(s, at) {
+        Some((c, next)) => {
+            if is_of(class, c) {
+                return Some(next);
+            }
+            None
+        }
+        None => None,
+    }
+}
+
+// The offset behind all characters of the class, escapes among them, that stand at the offset.
+fn skip_chars(s: &str, at: usize, class: Chars) -> usize
+    requires { IsCharBoundary s.now at }
+    ensures chars { (x : List ℕ) × Chain (Spelled s.now (class_of class)) at result x }
+    ensures all { Stuck (Spelled s.now (class_of class) result) }
+    ensures boundary { IsCharBoundary s.now result }
+    ensures order { at ≤ result }
+{
+    let mut end = at;
+    'chars: loop {
+        match read_char(s, end, class) {
+            Some(next) => end = next,
+            None => return end,
+        }
+    }
+}
+
+// The offset behind all word characters that stand at the offset.
+fn skip_word_chars(s: &str, at: usize) -> usize
+    requires { IsCharBoundary s.now at }
+    ensures chars { (x : List ℕ) × Many s.now is_word_char at result x }
+    ensures all { is_word_char (code s.now result) ≡ false }
+    ensures boundary { IsCharBoundary s.now result }
+    ensures order { at ≤ result }
+{
+    let mut end = at;
+    'chars: loop {
+        match peek(s, end) {
+            Some((c, next)) => {
+                if is_word_char(c) {
+                    end = next;
+                } else {
+                    return end;
+                }
+            }
+            None => return end,
+        }
+    }
+}
+
+// Reads a verbatim tag (c-verbatim-tag, production 98).
+fn verbatim<'a>(s: &'a str, at: usize) -> Option<TagPart<'a>>
+    ensures reads { MatchOption result (Stuck (VerbatimTag s.now at)) (λ p. (text : List ℕ) × Chosen (VerbatimTag s.now at) p.end text × (tag_value p.tag ≡ IsVerbatim text)) }
+    ensures boundary { IfSome result (λ p. IsCharBoundary s.now p.end) }
+{
+    if stands(s, at, b'!') {
+        if stands(s, at + 1, b'<') {
+            let end = skip_chars(s, at + 2, Chars::Uri);
+            if end > at + 2 {
+                if stands(s, end, b'>') {
+                    return Some(TagPart {
+                        tag: Tag::Verbatim(&s[at + 2..end]),
+                        end: end + 1,
+                    });
+                }
+                return None;
+            }
+            return None;
+        }
+        return None;
+    }
+    None
+}
+
+// Reads a shorthand tag whose handle is not the lone `!`.
+fn long_shorthand<'a>(s: &'a str, at: usize) -> Option<TagPart<'a>>
+    requires { Reads s.now at 33 (at + 1) }
+    ensures reads { MatchOption result ((h j : ℕ) → Handle s.now at h → at + 1 < h → Run (TagChar s.now) h j → ⊥) (λ p. Chosen (ShorthandTag s.now at) p.end (tag_value p.tag)) }
+    ensures boundary { IfSome result (λ p. IsCharBoundary s.now p.end) }
+{
+    let name_end = skip_word_chars(s, at + 1);
+    if stands(s, name_end, b'!') {
+        let start = name_end + 1;
+        let end = skip_chars(s, start, Chars::Suffix);
+        if end > start {
+            let tag = Tag::Short {
+                handle: &s[at..start],
+                suffix: &s[start..end],
+            };
+            return Some(TagPart { tag, end });
+        }
+        return None;
+    }
+    None
+}
+
+// Reads a shorthand tag (c-ns-shorthand-tag, production 99), with the longest handle that a suffix follows.
+fn shorthand<'a>(s: &'a str, at: usize) -> Option<TagPart<'a>>
+    requires { Reads s.now at 33 (at + 1) }
+    ensures reads { MatchOption result (Stuck (ShorthandTag s.now at) × Stuck (TagChar s.now (at + 1))) (λ p. Chosen (ShorthandTag s.now at) p.end (tag_value p.tag)) }
+    ensures boundary { IfSome result (λ p. IsCharBoundary s.now p.end) }
+{
+    match long_shorthand(s, at) {
+        Some(part) => Some(part),
+        None => {
+            let start = at + 1;
+            let end = skip_chars(s, start, Chars::Suffix);
+            if end > start {
+                let tag = Tag::Short {
+                    handle: &s[at..start],
+                    suffix: &s[start..end],
+                };
+                return Some(TagPart { tag, end });
+            }
+            None
+        }
+    }
+}
+
+// Reads a tag (c-ns-tag-property, production 97), as long as its characters go.
+pub(crate) fn read_tag<'a>(s: &'a str, at: usize) -> Option<TagPart<'a>>
+    ensures reads { MatchOption result (Stuck (TagProperty s.now at)) (λ p. Chosen (TagProperty s.now at) p.end (tag_value p.tag)) }
+    ensures boundary { IfSome result (λ p. IsCharBoundary s.now p.end) }
+{
+    if stands(s, at, b'!') {
+        return match verbatim(s, at) {
+            Some(part) => Some(part),
+            None => match shorthand(s, at) {
+                Some(part) => Some(part),
+                None => Some(TagPart {
+                    tag: Tag::NonSpecific,
+                    end: at + 1,
+                }),
+            },
+        };
+    }
+    None
+}
