@@ -13,7 +13,8 @@ use Rattle.yf_chars.specs.Chain.Chain.{done, step}
 use Rattle.yf_chars.specs.Chain.One.{one}
 use Rattle.yf_chars.proofs.TextLemmas.{reads_real, reads_byte, code-nowhere, boundary_from_begins, next-mark}
 use Rattle.yf_lines.specs.Basic.{Break, LineStart, Forbidden, Clear, is_marker}
-use Rattle.yf_lines.proofs.BasicLemmas.{Before, line_start_view, break_end, break_forward, three_first, no_marker, white_below, white_cases}
+use Rattle.yf_lines.specs.Basic.Break.{cr_lf, lone_cr, lone_lf}
+use Rattle.yf_lines.proofs.BasicLemmas.{Before, line_start_view, break_end, break_forward, three_first, no_marker, white_below, white_cases, clear_join, clear_nothing}
 use Rattle.yf_lines.proofs.BasicLemmas.Before.{nothing_before, break_before, mark_before}
 
 -- what stands behind an offset at which a character begins
@@ -93,7 +94,7 @@ move {t} {j = j} {c = c} b r =
     subst (λ k. Reads t (j - 1) c k) same r
 
 -- what stands before the start of a line
-line_start_behind : {t : List ℕ} {j : ℕ} → IsUtf8 t → LineStart t j
+pub line_start_behind : {t : List ℕ} {j : ℕ} → IsUtf8 t → LineStart t j
     → (j ≡ 0) ⊎ ((k : ℕ) × (d : ℕ) × Reads t k d j × ((d ≡ 10) ⊎ ((d ≡ 13) ⊎ (d ≡ 0xFEFF))))
 line_start_behind {t} {j} u s = go (line_start_view s) where
   go : Before t j → (j ≡ 0) ⊎ ((k : ℕ) × (d : ℕ) × Reads t k d j × ((d ≡ 10) ⊎ ((d ≡ 13) ⊎ (d ≡ 0xFEFF))))
@@ -194,3 +195,23 @@ spelled_slice {t} {i} {j} {x} l s =
     let cut : drop (length (take i t)) (take i t ++ encode_utf8_all x) ≡ encode_utf8_all x = drop-append_seam (take i t) (encode_utf8_all x) in
     sym (drop-take i (j - i) t) ∙ ap (λ k. drop i (take k t)) whole ∙ ap (drop i) s.bytes
     ∙ ap (λ k. drop k (take i t ++ encode_utf8_all x)) (sym front) ∙ cut
+
+pub clear_whites : {t : List ℕ} {i j : ℕ} {x : List ℕ} → IsUtf8 t → Many t is_white i j x → Clear t i j
+clear_whites {t} {i} u done = clear_nothing t i
+clear_whites {t} u (step (one {i = i} e) c) =
+    let low = white_below (code t i) e in
+    let w = white_cases (code t i) e in
+    clear_join (clear_char u (reads_real t i u (omega arith)) (not_forbidden t i (λ q. omega (arith, w)) (λ q. omega (arith, w)))) (clear_whites u c)
+
+clear_one : {t : List ℕ} {i : ℕ} → code t i < 45 → Clear t i (i + 1)
+clear_one {t} {i} l = record {
+  none = λ h a b f. let same : i ≡ h = omega arith in
+      not_forbidden t i (λ e. omega arith) (λ e. omega arith) (subst (λ k. Forbidden t k) (sym same) f);
+}
+
+pub clear_break : {t : List ℕ} {i j : ℕ} → Break t i j → Clear t i j
+clear_break {t} (cr_lf {i = i} a b) =
+    let two : (i + 1) + 1 ≡ i + 2 = omega arith in
+    subst (λ k. Clear t i k) two (clear_join (clear_one (omega arith)) (clear_one (omega arith)))
+clear_break (lone_cr a b) = clear_one (omega arith)
+clear_break (lone_lf a b) = clear_one (omega arith)

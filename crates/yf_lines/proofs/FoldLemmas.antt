@@ -1,16 +1,18 @@
 -- Laws of folded line breaks: the lines of a fold are unique up to its content.
-use Rattle.std.proofs.Common.{◌≡◌, ◌≢◌, ℕ, zero, suc, ◌+◌, ◌-◌, ◌<◌, ◌≤◌, ℤ, pos, ◌<ℤ◌, Bool, true, false, List, [], ◌∷◌, ◌++◌, length, refl, sym, ap, ◌∙◌, subst, inl, inr, ◌⊎◌, ⊎_elim, arith, append_assoc, append-nil, add-zero, add-one}
-use Rattle.std.proofs.lemmas.Bool.{cases_eq, cases_lt, cases_Bool, true≢false}
+use Rattle.std.proofs.Common.{◌≡◌, ◌≢◌, ℕ, zero, suc, ◌+◌, ◌-◌, ◌<◌, ◌≤◌, ℤ, pos, ◌<ℤ◌, false, List, [], ◌∷◌, ◌++◌, refl, sym, ap, ◌∙◌, subst, ⊎_elim, arith, add-zero, add-one}
+use Rattle.std.proofs.lemmas.Bool.{cases_eq, cases_lt, true≢false}
 use Rattle.std.proofs.lemmas.Int.{ints}
-use Rattle.std.specs.Str.{IsUtf8, IsCharBoundary}
+use Rattle.std.specs.Str.{IsUtf8}
 use Rattle.yf_chars.specs.declared.context.Ctx.TheVariants.{FlowIn}
-use Rattle.yf_chars.specs.Text.{code, next, Reads, no_char}
+use Rattle.yf_chars.specs.Text.{code, next}
 use Rattle.yf_chars.specs.Class.{is_white}
-use Rattle.yf_chars.specs.Chain.{Chain, One, Many, Functional, Stuck, Chosen, Nowhere}
+use Rattle.yf_chars.specs.Chain.{Chain, Many, Functional, Stuck, Nowhere}
 use Rattle.yf_chars.specs.Chain.Chain.{done, step}
-use Rattle.yf_chars.proofs.ChainLemmas.{chain_append, chain_more, many_unique, many_more, stuck_unique, chain_forward, one_functional}
+use Rattle.yf_chars.proofs.ChainLemmas.{chain_append, many_unique, many_more, stuck_unique, chain_forward, one_functional}
 use Rattle.yf_chars.proofs.TextLemmas.{next_ascii}
-use Rattle.yf_lines.specs.Basic.{Break, Spaces, Indent, IndentLess, SeparateInLine, FlowPrefix, LinePrefix, Empty, Folded, FlowFolded, is_flow, is_block}
+use Rattle.yf_lines.proofs.ClearLemmas.{clear_whites, clear_break}
+use Rattle.yf_lines.proofs.BasicLemmas.{clear_join, clear_nothing}
+use Rattle.yf_lines.specs.Basic.{Clear, Break, Spaces, Indent, IndentLess, SeparateInLine, FlowPrefix, LinePrefix, Empty, Folded, FlowFolded}
 use Rattle.yf_lines.specs.Basic.Indent.{exactly}
 use Rattle.yf_lines.specs.Basic.IndentLess.{fewer}
 use Rattle.yf_lines.specs.Basic.SeparateInLine.{by_whites, at_start}
@@ -19,7 +21,7 @@ use Rattle.yf_lines.specs.Basic.LinePrefix.{in_block, in_flow}
 use Rattle.yf_lines.specs.Basic.Empty.{prefixed, shorter}
 use Rattle.yf_lines.specs.Basic.Folded.{trimmed, as_space}
 use Rattle.yf_lines.specs.Basic.FlowFolded.{at_break, past_whites}
-use Rattle.yf_lines.specs.Fold.{FoldsTo, FoldLines, ContentAt, line_feeds, fold_of, fold_text}
+use Rattle.yf_lines.specs.Fold.{FoldsTo, FoldLines, ContentAt, line_feeds, fold_of}
 use Rattle.yf_lines.proofs.BasicLemmas.{white_of_space, break_char, break_forward, break_unique}
 
 -- some run of whites
@@ -149,12 +151,26 @@ fold_parts {t} {n} {i} {j} {x} f = go f.folded f.no_white f.no_break where
   go : {i j : ℕ} {x : List ℕ} → FlowFolded t n i j x → is_white (code t j) ≡ false → Nowhere (Break t j) → FoldParts t n i j x
   go (at_break {i = i} {h = h} d p) w b =
       let parts = folded_parts d in
-      record { at = i; whites = ([], done); line = parts.line; ends = parts.ends; feeds = parts.feeds; text = parts.text;
-        lines = record { line = h; empties = parts.empties; content = record { prefix = p; no_white = w; no_break = b } } }
+      record {
+        at = i;
+        whites = ([], done);
+        line = parts.line;
+        ends = parts.ends;
+        feeds = parts.feeds;
+        text = parts.text;
+        lines = record { line = h; empties = parts.empties; content = record { prefix = p; no_white = w; no_break = b } };
+      }
   go (past_whites {g = g} {h = h} s d p) w b =
       let parts = folded_parts d in
-      record { at = g; whites = whites_of_separation s; line = parts.line; ends = parts.ends; feeds = parts.feeds; text = parts.text;
-        lines = record { line = h; empties = parts.empties; content = record { prefix = p; no_white = w; no_break = b } } }
+      record {
+        at = g;
+        whites = whites_of_separation s;
+        line = parts.line;
+        ends = parts.ends;
+        feeds = parts.feeds;
+        text = parts.text;
+        lines = record { line = h; empties = parts.empties; content = record { prefix = p; no_white = w; no_break = b } };
+      }
 
 folds_unique : {t : List ℕ} {n : ℤ} {i j k : ℕ} {x y : List ℕ} → FoldsTo t n i j x → FoldsTo t n i k y → (j ≡ k) × (x ≡ y)
 folds_unique {t} {n} {i} {j} {k} {x} {y} a b =
@@ -165,7 +181,7 @@ folds_unique {t} {n} {i} {j} {k} {x} {y} a b =
     let same = lines_unique p.lines (subst (λ h. FoldLines t n h k q.feeds) (sym line) q.lines) in
     (same.0, p.text ∙ ap fold_of same.1 ∙ sym q.text)
 
-folds_forward : {t : List ℕ} {n : ℤ} {i j : ℕ} {x : List ℕ} → FoldsTo t n i j x → i < j
+pub folds_forward : {t : List ℕ} {n : ℤ} {i j : ℕ} {x : List ℕ} → FoldsTo t n i j x → i < j
 folds_forward {t} {n} a =
     let p = fold_parts a in
     let f = chain_forward (one_functional t is_white) p.whites.1 in
@@ -221,9 +237,11 @@ pub no_fold_indent : {t : List ℕ} {n : ℤ} {i : ℕ} → n <ℤ pos 0 → Stu
 no_fold_indent {t} {n} {i} l = record { none = λ j x f. go (fold_parts f) } where
   none : {i j : ℕ} → Indent t n i j → ⊥
   none (exactly k e s) = negative k l e
+
   first : {i j : ℕ} → FlowPrefix t n i j → ⊥
   first (indented d) = none d
   first (set_off d s) = none d
+
   go : {j : ℕ} {x : List ℕ} → FoldParts t n i j x → ⊥
   go p = first p.lines.content.prefix
 
@@ -310,6 +328,7 @@ tab_early {t} {i} {j} {e} {w} s o n l x f d = record { none = λ k y a. go a } w
       let g = chain_forward (one_functional t is_white) x.1 in
       let q : i + (j - i) ≡ j = omega arith in
       ⊎_elim (λ (h : j - i < m). n (ap (code t) (sym q) ∙ r.each (j - i) h)) (λ (h : m ≤ j - i). d (omega arith)) (cases_lt (j - i) m)
+
   go : {k : ℕ} {y : List ℕ} → Empty t (pos w) FlowIn i k y → ⊥
   go (prefixed (in_block a p) b) = absurd (true≢false (sym a))
   go (prefixed (in_flow a p) b) = no_prefix s o n l p
@@ -323,3 +342,40 @@ empty_short {t} {i} {j} {e} {k} {w} s o l d b =
     let q : i + (j - i) ≡ j = omega arith in
     let b' : Break t (i + (j - i)) k = subst (λ h. Break t h k) (d ∙ sym q) b in
     shorter (fewer (j - i) (less_pos l) s) b'
+
+-- a fold covers whites and breaks alone
+clear_empties : {t : List ℕ} {n : ℤ} {i j : ℕ} {x : List ℕ} → IsUtf8 t → Chain (Empty t n FlowIn) i j x → Clear t i j
+clear_empties {t} {i = i} u done = clear_nothing t i
+clear_empties u (step e c) =
+    let p = empty_parts e in
+    clear_join (clear_join (clear_whites u p.whites.1) (clear_break p.ends)) (clear_empties u c)
+
+pub clear_fold : {t : List ℕ} {n : ℤ} {i j : ℕ} {x : List ℕ} → IsUtf8 t → FoldsTo t n i j x → Clear t i j
+clear_fold u f =
+    let p = fold_parts f in
+    clear_join (clear_join (clear_join (clear_whites u p.whites.1) (clear_break p.ends)) (clear_empties u p.lines.empties))
+    (clear_whites u (whites_of_prefix p.lines.content.prefix).1)
+
+-- the line to which a fold leads, and the whites at its start
+last_break : {t : List ℕ} {n : ℤ} {i j : ℕ} {x : List ℕ} → (g : ℕ) × Break t g i → Chain (Empty t n FlowIn) i j x → (h : ℕ) × Break t h j
+last_break b done = b
+last_break b (step e c) = let p = empty_parts e in last_break (p.at, p.ends) c
+
+pub record FoldLine (t : List ℕ) (j : ℕ) : Type 0 where
+  pub line : ℕ
+  pub from : ℕ
+  pub ends : Break t from line
+  pub blank : List ℕ
+  pub whites : Many t is_white line j blank
+
+pub fold_line : {t : List ℕ} {n : ℤ} {i j : ℕ} {x : List ℕ} → FoldsTo t n i j x → FoldLine t j
+fold_line f =
+    let p = fold_parts f in
+    let b = last_break (p.at, p.ends) p.lines.empties in
+    let w = whites_of_prefix p.lines.content.prefix in
+    record { line = p.lines.line; from = b.0; ends = b.1; blank = w.0; whites = w.1 }
+
+-- where whites lead to a character that begins no break, there is no fold
+pub fold_not_item : {t : List ℕ} {n : ℤ} {i h j : ℕ} {w x : List ℕ} → Many t is_white i h w → Nowhere (Break t h) → is_white (code t h) ≡ false
+    → FoldsTo t n i j x → ⊥
+fold_not_item {t} {i = i} {h = h} {w = w} m b e f = (no_fold_break (w, m) e b).none _ _ f

@@ -1,6 +1,6 @@
 -- Folded line breaks inside of flow scalars (YAML 1.2.2, 6.5), as their readers meet them: up to the first character
 -- behind them that is neither a white nor a break.
-use Rattle.std.specs.Prelude.{◌≡◌, ℕ, zero, suc, ℤ, Bool, false, List, [], ◌∷◌}
+use Rattle.std.specs.Prelude.{◌≡◌, ℕ, zero, suc, ℤ, false, List, [], ◌∷◌}
 use Rattle.yf_chars.specs.Text.{code}
 use Rattle.yf_chars.specs.Class.{is_white}
 use Rattle.yf_chars.specs.Chain.{Chain, Nowhere}

@@ -33,7 +33,7 @@ pub ns_not_white : (c : ℕ) → is_ns_char c ≡ true → is_white c ≡ false
 unfolding is_ns_char
 ns_not_white c e = not_both (is_white c) ((and_parts (is_nb_char c) (not (is_white c)) e).1)
 
-white_not_ns : (c : ℕ) → is_white c ≡ true → is_ns_char c ≡ false
+pub white_not_ns : (c : ℕ) → is_white c ≡ true → is_ns_char c ≡ false
 unfolding is_ns_char
 white_not_ns c e = rw (e, and-false (is_nb_char c)) refl
 
@@ -177,15 +177,15 @@ look_behind {t} {i} {j} u b w l =
 ns_not : (c d : ℕ) → is_ns_char c ≡ true → is_ns_char d ≡ false → c ≢ d
 ns_not c d e n q = true≢false (sym e ∙ ap is_ns_char q ∙ n)
 
-ns_lf : is_ns_char 10 ≡ false
+pub ns_lf : is_ns_char 10 ≡ false
 unfolding is_ns_char is_nb_char is_printable is_between is_break_char
 ns_lf = refl
 
-ns_cr : is_ns_char 13 ≡ false
+pub ns_cr : is_ns_char 13 ≡ false
 unfolding is_ns_char is_nb_char is_printable is_between is_break_char
 ns_cr = refl
 
-ns_mark : is_ns_char 0xFEFF ≡ false
+pub ns_mark : is_ns_char 0xFEFF ≡ false
 unfolding is_ns_char is_nb_char is_printable is_between is_break_char
 ns_mark = refl
 

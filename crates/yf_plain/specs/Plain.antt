@@ -4,8 +4,9 @@ use Rattle.std.specs.Prelude.{◌≡◌, ℕ, ◌+◌, ℤ, Bool, true, ◌==◌
 use Rattle.yf_chars.specs.declared.context.Ctx.{Ctx}
 use Rattle.yf_chars.specs.Text.{code, next, before}
 use Rattle.yf_chars.specs.Class.{is_ns_char, is_indicator, is_white, is_plain_safe}
-use Rattle.yf_chars.specs.Chain.{Chain, Many}
-use Rattle.yf_lines.specs.Basic.{FlowFolded, Clear, is_flow, is_key}
+use Rattle.yf_chars.specs.Chain.{Chain, Many, Stuck}
+use Rattle.yf_lines.specs.Basic.{FlowFolded, Forbidden, Clear, is_flow, is_key}
+use Rattle.yf_lines.specs.Fold.{FoldsTo, fold_text}
 
 -- the indicators ? : and -
 unfoldable pub is_sign : ℕ → Bool
@@ -53,3 +54,16 @@ pub record PlainFront (t : List ℕ) (c : Ctx) (i j : ℕ) (x : List ℕ) : Type
 pub record Plain (t : List ℕ) (n : ℤ) (c : Ctx) (i j : ℕ) (x : List ℕ) : Type 0 where
   pub text : PlainText t n c i j x
   pub clear : Clear t i j
+
+-- as far as it goes, the next line of a plain scalar: a fold with so many empty lines, and its characters from start to j
+pub record NextLine (t : List ℕ) (n : ℤ) (c : Ctx) (i feeds start j : ℕ) : Type 0 where
+  pub text : List ℕ
+  pub folded : FoldsTo t n i start (fold_text feeds)
+  pub allowed : Forbidden t start → ⊥
+  pub first : is_plain_char t c start ≡ true
+  pub items : Chain (PlainItem t c) (next t start) j text
+  pub all : Stuck (PlainItem t c j)
+
+-- a plain scalar does not go on behind i on a next line
+pub record NoNextLine (t : List ℕ) (n : ℤ) (c : Ctx) (i : ℕ) : Type 0 where
+  pub none : (h : ℕ) (x : List ℕ) → FoldsTo t n i h x → is_plain_char t c h ≡ true → (Forbidden t h → ⊥) → ⊥

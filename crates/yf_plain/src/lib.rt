@@ -2,3 +2,5 @@
 #![tactic(auto)]
 
 pub mod plain;
+
+pub use yf_lines::steady::is_steady;

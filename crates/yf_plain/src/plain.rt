@@ -1,15 +1,185 @@
 //! The reader of plain scalars. Offsets count bytes.
-ghost use Rattle.std.specs.Prelude.{◌≡◌, ◌+◌, ◌<◌, ◌≤◌, ℕ, Bool, true, false, List, IfSome, MatchOption};
+ghost use Rattle.std.specs.Prelude.{◌≡◌, ◌+◌, ◌<◌, ◌≤◌, ◌++◌, ℕ, pos, Bool, true, false, List, IfSome, IfOk, IfErr, OnOk, MatchOption, encode_utf8_all};
+ghost use Rattle.std.specs.String.{string_bytes};
 ghost use Rattle.std.specs.Str.{IsCharBoundary};
 ghost use Rattle.yf_chars.specs.Chain.{Chain, Stuck, Chosen};
 ghost use Rattle.yf_chars.specs.Class as Class;
 ghost use Rattle.yf_chars.specs.Text.{code, before, Reads};
-ghost use Rattle.yf_plain.specs.Plain.{is_plain_first, is_plain_char, is_sign, PlainItem, PlainLine, PlainFront};
+ghost use Rattle.yf_lines.specs.Basic.{is_block, is_flow, is_key};
+ghost use Rattle.yf_lines.specs.Fold.{fold_text};
+ghost use Rattle.yf_lines.specs.Text.{text_bytes};
+ghost use Rattle.yf_plain.specs.Plain as P;
+ghost use Rattle.yf_plain.specs.Plain.{is_plain_first, is_plain_char, is_sign, Plain, PlainItem, PlainLine, PlainFront, NoNextLine};
 
+use std::alloc::{AllocError, Global};
 use yf_chars::classes::{is_indicator, is_ns_char, is_plain_safe};
 use yf_chars::context::Ctx;
 use yf_chars::text::peek;
 use yf_lines::basic::{is_forbidden_at, skip_whites};
+use yf_lines::fault::Fault;
+use yf_lines::fold::{flow_folded, indent_width};
+use yf_lines::source_text::Src;
+use yf_lines::text::{OwnedText, Text};
+
+/// Reads a plain scalar (ns-plain(n,c), production 131) that begins at the byte offset: its text, folded, and the offset
+/// behind it, or `None` where no plain scalar begins. `n` is the indentation, from -1.
+///
+/// In keys it stands on one line. No plain scalar covers a document marker at the start of a line. The text is a slice of
+/// the source where the scalar stands on one line.
+///
+/// # Errors
+///
+/// `Fault::Memory` alone.
+pub fn read_plain<'a>(
+    alloc: Global,
+    src: &Src<'a>,
+    at: usize,
+    n: i32,
+    ctx: Ctx,
+) -> Result<Option<(Text<'a>, usize)>, Fault>
+    requires { IsCharBoundary src.now.text at }
+    ensures reads { IfOk result (λ o. MatchOption o (Stuck (Plain src.now.text n ctx at)) (λ p. (x : List ℕ) × (text_bytes p.0 ≡ encode_utf8_all x) × Chosen (Plain src.now.text n ctx at) p.1 x)) }
+    ensures boundary { IfOk result (λ o. IfSome o (λ p. IsCharBoundary src.now.text p.1)) }
+    ensures refused { IfErr result (λ e. e ≡ Fault.Memory) }
+{
+    read_plain_in(alloc, src.text(), at, n, ctx)
+}
+
+/// The same in a text without its lines.
+pub fn read_plain_in<'a>(
+    alloc: Global,
+    s: &'a str,
+    at: usize,
+    n: i32,
+    ctx: Ctx,
+) -> Result<Option<(Text<'a>, usize)>, Fault>
+    requires { IsCharBoundary s.now at }
+    ensures reads { IfOk result (λ o. MatchOption o (Stuck (Plain s.now n ctx at)) (λ p. (x : List ℕ) × (text_bytes p.0 ≡ encode_utf8_all x) × Chosen (Plain s.now n ctx at) p.1 x)) }
+    ensures boundary { IfOk result (λ o. IfSome o (λ p. IsCharBoundary s.now p.1)) }
+    ensures refused { IfErr result (λ e. e ≡ Fault.Memory) }
+{
+    if is_block(ctx) {
+        return Ok(None);
+    }
+    match read_plain_line(s, at, ctx) {
+        None => Ok(None),
+        Some(end) => {
+            let one_line = Text::Part(&s[at..end]);
+            if is_key(ctx) {
+                return Ok(Some((one_line, end)));
+            }
+            match indent_width(n) {
+                None => Ok(Some((one_line, end))),
+                Some(width) => match next_line(s, end, width, ctx) {
+                    None => Ok(Some((one_line, end))),
+                    Some(_) => match plain_lines(alloc, s, at, end, width, ctx) {
+                        Ok(lines) => Ok(Some((Text::Owned(OwnedText::new(lines.text)), lines.end))),
+                        Err(_) => Err(Fault::Memory),
+                    },
+                },
+            }
+        }
+    }
+}
+
+// Whether no scalar stands in that context.
+#[tactic(auto)]
+fn is_block(ctx: Ctx) -> bool
+    ensures { result ≡ is_block ctx }
+{
+    matches!(ctx, Ctx::BlockOut | Ctx::BlockIn)
+}
+
+// Whether a scalar in that context stands on one line.
+fn is_key(ctx: Ctx) -> bool
+    ensures { result ≡ is_key ctx }
+{
+    matches!(ctx, Ctx::BlockKey | Ctx::FlowKey)
+}
+
+// The text of a plain scalar over several lines, and the offset behind it.
+#[derive(Drop)]
+struct Lines {
+    text: String,
+    end: usize,
+}
+
+// The plain scalar that begins at the offset, whose first line ends at `first_end`.
+fn plain_lines(
+    alloc: Global,
+    s: &str,
+    at: usize,
+    first_end: usize,
+    width: usize,
+    ctx: Ctx,
+) -> Result<Lines, AllocError>
+    requires start { IsCharBoundary s.now at }
+    requires boundary { IsCharBoundary s.now first_end }
+    requires flow { is_flow ctx ≡ true }
+    requires first { (x : List ℕ) × PlainFront s.now ctx at first_end x }
+    requires all { Stuck (PlainItem s.now ctx first_end) }
+    ensures reads { IfOk result (λ l. (x : List ℕ) × (string_bytes l.text ≡ encode_utf8_all x) × Chosen (Plain s.now (pos width) ctx at) l.end x) }
+    ensures boundary { IfOk result (λ l. IsCharBoundary s.now l.end) }
+{
+    let mut text = String::from_str(alloc, &s[at..first_end])?;
+    let mut end = first_end;
+    'lines: loop {
+        match next_line(s, end, width, ctx) {
+            None => return Ok(Lines { text, end }),
+            Some(line) => {
+                push_fold(&mut text, line.feeds)?;
+                text.push_str(&s[line.start..line.end])?;
+                end = line.end;
+            }
+        }
+    }
+}
+
+// Appends what a fold with so many empty lines means.
+fn push_fold(text: &mut String, feeds: usize) -> Result<(), AllocError>
+    ensures { OnOk result (string_bytes text.new ≡ string_bytes text.old ++ fold_text feeds) }
+{
+    if feeds == 0 {
+        return text.push(' ');
+    }
+    'feeds: for _ in 0..feeds {
+        text.push('\n')?;
+    }
+    Ok(())
+}
+
+// The next line of a plain scalar: the number of empty lines before it, its first character, and its end.
+#[derive(Clone, Copy)]
+struct NextLine {
+    feeds: usize,
+    start: usize,
+    end: usize,
+}
+
+// The next line of a plain scalar behind the end of one of its lines (s-ns-plain-next-line(n,c), production 134).
+fn next_line(s: &str, at: usize, width: usize, ctx: Ctx) -> Option<NextLine>
+    requires { IsCharBoundary s.now at }
+    ensures reads { MatchOption result (NoNextLine s.now (pos width) ctx at) (λ l. P.NextLine s.now (pos width) ctx at l.feeds l.start l.end) }
+    ensures boundary { IfSome result (λ l. IsCharBoundary s.now l.start × IsCharBoundary s.now l.end) }
+    ensures order { IfSome result (λ l. (at < l.start) × (l.start ≤ l.end)) }
+{
+    match flow_folded(s, at, width) {
+        None => None,
+        Some(fold) => {
+            if is_forbidden_at(s, fold.end) {
+                return None;
+            }
+            match plain_char(s, fold.end, ctx, false) {
+                None => None,
+                Some(end) => Some(NextLine {
+                    feeds: fold.feeds,
+                    start: fold.end,
+                    end: plain_in_line(s, end, ctx),
+                }),
+            }
+        }
+    }
+}
 
 /// Reads the part of a plain scalar that stands on its first line (ns-plain-one-line(c), production 133): the byte
 /// offset behind it, or `None` where no plain scalar begins.
@@ -20,6 +190,7 @@ pub fn read_plain_line(s: &str, at: usize, ctx: Ctx) -> Option<usize>
     ensures reads { MatchOption result (Stuck (PlainFront s.now ctx at)) (λ j. (x : List ℕ) × Chosen (PlainFront s.now ctx at) j x) }
     ensures boundary { IfSome result (λ j. IsCharBoundary s.now j) }
     ensures order { IfSome result (λ j. at < j) }
+    ensures all { IfSome result (λ j. Stuck (PlainItem s.now ctx j)) }
 {
     if is_forbidden_at(s, at) {
         return None;

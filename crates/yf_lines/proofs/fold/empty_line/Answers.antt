@@ -1,8 +1,3 @@
-use Rattle.std.proofs.Common.{◌≡◌, ℕ, pos, sym, ap, ◌∙◌, subst, arith, true, false, List, [], length, ◌<◌, ◌≤◌, ◌-◌, ◌++◌}
-use Rattle.yf_chars.specs.declared.context.Ctx.TheVariants.{FlowIn}
-use Rattle.yf_chars.specs.Chain.{Chain, Stuck, Chosen}
-use Rattle.yf_lines.specs.Basic.{Empty}
-use Rattle.yf_lines.specs.Fold.{line_feeds, FoldsTo, FoldLines}
 use Rattle.yf_lines.proofs.FoldLemmas.{tab_early, not_empty, empty_full, empty_short}
 use Rattle.yf_lines.proofs.fold.empty_line.Goals as goal
 use Rattle.yf_lines.proofs.fold.empty_line.Goals.{then-indent-at+else-end-indent, else-indent-at}
@@ -15,5 +10,6 @@ returns-in-None-clause-reads c = not_empty c.skip_spaces-indent.ensures.spaces c
 
 pub returns-in-Some-clause-reads : goal.returns-in-Some-clause-reads
 returns-in-Some-clause-reads c = elim c.if-indent-at.branch [
-    then-indent-at+else-end-indent w ↦ empty_short c.skip_spaces-indent.ensures.spaces c.skip_spaces-indent.ensures.order w.if-indent-at.true w.if-end-indent.false c.in-Some.ensures.reads
-  | else-indent-at w ↦ empty_full c.skip_spaces-indent.ensures.spaces c.skip_spaces-indent.ensures.order w.if-indent-at.false c.skip_whites-end.ensures.whites c.in-Some.ensures.reads ]
+  | then-indent-at+else-end-indent w ↦ empty_short c.skip_spaces-indent.ensures.spaces c.skip_spaces-indent.ensures.order w.if-indent-at.true w.if-end-indent.false c.in-Some.ensures.reads
+  | else-indent-at w ↦ empty_full c.skip_spaces-indent.ensures.spaces c.skip_spaces-indent.ensures.order w.if-indent-at.false c.skip_whites-end.ensures.whites c.in-Some.ensures.reads
+]

@@ -1,9 +1,8 @@
-use Rattle.std.proofs.Common.{◌≡◌, ℕ, pos, sym, ap, ◌∙◌, subst, arith, true, false, List, [], length, ◌<◌, ◌≤◌, ◌-◌, ◌++◌}
+use Rattle.std.proofs.Common.{pos, subst, arith}
 use Rattle.yf_chars.specs.declared.context.Ctx.TheVariants.{FlowIn}
-use Rattle.yf_chars.specs.Chain.{Chain, Stuck, Chosen}
+use Rattle.yf_chars.specs.Chain.{Chain}
 use Rattle.yf_lines.specs.Basic.{Empty}
-use Rattle.yf_lines.specs.Fold.{line_feeds, FoldsTo, FoldLines}
-use Rattle.yf_lines.proofs.FoldLemmas.{lines_found, no_lines, feeds_more}
+use Rattle.yf_lines.proofs.FoldLemmas.{no_lines, feeds_more}
 use Rattle.yf_lines.proofs.fold.fold_lines.Goals as goal
 use Rattle.yf_chars.specs.Chain.Chain.{done}
 use Rattle.yf_chars.proofs.ChainLemmas.{chain_more}

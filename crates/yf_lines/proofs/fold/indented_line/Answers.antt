@@ -1,8 +1,3 @@
-use Rattle.std.proofs.Common.{◌≡◌, ℕ, pos, sym, ap, ◌∙◌, subst, arith, true, false, List, [], length, ◌<◌, ◌≤◌, ◌-◌, ◌++◌}
-use Rattle.yf_chars.specs.declared.context.Ctx.TheVariants.{FlowIn}
-use Rattle.yf_chars.specs.Chain.{Chain, Stuck, Chosen}
-use Rattle.yf_lines.specs.Basic.{Empty}
-use Rattle.yf_lines.specs.Fold.{line_feeds, FoldsTo, FoldLines}
 use Rattle.yf_lines.proofs.FoldLemmas.{no_content, ends_early, prefix_found}
 use Rattle.yf_lines.proofs.fold.indented_line.Goals as goal
 

@@ -1,0 +1,6 @@
+//! Single- and double-quoted scalars (YAML 1.2.2, sections 7.3.1 and 7.3.2), read and written.
+#![tactic(auto)]
+
+pub mod double;
+mod gap;
+pub mod single;
