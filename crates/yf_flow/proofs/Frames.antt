@@ -1,5 +1,5 @@
 -- The open collections: what holds of them stays so when events are added, and when one is opened or closed.
-use Rattle.std.proofs.Common.{◌≡◌, ℕ, ◌+◌, ◌-◌, ◌*◌, ◌<◌, ◌≤◌, List, [], ◌∷◌, ◌++◌, Option, length, option_to_list, IfSome, subst, sym, arith, Σ}
+use Rattle.std.proofs.Common.{◌≡◌, ℕ, ◌+◌, ◌-◌, ◌*◌, ◌<◌, ◌≤◌, List, [], ◌∷◌, ◌++◌, length, subst, sym, arith, length-append}
 use Rattle.std.proofs.lemmas.List.Elements.{All-append, All-pop, All-weaker, All-cons, All-nil}
 use Rattle.std.specs.List.{All}
 use Rattle.std.specs.Str.{IsCharBoundary}
@@ -25,13 +25,16 @@ frames_pushed {t} m k fs gs f e l a i =
 pub place_since : {t : List ℕ} {at p : ℕ} (from : ℕ) → from ≤ at → Place t at p → Place t from p
 place_since from l p = record { boundary = p.boundary; order = omega (arith, p.order) }
 
-pub step_since : {t : List ℕ} {at : ℕ} (from m : ℕ) (top : Frame) (s : Step) → from ≤ at → StepReady t at m top s → StepReady t from m top s
-step_since from m top (Node p) l r = (place_since from l r.0, r.1)
-step_since from m top (Entry p) l r = (place_since from l r.0, r.1)
-step_since from m top (Ended node) l r = (place_since from l r.0, r.1)
-step_since from m top (Done end) l r = place_since from l r
-step_since from m top Failed l r = r
-step_since from m top (TooDeep p) l r = r
+pub step_since : (t : List ℕ) (at from m : ℕ) (top : Frame) (s : Step) → from ≤ at → StepReady t at m top s → StepReady t from m top s
+step_since t at from m top (Node p) l r = (place_since from l r.0, r.1)
+step_since t at from m top (Entry p) l r = (place_since from l r.0, r.1)
+step_since t at from m top (Ended node) l r = (place_since from l r.0, r.1)
+step_since t at from m top (Done end) l r = place_since from l r
+step_since t at from m top Failed l r = r
+step_since t at from m top (TooDeep p) l r = r
 
 pub ready_since : {t : List ℕ} {at : ℕ} (from m : ℕ) (fs : List Frame) (s : State) → from ≤ at → Ready t at m fs s → Ready t from m fs s
-ready_since from m fs s l r = record { below = r.below; step = step_since from m s.top s.step l r.step }
+ready_since {t} {at} from m fs s l r = record { below = r.below; step = step_since t at from m s.top s.step l r.step }
+
+pub pushed_longer : {X : Type 0} (xs ys : List X) (x : X) → ys ≡ xs ++ x ∷ [] → length xs < length ys
+pushed_longer {X} xs ys x e = rw e (omega (arith, length-append {A = X}))

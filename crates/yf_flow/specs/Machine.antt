@@ -47,9 +47,9 @@ pub record Ready (t : List ℕ) (at m : ℕ) (frames : List Frame) (s : State) :
 
 -- how much is left to do of n bytes
 abbrev pub left : ℕ → Step → ℕ
-left n (Node p) = 2 * (n - p)
-left n (Entry p) = 2 * (n - p) + 1
-left n (Ended node) = 2 * (n - node.end) + 1
+left n (Node p) = 2 * (n - p) + 1
+left n (Entry p) = 2 * (n - p) + 2
+left n (Ended node) = 2 * (n - node.end) + 2
 left n (Done end) = 0
 left n Failed = 0
 left n (TooDeep p) = 0

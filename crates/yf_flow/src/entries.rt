@@ -37,7 +37,9 @@ fn entry_at(text: &str, start: usize, colon: Option<usize>) -> Entry {
     }
 }
 
-fn failed(top: Frame) -> State {
+fn failed(top: Frame) -> State
+    ensures { result.step ≡ Step.Failed }
+{
     State {
         top,
         step: Step::Failed,
@@ -50,7 +52,7 @@ pub(crate) fn take_node<'a>(alloc: Global, scene: Scene<'a>, at: usize, top: Fra
     requires top { Awaiting scene.text.now (length part.old.events) top }
     requires below { All (Indexed scene.text.now (length part.old.events)) below.old.items }
     ensures ready { IfOk result (λ s. Ready scene.entry.text.now at (length part.new.events) below.new.items s) }
-    ensures moves { IfOk result (λ s. left (length scene.entry.text.now) s.step < 2 * (length scene.entry.text.now - at)) }
+    ensures moves { IfOk result (λ s. left (length scene.entry.text.now) s.step < 2 * (length scene.entry.text.now - at) + 1) }
 {
     let entry = entry_begun(scene.text, top);
     match begin_node(alloc, scene, at, entry, top.depth, part)? {
@@ -71,7 +73,7 @@ pub(crate) fn start_entry<'a>(alloc: Global, scene: Scene<'a>, at: usize, top: F
     requires top { Awaiting scene.text.now (length part.old.events) top }
     requires below { All (Indexed scene.text.now (length part.old.events)) below.old.items }
     ensures ready { IfOk result (λ s. Ready scene.entry.text.now at (length part.new.events) below.new.items s) }
-    ensures moves { IfOk result (λ s. left (length scene.entry.text.now) s.step ≤ 2 * (length scene.entry.text.now - at)) }
+    ensures moves { IfOk result (λ s. left (length scene.entry.text.now) s.step ≤ 2 * (length scene.entry.text.now - at) + 1) }
 {
     let place = read_gap(alloc, scene, at, part)?.end;
     if closes(scene.text, place, top.kind) {
@@ -96,7 +98,7 @@ fn explicit_entry<'a>(alloc: Global, scene: Scene<'a>, at: usize, top: Frame, be
     requires top { Awaiting scene.text.now (length part.old.events) top }
     requires below { All (Indexed scene.text.now (length part.old.events)) below.old.items }
     ensures ready { IfOk result (λ s. Ready scene.entry.text.now at (length part.new.events) below.new.items s) }
-    ensures moves { IfOk result (λ s. left (length scene.entry.text.now) s.step ≤ 2 * (length scene.entry.text.now - at)) }
+    ensures moves { IfOk result (λ s. left (length scene.entry.text.now) s.step ≤ 2 * (length scene.entry.text.now - at) + 1) }
 {
     match in_mapping(alloc, scene, top, below, part)? {
         None => Ok(State { top, step: Step::TooDeep(top.entry) }),
@@ -121,7 +123,7 @@ fn lone_value<'a>(alloc: Global, scene: Scene<'a>, colon: usize, top: Frame, bel
     requires top { Awaiting scene.text.now (length part.old.events) top }
     requires below { All (Indexed scene.text.now (length part.old.events)) below.old.items }
     ensures ready { IfOk result (λ s. Ready scene.entry.text.now colon (length part.new.events) below.new.items s) }
-    ensures moves { IfOk result (λ s. left (length scene.entry.text.now) s.step ≤ 2 * (length scene.entry.text.now - colon)) }
+    ensures moves { IfOk result (λ s. left (length scene.entry.text.now) s.step ≤ 2 * (length scene.entry.text.now - colon) + 1) }
 {
     match in_mapping(alloc, scene, top, below, part)? {
         None => Ok(State { top, step: Step::TooDeep(top.entry) }),
@@ -135,7 +137,7 @@ fn keyless_value<'a>(alloc: Global, scene: Scene<'a>, colon: usize, top: Frame, 
     requires top { Awaiting scene.text.now (length part.old.events) top }
     requires below { All (Indexed scene.text.now (length part.old.events)) below.old.items }
     ensures ready { IfOk result (λ s. Ready scene.entry.text.now colon (length part.new.events) below.new.items s) }
-    ensures moves { IfOk result (λ s. left (length scene.entry.text.now) s.step ≤ 2 * (length scene.entry.text.now - colon)) }
+    ensures moves { IfOk result (λ s. left (length scene.entry.text.now) s.step ≤ 2 * (length scene.entry.text.now - colon) + 1) }
 {
     let entry = entry_at(scene.text, top.entry, Some(colon));
     part.events.push(empty_node(alloc, Some(entry)))?;
@@ -195,7 +197,7 @@ pub(crate) fn finish_node<'a>(alloc: Global, scene: Scene<'a>, node: Node, top: 
     requires top { Indexed scene.text.now (length part.old.events) top }
     requires below { All (Indexed scene.text.now (length part.old.events)) below.old.items }
     ensures ready { IfOk result (λ s. Ready scene.entry.text.now node.end (length part.new.events) below.new.items s) }
-    ensures moves { IfOk result (λ s. left (length scene.entry.text.now) s.step ≤ 2 * (length scene.entry.text.now - node.end)) }
+    ensures moves { IfOk result (λ s. left (length scene.entry.text.now) s.step ≤ 2 * (length scene.entry.text.now - node.end) + 1) }
 {
     match top.role {
         Role::Item => behind_item(alloc, scene, node, top, below, part),
@@ -211,14 +213,11 @@ fn behind_item<'a>(alloc: Global, scene: Scene<'a>, node: Node, top: Frame, belo
     requires top { Indexed scene.text.now (length part.old.events) top }
     requires below { All (Indexed scene.text.now (length part.old.events)) below.old.items }
     ensures ready { IfOk result (λ s. Ready scene.entry.text.now node.end (length part.new.events) below.new.items s) }
-    ensures moves { IfOk result (λ s. left (length scene.entry.text.now) s.step ≤ 2 * (length scene.entry.text.now - node.end)) }
+    ensures moves { IfOk result (λ s. left (length scene.entry.text.now) s.step ≤ 2 * (length scene.entry.text.now - node.end) + 1) }
 {
     let colon = skip_whites(scene.text, node.end);
     if colon_stands(scene, colon, node.json) {
         if is_key_line(scene.text, top.entry, colon) {
-            if node.deepest >= scene.limit {
-                return Ok(State { top, step: Step::TooDeep(top.entry) });
-            }
             return pair_of_key(alloc, scene, node, colon, top, below, part);
         }
     }
@@ -231,8 +230,12 @@ fn pair_of_key<'a>(alloc: Global, scene: Scene<'a>, node: Node, colon: usize, to
     requires top { Indexed scene.text.now (length part.old.events) top }
     requires below { All (Indexed scene.text.now (length part.old.events)) below.old.items }
     ensures ready { IfOk result (λ s. Ready scene.entry.text.now colon (length part.new.events) below.new.items s) }
-    ensures moves { IfOk result (λ s. left (length scene.entry.text.now) s.step ≤ 2 * (length scene.entry.text.now - colon)) }
+    ensures moves { IfOk result (λ s. left (length scene.entry.text.now) s.step ≤ 2 * (length scene.entry.text.now - colon) + 1) }
 {
+    let deepest = top.depth.max(node.deepest);
+    if deepest >= scene.limit {
+        return Ok(State { top, step: Step::TooDeep(top.entry) });
+    }
     let event = top.entry_event;
     part.events.set_colon(event, colon);
     part.events.insert(event, pair_start(alloc, scene.text, top.entry))?;
@@ -240,11 +243,10 @@ fn pair_of_key<'a>(alloc: Global, scene: Scene<'a>, node: Node, colon: usize, to
     let pair = Frame {
         kind: Kind::Pair,
         depth: top.depth + 1,
-        deepest: node.deepest + 1,
+        deepest: deepest + 1,
         event,
-        entry: top.entry,
-        entry_event: event + 1,
         role: Role::Value,
+        ..top
     };
     await_value(alloc, scene, colon, node.json, pair, below, part)
 }
@@ -255,7 +257,7 @@ fn behind_key<'a>(alloc: Global, scene: Scene<'a>, node: Node, top: Frame, below
     requires top { Indexed scene.text.now (length part.old.events) top }
     requires below { All (Indexed scene.text.now (length part.old.events)) below.old.items }
     ensures ready { IfOk result (λ s. Ready scene.entry.text.now node.end (length part.new.events) below.new.items s) }
-    ensures moves { IfOk result (λ s. left (length scene.entry.text.now) s.step ≤ 2 * (length scene.entry.text.now - node.end)) }
+    ensures moves { IfOk result (λ s. left (length scene.entry.text.now) s.step ≤ 2 * (length scene.entry.text.now - node.end) + 1) }
 {
     let place = read_gap(alloc, scene, node.end, part)?.end;
     if colon_stands(scene, place, node.json) {
@@ -273,7 +275,7 @@ fn await_value<'a>(alloc: Global, scene: Scene<'a>, colon: usize, json: bool, to
     requires top { Indexed scene.text.now (length part.old.events) top }
     requires below { All (Indexed scene.text.now (length part.old.events)) below.old.items }
     ensures ready { IfOk result (λ s. Ready scene.entry.text.now colon (length part.new.events) below.new.items s) }
-    ensures moves { IfOk result (λ s. left (length scene.entry.text.now) s.step ≤ 2 * (length scene.entry.text.now - colon)) }
+    ensures moves { IfOk result (λ s. left (length scene.entry.text.now) s.step ≤ 2 * (length scene.entry.text.now - colon) + 1) }
 {
     let gap = read_gap(alloc, scene, colon + 1, part)?;
     if entry_ends(scene.text, gap.end) {
@@ -293,7 +295,7 @@ fn end_entry<'a>(alloc: Global, scene: Scene<'a>, finish: usize, at: usize, top:
     requires top { Indexed scene.text.now (length part.old.events) top }
     requires below { All (Indexed scene.text.now (length part.old.events)) below.old.items }
     ensures ready { IfOk result (λ s. Ready scene.entry.text.now at (length part.new.events) below.new.items s) }
-    ensures moves { IfOk result (λ s. left (length scene.entry.text.now) s.step ≤ 2 * (length scene.entry.text.now - at)) }
+    ensures moves { IfOk result (λ s. left (length scene.entry.text.now) s.step ≤ 2 * (length scene.entry.text.now - at) + 1) }
 {
     match top.kind {
         Kind::Sequence | Kind::Mapping => after_entry(alloc, scene, at, top, below, part),
@@ -314,7 +316,7 @@ fn after_entry<'a>(alloc: Global, scene: Scene<'a>, at: usize, top: Frame, below
     requires top { Indexed scene.text.now (length part.old.events) top }
     requires below { All (Indexed scene.text.now (length part.old.events)) below.old.items }
     ensures ready { IfOk result (λ s. Ready scene.entry.text.now at (length part.new.events) below.new.items s) }
-    ensures moves { IfOk result (λ s. left (length scene.entry.text.now) s.step ≤ 2 * (length scene.entry.text.now - at)) }
+    ensures moves { IfOk result (λ s. left (length scene.entry.text.now) s.step ≤ 2 * (length scene.entry.text.now - at) + 1) }
 {
     let place = read_gap(alloc, scene, at, part)?.end;
     if stands(scene.text, place, b',') {
@@ -332,7 +334,7 @@ fn close<'a>(alloc: Global, scene: Scene<'a>, at: usize, top: Frame, below: &mut
     requires top { top.event < length part.old.events }
     requires below { All (Indexed scene.text.now (length part.old.events)) below.old.items }
     ensures ready { IfOk result (λ s. Ready scene.entry.text.now at (length part.new.events) below.new.items s) }
-    ensures moves { IfOk result (λ s. left (length scene.entry.text.now) s.step ≤ 2 * (length scene.entry.text.now - at)) }
+    ensures moves { IfOk result (λ s. left (length scene.entry.text.now) s.step ≤ 2 * (length scene.entry.text.now - at) + 1) }
 {
     let event = match top.kind {
         Kind::Sequence => Event::SeqEnd,

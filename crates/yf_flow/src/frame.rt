@@ -43,7 +43,7 @@ pub(crate) struct Frame {
     pub(crate) event: usize,
     /// The byte offset at which its present entry begins.
     pub(crate) entry: usize,
-    /// The index of the event that begins its present entry, as item or key.
+    /// The index of the event that begins its present entry, as item or key, until a value is awaited in it.
     pub(crate) entry_event: usize,
     /// What the node is that is read now.
     pub(crate) role: Role,

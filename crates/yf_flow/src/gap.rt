@@ -5,7 +5,7 @@ ghost use Rattle.yf_flow.specs.Machine.{Place};
 
 use crate::frame::Scene;
 use std::alloc::{AllocError, Global};
-use yf_comments::comments::Comments;
+use yf_comments::comments::{Comments, Separation};
 use yf_comments::separation::separate;
 use yf_events::part::Part;
 
@@ -26,14 +26,24 @@ pub(crate) fn keep_comments<'a>(comments: &Comments<'a>, part: &mut Part<'a>) ->
     Ok(())
 }
 
-/// Reads the separation at an offset, if there is one, and keeps its comments (s-separate(n,c), production 80): where it
-/// ends.
+/// Reads the separation at an offset, if there is one (s-separate(n,c), production 80).
+pub(crate) fn read_separation<'a>(alloc: Global, scene: Scene<'a>, at: usize) -> Result<Option<Separation<'a>>, AllocError>
+    requires { IsCharBoundary scene.text.now at }
+    ensures { IfOk result (λ o. IfSome o (λ p. Place scene.entry.text.now at p.end)) }
+{
+    match separate(alloc, scene.text, at, scene.indentation, scene.context)? {
+        Some(separation) => Ok(Some(separation)),
+        None => Ok(None),
+    }
+}
+
+/// Reads the separation at an offset, if there is one, and keeps its comments: where it ends.
 pub(crate) fn read_separation_into<'a>(alloc: Global, scene: Scene<'a>, at: usize, part: &mut Part<'a>) -> Result<Option<usize>, AllocError>
     requires boundary { IsCharBoundary scene.text.now at }
     ensures place { IfOk result (λ o. IfSome o (λ end. Place scene.entry.text.now at end)) }
     ensures events { IfOk result (λ _. part.new.events ≡ part.old.events) }
 {
-    match separate(alloc, scene.text, at, scene.indentation, scene.context)? {
+    match read_separation(alloc, scene, at)? {
         Some(separation) => {
             keep_comments(&separation.comments, part)?;
             Ok(Some(separation.end))

@@ -4,12 +4,11 @@ ghost use Rattle.std.specs.Str.{IsCharBoundary};
 ghost use Rattle.yf_flow.specs.Machine.{BegunAt, Place};
 
 use crate::frame::{Frame, Kind, Node, Role, Scene};
-use crate::gap::keep_comments;
+use crate::gap::{keep_comments, read_separation};
 use crate::stand_in::{read_plain, read_props, read_single, scan_double, Properties};
 use crate::look::content_begins;
 use std::alloc::{AllocError, Global};
 use yf_chars::text::stands;
-use yf_comments::separation::separate;
 use yf_events::event::{Entry, Event, PlacedEvent, ScalarStyle, Span};
 use yf_events::part::Part;
 use yf_events::slices::Slices;
@@ -125,7 +124,7 @@ fn propertied_node<'a>(alloc: Global, scene: Scene<'a>, at: usize, properties: P
 {
     let lead = Lead { start: at, props: properties.props, tag_offset: properties.tag_offset, entry };
     keep_comments(&properties.comments, part)?;
-    match separate(alloc, scene.text, properties.end, scene.indentation, scene.context)? {
+    match read_separation(alloc, scene, properties.end)? {
         Some(separation) => {
             if content_begins(scene.text, separation.end) {
                 keep_comments(&separation.comments, part)?;

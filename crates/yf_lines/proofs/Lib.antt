@@ -6,5 +6,3 @@ pub mod PlaceLemmas
 pub mod ClearLemmas
 pub mod FoldLemmas
 pub mod OutputLemmas
-pub mod ClearLemmas
-pub mod FoldLemmas
