@@ -38,6 +38,9 @@ chosen_cases {P = P} {j = j} {k = k} {y = y} c d = ⊎_elim
         inr (e, c.only y (subst (λ v. P v y) e d)))
     (cases_lt k j)
 
+pub chosen_same : {X : Type 0} (P : ℕ → X → Type 0) {j k : ℕ} {x y : X} → k ≡ j → y ≡ x → Chosen P j x → Chosen P k y
+chosen_same P {k = k} {x = x} e f c = subst (λ v. Chosen P k v) (sym f) (subst (λ w. Chosen P w x) (sym e) c)
+
 -- runs
 module _ {S : ℕ → ℕ → List ℕ → Type 0} where
   pub run_unique : {i j k : ℕ} → Functional S → Run S i j → Run S i k → j ≡ k
@@ -86,7 +89,7 @@ module _ {t : List ℕ} where
   alias_parts : {i j : ℕ} {x : List ℕ} → Alias t i j x → (code t i ≡ 42) × Run (AnchorChar t) (i + 1) j
   alias_parts (asterisk_name e r) = (e, r)
 
-  anchor_parts : {i j : ℕ} {x : List ℕ} → Anchor t i j x → (code t i ≡ 38) × Run (AnchorChar t) (i + 1) j
+  pub anchor_parts : {i j : ℕ} {x : List ℕ} → Anchor t i j x → (code t i ≡ 38) × Run (AnchorChar t) (i + 1) j
   anchor_parts (ampersand_name e r) = (e, r)
 
   pub no_alias_here : {i : ℕ} → code t i ≢ 42 → Stuck (Alias t i)

@@ -330,10 +330,15 @@ module _ {t : List ℕ} {i : ℕ} where
   bracket_shorthand e (handle_suffix (secondary_handle a b) r) = absurd (omega arith)
   bracket_shorthand e (handle_suffix (named_handle a s b) r) = run_stuck (one_stuck t is_word_char (i + 1) (ap is_word_char e ∙ bracket_word)) s
 
-  tag_mark : {k : ℕ} {y : TagValue} → TagProperty t i k y → code t i ≡ 33
+  pub tag_mark : {k : ℕ} {y : TagValue} → TagProperty t i k y → code t i ≡ 33
   tag_mark (verbatim_tag d) = verbatim_mark d
   tag_mark (shorthand_tag d) = shorthand_mark d
   tag_mark (non_specific_tag a s) = a
+
+  pub tag_later : {k : ℕ} {y : TagValue} → TagProperty t i k y → i < k
+  tag_later (verbatim_tag d) = let l = verbatim_later d in omega arith
+  tag_later (shorthand_tag d) = let l = shorthand_later d in omega arith
+  tag_later (non_specific_tag a s) = omega arith
 
   pub no_mark : code t i ≢ 33 → Stuck (TagProperty t i)
   no_mark n = record { none = λ k y d. n (tag_mark d) }

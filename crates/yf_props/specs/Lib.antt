@@ -1,4 +1,5 @@
 pub mod Chars
 pub mod Handles
 pub mod Names
+pub mod Properties
 pub mod Props

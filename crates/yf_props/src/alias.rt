@@ -49,7 +49,7 @@ fn anchor_name<'a>(s: &'a str, at: usize) -> Option<(&'a str, usize)>
 /// Reads an alias (c-ns-alias-node, production 104): its name, without the `*`, and the byte offset behind it.
 ///
 /// The name is as long as its characters go; `None` where no alias begins at the offset.
-pub fn read_alias<'a>(s: &'a str, at: usize) -> Option<(&'a str, usize)>
+pub fn alias_node<'a>(s: &'a str, at: usize) -> Option<(&'a str, usize)>
     ensures reads { MatchOption result (Stuck (Alias s.now at)) (λ p. Chosen (Alias s.now at) p.1 p.0.now) }
     ensures boundary { IfSome result (λ p. IsCharBoundary s.now p.1) }
 {
@@ -63,7 +63,7 @@ pub fn read_alias<'a>(s: &'a str, at: usize) -> Option<(&'a str, usize)>
 }
 
 // Reads an anchor (c-ns-anchor-property, production 101): its name, without the `&`, and the offset behind it.
-pub(crate) fn read_anchor<'a>(s: &'a str, at: usize) -> Option<(&'a str, usize)>
+pub(crate) fn anchor_property<'a>(s: &'a str, at: usize) -> Option<(&'a str, usize)>
     ensures reads { MatchOption result (Stuck (Anchor s.now at)) (λ p. Chosen (Anchor s.now at) p.1 p.0.now) }
     ensures boundary { IfSome result (λ p. IsCharBoundary s.now p.1) }
 {

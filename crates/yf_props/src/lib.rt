@@ -3,5 +3,6 @@
 
 pub mod alias;
 pub mod handles;
+pub mod properties;
 pub mod props;
 mod tag;

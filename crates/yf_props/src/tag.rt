@@ -186,7 +186,7 @@ fn shorthand<'a>(s: &'a str, at: usize) -> Option<TagPart<'a>>
 }
 
 // Reads a tag (c-ns-tag-property, production 97), as long as its characters go.
-pub(crate) fn read_tag<'a>(s: &'a str, at: usize) -> Option<TagPart<'a>>
+pub(crate) fn tag_property<'a>(s: &'a str, at: usize) -> Option<TagPart<'a>>
     ensures reads { MatchOption result (Stuck (TagProperty s.now at)) (λ p. Chosen (TagProperty s.now at) p.end (tag_value p.tag)) }
     ensures boundary { IfSome result (λ p. IsCharBoundary s.now p.end) }
 {

@@ -3,7 +3,7 @@ use Rattle.yf_chars.specs.Chain.{Chosen}
 use Rattle.yf_chars.specs.Text.{code}
 use Rattle.yf_props.specs.Names.{Anchor}
 use Rattle.yf_props.proofs.NameLemmas.{anchor_chosen, no_anchor_name}
-use Rattle.yf_props.proofs.alias.read_anchor.Goals as goal
+use Rattle.yf_props.proofs.alias.anchor_property.Goals as goal
 
 pub returns-in-Some-clause-reads : goal.returns-in-Some-clause-reads
 returns-in-Some-clause-reads c =

@@ -3,7 +3,7 @@ use Rattle.yf_chars.specs.Chain.{Chosen}
 use Rattle.yf_chars.specs.Text.{code}
 use Rattle.yf_props.specs.Names.{Alias}
 use Rattle.yf_props.proofs.NameLemmas.{alias_chosen, no_alias_name}
-use Rattle.yf_props.proofs.alias.read_alias.Goals as goal
+use Rattle.yf_props.proofs.alias.alias_node.Goals as goal
 
 pub returns-in-Some-clause-reads : goal.returns-in-Some-clause-reads
 returns-in-Some-clause-reads c =

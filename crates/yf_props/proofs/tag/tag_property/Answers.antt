@@ -2,7 +2,7 @@ use Rattle.std.proofs.Common.{◌≡◌, sym, subst}
 use Rattle.yf_chars.specs.Chain.{Chosen}
 use Rattle.yf_props.specs.Names.{TagProperty}
 use Rattle.yf_props.proofs.TagLemmas.{verbatim_tag_chosen, shorthand_tag_chosen, non_specific_chosen, no_mark}
-use Rattle.yf_props.proofs.tag.read_tag.Goals as goal
+use Rattle.yf_props.proofs.tag.tag_property.Goals as goal
 
 pub returns-in-Some-clause-reads : goal.returns-in-Some-clause-reads
 returns-in-Some-clause-reads c =

@@ -1,0 +1,158 @@
+//! Properties of a node (YAML 1.2.2, section 6.9).
+ghost use Rattle.std.specs.Prelude.{◌≡◌, ℕ, ℤ, List, IfOk, IfSome, MatchOption};
+ghost use Rattle.std.specs.Str.{IsCharBoundary};
+ghost use Rattle.yf_chars.specs.Chain.{Chosen, Stuck};
+ghost use Rattle.yf_props.specs.Names.{Anchor, TagProperty, anchor_only, tag_only, Properties as PropertiesOf};
+ghost use Rattle.yf_props.specs.Properties.{properties_value};
+ghost use Rattle.yf_props.specs.Props.{tag_value};
+
+use crate::alias::anchor_property;
+use crate::props::{Props, Tag};
+use crate::tag::{TagPart, tag_property};
+use std::alloc::{AllocError, Global};
+use yf_chars::context::Ctx;
+use yf_comments::comments::{Comments, Separation};
+use yf_comments::separation::separate;
+
+/// Properties that were read.
+#[derive(Debug, Drop)]
+pub struct Properties<'a> {
+    pub props: Props<'a>,
+    /// The byte offset of the tag's `!`, if there is a tag.
+    pub tag_offset: Option<usize>,
+    /// The comments between the tag and the anchor.
+    pub comments: Comments<'a>,
+    /// The byte offset behind the properties.
+    pub end: usize,
+}
+
+// An anchor alone.
+fn only_anchor<'a>(alloc: Global, anchor: &'a str, end: usize) -> Properties<'a>
+    ensures value { properties_value result ≡ anchor_only anchor.now }
+    ensures end { result.end ≡ end }
+{
+    Properties {
+        props: Props {
+            anchor: Some(anchor),
+            tag: None,
+        },
+        tag_offset: None,
+        comments: Comments::new(alloc),
+        end,
+    }
+}
+
+// A tag alone, which stands at the offset.
+fn only_tag<'a>(alloc: Global, at: usize, part: TagPart<'a>) -> Properties<'a>
+    ensures value { properties_value result ≡ tag_only at (tag_value part.entry.tag) }
+    ensures end { result.end ≡ part.entry.end }
+{
+    Properties {
+        props: Props {
+            anchor: None,
+            tag: Some(part.tag),
+        },
+        tag_offset: Some(at),
+        comments: Comments::new(alloc),
+        end: part.end,
+    }
+}
+
+// Reads what may follow an anchor that ends at the offset: separation and a tag.
+fn behind_anchor<'a>(
+    alloc: Global,
+    s: &'a str,
+    at: usize,
+    n: i32,
+    ctx: Ctx,
+    anchor: &'a str,
+    end: usize,
+) -> Result<Properties<'a>, AllocError>
+    requires anchor { Anchor s.now at end anchor.now }
+    requires boundary { IsCharBoundary s.now end }
+    ensures reads { IfOk result (λ p. Chosen (PropertiesOf s.now n ctx at) p.end (properties_value p)) }
+    ensures boundary { IfOk result (λ p. IsCharBoundary s.now p.end) }
+{
+    match separate(alloc, s, end, n, ctx)? {
+        Some(Separation {
+            comments,
+            end: start,
+        }) => match tag_property(s, start) {
+            Some(TagPart { tag, end: tag_end }) => Ok(Properties {
+                props: Props {
+                    anchor: Some(anchor),
+                    tag: Some(tag),
+                },
+                tag_offset: Some(start),
+                comments,
+                end: tag_end,
+            }),
+            None => Ok(only_anchor(alloc, anchor, end)),
+        },
+        None => Ok(only_anchor(alloc, anchor, end)),
+    }
+}
+
+// Reads what may follow a tag: separation and an anchor.
+fn behind_tag<'a>(
+    alloc: Global,
+    s: &'a str,
+    at: usize,
+    n: i32,
+    ctx: Ctx,
+    part: TagPart<'a>,
+) -> Result<Properties<'a>, AllocError>
+    requires tag { Chosen (TagProperty s.now at) part.end (tag_value part.tag) }
+    requires boundary { IsCharBoundary s.now part.end }
+    ensures reads { IfOk result (λ p. Chosen (PropertiesOf s.now n ctx at) p.end (properties_value p)) }
+    ensures boundary { IfOk result (λ p. IsCharBoundary s.now p.end) }
+{
+    match separate(alloc, s, part.end, n, ctx)? {
+        Some(Separation {
+            comments,
+            end: start,
+        }) => match anchor_property(s, start) {
+            Some((anchor, anchor_end)) => Ok(Properties {
+                props: Props {
+                    anchor: Some(anchor),
+                    tag: Some(part.tag),
+                },
+                tag_offset: Some(at),
+                comments,
+                end: anchor_end,
+            }),
+            None => Ok(only_tag(alloc, at, part)),
+        },
+        None => Ok(only_tag(alloc, at, part)),
+    }
+}
+
+/// Reads properties (c-ns-properties(n,c), production 96) from a byte offset on: a tag, an anchor, or both in either order
+/// with separation between them, as long as their characters go. `n` is an indentation, from -1.
+///
+/// `None` where no properties begin at the offset.
+pub fn node_properties<'a>(
+    alloc: Global,
+    s: &'a str,
+    at: usize,
+    n: i32,
+    ctx: Ctx,
+) -> Result<Option<Properties<'a>>, AllocError>
+    ensures reads { IfOk result (λ o. MatchOption o (Stuck (PropertiesOf s.now n ctx at)) (λ p. Chosen (PropertiesOf s.now n ctx at) p.end (properties_value p))) }
+    ensures boundary { IfOk result (λ o. IfSome o (λ p. IsCharBoundary s.now p.end)) }
+{
+    match anchor_property(s, at) {
+        Some((anchor, end)) => {
+            let found = behind_anchor(alloc, s, at, n, ctx, anchor, end)?;
+            return Ok(Some(found));
+        }
+        None => {}
+    }
+    match tag_property(s, at) {
+        Some(part) => {
+            let found = behind_tag(alloc, s, at, n, ctx, part)?;
+            Ok(Some(found))
+        }
+        None => Ok(None),
+    }
+}
