@@ -1,14 +1,16 @@
 -- Laws of escapes: from a place there is one escape at most.
-use Rattle.std.proofs.Common.{◌≡◌, ℕ, ◌+◌, ◌-◌, ◌*◌, ◌^◌, ◌<◌, ◌≤◌, true, false, true≢false, Some, None, refl, sym, ap, ◌∙◌, subst, ⊎_elim, arith, add-one, leb, List}
+use Rattle.std.proofs.Common.{◌≡◌, ℕ, ◌+◌, ◌-◌, ◌*◌, ◌^◌, ◌<◌, ◌≤◌, true, false, true≢false, Some, None, refl, sym, ap, ◌∙◌, subst, ⊎_elim, arith, add-one, leb, List, [], ◌∷◌, ◌++◌, ◌/◌, ◌%◌, encode_utf8_all, encode_utf8, append-nil, append_assoc}
 use native.Mathlib.Numerals.{unary_clauses}
 use Rattle.std.proofs.Math.Nat.{pow-le-pow_right}
 use Rattle.std.proofs.lemmas.Bool.{cases_lt, and_parts, leb-true}
 use Rattle.std.proofs.lemmas.Bool.Decides.{nat_tests}
+use lib.Utf8.{encode}
+use Rattle.std.proofs.lemmas.Str.{encode_ascii, encodes-append}
 use Rattle.std.specs.Char.{digit_value}
 use Rattle.yf_chars.specs.Text.{code}
 use Rattle.yf_chars.specs.Chain.{Stuck, Chosen}
 use Rattle.yf_chars.specs.Class.{is_between}
-use Rattle.yf_chars.specs.Escape.{named, number, Digits, Numbered, is_high, is_low, joined, NoLow, Escape}
+use Rattle.yf_chars.specs.Escape.{named, number, Digits, Numbered, is_high, is_low, joined, NoLow, Escape, upper_digit, two_digits, is_by_two, is_by_four, spelled_long, spelled_by, spelled, short_name}
 use Rattle.yf_chars.specs.Escape.Escape.{by_letter, by_two, by_four, by_half, by_pair, by_eight}
 
 -- what has one end and one meaning is the longest
@@ -166,3 +168,74 @@ no_escape {t} {i} u x e l = record { none = λ j v d. none u x e l d } where
   none u x e l (by_half {v = v} n h q) = u v n
   none u x e l (by_pair {v = v} n h o q) = u v n
   none u x e l (by_eight {v = v} n) = e v n
+
+-- how characters are spelled, in bytes
+pub upper_below : (d : ℕ) → d < 16 → upper_digit d < 128
+unfolding upper_digit
+upper_below d l = grind (arith, nat_tests)
+
+pub two_bytes : (v : ℕ) → v < 256 → encode_utf8_all (two_digits v) ≡ two_digits v
+unfolding two_digits
+two_bytes v l =
+    let a : upper_digit (v / 16) < 128 = upper_below (v / 16) (omega arith) in
+    let b : upper_digit (v % 16) < 128 = upper_below (v % 16) (omega arith) in
+    rw (encode_ascii (upper_digit (v / 16)) a, encode_ascii (upper_digit (v % 16)) b) refl
+
+pub by_two_below : (c : ℕ) → is_by_two c ≡ true → c < 256
+unfolding is_by_two is_between
+by_two_below c e = grind (arith, nat_tests)
+
+pub by_four_below : (c : ℕ) → is_by_four c ≡ true → c < 65536
+unfolding is_by_four
+by_four_below c e = grind (arith, nat_tests)
+
+pub spelled_two : (c : ℕ) → is_by_two c ≡ true → spelled_long c ≡ 92 ∷ 120 ∷ two_digits c
+unfolding spelled_long
+spelled_two c e = rw e refl
+
+pub spelled_four : (c : ℕ) → is_by_two c ≡ false → is_by_four c ≡ true → spelled_long c ≡ 92 ∷ 117 ∷ two_digits (c / 256) ++ two_digits (c % 256)
+unfolding spelled_long
+spelled_four c e f = rw (e, f) refl
+
+pub spelled_self : (c : ℕ) → is_by_two c ≡ false → is_by_four c ≡ false → spelled_long c ≡ c ∷ []
+unfolding spelled_long
+spelled_self c e f = rw (e, f) refl
+
+pub spelled_letter : (c l : ℕ) → short_name c ≡ Some l → spelled c ≡ 92 ∷ l ∷ []
+unfolding spelled spelled_by
+spelled_letter c l e = rw e refl
+
+pub spelled_none : (c : ℕ) → short_name c ≡ None → spelled c ≡ spelled_long c
+unfolding spelled spelled_by
+spelled_none c e = rw e refl
+
+pub two_spelled : (c : ℕ) → is_by_two c ≡ true → encode_utf8_all (spelled_long c) ≡ 92 ∷ 120 ∷ two_digits c
+unfolding encode
+two_spelled c e = ap encode_utf8_all (spelled_two c e) ∙ ap (λ w. 92 ∷ 120 ∷ w) (two_bytes c (by_two_below c e))
+
+pub four_spelled : (c : ℕ) → is_by_two c ≡ false → is_by_four c ≡ true
+    → encode_utf8_all (spelled_long c) ≡ 92 ∷ 117 ∷ two_digits (c / 256) ++ two_digits (c % 256)
+unfolding encode
+four_spelled c e f =
+    let l = by_four_below c f in
+    let a : encode_utf8_all (two_digits (c / 256) ++ two_digits (c % 256)) ≡ two_digits (c / 256) ++ two_digits (c % 256) =
+    encodes-append (two_digits (c / 256)) (two_digits (c % 256)) ∙ ap (λ w. w ++ encode_utf8_all (two_digits (c % 256))) (two_bytes (c / 256) (omega arith))
+    ∙ ap (λ w. two_digits (c / 256) ++ w) (two_bytes (c % 256) (omega arith)) in
+    ap encode_utf8_all (spelled_four c e f) ∙ ap (λ w. 92 ∷ 117 ∷ w) a
+
+pub self_spelled : (c : ℕ) → is_by_two c ≡ false → is_by_four c ≡ false → encode_utf8_all (spelled_long c) ≡ encode_utf8 c
+self_spelled c e f = ap encode_utf8_all (spelled_self c e f) ∙ append-nil (encode_utf8 c)
+
+pub letter_spelled : (c l : ℕ) → short_name c ≡ Some l → l < 128 → encode_utf8_all (spelled c) ≡ 92 ∷ l ∷ []
+unfolding encode
+letter_spelled c l e low = ap encode_utf8_all (spelled_letter c l e) ∙ ap (λ w. 92 ∷ (w ++ [])) (encode_ascii l low)
+
+-- appended one after another
+pub glue_two : {b d : List ℕ} (a : List ℕ) (x y : ℕ) → b ≡ a ++ x ∷ [] → d ≡ b ++ y ∷ [] → d ≡ a ++ x ∷ y ∷ []
+glue_two a x y p q = q ∙ ap (λ w. w ++ y ∷ []) p ∙ append_assoc a (x ∷ []) (y ∷ [])
+
+pub glue : {b d e : List ℕ} (a : List ℕ) (x y : ℕ) (z : List ℕ) → b ≡ a ++ x ∷ [] → d ≡ b ++ y ∷ [] → e ≡ d ++ z → e ≡ a ++ x ∷ y ∷ z
+glue a x y z p q r = r ∙ ap (λ w. w ++ z) (glue_two a x y p q) ∙ append_assoc a (x ∷ y ∷ []) z
+
+pub glue_more : {d e : List ℕ} (a z w : List ℕ) → d ≡ a ++ z → e ≡ d ++ w → e ≡ a ++ (z ++ w)
+glue_more a z w p q = q ∙ ap (λ v. v ++ w) p ∙ append_assoc a z w

@@ -1,6 +1,6 @@
 -- Escapes of double-quoted scalars (YAML 1.2.2, section 5.7), and how a character is spelled in double quotes by this
 -- project.
-use Rattle.std.specs.Prelude.{◌≡◌, ℕ, zero, suc, ◌+◌, ◌-◌, ◌*◌, ◌/◌, ◌%◌, ◌<◌, Bool, true, false, ◌==◌, ◌||◌, List, [], ◌∷◌, Option, Some, None, if◌then◌else◌, nat_lt}
+use Rattle.std.specs.Prelude.{◌≡◌, ℕ, zero, suc, ◌+◌, ◌-◌, ◌*◌, ◌/◌, ◌%◌, ◌<◌, Bool, true, false, ◌==◌, ◌||◌, List, [], ◌∷◌, ◌++◌, Option, Some, None, if◌then◌else◌, nat_lt}
 use Rattle.std.specs.Char.{digit_value}
 use Rattle.yf_chars.specs.Text.{code}
 use Rattle.yf_chars.specs.Class.{is_between}
@@ -71,7 +71,7 @@ pub data Escape (t : List ℕ) : ℕ → ℕ → ℕ → Type 0 where
 unfoldable pub upper_digit : ℕ → ℕ
 upper_digit d = if nat_lt d 10 then 48 + d else 55 + d
 
--- a backslash and a letter
+-- the letter of the shortest escape, where a character has one here
 unfoldable pub short_name : ℕ → Option ℕ
 short_name c =
     if c == 34 then Some 34 else
@@ -96,7 +96,7 @@ two_digits v = upper_digit (v / 16) ∷ upper_digit (v % 16) ∷ []
 unfoldable pub spelled_long : ℕ → List ℕ
 spelled_long c =
     if is_by_two c then 92 ∷ 120 ∷ two_digits c else
-    if is_by_four c then 92 ∷ 117 ∷ upper_digit (c / 0x1000) ∷ upper_digit (c / 0x100 % 16) ∷ upper_digit (c / 16 % 16) ∷ upper_digit (c % 16) ∷ []
+    if is_by_four c then 92 ∷ 117 ∷ two_digits (c / 256) ++ two_digits (c % 256)
     else c ∷ []
 
 unfoldable pub spelled_by : Option ℕ → ℕ → List ℕ

@@ -1,9 +1,11 @@
 //! Escapes of double-quoted scalars (YAML 1.2.2, section 5.7), read and written.
-ghost use Rattle.std.specs.Prelude.{◌≡◌, ◌+◌, ◌<◌, ◌≤◌, ℕ, IfSome, OnSome, MatchOption, length};
+ghost use Rattle.std.specs.Prelude.{◌≡◌, ◌+◌, ◌<◌, ◌≤◌, ◌++◌, ◌∷◌, [], ℕ, IfSome, OnSome, MatchOption, is_ok, if◌then◌else◌, length, encode_utf8_all};
+ghost use Rattle.std.specs.String.{string_bytes, string_len, string_capacity};
 ghost use Rattle.std.specs.Str.{IsCharBoundary};
 ghost use Rattle.yf_chars.specs.Chain.{Stuck, Chosen};
 ghost use Rattle.yf_chars.specs.Escape as Escapes;
 
+use crate::error::NoMemory;
 use crate::text::{peek, stands};
 
 /// An escape that stands in a text: the number that it writes, and the byte offset behind it.
@@ -152,4 +154,137 @@ fn digits(s: &str, at: usize, count: usize) -> Option<u32>
         }
     }
     Some(value)
+}
+
+/// Appends a character as it is spelled in double quotes by this project: `"`, `\`, line feed, tab, carriage return and
+/// NUL by a backslash and a letter, other characters below a space and those from U+007F to U+00A0 as `\xHH`, separators
+/// of lines and paragraphs, the byte order mark, U+FFFE and U+FFFF as `\uHHHH`, digits in upper case, all else as itself.
+///
+/// # Errors
+///
+/// `NoMemory` where a growth of memory was refused; the string is then as before.
+pub fn push_escaped(out: &mut String, c: char) -> Result<(), NoMemory>
+    ensures { string_bytes out.new ≡ (if is_ok result then string_bytes out.old ++ encode_utf8_all (Escapes.spelled c) else string_bytes out.old) }
+{
+    match out.reserve(6) {
+        Ok(()) => {
+            put_spelled(out, c);
+            Ok(())
+        }
+        Err(_) => Err(NoMemory),
+    }
+}
+
+// The same where there is room.
+fn put_spelled(out: &mut String, c: char)
+    requires { string_len out.old + 6 ≤ string_capacity out.old }
+    ensures { string_bytes out.new ≡ string_bytes out.old ++ encode_utf8_all (Escapes.spelled c) }
+{
+    match short_name(c) {
+        Some(letter) => {
+            put(out, '\\');
+            put(out, letter);
+        }
+        None => put_long(out, c),
+    }
+}
+
+// Appends an ASCII character where there is room.
+fn put(out: &mut String, c: char)
+    requires ascii { c < 128 }
+    requires room { string_len out.old + 1 ≤ string_capacity out.old }
+    ensures bytes { string_bytes out.new ≡ string_bytes out.old ++ c ∷ [] }
+    ensures len { string_len out.new ≡ string_len out.old + 1 }
+    ensures capacity { string_capacity out.old ≤ string_capacity out.new }
+{
+    match out.push(c) {
+        Ok(()) => {}
+        Err(_) => unreachable!(),
+    }
+}
+
+// The letter of the shortest escape, where the character has one.
+#[tactic(auto, unfolding(crate::specs::Escape::short_name))]
+fn short_name(c: char) -> Option<char>
+    ensures value { result ≡ Escapes.short_name c }
+    ensures ascii { IfSome result (λ letter. letter < 128) }
+{
+    match c {
+        '"' => Some('"'),
+        '\\' => Some('\\'),
+        '\n' => Some('n'),
+        '\t' => Some('t'),
+        '\r' => Some('r'),
+        '\0' => Some('0'),
+        _ => None,
+    }
+}
+
+// The spelling of a character that has no letter, where there is room.
+fn put_long(out: &mut String, c: char)
+    requires { string_len out.old + 6 ≤ string_capacity out.old }
+    ensures { string_bytes out.new ≡ string_bytes out.old ++ encode_utf8_all (Escapes.spelled_long c) }
+{
+    let code = c as u32;
+    if is_by_two(c) {
+        put(out, '\\');
+        put(out, 'x');
+        put_digits(out, code);
+        return;
+    }
+    if is_by_four(c) {
+        put(out, '\\');
+        put(out, 'u');
+        put_digits(out, code / 256);
+        put_digits(out, code % 256);
+        return;
+    }
+    match out.push(c) {
+        Ok(()) => {}
+        Err(_) => unreachable!(),
+    }
+}
+
+// Appends two hexadecimal digits in upper case where there is room.
+fn put_digits(out: &mut String, value: u32)
+    requires small { value < 256 }
+    requires room { string_len out.old + 2 ≤ string_capacity out.old }
+    ensures bytes { string_bytes out.new ≡ string_bytes out.old ++ Escapes.two_digits value }
+    ensures len { string_len out.new ≡ string_len out.old + 2 }
+    ensures capacity { string_capacity out.old ≤ string_capacity out.new }
+{
+    put(out, upper_digit(value / 16));
+    put(out, upper_digit(value % 16));
+}
+
+// A hexadecimal digit in upper case.
+#[tactic(auto, unfolding(crate::specs::Escape::upper_digit))]
+fn upper_digit(digit: u32) -> char
+    requires { digit < 16 }
+    ensures value { result ≡ Escapes.upper_digit digit }
+    ensures ascii { result < 128 }
+{
+    if digit < 10 {
+        return char::from(b'0' + digit as u8);
+    }
+    char::from(b'A' + (digit - 10) as u8)
+}
+
+// Characters that are spelled by two digits.
+#[tactic(auto, unfolding(crate::specs::Escape::is_by_two, crate::specs::Class::is_between))]
+fn is_by_two(c: char) -> bool
+    ensures { result ≡ Escapes.is_by_two c }
+{
+    matches!(c, '\0'..='\u{1F}' | '\u{7F}'..='\u{A0}')
+}
+
+// Characters that are spelled by four digits.
+#[tactic(auto, unfolding(crate::specs::Escape::is_by_four))]
+fn is_by_four(c: char) -> bool
+    ensures { result ≡ Escapes.is_by_four c }
+{
+    matches!(
+        c,
+        '\u{2028}' | '\u{2029}' | '\u{FEFF}' | '\u{FFFE}' | '\u{FFFF}'
+    )
 }

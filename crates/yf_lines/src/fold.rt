@@ -50,8 +50,8 @@ pub fn flow_folded(s: &str, at: usize, width: usize) -> Option<Fold>
     }
 }
 
-// The empty lines from the start of a line on, and the indentation of the line behind them.
-fn fold_lines(s: &str, at: usize, width: usize) -> Option<Fold>
+/// The empty lines from the start of a line on, and the indentation of the line behind them.
+pub fn fold_lines(s: &str, at: usize, width: usize) -> Option<Fold>
     requires { IsCharBoundary s.now at }
     ensures reads { MatchOption result (Stuck (FoldLines s.now (pos width) at)) (λ f. FoldLines s.now (pos width) at f.end (line_feeds f.feeds)) }
     ensures boundary { IfSome result (λ f. IsCharBoundary s.now f.end) }
