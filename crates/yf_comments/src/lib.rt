@@ -6,3 +6,5 @@ pub mod comment;
 pub mod comments;
 pub mod lines;
 pub mod separation;
+#[cfg(test)]
+mod tests;

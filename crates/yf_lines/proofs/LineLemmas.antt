@@ -1,13 +1,11 @@
 -- Laws of lines: each is the only one that begins where it does, and the lines of a text are one list.
-use Rattle.std.proofs.Common.{◌≡◌, ◌≢◌, ℕ, suc, ◌+◌, ◌-◌, ◌<◌, ◌≤◌, Bool, true, false, List, [], ◌∷◌, ◌++◌, length, Some, refl, sym, ap, ◌∙◌, subst, inl, inr, ◌⊎◌, ⊎_elim, arith, true≢false, eqb}
+use Rattle.std.proofs.Common.{◌≡◌, ◌≢◌, ℕ, ◌+◌, ◌-◌, ◌<◌, ◌≤◌, true, false, List, [], ◌∷◌, length, refl, sym, ap, ◌∙◌, subst, inl, inr, ◌⊎◌, ⊎_elim, arith, true≢false, eqb}
 use Rattle.std.proofs.lemmas.Bool.{cases_lt, cases_eq, ne_eqb, eqb-true}
 use Rattle.std.proofs.lemmas.Str.{IsCharBoundary-end, IsCharBoundary-before_ascii}
-use Rattle.std.specs.List.{slice_get}
 use Rattle.std.specs.Str.{IsUtf8, IsCharBoundary}
-use Rattle.yf_chars.specs.Text.{code, no_char, Reads}
+use Rattle.yf_chars.specs.Text.{code, no_char}
 use Rattle.yf_chars.specs.Class.{is_break_char}
-use Rattle.yf_chars.specs.Chain.{Chain, Functional, Stuck, Chosen, Nowhere}
-use Rattle.yf_chars.specs.Chain.Chain.{done, step}
+use Rattle.yf_chars.specs.Chain.{Functional, Stuck, Nowhere}
 use Rattle.yf_chars.proofs.TextLemmas.{within_from_code, code-past, byte_from_code, reads_byte}
 use Rattle.yf_chars.proofs.ChainLemmas.{chain_chosen}
 use Rattle.yf_lines.specs.declared.line.Line.{Line}
@@ -186,9 +184,9 @@ pub end_from_stop : (t : List ℕ) (i h : ℕ) → Apart t i → Unbroken t i h 
 end_from_stop t i h a n stop none =
     ⊎_elim
     (λ (b : is_break_char (code t h) ≡ true).
-        ⊎_elim (λ (e : code t h ≡ 13). absurd (break_at_cr t h e none))
-        (λ (e : code t h ≡ 10). absurd (none.none (h + 1) (lone_lf e (no_cr_before t i h a n e))))
-        (break_char_cases (code t h) b))
+    ⊎_elim (λ (e : code t h ≡ 13). absurd (break_at_cr t h e none))
+    (λ (e : code t h ≡ 10). absurd (none.none (h + 1) (lone_lf e (no_cr_before t i h a n e))))
+    (break_char_cases (code t h) b))
     (λ (e : h ≡ length t). e) stop
 
 -- no line begins inside of a CR LF

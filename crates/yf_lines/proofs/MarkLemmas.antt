@@ -1,19 +1,19 @@
 -- Laws of the byte order marks at the start of a line, and of forbidden lines.
-use Rattle.std.proofs.Common.{◌≡◌, ◌≢◌, ℕ, suc, ◌+◌, ◌-◌, ◌<◌, ◌≤◌, Bool, true, false, ◌&&◌, ◌||◌, List, [], ◌∷◌, ◌++◌, length, get_or, Some, refl, sym, ap, ◌∙◌, subst, inl, inr, ◌⊎◌, ⊎_elim, arith, true≢false, eqb, MatchBool}
-use Rattle.std.proofs.lemmas.Bool.{cases_lt, cases_eq, cases_Bool, ne_eqb, eq-eqb, eqb-true, and_parts, or_cases}
+use Rattle.std.proofs.Common.{◌≡◌, ◌≢◌, ℕ, ◌+◌, ◌-◌, ◌<◌, ◌≤◌, Bool, true, false, ◌&&◌, ◌||◌, List, [], ◌∷◌, ◌++◌, length, get_or, sym, ap, ◌∙◌, subst, inl, inr, ◌⊎◌, ⊎_elim, arith, true≢false, eqb, MatchBool}
+use Rattle.std.proofs.lemmas.Bool.{cases_lt, cases_eq, ne_eqb, eq-eqb, eqb-true, and_parts, or_cases}
 use Rattle.std.specs.Str.{IsUtf8, IsCharBoundary}
-use Rattle.yf_chars.specs.Text.{code, next, no_char, Reads}
+use Rattle.yf_chars.specs.Text.{code, next, no_char}
 use Rattle.yf_chars.specs.Class.{is_break_char, is_white_or_end}
-use Rattle.yf_chars.specs.Chain.{Chain, One, Many}
+use Rattle.yf_chars.specs.Chain.{One, Many}
 use Rattle.yf_chars.specs.Chain.Chain.{done, step}
 use Rattle.yf_chars.specs.Chain.One.{one}
-use Rattle.yf_chars.proofs.TextLemmas.{within_from_code, code-past, next-mark, next_later, bytes_from_mark, reads_real}
+use Rattle.yf_chars.proofs.TextLemmas.{code-past, next-mark, bytes_from_mark, reads_real}
 use Rattle.yf_chars.proofs.ChainLemmas.{many_more, many_unique, chain_forward, one_functional}
 use Rattle.yf_lines.specs.declared.line.Line.{Line}
 use Rattle.yf_lines.specs.Basic.{Break, LineStart, Forbidden, Clear, is_marker, is_three}
 use Rattle.yf_lines.specs.Basic.Break.{cr_lf, lone_cr, lone_lf}
 use Rattle.yf_lines.specs.Basic.LineStart.{at_text, after_break, after_mark}
-use Rattle.yf_lines.specs.Lines.{Unbroken, LineEnd, IsLine, IsCutAt, Marks, IsForbiddenLine, is_mark}
+use Rattle.yf_lines.specs.Lines.{LineEnd, IsLine, IsCutAt, Marks, IsForbiddenLine, is_mark}
 use Rattle.yf_lines.specs.Lines.LineEnd.{at_break, at_end}
 use Rattle.yf_lines.proofs.BasicLemmas.{break_char, break_end}
 use Rattle.yf_lines.proofs.LineLemmas.{lf_breaks, cr_breaks, end_within}
@@ -44,12 +44,12 @@ not_in_mark t i e u m b l s =
     let bytes = bytes_from_mark t i u m in
     ⊎_elim
     (λ (q : e ≡ i + 1).
-        let c : get_or t e 0 ≡ 187 = ap (λ w. get_or t w 0) q ∙ bytes.2 in
-        let h : 192 ≤ get_or t e 0 = b.1 (omega (arith, bytes.0)) (omega arith) in absurd (omega arith))
+    let c : get_or t e 0 ≡ 187 = ap (λ w. get_or t w 0) q ∙ bytes.2 in
+    let h : 192 ≤ get_or t e 0 = b.1 (omega (arith, bytes.0)) (omega arith) in absurd (omega arith))
     (λ (n : e ≢ i + 1).
-        let q : e ≡ i + 2 = omega arith in
-        let c : get_or t e 0 ≡ 191 = ap (λ w. get_or t w 0) q ∙ bytes.3 in
-        let h : 192 ≤ get_or t e 0 = b.1 (omega (arith, bytes.0)) (omega arith) in absurd (omega arith))
+    let q : e ≡ i + 2 = omega arith in
+    let c : get_or t e 0 ≡ 191 = ap (λ w. get_or t w 0) q ∙ bytes.3 in
+    let h : 192 ≤ get_or t e 0 = b.1 (omega (arith, bytes.0)) (omega arith) in absurd (omega arith))
     (cases_eq e (i + 1))
 
 -- the start of a line lies behind each of its marks
@@ -105,11 +105,11 @@ break_at_start : {t : List ℕ} {i h : ℕ} (l : Line) → IsLine t l → Break 
 break_at_start {t} {i} {h} l m b o s =
     ⊎_elim (λ (q : l.start ≡ h). q)
     (λ (n : l.start ≢ h).
-        let c = break_end b in
-        ⊎_elim
-        (λ (w : h - 1 < l.end). absurd (true≢false (sym (ends_by_break t h c) ∙ m.unbroken.none (h - 1) (omega arith) w)))
-        (λ (w : l.end ≤ h - 1). absurd (inside_end h m.ends (omega arith) s c))
-        (cases_lt (h - 1) l.end))
+    let c = break_end b in
+    ⊎_elim
+    (λ (w : h - 1 < l.end). absurd (true≢false (sym (ends_by_break t h c) ∙ m.unbroken.none (h - 1) (omega arith) w)))
+    (λ (w : l.end ≤ h - 1). absurd (inside_end h m.ends (omega arith) s c))
+    (cases_lt (h - 1) l.end))
     (cases_eq l.start h)
 
 -- a start of a line in a line stands behind marks of its start
@@ -122,12 +122,12 @@ start_in_line {t} {h} l u m c (after_mark {i = i} r e) o s =
     let w : next t i ≡ i + 3 = next-mark t i e in
     ⊎_elim
     (λ (q : l.start ≤ i).
-        let before = start_in_line l u m c r q (omega arith) in
-        (before.0 ++ code t i ∷ [], many_more t is_mark before.1 (code_mark t i e)))
+    let before = start_in_line l u m c r q (omega arith) in
+    (before.0 ++ code t i ∷ [], many_more t is_mark before.1 (code_mark t i e)))
     (λ (q : i < l.start).
-        let z : l.start ≡ next t i =
-            ⊎_elim (λ (d : l.start < i + 3). absurd (not_in_mark t i l.start u e c.start q d)) (λ (d : i + 3 ≤ l.start). omega arith) (cases_lt l.start (i + 3)) in
-        ([], subst (λ k. Many t is_mark k (next t i) []) (sym z) done))
+    let z : l.start ≡ next t i =
+    ⊎_elim (λ (d : l.start < i + 3). absurd (not_in_mark t i l.start u e c.start q d)) (λ (d : i + 3 ≤ l.start). omega arith) (cases_lt l.start (i + 3)) in
+    ([], subst (λ k. Many t is_mark k (next t i) []) (sym z) done))
     (⊎_elim (λ (q : i < l.start). inr q) (λ (q : l.start ≤ i). inl q) (cases_lt i l.start))
 
 -- a document marker begins with - or .

@@ -1,23 +1,23 @@
 -- Laws of places: how line and column are found, and that an offset has one place.
-use Rattle.std.proofs.Common.{◌≡◌, ◌≢◌, ℕ, zero, suc, ◌+◌, ◌-◌, ◌<◌, ◌≤◌, Bool, true, false, List, [], ◌∷◌, ◌++◌, length, get_or, take, drop, Some, None, refl, sym, ap, ◌∙◌, subst, inl, inr, ◌⊎◌, ⊎_elim, arith, true≢false, leb, ltb, append_assoc, append-nil, length-append, length-take, length-drop, take-append-drop}
-use Rattle.std.proofs.lemmas.Bool.{cases_lt, cases_eq, lt-ltb, ltb-true, leb-true, le-leb, lt-leb}
-use Rattle.std.proofs.lemmas.List.{length_push, length-take-le}
+use Rattle.std.proofs.Common.{◌≡◌, ◌≢◌, ℕ, ◌+◌, ◌-◌, ◌<◌, ◌≤◌, true, false, List, [], ◌∷◌, ◌++◌, length, get_or, take, drop, Some, refl, sym, ap, ◌∙◌, subst, ⊎_elim, arith, true≢false, leb, append_assoc, append-nil, length-append, length-drop, take-append-drop}
+use Rattle.std.proofs.lemmas.Bool.{cases_lt, cases_eq, lt-ltb, leb-true, le-leb}
+use Rattle.std.proofs.lemmas.List.{length-take-le}
 use Rattle.std.proofs.lemmas.Option.{slice_get-get_or, slice_get_within, get_or_from_slice_get}
 use Rattle.std.proofs.lemmas.Str as S
 use Rattle.std.proofs.lemmas.Str.{length-encode}
 use Rattle.std.specs.List.{slice_get}
-use Rattle.std.specs.List.Sorted.{IsPartitionPoint, IsPartitionedBy}
+use Rattle.std.specs.List.Sorted.{IsPartitionPoint}
 use Rattle.std.specs.Str.{IsUtf8, IsCharBoundary}
 use lib.Utf8.{encodes, encode}
-use Rattle.yf_chars.specs.Text.{code, next, no_char, Reads, begins}
-use Rattle.yf_chars.specs.Chain.{Chain, Functional, One, Many}
+use Rattle.yf_chars.specs.Text.{code, next, no_char, Reads}
+use Rattle.yf_chars.specs.Chain.{Chain, Functional, Many}
 use Rattle.yf_chars.specs.Chain.Chain.{done, step}
 use Rattle.yf_chars.proofs.TextLemmas.{begins_from_boundary, drop_there}
 use Rattle.yf_chars.proofs.ChainLemmas.{many_more, chain_forward, one_functional, Meets, chain_meet}
 use Rattle.yf_chars.proofs.ChainLemmas.Meets.{goes_on, falls_short}
 use Rattle.yf_lines.specs.declared.line.Line.{Line}
 use Rattle.yf_lines.specs.Basic.{Break}
-use Rattle.yf_lines.specs.Lines.{LineEnd, IsLine, AreLines, Marks, Holds, Begun, ColumnOf, NewLine, PlaceOf, is_mark, is_char}
+use Rattle.yf_lines.specs.Lines.{LineEnd, AreLines, Marks, Holds, Begun, ColumnOf, NewLine, PlaceOf, is_char}
 use Rattle.yf_lines.specs.Lines.LineEnd.{at_break, at_end}
 use Rattle.yf_lines.specs.Lines.Holds.{inside, at_text_end}
 use Rattle.yf_lines.specs.Lines.ColumnOf.{among_marks, behind_marks}
@@ -26,14 +26,14 @@ use Rattle.yf_lines.specs.Lines.PlaceOf.{in_line, behind_lines}
 use Rattle.yf_lines.proofs.BasicLemmas.{break_end, break_forward}
 use Rattle.yf_lines.proofs.LineLemmas.{end_within, lines_unique}
 use Rattle.yf_lines.proofs.MarkLemmas.{marks_unique, ends_by_break}
-use Rattle.yf_lines.proofs.TableLemmas.{Follow, follow, LineAt, line_at, line_before, some_same}
+use Rattle.yf_lines.proofs.TableLemmas.{Follow, follow, line_at, line_before, some_same}
 
 -- no character begins inside of another
 first_part : (c n : ℕ) (rest cs : List ℕ) (xs : List ℕ) → xs ≡ encode c ++ rest → encodes cs ≡ take n xs → 0 < n → n ≤ length xs → length (encode c) ≤ n
 first_part c n rest [] xs e u z l = let q : 0 ≡ length (take n xs) = ap length u in absurd (omega (arith, length-take-le n xs l))
 first_part c n rest (d ∷ ds) xs e u z l =
     let whole : encode d ++ (encodes ds ++ drop n xs) ≡ encode c ++ rest =
-        sym (append_assoc (encode d) (encodes ds) (drop n xs)) ∙ ap (λ w. w ++ drop n xs) u ∙ take-append-drop n xs ∙ e in
+    sym (append_assoc (encode d) (encodes ds) (drop n xs)) ∙ ap (λ w. w ++ drop n xs) u ∙ take-append-drop n xs ∙ e in
     let same : d ≡ c = (S.encode_same d c (encodes ds ++ drop n xs) rest whole).0 in
     let long : length (encode d ++ encodes ds) ≡ n = ap length u ∙ length-take-le n xs l in
     let q : length (encode d) ≡ length (encode c) = ap (λ w. length (encode w)) same in
@@ -92,12 +92,12 @@ module _ (t : List ℕ) (ls : List Line) (offset k : ℕ) (l : Line) (a : AreLin
       let o : l.start ≤ offset = b.before k l there (omega arith) in
       ⊎_elim (λ (s : k + 1 < length ls). inside o (next_behind s))
       (λ (s : length ls ≤ k + 1).
-          let e : l.next ≡ length t = last_reaches s in
-          ⊎_elim (λ (p : offset < l.next). inside o p)
-          (λ (p : l.next ≤ offset).
-              let q : l.next ≡ offset = omega arith in
-              ⊎_elim (λ (d : l.end < l.next). absurd (n d (sym q))) (λ (d : l.next ≤ l.end). at_text_end (let v = end_within r.made.ends in omega (arith, v.0)) q) (cases_lt l.end l.next))
-          (cases_lt offset l.next))
+      let e : l.next ≡ length t = last_reaches s in
+      ⊎_elim (λ (p : offset < l.next). inside o p)
+      (λ (p : l.next ≤ offset).
+      let q : l.next ≡ offset = omega arith in
+      ⊎_elim (λ (d : l.end < l.next). absurd (n d (sym q))) (λ (d : l.next ≤ l.end). at_text_end (let v = end_within r.made.ends in omega (arith, v.0)) q) (cases_lt l.end l.next))
+      (cases_lt offset l.next))
       (cases_lt (k + 1) (length ls))
 
   pub place_held : (c : ℕ) → (l.end < l.next → offset ≢ l.next) → ColumnOf t l.start offset c → PlaceOf t offset (k + 1) c

@@ -1,7 +1,7 @@
 -- Laws of the list of a text's lines: the line at an index, and how the lines lie.
-use Rattle.std.proofs.Common.{◌≡◌, ◌≢◌, ℕ, zero, suc, ◌+◌, ◌-◌, ◌<◌, ◌≤◌, Bool, true, false, List, [], ◌∷◌, ◌++◌, length, Some, None, Option, refl, sym, ap, ◌∙◌, subst, inl, inr, ◌⊎◌, ⊎_elim, arith, get_or}
-use Rattle.std.proofs.lemmas.Bool.{cases_lt, cases_eq}
-use Rattle.std.proofs.lemmas.Option.{slice_get-get_or, slice_get_within, get_or_from_slice_get}
+use Rattle.std.proofs.Common.{◌≡◌, ℕ, zero, suc, ◌+◌, ◌<◌, ◌≤◌, List, [], ◌∷◌, ◌++◌, length, Some, refl, sym, ap, subst, inl, inr, ◌⊎◌, ⊎_elim, arith, get_or}
+use Rattle.std.proofs.lemmas.Bool.{cases_lt}
+use Rattle.std.proofs.lemmas.Option.{slice_get-get_or}
 use Rattle.std.proofs.lemmas.Str.{IsCharBoundary-start}
 use Rattle.std.specs.List.{slice_get}
 use Rattle.std.specs.List.Sorted.{IsNonDecreasingBy}
@@ -92,9 +92,9 @@ starts_ascend t ls a k m d o w =
     let g : slice_get ls m ≡ Some (get_or ls m d) = slice_get-get_or ls m d w in
     ⊎_elim
     (λ (l : k < m).
-        let b = line_before t ls 0 (length t) k m (get_or ls k d) (get_or ls m d) (follow a) e g l in
-        let r = line_at t ls 0 (length t) k (get_or ls k d) (follow a) e in
-        let p = r.made.order in omega (arith, b.0))
+    let b = line_before t ls 0 (length t) k m (get_or ls k d) (get_or ls m d) (follow a) e g l in
+    let r = line_at t ls 0 (length t) k (get_or ls k d) (follow a) e in
+    let p = r.made.order in omega (arith, b.0))
     (λ (l : m ≤ k). let q : k ≡ m = omega arith in omega (arith, ap (λ w. (get_or ls w d).start) q))
     (cases_lt k m)
 

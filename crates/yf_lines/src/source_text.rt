@@ -4,11 +4,10 @@ ghost use Rattle.std.specs.Str.{IsCharBoundary};
 ghost use Rattle.yf_lines.specs.declared.line.Line.{Line};
 ghost use Rattle.yf_lines.specs.Lines.{AreLines, PlaceOf};
 
-use std::alloc::{AllocError, Global};
-use std::marker::Model;
-
 use crate::place::Place;
 use crate::table::LineTable;
+use std::alloc::{AllocError, Global};
+use std::marker::Model;
 
 /// A text and the table of its lines. In a contract it is what its table is.
 #[derive(Debug, Drop)]

@@ -8,12 +8,11 @@ ghost use Rattle.yf_lines.specs.Basic.{Forbidden, Clear};
 ghost use Rattle.yf_lines.specs.declared.line.Line.{Line};
 ghost use Rattle.yf_lines.specs.Lines.{AreLines, IsLine, IsCutAt, OneLine, Unbroken, Apart, Marks, IsForbiddenLine, PlaceOf, Begun, ColumnOf};
 
-use std::alloc::{AllocError, Global};
-use std::marker::Model;
-
 use crate::basic::{line_break, mark_stands, marker_stands, skip_spaces};
 use crate::line::Line;
 use crate::place::Place;
+use std::alloc::{AllocError, Global};
+use std::marker::Model;
 use yf_chars::text::{peek, stands};
 
 /// A text and all its lines. In a contract it is a record of the text's bytes and the list of the lines.
@@ -259,7 +258,11 @@ mod tests {
             for (i, line) in lines.iter().enumerate() {
                 assert!(rt; i < table.len());
                 let found = table.line(i);
-                assert_eq!(rt; [found.start, found.end, found.next, found.indent], *line, "of {text:?}");
+                assert_eq!(rt;
+                    [found.start, found.end, found.next, found.indent],
+                    *line,
+                    "of {text:?}"
+                );
             }
         }
         Ok(())
@@ -269,11 +272,29 @@ mod tests {
     fn finds_places(rt: HostRuntime) -> Result<(), Fail> {
         let cases = [
             ("", [[0, 1, 1]].as_slice()),
-            ("a\r\nb", [[0, 1, 1], [2, 1, 3], [3, 2, 1], [4, 2, 2]].as_slice()),
+            (
+                "a\r\nb",
+                [[0, 1, 1], [2, 1, 3], [3, 2, 1], [4, 2, 2]].as_slice(),
+            ),
             ("a\n", [[1, 1, 2], [2, 2, 1]].as_slice()),
             ("a\rb\r", [[1, 1, 2], [2, 2, 1], [4, 3, 1]].as_slice()),
-            ("\u{e9}\u{20ac}x\n  \u{fc}", [[2, 1, 2], [5, 1, 3], [7, 2, 1], [9, 2, 3], [11, 2, 4]].as_slice()),
-            ("\u{feff}\u{feff}ab\n\u{feff}c", [[0, 1, 1], [3, 1, 1], [6, 1, 1], [8, 1, 3], [9, 2, 1], [12, 2, 1], [13, 2, 2]].as_slice()),
+            (
+                "\u{e9}\u{20ac}x\n  \u{fc}",
+                [[2, 1, 2], [5, 1, 3], [7, 2, 1], [9, 2, 3], [11, 2, 4]].as_slice(),
+            ),
+            (
+                "\u{feff}\u{feff}ab\n\u{feff}c",
+                [
+                    [0, 1, 1],
+                    [3, 1, 1],
+                    [6, 1, 1],
+                    [8, 1, 3],
+                    [9, 2, 1],
+                    [12, 2, 1],
+                    [13, 2, 2],
+                ]
+                .as_slice(),
+            ),
             ("\u{feff}", [[3, 1, 1]].as_slice()),
         ];
         for (text, places) in cases {
@@ -281,7 +302,11 @@ mod tests {
             for [offset, line, column] in places {
                 assert!(rt; table.text().is_char_boundary(*offset));
                 let place = table.place(*offset);
-                assert_eq!(rt; [place.line, place.column], [*line, *column], "of {text:?} at {offset}");
+                assert_eq!(rt;
+                    [place.line, place.column],
+                    [*line, *column],
+                    "of {text:?} at {offset}"
+                );
             }
         }
         Ok(())

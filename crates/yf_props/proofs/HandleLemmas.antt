@@ -1,12 +1,16 @@
--- Looking a handle up among the declarations.
-use Rattle.std.proofs.Common.{◌≡◌, ℕ, Bool, true, false, cond, List, [], ◌∷◌, ◌++◌, map, Option, Some, None, refl, sym, ap, ◌∙◌, is_some, true≢false}
-use Rattle.indexmap.specs.IndexMap.{IndexMap, insert_entry}
-use Rattle.indexmap.proofs.CallerLemmas.{insert_entry-new}
+-- Looking a handle up among the declarations, and the texts of tags.
+use Rattle.std.proofs.Common.{◌≡◌, ℕ, Bool, true, false, cond, List, [], ◌∷◌, ◌++◌, map, Option, Some, None, Result, Ok, Err, IfOk, codes, refl, sym, ap, ◌∙◌, subst, is_some, true≢false, append-nil}
 use Rattle.std.specs.Borrow.{Bor}
 use Rattle.std.specs.Map.{lookup}
-use Rattle.std.specs.Str.{bytes_eq}
+use Rattle.std.specs.Str.{IsUtf8, bytes_eq}
+use Rattle.indexmap.specs.IndexMap.{IndexMap, insert_entry}
+use Rattle.indexmap.proofs.CallerLemmas.{insert_entry-new}
+use Rattle.percent_encoding.specs.Percent.{percent_decode}
 use Rattle.yf_props.specs.Props.{name_value}
-use Rattle.yf_props.specs.Handles.{Declaration, declaration, is_declared}
+use Rattle.yf_props.specs.Props.TagValue.{IsVerbatim, IsShort, IsNonSpecific}
+use Rattle.yf_props.specs.Handles.{Declaration, declaration, is_declared, prefix_of, SuffixText, TagText}
+use Rattle.yf_props.specs.Handles.SuffixText.{as_decoded}
+use Rattle.yf_props.specs.Handles.TagText.{verbatim_text, shorthand_text, non_specific_text}
 
 name_cond : (b : Bool) (x : Bor (List ℕ)) (q : Option (Bor (List ℕ))) → cond b (Some x.now) (name_value q) ≡ name_value (cond b (Some x) q)
 name_cond true x q = refl
@@ -44,3 +48,26 @@ pub new_declaration : {S : Type 0} (m : IndexMap (Bor (List ℕ)) (Bor (List ℕ
 new_declaration m k v es e f =
     let none = none_found (lookup (λ x. bytes_eq k.now x.now) m.entries) e in
     ap (map declaration) (f ∙ insert_entry-new (λ x y. bytes_eq x.now y.now) m k v none) ∙ map_declaration m.entries (k, v)
+
+-- texts of suffixes
+pub decoded_suffix : {s d : List ℕ} → d ≡ percent_decode s → IsUtf8 d → SuffixText s d
+decoded_suffix {s} {d} e u =
+    let u' : IsUtf8 (percent_decode s) = subst IsUtf8 e u in
+    subst (λ x. SuffixText s x) (sym e) (as_decoded u')
+
+pub behind_prefix : {E : Type 0} (r : Result (List ℕ) E) (p : List ℕ) {s d : List ℕ} → IfOk r (λ text. text ≡ p ++ d) → SuffixText s d
+    → IfOk r (λ text. (x : List ℕ) × SuffixText s x × (text ≡ p ++ x))
+behind_prefix (Ok text) p {d = d} e x = (d, x, e)
+behind_prefix (Err f) p e x = tt
+
+-- texts of tags
+module _ {ds : List Declaration} where
+  pub verbatim_is : {text x : List ℕ} → x ≡ text ++ [] → TagText ds (IsVerbatim text) x
+  verbatim_is {text} e = subst (λ y. TagText ds (IsVerbatim text) y) (sym (e ∙ append-nil text)) verbatim_text
+
+  pub non_specific_is : {x : List ℕ} → x ≡ codes "!" ++ [] → TagText ds IsNonSpecific x
+  non_specific_is e = subst (λ y. TagText ds IsNonSpecific y) (sym e) non_specific_text
+
+  pub shorthand_is : {handle prefix suffix text : List ℕ} → prefix_of ds handle ≡ Some prefix
+      → (x : List ℕ) × SuffixText suffix x × (text ≡ prefix ++ x) → TagText ds (IsShort handle suffix) text
+  shorthand_is {handle} {prefix} {suffix} e d = subst (λ y. TagText ds (IsShort handle suffix) y) (sym d.2) (shorthand_text e d.1)

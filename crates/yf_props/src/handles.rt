@@ -1,12 +1,12 @@
 //! Tag handles (YAML 1.2.2, section 6.8.2), and what tags stand for (section 6.9.1).
-ghost use Rattle.std.specs.Prelude.{◌≡◌, ◌++◌, [], ◌∷◌, ℕ, List, Bool, not, is_some, Option, Some, None, Ok, Err, MatchOption, MatchResult, IfOk, IfErr, if◌then◌else◌, codes};
+ghost use Rattle.std.specs.Prelude.{◌≡◌, ◌⊎◌, ◌++◌, [], ◌∷◌, ℕ, List, Bool, not, is_some, Option, Some, None, Ok, Err, MatchOption, MatchResult, IfOk, IfErr, if◌then◌else◌, codes};
 ghost use Rattle.std.specs.String.{string_bytes};
 ghost use Rattle.yf_props.specs.Props.{tag_value};
 ghost use Rattle.yf_props.specs.Handles.{declared_prefix, default_prefix, prefix_of, SuffixText, TagText, UnknownHandleOf, is_declared};
 
 use crate::props::Tag;
 use indexmap::IndexMap;
-use percent_encoding::percent_decode;
+use percent_encoding::{DecodeError, percent_decode};
 use std::alloc::{AllocError, Global};
 use std::marker::Model;
 use yf_lines::fault::Fault;
@@ -37,6 +37,27 @@ fn default_of(handle: &str) -> Option<&'static str>
         "!" => Some("!"),
         "!!" => Some("tag:yaml.org,2002:"),
         _ => None,
+    }
+}
+
+// One text behind the other.
+fn joined(alloc: Global, front: &str, back: &str) -> Result<OwnedText, AllocError>
+    ensures { IfOk result (λ text. text ≡ front.now ++ back.now) }
+{
+    let mut text = String::new(alloc);
+    text.push_str(front)?;
+    text.push_str(back)?;
+    Ok(OwnedText::new(text))
+}
+
+// A prefix, and behind it what the suffix stands for.
+fn with_suffix(alloc: Global, prefix: &str, suffix: &str) -> Result<OwnedText, AllocError>
+    ensures { IfOk result (λ text. (x : List ℕ) × SuffixText suffix.now x × (text ≡ prefix.now ++ x)) }
+{
+    match percent_decode(suffix.as_bytes()).decode_utf8(alloc) {
+        Ok(decoded) => joined(alloc, prefix, decoded.as_str()),
+        Err(DecodeError::Utf8(_)) => joined(alloc, prefix, suffix),
+        Err(DecodeError::OutOfMemory) => Err(AllocError),
     }
 }
 
@@ -75,6 +96,29 @@ impl<'a> Handles<'a> {
         match self.prefixes.get(handle) {
             Some(&prefix) => Some(prefix),
             None => default_of(handle),
+        }
+    }
+
+    /// What a tag stands for (section 6.9.1): a verbatim tag for what is written between its brackets, `!` for itself, and
+    /// a shorthand for its handle's prefix and its suffix. In the suffix each `%` with two hexadecimal digits is a byte;
+    /// where the bytes are then not UTF-8 the suffix stays as it is written.
+    ///
+    /// `UnknownHandle` at the place, which is the tag's, where the handle is neither declared nor a default.
+    pub fn resolve(&self, alloc: Global, tag: &Tag<'_>, place: Place) -> Result<OwnedText, Fault>
+        ensures text { IfOk result (λ text. TagText self.now (tag_value tag.now) text) }
+        ensures refused { IfErr result (λ fault. (fault ≡ Fault.Memory) ⊎ ((fault ≡ Fault.UnknownHandle place) × UnknownHandleOf self.now (tag_value tag.now))) }
+    {
+        let resolved = match *tag {
+            Tag::Verbatim(text) => joined(alloc, text, ""),
+            Tag::Short { handle, suffix } => match self.prefix(handle) {
+                Some(prefix) => with_suffix(alloc, prefix, suffix),
+                None => return Err(Fault::UnknownHandle { place }),
+            },
+            Tag::NonSpecific => joined(alloc, "!", ""),
+        };
+        match resolved {
+            Ok(text) => Ok(text),
+            Err(AllocError) => Err(Fault::Memory),
         }
     }
 }

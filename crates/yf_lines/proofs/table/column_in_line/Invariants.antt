@@ -9,7 +9,7 @@ invariant-loop-at l = record {
   characters : (x : List ℕ) × Many l.text is_char l.initial.at l.at x × (l.column ≡ length x + 1);
   boundary : IsCharBoundary l.text l.at;
   within : l.at ≤ l.offset;
-  room : l.column ≤ l.at + 1
+  room : l.column ≤ l.at + 1;
 }
 
 abbrev pub decreases-loop-at : goal.decreases-loop-at

@@ -10,5 +10,5 @@ returns-clause-begun c =
     let o = c.args.offset in
     let p : Line → Bool = λ l. leb l.start o in
     begun_from_point ls o c.partition_point.result
-        (IsPartitionPoint-from_clause p ls c.partition_point.result c.partition_point.ensures.partitioned
-            (IsPartitionedBy-leb (λ l. l.start) ls o c.requires) (λ a r q k. search rules))
+    (IsPartitionPoint-from_clause p ls c.partition_point.result c.partition_point.ensures.partitioned
+    (IsPartitionedBy-leb (λ l. l.start) ls o c.requires) (λ a r q k. search rules))

@@ -16,5 +16,5 @@ loop-end-preserved c =
     record {
       marks = (m.0 ++ code c.args.text.now c.loop-end.end ∷ [], marks_more c.args.text.now c.args.at c.loop-end.end m.0 m.1 c.loop-end-test.ensures);
       boundary = mark_boundary c.args.text.now c.loop-end.end c.utf8.text c.loop-end-test.ensures;
-      order = omega (arith, c.loop-end.invariant.order)
+      order = omega (arith, c.loop-end.invariant.order);
     }

@@ -8,7 +8,7 @@ abbrev pub invariant-loop-end : goal.invariant-loop-end
 invariant-loop-end l = record {
   marks : (x : List ℕ) × Many l.text is_mark l.at l.end x;
   boundary : IsCharBoundary l.text l.end;
-  order : l.at ≤ l.end
+  order : l.at ≤ l.end;
 }
 
 abbrev pub decreases-loop-end : goal.decreases-loop-end

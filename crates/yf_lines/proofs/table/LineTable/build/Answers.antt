@@ -11,14 +11,14 @@ pub loop-at-init : goal.loop-at-init
 loop-at-init c = record {
   lines = rw c.new-lines.ensures.items done;
   boundary = IsCharBoundary-start c.args.text.now c.utf8.text;
-  apart = apart_at_start c.args.text.now
+  apart = apart_at_start c.args.text.now;
 }
 
 pub loop-at-preserved : goal.loop-at-preserved
 loop-at-preserved c = record {
   lines = rw c.in_ok-push.ensures.items (chain_more c.loop-at.invariant.lines c.read_line-line.ensures.line);
   boundary = c.read_line-line.ensures.boundary;
-  apart = c.read_line-line.ensures.apart
+  apart = c.read_line-line.ensures.apart;
 }
 
 pub returns-clause-only : goal.returns-clause-only

@@ -1,4 +1,4 @@
-use Rattle.std.proofs.Common.{length, ◌-◌, ◌≤◌}
+use Rattle.std.proofs.Common.{length, ◌-◌}
 use Rattle.std.specs.Str.{IsCharBoundary}
 use Rattle.yf_chars.specs.Chain.{Chain}
 use Rattle.yf_lines.specs.Lines.{OneLine, Apart}
@@ -8,7 +8,7 @@ abbrev pub invariant-loop-at : goal.invariant-loop-at
 invariant-loop-at l = record {
   lines : Chain (OneLine l.text) 0 l.at l.lines.items;
   boundary : IsCharBoundary l.text l.at;
-  apart : Apart l.text l.at
+  apart : Apart l.text l.at;
 }
 
 abbrev pub decreases-loop-at : goal.decreases-loop-at

@@ -15,5 +15,5 @@ returns-clause-within c =
     let e : c.self.inside.text.now ≡ t = ap (λ v. v.text) c.self.view_is in
     let u : IsUtf8 t = subst (λ w. IsUtf8 w) e c.self.invariant.utf8 in
     let test : MatchBool b (IsForbiddenLine t l.start) (IsForbiddenLine t l.start → ⊥) =
-        subst (λ w. MatchBool b (IsForbiddenLine w l.start) (IsForbiddenLine w l.start → ⊥)) e c.is_forbidden_line.ensures in
+    subst (λ w. MatchBool b (IsForbiddenLine w l.start) (IsForbiddenLine w l.start → ⊥)) e c.is_forbidden_line.ensures in
     rw line.item (match_forbidden t l b u line.line line.cut (table_start t ls c.args.i l line.lines line.item) test)

@@ -1,8 +1,7 @@
-use Rattle.std.proofs.Common.{◌≡◌, ◌≢◌, ◌<◌, ◌≤◌, ◌+◌, ◌-◌, ℕ, List, Some, length, ap, subst, sym, ◌∙◌, arith}
-use Rattle.std.specs.List.{slice_get}
+use Rattle.std.proofs.Common.{◌≡◌, ◌≢◌, ◌<◌, ◌≤◌, ◌+◌, ◌-◌, length, ap, subst, sym, ◌∙◌, arith}
 use Rattle.std.specs.List.Sorted.{IsNonDecreasingBy}
 use Rattle.yf_lines.specs.declared.line.Line.{Line}
-use Rattle.yf_lines.specs.Lines.{AreLines, PlaceOf, Begun, ColumnOf}
+use Rattle.yf_lines.specs.Lines.{PlaceOf, Begun, ColumnOf}
 use Rattle.yf_lines.proofs.PlaceLemmas.{place_in_empty, place_held, place_behind, place_unique}
 use Rattle.yf_lines.proofs.TableLemmas.{starts_ascend}
 use Rattle.yf_lines.proofs.table.LineTable.place.Goals as goal
@@ -11,7 +10,7 @@ use Rattle.yf_lines.proofs.table.LineTable.place.Goals.{then-line+else-offset-li
 pub lines_begun-begun-requires : goal.lines_begun-begun-requires
 lines_begun-begun-requires c =
     subst (λ ls. IsNonDecreasingBy (λ (l : Line). l.start) ls) (sym c.as_slice.ensures.value)
-        (starts_ascend c.self.inside.text.now c.self.inside.lines.items c.self.invariant.lines)
+    (starts_ascend c.self.inside.text.now c.self.inside.lines.items c.self.invariant.lines)
 
 pub returns-then-begun-eq0-clause-place : goal.returns-then-begun-eq0-clause-place
 returns-then-begun-eq0-clause-place c =
@@ -32,7 +31,7 @@ returns-then-offset-line-clause-place c =
     let b : Begun v.lines o k = subst (λ w. Begun w o k) same c.lines_begun-begun.ensures.begun in
     let begun : Begun v.lines o ((k - 1) + 1) = subst (λ w. Begun v.lines o w) (sym e) b in
     subst (λ w. PlaceOf v.text o (w + 1) 1) e
-        (place_behind v.text v.lines o (k - 1) c.line-line.result c.line-line.ensures.lines c.line-line.ensures.item begun c.requires.0 c.if-line.true c.if-offset-line.true)
+    (place_behind v.text v.lines o (k - 1) c.line-line.result c.line-line.ensures.lines c.line-line.ensures.item begun c.requires.0 c.if-line.true c.if-offset-line.true)
 
 pub returns-clause-place : goal.returns-clause-place
 returns-clause-place c =
@@ -45,14 +44,14 @@ returns-clause-place c =
     let b : Begun v.lines o k = subst (λ w. Begun w o k) same c.lines_begun-begun.ensures.begun in
     let begun : Begun v.lines o ((k - 1) + 1) = subst (λ w. Begun v.lines o w) (sym e) b in
     let not_behind : l.end < l.next → o ≢ l.next =
-        elim c.if-line.branch [
-          | then-line+else-offset-line w ↦ λ _ q. w.if-offset-line.false q
-          | else-line w ↦ λ h q. let n = w.if-line.false in absurd (omega (arith, n))
-        ] in
+    elim c.if-line.branch [
+      | then-line+else-offset-line w ↦ λ _ q. w.if-offset-line.false q
+      | else-line w ↦ λ h q. let n = w.if-line.false in absurd (omega (arith, n))
+    ] in
     let column : ColumnOf v.text l.start o c.column_in_line.result =
-        subst (λ w. ColumnOf w l.start o c.column_in_line.result) (ap (λ w. w.text) c.self.view_is) c.column_in_line.ensures in
+    subst (λ w. ColumnOf w l.start o c.column_in_line.result) (ap (λ w. w.text) c.self.view_is) c.column_in_line.ensures in
     subst (λ w. PlaceOf v.text o w c.column_in_line.result) e
-        (place_held v.text v.lines o (k - 1) l c.line-line.ensures.lines c.line-line.ensures.item begun c.requires.0 c.column_in_line.result not_behind column)
+    (place_held v.text v.lines o (k - 1) l c.line-line.ensures.lines c.line-line.ensures.item begun c.requires.0 c.column_in_line.result not_behind column)
 
 pub returns-then-begun-eq0-clause-only : goal.returns-then-begun-eq0-clause-only
 returns-then-begun-eq0-clause-only c = λ line column p. place_unique p (returns-then-begun-eq0-clause-place c)
