@@ -1,5 +1,5 @@
 //! A list of comments.
-ghost use Rattle.std.specs.Prelude.{◌≡◌, [], ◌∷◌, ◌++◌, length, map, take, is_ok, if◌then◌else◌};
+ghost use Rattle.std.specs.Prelude.{◌≡◌, ◌<◌, [], ◌∷◌, ◌++◌, length, map, slice_get, take, is_ok, if◌then◌else◌};
 ghost use Rattle.yf_comments.specs.Comment.{CommentValue, comment_value};
 
 use crate::comment::Comment;
@@ -56,6 +56,22 @@ impl<'a> Comments<'a> {
         ensures { result ≡ length self.now }
     {
         self.list.len()
+    }
+
+    /// The comment at an index.
+    pub fn at(&self, i: usize) -> &Comment<'a>
+        requires { i < length self.now }
+        ensures { slice_get self.now i ≡ Some (comment_value result.now) }
+    {
+        &self.list[i]
+    }
+
+    /// Moves all comments of another list to the end; where memory is refused, the list is as it was.
+    pub fn append(&mut self, mut other: Comments<'a>) -> Result<(), AllocError>
+        ensures { self.new ≡ (if is_ok result then self.old ++ other.entry else self.old) }
+    {
+        self.list.append(&mut other.list)?;
+        Ok(())
     }
 
     pub fn as_slice(&self) -> &[Comment<'a>]

@@ -18,7 +18,7 @@ pub flat_next : {X B : Type 0} (h : X → List B) (m n t : List B) (xs : List X)
 flat_next h m n t xs i d within is more =
     let cut : drop i xs ≡ get_or xs i d ∷ drop (i + 1) xs = rw add-one (drop-cons xs i d within) in
     ap (λ w. w ++ flat_map h (drop (i + 1) xs)) more ∙ append_assoc m (h (get_or xs i d)) (flat_map h (drop (i + 1) xs))
-        ∙ ap (λ w. m ++ w) (sym (ap (flat_map h) cut)) ∙ is
+    ∙ ap (λ w. m ++ w) (sym (ap (flat_map h) cut)) ∙ is
 
 pub flat_over : {X B : Type 0} (h : X → List B) (m t : List B) (xs : List X) (i : ℕ) → length xs ≤ i → m ++ flat_map h (drop i xs) ≡ t → m ≡ t
 flat_over h m t xs i past is = sym (append-nil m) ∙ ap (λ w. m ++ flat_map h w) (sym (drop_all i xs past)) ∙ is
@@ -28,7 +28,7 @@ pub map_next : {X B : Type 0} (h : X → B) (m n t : List B) (xs : List X) (i : 
 map_next h m n t xs i d within is more =
     let cut : drop i xs ≡ get_or xs i d ∷ drop (i + 1) xs = rw add-one (drop-cons xs i d within) in
     ap (λ w. w ++ map h (drop (i + 1) xs)) more ∙ append_assoc m (h (get_or xs i d) ∷ []) (map h (drop (i + 1) xs))
-        ∙ ap (λ w. m ++ w) (sym (ap (map h) cut)) ∙ is
+    ∙ ap (λ w. m ++ w) (sym (ap (map h) cut)) ∙ is
 
 pub map_over : {X B : Type 0} (h : X → B) (m t : List B) (xs : List X) (i : ℕ) → length xs ≤ i → m ++ map h (drop i xs) ≡ t → m ≡ t
 map_over h m t xs i past is = sym (append-nil m) ∙ ap (λ w. m ++ map h w) (sym (drop_all i xs past)) ∙ is
@@ -62,11 +62,11 @@ pub event_added : (r : Lists) (i : ℕ) (e : EventValue) (tag : Option (List ℕ
     → x ≡ items_of_event e tag → n ≡ m ++ x → m ++ nodes_from r i ≡ t → n ++ nodes_from r (i + 1) ≡ t
 event_added r i e tag x m n t p q one more is =
     ap (λ w. w ++ nodes_from r (i + 1)) more ∙ append_assoc m x (nodes_from r (i + 1))
-        ∙ ap (λ w. m ++ w) (sym (nodes_next r i e tag p q ∙ ap (λ w. w ++ nodes_from r (i + 1)) (sym one))) ∙ is
+    ∙ ap (λ w. m ++ w) (sym (nodes_next r i e tag p q ∙ ap (λ w. w ++ nodes_from r (i + 1)) (sym one))) ∙ is
 
 -- a directive's beginning, and then its words
 pub directive_begins : (d : Directive) (words : List (Bor (List ℕ))) (m n : List BeforeValue) → map (λ word. word.now) words ≡ d.words
     → n ≡ m ++ (a_directive ∷ []) → n ++ map (λ word. a_word word.now) words ≡ m ++ items_of_directive d
 directive_begins d words m n e more =
     ap (λ w. w ++ map (λ word. a_word word.now) words) more ∙ append_assoc m (a_directive ∷ []) (map (λ word. a_word word.now) words)
-        ∙ ap (λ w. m ++ (a_directive ∷ w)) (sym (map-map (λ w. a_word w) (λ word. word.now) words) ∙ ap (map (λ w. a_word w)) e)
+    ∙ ap (λ w. m ++ (a_directive ∷ w)) (sym (map-map (λ w. a_word w) (λ word. word.now) words) ∙ ap (map (λ w. a_word w)) e)

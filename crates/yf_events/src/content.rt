@@ -80,7 +80,10 @@ fn scalar_kind<'r>(tag: Option<&'r str>, style: ScalarStyle, text: &str) -> Kind
                 }
                 Kind::Untagged
             }
-            ScalarStyle::Single | ScalarStyle::Double | ScalarStyle::Literal | ScalarStyle::Folded => Kind::Untagged,
+            ScalarStyle::Single
+            | ScalarStyle::Double
+            | ScalarStyle::Literal
+            | ScalarStyle::Folded => Kind::Untagged,
         },
     }
 }
@@ -114,7 +117,10 @@ fn item<'r>(event: &'r Event<'r>, tag: Option<&'r str>) -> Option<ContentItem<'r
     }
 }
 
-fn add_item<'r>(items: &mut Vec<ContentItem<'r>>, added: Option<ContentItem<'r>>) -> Result<(), AllocError>
+fn add_item<'r>(
+    items: &mut Vec<ContentItem<'r>>,
+    added: Option<ContentItem<'r>>,
+) -> Result<(), AllocError>
     ensures { IfOk result (λ _. map item_value items.new.items ≡ map item_value items.old.items ++ items_listed added.entry) }
 {
     match added {
@@ -136,7 +142,10 @@ fn nodes<'r>(alloc: Global, reading: &'r Reading<'r>) -> Result<Vec<ContentItem<
     Ok(items)
 }
 
-fn add_directive<'r>(items: &mut Vec<DirectiveItem<'r>>, directive: &'r Directive<'r>) -> Result<(), AllocError>
+fn add_directive<'r>(
+    items: &mut Vec<DirectiveItem<'r>>,
+    directive: &'r Directive<'r>,
+) -> Result<(), AllocError>
     ensures { IfOk result (λ _. map before_value items.new.items ≡ map before_value items.old.items ++ items_of_directive directive.now) }
 {
     items.push(DirectiveItem::Directive)?;
@@ -146,7 +155,10 @@ fn add_directive<'r>(items: &mut Vec<DirectiveItem<'r>>, directive: &'r Directiv
     Ok(())
 }
 
-fn add_document<'r>(items: &mut Vec<DirectiveItem<'r>>, document: &'r Doc<'r>) -> Result<(), AllocError>
+fn add_document<'r>(
+    items: &mut Vec<DirectiveItem<'r>>,
+    document: &'r Doc<'r>,
+) -> Result<(), AllocError>
     ensures { IfOk result (λ _. map before_value items.new.items ≡ map before_value items.old.items ++ items_of_document document.now) }
 {
     items.push(DirectiveItem::Document)?;
@@ -156,7 +168,10 @@ fn add_document<'r>(items: &mut Vec<DirectiveItem<'r>>, document: &'r Doc<'r>) -
     Ok(())
 }
 
-fn directives<'r>(alloc: Global, documents: &'r [Doc<'r>]) -> Result<Vec<DirectiveItem<'r>>, AllocError>
+fn directives<'r>(
+    alloc: Global,
+    documents: &'r [Doc<'r>],
+) -> Result<Vec<DirectiveItem<'r>>, AllocError>
     ensures { IfOk result (λ items. map before_value items.items ≡ flat_map items_of_document documents.now) }
 {
     let mut items = Vec::new(alloc);

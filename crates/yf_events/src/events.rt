@@ -4,7 +4,7 @@ ghost use Rattle.std.specs.Prelude.{◌≡◌, ◌<◌, ◌≤◌, [], ◌∷◌
 use crate::event::{Entry, PlacedEvent, Span};
 use std::alloc::{AllocError, Global};
 use std::marker::Model;
-use yf_comments::comment::Comment;
+pub use yf_comments::comments::Comments;
 
 /// Events in order. In a contract it is the list of what they are.
 #[derive(Debug, Drop)]
@@ -101,69 +101,6 @@ impl<'a> Events<'a> {
 
     pub fn as_slice(&self) -> &[PlacedEvent<'a>]
         ensures { map placed_value result.now ≡ self.now }
-    {
-        self.list.as_slice()
-    }
-}
-
-/// Comments in order. In a contract it is the list of what they are.
-#[derive(Debug, Drop)]
-pub struct Comments<'a> {
-    list: Vec<Comment<'a>>,
-}
-
-impl<'a> Model for Comments<'a> {
-    ghost use Rattle.std.specs.Prelude.{List, map};
-    ghost use Rattle.yf_comments.specs.Comment.{CommentValue, comment_value};
-
-    ghost Value = { List CommentValue };
-
-    ghost view = { λ c. map comment_value c.list.items };
-}
-
-impl<'a> Comments<'a> {
-    ghost use Rattle.yf_comments.specs.Comment.{comment_value};
-
-    pub fn new(alloc: Global) -> Comments<'a>
-        ensures { result ≡ [] }
-    {
-        Comments {
-            list: Vec::new(alloc),
-        }
-    }
-
-    /// Adds a comment at the end.
-    pub fn push(&mut self, comment: Comment<'a>) -> Result<(), AllocError>
-        ensures { self.new ≡ (if is_ok result then self.old ++ comment_value comment.entry ∷ [] else self.old) }
-    {
-        self.list.push(comment)?;
-        Ok(())
-    }
-
-    pub fn len(&self) -> usize
-        ensures { result ≡ length self.now }
-    {
-        self.list.len()
-    }
-
-    /// The comment at an index.
-    pub fn at(&self, i: usize) -> &Comment<'a>
-        requires { i < length self.now }
-        ensures { slice_get self.now i ≡ Some (comment_value result.now) }
-    {
-        &self.list[i]
-    }
-
-    /// Moves all comments of another list to the end.
-    pub fn append(&mut self, mut other: Comments<'a>) -> Result<(), AllocError>
-        ensures { self.new ≡ (if is_ok result then self.old ++ other.entry else self.old) }
-    {
-        self.list.append(&mut other.list)?;
-        Ok(())
-    }
-
-    pub fn as_slice(&self) -> &[Comment<'a>]
-        ensures { map comment_value result.now ≡ self.now }
     {
         self.list.as_slice()
     }

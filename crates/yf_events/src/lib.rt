@@ -14,6 +14,5 @@ pub mod part;
 pub mod reading;
 pub mod row;
 pub mod slices;
-
 #[cfg(test)]
 mod tests;

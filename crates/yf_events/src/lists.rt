@@ -46,7 +46,11 @@ impl<'a> Lists<'a> {
 
     /// Adds an event at the end, with the resolved tag of the node that it begins. After a refused growth the event
     /// may stand there without its tag.
-    pub fn push_event(&mut self, event: PlacedEvent<'a>, tag: Option<OwnedText>) -> Result<(), AllocError>
+    pub fn push_event(
+        &mut self,
+        event: PlacedEvent<'a>,
+        tag: Option<OwnedText>,
+    ) -> Result<(), AllocError>
         ensures added { IfOk result (λ _. self.new ≡ record self.old { events = self.old.events ++ placed_value event.entry ∷ []; resolved = self.old.resolved ++ tag ∷ [] }) }
         ensures fit { Fits self.old → IfOk result (λ _. Fits self.new) }
     {
@@ -55,7 +59,11 @@ impl<'a> Lists<'a> {
     }
 
     /// Adds a comment at the end, with its note. After a refused growth the comment may stand there without its note.
-    pub fn push_comment(&mut self, comment: Comment<'a>, on_leaf_line: bool) -> Result<(), AllocError>
+    pub fn push_comment(
+        &mut self,
+        comment: Comment<'a>,
+        on_leaf_line: bool,
+    ) -> Result<(), AllocError>
         ensures added { IfOk result (λ _. self.new ≡ record self.old { comments = self.old.comments ++ comment_value comment.entry ∷ []; on_leaf_line = self.old.on_leaf_line ++ on_leaf_line ∷ [] }) }
         ensures fit { Fits self.old → IfOk result (λ _. Fits self.new) }
     {

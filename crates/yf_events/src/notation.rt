@@ -91,19 +91,35 @@ fn part_if<'s>(stands: bool, part: &'s str) -> &'s str
 
 /// Writes the line of an event, with the resolved tag of the node that it begins.
 #[tactic(auto, unfolding(crate::specs::Notation::event_line))]
-fn write_event<'x, W: Sink>(writer: &mut W, event: &'x Event<'x>, tag: Option<&'x str>) -> Result<(), Fault>
+fn write_event<'x, W: Sink>(
+    writer: &mut W,
+    event: &'x Event<'x>,
+    tag: Option<&'x str>,
+) -> Result<(), Fault>
     ensures { Writes (W.contents writer.old) (W.contents writer.new) (W.has_failed writer.old) (W.has_failed writer.new) (Notation.event_line (event_value event.now) (name_value tag.entry)) result }
 {
     match event {
         Event::StreamStart => write_text(writer, b"+STR\n"),
         Event::StreamEnd => write_text(writer, b"-STR\n"),
-        Event::DocStart { explicit } => write_texts(writer, &["+DOC", part_if(*explicit, " ---"), "\n"]),
-        Event::DocEnd { explicit } => write_texts(writer, &["-DOC", part_if(*explicit, " ..."), "\n"]),
+        Event::DocStart { explicit } => write_texts(
+            writer,
+            &["+DOC", part_if(*explicit, " ---"), "\n"],
+        ),
+        Event::DocEnd { explicit } => write_texts(
+            writer,
+            &["-DOC", part_if(*explicit, " ..."), "\n"],
+        ),
         Event::SeqStart { flow, props } => {
             let brackets = part_if(*flow, " []");
             write_pieces(
                 writer,
-                &[Piece::Plain("+SEQ"), Piece::Plain(brackets), Piece::Anchor(props.anchor), Piece::Tag(tag), Piece::Plain("\n")],
+                &[
+                    Piece::Plain("+SEQ"),
+                    Piece::Plain(brackets),
+                    Piece::Anchor(props.anchor),
+                    Piece::Tag(tag),
+                    Piece::Plain("\n"),
+                ],
             )
         }
         Event::SeqEnd => write_text(writer, b"-SEQ\n"),
@@ -111,7 +127,13 @@ fn write_event<'x, W: Sink>(writer: &mut W, event: &'x Event<'x>, tag: Option<&'
             let brackets = part_if(*flow, " {}");
             write_pieces(
                 writer,
-                &[Piece::Plain("+MAP"), Piece::Plain(brackets), Piece::Anchor(props.anchor), Piece::Tag(tag), Piece::Plain("\n")],
+                &[
+                    Piece::Plain("+MAP"),
+                    Piece::Plain(brackets),
+                    Piece::Anchor(props.anchor),
+                    Piece::Tag(tag),
+                    Piece::Plain("\n"),
+                ],
             )
         }
         Event::MapEnd => write_text(writer, b"-MAP\n"),

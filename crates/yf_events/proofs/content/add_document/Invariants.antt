@@ -6,4 +6,4 @@ use Rattle.yf_events.proofs.content.add_document.Given as goal
 abbrev pub invariant-loop-directive : goal.invariant-loop-directive
 invariant-loop-directive l =
     map before_value l.items.items ++ flat_map items_of_directive (drop l.directive-index l.directive-items)
-        ≡ map before_value l.fn.items.items ++ items_of_document l.document
+    ≡ map before_value l.fn.items.items ++ items_of_document l.document
