@@ -21,20 +21,5 @@ frames_pushed {t} m k fs gs f e l a i =
     let whole = All-append (Indexed t k) fs (f ∷ []) (frames_more m k fs l a) (All-cons (Indexed t k) f [] i (All-nil (Indexed t k))) in
     subst (λ xs. All (Indexed t k) xs) (sym e) whole
 
--- a step is ready from any earlier offset
-pub place_since : {t : List ℕ} {at p : ℕ} (from : ℕ) → from ≤ at → Place t at p → Place t from p
-place_since from l p = record { boundary = p.boundary; order = omega (arith, p.order) }
-
-pub step_since : (t : List ℕ) (at from m : ℕ) (top : Frame) (s : Step) → from ≤ at → StepReady t at m top s → StepReady t from m top s
-step_since t at from m top (Node p) l r = (place_since from l r.0, r.1)
-step_since t at from m top (Entry p) l r = (place_since from l r.0, r.1)
-step_since t at from m top (Ended node) l r = (place_since from l r.0, r.1)
-step_since t at from m top (Done end) l r = place_since from l r
-step_since t at from m top Failed l r = r
-step_since t at from m top (TooDeep p) l r = r
-
-pub ready_since : {t : List ℕ} {at : ℕ} (from m : ℕ) (fs : List Frame) (s : State) → from ≤ at → Ready t at m fs s → Ready t from m fs s
-ready_since {t} {at} from m fs s l r = record { below = r.below; step = step_since t at from m s.top s.step l r.step }
-
 pub pushed_longer : {X : Type 0} (xs ys : List X) (x : X) → ys ≡ xs ++ x ∷ [] → length xs < length ys
 pushed_longer {X} xs ys x e = rw e (omega (arith, length-append {A = X}))

@@ -5,7 +5,7 @@ ghost use Rattle.yf_flow.specs.Machine.{Place};
 
 use crate::frame::Scene;
 use std::alloc::{AllocError, Global};
-use yf_comments::comments::{Comments, Separation};
+use yf_comments::comments::Separation;
 use yf_comments::separation::separate;
 use yf_events::part::Part;
 
@@ -14,16 +14,6 @@ use yf_events::part::Part;
 pub(crate) struct Gap {
     pub(crate) end: usize,
     pub(crate) is_separation: bool,
-}
-
-/// Keeps comments behind those of the part.
-pub(crate) fn keep_comments<'a>(comments: &Comments<'a>, part: &mut Part<'a>) -> Result<(), AllocError>
-    ensures { IfOk result (λ _. part.new.events ≡ part.old.events) }
-{
-    'comments: for comment in comments.as_slice() {
-        part.comments.push(*comment)?;
-    }
-    Ok(())
 }
 
 /// Reads the separation at an offset, if there is one (s-separate(n,c), production 80).
@@ -45,7 +35,7 @@ pub(crate) fn read_separation_into<'a>(alloc: Global, scene: Scene<'a>, at: usiz
 {
     match read_separation(alloc, scene, at)? {
         Some(separation) => {
-            keep_comments(&separation.comments, part)?;
+            part.comments.append(separation.comments)?;
             Ok(Some(separation.end))
         }
         None => Ok(None),

@@ -4,8 +4,9 @@ ghost use Rattle.std.specs.Str.{IsCharBoundary};
 ghost use Rattle.yf_flow.specs.Machine.{BegunAt, Place};
 
 use crate::frame::{Frame, Kind, Node, Role, Scene};
-use crate::gap::{keep_comments, read_separation};
-use crate::stand_in::{read_plain, read_props, read_single, scan_double, Properties};
+use crate::gap::read_separation;
+use crate::leaf::{read_plain, read_properties};
+use crate::stand_in::{read_single, scan_double};
 use crate::look::content_begins;
 use std::alloc::{AllocError, Global};
 use yf_chars::text::stands;
@@ -13,7 +14,8 @@ use yf_events::event::{Entry, Event, PlacedEvent, ScalarStyle, Span};
 use yf_events::part::Part;
 use yf_events::slices::Slices;
 use yf_lines::text::Text;
-use yf_props::alias::read_alias;
+use yf_props::alias::alias_node;
+use yf_props::properties::Properties;
 use yf_props::props::Props;
 
 /// What is known of a node before its content: where it begins, its properties, and the entry that it begins.
@@ -95,7 +97,7 @@ pub(crate) fn begin_node<'a>(alloc: Global, scene: Scene<'a>, at: usize, entry: 
     ensures begun { IfOk result (λ b. BegunAt scene.entry.text.now at (length part.old.events) (length part.new.events) b) }
     ensures grows { IfOk result (λ _. length part.old.events ≤ length part.new.events) }
 {
-    match read_alias(scene.text, at) {
+    match alias_node(scene.text, at) {
         Some((name, end)) => {
             let event = Event::Alias { name };
             part.events.push(Lead::bare(at, entry).placed(alloc, event, end))?;
@@ -103,7 +105,7 @@ pub(crate) fn begin_node<'a>(alloc: Global, scene: Scene<'a>, at: usize, entry: 
         }
         None => {}
     }
-    match read_props(alloc, scene.text, at, scene.indentation, scene.context)? {
+    match read_properties(alloc, scene, at)? {
         Some(properties) => propertied_node(alloc, scene, at, properties, entry, depth, part),
         None => {
             let lead = Lead::bare(at, entry);
@@ -123,16 +125,16 @@ fn propertied_node<'a>(alloc: Global, scene: Scene<'a>, at: usize, properties: P
     ensures grows { IfOk result (λ _. length part.old.events ≤ length part.new.events) }
 {
     let lead = Lead { start: at, props: properties.props, tag_offset: properties.tag_offset, entry };
-    keep_comments(&properties.comments, part)?;
+    part.comments.append(properties.comments)?;
     match read_separation(alloc, scene, properties.end)? {
         Some(separation) => {
             if content_begins(scene.text, separation.end) {
-                keep_comments(&separation.comments, part)?;
+                part.comments.append(separation.comments)?;
                 return json_content(alloc, scene, separation.end, lead, depth, part);
             }
-            match read_plain(alloc, scene.text, separation.end, scene.indentation, scene.context)? {
+            match read_plain(alloc, scene, separation.end)? {
                 Some(plain) => {
-                    keep_comments(&separation.comments, part)?;
+                    part.comments.append(separation.comments)?;
                     push_scalar(alloc, lead, ScalarStyle::Plain, plain.text, plain.end, part)?;
                     return Ok(Begun::Leaf(Node { end: plain.end, json: false, deepest: depth }));
                 }
@@ -158,7 +160,7 @@ fn plain_node<'a>(alloc: Global, scene: Scene<'a>, at: usize, lead: Lead<'a>, de
     ensures begun { IfOk result (λ b. BegunAt scene.entry.text.now at (length part.old.events) (length part.new.events) b) }
     ensures grows { IfOk result (λ _. length part.old.events ≤ length part.new.events) }
 {
-    match read_plain(alloc, scene.text, at, scene.indentation, scene.context)? {
+    match read_plain(alloc, scene, at)? {
         Some(plain) => {
             push_scalar(alloc, lead, ScalarStyle::Plain, plain.text, plain.end, part)?;
             Ok(Begun::Leaf(Node { end: plain.end, json: false, deepest: depth }))

@@ -5,8 +5,7 @@ ghost use Rattle.yf_flow.specs.Machine.{Awaiting, EndingAt, OutcomeAt};
 
 use crate::entries::{finish_node, start_entry, take_node, Below};
 use crate::frame::{Frame, Scene, State, Step};
-use crate::gap::keep_comments;
-use crate::stand_in::read_props;
+use crate::leaf::read_properties;
 use crate::node::{begin_node, push_scalar, Begun, Lead};
 use smallvec::SmallVec;
 use std::alloc::{AllocError, Global};
@@ -103,11 +102,11 @@ fn properties_alone<'a>(alloc: Global, scene: Scene<'a>, at: usize, otherwise: O
     requires otherwise { OutcomeAt scene.text.now at otherwise }
     ensures { IfOk result (λ o. OutcomeAt scene.entry.text.now at o) }
 {
-    match read_props(alloc, scene.text, at, scene.indentation, scene.context)? {
+    match read_properties(alloc, scene, at)? {
         None => Ok(otherwise),
         Some(properties) => {
             let mut part = new_part(alloc);
-            keep_comments(&properties.comments, &mut part)?;
+            part.comments.append(properties.comments)?;
             let lead = Lead { start: at, props: properties.props, tag_offset: properties.tag_offset, entry: None };
             push_scalar(alloc, lead, ScalarStyle::Plain, Text::Part(""), properties.end, &mut part)?;
             Ok(Outcome::Found { part, end: properties.end })

@@ -5,38 +5,8 @@ ghost use Rattle.yf_flow.specs.Machine.{Place};
 
 use std::alloc::{AllocError, Global};
 use yf_chars::context::Ctx;
-use yf_comments::comments::Comments;
 use yf_events::part::Part;
-use yf_lines::text::Text;
-use yf_props::props::Props;
-
-#[derive(Drop)]
-pub(crate) struct Scalar<'a> {
-    pub(crate) text: Text<'a>,
-    pub(crate) end: usize,
-}
-
-#[derive(Drop)]
-pub(crate) struct Properties<'a> {
-    pub(crate) props: Props<'a>,
-    pub(crate) tag_offset: Option<usize>,
-    pub(crate) comments: Comments<'a>,
-    pub(crate) end: usize,
-}
-
-pub(crate) fn read_props<'a>(_alloc: Global, s: &'a str, at: usize, _n: i32, _ctx: Ctx) -> Result<Option<Properties<'a>>, AllocError>
-    requires { IsCharBoundary s.now at }
-    ensures { IfOk result (λ o. IfSome o (λ p. Place s.now (at + 1) p.end)) }
-{
-    Ok(None)
-}
-
-pub(crate) fn read_plain<'a>(_alloc: Global, s: &'a str, at: usize, _n: i32, _ctx: Ctx) -> Result<Option<Scalar<'a>>, AllocError>
-    requires { IsCharBoundary s.now at }
-    ensures { IfOk result (λ o. IfSome o (λ p. Place s.now (at + 1) p.end)) }
-{
-    Ok(None)
-}
+use crate::leaf::Scalar;
 
 pub(crate) fn read_single<'a>(_alloc: Global, s: &'a str, at: usize, _n: i32, _ctx: Ctx) -> Result<Option<Scalar<'a>>, AllocError>
     requires { IsCharBoundary s.now at }

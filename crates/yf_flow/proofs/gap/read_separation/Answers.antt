@@ -1,4 +1,4 @@
-use Rattle.yf_flow.proofs.Forward.{separate_forward}
+use Rattle.yf_props.proofs.SeparationEnds.{separate_forward}
 use Rattle.yf_flow.proofs.gap.read_separation.Goals as goal
 
 pub returns-in-Some : goal.returns-in-Some
