@@ -288,3 +288,28 @@ fn is_by_four(c: char) -> bool
         '\u{2028}' | '\u{2029}' | '\u{FEFF}' | '\u{FFFE}' | '\u{FFFF}'
     )
 }
+
+#[cfg(test)]
+mod tests {
+    use super::*;
+    use std::test::Fail;
+
+    #[test]
+    fn spells_characters(rt: HostRuntime) -> Result<(), Fail> {
+        let mut out = String::new(rt.alloc());
+        for c in ['\u{7}', '\u{2028}', '"', 'e'] {
+            assert!(rt; push_escaped(&mut out, c).is_ok());
+        }
+        assert_eq!(rt; out.as_str(), "\\x07\\u2028\\\"e");
+        Ok(())
+    }
+
+    #[test]
+    fn reads_escapes(rt: HostRuntime) -> Result<(), Fail> {
+        assert_eq!(rt; read_escape("\\ud83d\\ude00", 0), Some(Escape { value: 0x1F600, end: 12 }));
+        assert_eq!(rt; read_escape("\\ud83d", 0), Some(Escape { value: 0xD83D, end: 6 }));
+        assert_eq!(rt; read_escape("\\/", 0), Some(Escape { value: 0x2F, end: 2 }));
+        assert_eq!(rt; read_escape("\\x4", 0), None);
+        Ok(())
+    }
+}

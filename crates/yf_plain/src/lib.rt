@@ -4,3 +4,6 @@
 pub mod plain;
 
 pub use yf_lines::steady::is_steady;
+
+#[cfg(test)]
+mod tests;

@@ -1,13 +1,17 @@
 //! What stands between two characters of a quoted scalar: whites, or a line break. Offsets count bytes.
-ghost use Rattle.std.specs.Prelude.{◌≡◌, ◌<◌, ◌≤◌, ◌++◌, ℕ, Bool, true, false, List, IfSome, OnOk, MatchOption, length};
+ghost use Rattle.std.specs.Prelude.{◌≡◌, ◌<◌, ◌≤◌, ◌++◌, ◌∷◌, [], if◌then◌else◌, ℕ, pos, Bool, true, false, List, Option, IfSome, OnOk, MatchOption, length};
 ghost use Rattle.std.specs.Str.{IsCharBoundary};
+ghost use Rattle.std.specs.String.{string_bytes};
+ghost use Rattle.yf_lines.specs.Fold.{line_feeds};
+ghost use Rattle.yf_quoted.specs.Body.{gap_bytes};
 
 use std::alloc::AllocError;
+use yf_chars::context::Ctx;
 use yf_chars::text::stands;
 use yf_lines::basic::{line_break, skip_whites};
-use yf_lines::fold::{flow_folded, fold_lines};
+use yf_lines::fold::{flow_folded, fold_lines, indent_width};
 
-/// Whites or a line break between two characters: whites up to `blank_end` stay, and a space or line feeds follow them.
+/// Whites or a line break between two characters: the whites up to `blank_end` stay, then come a space or line feeds.
 #[derive(Clone, Copy)]
 pub struct Gap {
     pub blank_end: usize,
@@ -23,10 +27,11 @@ pub fn single_gap(s: &str, at: usize, width: Option<usize>) -> Option<Gap>
     ensures order { IfSome result (λ g. (at ≤ g.blank_end) × (at ≤ g.end)) }
 {
     let place = skip_whites(s, at);
+    let whites = Gap { blank_end: place, space: false, feeds: 0, end: place };
     match width {
-        None => Some(Gap { blank_end: place, space: false, feeds: 0, end: place }),
+        None => Some(whites),
         Some(width) => match line_break(s, place) {
-            None => Some(Gap { blank_end: place, space: false, feeds: 0, end: place }),
+            None => Some(whites),
             Some(_) => match flow_folded(s, at, width) {
                 None => None,
                 Some(fold) => Some(Gap { blank_end: at, space: fold.feeds == 0, feeds: fold.feeds, end: fold.end }),
@@ -41,13 +46,60 @@ pub fn double_gap(s: &str, at: usize, width: Option<usize>) -> Option<Gap>
     ensures boundary { IfSome result (λ g. IsCharBoundary s.now g.blank_end × IsCharBoundary s.now g.end) }
     ensures order { IfSome result (λ g. (at ≤ g.blank_end) × (at ≤ g.end)) }
 {
-    match escaped_break(s, at, width) {
-        None => single_gap(s, at, width),
-        Some(gap) => gap,
+    match width {
+        None => single_gap(s, at, None),
+        Some(lines) => {
+            let place = skip_whites(s, at);
+            if !stands(s, place, b'\\') {
+                return single_gap(s, at, width);
+            }
+            match line_break(s, place + 1) {
+                None => single_gap(s, at, width),
+                Some(next_line) => match fold_lines(s, next_line, lines) {
+                    None => None,
+                    Some(fold) => Some(Gap { blank_end: place, space: false, feeds: fold.feeds, end: fold.end }),
+                },
+            }
+        }
     }
 }
 
-// A break with a backslash before it: `None` where none stands there, `Some(None)` where no line follows it.
-fn escaped_break(s: &str, at: usize, width: Option<usize>) -> Option<Option<Gap>> {
-    None
+/// Appends what a gap behind the offset means.
+pub fn push_gap(text: &mut String, s: &str, at: usize, gap: Gap) -> Result<(), AllocError>
+    requires order { at ≤ gap.blank_end }
+    requires start { IsCharBoundary s.now at }
+    requires end { IsCharBoundary s.now gap.blank_end }
+    ensures { OnOk result (string_bytes text.new ≡ string_bytes text.old ++ gap_bytes s.now at gap.blank_end gap.space gap.feeds) }
+{
+    text.push_str(&s[at..gap.blank_end])?;
+    push_space(text, gap.space)?;
+    push_feeds(text, gap.feeds)
+}
+
+// Appends a space, or nothing.
+fn push_space(text: &mut String, space: bool) -> Result<(), AllocError>
+    ensures { OnOk result (string_bytes text.new ≡ string_bytes text.old ++ (if space then 32 ∷ [] else [])) }
+{
+    if space {
+        return text.push(' ');
+    }
+    Ok(())
+}
+
+// Appends so many line feeds.
+fn push_feeds(text: &mut String, feeds: usize) -> Result<(), AllocError>
+    ensures { OnOk result (string_bytes text.new ≡ string_bytes text.old ++ line_feeds feeds) }
+{
+    'feeds: for _ in 0..feeds {
+        text.push('\n')?;
+    }
+    Ok(())
+}
+
+/// The indentation of the lines of a quoted scalar, where it may have several: no key has.
+pub fn lines_width(n: i32, ctx: Ctx) -> Option<usize> {
+    match ctx {
+        Ctx::FlowOut | Ctx::FlowIn => indent_width(n),
+        _ => None,
+    }
 }

@@ -2,5 +2,8 @@
 #![tactic(auto)]
 
 pub mod double;
-mod gap;
+pub mod gap;
 pub mod single;
+
+#[cfg(test)]
+mod tests;

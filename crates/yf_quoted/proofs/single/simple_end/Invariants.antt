@@ -1,0 +1,9 @@
+use Rattle.std.proofs.Common.{◌-◌, ◌≤◌, length}
+use Rattle.std.specs.Str.{IsCharBoundary}
+use Rattle.yf_quoted.proofs.single.simple_end.Given as goal
+
+abbrev pub invariant-chars : goal.invariant-chars
+invariant-chars l = record { boundary : IsCharBoundary l.s l.end; order : l.at ≤ l.end }
+
+abbrev pub decreases-chars : goal.decreases-chars
+decreases-chars l = length l.s - l.end

@@ -1,0 +1,14 @@
+use Rattle.std.proofs.Common.{◌-◌, ◌≤◌, ◌≡◌, List, ℕ, length, take, IfSome}
+use Rattle.std.specs.Str.{IsCharBoundary, IsUtf8}
+use Rattle.std.specs.String.{string_bytes}
+use Rattle.yf_quoted.proofs.MarkLemmas.{Marked}
+use Rattle.yf_quoted.proofs.single.single_body.Given as goal
+
+abbrev pub invariant-chars : goal.invariant-chars
+invariant-chars l = record {
+  boundary : IsCharBoundary l.s l.end;
+  mark : IfSome l.mark (Marked l.s (string_bytes l.text));
+}
+
+abbrev pub decreases-chars : goal.decreases-chars
+decreases-chars l = length l.s - l.end

@@ -1,0 +1,195 @@
+//! The reader of double-quoted scalars. Offsets count bytes.
+ghost use Rattle.std.specs.Prelude.{◌≡◌, ◌<◌, ◌≤◌, ◌++◌, ◌+◌, ℕ, Bool, true, false, List, IfSome, IfOk, IfErr, MatchOption, length};
+ghost use Rattle.std.specs.Str.{IsCharBoundary};
+ghost use Rattle.yf_chars.specs.Text.{Reads};
+
+use crate::gap::{double_gap, lines_width, push_gap};
+use std::alloc::{AllocError, Global};
+use yf_chars::classes::is_nb_json;
+use yf_chars::context::Ctx;
+use yf_chars::escapes::read_escape;
+use yf_chars::text::{peek, stands};
+use yf_lines::basic::is_forbidden_at;
+use yf_lines::fault::Fault;
+use yf_lines::place::Place;
+use yf_lines::source_text::Src;
+use yf_lines::text::{OwnedText, Text};
+
+/// Reads a double-quoted scalar (c-double-quoted(n,c), production 109) that begins at the byte offset: its text, and the
+/// offset behind it, or `None` where no such scalar stands there. `n` is the indentation, from -1.
+///
+/// The text is a slice of the source where the scalar stands on one line without an escape.
+///
+/// # Errors
+///
+/// `Fault::EscapeValue` at the first escape whose number is no character; `Fault::Memory`.
+pub fn read_double<'a>(alloc: Global, src: &Src<'a>, at: usize, n: i32, ctx: Ctx) -> Result<Option<(Text<'a>, usize)>, Fault>
+    requires { IsCharBoundary src.now.text at }
+    ensures boundary { IfOk result (λ o. IfSome o (λ p. IsCharBoundary src.now.text p.1)) }
+{
+    match double_in(alloc, src.text(), at, n, ctx) {
+        Ok(None) => Ok(None),
+        Ok(Some(read)) => match read.bad {
+            None => Ok(Some((read.text, read.end))),
+            Some(bad) => Err(Fault::EscapeValue { place: src.place(bad) }),
+        },
+        Err(_) => Err(Fault::Memory),
+    }
+}
+
+/// Reads a double-quoted scalar as `read_double` does, but goes on past an escape whose number is no character, with
+/// U+FFFD in its place: the text, the place of the first such escape, and the offset behind the scalar.
+///
+/// # Errors
+///
+/// `Fault::Memory` alone.
+pub fn scan_double<'a>(alloc: Global, src: &Src<'a>, at: usize, n: i32, ctx: Ctx) -> Result<Option<(Text<'a>, Option<Place>, usize)>, Fault>
+    requires { IsCharBoundary src.now.text at }
+    ensures boundary { IfOk result (λ o. IfSome o (λ p. IsCharBoundary src.now.text p.2)) }
+    ensures refused { IfErr result (λ e. e ≡ Fault.Memory) }
+{
+    match double_in(alloc, src.text(), at, n, ctx) {
+        Ok(None) => Ok(None),
+        Ok(Some(read)) => {
+            let place = match read.bad {
+                None => None,
+                Some(bad) => Some(src.place(bad)),
+            };
+            Ok(Some((read.text, place, read.end)))
+        }
+        Err(_) => Err(Fault::Memory),
+    }
+}
+
+// A double-quoted scalar: its text with U+FFFD for each bad escape, the offset of the first of them, and the offset behind
+// the scalar.
+#[derive(Drop)]
+struct Double<'a> {
+    text: Text<'a>,
+    bad: Option<usize>,
+    end: usize,
+}
+
+// The same in a text without its lines.
+fn double_in<'a>(alloc: Global, s: &'a str, at: usize, n: i32, ctx: Ctx) -> Result<Option<Double<'a>>, AllocError>
+    requires { IsCharBoundary s.now at }
+    ensures boundary { IfOk result (λ o. IfSome o (λ p. IsCharBoundary s.now p.end)) }
+    ensures place { IfOk result (λ o. IfSome o (λ p. IfSome p.bad (λ b. IsCharBoundary s.now b))) }
+{
+    if matches!(ctx, Ctx::BlockOut | Ctx::BlockIn) {
+        return Ok(None);
+    }
+    if !stands(s, at, b'"') {
+        return Ok(None);
+    }
+    match simple_end(s, at + 1) {
+        Some(close) => Ok(Some(Double { text: Text::Part(&s[at + 1..close]), bad: None, end: close + 1 })),
+        None => double_body(alloc, s, at + 1, lines_width(n, ctx)),
+    }
+}
+
+// The place of the closing quote, where only characters that stand for themselves stand before it.
+fn simple_end(s: &str, at: usize) -> Option<usize>
+    requires { IsCharBoundary s.now at }
+    ensures boundary { IfSome result (λ j. IsCharBoundary s.now j) }
+    ensures order { IfSome result (λ j. at ≤ j) }
+    ensures close { IfSome result (λ j. Reads s.now j 34 (j + 1)) }
+{
+    let mut end = at;
+    'chars: loop {
+        if stands(s, end, b'"') {
+            return Some(end);
+        }
+        match simple_char(s, end) {
+            None => return None,
+            Some(next) => end = next,
+        }
+    }
+}
+
+// The offset behind a character that stands for itself.
+fn simple_char(s: &str, at: usize) -> Option<usize>
+    requires { IsCharBoundary s.now at }
+    ensures boundary { IfSome result (λ j. IsCharBoundary s.now j) }
+    ensures order { IfSome result (λ j. at < j) }
+{
+    match peek(s, at) {
+        None => None,
+        Some((c, end)) => {
+            if !is_nb_json(c) {
+                return None;
+            }
+            if c == '"' {
+                return None;
+            }
+            if c == '\\' {
+                return None;
+            }
+            if is_forbidden_at(s, at) {
+                return None;
+            }
+            Some(end)
+        }
+    }
+}
+
+// One character, or the escape of one that is none.
+#[derive(Clone, Copy)]
+struct DoubleChar {
+    value: Option<char>,
+    end: usize,
+}
+
+// A character of a double-quoted scalar (nb-double-char, production 107).
+fn double_char(s: &str, at: usize) -> Option<DoubleChar>
+    requires { IsCharBoundary s.now at }
+    ensures boundary { IfSome result (λ c. IsCharBoundary s.now c.end) }
+    ensures order { IfSome result (λ c. at < c.end) }
+{
+    match peek(s, at) {
+        None => None,
+        Some((c, _)) => match simple_char(s, at) {
+            Some(end) => Some(DoubleChar { value: Some(c), end }),
+            None => match read_escape(s, at) {
+                None => None,
+                Some(escape) => Some(DoubleChar { value: char::from_u32(escape.value), end: escape.end }),
+            },
+        },
+    }
+}
+
+// The rest of a double-quoted scalar behind its opening quote.
+fn double_body<'a>(alloc: Global, s: &'a str, at: usize, width: Option<usize>) -> Result<Option<Double<'a>>, AllocError>
+    requires { IsCharBoundary s.now at }
+    ensures boundary { IfOk result (λ o. IfSome o (λ p. IsCharBoundary s.now p.end)) }
+    ensures place { IfOk result (λ o. IfSome o (λ p. IfSome p.bad (λ b. IsCharBoundary s.now b))) }
+{
+    let mut text = String::new(alloc);
+    let mut bad = None;
+    let mut end = at;
+    'chars: loop {
+        let gap = match double_gap(s, end, width) {
+            None => return Ok(None),
+            Some(gap) => gap,
+        };
+        push_gap(&mut text, s, end, gap)?;
+        if stands(s, gap.end, b'"') {
+            return Ok(Some(Double { text: Text::Owned(OwnedText::new(text)), bad, end: gap.end + 1 }));
+        }
+        match double_char(s, gap.end) {
+            None => return Ok(None),
+            Some(c) => {
+                match c.value {
+                    Some(value) => text.push(value)?,
+                    None => {
+                        text.push('\u{FFFD}')?;
+                        if bad.is_none() {
+                            bad = Some(gap.end);
+                        }
+                    }
+                }
+                end = c.end;
+            }
+        }
+    }
+}

@@ -1,0 +1,180 @@
+//! The reader of single-quoted scalars. Offsets count bytes.
+ghost use Rattle.std.specs.Prelude.{◌≡◌, ◌<◌, ◌≤◌, ◌++◌, ◌+◌, ℕ, Bool, true, false, List, IfSome, IfOk, IfErr, MatchOption, length, take, if◌then◌else◌};
+ghost use Rattle.std.specs.String.{string_bytes};
+ghost use Rattle.std.specs.String.Boundary.{IsSplitPoint};
+ghost use Rattle.yf_lines.specs.Text.{text_bytes};
+ghost use Rattle.std.specs.Str.{IsCharBoundary};
+ghost use Rattle.yf_chars.specs.Text.{Reads};
+
+use crate::gap::{lines_width, push_gap, single_gap};
+use std::alloc::{AllocError, Global};
+use yf_chars::classes::is_nb_json;
+use yf_chars::context::Ctx;
+use yf_chars::text::{peek, stands};
+use yf_lines::basic::is_forbidden_at;
+use yf_lines::fault::Fault;
+use yf_lines::source_text::Src;
+use yf_lines::text::{OwnedText, Text};
+
+/// Reads a single-quoted scalar (c-single-quoted(n,c), production 120) that begins at the byte offset: its text, folded,
+/// and the offset behind it, or `None` where no such scalar stands there. `n` is the indentation, from -1.
+///
+/// Where a closing quote is missing, the first half of the last `''` closes the scalar. The text is a slice of the source
+/// where the scalar stands on one line without `''`.
+///
+/// # Errors
+///
+/// `Fault::Memory` alone.
+pub fn read_single<'a>(alloc: Global, src: &Src<'a>, at: usize, n: i32, ctx: Ctx) -> Result<Option<(Text<'a>, usize)>, Fault>
+    requires { IsCharBoundary src.now.text at }
+    ensures boundary { IfOk result (λ o. IfSome o (λ p. IsCharBoundary src.now.text p.1)) }
+    ensures refused { IfErr result (λ e. e ≡ Fault.Memory) }
+{
+    match single_in(alloc, src.text(), at, n, ctx) {
+        Ok(None) => Ok(None),
+        Ok(Some(read)) => Ok(Some((read.text, read.end))),
+        Err(_) => Err(Fault::Memory),
+    }
+}
+
+// A text that was read, and the offset behind it.
+#[derive(Drop)]
+struct Single<'a> {
+    text: Text<'a>,
+    end: usize,
+}
+
+// The same in a text without its lines.
+fn single_in<'a>(alloc: Global, s: &'a str, at: usize, n: i32, ctx: Ctx) -> Result<Option<Single<'a>>, AllocError>
+    requires { IsCharBoundary s.now at }
+    ensures boundary { IfOk result (λ o. IfSome o (λ p. IsCharBoundary s.now p.end)) }
+{
+    if matches!(ctx, Ctx::BlockOut | Ctx::BlockIn) {
+        return Ok(None);
+    }
+    if !stands(s, at, b'\'') {
+        return Ok(None);
+    }
+    match simple_end(s, at + 1) {
+        Some(close) => Ok(Some(Single { text: Text::Part(&s[at + 1..close]), end: close + 1 })),
+        None => single_body(alloc, s, at + 1, lines_width(n, ctx)),
+    }
+}
+
+// The place of the closing quote, where only characters that stand for themselves stand before it, and no quote behind.
+fn simple_end(s: &str, at: usize) -> Option<usize>
+    requires { IsCharBoundary s.now at }
+    ensures boundary { IfSome result (λ j. IsCharBoundary s.now j) }
+    ensures order { IfSome result (λ j. at ≤ j) }
+    ensures close { IfSome result (λ j. Reads s.now j 39 (j + 1)) }
+{
+    let mut end = at;
+    'chars: loop {
+        if stands(s, end, b'\'') {
+            if stands(s, end + 1, b'\'') {
+                return None;
+            }
+            return Some(end);
+        }
+        match single_char(s, end) {
+            None => return None,
+            Some(next) => end = next.end,
+        }
+    }
+}
+
+// A character, the offset behind it, and whether it is written as two quotes.
+#[derive(Clone, Copy)]
+struct SingleChar {
+    value: char,
+    doubled: bool,
+    end: usize,
+}
+
+// A character of a single-quoted scalar (nb-single-char, production 118).
+fn single_char(s: &str, at: usize) -> Option<SingleChar>
+    requires { IsCharBoundary s.now at }
+    ensures boundary { IfSome result (λ c. IsCharBoundary s.now c.end) }
+    ensures order { IfSome result (λ c. at < c.end) }
+    ensures quote { IfSome result (λ c. c.doubled ≡ true → IsCharBoundary s.now (at + 1)) }
+{
+    match peek(s, at) {
+        None => None,
+        Some((c, end)) => {
+            if c == '\'' {
+                if stands(s, end, b'\'') {
+                    return Some(SingleChar { value: c, doubled: true, end: end + 1 });
+                }
+                return None;
+            }
+            if !is_nb_json(c) {
+                return None;
+            }
+            if is_forbidden_at(s, at) {
+                return None;
+            }
+            Some(SingleChar { value: c, doubled: false, end })
+        }
+    }
+}
+
+// Where the first half of `''` may close the scalar: how many bytes of text stand before it, and the offset behind it.
+#[derive(Clone, Copy)]
+struct Mark {
+    len: usize,
+    end: usize,
+}
+
+// The rest of a single-quoted scalar behind its opening quote.
+fn single_body<'a>(alloc: Global, s: &'a str, at: usize, width: Option<usize>) -> Result<Option<Single<'a>>, AllocError>
+    requires { IsCharBoundary s.now at }
+    ensures boundary { IfOk result (λ o. IfSome o (λ p. IsCharBoundary s.now p.end)) }
+{
+    let mut text = String::new(alloc);
+    let mut mark = None;
+    let mut end = at;
+    'chars: loop {
+        let gap = match single_gap(s, end, width) {
+            None => return Ok(cut(text, mark)),
+            Some(gap) => gap,
+        };
+        push_gap(&mut text, s, end, gap)?;
+        match single_char(s, gap.end) {
+            None => {
+                if stands(s, gap.end, b'\'') {
+                    return Ok(Some(Single { text: Text::Owned(OwnedText::new(text)), end: gap.end + 1 }));
+                }
+                return Ok(cut(text, mark));
+            }
+            Some(c) => {
+                mark = next_mark(mark, c.doubled, text.as_str().len(), gap.end + 1);
+                text.push(c.value)?;
+                end = c.end;
+            }
+        }
+    }
+}
+
+// The mark behind a character.
+fn next_mark(mark: Option<Mark>, doubled: bool, len: usize, end: usize) -> Option<Mark>
+    ensures { result ≡ (if doubled then Some (record { len = len; end = end }) else mark) }
+{
+    if doubled {
+        return Some(Mark { len, end });
+    }
+    mark
+}
+
+// The scalar up to the mark.
+fn cut<'a>(mut text: String, mark: Option<Mark>) -> Option<Single<'a>>
+    requires { IfSome mark (λ m. IsSplitPoint (string_bytes text) m.len) }
+    ensures { MatchOption mark (result ≡ None) (λ m. IfSome result (λ r. (r.end ≡ m.end) × (text_bytes r.text ≡ take m.len (string_bytes text)))) }
+{
+    match mark {
+        None => None,
+        Some(mark) => {
+            text.truncate(mark.len);
+            Some(Single { text: Text::Owned(OwnedText::new(text)), end: mark.end })
+        }
+    }
+}
