@@ -1,5 +1,5 @@
 //! The readers of scalars and properties, as flow nodes take them.
-ghost use Rattle.std.specs.Prelude.{◌+◌, IfOk, IfSome};
+ghost use Rattle.std.specs.Prelude.{◌≡◌, ◌+◌, IfOk, IfSome};
 ghost use Rattle.std.specs.Str.{IsCharBoundary};
 ghost use Rattle.yf_flow.specs.Machine.{Place};
 
@@ -8,6 +8,9 @@ use std::alloc::{AllocError, Global};
 use yf_lines::text::Text;
 use yf_plain::plain::read_plain_in;
 use yf_props::properties::{node_properties, Properties};
+use yf_quoted::double::{double_in, Double};
+use yf_quoted::single::{single_in, Single};
+use yf_events::part::Part;
 
 /// A scalar that was read: its text, and the byte offset behind it.
 #[derive(Drop)]
@@ -36,5 +39,34 @@ pub(crate) fn read_plain<'a>(alloc: Global, scene: Scene<'a>, at: usize) -> Resu
         Ok(Some((text, end))) => Ok(Some(Scalar { text, end })),
         Ok(None) => Ok(None),
         Err(_) => Err(AllocError),
+    }
+}
+
+/// Reads a single-quoted scalar (c-single-quoted(n,c), production 120).
+pub(crate) fn read_single<'a>(alloc: Global, scene: Scene<'a>, at: usize) -> Result<Option<Scalar<'a>>, AllocError>
+    requires { IsCharBoundary scene.text.now at }
+    ensures { IfOk result (λ o. IfSome o (λ p. Place scene.entry.text.now (at + 1) p.end)) }
+{
+    match single_in(alloc, scene.text, at, scene.indentation, scene.context)? {
+        Some(Single { text, end }) => Ok(Some(Scalar { text, end })),
+        None => Ok(None),
+    }
+}
+
+/// Reads a double-quoted scalar (c-double-quoted(n,c), production 109), and keeps the offset of its first escape that is
+/// no character.
+pub(crate) fn scan_double<'a>(alloc: Global, scene: Scene<'a>, at: usize, part: &mut Part<'a>) -> Result<Option<Scalar<'a>>, AllocError>
+    requires { IsCharBoundary scene.text.now at }
+    ensures place { IfOk result (λ o. IfSome o (λ p. Place scene.entry.text.now (at + 1) p.end)) }
+    ensures events { IfOk result (λ _. part.new.events ≡ part.old.events) }
+{
+    match double_in(alloc, scene.text, at, scene.indentation, scene.context)? {
+        Some(Double { text, bad, end }) => {
+            if let Some(escape) = bad {
+                part.escapes.push(escape)?;
+            }
+            Ok(Some(Scalar { text, end }))
+        }
+        None => Ok(None),
     }
 }

@@ -6,7 +6,6 @@ pub(crate) mod entries;
 pub(crate) mod frame;
 pub(crate) mod gap;
 pub(crate) mod leaf;
-pub(crate) mod stand_in;
 pub(crate) mod look;
 pub(crate) mod node;
 pub(crate) mod nodes;

@@ -5,11 +5,11 @@ ghost use Rattle.yf_flow.specs.Machine.{BegunAt, Place};
 
 use crate::frame::{Frame, Kind, Node, Role, Scene};
 use crate::gap::read_separation;
-use crate::leaf::{read_plain, read_properties};
-use crate::stand_in::{read_single, scan_double};
+use crate::leaf::{read_plain, read_properties, read_single, scan_double};
 use crate::look::content_begins;
 use std::alloc::{AllocError, Global};
 use yf_chars::text::stands;
+use yf_comments::comments::Separation;
 use yf_events::event::{Entry, Event, PlacedEvent, ScalarStyle, Span};
 use yf_events::part::Part;
 use yf_events::slices::Slices;
@@ -124,17 +124,18 @@ fn propertied_node<'a>(alloc: Global, scene: Scene<'a>, at: usize, properties: P
     ensures begun { IfOk result (λ b. BegunAt scene.entry.text.now at (length part.old.events) (length part.new.events) b) }
     ensures grows { IfOk result (λ _. length part.old.events ≤ length part.new.events) }
 {
-    let lead = Lead { start: at, props: properties.props, tag_offset: properties.tag_offset, entry };
-    part.comments.append(properties.comments)?;
-    match read_separation(alloc, scene, properties.end)? {
-        Some(separation) => {
-            if content_begins(scene.text, separation.end) {
-                part.comments.append(separation.comments)?;
-                return json_content(alloc, scene, separation.end, lead, depth, part);
+    let Properties { props, tag_offset, comments, end } = properties;
+    let lead = Lead { start: at, props, tag_offset, entry };
+    part.comments.append(comments)?;
+    match read_separation(alloc, scene, end)? {
+        Some(Separation { comments, end: place }) => {
+            if content_begins(scene.text, place) {
+                part.comments.append(comments)?;
+                return json_content(alloc, scene, place, lead, depth, part);
             }
-            match read_plain(alloc, scene, separation.end)? {
+            match read_plain(alloc, scene, place)? {
                 Some(plain) => {
-                    part.comments.append(separation.comments)?;
+                    part.comments.append(comments)?;
                     push_scalar(alloc, lead, ScalarStyle::Plain, plain.text, plain.end, part)?;
                     return Ok(Begun::Leaf(Node { end: plain.end, json: false, deepest: depth }));
                 }
@@ -143,8 +144,8 @@ fn propertied_node<'a>(alloc: Global, scene: Scene<'a>, at: usize, properties: P
         }
         None => {}
     }
-    push_scalar(alloc, lead, ScalarStyle::Plain, Text::Part(""), properties.end, part)?;
-    Ok(Begun::Leaf(Node { end: properties.end, json: false, deepest: depth }))
+    push_scalar(alloc, lead, ScalarStyle::Plain, Text::Part(""), end, part)?;
+    Ok(Begun::Leaf(Node { end, json: false, deepest: depth }))
 }
 
 pub(crate) fn push_scalar<'a>(alloc: Global, lead: Lead<'a>, style: ScalarStyle, text: Text<'a>, end: usize, part: &mut Part<'a>) -> Result<(), AllocError>
@@ -195,7 +196,7 @@ fn single_node<'a>(alloc: Global, scene: Scene<'a>, at: usize, lead: Lead<'a>, d
     ensures begun { IfOk result (λ b. BegunAt scene.entry.text.now at (length part.old.events) (length part.new.events) b) }
     ensures grows { IfOk result (λ _. length part.old.events ≤ length part.new.events) }
 {
-    match read_single(alloc, scene.text, at, scene.indentation, scene.context)? {
+    match read_single(alloc, scene, at)? {
         Some(single) => {
             push_scalar(alloc, lead, ScalarStyle::Single, single.text, single.end, part)?;
             Ok(Begun::Leaf(Node { end: single.end, json: true, deepest: depth }))
@@ -209,7 +210,7 @@ fn double_node<'a>(alloc: Global, scene: Scene<'a>, at: usize, lead: Lead<'a>, d
     ensures begun { IfOk result (λ b. BegunAt scene.entry.text.now at (length part.old.events) (length part.new.events) b) }
     ensures grows { IfOk result (λ _. length part.old.events ≤ length part.new.events) }
 {
-    match scan_double(alloc, scene.text, at, scene.indentation, scene.context, part)? {
+    match scan_double(alloc, scene, at, part)? {
         Some(double) => {
             push_scalar(alloc, lead, ScalarStyle::Double, double.text, double.end, part)?;
             Ok(Begun::Leaf(Node { end: double.end, json: true, deepest: depth }))

@@ -15,6 +15,7 @@ use yf_events::events::{Comments, Events};
 use yf_events::part::Part;
 use yf_events::row::Row;
 use yf_lines::text::Text;
+use yf_props::properties::Properties;
 
 /// What a reader of flow nodes found.
 #[derive(Debug, Drop)]
@@ -104,12 +105,12 @@ fn properties_alone<'a>(alloc: Global, scene: Scene<'a>, at: usize, otherwise: O
 {
     match read_properties(alloc, scene, at)? {
         None => Ok(otherwise),
-        Some(properties) => {
+        Some(Properties { props, tag_offset, comments, end }) => {
             let mut part = new_part(alloc);
-            part.comments.append(properties.comments)?;
-            let lead = Lead { start: at, props: properties.props, tag_offset: properties.tag_offset, entry: None };
-            push_scalar(alloc, lead, ScalarStyle::Plain, Text::Part(""), properties.end, &mut part)?;
-            Ok(Outcome::Found { part, end: properties.end })
+            part.comments.append(comments)?;
+            let lead = Lead { start: at, props, tag_offset, entry: None };
+            push_scalar(alloc, lead, ScalarStyle::Plain, Text::Part(""), end, &mut part)?;
+            Ok(Outcome::Found { part, end })
         }
     }
 }

@@ -61,19 +61,20 @@ pub fn scan_double<'a>(alloc: Global, src: &Src<'a>, at: usize, n: i32, ctx: Ctx
     }
 }
 
-// A double-quoted scalar: its text with U+FFFD for each bad escape, the offset of the first of them, and the offset behind
-// the scalar.
-#[derive(Drop)]
-struct Double<'a> {
-    text: Text<'a>,
-    bad: Option<usize>,
-    end: usize,
+/// A double-quoted scalar: its text with U+FFFD for each bad escape, the offset of the first of them, and the offset
+/// behind the scalar.
+#[derive(Debug, Drop)]
+pub struct Double<'a> {
+    pub text: Text<'a>,
+    pub bad: Option<usize>,
+    pub end: usize,
 }
 
-// The same in a text without its lines.
-fn double_in<'a>(alloc: Global, s: &'a str, at: usize, n: i32, ctx: Ctx) -> Result<Option<Double<'a>>, AllocError>
+/// The same in a text without its lines.
+pub fn double_in<'a>(alloc: Global, s: &'a str, at: usize, n: i32, ctx: Ctx) -> Result<Option<Double<'a>>, AllocError>
     requires { IsCharBoundary s.now at }
     ensures boundary { IfOk result (λ o. IfSome o (λ p. IsCharBoundary s.now p.end)) }
+    ensures order { IfOk result (λ o. IfSome o (λ p. at < p.end)) }
     ensures place { IfOk result (λ o. IfSome o (λ p. IfSome p.bad (λ b. IsCharBoundary s.now b))) }
 {
     if matches!(ctx, Ctx::BlockOut | Ctx::BlockIn) {
@@ -162,6 +163,7 @@ fn double_char(s: &str, at: usize) -> Option<DoubleChar>
 fn double_body<'a>(alloc: Global, s: &'a str, at: usize, width: Option<usize>) -> Result<Option<Double<'a>>, AllocError>
     requires { IsCharBoundary s.now at }
     ensures boundary { IfOk result (λ o. IfSome o (λ p. IsCharBoundary s.now p.end)) }
+    ensures order { IfOk result (λ o. IfSome o (λ p. at < p.end)) }
     ensures place { IfOk result (λ o. IfSome o (λ p. IfSome p.bad (λ b. IsCharBoundary s.now b))) }
 {
     let mut text = String::new(alloc);

@@ -37,17 +37,18 @@ pub fn read_single<'a>(alloc: Global, src: &Src<'a>, at: usize, n: i32, ctx: Ctx
     }
 }
 
-// A text that was read, and the offset behind it.
-#[derive(Drop)]
-struct Single<'a> {
-    text: Text<'a>,
-    end: usize,
+/// A single-quoted scalar: its text, and the offset behind it.
+#[derive(Debug, Drop)]
+pub struct Single<'a> {
+    pub text: Text<'a>,
+    pub end: usize,
 }
 
-// The same in a text without its lines.
-fn single_in<'a>(alloc: Global, s: &'a str, at: usize, n: i32, ctx: Ctx) -> Result<Option<Single<'a>>, AllocError>
+/// The same in a text without its lines.
+pub fn single_in<'a>(alloc: Global, s: &'a str, at: usize, n: i32, ctx: Ctx) -> Result<Option<Single<'a>>, AllocError>
     requires { IsCharBoundary s.now at }
     ensures boundary { IfOk result (λ o. IfSome o (λ p. IsCharBoundary s.now p.end)) }
+    ensures order { IfOk result (λ o. IfSome o (λ p. at < p.end)) }
 {
     if matches!(ctx, Ctx::BlockOut | Ctx::BlockIn) {
         return Ok(None);
@@ -129,6 +130,7 @@ struct Mark {
 fn single_body<'a>(alloc: Global, s: &'a str, at: usize, width: Option<usize>) -> Result<Option<Single<'a>>, AllocError>
     requires { IsCharBoundary s.now at }
     ensures boundary { IfOk result (λ o. IfSome o (λ p. IsCharBoundary s.now p.end)) }
+    ensures order { IfOk result (λ o. IfSome o (λ p. at < p.end)) }
 {
     let mut text = String::new(alloc);
     let mut mark = None;

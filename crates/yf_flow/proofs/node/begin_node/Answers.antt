@@ -5,4 +5,5 @@ use Rattle.yf_flow.proofs.node.begin_node.Goals as goal
 
 pub returns-in-Some-clause-begun : goal.returns-in-Some-clause-begun
 returns-in-Some-clause-begun c =
-    (record { boundary = c.in-Some.ensures.boundary; order = alias_forward c.in-Some.ensures.reads.derived }, pushed_longer _ _ _ c.in_ok-push-in-Some.ensures)
+    let f = alias_forward c.in-Some.ensures.reads.derived in
+    (record { boundary = c.in-Some.ensures.boundary; order = omega (arith, f) }, pushed_longer _ _ _ c.in_ok-push-in-Some.ensures)
