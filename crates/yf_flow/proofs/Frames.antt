@@ -23,3 +23,7 @@ frames_pushed {t} m k fs gs f e l a i =
 
 pub pushed_longer : {X : Type 0} (xs ys : List X) (x : X) → ys ≡ xs ++ x ∷ [] → length xs < length ys
 pushed_longer {X} xs ys x e = rw e (omega (arith, length-append {A = X}))
+
+-- of no escapes each begins between characters
+pub none_outside : (t es : List ℕ) → es ≡ [] → All (IsCharBoundary t) es
+none_outside t es e = subst (λ xs. All (IsCharBoundary t) xs) (sym e) (All-nil (IsCharBoundary t))

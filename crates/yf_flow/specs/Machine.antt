@@ -3,6 +3,8 @@
 use Rattle.std.specs.Prelude.{ℕ, ◌+◌, ◌-◌, ◌*◌, ◌<◌, ◌≤◌, List}
 use Rattle.std.specs.List.{All}
 use Rattle.std.specs.Str.{IsCharBoundary}
+use Rattle.yf_lines.specs.declared.fault.Fault.{Fault}
+use Rattle.yf_lines.specs.declared.fault.Fault.TheVariants.{Memory, EscapeValue, TooDeep as TooDeepFault}
 use Rattle.yf_flow.specs.declared.frame.Frame.{Frame}
 use Rattle.yf_flow.specs.declared.frame.Node.{Node as NodeFound}
 use Rattle.yf_flow.specs.declared.frame.State.{State}
@@ -68,6 +70,18 @@ EndingAt t at NoEnd = Unit {0}
 EndingAt t at (TooDeepThere p) = IsCharBoundary t p
 
 abbrev pub OutcomeAt : List ℕ → ℕ → Outcome → Type 0
-OutcomeAt t at (Found part end) = Place t (at + 1) end
+OutcomeAt t at (Found part end) = Place t (at + 1) end × All (IsCharBoundary t) part.escapes
 OutcomeAt t at NoNode = Unit {0}
 OutcomeAt t at (TooDeepHere p) = IsCharBoundary t p
+
+-- the faults of the readers: of the scan forms, and of those that answer a bad escape too
+abbrev pub IsScanFault : Fault → Type 0
+IsScanFault Memory = Unit {0}
+IsScanFault (TooDeepFault place) = Unit {0}
+IsScanFault _ = ⊥
+
+abbrev pub IsReadFault : Fault → Type 0
+IsReadFault Memory = Unit {0}
+IsReadFault (TooDeepFault place) = Unit {0}
+IsReadFault (EscapeValue place) = Unit {0}
+IsReadFault _ = ⊥

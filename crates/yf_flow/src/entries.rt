@@ -51,8 +51,10 @@ pub(crate) fn take_node<'a>(alloc: Global, scene: Scene<'a>, at: usize, top: Fra
     requires boundary { IsCharBoundary scene.text.now at }
     requires top { Awaiting scene.text.now (length part.old.events) top }
     requires below { All (Indexed scene.text.now (length part.old.events)) below.old.items }
+    requires escapes { All (IsCharBoundary scene.text.now) part.old.escapes }
     ensures ready { IfOk result (λ s. Ready scene.entry.text.now at (length part.new.events) below.new.items s) }
     ensures moves { IfOk result (λ s. left (length scene.entry.text.now) s.step < 2 * (length scene.entry.text.now - at) + 1) }
+    ensures escapes { IfOk result (λ _. All (IsCharBoundary scene.entry.text.now) part.new.escapes) }
 {
     let entry = entry_begun(scene.text, top);
     match begin_node(alloc, scene, at, entry, top.depth, part)? {
@@ -74,6 +76,7 @@ pub(crate) fn start_entry<'a>(alloc: Global, scene: Scene<'a>, at: usize, top: F
     requires below { All (Indexed scene.text.now (length part.old.events)) below.old.items }
     ensures ready { IfOk result (λ s. Ready scene.entry.text.now at (length part.new.events) below.new.items s) }
     ensures moves { IfOk result (λ s. left (length scene.entry.text.now) s.step ≤ 2 * (length scene.entry.text.now - at) + 1) }
+    ensures escapes { IfOk result (λ _. part.new.escapes ≡ part.old.escapes) }
 {
     let place = read_gap(alloc, scene, at, part)?.end;
     if closes(scene.text, place, top.kind) {
@@ -99,6 +102,7 @@ fn explicit_entry<'a>(alloc: Global, scene: Scene<'a>, at: usize, top: Frame, be
     requires below { All (Indexed scene.text.now (length part.old.events)) below.old.items }
     ensures ready { IfOk result (λ s. Ready scene.entry.text.now at (length part.new.events) below.new.items s) }
     ensures moves { IfOk result (λ s. left (length scene.entry.text.now) s.step ≤ 2 * (length scene.entry.text.now - at) + 1) }
+    ensures escapes { IfOk result (λ _. part.new.escapes ≡ part.old.escapes) }
 {
     match in_mapping(alloc, scene, top, below, part)? {
         None => Ok(State { top, step: Step::TooDeep(top.entry) }),
@@ -124,6 +128,7 @@ fn lone_value<'a>(alloc: Global, scene: Scene<'a>, colon: usize, top: Frame, bel
     requires below { All (Indexed scene.text.now (length part.old.events)) below.old.items }
     ensures ready { IfOk result (λ s. Ready scene.entry.text.now colon (length part.new.events) below.new.items s) }
     ensures moves { IfOk result (λ s. left (length scene.entry.text.now) s.step ≤ 2 * (length scene.entry.text.now - colon) + 1) }
+    ensures escapes { IfOk result (λ _. part.new.escapes ≡ part.old.escapes) }
 {
     match in_mapping(alloc, scene, top, below, part)? {
         None => Ok(State { top, step: Step::TooDeep(top.entry) }),
@@ -138,6 +143,7 @@ fn keyless_value<'a>(alloc: Global, scene: Scene<'a>, colon: usize, top: Frame, 
     requires below { All (Indexed scene.text.now (length part.old.events)) below.old.items }
     ensures ready { IfOk result (λ s. Ready scene.entry.text.now colon (length part.new.events) below.new.items s) }
     ensures moves { IfOk result (λ s. left (length scene.entry.text.now) s.step ≤ 2 * (length scene.entry.text.now - colon) + 1) }
+    ensures escapes { IfOk result (λ _. part.new.escapes ≡ part.old.escapes) }
 {
     let entry = entry_at(scene.text, top.entry, Some(colon));
     part.events.push(empty_node(alloc, Some(entry)))?;
@@ -151,6 +157,7 @@ fn in_mapping<'a>(alloc: Global, scene: Scene<'a>, top: Frame, below: &mut Below
     ensures below { IfOk result (λ _. All (Indexed scene.entry.text.now (length part.new.events)) below.new.items) }
     ensures top { IfOk result (λ o. IfSome o (λ f. Awaiting scene.entry.text.now (length part.new.events) f)) }
     ensures room { IfOk result (λ o. IfSome o (λ f. f.entry ≡ top.entry)) }
+    ensures escapes { IfOk result (λ _. part.new.escapes ≡ part.old.escapes) }
 {
     match top.kind {
         Kind::Mapping | Kind::Pair => Ok(Some(top)),
@@ -198,6 +205,7 @@ pub(crate) fn finish_node<'a>(alloc: Global, scene: Scene<'a>, node: Node, top: 
     requires below { All (Indexed scene.text.now (length part.old.events)) below.old.items }
     ensures ready { IfOk result (λ s. Ready scene.entry.text.now node.end (length part.new.events) below.new.items s) }
     ensures moves { IfOk result (λ s. left (length scene.entry.text.now) s.step ≤ 2 * (length scene.entry.text.now - node.end) + 1) }
+    ensures escapes { IfOk result (λ _. part.new.escapes ≡ part.old.escapes) }
 {
     match top.role {
         Role::Item => behind_item(alloc, scene, node, top, below, part),
@@ -214,6 +222,7 @@ fn behind_item<'a>(alloc: Global, scene: Scene<'a>, node: Node, top: Frame, belo
     requires below { All (Indexed scene.text.now (length part.old.events)) below.old.items }
     ensures ready { IfOk result (λ s. Ready scene.entry.text.now node.end (length part.new.events) below.new.items s) }
     ensures moves { IfOk result (λ s. left (length scene.entry.text.now) s.step ≤ 2 * (length scene.entry.text.now - node.end) + 1) }
+    ensures escapes { IfOk result (λ _. part.new.escapes ≡ part.old.escapes) }
 {
     let colon = skip_whites(scene.text, node.end);
     if colon_stands(scene, colon, node.json) {
@@ -231,6 +240,7 @@ fn pair_of_key<'a>(alloc: Global, scene: Scene<'a>, node: Node, colon: usize, to
     requires below { All (Indexed scene.text.now (length part.old.events)) below.old.items }
     ensures ready { IfOk result (λ s. Ready scene.entry.text.now colon (length part.new.events) below.new.items s) }
     ensures moves { IfOk result (λ s. left (length scene.entry.text.now) s.step ≤ 2 * (length scene.entry.text.now - colon) + 1) }
+    ensures escapes { IfOk result (λ _. part.new.escapes ≡ part.old.escapes) }
 {
     let deepest = top.depth.max(node.deepest);
     if deepest >= scene.limit {
@@ -258,6 +268,7 @@ fn behind_key<'a>(alloc: Global, scene: Scene<'a>, node: Node, top: Frame, below
     requires below { All (Indexed scene.text.now (length part.old.events)) below.old.items }
     ensures ready { IfOk result (λ s. Ready scene.entry.text.now node.end (length part.new.events) below.new.items s) }
     ensures moves { IfOk result (λ s. left (length scene.entry.text.now) s.step ≤ 2 * (length scene.entry.text.now - node.end) + 1) }
+    ensures escapes { IfOk result (λ _. part.new.escapes ≡ part.old.escapes) }
 {
     let place = read_gap(alloc, scene, node.end, part)?.end;
     if colon_stands(scene, place, node.json) {
@@ -276,6 +287,7 @@ fn await_value<'a>(alloc: Global, scene: Scene<'a>, colon: usize, json: bool, to
     requires below { All (Indexed scene.text.now (length part.old.events)) below.old.items }
     ensures ready { IfOk result (λ s. Ready scene.entry.text.now colon (length part.new.events) below.new.items s) }
     ensures moves { IfOk result (λ s. left (length scene.entry.text.now) s.step ≤ 2 * (length scene.entry.text.now - colon) + 1) }
+    ensures escapes { IfOk result (λ _. part.new.escapes ≡ part.old.escapes) }
 {
     let gap = read_gap(alloc, scene, colon + 1, part)?;
     if entry_ends(scene.text, gap.end) {
@@ -296,6 +308,7 @@ fn end_entry<'a>(alloc: Global, scene: Scene<'a>, finish: usize, at: usize, top:
     requires below { All (Indexed scene.text.now (length part.old.events)) below.old.items }
     ensures ready { IfOk result (λ s. Ready scene.entry.text.now at (length part.new.events) below.new.items s) }
     ensures moves { IfOk result (λ s. left (length scene.entry.text.now) s.step ≤ 2 * (length scene.entry.text.now - at) + 1) }
+    ensures escapes { IfOk result (λ _. part.new.escapes ≡ part.old.escapes) }
 {
     match top.kind {
         Kind::Sequence | Kind::Mapping => after_entry(alloc, scene, at, top, below, part),
@@ -317,6 +330,7 @@ fn after_entry<'a>(alloc: Global, scene: Scene<'a>, at: usize, top: Frame, below
     requires below { All (Indexed scene.text.now (length part.old.events)) below.old.items }
     ensures ready { IfOk result (λ s. Ready scene.entry.text.now at (length part.new.events) below.new.items s) }
     ensures moves { IfOk result (λ s. left (length scene.entry.text.now) s.step ≤ 2 * (length scene.entry.text.now - at) + 1) }
+    ensures escapes { IfOk result (λ _. part.new.escapes ≡ part.old.escapes) }
 {
     let place = read_gap(alloc, scene, at, part)?.end;
     if stands(scene.text, place, b',') {
@@ -335,6 +349,7 @@ fn close<'a>(alloc: Global, scene: Scene<'a>, at: usize, top: Frame, below: &mut
     requires below { All (Indexed scene.text.now (length part.old.events)) below.old.items }
     ensures ready { IfOk result (λ s. Ready scene.entry.text.now at (length part.new.events) below.new.items s) }
     ensures moves { IfOk result (λ s. left (length scene.entry.text.now) s.step ≤ 2 * (length scene.entry.text.now - at) + 1) }
+    ensures escapes { IfOk result (λ _. part.new.escapes ≡ part.old.escapes) }
 {
     let event = match top.kind {
         Kind::Sequence => Event::SeqEnd,

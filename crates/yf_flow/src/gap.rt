@@ -32,6 +32,7 @@ pub(crate) fn read_separation_into<'a>(alloc: Global, scene: Scene<'a>, at: usiz
     requires boundary { IsCharBoundary scene.text.now at }
     ensures place { IfOk result (λ o. IfSome o (λ end. Place scene.entry.text.now at end)) }
     ensures events { IfOk result (λ _. part.new.events ≡ part.old.events) }
+    ensures escapes { IfOk result (λ _. part.new.escapes ≡ part.old.escapes) }
 {
     match read_separation(alloc, scene, at)? {
         Some(separation) => {
@@ -47,6 +48,7 @@ pub(crate) fn read_gap<'a>(alloc: Global, scene: Scene<'a>, at: usize, part: &mu
     requires boundary { IsCharBoundary scene.text.now at }
     ensures place { IfOk result (λ gap. Place scene.entry.text.now at gap.end) }
     ensures events { IfOk result (λ _. part.new.events ≡ part.old.events) }
+    ensures escapes { IfOk result (λ _. part.new.escapes ≡ part.old.escapes) }
 {
     match read_separation_into(alloc, scene, at, part)? {
         Some(end) => Ok(Gap { end, is_separation: true }),

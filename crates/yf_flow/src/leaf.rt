@@ -1,5 +1,6 @@
 //! The readers of scalars and properties, as flow nodes take them.
 ghost use Rattle.std.specs.Prelude.{◌≡◌, ◌+◌, IfOk, IfSome};
+ghost use Rattle.std.specs.List.{All};
 ghost use Rattle.std.specs.Str.{IsCharBoundary};
 ghost use Rattle.yf_flow.specs.Machine.{Place};
 
@@ -56,9 +57,11 @@ pub(crate) fn read_single<'a>(alloc: Global, scene: Scene<'a>, at: usize) -> Res
 /// Reads a double-quoted scalar (c-double-quoted(n,c), production 109), and keeps the offset of its first escape that is
 /// no character.
 pub(crate) fn scan_double<'a>(alloc: Global, scene: Scene<'a>, at: usize, part: &mut Part<'a>) -> Result<Option<Scalar<'a>>, AllocError>
-    requires { IsCharBoundary scene.text.now at }
+    requires boundary { IsCharBoundary scene.text.now at }
+    requires escapes { All (IsCharBoundary scene.text.now) part.old.escapes }
     ensures place { IfOk result (λ o. IfSome o (λ p. Place scene.entry.text.now (at + 1) p.end)) }
     ensures events { IfOk result (λ _. part.new.events ≡ part.old.events) }
+    ensures escapes { IfOk result (λ _. All (IsCharBoundary scene.entry.text.now) part.new.escapes) }
 {
     match double_in(alloc, scene.text, at, scene.indentation, scene.context)? {
         Some(Double { text, bad, end }) => {

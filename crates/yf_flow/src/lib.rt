@@ -3,6 +3,7 @@
 #![tactic(auto)]
 
 pub(crate) mod entries;
+pub mod flow;
 pub(crate) mod frame;
 pub(crate) mod gap;
 pub(crate) mod leaf;

@@ -1,5 +1,6 @@
 //! Nodes: what may stand as an item, a key or a value, and the events of them.
 ghost use Rattle.std.specs.Prelude.{◌≡◌, ◌+◌, ◌<◌, ◌≤◌, length, IfOk};
+ghost use Rattle.std.specs.List.{All};
 ghost use Rattle.std.specs.Str.{IsCharBoundary};
 ghost use Rattle.yf_flow.specs.Machine.{BegunAt, Place};
 
@@ -94,8 +95,10 @@ pub(crate) fn empty_node<'a>(alloc: Global, entry: Option<Entry>) -> PlacedEvent
 /// Begins a node (ns-flow-node, production 161), where so many collections are open.
 pub(crate) fn begin_node<'a>(alloc: Global, scene: Scene<'a>, at: usize, entry: Option<Entry>, depth: usize, part: &mut Part<'a>) -> Result<Begun, AllocError>
     requires boundary { IsCharBoundary scene.text.now at }
+    requires escapes { All (IsCharBoundary scene.text.now) part.old.escapes }
     ensures begun { IfOk result (λ b. BegunAt scene.entry.text.now at (length part.old.events) (length part.new.events) b) }
     ensures grows { IfOk result (λ _. length part.old.events ≤ length part.new.events) }
+    ensures escapes { IfOk result (λ _. All (IsCharBoundary scene.entry.text.now) part.new.escapes) }
 {
     match alias_node(scene.text, at) {
         Some((name, end)) => {
@@ -121,8 +124,10 @@ pub(crate) fn begin_node<'a>(alloc: Global, scene: Scene<'a>, at: usize, entry: 
 fn propertied_node<'a>(alloc: Global, scene: Scene<'a>, at: usize, properties: Properties<'a>, entry: Option<Entry>, depth: usize, part: &mut Part<'a>) -> Result<Begun, AllocError>
     requires boundary { IsCharBoundary scene.text.now at }
     requires place { Place scene.text.now (at + 1) properties.end }
+    requires escapes { All (IsCharBoundary scene.text.now) part.old.escapes }
     ensures begun { IfOk result (λ b. BegunAt scene.entry.text.now at (length part.old.events) (length part.new.events) b) }
     ensures grows { IfOk result (λ _. length part.old.events ≤ length part.new.events) }
+    ensures escapes { IfOk result (λ _. All (IsCharBoundary scene.entry.text.now) part.new.escapes) }
 {
     let Properties { props, tag_offset, comments, end } = properties;
     let lead = Lead { start: at, props, tag_offset, entry };
@@ -149,7 +154,8 @@ fn propertied_node<'a>(alloc: Global, scene: Scene<'a>, at: usize, properties: P
 }
 
 pub(crate) fn push_scalar<'a>(alloc: Global, lead: Lead<'a>, style: ScalarStyle, text: Text<'a>, end: usize, part: &mut Part<'a>) -> Result<(), AllocError>
-    ensures { IfOk result (λ _. length part.new.events ≡ length part.old.events + 1) }
+    ensures found { IfOk result (λ _. length part.new.events ≡ length part.old.events + 1) }
+    ensures escapes { IfOk result (λ _. part.new.escapes ≡ part.old.escapes) }
 {
     let event = Event::Scalar { props: lead.props, style, text };
     part.events.push(lead.placed(alloc, event, end))
@@ -160,6 +166,7 @@ fn plain_node<'a>(alloc: Global, scene: Scene<'a>, at: usize, lead: Lead<'a>, de
     requires boundary { IsCharBoundary scene.text.now at }
     ensures begun { IfOk result (λ b. BegunAt scene.entry.text.now at (length part.old.events) (length part.new.events) b) }
     ensures grows { IfOk result (λ _. length part.old.events ≤ length part.new.events) }
+    ensures escapes { IfOk result (λ _. part.new.escapes ≡ part.old.escapes) }
 {
     match read_plain(alloc, scene, at)? {
         Some(plain) => {
@@ -173,8 +180,10 @@ fn plain_node<'a>(alloc: Global, scene: Scene<'a>, at: usize, lead: Lead<'a>, de
 // A quoted scalar, or the opening bracket of a flow collection (c-flow-json-content, production 157).
 fn json_content<'a>(alloc: Global, scene: Scene<'a>, at: usize, lead: Lead<'a>, depth: usize, part: &mut Part<'a>) -> Result<Begun, AllocError>
     requires boundary { IsCharBoundary scene.text.now at }
+    requires escapes { All (IsCharBoundary scene.text.now) part.old.escapes }
     ensures begun { IfOk result (λ b. BegunAt scene.entry.text.now at (length part.old.events) (length part.new.events) b) }
     ensures grows { IfOk result (λ _. length part.old.events ≤ length part.new.events) }
+    ensures escapes { IfOk result (λ _. All (IsCharBoundary scene.entry.text.now) part.new.escapes) }
 {
     if stands(scene.text, at, b'\'') {
         return single_node(alloc, scene, at, lead, depth, part);
@@ -195,6 +204,7 @@ fn single_node<'a>(alloc: Global, scene: Scene<'a>, at: usize, lead: Lead<'a>, d
     requires boundary { IsCharBoundary scene.text.now at }
     ensures begun { IfOk result (λ b. BegunAt scene.entry.text.now at (length part.old.events) (length part.new.events) b) }
     ensures grows { IfOk result (λ _. length part.old.events ≤ length part.new.events) }
+    ensures escapes { IfOk result (λ _. part.new.escapes ≡ part.old.escapes) }
 {
     match read_single(alloc, scene, at)? {
         Some(single) => {
@@ -207,8 +217,10 @@ fn single_node<'a>(alloc: Global, scene: Scene<'a>, at: usize, lead: Lead<'a>, d
 
 fn double_node<'a>(alloc: Global, scene: Scene<'a>, at: usize, lead: Lead<'a>, depth: usize, part: &mut Part<'a>) -> Result<Begun, AllocError>
     requires boundary { IsCharBoundary scene.text.now at }
+    requires escapes { All (IsCharBoundary scene.text.now) part.old.escapes }
     ensures begun { IfOk result (λ b. BegunAt scene.entry.text.now at (length part.old.events) (length part.new.events) b) }
     ensures grows { IfOk result (λ _. length part.old.events ≤ length part.new.events) }
+    ensures escapes { IfOk result (λ _. All (IsCharBoundary scene.entry.text.now) part.new.escapes) }
 {
     match scan_double(alloc, scene, at, part)? {
         Some(double) => {
@@ -225,6 +237,7 @@ fn open<'a>(alloc: Global, scene: Scene<'a>, at: usize, kind: Kind, lead: Lead<'
     requires behind { IsCharBoundary scene.text.now (at + 1) }
     ensures begun { IfOk result (λ b. BegunAt scene.entry.text.now at (length part.old.events) (length part.new.events) b) }
     ensures grows { IfOk result (λ _. length part.old.events ≤ length part.new.events) }
+    ensures escapes { IfOk result (λ _. part.new.escapes ≡ part.old.escapes) }
 {
     if depth >= scene.limit {
         return Ok(Begun::TooDeep(at));

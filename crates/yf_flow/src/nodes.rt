@@ -1,5 +1,6 @@
 //! The reader of flow nodes: one forward pass, with a stack of the open collections.
-ghost use Rattle.std.specs.Prelude.{◌≡◌, ◌+◌, ◌<◌, ◌≤◌, length, IfOk};
+ghost use Rattle.std.specs.Prelude.{◌≡◌, [], ◌+◌, ◌<◌, ◌≤◌, length, IfOk};
+ghost use Rattle.std.specs.List.{All};
 ghost use Rattle.std.specs.Str.{IsCharBoundary};
 ghost use Rattle.yf_flow.specs.Machine.{Awaiting, EndingAt, OutcomeAt};
 
@@ -69,7 +70,9 @@ fn inner_context(context: Ctx) -> Option<Ctx> {
     }
 }
 
-fn new_part<'a>(alloc: Global) -> Part<'a> {
+fn new_part<'a>(alloc: Global) -> Part<'a>
+    ensures { result.escapes ≡ [] }
+{
     Part {
         events: Events::new(alloc),
         comments: Comments::new(alloc),
@@ -81,7 +84,9 @@ fn new_part<'a>(alloc: Global) -> Part<'a> {
 fn read_collection<'a>(alloc: Global, scene: Scene<'a>, frame: Frame, part: &mut Part<'a>) -> Result<Ending, AllocError>
     requires boundary { IsCharBoundary scene.text.now frame.entry }
     requires top { Awaiting scene.text.now (length part.old.events) frame }
-    ensures { IfOk result (λ e. EndingAt scene.entry.text.now frame.entry e) }
+    requires escapes { All (IsCharBoundary scene.text.now) part.old.escapes }
+    ensures found { IfOk result (λ e. EndingAt scene.entry.text.now frame.entry e) }
+    ensures escapes { IfOk result (λ _. All (IsCharBoundary scene.entry.text.now) part.new.escapes) }
 {
     let mut below: Below = SmallVec::new(alloc);
     let mut state = State { top: frame, step: Step::Entry(frame.entry) };
