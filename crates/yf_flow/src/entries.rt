@@ -8,7 +8,7 @@ ghost use Rattle.yf_flow.specs.Machine.{Awaiting, Indexed, Ready, Place, left};
 use crate::frame::{Frame, Kind, Node, Role, Scene, State, Step};
 use crate::gap::{read_gap, read_separation_into};
 use crate::look::{closes, colon_stands, entry_ends, is_blank_before_entry, is_key_line};
-use crate::node::{begin_node, empty_node, unplaced, Begun};
+use crate::node::{Begun, begin_node, empty_node, unplaced};
 use smallvec::SmallVec;
 use std::alloc::{AllocError, Global};
 use yf_chars::text::stands;
@@ -47,7 +47,14 @@ fn failed(top: Frame) -> State
 }
 
 /// Begins the node that is awaited at the offset.
-pub(crate) fn take_node<'a>(alloc: Global, scene: Scene<'a>, at: usize, top: Frame, below: &mut Below, part: &mut Part<'a>) -> Result<State, AllocError>
+pub(crate) fn take_node<'a>(
+    alloc: Global,
+    scene: Scene<'a>,
+    at: usize,
+    top: Frame,
+    below: &mut Below,
+    part: &mut Part<'a>,
+) -> Result<State, AllocError>
     requires boundary { IsCharBoundary scene.text.now at }
     requires top { Awaiting scene.text.now (length part.old.events) top }
     requires below { All (Indexed scene.text.now (length part.old.events)) below.old.items }
@@ -58,19 +65,35 @@ pub(crate) fn take_node<'a>(alloc: Global, scene: Scene<'a>, at: usize, top: Fra
 {
     let entry = entry_begun(scene.text, top);
     match begin_node(alloc, scene, at, entry, top.depth, part)? {
-        Begun::Leaf(node) => Ok(State { top, step: Step::Ended(node) }),
+        Begun::Leaf(node) => Ok(State {
+            top,
+            step: Step::Ended(node),
+        }),
         Begun::Opened(frame) => {
             below.push(top)?;
-            Ok(State { top: frame, step: Step::Entry(frame.entry) })
+            Ok(State {
+                top: frame,
+                step: Step::Entry(frame.entry),
+            })
         }
         Begun::Nothing => Ok(failed(top)),
-        Begun::TooDeep(place) => Ok(State { top, step: Step::TooDeep(place) }),
+        Begun::TooDeep(place) => Ok(State {
+            top,
+            step: Step::TooDeep(place),
+        }),
     }
 }
 
 /// Begins the entry that is awaited, or closes the collection (ns-s-flow-seq-entries, production 138;
 /// ns-s-flow-map-entries, production 141).
-pub(crate) fn start_entry<'a>(alloc: Global, scene: Scene<'a>, at: usize, top: Frame, below: &mut Below, part: &mut Part<'a>) -> Result<State, AllocError>
+pub(crate) fn start_entry<'a>(
+    alloc: Global,
+    scene: Scene<'a>,
+    at: usize,
+    top: Frame,
+    below: &mut Below,
+    part: &mut Part<'a>,
+) -> Result<State, AllocError>
     requires boundary { IsCharBoundary scene.text.now at }
     requires top { Awaiting scene.text.now (length part.old.events) top }
     requires below { All (Indexed scene.text.now (length part.old.events)) below.old.items }
@@ -92,11 +115,21 @@ pub(crate) fn start_entry<'a>(alloc: Global, scene: Scene<'a>, at: usize, top: F
     if colon_stands(scene, place, false) {
         return lone_value(alloc, scene, place, top, below, part);
     }
-    Ok(State { top, step: Step::Node(place) })
+    Ok(State {
+        top,
+        step: Step::Node(place),
+    })
 }
 
 // What stands behind the `?` of an entry and its separation (ns-flow-map-explicit-entry, production 143).
-fn explicit_entry<'a>(alloc: Global, scene: Scene<'a>, at: usize, top: Frame, below: &mut Below, part: &mut Part<'a>) -> Result<State, AllocError>
+fn explicit_entry<'a>(
+    alloc: Global,
+    scene: Scene<'a>,
+    at: usize,
+    top: Frame,
+    below: &mut Below,
+    part: &mut Part<'a>,
+) -> Result<State, AllocError>
     requires boundary { IsCharBoundary scene.text.now at }
     requires top { Awaiting scene.text.now (length part.old.events) top }
     requires below { All (Indexed scene.text.now (length part.old.events)) below.old.items }
@@ -105,7 +138,10 @@ fn explicit_entry<'a>(alloc: Global, scene: Scene<'a>, at: usize, top: Frame, be
     ensures escapes { IfOk result (λ _. part.new.escapes ≡ part.old.escapes) }
 {
     match in_mapping(alloc, scene, top, below, part)? {
-        None => Ok(State { top, step: Step::TooDeep(top.entry) }),
+        None => Ok(State {
+            top,
+            step: Step::TooDeep(top.entry),
+        }),
         Some(top) => {
             if entry_ends(scene.text, at) {
                 let entry = entry_at(scene.text, top.entry, None);
@@ -116,13 +152,23 @@ fn explicit_entry<'a>(alloc: Global, scene: Scene<'a>, at: usize, top: Frame, be
             if colon_stands(scene, at, false) {
                 return keyless_value(alloc, scene, at, top, below, part);
             }
-            Ok(State { top, step: Step::Node(at) })
+            Ok(State {
+                top,
+                step: Step::Node(at),
+            })
         }
     }
 }
 
 // A value without a key, from its `:` on (c-ns-flow-map-empty-key-entry, production 146).
-fn lone_value<'a>(alloc: Global, scene: Scene<'a>, colon: usize, top: Frame, below: &mut Below, part: &mut Part<'a>) -> Result<State, AllocError>
+fn lone_value<'a>(
+    alloc: Global,
+    scene: Scene<'a>,
+    colon: usize,
+    top: Frame,
+    below: &mut Below,
+    part: &mut Part<'a>,
+) -> Result<State, AllocError>
     requires boundary { IsCharBoundary scene.text.now (colon + 1) }
     requires top { Awaiting scene.text.now (length part.old.events) top }
     requires below { All (Indexed scene.text.now (length part.old.events)) below.old.items }
@@ -131,13 +177,23 @@ fn lone_value<'a>(alloc: Global, scene: Scene<'a>, colon: usize, top: Frame, bel
     ensures escapes { IfOk result (λ _. part.new.escapes ≡ part.old.escapes) }
 {
     match in_mapping(alloc, scene, top, below, part)? {
-        None => Ok(State { top, step: Step::TooDeep(top.entry) }),
+        None => Ok(State {
+            top,
+            step: Step::TooDeep(top.entry),
+        }),
         Some(top) => keyless_value(alloc, scene, colon, top, below, part),
     }
 }
 
 // The empty key of an entry, and its value from the `:` on.
-fn keyless_value<'a>(alloc: Global, scene: Scene<'a>, colon: usize, top: Frame, below: &mut Below, part: &mut Part<'a>) -> Result<State, AllocError>
+fn keyless_value<'a>(
+    alloc: Global,
+    scene: Scene<'a>,
+    colon: usize,
+    top: Frame,
+    below: &mut Below,
+    part: &mut Part<'a>,
+) -> Result<State, AllocError>
     requires boundary { IsCharBoundary scene.text.now (colon + 1) }
     requires top { Awaiting scene.text.now (length part.old.events) top }
     requires below { All (Indexed scene.text.now (length part.old.events)) below.old.items }
@@ -151,7 +207,13 @@ fn keyless_value<'a>(alloc: Global, scene: Scene<'a>, colon: usize, top: Frame, 
 }
 
 // The mapping that an entry with `?` or `:` belongs to: in a sequence it is a single pair, which begins with the entry.
-fn in_mapping<'a>(alloc: Global, scene: Scene<'a>, top: Frame, below: &mut Below, part: &mut Part<'a>) -> Result<Option<Frame>, AllocError>
+fn in_mapping<'a>(
+    alloc: Global,
+    scene: Scene<'a>,
+    top: Frame,
+    below: &mut Below,
+    part: &mut Part<'a>,
+) -> Result<Option<Frame>, AllocError>
     requires top { Awaiting scene.text.now (length part.old.events) top }
     requires below { All (Indexed scene.text.now (length part.old.events)) below.old.items }
     ensures below { IfOk result (λ _. All (Indexed scene.entry.text.now (length part.new.events)) below.new.items) }
@@ -199,7 +261,14 @@ fn pair_start<'a>(alloc: Global, text: &str, start: usize) -> PlacedEvent<'a> {
 }
 
 /// Goes on behind a node of the collection.
-pub(crate) fn finish_node<'a>(alloc: Global, scene: Scene<'a>, node: Node, top: Frame, below: &mut Below, part: &mut Part<'a>) -> Result<State, AllocError>
+pub(crate) fn finish_node<'a>(
+    alloc: Global,
+    scene: Scene<'a>,
+    node: Node,
+    top: Frame,
+    below: &mut Below,
+    part: &mut Part<'a>,
+) -> Result<State, AllocError>
     requires boundary { IsCharBoundary scene.text.now node.end }
     requires top { Indexed scene.text.now (length part.old.events) top }
     requires below { All (Indexed scene.text.now (length part.old.events)) below.old.items }
@@ -210,13 +279,28 @@ pub(crate) fn finish_node<'a>(alloc: Global, scene: Scene<'a>, node: Node, top: 
     match top.role {
         Role::Item => behind_item(alloc, scene, node, top, below, part),
         Role::Key => behind_key(alloc, scene, node, top.reaching(node.deepest), below, part),
-        Role::Value => end_entry(alloc, scene, node.end, node.end, top.reaching(node.deepest), below, part),
+        Role::Value => end_entry(
+            alloc,
+            scene,
+            node.end,
+            node.end,
+            top.reaching(node.deepest),
+            below,
+            part,
+        ),
     }
 }
 
 // Behind an item of a sequence: where a `:` follows on its line, it is the key of a single pair
 // (ns-flow-pair-entry, production 151).
-fn behind_item<'a>(alloc: Global, scene: Scene<'a>, node: Node, top: Frame, below: &mut Below, part: &mut Part<'a>) -> Result<State, AllocError>
+fn behind_item<'a>(
+    alloc: Global,
+    scene: Scene<'a>,
+    node: Node,
+    top: Frame,
+    below: &mut Below,
+    part: &mut Part<'a>,
+) -> Result<State, AllocError>
     requires boundary { IsCharBoundary scene.text.now node.end }
     requires top { Indexed scene.text.now (length part.old.events) top }
     requires below { All (Indexed scene.text.now (length part.old.events)) below.old.items }
@@ -230,11 +314,26 @@ fn behind_item<'a>(alloc: Global, scene: Scene<'a>, node: Node, top: Frame, belo
             return pair_of_key(alloc, scene, node, colon, top, below, part);
         }
     }
-    after_entry(alloc, scene, node.end, top.reaching(node.deepest), below, part)
+    after_entry(
+        alloc,
+        scene,
+        node.end,
+        top.reaching(node.deepest),
+        below,
+        part,
+    )
 }
 
 // The item that was read last becomes the key of a single pair.
-fn pair_of_key<'a>(alloc: Global, scene: Scene<'a>, node: Node, colon: usize, top: Frame, below: &mut Below, part: &mut Part<'a>) -> Result<State, AllocError>
+fn pair_of_key<'a>(
+    alloc: Global,
+    scene: Scene<'a>,
+    node: Node,
+    colon: usize,
+    top: Frame,
+    below: &mut Below,
+    part: &mut Part<'a>,
+) -> Result<State, AllocError>
     requires boundary { IsCharBoundary scene.text.now (colon + 1) }
     requires top { Indexed scene.text.now (length part.old.events) top }
     requires below { All (Indexed scene.text.now (length part.old.events)) below.old.items }
@@ -244,11 +343,15 @@ fn pair_of_key<'a>(alloc: Global, scene: Scene<'a>, node: Node, colon: usize, to
 {
     let deepest = top.depth.max(node.deepest);
     if deepest >= scene.limit {
-        return Ok(State { top, step: Step::TooDeep(top.entry) });
+        return Ok(State {
+            top,
+            step: Step::TooDeep(top.entry),
+        });
     }
     let event = top.entry_event;
     part.events.set_colon(event, colon);
-    part.events.insert(event, pair_start(alloc, scene.text, top.entry))?;
+    part.events
+        .insert(event, pair_start(alloc, scene.text, top.entry))?;
     below.push(top)?;
     let pair = Frame {
         kind: Kind::Pair,
@@ -262,7 +365,14 @@ fn pair_of_key<'a>(alloc: Global, scene: Scene<'a>, node: Node, colon: usize, to
 }
 
 // Behind the key of an entry of a mapping, or of a single pair with `?`.
-fn behind_key<'a>(alloc: Global, scene: Scene<'a>, node: Node, top: Frame, below: &mut Below, part: &mut Part<'a>) -> Result<State, AllocError>
+fn behind_key<'a>(
+    alloc: Global,
+    scene: Scene<'a>,
+    node: Node,
+    top: Frame,
+    below: &mut Below,
+    part: &mut Part<'a>,
+) -> Result<State, AllocError>
     requires boundary { IsCharBoundary scene.text.now node.end }
     requires top { Indexed scene.text.now (length part.old.events) top }
     requires below { All (Indexed scene.text.now (length part.old.events)) below.old.items }
@@ -281,7 +391,15 @@ fn behind_key<'a>(alloc: Global, scene: Scene<'a>, node: Node, top: Frame, below
 
 // What stands behind the `:` at an offset: a node, or nothing. Behind a key that is not like JSON's, separation must
 // come before the node (c-ns-flow-map-separate-value, production 147; c-ns-flow-map-adjacent-value, production 149).
-fn await_value<'a>(alloc: Global, scene: Scene<'a>, colon: usize, json: bool, top: Frame, below: &mut Below, part: &mut Part<'a>) -> Result<State, AllocError>
+fn await_value<'a>(
+    alloc: Global,
+    scene: Scene<'a>,
+    colon: usize,
+    json: bool,
+    top: Frame,
+    below: &mut Below,
+    part: &mut Part<'a>,
+) -> Result<State, AllocError>
     requires boundary { IsCharBoundary scene.text.now (colon + 1) }
     requires top { Indexed scene.text.now (length part.old.events) top }
     requires below { All (Indexed scene.text.now (length part.old.events)) below.old.items }
@@ -295,14 +413,25 @@ fn await_value<'a>(alloc: Global, scene: Scene<'a>, colon: usize, json: bool, to
         return end_entry(alloc, scene, colon + 1, gap.end, top, below, part);
     }
     if json || gap.is_separation {
-        return Ok(State { top: top.with_value(), step: Step::Node(gap.end) });
+        return Ok(State {
+            top: top.with_value(),
+            step: Step::Node(gap.end),
+        });
     }
     Ok(failed(top))
 }
 
 // An entry has been read whose last node or indicator ends at `finish`; what follows is read from `at` on. A single pair
 // ends with it.
-fn end_entry<'a>(alloc: Global, scene: Scene<'a>, finish: usize, at: usize, top: Frame, below: &mut Below, part: &mut Part<'a>) -> Result<State, AllocError>
+fn end_entry<'a>(
+    alloc: Global,
+    scene: Scene<'a>,
+    finish: usize,
+    at: usize,
+    top: Frame,
+    below: &mut Below,
+    part: &mut Part<'a>,
+) -> Result<State, AllocError>
     requires boundary { IsCharBoundary scene.text.now at }
     requires top { Indexed scene.text.now (length part.old.events) top }
     requires below { All (Indexed scene.text.now (length part.old.events)) below.old.items }
@@ -316,7 +445,14 @@ fn end_entry<'a>(alloc: Global, scene: Scene<'a>, finish: usize, at: usize, top:
             part.events.push(unplaced(alloc, Event::MapEnd, None))?;
             part.events.set_end(top.event, finish);
             match below.pop() {
-                Some(sequence) => after_entry(alloc, scene, at, sequence.reaching(top.deepest), below, part),
+                Some(sequence) => after_entry(
+                    alloc,
+                    scene,
+                    at,
+                    sequence.reaching(top.deepest),
+                    below,
+                    part,
+                ),
                 None => Ok(failed(top)),
             }
         }
@@ -324,7 +460,14 @@ fn end_entry<'a>(alloc: Global, scene: Scene<'a>, finish: usize, at: usize, top:
 }
 
 // Behind an entry: a comma, or the bracket that closes the collection.
-fn after_entry<'a>(alloc: Global, scene: Scene<'a>, at: usize, top: Frame, below: &mut Below, part: &mut Part<'a>) -> Result<State, AllocError>
+fn after_entry<'a>(
+    alloc: Global,
+    scene: Scene<'a>,
+    at: usize,
+    top: Frame,
+    below: &mut Below,
+    part: &mut Part<'a>,
+) -> Result<State, AllocError>
     requires boundary { IsCharBoundary scene.text.now at }
     requires top { Indexed scene.text.now (length part.old.events) top }
     requires below { All (Indexed scene.text.now (length part.old.events)) below.old.items }
@@ -334,7 +477,10 @@ fn after_entry<'a>(alloc: Global, scene: Scene<'a>, at: usize, top: Frame, below
 {
     let place = read_gap(alloc, scene, at, part)?.end;
     if stands(scene.text, place, b',') {
-        return Ok(State { top, step: Step::Entry(place + 1) });
+        return Ok(State {
+            top,
+            step: Step::Entry(place + 1),
+        });
     }
     if closes(scene.text, place, top.kind) {
         return close(alloc, scene, place, top, below, part);
@@ -343,7 +489,14 @@ fn after_entry<'a>(alloc: Global, scene: Scene<'a>, at: usize, top: Frame, below
 }
 
 // Closes the collection by the bracket at an offset.
-fn close<'a>(alloc: Global, scene: Scene<'a>, at: usize, top: Frame, below: &mut Below, part: &mut Part<'a>) -> Result<State, AllocError>
+fn close<'a>(
+    alloc: Global,
+    scene: Scene<'a>,
+    at: usize,
+    top: Frame,
+    below: &mut Below,
+    part: &mut Part<'a>,
+) -> Result<State, AllocError>
     requires boundary { IsCharBoundary scene.text.now (at + 1) }
     requires top { top.event < length part.old.events }
     requires below { All (Indexed scene.text.now (length part.old.events)) below.old.items }
@@ -357,9 +510,19 @@ fn close<'a>(alloc: Global, scene: Scene<'a>, at: usize, top: Frame, below: &mut
     };
     part.events.push(unplaced(alloc, event, None))?;
     part.events.set_end(top.event, at + 1);
-    let node = Node { end: at + 1, json: true, deepest: top.deepest };
+    let node = Node {
+        end: at + 1,
+        json: true,
+        deepest: top.deepest,
+    };
     match below.pop() {
-        Some(outer) => Ok(State { top: outer, step: Step::Ended(node) }),
-        None => Ok(State { top, step: Step::Done(node.end) }),
+        Some(outer) => Ok(State {
+            top: outer,
+            step: Step::Ended(node),
+        }),
+        None => Ok(State {
+            top,
+            step: Step::Done(node.end),
+        }),
     }
 }

@@ -4,7 +4,7 @@ ghost use Rattle.std.specs.List.{All};
 ghost use Rattle.std.specs.Str.{IsCharBoundary};
 ghost use Rattle.yf_flow.specs.Machine.{IsReadFault, IsScanFault, Place};
 
-use crate::nodes::{read_node, Outcome};
+use crate::nodes::{Outcome, read_node};
 use std::alloc::{AllocError, Global};
 use yf_chars::context::Ctx;
 use yf_events::part::Part;
@@ -37,14 +37,36 @@ pub struct ScannedPart<'a> {
 ///
 /// `Fault::TooDeep` where the nodes there open more than `DEPTH` collections at once, a single pair counted as one;
 /// `Fault::EscapeValue` at the first escape in the node that is no character; `Fault::Memory`.
-pub fn read_flow_node<'a>(alloc: Global, src: &Src<'a>, at: usize, n: i32, ctx: Ctx) -> Result<Option<NodePart<'a>>, Fault>
+pub fn read_flow_node<'a>(
+    alloc: Global,
+    src: &Src<'a>,
+    at: usize,
+    n: i32,
+    ctx: Ctx,
+) -> Result<Option<NodePart<'a>>, Fault>
     requires { IsCharBoundary src.now.text at }
     ensures { MatchResult result (λ o. IfSome o (λ p. Place src.now.text (at + 1) p.end)) IsReadFault }
 {
     match scan_flow_node(alloc, src, at, n, ctx) {
         Ok(None) => Ok(None),
-        Ok(Some(ScannedPart { part, escape: None, end })) => Ok(Some(NodePart { part, end })),
-        Ok(Some(ScannedPart { part: _, escape: Some(place), end: _ })) => Err(Fault::EscapeValue { place }),
+        Ok(
+            Some(
+                ScannedPart {
+                    part,
+                    escape: None,
+                    end,
+                },
+            ),
+        ) => Ok(Some(NodePart { part, end })),
+        Ok(
+            Some(
+                ScannedPart {
+                    part: _,
+                    escape: Some(place),
+                    end: _,
+                },
+            ),
+        ) => Err(Fault::EscapeValue { place }),
         Err(fault) => Err(fault),
     }
 }
@@ -54,7 +76,13 @@ pub fn read_flow_node<'a>(alloc: Global, src: &Src<'a>, at: usize, n: i32, ctx: 
 /// # Errors
 ///
 /// `Fault::TooDeep` and `Fault::Memory`, as `read_flow_node` does.
-pub fn scan_flow_node<'a>(alloc: Global, src: &Src<'a>, at: usize, n: i32, ctx: Ctx) -> Result<Option<ScannedPart<'a>>, Fault>
+pub fn scan_flow_node<'a>(
+    alloc: Global,
+    src: &Src<'a>,
+    at: usize,
+    n: i32,
+    ctx: Ctx,
+) -> Result<Option<ScannedPart<'a>>, Fault>
     requires { IsCharBoundary src.now.text at }
     ensures { MatchResult result (λ o. IfSome o (λ p. Place src.now.text (at + 1) p.end)) IsScanFault }
 {
@@ -64,7 +92,9 @@ pub fn scan_flow_node<'a>(alloc: Global, src: &Src<'a>, at: usize, n: i32, ctx: 
             Ok(Some(ScannedPart { part, escape, end }))
         }
         Ok(Outcome::Nothing) => Ok(None),
-        Ok(Outcome::TooDeep(offset)) => Err(Fault::TooDeep { place: src.place(offset) }),
+        Ok(Outcome::TooDeep(offset)) => Err(Fault::TooDeep {
+            place: src.place(offset),
+        }),
         Err(AllocError) => Err(Fault::Memory),
     }
 }
@@ -87,7 +117,12 @@ fn first_escape(src: &Src, part: &Part) -> Option<SourcePlace>
 /// # Errors
 ///
 /// As `read_flow_node`.
-pub fn read_implicit_key<'a>(alloc: Global, src: &Src<'a>, at: usize, ctx: Ctx) -> Result<Option<NodePart<'a>>, Fault>
+pub fn read_implicit_key<'a>(
+    alloc: Global,
+    src: &Src<'a>,
+    at: usize,
+    ctx: Ctx,
+) -> Result<Option<NodePart<'a>>, Fault>
     requires { IsCharBoundary src.now.text at }
     ensures { MatchResult result (λ o. IfSome o (λ p. Place src.now.text (at + 1) p.end)) IsReadFault }
 {
@@ -99,7 +134,12 @@ pub fn read_implicit_key<'a>(alloc: Global, src: &Src<'a>, at: usize, ctx: Ctx) 
 /// # Errors
 ///
 /// `Fault::TooDeep` and `Fault::Memory`, as `read_flow_node` does.
-pub fn scan_implicit_key<'a>(alloc: Global, src: &Src<'a>, at: usize, ctx: Ctx) -> Result<Option<ScannedPart<'a>>, Fault>
+pub fn scan_implicit_key<'a>(
+    alloc: Global,
+    src: &Src<'a>,
+    at: usize,
+    ctx: Ctx,
+) -> Result<Option<ScannedPart<'a>>, Fault>
     requires { IsCharBoundary src.now.text at }
     ensures { MatchResult result (λ o. IfSome o (λ p. Place src.now.text (at + 1) p.end)) IsScanFault }
 {

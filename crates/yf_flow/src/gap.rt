@@ -17,7 +17,11 @@ pub(crate) struct Gap {
 }
 
 /// Reads the separation at an offset, if there is one (s-separate(n,c), production 80).
-pub(crate) fn read_separation<'a>(alloc: Global, scene: Scene<'a>, at: usize) -> Result<Option<Separation<'a>>, AllocError>
+pub(crate) fn read_separation<'a>(
+    alloc: Global,
+    scene: Scene<'a>,
+    at: usize,
+) -> Result<Option<Separation<'a>>, AllocError>
     requires { IsCharBoundary scene.text.now at }
     ensures { IfOk result (λ o. IfSome o (λ p. Place scene.entry.text.now at p.end)) }
 {
@@ -28,7 +32,12 @@ pub(crate) fn read_separation<'a>(alloc: Global, scene: Scene<'a>, at: usize) ->
 }
 
 /// Reads the separation at an offset, if there is one, and keeps its comments: where it ends.
-pub(crate) fn read_separation_into<'a>(alloc: Global, scene: Scene<'a>, at: usize, part: &mut Part<'a>) -> Result<Option<usize>, AllocError>
+pub(crate) fn read_separation_into<'a>(
+    alloc: Global,
+    scene: Scene<'a>,
+    at: usize,
+    part: &mut Part<'a>,
+) -> Result<Option<usize>, AllocError>
     requires boundary { IsCharBoundary scene.text.now at }
     ensures place { IfOk result (λ o. IfSome o (λ end. Place scene.entry.text.now at end)) }
     ensures events { IfOk result (λ _. part.new.events ≡ part.old.events) }
@@ -44,15 +53,25 @@ pub(crate) fn read_separation_into<'a>(alloc: Global, scene: Scene<'a>, at: usiz
 }
 
 /// The same where there need be no separation.
-pub(crate) fn read_gap<'a>(alloc: Global, scene: Scene<'a>, at: usize, part: &mut Part<'a>) -> Result<Gap, AllocError>
+pub(crate) fn read_gap<'a>(
+    alloc: Global,
+    scene: Scene<'a>,
+    at: usize,
+    part: &mut Part<'a>,
+) -> Result<Gap, AllocError>
     requires boundary { IsCharBoundary scene.text.now at }
     ensures place { IfOk result (λ gap. Place scene.entry.text.now at gap.end) }
     ensures events { IfOk result (λ _. part.new.events ≡ part.old.events) }
     ensures escapes { IfOk result (λ _. part.new.escapes ≡ part.old.escapes) }
 {
     match read_separation_into(alloc, scene, at, part)? {
-        Some(end) => Ok(Gap { end, is_separation: true }),
-        None => Ok(Gap { end: at, is_separation: false }),
+        Some(end) => Ok(Gap {
+            end,
+            is_separation: true,
+        }),
+        None => Ok(Gap {
+            end: at,
+            is_separation: false,
+        }),
     }
 }
-

@@ -6,12 +6,12 @@ ghost use Rattle.yf_flow.specs.Machine.{Place};
 
 use crate::frame::Scene;
 use std::alloc::{AllocError, Global};
+use yf_events::part::Part;
 use yf_lines::text::Text;
 use yf_plain::plain::read_plain_in;
-use yf_props::properties::{node_properties, Properties};
-use yf_quoted::double::{double_in, Double};
-use yf_quoted::single::{single_in, Single};
-use yf_events::part::Part;
+use yf_props::properties::{Properties, node_properties};
+use yf_quoted::double::{Double, double_in};
+use yf_quoted::single::{Single, single_in};
 
 /// A scalar that was read: its text, and the byte offset behind it.
 #[derive(Drop)]
@@ -21,7 +21,11 @@ pub(crate) struct Scalar<'a> {
 }
 
 /// Reads properties (c-ns-properties(n,c), production 96).
-pub(crate) fn read_properties<'a>(alloc: Global, scene: Scene<'a>, at: usize) -> Result<Option<Properties<'a>>, AllocError>
+pub(crate) fn read_properties<'a>(
+    alloc: Global,
+    scene: Scene<'a>,
+    at: usize,
+) -> Result<Option<Properties<'a>>, AllocError>
     requires { IsCharBoundary scene.text.now at }
     ensures { IfOk result (λ o. IfSome o (λ p. Place scene.entry.text.now (at + 1) p.end)) }
 {
@@ -32,7 +36,11 @@ pub(crate) fn read_properties<'a>(alloc: Global, scene: Scene<'a>, at: usize) ->
 }
 
 /// Reads a plain scalar (ns-plain(n,c), production 131).
-pub(crate) fn read_plain<'a>(alloc: Global, scene: Scene<'a>, at: usize) -> Result<Option<Scalar<'a>>, AllocError>
+pub(crate) fn read_plain<'a>(
+    alloc: Global,
+    scene: Scene<'a>,
+    at: usize,
+) -> Result<Option<Scalar<'a>>, AllocError>
     requires { IsCharBoundary scene.text.now at }
     ensures { IfOk result (λ o. IfSome o (λ p. Place scene.entry.text.now (at + 1) p.end)) }
 {
@@ -44,7 +52,11 @@ pub(crate) fn read_plain<'a>(alloc: Global, scene: Scene<'a>, at: usize) -> Resu
 }
 
 /// Reads a single-quoted scalar (c-single-quoted(n,c), production 120).
-pub(crate) fn read_single<'a>(alloc: Global, scene: Scene<'a>, at: usize) -> Result<Option<Scalar<'a>>, AllocError>
+pub(crate) fn read_single<'a>(
+    alloc: Global,
+    scene: Scene<'a>,
+    at: usize,
+) -> Result<Option<Scalar<'a>>, AllocError>
     requires { IsCharBoundary scene.text.now at }
     ensures { IfOk result (λ o. IfSome o (λ p. Place scene.entry.text.now (at + 1) p.end)) }
 {
@@ -56,7 +68,12 @@ pub(crate) fn read_single<'a>(alloc: Global, scene: Scene<'a>, at: usize) -> Res
 
 /// Reads a double-quoted scalar (c-double-quoted(n,c), production 109), and keeps the offset of its first escape that is
 /// no character.
-pub(crate) fn scan_double<'a>(alloc: Global, scene: Scene<'a>, at: usize, part: &mut Part<'a>) -> Result<Option<Scalar<'a>>, AllocError>
+pub(crate) fn scan_double<'a>(
+    alloc: Global,
+    scene: Scene<'a>,
+    at: usize,
+    part: &mut Part<'a>,
+) -> Result<Option<Scalar<'a>>, AllocError>
     requires boundary { IsCharBoundary scene.text.now at }
     requires escapes { All (IsCharBoundary scene.text.now) part.old.escapes }
     ensures place { IfOk result (λ o. IfSome o (λ p. Place scene.entry.text.now (at + 1) p.end)) }

@@ -10,3 +10,5 @@ pub(crate) mod leaf;
 pub(crate) mod look;
 pub(crate) mod node;
 pub(crate) mod nodes;
+#[cfg(test)]
+mod tests;

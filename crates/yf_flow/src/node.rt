@@ -69,7 +69,11 @@ impl<'a> Lead<'a> {
 }
 
 /// The event of an empty node without properties, or of the end of a collection.
-pub(crate) fn unplaced<'a>(alloc: Global, event: Event<'a>, entry: Option<Entry>) -> PlacedEvent<'a> {
+pub(crate) fn unplaced<'a>(
+    alloc: Global,
+    event: Event<'a>,
+    entry: Option<Entry>,
+) -> PlacedEvent<'a> {
     PlacedEvent {
         event,
         span: None,
@@ -93,7 +97,14 @@ pub(crate) fn empty_node<'a>(alloc: Global, entry: Option<Entry>) -> PlacedEvent
 }
 
 /// Begins a node (ns-flow-node, production 161), where so many collections are open.
-pub(crate) fn begin_node<'a>(alloc: Global, scene: Scene<'a>, at: usize, entry: Option<Entry>, depth: usize, part: &mut Part<'a>) -> Result<Begun, AllocError>
+pub(crate) fn begin_node<'a>(
+    alloc: Global,
+    scene: Scene<'a>,
+    at: usize,
+    entry: Option<Entry>,
+    depth: usize,
+    part: &mut Part<'a>,
+) -> Result<Begun, AllocError>
     requires boundary { IsCharBoundary scene.text.now at }
     requires escapes { All (IsCharBoundary scene.text.now) part.old.escapes }
     ensures begun { IfOk result (λ b. BegunAt scene.entry.text.now at (length part.old.events) (length part.new.events) b) }
@@ -103,8 +114,13 @@ pub(crate) fn begin_node<'a>(alloc: Global, scene: Scene<'a>, at: usize, entry: 
     match alias_node(scene.text, at) {
         Some((name, end)) => {
             let event = Event::Alias { name };
-            part.events.push(Lead::bare(at, entry).placed(alloc, event, end))?;
-            return Ok(Begun::Leaf(Node { end, json: false, deepest: depth }));
+            part.events
+                .push(Lead::bare(at, entry).placed(alloc, event, end))?;
+            return Ok(Begun::Leaf(Node {
+                end,
+                json: false,
+                deepest: depth,
+            }));
         }
         None => {}
     }
@@ -121,7 +137,15 @@ pub(crate) fn begin_node<'a>(alloc: Global, scene: Scene<'a>, at: usize, entry: 
 }
 
 // A node with properties: its content is a plain scalar, a quoted scalar or a flow collection, and else it is empty.
-fn propertied_node<'a>(alloc: Global, scene: Scene<'a>, at: usize, properties: Properties<'a>, entry: Option<Entry>, depth: usize, part: &mut Part<'a>) -> Result<Begun, AllocError>
+fn propertied_node<'a>(
+    alloc: Global,
+    scene: Scene<'a>,
+    at: usize,
+    properties: Properties<'a>,
+    entry: Option<Entry>,
+    depth: usize,
+    part: &mut Part<'a>,
+) -> Result<Begun, AllocError>
     requires boundary { IsCharBoundary scene.text.now at }
     requires place { Place scene.text.now (at + 1) properties.end }
     requires escapes { All (IsCharBoundary scene.text.now) part.old.escapes }
@@ -129,11 +153,26 @@ fn propertied_node<'a>(alloc: Global, scene: Scene<'a>, at: usize, properties: P
     ensures grows { IfOk result (λ _. length part.old.events ≤ length part.new.events) }
     ensures escapes { IfOk result (λ _. All (IsCharBoundary scene.entry.text.now) part.new.escapes) }
 {
-    let Properties { props, tag_offset, comments, end } = properties;
-    let lead = Lead { start: at, props, tag_offset, entry };
+    let Properties {
+        props,
+        tag_offset,
+        comments,
+        end,
+    } = properties;
+    let lead = Lead {
+        start: at,
+        props,
+        tag_offset,
+        entry,
+    };
     part.comments.append(comments)?;
     match read_separation(alloc, scene, end)? {
-        Some(Separation { comments, end: place }) => {
+        Some(
+            Separation {
+                comments,
+                end: place,
+            },
+        ) => {
             if content_begins(scene.text, place) {
                 part.comments.append(comments)?;
                 return json_content(alloc, scene, place, lead, depth, part);
@@ -142,7 +181,11 @@ fn propertied_node<'a>(alloc: Global, scene: Scene<'a>, at: usize, properties: P
                 Some(plain) => {
                     part.comments.append(comments)?;
                     push_scalar(alloc, lead, ScalarStyle::Plain, plain.text, plain.end, part)?;
-                    return Ok(Begun::Leaf(Node { end: plain.end, json: false, deepest: depth }));
+                    return Ok(Begun::Leaf(Node {
+                        end: plain.end,
+                        json: false,
+                        deepest: depth,
+                    }));
                 }
                 None => {}
             }
@@ -150,19 +193,41 @@ fn propertied_node<'a>(alloc: Global, scene: Scene<'a>, at: usize, properties: P
         None => {}
     }
     push_scalar(alloc, lead, ScalarStyle::Plain, Text::Part(""), end, part)?;
-    Ok(Begun::Leaf(Node { end, json: false, deepest: depth }))
+    Ok(Begun::Leaf(Node {
+        end,
+        json: false,
+        deepest: depth,
+    }))
 }
 
-pub(crate) fn push_scalar<'a>(alloc: Global, lead: Lead<'a>, style: ScalarStyle, text: Text<'a>, end: usize, part: &mut Part<'a>) -> Result<(), AllocError>
+pub(crate) fn push_scalar<'a>(
+    alloc: Global,
+    lead: Lead<'a>,
+    style: ScalarStyle,
+    text: Text<'a>,
+    end: usize,
+    part: &mut Part<'a>,
+) -> Result<(), AllocError>
     ensures found { IfOk result (λ _. length part.new.events ≡ length part.old.events + 1) }
     ensures escapes { IfOk result (λ _. part.new.escapes ≡ part.old.escapes) }
 {
-    let event = Event::Scalar { props: lead.props, style, text };
+    let event = Event::Scalar {
+        props: lead.props,
+        style,
+        text,
+    };
     part.events.push(lead.placed(alloc, event, end))
 }
 
 // A plain scalar as a node (ns-plain, production 131).
-fn plain_node<'a>(alloc: Global, scene: Scene<'a>, at: usize, lead: Lead<'a>, depth: usize, part: &mut Part<'a>) -> Result<Begun, AllocError>
+fn plain_node<'a>(
+    alloc: Global,
+    scene: Scene<'a>,
+    at: usize,
+    lead: Lead<'a>,
+    depth: usize,
+    part: &mut Part<'a>,
+) -> Result<Begun, AllocError>
     requires boundary { IsCharBoundary scene.text.now at }
     ensures begun { IfOk result (λ b. BegunAt scene.entry.text.now at (length part.old.events) (length part.new.events) b) }
     ensures grows { IfOk result (λ _. length part.old.events ≤ length part.new.events) }
@@ -171,14 +236,25 @@ fn plain_node<'a>(alloc: Global, scene: Scene<'a>, at: usize, lead: Lead<'a>, de
     match read_plain(alloc, scene, at)? {
         Some(plain) => {
             push_scalar(alloc, lead, ScalarStyle::Plain, plain.text, plain.end, part)?;
-            Ok(Begun::Leaf(Node { end: plain.end, json: false, deepest: depth }))
+            Ok(Begun::Leaf(Node {
+                end: plain.end,
+                json: false,
+                deepest: depth,
+            }))
         }
         None => Ok(Begun::Nothing),
     }
 }
 
 // A quoted scalar, or the opening bracket of a flow collection (c-flow-json-content, production 157).
-fn json_content<'a>(alloc: Global, scene: Scene<'a>, at: usize, lead: Lead<'a>, depth: usize, part: &mut Part<'a>) -> Result<Begun, AllocError>
+fn json_content<'a>(
+    alloc: Global,
+    scene: Scene<'a>,
+    at: usize,
+    lead: Lead<'a>,
+    depth: usize,
+    part: &mut Part<'a>,
+) -> Result<Begun, AllocError>
     requires boundary { IsCharBoundary scene.text.now at }
     requires escapes { All (IsCharBoundary scene.text.now) part.old.escapes }
     ensures begun { IfOk result (λ b. BegunAt scene.entry.text.now at (length part.old.events) (length part.new.events) b) }
@@ -200,7 +276,14 @@ fn json_content<'a>(alloc: Global, scene: Scene<'a>, at: usize, lead: Lead<'a>, 
     Ok(Begun::Nothing)
 }
 
-fn single_node<'a>(alloc: Global, scene: Scene<'a>, at: usize, lead: Lead<'a>, depth: usize, part: &mut Part<'a>) -> Result<Begun, AllocError>
+fn single_node<'a>(
+    alloc: Global,
+    scene: Scene<'a>,
+    at: usize,
+    lead: Lead<'a>,
+    depth: usize,
+    part: &mut Part<'a>,
+) -> Result<Begun, AllocError>
     requires boundary { IsCharBoundary scene.text.now at }
     ensures begun { IfOk result (λ b. BegunAt scene.entry.text.now at (length part.old.events) (length part.new.events) b) }
     ensures grows { IfOk result (λ _. length part.old.events ≤ length part.new.events) }
@@ -208,14 +291,32 @@ fn single_node<'a>(alloc: Global, scene: Scene<'a>, at: usize, lead: Lead<'a>, d
 {
     match read_single(alloc, scene, at)? {
         Some(single) => {
-            push_scalar(alloc, lead, ScalarStyle::Single, single.text, single.end, part)?;
-            Ok(Begun::Leaf(Node { end: single.end, json: true, deepest: depth }))
+            push_scalar(
+                alloc,
+                lead,
+                ScalarStyle::Single,
+                single.text,
+                single.end,
+                part,
+            )?;
+            Ok(Begun::Leaf(Node {
+                end: single.end,
+                json: true,
+                deepest: depth,
+            }))
         }
         None => Ok(Begun::Nothing),
     }
 }
 
-fn double_node<'a>(alloc: Global, scene: Scene<'a>, at: usize, lead: Lead<'a>, depth: usize, part: &mut Part<'a>) -> Result<Begun, AllocError>
+fn double_node<'a>(
+    alloc: Global,
+    scene: Scene<'a>,
+    at: usize,
+    lead: Lead<'a>,
+    depth: usize,
+    part: &mut Part<'a>,
+) -> Result<Begun, AllocError>
     requires boundary { IsCharBoundary scene.text.now at }
     requires escapes { All (IsCharBoundary scene.text.now) part.old.escapes }
     ensures begun { IfOk result (λ b. BegunAt scene.entry.text.now at (length part.old.events) (length part.new.events) b) }
@@ -224,15 +325,34 @@ fn double_node<'a>(alloc: Global, scene: Scene<'a>, at: usize, lead: Lead<'a>, d
 {
     match scan_double(alloc, scene, at, part)? {
         Some(double) => {
-            push_scalar(alloc, lead, ScalarStyle::Double, double.text, double.end, part)?;
-            Ok(Begun::Leaf(Node { end: double.end, json: true, deepest: depth }))
+            push_scalar(
+                alloc,
+                lead,
+                ScalarStyle::Double,
+                double.text,
+                double.end,
+                part,
+            )?;
+            Ok(Begun::Leaf(Node {
+                end: double.end,
+                json: true,
+                deepest: depth,
+            }))
         }
         None => Ok(Begun::Nothing),
     }
 }
 
 // Opens the collection whose bracket stands there, if there is room for it. Where it ends is noted once it is closed.
-fn open<'a>(alloc: Global, scene: Scene<'a>, at: usize, kind: Kind, lead: Lead<'a>, depth: usize, part: &mut Part<'a>) -> Result<Begun, AllocError>
+fn open<'a>(
+    alloc: Global,
+    scene: Scene<'a>,
+    at: usize,
+    kind: Kind,
+    lead: Lead<'a>,
+    depth: usize,
+    part: &mut Part<'a>,
+) -> Result<Begun, AllocError>
     requires boundary { IsCharBoundary scene.text.now at }
     requires behind { IsCharBoundary scene.text.now (at + 1) }
     ensures begun { IfOk result (λ b. BegunAt scene.entry.text.now at (length part.old.events) (length part.new.events) b) }
@@ -244,8 +364,14 @@ fn open<'a>(alloc: Global, scene: Scene<'a>, at: usize, kind: Kind, lead: Lead<'
     }
     let event = part.events.len();
     let start = match kind {
-        Kind::Sequence => Event::SeqStart { flow: true, props: lead.props },
-        Kind::Mapping | Kind::Pair => Event::MapStart { flow: true, props: lead.props },
+        Kind::Sequence => Event::SeqStart {
+            flow: true,
+            props: lead.props,
+        },
+        Kind::Mapping | Kind::Pair => Event::MapStart {
+            flow: true,
+            props: lead.props,
+        },
     };
     part.events.push(lead.placed(alloc, start, at + 1))?;
     Ok(Begun::Opened(Frame {
