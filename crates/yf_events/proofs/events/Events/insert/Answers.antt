@@ -11,5 +11,5 @@ insert-map f xs i x = map-append f (take i xs) (x ∷ drop i xs) ∙ sym (rw (ta
 pub returns : goal.returns
 returns c =
     ap (map placed_value) c.in_ok-insert.ensures.items
-        ∙ insert-map placed_value c.self.inside.list.items c.args.i c.args.event
-        ∙ ap (λ xs. insert xs c.args.i (placed_value c.args.event)) c.self.view_is
+    ∙ insert-map placed_value c.self.inside.list.items c.args.i c.args.event
+    ∙ ap (λ xs. insert xs c.args.i (placed_value c.args.event)) c.self.view_is
