@@ -1,5 +1,5 @@
 -- Laws of escapes: from a place there is one escape at most.
-use Rattle.std.proofs.Common.{◌≡◌, ℕ, ◌+◌, ◌-◌, ◌*◌, ◌^◌, ◌<◌, ◌≤◌, true, false, true≢false, Some, None, refl, sym, ap, ◌∙◌, subst, ⊎_elim, arith, add-one, leb, List, [], ◌∷◌, ◌++◌, ◌/◌, ◌%◌, encode_utf8_all, encode_utf8, append-nil, append_assoc}
+use Rattle.std.proofs.Common.{◌≢◌, ◌⊎◌, ◌≡◌, ℕ, ◌+◌, ◌-◌, ◌*◌, ◌^◌, ◌<◌, ◌≤◌, true, false, true≢false, Some, None, refl, sym, ap, ◌∙◌, subst, ⊎_elim, arith, add-one, leb, List, [], ◌∷◌, ◌++◌, ◌/◌, ◌%◌, encode_utf8_all, encode_utf8, append-nil, append_assoc}
 use native.Mathlib.Numerals.{unary_clauses}
 use Rattle.std.proofs.Math.Nat.{pow-le-pow_right}
 use Rattle.std.proofs.lemmas.Bool.{cases_lt, and_parts, leb-true}
@@ -239,3 +239,113 @@ glue a x y z p q r = r ∙ ap (λ w. w ++ z) (glue_two a x y p q) ∙ append_ass
 
 pub glue_more : {d e : List ℕ} (a z w : List ℕ) → d ≡ a ++ z → e ≡ d ++ w → e ≡ a ++ (z ++ w)
 glue_more a z w p q = q ∙ ap (λ v. v ++ w) p ∙ append_assoc a z w
+
+-- an escape is one
+escape_chosen : {t : List ℕ} {i j v : ℕ} → Escape t i j v → Chosen (Escape t i) j v
+escape_chosen (by_letter b e) = chosen_letter b e
+escape_chosen (by_two n) = chosen_two n
+escape_chosen (by_four n h) = chosen_four n h
+escape_chosen (by_half n h o) = chosen_half n h o
+escape_chosen (by_pair n h o l) = chosen_pair n h o l
+escape_chosen (by_eight n) = chosen_eight n
+
+pub escape_unique : {t : List ℕ} {i j k v w : ℕ} → Escape t i j v → Escape t i k w → (j ≡ k) × (v ≡ w)
+escape_unique {t} {i} {j} {k} {v} {w} a b =
+    let f = (escape_chosen a).longest k w b in
+    let g = (escape_chosen b).longest j v a in
+    let same : j ≡ k = omega arith in
+    (same, (escape_chosen b).only v (subst (λ m. Escape t i m v) same a))
+
+-- it begins with a backslash, moves on, and no line break stands behind the backslash
+pub escape_backslash : {t : List ℕ} {i j v : ℕ} → Escape t i j v → code t i ≡ 92
+escape_backslash (by_letter b e) = b
+escape_backslash (by_two n) = n.backslash
+escape_backslash (by_four n h) = n.backslash
+escape_backslash (by_half n h o) = n.backslash
+escape_backslash (by_pair n h o l) = n.backslash
+escape_backslash (by_eight n) = n.backslash
+
+pub escape_forward : {t : List ℕ} {i j v : ℕ} → Escape t i j v → i < j
+escape_forward (by_letter b e) = omega arith
+escape_forward (by_two n) = omega arith
+escape_forward (by_four n h) = omega arith
+escape_forward (by_half n h o) = omega arith
+escape_forward (by_pair n h o l) = omega arith
+escape_forward (by_eight n) = omega arith
+
+unnamed_lf : named 10 ≡ None
+unfolding named
+unnamed_lf = refl
+
+unnamed_cr : named 13 ≡ None
+unfolding named
+unnamed_cr = refl
+
+no_break_letter : {t : List ℕ} {i d k v : ℕ} → Numbered t i d k v → d ≢ 10 → d ≢ 13 → (code t (i + 1) ≡ 13) ⊎ (code t (i + 1) ≡ 10) → ⊥
+no_break_letter n a b o = ⊎_elim (λ e. b (sym n.letter ∙ e)) (λ e. a (sym n.letter ∙ e)) o
+
+pub escape_no_break : {t : List ℕ} {i j v : ℕ} → Escape t i j v → (code t (i + 1) ≡ 13) ⊎ (code t (i + 1) ≡ 10) → ⊥
+escape_no_break {t} {i} (by_letter b e) o = ⊎_elim (λ (q : code t (i + 1) ≡ 13). no_name 13 unnamed_cr q e) (λ (q : code t (i + 1) ≡ 10). no_name 10 unnamed_lf q e) o
+escape_no_break (by_two n) o = no_break_letter n (λ q. omega arith) (λ q. omega arith) o
+escape_no_break (by_four n h) o = no_break_letter n (λ q. omega arith) (λ q. omega arith) o
+escape_no_break (by_half n h p) o = no_break_letter n (λ q. omega arith) (λ q. omega arith) o
+escape_no_break (by_pair n h p l) o = no_break_letter n (λ q. omega arith) (λ q. omega arith) o
+escape_no_break (by_eight n) o = no_break_letter n (λ q. omega arith) (λ q. omega arith) o
+
+-- no - and no . is part of an escape
+pub record NoSign (t : List ℕ) (i j : ℕ) : Type 0 where
+  pub none : (m : ℕ) → i ≤ m → m < j → (code t m ≢ 45) × (code t m ≢ 46)
+
+value_no_sign : (c : ℕ) → digit_value c < 16 → (c ≢ 45) × (c ≢ 46)
+value_no_sign c l = (λ e. digit_dash (subst (λ w. digit_value w < 16) e l), λ e. digit_dot (subst (λ w. digit_value w < 16) e l)) where
+  digit_dash : digit_value 45 < 16 → ⊥
+  digit_dash l = omega arith
+
+  digit_dot : digit_value 46 < 16 → ⊥
+  digit_dot l = omega arith
+
+unnamed_dash : named 45 ≡ None
+unfolding named
+unnamed_dash = refl
+
+unnamed_dot : named 46 ≡ None
+unfolding named
+unnamed_dot = refl
+
+numbered_no_sign : {t : List ℕ} {i c k v : ℕ} → Numbered t i c k v → c ≢ 45 → c ≢ 46 → NoSign t i (i + 2 + k)
+numbered_no_sign {t} {i} {c} {k} n a b = record {
+  none = λ m l h. ⊎_elim
+      (λ (e : m < i + 2). two m l e)
+      (λ (e : i + 2 ≤ m).
+      let q : (i + 2) + (m - (i + 2)) ≡ m = omega arith in
+      value_no_sign (code t m) (subst (λ w. digit_value (code t w) < 16) q (n.digits.each (m - (i + 2)) (omega arith))))
+      (cases_lt m (i + 2));
+} where
+  two : (m : ℕ) → i ≤ m → m < i + 2 → (code t m ≢ 45) × (code t m ≢ 46)
+  two m l h = ⊎_elim
+      (λ (e : m < i + 1). let q : m ≡ i = omega arith in let z : code t m ≡ 92 = ap (code t) q ∙ n.backslash in (λ f. omega arith, λ f. omega arith))
+      (λ (e : i + 1 ≤ m). let q : m ≡ i + 1 = omega arith in let z : code t m ≡ c = ap (code t) q ∙ n.letter in (λ f. a (sym z ∙ f), λ f. b (sym z ∙ f)))
+      (cases_lt m (i + 1))
+
+letter_no_sign : {t : List ℕ} {i v : ℕ} → code t i ≡ 92 → named (code t (i + 1)) ≡ Some v → NoSign t i (i + 2)
+letter_no_sign {t} {i} b n = record {
+  none = λ m l h. ⊎_elim
+      (λ (e : m < i + 1). let q : m ≡ i = omega arith in let z : code t m ≡ 92 = ap (code t) q ∙ b in (λ f. omega arith, λ f. omega arith))
+      (λ (e : i + 1 ≤ m). let q : m ≡ i + 1 = omega arith in let z : code t m ≡ code t (i + 1) = ap (code t) q in
+      (λ f. no_name 45 unnamed_dash (sym z ∙ f) n, λ f. no_name 46 unnamed_dot (sym z ∙ f) n))
+      (cases_lt m (i + 1));
+}
+
+no_sign_to : {t : List ℕ} {i j k : ℕ} → j ≡ k → NoSign t i j → NoSign t i k
+no_sign_to {t} {i} e n = subst (λ m. NoSign t i m) e n
+
+pub escape_no_sign : {t : List ℕ} {i j v : ℕ} → Escape t i j v → NoSign t i j
+escape_no_sign (by_letter b e) = letter_no_sign b e
+escape_no_sign (by_two n) = no_sign_to (omega arith) (numbered_no_sign n (λ e. omega arith) (λ e. omega arith))
+escape_no_sign (by_four n h) = no_sign_to (omega arith) (numbered_no_sign n (λ e. omega arith) (λ e. omega arith))
+escape_no_sign (by_half n h o) = no_sign_to (omega arith) (numbered_no_sign n (λ e. omega arith) (λ e. omega arith))
+escape_no_sign {t} (by_pair {i = i} n h o l) =
+    let a = numbered_no_sign n (λ e. omega arith) (λ e. omega arith) in
+    let b = numbered_no_sign o (λ e. omega arith) (λ e. omega arith) in
+    record { none = λ m f g. ⊎_elim (λ (e : m < i + 6). a.none m f (omega arith)) (λ (e : i + 6 ≤ m). b.none m e (omega arith)) (cases_lt m (i + 6)) }
+escape_no_sign (by_eight n) = no_sign_to (omega arith) (numbered_no_sign n (λ e. omega arith) (λ e. omega arith))

@@ -306,9 +306,27 @@ mod tests {
 
     #[test]
     fn reads_escapes(rt: HostRuntime) -> Result<(), Fail> {
-        assert_eq!(rt; read_escape("\\ud83d\\ude00", 0), Some(Escape { value: 0x1F600, end: 12 }));
-        assert_eq!(rt; read_escape("\\ud83d", 0), Some(Escape { value: 0xD83D, end: 6 }));
-        assert_eq!(rt; read_escape("\\/", 0), Some(Escape { value: 0x2F, end: 2 }));
+        assert_eq!(rt;
+            read_escape("\\ud83d\\ude00", 0),
+            Some(Escape {
+                value: 0x1F600,
+                end: 12
+            })
+        );
+        assert_eq!(rt;
+            read_escape("\\ud83d", 0),
+            Some(Escape {
+                value: 0xD83D,
+                end: 6
+            })
+        );
+        assert_eq!(rt;
+            read_escape("\\/", 0),
+            Some(Escape {
+                value: 0x2F,
+                end: 2
+            })
+        );
         assert_eq!(rt; read_escape("\\x4", 0), None);
         Ok(())
     }

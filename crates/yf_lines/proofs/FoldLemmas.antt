@@ -25,7 +25,7 @@ use Rattle.yf_lines.specs.Fold.{FoldsTo, FoldLines, ContentAt, line_feeds, fold_
 use Rattle.yf_lines.proofs.BasicLemmas.{white_of_space, break_char, break_forward, break_unique}
 
 -- some run of whites
-abbrev Whites : List ℕ → ℕ → ℕ → Type 0
+abbrev pub Whites : List ℕ → ℕ → ℕ → Type 0
 Whites t i j = (x : List ℕ) × Many t is_white i j x
 
 whites_of_spaces : (t : List ℕ) (i k : ℕ) → Spaces t i k → Whites t i (i + k)
@@ -49,7 +49,7 @@ whites_of_indent {t} (exactly {i = i} k e s) = whites_of_spaces t i k s
 whites_of_less : {t : List ℕ} {n : ℤ} {i j : ℕ} → IndentLess t n i j → Whites t i j
 whites_of_less {t} (fewer {i = i} k e s) = whites_of_spaces t i k s
 
-whites_of_prefix : {t : List ℕ} {n : ℤ} {i j : ℕ} → FlowPrefix t n i j → Whites t i j
+pub whites_of_prefix : {t : List ℕ} {n : ℤ} {i j : ℕ} → FlowPrefix t n i j → Whites t i j
 whites_of_prefix (indented d) = whites_of_indent d
 whites_of_prefix (set_off d s) = whites_append (whites_of_indent d) (whites_of_separation s)
 
@@ -97,7 +97,7 @@ empty_forward {t} a =
     let f = chain_forward (one_functional t is_white) p.whites.1 in
     let g = break_forward p.ends in omega arith
 
-empty_functional : (t : List ℕ) (n : ℤ) → Functional (Empty t n FlowIn)
+pub empty_functional : (t : List ℕ) (n : ℤ) → Functional (Empty t n FlowIn)
 empty_functional t n = record {
   one_end = λ a b. empty_end a b;
   one_meaning = λ a b. (empty_parts a).text ∙ sym (empty_parts b).text;
@@ -116,7 +116,7 @@ content_end : {t : List ℕ} {n : ℤ} {i j k : ℕ} → ContentAt t n i j → C
 content_end a b = whites_end (whites_of_prefix a.prefix) a.no_white (whites_of_prefix b.prefix) b.no_white
 
 -- the lines of a fold are unique
-lines_unique : {t : List ℕ} {n : ℤ} {i j k : ℕ} {x y : List ℕ} → FoldLines t n i j x → FoldLines t n i k y → (j ≡ k) × (x ≡ y)
+pub lines_unique : {t : List ℕ} {n : ℤ} {i j k : ℕ} {x y : List ℕ} → FoldLines t n i j x → FoldLines t n i k y → (j ≡ k) × (x ≡ y)
 lines_unique {t} {n} {k = k} a b =
     let same = stuck_unique (empty_functional t n) a.empties (content_stuck a.content) b.empties (content_stuck b.content) in
     (content_end a.content (subst (λ l. ContentAt t n l k) (sym same.0) b.content), same.1)
@@ -379,3 +379,21 @@ fold_line f =
 pub fold_not_item : {t : List ℕ} {n : ℤ} {i h j : ℕ} {w x : List ℕ} → Many t is_white i h w → Nowhere (Break t h) → is_white (code t h) ≡ false
     → FoldsTo t n i j x → ⊥
 fold_not_item {t} {i = i} {h = h} {w = w} m b e f = (no_fold_break (w, m) e b).none _ _ f
+
+-- a fold moves on, wherever it ends
+pub fold_order : {t : List ℕ} {n : ℤ} {i j : ℕ} {x : List ℕ} → FlowFolded t n i j x → i ≤ j
+fold_order {t} {n} (at_break {h = h} d p) =
+    let parts = folded_parts d in
+    let f = break_forward parts.ends in
+    let g = chain_forward (empty_functional t n) parts.empties in
+    let l = chain_forward (one_functional t is_white) (whites_of_prefix p).1 in omega arith
+fold_order {t} {n} (past_whites s d p) =
+    let parts = folded_parts d in
+    let k = chain_forward (one_functional t is_white) (whites_of_separation s).1 in
+    let f = break_forward parts.ends in
+    let g = chain_forward (empty_functional t n) parts.empties in
+    let l = chain_forward (one_functional t is_white) (whites_of_prefix p).1 in omega arith
+
+-- the lines behind a break cover whites and breaks alone
+pub clear_lines : {t : List ℕ} {n : ℤ} {i j : ℕ} {x : List ℕ} → IsUtf8 t → FoldLines t n i j x → Clear t i j
+clear_lines u l = clear_join (clear_empties u l.empties) (clear_whites u (whites_of_prefix l.content.prefix).1)

@@ -94,7 +94,7 @@ broke_first old new after text more p = record {
   front = p.front;
   rest = p.rest ++ more;
   split = ap (λ l. l ++ more) p.split ∙ append_assoc p.front p.rest more;
-  appended = p.appended
+  appended = p.appended;
 }
 
 pub broke_second : (old mid new : Option (List ℕ)) (before between after : Bool) (text more : List ℕ)
@@ -104,14 +104,14 @@ broke_second old mid new before between after text more p q = record {
   front = text ++ q.front;
   rest = q.rest;
   split = ap (λ l. text ++ l) q.split ∙ sym (append_assoc text q.front q.rest);
-  appended = Appends-trans old mid new text q.front p.appended q.appended
+  appended = Appends-trans old mid new text q.front p.appended q.appended;
 }
 
 pub writes_second : (old mid new : Option (List ℕ)) (before between after : Bool) (text more : List ℕ) (outcome : Result Unit Fault)
     → Wrote old mid before between text → Writes mid new between after more outcome → Writes old new before after (text ++ more) outcome
 writes_second old mid new before between after text more (Ok done) p q = record {
   appended = Appends-trans old mid new text more p.appended q.appended;
-  same = q.same ∙ p.same
+  same = q.same ∙ p.same;
 }
 writes_second old mid new before between after text more (Err e) p q =
     (q.0, broke_second old mid new before between after text more p q.1)

@@ -4,12 +4,12 @@
 
 pub mod basic;
 pub mod fault;
-pub mod line;
 pub mod fold;
+pub mod line;
 pub mod output;
 pub mod place;
 pub mod source_text;
-pub mod table;
 pub mod steady;
+pub mod table;
 pub mod text;
 pub mod watched;

@@ -20,11 +20,11 @@ marked_more from t bs None r h e = h
 marked_more from t {ds} bs (Some m) r h e =
     let same : take m.len ds ≡ take m.len bs = ap (take m.len) e ∙ take-append-le m.len bs r h.within in
     record {
-  within = omega (arith, h.within, ap length e, length-append bs r);
-  front = subst (λ w. IsUtf8 w) (sym same) h.front;
-  boundary = h.boundary;
-  order = h.order;
-}
+      within = omega (arith, h.within, ap length e, length-append bs r);
+      front = subst (λ w. IsUtf8 w) (sym same) h.front;
+      boundary = h.boundary;
+      order = h.order;
+    }
 
 pub marked_split : (from : ℕ) (t bs : List ℕ) (o : Option Mark) → IsUtf8 bs → IfSome o (Marked from t bs) → IfSome o (λ m. IsSplitPoint bs m.len)
 marked_split from t bs None u h = h
@@ -41,7 +41,3 @@ mark_here from t s o true l e q h b w =
     let whole : take l (string_bytes s) ≡ string_bytes s = ap (λ k. take k (string_bytes s)) q ∙ take-length (string_bytes s) in
     record { within = omega arith; front = subst (λ z. IsUtf8 z) (sym whole) (IsUtf8-string_bytes s); boundary = b refl; order = w }
 mark_here from t s o false l e q h b w = h
-
-pub marked_order : (from : ℕ) (t bs : List ℕ) (o : Option Mark) → IfSome o (Marked from t bs) → IfSome o (λ m. from < m.end)
-marked_order from t bs None h = h
-marked_order from t bs (Some m) h = h.order

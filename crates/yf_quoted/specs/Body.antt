@@ -1,7 +1,128 @@
--- The inside of quoted scalars, as their readers meet it.
-use Rattle.std.specs.Prelude.{◌≡◌, ℕ, ◌+◌, ℤ, Bool, true, false, List, [], ◌∷◌, ◌++◌, if◌then◌else◌, slice_range}
-use Rattle.yf_lines.specs.Fold.{line_feeds}
+-- The inside of quoted scalars, character by character, as their readers go on: a gap of whites or a break, and a
+-- character or the closing quote behind it.
+use Rattle.std.specs.Prelude.{◌<ℤ◌, ◌≢◌, ◌⊎◌, ◌==◌, IsSome, encode_utf8_all, ◌≡◌, ℕ, ◌+◌, ℤ, pos, Bool, true, false, List, [], ◌∷◌, ◌++◌, Option, Some, None, if◌then◌else◌, slice_range}
+use Rattle.yf_chars.specs.declared.context.Ctx.{Ctx}
+use Rattle.yf_chars.specs.Text.{code, Reads}
+use Rattle.yf_chars.specs.Class.{is_white, is_nb_json}
+use Rattle.yf_chars.specs.Chain.{Chain, Many, Stuck, Nowhere}
+use Rattle.yf_lines.specs.Basic.{Break, Forbidden, Clear, FlowFolded, is_flow, is_key}
+use Rattle.yf_lines.specs.Fold.{FoldsTo, fold_text, line_feeds}
+use Rattle.yf_quoted.specs.Quoted.Piece.{good, bad}
+use Rattle.yf_quoted.specs.Quoted.{Piece, DoubleChar, DoubleBreak, goods, text_of, first_bad}
 
 -- the bytes of what stands between two characters: whites from i to blank_end, a space, and line feeds
 abbrev pub gap_bytes : List ℕ → ℕ → ℕ → Bool → ℕ → List ℕ
 gap_bytes t i blank_end space feeds = slice_range t i blank_end ++ ((if space then 32 ∷ [] else []) ++ line_feeds feeds)
+
+-- whites, or a break, up to a character that is no white
+pub data Gap {A : Type 0} (t : List ℕ) (put : List ℕ → List A) (B : ℕ → ℕ → List A → Type 0) : ℕ → ℕ → List A → Type 0 where
+  by_whites : {i j : ℕ} {x : List ℕ} → Many t is_white i j x → is_white (code t j) ≡ false → Gap t put B i j (put x)
+  by_break : {i j : ℕ} {x : List A} → B i j x → is_white (code t j) ≡ false → Gap t put B i j x
+
+-- a gap and a character, which cover no forbidden line
+pub record Step {A : Type 0} (t : List ℕ) (put : List ℕ → List A) (C B : ℕ → ℕ → List A → Type 0) (i j : ℕ) (x : List A) : Type 0 where
+  pub at : ℕ
+  pub front : List A
+  pub char : List A
+  pub gap : Gap t put B i at front
+  pub is : C at j char
+  pub clear : Clear t i j
+  pub text : x ≡ front ++ char
+
+-- steps, and a gap before the closing quote at j
+pub record Body {A : Type 0} (t : List ℕ) (put : List ℕ → List A) (C B : ℕ → ℕ → List A → Type 0) (quote i j : ℕ) (x : List A) : Type 0 where
+  pub at : ℕ
+  pub front : List A
+  pub last : List A
+  pub steps : Chain (Step t put C B) i at front
+  pub gap : Gap t put B at j last
+  pub clear : Clear t at j
+  pub closing : code t j ≡ quote
+  pub text : x ≡ front ++ last
+
+-- the breaks of a scalar whose lines are indented by a width; on one line there are none
+abbrev pub DoubleBreaks : List ℕ → Option ℕ → ℕ → ℕ → List Piece → Type 0
+DoubleBreaks t None i j x = ⊥
+DoubleBreaks t (Some w) i j x = DoubleBreak t (pos w) i j x
+
+abbrev pub SingleBreaks : List ℕ → Option ℕ → ℕ → ℕ → List ℕ → Type 0
+SingleBreaks t None i j x = ⊥
+SingleBreaks t (Some w) i j x = FlowFolded t (pos w) i j x
+
+-- whites or a folded break, and what they mean; breaks are folded where lines are indented by a width
+pub data PlainGap (t : List ℕ) (o : Option ℕ) (i : ℕ) : ℕ → Bool → ℕ → ℕ → Type 0 where
+  of_whites : {j : ℕ} {x : List ℕ} → Many t is_white i j x → is_white (code t j) ≡ false → (IsSome o → Nowhere (Break t j)) → PlainGap t o i j false 0 j
+  of_fold : {feeds j : ℕ} (w : ℕ) → o ≡ Some w → FoldsTo t (pos w) i j (fold_text feeds) → PlainGap t o i i (feeds == 0) feeds j
+
+-- a break follows, and no line that goes on behind it
+pub data NoPlainGap (t : List ℕ) (o : Option ℕ) (i : ℕ) : Type 0 where
+  at_break : {j k : ℕ} {x : List ℕ} (w : ℕ) → o ≡ Some w → Many t is_white i j x → Break t j k → Stuck (FoldsTo t (pos w) i) → NoPlainGap t o i
+
+-- a character or the closing quote of a double-quoted scalar begins there
+abbrev pub DoubleGoesOn : List ℕ → ℕ → Type 0
+DoubleGoesOn t k = ((l : ℕ) × (z : List Piece) × DoubleChar t k l z) ⊎ (code t k ≡ 34)
+
+-- the gap of a double-quoted scalar from i to j, and its bytes: no other gap leads on
+pub record DoubleGap (t : List ℕ) (o : Option ℕ) (i blank_end : ℕ) (space : Bool) (feeds j : ℕ) : Type 0 where
+  pub text : List Piece
+  pub gap : Gap t goods (DoubleBreaks t o) i j text
+  pub only : (k : ℕ) (y : List Piece) → Gap t goods (DoubleBreaks t o) i k y → DoubleGoesOn t k → (k ≡ j) × (y ≡ text)
+  pub bytes : gap_bytes t i blank_end space feeds ≡ encode_utf8_all (text_of text)
+  pub no_bad : first_bad text ≡ None
+  pub clear : Clear t i j
+
+pub record NoDoubleGap (t : List ℕ) (o : Option ℕ) (i : ℕ) : Type 0 where
+  pub none : (k : ℕ) (y : List Piece) → Gap t goods (DoubleBreaks t o) i k y → DoubleGoesOn t k → ⊥
+
+-- what an escape or a character means, by its value
+abbrev pub piece : Option ℕ → ℕ → Piece
+piece (Some v) p = good v
+piece None p = bad p
+
+-- the character that is shown for it
+abbrev pub shown : Option ℕ → ℕ
+shown (Some v) = v
+shown None = 0xFFFD
+
+-- the first bad escape, after one more character at p
+abbrev pub first_of : Option ℕ → Option ℕ → ℕ → Option ℕ
+first_of (Some b) v p = Some b
+first_of None (Some v) p = None
+first_of None None p = Some p
+
+-- a character that stands for itself in double quotes, where no forbidden line begins
+pub record Simple (t : List ℕ) (i j : ℕ) : Type 0 where
+  pub json : is_nb_json (code t i) ≡ true
+  pub no_backslash : code t i ≢ 92
+  pub no_quote : code t i ≢ 34
+  pub reads : Reads t i (code t i) j
+  pub allowed : Forbidden t i → ⊥
+
+pub record NoSimple (t : List ℕ) (i : ℕ) : Type 0 where
+  pub none : is_nb_json (code t i) ≡ true → code t i ≢ 92 → code t i ≢ 34 → (Forbidden t i → ⊥) → ⊥
+
+-- no character of a double-quoted scalar is there that covers no forbidden line
+pub record NoDoubleChar (t : List ℕ) (i : ℕ) : Type 0 where
+  pub none : (j : ℕ) (y : List Piece) → DoubleChar t i j y → Clear t i j → ⊥
+
+-- the rest of a double-quoted scalar behind its opening quote, with the bytes of its text and its first bad escape
+pub record DoubleRead (t : List ℕ) (o : Option ℕ) (i : ℕ) (bytes : List ℕ) (wrong : Option ℕ) (j : ℕ) : Type 0 where
+  pub text : List Piece
+  pub close : ℕ
+  pub body : Body t goods (DoubleChar t) (DoubleBreaks t o) 34 i close text
+  pub end : close + 1 ≡ j
+  pub is : bytes ≡ encode_utf8_all (text_of text)
+  pub first : wrong ≡ first_bad text
+
+pub record NoDoubleBody (t : List ℕ) (o : Option ℕ) (i : ℕ) : Type 0 where
+  pub none : (k : ℕ) (y : List Piece) → Body t goods (DoubleChar t) (DoubleBreaks t o) 34 i k y → ⊥
+
+-- the width by which the lines of a quoted scalar are indented; a key has none, and no line is indented by less than nothing
+pub data WidthOf (n : ℤ) (c : Ctx) : Option ℕ → Type 0 where
+  of_key : is_key c ≡ true → WidthOf n c None
+  of_lines : (w : ℕ) → is_flow c ≡ true → n ≡ pos w → WidthOf n c (Some w)
+  of_negative : is_flow c ≡ true → n <ℤ pos 0 → WidthOf n c None
+
+-- characters that stand for themselves in double quotes
+pub data SimpleChar (t : List ℕ) : ℕ → ℕ → List ℕ → Type 0 where
+  simply : {i j : ℕ} → Simple t i j → SimpleChar t i j (code t i ∷ [])

@@ -1,9 +1,15 @@
 //! The reader of double-quoted scalars. Offsets count bytes.
-ghost use Rattle.std.specs.Prelude.{◌≡◌, ◌<◌, ◌≤◌, ◌++◌, ◌+◌, ℕ, Bool, true, false, List, IfSome, IfOk, IfErr, MatchOption, length};
+ghost use Rattle.std.specs.Prelude.{◌≡◌, ◌<◌, ◌≤◌, ◌++◌, ◌+◌, ◌∷◌, [], ℕ, Bool, true, false, List, IfSome, IfOk, IfErr, MatchOption, length, encode_utf8_all};
 ghost use Rattle.std.specs.Str.{IsCharBoundary};
+ghost use Rattle.yf_lines.specs.Basic.{Clear};
+ghost use Rattle.yf_lines.specs.Text.{text_bytes};
+ghost use Rattle.yf_quoted.specs.Body.{Simple, NoSimple, NoDoubleChar, SimpleChar, DoubleRead, NoDoubleBody, piece, shown, first_of};
+ghost use Rattle.yf_chars.specs.Chain.{Chain, Stuck, Chosen};
+ghost use Rattle.yf_quoted.specs.Quoted as Q;
+ghost use Rattle.yf_quoted.specs.Fault.{DoubleFault, BadPlace};
 ghost use Rattle.yf_chars.specs.Text.{Reads};
 
-use crate::gap::{double_gap, lines_width, push_gap};
+use crate::gap::{double_gap, is_block, lines_width, push_gap};
 use std::alloc::{AllocError, Global};
 use yf_chars::classes::is_nb_json;
 use yf_chars::context::Ctx;
@@ -23,15 +29,25 @@ use yf_lines::text::{OwnedText, Text};
 /// # Errors
 ///
 /// `Fault::EscapeValue` at the first escape whose number is no character; `Fault::Memory`.
-pub fn read_double<'a>(alloc: Global, src: &Src<'a>, at: usize, n: i32, ctx: Ctx) -> Result<Option<(Text<'a>, usize)>, Fault>
+pub fn read_double<'a>(
+    alloc: Global,
+    src: &Src<'a>,
+    at: usize,
+    n: i32,
+    ctx: Ctx,
+) -> Result<Option<(Text<'a>, usize)>, Fault>
     requires { IsCharBoundary src.now.text at }
+    ensures reads { IfOk result (λ o. MatchOption o (Stuck (Q.DoubleQuoted src.now.text n ctx at)) (λ p. (x : List Q.Piece) × (text_bytes p.0 ≡ encode_utf8_all (Q.text_of x)) × (Q.first_bad x ≡ None) × Chosen (Q.DoubleQuoted src.now.text n ctx at) p.1 x)) }
+    ensures refused { IfErr result (λ e. DoubleFault src.now.text n ctx at e) }
     ensures boundary { IfOk result (λ o. IfSome o (λ p. IsCharBoundary src.now.text p.1)) }
 {
     match double_in(alloc, src.text(), at, n, ctx) {
         Ok(None) => Ok(None),
         Ok(Some(read)) => match read.bad {
             None => Ok(Some((read.text, read.end))),
-            Some(bad) => Err(Fault::EscapeValue { place: src.place(bad) }),
+            Some(bad) => Err(Fault::EscapeValue {
+                place: src.place(bad),
+            }),
         },
         Err(_) => Err(Fault::Memory),
     }
@@ -43,8 +59,15 @@ pub fn read_double<'a>(alloc: Global, src: &Src<'a>, at: usize, n: i32, ctx: Ctx
 /// # Errors
 ///
 /// `Fault::Memory` alone.
-pub fn scan_double<'a>(alloc: Global, src: &Src<'a>, at: usize, n: i32, ctx: Ctx) -> Result<Option<(Text<'a>, Option<Place>, usize)>, Fault>
+pub fn scan_double<'a>(
+    alloc: Global,
+    src: &Src<'a>,
+    at: usize,
+    n: i32,
+    ctx: Ctx,
+) -> Result<Option<(Text<'a>, Option<Place>, usize)>, Fault>
     requires { IsCharBoundary src.now.text at }
+    ensures reads { IfOk result (λ o. MatchOption o (Stuck (Q.DoubleQuoted src.now.text n ctx at)) (λ p. (x : List Q.Piece) × (text_bytes p.0 ≡ encode_utf8_all (Q.text_of x)) × BadPlace src.now.text (Q.first_bad x) p.1 × Chosen (Q.DoubleQuoted src.now.text n ctx at) p.2 x)) }
     ensures boundary { IfOk result (λ o. IfSome o (λ p. IsCharBoundary src.now.text p.2)) }
     ensures refused { IfErr result (λ e. e ≡ Fault.Memory) }
 {
@@ -71,27 +94,43 @@ pub struct Double<'a> {
 }
 
 /// The same in a text without its lines.
-pub fn double_in<'a>(alloc: Global, s: &'a str, at: usize, n: i32, ctx: Ctx) -> Result<Option<Double<'a>>, AllocError>
+pub fn double_in<'a>(
+    alloc: Global,
+    s: &'a str,
+    at: usize,
+    n: i32,
+    ctx: Ctx,
+) -> Result<Option<Double<'a>>, AllocError>
     requires { IsCharBoundary s.now at }
+    ensures reads { IfOk result (λ o. MatchOption o (Stuck (Q.DoubleQuoted s.now n ctx at)) (λ p. (x : List Q.Piece) × (text_bytes p.text ≡ encode_utf8_all (Q.text_of x)) × (p.bad ≡ Q.first_bad x) × Chosen (Q.DoubleQuoted s.now n ctx at) p.end x)) }
     ensures boundary { IfOk result (λ o. IfSome o (λ p. IsCharBoundary s.now p.end)) }
     ensures order { IfOk result (λ o. IfSome o (λ p. at < p.end)) }
     ensures place { IfOk result (λ o. IfSome o (λ p. IfSome p.bad (λ b. IsCharBoundary s.now b))) }
 {
-    if matches!(ctx, Ctx::BlockOut | Ctx::BlockIn) {
+    if is_block(ctx) {
         return Ok(None);
     }
     if !stands(s, at, b'"') {
         return Ok(None);
     }
+    let width = lines_width(n, ctx);
     match simple_end(s, at + 1) {
-        Some(close) => Ok(Some(Double { text: Text::Part(&s[at + 1..close]), bad: None, end: close + 1 })),
-        None => double_body(alloc, s, at + 1, lines_width(n, ctx)),
+        Some(close) => Ok(Some(Double {
+            text: Text::Part(&s[at + 1..close]),
+            bad: None,
+            end: close + 1,
+        })),
+        None => match double_body(alloc, s, at + 1, width)? {
+            None => Ok(None),
+            Some(read) => Ok(Some(read)),
+        },
     }
 }
 
 // The place of the closing quote, where only characters that stand for themselves stand before it.
 fn simple_end(s: &str, at: usize) -> Option<usize>
     requires { IsCharBoundary s.now at }
+    ensures reads { IfSome result (λ j. (x : List ℕ) × Chain (SimpleChar s.now) at j x) }
     ensures boundary { IfSome result (λ j. IsCharBoundary s.now j) }
     ensures order { IfSome result (λ j. at ≤ j) }
     ensures close { IfSome result (λ j. Reads s.now j 34 (j + 1)) }
@@ -111,6 +150,7 @@ fn simple_end(s: &str, at: usize) -> Option<usize>
 // The offset behind a character that stands for itself.
 fn simple_char(s: &str, at: usize) -> Option<usize>
     requires { IsCharBoundary s.now at }
+    ensures reads { MatchOption result (NoSimple s.now at) (λ j. Simple s.now at j) }
     ensures boundary { IfSome result (λ j. IsCharBoundary s.now j) }
     ensures order { IfSome result (λ j. at < j) }
 {
@@ -144,24 +184,37 @@ struct DoubleChar {
 // A character of a double-quoted scalar (nb-double-char, production 107).
 fn double_char(s: &str, at: usize) -> Option<DoubleChar>
     requires { IsCharBoundary s.now at }
+    ensures reads { MatchOption result (NoDoubleChar s.now at) (λ c. Q.DoubleChar s.now at c.end (piece c.value at ∷ []) × Clear s.now at c.end) }
     ensures boundary { IfSome result (λ c. IsCharBoundary s.now c.end) }
     ensures order { IfSome result (λ c. at < c.end) }
 {
     match peek(s, at) {
         None => None,
         Some((c, _)) => match simple_char(s, at) {
-            Some(end) => Some(DoubleChar { value: Some(c), end }),
+            Some(end) => Some(DoubleChar {
+                value: Some(c),
+                end,
+            }),
             None => match read_escape(s, at) {
                 None => None,
-                Some(escape) => Some(DoubleChar { value: char::from_u32(escape.value), end: escape.end }),
+                Some(escape) => Some(DoubleChar {
+                    value: char::from_u32(escape.value),
+                    end: escape.end,
+                }),
             },
         },
     }
 }
 
 // The rest of a double-quoted scalar behind its opening quote.
-fn double_body<'a>(alloc: Global, s: &'a str, at: usize, width: Option<usize>) -> Result<Option<Double<'a>>, AllocError>
+fn double_body<'a>(
+    alloc: Global,
+    s: &'a str,
+    at: usize,
+    width: Option<usize>,
+) -> Result<Option<Double<'a>>, AllocError>
     requires { IsCharBoundary s.now at }
+    ensures reads { IfOk result (λ o. MatchOption o (NoDoubleBody s.now width at) (λ p. DoubleRead s.now width at (text_bytes p.text) p.bad p.end)) }
     ensures boundary { IfOk result (λ o. IfSome o (λ p. IsCharBoundary s.now p.end)) }
     ensures order { IfOk result (λ o. IfSome o (λ p. at < p.end)) }
     ensures place { IfOk result (λ o. IfSome o (λ p. IfSome p.bad (λ b. IsCharBoundary s.now b))) }
@@ -176,22 +229,42 @@ fn double_body<'a>(alloc: Global, s: &'a str, at: usize, width: Option<usize>) -
         };
         push_gap(&mut text, s, end, gap)?;
         if stands(s, gap.end, b'"') {
-            return Ok(Some(Double { text: Text::Owned(OwnedText::new(text)), bad, end: gap.end + 1 }));
+            return Ok(Some(Double {
+                text: Text::Owned(OwnedText::new(text)),
+                bad,
+                end: gap.end + 1,
+            }));
         }
         match double_char(s, gap.end) {
             None => return Ok(None),
             Some(c) => {
-                match c.value {
-                    Some(value) => text.push(value)?,
-                    None => {
-                        text.push('\u{FFFD}')?;
-                        if bad.is_none() {
-                            bad = Some(gap.end);
-                        }
-                    }
-                }
+                text.push(shown(c.value))?;
+                bad = first_of(bad, c.value, gap.end);
                 end = c.end;
             }
         }
+    }
+}
+
+// The character that is shown for a value: U+FFFD where an escape is none.
+fn shown(value: Option<char>) -> char
+    ensures { result ≡ shown value }
+{
+    match value {
+        Some(c) => c,
+        None => '\u{FFFD}',
+    }
+}
+
+// The first bad escape, after one more character at the place.
+fn first_of(bad: Option<usize>, value: Option<char>, place: usize) -> Option<usize>
+    ensures { result ≡ first_of bad value place }
+{
+    match bad {
+        Some(first) => Some(first),
+        None => match value {
+            Some(_) => None,
+            None => Some(place),
+        },
     }
 }

@@ -1,9 +1,11 @@
 //! What stands between two characters of a quoted scalar: whites, or a line break. Offsets count bytes.
-ghost use Rattle.std.specs.Prelude.{◌≡◌, ◌<◌, ◌≤◌, ◌++◌, ◌∷◌, [], if◌then◌else◌, ℕ, pos, Bool, true, false, List, Option, IfSome, OnOk, MatchOption, length};
+ghost use Rattle.std.specs.Prelude.{◌≡◌, ◌+◌, ◌<◌, ◌≤◌, ◌++◌, ◌∷◌, [], if◌then◌else◌, ℕ, pos, Bool, true, false, List, Option, IfSome, OnOk, MatchOption, length};
 ghost use Rattle.std.specs.Str.{IsCharBoundary};
 ghost use Rattle.std.specs.String.{string_bytes};
 ghost use Rattle.yf_lines.specs.Fold.{line_feeds};
-ghost use Rattle.yf_quoted.specs.Body.{gap_bytes};
+ghost use Rattle.yf_chars.specs.Text.{code};
+ghost use Rattle.yf_lines.specs.Basic.{Break, is_block, is_key};
+ghost use Rattle.yf_quoted.specs.Body.{gap_bytes, PlainGap, NoPlainGap, DoubleGap, NoDoubleGap, WidthOf};
 
 use std::alloc::AllocError;
 use yf_chars::context::Ctx;
@@ -23,18 +25,29 @@ pub struct Gap {
 /// What stands between two characters of a single-quoted scalar; line breaks are read where there is a width.
 pub fn single_gap(s: &str, at: usize, width: Option<usize>) -> Option<Gap>
     requires { IsCharBoundary s.now at }
+    ensures reads { MatchOption result (NoPlainGap s.now width at) (λ g. PlainGap s.now width at g.blank_end g.space g.feeds g.end) }
     ensures boundary { IfSome result (λ g. IsCharBoundary s.now g.blank_end × IsCharBoundary s.now g.end) }
     ensures order { IfSome result (λ g. (at ≤ g.blank_end) × (at ≤ g.end)) }
 {
     let place = skip_whites(s, at);
-    let whites = Gap { blank_end: place, space: false, feeds: 0, end: place };
+    let whites = Gap {
+        blank_end: place,
+        space: false,
+        feeds: 0,
+        end: place,
+    };
     match width {
         None => Some(whites),
         Some(width) => match line_break(s, place) {
             None => Some(whites),
             Some(_) => match flow_folded(s, at, width) {
                 None => None,
-                Some(fold) => Some(Gap { blank_end: at, space: fold.feeds == 0, feeds: fold.feeds, end: fold.end }),
+                Some(fold) => Some(Gap {
+                    blank_end: at,
+                    space: fold.feeds == 0,
+                    feeds: fold.feeds,
+                    end: fold.end,
+                }),
             },
         },
     }
@@ -43,24 +56,48 @@ pub fn single_gap(s: &str, at: usize, width: Option<usize>) -> Option<Gap>
 /// The same in a double-quoted scalar, where a break may be escaped (s-double-escaped(n), production 112).
 pub fn double_gap(s: &str, at: usize, width: Option<usize>) -> Option<Gap>
     requires { IsCharBoundary s.now at }
+    ensures reads { MatchOption result (NoDoubleGap s.now width at) (λ g. DoubleGap s.now width at g.blank_end g.space g.feeds g.end) }
     ensures boundary { IfSome result (λ g. IsCharBoundary s.now g.blank_end × IsCharBoundary s.now g.end) }
     ensures order { IfSome result (λ g. (at ≤ g.blank_end) × (at ≤ g.end)) }
 {
     match width {
-        None => single_gap(s, at, None),
+        None => match single_gap(s, at, None) {
+            None => None,
+            Some(gap) => Some(gap),
+        },
         Some(lines) => {
             let place = skip_whites(s, at);
-            if !stands(s, place, b'\\') {
-                return single_gap(s, at, width);
-            }
-            match line_break(s, place + 1) {
-                None => single_gap(s, at, width),
+            match escaped_break(s, place) {
+                None => match single_gap(s, at, Some(lines)) {
+                    None => None,
+                    Some(gap) => Some(gap),
+                },
                 Some(next_line) => match fold_lines(s, next_line, lines) {
                     None => None,
-                    Some(fold) => Some(Gap { blank_end: place, space: false, feeds: fold.feeds, end: fold.end }),
+                    Some(fold) => Some(Gap {
+                        blank_end: place,
+                        space: false,
+                        feeds: fold.feeds,
+                        end: fold.end,
+                    }),
                 },
             }
         }
+    }
+}
+
+// The offset behind a backslash and the line break behind it.
+fn escaped_break(s: &str, at: usize) -> Option<usize>
+    ensures reads { MatchOption result (code s.now at ≡ 92 → (l : ℕ) → Break s.now (at + 1) l → ⊥) (λ l. (code s.now at ≡ 92) × Break s.now (at + 1) l) }
+    ensures boundary { IfSome result (λ l. IsCharBoundary s.now l) }
+    ensures order { IfSome result (λ l. at < l) }
+{
+    if !stands(s, at, b'\\') {
+        return None;
+    }
+    match line_break(s, at + 1) {
+        None => None,
+        Some(next_line) => Some(next_line),
     }
 }
 
@@ -97,9 +134,29 @@ fn push_feeds(text: &mut String, feeds: usize) -> Result<(), AllocError>
 }
 
 /// The indentation of the lines of a quoted scalar, where it may have several: no key has.
-pub fn lines_width(n: i32, ctx: Ctx) -> Option<usize> {
-    match ctx {
-        Ctx::FlowOut | Ctx::FlowIn => indent_width(n),
-        _ => None,
+pub fn lines_width(n: i32, ctx: Ctx) -> Option<usize>
+    requires { is_block ctx ≡ false }
+    ensures { WidthOf n ctx result }
+{
+    if is_key(ctx) {
+        return None;
     }
+    match indent_width(n) {
+        None => None,
+        Some(width) => Some(width),
+    }
+}
+
+/// Whether no scalar stands in that context.
+pub fn is_block(ctx: Ctx) -> bool
+    ensures { result ≡ is_block ctx }
+{
+    matches!(ctx, Ctx::BlockOut | Ctx::BlockIn)
+}
+
+// Whether a scalar in that context stands on one line.
+fn is_key(ctx: Ctx) -> bool
+    ensures { result ≡ is_key ctx }
+{
+    matches!(ctx, Ctx::BlockKey | Ctx::FlowKey)
 }

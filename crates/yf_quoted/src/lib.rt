@@ -4,6 +4,5 @@
 pub mod double;
 pub mod gap;
 pub mod single;
-
 #[cfg(test)]
 mod tests;

@@ -6,7 +6,7 @@ ghost use Rattle.yf_lines.specs.Text.{text_bytes};
 ghost use Rattle.std.specs.Str.{IsCharBoundary};
 ghost use Rattle.yf_chars.specs.Text.{Reads};
 
-use crate::gap::{lines_width, push_gap, single_gap};
+use crate::gap::{is_block, lines_width, push_gap, single_gap};
 use std::alloc::{AllocError, Global};
 use yf_chars::classes::is_nb_json;
 use yf_chars::context::Ctx;
@@ -25,7 +25,13 @@ use yf_lines::text::{OwnedText, Text};
 /// # Errors
 ///
 /// `Fault::Memory` alone.
-pub fn read_single<'a>(alloc: Global, src: &Src<'a>, at: usize, n: i32, ctx: Ctx) -> Result<Option<(Text<'a>, usize)>, Fault>
+pub fn read_single<'a>(
+    alloc: Global,
+    src: &Src<'a>,
+    at: usize,
+    n: i32,
+    ctx: Ctx,
+) -> Result<Option<(Text<'a>, usize)>, Fault>
     requires { IsCharBoundary src.now.text at }
     ensures boundary { IfOk result (λ o. IfSome o (λ p. IsCharBoundary src.now.text p.1)) }
     ensures refused { IfErr result (λ e. e ≡ Fault.Memory) }
@@ -45,19 +51,28 @@ pub struct Single<'a> {
 }
 
 /// The same in a text without its lines.
-pub fn single_in<'a>(alloc: Global, s: &'a str, at: usize, n: i32, ctx: Ctx) -> Result<Option<Single<'a>>, AllocError>
+pub fn single_in<'a>(
+    alloc: Global,
+    s: &'a str,
+    at: usize,
+    n: i32,
+    ctx: Ctx,
+) -> Result<Option<Single<'a>>, AllocError>
     requires { IsCharBoundary s.now at }
     ensures boundary { IfOk result (λ o. IfSome o (λ p. IsCharBoundary s.now p.end)) }
     ensures order { IfOk result (λ o. IfSome o (λ p. at < p.end)) }
 {
-    if matches!(ctx, Ctx::BlockOut | Ctx::BlockIn) {
+    if is_block(ctx) {
         return Ok(None);
     }
     if !stands(s, at, b'\'') {
         return Ok(None);
     }
     match simple_end(s, at + 1) {
-        Some(close) => Ok(Some(Single { text: Text::Part(&s[at + 1..close]), end: close + 1 })),
+        Some(close) => Ok(Some(Single {
+            text: Text::Part(&s[at + 1..close]),
+            end: close + 1,
+        })),
         None => single_body(alloc, s, at + 1, lines_width(n, ctx)),
     }
 }
@@ -104,7 +119,11 @@ fn single_char(s: &str, at: usize) -> Option<SingleChar>
         Some((c, end)) => {
             if c == '\'' {
                 if stands(s, end, b'\'') {
-                    return Some(SingleChar { value: c, doubled: true, end: end + 1 });
+                    return Some(SingleChar {
+                        value: c,
+                        doubled: true,
+                        end: end + 1,
+                    });
                 }
                 return None;
             }
@@ -114,7 +133,11 @@ fn single_char(s: &str, at: usize) -> Option<SingleChar>
             if is_forbidden_at(s, at) {
                 return None;
             }
-            Some(SingleChar { value: c, doubled: false, end })
+            Some(SingleChar {
+                value: c,
+                doubled: false,
+                end,
+            })
         }
     }
 }
@@ -127,7 +150,12 @@ struct Mark {
 }
 
 // The rest of a single-quoted scalar behind its opening quote.
-fn single_body<'a>(alloc: Global, s: &'a str, at: usize, width: Option<usize>) -> Result<Option<Single<'a>>, AllocError>
+fn single_body<'a>(
+    alloc: Global,
+    s: &'a str,
+    at: usize,
+    width: Option<usize>,
+) -> Result<Option<Single<'a>>, AllocError>
     requires { IsCharBoundary s.now at }
     ensures boundary { IfOk result (λ o. IfSome o (λ p. IsCharBoundary s.now p.end)) }
     ensures order { IfOk result (λ o. IfSome o (λ p. at < p.end)) }
@@ -144,7 +172,10 @@ fn single_body<'a>(alloc: Global, s: &'a str, at: usize, width: Option<usize>) -
         match single_char(s, gap.end) {
             None => {
                 if stands(s, gap.end, b'\'') {
-                    return Ok(Some(Single { text: Text::Owned(OwnedText::new(text)), end: gap.end + 1 }));
+                    return Ok(Some(Single {
+                        text: Text::Owned(OwnedText::new(text)),
+                        end: gap.end + 1,
+                    }));
                 }
                 return Ok(cut(text, mark));
             }
@@ -176,7 +207,10 @@ fn cut<'a>(mut text: String, mark: Option<Mark>) -> Option<Single<'a>>
         None => None,
         Some(mark) => {
             text.truncate(mark.len);
-            Some(Single { text: Text::Owned(OwnedText::new(text)), end: mark.end })
+            Some(Single {
+                text: Text::Owned(OwnedText::new(text)),
+                end: mark.end,
+            })
         }
     }
 }

@@ -21,7 +21,7 @@ chars-preserved c =
     let old = marked_more c.args.at s (string_bytes c.chars.text) c.chars.mark (gap_bytes s c.chars.end g.blank_end g.space g.feeds) c.chars.invariant.mark c.in_ok-push_gap.ensures in
     let here = mark_here c.args.at s c.push_gap.new.text c.chars.mark c.in-Some-single_char.c.doubled (length c.as_str.result.now) (g.end + 1) (ap length c.as_str.ensures.value) old c.in-Some-single_char.ensures.quote (omega (arith, c.chars.invariant.order, c.in-Some.ensures.order)) in
     record {
-  boundary = c.in-Some-single_char.ensures.boundary;
-  order = omega (arith, c.chars.invariant.order, c.in-Some.ensures.order, c.in-Some-single_char.ensures.order);
-  mark = rw c.next_mark-mark.ensures (marked_more c.args.at s (string_bytes c.push_gap.new.text) _ (encode_utf8 c.in-Some-single_char.c.value) here c.in_ok-push-in-Some-single_char.ensures.bytes);
-}
+      boundary = c.in-Some-single_char.ensures.boundary;
+      order = omega (arith, c.chars.invariant.order, c.in-Some.ensures.order, c.in-Some-single_char.ensures.order);
+      mark = rw c.next_mark-mark.ensures (marked_more c.args.at s (string_bytes c.push_gap.new.text) _ (encode_utf8 c.in-Some-single_char.c.value) here c.in_ok-push-in-Some-single_char.ensures.bytes);
+    }

@@ -1,0 +1,160 @@
+-- Laws for the reader of double-quoted scalars.
+use Rattle.std.proofs.Common.{◌≡◌, ◌≢◌, ℕ, ◌+◌, ◌<◌, ◌≤◌, ℤ, pos, Bool, true, false, List, [], ◌∷◌, ◌++◌, Option, Some, None, refl, sym, ap, ◌∙◌, subst, inl, inr, ◌⊎◌, ⊎_elim, arith, append_assoc, append-nil, encode_utf8_all, encode_utf8, SomeIff, IfSome}
+use Rattle.std.proofs.lemmas.Bool.{true≢false}
+use Rattle.std.proofs.lemmas.Str.{encodes-append}
+use Rattle.std.specs.Char.{IsScalar}
+use Rattle.std.specs.Str.{IsUtf8, IsCharBoundary}
+use Rattle.yf_chars.specs.Text.{code, next, Reads, no_char}
+use Rattle.yf_chars.specs.Class.{is_nb_json, is_between}
+use Rattle.yf_chars.specs.Chain.{Chain, Functional, Stuck}
+use Rattle.yf_chars.specs.Chain.Chain.{done}
+use Rattle.yf_chars.specs.Escape.{Escape}
+use Rattle.yf_chars.proofs.EscapeLemmas.{escape_backslash, escape_no_sign, NoSign, escape_forward}
+use Rattle.yf_chars.proofs.TextLemmas.{next_later}
+use Rattle.yf_chars.proofs.ChainLemmas.{chain_more}
+use Rattle.yf_lines.specs.Basic.{Forbidden, Clear}
+use Rattle.yf_lines.proofs.BasicLemmas.{clear_join, clear_back}
+use Rattle.yf_lines.proofs.ClearLemmas.{clear_char, not_forbidden}
+use Rattle.yf_quoted.specs.Quoted.{DoubleChar, Piece, goods, text_of, first_bad}
+use Rattle.yf_quoted.specs.Quoted.Piece.{good, bad}
+use Rattle.yf_quoted.specs.Quoted.DoubleChar.{unescaped, escaped, wrong}
+use Rattle.yf_quoted.specs.Body.{Gap, Step, Body, DoubleBreaks, DoubleGap, NoDoubleGap, DoubleGoesOn, Simple, NoSimple, NoDoubleChar, DoubleRead, NoDoubleBody, piece, shown, first_of, gap_bytes}
+use Rattle.yf_quoted.proofs.BodyLemmas.{no_body}
+use Rattle.yf_quoted.proofs.DoubleLemmas.{Written, written, double_laws, no_quote_char}
+use Rattle.yf_quoted.proofs.DoubleLemmas.Written.{itself, by_escape}
+
+json_end : is_nb_json no_char ≡ false
+unfolding is_nb_json is_between
+json_end = refl
+
+pub no_simple_end : {t : List ℕ} {i : ℕ} → code t i ≡ no_char → NoSimple t i
+no_simple_end e = record { none = λ j n m a. true≢false (sym j ∙ ap is_nb_json e ∙ json_end) }
+
+-- characters
+pub clear_escape : {t : List ℕ} {i j v : ℕ} → Escape t i j v → Clear t i j
+clear_escape {t} e = let n = escape_no_sign e in record { none = λ h l m f. let s = n.none h l m in not_forbidden t h s.0 s.1 f }
+
+pub no_double_char : {t : List ℕ} {i : ℕ} → NoSimple t i → Stuck (Escape t i) → NoDoubleChar t i
+no_double_char {t} {i} n s = record { none = λ j y d a. go (written d) a } where
+  go : {j : ℕ} {y : List Piece} → Written t i j y → Clear t i j → ⊥
+  go (itself b q e p x) a = let f = next_later t i in n.none e b q (λ g. a.none i (omega arith) (omega arith) g)
+  go {j} (by_escape v e) a = s.none j v e
+
+pub no_char_end : {t : List ℕ} {i : ℕ} → code t i ≡ no_char → NoDoubleChar t i
+no_char_end {t} {i} e = record { none = λ j y d a. go (written d) } where
+  go : {j : ℕ} {y : List Piece} → Written t i j y → ⊥
+  go (itself b q f p x) = true≢false (sym f ∙ ap is_nb_json e ∙ json_end)
+  go (by_escape v f) = let b = escape_backslash f in omega arith
+
+pub simple_char : {t : List ℕ} {i j c : ℕ} → IsUtf8 t → Simple t i j → code t i ≡ c → DoubleChar t i j (piece (Some c) i ∷ []) × Clear t i j
+simple_char {t} {i} {j} u s e =
+    let d : DoubleChar t i j (good (code t i) ∷ []) = subst (λ k. DoubleChar t i k (good (code t i) ∷ [])) s.reads.end (unescaped s.json s.no_backslash s.no_quote) in
+    (subst (λ w. DoubleChar t i j (good w ∷ [])) e d, clear_char u s.reads s.allowed)
+
+pub escape_char : {t : List ℕ} {i j v : ℕ} (o : Option ℕ) → Escape t i j v → SomeIff o (IsScalar v) v → DoubleChar t i j (piece o i ∷ []) × Clear t i j
+escape_char None e s = (wrong e s, clear_escape e)
+escape_char {t} {i} {j} (Some c) e s = (subst (λ w. DoubleChar t i j (good w ∷ [])) (sym s.1) (escaped e s.0), clear_escape e)
+
+-- texts of pieces
+text_of_append : (x y : List Piece) → text_of (x ++ y) ≡ text_of x ++ text_of y
+text_of_append [] y = refl
+text_of_append (good c ∷ x) y = ap (λ w. c ∷ w) (text_of_append x y)
+text_of_append (bad p ∷ x) y = ap (λ w. 0xFFFD ∷ w) (text_of_append x y)
+
+pub pieces_bytes : (x y : List Piece) → encode_utf8_all (text_of (x ++ y)) ≡ encode_utf8_all (text_of x) ++ encode_utf8_all (text_of y)
+pieces_bytes x y = ap encode_utf8_all (text_of_append x y) ∙ encodes-append (text_of x) (text_of y)
+
+pub piece_bytes : (o : Option ℕ) (p : ℕ) → encode_utf8_all (text_of (piece o p ∷ [])) ≡ encode_utf8 (shown o)
+piece_bytes (Some c) p = append-nil (encode_utf8 c)
+piece_bytes None p = append-nil (encode_utf8 0xFFFD)
+
+-- the first bad escape of two parts
+or_else : Option ℕ → Option ℕ → Option ℕ
+or_else (Some a) b = Some a
+or_else None b = b
+
+first_append : (x y : List Piece) → first_bad (x ++ y) ≡ or_else (first_bad x) (first_bad y)
+unfolding or_else
+first_append [] y = refl
+first_append (good c ∷ x) y = first_append x y
+first_append (bad p ∷ x) y = refl
+
+pub first_more : (x y : List Piece) (o : Option ℕ) (p : ℕ) → first_bad y ≡ None → first_bad (x ++ (y ++ piece o p ∷ [])) ≡ first_of (first_bad x) o p
+unfolding or_else
+first_more x y o p n =
+    first_append x (y ++ piece o p ∷ []) ∙ ap (or_else (first_bad x)) (first_append y (piece o p ∷ []) ∙ ap (λ w. or_else w (first_bad (piece o p ∷ []))) n)
+    ∙ go (first_bad x) o where
+      go : (a o : Option ℕ) → or_else a (first_bad (piece o p ∷ [])) ≡ first_of a o p
+      go (Some a) o = refl
+      go None (Some v) = refl
+      go None None = refl
+
+pub first_none : (x y : List Piece) → first_bad y ≡ None → first_bad (x ++ y) ≡ first_bad x
+unfolding or_else
+first_none x y n = first_append x y ∙ ap (or_else (first_bad x)) n ∙ go (first_bad x) where
+  go : (a : Option ℕ) → or_else a None ≡ a
+  go (Some a) = refl
+  go None = refl
+
+-- the text so far
+pub record SoFar (t : List ℕ) (o : Option ℕ) (i j : ℕ) (bytes : List ℕ) (wrong : Option ℕ) : Type 0 where
+  pub text : List Piece
+  pub steps : Chain (Step t goods (DoubleChar t) (DoubleBreaks t o)) i j text
+  pub is : bytes ≡ encode_utf8_all (text_of text)
+  pub first : wrong ≡ first_bad text
+
+pub nothing_yet : {t : List ℕ} {o : Option ℕ} {bytes : List ℕ} (i : ℕ) → bytes ≡ [] → SoFar t o i i bytes None
+nothing_yet i e = record { text = []; steps = done; is = e; first = refl }
+
+pub one_more : {t : List ℕ} {o : Option ℕ} {i j blank_end feeds k l : ℕ} {space : Bool} {bytes with_gap with_char : List ℕ} {wrong : Option ℕ} (v : Option ℕ)
+    → SoFar t o i j bytes wrong → DoubleGap t o j blank_end space feeds k → DoubleChar t k l (piece v k ∷ []) × Clear t k l
+    → with_gap ≡ bytes ++ gap_bytes t j blank_end space feeds → with_char ≡ with_gap ++ encode_utf8 (shown v)
+    → SoFar t o i l with_char (first_of wrong v k)
+one_more {t} {j = j} {blank_end = blank_end} {feeds = feeds} {k = k} {space = space} v s g c p q =
+    let shape = encode_utf8_all (text_of s.text) in
+    record {
+      text = s.text ++ (g.text ++ piece v k ∷ []);
+      steps = chain_more s.steps (record { at = k; front = g.text; char = piece v k ∷ []; gap = g.gap; is = c.0; clear = clear_join g.clear c.1; text = refl });
+      is = q ∙ ap (λ w. w ++ encode_utf8 (shown v)) (p ∙ ap (λ w. w ++ gap_bytes t j blank_end space feeds) s.is ∙ ap (λ w. shape ++ w) g.bytes)
+          ∙ append_assoc shape (encode_utf8_all (text_of g.text)) (encode_utf8 (shown v))
+          ∙ ap (λ w. shape ++ (encode_utf8_all (text_of g.text) ++ w)) (sym (piece_bytes v k))
+          ∙ ap (λ w. shape ++ w) (sym (pieces_bytes g.text (piece v k ∷ []))) ∙ sym (pieces_bytes s.text (g.text ++ piece v k ∷ []));
+      first = ap (λ w. first_of w v k) s.first ∙ sym (first_more s.text g.text v k g.no_bad);
+    }
+
+pub closed : {t : List ℕ} {o : Option ℕ} {i j blank_end feeds k : ℕ} {space : Bool} {bytes with_gap : List ℕ} {wrong : Option ℕ}
+    → SoFar t o i j bytes wrong → DoubleGap t o j blank_end space feeds k → code t k ≡ 34
+    → with_gap ≡ bytes ++ gap_bytes t j blank_end space feeds → DoubleRead t o i with_gap wrong (k + 1)
+closed {t} {j = j} {blank_end = blank_end} {feeds = feeds} {k = k} {space = space} s g q p = record {
+  text = s.text ++ g.text;
+  close = k;
+  body = record { at = _; front = s.text; last = g.text; steps = s.steps; gap = g.gap; clear = g.clear; closing = q; text = refl };
+  end = refl;
+  is = p ∙ ap (λ w. w ++ gap_bytes t j blank_end space feeds) s.is ∙ ap (λ w. encode_utf8_all (text_of s.text) ++ w) g.bytes ∙ sym (pieces_bytes s.text g.text);
+  first = s.first ∙ sym (first_none s.text g.text g.no_bad);
+}
+
+-- nothing goes on
+pub no_gap_body : {t : List ℕ} {o : Option ℕ} {i j : ℕ} {bytes : List ℕ} {wrong : Option ℕ} → SoFar t o i j bytes wrong → NoDoubleGap t o j → NoDoubleBody t o i
+no_gap_body {t} {o} s n = record {
+  none = no_body (double_laws t o) no_quote_char s.steps (record { none = λ k y st. n.none st.at st.front st.gap (inl (k, st.char, st.is)) })
+      (λ k y g q. n.none k y g (inr q));
+}
+
+pub no_char_body : {t : List ℕ} {o : Option ℕ} {i j blank_end feeds k : ℕ} {space : Bool} {bytes : List ℕ} {wrong : Option ℕ} → SoFar t o i j bytes wrong
+    → DoubleGap t o j blank_end space feeds k → code t k ≢ 34 → NoDoubleChar t k → NoDoubleBody t o i
+no_char_body {t} {o} {j = j} {k = k} s g q n = record { none = no_body (double_laws t o) no_quote_char s.steps (record { none = stuck }) shut } where
+  shut : (h : ℕ) (y : List Piece) → Gap t goods (DoubleBreaks t o) j h y → code t h ≡ 34 → ⊥
+  shut h y d e = q (sym (ap (code t) (g.only h y d (inr e)).0) ∙ e)
+
+  stuck : (h : ℕ) (y : List Piece) → Step t goods (DoubleChar t) (DoubleBreaks t o) j h y → ⊥
+  stuck h y st =
+      let same = g.only st.at st.front st.gap (inl (h, st.char, st.is)) in
+      let f = (double_laws t o).order j k g.text g.gap in
+      n.none h st.char (subst (λ m. DoubleChar t m h st.char) same.0 st.is) (clear_back f st.clear)
+
+-- places of bad escapes
+pub first_place : (t : List ℕ) (o v : Option ℕ) (p : ℕ) → IfSome o (λ b. IsCharBoundary t b) → IsCharBoundary t p → IfSome (first_of o v p) (λ b. IsCharBoundary t b)
+first_place t (Some b) v p h q = h
+first_place t None (Some w) p h q = h
+first_place t None None p h q = q
