@@ -93,6 +93,33 @@ impl<'a> Events<'a> {
         self.list[i].span = Some(span);
     }
 
+    /// Sets where the node ends that the event at an index begins. A node without a place, as an empty one, stays so.
+    pub fn set_end(&mut self, i: usize, end: usize)
+        requires { i < length self.old }
+        ensures { length self.new ≡ length self.old }
+    {
+        if let Some(span) = self.list[i].span {
+            self.list[i].span = Some(Span {
+                start: span.start,
+                end,
+            });
+        }
+    }
+
+    /// Sets where the `:` stands of the entry that the event at an index begins, if it begins one.
+    pub fn set_colon(&mut self, i: usize, colon: usize)
+        requires { i < length self.old }
+        ensures { length self.new ≡ length self.old }
+    {
+        if let Some(entry) = self.list[i].entry {
+            self.list[i].entry = Some(Entry {
+                start: entry.start,
+                colon: Some(colon),
+                blank_before: entry.blank_before,
+            });
+        }
+    }
+
     pub fn as_slice(&self) -> &[PlacedEvent<'a>]
         ensures { map placed_value result.now ≡ self.now }
     {

@@ -84,17 +84,17 @@ pub fn scan_double<'a>(
     }
 }
 
-// A double-quoted scalar: its text with U+FFFD for each bad escape, the offset of the first of them, and the offset behind
-// the scalar.
-#[derive(Drop)]
-struct Double<'a> {
-    text: Text<'a>,
-    bad: Option<usize>,
-    end: usize,
+/// A double-quoted scalar: its text with U+FFFD for each bad escape, the offset of the first of them, and the offset
+/// behind the scalar.
+#[derive(Debug, Drop)]
+pub struct Double<'a> {
+    pub text: Text<'a>,
+    pub bad: Option<usize>,
+    pub end: usize,
 }
 
-// The same in a text without its lines.
-fn double_in<'a>(
+/// The same in a text without its lines.
+pub fn double_in<'a>(
     alloc: Global,
     s: &'a str,
     at: usize,
@@ -104,6 +104,7 @@ fn double_in<'a>(
     requires { IsCharBoundary s.now at }
     ensures reads { IfOk result (λ o. MatchOption o (Stuck (Q.DoubleQuoted s.now n ctx at)) (λ p. (x : List Q.Piece) × (text_bytes p.text ≡ encode_utf8_all (Q.text_of x)) × (p.bad ≡ Q.first_bad x) × Chosen (Q.DoubleQuoted s.now n ctx at) p.end x)) }
     ensures boundary { IfOk result (λ o. IfSome o (λ p. IsCharBoundary s.now p.end)) }
+    ensures order { IfOk result (λ o. IfSome o (λ p. at < p.end)) }
     ensures place { IfOk result (λ o. IfSome o (λ p. IfSome p.bad (λ b. IsCharBoundary s.now b))) }
 {
     if is_block(ctx) {
@@ -215,6 +216,7 @@ fn double_body<'a>(
     requires { IsCharBoundary s.now at }
     ensures reads { IfOk result (λ o. MatchOption o (NoDoubleBody s.now width at) (λ p. DoubleRead s.now width at (text_bytes p.text) p.bad p.end)) }
     ensures boundary { IfOk result (λ o. IfSome o (λ p. IsCharBoundary s.now p.end)) }
+    ensures order { IfOk result (λ o. IfSome o (λ p. at < p.end)) }
     ensures place { IfOk result (λ o. IfSome o (λ p. IfSome p.bad (λ b. IsCharBoundary s.now b))) }
 {
     let mut text = String::new(alloc);

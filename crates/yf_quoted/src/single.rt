@@ -43,15 +43,15 @@ pub fn read_single<'a>(
     }
 }
 
-// A text that was read, and the offset behind it.
-#[derive(Drop)]
-struct Single<'a> {
-    text: Text<'a>,
-    end: usize,
+/// A single-quoted scalar: its text, and the offset behind it.
+#[derive(Debug, Drop)]
+pub struct Single<'a> {
+    pub text: Text<'a>,
+    pub end: usize,
 }
 
-// The same in a text without its lines.
-fn single_in<'a>(
+/// The same in a text without its lines.
+pub fn single_in<'a>(
     alloc: Global,
     s: &'a str,
     at: usize,
@@ -60,6 +60,7 @@ fn single_in<'a>(
 ) -> Result<Option<Single<'a>>, AllocError>
     requires { IsCharBoundary s.now at }
     ensures boundary { IfOk result (λ o. IfSome o (λ p. IsCharBoundary s.now p.end)) }
+    ensures order { IfOk result (λ o. IfSome o (λ p. at < p.end)) }
 {
     if is_block(ctx) {
         return Ok(None);
@@ -157,6 +158,7 @@ fn single_body<'a>(
 ) -> Result<Option<Single<'a>>, AllocError>
     requires { IsCharBoundary s.now at }
     ensures boundary { IfOk result (λ o. IfSome o (λ p. IsCharBoundary s.now p.end)) }
+    ensures order { IfOk result (λ o. IfSome o (λ p. at < p.end)) }
 {
     let mut text = String::new(alloc);
     let mut mark = None;

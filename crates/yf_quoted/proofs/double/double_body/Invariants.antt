@@ -8,6 +8,7 @@ abbrev pub invariant-chars : goal.invariant-chars
 invariant-chars l = record {
   read : SoFar l.s l.width l.at l.end (string_bytes l.text) l.bad;
   boundary : IsCharBoundary l.s l.end;
+  order : l.fn.at ≤ l.end;
   place : IfSome l.bad (λ b. IsCharBoundary l.s b);
 }
 

@@ -7,7 +7,8 @@ use Rattle.yf_quoted.proofs.single.single_body.Given as goal
 abbrev pub invariant-chars : goal.invariant-chars
 invariant-chars l = record {
   boundary : IsCharBoundary l.s l.end;
-  mark : IfSome l.mark (Marked l.s (string_bytes l.text));
+  order : l.fn.at ≤ l.end;
+  mark : IfSome l.mark (Marked l.fn.at l.s (string_bytes l.text));
 }
 
 abbrev pub decreases-chars : goal.decreases-chars

@@ -1,0 +1,29 @@
+-- The open collections: what holds of them stays so when events are added, and when one is opened or closed.
+use Rattle.std.proofs.Common.{◌≡◌, ℕ, ◌+◌, ◌-◌, ◌*◌, ◌<◌, ◌≤◌, List, [], ◌∷◌, ◌++◌, length, subst, sym, arith, length-append}
+use Rattle.std.proofs.lemmas.List.Elements.{All-append, All-pop, All-weaker, All-cons, All-nil}
+use Rattle.std.specs.List.{All}
+use Rattle.std.specs.Str.{IsCharBoundary}
+use Rattle.yf_flow.specs.declared.frame.Frame.{Frame}
+use Rattle.yf_flow.specs.declared.frame.State.{State}
+use Rattle.yf_flow.specs.declared.frame.Step.{Step}
+use Rattle.yf_flow.specs.declared.frame.Step.TheVariants.{Node, Entry, Ended, Done, Failed, TooDeep}
+use Rattle.yf_flow.specs.Machine.{Place, Indexed, Awaiting, StepReady, Ready, left}
+
+pub indexed_more : {t : List ℕ} (m k : ℕ) → m ≤ k → (f : Frame) → Indexed t m f → Indexed t k f
+indexed_more m k l f i = record { event = omega (arith, i.event); entry = omega (arith, i.entry); place = i.place }
+
+pub frames_more : {t : List ℕ} (m k : ℕ) (fs : List Frame) → m ≤ k → All (Indexed t m) fs → All (Indexed t k) fs
+frames_more {t} m k fs l a = All-weaker (Indexed t m) (Indexed t k) (indexed_more m k l) fs a
+
+pub frames_pushed : {t : List ℕ} (m k : ℕ) (fs gs : List Frame) (f : Frame) → gs ≡ fs ++ f ∷ [] → m ≤ k
+    → All (Indexed t m) fs → Indexed t k f → All (Indexed t k) gs
+frames_pushed {t} m k fs gs f e l a i =
+    let whole = All-append (Indexed t k) fs (f ∷ []) (frames_more m k fs l a) (All-cons (Indexed t k) f [] i (All-nil (Indexed t k))) in
+    subst (λ xs. All (Indexed t k) xs) (sym e) whole
+
+pub pushed_longer : {X : Type 0} (xs ys : List X) (x : X) → ys ≡ xs ++ x ∷ [] → length xs < length ys
+pushed_longer {X} xs ys x e = rw e (omega (arith, length-append {A = X}))
+
+-- of no escapes each begins between characters
+pub none_outside : (t es : List ℕ) → es ≡ [] → All (IsCharBoundary t) es
+none_outside t es e = subst (λ xs. All (IsCharBoundary t) xs) (sym e) (All-nil (IsCharBoundary t))

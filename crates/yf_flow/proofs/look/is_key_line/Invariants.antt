@@ -1,0 +1,9 @@
+use Rattle.std.proofs.Common.{ℕ, ◌-◌}
+use Rattle.std.specs.Str.{IsCharBoundary}
+use Rattle.yf_flow.proofs.look.is_key_line.Given as goal
+
+abbrev pub decreases-characters : goal.decreases-characters
+decreases-characters l = l.room
+
+abbrev pub invariant-characters : goal.invariant-characters
+invariant-characters l = IsCharBoundary l.text l.at

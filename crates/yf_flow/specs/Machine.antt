@@ -1,0 +1,87 @@
+-- What holds between two steps of the reader: the places that it keeps lie between characters, the events that it will
+-- change are there, and less of the text is left at each step.
+use Rattle.std.specs.Prelude.{ℕ, ◌+◌, ◌-◌, ◌*◌, ◌<◌, ◌≤◌, List}
+use Rattle.std.specs.List.{All}
+use Rattle.std.specs.Str.{IsCharBoundary}
+use Rattle.yf_lines.specs.declared.fault.Fault.{Fault}
+use Rattle.yf_lines.specs.declared.fault.Fault.TheVariants.{Memory, EscapeValue, TooDeep as TooDeepFault}
+use Rattle.yf_flow.specs.declared.frame.Frame.{Frame}
+use Rattle.yf_flow.specs.declared.frame.Node.{Node as NodeFound}
+use Rattle.yf_flow.specs.declared.frame.State.{State}
+use Rattle.yf_flow.specs.declared.frame.Step.{Step}
+use Rattle.yf_flow.specs.declared.frame.Step.TheVariants.{Node, Entry, Ended, Done, Failed, TooDeep}
+use Rattle.yf_flow.specs.declared.nodes.Ending.{Ending}
+use Rattle.yf_flow.specs.declared.nodes.Ending.TheVariants.{End, Nothing as NoEnd, TooDeep as TooDeepThere}
+use Rattle.yf_flow.specs.declared.nodes.Outcome.{Outcome}
+use Rattle.yf_flow.specs.declared.nodes.Outcome.TheVariants.{Found, Nothing as NoNode, TooDeep as TooDeepHere}
+use Rattle.yf_flow.specs.declared.node.Begun.{Begun}
+use Rattle.yf_flow.specs.declared.node.Begun.TheVariants.{Leaf, Opened, Nothing, TooDeep as TooDeepAt}
+
+-- a place at an offset or behind it
+pub record Place (t : List ℕ) (at p : ℕ) : Type 0 where
+  pub boundary : IsCharBoundary t p
+  pub order : at ≤ p
+
+-- of m events, those are there that begin the collection and its present entry, which begins between characters
+pub record Indexed (t : List ℕ) (m : ℕ) (f : Frame) : Type 0 where
+  pub event : f.event < m
+  pub entry : f.entry_event < m
+  pub place : IsCharBoundary t f.entry
+
+-- the same where the next event may be the one that begins the entry
+pub record Awaiting (t : List ℕ) (m : ℕ) (f : Frame) : Type 0 where
+  pub event : f.event < m
+  pub entry : f.entry_event ≤ m
+  pub place : IsCharBoundary t f.entry
+
+-- a step from an offset on, once there are m events
+abbrev pub StepReady : List ℕ → ℕ → ℕ → Frame → Step → Type 0
+StepReady t at m top (Node p) = Place t at p × Awaiting t m top
+StepReady t at m top (Entry p) = Place t at p × Awaiting t m top
+StepReady t at m top (Ended node) = Place t at node.end × Indexed t m top
+StepReady t at m top (Done end) = Place t at end
+StepReady t at m top Failed = Unit {0}
+StepReady t at m top (TooDeep p) = IsCharBoundary t p
+
+pub record Ready (t : List ℕ) (at m : ℕ) (frames : List Frame) (s : State) : Type 0 where
+  pub below : All (Indexed t m) frames
+  pub step : StepReady t at m s.top s.step
+
+-- how much is left to do of n bytes
+abbrev pub left : ℕ → Step → ℕ
+left n (Node p) = 2 * (n - p) + 1
+left n (Entry p) = 2 * (n - p) + 2
+left n (Ended node) = 2 * (n - node.end) + 2
+left n (Done end) = 0
+left n Failed = 0
+left n (TooDeep p) = 0
+
+-- what was found where a node is awaited, which has made k events of m
+abbrev pub BegunAt : List ℕ → ℕ → ℕ → ℕ → Begun → Type 0
+BegunAt t at m k (Leaf node) = Place t (at + 1) node.end × m < k
+BegunAt t at m k (Opened f) = Place t (at + 1) f.entry × Awaiting t k f × m < k
+BegunAt t at m k Nothing = Unit {0}
+BegunAt t at m k (TooDeepAt p) = IsCharBoundary t p
+
+-- how a collection ends whose entries begin at an offset, or behind it
+abbrev pub EndingAt : List ℕ → ℕ → Ending → Type 0
+EndingAt t at (End end) = Place t at end
+EndingAt t at NoEnd = Unit {0}
+EndingAt t at (TooDeepThere p) = IsCharBoundary t p
+
+abbrev pub OutcomeAt : List ℕ → ℕ → Outcome → Type 0
+OutcomeAt t at (Found part end) = Place t (at + 1) end × All (IsCharBoundary t) part.escapes
+OutcomeAt t at NoNode = Unit {0}
+OutcomeAt t at (TooDeepHere p) = IsCharBoundary t p
+
+-- the faults of the readers: of the scan forms, and of those that answer a bad escape too
+abbrev pub IsScanFault : Fault → Type 0
+IsScanFault Memory = Unit {0}
+IsScanFault (TooDeepFault place) = Unit {0}
+IsScanFault _ = ⊥
+
+abbrev pub IsReadFault : Fault → Type 0
+IsReadFault Memory = Unit {0}
+IsReadFault (TooDeepFault place) = Unit {0}
+IsReadFault (EscapeValue place) = Unit {0}
+IsReadFault _ = ⊥

@@ -1,0 +1,528 @@
+//! The steps within a flow collection: entries, keys, values, single pairs, and the closing bracket. Each step leads on to
+//! a later place of the text, and none goes back.
+ghost use Rattle.std.specs.Prelude.{◌≡◌, ◌+◌, ◌-◌, ◌*◌, ◌<◌, ◌≤◌, length, IfOk, IfSome};
+ghost use Rattle.std.specs.List.{All};
+ghost use Rattle.std.specs.Str.{IsCharBoundary};
+ghost use Rattle.yf_flow.specs.Machine.{Awaiting, Indexed, Ready, Place, left};
+
+use crate::frame::{Frame, Kind, Node, Role, Scene, State, Step};
+use crate::gap::{read_gap, read_separation_into};
+use crate::look::{closes, colon_stands, entry_ends, is_blank_before_entry, is_key_line};
+use crate::node::{Begun, begin_node, empty_node, unplaced};
+use smallvec::SmallVec;
+use std::alloc::{AllocError, Global};
+use yf_chars::text::stands;
+use yf_events::event::{Entry, Event, PlacedEvent, Span};
+use yf_events::part::Part;
+use yf_events::slices::Slices;
+use yf_lines::basic::skip_whites;
+use yf_props::props::Props;
+
+/// The open collections round the innermost one, the outermost first.
+pub(crate) type Below = SmallVec<Frame, 8>;
+
+// The entry that the node begins which is read now, if it begins one.
+fn entry_begun(text: &str, top: Frame) -> Option<Entry> {
+    match top.role {
+        Role::Item | Role::Key => Some(entry_at(text, top.entry, None)),
+        Role::Value => None,
+    }
+}
+
+fn entry_at(text: &str, start: usize, colon: Option<usize>) -> Entry {
+    Entry {
+        start,
+        colon,
+        blank_before: is_blank_before_entry(text, start),
+    }
+}
+
+fn failed(top: Frame) -> State
+    ensures { result.step ≡ Step.Failed }
+{
+    State {
+        top,
+        step: Step::Failed,
+    }
+}
+
+/// Begins the node that is awaited at the offset.
+pub(crate) fn take_node<'a>(
+    alloc: Global,
+    scene: Scene<'a>,
+    at: usize,
+    top: Frame,
+    below: &mut Below,
+    part: &mut Part<'a>,
+) -> Result<State, AllocError>
+    requires boundary { IsCharBoundary scene.text.now at }
+    requires top { Awaiting scene.text.now (length part.old.events) top }
+    requires below { All (Indexed scene.text.now (length part.old.events)) below.old.items }
+    requires escapes { All (IsCharBoundary scene.text.now) part.old.escapes }
+    ensures ready { IfOk result (λ s. Ready scene.entry.text.now at (length part.new.events) below.new.items s) }
+    ensures moves { IfOk result (λ s. left (length scene.entry.text.now) s.step < 2 * (length scene.entry.text.now - at) + 1) }
+    ensures escapes { IfOk result (λ _. All (IsCharBoundary scene.entry.text.now) part.new.escapes) }
+{
+    let entry = entry_begun(scene.text, top);
+    match begin_node(alloc, scene, at, entry, top.depth, part)? {
+        Begun::Leaf(node) => Ok(State {
+            top,
+            step: Step::Ended(node),
+        }),
+        Begun::Opened(frame) => {
+            below.push(top)?;
+            Ok(State {
+                top: frame,
+                step: Step::Entry(frame.entry),
+            })
+        }
+        Begun::Nothing => Ok(failed(top)),
+        Begun::TooDeep(place) => Ok(State {
+            top,
+            step: Step::TooDeep(place),
+        }),
+    }
+}
+
+/// Begins the entry that is awaited, or closes the collection (ns-s-flow-seq-entries, production 138;
+/// ns-s-flow-map-entries, production 141).
+pub(crate) fn start_entry<'a>(
+    alloc: Global,
+    scene: Scene<'a>,
+    at: usize,
+    top: Frame,
+    below: &mut Below,
+    part: &mut Part<'a>,
+) -> Result<State, AllocError>
+    requires boundary { IsCharBoundary scene.text.now at }
+    requires top { Awaiting scene.text.now (length part.old.events) top }
+    requires below { All (Indexed scene.text.now (length part.old.events)) below.old.items }
+    ensures ready { IfOk result (λ s. Ready scene.entry.text.now at (length part.new.events) below.new.items s) }
+    ensures moves { IfOk result (λ s. left (length scene.entry.text.now) s.step ≤ 2 * (length scene.entry.text.now - at) + 1) }
+    ensures escapes { IfOk result (λ _. part.new.escapes ≡ part.old.escapes) }
+{
+    let place = read_gap(alloc, scene, at, part)?.end;
+    if closes(scene.text, place, top.kind) {
+        return close(alloc, scene, place, top, below, part);
+    }
+    let top = top.with_entry(place, part.events.len());
+    if stands(scene.text, place, b'?') {
+        match read_separation_into(alloc, scene, place + 1, part)? {
+            Some(end) => return explicit_entry(alloc, scene, end, top, below, part),
+            None => {}
+        }
+    }
+    if colon_stands(scene, place, false) {
+        return lone_value(alloc, scene, place, top, below, part);
+    }
+    Ok(State {
+        top,
+        step: Step::Node(place),
+    })
+}
+
+// What stands behind the `?` of an entry and its separation (ns-flow-map-explicit-entry, production 143).
+fn explicit_entry<'a>(
+    alloc: Global,
+    scene: Scene<'a>,
+    at: usize,
+    top: Frame,
+    below: &mut Below,
+    part: &mut Part<'a>,
+) -> Result<State, AllocError>
+    requires boundary { IsCharBoundary scene.text.now at }
+    requires top { Awaiting scene.text.now (length part.old.events) top }
+    requires below { All (Indexed scene.text.now (length part.old.events)) below.old.items }
+    ensures ready { IfOk result (λ s. Ready scene.entry.text.now at (length part.new.events) below.new.items s) }
+    ensures moves { IfOk result (λ s. left (length scene.entry.text.now) s.step ≤ 2 * (length scene.entry.text.now - at) + 1) }
+    ensures escapes { IfOk result (λ _. part.new.escapes ≡ part.old.escapes) }
+{
+    match in_mapping(alloc, scene, top, below, part)? {
+        None => Ok(State {
+            top,
+            step: Step::TooDeep(top.entry),
+        }),
+        Some(top) => {
+            if entry_ends(scene.text, at) {
+                let entry = entry_at(scene.text, top.entry, None);
+                part.events.push(empty_node(alloc, Some(entry)))?;
+                part.events.push(empty_node(alloc, None))?;
+                return end_entry(alloc, scene, top.entry + 1, at, top, below, part);
+            }
+            if colon_stands(scene, at, false) {
+                return keyless_value(alloc, scene, at, top, below, part);
+            }
+            Ok(State {
+                top,
+                step: Step::Node(at),
+            })
+        }
+    }
+}
+
+// A value without a key, from its `:` on (c-ns-flow-map-empty-key-entry, production 146).
+fn lone_value<'a>(
+    alloc: Global,
+    scene: Scene<'a>,
+    colon: usize,
+    top: Frame,
+    below: &mut Below,
+    part: &mut Part<'a>,
+) -> Result<State, AllocError>
+    requires boundary { IsCharBoundary scene.text.now (colon + 1) }
+    requires top { Awaiting scene.text.now (length part.old.events) top }
+    requires below { All (Indexed scene.text.now (length part.old.events)) below.old.items }
+    ensures ready { IfOk result (λ s. Ready scene.entry.text.now colon (length part.new.events) below.new.items s) }
+    ensures moves { IfOk result (λ s. left (length scene.entry.text.now) s.step ≤ 2 * (length scene.entry.text.now - colon) + 1) }
+    ensures escapes { IfOk result (λ _. part.new.escapes ≡ part.old.escapes) }
+{
+    match in_mapping(alloc, scene, top, below, part)? {
+        None => Ok(State {
+            top,
+            step: Step::TooDeep(top.entry),
+        }),
+        Some(top) => keyless_value(alloc, scene, colon, top, below, part),
+    }
+}
+
+// The empty key of an entry, and its value from the `:` on.
+fn keyless_value<'a>(
+    alloc: Global,
+    scene: Scene<'a>,
+    colon: usize,
+    top: Frame,
+    below: &mut Below,
+    part: &mut Part<'a>,
+) -> Result<State, AllocError>
+    requires boundary { IsCharBoundary scene.text.now (colon + 1) }
+    requires top { Awaiting scene.text.now (length part.old.events) top }
+    requires below { All (Indexed scene.text.now (length part.old.events)) below.old.items }
+    ensures ready { IfOk result (λ s. Ready scene.entry.text.now colon (length part.new.events) below.new.items s) }
+    ensures moves { IfOk result (λ s. left (length scene.entry.text.now) s.step ≤ 2 * (length scene.entry.text.now - colon) + 1) }
+    ensures escapes { IfOk result (λ _. part.new.escapes ≡ part.old.escapes) }
+{
+    let entry = entry_at(scene.text, top.entry, Some(colon));
+    part.events.push(empty_node(alloc, Some(entry)))?;
+    await_value(alloc, scene, colon, false, top, below, part)
+}
+
+// The mapping that an entry with `?` or `:` belongs to: in a sequence it is a single pair, which begins with the entry.
+fn in_mapping<'a>(
+    alloc: Global,
+    scene: Scene<'a>,
+    top: Frame,
+    below: &mut Below,
+    part: &mut Part<'a>,
+) -> Result<Option<Frame>, AllocError>
+    requires top { Awaiting scene.text.now (length part.old.events) top }
+    requires below { All (Indexed scene.text.now (length part.old.events)) below.old.items }
+    ensures below { IfOk result (λ _. All (Indexed scene.entry.text.now (length part.new.events)) below.new.items) }
+    ensures top { IfOk result (λ o. IfSome o (λ f. Awaiting scene.entry.text.now (length part.new.events) f)) }
+    ensures room { IfOk result (λ o. IfSome o (λ f. f.entry ≡ top.entry)) }
+    ensures escapes { IfOk result (λ _. part.new.escapes ≡ part.old.escapes) }
+{
+    match top.kind {
+        Kind::Mapping | Kind::Pair => Ok(Some(top)),
+        Kind::Sequence => {
+            if top.depth >= scene.limit {
+                return Ok(None);
+            }
+            let event = part.events.len();
+            part.events.push(pair_start(alloc, scene.text, top.entry))?;
+            below.push(top)?;
+            Ok(Some(Frame {
+                kind: Kind::Pair,
+                depth: top.depth + 1,
+                deepest: top.depth + 1,
+                event,
+                entry: top.entry,
+                entry_event: part.events.len(),
+                role: Role::Key,
+            }))
+        }
+    }
+}
+
+// The event that begins a single pair. Where the pair ends is noted once it has been read.
+fn pair_start<'a>(alloc: Global, text: &str, start: usize) -> PlacedEvent<'a> {
+    PlacedEvent {
+        event: Event::MapStart {
+            flow: true,
+            props: Props {
+                anchor: None,
+                tag: None,
+            },
+        },
+        span: Some(Span { start, end: start }),
+        tag_offset: None,
+        entry: Some(entry_at(text, start, None)),
+        folded: Slices::new(alloc),
+    }
+}
+
+/// Goes on behind a node of the collection.
+pub(crate) fn finish_node<'a>(
+    alloc: Global,
+    scene: Scene<'a>,
+    node: Node,
+    top: Frame,
+    below: &mut Below,
+    part: &mut Part<'a>,
+) -> Result<State, AllocError>
+    requires boundary { IsCharBoundary scene.text.now node.end }
+    requires top { Indexed scene.text.now (length part.old.events) top }
+    requires below { All (Indexed scene.text.now (length part.old.events)) below.old.items }
+    ensures ready { IfOk result (λ s. Ready scene.entry.text.now node.end (length part.new.events) below.new.items s) }
+    ensures moves { IfOk result (λ s. left (length scene.entry.text.now) s.step ≤ 2 * (length scene.entry.text.now - node.end) + 1) }
+    ensures escapes { IfOk result (λ _. part.new.escapes ≡ part.old.escapes) }
+{
+    match top.role {
+        Role::Item => behind_item(alloc, scene, node, top, below, part),
+        Role::Key => behind_key(alloc, scene, node, top.reaching(node.deepest), below, part),
+        Role::Value => end_entry(
+            alloc,
+            scene,
+            node.end,
+            node.end,
+            top.reaching(node.deepest),
+            below,
+            part,
+        ),
+    }
+}
+
+// Behind an item of a sequence: where a `:` follows on its line, it is the key of a single pair
+// (ns-flow-pair-entry, production 151).
+fn behind_item<'a>(
+    alloc: Global,
+    scene: Scene<'a>,
+    node: Node,
+    top: Frame,
+    below: &mut Below,
+    part: &mut Part<'a>,
+) -> Result<State, AllocError>
+    requires boundary { IsCharBoundary scene.text.now node.end }
+    requires top { Indexed scene.text.now (length part.old.events) top }
+    requires below { All (Indexed scene.text.now (length part.old.events)) below.old.items }
+    ensures ready { IfOk result (λ s. Ready scene.entry.text.now node.end (length part.new.events) below.new.items s) }
+    ensures moves { IfOk result (λ s. left (length scene.entry.text.now) s.step ≤ 2 * (length scene.entry.text.now - node.end) + 1) }
+    ensures escapes { IfOk result (λ _. part.new.escapes ≡ part.old.escapes) }
+{
+    let colon = skip_whites(scene.text, node.end);
+    if colon_stands(scene, colon, node.json) {
+        if is_key_line(scene.text, top.entry, colon) {
+            return pair_of_key(alloc, scene, node, colon, top, below, part);
+        }
+    }
+    after_entry(
+        alloc,
+        scene,
+        node.end,
+        top.reaching(node.deepest),
+        below,
+        part,
+    )
+}
+
+// The item that was read last becomes the key of a single pair.
+fn pair_of_key<'a>(
+    alloc: Global,
+    scene: Scene<'a>,
+    node: Node,
+    colon: usize,
+    top: Frame,
+    below: &mut Below,
+    part: &mut Part<'a>,
+) -> Result<State, AllocError>
+    requires boundary { IsCharBoundary scene.text.now (colon + 1) }
+    requires top { Indexed scene.text.now (length part.old.events) top }
+    requires below { All (Indexed scene.text.now (length part.old.events)) below.old.items }
+    ensures ready { IfOk result (λ s. Ready scene.entry.text.now colon (length part.new.events) below.new.items s) }
+    ensures moves { IfOk result (λ s. left (length scene.entry.text.now) s.step ≤ 2 * (length scene.entry.text.now - colon) + 1) }
+    ensures escapes { IfOk result (λ _. part.new.escapes ≡ part.old.escapes) }
+{
+    let deepest = top.depth.max(node.deepest);
+    if deepest >= scene.limit {
+        return Ok(State {
+            top,
+            step: Step::TooDeep(top.entry),
+        });
+    }
+    let event = top.entry_event;
+    part.events.set_colon(event, colon);
+    part.events
+        .insert(event, pair_start(alloc, scene.text, top.entry))?;
+    below.push(top)?;
+    let pair = Frame {
+        kind: Kind::Pair,
+        depth: top.depth + 1,
+        deepest: deepest + 1,
+        event,
+        role: Role::Value,
+        ..top
+    };
+    await_value(alloc, scene, colon, node.json, pair, below, part)
+}
+
+// Behind the key of an entry of a mapping, or of a single pair with `?`.
+fn behind_key<'a>(
+    alloc: Global,
+    scene: Scene<'a>,
+    node: Node,
+    top: Frame,
+    below: &mut Below,
+    part: &mut Part<'a>,
+) -> Result<State, AllocError>
+    requires boundary { IsCharBoundary scene.text.now node.end }
+    requires top { Indexed scene.text.now (length part.old.events) top }
+    requires below { All (Indexed scene.text.now (length part.old.events)) below.old.items }
+    ensures ready { IfOk result (λ s. Ready scene.entry.text.now node.end (length part.new.events) below.new.items s) }
+    ensures moves { IfOk result (λ s. left (length scene.entry.text.now) s.step ≤ 2 * (length scene.entry.text.now - node.end) + 1) }
+    ensures escapes { IfOk result (λ _. part.new.escapes ≡ part.old.escapes) }
+{
+    let place = read_gap(alloc, scene, node.end, part)?.end;
+    if colon_stands(scene, place, node.json) {
+        part.events.set_colon(top.entry_event, place);
+        return await_value(alloc, scene, place, node.json, top, below, part);
+    }
+    part.events.push(empty_node(alloc, None))?;
+    end_entry(alloc, scene, node.end, place, top, below, part)
+}
+
+// What stands behind the `:` at an offset: a node, or nothing. Behind a key that is not like JSON's, separation must
+// come before the node (c-ns-flow-map-separate-value, production 147; c-ns-flow-map-adjacent-value, production 149).
+fn await_value<'a>(
+    alloc: Global,
+    scene: Scene<'a>,
+    colon: usize,
+    json: bool,
+    top: Frame,
+    below: &mut Below,
+    part: &mut Part<'a>,
+) -> Result<State, AllocError>
+    requires boundary { IsCharBoundary scene.text.now (colon + 1) }
+    requires top { Indexed scene.text.now (length part.old.events) top }
+    requires below { All (Indexed scene.text.now (length part.old.events)) below.old.items }
+    ensures ready { IfOk result (λ s. Ready scene.entry.text.now colon (length part.new.events) below.new.items s) }
+    ensures moves { IfOk result (λ s. left (length scene.entry.text.now) s.step ≤ 2 * (length scene.entry.text.now - colon) + 1) }
+    ensures escapes { IfOk result (λ _. part.new.escapes ≡ part.old.escapes) }
+{
+    let gap = read_gap(alloc, scene, colon + 1, part)?;
+    if entry_ends(scene.text, gap.end) {
+        part.events.push(empty_node(alloc, None))?;
+        return end_entry(alloc, scene, colon + 1, gap.end, top, below, part);
+    }
+    if json || gap.is_separation {
+        return Ok(State {
+            top: top.with_value(),
+            step: Step::Node(gap.end),
+        });
+    }
+    Ok(failed(top))
+}
+
+// An entry has been read whose last node or indicator ends at `finish`; what follows is read from `at` on. A single pair
+// ends with it.
+fn end_entry<'a>(
+    alloc: Global,
+    scene: Scene<'a>,
+    finish: usize,
+    at: usize,
+    top: Frame,
+    below: &mut Below,
+    part: &mut Part<'a>,
+) -> Result<State, AllocError>
+    requires boundary { IsCharBoundary scene.text.now at }
+    requires top { Indexed scene.text.now (length part.old.events) top }
+    requires below { All (Indexed scene.text.now (length part.old.events)) below.old.items }
+    ensures ready { IfOk result (λ s. Ready scene.entry.text.now at (length part.new.events) below.new.items s) }
+    ensures moves { IfOk result (λ s. left (length scene.entry.text.now) s.step ≤ 2 * (length scene.entry.text.now - at) + 1) }
+    ensures escapes { IfOk result (λ _. part.new.escapes ≡ part.old.escapes) }
+{
+    match top.kind {
+        Kind::Sequence | Kind::Mapping => after_entry(alloc, scene, at, top, below, part),
+        Kind::Pair => {
+            part.events.push(unplaced(alloc, Event::MapEnd, None))?;
+            part.events.set_end(top.event, finish);
+            match below.pop() {
+                Some(sequence) => after_entry(
+                    alloc,
+                    scene,
+                    at,
+                    sequence.reaching(top.deepest),
+                    below,
+                    part,
+                ),
+                None => Ok(failed(top)),
+            }
+        }
+    }
+}
+
+// Behind an entry: a comma, or the bracket that closes the collection.
+fn after_entry<'a>(
+    alloc: Global,
+    scene: Scene<'a>,
+    at: usize,
+    top: Frame,
+    below: &mut Below,
+    part: &mut Part<'a>,
+) -> Result<State, AllocError>
+    requires boundary { IsCharBoundary scene.text.now at }
+    requires top { Indexed scene.text.now (length part.old.events) top }
+    requires below { All (Indexed scene.text.now (length part.old.events)) below.old.items }
+    ensures ready { IfOk result (λ s. Ready scene.entry.text.now at (length part.new.events) below.new.items s) }
+    ensures moves { IfOk result (λ s. left (length scene.entry.text.now) s.step ≤ 2 * (length scene.entry.text.now - at) + 1) }
+    ensures escapes { IfOk result (λ _. part.new.escapes ≡ part.old.escapes) }
+{
+    let place = read_gap(alloc, scene, at, part)?.end;
+    if stands(scene.text, place, b',') {
+        return Ok(State {
+            top,
+            step: Step::Entry(place + 1),
+        });
+    }
+    if closes(scene.text, place, top.kind) {
+        return close(alloc, scene, place, top, below, part);
+    }
+    Ok(failed(top))
+}
+
+// Closes the collection by the bracket at an offset.
+fn close<'a>(
+    alloc: Global,
+    scene: Scene<'a>,
+    at: usize,
+    top: Frame,
+    below: &mut Below,
+    part: &mut Part<'a>,
+) -> Result<State, AllocError>
+    requires boundary { IsCharBoundary scene.text.now (at + 1) }
+    requires top { top.event < length part.old.events }
+    requires below { All (Indexed scene.text.now (length part.old.events)) below.old.items }
+    ensures ready { IfOk result (λ s. Ready scene.entry.text.now at (length part.new.events) below.new.items s) }
+    ensures moves { IfOk result (λ s. left (length scene.entry.text.now) s.step ≤ 2 * (length scene.entry.text.now - at) + 1) }
+    ensures escapes { IfOk result (λ _. part.new.escapes ≡ part.old.escapes) }
+{
+    let event = match top.kind {
+        Kind::Sequence => Event::SeqEnd,
+        Kind::Mapping | Kind::Pair => Event::MapEnd,
+    };
+    part.events.push(unplaced(alloc, event, None))?;
+    part.events.set_end(top.event, at + 1);
+    let node = Node {
+        end: at + 1,
+        json: true,
+        deepest: top.deepest,
+    };
+    match below.pop() {
+        Some(outer) => Ok(State {
+            top: outer,
+            step: Step::Ended(node),
+        }),
+        None => Ok(State {
+            top,
+            step: Step::Done(node.end),
+        }),
+    }
+}

@@ -1,0 +1,147 @@
+//! The readers of flow nodes and of implicit keys.
+ghost use Rattle.std.specs.Prelude.{◌+◌, IfSome, MatchResult};
+ghost use Rattle.std.specs.List.{All};
+ghost use Rattle.std.specs.Str.{IsCharBoundary};
+ghost use Rattle.yf_flow.specs.Machine.{IsReadFault, IsScanFault, Place};
+
+use crate::nodes::{Outcome, read_node};
+use std::alloc::{AllocError, Global};
+use yf_chars::context::Ctx;
+use yf_events::part::Part;
+use yf_events::reading::DEPTH;
+use yf_lines::fault::Fault;
+use yf_lines::place::Place as SourcePlace;
+use yf_lines::source_text::Src;
+
+/// A node that was read, and the byte offset behind it.
+#[derive(Debug, Drop)]
+pub struct NodePart<'a> {
+    pub part: Part<'a>,
+    pub end: usize,
+}
+
+/// The same with the place of the first escape that is no character, in whose place the text has U+FFFD.
+#[derive(Debug, Drop)]
+pub struct ScannedPart<'a> {
+    pub part: Part<'a>,
+    pub escape: Option<SourcePlace>,
+    pub end: usize,
+}
+
+/// Reads a flow node (ns-flow-node(n,c), production 161) from a byte offset on: its events and comments, each with its
+/// place, and the offset behind it. `n` is the indentation, from -1.
+///
+/// `None` where no flow node begins there in that context.
+///
+/// # Errors
+///
+/// `Fault::TooDeep` where the nodes there open more than `DEPTH` collections at once, a single pair counted as one;
+/// `Fault::EscapeValue` at the first escape in the node that is no character; `Fault::Memory`.
+pub fn read_flow_node<'a>(
+    alloc: Global,
+    src: &Src<'a>,
+    at: usize,
+    n: i32,
+    ctx: Ctx,
+) -> Result<Option<NodePart<'a>>, Fault>
+    requires { IsCharBoundary src.now.text at }
+    ensures { MatchResult result (λ o. IfSome o (λ p. Place src.now.text (at + 1) p.end)) IsReadFault }
+{
+    match scan_flow_node(alloc, src, at, n, ctx) {
+        Ok(None) => Ok(None),
+        Ok(
+            Some(
+                ScannedPart {
+                    part,
+                    escape: None,
+                    end,
+                },
+            ),
+        ) => Ok(Some(NodePart { part, end })),
+        Ok(
+            Some(
+                ScannedPart {
+                    part: _,
+                    escape: Some(place),
+                    end: _,
+                },
+            ),
+        ) => Err(Fault::EscapeValue { place }),
+        Err(fault) => Err(fault),
+    }
+}
+
+/// Reads a flow node as `read_flow_node` does, but goes on past an escape that is no character.
+///
+/// # Errors
+///
+/// `Fault::TooDeep` and `Fault::Memory`, as `read_flow_node` does.
+pub fn scan_flow_node<'a>(
+    alloc: Global,
+    src: &Src<'a>,
+    at: usize,
+    n: i32,
+    ctx: Ctx,
+) -> Result<Option<ScannedPart<'a>>, Fault>
+    requires { IsCharBoundary src.now.text at }
+    ensures { MatchResult result (λ o. IfSome o (λ p. Place src.now.text (at + 1) p.end)) IsScanFault }
+{
+    match read_node(alloc, src.text(), at, n, ctx, DEPTH) {
+        Ok(Outcome::Found { part, end }) => {
+            let escape = first_escape(src, &part);
+            Ok(Some(ScannedPart { part, escape, end }))
+        }
+        Ok(Outcome::Nothing) => Ok(None),
+        Ok(Outcome::TooDeep(offset)) => Err(Fault::TooDeep {
+            place: src.place(offset),
+        }),
+        Err(AllocError) => Err(Fault::Memory),
+    }
+}
+
+// The place of the first escape in the part that is no character.
+fn first_escape(src: &Src, part: &Part) -> Option<SourcePlace>
+    requires { All (IsCharBoundary src.now.text) part.now.escapes }
+{
+    match part.escapes.as_slice().first() {
+        Some(offset) => Some(src.place(*offset)),
+        None => None,
+    }
+}
+
+/// Reads the node of an implicit key (ns-s-implicit-yaml-key(c), production 154; c-s-implicit-json-key(c), production 155),
+/// on one line, without the whites behind it, from a byte offset on.
+///
+/// How many characters it has is for the caller to count. `None` where no such node begins there.
+///
+/// # Errors
+///
+/// As `read_flow_node`.
+pub fn read_implicit_key<'a>(
+    alloc: Global,
+    src: &Src<'a>,
+    at: usize,
+    ctx: Ctx,
+) -> Result<Option<NodePart<'a>>, Fault>
+    requires { IsCharBoundary src.now.text at }
+    ensures { MatchResult result (λ o. IfSome o (λ p. Place src.now.text (at + 1) p.end)) IsReadFault }
+{
+    read_flow_node(alloc, src, at, 0, ctx)
+}
+
+/// Reads the node of an implicit key as `read_implicit_key` does, but goes on past an escape that is no character.
+///
+/// # Errors
+///
+/// `Fault::TooDeep` and `Fault::Memory`, as `read_flow_node` does.
+pub fn scan_implicit_key<'a>(
+    alloc: Global,
+    src: &Src<'a>,
+    at: usize,
+    ctx: Ctx,
+) -> Result<Option<ScannedPart<'a>>, Fault>
+    requires { IsCharBoundary src.now.text at }
+    ensures { MatchResult result (λ o. IfSome o (λ p. Place src.now.text (at + 1) p.end)) IsScanFault }
+{
+    scan_flow_node(alloc, src, at, 0, ctx)
+}

@@ -1,0 +1,129 @@
+//! The open collections of a flow node, and the steps of its reader.
+ghost use Rattle.std.specs.Prelude.{◌≡◌};
+
+use yf_chars::context::Ctx;
+
+/// What is read, and how: the text, its indentation and context, and how many collections may be open at once.
+#[derive(Clone, Copy)]
+pub(crate) struct Scene<'a> {
+    pub(crate) text: &'a str,
+    pub(crate) indentation: i32,
+    pub(crate) context: Ctx,
+    pub(crate) limit: usize,
+}
+
+/// What an open collection is. A single pair is a mapping without brackets, in a sequence.
+#[derive(Clone, Copy, Default)]
+pub(crate) enum Kind {
+    #[default]
+    Sequence,
+    Mapping,
+    Pair,
+}
+
+/// What a node is to the entry that it stands in.
+#[derive(Clone, Copy, Default)]
+pub(crate) enum Role {
+    /// An item of a sequence, or the key of a single pair.
+    #[default]
+    Item,
+    Key,
+    Value,
+}
+
+/// An open collection: what is left to do of it, once the node within it has been read.
+#[derive(Clone, Copy, Default)]
+pub(crate) struct Frame {
+    pub(crate) kind: Kind,
+    /// How many collections are open, this one counted.
+    pub(crate) depth: usize,
+    /// How many were open at once within it, at most.
+    pub(crate) deepest: usize,
+    /// The index of the event that begins it.
+    pub(crate) event: usize,
+    /// The byte offset at which its present entry begins.
+    pub(crate) entry: usize,
+    /// The index of the event that begins its present entry, as item or key, until a value is awaited in it.
+    pub(crate) entry_event: usize,
+    /// What the node is that is read now.
+    pub(crate) role: Role,
+}
+
+/// A node that has been read.
+#[derive(Clone, Copy)]
+pub(crate) struct Node {
+    /// The byte offset behind it.
+    pub(crate) end: usize,
+    /// Whether it is a node like those of JSON: a quoted scalar or a flow collection.
+    pub(crate) json: bool,
+    /// How many collections were open at once until its end, at most.
+    pub(crate) deepest: usize,
+}
+
+/// What comes next.
+#[derive(Clone, Copy)]
+pub(crate) enum Step {
+    /// A node is awaited at the byte offset.
+    Node(usize),
+    /// An entry, or the bracket that closes the collection, is awaited at the byte offset or behind a separation.
+    Entry(usize),
+    /// A node of the collection has been read.
+    Ended(Node),
+    /// The outermost collection has been read; it ends at the byte offset.
+    Done(usize),
+    /// No node is derived.
+    Failed,
+    /// The limit of open collections is passed at the byte offset.
+    TooDeep(usize),
+}
+
+/// The innermost open collection, and what comes next in it.
+#[derive(Clone, Copy)]
+pub(crate) struct State {
+    pub(crate) top: Frame,
+    pub(crate) step: Step,
+}
+
+impl Frame {
+    /// The collection with another entry, whose first event will have the index.
+    pub(crate) fn with_entry(self, entry: usize, entry_event: usize) -> Frame
+        ensures event { result.event ≡ self.event }
+        ensures index { result.entry_event ≡ entry_event }
+        ensures entry { result.entry ≡ entry }
+    {
+        let role = match self.kind {
+            Kind::Sequence => Role::Item,
+            Kind::Mapping | Kind::Pair => Role::Key,
+        };
+        Frame {
+            entry,
+            entry_event,
+            role,
+            ..self
+        }
+    }
+
+    /// The collection once a value is awaited in its entry.
+    pub(crate) fn with_value(self) -> Frame
+        ensures event { result.event ≡ self.event }
+        ensures index { result.entry_event ≡ self.entry_event }
+        ensures entry { result.entry ≡ self.entry }
+    {
+        Frame {
+            role: Role::Value,
+            ..self
+        }
+    }
+
+    /// The collection with a node in it.
+    pub(crate) fn reaching(self, deepest: usize) -> Frame
+        ensures event { result.event ≡ self.event }
+        ensures index { result.entry_event ≡ self.entry_event }
+        ensures entry { result.entry ≡ self.entry }
+    {
+        Frame {
+            deepest: self.deepest.max(deepest),
+            ..self
+        }
+    }
+}

@@ -1,0 +1,14 @@
+//! Flow nodes (YAML 1.2.2, chapter 7): flow collections, the scalars and aliases in them, and implicit keys, read in one
+//! forward pass.
+#![tactic(auto)]
+
+pub(crate) mod entries;
+pub mod flow;
+pub(crate) mod frame;
+pub(crate) mod gap;
+pub(crate) mod leaf;
+pub(crate) mod look;
+pub(crate) mod node;
+pub(crate) mod nodes;
+#[cfg(test)]
+mod tests;

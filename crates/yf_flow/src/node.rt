@@ -1,0 +1,386 @@
+//! Nodes: what may stand as an item, a key or a value, and the events of them.
+ghost use Rattle.std.specs.Prelude.{◌≡◌, ◌+◌, ◌<◌, ◌≤◌, length, IfOk};
+ghost use Rattle.std.specs.List.{All};
+ghost use Rattle.std.specs.Str.{IsCharBoundary};
+ghost use Rattle.yf_flow.specs.Machine.{BegunAt, Place};
+
+use crate::frame::{Frame, Kind, Node, Role, Scene};
+use crate::gap::read_separation;
+use crate::leaf::{read_plain, read_properties, read_single, scan_double};
+use crate::look::content_begins;
+use std::alloc::{AllocError, Global};
+use yf_chars::text::stands;
+use yf_comments::comments::Separation;
+use yf_events::event::{Entry, Event, PlacedEvent, ScalarStyle, Span};
+use yf_events::part::Part;
+use yf_events::slices::Slices;
+use yf_lines::text::Text;
+use yf_props::alias::alias_node;
+use yf_props::properties::Properties;
+use yf_props::props::Props;
+
+/// What is known of a node before its content: where it begins, its properties, and the entry that it begins.
+#[derive(Clone, Copy)]
+pub(crate) struct Lead<'a> {
+    pub(crate) start: usize,
+    pub(crate) props: Props<'a>,
+    pub(crate) tag_offset: Option<usize>,
+    pub(crate) entry: Option<Entry>,
+}
+
+/// What was found where a node is awaited.
+pub(crate) enum Begun {
+    /// A node without nodes in it.
+    Leaf(Node),
+    /// The opening bracket of a collection; its first entry is awaited at `Frame::entry`.
+    Opened(Frame),
+    Nothing,
+    /// An opening bracket, where no further collection may be opened.
+    TooDeep(usize),
+}
+
+impl<'a> Lead<'a> {
+    /// Without properties.
+    pub(crate) fn bare(start: usize, entry: Option<Entry>) -> Lead<'a> {
+        Lead {
+            start,
+            props: Props {
+                anchor: None,
+                tag: None,
+            },
+            tag_offset: None,
+            entry,
+        }
+    }
+
+    /// The event that begins the node, which ends at an offset.
+    fn placed(self, alloc: Global, event: Event<'a>, end: usize) -> PlacedEvent<'a> {
+        PlacedEvent {
+            event,
+            span: Some(Span {
+                start: self.start,
+                end,
+            }),
+            tag_offset: self.tag_offset,
+            entry: self.entry,
+            folded: Slices::new(alloc),
+        }
+    }
+}
+
+/// The event of an empty node without properties, or of the end of a collection.
+pub(crate) fn unplaced<'a>(
+    alloc: Global,
+    event: Event<'a>,
+    entry: Option<Entry>,
+) -> PlacedEvent<'a> {
+    PlacedEvent {
+        event,
+        span: None,
+        tag_offset: None,
+        entry,
+        folded: Slices::new(alloc),
+    }
+}
+
+/// An empty node without properties.
+pub(crate) fn empty_node<'a>(alloc: Global, entry: Option<Entry>) -> PlacedEvent<'a> {
+    let event = Event::Scalar {
+        props: Props {
+            anchor: None,
+            tag: None,
+        },
+        style: ScalarStyle::Plain,
+        text: Text::Part(""),
+    };
+    unplaced(alloc, event, entry)
+}
+
+/// Begins a node (ns-flow-node, production 161), where so many collections are open.
+pub(crate) fn begin_node<'a>(
+    alloc: Global,
+    scene: Scene<'a>,
+    at: usize,
+    entry: Option<Entry>,
+    depth: usize,
+    part: &mut Part<'a>,
+) -> Result<Begun, AllocError>
+    requires boundary { IsCharBoundary scene.text.now at }
+    requires escapes { All (IsCharBoundary scene.text.now) part.old.escapes }
+    ensures begun { IfOk result (λ b. BegunAt scene.entry.text.now at (length part.old.events) (length part.new.events) b) }
+    ensures grows { IfOk result (λ _. length part.old.events ≤ length part.new.events) }
+    ensures escapes { IfOk result (λ _. All (IsCharBoundary scene.entry.text.now) part.new.escapes) }
+{
+    match alias_node(scene.text, at) {
+        Some((name, end)) => {
+            let event = Event::Alias { name };
+            part.events
+                .push(Lead::bare(at, entry).placed(alloc, event, end))?;
+            return Ok(Begun::Leaf(Node {
+                end,
+                json: false,
+                deepest: depth,
+            }));
+        }
+        None => {}
+    }
+    match read_properties(alloc, scene, at)? {
+        Some(properties) => propertied_node(alloc, scene, at, properties, entry, depth, part),
+        None => {
+            let lead = Lead::bare(at, entry);
+            if content_begins(scene.text, at) {
+                return json_content(alloc, scene, at, lead, depth, part);
+            }
+            plain_node(alloc, scene, at, lead, depth, part)
+        }
+    }
+}
+
+// A node with properties: its content is a plain scalar, a quoted scalar or a flow collection, and else it is empty.
+fn propertied_node<'a>(
+    alloc: Global,
+    scene: Scene<'a>,
+    at: usize,
+    properties: Properties<'a>,
+    entry: Option<Entry>,
+    depth: usize,
+    part: &mut Part<'a>,
+) -> Result<Begun, AllocError>
+    requires boundary { IsCharBoundary scene.text.now at }
+    requires place { Place scene.text.now (at + 1) properties.end }
+    requires escapes { All (IsCharBoundary scene.text.now) part.old.escapes }
+    ensures begun { IfOk result (λ b. BegunAt scene.entry.text.now at (length part.old.events) (length part.new.events) b) }
+    ensures grows { IfOk result (λ _. length part.old.events ≤ length part.new.events) }
+    ensures escapes { IfOk result (λ _. All (IsCharBoundary scene.entry.text.now) part.new.escapes) }
+{
+    let Properties {
+        props,
+        tag_offset,
+        comments,
+        end,
+    } = properties;
+    let lead = Lead {
+        start: at,
+        props,
+        tag_offset,
+        entry,
+    };
+    part.comments.append(comments)?;
+    match read_separation(alloc, scene, end)? {
+        Some(
+            Separation {
+                comments,
+                end: place,
+            },
+        ) => {
+            if content_begins(scene.text, place) {
+                part.comments.append(comments)?;
+                return json_content(alloc, scene, place, lead, depth, part);
+            }
+            match read_plain(alloc, scene, place)? {
+                Some(plain) => {
+                    part.comments.append(comments)?;
+                    push_scalar(alloc, lead, ScalarStyle::Plain, plain.text, plain.end, part)?;
+                    return Ok(Begun::Leaf(Node {
+                        end: plain.end,
+                        json: false,
+                        deepest: depth,
+                    }));
+                }
+                None => {}
+            }
+        }
+        None => {}
+    }
+    push_scalar(alloc, lead, ScalarStyle::Plain, Text::Part(""), end, part)?;
+    Ok(Begun::Leaf(Node {
+        end,
+        json: false,
+        deepest: depth,
+    }))
+}
+
+pub(crate) fn push_scalar<'a>(
+    alloc: Global,
+    lead: Lead<'a>,
+    style: ScalarStyle,
+    text: Text<'a>,
+    end: usize,
+    part: &mut Part<'a>,
+) -> Result<(), AllocError>
+    ensures found { IfOk result (λ _. length part.new.events ≡ length part.old.events + 1) }
+    ensures escapes { IfOk result (λ _. part.new.escapes ≡ part.old.escapes) }
+{
+    let event = Event::Scalar {
+        props: lead.props,
+        style,
+        text,
+    };
+    part.events.push(lead.placed(alloc, event, end))
+}
+
+// A plain scalar as a node (ns-plain, production 131).
+fn plain_node<'a>(
+    alloc: Global,
+    scene: Scene<'a>,
+    at: usize,
+    lead: Lead<'a>,
+    depth: usize,
+    part: &mut Part<'a>,
+) -> Result<Begun, AllocError>
+    requires boundary { IsCharBoundary scene.text.now at }
+    ensures begun { IfOk result (λ b. BegunAt scene.entry.text.now at (length part.old.events) (length part.new.events) b) }
+    ensures grows { IfOk result (λ _. length part.old.events ≤ length part.new.events) }
+    ensures escapes { IfOk result (λ _. part.new.escapes ≡ part.old.escapes) }
+{
+    match read_plain(alloc, scene, at)? {
+        Some(plain) => {
+            push_scalar(alloc, lead, ScalarStyle::Plain, plain.text, plain.end, part)?;
+            Ok(Begun::Leaf(Node {
+                end: plain.end,
+                json: false,
+                deepest: depth,
+            }))
+        }
+        None => Ok(Begun::Nothing),
+    }
+}
+
+// A quoted scalar, or the opening bracket of a flow collection (c-flow-json-content, production 157).
+fn json_content<'a>(
+    alloc: Global,
+    scene: Scene<'a>,
+    at: usize,
+    lead: Lead<'a>,
+    depth: usize,
+    part: &mut Part<'a>,
+) -> Result<Begun, AllocError>
+    requires boundary { IsCharBoundary scene.text.now at }
+    requires escapes { All (IsCharBoundary scene.text.now) part.old.escapes }
+    ensures begun { IfOk result (λ b. BegunAt scene.entry.text.now at (length part.old.events) (length part.new.events) b) }
+    ensures grows { IfOk result (λ _. length part.old.events ≤ length part.new.events) }
+    ensures escapes { IfOk result (λ _. All (IsCharBoundary scene.entry.text.now) part.new.escapes) }
+{
+    if stands(scene.text, at, b'\'') {
+        return single_node(alloc, scene, at, lead, depth, part);
+    }
+    if stands(scene.text, at, b'"') {
+        return double_node(alloc, scene, at, lead, depth, part);
+    }
+    if stands(scene.text, at, b'[') {
+        return open(alloc, scene, at, Kind::Sequence, lead, depth, part);
+    }
+    if stands(scene.text, at, b'{') {
+        return open(alloc, scene, at, Kind::Mapping, lead, depth, part);
+    }
+    Ok(Begun::Nothing)
+}
+
+fn single_node<'a>(
+    alloc: Global,
+    scene: Scene<'a>,
+    at: usize,
+    lead: Lead<'a>,
+    depth: usize,
+    part: &mut Part<'a>,
+) -> Result<Begun, AllocError>
+    requires boundary { IsCharBoundary scene.text.now at }
+    ensures begun { IfOk result (λ b. BegunAt scene.entry.text.now at (length part.old.events) (length part.new.events) b) }
+    ensures grows { IfOk result (λ _. length part.old.events ≤ length part.new.events) }
+    ensures escapes { IfOk result (λ _. part.new.escapes ≡ part.old.escapes) }
+{
+    match read_single(alloc, scene, at)? {
+        Some(single) => {
+            push_scalar(
+                alloc,
+                lead,
+                ScalarStyle::Single,
+                single.text,
+                single.end,
+                part,
+            )?;
+            Ok(Begun::Leaf(Node {
+                end: single.end,
+                json: true,
+                deepest: depth,
+            }))
+        }
+        None => Ok(Begun::Nothing),
+    }
+}
+
+fn double_node<'a>(
+    alloc: Global,
+    scene: Scene<'a>,
+    at: usize,
+    lead: Lead<'a>,
+    depth: usize,
+    part: &mut Part<'a>,
+) -> Result<Begun, AllocError>
+    requires boundary { IsCharBoundary scene.text.now at }
+    requires escapes { All (IsCharBoundary scene.text.now) part.old.escapes }
+    ensures begun { IfOk result (λ b. BegunAt scene.entry.text.now at (length part.old.events) (length part.new.events) b) }
+    ensures grows { IfOk result (λ _. length part.old.events ≤ length part.new.events) }
+    ensures escapes { IfOk result (λ _. All (IsCharBoundary scene.entry.text.now) part.new.escapes) }
+{
+    match scan_double(alloc, scene, at, part)? {
+        Some(double) => {
+            push_scalar(
+                alloc,
+                lead,
+                ScalarStyle::Double,
+                double.text,
+                double.end,
+                part,
+            )?;
+            Ok(Begun::Leaf(Node {
+                end: double.end,
+                json: true,
+                deepest: depth,
+            }))
+        }
+        None => Ok(Begun::Nothing),
+    }
+}
+
+// Opens the collection whose bracket stands there, if there is room for it. Where it ends is noted once it is closed.
+fn open<'a>(
+    alloc: Global,
+    scene: Scene<'a>,
+    at: usize,
+    kind: Kind,
+    lead: Lead<'a>,
+    depth: usize,
+    part: &mut Part<'a>,
+) -> Result<Begun, AllocError>
+    requires boundary { IsCharBoundary scene.text.now at }
+    requires behind { IsCharBoundary scene.text.now (at + 1) }
+    ensures begun { IfOk result (λ b. BegunAt scene.entry.text.now at (length part.old.events) (length part.new.events) b) }
+    ensures grows { IfOk result (λ _. length part.old.events ≤ length part.new.events) }
+    ensures escapes { IfOk result (λ _. part.new.escapes ≡ part.old.escapes) }
+{
+    if depth >= scene.limit {
+        return Ok(Begun::TooDeep(at));
+    }
+    let event = part.events.len();
+    let start = match kind {
+        Kind::Sequence => Event::SeqStart {
+            flow: true,
+            props: lead.props,
+        },
+        Kind::Mapping | Kind::Pair => Event::MapStart {
+            flow: true,
+            props: lead.props,
+        },
+    };
+    part.events.push(lead.placed(alloc, start, at + 1))?;
+    Ok(Begun::Opened(Frame {
+        kind,
+        depth: depth + 1,
+        deepest: depth + 1,
+        event,
+        entry: at + 1,
+        entry_event: event,
+        role: Role::Item,
+    }))
+}

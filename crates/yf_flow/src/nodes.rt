@@ -1,0 +1,178 @@
+//! The reader of flow nodes: one forward pass, with a stack of the open collections.
+ghost use Rattle.std.specs.Prelude.{◌≡◌, [], ◌+◌, ◌<◌, ◌≤◌, length, IfOk};
+ghost use Rattle.std.specs.List.{All};
+ghost use Rattle.std.specs.Str.{IsCharBoundary};
+ghost use Rattle.yf_flow.specs.Machine.{Awaiting, EndingAt, OutcomeAt};
+
+use crate::entries::{Below, finish_node, start_entry, take_node};
+use crate::frame::{Frame, Scene, State, Step};
+use crate::leaf::read_properties;
+use crate::node::{Begun, Lead, begin_node, push_scalar};
+use smallvec::SmallVec;
+use std::alloc::{AllocError, Global};
+use yf_chars::context::Ctx;
+use yf_events::event::ScalarStyle;
+use yf_events::events::{Comments, Events};
+use yf_events::part::Part;
+use yf_events::row::Row;
+use yf_lines::text::Text;
+use yf_props::properties::Properties;
+
+/// What a reader of flow nodes found.
+#[derive(Debug, Drop)]
+pub(crate) enum Outcome<'a> {
+    /// A node, and the byte offset behind it.
+    Found { part: Part<'a>, end: usize },
+    Nothing,
+    /// Nothing within the limit of open collections; the bracket or entry at the offset would open a further one.
+    TooDeep(usize),
+}
+
+// How a flow collection ends.
+#[derive(Clone, Copy)]
+enum Ending {
+    End(usize),
+    Nothing,
+    TooDeep(usize),
+}
+
+/// Reads a flow node (ns-flow-node, production 161) in which no more collections are open at once than the limit.
+pub(crate) fn read_node<'a>(
+    alloc: Global,
+    text: &'a str,
+    at: usize,
+    indentation: i32,
+    context: Ctx,
+    limit: usize,
+) -> Result<Outcome<'a>, AllocError>
+    requires { IsCharBoundary text.now at }
+    ensures { IfOk result (λ o. OutcomeAt text.now at o) }
+{
+    match inner_context(context) {
+        None => Ok(Outcome::Nothing),
+        Some(inner) => {
+            let scene = Scene {
+                text,
+                indentation,
+                context,
+                limit,
+            };
+            let mut part = new_part(alloc);
+            let ending = match begin_node(alloc, scene, at, None, 0, &mut part)? {
+                Begun::Leaf(node) => Ending::End(node.end),
+                Begun::Opened(frame) => read_collection(
+                    alloc,
+                    Scene {
+                        context: inner,
+                        ..scene
+                    },
+                    frame,
+                    &mut part,
+                )?,
+                Begun::Nothing => Ending::Nothing,
+                Begun::TooDeep(place) => Ending::TooDeep(place),
+            };
+            match ending {
+                Ending::End(end) => Ok(Outcome::Found { part, end }),
+                Ending::Nothing => properties_alone(alloc, scene, at, Outcome::Nothing),
+                Ending::TooDeep(place) => properties_alone(
+                    alloc,
+                    scene,
+                    at,
+                    Outcome::TooDeep(place),
+                ),
+            }
+        }
+    }
+}
+
+// The context within flow collections of that context (in-flow(c)); no flow node stands in the two block contexts.
+fn inner_context(context: Ctx) -> Option<Ctx> {
+    match context {
+        Ctx::BlockOut | Ctx::BlockIn => None,
+        Ctx::FlowOut | Ctx::FlowIn => Some(Ctx::FlowIn),
+        Ctx::BlockKey | Ctx::FlowKey => Some(Ctx::FlowKey),
+    }
+}
+
+fn new_part<'a>(alloc: Global) -> Part<'a>
+    ensures { result.escapes ≡ [] }
+{
+    Part {
+        events: Events::new(alloc),
+        comments: Comments::new(alloc),
+        escapes: Row::new(alloc),
+    }
+}
+
+// Reads the entries of a collection up to its closing bracket.
+fn read_collection<'a>(
+    alloc: Global,
+    scene: Scene<'a>,
+    frame: Frame,
+    part: &mut Part<'a>,
+) -> Result<Ending, AllocError>
+    requires boundary { IsCharBoundary scene.text.now frame.entry }
+    requires top { Awaiting scene.text.now (length part.old.events) frame }
+    requires escapes { All (IsCharBoundary scene.text.now) part.old.escapes }
+    ensures found { IfOk result (λ e. EndingAt scene.entry.text.now frame.entry e) }
+    ensures escapes { IfOk result (λ _. All (IsCharBoundary scene.entry.text.now) part.new.escapes) }
+{
+    let mut below: Below = SmallVec::new(alloc);
+    let mut state = State {
+        top: frame,
+        step: Step::Entry(frame.entry),
+    };
+    'steps: loop {
+        state = match state.step {
+            Step::Entry(at) => start_entry(alloc, scene, at, state.top, &mut below, part)?,
+            Step::Node(at) => take_node(alloc, scene, at, state.top, &mut below, part)?,
+            Step::Ended(node) => finish_node(alloc, scene, node, state.top, &mut below, part)?,
+            Step::Done(end) => return Ok(Ending::End(end)),
+            Step::Failed => return Ok(Ending::Nothing),
+            Step::TooDeep(place) => return Ok(Ending::TooDeep(place)),
+        };
+    }
+}
+
+// Where the content behind properties is not derived, the node is empty and the properties are all of it.
+fn properties_alone<'a>(
+    alloc: Global,
+    scene: Scene<'a>,
+    at: usize,
+    otherwise: Outcome<'a>,
+) -> Result<Outcome<'a>, AllocError>
+    requires boundary { IsCharBoundary scene.text.now at }
+    requires otherwise { OutcomeAt scene.text.now at otherwise }
+    ensures { IfOk result (λ o. OutcomeAt scene.entry.text.now at o) }
+{
+    match read_properties(alloc, scene, at)? {
+        None => Ok(otherwise),
+        Some(
+            Properties {
+                props,
+                tag_offset,
+                comments,
+                end,
+            },
+        ) => {
+            let mut part = new_part(alloc);
+            part.comments.append(comments)?;
+            let lead = Lead {
+                start: at,
+                props,
+                tag_offset,
+                entry: None,
+            };
+            push_scalar(
+                alloc,
+                lead,
+                ScalarStyle::Plain,
+                Text::Part(""),
+                end,
+                &mut part,
+            )?;
+            Ok(Outcome::Found { part, end })
+        }
+    }
+}
