@@ -6,3 +6,4 @@ pub mod EventLists
 pub mod Nests
 pub mod PieceRuns
 pub mod Rests
+pub mod EditLemmas

@@ -1,4 +1,5 @@
 pub mod Content
+pub mod Edit
 pub mod Event
 pub mod Nested
 pub mod Nesting

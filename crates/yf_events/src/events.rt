@@ -1,5 +1,6 @@
 //! Lists of events.
 ghost use Rattle.std.specs.Prelude.{◌≡◌, ◌<◌, ◌≤◌, [], ◌∷◌, ◌++◌, drop, take, length, map, slice_get, if◌then◌else◌, is_ok};
+ghost use Rattle.yf_events.specs.Edit as Edit;
 
 use crate::event::{Entry, PlacedEvent, Span};
 use std::alloc::{AllocError, Global};
@@ -21,6 +22,7 @@ impl<'a> Model for Events<'a> {
 }
 
 impl<'a> Events<'a> {
+    ghost use Rattle.yf_events.specs.Edit.{edited, ended, coloned};
     ghost use Rattle.yf_events.specs.Event.{placed_value, with_entry, with_span};
 
     pub fn new(alloc: Global) -> Events<'a>
@@ -94,29 +96,25 @@ impl<'a> Events<'a> {
     }
 
     /// Sets where the node ends that the event at an index begins. A node without a place, as an empty one, stays so.
+    /// Past the end nothing is changed, here and below.
     pub fn set_end(&mut self, i: usize, end: usize)
-        requires { i < length self.old }
-        ensures { length self.new ≡ length self.old }
+        ensures edited { self.new ≡ edited (ended end) i self.old }
+        ensures len { length self.new ≡ length self.old }
     {
-        if let Some(span) = self.list[i].span {
-            self.list[i].span = Some(Span {
-                start: span.start,
-                end,
-            });
+        if i < self.list.len() {
+            let event = &mut self.list[i];
+            event.span = span_to(event.span, end);
         }
     }
 
     /// Sets where the `:` stands of the entry that the event at an index begins, if it begins one.
     pub fn set_colon(&mut self, i: usize, colon: usize)
-        requires { i < length self.old }
-        ensures { length self.new ≡ length self.old }
+        ensures edited { self.new ≡ edited (coloned colon) i self.old }
+        ensures len { length self.new ≡ length self.old }
     {
-        if let Some(entry) = self.list[i].entry {
-            self.list[i].entry = Some(Entry {
-                start: entry.start,
-                colon: Some(colon),
-                blank_before: entry.blank_before,
-            });
+        if i < self.list.len() {
+            let event = &mut self.list[i];
+            event.entry = with_colon(event.entry, colon);
         }
     }
 
@@ -124,5 +122,33 @@ impl<'a> Events<'a> {
         ensures { map placed_value result.now ≡ self.now }
     {
         self.list.as_slice()
+    }
+}
+
+fn span_to(span: Option<Span>, end: usize) -> Option<Span>
+    ensures { result ≡ Edit.span_to end span }
+{
+    match span {
+        Some(Span { start, .. }) => Some(Span { start, end }),
+        None => None,
+    }
+}
+
+fn with_colon(entry: Option<Entry>, colon: usize) -> Option<Entry>
+    ensures { result ≡ Edit.with_colon colon entry }
+{
+    match entry {
+        Some(
+            Entry {
+                start,
+                blank_before,
+                ..
+            },
+        ) => Some(Entry {
+            start,
+            colon: Some(colon),
+            blank_before,
+        }),
+        None => None,
     }
 }

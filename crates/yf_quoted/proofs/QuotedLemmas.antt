@@ -1,15 +1,15 @@
 -- Whole quoted scalars: what the reader of the inside finds is the scalar.
-use Rattle.std.proofs.Common.{◌≡◌, ◌≢◌, ℕ, ◌+◌, ◌<◌, ◌≤◌, ℤ, pos, ◌<ℤ◌, true, false, List, [], ◌∷◌, Option, Some, None, refl, sym, ap, ◌∙◌, subst, inl, inr, ◌⊎◌, ⊎_elim, arith, encode_utf8_all, length, take, drop, ◌-◌}
+use Rattle.std.proofs.Common.{◌≡◌, ◌≢◌, ℕ, ◌+◌, ◌<◌, ◌≤◌, ℤ, pos, ◌<ℤ◌, Bool, true, false, List, [], ◌∷◌, ◌++◌, Option, Some, None, refl, sym, ap, ◌∙◌, subst, inl, inr, ◌⊎◌, ⊎_elim, arith, append_assoc, append-nil, encode_utf8_all, length, take, drop, ◌-◌}
 use Rattle.std.proofs.lemmas.Bool.{true≢false}
 use Rattle.std.proofs.lemmas.Int.{ints}
 use Rattle.std.specs.Str.{IsUtf8}
 use Rattle.yf_chars.specs.declared.context.Ctx.{Ctx}
 use Rattle.yf_chars.specs.declared.context.Ctx.TheVariants.{BlockOut, BlockIn, FlowOut, FlowIn, BlockKey, FlowKey}
-use Rattle.yf_chars.specs.Text.{code}
+use Rattle.yf_chars.specs.Text.{code, next}
 use Rattle.yf_chars.specs.Class.{is_white}
 use Rattle.yf_chars.specs.Chain.{Chain, Stuck, Chosen}
 use Rattle.yf_chars.specs.Chain.Chain.{done, step}
-use Rattle.yf_chars.proofs.ChainLemmas.{chain_forward}
+use Rattle.yf_chars.proofs.ChainLemmas.{chain_forward, chain_append}
 use Rattle.yf_chars.proofs.TextLemmas.{reads_byte}
 use Rattle.yf_lines.specs.Basic.{Indent, FlowPrefix, FlowFolded, Clear, is_block, is_flow, is_key}
 use Rattle.yf_lines.specs.Basic.Indent.{exactly}
@@ -17,7 +17,7 @@ use Rattle.yf_lines.specs.Basic.FlowPrefix.{indented, set_off}
 use Rattle.yf_lines.specs.Basic.FlowFolded.{at_break, past_whites}
 use Rattle.yf_lines.proofs.BasicLemmas.{clear_join, clear_front, clear_back, clear_nothing}
 use Rattle.yf_lines.proofs.ClearLemmas.{clear_char, not_forbidden, Spelled, spelled_nothing, spelled_join, spelled_char, spelled_slice}
-use Rattle.yf_quoted.specs.Quoted.{Rest, Inside, DoubleQuoted, DoubleChar, DoubleBreak, Piece, goods, text_of, first_bad}
+use Rattle.yf_quoted.specs.Quoted.{Item, Rest, Inside, Quoted, DoubleQuoted, DoubleChar, DoubleBreak, Piece, goods, text_of, first_bad}
 use Rattle.yf_quoted.specs.Quoted.Rest.{blank, last_break, next_line}
 use Rattle.yf_quoted.specs.Quoted.Inside.{as_key, as_lines}
 use Rattle.yf_quoted.specs.Quoted.DoubleChar.{unescaped}

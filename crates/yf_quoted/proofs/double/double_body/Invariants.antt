@@ -1,4 +1,4 @@
-use Rattle.std.proofs.Common.{◌-◌, length, IfSome}
+use Rattle.std.proofs.Common.{◌-◌, ◌≤◌, length, IfSome}
 use Rattle.std.specs.Str.{IsCharBoundary}
 use Rattle.std.specs.String.{string_bytes}
 use Rattle.yf_quoted.proofs.ReadLemmas.{SoFar}
