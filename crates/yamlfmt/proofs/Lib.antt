@@ -1,6 +1,3 @@
-pub mod EntryLemmas
-pub mod SequenceLemmas
-pub mod StreamLemmas
 pub mod SettingsLemmas
 pub mod CommandLineLemmas
 pub mod ProgramLemmas

@@ -2,7 +2,7 @@
 use Rattle.std.proofs.Common.{◌≡◌, ℕ, List, Bool, Option, inr}
 use Rattle.std.specs.Str.{IsUtf8}
 use Rattle.yf_lines.specs.declared.fault.Fault.{Fault}
-use Rattle.yf_lines.specs.declared.fault.Fault.TheVariants.{NotUtf8, Syntax, TooDeep, UnknownHandle, UnknownAlias, RepeatedDirective, BadVersion, EscapeValue, Memory, ReadFailed, WriteFailed, Config, Unsupported}
+use Rattle.yf_lines.specs.declared.fault.Fault.TheVariants.{NotUtf8, Syntax, TooDeep, UnknownHandle, UnknownAlias, RepeatedDirective, BadVersion, EscapeValue, Memory, ReadFailed, WriteFailed, Config}
 use Rattle.yamlfmt.specs.Program.{FileRefused}
 use Rattle.yamlfmt.specs.Run.{Gave}
 use Rattle.yamlfmt.specs.Settings.{RefusesSettings}
@@ -21,4 +21,3 @@ text_refused known before after text (BadVersion place) same gave utf8 refuses =
 text_refused known before after text (EscapeValue place) same gave utf8 refuses = absurd refuses
 text_refused known before after text ReadFailed same gave utf8 refuses = absurd refuses
 text_refused known before after text WriteFailed same gave utf8 refuses = absurd refuses
-text_refused known before after text (Unsupported place) same gave utf8 refuses = absurd refuses

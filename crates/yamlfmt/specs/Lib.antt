@@ -1,5 +1,3 @@
-pub mod FirstLists
-pub mod FirstPath
 pub mod Input
 pub mod Report
 pub mod Run

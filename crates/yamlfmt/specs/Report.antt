@@ -3,7 +3,7 @@ use Rattle.std.specs.Prelude.{ℕ, List, [], ◌∷◌, codes, decimal}
 use Rattle.std.specs.List.{concat}
 use Rattle.yf_lines.specs.declared.place.Place.{Place}
 use Rattle.yf_lines.specs.declared.fault.Fault.{Fault}
-use Rattle.yf_lines.specs.declared.fault.Fault.TheVariants.{NotUtf8, Syntax, TooDeep, UnknownHandle, UnknownAlias, RepeatedDirective, BadVersion, EscapeValue, Memory, ReadFailed, WriteFailed, Config, Unsupported}
+use Rattle.yf_lines.specs.declared.fault.Fault.TheVariants.{NotUtf8, Syntax, TooDeep, UnknownHandle, UnknownAlias, RepeatedDirective, BadVersion, EscapeValue, Memory, ReadFailed, WriteFailed, Config}
 
 -- line and column, and why the stream is refused there
 abbrev pub refusal_line : Place → List ℕ → List ℕ
@@ -23,7 +23,6 @@ fault_line Memory = codes "no memory\n"
 fault_line ReadFailed = codes "read failed\n"
 fault_line WriteFailed = codes "write failed\n"
 fault_line (Config key) = concat (codes "config: " ∷ key ∷ codes "\n" ∷ [])
-fault_line (Unsupported place) = refusal_line place (codes "unsupported")
 
 -- 2 where the stream is refused, 3 for memory, files and settings
 abbrev pub fault_status : Fault → ℕ

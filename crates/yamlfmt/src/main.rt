@@ -4,7 +4,6 @@
 mod command_line;
 #[cfg(test)]
 mod command_line_tests;
-mod first_path;
 mod input;
 mod program;
 #[cfg(test)]

@@ -37,8 +37,7 @@ fn status_of(fault: &Fault) -> u8
         | Fault::UnknownAlias { .. }
         | Fault::RepeatedDirective { .. }
         | Fault::BadVersion { .. }
-        | Fault::EscapeValue { .. }
-        | Fault::Unsupported { .. } => 2,
+        | Fault::EscapeValue { .. } => 2,
     }
 }
 
@@ -59,7 +58,6 @@ fn write_line<E: Sink>(fault: &Fault, stream: &mut E) -> Result<(), Fault>
         Fault::ReadFailed => write_text(stream, b"read failed\n"),
         Fault::WriteFailed => write_text(stream, b"write failed\n"),
         Fault::Config { key } => write_texts(stream, &["config: ", key.as_str(), "\n"]),
-        Fault::Unsupported { place } => write_refusal(place, "unsupported", stream),
     }
 }
 

@@ -1,18 +1,14 @@
 //! The runs of the program, over any reader and any writer.
-ghost use Rattle.std.specs.Prelude.{◌≡◌, List, IfErr, OnOk, MatchResult};
-ghost use Rattle.yf_events.specs.Notation.{notation_of};
-ghost use Rattle.yamlfmt.specs.FirstPath.{Item, Derives, printed};
-ghost use Rattle.yamlfmt.specs.FirstLists.{Refusal};
+ghost use Rattle.std.specs.Prelude.{◌≡◌, IfErr, OnOk};
 ghost use Rattle.yamlfmt.specs.Run.{Printed, Refused};
 
-use crate::first_path::read_sequence;
 use crate::input::read_all;
 use std::alloc::Global;
 use yf_chars::utf8::check_utf8;
 use yf_events::notation::write_events;
-use yf_events::reading::Reading;
 use yf_lines::fault::Fault;
 use yf_lines::watched::{Sink, Source};
+use yf_stream::stream::read_stream;
 
 /// More bytes than these are not read.
 pub const INPUT_LIMIT: usize = 1_073_741_824;
@@ -21,9 +17,9 @@ pub const INPUT_LIMIT: usize = 1_073_741_824;
 ///
 /// Nothing is written before the whole stream is known to be accepted. After `Fault::WriteFailed` a front of the lines
 /// has been written, after any other fault nothing. Refused are: more than `INPUT_LIMIT` bytes or a read that fails
-/// (`ReadFailed`), bytes that are no text (`NotUtf8`), a text of another part of YAML (`Unsupported`), and a write that
-/// fails or takes nothing (`WriteFailed`). `Memory` may come in the place of each answer but `ReadFailed`, where a
-/// growth of memory was refused.
+/// (`ReadFailed`), bytes that are no text (`NotUtf8`), a text that `read_stream` refuses, and a write that fails or takes
+/// nothing (`WriteFailed`). `Memory` may come in the place of each answer but `ReadFailed`, where a growth of memory was
+/// refused.
 pub fn run_events<R: Source, W: Sink>(
     alloc: Global,
     reader: &mut R,
@@ -41,17 +37,4 @@ pub fn run_events<R: Source, W: Sink>(
     };
     let reading = read_stream(alloc, text)?;
     write_events(&reading, writer)
-}
-
-// The reading of a whole text.
-fn read_stream<'a>(alloc: Global, text: &'a str) -> Result<Reading<'a>, Fault>
-    ensures { MatchResult result
-        (λ reading. (items : List Item) × Derives text.now items × (notation_of reading ≡ printed items))
-        (λ fault. Refusal text.now fault) }
-{
-    let lists = read_sequence(alloc, text)?;
-    match Reading::build(alloc, lists)? {
-        Some(reading) => Ok(reading),
-        None => unreachable!(),
-    }
 }

@@ -8,7 +8,7 @@ pub mod document;
 mod escapes;
 pub mod event;
 pub mod events;
-mod leaves;
+pub mod leaves;
 pub mod lists;
 mod nesting;
 pub mod notation;

@@ -45,7 +45,4 @@ pub enum Fault {
     /// A settings key is unknown, of a wrong type or out of range; the key is empty where the text is no TOML.
     #[error("a setting is wrong")]
     Config { key: OwnedText },
-    /// The text is of a part of YAML that is not read yet.
-    #[error("not supported yet")]
-    Unsupported { place: Place },
 }

@@ -208,7 +208,7 @@ module _ (t : List ℕ) (i w : ℕ) (x : List ℕ) (m : Many t is_word_char (i +
       let same : j ≡ w = (stuck_unique (one_functional t is_word_char) r.chain r.all m (one_stuck t is_word_char w e)).0 in
       inr (ap (λ k. k + 1) same, ap (code t) (sym same) ∙ b)
 
-  long_handle : code t i ≡ 33 → code t w ≡ 33 → Handle t i (w + 1)
+  pub long_handle : code t i ≡ 33 → code t w ≡ 33 → Handle t i (w + 1)
   long_handle a b = ⊎_elim
       (λ (l : i + 1 < w). named_handle a (record { characters = x; chain = m; some = l; all = one_stuck t is_word_char w e }) b)
       (λ (l : w ≤ i + 1).

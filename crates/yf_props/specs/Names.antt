@@ -1,6 +1,6 @@
 -- Aliases, anchors, tags and node properties (YAML 1.2.2, 5.6, 6.8.2, 6.9 and 7.1) as relations between byte offsets of
 -- a text t. A name is as long as its characters go. n is an indentation, from -1; c is a context.
-use Rattle.std.specs.Prelude.{◌≡◌, ℕ, ◌+◌, ◌<◌, ℤ, Bool, true, List, [], ◌∷◌, Option, Some, None, slice_range}
+use Rattle.std.specs.Prelude.{◌≡◌, ℕ, ◌+◌, ◌<◌, ℤ, Bool, true, List, [], ◌∷◌, ◌++◌, Option, Some, None, slice_range}
 use Rattle.yf_chars.specs.declared.context.Ctx.{Ctx}
 use Rattle.yf_chars.specs.Text.{code, next}
 use Rattle.yf_chars.specs.Class.{is_anchor_char, is_hex_digit, is_tag_char, is_uri_char, is_word_char}
@@ -49,6 +49,11 @@ pub data Handle (t : List ℕ) : ℕ → ℕ → Type 0 where
   primary_handle : {i : ℕ} → code t i ≡ 33 → Handle t i (i + 1)
   secondary_handle : {i : ℕ} → code t i ≡ 33 → code t (i + 1) ≡ 33 → Handle t i (i + 2)
   named_handle : {i j : ℕ} → code t i ≡ 33 → Run (WordChar t) (i + 1) j → code t j ≡ 33 → Handle t i (j + 1)
+
+-- ns-tag-prefix: of tags of the document's own, or of all tags that begin so
+pub data TagPrefix (t : List ℕ) : ℕ → ℕ → List ℕ → Type 0 where
+  local_prefix : {i j : ℕ} {x : List ℕ} → code t i ≡ 33 → Chain (UriChar t) (i + 1) j x → TagPrefix t i j (33 ∷ x)
+  global_prefix : {i k j : ℕ} {c x : List ℕ} → TagChar t i k c → Chain (UriChar t) k j x → TagPrefix t i j (c ++ x)
 
 -- c-verbatim-tag, which means what stands between < and >
 pub data VerbatimTag (t : List ℕ) : ℕ → ℕ → List ℕ → Type 0 where

@@ -6,6 +6,6 @@ pub mod handles;
 pub mod properties;
 pub mod props;
 pub mod read;
-mod tag;
+pub mod tag;
 #[cfg(test)]
 mod tests;

@@ -5,7 +5,7 @@ ghost use Rattle.yf_chars.specs.Chain.{Chain, Chosen, Stuck, Many};
 ghost use Rattle.yf_chars.specs.Class.{is_hex_digit, is_word_char};
 ghost use Rattle.yf_chars.specs.Text.{code, Reads};
 ghost use Rattle.yf_props.specs.Chars.{class_of};
-ghost use Rattle.yf_props.specs.Names.{Spelled, TagChar, Run, Handle, VerbatimTag, ShorthandTag, TagProperty};
+ghost use Rattle.yf_props.specs.Names.{Spelled, TagChar, Run, Handle, VerbatimTag, ShorthandTag, TagProperty, TagPrefix};
 ghost use Rattle.yf_props.specs.Props.{tag_value};
 ghost use Rattle.yf_props.specs.Props.TagValue.{IsVerbatim};
 
@@ -113,6 +113,40 @@ fn skip_word_chars(s: &str, at: usize) -> usize
             }
             None => return end,
         }
+    }
+}
+
+/// Reads the handle of a TAG directive (c-tag-handle, production 89), as long as its characters go, and gives the byte offset
+/// behind it.
+pub fn tag_handle(s: &str, at: usize) -> Option<usize>
+    ensures reads { IfSome result (λ j. Handle s.now at j) }
+    ensures boundary { IfSome result (λ j. IsCharBoundary s.now j) }
+    ensures order { IfSome result (λ j. at < j) }
+{
+    if stands(s, at, b'!') {
+        let name_end = skip_word_chars(s, at + 1);
+        if stands(s, name_end, b'!') {
+            return Some(name_end + 1);
+        }
+        return Some(at + 1);
+    }
+    None
+}
+
+/// Reads the prefix of a TAG directive (ns-tag-prefix, production 93), as long as its characters go, and gives the byte
+/// offset behind it.
+pub fn tag_prefix(s: &str, at: usize) -> Option<usize>
+    requires { IsCharBoundary s.now at }
+    ensures reads { MatchOption result (Stuck (TagPrefix s.now at)) (λ j. (x : List ℕ) × TagPrefix s.now at j x) }
+    ensures boundary { IfSome result (λ j. IsCharBoundary s.now j) }
+    ensures order { IfSome result (λ j. at < j) }
+{
+    if stands(s, at, b'!') {
+        return Some(skip_chars(s, at + 1, Chars::Uri));
+    }
+    match read_char(s, at, Chars::Suffix) {
+        Some(next) => Some(skip_chars(s, next, Chars::Uri)),
+        None => None,
     }
 }
 

@@ -1,0 +1,17 @@
+-- What holds between two steps of the reader of streams: the places that it keeps lie between characters, and less of
+-- the text is left at each step.
+use Rattle.std.specs.Prelude.{ℕ, ◌≤◌, List}
+use Rattle.std.specs.Str.{IsCharBoundary}
+use Rattle.yf_stream.specs.declared.documents.Next.{Next}
+use Rattle.yf_stream.specs.declared.documents.Next.TheVariants.{Go, Syntax, TooDeep}
+
+-- a place at an offset or behind it
+pub record Place (t : List ℕ) (at p : ℕ) : Type 0 where
+  pub boundary : IsCharBoundary t p
+  pub order : at ≤ p
+
+-- the reading goes on at the offset or behind it
+abbrev pub NextAt : List ℕ → ℕ → Next → Type 0
+NextAt t at (Go spot) = Place t at spot.at
+NextAt t at (Syntax place) = Unit {0}
+NextAt t at (TooDeep place) = Unit {0}

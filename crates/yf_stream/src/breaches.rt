@@ -1,0 +1,250 @@
+//! What must hold in each document besides its grammar: the handles of its tags are declared (YAML 1.2.2, section 6.9.1),
+//! each alias names an anchor before it (section 7.1), no directive is repeated and the version is 1 (section 6.8), and
+//! each escape is a character (section 5.7).
+ghost use Rattle.std.specs.Prelude.{◌≡◌, ◌+◌, ◌<◌, ◌≤◌, length, IfOk};
+
+use indexmap::IndexSet;
+use std::alloc::{AllocError, Global};
+use yf_events::directive::Directive;
+use yf_events::document::{Doc, Documents};
+use yf_events::event::{Event, PlacedEvent};
+use yf_events::events::Events;
+use yf_events::row::Row;
+use yf_lines::fault::Fault;
+use yf_lines::place::Place;
+use yf_lines::text::OwnedText;
+use yf_props::handles::Handles;
+use yf_props::props::{Props, Tag};
+
+/// What does not hold.
+#[derive(Clone, Copy, Debug, PartialEq, Eq)]
+pub(crate) enum Kind {
+    UnknownHandle,
+    UnknownAlias,
+    RepeatedDirective,
+    BadVersion,
+    EscapeValue,
+}
+
+/// The byte offset of a tag, an alias, a directive or an escape, and what does not hold of it.
+#[derive(Clone, Copy, Debug)]
+pub(crate) struct Breach {
+    pub(crate) offset: usize,
+    pub(crate) kind: Kind,
+}
+
+/// For each event the resolved tag of the node that it begins; and the first breach, if there is one.
+#[derive(Debug, Drop)]
+pub(crate) struct Resolved {
+    pub(crate) tags: Row<Option<OwnedText>>,
+    pub(crate) first: Option<Breach>,
+}
+
+// The anchors that have occurred in a document.
+type Anchors<'a> = IndexSet<&'a str>;
+
+/// Resolves all tags, and finds the first breach.
+pub(crate) fn resolve<'a>(
+    alloc: Global,
+    events: &Events<'a>,
+    documents: &Documents<'a>,
+    escapes: &Row<usize>,
+) -> Result<Resolved, AllocError>
+    ensures { IfOk result (λ r. length r.tags ≡ length events.now) }
+{
+    let mut resolved = Resolved {
+        tags: Row::new(alloc),
+        first: first_escape(escapes),
+    };
+    let documents = documents.as_slice();
+    let mut begun = 0;
+    let mut at = 0;
+    'documents: while at < events.len() {
+        match events.at(at).event {
+            Event::DocStart { .. } => {
+                at = resolve_document(alloc, events, at, documents.get(begun), &mut resolved)?;
+                begun = begun.saturating_add(1);
+            }
+            _ => {
+                resolved.tags.push(None)?;
+                at += 1;
+            }
+        }
+    }
+    Ok(resolved)
+}
+
+// The first escape that is no character.
+fn first_escape(escapes: &Row<usize>) -> Option<Breach> {
+    match escapes.as_slice().first() {
+        Some(offset) => Some(Breach {
+            offset: *offset,
+            kind: Kind::EscapeValue,
+        }),
+        None => None,
+    }
+}
+
+// Resolves the tags of one document, whose start is the event at the index, and gives the index of the event behind the
+// document.
+fn resolve_document<'a>(
+    alloc: Global,
+    events: &Events<'a>,
+    start: usize,
+    document: Option<&Doc<'a>>,
+    resolved: &mut Resolved,
+) -> Result<usize, AllocError>
+    requires start { start < length events.now }
+    requires tags { length resolved.old.tags ≡ start }
+    ensures end { IfOk result (λ end. (start < end) × (end ≤ length events.now)) }
+    ensures tags { IfOk result (λ end. length resolved.new.tags ≡ end) }
+{
+    let mut handles = Handles::new(alloc);
+    if let Some(document) = document {
+        declare_all(document.directives.as_slice(), &mut handles, resolved)?;
+    }
+    let mut anchors: Anchors = IndexSet::new(alloc);
+    resolved.tags.push(None)?;
+    let mut at = start + 1;
+    'events: while at < events.len() {
+        let placed = events.at(at);
+        if matches!(placed.event, Event::DocStart { .. }) {
+            return Ok(at);
+        }
+        let tag = resolve_event(alloc, placed, &handles, &mut anchors, resolved)?;
+        resolved.tags.push(tag)?;
+        at += 1;
+    }
+    Ok(at)
+}
+
+impl Resolved {
+    // Keeps a breach if it is the first in the text so far; of two at one place, the one that was found first.
+    fn keep(&mut self, offset: usize, kind: Kind)
+        ensures { self.new.tags ≡ self.old.tags }
+    {
+        self.first = earlier(self.first, Breach { offset, kind });
+    }
+}
+
+fn earlier(first: Option<Breach>, found: Breach) -> Option<Breach> {
+    match first {
+        Some(breach) => {
+            if breach.offset <= found.offset {
+                return Some(breach);
+            }
+            Some(found)
+        }
+        None => Some(found),
+    }
+}
+
+// Declares the handles of a document.
+fn declare_all<'a>(
+    directives: &[Directive<'a>],
+    handles: &mut Handles<'a>,
+    resolved: &mut Resolved,
+) -> Result<(), AllocError>
+    ensures { resolved.new.tags ≡ resolved.old.tags }
+{
+    let mut has_version = false;
+    for directive in directives {
+        let offset = directive.offset;
+        match directive.words.as_slice() {
+            ["YAML", version] => {
+                if has_version {
+                    resolved.keep(offset, Kind::RepeatedDirective);
+                }
+                if !is_version_one(version) {
+                    resolved.keep(offset, Kind::BadVersion);
+                }
+                has_version = true;
+            }
+            ["TAG", handle, prefix] => {
+                if !declare(handles, handle, prefix)? {
+                    resolved.keep(offset, Kind::RepeatedDirective);
+                }
+            }
+            _ => {}
+        }
+    }
+    Ok(())
+}
+
+fn declare<'a>(
+    handles: &mut Handles<'a>,
+    handle: &'a str,
+    prefix: &'a str,
+) -> Result<bool, AllocError> {
+    match handles.declare(handle, prefix) {
+        Ok(is_new) => Ok(is_new),
+        Err(_) => Err(AllocError),
+    }
+}
+
+// Whether the number before the dot is 1.
+fn is_version_one(version: &str) -> bool {
+    version.trim_start_matches('0').starts_with("1.")
+}
+
+// The resolved tag of the node that the event begins; its anchor has occurred from now on.
+fn resolve_event<'a>(
+    alloc: Global,
+    placed: &PlacedEvent<'a>,
+    handles: &Handles<'a>,
+    anchors: &mut Anchors<'a>,
+    resolved: &mut Resolved,
+) -> Result<Option<OwnedText>, AllocError>
+    ensures { resolved.new.tags ≡ resolved.old.tags }
+{
+    match placed.event {
+        Event::Scalar { props, .. }
+        | Event::SeqStart { props, .. }
+        | Event::MapStart { props, .. } => {
+            note_anchor(props, anchors)?;
+            resolve_tag(alloc, props.tag, placed.tag_offset, handles, resolved)
+        }
+        Event::Alias { name } => {
+            if !anchors.contains(name) {
+                let offset = placed.span.map_or(0, |span| span.start);
+                resolved.keep(offset, Kind::UnknownAlias);
+            }
+            Ok(None)
+        }
+        _ => Ok(None),
+    }
+}
+
+fn note_anchor<'a>(props: Props<'a>, anchors: &mut Anchors<'a>) -> Result<(), AllocError> {
+    if let Some(name) = props.anchor {
+        match anchors.insert(name) {
+            Ok(_) => {}
+            Err(_) => return Err(AllocError),
+        }
+    }
+    Ok(())
+}
+
+fn resolve_tag<'a>(
+    alloc: Global,
+    tag: Option<Tag<'a>>,
+    offset: Option<usize>,
+    handles: &Handles<'a>,
+    resolved: &mut Resolved,
+) -> Result<Option<OwnedText>, AllocError>
+    ensures { resolved.new.tags ≡ resolved.old.tags }
+{
+    let (Some(tag), Some(offset)) = (tag, offset) else {
+        return Ok(None);
+    };
+    // The place of a refusal is told once the first of them is known.
+    let start = Place { line: 1, column: 1 };
+    match handles.resolve(alloc, &tag, start) {
+        Ok(text) => Ok(Some(text)),
+        Err(Fault::UnknownHandle { .. }) => {
+            resolved.keep(offset, Kind::UnknownHandle);
+            Ok(None)
+        }
+        Err(_) => Err(AllocError),
+    }
+}

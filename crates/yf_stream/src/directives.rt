@@ -1,0 +1,229 @@
+//! Directives (YAML 1.2.2, section 6.8). Offsets count bytes.
+ghost use Rattle.std.specs.Prelude.{◌≡◌, ◌+◌, ◌<◌, ◌≤◌, IfOk, IfSome};
+ghost use Rattle.std.specs.Str.{IsCharBoundary};
+ghost use Rattle.yf_stream.specs.Walk.{Place};
+
+use std::alloc::{AllocError, Global};
+use yf_chars::classes::{is_digit, is_ns_char};
+use yf_chars::text::{peek, stands};
+use yf_comments::comments::{Comments, Separation};
+use yf_comments::lines::line_end;
+use yf_events::directive::{Directive, Directives};
+use yf_events::slices::Slices;
+use yf_lines::basic::skip_whites;
+use yf_props::tag::{tag_handle, tag_prefix};
+
+/// The directives of a document, and the offset of the first line behind them and their comments.
+#[derive(Debug, Drop)]
+pub(crate) struct DirectiveLines<'a> {
+    pub(crate) directives: Directives<'a>,
+    pub(crate) end: usize,
+}
+
+// A directive, the comments behind it, and the offset of the first line behind them.
+#[derive(Debug, Drop)]
+struct DirectiveLine<'a> {
+    directive: Directive<'a>,
+    comments: Comments<'a>,
+    end: usize,
+}
+
+/// Reads all directives that begin at the offset, with their comments. `Err` with the offset of the first one that is
+/// none.
+pub(crate) fn read_directives<'a>(
+    alloc: Global,
+    text: &'a str,
+    at: usize,
+    comments: &mut Comments<'a>,
+) -> Result<Result<DirectiveLines<'a>, usize>, AllocError>
+    requires { IsCharBoundary text.now at }
+{
+    let mut directives = Directives::new(alloc);
+    let mut end = at;
+    'directives: while stands(text, end, b'%') {
+        match read_directive(alloc, text, end)? {
+            Some(line) => {
+                directives.push(line.directive)?;
+                comments.append(line.comments)?;
+                end = line.end;
+            }
+            None => return Ok(Err(end)),
+        }
+    }
+    Ok(Ok(DirectiveLines { directives, end }))
+}
+
+// Reads a directive (l-directive, production 82) and the comments behind it.
+fn read_directive<'a>(
+    alloc: Global,
+    text: &'a str,
+    at: usize,
+) -> Result<Option<DirectiveLine<'a>>, AllocError>
+    requires { IsCharBoundary text.now at }
+    ensures { IfOk result (λ o. IfSome o (λ line. Place text.now (at + 1) line.end)) }
+{
+    if !stands(text, at, b'%') {
+        return Ok(None);
+    }
+    let name_end = skip_ns_chars(text, at + 1);
+    let name = &text[at + 1..name_end];
+    let mut words = Slices::new(alloc);
+    words.push(name)?;
+    match read_parameters(text, name, name_end, &mut words)? {
+        Some(end) => match line_end(alloc, text, end)? {
+            Some(
+                Separation {
+                    comments,
+                    end: next,
+                },
+            ) => Ok(Some(DirectiveLine {
+                directive: Directive { offset: at, words },
+                comments,
+                end: next,
+            })),
+            None => Ok(None),
+        },
+        None => Ok(None),
+    }
+}
+
+// Reads the parameters of a directive with that name, and gives the offset behind them.
+fn read_parameters<'a>(
+    text: &'a str,
+    name: &str,
+    at: usize,
+    words: &mut Slices<'a>,
+) -> Result<Option<usize>, AllocError>
+    requires { IsCharBoundary text.now at }
+    ensures { IfOk result (λ o. IfSome o (λ end. Place text.now at end)) }
+{
+    match name {
+        "" => Ok(None),
+        "YAML" => read_version(text, at, words),
+        "TAG" => read_tag_parameters(text, at, words),
+        _ => read_reserved(text, at, words),
+    }
+}
+
+// The parameter of a YAML directive (ns-yaml-directive, production 86): two numbers with a dot between.
+fn read_version<'a>(
+    text: &'a str,
+    at: usize,
+    words: &mut Slices<'a>,
+) -> Result<Option<usize>, AllocError>
+    requires { IsCharBoundary text.now at }
+    ensures { IfOk result (λ o. IfSome o (λ end. Place text.now at end)) }
+{
+    let start = skip_whites(text, at);
+    if start == at {
+        return Ok(None);
+    }
+    let dot = skip_digits(text, start);
+    if dot == start {
+        return Ok(None);
+    }
+    if !stands(text, dot, b'.') {
+        return Ok(None);
+    }
+    let end = skip_digits(text, dot + 1);
+    if end == dot + 1 {
+        return Ok(None);
+    }
+    words.push(&text[start..end])?;
+    Ok(Some(end))
+}
+
+// The parameters of a TAG directive (ns-tag-directive, production 88): a handle and a prefix.
+fn read_tag_parameters<'a>(
+    text: &'a str,
+    at: usize,
+    words: &mut Slices<'a>,
+) -> Result<Option<usize>, AllocError>
+    requires { IsCharBoundary text.now at }
+    ensures { IfOk result (λ o. IfSome o (λ end. Place text.now at end)) }
+{
+    let start = skip_whites(text, at);
+    if start == at {
+        return Ok(None);
+    }
+    let Some(handle_end) = tag_handle(text, start) else {
+        return Ok(None);
+    };
+    let prefix = skip_whites(text, handle_end);
+    if prefix == handle_end {
+        return Ok(None);
+    }
+    let Some(end) = tag_prefix(text, prefix) else {
+        return Ok(None);
+    };
+    words.push(&text[start..handle_end])?;
+    words.push(&text[prefix..end])?;
+    Ok(Some(end))
+}
+
+// The parameters of a directive with another name (ns-reserved-directive, production 83). None begins with `#`.
+fn read_reserved<'a>(
+    text: &'a str,
+    at: usize,
+    words: &mut Slices<'a>,
+) -> Result<Option<usize>, AllocError>
+    requires { IsCharBoundary text.now at }
+    ensures { IfOk result (λ o. IfSome o (λ end. Place text.now at end)) }
+{
+    let mut end = at;
+    'words: loop {
+        let start = skip_whites(text, end);
+        if start == end {
+            return Ok(Some(end));
+        }
+        if stands(text, start, b'#') {
+            return Ok(Some(end));
+        }
+        let next = skip_ns_chars(text, start);
+        if next == start {
+            return Ok(Some(end));
+        }
+        words.push(&text[start..next])?;
+        end = next;
+    }
+}
+
+// The offset behind all characters that are no whites that stand at the offset.
+fn skip_ns_chars(text: &str, at: usize) -> usize
+    requires { IsCharBoundary text.now at }
+    ensures { Place text.now at result }
+{
+    let mut end = at;
+    'chars: loop {
+        match peek(text, end) {
+            Some((c, next)) => {
+                if is_ns_char(c) {
+                    end = next;
+                } else {
+                    return end;
+                }
+            }
+            None => return end,
+        }
+    }
+}
+
+// The offset behind all digits that stand at the offset.
+fn skip_digits(text: &str, at: usize) -> usize
+    requires { IsCharBoundary text.now at }
+    ensures { Place text.now at result }
+{
+    let mut end = at;
+    'digits: loop {
+        match peek(text, end) {
+            Some((c, next)) => {
+                if is_digit(c) {
+                    end = next;
+                } else {
+                    return end;
+                }
+            }
+            None => return end,
+        }
+    }
+}

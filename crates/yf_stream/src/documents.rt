@@ -1,0 +1,309 @@
+//! The documents of a stream (YAML 1.2.2, section 9.1): what begins one, and what ends it. Offsets count bytes.
+ghost use Rattle.std.specs.Prelude.{◌≡◌, ◌+◌, ◌<◌, ◌≤◌, IfOk, IfSome};
+ghost use Rattle.std.specs.Str.{IsCharBoundary};
+ghost use Rattle.yf_stream.specs.Walk.{Place, NextAt};
+
+use crate::directives::{DirectiveLines, read_directives};
+use std::alloc::{AllocError, Global};
+use yf_block::block::{Found, Outcome, block_node_in};
+use yf_chars::context::Ctx;
+use yf_chars::text::stands;
+use yf_comments::comments::{Comments, Separation};
+use yf_comments::lines::line_end;
+use yf_events::directive::Directives;
+use yf_events::document::{Doc, Documents};
+use yf_events::event::{Event, PlacedEvent, ScalarStyle};
+use yf_events::events::Events;
+use yf_events::reading::DEPTH;
+use yf_events::row::Row;
+use yf_events::slices::Slices;
+use yf_lines::basic::{is_forbidden_at, mark_stands, skip_whites};
+use yf_lines::text::Text;
+use yf_props::props::Props;
+
+/// What has been read of a stream so far, in order of the text.
+#[derive(Debug, Drop)]
+pub(crate) struct Parts<'a> {
+    pub(crate) events: Events<'a>,
+    pub(crate) comments: Comments<'a>,
+    pub(crate) documents: Documents<'a>,
+    /// The byte offsets of the escapes that are no character.
+    pub(crate) escapes: Row<usize>,
+}
+
+/// How far the stream has been read.
+#[derive(Clone, Copy)]
+pub(crate) struct Spot {
+    /// The byte offset of the next line.
+    pub(crate) at: usize,
+    /// The lines of a block scalar before this offset are no blank lines.
+    pub(crate) floor: usize,
+    /// The furthest offset at which the last node's reading went wrong, or where the node ends.
+    pub(crate) reached: usize,
+    /// Whether a document may begin here without `---`, or with directives.
+    pub(crate) may_be_bare: bool,
+    /// Whether a document has been read whose end is not yet among the events.
+    pub(crate) is_open: bool,
+}
+
+/// What comes next.
+#[derive(Clone, Copy)]
+pub(crate) enum Next {
+    Go(Spot),
+    /// No stream is derived; the text goes wrong at the byte offset.
+    Syntax(usize),
+    /// The limit of open collections is passed at the byte offset.
+    TooDeep(usize),
+}
+
+impl<'a> Parts<'a> {
+    pub(crate) fn new(alloc: Global) -> Parts<'a> {
+        Parts {
+            events: Events::new(alloc),
+            comments: Comments::new(alloc),
+            documents: Documents::new(alloc),
+            escapes: Row::new(alloc),
+        }
+    }
+
+    /// Adds an event that stands for no text.
+    pub(crate) fn push_unplaced(
+        &mut self,
+        alloc: Global,
+        event: Event<'a>,
+    ) -> Result<(), AllocError> {
+        self.events.push(PlacedEvent {
+            event,
+            span: None,
+            tag_offset: None,
+            entry: None,
+            folded: Slices::new(alloc),
+        })
+    }
+
+    /// Adds the end of the document that is open, if there is one.
+    pub(crate) fn close(
+        &mut self,
+        alloc: Global,
+        spot: Spot,
+        explicit: bool,
+    ) -> Result<(), AllocError> {
+        if spot.is_open {
+            return self.push_unplaced(alloc, Event::DocEnd { explicit });
+        }
+        Ok(())
+    }
+
+    // Adds the start of a document.
+    fn open(
+        &mut self,
+        alloc: Global,
+        start: usize,
+        explicit: bool,
+        directives: Directives<'a>,
+    ) -> Result<(), AllocError> {
+        self.push_unplaced(alloc, Event::DocStart { explicit })?;
+        self.documents.push(Doc { start, directives })
+    }
+}
+
+/// Goes past the byte order marks and comment lines that stand at the offset (l-document-prefix, production 202).
+pub(crate) fn skip_prefix<'a>(
+    alloc: Global,
+    text: &'a str,
+    spot: Spot,
+    parts: &mut Parts<'a>,
+) -> Result<Spot, AllocError>
+    requires { IsCharBoundary text.now spot.at }
+    ensures { IfOk result (λ s. Place text.now spot.at s.at) }
+{
+    let mut at = spot.at;
+    'lines: loop {
+        if mark_stands(text, at) {
+            at += 3;
+            continue;
+        }
+        match line_end(alloc, text, at)? {
+            Some(Separation { comments, end }) => {
+                parts.comments.append(comments)?;
+                if end == at {
+                    return Ok(Spot { at, ..spot });
+                }
+                at = end;
+            }
+            None => return Ok(Spot { at, ..spot }),
+        }
+    }
+}
+
+/// Reads what begins at the offset, which is no comment line and not the end of the text: a document with its directives,
+/// or a `...`.
+pub(crate) fn read_next<'a>(
+    alloc: Global,
+    text: &'a str,
+    spot: Spot,
+    parts: &mut Parts<'a>,
+) -> Result<Next, AllocError>
+    requires { IsCharBoundary text.now spot.at }
+    ensures { IfOk result (λ next. NextAt text.now (spot.at + 1) next) }
+{
+    if is_forbidden_at(text, spot.at) {
+        if stands(text, spot.at, b'.') {
+            return read_suffix(alloc, text, spot, parts);
+        }
+        parts.close(alloc, spot, false)?;
+        return explicit_document(alloc, text, spot.at, Directives::new(alloc), parts);
+    }
+    if !spot.may_be_bare {
+        return Ok(Next::Syntax(spot.reached.max(spot.at)));
+    }
+    if stands(text, spot.at, b'%') {
+        return directive_document(alloc, text, spot.at, parts);
+    }
+    bare_document(alloc, text, spot.at, parts)
+}
+
+// Reads `...` (l-document-suffix, production 205).
+fn read_suffix<'a>(
+    alloc: Global,
+    text: &'a str,
+    spot: Spot,
+    parts: &mut Parts<'a>,
+) -> Result<Next, AllocError>
+    requires { IsCharBoundary text.now (spot.at + 3) }
+    ensures { IfOk result (λ next. NextAt text.now (spot.at + 1) next) }
+{
+    parts.close(alloc, spot, true)?;
+    match line_end(alloc, text, spot.at + 3)? {
+        Some(Separation { comments, end }) => {
+            parts.comments.append(comments)?;
+            Ok(Next::Go(Spot {
+                at: end,
+                floor: 0,
+                reached: end,
+                may_be_bare: true,
+                is_open: false,
+            }))
+        }
+        None => Ok(Next::Syntax(spot.at + 3)),
+    }
+}
+
+// Reads directives and the document behind them (l-directive-document, production 209).
+fn directive_document<'a>(
+    alloc: Global,
+    text: &'a str,
+    at: usize,
+    parts: &mut Parts<'a>,
+) -> Result<Next, AllocError>
+    requires { IsCharBoundary text.now at }
+    ensures { IfOk result (λ next. NextAt text.now (at + 1) next) }
+{
+    match read_directives(alloc, text, at, &mut parts.comments)? {
+        Ok(DirectiveLines { directives, end }) => {
+            if is_forbidden_at(text, end) {
+                if stands(text, end, b'-') {
+                    return explicit_document(alloc, text, end, directives, parts);
+                }
+            }
+            Ok(Next::Syntax(end))
+        }
+        Err(place) => Ok(Next::Syntax(place)),
+    }
+}
+
+// Reads a document that begins with `---` (l-explicit-document, production 208).
+fn explicit_document<'a>(
+    alloc: Global,
+    text: &'a str,
+    at: usize,
+    directives: Directives<'a>,
+    parts: &mut Parts<'a>,
+) -> Result<Next, AllocError>
+    requires { IsCharBoundary text.now (at + 3) }
+    ensures { IfOk result (λ next. NextAt text.now (at + 1) next) }
+{
+    parts.open(alloc, at, true, directives)?;
+    match block_node_in(alloc, text, at + 3, -1, Ctx::BlockIn, DEPTH)? {
+        Outcome::Found(found) => take_node(found, parts),
+        Outcome::Nothing { reached } => empty_document(alloc, text, at + 3, reached, parts),
+        Outcome::TooDeep(place) => Ok(Next::TooDeep(place)),
+    }
+}
+
+// Reads what is left of the line of a `---` behind which no node stands.
+fn empty_document<'a>(
+    alloc: Global,
+    text: &'a str,
+    at: usize,
+    reached: usize,
+    parts: &mut Parts<'a>,
+) -> Result<Next, AllocError>
+    requires { IsCharBoundary text.now at }
+    ensures { IfOk result (λ next. NextAt text.now at next) }
+{
+    match line_end(alloc, text, at)? {
+        Some(Separation { comments, end }) => {
+            parts.comments.append(comments)?;
+            parts.push_unplaced(
+                alloc,
+                Event::Scalar {
+                    props: Props {
+                        anchor: None,
+                        tag: None,
+                    },
+                    style: ScalarStyle::Plain,
+                    text: Text::Part(""),
+                },
+            )?;
+            Ok(Next::Go(behind_node(end, 0, reached)))
+        }
+        None => Ok(Next::Syntax(reached)),
+    }
+}
+
+// Reads a document without `---` (l-bare-document, production 207).
+fn bare_document<'a>(
+    alloc: Global,
+    text: &'a str,
+    at: usize,
+    parts: &mut Parts<'a>,
+) -> Result<Next, AllocError>
+    requires { IsCharBoundary text.now at }
+    ensures { IfOk result (λ next. NextAt text.now (at + 1) next) }
+{
+    let start = skip_whites(text, at);
+    parts.open(alloc, start, false, Directives::new(alloc))?;
+    match block_node_in(alloc, text, at, -1, Ctx::BlockIn, DEPTH)? {
+        Outcome::Found(found) => take_node(found, parts),
+        Outcome::Nothing { reached } => Ok(Next::Syntax(reached)),
+        Outcome::TooDeep(place) => Ok(Next::TooDeep(place)),
+    }
+}
+
+// Adds a document's root node.
+fn take_node<'a>(found: Found<'a>, parts: &mut Parts<'a>) -> Result<Next, AllocError> {
+    let Found {
+        part,
+        end,
+        reached,
+        floor,
+    } = found;
+    parts.events.append(part.events)?;
+    parts.comments.append(part.comments)?;
+    parts.escapes.append(part.escapes)?;
+    Ok(Next::Go(behind_node(end, floor, reached)))
+}
+
+// Behind a document's root node another document needs a `---`, or a `...` before it.
+fn behind_node(at: usize, floor: usize, reached: usize) -> Spot
+    ensures { result.at ≡ at }
+{
+    Spot {
+        at,
+        floor,
+        reached,
+        may_be_bare: false,
+        is_open: true,
+    }
+}

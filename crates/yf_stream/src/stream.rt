@@ -1,0 +1,142 @@
+//! The reader of whole streams.
+ghost use Rattle.std.specs.Prelude.{◌≡◌, ◌+◌, ◌-◌, ◌<◌, ◌≤◌, length, IfErr, IfOk, MatchResult};
+ghost use Rattle.std.specs.Str.{IsCharBoundary};
+ghost use Rattle.yf_events.specs.Reading.{Fits};
+ghost use Rattle.yf_stream.specs.Refusal.{IsStreamFault};
+
+use crate::breaches::{Breach, Kind, Resolved, resolve};
+use crate::documents::{Next, Parts, Spot, read_next, skip_prefix};
+use crate::leaf_lines::on_leaf_lines;
+use std::alloc::{AllocError, Global};
+use yf_events::event::Event;
+use yf_events::lists::Lists;
+use yf_events::reading::Reading;
+use yf_lines::fault::Fault;
+use yf_lines::place::Place;
+use yf_lines::table::LineTable;
+
+// Why a text is no stream, at a byte offset.
+#[derive(Clone, Copy)]
+enum Refusal {
+    Syntax(usize),
+    TooDeep(usize),
+    Breach(Breach),
+}
+
+/// Reads a whole stream (l-yaml-stream, production 211): its documents with their events, comments and places.
+///
+/// # Errors
+///
+/// `Fault::Syntax` where the text is no stream, and `Fault::TooDeep` where it is none with at most `DEPTH` collections open
+/// at once. Else the first in the text of: a tag whose handle is not declared (`UnknownHandle`), an alias without an
+/// anchor of its name before it in its document (`UnknownAlias`), a second YAML directive or a second TAG directive for one
+/// handle in a document (`RepeatedDirective`), another major version than 1 (`BadVersion`), an escape that is no character
+/// (`EscapeValue`). `Fault::Memory` may come in the place of each answer, where a growth of memory was refused.
+pub fn read_stream<'a>(alloc: Global, text: &'a str) -> Result<Reading<'a>, Fault>
+    ensures { IfErr result (λ fault. IsStreamFault text.now fault) }
+{
+    match read_lists(alloc, text) {
+        Ok(Ok(lists)) => match Reading::build(alloc, lists)? {
+            Some(reading) => Ok(reading),
+            None => Err(fault_at(alloc, text, Refusal::TooDeep(0))),
+        },
+        Ok(Err(refusal)) => Err(fault_at(alloc, text, refusal)),
+        Err(AllocError) => Err(Fault::Memory),
+    }
+}
+
+// The fault with its place.
+fn fault_at(alloc: Global, text: &str, refusal: Refusal) -> Fault
+    ensures { IsStreamFault text.now result }
+{
+    let Ok(table) = LineTable::build(alloc, text) else {
+        return Fault::Memory;
+    };
+    match refusal {
+        Refusal::Syntax(offset) => Fault::Syntax {
+            place: place_of(&table, text, offset),
+            what: "no production derives the text",
+        },
+        Refusal::TooDeep(offset) => Fault::TooDeep {
+            place: place_of(&table, text, offset),
+        },
+        Refusal::Breach(breach) => {
+            let place = place_of(&table, text, breach.offset);
+            match breach.kind {
+                Kind::UnknownHandle => Fault::UnknownHandle { place },
+                Kind::UnknownAlias => Fault::UnknownAlias { place },
+                Kind::RepeatedDirective => Fault::RepeatedDirective { place },
+                Kind::BadVersion => Fault::BadVersion { place },
+                Kind::EscapeValue => Fault::EscapeValue { place },
+            }
+        }
+    }
+}
+
+// The place of an offset. Every offset that is told stands between characters; that is not proved, so it is tested.
+fn place_of(table: &LineTable, text: &str, offset: usize) -> Place
+    requires { table.now.text ≡ text.now }
+{
+    if text.is_char_boundary(offset) {
+        return table.place(offset);
+    }
+    table.place(0)
+}
+
+// The lists of the stream's reading, or why there is none.
+fn read_lists<'a>(alloc: Global, text: &'a str) -> Result<Result<Lists<'a>, Refusal>, AllocError>
+    ensures { IfOk result (λ r. IfOk r (λ lists. Fits lists)) }
+{
+    let mut parts = Parts::new(alloc);
+    if let Some(refusal) = read_documents(alloc, text, &mut parts)? {
+        return Ok(Err(refusal));
+    }
+    let Parts {
+        events,
+        comments,
+        documents,
+        escapes,
+    } = parts;
+    let Resolved { tags, first } = resolve(alloc, &events, &documents, &escapes)?;
+    if let Some(breach) = first {
+        return Ok(Err(Refusal::Breach(breach)));
+    }
+    let on_leaf_line = on_leaf_lines(alloc, text, &events, &comments)?;
+    Ok(Ok(Lists {
+        events,
+        resolved: tags,
+        comments,
+        on_leaf_line,
+        documents,
+        escapes,
+    }))
+}
+
+// Reads all documents, or says why the text is no stream.
+fn read_documents<'a>(
+    alloc: Global,
+    text: &'a str,
+    parts: &mut Parts<'a>,
+) -> Result<Option<Refusal>, AllocError> {
+    parts.push_unplaced(alloc, Event::StreamStart)?;
+    let mut spot = Spot {
+        at: 0,
+        floor: 0,
+        reached: 0,
+        may_be_bare: true,
+        is_open: false,
+    };
+    'documents: loop {
+        spot = skip_prefix(alloc, text, spot, parts)?;
+        if spot.at == text.len() {
+            parts.close(alloc, spot, false)?;
+            parts.push_unplaced(alloc, Event::StreamEnd)?;
+            return Ok(None);
+        }
+        match read_next(alloc, text, spot, parts)? {
+            Next::Go(next) => spot = next,
+            Next::Syntax(offset) => return Ok(Some(Refusal::Syntax(offset))),
+            Next::TooDeep(offset) => return Ok(Some(Refusal::TooDeep(offset))),
+        }
+    }
+}
