@@ -1,5 +1,5 @@
 //! A list of values.
-ghost use Rattle.std.specs.Prelude.{◌≡◌, ◌<◌, [], ◌∷◌, ◌++◌, length, slice_get, if◌then◌else◌, is_ok};
+ghost use Rattle.std.specs.Prelude.{◌≡◌, ◌<◌, [], ◌∷◌, ◌++◌, length, slice_get, take, if◌then◌else◌, is_ok};
 
 use std::alloc::{AllocError, Global};
 use std::marker::Model;
@@ -55,6 +55,13 @@ impl<T: Drop> Row<T> {
     {
         self.list.push(value)?;
         Ok(())
+    }
+
+    /// Keeps the first values alone.
+    pub fn truncate(&mut self, count: usize)
+        ensures { self.new ≡ take count self.old }
+    {
+        self.list.truncate(count);
     }
 
     /// Moves all values of another list to the end.

@@ -39,7 +39,7 @@ abbrev pub StepReady : List ℕ → ℕ → ℕ → Frame → Step → Type 0
 StepReady t at m top (Node p) = Place t at p × Awaiting t m top
 StepReady t at m top (Entry p) = Place t at p × Awaiting t m top
 StepReady t at m top (Ended node) = Place t at node.end × Indexed t m top
-StepReady t at m top (Done end) = Place t at end
+StepReady t at m top (Done node) = Place t at node.end
 StepReady t at m top Failed = Unit {0}
 StepReady t at m top (TooDeep p) = IsCharBoundary t p
 
@@ -52,7 +52,7 @@ abbrev pub left : ℕ → Step → ℕ
 left n (Node p) = 2 * (n - p) + 1
 left n (Entry p) = 2 * (n - p) + 2
 left n (Ended node) = 2 * (n - node.end) + 2
-left n (Done end) = 0
+left n (Done node) = 0
 left n Failed = 0
 left n (TooDeep p) = 0
 
@@ -63,9 +63,9 @@ BegunAt t at m k (Opened f) = Place t (at + 1) f.entry × Awaiting t k f × m < 
 BegunAt t at m k Nothing = Unit {0}
 BegunAt t at m k (TooDeepAt p) = IsCharBoundary t p
 
--- how a collection ends whose entries begin at an offset, or behind it
+-- how a node ends: at an offset or behind it
 abbrev pub EndingAt : List ℕ → ℕ → Ending → Type 0
-EndingAt t at (End end) = Place t at end
+EndingAt t at (End node) = Place t at node.end
 EndingAt t at NoEnd = Unit {0}
 EndingAt t at (TooDeepThere p) = IsCharBoundary t p
 

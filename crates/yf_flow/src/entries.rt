@@ -522,7 +522,7 @@ fn close<'a>(
         }),
         None => Ok(State {
             top,
-            step: Step::Done(node.end),
+            step: Step::Done(node),
         }),
     }
 }

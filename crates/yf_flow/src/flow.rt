@@ -99,8 +99,8 @@ pub fn scan_flow_node<'a>(
     }
 }
 
-// The place of the first escape in the part that is no character.
-fn first_escape(src: &Src, part: &Part) -> Option<SourcePlace>
+/// The place of the first escape in the part that is no character.
+pub fn first_escape(src: &Src, part: &Part) -> Option<SourcePlace>
     requires { All (IsCharBoundary src.now.text) part.now.escapes }
 {
     match part.escapes.as_slice().first() {

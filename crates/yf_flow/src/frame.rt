@@ -5,11 +5,11 @@ use yf_chars::context::Ctx;
 
 /// What is read, and how: the text, its indentation and context, and how many collections may be open at once.
 #[derive(Clone, Copy)]
-pub(crate) struct Scene<'a> {
-    pub(crate) text: &'a str,
-    pub(crate) indentation: i32,
-    pub(crate) context: Ctx,
-    pub(crate) limit: usize,
+pub struct Scene<'a> {
+    pub text: &'a str,
+    pub indentation: i32,
+    pub context: Ctx,
+    pub limit: usize,
 }
 
 /// What an open collection is. A single pair is a mapping without brackets, in a sequence.
@@ -51,13 +51,13 @@ pub(crate) struct Frame {
 
 /// A node that has been read.
 #[derive(Clone, Copy)]
-pub(crate) struct Node {
+pub struct Node {
     /// The byte offset behind it.
-    pub(crate) end: usize,
+    pub end: usize,
     /// Whether it is a node like those of JSON: a quoted scalar or a flow collection.
-    pub(crate) json: bool,
+    pub json: bool,
     /// How many collections were open at once until its end, at most.
-    pub(crate) deepest: usize,
+    pub deepest: usize,
 }
 
 /// What comes next.
@@ -69,8 +69,8 @@ pub(crate) enum Step {
     Entry(usize),
     /// A node of the collection has been read.
     Ended(Node),
-    /// The outermost collection has been read; it ends at the byte offset.
-    Done(usize),
+    /// The outermost collection has been read.
+    Done(Node),
     /// No node is derived.
     Failed,
     /// The limit of open collections is passed at the byte offset.

@@ -4,11 +4,11 @@
 
 pub(crate) mod entries;
 pub mod flow;
-pub(crate) mod frame;
+pub mod frame;
 pub(crate) mod gap;
 pub(crate) mod leaf;
-pub(crate) mod look;
-pub(crate) mod node;
-pub(crate) mod nodes;
+pub mod look;
+pub mod node;
+pub mod nodes;
 #[cfg(test)]
 mod tests;

@@ -64,8 +64,9 @@ pub(crate) fn colon_stands(scene: Scene, at: usize, json: bool) -> bool
 /// How many characters an implicit key may have, the whites behind it counted.
 pub(crate) const KEY_LIMIT: usize = 1024;
 
-/// Whether the characters between the offsets are all on one line, and no more than an implicit key may have.
-pub(crate) fn is_key_line(text: &str, start: usize, end: usize) -> bool
+/// Whether the characters between the offsets are all on one line, and no more than an implicit key may have: 1024
+/// (ns-s-implicit-yaml-key, production 154; c-s-implicit-json-key, production 155).
+pub fn is_key_line(text: &str, start: usize, end: usize) -> bool
     requires { IsCharBoundary text.now start }
 {
     let mut at = start;

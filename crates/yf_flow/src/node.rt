@@ -21,11 +21,11 @@ use yf_props::props::Props;
 
 /// What is known of a node before its content: where it begins, its properties, and the entry that it begins.
 #[derive(Clone, Copy)]
-pub(crate) struct Lead<'a> {
-    pub(crate) start: usize,
-    pub(crate) props: Props<'a>,
-    pub(crate) tag_offset: Option<usize>,
-    pub(crate) entry: Option<Entry>,
+pub struct Lead<'a> {
+    pub start: usize,
+    pub props: Props<'a>,
+    pub tag_offset: Option<usize>,
+    pub entry: Option<Entry>,
 }
 
 /// What was found where a node is awaited.
@@ -41,7 +41,7 @@ pub(crate) enum Begun {
 
 impl<'a> Lead<'a> {
     /// Without properties.
-    pub(crate) fn bare(start: usize, entry: Option<Entry>) -> Lead<'a> {
+    pub fn bare(start: usize, entry: Option<Entry>) -> Lead<'a> {
         Lead {
             start,
             props: Props {
@@ -54,7 +54,7 @@ impl<'a> Lead<'a> {
     }
 
     /// The event that begins the node, which ends at an offset.
-    fn placed(self, alloc: Global, event: Event<'a>, end: usize) -> PlacedEvent<'a> {
+    pub fn placed(self, alloc: Global, event: Event<'a>, end: usize) -> PlacedEvent<'a> {
         PlacedEvent {
             event,
             span: Some(Span {
@@ -69,11 +69,7 @@ impl<'a> Lead<'a> {
 }
 
 /// The event of an empty node without properties, or of the end of a collection.
-pub(crate) fn unplaced<'a>(
-    alloc: Global,
-    event: Event<'a>,
-    entry: Option<Entry>,
-) -> PlacedEvent<'a> {
+pub fn unplaced<'a>(alloc: Global, event: Event<'a>, entry: Option<Entry>) -> PlacedEvent<'a> {
     PlacedEvent {
         event,
         span: None,
@@ -84,7 +80,7 @@ pub(crate) fn unplaced<'a>(
 }
 
 /// An empty node without properties.
-pub(crate) fn empty_node<'a>(alloc: Global, entry: Option<Entry>) -> PlacedEvent<'a> {
+pub fn empty_node<'a>(alloc: Global, entry: Option<Entry>) -> PlacedEvent<'a> {
     let event = Event::Scalar {
         props: Props {
             anchor: None,
@@ -126,14 +122,29 @@ pub(crate) fn begin_node<'a>(
     }
     match read_properties(alloc, scene, at)? {
         Some(properties) => propertied_node(alloc, scene, at, properties, entry, depth, part),
-        None => {
-            let lead = Lead::bare(at, entry);
-            if content_begins(scene.text, at) {
-                return json_content(alloc, scene, at, lead, depth, part);
-            }
-            plain_node(alloc, scene, at, lead, depth, part)
-        }
+        None => { begin_content(alloc, scene, at, Lead::bare(at, entry), depth, part) }
     }
+}
+
+/// Begins the content of a node: a plain scalar, a quoted one or a flow collection.
+pub(crate) fn begin_content<'a>(
+    alloc: Global,
+    scene: Scene<'a>,
+    at: usize,
+    lead: Lead<'a>,
+    depth: usize,
+    part: &mut Part<'a>,
+) -> Result<Begun, AllocError>
+    requires boundary { IsCharBoundary scene.text.now at }
+    requires escapes { All (IsCharBoundary scene.text.now) part.old.escapes }
+    ensures begun { IfOk result (λ b. BegunAt scene.entry.text.now at (length part.old.events) (length part.new.events) b) }
+    ensures grows { IfOk result (λ _. length part.old.events ≤ length part.new.events) }
+    ensures escapes { IfOk result (λ _. All (IsCharBoundary scene.entry.text.now) part.new.escapes) }
+{
+    if content_begins(scene.text, at) {
+        return json_content(alloc, scene, at, lead, depth, part);
+    }
+    plain_node(alloc, scene, at, lead, depth, part)
 }
 
 // A node with properties: its content is a plain scalar, a quoted scalar or a flow collection, and else it is empty.
@@ -200,7 +211,8 @@ fn propertied_node<'a>(
     }))
 }
 
-pub(crate) fn push_scalar<'a>(
+/// Adds a scalar that ends at an offset.
+pub fn push_scalar<'a>(
     alloc: Global,
     lead: Lead<'a>,
     style: ScalarStyle,

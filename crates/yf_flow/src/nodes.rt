@@ -1,13 +1,13 @@
 //! The reader of flow nodes: one forward pass, with a stack of the open collections.
-ghost use Rattle.std.specs.Prelude.{◌≡◌, [], ◌+◌, ◌<◌, ◌≤◌, length, IfOk};
+ghost use Rattle.std.specs.Prelude.{◌≡◌, ℕ, [], ◌+◌, ◌<◌, ◌≤◌, length, IfOk};
 ghost use Rattle.std.specs.List.{All};
 ghost use Rattle.std.specs.Str.{IsCharBoundary};
-ghost use Rattle.yf_flow.specs.Machine.{Awaiting, EndingAt, OutcomeAt};
+ghost use Rattle.yf_flow.specs.Machine.{Awaiting, BegunAt, EndingAt, OutcomeAt};
 
 use crate::entries::{Below, finish_node, start_entry, take_node};
-use crate::frame::{Frame, Scene, State, Step};
+use crate::frame::{Frame, Node, Scene, State, Step};
 use crate::leaf::read_properties;
-use crate::node::{Begun, Lead, begin_node, push_scalar};
+use crate::node::{Begun, Lead, begin_content, begin_node, push_scalar};
 use smallvec::SmallVec;
 use std::alloc::{AllocError, Global};
 use yf_chars::context::Ctx;
@@ -29,11 +29,12 @@ pub(crate) enum Outcome<'a> {
     TooDeep(usize),
 }
 
-// How a flow collection ends.
+/// How a flow node ends.
 #[derive(Clone, Copy)]
-enum Ending {
-    End(usize),
+pub enum Ending {
+    End(Node),
     Nothing,
+    /// It opens more collections than the limit allows, the last of them at the offset.
     TooDeep(usize),
 }
 
@@ -59,22 +60,16 @@ pub(crate) fn read_node<'a>(
                 limit,
             };
             let mut part = new_part(alloc);
-            let ending = match begin_node(alloc, scene, at, None, 0, &mut part)? {
-                Begun::Leaf(node) => Ending::End(node.end),
-                Begun::Opened(frame) => read_collection(
-                    alloc,
-                    Scene {
-                        context: inner,
-                        ..scene
-                    },
-                    frame,
-                    &mut part,
-                )?,
-                Begun::Nothing => Ending::Nothing,
-                Begun::TooDeep(place) => Ending::TooDeep(place),
+            let begun = begin_node(alloc, scene, at, None, 0, &mut part)?;
+            let within = Scene {
+                context: inner,
+                ..scene
             };
-            match ending {
-                Ending::End(end) => Ok(Outcome::Found { part, end }),
+            match end_node(alloc, within, at, begun, &mut part)? {
+                Ending::End(node) => Ok(Outcome::Found {
+                    part,
+                    end: node.end,
+                }),
                 Ending::Nothing => properties_alone(alloc, scene, at, Outcome::Nothing),
                 Ending::TooDeep(place) => properties_alone(
                     alloc,
@@ -84,6 +79,59 @@ pub(crate) fn read_node<'a>(
                 ),
             }
         }
+    }
+}
+
+/// Reads what stands behind the properties of a flow node: a plain scalar, a quoted one or a flow collection. Its events
+/// are added to the part, with what is known of the node before its content; `depth` collections are open already.
+///
+/// # Errors
+///
+/// `AllocError` where a growth of memory was refused.
+pub fn read_content<'a>(
+    alloc: Global,
+    scene: Scene<'a>,
+    at: usize,
+    lead: Lead<'a>,
+    depth: usize,
+    part: &mut Part<'a>,
+) -> Result<Ending, AllocError>
+    requires boundary { IsCharBoundary scene.text.now at }
+    requires escapes { All (IsCharBoundary scene.text.now) part.old.escapes }
+    ensures found { IfOk result (λ e. EndingAt scene.entry.text.now (at + 1) e) }
+    ensures escapes { IfOk result (λ _. All (IsCharBoundary scene.entry.text.now) part.new.escapes) }
+{
+    match inner_context(scene.context) {
+        None => Ok(Ending::Nothing),
+        Some(inner) => {
+            let begun = begin_content(alloc, scene, at, lead, depth, part)?;
+            let within = Scene {
+                context: inner,
+                ..scene
+            };
+            end_node(alloc, within, at, begun, part)
+        }
+    }
+}
+
+// Reads on where a node has begun at an offset, and tells how it ends.
+fn end_node<'a>(
+    alloc: Global,
+    scene: Scene<'a>,
+    at: usize,
+    begun: Begun,
+    part: &mut Part<'a>,
+) -> Result<Ending, AllocError>
+    requires begun { (m : ℕ) × BegunAt scene.text.now at m (length part.old.events) begun }
+    requires escapes { All (IsCharBoundary scene.text.now) part.old.escapes }
+    ensures found { IfOk result (λ e. EndingAt scene.entry.text.now (at + 1) e) }
+    ensures escapes { IfOk result (λ _. All (IsCharBoundary scene.entry.text.now) part.new.escapes) }
+{
+    match begun {
+        Begun::Leaf(node) => Ok(Ending::End(node)),
+        Begun::Opened(frame) => read_collection(alloc, scene, frame, part),
+        Begun::Nothing => Ok(Ending::Nothing),
+        Begun::TooDeep(place) => Ok(Ending::TooDeep(place)),
     }
 }
 
@@ -129,7 +177,7 @@ fn read_collection<'a>(
             Step::Entry(at) => start_entry(alloc, scene, at, state.top, &mut below, part)?,
             Step::Node(at) => take_node(alloc, scene, at, state.top, &mut below, part)?,
             Step::Ended(node) => finish_node(alloc, scene, node, state.top, &mut below, part)?,
-            Step::Done(end) => return Ok(Ending::End(end)),
+            Step::Done(node) => return Ok(Ending::End(node)),
             Step::Failed => return Ok(Ending::Nothing),
             Step::TooDeep(place) => return Ok(Ending::TooDeep(place)),
         };

@@ -1,0 +1,84 @@
+//! The readers of block nodes over a text with its lines.
+
+use crate::nodes::{Found, Outcome, block_node_in};
+use std::alloc::{AllocError, Global};
+use yf_chars::context::Ctx;
+use yf_events::reading::DEPTH;
+use yf_flow::flow::{NodePart, ScannedPart, first_escape};
+use yf_lines::fault::Fault;
+use yf_lines::source_text::Src;
+
+/// Reads a block node (s-l+block-node(n,c), production 196) from a byte offset on: its events and comments, each with its
+/// place, and the offset behind it. `n` is the indentation of the collection around it, from -1.
+///
+/// The node is the longest that stands there: where the text goes wrong later, it ends at the last place at which all open
+/// nodes may end. `None` where no block node begins there in that context.
+///
+/// # Errors
+///
+/// `Fault::TooDeep` where nothing is found and the nodes there open more than `DEPTH` collections at once, a single pair
+/// counted as one; `Fault::EscapeValue` at the first escape in the node that is no character; `Fault::Memory`.
+pub fn read_block_node<'a>(
+    alloc: Global,
+    src: &Src<'a>,
+    at: usize,
+    n: i32,
+    ctx: Ctx,
+) -> Result<Option<NodePart<'a>>, Fault> {
+    match scan_block_node(alloc, src, at, n, ctx) {
+        Ok(None) => Ok(None),
+        Ok(
+            Some(
+                ScannedPart {
+                    part,
+                    escape: None,
+                    end,
+                },
+            ),
+        ) => Ok(Some(NodePart { part, end })),
+        Ok(
+            Some(
+                ScannedPart {
+                    part: _,
+                    escape: Some(place),
+                    end: _,
+                },
+            ),
+        ) => Err(Fault::EscapeValue { place }),
+        Err(fault) => Err(fault),
+    }
+}
+
+/// Reads a block node as `read_block_node` does, but goes on past an escape that is no character.
+///
+/// # Errors
+///
+/// `Fault::TooDeep` and `Fault::Memory`, as `read_block_node` does.
+pub fn scan_block_node<'a>(
+    alloc: Global,
+    src: &Src<'a>,
+    at: usize,
+    n: i32,
+    ctx: Ctx,
+) -> Result<Option<ScannedPart<'a>>, Fault> {
+    match block_node_in(alloc, src.text(), at, n, ctx, DEPTH) {
+        Ok(
+            Outcome::Found(
+                Found {
+                    part,
+                    end,
+                    reached: _,
+                    floor: _,
+                },
+            ),
+        ) => {
+            let escape = first_escape(src, &part);
+            Ok(Some(ScannedPart { part, escape, end }))
+        }
+        Ok(Outcome::Nothing { reached: _ }) => Ok(None),
+        Ok(Outcome::TooDeep(offset)) => Err(Fault::TooDeep {
+            place: src.place(offset),
+        }),
+        Err(AllocError) => Err(Fault::Memory),
+    }
+}

@@ -1,0 +1,408 @@
+//! What a node has on one line: properties, an implicit key with which a mapping begins, a flow node, a block scalar.
+
+use crate::entry::{await_value, collection_start, entry_at, open_mapping};
+use crate::frame::{Frame, Kind, Open, Progress, Scope, State, Step, Wanted};
+use crate::held::{Held, joined, joined_behind, lead_of, line_properties, place_behind};
+use crate::line::end_line;
+use crate::look::{key_ends, line_ends, sign_stands};
+use crate::record::{Counts, Plain, note_node, note_shorter};
+use crate::scalar::take_block_scalar;
+use std::alloc::{AllocError, Global};
+use yf_chars::context::Ctx;
+use yf_chars::text::stands;
+use yf_comments::comments::Separation;
+use yf_comments::lines::line_end;
+use yf_events::event::{Entry, Event, PlacedEvent, ScalarStyle};
+use yf_events::part::Part;
+use yf_flow::frame::{Node, Scene};
+use yf_flow::node::{Lead, push_scalar};
+use yf_flow::nodes::{Ending, read_content};
+use yf_lines::basic::skip_whites;
+use yf_lines::text::Text;
+use yf_props::alias::alias_node;
+
+/// A place of a line at which the text of a node begins.
+#[derive(Clone, Copy)]
+pub(crate) struct Spot<'a> {
+    pub(crate) at: usize,
+    /// The column of a collection that may begin there.
+    pub(crate) column: Option<usize>,
+    /// The properties that stand on lines before.
+    pub(crate) outer: Option<Held<'a>>,
+    pub(crate) wanted: Wanted,
+}
+
+/// What stands behind the properties of a line.
+#[derive(Clone, Copy)]
+pub(crate) struct Behind<'a> {
+    pub(crate) at: usize,
+    /// The properties of the line.
+    pub(crate) inner: Option<Held<'a>>,
+    /// Where the text of the node begins.
+    pub(crate) spot: Spot<'a>,
+}
+
+// To which node the properties belong that stand on lines before.
+#[derive(Clone, Copy)]
+enum Share {
+    // There are none.
+    Nothing,
+    // To the node on the line, if it is no key.
+    Joined,
+    // They cannot be those of the node on the line, so it must be the first key of a mapping.
+    Apart,
+}
+
+// What is known of a node before its text.
+#[derive(Clone, Copy)]
+struct Claim<'a> {
+    lead: Lead<'a>,
+    share: Share,
+    // How much had been read before the node.
+    before: Counts,
+}
+
+/// Begins the content of a node at a place of a line.
+pub(crate) fn take_content<'a>(
+    alloc: Global,
+    scope: Scope<'a>,
+    spot: Spot<'a>,
+    progress: Progress<'a>,
+    open: &mut Open,
+    part: &mut Part<'a>,
+) -> Result<State<'a>, AllocError> {
+    if let Some(column) = spot.column {
+        if entry_sign_stands(scope.text, spot.at) {
+            return open_mapping(alloc, scope, spot, column, progress, open, part);
+        }
+    }
+    match line_properties(alloc, scope.text, spot.at)? {
+        None => {
+            let behind = Behind {
+                at: spot.at,
+                inner: None,
+                spot,
+            };
+            take_behind(alloc, scope, behind, progress, open, part)
+        }
+        Some(inner) => take_propertied(alloc, scope, inner, spot, progress, open, part),
+    }
+}
+
+// Whether an entry begins there with its `?` or its `:`.
+fn entry_sign_stands(text: &str, at: usize) -> bool {
+    if sign_stands(text, at, b'?') {
+        return true;
+    }
+    sign_stands(text, at, b':')
+}
+
+// What stands behind the properties of a line: nothing, or the content of a node or key.
+fn take_propertied<'a>(
+    alloc: Global,
+    scope: Scope<'a>,
+    inner: Held<'a>,
+    spot: Spot<'a>,
+    progress: Progress<'a>,
+    open: &mut Open,
+    part: &mut Part<'a>,
+) -> Result<State<'a>, AllocError> {
+    let place = skip_whites(scope.text, inner.end);
+    if line_ends(scope.text, place, place > inner.end) {
+        return match joined_behind(spot.outer, inner) {
+            None => Ok(progress.and_then(Step::Failed(spot.at))),
+            Some(outer) => end_line(
+                alloc,
+                scope.text,
+                inner.end,
+                Some(outer),
+                spot.wanted,
+                progress,
+                part,
+            ),
+        };
+    }
+    match place_behind(scope.text, inner) {
+        None => Ok(progress.and_then(Step::Failed(place))),
+        Some(at) => {
+            let behind = Behind {
+                at,
+                inner: Some(inner),
+                spot,
+            };
+            take_behind(alloc, scope, behind, progress, open, part)
+        }
+    }
+}
+
+// A flow node, a key or a block scalar, behind the properties of its line.
+fn take_behind<'a>(
+    alloc: Global,
+    scope: Scope<'a>,
+    behind: Behind<'a>,
+    progress: Progress<'a>,
+    open: &mut Open,
+    part: &mut Part<'a>,
+) -> Result<State<'a>, AllocError> {
+    let claim = claim_of(scope.text, behind, part);
+    if block_scalar_stands(scope.text, behind.at) {
+        return match claim.share {
+            Share::Apart => Ok(progress.and_then(Step::Failed(behind.spot.at))),
+            Share::Nothing | Share::Joined => take_block_scalar(
+                alloc,
+                scope,
+                behind.at,
+                claim.lead,
+                behind.spot.wanted.least,
+                progress,
+                open,
+                part,
+            ),
+        };
+    }
+    match read_inline(
+        alloc,
+        scope,
+        behind.spot.wanted.least,
+        behind.at,
+        behind.inner,
+        claim.lead,
+        open.len(),
+        part,
+    )? {
+        Ending::End(node) => finish_inline(alloc, scope, behind, claim, node, progress, open, part),
+        Ending::Nothing => Ok(progress.and_then(Step::Failed(behind.at))),
+        Ending::TooDeep(place) => Ok(progress.and_then(Step::TooDeep(place))),
+    }
+}
+
+// Whether the header of a block scalar begins there.
+fn block_scalar_stands(text: &str, at: usize) -> bool {
+    if stands(text, at, b'|') {
+        return true;
+    }
+    stands(text, at, b'>')
+}
+
+// What is known of the node behind the properties of a line, as long as it is not known whether it is a key.
+fn claim_of<'a>(text: &str, behind: Behind<'a>, part: &Part<'a>) -> Claim<'a> {
+    let spot = behind.spot;
+    let before = Counts::of(part);
+    let own = lead_of(spot.at, behind.inner, spot.wanted.entry);
+    match spot.outer {
+        None => Claim {
+            lead: own,
+            share: Share::Nothing,
+            before,
+        },
+        Some(outer) => {
+            let whole = match behind.inner {
+                None => Some(outer),
+                Some(inner) => joined(outer, inner),
+            };
+            match whole {
+                Some(held) if !stands(text, behind.at, b'*') => Claim {
+                    lead: held.lead(spot.wanted.entry),
+                    share: Share::Joined,
+                    before,
+                },
+                _ => Claim {
+                    lead: own,
+                    share: Share::Apart,
+                    before,
+                },
+            }
+        }
+    }
+}
+
+/// Reads what stands behind properties, or where there are none: nothing before a `:`, an alias, or the content of a flow
+/// node outside of brackets. `depth` collections are open.
+pub(crate) fn read_inline<'a>(
+    alloc: Global,
+    scope: Scope<'a>,
+    least: usize,
+    at: usize,
+    inner: Option<Held<'a>>,
+    lead: Lead<'a>,
+    depth: usize,
+    part: &mut Part<'a>,
+) -> Result<Ending, AllocError> {
+    if let Some(held) = inner {
+        if sign_stands(scope.text, at, b':') {
+            push_scalar(
+                alloc,
+                lead,
+                ScalarStyle::Plain,
+                Text::Part(""),
+                held.end,
+                part,
+            )?;
+            return Ok(inline_end(held.end, depth));
+        }
+    }
+    if stands(scope.text, at, b'*') {
+        if inner.is_some() {
+            return Ok(Ending::Nothing);
+        }
+        return match alias_node(scope.text, at) {
+            None => Ok(Ending::Nothing),
+            Some((name, end)) => {
+                part.events
+                    .push(lead.placed(alloc, Event::Alias { name }, end))?;
+                Ok(inline_end(end, depth))
+            }
+        };
+    }
+    let scene = Scene {
+        text: scope.text,
+        indentation: flow_indentation(least),
+        context: Ctx::FlowOut,
+        limit: scope.limit,
+    };
+    read_content(alloc, scene, at, lead, depth, part)
+}
+
+fn inline_end(end: usize, depth: usize) -> Ending {
+    Ending::End(Node {
+        end,
+        json: false,
+        deepest: depth,
+    })
+}
+
+// More columns than any text of 1 GiB has.
+const WIDEST: usize = 1 << 30;
+
+/// The indentation of that many spaces as a number; past 2^30 it is 2^30.
+pub(crate) fn flow_indentation(least: usize) -> i32 {
+    least.min(WIDEST) as i32
+}
+
+// Behind a flow node on its line: it is the first key of a mapping, or the end of the line follows.
+fn finish_inline<'a>(
+    alloc: Global,
+    scope: Scope<'a>,
+    behind: Behind<'a>,
+    claim: Claim<'a>,
+    node: Node,
+    progress: Progress<'a>,
+    open: &mut Open,
+    part: &mut Part<'a>,
+) -> Result<State<'a>, AllocError> {
+    let text = scope.text;
+    let spot = behind.spot;
+    let colon = skip_whites(text, node.end);
+    if let Some(column) = spot.column {
+        if key_ends(text, spot.at, colon) {
+            if node.deepest.max(open.len()) >= scope.limit {
+                return Ok(progress.and_then(Step::TooDeep(spot.at)));
+            }
+            let frame = Frame {
+                kind: Kind::Mapping,
+                column,
+                event: claim.before.events,
+                entry_event: 0,
+                awaits_colon: false,
+            };
+            let entry = entry_at(text, progress.floor, spot.at, Some(colon));
+            begin_mapping(alloc, scope, behind, claim, entry, open.len(), part)?;
+            open.push(frame)?;
+            return Ok(await_value(colon, column, progress));
+        }
+    }
+    match claim.share {
+        Share::Apart => Ok(progress.and_then(Step::Failed(spot.at))),
+        Share::Nothing | Share::Joined => {
+            let plain = Plain {
+                lead: claim.lead,
+                least: spot.wanted.least,
+                at: behind.at,
+                end: node.end,
+                event: claim.before.events,
+            };
+            let plain = if node.json { None } else { Some(plain) };
+            end_inline(
+                alloc,
+                text,
+                node.end,
+                plain,
+                progress.reaching(node.end),
+                open,
+                part,
+            )
+        }
+    }
+}
+
+// The end of the line behind a flow node that is no key.
+fn end_inline<'a>(
+    alloc: Global,
+    text: &'a str,
+    at: usize,
+    plain: Option<Plain<'a>>,
+    progress: Progress<'a>,
+    open: &Open,
+    part: &mut Part<'a>,
+) -> Result<State<'a>, AllocError> {
+    match line_end(alloc, text, at)? {
+        Some(Separation { comments, end }) => {
+            part.comments.append(comments)?;
+            let progress = note_node(text, at, end, plain, progress, open, part);
+            Ok(progress.and_then(Step::Resume(end)))
+        }
+        None => {
+            let progress = note_shorter(text, plain, progress, part);
+            Ok(progress.and_then(Step::Failed(skip_whites(text, at))))
+        }
+    }
+}
+
+// Puts the beginning of a mapping before its first key, which has been read. The properties of lines before are the
+// mapping's; where the key was read with them, it is read again without.
+fn begin_mapping<'a>(
+    alloc: Global,
+    scope: Scope<'a>,
+    behind: Behind<'a>,
+    claim: Claim<'a>,
+    entry: Entry,
+    depth: usize,
+    part: &mut Part<'a>,
+) -> Result<(), AllocError> {
+    let spot = behind.spot;
+    let start = collection_start(alloc, Kind::Mapping, spot.at, spot.outer, spot.wanted.entry);
+    match claim.share {
+        Share::Nothing | Share::Apart => put_before(claim.before.events, start, entry, part),
+        Share::Joined => {
+            part.events.truncate(claim.before.events);
+            part.escapes.truncate(claim.before.escapes);
+            part.events.push(start)?;
+            let lead = lead_of(spot.at, behind.inner, Some(entry));
+            let _ = read_inline(
+                alloc,
+                scope,
+                spot.wanted.least,
+                behind.at,
+                behind.inner,
+                lead,
+                depth,
+                part,
+            )?;
+            Ok(())
+        }
+    }
+}
+
+// Puts an event before the one at an index, which begins that entry.
+fn put_before<'a>(
+    event: usize,
+    start: PlacedEvent<'a>,
+    entry: Entry,
+    part: &mut Part<'a>,
+) -> Result<(), AllocError> {
+    if event < part.events.len() {
+        part.events.set_entry(event, entry);
+        part.events.insert(event, start)?;
+    }
+    Ok(())
+}

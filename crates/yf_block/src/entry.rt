@@ -1,0 +1,228 @@
+//! Block collections and their entries (YAML 1.2.2, section 8.2).
+
+use crate::content::{Spot, read_inline};
+use crate::frame::{Awaited, Frame, Kind, Open, Progress, Scope, State, Step, Wanted};
+use crate::held::{Held, lead_of, line_properties, place_behind};
+use crate::look::{is_blank_after, key_ends, sign_stands};
+use std::alloc::{AllocError, Global};
+use yf_events::event::{Entry, Event, PlacedEvent};
+use yf_events::part::Part;
+use yf_flow::node::empty_node;
+use yf_flow::nodes::Ending;
+use yf_lines::basic::skip_whites;
+
+/// The entry that begins at an offset.
+pub(crate) fn entry_at(text: &str, floor: usize, start: usize, colon: Option<usize>) -> Entry {
+    Entry {
+        start,
+        colon,
+        blank_before: is_blank_after(text, floor, start),
+    }
+}
+
+/// The event that begins a block collection. Where the collection ends is noted once it has been read.
+pub(crate) fn collection_start<'a>(
+    alloc: Global,
+    kind: Kind,
+    at: usize,
+    outer: Option<Held<'a>>,
+    entry: Option<Entry>,
+) -> PlacedEvent<'a> {
+    let lead = lead_of(at, outer, entry);
+    let event = match kind {
+        Kind::Sequence => Event::SeqStart {
+            flow: false,
+            props: lead.props,
+        },
+        Kind::Mapping => Event::MapStart {
+            flow: false,
+            props: lead.props,
+        },
+    };
+    lead.placed(alloc, event, at)
+}
+
+/// Opens the sequence whose first `-` stands there (l+block-sequence, production 183; ns-l-compact-sequence,
+/// production 186).
+pub(crate) fn open_sequence<'a>(
+    alloc: Global,
+    scope: Scope<'a>,
+    spot: Spot<'a>,
+    column: usize,
+    progress: Progress<'a>,
+    open: &mut Open,
+    part: &mut Part<'a>,
+) -> Result<State<'a>, AllocError> {
+    let frame = Frame {
+        kind: Kind::Sequence,
+        column,
+        event: part.events.len(),
+        entry_event: 0,
+        awaits_colon: false,
+    };
+    if open.len() >= scope.limit {
+        return Ok(progress.and_then(Step::TooDeep(spot.at)));
+    }
+    let start = collection_start(
+        alloc,
+        Kind::Sequence,
+        spot.at,
+        spot.outer,
+        spot.wanted.entry,
+    );
+    part.events.push(start)?;
+    take_item(scope.text, spot.at, frame, progress, open)
+}
+
+/// The entry of a sequence whose `-` stands at an offset.
+pub(crate) fn take_item<'a>(
+    text: &str,
+    at: usize,
+    frame: Frame,
+    progress: Progress<'a>,
+    open: &mut Open,
+) -> Result<State<'a>, AllocError> {
+    open.push(frame)?;
+    let entry = entry_at(text, progress.floor, at, None);
+    Ok(behind_indicator(at, true, false, frame.column, Some(entry), progress))
+}
+
+// The node that is awaited behind an indicator in a collection of that column.
+fn behind_indicator<'a>(
+    at: usize,
+    compact: bool,
+    out: bool,
+    column: usize,
+    entry: Option<Entry>,
+    progress: Progress<'a>,
+) -> State<'a> {
+    let wanted = Wanted {
+        least: column.saturating_add(1),
+        out,
+        entry,
+    };
+    progress.reaching(at + 1).and_then(Step::Node(Awaited {
+        at: at + 1,
+        compact,
+        wanted,
+    }))
+}
+
+/// The value behind the `:` of an implicit key, or of an empty one.
+pub(crate) fn await_value<'a>(colon: usize, column: usize, progress: Progress<'a>) -> State<'a> {
+    behind_indicator(colon, false, true, column, None, progress)
+}
+
+/// The value behind the `:` of an entry with a `?` (l-block-map-explicit-value, production 191).
+pub(crate) fn take_explicit_value<'a>(
+    colon: usize,
+    frame: Frame,
+    progress: Progress<'a>,
+    open: &mut Open,
+    part: &mut Part<'a>,
+) -> Result<State<'a>, AllocError> {
+    part.events.set_colon(frame.entry_event, colon);
+    open.push(Frame {
+        awaits_colon: false,
+        ..frame
+    })?;
+    Ok(behind_indicator(colon, true, true, frame.column, None, progress))
+}
+
+/// Opens the mapping whose first entry begins with the `?` or the `:` at the place (l+block-mapping, production 187;
+/// ns-l-compact-mapping, production 195).
+pub(crate) fn open_mapping<'a>(
+    alloc: Global,
+    scope: Scope<'a>,
+    spot: Spot<'a>,
+    column: usize,
+    progress: Progress<'a>,
+    open: &mut Open,
+    part: &mut Part<'a>,
+) -> Result<State<'a>, AllocError> {
+    let frame = Frame {
+        kind: Kind::Mapping,
+        column,
+        event: part.events.len(),
+        entry_event: 0,
+        awaits_colon: false,
+    };
+    if open.len() >= scope.limit {
+        return Ok(progress.and_then(Step::TooDeep(spot.at)));
+    }
+    let start = collection_start(alloc, Kind::Mapping, spot.at, spot.outer, spot.wanted.entry);
+    part.events.push(start)?;
+    take_entry(alloc, scope, spot.at, frame, progress, open, part)
+}
+
+/// The entry of a mapping that begins at an offset (ns-l-block-map-entry, production 188).
+pub(crate) fn take_entry<'a>(
+    alloc: Global,
+    scope: Scope<'a>,
+    at: usize,
+    frame: Frame,
+    progress: Progress<'a>,
+    open: &mut Open,
+    part: &mut Part<'a>,
+) -> Result<State<'a>, AllocError> {
+    let entry = entry_at(scope.text, progress.floor, at, None);
+    if sign_stands(scope.text, at, b'?') {
+        open.push(Frame {
+            awaits_colon: true,
+            entry_event: part.events.len(),
+            ..frame
+        })?;
+        return Ok(behind_indicator(at, true, true, frame.column, Some(entry), progress));
+    }
+    open.push(Frame {
+        awaits_colon: false,
+        ..frame
+    })?;
+    if sign_stands(scope.text, at, b':') {
+        let keyless = Entry {
+            colon: Some(at),
+            ..entry
+        };
+        part.events.push(empty_node(alloc, Some(keyless)))?;
+        return Ok(await_value(at, frame.column, progress));
+    }
+    take_key(alloc, scope, frame.column, entry, progress, open, part)
+}
+
+// An implicit key of an open mapping (ns-s-block-map-implicit-key, production 193), from its properties on.
+fn take_key<'a>(
+    alloc: Global,
+    scope: Scope<'a>,
+    column: usize,
+    entry: Entry,
+    progress: Progress<'a>,
+    open: &mut Open,
+    part: &mut Part<'a>,
+) -> Result<State<'a>, AllocError> {
+    let start = entry.start;
+    let inner = line_properties(alloc, scope.text, start)?;
+    let place = match inner {
+        None => Some(start),
+        Some(held) => place_behind(scope.text, held),
+    };
+    match place {
+        None => Ok(progress.and_then(Step::Failed(start))),
+        Some(at) => {
+            let event = part.events.len();
+            let lead = lead_of(start, inner, Some(entry));
+            let least = column.saturating_add(1);
+            match read_inline(alloc, scope, least, at, inner, lead, open.len(), part)? {
+                Ending::End(node) => {
+                    let colon = skip_whites(scope.text, node.end);
+                    if key_ends(scope.text, start, colon) {
+                        part.events.set_colon(event, colon);
+                        return Ok(await_value(colon, column, progress));
+                    }
+                    Ok(progress.and_then(Step::Failed(colon)))
+                }
+                Ending::Nothing => Ok(progress.and_then(Step::Failed(at))),
+                Ending::TooDeep(deep) => Ok(progress.and_then(Step::TooDeep(deep))),
+            }
+        }
+    }
+}

@@ -1,0 +1,194 @@
+//! The part that a record keeps: its events, with the ends of the collections that are open in them.
+
+use crate::content::flow_indentation;
+use crate::record::{Owed, Plain, Record};
+use smallvec::SmallVec;
+use std::alloc::{AllocError, Global};
+use yf_chars::context::Ctx;
+use yf_events::event::{Entry, Event, ScalarStyle};
+use yf_events::events::Events;
+use yf_events::part::Part;
+use yf_flow::node::{empty_node, push_scalar, unplaced};
+use yf_lines::text::Text;
+use yf_plain::plain::read_plain_in;
+
+// A collection that is open in a list of events.
+#[derive(Clone, Copy, Default)]
+struct Unended {
+    // The index of the event that begins it.
+    event: usize,
+    is_mapping: bool,
+    // Whether a value is awaited in it: it has an odd number of nodes.
+    awaits_value: bool,
+}
+
+// The open collections of a list of events, the outermost first.
+type Nest = SmallVec<Unended, 8>;
+
+/// Cuts a part back to what a record keeps of it, and ends all nodes that are open in it.
+pub(crate) fn cut_back<'a>(
+    alloc: Global,
+    text: &'a str,
+    record: Record<'a>,
+    part: &mut Part<'a>,
+) -> Result<(), AllocError> {
+    part.events.truncate(record.counts.events);
+    part.comments.truncate(record.counts.comments);
+    part.escapes.truncate(record.counts.escapes);
+    drop_colons(record.end, part);
+    let last = push_owed(alloc, text, record, part)?;
+    let mut nest = Nest::new(alloc);
+    for (index, placed) in part.events.as_slice().iter().enumerate() {
+        pass(&placed.event, index, &mut nest)?;
+    }
+    'open: while let Some(collection) = nest.pop() {
+        end_unended(alloc, collection, last, part)?;
+        pass_node(&mut nest)?;
+    }
+    Ok(())
+}
+
+// Entries of a part whose `:` stands at its end or behind have none in it.
+fn drop_colons(end: usize, part: &mut Part) {
+    for index in 0..part.events.len() {
+        drop_colon(end, index, part);
+    }
+}
+
+fn drop_colon(end: usize, index: usize, part: &mut Part) {
+    if index >= part.events.len() {
+        return;
+    }
+    if let Some(entry) = part.events.at(index).entry {
+        if let Some(colon) = entry.colon {
+            if colon >= end {
+                part.events.set_entry(
+                    index,
+                    Entry {
+                        colon: None,
+                        ..entry
+                    },
+                );
+            }
+        }
+    }
+}
+
+// Adds the node that is owed; where the last node or indicator of the part ends.
+fn push_owed<'a>(
+    alloc: Global,
+    text: &'a str,
+    record: Record<'a>,
+    part: &mut Part<'a>,
+) -> Result<usize, AllocError> {
+    match record.owed {
+        Owed::Nothing => Ok(record.last),
+        Owed::Empty(None, entry) => {
+            part.events.push(empty_node(alloc, entry))?;
+            Ok(record.last)
+        }
+        Owed::Empty(Some(held), entry) => {
+            let lead = held.lead(entry);
+            push_scalar(
+                alloc,
+                lead,
+                ScalarStyle::Plain,
+                Text::Part(""),
+                held.end,
+                part,
+            )?;
+            Ok(held.end)
+        }
+        Owed::Shorter(plain) => push_shorter(alloc, text, record, plain, part),
+    }
+}
+
+// Adds a plain scalar again, without the line that begins where the record ends.
+fn push_shorter<'a>(
+    alloc: Global,
+    text: &'a str,
+    record: Record<'a>,
+    plain: Plain<'a>,
+    part: &mut Part<'a>,
+) -> Result<usize, AllocError> {
+    part.events.truncate(plain.event);
+    let front = &text[..record.end];
+    if !front.is_char_boundary(plain.at) {
+        return Ok(record.last);
+    }
+    match read_plain_in(
+        alloc,
+        front,
+        plain.at,
+        flow_indentation(plain.least),
+        Ctx::FlowOut,
+    ) {
+        Ok(Some((shorter, end))) => {
+            push_scalar(alloc, plain.lead, ScalarStyle::Plain, shorter, end, part)?;
+            Ok(end)
+        }
+        Ok(None) => Ok(record.last),
+        Err(_) => Err(AllocError),
+    }
+}
+
+// Goes on behind an event.
+fn pass(event: &Event, index: usize, nest: &mut Nest) -> Result<(), AllocError> {
+    match event {
+        Event::SeqStart { .. } => {
+            nest.push(Unended {
+                event: index,
+                is_mapping: false,
+                awaits_value: false,
+            })?;
+            Ok(())
+        }
+        Event::MapStart { .. } => {
+            nest.push(Unended {
+                event: index,
+                is_mapping: true,
+                awaits_value: false,
+            })?;
+            Ok(())
+        }
+        Event::SeqEnd | Event::MapEnd => {
+            let _ = nest.pop();
+            pass_node(nest)
+        }
+        _ => pass_node(nest),
+    }
+}
+
+// Goes on behind a node.
+fn pass_node(nest: &mut Nest) -> Result<(), AllocError> {
+    match nest.pop() {
+        None => Ok(()),
+        Some(collection) => {
+            nest.push(Unended {
+                awaits_value: !collection.awaits_value,
+                ..collection
+            })?;
+            Ok(())
+        }
+    }
+}
+
+// Ends a collection whose last node or indicator ends at an offset.
+fn end_unended<'a>(
+    alloc: Global,
+    collection: Unended,
+    last: usize,
+    part: &mut Part<'a>,
+) -> Result<(), AllocError> {
+    let event = if collection.is_mapping {
+        Event::MapEnd
+    } else {
+        Event::SeqEnd
+    };
+    if collection.is_mapping && collection.awaits_value {
+        part.events.push(empty_node(alloc, None))?;
+    }
+    part.events.push(unplaced(alloc, event, None))?;
+    part.events.set_end(collection.event, last);
+    Ok(())
+}

@@ -1,0 +1,18 @@
+//! Block nodes (YAML 1.2.2, chapter 8): block collections, block scalars, and flow nodes in block collections, read in one
+//! forward pass.
+#![tactic(auto)]
+
+pub mod block;
+pub(crate) mod content;
+pub(crate) mod entry;
+pub(crate) mod finish;
+pub(crate) mod frame;
+pub(crate) mod held;
+pub(crate) mod line;
+pub(crate) mod look;
+pub mod nodes;
+pub(crate) mod record;
+pub(crate) mod resume;
+pub(crate) mod scalar;
+#[cfg(test)]
+mod tests;

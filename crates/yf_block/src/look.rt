@@ -1,0 +1,176 @@
+//! Tests of what stands at a place of a block node, and walks that read nothing.
+
+use yf_chars::classes::is_ns_char;
+use yf_chars::text::{peek, stands};
+use yf_comments::comments::Comments;
+use yf_flow::look::is_key_line;
+use yf_lines::basic::{
+    is_forbidden_at, line_break, mark_ends, mark_stands, skip_spaces, skip_whites,
+    white_or_end_stands, white_stands,
+};
+
+/// Whether the `-` of an entry stands there (c-l-block-seq-entry, production 184).
+pub(crate) fn dash_stands(text: &str, at: usize) -> bool {
+    if stands(text, at, b'-') {
+        return match peek(text, at + 1) {
+            Some((c, _)) => !is_ns_char(c),
+            None => true,
+        };
+    }
+    false
+}
+
+/// Whether that sign of an entry, `?` or `:`, stands there, with white, a break or the end of the text behind it.
+pub(crate) fn sign_stands(text: &str, at: usize, sign: u8) -> bool {
+    if stands(text, at, sign) {
+        return white_or_end_stands(text, at + 1);
+    }
+    false
+}
+
+/// Whether the `:` behind an implicit key stands there, on the line on which the key starts.
+pub(crate) fn key_ends(text: &str, start: usize, at: usize) -> bool {
+    if sign_stands(text, at, b':') {
+        return is_key_line(text, start, at);
+    }
+    false
+}
+
+/// Whether nothing more stands on the line from the offset on; a comment stands behind a white.
+pub(crate) fn line_ends(text: &str, at: usize, behind_white: bool) -> bool {
+    if at == text.len() {
+        return true;
+    }
+    if stands(text, at, b'\n') {
+        return true;
+    }
+    if stands(text, at, b'\r') {
+        return true;
+    }
+    if behind_white {
+        return stands(text, at, b'#');
+    }
+    false
+}
+
+/// Whether no line of a node begins there: at the end of the text, a byte order mark or a document marker.
+pub(crate) fn node_ends(text: &str, at: usize) -> bool {
+    if at == text.len() {
+        return true;
+    }
+    if mark_stands(text, at) {
+        return true;
+    }
+    is_forbidden_at(text, at)
+}
+
+/// Where the first character other than a space stands of the line that begins there, if it can be that of an entry.
+pub(crate) fn entry_place(text: &str, at: usize) -> Option<usize> {
+    if node_ends(text, at) {
+        return None;
+    }
+    let place = skip_spaces(text, at);
+    if line_ends(text, skip_whites(text, place), true) {
+        return None;
+    }
+    Some(place)
+}
+
+/// Whether, going back from the offset over whites, line breaks and byte order marks, a line of whites alone is met that
+/// begins behind the floor, or at it.
+///
+/// The walk ends at the first other character, so walks from different entries do not overlap.
+pub(crate) fn is_blank_after(text: &str, floor: usize, at: usize) -> bool {
+    let mut place = at;
+    // whether whites alone stand between the place and a line break
+    let mut blank = false;
+    'back: while place > floor {
+        if white_stands(text, place - 1) {
+            place -= 1;
+            continue;
+        }
+        if mark_ends(text, place) {
+            place -= 3;
+            blank = false;
+            continue;
+        }
+        if !break_ends_at(text, place) {
+            return false;
+        }
+        if blank {
+            return true;
+        }
+        blank = true;
+        place = break_start(text, place);
+    }
+    blank
+}
+
+// Whether the character before the offset is one of a line break.
+fn break_ends_at(text: &str, at: usize) -> bool {
+    if stands(text, at.saturating_sub(1), b'\n') {
+        return true;
+    }
+    stands(text, at.saturating_sub(1), b'\r')
+}
+
+// Where the break begins that ends at the offset.
+fn break_start(text: &str, at: usize) -> usize {
+    if stands(text, at.saturating_sub(1), b'\n') {
+        if stands(text, at.saturating_sub(2), b'\r') {
+            return at.saturating_sub(2);
+        }
+    }
+    at.saturating_sub(1)
+}
+
+/// The last place behind a line break that begins at the first offset or behind it, before the other offset.
+pub(crate) fn last_line_start(text: &str, from: usize, end: usize) -> Option<usize> {
+    let mut at = from;
+    let mut found = None;
+    'characters: while at < end {
+        match line_break(text, at) {
+            Some(next) => {
+                if next < end {
+                    found = Some(next);
+                }
+                at = next;
+            }
+            None => match peek(text, at) {
+                Some((_, next)) => at = next,
+                None => return found,
+            },
+        }
+    }
+    found
+}
+
+/// The offset behind so many lines from the start of a line on, or the end of the text.
+pub(crate) fn skip_lines(text: &str, at: usize, count: usize) -> usize {
+    let mut place = at;
+    let mut left = count;
+    'characters: while left > 0 {
+        match line_break(text, place) {
+            Some(next) => {
+                place = next;
+                left -= 1;
+            }
+            None => match peek(text, place) {
+                Some((_, next)) => place = next,
+                None => return place,
+            },
+        }
+    }
+    place
+}
+
+/// How many of the comments stand before an offset, where all but the last one do.
+pub(crate) fn comments_before(comments: &Comments, at: usize) -> usize {
+    let count = comments.len();
+    if count > 0 {
+        if comments.at(count - 1).offset >= at {
+            return count - 1;
+        }
+    }
+    count
+}

@@ -1,0 +1,201 @@
+//! The reader of block nodes: one forward pass, with a stack of the open collections.
+
+use crate::finish::cut_back;
+use crate::frame::{Awaited, Open, Progress, Scope, State, Step, Wanted};
+use crate::line::{first_line, take_line, take_node};
+use crate::record::{Owed, Record};
+use crate::resume::resume;
+use smallvec::SmallVec;
+use std::alloc::{AllocError, Global};
+use yf_chars::context::Ctx;
+use yf_events::comments::Comments;
+use yf_events::events::Events;
+use yf_events::part::Part;
+use yf_events::row::Row;
+use yf_lines::basic::is_line_start;
+
+/// A block node that was found.
+#[derive(Debug, Drop)]
+pub struct Found<'a> {
+    pub part: Part<'a>,
+    /// The byte offset behind it.
+    pub end: usize,
+    /// The furthest byte offset at which the reading went wrong; `end` where it did not.
+    pub reached: usize,
+    /// The byte offset behind the last block scalar in the node, with its kept tail: lines before it are no blank lines.
+    /// 0 where there is none.
+    pub floor: usize,
+}
+
+/// What a reader of block nodes found.
+#[derive(Debug, Drop)]
+pub enum Outcome<'a> {
+    Found(Found<'a>),
+    /// No block node; the reading went wrong at the byte offset.
+    Nothing { reached: usize },
+    /// Nothing within the limit of open collections; the collection at the byte offset would be a further one.
+    TooDeep(usize),
+}
+
+// Why the reader stopped.
+#[derive(Clone, Copy)]
+enum Stop {
+    // Nothing went wrong, or the text did, at the offset.
+    At(usize),
+    TooDeep(usize),
+}
+
+// What was read when the reader stopped.
+#[derive(Clone, Copy)]
+struct Stopped<'a> {
+    record: Option<Record<'a>>,
+    stop: Stop,
+}
+
+/// Reads the longest block node (s-l+block-node(n,c), production 196) from a byte offset on in which no more collections are
+/// open at once than the limit. `n` is the indentation of the collection around it, from -1.
+///
+/// In other contexts than block-out and block-in there is none.
+///
+/// # Errors
+///
+/// `AllocError` where a growth of memory was refused.
+pub fn block_node_in<'a>(
+    alloc: Global,
+    text: &'a str,
+    at: usize,
+    n: i32,
+    ctx: Ctx,
+    limit: usize,
+) -> Result<Outcome<'a>, AllocError> {
+    match block_out(ctx) {
+        None => Ok(Outcome::Nothing { reached: at }),
+        Some(out) => {
+            let wanted = Wanted {
+                least: least_of(n),
+                out,
+                entry: None,
+            };
+            let mut part = new_part(alloc);
+            let state = begin(alloc, text, at, wanted, &mut part)?;
+            let stopped = run(alloc, Scope { text, limit }, state, &mut part)?;
+            outcome(alloc, text, at, stopped, part)
+        }
+    }
+}
+
+// Whether the context is block-out; `None` where it is none of a block node.
+fn block_out(ctx: Ctx) -> Option<bool> {
+    match ctx {
+        Ctx::BlockOut => Some(true),
+        Ctx::BlockIn => Some(false),
+        Ctx::FlowOut | Ctx::FlowIn | Ctx::BlockKey | Ctx::FlowKey => None,
+    }
+}
+
+// n + 1, the fewest spaces of the indentation.
+fn least_of(n: i32) -> usize {
+    if n < 0 { 0 } else { n as usize + 1 }
+}
+
+fn new_part<'a>(alloc: Global) -> Part<'a> {
+    Part {
+        events: Events::new(alloc),
+        comments: Comments::new(alloc),
+        escapes: Row::new(alloc),
+    }
+}
+
+// The first step: at the start of a line, or within one.
+fn begin<'a>(
+    alloc: Global,
+    text: &'a str,
+    at: usize,
+    wanted: Wanted,
+    part: &mut Part<'a>,
+) -> Result<State<'a>, AllocError> {
+    let progress = Progress {
+        last: at,
+        floor: 0,
+        record: None,
+    };
+    if is_line_start(text, at) {
+        return first_line(alloc, text, at, wanted, progress, part);
+    }
+    Ok(progress.and_then(Step::Node(Awaited {
+        at,
+        compact: false,
+        wanted,
+    })))
+}
+
+// Reads on until the outermost node ends or the text goes wrong.
+fn run<'a>(
+    alloc: Global,
+    scope: Scope<'a>,
+    first: State<'a>,
+    part: &mut Part<'a>,
+) -> Result<Stopped<'a>, AllocError> {
+    let mut open: Open = SmallVec::new(alloc);
+    let mut state = first;
+    'steps: loop {
+        let progress = state.progress;
+        state = match state.step {
+            Step::Node(node) => take_node(alloc, scope, node, progress, &mut open, part)?,
+            Step::Line(line) => take_line(alloc, scope, line, progress, &mut open, part)?,
+            Step::Resume(at) => resume(alloc, scope, at, progress, &mut open, part)?,
+            Step::Done(place) | Step::Failed(place) => {
+                return Ok(Stopped {
+                    record: progress.record,
+                    stop: Stop::At(place),
+                });
+            }
+            Step::TooDeep(place) => {
+                return Ok(Stopped {
+                    record: progress.record,
+                    stop: Stop::TooDeep(place),
+                });
+            }
+        };
+    }
+}
+
+// What was found, once the reader stopped.
+fn outcome<'a>(
+    alloc: Global,
+    text: &'a str,
+    at: usize,
+    stopped: Stopped<'a>,
+    part: Part<'a>,
+) -> Result<Outcome<'a>, AllocError> {
+    match stopped.record {
+        Some(record) if is_node(at, record) => {
+            let mut part = part;
+            cut_back(alloc, text, record, &mut part)?;
+            let reached = match stopped.stop {
+                Stop::At(place) | Stop::TooDeep(place) => place,
+            };
+            Ok(Outcome::Found(Found {
+                part,
+                end: record.end,
+                reached,
+                floor: record.floor,
+            }))
+        }
+        _ => match stopped.stop {
+            Stop::At(reached) => Ok(Outcome::Nothing { reached }),
+            Stop::TooDeep(place) => Ok(Outcome::TooDeep(place)),
+        },
+    }
+}
+
+// Whether a record keeps a node that has a character: no block node is empty.
+fn is_node(at: usize, record: Record) -> bool {
+    if record.end <= at {
+        return false;
+    }
+    match record.owed {
+        Owed::Empty(None, _) => record.counts.events > 0,
+        _ => true,
+    }
+}

@@ -1,0 +1,166 @@
+//! The last place at which all open nodes may end: what the reader falls back on where the text goes wrong later.
+
+use crate::frame::{Fresh, Open, Progress};
+use crate::held::Held;
+use crate::look::{comments_before, entry_place, last_line_start, sign_stands};
+use yf_events::event::Entry;
+use yf_events::part::Part;
+use yf_flow::node::Lead;
+
+/// How much of a part has been read.
+#[derive(Clone, Copy)]
+pub(crate) struct Counts {
+    pub(crate) events: usize,
+    pub(crate) comments: usize,
+    pub(crate) escapes: usize,
+}
+
+impl Counts {
+    pub(crate) fn of(part: &Part) -> Counts {
+        Counts {
+            events: part.events.len(),
+            comments: part.comments.len(),
+            escapes: part.escapes.len(),
+        }
+    }
+}
+
+/// A plain scalar that has been read.
+#[derive(Clone, Copy)]
+pub(crate) struct Plain<'a> {
+    pub(crate) lead: Lead<'a>,
+    /// The fewest spaces of the indentation of its lines.
+    pub(crate) least: usize,
+    /// The byte offset of its first character, behind its properties, and the one behind it.
+    pub(crate) at: usize,
+    pub(crate) end: usize,
+    /// The index of its event.
+    pub(crate) event: usize,
+}
+
+/// The node that is still to be added to a part.
+#[derive(Clone, Copy)]
+pub(crate) enum Owed<'a> {
+    Nothing,
+    /// An empty node, with properties or without.
+    Empty(Option<Held<'a>>, Option<Entry>),
+    /// A plain scalar without its last line.
+    Shorter(Plain<'a>),
+}
+
+/// A place at which all open nodes may end.
+#[derive(Clone, Copy)]
+pub(crate) struct Record<'a> {
+    /// The byte offset at which they end.
+    pub(crate) end: usize,
+    pub(crate) counts: Counts,
+    /// The byte offset behind the last node with characters, or the last indicator.
+    pub(crate) last: usize,
+    /// The byte offset behind the last block scalar; 0 where there is none.
+    pub(crate) floor: usize,
+    pub(crate) owed: Owed<'a>,
+}
+
+// What has been read, once all open nodes may end at the offset.
+fn noted<'a>(progress: Progress<'a>, end: usize, owed: Owed<'a>, part: &Part<'a>) -> Progress<'a> {
+    let counts = Counts {
+        comments: comments_before(&part.comments, end),
+        ..Counts::of(part)
+    };
+    Progress {
+        record: Some(Record {
+            end,
+            counts,
+            last: progress.last,
+            floor: progress.floor,
+            owed,
+        }),
+        ..progress
+    }
+}
+
+// Whether the line at the offset has the `:` of an entry with a `?` that is open: the value of that entry may not be taken
+// to be empty before it.
+fn value_follows(text: &str, at: usize, open: &Open) -> bool {
+    match entry_place(text, at) {
+        None => false,
+        Some(place) => {
+            if !sign_stands(text, place, b':') {
+                return false;
+            }
+            awaits_colon_at(open, place - at)
+        }
+    }
+}
+
+// Whether an open mapping awaits a `:` at the column.
+fn awaits_colon_at(open: &Open, column: usize) -> bool {
+    let frames = open.as_slice();
+    let mut index = frames.len();
+    'frames: while index > 0 {
+        index -= 1;
+        let frame = frames[index];
+        if frame.column < column {
+            return false;
+        }
+        if frame.column == column {
+            if frame.awaits_colon {
+                return true;
+            }
+        }
+    }
+    false
+}
+
+/// Notes that the node that is awaited at a fresh line may be empty, or have its properties alone.
+pub(crate) fn note_empty<'a>(
+    text: &str,
+    line: Fresh<'a>,
+    progress: Progress<'a>,
+    open: &Open,
+    part: &Part<'a>,
+) -> Progress<'a> {
+    let owed = Owed::Empty(line.outer, line.wanted.entry);
+    if value_follows(text, line.at, open) {
+        return match last_line_start(text, line.from, line.at) {
+            Some(end) => noted(progress, end, owed, part),
+            None => progress,
+        };
+    }
+    noted(progress, line.at, owed, part)
+}
+
+/// Notes that all may end at the line behind a node, which ends at `from`.
+pub(crate) fn note_node<'a>(
+    text: &str,
+    from: usize,
+    at: usize,
+    plain: Option<Plain<'a>>,
+    progress: Progress<'a>,
+    open: &Open,
+    part: &Part<'a>,
+) -> Progress<'a> {
+    if value_follows(text, at, open) {
+        return match last_line_start(text, from, at) {
+            Some(end) => noted(progress, end, Owed::Nothing, part),
+            None => note_shorter(text, plain, progress, part),
+        };
+    }
+    noted(progress, at, Owed::Nothing, part)
+}
+
+/// Notes that all may end before the last line of a plain scalar, if it has several.
+pub(crate) fn note_shorter<'a>(
+    text: &str,
+    plain: Option<Plain<'a>>,
+    progress: Progress<'a>,
+    part: &Part<'a>,
+) -> Progress<'a> {
+    match plain {
+        None => progress,
+        Some(plain) => match last_line_start(text, plain.at, plain.end) {
+            None => progress,
+            Some(end) => noted(progress, end, Owed::Shorter(plain), part),
+        },
+    }
+}

@@ -1,0 +1,143 @@
+//! Block scalars as nodes (YAML 1.2.2, section 8.1).
+
+use crate::content::flow_indentation;
+use crate::frame::{Open, Progress, Scope, State, Step};
+use crate::look::skip_lines;
+use crate::record::note_node;
+use std::alloc::{AllocError, Global};
+use yf_block_scalar::body::BlockText;
+use yf_block_scalar::content::content;
+use yf_block_scalar::header::{Chomp, Header};
+use yf_block_scalar::header_reader::{HeaderLine, block_header};
+use yf_block_scalar::lines::Lines;
+use yf_block_scalar::reader::block_body;
+use yf_events::event::{Event, PlacedEvent, ScalarStyle, Span};
+use yf_events::part::Part;
+use yf_events::slices::Slices;
+use yf_flow::node::Lead;
+use yf_lines::basic::is_line_start;
+use yf_lines::text::{OwnedText, Text};
+
+/// Reads the block scalar whose `|` or `>` stands at an offset (s-l+block-scalar, production 199).
+pub(crate) fn take_block_scalar<'a>(
+    alloc: Global,
+    scope: Scope<'a>,
+    at: usize,
+    lead: Lead<'a>,
+    least: usize,
+    progress: Progress<'a>,
+    open: &Open,
+    part: &mut Part<'a>,
+) -> Result<State<'a>, AllocError> {
+    match block_header(scope.text, at) {
+        None => Ok(progress.and_then(Step::Failed(at))),
+        Some(
+            HeaderLine {
+                header,
+                comment,
+                end,
+            },
+        ) => {
+            if let Some(comment) = comment {
+                part.comments.push(comment)?;
+            }
+            match read_lines(alloc, scope.text, end, least, header)? {
+                None => Ok(progress.and_then(Step::Failed(end))),
+                Some(block) => take_body(alloc, scope.text, end, lead, block, progress, open, part),
+            }
+        }
+    }
+}
+
+// Reads the lines behind a header, which ends at an offset.
+fn read_lines<'a>(
+    alloc: Global,
+    text: &'a str,
+    at: usize,
+    least: usize,
+    header: Header,
+) -> Result<Option<BlockText<'a>>, AllocError> {
+    block_body(alloc, text, at, flow_indentation(least) - 1, header)
+}
+
+// Adds a block scalar whose lines have been read from an offset on.
+fn take_body<'a>(
+    alloc: Global,
+    text: &'a str,
+    at: usize,
+    lead: Lead<'a>,
+    block: BlockText<'a>,
+    progress: Progress<'a>,
+    open: &Open,
+    part: &mut Part<'a>,
+) -> Result<State<'a>, AllocError> {
+    let finish = skip_lines(text, at, reach(&block));
+    let next = block.next;
+    part.events
+        .push(placed_scalar(alloc, lead, &block, finish)?)?;
+    let BlockText { comments, .. } = block;
+    part.comments.append(comments)?;
+    let progress = Progress {
+        last: finish,
+        floor: finish,
+        ..progress
+    };
+    let progress = note_node(text, next, next, None, progress, open, part);
+    Ok(progress.and_then(Step::Resume(next)))
+}
+
+// How many lines behind its header a scalar reaches: to its last content line, or through its kept tail.
+fn reach(block: &BlockText) -> usize {
+    match block.header.chomp {
+        Chomp::Strip | Chomp::Clip => block.lines.len(),
+        Chomp::Keep => block.lines.len().saturating_add(block.tail),
+    }
+}
+
+// The event of a block scalar that ends at an offset.
+fn placed_scalar<'a>(
+    alloc: Global,
+    lead: Lead<'a>,
+    block: &BlockText<'a>,
+    finish: usize,
+) -> Result<PlacedEvent<'a>, AllocError> {
+    let text = match content(alloc, block) {
+        Ok(text) => Text::Owned(OwnedText::new(text)),
+        Err(_refused) => return Err(AllocError),
+    };
+    let style = if block.header.folded {
+        ScalarStyle::Folded
+    } else {
+        ScalarStyle::Literal
+    };
+    let folded = kept_lines(alloc, block.header.folded, &block.lines)?;
+    Ok(PlacedEvent {
+        event: Event::Scalar {
+            props: lead.props,
+            style,
+            text,
+        },
+        span: Some(Span {
+            start: lead.start,
+            end: finish,
+        }),
+        tag_offset: lead.tag_offset,
+        entry: lead.entry,
+        folded,
+    })
+}
+
+// The lines that are kept of a folded scalar.
+fn kept_lines<'a>(
+    alloc: Global,
+    folded: bool,
+    lines: &Lines<'a>,
+) -> Result<Slices<'a>, AllocError> {
+    let mut kept = Slices::new(alloc);
+    if folded {
+        for line in lines.as_slice() {
+            kept.push(line)?;
+        }
+    }
+    Ok(kept)
+}
