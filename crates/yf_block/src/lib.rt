@@ -9,7 +9,7 @@ pub(crate) mod finish;
 pub(crate) mod frame;
 pub(crate) mod held;
 pub(crate) mod line;
-pub(crate) mod look;
+pub mod look;
 pub mod nodes;
 pub(crate) mod record;
 pub(crate) mod resume;

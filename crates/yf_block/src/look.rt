@@ -80,7 +80,7 @@ pub(crate) fn entry_place(text: &str, at: usize) -> Option<usize> {
 /// begins behind the floor, or at it.
 ///
 /// The walk ends at the first other character, so walks from different entries do not overlap.
-pub(crate) fn is_blank_after(text: &str, floor: usize, at: usize) -> bool {
+pub fn is_blank_after(text: &str, floor: usize, at: usize) -> bool {
     let mut place = at;
     // whether whites alone stand between the place and a line break
     let mut blank = false;

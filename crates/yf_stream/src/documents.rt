@@ -5,9 +5,11 @@ ghost use Rattle.yf_stream.specs.Walk.{Place, NextAt};
 
 use crate::directives::{DirectiveLines, read_directives};
 use std::alloc::{AllocError, Global};
-use yf_block::block::{Found, Outcome, block_node_in};
+use yf_block::look::is_blank_after;
+use yf_block::nodes::{Found, Outcome, block_node_in};
 use yf_chars::context::Ctx;
 use yf_chars::text::stands;
+use yf_comments::comment::Comment;
 use yf_comments::comments::{Comments, Separation};
 use yf_comments::lines::line_end;
 use yf_events::directive::Directives;
@@ -125,7 +127,7 @@ pub(crate) fn skip_prefix<'a>(
         }
         match line_end(alloc, text, at)? {
             Some(Separation { comments, end }) => {
-                parts.comments.append(comments)?;
+                keep_comments(text, spot.floor, &comments, parts)?;
                 if end == at {
                     return Ok(Spot { at, ..spot });
                 }
@@ -134,6 +136,22 @@ pub(crate) fn skip_prefix<'a>(
             None => return Ok(Spot { at, ..spot }),
         }
     }
+}
+
+// Adds comments, with the note whether a blank line stands before each that is no line of a block scalar.
+fn keep_comments<'a>(
+    text: &'a str,
+    floor: usize,
+    comments: &Comments<'a>,
+    parts: &mut Parts<'a>,
+) -> Result<(), AllocError> {
+    for comment in comments.as_slice() {
+        parts.comments.push(Comment {
+            blank_before: is_blank_after(text, floor, comment.offset),
+            ..*comment
+        })?;
+    }
+    Ok(())
 }
 
 /// Reads what begins at the offset, which is no comment line and not the end of the text: a document with its directives,
