@@ -105,8 +105,9 @@ fn resolve_document<'a>(
     }
     let mut anchors: Anchors = IndexSet::new(alloc);
     resolved.tags.push(None)?;
+    let count = events.len();
     let mut at = start + 1;
-    'events: while at < events.len() {
+    'events: while at < count {
         let placed = events.at(at);
         if matches!(placed.event, Event::DocStart { .. }) {
             return Ok(at);

@@ -37,6 +37,7 @@ pub(crate) fn read_directives<'a>(
     comments: &mut Comments<'a>,
 ) -> Result<Result<DirectiveLines<'a>, usize>, AllocError>
     requires { IsCharBoundary text.now at }
+    ensures { IfOk result (λ r. IfOk r (λ lines. Place text.entry.now at lines.end)) }
 {
     let mut directives = Directives::new(alloc);
     let mut end = at;
@@ -53,6 +54,7 @@ pub(crate) fn read_directives<'a>(
     Ok(Ok(DirectiveLines { directives, end }))
 }
 
+#[tactic(auto, using(crate::proofs::Forward::line_end_forward))]
 // Reads a directive (l-directive, production 82) and the comments behind it.
 fn read_directive<'a>(
     alloc: Global,

@@ -8,7 +8,7 @@ use std::alloc::{AllocError, Global};
 use yf_block::look::is_blank_after;
 use yf_block::nodes::{Found, Outcome, block_node_in};
 use yf_chars::context::Ctx;
-use yf_chars::text::stands;
+use yf_chars::text::{peek, stands};
 use yf_comments::comment::Comment;
 use yf_comments::comments::{Comments, Separation};
 use yf_comments::lines::line_end;
@@ -19,9 +19,12 @@ use yf_events::events::Events;
 use yf_events::reading::DEPTH;
 use yf_events::row::Row;
 use yf_events::slices::Slices;
-use yf_lines::basic::{is_forbidden_at, mark_stands, skip_whites};
+use yf_lines::basic::{is_forbidden_at, skip_whites};
 use yf_lines::text::Text;
 use yf_props::props::Props;
+
+/// The byte order mark (c-byte-order-mark, production 3).
+const BYTE_ORDER_MARK: char = '\u{FEFF}';
 
 /// What has been read of a stream so far, in order of the text.
 #[derive(Debug, Drop)]
@@ -56,6 +59,15 @@ pub(crate) enum Next {
     Syntax(usize),
     /// The limit of open collections is passed at the byte offset.
     TooDeep(usize),
+}
+
+// A document marker.
+#[derive(Clone, Copy)]
+enum Marker {
+    // `---` (c-directives-end, production 203).
+    DocumentStart,
+    // `...` (c-document-end, production 204).
+    DocumentEnd,
 }
 
 impl<'a> Parts<'a> {
@@ -109,6 +121,7 @@ impl<'a> Parts<'a> {
     }
 }
 
+#[tactic(auto, using(crate::proofs::Forward::line_end_forward))]
 /// Goes past the byte order marks and comment lines that stand at the offset (l-document-prefix, production 202).
 pub(crate) fn skip_prefix<'a>(
     alloc: Global,
@@ -121,8 +134,8 @@ pub(crate) fn skip_prefix<'a>(
 {
     let mut at = spot.at;
     'lines: loop {
-        if mark_stands(text, at) {
-            at += 3;
+        if let Some((BYTE_ORDER_MARK, next)) = peek(text, at) {
+            at = next;
             continue;
         }
         match line_end(alloc, text, at)? {
@@ -165,12 +178,13 @@ pub(crate) fn read_next<'a>(
     requires { IsCharBoundary text.now spot.at }
     ensures { IfOk result (λ next. NextAt text.now (spot.at + 1) next) }
 {
-    if is_forbidden_at(text, spot.at) {
-        if stands(text, spot.at, b'.') {
-            return read_suffix(alloc, text, spot, parts);
+    match marker_at(text, spot.at) {
+        Some(Marker::DocumentEnd) => return read_suffix(alloc, text, spot, parts),
+        Some(Marker::DocumentStart) => {
+            parts.close(alloc, spot, false)?;
+            return explicit_document(alloc, text, spot.at, Directives::new(alloc), parts);
         }
-        parts.close(alloc, spot, false)?;
-        return explicit_document(alloc, text, spot.at, Directives::new(alloc), parts);
+        None => {}
     }
     if !spot.may_be_bare {
         return Ok(Next::Syntax(spot.reached.max(spot.at)));
@@ -181,6 +195,23 @@ pub(crate) fn read_next<'a>(
     bare_document(alloc, text, spot.at, parts)
 }
 
+// The document marker at the start of a line that begins at the offset.
+fn marker_at(text: &str, at: usize) -> Option<Marker>
+    requires { IsCharBoundary text.now at }
+    ensures { IfSome result (λ _. IsCharBoundary text.now (at + 3)) }
+{
+    if is_forbidden_at(text, at) {
+        if stands(text, at + 2, b'-') {
+            return Some(Marker::DocumentStart);
+        }
+        if stands(text, at + 2, b'.') {
+            return Some(Marker::DocumentEnd);
+        }
+    }
+    None
+}
+
+#[tactic(auto, using(crate::proofs::Forward::line_end_forward))]
 // Reads `...` (l-document-suffix, production 205).
 fn read_suffix<'a>(
     alloc: Global,
@@ -219,10 +250,8 @@ fn directive_document<'a>(
 {
     match read_directives(alloc, text, at, &mut parts.comments)? {
         Ok(DirectiveLines { directives, end }) => {
-            if is_forbidden_at(text, end) {
-                if stands(text, end, b'-') {
-                    return explicit_document(alloc, text, end, directives, parts);
-                }
+            if let Some(Marker::DocumentStart) = marker_at(text, end) {
+                return explicit_document(alloc, text, end, directives, parts);
             }
             Ok(Next::Syntax(end))
         }
@@ -243,12 +272,13 @@ fn explicit_document<'a>(
 {
     parts.open(alloc, at, true, directives)?;
     match block_node_in(alloc, text, at + 3, -1, Ctx::BlockIn, DEPTH)? {
-        Outcome::Found(found) => take_node(found, parts),
+        Outcome::Found(found) => Ok(Next::Go(take_node(found, parts)?)),
         Outcome::Nothing { reached } => empty_document(alloc, text, at + 3, reached, parts),
         Outcome::TooDeep(place) => Ok(Next::TooDeep(place)),
     }
 }
 
+#[tactic(auto, using(crate::proofs::Forward::line_end_forward))]
 // Reads what is left of the line of a `---` behind which no node stands.
 fn empty_document<'a>(
     alloc: Global,
@@ -293,14 +323,16 @@ fn bare_document<'a>(
     let start = skip_whites(text, at);
     parts.open(alloc, start, false, Directives::new(alloc))?;
     match block_node_in(alloc, text, at, -1, Ctx::BlockIn, DEPTH)? {
-        Outcome::Found(found) => take_node(found, parts),
+        Outcome::Found(found) => Ok(Next::Go(take_node(found, parts)?)),
         Outcome::Nothing { reached } => Ok(Next::Syntax(reached)),
         Outcome::TooDeep(place) => Ok(Next::TooDeep(place)),
     }
 }
 
 // Adds a document's root node.
-fn take_node<'a>(found: Found<'a>, parts: &mut Parts<'a>) -> Result<Next, AllocError> {
+fn take_node<'a>(found: Found<'a>, parts: &mut Parts<'a>) -> Result<Spot, AllocError>
+    ensures { IfOk result (λ spot. spot.at ≡ found.entry.end) }
+{
     let Found {
         part,
         end,
@@ -310,7 +342,7 @@ fn take_node<'a>(found: Found<'a>, parts: &mut Parts<'a>) -> Result<Next, AllocE
     parts.events.append(part.events)?;
     parts.comments.append(part.comments)?;
     parts.escapes.append(part.escapes)?;
-    Ok(Next::Go(behind_node(end, floor, reached)))
+    Ok(behind_node(end, floor, reached))
 }
 
 // Behind a document's root node another document needs a `---`, or a `...` before it.

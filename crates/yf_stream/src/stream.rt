@@ -2,7 +2,7 @@
 ghost use Rattle.std.specs.Prelude.{◌≡◌, ◌+◌, ◌-◌, ◌<◌, ◌≤◌, length, IfErr, IfOk, MatchResult};
 ghost use Rattle.std.specs.Str.{IsCharBoundary};
 ghost use Rattle.yf_events.specs.Reading.{Fits};
-ghost use Rattle.yf_stream.specs.Refusal.{IsStreamFault};
+ghost use Rattle.yf_stream.specs.Refusal.{InText, IsStreamFault};
 
 use crate::breaches::{Breach, Kind, Resolved, resolve};
 use crate::documents::{Next, Parts, Spot, read_next, skip_prefix};
@@ -76,6 +76,7 @@ fn fault_at(alloc: Global, text: &str, refusal: Refusal) -> Fault
 // The place of an offset. Every offset that is told stands between characters; that is not proved, so it is tested.
 fn place_of(table: &LineTable, text: &str, offset: usize) -> Place
     requires { table.now.text ≡ text.now }
+    ensures { InText text.now result }
 {
     if text.is_char_boundary(offset) {
         return table.place(offset);

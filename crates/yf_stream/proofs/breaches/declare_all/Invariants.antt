@@ -1,0 +1,5 @@
+use Rattle.std.proofs.Common.{◌≡◌}
+use Rattle.yf_stream.proofs.breaches.declare_all.Given as goal
+
+abbrev pub invariant-loop-directive : goal.invariant-loop-directive
+invariant-loop-directive l = l.resolved.tags ≡ l.fn.resolved.tags

@@ -1,0 +1,11 @@
+use Rattle.std.proofs.Common.{◌≡◌, ◌-◌, ◌≤◌, length}
+use Rattle.yf_stream.proofs.breaches.resolve.Given as goal
+
+abbrev pub invariant-documents : goal.invariant-documents
+invariant-documents l = record {
+  tags : length l.resolved.tags ≡ l.at;
+  within : l.at ≤ length l.events;
+}
+
+abbrev pub decreases-documents : goal.decreases-documents
+decreases-documents l = length l.events - l.at
