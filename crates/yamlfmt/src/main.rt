@@ -4,6 +4,8 @@
 mod command_line;
 #[cfg(test)]
 mod command_line_tests;
+#[cfg(test)]
+mod events_tests;
 mod input;
 mod program;
 #[cfg(test)]

@@ -201,11 +201,6 @@ fn reports_faults(rt: HostRuntime) -> Result<(), Fail> {
         (Fault::ReadFailed, 3, "read failed\n"),
         (Fault::WriteFailed, 3, "write failed\n"),
         (Fault::Config { key }, 3, "config: indent\n"),
-        (
-            Fault::Unsupported { place },
-            2,
-            "12:7 refused: unsupported\n",
-        ),
     ];
     for (fault, status, line) in &faults {
         let mut stream = Watched::new(Vec::new(rt.alloc()));
@@ -220,47 +215,6 @@ fn keeps_the_status_where_the_report_fails(rt: HostRuntime) {
     let mut stream = Watched::new(StuckWriter);
     assert_eq!(rt; report(&Fault::Memory, &mut stream), 3);
     assert!(rt; stream.failed());
-}
-
-#[test]
-fn prints_the_events_of_a_sequence(rt: HostRuntime) {
-    let mut reader = Watched::new(b"- a\n- b\n".as_slice());
-    let mut writer = Watched::new(Vec::new(rt.alloc()));
-    assert!(rt; run_events(rt.alloc(), &mut reader, &mut writer).is_ok());
-    let lines = b"+STR\n+DOC\n+SEQ\n=VAL :a\n=VAL :b\n-SEQ\n-DOC\n-STR\n";
-    assert_eq!(rt; writer.get_ref().as_slice(), lines.as_slice());
-}
-
-#[test]
-fn prints_what_is_plain_in_a_scalar(rt: HostRuntime) {
-    let mut reader = Watched::new(b"-\ta \n- b-c#d\n- x:y".as_slice());
-    let mut writer = Watched::new(Vec::new(rt.alloc()));
-    assert!(rt; run_events(rt.alloc(), &mut reader, &mut writer).is_ok());
-    let lines = b"+STR\n+DOC\n+SEQ\n=VAL :a\n=VAL :b-c#d\n=VAL :x:y\n-SEQ\n-DOC\n-STR\n";
-    assert_eq!(rt; writer.get_ref().as_slice(), lines.as_slice());
-}
-
-#[test]
-fn refuses_other_texts(rt: HostRuntime) {
-    let inputs = [
-        (b"- a: b\n".as_slice(), "1:1 refused: unsupported\n"),
-        (b"- a\n b\n".as_slice(), "2:1 refused: unsupported\n"),
-        (b"a\xFF".as_slice(), "byte 1 refused: not-utf8\n"),
-        (b"".as_slice(), "1:1 refused: unsupported\n"),
-    ];
-    for (input, line) in &inputs {
-        let mut reader = Watched::new(*input);
-        let mut writer = Watched::new(Vec::new(rt.alloc()));
-        match run_events(rt.alloc(), &mut reader, &mut writer) {
-            Ok(()) => panic!(rt; "accepted, and not {line}"),
-            Err(fault) => {
-                let mut stream = Watched::new(Vec::new(rt.alloc()));
-                assert_eq!(rt; report(&fault, &mut stream), 2, "{line}");
-                assert_eq!(rt; stream.get_ref().as_slice(), line.as_bytes());
-            }
-        }
-        assert!(rt; writer.get_ref().is_empty());
-    }
 }
 
 #[test]

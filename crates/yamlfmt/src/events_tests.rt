@@ -1,0 +1,318 @@
+//! The events of streams, and why streams are refused, in tables of data.
+
+use crate::command_line::{Cmd, Verb};
+use crate::program::run;
+use std::alloc::Global;
+use std::test::Fail;
+use yf_emit::style::Style;
+use yf_lines::watched::Watched;
+
+/// What `yamlfmt events` does: its status, and what it writes to the two streams.
+#[derive(Drop)]
+struct Answer {
+    status: u8,
+    output: Vec<u8>,
+    line: Vec<u8>,
+}
+
+fn events(alloc: Global, input: &[u8]) -> Answer {
+    let command = Cmd {
+        verb: Verb::Events,
+        config: None,
+        file: None,
+        write: false,
+    };
+    let mut reader = Watched::new(input);
+    let mut writer = Watched::new(Vec::new(alloc));
+    let mut error_stream = Watched::new(Vec::new(alloc));
+    let status = run(
+        alloc,
+        &command,
+        &Style::house(),
+        &mut reader,
+        &mut writer,
+        &mut error_stream,
+    );
+    Answer {
+        status,
+        output: writer.into_inner(),
+        line: error_stream.into_inner(),
+    }
+}
+
+/// The lines, which stand between ` / ` in a table.
+fn lines_of(alloc: Global, lines: &str) -> Result<String, Fail> {
+    let mut text = String::new(alloc);
+    for line in lines.split(" / ") {
+        text.push_str(line)?;
+        text.push('\n')?;
+    }
+    Ok(text)
+}
+
+/// A text, a part of it so many times, and another text.
+fn repeated(
+    alloc: Global,
+    front: &str,
+    part: &str,
+    count: usize,
+    back: &str,
+) -> Result<String, Fail> {
+    let mut text = String::from_str(alloc, front)?;
+    for _ in 0..count {
+        text.push_str(part)?;
+    }
+    text.push_str(back)?;
+    Ok(text)
+}
+
+/// Whether the input is accepted, and its events are those lines.
+fn prints(alloc: Global, input: &str, lines: &str) -> Result<bool, Fail> {
+    let answer = events(alloc, input.as_bytes());
+    let wanted = lines_of(alloc, lines)?;
+    Ok(answer.status == 0 && answer.output.as_slice() == wanted.as_str().as_bytes())
+}
+
+/// The same of a stream of one bare document with that node.
+fn prints_node(alloc: Global, input: &str, node: &str) -> Result<bool, Fail> {
+    let mut lines = String::from_str(alloc, "+STR / +DOC / ")?;
+    lines.push_str(node)?;
+    lines.push_str(" / -DOC / -STR")?;
+    prints(alloc, input, lines.as_str())
+}
+
+/// Whether the input is refused with a line that ends so, and nothing is printed.
+fn refuses(alloc: Global, input: &[u8], line_end: &str) -> bool {
+    let answer = events(alloc, input);
+    answer.status == 2
+        && answer.output.is_empty()
+        && answer.line.as_slice().ends_with(line_end.as_bytes())
+}
+
+#[test]
+fn prints_block_collections(rt: HostRuntime) -> Result<(), Fail> {
+    let rows = [
+        ("- a\n- b\n", "+SEQ / =VAL :a / =VAL :b / -SEQ"),
+        (
+            "-\ta \n- b-c#d\n- x:y",
+            "+SEQ / =VAL :a / =VAL :b-c#d / =VAL :x:y / -SEQ",
+        ),
+        ("? k\n: v\n", "+MAP / =VAL :k / =VAL :v / -MAP"),
+        (
+            "a:\n- x\n- - y\n  - z\n",
+            "+MAP / =VAL :a / +SEQ / =VAL :x / +SEQ / =VAL :y / =VAL :z / -SEQ / -SEQ / -MAP",
+        ),
+        (
+            "- &a x # c\n- *a\n- !!str y\n- # d\n",
+            "+SEQ / =VAL &a :x / =ALI *a / =VAL <tag:yaml.org,2002:str> :y / =VAL : / -SEQ",
+        ),
+        ("-", "+SEQ / =VAL : / -SEQ"),
+        (
+            "-: a\na:: b\nc: 12\n",
+            "+MAP / =VAL :- / =VAL :a / =VAL :a: / =VAL :b / =VAL :c / =VAL :12 / -MAP",
+        ),
+        (
+            "foo: &a x\nbar: {*a : y, &b: z}\n",
+            "+MAP / =VAL :foo / =VAL &a :x / =VAL :bar / +MAP {} / =ALI *a / =VAL :y / =VAL &b: :z / =VAL : / -MAP / -MAP",
+        ),
+    ];
+    for (input, node) in &rows {
+        assert!(rt; prints_node(rt.alloc(), input, node)?, "{input}");
+    }
+    Ok(())
+}
+
+#[test]
+fn prints_scalars(rt: HostRuntime) -> Result<(), Fail> {
+    let rows = [
+        (" ...\n", "=VAL :..."),
+        ("a\n%YAML 1.1\n", "=VAL :a %YAML 1.1"),
+        ("\"\\ud83d\\ude00 \\x41\"", "=VAL \"\u{1F600} A"),
+        ("\"\\0\"", "=VAL \"\\x00"),
+        ("\"a\u{FEFF}b\"", "=VAL \"a\u{FEFF}b"),
+        ("- |\n x", "+SEQ / =VAL |x / -SEQ"),
+        ("- a\n  b\n\n  c\n", "+SEQ / =VAL :a b\\nc / -SEQ"),
+        ("- a\r\n  b\r\n", "+SEQ / =VAL :a b / -SEQ"),
+        (
+            "- 'it''s'\n- \"\\r\"\n",
+            "+SEQ / =VAL 'it's / =VAL \"\\r / -SEQ",
+        ),
+        (
+            "- |2\n    x\n\n- >\n a\n b\n\n   c\n- |\n\n",
+            "+SEQ / =VAL |  x\\n / =VAL >a b\\n\\n  c\\n / =VAL | / -SEQ",
+        ),
+        (
+            "- >2-\n   a\n  b\n\n- |-\n x\n\n# c\n- y\n",
+            "+SEQ / =VAL > a\\nb / =VAL |x / =VAL :y / -SEQ",
+        ),
+    ];
+    for (input, node) in &rows {
+        assert!(rt; prints_node(rt.alloc(), input, node)?, "{input}");
+    }
+    Ok(())
+}
+
+#[test]
+fn prints_flow_collections(rt: HostRuntime) -> Result<(), Fail> {
+    let rows = [
+        (
+            "[a: b, c]\n",
+            "+SEQ [] / +MAP {} / =VAL :a / =VAL :b / -MAP / =VAL :c / -SEQ",
+        ),
+        (
+            "- {a: 1, \"b\":2, ? c}\n- []\n",
+            "+SEQ / +MAP {} / =VAL :a / =VAL :1 / =VAL \"b / =VAL :2 / =VAL :c / =VAL : / -MAP / +SEQ [] / -SEQ / -SEQ",
+        ),
+        ("[ # c\n]\n", "+SEQ [] / -SEQ"),
+        (
+            "{a: x, : # c\n v}\n",
+            "+MAP {} / =VAL :a / =VAL :x / =VAL : / =VAL :v / -MAP",
+        ),
+        (
+            "key: [\n  1\n ]\n",
+            "+MAP / =VAL :key / +SEQ [] / =VAL :1 / -SEQ / -MAP",
+        ),
+    ];
+    for (input, node) in &rows {
+        assert!(rt; prints_node(rt.alloc(), input, node)?, "{input}");
+    }
+    Ok(())
+}
+
+#[test]
+fn prints_streams(rt: HostRuntime) -> Result<(), Fail> {
+    let rows = [
+        ("", "+STR / -STR"),
+        ("# c\n\n\n# d", "+STR / -STR"),
+        ("---\n# c\n", "+STR / +DOC --- / =VAL : / -DOC / -STR"),
+        (
+            "--- |+\n a\n\n",
+            "+STR / +DOC --- / =VAL |a\\n\\n / -DOC / -STR",
+        ),
+        (
+            "%TAG !e! tag:e.com,2000:\n---\n!e!t%21 v\n",
+            "+STR / +DOC --- / =VAL <tag:e.com,2000:t!> :v / -DOC / -STR",
+        ),
+        (
+            "a\n...\n# c\n%YAML 1.1\n--- b\n",
+            "+STR / +DOC / =VAL :a / -DOC ... / +DOC --- / =VAL :b / -DOC / -STR",
+        ),
+        (
+            "%FOO a # c\n---\nx\n",
+            "+STR / +DOC --- / =VAL :x / -DOC / -STR",
+        ),
+    ];
+    for (input, lines) in &rows {
+        assert!(rt; prints(rt.alloc(), input, lines)?, "{input}");
+    }
+    Ok(())
+}
+
+#[test]
+fn refuses_what_is_no_stream(rt: HostRuntime) {
+    let inputs = [
+        "a: b: c\n",
+        "a\nb: c\n",
+        "key: [\n  1\n]\n",
+        "a:\n\tb: 1\n",
+        "- \"\\ud83d\"\n]",
+        "%YAML 1.2\nx\n",
+        "\"a",
+        "[a",
+        "{a: b",
+        "a\0b",
+        "\"a\0b\"",
+        "a\u{FEFF}b",
+        "&a x\n...\n- *a: b\n",
+        "? k\n:- a\n",
+    ];
+    for input in &inputs {
+        assert!(rt;
+            refuses(rt.alloc(), input.as_bytes(), " refused: syntax\n"),
+            "{input}"
+        );
+    }
+}
+
+#[test]
+fn refuses_breaches(rt: HostRuntime) {
+    let rows = [
+        ("\"\\ud83d\"", "1:2 refused: escape-value\n"),
+        ("- \"\\ud83d\"\n", "1:4 refused: escape-value\n"),
+        ("- \"\\ude00\\ud83d\"", "1:4 refused: escape-value\n"),
+        (
+            "- \"\\U0000d83d\\U0000de00\"",
+            "1:4 refused: escape-value\n",
+        ),
+        ("- \"\\U00110000\"", "1:4 refused: escape-value\n"),
+        ("\"\\ud83d\\x41\"", "1:2 refused: escape-value\n"),
+        ("!x!t v\n", "1:1 refused: unknown-handle\n"),
+        ("- !x!t v\n", "1:3 refused: unknown-handle\n"),
+        ("%YAML 2.0\n---\n", "1:1 refused: bad-version\n"),
+        (
+            "%YAML 1.2\n%YAML 1.2\n---\n",
+            "2:1 refused: repeated-directive\n",
+        ),
+        ("- *a\n- &a x\n", "1:3 refused: unknown-alias\n"),
+        ("&a x\n---\n*a\n", "3:1 refused: unknown-alias\n"),
+        ("- *x\n- \"\\ud83d\"\n", "1:3 refused: unknown-alias\n"),
+    ];
+    for (input, line) in &rows {
+        assert!(rt; refuses(rt.alloc(), input.as_bytes(), line), "{input}");
+    }
+}
+
+#[test]
+fn refuses_bytes_that_are_no_text(rt: HostRuntime) {
+    let rows = [
+        (b"a\n\xFF".as_slice(), "byte 2 refused: not-utf8\n"),
+        (b"\xF0\x9F\x98".as_slice(), "byte 0 refused: not-utf8\n"),
+    ];
+    for (input, line) in &rows {
+        assert!(rt; refuses(rt.alloc(), input, line), "{line}");
+    }
+}
+
+#[test]
+fn counts_the_characters_of_keys(rt: HostRuntime) -> Result<(), Fail> {
+    let rows = [
+        ("", 1024, ": v", 0),
+        ("", 1025, ": v", 2),
+        ("[", 1025, ": v]", 2),
+        ("{", 1025, ": v}", 0),
+    ];
+    for (front, count, back, status) in &rows {
+        let input = repeated(rt.alloc(), front, "k", *count, back)?;
+        let answer = events(rt.alloc(), input.as_str().as_bytes());
+        assert!(rt; answer.status == *status, "{front}");
+    }
+    Ok(())
+}
+
+#[test]
+fn counts_open_collections(rt: HostRuntime) -> Result<(), Fail> {
+    let accepted = [("- ", 1024, "a")];
+    for (part, count, back) in &accepted {
+        let input = repeated(rt.alloc(), "", part, *count, back)?;
+        assert!(rt;
+            events(rt.alloc(), input.as_str().as_bytes()).status == 0,
+            "{part}"
+        );
+    }
+    let refused = [("- ", 1025), ("[", 1025), ("[", 1_000_000)];
+    for (part, count) in &refused {
+        let input = repeated(rt.alloc(), "", part, *count, "")?;
+        assert!(rt;
+            refuses(
+                rt.alloc(),
+                input.as_str().as_bytes(),
+                " refused: too-deep\n"
+            ),
+            "{part}"
+        );
+    }
+    let open = repeated(rt.alloc(), "", "[", 1024, "")?;
+    let input = repeated(rt.alloc(), open.as_str(), "]", 1024, "")?;
+    assert!(rt; events(rt.alloc(), input.as_str().as_bytes()).status == 0);
+    Ok(())
+}
