@@ -1,2 +1,4 @@
 pub mod Refusal
+pub mod Stream
 pub mod Walk
+pub mod WellFormed

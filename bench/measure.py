@@ -1,0 +1,82 @@
+#!/usr/bin/env python3
+"""Times yamlfmt on ordinary configuration text of 1 and 16 MB, and prints the ratio of the two times and the peak memory.
+
+Usage: bench/measure.py [PROGRAM]     (default: the program that ./yamlfmt builds; build it first)
+
+Where fy-tool is installed, its `--testsuite` output is timed on the same files. Not part of rt ci.
+"""
+import os
+import shutil
+import subprocess
+import sys
+import tempfile
+import time
+
+TOP = os.path.dirname(os.path.dirname(os.path.abspath(__file__)))
+
+ENTRY = '''service-%d:
+  image: "registry.example.com/team/service:%d"
+  command: [serve, --port, "80%02d", --verbose]
+  # restarted by the scheduler
+  restart: always
+  environment:
+    - name: LOG_LEVEL
+      value: info
+    - name: GREETING
+      value: 'it''s up'
+  resources: {limits: {cpu: 2, memory: 512Mi}, requests: {cpu: 1}}
+  notes: |
+    First line of %d.
+      indented
+
+'''
+
+
+def text_of(size):
+    parts, length, i = [], 0, 0
+    while length < size:
+        entry = ENTRY % (i, i, i % 100, i)
+        parts.append(entry)
+        length += len(entry)
+        i += 1
+    return ''.join(parts)
+
+
+def run(words, path):
+    """Seconds, and the peak of resident memory in bytes."""
+    with open(path, 'rb') as source:
+        start = time.monotonic()
+        child = subprocess.Popen(words, stdin=source, stdout=subprocess.DEVNULL)
+        _, status, usage = os.wait4(child.pid, 0)
+        seconds = time.monotonic() - start
+    if status != 0:
+        sys.exit('%s: status %d' % (' '.join(words), status))
+    return seconds, usage.ru_maxrss * 1024
+
+
+def measure(name, words, files):
+    seconds = []
+    for path, size in files:
+        best = min(run(words, path) for _ in range(2))
+        seconds.append(best[0])
+        print('%-24s %9d bytes  %7.2f s  %6.1f bytes of memory a byte of input' % (name, size, best[0], best[1] / size))
+    print('%-24s ratio of the times %.1f' % (name, seconds[1] / seconds[0]))
+
+
+def main():
+    program = sys.argv[1] if len(sys.argv) > 1 else os.path.join(TOP, 'crates/yamlfmt/out/yamlfmt')
+    with tempfile.TemporaryDirectory() as folder:
+        files = []
+        for megabytes in (1, 16):
+            path = os.path.join(folder, '%d.yaml' % megabytes)
+            with open(path, 'w') as out:
+                out.write(text_of(megabytes << 20))
+            files.append((path, os.path.getsize(path)))
+        measure('yamlfmt events', [program, 'events'], files)
+        peer = shutil.which('fy-tool')
+        if peer:
+            measure('fy-tool --testsuite', [peer, '--testsuite', '-'], files)
+
+
+if __name__ == '__main__':
+    main()
