@@ -1,7 +1,11 @@
 //! Behind a node, at the start of a line: the next entry of an open collection, or the end of collections.
+ghost use Rattle.std.specs.Prelude.{◌≡◌, ◌+◌, ◌-◌, ◌*◌, ◌<◌, ◌≤◌, length, IfOk};
+ghost use Rattle.std.specs.List.{All};
+ghost use Rattle.std.specs.Str.{IsCharBoundary};
+ghost use Rattle.yf_block.specs.Machine.{Ready, left, ProgressAt, MayPlace, FitsAt};
 
 use crate::entry::{take_entry, take_explicit_value, take_item};
-use crate::frame::{Frame, Kind, Open, Progress, Scope, State, Step};
+use crate::frame::{Frame, Frames, Kind, Progress, Scope, State, Step};
 use crate::look::{dash_stands, entry_place, sign_stands};
 use std::alloc::{AllocError, Global};
 use yf_events::event::Event;
@@ -25,14 +29,21 @@ pub(crate) fn resume<'a>(
     scope: Scope<'a>,
     at: usize,
     progress: Progress<'a>,
-    open: &mut Open,
+    frames: &mut Frames,
     part: &mut Part<'a>,
-) -> Result<State<'a>, AllocError> {
+) -> Result<State<'a>, AllocError>
+    requires boundary { IsCharBoundary scope.text.now at }
+    requires progress { ProgressAt scope.text.now progress }
+    requires escapes { All (IsCharBoundary scope.text.now) part.old.escapes }
+    ensures ready { IfOk result (λ s. Ready scope.entry.text.now (at) s) }
+    ensures moves { IfOk result (λ s. left (length scope.entry.text.now) s.step < 3 * (length scope.entry.text.now - at) + 1) }
+    ensures escapes { IfOk result (λ _. All (IsCharBoundary scope.entry.text.now) part.new.escapes) }
+{
     let place = entry_place(scope.text, at);
-    'frames: while let Some(frame) = open.pop() {
+    'frames: while let Some(frame) = frames.pop() {
         match fit_of(scope.text, at, place, frame) {
             Fit::Entry(start) => return next_entry(
-                alloc, scope, start, frame, progress, open, part,
+                alloc, scope, start, frame, progress, frames, part,
             ),
             Fit::Deeper(start) => return Ok(progress.and_then(Step::Failed(start))),
             Fit::Behind => end_collection(alloc, frame, progress.last, part)?,
@@ -42,7 +53,10 @@ pub(crate) fn resume<'a>(
 }
 
 // What the line at an offset is to a collection; the place is that of its first character, if an entry may begin there.
-fn fit_of(text: &str, at: usize, place: Option<usize>, frame: Frame) -> Fit {
+fn fit_of(text: &str, at: usize, place: Option<usize>, frame: Frame) -> Fit
+    requires { MayPlace text.now at place }
+    ensures { FitsAt text.now at result }
+{
     match place {
         None => Fit::Behind,
         Some(start) => {
@@ -73,19 +87,26 @@ fn next_entry<'a>(
     at: usize,
     frame: Frame,
     progress: Progress<'a>,
-    open: &mut Open,
+    frames: &mut Frames,
     part: &mut Part<'a>,
-) -> Result<State<'a>, AllocError> {
+) -> Result<State<'a>, AllocError>
+    requires boundary { IsCharBoundary scope.text.now at }
+    requires progress { ProgressAt scope.text.now progress }
+    requires escapes { All (IsCharBoundary scope.text.now) part.old.escapes }
+    ensures ready { IfOk result (λ s. Ready scope.entry.text.now (at) s) }
+    ensures moves { IfOk result (λ s. left (length scope.entry.text.now) s.step ≤ 3 * (length scope.entry.text.now - at)) }
+    ensures escapes { IfOk result (λ _. All (IsCharBoundary scope.entry.text.now) part.new.escapes) }
+{
     match frame.kind {
-        Kind::Sequence => take_item(scope.text, at, frame, progress, open),
+        Kind::Sequence => take_item(scope.text, at, frame, progress, frames),
         Kind::Mapping => {
             if frame.awaits_colon {
                 if sign_stands(scope.text, at, b':') {
-                    return take_explicit_value(at, frame, progress, open, part);
+                    return take_explicit_value(at, frame, progress, frames, part);
                 }
                 part.events.push(empty_node(alloc, None))?;
             }
-            take_entry(alloc, scope, at, frame, progress, open, part)
+            take_entry(alloc, scope, at, frame, progress, frames, part)
         }
     }
 }
@@ -96,7 +117,9 @@ fn end_collection<'a>(
     frame: Frame,
     last: usize,
     part: &mut Part<'a>,
-) -> Result<(), AllocError> {
+) -> Result<(), AllocError>
+    ensures escapes { IfOk result (λ _. part.new.escapes ≡ part.old.escapes) }
+{
     let event = match frame.kind {
         Kind::Sequence => Event::SeqEnd,
         Kind::Mapping => Event::MapEnd,
