@@ -20,7 +20,6 @@ use yf_events::event::{Event, PlacedEvent, ScalarStyle, Span};
 use yf_events::part::Part;
 use yf_events::slices::Slices;
 use yf_flow::node::Lead;
-use yf_lines::basic::is_line_start;
 use yf_lines::text::{OwnedText, Text};
 
 /// Reads the block scalar whose `|` or `>` stands at an offset (s-l+block-scalar, production 199).
