@@ -15,7 +15,7 @@ use Rattle.yf_block.specs.declared.halt.Halt.{Halt}
 use Rattle.yf_block.specs.declared.held.Held.{Held}
 use Rattle.yf_block.specs.declared.halt.Plain.{Plain}
 use Rattle.yf_block.specs.declared.resume.Fit.{Fit}
-use Rattle.yf_block.specs.declared.resume.Fit.TheVariants.{Entry as EntryAt, Deeper, Behind}
+use Rattle.yf_block.specs.declared.resume.Fit.TheVariants.{Item, Entry as EntryAt, Deeper, Behind}
 use Rattle.yf_block.specs.declared.nodes.Outcome.{Outcome}
 use Rattle.yf_block.specs.declared.nodes.Outcome.TheVariants.{Found, Nothing as NoNode, TooDeep as TooDeepHere}
 use Rattle.yf_block.specs.declared.nodes.Stop.{Stop}
@@ -98,6 +98,7 @@ MayPlace t at None = Unit {0}
 MayPlace t at (Some p) = Place t at p
 
 abbrev pub FitsAt : List ℕ → ℕ → Fit → Type 0
+FitsAt t at (Item p) = Place t at p × IsCharBoundary t (p + 1)
 FitsAt t at (EntryAt p) = Place t at p
 FitsAt t at (Deeper p) = IsCharBoundary t p
 FitsAt t at Behind = Unit {0}

@@ -9,6 +9,7 @@ use crate::entry::{await_value, collection_start, entry_at, open_mapping};
 use crate::frame::{Frame, Frames, Kind, Progress, Scope, State, Step, Wanted};
 use crate::halt::{Counts, Plain, note_node, note_shorter};
 use crate::held::{Held, joined, joined_behind, lead_of, line_properties, place_behind};
+use crate::leaf::read_line_end;
 use crate::line::end_line;
 use crate::look::{key_ends, line_ends, sign_stands};
 use crate::scalar::take_block_scalar;
@@ -16,7 +17,6 @@ use std::alloc::{AllocError, Global};
 use yf_chars::context::Ctx;
 use yf_chars::text::stands;
 use yf_comments::comments::Separation;
-use yf_comments::lines::line_end;
 use yf_events::event::{Entry, Event, PlacedEvent, ScalarStyle};
 use yf_events::part::Part;
 use yf_flow::frame::{Node, Scene};
@@ -404,7 +404,7 @@ fn end_inline<'a>(
     ensures moves { IfOk result (λ s. left (length text.now) s.step ≤ 3 * (length text.now - at) + 1) }
     ensures escapes { IfOk result (λ _. part.new.escapes ≡ part.old.escapes) }
 {
-    match line_end(alloc, text, at)? {
+    match read_line_end(alloc, text, at)? {
         Some(Separation { comments, end }) => {
             part.comments.append(comments)?;
             let progress = note_node(text, at, end, plain, progress, frames, part);
@@ -457,7 +457,7 @@ fn begin_mapping<'a>(
     }
 }
 
-// Puts an event before the one at an index, which begins that entry.
+// Puts an event before the one at an index, which begins that entry. Past the end nothing is changed.
 fn put_before<'a>(
     event: usize,
     start: PlacedEvent<'a>,
@@ -468,6 +468,8 @@ fn put_before<'a>(
 {
     if event < part.events.len() {
         part.events.set_entry(event, entry);
+    }
+    if event <= part.events.len() {
         part.events.insert(event, start)?;
     }
     Ok(())

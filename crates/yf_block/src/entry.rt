@@ -16,7 +16,9 @@ use yf_flow::nodes::Ending;
 use yf_lines::basic::skip_whites;
 
 /// The entry that begins at an offset.
-pub(crate) fn entry_at(text: &str, floor: usize, start: usize, colon: Option<usize>) -> Entry {
+pub(crate) fn entry_at(text: &str, floor: usize, start: usize, colon: Option<usize>) -> Entry
+    ensures { result.start ≡ start }
+{
     Entry {
         start,
         colon,

@@ -1,5 +1,5 @@
 //! The part that a halt keeps: its events, with the ends of the collections that are open in them.
-ghost use Rattle.std.specs.Prelude.{◌≡◌, IfOk};
+ghost use Rattle.std.specs.Prelude.{◌≡◌, ◌≤◌, length, IfOk};
 ghost use Rattle.std.specs.List.{All};
 ghost use Rattle.std.specs.Str.{IsCharBoundary};
 ghost use Rattle.yf_block.specs.Machine.{HaltAt};
@@ -178,7 +178,9 @@ fn pass(event: &Event, index: usize, nest: &mut Nest) -> Result<(), AllocError> 
 }
 
 // Goes on behind a node.
-fn pass_node(nest: &mut Nest) -> Result<(), AllocError> {
+fn pass_node(nest: &mut Nest) -> Result<(), AllocError>
+    ensures { IfOk result (λ _. length nest.new.items ≤ length nest.old.items) }
+{
     match nest.pop() {
         None => Ok(()),
         Some(collection) => {

@@ -3,14 +3,14 @@ ghost use Rattle.std.specs.Prelude.{◌≡◌, ◌+◌, IfOk, IfSome};
 ghost use Rattle.std.specs.Str.{IsCharBoundary};
 ghost use Rattle.yf_flow.specs.Machine.{Place};
 
+use crate::leaf::read_properties;
 use crate::look::sign_stands;
 use std::alloc::{AllocError, Global};
-use yf_chars::context::Ctx;
 use yf_chars::text::stands;
 use yf_events::event::Entry;
 use yf_flow::node::Lead;
 use yf_lines::basic::skip_whites;
-use yf_props::properties::{Properties, node_properties};
+use yf_props::properties::Properties;
 use yf_props::props::Props;
 
 /// Properties, from one byte offset to another.
@@ -50,7 +50,7 @@ pub(crate) fn line_properties<'a>(
 ) -> Result<Option<Held<'a>>, AllocError>
     ensures { IfOk result (λ o. IfSome o (λ h. Place text.now (at + 1) h.end)) }
 {
-    match node_properties(alloc, text, at, 0, Ctx::FlowKey)? {
+    match read_properties(alloc, text, at)? {
         Some(
             Properties {
                 props,

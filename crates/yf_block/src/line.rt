@@ -10,10 +10,10 @@ use crate::entry::open_sequence;
 use crate::frame::{Awaited, Frames, Fresh, Progress, Scope, State, Step, Wanted};
 use crate::halt::note_empty;
 use crate::held::Held;
+use crate::leaf::read_line_end;
 use crate::look::{dash_stands, line_ends, node_ends};
 use std::alloc::{AllocError, Global};
 use yf_comments::comments::Separation;
-use yf_comments::lines::line_end;
 use yf_events::event::ScalarStyle;
 use yf_events::part::Part;
 use yf_flow::node::{empty_node, push_scalar};
@@ -61,7 +61,7 @@ pub(crate) fn end_line<'a>(
     ensures moves { IfOk result (λ s. left (length text.now) s.step ≤ 3 * (length text.now - at) + 2) }
     ensures escapes { IfOk result (λ _. part.new.escapes ≡ part.old.escapes) }
 {
-    match line_end(alloc, text, at)? {
+    match read_line_end(alloc, text, at)? {
         Some(Separation { comments, end }) => {
             part.comments.append(comments)?;
             Ok(progress.and_then(Step::Line(Fresh {

@@ -2,7 +2,7 @@
 ghost use Rattle.std.specs.Prelude.{◌≡◌, ◌<◌, [], true, IfOk};
 ghost use Rattle.std.specs.List.{All};
 ghost use Rattle.std.specs.Str.{IsCharBoundary};
-ghost use Rattle.yf_block.specs.Machine.{Ready, MayHalt, StopAt, OutcomeAt};
+ghost use Rattle.yf_block.specs.Machine.{ProgressAt, Ready, MayHalt, StopAt, OutcomeAt};
 
 use crate::finish::cut_back;
 use crate::frame::{Awaited, Frames, Progress, Scope, State, Step, Wanted};
@@ -115,6 +115,17 @@ fn new_part<'a>(alloc: Global) -> Part<'a>
     }
 }
 
+// Nothing has been read yet of the text, which is read from an offset on.
+fn no_progress<'a>(_text: &str, at: usize) -> Progress<'a>
+    ensures { ProgressAt _text.now result }
+{
+    Progress {
+        last: at,
+        floor: 0,
+        halt: None,
+    }
+}
+
 // The first step: at the start of a line, or within one.
 fn begin<'a>(
     alloc: Global,
@@ -127,11 +138,7 @@ fn begin<'a>(
     ensures ready { IfOk result (λ s. Ready text.now at s) }
     ensures escapes { IfOk result (λ _. part.new.escapes ≡ part.old.escapes) }
 {
-    let progress = Progress {
-        last: at,
-        floor: 0,
-        halt: None,
-    };
+    let progress = no_progress(text, at);
     if is_line_start(text, at) {
         return first_line(alloc, text, at, wanted, progress, part);
     }

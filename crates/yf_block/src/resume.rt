@@ -15,7 +15,9 @@ use yf_flow::node::{empty_node, unplaced};
 // What a line is to an open collection.
 #[derive(Clone, Copy)]
 enum Fit {
-    // An entry begins at the offset.
+    // The next entry of a sequence begins at the offset.
+    Item(usize),
+    // The next entry of a mapping, or the `:` of one with a `?`.
     Entry(usize),
     // It is indented more than the entries are, up to the offset.
     Deeper(usize),
@@ -42,9 +44,10 @@ pub(crate) fn resume<'a>(
     let place = entry_place(scope.text, at);
     'frames: while let Some(frame) = frames.pop() {
         match fit_of(scope.text, at, place, frame) {
-            Fit::Entry(start) => return next_entry(
-                alloc, scope, start, frame, progress, frames, part,
-            ),
+            Fit::Item(start) => return take_item(scope.text, start, frame, progress, frames),
+            Fit::Entry(start) => {
+                return next_entry(alloc, scope, start, frame, progress, frames, part);
+            }
             Fit::Deeper(start) => return Ok(progress.and_then(Step::Failed(start))),
             Fit::Behind => end_collection(alloc, frame, progress.last, part)?,
         }
@@ -70,7 +73,7 @@ fn fit_of(text: &str, at: usize, place: Option<usize>, frame: Frame) -> Fit
             match frame.kind {
                 Kind::Sequence => {
                     if dash_stands(text, start) {
-                        return Fit::Entry(start);
+                        return Fit::Item(start);
                     }
                     Fit::Behind
                 }
@@ -80,7 +83,7 @@ fn fit_of(text: &str, at: usize, place: Option<usize>, frame: Frame) -> Fit
     }
 }
 
-// The next entry of a collection, or the `:` of an entry with a `?`.
+// The next entry of a mapping, or the `:` of an entry with a `?`.
 fn next_entry<'a>(
     alloc: Global,
     scope: Scope<'a>,
@@ -97,18 +100,13 @@ fn next_entry<'a>(
     ensures moves { IfOk result (λ s. left (length scope.entry.text.now) s.step ≤ 3 * (length scope.entry.text.now - at)) }
     ensures escapes { IfOk result (λ _. All (IsCharBoundary scope.entry.text.now) part.new.escapes) }
 {
-    match frame.kind {
-        Kind::Sequence => take_item(scope.text, at, frame, progress, frames),
-        Kind::Mapping => {
-            if frame.awaits_colon {
-                if sign_stands(scope.text, at, b':') {
-                    return take_explicit_value(at, frame, progress, frames, part);
-                }
-                part.events.push(empty_node(alloc, None))?;
-            }
-            take_entry(alloc, scope, at, frame, progress, frames, part)
+    if frame.awaits_colon {
+        if sign_stands(scope.text, at, b':') {
+            return take_explicit_value(at, frame, progress, frames, part);
         }
+        part.events.push(empty_node(alloc, None))?;
     }
+    take_entry(alloc, scope, at, frame, progress, frames, part)
 }
 
 // Ends a collection whose last node or indicator ends at an offset.

@@ -5,17 +5,16 @@ ghost use Rattle.yf_lines.specs.Basic.{LineStart};
 ghost use Rattle.yf_flow.specs.Machine.{Place};
 ghost use Rattle.yf_block.specs.Machine.{Ready, left, ProgressAt};
 
-use crate::content::flow_indentation;
 use crate::frame::{Frames, Progress, Scope, State, Step};
 use crate::halt::note_node;
+use crate::leaf::{read_header, read_lines};
 use crate::look::skip_lines;
 use std::alloc::{AllocError, Global};
 use yf_block_scalar::body::BlockText;
 use yf_block_scalar::content::content;
-use yf_block_scalar::header::{Chomp, Header};
-use yf_block_scalar::header_reader::{HeaderLine, block_header};
+use yf_block_scalar::header::Chomp;
+use yf_block_scalar::header_reader::HeaderLine;
 use yf_block_scalar::lines::Lines;
-use yf_block_scalar::reader::block_body;
 use yf_events::event::{Event, PlacedEvent, ScalarStyle, Span};
 use yf_events::part::Part;
 use yf_events::slices::Slices;
@@ -39,7 +38,7 @@ pub(crate) fn take_block_scalar<'a>(
     ensures moves { IfOk result (λ s. left (length scope.entry.text.now) s.step ≤ 3 * (length scope.entry.text.now - at)) }
     ensures escapes { IfOk result (λ _. part.new.escapes ≡ part.old.escapes) }
 {
-    match block_header(scope.text, at) {
+    match read_header(scope.text, at) {
         None => Ok(progress.and_then(Step::Failed(at))),
         Some(
             HeaderLine {
@@ -59,21 +58,6 @@ pub(crate) fn take_block_scalar<'a>(
             }
         }
     }
-}
-
-// Reads the lines behind a header, which ends at an offset.
-fn read_lines<'a>(
-    alloc: Global,
-    text: &'a str,
-    at: usize,
-    least: usize,
-    header: Header,
-) -> Result<Option<BlockText<'a>>, AllocError>
-    requires boundary { IsCharBoundary text.now at }
-    requires starts { at < length text.now → LineStart text.now at }
-    ensures { IfOk result (λ o. IfSome o (λ b. Place text.now at b.next)) }
-{
-    block_body(alloc, text, at, flow_indentation(least) - 1, header)
 }
 
 // Adds a block scalar whose lines have been read from an offset on.
