@@ -350,13 +350,7 @@ fn finish_inline<'a>(
             if node.deepest.max(frames.len()) >= scope.limit {
                 return Ok(progress.and_then(Step::TooDeep(spot.at)));
             }
-            let frame = Frame {
-                kind: Kind::Mapping,
-                column,
-                event: claim.before.events,
-                entry_event: 0,
-                awaits_colon: false,
-            };
+            let frame = Frame::new(Kind::Mapping, column, claim.before.events);
             let entry = entry_at(text, progress.floor, spot.at, Some(colon));
             begin_mapping(alloc, scope, behind, claim, entry, frames.len(), part)?;
             frames.push(frame)?;

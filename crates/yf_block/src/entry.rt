@@ -66,13 +66,7 @@ pub(crate) fn open_sequence<'a>(
     ensures moves { IfOk result (λ s. left (length scope.entry.text.now) s.step ≤ 3 * (length scope.entry.text.now - spot.entry.at)) }
     ensures escapes { IfOk result (λ _. part.new.escapes ≡ part.old.escapes) }
 {
-    let frame = Frame {
-        kind: Kind::Sequence,
-        column,
-        event: part.events.len(),
-        entry_event: 0,
-        awaits_colon: false,
-    };
+    let frame = Frame::new(Kind::Sequence, column, part.events.len());
     if frames.len() >= scope.limit {
         return Ok(progress.and_then(Step::TooDeep(spot.at)));
     }
@@ -180,13 +174,7 @@ pub(crate) fn open_mapping<'a>(
     ensures moves { IfOk result (λ s. left (length scope.entry.text.now) s.step ≤ 3 * (length scope.entry.text.now - spot.entry.at)) }
     ensures escapes { IfOk result (λ _. All (IsCharBoundary scope.entry.text.now) part.new.escapes) }
 {
-    let frame = Frame {
-        kind: Kind::Mapping,
-        column,
-        event: part.events.len(),
-        entry_event: 0,
-        awaits_colon: false,
-    };
+    let frame = Frame::new(Kind::Mapping, column, part.events.len());
     if frames.len() >= scope.limit {
         return Ok(progress.and_then(Step::TooDeep(spot.at)));
     }

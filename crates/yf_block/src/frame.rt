@@ -106,6 +106,19 @@ pub(crate) struct State<'a> {
     pub(crate) step: Step<'a>,
 }
 
+impl Frame {
+    /// A collection whose entries stand at a column, and which begins with the event at an index.
+    pub(crate) fn new(kind: Kind, column: usize, event: usize) -> Frame {
+        Frame {
+            kind,
+            column,
+            event,
+            entry_event: event,
+            awaits_colon: false,
+        }
+    }
+}
+
 impl<'a> Progress<'a> {
     /// The same, where the last node or indicator ends at an offset.
     pub(crate) fn reaching(self, last: usize) -> Progress<'a>
