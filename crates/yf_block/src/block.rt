@@ -1,4 +1,7 @@
 //! The readers of block nodes over a text with its lines.
+ghost use Rattle.std.specs.Prelude.{◌+◌, IfSome, MatchResult};
+ghost use Rattle.std.specs.Str.{IsCharBoundary};
+ghost use Rattle.yf_flow.specs.Machine.{Place, IsReadFault, IsScanFault};
 
 use crate::nodes::{Found, Outcome, block_node_in};
 use std::alloc::{AllocError, Global};
@@ -24,7 +27,10 @@ pub fn read_block_node<'a>(
     at: usize,
     n: i32,
     ctx: Ctx,
-) -> Result<Option<NodePart<'a>>, Fault> {
+) -> Result<Option<NodePart<'a>>, Fault>
+    requires { IsCharBoundary src.now.text at }
+    ensures { MatchResult result (λ o. IfSome o (λ p. Place src.now.text (at + 1) p.end)) IsReadFault }
+{
     match scan_block_node(alloc, src, at, n, ctx) {
         Ok(None) => Ok(None),
         Ok(
@@ -60,7 +66,10 @@ pub fn scan_block_node<'a>(
     at: usize,
     n: i32,
     ctx: Ctx,
-) -> Result<Option<ScannedPart<'a>>, Fault> {
+) -> Result<Option<ScannedPart<'a>>, Fault>
+    requires { IsCharBoundary src.now.text at }
+    ensures { MatchResult result (λ o. IfSome o (λ p. Place src.now.text (at + 1) p.end)) IsScanFault }
+{
     match block_node_in(alloc, src.text(), at, n, ctx, DEPTH) {
         Ok(
             Outcome::Found(

@@ -1,17 +1,22 @@
 //! What a node has on one line: properties, an implicit key with which a mapping begins, a flow node, a block scalar.
+ghost use Rattle.std.specs.Prelude.{◌≡◌, ◌+◌, ◌-◌, ◌*◌, ◌^◌, ◌≤◌, ◌≤ℤ◌, pos, length, IfOk};
+ghost use Rattle.std.specs.List.{All};
+ghost use Rattle.std.specs.Str.{IsCharBoundary};
+ghost use Rattle.yf_flow.specs.Machine.{Place, EndingAt};
+ghost use Rattle.yf_block.specs.Machine.{Ready, left, ProgressAt, HeldTo, HeldBefore, behind_held, MayBoundary, IsEndAt};
 
 use crate::entry::{await_value, collection_start, entry_at, open_mapping};
-use crate::frame::{Frame, Kind, Open, Progress, Scope, State, Step, Wanted};
+use crate::frame::{Frame, Frames, Kind, Progress, Scope, State, Step, Wanted};
+use crate::halt::{Counts, Plain, note_node, note_shorter};
 use crate::held::{Held, joined, joined_behind, lead_of, line_properties, place_behind};
+use crate::leaf::read_line_end;
 use crate::line::end_line;
 use crate::look::{key_ends, line_ends, sign_stands};
-use crate::record::{Counts, Plain, note_node, note_shorter};
 use crate::scalar::take_block_scalar;
 use std::alloc::{AllocError, Global};
 use yf_chars::context::Ctx;
 use yf_chars::text::stands;
 use yf_comments::comments::Separation;
-use yf_comments::lines::line_end;
 use yf_events::event::{Entry, Event, PlacedEvent, ScalarStyle};
 use yf_events::part::Part;
 use yf_flow::frame::{Node, Scene};
@@ -68,12 +73,19 @@ pub(crate) fn take_content<'a>(
     scope: Scope<'a>,
     spot: Spot<'a>,
     progress: Progress<'a>,
-    open: &mut Open,
+    frames: &mut Frames,
     part: &mut Part<'a>,
-) -> Result<State<'a>, AllocError> {
+) -> Result<State<'a>, AllocError>
+    requires boundary { IsCharBoundary scope.text.now spot.at }
+    requires progress { ProgressAt scope.text.now progress }
+    requires escapes { All (IsCharBoundary scope.text.now) part.old.escapes }
+    ensures ready { IfOk result (λ s. Ready scope.entry.text.now (spot.entry.at) s) }
+    ensures moves { IfOk result (λ s. left (length scope.entry.text.now) s.step ≤ 3 * (length scope.entry.text.now - spot.entry.at)) }
+    ensures escapes { IfOk result (λ _. All (IsCharBoundary scope.entry.text.now) part.new.escapes) }
+{
     if let Some(column) = spot.column {
         if entry_sign_stands(scope.text, spot.at) {
-            return open_mapping(alloc, scope, spot, column, progress, open, part);
+            return open_mapping(alloc, scope, spot, column, progress, frames, part);
         }
     }
     match line_properties(alloc, scope.text, spot.at)? {
@@ -83,9 +95,9 @@ pub(crate) fn take_content<'a>(
                 inner: None,
                 spot,
             };
-            take_behind(alloc, scope, behind, progress, open, part)
+            take_behind(alloc, scope, behind, progress, frames, part)
         }
-        Some(inner) => take_propertied(alloc, scope, inner, spot, progress, open, part),
+        Some(inner) => take_propertied(alloc, scope, inner, spot, progress, frames, part),
     }
 }
 
@@ -104,9 +116,17 @@ fn take_propertied<'a>(
     inner: Held<'a>,
     spot: Spot<'a>,
     progress: Progress<'a>,
-    open: &mut Open,
+    frames: &mut Frames,
     part: &mut Part<'a>,
-) -> Result<State<'a>, AllocError> {
+) -> Result<State<'a>, AllocError>
+    requires boundary { IsCharBoundary scope.text.now spot.at }
+    requires inner { Place scope.text.now (spot.at + 1) inner.end }
+    requires progress { ProgressAt scope.text.now progress }
+    requires escapes { All (IsCharBoundary scope.text.now) part.old.escapes }
+    ensures ready { IfOk result (λ s. Ready scope.entry.text.now (spot.entry.at) s) }
+    ensures moves { IfOk result (λ s. left (length scope.entry.text.now) s.step ≤ 3 * (length scope.entry.text.now - spot.entry.at)) }
+    ensures escapes { IfOk result (λ _. All (IsCharBoundary scope.entry.text.now) part.new.escapes) }
+{
     let place = skip_whites(scope.text, inner.end);
     if line_ends(scope.text, place, place > inner.end) {
         return match joined_behind(spot.outer, inner) {
@@ -130,7 +150,7 @@ fn take_propertied<'a>(
                 inner: Some(inner),
                 spot,
             };
-            take_behind(alloc, scope, behind, progress, open, part)
+            take_behind(alloc, scope, behind, progress, frames, part)
         }
     }
 }
@@ -141,9 +161,18 @@ fn take_behind<'a>(
     scope: Scope<'a>,
     behind: Behind<'a>,
     progress: Progress<'a>,
-    open: &mut Open,
+    frames: &mut Frames,
     part: &mut Part<'a>,
-) -> Result<State<'a>, AllocError> {
+) -> Result<State<'a>, AllocError>
+    requires boundary { IsCharBoundary scope.text.now behind.at }
+    requires start { IsCharBoundary scope.text.now behind.spot.at }
+    requires held { HeldTo scope.text.now behind.spot.at behind.at behind.inner }
+    requires progress { ProgressAt scope.text.now progress }
+    requires escapes { All (IsCharBoundary scope.text.now) part.old.escapes }
+    ensures ready { IfOk result (λ s. Ready scope.entry.text.now (behind.entry.spot.at) s) }
+    ensures moves { IfOk result (λ s. left (length scope.entry.text.now) s.step ≤ 3 * (length scope.entry.text.now - behind.entry.spot.at)) }
+    ensures escapes { IfOk result (λ _. All (IsCharBoundary scope.entry.text.now) part.new.escapes) }
+{
     let claim = claim_of(scope.text, behind, part);
     if block_scalar_stands(scope.text, behind.at) {
         return match claim.share {
@@ -155,7 +184,7 @@ fn take_behind<'a>(
                 claim.lead,
                 behind.spot.wanted.least,
                 progress,
-                open,
+                frames,
                 part,
             ),
         };
@@ -167,10 +196,12 @@ fn take_behind<'a>(
         behind.at,
         behind.inner,
         claim.lead,
-        open.len(),
+        frames.len(),
         part,
     )? {
-        Ending::End(node) => finish_inline(alloc, scope, behind, claim, node, progress, open, part),
+        Ending::End(node) => finish_inline(
+            alloc, scope, behind, claim, node, progress, frames, part,
+        ),
         Ending::Nothing => Ok(progress.and_then(Step::Failed(behind.at))),
         Ending::TooDeep(place) => Ok(progress.and_then(Step::TooDeep(place))),
     }
@@ -227,7 +258,13 @@ pub(crate) fn read_inline<'a>(
     lead: Lead<'a>,
     depth: usize,
     part: &mut Part<'a>,
-) -> Result<Ending, AllocError> {
+) -> Result<Ending, AllocError>
+    requires boundary { IsCharBoundary scope.text.now at }
+    requires held { HeldBefore scope.text.now at inner }
+    requires escapes { All (IsCharBoundary scope.text.now) part.old.escapes }
+    ensures escapes { IfOk result (λ _. All (IsCharBoundary scope.entry.text.now) part.new.escapes) }
+    ensures found { IfOk result (λ e. EndingAt scope.entry.text.now (behind_held at inner.entry) e) }
+{
     if let Some(held) = inner {
         if sign_stands(scope.text, at, b':') {
             push_scalar(
@@ -263,7 +300,9 @@ pub(crate) fn read_inline<'a>(
     read_content(alloc, scene, at, lead, depth, part)
 }
 
-fn inline_end(end: usize, depth: usize) -> Ending {
+fn inline_end(end: usize, depth: usize) -> Ending
+    ensures { IsEndAt end result }
+{
     Ending::End(Node {
         end,
         json: false,
@@ -275,7 +314,10 @@ fn inline_end(end: usize, depth: usize) -> Ending {
 const WIDEST: usize = 1 << 30;
 
 /// The indentation of that many spaces as a number; past 2^30 it is 2^30.
-pub(crate) fn flow_indentation(least: usize) -> i32 {
+pub(crate) fn flow_indentation(least: usize) -> i32
+    ensures upper { result ≤ℤ pos (2 ^ 30) }
+    ensures lower { pos 0 ≤ℤ result }
+{
     least.min(WIDEST) as i32
 }
 
@@ -287,27 +329,31 @@ fn finish_inline<'a>(
     claim: Claim<'a>,
     node: Node,
     progress: Progress<'a>,
-    open: &mut Open,
+    frames: &mut Frames,
     part: &mut Part<'a>,
-) -> Result<State<'a>, AllocError> {
+) -> Result<State<'a>, AllocError>
+    requires node { Place scope.text.now (behind.spot.at + 1) node.end }
+    requires start { IsCharBoundary scope.text.now behind.spot.at }
+    requires place { IsCharBoundary scope.text.now behind.at }
+    requires held { HeldBefore scope.text.now behind.at behind.inner }
+    requires progress { ProgressAt scope.text.now progress }
+    requires escapes { All (IsCharBoundary scope.text.now) part.old.escapes }
+    ensures ready { IfOk result (λ s. Ready scope.entry.text.now (behind.entry.spot.at) s) }
+    ensures moves { IfOk result (λ s. left (length scope.entry.text.now) s.step ≤ 3 * (length scope.entry.text.now - behind.entry.spot.at)) }
+    ensures escapes { IfOk result (λ _. All (IsCharBoundary scope.entry.text.now) part.new.escapes) }
+{
     let text = scope.text;
     let spot = behind.spot;
     let colon = skip_whites(text, node.end);
     if let Some(column) = spot.column {
         if key_ends(text, spot.at, colon) {
-            if node.deepest.max(open.len()) >= scope.limit {
+            if node.deepest.max(frames.len()) >= scope.limit {
                 return Ok(progress.and_then(Step::TooDeep(spot.at)));
             }
-            let frame = Frame {
-                kind: Kind::Mapping,
-                column,
-                event: claim.before.events,
-                entry_event: 0,
-                awaits_colon: false,
-            };
+            let frame = Frame::new(Kind::Mapping, column, claim.before.events);
             let entry = entry_at(text, progress.floor, spot.at, Some(colon));
-            begin_mapping(alloc, scope, behind, claim, entry, open.len(), part)?;
-            open.push(frame)?;
+            begin_mapping(alloc, scope, behind, claim, entry, frames.len(), part)?;
+            frames.push(frame)?;
             return Ok(await_value(colon, column, progress));
         }
     }
@@ -328,7 +374,7 @@ fn finish_inline<'a>(
                 node.end,
                 plain,
                 progress.reaching(node.end),
-                open,
+                frames,
                 part,
             )
         }
@@ -342,13 +388,20 @@ fn end_inline<'a>(
     at: usize,
     plain: Option<Plain<'a>>,
     progress: Progress<'a>,
-    open: &Open,
+    frames: &Frames,
     part: &mut Part<'a>,
-) -> Result<State<'a>, AllocError> {
-    match line_end(alloc, text, at)? {
+) -> Result<State<'a>, AllocError>
+    requires boundary { IsCharBoundary text.now at }
+    requires plain { MayBoundary text.now plain }
+    requires progress { ProgressAt text.now progress }
+    ensures ready { IfOk result (λ s. Ready text.now (at) s) }
+    ensures moves { IfOk result (λ s. left (length text.now) s.step ≤ 3 * (length text.now - at) + 1) }
+    ensures escapes { IfOk result (λ _. part.new.escapes ≡ part.old.escapes) }
+{
+    match read_line_end(alloc, text, at)? {
         Some(Separation { comments, end }) => {
             part.comments.append(comments)?;
-            let progress = note_node(text, at, end, plain, progress, open, part);
+            let progress = note_node(text, at, end, plain, progress, frames, part);
             Ok(progress.and_then(Step::Resume(end)))
         }
         None => {
@@ -368,7 +421,12 @@ fn begin_mapping<'a>(
     entry: Entry,
     depth: usize,
     part: &mut Part<'a>,
-) -> Result<(), AllocError> {
+) -> Result<(), AllocError>
+    requires place { IsCharBoundary scope.text.now behind.at }
+    requires held { HeldBefore scope.text.now behind.at behind.inner }
+    requires escapes { All (IsCharBoundary scope.text.now) part.old.escapes }
+    ensures escapes { IfOk result (λ _. All (IsCharBoundary scope.entry.text.now) part.new.escapes) }
+{
     let spot = behind.spot;
     let start = collection_start(alloc, Kind::Mapping, spot.at, spot.outer, spot.wanted.entry);
     match claim.share {
@@ -393,15 +451,19 @@ fn begin_mapping<'a>(
     }
 }
 
-// Puts an event before the one at an index, which begins that entry.
+// Puts an event before the one at an index, which begins that entry. Past the end nothing is changed.
 fn put_before<'a>(
     event: usize,
     start: PlacedEvent<'a>,
     entry: Entry,
     part: &mut Part<'a>,
-) -> Result<(), AllocError> {
+) -> Result<(), AllocError>
+    ensures escapes { IfOk result (λ _. part.new.escapes ≡ part.old.escapes) }
+{
     if event < part.events.len() {
         part.events.set_entry(event, entry);
+    }
+    if event <= part.events.len() {
         part.events.insert(event, start)?;
     }
     Ok(())

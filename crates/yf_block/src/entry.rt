@@ -1,7 +1,11 @@
 //! Block collections and their entries (YAML 1.2.2, section 8.2).
+ghost use Rattle.std.specs.Prelude.{◌≡◌, ◌+◌, ◌-◌, ◌*◌, ◌^◌, ◌<◌, ◌≤◌, length, IfOk};
+ghost use Rattle.std.specs.List.{All};
+ghost use Rattle.std.specs.Str.{IsCharBoundary};
+ghost use Rattle.yf_block.specs.Machine.{Ready, left, ProgressAt, IsNodeAt};
 
 use crate::content::{Spot, read_inline};
-use crate::frame::{Awaited, Frame, Kind, Open, Progress, Scope, State, Step, Wanted};
+use crate::frame::{Awaited, Frame, Frames, Kind, Progress, Scope, State, Step, Wanted};
 use crate::held::{Held, lead_of, line_properties, place_behind};
 use crate::look::{is_blank_after, key_ends, sign_stands};
 use std::alloc::{AllocError, Global};
@@ -12,7 +16,9 @@ use yf_flow::nodes::Ending;
 use yf_lines::basic::skip_whites;
 
 /// The entry that begins at an offset.
-pub(crate) fn entry_at(text: &str, floor: usize, start: usize, colon: Option<usize>) -> Entry {
+pub(crate) fn entry_at(text: &str, floor: usize, start: usize, colon: Option<usize>) -> Entry
+    ensures { result.start ≡ start }
+{
     Entry {
         start,
         colon,
@@ -50,17 +56,18 @@ pub(crate) fn open_sequence<'a>(
     spot: Spot<'a>,
     column: usize,
     progress: Progress<'a>,
-    open: &mut Open,
+    frames: &mut Frames,
     part: &mut Part<'a>,
-) -> Result<State<'a>, AllocError> {
-    let frame = Frame {
-        kind: Kind::Sequence,
-        column,
-        event: part.events.len(),
-        entry_event: 0,
-        awaits_colon: false,
-    };
-    if open.len() >= scope.limit {
+) -> Result<State<'a>, AllocError>
+    requires boundary { IsCharBoundary scope.text.now spot.at }
+    requires behind { IsCharBoundary scope.text.now (spot.at + 1) }
+    requires progress { ProgressAt scope.text.now progress }
+    ensures ready { IfOk result (λ s. Ready scope.entry.text.now (spot.entry.at) s) }
+    ensures moves { IfOk result (λ s. left (length scope.entry.text.now) s.step ≤ 3 * (length scope.entry.text.now - spot.entry.at)) }
+    ensures escapes { IfOk result (λ _. part.new.escapes ≡ part.old.escapes) }
+{
+    let frame = Frame::new(Kind::Sequence, column, part.events.len());
+    if frames.len() >= scope.limit {
         return Ok(progress.and_then(Step::TooDeep(spot.at)));
     }
     let start = collection_start(
@@ -71,7 +78,7 @@ pub(crate) fn open_sequence<'a>(
         spot.wanted.entry,
     );
     part.events.push(start)?;
-    take_item(scope.text, spot.at, frame, progress, open)
+    take_item(scope.text, spot.at, frame, progress, frames)
 }
 
 /// The entry of a sequence whose `-` stands at an offset.
@@ -80,9 +87,14 @@ pub(crate) fn take_item<'a>(
     at: usize,
     frame: Frame,
     progress: Progress<'a>,
-    open: &mut Open,
-) -> Result<State<'a>, AllocError> {
-    open.push(frame)?;
+    frames: &mut Frames,
+) -> Result<State<'a>, AllocError>
+    requires behind { IsCharBoundary text.now (at + 1) }
+    requires progress { ProgressAt text.now progress }
+    ensures ready { IfOk result (λ s. Ready text.now (at) s) }
+    ensures moves { IfOk result (λ s. left (length text.now) s.step ≤ 3 * (length text.now - at)) }
+{
+    frames.push(frame)?;
     let entry = entry_at(text, progress.floor, at, None);
     Ok(behind_indicator(at, true, false, frame.column, Some(entry), progress))
 }
@@ -95,7 +107,12 @@ fn behind_indicator<'a>(
     column: usize,
     entry: Option<Entry>,
     progress: Progress<'a>,
-) -> State<'a> {
+) -> State<'a>
+    requires { at + 1 < 2 ^ 64 }
+    ensures floor { result.progress.floor ≡ progress.entry.floor }
+    ensures halt { result.progress.halt ≡ progress.entry.halt }
+    ensures step { IsNodeAt (at + 1) result.step }
+{
     let wanted = Wanted {
         least: column.saturating_add(1),
         out,
@@ -109,7 +126,12 @@ fn behind_indicator<'a>(
 }
 
 /// The value behind the `:` of an implicit key, or of an empty one.
-pub(crate) fn await_value<'a>(colon: usize, column: usize, progress: Progress<'a>) -> State<'a> {
+pub(crate) fn await_value<'a>(colon: usize, column: usize, progress: Progress<'a>) -> State<'a>
+    requires { colon + 1 < 2 ^ 64 }
+    ensures floor { result.progress.floor ≡ progress.entry.floor }
+    ensures halt { result.progress.halt ≡ progress.entry.halt }
+    ensures step { IsNodeAt (colon + 1) result.step }
+{
     behind_indicator(colon, false, true, column, None, progress)
 }
 
@@ -118,11 +140,16 @@ pub(crate) fn take_explicit_value<'a>(
     colon: usize,
     frame: Frame,
     progress: Progress<'a>,
-    open: &mut Open,
+    frames: &mut Frames,
     part: &mut Part<'a>,
-) -> Result<State<'a>, AllocError> {
+) -> Result<State<'a>, AllocError>
+    requires { colon + 1 < 2 ^ 64 }
+    ensures progress { IfOk result (λ s. (s.progress.floor ≡ progress.entry.floor) × (s.progress.halt ≡ progress.entry.halt)) }
+    ensures step { IfOk result (λ s. IsNodeAt (colon + 1) s.step) }
+    ensures escapes { IfOk result (λ _. part.new.escapes ≡ part.old.escapes) }
+{
     part.events.set_colon(frame.entry_event, colon);
-    open.push(Frame {
+    frames.push(Frame {
         awaits_colon: false,
         ..frame
     })?;
@@ -137,22 +164,23 @@ pub(crate) fn open_mapping<'a>(
     spot: Spot<'a>,
     column: usize,
     progress: Progress<'a>,
-    open: &mut Open,
+    frames: &mut Frames,
     part: &mut Part<'a>,
-) -> Result<State<'a>, AllocError> {
-    let frame = Frame {
-        kind: Kind::Mapping,
-        column,
-        event: part.events.len(),
-        entry_event: 0,
-        awaits_colon: false,
-    };
-    if open.len() >= scope.limit {
+) -> Result<State<'a>, AllocError>
+    requires boundary { IsCharBoundary scope.text.now spot.at }
+    requires progress { ProgressAt scope.text.now progress }
+    requires escapes { All (IsCharBoundary scope.text.now) part.old.escapes }
+    ensures ready { IfOk result (λ s. Ready scope.entry.text.now (spot.entry.at) s) }
+    ensures moves { IfOk result (λ s. left (length scope.entry.text.now) s.step ≤ 3 * (length scope.entry.text.now - spot.entry.at)) }
+    ensures escapes { IfOk result (λ _. All (IsCharBoundary scope.entry.text.now) part.new.escapes) }
+{
+    let frame = Frame::new(Kind::Mapping, column, part.events.len());
+    if frames.len() >= scope.limit {
         return Ok(progress.and_then(Step::TooDeep(spot.at)));
     }
     let start = collection_start(alloc, Kind::Mapping, spot.at, spot.outer, spot.wanted.entry);
     part.events.push(start)?;
-    take_entry(alloc, scope, spot.at, frame, progress, open, part)
+    take_entry(alloc, scope, spot.at, frame, progress, frames, part)
 }
 
 /// The entry of a mapping that begins at an offset (ns-l-block-map-entry, production 188).
@@ -162,19 +190,26 @@ pub(crate) fn take_entry<'a>(
     at: usize,
     frame: Frame,
     progress: Progress<'a>,
-    open: &mut Open,
+    frames: &mut Frames,
     part: &mut Part<'a>,
-) -> Result<State<'a>, AllocError> {
+) -> Result<State<'a>, AllocError>
+    requires boundary { IsCharBoundary scope.text.now at }
+    requires progress { ProgressAt scope.text.now progress }
+    requires escapes { All (IsCharBoundary scope.text.now) part.old.escapes }
+    ensures ready { IfOk result (λ s. Ready scope.entry.text.now (at) s) }
+    ensures moves { IfOk result (λ s. left (length scope.entry.text.now) s.step ≤ 3 * (length scope.entry.text.now - at)) }
+    ensures escapes { IfOk result (λ _. All (IsCharBoundary scope.entry.text.now) part.new.escapes) }
+{
     let entry = entry_at(scope.text, progress.floor, at, None);
     if sign_stands(scope.text, at, b'?') {
-        open.push(Frame {
+        frames.push(Frame {
             awaits_colon: true,
             entry_event: part.events.len(),
             ..frame
         })?;
         return Ok(behind_indicator(at, true, true, frame.column, Some(entry), progress));
     }
-    open.push(Frame {
+    frames.push(Frame {
         awaits_colon: false,
         ..frame
     })?;
@@ -186,7 +221,7 @@ pub(crate) fn take_entry<'a>(
         part.events.push(empty_node(alloc, Some(keyless)))?;
         return Ok(await_value(at, frame.column, progress));
     }
-    take_key(alloc, scope, frame.column, entry, progress, open, part)
+    take_key(alloc, scope, frame.column, entry, progress, frames, part)
 }
 
 // An implicit key of an open mapping (ns-s-block-map-implicit-key, production 193), from its properties on.
@@ -196,9 +231,16 @@ fn take_key<'a>(
     column: usize,
     entry: Entry,
     progress: Progress<'a>,
-    open: &mut Open,
+    frames: &mut Frames,
     part: &mut Part<'a>,
-) -> Result<State<'a>, AllocError> {
+) -> Result<State<'a>, AllocError>
+    requires boundary { IsCharBoundary scope.text.now entry.start }
+    requires progress { ProgressAt scope.text.now progress }
+    requires escapes { All (IsCharBoundary scope.text.now) part.old.escapes }
+    ensures ready { IfOk result (λ s. Ready scope.entry.text.now (entry.start) s) }
+    ensures moves { IfOk result (λ s. left (length scope.entry.text.now) s.step ≤ 3 * (length scope.entry.text.now - entry.start)) }
+    ensures escapes { IfOk result (λ _. All (IsCharBoundary scope.entry.text.now) part.new.escapes) }
+{
     let start = entry.start;
     let inner = line_properties(alloc, scope.text, start)?;
     let place = match inner {
@@ -211,7 +253,7 @@ fn take_key<'a>(
             let event = part.events.len();
             let lead = lead_of(start, inner, Some(entry));
             let least = column.saturating_add(1);
-            match read_inline(alloc, scope, least, at, inner, lead, open.len(), part)? {
+            match read_inline(alloc, scope, least, at, inner, lead, frames.len(), part)? {
                 Ending::End(node) => {
                     let colon = skip_whites(scope.text, node.end);
                     if key_ends(scope.text, start, colon) {

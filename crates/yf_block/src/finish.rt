@@ -1,7 +1,11 @@
-//! The part that a record keeps: its events, with the ends of the collections that are open in them.
+//! The part that a halt keeps: its events, with the ends of the collections that are open in them.
+ghost use Rattle.std.specs.Prelude.{◌≡◌, ◌≤◌, length, IfOk};
+ghost use Rattle.std.specs.List.{All};
+ghost use Rattle.std.specs.Str.{IsCharBoundary};
+ghost use Rattle.yf_block.specs.Machine.{HaltAt};
 
 use crate::content::flow_indentation;
-use crate::record::{Owed, Plain, Record};
+use crate::halt::{Halt, Owed, Plain};
 use smallvec::SmallVec;
 use std::alloc::{AllocError, Global};
 use yf_chars::context::Ctx;
@@ -25,23 +29,27 @@ struct Unended {
 // The open collections of a list of events, the outermost first.
 type Nest = SmallVec<Unended, 8>;
 
-/// Cuts a part back to what a record keeps of it, and ends all nodes that are open in it.
+/// Cuts a part back to what a halt keeps of it, and ends all nodes that are open in it.
 pub(crate) fn cut_back<'a>(
     alloc: Global,
     text: &'a str,
-    record: Record<'a>,
+    halt: Halt<'a>,
     part: &mut Part<'a>,
-) -> Result<(), AllocError> {
-    part.events.truncate(record.counts.events);
-    part.comments.truncate(record.counts.comments);
-    part.escapes.truncate(record.counts.escapes);
-    drop_colons(record.end, part);
-    let last = push_owed(alloc, text, record, part)?;
+) -> Result<(), AllocError>
+    requires halt { HaltAt text.now halt }
+    requires escapes { All (IsCharBoundary text.now) part.old.escapes }
+    ensures escapes { IfOk result (λ _. All (IsCharBoundary text.now) part.new.escapes) }
+{
+    part.events.truncate(halt.counts.events);
+    part.comments.truncate(halt.counts.comments);
+    part.escapes.truncate(halt.counts.escapes);
+    drop_colons(halt.end, part);
+    let last = push_owed(alloc, text, halt, part)?;
     let mut nest = Nest::new(alloc);
     for (index, placed) in part.events.as_slice().iter().enumerate() {
         pass(&placed.event, index, &mut nest)?;
     }
-    'open: while let Some(collection) = nest.pop() {
+    'nest: while let Some(collection) = nest.pop() {
         end_unended(alloc, collection, last, part)?;
         pass_node(&mut nest)?;
     }
@@ -49,13 +57,17 @@ pub(crate) fn cut_back<'a>(
 }
 
 // Entries of a part whose `:` stands at its end or behind have none in it.
-fn drop_colons(end: usize, part: &mut Part) {
+fn drop_colons(end: usize, part: &mut Part)
+    ensures { part.new.escapes ≡ part.old.escapes }
+{
     for index in 0..part.events.len() {
         drop_colon(end, index, part);
     }
 }
 
-fn drop_colon(end: usize, index: usize, part: &mut Part) {
+fn drop_colon(end: usize, index: usize, part: &mut Part)
+    ensures { part.new.escapes ≡ part.old.escapes }
+{
     if index >= part.events.len() {
         return;
     }
@@ -78,14 +90,17 @@ fn drop_colon(end: usize, index: usize, part: &mut Part) {
 fn push_owed<'a>(
     alloc: Global,
     text: &'a str,
-    record: Record<'a>,
+    halt: Halt<'a>,
     part: &mut Part<'a>,
-) -> Result<usize, AllocError> {
-    match record.owed {
-        Owed::Nothing => Ok(record.last),
+) -> Result<usize, AllocError>
+    requires halt { HaltAt text.now halt }
+    ensures escapes { IfOk result (λ _. part.new.escapes ≡ part.old.escapes) }
+{
+    match halt.owed {
+        Owed::Nothing => Ok(halt.last),
         Owed::Empty(None, entry) => {
             part.events.push(empty_node(alloc, entry))?;
-            Ok(record.last)
+            Ok(halt.last)
         }
         Owed::Empty(Some(held), entry) => {
             let lead = held.lead(entry);
@@ -99,22 +114,25 @@ fn push_owed<'a>(
             )?;
             Ok(held.end)
         }
-        Owed::Shorter(plain) => push_shorter(alloc, text, record, plain, part),
+        Owed::Shorter(plain) => push_shorter(alloc, text, halt, plain, part),
     }
 }
 
-// Adds a plain scalar again, without the line that begins where the record ends.
+// Adds a plain scalar again, without the line that begins where the halt is.
 fn push_shorter<'a>(
     alloc: Global,
     text: &'a str,
-    record: Record<'a>,
+    halt: Halt<'a>,
     plain: Plain<'a>,
     part: &mut Part<'a>,
-) -> Result<usize, AllocError> {
+) -> Result<usize, AllocError>
+    requires halt { HaltAt text.now halt }
+    ensures escapes { IfOk result (λ _. part.new.escapes ≡ part.old.escapes) }
+{
     part.events.truncate(plain.event);
-    let front = &text[..record.end];
+    let front = &text[..halt.end];
     if !front.is_char_boundary(plain.at) {
-        return Ok(record.last);
+        return Ok(halt.last);
     }
     match read_plain_in(
         alloc,
@@ -127,7 +145,7 @@ fn push_shorter<'a>(
             push_scalar(alloc, plain.lead, ScalarStyle::Plain, shorter, end, part)?;
             Ok(end)
         }
-        Ok(None) => Ok(record.last),
+        Ok(None) => Ok(halt.last),
         Err(_) => Err(AllocError),
     }
 }
@@ -160,7 +178,9 @@ fn pass(event: &Event, index: usize, nest: &mut Nest) -> Result<(), AllocError> 
 }
 
 // Goes on behind a node.
-fn pass_node(nest: &mut Nest) -> Result<(), AllocError> {
+fn pass_node(nest: &mut Nest) -> Result<(), AllocError>
+    ensures { IfOk result (λ _. length nest.new.items ≤ length nest.old.items) }
+{
     match nest.pop() {
         None => Ok(()),
         Some(collection) => {
@@ -179,7 +199,9 @@ fn end_unended<'a>(
     collection: Unended,
     last: usize,
     part: &mut Part<'a>,
-) -> Result<(), AllocError> {
+) -> Result<(), AllocError>
+    ensures escapes { IfOk result (λ _. part.new.escapes ≡ part.old.escapes) }
+{
     let event = if collection.is_mapping {
         Event::MapEnd
     } else {

@@ -1,7 +1,8 @@
 //! The open collections of a block node, and the steps of its reader.
+ghost use Rattle.std.specs.Prelude.{◌≡◌};
 
+use crate::halt::Halt;
 use crate::held::Held;
-use crate::record::Record;
 use smallvec::SmallVec;
 use yf_events::event::Entry;
 
@@ -35,7 +36,7 @@ pub(crate) struct Frame {
 }
 
 /// The open collections, the outermost first.
-pub(crate) type Open = SmallVec<Frame, 8>;
+pub(crate) type Frames = SmallVec<Frame, 8>;
 
 /// Which node is awaited.
 #[derive(Clone, Copy)]
@@ -95,7 +96,7 @@ pub(crate) struct Progress<'a> {
     /// The byte offset behind the last block scalar; 0 where there is none.
     pub(crate) floor: usize,
     /// The last place at which all open nodes may end.
-    pub(crate) record: Option<Record<'a>>,
+    pub(crate) halt: Option<Halt<'a>>,
 }
 
 /// What has been read, and what comes next.
@@ -105,13 +106,32 @@ pub(crate) struct State<'a> {
     pub(crate) step: Step<'a>,
 }
 
+impl Frame {
+    /// A collection whose entries stand at a column, and which begins with the event at an index.
+    pub(crate) fn new(kind: Kind, column: usize, event: usize) -> Frame {
+        Frame {
+            kind,
+            column,
+            event,
+            entry_event: event,
+            awaits_colon: false,
+        }
+    }
+}
+
 impl<'a> Progress<'a> {
     /// The same, where the last node or indicator ends at an offset.
-    pub(crate) fn reaching(self, last: usize) -> Progress<'a> {
+    pub(crate) fn reaching(self, last: usize) -> Progress<'a>
+        ensures floor { result.floor ≡ self.entry.floor }
+        ensures halt { result.halt ≡ self.entry.halt }
+    {
         Progress { last, ..self }
     }
 
-    pub(crate) fn and_then(self, step: Step<'a>) -> State<'a> {
+    pub(crate) fn and_then(self, step: Step<'a>) -> State<'a>
+        ensures progress { result.progress ≡ self.entry }
+        ensures step { result.step ≡ step.entry }
+    {
         State {
             progress: self,
             step,

@@ -1,13 +1,16 @@
 //! The properties of nodes, line by line.
+ghost use Rattle.std.specs.Prelude.{◌≡◌, ◌+◌, IfOk, IfSome};
+ghost use Rattle.std.specs.Str.{IsCharBoundary};
+ghost use Rattle.yf_flow.specs.Machine.{Place};
 
+use crate::leaf::read_properties;
 use crate::look::sign_stands;
 use std::alloc::{AllocError, Global};
-use yf_chars::context::Ctx;
 use yf_chars::text::stands;
 use yf_events::event::Entry;
 use yf_flow::node::Lead;
 use yf_lines::basic::skip_whites;
-use yf_props::properties::{Properties, node_properties};
+use yf_props::properties::Properties;
 use yf_props::props::Props;
 
 /// Properties, from one byte offset to another.
@@ -44,8 +47,10 @@ pub(crate) fn line_properties<'a>(
     alloc: Global,
     text: &'a str,
     at: usize,
-) -> Result<Option<Held<'a>>, AllocError> {
-    match node_properties(alloc, text, at, 0, Ctx::FlowKey)? {
+) -> Result<Option<Held<'a>>, AllocError>
+    ensures { IfOk result (λ o. IfSome o (λ h. Place text.now (at + 1) h.end)) }
+{
+    match read_properties(alloc, text, at)? {
         Some(
             Properties {
                 props,
@@ -65,7 +70,10 @@ pub(crate) fn line_properties<'a>(
 
 /// The place of what stands behind properties on their line: behind whites, or the `:` of an empty key. `None` where
 /// something else follows, or a property of a kind that they have.
-pub(crate) fn place_behind(text: &str, held: Held) -> Option<usize> {
+pub(crate) fn place_behind(text: &str, held: Held) -> Option<usize>
+    requires { IsCharBoundary text.now held.end }
+    ensures { IfSome result (λ p. Place text.now held.entry.end p) }
+{
     let place = skip_whites(text, held.end);
     if place == held.end {
         if !sign_stands(text, place, b':') {
@@ -82,7 +90,9 @@ pub(crate) fn place_behind(text: &str, held: Held) -> Option<usize> {
 }
 
 /// Properties of one node that stand on several lines; `None` where two are of one kind.
-pub(crate) fn joined<'a>(outer: Held<'a>, inner: Held<'a>) -> Option<Held<'a>> {
+pub(crate) fn joined<'a>(outer: Held<'a>, inner: Held<'a>) -> Option<Held<'a>>
+    ensures { IfSome result (λ h. h.end ≡ inner.entry.end) }
+{
     let anchor = match (outer.props.anchor, inner.props.anchor) {
         (Some(_), Some(_)) => return None,
         (Some(name), None) => Some(name),
@@ -102,7 +112,9 @@ pub(crate) fn joined<'a>(outer: Held<'a>, inner: Held<'a>) -> Option<Held<'a>> {
 }
 
 /// The same where there need be none before.
-pub(crate) fn joined_behind<'a>(outer: Option<Held<'a>>, inner: Held<'a>) -> Option<Held<'a>> {
+pub(crate) fn joined_behind<'a>(outer: Option<Held<'a>>, inner: Held<'a>) -> Option<Held<'a>>
+    ensures { IfSome result (λ h. h.end ≡ inner.entry.end) }
+{
     match outer {
         Some(outer) => joined(outer, inner),
         None => Some(inner),

@@ -7,11 +7,12 @@ pub(crate) mod content;
 pub(crate) mod entry;
 pub(crate) mod finish;
 pub(crate) mod frame;
+pub(crate) mod halt;
 pub(crate) mod held;
+pub(crate) mod leaf;
 pub(crate) mod line;
 pub mod look;
 pub mod nodes;
-pub(crate) mod record;
 pub(crate) mod resume;
 pub(crate) mod scalar;
 #[cfg(test)]

@@ -1,14 +1,19 @@
 //! Nodes where they are awaited: behind an indicator, or at the start of a line (s-l+block-node, production 196).
+ghost use Rattle.std.specs.Prelude.{◌≡◌, ◌+◌, ◌-◌, ◌*◌, ◌<◌, ◌≤◌, length, IfOk};
+ghost use Rattle.std.specs.List.{All};
+ghost use Rattle.std.specs.Str.{IsCharBoundary};
+ghost use Rattle.yf_flow.specs.Machine.{Place};
+ghost use Rattle.yf_block.specs.Machine.{Ready, left, ProgressAt};
 
 use crate::content::{Spot, take_content};
 use crate::entry::open_sequence;
-use crate::frame::{Awaited, Fresh, Open, Progress, Scope, State, Step, Wanted};
+use crate::frame::{Awaited, Frames, Fresh, Progress, Scope, State, Step, Wanted};
+use crate::halt::note_empty;
 use crate::held::Held;
+use crate::leaf::read_line_end;
 use crate::look::{dash_stands, line_ends, node_ends};
-use crate::record::note_empty;
 use std::alloc::{AllocError, Global};
 use yf_comments::comments::Separation;
-use yf_comments::lines::line_end;
 use yf_events::event::ScalarStyle;
 use yf_events::part::Part;
 use yf_flow::node::{empty_node, push_scalar};
@@ -23,7 +28,13 @@ pub(crate) fn first_line<'a>(
     wanted: Wanted,
     progress: Progress<'a>,
     part: &mut Part<'a>,
-) -> Result<State<'a>, AllocError> {
+) -> Result<State<'a>, AllocError>
+    requires boundary { IsCharBoundary text.now at }
+    requires progress { ProgressAt text.now progress }
+    ensures ready { IfOk result (λ s. Ready text.now (at) s) }
+    ensures moves { IfOk result (λ s. left (length text.now) s.step ≤ 3 * (length text.now - at) + 2) }
+    ensures escapes { IfOk result (λ _. part.new.escapes ≡ part.old.escapes) }
+{
     let state = end_line(alloc, text, at, None, wanted, progress, part)?;
     match state.step {
         Step::Line(line) => {
@@ -43,8 +54,14 @@ pub(crate) fn end_line<'a>(
     wanted: Wanted,
     progress: Progress<'a>,
     part: &mut Part<'a>,
-) -> Result<State<'a>, AllocError> {
-    match line_end(alloc, text, at)? {
+) -> Result<State<'a>, AllocError>
+    requires boundary { IsCharBoundary text.now at }
+    requires progress { ProgressAt text.now progress }
+    ensures ready { IfOk result (λ s. Ready text.now (at) s) }
+    ensures moves { IfOk result (λ s. left (length text.now) s.step ≤ 3 * (length text.now - at) + 2) }
+    ensures escapes { IfOk result (λ _. part.new.escapes ≡ part.old.escapes) }
+{
+    match read_line_end(alloc, text, at)? {
         Some(Separation { comments, end }) => {
             part.comments.append(comments)?;
             Ok(progress.and_then(Step::Line(Fresh {
@@ -65,9 +82,16 @@ pub(crate) fn take_node<'a>(
     scope: Scope<'a>,
     node: Awaited,
     progress: Progress<'a>,
-    open: &mut Open,
+    frames: &mut Frames,
     part: &mut Part<'a>,
-) -> Result<State<'a>, AllocError> {
+) -> Result<State<'a>, AllocError>
+    requires boundary { IsCharBoundary scope.text.now node.at }
+    requires progress { ProgressAt scope.text.now progress }
+    requires escapes { All (IsCharBoundary scope.text.now) part.old.escapes }
+    ensures ready { IfOk result (λ s. Ready scope.entry.text.now (node.at) s) }
+    ensures moves { IfOk result (λ s. left (length scope.entry.text.now) s.step < 3 * (length scope.entry.text.now - node.at) + 3) }
+    ensures escapes { IfOk result (λ _. All (IsCharBoundary scope.entry.text.now) part.new.escapes) }
+{
     let text = scope.text;
     let place = skip_whites(text, node.at);
     if line_ends(text, place, place > node.at) {
@@ -84,14 +108,17 @@ pub(crate) fn take_node<'a>(
     };
     if dash_stands(text, place) {
         if let Some(column) = spot.column {
-            return open_sequence(alloc, scope, spot, column, progress, open, part);
+            return open_sequence(alloc, scope, spot, column, progress, frames, part);
         }
     }
-    take_content(alloc, scope, spot, progress, open, part)
+    take_content(alloc, scope, spot, progress, frames, part)
 }
 
 // The column of a collection that may begin on the line of an indicator: spaces alone stand between.
-fn compact_column(text: &str, node: Awaited, place: usize) -> Option<usize> {
+fn compact_column(text: &str, node: Awaited, place: usize) -> Option<usize>
+    requires boundary { IsCharBoundary text.now node.at }
+    requires order { node.at ≤ place }
+{
     if !node.compact {
         return None;
     }
@@ -107,11 +134,19 @@ pub(crate) fn take_line<'a>(
     scope: Scope<'a>,
     line: Fresh<'a>,
     progress: Progress<'a>,
-    open: &mut Open,
+    frames: &mut Frames,
     part: &mut Part<'a>,
-) -> Result<State<'a>, AllocError> {
+) -> Result<State<'a>, AllocError>
+    requires boundary { IsCharBoundary scope.text.now line.at }
+    requires from { IsCharBoundary scope.text.now line.from }
+    requires progress { ProgressAt scope.text.now progress }
+    requires escapes { All (IsCharBoundary scope.text.now) part.old.escapes }
+    ensures ready { IfOk result (λ s. Ready scope.entry.text.now (line.entry.at) s) }
+    ensures moves { IfOk result (λ s. left (length scope.entry.text.now) s.step < 3 * (length scope.entry.text.now - line.entry.at) + 2) }
+    ensures escapes { IfOk result (λ _. All (IsCharBoundary scope.entry.text.now) part.new.escapes) }
+{
     let text = scope.text;
-    let progress = note_empty(text, line, progress, open, part);
+    let progress = note_empty(text, line, progress, frames, part);
     if node_ends(text, line.at) {
         return end_empty(alloc, line, progress, part);
     }
@@ -125,10 +160,10 @@ pub(crate) fn take_line<'a>(
     };
     if dash_stands(text, start) {
         if may_hold_sequence(line.wanted, width) {
-            return open_sequence(alloc, scope, spot, width, progress, open, part);
+            return open_sequence(alloc, scope, spot, width, progress, frames, part);
         }
     }
-    take_indented(alloc, scope, line, spot, progress, open, part)
+    take_indented(alloc, scope, line, spot, progress, frames, part)
 }
 
 // Whether a sequence of that column may be the node that is awaited.
@@ -149,9 +184,17 @@ fn take_indented<'a>(
     line: Fresh<'a>,
     spot: Spot<'a>,
     progress: Progress<'a>,
-    open: &mut Open,
+    frames: &mut Frames,
     part: &mut Part<'a>,
-) -> Result<State<'a>, AllocError> {
+) -> Result<State<'a>, AllocError>
+    requires boundary { IsCharBoundary scope.text.now line.at }
+    requires place { Place scope.text.now line.at spot.at }
+    requires progress { ProgressAt scope.text.now progress }
+    requires escapes { All (IsCharBoundary scope.text.now) part.old.escapes }
+    ensures ready { IfOk result (λ s. Ready scope.entry.text.now (line.entry.at) s) }
+    ensures moves { IfOk result (λ s. left (length scope.entry.text.now) s.step < 3 * (length scope.entry.text.now - line.entry.at) + 2) }
+    ensures escapes { IfOk result (λ _. All (IsCharBoundary scope.entry.text.now) part.new.escapes) }
+{
     let width = spot.at - line.at;
     let indented = width >= line.wanted.least;
     if !indented {
@@ -173,7 +216,7 @@ fn take_indented<'a>(
         column,
         ..spot
     };
-    take_content(alloc, scope, spot, progress, open, part)
+    take_content(alloc, scope, spot, progress, frames, part)
 }
 
 // The node that is awaited at a line is empty, or has its properties alone.
@@ -182,7 +225,11 @@ fn end_empty<'a>(
     line: Fresh<'a>,
     progress: Progress<'a>,
     part: &mut Part<'a>,
-) -> Result<State<'a>, AllocError> {
+) -> Result<State<'a>, AllocError>
+    ensures progress { IfOk result (λ s. (s.progress.floor ≡ progress.entry.floor) × (s.progress.halt ≡ progress.entry.halt)) }
+    ensures step { IfOk result (λ s. s.step ≡ Step.Resume line.entry.at) }
+    ensures escapes { IfOk result (λ _. part.new.escapes ≡ part.old.escapes) }
+{
     match line.outer {
         Some(held) => {
             let lead = held.lead(line.wanted.entry);

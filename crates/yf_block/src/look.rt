@@ -1,4 +1,7 @@
 //! Tests of what stands at a place of a block node, and walks that read nothing.
+ghost use Rattle.std.specs.Prelude.{◌≡◌, ◌+◌, ◌<◌, true, IfSome};
+ghost use Rattle.std.specs.Str.{IsCharBoundary};
+ghost use Rattle.yf_flow.specs.Machine.{Place};
 
 use yf_chars::classes::is_ns_char;
 use yf_chars::text::{peek, stands};
@@ -10,7 +13,9 @@ use yf_lines::basic::{
 };
 
 /// Whether the `-` of an entry stands there (c-l-block-seq-entry, production 184).
-pub(crate) fn dash_stands(text: &str, at: usize) -> bool {
+pub(crate) fn dash_stands(text: &str, at: usize) -> bool
+    ensures { result ≡ true → IsCharBoundary text.now (at + 1) }
+{
     if stands(text, at, b'-') {
         return match peek(text, at + 1) {
             Some((c, _)) => !is_ns_char(c),
@@ -21,7 +26,10 @@ pub(crate) fn dash_stands(text: &str, at: usize) -> bool {
 }
 
 /// Whether that sign of an entry, `?` or `:`, stands there, with white, a break or the end of the text behind it.
-pub(crate) fn sign_stands(text: &str, at: usize, sign: u8) -> bool {
+pub(crate) fn sign_stands(text: &str, at: usize, sign: u8) -> bool
+    requires { sign < 128 }
+    ensures { result ≡ true → IsCharBoundary text.now (at + 1) }
+{
     if stands(text, at, sign) {
         return white_or_end_stands(text, at + 1);
     }
@@ -29,7 +37,10 @@ pub(crate) fn sign_stands(text: &str, at: usize, sign: u8) -> bool {
 }
 
 /// Whether the `:` behind an implicit key stands there, on the line on which the key starts.
-pub(crate) fn key_ends(text: &str, start: usize, at: usize) -> bool {
+pub(crate) fn key_ends(text: &str, start: usize, at: usize) -> bool
+    requires { IsCharBoundary text.now start }
+    ensures { result ≡ true → IsCharBoundary text.now (at + 1) }
+{
     if sign_stands(text, at, b':') {
         return is_key_line(text, start, at);
     }
@@ -65,7 +76,10 @@ pub(crate) fn node_ends(text: &str, at: usize) -> bool {
 }
 
 /// Where the first character other than a space stands of the line that begins there, if it can be that of an entry.
-pub(crate) fn entry_place(text: &str, at: usize) -> Option<usize> {
+pub(crate) fn entry_place(text: &str, at: usize) -> Option<usize>
+    requires { IsCharBoundary text.now at }
+    ensures { IfSome result (λ p. Place text.now at p) }
+{
     if node_ends(text, at) {
         return None;
     }
@@ -115,7 +129,10 @@ fn break_ends_at(text: &str, at: usize) -> bool {
 }
 
 // Where the break begins that ends at the offset.
-fn break_start(text: &str, at: usize) -> usize {
+fn break_start(text: &str, at: usize) -> usize
+    requires { 0 < at }
+    ensures { result < at }
+{
     if stands(text, at.saturating_sub(1), b'\n') {
         if stands(text, at.saturating_sub(2), b'\r') {
             return at.saturating_sub(2);
@@ -125,7 +142,10 @@ fn break_start(text: &str, at: usize) -> usize {
 }
 
 /// The last place behind a line break that begins at the first offset or behind it, before the other offset.
-pub(crate) fn last_line_start(text: &str, from: usize, end: usize) -> Option<usize> {
+pub(crate) fn last_line_start(text: &str, from: usize, end: usize) -> Option<usize>
+    requires { IsCharBoundary text.now from }
+    ensures { IfSome result (λ p. IsCharBoundary text.now p) }
+{
     let mut at = from;
     let mut found = None;
     'characters: while at < end {
@@ -146,7 +166,10 @@ pub(crate) fn last_line_start(text: &str, from: usize, end: usize) -> Option<usi
 }
 
 /// The offset behind so many lines from the start of a line on, or the end of the text.
-pub(crate) fn skip_lines(text: &str, at: usize, count: usize) -> usize {
+pub(crate) fn skip_lines(text: &str, at: usize, count: usize) -> usize
+    requires { IsCharBoundary text.now at }
+    ensures { IsCharBoundary text.now result }
+{
     let mut place = at;
     let mut left = count;
     'characters: while left > 0 {

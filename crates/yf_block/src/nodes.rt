@@ -1,9 +1,13 @@
 //! The reader of block nodes: one forward pass, with a stack of the open collections.
+ghost use Rattle.std.specs.Prelude.{◌≡◌, ◌<◌, [], true, IfOk};
+ghost use Rattle.std.specs.List.{All};
+ghost use Rattle.std.specs.Str.{IsCharBoundary};
+ghost use Rattle.yf_block.specs.Machine.{ProgressAt, Ready, MayHalt, StopAt, OutcomeAt};
 
 use crate::finish::cut_back;
-use crate::frame::{Awaited, Open, Progress, Scope, State, Step, Wanted};
+use crate::frame::{Awaited, Frames, Progress, Scope, State, Step, Wanted};
+use crate::halt::{Halt, Owed};
 use crate::line::{first_line, take_line, take_node};
-use crate::record::{Owed, Record};
 use crate::resume::resume;
 use smallvec::SmallVec;
 use std::alloc::{AllocError, Global};
@@ -48,7 +52,7 @@ enum Stop {
 // What was read when the reader stopped.
 #[derive(Clone, Copy)]
 struct Stopped<'a> {
-    record: Option<Record<'a>>,
+    halt: Option<Halt<'a>>,
     stop: Stop,
 }
 
@@ -67,7 +71,10 @@ pub fn block_node_in<'a>(
     n: i32,
     ctx: Ctx,
     limit: usize,
-) -> Result<Outcome<'a>, AllocError> {
+) -> Result<Outcome<'a>, AllocError>
+    requires { IsCharBoundary text.now at }
+    ensures { IfOk result (λ o. OutcomeAt text.now at o) }
+{
     match block_out(ctx) {
         None => Ok(Outcome::Nothing { reached: at }),
         Some(out) => {
@@ -79,7 +86,7 @@ pub fn block_node_in<'a>(
             let mut part = new_part(alloc);
             let state = begin(alloc, text, at, wanted, &mut part)?;
             let stopped = run(alloc, Scope { text, limit }, state, &mut part)?;
-            outcome(alloc, text, at, stopped, part)
+            conclude(alloc, text, at, stopped, part)
         }
     }
 }
@@ -98,11 +105,24 @@ fn least_of(n: i32) -> usize {
     if n < 0 { 0 } else { n as usize + 1 }
 }
 
-fn new_part<'a>(alloc: Global) -> Part<'a> {
+fn new_part<'a>(alloc: Global) -> Part<'a>
+    ensures { result.escapes ≡ [] }
+{
     Part {
         events: Events::new(alloc),
         comments: Comments::new(alloc),
         escapes: Row::new(alloc),
+    }
+}
+
+// Nothing has been read yet of the text, which is read from an offset on.
+fn no_progress<'a>(_text: &str, at: usize) -> Progress<'a>
+    ensures { ProgressAt _text.now result }
+{
+    Progress {
+        last: at,
+        floor: 0,
+        halt: None,
     }
 }
 
@@ -113,12 +133,12 @@ fn begin<'a>(
     at: usize,
     wanted: Wanted,
     part: &mut Part<'a>,
-) -> Result<State<'a>, AllocError> {
-    let progress = Progress {
-        last: at,
-        floor: 0,
-        record: None,
-    };
+) -> Result<State<'a>, AllocError>
+    requires boundary { IsCharBoundary text.now at }
+    ensures ready { IfOk result (λ s. Ready text.now at s) }
+    ensures escapes { IfOk result (λ _. part.new.escapes ≡ part.old.escapes) }
+{
+    let progress = no_progress(text, at);
     if is_line_start(text, at) {
         return first_line(alloc, text, at, wanted, progress, part);
     }
@@ -135,24 +155,30 @@ fn run<'a>(
     scope: Scope<'a>,
     first: State<'a>,
     part: &mut Part<'a>,
-) -> Result<Stopped<'a>, AllocError> {
-    let mut open: Open = SmallVec::new(alloc);
+) -> Result<Stopped<'a>, AllocError>
+    requires ready { Ready scope.text.now 0 first }
+    requires escapes { All (IsCharBoundary scope.text.now) part.old.escapes }
+    ensures escapes { IfOk result (λ _. All (IsCharBoundary scope.entry.text.now) part.new.escapes) }
+    ensures halt { IfOk result (λ s. MayHalt scope.entry.text.now s.halt) }
+    ensures stop { IfOk result (λ s. StopAt scope.entry.text.now s.stop) }
+{
+    let mut frames: Frames = SmallVec::new(alloc);
     let mut state = first;
     'steps: loop {
         let progress = state.progress;
         state = match state.step {
-            Step::Node(node) => take_node(alloc, scope, node, progress, &mut open, part)?,
-            Step::Line(line) => take_line(alloc, scope, line, progress, &mut open, part)?,
-            Step::Resume(at) => resume(alloc, scope, at, progress, &mut open, part)?,
+            Step::Node(node) => take_node(alloc, scope, node, progress, &mut frames, part)?,
+            Step::Line(line) => take_line(alloc, scope, line, progress, &mut frames, part)?,
+            Step::Resume(at) => resume(alloc, scope, at, progress, &mut frames, part)?,
             Step::Done(place) | Step::Failed(place) => {
                 return Ok(Stopped {
-                    record: progress.record,
+                    halt: progress.halt,
                     stop: Stop::At(place),
                 });
             }
             Step::TooDeep(place) => {
                 return Ok(Stopped {
-                    record: progress.record,
+                    halt: progress.halt,
                     stop: Stop::TooDeep(place),
                 });
             }
@@ -161,25 +187,30 @@ fn run<'a>(
 }
 
 // What was found, once the reader stopped.
-fn outcome<'a>(
+fn conclude<'a>(
     alloc: Global,
     text: &'a str,
     at: usize,
     stopped: Stopped<'a>,
     part: Part<'a>,
-) -> Result<Outcome<'a>, AllocError> {
-    match stopped.record {
-        Some(record) if is_node(at, record) => {
+) -> Result<Outcome<'a>, AllocError>
+    requires halt { MayHalt text.now stopped.halt }
+    requires stop { StopAt text.now stopped.stop }
+    requires escapes { All (IsCharBoundary text.now) part.escapes }
+    ensures { IfOk result (λ o. OutcomeAt text.now at o) }
+{
+    match stopped.halt {
+        Some(halt) if is_node(at, halt) => {
             let mut part = part;
-            cut_back(alloc, text, record, &mut part)?;
+            cut_back(alloc, text, halt, &mut part)?;
             let reached = match stopped.stop {
                 Stop::At(place) | Stop::TooDeep(place) => place,
             };
             Ok(Outcome::Found(Found {
                 part,
-                end: record.end,
+                end: halt.end,
                 reached,
-                floor: record.floor,
+                floor: halt.floor,
             }))
         }
         _ => match stopped.stop {
@@ -189,13 +220,15 @@ fn outcome<'a>(
     }
 }
 
-// Whether a record keeps a node that has a character: no block node is empty.
-fn is_node(at: usize, record: Record) -> bool {
-    if record.end <= at {
+// Whether a halt keeps a node that has a character: no block node is empty.
+fn is_node(at: usize, halt: Halt) -> bool
+    ensures { result ≡ true → at < halt.entry.end }
+{
+    if halt.end <= at {
         return false;
     }
-    match record.owed {
-        Owed::Empty(None, _) => record.counts.events > 0,
+    match halt.owed {
+        Owed::Empty(None, _) => halt.counts.events > 0,
         _ => true,
     }
 }

@@ -1,7 +1,11 @@
 //! Behind a node, at the start of a line: the next entry of an open collection, or the end of collections.
+ghost use Rattle.std.specs.Prelude.{◌≡◌, ◌+◌, ◌-◌, ◌*◌, ◌<◌, ◌≤◌, length, IfOk};
+ghost use Rattle.std.specs.List.{All};
+ghost use Rattle.std.specs.Str.{IsCharBoundary};
+ghost use Rattle.yf_block.specs.Machine.{Ready, left, ProgressAt, MayPlace, FitsAt};
 
 use crate::entry::{take_entry, take_explicit_value, take_item};
-use crate::frame::{Frame, Kind, Open, Progress, Scope, State, Step};
+use crate::frame::{Frame, Frames, Kind, Progress, Scope, State, Step};
 use crate::look::{dash_stands, entry_place, sign_stands};
 use std::alloc::{AllocError, Global};
 use yf_events::event::Event;
@@ -11,7 +15,9 @@ use yf_flow::node::{empty_node, unplaced};
 // What a line is to an open collection.
 #[derive(Clone, Copy)]
 enum Fit {
-    // An entry begins at the offset.
+    // The next entry of a sequence begins at the offset.
+    Item(usize),
+    // The next entry of a mapping, or the `:` of one with a `?`.
     Entry(usize),
     // It is indented more than the entries are, up to the offset.
     Deeper(usize),
@@ -25,15 +31,23 @@ pub(crate) fn resume<'a>(
     scope: Scope<'a>,
     at: usize,
     progress: Progress<'a>,
-    open: &mut Open,
+    frames: &mut Frames,
     part: &mut Part<'a>,
-) -> Result<State<'a>, AllocError> {
+) -> Result<State<'a>, AllocError>
+    requires boundary { IsCharBoundary scope.text.now at }
+    requires progress { ProgressAt scope.text.now progress }
+    requires escapes { All (IsCharBoundary scope.text.now) part.old.escapes }
+    ensures ready { IfOk result (λ s. Ready scope.entry.text.now (at) s) }
+    ensures moves { IfOk result (λ s. left (length scope.entry.text.now) s.step < 3 * (length scope.entry.text.now - at) + 1) }
+    ensures escapes { IfOk result (λ _. All (IsCharBoundary scope.entry.text.now) part.new.escapes) }
+{
     let place = entry_place(scope.text, at);
-    'frames: while let Some(frame) = open.pop() {
+    'frames: while let Some(frame) = frames.pop() {
         match fit_of(scope.text, at, place, frame) {
-            Fit::Entry(start) => return next_entry(
-                alloc, scope, start, frame, progress, open, part,
-            ),
+            Fit::Item(start) => return take_item(scope.text, start, frame, progress, frames),
+            Fit::Entry(start) => {
+                return next_entry(alloc, scope, start, frame, progress, frames, part);
+            }
             Fit::Deeper(start) => return Ok(progress.and_then(Step::Failed(start))),
             Fit::Behind => end_collection(alloc, frame, progress.last, part)?,
         }
@@ -42,7 +56,10 @@ pub(crate) fn resume<'a>(
 }
 
 // What the line at an offset is to a collection; the place is that of its first character, if an entry may begin there.
-fn fit_of(text: &str, at: usize, place: Option<usize>, frame: Frame) -> Fit {
+fn fit_of(text: &str, at: usize, place: Option<usize>, frame: Frame) -> Fit
+    requires { MayPlace text.now at place }
+    ensures { FitsAt text.now at result }
+{
     match place {
         None => Fit::Behind,
         Some(start) => {
@@ -56,7 +73,7 @@ fn fit_of(text: &str, at: usize, place: Option<usize>, frame: Frame) -> Fit {
             match frame.kind {
                 Kind::Sequence => {
                     if dash_stands(text, start) {
-                        return Fit::Entry(start);
+                        return Fit::Item(start);
                     }
                     Fit::Behind
                 }
@@ -66,28 +83,30 @@ fn fit_of(text: &str, at: usize, place: Option<usize>, frame: Frame) -> Fit {
     }
 }
 
-// The next entry of a collection, or the `:` of an entry with a `?`.
+// The next entry of a mapping, or the `:` of an entry with a `?`.
 fn next_entry<'a>(
     alloc: Global,
     scope: Scope<'a>,
     at: usize,
     frame: Frame,
     progress: Progress<'a>,
-    open: &mut Open,
+    frames: &mut Frames,
     part: &mut Part<'a>,
-) -> Result<State<'a>, AllocError> {
-    match frame.kind {
-        Kind::Sequence => take_item(scope.text, at, frame, progress, open),
-        Kind::Mapping => {
-            if frame.awaits_colon {
-                if sign_stands(scope.text, at, b':') {
-                    return take_explicit_value(at, frame, progress, open, part);
-                }
-                part.events.push(empty_node(alloc, None))?;
-            }
-            take_entry(alloc, scope, at, frame, progress, open, part)
+) -> Result<State<'a>, AllocError>
+    requires boundary { IsCharBoundary scope.text.now at }
+    requires progress { ProgressAt scope.text.now progress }
+    requires escapes { All (IsCharBoundary scope.text.now) part.old.escapes }
+    ensures ready { IfOk result (λ s. Ready scope.entry.text.now (at) s) }
+    ensures moves { IfOk result (λ s. left (length scope.entry.text.now) s.step ≤ 3 * (length scope.entry.text.now - at)) }
+    ensures escapes { IfOk result (λ _. All (IsCharBoundary scope.entry.text.now) part.new.escapes) }
+{
+    if frame.awaits_colon {
+        if sign_stands(scope.text, at, b':') {
+            return take_explicit_value(at, frame, progress, frames, part);
         }
+        part.events.push(empty_node(alloc, None))?;
     }
+    take_entry(alloc, scope, at, frame, progress, frames, part)
 }
 
 // Ends a collection whose last node or indicator ends at an offset.
@@ -96,7 +115,9 @@ fn end_collection<'a>(
     frame: Frame,
     last: usize,
     part: &mut Part<'a>,
-) -> Result<(), AllocError> {
+) -> Result<(), AllocError>
+    ensures escapes { IfOk result (λ _. part.new.escapes ≡ part.old.escapes) }
+{
     let event = match frame.kind {
         Kind::Sequence => Event::SeqEnd,
         Kind::Mapping => Event::MapEnd,

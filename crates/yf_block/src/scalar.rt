@@ -1,21 +1,24 @@
 //! Block scalars as nodes (YAML 1.2.2, section 8.1).
+ghost use Rattle.std.specs.Prelude.{◌≡◌, ◌+◌, ◌-◌, ◌*◌, ◌<◌, ◌≤◌, length, IfOk, IfSome};
+ghost use Rattle.std.specs.Str.{IsCharBoundary};
+ghost use Rattle.yf_lines.specs.Basic.{LineStart};
+ghost use Rattle.yf_flow.specs.Machine.{Place};
+ghost use Rattle.yf_block.specs.Machine.{Ready, left, ProgressAt};
 
-use crate::content::flow_indentation;
-use crate::frame::{Open, Progress, Scope, State, Step};
+use crate::frame::{Frames, Progress, Scope, State, Step};
+use crate::halt::note_node;
+use crate::leaf::{read_header, read_lines};
 use crate::look::skip_lines;
-use crate::record::note_node;
 use std::alloc::{AllocError, Global};
 use yf_block_scalar::body::BlockText;
 use yf_block_scalar::content::content;
-use yf_block_scalar::header::{Chomp, Header};
-use yf_block_scalar::header_reader::{HeaderLine, block_header};
+use yf_block_scalar::header::Chomp;
+use yf_block_scalar::header_reader::HeaderLine;
 use yf_block_scalar::lines::Lines;
-use yf_block_scalar::reader::block_body;
 use yf_events::event::{Event, PlacedEvent, ScalarStyle, Span};
 use yf_events::part::Part;
 use yf_events::slices::Slices;
 use yf_flow::node::Lead;
-use yf_lines::basic::is_line_start;
 use yf_lines::text::{OwnedText, Text};
 
 /// Reads the block scalar whose `|` or `>` stands at an offset (s-l+block-scalar, production 199).
@@ -26,10 +29,16 @@ pub(crate) fn take_block_scalar<'a>(
     lead: Lead<'a>,
     least: usize,
     progress: Progress<'a>,
-    open: &Open,
+    frames: &Frames,
     part: &mut Part<'a>,
-) -> Result<State<'a>, AllocError> {
-    match block_header(scope.text, at) {
+) -> Result<State<'a>, AllocError>
+    requires boundary { IsCharBoundary scope.text.now at }
+    requires progress { ProgressAt scope.text.now progress }
+    ensures ready { IfOk result (λ s. Ready scope.entry.text.now (at) s) }
+    ensures moves { IfOk result (λ s. left (length scope.entry.text.now) s.step ≤ 3 * (length scope.entry.text.now - at)) }
+    ensures escapes { IfOk result (λ _. part.new.escapes ≡ part.old.escapes) }
+{
+    match read_header(scope.text, at) {
         None => Ok(progress.and_then(Step::Failed(at))),
         Some(
             HeaderLine {
@@ -43,21 +52,12 @@ pub(crate) fn take_block_scalar<'a>(
             }
             match read_lines(alloc, scope.text, end, least, header)? {
                 None => Ok(progress.and_then(Step::Failed(end))),
-                Some(block) => take_body(alloc, scope.text, end, lead, block, progress, open, part),
+                Some(block) => take_body(
+                    alloc, scope.text, end, lead, block, progress, frames, part,
+                ),
             }
         }
     }
-}
-
-// Reads the lines behind a header, which ends at an offset.
-fn read_lines<'a>(
-    alloc: Global,
-    text: &'a str,
-    at: usize,
-    least: usize,
-    header: Header,
-) -> Result<Option<BlockText<'a>>, AllocError> {
-    block_body(alloc, text, at, flow_indentation(least) - 1, header)
 }
 
 // Adds a block scalar whose lines have been read from an offset on.
@@ -68,9 +68,16 @@ fn take_body<'a>(
     lead: Lead<'a>,
     block: BlockText<'a>,
     progress: Progress<'a>,
-    open: &Open,
+    frames: &Frames,
     part: &mut Part<'a>,
-) -> Result<State<'a>, AllocError> {
+) -> Result<State<'a>, AllocError>
+    requires boundary { IsCharBoundary text.now at }
+    requires next { Place text.now at block.next }
+    requires progress { ProgressAt text.now progress }
+    ensures ready { IfOk result (λ s. Ready text.now (at) s) }
+    ensures moves { IfOk result (λ s. left (length text.now) s.step ≤ 3 * (length text.now - at) + 1) }
+    ensures escapes { IfOk result (λ _. part.new.escapes ≡ part.old.escapes) }
+{
     let finish = skip_lines(text, at, reach(&block));
     let next = block.next;
     part.events
@@ -82,7 +89,7 @@ fn take_body<'a>(
         floor: finish,
         ..progress
     };
-    let progress = note_node(text, next, next, None, progress, open, part);
+    let progress = note_node(text, next, next, None, progress, frames, part);
     Ok(progress.and_then(Step::Resume(next)))
 }
 

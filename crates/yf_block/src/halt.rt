@@ -1,6 +1,9 @@
 //! The last place at which all open nodes may end: what the reader falls back on where the text goes wrong later.
+ghost use Rattle.std.specs.Prelude.{◌≡◌, IfSome};
+ghost use Rattle.std.specs.Str.{IsCharBoundary};
+ghost use Rattle.yf_block.specs.Machine.{ProgressAt, MayBoundary};
 
-use crate::frame::{Fresh, Open, Progress};
+use crate::frame::{Frames, Fresh, Progress};
 use crate::held::Held;
 use crate::look::{comments_before, entry_place, last_line_start, sign_stands};
 use yf_events::event::Entry;
@@ -50,7 +53,7 @@ pub(crate) enum Owed<'a> {
 
 /// A place at which all open nodes may end.
 #[derive(Clone, Copy)]
-pub(crate) struct Record<'a> {
+pub(crate) struct Halt<'a> {
     /// The byte offset at which they end.
     pub(crate) end: usize,
     pub(crate) counts: Counts,
@@ -62,13 +65,16 @@ pub(crate) struct Record<'a> {
 }
 
 // What has been read, once all open nodes may end at the offset.
-fn noted<'a>(progress: Progress<'a>, end: usize, owed: Owed<'a>, part: &Part<'a>) -> Progress<'a> {
+fn noted<'a>(progress: Progress<'a>, end: usize, owed: Owed<'a>, part: &Part<'a>) -> Progress<'a>
+    ensures floor { result.floor ≡ progress.entry.floor }
+    ensures halt { IfSome result.halt (λ h. (h.end ≡ end) × (h.floor ≡ progress.entry.floor)) }
+{
     let counts = Counts {
         comments: comments_before(&part.comments, end),
         ..Counts::of(part)
     };
     Progress {
-        record: Some(Record {
+        halt: Some(Halt {
             end,
             counts,
             last: progress.last,
@@ -81,25 +87,27 @@ fn noted<'a>(progress: Progress<'a>, end: usize, owed: Owed<'a>, part: &Part<'a>
 
 // Whether the line at the offset has the `:` of an entry with a `?` that is open: the value of that entry may not be taken
 // to be empty before it.
-fn value_follows(text: &str, at: usize, open: &Open) -> bool {
+fn value_follows(text: &str, at: usize, frames: &Frames) -> bool
+    requires { IsCharBoundary text.now at }
+{
     match entry_place(text, at) {
         None => false,
         Some(place) => {
             if !sign_stands(text, place, b':') {
                 return false;
             }
-            awaits_colon_at(open, place - at)
+            awaits_colon_at(frames, place - at)
         }
     }
 }
 
 // Whether an open mapping awaits a `:` at the column.
-fn awaits_colon_at(open: &Open, column: usize) -> bool {
-    let frames = open.as_slice();
-    let mut index = frames.len();
+fn awaits_colon_at(frames: &Frames, column: usize) -> bool {
+    let items = frames.as_slice();
+    let mut index = items.len();
     'frames: while index > 0 {
         index -= 1;
-        let frame = frames[index];
+        let frame = items[index];
         if frame.column < column {
             return false;
         }
@@ -117,11 +125,16 @@ pub(crate) fn note_empty<'a>(
     text: &str,
     line: Fresh<'a>,
     progress: Progress<'a>,
-    open: &Open,
+    frames: &Frames,
     part: &Part<'a>,
-) -> Progress<'a> {
+) -> Progress<'a>
+    requires place { IsCharBoundary text.now line.at }
+    requires from { IsCharBoundary text.now line.from }
+    requires progress { ProgressAt text.now progress }
+    ensures { ProgressAt text.now result }
+{
     let owed = Owed::Empty(line.outer, line.wanted.entry);
-    if value_follows(text, line.at, open) {
+    if value_follows(text, line.at, frames) {
         return match last_line_start(text, line.from, line.at) {
             Some(end) => noted(progress, end, owed, part),
             None => progress,
@@ -137,10 +150,16 @@ pub(crate) fn note_node<'a>(
     at: usize,
     plain: Option<Plain<'a>>,
     progress: Progress<'a>,
-    open: &Open,
+    frames: &Frames,
     part: &Part<'a>,
-) -> Progress<'a> {
-    if value_follows(text, at, open) {
+) -> Progress<'a>
+    requires from { IsCharBoundary text.now from }
+    requires place { IsCharBoundary text.now at }
+    requires plain { MayBoundary text.now plain }
+    requires progress { ProgressAt text.now progress }
+    ensures { ProgressAt text.now result }
+{
+    if value_follows(text, at, frames) {
         return match last_line_start(text, from, at) {
             Some(end) => noted(progress, end, Owed::Nothing, part),
             None => note_shorter(text, plain, progress, part),
@@ -155,7 +174,11 @@ pub(crate) fn note_shorter<'a>(
     plain: Option<Plain<'a>>,
     progress: Progress<'a>,
     part: &Part<'a>,
-) -> Progress<'a> {
+) -> Progress<'a>
+    requires plain { MayBoundary text.now plain }
+    requires progress { ProgressAt text.now progress }
+    ensures { ProgressAt text.now result }
+{
     match plain {
         None => progress,
         Some(plain) => match last_line_start(text, plain.at, plain.end) {

@@ -1,0 +1,75 @@
+//! The readers of line ends, properties and block scalars, as block nodes take them.
+ghost use Rattle.std.specs.Prelude.{◌≡◌, ◌+◌, ◌<◌, length, IfOk, IfSome};
+ghost use Rattle.std.specs.Str.{IsCharBoundary};
+ghost use Rattle.yf_lines.specs.Basic.{LineStart};
+ghost use Rattle.yf_flow.specs.Machine.{Place};
+
+use crate::content::flow_indentation;
+use std::alloc::{AllocError, Global};
+use yf_block_scalar::body::BlockText;
+use yf_block_scalar::header::Header;
+use yf_block_scalar::header_reader::{HeaderLine, block_header};
+use yf_block_scalar::reader::block_body;
+use yf_chars::context::Ctx;
+use yf_comments::comments::Separation;
+use yf_comments::lines::line_end;
+use yf_props::properties::{Properties, node_properties};
+
+/// Reads the end of a line, and the comment lines behind it (s-l-comments, production 79).
+pub(crate) fn read_line_end<'a>(
+    alloc: Global,
+    text: &'a str,
+    at: usize,
+) -> Result<Option<Separation<'a>>, AllocError>
+    requires { IsCharBoundary text.now at }
+    ensures { IfOk result (λ o. IfSome o (λ p. Place text.now at p.end)) }
+{
+    match line_end(alloc, text, at)? {
+        Some(separation) => Ok(Some(separation)),
+        None => Ok(None),
+    }
+}
+
+/// Reads properties on one line (c-ns-properties(n,c), production 96).
+pub(crate) fn read_properties<'a>(
+    alloc: Global,
+    text: &'a str,
+    at: usize,
+) -> Result<Option<Properties<'a>>, AllocError>
+    ensures { IfOk result (λ o. IfSome o (λ p. Place text.now (at + 1) p.end)) }
+{
+    match node_properties(alloc, text, at, 0, Ctx::FlowKey)? {
+        Some(properties) => Ok(Some(properties)),
+        None => Ok(None),
+    }
+}
+
+/// Reads the header of a block scalar (c-b-block-header, production 162). Behind it a line begins, or the text ends.
+pub(crate) fn read_header<'a>(text: &'a str, at: usize) -> Option<HeaderLine<'a>>
+    ensures place { IfSome result (λ h. Place text.now (at + 1) h.end) }
+    ensures starts { IfSome result (λ h. h.end < length text.now → LineStart text.now h.end) }
+{
+    match block_header(text, at) {
+        Some(header) => Some(header),
+        None => None,
+    }
+}
+
+/// Reads the lines of a block scalar behind its header, which ends at an offset, in a node whose lines are indented by that
+/// many spaces at least.
+pub(crate) fn read_lines<'a>(
+    alloc: Global,
+    text: &'a str,
+    at: usize,
+    least: usize,
+    header: Header,
+) -> Result<Option<BlockText<'a>>, AllocError>
+    requires boundary { IsCharBoundary text.now at }
+    requires starts { at < length text.now → LineStart text.now at }
+    ensures { IfOk result (λ o. IfSome o (λ b. Place text.now at b.next)) }
+{
+    match block_body(alloc, text, at, flow_indentation(least) - 1, header)? {
+        Some(block) => Ok(Some(block)),
+        None => Ok(None),
+    }
+}
