@@ -1,24 +1,23 @@
 -- Laws of gaps: what the reader of a gap finds is the one gap that leads on.
-use Rattle.std.proofs.Common.{◌≡◌, ◌≢◌, ℕ, zero, suc, ◌+◌, ◌-◌, ◌<◌, ◌≤◌, ℤ, pos, Bool, true, false, List, [], ◌∷◌, ◌++◌, Option, Some, None, IsSome, refl, sym, ap, ◌∙◌, subst, inl, inr, ◌⊎◌, ⊎_elim, arith, append_assoc, append-nil, encode_utf8_all, length, take, drop, eqb}
+use Rattle.std.proofs.Common.{◌≡◌, ℕ, zero, suc, ◌+◌, ◌-◌, ◌≤◌, ℤ, pos, Bool, false, List, [], ◌∷◌, ◌++◌, Option, Some, None, IsSome, refl, sym, ap, ◌∙◌, subst, ⊎_elim, arith, append-nil, encode_utf8_all, length, take, drop, eqb}
 use lib.Utf8.{encode}
 use Rattle.std.proofs.lemmas.Str.{encodes-append}
 use Rattle.std.proofs.lemmas.Bool.{ne_eqb, true≢false}
 use Rattle.std.specs.Str.{IsUtf8}
-use Rattle.yf_chars.specs.declared.context.Ctx.TheVariants.{FlowIn}
-use Rattle.yf_chars.specs.Text.{code, next}
+use Rattle.yf_chars.specs.Text.{code}
 use Rattle.yf_chars.specs.Class.{is_white}
-use Rattle.yf_chars.specs.Chain.{Chain, Many, Functional, Stuck, Nowhere}
-use Rattle.yf_chars.proofs.ChainLemmas.{many_unique, chain_forward, one_functional}
-use Rattle.yf_lines.specs.Basic.{Break, Empty, FlowPrefix, FlowFolded}
-use Rattle.yf_lines.specs.Fold.{FoldsTo, FoldLines, ContentAt, line_feeds, fold_text}
+use Rattle.yf_chars.specs.Chain.{Many, Stuck, Nowhere}
+use Rattle.yf_chars.proofs.ChainLemmas.{many_unique}
+use Rattle.yf_lines.specs.Basic.{Break}
+use Rattle.yf_lines.specs.Fold.{FoldsTo, FoldLines, line_feeds, fold_text}
 use Rattle.yf_lines.proofs.BasicLemmas.{break_char, break_unique, no_break_here}
 use Rattle.yf_chars.proofs.TextLemmas.{reads_byte}
 use Rattle.yf_lines.proofs.BasicLemmas.{clear_join}
-use Rattle.yf_lines.proofs.ClearLemmas.{clear_whites, clear_char, clear_break, not_forbidden, Spelled, spelled_whites, spelled_slice}
-use Rattle.yf_lines.proofs.FoldLemmas.{clear_fold, clear_lines, folds_functional, fold_not_item, lines_unique, break_no_white, Whites}
-use Rattle.yf_quoted.specs.Quoted.{DoubleChar, DoubleBreak, Piece, goods, text_of, first_bad}
+use Rattle.yf_lines.proofs.ClearLemmas.{clear_whites, clear_char, clear_break, not_forbidden, spelled_whites, spelled_slice}
+use Rattle.yf_lines.proofs.FoldLemmas.{clear_fold, clear_lines, folds_functional, fold_not_item, lines_unique, break_no_white}
+use Rattle.yf_quoted.specs.Quoted.{DoubleBreak, Piece, goods, text_of, first_bad}
 use Rattle.yf_quoted.specs.Quoted.DoubleBreak.{folded_break, escaped_break}
-use Rattle.yf_quoted.specs.Body.{Gap, DoubleBreaks, PlainGap, NoPlainGap, DoubleGoesOn, DoubleGap, NoDoubleGap, gap_bytes}
+use Rattle.yf_quoted.specs.Body.{Gap, DoubleBreaks, PlainGap, NoPlainGap, DoubleGap, NoDoubleGap, gap_bytes}
 use Rattle.yf_quoted.specs.Body.Gap.{by_whites, by_break}
 use Rattle.yf_quoted.specs.Body.PlainGap.{of_whites, of_fold}
 use Rattle.yf_quoted.specs.Body.NoPlainGap.{at_break}
