@@ -22,11 +22,11 @@ use Rattle.yf_quoted.specs.Body.{Gap, DoubleBreaks}
 use Rattle.yf_quoted.specs.Body.Gap.{by_whites, by_break}
 use Rattle.yf_quoted.proofs.BodyLemmas.{Laws, Means}
 
-json_lf : is_nb_json 10 ≡ false
+pub json_lf : is_nb_json 10 ≡ false
 unfolding is_nb_json is_between
 json_lf = refl
 
-json_cr : is_nb_json 13 ≡ false
+pub json_cr : is_nb_json 13 ≡ false
 unfolding is_nb_json is_between
 json_cr = refl
 
@@ -203,7 +203,7 @@ pub goods_append : (x y : List ℕ) → goods (x ++ y) ≡ goods x ++ goods y
 goods_append [] y = refl
 goods_append (c ∷ x) y = ap (λ w. good c ∷ w) (goods_append x y)
 
-white_json : (c : ℕ) → is_white c ≡ true → is_nb_json c ≡ true
+pub white_json : (c : ℕ) → is_white c ≡ true → is_nb_json c ≡ true
 unfolding is_nb_json is_between
 white_json c e = ⊎_elim (λ (q : c ≡ 32). rw q refl) (λ (q : c ≡ 9). rw q refl) (white_cases c e)
 

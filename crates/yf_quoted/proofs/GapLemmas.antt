@@ -42,11 +42,11 @@ no_escape_at {t} {p = p} m n e = record {
 }
 
 -- texts of plain characters
-text_of_goods : (x : List ℕ) → text_of (goods x) ≡ x
+pub text_of_goods : (x : List ℕ) → text_of (goods x) ≡ x
 text_of_goods [] = refl
 text_of_goods (c ∷ x) = ap (λ w. c ∷ w) (text_of_goods x)
 
-no_bad_goods : (x : List ℕ) → first_bad (goods x) ≡ None
+pub no_bad_goods : (x : List ℕ) → first_bad (goods x) ≡ None
 no_bad_goods [] = refl
 no_bad_goods (c ∷ x) = no_bad_goods x
 
@@ -58,7 +58,7 @@ feeds_bytes (suc k) = ap (λ w. 10 ∷ w) (feeds_bytes k)
 no_slice : (t : List ℕ) (i : ℕ) → take (i - i) (drop i t) ≡ []
 no_slice t i = let z : i - i ≡ 0 = omega arith in rw z refl
 
-fold_gap_bytes : (t : List ℕ) (i k : ℕ) → gap_bytes t i i (eqb k 0) k ≡ encode_utf8_all (fold_text k)
+pub fold_gap_bytes : (t : List ℕ) (i k : ℕ) → gap_bytes t i i (eqb k 0) k ≡ encode_utf8_all (fold_text k)
 unfolding encode
 fold_gap_bytes t i zero = ap (λ w. w ++ (32 ∷ [])) (no_slice t i)
 fold_gap_bytes t i (suc k) =
@@ -72,7 +72,7 @@ break_of (Some w) b = (w, refl, b)
 to_breaks : {t : List ℕ} {o : Option ℕ} {i k : ℕ} {y : List Piece} (w : ℕ) → o ≡ Some w → DoubleBreak t (pos w) i k y → DoubleBreaks t o i k y
 to_breaks {t} {o} {i} {k} {y} w e b = subst (λ v. DoubleBreaks t v i k y) (sym e) b
 
-is_some : {o : Option ℕ} (w : ℕ) → o ≡ Some w → IsSome o
+pub is_some : {o : Option ℕ} (w : ℕ) → o ≡ Some w → IsSome o
 is_some w e = rw e refl
 
 pub none_some : {o : Option ℕ} → o ≡ None → IsSome o → ⊥
@@ -93,7 +93,7 @@ whites_only {o = o} m n b e (by_break d f) g = let r = break_of o d in absurd (w
 fold_no_escape : {t : List ℕ} {n : ℤ} {i h j : ℕ} {w x : List ℕ} → FoldsTo t n i j x → Many t is_white i h w → code t h ≡ 92 → ⊥
 fold_no_escape {t} {h = h} f m q = fold_not_item m (no_break_here t h (λ e. omega arith) (λ e. omega arith)) (backslash t h q) f
 
-same_width : {v w : ℕ} {o : Option ℕ} → o ≡ Some v → o ≡ Some w → v ≡ w
+pub same_width : {v w : ℕ} {o : Option ℕ} → o ≡ Some v → o ≡ Some w → v ≡ w
 same_width a b = cc
 
 fold_break_only : {t : List ℕ} {w i j k : ℕ} {x : List ℕ} {y : List Piece} → FoldsTo t (pos w) i j x → DoubleBreak t (pos w) i k y → is_white (code t k) ≡ false → Good t k

@@ -5,3 +5,5 @@ pub mod MarkLemmas
 pub mod QuotedLemmas
 pub mod ReadLemmas
 pub mod ScalarLemmas
+pub mod SingleLemmas
+pub mod WriteLemmas

@@ -1,9 +1,11 @@
 //! Quoted scalars with the values that the standard's productions give.
 use crate::double::{read_double, scan_double};
 use crate::single::read_single;
+use crate::write::{choose, write_double, write_single};
 use std::test::Fail;
 use yf_chars::context::Ctx;
 use yf_lines::fault::Fault;
+use yf_lines::quotes::Quotes;
 use yf_lines::source_text::Src;
 
 #[test]
@@ -96,5 +98,28 @@ fn goes_on_past_a_bad_escape(rt: HostRuntime) -> Result<(), Fail> {
 fn an_escaped_break_does_not_begin_a_line(rt: HostRuntime) -> Result<(), Fail> {
     let src = Src::new(rt.alloc(), "\"\n\\\n\"")?;
     assert!(rt; read_double(rt.alloc(), &src, 0, 0, Ctx::FlowOut)?.is_none());
+    Ok(())
+}
+
+#[test]
+fn single_quotes_hold_printable_characters_alone(rt: HostRuntime) {
+    assert_eq!(rt; choose("it's", Quotes::Single), Quotes::Single);
+    assert_eq!(rt; choose("it's\n", Quotes::Single), Quotes::Double);
+    assert_eq!(rt; choose("it's", Quotes::Double), Quotes::Double);
+}
+
+#[test]
+fn writes_a_quote_twice(rt: HostRuntime) -> Result<(), Fail> {
+    let mut out = String::new(rt.alloc());
+    write_single(&mut out, "it's")?;
+    assert_eq!(rt; out.as_str(), "'it''s'");
+    Ok(())
+}
+
+#[test]
+fn writes_a_line_feed_by_an_escape(rt: HostRuntime) -> Result<(), Fail> {
+    let mut out = String::new(rt.alloc());
+    write_double(&mut out, "it's\n")?;
+    assert_eq!(rt; out.as_str(), "\"it's\\n\"");
     Ok(())
 }

@@ -1,4 +1,4 @@
-use Rattle.std.proofs.Common.{◌≡◌, ◌++◌, ◌+◌, ◌∙◌, ap, length, encode_utf8, arith}
+use Rattle.std.proofs.Common.{◌+◌, ap, length, encode_utf8, arith}
 use Rattle.std.proofs.lemmas.Str.{IsUtf8-string_bytes}
 use Rattle.std.specs.String.{string_bytes}
 use Rattle.yf_quoted.specs.Body.{gap_bytes}

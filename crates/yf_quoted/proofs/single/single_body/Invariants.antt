@@ -1,5 +1,5 @@
-use Rattle.std.proofs.Common.{◌-◌, ◌≤◌, ◌≡◌, List, ℕ, length, take, IfSome}
-use Rattle.std.specs.Str.{IsCharBoundary, IsUtf8}
+use Rattle.std.proofs.Common.{◌-◌, ◌≤◌, length, IfSome}
+use Rattle.std.specs.Str.{IsCharBoundary}
 use Rattle.std.specs.String.{string_bytes}
 use Rattle.yf_quoted.proofs.MarkLemmas.{Marked}
 use Rattle.yf_quoted.proofs.single.single_body.Given as goal
