@@ -1,7 +1,9 @@
 pub mod BodyLemmas
+pub mod CloseLemmas
 pub mod DoubleLemmas
 pub mod GapLemmas
 pub mod MarkLemmas
+pub mod MarkedLemmas
 pub mod QuotedLemmas
 pub mod ReadLemmas
 pub mod ScalarLemmas

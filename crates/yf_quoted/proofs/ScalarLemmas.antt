@@ -98,7 +98,7 @@ pub no_negative_fold : {t : List ℕ} {n : ℤ} {i j : ℕ} {x : List ℕ} → n
 no_negative_fold l (at_break d p) = no_negative_prefix l p
 no_negative_fold l (past_whites s d p) = no_negative_prefix l p
 
-clear_byte : {t : List ℕ} {i b : ℕ} → IsUtf8 t → code t i ≡ b → b < 45 → Clear t i (i + 1)
+pub clear_byte : {t : List ℕ} {i b : ℕ} → IsUtf8 t → code t i ≡ b → b < 45 → Clear t i (i + 1)
 clear_byte {t} {i} {b} u q l = clear_char u (reads_byte t i b u q (omega arith)) (not_forbidden t i (λ e. omega arith) (λ e. omega arith))
 
 -- a kind of quotes: its characters C, its breaks D at an indentation, and the same breaks B where lines have a width

@@ -34,9 +34,9 @@ use Rattle.yf_quoted.specs.Written.{all_nb, quotes_for, twice, single_bytes, dou
 use Rattle.yf_quoted.proofs.BodyLemmas.{chars_body}
 use Rattle.yf_quoted.proofs.GapLemmas.{text_of_goods, no_bad_goods}
 use Rattle.yf_quoted.proofs.QuotedLemmas.{double_chosen}
+use Rattle.yf_quoted.proofs.MarkedLemmas.{line_derived, line_chosen}
 use Rattle.yf_quoted.proofs.ReadLemmas.{clear_escape}
-use Rattle.yf_quoted.proofs.ScalarLemmas.{some_width, body_map, body_quoted}
-use Rattle.yf_quoted.proofs.SingleLemmas.{single_kind, single_functional, single_means}
+use Rattle.yf_quoted.proofs.ScalarLemmas.{some_width, body_map}
 use Rattle.yf_quoted.proofs.DoubleLemmas.{char_functional, double_means}
 
 -- strings that grow
@@ -325,23 +325,36 @@ framed {t = t} {quote = quote} {i = i} middle rest u l m e inner =
 frame_length : (middle : List ℕ) (quote i : ℕ) → i + 1 + length middle + 1 ≡ i + length (quote ∷ middle ++ quote ∷ [])
 frame_length middle quote i = omega (arith, length-append middle (quote ∷ []))
 
+single_frame : {t : List ℕ} {i : ℕ} (cs rest : List ℕ) → all_nb cs ≡ true → IsUtf8 t → drop i t ≡ single_bytes cs ++ rest
+    → Framed t (SingleChar t) 39 i (i + 1 + length (encode_utf8_all (flat_map twice cs))) cs
+single_frame {t} {i} cs rest a u e =
+    let middle = encode_utf8_all (flat_map twice cs) in
+    let inner : (r : List ℕ) → Stands t (i + 1) (middle ++ r) → NoLine t (i + 1) → Walked t (SingleChar t) (i + 1) (i + 1 + length middle) cs r =
+    λ r s q. walk twice (λ x. x) refl (λ c cs. refl) is_nb_char (single_one u) all_nb (λ c cs h. and_parts (is_nb_char c) (all_nb cs) h) cs (i + 1) r a s q in
+    framed middle rest u (omega arith) (omega arith) e inner
+
 pub single_back : (cs : List ℕ) → all_nb cs ≡ true → SingleBack (single_bytes cs) cs
-single_back cs a = record { derived = derived } where
+single_back cs a = record { derived = derived; chosen = chosen } where
   derived : (t : List ℕ) (i : ℕ) (rest : List ℕ) (n : ℤ) (c : Ctx) → IsUtf8 t → drop i t ≡ single_bytes cs ++ rest → is_block c ≡ false
       → SingleQuoted t n c i (i + length (single_bytes cs)) cs
   derived t i rest n c u e b =
-      let middle = encode_utf8_all (flat_map twice cs) in
+      let f = single_frame cs rest a u e in
       let w = some_width n c b in
-      let inner : (r : List ℕ) → Stands t (i + 1) (middle ++ r) → NoLine t (i + 1) → Walked t (SingleChar t) (i + 1) (i + 1 + length middle) (cs) r = λ r s q. walk twice (λ x. x) refl (λ c cs. refl) is_nb_char (single_one u) all_nb (λ c cs h. and_parts (is_nb_char c) (all_nb cs) h) cs (i + 1) r a s q in
-      let f = framed middle rest u (omega arith) (omega arith) e inner in
-      let body = chars_body {B = λ i j x. ⊥} (single_functional t) (single_means t) (λ i j x b. b) f.inside f.closing f.clear in
-      subst (λ k. SingleQuoted t n c i k cs) (frame_length middle 39 i) (body_quoted (single_kind t) u w.1 f.opening (body_map (λ i j x b. absurd b) body))
+      subst (λ k. SingleQuoted t n c i k cs) (frame_length (encode_utf8_all (flat_map twice cs)) 39 i) (line_derived u w.1 f.opening f.inside f.clear f.closing)
+
+  chosen : (t : List ℕ) (i : ℕ) (rest : List ℕ) (n : ℤ) (c : Ctx) → IsUtf8 t → drop i t ≡ single_bytes cs ++ rest → is_block c ≡ false
+      → code t (i + length (single_bytes cs)) ≢ 39 → Chosen (SingleQuoted t n c i) (i + length (single_bytes cs)) cs
+  chosen t i rest n c u e b q =
+      let f = single_frame cs rest a u e in
+      let w = some_width n c b in
+      let end = frame_length (encode_utf8_all (flat_map twice cs)) 39 i in
+      subst (λ k. Chosen (SingleQuoted t n c i) k cs) end (line_chosen u w.1 f.opening f.inside f.clear f.closing (λ z. q (ap (code t) (sym end) ∙ z)))
 
 pub double_back : (cs : List ℕ) → scalars cs ≡ true → DoubleBack (double_bytes cs) cs
-double_back cs a = record { derived = derived } where
-  derived : (t : List ℕ) (i : ℕ) (rest : List ℕ) (n : ℤ) (c : Ctx) → IsUtf8 t → drop i t ≡ double_bytes cs ++ rest → is_block c ≡ false
+double_back cs a = record { chosen = chosen } where
+  chosen : (t : List ℕ) (i : ℕ) (rest : List ℕ) (n : ℤ) (c : Ctx) → IsUtf8 t → drop i t ≡ double_bytes cs ++ rest → is_block c ≡ false
       → (y : List Piece) × (text_of y ≡ cs) × (first_bad y ≡ None) × Chosen (DoubleQuoted t n c i) (i + length (double_bytes cs)) y
-  derived t i rest n c u e b =
+  chosen t i rest n c u e b =
       let middle = encode_utf8_all (flat_map spelled cs) in
       let w = some_width n c b in
       let inner : (r : List ℕ) → Stands t (i + 1) (middle ++ r) → NoLine t (i + 1) → Walked t (DoubleChar t) (i + 1) (i + 1 + length middle) (goods cs) r = λ r s q. walk spelled goods refl (λ c cs. refl) scalar (double_one u) scalars (λ c cs h. and_parts (scalar c) (scalars cs) h) cs (i + 1) r a s q in

@@ -1,7 +1,8 @@
 -- How a text is written in quotes on one line (YAML 1.2.2, sections 7.3.1 and 7.3.2), and what reading that gives.
-use Rattle.std.specs.Prelude.{◌≡◌, ℕ, ◌+◌, ℤ, Bool, true, false, ◌==◌, ◌&&◌, List, [], ◌∷◌, ◌++◌, drop, length, flat_map, encode_utf8_all, if◌then◌else◌, None}
+use Rattle.std.specs.Prelude.{◌≡◌, ◌≢◌, ℕ, ◌+◌, ℤ, Bool, true, false, ◌==◌, ◌&&◌, List, [], ◌∷◌, ◌++◌, drop, length, flat_map, encode_utf8_all, if◌then◌else◌, None}
 use Rattle.std.specs.Str.{IsUtf8}
 use Rattle.yf_chars.specs.declared.context.Ctx.{Ctx}
+use Rattle.yf_chars.specs.Text.{code}
 use Rattle.yf_chars.specs.Class.{is_nb_char}
 use Rattle.yf_chars.specs.Chain.{Chosen}
 use Rattle.yf_chars.specs.Escape.{spelled}
@@ -37,12 +38,14 @@ pub record Grown (old new : List ℕ) : Type 0 where
   pub is : new ≡ old ++ more
 
 -- wherever the bytes stand in a text, at any indentation and in each context of flow scalars, they are a single-quoted
--- scalar with those characters
+-- scalar with those characters; no longer scalar stands there, unless a quote follows
 pub record SingleBack (bytes x : List ℕ) : Type 0 where
   pub derived : (t : List ℕ) (i : ℕ) (rest : List ℕ) (n : ℤ) (c : Ctx) → IsUtf8 t → drop i t ≡ bytes ++ rest → is_block c ≡ false
       → SingleQuoted t n c i (i + length bytes) x
+  pub chosen : (t : List ℕ) (i : ℕ) (rest : List ℕ) (n : ℤ) (c : Ctx) → IsUtf8 t → drop i t ≡ bytes ++ rest → is_block c ≡ false
+      → code t (i + length bytes) ≢ 39 → Chosen (SingleQuoted t n c i) (i + length bytes) x
 
 -- the same for a double-quoted scalar; it has no bad escape, and no longer scalar stands there
 pub record DoubleBack (bytes x : List ℕ) : Type 0 where
-  pub derived : (t : List ℕ) (i : ℕ) (rest : List ℕ) (n : ℤ) (c : Ctx) → IsUtf8 t → drop i t ≡ bytes ++ rest → is_block c ≡ false
+  pub chosen : (t : List ℕ) (i : ℕ) (rest : List ℕ) (n : ℤ) (c : Ctx) → IsUtf8 t → drop i t ≡ bytes ++ rest → is_block c ≡ false
       → (y : List Piece) × (text_of y ≡ x) × (first_bad y ≡ None) × Chosen (DoubleQuoted t n c i) (i + length bytes) y
