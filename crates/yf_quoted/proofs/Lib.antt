@@ -3,9 +3,9 @@ pub mod CloseLemmas
 pub mod DoubleLemmas
 pub mod GapLemmas
 pub mod MarkLemmas
-pub mod MarkedLemmas
 pub mod QuotedLemmas
 pub mod ReadLemmas
 pub mod ScalarLemmas
 pub mod SingleLemmas
+pub mod SingleReadLemmas
 pub mod WriteLemmas

@@ -34,7 +34,7 @@ use Rattle.yf_quoted.specs.Written.{all_nb, quotes_for, twice, single_bytes, dou
 use Rattle.yf_quoted.proofs.BodyLemmas.{chars_body}
 use Rattle.yf_quoted.proofs.GapLemmas.{text_of_goods, no_bad_goods}
 use Rattle.yf_quoted.proofs.QuotedLemmas.{double_chosen}
-use Rattle.yf_quoted.proofs.MarkedLemmas.{line_derived, line_chosen}
+use Rattle.yf_quoted.proofs.SingleReadLemmas.{line_derived, line_chosen}
 use Rattle.yf_quoted.proofs.ReadLemmas.{clear_escape}
 use Rattle.yf_quoted.proofs.ScalarLemmas.{some_width, body_map}
 use Rattle.yf_quoted.proofs.DoubleLemmas.{char_functional, double_means}

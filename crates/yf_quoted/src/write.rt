@@ -101,11 +101,11 @@ pub fn write_double(out: &mut String, text: &str) -> Result<(), Fault>
     ensures unchanged { OnErr result (string_bytes out.new ≡ string_bytes out.old) }
     ensures refused { IfErr result (λ fault. fault ≡ Fault.Memory) }
 {
-    let start = out.len();
+    let end = out.len();
     match push_double(out, text) {
         Ok(()) => Ok(()),
         Err(_) => {
-            out.truncate(start);
+            out.truncate(end);
             Err(Fault::Memory)
         }
     }

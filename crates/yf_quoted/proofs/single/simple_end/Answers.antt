@@ -1,5 +1,5 @@
 use Rattle.std.proofs.Common.{arith}
-use Rattle.yf_quoted.proofs.MarkedLemmas.{row_nothing, row_more, row_slice}
+use Rattle.yf_quoted.proofs.SingleReadLemmas.{row_nothing, row_more, row_slice}
 use Rattle.yf_quoted.proofs.single.simple_end.Goals as goal
 
 pub chars-init : goal.chars-init

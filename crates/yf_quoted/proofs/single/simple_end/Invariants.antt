@@ -1,6 +1,6 @@
 use Rattle.std.proofs.Common.{◌-◌, ◌≤◌, length}
 use Rattle.std.specs.Str.{IsCharBoundary}
-use Rattle.yf_quoted.proofs.MarkedLemmas.{Row}
+use Rattle.yf_quoted.proofs.SingleReadLemmas.{Row}
 use Rattle.yf_quoted.proofs.single.simple_end.Given as goal
 
 abbrev pub invariant-chars : goal.invariant-chars

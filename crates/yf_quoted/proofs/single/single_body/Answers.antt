@@ -3,7 +3,7 @@ use Rattle.std.proofs.lemmas.Str.{IsUtf8-string_bytes}
 use Rattle.std.specs.String.{string_bytes}
 use Rattle.yf_quoted.specs.Body.{gap_bytes}
 use Rattle.yf_quoted.proofs.MarkLemmas.{marked_more, marked_split, mark_here}
-use Rattle.yf_quoted.proofs.MarkedLemmas.{single_nothing, single_more, single_closed, cut_read, no_gap_on, no_char_on}
+use Rattle.yf_quoted.proofs.SingleReadLemmas.{single_nothing, single_more, single_closed, cut_read, no_gap_on, no_char_on}
 use Rattle.yf_quoted.proofs.SingleLemmas.{single_of_plain, no_single_of_plain}
 use Rattle.yf_quoted.proofs.single.single_body.Goals as goal
 

@@ -2,7 +2,7 @@ use Rattle.std.proofs.Common.{◌-◌, ◌≤◌, length, IfSome}
 use Rattle.std.specs.Str.{IsCharBoundary}
 use Rattle.std.specs.String.{string_bytes}
 use Rattle.yf_quoted.proofs.MarkLemmas.{Marked}
-use Rattle.yf_quoted.proofs.MarkedLemmas.{SingleSoFar}
+use Rattle.yf_quoted.proofs.SingleReadLemmas.{SingleSoFar}
 use Rattle.yf_quoted.proofs.single.single_body.Given as goal
 
 abbrev pub invariant-chars : goal.invariant-chars

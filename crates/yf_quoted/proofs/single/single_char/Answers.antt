@@ -1,5 +1,5 @@
 use Rattle.std.proofs.Common.{sym, ◌∙◌}
-use Rattle.yf_quoted.proofs.MarkedLemmas.{no_single_end, no_single_other, pair_char, half_char, own_char}
+use Rattle.yf_quoted.proofs.SingleReadLemmas.{no_single_end, no_single_other, pair_char, half_char, own_char}
 use Rattle.yf_quoted.proofs.single.single_char.Goals as goal
 
 pub returns-then-stands-clause-reads : goal.returns-then-stands-clause-reads

@@ -1,6 +1,6 @@
 use Rattle.std.proofs.Common.{to_z-of_z, ◌∙◌}
 use Rattle.yf_quoted.specs.Body.{WidthOf}
-use Rattle.yf_quoted.proofs.MarkedLemmas.{line_chosen, single_read, no_single}
+use Rattle.yf_quoted.proofs.SingleReadLemmas.{line_chosen, single_read, no_single}
 use Rattle.yf_quoted.proofs.single.single_in.Goals as goal
 
 pub returns-in-Some-clause-reads : goal.returns-in-Some-clause-reads
