@@ -126,10 +126,10 @@ back_itself c s n e f = record {
   holds = λ t i rest u b d.
       let read = stands_char c u (record { bytes = d; boundary = b }) in
       let nb : is_nb_char c ≡ true = ⊎_elim (λ (h : c < 55296). plain_char c (omega arith) (inl h) n e f)
-          (λ (h : (57344 ≤ c) × (c < 1114112)). plain_char c h.1 (inr h.0) n e f) (scalar_cases c s) in
+      (λ (h : (57344 ≤ c) × (c < 1114112)). plain_char c h.1 (inr h.0) n e f) (scalar_cases c s) in
       let end : i + len_utf8 c ≡ i + length (encode c) = omega (arith, length-encode c) in
       as_itself (subst (λ j. Reads t i c j) end read.0) nb
-          (λ q. never (sym n ∙ ap short_name q ∙ short_quote)) (λ q. never (sym n ∙ ap short_name q ∙ short_backslash));
+      (λ q. never (sym n ∙ ap short_name q ∙ short_quote)) (λ q. never (sym n ∙ ap short_name q ∙ short_backslash));
 }
 
 long_back : (c : ℕ) → IsScalar c → short_name c ≡ None → ReadsBack (encode_utf8_all (spelled c)) c
