@@ -1,3 +1,4 @@
 pub mod ChainLemmas
 pub mod EscapeLemmas
+pub mod SpelledLemmas
 pub mod TextLemmas

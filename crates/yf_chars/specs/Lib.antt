@@ -1,4 +1,5 @@
 pub mod Chain
 pub mod Class
 pub mod Escape
+pub mod Spelled
 pub mod Text

@@ -4,6 +4,7 @@ ghost use Rattle.std.specs.String.{string_bytes, string_len, string_capacity};
 ghost use Rattle.std.specs.Str.{IsCharBoundary};
 ghost use Rattle.yf_chars.specs.Chain.{Stuck, Chosen};
 ghost use Rattle.yf_chars.specs.Escape as Escapes;
+ghost use Rattle.yf_chars.specs.Spelled.{ReadsBack};
 
 use crate::error::NoMemory;
 use crate::text::{peek, stands};
@@ -159,12 +160,14 @@ fn digits(s: &str, at: usize, count: usize) -> Option<u32>
 /// Appends a character as it is spelled in double quotes by this project: `"`, `\`, line feed, tab, carriage return and
 /// NUL by a backslash and a letter, other characters below a space and those from U+007F to U+00A0 as `\xHH`, separators
 /// of lines and paragraphs, the byte order mark, U+FFFE and U+FFFF as `\uHHHH`, digits in upper case, all else as itself.
+/// Wherever the bytes that are appended stand in a text, they are read as that character in double quotes.
 ///
 /// # Errors
 ///
 /// `NoMemory` where a growth of memory was refused; the string is then as before.
 pub fn push_escaped(out: &mut String, c: char) -> Result<(), NoMemory>
-    ensures { string_bytes out.new ≡ (if is_ok result then string_bytes out.old ++ encode_utf8_all (Escapes.spelled c) else string_bytes out.old) }
+    ensures spelled { string_bytes out.new ≡ (if is_ok result then string_bytes out.old ++ encode_utf8_all (Escapes.spelled c) else string_bytes out.old) }
+    ensures read { ReadsBack (encode_utf8_all (Escapes.spelled c)) c }
 {
     match out.reserve(6) {
         Ok(()) => {

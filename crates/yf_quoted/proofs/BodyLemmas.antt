@@ -1,20 +1,19 @@
 -- Laws of the inside of quoted scalars: character by character there is one way to go on.
-use Rattle.std.proofs.Common.{◌≡◌, ◌≢◌, ℕ, ◌+◌, ◌<◌, ◌≤◌, Bool, true, false, List, [], ◌∷◌, ◌++◌, refl, sym, ap, ◌∙◌, subst, inl, inr, ◌⊎◌, ⊎_elim, arith, append_assoc, append-nil}
-use Rattle.std.proofs.lemmas.Bool.{true≢false, cases_Bool}
+use Rattle.std.proofs.Common.{◌≡◌, ℕ, ◌<◌, ◌≤◌, true, false, List, [], ◌∷◌, ◌++◌, refl, sym, ap, ◌∙◌, subst, inl, inr, ◌⊎◌, ⊎_elim, arith, append_assoc}
+use Rattle.std.proofs.lemmas.Bool.{cases_Bool}
 use Rattle.yf_chars.specs.declared.context.Ctx.{Ctx}
 use Rattle.yf_chars.specs.Text.{code, next}
 use Rattle.yf_chars.specs.Class.{is_white}
-use Rattle.yf_chars.specs.Chain.{Chain, One, Many, Functional, Stuck, Chosen}
+use Rattle.yf_chars.specs.Chain.{Chain, Many, Functional, Stuck}
 use Rattle.yf_chars.specs.Chain.Chain.{done, step}
 use Rattle.yf_chars.specs.Chain.One.{one}
-use Rattle.yf_chars.proofs.ChainLemmas.{chain_append, chain_forward, chain_meet, chain_more, stuck_unique, Meets}
-use Rattle.yf_chars.proofs.ChainLemmas.Meets.{goes_on, falls_short}
-use Rattle.yf_lines.specs.Basic.{Clear, is_flow, is_key}
+use Rattle.yf_chars.proofs.ChainLemmas.{chain_append, chain_forward, chain_more, stuck_unique}
+use Rattle.yf_lines.specs.Basic.{Clear, is_flow}
 use Rattle.yf_lines.proofs.BasicLemmas.{clear_join, clear_front, clear_back, clear_nothing}
-use Rattle.yf_quoted.specs.Quoted.{Item, Rest, Inside, Quoted}
+use Rattle.yf_quoted.specs.Quoted.{Item, Rest, Inside}
 use Rattle.yf_quoted.specs.Quoted.Item.{set_off}
 use Rattle.yf_quoted.specs.Quoted.Rest.{blank, last_break, next_line}
-use Rattle.yf_quoted.specs.Quoted.Inside.{as_key, as_lines}
+use Rattle.yf_quoted.specs.Quoted.Inside.{as_lines}
 use Rattle.yf_quoted.specs.Body.{Gap, Step, Body}
 use Rattle.yf_quoted.specs.Body.Gap.{by_whites, by_break}
 

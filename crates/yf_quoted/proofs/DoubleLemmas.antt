@@ -1,17 +1,17 @@
 -- Laws of double-quoted scalars: their characters and breaks.
-use Rattle.std.proofs.Common.{◌≡◌, ◌≢◌, ℕ, ◌+◌, ◌<◌, ◌≤◌, ℤ, pos, Bool, true, false, List, [], ◌∷◌, ◌++◌, Option, Some, None, refl, sym, ap, ◌∙◌, subst, inl, inr, ◌⊎◌, ⊎_elim, arith, append_assoc, append-nil}
-use Rattle.std.proofs.lemmas.Bool.{true≢false, cases_Bool}
+use Rattle.std.proofs.Common.{◌≡◌, ◌≢◌, ℕ, ◌+◌, ◌<◌, ◌≤◌, ℤ, pos, true, false, List, [], ◌∷◌, ◌++◌, Option, Some, None, refl, sym, ap, ◌∙◌, subst, inl, inr, ◌⊎◌, ⊎_elim, arith}
+use Rattle.std.proofs.lemmas.Bool.{true≢false}
 use Rattle.yf_chars.specs.declared.context.Ctx.TheVariants.{FlowIn}
 use Rattle.std.specs.Char.{IsScalar}
 use Rattle.yf_chars.specs.Text.{code, next}
 use Rattle.yf_chars.specs.Class.{is_white, is_nb_json, is_between}
-use Rattle.yf_chars.specs.Chain.{Chain, One, Many, Functional, Stuck, Chosen, Nowhere}
+use Rattle.yf_chars.specs.Chain.{Chain, Many, Functional, Nowhere}
 use Rattle.yf_chars.specs.Escape.{Escape}
 use Rattle.yf_chars.proofs.ChainLemmas.{chain_forward, many_unique, one_functional}
 use Rattle.yf_chars.proofs.EscapeLemmas.{escape_unique, escape_backslash, escape_forward, escape_no_break}
 use Rattle.yf_chars.proofs.TextLemmas.{next_later}
 use Rattle.yf_lines.specs.Basic.{Break, Empty, FlowPrefix, FlowFolded}
-use Rattle.yf_lines.specs.Fold.{FoldsTo, FoldLines, ContentAt}
+use Rattle.yf_lines.specs.Fold.{FoldsTo, FoldLines}
 use Rattle.yf_lines.proofs.BasicLemmas.{break_char, break_unique, break_forward, no_break_here, white_cases}
 use Rattle.yf_lines.proofs.FoldLemmas.{folds_functional, fold_not_item, fold_order, lines_unique, empty_functional, whites_of_prefix}
 use Rattle.yf_quoted.specs.Quoted.{DoubleChar, DoubleBreak, Piece, goods}
@@ -22,11 +22,11 @@ use Rattle.yf_quoted.specs.Body.{Gap, DoubleBreaks}
 use Rattle.yf_quoted.specs.Body.Gap.{by_whites, by_break}
 use Rattle.yf_quoted.proofs.BodyLemmas.{Laws, Means}
 
-json_lf : is_nb_json 10 ≡ false
+pub json_lf : is_nb_json 10 ≡ false
 unfolding is_nb_json is_between
 json_lf = refl
 
-json_cr : is_nb_json 13 ≡ false
+pub json_cr : is_nb_json 13 ≡ false
 unfolding is_nb_json is_between
 json_cr = refl
 
@@ -203,7 +203,7 @@ pub goods_append : (x y : List ℕ) → goods (x ++ y) ≡ goods x ++ goods y
 goods_append [] y = refl
 goods_append (c ∷ x) y = ap (λ w. good c ∷ w) (goods_append x y)
 
-white_json : (c : ℕ) → is_white c ≡ true → is_nb_json c ≡ true
+pub white_json : (c : ℕ) → is_white c ≡ true → is_nb_json c ≡ true
 unfolding is_nb_json is_between
 white_json c e = ⊎_elim (λ (q : c ≡ 32). rw q refl) (λ (q : c ≡ 9). rw q refl) (white_cases c e)
 

@@ -1,24 +1,23 @@
 -- Laws of gaps: what the reader of a gap finds is the one gap that leads on.
-use Rattle.std.proofs.Common.{◌≡◌, ◌≢◌, ℕ, zero, suc, ◌+◌, ◌-◌, ◌<◌, ◌≤◌, ℤ, pos, Bool, true, false, List, [], ◌∷◌, ◌++◌, Option, Some, None, IsSome, refl, sym, ap, ◌∙◌, subst, inl, inr, ◌⊎◌, ⊎_elim, arith, append_assoc, append-nil, encode_utf8_all, length, take, drop, eqb}
+use Rattle.std.proofs.Common.{◌≡◌, ℕ, zero, suc, ◌+◌, ◌-◌, ◌≤◌, ℤ, pos, Bool, false, List, [], ◌∷◌, ◌++◌, Option, Some, None, IsSome, refl, sym, ap, ◌∙◌, subst, ⊎_elim, arith, append-nil, encode_utf8_all, length, take, drop, eqb}
 use lib.Utf8.{encode}
 use Rattle.std.proofs.lemmas.Str.{encodes-append}
 use Rattle.std.proofs.lemmas.Bool.{ne_eqb, true≢false}
 use Rattle.std.specs.Str.{IsUtf8}
-use Rattle.yf_chars.specs.declared.context.Ctx.TheVariants.{FlowIn}
-use Rattle.yf_chars.specs.Text.{code, next}
+use Rattle.yf_chars.specs.Text.{code}
 use Rattle.yf_chars.specs.Class.{is_white}
-use Rattle.yf_chars.specs.Chain.{Chain, Many, Functional, Stuck, Nowhere}
-use Rattle.yf_chars.proofs.ChainLemmas.{many_unique, chain_forward, one_functional}
-use Rattle.yf_lines.specs.Basic.{Break, Empty, FlowPrefix, FlowFolded}
-use Rattle.yf_lines.specs.Fold.{FoldsTo, FoldLines, ContentAt, line_feeds, fold_text}
+use Rattle.yf_chars.specs.Chain.{Many, Stuck, Nowhere}
+use Rattle.yf_chars.proofs.ChainLemmas.{many_unique}
+use Rattle.yf_lines.specs.Basic.{Break}
+use Rattle.yf_lines.specs.Fold.{FoldsTo, FoldLines, line_feeds, fold_text}
 use Rattle.yf_lines.proofs.BasicLemmas.{break_char, break_unique, no_break_here}
 use Rattle.yf_chars.proofs.TextLemmas.{reads_byte}
 use Rattle.yf_lines.proofs.BasicLemmas.{clear_join}
-use Rattle.yf_lines.proofs.ClearLemmas.{clear_whites, clear_char, clear_break, not_forbidden, Spelled, spelled_whites, spelled_slice}
-use Rattle.yf_lines.proofs.FoldLemmas.{clear_fold, clear_lines, folds_functional, fold_not_item, lines_unique, break_no_white, Whites}
-use Rattle.yf_quoted.specs.Quoted.{DoubleChar, DoubleBreak, Piece, goods, text_of, first_bad}
+use Rattle.yf_lines.proofs.ClearLemmas.{clear_whites, clear_char, clear_break, not_forbidden, spelled_whites, spelled_slice}
+use Rattle.yf_lines.proofs.FoldLemmas.{clear_fold, clear_lines, folds_functional, fold_not_item, lines_unique, break_no_white}
+use Rattle.yf_quoted.specs.Quoted.{DoubleBreak, Piece, goods, text_of, first_bad}
 use Rattle.yf_quoted.specs.Quoted.DoubleBreak.{folded_break, escaped_break}
-use Rattle.yf_quoted.specs.Body.{Gap, DoubleBreaks, PlainGap, NoPlainGap, DoubleGoesOn, DoubleGap, NoDoubleGap, gap_bytes}
+use Rattle.yf_quoted.specs.Body.{Gap, DoubleBreaks, PlainGap, NoPlainGap, DoubleGap, NoDoubleGap, gap_bytes}
 use Rattle.yf_quoted.specs.Body.Gap.{by_whites, by_break}
 use Rattle.yf_quoted.specs.Body.PlainGap.{of_whites, of_fold}
 use Rattle.yf_quoted.specs.Body.NoPlainGap.{at_break}
@@ -43,11 +42,11 @@ no_escape_at {t} {p = p} m n e = record {
 }
 
 -- texts of plain characters
-text_of_goods : (x : List ℕ) → text_of (goods x) ≡ x
+pub text_of_goods : (x : List ℕ) → text_of (goods x) ≡ x
 text_of_goods [] = refl
 text_of_goods (c ∷ x) = ap (λ w. c ∷ w) (text_of_goods x)
 
-no_bad_goods : (x : List ℕ) → first_bad (goods x) ≡ None
+pub no_bad_goods : (x : List ℕ) → first_bad (goods x) ≡ None
 no_bad_goods [] = refl
 no_bad_goods (c ∷ x) = no_bad_goods x
 
@@ -59,7 +58,7 @@ feeds_bytes (suc k) = ap (λ w. 10 ∷ w) (feeds_bytes k)
 no_slice : (t : List ℕ) (i : ℕ) → take (i - i) (drop i t) ≡ []
 no_slice t i = let z : i - i ≡ 0 = omega arith in rw z refl
 
-fold_gap_bytes : (t : List ℕ) (i k : ℕ) → gap_bytes t i i (eqb k 0) k ≡ encode_utf8_all (fold_text k)
+pub fold_gap_bytes : (t : List ℕ) (i k : ℕ) → gap_bytes t i i (eqb k 0) k ≡ encode_utf8_all (fold_text k)
 unfolding encode
 fold_gap_bytes t i zero = ap (λ w. w ++ (32 ∷ [])) (no_slice t i)
 fold_gap_bytes t i (suc k) =
@@ -73,7 +72,7 @@ break_of (Some w) b = (w, refl, b)
 to_breaks : {t : List ℕ} {o : Option ℕ} {i k : ℕ} {y : List Piece} (w : ℕ) → o ≡ Some w → DoubleBreak t (pos w) i k y → DoubleBreaks t o i k y
 to_breaks {t} {o} {i} {k} {y} w e b = subst (λ v. DoubleBreaks t v i k y) (sym e) b
 
-is_some : {o : Option ℕ} (w : ℕ) → o ≡ Some w → IsSome o
+pub is_some : {o : Option ℕ} (w : ℕ) → o ≡ Some w → IsSome o
 is_some w e = rw e refl
 
 pub none_some : {o : Option ℕ} → o ≡ None → IsSome o → ⊥
@@ -94,7 +93,7 @@ whites_only {o = o} m n b e (by_break d f) g = let r = break_of o d in absurd (w
 fold_no_escape : {t : List ℕ} {n : ℤ} {i h j : ℕ} {w x : List ℕ} → FoldsTo t n i j x → Many t is_white i h w → code t h ≡ 92 → ⊥
 fold_no_escape {t} {h = h} f m q = fold_not_item m (no_break_here t h (λ e. omega arith) (λ e. omega arith)) (backslash t h q) f
 
-same_width : {v w : ℕ} {o : Option ℕ} → o ≡ Some v → o ≡ Some w → v ≡ w
+pub same_width : {v w : ℕ} {o : Option ℕ} → o ≡ Some v → o ≡ Some w → v ≡ w
 same_width a b = cc
 
 fold_break_only : {t : List ℕ} {w i j k : ℕ} {x : List ℕ} {y : List Piece} → FoldsTo t (pos w) i j x → DoubleBreak t (pos w) i k y → is_white (code t k) ≡ false → Good t k

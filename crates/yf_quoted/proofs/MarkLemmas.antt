@@ -4,7 +4,7 @@ use Rattle.std.proofs.lemmas.List.{length-append, take-append-le}
 use Rattle.std.proofs.lemmas.Str.{IsCharBoundary-from_take, IsUtf8-string_bytes}
 use Rattle.std.proofs.Math.Seq.{take-length}
 use Rattle.std.specs.Str.{IsUtf8, IsCharBoundary}
-use Rattle.std.specs.String.{string_bytes, string_len}
+use Rattle.std.specs.String.{string_bytes}
 use Rattle.std.specs.String.Boundary.{IsSplitPoint}
 use Rattle.yf_quoted.specs.declared.single.Mark.{Mark}
 

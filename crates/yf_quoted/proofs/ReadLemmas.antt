@@ -1,24 +1,24 @@
 -- Laws for the reader of double-quoted scalars.
-use Rattle.std.proofs.Common.{◌≡◌, ◌≢◌, ℕ, ◌+◌, ◌<◌, ◌≤◌, ℤ, pos, Bool, true, false, List, [], ◌∷◌, ◌++◌, Option, Some, None, refl, sym, ap, ◌∙◌, subst, inl, inr, ◌⊎◌, ⊎_elim, arith, append_assoc, append-nil, encode_utf8_all, encode_utf8, SomeIff, IfSome}
+use Rattle.std.proofs.Common.{◌≡◌, ◌≢◌, ℕ, ◌+◌, Bool, false, List, [], ◌∷◌, ◌++◌, Option, Some, None, refl, sym, ap, ◌∙◌, subst, inl, inr, arith, append_assoc, append-nil, encode_utf8_all, encode_utf8, SomeIff, IfSome}
 use Rattle.std.proofs.lemmas.Bool.{true≢false}
 use Rattle.std.proofs.lemmas.Str.{encodes-append}
 use Rattle.std.specs.Char.{IsScalar}
 use Rattle.std.specs.Str.{IsUtf8, IsCharBoundary}
-use Rattle.yf_chars.specs.Text.{code, next, Reads, no_char}
+use Rattle.yf_chars.specs.Text.{code, no_char}
 use Rattle.yf_chars.specs.Class.{is_nb_json, is_between}
-use Rattle.yf_chars.specs.Chain.{Chain, Functional, Stuck}
+use Rattle.yf_chars.specs.Chain.{Chain, Stuck}
 use Rattle.yf_chars.specs.Chain.Chain.{done}
 use Rattle.yf_chars.specs.Escape.{Escape}
-use Rattle.yf_chars.proofs.EscapeLemmas.{escape_backslash, escape_no_sign, NoSign, escape_forward}
+use Rattle.yf_chars.proofs.EscapeLemmas.{escape_backslash, escape_no_sign}
 use Rattle.yf_chars.proofs.TextLemmas.{next_later}
 use Rattle.yf_chars.proofs.ChainLemmas.{chain_more}
-use Rattle.yf_lines.specs.Basic.{Forbidden, Clear}
+use Rattle.yf_lines.specs.Basic.{Clear}
 use Rattle.yf_lines.proofs.BasicLemmas.{clear_join, clear_back}
 use Rattle.yf_lines.proofs.ClearLemmas.{clear_char, not_forbidden}
 use Rattle.yf_quoted.specs.Quoted.{DoubleChar, Piece, goods, text_of, first_bad}
 use Rattle.yf_quoted.specs.Quoted.Piece.{good, bad}
 use Rattle.yf_quoted.specs.Quoted.DoubleChar.{unescaped, escaped, wrong}
-use Rattle.yf_quoted.specs.Body.{Gap, Step, Body, DoubleBreaks, DoubleGap, NoDoubleGap, DoubleGoesOn, Simple, NoSimple, NoDoubleChar, DoubleRead, NoDoubleBody, piece, shown, first_of, gap_bytes}
+use Rattle.yf_quoted.specs.Body.{Gap, Step, DoubleBreaks, DoubleGap, NoDoubleGap, Simple, NoSimple, NoDoubleChar, DoubleRead, NoDoubleBody, piece, shown, first_of, gap_bytes}
 use Rattle.yf_quoted.proofs.BodyLemmas.{no_body}
 use Rattle.yf_quoted.proofs.DoubleLemmas.{Written, written, double_laws, no_quote_char}
 use Rattle.yf_quoted.proofs.DoubleLemmas.Written.{itself, by_escape}

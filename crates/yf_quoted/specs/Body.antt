@@ -1,6 +1,6 @@
 -- The inside of quoted scalars, character by character, as their readers go on: a gap of whites or a break, and a
 -- character or the closing quote behind it.
-use Rattle.std.specs.Prelude.{◌<ℤ◌, ◌≢◌, ◌⊎◌, ◌==◌, IsSome, encode_utf8_all, ◌≡◌, ℕ, ◌+◌, ℤ, pos, Bool, true, false, List, [], ◌∷◌, ◌++◌, Option, Some, None, if◌then◌else◌, slice_range}
+use Rattle.std.specs.Prelude.{◌<ℤ◌, ◌≢◌, ◌⊎◌, ◌==◌, IsSome, encode_utf8_all, ◌≡◌, ℕ, ◌+◌, ◌≤◌, ℤ, pos, Bool, true, false, List, [], ◌∷◌, ◌++◌, Option, Some, None, if◌then◌else◌, slice_range}
 use Rattle.yf_chars.specs.declared.context.Ctx.{Ctx}
 use Rattle.yf_chars.specs.Text.{code, Reads}
 use Rattle.yf_chars.specs.Class.{is_white, is_nb_json}
@@ -8,7 +8,7 @@ use Rattle.yf_chars.specs.Chain.{Chain, Many, Stuck, Nowhere}
 use Rattle.yf_lines.specs.Basic.{Break, Forbidden, Clear, FlowFolded, is_flow, is_key}
 use Rattle.yf_lines.specs.Fold.{FoldsTo, fold_text, line_feeds}
 use Rattle.yf_quoted.specs.Quoted.Piece.{good, bad}
-use Rattle.yf_quoted.specs.Quoted.{Piece, DoubleChar, DoubleBreak, goods, text_of, first_bad}
+use Rattle.yf_quoted.specs.Quoted.{Piece, SingleChar, as_they_are, DoubleChar, DoubleBreak, goods, text_of, first_bad}
 
 -- the bytes of what stands between two characters: whites from i to blank_end, a space, and line feeds
 abbrev pub gap_bytes : List ℕ → ℕ → ℕ → Bool → ℕ → List ℕ
@@ -126,3 +126,20 @@ pub data WidthOf (n : ℤ) (c : Ctx) : Option ℕ → Type 0 where
 -- characters that stand for themselves in double quotes
 pub data SimpleChar (t : List ℕ) : ℕ → ℕ → List ℕ → Type 0 where
   simply : {i j : ℕ} → Simple t i j → SimpleChar t i j (code t i ∷ [])
+
+-- no character of a single-quoted scalar is there that covers no forbidden line
+pub record NoSingleChar (t : List ℕ) (i : ℕ) : Type 0 where
+  pub none : (j : ℕ) (y : List ℕ) → SingleChar t i j y → Clear t i j → ⊥
+
+-- the rest of a single-quoted scalar behind its opening quote, with the bytes of its text: of all that can be closed there,
+-- the longest
+pub record SingleRead (t : List ℕ) (o : Option ℕ) (i : ℕ) (bytes : List ℕ) (j : ℕ) : Type 0 where
+  pub text : List ℕ
+  pub close : ℕ
+  pub body : Body t as_they_are (SingleChar t) (SingleBreaks t o) 39 i close text
+  pub end : close + 1 ≡ j
+  pub is : bytes ≡ encode_utf8_all text
+  pub longest : (k : ℕ) (y : List ℕ) → Body t as_they_are (SingleChar t) (SingleBreaks t o) 39 i k y → (k ≤ close) × (k ≡ close → y ≡ text)
+
+pub record NoSingleBody (t : List ℕ) (o : Option ℕ) (i : ℕ) : Type 0 where
+  pub none : (k : ℕ) (y : List ℕ) → Body t as_they_are (SingleChar t) (SingleBreaks t o) 39 i k y → ⊥

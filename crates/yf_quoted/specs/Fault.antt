@@ -3,7 +3,7 @@ use Rattle.std.specs.Prelude.{◌≡◌, ℕ, ℤ, List, Option, Some, None}
 use Rattle.yf_chars.specs.declared.context.Ctx.{Ctx}
 use Rattle.yf_chars.specs.Chain.{Chosen}
 use Rattle.yf_lines.specs.declared.fault.Fault.{Fault}
-use Rattle.yf_lines.specs.declared.fault.Fault.TheVariants.{NotUtf8, Syntax, TooDeep, UnknownHandle, UnknownAlias, RepeatedDirective, BadVersion, EscapeValue, Memory, ReadFailed, WriteFailed, Config}
+use Rattle.yf_lines.specs.declared.fault.Fault.TheVariants.{EscapeValue, Memory}
 use Rattle.yf_lines.specs.declared.place.Place.{Place}
 use Rattle.yf_lines.specs.Lines.{PlaceOf}
 use Rattle.yf_quoted.specs.Quoted.{DoubleQuoted, Piece, first_bad}

@@ -1,6 +1,6 @@
 -- Single- and double-quoted scalars (YAML 1.2.2, sections 7.3.1 and 7.3.2) as relations between byte offsets of a text t:
 -- what stands from i to j is derived with the meaning x. n is an indentation, from -1; c is a context.
-use Rattle.std.specs.Prelude.{◌≡◌, ◌≢◌, ℕ, ◌+◌, ℤ, Bool, true, false, List, [], ◌∷◌, ◌++◌, Option, Some, None}
+use Rattle.std.specs.Prelude.{◌≡◌, ◌≢◌, ℕ, ◌+◌, ℤ, true, false, List, [], ◌∷◌, ◌++◌, Option, Some, None}
 use Rattle.std.specs.Char.{IsScalar}
 use Rattle.yf_chars.specs.declared.context.Ctx.{Ctx}
 use Rattle.yf_chars.specs.declared.context.Ctx.TheVariants.{FlowIn}

@@ -6,3 +6,4 @@ pub mod gap;
 pub mod single;
 #[cfg(test)]
 mod tests;
+pub mod write;

@@ -1,10 +1,14 @@
 //! The reader of single-quoted scalars. Offsets count bytes.
-ghost use Rattle.std.specs.Prelude.{◌≡◌, ◌<◌, ◌≤◌, ◌++◌, ◌+◌, ℕ, Bool, true, false, List, IfSome, IfOk, IfErr, MatchOption, length, take, if◌then◌else◌};
+ghost use Rattle.std.specs.Prelude.{◌≡◌, ◌≢◌, ◌<◌, ◌≤◌, ◌++◌, ◌+◌, ◌∷◌, [], ℕ, Bool, true, false, List, IfSome, IsSomeAnd, IfOk, IfErr, MatchOption, MatchBool, length, take, if◌then◌else◌, slice_range, encode_utf8_all};
 ghost use Rattle.std.specs.String.{string_bytes};
 ghost use Rattle.std.specs.String.Boundary.{IsSplitPoint};
-ghost use Rattle.yf_lines.specs.Text.{text_bytes};
 ghost use Rattle.std.specs.Str.{IsCharBoundary};
-ghost use Rattle.yf_chars.specs.Text.{Reads};
+ghost use Rattle.yf_chars.specs.Chain.{Chain, Stuck, Chosen};
+ghost use Rattle.yf_chars.specs.Text.{Reads, code};
+ghost use Rattle.yf_lines.specs.Basic.{Clear};
+ghost use Rattle.yf_lines.specs.Text.{text_bytes};
+ghost use Rattle.yf_quoted.specs.Body.{NoSingleChar, NoSingleBody, SingleRead};
+ghost use Rattle.yf_quoted.specs.Quoted as Q;
 
 use crate::gap::{is_block, lines_width, push_gap, single_gap};
 use std::alloc::{AllocError, Global};
@@ -33,6 +37,7 @@ pub fn read_single<'a>(
     ctx: Ctx,
 ) -> Result<Option<(Text<'a>, usize)>, Fault>
     requires { IsCharBoundary src.now.text at }
+    ensures reads { IfOk result (λ o. MatchOption o (Stuck (Q.SingleQuoted src.now.text n ctx at)) (λ p. (x : List ℕ) × (text_bytes p.0 ≡ encode_utf8_all x) × Chosen (Q.SingleQuoted src.now.text n ctx at) p.1 x)) }
     ensures boundary { IfOk result (λ o. IfSome o (λ p. IsCharBoundary src.now.text p.1)) }
     ensures refused { IfErr result (λ e. e ≡ Fault.Memory) }
 {
@@ -59,6 +64,7 @@ pub fn single_in<'a>(
     ctx: Ctx,
 ) -> Result<Option<Single<'a>>, AllocError>
     requires { IsCharBoundary s.now at }
+    ensures reads { IfOk result (λ o. MatchOption o (Stuck (Q.SingleQuoted s.now n ctx at)) (λ p. (x : List ℕ) × (text_bytes p.text ≡ encode_utf8_all x) × Chosen (Q.SingleQuoted s.now n ctx at) p.end x)) }
     ensures boundary { IfOk result (λ o. IfSome o (λ p. IsCharBoundary s.now p.end)) }
     ensures order { IfOk result (λ o. IfSome o (λ p. at < p.end)) }
 {
@@ -68,18 +74,24 @@ pub fn single_in<'a>(
     if !stands(s, at, b'\'') {
         return Ok(None);
     }
+    let width = lines_width(n, ctx);
     match simple_end(s, at + 1) {
         Some(close) => Ok(Some(Single {
             text: Text::Part(&s[at + 1..close]),
             end: close + 1,
         })),
-        None => single_body(alloc, s, at + 1, lines_width(n, ctx)),
+        None => match single_body(alloc, s, at + 1, width)? {
+            None => Ok(None),
+            Some(read) => Ok(Some(read)),
+        },
     }
 }
 
 // The place of the closing quote, where only characters that stand for themselves stand before it, and no quote behind.
 fn simple_end(s: &str, at: usize) -> Option<usize>
     requires { IsCharBoundary s.now at }
+    ensures reads { IfSome result (λ j. (x : List ℕ) × Chain (Q.SingleChar s.now) at j x × Clear s.now at j × (slice_range s.now at j ≡ encode_utf8_all x)) }
+    ensures alone { IfSome result (λ j. code s.now (j + 1) ≢ 39) }
     ensures boundary { IfSome result (λ j. IsCharBoundary s.now j) }
     ensures order { IfSome result (λ j. at ≤ j) }
     ensures close { IfSome result (λ j. Reads s.now j 39 (j + 1)) }
@@ -110,6 +122,8 @@ struct SingleChar {
 // A character of a single-quoted scalar (nb-single-char, production 118).
 fn single_char(s: &str, at: usize) -> Option<SingleChar>
     requires { IsCharBoundary s.now at }
+    ensures reads { MatchOption result (NoSingleChar s.now at) (λ c. Q.SingleChar s.now at c.end (c.value ∷ []) × Clear s.now at c.end) }
+    ensures doubled { IfSome result (λ c. MatchBool c.doubled (code s.now at ≡ 39) (code s.now at ≢ 39)) }
     ensures boundary { IfSome result (λ c. IsCharBoundary s.now c.end) }
     ensures order { IfSome result (λ c. at < c.end) }
     ensures quote { IfSome result (λ c. c.doubled ≡ true → IsCharBoundary s.now (at + 1)) }
@@ -157,6 +171,7 @@ fn single_body<'a>(
     width: Option<usize>,
 ) -> Result<Option<Single<'a>>, AllocError>
     requires { IsCharBoundary s.now at }
+    ensures reads { IfOk result (λ o. MatchOption o (NoSingleBody s.now width at) (λ p. SingleRead s.now width at (text_bytes p.text) p.end)) }
     ensures boundary { IfOk result (λ o. IfSome o (λ p. IsCharBoundary s.now p.end)) }
     ensures order { IfOk result (λ o. IfSome o (λ p. at < p.end)) }
 {
@@ -201,7 +216,7 @@ fn next_mark(mark: Option<Mark>, doubled: bool, len: usize, end: usize) -> Optio
 // The scalar up to the mark.
 fn cut<'a>(mut text: String, mark: Option<Mark>) -> Option<Single<'a>>
     requires { IfSome mark (λ m. IsSplitPoint (string_bytes text) m.len) }
-    ensures { MatchOption mark (result ≡ None) (λ m. IfSome result (λ r. (r.end ≡ m.end) × (text_bytes r.text ≡ take m.len (string_bytes text)))) }
+    ensures { MatchOption mark (result ≡ None) (λ m. IsSomeAnd result (λ r. (r.end ≡ m.end) × (text_bytes r.text ≡ take m.len (string_bytes text)))) }
 {
     match mark {
         None => None,

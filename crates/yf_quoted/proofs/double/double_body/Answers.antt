@@ -1,4 +1,4 @@
-use Rattle.std.proofs.Common.{◌≡◌, ◌++◌, ◌∙◌, ap, encode_utf8, arith}
+use Rattle.std.proofs.Common.{◌++◌, ◌∙◌, ap, encode_utf8, arith}
 use Rattle.std.specs.String.{string_bytes}
 use Rattle.yf_quoted.proofs.ReadLemmas.{nothing_yet, one_more, closed, no_gap_body, no_char_body, first_place}
 use Rattle.yf_quoted.proofs.double.double_body.Goals as goal

@@ -1,5 +1,5 @@
-use Rattle.std.proofs.Common.{◌≡◌, to_z-of_z}
-use Rattle.yf_quoted.specs.Body.{WidthOf, NoDoubleBody, DoubleRead}
+use Rattle.std.proofs.Common.{to_z-of_z}
+use Rattle.yf_quoted.specs.Body.{WidthOf}
 use Rattle.yf_quoted.proofs.QuotedLemmas.{simple_read, body_read, no_double}
 use Rattle.yf_quoted.proofs.double.double_in.Goals as goal
 

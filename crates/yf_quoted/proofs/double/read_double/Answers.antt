@@ -1,4 +1,4 @@
-use Rattle.std.proofs.Common.{◌≡◌, to_z-of_z}
+use Rattle.std.proofs.Common.{to_z-of_z}
 use Rattle.yf_quoted.specs.Fault.DoubleFault.{for_memory}
 use Rattle.yf_quoted.proofs.QuotedLemmas.{fault_from}
 use Rattle.yf_quoted.proofs.double.read_double.Goals as goal

@@ -1,5 +1,3 @@
-use Rattle.std.proofs.Common.{◌≡◌, Some, None}
-use Rattle.yf_quoted.specs.Body.{DoubleGap, NoDoubleGap}
 use Rattle.yf_quoted.proofs.GapLemmas.{double_of_plain, no_double_of_plain, no_escape_one_line, no_escape_at, escaped_found, no_escaped_lines}
 use Rattle.yf_quoted.proofs.gap.double_gap.Goals as goal
 

@@ -1,4 +1,3 @@
-use Rattle.std.proofs.Common.{◌≡◌}
 use Rattle.yf_quoted.specs.Body.PlainGap.{of_whites, of_fold}
 use Rattle.yf_quoted.specs.Body.NoPlainGap.{at_break}
 use Rattle.yf_quoted.proofs.GapLemmas.{none_some}

@@ -1,0 +1,16 @@
+use Rattle.std.proofs.Common.{arith}
+use Rattle.yf_quoted.proofs.SingleReadLemmas.{row_nothing, row_more, row_slice}
+use Rattle.yf_quoted.proofs.single.simple_end.Goals as goal
+
+pub chars-init : goal.chars-init
+chars-init c = record { row = row_nothing c.args.s.now c.args.at; boundary = c.requires; order = omega arith }
+
+pub returns-then-stands-clause-reads : goal.returns-then-stands-clause-reads
+returns-then-stands-clause-reads c = row_slice c.chars.invariant.boundary.0 c.chars.invariant.row
+
+pub chars-preserved : goal.chars-preserved
+chars-preserved c = record {
+  row = row_more c.utf8.s c.chars.invariant.row c.if-stands.ensures.cases c.in-Some.ensures.reads;
+  boundary = c.in-Some.ensures.boundary;
+  order = omega (arith, c.chars.invariant.order, c.in-Some.ensures.order);
+}

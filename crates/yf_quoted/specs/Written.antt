@@ -1,0 +1,51 @@
+-- How a text is written in quotes on one line (YAML 1.2.2, sections 7.3.1 and 7.3.2), and what reading that gives.
+use Rattle.std.specs.Prelude.{◌≡◌, ◌≢◌, ℕ, ◌+◌, ℤ, Bool, true, false, ◌==◌, ◌&&◌, List, [], ◌∷◌, ◌++◌, drop, length, flat_map, encode_utf8_all, if◌then◌else◌, None}
+use Rattle.std.specs.Str.{IsUtf8}
+use Rattle.yf_chars.specs.declared.context.Ctx.{Ctx}
+use Rattle.yf_chars.specs.Text.{code}
+use Rattle.yf_chars.specs.Class.{is_nb_char}
+use Rattle.yf_chars.specs.Chain.{Chosen}
+use Rattle.yf_chars.specs.Escape.{spelled}
+use Rattle.yf_lines.specs.Basic.{is_block}
+use Rattle.yf_lines.specs.declared.quotes.Quotes.{Quotes}
+use Rattle.yf_lines.specs.declared.quotes.Quotes.TheVariants.{Single, Double}
+use Rattle.yf_quoted.specs.Quoted.{SingleQuoted, DoubleQuoted, Piece, text_of, first_bad}
+
+-- every character is an nb-char
+abbrev pub all_nb : List ℕ → Bool
+all_nb [] = true
+all_nb (c ∷ cs) = is_nb_char c && all_nb cs
+
+-- the quotes for a text of these characters: single ones only where they are preferred and can hold it on one line
+abbrev pub quotes_for : List ℕ → Quotes → Quotes
+quotes_for cs Single = if all_nb cs then Single else Double
+quotes_for cs Double = Double
+
+-- in single quotes a quote is written twice
+abbrev pub twice : ℕ → List ℕ
+twice c = if c == 39 then 39 ∷ 39 ∷ [] else c ∷ []
+
+-- the bytes of the text in quotes
+abbrev pub single_bytes : List ℕ → List ℕ
+single_bytes cs = 39 ∷ encode_utf8_all (flat_map twice cs) ++ 39 ∷ []
+
+abbrev pub double_bytes : List ℕ → List ℕ
+double_bytes cs = 34 ∷ encode_utf8_all (flat_map spelled cs) ++ 34 ∷ []
+
+-- bytes that grew at the end
+pub record Grown (old new : List ℕ) : Type 0 where
+  pub more : List ℕ
+  pub is : new ≡ old ++ more
+
+-- wherever the bytes stand in a text, at any indentation and in each context of flow scalars, they are a single-quoted
+-- scalar with those characters; no longer scalar stands there, unless a quote follows
+pub record SingleBack (bytes x : List ℕ) : Type 0 where
+  pub derived : (t : List ℕ) (i : ℕ) (rest : List ℕ) (n : ℤ) (c : Ctx) → IsUtf8 t → drop i t ≡ bytes ++ rest → is_block c ≡ false
+      → SingleQuoted t n c i (i + length bytes) x
+  pub chosen : (t : List ℕ) (i : ℕ) (rest : List ℕ) (n : ℤ) (c : Ctx) → IsUtf8 t → drop i t ≡ bytes ++ rest → is_block c ≡ false
+      → code t (i + length bytes) ≢ 39 → Chosen (SingleQuoted t n c i) (i + length bytes) x
+
+-- the same for a double-quoted scalar; it has no bad escape, and no longer scalar stands there
+pub record DoubleBack (bytes x : List ℕ) : Type 0 where
+  pub chosen : (t : List ℕ) (i : ℕ) (rest : List ℕ) (n : ℤ) (c : Ctx) → IsUtf8 t → drop i t ≡ bytes ++ rest → is_block c ≡ false
+      → (y : List Piece) × (text_of y ≡ x) × (first_bad y ≡ None) × Chosen (DoubleQuoted t n c i) (i + length bytes) y

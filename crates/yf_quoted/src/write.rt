@@ -1,0 +1,125 @@
+//! Writes quoted scalars on one line (YAML 1.2.2, sections 7.3.1 and 7.3.2).
+ghost use Rattle.std.specs.Prelude.{◌≡◌, ◌++◌, ◌∷◌, [], IfErr, OnErr, OnOk, chars, encode_utf8_all};
+ghost use Rattle.std.specs.String.{string_bytes};
+ghost use Rattle.yf_quoted.specs.Written.{DoubleBack, Grown, SingleBack, all_nb, double_bytes, quotes_for, single_bytes, twice};
+
+use std::alloc::AllocError;
+use yf_chars::classes::is_nb_char;
+use yf_chars::error::NoMemory;
+use yf_chars::escapes::push_escaped;
+use yf_lines::fault::Fault;
+use yf_lines::quotes::Quotes;
+
+/// The quotes for a text: single ones where they are preferred and every character of the text is printable, no line
+/// break and no byte order mark (nb-char, production 27); else double ones.
+pub fn choose(text: &str, preferred: Quotes) -> Quotes
+    ensures { result ≡ quotes_for (chars text.now) preferred }
+{
+    match preferred {
+        Quotes::Single => {
+            if is_all_nb(text) {
+                return Quotes::Single;
+            }
+            Quotes::Double
+        }
+        Quotes::Double => Quotes::Double,
+    }
+}
+
+// Whether every character is an nb-char.
+fn is_all_nb(text: &str) -> bool
+    ensures { result ≡ all_nb (chars text.now) }
+{
+    for c in text.chars() {
+        if !is_nb_char(c) {
+            return false;
+        }
+    }
+    true
+}
+
+/// Appends the text in single quotes (c-single-quoted, production 120): a quote in it is written twice, all else as it is.
+///
+/// `choose` must answer `Quotes::Single` for the text. Wherever the bytes that are appended stand, at any indentation and
+/// in each context of flow scalars and keys, they are a single-quoted scalar with this text.
+///
+/// # Errors
+///
+/// `Fault::Memory` where a growth of memory was refused; the string is then as before.
+pub fn write_single(out: &mut String, text: &str) -> Result<(), Fault>
+    requires { quotes_for (chars text.now) Quotes.Single ≡ Quotes.Single }
+    ensures written { OnOk result (string_bytes out.new ≡ string_bytes out.old ++ single_bytes (chars text.now)) }
+    ensures read { SingleBack (single_bytes (chars text.now)) (chars text.now) }
+    ensures unchanged { OnErr result (string_bytes out.new ≡ string_bytes out.old) }
+    ensures refused { IfErr result (λ fault. fault ≡ Fault.Memory) }
+{
+    let start = out.len();
+    match push_single(out, text) {
+        Ok(()) => Ok(()),
+        Err(_) => {
+            out.truncate(start);
+            Err(Fault::Memory)
+        }
+    }
+}
+
+// Appends the text in single quotes, or a part of that.
+fn push_single(out: &mut String, text: &str) -> Result<(), AllocError>
+    ensures written { OnOk result (string_bytes out.new ≡ string_bytes out.old ++ single_bytes (chars text.now)) }
+    ensures grown { Grown (string_bytes out.old) (string_bytes out.new) }
+{
+    out.push('\'')?;
+    for c in text.chars() {
+        push_twice(out, c)?;
+    }
+    out.push('\'')?;
+    Ok(())
+}
+
+// Appends a character, or two quotes for one.
+fn push_twice(out: &mut String, c: char) -> Result<(), AllocError>
+    ensures written { OnOk result (string_bytes out.new ≡ string_bytes out.old ++ encode_utf8_all (twice c)) }
+    ensures grown { Grown (string_bytes out.old) (string_bytes out.new) }
+{
+    if c == '\'' {
+        return out.push_str("''");
+    }
+    out.push(c)
+}
+
+/// Appends the text in double quotes (c-double-quoted, production 109), each character as `push_escaped` spells it.
+///
+/// Wherever the bytes that are appended stand, at any indentation and in each context of flow scalars and keys, the
+/// longest double-quoted scalar there is these bytes, with this text.
+///
+/// # Errors
+///
+/// `Fault::Memory` where a growth of memory was refused; the string is then as before.
+pub fn write_double(out: &mut String, text: &str) -> Result<(), Fault>
+    ensures written { OnOk result (string_bytes out.new ≡ string_bytes out.old ++ double_bytes (chars text.now)) }
+    ensures read { DoubleBack (double_bytes (chars text.now)) (chars text.now) }
+    ensures unchanged { OnErr result (string_bytes out.new ≡ string_bytes out.old) }
+    ensures refused { IfErr result (λ fault. fault ≡ Fault.Memory) }
+{
+    let end = out.len();
+    match push_double(out, text) {
+        Ok(()) => Ok(()),
+        Err(_) => {
+            out.truncate(end);
+            Err(Fault::Memory)
+        }
+    }
+}
+
+// Appends the text in double quotes, or a part of that.
+fn push_double(out: &mut String, text: &str) -> Result<(), NoMemory>
+    ensures written { OnOk result (string_bytes out.new ≡ string_bytes out.old ++ double_bytes (chars text.now)) }
+    ensures grown { Grown (string_bytes out.old) (string_bytes out.new) }
+{
+    out.push('"')?;
+    for c in text.chars() {
+        push_escaped(out, c)?;
+    }
+    out.push('"')?;
+    Ok(())
+}
