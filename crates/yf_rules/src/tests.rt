@@ -1,0 +1,7 @@
+use crate::line_length::LineLength;
+use crate::rule::Rule;
+
+#[test]
+fn numbers(rt: HostRuntime) {
+    assert!(rt; LineLength.number() == 11);
+}
