@@ -2,15 +2,14 @@
 //! from 0 here.
 ghost use Rattle.std.specs.Prelude.{◌<◌, ◌≡◌, length, IfErr};
 
+use crate::comments_before::first_between;
+use crate::measure::{Measure, Measures, measure_all};
+use crate::style::Style;
 use std::alloc::{AllocError, Global};
 use yf_events::event::{Event, ScalarStyle};
 use yf_events::reading::Reading;
 use yf_lines::fault::Fault;
 use yf_lines::source_text::Src;
-
-use crate::comments_before::first_between;
-use crate::measure::{Measure, Measures, measure_all};
-use crate::style::Style;
 
 /// How many characters a key has at most that is written without `?`, its `:` not counted.
 pub const KEY_WIDTH: usize = 1023;
@@ -178,12 +177,7 @@ fn key_of(reading: &Reading, i: usize, measure: &Measure, is_implicit: bool) -> 
 }
 
 /// The comment that trails an implicit key, before a value that begins on the next line at that column if there is one.
-fn trailing_comment(
-    reading: &Reading,
-    key: &Key,
-    i: usize,
-    measure: &Measure,
-) -> Option<usize> {
+fn trailing_comment(reading: &Reading, key: &Key, i: usize, measure: &Measure) -> Option<usize> {
     if !measure.is_leaf(i) && !measure.can_be_kept {
         return None;
     }

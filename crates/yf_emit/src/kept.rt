@@ -1,16 +1,15 @@
 //! The text of a flow collection that is kept on one line.
 ghost use Rattle.std.specs.Prelude.{◌<◌, ◌≡◌, length, IfErr};
 
+use crate::measure::{Measures, measure_all};
+use crate::style::Style;
+use crate::wanted::wanted_of;
+use crate::written::{push_props, push_scalar};
 use std::alloc::{AllocError, Global};
 use yf_events::event::Event;
 use yf_events::reading::Reading;
 use yf_lines::fault::Fault;
 use yf_lines::source_text::Src;
-
-use crate::measure::{Measures, measure_all};
-use crate::style::Style;
-use crate::wanted::wanted_of;
-use crate::written::{push_props, push_scalar};
 
 /// A bracket whose closing one has not come yet.
 #[derive(Clone, Copy)]

@@ -1,6 +1,11 @@
 //! How wide each node is where it is written on one line: one pass over the events, inner nodes before outer ones.
 ghost use Rattle.std.specs.Prelude.{◌<◌, length};
 
+use crate::comments_before::first_between;
+use crate::content_start::content_start;
+use crate::style::Style;
+use crate::wanted::wanted_of;
+use crate::width::{joined_width, props_width, scalar_width};
 use std::alloc::{AllocError, Global};
 use yf_comments::comment::Comment;
 use yf_events::event::{Event, ScalarStyle, Span};
@@ -8,12 +13,6 @@ use yf_events::reading::Reading;
 use yf_lines::source_text::Src;
 use yf_lines::steady::is_steady;
 use yf_props::props::Props;
-
-use crate::comments_before::first_between;
-use crate::content_start::content_start;
-use crate::style::Style;
-use crate::wanted::wanted_of;
-use crate::width::{joined_width, props_width, scalar_width};
 
 /// What one pass finds of the node that an event begins.
 #[derive(Clone, Copy, Debug, PartialEq, Eq)]
@@ -157,7 +156,14 @@ fn alias(i: usize, name: &str) -> Ended {
     }
 }
 
-fn opened(src: &Src, i: usize, span: Option<Span>, props: &Props, flow: bool, is_map: bool) -> Open {
+fn opened(
+    src: &Src,
+    i: usize,
+    span: Option<Span>,
+    props: &Props,
+    flow: bool,
+    is_map: bool,
+) -> Open {
     let inside = match span {
         Some(span) => Some(Span {
             start: content_start(src.text(), span, props),

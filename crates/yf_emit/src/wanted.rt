@@ -1,13 +1,12 @@
 //! The style in which a scalar is written.
 ghost use Rattle.std.specs.Prelude.{◌<◌, length};
 
+use crate::style::Style;
 use yf_chars::classes::is_nb_char;
 use yf_events::event::{Event, ScalarStyle};
 use yf_events::reading::Reading;
 use yf_lines::quotes::Quotes;
 use yf_lines::steady::is_steady;
-
-use crate::style::Style;
 
 fn is_nb_text(text: &str) -> bool {
     text.chars().all(|c| is_nb_char(c))

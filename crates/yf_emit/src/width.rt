@@ -43,7 +43,10 @@ fn tag_width(tag: Tag) -> usize {
     match tag {
         Tag::Verbatim(name) => name.chars().count().saturating_add(3),
         Tag::Short { handle, suffix } => {
-            handle.chars().count().saturating_add(suffix.chars().count())
+            handle
+                .chars()
+                .count()
+                .saturating_add(suffix.chars().count())
         }
         Tag::NonSpecific => 1,
     }

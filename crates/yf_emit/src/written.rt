@@ -1,8 +1,8 @@
 //! The text of a node that is written on one line.
 
 use std::alloc::AllocError;
-use yf_chars::escapes::push_escaped;
 use yf_chars::error::NoMemory;
+use yf_chars::escapes::push_escaped;
 use yf_events::event::ScalarStyle;
 use yf_props::props::{Props, Tag};
 

@@ -1,5 +1,7 @@
 //! Rule 8, blank-lines.
 
+use crate::notes::{Notes, find_notes};
+use crate::rule::{Rule, placed};
 use std::alloc::{AllocError, Global};
 use yf_emit::style::Style;
 use yf_events::reading::Reading;
@@ -7,14 +9,22 @@ use yf_lines::fault::Fault;
 use yf_lines::place::Place;
 use yf_lines::source_text::Src;
 
-use crate::rule::{Rule, placed};
-use crate::notes::{Notes, find_notes};
-
 /// A blank line that is the first line, follows another one or a `---` alone on its line, stands directly before a document marker or a directive, or has only blank lines behind it.
 #[derive(Clone, Copy, Debug)]
 pub struct BlankLines;
 
 impl Rule for BlankLines {
+    ghost use Rattle.std.specs.Prelude.{true, codes};
+    ghost use Rattle.yf_rules.specs.Sets.{blank_lines_at};
+
+    ghost rule_number = { λ _. 8 };
+
+    ghost rule_id = { λ _. codes "blank-lines" };
+
+    ghost is_fixable = { λ _. true };
+
+    ghost faults = { λ _ src reading style offsets. blank_lines_at src reading style offsets };
+
     fn number(&self) -> usize {
         8
     }
@@ -34,7 +44,10 @@ impl Rule for BlankLines {
         reading: &Reading,
         style: &Style,
     ) -> Result<Vec<Place>, Fault> {
-        placed(alloc, src, offsets(alloc, src, reading, style))
+        match offsets(alloc, src, reading, style) {
+            Ok(offsets) => placed(alloc, src, offsets.as_slice()),
+            Err(AllocError) => Err(Fault::Memory),
+        }
     }
 }
 

@@ -1,14 +1,13 @@
 //! The lines of each scalar behind the one on which it begins.
 ghost use Rattle.std.specs.Prelude.{◌<◌, length};
 
+use crate::stands::Stands;
 use std::alloc::{AllocError, Global};
 use yf_block_scalar::header_reader::block_header;
 use yf_emit::content_start::content_start;
 use yf_events::event::{Event, ScalarStyle, Span};
 use yf_events::reading::Reading;
 use yf_lines::source_text::Src;
-
-use crate::stands::Stands;
 
 /// The lines of a scalar behind the one on which its content begins.
 #[derive(Clone, Copy, Debug)]

@@ -1,21 +1,31 @@
 //! Rule 7, byte-order-mark.
 
+use crate::rule::{Rule, placed};
 use std::alloc::{AllocError, Global};
 use yf_emit::style::Style;
+use yf_events::event::{Event, Span};
 use yf_events::reading::Reading;
+use yf_lines::basic::{mark_ends, mark_stands};
 use yf_lines::fault::Fault;
 use yf_lines::place::Place;
 use yf_lines::source_text::Src;
-
-use crate::rule::{Rule, placed};
-use yf_events::event::{Event, Span};
-use yf_lines::basic::{mark_ends, mark_stands};
 
 /// Each byte order mark outside of scalars. Of marks that stand together, which have one place, it is the first.
 #[derive(Clone, Copy, Debug)]
 pub struct ByteOrderMark;
 
 impl Rule for ByteOrderMark {
+    ghost use Rattle.std.specs.Prelude.{true, codes};
+    ghost use Rattle.yf_rules.specs.Sets.{byte_order_mark_at};
+
+    ghost rule_number = { λ _. 7 };
+
+    ghost rule_id = { λ _. codes "byte-order-mark" };
+
+    ghost is_fixable = { λ _. true };
+
+    ghost faults = { λ _ src reading style offsets. byte_order_mark_at src reading style offsets };
+
     fn number(&self) -> usize {
         7
     }
@@ -35,7 +45,10 @@ impl Rule for ByteOrderMark {
         reading: &Reading,
         style: &Style,
     ) -> Result<Vec<Place>, Fault> {
-        placed(alloc, src, offsets(alloc, src, reading, style))
+        match offsets(alloc, src, reading, style) {
+            Ok(offsets) => placed(alloc, src, offsets.as_slice()),
+            Err(AllocError) => Err(Fault::Memory),
+        }
     }
 }
 

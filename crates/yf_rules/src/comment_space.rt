@@ -1,22 +1,32 @@
 //! Rule 10, comment-space.
 
+use crate::rule::{Rule, placed};
+use crate::whites::whites_before;
 use std::alloc::{AllocError, Global};
+use yf_chars::text::stands;
 use yf_emit::style::Style;
 use yf_events::reading::Reading;
+use yf_lines::basic::is_line_start;
 use yf_lines::fault::Fault;
 use yf_lines::place::Place;
 use yf_lines::source_text::Src;
-
-use crate::rule::{Rule, placed};
-use yf_chars::text::stands;
-use yf_lines::basic::is_line_start;
-use crate::whites::whites_before;
 
 /// The `#` of a comment that has a character other than white before it on its line and not exactly two spaces directly before it.
 #[derive(Clone, Copy, Debug)]
 pub struct CommentSpace;
 
 impl Rule for CommentSpace {
+    ghost use Rattle.std.specs.Prelude.{true, codes};
+    ghost use Rattle.yf_rules.specs.Sets.{comment_space_at};
+
+    ghost rule_number = { λ _. 10 };
+
+    ghost rule_id = { λ _. codes "comment-space" };
+
+    ghost is_fixable = { λ _. true };
+
+    ghost faults = { λ _ src reading style offsets. comment_space_at src reading style offsets };
+
     fn number(&self) -> usize {
         10
     }
@@ -36,7 +46,10 @@ impl Rule for CommentSpace {
         reading: &Reading,
         style: &Style,
     ) -> Result<Vec<Place>, Fault> {
-        placed(alloc, src, offsets(alloc, src, reading, style))
+        match offsets(alloc, src, reading, style) {
+            Ok(offsets) => placed(alloc, src, offsets.as_slice()),
+            Err(AllocError) => Err(Fault::Memory),
+        }
     }
 }
 

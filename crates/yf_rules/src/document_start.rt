@@ -1,22 +1,32 @@
 //! Rule 4, document-start.
 
+use crate::notes::is_alone;
+use crate::rule::{Rule, placed};
 use std::alloc::{AllocError, Global};
 use yf_emit::style::Style;
+use yf_events::document::Doc;
+use yf_events::event::Event;
 use yf_events::reading::Reading;
 use yf_lines::fault::Fault;
 use yf_lines::place::Place;
 use yf_lines::source_text::Src;
-
-use crate::rule::{Rule, placed};
-use yf_events::document::Doc;
-use yf_events::event::Event;
-use crate::notes::is_alone;
 
 /// The first character of content of a document without `---`, and a `---` with more than whites behind it on its line.
 #[derive(Clone, Copy, Debug)]
 pub struct DocumentStart;
 
 impl Rule for DocumentStart {
+    ghost use Rattle.std.specs.Prelude.{true, codes};
+    ghost use Rattle.yf_rules.specs.Sets.{document_start_at};
+
+    ghost rule_number = { λ _. 4 };
+
+    ghost rule_id = { λ _. codes "document-start" };
+
+    ghost is_fixable = { λ _. true };
+
+    ghost faults = { λ _ src reading style offsets. document_start_at src reading style offsets };
+
     fn number(&self) -> usize {
         4
     }
@@ -36,7 +46,10 @@ impl Rule for DocumentStart {
         reading: &Reading,
         style: &Style,
     ) -> Result<Vec<Place>, Fault> {
-        placed(alloc, src, offsets(alloc, src, reading, style))
+        match offsets(alloc, src, reading, style) {
+            Ok(offsets) => placed(alloc, src, offsets.as_slice()),
+            Err(AllocError) => Err(Fault::Memory),
+        }
     }
 }
 

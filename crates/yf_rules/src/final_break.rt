@@ -1,5 +1,6 @@
 //! Rule 5, final-break.
 
+use crate::rule::{Rule, placed};
 use std::alloc::{AllocError, Global};
 use yf_emit::style::Style;
 use yf_events::reading::Reading;
@@ -7,13 +8,22 @@ use yf_lines::fault::Fault;
 use yf_lines::place::Place;
 use yf_lines::source_text::Src;
 
-use crate::rule::{Rule, placed};
-
 /// The end of a text that is not empty and does not end with a line break.
 #[derive(Clone, Copy, Debug)]
 pub struct FinalBreak;
 
 impl Rule for FinalBreak {
+    ghost use Rattle.std.specs.Prelude.{true, codes};
+    ghost use Rattle.yf_rules.specs.Sets.{final_break_at};
+
+    ghost rule_number = { λ _. 5 };
+
+    ghost rule_id = { λ _. codes "final-break" };
+
+    ghost is_fixable = { λ _. true };
+
+    ghost faults = { λ _ src reading style offsets. final_break_at src reading style offsets };
+
     fn number(&self) -> usize {
         5
     }
@@ -33,7 +43,10 @@ impl Rule for FinalBreak {
         reading: &Reading,
         style: &Style,
     ) -> Result<Vec<Place>, Fault> {
-        placed(alloc, src, offsets(alloc, src, reading, style))
+        match offsets(alloc, src, reading, style) {
+            Ok(offsets) => placed(alloc, src, offsets.as_slice()),
+            Err(AllocError) => Err(Fault::Memory),
+        }
     }
 }
 

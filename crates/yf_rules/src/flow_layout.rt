@@ -1,24 +1,34 @@
 //! Rule 9, flow-layout.
 ghost use Rattle.std.specs.Prelude.{◌<◌, length};
 
+use crate::rule::{Rule, placed};
 use std::alloc::{AllocError, Global};
+use yf_emit::content_start::content_start;
+use yf_emit::kept::kept_text_of;
+use yf_emit::measure::{Measures, measure_all};
 use yf_emit::style::Style;
+use yf_events::event::{Event, Span};
 use yf_events::reading::Reading;
 use yf_lines::fault::Fault;
 use yf_lines::place::Place;
 use yf_lines::source_text::Src;
-
-use crate::rule::{Rule, placed};
-use yf_emit::content_start::content_start;
-use yf_emit::kept::kept_text_of;
-use yf_emit::measure::{Measures, measure_all};
-use yf_events::event::{Event, Span};
 
 /// The opening bracket of a flow collection, in no other one, that is not written as the house style writes it, or may not be kept there.
 #[derive(Clone, Copy, Debug)]
 pub struct FlowLayout;
 
 impl Rule for FlowLayout {
+    ghost use Rattle.std.specs.Prelude.{true, codes};
+    ghost use Rattle.yf_rules.specs.Sets.{flow_layout_at};
+
+    ghost rule_number = { λ _. 9 };
+
+    ghost rule_id = { λ _. codes "flow-layout" };
+
+    ghost is_fixable = { λ _. true };
+
+    ghost faults = { λ _ src reading style offsets. flow_layout_at src reading style offsets };
+
     fn number(&self) -> usize {
         9
     }
@@ -38,7 +48,10 @@ impl Rule for FlowLayout {
         reading: &Reading,
         style: &Style,
     ) -> Result<Vec<Place>, Fault> {
-        placed(alloc, src, offsets(alloc, src, reading, style))
+        match offsets(alloc, src, reading, style) {
+            Ok(offsets) => placed(alloc, src, offsets.as_slice()),
+            Err(AllocError) => Err(Fault::Memory),
+        }
     }
 }
 

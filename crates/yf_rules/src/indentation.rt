@@ -1,23 +1,33 @@
 //! Rule 2, indentation.
 ghost use Rattle.std.specs.Prelude.{◌<◌, length};
 
+use crate::bodies::{Bodies, Body, find_bodies};
+use crate::rule::{Rule, placed};
+use crate::stands::{Stand, Stands, find_stands};
 use std::alloc::{AllocError, Global};
 use yf_emit::style::Style;
+use yf_events::event::Event;
 use yf_events::reading::Reading;
 use yf_lines::fault::Fault;
 use yf_lines::place::Place;
 use yf_lines::source_text::Src;
-
-use crate::rule::{Rule, placed};
-use yf_events::event::Event;
-use crate::bodies::{Bodies, Body, find_bodies};
-use crate::stands::{Stand, Stands, find_stands};
 
 /// The first entry of a block collection that does not stand at the column of the house style, and the header of a block scalar whose content does not.
 #[derive(Clone, Copy, Debug)]
 pub struct Indentation;
 
 impl Rule for Indentation {
+    ghost use Rattle.std.specs.Prelude.{true, codes};
+    ghost use Rattle.yf_rules.specs.Sets.{indentation_at};
+
+    ghost rule_number = { λ _. 2 };
+
+    ghost rule_id = { λ _. codes "indentation" };
+
+    ghost is_fixable = { λ _. true };
+
+    ghost faults = { λ _ src reading style offsets. indentation_at src reading style offsets };
+
     fn number(&self) -> usize {
         2
     }
@@ -37,7 +47,10 @@ impl Rule for Indentation {
         reading: &Reading,
         style: &Style,
     ) -> Result<Vec<Place>, Fault> {
-        placed(alloc, src, offsets(alloc, src, reading, style))
+        match offsets(alloc, src, reading, style) {
+            Ok(offsets) => placed(alloc, src, offsets.as_slice()),
+            Err(AllocError) => Err(Fault::Memory),
+        }
     }
 }
 

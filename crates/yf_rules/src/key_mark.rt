@@ -1,24 +1,34 @@
 //! Rule 13, key-mark.
 ghost use Rattle.std.specs.Prelude.{◌<◌, length};
 
+use crate::rule::{Rule, placed};
+use crate::stands::{Stands, find_stands};
+use crate::whites::has_question_mark;
 use std::alloc::{AllocError, Global};
+use yf_emit::decide::{Forms, decide};
+use yf_emit::measure::measure_all;
 use yf_emit::style::Style;
 use yf_events::reading::Reading;
 use yf_lines::fault::Fault;
 use yf_lines::place::Place;
 use yf_lines::source_text::Src;
 
-use crate::rule::{Rule, placed};
-use yf_emit::decide::{Forms, decide};
-use yf_emit::measure::measure_all;
-use crate::stands::{Stands, find_stands};
-use crate::whites::has_question_mark;
-
 /// The `?` of an entry of a block mapping whose key the house style writes without it.
 #[derive(Clone, Copy, Debug)]
 pub struct KeyMark;
 
 impl Rule for KeyMark {
+    ghost use Rattle.std.specs.Prelude.{true, codes};
+    ghost use Rattle.yf_rules.specs.Sets.{key_mark_at};
+
+    ghost rule_number = { λ _. 13 };
+
+    ghost rule_id = { λ _. codes "key-mark" };
+
+    ghost is_fixable = { λ _. true };
+
+    ghost faults = { λ _ src reading style offsets. key_mark_at src reading style offsets };
+
     fn number(&self) -> usize {
         13
     }
@@ -38,7 +48,10 @@ impl Rule for KeyMark {
         reading: &Reading,
         style: &Style,
     ) -> Result<Vec<Place>, Fault> {
-        placed(alloc, src, offsets(alloc, src, reading, style))
+        match offsets(alloc, src, reading, style) {
+            Ok(offsets) => placed(alloc, src, offsets.as_slice()),
+            Err(AllocError) => Err(Fault::Memory),
+        }
     }
 }
 

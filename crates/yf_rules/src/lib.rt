@@ -8,6 +8,7 @@ pub mod check;
 pub mod comment_space;
 pub mod document_start;
 pub mod final_break;
+pub mod finding;
 pub mod flow_layout;
 pub mod indentation;
 pub mod key_mark;
@@ -18,6 +19,7 @@ pub mod places;
 pub mod quoting;
 pub mod repeated_keys;
 pub mod rule;
+pub mod spot;
 pub mod stands;
 #[cfg(test)]
 mod tests;

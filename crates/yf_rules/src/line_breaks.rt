@@ -1,21 +1,31 @@
 //! Rule 6, line-breaks.
 
+use crate::rule::{Rule, placed};
 use std::alloc::{AllocError, Global};
+use yf_chars::text::stands;
 use yf_emit::style::Style;
 use yf_events::reading::Reading;
 use yf_lines::fault::Fault;
+use yf_lines::line::Line;
 use yf_lines::place::Place;
 use yf_lines::source_text::Src;
-
-use crate::rule::{Rule, placed};
-use yf_chars::text::stands;
-use yf_lines::line::Line;
 
 /// The break of the first line whose break is not a line feed.
 #[derive(Clone, Copy, Debug)]
 pub struct LineBreaks;
 
 impl Rule for LineBreaks {
+    ghost use Rattle.std.specs.Prelude.{true, codes};
+    ghost use Rattle.yf_rules.specs.Sets.{line_breaks_at};
+
+    ghost rule_number = { λ _. 6 };
+
+    ghost rule_id = { λ _. codes "line-breaks" };
+
+    ghost is_fixable = { λ _. true };
+
+    ghost faults = { λ _ src reading style offsets. line_breaks_at src reading style offsets };
+
     fn number(&self) -> usize {
         6
     }
@@ -35,7 +45,10 @@ impl Rule for LineBreaks {
         reading: &Reading,
         style: &Style,
     ) -> Result<Vec<Place>, Fault> {
-        placed(alloc, src, offsets(alloc, src, reading, style))
+        match offsets(alloc, src, reading, style) {
+            Ok(offsets) => placed(alloc, src, offsets.as_slice()),
+            Err(AllocError) => Err(Fault::Memory),
+        }
     }
 }
 

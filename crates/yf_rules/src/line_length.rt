@@ -1,21 +1,32 @@
 //! Rule 11, line-length.
+ghost use Rattle.std.specs.Str.{IsCharBoundary};
 
+use crate::places::skip_marks;
+use crate::rule::{Rule, placed};
 use std::alloc::{AllocError, Global};
+use yf_chars::text::peek;
 use yf_emit::style::Style;
 use yf_events::reading::Reading;
 use yf_lines::fault::Fault;
 use yf_lines::place::Place;
 use yf_lines::source_text::Src;
 
-use crate::rule::{Rule, placed};
-use yf_chars::text::peek;
-use crate::places::skip_marks;
-
 /// The column behind the longest line that the style allows, of a line that is longer.
 #[derive(Clone, Copy, Debug)]
 pub struct LineLength;
 
 impl Rule for LineLength {
+    ghost use Rattle.std.specs.Prelude.{false, codes};
+    ghost use Rattle.yf_rules.specs.Sets.{line_length_at};
+
+    ghost rule_number = { λ _. 11 };
+
+    ghost rule_id = { λ _. codes "line-length" };
+
+    ghost is_fixable = { λ _. false };
+
+    ghost faults = { λ _ src reading style offsets. line_length_at src reading style offsets };
+
     fn number(&self) -> usize {
         11
     }
@@ -35,15 +46,17 @@ impl Rule for LineLength {
         reading: &Reading,
         style: &Style,
     ) -> Result<Vec<Place>, Fault> {
-        placed(alloc, src, offsets(alloc, src, reading, style))
+        match offsets(alloc, src, reading, style) {
+            Ok(offsets) => placed(alloc, src, offsets.as_slice()),
+            Err(AllocError) => Err(Fault::Memory),
+        }
     }
 }
 
 /// The byte offset behind so many characters of a line, where at least one more stands before the line's end.
-fn behind_chars(text: &str, start: usize, end: usize, count: usize) -> Option<usize> {
-    if !text.is_char_boundary(start) {
-        return None;
-    }
+fn behind_chars(text: &str, start: usize, end: usize, count: usize) -> Option<usize>
+    requires { IsCharBoundary text.now start }
+{
     let mut at = start;
     for _ in 0..count {
         if at >= end {

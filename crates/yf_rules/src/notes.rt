@@ -1,17 +1,16 @@
 //! What is known of each line.
 ghost use Rattle.std.specs.Prelude.{◌<◌, length};
 
+use crate::bodies::{Bodies, Body, find_bodies};
+use crate::places::line_from;
+use crate::stands::find_stands;
+use crate::whites::is_white_line;
 use std::alloc::{AllocError, Global};
 use yf_events::document::Doc;
 use yf_events::event::Event;
 use yf_events::reading::Reading;
 use yf_lines::basic::skip_whites;
 use yf_lines::source_text::Src;
-
-use crate::bodies::{Bodies, Body, find_bodies};
-use crate::places::line_from;
-use crate::stands::find_stands;
-use crate::whites::is_white_line;
 
 /// What is known of a line.
 #[derive(Clone, Copy, Debug)]

@@ -1,23 +1,33 @@
 //! Rule 3, quoting.
 ghost use Rattle.std.specs.Prelude.{◌<◌, length};
 
+use crate::rule::{Rule, placed};
 use std::alloc::{AllocError, Global};
+use yf_emit::content_start::content_start;
 use yf_emit::style::Style;
+use yf_emit::wanted::wanted_style;
+use yf_events::event::Event;
 use yf_events::reading::Reading;
 use yf_lines::fault::Fault;
 use yf_lines::place::Place;
 use yf_lines::source_text::Src;
-
-use crate::rule::{Rule, placed};
-use yf_emit::content_start::content_start;
-use yf_emit::wanted::wanted_style;
-use yf_events::event::Event;
 
 /// The first character of content of a scalar whose style is not the one that the house style gives it.
 #[derive(Clone, Copy, Debug)]
 pub struct Quoting;
 
 impl Rule for Quoting {
+    ghost use Rattle.std.specs.Prelude.{true, codes};
+    ghost use Rattle.yf_rules.specs.Sets.{quoting_at};
+
+    ghost rule_number = { λ _. 3 };
+
+    ghost rule_id = { λ _. codes "quoting" };
+
+    ghost is_fixable = { λ _. true };
+
+    ghost faults = { λ _ src reading style offsets. quoting_at src reading style offsets };
+
     fn number(&self) -> usize {
         3
     }
@@ -37,7 +47,10 @@ impl Rule for Quoting {
         reading: &Reading,
         style: &Style,
     ) -> Result<Vec<Place>, Fault> {
-        placed(alloc, src, offsets(alloc, src, reading, style))
+        match offsets(alloc, src, reading, style) {
+            Ok(offsets) => placed(alloc, src, offsets.as_slice()),
+            Err(AllocError) => Err(Fault::Memory),
+        }
     }
 }
 

@@ -1,22 +1,32 @@
 //! Rule 12, repeated-keys.
 ghost use Rattle.std.specs.Prelude.{◌<◌, length};
 
+use crate::rule::{Rule, placed};
 use std::alloc::{AllocError, Global};
+use std::collections::BTreeSet;
 use yf_emit::style::Style;
+use yf_events::event::Event;
 use yf_events::reading::Reading;
 use yf_lines::fault::Fault;
 use yf_lines::place::Place;
 use yf_lines::source_text::Src;
-
-use crate::rule::{Rule, placed};
-use std::collections::BTreeSet;
-use yf_events::event::Event;
 
 /// The first character of a scalar key whose text and resolved tag are those of an earlier scalar key of its mapping.
 #[derive(Clone, Copy, Debug)]
 pub struct RepeatedKeys;
 
 impl Rule for RepeatedKeys {
+    ghost use Rattle.std.specs.Prelude.{false, codes};
+    ghost use Rattle.yf_rules.specs.Sets.{repeated_keys_at};
+
+    ghost rule_number = { λ _. 12 };
+
+    ghost rule_id = { λ _. codes "repeated-keys" };
+
+    ghost is_fixable = { λ _. false };
+
+    ghost faults = { λ _ src reading style offsets. repeated_keys_at src reading style offsets };
+
     fn number(&self) -> usize {
         12
     }
@@ -36,7 +46,10 @@ impl Rule for RepeatedKeys {
         reading: &Reading,
         style: &Style,
     ) -> Result<Vec<Place>, Fault> {
-        placed(alloc, src, offsets(alloc, src, reading, style))
+        match offsets(alloc, src, reading, style) {
+            Ok(offsets) => placed(alloc, src, offsets.as_slice()),
+            Err(AllocError) => Err(Fault::Memory),
+        }
     }
 }
 

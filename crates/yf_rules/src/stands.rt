@@ -1,14 +1,13 @@
 //! In which block collection each node stands, and at which column its entries do. Columns count from 0 here.
 ghost use Rattle.std.specs.Prelude.{◌<◌, length};
 
+use crate::places::places_of;
+use crate::whites::has_question_mark;
 use std::alloc::{AllocError, Global};
 use yf_events::event::Event;
 use yf_events::reading::Reading;
 use yf_lines::place::Place;
 use yf_lines::source_text::Src;
-
-use crate::places::places_of;
-use crate::whites::has_question_mark;
 
 /// Where the node stands that an event begins.
 #[derive(Clone, Copy, Debug)]
@@ -66,8 +65,9 @@ fn first_entry(reading: &Reading, i: usize) -> Option<usize>
         reading.event(i),
         Event::SeqStart { flow: false, .. } | Event::MapStart { flow: false, .. }
     );
-    if is_block && i + 1 < reading.len() {
-        return match reading.entry(i + 1) {
+    let next = i.saturating_add(1);
+    if is_block && next < reading.len() {
+        return match reading.entry(next) {
             Some(entry) => Some(entry.start),
             None => None,
         };
@@ -229,15 +229,7 @@ pub fn find_stands(alloc: Global, src: &Src, reading: &Reading) -> Result<Stands
     let mut k = 0;
     for i in 0..reading.len() {
         list.push(Stand::NONE)?;
-        k = pass(
-            &mut list,
-            &mut stack,
-            src,
-            reading,
-            places.as_slice(),
-            i,
-            k,
-        )?;
+        k = pass(&mut list, &mut stack, src, reading, places.as_slice(), i, k)?;
     }
     Ok(Stands { list })
 }

@@ -1,5 +1,8 @@
 //! Rule 1, trailing-blanks.
 
+use crate::notes::find_notes;
+use crate::rule::{Rule, placed};
+use crate::whites::whites_before;
 use std::alloc::{AllocError, Global};
 use yf_emit::style::Style;
 use yf_events::reading::Reading;
@@ -7,15 +10,22 @@ use yf_lines::fault::Fault;
 use yf_lines::place::Place;
 use yf_lines::source_text::Src;
 
-use crate::rule::{Rule, placed};
-use crate::notes::find_notes;
-use crate::whites::whites_before;
-
 /// The first of the whites that end a line, unless it is a content line of a block scalar.
 #[derive(Clone, Copy, Debug)]
 pub struct TrailingBlanks;
 
 impl Rule for TrailingBlanks {
+    ghost use Rattle.std.specs.Prelude.{true, codes};
+    ghost use Rattle.yf_rules.specs.Sets.{trailing_blanks_at};
+
+    ghost rule_number = { λ _. 1 };
+
+    ghost rule_id = { λ _. codes "trailing-blanks" };
+
+    ghost is_fixable = { λ _. true };
+
+    ghost faults = { λ _ src reading style offsets. trailing_blanks_at src reading style offsets };
+
     fn number(&self) -> usize {
         1
     }
@@ -35,7 +45,10 @@ impl Rule for TrailingBlanks {
         reading: &Reading,
         style: &Style,
     ) -> Result<Vec<Place>, Fault> {
-        placed(alloc, src, offsets(alloc, src, reading, style))
+        match offsets(alloc, src, reading, style) {
+            Ok(offsets) => placed(alloc, src, offsets.as_slice()),
+            Err(AllocError) => Err(Fault::Memory),
+        }
     }
 }
 

@@ -1,8 +1,8 @@
 //! Whites at the ends of lines and before comments.
 
-use yf_lines::basic::white_or_end_stands;
 use yf_chars::text::stands;
 use yf_events::event::Entry;
+use yf_lines::basic::white_or_end_stands;
 use yf_lines::line::Line;
 
 /// The byte offset of the first of the whites that stand directly before `end`, and not before `start`.
