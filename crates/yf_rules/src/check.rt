@@ -1,8 +1,10 @@
 //! All findings of several rules.
-ghost use Rattle.std.specs.Prelude.{◌≡◌, IfErr, IfOk};
-ghost use Rattle.yf_rules.specs.Check.{Checked, FindingsAt, FindingsOf, SortedFrom};
+ghost use Rattle.std.specs.Prelude.{◌≡◌, map, IfErr, IfOk};
+ghost use Rattle.yf_rules.specs.Check.{Checked, RuleFindings, SortedFrom, finding_at};
 ghost use Rattle.yf_rules.specs.Places.{FoundAt};
 
+use crate::finding::Finding;
+use crate::rule::Rule;
 use std::alloc::{AllocError, Global};
 use yf_emit::style::Style;
 use yf_events::reading::Reading;
@@ -10,8 +12,37 @@ use yf_lines::fault::Fault;
 use yf_lines::place::Place;
 use yf_lines::source_text::Src;
 
-use crate::finding::Finding;
-use crate::rule::Rule;
+fn number_of(rule: &Box<dyn Rule>) -> usize
+    ensures { result ≡ rule_number rule.now }
+{
+    rule.number()
+}
+
+fn id_of(rule: &Box<dyn Rule>) -> &'static str
+    ensures { result.now ≡ rule_id rule.now }
+{
+    rule.id()
+}
+
+fn fixable_of(rule: &Box<dyn Rule>) -> bool
+    ensures { result ≡ is_fixable rule.now }
+{
+    rule.fixable()
+}
+
+/// The places that a rule finds.
+fn places_by(
+    alloc: Global,
+    rule: &Box<dyn Rule>,
+    src: &Src,
+    reading: &Reading,
+    style: &Style,
+) -> Result<Vec<Place>, Fault>
+    ensures refused { IfErr result (λ fault. fault ≡ Fault.Memory) }
+    ensures found { IfOk result (λ places. FoundAt src.now.text (faults rule.now src.now reading.now style.now) places.items) }
+{
+    rule.find(alloc, src, reading, style)
+}
 
 /// The findings of a rule at these places.
 fn findings_at(
@@ -21,7 +52,7 @@ fn findings_at(
     fixable: bool,
     places: &[Place],
 ) -> Result<Vec<Finding>, AllocError>
-    ensures { IfOk result (λ findings. FindingsAt number id.now fixable places.now findings.items) }
+    ensures { IfOk result (λ findings. findings.items ≡ map (finding_at number id.entry fixable) places.now) }
 {
     places
         .iter()
@@ -43,12 +74,12 @@ fn findings_of(
     style: &Style,
 ) -> Result<Vec<Finding>, Fault>
     ensures refused { IfErr result (λ fault. fault ≡ Fault.Memory) }
-    ensures findings { IfOk result (λ findings. FindingsOf (rule_number rule.now) (rule_id rule.now) (is_fixable rule.now) (FoundAt src.now.text (λ offsets. faults rule.now src.now reading.now style.now offsets)) findings.items) }
+    ensures findings { IfOk result (λ findings. RuleFindings (rule_number rule.now) (rule_id rule.now) (is_fixable rule.now) (faults rule.now) src.now reading.now style.now findings.items) }
 {
-    let number = rule.number();
-    let id = rule.id();
-    let fixable = rule.fixable();
-    let places = rule.find(alloc, src, reading, style)?;
+    let number = number_of(rule);
+    let id = id_of(rule);
+    let fixable = fixable_of(rule);
+    let places = places_by(alloc, rule, src, reading, style)?;
     match findings_at(alloc, number, id, fixable, places.as_slice()) {
         Ok(findings) => Ok(findings),
         Err(AllocError) => Err(Fault::Memory),
@@ -59,7 +90,10 @@ fn findings_of(
 fn sort_findings(findings: &mut Vec<Finding>) -> Result<(), AllocError>
     ensures { IfOk result (λ _. SortedFrom findings.old.items findings.new.items) }
 {
-    findings.sort_by_key(|f| (f.place.line, f.place.column, f.number))
+    match findings.sort_by_key(|f| (f.place.line, f.place.column, f.number)) {
+        Ok(()) => Ok(()),
+        Err(AllocError) => Err(AllocError),
+    }
 }
 
 /// All findings of the rules, once for each box, in a text with this reading, sorted by line, column and number. Findings
@@ -76,7 +110,7 @@ pub fn check(
     style: &Style,
 ) -> Result<Vec<Finding>, Fault>
     ensures refused { IfErr result (λ fault. fault ≡ Fault.Memory) }
-    ensures findings { IfOk result (λ findings. Checked (λ rule found. FindingsOf (rule_number rule) (rule_id rule) (is_fixable rule) (FoundAt src.now.text (λ offsets. faults rule src.now reading.now style.now offsets)) found) rules.now findings.items) }
+    ensures findings { IfOk result (λ findings. Checked (λ rule found. RuleFindings (rule_number rule) (rule_id rule) (is_fixable rule) (faults rule) src.now reading.now style.now found) rules.now findings.items) }
 {
     let mut all = Vec::new(alloc);
     for rule in rules {

@@ -1,9 +1,12 @@
 //! Rule 5, final-break.
+ghost use Rattle.std.specs.Prelude.{IfOk};
+ghost use Rattle.yf_rules.specs.Sets.{final_break_at};
 
 use crate::rule::{Rule, placed};
 use std::alloc::{AllocError, Global};
 use yf_emit::style::Style;
 use yf_events::reading::Reading;
+use yf_lines::basic::break_ends;
 use yf_lines::fault::Fault;
 use yf_lines::place::Place;
 use yf_lines::source_text::Src;
@@ -50,21 +53,23 @@ impl Rule for FinalBreak {
     }
 }
 
-/// The end of the text, if its last line has no break.
+/// The end of the text, if it is not empty and no break ends there.
 fn offsets(
     alloc: Global,
     src: &Src,
-    _reading: &Reading,
-    _style: &Style,
-) -> Result<Vec<usize>, AllocError> {
+    reading: &Reading,
+    style: &Style,
+) -> Result<Vec<usize>, AllocError>
+    ensures { IfOk result (λ offsets. final_break_at src.now reading.now style.now offsets.items) }
+{
     let mut offsets = Vec::new(alloc);
-    let lines = src.lines();
-    let count = lines.len();
-    if count > 0 {
-        let line = lines.line(count - 1);
-        if line.end == line.next {
-            offsets.push(line.end)?;
-        }
+    let text = src.text();
+    if text.is_empty() {
+        return Ok(offsets);
     }
+    if break_ends(text, text.len()) {
+        return Ok(offsets);
+    }
+    offsets.push(text.len())?;
     Ok(offsets)
 }

@@ -1,4 +1,7 @@
 //! Rule 6, line-breaks.
+ghost use Rattle.std.specs.Prelude.{◌≡◌, [], ◌∷◌, IfOk, MatchOption};
+ghost use Rattle.yf_rules.specs.Sets as Sets;
+ghost use Rattle.yf_rules.specs.Sets.{line_breaks_at};
 
 use crate::rule::{Rule, placed};
 use std::alloc::{AllocError, Global};
@@ -6,7 +9,6 @@ use yf_chars::text::stands;
 use yf_emit::style::Style;
 use yf_events::reading::Reading;
 use yf_lines::fault::Fault;
-use yf_lines::line::Line;
 use yf_lines::place::Place;
 use yf_lines::source_text::Src;
 
@@ -52,25 +54,32 @@ impl Rule for LineBreaks {
     }
 }
 
-/// Whether a line has a break that is no line feed.
-fn has_other_break(text: &str, line: Line) -> bool {
-    line.end < line.next && stands(text, line.end, b'\r')
-}
-
 fn offsets(
     alloc: Global,
     src: &Src,
-    _reading: &Reading,
-    _style: &Style,
-) -> Result<Vec<usize>, AllocError> {
+    reading: &Reading,
+    style: &Style,
+) -> Result<Vec<usize>, AllocError>
+    ensures { IfOk result (λ offsets. line_breaks_at src.now reading.now style.now offsets.items) }
+{
     let mut offsets = Vec::new(alloc);
+    if let Some(offset) = first_return(src) {
+        offsets.push(offset)?;
+    }
+    Ok(offsets)
+}
+
+/// The first offset at which a line ends with a break that begins with a carriage return.
+fn first_return(src: &Src) -> Option<usize>
+    ensures { MatchOption result (Sets.first_return src.now.text src.now.lines ≡ []) (λ offset. Sets.first_return src.now.text src.now.lines ≡ offset ∷ []) }
+{
+    let text = src.text();
     let lines = src.lines();
     for i in 0..lines.len() {
         let line = lines.line(i);
-        if has_other_break(src.text(), line) {
-            offsets.push(line.end)?;
-            return Ok(offsets);
+        if stands(text, line.end, b'\r') {
+            return Some(line.end);
         }
     }
-    Ok(offsets)
+    None
 }

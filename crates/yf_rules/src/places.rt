@@ -169,11 +169,7 @@ pub fn places_of(
 }
 
 /// The places of the byte offsets that have one, in their order and in one pass where the offsets ascend.
-pub fn known_places(
-    alloc: Global,
-    src: &Src,
-    offsets: &[usize],
-) -> Result<Vec<Place>, AllocError>
+pub fn known_places(alloc: Global, src: &Src, offsets: &[usize]) -> Result<Vec<Place>, AllocError>
     ensures { IfOk result (λ places. PlacesOf src.now.text offsets.now places.items) }
 {
     let mut places = Vec::new(alloc);

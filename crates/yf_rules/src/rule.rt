@@ -2,14 +2,13 @@
 ghost use Rattle.std.specs.Prelude.{◌≡◌, IfErr, IfOk};
 ghost use Rattle.yf_rules.specs.Places.{PlacesOf};
 
+use crate::places::known_places;
 use std::alloc::{AllocError, Global};
 use yf_emit::style::Style;
 use yf_events::reading::Reading;
 use yf_lines::fault::Fault;
 use yf_lines::place::Place;
 use yf_lines::source_text::Src;
-
-use crate::places::known_places;
 
 /// A rule of style. The places at fault are those of its set, a function of the text, its reading and the style.
 pub trait Rule: Drop {
@@ -52,7 +51,7 @@ pub trait Rule: Drop {
         style: &Style,
     ) -> Result<Vec<Place>, Fault>
         ensures refused { IfErr result (λ fault. fault ≡ Fault.Memory) }
-        ensures found { IfOk result (λ places. FoundAt src.now.text (λ offsets. faults self.now src.now reading.now style.now offsets) places.items) };
+        ensures found { IfOk result (λ places. FoundAt src.now.text (faults self.now src.now reading.now style.now) places.items) };
 }
 
 /// The places of the byte offsets that a rule found, unless memory was refused.

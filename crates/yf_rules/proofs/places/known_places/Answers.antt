@@ -21,18 +21,18 @@ loop-offset-preserved c =
     let lt : i < length os = omega arith in
     let before : PlacesOf t (take i os) c.loop-offset.places.items = c.loop-offset.invariant.places in
     elim c.if-is_char_boundary.branch [
-      then-is_char_boundary+in_ok-push w ↦
-      let b : IsCharBoundary t (get_or os i 0) = subst (λ x. IsCharBoundary x (get_or os i 0)) c.text.ensures (w.if-is_char_boundary.ensures.test.0 refl) in
-      let e = ap (λ v. v.items) w.places-is ∙ w.in_ok-push.ensures.items in
-      record {
-        places = places_more t os i c.loop-offset.places.items c.if-is_char_boundary.places.items w.place_from-step.result.place lt before b w.place_from-step.ensures.place e;
-        spot = subst (λ s. IsSpot t c.args.src.now.lines s) (sym w.spot-is) w.place_from-step.ensures.spot;
-      }
+      | then-is_char_boundary+in_ok-push w ↦
+          let b : IsCharBoundary t (get_or os i 0) = subst (λ x. IsCharBoundary x (get_or os i 0)) c.text.ensures (w.if-is_char_boundary.ensures.test.0 refl) in
+          let e = ap (λ v. v.items) w.places-is ∙ w.in_ok-push.ensures.items in
+          record {
+            places = places_more t os i c.loop-offset.places.items c.if-is_char_boundary.places.items w.place_from-step.result.place lt before b w.place_from-step.ensures.place e;
+            spot = subst (λ s. IsSpot t c.args.src.now.lines s) (sym w.spot-is) w.place_from-step.ensures.spot;
+          }
       | else-is_char_boundary w ↦
-      let n : IsCharBoundary t (get_or os i 0) → ⊥ = λ b. true≢false (sym (w.if-is_char_boundary.ensures.test.1 (subst (λ x. IsCharBoundary x (get_or os i 0)) (sym c.text.ensures) b))) in
-      let e = ap (λ v. v.items) w.places-is in
-      record {
-        places = subst (λ ps. PlacesOf t (take (i + 1) os) ps) (sym e) (places_passed t os i c.loop-offset.places.items lt before n);
-        spot = subst (λ s. IsSpot t c.args.src.now.lines s) (sym w.spot-is) c.loop-offset.invariant.spot;
-      }
+          let n : IsCharBoundary t (get_or os i 0) → ⊥ = λ b. true≢false (sym (w.if-is_char_boundary.ensures.test.1 (subst (λ x. IsCharBoundary x (get_or os i 0)) (sym c.text.ensures) b))) in
+          let e = ap (λ v. v.items) w.places-is in
+          record {
+            places = subst (λ ps. PlacesOf t (take (i + 1) os) ps) (sym e) (places_passed t os i c.loop-offset.places.items lt before n);
+            spot = subst (λ s. IsSpot t c.args.src.now.lines s) (sym w.spot-is) c.loop-offset.invariant.spot;
+          }
     ]
