@@ -64,12 +64,13 @@ fn offsets(
 {
     let mut offsets = Vec::new(alloc);
     let text = src.text();
-    if text.is_empty() {
+    let len = text.len();
+    if len == 0 {
         return Ok(offsets);
     }
-    if break_ends(text, text.len()) {
+    if break_ends(text, len) {
         return Ok(offsets);
     }
-    offsets.push(text.len())?;
+    offsets.push(len)?;
     Ok(offsets)
 }
