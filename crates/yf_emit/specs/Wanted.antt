@@ -1,0 +1,38 @@
+-- In which style the house style writes a scalar.
+use Rattle.std.specs.Prelude.{ℕ, Bool, true, List, [], ◌∷◌, chars, not, ◌==◌, ◌&&◌, if◌then◌else◌}
+use Rattle.std.specs.List.{list_any}
+use Rattle.yf_chars.specs.Class.{is_nb_char}
+use Rattle.yf_lines.specs.Steady.{is_steady}
+use Rattle.yf_lines.specs.declared.quotes.Quotes.{Quotes}
+use Rattle.yf_lines.specs.declared.quotes.Quotes.TheVariants as Quotes
+use Rattle.yf_events.specs.Event.{EventValue, scalar_node}
+use Rattle.yf_events.specs.declared.event.ScalarStyle.{ScalarStyle}
+use Rattle.yf_events.specs.declared.event.ScalarStyle.TheVariants.{Plain, Single, Double, Literal, Folded}
+
+-- every character is an nb-char
+abbrev pub all_nb : List ℕ → Bool
+all_nb [] = true
+all_nb (c ∷ cs) = is_nb_char c && all_nb cs
+
+-- the preferred quotes, but single ones only where they can hold the text, which has these bytes
+abbrev pub quoted_in : List ℕ → Quotes → ScalarStyle
+quoted_in t Quotes.Single = if all_nb (chars t) then Single else Double
+quoted_in t Quotes.Double = Double
+
+-- the text has a character other than space and line feed
+abbrev pub has_block_content : List ℕ → Bool
+has_block_content t = list_any (λ b. not (b == 32) && not (b == 10)) t
+
+-- a plain scalar stays plain where its text is steady, a literal or folded one stays what it is where it has a character
+-- other than space and line feed, and any other is quoted
+abbrev pub wanted : ScalarStyle → List ℕ → Quotes → ScalarStyle
+wanted Plain t quotes = if is_steady t then Plain else quoted_in t quotes
+wanted Single t quotes = quoted_in t quotes
+wanted Double t quotes = quoted_in t quotes
+wanted Literal t quotes = if has_block_content t then Literal else quoted_in t quotes
+wanted Folded t quotes = if has_block_content t then Folded else quoted_in t quotes
+
+-- the same of the scalar that an event is; `Plain` of any other event
+abbrev pub wanted_of_event : EventValue → Quotes → ScalarStyle
+wanted_of_event (scalar_node props style text) quotes = wanted style text quotes
+wanted_of_event _ quotes = Plain

@@ -1,0 +1,91 @@
+//! The style in which a scalar is written.
+ghost use Rattle.std.specs.Prelude.{◌≡◌, ◌<◌, length, chars, slice_get, IfSome};
+ghost use Rattle.yf_emit.specs.Wanted as Wanted;
+ghost use Rattle.yf_emit.specs.Wanted.{all_nb, quoted_in, wanted, wanted_of_event};
+ghost use Rattle.yf_events.specs.Reading.{events_of};
+
+use crate::style::Style;
+use yf_chars::classes::is_nb_char;
+use yf_events::event::{Event, ScalarStyle};
+use yf_events::reading::Reading;
+use yf_lines::quotes::Quotes;
+use yf_lines::steady::is_steady;
+
+/// Whether every character is an nb-char.
+fn is_all_nb(text: &str) -> bool
+    ensures { result ≡ all_nb (chars text.now) }
+{
+    for c in text.chars() {
+        if !is_nb_char(c) {
+            return false;
+        }
+    }
+    true
+}
+
+/// The quotes that the house style takes for a text: the preferred ones, but single quotes only where each character is
+/// an nb-char (production 27), since they have no escapes.
+fn quotes_of(text: &str, preferred: Quotes) -> ScalarStyle
+    ensures { result ≡ quoted_in text.now preferred }
+{
+    match preferred {
+        Quotes::Double => ScalarStyle::Double,
+        Quotes::Single => {
+            if is_all_nb(text) {
+                return ScalarStyle::Single;
+            }
+            ScalarStyle::Double
+        }
+    }
+}
+
+/// Whether the text has a character other than space and line feed, without which no block scalar is written.
+fn has_block_content(text: &str) -> bool
+    ensures { result ≡ Wanted.has_block_content text.now }
+{
+    text.as_bytes().iter().any(|b| *b != b' ' && *b != b'\n')
+}
+
+/// The style in which the house style writes a scalar of this style and text.
+pub fn wanted_of(written: ScalarStyle, text: &str, quotes: Quotes) -> ScalarStyle
+    ensures { result ≡ wanted written text.now quotes }
+{
+    match written {
+        ScalarStyle::Plain => {
+            if is_steady(text) {
+                return ScalarStyle::Plain;
+            }
+            quotes_of(text, quotes)
+        }
+        ScalarStyle::Single | ScalarStyle::Double => quotes_of(text, quotes),
+        ScalarStyle::Literal => {
+            if has_block_content(text) {
+                return ScalarStyle::Literal;
+            }
+            quotes_of(text, quotes)
+        }
+        ScalarStyle::Folded => {
+            if has_block_content(text) {
+                return ScalarStyle::Folded;
+            }
+            quotes_of(text, quotes)
+        }
+    }
+}
+
+/// The style in which the house style writes the scalar that the event at an index is: a plain one stays plain where its
+/// text is steady, a literal or folded one stays what it is where it has a character other than space and line feed, and
+/// any other is quoted. Of an event that is no scalar it is `Plain`. It takes no memory.
+pub fn wanted_style(reading: &Reading, i: usize, style: &Style) -> ScalarStyle
+    requires { i < length reading.now.events }
+    ensures { IfSome (slice_get (events_of reading.now) i) (λ e. result ≡ wanted_of_event e style.now.quotes) }
+{
+    match reading.event(i) {
+        Event::Scalar {
+            style: written,
+            text,
+            ..
+        } => wanted_of(*written, text.as_str(), style.quotes),
+        _ => ScalarStyle::Plain,
+    }
+}

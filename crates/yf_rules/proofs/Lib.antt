@@ -1,0 +1,4 @@
+pub mod SpotLemmas
+pub mod FoundLemmas
+pub mod CheckLemmas
+pub mod BreakLemmas

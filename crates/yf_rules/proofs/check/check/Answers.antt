@@ -1,0 +1,14 @@
+use Rattle.std.proofs.Common.{arith}
+use Rattle.yf_rules.proofs.CheckLemmas.{none_checked, more_checked, all_checked}
+use Rattle.yf_rules.proofs.check.check.Goals as goal
+
+pub loop-rule-init : goal.loop-rule-init
+loop-rule-init g c = none_checked _ _ c.new-all.ensures.items
+
+pub loop-rule-preserved : goal.loop-rule-preserved
+loop-rule-preserved g c =
+    more_checked _ _ _ _ _ _ _ (omega arith) c.rule-item.is c.loop-rule.invariant c.in_ok-findings.ensures.findings c.in-Ok.ensures.items
+
+pub returns-in-Ok-sort_findings-clause-findings : goal.returns-in-Ok-sort_findings-clause-findings
+returns-in-Ok-sort_findings-clause-findings g c =
+    all_checked _ _ _ _ _ (omega arith) c.loop-rule.invariant c.in-Ok-sort_findings.ensures

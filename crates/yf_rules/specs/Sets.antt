@@ -1,0 +1,63 @@
+-- The places at fault of each rule, as byte offsets in ascending order: what is at fault in a text with these lines and
+-- this reading under this style.
+use Rattle.std.specs.Prelude.{◌≡◌, ◌≢◌, ◌==◌, if◌then◌else◌, ℕ, List, [], ◌∷◌, length}
+use Rattle.yf_chars.specs.Text.{code}
+use Rattle.yf_lines.specs.Basic.{Break}
+use Rattle.yf_lines.specs.declared.line.Line.{Line}
+use Rattle.yf_lines.specs.Lines.{Table}
+use Rattle.yf_events.specs.declared.lists.Lists.{Lists}
+use Rattle.yf_emit.specs.declared.style.Style.{Style}
+
+-- final-break: the end of a text that is not empty and does not end with a line break
+pub data WithoutFinalBreak (t : List ℕ) : List ℕ → Type 0 where
+  of_empty_text : length t ≡ 0 → WithoutFinalBreak t []
+  has_break : {i : ℕ} → Break t i (length t) → WithoutFinalBreak t []
+  no_break : length t ≢ 0 → ((i : ℕ) → Break t i (length t) → ⊥) → WithoutFinalBreak t (length t ∷ [])
+
+abbrev pub final_break_at : Table → Lists → Style → List ℕ → Type 0
+final_break_at src reading style offsets = WithoutFinalBreak src.text offsets
+
+-- line-breaks: the break of the first line whose break begins with a carriage return
+abbrev pub first_return : List ℕ → List Line → List ℕ
+first_return t [] = []
+first_return t (l ∷ ls) = if code t l.end == 13 then l.end ∷ [] else first_return t ls
+
+abbrev pub line_breaks_at : Table → Lists → Style → List ℕ → Type 0
+line_breaks_at src reading style offsets = offsets ≡ first_return src.text src.lines
+
+-- of the other rules no set is told here: that their places lie in the text is all that their contracts say
+abbrev pub AnyOffsets : List ℕ → Type 0
+AnyOffsets offsets = Unit {0}
+
+abbrev pub trailing_blanks_at : Table → Lists → Style → List ℕ → Type 0
+trailing_blanks_at src reading style offsets = AnyOffsets offsets
+
+abbrev pub indentation_at : Table → Lists → Style → List ℕ → Type 0
+indentation_at src reading style offsets = AnyOffsets offsets
+
+abbrev pub quoting_at : Table → Lists → Style → List ℕ → Type 0
+quoting_at src reading style offsets = AnyOffsets offsets
+
+abbrev pub document_start_at : Table → Lists → Style → List ℕ → Type 0
+document_start_at src reading style offsets = AnyOffsets offsets
+
+abbrev pub byte_order_mark_at : Table → Lists → Style → List ℕ → Type 0
+byte_order_mark_at src reading style offsets = AnyOffsets offsets
+
+abbrev pub blank_lines_at : Table → Lists → Style → List ℕ → Type 0
+blank_lines_at src reading style offsets = AnyOffsets offsets
+
+abbrev pub flow_layout_at : Table → Lists → Style → List ℕ → Type 0
+flow_layout_at src reading style offsets = AnyOffsets offsets
+
+abbrev pub comment_space_at : Table → Lists → Style → List ℕ → Type 0
+comment_space_at src reading style offsets = AnyOffsets offsets
+
+abbrev pub line_length_at : Table → Lists → Style → List ℕ → Type 0
+line_length_at src reading style offsets = AnyOffsets offsets
+
+abbrev pub repeated_keys_at : Table → Lists → Style → List ℕ → Type 0
+repeated_keys_at src reading style offsets = AnyOffsets offsets
+
+abbrev pub key_mark_at : Table → Lists → Style → List ℕ → Type 0
+key_mark_at src reading style offsets = AnyOffsets offsets

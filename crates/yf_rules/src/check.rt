@@ -1,0 +1,127 @@
+//! All findings of several rules.
+ghost use Rattle.std.specs.Prelude.{◌≡◌, map, IfErr, IfOk};
+ghost use Rattle.yf_rules.specs.Check.{Checked, RuleFindings, SortedFrom, finding_at};
+ghost use Rattle.yf_rules.specs.Places.{FoundAt};
+
+use crate::finding::Finding;
+use crate::rule::Rule;
+use std::alloc::{AllocError, Global};
+use yf_emit::style::Style;
+use yf_events::reading::Reading;
+use yf_lines::fault::Fault;
+use yf_lines::place::Place;
+use yf_lines::source_text::Src;
+
+fn number_of(rule: &Box<dyn Rule>) -> usize
+    ensures { result ≡ rule_number rule.now }
+{
+    rule.number()
+}
+
+fn id_of(rule: &Box<dyn Rule>) -> &'static str
+    ensures { result.now ≡ rule_id rule.now }
+{
+    rule.id()
+}
+
+fn fixable_of(rule: &Box<dyn Rule>) -> bool
+    ensures { result ≡ is_fixable rule.now }
+{
+    rule.fixable()
+}
+
+/// The places that a rule finds.
+fn places_by(
+    alloc: Global,
+    rule: &Box<dyn Rule>,
+    src: &Src,
+    reading: &Reading,
+    style: &Style,
+) -> Result<Vec<Place>, Fault>
+    ensures refused { IfErr result (λ fault. fault ≡ Fault.Memory) }
+    ensures found { IfOk result (λ places. FoundAt src.now.text (faults rule.now src.now reading.now style.now) places.items) }
+{
+    rule.find(alloc, src, reading, style)
+}
+
+/// The findings of a rule at these places.
+fn findings_at(
+    alloc: Global,
+    number: usize,
+    id: &'static str,
+    fixable: bool,
+    places: &[Place],
+) -> Result<Vec<Finding>, AllocError>
+    ensures { IfOk result (λ findings. findings.items ≡ map (finding_at number id.entry fixable) places.now) }
+{
+    places
+        .iter()
+        .map(|place| Finding {
+            place: *place,
+            number,
+            id,
+            fixable,
+        })
+        .collect(alloc)
+}
+
+/// The findings of one rule.
+fn findings_of(
+    alloc: Global,
+    rule: &Box<dyn Rule>,
+    src: &Src,
+    reading: &Reading,
+    style: &Style,
+) -> Result<Vec<Finding>, Fault>
+    ensures refused { IfErr result (λ fault. fault ≡ Fault.Memory) }
+    ensures findings { IfOk result (λ findings. RuleFindings (rule_number rule.now) (rule_id rule.now) (is_fixable rule.now) (faults rule.now) src.now reading.now style.now findings.items) }
+{
+    let number = number_of(rule);
+    let id = id_of(rule);
+    let fixable = fixable_of(rule);
+    let places = places_by(alloc, rule, src, reading, style)?;
+    match findings_at(alloc, number, id, fixable, places.as_slice()) {
+        Ok(findings) => Ok(findings),
+        Err(AllocError) => Err(Fault::Memory),
+    }
+}
+
+/// Sorts findings by line, column and number; those that are alike in all three keep their order.
+fn sort_findings(findings: &mut Vec<Finding>) -> Result<(), AllocError>
+    ensures { IfOk result (λ _. SortedFrom findings.old.items findings.new.items) }
+{
+    match findings.sort_by_key(|f| (f.place.line, f.place.column, f.number)) {
+        Ok(()) => Ok(()),
+        Err(AllocError) => Err(AllocError),
+    }
+}
+
+/// All findings of the rules, once for each box, in a text with this reading, sorted by line, column and number. Findings
+/// that are alike in all three keep the order of the boxes.
+///
+/// # Errors
+///
+/// `Fault::Memory` where a growth of memory was refused.
+pub fn check(
+    alloc: Global,
+    rules: &[Box<dyn Rule>],
+    src: &Src,
+    reading: &Reading,
+    style: &Style,
+) -> Result<Vec<Finding>, Fault>
+    ensures refused { IfErr result (λ fault. fault ≡ Fault.Memory) }
+    ensures findings { IfOk result (λ findings. Checked (λ rule found. RuleFindings (rule_number rule) (rule_id rule) (is_fixable rule) (faults rule) src.now reading.now style.now found) rules.now findings.items) }
+{
+    let mut all = Vec::new(alloc);
+    for rule in rules {
+        let mut findings = findings_of(alloc, rule, src, reading, style)?;
+        match all.append(&mut findings) {
+            Ok(()) => {}
+            Err(_) => return Err(Fault::Memory),
+        }
+    }
+    match sort_findings(&mut all) {
+        Ok(()) => Ok(all),
+        Err(_) => Err(Fault::Memory),
+    }
+}

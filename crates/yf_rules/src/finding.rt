@@ -1,0 +1,15 @@
+//! What is found by a rule.
+
+use yf_lines::place::Place;
+
+/// A place at fault, with the rule that found it.
+#[derive(Clone, Copy, Debug, PartialEq, Eq)]
+pub struct Finding {
+    pub place: Place,
+    /// The rule's number.
+    pub number: usize,
+    /// The rule's name.
+    pub id: &'static str,
+    /// Whether the house style mends it.
+    pub fixable: bool,
+}

@@ -1,0 +1,27 @@
+//! The rules of style, and the check of a text by several of them.
+#![tactic(auto)]
+
+pub mod blank_lines;
+pub mod bodies;
+pub mod byte_order_mark;
+pub mod check;
+pub mod comment_space;
+pub mod document_start;
+pub mod final_break;
+pub mod finding;
+pub mod flow_layout;
+pub mod indentation;
+pub mod key_mark;
+pub mod line_breaks;
+pub mod line_length;
+pub mod notes;
+pub mod places;
+pub mod quoting;
+pub mod repeated_keys;
+pub mod rule;
+pub mod spot;
+pub mod stands;
+#[cfg(test)]
+mod tests;
+pub mod trailing_blanks;
+pub mod whites;

@@ -1,0 +1,66 @@
+//! What a rule is.
+ghost use Rattle.std.specs.Prelude.{◌≡◌, IfErr, IfOk};
+ghost use Rattle.yf_rules.specs.Places.{PlacesOf};
+
+use crate::places::known_places;
+use std::alloc::{AllocError, Global};
+use yf_emit::style::Style;
+use yf_events::reading::Reading;
+use yf_lines::fault::Fault;
+use yf_lines::place::Place;
+use yf_lines::source_text::Src;
+
+/// A rule of style. The places at fault are those of its set, a function of the text, its reading and the style.
+pub trait Rule: Drop {
+    ghost use Rattle.std.specs.Prelude.{ℕ, Bool, List};
+    ghost use Rattle.yf_lines.specs.Lines.{Table};
+    ghost use Rattle.yf_events.specs.declared.lists.Lists.{Lists};
+    ghost use Rattle.yf_emit.specs.declared.style.Style.{Style};
+    ghost use Rattle.yf_rules.specs.Places.{FoundAt};
+
+    ghost rule_number: { Self → ℕ };
+
+    ghost rule_id: { Self → List ℕ };
+
+    ghost is_fixable: { Self → Bool };
+
+    ghost faults: { Self → Table → Lists → Style → List ℕ → Type 0 };
+
+    /// Its number, by which findings at one place are sorted.
+    fn number(&self) -> usize
+        ensures { result ≡ rule_number self.now };
+
+    /// Its name in what is printed.
+    fn id(&self) -> &'static str
+        ensures { result.now ≡ rule_id self.now };
+
+    /// Whether the house style mends what it finds.
+    fn fixable(&self) -> bool
+        ensures { result ≡ is_fixable self.now };
+
+    /// The places at fault in a text with this reading, in ascending order, each once.
+    ///
+    /// # Errors
+    ///
+    /// `Fault::Memory` where a growth of memory was refused.
+    fn find(
+        &self,
+        alloc: Global,
+        src: &Src,
+        reading: &Reading,
+        style: &Style,
+    ) -> Result<Vec<Place>, Fault>
+        ensures refused { IfErr result (λ fault. fault ≡ Fault.Memory) }
+        ensures found { IfOk result (λ places. FoundAt src.now.text (faults self.now src.now reading.now style.now) places.items) };
+}
+
+/// The places of the byte offsets that a rule found, unless memory was refused.
+pub fn placed(alloc: Global, src: &Src, offsets: &[usize]) -> Result<Vec<Place>, Fault>
+    ensures refused { IfErr result (λ fault. fault ≡ Fault.Memory) }
+    ensures places { IfOk result (λ places. PlacesOf src.now.text offsets.now places.items) }
+{
+    match known_places(alloc, src, offsets) {
+        Ok(places) => Ok(places),
+        Err(AllocError) => Err(Fault::Memory),
+    }
+}

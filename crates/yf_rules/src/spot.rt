@@ -1,0 +1,19 @@
+//! How far a pass over the text has come.
+
+use yf_lines::place::Place;
+
+/// How far a pass over the text has come: in the line of that index, from 0, at a byte offset behind the line's byte order
+/// marks, whose column is known.
+#[derive(Clone, Copy, Debug)]
+pub struct Spot {
+    pub line: usize,
+    pub at: usize,
+    pub column: usize,
+}
+
+/// A place, and how far the pass has come with it.
+#[derive(Clone, Copy, Debug)]
+pub struct Step {
+    pub place: Place,
+    pub spot: Spot,
+}

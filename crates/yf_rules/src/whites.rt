@@ -1,0 +1,36 @@
+//! Whites at the ends of lines and before comments.
+
+use yf_chars::text::stands;
+use yf_events::event::Entry;
+use yf_lines::basic::white_or_end_stands;
+use yf_lines::line::Line;
+
+/// The byte offset of the first of the whites that stand directly before `end`, and not before `start`.
+pub fn whites_before(text: &str, start: usize, end: usize) -> usize {
+    let bytes = text.as_bytes();
+    let mut at = end;
+    while at > start {
+        if at > bytes.len() {
+            return end;
+        }
+        let byte = bytes[at - 1];
+        if byte != b' ' && byte != b'\t' {
+            return at;
+        }
+        at -= 1;
+    }
+    at
+}
+
+/// Whether the line holds whites alone, or nothing.
+pub fn is_white_line(text: &str, line: Line) -> bool {
+    whites_before(text, line.start, line.end) == line.start
+}
+
+/// Whether an entry of a block mapping is written with a `?`.
+pub fn has_question_mark(text: &str, entry: Entry) -> bool {
+    if stands(text, entry.start, b'?') {
+        return white_or_end_stands(text, entry.start + 1);
+    }
+    false
+}
