@@ -1,3 +1,4 @@
 pub mod SettingsLemmas
 pub mod CommandLineLemmas
 pub mod ProgramLemmas
+pub mod FindingLemmas

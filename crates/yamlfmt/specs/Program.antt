@@ -1,10 +1,13 @@
 -- What the program does for a command, over a reader, a writer and a stream for its faults.
-use Rattle.std.specs.Prelude.{◌≡◌, ◌⊎◌, ℕ, List, [], Bool, Option, codes}
+use Rattle.std.specs.Prelude.{◌≡◌, ◌⊎◌, ℕ, List, [], Bool, true, false, Option, codes}
 use Rattle.std.specs.Str.{IsUtf8}
 use Rattle.yf_emit.specs.declared.style.Style.{Style}
 use Rattle.yf_lines.specs.declared.fault.Fault.{Fault}
 use Rattle.yf_lines.specs.declared.fault.Fault.TheVariants as fault
+use Rattle.yf_lines.specs.Lines.{Table}
 use Rattle.yf_lines.specs.Output.{Wrote, Broke}
+use Rattle.yf_events.specs.declared.lists.Lists.{Lists}
+use Rattle.yf_rules.specs.declared.finding.Finding.{Finding}
 use Rattle.yamlfmt.specs.declared.command_line.Usage.{Usage}
 use Rattle.yamlfmt.specs.declared.command_line.Usage.TheVariants as usage
 use Rattle.yamlfmt.specs.declared.command_line.Verb.{Verb}
@@ -12,7 +15,7 @@ use Rattle.yamlfmt.specs.declared.command_line.Verb.TheVariants.{Events, Check, 
 use Rattle.yamlfmt.specs.declared.run.TheConstants.{INPUT_LIMIT}
 use Rattle.yamlfmt.specs.Input.{ReadRefusal}
 use Rattle.yamlfmt.specs.Report.{fault_line, fault_status}
-use Rattle.yamlfmt.specs.Run.{Gave, Printed, Refused, Untouched}
+use Rattle.yamlfmt.specs.Run.{Gave, Printed, Refused, RefusedCheck, Told, Untouched}
 use Rattle.yamlfmt.specs.Settings.{SetsStyle, RefusesSettings}
 
 -- the text was written to the stream, or the stream has failed behind a front of it
@@ -58,14 +61,20 @@ abbrev pub IsAbsent : List ℕ → ℕ → Option (List ℕ) → Option (List �
 IsAbsent line status old new before after at to was is =
     (status ≡ 3) × Untouched old new before after × Reached at to was is line
 
--- what a command does
+-- the status of a check
+abbrev pub check_status : Bool → ℕ
+check_status true = 1
+check_status false = 0
+
+-- what a command does; C tells what the rules find
 -- (known, read_before, read_after: what the reader had, and the note that it has failed; the others as above)
-abbrev pub Ran : Verb → ℕ → Option (List ℕ) → Bool → Bool → Option (List ℕ) → Option (List ℕ) → Bool → Bool
-    → Option (List ℕ) → Option (List ℕ) → Bool → Bool → Type 0
-Ran Events status known read_before read_after old new before after at to was is =
+abbrev pub Ran : (Table → Lists → List Finding → Type 0) → Verb → ℕ → Option (List ℕ) → Bool → Bool → Option (List ℕ) → Option (List ℕ)
+    → Bool → Bool → Option (List ℕ) → Option (List ℕ) → Bool → Bool → Type 0
+Ran C Events status known read_before read_after old new before after at to was is =
     (Printed known old new before after × (read_after ≡ read_before) × EndsWell status at to was is)
     ⊎ ((f : Fault) × Refused known read_before read_after old new before after f × EndsBy f status at to was is)
-Ran Check status known read_before read_after old new before after at to was is =
-    IsAbsent (codes "error: the command 'check' is not there yet\n") status old new before after at to was is
-Ran Fmt status known read_before read_after old new before after at to was is =
+Ran C Check status known read_before read_after old new before after at to was is =
+    ((any : Bool) × Told C known old new before after any × (read_after ≡ read_before) × (status ≡ check_status any) × Untouched at to was is)
+    ⊎ ((f : Fault) × RefusedCheck C known read_before read_after old new before after f × EndsBy f status at to was is)
+Ran C Fmt status known read_before read_after old new before after at to was is =
     IsAbsent (codes "error: the command 'fmt' is not there yet\n") status old new before after at to was is

@@ -1,14 +1,17 @@
--- What a run that prints events does, by what its reader gave.
-use Rattle.std.specs.Prelude.{◌≡◌, ℕ, List, Bool, Option, IfSome}
+-- What the runs do, by what their reader gave.
+use Rattle.std.specs.Prelude.{◌≡◌, ℕ, List, [], ◌∷◌, Bool, true, false, Option, IfSome, codes, decimal}
+use Rattle.std.specs.List.{concat, flat_map}
 use Rattle.std.specs.Str.{IsUtf8, IsValidUpTo}
 use Rattle.yf_lines.specs.declared.fault.Fault.{Fault}
 use Rattle.yf_lines.specs.declared.fault.Fault.TheVariants.{NotUtf8, Syntax, TooDeep, UnknownHandle, UnknownAlias, RepeatedDirective, BadVersion, EscapeValue, Memory, ReadFailed, WriteFailed}
+use Rattle.yf_lines.specs.Lines.{AreLines, Table}
 use Rattle.yf_lines.specs.Output.{Wrote, Broke}
 use Rattle.yf_events.specs.declared.lists.Lists.{Lists}
 use Rattle.yf_events.specs.declared.reading.TheConstants.{DEPTH}
 use Rattle.yf_events.specs.Nested.{IsStream}
 use Rattle.yf_events.specs.Notation.{notation_of}
 use Rattle.yf_events.specs.Reading.{events_of}
+use Rattle.yf_rules.specs.declared.finding.Finding.{Finding}
 use Rattle.yf_stream.specs.Refusal.{IsStreamFault}
 use Rattle.yamlfmt.specs.declared.run.TheConstants.{INPUT_LIMIT}
 use Rattle.yamlfmt.specs.Input.{ReadRefusal}
@@ -60,26 +63,74 @@ abbrev pub RefusedStream : Option (List ℕ) → Bool → Bool → Option (List 
 RefusedStream known read_before read_after old new before after fault =
     GaveNoStream known fault × Untouched old new before after × (read_after ≡ read_before)
 
--- why a run is refused, and what it has then written: a front of the events' lines where the writer failed, else nothing
-abbrev pub Refused : Option (List ℕ) → Bool → Bool → Option (List ℕ) → Option (List ℕ) → Bool → Bool → Fault → Type 0
-Refused known read_before read_after old new before after (NotUtf8 offset) =
+-- the line of a finding: its place, the rule's name, and whether the house style mends it
+abbrev pub fixable_word : Bool → List ℕ
+fixable_word true = codes " (fixable)"
+fixable_word false = []
+
+abbrev pub finding_line : Finding → List ℕ
+finding_line f = concat (decimal f.place.line ∷ codes ":" ∷ decimal f.place.column ∷ codes " " ∷ f.id.now ∷ fixable_word f.fixable ∷ codes "\n" ∷ [])
+
+abbrev pub findings_text : List Finding → List ℕ
+findings_text findings = flat_map finding_line findings
+
+abbrev pub has_any : List Finding → Bool
+has_any [] = false
+has_any (f ∷ rest) = true
+
+-- the text was read, this is its reading, in which the rules find this; C tells what the rules find
+pub record Found (C : Table → Lists → List Finding → Type 0) (known : Option (List ℕ)) (findings : List Finding) : Type 0 where
+  pub src : Table
+  pub reading : Lists
+  pub gave : Gave known src.text
+  pub utf8 : IsUtf8 src.text
+  pub lines : AreLines src.text src.lines
+  pub nested : IsStream DEPTH (events_of reading)
+  pub checked : C src reading findings
+
+-- a line was written for each finding, and the answer is whether there is one
+pub record Told (C : Table → Lists → List Finding → Type 0) (known old new : Option (List ℕ)) (before after : Bool) (any : Bool) : Type 0 where
+  pub findings : List Finding
+  pub found : Found C known findings
+  pub wrote : Wrote old new before after (findings_text findings)
+  pub answer : any ≡ has_any findings
+
+-- the same, but the writer failed behind a front of the lines
+pub record BrokeOffLines (C : Table → Lists → List Finding → Type 0) (known old new : Option (List ℕ)) (after : Bool) : Type 0 where
+  pub findings : List Finding
+  pub found : Found C known findings
+  pub broke : Broke old new after (findings_text findings)
+
+-- why a run is refused, and what it has then written: where the writer failed what Broken says, else nothing
+abbrev pub RefusedRun : Type 0 → Option (List ℕ) → Bool → Bool → Option (List ℕ) → Option (List ℕ) → Bool → Bool → Fault → Type 0
+RefusedRun Broken known read_before read_after old new before after (NotUtf8 offset) =
     GaveNoText known offset × Untouched old new before after × (read_after ≡ read_before)
-Refused known read_before read_after old new before after (Syntax place what) =
+RefusedRun Broken known read_before read_after old new before after (Syntax place what) =
     RefusedStream known read_before read_after old new before after (Syntax place what)
-Refused known read_before read_after old new before after (TooDeep place) =
+RefusedRun Broken known read_before read_after old new before after (TooDeep place) =
     RefusedStream known read_before read_after old new before after (TooDeep place)
-Refused known read_before read_after old new before after (UnknownHandle place) =
+RefusedRun Broken known read_before read_after old new before after (UnknownHandle place) =
     RefusedStream known read_before read_after old new before after (UnknownHandle place)
-Refused known read_before read_after old new before after (UnknownAlias place) =
+RefusedRun Broken known read_before read_after old new before after (UnknownAlias place) =
     RefusedStream known read_before read_after old new before after (UnknownAlias place)
-Refused known read_before read_after old new before after (RepeatedDirective place) =
+RefusedRun Broken known read_before read_after old new before after (RepeatedDirective place) =
     RefusedStream known read_before read_after old new before after (RepeatedDirective place)
-Refused known read_before read_after old new before after (BadVersion place) =
+RefusedRun Broken known read_before read_after old new before after (BadVersion place) =
     RefusedStream known read_before read_after old new before after (BadVersion place)
-Refused known read_before read_after old new before after (EscapeValue place) =
+RefusedRun Broken known read_before read_after old new before after (EscapeValue place) =
     RefusedStream known read_before read_after old new before after (EscapeValue place)
-Refused known read_before read_after old new before after Memory = Untouched old new before after × (read_after ≡ read_before)
-Refused known read_before read_after old new before after ReadFailed =
+RefusedRun Broken known read_before read_after old new before after Memory = Untouched old new before after × (read_after ≡ read_before)
+RefusedRun Broken known read_before read_after old new before after ReadFailed =
     ReadRefusal known INPUT_LIMIT read_before read_after ReadFailed × Untouched old new before after
-Refused known read_before read_after old new before after WriteFailed = BrokeOff known old new after × (read_after ≡ read_before)
-Refused known read_before read_after old new before after _ = ⊥
+RefusedRun Broken known read_before read_after old new before after WriteFailed = Broken × (read_after ≡ read_before)
+RefusedRun Broken known read_before read_after old new before after _ = ⊥
+
+-- of the run that prints events: a front of the events' lines was written
+abbrev pub Refused : Option (List ℕ) → Bool → Bool → Option (List ℕ) → Option (List ℕ) → Bool → Bool → Fault → Type 0
+Refused known read_before read_after old new before after fault =
+    RefusedRun (BrokeOff known old new after) known read_before read_after old new before after fault
+
+-- of the run that checks
+abbrev pub RefusedCheck : (Table → Lists → List Finding → Type 0) → Option (List ℕ) → Bool → Bool → Option (List ℕ) → Option (List ℕ) → Bool → Bool → Fault → Type 0
+RefusedCheck C known read_before read_after old new before after fault =
+    RefusedRun (BrokeOffLines C known old new after) known read_before read_after old new before after fault

@@ -1,53 +1,13 @@
 //! The events of streams, and why streams are refused, in tables of data.
 
-use crate::command_line::{Cmd, Verb};
-use crate::program::run;
+use crate::answers::{Answer, answer_to, lines_of};
+use crate::command_line::Verb;
 use std::alloc::Global;
 use std::test::Fail;
 use yf_emit::style::Style;
-use yf_lines::watched::Watched;
-
-/// What `yamlfmt events` does: its status, and what it writes to the two streams.
-#[derive(Drop)]
-struct Answer {
-    status: u8,
-    output: Vec<u8>,
-    line: Vec<u8>,
-}
 
 fn events(alloc: Global, input: &[u8]) -> Answer {
-    let command = Cmd {
-        verb: Verb::Events,
-        config: None,
-        file: None,
-        write: false,
-    };
-    let mut reader = Watched::new(input);
-    let mut writer = Watched::new(Vec::new(alloc));
-    let mut error_stream = Watched::new(Vec::new(alloc));
-    let status = run(
-        alloc,
-        &command,
-        &Style::house(),
-        &mut reader,
-        &mut writer,
-        &mut error_stream,
-    );
-    Answer {
-        status,
-        output: writer.into_inner(),
-        line: error_stream.into_inner(),
-    }
-}
-
-/// The lines, which stand between ` / ` in a table.
-fn lines_of(alloc: Global, lines: &str) -> Result<String, Fail> {
-    let mut text = String::new(alloc);
-    for line in lines.split(" / ") {
-        text.push_str(line)?;
-        text.push('\n')?;
-    }
-    Ok(text)
+    answer_to(alloc, Verb::Events, &[], &Style::house(), input)
 }
 
 /// A text, a part of it so many times, and another text.

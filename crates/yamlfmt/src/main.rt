@@ -1,6 +1,10 @@
 //! yamlfmt: prints the events of a YAML stream, checks its style and rewrites it in one house style.
 #![tactic(auto)]
 
+#[cfg(test)]
+mod answers;
+#[cfg(test)]
+mod check_tests;
 mod command_line;
 #[cfg(test)]
 mod command_line_tests;
@@ -21,6 +25,7 @@ mod tests;
 use command_line::{Cmd, parse_line};
 use program::{answer_usage, read_style, run};
 use report::report;
+use std::alloc::{AllocError, Global};
 use std::fs::File;
 use std::process::ExitCode;
 use std::{env, io};
@@ -28,6 +33,20 @@ use yf_emit::style::Style;
 use yf_lines::fault::Fault;
 use yf_lines::text::OwnedText;
 use yf_lines::watched::Watched;
+use yf_rules::blank_lines::BlankLines;
+use yf_rules::byte_order_mark::ByteOrderMark;
+use yf_rules::comment_space::CommentSpace;
+use yf_rules::document_start::DocumentStart;
+use yf_rules::final_break::FinalBreak;
+use yf_rules::flow_layout::FlowLayout;
+use yf_rules::indentation::Indentation;
+use yf_rules::key_mark::KeyMark;
+use yf_rules::line_breaks::LineBreaks;
+use yf_rules::line_length::LineLength;
+use yf_rules::quoting::Quoting;
+use yf_rules::repeated_keys::RepeatedKeys;
+use yf_rules::rule::Rule;
+use yf_rules::trailing_blanks::TrailingBlanks;
 
 /// The status for a command line that cannot be read.
 const UNREADABLE: u8 = 3;
@@ -62,6 +81,10 @@ fn run_files(rt: &HostRuntime, command: &Cmd) -> Result<u8, Fault> {
         Some(path) => read_style(alloc, &mut Watched::new(open(rt, path)?))?,
         None => Style::house(),
     };
+    let rules = match all_rules(alloc) {
+        Ok(rules) => rules,
+        Err(AllocError) => return Err(Fault::Memory),
+    };
     let mut writer = Watched::new(rt.stdout());
     let mut error_stream = Watched::new(rt.stderr());
     Ok(match &command.file {
@@ -70,6 +93,7 @@ fn run_files(rt: &HostRuntime, command: &Cmd) -> Result<u8, Fault> {
             run(
                 alloc,
                 command,
+                rules.as_slice(),
                 &style,
                 &mut reader,
                 &mut writer,
@@ -81,6 +105,7 @@ fn run_files(rt: &HostRuntime, command: &Cmd) -> Result<u8, Fault> {
             run(
                 alloc,
                 command,
+                rules.as_slice(),
                 &style,
                 &mut reader,
                 &mut writer,
@@ -88,6 +113,25 @@ fn run_files(rt: &HostRuntime, command: &Cmd) -> Result<u8, Fault> {
             )
         }
     })
+}
+
+/// The rules of style, by their numbers.
+fn all_rules(alloc: Global) -> Result<Vec<Box<dyn Rule>>, AllocError> {
+    let mut rules: Vec<Box<dyn Rule>> = Vec::new(alloc);
+    rules.push(Box::new(alloc, TrailingBlanks)?)?;
+    rules.push(Box::new(alloc, Indentation)?)?;
+    rules.push(Box::new(alloc, Quoting)?)?;
+    rules.push(Box::new(alloc, DocumentStart)?)?;
+    rules.push(Box::new(alloc, FinalBreak)?)?;
+    rules.push(Box::new(alloc, LineBreaks)?)?;
+    rules.push(Box::new(alloc, ByteOrderMark)?)?;
+    rules.push(Box::new(alloc, BlankLines)?)?;
+    rules.push(Box::new(alloc, FlowLayout)?)?;
+    rules.push(Box::new(alloc, CommentSpace)?)?;
+    rules.push(Box::new(alloc, LineLength)?)?;
+    rules.push(Box::new(alloc, RepeatedKeys)?)?;
+    rules.push(Box::new(alloc, KeyMark)?)?;
+    Ok(rules)
 }
 
 /// A file that cannot be opened is one that cannot be read.

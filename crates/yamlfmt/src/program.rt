@@ -1,12 +1,13 @@
 //! What the program does for a command line, over any reader, any writer and any stream for its faults.
 ghost use Rattle.std.specs.Prelude.{◌≡◌, MatchResult};
 ghost use Rattle.yf_lines.specs.Output.{Writes};
+ghost use Rattle.yf_rules.specs.Check.{Checked, RuleFindings};
 ghost use Rattle.yamlfmt.specs.Program.{Answered, FileRefused, FileSets, IsAbsent, Ran};
 
 use crate::command_line::{Cmd, Usage, Verb};
 use crate::input::read_all;
 use crate::report::report;
-use crate::run::{INPUT_LIMIT, run_events};
+use crate::run::{INPUT_LIMIT, run_check, run_events};
 use crate::settings::{no_key, style_from_toml};
 use std::alloc::Global;
 use yf_chars::utf8::check_utf8;
@@ -14,9 +15,13 @@ use yf_emit::style::Style;
 use yf_lines::fault::Fault;
 use yf_lines::output::write_text;
 use yf_lines::watched::{Sink, Source};
+use yf_rules::rule::Rule;
 
 /// The status of a run that ended well.
 const GOOD: u8 = 0;
+
+/// The status of a check that found something.
+const FINDINGS: u8 = 1;
 
 /// The status for words on the command line that are refused.
 const USAGE: u8 = 3;
@@ -26,12 +31,13 @@ const USAGE: u8 = 3;
 pub fn run<R: Source, W: Sink, E: Sink>(
     alloc: Global,
     command: &Cmd,
-    _style: &Style,
+    rules: &[Box<dyn Rule>],
+    style: &Style,
     reader: &mut R,
     writer: &mut W,
     error_stream: &mut E,
 ) -> u8
-    ensures { Ran command.now.verb result (R.remaining reader.old) (R.has_failed reader.old) (R.has_failed reader.new)
+    ensures { Ran (λ src reading findings. Checked (λ rule found. RuleFindings (rule_number rule) (rule_id rule) (is_fixable rule) (faults rule) src reading style.now found) rules.now findings) command.now.verb result (R.remaining reader.old) (R.has_failed reader.old) (R.has_failed reader.new)
         (W.contents writer.old) (W.contents writer.new) (W.has_failed writer.old) (W.has_failed writer.new)
         (E.contents error_stream.old) (E.contents error_stream.new) (E.has_failed error_stream.old) (E.has_failed error_stream.new) }
 {
@@ -40,13 +46,11 @@ pub fn run<R: Source, W: Sink, E: Sink>(
             Ok(()) => GOOD,
             Err(fault) => report(&fault, error_stream),
         },
-        Verb::Check => {
-            let _ = write_text(
-                error_stream,
-                b"error: the command 'check' is not there yet\n",
-            );
-            USAGE
-        }
+        Verb::Check => match run_check(alloc, rules, reader, writer, style) {
+            Ok(false) => GOOD,
+            Ok(true) => FINDINGS,
+            Err(fault) => report(&fault, error_stream),
+        },
         Verb::Fmt => {
             let _ = write_text(error_stream, b"error: the command 'fmt' is not there yet\n");
             USAGE

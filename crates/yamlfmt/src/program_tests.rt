@@ -40,13 +40,6 @@ fn runs_commands(rt: HostRuntime) -> Result<(), Fail> {
             "byte 4 refused: not-utf8\n",
         ),
         (
-            Verb::Check,
-            b"- a\n".as_slice(),
-            3,
-            "",
-            "error: the command 'check' is not there yet\n",
-        ),
-        (
             Verb::Fmt,
             b"- a\n".as_slice(),
             3,
@@ -61,6 +54,7 @@ fn runs_commands(rt: HostRuntime) -> Result<(), Fail> {
         let answer = run(
             rt.alloc(),
             &command(*verb),
+            &[],
             &Style::house(),
             &mut reader,
             &mut writer,

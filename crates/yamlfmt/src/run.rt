@@ -1,13 +1,22 @@
 //! The runs of the program, over any reader and any writer.
-ghost use Rattle.std.specs.Prelude.{◌≡◌, IfErr, OnOk};
-ghost use Rattle.yamlfmt.specs.Run.{Printed, Refused};
+ghost use Rattle.std.specs.Prelude.{◌≡◌, IfErr, IfOk, OnOk};
+ghost use Rattle.yf_lines.specs.Output.{Writes};
+ghost use Rattle.yf_rules.specs.Check.{Checked, RuleFindings};
+ghost use Rattle.yamlfmt.specs.Run.{Printed, Refused, RefusedCheck, Told, finding_line, findings_text, has_any};
 
 use crate::input::read_all;
-use std::alloc::Global;
-use yf_chars::utf8::check_utf8;
+use itoa::Buffer;
+use std::alloc::{AllocError, Global};
+use yf_chars::utf8::{BadByte, check_utf8};
+use yf_emit::style::Style;
 use yf_events::notation::write_events;
 use yf_lines::fault::Fault;
+use yf_lines::output::write_texts;
+use yf_lines::source_text::Src;
 use yf_lines::watched::{Sink, Source};
+use yf_rules::check::check;
+use yf_rules::finding::Finding;
+use yf_rules::rule::Rule;
 use yf_stream::stream::read_stream;
 
 /// More bytes than these are not read.
@@ -37,4 +46,69 @@ pub fn run_events<R: Source, W: Sink>(
     };
     let reading = read_stream(alloc, text)?;
     write_events(&reading, writer)
+}
+
+/// Reads all there is, and writes a line for each finding of the rules, in the order of their places: line and column, the
+/// rule's name, and ` (fixable)` where the house style mends it. The answer is whether there is a finding.
+///
+/// Refused is what `run_events` refuses, and nothing has then been written but, after `Fault::WriteFailed`, a front of the
+/// lines.
+pub fn run_check<R: Source, W: Sink>(
+    alloc: Global,
+    rules: &[Box<dyn Rule>],
+    reader: &mut R,
+    writer: &mut W,
+    style: &Style,
+) -> Result<bool, Fault>
+    ensures findings { IfOk result (λ any. Told (λ src reading findings. Checked (λ rule found. RuleFindings (rule_number rule) (rule_id rule) (is_fixable rule) (faults rule) src reading style.now found) rules.now findings)
+        (R.remaining reader.old) (W.contents writer.old) (W.contents writer.new) (W.has_failed writer.old) (W.has_failed writer.new) any) }
+    ensures reader { OnOk result (R.has_failed reader.new ≡ R.has_failed reader.old) }
+    ensures refusals { IfErr result (λ fault. RefusedCheck (λ src reading findings. Checked (λ rule found. RuleFindings (rule_number rule) (rule_id rule) (is_fixable rule) (faults rule) src reading style.now found) rules.now findings)
+        (R.remaining reader.old) (R.has_failed reader.old) (R.has_failed reader.new)
+        (W.contents writer.old) (W.contents writer.new) (W.has_failed writer.old) (W.has_failed writer.new) fault) }
+{
+    let bytes = read_all(alloc, reader, INPUT_LIMIT)?;
+    let text = match check_utf8(bytes.as_slice()) {
+        Ok(text) => text,
+        Err(BadByte { offset }) => return Err(Fault::NotUtf8 { offset }),
+    };
+    let src = match Src::new(alloc, text) {
+        Ok(src) => src,
+        Err(AllocError) => return Err(Fault::Memory),
+    };
+    let reading = read_stream(alloc, src.text())?;
+    let findings = check(alloc, rules, &src, &reading, style)?;
+    match write_findings(findings.as_slice(), writer) {
+        Ok(()) => Ok(has_any(findings.as_slice())),
+        Err(_) => Err(Fault::WriteFailed),
+    }
+}
+
+fn has_any(findings: &[Finding]) -> bool
+    ensures { result ≡ has_any findings.now }
+{
+    !findings.is_empty()
+}
+
+// Writes a line for each finding.
+fn write_findings<W: Sink>(findings: &[Finding], writer: &mut W) -> Result<(), Fault>
+    ensures { Writes (W.contents writer.old) (W.contents writer.new)
+        (W.has_failed writer.old) (W.has_failed writer.new) (findings_text findings.now) result }
+{
+    for finding in findings {
+        write_finding(finding, writer)?;
+    }
+    Ok(())
+}
+
+fn write_finding<W: Sink>(finding: &Finding, writer: &mut W) -> Result<(), Fault>
+    ensures { Writes (W.contents writer.old) (W.contents writer.new)
+        (W.has_failed writer.old) (W.has_failed writer.new) (finding_line finding.now) result }
+{
+    let mut line_buffer = Buffer::new();
+    let mut column_buffer = Buffer::new();
+    let line = line_buffer.format(finding.place.line);
+    let column = column_buffer.format(finding.place.column);
+    let fixable = if finding.fixable { " (fixable)" } else { "" };
+    write_texts(writer, &[line, ":", column, " ", finding.id, fixable, "\n"])
 }

@@ -74,7 +74,13 @@ fn mapping<'a>(alloc: Global, lists: &mut Lists<'a>) -> Result<(), Fail>
     };
     add(alloc, lists, start, Some(Span { start: 0, end: 6 }), None)?;
     let key = scalar(ScalarStyle::Plain, "a");
-    add(alloc, lists, key, Some(Span { start: 0, end: 1 }), Some(entry))?;
+    add(
+        alloc,
+        lists,
+        key,
+        Some(Span { start: 0, end: 1 }),
+        Some(entry),
+    )?;
     let value = scalar(ScalarStyle::Single, "x");
     add(alloc, lists, value, Some(Span { start: 3, end: 6 }), None)?;
     add(alloc, lists, Event::MapEnd, None, None)

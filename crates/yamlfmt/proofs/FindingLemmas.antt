@@ -1,0 +1,49 @@
+-- The lines of the findings that are left are those of the next one and of the ones after it.
+use Rattle.std.proofs.Common.{◌≡◌, ℕ, ◌+◌, ◌<◌, List, [], ◌∷◌, ◌++◌, Bool, Option, length, drop, get_or, ap, sym, ◌∙◌, subst, add-one, drop-cons}
+use Rattle.std.specs.Str.{IsUtf8}
+use Rattle.yf_lines.specs.Lines.{AreLines, Table}
+use Rattle.yf_lines.specs.Output.{Wrote, Broke}
+use Rattle.yf_events.specs.declared.lists.Lists.{Lists}
+use Rattle.yf_events.specs.declared.reading.TheConstants.{DEPTH}
+use Rattle.yf_events.specs.Nested.{IsStream}
+use Rattle.yf_events.specs.Reading.{events_of}
+use Rattle.yf_lines.proofs.OutputLemmas.{Progress}
+use Rattle.yf_rules.specs.declared.finding.Finding.{Finding}
+use Rattle.yamlfmt.specs.Run.{Found, Gave, finding_line, findings_text, has_any}
+
+pub next_finding : (old new : Option (List ℕ)) (before after : Bool) (text : List ℕ) (findings : List Finding) (i : ℕ) (d : Finding)
+    → i < length findings → Progress old new before after text (findings_text (drop i findings))
+    → Progress old new before after text (finding_line (get_or findings i d) ++ findings_text (drop (i + 1) findings))
+next_finding old new before after text findings i d within p =
+    let cut : drop i findings ≡ get_or findings i d ∷ drop (i + 1) findings = rw add-one (drop-cons findings i d within) in
+    subst (Progress old new before after text) (ap findings_text cut) p
+
+-- what the rules find in the text that was read
+pub found_in : {C : Table → Lists → List Finding → Type 0} {known : Option (List ℕ)} {text bytes : List ℕ} {findings : List Finding}
+    (src : Table) (reading : Lists) → src.text ≡ text → text ≡ bytes → Gave known bytes → IsUtf8 text → AreLines text src.lines
+    → IsStream DEPTH (events_of reading) → C src reading findings → Found C known findings
+found_in {known = known} src reading e f gave utf8 lines nested checked = record {
+  src = src;
+  reading = reading;
+  gave = subst (λ t. Gave known t) (sym (e ∙ f)) gave;
+  utf8 = subst (λ t. IsUtf8 t) (sym e) utf8;
+  lines = subst (λ t. AreLines t src.lines) (sym e) lines;
+  nested = nested;
+  checked = checked;
+}
+
+-- the same findings have the same lines
+pub wrote_same : {old new : Option (List ℕ)} {before after : Bool} {x y : List Finding} → x ≡ y
+    → Wrote old new before after (findings_text x) → Wrote old new before after (findings_text y)
+wrote_same {old} {new} {before} {after} e w = subst (λ z. Wrote old new before after (findings_text z)) e w
+
+pub broke_same : {old new : Option (List ℕ)} {after : Bool} {x y : List Finding} → x ≡ y
+    → Broke old new after (findings_text x) → Broke old new after (findings_text y)
+broke_same {old} {new} {after} e w = subst (λ z. Broke old new after (findings_text z)) e w
+
+pub any_same : {x y : List Finding} → x ≡ y → has_any x ≡ has_any y
+any_same e = ap has_any e
+
+-- a reading that is the same is as well nested
+pub nested_same : {x y : Lists} → x ≡ y → IsStream DEPTH (events_of x) → IsStream DEPTH (events_of y)
+nested_same e s = subst (λ r. IsStream DEPTH (events_of r)) e s

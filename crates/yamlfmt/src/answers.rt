@@ -1,0 +1,60 @@
+//! What a command answers, for the tests.
+
+use crate::command_line::{Cmd, Verb};
+use crate::program::run;
+use std::alloc::Global;
+use std::test::Fail;
+use yf_emit::style::Style;
+use yf_lines::watched::Watched;
+use yf_rules::rule::Rule;
+
+/// The status of a command, and what it writes to the two streams.
+#[derive(Drop)]
+pub struct Answer {
+    pub status: u8,
+    pub output: Vec<u8>,
+    pub line: Vec<u8>,
+}
+
+/// What a command answers for an input.
+pub fn answer_to(
+    alloc: Global,
+    verb: Verb,
+    rules: &[Box<dyn Rule>],
+    style: &Style,
+    input: &[u8],
+) -> Answer {
+    let command = Cmd {
+        verb,
+        config: None,
+        file: None,
+        write: false,
+    };
+    let mut reader = Watched::new(input);
+    let mut writer = Watched::new(Vec::new(alloc));
+    let mut error_stream = Watched::new(Vec::new(alloc));
+    let status = run(
+        alloc,
+        &command,
+        rules,
+        style,
+        &mut reader,
+        &mut writer,
+        &mut error_stream,
+    );
+    Answer {
+        status,
+        output: writer.into_inner(),
+        line: error_stream.into_inner(),
+    }
+}
+
+/// The lines, which stand between ` / ` in a table.
+pub fn lines_of(alloc: Global, lines: &str) -> Result<String, Fail> {
+    let mut text = String::new(alloc);
+    for line in lines.split(" / ") {
+        text.push_str(line)?;
+        text.push('\n')?;
+    }
+    Ok(text)
+}

@@ -1,0 +1,149 @@
+//! What the checker finds, in tables of data.
+
+use crate::all_rules;
+use crate::answers::{answer_to, lines_of};
+use crate::command_line::Verb;
+use crate::settings::style_from_toml;
+use std::alloc::Global;
+use std::test::Fail;
+use yf_emit::style::Style;
+
+/// Whether the checker finds those, which stand between ` / `, and answers the status for it.
+fn finds(alloc: Global, style: &Style, input: &str, findings: &str) -> Result<bool, Fail> {
+    let rules = all_rules(alloc)?;
+    let found = answer_to(
+        alloc,
+        Verb::Check,
+        rules.as_slice(),
+        style,
+        input.as_bytes(),
+    );
+    if findings.is_empty() {
+        return Ok(found.status == 0 && found.output.is_empty());
+    }
+    let wanted = lines_of(alloc, findings)?;
+    Ok(found.status == 1 && found.output.as_slice() == wanted.as_str().as_bytes())
+}
+
+#[test]
+fn finds_what_the_house_style_mends(rt: HostRuntime) -> Result<(), Fail> {
+    let rows = [
+        ("- a\n- b\n", "1:1 document-start (fixable)"),
+        (
+            "foo: &a x\nbar: {*a : y, &b: z}\n",
+            "1:1 document-start (fixable) / 2:6 flow-layout (fixable)",
+        ),
+        (
+            "{\"a\":1,b: [x, # c\n y]}\n",
+            "1:1 document-start (fixable) / 1:1 flow-layout (fixable) / 1:15 comment-space (fixable)",
+        ),
+        (
+            "- |\n x",
+            "1:1 document-start (fixable) / 1:3 indentation (fixable) / 2:3 final-break (fixable)",
+        ),
+        (
+            " ...\n",
+            "1:2 quoting (fixable) / 1:2 document-start (fixable)",
+        ),
+        (
+            "? k\n: v\n",
+            "1:1 document-start (fixable) / 1:1 key-mark (fixable)",
+        ),
+        (
+            "? [a]\n: v\n",
+            "1:1 document-start (fixable) / 1:1 key-mark (fixable)",
+        ),
+        ("---\n?\n: v\n", "2:1 key-mark (fixable)"),
+    ];
+    for (input, findings) in &rows {
+        assert!(rt;
+            finds(rt.alloc(), &Style::house(), input, findings)?,
+            "{input}"
+        );
+    }
+    Ok(())
+}
+
+#[test]
+fn finds_lines_and_keys(rt: HostRuntime) -> Result<(), Fail> {
+    let rows = [
+        (
+            "# c\n\n\n# d",
+            "3:1 blank-lines (fixable) / 4:4 final-break (fixable)",
+        ),
+        (
+            "a: 1 \na: 2 # c",
+            "1:1 document-start (fixable) / 1:5 trailing-blanks (fixable) / 2:1 repeated-keys / 2:6 comment-space (fixable) / 2:9 final-break (fixable)",
+        ),
+        (
+            "\u{FEFF}a: 'x'  # c \r\nb: |\r\n  y \r\na: 1\r\n",
+            "1:1 document-start (fixable) / 1:1 byte-order-mark (fixable) / 1:4 quoting (fixable) / 1:12 trailing-blanks (fixable) / 1:13 line-breaks (fixable) / 4:1 repeated-keys",
+        ),
+        (
+            "a:\n\n  b: 1\n\n\n  # c\n\n  d: 2\n\n---\n\ne\n",
+            "1:1 document-start (fixable) / 5:1 blank-lines (fixable) / 9:1 blank-lines (fixable) / 11:1 blank-lines (fixable)",
+        ),
+        (
+            "---\na: \"x\"  # c\nb: |\n  y \na: 1\n",
+            "5:1 repeated-keys",
+        ),
+    ];
+    for (input, findings) in &rows {
+        assert!(rt;
+            finds(rt.alloc(), &Style::house(), input, findings)?,
+            "{input}"
+        );
+    }
+    Ok(())
+}
+
+#[test]
+fn finds_nothing_in_the_house_style(rt: HostRuntime) -> Result<(), Fail> {
+    let inputs = [
+        "",
+        "---\n# c\n",
+        "---\n|+\n  a\n\n",
+        "---\n- |\n  ---\n\n- b\n",
+        "---\na:\n  b: 1\n\n  # c\n\n  d: 2\n---\ne\n",
+        "---\n? |\n  x\n: y\n",
+        "---\na:\n  - x\n",
+    ];
+    for input in &inputs {
+        assert!(rt; finds(rt.alloc(), &Style::house(), input, "")?, "{input}");
+    }
+    Ok(())
+}
+
+#[test]
+fn checks_sequences_at_their_keys(rt: HostRuntime) -> Result<(), Fail> {
+    let style = match style_from_toml(rt.alloc(), "seq_indent = false\n") {
+        Ok(style) => style,
+        Err(fault) => panic!(rt; "{fault}"),
+    };
+    assert!(rt;
+        finds(
+            rt.alloc(),
+            &style,
+            "---\na:\n  - x\n",
+            "3:3 indentation (fixable)"
+        )?
+    );
+    assert!(rt; finds(rt.alloc(), &style, "---\na:\n- x\n", "")?);
+    Ok(())
+}
+
+#[test]
+fn checks_accepted_streams_alone(rt: HostRuntime) -> Result<(), Fail> {
+    let alloc = rt.alloc();
+    let rules = all_rules(alloc)?;
+    let refused = answer_to(
+        alloc,
+        Verb::Check,
+        rules.as_slice(),
+        &Style::house(),
+        b"- *a \n",
+    );
+    assert!(rt; refused.status == 2 && refused.output.is_empty());
+    assert!(rt; refused.line.as_slice() == b"1:3 refused: unknown-alias\n".as_slice());
+    Ok(())
+}
