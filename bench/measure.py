@@ -42,22 +42,22 @@ def text_of(size):
     return ''.join(parts)
 
 
-def run(words, path):
+def run(words, path, good):
     """Seconds, and the peak of resident memory in bytes."""
     with open(path, 'rb') as source:
         start = time.monotonic()
         child = subprocess.Popen(words, stdin=source, stdout=subprocess.DEVNULL)
         _, status, usage = os.wait4(child.pid, 0)
         seconds = time.monotonic() - start
-    if status != 0:
+    if os.waitstatus_to_exitcode(status) not in good:
         sys.exit('%s: status %d' % (' '.join(words), status))
     return seconds, usage.ru_maxrss * 1024
 
 
-def measure(name, words, files):
+def measure(name, words, files, good=(0,)):
     seconds = []
     for path, size in files:
-        best = min(run(words, path) for _ in range(2))
+        best = min(run(words, path, good) for _ in range(2))
         seconds.append(best[0])
         print('%-24s %9d bytes  %7.2f s  %6.1f bytes of memory a byte of input' % (name, size, best[0], best[1] / size))
     print('%-24s ratio of the times %.1f' % (name, seconds[1] / seconds[0]))
@@ -73,6 +73,7 @@ def main():
                 out.write(text_of(megabytes << 20))
             files.append((path, os.path.getsize(path)))
         measure('yamlfmt events', [program, 'events'], files)
+        measure('yamlfmt check', [program, 'check'], files, good=(0, 1))
         peer = shutil.which('fy-tool')
         if peer:
             measure('fy-tool --testsuite', [peer, '--testsuite', '-'], files)
