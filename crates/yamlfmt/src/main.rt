@@ -25,14 +25,14 @@ mod tests;
 use command_line::{Cmd, parse_line};
 use program::{answer_usage, read_style, run};
 use report::report;
-use std::alloc::{AllocError, Global};
+use std::alloc::AllocError;
 use std::fs::File;
 use std::process::ExitCode;
 use std::{env, io};
 use yf_emit::style::Style;
 use yf_lines::fault::Fault;
 use yf_lines::text::OwnedText;
-use yf_lines::watched::Watched;
+use yf_lines::watched::{Source, Watched};
 use yf_rules::blank_lines::BlankLines;
 use yf_rules::byte_order_mark::ByteOrderMark;
 use yf_rules::comment_space::CommentSpace;
@@ -76,62 +76,54 @@ fn words_given(rt: &HostRuntime) -> io::Result<Vec<String>> {
 
 /// Does a command over its files: the settings are read first.
 fn run_files(rt: &HostRuntime, command: &Cmd) -> Result<u8, Fault> {
-    let alloc = rt.alloc();
     let style = match &command.config {
-        Some(path) => read_style(alloc, &mut Watched::new(open(rt, path)?))?,
+        Some(path) => read_style(rt.alloc(), &mut Watched::new(open(rt, path)?))?,
         None => Style::house(),
     };
-    let rules = match all_rules(alloc) {
-        Ok(rules) => rules,
-        Err(AllocError) => return Err(Fault::Memory),
+    let answer = match &command.file {
+        Some(path) => run_with_rules(rt, command, &style, &mut Watched::new(open(rt, path)?)),
+        None => run_with_rules(rt, command, &style, &mut Watched::new(rt.reader())),
     };
-    let mut writer = Watched::new(rt.stdout());
-    let mut error_stream = Watched::new(rt.stderr());
-    Ok(match &command.file {
-        Some(path) => {
-            let mut reader = Watched::new(open(rt, path)?);
-            run(
-                alloc,
-                command,
-                rules.as_slice(),
-                &style,
-                &mut reader,
-                &mut writer,
-                &mut error_stream,
-            )
-        }
-        None => {
-            let mut reader = Watched::new(rt.reader());
-            run(
-                alloc,
-                command,
-                rules.as_slice(),
-                &style,
-                &mut reader,
-                &mut writer,
-                &mut error_stream,
-            )
-        }
-    })
+    match answer {
+        Ok(status) => Ok(status),
+        Err(AllocError) => Err(Fault::Memory),
+    }
 }
 
-/// The rules of style, by their numbers.
-fn all_rules(alloc: Global) -> Result<Vec<Box<dyn Rule>>, AllocError> {
-    let mut rules: Vec<Box<dyn Rule>> = Vec::new(alloc);
-    rules.push(Box::new(alloc, TrailingBlanks)?)?;
-    rules.push(Box::new(alloc, Indentation)?)?;
-    rules.push(Box::new(alloc, Quoting)?)?;
-    rules.push(Box::new(alloc, DocumentStart)?)?;
-    rules.push(Box::new(alloc, FinalBreak)?)?;
-    rules.push(Box::new(alloc, LineBreaks)?)?;
-    rules.push(Box::new(alloc, ByteOrderMark)?)?;
-    rules.push(Box::new(alloc, BlankLines)?)?;
-    rules.push(Box::new(alloc, FlowLayout)?)?;
-    rules.push(Box::new(alloc, CommentSpace)?)?;
-    rules.push(Box::new(alloc, LineLength)?)?;
-    rules.push(Box::new(alloc, RepeatedKeys)?)?;
-    rules.push(Box::new(alloc, KeyMark)?)?;
-    Ok(rules)
+/// Does a command with all rules of style, and answers its status.
+fn run_with_rules<R: Source>(
+    rt: &HostRuntime,
+    command: &Cmd,
+    style: &Style,
+    reader: &mut R,
+) -> Result<u8, AllocError> {
+    let alloc = rt.alloc();
+    let rules: [Box<dyn Rule>; 13] = [
+        Box::new(alloc, TrailingBlanks)?,
+        Box::new(alloc, Indentation)?,
+        Box::new(alloc, Quoting)?,
+        Box::new(alloc, DocumentStart)?,
+        Box::new(alloc, FinalBreak)?,
+        Box::new(alloc, LineBreaks)?,
+        Box::new(alloc, ByteOrderMark)?,
+        Box::new(alloc, BlankLines)?,
+        Box::new(alloc, FlowLayout)?,
+        Box::new(alloc, CommentSpace)?,
+        Box::new(alloc, LineLength)?,
+        Box::new(alloc, RepeatedKeys)?,
+        Box::new(alloc, KeyMark)?,
+    ];
+    let mut writer = Watched::new(rt.stdout());
+    let mut error_stream = Watched::new(rt.stderr());
+    Ok(run(
+        alloc,
+        command,
+        &rules,
+        style,
+        reader,
+        &mut writer,
+        &mut error_stream,
+    ))
 }
 
 /// A file that cannot be opened is one that cannot be read.

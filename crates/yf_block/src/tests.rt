@@ -10,7 +10,7 @@ use yf_lines::source_text::Src;
 use yf_props::props::Props;
 
 // A text, the events of the block node that begins it, at indentation -1 in block-in, and where the node ends.
-const NODES: [(&str, &str, usize); 26] = [
+const NODES: [(&str, &str, usize); 34] = [
     ("? k\n: v\n", "+MAP / =VAL :k / =VAL :v / -MAP", 8),
     (
         "a:\n- x\n- - y\n  - z\n",
@@ -77,7 +77,35 @@ const NODES: [(&str, &str, usize); 26] = [
         23,
     ),
     ("&a\n&b k: v\n", "+MAP &a / =VAL &b :k / =VAL :v / -MAP", 11),
+    ("\"\\ud83d\\ude00 \\x41\"", "=VAL \"\u{1F600} A", 19),
+    (
+        "a: 'x'  # c \r\nb: |\r\n  y \r\na: 1\r\n",
+        "+MAP / =VAL :a / =VAL 'x / =VAL :b / =VAL |y \n / =VAL :a / =VAL :1 / -MAP",
+        32,
+    ),
+    (
+        "[a, # c\n # d\n b, {k: # e\n v}] # f\n",
+        "+SEQ [] / =VAL :a / =VAL :b / +MAP {} / =VAL :k / =VAL :v / -MAP / -SEQ",
+        34,
+    ),
+    (
+        "a:\n\n  b: 1\n\n\n  # c\n\n  d: 2\n\n---\n\ne\n",
+        "+MAP / =VAL :a / +MAP / =VAL :b / =VAL :1 / =VAL :d / =VAL :2 / -MAP / -MAP",
+        28,
+    ),
+    (
+        "- 'it''s'\n- \"\\r\"\n",
+        "+SEQ / =VAL 'it's / =VAL \"\r / -SEQ",
+        17,
+    ),
+    ("- *a\n- &a x\n", "+SEQ / =ALI *a / =VAL &a :x / -SEQ", 12),
+    (
+        "[a: b, c]\n",
+        "+SEQ [] / +MAP {} / =VAL :a / =VAL :b / -MAP / =VAL :c / -SEQ",
+        10,
+    ),
     // the longest part, where the text goes wrong later
+    ("a:\n\tb: 1\n", "+MAP / =VAL :a / =VAL : / -MAP", 3),
     ("- a\n- [", "+SEQ / =VAL :a / -SEQ", 4),
     ("a\nb: c\n", "=VAL :a", 2),
     ("&a\n---", "=VAL &a :", 3),
