@@ -3,8 +3,10 @@
 
 Usage: bench/measure.py [PROGRAM]     (default: the program that ./yamlfmt builds; build it first)
 
-Where fy-tool is installed, its `--testsuite` output is timed on the same files. Not part of rt ci.
+Peers are timed on the same files where they are installed: fy-tool's `--testsuite` output beside `events`, and beside
+`fmt` another yamlfmt, prettier and ruamel.yaml. Not part of rt ci.
 """
+import importlib.util
 import os
 import shutil
 import subprocess
@@ -63,6 +65,25 @@ def measure(name, words, files, good=(0,)):
     print('%-24s ratio of the times %.1f' % (name, seconds[1] / seconds[0]))
 
 
+ROUND_TRIP = 'import sys; from ruamel.yaml import YAML; y = YAML(); y.dump(y.load(sys.stdin), sys.stdout)'
+
+
+def words_of(name, *words):
+    """The command with its words, where it is installed and is not this program."""
+    path = shutil.which(name)
+    if path is None or os.path.realpath(path).startswith(TOP + os.sep):
+        return None
+    return [path, *words]
+
+
+def peers():
+    """Names of peers, and their command lines from standard input to standard output, or None."""
+    yield 'fy-tool --testsuite', words_of('fy-tool', '--testsuite', '-')
+    yield 'another yamlfmt', words_of('yamlfmt', '-in')
+    yield 'prettier', words_of('prettier', '--parser', 'yaml')
+    yield 'ruamel.yaml', [sys.executable, '-c', ROUND_TRIP] if importlib.util.find_spec('ruamel') else None
+
+
 def main():
     program = sys.argv[1] if len(sys.argv) > 1 else os.path.join(TOP, 'crates/yamlfmt/out/yamlfmt')
     with tempfile.TemporaryDirectory() as folder:
@@ -74,9 +95,12 @@ def main():
             files.append((path, os.path.getsize(path)))
         measure('yamlfmt events', [program, 'events'], files)
         measure('yamlfmt check', [program, 'check'], files, good=(0, 1))
-        peer = shutil.which('fy-tool')
-        if peer:
-            measure('fy-tool --testsuite', [peer, '--testsuite', '-'], files)
+        measure('yamlfmt fmt', [program, 'fmt'], files)
+        for name, words in peers():
+            if words:
+                measure(name, words, files)
+            else:
+                print('%-24s not installed' % name)
 
 
 if __name__ == '__main__':

@@ -15,7 +15,7 @@ use Rattle.yamlfmt.specs.declared.command_line.Verb.TheVariants.{Events, Check, 
 use Rattle.yamlfmt.specs.declared.run.TheConstants.{INPUT_LIMIT}
 use Rattle.yamlfmt.specs.Input.{ReadRefusal}
 use Rattle.yamlfmt.specs.Report.{fault_line, fault_status}
-use Rattle.yamlfmt.specs.Run.{Gave, Printed, Refused, RefusedCheck, Told, Untouched}
+use Rattle.yamlfmt.specs.Run.{Gave, Printed, Refused, RefusedCheck, RefusedFmt, Restyled, Told, Untouched}
 use Rattle.yamlfmt.specs.Settings.{SetsStyle, RefusesSettings}
 
 -- the text was written to the stream, or the stream has failed behind a front of it
@@ -55,12 +55,6 @@ Answered (usage.Wrong text) status old new before after at to was is =
 Answered usage.Memory status old new before after at to was is =
     Untouched old new before after × EndsBy fault.Memory status at to was is
 
--- a command that is not there yet
-abbrev pub IsAbsent : List ℕ → ℕ → Option (List ℕ) → Option (List ℕ) → Bool → Bool
-    → Option (List ℕ) → Option (List ℕ) → Bool → Bool → Type 0
-IsAbsent line status old new before after at to was is =
-    (status ≡ 3) × Untouched old new before after × Reached at to was is line
-
 -- the status of a check
 abbrev pub check_status : Bool → ℕ
 check_status true = 1
@@ -68,13 +62,14 @@ check_status false = 0
 
 -- what a command does; C tells what the rules find
 -- (known, read_before, read_after: what the reader had, and the note that it has failed; the others as above)
-abbrev pub Ran : (Table → Lists → List Finding → Type 0) → Verb → ℕ → Option (List ℕ) → Bool → Bool → Option (List ℕ) → Option (List ℕ)
+abbrev pub Ran : (Table → Lists → List Finding → Type 0) → Style → Verb → ℕ → Option (List ℕ) → Bool → Bool → Option (List ℕ) → Option (List ℕ)
     → Bool → Bool → Option (List ℕ) → Option (List ℕ) → Bool → Bool → Type 0
-Ran C Events status known read_before read_after old new before after at to was is =
+Ran C style Events status known read_before read_after old new before after at to was is =
     (Printed known old new before after × (read_after ≡ read_before) × EndsWell status at to was is)
     ⊎ ((f : Fault) × Refused known read_before read_after old new before after f × EndsBy f status at to was is)
-Ran C Check status known read_before read_after old new before after at to was is =
+Ran C style Check status known read_before read_after old new before after at to was is =
     ((any : Bool) × Told C known old new before after any × (read_after ≡ read_before) × (status ≡ check_status any) × Untouched at to was is)
     ⊎ ((f : Fault) × RefusedCheck C known read_before read_after old new before after f × EndsBy f status at to was is)
-Ran C Fmt status known read_before read_after old new before after at to was is =
-    IsAbsent (codes "error: the command 'fmt' is not there yet\n") status old new before after at to was is
+Ran C style Fmt status known read_before read_after old new before after at to was is =
+    (Restyled style known old new before after × (read_after ≡ read_before) × EndsWell status at to was is)
+    ⊎ ((f : Fault) × RefusedFmt style known read_before read_after old new before after f × EndsBy f status at to was is)

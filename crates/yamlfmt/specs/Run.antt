@@ -11,6 +11,8 @@ use Rattle.yf_events.specs.declared.reading.TheConstants.{DEPTH}
 use Rattle.yf_events.specs.Nested.{IsStream}
 use Rattle.yf_events.specs.Notation.{notation_of}
 use Rattle.yf_events.specs.Reading.{events_of}
+use Rattle.yf_emit.specs.declared.style.Style.{Style}
+use Rattle.yf_emit.specs.Formatted.{Formatted}
 use Rattle.yf_rules.specs.declared.finding.Finding.{Finding}
 use Rattle.yf_stream.specs.Refusal.{IsStreamFault}
 use Rattle.yamlfmt.specs.declared.run.TheConstants.{INPUT_LIMIT}
@@ -57,12 +59,6 @@ pub record Untouched (old new : Option (List ℕ)) (before after : Bool) : Type 
   pub contents : new ≡ old
   pub same : after ≡ before
 
--- the stream is refused, and nothing was written
--- (known: what the reader had; read_before, read_after: the note that it has failed; the others: the same of the writer)
-abbrev pub RefusedStream : Option (List ℕ) → Bool → Bool → Option (List ℕ) → Option (List ℕ) → Bool → Bool → Fault → Type 0
-RefusedStream known read_before read_after old new before after fault =
-    GaveNoStream known fault × Untouched old new before after × (read_after ≡ read_before)
-
 -- the line of a finding: its place, the rule's name, and whether the house style mends it
 abbrev pub fixable_word : Bool → List ℕ
 fixable_word true = codes " (fixable)"
@@ -101,29 +97,46 @@ pub record BrokeOffLines (C : Table → Lists → List Finding → Type 0) (know
   pub found : Found C known findings
   pub broke : Broke old new after (findings_text findings)
 
+-- the text was read, and this is it in the house style
+pub record Rendered (style : Style) (known : Option (List ℕ)) (formatted : List ℕ) : Type 0 where
+  pub text : List ℕ
+  pub gave : Gave known text
+  pub utf8 : IsUtf8 text
+  pub is : Formatted text style formatted
+
+-- the text was read, and was written in the house style, once and with nothing beside it
+pub record Restyled (style : Style) (known old new : Option (List ℕ)) (before after : Bool) : Type 0 where
+  pub formatted : List ℕ
+  pub rendered : Rendered style known formatted
+  pub wrote : Wrote old new before after formatted
+
+-- the same, but the writer failed behind a front of what was to be written
+pub record BrokeOffText (style : Style) (known old new : Option (List ℕ)) (after : Bool) : Type 0 where
+  pub formatted : List ℕ
+  pub rendered : Rendered style known formatted
+  pub broke : Broke old new after formatted
+
+-- why no stream could be had of the reader
+-- (known: what the reader had; before, after: the note that it has failed)
+abbrev pub RefusedText : Option (List ℕ) → Bool → Bool → Fault → Type 0
+RefusedText known before after (NotUtf8 offset) = GaveNoText known offset × (after ≡ before)
+RefusedText known before after (Syntax place what) = GaveNoStream known (Syntax place what) × (after ≡ before)
+RefusedText known before after (TooDeep place) = GaveNoStream known (TooDeep place) × (after ≡ before)
+RefusedText known before after (UnknownHandle place) = GaveNoStream known (UnknownHandle place) × (after ≡ before)
+RefusedText known before after (UnknownAlias place) = GaveNoStream known (UnknownAlias place) × (after ≡ before)
+RefusedText known before after (RepeatedDirective place) = GaveNoStream known (RepeatedDirective place) × (after ≡ before)
+RefusedText known before after (BadVersion place) = GaveNoStream known (BadVersion place) × (after ≡ before)
+RefusedText known before after (EscapeValue place) = GaveNoStream known (EscapeValue place) × (after ≡ before)
+RefusedText known before after Memory = after ≡ before
+RefusedText known before after ReadFailed = ReadRefusal known INPUT_LIMIT before after ReadFailed
+RefusedText known before after _ = ⊥
+
 -- why a run is refused, and what it has then written: where the writer failed what Broken says, else nothing
+-- (known, read_before, read_after: as above; old, new, before, after: what the writer holds, and the note that it has failed)
 abbrev pub RefusedRun : Type 0 → Option (List ℕ) → Bool → Bool → Option (List ℕ) → Option (List ℕ) → Bool → Bool → Fault → Type 0
-RefusedRun Broken known read_before read_after old new before after (NotUtf8 offset) =
-    GaveNoText known offset × Untouched old new before after × (read_after ≡ read_before)
-RefusedRun Broken known read_before read_after old new before after (Syntax place what) =
-    RefusedStream known read_before read_after old new before after (Syntax place what)
-RefusedRun Broken known read_before read_after old new before after (TooDeep place) =
-    RefusedStream known read_before read_after old new before after (TooDeep place)
-RefusedRun Broken known read_before read_after old new before after (UnknownHandle place) =
-    RefusedStream known read_before read_after old new before after (UnknownHandle place)
-RefusedRun Broken known read_before read_after old new before after (UnknownAlias place) =
-    RefusedStream known read_before read_after old new before after (UnknownAlias place)
-RefusedRun Broken known read_before read_after old new before after (RepeatedDirective place) =
-    RefusedStream known read_before read_after old new before after (RepeatedDirective place)
-RefusedRun Broken known read_before read_after old new before after (BadVersion place) =
-    RefusedStream known read_before read_after old new before after (BadVersion place)
-RefusedRun Broken known read_before read_after old new before after (EscapeValue place) =
-    RefusedStream known read_before read_after old new before after (EscapeValue place)
-RefusedRun Broken known read_before read_after old new before after Memory = Untouched old new before after × (read_after ≡ read_before)
-RefusedRun Broken known read_before read_after old new before after ReadFailed =
-    ReadRefusal known INPUT_LIMIT read_before read_after ReadFailed × Untouched old new before after
 RefusedRun Broken known read_before read_after old new before after WriteFailed = Broken × (read_after ≡ read_before)
-RefusedRun Broken known read_before read_after old new before after _ = ⊥
+RefusedRun Broken known read_before read_after old new before after fault =
+    RefusedText known read_before read_after fault × Untouched old new before after
 
 -- of the run that prints events: a front of the events' lines was written
 abbrev pub Refused : Option (List ℕ) → Bool → Bool → Option (List ℕ) → Option (List ℕ) → Bool → Bool → Fault → Type 0
@@ -134,3 +147,8 @@ Refused known read_before read_after old new before after fault =
 abbrev pub RefusedCheck : (Table → Lists → List Finding → Type 0) → Option (List ℕ) → Bool → Bool → Option (List ℕ) → Option (List ℕ) → Bool → Bool → Fault → Type 0
 RefusedCheck C known read_before read_after old new before after fault =
     RefusedRun (BrokeOffLines C known old new after) known read_before read_after old new before after fault
+
+-- of the run that formats
+abbrev pub RefusedFmt : Style → Option (List ℕ) → Bool → Bool → Option (List ℕ) → Option (List ℕ) → Bool → Bool → Fault → Type 0
+RefusedFmt style known read_before read_after old new before after fault =
+    RefusedRun (BrokeOffText style known old new after) known read_before read_after old new before after fault

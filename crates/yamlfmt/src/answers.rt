@@ -5,7 +5,7 @@ use crate::program::run;
 use std::alloc::Global;
 use std::test::Fail;
 use yf_emit::style::Style;
-use yf_lines::watched::Watched;
+use yf_lines::watched::{Sink, Source, Watched};
 use yf_rules::rule::Rule;
 
 /// The status of a command, and what it writes to the two streams.
@@ -16,6 +16,16 @@ pub struct Answer {
     pub line: Vec<u8>,
 }
 
+/// A command over standard input.
+pub fn command(verb: Verb) -> Cmd {
+    Cmd {
+        verb,
+        config: None,
+        file: None,
+        write: false,
+    }
+}
+
 /// What a command answers for an input.
 pub fn answer_to(
     alloc: Global,
@@ -24,18 +34,12 @@ pub fn answer_to(
     style: &Style,
     input: &[u8],
 ) -> Answer {
-    let command = Cmd {
-        verb,
-        config: None,
-        file: None,
-        write: false,
-    };
     let mut reader = Watched::new(input);
     let mut writer = Watched::new(Vec::new(alloc));
     let mut error_stream = Watched::new(Vec::new(alloc));
     let status = run(
         alloc,
-        &command,
+        &command(verb),
         rules,
         style,
         &mut reader,
@@ -47,6 +51,27 @@ pub fn answer_to(
         output: writer.into_inner(),
         line: error_stream.into_inner(),
     }
+}
+
+/// The status of a command in the house style over a reader and a writer, and what it writes to the stream of faults.
+pub fn answer_over<R: Source, W: Sink>(
+    alloc: Global,
+    verb: Verb,
+    rules: &[Box<dyn Rule>],
+    reader: &mut R,
+    writer: &mut W,
+) -> (u8, Vec<u8>) {
+    let mut error_stream = Watched::new(Vec::new(alloc));
+    let status = run(
+        alloc,
+        &command(verb),
+        rules,
+        &Style::house(),
+        reader,
+        writer,
+        &mut error_stream,
+    );
+    (status, error_stream.into_inner())
 }
 
 /// The lines, which stand between ` / ` in a table.

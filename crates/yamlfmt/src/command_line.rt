@@ -91,7 +91,7 @@ fn yamlfmt_command<'a>(alloc: Global) -> Result<Command<'a>, AllocError>
     let check = reading_command(
         alloc,
         CHECK,
-        "Print where a YAML stream departs from the house style (not there yet)",
+        "Print where a YAML stream departs from the house style",
     )?;
     let fmt = fmt_command(alloc)?;
     Command::new(alloc, "yamlfmt")
@@ -131,7 +131,7 @@ fn fmt_command<'a>(alloc: Global) -> Result<Command<'a>, AllocError>
     let write = write_flag(alloc);
     let file = file_word(alloc);
     Command::new(alloc, FMT)
-        .about("Print a YAML stream in the house style (not there yet)")
+        .about("Print a YAML stream in the house style")
         .arg(config)?
         .arg(write)?
         .arg(file)

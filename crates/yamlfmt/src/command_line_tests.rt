@@ -98,8 +98,8 @@ Usage: yamlfmt <COMMAND>
 
 Commands:
   events  Print the events of a YAML stream
-  check   Print where a YAML stream departs from the house style (not there yet)
-  fmt     Print a YAML stream in the house style (not there yet)
+  check   Print where a YAML stream departs from the house style
+  fmt     Print a YAML stream in the house style
   help    Print this message or the help of the given subcommand(s)
 
 Options:

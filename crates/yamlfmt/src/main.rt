@@ -10,7 +10,18 @@ mod command_line;
 mod command_line_tests;
 #[cfg(test)]
 mod events_tests;
+#[cfg(test)]
+mod faulty;
+mod files;
+#[cfg(test)]
+mod files_tests;
+#[cfg(test)]
+mod fmt_tests;
+#[cfg(test)]
+mod hostile_tests;
 mod input;
+#[cfg(test)]
+mod laws_tests;
 mod program;
 #[cfg(test)]
 mod program_tests;
@@ -23,16 +34,15 @@ mod settings_tests;
 mod tests;
 
 use command_line::{Cmd, parse_line};
-use program::{answer_usage, read_style, run};
+use files::{open, rewrite};
+use program::{GOOD, answer_usage, read_style, run};
 use report::report;
 use std::alloc::AllocError;
-use std::fs::File;
 use std::process::ExitCode;
 use std::{env, io};
 use yf_emit::style::Style;
 use yf_lines::fault::Fault;
-use yf_lines::text::OwnedText;
-use yf_lines::watched::{Source, Watched};
+use yf_lines::watched::{Sink, Source, Watched};
 use yf_rules::blank_lines::BlankLines;
 use yf_rules::byte_order_mark::ByteOrderMark;
 use yf_rules::comment_space::CommentSpace;
@@ -52,19 +62,29 @@ use yf_rules::trailing_blanks::TrailingBlanks;
 const UNREADABLE: u8 = 3;
 
 fn main(rt: HostRuntime) -> ExitCode {
-    let Ok(words) = words_given(&rt) else {
-        let _ = eprintln!(rt; "error: the command line cannot be read");
-        return ExitCode::from(UNREADABLE);
-    };
     let mut error_stream = Watched::new(rt.stderr());
-    let status = match parse_line(rt.alloc(), words.as_slice()) {
-        Ok(command) => match run_files(&rt, &command) {
-            Ok(status) => status,
-            Err(fault) => report(&fault, &mut error_stream),
-        },
-        Err(usage) => answer_usage(&usage, &mut Watched::new(rt.stdout()), &mut error_stream),
+    let status = match words_given(&rt) {
+        Ok(words) => do_words(&rt, words.as_slice(), &mut error_stream),
+        Err(error) if error.kind() == io::ErrorKind::OutOfMemory => {
+            report(&Fault::Memory, &mut error_stream)
+        }
+        Err(_) => {
+            let _ = eprintln!(rt; "error: the command line cannot be read");
+            UNREADABLE
+        }
     };
     ExitCode::from(status)
+}
+
+/// Does what the words ask for, and answers the status.
+fn do_words<E: Sink>(rt: &HostRuntime, words: &[String], error_stream: &mut E) -> u8 {
+    match parse_line(rt.alloc(), words) {
+        Ok(command) => match run_files(rt, &command) {
+            Ok(status) => status,
+            Err(fault) => report(&fault, error_stream),
+        },
+        Err(usage) => answer_usage(&usage, &mut Watched::new(rt.stdout()), error_stream),
+    }
 }
 
 /// The words after the program's name.
@@ -74,20 +94,34 @@ fn words_given(rt: &HostRuntime) -> io::Result<Vec<String>> {
     Ok(words.collect(rt.alloc())?)
 }
 
-/// Does a command over its files: the settings are read first.
+/// Does a command over its files: the settings are read first. A file that is to be rewritten is read and written whole.
 fn run_files(rt: &HostRuntime, command: &Cmd) -> Result<u8, Fault> {
     let style = match &command.config {
-        Some(path) => read_style(rt.alloc(), &mut Watched::new(open(rt, path)?))?,
+        Some(path) => read_style(rt.alloc(), &mut Watched::new(open(rt, path.as_str())?))?,
         None => Style::house(),
     };
     let answer = match &command.file {
-        Some(path) => run_with_rules(rt, command, &style, &mut Watched::new(open(rt, path)?)),
+        Some(path) if command.write => return rewritten(rt, path.as_str(), &style),
+        Some(path) => {
+            run_with_rules(
+                rt,
+                command,
+                &style,
+                &mut Watched::new(open(rt, path.as_str())?),
+            )
+        }
         None => run_with_rules(rt, command, &style, &mut Watched::new(rt.reader())),
     };
     match answer {
         Ok(status) => Ok(status),
         Err(AllocError) => Err(Fault::Memory),
     }
+}
+
+/// Rewrites a file, and answers the status.
+fn rewritten(rt: &HostRuntime, path: &str, style: &Style) -> Result<u8, Fault> {
+    rewrite(rt, path, style)?;
+    Ok(GOOD)
 }
 
 /// Does a command with all rules of style, and answers its status.
@@ -124,12 +158,4 @@ fn run_with_rules<R: Source>(
         &mut writer,
         &mut error_stream,
     ))
-}
-
-/// A file that cannot be opened is one that cannot be read.
-fn open(rt: &HostRuntime, path: &OwnedText) -> Result<File, Fault> {
-    match File::open(rt, path.as_str()) {
-        Ok(file) => Ok(file),
-        Err(_) => Err(Fault::ReadFailed),
-    }
 }

@@ -2,12 +2,12 @@
 ghost use Rattle.std.specs.Prelude.{◌≡◌, MatchResult};
 ghost use Rattle.yf_lines.specs.Output.{Writes};
 ghost use Rattle.yf_rules.specs.Check.{Checked, RuleFindings};
-ghost use Rattle.yamlfmt.specs.Program.{Answered, FileRefused, FileSets, IsAbsent, Ran};
+ghost use Rattle.yamlfmt.specs.Program.{Answered, FileRefused, FileSets, Ran};
 
 use crate::command_line::{Cmd, Usage, Verb};
 use crate::input::read_all;
 use crate::report::report;
-use crate::run::{INPUT_LIMIT, run_check, run_events};
+use crate::run::{INPUT_LIMIT, run_check, run_events, run_fmt};
 use crate::settings::{no_key, style_from_toml};
 use std::alloc::Global;
 use yf_chars::utf8::check_utf8;
@@ -18,7 +18,7 @@ use yf_lines::watched::{Sink, Source};
 use yf_rules::rule::Rule;
 
 /// The status of a run that ended well.
-const GOOD: u8 = 0;
+pub const GOOD: u8 = 0;
 
 /// The status of a check that found something.
 const FINDINGS: u8 = 1;
@@ -27,7 +27,8 @@ const FINDINGS: u8 = 1;
 const USAGE: u8 = 3;
 
 /// Does the command, and answers the status: that of the run, or of the fault whose line was written to the stream of
-/// faults. Of the command only its verb counts: reader and writer are those of its files.
+/// faults. Of the command only its verb counts: reader and writer are those of its files, and what is to be written over
+/// its file is not done here.
 pub fn run<R: Source, W: Sink, E: Sink>(
     alloc: Global,
     command: &Cmd,
@@ -37,7 +38,7 @@ pub fn run<R: Source, W: Sink, E: Sink>(
     writer: &mut W,
     error_stream: &mut E,
 ) -> u8
-    ensures { Ran (λ src reading findings. Checked (λ rule found. RuleFindings (rule_number rule) (rule_id rule) (is_fixable rule) (faults rule) src reading style.now found) rules.now findings) command.now.verb result (R.remaining reader.old) (R.has_failed reader.old) (R.has_failed reader.new)
+    ensures { Ran (λ src reading findings. Checked (λ rule found. RuleFindings (rule_number rule) (rule_id rule) (is_fixable rule) (faults rule) src reading style.now found) rules.now findings) style.now command.now.verb result (R.remaining reader.old) (R.has_failed reader.old) (R.has_failed reader.new)
         (W.contents writer.old) (W.contents writer.new) (W.has_failed writer.old) (W.has_failed writer.new)
         (E.contents error_stream.old) (E.contents error_stream.new) (E.has_failed error_stream.old) (E.has_failed error_stream.new) }
 {
@@ -51,10 +52,10 @@ pub fn run<R: Source, W: Sink, E: Sink>(
             Ok(true) => FINDINGS,
             Err(fault) => report(&fault, error_stream),
         },
-        Verb::Fmt => {
-            let _ = write_text(error_stream, b"error: the command 'fmt' is not there yet\n");
-            USAGE
-        }
+        Verb::Fmt => match run_fmt(alloc, reader, writer, style) {
+            Ok(()) => GOOD,
+            Err(fault) => report(&fault, error_stream),
+        },
     }
 }
 

@@ -1,6 +1,7 @@
 //! Runs over readers and writers in memory: statuses, and what is written to which stream.
 
-use crate::command_line::{Cmd, Usage, Verb};
+use crate::answers::command;
+use crate::command_line::{Usage, Verb};
 use crate::program::{answer_usage, read_style, run};
 use std::alloc::Global;
 use std::test::Fail;
@@ -8,15 +9,6 @@ use yf_emit::style::Style;
 use yf_lines::fault::Fault;
 use yf_lines::text::OwnedText;
 use yf_lines::watched::Watched;
-
-fn command(verb: Verb) -> Cmd {
-    Cmd {
-        verb,
-        config: None,
-        file: None,
-        write: false,
-    }
-}
 
 fn text(alloc: Global, text: &str) -> Result<OwnedText, Fail> {
     Ok(OwnedText::new(String::from_str(alloc, text)?))
@@ -41,10 +33,10 @@ fn runs_commands(rt: HostRuntime) -> Result<(), Fail> {
         ),
         (
             Verb::Fmt,
-            b"- a\n".as_slice(),
-            3,
+            b"- a\n- b: *x\n".as_slice(),
+            2,
             "",
-            "error: the command 'fmt' is not there yet\n",
+            "2:6 refused: unknown-alias\n",
         ),
     ];
     for (verb, input, status, output, line) in &rows {

@@ -1,17 +1,19 @@
 //! The runs of the program, over any reader and any writer.
-ghost use Rattle.std.specs.Prelude.{◌≡◌, IfErr, IfOk, OnOk};
+ghost use Rattle.std.specs.Prelude.{◌≡◌, string_bytes, IfErr, IfOk, OnOk};
 ghost use Rattle.yf_lines.specs.Output.{Writes};
 ghost use Rattle.yf_rules.specs.Check.{Checked, RuleFindings};
-ghost use Rattle.yamlfmt.specs.Run.{Printed, Refused, RefusedCheck, Told, finding_line, findings_text, has_any};
+ghost use Rattle.yamlfmt.specs.Run.{Printed, Refused, RefusedCheck, RefusedFmt, RefusedText, Rendered, Restyled, Told};
+ghost use Rattle.yamlfmt.specs.Run.{finding_line, findings_text, has_any};
 
 use crate::input::read_all;
 use itoa::Buffer;
 use std::alloc::{AllocError, Global};
 use yf_chars::utf8::{BadByte, check_utf8};
+use yf_emit::format::format;
 use yf_emit::style::Style;
 use yf_events::notation::write_events;
 use yf_lines::fault::Fault;
-use yf_lines::output::write_texts;
+use yf_lines::output::{write_text, write_texts};
 use yf_lines::source_text::Src;
 use yf_lines::watched::{Sink, Source};
 use yf_rules::check::check;
@@ -111,4 +113,43 @@ fn write_finding<W: Sink>(finding: &Finding, writer: &mut W) -> Result<(), Fault
     let column = column_buffer.format(finding.place.column);
     let fixable = if finding.fixable { " (fixable)" } else { "" };
     write_texts(writer, &[line, ":", column, " ", finding.id, fixable, "\n"])
+}
+
+/// Reads all there is, and writes it in the house style.
+///
+/// Refused is what `run_events` refuses, and nothing has then been written but, after `Fault::WriteFailed`, a front of the
+/// text.
+pub fn run_fmt<R: Source, W: Sink>(
+    alloc: Global,
+    reader: &mut R,
+    writer: &mut W,
+    style: &Style,
+) -> Result<(), Fault>
+    ensures formatted { OnOk result (Restyled style.now (R.remaining reader.old) (W.contents writer.old) (W.contents writer.new) (W.has_failed writer.old) (W.has_failed writer.new)) }
+    ensures reader { OnOk result (R.has_failed reader.new ≡ R.has_failed reader.old) }
+    ensures refusals { IfErr result (λ fault. RefusedFmt style.now (R.remaining reader.old) (R.has_failed reader.old) (R.has_failed reader.new)
+        (W.contents writer.old) (W.contents writer.new) (W.has_failed writer.old) (W.has_failed writer.new) fault) }
+{
+    let formatted = read_formatted(alloc, reader, style)?;
+    write_text(writer, formatted.as_str().as_bytes())
+}
+
+/// Reads all there is, and gives it in the house style.
+///
+/// Refused is what `run_events` refuses, but for the faults of a writer.
+pub fn read_formatted<R: Source>(
+    alloc: Global,
+    reader: &mut R,
+    style: &Style,
+) -> Result<String, Fault>
+    ensures formatted { IfOk result (λ formatted. Rendered style.now (R.remaining reader.old) (string_bytes formatted)) }
+    ensures reader { OnOk result (R.has_failed reader.new ≡ R.has_failed reader.old) }
+    ensures refusals { IfErr result (λ fault. RefusedText (R.remaining reader.old) (R.has_failed reader.old) (R.has_failed reader.new) fault) }
+{
+    let bytes = read_all(alloc, reader, INPUT_LIMIT)?;
+    let text = match check_utf8(bytes.as_slice()) {
+        Ok(text) => text,
+        Err(BadByte { offset }) => return Err(Fault::NotUtf8 { offset }),
+    };
+    format(alloc, text, style)
 }

@@ -1,1 +1,9 @@
-pub mod NbLemmas
+pub mod BlockLemmas
+mod Examples
+pub mod GapLemmas
+pub mod RestyledLemmas
+mod ShownComments
+mod ShownKeys
+mod ShownNodes
+pub mod TreeLemmas
+pub mod WhiteLemmas

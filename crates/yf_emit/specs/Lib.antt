@@ -1,1 +1,14 @@
+pub mod BlockLines
+pub mod ContentStart
+pub mod Format
+pub mod Formatted
+pub mod Kept
+pub mod Keys
+pub mod Layout
+pub mod Normal
+pub mod OneLine
+pub mod ReadingOf
+pub mod Restyled
+pub mod Rows
+pub mod Tree
 pub mod Wanted

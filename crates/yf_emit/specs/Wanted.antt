@@ -1,23 +1,21 @@
 -- In which style the house style writes a scalar.
-use Rattle.std.specs.Prelude.{ℕ, Bool, true, List, [], ◌∷◌, chars, not, ◌==◌, ◌&&◌, if◌then◌else◌}
+use Rattle.std.specs.Prelude.{ℕ, Bool, List, chars, not, ◌==◌, ◌&&◌, if◌then◌else◌}
 use Rattle.std.specs.List.{list_any}
-use Rattle.yf_chars.specs.Class.{is_nb_char}
 use Rattle.yf_lines.specs.Steady.{is_steady}
 use Rattle.yf_lines.specs.declared.quotes.Quotes.{Quotes}
-use Rattle.yf_lines.specs.declared.quotes.Quotes.TheVariants as Quotes
+use Rattle.yf_quoted.specs.Written.{quotes_for}
 use Rattle.yf_events.specs.Event.{EventValue, scalar_node}
 use Rattle.yf_events.specs.declared.event.ScalarStyle.{ScalarStyle}
 use Rattle.yf_events.specs.declared.event.ScalarStyle.TheVariants.{Plain, Single, Double, Literal, Folded}
 
--- every character is an nb-char
-abbrev pub all_nb : List ℕ → Bool
-all_nb [] = true
-all_nb (c ∷ cs) = is_nb_char c && all_nb cs
+-- the style of a scalar in quotes
+abbrev pub style_in : Quotes → ScalarStyle
+style_in Quotes.Single = Single
+style_in Quotes.Double = Double
 
 -- the preferred quotes, but single ones only where they can hold the text, which has these bytes
 abbrev pub quoted_in : List ℕ → Quotes → ScalarStyle
-quoted_in t Quotes.Single = if all_nb (chars t) then Single else Double
-quoted_in t Quotes.Double = Double
+quoted_in t quotes = style_in (quotes_for (chars t) quotes)
 
 -- the text has a character other than space and line feed
 abbrev pub has_block_content : List ℕ → Bool

@@ -1,11 +1,16 @@
 //! Where comments stand among the nodes.
-ghost use Rattle.std.specs.Prelude.{◌≤◌, length};
+ghost use Rattle.std.specs.Prelude.{◌≡◌, ◌≤◌, false, length, nat_lt, true, MatchOption};
+ghost use Rattle.std.specs.List.{AllWithin, HoldsAt};
+ghost use Rattle.std.specs.List.Sorted.{IsNonDecreasingBy, IsPartitionPoint};
+ghost use Rattle.yf_comments.specs.Comment.{comment_value};
+ghost use Rattle.yf_emit.specs.Kept.{is_within};
 
 use yf_comments::comment::Comment;
 
 /// How many comments begin before the byte offset, found by halving; the comments are in the order of the text.
 pub fn count_before(comments: &[Comment], offset: usize) -> usize
-    ensures { result ≤ length comments.now }
+    ensures within { result ≤ length comments.now }
+    ensures halves { IsNonDecreasingBy (λ c. c.offset) comments.now → IsPartitionPoint (λ c. nat_lt c.offset offset ≡ true) (λ c. nat_lt c.offset offset ≡ false) comments.now result }
 {
     let mut low = 0;
     let mut high = comments.len();
@@ -21,7 +26,9 @@ pub fn count_before(comments: &[Comment], offset: usize) -> usize
 }
 
 /// The first comment that begins at the byte offset `from` or later and before `to`, as an index.
-pub fn first_between(comments: &[Comment], from: usize, to: usize) -> Option<usize> {
+pub fn first_between(comments: &[Comment], from: usize, to: usize) -> Option<usize>
+    ensures { IsNonDecreasingBy (λ c. c.offset) comments.now → MatchOption result (AllWithin (λ c. is_within from to (comment_value c) ≡ false) comments.now 0 (length comments.now)) (λ k. AllWithin (λ c. is_within from to (comment_value c) ≡ false) comments.now 0 k × HoldsAt (λ c. is_within from to (comment_value c) ≡ true) comments.now k) }
+{
     let k = count_before(comments, from);
     if k < comments.len() {
         if comments[k].offset < to {

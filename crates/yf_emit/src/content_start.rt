@@ -1,23 +1,39 @@
 //! Where the content of a node begins, behind its properties (YAML 1.2.2, section 6.9).
+ghost use Rattle.std.specs.Prelude.{◌≡◌, ◌≤◌, ◌-◌, ◌∷◌, ℕ, suc, List, Some, length, MatchOption};
+ghost use Rattle.yf_chars.specs.Text.{code};
+ghost use Rattle.yf_emit.specs.ContentStart as ContentStart;
+ghost use Rattle.yf_emit.specs.ContentStart.{gap_len};
+ghost use Rattle.yf_props.specs.Props.{props_value, tag_value};
 
 use yf_chars::text::stands;
 use yf_events::event::Span;
 use yf_props::props::{Props, Tag};
 
+/// How many bytes an anchor is written with.
+fn anchor_len(name: &str) -> usize
+    ensures { result ≡ ContentStart.anchor_len (Some name.now) }
+{
+    name.len() + 1
+}
+
 /// How many bytes a tag is written with.
-fn tag_len(tag: Tag) -> usize {
+fn tag_len(tag: Tag) -> usize
+    ensures { result ≡ ContentStart.tag_len (Some (tag_value tag.entry)) }
+{
     match tag {
-        Tag::Verbatim(name) => name.len().saturating_add(3),
-        Tag::Short { handle, suffix } => handle.len().saturating_add(suffix.len()),
+        Tag::Verbatim(name) => name.len() + 3,
+        Tag::Short { handle, suffix } => handle.len() + suffix.len(),
         Tag::NonSpecific => 1,
     }
 }
 
-/// How many bytes the property has that stands at the byte offset; 0 where none stands.
-fn property_len(text: &str, at: usize, props: &Props) -> usize {
+/// How many bytes the property is written with that begins there; 0 where none begins.
+fn written_len(text: &str, at: usize, props: &Props) -> usize
+    ensures { result ≡ ContentStart.written_len (code text.now at) (props_value props.now) }
+{
     if stands(text, at, b'&') {
         return match props.anchor {
-            Some(name) => name.len().saturating_add(1),
+            Some(name) => anchor_len(name),
             None => 0,
         };
     }
@@ -30,58 +46,77 @@ fn property_len(text: &str, at: usize, props: &Props) -> usize {
     0
 }
 
-/// What a byte does to a separation: whether one goes on behind it, and in a comment.
-#[derive(Clone, Copy)]
-enum Gap {
-    /// Whites, breaks and the start of a comment may follow.
-    Open,
-    /// The rest of the line is a comment.
-    Comment,
-    /// The byte is none of a separation.
-    Closed,
+/// How many bytes the property has that stands at the byte offset, not past the end of the text; 0 where none stands.
+fn property_len(text: &str, at: usize, props: &Props) -> usize
+    ensures len { result ≡ ContentStart.property_len text.now at (props_value props.now) }
+    ensures within { result ≤ length text.now - at }
+{
+    written_len(text, at, props).min(text.len().saturating_sub(at))
 }
 
-fn behind_byte(gap: Gap, byte: u8) -> Gap {
-    match byte {
-        b'\n' | b'\r' => Gap::Open,
-        _ => match gap {
-            Gap::Comment => Gap::Comment,
-            Gap::Open | Gap::Closed => match byte {
-                b' ' | b'\t' => Gap::Open,
-                b'#' => Gap::Comment,
-                _ => Gap::Closed,
-            },
-        },
+/// What a byte does to a separation: `None` where it is none of its bytes, else whether a comment goes on behind it.
+fn behind_byte(in_comment: bool, byte: u8) -> Option<bool>
+    ensures { MatchOption result ((bs : List ℕ) → gap_len in_comment (byte ∷ bs) ≡ 0) (λ next. (bs : List ℕ) → gap_len in_comment (byte ∷ bs) ≡ suc (gap_len next bs)) }
+{
+    if byte == b'\n' {
+        return Some(false);
     }
+    if byte == b'\r' {
+        return Some(false);
+    }
+    if in_comment {
+        return Some(true);
+    }
+    if byte == b' ' {
+        return Some(false);
+    }
+    if byte == b'\t' {
+        return Some(false);
+    }
+    if byte == b'#' {
+        return Some(true);
+    }
+    None
 }
 
 /// The byte offset behind the whites, line breaks and comments that stand there, and not past the end.
-fn skip_separation(text: &str, at: usize, end: usize) -> usize {
+fn past_gap(text: &str, at: usize, end: usize) -> usize
+    ensures { result ≡ ContentStart.past_gap text.now at end }
+{
     let bytes = text.as_bytes();
-    let end = end.min(bytes.len());
-    let mut gap = Gap::Open;
-    for i in at..end {
-        gap = behind_byte(gap, bytes[i]);
-        if matches!(gap, Gap::Closed) {
-            return i;
+    let stop = end.min(bytes.len());
+    let mut in_comment = false;
+    for i in at..stop {
+        match behind_byte(in_comment, bytes[i]) {
+            Some(next) => in_comment = next,
+            None => return i,
         }
     }
-    end
+    at.max(stop)
+}
+
+/// The byte offset behind the property that stands there, if one does, and behind what separates it from what follows.
+fn past_second(text: &str, at: usize, end: usize, props: &Props) -> usize
+    ensures { result ≡ ContentStart.past_second text.now at end (props_value props.now) }
+{
+    let len = property_len(text, at, props);
+    if len == 0 {
+        return at;
+    }
+    past_gap(text, at + len, end)
 }
 
 /// The byte offset at which the content of a node begins, behind its properties: at its first character, its quote, its
 /// bracket or its header. Of properties alone it is their end.
 ///
 /// The span and the properties are those of a node of the text.
-pub fn content_start(text: &str, span: Span, props: &Props) -> usize {
-    let first = property_len(text, span.start, props);
-    if first == 0 {
+pub fn content_start(text: &str, span: Span, props: &Props) -> usize
+    ensures { result ≡ ContentStart.content_start text.now span (props_value props.now) }
+{
+    let len = property_len(text, span.start, props);
+    if len == 0 {
         return span.start;
     }
-    let between = skip_separation(text, span.start.saturating_add(first), span.end);
-    let second = property_len(text, between, props);
-    if second == 0 {
-        return between;
-    }
-    skip_separation(text, between.saturating_add(second), span.end)
+    let between = past_gap(text, span.start + len, span.end);
+    past_second(text, between, span.end, props)
 }

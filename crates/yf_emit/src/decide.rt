@@ -120,7 +120,7 @@ fn is_implicit_key(measure: &Measure, column: usize, style: &Style) -> bool {
 }
 
 /// Whether a space stands before the `:` of this key: behind an alias, and behind properties alone.
-fn has_space(event: &Event, is_leaf: bool) -> bool {
+pub fn has_space(event: &Event, is_leaf: bool) -> bool {
     match event {
         Event::Alias { .. } => true,
         Event::Scalar {

@@ -4,7 +4,7 @@ ghost use Rattle.std.specs.Prelude.{◌<◌, ◌≡◌, length, IfErr};
 use crate::measure::{Measures, measure_all};
 use crate::style::Style;
 use crate::wanted::wanted_of;
-use crate::written::{push_props, push_scalar};
+use crate::written::{push_props_before, push_scalar};
 use std::alloc::{AllocError, Global};
 use yf_events::event::Event;
 use yf_events::reading::Reading;
@@ -77,7 +77,7 @@ fn push_event(
             text: content,
         } => {
             before_node(text, stack, false)?;
-            push_props(text, props)?;
+            push_props_before(text, props)?;
             let content = content.as_str();
             push_scalar(text, wanted_of(*written, content, style.quotes), content)
         }
@@ -89,14 +89,14 @@ fn push_event(
         Event::SeqStart { props, .. } => {
             if !stack.is_empty() {
                 before_node(text, stack, false)?;
-                push_props(text, props)?;
+                push_props_before(text, props)?;
             }
             open_bracket(text, stack, false)
         }
         Event::MapStart { props, .. } => {
             if !stack.is_empty() {
                 before_node(text, stack, false)?;
-                push_props(text, props)?;
+                push_props_before(text, props)?;
             }
             open_bracket(text, stack, true)
         }
@@ -129,14 +129,27 @@ pub fn kept_text_of(
         return Ok(None);
     }
     let mut text = String::new(alloc);
+    push_kept(alloc, &mut text, reading, i, measure.last, style)?;
+    Ok(Some(text))
+}
+
+/// Appends, from bracket to bracket on one line, the flow collection whose events stand from the one index to the other.
+pub fn push_kept(
+    alloc: Global,
+    text: &mut String,
+    reading: &Reading,
+    first: usize,
+    last: usize,
+    style: &Style,
+) -> Result<(), AllocError> {
     let mut stack = Vec::new(alloc);
-    for k in i..reading.len() {
-        push_event(&mut text, &mut stack, reading.event(k), style)?;
-        if k == measure.last {
+    for k in first..reading.len() {
+        push_event(text, &mut stack, reading.event(k), style)?;
+        if k == last {
             break;
         }
     }
-    Ok(Some(text))
+    Ok(())
 }
 
 fn kept_within(

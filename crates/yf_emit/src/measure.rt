@@ -156,27 +156,30 @@ fn alias(i: usize, name: &str) -> Ended {
     }
 }
 
+/// From a collection's bracket to its end; `None` where there is no text to look at.
+fn inside(src: Option<&Src>, span: Option<Span>, props: &Props) -> Option<Span> {
+    let src = src?;
+    let span = span?;
+    Some(Span {
+        start: content_start(src.text(), span, props),
+        end: span.end,
+    })
+}
+
 fn opened(
-    src: &Src,
+    src: Option<&Src>,
     i: usize,
     span: Option<Span>,
     props: &Props,
     flow: bool,
     is_map: bool,
 ) -> Open {
-    let inside = match span {
-        Some(span) => Some(Span {
-            start: content_start(src.text(), span, props),
-            end: span.end,
-        }),
-        None => None,
-    };
     Open {
         start: i,
         flow,
         is_map,
         props_width: props_width(props),
-        inside,
+        inside: inside(src, span, props),
         sum: if flow { Some(0) } else { None },
         nodes: 0,
         first_leaf: None,
@@ -300,7 +303,7 @@ fn note(list: &mut Vec<Measure>, stack: &mut Vec<Open>, i: usize, node: &Ended) 
 fn pass(
     list: &mut Vec<Measure>,
     stack: &mut Vec<Open>,
-    src: &Src,
+    src: Option<&Src>,
     reading: &Reading,
     style: &Style,
     i: usize,
@@ -338,10 +341,9 @@ fn pass(
     Ok(())
 }
 
-/// Measures all nodes of a reading of the text, in one pass.
-pub fn measure_all(
+fn measured(
     alloc: Global,
-    src: &Src,
+    src: Option<&Src>,
     reading: &Reading,
     style: &Style,
 ) -> Result<Measures, AllocError> {
@@ -352,4 +354,24 @@ pub fn measure_all(
         pass(&mut list, &mut stack, src, reading, style, i)?;
     }
     Ok(Measures { list })
+}
+
+/// Measures all nodes of a reading of the text, in one pass.
+pub fn measure_all(
+    alloc: Global,
+    src: &Src,
+    reading: &Reading,
+    style: &Style,
+) -> Result<Measures, AllocError> {
+    measured(alloc, Some(src), reading, style)
+}
+
+/// Measures all nodes of a normal reading, in one pass: no comment stands between the brackets of its flow collections, so
+/// the text is not looked at.
+pub fn measure_normal(
+    alloc: Global,
+    reading: &Reading,
+    style: &Style,
+) -> Result<Measures, AllocError> {
+    measured(alloc, None, reading, style)
 }

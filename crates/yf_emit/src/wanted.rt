@@ -1,41 +1,24 @@
 //! The style in which a scalar is written.
-ghost use Rattle.std.specs.Prelude.{◌≡◌, ◌<◌, length, chars, slice_get, IfSome};
+ghost use Rattle.std.specs.Prelude.{◌≡◌, ◌<◌, length, slice_get, IfSome};
 ghost use Rattle.yf_emit.specs.Wanted as Wanted;
-ghost use Rattle.yf_emit.specs.Wanted.{all_nb, quoted_in, wanted, wanted_of_event};
+ghost use Rattle.yf_emit.specs.Wanted.{quoted_in, wanted, wanted_of_event};
 ghost use Rattle.yf_events.specs.Reading.{events_of};
 
 use crate::style::Style;
-use yf_chars::classes::is_nb_char;
 use yf_events::event::{Event, ScalarStyle};
 use yf_events::reading::Reading;
 use yf_lines::quotes::Quotes;
 use yf_lines::steady::is_steady;
-
-/// Whether every character is an nb-char.
-fn is_all_nb(text: &str) -> bool
-    ensures { result ≡ all_nb (chars text.now) }
-{
-    for c in text.chars() {
-        if !is_nb_char(c) {
-            return false;
-        }
-    }
-    true
-}
+use yf_quoted::write::choose;
 
 /// The quotes that the house style takes for a text: the preferred ones, but single quotes only where each character is
 /// an nb-char (production 27), since they have no escapes.
 fn quotes_of(text: &str, preferred: Quotes) -> ScalarStyle
     ensures { result ≡ quoted_in text.now preferred }
 {
-    match preferred {
+    match choose(text, preferred) {
+        Quotes::Single => ScalarStyle::Single,
         Quotes::Double => ScalarStyle::Double,
-        Quotes::Single => {
-            if is_all_nb(text) {
-                return ScalarStyle::Single;
-            }
-            ScalarStyle::Double
-        }
     }
 }
 

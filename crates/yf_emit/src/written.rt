@@ -1,43 +1,61 @@
 //! The text of a node that is written on one line.
+ghost use Rattle.std.specs.Prelude.{◌≡◌, ◌++◌, chars, encode_utf8_all, not, OnOk, Some};
+ghost use Rattle.std.specs.String.{string_bytes};
+ghost use Rattle.yf_props.specs.Props.{optional_tag_value, props_value, tag_value};
+ghost use Rattle.yf_quoted.specs.Written.{double_bytes, single_bytes, twice};
+ghost use Rattle.yf_emit.specs.OneLine.{props_text, scalar_text, space_before, space_behind, tag_text};
+ghost use Rattle.yf_emit.specs.Rows.{is_empty_text};
 
 use std::alloc::AllocError;
-use yf_chars::error::NoMemory;
-use yf_chars::escapes::push_escaped;
 use yf_events::event::ScalarStyle;
 use yf_props::props::{Props, Tag};
+use yf_quoted::write::write_double;
 
-fn push_double(out: &mut String, text: &str) -> Result<(), AllocError> {
-    out.push('"')?;
-    for c in text.chars() {
-        match push_escaped(out, c) {
-            Ok(()) => {}
-            Err(NoMemory) => return Err(AllocError),
-        }
+fn push_double(out: &mut String, text: &str) -> Result<(), AllocError>
+    ensures { OnOk result (string_bytes out.new ≡ string_bytes out.old ++ double_bytes (chars text.now)) }
+{
+    match write_double(out, text) {
+        Ok(()) => Ok(()),
+        Err(_) => Err(AllocError),
     }
-    out.push('"')
 }
 
-fn push_single(out: &mut String, text: &str) -> Result<(), AllocError> {
+/// Appends a character, or two quotes for one.
+fn push_twice(out: &mut String, c: char) -> Result<(), AllocError>
+    ensures { OnOk result (string_bytes out.new ≡ string_bytes out.old ++ encode_utf8_all (twice c)) }
+{
+    if c == '\'' {
+        return out.push_str("''");
+    }
+    out.push(c)
+}
+
+fn push_single(out: &mut String, text: &str) -> Result<(), AllocError>
+    ensures { OnOk result (string_bytes out.new ≡ string_bytes out.old ++ single_bytes (chars text.now)) }
+{
     out.push('\'')?;
     for c in text.chars() {
-        if c == '\'' {
-            out.push('\'')?;
-        }
-        out.push(c)?;
+        push_twice(out, c)?;
     }
-    out.push('\'')
+    out.push('\'')?;
+    Ok(())
 }
 
-/// Appends the text of a scalar in a style on one line; of a block style the text itself.
-pub fn push_scalar(out: &mut String, style: ScalarStyle, text: &str) -> Result<(), AllocError> {
+/// Appends the text of a scalar in a style on one line; nothing of a block style.
+pub fn push_scalar(out: &mut String, style: ScalarStyle, text: &str) -> Result<(), AllocError>
+    ensures { OnOk result (string_bytes out.new ≡ string_bytes out.old ++ scalar_text style text.now) }
+{
     match style {
-        ScalarStyle::Plain | ScalarStyle::Literal | ScalarStyle::Folded => out.push_str(text),
+        ScalarStyle::Plain => out.push_str(text),
         ScalarStyle::Single => push_single(out, text),
         ScalarStyle::Double => push_double(out, text),
+        ScalarStyle::Literal | ScalarStyle::Folded => Ok(()),
     }
 }
 
-fn push_tag(out: &mut String, tag: Tag) -> Result<(), AllocError> {
+fn push_tag(out: &mut String, tag: Tag) -> Result<(), AllocError>
+    ensures { OnOk result (string_bytes out.new ≡ string_bytes out.old ++ tag_text (Some (tag_value tag.entry))) }
+{
     match tag {
         Tag::Verbatim(name) => {
             out.push_str("!<")?;
@@ -51,17 +69,80 @@ fn push_tag(out: &mut String, tag: Tag) -> Result<(), AllocError> {
         Tag::NonSpecific => out.push('!'),
     }
 }
+/// Whether one of two texts has a character.
+fn is_one_filled(one: &str, other: &str) -> bool
+    ensures { result ≡ not (is_empty_text (one.now ++ other.now)) }
+{
+    if one.is_empty() {
+        return !other.is_empty();
+    }
+    true
+}
 
-/// Appends properties, the anchor before the tag, each with a space behind it.
-pub fn push_props(out: &mut String, props: &Props) -> Result<(), AllocError> {
-    if let Some(name) = props.anchor {
-        out.push('&')?;
-        out.push_str(name)?;
-        out.push(' ')?;
+/// Whether a tag is written.
+fn has_tag(tag: &Option<Tag>) -> bool
+    ensures { result ≡ not (is_empty_text (tag_text (optional_tag_value tag.now))) }
+{
+    match tag {
+        Some(Tag::Short { handle, suffix }) => is_one_filled(handle, suffix),
+        Some(Tag::Verbatim(_)) => true,
+        Some(Tag::NonSpecific) => true,
+        None => false,
     }
-    if let Some(tag) = props.tag {
-        push_tag(out, tag)?;
-        out.push(' ')?;
+}
+
+/// Whether a node has properties.
+pub fn has_props(props: &Props) -> bool
+    ensures { result ≡ not (is_empty_text (props_text (props_value props.now))) }
+{
+    match props.anchor {
+        Some(_) => true,
+        None => has_tag(&props.tag),
     }
-    Ok(())
+}
+
+/// Appends a tag, where there is one.
+fn push_optional_tag(out: &mut String, tag: &Option<Tag>) -> Result<(), AllocError>
+    ensures { OnOk result (string_bytes out.new ≡ string_bytes out.old ++ tag_text (optional_tag_value tag.now)) }
+{
+    match tag {
+        Some(tag) => push_tag(out, *tag),
+        None => Ok(()),
+    }
+}
+
+/// Appends a tag behind an anchor, where there is one, with a space between them.
+fn push_tag_behind(out: &mut String, tag: &Option<Tag>) -> Result<(), AllocError>
+    ensures { OnOk result (string_bytes out.new ≡ string_bytes out.old ++ space_before (tag_text (optional_tag_value tag.now))) }
+{
+    if !has_tag(tag) {
+        return Ok(());
+    }
+    out.push(' ')?;
+    push_optional_tag(out, tag)
+}
+
+/// Appends properties, the anchor before the tag, with a space between them.
+pub fn push_props(out: &mut String, props: &Props) -> Result<(), AllocError>
+    ensures { OnOk result (string_bytes out.new ≡ string_bytes out.old ++ props_text (props_value props.now)) }
+{
+    match props.anchor {
+        Some(name) => {
+            out.push('&')?;
+            out.push_str(name)?;
+            push_tag_behind(out, &props.tag)
+        }
+        None => push_optional_tag(out, &props.tag),
+    }
+}
+
+/// Appends properties with a space behind them; nothing where there are none.
+pub fn push_props_before(out: &mut String, props: &Props) -> Result<(), AllocError>
+    ensures { OnOk result (string_bytes out.new ≡ string_bytes out.old ++ space_behind (props_text (props_value props.now))) }
+{
+    if !has_props(props) {
+        return Ok(());
+    }
+    push_props(out, props)?;
+    out.push(' ')
 }

@@ -66,6 +66,15 @@ impl<'a> Reading<'a> {
         Ok(None)
     }
 
+    /// The lists that the reading was made of.
+    pub fn lists(&self) -> &Lists<'a>
+        ensures same { result.now ≡ self.now }
+        ensures fit { Fits self.now }
+        ensures nested { IsStream DEPTH (events_of self.now) }
+    {
+        &self.lists
+    }
+
     /// How many events there are, `StreamStart` and `StreamEnd` counted.
     pub fn len(&self) -> usize
         ensures { result ≡ length self.now.events }

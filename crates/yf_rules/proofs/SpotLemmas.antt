@@ -1,5 +1,5 @@
 -- Laws of the spots of a pass over a text.
-use Rattle.std.proofs.Common.{◌≡◌, ℕ, ◌+◌, ◌<◌, ◌≤◌, List, [], ◌∷◌, ◌++◌, length, sym, subst, ap, ◌∙◌, arith, length-append, Some, take, get_or}
+use Rattle.std.proofs.Common.{◌≡◌, ℕ, ◌+◌, ◌<◌, ◌≤◌, List, [], ◌++◌, length, sym, subst, arith, length-append, Some}
 use Rattle.std.specs.Prelude.{IfSome, slice_get}
 use Rattle.std.specs.Str.{IsCharBoundary}
 use Rattle.std.proofs.lemmas.Option.{slice_get_past}
@@ -7,15 +7,12 @@ use Rattle.yf_chars.specs.Chain.{Many}
 use Rattle.yf_chars.specs.Chain.Chain.{done}
 use Rattle.yf_chars.proofs.ChainLemmas.{chain_append}
 use Rattle.yf_lines.specs.declared.line.Line.{Line}
-use Rattle.yf_lines.specs.Lines.{Table, AreLines, Marks, PlaceOf, ColumnOf, is_char}
+use Rattle.yf_lines.specs.Lines.{AreLines, Marks, PlaceOf, ColumnOf, is_char}
 use Rattle.yf_lines.specs.Lines.ColumnOf.{behind_marks}
 use Rattle.yf_lines.specs.Lines.Holds.{inside}
 use Rattle.yf_lines.specs.Lines.PlaceOf.{in_line}
 use Rattle.yf_rules.specs.declared.spot.Spot.{Spot}
-use Rattle.yf_lines.specs.declared.place.Place.{Place}
-use Rattle.std.proofs.lemmas.List.{take_more}
-use Rattle.yf_rules.specs.Places.{Reached, IsSpot, PlacesOf}
-use Rattle.yf_rules.specs.Places.PlacesOf.{placed_next, no_place}
+use Rattle.yf_rules.specs.Places.{Reached, IsSpot}
 
 -- what a spot says in its line
 pub reached_in : (t : List ℕ) (ls : List Line) (s : Spot) (l : Line) → IsSpot t ls s → slice_get ls s.line ≡ Some l → Reached t l.start s.at s.column
@@ -51,13 +48,3 @@ pub place_reached : (t : List ℕ) (ls : List Line) (l : Line) (k number offset 
 place_reached t ls l k number offset d a e n o w r =
     let column : ColumnOf t l.start offset d = subst (ColumnOf t l.start offset) (sym r.count) (behind_marks r.marks r.run) in
     subst (λ m. PlaceOf t offset m d) (sym n) (in_line k a e (inside o w) column)
-
--- one more offset, with its place or without one
-pub places_more : (t : List ℕ) (os : List ℕ) (i : ℕ) (ps qs : List Place) (p : Place) → i < length os → PlacesOf t (take i os) ps
-    → IsCharBoundary t (get_or os i 0) → PlaceOf t (get_or os i 0) p.line p.column → qs ≡ ps ++ p ∷ [] → PlacesOf t (take (i + 1) os) qs
-places_more t os i ps qs p h s b q e =
-    subst (λ xs. PlacesOf t xs qs) (sym (take_more os i 0 h)) (subst (λ xs. PlacesOf t (take i os ++ get_or os i 0 ∷ []) xs) (sym e) (placed_next s b q))
-
-pub places_passed : (t : List ℕ) (os : List ℕ) (i : ℕ) (ps : List Place) → i < length os → PlacesOf t (take i os) ps
-    → (IsCharBoundary t (get_or os i 0) → ⊥) → PlacesOf t (take (i + 1) os) ps
-places_passed t os i ps h s n = subst (λ xs. PlacesOf t xs ps) (sym (take_more os i 0 h)) (no_place s n)

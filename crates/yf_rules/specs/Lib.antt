@@ -1,3 +1,14 @@
 pub mod Places
+pub mod Exact
+pub mod Whites
+pub mod Scalars
+pub mod Noted
+pub mod Styles
+pub mod Cover
+pub mod ByLine
+pub mod Documents
+pub mod BlankLines
+pub mod Nodes
+pub mod Layouts
 pub mod Sets
 pub mod Check

@@ -1,5 +1,9 @@
 -- The places of byte offsets, and how far a pass has come that finds them.
-use Rattle.std.specs.Prelude.{◌≡◌, ℕ, ◌+◌, ◌≤◌, List, [], ◌∷◌, ◌++◌, length, slice_get, IfSome}
+use Rattle.std.specs.Prelude.{◌≡◌, ℕ, ◌+◌, ◌≤◌, List, length, slice_get, IfSome}
+use Rattle.std.specs.List.{Contains}
+use Rattle.std.specs.List.Sorted.{IsStrictlySortedBy}
+use Rattle.std.specs.Ordering.{nat_cmp, ordering_then}
+use Rattle.std.specs.declared.cmp.Ordering.{Ordering}
 use Rattle.std.specs.Str.{IsCharBoundary}
 use Rattle.yf_chars.specs.Chain.{Many}
 use Rattle.yf_lines.specs.declared.line.Line.{Line}
@@ -7,17 +11,30 @@ use Rattle.yf_lines.specs.declared.place.Place.{Place}
 use Rattle.yf_lines.specs.Lines.{Marks, PlaceOf, is_char}
 use Rattle.yf_rules.specs.declared.spot.Spot.{Spot}
 
--- the places of those offsets at which a character begins or the text ends, in the same order; an offset inside of a
--- character has no place
-pub data PlacesOf (t : List ℕ) : List ℕ → List Place → Type 0 where
-  no_offsets : PlacesOf t [] []
-  placed_next : {os : List ℕ} {ps : List Place} {o : ℕ} {p : Place} → PlacesOf t os ps → IsCharBoundary t o → PlaceOf t o p.line p.column
-      → PlacesOf t (os ++ o ∷ []) (ps ++ p ∷ [])
-  no_place : {os : List ℕ} {ps : List Place} {o : ℕ} → PlacesOf t os ps → (IsCharBoundary t o → ⊥) → PlacesOf t (os ++ o ∷ []) ps
+-- the place of one of these offsets, at which a character begins or the text ends; an offset inside of a character has
+-- no place
+pub record IsPlaceIn (t : List ℕ) (offsets : List ℕ) (p : Place) : Type 0 where
+  pub offset : ℕ
+  pub among : Contains offsets offset
+  pub boundary : IsCharBoundary t offset
+  pub place : PlaceOf t offset p.line p.column
+
+-- the places of these offsets: each is one, and none is left out
+pub record PlacesOf (t : List ℕ) (offsets : List ℕ) (ps : List Place) : Type 0 where
+  pub only : (p : Place) → Contains ps p → IsPlaceIn t offsets p
+  pub all : (p : Place) → IsPlaceIn t offsets p → Contains ps p
 
 -- what a rule is said to find: the places of offsets of which this holds
 pub data FoundAt (t : List ℕ) (F : List ℕ → Type 0) (ps : List Place) : Type 0 where
   found_at : {os : List ℕ} → F os → PlacesOf t os ps → FoundAt t F ps
+
+-- the order of places: by line, and in a line by column
+abbrev pub place_cmp : Place → Place → Ordering
+place_cmp p q = ordering_then (nat_cmp p.line q.line) (nat_cmp p.column q.column)
+
+-- each place stands before all that follow it, so none comes twice
+abbrev pub Ascending : List Place → Type 0
+Ascending ps = IsStrictlySortedBy place_cmp ps
 
 -- in the line that begins at the offset `start`, the offset has this column, and stands behind the line's marks
 pub record Reached (t : List ℕ) (start at column : ℕ) : Type 0 where

@@ -1,5 +1,5 @@
--- The places at fault of each rule, as byte offsets in ascending order: what is at fault in a text with these lines and
--- this reading under this style.
+-- The places at fault of each rule, as byte offsets in any order: what is at fault in a text with these lines and this reading
+-- under this style.
 use Rattle.std.specs.Prelude.{◌≡◌, ◌≢◌, ◌==◌, if◌then◌else◌, ℕ, List, [], ◌∷◌, length}
 use Rattle.yf_chars.specs.Text.{code}
 use Rattle.yf_lines.specs.Basic.{Break}
@@ -7,6 +7,12 @@ use Rattle.yf_lines.specs.declared.line.Line.{Line}
 use Rattle.yf_lines.specs.Lines.{Table}
 use Rattle.yf_events.specs.declared.lists.Lists.{Lists}
 use Rattle.yf_emit.specs.declared.style.Style.{Style}
+use Rattle.yf_rules.specs.ByLine.{BeyondLimit, TrailingBlank}
+use Rattle.yf_rules.specs.Documents.{NoMarkerLine}
+use Rattle.yf_rules.specs.Exact.{Exactly}
+use Rattle.yf_rules.specs.Scalars.{LooseMark}
+use Rattle.yf_rules.specs.Styles.{Misquoted}
+use Rattle.yf_rules.specs.Whites.{CloseComment}
 
 -- final-break: the end of a text that is not empty and does not end with a line break
 pub data WithoutFinalBreak (t : List ℕ) : List ℕ → Type 0 where
@@ -25,24 +31,26 @@ first_return t (l ∷ ls) = if code t l.end == 13 then l.end ∷ [] else first_r
 abbrev pub line_breaks_at : Table → Lists → Style → List ℕ → Type 0
 line_breaks_at src reading style offsets = offsets ≡ first_return src.text src.lines
 
--- of the other rules no set is told here: that their places lie in the text is all that their contracts say
+-- of some rules no set is told here: that their places lie in the text is all that their contracts say. The sets of blank-lines
+-- (`MisplacedBlank`), indentation (`Misindented`), flow-layout (`Displaced`), repeated-keys (`RepeatedKey`) and key-mark
+-- (`NeedlessMark`) are defined, and the rules held to them by tests alone
 abbrev pub AnyOffsets : List ℕ → Type 0
 AnyOffsets offsets = Unit {0}
 
 abbrev pub trailing_blanks_at : Table → Lists → Style → List ℕ → Type 0
-trailing_blanks_at src reading style offsets = AnyOffsets offsets
+trailing_blanks_at src reading style offsets = Exactly (TrailingBlank src reading) offsets
 
 abbrev pub indentation_at : Table → Lists → Style → List ℕ → Type 0
 indentation_at src reading style offsets = AnyOffsets offsets
 
 abbrev pub quoting_at : Table → Lists → Style → List ℕ → Type 0
-quoting_at src reading style offsets = AnyOffsets offsets
+quoting_at src reading style offsets = Exactly (Misquoted src.text reading style) offsets
 
 abbrev pub document_start_at : Table → Lists → Style → List ℕ → Type 0
-document_start_at src reading style offsets = AnyOffsets offsets
+document_start_at src reading style offsets = Exactly (NoMarkerLine src.text reading) offsets
 
 abbrev pub byte_order_mark_at : Table → Lists → Style → List ℕ → Type 0
-byte_order_mark_at src reading style offsets = AnyOffsets offsets
+byte_order_mark_at src reading style offsets = Exactly (LooseMark src.text reading) offsets
 
 abbrev pub blank_lines_at : Table → Lists → Style → List ℕ → Type 0
 blank_lines_at src reading style offsets = AnyOffsets offsets
@@ -51,10 +59,10 @@ abbrev pub flow_layout_at : Table → Lists → Style → List ℕ → Type 0
 flow_layout_at src reading style offsets = AnyOffsets offsets
 
 abbrev pub comment_space_at : Table → Lists → Style → List ℕ → Type 0
-comment_space_at src reading style offsets = AnyOffsets offsets
+comment_space_at src reading style offsets = Exactly (CloseComment src.text reading) offsets
 
 abbrev pub line_length_at : Table → Lists → Style → List ℕ → Type 0
-line_length_at src reading style offsets = AnyOffsets offsets
+line_length_at src reading style offsets = Exactly (BeyondLimit src style.max_line) offsets
 
 abbrev pub repeated_keys_at : Table → Lists → Style → List ℕ → Type 0
 repeated_keys_at src reading style offsets = AnyOffsets offsets

@@ -1,16 +1,22 @@
 //! Rule 7, byte-order-mark.
+ghost use Rattle.std.specs.Prelude.{◌<◌, length, IfOk};
+ghost use Rattle.std.specs.List.Sorted.{IsNonDecreasingBy};
+ghost use Rattle.yf_rules.specs.Cover.{AllBegin, Covers, IsBeyond, NoneBegins};
+ghost use Rattle.yf_rules.specs.Exact.{Answers, Exactly};
+ghost use Rattle.yf_rules.specs.Scalars.{ScalarSpan};
+ghost use Rattle.yf_rules.specs.Sets.{byte_order_mark_at};
 
 use crate::rule::{Rule, placed};
 use std::alloc::{AllocError, Global};
 use yf_emit::style::Style;
 use yf_events::event::{Event, Span};
 use yf_events::reading::Reading;
-use yf_lines::basic::{mark_ends, mark_stands};
+use yf_lines::basic::mark_stands;
 use yf_lines::fault::Fault;
 use yf_lines::place::Place;
 use yf_lines::source_text::Src;
 
-/// Each byte order mark outside of scalars. Of marks that stand together, which have one place, it is the first.
+/// Each byte order mark outside of scalars. Marks that stand together at the start of a line have one place.
 #[derive(Clone, Copy, Debug)]
 pub struct ByteOrderMark;
 
@@ -52,53 +58,98 @@ impl Rule for ByteOrderMark {
     }
 }
 
-/// The parts of the text that scalars have, in order.
-fn scalar_spans(alloc: Global, reading: &Reading) -> Result<Vec<Span>, AllocError> {
+/// The part of the text that a scalar has, if the event of that index is one with characters.
+fn scalar_span(reading: &Reading, i: usize) -> Option<Span>
+    requires { i < length reading.now.events }
+    ensures { Answers (ScalarSpan reading.now i) result }
+{
+    match reading.event(i) {
+        Event::Scalar { .. } => reading.span(i),
+        _ => None,
+    }
+}
+
+/// The parts of the text that scalars have.
+fn scalar_spans(alloc: Global, reading: &Reading) -> Result<Vec<Span>, AllocError>
+    ensures { IfOk result (λ spans. Exactly (ScalarSpan reading.now) spans.items) }
+{
     let mut spans = Vec::new(alloc);
     for i in 0..reading.len() {
-        if matches!(reading.event(i), Event::Scalar { .. }) {
-            if let Some(span) = reading.span(i) {
-                spans.push(span)?;
-            }
+        match scalar_span(reading, i) {
+            Some(span) => spans.push(span)?,
+            None => {}
         }
     }
     Ok(spans)
 }
 
-/// The index of the first span, from that one on, that ends behind the byte offset.
-fn span_from(spans: &[Span], k: usize, offset: usize) -> usize {
-    for i in k..spans.len() {
-        if spans[i].end > offset {
-            return i;
-        }
-    }
-    spans.len()
+/// The same parts, by where they begin.
+fn sorted_spans(alloc: Global, reading: &Reading) -> Result<Vec<Span>, AllocError>
+    ensures { IfOk result (λ spans. Exactly (ScalarSpan reading.now) spans.items × IsNonDecreasingBy (λ s. s.start) spans.items) }
+{
+    let mut spans = scalar_spans(alloc, reading)?;
+    spans.sort_unstable_by_key(|span| span.start);
+    Ok(spans)
 }
 
-/// Whether the byte offset lies in the span of that index, which does not end before it.
-fn is_within(spans: &[Span], k: usize, offset: usize) -> bool {
-    if k < spans.len() {
-        return spans[k].start <= offset;
+/// How many of the parts begin at an offset or before it, and the farthest end of these, or 0.
+#[derive(Clone, Copy)]
+struct Cover {
+    count: usize,
+    reach: usize,
+}
+
+/// The cover up to the byte offset, from that up to an earlier one on.
+fn cover_to(spans: &[Span], from: Cover, offset: usize) -> Cover
+    requires sorted { IsNonDecreasingBy (λ s. s.start) spans.now }
+    requires cover { Covers spans.now from.count from.reach }
+    requires begun { AllBegin spans.now from.count offset }
+    ensures cover { Covers spans.now result.count result.reach }
+    ensures begun { AllBegin spans.now result.count offset }
+    ensures others { NoneBegins spans.now result.count offset }
+{
+    let mut count = from.count;
+    let mut reach = from.reach;
+    while count < spans.len() {
+        let span = spans[count];
+        if span.start > offset {
+            return Cover { count, reach };
+        }
+        reach = reach.max(span.end);
+        count += 1;
     }
-    false
+    Cover { count, reach }
+}
+
+/// The byte offset, if a mark begins there that the parts up to it don't reach.
+fn loose_mark(text: &str, reach: usize, offset: usize) -> Option<usize>
+    ensures { Answers (IsBeyond text.now reach offset) result }
+{
+    if mark_stands(text, offset) {
+        if reach <= offset {
+            return Some(offset);
+        }
+    }
+    None
 }
 
 fn offsets(
     alloc: Global,
     src: &Src,
     reading: &Reading,
-    _style: &Style,
-) -> Result<Vec<usize>, AllocError> {
+    style: &Style,
+) -> Result<Vec<usize>, AllocError>
+    ensures { IfOk result (λ offsets. byte_order_mark_at src.now reading.now style.now offsets.items) }
+{
     let text = src.text();
-    let spans = scalar_spans(alloc, reading)?;
+    let spans = sorted_spans(alloc, reading)?;
     let mut offsets = Vec::new(alloc);
-    let mut k = 0;
+    let mut cover = Cover { count: 0, reach: 0 };
     for i in 0..text.len() {
-        if mark_stands(text, i) && !mark_ends(text, i) {
-            k = span_from(spans.as_slice(), k, i);
-            if !is_within(spans.as_slice(), k, i) {
-                offsets.push(i)?;
-            }
+        cover = cover_to(spans.as_slice(), cover, i);
+        match loose_mark(text, cover.reach, i) {
+            Some(offset) => offsets.push(offset)?,
+            None => {}
         }
     }
     Ok(offsets)

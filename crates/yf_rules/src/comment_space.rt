@@ -1,4 +1,8 @@
 //! Rule 10, comment-space.
+ghost use Rattle.std.specs.Prelude.{◌<◌, length, IfOk, MatchBool};
+ghost use Rattle.yf_rules.specs.Exact.{Answers};
+ghost use Rattle.yf_rules.specs.Sets.{comment_space_at};
+ghost use Rattle.yf_rules.specs.Whites.{CloseComment, IsClose, TwoSpaces};
 
 use crate::rule::{Rule, placed};
 use crate::whites::whites_before;
@@ -53,30 +57,61 @@ impl Rule for CommentSpace {
     }
 }
 
-/// Whether two spaces and no more whites stand between the two byte offsets.
-fn are_two_spaces(text: &str, from: usize, to: usize) -> bool {
-    to == from.saturating_add(2) && stands(text, from, b' ') && stands(text, from + 1, b' ')
+/// Whether two spaces, and nothing else, stand between the two byte offsets.
+fn are_two_spaces(text: &str, from: usize, to: usize) -> bool
+    ensures { MatchBool result (TwoSpaces text.now from to) (TwoSpaces text.now from to → ⊥) }
+{
+    if to < 2 {
+        return false;
+    }
+    if to - 2 != from {
+        return false;
+    }
+    if stands(text, from, b' ') {
+        return stands(text, from + 1, b' ');
+    }
+    false
 }
 
 /// Whether a comment stands behind other text on its line, and not two spaces behind it.
-fn is_close(text: &str, offset: usize) -> bool {
+fn is_close(text: &str, offset: usize) -> bool
+    ensures { MatchBool result (IsClose text.now offset) (IsClose text.now offset → ⊥) }
+{
     let from = whites_before(text, 0, offset);
     if is_line_start(text, from) {
         return false;
     }
-    !are_two_spaces(text, from, offset)
+    if are_two_spaces(text, from, offset) {
+        return false;
+    }
+    true
+}
+
+/// The `#` of the comment of that index, if it is at fault.
+fn close(src: &Src, reading: &Reading, k: usize) -> Option<usize>
+    requires { k < length reading.now.comments }
+    ensures { Answers (CloseComment src.now.text reading.now k) result }
+{
+    let offset = reading.comments()[k].offset;
+    if is_close(src.text(), offset) {
+        return Some(offset);
+    }
+    None
 }
 
 fn offsets(
     alloc: Global,
     src: &Src,
     reading: &Reading,
-    _style: &Style,
-) -> Result<Vec<usize>, AllocError> {
+    style: &Style,
+) -> Result<Vec<usize>, AllocError>
+    ensures { IfOk result (λ offsets. comment_space_at src.now reading.now style.now offsets.items) }
+{
     let mut offsets = Vec::new(alloc);
-    for comment in reading.comments() {
-        if is_close(src.text(), comment.offset) {
-            offsets.push(comment.offset)?;
+    for k in 0..reading.comments().len() {
+        match close(src, reading, k) {
+            Some(offset) => offsets.push(offset)?,
+            None => {}
         }
     }
     Ok(offsets)

@@ -1,10 +1,16 @@
 //! Rule 4, document-start.
+ghost use Rattle.std.specs.Prelude.{◌≡◌, ◌<◌, ◌∷◌, ◌++◌, List, length, slice_get, IfOk, IfSome};
+ghost use Rattle.std.specs.Option.{option_to_list};
+ghost use Rattle.yf_events.specs.Event.{EventValue};
+ghost use Rattle.yf_events.specs.Reading.{events_of};
+ghost use Rattle.yf_rules.specs.Documents.{IsUnmarked, markers_in};
+ghost use Rattle.yf_rules.specs.Exact.{Answers};
+ghost use Rattle.yf_rules.specs.Sets.{document_start_at};
 
 use crate::notes::is_alone;
 use crate::rule::{Rule, placed};
 use std::alloc::{AllocError, Global};
 use yf_emit::style::Style;
-use yf_events::document::Doc;
 use yf_events::event::Event;
 use yf_events::reading::Reading;
 use yf_lines::fault::Fault;
@@ -53,31 +59,58 @@ impl Rule for DocumentStart {
     }
 }
 
-/// The start of a document, if it is at fault.
-fn unmarked(src: &Src, explicit: bool, document: &Doc) -> Option<usize> {
-    if explicit && is_alone(src.text(), document.start) {
-        return None;
+/// Of each document, whether its `---` is written.
+fn markers(alloc: Global, reading: &Reading) -> Result<Vec<bool>, AllocError>
+    ensures { IfOk result (λ markers. markers.items ≡ markers_in (events_of reading.now)) }
+{
+    let mut markers = Vec::new(alloc);
+    for i in 0..reading.len() {
+        match marker_at(reading, i) {
+            Some(marked) => markers.push(marked)?,
+            None => {}
+        }
     }
-    Some(document.start)
+    Ok(markers)
+}
+
+/// Whether the `---` is written of the document that the event of that index begins.
+fn marker_at(reading: &Reading, i: usize) -> Option<bool>
+    requires { i < length reading.now.events }
+    ensures { (es : List EventValue) → IfSome (slice_get (events_of reading.now) i) (λ e. markers_in (e ∷ es) ≡ option_to_list result ++ markers_in es) }
+{
+    match reading.event(i) {
+        Event::DocStart { explicit } => Some(*explicit),
+        _ => None,
+    }
+}
+
+/// The start of a document, if it is at fault.
+fn unmarked(text: &str, marked: bool, start: usize) -> Option<usize>
+    ensures { Answers (IsUnmarked text.now marked start) result }
+{
+    if marked {
+        if is_alone(text, start) {
+            return None;
+        }
+    }
+    Some(start)
 }
 
 fn offsets(
     alloc: Global,
     src: &Src,
     reading: &Reading,
-    _style: &Style,
-) -> Result<Vec<usize>, AllocError> {
+    style: &Style,
+) -> Result<Vec<usize>, AllocError>
+    ensures { IfOk result (λ offsets. document_start_at src.now reading.now style.now offsets.items) }
+{
     let documents = reading.documents();
-    let mut k = 0;
+    let markers = markers(alloc, reading)?;
     let mut offsets = Vec::new(alloc);
-    for i in 0..reading.len() {
-        if let Event::DocStart { explicit } = reading.event(i) {
-            if k < documents.len() {
-                if let Some(offset) = unmarked(src, *explicit, &documents[k]) {
-                    offsets.push(offset)?;
-                }
-                k += 1;
-            }
+    for k in 0..documents.len().min(markers.len()) {
+        match unmarked(src.text(), markers[k], documents[k].start) {
+            Some(offset) => offsets.push(offset)?,
+            None => {}
         }
     }
     Ok(offsets)

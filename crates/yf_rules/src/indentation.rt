@@ -119,7 +119,7 @@ fn offsets(
     style: &Style,
 ) -> Result<Vec<usize>, AllocError> {
     let stands = find_stands(alloc, src, reading)?;
-    let bodies = find_bodies(alloc, src, reading, &stands)?;
+    let bodies = find_bodies(alloc, src, reading)?;
     let mut offsets = Vec::new(alloc);
     for i in 0..reading.len() {
         if let Some(offset) = misplaced(reading, &stands, &bodies, i, style) {

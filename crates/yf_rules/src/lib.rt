@@ -1,11 +1,13 @@
 //! The rules of style, and the check of a text by several of them.
 #![tactic(auto)]
 
+pub mod begun;
 pub mod blank_lines;
 pub mod bodies;
 pub mod byte_order_mark;
 pub mod check;
 pub mod comment_space;
+pub mod content_lines;
 pub mod document_start;
 pub mod final_break;
 pub mod finding;

@@ -1,5 +1,9 @@
 //! Rule 11, line-length.
+ghost use Rattle.std.specs.Prelude.{◌<◌, ◌≤◌, length, IfOk};
 ghost use Rattle.std.specs.Str.{IsCharBoundary};
+ghost use Rattle.yf_rules.specs.ByLine.{BeyondLimit, IsBehind};
+ghost use Rattle.yf_rules.specs.Exact.{Answers};
+ghost use Rattle.yf_rules.specs.Sets.{line_length_at};
 
 use crate::places::skip_marks;
 use crate::rule::{Rule, placed};
@@ -55,10 +59,13 @@ impl Rule for LineLength {
 
 /// The byte offset behind so many characters of a line, where at least one more stands before the line's end.
 fn behind_chars(text: &str, start: usize, end: usize, count: usize) -> Option<usize>
-    requires { IsCharBoundary text.now start }
+    requires start { IsCharBoundary text.now start }
+    requires end { end ≤ length text.now }
+    ensures { Answers (IsBehind text.now start end count) result }
 {
     let mut at = start;
-    for _ in 0..count {
+    let mut passed = 0;
+    while passed < count {
         if at >= end {
             return None;
         }
@@ -66,6 +73,7 @@ fn behind_chars(text: &str, start: usize, end: usize, count: usize) -> Option<us
             Some((_, next)) => at = next,
             None => return None,
         }
+        passed += 1;
     }
     if at < end {
         return Some(at);
@@ -73,20 +81,29 @@ fn behind_chars(text: &str, start: usize, end: usize, count: usize) -> Option<us
     None
 }
 
+/// The first character of the line of that index behind the longest line that is allowed, if it is longer.
+fn beyond(src: &Src, k: usize, max_line: usize) -> Option<usize>
+    requires { k < length src.now.lines }
+    ensures { Answers (BeyondLimit src.now max_line k) result }
+{
+    let line = src.lines().line(k);
+    let start = skip_marks(src.text(), line.start);
+    behind_chars(src.text(), start, line.end, max_line)
+}
+
 fn offsets(
     alloc: Global,
     src: &Src,
-    _reading: &Reading,
+    reading: &Reading,
     style: &Style,
-) -> Result<Vec<usize>, AllocError> {
-    let text = src.text();
-    let lines = src.lines();
+) -> Result<Vec<usize>, AllocError>
+    ensures { IfOk result (λ offsets. line_length_at src.now reading.now style.now offsets.items) }
+{
     let mut offsets = Vec::new(alloc);
-    for i in 0..lines.len() {
-        let line = lines.line(i);
-        let start = skip_marks(text, line.start);
-        if let Some(offset) = behind_chars(text, start, line.end, style.max_line) {
-            offsets.push(offset)?;
+    for k in 0..src.lines().len() {
+        match beyond(src, k, style.max_line) {
+            Some(offset) => offsets.push(offset)?,
+            None => {}
         }
     }
     Ok(offsets)

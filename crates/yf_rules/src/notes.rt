@@ -1,11 +1,12 @@
 //! What is known of each line.
-ghost use Rattle.std.specs.Prelude.{◌<◌, length};
+ghost use Rattle.std.specs.Prelude.{◌<◌, length, MatchBool};
+ghost use Rattle.yf_rules.specs.Whites.{IsAlone};
 
 use crate::bodies::{Bodies, Body, find_bodies};
 use crate::places::line_from;
-use crate::stands::find_stands;
 use crate::whites::is_white_line;
 use std::alloc::{AllocError, Global};
+use yf_chars::text::stands;
 use yf_events::document::Doc;
 use yf_events::event::Event;
 use yf_events::reading::Reading;
@@ -17,8 +18,6 @@ use yf_lines::source_text::Src;
 pub struct Note {
     /// Whether it is part of a scalar that begins before it.
     pub is_inside: bool,
-    /// Whether it is a content line of a block scalar.
-    pub is_content: bool,
     /// Whether it is a line of whites alone that is part of no scalar.
     pub is_blank: bool,
     /// Whether it holds a document's `---` with nothing but whites behind it.
@@ -30,7 +29,6 @@ pub struct Note {
 impl Note {
     const NONE: Note = Note {
         is_inside: false,
-        is_content: false,
         is_blank: false,
         is_marker: false,
         is_directive: false,
@@ -69,19 +67,16 @@ fn noted(list: &Vec<Note>, i: usize) -> Note {
 /// Notes the lines of a scalar.
 fn note_body(list: &mut Vec<Note>, src: &Src, body: Body) {
     let lines = src.lines();
-    for i in body.first..body.behind.min(lines.len()) {
-        let line = lines.line(i);
-        let is_content = match body.indent {
-            Some(indent) => line.end - line.start > indent,
-            None => false,
-        };
+    for i in body.first..lines.len() {
+        if lines.line(i).start >= body.end {
+            return;
+        }
         let old = noted(list, i);
         put(
             list,
             i,
             Note {
                 is_inside: true,
-                is_content,
                 is_blank: old.is_blank,
                 is_marker: old.is_marker,
                 is_directive: old.is_directive,
@@ -101,7 +96,6 @@ fn note_directives(list: &mut Vec<Note>, src: &Src, document: &Doc, line: usize)
             line,
             Note {
                 is_inside: old.is_inside,
-                is_content: old.is_content,
                 is_blank: old.is_blank,
                 is_marker: old.is_marker,
                 is_directive: true,
@@ -112,14 +106,24 @@ fn note_directives(list: &mut Vec<Note>, src: &Src, document: &Doc, line: usize)
 }
 
 /// Whether nothing but whites stands behind the `---` that begins there.
-pub fn is_alone(text: &str, marker: usize) -> bool {
-    let behind = marker.saturating_add(3);
-    if text.is_char_boundary(behind) {
-        let end = skip_whites(text, behind);
-        let bytes = text.as_bytes();
-        if end < bytes.len() {
-            return matches!(bytes[end], b'\n' | b'\r');
-        }
+pub fn is_alone(text: &str, marker: usize) -> bool
+    ensures { MatchBool result (IsAlone text.now marker) (IsAlone text.now marker → ⊥) }
+{
+    if marker >= text.len() {
+        return false;
+    }
+    let behind = marker + 3;
+    if !text.is_char_boundary(behind) {
+        return false;
+    }
+    let end = skip_whites(text, behind);
+    if stands(text, end, b'\n') {
+        return true;
+    }
+    if stands(text, end, b'\r') {
+        return true;
+    }
+    if end == text.len() {
         return true;
     }
     false
@@ -135,7 +139,6 @@ fn note_marker(list: &mut Vec<Note>, src: &Src, document: &Doc, line: usize) -> 
             line,
             Note {
                 is_inside: old.is_inside,
-                is_content: old.is_content,
                 is_blank: old.is_blank,
                 is_marker: true,
                 is_directive: old.is_directive,
@@ -174,7 +177,6 @@ fn note_blanks(list: &mut Vec<Note>, src: &Src) {
             i,
             Note {
                 is_inside: old.is_inside,
-                is_content: old.is_content,
                 is_blank,
                 is_marker: old.is_marker,
                 is_directive: old.is_directive,
@@ -191,8 +193,7 @@ fn note_bodies(list: &mut Vec<Note>, src: &Src, reading: &Reading, bodies: &Bodi
 
 /// What is known of the lines of a text and its reading.
 pub fn find_notes(alloc: Global, src: &Src, reading: &Reading) -> Result<Notes, AllocError> {
-    let stands = find_stands(alloc, src, reading)?;
-    let bodies = find_bodies(alloc, src, reading, &stands)?;
+    let bodies = find_bodies(alloc, src, reading)?;
     let mut list = Vec::new(alloc);
     for _ in 0..src.lines().len() {
         list.push(Note::NONE)?;

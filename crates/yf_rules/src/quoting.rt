@@ -1,11 +1,14 @@
 //! Rule 3, quoting.
-ghost use Rattle.std.specs.Prelude.{◌<◌, length};
+ghost use Rattle.std.specs.Prelude.{◌<◌, length, IfOk};
+ghost use Rattle.yf_rules.specs.Exact.{Answers};
+ghost use Rattle.yf_rules.specs.Sets.{quoting_at};
+ghost use Rattle.yf_rules.specs.Styles.{Misquoted};
 
 use crate::rule::{Rule, placed};
 use std::alloc::{AllocError, Global};
 use yf_emit::content_start::content_start;
 use yf_emit::style::Style;
-use yf_emit::wanted::wanted_style;
+use yf_emit::wanted::wanted_of;
 use yf_events::event::Event;
 use yf_events::reading::Reading;
 use yf_lines::fault::Fault;
@@ -57,14 +60,15 @@ impl Rule for Quoting {
 /// The first character of the scalar, if its style is not the one wanted.
 fn misquoted(src: &Src, reading: &Reading, i: usize, style: &Style) -> Option<usize>
     requires { i < length reading.now.events }
+    ensures { Answers (Misquoted src.now.text reading.now style.now i) result }
 {
     match reading.event(i) {
         Event::Scalar {
             props,
             style: written,
-            ..
+            text,
         } => {
-            if wanted_style(reading, i, style) == *written {
+            if wanted_of(*written, text.as_str(), style.quotes) == *written {
                 return None;
             }
             match reading.span(i) {
@@ -81,11 +85,14 @@ fn offsets(
     src: &Src,
     reading: &Reading,
     style: &Style,
-) -> Result<Vec<usize>, AllocError> {
+) -> Result<Vec<usize>, AllocError>
+    ensures { IfOk result (λ offsets. quoting_at src.now reading.now style.now offsets.items) }
+{
     let mut offsets = Vec::new(alloc);
     for i in 0..reading.len() {
-        if let Some(offset) = misquoted(src, reading, i, style) {
-            offsets.push(offset)?;
+        match misquoted(src, reading, i, style) {
+            Some(offset) => offsets.push(offset)?,
+            None => {}
         }
     }
     Ok(offsets)

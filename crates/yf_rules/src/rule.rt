@@ -1,6 +1,8 @@
 //! What a rule is.
 ghost use Rattle.std.specs.Prelude.{◌≡◌, IfErr, IfOk};
-ghost use Rattle.yf_rules.specs.Places.{PlacesOf};
+ghost use Rattle.std.specs.List.{Contains};
+ghost use Rattle.yf_lines.specs.declared.place.Place.{Place};
+ghost use Rattle.yf_rules.specs.Places.{Ascending, PlacesOf};
 
 use crate::places::known_places;
 use std::alloc::{AllocError, Global};
@@ -16,7 +18,7 @@ pub trait Rule: Drop {
     ghost use Rattle.yf_lines.specs.Lines.{Table};
     ghost use Rattle.yf_events.specs.declared.lists.Lists.{Lists};
     ghost use Rattle.yf_emit.specs.declared.style.Style.{Style};
-    ghost use Rattle.yf_rules.specs.Places.{FoundAt};
+    ghost use Rattle.yf_rules.specs.Places.{Ascending, FoundAt};
 
     ghost rule_number: { Self → ℕ };
 
@@ -38,7 +40,7 @@ pub trait Rule: Drop {
     fn fixable(&self) -> bool
         ensures { result ≡ is_fixable self.now };
 
-    /// The places at fault in a text with this reading, in ascending order, each once.
+    /// The places at fault in a text with this reading, in ascending order by line and column, each once.
     ///
     /// # Errors
     ///
@@ -51,16 +53,31 @@ pub trait Rule: Drop {
         style: &Style,
     ) -> Result<Vec<Place>, Fault>
         ensures refused { IfErr result (λ fault. fault ≡ Fault.Memory) }
+        ensures ascending { IfOk result (λ places. Ascending places.items) }
         ensures found { IfOk result (λ places. FoundAt src.now.text (faults self.now src.now reading.now style.now) places.items) };
 }
 
-/// The places of the byte offsets that a rule found, unless memory was refused.
+/// Sorts places by line and column, and leaves each once.
+fn ascend(places: &mut Vec<Place>)
+    ensures ascending { Ascending places.new.items }
+    ensures keeps { (p : Place) → Contains places.old.items p → Contains places.new.items p }
+    ensures adds_none { (p : Place) → Contains places.new.items p → Contains places.old.items p }
+{
+    places.sort_unstable_by_key(|place| (place.line, place.column));
+    places.dedup();
+}
+
+/// The places of the byte offsets that a rule found, in ascending order and each once, unless memory was refused.
 pub fn placed(alloc: Global, src: &Src, offsets: &[usize]) -> Result<Vec<Place>, Fault>
     ensures refused { IfErr result (λ fault. fault ≡ Fault.Memory) }
+    ensures ascending { IfOk result (λ places. Ascending places.items) }
     ensures places { IfOk result (λ places. PlacesOf src.now.text offsets.now places.items) }
 {
     match known_places(alloc, src, offsets) {
-        Ok(places) => Ok(places),
+        Ok(mut places) => {
+            ascend(&mut places);
+            Ok(places)
+        }
         Err(AllocError) => Err(Fault::Memory),
     }
 }

@@ -1,6 +1,10 @@
 //! Rule 1, trailing-blanks.
+ghost use Rattle.std.specs.Prelude.{◌<◌, length, IfOk};
+ghost use Rattle.yf_rules.specs.ByLine.{BlankEnd};
+ghost use Rattle.yf_rules.specs.Exact.{Answers};
+ghost use Rattle.yf_rules.specs.Sets.{trailing_blanks_at};
 
-use crate::notes::find_notes;
+use crate::content_lines::content_lines;
 use crate::rule::{Rule, placed};
 use crate::whites::whites_before;
 use std::alloc::{AllocError, Global};
@@ -52,21 +56,36 @@ impl Rule for TrailingBlanks {
     }
 }
 
-/// Where the whites begin that end each line, content lines of block scalars left out.
+/// Where the whites begin that end the line of that index, unless it is a content line of a block scalar.
+fn blank_end(src: &Src, k: usize, is_content: bool) -> Option<usize>
+    requires { k < length src.now.lines }
+    ensures { Answers (BlankEnd src.now k is_content) result }
+{
+    if is_content {
+        return None;
+    }
+    let line = src.lines().line(k);
+    let at = whites_before(src.text(), line.start, line.end);
+    if at < line.end {
+        return Some(at);
+    }
+    None
+}
+
 fn offsets(
     alloc: Global,
     src: &Src,
     reading: &Reading,
-    _style: &Style,
-) -> Result<Vec<usize>, AllocError> {
-    let notes = find_notes(alloc, src, reading)?;
-    let lines = src.lines();
+    style: &Style,
+) -> Result<Vec<usize>, AllocError>
+    ensures { IfOk result (λ offsets. trailing_blanks_at src.now reading.now style.now offsets.items) }
+{
+    let content = content_lines(alloc, src, reading)?;
     let mut offsets = Vec::new(alloc);
-    for i in 0..lines.len() {
-        let line = lines.line(i);
-        let at = whites_before(src.text(), line.start, line.end);
-        if at < line.end && !notes.at(i).is_content {
-            offsets.push(at)?;
+    for k in 0..content.len() {
+        match blank_end(src, k, content[k]) {
+            Some(offset) => offsets.push(offset)?,
+            None => {}
         }
     }
     Ok(offsets)

@@ -1,20 +1,24 @@
 //! Whites at the ends of lines and before comments.
+ghost use Rattle.std.specs.Prelude.{◌≡◌, ◌≤◌};
+ghost use Rattle.yf_rules.specs.Whites.{WhitesEnd};
 
 use yf_chars::text::stands;
 use yf_events::event::Entry;
-use yf_lines::basic::white_or_end_stands;
+use yf_lines::basic::{white_or_end_stands, white_stands};
 use yf_lines::line::Line;
 
 /// The byte offset of the first of the whites that stand directly before `end`, and not before `start`.
-pub fn whites_before(text: &str, start: usize, end: usize) -> usize {
-    let bytes = text.as_bytes();
+pub fn whites_before(text: &str, start: usize, end: usize) -> usize
+    requires { start ≤ end }
+    ensures whites { WhitesEnd text.now start end result }
+    ensures order { result ≤ end }
+{
+    if end > text.len() {
+        return end;
+    }
     let mut at = end;
     while at > start {
-        if at > bytes.len() {
-            return end;
-        }
-        let byte = bytes[at - 1];
-        if byte != b' ' && byte != b'\t' {
+        if !white_stands(text, at - 1) {
             return at;
         }
         at -= 1;
@@ -23,7 +27,9 @@ pub fn whites_before(text: &str, start: usize, end: usize) -> usize {
 }
 
 /// Whether the line holds whites alone, or nothing.
-pub fn is_white_line(text: &str, line: Line) -> bool {
+pub fn is_white_line(text: &str, line: Line) -> bool
+    requires { line.start ≤ line.end }
+{
     whites_before(text, line.start, line.end) == line.start
 }
 

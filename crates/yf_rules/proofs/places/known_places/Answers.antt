@@ -1,15 +1,13 @@
-use Rattle.std.proofs.Common.{◌≡◌, ◌<◌, ◌++◌, [], ◌∷◌, subst, sym, ap, ◌∙◌, length, get_or, take, arith, ◌+◌, refl, true≢false}
+use Rattle.std.proofs.Common.{◌<◌, subst, sym, ap, ◌∙◌, length, get_or, take, arith, ◌+◌, refl, true≢false}
 use Rattle.std.specs.Str.{IsCharBoundary}
-use Rattle.yf_lines.specs.Lines.{PlaceOf}
 use Rattle.yf_rules.specs.Places.{IsSpot, PlacesOf}
-use Rattle.yf_rules.specs.Places.PlacesOf.{no_offsets}
-use Rattle.yf_rules.proofs.SpotLemmas.{places_more, places_passed}
+use Rattle.yf_rules.proofs.PlacesLemmas.{no_places, places_more, places_passed}
 use Rattle.yf_rules.proofs.places.known_places.Goals as goal
 use Rattle.yf_rules.proofs.places.known_places.Goals.{then-is_char_boundary+in_ok-push, else-is_char_boundary}
 
 pub loop-offset-init : goal.loop-offset-init
 loop-offset-init c = record {
-  places = subst (PlacesOf c.args.src.now.text []) (sym c.new-places.ensures.items) no_offsets;
+  places = no_places c.args.src.now.text c.new-places.result.items c.new-places.ensures.items;
   spot = c.line_spot-spot.ensures;
 }
 

@@ -1,9 +1,8 @@
-use Rattle.std.proofs.Common.{◌≡◌, ◌≤◌, ◌<◌, subst, sym, Some}
+use Rattle.std.proofs.Common.{◌≡◌, ◌≤◌, ◌<◌, subst, Some}
 use Rattle.std.specs.Prelude.{IfSome, slice_get}
 use Rattle.yf_lines.specs.declared.line.Line.{Line}
 use Rattle.yf_chars.specs.Chain.{Many}
 use Rattle.yf_lines.specs.Lines.{AreLines, is_char}
-use Rattle.yf_rules.specs.Places.{Reached}
 use Rattle.yf_rules.proofs.SpotLemmas.{reached_in, spot_of, reached_more, place_reached}
 use Rattle.yf_rules.proofs.places.place_in_line.Goals as goal
 

@@ -1,0 +1,316 @@
+//! What the formatter writes, in tables of data.
+
+use crate::answers::answer_to;
+use crate::command_line::Verb;
+use crate::settings::style_from_toml;
+use std::alloc::{AllocError, Global};
+use std::test::Fail;
+use yf_emit::style::Style;
+
+/// Whether the formatter writes that text of a stream, and nothing else of what it wrote.
+fn formats(alloc: Global, style: &Style, input: &str, text: &str) -> bool {
+    let first = answer_to(alloc, Verb::Fmt, &[], style, input.as_bytes());
+    let second = answer_to(alloc, Verb::Fmt, &[], style, text.as_bytes());
+    if first.status != 0 || first.output.as_slice() != text.as_bytes() {
+        return false;
+    }
+    second.status == 0 && second.output.as_slice() == text.as_bytes()
+}
+
+/// Sequences, documents, directives and markers.
+pub const PLAIN_STREAMS: [(&str, &str); 9] = [
+    // a sequence
+    ("- a\n- b\n", "---\n- a\n- b\n"),
+    // an empty stream
+    ("", ""),
+    // an empty document
+    ("---\n# c\n", "---\n# c\n"),
+    // a root that looks like a marker
+    (" ...\n", "---\n\"...\"\n"),
+    // a tag and its directive
+    (
+        "%TAG !e! tag:e.com,2000:\n---\n!e!t%21 v\n",
+        "%TAG !e! tag:e.com,2000:\n---\n!e!t%21 v\n",
+    ),
+    // a mark and returns
+    (
+        "\u{feff}a: 'x'  # c \r\nb: |\r\n  y \r\na: 1\r\n",
+        "---\na: \"x\"  # c\nb: |\n  y \na: 1\n",
+    ),
+    // a later document with directives
+    (
+        "a\n...\n# c\n%YAML 1.1\n--- b\n",
+        "---\na\n# c\n...\n%YAML 1.1\n---\nb\n",
+    ),
+    // a marker in a literal
+    ("---\n- |\n  ---\n\n- b\n", "---\n- |\n  ---\n\n- b\n"),
+    // sequences right of their key
+    (
+        "a:\n  - x\n  - b:\n      - y\n",
+        "---\na:\n  - x\n  - b:\n      - y\n",
+    ),
+];
+
+/// Keys, flow collections and scalars.
+pub const NODES: [(&str, &str); 15] = [
+    // an explicit key
+    ("? k\n: v\n", "---\nk: v\n"),
+    // aliases and properties as keys
+    (
+        "foo: &a x\nbar: {*a : y, &b: z}\n",
+        "---\nfoo: &a x\nbar:\n  *a : y\n  &b: z:\n",
+    ),
+    // a flow collection over lines
+    ("key: [\n  1\n ]\n", "---\nkey: [1]\n"),
+    // a kept tail
+    ("--- |+\n a\n\n", "---\n|+\n  a\n\n"),
+    // no final line feed
+    ("- |\n x", "---\n- |-\n  x\n"),
+    // keys that are not steady
+    ("-: a\na:: b\nc: 12\n", "---\n\"-\": a\n\"a:\": b\nc: 12\n"),
+    // escapes
+    ("\"\\ud83d\\ude00 \\x41\"\n", "---\n\"\u{1f600} A\"\n"),
+    // keys written with ?
+    (
+        "? [a, {b: }]\n: - c\n  - d\n? |\n  x\n: y\n",
+        "---\n? - a\n  - b:\n: - c\n  - d\n? |\n  x\n: y\n",
+    ),
+    // quotes
+    ("- 'it''s'\n- \"\\r\"\n", "---\n- \"it's\"\n- \"\\r\"\n"),
+    // block scalars
+    (
+        "- |2\n    x\n\n- >\n a\n b\n\n   c\n- |\n\n",
+        "---\n- |2\n    x\n\n- >\n  a\n  b\n\n    c\n- \"\"\n",
+    ),
+    // a single pair
+    ("[a: b, c]\n", "---\n[{a: b}, c]\n"),
+    // a mark in quotes
+    ("\"a\\uFEFFb\"\n", "---\n\"a\\uFEFFb\"\n"),
+    // a mark itself in quotes
+    ("\"a\u{feff}b\"\n", "---\n\"a\\uFEFFb\"\n"),
+    // a flow collection as an explicit key
+    ("? [a]\n: v\n", "---\n[a]: v\n"),
+    // an empty explicit key
+    ("---\n?\n: v\n", "---\n: v\n"),
+];
+
+/// Comments and blank lines.
+pub const COMMENTED: [(&str, &str); 10] = [
+    // comments alone
+    ("# c\n\n\n# d", "# c\n\n# d\n"),
+    // a comment between brackets
+    (
+        "{\"a\":1,b: [x, # c\n y]}\n",
+        "---\n\"a\": 1\nb:\n  - x  # c\n  - y\n",
+    ),
+    // a comment behind properties
+    (
+        "- &x # c\n\n  # d\n  |+\n  a\n\n",
+        "---\n- &x |+  # c\n  a\n\n# d\n",
+    ),
+    // a comment behind an explicit key
+    ("? a # c\nb: 1\n", "---\na:  # c\nb: 1\n"),
+    // a comment behind an implicit key
+    (
+        "- &x\n  # c\n  k: # d\n    v\n",
+        "---\n- &x\n  # c\n  k:  # d\n    v\n",
+    ),
+    // comments of a root in brackets
+    (
+        "[a, # c\n # d\n b, {k: # e\n v}] # f\n",
+        "---\n- a  # c\n# d\n- b\n- k:  # e\n    v  # f\n",
+    ),
+    // blank lines
+    (
+        "a:\n\n  b: 1\n\n\n  # c\n\n  d: 2\n\n---\n\ne\n",
+        "---\na:\n  b: 1\n\n  # c\n\n  d: 2\n---\ne\n",
+    ),
+    // a comment behind a directive
+    ("%FOO a # c\n---\nx\n", "# c\n%FOO a\n---\nx\n"),
+    // a comment in an empty collection
+    ("[ # c\n]\n", "---\n[]  # c\n"),
+    // a comment behind an empty key
+    ("{a: x, : # c\n v}\n", "---\na: x\n:  # c\n  v\n"),
+];
+
+/// Streams under other settings.
+pub const WITH_SETTINGS: [(&str, &str, &str); 10] = [
+    // the same in single quotes
+    ("quotes = \"single\"", " ...\n", "---\n'...'\n"),
+    // steps of four
+    (
+        "indent = 4",
+        "a: [1, {b: }]\nc:\n- - x\n  - y\n",
+        "---\na:\n    -   1\n    -   b:\nc:\n    -   -   x\n        -   y\n",
+    ),
+    // single quotes
+    (
+        "quotes = \"single\"",
+        "- 'it''s'\n- \"\\r\"\n",
+        "---\n- 'it''s'\n- \"\\r\"\n",
+    ),
+    // a bracket at the last column
+    (
+        "max_line = 40",
+        "k: [aaaaaaaaaaaaaaaaaaaaaaaaaaaaaaaaaaa]\n",
+        "---\nk: [aaaaaaaaaaaaaaaaaaaaaaaaaaaaaaaaaaa]\n",
+    ),
+    // a bracket behind the last column
+    (
+        "max_line = 40",
+        "k: [aaaaaaaaaaaaaaaaaaaaaaaaaaaaaaaaaaaa]\n",
+        "---\nk:\n  - aaaaaaaaaaaaaaaaaaaaaaaaaaaaaaaaaaaa\n",
+    ),
+    // the same below its key
+    (
+        "max_line = 40",
+        "k:\n [aaaaaaaaaaaaaaaaaaaaaaaaaaaaaaaaaaaa]\n",
+        "---\nk:\n  - aaaaaaaaaaaaaaaaaaaaaaaaaaaaaaaaaaaa\n",
+    ),
+    // sequences at their key
+    (
+        "seq_indent = false",
+        "a:\n  - x\n  - b:\n      - y\n",
+        "---\na:\n- x\n- b:\n  - y\n",
+    ),
+    // a tagged sequence at its key
+    (
+        "seq_indent = false",
+        "a: !!seq\n  - x\n",
+        "---\na: !!seq\n- x\n",
+    ),
+    // a broken sequence at its key
+    (
+        "seq_indent = false",
+        "a: [x, # c\n y]\n",
+        "---\na:\n- x  # c\n- y\n",
+    ),
+    // a sequence in a sequence
+    ("seq_indent = false", "- - x\n", "---\n- - x\n"),
+];
+
+#[test]
+fn formats_documents_and_directives(rt: HostRuntime) {
+    let style = Style::house();
+    for (input, text) in PLAIN_STREAMS {
+        assert!(rt; formats(rt.alloc(), &style, input, text), "{input}");
+    }
+}
+
+#[test]
+fn formats_keys_collections_and_scalars(rt: HostRuntime) {
+    let style = Style::house();
+    for (input, text) in NODES {
+        assert!(rt; formats(rt.alloc(), &style, input, text), "{input}");
+    }
+}
+
+#[test]
+fn formats_comments_and_blank_lines(rt: HostRuntime) {
+    let style = Style::house();
+    for (input, text) in COMMENTED {
+        assert!(rt; formats(rt.alloc(), &style, input, text), "{input}");
+    }
+}
+
+#[test]
+fn formats_under_settings(rt: HostRuntime) {
+    for (settings, input, text) in WITH_SETTINGS {
+        match style_from_toml(rt.alloc(), settings) {
+            Ok(style) => assert!(rt; formats(rt.alloc(), &style, input, text), "{input}"),
+            Err(fault) => panic!(rt; "{fault}"),
+        }
+    }
+}
+
+/// A text of one character so many times, between two others.
+fn repeated(
+    alloc: Global,
+    before: &str,
+    part: &str,
+    count: usize,
+    behind: &str,
+) -> Result<String, AllocError> {
+    let mut text = String::from_str(alloc, before)?;
+    for _ in 0..count {
+        text.push_str(part)?;
+    }
+    text.push_str(behind)?;
+    Ok(text)
+}
+
+/// Whether the formatter writes `before`, `part` so many times and `behind` of `given`, the same part and `end`.
+fn formats_long(
+    alloc: Global,
+    input: (&str, &str, usize, &str),
+    text: (&str, &str, usize, &str),
+) -> Result<bool, AllocError> {
+    let input = repeated(alloc, input.0, input.1, input.2, input.3)?;
+    let text = repeated(alloc, text.0, text.1, text.2, text.3)?;
+    Ok(formats(alloc, &Style::house(), input.as_str(), text.as_str()))
+}
+
+#[test]
+fn formats_long_keys(rt: HostRuntime) -> Result<(), Fail> {
+    let alloc = rt.alloc();
+    let short = formats_long(
+        alloc,
+        ("", "k", 1023, ": v\n"),
+        ("---\n", "k", 1023, ": v\n"),
+    )?;
+    assert!(rt; short);
+    let long = formats_long(
+        alloc,
+        ("", "k", 1024, ": v\n"),
+        ("---\n? ", "k", 1024, "\n: v\n"),
+    )?;
+    assert!(rt; long);
+    let flow = formats_long(
+        alloc,
+        ("{", "k", 1025, ": v}\n"),
+        ("---\n? ", "k", 1025, "\n: v\n"),
+    )?;
+    assert!(rt; flow);
+    Ok(())
+}
+
+#[test]
+fn formats_deep_sequences(rt: HostRuntime) -> Result<(), Fail> {
+    let alloc = rt.alloc();
+    let dashes = formats_long(alloc, ("", "- ", 1024, "a\n"), ("---\n", "- ", 1024, "a\n"))?;
+    assert!(rt; dashes);
+    let closing = repeated(alloc, "", "]", 1024, "\n")?;
+    let brackets = formats_long(
+        alloc,
+        ("", "[", 1024, closing.as_str()),
+        ("---\n", "- ", 1023, "[]\n"),
+    )?;
+    assert!(rt; brackets);
+    Ok(())
+}
+
+/// Refused streams, and what is said of them.
+const REFUSED: [(&str, &str); 4] = [
+    ("a: b: c\n", "1:5 refused: syntax\n"),
+    (
+        "{a: [1, 2], *a : # c\n &b x}\n",
+        "1:13 refused: unknown-alias\n",
+    ),
+    ("\"\\ud83d\"\n", "1:2 refused: escape-value\n"),
+    ("%YAML 2.0\n---\n", "1:1 refused: bad-version\n"),
+];
+
+#[test]
+fn refuses_streams(rt: HostRuntime) {
+    for (input, line) in REFUSED {
+        let answer = answer_to(
+            rt.alloc(),
+            Verb::Fmt,
+            &[],
+            &Style::house(),
+            input.as_bytes(),
+        );
+        assert!(rt; answer.status == 2 && answer.output.is_empty(), "{input}");
+        assert_eq!(rt; answer.line.as_slice(), line.as_bytes(), "{input}");
+    }
+}

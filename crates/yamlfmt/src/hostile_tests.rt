@@ -1,0 +1,295 @@
+//! Readers, writers and memory that fail, and streams that are cut: each run answers in full, or says why it can't.
+
+use crate::answers::{answer_over, answer_to, command};
+use crate::command_line::Verb;
+use crate::faulty::{FaultyReader, FaultyWriter};
+use crate::program::run;
+use std::alloc::{AllocError, Global};
+use std::test::Fail;
+use yf_emit::style::Style;
+use yf_lines::watched::{Sink, Source, Watched};
+use yf_rules::blank_lines::BlankLines;
+use yf_rules::comment_space::CommentSpace;
+use yf_rules::document_start::DocumentStart;
+use yf_rules::flow_layout::FlowLayout;
+use yf_rules::key_mark::KeyMark;
+use yf_rules::quoting::Quoting;
+use yf_rules::repeated_keys::RepeatedKeys;
+use yf_rules::rule::Rule;
+
+const VERBS: [Verb; 3] = [Verb::Events, Verb::Check, Verb::Fmt];
+
+/// Accepted streams that together hold each kind of node, comments, marks and directives.
+const INPUTS: [&str; 5] = [
+    "\u{FEFF}a: 'x'  # c \r\nb: |\r\n  y \r\na: 1\r\n",
+    "[a, # c\n # d\n b, {k: # e\n v}] # f\n",
+    "? [a, {b: }]\n: - c\n  - d\n? |\n  x\n: y\n",
+    "a\n...\n# c\n%YAML 1.1\n--- b\n",
+    "- |2\n    x\n\n- >\n a\n b\n\n   c\n- |\n\n",
+];
+
+/// A sequence in a sequence, as deep as it may be: `- ` so many times, and `a`.
+fn nested_dashes() -> [u8; 2049] {
+    let mut bytes = [b' '; 2049];
+    for i in 0..1024 {
+        bytes[2 * i] = b'-';
+    }
+    bytes[2048] = b'a';
+    bytes
+}
+
+/// What fails.
+#[derive(Clone, Copy)]
+enum Failing {
+    Reads,
+    Writes,
+    Memory,
+}
+
+/// Whether each command answers as it should on each input where that fails.
+fn holds(alloc: Global, failing: Failing) -> Result<bool, AllocError> {
+    let rules: [Box<dyn Rule>; 7] = [
+        Box::new(alloc, KeyMark)?,
+        Box::new(alloc, RepeatedKeys)?,
+        Box::new(alloc, CommentSpace)?,
+        Box::new(alloc, FlowLayout)?,
+        Box::new(alloc, BlankLines)?,
+        Box::new(alloc, DocumentStart)?,
+        Box::new(alloc, Quoting)?,
+    ];
+    for input in INPUTS {
+        if !holds_on(alloc, &rules, failing, input.as_bytes()) {
+            return Ok(false);
+        }
+    }
+    let dashes = nested_dashes();
+    // The deepest one has thousands of writes, so there only a part of it.
+    let deep = match failing {
+        Failing::Reads | Failing::Memory => &dashes[..],
+        Failing::Writes => &dashes[1984..],
+    };
+    Ok(holds_on(alloc, &rules, failing, deep))
+}
+
+fn holds_on(alloc: Global, rules: &[Box<dyn Rule>], failing: Failing, input: &[u8]) -> bool {
+    for verb in VERBS {
+        let good = match failing {
+            Failing::Reads => is_refused_by_each_read(alloc, verb, rules, input),
+            Failing::Writes => is_refused_by_each_write(alloc, verb, rules, input),
+            Failing::Memory => is_refused_by_memory_alone(alloc, verb, rules, input),
+        };
+        if !good {
+            return false;
+        }
+    }
+    true
+}
+
+fn is_refused_by_each_read(
+    alloc: Global,
+    verb: Verb,
+    rules: &[Box<dyn Rule>],
+    input: &[u8],
+) -> bool {
+    let full = answer_to(alloc, verb, rules, &Style::house(), input);
+    for reads in 0..=input.len() + 1 {
+        let mut reader = Watched::new(FaultyReader {
+            rest: input,
+            reads_left: reads,
+        });
+        let mut writer = Watched::new(Vec::new(alloc));
+        let (status, line) = answer_over(alloc, verb, rules, &mut reader, &mut writer);
+        if !reader.failed() {
+            return status == full.status && writer.get_ref().as_slice() == full.output.as_slice();
+        }
+        let says_so = line.as_slice() == b"read failed\n".as_slice();
+        if status != 3 || !says_so || !writer.get_ref().is_empty() {
+            return false;
+        }
+    }
+    false
+}
+
+fn is_refused_by_each_write(
+    alloc: Global,
+    verb: Verb,
+    rules: &[Box<dyn Rule>],
+    input: &[u8],
+) -> bool {
+    let full = answer_to(alloc, verb, rules, &Style::house(), input);
+    for writes in 0..=full.output.len() {
+        let mut reader = Watched::new(input);
+        let mut writer = Watched::new(FaultyWriter {
+            taken: Vec::new(alloc),
+            writes_left: writes,
+        });
+        let (status, line) = answer_over(alloc, verb, rules, &mut reader, &mut writer);
+        let taken = writer.get_ref().taken.as_slice();
+        if !writer.failed() {
+            return status == full.status && taken == full.output.as_slice();
+        }
+        let says_so = line.as_slice() == b"write failed\n".as_slice();
+        if status != 3 || !says_so || !full.output.as_slice().starts_with(taken) {
+            return false;
+        }
+    }
+    false
+}
+
+/// The bytes that a command may write here.
+const ROOM: usize = 16_384;
+
+/// What a run answers and writes, held without memory of its own. Behind what is written stand zeros.
+#[derive(Drop)]
+struct Held {
+    status: u8,
+    output: [u8; ROOM],
+    line: [u8; 32],
+}
+
+fn held_answer(alloc: Global, verb: Verb, rules: &[Box<dyn Rule>], input: &[u8]) -> Held {
+    let mut output = [0; ROOM];
+    let mut line = [0; 32];
+    let status = run(
+        alloc,
+        &command(verb),
+        rules,
+        &Style::house(),
+        &mut Watched::new(input),
+        &mut Watched::new(output.as_mut_slice()),
+        &mut Watched::new(line.as_mut_slice()),
+    );
+    Held {
+        status,
+        output,
+        line,
+    }
+}
+
+/// Whether memory was refused, and nothing was written.
+fn is_without_memory(held: &Held) -> bool {
+    held.status == 3
+        && held.line.starts_with(b"no memory\n")
+        && held.output.iter().all(|byte| *byte == 0)
+}
+
+/// Whether two runs, of whose allocations one at most is refused, answer alike, or one of them for want of memory.
+///
+/// Here no allocation is refused; `bench/refusals.py` refuses each in turn.
+fn is_refused_by_memory_alone(
+    alloc: Global,
+    verb: Verb,
+    rules: &[Box<dyn Rule>],
+    input: &[u8],
+) -> bool {
+    let first = held_answer(alloc, verb, rules, input);
+    let second = held_answer(alloc, verb, rules, input);
+    if is_without_memory(&first) {
+        return second.status < 2;
+    }
+    if is_without_memory(&second) {
+        return first.status < 2;
+    }
+    first.status < 2 && first.status == second.status && first.output == second.output
+}
+
+#[test]
+fn answers_where_a_read_fails(rt: HostRuntime) -> Result<(), Fail> {
+    assert!(rt; holds(rt.alloc(), Failing::Reads)?);
+    Ok(())
+}
+
+#[test]
+fn answers_where_a_write_fails(rt: HostRuntime) -> Result<(), Fail> {
+    assert!(rt; holds(rt.alloc(), Failing::Writes)?);
+    Ok(())
+}
+
+#[test]
+fn answers_where_memory_is_refused(rt: HostRuntime) {
+    assert!(rt; holds(rt.alloc(), Failing::Memory).unwrap_or(true));
+}
+
+#[test]
+fn formats_a_front_for_a_writer_that_takes_no_more(rt: HostRuntime) {
+    let mut room = [0; 3];
+    let mut reader = Watched::new(b"- a\n- b\n".as_slice());
+    let mut writer = Watched::new(room.as_mut_slice());
+    let (status, line) = answer_over(rt.alloc(), Verb::Fmt, &[], &mut reader, &mut writer);
+    assert!(rt; status == 3 && line.as_slice() == b"write failed\n".as_slice());
+    assert!(rt; room == *b"---");
+}
+
+/// Streams of each part of the grammar, accepted and refused.
+const STREAMS: [&str; 42] = [
+    "",
+    "- a\n- b\n",
+    "# c\n\n\n# d",
+    "---\n# c\n",
+    "a: b: c\n",
+    "a\nb: c\n",
+    "? k\n: v\n",
+    "foo: &a x\nbar: {*a : y, &b: z}\n",
+    "key: [\n  1\n]\n",
+    "key: [\n  1\n ]\n",
+    "{\"a\":1,b: [x, # c\n y]}\n",
+    "--- |+\n a\n\n",
+    "- &x # c\n\n  # d\n  |+\n  a\n\n",
+    "- |\n x",
+    " ...\n",
+    "-: a\na:: b\nc: 12\n",
+    "\"\\ud83d\\ude00 \\x41\"",
+    "\"\\ud83d\"",
+    "\"\u{1F600}\u{FEFF}\u{E9}\\0\"\n",
+    "%TAG !e! tag:e.com,2000:\n---\n!e!t%21 v\n",
+    "!x!t v\n",
+    "\u{FEFF}a: 'x'  # c \r\nb: |\r\n  y \r\na: 1\r\n",
+    "? a # c\nb: 1\n",
+    "- &x\n  # c\n  k: # d\n    v\n",
+    "a: [1, {b: }]\nc:\n- - x\n  - y\n",
+    "[a, # c\n # d\n b, {k: # e\n v}] # f\n",
+    "? [a, {b: }]\n: - c\n  - d\n? |\n  x\n: y\n",
+    "a\n...\n# c\n%YAML 1.1\n--- b\n",
+    "%YAML 2.0\n---\n",
+    "%YAML 1.2\n%YAML 1.2\n---\n",
+    "a:\n\n  b: 1\n\n\n  # c\n\n  d: 2\n\n---\n\ne\n",
+    "---\n- |\n  ---\n\n- b\n",
+    "- 'it''s'\n- \"\\r\"\n",
+    "- |2\n    x\n\n- >\n a\n b\n\n   c\n- |\n\n",
+    "- *a\n- &a x\n",
+    "a:\n\tb: 1\n",
+    "k: [aaaaaaaaaaaaaaaaaaaaaaaaaaaaaaaaaaaaaaaa]\n",
+    "[a: b, c]\n",
+    "%FOO a # c\n---\nx\n",
+    "[ # c\n]\n",
+    "{a: x, : # c\n v}\n",
+    "{a: [1, 2], *a : # c\n &b x}\n",
+];
+
+/// Whether each front of the stream is accepted, or refused with nothing written.
+fn answers_each_front(alloc: Global, verb: Verb, stream: &[u8]) -> bool {
+    for end in 0..=stream.len() {
+        let answer = answer_to(alloc, verb, &[], &Style::house(), &stream[..end]);
+        let good = match answer.status {
+            0 => answer.line.is_empty(),
+            2 => answer.output.is_empty(),
+            _ => false,
+        };
+        if !good {
+            return false;
+        }
+    }
+    true
+}
+
+#[test]
+fn answers_each_front_of_a_stream(rt: HostRuntime) {
+    for stream in STREAMS {
+        for verb in VERBS {
+            assert!(rt;
+                answers_each_front(rt.alloc(), verb, stream.as_bytes()),
+                "{stream}"
+            );
+        }
+    }
+}

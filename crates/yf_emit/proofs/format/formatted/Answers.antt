@@ -1,0 +1,12 @@
+use Rattle.std.proofs.lemmas.Str.{IsUtf8-string_bytes}
+use Rattle.yf_emit.proofs.format.formatted.Goals as goal
+
+pub returns-in-Ok-clause-formatted : goal.returns-in-Ok-clause-formatted
+returns-in-Ok-clause-formatted c = record {
+  reading = c.args.reading.now;
+  normal = c.in_ok-normal.normal;
+  nested = c.in_ok-normal.ensures.nested;
+  restyled = c.in_ok-normal.ensures.restyled;
+  same = c.in_ok-normal.ensures.content;
+  utf8 = IsUtf8-string_bytes c.in-Ok.text;
+}

@@ -1,0 +1,28 @@
+use Rattle.std.proofs.Common.{◌∙◌, ap, subst}
+use Rattle.yf_events.specs.declared.reading.TheConstants.{DEPTH}
+use Rattle.yf_emit.specs.Restyled.{IsRestyled, Restyled}
+use Rattle.yf_emit.proofs.RestyledLemmas.{restyled_whole, still_fits, still_stream}
+use Rattle.yf_emit.proofs.normal.normal_lists.Goals as goal
+
+is_restyled : (c : goal.After-drop-measures-2) → IsRestyled c.args.style.now.quotes c.args.reading.now (record {
+  events = c.in_ok-normal_events.field-0;
+  resolved = c.in_ok-copied_tags.field-0;
+  comments = c.in_ok-copied_comments.field-0;
+  on_leaf_line = c.in_ok-copied_notes.field-0;
+  documents = c.in_ok-copied_documents.field-0;
+  escapes = c.in_ok-copied_offsets.field-0;
+})
+is_restyled c =
+    let same = c.lists-lists.ensures.same in
+    restyled_whole c.args.reading.now _ (subst (λ es. Restyled c.args.style.now.quotes es c.in_ok-normal_events.field-0) (c.as_slice.ensures ∙ ap (λ w. w.events) same) c.in_ok-normal_events.ensures)
+    (c.in_ok-copied_tags.ensures ∙ c.as_slice-2.ensures ∙ ap (λ w. w.resolved) same)
+    (c.in_ok-copied_comments.ensures ∙ c.as_slice-3.ensures ∙ ap (λ w. w.comments) same)
+    (c.in_ok-copied_notes.ensures ∙ c.as_slice-4.ensures ∙ ap (λ w. w.on_leaf_line) same)
+    (c.in_ok-copied_documents.ensures ∙ c.as_slice-5.ensures ∙ ap (λ w. w.documents) same)
+    (c.in_ok-copied_offsets.ensures ∙ c.as_slice-6.ensures ∙ ap (λ w. w.escapes) same)
+
+pub returns-clause-fit : goal.returns-clause-fit
+returns-clause-fit c = still_fits (is_restyled c) c.lists-lists.ensures.fit
+
+pub returns-clause-nested : goal.returns-clause-nested
+returns-clause-nested c = still_stream DEPTH (is_restyled c) c.lists-lists.ensures.nested

@@ -1,0 +1,51 @@
+-- Single answers about a reading: the text of one flow collection that may be kept on one line, and which keys are implicit.
+use Rattle.std.specs.Prelude.{◌≡◌, ℕ, ◌+◌, Bool, true, false, ◌&&◌, if◌then◌else◌, List, [], ◌∷◌, ◌++◌, length, map, Option, Some, None}
+use Rattle.yf_events.specs.Event.{Placed}
+use Rattle.yf_events.specs.declared.lists.Lists.{Lists}
+use Rattle.yf_emit.specs.declared.style.Style.{Style}
+use Rattle.yf_emit.specs.Kept.{may_be_kept}
+use Rattle.yf_emit.specs.Normal.{Setting, Spot, root_spot, inner_spot, key_spot, value_spot, is_implicit, styled, normal_document, setting_of}
+use Rattle.yf_emit.specs.OneLine.{bare}
+use Rattle.yf_emit.specs.Tree.{Node, scalar, alias, sequence, mapping, Items, no_items, item, Pairs, no_pairs, pair, DocumentTree, flat, flat_document, is_filled_flow}
+
+-- the node that the event at an index begins
+pub record NodeAt (es : List Placed) (i : ℕ) (x : Node) : Type 0 where
+  pub before : List Placed
+  pub after : List Placed
+  pub is : es ≡ before ++ (flat x ++ after)
+  pub index : length before ≡ i
+
+-- the text on one line, from bracket to bracket, of a flow collection with entries that may be kept, wherever it stands; t is the
+-- text that was read
+abbrev pub kept_text_of : List ℕ → Setting → Node → Option (List ℕ)
+kept_text_of t c x = if is_filled_flow x && may_be_kept t c.comments x then Some (bare (styled t c x)) else None
+
+-- The keys of the block mappings of a normal form, in order, each as the index of the event that begins it, and whether it is
+-- implicit. The event at index i begins the node.
+abbrev mutual
+  pub keys : Setting → ℕ → Spot → Node → List (ℕ × Bool)
+  keys c i spot (scalar at props style text lines) = []
+  keys c i spot (alias at name) = []
+  keys c i spot (sequence at true props items) = []
+  keys c i spot (sequence at false props items) = keys_of_items c (i + 1) spot.entries items
+  keys c i spot (mapping at true props pairs) = []
+  keys c i spot (mapping at false props pairs) = keys_of_pairs c (i + 1) spot.entries pairs
+
+  -- of entries at that column, from the event at index i on
+  pub keys_of_items : Setting → ℕ → ℕ → Items → List (ℕ × Bool)
+  keys_of_items c i column no_items = []
+  keys_of_items c i column (item x xs) = keys c i (inner_spot c.style column) x ++ keys_of_items c (i + length (flat x)) column xs
+
+  pub keys_of_pairs : Setting → ℕ → ℕ → Pairs → List (ℕ × Bool)
+  keys_of_pairs c i column no_pairs = []
+  keys_of_pairs c i column (pair k v ps) =
+      (i, is_implicit c.style column k) ∷ (keys c i (key_spot c.style column k) k
+      ++ (keys c (i + length (flat k)) (value_spot c column k v) v ++ keys_of_pairs c (i + length (flat k) + length (flat v)) column ps))
+
+abbrev pub keys_of_documents : Setting → ℕ → List DocumentTree → List (ℕ × Bool)
+keys_of_documents c i [] = []
+keys_of_documents c i (d ∷ ds) = keys c (i + 1) (root_spot c.style) d.root ++ keys_of_documents c (i + length (flat_document d)) ds
+
+-- of a reading of the text t, these are its trees
+abbrev pub block_keys : List ℕ → Lists → Style → List DocumentTree → List (ℕ × Bool)
+block_keys t r s trees = keys_of_documents (setting_of r s) 1 (map (normal_document t (setting_of r s)) trees)

@@ -1,0 +1,27 @@
+-- A reading of which nothing differs from another but the styles of scalars and the brackets of collections.
+use Rattle.std.specs.Prelude.{◌≡◌, Bool, List, [], ◌∷◌}
+use Rattle.yf_events.specs.Event.{EventValue, Placed, sequence_starts, mapping_starts, scalar_node}
+use Rattle.yf_events.specs.declared.lists.Lists.{Lists}
+use Rattle.yf_lines.specs.declared.quotes.Quotes.{Quotes}
+use Rattle.yf_emit.specs.Wanted.{wanted}
+
+-- an event with the style that the house gives a scalar, and with these brackets or none round a collection
+abbrev pub restyled_event : Quotes → Bool → EventValue → EventValue
+restyled_event quotes flow (scalar_node props style text) = scalar_node props (wanted style text quotes) text
+restyled_event quotes flow (sequence_starts _ props) = sequence_starts flow props
+restyled_event quotes flow (mapping_starts _ props) = mapping_starts flow props
+restyled_event quotes flow e = e
+
+abbrev pub restyled : Quotes → Bool → Placed → Placed
+restyled quotes flow e = record e { event = restyled_event quotes flow e.event }
+
+-- the events of the one list, and in the same order each of them so in the other
+pub data Restyled (quotes : Quotes) : List Placed → List Placed → Type 0 where
+  none_left : Restyled quotes [] []
+  one_more : {e : Placed} {es fs : List Placed} (flow : Bool) → Restyled quotes es fs
+      → Restyled quotes (e ∷ es) (restyled quotes flow e ∷ fs)
+
+-- all but the events is the same
+pub record IsRestyled (quotes : Quotes) (r m : Lists) : Type 0 where
+  pub events : Restyled quotes r.events m.events
+  pub rest : m ≡ record r { events = m.events }

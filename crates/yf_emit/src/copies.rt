@@ -1,0 +1,140 @@
+//! Copies of what a reading holds, which share its texts.
+ghost use Rattle.std.specs.Prelude.{◌≡◌, map, IfOk};
+ghost use Rattle.yf_comments.specs.Comment.{comment_value};
+
+use std::alloc::{AllocError, Global};
+use yf_comments::comment::Comment;
+use yf_events::comments::Comments;
+use yf_events::directive::{Directive, Directives};
+use yf_events::document::{Doc, Documents};
+use yf_events::row::Row;
+use yf_events::slices::Slices;
+use yf_lines::text::OwnedText;
+
+/// The same slices.
+pub fn copied_slices<'a>(alloc: Global, parts: &'a [&str]) -> Result<Slices<'a>, AllocError>
+    ensures { IfOk result (λ copy. copy ≡ map (λ part. part.now) parts.now) }
+{
+    let mut copy = Slices::new(alloc);
+    for part in parts {
+        copy.push(part)?;
+    }
+    Ok(copy)
+}
+
+fn copied_directive<'a>(
+    alloc: Global,
+    directive: &'a Directive<'_>,
+) -> Result<Directive<'a>, AllocError>
+    ensures { IfOk result (λ copy. copy ≡ directive.now) }
+{
+    Ok(Directive {
+        offset: directive.offset,
+        words: copied_slices(alloc, directive.words.as_slice())?,
+    })
+}
+
+fn copied_directives<'a>(
+    alloc: Global,
+    directives: &'a [Directive<'_>],
+) -> Result<Directives<'a>, AllocError>
+    ensures { IfOk result (λ copy. copy ≡ directives.now) }
+{
+    let mut copy = Directives::new(alloc);
+    for directive in directives {
+        copy.push(copied_directive(alloc, directive)?)?;
+    }
+    Ok(copy)
+}
+
+fn copied_document<'a>(alloc: Global, document: &'a Doc<'_>) -> Result<Doc<'a>, AllocError>
+    ensures { IfOk result (λ copy. copy ≡ document.now) }
+{
+    Ok(Doc {
+        start: document.start,
+        directives: copied_directives(alloc, document.directives.as_slice())?,
+    })
+}
+
+/// The same documents.
+pub fn copied_documents<'a>(
+    alloc: Global,
+    documents: &'a [Doc<'_>],
+) -> Result<Documents<'a>, AllocError>
+    ensures { IfOk result (λ copy. copy ≡ documents.now) }
+{
+    let mut copy = Documents::new(alloc);
+    for document in documents {
+        copy.push(copied_document(alloc, document)?)?;
+    }
+    Ok(copy)
+}
+
+fn copied_comment<'a>(comment: &'a Comment<'_>) -> Comment<'a>
+    ensures { comment_value result ≡ comment_value comment.now }
+{
+    Comment {
+        text: comment.text,
+        offset: comment.offset,
+        blank_before: comment.blank_before,
+    }
+}
+
+/// The same comments.
+pub fn copied_comments<'a>(
+    alloc: Global,
+    comments: &'a [Comment<'_>],
+) -> Result<Comments<'a>, AllocError>
+    ensures { IfOk result (λ copy. copy ≡ map comment_value comments.now) }
+{
+    let mut copy = Comments::new(alloc);
+    for comment in comments {
+        copy.push(copied_comment(comment))?;
+    }
+    Ok(copy)
+}
+
+fn copied_tag(alloc: Global, tag: &Option<OwnedText>) -> Result<Option<OwnedText>, AllocError>
+    ensures { IfOk result (λ copy. copy ≡ tag.now) }
+{
+    match tag {
+        Some(tag) => Ok(Some(OwnedText::new(String::from_str(alloc, tag.as_str())?))),
+        None => Ok(None),
+    }
+}
+
+/// The same resolved tags.
+pub fn copied_tags(
+    alloc: Global,
+    tags: &[Option<OwnedText>],
+) -> Result<Row<Option<OwnedText>>, AllocError>
+    ensures { IfOk result (λ copy. copy ≡ tags.now) }
+{
+    let mut copy = Row::new(alloc);
+    for tag in tags {
+        copy.push(copied_tag(alloc, tag)?)?;
+    }
+    Ok(copy)
+}
+
+/// The same notes.
+pub fn copied_notes(alloc: Global, notes: &[bool]) -> Result<Row<bool>, AllocError>
+    ensures { IfOk result (λ copy. copy ≡ notes.now) }
+{
+    let mut copy = Row::new(alloc);
+    for note in notes {
+        copy.push(*note)?;
+    }
+    Ok(copy)
+}
+
+/// The same offsets.
+pub fn copied_offsets(alloc: Global, offsets: &[usize]) -> Result<Row<usize>, AllocError>
+    ensures { IfOk result (λ copy. copy ≡ offsets.now) }
+{
+    let mut copy = Row::new(alloc);
+    for offset in offsets {
+        copy.push(*offset)?;
+    }
+    Ok(copy)
+}

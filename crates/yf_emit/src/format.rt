@@ -1,0 +1,46 @@
+//! Formatting a text.
+ghost use Rattle.std.specs.Prelude.{◌≡◌, IfErr, IfOk};
+ghost use Rattle.std.specs.String.{string_bytes};
+ghost use Rattle.yf_emit.specs.Formatted.{Formatted};
+ghost use Rattle.yf_stream.specs.Refusal.{IsStreamFault};
+
+use crate::layout::layout;
+use crate::normal::normal;
+use crate::style::Style;
+use std::alloc::{AllocError, Global};
+use yf_events::reading::Reading;
+use yf_lines::fault::Fault;
+use yf_lines::source_text::Src;
+use yf_stream::stream::read_stream;
+
+/// The text of a reading of the text in the house style.
+fn formatted(alloc: Global, src: &Src, reading: &Reading, style: &Style) -> Result<String, Fault>
+    ensures formatted { IfOk result (λ formatted. Formatted src.now.text style.now (string_bytes formatted)) }
+    ensures refused { IfErr result (λ fault. fault ≡ Fault.Memory) }
+{
+    let normal = normal(alloc, src, reading, style)?;
+    match layout(alloc, &normal, style) {
+        Ok(text) => Ok(text),
+        Err(AllocError) => Err(Fault::Memory),
+    }
+}
+
+/// The stream of the text in the house style.
+///
+/// # Errors
+///
+/// Those of `read_stream`.
+pub fn format(alloc: Global, text: &str, style: &Style) -> Result<String, Fault>
+    ensures formatted { IfOk result (λ formatted. Formatted text.now style.now (string_bytes formatted)) }
+    ensures refused { IfErr result (λ fault. IsStreamFault text.now fault) }
+{
+    let src = match Src::new(alloc, text) {
+        Ok(src) => src,
+        Err(AllocError) => return Err(Fault::Memory),
+    };
+    let reading = read_stream(alloc, text)?;
+    match formatted(alloc, &src, &reading, style) {
+        Ok(text) => Ok(text),
+        Err(_) => Err(Fault::Memory),
+    }
+}

@@ -1,0 +1,154 @@
+//! The normal form of a reading: each scalar in the style, and each collection in the form, that the house style gives it.
+ghost use Rattle.std.specs.Prelude.{◌≡◌, map, IfErr, IfOk};
+ghost use Rattle.yf_events.specs.Content.{content_of};
+ghost use Rattle.yf_events.specs.Event.{event_value, placed_value};
+ghost use Rattle.yf_events.specs.Nested.{IsStream};
+ghost use Rattle.yf_events.specs.Reading.{Fits, events_of};
+ghost use Rattle.yf_events.specs.declared.reading.TheConstants.{DEPTH};
+ghost use Rattle.yf_emit.specs.Restyled.{IsRestyled, Restyled, restyled, restyled_event};
+
+use crate::copies::{
+    copied_comments, copied_documents, copied_notes, copied_offsets, copied_slices, copied_tags,
+};
+use crate::decide::{Forms, decide};
+use crate::measure::{Measures, measure_all};
+use crate::style::Style;
+use crate::wanted::wanted_of;
+use std::alloc::{AllocError, Global};
+use yf_events::event::{Event, PlacedEvent};
+use yf_events::events::Events;
+use yf_events::lists::Lists;
+use yf_events::reading::Reading;
+use yf_lines::fault::Fault;
+use yf_lines::source_text::Src;
+use yf_lines::text::Text;
+
+/// The event in its normal form: `flow` says whether a collection is written between brackets.
+fn normal_event<'a>(event: &'a Event<'_>, flow: bool, style: &Style) -> Event<'a>
+    ensures { event_value result ≡ restyled_event style.now.quotes flow (event_value event.now) }
+{
+    match event {
+        Event::StreamStart => Event::StreamStart,
+        Event::StreamEnd => Event::StreamEnd,
+        Event::DocStart { explicit } => Event::DocStart {
+            explicit: *explicit,
+        },
+        Event::DocEnd { explicit } => Event::DocEnd {
+            explicit: *explicit,
+        },
+        Event::SeqStart { props, .. } => Event::SeqStart {
+            flow,
+            props: *props,
+        },
+        Event::SeqEnd => Event::SeqEnd,
+        Event::MapStart { props, .. } => Event::MapStart {
+            flow,
+            props: *props,
+        },
+        Event::MapEnd => Event::MapEnd,
+        Event::Scalar {
+            props,
+            style: written,
+            text,
+        } => Event::Scalar {
+            props: *props,
+            style: wanted_of(*written, text.as_str(), style.quotes),
+            text: Text::Part(text.as_str()),
+        },
+        Event::Alias { name } => Event::Alias { name },
+    }
+}
+
+/// The event in its normal form, at its place.
+fn normal_placed<'a>(
+    alloc: Global,
+    placed: &'a PlacedEvent<'_>,
+    flow: bool,
+    style: &Style,
+) -> Result<PlacedEvent<'a>, AllocError>
+    ensures { IfOk result (λ normal. placed_value normal ≡ restyled style.now.quotes flow (placed_value placed.now)) }
+{
+    Ok(PlacedEvent {
+        event: normal_event(&placed.event, flow, style),
+        span: placed.span,
+        tag_offset: placed.tag_offset,
+        entry: placed.entry,
+        folded: copied_slices(alloc, placed.folded.as_slice())?,
+    })
+}
+
+/// The events in their normal form. A collection is written between brackets where it is empty, or kept, or stands in a kept
+/// one.
+fn normal_events<'a>(
+    alloc: Global,
+    events: &'a [PlacedEvent<'_>],
+    measures: &Measures,
+    forms: &Forms,
+    style: &Style,
+) -> Result<Events<'a>, AllocError>
+    ensures { IfOk result (λ normal. Restyled style.now.quotes (map placed_value events.now) normal) }
+{
+    let mut normal = Events::new(alloc);
+    let mut kept_until = 0;
+    for i in 0..events.len() {
+        let measure = measures.at(i);
+        if forms.at(i).is_kept {
+            kept_until = measure.last;
+        }
+        let flow = measure.is_leaf(i) || i < kept_until;
+        normal.push(normal_placed(alloc, &events[i], flow, style)?)?;
+    }
+    Ok(normal)
+}
+
+/// The lists of the normal form.
+fn normal_lists<'a>(
+    alloc: Global,
+    src: &Src,
+    reading: &'a Reading<'_>,
+    style: &Style,
+) -> Result<Lists<'a>, AllocError>
+    ensures restyled { IfOk result (λ normal. IsRestyled style.now.quotes reading.now normal) }
+    ensures fit { IfOk result Fits }
+    ensures nested { IfOk result (λ normal. IsStream DEPTH (events_of normal)) }
+{
+    let measures = measure_all(alloc, src, reading, style)?;
+    let forms = decide(alloc, &measures, reading, style)?;
+    let lists = reading.lists();
+    Ok(Lists {
+        events: normal_events(alloc, lists.events.as_slice(), &measures, &forms, style)?,
+        resolved: copied_tags(alloc, lists.resolved.as_slice())?,
+        comments: copied_comments(alloc, lists.comments.as_slice())?,
+        on_leaf_line: copied_notes(alloc, lists.on_leaf_line.as_slice())?,
+        documents: copied_documents(alloc, lists.documents.as_slice())?,
+        escapes: copied_offsets(alloc, lists.escapes.as_slice())?,
+    })
+}
+
+/// The normal form of a reading of the text: each scalar has the style of `wanted_style`, and each collection stands between
+/// brackets where the house style writes it on one line. Nothing else differs, so what the reading says is the same.
+///
+/// # Errors
+///
+/// `Fault::Memory` where a growth of memory was refused.
+pub fn normal<'a>(
+    alloc: Global,
+    src: &Src,
+    reading: &'a Reading<'_>,
+    style: &Style,
+) -> Result<Reading<'a>, Fault>
+    ensures restyled { IfOk result (λ normal. IsRestyled style.now.quotes reading.now normal) }
+    ensures content { IfOk result (λ normal. content_of normal ≡ content_of reading.now) }
+    ensures nested { IfOk result (λ normal. IsStream DEPTH (events_of normal)) }
+    ensures refused { IfErr result (λ fault. fault ≡ Fault.Memory) }
+{
+    let lists = match normal_lists(alloc, src, reading, style) {
+        Ok(lists) => lists,
+        Err(AllocError) => return Err(Fault::Memory),
+    };
+    match Reading::build(alloc, lists) {
+        Ok(Some(normal)) => Ok(normal),
+        Ok(None) => unreachable!(),
+        Err(_) => Err(Fault::Memory),
+    }
+}

@@ -1,0 +1,149 @@
+-- Laws of the content lines of block scalars.
+use Rattle.std.proofs.Common.{◌≡◌, ℕ, suc, ◌+◌, ◌-◌, ◌<◌, ◌≤◌, true, false, List, ◌∷◌, Option, Some, None, length, drop, get_or, refl, sym, subst, ap, ◌∙◌, ⊎_elim, arith, true≢false, add-one}
+use Rattle.std.specs.Prelude.{slice_get}
+use Rattle.std.proofs.lemmas.Bool.{cases_lt, eq-eqb, ne_eqb}
+use Rattle.std.proofs.lemmas.List.{drop_all}
+use Rattle.std.proofs.lemmas.Option.{slice_get_within}
+use Rattle.std.proofs.Math.Seq.{drop-cons}
+use Rattle.yf_emit.specs.ContentStart.{content_start}
+use Rattle.yf_events.specs.Event.{EventValue, scalar_node}
+use Rattle.yf_events.specs.Reading.{spans_of}
+use Rattle.yf_events.specs.declared.event.ScalarStyle.{ScalarStyle}
+use Rattle.yf_events.specs.declared.event.Span.{Span}
+use Rattle.yf_events.specs.declared.lists.Lists.{Lists}
+use Rattle.yf_lines.specs.declared.line.Line.{Line}
+use Rattle.yf_lines.specs.Lines.{AreLines, Begun, Table}
+use Rattle.yf_lines.proofs.TableLemmas.{some_same}
+use Rattle.yf_props.specs.Props.{PropsValue}
+use Rattle.yf_rules.specs.Scalars.{IsScalar, BlockContent, InBlock, ContentLine, head_count, is_block_style}
+use Rattle.yf_rules.specs.Scalars.ContentLine.{of_block}
+use Rattle.yf_rules.proofs.BegunLemmas.{begun_same, starts_order}
+
+-- how many of one byte stand from an index on
+pub head_here : (b : ℕ) (bs : List ℕ) (i : ℕ) (m : ℕ) → i < length bs → get_or bs i 0 ≡ b → m + head_count b (drop i bs) ≡ m + 1 + head_count b (drop (i + 1) bs)
+head_here b bs i m l e =
+    let d : drop i bs ≡ get_or bs i 0 ∷ drop (i + 1) bs = subst (λ k. drop i bs ≡ get_or bs i 0 ∷ drop k bs) (sym (add-one i)) (drop-cons bs i 0 l) in
+    let h : head_count b (drop i bs) ≡ suc (head_count b (drop (i + 1) bs)) = ap (head_count b) d ∙ rw (eq-eqb (get_or bs i 0) b e) refl in
+    omega (arith, h)
+
+pub head_over : (b : ℕ) (bs : List ℕ) (i : ℕ) → i < length bs → (get_or bs i 0 ≡ b → ⊥) → head_count b (drop i bs) ≡ 0
+head_over b bs i l n =
+    let d : drop i bs ≡ get_or bs i 0 ∷ drop (i + 1) bs = subst (λ k. drop i bs ≡ get_or bs i 0 ∷ drop k bs) (sym (add-one i)) (drop-cons bs i 0 l) in
+    ap (head_count b) d ∙ rw (ne_eqb (get_or bs i 0) b n) refl
+
+pub head_end : (b : ℕ) (bs : List ℕ) (i : ℕ) → length bs ≤ i → head_count b (drop i bs) ≡ 0
+head_end b bs i l = ap (head_count b) (drop_all i bs l)
+
+-- the content of a block scalar is told by its text and the line behind its header
+pub content_same : (ls : List Line) (text : List ℕ) (behind f n g m : ℕ) → BlockContent ls text behind f n → BlockContent ls text behind g m → (f ≡ g) × (n ≡ m)
+content_same ls text behind f n g m a b =
+    let same : f ≡ g = a.empty ∙ sym b.empty in
+    let line : a.line ≡ b.line = some_same (sym (subst (λ k. slice_get ls k ≡ Some a.line) same a.at) ∙ b.at) in
+    (same, a.spaces ∙ ap (λ (l : Line). l.indent - head_count 32 (drop (head_count 10 text) text)) line ∙ sym b.spaces)
+
+-- two numbers of lines begun at one offset are one, if there is a line behind the second
+same_behind : (ls : List Line) (offset j k m : ℕ) (l : Line) → Begun ls offset j → Begun ls offset k → slice_get ls m ≡ Some l → k ≤ m → j ≡ k
+same_behind ls offset j k m l a b e h =
+    ⊎_elim (λ (x : j < k). absurd (begun_same ls offset j k l m a b e (omega (arith, x, h)) x))
+    (λ (x : k ≤ j). ⊎_elim (λ (y : k < j). absurd (begun_same ls offset k j l m b a e h y)) (λ (y : j ≤ k). omega (arith, x, y)) (cases_lt k j))
+    (cases_lt j k)
+
+-- what an event is
+pub record Same (p q : PropsValue) (v w : ScalarStyle) (x y : List ℕ) (s z : Span) : Type 0 where
+  pub props : p ≡ q
+  pub style : v ≡ w
+  pub text : x ≡ y
+  pub span : s ≡ z
+
+pub event_same : {a b : EventValue} → Some a ≡ Some b → a ≡ b
+event_same e = cc
+
+props_same : {p q : PropsValue} {v w : ScalarStyle} {x y : List ℕ} → scalar_node p v x ≡ scalar_node q w y → p ≡ q
+props_same e = cc
+
+pub style_same : {p q : PropsValue} {v w : ScalarStyle} {x y : List ℕ} → scalar_node p v x ≡ scalar_node q w y → v ≡ w
+style_same e = cc
+
+pub text_same : {p q : PropsValue} {v w : ScalarStyle} {x y : List ℕ} → scalar_node p v x ≡ scalar_node q w y → x ≡ y
+text_same e = cc
+
+pub part_same : {a b : Option Span} → Some a ≡ Some b → a ≡ b
+part_same e = cc
+
+span_same : {a b : Span} → Some a ≡ Some b → a ≡ b
+span_same e = cc
+
+pub scalar_same : {r : Lists} {i : ℕ} {p q : PropsValue} {v w : ScalarStyle} {x y : List ℕ} {s z : Span} → IsScalar r i p v x s → IsScalar r i q w y z → Same p q v w x y s z
+scalar_same a b =
+    let e = event_same (sym a.event ∙ b.event) in
+    record { props = props_same e; style = style_same e; text = text_same e; span = span_same (part_same (sym a.part ∙ b.part)) }
+
+module _ (src : Table) (r : Lists) (i : ℕ) (props : PropsValue) (style : ScalarStyle) (text : List ℕ) (s : Span) (is : IsScalar r i props style text s) where
+  pub no_block : is_block_style style ≡ false → (k : ℕ) → ContentLine src r k i → ⊥
+  no_block e k (of_block b f n h y g c l) = true≢false (sym y ∙ ap is_block_style (scalar_same h is).style ∙ e)
+
+  module _ (behind : ℕ) (begun : Begun src.lines (content_start src.text s props) behind) where
+    -- a content line that something else tells stands in the content told from here
+    told : {k : ℕ} → ContentLine src r k i → (first : ℕ) × (indent : ℕ) × BlockContent src.lines text behind first indent × InBlock src.lines first indent s.end k
+    told {k} (of_block {props = p} {style = v} {text = x} {s = z} b f n h y g c l) =
+        let q = scalar_same h is in
+        let g' : Begun src.lines (content_start src.text s props) b =
+        subst (λ w. Begun src.lines (content_start src.text w props) b) q.span (subst (λ w. Begun src.lines (content_start src.text z w) b) q.props g) in
+        let c' : BlockContent src.lines text b f n = subst (λ w. BlockContent src.lines w b f n) q.text c in
+        let same : behind ≡ b = same_behind src.lines (content_start src.text s props) behind b f c'.line begun g' c'.at (let e = c'.empty in omega (arith, e)) in
+        (f, n, subst (λ w. BlockContent src.lines text w f n) (sym same) c', subst (λ (w : Span). InBlock src.lines f n w.end k) q.span l)
+
+    pub no_content : ((first indent : ℕ) → BlockContent src.lines text behind first indent → ⊥) → (k : ℕ) → ContentLine src r k i → ⊥
+    no_content f k h = let w = told h in f w.0 w.1 w.2
+
+    pub block_content : (first indent : ℕ) → is_block_style style ≡ true → BlockContent src.lines text behind first indent
+        → (k : ℕ) → (ContentLine src r k i → InBlock src.lines first indent s.end k) × (InBlock src.lines first indent s.end k → ContentLine src r k i)
+    block_content first indent y c k = (
+      λ h. let w = told h in
+          let e = content_same src.lines text behind w.0 w.1 first indent w.2 c in
+          subst (λ m. InBlock src.lines first m s.end k) e.1 (subst (λ m. InBlock src.lines m w.1 s.end k) e.0 w.3),
+      λ l. of_block behind first indent is y begun c l,
+    )
+
+-- without a part of the text there is no content line
+pub no_part : (src : Table) (r : Lists) (i k : ℕ) → slice_get (spans_of r) i ≡ Some None → ContentLine src r k i → ⊥
+no_part src r i k e (of_block {s = s} b f n h y g c l) = nothing (part_same (sym h.part ∙ e)) where
+  nothing : {x : Span} → Some x ≡ None → ⊥
+  nothing e = cc
+
+-- the lines of a block
+pub in_block : (ls : List Line) (first indent end k : ℕ) (l : Line) → slice_get ls k ≡ Some l → first ≤ k → l.start < end → indent < l.end - l.start → InBlock ls first indent end k
+in_block ls first indent end k l e f s m = record { line = l; at = e; from = f; to = s; longer = omega (arith, m) }
+
+pub too_few : (ls : List Line) (first indent end k : ℕ) (l : Line) → slice_get ls k ≡ Some l → l.end - l.start ≤ indent → InBlock ls first indent end k → ⊥
+too_few ls first indent end k l e m b =
+    let q : b.line ≡ l = some_same (sym b.at ∙ e) in
+    let s = ap (λ (w : Line). w.start) q in let n = ap (λ (w : Line). w.end) q in let h = b.longer in omega (arith, s, n, h, m)
+
+pub past_end : (t : List ℕ) (ls : List Line) (first indent end k : ℕ) (l : Line) → AreLines t ls → slice_get ls k ≡ Some l → end ≤ l.start
+    → (m : ℕ) → InBlock ls first indent end m → m < k
+past_end t ls first indent end k l a e h m b =
+    ⊎_elim (λ (x : m < k). x)
+    (λ (x : k ≤ m). absurd (let o = starts_order t ls k m l b.line a e b.at x in let s = b.to in omega (arith, o, s, h)))
+    (cases_lt m k)
+
+-- where no line is left behind the empty ones, and where the text has line feeds alone
+pub past_lines : (ls : List Line) (text bs : List ℕ) (behind feeds n : ℕ) → bs ≡ text → feeds ≡ head_count 10 bs → n ≡ length ls → n - behind ≤ feeds → behind ≤ length ls
+    → (f m : ℕ) → BlockContent ls text behind f m → ⊥
+past_lines ls text bs behind feeds n e q z h w f m c =
+    let k = slice_get_within ls f c.line c.at in omega (arith, c.empty, k, q, ap (head_count 10) e, z, h, w)
+
+pub content_found : (ls : List Line) (text bs : List ℕ) (behind feeds spaces : ℕ) (l : Line) → bs ≡ text → feeds ≡ head_count 10 bs → feeds < length bs
+    → slice_get ls (behind + feeds) ≡ Some l → spaces ≡ head_count 32 (drop feeds bs) → BlockContent ls text behind (behind + feeds) (l.indent - spaces)
+content_found ls text bs behind feeds spaces l e q h f p = subst (λ x. BlockContent ls x behind (behind + feeds) (l.indent - spaces)) e (record {
+  some = omega (arith, q, h);
+  empty = ap (λ m. behind + m) q;
+  line = l;
+  at = f;
+  spaces = ap (λ m. l.indent - m) (p ∙ ap (λ m. head_count 32 (drop m bs)) q);
+})
+
+pub begun_there : (src : Table) (t : List ℕ) (s : Span) (props : PropsValue) (header behind : ℕ) → t ≡ src.text → header ≡ content_start t s props
+    → Begun src.lines header behind → Begun src.lines (content_start src.text s props) behind
+begun_there src t s props header behind e q b =
+    subst (λ w. Begun src.lines (content_start w s props) behind) e (subst (λ h. Begun src.lines h behind) q b)

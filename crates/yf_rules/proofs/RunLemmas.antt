@@ -1,0 +1,62 @@
+-- Laws of runs of characters, and of the first character behind the longest line that is allowed.
+use Rattle.std.proofs.Common.{◌≡◌, ℕ, ◌+◌, ◌<◌, ◌≤◌, Bool, List, Option, Some, None, length, sym, subst, ap, ◌∙◌, arith, length-append}
+use Rattle.std.specs.Prelude.{slice_get}
+use Rattle.std.proofs.lemmas.Option.{slice_get_within}
+use Rattle.yf_chars.specs.Chain.{Many, One}
+use Rattle.yf_chars.specs.Chain.Chain.{done, step}
+use Rattle.yf_chars.specs.Chain.One.{one}
+use Rattle.yf_chars.proofs.ChainLemmas.{Meets, chain_meet, chain_forward, one_functional}
+use Rattle.yf_chars.proofs.ChainLemmas.Meets.{goes_on, falls_short}
+use Rattle.yf_lines.proofs.MarkLemmas.{marks_unique}
+use Rattle.yf_lines.proofs.TableLemmas.{some_same}
+use Rattle.yf_lines.specs.declared.line.Line.{Line}
+use Rattle.yf_lines.specs.Lines.{Marks, Table, is_char}
+use Rattle.yf_rules.specs.ByLine.{IsBehind, BeyondLimit}
+use Rattle.yf_rules.specs.ByLine.BeyondLimit.{beyond}
+use Rattle.yf_rules.specs.Exact.{Sole, Answers}
+
+-- a run without a character goes nowhere
+no_length : {t : List ℕ} {p : ℕ → Bool} {i j : ℕ} {z : List ℕ} → Many t p i j z → length z ≡ 0 → j ≤ i
+no_length done h = omega arith
+no_length (step (one a) c) h = absurd (omega arith)
+
+-- of two runs from one place the longer one ends no earlier
+by_meeting : (t : List ℕ) (j k : ℕ) (x y : List ℕ) → Meets (One t is_char) j k x y → length x ≤ length y → j ≤ k
+by_meeting t j k x y (goes_on z e q) l = chain_forward (one_functional t is_char) e
+by_meeting t j k x y (falls_short z e q) l = no_length e (let n : length x ≡ length y + length z = ap length q ∙ length-append y z in omega (arith, n, l))
+
+pub ends_later : (t : List ℕ) (i j k : ℕ) (x y : List ℕ) → Many t is_char i j x → Many t is_char i k y → length x ≤ length y → j ≤ k
+ends_later t i j k x y c d l = by_meeting t j k x y (chain_meet (one_functional t is_char) c d) l
+
+-- behind so many characters stands the end already
+pub too_short : (t : List ℕ) (start end count at passed : ℕ) (x : List ℕ) → Many t is_char start at x → length x ≡ passed → passed ≤ count → end ≤ at
+    → (o : ℕ) → IsBehind t start end count o → ⊥
+too_short t start end count at passed x m l w e o b =
+    let k = ends_later t start at o x b.characters m b.run (omega (arith, l, w, b.many)) in omega (arith, k, e, b.before)
+
+pub behind_all : (t : List ℕ) (start end count at passed : ℕ) (x : List ℕ) → Many t is_char start at x → length x ≡ passed → count ≡ passed → at < end
+    → Sole (IsBehind t start end count) at
+behind_all t start end count at passed x m l w e = record {
+  holds = record { characters = x; run = m; many = l ∙ sym w; before = e };
+  only = λ o b.
+      let h = ends_later t start at o x b.characters m b.run (omega (arith, l, w, b.many)) in
+      let k = ends_later t start o at b.characters x b.run m (omega (arith, l, w, b.many)) in
+      omega (arith, h, k);
+}
+
+-- of the line of an index
+in_line : {src : Table} {max k o : ℕ} → BeyondLimit src max k o → (l : Line) (start : ℕ) → slice_get src.lines k ≡ Some l → Marks src.text l.start start
+    → IsBehind src.text start l.end max o
+in_line {src} {max} {k} {o} (beyond {l = n} {start = s} e m b) l start f q =
+    let same : n ≡ l = some_same (sym e ∙ f) in
+    let m' : Marks src.text l.start s = subst (λ (v : Line). Marks src.text v.start s) same m in
+    let b' : IsBehind src.text s l.end max o = subst (λ (v : Line). IsBehind src.text s v.end max o) same b in
+    subst (λ v. IsBehind src.text v l.end max o) (marks_unique src.text l.start s start m' q) b'
+
+pub line_answers : (src : Table) (max k : ℕ) (l : Line) (start : ℕ) (answer : Option ℕ) → slice_get src.lines k ≡ Some l → Marks src.text l.start start
+    → Answers (IsBehind src.text start l.end max) answer → Answers (BeyondLimit src max k) answer
+line_answers src max k l start None e m a = λ o b. a o (in_line b l start e m)
+line_answers src max k l start (Some o) e m a = record { holds = beyond e m a.holds; only = λ p b. a.only p (in_line b l start e m) }
+
+pub beyond_within : {src : Table} {max k o : ℕ} → BeyondLimit src max k o → k < length src.lines
+beyond_within {src} {max} {k} (beyond {l} e m b) = slice_get_within src.lines k l e

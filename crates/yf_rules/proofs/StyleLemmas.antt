@@ -1,0 +1,53 @@
+-- Laws of scalars in another style than the one wanted.
+use Rattle.std.proofs.Common.{◌≡◌, ◌≢◌, ℕ, ◌<◌, List, Some, None, length, sym, subst, ap, ◌∙◌, arith}
+use Rattle.std.specs.Prelude.{slice_get}
+use Rattle.std.proofs.lemmas.List.{length-map}
+use Rattle.std.proofs.lemmas.Option.{slice_get_within}
+use Rattle.yf_emit.specs.ContentStart.{content_start}
+use Rattle.yf_emit.specs.Wanted.{wanted}
+use Rattle.yf_emit.specs.declared.style.Style.{Style}
+use Rattle.yf_events.specs.Event.{scalar_node}
+use Rattle.yf_events.specs.Reading.{events_of, spans_of}
+use Rattle.yf_events.specs.declared.event.ScalarStyle.{ScalarStyle}
+use Rattle.yf_events.specs.declared.event.Span.{Span}
+use Rattle.yf_events.specs.declared.lists.Lists.{Lists}
+use Rattle.yf_props.specs.Props.{PropsValue}
+use Rattle.yf_rules.specs.Exact.{Sole}
+use Rattle.yf_rules.specs.Scalars.{IsScalar}
+use Rattle.yf_rules.specs.Styles.{Misquoted}
+use Rattle.yf_rules.specs.Styles.Misquoted.{other_style}
+use Rattle.yf_rules.proofs.BlockLemmas.{event_same, part_same, scalar_same, style_same, text_same}
+
+module _ (t : List ℕ) (r : Lists) (house : Style) (i : ℕ) (props : PropsValue) (style : ScalarStyle) (text : List ℕ)
+    (e : slice_get (events_of r) i ≡ Some (scalar_node props style text)) where
+  pub as_wanted : wanted style text house.quotes ≡ style → (o : ℕ) → Misquoted t r house i o → ⊥
+  as_wanted w o (other_style {style = v} {text = x} h n) =
+      let q = event_same (sym h.event ∙ e) in
+      n (subst (λ y. wanted v y house.quotes ≡ v) (sym (text_same q)) (subst (λ y. wanted y text house.quotes ≡ y) (sym (style_same q)) w))
+
+  pub without_part : slice_get (spans_of r) i ≡ Some None → (o : ℕ) → Misquoted t r house i o → ⊥
+  without_part p o (other_style {s = s} h n) = nothing (part_same (sym h.part ∙ p)) where
+    nothing : {x : Span} → Some x ≡ None → ⊥
+    nothing e = cc
+
+  pub misquoted_found : (s : Span) → slice_get (spans_of r) i ≡ Some (Some s) → wanted style text house.quotes ≢ style → Sole (Misquoted t r house i) (content_start t s props)
+  misquoted_found s p n =
+      let is : IsScalar r i props style text s = record { event = e; part = p } in
+      record { holds = other_style is n; only = λ o h. there is h }
+    where
+      there : {s : Span} {o : ℕ} → IsScalar r i props style text s → Misquoted t r house i o → o ≡ content_start t s props
+      there {s} is (other_style {props = q} {s = z} h n) =
+          let w = scalar_same h is in ap (λ y. content_start t z y) w.props ∙ ap (λ y. content_start t y props) w.span
+
+pub misquoted_event : {t : List ℕ} {r : Lists} {house : Style} {i o : ℕ} → Misquoted t r house i o → i < length r.events
+misquoted_event {r = r} {i = i} (other_style {props} {style} {text} h n) =
+    let m = slice_get_within (events_of r) i (scalar_node props style text) h.event in omega (arith, m, length-map r.events (λ e. e.event))
+
+-- the same as the code has it
+pub misquoted_read : (t u : List ℕ) (r : Lists) (house : Style) (i : ℕ) (props : PropsValue) (style result : ScalarStyle) (text bytes : List ℕ) (s : Span) (start : ℕ) → u ≡ t
+    → slice_get (events_of r) i ≡ Some (scalar_node props style text) → bytes ≡ text → result ≡ wanted style bytes house.quotes → (result ≡ style → ⊥)
+    → slice_get (spans_of r) i ≡ Some (Some s) → start ≡ content_start u s props → Sole (Misquoted t r house i) start
+misquoted_read t u r house i props style result text bytes s start q e b w n p c =
+    let is : result ≡ wanted style text house.quotes = w ∙ ap (λ x. wanted style x house.quotes) b in
+    let found : Sole (Misquoted t r house i) (content_start t s props) = misquoted_found t r house i props style text e s p (λ h. n (is ∙ h)) in
+    subst (λ o. Sole (Misquoted t r house i) o) (sym (c ∙ ap (λ v. content_start v s props) q)) found
