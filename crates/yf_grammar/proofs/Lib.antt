@@ -1,0 +1,6 @@
+pub mod ClearLemmas
+pub mod Forward
+pub mod OneLine
+pub mod ParserLemmas
+pub mod Sound
+pub mod Ways
