@@ -1,12 +1,12 @@
 -- What the recursive reader finds covers no forbidden line.
-use Rattle.std.proofs.Common.{◌≡◌, ◌≢◌, ℕ, zero, suc, ◌+◌, ◌-◌, ◌<◌, ◌≤◌, ℤ, Bool, true, false, List, [], ◌∷◌, ◌++◌, Option, Some, None, refl, sym, ap, ◌∙◌, subst, ⊎_elim, arith, not, add-zero}
+use Rattle.std.proofs.Common.{◌≡◌, ◌≢◌, ℕ, zero, suc, ◌+◌, ◌-◌, ◌<◌, ◌≤◌, ℤ, Bool, true, false, List, Option, Some, None, refl, sym, ap, ◌∙◌, subst, arith, not, add-zero}
 use Rattle.std.proofs.lemmas.Bool.{true≢false, and_parts}
 use Rattle.std.proofs.lemmas.Bool.Decides.{nat_tests}
 use Rattle.std.specs.Str.{IsUtf8}
 use Rattle.yf_chars.specs.declared.context.Ctx.{Ctx}
-use Rattle.yf_chars.specs.Text.{code, next, no_char}
-use Rattle.yf_chars.specs.Class.{is_white, is_nb_char, is_ns_char, is_anchor_char, is_flow_indicator, is_printable, is_between, is_break_char}
-use Rattle.yf_chars.specs.Chain.{Chain, Many, Chosen, done, step, one}
+use Rattle.yf_chars.specs.Text.{code, no_char}
+use Rattle.yf_chars.specs.Class.{is_nb_char, is_ns_char, is_anchor_char, is_flow_indicator, is_printable, is_between, is_break_char}
+use Rattle.yf_chars.specs.Chain.{Chain, Many, done, step, one}
 use Rattle.yf_chars.proofs.TextLemmas.{reads_real, reads_byte}
 use Rattle.yf_lines.specs.Basic.{Forbidden, Clear, SeparateInLine, by_whites, at_start}
 use Rattle.yf_lines.proofs.BasicLemmas.{clear_join, clear_nothing}

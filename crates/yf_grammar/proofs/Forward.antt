@@ -1,5 +1,5 @@
 -- What is derived ends behind its start, or at it where it may be empty.
-use Rattle.std.proofs.Common.{ℕ, ℤ, Bool, true, false, ◌+◌, ◌<◌, ◌≤◌, List, arith}
+use Rattle.std.proofs.Common.{ℕ, ℤ, Bool, true, false, ◌<◌, ◌≤◌, List, arith}
 use Rattle.yf_chars.specs.declared.context.Ctx.{Ctx}
 use Rattle.yf_chars.specs.declared.context.Ctx.TheVariants.{FlowIn}
 use Rattle.yf_chars.specs.Chain.{Chain, Many, done, step}

@@ -1,9 +1,9 @@
 -- What stands on one line of a flow collection is derived as well as what a key is: at n = 0, in the context of a key.
-use Rattle.std.proofs.Common.{◌≡◌, ℕ, ℤ, pos, Bool, true, false, ◌+◌, ◌<◌, ◌≤◌, List, [], ◌∷◌, ◌++◌, length, refl, sym, ap, ◌∙◌, subst, inl, inr, ◌⊎◌, ⊎_elim, arith, append_assoc, append-nil}
+use Rattle.std.proofs.Common.{◌≡◌, ℕ, ℤ, pos, Bool, true, false, ◌+◌, ◌<◌, ◌≤◌, List, [], ◌∷◌, ◌++◌, length, refl, sym, ap, ◌∙◌, subst, inl, inr, ◌⊎◌, ⊎_elim, arith, append-nil}
 use Rattle.std.proofs.lemmas.Bool.{true≢false, cases_lt}
 use Rattle.yf_chars.specs.declared.context.Ctx.{Ctx}
 use Rattle.yf_chars.specs.declared.context.Ctx.TheVariants.{BlockOut, BlockIn, FlowOut, FlowIn, BlockKey, FlowKey}
-use Rattle.yf_chars.specs.Text.{code, next}
+use Rattle.yf_chars.specs.Text.{code}
 use Rattle.yf_chars.specs.Class.{is_white, is_break_char, is_nb_char, is_plain_safe}
 use Rattle.yf_chars.specs.Chain.{Chain, Many, done, step, one}
 use Rattle.yf_chars.proofs.ChainLemmas.{chain_append, chain_forward, chain_one, one_functional}
@@ -33,7 +33,7 @@ use Rattle.yf_grammar.specs.Grammar.{Production, MaySeparate, ValueSeparate, May
 use Rattle.yf_grammar.specs.Grammar as Grammar
 use Rattle.yf_grammar.specs.Meaning.{Meaning}
 use Rattle.yf_grammar.specs.Parser.{OnOneLine}
-use Rattle.yf_grammar.proofs.Forward.{alias_forward, anchor_forward, properties_forward, whites_forward, plain_forward, nexts_forward, Onward, chain_order, quoted_items_order, quoted_rest_order, single_onward, double_onward, fold_onward, double_break_onward, in_line_forward, items_forward, single_forward, double_forward, gap_forward, value_gap_forward, node_order, flow_order, content_order, entries_order, entry_order, explicit_order, implicit_order, value_order, key_order}
+use Rattle.yf_grammar.proofs.Forward.{anchor_forward, properties_forward, whites_forward, plain_forward, nexts_forward, Onward, quoted_items_order, quoted_rest_order, single_onward, double_onward, fold_onward, double_break_onward, in_line_forward, items_forward, gap_forward, value_gap_forward, node_order, flow_order, content_order, entries_order, entry_order, explicit_order, value_order, key_order}
 
 -- the contexts inside of a flow collection
 abbrev pub is_inner : Ctx → Bool

@@ -1,17 +1,16 @@
 -- Lemmas on the parts of the recursive reader.
-use Rattle.std.proofs.Common.{◌≡◌, ℕ, ℤ, ◌+◌, ◌<◌, ◌≤◌, Bool, true, false, List, [], ◌∷◌, ◌++◌, refl, sym, ap, ◌∙◌, subst, ⊎_elim, arith, append-nil}
+use Rattle.std.proofs.Common.{◌≡◌, ℕ, ℤ, ◌<◌, ◌≤◌, Bool, true, false, List, [], ◌++◌, refl, sym, ap, subst, ⊎_elim, arith, append-nil}
 use Rattle.std.proofs.lemmas.Bool.{cases_lt}
 use Rattle.yf_chars.specs.declared.context.Ctx.{Ctx}
-use Rattle.yf_chars.specs.Text.{code, no_char}
 use Rattle.yf_chars.specs.Class.{is_white}
-use Rattle.yf_chars.specs.Chain.{Chosen, Stuck, Many}
+use Rattle.yf_chars.specs.Chain.{Many}
 use Rattle.yf_chars.proofs.TextLemmas.{within_from_code}
-use Rattle.yf_lines.specs.Basic.{SeparateInLine, by_whites}
+use Rattle.yf_lines.specs.Basic.{by_whites}
 use Rattle.yf_comments.specs.Comment.{CommentValue}
 use Rattle.yf_comments.specs.Comments.{Separate}
 use Rattle.yf_grammar.specs.Grammar.{Production, MaySeparate, MaySeparateInLine, ValueSeparate, Derives}
 use Rattle.yf_grammar.specs.Grammar as Grammar
-use Rattle.yf_grammar.specs.Meaning.{Meaning, ◌⊕◌, behind, noting, collection}
+use Rattle.yf_grammar.specs.Meaning.{Meaning, ◌⊕◌, behind, collection}
 use Rattle.yf_grammar.specs.Parser.{Found, Gap, PairKey, only}
 use Rattle.yf_grammar.specs.Parser as Parser
 use Rattle.yf_grammar.proofs.Forward.{whites_forward}

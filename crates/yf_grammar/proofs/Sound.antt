@@ -1,9 +1,7 @@
 -- The recursive reader is sound: what it finds is derived, within the limit.
-use Rattle.std.proofs.Common.{◌≡◌, ℕ, suc, max, ◌+◌, ◌<◌, ◌≤◌, ℤ, pos, Bool, true, false, List, [], ◌∷◌, ◌++◌, Option, Some, None, refl, sym, ap, ◌∙◌, subst, arith}
+use Rattle.std.proofs.Common.{◌≡◌, ℕ, suc, max, ◌+◌, ◌≤◌, ℤ, Bool, true, false, List, [], ◌++◌, Option, Some, None, refl, sym, ap, ◌∙◌, subst, arith}
 use Rattle.yf_chars.specs.declared.context.Ctx.{Ctx}
-use Rattle.yf_chars.specs.declared.context.Ctx.TheVariants.{FlowKey}
 use Rattle.yf_chars.specs.Text.{code}
-use Rattle.yf_chars.specs.Chain.{Chosen, Stuck}
 use Rattle.yf_lines.specs.Basic.{is_block}
 use Rattle.yf_comments.specs.Comment.{CommentValue}
 use Rattle.yf_grammar.specs.Grammar.{Production, Derives, in_flow, opening, closing}
@@ -37,19 +35,9 @@ Sound t e (Parser.AnExplicit n c s i) (Some f) = is_inner c ≡ true → Made t 
 Sound t e (Parser.AnImplicit n c s i) (Some f) = is_inner c ≡ true → Made t e (Grammar.Implicit n c s) i f
 Sound t e (Parser.AValue json n c i) (Some f) = is_inner c ≡ true → ColonAt t json c i → Made t e (Grammar.ValueOf json n c) i f
 
-content_node : {t : List ℕ} {e i : ℕ} {n : ℤ} {c : Ctx} (o : Option Found) → Sound t e (Parser.AContent n c i) o → Sound t e (Parser.ANode n c i) o
-content_node None s = tt
-content_node {t} {i = i} {n = n} {c = c} (Some f) s = λ b.
-    let m = s b in
-    record { derived = subst (λ json. Derives t f.height (Grammar.NodeOf json n c) i f.end f.meaning) (sym m.0) (Grammar.a_json m.1.derived); within = m.1.within }
-
-implicit_entry : {t : List ℕ} {e i : ℕ} {n : ℤ} {c : Ctx} (o : Option Found) → Sound t e (Parser.AnImplicit n c i i) o → Sound t e (Parser.AnEntry false n c i) o
-implicit_entry None s = tt
-implicit_entry (Some f) s = λ q. let m = s q in record { derived = Grammar.an_implicit_entry m.derived; within = m.within }
-
-explicit_entry : {t : List ℕ} {e s i : ℕ} {n : ℤ} {c : Ctx} (o : Option Found) → Sound t e (Parser.AnImplicit n c s i) o → Sound t e (Parser.AnExplicit n c s i) o
-explicit_entry None s = tt
-explicit_entry (Some f) s = λ q. let m = s q in record { derived = Grammar.explicit_with m.derived; within = m.within }
+json_node : {t : List ℕ} {h i j : ℕ} {json : Bool} {n : ℤ} {c : Ctx} {x : Meaning} → json ≡ true → Derives t h (Grammar.NodeOf true n c) i j x
+    → Derives t h (Grammar.NodeOf json n c) i j x
+json_node {t} {h} {i} {j} {json} {n} {c} {x} e d = subst (λ b. Derives t h (Grammar.NodeOf b n c) i j x) (sym e) d
 
 -- the brackets round entries
 bracket_derived : {t : List ℕ} {e i k : ℕ} {n : ℤ} {c : Ctx} {cs : List CommentValue} {f : Found} (sequence : Bool) → is_block c ≡ false → code t i ≡ opening sequence
@@ -74,7 +62,7 @@ joined_closed {t} {i = i} {m = j} {sequence = sequence} {n = n} {c = c} {cs = cs
     let v = d.within in
     let height : f.height ≡ max f.height g.height = omega arith in
     let same : Same (noting f.meaning (cs ++ ds)) (noting f.meaning (cs ++ ds) ⊕ g.meaning) = rw m (same_before_nothing (noting f.meaning (cs ++ ds)) j) in
-    closed_behind (noting f.meaning (cs ++ ds)) (moved height (sym s) refl (Grammar.last_entry_with_comma d.derived (gap_separate a) b (gap_separate l) q)) (omega arith) same
+    closed_behind (noting f.meaning (cs ++ ds)) (moved height (sym s) refl (Grammar.last_entry_with_comma d.derived (gap_separate a) b (gap_separate l))) (omega arith) same
     (ap (code t) s ∙ q)
 joined_closed {cs = cs} {ds = ds} {f = f} {g = g} d a b l (closed_behind x r w s q) =
     let v = d.within in
@@ -86,11 +74,14 @@ sound (Parser.alias_read a) = λ b. record { derived = Grammar.an_alias b a.deri
 sound (Parser.alias_missed a s) = tt
 sound (Parser.plain_read a p) = λ b. record { derived = Grammar.a_plain p.derived.text; within = omega arith }
 sound (Parser.plain_missed a s) = tt
-sound (Parser.content_read {o = o} a p) = content_node o (sound p)
-sound (Parser.properties_missed a s) = tt
-sound {t} (Parser.properties_content {i = i} {n = n} {c = c} {f = f} g s a p) = λ b.
+sound (Parser.content_read {o = None} a p) = tt
+sound (Parser.content_read {o = Some f} a p) = λ b.
     let m = sound p b in
-    record { derived = subst (λ json. Derives t f.height (Grammar.NodeOf json n c) i f.end _) (sym m.0) (Grammar.a_json_with g.derived s.derived m.1.derived); within = m.1.within }
+    record { derived = json_node m.0 (Grammar.a_json m.1.derived); within = m.1.within }
+sound (Parser.properties_missed a s) = tt
+sound (Parser.properties_content g s a p) = λ b.
+    let m = sound p b in
+    record { derived = json_node m.0 (Grammar.a_json_with g.derived s.derived m.1.derived); within = m.1.within }
 sound (Parser.properties_plain g s a p) = λ b. record { derived = Grammar.a_plain_with g.derived s.derived p.derived.text; within = omega arith }
 sound (Parser.properties_end g s) = λ b. record { derived = Grammar.properties_alone b g.derived; within = omega arith }
 sound (Parser.properties_before_broken g s a p) = λ b. record { derived = Grammar.properties_alone b g.derived; within = omega arith }
@@ -115,10 +106,13 @@ sound (Parser.entry_then_missed cs ds a p g b h r) = tt
 sound (Parser.entry_unclosed cs a p g b d) = tt
 sound (Parser.mapping_explicit a s p) = λ q. let m = sound p q in record { derived = Grammar.an_explicit_entry a s.derived m.derived; within = m.within }
 sound (Parser.mapping_explicit_missed cs a s p) = tt
-sound (Parser.mapping_sign_alone {o = o} a s p) = implicit_entry o (sound p)
-sound (Parser.mapping_implicit {o = o} a p) = implicit_entry o (sound p)
+sound (Parser.mapping_sign_alone {o = None} a s p) = tt
+sound (Parser.mapping_sign_alone {o = Some f} a s p) = λ q. let m = sound p q in record { derived = Grammar.an_implicit_entry m.derived; within = m.within }
+sound (Parser.mapping_implicit {o = None} a p) = tt
+sound (Parser.mapping_implicit {o = Some f} a p) = λ q. let m = sound p q in record { derived = Grammar.an_implicit_entry m.derived; within = m.within }
 sound (Parser.explicit_nothing {c = c} a) = λ q. record { derived = Grammar.explicit_without (inner_no_block c q); within = omega arith }
-sound (Parser.explicit_something {o = o} a p) = explicit_entry o (sound p)
+sound (Parser.explicit_something {o = None} a p) = tt
+sound (Parser.explicit_something {o = Some f} a p) = λ q. let m = sound p q in record { derived = Grammar.explicit_with m.derived; within = m.within }
 sound (Parser.lone_value a p) = λ q. let m = sound p q a in record { derived = Grammar.value_alone m.derived; within = m.within }
 sound (Parser.key_missed a p) = tt
 sound (Parser.key_with_value {c = c} a p g b r) = λ q.

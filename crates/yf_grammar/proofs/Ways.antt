@@ -1,10 +1,9 @@
 -- Ways to an outcome: a test, the longest part of a leaf production, or the outcome of another task decides how to go on.
 -- Two ways of one form lead to one outcome.
-use Rattle.std.proofs.Common.{◌≡◌, ℕ, zero, suc, ◌+◌, ◌<◌, ◌≤◌, ℤ, Bool, true, false, List, [], ◌∷◌, Option, Some, None, refl, sym, ap, ◌∙◌, subst, arith}
+use Rattle.std.proofs.Common.{◌≡◌, ℕ, suc, ℤ, Bool, List, Option, Some, None, refl, sym, ◌∙◌, subst, arith}
 use Rattle.yf_chars.specs.declared.context.Ctx.{Ctx}
 use Rattle.yf_chars.specs.Chain.{Chosen, Stuck}
 use Rattle.yf_comments.specs.Comment.{CommentValue}
-use Rattle.yf_comments.specs.Comments.{Separate}
 use Rattle.yf_grammar.specs.Parser.{Found, Gap}
 use Rattle.yf_grammar.specs.Parser as Parser
 
