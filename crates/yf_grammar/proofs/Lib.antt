@@ -1,6 +1,7 @@
 pub mod ClearLemmas
 pub mod Forward
 pub mod OneLine
+pub mod Outcome
 pub mod ParserLemmas
 pub mod Sound
 pub mod Ways
