@@ -1,21 +1,20 @@
 -- The recursive reader has one outcome: each task goes one way, which the text and the limit decide.
-use Rattle.std.proofs.Common.{◌≡◌, ◌≢◌, ℕ, zero, suc, max, ◌+◌, ◌<◌, ◌≤◌, ℤ, Bool, true, false, ◌==◌, ◌||◌, not, List, [], ◌∷◌, ◌++◌, Option, Some, None, refl, sym, ap, ◌∙◌, subst, ⊎_elim, arith, encode_utf8_all}
-use Rattle.std.proofs.lemmas.Bool.{true≢false, cases_eq, cases_Bool}
+use Rattle.std.proofs.Common.{◌≡◌, ◌≢◌, ℕ, suc, max, ◌+◌, ◌<◌, ◌≤◌, ℤ, Bool, true, false, ◌==◌, ◌||◌, not, List, [], ◌++◌, Option, Some, None, refl, sym, ap, ◌∙◌, ⊎_elim, arith, encode_utf8_all}
+use Rattle.std.proofs.lemmas.Bool.{true≢false, cases_eq}
 use Rattle.std.proofs.lemmas.Bool.Decides.{nat_tests}
 use Rattle.yf_chars.specs.declared.context.Ctx.{Ctx}
 use Rattle.yf_chars.specs.Text.{code}
 use Rattle.yf_chars.specs.Class.{is_white}
-use Rattle.yf_chars.specs.Chain.{Chosen, Stuck}
+use Rattle.yf_chars.specs.Chain.{Stuck}
 use Rattle.yf_chars.proofs.ChainLemmas.{many_unique}
-use Rattle.yf_comments.specs.Comment.{CommentValue}
 use Rattle.yf_comments.specs.Comments.{Separate}
 use Rattle.yf_events.specs.declared.event.ScalarStyle.TheVariants.{Plain as PlainStyle, Single as SingleStyle, Double as DoubleStyle}
 use Rattle.yf_plain.specs.Plain.{Plain}
 use Rattle.yf_props.specs.Names.{Alias, asterisk_name, Anchor, ampersand_name, Properties, by_tag, by_anchor, tag_first, anchor_first, PropertiesValue}
 use Rattle.yf_props.proofs.TagLemmas.{tag_mark}
-use Rattle.yf_quoted.specs.Quoted.{Piece, text_of, SingleQuoted, DoubleQuoted}
+use Rattle.yf_quoted.specs.Quoted.{text_of, SingleQuoted, DoubleQuoted}
 use Rattle.yf_grammar.specs.Grammar.{bad_escapes, in_flow, opening, closing}
-use Rattle.yf_grammar.specs.Meaning.{Meaning, ◌⊕◌, behind, noting, scalar, alias_to, empty_node, entering}
+use Rattle.yf_grammar.specs.Meaning.{◌⊕◌, behind, noting, scalar, alias_to, empty_node, entering}
 use Rattle.yf_grammar.specs.Parser.{Found, Task, Parses, Gap, ColonAt, PairKey, found, plain_found, propertied, lone_properties, bracketed, joined, paired, pair_entry, only, begins_alias, begins_properties, begins_content, begins_plain}
 use Rattle.yf_grammar.specs.Parser as Parser
 use Rattle.yf_grammar.proofs.Ways.{Agree, Is, Never, Fork, one_way, other_way, Takes, taken, not_taken, Past, past, Finds, finds, finds_none, Limited, below, at_zero, Somewhere, there, nowhere, Flagged, flagged, is_agree, never_agree, fork_agree, takes_agree, past_agree, finds_agree, limited_agree, somewhere_agree, flagged_agree}
@@ -298,5 +297,118 @@ pub way_of : {t : List ℕ} {e : ℕ} {task : Task} {o : Option Found} → Parse
 way_of p = ways (λ d other o q w. q) p
 
 -- a task has no other outcome than this
-Only : List ℕ → Outcomes
+abbrev Only : List ℕ → Outcomes
 Only t e task o = (p : Option Found) → Parses t e task p → o ≡ p
+
+task_agree : (t : List ℕ) (e : ℕ) (task : Task) → Agree (Only t e task) (Parses t e task)
+task_agree t e task = record { same = λ o p f r. f p r }
+
+task_same : (t : List ℕ) (e : ℕ) (task : Task) (o p : Option Found) → Only t e task o → Parses t e task p → o ≡ p
+task_same t e task o p f r = f p r
+
+true_false : (b : Bool) → b ≡ true → b ≡ false → ⊥
+true_false b x y = true≢false (sym x ∙ y)
+
+module _ (t : List ℕ) (e : ℕ) (n : ℤ) (c : Ctx) where
+  behind_properties_agree : (i g : ℕ) (p : PropertiesValue) → Agree (BehindProperties (Only t) t e n c i g p) (BehindProperties (Parses t) t e n c i g p)
+  behind_properties_agree i g p = takes_agree (Separate t n c g)
+      (λ k cs. fork_agree (true_false (begins_content (code t k)))
+      (finds_agree (task_same t e (Parser.AContent n c k)) (λ f. is_agree) is_agree)
+      (takes_agree (Plain t n c k) (λ j x. is_agree) is_agree))
+      is_agree
+
+  node_agree : (i : ℕ) → Agree (NodeWay (Only t) t e n c i) (NodeWay (Parses t) t e n c i)
+  node_agree i = fork_agree (true_false (begins_alias (code t i)))
+      (takes_agree (Alias t i) (λ j x. is_agree) is_agree)
+      (fork_agree (true_false (begins_properties (code t i)))
+      (takes_agree (Properties t n c i) (λ g p. behind_properties_agree i g p) is_agree)
+      (fork_agree (true_false (begins_content (code t i)))
+      (task_agree t e (Parser.AContent n c i))
+      (takes_agree (Plain t n c i) (λ j x. is_agree) is_agree)))
+
+  bracket_agree : (i : ℕ) → Agree (BracketWay (Only t) t e n c i) (BracketWay (Parses t) t e n c i)
+  bracket_agree i = flagged_agree (opening_one (code t i))
+      (λ s. limited_agree e
+      (λ d. past_agree t n c (i + 1) (λ k cs. finds_agree (task_same t d (Parser.TheEntries s n (in_flow c) k)) (λ f. is_agree) is_agree))
+      is_agree)
+
+  content_agree : (i : ℕ) → Agree (ContentWay (Only t) t e n c i) (ContentWay (Parses t) t e n c i)
+  content_agree i = fork_agree (λ x y. y x)
+      (takes_agree (SingleQuoted t n c i) (λ j x. is_agree) is_agree)
+      (fork_agree (λ x y. y x)
+      (takes_agree (DoubleQuoted t n c i) (λ j x. is_agree) is_agree)
+      (bracket_agree i))
+
+  behind_entry_agree : (s : Bool) (f : Found) → Agree (BehindEntry (Only t) t e s n c f) (BehindEntry (Parses t) t e s n c f)
+  behind_entry_agree s f = past_agree t n c f.end (λ k cs. fork_agree (λ x y. y x)
+      is_agree
+      (fork_agree (λ x y. y x)
+      (past_agree t n c (k + 1) (λ m ds. finds_agree (task_same t e (Parser.TheEntries s n c m)) (λ g. is_agree) is_agree))
+      is_agree))
+
+  entries_agree : (s : Bool) (i : ℕ) → Agree (EntriesWay (Only t) t e s n c i) (EntriesWay (Parses t) t e s n c i)
+  entries_agree s i = fork_agree (λ x y. y x) is_agree
+      (finds_agree (task_same t e (Parser.AnEntry s n c i)) (λ f. behind_entry_agree s f) is_agree)
+
+  mapping_agree : (i : ℕ) → Agree (MappingWay (Only t) t e n c i) (MappingWay (Parses t) t e n c i)
+  mapping_agree i = fork_agree (λ x y. y x)
+      (takes_agree (Separate t n c (i + 1)) (λ k cs. finds_agree (task_same t e (Parser.AnExplicit n c i k)) (λ f. is_agree) is_agree)
+      (task_agree t e (Parser.AnImplicit n c i i)))
+      (task_agree t e (Parser.AnImplicit n c i i))
+
+  node_item_agree : (i : ℕ) (f : Found) → Agree (NodeItemWay (Only t) t e n c i f) (NodeItemWay (Parses t) t e n c i f)
+  node_item_agree i f = somewhere_agree pair_key_one
+      (λ k. fork_agree (λ x y. omega arith)
+      (limited_agree e (λ d. finds_agree (task_same t d (Parser.AValue f.json n c k)) (λ g. is_agree) never_agree) never_agree)
+      is_agree)
+      is_agree
+
+  unsigned_agree : (i : ℕ) → Agree (UnsignedWay (Only t) t e n c i) (UnsignedWay (Parses t) t e n c i)
+  unsigned_agree i = fork_agree (λ x y. y x)
+      (limited_agree e (λ d. finds_agree (task_same t d (Parser.AValue false n c i)) (λ f. is_agree) never_agree) is_agree)
+      (finds_agree (task_same t e (Parser.ANode n c i)) (λ f. node_item_agree i f) is_agree)
+
+  item_agree : (i : ℕ) → Agree (ItemWay (Only t) t e n c i) (ItemWay (Parses t) t e n c i)
+  item_agree i = fork_agree (λ x y. y x)
+      (takes_agree (Separate t n c (i + 1))
+      (λ k cs. limited_agree e (λ d. finds_agree (task_same t d (Parser.AnExplicit n c i k)) (λ f. is_agree) is_agree) is_agree)
+      (unsigned_agree i))
+      (unsigned_agree i)
+
+  explicit_agree : (s i : ℕ) → Agree (ExplicitWay (Only t) t e n c s i) (ExplicitWay (Parses t) t e n c s i)
+  explicit_agree s i = fork_agree (true_false ((code t i == 44) || (code t i == 93) || (code t i == 125))) is_agree (task_agree t e (Parser.AnImplicit n c s i))
+
+  behind_key_agree : (s : ℕ) (f : Found) → Agree (BehindKey (Only t) t e n c s f) (BehindKey (Parses t) t e n c s f)
+  behind_key_agree s f = past_agree t n c f.end (λ k cs. fork_agree (λ x y. y x)
+      (finds_agree (task_same t e (Parser.AValue f.json n c k)) (λ g. is_agree) never_agree)
+      is_agree)
+
+  implicit_agree : (s i : ℕ) → Agree (ImplicitWay (Only t) t e n c s i) (ImplicitWay (Parses t) t e n c s i)
+  implicit_agree s i = fork_agree (λ x y. y x)
+      (finds_agree (task_same t e (Parser.AValue false n c i)) (λ f. is_agree) never_agree)
+      (finds_agree (task_same t e (Parser.ANode n c i)) (λ f. behind_key_agree s f) is_agree)
+
+  adjacent_agree : (json : Bool) (i : ℕ) → Agree (AdjacentWay (Only t) t e json n c i) (AdjacentWay (Parses t) t e json n c i)
+  adjacent_agree true i = finds_agree (task_same t e (Parser.ANode n c (i + 1))) (λ f. is_agree) is_agree
+  adjacent_agree false i = is_agree
+
+  value_agree : (json : Bool) (i : ℕ) → Agree (ValueWay (Only t) t e json n c i) (ValueWay (Parses t) t e json n c i)
+  value_agree json i = takes_agree (Separate t n c (i + 1))
+      (λ k cs. finds_agree (task_same t e (Parser.ANode n c k)) (λ f. is_agree) is_agree)
+      (adjacent_agree json i)
+
+agree : (t : List ℕ) (e : ℕ) (task : Task) → Agree (Way (Only t) t e task) (Way (Parses t) t e task)
+agree t e (Parser.ANode n c i) = node_agree t e n c i
+agree t e (Parser.AContent n c i) = content_agree t e n c i
+agree t e (Parser.TheEntries s n c i) = entries_agree t e n c s i
+agree t e (Parser.AnEntry true n c i) = item_agree t e n c i
+agree t e (Parser.AnEntry false n c i) = mapping_agree t e n c i
+agree t e (Parser.AnExplicit n c s i) = explicit_agree t e n c s i
+agree t e (Parser.AnImplicit n c s i) = implicit_agree t e n c s i
+agree t e (Parser.AValue json n c i) = value_agree t e n c json i
+
+-- a task has one outcome within a limit
+pub outcome_is_one : {t : List ℕ} {e : ℕ} {task : Task} {o p : Option Found} → Parses t e task o → Parses t e task p → o ≡ p
+outcome_is_one {t} {e} {task} {o} {p} a b =
+    let first = ways {R = Only t} (λ d other q x w r y. (agree t d other).same q r w (way_of y)) a in
+    (agree t e task).same o p first (way_of b)

@@ -65,8 +65,8 @@ gap_one (Parser.longest_gap {j = j} {cs = cs} a) (Parser.no_gap b) = absurd (b.n
 gap_one (Parser.no_gap a) (Parser.longest_gap {j = j} {cs = cs} b) = absurd (a.none j cs b.derived)
 gap_one (Parser.no_gap a) (Parser.no_gap b) = (refl, refl)
 
-pub is_agree : (r : Option Found) → Agree (Is r) (Is r)
-is_agree r = record { same = λ o p a b. a.known ∙ sym b.known }
+pub is_agree : {r : Option Found} → Agree (Is r) (Is r)
+is_agree = record { same = λ o p a b. a.known ∙ sym b.known }
 
 pub never_agree : Agree Never Never
 never_agree = record { same = λ o p a b. absurd a }
