@@ -3,5 +3,6 @@ pub mod Forward
 pub mod OneLine
 pub mod Outcome
 pub mod ParserLemmas
+pub mod Parts
 pub mod Sound
 pub mod Ways
