@@ -24,7 +24,7 @@ abbrev pub Outcomes : Type 1
 Outcomes = ℕ → Task → Option Found → Type 0
 
 -- what stands behind properties that end at g
-abbrev BehindProperties : Outcomes → List ℕ → ℕ → ℤ → Ctx → ℕ → ℕ → PropertiesValue → Option Found → Type 0
+abbrev pub BehindProperties : Outcomes → List ℕ → ℕ → ℤ → Ctx → ℕ → ℕ → PropertiesValue → Option Found → Type 0
 BehindProperties R t e n c i g p = Takes (Separate t n c g)
     (λ k cs. Fork (begins_content (code t k) ≡ true) (begins_content (code t k) ≡ false)
     (Finds (R e (Parser.AContent n c k)) (λ f. Is (propertied p cs i g f)) (Is (lone_properties p i g)))
@@ -33,7 +33,7 @@ BehindProperties R t e n c i g p = Takes (Separate t n c g)
     (Is (lone_properties p i g))))
     (Is (lone_properties p i g))
 
-abbrev NodeWay : Outcomes → List ℕ → ℕ → ℤ → Ctx → ℕ → Option Found → Type 0
+abbrev pub NodeWay : Outcomes → List ℕ → ℕ → ℤ → Ctx → ℕ → Option Found → Type 0
 NodeWay R t e n c i = Fork (begins_alias (code t i) ≡ true) (begins_alias (code t i) ≡ false)
     (Takes (Alias t i) (λ j name. Is (found j 0 false (alias_to name i j))) (Is None))
     (Fork (begins_properties (code t i) ≡ true) (begins_properties (code t i) ≡ false)
@@ -42,13 +42,13 @@ NodeWay R t e n c i = Fork (begins_alias (code t i) ≡ true) (begins_alias (cod
     (R e (Parser.AContent n c i))
     (Takes (Plain t n c i) (λ j x. Is (plain_found x i j)) (Is None))))
 
-abbrev BracketWay : Outcomes → List ℕ → ℕ → ℤ → Ctx → ℕ → Option Found → Type 0
+abbrev pub BracketWay : Outcomes → List ℕ → ℕ → ℤ → Ctx → ℕ → Option Found → Type 0
 BracketWay R t e n c i = Flagged (λ s. code t i ≡ opening s)
     (λ s. Limited e
     (λ d. Past t n c (i + 1) (λ k cs. Finds (R d (Parser.TheEntries s n (in_flow c) k)) (λ f. Is (bracketed s i cs f)) (Is None)))
     (Is None))
 
-abbrev ContentWay : Outcomes → List ℕ → ℕ → ℤ → Ctx → ℕ → Option Found → Type 0
+abbrev pub ContentWay : Outcomes → List ℕ → ℕ → ℤ → Ctx → ℕ → Option Found → Type 0
 ContentWay R t e n c i = Fork (code t i ≡ 39) (code t i ≢ 39)
     (Takes (SingleQuoted t n c i) (λ j x. Is (found j 0 true (scalar SingleStyle (encode_utf8_all x) [] i j))) (Is None))
     (Fork (code t i ≡ 34) (code t i ≢ 34)
@@ -56,19 +56,19 @@ ContentWay R t e n c i = Fork (code t i ≡ 39) (code t i ≢ 39)
     (BracketWay R t e n c i))
 
 -- what stands behind an entry
-abbrev BehindEntry : Outcomes → List ℕ → ℕ → Bool → ℤ → Ctx → Found → Option Found → Type 0
+abbrev pub BehindEntry : Outcomes → List ℕ → ℕ → Bool → ℤ → Ctx → Found → Option Found → Type 0
 BehindEntry R t e s n c f = Past t n c f.end (λ k cs. Fork (code t k ≡ closing s) (code t k ≢ closing s)
     (Is (found k f.height true (noting f.meaning cs)))
     (Fork (code t k ≡ 44) (code t k ≢ 44)
     (Past t n c (k + 1) (λ m ds. Finds (R e (Parser.TheEntries s n c m)) (λ g. Is (joined f (cs ++ ds) g)) (Is None)))
     (Is None)))
 
-abbrev EntriesWay : Outcomes → List ℕ → ℕ → Bool → ℤ → Ctx → ℕ → Option Found → Type 0
+abbrev pub EntriesWay : Outcomes → List ℕ → ℕ → Bool → ℤ → Ctx → ℕ → Option Found → Type 0
 EntriesWay R t e s n c i = Fork (code t i ≡ closing s) (code t i ≢ closing s)
     (Is (found i 0 true (only [] i)))
     (Finds (R e (Parser.AnEntry s n c i)) (λ f. BehindEntry R t e s n c f) (Is None))
 
-abbrev MappingWay : Outcomes → List ℕ → ℕ → ℤ → Ctx → ℕ → Option Found → Type 0
+abbrev pub MappingWay : Outcomes → List ℕ → ℕ → ℤ → Ctx → ℕ → Option Found → Type 0
 MappingWay R t e n c i = Fork (code t i ≡ 63) (code t i ≢ 63)
     (Takes (Separate t n c (i + 1))
     (λ k cs. Finds (R e (Parser.AnExplicit n c i k)) (λ f. Is (Some (record f { meaning = behind cs f.meaning }))) (Is None))
@@ -76,7 +76,7 @@ MappingWay R t e n c i = Fork (code t i ≡ 63) (code t i ≢ 63)
     (R e (Parser.AnImplicit n c i i))
 
 -- an entry of a sequence that begins with no sign: what its node is
-abbrev NodeItemWay : Outcomes → List ℕ → ℕ → ℤ → Ctx → ℕ → Found → Option Found → Type 0
+abbrev pub NodeItemWay : Outcomes → List ℕ → ℕ → ℤ → Ctx → ℕ → Found → Option Found → Type 0
 NodeItemWay R t e n c i f = Somewhere (PairKey t c i f)
     (λ k. Fork (f.height < e) (e ≤ f.height)
     (Limited e
@@ -87,14 +87,14 @@ NodeItemWay R t e n c i f = Somewhere (PairKey t c i f)
     (Is None))
     (Is (Some (record f { meaning = entering i None f.meaning })))
 
-abbrev UnsignedWay : Outcomes → List ℕ → ℕ → ℤ → Ctx → ℕ → Option Found → Type 0
+abbrev pub UnsignedWay : Outcomes → List ℕ → ℕ → ℤ → Ctx → ℕ → Option Found → Type 0
 UnsignedWay R t e n c i = Fork (ColonAt t false c i) (ColonAt t false c i → ⊥)
     (Limited e
     (λ d. Finds (R d (Parser.AValue false n c i)) (λ f. Is (pair_entry i (record f { meaning = entering i (Some i) (empty_node i) ⊕ f.meaning }))) Never)
     (Is None))
     (Finds (R e (Parser.ANode n c i)) (λ f. NodeItemWay R t e n c i f) (Is None))
 
-abbrev ItemWay : Outcomes → List ℕ → ℕ → ℤ → Ctx → ℕ → Option Found → Type 0
+abbrev pub ItemWay : Outcomes → List ℕ → ℕ → ℤ → Ctx → ℕ → Option Found → Type 0
 ItemWay R t e n c i = Fork (code t i ≡ 63) (code t i ≢ 63)
     (Takes (Separate t n c (i + 1))
     (λ k cs. Limited e
@@ -103,28 +103,28 @@ ItemWay R t e n c i = Fork (code t i ≡ 63) (code t i ≢ 63)
     (UnsignedWay R t e n c i))
     (UnsignedWay R t e n c i)
 
-abbrev ExplicitWay : Outcomes → List ℕ → ℕ → ℤ → Ctx → ℕ → ℕ → Option Found → Type 0
+abbrev pub ExplicitWay : Outcomes → List ℕ → ℕ → ℤ → Ctx → ℕ → ℕ → Option Found → Type 0
 ExplicitWay R t e n c s i = Fork ((code t i == 44) || (code t i == 93) || (code t i == 125) ≡ true) ((code t i == 44) || (code t i == 93) || (code t i == 125) ≡ false)
     (Is (found i 0 false (entering s None (empty_node (s + 1)) ⊕ empty_node (s + 1))))
     (R e (Parser.AnImplicit n c s i))
 
 -- what stands behind a key
-abbrev BehindKey : Outcomes → List ℕ → ℕ → ℤ → Ctx → ℕ → Found → Option Found → Type 0
+abbrev pub BehindKey : Outcomes → List ℕ → ℕ → ℤ → Ctx → ℕ → Found → Option Found → Type 0
 BehindKey R t e n c s f = Past t n c f.end (λ k cs. Fork (ColonAt t f.json c k) (ColonAt t f.json c k → ⊥)
     (Finds (R e (Parser.AValue f.json n c k)) (λ g. Is (paired s k f cs g)) Never)
     (Is (Some (record f { meaning = entering s None f.meaning ⊕ empty_node f.meaning.finish }))))
 
-abbrev ImplicitWay : Outcomes → List ℕ → ℕ → ℤ → Ctx → ℕ → ℕ → Option Found → Type 0
+abbrev pub ImplicitWay : Outcomes → List ℕ → ℕ → ℤ → Ctx → ℕ → ℕ → Option Found → Type 0
 ImplicitWay R t e n c s i = Fork (ColonAt t false c i) (ColonAt t false c i → ⊥)
     (Finds (R e (Parser.AValue false n c i)) (λ f. Is (Some (record f { meaning = entering s (Some i) (empty_node i) ⊕ f.meaning }))) Never)
     (Finds (R e (Parser.ANode n c i)) (λ f. BehindKey R t e n c s f) (Is None))
 
 -- a value with no separation before it
-abbrev AdjacentWay : Outcomes → List ℕ → ℕ → Bool → ℤ → Ctx → ℕ → Option Found → Type 0
+abbrev pub AdjacentWay : Outcomes → List ℕ → ℕ → Bool → ℤ → Ctx → ℕ → Option Found → Type 0
 AdjacentWay R t e true n c i = Finds (R e (Parser.ANode n c (i + 1))) (λ f. Is (Some f)) (Is (found (i + 1) 0 false (empty_node (i + 1))))
 AdjacentWay R t e false n c i = Is (found (i + 1) 0 false (empty_node (i + 1)))
 
-abbrev ValueWay : Outcomes → List ℕ → ℕ → Bool → ℤ → Ctx → ℕ → Option Found → Type 0
+abbrev pub ValueWay : Outcomes → List ℕ → ℕ → Bool → ℤ → Ctx → ℕ → Option Found → Type 0
 ValueWay R t e json n c i = Takes (Separate t n c (i + 1))
     (λ k cs. Finds (R e (Parser.ANode n c k)) (λ f. Is (Some (record f { meaning = behind cs f.meaning }))) (Is (found (i + 1) 0 false (empty_node (i + 1)))))
     (AdjacentWay R t e json n c i)
