@@ -5,6 +5,8 @@ pub mod Formatted
 pub mod Kept
 pub mod Keys
 pub mod Layout
+pub mod Measures
+pub mod Measuring
 pub mod Normal
 pub mod OneLine
 pub mod ReadingOf

@@ -1,5 +1,5 @@
 //! Where comments stand among the nodes.
-ghost use Rattle.std.specs.Prelude.{◌≡◌, ◌≤◌, false, length, nat_lt, true, MatchOption};
+ghost use Rattle.std.specs.Prelude.{◌≡◌, ◌<◌, ◌≤◌, false, length, nat_lt, true, IfSome, MatchOption};
 ghost use Rattle.std.specs.List.{AllWithin, HoldsAt};
 ghost use Rattle.std.specs.List.Sorted.{IsNonDecreasingBy, IsPartitionPoint};
 ghost use Rattle.yf_comments.specs.Comment.{comment_value};
@@ -27,7 +27,8 @@ pub fn count_before(comments: &[Comment], offset: usize) -> usize
 
 /// The first comment that begins at the byte offset `from` or later and before `to`, as an index.
 pub fn first_between(comments: &[Comment], from: usize, to: usize) -> Option<usize>
-    ensures { IsNonDecreasingBy (λ c. c.offset) comments.now → MatchOption result (AllWithin (λ c. is_within from to (comment_value c) ≡ false) comments.now 0 (length comments.now)) (λ k. AllWithin (λ c. is_within from to (comment_value c) ≡ false) comments.now 0 k × HoldsAt (λ c. is_within from to (comment_value c) ≡ true) comments.now k) }
+    ensures within { IfSome result (λ k. k < length comments.now) }
+    ensures first { IsNonDecreasingBy (λ c. c.offset) comments.now → MatchOption result (AllWithin (λ c. is_within from to (comment_value c) ≡ false) comments.now 0 (length comments.now)) (λ k. AllWithin (λ c. is_within from to (comment_value c) ≡ false) comments.now 0 k × HoldsAt (λ c. is_within from to (comment_value c) ≡ true) comments.now k) }
 {
     let k = count_before(comments, from);
     if k < comments.len() {

@@ -1,19 +1,81 @@
-//! How many characters a node's text has that is written on one line.
+//! How many characters a node's text has that is written on one line. Numbers are cut at the greatest `usize`.
+ghost use Rattle.std.specs.Prelude.{◌≡◌, chars, is_some, length, Some};
+ghost use Rattle.std.specs.Str.{IsUtf8};
+ghost use Rattle.yf_chars.specs.Escape as Escape;
+ghost use Rattle.yf_chars.specs.Escape.{spelled};
+ghost use Rattle.yf_emit.specs.Measures as Measures;
+ghost use Rattle.yf_emit.specs.Measures.{up_to_greatest};
+ghost use Rattle.yf_emit.specs.OneLine.{anchor_text, props_text, tag_text, width};
+ghost use Rattle.yf_props.specs.Props.{name_value, optional_tag_value, props_value, tag_value};
+ghost use Rattle.yf_quoted.specs.Written.{double_bytes, single_bytes, twice};
 
 use yf_events::event::ScalarStyle;
 use yf_props::props::{Props, Tag};
 
-/// How many characters the spelling of one has in double quotes.
-fn spelled_width(c: char) -> usize {
-    match c {
-        '"' | '\\' | '\n' | '\t' | '\r' | '\0' => 2,
-        '\u{1}'..='\u{1f}' | '\u{7f}'..='\u{a0}' => 4,
-        '\u{2028}' | '\u{2029}' | '\u{feff}' | '\u{fffe}' | '\u{ffff}' => 6,
-        _ => 1,
-    }
+/// How many characters a text has.
+pub fn char_count(text: &str) -> usize
+    ensures count { result ≡ up_to_greatest (width text.now) }
+    ensures utf8 { IsUtf8 text.now }
+{
+    text.chars().count()
 }
 
-fn double_width(text: &str) -> usize {
+/// Whether a character is spelled by a backslash and a letter.
+#[tactic(auto, unfolding(yf_chars::specs::Escape::short_name))]
+fn is_by_letter(c: char) -> bool
+    ensures { result ≡ is_some (Escape.short_name c) }
+{
+    matches!(c, '"' | '\\' | '\n' | '\t' | '\r' | '\0')
+}
+
+/// Whether another one is spelled by two digits.
+#[tactic(auto, unfolding(yf_chars::specs::Escape::is_by_two, yf_chars::specs::Class::is_between))]
+fn is_by_two(c: char) -> bool
+    ensures { result ≡ Escape.is_by_two c }
+{
+    matches!(c, '\0'..='\u{1f}' | '\u{7f}'..='\u{a0}')
+}
+
+/// Whether another one is spelled by four digits.
+#[tactic(auto, unfolding(yf_chars::specs::Escape::is_by_four))]
+fn is_by_four(c: char) -> bool
+    ensures { result ≡ Escape.is_by_four c }
+{
+    matches!(
+        c,
+        '\u{2028}' | '\u{2029}' | '\u{feff}' | '\u{fffe}' | '\u{ffff}'
+    )
+}
+
+/// How many characters the spelling of one has in double quotes.
+fn spelled_width(c: char) -> usize
+    ensures { result ≡ length (spelled c) }
+{
+    if is_by_letter(c) {
+        return 2;
+    }
+    if is_by_two(c) {
+        return 4;
+    }
+    if is_by_four(c) {
+        return 6;
+    }
+    1
+}
+
+/// A quote is written twice in single quotes.
+fn twice_width(c: char) -> usize
+    ensures { result ≡ length (twice c) }
+{
+    if c == '\'' {
+        return 2;
+    }
+    1
+}
+
+fn double_width(text: &str) -> usize
+    ensures { result ≡ up_to_greatest (width (double_bytes (chars text.now))) }
+{
     let mut width = 2usize;
     for c in text.chars() {
         width = width.saturating_add(spelled_width(c));
@@ -21,39 +83,44 @@ fn double_width(text: &str) -> usize {
     width
 }
 
-fn single_width(text: &str) -> usize {
+fn single_width(text: &str) -> usize
+    ensures { result ≡ up_to_greatest (width (single_bytes (chars text.now))) }
+{
     let mut width = 2usize;
     for c in text.chars() {
-        width = width.saturating_add(if c == '\'' { 2 } else { 1 });
+        width = width.saturating_add(twice_width(c));
     }
     width
 }
 
 /// How many characters a scalar has in a style on one line; `None` in a block style.
-pub fn scalar_width(style: ScalarStyle, text: &str) -> Option<usize> {
+pub fn scalar_width(style: ScalarStyle, text: &str) -> Option<usize>
+    ensures width { result ≡ Measures.scalar_width style text.now }
+    ensures utf8 { IsUtf8 text.now }
+{
     match style {
-        ScalarStyle::Plain => Some(text.chars().count()),
+        ScalarStyle::Plain => Some(char_count(text)),
         ScalarStyle::Single => Some(single_width(text)),
         ScalarStyle::Double => Some(double_width(text)),
         ScalarStyle::Literal | ScalarStyle::Folded => None,
     }
 }
 
-fn tag_width(tag: Tag) -> usize {
+fn tag_width(tag: Tag) -> usize
+    ensures width { result ≡ up_to_greatest (width (tag_text (Some (tag_value tag.entry)))) }
+    ensures utf8 { IsUtf8 (tag_text (Some (tag_value tag.entry))) }
+{
     match tag {
-        Tag::Verbatim(name) => name.chars().count().saturating_add(3),
-        Tag::Short { handle, suffix } => {
-            handle
-                .chars()
-                .count()
-                .saturating_add(suffix.chars().count())
-        }
+        Tag::Verbatim(name) => char_count(name).saturating_add(3),
+        Tag::Short { handle, suffix } => char_count(handle).saturating_add(char_count(suffix)),
         Tag::NonSpecific => 1,
     }
 }
 
 /// The widths of two parts with a space between them, where neither is missing.
-pub fn joined_width(one: usize, other: usize) -> usize {
+pub fn joined_width(one: usize, other: usize) -> usize
+    ensures { result ≡ Measures.joined_width one other }
+{
     if one == 0 {
         return other;
     }
@@ -63,15 +130,30 @@ pub fn joined_width(one: usize, other: usize) -> usize {
     one.saturating_add(other).saturating_add(1)
 }
 
+fn anchor_width(anchor: Option<&str>) -> usize
+    ensures width { result ≡ up_to_greatest (width (anchor_text (name_value anchor.entry))) }
+    ensures utf8 { IsUtf8 (anchor_text (name_value anchor.entry)) }
+{
+    match anchor {
+        Some(name) => char_count(name).saturating_add(1),
+        None => 0,
+    }
+}
+
+fn optional_tag_width(tag: &Option<Tag>) -> usize
+    ensures width { result ≡ up_to_greatest (width (tag_text (optional_tag_value tag.now))) }
+    ensures utf8 { IsUtf8 (tag_text (optional_tag_value tag.now)) }
+{
+    match tag {
+        Some(tag) => tag_width(*tag),
+        None => 0,
+    }
+}
+
 /// How many characters properties have: the anchor, a space and the tag.
-pub fn props_width(props: &Props) -> usize {
-    let anchor = match props.anchor {
-        Some(name) => name.chars().count().saturating_add(1),
-        None => 0,
-    };
-    let tag = match props.tag {
-        Some(tag) => tag_width(tag),
-        None => 0,
-    };
-    joined_width(anchor, tag)
+pub fn props_width(props: &Props) -> usize
+    ensures width { result ≡ up_to_greatest (width (props_text (props_value props.now))) }
+    ensures utf8 { IsUtf8 (props_text (props_value props.now)) }
+{
+    joined_width(anchor_width(props.anchor), optional_tag_width(&props.tag))
 }

@@ -29,6 +29,6 @@ none_within xs k from to e s within l before j d b =
     let same : (get_or xs k d).offset ≡ (get_or xs k e).offset = ap (λ (c : Comment). c.offset) (get_or_default xs k d e within) in
     is_past from to (get_or xs j d).offset (omega (arith, rising, same, l))) (cases_Bool (nat_lt j k))
 
-pub returns-else-comments-k : goal.returns-else-comments-k
-returns-else-comments-k c =
+pub returns-else-comments-k-clause-first : goal.returns-else-comments-k-clause-first
+returns-else-comments-k-clause-first c =
     λ s j d a b. none_within c.args.comments.now c.count_before-k.result c.args.from c.args.to _ s (omega arith) c.if-comments-k.false (c.count_before-k.ensures.halves s).0 j d b
