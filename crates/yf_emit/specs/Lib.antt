@@ -7,6 +7,7 @@ pub mod Keys
 pub mod Layout
 pub mod Normal
 pub mod OneLine
+pub mod OneLineRun
 pub mod ReadingOf
 pub mod Restyled
 pub mod Rows
