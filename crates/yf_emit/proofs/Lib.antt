@@ -7,4 +7,5 @@ mod ShownComments
 mod ShownKeys
 mod ShownNodes
 pub mod TreeLemmas
+pub mod TreesExist
 pub mod WhiteLemmas

@@ -13,3 +13,4 @@ pub mod Restyled
 pub mod Rows
 pub mod Tree
 pub mod Wanted
+pub mod WellPlaced
