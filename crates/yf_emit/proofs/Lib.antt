@@ -1,6 +1,7 @@
 pub mod BlockLemmas
 mod Examples
 pub mod GapLemmas
+pub mod KeptLemmas
 pub mod OneLineRuns
 pub mod RestyledLemmas
 mod ShownComments

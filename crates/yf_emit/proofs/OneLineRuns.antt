@@ -1,9 +1,8 @@
 -- What the events of a flow collection add that may be kept is its text on one line.
-use Rattle.std.proofs.Common.{◌≡◌, ℕ, zero, suc, ◌+◌, ◌-◌, ◌≤◌, Bool, true, false, not, ◌&&◌, List, [], ◌∷◌, ◌++◌, if◌then◌else◌, chars, codes, Option, Some, None, length, map, take, drop, refl, sym, ap, ◌∙◌, append_assoc, append-nil, arith, true≢false, take_at, drop_at}
+use Rattle.std.proofs.Common.{◌≡◌, ℕ, zero, suc, ◌+◌, ◌-◌, ◌≤◌, Bool, true, false, not, ◌&&◌, List, [], ◌∷◌, ◌++◌, chars, codes, Some, length, map, take, drop, refl, sym, ap, ◌∙◌, append_assoc, append-nil, arith, true≢false, take_at, drop_at}
 use Rattle.std.specs.Prelude.{reverse, slice_get}
 use Rattle.std.proofs.lemmas.Bool.{and_parts}
 use Rattle.std.proofs.lemmas.List.{drop_all}
-use Rattle.yf_lines.specs.Steady.{is_steady}
 use Rattle.yf_lines.specs.declared.quotes.Quotes.{Quotes}
 use Rattle.yf_props.specs.Props.{PropsValue}
 use Rattle.yf_quoted.specs.Written.{quotes_for}
@@ -11,7 +10,7 @@ use Rattle.yf_events.specs.Event.{EventValue, Placed, sequence_ends, mapping_end
 use Rattle.yf_events.specs.declared.event.ScalarStyle.{ScalarStyle}
 use Rattle.yf_events.specs.declared.event.ScalarStyle.TheVariants.{Plain, Single, Double, Literal, Folded}
 use Rattle.yf_emit.specs.declared.kept.Expected.{Expected}
-use Rattle.yf_emit.specs.declared.kept.Expected.TheVariants.{FirstItem, Item, FirstKey, Key, Value, ValueOfAlias}
+use Rattle.yf_emit.specs.declared.kept.Expected.TheVariants.{FirstItem, Item, FirstKey, Key}
 use Rattle.yf_emit.specs.declared.style.Style.{Style}
 use Rattle.yf_emit.specs.Keys.{AddsKept, NodeAt}
 use Rattle.yf_emit.specs.Kept.{may_be_kept, items_may_be_kept, pairs_may_be_kept, scalar_may_be_kept, has_comment}
@@ -19,7 +18,7 @@ use Rattle.yf_emit.specs.Normal.{Setting, styled, styled_items, styled_pairs}
 use Rattle.yf_emit.specs.OneLine.{bare, written, more_items, more_pairs, spaced, space_behind, props_text, colon_behind, scalar_text}
 use Rattle.yf_emit.specs.OneLineRun.{separator, value_of, behind, added, next_open, run, between}
 use Rattle.yf_emit.specs.Rows.{is_empty_text}
-use Rattle.yf_emit.specs.Tree.{Standing, Node, scalar, alias, sequence, mapping, Items, no_items, item, Pairs, no_pairs, pair, is_collection, placed, unplaced, flat, flat_items, flat_pairs, props_of}
+use Rattle.yf_emit.specs.Tree.{Standing, Node, scalar, alias, sequence, mapping, Items, no_items, item, Pairs, no_pairs, pair, is_collection, unplaced, flat, flat_items, flat_pairs, props_of}
 use Rattle.yf_emit.specs.Wanted.{wanted, style_in}
 
 -- A node in a kept collection has a text

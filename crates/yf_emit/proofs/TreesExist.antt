@@ -1,5 +1,5 @@
 -- The events of a reading are those of trees, where they have no place and no lines but those that trees have.
-use Rattle.std.proofs.Common.{◌≡◌, ℕ, zero, suc, ◌+◌, ◌<◌, Bool, true, false, List, [], ◌∷◌, ◌++◌, length, map, flat_map, refl, sym, ap, subst, ◌∙◌, append_assoc, arith}
+use Rattle.std.proofs.Common.{◌≡◌, ℕ, zero, suc, ◌+◌, Bool, true, false, List, [], ◌∷◌, ◌++◌, length, map, flat_map, refl, sym, ap, subst, ◌∙◌, append_assoc, arith, true≢false}
 use Rattle.std.specs.Prelude.{All, cond, count_by}
 use Rattle.std.proofs.lemmas.List.Sums.{sum_by-append}
 use Rattle.yf_props.specs.Props.{PropsValue}
@@ -89,12 +89,29 @@ end_is d v e b p = p.place (ap begins_node e ∙ b) ∙ ap unplaced e
 
 -- Lists of events put together
 
+alone : (es rest : List Placed) (d first : Placed) → es ≡ d ∷ rest → d ≡ first → rest ≡ [] → es ≡ first ∷ []
+alone es rest d first e f g = cc
+
+two : (es front back x y : List Placed) → es ≡ front ++ back → front ≡ x → back ≡ y → es ≡ x ++ y
+two es front back x y e f g = cc
+
+three : (es front back middle rest x y z : List Placed) → es ≡ front ++ back → back ≡ middle ++ rest → front ≡ x → middle ≡ y → rest ≡ z
+    → es ≡ x ++ (y ++ z)
+three es front back middle rest x y z e f g h k = cc
+
 enclosed : (es rest front back inner : List Placed) (d first last : Placed) → es ≡ d ∷ rest → d ≡ first → rest ≡ front ++ back → front ≡ inner
     → back ≡ last ∷ [] → es ≡ first ∷ (inner ++ (last ∷ []))
 enclosed es rest front back inner d first last e f g h k = cc
 
+enclosed_before : (es rest front back behind inner more : List Placed) (d l first last : Placed) → es ≡ d ∷ rest → d ≡ first → rest ≡ front ++ back
+    → front ≡ inner → back ≡ l ∷ behind → l ≡ last → behind ≡ more → es ≡ first ∷ ((inner ++ (last ∷ [])) ++ more)
+enclosed_before es rest front back behind inner more d l first last e f g h k m n =
+    let whole : es ≡ first ∷ (inner ++ (last ∷ more)) = cc in
+    whole ∙ ap (λ z. first ∷ z) (sym (append_assoc inner (last ∷ []) more))
+
 last_is : (back : List Placed) (v : EventValue) → begins_node v ≡ false → First back v [] → back ≡ unplaced v ∷ []
-last_is back v b f = f.is ∙ ap (λ z. z ∷ f.rest) (end_is f.first v f.first_is b f.first_placed) ∙ ap (λ z. unplaced v ∷ z) (nothing f.rest f.rest_is)
+last_is back v b f =
+    alone back f.rest f.first (unplaced v) f.is (end_is f.first v f.first_is b f.first_placed) (nothing f.rest f.rest_is)
 
 -- The trees of a part of a stream
 
@@ -111,16 +128,14 @@ scalar_tree : (props : PropsValue) (style : ScalarStyle) (text : List ℕ) → H
 scalar_tree props style text = λ es e w.
     let f = one (scalar_node props style text) [] es e w in (
       scalar (standing_in f.first) props style text f.first.folded,
-      f.is ∙ ap (λ z. z ∷ f.rest) (scalar_is f.first props style text f.first_is)
-          ∙ ap (λ z. placed (standing_in f.first) (scalar_node props style text) f.first.folded ∷ z) (nothing f.rest f.rest_is),
+      alone es f.rest f.first _ f.is (scalar_is f.first props style text f.first_is) (nothing f.rest f.rest_is),
     )
 
 alias_tree : (name : List ℕ) → HasTrees one_node (alias_node name ∷ [])
 alias_tree name = λ es e w.
     let f = one (alias_node name) [] es e w in (
       alias (standing_in f.first) name,
-      f.is ∙ ap (λ z. z ∷ f.rest) (node_is f.first (alias_node name) f.first_is refl f.first_placed)
-          ∙ ap (λ z. placed (standing_in f.first) (alias_node name) [] ∷ z) (nothing f.rest f.rest_is),
+      alone es f.rest f.first _ f.is (node_is f.first (alias_node name) f.first_is refl f.first_placed) (nothing f.rest f.rest_is),
     )
 
 sequence_tree : (flow : Bool) (props : PropsValue) (x : List EventValue) → HasTrees many_nodes x
@@ -152,7 +167,7 @@ items_tree x y h k = λ es e w.
     let p = split x y es e w in
     let first = h p.front p.front_is p.front_placed in
     let rest = k p.back p.back_is p.back_placed in
-    (item first.0 rest.0, p.is ∙ ap (λ z. z ++ p.back) first.1 ∙ ap (λ z. flat first.0 ++ z) rest.1)
+    (item first.0 rest.0, two es p.front p.back (flat first.0) (flat_items rest.0) p.is first.1 rest.1)
 
 pairs_tree : (k v y : List EventValue) → HasTrees one_node k → HasTrees one_node v → HasTrees many_pairs y → HasTrees many_pairs (k ++ (v ++ y))
 pairs_tree k v y h g r = λ es e w.
@@ -162,12 +177,8 @@ pairs_tree k v y h g r = λ es e w.
     let value = g q.front q.front_is q.front_placed in
     let rest = r q.back q.back_is q.back_placed in (
       pair key.0 value.0 rest.0,
-      p.is ∙ ap (λ z. z ++ p.back) key.1
-          ∙ ap (λ z. flat key.0 ++ z) (q.is ∙ ap (λ z. z ++ q.back) value.1 ∙ ap (λ z. flat value.0 ++ z) rest.1),
+      three es p.front p.back q.front q.back (flat key.0) (flat value.0) (flat_pairs rest.0) p.is q.is key.1 value.1 rest.1,
     )
-
-regrouped : (x : List Placed) (d : Placed) (r : List Placed) → x ++ (d ∷ r) ≡ (x ++ (d ∷ [])) ++ r
-regrouped x d r = sym (append_assoc x (d ∷ []) r)
 
 document_of : Bool → Bool → Node → DocumentTree
 document_of marked closed x = record { marked = marked; closed = closed; root = x }
@@ -182,11 +193,9 @@ documents_tree marked closed x y h k = λ es e w.
     let root = h p.front p.front_is p.front_placed in
     let rest = k l.rest l.rest_is l.rest_placed in (
       document_of marked closed root.0 ∷ rest.0,
-      f.is ∙ ap (λ z. z ∷ f.rest) (end_is f.first (document_starts marked) f.first_is refl f.first_placed)
-          ∙ ap (λ z. unplaced (document_starts marked) ∷ z) (p.is ∙ ap (λ z. z ++ p.back) root.1
-          ∙ ap (λ z. flat root.0 ++ z) (l.is ∙ ap (λ z. z ∷ l.rest) (end_is l.first (document_ends closed) l.first_is refl l.first_placed)
-          ∙ ap (λ z. unplaced (document_ends closed) ∷ z) rest.1)
-          ∙ regrouped (flat root.0) (unplaced (document_ends closed)) (flat_map flat_document rest.0)),
+      enclosed_before es f.rest p.front p.back l.rest (flat root.0) (flat_map flat_document rest.0) f.first l.first (unplaced (document_starts marked))
+          (unplaced (document_ends closed)) f.is (end_is f.first (document_starts marked) f.first_is refl f.first_placed) p.is root.1 l.is
+          (end_is l.first (document_ends closed) l.first_is refl l.first_placed) rest.1,
     )
 
 trees : {s : Shape} {d : ℕ} {x : List EventValue} → Nested s d x → HasTrees s x
@@ -293,3 +302,66 @@ unfolding begun
 has_trees r n w =
     let found = stream_trees n r.events refl (each_of r.events w.events) in
     (found.0, record { events = found.1; documents = w.documents ∙ ap begun found.1 ∙ stream_begun found.0 })
+
+-- and each reading that has trees is well placed
+
+each_both : (x y : List Placed) → Each x → Each y → Each (x ++ y)
+each_both [] y none w = w
+each_both (e ∷ x) y (each p v) w = each p (each_both x y v w)
+
+each_enclosed : (d last : Placed) (x : List Placed) → IsWellPlaced d → Each x → IsWellPlaced last → Each (d ∷ (x ++ (last ∷ [])))
+each_enclosed d last x p w q = each p (each_both x (last ∷ []) w (each q none))
+
+scalar_placed : (at : Standing) (props : PropsValue) (style : ScalarStyle) (text : List ℕ) (lines : List (List ℕ))
+    → IsWellPlaced (placed at (scalar_node props style text) lines)
+scalar_placed at props style text lines = record { place = λ n. absurd (true≢false n); lines = λ n. absurd (true≢false n) }
+
+node_placed : (at : Standing) (v : EventValue) → begins_node v ≡ true → IsWellPlaced (placed at v [])
+node_placed at v b = record { place = λ n. absurd (true≢false (sym b ∙ n)); lines = λ n. refl }
+
+end_placed : (v : EventValue) → IsWellPlaced (unplaced v)
+end_placed v = record { place = λ n. refl; lines = λ n. refl }
+
+mutual
+  each_in_node : (x : Node) → Each (flat x)
+  each_in_node (scalar at props style text lines) = each (scalar_placed at props style text lines) none
+  each_in_node (alias at name) = each (node_placed at (alias_node name) refl) none
+  each_in_node (sequence at flow props xs) =
+      each_enclosed _ _ (flat_items xs) (node_placed at (sequence_starts flow props) refl) (each_in_items xs) (end_placed sequence_ends)
+  each_in_node (mapping at flow props ps) =
+      each_enclosed _ _ (flat_pairs ps) (node_placed at (mapping_starts flow props) refl) (each_in_pairs ps) (end_placed mapping_ends)
+
+  each_in_items : (xs : Items) → Each (flat_items xs)
+  each_in_items no_items = none
+  each_in_items (item x xs) = each_both (flat x) (flat_items xs) (each_in_node x) (each_in_items xs)
+
+  each_in_pairs : (ps : Pairs) → Each (flat_pairs ps)
+  each_in_pairs no_pairs = none
+  each_in_pairs (pair k v ps) =
+      each_both (flat k) (flat v ++ flat_pairs ps) (each_in_node k) (each_both (flat v) (flat_pairs ps) (each_in_node v) (each_in_pairs ps))
+
+each_in_documents : (ds : List DocumentTree) → Each (flat_map flat_document ds)
+each_in_documents [] = none
+each_in_documents (d ∷ ds) =
+    each_both (flat_document d) (flat_map flat_document ds)
+    (each_enclosed _ _ (flat d.root) (end_placed (document_starts d.marked)) (each_in_node d.root) (end_placed (document_ends d.closed)))
+    (each_in_documents ds)
+
+one_more : (e : Placed) (es : List Placed) → IsWellPlaced e → All IsWellPlaced es → All IsWellPlaced (e ∷ es)
+one_more e es p a zero d l = p
+one_more e es p a (suc k) d l = a k d (omega (arith, l))
+
+none_at_all : All IsWellPlaced []
+none_at_all k d l = absurd (omega (arith, l))
+
+all_of : (es : List Placed) → Each es → All IsWellPlaced es
+all_of [] none = none_at_all
+all_of (e ∷ es) (each p w) = one_more e es p (all_of es w)
+
+pub trees_well_placed : (r : Lists) (ds : List DocumentTree) → TreesOf r ds → WellPlaced r
+unfolding begun
+trees_well_placed r ds t = record {
+  events = subst (λ es. All IsWellPlaced es) (sym t.events)
+      (all_of (flat_stream ds) (each_enclosed _ _ (flat_map flat_document ds) (end_placed stream_starts) (each_in_documents ds) (end_placed stream_ends)));
+  documents = t.documents ∙ sym (stream_begun ds) ∙ ap begun (sym t.events);
+}

@@ -1,5 +1,5 @@
 -- When the events of a reading have no place and no lines but those that its trees have.
-use Rattle.std.specs.Prelude.{◌≡◌, Bool, true, false, List, [], length, All, count_by}
+use Rattle.std.specs.Prelude.{◌≡◌, Bool, true, false, [], length, All, count_by}
 use Rattle.yf_events.specs.Event.{EventValue, Placed, document_starts, sequence_starts, mapping_starts, scalar_node, alias_node}
 use Rattle.yf_events.specs.declared.lists.Lists.{Lists}
 use Rattle.yf_emit.specs.Tree.{unplaced}
