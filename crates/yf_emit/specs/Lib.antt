@@ -9,8 +9,10 @@ pub mod Measures
 pub mod Measuring
 pub mod Normal
 pub mod OneLine
+pub mod OneLineRun
 pub mod ReadingOf
 pub mod Restyled
 pub mod Rows
 pub mod Tree
 pub mod Wanted
+pub mod WellPlaced

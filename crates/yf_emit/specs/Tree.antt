@@ -142,6 +142,12 @@ is_block_collection (sequence at flow props (item x xs)) = not flow
 is_block_collection (mapping at flow props no_pairs) = false
 is_block_collection (mapping at flow props (pair k v ps)) = not flow
 
+abbrev pub is_collection : Node → Bool
+is_collection (scalar at props style text lines) = false
+is_collection (alias at name) = false
+is_collection (sequence at flow props items) = true
+is_collection (mapping at flow props pairs) = true
+
 abbrev pub is_sequence : Node → Bool
 is_sequence (scalar at props style text lines) = false
 is_sequence (alias at name) = false

@@ -1,5 +1,11 @@
 //! The text of a flow collection that is kept on one line.
-ghost use Rattle.std.specs.Prelude.{◌<◌, ◌≡◌, length, IfErr};
+ghost use Rattle.std.specs.Prelude.{◌≡◌, ◌≤◌, ◌∷◌, ◌++◌, encode_utf8, false, reverse, IfErr, OnOk};
+ghost use Rattle.std.specs.String.{string_bytes};
+ghost use Rattle.yf_props.specs.Props.{props_value};
+ghost use Rattle.yf_events.specs.Event.{event_value};
+ghost use Rattle.yf_emit.specs.Keys.{AddsKept};
+ghost use Rattle.yf_emit.specs.OneLineRun as OneLineRun;
+ghost use Rattle.yf_emit.specs.OneLineRun.{added, behind_in, between, next_open, outside, run, separator_in};
 
 use crate::measure::{Measures, measure_all};
 use crate::style::Style;
@@ -10,74 +16,138 @@ use yf_events::event::Event;
 use yf_events::reading::Reading;
 use yf_lines::fault::Fault;
 use yf_lines::source_text::Src;
+use yf_props::props::Props;
 
-/// A bracket whose closing one has not come yet.
+/// What comes next between two brackets.
 #[derive(Clone, Copy)]
-struct Bracket {
-    is_map: bool,
-    /// How many nodes stand behind it so far.
-    nodes: usize,
-    /// Whether the last of them is an alias.
-    behind_alias: bool,
+enum Expected {
+    FirstItem,
+    Item,
+    FirstKey,
+    Key,
+    Value,
+    /// The value of a key that is an alias.
+    ValueOfAlias,
 }
 
-/// What stands before the next node behind a bracket: nothing, a comma, or the `:` of its key.
-fn separator(bracket: Bracket) -> &'static str {
-    if bracket.nodes == 0 {
-        return "";
+/// What stands before a node: nothing, a comma, or the `:` of its key.
+fn separator(expected: Expected) -> &'static str
+    ensures { result.now ≡ OneLineRun.separator expected }
+{
+    match expected {
+        Expected::FirstItem | Expected::FirstKey => "",
+        Expected::Item | Expected::Key => ", ",
+        Expected::Value => ": ",
+        Expected::ValueOfAlias => " : ",
     }
-    if bracket.is_map && bracket.nodes % 2 == 1 {
-        return if bracket.behind_alias { " : " } else { ": " };
-    }
-    ", "
 }
 
-/// Appends what stands before the next node, and counts that node.
+/// What comes next behind a node.
+fn behind(is_alias: bool, expected: Expected) -> Expected
+    ensures { result ≡ OneLineRun.behind is_alias expected }
+{
+    match expected {
+        Expected::FirstItem | Expected::Item => Expected::Item,
+        Expected::FirstKey | Expected::Key => {
+            if is_alias {
+                return Expected::ValueOfAlias;
+            }
+            Expected::Value
+        }
+        Expected::Value | Expected::ValueOfAlias => Expected::Key,
+    }
+}
+
+/// Appends what stands before the next node, and goes past that node. The innermost open bracket comes last.
 fn before_node(
     text: &mut String,
-    stack: &mut Vec<Bracket>,
+    stack: &mut Vec<Expected>,
     is_alias: bool,
-) -> Result<(), AllocError> {
-    if let Some(bracket) = stack.last_mut() {
-        text.push_str(separator(*bracket))?;
-        *bracket = Bracket {
-            is_map: bracket.is_map,
-            nodes: bracket.nodes.saturating_add(1),
-            behind_alias: is_alias,
-        };
+) -> Result<(), AllocError>
+    ensures adds { OnOk result (string_bytes text.new ≡ string_bytes text.old ++ separator_in (reverse stack.old.items)) }
+    ensures next { OnOk result (reverse stack.new.items ≡ behind_in is_alias (reverse stack.old.items)) }
+{
+    match stack.pop() {
+        Some(expected) => {
+            text.push_str(separator(expected))?;
+            stack.push(behind(is_alias, expected))?;
+            Ok(())
+        }
+        None => Ok(()),
     }
-    Ok(())
+}
+
+/// Appends what stands before the text of a node that is no alias.
+fn before_text(
+    text: &mut String,
+    stack: &mut Vec<Expected>,
+    props: &Props,
+) -> Result<(), AllocError>
+    ensures adds { OnOk result (string_bytes text.new ≡ string_bytes text.old ++ OneLineRun.before_text (reverse stack.old.items) (props_value props.now)) }
+    ensures next { OnOk result (reverse stack.new.items ≡ behind_in false (reverse stack.old.items)) }
+{
+    before_node(text, stack, false)?;
+    push_props_before(text, props)
+}
+
+/// Appends what stands before a collection's bracket. The properties of the outermost one are left out.
+fn before_bracket(
+    text: &mut String,
+    stack: &mut Vec<Expected>,
+    props: &Props,
+) -> Result<(), AllocError>
+    ensures adds { OnOk result (string_bytes text.new ≡ string_bytes text.old ++ OneLineRun.before_bracket (reverse stack.old.items) (props_value props.now)) }
+    ensures next { OnOk result (reverse stack.new.items ≡ behind_in false (reverse stack.old.items)) }
+{
+    if stack.is_empty() {
+        return Ok(());
+    }
+    before_text(text, stack, props)
 }
 
 fn open_bracket(
     text: &mut String,
-    stack: &mut Vec<Bracket>,
-    is_map: bool,
-) -> Result<(), AllocError> {
-    text.push(if is_map { '{' } else { '[' })?;
-    stack.push(Bracket {
-        is_map,
-        nodes: 0,
-        behind_alias: false,
-    })?;
+    stack: &mut Vec<Expected>,
+    bracket: char,
+    first: Expected,
+) -> Result<(), AllocError>
+    ensures adds { OnOk result (string_bytes text.new ≡ string_bytes text.old ++ encode_utf8 bracket) }
+    ensures next { OnOk result (reverse stack.new.items ≡ first ∷ reverse stack.old.items) }
+{
+    text.push(bracket)?;
+    stack.push(first)?;
     Ok(())
 }
 
-/// Appends what one event adds. The properties of the outermost collection, which has no bracket before it, are left out.
+fn close_bracket(
+    text: &mut String,
+    stack: &mut Vec<Expected>,
+    bracket: char,
+) -> Result<(), AllocError>
+    ensures adds { OnOk result (string_bytes text.new ≡ string_bytes text.old ++ encode_utf8 bracket) }
+    ensures next { OnOk result (reverse stack.new.items ≡ outside (reverse stack.old.items)) }
+{
+    let _ = stack.pop();
+    text.push(bracket)
+}
+
+/// Appends what one event adds.
 fn push_event(
     text: &mut String,
-    stack: &mut Vec<Bracket>,
+    stack: &mut Vec<Expected>,
     event: &Event,
     style: &Style,
-) -> Result<(), AllocError> {
+) -> Result<(), AllocError>
+    ensures adds { OnOk result (string_bytes text.new ≡ string_bytes text.old ++ added style.now.quotes (reverse stack.old.items) (event_value event.now)) }
+    ensures next { OnOk result (reverse stack.new.items ≡ next_open (reverse stack.old.items) (event_value event.now)) }
+{
     match event {
         Event::Scalar {
             props,
             style: written,
             text: content,
         } => {
-            before_node(text, stack, false)?;
-            push_props_before(text, props)?;
+            before_text(text, stack, props)?;
             let content = content.as_str();
             push_scalar(text, wanted_of(*written, content, style.quotes), content)
         }
@@ -87,31 +157,39 @@ fn push_event(
             text.push_str(name)
         }
         Event::SeqStart { props, .. } => {
-            if !stack.is_empty() {
-                before_node(text, stack, false)?;
-                push_props_before(text, props)?;
-            }
-            open_bracket(text, stack, false)
+            before_bracket(text, stack, props)?;
+            open_bracket(text, stack, '[', Expected::FirstItem)
         }
         Event::MapStart { props, .. } => {
-            if !stack.is_empty() {
-                before_node(text, stack, false)?;
-                push_props_before(text, props)?;
-            }
-            open_bracket(text, stack, true)
+            before_bracket(text, stack, props)?;
+            open_bracket(text, stack, '{', Expected::FirstKey)
         }
-        Event::SeqEnd => {
-            let _ = stack.pop();
-            text.push(']')
-        }
-        Event::MapEnd => {
-            let _ = stack.pop();
-            text.push('}')
-        }
+        Event::SeqEnd => close_bracket(text, stack, ']'),
+        Event::MapEnd => close_bracket(text, stack, '}'),
         Event::StreamStart | Event::StreamEnd | Event::DocStart { .. } | Event::DocEnd { .. } => {
             Ok(())
         }
     }
+}
+
+/// Appends what the events add from the one index to the other.
+fn push_between(
+    text: &mut String,
+    stack: &mut Vec<Expected>,
+    reading: &Reading,
+    first: usize,
+    last: usize,
+    style: &Style,
+) -> Result<(), AllocError>
+    ensures { OnOk result (first ≤ last → string_bytes text.new ≡ string_bytes text.old ++ run style.now.quotes (reverse stack.old.items) (between first last reading.now.events)) }
+{
+    for k in first..reading.len() {
+        push_event(text, stack, reading.event(k), style)?;
+        if k == last {
+            break;
+        }
+    }
+    Ok(())
 }
 
 /// The text on one line, from bracket to bracket, of the flow collection that the event at an index begins. `None` where
@@ -141,14 +219,11 @@ pub fn push_kept(
     first: usize,
     last: usize,
     style: &Style,
-) -> Result<(), AllocError> {
+) -> Result<(), AllocError>
+    ensures { OnOk result (AddsKept reading.now.events style.now first last (string_bytes text.old) (string_bytes text.new)) }
+{
     let mut stack = Vec::new(alloc);
-    for k in first..reading.len() {
-        push_event(text, &mut stack, reading.event(k), style)?;
-        if k == last {
-            break;
-        }
-    }
+    push_between(text, &mut stack, reading, first, last, style)?;
     Ok(())
 }
 
