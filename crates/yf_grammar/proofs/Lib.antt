@@ -1,0 +1,3 @@
+pub mod BlankRuns
+pub mod GapLemmas
+pub mod PlainEnds
