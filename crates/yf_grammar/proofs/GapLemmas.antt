@@ -38,7 +38,7 @@ pub record Visible (t : List ℕ) (k : ℕ) : Type 0 where
   pub no_hash : code t k ≢ 35
 
 module _ {t : List ℕ} where
-  ends_nowhere : {k j : ℕ} → is_ns_char (code t k) ≡ true → BreakOrEnd t k j → ⊥
+  pub ends_nowhere : {k j : ℕ} → is_ns_char (code t k) ≡ true → BreakOrEnd t k j → ⊥
   ends_nowhere {k} n (by_break b) = ⊎_elim
       (λ (e : code t k ≡ 13). true≢false (sym n ∙ ap is_ns_char e ∙ ns_cr))
       (λ (e : code t k ≡ 10). true≢false (sym n ∙ ap is_ns_char e ∙ ns_lf)) (break_char b)

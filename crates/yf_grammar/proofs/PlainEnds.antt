@@ -93,6 +93,12 @@ module _ {t : List ℕ} {c : Ctx} where
   plain_leaps (as_key k l) = line_leaps l
   plain_leaps (as_lines f l d) = let a = line_leaps l in (a.0, leaps_join a.1 (nexts_leaps d))
 
+  leaps_forward : {i j : ℕ} → Leaps t c i j → i ≤ j
+  leaps_forward a = chain_forward leap_functional a.1
+
+  pub plain_later : {n : ℤ} {i j : ℕ} {x : List ℕ} → PlainText t n c i j x → i < j
+  plain_later {i = i} p = let a = leaps_forward (plain_leaps p).1 in let b = next_later t i in omega arith
+
   leaps_longest : {i j k : ℕ} → Leaps t c i j → Stuck (Leap t c j) → Leaps t c i k → k ≤ j
   leaps_longest {k = k} a s b = (chain_chosen leap_functional a.1 s).longest k b.0 b.1
 
