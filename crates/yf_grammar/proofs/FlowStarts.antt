@@ -67,7 +67,7 @@ bar_no_end : (c : ℕ) → is_bar c ≡ false → is_end c ≡ false
 unfolding is_bar is_end
 bar_no_end c e = grind (arith, nat_tests)
 
-bar_no_hash : (c : ℕ) → is_bar c ≡ false → c ≢ 35
+pub bar_no_hash : (c : ℕ) → is_bar c ≡ false → c ≢ 35
 unfolding is_bar
 bar_no_hash c e q = grind (arith, nat_tests)
 

@@ -4,3 +4,8 @@ pub mod PlainEnds
 pub mod PropertiesEnds
 pub mod QuotedEnds
 pub mod FlowStarts
+pub mod WiderLemmas
+pub mod KeyLines
+pub mod NodeExits
+pub mod NodeExact
+pub mod ContentExact
