@@ -9,3 +9,6 @@ pub mod KeyLines
 pub mod NodeExits
 pub mod NodeExact
 pub mod ContentExact
+pub mod EntriesExact
+pub mod ValueExact
+pub mod KeyExact
