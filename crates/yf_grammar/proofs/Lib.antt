@@ -12,3 +12,4 @@ pub mod ContentExact
 pub mod EntriesExact
 pub mod ValueExact
 pub mod KeyExact
+pub mod EntryExact
