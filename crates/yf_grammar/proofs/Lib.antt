@@ -13,3 +13,4 @@ pub mod EntriesExact
 pub mod ValueExact
 pub mod KeyExact
 pub mod EntryExact
+pub mod PairKeys

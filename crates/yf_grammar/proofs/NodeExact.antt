@@ -42,7 +42,7 @@ pub record Ending (t : List ℕ) (n : ℤ) (c : Ctx) (j : ℕ) : Type 0 where
   pub gap : MaySeparate t n c j place comments
   pub ends : is_end (code t place) ≡ true
 
-end_stop : (c : ℕ) → is_end c ≡ true → is_stop c ≡ true
+pub end_stop : (c : ℕ) → is_end c ≡ true → is_stop c ≡ true
 unfolding is_end is_stop
 end_stop c e = grind (arith, nat_tests)
 

@@ -112,7 +112,7 @@ module _ {t : List ℕ} {c : Ctx} where
   pub plain_behind : {n : ℤ} {i j : ℕ} {x : List ℕ} → IsUtf8 t → PlainText t n c i j x → Behind t j
   plain_behind {i = i} u p = let a = plain_leaps p in leaps_behind u (plain_char_behind t i u (first_is_ns t c i a.0)) a.1.1
 
-hash_not_blank : (c : ℕ) → c ≡ 35 → is_blank c ≡ false
+pub hash_not_blank : (c : ℕ) → c ≡ 35 → is_blank c ≡ false
 hash_not_blank c e = ap is_blank e ∙ blank_of_hash
 
 module _ {t : List ℕ} where
@@ -134,7 +134,7 @@ module _ {t : List ℕ} where
       → Leap t c j k x → ⊥
   leap_blocked {c} u b f n m (leap d e) = blocked c u b f n m d e
 
-may_front : {t : List ℕ} {n : ℤ} {c : Ctx} {j l : ℕ} {cs : List CommentValue} → MaySeparate t n c j l cs → Front t j l
+pub may_front : {t : List ℕ} {n : ℤ} {c : Ctx} {j l : ℕ} {cs : List CommentValue} → MaySeparate t n c j l cs → Front t j l
 may_front unseparated = all_blank no_blanks
 may_front (separated s) = separate_front s
 
