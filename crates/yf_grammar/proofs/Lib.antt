@@ -14,3 +14,4 @@ pub mod ValueExact
 pub mod KeyExact
 pub mod EntryExact
 pub mod PairKeys
+pub mod YamlNodes
