@@ -4,23 +4,22 @@ use Rattle.std.proofs.lemmas.Bool.{cases_Bool, cases_eq}
 use Rattle.std.proofs.lemmas.Bool.Decides.{nat_tests}
 use Rattle.std.specs.Str.{IsUtf8}
 use Rattle.yf_chars.specs.declared.context.Ctx.{Ctx}
-use Rattle.yf_chars.specs.Text.{code, next, before, Reads, no_char}
+use Rattle.yf_chars.specs.Text.{code, next, before, Reads}
 use Rattle.yf_chars.specs.Class.{is_white, is_break_char, is_ns_char}
-use Rattle.yf_chars.specs.Chain.{Chain, Functional, Stuck, Many}
+use Rattle.yf_chars.specs.Chain.{Chain, Many}
 use Rattle.yf_chars.specs.Chain.Chain.{done, step}
 use Rattle.yf_chars.specs.Chain.One.{one}
 use Rattle.yf_chars.proofs.TextLemmas.{next_ascii, reads_real, reads_byte}
-use Rattle.yf_chars.proofs.ChainLemmas.{chain_append, chain_forward, chain_chosen, one_functional, many_unique}
+use Rattle.yf_chars.proofs.ChainLemmas.{chain_append, chain_forward, one_functional, many_unique}
 use Rattle.yf_lines.specs.Basic.{Break, LineStart, SeparateInLine, FlowPrefix, LinePrefix, IndentLess, Indent, Empty, Folded, FlowFolded}
 use Rattle.yf_lines.specs.Basic.Break.{cr_lf, lone_cr, lone_lf}
 use Rattle.yf_lines.specs.Basic.SeparateInLine.{by_whites, at_start}
 use Rattle.yf_lines.specs.Basic.LinePrefix.{in_block, in_flow}
 use Rattle.yf_lines.specs.Basic.IndentLess.{fewer}
-use Rattle.yf_lines.specs.Basic.FlowPrefix.{indented, set_off}
+use Rattle.yf_lines.specs.Basic.FlowPrefix.{indented}
 use Rattle.yf_lines.specs.Basic.Empty.{prefixed, shorter}
 use Rattle.yf_lines.specs.Basic.Folded.{trimmed, as_space}
 use Rattle.yf_lines.specs.Basic.FlowFolded.{at_break, past_whites}
-use Rattle.yf_lines.proofs.BasicLemmas.{white_below}
 use Rattle.yf_lines.proofs.ClearLemmas.{line_start_behind}
 use Rattle.yf_comments.specs.Comment.{CommentValue}
 use Rattle.yf_comments.specs.Comments.{BreakOrEnd, LineRest, CommentLine, LineEnd, SeparateLines, Separate}

@@ -1,23 +1,18 @@
 -- A quoted scalar or flow collection is found as it is derived, but for a quoted scalar before a quote.
-use Rattle.std.proofs.Common.{◌≡◌, ◌≢◌, ℕ, ℤ, suc, max, ◌+◌, ◌<◌, ◌≤◌, Bool, true, false, ◌⊎◌, inl, inr, ⊎_elim, List, [], ◌∷◌, ◌++◌, Option, Some, None, refl, sym, ap, ◌∙◌, subst, arith, true≢false, encode_utf8_all, append-nil, append_assoc}
+use Rattle.std.proofs.Common.{◌≡◌, ℕ, ℤ, suc, ◌+◌, ◌<◌, ◌≤◌, Bool, true, false, ⊎_elim, List, [], Option, Some, None, refl, sym, ap, ◌∙◌, subst, arith, encode_utf8_all}
 use Rattle.std.proofs.lemmas.Bool.{cases_lt}
-use Rattle.std.specs.Str.{IsUtf8}
 use Rattle.yf_chars.specs.declared.context.Ctx.{Ctx}
 use Rattle.yf_chars.specs.Text.{code}
-use Rattle.yf_chars.specs.Chain.{Stuck, Chosen}
 use Rattle.yf_lines.specs.Basic.{is_block}
 use Rattle.yf_comments.specs.Comment.{CommentValue}
-use Rattle.yf_comments.specs.Comments.{Separate}
-use Rattle.yf_events.specs.Event.{Placed}
 use Rattle.yf_events.specs.declared.event.ScalarStyle.TheVariants.{Single as SingleStyle, Double as DoubleStyle}
 use Rattle.yf_quoted.specs.Quoted.{SingleQuoted, DoubleQuoted, Piece, text_of}
-use Rattle.yf_grammar.specs.Meaning.{Meaning, ◌⊕◌, behind, noting, scalar, collection}
+use Rattle.yf_grammar.specs.Meaning.{Meaning, behind, noting, scalar, collection}
 use Rattle.yf_grammar.specs.Grammar.{MaySeparate, opening, closing, in_flow, bad_escapes}
-use Rattle.yf_grammar.specs.Parser.{Found, found, Task, AContent, TheEntries, AnEntry, Parses, Gap, bracketed, joined, only}
+use Rattle.yf_grammar.specs.Parser.{Found, found, AContent, TheEntries, Parses, Gap, bracketed, only}
 use Rattle.yf_grammar.specs.Parser.Parses.{single_read, single_missed, double_read, double_missed, too_deep, collection_read, collection_missed, entries_end, entry_missed, entry_last, entry_then, entry_then_missed, entry_unclosed}
 use Rattle.yf_grammar.proofs.GapLemmas.{Visible, gap_is}
 use Rattle.yf_grammar.proofs.QuotedEnds.{single_before_quote, double_same}
-use Rattle.yf_grammar.proofs.NodeExits.{some_found, none_found}
 
 -- the outcome is what is derived up to j, or goes on behind it at a quote
 pub data Reaches (t : List ℕ) (o : Option Found) (j h : ℕ) (x : Meaning) : Type 0 where

@@ -1,15 +1,14 @@
 -- Entries of a flow collection, where each entry is found: the reader goes on from one to the next as they are derived.
-use Rattle.std.proofs.Common.{◌≡◌, ◌≢◌, ℕ, ℤ, suc, max, ◌+◌, ◌<◌, ◌≤◌, Bool, true, false, ◌⊎◌, inl, inr, ⊎_elim, List, [], ◌∷◌, ◌++◌, Option, Some, None, refl, sym, ap, ◌∙◌, subst, arith, true≢false, append-nil, append_assoc}
-use Rattle.std.specs.Str.{IsUtf8}
+use Rattle.std.proofs.Common.{◌≡◌, ℕ, ℤ, max, ◌+◌, Bool, true, false, List, ◌++◌, Option, Some, None, refl, sym, ap, ◌∙◌, subst, arith, append_assoc}
 use Rattle.yf_chars.specs.declared.context.Ctx.{Ctx}
 use Rattle.yf_chars.specs.Text.{code}
 use Rattle.yf_comments.specs.Comment.{CommentValue}
-use Rattle.yf_grammar.specs.Meaning.{Meaning, ◌⊕◌, behind, noting}
+use Rattle.yf_grammar.specs.Meaning.{Meaning, ◌⊕◌, noting}
 use Rattle.yf_grammar.specs.Grammar.{MaySeparate, closing}
-use Rattle.yf_grammar.specs.Parser.{Found, found, Task, TheEntries, AnEntry, Parses, Gap, joined, only}
+use Rattle.yf_grammar.specs.Parser.{Found, found, TheEntries, AnEntry, Parses, Gap, joined}
 use Rattle.yf_grammar.specs.Parser.Parses.{entries_end, entry_missed, entry_last, entry_then, entry_then_missed, entry_unclosed}
 use Rattle.yf_grammar.proofs.GapLemmas.{Visible, gap_is}
-use Rattle.yf_grammar.proofs.ContentExact.{EntriesFound, EntryFound, no_entries}
+use Rattle.yf_grammar.proofs.ContentExact.{EntriesFound, EntryFound}
 
 some_same : {f g : Found} → Some f ≡ Some g → f ≡ g
 some_same e = cc

@@ -1,15 +1,14 @@
 -- One entry of a flow collection, where its parts are found.
-use Rattle.std.proofs.Common.{◌≡◌, ◌≢◌, ℕ, ℤ, suc, max, ◌+◌, ◌<◌, ◌≤◌, Bool, true, false, List, [], ◌∷◌, ◌++◌, Option, Some, None, refl, sym, ap, ◌∙◌, subst, arith, append-nil}
-use Rattle.std.specs.Str.{IsUtf8}
+use Rattle.std.proofs.Common.{◌≡◌, ℕ, ℤ, suc, max, ◌+◌, ◌≤◌, Bool, true, false, List, Option, Some, None, refl, sym, ap, ◌∙◌, subst, arith}
 use Rattle.yf_chars.specs.declared.context.Ctx.{Ctx}
 use Rattle.yf_chars.specs.Text.{code}
-use Rattle.yf_chars.specs.Chain.{Stuck, Chosen}
+use Rattle.yf_chars.specs.Chain.{Stuck}
 use Rattle.yf_comments.specs.Comment.{CommentValue}
 use Rattle.yf_comments.specs.Comments.{Separate}
 use Rattle.yf_grammar.specs.Meaning.{Meaning, ◌⊕◌, behind, noting, entering, empty_node, collection}
 use Rattle.yf_grammar.specs.Grammar.{MaySeparate}
-use Rattle.yf_grammar.specs.Grammar.MaySeparate.{unseparated, separated}
-use Rattle.yf_grammar.specs.Parser.{Found, found, Task, ANode, AValue, AnImplicit, AnExplicit, AnEntry, ColonAt, PairKey, Parses, Gap, pair_entry}
+use Rattle.yf_grammar.specs.Grammar.MaySeparate.{separated}
+use Rattle.yf_grammar.specs.Parser.{Found, found, ANode, AValue, AnImplicit, AnExplicit, AnEntry, ColonAt, PairKey, Parses, pair_entry}
 use Rattle.yf_grammar.specs.Parser.Parses.{mapping_explicit, mapping_explicit_missed, mapping_sign_alone, mapping_implicit, pair_explicit, pair_explicit_missed, pair_explicit_too_deep, pair_of_value, pair_of_value_too_deep, item_missed, pair_of_key, pair_too_deep, item_read}
 use Rattle.yf_grammar.proofs.GapLemmas.{Visible, gap_is, separate_is}
 use Rattle.yf_grammar.proofs.NodeExits.{none_found, some_found}

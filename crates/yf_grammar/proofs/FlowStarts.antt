@@ -1,6 +1,6 @@
 -- What flow productions begin with: a character that no separation goes on with, and no end of an entry; and that they go on.
-use Rattle.std.proofs.Common.{◌≡◌, ◌≢◌, ℕ, ℤ, pos, ◌+◌, ◌<◌, ◌≤◌, Bool, true, false, ◌||◌, ◌==◌, ◌⊎◌, inl, inr, ⊎_elim, List, [], refl, sym, ap, ◌∙◌, subst, arith, true≢false, not}
-use Rattle.std.proofs.lemmas.Bool.{cases_eq, and_parts}
+use Rattle.std.proofs.Common.{◌≡◌, ◌≢◌, ℕ, ℤ, ◌+◌, ◌<◌, ◌≤◌, Bool, true, false, ◌||◌, ◌==◌, List, refl, sym, ap, ◌∙◌, arith, true≢false, not}
+use Rattle.std.proofs.lemmas.Bool.{and_parts}
 use Rattle.std.proofs.lemmas.Bool.Decides.{nat_tests}
 use Rattle.std.specs.Str.{IsUtf8}
 use Rattle.yf_chars.specs.declared.context.Ctx.{Ctx}
@@ -8,17 +8,17 @@ use Rattle.yf_chars.specs.declared.context.Ctx.TheVariants.{BlockOut, BlockIn, F
 use Rattle.yf_chars.specs.Text.{code}
 use Rattle.yf_chars.specs.Class.{is_ns_char, is_nb_char, is_printable, is_between, is_break_char, is_white, is_plain_safe, is_flow_indicator}
 use Rattle.yf_chars.specs.Chain.{Stuck, Many}
-use Rattle.yf_chars.specs.Chain.Chain.{done, step}
-use Rattle.yf_chars.proofs.ChainLemmas.{chain_forward, one_functional, many_chosen}
-use Rattle.yf_lines.specs.Basic.{is_block, LineStart, SeparateInLine}
+use Rattle.yf_chars.specs.Chain.Chain.{done}
+use Rattle.yf_chars.proofs.ChainLemmas.{many_chosen}
+use Rattle.yf_lines.specs.Basic.{is_block, SeparateInLine}
 use Rattle.yf_lines.specs.Basic.SeparateInLine.{by_whites, at_start}
 use Rattle.yf_comments.specs.Comment.{CommentValue}
-use Rattle.yf_comments.specs.Comments.{BreakOrEnd, LineRest, LineEnd, SeparateLines, Separate}
+use Rattle.yf_comments.specs.Comments.{LineRest, LineEnd, SeparateLines, Separate}
 use Rattle.yf_comments.specs.Comments.LineRest.{nothing, whites, comment}
 use Rattle.yf_comments.specs.Comments.LineEnd.{past_rest, from_start}
 use Rattle.yf_comments.specs.Comments.SeparateLines.{in_line, over_lines}
 use Rattle.yf_comments.specs.Comments.Separate.{in_key, in_node}
-use Rattle.yf_plain.specs.Plain.{is_plain_first, PlainText}
+use Rattle.yf_plain.specs.Plain.{PlainText}
 use Rattle.yf_plain.proofs.PlainLemmas.{first_is_ns, ns_not_white}
 use Rattle.yf_props.specs.Names.{Alias, Properties, PropertiesValue}
 use Rattle.yf_props.specs.Names.Alias.{asterisk_name}

@@ -1,28 +1,28 @@
 -- The longest separation from a place, where what stands behind a separation is known.
-use Rattle.std.proofs.Common.{◌≡◌, ◌≢◌, ℕ, ℤ, ◌+◌, ◌<◌, ◌≤◌, Bool, true, false, ◌⊎◌, inl, inr, ⊎_elim, List, [], ◌∷◌, ◌++◌, length, refl, sym, ap, ◌∙◌, subst, arith, true≢false, append-nil, append_assoc}
-use Rattle.std.proofs.lemmas.Bool.{cases_Bool, cases_lt}
+use Rattle.std.proofs.Common.{◌≡◌, ◌≢◌, ℕ, ℤ, ◌<◌, ◌≤◌, true, false, ◌⊎◌, inl, ⊎_elim, List, [], ◌++◌, length, refl, sym, ap, ◌∙◌, subst, arith, true≢false, append-nil}
+use Rattle.std.proofs.lemmas.Bool.{cases_lt}
 use Rattle.std.specs.Str.{IsUtf8}
 use Rattle.yf_chars.specs.declared.context.Ctx.{Ctx}
-use Rattle.yf_chars.specs.Text.{code, next, no_char}
+use Rattle.yf_chars.specs.Text.{code, no_char}
 use Rattle.yf_chars.specs.Class.{is_white, is_ns_char}
 use Rattle.yf_chars.specs.Chain.{Chain, Stuck, Chosen, Nowhere, Many}
 use Rattle.yf_chars.specs.Chain.Chain.{done, step}
 use Rattle.yf_chars.proofs.TextLemmas.{code-end, code-past}
-use Rattle.yf_chars.proofs.ChainLemmas.{chain_append, chain_forward, chain_chosen, one_functional, many_chosen}
-use Rattle.yf_lines.specs.Basic.{is_key, LineStart, SeparateInLine, FlowPrefix}
+use Rattle.yf_chars.proofs.ChainLemmas.{chain_append, chain_forward, one_functional, many_chosen}
+use Rattle.yf_lines.specs.Basic.{LineStart, SeparateInLine, FlowPrefix}
 use Rattle.yf_lines.specs.Basic.SeparateInLine.{by_whites, at_start}
 use Rattle.yf_lines.specs.Basic.FlowPrefix.{indented, set_off}
 use Rattle.yf_lines.proofs.BasicLemmas.{break_char}
 use Rattle.yf_lines.proofs.ClearLemmas.{quiet_whites}
 use Rattle.yf_comments.specs.Comment.{CommentValue}
-use Rattle.yf_comments.specs.Comments.{BreakOrEnd, LineRest, CommentLine, LineEnd, SeparateLines, Separate, Row}
+use Rattle.yf_comments.specs.Comments.{BreakOrEnd, LineRest, LineEnd, SeparateLines, Separate, Row}
 use Rattle.yf_comments.specs.Comments.BreakOrEnd.{by_break, by_end}
 use Rattle.yf_comments.specs.Comments.LineRest.{nothing, whites, comment}
 use Rattle.yf_comments.specs.Comments.LineEnd.{past_rest, from_start}
 use Rattle.yf_comments.specs.Comments.SeparateLines.{in_line, over_lines}
 use Rattle.yf_comments.specs.Comments.Separate.{in_key, in_node}
 use Rattle.yf_comments.proofs.RowLemmas.{separate_whites, row_functional, stuck_at_solid, separate_from}
-use Rattle.yf_comments.proofs.LineEndLemmas.{line_end_rows, rows_line_end, row_stuck, rest_next, lines_rows}
+use Rattle.yf_comments.proofs.LineEndLemmas.{line_end_rows, rows_line_end, rest_next, lines_rows}
 use Rattle.yf_comments.proofs.SeparateLemmas.{Solid, separate_solid, prefix_whites}
 use Rattle.yf_plain.proofs.PlainLemmas.{ns_lf, ns_cr, ns_below, ns_not_white}
 use Rattle.yf_props.proofs.SeparationEnds.{Apparent, apparent_last}

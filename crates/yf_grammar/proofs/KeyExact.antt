@@ -1,11 +1,11 @@
 -- A key with or without a value in a flow mapping, and what stands behind `?`, where their parts are found.
-use Rattle.std.proofs.Common.{◌≡◌, ◌≢◌, ℕ, ℤ, suc, max, ◌+◌, ◌<◌, ◌≤◌, Bool, true, false, ◌||◌, ◌==◌, ◌⊎◌, inl, inr, ⊎_elim, List, [], ◌∷◌, ◌++◌, Option, Some, None, refl, sym, ap, ◌∙◌, subst, arith, true≢false}
+use Rattle.std.proofs.Common.{◌≡◌, ◌≢◌, ℕ, ℤ, max, ◌+◌, Bool, true, false, ◌||◌, ◌==◌, List, Option, Some, None, refl, sym, ap, ◌∙◌, subst, true≢false}
 use Rattle.yf_chars.specs.declared.context.Ctx.{Ctx}
 use Rattle.yf_chars.specs.Text.{code}
 use Rattle.yf_comments.specs.Comment.{CommentValue}
 use Rattle.yf_grammar.specs.Meaning.{Meaning, ◌⊕◌, noting, entering, empty_node}
 use Rattle.yf_grammar.specs.Grammar.{MaySeparate}
-use Rattle.yf_grammar.specs.Parser.{Found, found, Task, ANode, AValue, AnImplicit, AnExplicit, ColonAt, Parses, Gap, paired}
+use Rattle.yf_grammar.specs.Parser.{Found, found, ANode, AValue, AnImplicit, AnExplicit, ColonAt, Parses, Gap, paired}
 use Rattle.yf_grammar.specs.Parser.Parses.{lone_value, key_missed, key_with_value, key_without_value, explicit_nothing, explicit_something}
 use Rattle.yf_grammar.proofs.GapLemmas.{Visible, gap_is}
 use Rattle.yf_grammar.proofs.NodeExits.{none_found, some_found}

@@ -1,5 +1,5 @@
 -- What stands in a key is on one line.
-use Rattle.std.proofs.Common.{◌≡◌, ◌≢◌, ℕ, ℤ, zero, suc, pos, ◌+◌, ◌-◌, ◌<◌, ◌≤◌, Bool, true, false, ◌⊎◌, inl, inr, ⊎_elim, List, [], ◌∷◌, ◌++◌, Option, Some, None, refl, sym, ap, ◌∙◌, subst, arith, true≢false, not, ◌&&◌}
+use Rattle.std.proofs.Common.{◌≡◌, ◌≢◌, ℕ, ℤ, ◌+◌, ◌-◌, ◌<◌, ◌≤◌, Bool, true, false, ⊎_elim, List, None, refl, sym, ap, ◌∙◌, subst, arith, true≢false, not}
 use Rattle.std.proofs.lemmas.Bool.{cases_eq, cases_lt, ne_eqb, and_parts}
 use Rattle.std.proofs.lemmas.Bool.Decides.{nat_tests}
 use Rattle.std.specs.Str.{IsUtf8}
@@ -15,7 +15,7 @@ use Rattle.yf_chars.specs.Escape.{Escape, Numbered, named}
 use Rattle.yf_chars.specs.Escape.Escape.{by_letter, by_two, by_four, by_half, by_pair, by_eight}
 use Rattle.yf_chars.proofs.TextLemmas.{reads_real}
 use Rattle.yf_chars.proofs.EscapeLemmas.{no_name}
-use Rattle.yf_lines.specs.Basic.{is_block, is_key, is_flow, SeparateInLine}
+use Rattle.yf_lines.specs.Basic.{is_key, is_flow, SeparateInLine}
 use Rattle.yf_lines.proofs.ClearLemmas.{code_inside}
 use Rattle.yf_lines.proofs.BasicLemmas.{white_cases}
 use Rattle.yf_comments.specs.Comment.{CommentValue}
@@ -32,8 +32,8 @@ use Rattle.yf_props.specs.Names.Alias.{asterisk_name}
 use Rattle.yf_props.specs.Names.Anchor.{ampersand_name}
 use Rattle.yf_props.specs.Names.Properties.{by_tag, by_anchor, tag_first, anchor_first}
 use Rattle.yf_props.specs.Props.{TagValue}
-use Rattle.yf_props.proofs.SolidLemmas.{AllSolid, tag_all_solid}
-use Rattle.yf_quoted.specs.Quoted.{Inside, Quoted, SingleChar, DoubleChar, SingleQuoted, DoubleQuoted, Piece}
+use Rattle.yf_props.proofs.SolidLemmas.{tag_all_solid}
+use Rattle.yf_quoted.specs.Quoted.{Inside, Quoted, SingleChar, DoubleChar, Piece}
 use Rattle.yf_quoted.specs.Quoted.Inside.{as_key as key_inside, as_lines as lines_inside}
 use Rattle.yf_quoted.specs.Quoted.SingleChar.{doubled, unquoted}
 use Rattle.yf_quoted.specs.Quoted.DoubleChar.{unescaped, escaped, wrong}

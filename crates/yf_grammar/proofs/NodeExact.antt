@@ -1,6 +1,6 @@
 -- A node before what ends it is found exactly as it is derived.
-use Rattle.std.proofs.Common.{◌≡◌, ◌≢◌, ℕ, ℤ, ◌+◌, ◌<◌, ◌≤◌, Bool, true, false, ◌⊎◌, inl, inr, ⊎_elim, List, [], ◌∷◌, ◌++◌, Option, Some, None, refl, sym, ap, ◌∙◌, subst, arith, true≢false, encode_utf8_all, not, ◌||◌, ◌&&◌}
-use Rattle.std.proofs.lemmas.Bool.{cases_lt, cases_eq}
+use Rattle.std.proofs.Common.{◌≡◌, ◌≢◌, ℕ, ℤ, ◌+◌, Bool, true, false, ⊎_elim, List, [], ◌++◌, Option, refl, sym, ap, ◌∙◌, subst, arith, true≢false, encode_utf8_all}
+use Rattle.std.proofs.lemmas.Bool.{cases_eq}
 use Rattle.std.proofs.lemmas.Bool.Decides.{nat_tests}
 use Rattle.std.proofs.Math.Bool.{and-false}
 use Rattle.std.specs.Str.{IsUtf8}
@@ -9,23 +9,23 @@ use Rattle.yf_chars.specs.declared.context.Ctx.TheVariants.{BlockOut, BlockIn, F
 use Rattle.yf_chars.specs.Text.{code}
 use Rattle.yf_chars.specs.Class.{is_ns_char, is_nb_char, is_printable, is_between, is_break_char, is_white, is_plain_safe, is_flow_indicator}
 use Rattle.yf_chars.specs.Chain.{Stuck, Chosen}
-use Rattle.yf_lines.specs.Basic.{is_block, Clear}
+use Rattle.yf_lines.specs.Basic.{Clear}
 use Rattle.yf_comments.specs.Comment.{CommentValue}
 use Rattle.yf_comments.specs.Comments.{Separate}
 use Rattle.yf_events.specs.declared.event.ScalarStyle.TheVariants.{Plain as PlainStyle}
 use Rattle.yf_plain.specs.Plain.{is_plain_first, is_plain_char, PlainText, Plain}
 use Rattle.yf_plain.proofs.PlainLemmas.{plain_colon, plain_other, first_is_ns}
 use Rattle.yf_props.specs.Names.{Properties, PropertiesValue}
-use Rattle.yf_grammar.specs.Meaning.{Meaning, behind, scalar, empty_node, with_props}
+use Rattle.yf_grammar.specs.Meaning.{behind, scalar, empty_node, with_props}
 use Rattle.yf_grammar.specs.Grammar.{MaySeparate, MayBeColon}
 use Rattle.yf_grammar.specs.Grammar.MaySeparate.{unseparated, separated}
-use Rattle.yf_grammar.specs.Parser.{Found, found, Task, ANode, AContent, Parses, begins_properties, begins_content, begins_plain, propertied, lone_properties, plain_found}
+use Rattle.yf_grammar.specs.Parser.{Found, found, ANode, Parses, begins_content, lone_properties, plain_found}
 use Rattle.yf_grammar.proofs.GapLemmas.{Visible, separate_is, separate_still}
-use Rattle.yf_grammar.proofs.PlainEnds.{plain_leaps, plain_ends, first_no_bar, no_bar_plain, no_bar_content, no_bar_properties, first_colon, is_bar, no_bar_at}
+use Rattle.yf_grammar.proofs.PlainEnds.{plain_leaps, plain_ends, first_no_bar, no_bar_plain, no_bar_content, no_bar_properties, first_colon, is_bar}
 use Rattle.yf_grammar.proofs.PropertiesEnds.{properties_before, properties_alone_before, is_stop, stop_ns, stop_not_hash}
 use Rattle.yf_grammar.proofs.FlowStarts.{is_end, bar_no_hash}
 use Rattle.yf_grammar.proofs.WiderLemmas.{is_inside}
-use Rattle.yf_grammar.proofs.NodeExits.{propertied_is, some_found, none_found, node_plain, node_content, past_properties, PastProperties, past_to_content, past_to_plain, past_to_nothing, past_to_broken, past_to_other}
+use Rattle.yf_grammar.proofs.NodeExits.{node_plain, past_properties, PastProperties, past_to_content, past_to_plain, past_to_nothing, past_to_broken, past_to_other}
 
 -- behind a place stands what ends an entry, or the `:` behind a key of that kind
 pub record Followed (t : List ℕ) (n : ℤ) (c : Ctx) (json : Bool) (j : ℕ) : Type 0 where

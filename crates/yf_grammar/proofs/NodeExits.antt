@@ -1,28 +1,20 @@
 -- What the reader finds at a place where an alias, a plain scalar, content or properties are derived.
-use Rattle.std.proofs.Common.{◌≡◌, ◌≢◌, ℕ, ℤ, ◌+◌, ◌<◌, ◌≤◌, Bool, true, false, ◌⊎◌, inl, inr, ⊎_elim, List, [], ◌∷◌, ◌++◌, Option, Some, None, refl, sym, ap, ◌∙◌, subst, arith, true≢false, encode_utf8_all, not, ◌||◌}
-use Rattle.std.proofs.lemmas.Bool.{cases_lt}
+use Rattle.std.proofs.Common.{◌≡◌, ℕ, ℤ, Bool, true, false, List, [], ◌++◌, Option, Some, None, refl, ap, ◌∙◌, subst, arith, encode_utf8_all}
 use Rattle.std.proofs.lemmas.Bool.Decides.{nat_tests}
-use Rattle.std.specs.Str.{IsUtf8}
 use Rattle.yf_chars.specs.declared.context.Ctx.{Ctx}
 use Rattle.yf_chars.specs.Text.{code}
-use Rattle.yf_chars.specs.Class.{is_ns_char}
 use Rattle.yf_chars.specs.Chain.{Stuck, Chosen}
-use Rattle.yf_lines.specs.Basic.{is_block, Clear}
 use Rattle.yf_comments.specs.Comment.{CommentValue}
 use Rattle.yf_comments.specs.Comments.{Separate}
-use Rattle.yf_events.specs.declared.event.ScalarStyle.TheVariants.{Plain as PlainStyle, Single as SingleStyle, Double as DoubleStyle}
-use Rattle.yf_plain.specs.Plain.{is_plain_first, PlainText, Plain}
+use Rattle.yf_events.specs.declared.event.ScalarStyle.TheVariants.{Plain as PlainStyle}
+use Rattle.yf_plain.specs.Plain.{Plain}
 use Rattle.yf_props.specs.Names.{Alias, Properties, PropertiesValue}
 use Rattle.yf_props.specs.Names.Alias.{asterisk_name}
 use Rattle.yf_props.proofs.NameLemmas.{alias_unique}
-use Rattle.yf_grammar.specs.Meaning.{Meaning, behind, scalar, alias_to, empty_node, with_props}
-use Rattle.yf_grammar.specs.Grammar.{MaySeparate}
-use Rattle.yf_grammar.specs.Grammar.MaySeparate.{unseparated, separated}
-use Rattle.yf_grammar.specs.Parser.{Found, found, Task, ANode, AContent, Parses, begins_alias, begins_properties, begins_content, begins_plain, propertied, lone_properties, plain_found}
+use Rattle.yf_grammar.specs.Meaning.{Meaning, behind, scalar, alias_to, with_props}
+use Rattle.yf_grammar.specs.Parser.{Found, found, ANode, AContent, Parses, begins_alias, begins_properties, begins_content, begins_plain, propertied, lone_properties, plain_found}
 use Rattle.yf_grammar.specs.Parser.Parses.{alias_read, alias_missed, plain_read, plain_missed, content_read, properties_missed, properties_content, properties_plain, properties_end, properties_before_broken, properties_before_other}
-use Rattle.yf_grammar.proofs.GapLemmas.{Visible, separate_is, separate_still}
-use Rattle.yf_grammar.proofs.PlainEnds.{plain_leaps, first_no_bar, no_bar_plain, no_bar_content, no_bar_properties}
-use Rattle.yf_grammar.proofs.PropertiesEnds.{properties_begin, properties_before, properties_alone_before, is_stop}
+use Rattle.yf_grammar.proofs.PropertiesEnds.{properties_begin}
 
 -- one character begins one kind of node
 module _ (c : ℕ) where
@@ -118,7 +110,6 @@ module _ {t : List ℕ} where
   node_content {n = n} {c = c} {i = i} {o = o} Q p f (properties_end a s) = absurd (content_no_properties (code t i) p (properties_begin a.derived))
   node_content {n = n} {c = c} {i = i} {o = o} Q p f (properties_before_broken a s b r) = absurd (content_no_properties (code t i) p (properties_begin a.derived))
   node_content {n = n} {c = c} {i = i} {o = o} Q p f (properties_before_other a s b r) = absurd (content_no_properties (code t i) p (properties_begin a.derived))
-
 
 -- what is found behind the properties that end at g
 pub data PastProperties (t : List ℕ) (e : ℕ) (n : ℤ) (c : Ctx) (i g : ℕ) (p : PropertiesValue) (o : Option Found) : Type 0 where

@@ -1,11 +1,10 @@
 -- The key of a single pair: where it ends is unique, what is derived is one, and none stands before what ends an entry.
-use Rattle.std.proofs.Common.{◌≡◌, ◌≢◌, ℕ, ℤ, ◌+◌, ◌<◌, ◌≤◌, Bool, true, false, List, [], refl, sym, ap, ◌∙◌, subst, arith}
-use Rattle.std.specs.Str.{IsUtf8}
+use Rattle.std.proofs.Common.{◌≡◌, ℕ, ℤ, ◌≤◌, true, false, List, [], ap, ◌∙◌, subst, arith}
 use Rattle.yf_chars.specs.declared.context.Ctx.{Ctx}
 use Rattle.yf_chars.specs.Text.{code}
 use Rattle.yf_chars.specs.Class.{is_white, is_ns_char, is_nb_char, is_printable, is_between, is_break_char}
 use Rattle.yf_chars.specs.Chain.{Many}
-use Rattle.yf_chars.specs.Chain.Chain.{done, step}
+use Rattle.yf_chars.specs.Chain.Chain.{done}
 use Rattle.yf_chars.proofs.ChainLemmas.{many_unique}
 use Rattle.yf_comments.specs.Comment.{CommentValue}
 use Rattle.yf_comments.proofs.RowLemmas.{separate_whites}
@@ -15,7 +14,7 @@ use Rattle.yf_grammar.specs.Grammar.MaySeparateInLine.{unseparated_in_line, sepa
 use Rattle.yf_grammar.specs.Parser.{Found, ColonAt, OnOneLine, PairKey}
 use Rattle.yf_grammar.proofs.BlankRuns.{is_blank, ns_not_blank, Blanks, blanks_unique, blanks_of_whites, Front, all_blank, hash_at}
 use Rattle.yf_grammar.proofs.PlainEnds.{may_front, hash_not_blank}
-use Rattle.yf_grammar.proofs.PropertiesEnds.{is_stop, stop_ns}
+use Rattle.yf_grammar.proofs.PropertiesEnds.{stop_ns}
 use Rattle.yf_grammar.proofs.FlowStarts.{is_end}
 use Rattle.yf_grammar.proofs.NodeExact.{end_no_colon, end_stop}
 

@@ -1,17 +1,17 @@
 -- Plain scalars: what they begin with, and that one is the longest where what follows it is no character of one.
-use Rattle.std.proofs.Common.{◌≡◌, ◌≢◌, ℕ, ℤ, ◌+◌, ◌<◌, ◌≤◌, Bool, true, false, ◌||◌, ◌==◌, ◌⊎◌, inl, inr, ⊎_elim, List, [], ◌∷◌, ◌++◌, refl, sym, ap, ◌∙◌, subst, arith, true≢false}
-use Rattle.std.proofs.lemmas.Bool.{cases_Bool, cases_eq, and_parts}
+use Rattle.std.proofs.Common.{◌≡◌, ℕ, ℤ, ◌+◌, ◌<◌, ◌≤◌, Bool, true, false, ◌||◌, ◌==◌, ⊎_elim, List, [], ◌++◌, refl, sym, ap, ◌∙◌, subst, arith, true≢false}
+use Rattle.std.proofs.lemmas.Bool.{cases_Bool}
 use Rattle.std.proofs.lemmas.Bool.Decides.{nat_tests}
 use Rattle.std.proofs.Math.Bool.{and-false}
 use Rattle.std.specs.Str.{IsUtf8}
 use Rattle.yf_chars.specs.declared.context.Ctx.{Ctx}
-use Rattle.yf_chars.specs.Text.{code, next, before, Reads}
+use Rattle.yf_chars.specs.Text.{code, next, before}
 use Rattle.yf_chars.specs.Class.{is_ns_char, is_plain_safe, is_indicator, is_flow_indicator}
-use Rattle.yf_chars.specs.Chain.{Chain, Functional, Stuck, Chosen, Many}
+use Rattle.yf_chars.specs.Chain.{Chain, Functional, Stuck, Chosen}
 use Rattle.yf_chars.specs.Chain.Chain.{done, step}
 use Rattle.yf_chars.proofs.TextLemmas.{reads_real, next_later}
 use Rattle.yf_chars.proofs.ChainLemmas.{chain_append, chain_forward, chain_chosen}
-use Rattle.yf_lines.specs.Basic.{Clear, LineStart}
+use Rattle.yf_lines.specs.Basic.{Clear}
 use Rattle.yf_plain.specs.Plain.{is_plain_first, is_plain_char, is_sign, PlainItem, PlainLine, PlainNext, PlainText, Plain}
 use Rattle.yf_plain.specs.Plain.PlainItem.{set_off}
 use Rattle.yf_plain.specs.Plain.PlainLine.{one_line}

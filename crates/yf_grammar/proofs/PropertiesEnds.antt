@@ -1,28 +1,28 @@
 -- Properties are the longest ones where they are followed by a separation and content, or by what ends an entry.
-use Rattle.std.proofs.Common.{◌≡◌, ◌≢◌, ℕ, ℤ, ◌+◌, ◌-◌, ◌<◌, ◌≤◌, Bool, true, false, ◌||◌, ◌==◌, ◌⊎◌, inl, inr, ⊎_elim, List, [], refl, sym, ap, ◌∙◌, subst, arith, true≢false, not, ◌&&◌}
-use Rattle.std.proofs.lemmas.Bool.{cases_lt, cases_Bool, ne_eqb}
+use Rattle.std.proofs.Common.{◌≡◌, ◌≢◌, ℕ, ℤ, ◌+◌, ◌-◌, ◌<◌, ◌≤◌, Bool, true, false, ◌||◌, ◌==◌, ◌⊎◌, inl, inr, ⊎_elim, List, refl, sym, ap, ◌∙◌, subst, arith, true≢false}
+use Rattle.std.proofs.lemmas.Bool.{cases_lt, ne_eqb}
 use Rattle.std.proofs.lemmas.Bool.Decides.{nat_tests}
 use Rattle.std.specs.Str.{IsUtf8}
 use Rattle.yf_chars.specs.declared.context.Ctx.{Ctx}
 use Rattle.yf_chars.specs.Text.{code}
 use Rattle.yf_chars.specs.Class.{is_tag_char, is_word_char, is_digit, is_between, is_flow_indicator, is_uri_char, is_ns_char, is_nb_char, is_printable, is_break_char, is_white}
-use Rattle.yf_chars.specs.Chain.{Chain, Functional, Stuck, Chosen, One}
+use Rattle.yf_chars.specs.Chain.{Chain, Stuck, Chosen}
 use Rattle.yf_chars.specs.Chain.Chain.{done, step}
 use Rattle.yf_chars.specs.Chain.One.{one}
 use Rattle.yf_chars.proofs.ChainLemmas.{one_functional, stuck_unique}
 use Rattle.yf_comments.specs.Comment.{CommentValue}
 use Rattle.yf_comments.specs.Comments.{Separate}
 use Rattle.yf_props.specs.Props.{TagValue}
-use Rattle.yf_props.specs.Names.{Spelled, WordChar, TagChar, Run, Anchor, Alias, Handle, VerbatimTag, ShorthandTag, TagProperty, Properties, PropertiesValue}
+use Rattle.yf_props.specs.Names.{WordChar, TagChar, Run, Anchor, Handle, VerbatimTag, ShorthandTag, TagProperty, Properties, PropertiesValue}
 use Rattle.yf_props.specs.Names.Spelled.{as_itself, as_escape}
 use Rattle.yf_props.specs.Names.Handle.{primary_handle, secondary_handle, named_handle}
 use Rattle.yf_props.specs.Names.VerbatimTag.{in_brackets}
 use Rattle.yf_props.specs.Names.ShorthandTag.{handle_suffix}
 use Rattle.yf_props.specs.Names.TagProperty.{verbatim_tag, shorthand_tag, non_specific_tag}
 use Rattle.yf_props.specs.Names.Properties.{by_tag, by_anchor, tag_first, anchor_first}
-use Rattle.yf_props.proofs.NameLemmas.{alias_unique, anchor_parts, anchor_unique, run_unique}
+use Rattle.yf_props.proofs.NameLemmas.{anchor_parts, anchor_unique, run_unique}
 use Rattle.yf_props.proofs.TagLemmas.{tag_mark, tag_later, tag_functional, word_uri, verbatim_chosen, verbatim_tag_chosen}
-use Rattle.yf_props.proofs.SeparationEnds.{Solid, no_separation_inside, separate_forward}
+use Rattle.yf_props.proofs.SeparationEnds.{no_separation_inside, separate_forward}
 use Rattle.yf_props.proofs.SolidLemmas.{tag_all_solid}
 use Rattle.yf_grammar.specs.Grammar.{MaySeparate}
 use Rattle.yf_grammar.specs.Grammar.MaySeparate.{unseparated, separated}

@@ -1,17 +1,16 @@
 -- Quoted scalars: where one ends, what it is in another context, and that one of a key is on one line.
-use Rattle.std.proofs.Common.{◌≡◌, ◌≢◌, ℕ, ℤ, ◌+◌, ◌-◌, ◌<◌, ◌≤◌, Bool, true, false, ◌⊎◌, inl, inr, ⊎_elim, List, [], ◌++◌, Option, Some, None, refl, sym, ap, ◌∙◌, subst, arith, true≢false}
-use Rattle.std.proofs.lemmas.Bool.{cases_lt, cases_eq}
+use Rattle.std.proofs.Common.{◌≡◌, ℕ, ℤ, ◌+◌, ◌<◌, ◌≤◌, true, false, inl, inr, List, Option, sym, ap, ◌∙◌, subst, arith}
 use Rattle.std.specs.Str.{IsUtf8}
 use Rattle.yf_chars.specs.declared.context.Ctx.{Ctx}
-use Rattle.yf_chars.specs.Text.{code, next}
-use Rattle.yf_chars.specs.Chain.{Chain, Stuck}
+use Rattle.yf_chars.specs.Text.{code}
+use Rattle.yf_chars.specs.Chain.{Chain}
 use Rattle.yf_chars.specs.Chain.Chain.{done, step}
 use Rattle.yf_chars.proofs.ChainLemmas.{chain_forward, chain_meet, Meets}
 use Rattle.yf_chars.proofs.ChainLemmas.Meets.{goes_on, falls_short}
-use Rattle.yf_lines.specs.Basic.{is_block, is_key, is_flow, FlowFolded}
-use Rattle.yf_quoted.specs.Quoted.{Quoted, SingleChar, DoubleChar, DoubleBreak, SingleQuoted, DoubleQuoted, Piece, as_they_are, goods}
+use Rattle.yf_lines.specs.Basic.{is_block, is_key}
+use Rattle.yf_quoted.specs.Quoted.{Quoted, SingleChar, SingleQuoted, DoubleQuoted, Piece}
 use Rattle.yf_quoted.specs.Quoted.SingleChar.{doubled, unquoted}
-use Rattle.yf_quoted.specs.Body.{Gap, Step, Body, SingleBreaks, DoubleBreaks, WidthOf}
+use Rattle.yf_quoted.specs.Body.{Gap, Step, Body}
 use Rattle.yf_quoted.specs.Body.WidthOf.{of_key}
 use Rattle.yf_quoted.proofs.BodyLemmas.{Laws, step_functional, body_unique}
 use Rattle.yf_quoted.proofs.ScalarLemmas.{Kind, some_width, quoted_body, body_quoted, body_map}

@@ -1,15 +1,13 @@
 -- The value behind a `:`, where what the reader finds of its node is known.
-use Rattle.std.proofs.Common.{◌≡◌, ◌≢◌, ℕ, ℤ, suc, max, ◌+◌, ◌<◌, ◌≤◌, Bool, true, false, ◌⊎◌, inl, inr, ⊎_elim, List, [], ◌∷◌, ◌++◌, Option, Some, None, refl, sym, ap, ◌∙◌, subst, arith, true≢false}
-use Rattle.std.specs.Str.{IsUtf8}
+use Rattle.std.proofs.Common.{◌≡◌, ℕ, ℤ, ◌+◌, Bool, true, false, List, Option, Some, None, refl, ap, ◌∙◌, subst}
 use Rattle.yf_chars.specs.declared.context.Ctx.{Ctx}
-use Rattle.yf_chars.specs.Text.{code}
-use Rattle.yf_chars.specs.Chain.{Stuck, Chosen}
+use Rattle.yf_chars.specs.Chain.{Stuck}
 use Rattle.yf_comments.specs.Comment.{CommentValue}
 use Rattle.yf_comments.specs.Comments.{Separate}
 use Rattle.yf_grammar.specs.Meaning.{Meaning, behind, empty_node}
 use Rattle.yf_grammar.specs.Grammar.{MaySeparate}
 use Rattle.yf_grammar.specs.Grammar.MaySeparate.{unseparated, separated}
-use Rattle.yf_grammar.specs.Parser.{Found, found, Task, ANode, AValue, Parses}
+use Rattle.yf_grammar.specs.Parser.{Found, found, ANode, AValue, Parses}
 use Rattle.yf_grammar.specs.Parser.Parses.{value_read, value_empty, value_adjacent, value_adjacent_empty, value_missing}
 use Rattle.yf_grammar.proofs.GapLemmas.{Visible, separate_is}
 use Rattle.yf_grammar.proofs.NodeExits.{none_found}

@@ -1,19 +1,19 @@
 -- Nodes like those of YAML are found as they are derived, inside of a flow collection and before what can follow them.
-use Rattle.std.proofs.Common.{◌≡◌, ◌≢◌, ℕ, ℤ, suc, max, ◌+◌, ◌<◌, ◌≤◌, Bool, true, false, List, [], ◌∷◌, ◌++◌, Option, Some, None, refl, sym, ap, ◌∙◌, subst, arith}
+use Rattle.std.proofs.Common.{◌≡◌, ℕ, ℤ, Bool, true, false, List, Option, None, sym, ◌∙◌, arith}
 use Rattle.std.specs.Str.{IsUtf8}
 use Rattle.yf_chars.specs.declared.context.Ctx.{Ctx}
 use Rattle.yf_chars.specs.Text.{code}
-use Rattle.yf_lines.specs.Basic.{is_block, Clear}
-use Rattle.yf_lines.proofs.BasicLemmas.{clear_front, clear_back}
+use Rattle.yf_lines.specs.Basic.{Clear}
+use Rattle.yf_lines.proofs.BasicLemmas.{clear_back}
 use Rattle.yf_comments.specs.Comment.{CommentValue}
 use Rattle.yf_props.proofs.SeparationEnds.{separate_forward}
 use Rattle.yf_props.specs.Names.{PropertiesValue}
 use Rattle.yf_grammar.specs.Meaning.{Meaning, alias_to}
-use Rattle.yf_grammar.specs.Grammar.{Production, NodeOf, JsonContent, Derives}
-use Rattle.yf_grammar.specs.Grammar.Derives.{an_alias, a_plain, a_plain_with, properties_alone, a_json, a_single, a_double}
-use Rattle.yf_grammar.specs.Parser.{Found, found, ANode, AContent, Parses, propertied, lone_properties, plain_found}
+use Rattle.yf_grammar.specs.Grammar.{NodeOf, Derives}
+use Rattle.yf_grammar.specs.Grammar.Derives.{an_alias, a_plain, a_plain_with, properties_alone}
+use Rattle.yf_grammar.specs.Parser.{Found, found, ANode, Parses, propertied, lone_properties, plain_found}
 use Rattle.yf_grammar.proofs.PropertiesEnds.{properties_later}
-use Rattle.yf_grammar.proofs.WiderLemmas.{is_inside, inside_not_block}
+use Rattle.yf_grammar.proofs.WiderLemmas.{is_inside}
 use Rattle.yf_grammar.proofs.NodeExits.{node_alias, node_plain, node_properties, PastProperties, past_to_content, past_to_plain, past_to_nothing, past_to_broken, past_to_other}
 use Rattle.yf_grammar.proofs.PlainEnds.{plain_leaps, first_no_bar, no_bar_plain}
 use Rattle.yf_grammar.proofs.NodeExact.{Followed, plain_exact, plain_with_exact, alone_exact}
