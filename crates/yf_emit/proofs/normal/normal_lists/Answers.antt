@@ -4,7 +4,7 @@ use Rattle.yf_emit.specs.Restyled.{IsRestyled, Restyled}
 use Rattle.yf_emit.proofs.RestyledLemmas.{restyled_whole, still_fits, still_stream}
 use Rattle.yf_emit.proofs.normal.normal_lists.Goals as goal
 
-is_restyled : (c : goal.After-drop-measures-2) → IsRestyled c.args.style.now.quotes c.args.reading.now (record {
+is_restyled : (c : goal.After-drop-measures-inside-2) → IsRestyled c.args.style.now.quotes c.args.reading.now (record {
   events = c.in_ok-normal_events.field-0;
   resolved = c.in_ok-copied_tags.field-0;
   comments = c.in_ok-copied_comments.field-0;
