@@ -1,6 +1,8 @@
 -- Where a pass over events adds the text of a kept collection: what `kept_text_of` then is, and the same in a normal form, where
 -- what may be kept has its styles already.
-use Rattle.std.proofs.Common.{◌≡◌, ℕ, ◌+◌, Bool, true, false, not, ◌&&◌, List, [], ◌∷◌, ◌++◌, chars, length, Some, None, refl, sym, ap, ◌∙◌, true≢false}
+use Rattle.std.proofs.Common.{◌≡◌, ℕ, ◌+◌, ◌-◌, ◌≤◌, Bool, true, false, not, ◌&&◌, List, [], ◌∷◌, ◌++◌, chars, length, Some, None, refl, sym, ap, subst, ◌∙◌, arith, true≢false}
+use Rattle.std.specs.Prelude.{get_or}
+use Rattle.std.proofs.lemmas.Option.{get_or_from_slice_get}
 use Rattle.std.proofs.lemmas.Bool.{and_parts}
 use Rattle.yf_lines.specs.declared.quotes.Quotes.{Quotes}
 use Rattle.yf_props.specs.Props.{PropsValue}
@@ -11,6 +13,9 @@ use Rattle.yf_events.specs.declared.event.ScalarStyle.TheVariants.{Plain, Single
 use Rattle.yf_emit.specs.declared.style.Style.{Style}
 use Rattle.yf_emit.specs.Keys.{AddsKept, NodeAt, kept_text_of}
 use Rattle.yf_emit.specs.Kept.{may_be_kept, items_may_be_kept, pairs_may_be_kept, scalar_may_be_kept, has_comment}
+use Rattle.yf_emit.specs.declared.measure.Measure.{Measure}
+use Rattle.yf_emit.specs.Measures.{IsKeptText, Measured, TellsKept, measure_of, no_measure}
+use Rattle.yf_emit.proofs.OneLineRuns.{flat_filled}
 use Rattle.yf_emit.specs.Normal.{Setting, styled, styled_items, styled_pairs}
 use Rattle.yf_emit.specs.OneLine.{bare}
 use Rattle.yf_emit.specs.Tree.{Standing, Node, scalar, alias, sequence, mapping, Items, no_items, item, Pairs, no_pairs, pair, flat, is_collection, is_filled_flow}
@@ -33,6 +38,28 @@ kept_text_some t c x es s i last new a e n l k =
 
 pub kept_text_none : (t : List ℕ) (c : Setting) (x : Node) → (is_filled_flow x && may_be_kept t c.comments x) ≡ false → kept_text_of t c x ≡ None
 kept_text_none t c x k = rw k refl
+
+-- the same from the measure at the node's index
+
+measure_at : (t : List ℕ) (c : Setting) (es : List Placed) (ms : List Measure) (i : ℕ) (x : Node) → Measured t c es ms → NodeAt es i x
+    → get_or ms i no_measure ≡ measure_of t c i x
+measure_at t c es ms i x m n = get_or_from_slice_get ms i (measure_of t c i x) no_measure (m.each i x n)
+
+last_then : (i n : ℕ) → 1 ≤ n → i + n - 1 + 1 ≡ i + n
+last_then i n l = omega (arith, l)
+
+pub tells_some : (es : List Placed) (s : Style) (ms : List Measure) (i : ℕ) (m : Measure) (old new : List ℕ) → m ≡ get_or ms i no_measure → old ≡ []
+    → AddsKept es s i m.last old new → m.can_be_kept ≡ true → TellsKept es s ms i (Some new)
+tells_some es s ms i m old new f b a k = record { tells = λ t c e d. record { is = λ x n.
+    let here : m ≡ measure_of t c i x = f ∙ measure_at t c es ms i x d n in
+    sym (kept_text_some t c x es s i m.last new (subst (λ w. AddsKept es s i m.last w new) b a) e n
+    (ap (λ w. w.last + 1) here ∙ last_then i (length (flat x)) (flat_filled x)) (sym (ap (λ w. w.can_be_kept) here) ∙ k)) } }
+
+pub tells_none : (es : List Placed) (s : Style) (ms : List Measure) (i : ℕ) (m : Measure) → m ≡ get_or ms i no_measure → m.can_be_kept ≡ false
+    → TellsKept es s ms i None
+tells_none es s ms i m f k = record { tells = λ t c e d. record { is = λ x n.
+    let here : m ≡ measure_of t c i x = f ∙ measure_at t c es ms i x d n in
+    sym (kept_text_none t c x (sym (ap (λ w. w.can_be_kept) here) ∙ k)) } }
 
 -- What may be kept may be kept in its styles, and has them then
 

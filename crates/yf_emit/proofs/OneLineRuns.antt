@@ -332,7 +332,7 @@ unfolding run
 run_past q stack k last es old all l i =
     sym (append-nil old) ∙ ap (λ w. old ++ run q stack w) (sym (nothing_taken (last + 1 - k) (drop k es) (drop_all k es l))) ∙ i
 
-flat_filled : (x : Node) → 1 ≤ length (flat x)
+pub flat_filled : (x : Node) → 1 ≤ length (flat x)
 flat_filled (scalar at props style text lines) = omega arith
 flat_filled (alias at name) = omega arith
 flat_filled (sequence at flow props xs) = omega arith

@@ -5,7 +5,8 @@ use Rattle.yf_events.specs.Event.{Placed}
 use Rattle.yf_events.specs.declared.event.ScalarStyle.{ScalarStyle}
 use Rattle.yf_events.specs.declared.event.ScalarStyle.TheVariants.{Plain, Single, Double, Literal, Folded}
 use Rattle.yf_emit.specs.declared.measure.Measure.{Measure}
-use Rattle.yf_emit.specs.Keys.{NodeAt}
+use Rattle.yf_emit.specs.declared.style.Style.{Style}
+use Rattle.yf_emit.specs.Keys.{NodeAt, kept_text_of}
 use Rattle.yf_emit.specs.Kept.{may_be_kept}
 use Rattle.yf_emit.specs.Normal.{Setting, styled}
 use Rattle.yf_emit.specs.OneLine.{width, scalar_text, written}
@@ -94,3 +95,11 @@ no_measure = record { last = 0; width = None; can_be_kept = false; first_leaf = 
 -- the list holds, at the index of each event that begins a node, the measure of the node
 pub record Measured (t : List ℕ) (c : Setting) (es : List Placed) (ms : List Measure) : Type 0 where
   pub each : (i : ℕ) (x : Node) → NodeAt es i x → slice_get ms i ≡ Some (measure_of t c i x)
+
+-- What is answered of the node that the event at an index begins: its text on one line, where it is a collection that may be kept.
+pub record IsKeptText (t : List ℕ) (c : Setting) (es : List Placed) (i : ℕ) (answer : Option (List ℕ)) : Type 0 where
+  pub is : (x : Node) → NodeAt es i x → answer ≡ kept_text_of t c x
+
+-- the same from measures, whatever text they are of
+pub record TellsKept (es : List Placed) (s : Style) (ms : List Measure) (i : ℕ) (answer : Option (List ℕ)) : Type 0 where
+  pub tells : (t : List ℕ) (c : Setting) → c.style ≡ s → Measured t c es ms → IsKeptText t c es i answer

@@ -1,9 +1,12 @@
 //! The text of a flow collection that is kept on one line.
-ghost use Rattle.std.specs.Prelude.{◌≡◌, ◌≤◌, ◌∷◌, ◌++◌, encode_utf8, false, reverse, IfErr, OnOk};
+ghost use Rattle.std.specs.Prelude.{◌≡◌, ◌≤◌, ◌∷◌, ◌++◌, encode_utf8, false, option_map, reverse, IfErr, IfOk, OnOk};
+ghost use Rattle.std.specs.List.Sorted.{IsNonDecreasingBy};
 ghost use Rattle.std.specs.String.{string_bytes};
 ghost use Rattle.yf_props.specs.Props.{props_value};
 ghost use Rattle.yf_events.specs.Event.{event_value};
 ghost use Rattle.yf_emit.specs.Keys.{AddsKept};
+ghost use Rattle.yf_emit.specs.Measures.{IsKeptText, TellsKept};
+ghost use Rattle.yf_emit.specs.Normal.{setting_of};
 ghost use Rattle.yf_emit.specs.OneLineRun as OneLineRun;
 ghost use Rattle.yf_emit.specs.OneLineRun.{added, behind_in, between, next_open, outside, run, separator_in};
 
@@ -195,13 +198,16 @@ fn push_between(
 /// The text on one line, from bracket to bracket, of the flow collection that the event at an index begins. `None` where
 /// it cannot be kept, wherever it stands: where a comment stands between its brackets, or it holds an empty scalar or a
 /// plain one that does not stay plain. `None` too of an empty collection, and of an event that begins no flow collection.
+/// The measures are those of the reading.
 pub fn kept_text_of(
     alloc: Global,
     measures: &Measures,
     reading: &Reading,
     i: usize,
     style: &Style,
-) -> Result<Option<String>, AllocError> {
+) -> Result<Option<String>, AllocError>
+    ensures { IfOk result (λ o. TellsKept reading.now.events style.now measures.now i (option_map string_bytes o)) }
+{
     let measure = measures.at(i);
     if !measure.can_be_kept {
         return Ok(None);
@@ -233,7 +239,9 @@ fn kept_within(
     reading: &Reading,
     i: usize,
     style: &Style,
-) -> Result<Option<String>, AllocError> {
+) -> Result<Option<String>, AllocError>
+    ensures { IfOk result (λ o. IsNonDecreasingBy (λ c. c.offset) reading.now.comments → IsKeptText src.now.text (setting_of reading.now style.now) reading.now.events i (option_map string_bytes o)) }
+{
     let measures = measure_all(alloc, src, reading, style)?;
     kept_text_of(alloc, &measures, reading, i, style)
 }
@@ -253,7 +261,8 @@ pub fn kept_text(
     i: usize,
     style: &Style,
 ) -> Result<Option<String>, Fault>
-    ensures { IfErr result (λ fault. fault ≡ Fault.Memory) }
+    ensures text { IfOk result (λ o. IsNonDecreasingBy (λ c. c.offset) reading.now.comments → IsKeptText src.now.text (setting_of reading.now style.now) reading.now.events i (option_map string_bytes o)) }
+    ensures refused { IfErr result (λ fault. fault ≡ Fault.Memory) }
 {
     match kept_within(alloc, src, reading, i, style) {
         Ok(text) => Ok(text),
