@@ -1,5 +1,8 @@
 pub mod BlankRuns
 pub mod ClearLemmas
+pub mod Complete
+pub mod CompleteClaims
+pub mod CompleteSteps
 pub mod ContentExact
 pub mod EntriesExact
 pub mod EntryExact
