@@ -11,6 +11,7 @@ pub mod Forward
 pub mod GapLemmas
 pub mod KeyExact
 pub mod KeyLines
+pub mod Longest
 pub mod NodeExact
 pub mod NodeExits
 pub mod OneLine
