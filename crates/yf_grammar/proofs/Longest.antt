@@ -1,5 +1,5 @@
 -- The recursive reader takes the longest flow node: what is derived at its place ends before what it finds, or is the same.
-use Rattle.std.proofs.Common.{◌≡◌, ℕ, ℤ, ◌+◌, ◌<◌, ◌≤◌, Bool, true, false, ◌⊎◌, inl, inr, ⊎_elim, List, [], ◌++◌, Option, Some, None, refl, sym, ap, ◌∙◌, subst, arith, true≢false, encode_utf8_all}
+use Rattle.std.proofs.Common.{◌≡◌, ℕ, ℤ, ◌<◌, ◌≤◌, Bool, true, false, ◌⊎◌, inl, inr, ⊎_elim, List, [], ◌++◌, Option, Some, None, refl, sym, ap, ◌∙◌, subst, arith, true≢false, encode_utf8_all}
 use Rattle.std.proofs.lemmas.Bool.{cases_lt}
 use Rattle.std.specs.Str.{IsUtf8}
 use Rattle.yf_chars.specs.declared.context.Ctx.{Ctx}
@@ -15,8 +15,8 @@ use Rattle.yf_plain.proofs.PlainLemmas.{first_is_ns}
 use Rattle.yf_props.specs.Names.{Properties, PropertiesValue}
 use Rattle.yf_props.proofs.SeparationEnds.{separate_forward}
 use Rattle.yf_grammar.specs.Meaning.{Meaning, behind, scalar, empty_node, with_props}
-use Rattle.yf_grammar.specs.Grammar.{NodeOf, FlowNode, Derives}
-use Rattle.yf_grammar.specs.Grammar.Derives.{flow_node, an_alias, a_plain, a_plain_with, properties_alone, a_json, a_json_with}
+use Rattle.yf_grammar.specs.Grammar.{NodeOf, Derives}
+use Rattle.yf_grammar.specs.Grammar.Derives.{an_alias, a_plain, a_plain_with, properties_alone, a_json, a_json_with}
 use Rattle.yf_grammar.specs.Grammar.MaySeparate.{separated}
 use Rattle.yf_grammar.specs.Parser.{Found, found, ANode, AContent, Parses, begins_content, propertied, lone_properties, plain_found}
 use Rattle.yf_grammar.specs.Parser.Parses.{content_read}
