@@ -9,8 +9,7 @@ use Rattle.yf_chars.specs.Chain.{Stuck}
 use Rattle.yf_lines.specs.Basic.{is_block}
 use Rattle.yf_comments.specs.Comment.{CommentValue}
 use Rattle.yf_comments.specs.Comments.{Separate}
-use Rattle.yf_props.specs.Names.{Alias, Properties, PropertiesValue}
-use Rattle.yf_props.specs.Names.Alias.{asterisk_name}
+use Rattle.yf_props.specs.Names.{Properties, PropertiesValue}
 use Rattle.yf_grammar.specs.Meaning.{Meaning, ◌⊕◌, behind, noting, with_props, entering, empty_node, collection}
 use Rattle.yf_grammar.specs.Grammar.{Derives, Implicit, ValueOf, MaySeparate, ValueSeparate, closing}
 use Rattle.yf_grammar.specs.Grammar.MaySeparate.{unseparated, separated}
@@ -24,7 +23,7 @@ use Rattle.yf_grammar.proofs.PropertiesEnds.{properties_before, properties_begin
 use Rattle.yf_grammar.proofs.FlowStarts.{is_end, NodeStarts, flow_starts, sign_facts, safe_ns, separate_stuck}
 use Rattle.yf_grammar.proofs.WiderLemmas.{Wider, same_context, from_key, wider_safe}
 use Rattle.yf_grammar.proofs.ParserLemmas.{behind_nothing}
-use Rattle.yf_grammar.proofs.NodeExits.{propertied_is, some_found, none_found, past_properties, PastProperties, past_to_content, past_to_plain, past_to_nothing, past_to_broken, past_to_other}
+use Rattle.yf_grammar.proofs.NodeExits.{alias_begins, propertied_is, some_found, none_found, past_properties, PastProperties, past_to_content, past_to_plain, past_to_nothing, past_to_broken, past_to_other}
 use Rattle.yf_grammar.proofs.NodeExact.{Followed, end_stop, end_no_colon, stop_no_first, stop_visible, followed_no_quote}
 use Rattle.yf_grammar.proofs.ContentExact.{Reaches, reaches, passes, EntriesFound, EntryFound}
 use Rattle.yf_grammar.proofs.KeyExact.{nothing_exact}
@@ -65,10 +64,6 @@ comma_ends = refl
 pub comma_end : (c : ℕ) → c ≡ 44 → is_end c ≡ true
 comma_end c e = ap is_end e ∙ comma_ends
 
-alias_sign : begins_alias 42 ≡ true
-unfolding begins_alias
-alias_sign = refl
-
 module _ {t : List ℕ} where
   pub end_visible : (l : ℕ) → is_end (code t l) ≡ true → Visible t l
   end_visible l e = stop_visible l (end_stop (code t l) e)
@@ -98,12 +93,9 @@ module _ {t : List ℕ} where
   value_colon (empty_value b e m) = record { colon = e; behind = m }
   value_colon (a_value cs e m s d) = record { colon = e; behind = m }
 
-  alias_starts : {i j : ℕ} {x : List ℕ} → Alias t i j x → begins_alias (code t i) ≡ true
-  alias_starts (asterisk_name e r) = ap begins_alias e ∙ alias_sign
-
   -- no node is read at a comma or a closing bracket
   pub no_node_at_end : {e i : ℕ} {n : ℤ} {c : Ctx} {o : Option Found} → is_end (code t i) ≡ true → Parses t e (ANode n c i) o → o ≡ None
-  no_node_at_end {i = i} q (alias_read a) = absurd ((end_no_mark (code t i) q).0 (alias_starts a.derived))
+  no_node_at_end {i = i} q (alias_read a) = absurd ((end_no_mark (code t i) q).0 (alias_begins a.derived))
   no_node_at_end q (alias_missed b s) = refl
   no_node_at_end {i = i} {c = c} q (plain_read b d) =
       absurd (stop_no_first t c i (end_stop (code t i) q) (λ e. absurd (end_no_colon (code t i) q e)) (plain_leaps d.derived.text).0)

@@ -18,7 +18,7 @@ use Rattle.yf_grammar.specs.Meaning.{Meaning, behind, scalar, empty_node, with_p
 use Rattle.yf_grammar.specs.Grammar.{NodeOf, Derives}
 use Rattle.yf_grammar.specs.Grammar.Derives.{an_alias, a_plain, a_plain_with, properties_alone, a_json, a_json_with}
 use Rattle.yf_grammar.specs.Grammar.MaySeparate.{separated}
-use Rattle.yf_grammar.specs.Parser.{Found, found, ANode, AContent, Parses, begins_content, propertied, lone_properties, plain_found}
+use Rattle.yf_grammar.specs.Parser.{Found, found, ANode, AContent, Parses, begins_content, propertied, lone_properties}
 use Rattle.yf_grammar.specs.Parser.Parses.{content_read}
 use Rattle.yf_grammar.proofs.GapLemmas.{Visible, separate_is}
 use Rattle.yf_grammar.proofs.PlainEnds.{plain_leaps, plain_later, is_bar, first_no_bar, no_bar_plain, no_bar_content, no_bar_properties}
@@ -26,7 +26,7 @@ use Rattle.yf_grammar.proofs.PropertiesEnds.{properties_before, properties_later
 use Rattle.yf_grammar.proofs.FlowStarts.{flow_starts, bar_no_hash}
 use Rattle.yf_grammar.proofs.WiderLemmas.{same_context}
 use Rattle.yf_grammar.proofs.NodeExits.{node_alias, node_plain, node_content, node_properties, past_properties, PastProperties, past_to_content, past_to_plain, past_to_nothing, past_to_broken, past_to_other, none_found, none_some}
-use Rattle.yf_grammar.proofs.NodeExact.{lone_is}
+use Rattle.yf_grammar.proofs.NodeExact.{lone_is, plain_is}
 use Rattle.yf_grammar.proofs.ContentExact.{Reaches, reaches, passes}
 use Rattle.yf_grammar.proofs.CompleteSteps.{propertied_content, some_has}
 use Rattle.yf_grammar.proofs.Complete.{complete}
@@ -56,10 +56,6 @@ leaf_longest {P = P} k y h b put j x p d e = found_longest k h b (put k y) j (pu
     let one = d.only x (subst (λ w. P w x) same p) in
     inr (same, ap (λ w. put w x) same ∙ ap (put k) one))
     (cases_lt j k))
-
-plain_is : (x : List ℕ) (i j : ℕ) → plain_found x i j ≡ found j 0 false (scalar PlainStyle (encode_utf8_all x) [] i j)
-unfolding plain_found
-plain_is x i j = refl
 
 propertied_some : (p : PropertiesValue) (cs : List CommentValue) (i g : ℕ) (f : Found)
     → propertied p cs i g f ≡ found f.end f.height f.json (behind (p.comments ++ cs) (with_props p.props p.tag_offset i g f.meaning))
