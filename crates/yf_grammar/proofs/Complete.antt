@@ -135,10 +135,12 @@ module _ {t : List ℕ} (u : IsUtf8 t) where
       let q = wider_value_colon w (value_colon v) in
       let first = st.starts.later in
       let between = may_forward z in
-      let last = (flow_starts v c).later in
-      (false, key_value_exact j h g json x y (node_no_colon st) (wider_may w z) (stop_visible a (stop_of_colon (code t a) q.colon)) q
-      (λ n p. complete d m b s w (clear_front (omega arith) k) (followed_at (wider_may w z) q) e (omega arith) n p)
-      (λ n p. complete v m b s w (clear_back (omega arith) k) f e (omega arith) n p) r)
+      let last = (flow_starts v c).later in (
+        false,
+        key_value_exact j h g json x y (node_no_colon st) (wider_may w z) (stop_visible a (stop_of_colon (code t a) q.colon)) q
+            (λ n p. complete d m b s w (clear_front (omega arith) k) (followed_at (wider_may w z) q) e (omega arith) n p)
+            (λ n p. complete v m b s w (clear_back (omega arith) k) f e (omega arith) n p) r,
+      )
   complete (value_alone {h = h} {j = j} {x = x} v) = λ m b s w k f e l o r.
       lone_exact j h x (wider_value_colon w (value_colon v)) (λ n p. complete v m b s w k f e l n p) r
   complete (empty_value y q z) = λ m b s w k f e l o r.
