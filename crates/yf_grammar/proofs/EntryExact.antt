@@ -13,11 +13,7 @@ use Rattle.yf_grammar.specs.Parser.Parses.{mapping_explicit, mapping_explicit_mi
 use Rattle.yf_grammar.proofs.GapLemmas.{Visible, gap_is, separate_is}
 use Rattle.yf_grammar.proofs.NodeExits.{none_found, some_found}
 use Rattle.yf_grammar.proofs.ContentExact.{EntryFound}
-
-behind_found : (cs : List CommentValue) (f : Found) (j h : ℕ) (b : Bool) (x : Meaning) → Some f ≡ found j h b x
-    → Some (record f { meaning = behind cs f.meaning }) ≡ found j h b (behind cs x)
-unfolding found
-behind_found cs f j h b x e = cc
+use Rattle.yf_grammar.proofs.ValueExact.{behind_found}
 
 item_is : (f : Found) (i j h : ℕ) (b : Bool) (x : Meaning) → Some f ≡ found j h b x
     → Some (record f { meaning = entering i None f.meaning }) ≡ found j h b (entering i None x)

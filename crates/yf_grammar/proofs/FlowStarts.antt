@@ -91,7 +91,7 @@ pub opening_begins : (s : Bool) → begins_content (opening s) ≡ true
 opening_begins true = content_begins.2
 opening_begins false = content_begins.3
 
-sign_facts : (is_ns_char 58 ≡ true) × (is_ns_char 63 ≡ true) × (is_end 58 ≡ false) × (is_end 63 ≡ false)
+pub sign_facts : (is_ns_char 58 ≡ true) × (is_ns_char 63 ≡ true) × (is_end 58 ≡ false) × (is_end 63 ≡ false)
 unfolding is_ns_char is_nb_char is_printable is_between is_break_char is_white is_end
 sign_facts = (refl, refl, refl, refl)
 

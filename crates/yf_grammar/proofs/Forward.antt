@@ -1,5 +1,5 @@
--- What is derived ends behind its start, or at it where it may be empty.
-use Rattle.std.proofs.Common.{ℕ, ℤ, Bool, true, false, ◌<◌, ◌≤◌, List, arith}
+-- Parts of scalars and separations end behind their start, or at it where they may be empty.
+use Rattle.std.proofs.Common.{ℕ, ℤ, ◌<◌, ◌≤◌, List, arith}
 use Rattle.yf_chars.specs.declared.context.Ctx.{Ctx}
 use Rattle.yf_chars.specs.declared.context.Ctx.TheVariants.{FlowIn}
 use Rattle.yf_chars.specs.Chain.{Chain, Many, done, step}
@@ -10,35 +10,17 @@ use Rattle.yf_lines.specs.Basic.{SeparateInLine, by_whites, at_start, FlowFolded
 use Rattle.yf_lines.specs.Basic as Basic
 use Rattle.yf_lines.proofs.BasicLemmas.{break_forward}
 use Rattle.yf_lines.proofs.FoldLemmas.{fold_order, empty_functional}
-use Rattle.yf_comments.specs.Comment.{CommentValue}
 use Rattle.yf_comments.proofs.SeparateLemmas.{prefix_whites}
 use Rattle.yf_plain.specs.Plain.{PlainItem, PlainNext, PlainText, next_line}
 use Rattle.yf_plain.specs.Plain as Plain
-use Rattle.yf_plain.proofs.PlainLemmas.{line_forward}
-use Rattle.yf_props.specs.Names.{Alias, asterisk_name, Anchor, ampersand_name, Properties, by_tag, by_anchor, tag_first, anchor_first, PropertiesValue}
-use Rattle.yf_props.proofs.TagLemmas.{tag_later}
-use Rattle.yf_props.proofs.SeparationEnds.{separate_forward}
+use Rattle.yf_props.specs.Names.{Anchor, ampersand_name}
 use Rattle.yf_quoted.specs.Quoted.{Item, Rest, Inside, SingleQuoted, DoubleQuoted, DoubleBreak, Piece, folded_break, escaped_break}
 use Rattle.yf_quoted.specs.Quoted as Quoted
 use Rattle.yf_quoted.proofs.SingleLemmas.{single_functional}
 use Rattle.yf_quoted.proofs.DoubleLemmas.{char_functional}
-use Rattle.yf_grammar.specs.Grammar.{Production, MaySeparate, MaySeparateInLine, ValueSeparate, Derives}
-use Rattle.yf_grammar.specs.Grammar as Grammar
-use Rattle.yf_grammar.specs.Meaning.{Meaning}
-
-pub alias_forward : {t : List ℕ} {i j : ℕ} {x : List ℕ} → Alias t i j x → i < j
-alias_forward (asterisk_name e r) = omega (arith, r.some)
 
 pub anchor_forward : {t : List ℕ} {i j : ℕ} {x : List ℕ} → Anchor t i j x → i < j
 anchor_forward (ampersand_name e r) = omega (arith, r.some)
-
-pub properties_forward : {t : List ℕ} {n : ℤ} {c : Ctx} {i j : ℕ} {x : PropertiesValue} → Properties t n c i j x → i < j
-properties_forward (by_tag g) = tag_later g
-properties_forward (by_anchor a) = anchor_forward a
-properties_forward (tag_first g s a) =
-    let k = tag_later g in let l = separate_forward s in let m = anchor_forward a in omega arith
-properties_forward (anchor_first a s g) =
-    let l = anchor_forward a in let m = separate_forward s in let o = tag_later g in omega arith
 
 pub whites_forward : {t : List ℕ} {i j : ℕ} {x : List ℕ} → Many t is_white i j x → i ≤ j
 whites_forward {t} m = chain_forward (one_functional t is_white) m
@@ -63,17 +45,9 @@ pub nexts_forward : {t : List ℕ} {n : ℤ} {c : Ctx} {i j : ℕ} {x : List ℕ
 nexts_forward done = omega arith
 nexts_forward (step s c) = let f = next_forward s in let g = nexts_forward c in omega arith
 
-pub plain_forward : {t : List ℕ} {n : ℤ} {c : Ctx} {i j : ℕ} {x : List ℕ} → PlainText t n c i j x → i < j
-plain_forward (Plain.as_key k l) = line_forward l
-plain_forward (Plain.as_lines k l d) = let f = line_forward l in let g = nexts_forward d in omega arith
-
 -- quoted scalars, by their characters and their breaks
 pub record Onward {A : Type 0} (S : ℕ → ℕ → List A → Type 0) : Type 0 where
   pub order : (i j : ℕ) (x : List A) → S i j x → i ≤ j
-
-pub chain_order : {A : Type 0} {C : ℕ → ℕ → List A → Type 0} {i j : ℕ} {x : List A} → Onward C → Chain C i j x → i ≤ j
-chain_order o done = omega arith
-chain_order o (step {i = i} {h = h} {x = x} s c) = let a = o.order i h x s in let b = chain_order o c in omega arith
 
 module _ {A : Type 0} {t : List ℕ} {put : List ℕ → List A} {C : ℕ → ℕ → List A → Type 0} where
   pub quoted_items_order : {i j : ℕ} {x : List A} → Onward C → Chain (Item t put C) i j x → i ≤ j
@@ -92,10 +66,6 @@ module _ {A : Type 0} {t : List ℕ} {put : List ℕ → List A} {C B : ℕ → 
       let e = quoted_items_order o c in
       let f = quoted_rest_order o q r in
       omega arith
-
-  pub inside_order : {c : Ctx} {i j : ℕ} {x : List A} → Onward C → Onward B → Inside t put C B c i j x → i ≤ j
-  inside_order o q (Quoted.as_key k d) = chain_order o d
-  inside_order o q (Quoted.as_lines k d r) = let a = quoted_items_order o d in let b = quoted_rest_order o q r in omega arith
 
 pub single_onward : (t : List ℕ) → Onward (Quoted.SingleChar t)
 single_onward t = record { order = λ i j x s. let f = (single_functional t).forward s in omega arith }
@@ -120,116 +90,3 @@ double_break_forward (escaped_break w e b c p) =
 
 pub double_break_onward : (t : List ℕ) (n : ℤ) → Onward (DoubleBreak t n)
 double_break_onward t n = record { order = λ i j x s. double_break_forward s }
-
-pub single_forward : {t : List ℕ} {n : ℤ} {c : Ctx} {i j : ℕ} {x : List ℕ} → SingleQuoted t n c i j x → i < j
-single_forward {t} {n} q = let a = inside_order (single_onward t) (fold_onward t n) q.inside in omega (arith, q.end)
-
-pub double_forward : {t : List ℕ} {n : ℤ} {c : Ctx} {i j : ℕ} {x : List Piece} → DoubleQuoted t n c i j x → i < j
-double_forward {t} {n} q = let a = inside_order (double_onward t) (double_break_onward t n) q.inside in omega (arith, q.end)
-
--- separation that may be missing
-pub gap_forward : {t : List ℕ} {n : ℤ} {c : Ctx} {i j : ℕ} {cs : List CommentValue} → MaySeparate t n c i j cs → i ≤ j
-gap_forward Grammar.unseparated = omega arith
-gap_forward (Grammar.separated s) = separate_forward s
-
-pub in_line_gap_forward : {t : List ℕ} {i j : ℕ} → MaySeparateInLine t i j → i ≤ j
-in_line_gap_forward Grammar.unseparated_in_line = omega arith
-in_line_gap_forward (Grammar.separated_in_line s) = in_line_forward s
-
-pub value_gap_forward : (t : List ℕ) (n : ℤ) (c : Ctx) {i j : ℕ} (cs : List CommentValue) (json : Bool) → ValueSeparate json t n c i j cs → i ≤ j
-value_gap_forward t n c cs true s = gap_forward s
-value_gap_forward t n c cs false s = separate_forward s
-
--- the productions of flow nodes
-abbrev IsOrdered : Production → ℕ → ℕ → Type 0
-IsOrdered (Grammar.FlowNode n c) i j = i ≤ j
-IsOrdered (Grammar.NodeOf json n c) i j = i ≤ j
-IsOrdered (Grammar.JsonContent n c) i j = i ≤ j
-IsOrdered (Grammar.Entries s n c) i j = i ≤ j
-IsOrdered (Grammar.Entry s n c) i j = i ≤ j
-IsOrdered (Grammar.Pair n c) i j = i ≤ j
-IsOrdered (Grammar.Explicit n c s) i j = i ≤ j
-IsOrdered (Grammar.Implicit n c s) i j = i ≤ j
-IsOrdered (Grammar.ValueOf json n c) i j = i ≤ j
-IsOrdered (Grammar.KeyOf json c) i j = i ≤ j
-IsOrdered (Grammar.BlockNode n c) i j = Unit {0}
-IsOrdered (Grammar.BlockEntries s m) i j = Unit {0}
-IsOrdered (Grammar.BlockEntry s m) i j = Unit {0}
-IsOrdered (Grammar.BlockIndented m c) i j = Unit {0}
-IsOrdered (Grammar.BlockValue m) i j = Unit {0}
-
-ordered : {t : List ℕ} {h i j : ℕ} {p : Production} {x : Meaning} → Derives t h p i j x → IsOrdered p i j
-ordered (Grammar.flow_node d) = ordered d
-ordered (Grammar.an_alias b a) = let f = alias_forward a in omega arith
-ordered (Grammar.a_plain p) = let f = plain_forward p in omega arith
-ordered (Grammar.a_plain_with p s q) = let f = properties_forward p in let g = separate_forward s in let h = plain_forward q in omega arith
-ordered (Grammar.properties_alone b p) = let f = properties_forward p in omega arith
-ordered (Grammar.a_json d) = ordered d
-ordered (Grammar.a_json_with p s d) = let f = properties_forward p in let g = separate_forward s in let h = ordered d in omega arith
-ordered (Grammar.a_single q) = let f = single_forward q in omega arith
-ordered (Grammar.a_double q) = let f = double_forward q in omega arith
-ordered (Grammar.an_empty_collection s b o m e) = let f = gap_forward m in omega arith
-ordered (Grammar.a_collection s b o m d e) = let f = gap_forward m in let g = ordered d in omega arith
-ordered (Grammar.last_entry d m) = let f = ordered d in let g = gap_forward m in omega arith
-ordered (Grammar.last_entry_with_comma d m e p) = let f = ordered d in let g = gap_forward m in let h = gap_forward p in omega arith
-ordered (Grammar.more_entries d m e p f) = let g = ordered d in let h = gap_forward m in let k = gap_forward p in let l = ordered f in omega arith
-ordered (Grammar.a_node_entry d) = ordered d
-ordered (Grammar.a_pair_entry d) = ordered d
-ordered (Grammar.an_explicit_entry e s d) = let f = separate_forward s in let g = ordered d in omega arith
-ordered (Grammar.an_implicit_entry d) = ordered d
-ordered (Grammar.an_explicit_pair e s d) = let f = separate_forward s in let g = ordered d in omega arith
-ordered (Grammar.a_keyed_pair d e) = let f = ordered d in let g = ordered e in omega arith
-ordered (Grammar.an_unkeyed_pair d) = ordered d
-ordered (Grammar.explicit_with d) = ordered d
-ordered (Grammar.explicit_without b) = omega arith
-ordered (Grammar.key_alone d) = ordered d
-ordered (Grammar.key_and_value d m e) = let f = ordered d in let g = gap_forward m in let h = ordered e in omega arith
-ordered (Grammar.value_alone d) = ordered d
-ordered (Grammar.empty_value b e m) = omega arith
-ordered {t} (Grammar.a_value {json = json} {n = n} {c = c} cs e m s d) = let f = value_gap_forward t n c cs json s in let g = ordered d in omega arith
-ordered (Grammar.a_key d m l) = let f = ordered d in let g = in_line_gap_forward m in omega arith
-ordered (Grammar.a_block_scalar b s d) = tt
-ordered (Grammar.a_block_scalar_with b s p q d) = tt
-ordered (Grammar.a_block_collection b l s m d) = tt
-ordered (Grammar.a_block_collection_with b s p l q m d) = tt
-ordered (Grammar.flow_in_block b s d l) = tt
-ordered (Grammar.a_last_entry d) = tt
-ordered (Grammar.an_entry_before d s e) = tt
-ordered (Grammar.a_dash_entry a b d) = tt
-ordered (Grammar.an_explicit_entry_with a b d l e) = tt
-ordered (Grammar.an_explicit_key_alone a b d l) = tt
-ordered (Grammar.a_keyed_entry d e) = tt
-ordered (Grammar.an_unkeyed_entry d) = tt
-ordered (Grammar.a_block_value e d) = tt
-ordered (Grammar.an_empty_block_value e l) = tt
-ordered (Grammar.a_compact_collection b s d) = tt
-ordered (Grammar.an_indented_node d) = tt
-ordered (Grammar.nothing_indented b l) = tt
-
--- what a flow production derives ends at its start or behind it
-pub node_order : {t : List ℕ} {h i j : ℕ} {json : Bool} {n : ℤ} {c : Ctx} {x : Meaning} → Derives t h (Grammar.NodeOf json n c) i j x → i ≤ j
-node_order d = ordered d
-
-pub flow_order : {t : List ℕ} {h i j : ℕ} {n : ℤ} {c : Ctx} {x : Meaning} → Derives t h (Grammar.FlowNode n c) i j x → i ≤ j
-flow_order d = ordered d
-
-pub content_order : {t : List ℕ} {h i j : ℕ} {n : ℤ} {c : Ctx} {x : Meaning} → Derives t h (Grammar.JsonContent n c) i j x → i ≤ j
-content_order d = ordered d
-
-pub entries_order : {t : List ℕ} {h i j : ℕ} {s : Bool} {n : ℤ} {c : Ctx} {x : Meaning} → Derives t h (Grammar.Entries s n c) i j x → i ≤ j
-entries_order d = ordered d
-
-pub entry_order : {t : List ℕ} {h i j : ℕ} {s : Bool} {n : ℤ} {c : Ctx} {x : Meaning} → Derives t h (Grammar.Entry s n c) i j x → i ≤ j
-entry_order d = ordered d
-
-pub explicit_order : {t : List ℕ} {h s i j : ℕ} {n : ℤ} {c : Ctx} {x : Meaning} → Derives t h (Grammar.Explicit n c s) i j x → i ≤ j
-explicit_order d = ordered d
-
-pub implicit_order : {t : List ℕ} {h s i j : ℕ} {n : ℤ} {c : Ctx} {x : Meaning} → Derives t h (Grammar.Implicit n c s) i j x → i ≤ j
-implicit_order d = ordered d
-
-pub value_order : {t : List ℕ} {h i j : ℕ} {json : Bool} {n : ℤ} {c : Ctx} {x : Meaning} → Derives t h (Grammar.ValueOf json n c) i j x → i ≤ j
-value_order d = ordered d
-
-pub key_order : {t : List ℕ} {h i j : ℕ} {json : Bool} {c : Ctx} {x : Meaning} → Derives t h (Grammar.KeyOf json c) i j x → i ≤ j
-key_order d = ordered d

@@ -1,5 +1,8 @@
 pub mod BlankRuns
 pub mod ClearLemmas
+pub mod Complete
+pub mod CompleteClaims
+pub mod CompleteSteps
 pub mod ContentExact
 pub mod EntriesExact
 pub mod EntryExact
@@ -8,6 +11,7 @@ pub mod Forward
 pub mod GapLemmas
 pub mod KeyExact
 pub mod KeyLines
+pub mod Longest
 pub mod NodeExact
 pub mod NodeExits
 pub mod OneLine

@@ -118,7 +118,7 @@ pub lone_is : (p : PropertiesValue) (i g : ℕ) → lone_properties p i g ≡ fo
 unfolding lone_properties
 lone_is p i g = refl
 
-plain_is : (x : List ℕ) (i j : ℕ) → plain_found x i j ≡ found j 0 false (scalar PlainStyle (encode_utf8_all x) [] i j)
+pub plain_is : (x : List ℕ) (i j : ℕ) → plain_found x i j ≡ found j 0 false (scalar PlainStyle (encode_utf8_all x) [] i j)
 unfolding plain_found
 plain_is x i j = refl
 

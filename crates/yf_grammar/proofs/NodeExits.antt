@@ -46,7 +46,7 @@ alias_mark : begins_alias 42 ≡ true
 unfolding begins_alias
 alias_mark = refl
 
-alias_begins : {t : List ℕ} {i j : ℕ} {x : List ℕ} → Alias t i j x → begins_alias (code t i) ≡ true
+pub alias_begins : {t : List ℕ} {i j : ℕ} {x : List ℕ} → Alias t i j x → begins_alias (code t i) ≡ true
 alias_begins (asterisk_name e r) = ap begins_alias e ∙ alias_mark
 
 pub propertied_is : (p : PropertiesValue) (cs : List CommentValue) (i g j h : ℕ) (b : Bool) (x : Meaning)

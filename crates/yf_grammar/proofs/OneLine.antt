@@ -2,9 +2,9 @@
 use Rattle.std.proofs.Common.{◌≡◌, ℕ, ℤ, pos, Bool, true, false, ◌+◌, ◌<◌, ◌≤◌, List, [], ◌∷◌, ◌++◌, length, refl, sym, ap, ◌∙◌, subst, inl, inr, ◌⊎◌, ⊎_elim, arith, append-nil}
 use Rattle.std.proofs.lemmas.Bool.{true≢false, cases_lt}
 use Rattle.yf_chars.specs.declared.context.Ctx.{Ctx}
-use Rattle.yf_chars.specs.declared.context.Ctx.TheVariants.{BlockOut, BlockIn, FlowOut, FlowIn, BlockKey, FlowKey}
+use Rattle.yf_chars.specs.declared.context.Ctx.TheVariants.{FlowIn, FlowKey}
 use Rattle.yf_chars.specs.Text.{code}
-use Rattle.yf_chars.specs.Class.{is_white, is_break_char, is_nb_char, is_plain_safe}
+use Rattle.yf_chars.specs.Class.{is_white, is_break_char, is_nb_char}
 use Rattle.yf_chars.specs.Chain.{Chain, Many, done, step, one}
 use Rattle.yf_chars.proofs.ChainLemmas.{chain_append, chain_forward, chain_one, one_functional}
 use Rattle.yf_chars.proofs.TextLemmas.{next_later}
@@ -33,16 +33,11 @@ use Rattle.yf_grammar.specs.Grammar.{Production, MaySeparate, ValueSeparate, May
 use Rattle.yf_grammar.specs.Grammar as Grammar
 use Rattle.yf_grammar.specs.Meaning.{Meaning}
 use Rattle.yf_grammar.specs.Parser.{OnOneLine}
-use Rattle.yf_grammar.proofs.Forward.{anchor_forward, properties_forward, whites_forward, plain_forward, nexts_forward, Onward, quoted_items_order, quoted_rest_order, single_onward, double_onward, fold_onward, double_break_onward, in_line_forward, items_forward, gap_forward, value_gap_forward, node_order, flow_order, content_order, entries_order, entry_order, explicit_order, value_order, key_order}
-
--- the contexts inside of a flow collection
-abbrev pub is_inner : Ctx → Bool
-is_inner BlockOut = false
-is_inner BlockIn = false
-is_inner FlowOut = false
-is_inner FlowIn = true
-is_inner BlockKey = false
-is_inner FlowKey = true
+use Rattle.yf_grammar.proofs.FlowStarts.{flow_starts, in_flow_not_block, may_forward, value_forward}
+use Rattle.yf_grammar.proofs.Forward.{anchor_forward, whites_forward, nexts_forward, Onward, quoted_items_order, quoted_rest_order, single_onward, double_onward, fold_onward, double_break_onward, in_line_forward, items_forward}
+use Rattle.yf_grammar.proofs.PlainEnds.{plain_later}
+use Rattle.yf_grammar.proofs.PropertiesEnds.{properties_later}
+use Rattle.yf_grammar.proofs.WiderLemmas.{is_inside, inside_not_block, in_flow_inside, safe_same}
 
 -- a character of a break stands between
 pub record Broken (t : List ℕ) (i j : ℕ) : Type 0 where
@@ -158,61 +153,28 @@ module _ {A : Type 0} {t : List ℕ} {put : List ℕ → List A} {C : ℕ → �
       }
 
 -- characters of plain scalars inside of a flow collection and inside of a key
-inner_safe : (c : Ctx) → is_inner c ≡ true → (a : ℕ) → is_plain_safe a c ≡ is_plain_safe a FlowKey
-unfolding is_plain_safe
-inner_safe BlockOut e a = absurd (true≢false (sym e))
-inner_safe BlockIn e a = absurd (true≢false (sym e))
-inner_safe FlowOut e a = absurd (true≢false (sym e))
-inner_safe FlowIn e a = refl
-inner_safe BlockKey e a = absurd (true≢false (sym e))
-inner_safe FlowKey e a = refl
-
-inner_first : (t : List ℕ) (c : Ctx) (i : ℕ) → is_inner c ≡ true → is_plain_first t c i ≡ is_plain_first t FlowKey i
+inner_first : (t : List ℕ) (c : Ctx) (i : ℕ) → is_inside c ≡ true → is_plain_first t c i ≡ is_plain_first t FlowKey i
 unfolding is_plain_first
-inner_first t c i e = rw (inner_safe c e (code t (i + 1))) refl
+inner_first t c i e = rw (sym (safe_same (code t (i + 1)) c e)) refl
 
-inner_char : (t : List ℕ) (c : Ctx) (i : ℕ) → is_inner c ≡ true → is_plain_char t c i ≡ is_plain_char t FlowKey i
+inner_char : (t : List ℕ) (c : Ctx) (i : ℕ) → is_inside c ≡ true → is_plain_char t c i ≡ is_plain_char t FlowKey i
 unfolding is_plain_char
-inner_char t c i e = rw (inner_safe c e (code t (i + 1)), inner_safe c e (code t i)) refl
-
-pub inner_in_flow : (c : Ctx) → is_inner c ≡ true → is_inner (in_flow c) ≡ true
-inner_in_flow BlockOut e = absurd (true≢false (sym e))
-inner_in_flow BlockIn e = absurd (true≢false (sym e))
-inner_in_flow FlowOut e = refl
-inner_in_flow FlowIn e = refl
-inner_in_flow BlockKey e = refl
-inner_in_flow FlowKey e = refl
-
-pub flow_is_inner : (c : Ctx) → Basic.is_block c ≡ false → is_inner (in_flow c) ≡ true
-flow_is_inner BlockOut e = absurd (true≢false e)
-flow_is_inner BlockIn e = absurd (true≢false e)
-flow_is_inner FlowOut e = refl
-flow_is_inner FlowIn e = refl
-flow_is_inner BlockKey e = refl
-flow_is_inner FlowKey e = refl
-
-pub inner_no_block : (c : Ctx) → is_inner c ≡ true → Basic.is_block c ≡ false
-inner_no_block BlockOut e = absurd (true≢false (sym e))
-inner_no_block BlockIn e = absurd (true≢false (sym e))
-inner_no_block FlowOut e = refl
-inner_no_block FlowIn e = refl
-inner_no_block BlockKey e = refl
-inner_no_block FlowKey e = refl
+inner_char t c i e = rw (sym (safe_same (code t (i + 1)) c e), sym (safe_same (code t i) c e)) refl
 
 module _ {t : List ℕ} where
-  item_key : {c : Ctx} {i j : ℕ} {x : List ℕ} → is_inner c ≡ true → PlainItem t c i j x → PlainItem t FlowKey i j x
+  item_key : {c : Ctx} {i j : ℕ} {x : List ℕ} → is_inside c ≡ true → PlainItem t c i j x → PlainItem t FlowKey i j x
   item_key {c} q (Plain.set_off {h = h} w e) = Plain.set_off w (sym (inner_char t c h q) ∙ e)
 
-  items_key : {c : Ctx} {i j : ℕ} {x : List ℕ} → is_inner c ≡ true → Chain (PlainItem t c) i j x → Chain (PlainItem t FlowKey) i j x
+  items_key : {c : Ctx} {i j : ℕ} {x : List ℕ} → is_inside c ≡ true → Chain (PlainItem t c) i j x → Chain (PlainItem t FlowKey) i j x
   items_key q done = done
   items_key q (step s d) = step (item_key q s) (items_key q d)
 
-  line_key : {c : Ctx} {i j : ℕ} {x : List ℕ} → is_inner c ≡ true → PlainLine t c i j x → PlainLine t FlowKey i j x
+  line_key : {c : Ctx} {i j : ℕ} {x : List ℕ} → is_inside c ≡ true → PlainLine t c i j x → PlainLine t FlowKey i j x
   line_key {c} q (Plain.one_line {i = i} e d) = Plain.one_line (sym (inner_first t c i q) ∙ e) (items_key q d)
 
-colon_key : (t : List ℕ) (c : Ctx) (json : Bool) (i : ℕ) → is_inner c ≡ true → MayBeColon json t i c → MayBeColon json t i FlowKey
+colon_key : (t : List ℕ) (c : Ctx) (json : Bool) (i : ℕ) → is_inside c ≡ true → MayBeColon json t i c → MayBeColon json t i FlowKey
 colon_key t c true i q m = tt
-colon_key t c false i q m = sym (inner_safe c q (code t i)) ∙ m
+colon_key t c false i q m = safe_same (code t i) c q ∙ m
 
 -- between a and z no character of a break stands, and the text goes on behind z
 pub record AllOnLine (t : List ℕ) (a z : ℕ) : Type 0 where
@@ -277,7 +239,7 @@ module _ {t : List ℕ} {a z : ℕ} where
   no_nexts o l m done = (refl, refl)
   no_nexts o l m (step s c) = let f = nexts_forward c in absurd (no_next o l (omega arith) s)
 
-  plain_key : {n : ℤ} {c : Ctx} {i j : ℕ} {x : List ℕ} → AllOnLine t a z → is_inner c ≡ true → a ≤ i → j ≤ z → PlainText t n c i j x → PlainText t (pos 0) FlowKey i j x
+  plain_key : {n : ℤ} {c : Ctx} {i j : ℕ} {x : List ℕ} → AllOnLine t a z → is_inside c ≡ true → a ≤ i → j ≤ z → PlainText t n c i j x → PlainText t (pos 0) FlowKey i j x
   plain_key o q l m (Plain.as_key e d) = Plain.as_key refl (line_key q d)
   plain_key {i = i} {j = j} o q l m (Plain.as_lines {h = h} {x = x} {y = y} e d c) =
       let f = line_forward d in
@@ -296,15 +258,15 @@ module _ {t : List ℕ} {a z : ℕ} where
 
 -- what a production within a flow collection derives on one line, it derives at n = 0 in a key
 abbrev Keyed : List ℕ → ℕ → Production → ℕ → ℕ → Meaning → Type 0
-Keyed t h (Grammar.FlowNode n c) i j x = is_inner c ≡ true → Derives t h (Grammar.FlowNode (pos 0) FlowKey) i j x
-Keyed t h (Grammar.NodeOf json n c) i j x = is_inner c ≡ true → Derives t h (Grammar.NodeOf json (pos 0) FlowKey) i j x
-Keyed t h (Grammar.JsonContent n c) i j x = is_inner c ≡ true → Derives t h (Grammar.JsonContent (pos 0) FlowKey) i j x
-Keyed t h (Grammar.Entries s n c) i j x = is_inner c ≡ true → Derives t h (Grammar.Entries s (pos 0) FlowKey) i j x
-Keyed t h (Grammar.Entry s n c) i j x = is_inner c ≡ true → Derives t h (Grammar.Entry s (pos 0) FlowKey) i j x
-Keyed t h (Grammar.Pair n c) i j x = is_inner c ≡ true → Derives t h (Grammar.Pair (pos 0) FlowKey) i j x
-Keyed t h (Grammar.Explicit n c s) i j x = is_inner c ≡ true → Derives t h (Grammar.Explicit (pos 0) FlowKey s) i j x
-Keyed t h (Grammar.Implicit n c s) i j x = is_inner c ≡ true → Derives t h (Grammar.Implicit (pos 0) FlowKey s) i j x
-Keyed t h (Grammar.ValueOf json n c) i j x = is_inner c ≡ true → Derives t h (Grammar.ValueOf json (pos 0) FlowKey) i j x
+Keyed t h (Grammar.FlowNode n c) i j x = is_inside c ≡ true → Derives t h (Grammar.FlowNode (pos 0) FlowKey) i j x
+Keyed t h (Grammar.NodeOf json n c) i j x = is_inside c ≡ true → Derives t h (Grammar.NodeOf json (pos 0) FlowKey) i j x
+Keyed t h (Grammar.JsonContent n c) i j x = is_inside c ≡ true → Derives t h (Grammar.JsonContent (pos 0) FlowKey) i j x
+Keyed t h (Grammar.Entries s n c) i j x = is_inside c ≡ true → Derives t h (Grammar.Entries s (pos 0) FlowKey) i j x
+Keyed t h (Grammar.Entry s n c) i j x = is_inside c ≡ true → Derives t h (Grammar.Entry s (pos 0) FlowKey) i j x
+Keyed t h (Grammar.Pair n c) i j x = is_inside c ≡ true → Derives t h (Grammar.Pair (pos 0) FlowKey) i j x
+Keyed t h (Grammar.Explicit n c s) i j x = is_inside c ≡ true → Derives t h (Grammar.Explicit (pos 0) FlowKey s) i j x
+Keyed t h (Grammar.Implicit n c s) i j x = is_inside c ≡ true → Derives t h (Grammar.Implicit (pos 0) FlowKey s) i j x
+Keyed t h (Grammar.ValueOf json n c) i j x = is_inside c ≡ true → Derives t h (Grammar.ValueOf json (pos 0) FlowKey) i j x
 Keyed t h (Grammar.KeyOf json c) i j x = Unit {0}
 Keyed t h (Grammar.BlockNode n c) i j x = Unit {0}
 Keyed t h (Grammar.BlockEntries s m) i j x = Unit {0}
@@ -317,49 +279,49 @@ keyed o l m (Grammar.flow_node d) = λ q. Grammar.flow_node (keyed o l m d q)
 keyed o l m (Grammar.an_alias b a) = λ q. Grammar.an_alias refl a
 keyed o l m (Grammar.a_plain p) = λ q. Grammar.a_plain (plain_key o q l m p)
 keyed o l m (Grammar.a_plain_with p s d) = λ q.
-    let f = properties_forward p in let g = separate_forward s in let h = plain_forward d in
+    let f = properties_later p in let g = separate_forward s in let h = plain_later d in
     Grammar.a_plain_with (properties_key o l (omega arith) p) (separate_key o (omega arith) (omega arith) s) (plain_key o q (omega arith) m d)
 keyed o l m (Grammar.properties_alone b p) = λ q. Grammar.properties_alone refl (properties_key o l m p)
 keyed o l m (Grammar.a_json d) = λ q. Grammar.a_json (keyed o l m d q)
-keyed o l m (Grammar.a_json_with p s d) = λ q.
-    let f = properties_forward p in let g = separate_forward s in let h = content_order d in
+keyed o l m (Grammar.a_json_with {c = c} p s d) = λ q.
+    let f = properties_later p in let g = separate_forward s in let h = (flow_starts d (inside_not_block c q)).later in
     Grammar.a_json_with (properties_key o l (omega arith) p) (separate_key o (omega arith) (omega arith) s) (keyed o (omega arith) m d q)
 keyed o l m (Grammar.a_single d) = λ q. Grammar.a_single (single_key o l m d)
 keyed o l m (Grammar.a_double d) = λ q. Grammar.a_double (double_key o l m d)
 keyed o l m (Grammar.an_empty_collection s b e g f) = λ q. Grammar.an_empty_collection s refl e (gap_key o (omega arith) (omega arith) g) f
 keyed o l m (Grammar.a_collection s {c = c} b e g d f) = λ q.
-    let h = gap_forward g in let k = entries_order d in
-    Grammar.a_collection s refl e (gap_key o (omega arith) (omega arith) g) (keyed o (omega arith) (omega arith) d (inner_in_flow c q)) f
-keyed o l m (Grammar.last_entry d g) = λ q.
-    let h = entry_order d in let k = gap_forward g in
+    let h = may_forward g in let k = (flow_starts d (in_flow_not_block c (inside_not_block c q))).later in
+    Grammar.a_collection s refl e (gap_key o (omega arith) (omega arith) g) (keyed o (omega arith) (omega arith) d (in_flow_inside c (inside_not_block c q))) f
+keyed o l m (Grammar.last_entry {c = c} d g) = λ q.
+    let h = (flow_starts d (inside_not_block c q)).later in let k = may_forward g in
     Grammar.last_entry (keyed o l (omega arith) d q) (gap_key o (omega arith) m g)
-keyed o l m (Grammar.last_entry_with_comma d g e f) = λ q.
-    let h = entry_order d in let k = gap_forward g in let r = gap_forward f in
+keyed o l m (Grammar.last_entry_with_comma {c = c} d g e f) = λ q.
+    let h = (flow_starts d (inside_not_block c q)).later in let k = may_forward g in let r = may_forward f in
     Grammar.last_entry_with_comma (keyed o l (omega arith) d q) (gap_key o (omega arith) (omega arith) g) e (gap_key o (omega arith) m f)
-keyed o l m (Grammar.more_entries d g e f b) = λ q.
-    let h = entry_order d in let k = gap_forward g in let r = gap_forward f in let s = entries_order b in
+keyed o l m (Grammar.more_entries {c = c} d g e f b) = λ q.
+    let h = (flow_starts d (inside_not_block c q)).later in let k = may_forward g in let r = may_forward f in let s = (flow_starts b (inside_not_block c q)).later in
     Grammar.more_entries (keyed o l (omega arith) d q) (gap_key o (omega arith) (omega arith) g) e (gap_key o (omega arith) (omega arith) f) (keyed o (omega arith) m b q)
 keyed o l m (Grammar.a_node_entry d) = λ q. Grammar.a_node_entry (keyed o l m d q)
 keyed o l m (Grammar.a_pair_entry d) = λ q. Grammar.a_pair_entry (keyed o l m d q)
-keyed o l m (Grammar.an_explicit_entry e s d) = λ q.
-    let f = separate_forward s in let g = explicit_order d in
+keyed o l m (Grammar.an_explicit_entry {c = c} e s d) = λ q.
+    let f = separate_forward s in let g = flow_starts d (inside_not_block c q) in
     Grammar.an_explicit_entry e (separate_key o (omega arith) (omega arith) s) (keyed o (omega arith) m d q)
 keyed o l m (Grammar.an_implicit_entry d) = λ q. Grammar.an_implicit_entry (keyed o l m d q)
-keyed o l m (Grammar.an_explicit_pair e s d) = λ q.
-    let f = separate_forward s in let g = explicit_order d in
+keyed o l m (Grammar.an_explicit_pair {c = c} e s d) = λ q.
+    let f = separate_forward s in let g = flow_starts d (inside_not_block c q) in
     Grammar.an_explicit_pair e (separate_key o (omega arith) (omega arith) s) (keyed o (omega arith) m d q)
-keyed o l m (Grammar.a_keyed_pair d e) = λ q. let f = key_order d in Grammar.a_keyed_pair d (keyed o (omega arith) m e q)
+keyed o l m (Grammar.a_keyed_pair d e) = λ q. let f = (flow_starts d refl).later in Grammar.a_keyed_pair d (keyed o (omega arith) m e q)
 keyed o l m (Grammar.an_unkeyed_pair d) = λ q. Grammar.an_unkeyed_pair (keyed o l m d q)
 keyed o l m (Grammar.explicit_with d) = λ q. Grammar.explicit_with (keyed o l m d q)
 keyed o l m (Grammar.explicit_without b) = λ q. Grammar.explicit_without refl
 keyed o l m (Grammar.key_alone d) = λ q. Grammar.key_alone (keyed o l m d q)
-keyed o l m (Grammar.key_and_value d g e) = λ q.
-    let f = node_order d in let h = gap_forward g in let k = value_order e in
+keyed o l m (Grammar.key_and_value {c = c} d g e) = λ q.
+    let f = (flow_starts d (inside_not_block c q)).starts.later in let h = may_forward g in let k = (flow_starts e (inside_not_block c q)).later in
     Grammar.key_and_value (keyed o l (omega arith) d q) (gap_key o (omega arith) (omega arith) g) (keyed o (omega arith) m e q)
 keyed o l m (Grammar.value_alone d) = λ q. Grammar.value_alone (keyed o l m d q)
 keyed {t} o l m (Grammar.empty_value {i = i} {json = json} {c = k} b e c) = λ q. Grammar.empty_value refl e (colon_key t k json (i + 1) q c)
-keyed {t} o l m (Grammar.a_value {i = i} {json = json} {n = n} {c = b} cs e c s d) = λ q.
-    let f = value_gap_forward t n b cs json s in let g = flow_order d in
+keyed {t} o l m (Grammar.a_value {i = i} {k = r} {json = json} {n = n} {c = b} cs e c s d) = λ q.
+    let f = value_forward t n b (i + 1) r cs json s in let g = (flow_starts d (inside_not_block b q)).starts.later in
     Grammar.a_value cs e (colon_key t b json (i + 1) q c) (value_gap_key n b cs json o (omega arith) (omega arith) s) (keyed o (omega arith) m d q)
 keyed o l m (Grammar.a_key d g b) = tt
 keyed o l m (Grammar.a_block_scalar b s d) = tt
@@ -381,6 +343,6 @@ keyed o l m (Grammar.an_indented_node d) = tt
 keyed o l m (Grammar.nothing_indented b g) = tt
 
 -- a node on one line is the node of a key
-pub node_of_key : {t : List ℕ} {a z h i j : ℕ} {json : Bool} {n : ℤ} {c : Ctx} {x : Meaning} → AllOnLine t a z → is_inner c ≡ true → a ≤ i → j ≤ z
+pub node_of_key : {t : List ℕ} {a z h i j : ℕ} {json : Bool} {n : ℤ} {c : Ctx} {x : Meaning} → AllOnLine t a z → is_inside c ≡ true → a ≤ i → j ≤ z
     → Derives t h (Grammar.NodeOf json n c) i j x → Derives t h (Grammar.NodeOf json (pos 0) FlowKey) i j x
 node_of_key o q l m d = keyed o l m d q

@@ -1,6 +1,6 @@
--- A node that the recursive reader found, with the notes of its entries filled in, is what the readers of nodes give; and
--- it is the longest one, where the reader is known to be complete.
-use Rattle.std.proofs.Common.{◌≡◌, ℕ, ℤ, pos, ◌≤◌, Bool, false, List, ◌∷◌, Some, None, refl, sym, ap, ◌∙◌, subst}
+-- A node that the recursive reader found, with the notes of its entries filled in, is what the readers of nodes give: it is
+-- the longest one; and where it found none there is none.
+use Rattle.std.proofs.Common.{◌≡◌, ℕ, ℤ, pos, ◌<◌, ◌≤◌, Bool, false, ◌⊎◌, ⊎_elim, arith, List, ◌∷◌, Some, None, refl, sym, ap, ◌∙◌, subst}
 use Rattle.std.specs.Str.{IsUtf8}
 use Rattle.yf_chars.specs.declared.context.Ctx.{Ctx}
 use Rattle.yf_chars.specs.Chain.{Chosen, Stuck}
@@ -13,7 +13,7 @@ use Rattle.yf_grammar.specs.Meaning.{Meaning}
 use Rattle.yf_grammar.specs.Part.{NotedSince, noted, not_noted, Noting, no_event, without_entry, with_entry, DerivedPart, FlowNodePart, KeyPart, key_node}
 use Rattle.yf_grammar.specs.Parser.{Found, Parses, ANode}
 use Rattle.yf_grammar.proofs.ClearLemmas.{found_is_clear}
-use Rattle.yf_grammar.proofs.Outcome.{outcome_is_one}
+use Rattle.yf_grammar.proofs.Longest.{longest_is_found, nothing_is_derived}
 use Rattle.yf_grammar.proofs.Sound.{found_is_derived}
 
 module _ {t : List ℕ} {e i : ℕ} {n : ℤ} {c : Ctx} {f : Found} {part : Part} where
@@ -76,51 +76,39 @@ part_one p q a b c =
     let put : List Placed → List CommentValue → List ℕ → Part = λ x y z. record { events = x; comments = y; escapes = z } in
     ap (λ x. put x p.comments p.escapes) a ∙ ap (λ y. put q.events y p.escapes) b ∙ ap (λ z. put q.events q.comments z) c
 
--- what a part of the grammar is to the reader: it finds one that is as long, and of the same meaning where it is no longer
-pub record Reached (t : List ℕ) (e : ℕ) (n : ℤ) (c : Ctx) (i k : ℕ) (x : Meaning) : Type 0 where
-  pub part : Found
-  pub parses : Parses t e (ANode n c i) (Some part)
-  pub far : k ≤ part.end
-  pub same : k ≡ part.end → x ≡ part.meaning
-
--- the reader of flow nodes reaches each one that opens no more collections than it may, and covers no forbidden line
-pub record Complete (t : List ℕ) (e : ℕ) (n : ℤ) (c : Ctx) (i : ℕ) : Type 0 where
-  pub reaches : (h k : ℕ) (x : Meaning) → h ≤ e → Derives t h (FlowNode n c) i k x → Clear t i k → Reached t e n c i k x
-
+-- what is found, against a flow node that is derived there within the limit: it ends later, or is the same
 module _ {t : List ℕ} {e i : ℕ} {n : ℤ} {c : Ctx} {f : Found} where
-  reached_is : {k : ℕ} {x : Meaning} → Parses t e (ANode n c i) (Some f) → (r : Reached t e n c i k x) → r.part ≡ f
-  reached_is p r = let same = outcome_is_one p r.parses in cc
+  flow_far : {h k : ℕ} {x : Meaning} → IsUtf8 t → is_block c ≡ false → Parses t e (ANode n c i) (Some f) → h ≤ e → Derives t h (FlowNode n c) i k x → Clear t i k
+      → (k < f.end) ⊎ ((k ≡ f.end) × (x ≡ f.meaning))
+  flow_far u b p l (flow_node d) a = longest_is_found u b l d a p
 
-  reached_far : {k : ℕ} {x : Meaning} → Parses t e (ANode n c i) (Some f) → Reached t e n c i k x → k ≤ f.end
-  reached_far {k} p r = subst (λ g. k ≤ g.end) (reached_is p r) r.far
+  flow_longest : {h k : ℕ} {x : Meaning} → IsUtf8 t → is_block c ≡ false → Parses t e (ANode n c i) (Some f) → h ≤ e → Derives t h (FlowNode n c) i k x → Clear t i k → k ≤ f.end
+  flow_longest {k = k} {x = x} u b p l d a =
+      ⊎_elim (λ (q : k < f.end). omega arith) (λ (q : (k ≡ f.end) × (x ≡ f.meaning)). let r = q.0 in omega arith) (flow_far u b p l d a)
 
-  reached_same : {k : ℕ} {x : Meaning} → Parses t e (ANode n c i) (Some f) → Reached t e n c i k x → k ≡ f.end → x ≡ f.meaning
-  reached_same {k} {x} p r q =
-      let same = reached_is p r in
-      let there : k ≡ r.part.end = q ∙ ap (λ g. g.end) (sym same) in
-      r.same there ∙ ap (λ g. g.meaning) same
+  flow_only : {h : ℕ} {x : Meaning} → IsUtf8 t → is_block c ≡ false → Parses t e (ANode n c i) (Some f) → h ≤ e → Derives t h (FlowNode n c) i f.end x → Clear t i f.end → x ≡ f.meaning
+  flow_only {x = x} u b p l d a =
+      ⊎_elim (λ (q : f.end < f.end). absurd (omega arith)) (λ (q : (f.end ≡ f.end) × (x ≡ f.meaning)). q.1) (flow_far u b p l d a)
 
   -- what was found is the longest flow node there, and means one thing
-  pub found_is_chosen : {part : Part} → IsUtf8 t → is_block c ≡ false → Complete t e n c i → Parses t e (ANode n c i) (Some f)
-      → Noting t 0 f.meaning.events part.events → part.comments ≡ f.meaning.comments → part.escapes ≡ f.meaning.escapes
-      → Chosen (FlowNodePart t e n c i) f.end part
-  found_is_chosen {part} u b complete p events comments escapes = record {
+  pub found_is_chosen : {part : Part} → IsUtf8 t → is_block c ≡ false → Parses t e (ANode n c i) (Some f) → Noting t 0 f.meaning.events part.events
+      → part.comments ≡ f.meaning.comments → part.escapes ≡ f.meaning.escapes → Chosen (FlowNodePart t e n c i) f.end part
+  found_is_chosen {part} u b p events comments escapes = record {
     derived = found_is_flow_node u b p events comments escapes;
-    longest = λ k y d. reached_far p (complete.reaches d.height k d.meaning d.within d.derived d.clear);
+    longest = λ k y d. flow_longest u b p d.within d.derived d.clear;
     only = λ y d.
-        let m = reached_same p (complete.reaches d.height f.end d.meaning d.within d.derived d.clear) refl in
+        let m = flow_only u b p d.within d.derived d.clear in
         let noting' : Noting t 0 f.meaning.events y.events = subst (λ x. Noting t 0 x.events y.events) m d.events in
         part_one y part (noting_one noting' events) (d.comments ∙ ap (λ x. x.comments) m ∙ sym comments) (d.escapes ∙ ap (λ x. x.escapes) m ∙ sym escapes);
   }
 
 -- where nothing was found there is no flow node
-pub none_is_stuck : {t : List ℕ} {e i : ℕ} {n : ℤ} {c : Ctx} → Complete t e n c i → Parses t e (ANode n c i) None → Stuck (FlowNodePart t e n c i)
-none_is_stuck complete p = record {
-  none = λ k y d.
-      let r = complete.reaches d.height k d.meaning d.within d.derived d.clear in
-      let same = outcome_is_one p r.parses in
-      absurd (cc);
-}
+module _ {t : List ℕ} {e i : ℕ} {n : ℤ} {c : Ctx} where
+  nothing_flows : {h k : ℕ} {x : Meaning} → IsUtf8 t → is_block c ≡ false → Parses t e (ANode n c i) None → h ≤ e → Derives t h (FlowNode n c) i k x → Clear t i k → ⊥
+  nothing_flows u b p l (flow_node d) a = nothing_is_derived u b l d a p
+
+  pub none_is_stuck : IsUtf8 t → is_block c ≡ false → Parses t e (ANode n c i) None → Stuck (FlowNodePart t e n c i)
+  none_is_stuck u b p = record { none = λ k y d. nothing_flows u b p d.within d.derived d.clear }
 
 -- the same for the node of an implicit key, which is a flow node
 key_flow : {t : List ℕ} {e i k : ℕ} {c : Ctx} {part : Part} → KeyPart t e c i k part → FlowNodePart t e (pos 0) c i k part
@@ -135,16 +123,15 @@ key_flow (key_node json d) = record {
   escapes = d.escapes;
 }
 
-pub found_is_chosen_key : {t : List ℕ} {e i : ℕ} {c : Ctx} {f : Found} {part : Part} → IsUtf8 t → is_block c ≡ false → Complete t e (pos 0) c i
-    → Parses t e (ANode (pos 0) c i) (Some f) → Noting t 0 f.meaning.events part.events → part.comments ≡ f.meaning.comments → part.escapes ≡ f.meaning.escapes
-    → Chosen (KeyPart t e c i) f.end part
-found_is_chosen_key u b complete p events comments escapes =
-    let chosen = found_is_chosen u b complete p events comments escapes in
+pub found_is_chosen_key : {t : List ℕ} {e i : ℕ} {c : Ctx} {f : Found} {part : Part} → IsUtf8 t → is_block c ≡ false → Parses t e (ANode (pos 0) c i) (Some f)
+    → Noting t 0 f.meaning.events part.events → part.comments ≡ f.meaning.comments → part.escapes ≡ f.meaning.escapes → Chosen (KeyPart t e c i) f.end part
+found_is_chosen_key u b p events comments escapes =
+    let chosen = found_is_chosen u b p events comments escapes in
     record {
       derived = found_is_key u b p events comments escapes;
       longest = λ k y d. chosen.longest k y (key_flow d);
       only = λ y d. chosen.only y (key_flow d);
     }
 
-pub none_is_no_key : {t : List ℕ} {e i : ℕ} {c : Ctx} → Complete t e (pos 0) c i → Parses t e (ANode (pos 0) c i) None → Stuck (KeyPart t e c i)
-none_is_no_key complete p = record { none = λ k y d. (none_is_stuck complete p).none k y (key_flow d) }
+pub none_is_no_key : {t : List ℕ} {e i : ℕ} {c : Ctx} → IsUtf8 t → is_block c ≡ false → Parses t e (ANode (pos 0) c i) None → Stuck (KeyPart t e c i)
+none_is_no_key u b p = record { none = λ k y d. (none_is_stuck u b p).none k y (key_flow d) }

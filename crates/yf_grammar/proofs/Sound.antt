@@ -10,8 +10,9 @@ use Rattle.yf_grammar.specs.Meaning.{Meaning, ◌⊕◌, behind, noting, collect
 use Rattle.yf_grammar.specs.Parser.{Found, Task, Parses, Gap, ColonAt, PairKey, found, plain_found, propertied, lone_properties, bracketed, joined, paired, pair_entry, only}
 use Rattle.yf_grammar.specs.Parser as Parser
 use Rattle.yf_grammar.proofs.Forward.{whites_forward}
-use Rattle.yf_grammar.proofs.OneLine.{is_inner, flow_is_inner, inner_no_block, node_of_key}
+use Rattle.yf_grammar.proofs.OneLine.{node_of_key}
 use Rattle.yf_grammar.proofs.ParserLemmas.{moved, gap_separate, value_separate, whites_in_line, key_on_line, Same, same_refl, same_behind, same_before_nothing, same_collection, empty_collection, behind_nothing}
+use Rattle.yf_grammar.proofs.WiderLemmas.{is_inside, inside_not_block, in_flow_inside}
 
 -- the production derives the part that was found, within the limit
 pub record Made (t : List ℕ) (e : ℕ) (p : Production) (i : ℕ) (f : Found) : Type 0 where
@@ -29,11 +30,11 @@ abbrev pub Sound : List ℕ → ℕ → Task → Option Found → Type 0
 Sound t e task None = Unit {0}
 Sound t e (Parser.ANode n c i) (Some f) = is_block c ≡ false → Made t e (Grammar.NodeOf f.json n c) i f
 Sound t e (Parser.AContent n c i) (Some f) = is_block c ≡ false → (f.json ≡ true) × Made t e (Grammar.JsonContent n c) i f
-Sound t e (Parser.TheEntries sequence n c i) (Some f) = is_inner c ≡ true → Closed t e sequence n c i f
-Sound t e (Parser.AnEntry sequence n c i) (Some f) = is_inner c ≡ true → Made t e (Grammar.Entry sequence n c) i f
-Sound t e (Parser.AnExplicit n c s i) (Some f) = is_inner c ≡ true → Made t e (Grammar.Explicit n c s) i f
-Sound t e (Parser.AnImplicit n c s i) (Some f) = is_inner c ≡ true → Made t e (Grammar.Implicit n c s) i f
-Sound t e (Parser.AValue json n c i) (Some f) = is_inner c ≡ true → ColonAt t json c i → Made t e (Grammar.ValueOf json n c) i f
+Sound t e (Parser.TheEntries sequence n c i) (Some f) = is_inside c ≡ true → Closed t e sequence n c i f
+Sound t e (Parser.AnEntry sequence n c i) (Some f) = is_inside c ≡ true → Made t e (Grammar.Entry sequence n c) i f
+Sound t e (Parser.AnExplicit n c s i) (Some f) = is_inside c ≡ true → Made t e (Grammar.Explicit n c s) i f
+Sound t e (Parser.AnImplicit n c s i) (Some f) = is_inside c ≡ true → Made t e (Grammar.Implicit n c s) i f
+Sound t e (Parser.AValue json n c i) (Some f) = is_inside c ≡ true → ColonAt t json c i → Made t e (Grammar.ValueOf json n c) i f
 
 json_node : {t : List ℕ} {h i j : ℕ} {json : Bool} {n : ℤ} {c : Ctx} {x : Meaning} → json ≡ true → Derives t h (Grammar.NodeOf true n c) i j x
     → Derives t h (Grammar.NodeOf json n c) i j x
@@ -92,7 +93,7 @@ sound (Parser.double_read d) = λ b. (refl, record { derived = Grammar.a_double 
 sound (Parser.double_missed a s) = tt
 sound (Parser.too_deep sequence a) = tt
 sound (Parser.collection_read {c = c} sequence a g p) = λ b.
-    let m = sound p (flow_is_inner c b) in
+    let m = sound p (in_flow_inside c b) in
     let w = closed_within sequence m in
     (refl, record { derived = bracket_derived sequence b a g m; within = omega arith })
 sound (Parser.collection_missed sequence cs a g p) = tt
@@ -110,18 +111,18 @@ sound (Parser.mapping_sign_alone {o = None} a s p) = tt
 sound (Parser.mapping_sign_alone {o = Some f} a s p) = λ q. let m = sound p q in record { derived = Grammar.an_implicit_entry m.derived; within = m.within }
 sound (Parser.mapping_implicit {o = None} a p) = tt
 sound (Parser.mapping_implicit {o = Some f} a p) = λ q. let m = sound p q in record { derived = Grammar.an_implicit_entry m.derived; within = m.within }
-sound (Parser.explicit_nothing {c = c} a) = λ q. record { derived = Grammar.explicit_without (inner_no_block c q); within = omega arith }
+sound (Parser.explicit_nothing {c = c} a) = λ q. record { derived = Grammar.explicit_without (inside_not_block c q); within = omega arith }
 sound (Parser.explicit_something {o = None} a p) = tt
 sound (Parser.explicit_something {o = Some f} a p) = λ q. let m = sound p q in record { derived = Grammar.explicit_with m.derived; within = m.within }
 sound (Parser.lone_value a p) = λ q. let m = sound p q a in record { derived = Grammar.value_alone m.derived; within = m.within }
 sound (Parser.key_missed a p) = tt
 sound (Parser.key_with_value {c = c} a p g b r) = λ q.
-    let m = sound p (inner_no_block c q) in
+    let m = sound p (inside_not_block c q) in
     let v = sound r q b in
     let u = m.within in
     let w = v.within in
     record { derived = Grammar.key_and_value m.derived (gap_separate g) v.derived; within = omega arith }
-sound (Parser.key_without_value {c = c} cs a p g b) = λ q. let m = sound p (inner_no_block c q) in record { derived = Grammar.key_alone m.derived; within = m.within }
+sound (Parser.key_without_value {c = c} cs a p g b) = λ q. let m = sound p (inside_not_block c q) in record { derived = Grammar.key_alone m.derived; within = m.within }
 sound (Parser.pair_explicit a s p) = λ q.
     let m = sound p q in
     let w = m.within in
@@ -135,23 +136,23 @@ sound (Parser.pair_of_value a p) = λ q.
 sound (Parser.pair_of_value_too_deep a) = tt
 sound (Parser.item_missed a b p) = tt
 sound (Parser.pair_of_key {c = c} a b p key l r) = λ q.
-    let m = sound p (inner_no_block c q) in
+    let m = sound p (inside_not_block c q) in
     let v = sound r q key.colon in
     let u = v.within in
     let w = whites_forward key.run in
     let k = node_of_key (key_on_line key) q (omega arith) w m.derived in
     record { derived = Grammar.a_pair_entry (Grammar.a_keyed_pair (Grammar.a_key k (whites_in_line key.run) key.short) v.derived); within = omega arith }
 sound (Parser.pair_too_deep a b p key l) = tt
-sound (Parser.item_read {c = c} a b p key) = λ q. let m = sound p (inner_no_block c q) in record { derived = Grammar.a_node_entry (Grammar.flow_node m.derived); within = m.within }
+sound (Parser.item_read {c = c} a b p key) = λ q. let m = sound p (inside_not_block c q) in record { derived = Grammar.a_node_entry (Grammar.flow_node m.derived); within = m.within }
 sound (Parser.value_read {json = json} {c = c} {cs = cs} s p) = λ q a.
-    let m = sound p (inner_no_block c q) in
+    let m = sound p (inside_not_block c q) in
     record { derived = Grammar.a_value cs a.colon a.behind (value_separate json s.derived) (Grammar.flow_node m.derived); within = m.within }
-sound (Parser.value_empty {c = c} cs s p) = λ q a. record { derived = Grammar.empty_value (inner_no_block c q) a.colon a.behind; within = omega arith }
+sound (Parser.value_empty {c = c} cs s p) = λ q a. record { derived = Grammar.empty_value (inside_not_block c q) a.colon a.behind; within = omega arith }
 sound (Parser.value_adjacent {c = c} {f = f} s p) = λ q a.
-    let m = sound p (inner_no_block c q) in
+    let m = sound p (inside_not_block c q) in
     record { derived = moved refl refl (behind_nothing f.meaning) (Grammar.a_value [] a.colon a.behind Grammar.unseparated (Grammar.flow_node m.derived)); within = m.within }
-sound (Parser.value_adjacent_empty {c = c} s p) = λ q a. record { derived = Grammar.empty_value (inner_no_block c q) a.colon a.behind; within = omega arith }
-sound (Parser.value_missing {c = c} s) = λ q a. record { derived = Grammar.empty_value (inner_no_block c q) a.colon a.behind; within = omega arith }
+sound (Parser.value_adjacent_empty {c = c} s p) = λ q a. record { derived = Grammar.empty_value (inside_not_block c q) a.colon a.behind; within = omega arith }
+sound (Parser.value_missing {c = c} s) = λ q a. record { derived = Grammar.empty_value (inside_not_block c q) a.colon a.behind; within = omega arith }
 
 -- a flow node that was found is derived, and opens no more collections than it may
 pub found_is_derived : {t : List ℕ} {e i : ℕ} {n : ℤ} {c : Ctx} {f : Found} → is_block c ≡ false → Parses t e (Parser.ANode n c i) (Some f)

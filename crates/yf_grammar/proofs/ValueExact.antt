@@ -12,7 +12,7 @@ use Rattle.yf_grammar.specs.Parser.Parses.{value_read, value_empty, value_adjace
 use Rattle.yf_grammar.proofs.GapLemmas.{Visible, separate_is}
 use Rattle.yf_grammar.proofs.NodeExits.{none_found}
 
-behind_found : (cs : List CommentValue) (f : Found) (j h : ℕ) (b : Bool) (x : Meaning) → Some f ≡ found j h b x
+pub behind_found : (cs : List CommentValue) (f : Found) (j h : ℕ) (b : Bool) (x : Meaning) → Some f ≡ found j h b x
     → Some (record f { meaning = behind cs f.meaning }) ≡ found j h b (behind cs x)
 unfolding found
 behind_found cs f j h b x e = cc

@@ -59,7 +59,7 @@ pub wider_in : {n m : ℤ} {c d : Ctx} → Wider n c m d → Wider n (in_flow c)
 wider_in same_context = same_context
 wider_in (from_key {d = d} e) = from_key (in_flow_inside d (inside_not_block d e))
 
-safe_same : (x : ℕ) (d : Ctx) → is_inside d ≡ true → is_plain_safe x FlowKey ≡ is_plain_safe x d
+pub safe_same : (x : ℕ) (d : Ctx) → is_inside d ≡ true → is_plain_safe x FlowKey ≡ is_plain_safe x d
 unfolding is_plain_safe
 safe_same x BlockOut e = absurd (true≢false (sym e))
 safe_same x BlockIn e = absurd (true≢false (sym e))
