@@ -8,7 +8,7 @@ use Rattle.yf_emit.specs.Forms.{Site, site_at, key_site, value_site, forms, form
 use Rattle.yf_emit.specs.Normal.{Setting, Spot, styled, styled_items, styled_pairs, inner_spot}
 use Rattle.yf_emit.specs.Tree.{Node, scalar, alias, sequence, mapping, Items, no_items, item, Pairs, no_pairs, pair, flat, flat_items, flat_pairs, placed, unplaced}
 
-two_counts : {X Y : Type 0} (vs bs : List X) (xs ys : List Y) → length vs ≡ length xs → length bs ≡ length ys → length (vs ++ bs) ≡ length (xs ++ ys)
+pub two_counts : {X Y : Type 0} (vs bs : List X) (xs ys : List Y) → length vs ≡ length xs → length bs ≡ length ys → length (vs ++ bs) ≡ length (xs ++ ys)
 two_counts vs bs xs ys a b =
     length-append vs bs ∙ ap (λ n. n + length bs) a ∙ ap (λ n. length xs + n) b ∙ sym (length-append xs ys)
 

@@ -6,6 +6,7 @@ pub mod AmongLemmas
 pub mod BlockLemmas
 pub mod CountLemmas
 pub mod EndedLemmas
+pub mod FlagLemmas
 pub mod FormLemmas
 pub mod GapLemmas
 pub mod IndexLemmas
@@ -19,6 +20,7 @@ pub mod PassLemmas
 pub mod PlaceLemmas
 pub mod RestyledLemmas
 pub mod RunLemmas
+pub mod SettledLemmas
 pub mod SiteLemmas
 pub mod StepLemmas
 pub mod StreamLemmas

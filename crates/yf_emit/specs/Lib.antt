@@ -4,6 +4,7 @@ pub mod Deciding
 pub mod Format
 pub mod Formatted
 pub mod Forms
+pub mod ImplicitKeys
 pub mod Kept
 pub mod Keys
 pub mod Layout

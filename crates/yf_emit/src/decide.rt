@@ -1,12 +1,13 @@
 //! Which form the house style gives each node: one pass over the events, outer nodes before inner ones. Columns count
 //! from 0 here.
-ghost use Rattle.std.specs.Prelude.{◌<◌, ◌≡◌, ◌||◌, [], get_or, length, map, reverse, IfErr, IfOk};
+ghost use Rattle.std.specs.Prelude.{◌<◌, ◌≡◌, ◌||◌, [], get_or, length, map, reverse, IfOk, MatchResult};
 ghost use Rattle.std.specs.List.Sorted.{IsNonDecreasingBy};
 ghost use Rattle.yf_comments.specs.Comment.{comment_value};
 ghost use Rattle.yf_events.specs.Event.{event_value};
 ghost use Rattle.yf_emit.specs.Deciding as Deciding;
 ghost use Rattle.yf_emit.specs.Deciding.{given, state};
 ghost use Rattle.yf_emit.specs.Forms.{no_form, Decided};
+ghost use Rattle.yf_emit.specs.ImplicitKeys.{TellsImplicit};
 
 use crate::comments_before::first_between;
 use crate::measure::{Measure, Measures, measure_all};
@@ -560,7 +561,9 @@ fn implicit_within(
     reading: &Reading,
     i: usize,
     style: &Style,
-) -> Result<bool, AllocError> {
+) -> Result<bool, AllocError>
+    ensures { IfOk result (λ answer. TellsImplicit src.now.text reading.now style.now i answer) }
+{
     let measures = measure_all(alloc, src, reading, style)?;
     let forms = decide(alloc, &measures, reading, style)?;
     Ok(forms.at(i).is_implicit)
@@ -579,7 +582,7 @@ pub fn implicit_key(
     i: usize,
     style: &Style,
 ) -> Result<bool, Fault>
-    ensures { IfErr result (λ fault. fault ≡ Fault.Memory) }
+    ensures { MatchResult result (λ answer. TellsImplicit src.now.text reading.now style.now i answer) (λ fault. fault ≡ Fault.Memory) }
 {
     match implicit_within(alloc, src, reading, i, style) {
         Ok(is_implicit) => Ok(is_implicit),
