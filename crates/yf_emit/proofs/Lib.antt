@@ -2,19 +2,32 @@ mod Examples
 mod ShownComments
 mod ShownKeys
 mod ShownNodes
+pub mod AmongLemmas
 pub mod BlockLemmas
+pub mod CountLemmas
 pub mod EndedLemmas
+pub mod FlagLemmas
+pub mod FormLemmas
 pub mod GapLemmas
+pub mod IndexLemmas
 pub mod KeptLemmas
+pub mod LeafLemmas
+pub mod LevelLemmas
 pub mod MeasuredLemmas
 pub mod OffsetLemmas
 pub mod OneLineRuns
 pub mod PassLemmas
+pub mod PlaceLemmas
 pub mod RestyledLemmas
+pub mod RunLemmas
+pub mod SettledLemmas
+pub mod SiteLemmas
 pub mod StepLemmas
+pub mod StreamLemmas
 pub mod SumLemmas
 pub mod TreeLemmas
 pub mod TreeTexts
 pub mod TreesExist
+pub mod ValueLemmas
 pub mod WhiteLemmas
 pub mod WidthLemmas

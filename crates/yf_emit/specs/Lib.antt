@@ -1,7 +1,10 @@
 pub mod BlockLines
 pub mod ContentStart
+pub mod Deciding
 pub mod Format
 pub mod Formatted
+pub mod Forms
+pub mod ImplicitKeys
 pub mod Kept
 pub mod Keys
 pub mod Layout

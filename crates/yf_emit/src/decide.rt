@@ -1,11 +1,20 @@
 //! Which form the house style gives each node: one pass over the events, outer nodes before inner ones. Columns count
 //! from 0 here.
-ghost use Rattle.std.specs.Prelude.{◌<◌, ◌≡◌, length, IfErr};
+ghost use Rattle.std.specs.Prelude.{◌<◌, ◌≡◌, ◌||◌, [], get_or, length, map, reverse, IfOk, MatchResult};
+ghost use Rattle.std.specs.List.Sorted.{IsNonDecreasingBy};
+ghost use Rattle.yf_comments.specs.Comment.{comment_value};
+ghost use Rattle.yf_events.specs.Event.{event_value};
+ghost use Rattle.yf_emit.specs.Deciding as Deciding;
+ghost use Rattle.yf_emit.specs.Deciding.{given, state};
+ghost use Rattle.yf_emit.specs.Forms.{no_form, Decided};
+ghost use Rattle.yf_emit.specs.ImplicitKeys.{TellsImplicit};
 
 use crate::comments_before::first_between;
 use crate::measure::{Measure, Measures, measure_all};
 use crate::style::Style;
 use std::alloc::{AllocError, Global};
+use std::marker::Model;
+use yf_comments::comment::Comment;
 use yf_events::event::{Event, ScalarStyle};
 use yf_events::reading::Reading;
 use yf_lines::fault::Fault;
@@ -38,15 +47,26 @@ impl Form {
     };
 }
 
-/// The forms of all events of a reading.
+/// The forms of all events of a reading. In a contract it is the list of them.
 #[derive(Debug, Drop)]
 pub struct Forms {
     list: Vec<Form>,
 }
 
+impl Model for Forms {
+    ghost use Rattle.std.specs.Prelude.{List};
+    ghost use Rattle.yf_emit.specs.declared.decide.Form.{Form};
+
+    ghost Value = { List Form };
+
+    ghost view = { λ f. f.list.items };
+}
+
 impl Forms {
     /// The form of the event at an index, which is `Form::NONE` past the end.
-    pub fn at(&self, i: usize) -> Form {
+    pub fn at(&self, i: usize) -> Form
+        ensures { result ≡ get_or self.now i no_form }
+    {
         match self.list.get(i) {
             Some(form) => *form,
             None => Form::NONE,
@@ -72,9 +92,9 @@ struct Level {
     key: Option<Key>,
 }
 
-/// Where a node stands.
+/// Where a node stands, and what it is there.
 #[derive(Clone, Copy)]
-struct Spot {
+struct Place {
     /// The column at which it begins, its properties counted.
     column: usize,
     /// The column of its entries, if it is a block collection.
@@ -83,9 +103,11 @@ struct Spot {
     key_comment: Option<usize>,
 }
 
-impl Spot {
-    fn at(column: usize) -> Spot {
-        Spot {
+impl Place {
+    fn at(column: usize) -> Place
+        ensures { result ≡ Deciding.place_at column }
+    {
+        Place {
             column,
             entries: column,
             is_implicit: false,
@@ -95,7 +117,9 @@ impl Spot {
 }
 
 /// Whether a node of that width fits that begins at the column.
-fn fits(column: usize, width: Option<usize>, style: &Style) -> bool {
+fn fits(column: usize, width: Option<usize>, style: &Style) -> bool
+    ensures { result ≡ Deciding.has_room style.now column width }
+{
     match width {
         Some(width) => column.saturating_add(width) <= style.max_line,
         None => false,
@@ -104,7 +128,9 @@ fn fits(column: usize, width: Option<usize>, style: &Style) -> bool {
 
 /// Whether a key is written without `?`: a leaf on one line or an empty node, or a flow collection that is kept at the
 /// entry's column, of no more characters than such a key may have.
-fn is_implicit_key(measure: &Measure, column: usize, style: &Style) -> bool {
+fn is_implicit_key(measure: &Measure, column: usize, style: &Style) -> bool
+    ensures { result ≡ Deciding.may_be_implicit style.now column measure.now.can_be_kept measure.now.width }
+{
     match measure.width {
         Some(width) => {
             if width > KEY_WIDTH {
@@ -119,224 +145,393 @@ fn is_implicit_key(measure: &Measure, column: usize, style: &Style) -> bool {
     }
 }
 
+/// Whether the node that the event at an index begins is a leaf with characters, where this is its first one.
+fn is_leaf(first_leaf: Option<usize>, i: usize) -> bool
+    ensures { result ≡ Deciding.is_leaf_at i first_leaf }
+{
+    match first_leaf {
+        Some(leaf) => leaf == i,
+        None => false,
+    }
+}
+
 /// Whether a space stands before the `:` of this key: behind an alias, and behind properties alone.
-pub fn has_space(event: &Event, is_leaf: bool) -> bool {
+pub fn has_space(event: &Event, is_leaf: bool) -> bool
+    ensures { result ≡ Deciding.has_space (event_value event.now) is_leaf }
+{
     match event {
         Event::Alias { .. } => true,
         Event::Scalar {
             style: ScalarStyle::Plain,
             text,
             ..
-        } => is_leaf && text.as_str().is_empty(),
+        } => {
+            if text.as_str().is_empty() {
+                return is_leaf;
+            }
+            false
+        }
         _ => false,
     }
 }
 
 /// The byte offset at which a leaf begins.
-fn leaf_start(reading: &Reading, leaf: Option<usize>) -> Option<usize> {
-    let i = leaf?;
-    if i < reading.len() {
-        return match reading.span(i) {
-            Some(span) => Some(span.start),
-            None => None,
-        };
+fn leaf_start(reading: &Reading, leaf: Option<usize>) -> Option<usize>
+    ensures { result ≡ Deciding.leaf_start reading.now.events leaf }
+{
+    match leaf {
+        Some(i) => {
+            if i < reading.len() {
+                return match reading.span(i) {
+                    Some(span) => Some(span.start),
+                    None => None,
+                };
+            }
+            None
+        }
+        None => None,
+    }
+}
+
+/// The byte offset behind which a comment trails a key: where its last leaf begins, or its entry where it has none.
+fn key_start(reading: &Reading, i: usize, last_leaf: Option<usize>) -> usize
+    requires { i < length reading.now.events }
+    ensures { result ≡ Deciding.key_start reading.now.events i last_leaf }
+{
+    match leaf_start(reading, last_leaf) {
+        Some(start) => start,
+        None => match reading.entry(i) {
+            Some(entry) => entry.start,
+            None => 0,
+        },
+    }
+}
+
+/// How many characters a key has with its `:`.
+fn key_width(event: &Event, is_leaf: bool, width: Option<usize>) -> usize
+    ensures { result ≡ Deciding.key_width width (Deciding.colon_width (event_value event.now) is_leaf) }
+{
+    let colon = if has_space(event, is_leaf) { 2 } else { 1 };
+    match width {
+        Some(width) => width.saturating_add(colon),
+        None => colon,
+    }
+}
+
+fn key_of(reading: &Reading, event: &Event, i: usize, measure: &Measure, is_implicit: bool) -> Key
+    requires { i < length reading.now.events }
+    ensures { result ≡ record { is_implicit = is_implicit; width = Deciding.key_width measure.now.width (Deciding.colon_width (event_value event.now) (Deciding.is_leaf_at i measure.now.first_leaf)); start = Deciding.key_start reading.now.events i measure.now.last_leaf } }
+{
+    Key {
+        is_implicit,
+        width: key_width(event, is_leaf(measure.first_leaf, i), measure.width),
+        start: key_start(reading, i, measure.last_leaf),
+    }
+}
+
+/// The first comment behind the one byte offset and before the other.
+fn comment_between(comments: &[Comment], from: usize, to: usize) -> Option<usize>
+    ensures { IsNonDecreasingBy (λ c. c.offset) (map comment_value comments.now) → result ≡ Deciding.comment_between (map comment_value comments.now) from (Some to) }
+{
+    first_between(comments, from.saturating_add(1), to)
+}
+
+/// The same, where there is something before which a comment may stand.
+fn comment_before(comments: &[Comment], from: usize, to: Option<usize>) -> Option<usize>
+    ensures { IsNonDecreasingBy (λ c. c.offset) (map comment_value comments.now) → result ≡ Deciding.comment_between (map comment_value comments.now) from to }
+{
+    match to {
+        Some(to) => comment_between(comments, from, to),
+        None => None,
+    }
+}
+
+/// The comment that trails an implicit key, whose last leaf begins at that offset, before a value that begins on the next
+/// line if there is one.
+fn trailing_comment(reading: &Reading, start: usize, i: usize, measure: &Measure) -> Option<usize>
+    ensures { IsNonDecreasingBy (λ c. c.offset) reading.now.comments → result ≡ Deciding.trailing_comment reading.now.comments reading.now.events start i measure.now }
+{
+    let to = leaf_start(reading, measure.first_leaf);
+    if is_leaf(measure.first_leaf, i) {
+        return comment_before(reading.comments(), start, to);
+    }
+    if measure.can_be_kept {
+        return comment_before(reading.comments(), start, to);
     }
     None
 }
 
-/// The byte offset behind which a comment trails a key: where its last leaf begins, or its entry where it has none.
-fn key_start(reading: &Reading, i: usize, measure: &Measure) -> usize
-    requires { i < length reading.now.events }
+/// The column of the entries of an implicit key's value, if it is a block collection.
+fn value_entries(event: &Event, column: usize, style: &Style) -> usize
+    ensures { result ≡ Deciding.value_entries style.now (event_value event.now) column }
 {
-    if let Some(start) = leaf_start(reading, measure.last_leaf) {
-        return start;
+    if let Event::SeqStart { .. } = event {
+        if !style.seq_indent {
+            return column;
+        }
     }
-    match reading.entry(i) {
-        Some(entry) => entry.start,
-        None => 0,
-    }
+    column.saturating_add(style.indent)
 }
 
-fn key_of(reading: &Reading, i: usize, measure: &Measure, is_implicit: bool) -> Key
-    requires { i < length reading.now.events }
+/// The comment, where it trails the key: where the value is a leaf, or fits on the next line.
+fn comment_if(
+    comment: usize,
+    i: usize,
+    measure: &Measure,
+    column: usize,
+    style: &Style,
+) -> Option<usize>
+    ensures { result ≡ Deciding.comment_if (Deciding.is_leaf_at i measure.now.first_leaf || Deciding.has_room style.now column measure.now.width) comment }
 {
-    let space = if has_space(reading.event(i), measure.is_leaf(i)) {
-        2
-    } else {
-        1
-    };
-    let width = match measure.width {
-        Some(width) => width.saturating_add(space),
-        None => space,
-    };
-    Key {
-        is_implicit,
-        width,
-        start: key_start(reading, i, measure),
+    if is_leaf(measure.first_leaf, i) {
+        return Some(comment);
     }
-}
-
-/// The comment that trails an implicit key, before a value that begins on the next line at that column if there is one.
-fn trailing_comment(reading: &Reading, key: &Key, i: usize, measure: &Measure) -> Option<usize> {
-    if !measure.is_leaf(i) && !measure.can_be_kept {
-        return None;
+    if fits(column, measure.width, style) {
+        return Some(comment);
     }
-    let start = leaf_start(reading, measure.first_leaf)?;
-    first_between(reading.comments(), key.start.saturating_add(1), start)
-}
-
-/// Whether the node is a sequence.
-fn is_sequence(event: &Event) -> bool {
-    matches!(event, Event::SeqStart { .. })
+    None
 }
 
 /// Where the value of an implicit key stands.
-fn value_spot(
+fn value_place(
     reading: &Reading,
+    event: &Event,
     i: usize,
     measure: &Measure,
     key: &Key,
     column: usize,
     style: &Style,
-) -> Spot
-    requires { i < length reading.now.events }
+) -> Place
+    ensures { IsNonDecreasingBy (λ c. c.offset) reading.now.comments → result ≡ Deciding.value_place (given style.now reading.now.comments reading.now.events) (event_value event.now) i measure.now key.now column }
 {
-    let next = column.saturating_add(style.indent);
-    let entries = if is_sequence(reading.event(i)) && !style.seq_indent {
-        column
-    } else {
-        next
-    };
-    let comment = trailing_comment(reading, key, i, measure);
-    let is_next = comment.is_some();
-    let stays = is_next && (measure.is_leaf(i) || fits(next, measure.width, style));
-    Spot {
-        column: if is_next {
-            next
-        } else {
-            column.saturating_add(key.width).saturating_add(1)
+    let entries = value_entries(event, column, style);
+    match trailing_comment(reading, key.start, i, measure) {
+        Some(comment) => {
+            let next = column.saturating_add(style.indent);
+            Place {
+                column: next,
+                entries,
+                is_implicit: false,
+                key_comment: comment_if(comment, i, measure, next, style),
+            }
+        }
+        None => Place {
+            column: column.saturating_add(key.width).saturating_add(1),
+            entries,
+            is_implicit: false,
+            key_comment: None,
         },
-        entries,
-        is_implicit: false,
-        key_comment: if stays { comment } else { None },
     }
 }
 
-/// Where a key or a value stands, and the key that waits for its value afterwards.
-fn map_spot(
-    level: &Level,
+/// Where a key stands.
+fn key_place(column: usize, is_implicit: bool, style: &Style) -> Place
+    ensures { result ≡ Deciding.key_place style.now column is_implicit }
+{
+    let inner = column.saturating_add(style.indent);
+    Place {
+        column: if is_implicit { column } else { inner },
+        entries: inner,
+        is_implicit,
+        key_comment: None,
+    }
+}
+
+/// Where a key or a value stands.
+fn place_in_map(
     reading: &Reading,
+    event: &Event,
     i: usize,
     measure: &Measure,
+    level: &Level,
     style: &Style,
-) -> (Spot, Option<Key>)
-    requires { i < length reading.now.events }
+) -> Place
+    ensures { IsNonDecreasingBy (λ c. c.offset) reading.now.comments → result ≡ Deciding.place_in_map (given style.now reading.now.comments reading.now.events) (event_value event.now) i measure.now level.now.column level.now.key }
 {
-    let inner = level.column.saturating_add(style.indent);
     match level.key {
         Some(key) => {
             if key.is_implicit {
-                return (
-                    value_spot(reading, i, measure, &key, level.column, style),
-                    None,
-                );
+                return value_place(reading, event, i, measure, &key, level.column, style);
             }
-            (Spot::at(inner), None)
+            Place::at(level.column.saturating_add(style.indent))
         }
         None => {
             let is_implicit = is_implicit_key(measure, level.column, style);
-            let spot = Spot {
-                column: if is_implicit { level.column } else { inner },
-                entries: inner,
-                is_implicit,
-                key_comment: None,
-            };
-            (spot, Some(key_of(reading, i, measure, is_implicit)))
+            key_place(level.column, is_implicit, style)
         }
     }
 }
 
-/// Where the next node stands.
-fn next_spot(
-    stack: &mut Vec<Level>,
+/// The key that waits for its value behind a key or a value.
+fn key_behind(
     reading: &Reading,
+    event: &Event,
+    i: usize,
+    measure: &Measure,
+    level: &Level,
+    style: &Style,
+) -> Option<Key>
+    requires { i < length reading.now.events }
+    ensures { result ≡ Deciding.key_behind (given style.now reading.now.comments reading.now.events) (event_value event.now) i measure.now level.now.column level.now.key }
+{
+    match level.key {
+        Some(_) => None,
+        None => {
+            let is_implicit = is_implicit_key(measure, level.column, style);
+            Some(key_of(reading, event, i, measure, is_implicit))
+        }
+    }
+}
+
+/// Where the next node stands that holds no other.
+fn next_place(
+    stack: &[Level],
+    reading: &Reading,
+    event: &Event,
     i: usize,
     measure: &Measure,
     style: &Style,
-) -> Spot
-    requires { i < length reading.now.events }
+) -> Place
+    ensures { IsNonDecreasingBy (λ c. c.offset) reading.now.comments → result ≡ Deciding.next_place (given style.now reading.now.comments reading.now.events) (event_value event.now) i measure.now (reverse stack.now) }
 {
-    match stack.last_mut() {
-        None => Spot::at(0),
-        Some(level) => {
-            if !level.is_map {
-                return Spot::at(level.column.saturating_add(style.indent));
-            }
-            let (spot, key) = map_spot(level, reading, i, measure, style);
-            level.key = key;
-            spot
+    let count = stack.len();
+    if count > 0 {
+        let level = stack[count - 1];
+        if level.is_map {
+            return place_in_map(reading, event, i, measure, &level, style);
+        }
+        return Place::at(level.column.saturating_add(style.indent));
+    }
+    Place::at(0)
+}
+
+/// Notes in the innermost open collection that a node is a key or a value.
+fn count_node(
+    stack: &mut Vec<Level>,
+    reading: &Reading,
+    event: &Event,
+    i: usize,
+    measure: &Measure,
+    style: &Style,
+)
+    requires { i < length reading.now.events }
+    ensures { reverse stack.new.items ≡ Deciding.next_stack (given style.now reading.now.comments reading.now.events) (event_value event.now) i measure.now (reverse stack.old.items) }
+{
+    let count = stack.len();
+    if count > 0 {
+        let level = stack[count - 1];
+        if level.is_map {
+            stack[count - 1] = Level {
+                is_map: true,
+                column: level.column,
+                key: key_behind(reading, event, i, measure, &level, style),
+            };
         }
     }
 }
 
-/// Gives a node its form, and answers the index of the event that is looked at next: the first one in a block collection,
-/// else the one behind the node.
+/// Whether a node that the event at an index begins holds no node to look at.
+fn is_whole(measure: &Measure, i: usize, is_kept: bool) -> bool
+    ensures { result ≡ Deciding.is_whole i measure.now is_kept }
+{
+    if is_kept {
+        return true;
+    }
+    if is_leaf(measure.first_leaf, i) {
+        return true;
+    }
+    measure.last == i
+}
+
+/// Gives a node its form, and answers the index of the last event that needs no look: the node's last one, or of a block
+/// collection the first one.
 fn node(
     list: &mut Vec<Form>,
     stack: &mut Vec<Level>,
     reading: &Reading,
+    event: &Event,
     measure: &Measure,
     style: &Style,
     i: usize,
     is_map: bool,
 ) -> Result<usize, AllocError>
     requires { i < length reading.now.events }
+    ensures { IfOk result (λ done. IsNonDecreasingBy (λ c. c.offset) reading.now.comments → state list.new.items (reverse stack.new.items) done ≡ Deciding.node (given style.now reading.now.comments reading.now.events) (event_value event.now) i measure.now is_map list.old.items (reverse stack.old.items)) }
 {
-    let spot = next_spot(stack, reading, i, measure, style);
-    let is_kept = measure.can_be_kept && fits(spot.column, measure.width, style);
-    if i < list.len() {
-        list[i] = Form {
-            is_kept,
-            is_implicit: spot.is_implicit,
-            key_comment: spot.key_comment,
-            column: spot.entries,
-        };
-    }
-    if is_kept || measure.is_leaf(i) || measure.last == i {
-        return Ok(measure.last.saturating_add(1));
+    let place = next_place(stack.as_slice(), reading, event, i, measure, style);
+    count_node(stack, reading, event, i, measure, style);
+    let is_kept = measure.can_be_kept && fits(place.column, measure.width, style);
+    list.push(Form {
+        is_kept,
+        is_implicit: place.is_implicit,
+        key_comment: place.key_comment,
+        column: place.entries,
+    })?;
+    if is_whole(measure, i, is_kept) {
+        return Ok(measure.last);
     }
     stack.push(Level {
         is_map,
-        column: spot.entries,
+        column: place.entries,
         key: None,
     })?;
-    Ok(i.saturating_add(1))
+    Ok(i)
 }
 
-/// Goes past one event, and answers the index of the one that is looked at next.
+/// Goes past one event, and answers the index of the last one that needs no look.
 fn pass(
     list: &mut Vec<Form>,
     stack: &mut Vec<Level>,
     reading: &Reading,
-    measures: &Measures,
+    event: &Event,
+    measure: &Measure,
     style: &Style,
     i: usize,
 ) -> Result<usize, AllocError>
     requires { i < length reading.now.events }
+    ensures { IfOk result (λ done. IsNonDecreasingBy (λ c. c.offset) reading.now.comments → state list.new.items (reverse stack.new.items) done ≡ Deciding.past (given style.now reading.now.comments reading.now.events) (event_value event.now) i measure.now list.old.items (reverse stack.old.items)) }
 {
-    match reading.event(i) {
-        Event::Scalar { .. } | Event::Alias { .. } | Event::SeqStart { .. } => {
-            node(list, stack, reading, &measures.at(i), style, i, false)
-        }
-        Event::MapStart { .. } => node(list, stack, reading, &measures.at(i), style, i, true),
-        Event::SeqEnd | Event::MapEnd => {
+    match event {
+        Event::Scalar { .. } => node(list, stack, reading, event, measure, style, i, false),
+        Event::Alias { .. } => node(list, stack, reading, event, measure, style, i, false),
+        Event::SeqStart { .. } => node(list, stack, reading, event, measure, style, i, false),
+        Event::MapStart { .. } => node(list, stack, reading, event, measure, style, i, true),
+        Event::SeqEnd => {
+            list.push(Form::NONE)?;
             let _ = stack.pop();
-            Ok(i.saturating_add(1))
+            Ok(i)
         }
-        Event::StreamStart | Event::StreamEnd | Event::DocStart { .. } | Event::DocEnd { .. } => {
-            Ok(i.saturating_add(1))
+        Event::MapEnd => {
+            list.push(Form::NONE)?;
+            let _ = stack.pop();
+            Ok(i)
+        }
+        _ => {
+            list.push(Form::NONE)?;
+            Ok(i)
         }
     }
+}
+
+/// Goes past one event, which gets no look up to the index `done`, and answers that index from here on.
+fn advance(
+    list: &mut Vec<Form>,
+    stack: &mut Vec<Level>,
+    reading: &Reading,
+    event: &Event,
+    measures: &Measures,
+    style: &Style,
+    i: usize,
+    done: usize,
+) -> Result<usize, AllocError>
+    requires { i < length reading.now.events }
+    ensures { IfOk result (λ r. IsNonDecreasingBy (λ c. c.offset) reading.now.comments → length list.old.items ≡ i → state list.new.items (reverse stack.new.items) r ≡ Deciding.next (given style.now reading.now.comments reading.now.events) measures.now (event_value event.now) (state list.old.items (reverse stack.old.items) done)) }
+{
+    if done < i {
+        return pass(list, stack, reading, event, &measures.at(i), style, i);
+    }
+    list.push(Form::NONE)?;
+    Ok(done)
 }
 
 /// Decides the forms of all nodes of a reading that was measured, in one pass.
@@ -345,15 +540,17 @@ pub fn decide(
     measures: &Measures,
     reading: &Reading,
     style: &Style,
-) -> Result<Forms, AllocError> {
+) -> Result<Forms, AllocError>
+    ensures { IfOk result (λ forms. Decided reading.now style.now measures.now forms) }
+{
     let mut list = Vec::new(alloc);
     let mut stack: Vec<Level> = Vec::new(alloc);
-    let mut next = 0;
+    let mut done = 0;
     for i in 0..reading.len() {
-        list.push(Form::NONE)?;
-        if next <= i {
-            next = pass(&mut list, &mut stack, reading, measures, style, i)?;
-        }
+        let event = reading.event(i);
+        done = advance(
+            &mut list, &mut stack, reading, event, measures, style, i, done,
+        )?;
     }
     Ok(Forms { list })
 }
@@ -364,7 +561,9 @@ fn implicit_within(
     reading: &Reading,
     i: usize,
     style: &Style,
-) -> Result<bool, AllocError> {
+) -> Result<bool, AllocError>
+    ensures { IfOk result (λ answer. TellsImplicit src.now.text reading.now style.now i answer) }
+{
     let measures = measure_all(alloc, src, reading, style)?;
     let forms = decide(alloc, &measures, reading, style)?;
     Ok(forms.at(i).is_implicit)
@@ -383,7 +582,7 @@ pub fn implicit_key(
     i: usize,
     style: &Style,
 ) -> Result<bool, Fault>
-    ensures { IfErr result (λ fault. fault ≡ Fault.Memory) }
+    ensures { MatchResult result (λ answer. TellsImplicit src.now.text reading.now style.now i answer) (λ fault. fault ≡ Fault.Memory) }
 {
     match implicit_within(alloc, src, reading, i, style) {
         Ok(is_implicit) => Ok(is_implicit),

@@ -1,0 +1,47 @@
+-- The innermost open collection, which is the last of the stack.
+use Rattle.std.proofs.Common.{◌≡◌, ℕ, ◌+◌, ◌-◌, ◌<◌, List, [], ◌∷◌, ◌++◌, length, set, get_or, reverse, refl, sym, ap, ◌∙◌, arith}
+use Rattle.std.specs.Prelude.{Option, Some, None, Bool, true, if◌then◌else◌}
+use Rattle.std.proofs.Math.Seq.{set-append_seam, get_or-append_seam}
+use Rattle.std.proofs.lemmas.List.{length-append, reverse-append}
+use Rattle.yf_events.specs.Event.{EventValue}
+use Rattle.yf_emit.specs.declared.decide.Key.{Key}
+use Rattle.yf_emit.specs.declared.decide.Level.{Level}
+use Rattle.yf_emit.specs.declared.measure.Measure.{Measure}
+use Rattle.yf_emit.specs.Deciding.{Given, next_stack, key_behind}
+
+last_level : (x : Level) (xs : List Level) → (zs : List Level) × (y : Level) × (x ∷ xs ≡ zs ++ (y ∷ []))
+last_level x [] = ([], x, refl)
+last_level x (z ∷ zs) = let s = last_level z zs in (x ∷ s.0, s.1, ap (λ w. x ∷ w) s.2)
+
+-- the others, and the stack with that level changed
+pub record Top (xs : List Level) (n : ℕ) (o : Level) : Type 0 where
+  pub others : List Level
+  pub is : reverse xs ≡ o ∷ others
+  pub changed : (w : Level) → reverse (set xs (n - 1) w) ≡ w ∷ others
+
+pub top : (xs : List Level) (n : ℕ) (o : Level) → n ≡ length xs → 0 < n → o ≡ get_or xs (n - 1) o → Top xs n o
+top [] n o l p g = absurd (omega arith)
+top (x ∷ xs) n o l p g =
+    let s = last_level x xs in
+    let long : length (x ∷ xs) ≡ length s.0 + 1 = ap length s.2 ∙ length-append s.0 (s.1 ∷ []) in
+    let last : n - 1 ≡ length s.0 = omega (arith, l, long) in
+    let same : o ≡ s.1 =
+    g ∙ ap (λ v. get_or v (n - 1) o) s.2 ∙ ap (λ k. get_or (s.0 ++ (s.1 ∷ [])) k o) last ∙ get_or-append_seam s.0 s.1 [] o in
+    record {
+      others = reverse s.0;
+      is = ap reverse s.2 ∙ reverse-append s.0 (s.1 ∷ []) ∙ ap (λ v. v ∷ reverse s.0) (sym same);
+      changed = λ w. ap (λ v. reverse (set v (n - 1) w)) s.2 ∙ ap (λ k. reverse (set (s.0 ++ (s.1 ∷ [])) k w)) last
+      ∙ ap reverse (set-append_seam s.0 s.1 [] w) ∙ reverse-append s.0 (w ∷ []);
+    }
+
+-- a node was counted in the innermost mapping
+counted : (g : Given) (e : EventValue) (i : ℕ) (m : Measure) (o : Level) (others : List Level) (key : Option Key) → o.is_map ≡ true
+    → key ≡ key_behind g e i m o.column o.key
+    → record { is_map = true; column = o.column; key = key } ∷ others ≡ next_stack g e i m (o ∷ others)
+counted g e i m o others key b k = rw (b, k) refl
+
+pub count_in_map : (g : Given) (e : EventValue) (i : ℕ) (m : Measure) (xs : List Level) (n : ℕ) (o : Level) (key : Option Key)
+    → n ≡ length xs → 0 < n → o ≡ get_or xs (n - 1) o → o.is_map ≡ true → key ≡ key_behind g e i m o.column o.key
+    → reverse (set xs (n - 1) (record { is_map = true; column = o.column; key = key })) ≡ next_stack g e i m (reverse xs)
+count_in_map g e i m xs n o key l p q b k =
+    let t = top xs n o l p q in t.changed _ ∙ counted g e i m o t.others key b k ∙ ap (next_stack g e i m) (sym t.is)

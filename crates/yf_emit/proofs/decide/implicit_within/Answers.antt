@@ -1,0 +1,14 @@
+use Rattle.std.proofs.Common.{◌∙◌, ap, get_or}
+use Rattle.yf_emit.specs.Forms.{no_form}
+use Rattle.yf_emit.specs.Normal.{setting_of}
+use Rattle.yf_emit.specs.declared.decide.Form.{Form}
+use Rattle.yf_emit.proofs.FlagLemmas.{implicit_there}
+use Rattle.yf_emit.proofs.decide.implicit_within.Goals as goal
+
+pub returns : goal.returns
+returns c = record {
+  is = λ s ds trees placed.
+      let forms = c.in_ok-forms.ensures.are s c.args.src.now.text (setting_of c.args.reading.now c.args.style.now) ds trees placed (c.in_ok-measures.ensures s) in
+      ap (λ (f : Form). f.is_implicit) (c.at.ensures ∙ ap (λ fs. get_or fs c.args.i no_form) forms)
+      ∙ implicit_there c.args.src.now.text c.args.reading.now c.args.style.now ds c.args.i;
+}
