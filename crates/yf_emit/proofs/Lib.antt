@@ -13,6 +13,7 @@ pub mod KeptLemmas
 pub mod LeafLemmas
 pub mod LevelLemmas
 pub mod MeasuredLemmas
+pub mod NormalLemmas
 pub mod OffsetLemmas
 pub mod OneLineRuns
 pub mod PassLemmas
