@@ -14,6 +14,7 @@ pub mod KeptLemmas
 pub mod LeafLemmas
 pub mod LevelLemmas
 pub mod MeasuredLemmas
+pub mod NormalLemmas
 pub mod OffsetLemmas
 pub mod OneLineRuns
 pub mod PassLemmas

@@ -1,7 +1,5 @@
 -- Laws of restyled readings: they are well nested where the reading is, and have the same content.
-use Rattle.std.proofs.Common.{◌≡◌, ℕ, zero, suc, Bool, true, false, List, [], ◌∷◌, ◌++◌, if◌then◌else◌, chars, Option, Some, None, length, map, take, get_or, ◌<◌, ◌+◌, arith, refl, sym, ap, subst, ◌∙◌}
-use Rattle.std.proofs.Math.Seq.{take-suc}
-use Rattle.std.proofs.lemmas.List.{map-append}
+use Rattle.std.proofs.Common.{◌≡◌, ℕ, zero, suc, Bool, true, false, List, [], ◌∷◌, if◌then◌else◌, chars, Option, Some, None, length, map, refl, sym, ap, ◌∙◌}
 use Rattle.std.specs.List.{flat_map, zip}
 use Rattle.yf_lines.specs.Steady.{is_steady}
 use Rattle.yf_lines.specs.declared.quotes.Quotes.{Quotes}
@@ -21,25 +19,9 @@ use Rattle.yf_events.proofs.Nests.{complete}
 use Rattle.yf_events.proofs.Rests.{is_stream}
 use Rattle.yf_quoted.specs.Written.{quotes_for}
 use Rattle.yf_emit.specs.Wanted.{quoted_in, style_in, wanted, has_block_content}
-use Rattle.yf_emit.specs.Restyled.{restyled_event, restyled, Restyled, none_left, one_more, IsRestyled}
+use Rattle.yf_emit.specs.Restyled.{restyled_event, Restyled, none_left, one_more, IsRestyled}
 
--- one more event at the end
-pub restyled_next : {q : Quotes} {es fs : List Placed} (e : Placed) (flow : Bool) → Restyled q es fs
-    → Restyled q (es ++ (e ∷ [])) (fs ++ (restyled q flow e ∷ []))
-restyled_next e flow none_left = one_more flow none_left
-restyled_next e flow (one_more g r) = one_more g (restyled_next e flow r)
-
--- one more event of a list, whose first events are restyled
-pub restyled_step : {X : Type 0} {q : Quotes} (f : X → Placed) (xs : List X) (i : ℕ) (x : X) {ys : List Placed} {p : Placed} (flow : Bool)
-    → i < length xs → x ≡ get_or xs i x → Restyled q (map f (take i xs)) ys → p ≡ restyled q flow (f x)
-    → Restyled q (map f (take (i + 1) xs)) (ys ++ (p ∷ []))
-restyled_step {X} {q} f xs i x {ys} {p} flow l e r s =
-    let later : suc i ≡ i + 1 = omega arith in
-    rw (s, sym later) (subst (λ w. Restyled q w (ys ++ (restyled q flow (f x) ∷ []))) (sym moved) (restyled_next (f x) flow r)) where
-      moved : map f (take (suc i) xs) ≡ map f (take i xs) ++ (f x ∷ [])
-      moved = ap (map f) (take-suc xs i x l) ∙ map-append f (take i xs) (get_or xs i x ∷ []) ∙ ap (λ w. map f (take i xs) ++ (f w ∷ [])) (sym e)
-
-restyled_length : {q : Quotes} {es fs : List Placed} → Restyled q es fs → length fs ≡ length es
+pub restyled_length : {q : Quotes} {es fs : List Placed} → Restyled q es fs → length fs ≡ length es
 restyled_length none_left = refl
 restyled_length (one_more flow r) = ap suc (restyled_length r)
 

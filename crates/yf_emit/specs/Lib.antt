@@ -11,6 +11,7 @@ pub mod Layout
 pub mod Measures
 pub mod Measuring
 pub mod Normal
+pub mod NormalEvents
 pub mod OneLine
 pub mod OneLineRun
 pub mod ReadingOf

@@ -4,6 +4,7 @@ ghost use Rattle.std.specs.List.Sorted.{IsNonDecreasingBy};
 ghost use Rattle.std.specs.Str.{IsUtf8};
 ghost use Rattle.yf_comments.specs.Comment.{comment_value};
 ghost use Rattle.yf_events.specs.Event.{event_value};
+ghost use Rattle.yf_emit.specs.Deciding.{is_leaf_at};
 ghost use Rattle.yf_emit.specs.Kept as Kept;
 ghost use Rattle.yf_emit.specs.Kept.{scalar_may_be_kept};
 ghost use Rattle.yf_emit.specs.Measures.{is_one_line_style, no_measure, width_if, Measured};
@@ -55,8 +56,13 @@ impl Measure {
     };
 
     /// Whether the node, which the event at that index begins, is a leaf with characters.
-    pub fn is_leaf(&self, i: usize) -> bool {
-        self.first_leaf == Some(i)
+    pub fn is_leaf(&self, i: usize) -> bool
+        ensures { result ≡ is_leaf_at i self.now.first_leaf }
+    {
+        match self.first_leaf {
+            Some(leaf) => leaf == i,
+            None => false,
+        }
     }
 }
 

@@ -1,11 +1,16 @@
 //! The normal form of a reading: each scalar in the style, and each collection in the form, that the house style gives it.
-ghost use Rattle.std.specs.Prelude.{◌≡◌, map, IfErr, IfOk};
+ghost use Rattle.std.specs.Prelude.{◌≡◌, map, true, IfErr, IfOk, List};
+ghost use Rattle.std.specs.List.Sorted.{IsNonDecreasingBy};
 ghost use Rattle.yf_events.specs.Content.{content_of};
 ghost use Rattle.yf_events.specs.Event.{event_value, placed_value};
 ghost use Rattle.yf_events.specs.Nested.{IsStream};
 ghost use Rattle.yf_events.specs.Reading.{Fits, events_of};
 ghost use Rattle.yf_events.specs.declared.reading.TheConstants.{DEPTH};
-ghost use Rattle.yf_emit.specs.Restyled.{IsRestyled, Restyled, restyled, restyled_event};
+ghost use Rattle.yf_emit.specs.Forms.{documents_are_placed};
+ghost use Rattle.yf_emit.specs.Normal.{Normal};
+ghost use Rattle.yf_emit.specs.NormalEvents.{normal_from};
+ghost use Rattle.yf_emit.specs.Restyled.{IsRestyled, restyled, restyled_event};
+ghost use Rattle.yf_emit.specs.Tree.{DocumentTree, TreesOf};
 
 use crate::copies::{
     copied_comments, copied_documents, copied_notes, copied_offsets, copied_slices, copied_tags,
@@ -86,7 +91,7 @@ fn normal_events<'a>(
     forms: &Forms,
     style: &Style,
 ) -> Result<Events<'a>, AllocError>
-    ensures { IfOk result (λ normal. Restyled style.now.quotes (map placed_value events.now) normal) }
+    ensures { IfOk result (λ normal. normal ≡ normal_from style.now.quotes measures.now 0 0 forms.now (map placed_value events.now)) }
 {
     let mut normal = Events::new(alloc);
     let mut kept_until = 0;
@@ -109,6 +114,7 @@ fn normal_lists<'a>(
     style: &Style,
 ) -> Result<Lists<'a>, AllocError>
     ensures restyled { IfOk result (λ normal. IsRestyled style.now.quotes reading.now normal) }
+    ensures is_normal { IfOk result (λ normal. (ds : List DocumentTree) → TreesOf reading.now ds → documents_are_placed ds ≡ true → IsNonDecreasingBy (λ c. c.offset) reading.now.comments → Normal src.now.text reading.now style.now normal) }
     ensures fit { IfOk result Fits }
     ensures nested { IfOk result (λ normal. IsStream DEPTH (events_of normal)) }
 {
@@ -138,6 +144,7 @@ pub fn normal<'a>(
     style: &Style,
 ) -> Result<Reading<'a>, Fault>
     ensures restyled { IfOk result (λ normal. IsRestyled style.now.quotes reading.now normal) }
+    ensures is_normal { IfOk result (λ normal. (ds : List DocumentTree) → TreesOf reading.now ds → documents_are_placed ds ≡ true → IsNonDecreasingBy (λ c. c.offset) reading.now.comments → Normal src.now.text reading.now style.now normal) }
     ensures content { IfOk result (λ normal. content_of normal ≡ content_of reading.now) }
     ensures nested { IfOk result (λ normal. IsStream DEPTH (events_of normal)) }
     ensures refused { IfErr result (λ fault. fault ≡ Fault.Memory) }
