@@ -38,6 +38,7 @@ same_first p (c ∷ cs) = by (p c) (same_first p cs) where
   shifted : (o : Option ℕ) → is_some (option_map suc o) ≡ is_some o
   shifted None = refl
   shifted (Some i) = refl
+
   by : (b : Bool) → is_some (first_index p cs) ≡ is_some (find p cs)
       → is_some (if b then Some 0 else option_map suc (first_index p cs)) ≡ is_some (if b then Some c else find p cs)
   by true e = refl

@@ -50,16 +50,24 @@ last_then i n l = omega (arith, l)
 
 pub tells_some : (es : List Placed) (s : Style) (ms : List Measure) (i : ℕ) (m : Measure) (old new : List ℕ) → m ≡ get_or ms i no_measure → old ≡ []
     → AddsKept es s i m.last old new → m.can_be_kept ≡ true → TellsKept es s ms i (Some new)
-tells_some es s ms i m old new f b a k = record { tells = λ t c e d. record { is = λ x n.
-    let here : m ≡ measure_of t c i x = f ∙ measure_at t c es ms i x d n in
-    sym (kept_text_some t c x es s i m.last new (subst (λ w. AddsKept es s i m.last w new) b a) e n
-    (ap (λ w. w.last + 1) here ∙ last_then i (length (flat x)) (flat_filled x)) (sym (ap (λ w. w.can_be_kept) here) ∙ k)) } }
+tells_some es s ms i m old new f b a k = record {
+  tells = λ t c e d. record {
+    is = λ x n.
+        let here : m ≡ measure_of t c i x = f ∙ measure_at t c es ms i x d n in
+        sym (kept_text_some t c x es s i m.last new (subst (λ w. AddsKept es s i m.last w new) b a) e n
+        (ap (λ w. w.last + 1) here ∙ last_then i (length (flat x)) (flat_filled x)) (sym (ap (λ w. w.can_be_kept) here) ∙ k));
+  };
+}
 
 pub tells_none : (es : List Placed) (s : Style) (ms : List Measure) (i : ℕ) (m : Measure) → m ≡ get_or ms i no_measure → m.can_be_kept ≡ false
     → TellsKept es s ms i None
-tells_none es s ms i m f k = record { tells = λ t c e d. record { is = λ x n.
-    let here : m ≡ measure_of t c i x = f ∙ measure_at t c es ms i x d n in
-    sym (kept_text_none t c x (sym (ap (λ w. w.can_be_kept) here) ∙ k)) } }
+tells_none es s ms i m f k = record {
+  tells = λ t c e d. record {
+    is = λ x n.
+        let here : m ≡ measure_of t c i x = f ∙ measure_at t c es ms i x d n in
+        sym (kept_text_none t c x (sym (ap (λ w. w.can_be_kept) here) ∙ k));
+  };
+}
 
 -- What may be kept may be kept in its styles, and has them then
 

@@ -98,7 +98,7 @@ last_leaf es (i ∷ is) (s ∷ ss) other e = ap (start_or other) (last_among es 
 
 -- a node is its own first leaf exactly where it is a leaf with characters
 
-abbrev are_above : ℕ → List ℕ → Bool
+abbrev pub are_above : ℕ → List ℕ → Bool
 are_above i [] = true
 are_above i (j ∷ js) = nat_lt i j && are_above i js
 
@@ -126,25 +126,25 @@ mutual
   node_above i n (mapping at flow props no_pairs) l = rw (above i n l) refl
   node_above i n (mapping at flow props (pair k v ps)) l = pairs_above i (n + 1) (pair k v ps) (omega arith)
 
-  items_above : (i n : ℕ) (xs : Items) → i < n → are_above i (leaf_indices_of_items n xs) ≡ true
+  pub items_above : (i n : ℕ) (xs : Items) → i < n → are_above i (leaf_indices_of_items n xs) ≡ true
   items_above i n no_items l = refl
   items_above i n (item x xs) l =
       above_join i (leaf_indices n x) _ (node_above i n x l) (items_above i (n + length (flat x)) xs (omega arith))
 
-  pairs_above : (i n : ℕ) (ps : Pairs) → i < n → are_above i (leaf_indices_of_pairs n ps) ≡ true
+  pub pairs_above : (i n : ℕ) (ps : Pairs) → i < n → are_above i (leaf_indices_of_pairs n ps) ≡ true
   pairs_above i n no_pairs l = refl
   pairs_above i n (pair k v ps) l =
       above_join i (leaf_indices n k) _ (node_above i n k l)
       (above_join i (leaf_indices (n + length (flat k)) v) _ (node_above i (n + length (flat k)) v (omega arith))
       (pairs_above i (n + length (flat k) + length (flat v)) ps (omega arith)))
 
-same : (i : ℕ) → (i == i) ≡ true
+pub same : (i : ℕ) → (i == i) ≡ true
 same i = grind (arith, nat_tests)
 
 other : (i j : ℕ) → nat_lt i j ≡ true → (j == i) ≡ false
 other i j e = grind (arith, nat_tests)
 
-not_first : (i : ℕ) (js : List ℕ) → are_above i js ≡ true → is_leaf_at i (first_of js) ≡ false
+pub not_first : (i : ℕ) (js : List ℕ) → are_above i js ≡ true → is_leaf_at i (first_of js) ≡ false
 not_first i [] e = refl
 not_first i (j ∷ js) e = other i j (and_parts _ _ e).0
 

@@ -31,7 +31,7 @@ top (x ∷ xs) n o l p g =
       others = reverse s.0;
       is = ap reverse s.2 ∙ reverse-append s.0 (s.1 ∷ []) ∙ ap (λ v. v ∷ reverse s.0) (sym same);
       changed = λ w. ap (λ v. reverse (set v (n - 1) w)) s.2 ∙ ap (λ k. reverse (set (s.0 ++ (s.1 ∷ [])) k w)) last
-      ∙ ap reverse (set-append_seam s.0 s.1 [] w) ∙ reverse-append s.0 (w ∷ []);
+          ∙ ap reverse (set-append_seam s.0 s.1 [] w) ∙ reverse-append s.0 (w ∷ []);
     }
 
 -- a node was counted in the innermost mapping

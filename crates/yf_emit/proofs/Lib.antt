@@ -1,11 +1,8 @@
-mod Examples
-mod ShownComments
-mod ShownKeys
-mod ShownNodes
 pub mod AmongLemmas
 pub mod BlockLemmas
 pub mod CountLemmas
 pub mod EndedLemmas
+mod Examples
 pub mod FlagLemmas
 pub mod FormLemmas
 pub mod GapLemmas
@@ -22,6 +19,9 @@ pub mod PlaceLemmas
 pub mod RestyledLemmas
 pub mod RunLemmas
 pub mod SettledLemmas
+mod ShownComments
+mod ShownKeys
+mod ShownNodes
 pub mod SiteLemmas
 pub mod StepLemmas
 pub mod StreamLemmas

@@ -23,6 +23,7 @@ use Rattle.yf_emit.specs.NormalEvents.{kept_until, is_flow_at, normal_from}
 use Rattle.yf_emit.specs.Restyled.{restyled, Restyled, none_left, one_more}
 use Rattle.yf_emit.specs.Tree.{Standing, Node, scalar, alias, sequence, mapping, Items, no_items, item, Pairs, no_pairs, pair, DocumentTree, placed, unplaced, flat, flat_items, flat_pairs, flat_document, flat_stream, TreesOf}
 use Rattle.yf_emit.proofs.AmongLemmas.{Among, node_at, front, back, behind_first}
+use Rattle.yf_emit.proofs.LeafLemmas.{items_above, not_first, pairs_above, same}
 use Rattle.yf_emit.proofs.RestyledLemmas.{restyled_length}
 
 -- nothing differs but styles and brackets
@@ -166,58 +167,6 @@ mutual
       let r = shorter (flat v) (flat_pairs ps) (i + length (flat k)) u s.1 in
       let others = pairs_within t c (i + length (flat k) + length (flat v)) u ps p.1 r.1 in
       both_within (within t c i u k o.0 s.0) (both_within (within t c (i + length (flat k)) u v o.1 r.0) others)
-
--- Leaves.
-
-abbrev are_above : ℕ → List ℕ → Bool
-are_above i [] = true
-are_above i (j ∷ js) = nat_lt i j && are_above i js
-
-above_join : (i : ℕ) (is js : List ℕ) → are_above i is ≡ true → are_above i js ≡ true → are_above i (is ++ js) ≡ true
-above_join i [] js a b = b
-above_join i (j ∷ is) js a b =
-    let p = and_parts (nat_lt i j) (are_above i is) a in
-    let first : nat_lt i j ≡ true = p.0 in
-    let rest : are_above i (is ++ js) ≡ true = above_join i is js p.1 b in
-    rw (first, rest) refl
-
-above : (i n : ℕ) → i < n → nat_lt i n ≡ true
-above i n l = grind (arith, nat_tests)
-
-mutual
-  node_above : (i n : ℕ) (x : Node) → i < n → are_above i (leaf_indices n x) ≡ true
-  node_above i n (scalar at props style text lines) l = by (is_some at.span) where
-    by : (b : Bool) → are_above i (if b then n ∷ [] else []) ≡ true
-    by true = rw (above i n l) refl
-    by false = refl
-  node_above i n (alias at name) l = rw (above i n l) refl
-  node_above i n (sequence at flow props no_items) l = rw (above i n l) refl
-  node_above i n (sequence at flow props (item x xs)) l =
-      above_join i (leaf_indices (n + 1) x) _ (node_above i (n + 1) x (omega arith)) (items_above i (n + 1 + length (flat x)) xs (omega arith))
-  node_above i n (mapping at flow props no_pairs) l = rw (above i n l) refl
-  node_above i n (mapping at flow props (pair k v ps)) l = pairs_above i (n + 1) (pair k v ps) (omega arith)
-
-  items_above : (i n : ℕ) (xs : Items) → i < n → are_above i (leaf_indices_of_items n xs) ≡ true
-  items_above i n no_items l = refl
-  items_above i n (item x xs) l =
-      above_join i (leaf_indices n x) _ (node_above i n x l) (items_above i (n + length (flat x)) xs (omega arith))
-
-  pairs_above : (i n : ℕ) (ps : Pairs) → i < n → are_above i (leaf_indices_of_pairs n ps) ≡ true
-  pairs_above i n no_pairs l = refl
-  pairs_above i n (pair k v ps) l =
-      above_join i (leaf_indices n k) _ (node_above i n k l)
-      (above_join i (leaf_indices (n + length (flat k)) v) _ (node_above i (n + length (flat k)) v (omega arith))
-      (pairs_above i (n + length (flat k) + length (flat v)) ps (omega arith)))
-
-same : (i : ℕ) → (i == i) ≡ true
-same i = grind (arith, nat_tests)
-
-unequal : (i j : ℕ) → nat_lt i j ≡ true → (j == i) ≡ false
-unequal i j e = grind (arith, nat_tests)
-
-not_first : (i : ℕ) (js : List ℕ) → are_above i js ≡ true → is_leaf_at i (first_of js) ≡ false
-not_first i [] e = refl
-not_first i (j ∷ js) e = unequal i j (and_parts _ _ e).0
 
 -- Outside of collections on one line.
 

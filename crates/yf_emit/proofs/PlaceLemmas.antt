@@ -139,24 +139,26 @@ implicit_value : (c : Setting) (es : List Placed) (t : List ℕ) (m : Setting) (
 implicit_value c es t m column k v i key h a wide start =
     ap (place_behind c.style i (measure_of t m i v) key.width (up_to_greatest column) (Deciding.value_entries c.style (event_of v) (up_to_greatest column)))
     (trailing_there c.comments es t m k i v key.start h a start) ∙ by (key_comment_index c.comments k (styled t m v)) refl where
-  leaf : is_leaf_at i (first_of (leaf_indices i v)) ≡ is_text (styled t m v)
-  leaf = is_own_leaf i v h ∙ sym (styled_text t m v)
-  entries : Deciding.value_entries c.style (event_of v) (up_to_greatest column) ≡ up_to_greatest (Normal.value_entries c.style column (styled t m v))
-  entries = entries_there c.style column _ _ (styled_sequence t m v)
-  by : (o : Option ℕ) → key_comment_index c.comments k (styled t m v) ≡ o
-      → place_behind c.style i (measure_of t m i v) key.width (up_to_greatest column) (Deciding.value_entries c.style (event_of v) (up_to_greatest column)) o
-      ≡ place_of (implicit_site c column k (styled t m v))
-  by None e =
-      same_place (ap (λ w. further (further (up_to_greatest column) w) 1) wide ∙ cut_sum column (width (written k)) (width (colon_behind k))
-      ∙ sym (ap up_to_greatest (column_there c column k (styled t m v) None e))) entries refl
-      (settled_no_comment c k (styled t m v) (Normal.value_of_implicit c column k (styled t m v)) e)
-  by (Some j) e =
-      let there : further (up_to_greatest column) c.style.indent ≡ up_to_greatest (Normal.value_column c column k (styled t m v)) =
-      cut_twice column c.style.indent ∙ sym (ap up_to_greatest (column_there c column k (styled t m v) (Some j) e)) in
-      same_place there entries refl
-      (ap (λ b. comment_if (b || has_room c.style (further (up_to_greatest column) c.style.indent) (measure_of t m i v).width) j) leaf
-      ∙ ap (λ n. comment_if (is_text (styled t m v) || has_room c.style n (measure_of t m i v).width) j) there
-      ∙ settled_comment c k (styled t m v) (Normal.value_of_implicit c column k (styled t m v)) j e)
+      leaf : is_leaf_at i (first_of (leaf_indices i v)) ≡ is_text (styled t m v)
+      leaf = is_own_leaf i v h ∙ sym (styled_text t m v)
+
+      entries : Deciding.value_entries c.style (event_of v) (up_to_greatest column) ≡ up_to_greatest (Normal.value_entries c.style column (styled t m v))
+      entries = entries_there c.style column _ _ (styled_sequence t m v)
+
+      by : (o : Option ℕ) → key_comment_index c.comments k (styled t m v) ≡ o
+          → place_behind c.style i (measure_of t m i v) key.width (up_to_greatest column) (Deciding.value_entries c.style (event_of v) (up_to_greatest column)) o
+          ≡ place_of (implicit_site c column k (styled t m v))
+      by None e =
+          same_place (ap (λ w. further (further (up_to_greatest column) w) 1) wide ∙ cut_sum column (width (written k)) (width (colon_behind k))
+          ∙ sym (ap up_to_greatest (column_there c column k (styled t m v) None e))) entries refl
+          (settled_no_comment c k (styled t m v) (Normal.value_of_implicit c column k (styled t m v)) e)
+      by (Some j) e =
+          let there : further (up_to_greatest column) c.style.indent ≡ up_to_greatest (Normal.value_column c column k (styled t m v)) =
+          cut_twice column c.style.indent ∙ sym (ap up_to_greatest (column_there c column k (styled t m v) (Some j) e)) in
+          same_place there entries refl
+          (ap (λ b. comment_if (b || has_room c.style (further (up_to_greatest column) c.style.indent) (measure_of t m i v).width) j) leaf
+          ∙ ap (λ n. comment_if (is_text (styled t m v) || has_room c.style n (measure_of t m i v).width) j) there
+          ∙ settled_comment c k (styled t m v) (Normal.value_of_implicit c column k (styled t m v)) j e)
 
 -- keys and values at their sites
 
@@ -200,11 +202,11 @@ value_there c es t m column k v i key h a w =
     ap (λ b. if b then value_place (given c.style c.comments es) (event_of v) i (measure_of t m i v) key (up_to_greatest column)
     else Deciding.place_at (further (up_to_greatest column) c.style.indent)) w.implicit
     ∙ by (is_implicit c.style column k) refl where
-  by : (b : Bool) → is_implicit c.style column k ≡ b
-      → (if b then value_place (given c.style c.comments es) (event_of v) i (measure_of t m i v) key (up_to_greatest column)
-      else Deciding.place_at (further (up_to_greatest column) c.style.indent)) ≡ place_of (site_if c column k (styled t m v) b)
-  by true e = implicit_value c es t m column k v i key h a (w.width e) w.start
-  by false e = same_place (cut_twice column c.style.indent) (cut_twice column c.style.indent) refl refl
+      by : (b : Bool) → is_implicit c.style column k ≡ b
+          → (if b then value_place (given c.style c.comments es) (event_of v) i (measure_of t m i v) key (up_to_greatest column)
+          else Deciding.place_at (further (up_to_greatest column) c.style.indent)) ≡ place_of (site_if c column k (styled t m v) b)
+      by true e = implicit_value c es t m column k v i key h a (w.width e) w.start
+      by false e = same_place (cut_twice column c.style.indent) (cut_twice column c.style.indent) refl refl
 
 pub item_there : (s : Style) (column : ℕ) → Deciding.place_at (further (up_to_greatest column) s.indent) ≡ place_of (site_at (inner_spot s column))
 item_there s column = same_place (cut_twice column s.indent) (cut_twice column s.indent) refl refl

@@ -47,6 +47,7 @@ filled_key s column flow v w own none = ⊎_elim implicit explicit (cases_Bool (
       let here : (flow && fits s column v) ≡ true = (and_parts (flow && fits s column v) (is_implicit s column v) (sym own ∙ e)).0 in
       ap (λ b. is_implicit s column (if flow && fits s (if b then column else column + s.indent) v then v else w)) e
       ∙ ap (λ b. is_implicit s column (if b then v else w)) here
+
   explicit : is_implicit s column v ≡ false → is_implicit s column (if flow && fits s (key_column s column v) v then v else w) ≡ is_implicit s column v
   explicit e = by (flow && fits s (key_column s column v) v) where
     by : (b : Bool) → is_implicit s column (if b then v else w) ≡ is_implicit s column v
@@ -93,12 +94,13 @@ same_entries c column k v l w e f =
     by (is_implicit c.style column k) ∙ ap (λ b. if b then value_entries c.style column v else column + c.style.indent) e
     ∙ ap (λ b. if is_implicit c.style column l then (if b && not c.style.seq_indent then column else column + c.style.indent) else column + c.style.indent) f
     ∙ sym (by' (is_implicit c.style column l)) where
-  by : (b : Bool) → (if b then value_of_implicit c column k v else inner_spot c.style column).entries ≡ (if b then value_entries c.style column v else column + c.style.indent)
-  by true = refl
-  by false = refl
-  by' : (b : Bool) → (if b then value_of_implicit c column l w else inner_spot c.style column).entries ≡ (if b then value_entries c.style column w else column + c.style.indent)
-  by' true = refl
-  by' false = refl
+      by : (b : Bool) → (if b then value_of_implicit c column k v else inner_spot c.style column).entries ≡ (if b then value_entries c.style column v else column + c.style.indent)
+      by true = refl
+      by false = refl
+
+      by' : (b : Bool) → (if b then value_of_implicit c column l w else inner_spot c.style column).entries ≡ (if b then value_entries c.style column w else column + c.style.indent)
+      by' true = refl
+      by' false = refl
 
 pub settled_value_entries : (c : Setting) (column : ℕ) (k v : Node)
     → (value_spot c column (settled c (key_spot c.style column k) k) (settled c (value_spot c column k v) v)).entries ≡ (value_spot c column k v).entries

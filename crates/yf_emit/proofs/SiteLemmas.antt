@@ -36,10 +36,6 @@ cut_twice a b = omega arith
 
 -- a flow collection with entries stays one where it may be kept
 
-kept_bools : (flow c x xs : Bool) → (flow && (flow && c && x && xs)) ≡ (flow && c && x && xs)
-kept_bools true c x xs = refl
-kept_bools false c x xs = refl
-
 pub can_be_kept : (t : List ℕ) (m : Setting) (x : Node) → (is_filled_flow x && may_be_kept t m.comments x) ≡ is_filled_flow (styled t m x)
 can_be_kept t m (scalar at props style text lines) = refl
 can_be_kept t m (alias at name) = refl
@@ -92,14 +88,11 @@ implicit_filled : (s : Style) (column : ℕ) (x : Node) (b : Bool)
 implicit_filled s column x false = refl
 implicit_filled s column x true =
     rw (cut_key (width (written x)), cut_room s column (width (written x))) (by (nat_le (width (written x)) 1023) (fits s column x)) where
-  by : (b c : Bool) → (if not b then false else c) ≡ (c && b)
-  by true true = refl
-  by true false = refl
-  by false true = refl
-  by false false = refl
-
-one_line_key : (s : Style) (column : ℕ) (style : ScalarStyle) (text : List ℕ) → is_one_line_style style ≡ is_one_line_style style
-one_line_key s column style text = refl
+      by : (b c : Bool) → (if not b then false else c) ≡ (c && b)
+      by true true = refl
+      by true false = refl
+      by false true = refl
+      by false false = refl
 
 implicit_styled : (s : Style) (column : ℕ) (x : Node)
     → may_be_implicit s (up_to_greatest column) (is_filled_flow x) (width_if (is_one_line x) (written x)) ≡ is_implicit s column x

@@ -142,9 +142,6 @@ colon_there t m i x h = ap (colon_width (event_of x)) (is_own_leaf i x h) ∙ co
 
 -- the offset behind which a comment trails a key
 
-entry_of : (x : Node) → Option Entry
-entry_of x = (standing x).entry
-
 entry_there : (es : List Placed) (i : ℕ) (x : Node) → Among es (flat x) i → slice_get (map (λ e. e.entry) es) i ≡ Some (standing x).entry
 entry_there es i (scalar at props style text lines) a = first_at (λ e. e.entry) _ _ a
 entry_there es i (alias at name) a = first_at (λ e. e.entry) _ _ a
