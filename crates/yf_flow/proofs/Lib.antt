@@ -1,2 +1,4 @@
 pub mod Forward
 pub mod Frames
+pub mod LeafLemmas
+pub mod LookLemmas

@@ -1,7 +1,10 @@
 //! Separation within flow nodes, and its comments.
-ghost use Rattle.std.specs.Prelude.{◌≡◌, ◌+◌, IfOk, IfSome};
+ghost use Rattle.std.specs.Prelude.{◌≡◌, ◌+◌, IfOk, IfSome, MatchOption};
 ghost use Rattle.std.specs.Str.{IsCharBoundary};
+ghost use Rattle.yf_chars.specs.Chain.{Stuck, Chosen};
+ghost use Rattle.yf_comments.specs.Comments.{Separate};
 ghost use Rattle.yf_flow.specs.Machine.{Place};
+ghost use Rattle.yf_flow.specs.Leaves.{Separated, GapRead};
 
 use crate::frame::Scene;
 use std::alloc::{AllocError, Global};
@@ -23,7 +26,8 @@ pub(crate) fn read_separation<'a>(
     at: usize,
 ) -> Result<Option<Separation<'a>>, AllocError>
     requires { IsCharBoundary scene.text.now at }
-    ensures { IfOk result (λ o. IfSome o (λ p. Place scene.entry.text.now at p.end)) }
+    ensures place { IfOk result (λ o. IfSome o (λ p. Place scene.entry.text.now at p.end)) }
+    ensures reads { IfOk result (λ o. MatchOption o (Stuck (Separate scene.entry.text.now scene.entry.indentation scene.entry.context at)) (λ p. Chosen (Separate scene.entry.text.now scene.entry.indentation scene.entry.context at) p.end p.comments)) }
 {
     match separate(alloc, scene.text, at, scene.indentation, scene.context)? {
         Some(separation) => Ok(Some(separation)),
@@ -40,6 +44,7 @@ pub(crate) fn read_separation_into<'a>(
 ) -> Result<Option<usize>, AllocError>
     requires boundary { IsCharBoundary scene.text.now at }
     ensures place { IfOk result (λ o. IfSome o (λ end. Place scene.entry.text.now at end)) }
+    ensures reads { IfOk result (λ o. Separated scene.entry.text.now scene.entry.indentation scene.entry.context at part.old.comments part.new.comments o) }
     ensures events { IfOk result (λ _. part.new.events ≡ part.old.events) }
     ensures escapes { IfOk result (λ _. part.new.escapes ≡ part.old.escapes) }
 {
@@ -61,6 +66,7 @@ pub(crate) fn read_gap<'a>(
 ) -> Result<Gap, AllocError>
     requires boundary { IsCharBoundary scene.text.now at }
     ensures place { IfOk result (λ gap. Place scene.entry.text.now at gap.end) }
+    ensures reads { IfOk result (λ gap. GapRead scene.entry.text.now scene.entry.indentation scene.entry.context at part.old.comments part.new.comments gap) }
     ensures events { IfOk result (λ _. part.new.events ≡ part.old.events) }
     ensures escapes { IfOk result (λ _. part.new.escapes ≡ part.old.escapes) }
 {

@@ -1,8 +1,15 @@
 //! The readers of scalars and properties, as flow nodes take them.
-ghost use Rattle.std.specs.Prelude.{◌≡◌, ◌+◌, IfOk, IfSome};
+ghost use Rattle.std.specs.Prelude.{◌≡◌, ℕ, ◌+◌, List, encode_utf8_all, IfOk, IfSome, MatchOption};
 ghost use Rattle.std.specs.List.{All};
 ghost use Rattle.std.specs.Str.{IsCharBoundary};
+ghost use Rattle.yf_chars.specs.Chain.{Stuck, Chosen};
+ghost use Rattle.yf_lines.specs.Text.{text_bytes};
+ghost use Rattle.yf_plain.specs.Plain.{Plain};
+ghost use Rattle.yf_props.specs.Names as Names;
+ghost use Rattle.yf_props.specs.Properties.{properties_value};
+ghost use Rattle.yf_quoted.specs.Quoted.{Piece, first_bad, text_of, SingleQuoted, DoubleQuoted};
 ghost use Rattle.yf_flow.specs.Machine.{Place};
+ghost use Rattle.yf_flow.specs.Leaves.{DoubleRead};
 
 use crate::frame::Scene;
 use std::alloc::{AllocError, Global};
@@ -27,7 +34,8 @@ pub(crate) fn read_properties<'a>(
     at: usize,
 ) -> Result<Option<Properties<'a>>, AllocError>
     requires { IsCharBoundary scene.text.now at }
-    ensures { IfOk result (λ o. IfSome o (λ p. Place scene.entry.text.now (at + 1) p.end)) }
+    ensures place { IfOk result (λ o. IfSome o (λ p. Place scene.entry.text.now (at + 1) p.end)) }
+    ensures reads { IfOk result (λ o. MatchOption o (Stuck (Names.Properties scene.entry.text.now scene.entry.indentation scene.entry.context at)) (λ p. Chosen (Names.Properties scene.entry.text.now scene.entry.indentation scene.entry.context at) p.end (properties_value p))) }
 {
     match node_properties(alloc, scene.text, at, scene.indentation, scene.context)? {
         Some(properties) => Ok(Some(properties)),
@@ -42,7 +50,8 @@ pub(crate) fn read_plain<'a>(
     at: usize,
 ) -> Result<Option<Scalar<'a>>, AllocError>
     requires { IsCharBoundary scene.text.now at }
-    ensures { IfOk result (λ o. IfSome o (λ p. Place scene.entry.text.now (at + 1) p.end)) }
+    ensures place { IfOk result (λ o. IfSome o (λ p. Place scene.entry.text.now (at + 1) p.end)) }
+    ensures reads { IfOk result (λ o. MatchOption o (Stuck (Plain scene.entry.text.now scene.entry.indentation scene.entry.context at)) (λ p. (x : List ℕ) × (text_bytes p.text ≡ encode_utf8_all x) × Chosen (Plain scene.entry.text.now scene.entry.indentation scene.entry.context at) p.end x)) }
 {
     match read_plain_in(alloc, scene.text, at, scene.indentation, scene.context) {
         Ok(Some((text, end))) => Ok(Some(Scalar { text, end })),
@@ -58,10 +67,28 @@ pub(crate) fn read_single<'a>(
     at: usize,
 ) -> Result<Option<Scalar<'a>>, AllocError>
     requires { IsCharBoundary scene.text.now at }
-    ensures { IfOk result (λ o. IfSome o (λ p. Place scene.entry.text.now (at + 1) p.end)) }
+    ensures place { IfOk result (λ o. IfSome o (λ p. Place scene.entry.text.now (at + 1) p.end)) }
+    ensures reads { IfOk result (λ o. MatchOption o (Stuck (SingleQuoted scene.entry.text.now scene.entry.indentation scene.entry.context at)) (λ p. (x : List ℕ) × (text_bytes p.text ≡ encode_utf8_all x) × Chosen (SingleQuoted scene.entry.text.now scene.entry.indentation scene.entry.context at) p.end x)) }
 {
     match single_in(alloc, scene.text, at, scene.indentation, scene.context)? {
         Some(Single { text, end }) => Ok(Some(Scalar { text, end })),
+        None => Ok(None),
+    }
+}
+
+// Reads a double-quoted scalar with its first escape that is no character.
+fn read_double<'a>(
+    alloc: Global,
+    scene: Scene<'a>,
+    at: usize,
+) -> Result<Option<Double<'a>>, AllocError>
+    requires { IsCharBoundary scene.text.now at }
+    ensures reads { IfOk result (λ o. MatchOption o (Stuck (DoubleQuoted scene.entry.text.now scene.entry.indentation scene.entry.context at)) (λ p. (x : List Piece) × (text_bytes p.text ≡ encode_utf8_all (text_of x)) × (p.bad ≡ first_bad x) × Chosen (DoubleQuoted scene.entry.text.now scene.entry.indentation scene.entry.context at) p.end x)) }
+    ensures place { IfOk result (λ o. IfSome o (λ p. Place scene.entry.text.now (at + 1) p.end)) }
+    ensures escape { IfOk result (λ o. IfSome o (λ p. IfSome p.bad (λ b. IsCharBoundary scene.entry.text.now b))) }
+{
+    match double_in(alloc, scene.text, at, scene.indentation, scene.context)? {
+        Some(double) => Ok(Some(double)),
         None => Ok(None),
     }
 }
@@ -77,15 +104,20 @@ pub(crate) fn scan_double<'a>(
     requires boundary { IsCharBoundary scene.text.now at }
     requires escapes { All (IsCharBoundary scene.text.now) part.old.escapes }
     ensures place { IfOk result (λ o. IfSome o (λ p. Place scene.entry.text.now (at + 1) p.end)) }
+    ensures reads { IfOk result (λ o. DoubleRead scene.entry.text.now scene.entry.indentation scene.entry.context at part.old.escapes part.new.escapes o) }
     ensures events { IfOk result (λ _. part.new.events ≡ part.old.events) }
+    ensures comments { IfOk result (λ _. part.new.comments ≡ part.old.comments) }
     ensures escapes { IfOk result (λ _. All (IsCharBoundary scene.entry.text.now) part.new.escapes) }
 {
-    match double_in(alloc, scene.text, at, scene.indentation, scene.context)? {
+    match read_double(alloc, scene, at)? {
         Some(Double { text, bad, end }) => {
-            if let Some(escape) = bad {
-                part.escapes.push(escape)?;
+            match bad {
+                Some(escape) => {
+                    part.escapes.push(escape)?;
+                    return Ok(Some(Scalar { text, end }));
+                }
+                None => return Ok(Some(Scalar { text, end })),
             }
-            Ok(Some(Scalar { text, end }))
         }
         None => Ok(None),
     }

@@ -1,7 +1,9 @@
 //! Tests of what stands at a place of a flow node. They look and read nothing.
-ghost use Rattle.std.specs.Prelude.{◌≡◌, ◌+◌, ◌≤◌, true, false};
+ghost use Rattle.std.specs.Prelude.{◌≡◌, ◌+◌, ◌≤◌, ◌==◌, ◌||◌, true, false, MatchBool};
 ghost use Rattle.std.specs.Str.{IsCharBoundary};
 ghost use Rattle.yf_chars.specs.Text.{code, Reads};
+ghost use Rattle.yf_grammar.specs.Parser.{ColonAt, begins_content};
+ghost use Rattle.yf_flow.specs.Leaves.{Closes};
 
 use crate::frame::{Kind, Scene};
 use yf_chars::classes::is_plain_safe;
@@ -10,7 +12,8 @@ use yf_comments::blank::is_blank_before;
 
 /// Whether the bracket stands there that closes a collection of that kind.
 pub(crate) fn closes(text: &str, at: usize, kind: Kind) -> bool
-    ensures { result ≡ true → IsCharBoundary text.now (at + 1) }
+    ensures behind { result ≡ true → IsCharBoundary text.now (at + 1) }
+    ensures cases { MatchBool result (Closes kind (code text.now at)) (Closes kind (code text.now at) → ⊥) }
 {
     match kind {
         Kind::Sequence => stands(text, at, b']'),
@@ -20,18 +23,27 @@ pub(crate) fn closes(text: &str, at: usize, kind: Kind) -> bool
 }
 
 /// Whether a comma or a closing bracket stands there, behind which there is nothing more of an entry.
-pub(crate) fn entry_ends(text: &str, at: usize) -> bool {
+#[tactic(auto, using(crate::proofs::LookLemmas::end_comma, crate::proofs::LookLemmas::end_bracket, crate::proofs::LookLemmas::end_brace, crate::proofs::LookLemmas::no_end))]
+pub(crate) fn entry_ends(text: &str, at: usize) -> bool
+    ensures { result ≡ ((code text.now at == 44) || (code text.now at == 93) || (code text.now at == 125)) }
+{
     if stands(text, at, b',') {
         return true;
     }
     if stands(text, at, b']') {
         return true;
     }
-    stands(text, at, b'}')
+    if stands(text, at, b'}') {
+        return true;
+    }
+    false
 }
 
 /// Whether a quote or an opening bracket stands there (c-flow-json-content).
-pub(crate) fn content_begins(text: &str, at: usize) -> bool {
+#[tactic(auto, using(crate::proofs::LookLemmas::single_begins, crate::proofs::LookLemmas::double_begins, crate::proofs::LookLemmas::sequence_begins, crate::proofs::LookLemmas::mapping_begins, crate::proofs::LookLemmas::nothing_begins))]
+pub(crate) fn content_begins(text: &str, at: usize) -> bool
+    ensures { result ≡ begins_content (code text.now at) }
+{
     if stands(text, at, b'\'') {
         return true;
     }
@@ -41,22 +53,32 @@ pub(crate) fn content_begins(text: &str, at: usize) -> bool {
     if stands(text, at, b'[') {
         return true;
     }
-    stands(text, at, b'{')
+    if stands(text, at, b'{') {
+        return true;
+    }
+    false
 }
 
 /// Whether the `:` of a value stands there, behind a node like those of JSON or another one, or no node at all: behind
 /// the others no plain character may follow it.
+#[tactic(auto, using(crate::proofs::LeafLemmas::colon_json, crate::proofs::LeafLemmas::colon_safe, crate::proofs::LeafLemmas::no_colon, crate::proofs::LeafLemmas::colon_at_end))]
 pub(crate) fn colon_stands(scene: Scene, at: usize, json: bool) -> bool
-    ensures { result ≡ true → IsCharBoundary scene.entry.text.now (at + 1) }
+    ensures behind { result ≡ true → IsCharBoundary scene.entry.text.now (at + 1) }
+    ensures cases { MatchBool result (ColonAt scene.entry.text.now json scene.entry.context at) (ColonAt scene.entry.text.now json scene.entry.context at → ⊥) }
 {
     if stands(scene.text, at, b':') {
         if json {
             return true;
         }
-        return match peek(scene.text, at + 1) {
-            Some((c, _)) => !is_plain_safe(c, scene.context),
-            None => true,
-        };
+        match peek(scene.text, at + 1) {
+            Some((c, _)) => {
+                if is_plain_safe(c, scene.context) {
+                    return false;
+                }
+                return true;
+            }
+            None => return true,
+        }
     }
     false
 }

@@ -1,0 +1,66 @@
+-- What the readers of the parts without nodes give: the longest part of each production, with its value.
+use Rattle.std.specs.Prelude.{◌≡◌, ℕ, ◌≤◌, ℤ, Bool, true, false, List, [], ◌∷◌, ◌++◌, Option, Some, None, encode_utf8_all}
+use Rattle.yf_chars.specs.declared.context.Ctx.{Ctx}
+use Rattle.yf_chars.specs.Chain.{Stuck, Chosen}
+use Rattle.yf_lines.specs.Text.{text_bytes}
+use Rattle.yf_comments.specs.Comment.{CommentValue}
+use Rattle.yf_comments.specs.Comments.{Separate}
+use Rattle.yf_quoted.specs.Quoted.{Piece, text_of, DoubleQuoted}
+use Rattle.yf_grammar.specs.Grammar.{bad_escapes, characters_between, KEY_LIMIT}
+use Rattle.yf_grammar.specs.Parser.{OnOneLine}
+use Rattle.yf_flow.specs.declared.frame.Kind.{Kind}
+use Rattle.yf_flow.specs.declared.frame.Kind.TheVariants.{Sequence, Mapping, Pair}
+use Rattle.yf_flow.specs.declared.gap.Gap.{Gap}
+use Rattle.yf_flow.specs.declared.leaf.Scalar.{Scalar}
+
+-- the longest separation from i, with its comments behind those of a list; or there is none
+pub record SeparatedTo (t : List ℕ) (n : ℤ) (c : Ctx) (i j : ℕ) (old new : List CommentValue) : Type 0 where
+  pub comments : List CommentValue
+  pub chosen : Chosen (Separate t n c i) j comments
+  pub added : new ≡ old ++ comments
+
+pub record Unseparated (t : List ℕ) (n : ℤ) (c : Ctx) (i : ℕ) (old new : List CommentValue) : Type 0 where
+  pub none : Stuck (Separate t n c i)
+  pub same : new ≡ old
+
+abbrev pub Separated : List ℕ → ℤ → Ctx → ℕ → List CommentValue → List CommentValue → Option ℕ → Type 0
+Separated t n c i old new (Some j) = SeparatedTo t n c i j old new
+Separated t n c i old new None = Unseparated t n c i old new
+
+-- the same where there need be none
+pub data GapRead (t : List ℕ) (n : ℤ) (c : Ctx) (i : ℕ) (old new : List CommentValue) : Gap → Type 0 where
+  gap_read : {j : ℕ} → SeparatedTo t n c i j old new → GapRead t n c i old new (record { end = j; is_separation = true })
+  gap_missing : Unseparated t n c i old new → GapRead t n c i old new (record { end = i; is_separation = false })
+
+-- of the escapes of each scalar that has any the first is kept
+pub data Firsts : List ℕ → List ℕ → Type 0 where
+  no_escapes : Firsts [] []
+  first_kept : {p : ℕ} (x : List ℕ) {y z : List ℕ} → Firsts y z → Firsts (p ∷ (x ++ y)) (p ∷ z)
+
+-- a double-quoted scalar, of whose escapes the first is kept
+pub record DoubleRest (t : List ℕ) (n : ℤ) (c : Ctx) (i : ℕ) (old new : List ℕ) (s : Scalar) : Type 0 where
+  pub pieces : List Piece
+  pub text : text_bytes s.text ≡ encode_utf8_all (text_of pieces)
+  pub kept : List ℕ
+  pub firsts : Firsts (bad_escapes pieces) kept
+  pub added : new ≡ old ++ kept
+  pub chosen : Chosen (DoubleQuoted t n c i) s.end pieces
+
+pub record DoubleMissing (t : List ℕ) (n : ℤ) (c : Ctx) (i : ℕ) (old new : List ℕ) : Type 0 where
+  pub none : Stuck (DoubleQuoted t n c i)
+  pub same : new ≡ old
+
+abbrev pub DoubleRead : List ℕ → ℤ → Ctx → ℕ → List ℕ → List ℕ → Option Scalar → Type 0
+DoubleRead t n c i old new (Some s) = DoubleRest t n c i old new s
+DoubleRead t n c i old new None = DoubleMissing t n c i old new
+
+-- the bracket that closes a collection of that kind
+abbrev pub Closes : Kind → ℕ → Type 0
+Closes Sequence x = x ≡ 93
+Closes Mapping x = x ≡ 125
+Closes Pair x = ⊥
+
+-- the characters of an implicit key: on one line, and not too many
+pub record KeyLine (t : List ℕ) (i j : ℕ) : Type 0 where
+  pub line : OnOneLine t i j
+  pub short : characters_between t i j ≤ KEY_LIMIT
