@@ -7,6 +7,7 @@ returns-in-Ok-clause-formatted c = record {
   normal = c.in_ok-normal.normal;
   nested = c.in_ok-normal.ensures.nested;
   restyled = c.in_ok-normal.ensures.restyled;
+  is_normal = c.in_ok-normal.ensures.is_normal;
   same = c.in_ok-normal.ensures.content;
   utf8 = IsUtf8-string_bytes c.in-Ok.text;
 }
