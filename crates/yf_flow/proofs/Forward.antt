@@ -1,5 +1,5 @@
 -- What leaf readers read ends behind its start.
-use Rattle.std.proofs.Common.{ℕ, ℤ, ◌+◌, ◌<◌, ◌≤◌, List, arith}
+use Rattle.std.proofs.Common.{ℕ, ℤ, ◌<◌, ◌≤◌, List, arith}
 use Rattle.yf_chars.specs.declared.context.Ctx.{Ctx}
 use Rattle.yf_chars.specs.Chain.{Chain, done, step}
 use Rattle.yf_chars.proofs.ChainLemmas.{chain_forward, one_functional}

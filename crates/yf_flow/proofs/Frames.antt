@@ -1,13 +1,10 @@
 -- The open collections: what holds of them stays so when events are added, and when one is opened or closed.
-use Rattle.std.proofs.Common.{◌≡◌, ℕ, ◌+◌, ◌-◌, ◌*◌, ◌<◌, ◌≤◌, List, [], ◌∷◌, ◌++◌, length, subst, sym, arith, length-append}
-use Rattle.std.proofs.lemmas.List.Elements.{All-append, All-pop, All-weaker, All-cons, All-nil}
+use Rattle.std.proofs.Common.{◌≡◌, ℕ, ◌<◌, ◌≤◌, List, [], ◌∷◌, ◌++◌, length, subst, sym, arith, length-append}
+use Rattle.std.proofs.lemmas.List.Elements.{All-append, All-weaker, All-cons, All-nil}
 use Rattle.std.specs.List.{All}
 use Rattle.std.specs.Str.{IsCharBoundary}
 use Rattle.yf_flow.specs.declared.frame.Frame.{Frame}
-use Rattle.yf_flow.specs.declared.frame.State.{State}
-use Rattle.yf_flow.specs.declared.frame.Step.{Step}
-use Rattle.yf_flow.specs.declared.frame.Step.TheVariants.{Node, Entry, Ended, Done, Failed, TooDeep}
-use Rattle.yf_flow.specs.Machine.{Place, Indexed, Awaiting, StepReady, Ready, left}
+use Rattle.yf_flow.specs.Machine.{Indexed}
 
 pub indexed_more : {t : List ℕ} (m k : ℕ) → m ≤ k → (f : Frame) → Indexed t m f → Indexed t k f
 indexed_more m k l f i = record { event = omega (arith, i.event); entry = omega (arith, i.entry); place = i.place }

@@ -1,3 +1,4 @@
+pub mod BegunLemmas
 pub mod Forward
 pub mod Frames
 pub mod LeafLemmas

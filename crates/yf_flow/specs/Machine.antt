@@ -6,7 +6,6 @@ use Rattle.std.specs.Str.{IsCharBoundary}
 use Rattle.yf_lines.specs.declared.fault.Fault.{Fault}
 use Rattle.yf_lines.specs.declared.fault.Fault.TheVariants.{Memory, EscapeValue, TooDeep as TooDeepFault}
 use Rattle.yf_flow.specs.declared.frame.Frame.{Frame}
-use Rattle.yf_flow.specs.declared.frame.Node.{Node as NodeFound}
 use Rattle.yf_flow.specs.declared.frame.State.{State}
 use Rattle.yf_flow.specs.declared.frame.Step.{Step}
 use Rattle.yf_flow.specs.declared.frame.Step.TheVariants.{Node, Entry, Ended, Done, Failed, TooDeep}

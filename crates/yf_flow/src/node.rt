@@ -1,8 +1,15 @@
 //! Nodes: what may stand as an item, a key or a value, and the events of them.
-ghost use Rattle.std.specs.Prelude.{◌≡◌, ◌+◌, ◌<◌, ◌≤◌, length, IfOk};
+ghost use Rattle.std.specs.Prelude.{◌≡◌, ◌+◌, ◌<◌, ◌≤◌, length, true, false, [], ◌∷◌, ◌++◌, Option, Some, None, IfOk};
 ghost use Rattle.std.specs.List.{All};
 ghost use Rattle.std.specs.Str.{IsCharBoundary};
+ghost use Rattle.yf_lines.specs.Text.{text_bytes};
+ghost use Rattle.yf_props.specs.Props.{no_props, props_value};
+ghost use Rattle.yf_events.specs.Event.{event_value, placed_value, scalar_node};
+ghost use Rattle.yf_grammar.specs.Meaning.{event_with, start_of};
+ghost use Rattle.yf_grammar.specs.Parser.{begins_content};
+ghost use Rattle.yf_chars.specs.Text.{code};
 ghost use Rattle.yf_flow.specs.Machine.{BegunAt, Place};
+ghost use Rattle.yf_flow.specs.Begun.{ContentBegun, Opens, bare_lead, entry_event, is_sequence, leaf_event, lead_event};
 
 use crate::frame::{Frame, Kind, Node, Role, Scene};
 use crate::gap::read_separation;
@@ -41,7 +48,9 @@ pub(crate) enum Begun {
 
 impl<'a> Lead<'a> {
     /// Without properties.
-    pub fn bare(start: usize, entry: Option<Entry>) -> Lead<'a> {
+    pub fn bare(start: usize, entry: Option<Entry>) -> Lead<'a>
+        ensures { result ≡ bare_lead start entry }
+    {
         Lead {
             start,
             props: Props {
@@ -54,7 +63,9 @@ impl<'a> Lead<'a> {
     }
 
     /// The event that begins the node, which ends at an offset.
-    pub fn placed(self, alloc: Global, event: Event<'a>, end: usize) -> PlacedEvent<'a> {
+    pub fn placed(self, alloc: Global, event: Event<'a>, end: usize) -> PlacedEvent<'a>
+        ensures { placed_value result ≡ lead_event self.entry (event_value event.entry) end }
+    {
         PlacedEvent {
             event,
             span: Some(Span {
@@ -69,7 +80,9 @@ impl<'a> Lead<'a> {
 }
 
 /// The event of an empty node without properties, or of the end of a collection.
-pub fn unplaced<'a>(alloc: Global, event: Event<'a>, entry: Option<Entry>) -> PlacedEvent<'a> {
+pub fn unplaced<'a>(alloc: Global, event: Event<'a>, entry: Option<Entry>) -> PlacedEvent<'a>
+    ensures { placed_value result ≡ entry_event (event_value event.entry) entry }
+{
     PlacedEvent {
         event,
         span: None,
@@ -80,7 +93,9 @@ pub fn unplaced<'a>(alloc: Global, event: Event<'a>, entry: Option<Entry>) -> Pl
 }
 
 /// An empty node without properties.
-pub fn empty_node<'a>(alloc: Global, entry: Option<Entry>) -> PlacedEvent<'a> {
+pub fn empty_node<'a>(alloc: Global, entry: Option<Entry>) -> PlacedEvent<'a>
+    ensures { placed_value result ≡ entry_event (scalar_node no_props ScalarStyle.Plain []) entry }
+{
     let event = Event::Scalar {
         props: Props {
             anchor: None,
@@ -137,6 +152,7 @@ pub(crate) fn begin_content<'a>(
 ) -> Result<Begun, AllocError>
     requires boundary { IsCharBoundary scene.text.now at }
     requires escapes { All (IsCharBoundary scene.text.now) part.old.escapes }
+    ensures exact { IfOk result (λ b. ContentBegun scene.entry.text.now scene.entry.indentation scene.entry.context at depth scene.entry.limit lead.entry part.old part.new b) }
     ensures begun { IfOk result (λ b. BegunAt scene.entry.text.now at (length part.old.events) (length part.new.events) b) }
     ensures grows { IfOk result (λ _. length part.old.events ≤ length part.new.events) }
     ensures escapes { IfOk result (λ _. All (IsCharBoundary scene.entry.text.now) part.new.escapes) }
@@ -220,7 +236,9 @@ pub fn push_scalar<'a>(
     end: usize,
     part: &mut Part<'a>,
 ) -> Result<(), AllocError>
+    ensures pushed { IfOk result (λ _. part.new.events ≡ part.old.events ++ (leaf_event lead.entry style (text_bytes text.entry) end ∷ [])) }
     ensures found { IfOk result (λ _. length part.new.events ≡ length part.old.events + 1) }
+    ensures comments { IfOk result (λ _. part.new.comments ≡ part.old.comments) }
     ensures escapes { IfOk result (λ _. part.new.escapes ≡ part.old.escapes) }
 {
     let event = Event::Scalar {
@@ -241,6 +259,8 @@ fn plain_node<'a>(
     part: &mut Part<'a>,
 ) -> Result<Begun, AllocError>
     requires boundary { IsCharBoundary scene.text.now at }
+    requires other { begins_content (code scene.text.now at) ≡ false }
+    ensures exact { IfOk result (λ b. ContentBegun scene.entry.text.now scene.entry.indentation scene.entry.context at depth scene.entry.limit lead.entry part.old part.new b) }
     ensures begun { IfOk result (λ b. BegunAt scene.entry.text.now at (length part.old.events) (length part.new.events) b) }
     ensures grows { IfOk result (λ _. length part.old.events ≤ length part.new.events) }
     ensures escapes { IfOk result (λ _. part.new.escapes ≡ part.old.escapes) }
@@ -269,6 +289,8 @@ fn json_content<'a>(
 ) -> Result<Begun, AllocError>
     requires boundary { IsCharBoundary scene.text.now at }
     requires escapes { All (IsCharBoundary scene.text.now) part.old.escapes }
+    requires content { begins_content (code scene.text.now at) ≡ true }
+    ensures exact { IfOk result (λ b. ContentBegun scene.entry.text.now scene.entry.indentation scene.entry.context at depth scene.entry.limit lead.entry part.old part.new b) }
     ensures begun { IfOk result (λ b. BegunAt scene.entry.text.now at (length part.old.events) (length part.new.events) b) }
     ensures grows { IfOk result (λ _. length part.old.events ≤ length part.new.events) }
     ensures escapes { IfOk result (λ _. All (IsCharBoundary scene.entry.text.now) part.new.escapes) }
@@ -297,6 +319,8 @@ fn single_node<'a>(
     part: &mut Part<'a>,
 ) -> Result<Begun, AllocError>
     requires boundary { IsCharBoundary scene.text.now at }
+    requires quote { code scene.text.now at ≡ 39 }
+    ensures exact { IfOk result (λ b. ContentBegun scene.entry.text.now scene.entry.indentation scene.entry.context at depth scene.entry.limit lead.entry part.old part.new b) }
     ensures begun { IfOk result (λ b. BegunAt scene.entry.text.now at (length part.old.events) (length part.new.events) b) }
     ensures grows { IfOk result (λ _. length part.old.events ≤ length part.new.events) }
     ensures escapes { IfOk result (λ _. part.new.escapes ≡ part.old.escapes) }
@@ -331,6 +355,8 @@ fn double_node<'a>(
 ) -> Result<Begun, AllocError>
     requires boundary { IsCharBoundary scene.text.now at }
     requires escapes { All (IsCharBoundary scene.text.now) part.old.escapes }
+    requires quote { code scene.text.now at ≡ 34 }
+    ensures exact { IfOk result (λ b. ContentBegun scene.entry.text.now scene.entry.indentation scene.entry.context at depth scene.entry.limit lead.entry part.old part.new b) }
     ensures begun { IfOk result (λ b. BegunAt scene.entry.text.now at (length part.old.events) (length part.new.events) b) }
     ensures grows { IfOk result (λ _. length part.old.events ≤ length part.new.events) }
     ensures escapes { IfOk result (λ _. All (IsCharBoundary scene.entry.text.now) part.new.escapes) }
@@ -355,6 +381,17 @@ fn double_node<'a>(
     }
 }
 
+// The event that begins a flow collection.
+fn collection_start<'a>(kind: Kind, props: Props<'a>) -> Event<'a>
+    ensures { event_value result ≡ event_with (props_value props.entry) (start_of (is_sequence kind) true) }
+{
+    match kind {
+        Kind::Sequence => Event::SeqStart { flow: true, props },
+        Kind::Mapping => Event::MapStart { flow: true, props },
+        Kind::Pair => Event::MapStart { flow: true, props },
+    }
+}
+
 // Opens the collection whose bracket stands there, if there is room for it. Where it ends is noted once it is closed.
 fn open<'a>(
     alloc: Global,
@@ -367,6 +404,8 @@ fn open<'a>(
 ) -> Result<Begun, AllocError>
     requires boundary { IsCharBoundary scene.text.now at }
     requires behind { IsCharBoundary scene.text.now (at + 1) }
+    requires bracket { Opens kind (code scene.text.now at) }
+    ensures exact { IfOk result (λ b. ContentBegun scene.entry.text.now scene.entry.indentation scene.entry.context at depth scene.entry.limit lead.entry part.old part.new b) }
     ensures begun { IfOk result (λ b. BegunAt scene.entry.text.now at (length part.old.events) (length part.new.events) b) }
     ensures grows { IfOk result (λ _. length part.old.events ≤ length part.new.events) }
     ensures escapes { IfOk result (λ _. part.new.escapes ≡ part.old.escapes) }
@@ -375,16 +414,7 @@ fn open<'a>(
         return Ok(Begun::TooDeep(at));
     }
     let event = part.events.len();
-    let start = match kind {
-        Kind::Sequence => Event::SeqStart {
-            flow: true,
-            props: lead.props,
-        },
-        Kind::Mapping | Kind::Pair => Event::MapStart {
-            flow: true,
-            props: lead.props,
-        },
-    };
+    let start = collection_start(kind, lead.props);
     part.events.push(lead.placed(alloc, start, at + 1))?;
     Ok(Begun::Opened(Frame {
         kind,

@@ -1,4 +1,4 @@
-use Rattle.std.proofs.Common.{◌+◌, ◌≤◌, arith}
+use Rattle.std.proofs.Common.{arith}
 use Rattle.yf_flow.proofs.Forward.{plain_forward}
 use Rattle.yf_flow.proofs.leaf.read_plain.Goals as goal
 

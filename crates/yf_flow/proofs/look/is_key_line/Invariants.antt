@@ -1,4 +1,3 @@
-use Rattle.std.proofs.Common.{ℕ, ◌-◌}
 use Rattle.std.specs.Str.{IsCharBoundary}
 use Rattle.yf_flow.proofs.look.is_key_line.Given as goal
 

@@ -1,4 +1,4 @@
-use Rattle.std.proofs.Common.{rules, ◌+◌, arith}
+use Rattle.std.proofs.Common.{arith}
 use Rattle.yf_flow.proofs.Frames.{pushed_longer}
 use Rattle.yf_flow.proofs.Forward.{alias_forward}
 use Rattle.yf_flow.proofs.node.begin_node.Goals as goal
