@@ -86,6 +86,8 @@ def peers():
 
 def main():
     program = sys.argv[1] if len(sys.argv) > 1 else os.path.join(TOP, 'crates/yamlfmt/out/yamlfmt')
+    if not os.access(program, os.X_OK):
+        sys.exit('there is no program %s: run ./yamlfmt once, which builds it' % program)
     with tempfile.TemporaryDirectory() as folder:
         files = []
         for megabytes in (1, 16):

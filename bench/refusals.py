@@ -148,6 +148,8 @@ def devices(runs):
 
 def main():
     program = os.path.abspath(sys.argv[1]) if len(sys.argv) > 1 else os.path.join(TOP, 'crates/yamlfmt/out/yamlfmt')
+    if not os.access(program, os.X_OK):
+        sys.exit('there is no program %s: run ./yamlfmt once, which builds it' % program)
     with tempfile.TemporaryDirectory() as folder:
         runs = Runs(program, folder)
         for stream in STREAMS:

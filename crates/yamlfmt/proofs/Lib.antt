@@ -2,3 +2,4 @@ pub mod SettingsLemmas
 pub mod CommandLineLemmas
 pub mod ProgramLemmas
 pub mod FindingLemmas
+pub mod ShownLemmas

@@ -1,5 +1,7 @@
 pub mod Input
+pub mod Laws
 pub mod Report
+pub mod Shown
 pub mod Run
 pub mod Files
 pub mod Settings

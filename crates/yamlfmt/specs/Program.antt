@@ -18,7 +18,7 @@ use Rattle.yamlfmt.specs.Report.{fault_line, fault_status}
 use Rattle.yamlfmt.specs.Run.{Gave, Printed, Refused, RefusedCheck, RefusedFmt, Restyled, Told, Untouched}
 use Rattle.yamlfmt.specs.Settings.{SetsStyle, RefusesSettings}
 
--- the text was written to the stream, or the stream has failed behind a front of it
+-- the text was written to the stream, or the stream has failed after a prefix of it
 abbrev pub Reached : Option (List ℕ) → Option (List ℕ) → Bool → Bool → List ℕ → Type 0
 Reached old new before after text = Wrote old new before after text ⊎ Broke old new after text
 
@@ -29,6 +29,11 @@ EndsWell status old new before after = (status ≡ 0) × Untouched old new befor
 -- the fault's line was written to the stream of faults, and its status is the run's
 abbrev pub EndsBy : Fault → ℕ → Option (List ℕ) → Option (List ℕ) → Bool → Bool → Type 0
 EndsBy f status old new before after = (status ≡ fault_status f) × Reached old new before after (fault_line f)
+
+-- all that was held back is written, and the run's status stays; or a write has failed
+abbrev pub WrittenOut : ℕ → ℕ → Option (List ℕ) → Option (List ℕ) → Bool → Bool → Type 0
+WrittenOut run status old new before after =
+    ((status ≡ run) × Untouched old new before after) ⊎ EndsBy fault.WriteFailed status old new before after
 
 -- the bytes that were read set the style
 abbrev pub FileSets : Option (List ℕ) → Style → Type 0

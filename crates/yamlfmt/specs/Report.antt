@@ -1,6 +1,7 @@
 -- The line that is printed for a fault, and the status with which the program then ends.
 use Rattle.std.specs.Prelude.{ℕ, List, [], ◌∷◌, codes, decimal}
 use Rattle.std.specs.List.{concat}
+use Rattle.yamlfmt.specs.Shown.{shown}
 use Rattle.yf_lines.specs.declared.place.Place.{Place}
 use Rattle.yf_lines.specs.declared.fault.Fault.{Fault}
 use Rattle.yf_lines.specs.declared.fault.Fault.TheVariants.{NotUtf8, Syntax, TooDeep, UnknownHandle, UnknownAlias, RepeatedDirective, BadVersion, EscapeValue, Memory, ReadFailed, WriteFailed, Config}
@@ -22,7 +23,7 @@ fault_line (EscapeValue place) = refusal_line place (codes "escape-value")
 fault_line Memory = codes "no memory\n"
 fault_line ReadFailed = codes "read failed\n"
 fault_line WriteFailed = codes "write failed\n"
-fault_line (Config key) = concat (codes "config: " ∷ key ∷ codes "\n" ∷ [])
+fault_line (Config key) = concat (codes "config: " ∷ shown key ∷ codes "\n" ∷ [])
 
 -- 2 where the stream is refused, 3 for memory, files and settings
 abbrev pub fault_status : Fault → ℕ

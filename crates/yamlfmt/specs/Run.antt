@@ -1,4 +1,5 @@
--- What the runs do, by what their reader gave.
+-- What the runs do, by what their reader gave, as far as it is proved. A text and a reading are named in one record, but of the reading
+-- is said nothing that ties it to the text, and of a formatted text nothing that ties it to either: `Laws` says what is to be proved.
 use Rattle.std.specs.Prelude.{◌≡◌, ℕ, List, [], ◌∷◌, Bool, true, false, Option, IfSome, codes, decimal}
 use Rattle.std.specs.List.{concat, flat_map}
 use Rattle.std.specs.Str.{IsUtf8, IsValidUpTo}
@@ -22,7 +23,8 @@ use Rattle.yamlfmt.specs.Input.{ReadRefusal}
 abbrev pub Gave : Option (List ℕ) → List ℕ → Type 0
 Gave known bytes = IfSome known (λ all. bytes ≡ all)
 
--- the text was read, this is its reading, whose events are a well nested stream, and their notation was written
+-- a text was read, and the notation of a reading was written, whose events are a well nested stream. That it is the reading of the text
+-- is not said
 pub record Printed (known old new : Option (List ℕ)) (before after : Bool) : Type 0 where
   pub text : List ℕ
   pub reading : Lists
@@ -31,7 +33,7 @@ pub record Printed (known old new : Option (List ℕ)) (before after : Bool) : T
   pub nested : IsStream DEPTH (events_of reading)
   pub wrote : Wrote old new before after (notation_of reading)
 
--- the same, but the writer failed behind a front of what was to be written
+-- the same, but the writer failed, and a prefix of what was to be written was written
 pub record BrokeOff (known old new : Option (List ℕ)) (after : Bool) : Type 0 where
   pub text : List ℕ
   pub reading : Lists
@@ -40,14 +42,15 @@ pub record BrokeOff (known old new : Option (List ℕ)) (after : Bool) : Type 0 
   pub nested : IsStream DEPTH (events_of reading)
   pub broke : Broke old new after (notation_of reading)
 
--- the bytes are no text, and their longest front that is one ends at the offset
+-- the bytes are no text, and their longest prefix that is one ends at the offset
 pub record GaveNoText (known : Option (List ℕ)) (offset : ℕ) : Type 0 where
   pub bytes : List ℕ
   pub gave : Gave known bytes
   pub none : ¬ IsUtf8 bytes
   pub front : IsValidUpTo bytes offset
 
--- the text is refused by that fault of the reader of streams
+-- a text was read, and the fault is one of the reader of streams, with a place in the text. That the text is no stream, or breaches what
+-- the fault tells, is not said
 pub record GaveNoStream (known : Option (List ℕ)) (fault : Fault) : Type 0 where
   pub text : List ℕ
   pub gave : Gave known text
@@ -59,7 +62,7 @@ pub record Untouched (old new : Option (List ℕ)) (before after : Bool) : Type 
   pub contents : new ≡ old
   pub same : after ≡ before
 
--- the line of a finding: its place, the rule's name, and whether the house style mends it
+-- the line of a finding: its place, the rule's name, and whether the house style fixes it
 abbrev pub fixable_word : Bool → List ℕ
 fixable_word true = codes " (fixable)"
 fixable_word false = []
@@ -74,7 +77,8 @@ abbrev pub has_any : List Finding → Bool
 has_any [] = false
 has_any (f ∷ rest) = true
 
--- the text was read, this is its reading, in which the rules find this; C tells what the rules find
+-- a text was read, its lines are these, and in a reading whose events are a well nested stream the rules find this; C tells what the rules
+-- find. That it is the reading of the text is not said
 pub record Found (C : Table → Lists → List Finding → Type 0) (known : Option (List ℕ)) (findings : List Finding) : Type 0 where
   pub src : Table
   pub reading : Lists
@@ -91,26 +95,26 @@ pub record Told (C : Table → Lists → List Finding → Type 0) (known old new
   pub wrote : Wrote old new before after (findings_text findings)
   pub answer : any ≡ has_any findings
 
--- the same, but the writer failed behind a front of the lines
+-- the same, but the writer failed, and a prefix of the lines was written
 pub record BrokeOffLines (C : Table → Lists → List Finding → Type 0) (known old new : Option (List ℕ)) (after : Bool) : Type 0 where
   pub findings : List Finding
   pub found : Found C known findings
   pub broke : Broke old new after (findings_text findings)
 
--- the text was read, and this is it in the house style
+-- a text was read, and of what is given for it holds what `Formatted` says, which any text meets
 pub record Rendered (style : Style) (known : Option (List ℕ)) (formatted : List ℕ) : Type 0 where
   pub text : List ℕ
   pub gave : Gave known text
   pub utf8 : IsUtf8 text
   pub is : Formatted text style formatted
 
--- the text was read, and was written in the house style, once and with nothing beside it
+-- the same, and what is given was written, once and with nothing beside it
 pub record Restyled (style : Style) (known old new : Option (List ℕ)) (before after : Bool) : Type 0 where
   pub formatted : List ℕ
   pub rendered : Rendered style known formatted
   pub wrote : Wrote old new before after formatted
 
--- the same, but the writer failed behind a front of what was to be written
+-- the same, but the writer failed, and a prefix of what was to be written was written
 pub record BrokeOffText (style : Style) (known old new : Option (List ℕ)) (after : Bool) : Type 0 where
   pub formatted : List ℕ
   pub rendered : Rendered style known formatted
@@ -138,7 +142,7 @@ RefusedRun Broken known read_before read_after old new before after WriteFailed 
 RefusedRun Broken known read_before read_after old new before after fault =
     RefusedText known read_before read_after fault × Untouched old new before after
 
--- of the run that prints events: a front of the events' lines was written
+-- of the run that prints events: a prefix of the events' lines was written
 abbrev pub Refused : Option (List ℕ) → Bool → Bool → Option (List ℕ) → Option (List ℕ) → Bool → Bool → Fault → Type 0
 Refused known read_before read_after old new before after fault =
     RefusedRun (BrokeOff known old new after) known read_before read_after old new before after fault

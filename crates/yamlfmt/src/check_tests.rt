@@ -93,7 +93,7 @@ fn finds_what_the_house_style_mends(rt: HostRuntime) -> Result<(), Fail> {
 }
 
 /// Streams with faults in lines and keys, and what is found in them.
-const LINES_AND_KEYS: [(&str, &str); 5] = [
+const LINES_AND_KEYS: [(&str, &str); 6] = [
     (
         "# c\n\n\n# d",
         "3:1 blank-lines (fixable) / 4:4 final-break (fixable)",
@@ -113,6 +113,10 @@ const LINES_AND_KEYS: [(&str, &str); 5] = [
     (
         "---\na: \"x\"  # c\nb: |\n  y \na: 1\n",
         "5:1 repeated-keys",
+    ),
+    (
+        "a: 'x' # c",
+        "1:1 document-start (fixable) / 1:4 quoting (fixable) / 1:8 comment-space (fixable) / 1:11 final-break (fixable)",
     ),
 ];
 

@@ -5,6 +5,7 @@ ghost use Rattle.clap.specs.declared.builder.command.Command.TheViews.{out-Comma
 ghost use Rattle.yamlfmt.specs.CommandLine.{config_option, file_word, write_flag, reading_command, writing_command, yamlfmt};
 ghost use Rattle.yamlfmt.specs.CommandLine.{Answers, Asks, AsksFor, IsWrong, Lacks, RefusesWords, is_set, verb_word};
 
+use crate::shown::shown_text;
 use clap::error::ErrorKind;
 use clap::{Arg, ArgAction, ArgMatches, Command, Error};
 use std::alloc::{AllocError, Global};
@@ -80,7 +81,7 @@ pub fn parse_line(alloc: Global, words: &[String]) -> Result<Cmd, Usage>
     let command = yamlfmt_command(alloc)?;
     match command.try_get_matches_from(words) {
         Ok(matches) => command_met(alloc, &matches),
-        Err(error) => Err(usage_of(alloc, &error)),
+        Err(error) => Err(usage_of(alloc, words, &error)),
     }
 }
 
@@ -166,19 +167,46 @@ fn file_word<'a>(alloc: Global) -> Arg<'a>
         .help("The stream to read, in place of standard input")
 }
 
-// How a refusal is answered.
-fn usage_of(alloc: Global, error: &Error) -> Usage
+// How a refusal of the words is answered.
+fn usage_of(alloc: Global, words: &[String], error: &Error) -> Usage
     ensures { Answers (kind_of error.now) result }
 {
-    let text = match format!(in alloc; "{error}") {
-        Ok(text) => OwnedText::new(text),
-        Err(_) => return Usage::Memory,
-    };
     match error.kind() {
         ErrorKind::OutOfMemory => Usage::Memory,
-        ErrorKind::DisplayHelp => Usage::Help(text),
-        _ => Usage::Wrong(text),
+        ErrorKind::DisplayHelp => match text_of(alloc, error) {
+            Ok(text) => Usage::Help(text),
+            Err(_) => Usage::Memory,
+        },
+        _ => match refusal_text(alloc, words, error) {
+            Ok(text) => Usage::Wrong(text),
+            Err(_) => Usage::Memory,
+        },
     }
+}
+
+fn text_of(alloc: Global, error: &Error) -> Result<OwnedText, AllocError> {
+    Ok(OwnedText::new(format!(in alloc; "{error}")?))
+}
+
+// Why the words are refused. They stand in it without their control characters, so it is the refusal of the words that show
+// these by their numbers, which are refused as well.
+fn refusal_text(alloc: Global, words: &[String], error: &Error) -> Result<OwnedText, AllocError> {
+    let shown = shown_words(alloc, words)?;
+    match yamlfmt_command(alloc)?.try_get_matches_from(shown.as_slice()) {
+        Ok(_) => Ok(OwnedText::new(shown_text(alloc, format!(in alloc; "{error}")?.as_str())?)),
+        Err(again) => match again.kind() {
+            ErrorKind::OutOfMemory => Err(AllocError),
+            _ => text_of(alloc, &again),
+        },
+    }
+}
+
+fn shown_words(alloc: Global, words: &[String]) -> Result<Vec<String>, AllocError> {
+    let mut shown = Vec::new(alloc);
+    for word in words {
+        shown.push(shown_text(alloc, word.as_str())?)?;
+    }
+    Ok(shown)
 }
 
 // The command that was met, with what was given for it.

@@ -3,11 +3,14 @@ ghost use Rattle.std.specs.Prelude.{◌≡◌, IfErr};
 ghost use Rattle.yf_lines.specs.declared.fault.Fault.TheVariants.{ReadFailed};
 ghost use Rattle.yamlfmt.specs.Files.{IsRewriteFault};
 
-use crate::run::read_formatted;
-use std::fs::{File, OpenFile};
-use std::io::Write;
+use crate::input::read_all;
+use crate::replacing::{Held, Opened, open_regular, replace};
+use crate::run::INPUT_LIMIT;
+use std::alloc::Global;
+use std::fs::File;
 use std::rt::Files;
-use std::{fs, io};
+use yf_chars::utf8::{BadByte, check_utf8};
+use yf_emit::format::format;
 use yf_emit::style::Style;
 use yf_lines::fault::Fault;
 use yf_lines::watched::Watched;
@@ -24,38 +27,52 @@ pub fn open<R: Files>(rt: &R, path: &str) -> Result<R::File, Fault>
 
 /// Rewrites the file at the path in the house style.
 ///
-/// The whole text is read and formatted first. It is then written to a new file, of the path with `.yamlfmt-new` behind it
-/// and with the permissions of the file, and the new file is renamed to the path. So the file holds its old text or the
-/// new one, whole, at any time.
+/// The whole text is read and formatted first. Where it is in the house style already, that is all. Else it is written to a
+/// new file, of the path with `.yamlfmt-new` after it, which is renamed to the path (`replace`). So the file holds its old
+/// text or the new one, whole, at any time.
 ///
 /// # Errors
 ///
-/// Those of `read_formatted`, `Fault::ReadFailed` where the file can't be opened, `Fault::Memory`, and `Fault::WriteFailed`
-/// where the new file can't be made, written or renamed. After each of them the file is as it was, and the new file is
-/// removed where it was made.
+/// `Fault::ReadFailed` where there is no regular file at the path, nor a link to one, that can be read; those of
+/// `read_formatted`; `Fault::Memory`; and `Fault::WriteFailed` where another run rewrites the file, where it has changed
+/// since it was read, or where the new file can't be made, written or renamed. After each of them the file is as it was.
 pub fn rewrite<R: Files + AllocGlobal>(rt: &R, path: &str, style: &Style) -> Result<(), Fault>
+where
+    R::File: Held,
     ensures { IfErr result IsRewriteFault }
 {
-    let mut reader = Watched::new(open(rt, path)?);
-    let formatted = read_formatted(rt.alloc(), &mut reader, style)?;
+    let Ok(Opened { file, metadata }) = open_regular(rt, path) else {
+        return Err(Fault::ReadFailed);
+    };
+    let mut reader = Watched::new(file);
+    let bytes = read_all(rt.alloc(), &mut reader, INPUT_LIMIT)?;
+    let formatted = format_bytes(rt.alloc(), bytes.as_slice(), style)?;
+    if formatted.as_str().as_bytes() == bytes.as_slice() {
+        return Ok(());
+    }
     let Ok(new_path) = format!(in rt.alloc(); "{path}.yamlfmt-new") else {
         return Err(Fault::Memory);
     };
-    match replace(rt, path, new_path.as_str(), formatted.as_str()) {
+    match replace(
+        rt,
+        reader.get_ref(),
+        &metadata,
+        path,
+        new_path.as_str(),
+        formatted.as_str(),
+    ) {
         Ok(()) => Ok(()),
-        Err(_) => {
-            let _ = fs::remove_file(rt, new_path.as_str());
-            Err(Fault::WriteFailed)
-        }
+        Err(_) => Err(Fault::WriteFailed),
     }
 }
 
-// Writes the text to the new file, with the permissions of the old one, and renames it to the path of the old one.
-fn replace<R: Files>(rt: &R, path: &str, new_path: &str, text: &str) -> io::Result<()> {
-    let permissions = fs::metadata(rt, path)?.permissions();
-    let mut file = File::create(rt, new_path)?;
-    file.set_permissions(permissions)?;
-    file.write_all(text.as_bytes())?;
-    file.sync_all()?;
-    fs::rename(rt, new_path, path)
+// The text that the bytes are, in the house style.
+fn format_bytes(alloc: Global, bytes: &[u8], style: &Style) -> Result<String, Fault>
+    ensures { IfErr result IsRewriteFault }
+{
+    let text = match check_utf8(bytes) {
+        Ok(text) => text,
+        Err(BadByte { offset }) => return Err(Fault::NotUtf8 { offset }),
+    };
+    format(alloc, text, style)
 }

@@ -1,11 +1,11 @@
 //! Files that are rewritten, in a folder of their own.
 
-use crate::faulty::{FaultyFiles, Step};
+use crate::failing_files::{FailingFiles, Step};
 use crate::files::rewrite;
 use crate::run::read_formatted;
 use std::fs;
 use std::fs::Permissions;
-use std::os::unix::fs::PermissionsExt;
+use std::os::unix::fs::{MetadataExt, PermissionsExt};
 use std::test::Fail;
 use yf_emit::style::Style;
 use yf_lines::fault::Fault;
@@ -66,7 +66,7 @@ fn leaves_a_file_where_the_new_one_fails(rt: HostRuntime) -> Result<(), Fail> {
     let path = "yamlfmt_faulty/a.yaml";
     fs::write(&rt, path, "- a\n- b\n")?;
     for step in [Step::Make, Step::Write, Step::Rename] {
-        let files = FaultyFiles {
+        let files = FailingFiles {
             host: &rt,
             fails: step,
         };
@@ -89,5 +89,34 @@ fn leaves_the_house_style_in_a_file(rt: HostRuntime) -> Result<(), Fail> {
         assert!(rt; fs::read_to_string(&rt, path)?.as_str() == "---\n- a\n- b\n");
     }
     fs::remove_dir_all(&rt, "yamlfmt_twice")?;
+    Ok(())
+}
+
+#[test]
+fn leaves_a_file_in_the_house_style(rt: HostRuntime) -> Result<(), Fail> {
+    make_folder(&rt, "yamlfmt_styled")?;
+    let path = "yamlfmt_styled/a.yaml";
+    fs::write(&rt, path, "---\n- a\n- b\n")?;
+    let before = fs::metadata(&rt, path)?;
+    let files = FailingFiles {
+        host: &rt,
+        fails: Step::Make,
+    };
+    assert!(rt; rewrite(&(files, rt.alloc()), path, &Style::house()).is_ok());
+    assert!(rt; rewrite(&rt, path, &Style::house()).is_ok());
+    assert_eq!(rt; fs::metadata(&rt, path)?.ino(), before.ino());
+    fs::remove_dir_all(&rt, "yamlfmt_styled")?;
+    Ok(())
+}
+
+#[test]
+fn refuses_what_is_no_regular_file(rt: HostRuntime) -> Result<(), Fail> {
+    make_folder(&rt, "yamlfmt_kinds")?;
+    for path in ["yamlfmt_kinds", "/dev/null"] {
+        let answer = rewrite(&rt, path, &Style::house());
+        assert!(rt; matches!(answer, Err(Fault::ReadFailed)));
+    }
+    assert!(rt; !fs::exists(&rt, "yamlfmt_kinds.yamlfmt-new")?);
+    fs::remove_dir_all(&rt, "yamlfmt_kinds")?;
     Ok(())
 }

@@ -103,14 +103,14 @@ pub const COMMENTED: [(&str, &str); 10] = [
         "{\"a\":1,b: [x, # c\n y]}\n",
         "---\n\"a\": 1\nb:\n  - x  # c\n  - y\n",
     ),
-    // a comment behind properties
+    // a comment after properties
     (
         "- &x # c\n\n  # d\n  |+\n  a\n\n",
         "---\n- &x |+  # c\n  a\n\n# d\n",
     ),
-    // a comment behind an explicit key
+    // a comment after an explicit key
     ("? a # c\nb: 1\n", "---\na:  # c\nb: 1\n"),
-    // a comment behind an implicit key
+    // a comment after an implicit key
     (
         "- &x\n  # c\n  k: # d\n    v\n",
         "---\n- &x\n  # c\n  k:  # d\n    v\n",
@@ -125,11 +125,11 @@ pub const COMMENTED: [(&str, &str); 10] = [
         "a:\n\n  b: 1\n\n\n  # c\n\n  d: 2\n\n---\n\ne\n",
         "---\na:\n  b: 1\n\n  # c\n\n  d: 2\n---\ne\n",
     ),
-    // a comment behind a directive
+    // a comment after a directive
     ("%FOO a # c\n---\nx\n", "# c\n%FOO a\n---\nx\n"),
     // a comment in an empty collection
     ("[ # c\n]\n", "---\n[]  # c\n"),
-    // a comment behind an empty key
+    // a comment after an empty key
     ("{a: x, : # c\n v}\n", "---\na: x\n:  # c\n  v\n"),
 ];
 
@@ -155,7 +155,7 @@ pub const WITH_SETTINGS: [(&str, &str, &str); 10] = [
         "k: [aaaaaaaaaaaaaaaaaaaaaaaaaaaaaaaaaaa]\n",
         "---\nk: [aaaaaaaaaaaaaaaaaaaaaaaaaaaaaaaaaaa]\n",
     ),
-    // a bracket behind the last column
+    // a bracket after the last column
     (
         "max_line = 40",
         "k: [aaaaaaaaaaaaaaaaaaaaaaaaaaaaaaaaaaaa]\n",

@@ -139,7 +139,7 @@ fn is_refused_by_each_write(
 /// The bytes that a command may write here.
 const ROOM: usize = 16_384;
 
-/// What a run answers and writes, held without memory of its own. Behind what is written stand zeros.
+/// What a run answers and writes, held without memory of its own. After what is written stand zeros.
 #[derive(Drop)]
 struct Held {
     status: u8,
@@ -266,7 +266,7 @@ const STREAMS: [&str; 42] = [
     "{a: [1, 2], *a : # c\n &b x}\n",
 ];
 
-/// Whether each front of the stream is accepted, or refused with nothing written.
+/// Whether each prefix of the stream is accepted, or refused with nothing written.
 fn answers_each_front(alloc: Global, verb: Verb, stream: &[u8]) -> bool {
     for end in 0..=stream.len() {
         let answer = answer_to(alloc, verb, &[], &Style::house(), &stream[..end]);

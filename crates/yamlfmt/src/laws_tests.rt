@@ -1,5 +1,5 @@
 //! What holds of every formatted stream: it says the same with the same comments at the same places, nothing is found in it
-//! that can be mended, and formatting it again changes nothing.
+//! that can be fixed, and formatting it again changes nothing.
 ghost use Rattle.std.specs.Prelude.{◌≤◌};
 
 use crate::fmt_tests::{COMMENTED, NODES, PLAIN_STREAMS, WITH_SETTINGS};
@@ -27,7 +27,7 @@ use yf_rules::rule::Rule;
 use yf_rules::trailing_blanks::TrailingBlanks;
 use yf_stream::stream::read_stream;
 
-/// The text of a comment without the whites at its end.
+/// The text of a comment without the white space at its end.
 fn trimmed<'a>(comment: &Comment<'a>) -> &'a str {
     comment.text.trim_end_matches([' ', '\t'])
 }
@@ -56,7 +56,7 @@ fn has_same_content(alloc: Global, one: &Reading, other: &Reading) -> Result<boo
     Ok(content == other_content)
 }
 
-/// Whether the rules find something in the text that can be mended.
+/// Whether the rules find something in the text that can be fixed.
 fn has_fixable(
     alloc: Global,
     rules: &[Box<dyn Rule>],
@@ -245,7 +245,7 @@ fn holds_of_texts(alloc: Global, rules: &[Box<dyn Rule>], texts: Texts) -> Resul
     )
 }
 
-/// Whether the laws hold of all of these texts, with all rules that find what can be mended.
+/// Whether the laws hold of all of these texts, with all rules that find what can be fixed.
 fn laws_hold(alloc: Global, texts: Texts) -> Result<bool, AllocError> {
     let rules: [Box<dyn Rule>; 11] = [
         Box::new(alloc, TrailingBlanks)?,

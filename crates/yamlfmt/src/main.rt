@@ -9,7 +9,11 @@ mod command_line;
 #[cfg(test)]
 mod command_line_tests;
 #[cfg(test)]
+mod crates_below;
+#[cfg(test)]
 mod events_tests;
+#[cfg(test)]
+mod failing_files;
 #[cfg(test)]
 mod faulty;
 mod files;
@@ -25,19 +29,26 @@ mod laws_tests;
 mod program;
 #[cfg(test)]
 mod program_tests;
+mod replacing;
+#[cfg(test)]
+mod replacing_tests;
 mod report;
 mod run;
 mod settings;
 #[cfg(test)]
 mod settings_tests;
+mod shown;
+#[cfg(test)]
+mod shown_tests;
 #[cfg(test)]
 mod tests;
 
 use command_line::{Cmd, parse_line};
 use files::{open, rewrite};
-use program::{GOOD, answer_usage, read_style, run};
+use program::{GOOD, answer_usage, read_style, run, written_out};
 use report::report;
 use std::alloc::AllocError;
+use std::io::BufWriter;
 use std::process::ExitCode;
 use std::{env, io};
 use yf_emit::style::Style;
@@ -75,6 +86,9 @@ fn main(rt: HostRuntime) -> ExitCode {
     };
     ExitCode::from(status)
 }
+
+/// How many bytes of output are held back before they are written.
+const HELD_BACK: usize = 65_536;
 
 /// Does what the words ask for, and answers the status.
 fn do_words<E: Sink>(rt: &HostRuntime, words: &[String], error_stream: &mut E) -> u8 {
@@ -147,9 +161,12 @@ fn run_with_rules<R: Source>(
         Box::new(alloc, RepeatedKeys)?,
         Box::new(alloc, KeyMark)?,
     ];
-    let mut writer = Watched::new(rt.stdout());
+    let Ok(output) = BufWriter::with_capacity(alloc, HELD_BACK, rt.stdout()) else {
+        return Err(AllocError);
+    };
+    let mut writer = Watched::new(output);
     let mut error_stream = Watched::new(rt.stderr());
-    Ok(run(
+    let status = run(
         alloc,
         command,
         &rules,
@@ -157,5 +174,6 @@ fn run_with_rules<R: Source>(
         reader,
         &mut writer,
         &mut error_stream,
-    ))
+    );
+    Ok(written_out(status, &mut writer, &mut error_stream))
 }

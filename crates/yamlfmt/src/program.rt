@@ -2,7 +2,8 @@
 ghost use Rattle.std.specs.Prelude.{◌≡◌, MatchResult};
 ghost use Rattle.yf_lines.specs.Output.{Writes};
 ghost use Rattle.yf_rules.specs.Check.{Checked, RuleFindings};
-ghost use Rattle.yamlfmt.specs.Program.{Answered, FileRefused, FileSets, Ran};
+ghost use Rattle.yamlfmt.specs.Program.{Answered, FileRefused, FileSets, Ran, WrittenOut};
+ghost use Rattle.std.specs.Io.KnownBytes.{Keeps};
 
 use crate::command_line::{Cmd, Usage, Verb};
 use crate::input::read_all;
@@ -56,6 +57,21 @@ pub fn run<R: Source, W: Sink, E: Sink>(
             Ok(()) => GOOD,
             Err(fault) => report(&fault, error_stream),
         },
+    }
+}
+
+/// Writes out what the writer holds back of a run that has ended well, and answers the status: that of the run, or of a
+/// write that fails, whose line was written to the stream of faults.
+pub fn written_out<W: Sink, E: Sink>(status: u8, writer: &mut W, error_stream: &mut E) -> u8
+    ensures kept { Keeps (W.contents writer.old) (W.contents writer.new) }
+    ensures told { WrittenOut status result (E.contents error_stream.old) (E.contents error_stream.new) (E.has_failed error_stream.old) (E.has_failed error_stream.new) }
+{
+    if status > FINDINGS {
+        return status;
+    }
+    match writer.flush() {
+        Ok(()) => status,
+        Err(_) => report(&Fault::WriteFailed, error_stream),
     }
 }
 

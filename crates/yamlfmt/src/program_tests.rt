@@ -2,13 +2,15 @@
 
 use crate::answers::command;
 use crate::command_line::{Usage, Verb};
-use crate::program::{answer_usage, read_style, run};
+use crate::faulty::FaultyWriter;
+use crate::program::{answer_usage, read_style, run, written_out};
 use std::alloc::Global;
+use std::io::BufWriter;
 use std::test::Fail;
 use yf_emit::style::Style;
 use yf_lines::fault::Fault;
 use yf_lines::text::OwnedText;
-use yf_lines::watched::Watched;
+use yf_lines::watched::{Sink, Watched};
 
 fn text(alloc: Global, text: &str) -> Result<OwnedText, Fail> {
     Ok(OwnedText::new(String::from_str(alloc, text)?))
@@ -99,5 +101,25 @@ fn answers_usage(rt: HostRuntime) -> Result<(), Fail> {
             "{line}"
         );
     }
+    Ok(())
+}
+
+/// The status of a run that has ended well with one byte held back, before a writer that takes so many writes.
+fn status_behind(alloc: Global, writes_left: usize) -> Result<(u8, Vec<u8>), Fail> {
+    let taken = Vec::new(alloc);
+    let faulty = FaultyWriter { taken, writes_left };
+    let mut writer = Watched::new(BufWriter::with_capacity(alloc, 8, faulty)?);
+    let mut error_stream = Watched::new(Vec::new(alloc));
+    let _ = writer.write_watched(b"a");
+    let status = written_out(0, &mut writer, &mut error_stream);
+    Ok((status, error_stream.into_inner()))
+}
+
+#[test]
+fn a_flush_that_fails_is_a_write_that_fails(rt: HostRuntime) -> Result<(), Fail> {
+    let (status, line) = status_behind(rt.alloc(), 0)?;
+    assert!(rt; status == 3 && line.as_slice() == b"write failed\n".as_slice());
+    let (status, line) = status_behind(rt.alloc(), 1)?;
+    assert!(rt; status == 0 && line.is_empty());
     Ok(())
 }

@@ -3,6 +3,7 @@ ghost use Rattle.std.specs.Prelude.{◌≡◌, ◌⊎◌};
 ghost use Rattle.yf_lines.specs.Output.{Writes, Wrote, Broke};
 ghost use Rattle.yamlfmt.specs.Report.{fault_line, fault_status, refusal_line};
 
+use crate::shown::write_shown;
 use itoa::Buffer;
 use yf_lines::fault::Fault;
 use yf_lines::output::{write_text, write_texts};
@@ -12,7 +13,7 @@ use yf_lines::watched::Sink;
 /// Writes the fault's line to the error stream and answers the fault's status: 2 where the stream is refused, 3 for
 /// memory, files and settings.
 ///
-/// A failure of the error stream leaves the status as it is; a front of the line has then been written. No memory is
+/// A failure of the error stream leaves the status as it is; a prefix of the line has then been written. No memory is
 /// taken.
 pub fn report<E: Sink>(fault: &Fault, error_stream: &mut E) -> u8
     ensures status { result ≡ fault_status fault.now }
@@ -57,8 +58,18 @@ fn write_line<E: Sink>(fault: &Fault, stream: &mut E) -> Result<(), Fault>
         Fault::Memory => write_text(stream, b"no memory\n"),
         Fault::ReadFailed => write_text(stream, b"read failed\n"),
         Fault::WriteFailed => write_text(stream, b"write failed\n"),
-        Fault::Config { key } => write_texts(stream, &["config: ", key.as_str(), "\n"]),
+        Fault::Config { key } => write_config(key.as_str(), stream),
     }
+}
+
+// Writes the line of a wrong key of the settings.
+fn write_config<E: Sink>(key: &str, stream: &mut E) -> Result<(), Fault>
+    ensures { Writes (E.contents stream.old) (E.contents stream.new)
+        (E.has_failed stream.old) (E.has_failed stream.new) (fault_line (Fault.Config key.now)) result }
+{
+    write_text(stream, b"config: ")?;
+    write_shown(stream, key)?;
+    write_text(stream, b"\n")
 }
 
 fn write_refusal<E: Sink>(place: &Place, reason: &str, stream: &mut E) -> Result<(), Fault>

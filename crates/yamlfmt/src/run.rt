@@ -1,4 +1,5 @@
-//! The runs of the program, over any reader and any writer.
+//! The runs of the program, over any reader and any writer. Of readings and formatted texts their contracts say what `Run` of the
+//! specs says, which ties neither to the text that was read.
 ghost use Rattle.std.specs.Prelude.{◌≡◌, string_bytes, IfErr, IfOk, OnOk};
 ghost use Rattle.yf_lines.specs.Output.{Writes};
 ghost use Rattle.yf_rules.specs.Check.{Checked, RuleFindings};
@@ -26,7 +27,7 @@ pub const INPUT_LIMIT: usize = 1_073_741_824;
 
 /// Reads all there is, and writes the events of the stream to the writer, one line for each.
 ///
-/// Nothing is written before the whole stream is known to be accepted. After `Fault::WriteFailed` a front of the lines
+/// Nothing is written before the whole stream is known to be accepted. After `Fault::WriteFailed` a prefix of the lines
 /// has been written, after any other fault nothing. Refused are: more than `INPUT_LIMIT` bytes or a read that fails
 /// (`ReadFailed`), bytes that are no text (`NotUtf8`), a text that `read_stream` refuses, and a write that fails or takes
 /// nothing (`WriteFailed`). `Memory` may come in the place of each answer but `ReadFailed`, where a growth of memory was
@@ -51,9 +52,9 @@ pub fn run_events<R: Source, W: Sink>(
 }
 
 /// Reads all there is, and writes a line for each finding of the rules, in the order of their places: line and column, the
-/// rule's name, and ` (fixable)` where the house style mends it. The answer is whether there is a finding.
+/// rule's name, and ` (fixable)` where the house style fixes it. The answer is whether there is a finding.
 ///
-/// Refused is what `run_events` refuses, and nothing has then been written but, after `Fault::WriteFailed`, a front of the
+/// Refused is what `run_events` refuses, and nothing has then been written but, after `Fault::WriteFailed`, a prefix of the
 /// lines.
 pub fn run_check<R: Source, W: Sink>(
     alloc: Global,
@@ -117,7 +118,7 @@ fn write_finding<W: Sink>(finding: &Finding, writer: &mut W) -> Result<(), Fault
 
 /// Reads all there is, and writes it in the house style.
 ///
-/// Refused is what `run_events` refuses, and nothing has then been written but, after `Fault::WriteFailed`, a front of the
+/// Refused is what `run_events` refuses, and nothing has then been written but, after `Fault::WriteFailed`, a prefix of the
 /// text.
 pub fn run_fmt<R: Source, W: Sink>(
     alloc: Global,

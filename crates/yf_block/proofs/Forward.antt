@@ -1,4 +1,4 @@
--- Line ends and block scalars end behind their start, and behind a header a line begins.
+-- Line ends and block scalars end after their start, and after a header a line begins.
 use Rattle.std.proofs.Common.{◌≡◌, ℕ, ℤ, ◌+◌, ◌<◌, ◌≤◌, ⊎_elim, Bool, Option, List, length, arith}
 use Rattle.std.proofs.lemmas.Bool.{cases_lt}
 use Rattle.yf_chars.specs.Chain.{Chain, done, step, Chosen}

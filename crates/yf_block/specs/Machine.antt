@@ -56,12 +56,12 @@ left n (Done p) = 0
 left n (Failed p) = 0
 left n (TooDeep p) = 0
 
--- from an offset on stand properties, or none, and behind them a place
+-- from an offset on stand properties, or none, and after them a place
 abbrev pub HeldTo : List ℕ → ℕ → ℕ → Option Held → Type 0
 HeldTo t start at None = at ≡ start
 HeldTo t start at (Some held) = Place t (start + 1) held.end × (held.end ≤ at)
 
--- where what stands at a place ends at the earliest: behind its first character, or behind the properties before it
+-- where what stands at a place ends at the earliest: after its first character, or after the properties before it
 abbrev pub behind_held : ℕ → Option Held → ℕ
 behind_held at None = at + 1
 behind_held at (Some held) = held.end

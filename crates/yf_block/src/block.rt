@@ -1,6 +1,7 @@
 //! The readers of block nodes over a text with its lines.
-ghost use Rattle.std.specs.Prelude.{◌+◌, IfSome, MatchResult};
+ghost use Rattle.std.specs.Prelude.{◌≡◌, ◌+◌, [], IfOk, IfSome, MatchResult};
 ghost use Rattle.std.specs.Str.{IsCharBoundary};
+ghost use Rattle.yf_lines.specs.FaultPlaces.{IsFirstPlace};
 ghost use Rattle.yf_flow.specs.Machine.{Place, IsReadFault, IsScanFault};
 
 use crate::nodes::{Found, Outcome, block_node_in};
@@ -12,7 +13,7 @@ use yf_lines::fault::Fault;
 use yf_lines::source_text::Src;
 
 /// Reads a block node (s-l+block-node(n,c), production 196) from a byte offset on: its events and comments, each with its
-/// place, and the offset behind it. `n` is the indentation of the collection around it, from -1.
+/// place, and the offset after it. `n` is the indentation of the collection around it, from -1.
 ///
 /// The node is the longest that stands there: where the text goes wrong later, it ends at the last place at which all open
 /// nodes may end. `None` where no block node begins there in that context.
@@ -29,7 +30,8 @@ pub fn read_block_node<'a>(
     ctx: Ctx,
 ) -> Result<Option<NodePart<'a>>, Fault>
     requires { IsCharBoundary src.now.text at }
-    ensures { MatchResult result (λ o. IfSome o (λ p. Place src.now.text (at + 1) p.end)) IsReadFault }
+    ensures place { MatchResult result (λ o. IfSome o (λ p. Place src.now.text (at + 1) p.end)) (IsReadFault src.now.text) }
+    ensures escapes { IfOk result (λ o. IfSome o (λ p. p.part.escapes ≡ [])) }
 {
     match scan_block_node(alloc, src, at, n, ctx) {
         Ok(None) => Ok(None),
@@ -68,7 +70,8 @@ pub fn scan_block_node<'a>(
     ctx: Ctx,
 ) -> Result<Option<ScannedPart<'a>>, Fault>
     requires { IsCharBoundary src.now.text at }
-    ensures { MatchResult result (λ o. IfSome o (λ p. Place src.now.text (at + 1) p.end)) IsScanFault }
+    ensures place { MatchResult result (λ o. IfSome o (λ p. Place src.now.text (at + 1) p.end)) (IsScanFault src.now.text) }
+    ensures escapes { IfOk result (λ o. IfSome o (λ p. IsFirstPlace src.now.text p.part.escapes p.escape)) }
 {
     match block_node_in(alloc, src.text(), at, n, ctx, DEPTH) {
         Ok(

@@ -17,7 +17,7 @@ use std::alloc::{AllocError, Global};
 use yf_chars::context::Ctx;
 use yf_chars::text::stands;
 use yf_comments::comments::Separation;
-use yf_events::event::{Entry, Event, PlacedEvent, ScalarStyle};
+use yf_events::event::{Entry, NewEvent, PlacedEvent, ScalarStyle};
 use yf_events::part::Part;
 use yf_flow::frame::{Node, Scene};
 use yf_flow::node::{Lead, push_scalar};
@@ -37,7 +37,7 @@ pub(crate) struct Spot<'a> {
     pub(crate) wanted: Wanted,
 }
 
-/// What stands behind the properties of a line.
+/// What stands after the properties of a line.
 #[derive(Clone, Copy)]
 pub(crate) struct Behind<'a> {
     pub(crate) at: usize,
@@ -109,7 +109,7 @@ fn entry_sign_stands(text: &str, at: usize) -> bool {
     sign_stands(text, at, b':')
 }
 
-// What stands behind the properties of a line: nothing, or the content of a node or key.
+// What stands after the properties of a line: nothing, or the content of a node or key.
 fn take_propertied<'a>(
     alloc: Global,
     scope: Scope<'a>,
@@ -155,7 +155,7 @@ fn take_propertied<'a>(
     }
 }
 
-// A flow node, a key or a block scalar, behind the properties of its line.
+// A flow node, a key or a block scalar, after the properties of its line.
 fn take_behind<'a>(
     alloc: Global,
     scope: Scope<'a>,
@@ -215,7 +215,7 @@ fn block_scalar_stands(text: &str, at: usize) -> bool {
     stands(text, at, b'>')
 }
 
-// What is known of the node behind the properties of a line, as long as it is not known whether it is a key.
+// What is known of the node after the properties of a line, as long as it is not known whether it is a key.
 fn claim_of<'a>(text: &str, behind: Behind<'a>, part: &Part<'a>) -> Claim<'a> {
     let spot = behind.spot;
     let before = Counts::of(part);
@@ -247,7 +247,7 @@ fn claim_of<'a>(text: &str, behind: Behind<'a>, part: &Part<'a>) -> Claim<'a> {
     }
 }
 
-/// Reads what stands behind properties, or where there are none: nothing before a `:`, an alias, or the content of a flow
+/// Reads what stands after properties, or where there are none: nothing before a `:`, an alias, or the content of a flow
 /// node outside of brackets. `depth` collections are open.
 pub(crate) fn read_inline<'a>(
     alloc: Global,
@@ -286,7 +286,7 @@ pub(crate) fn read_inline<'a>(
             None => Ok(Ending::Nothing),
             Some((name, end)) => {
                 part.events
-                    .push(lead.placed(alloc, Event::Alias { name }, end))?;
+                    .push(lead.placed(alloc, NewEvent::Alias { name }, end))?;
                 Ok(inline_end(end, depth))
             }
         };
@@ -321,7 +321,7 @@ pub(crate) fn flow_indentation(least: usize) -> i32
     least.min(WIDEST) as i32
 }
 
-// Behind a flow node on its line: it is the first key of a mapping, or the end of the line follows.
+// After a flow node on its line: it is the first key of a mapping, or the end of the line follows.
 fn finish_inline<'a>(
     alloc: Global,
     scope: Scope<'a>,
@@ -381,7 +381,7 @@ fn finish_inline<'a>(
     }
 }
 
-// The end of the line behind a flow node that is no key.
+// The end of the line after a flow node that is no key.
 fn end_inline<'a>(
     alloc: Global,
     text: &'a str,
@@ -461,7 +461,7 @@ fn put_before<'a>(
     ensures escapes { IfOk result (λ _. part.new.escapes ≡ part.old.escapes) }
 {
     if event < part.events.len() {
-        part.events.set_entry(event, entry);
+        part.events.set_entry(event, entry)?;
     }
     if event <= part.events.len() {
         part.events.insert(event, start)?;

@@ -9,7 +9,7 @@ use crate::frame::{Awaited, Frame, Frames, Kind, Progress, Scope, State, Step, W
 use crate::held::{Held, lead_of, line_properties, place_behind};
 use crate::look::{is_blank_after, key_ends, sign_stands};
 use std::alloc::{AllocError, Global};
-use yf_events::event::{Entry, Event, PlacedEvent};
+use yf_events::event::{Entry, NewEvent, PlacedEvent};
 use yf_events::part::Part;
 use yf_flow::node::empty_node;
 use yf_flow::nodes::Ending;
@@ -36,11 +36,11 @@ pub(crate) fn collection_start<'a>(
 ) -> PlacedEvent<'a> {
     let lead = lead_of(at, outer, entry);
     let event = match kind {
-        Kind::Sequence => Event::SeqStart {
+        Kind::Sequence => NewEvent::SeqStart {
             flow: false,
             props: lead.props,
         },
-        Kind::Mapping => Event::MapStart {
+        Kind::Mapping => NewEvent::MapStart {
             flow: false,
             props: lead.props,
         },
@@ -99,7 +99,7 @@ pub(crate) fn take_item<'a>(
     Ok(behind_indicator(at, true, false, frame.column, Some(entry), progress))
 }
 
-// The node that is awaited behind an indicator in a collection of that column.
+// The node that is awaited after an indicator in a collection of that column.
 fn behind_indicator<'a>(
     at: usize,
     compact: bool,
@@ -125,7 +125,7 @@ fn behind_indicator<'a>(
     }))
 }
 
-/// The value behind the `:` of an implicit key, or of an empty one.
+/// The value after the `:` of an implicit key, or of an empty one.
 pub(crate) fn await_value<'a>(colon: usize, column: usize, progress: Progress<'a>) -> State<'a>
     requires { colon + 1 < 2 ^ 64 }
     ensures floor { result.progress.floor ≡ progress.entry.floor }
@@ -135,7 +135,7 @@ pub(crate) fn await_value<'a>(colon: usize, column: usize, progress: Progress<'a
     behind_indicator(colon, false, true, column, None, progress)
 }
 
-/// The value behind the `:` of an entry with a `?` (l-block-map-explicit-value, production 191).
+/// The value after the `:` of an entry with a `?` (l-block-map-explicit-value, production 191).
 pub(crate) fn take_explicit_value<'a>(
     colon: usize,
     frame: Frame,
@@ -148,7 +148,7 @@ pub(crate) fn take_explicit_value<'a>(
     ensures step { IfOk result (λ s. IsNodeAt (colon + 1) s.step) }
     ensures escapes { IfOk result (λ _. part.new.escapes ≡ part.old.escapes) }
 {
-    part.events.set_colon(frame.entry_event, colon);
+    part.events.set_colon(frame.entry_event, colon)?;
     frames.push(Frame {
         awaits_colon: false,
         ..frame
@@ -257,7 +257,7 @@ fn take_key<'a>(
                 Ending::End(node) => {
                     let colon = skip_whites(scope.text, node.end);
                     if key_ends(scope.text, start, colon) {
-                        part.events.set_colon(event, colon);
+                        part.events.set_colon(event, colon)?;
                         return Ok(await_value(colon, column, progress));
                     }
                     Ok(progress.and_then(Step::Failed(colon)))

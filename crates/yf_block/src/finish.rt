@@ -9,7 +9,7 @@ use crate::halt::{Halt, Owed, Plain};
 use smallvec::SmallVec;
 use std::alloc::{AllocError, Global};
 use yf_chars::context::Ctx;
-use yf_events::event::{Entry, Event, ScalarStyle};
+use yf_events::event::{Entry, Event, NewEvent, ScalarStyle};
 use yf_events::events::Events;
 use yf_events::part::Part;
 use yf_flow::node::{empty_node, push_scalar, unplaced};
@@ -43,11 +43,11 @@ pub(crate) fn cut_back<'a>(
     part.events.truncate(halt.counts.events);
     part.comments.truncate(halt.counts.comments);
     part.escapes.truncate(halt.counts.escapes);
-    drop_colons(halt.end, part);
+    drop_colons(halt.end, part)?;
     let last = push_owed(alloc, text, halt, part)?;
     let mut nest = Nest::new(alloc);
-    for (index, placed) in part.events.as_slice().iter().enumerate() {
-        pass(&placed.event, index, &mut nest)?;
+    for index in 0..part.events.len() {
+        pass(&part.events.event(index), index, &mut nest)?;
     }
     'nest: while let Some(collection) = nest.pop() {
         end_unended(alloc, collection, last, part)?;
@@ -56,22 +56,23 @@ pub(crate) fn cut_back<'a>(
     Ok(())
 }
 
-// Entries of a part whose `:` stands at its end or behind have none in it.
-fn drop_colons(end: usize, part: &mut Part)
+// Entries of a part whose `:` stands at its end or after have none in it.
+fn drop_colons(end: usize, part: &mut Part) -> Result<(), AllocError>
     ensures { part.new.escapes ≡ part.old.escapes }
 {
     for index in 0..part.events.len() {
-        drop_colon(end, index, part);
+        drop_colon(end, index, part)?;
     }
+    Ok(())
 }
 
-fn drop_colon(end: usize, index: usize, part: &mut Part)
+fn drop_colon(end: usize, index: usize, part: &mut Part) -> Result<(), AllocError>
     ensures { part.new.escapes ≡ part.old.escapes }
 {
     if index >= part.events.len() {
-        return;
+        return Ok(());
     }
-    if let Some(entry) = part.events.at(index).entry {
+    if let Some(entry) = part.events.entry(index) {
         if let Some(colon) = entry.colon {
             if colon >= end {
                 part.events.set_entry(
@@ -80,10 +81,11 @@ fn drop_colon(end: usize, index: usize, part: &mut Part)
                         colon: None,
                         ..entry
                     },
-                );
+                )?;
             }
         }
     }
+    Ok(())
 }
 
 // Adds the node that is owed; where the last node or indicator of the part ends.
@@ -150,7 +152,7 @@ fn push_shorter<'a>(
     }
 }
 
-// Goes on behind an event.
+// Goes on after an event.
 fn pass(event: &Event, index: usize, nest: &mut Nest) -> Result<(), AllocError> {
     match event {
         Event::SeqStart { .. } => {
@@ -177,7 +179,7 @@ fn pass(event: &Event, index: usize, nest: &mut Nest) -> Result<(), AllocError> 
     }
 }
 
-// Goes on behind a node.
+// Goes on after a node.
 fn pass_node(nest: &mut Nest) -> Result<(), AllocError>
     ensures { IfOk result (λ _. length nest.new.items ≤ length nest.old.items) }
 {
@@ -203,14 +205,14 @@ fn end_unended<'a>(
     ensures escapes { IfOk result (λ _. part.new.escapes ≡ part.old.escapes) }
 {
     let event = if collection.is_mapping {
-        Event::MapEnd
+        NewEvent::MapEnd
     } else {
-        Event::SeqEnd
+        NewEvent::SeqEnd
     };
     if collection.is_mapping && collection.awaits_value {
         part.events.push(empty_node(alloc, None))?;
     }
     part.events.push(unplaced(alloc, event, None))?;
-    part.events.set_end(collection.event, last);
+    part.events.set_end(collection.event, last)?;
     Ok(())
 }

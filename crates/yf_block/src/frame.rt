@@ -49,10 +49,10 @@ pub(crate) struct Wanted {
     pub(crate) entry: Option<Entry>,
 }
 
-/// A node that is awaited behind an indicator.
+/// A node that is awaited after an indicator.
 #[derive(Clone, Copy)]
 pub(crate) struct Awaited {
-    /// The byte offset behind the indicator.
+    /// The byte offset after the indicator.
     pub(crate) at: usize,
     /// Whether a collection may begin on the line of the indicator (s-l+block-indented, production 185).
     pub(crate) compact: bool,
@@ -64,7 +64,7 @@ pub(crate) struct Awaited {
 pub(crate) struct Fresh<'a> {
     /// The byte offset of the line.
     pub(crate) at: usize,
-    /// Where the end of the line before it was read from, with the comment lines behind it.
+    /// Where the end of the line before it was read from, with the comment lines after it.
     pub(crate) from: usize,
     /// Whether nothing was read yet, so that no indentation is asked of a node without entries.
     pub(crate) first: bool,
@@ -91,9 +91,9 @@ pub(crate) enum Step<'a> {
 /// What has been read.
 #[derive(Clone, Copy)]
 pub(crate) struct Progress<'a> {
-    /// The byte offset behind the last node with characters, or the last indicator.
+    /// The byte offset after the last node with characters, or the last indicator.
     pub(crate) last: usize,
-    /// The byte offset behind the last block scalar; 0 where there is none.
+    /// The byte offset after the last block scalar; 0 where there is none.
     pub(crate) floor: usize,
     /// The last place at which all open nodes may end.
     pub(crate) halt: Option<Halt<'a>>,

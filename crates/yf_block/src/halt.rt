@@ -34,7 +34,7 @@ pub(crate) struct Plain<'a> {
     pub(crate) lead: Lead<'a>,
     /// The fewest spaces of the indentation of its lines.
     pub(crate) least: usize,
-    /// The byte offset of its first character, behind its properties, and the one behind it.
+    /// The byte offset of its first character, after its properties, and the one after it.
     pub(crate) at: usize,
     pub(crate) end: usize,
     /// The index of its event.
@@ -57,9 +57,9 @@ pub(crate) struct Halt<'a> {
     /// The byte offset at which they end.
     pub(crate) end: usize,
     pub(crate) counts: Counts,
-    /// The byte offset behind the last node with characters, or the last indicator.
+    /// The byte offset after the last node with characters, or the last indicator.
     pub(crate) last: usize,
-    /// The byte offset behind the last block scalar; 0 where there is none.
+    /// The byte offset after the last block scalar; 0 where there is none.
     pub(crate) floor: usize,
     pub(crate) owed: Owed<'a>,
 }
@@ -143,7 +143,7 @@ pub(crate) fn note_empty<'a>(
     noted(progress, line.at, owed, part)
 }
 
-/// Notes that all may end at the line behind a node, which ends at `from`.
+/// Notes that all may end at the line after a node, which ends at `from`.
 pub(crate) fn note_node<'a>(
     text: &str,
     from: usize,

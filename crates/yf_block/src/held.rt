@@ -68,7 +68,7 @@ pub(crate) fn line_properties<'a>(
     }
 }
 
-/// The place of what stands behind properties on their line: behind whites, or the `:` of an empty key. `None` where
+/// The place of what stands after properties on their line: after white space, or the `:` of an empty key. `None` where
 /// something else follows, or a property of a kind that they have.
 pub(crate) fn place_behind(text: &str, held: Held) -> Option<usize>
     requires { IsCharBoundary text.now held.end }

@@ -15,7 +15,7 @@ use yf_comments::comments::Separation;
 use yf_comments::lines::line_end;
 use yf_props::properties::{Properties, node_properties};
 
-/// Reads the end of a line, and the comment lines behind it (s-l-comments, production 79).
+/// Reads the end of a line, and the comment lines after it (s-l-comments, production 79).
 pub(crate) fn read_line_end<'a>(
     alloc: Global,
     text: &'a str,
@@ -44,7 +44,7 @@ pub(crate) fn read_properties<'a>(
     }
 }
 
-/// Reads the header of a block scalar (c-b-block-header, production 162). Behind it a line begins, or the text ends.
+/// Reads the header of a block scalar (c-b-block-header, production 162). After it a line begins, or the text ends.
 pub(crate) fn read_header<'a>(text: &'a str, at: usize) -> Option<HeaderLine<'a>>
     ensures place { IfSome result (λ h. Place text.now (at + 1) h.end) }
     ensures starts { IfSome result (λ h. h.end < length text.now → LineStart text.now h.end) }
@@ -55,7 +55,7 @@ pub(crate) fn read_header<'a>(text: &'a str, at: usize) -> Option<HeaderLine<'a>
     }
 }
 
-/// Reads the lines of a block scalar behind its header, which ends at an offset, in a node whose lines are indented by that
+/// Reads the lines of a block scalar after its header, which ends at an offset, in a node whose lines are indented by that
 /// many spaces at least.
 pub(crate) fn read_lines<'a>(
     alloc: Global,

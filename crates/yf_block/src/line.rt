@@ -1,4 +1,4 @@
-//! Nodes where they are awaited: behind an indicator, or at the start of a line (s-l+block-node, production 196).
+//! Nodes where they are awaited: after an indicator, or at the start of a line (s-l+block-node, production 196).
 ghost use Rattle.std.specs.Prelude.{◌≡◌, ◌+◌, ◌-◌, ◌*◌, ◌<◌, ◌≤◌, length, IfOk};
 ghost use Rattle.std.specs.List.{All};
 ghost use Rattle.std.specs.Str.{IsCharBoundary};
@@ -45,7 +45,7 @@ pub(crate) fn first_line<'a>(
     }
 }
 
-/// Reads the end of a line, and the comment lines behind it, where a node is awaited that may have properties.
+/// Reads the end of a line, and the comment lines after it, where a node is awaited that may have properties.
 pub(crate) fn end_line<'a>(
     alloc: Global,
     text: &'a str,
@@ -76,7 +76,7 @@ pub(crate) fn end_line<'a>(
     }
 }
 
-/// Begins the node that is awaited behind an indicator.
+/// Begins the node that is awaited after an indicator.
 pub(crate) fn take_node<'a>(
     alloc: Global,
     scope: Scope<'a>,

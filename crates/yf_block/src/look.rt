@@ -25,7 +25,7 @@ pub(crate) fn dash_stands(text: &str, at: usize) -> bool
     false
 }
 
-/// Whether that sign of an entry, `?` or `:`, stands there, with white, a break or the end of the text behind it.
+/// Whether that sign of an entry, `?` or `:`, stands there, with white, a break or the end of the text after it.
 pub(crate) fn sign_stands(text: &str, at: usize, sign: u8) -> bool
     requires { sign < 128 }
     ensures { result ≡ true → IsCharBoundary text.now (at + 1) }
@@ -36,7 +36,7 @@ pub(crate) fn sign_stands(text: &str, at: usize, sign: u8) -> bool
     false
 }
 
-/// Whether the `:` behind an implicit key stands there, on the line on which the key starts.
+/// Whether the `:` after an implicit key stands there, on the line on which the key starts.
 pub(crate) fn key_ends(text: &str, start: usize, at: usize) -> bool
     requires { IsCharBoundary text.now start }
     ensures { result ≡ true → IsCharBoundary text.now (at + 1) }
@@ -47,7 +47,7 @@ pub(crate) fn key_ends(text: &str, start: usize, at: usize) -> bool
     false
 }
 
-/// Whether nothing more stands on the line from the offset on; a comment stands behind a white.
+/// Whether nothing more stands on the line from the offset on; a comment stands after a white.
 pub(crate) fn line_ends(text: &str, at: usize, behind_white: bool) -> bool {
     if at == text.len() {
         return true;
@@ -90,13 +90,13 @@ pub(crate) fn entry_place(text: &str, at: usize) -> Option<usize>
     Some(place)
 }
 
-/// Whether, going back from the offset over whites, line breaks and byte order marks, a line of whites alone is met that
-/// begins behind the floor, or at it.
+/// Whether, going back from the offset over white space, line breaks and byte order marks, a line of white space alone is met that
+/// begins after the floor, or at it.
 ///
 /// The walk ends at the first other character, so walks from different entries do not overlap.
 pub fn is_blank_after(text: &str, floor: usize, at: usize) -> bool {
     let mut place = at;
-    // whether whites alone stand between the place and a line break
+    // whether white space alone stands between the place and a line break
     let mut blank = false;
     'back: while place > floor {
         if white_stands(text, place - 1) {
@@ -141,7 +141,7 @@ fn break_start(text: &str, at: usize) -> usize
     at.saturating_sub(1)
 }
 
-/// The last place behind a line break that begins at the first offset or behind it, before the other offset.
+/// The last place after a line break that begins at the first offset or after it, before the other offset.
 pub(crate) fn last_line_start(text: &str, from: usize, end: usize) -> Option<usize>
     requires { IsCharBoundary text.now from }
     ensures { IfSome result (λ p. IsCharBoundary text.now p) }
@@ -165,7 +165,7 @@ pub(crate) fn last_line_start(text: &str, from: usize, end: usize) -> Option<usi
     found
 }
 
-/// The offset behind so many lines from the start of a line on, or the end of the text.
+/// The offset after so many lines from the start of a line on, or the end of the text.
 pub(crate) fn skip_lines(text: &str, at: usize, count: usize) -> usize
     requires { IsCharBoundary text.now at }
     ensures { IsCharBoundary text.now result }

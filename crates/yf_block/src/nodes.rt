@@ -22,11 +22,11 @@ use yf_lines::basic::is_line_start;
 #[derive(Debug, Drop)]
 pub struct Found<'a> {
     pub part: Part<'a>,
-    /// The byte offset behind it.
+    /// The byte offset after it.
     pub end: usize,
     /// The furthest byte offset at which the reading went wrong; `end` where it did not.
     pub reached: usize,
-    /// The byte offset behind the last block scalar in the node, with its kept tail: lines before it are no blank lines.
+    /// The byte offset after the last block scalar in the node, with its kept tail: lines before it are no blank lines.
     /// 0 where there is none.
     pub floor: usize,
 }

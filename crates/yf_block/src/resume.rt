@@ -1,4 +1,4 @@
-//! Behind a node, at the start of a line: the next entry of an open collection, or the end of collections.
+//! After a node, at the start of a line: the next entry of an open collection, or the end of collections.
 ghost use Rattle.std.specs.Prelude.{◌≡◌, ◌+◌, ◌-◌, ◌*◌, ◌<◌, ◌≤◌, length, IfOk};
 ghost use Rattle.std.specs.List.{All};
 ghost use Rattle.std.specs.Str.{IsCharBoundary};
@@ -8,7 +8,7 @@ use crate::entry::{take_entry, take_explicit_value, take_item};
 use crate::frame::{Frame, Frames, Kind, Progress, Scope, State, Step};
 use crate::look::{dash_stands, entry_place, sign_stands};
 use std::alloc::{AllocError, Global};
-use yf_events::event::Event;
+use yf_events::event::NewEvent;
 use yf_events::part::Part;
 use yf_flow::node::{empty_node, unplaced};
 
@@ -25,7 +25,7 @@ enum Fit {
     Behind,
 }
 
-/// Goes on at the start of a line behind a node.
+/// Goes on at the start of a line after a node.
 pub(crate) fn resume<'a>(
     alloc: Global,
     scope: Scope<'a>,
@@ -119,13 +119,13 @@ fn end_collection<'a>(
     ensures escapes { IfOk result (λ _. part.new.escapes ≡ part.old.escapes) }
 {
     let event = match frame.kind {
-        Kind::Sequence => Event::SeqEnd,
-        Kind::Mapping => Event::MapEnd,
+        Kind::Sequence => NewEvent::SeqEnd,
+        Kind::Mapping => NewEvent::MapEnd,
     };
     if frame.awaits_colon {
         part.events.push(empty_node(alloc, None))?;
     }
     part.events.push(unplaced(alloc, event, None))?;
-    part.events.set_end(frame.event, last);
+    part.events.set_end(frame.event, last)?;
     Ok(())
 }

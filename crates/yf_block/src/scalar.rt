@@ -15,7 +15,7 @@ use yf_block_scalar::content::content;
 use yf_block_scalar::header::Chomp;
 use yf_block_scalar::header_reader::HeaderLine;
 use yf_block_scalar::lines::Lines;
-use yf_events::event::{Event, PlacedEvent, ScalarStyle, Span};
+use yf_events::event::{NewEvent, PlacedEvent, ScalarStyle, Span};
 use yf_events::part::Part;
 use yf_events::slices::Slices;
 use yf_flow::node::Lead;
@@ -93,7 +93,7 @@ fn take_body<'a>(
     Ok(progress.and_then(Step::Resume(next)))
 }
 
-// How many lines behind its header a scalar reaches: to its last content line, or through its kept tail.
+// How many lines after its header a scalar reaches: to its last content line, or through its kept tail.
 fn reach(block: &BlockText) -> usize {
     match block.header.chomp {
         Chomp::Strip | Chomp::Clip => block.lines.len(),
@@ -119,7 +119,7 @@ fn placed_scalar<'a>(
     };
     let folded = kept_lines(alloc, block.header.folded, &block.lines)?;
     Ok(PlacedEvent {
-        event: Event::Scalar {
+        event: NewEvent::Scalar {
             props: lead.props,
             style,
             text,

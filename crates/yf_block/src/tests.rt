@@ -4,7 +4,8 @@ use crate::nodes::{Found, Outcome, block_node_in};
 use std::alloc::{AllocError, Global};
 use std::test::Fail;
 use yf_chars::context::Ctx;
-use yf_events::event::{Event, PlacedEvent, ScalarStyle};
+use yf_events::event::{Event, ScalarStyle};
+use yf_events::events::Events;
 use yf_lines::fault::Fault;
 use yf_lines::source_text::Src;
 use yf_props::props::Props;
@@ -183,19 +184,19 @@ fn push_event(out: &mut String, event: &Event) -> Result<(), AllocError> {
             out.push_str("=VAL")?;
             push_props(out, *props)?;
             out.push_str(style_sign(*style))?;
-            out.push_str(text.as_str())
+            out.push_str(text)
         }
         _ => out.push_str("no node"),
     }
 }
 
-fn shown(alloc: Global, events: &[PlacedEvent]) -> Result<String, AllocError> {
+fn shown(alloc: Global, events: &Events) -> Result<String, AllocError> {
     let mut out = String::new(alloc);
-    for placed in events {
+    for i in 0..events.len() {
         if !out.is_empty() {
             out.push_str(" / ")?;
         }
-        push_event(&mut out, &placed.event)?;
+        push_event(&mut out, &events.event(i))?;
     }
     Ok(out)
 }
@@ -210,7 +211,7 @@ fn scanned(alloc: Global, text: &str) -> Result<Option<(String, usize)>, Fault> 
         return Ok(None);
     }
     match scan_block_node(alloc, &src, 0, -1, Ctx::BlockIn)? {
-        Some(node) => match shown(alloc, node.part.events.as_slice()) {
+        Some(node) => match shown(alloc, &node.part.events) {
             Ok(events) => Ok(Some((events, node.end))),
             Err(AllocError) => Err(Fault::Memory),
         },
@@ -299,11 +300,11 @@ fn gives_the_first_bad_escape(rt: HostRuntime) -> Result<(), Fail> {
 
 // For each event with a place where it starts and ends, where its entry and the `:` of that stand (0 for none), and
 // whether a blank line stands before it.
-fn places(alloc: Global, events: &[PlacedEvent]) -> Result<Vec<[usize; 5]>, AllocError> {
+fn places(alloc: Global, events: &Events) -> Result<Vec<[usize; 5]>, AllocError> {
     let mut out = Vec::new(alloc);
-    for placed in events {
-        if let Some(span) = placed.span {
-            let row = match placed.entry {
+    for i in 0..events.len() {
+        if let Some(span) = events.span(i) {
+            let row = match events.entry(i) {
                 Some(entry) => [
                     span.start,
                     span.end,
@@ -332,7 +333,7 @@ fn keeps_places(rt: HostRuntime) -> Result<(), Fail> {
         },
     ) = block_node_in(rt.alloc(), text, 0, -1, Ctx::BlockIn, 1024)?
     {
-        let found = places(rt.alloc(), part.events.as_slice())?;
+        let found = places(rt.alloc(), &part.events)?;
         let wanted = [
             [0, 22, 0, 0, 0],
             [4, 5, 4, 5, 1],

@@ -101,7 +101,7 @@ no_end e n f z none (content s m l q c) = no_end_here e z none (text_end m q n f
   no_end_here {t} {j = j} e z none same (by_break b) = none.none j (subst (λ w. Break t w j) same b)
   no_end_here e z none same (by_text l) = z (sym same ∙ l)
 
--- how a scalar is read: the lines so far, in front the last content line and behind it empty lines alone
+-- how a scalar is read: the lines so far, in front the last content line and after it empty lines alone
 pub record Reading (t : List ℕ) (k at p : ℕ) (ls : List (List ℕ)) (o : Bool) (count : ℕ) : Type 0 where
   pub end : ℕ
   pub front : List (List ℕ)
@@ -320,7 +320,7 @@ pub match_marker : {t : List ℕ} {i at : ℕ} (b : Bool) → b ≡ is_marker t 
 match_marker true e n back forth = back (marker_here (sym e))
 match_marker false e n back forth = λ l. true≢false (sym (marker_only_here n (forth l)) ∙ sym e)
 
--- the line behind the lines of spaces alone
+-- the line after the lines of spaces alone
 pub other_there : (t : List ℕ) (at first : ℕ) → IsUtf8 t → IsCharBoundary t first → first ≢ length t → at ≤ first → Spaces t at (first - at)
     → code t first ≢ 32 → ((m j : ℕ) → SpaceLine t at m j → ⊥) → Other t (at + (first - at))
 other_there t at first u b n l s no_space no_line =

@@ -45,7 +45,7 @@ use Rattle.yf_block_scalar.proofs.HeaderLemmas.{between_from, mark_inside}
 use Rattle.yf_block_scalar.proofs.WrittenLemmas.{Rest, rest_start, rest_ascii, rest_spaces, rest_chars, rest_break, space_marker, empty_made, empty_or, indented_full, behind_line, some_chars, Behind, Lasts, lines_made, tail_made}
 use Rattle.yf_block_scalar.proofs.WrittenLemmas.Behind.{open_behind, break_behind}
 
--- nothing stands behind the end of the text
+-- nothing stands after the end of the text
 many_nb : {t : List ℕ} {i j : ℕ} {x : List ℕ} → Many t is_nb_char i j x → i < j → is_nb_char (code t i) ≡ true
 many_nb done l = absurd (omega arith)
 many_nb (step s c) l = one_nb s where
@@ -62,13 +62,13 @@ no_line_past (content_line c) = no_content_past c where
       let past = code-past t (length t + k) (omega arith) in
       true≢false (sym (many_nb m l) ∙ ap is_nb_char past ∙ no_nb_end)
 
-stuck_past : (t : List ℕ) (k : ℕ) → Stuck (Line t k (length t))
+pub stuck_past : (t : List ℕ) (k : ℕ) → Stuck (Line t k (length t))
 stuck_past t k = record { none = λ j x l. no_line_past l }
 
-trail_past : (t : List ℕ) (k : ℕ) → Trail t k (length t) (length t) []
+pub trail_past : (t : List ℕ) (k : ℕ) → Trail t k (length t) (length t) []
 trail_past t k = no_comment (λ m l s e. let past = code-past t (length t + m) (omega arith) in absurd (omega arith))
 
-largest-zeros : (c : ℕ) → largest (replicate c 0) ≡ 0
+pub largest-zeros : (c : ℕ) → largest (replicate c 0) ≡ 0
 largest-zeros zero = refl
 largest-zeros (suc c) = let rest = largest-zeros c in omega arith
 
@@ -125,7 +125,7 @@ indented_made {t} {k} {q} {n} {x} ls r u wide deep text full first s =
 detected_more : {t : List ℕ} {n : ℤ} {q h k : ℕ} → SpaceLine t q 0 h → Detected t n h k → Detected t n q k
 detected_more a d = record { at = d.at; widths = 0 ∷ d.widths; before = step (bare 0 a) d.before; within = omega (arith, d.within); first = d.first }
 
-detected_made : {t : List ℕ} {k : ℕ} {n : ℤ} (post : List ℕ) (ls : List (List ℕ)) (x : List ℕ) (q : ℕ) → IsUtf8 t → 0 < k → least n ≤ k → AreLineTexts (x ∷ ls)
+pub detected_made : {t : List ℕ} {k : ℕ} {n : ℤ} (post : List ℕ) (ls : List (List ℕ)) (x : List ℕ) (q : ℕ) → IsUtf8 t → 0 < k → least n ≤ k → AreLineTexts (x ∷ ls)
     → StartsUnspaced (x ∷ ls) → Rest t q (indented k x ++ (literal_behind (map (indented k) ls) ++ post)) → Detected t n q k
 detected_made {t} {k} {n} post [] x q u wide deep texts first s =
     ⊎_elim (λ (e : x ≡ []). absurd (unspaced_none x e first)) (λ (f : x ≢ []).
@@ -150,16 +150,16 @@ detected_made {t} {k} {n} post (y ∷ ls) x q u wide deep texts first s =
     unspaced_rest (c ∷ x) e s = let long : suc (length x) ≡ 0 = ap length e in absurd (omega arith)
 
 -- the header that is written: characters at their places
-record Last (t : List ℕ) (k : ℕ) : Type 0 where
-  place : ℕ
-  is : k ≡ place + 1
-  low : 33 ≤ code t place
-  high : code t place < 128
+pub record Last (t : List ℕ) (k : ℕ) : Type 0 where
+  pub place : ℕ
+  pub is : k ≡ place + 1
+  pub low : 33 ≤ code t place
+  pub high : code t place < 128
 
 last_of : {t : List ℕ} {q c : ℕ} → Reads t q c (q + 1) → 33 ≤ c → c < 128 → Last t (q + 1)
 last_of {t} {q} {c} r l h = record { place = q; is = refl; low = omega (arith, r.char); high = omega (arith, r.char) }
 
-style_made : {t : List ℕ} {r : List ℕ} (f : Bool) (q : ℕ) → IsUtf8 t → Rest t q (style_bytes f ++ r) → Style t q (q + 1) f × Rest t (q + 1) r × Last t (q + 1)
+pub style_made : {t : List ℕ} {r : List ℕ} (f : Bool) (q : ℕ) → IsUtf8 t → Rest t q (style_bytes f ++ r) → Style t q (q + 1) f × Rest t (q + 1) r × Last t (q + 1)
 style_made true q u s =
     let got = rest_ascii 62 u (omega arith) (λ e. absurd (omega arith)) s in
     (folded_sign got.0.char, got.1, last_of got.0 (omega arith) (omega arith))
@@ -167,7 +167,7 @@ style_made false q u s =
     let got = rest_ascii 124 u (omega arith) (λ e. absurd (omega arith)) s in
     (literal_sign got.0.char, got.1, last_of got.0 (omega arith) (omega arith))
 
-abbrev digit_of : Option ℕ → ℕ → Option ℕ
+abbrev pub digit_of : Option ℕ → ℕ → Option ℕ
 digit_of None w = None
 digit_of (Some d) w = Some w
 
@@ -178,11 +178,11 @@ digit_made {t} w q u low high s =
     let value : code t q - 48 ≡ w = omega (arith, got.0.char) in
     (subst (λ z. Digit t q (q + 1) z) value made, got.1, last_of got.0 (omega arith) (omega arith))
 
-record Signed (t : List ℕ) (q : ℕ) (d : Option ℕ) (c : Chomp) (r : List ℕ) : Type 0 where
-  place : ℕ
-  marks : Indicators t q place d c
-  rest : Rest t place r
-  last : Last t place
+pub record Signed (t : List ℕ) (q : ℕ) (d : Option ℕ) (c : Chomp) (r : List ℕ) : Type 0 where
+  pub place : ℕ
+  pub marks : Indicators t q place d c
+  pub rest : Rest t place r
+  pub last : Last t place
 
 -- a sign alone, or nothing
 signed_alone : {t : List ℕ} {r : List ℕ} (c : Chomp) (q : ℕ) → IsUtf8 t → Last t q → Rest t q (sign_bytes c ++ r) → Signed t q None c r
@@ -194,7 +194,7 @@ signed_alone Keep q u l s =
     let got = rest_ascii 43 u (omega arith) (λ e. absurd (omega arith)) s in
     record { place = q + 1; marks = sign_alone (keep_sign got.0.char); rest = got.1; last = last_of got.0 (omega arith) (omega arith) }
 
--- the same behind a digit
+-- the same after a digit
 signed_behind : {t : List ℕ} {r : List ℕ} {p d : ℕ} (c : Chomp) (q : ℕ) → IsUtf8 t → Digit t p q d → Last t q → Rest t q (sign_bytes c ++ r) → Signed t p (Some d) c r
 signed_behind Strip q u a l s =
     let got = rest_ascii 45 u (omega arith) (λ e. absurd (omega arith)) s in
@@ -204,7 +204,7 @@ signed_behind Keep q u a l s =
     let got = rest_ascii 43 u (omega arith) (λ e. absurd (omega arith)) s in
     record { place = q + 1; marks = digit_sign a (keep_sign got.0.char); rest = got.1; last = last_of got.0 (omega arith) (omega arith) }
 
-signed_made : {t : List ℕ} {r : List ℕ} (d : Option ℕ) (c : Chomp) (w q : ℕ) → IsUtf8 t → 1 ≤ w → w ≤ 9 → Last t q
+pub signed_made : {t : List ℕ} {r : List ℕ} (d : Option ℕ) (c : Chomp) (w q : ℕ) → IsUtf8 t → 1 ≤ w → w ≤ 9 → Last t q
     → Rest t q (digit_bytes d w ++ (sign_bytes c ++ r)) → Signed t q (digit_of d w) c r
 signed_made None c w q u low high l s = signed_alone c q u l s
 signed_made (Some d) c w q u low high l s =
@@ -292,7 +292,7 @@ same_content f d e Strip x ls n false = refl
 same_content f d e Clip x ls n o = refl
 same_content f d e Keep x ls n o = refl
 
-deep_enough : (n : ℤ) (k : ℕ) → base n < k → least n ≤ k
+pub deep_enough : (n : ℤ) (k : ℕ) → base n < k → least n ≤ k
 deep_enough (pos n) k l = omega arith
 deep_enough (negsuc n) k l = omega arith
 

@@ -84,10 +84,10 @@ stop_is c low high e =
     (λ (a : c ≡ no_char). absurd (omega arith)) h)
     (stop_codes c e)
 
-stop_digit : {t : List ℕ} {i j d : ℕ} → Digit t i j d → is_white_or_end (code t i) ≡ true → ⊥
+pub stop_digit : {t : List ℕ} {i j d : ℕ} → Digit t i j d → is_white_or_end (code t i) ≡ true → ⊥
 stop_digit {t} {i} x e = let c = digit_code x in stop_is (code t i) (omega (arith, c.0)) c.1 e
 
-stop_sign : {t : List ℕ} {i j : ℕ} {c : Chomp} → Sign t i j c → is_white_or_end (code t i) ≡ true → ⊥
+pub stop_sign : {t : List ℕ} {i j : ℕ} {c : Chomp} → Sign t i j c → is_white_or_end (code t i) ≡ true → ⊥
 stop_sign {t} {i} (strip_sign q) e = stop_is (code t i) (omega arith) (omega arith) e
 stop_sign {t} {i} (keep_sign q) e = stop_is (code t i) (omega arith) (omega arith) e
 
@@ -171,7 +171,7 @@ mark_inside t i u high l w =
     let inside : code t i ≡ no_char = ap (code t) p ∙ code-inside t (((i + 1) - 3) + 2) (omega (arith, b.3)) (omega (arith, b.3)) in
     absurd (omega arith)
 
--- behind a header's characters no line starts
+-- after a header's characters no line starts
 pub inside_line : (t : List ℕ) (i : ℕ) → IsUtf8 t → 33 ≤ code t i → code t i < 128 → LineStart t (i + 1) → ⊥
 inside_line t i u low high =
     let e : (i + 1) - 1 ≡ i = omega arith in

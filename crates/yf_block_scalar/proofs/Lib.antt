@@ -8,3 +8,7 @@ pub mod TrailLemmas
 pub mod UniqueLemmas
 pub mod WrittenLemmas
 pub mod DerivedLemmas
+pub mod PlacedLemmas
+pub mod PlacedScalar
+mod PlacedShown
+pub mod LinesMade

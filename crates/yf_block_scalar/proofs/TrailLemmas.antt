@@ -1,4 +1,4 @@
--- The comments behind a scalar, and the note of the first.
+-- The comments after a scalar, and the note of the first.
 use Rattle.std.proofs.Common.{◌≡◌, ◌≢◌, ℕ, ◌+◌, ◌-◌, ◌<◌, ◌≤◌, Bool, List, [], ◌∷◌, length, drop, get_or, map, refl, sym, ap, ◌∙◌, arith, add-one, drop-cons}
 use Rattle.std.proofs.Math.ListN.{drop_of_length-le}
 use Rattle.yf_chars.specs.Text.{code}
@@ -35,7 +35,7 @@ no_trail_here {t} i first k l s n no_hash = no_comment (λ d h q e.
     let width : d ≡ first - i = spaces_unique q (λ w. absurd (omega arith)) s (rw same n) in
     no_hash (ap (code t) (sym same) ∙ ap (λ w. code t (i + w)) (sym width) ∙ e))
 
--- comment lines begin where a # stands behind fewer than k spaces
+-- comment lines begin where a # stands after fewer than k spaces
 pub trail_there : {t : List ℕ} {j : ℕ} {x : List CommentValue} (i first k : ℕ) → i ≤ first → Spaces t i (first - i) → first - i < k → code t first ≡ 35
     → Chosen (LineEnd t i) j x → Trail t k i j x
 trail_there {t} i first k l s few e c =

@@ -209,7 +209,7 @@ taken_unique {t} {k} {i} {p} {q} {m} {n} {ls} {ms} a b =
     let tails : m ≡ n = omega (arith, length-append ls (replicate m []), length-append ms (replicate n []), length-replicate m none, length-replicate n none) in
     (all.0, lines, lines_open a.lines b.lines lines, tails)
 
--- the comments behind the tail
+-- the comments after the tail
 trail_unique : {t : List ℕ} {k i j l : ℕ} {x y : List CommentValue} → Trail t k i j x → Trail t k i l y → (j ≡ l) × (x ≡ y)
 trail_unique {t} {k} {i} {j} {l} {x} {y} (comments m a b e c) (comments d f g h q) =
     let left = c.longest l y q.derived in

@@ -1,114 +1,24 @@
--- What is written is derived again: characters, lines and the whole scalar, from what stands behind a place.
-use Rattle.std.proofs.Common.{◌≡◌, ◌≢◌, ℕ, zero, suc, ◌+◌, ◌-◌, ◌<◌, Bool, true, false, true≢false, List, [], ◌∷◌, ◌++◌, length, map, take, drop, slice_range, replicate, refl, sym, ap, ◌∙◌, subst, arith, ⊎_elim, ◌⊎◌, inl, inr, append_assoc, length-append, length-drop, add-zero}
+-- What is written is derived again: characters, lines and the whole scalar, from what stands after a place.
+use Rattle.std.proofs.Common.{◌≡◌, ◌≢◌, ℕ, zero, suc, ◌+◌, ◌-◌, ◌<◌, Bool, true, false, List, [], ◌∷◌, ◌++◌, length, map, take, drop, slice_range, replicate, refl, sym, ap, ◌∙◌, subst, arith, ⊎_elim, ◌⊎◌, inl, inr, append_assoc, length-append, length-drop, add-zero}
 use Rattle.std.proofs.Math.Seq.{take-append_seam}
 use Rattle.std.proofs.lemmas.Bool.{cases_Bool}
-use Rattle.std.proofs.lemmas.Str as S
-use Rattle.std.proofs.lemmas.Str.{len_utf8_bounds, length-encode, encode_ascii, len_utf8_ascii, drop_past_char}
-use Rattle.std.specs.Char.{len_utf8}
-use Rattle.std.specs.Str.{IsUtf8, IsCharBoundary}
+use Rattle.std.proofs.lemmas.Str.{len_utf8_bounds, length-encode}
+use Rattle.std.specs.Str.{IsUtf8}
 use lib.Utf8.{encode, encodes}
-use Rattle.yf_chars.specs.Text.{code, next, before, last_or, Reads, no_char}
-use Rattle.yf_chars.specs.Class.{is_nb_char}
-use Rattle.yf_chars.specs.Chain.{Chain, Many}
+use Rattle.yf_chars.specs.Text.{code}
+use Rattle.yf_chars.specs.Chain.{Chain}
 use Rattle.yf_chars.specs.Chain.Chain.{done, step}
-use Rattle.yf_chars.specs.Chain.One.{one}
-use Rattle.yf_chars.proofs.TextLemmas.{reads_char, reads_byte}
-use Rattle.yf_lines.specs.Basic.{Spaces, Break, is_marker}
-use Rattle.yf_lines.specs.Basic.Break.{lone_lf}
+use Rattle.yf_lines.specs.Basic.{Break, is_marker}
+use Rattle.yf_lines.specs.LineText.{IsLineText}
+pub use Rattle.yf_lines.proofs.RestLemmas.{Rest, rest_start, rest_char, rest_ascii, rest_spaces, rest_chars, rest_break}
 use Rattle.yf_block_scalar.specs.Body.{SpaceLine, Bare, Ends, Content, Line}
 use Rattle.yf_block_scalar.specs.Body.Bare.{bare}
 use Rattle.yf_block_scalar.specs.Body.Ends.{by_break, by_text}
 use Rattle.yf_block_scalar.specs.Body.Content.{content}
 use Rattle.yf_block_scalar.specs.Body.Line.{empty_line, content_line}
 use Rattle.yf_block_scalar.specs.Content.{feeds, literal_behind}
-use Rattle.yf_block_scalar.specs.Written.{indented, AllNb, IsLineText, AreLineTexts, EndsWithContent}
-use Rattle.yf_block_scalar.proofs.BodyLemmas.{no_nb_13, marker_code}
-
--- the bytes from a place on, and no CR before it
-pub record Rest (t : List ℕ) (q : ℕ) (r : List ℕ) : Type 0 where
-  pub bytes : drop q t ≡ r
-  pub boundary : IsCharBoundary t q
-  pub clean : before t q ≢ 13
-
-pub rest_start : (t : List ℕ) → IsUtf8 t → Rest t 0 t
-unfolding before
-rest_start t u = record {
-  bytes = refl;
-  boundary = S.IsCharBoundary-start t u;
-  clean = λ e. absurd (omega (arith, ap (last_or no_char) S.chars-nil));
-}
-
-rest_within : {t : List ℕ} {q : ℕ} (c : ℕ) (r : List ℕ) → Rest t q (encode c ++ r) → q < length t
-rest_within {t} {q} c r s =
-    let long : length (drop q t) ≡ length (encode c ++ r) = ap length s.bytes in
-    omega (arith, length-drop q t, length-append (encode c) r, length-encode c, len_utf8_bounds c)
-
-pub rest_char : {t : List ℕ} {q : ℕ} {r : List ℕ} (c : ℕ) → IsUtf8 t → c ≢ 13 → Rest t q (encode c ++ r)
-    → Reads t q c (q + len_utf8 c) × Rest t (q + len_utf8 c) r
-rest_char {t} {q} {r} c u n s =
-    let read = reads_char t q c r u s.boundary (rest_within c r s) s.bytes in
-    (read, record { bytes = drop_past_char t r q c s.bytes; boundary = read.boundary; clean = λ e. n (sym read.back ∙ e) })
-
-pub rest_ascii : {t : List ℕ} {q : ℕ} {r : List ℕ} (c : ℕ) → IsUtf8 t → c < 128 → c ≢ 13 → Rest t q (c ∷ r) → Reads t q c (q + 1) × Rest t (q + 1) r
-rest_ascii {t} {q} {r} c u l n s =
-    let wide : c ∷ r ≡ encode c ++ r = ap (λ w. w ++ r) (sym (encode_ascii c l)) in
-    let s' : Rest t q (encode c ++ r) = subst (λ w. Rest t q w) wide s in
-    let got = rest_char c u n s' in
-    let one_long : len_utf8 c ≡ 1 = len_utf8_ascii c l in
-    (subst (λ w. Reads t q c (q + w)) one_long got.0, subst (λ w. Rest t (q + w) r) one_long got.1)
-
--- spaces
-spaces_more : {t : List ℕ} {q k : ℕ} → code t q ≡ 32 → Spaces t (q + 1) k → Spaces t q (suc k)
-spaces_more {t} {q} {k} e s = record { each = each } where
-  each : (m : ℕ) → m < suc k → code t (q + m) ≡ 32
-  each zero l = ap (code t) (add-zero q) ∙ e
-  each (suc m) l =
-      let there : q + suc m ≡ q + 1 + m = omega arith in
-      ap (code t) there ∙ s.each m (omega arith)
-
-pub rest_spaces : {t : List ℕ} (k q : ℕ) {r : List ℕ} → IsUtf8 t → Rest t q (replicate k 32 ++ r) → Spaces t q k × Rest t (q + k) r
-rest_spaces {t} zero q {r} u s = (record { each = λ m l. absurd (omega arith) }, subst (λ w. Rest t w r) (sym (add-zero q)) s)
-rest_spaces {t} (suc k) q {r} u s =
-    let got = rest_ascii 32 u (omega arith) (λ e. absurd (omega arith)) s in
-    let more = rest_spaces k (q + 1) u got.1 in
-    let there : q + 1 + k ≡ q + suc k = omega arith in
-    (spaces_more got.0.char more.0, subst (λ w. Rest t w r) there more.1)
-
--- nb-chars
-nb_no_cr : (c : ℕ) → is_nb_char c ≡ true → c ≢ 13
-nb_no_cr c e q = true≢false (sym e ∙ ap is_nb_char q ∙ no_nb_13)
-
-pub rest_chars : {t : List ℕ} (cs : List ℕ) (q : ℕ) {r : List ℕ} → IsUtf8 t → AllNb cs → Rest t q (encodes cs ++ r)
-    → ((y : List ℕ) × Many t is_nb_char q (q + length (encodes cs)) y) × Rest t (q + length (encodes cs)) r
-rest_chars {t} [] q {r} u a s = (([], subst (λ w. Many t is_nb_char q w []) (sym (add-zero q)) done), subst (λ w. Rest t w r) (sym (add-zero q)) s)
-rest_chars {t} (c ∷ cs) q {r} u a s =
-    let s' : Rest t q (encode c ++ (encodes cs ++ r)) = subst (λ w. Rest t q w) (append_assoc (encode c) (encodes cs) r) s in
-    let got = rest_char c u (nb_no_cr c a.0) s' in
-    let more = rest_chars cs (q + len_utf8 c) u a.1 got.1 in
-    let there : q + len_utf8 c + length (encodes cs) ≡ q + length (encode c ++ encodes cs) = omega (arith, length-append (encode c) (encodes cs), length-encode c) in
-    let nb : is_nb_char (code t q) ≡ true = ap is_nb_char got.0.char ∙ a.0 in
-    let next_is : next t q ≡ q + len_utf8 c = got.0.end in
-    let chain : Many t is_nb_char (next t q) (q + len_utf8 c + length (encodes cs)) more.0.0 = subst (λ w. Many t is_nb_char w (q + len_utf8 c + length (encodes cs)) more.0.0) (sym next_is) more.0.1 in
-    let whole : Many t is_nb_char q (q + len_utf8 c + length (encodes cs)) (code t q ∷ [] ++ more.0.0) = step (one nb) chain in
-    ((code t q ∷ [] ++ more.0.0, subst (λ w. Many t is_nb_char q w (code t q ∷ [] ++ more.0.0)) there whole), subst (λ w. Rest t w r) there more.1)
-
--- a break
-zero_or : (n : ℕ) → (n ≡ 0) ⊎ (0 < n)
-zero_or zero = inl refl
-zero_or (suc n) = inr (omega arith)
-
-pub rest_break : {t : List ℕ} {q : ℕ} {r : List ℕ} → IsUtf8 t → Rest t q (10 ∷ r) → Break t q (q + 1) × Rest t (q + 1) r
-rest_break {t} {q} {r} u s =
-    let got = rest_ascii 10 u (omega arith) (λ e. absurd (omega arith)) s in
-    (lone_lf got.0.char (λ e. no_cr e got.0.char), got.1)
-  where
-    no_cr : code t (q - 1) ≡ 13 → code t q ≡ 10 → ⊥
-    no_cr e f = ⊎_elim (λ (z : q ≡ 0). let same : q - 1 ≡ q = omega arith in let both : code t q ≡ 13 = ap (code t) (sym same) ∙ e in absurd (omega arith))
-        (λ (z : 0 < q).
-        let read = reads_byte t (q - 1) 13 u e (omega arith) in
-        let same : q - 1 + 1 ≡ q = omega arith in
-        s.clean (ap (before t) (sym same) ∙ read.back))
-        (zero_or q)
+use Rattle.yf_block_scalar.specs.Written.{indented, AreLineTexts, EndsWithContent}
+use Rattle.yf_block_scalar.proofs.BodyLemmas.{marker_code}
 
 -- a content line that is written
 pub some_chars : (cs : List ℕ) → encodes cs ≢ [] → 0 < length (encodes cs)
@@ -202,7 +112,7 @@ pub empty_or : (x : List ℕ) → (x ≡ []) ⊎ (x ≢ [])
 empty_or [] = inl refl
 empty_or (c ∷ x) = inr (λ e. let long : suc (length x) ≡ 0 = ap length e in absurd (omega arith))
 
--- the rest of the bytes behind one line
+-- the rest of the bytes after one line
 pub behind_line : (k : ℕ) (x y : List ℕ) (ls : List (List ℕ)) (post : List ℕ)
     → indented k x ++ (literal_behind (map (indented k) (y ∷ ls)) ++ post) ≡ indented k x ++ (10 ∷ (indented k y ++ (literal_behind (map (indented k) ls) ++ post)))
 behind_line k x y ls post = ap (λ w. indented k x ++ (10 ∷ w)) (append_assoc (indented k y) (literal_behind (map (indented k) ls)) post)

@@ -42,7 +42,7 @@ pub data Ends (t : List ℕ) : ℕ → ℕ → Bool → Type 0 where
   by_text : {h : ℕ} → h ≡ length t → Ends t h h true
 
 -- a content line: k spaces, then nb-chars, one or more, up to its end, and no document marker; it means the bytes
--- behind the k spaces
+-- after the k spaces
 pub data Content (t : List ℕ) (k : ℕ) : ℕ → ℕ → List ℕ → Bool → Type 0 where
   content : {i h j : ℕ} {x : List ℕ} {o : Bool} → Spaces t i k → Many t is_nb_char (i + k) h x → i + k < h → Ends t h j o
       → is_marker t i ≡ false → Content t k i j (slice_range t (i + k) h) o
@@ -116,21 +116,21 @@ abbrev pub first_noted : Bool → List CommentValue → List CommentValue
 first_noted b [] = []
 first_noted b (c ∷ cs) = record c { blank_before = b } ∷ cs
 
--- the comment lines behind the tail: where the next line is a comment with fewer than k spaces before its #, that one
--- and the comment lines behind it (l-trail-comments)
+-- the comment lines after the tail: where the next line is a comment with fewer than k spaces before its #, that one
+-- and the comment lines after it (l-trail-comments)
 pub data Trail (t : List ℕ) (k : ℕ) : ℕ → ℕ → List CommentValue → Type 0 where
   comments : {i j : ℕ} {x : List CommentValue} (m : ℕ) → m < k → Spaces t i m → code t (i + m) ≡ 35
       → Chosen (LineEnd t i) j x → Trail t k i j x
   no_comment : {i : ℕ} → ((m : ℕ) → m < k → Spaces t i m → code t (i + m) ≢ 35) → Trail t k i i []
 
--- what is read behind a header
+-- what is read after a header
 pub record BodyValue : Type 0 where
   pub lines : List (List ℕ)
   pub open_end : Bool
   pub tail : ℕ
   pub comments : List CommentValue
 
--- the lines of the scalar with that header, from the line behind the header to the first line that is not taken
+-- the lines of the scalar with that header, from the line after the header to the first line that is not taken
 pub data Body (t : List ℕ) (n : ℤ) (h : Header) : ℕ → ℕ → BodyValue → Type 0 where
   indicated : {i p j d count : ℕ} {ls : List (List ℕ)} {o : Bool} {x : List CommentValue} → h.digit ≡ Some d
       → Taken t (base n + d) i ls o count p → Trail t (base n + d) p j x

@@ -1,5 +1,5 @@
 -- What a block scalar means (YAML 1.2.2, sections 8.1.1.2, 8.1.2 and 8.1.3) as a function of its lines: those from the
--- first one behind the header to the last content line, without their indentation and breaks, an empty line as [].
+-- first one after the header to the last content line, without their indentation and breaks, an empty line as [].
 -- Texts are bytes of UTF-8; 10 is the line feed.
 use Rattle.std.specs.Prelude.{ℕ, ◌+◌, ◌==◌, Bool, true, false, ◌||◌, List, [], ◌∷◌, ◌++◌, if◌then◌else◌, replicate}
 use Rattle.yf_chars.specs.Class.{is_white}
@@ -21,7 +21,7 @@ abbrev pub joint : Bool → ℕ → List ℕ
 joint true e = feeds (e + 1)
 joint false e = if e == 0 then 32 ∷ [] else feeds e
 
--- the lines behind a content line and e empty lines; the flag says whether that content line is spaced
+-- the lines after a content line and e empty lines; the flag says whether that content line is spaced
 abbrev pub folded_behind : Bool → ℕ → List (List ℕ) → List ℕ
 folded_behind s e [] = []
 folded_behind s e ([] ∷ ls) = folded_behind s (e + 1) ls
@@ -42,7 +42,7 @@ abbrev pub literal : List (List ℕ) → List ℕ
 literal [] = []
 literal (x ∷ ls) = x ++ literal_behind ls
 
--- the line feeds behind the last content line, which the tail's empty lines follow
+-- the line feeds after the last content line, which the tail's empty lines follow
 abbrev pub ending : Chomp → ℕ → List ℕ
 ending Strip tail = []
 ending Clip tail = 10 ∷ []
@@ -54,7 +54,7 @@ lone_tail Strip tail = []
 lone_tail Clip tail = []
 lone_tail Keep tail = feeds tail
 
--- the content of a scalar with that header, those lines and so many empty lines behind them; where the last content
+-- the content of a scalar with that header, those lines and so many empty lines after them; where the last content
 -- line ends at the end of the text, it gives no line feed
 abbrev pub content_of : Header → List (List ℕ) → ℕ → Bool → List ℕ
 content_of h [] tail open_end = lone_tail h.chomp tail

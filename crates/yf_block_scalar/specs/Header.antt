@@ -31,7 +31,7 @@ pub data Indicators (t : List ℕ) : ℕ → ℕ → Option ℕ → Chomp → Ty
   digit_sign : {i h j d : ℕ} {c : Chomp} → Digit t i h d → Sign t h j c → Indicators t i j (Some d) c
   sign_digit : {i h j d : ℕ} {c : Chomp} → Sign t i h c → Digit t h j d → Indicators t i j (Some d) c
 
--- what a header means, and the comments behind it: one or none
+-- what a header means, and the comments after it: one or none
 pub record HeaderValue : Type 0 where
   pub header : Header
   pub comments : List CommentValue

@@ -6,7 +6,7 @@ use Rattle.yf_block_scalar.specs.Body.{Bare, Indented, Detected, Shallow}
 use Rattle.yf_block_scalar.specs.declared.indent.Indentation.{Indentation}
 use Rattle.yf_block_scalar.specs.declared.indent.Indentation.TheVariants.{Found, Missing, TooLong}
 
--- of one line, behind lines of spaces alone of which the longest has so many
+-- of one line, after lines of spaces alone of which the longest has so many
 abbrev pub Judges : List ℕ → ℤ → ℕ → ℕ → ℕ → Indentation → Type 0
 Judges t n i count longest (Found k) = Indented t n i k × (longest ≤ k)
 Judges t n i count longest (Missing c p) = Shallow t n i × (c ≡ count) × (p ≡ i)

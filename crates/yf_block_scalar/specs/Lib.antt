@@ -4,3 +4,4 @@ pub mod Header
 pub mod Indentation
 pub mod LineOffset
 pub mod Written
+pub mod Placed

@@ -7,6 +7,6 @@ abbrev pub start_or : ℕ → Option Line → ℕ
 start_or end None = end
 start_or end (Some l) = l.start
 
--- the byte offset of the line of that index, from 0; behind the last line, the end of the text
+-- the byte offset of the line of that index, from 0; after the last line, the end of the text
 abbrev pub line_offset : Table → ℕ → ℕ
 line_offset t i = start_or (length t.text) (slice_get t.lines i)

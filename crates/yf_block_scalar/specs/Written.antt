@@ -1,7 +1,7 @@
 -- How a block scalar is written (YAML 1.2.2, section 8.1) at a column, counted from 0, that lies so many columns (the
 -- width, 1 to 9) right of the indentation around it. Texts are bytes.
-use Rattle.yf_chars.specs.Class.{is_nb_char}
-use Rattle.std.specs.Prelude.{length, encode_utf8_all, ◌≡◌, ◌≢◌, ℕ, ◌+◌, ◌-◌, ℤ, Bool, true, List, [], ◌∷◌, ◌++◌, map, replicate, if◌then◌else◌, Option, Some, None}
+use Rattle.std.specs.Prelude.{length, ◌≡◌, ◌≢◌, ℕ, ◌+◌, ◌-◌, ℤ, Bool, true, List, [], ◌∷◌, ◌++◌, map, replicate, if◌then◌else◌, Option, Some, None}
+pub use Rattle.yf_lines.specs.LineText.{AllNb, IsLineText}
 use Rattle.yf_comments.specs.declared.comment.Comment.{Comment}
 use Rattle.yf_block_scalar.specs.declared.body.BlockText.{BlockText}
 use Rattle.yf_block_scalar.specs.declared.header.Header.{Header}
@@ -24,7 +24,7 @@ sign_bytes Strip = 45 ∷ []
 sign_bytes Clip = []
 sign_bytes Keep = 43 ∷ []
 
--- a comment stands behind two spaces
+-- a comment stands after two spaces
 abbrev pub comment_bytes : Option Comment → List ℕ
 comment_bytes None = []
 comment_bytes (Some c) = 32 ∷ 32 ∷ c.text.now
@@ -43,7 +43,7 @@ tail_bytes Strip tail = []
 tail_bytes Clip tail = []
 tail_bytes Keep tail = feeds tail
 
--- the break behind the last content line; where that line ended at the end of the text, only a stripped scalar has one
+-- the break after the last content line; where that line ended at the end of the text, only a stripped scalar has one
 abbrev pub break_bytes : Chomp → Bool → List ℕ
 break_bytes Strip open_end = 10 ∷ []
 break_bytes Clip open_end = if open_end then [] else 10 ∷ []
@@ -55,16 +55,6 @@ body_bytes c (x ∷ ls) tail open_end column = literal (map (indented column) (x
 
 abbrev pub written_of : BlockText → ℕ → ℤ → List ℕ
 written_of b column n = header_bytes b.header b.comment (column - base n) ++ body_bytes b.header.chomp b.lines b.tail b.open_end column
-
--- the characters of a line are nb-chars
-abbrev pub AllNb : List ℕ → Type 0
-AllNb [] = Unit {0}
-AllNb (c ∷ cs) = (is_nb_char c ≡ true) × AllNb cs
-
-pub record IsLineText (x : List ℕ) : Type 0 where
-  pub chars : List ℕ
-  pub bytes : encode_utf8_all chars ≡ x
-  pub each : AllNb chars
 
 abbrev pub AreLineTexts : List (List ℕ) → Type 0
 AreLineTexts [] = Unit {0}
@@ -88,7 +78,7 @@ IsCommentText None = Unit {0}
 IsCommentText (Some c) = (x : List ℕ) × ((c.text.now ≡ 35 ∷ x) × IsLineText x)
 
 -- a scalar as a text can hold it, with a content line: its lines and comment are of nb-chars, an indentation that is to be
--- detected is that of its first content line, and behind a line that ends at the end of the text stands nothing
+-- detected is that of its first content line, and after a line that ends at the end of the text stands nothing
 pub record IsScalar (b : BlockText) : Type 0 where
   pub lines : AreLineTexts b.lines
   pub last : EndsWithContent b.lines

@@ -8,15 +8,15 @@ use yf_comments::comments::Comments;
 #[derive(Debug, Drop)]
 pub struct BlockText<'a> {
     pub header: Header,
-    /// The comment behind the header.
+    /// The comment after the header.
     pub comment: Option<Comment<'a>>,
     /// The lines up to the last content line.
     pub lines: Lines<'a>,
-    /// How many empty lines stand behind the last content line.
+    /// How many empty lines stand after the last content line.
     pub tail: usize,
     /// Whether the last content line ends at the end of the text, with no break.
     pub open_end: bool,
-    /// The comments of the comment lines behind the tail.
+    /// The comments of the comment lines after the tail.
     pub comments: Comments<'a>,
     /// The byte offset of the first line that is not taken.
     pub next: usize,

@@ -105,7 +105,7 @@ fn push_folded(text: &mut String, lines: &Lines) -> Result<(), AllocError>
     Ok(())
 }
 
-// The lines from that number on, which stand behind a content line that is spaced or not.
+// The lines from that number on, which stand after a content line that is spaced or not.
 fn push_folded_behind(
     text: &mut String,
     lines: &Lines,

@@ -1,13 +1,13 @@
 //! The header of a block scalar (YAML 1.2.2, section 8.1.1).
 
-/// What becomes of the line breaks behind the last content line (section 8.1.1.2, the chomping indicator).
+/// What becomes of the line breaks after the last content line (section 8.1.1.2, the chomping indicator).
 #[derive(Clone, Copy, Debug, PartialEq, Eq)]
 pub enum Chomp {
     /// `-`: none of them is content.
     Strip,
     /// No sign: the last content line's break is content.
     Clip,
-    /// `+`: that break and the empty lines behind it are content.
+    /// `+`: that break and the empty lines after it are content.
     Keep,
 }
 

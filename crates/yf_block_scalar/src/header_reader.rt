@@ -14,7 +14,7 @@ use crate::rest::{Rest, line_rest};
 use yf_chars::text::stands;
 use yf_comments::comment::Comment;
 
-/// A header that was read, with the comment behind it and the byte offset of the line behind it.
+/// A header that was read, with the comment after it and the byte offset of the line after it.
 #[derive(Debug, Drop)]
 pub struct HeaderLine<'a> {
     pub header: Header,
@@ -22,7 +22,7 @@ pub struct HeaderLine<'a> {
     pub end: usize,
 }
 
-// The indicators of a header, and the offset behind them.
+// The indicators of a header, and the offset after them.
 #[derive(Clone, Copy)]
 struct Marks {
     digit: Option<u8>,

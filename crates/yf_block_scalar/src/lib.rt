@@ -11,7 +11,5 @@ pub mod read;
 pub mod reader;
 mod rest;
 mod rows;
-#[cfg(test)]
-mod tests;
 mod trail;
 pub mod write;

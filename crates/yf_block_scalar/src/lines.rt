@@ -4,7 +4,7 @@ ghost use Rattle.std.specs.Prelude.{◌≡◌, [], ◌∷◌, ◌++◌, length, 
 use std::alloc::{AllocError, Global};
 use std::marker::Model;
 
-/// The lines of a block scalar without their indentation and breaks, from the first one behind the header to the last
+/// The lines of a block scalar without their indentation and breaks, from the first one after the header to the last
 /// content line; an empty line is empty. They are slices of the source. In a contract it is the list of their bytes.
 #[derive(Debug, Drop)]
 pub struct Lines<'a> {

@@ -29,10 +29,10 @@ pub fn read_header<'a>(src: &Src<'a>, at: usize) -> Option<HeaderLine<'a>>
     }
 }
 
-/// Reads a block scalar behind its header (YAML 1.2.2, sections 8.1.1.1, 8.1.2 and 8.1.3): the content lines and the empty
-/// lines among them, the tail, and the comment lines behind it.
+/// Reads a block scalar after its header (YAML 1.2.2, sections 8.1.1.1, 8.1.2 and 8.1.3): the content lines and the empty
+/// lines among them, the tail, and the comment lines after it.
 ///
-/// `line` is the index of the line behind the header, and `n` the indentation of the collection around the scalar, from
+/// `line` is the index of the line after the header, and `n` the indentation of the collection around the scalar, from
 /// -1. `None` where a line of spaces alone before the content has more spaces than the content. A scalar with a content
 /// line can be written by `write_block`.
 ///
@@ -56,7 +56,7 @@ pub fn read_body<'a>(
     }
 }
 
-// The byte offset where the line begins; behind the last line, the text's length.
+// The byte offset where the line begins; after the last line, the text's length.
 fn offset_of_line(src: &Src, line: usize) -> usize
     requires { line ≤ length src.now.lines }
     ensures value { result ≡ line_offset src.now line }

@@ -16,7 +16,7 @@ use crate::trail::read_trail;
 use std::alloc::{AllocError, Global};
 use yf_comments::comments::Separation;
 
-// Whether a comment directly behind so many empty lines of a scalar's tail has a blank line before it: the empty lines of
+// Whether a comment directly after so many empty lines of a scalar's tail has a blank line before it: the empty lines of
 // a kept tail are content.
 fn is_gap(chomp: Chomp, count: usize) -> bool
     ensures { result ≡ is_gap_tail chomp count }
@@ -66,7 +66,7 @@ fn read_indented<'a>(
     })
 }
 
-// Reads what is left of a scalar without content, behind its empty lines.
+// Reads what is left of a scalar without content, after its empty lines.
 fn read_bare<'a>(
     alloc: Global,
     s: &'a str,
@@ -103,10 +103,10 @@ fn read_bare<'a>(
     })
 }
 
-/// Reads the lines of a block scalar behind its header: its content lines and the empty lines among them, its tail, and
-/// the comment lines behind it.
+/// Reads the lines of a block scalar after its header: its content lines and the empty lines among them, its tail, and
+/// the comment lines after it.
 ///
-/// `at` is the byte offset where the line behind the header begins, and `n` the indentation of the collection around the
+/// `at` is the byte offset where the line after the header begins, and `n` the indentation of the collection around the
 /// scalar, from -1. `None` where a line of spaces alone before the content has more spaces than the content.
 ///
 /// # Errors

@@ -13,7 +13,7 @@ use yf_comments::blank::is_blank_before;
 use yf_comments::comment::Comment;
 use yf_lines::basic::{line_break, skip_whites};
 
-// The rest of a line: its comment, if it has one, and the offset behind its break.
+// The rest of a line: its comment, if it has one, and the offset after its break.
 #[derive(Drop)]
 pub(crate) struct Rest<'a> {
     pub(crate) comment: Option<Comment<'a>>,

@@ -13,14 +13,14 @@ use yf_chars::classes::is_nb_char;
 use yf_chars::text::peek;
 use yf_lines::basic::{line_break, marker_stands, skip_spaces};
 
-// A line of spaces alone: how many they are, and the offset behind its break.
+// A line of spaces alone: how many they are, and the offset after its break.
 #[derive(Drop)]
 pub(crate) struct SpacePart {
     pub(crate) width: usize,
     pub(crate) next: usize,
 }
 
-// A content line: the offset where its text ends, the one behind its break, and whether the text ends there.
+// A content line: the offset where its text ends, the one after its break, and whether the text ends there.
 #[derive(Drop)]
 pub(crate) struct ContentPart {
     pub(crate) end: usize,
@@ -28,7 +28,7 @@ pub(crate) struct ContentPart {
     pub(crate) open_end: bool,
 }
 
-// The lines up to the last content line, whether that one is open, how many empty lines follow it, and the offset behind
+// The lines up to the last content line, whether that one is open, how many empty lines follow it, and the offset after
 // them.
 #[derive(Drop)]
 pub(crate) struct Rows<'a> {
@@ -38,7 +38,7 @@ pub(crate) struct Rows<'a> {
     pub(crate) next: usize,
 }
 
-// The offset behind all nb-chars that stand at the offset.
+// The offset after all nb-chars that stand at the offset.
 pub(crate) fn skip_nb_chars(s: &str, at: usize) -> usize
     requires { IsCharBoundary s.now at }
     ensures chars { (x : List ℕ) × Many s.now is_nb_char at result x }
@@ -78,7 +78,7 @@ pub(crate) fn space_line(s: &str, at: usize) -> Option<SpacePart>
     }
 }
 
-// Reads an empty line: that many spaces alone at most, with their break. The offset behind it.
+// Reads an empty line: that many spaces alone at most, with their break. The offset after it.
 pub(crate) fn empty_line(s: &str, at: usize, indent: usize) -> Option<usize>
     requires { IsCharBoundary s.now at }
     ensures reads { MatchOption result ((m j : ℕ) → SpaceLine s.now at m j → m ≤ indent → ⊥) (λ j. (m : ℕ) × (m ≤ indent) × SpaceLine s.now at m j) }

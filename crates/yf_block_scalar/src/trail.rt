@@ -1,4 +1,4 @@
-//! The comment lines behind a block scalar (YAML 1.2.2, section 8.1.1.2).
+//! The comment lines after a block scalar (YAML 1.2.2, section 8.1.1.2).
 ghost use Rattle.std.specs.Prelude.{◌≡◌, ◌<◌, [], List, length, IfOk};
 ghost use Rattle.std.specs.Str.{IsCharBoundary};
 ghost use Rattle.yf_lines.specs.Basic.{LineStart};
@@ -51,7 +51,7 @@ fn no_comments<'a>(alloc: Global, at: usize) -> Separation<'a>
 }
 
 // Reads the comment lines that belong to a scalar of that indentation (l-trail-comments, production 169); the first of
-// them is noted to stand behind a blank line or not.
+// them is noted to stand after a blank line or not.
 pub(crate) fn read_trail<'a>(
     alloc: Global,
     s: &'a str,

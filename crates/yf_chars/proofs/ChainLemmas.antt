@@ -27,7 +27,7 @@ data Starts {A : Type 0} (S : ℕ → ℕ → List A → Type 0) : ℕ → ℕ �
   stays : {i : ℕ} → Starts S i i []
   moves : {i h j : ℕ} {x y : List A} → S i h x → Chain S h j y → Starts S i j (x ++ y)
 
--- of two chains from one place one is the front of the other
+-- of two chains from one place one is the prefix of the other
 pub data Meets {A : Type 0} (S : ℕ → ℕ → List A → Type 0) (j k : ℕ) (x y : List A) : Type 0 where
   goes_on : (z : List A) → Chain S j k z → y ≡ x ++ z → Meets S j k x y
   falls_short : (z : List A) → Chain S k j z → x ≡ y ++ z → Meets S j k x y

@@ -256,7 +256,7 @@ escape_unique {t} {i} {j} {k} {v} {w} a b =
     let same : j ≡ k = omega arith in
     (same, (escape_chosen b).only v (subst (λ m. Escape t i m v) same a))
 
--- it begins with a backslash, moves on, and no line break stands behind the backslash
+-- it begins with a backslash, moves on, and no line break stands after the backslash
 pub escape_backslash : {t : List ℕ} {i j v : ℕ} → Escape t i j v → code t i ≡ 92
 escape_backslash (by_letter b e) = b
 escape_backslash (by_two n) = n.backslash

@@ -106,7 +106,7 @@ back_four c f = record { holds = holds } where
       let sum : (0 * 256 + c / 256) * 256 + c % 256 ≡ c = omega arith in
       as_escape (by_four (record { backslash = first.0.char; letter = second.0.char; digits = subst (λ v. Digits t (i + 2) 4 v) sum low.0 }) (four_high c f))
 
-plain_char : (c : ℕ) → c < 0x110000 → (c < 0xD800) ⊎ (0xE000 ≤ c) → short_name c ≡ None → is_by_two c ≡ false → is_by_four c ≡ false → is_nb_char c ≡ true
+pub plain_char : (c : ℕ) → c < 0x110000 → (c < 0xD800) ⊎ (0xE000 ≤ c) → short_name c ≡ None → is_by_two c ≡ false → is_by_four c ≡ false → is_nb_char c ≡ true
 unfolding short_name is_by_two is_by_four is_nb_char is_printable is_break_char is_between
 plain_char c b s n e f = grind (arith, nat_tests)
 

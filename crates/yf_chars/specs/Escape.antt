@@ -5,7 +5,7 @@ use Rattle.std.specs.Char.{digit_value}
 use Rattle.yf_chars.specs.Text.{code}
 use Rattle.yf_chars.specs.Class.{is_between}
 
--- what a single letter behind the backslash stands for
+-- what a single letter after the backslash stands for
 unfoldable pub named : ℕ → Option ℕ
 named c =
     if c == 48 then Some 0x00 else
@@ -56,7 +56,7 @@ joined high low = 0x10000 + (high - 0xD800) * 0x400 + (low - 0xDC00)
 pub record NoLow (t : List ℕ) (i : ℕ) : Type 0 where
   pub none : (v : ℕ) → Numbered t i 117 4 v → is_low v ≡ true → ⊥
 
--- c-ns-esc-char: the escape from i to j stands for the number v. A high half by \u and a low half by \u directly behind
+-- c-ns-esc-char: the escape from i to j stands for the number v. A high half by \u and a low half by \u directly after
 -- it are one escape.
 pub data Escape (t : List ℕ) : ℕ → ℕ → ℕ → Type 0 where
   by_letter : {i v : ℕ} → code t i ≡ 92 → named (code t (i + 1)) ≡ Some v → Escape t i (i + 2) v

@@ -1,5 +1,5 @@
 -- A text is the list of its bytes, and a place in it is a byte offset. The words below hide UTF-8 from all that stands
--- above: the character that begins at an offset, the offset behind it, and the character that ends at an offset.
+-- above: the character that begins at an offset, the offset after it, and the character that ends at an offset.
 use Rattle.std.specs.Prelude.{◌≡◌, ℕ, ◌+◌, ◌<◌, ◌≤◌, Bool, List, [], ◌∷◌, ◌++◌, ◌&&◌, ◌||◌, nat_lt, nat_le, length, take, drop, slice_index, if◌then◌else◌, encode_utf8}
 use Rattle.std.specs.Char.{len_utf8}
 use Rattle.std.specs.Str.{chars, IsCharBoundary}
@@ -24,7 +24,7 @@ begins t i = nat_lt i (length t) && (nat_lt (slice_index t i) 128 || nat_le 192 
 unfoldable pub code : List ℕ → ℕ → ℕ
 code t i = if begins t i then first_or_none (chars (drop i t)) else no_char
 
--- the offset behind the character that begins at the offset
+-- the offset after the character that begins at the offset
 unfoldable pub next : List ℕ → ℕ → ℕ
 next t i = i + len_utf8 (code t i)
 

@@ -6,6 +6,7 @@ use crate::context::Ctx;
 
 /// A printable character (c-printable, production 1).
 #[tactic(auto, unfolding(crate::specs::Class::is_printable, crate::specs::Class::is_between))]
+#[inline]
 pub fn is_printable(c: char) -> bool
     ensures { result ≡ Class.is_printable c }
 {
@@ -14,6 +15,7 @@ pub fn is_printable(c: char) -> bool
 
 /// A character that a quoted scalar may hold as itself (nb-json, production 2): a tab or anything from a space on.
 #[tactic(auto, unfolding(crate::specs::Class::is_nb_json, crate::specs::Class::is_between))]
+#[inline]
 pub fn is_nb_json(c: char) -> bool
     ensures { result ≡ Class.is_nb_json c }
 {
@@ -22,6 +24,7 @@ pub fn is_nb_json(c: char) -> bool
 
 /// A character of a line break (b-char, production 26): line feed or carriage return.
 #[tactic(auto, unfolding(crate::specs::Class::is_break_char))]
+#[inline]
 pub fn is_break_char(c: char) -> bool
     ensures { result ≡ Class.is_break_char c }
 {
@@ -29,14 +32,15 @@ pub fn is_break_char(c: char) -> bool
 }
 
 /// A printable character that is no line break and no byte order mark (nb-char, production 27).
-#[tactic(auto, unfolding(crate::specs::Class::is_nb_char))]
+#[tactic(auto, unfolding(crate::specs::Class::is_nb_char, crate::specs::Class::is_printable, crate::specs::Class::is_between, crate::specs::Class::is_break_char))]
+#[inline]
 pub fn is_nb_char(c: char) -> bool
     ensures { result ≡ Class.is_nb_char c }
 {
+    if c <= '~' {
+        return c >= ' ' || c == '\t';
+    }
     if is_printable(c) {
-        if is_break_char(c) {
-            return false;
-        }
         return c != '\u{FEFF}';
     }
     false
@@ -44,22 +48,28 @@ pub fn is_nb_char(c: char) -> bool
 
 /// A white: space or tab (s-white, production 33).
 #[tactic(auto, unfolding(crate::specs::Class::is_white))]
+#[inline]
 pub fn is_white(c: char) -> bool
     ensures { result ≡ Class.is_white c }
 {
     matches!(c, ' ' | '\t')
 }
 
-/// A character of content that is no white (ns-char, production 34).
-#[tactic(auto, unfolding(crate::specs::Class::is_ns_char))]
+/// A character of content that is no white space (ns-char, production 34).
+#[tactic(auto, unfolding(crate::specs::Class::is_ns_char, crate::specs::Class::is_nb_char, crate::specs::Class::is_printable, crate::specs::Class::is_between, crate::specs::Class::is_break_char, crate::specs::Class::is_white))]
+#[inline]
 pub fn is_ns_char(c: char) -> bool
     ensures { result ≡ Class.is_ns_char c }
 {
-    if is_nb_char(c) { !is_white(c) } else { false }
+    if c <= '~' {
+        return c > ' ';
+    }
+    is_nb_char(c)
 }
 
 /// One of `,` `[` `]` `{` `}` (c-flow-indicator, production 23).
 #[tactic(auto, unfolding(crate::specs::Class::is_flow_indicator))]
+#[inline]
 pub fn is_flow_indicator(c: char) -> bool
     ensures { result ≡ Class.is_flow_indicator c }
 {
@@ -68,6 +78,7 @@ pub fn is_flow_indicator(c: char) -> bool
 
 /// An indicator (c-indicator, production 22).
 #[tactic(auto, unfolding(crate::specs::Class::is_indicator))]
+#[inline]
 pub fn is_indicator(c: char) -> bool
     ensures { result ≡ Class.is_indicator c }
 {
@@ -167,6 +178,7 @@ pub fn is_anchor_char(c: char) -> bool
 ///
 /// In the two block contexts there is none, since plain scalars are read in flow and key contexts alone.
 #[tactic(auto, unfolding(crate::specs::Class::is_plain_safe))]
+#[inline]
 pub fn is_plain_safe(c: char, ctx: Ctx) -> bool
     ensures { result ≡ Class.is_plain_safe c ctx }
 {

@@ -9,7 +9,7 @@ ghost use Rattle.yf_chars.specs.Spelled.{ReadsBack};
 use crate::error::NoMemory;
 use crate::text::{peek, stands};
 
-/// An escape that stands in a text: the number that it writes, and the byte offset behind it.
+/// An escape that stands in a text: the number that it writes, and the byte offset after it.
 ///
 /// The number need not be a character: half of a pair and numbers above U+10FFFF are given as they are.
 #[derive(Clone, Copy, Debug, PartialEq, Eq)]
@@ -20,7 +20,7 @@ pub struct Escape {
 
 /// Reads the escape (c-ns-esc-char, production 62) that begins with the backslash at the byte offset.
 ///
-/// `None` where no escape stands there. `\u` with a high surrogate and `\u` with a low one directly behind it are one
+/// `None` where no escape stands there. `\u` with a high surrogate and `\u` with a low one directly after it are one
 /// escape, for the one character that the pair encodes in UTF-16.
 pub fn read_escape(s: &str, at: usize) -> Option<Escape>
     ensures reads { MatchOption result (Stuck (Escapes.Escape s.now at)) (λ e. Chosen (Escapes.Escape s.now at) e.end e.value) }
@@ -53,7 +53,7 @@ pub fn read_escape(s: &str, at: usize) -> Option<Escape>
     }
 }
 
-// The escape that begins with that number by \u: with the low half of a pair that may stand behind it.
+// The escape that begins with that number by \u: with the low half of a pair that may stand after it.
 fn paired(s: &str, at: usize, value: u32) -> Escape
     requires number { Escapes.Numbered s.now at 117 4 value }
     requires behind { IsCharBoundary s.now (at + 6) }
@@ -94,7 +94,7 @@ fn is_low(value: u32) -> bool
     matches!(value, 0xDC00..=0xDFFF)
 }
 
-// What a single letter behind the backslash stands for.
+// What a single letter after the backslash stands for.
 #[tactic(auto, unfolding(crate::specs::Escape::named))]
 fn named(letter: char) -> Option<u32>
     ensures { result ≡ Escapes.named letter }
@@ -290,47 +290,4 @@ fn is_by_four(c: char) -> bool
         c,
         '\u{2028}' | '\u{2029}' | '\u{FEFF}' | '\u{FFFE}' | '\u{FFFF}'
     )
-}
-
-#[cfg(test)]
-mod tests {
-    use super::*;
-    use std::test::Fail;
-
-    #[test]
-    fn spells_characters(rt: HostRuntime) -> Result<(), Fail> {
-        let mut out = String::new(rt.alloc());
-        for c in ['\u{7}', '\u{2028}', '"', 'e'] {
-            assert!(rt; push_escaped(&mut out, c).is_ok());
-        }
-        assert_eq!(rt; out.as_str(), "\\x07\\u2028\\\"e");
-        Ok(())
-    }
-
-    #[test]
-    fn reads_escapes(rt: HostRuntime) -> Result<(), Fail> {
-        assert_eq!(rt;
-            read_escape("\\ud83d\\ude00", 0),
-            Some(Escape {
-                value: 0x1F600,
-                end: 12
-            })
-        );
-        assert_eq!(rt;
-            read_escape("\\ud83d", 0),
-            Some(Escape {
-                value: 0xD83D,
-                end: 6
-            })
-        );
-        assert_eq!(rt;
-            read_escape("\\/", 0),
-            Some(Escape {
-                value: 0x2F,
-                end: 2
-            })
-        );
-        assert_eq!(rt; read_escape("\\x4", 0), None);
-        Ok(())
-    }
 }

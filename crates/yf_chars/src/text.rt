@@ -3,9 +3,10 @@ ghost use Rattle.std.specs.Prelude.{◌≡◌, ◌≢◌, ◌+◌, ◌<◌, ◌�
 ghost use Rattle.std.specs.Str.{IsCharBoundary};
 ghost use Rattle.yf_chars.specs.Text.{code, before, no_char, Reads};
 
-/// The character that begins at the byte offset, and the offset behind it; `None` at the end of the text.
+/// The character that begins at the byte offset, and the offset after it; `None` at the end of the text.
 ///
 /// ASCII takes one test and no decoding.
+#[inline]
 pub fn peek(s: &str, at: usize) -> Option<(char, usize)>
     requires { IsCharBoundary s.now at }
     ensures { MatchOption result ((code s.now at ≡ no_char) × (at ≡ length s.now)) (λ p. Reads s.now at p.0 p.1) }
@@ -25,6 +26,7 @@ pub fn peek(s: &str, at: usize) -> Option<(char, usize)>
 }
 
 /// Whether that ASCII character begins at the byte offset.
+#[inline]
 pub fn stands(s: &str, at: usize, byte: u8) -> bool
     requires { byte < 128 }
     ensures value { result ≡ (code s.now at == byte) }

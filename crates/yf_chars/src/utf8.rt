@@ -26,22 +26,3 @@ pub fn check_utf8(bytes: &[u8]) -> Result<&str, BadByte>
         }),
     }
 }
-
-#[cfg(test)]
-mod tests {
-    use super::*;
-
-    #[test]
-    fn takes_text(rt: HostRuntime) {
-        assert_eq!(rt; check_utf8(b"a\xC3\xA9\n"), Ok("a\u{E9}\n"));
-        assert_eq!(rt; check_utf8(b""), Ok(""));
-    }
-
-    #[test]
-    fn names_the_end_of_the_longest_front(rt: HostRuntime) {
-        assert_eq!(rt; check_utf8(b"a\xFF"), Err(BadByte { offset: 1 }));
-        assert_eq!(rt; check_utf8(b"\xF0\x9F\x98"), Err(BadByte { offset: 0 }));
-        assert_eq!(rt; check_utf8(b"a\n\xFF"), Err(BadByte { offset: 2 }));
-        assert_eq!(rt; check_utf8(b"ab\xED\xA0\x80c"), Err(BadByte { offset: 2 }));
-    }
-}

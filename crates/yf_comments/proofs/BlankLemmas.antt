@@ -1,4 +1,4 @@
--- Going back from a place over whites, breaks and marks.
+-- Going back from a place over white space, breaks and marks.
 use Rattle.std.proofs.Common.{◌≡◌, ◌≢◌, ℕ, ◌+◌, ◌-◌, ◌<◌, ◌≤◌, Bool, true, false, ◌⊎◌, inl, inr, ⊎_elim, List, refl, sym, ap, ◌∙◌, subst, arith, true≢false, MatchBool}
 use Rattle.std.proofs.lemmas.Bool.{cases_eq, cases_lt, cases_Bool, ne_eqb, eqb-true}
 use Rattle.std.specs.Char.{len_utf8}
@@ -18,7 +18,7 @@ break_char_cases : (c : ℕ) → is_break_char c ≡ true → (c ≡ 10) ⊎ (c 
 unfolding is_break_char
 break_char_cases c e = ⊎_elim (λ (h : c ≡ 10). inl h) (λ (n : c ≢ 10). inr (eqb-true c 13 (rw (ne_eqb c 10 n) at e))) (cases_eq c 10)
 
-gap_cases : (c : ℕ) → is_gap c ≡ true → ((is_white c ≡ true) ⊎ ((c ≡ 10) ⊎ (c ≡ 13))) ⊎ (c ≡ 0xFEFF)
+pub gap_cases : (c : ℕ) → is_gap c ≡ true → ((is_white c ≡ true) ⊎ ((c ≡ 10) ⊎ (c ≡ 13))) ⊎ (c ≡ 0xFEFF)
 unfolding is_gap
 gap_cases c e =
     ⊎_elim (λ (w : is_white c ≡ true). inl (inl w))
@@ -27,7 +27,7 @@ gap_cases c e =
     (cases_Bool (is_break_char c)))
     (cases_Bool (is_white c))
 
-gap_of_white : (c : ℕ) → is_white c ≡ true → is_gap c ≡ true
+pub gap_of_white : (c : ℕ) → is_white c ≡ true → is_gap c ≡ true
 unfolding is_gap
 gap_of_white c e = rw e
 
@@ -46,7 +46,16 @@ gap_mark : is_gap 0xFEFF ≡ true
 unfolding is_gap is_white is_break_char
 gap_mark = refl
 
-gap_below : (c : ℕ) → is_gap c ≡ true → c < no_char
+pub gap_of_mark : (c : ℕ) → c ≡ 0xFEFF → is_gap c ≡ true
+gap_of_mark c e = ap is_gap e ∙ gap_mark
+
+pub gap_of_lf : (c : ℕ) → c ≡ 10 → is_gap c ≡ true
+gap_of_lf c e = ap is_gap e ∙ gap_lf
+
+pub gap_of_cr : (c : ℕ) → c ≡ 13 → is_gap c ≡ true
+gap_of_cr c e = ap is_gap e ∙ gap_cr
+
+pub gap_below : (c : ℕ) → is_gap c ≡ true → c < no_char
 gap_below c e =
     ⊎_elim (λ (h : (is_white c ≡ true) ⊎ ((c ≡ 10) ⊎ (c ≡ 13))).
     ⊎_elim (λ (w : is_white c ≡ true). let l = white_below c w in omega arith)
@@ -54,14 +63,14 @@ gap_below c e =
     (λ (m : c ≡ 0xFEFF). omega arith)
     (gap_cases c e)
 
-white_not : (c d : ℕ) → is_white d ≡ false → is_white c ≡ true → c ≢ d
+pub white_not : (c d : ℕ) → is_white d ≡ false → is_white c ≡ true → c ≢ d
 white_not c d f e s = true≢false (sym e ∙ ap is_white s ∙ f)
 
-white_lf : is_white 10 ≡ false
+pub white_lf : is_white 10 ≡ false
 unfolding is_white
 white_lf = refl
 
-white_cr : is_white 13 ≡ false
+pub white_cr : is_white 13 ≡ false
 unfolding is_white
 white_cr = refl
 
@@ -70,7 +79,7 @@ unfolding is_white
 white_mark = refl
 
 -- two characters that end at one place begin at one place
-same_place : (t : List ℕ) (i k : ℕ) → IsUtf8 t → code t i < no_char → code t k < no_char → next t i ≡ next t k → i ≡ k
+pub same_place : (t : List ℕ) (i k : ℕ) → IsUtf8 t → code t i < no_char → code t k < no_char → next t i ≡ next t k → i ≡ k
 unfolding next
 same_place t i k u a b e =
     let r = reads_real t i u a in
@@ -94,21 +103,21 @@ last_below : {t : List ℕ} {i j : ℕ} → (b : Last t i j) → code t b.place 
 last_below b = ⊎_elim (λ (l : _ ≡ 10). omega arith) (λ (r : _ ≡ 13). omega arith) b.char
 
 -- what stands before a place
-data BlankView (t : List ℕ) (j : ℕ) : Type 0 where
+pub data BlankView (t : List ℕ) (j : ℕ) : Type 0 where
   text_view : j ≡ 0 → BlankView t j
   break_view : (i : ℕ) → Break t i j → BlankView t j
   white_view : (i : ℕ) → Blank t i → is_white (code t i) ≡ true → next t i ≡ j → BlankView t j
 
-blank_view : {t : List ℕ} {j : ℕ} → Blank t j → BlankView t j
+pub blank_view : {t : List ℕ} {j : ℕ} → Blank t j → BlankView t j
 blank_view text_begins = text_view refl
 blank_view (break_ends {i = i} b) = break_view i b
 blank_view (white_ends {i = i} b e) = white_view i b e refl
 
-data BeforeView (t : List ℕ) (j : ℕ) : Type 0 where
+pub data BeforeView (t : List ℕ) (j : ℕ) : Type 0 where
   line_view : (i : ℕ) → Blank t i → Break t i j → BeforeView t j
   gap_view : (i : ℕ) → BlankBefore t i → is_gap (code t i) ≡ true → next t i ≡ j → BeforeView t j
 
-before_view : {t : List ℕ} {j : ℕ} → BlankBefore t j → BeforeView t j
+pub before_view : {t : List ℕ} {j : ℕ} → BlankBefore t j → BeforeView t j
 before_view (blank_line {i = i} b k) = line_view i b k
 before_view (past_gap {i = i} b e) = gap_view i b e refl
 
@@ -118,7 +127,7 @@ Outside t j = code t j ≡ 10 → code t (j - 1) ≢ 13
 
 module _ (t : List ℕ) (u : IsUtf8 t) where
   -- another character than a break's, at whose end no break ends
-  not_last : {i j : ℕ} (q : ℕ) → code t q < no_char → next t q ≡ j → code t q ≢ 10 → code t q ≢ 13 → Break t i j → ⊥
+  pub not_last : {i j : ℕ} (q : ℕ) → code t q < no_char → next t q ≡ j → code t q ≢ 10 → code t q ≢ 13 → Break t i j → ⊥
   not_last q l e n m b =
       let a = break_last b in
       let same : a.place ≡ q = same_place t a.place q u (last_below a) l (a.ends ∙ sym e) in
@@ -168,7 +177,7 @@ module _ (t : List ℕ) (u : IsUtf8 t) where
   inside l (lone_lf p q) b = let f = break_forward b in absurd (omega arith)
 
   -- two breaks that end at one place are one
-  start_unique : {i h j : ℕ} → Break t i j → Break t h j → i ≡ h
+  pub start_unique : {i h j : ℕ} → Break t i j → Break t h j → i ≡ h
   start_unique {i} {h} {j} a b =
       ⊎_elim (λ (l : i < h). absurd (inside l a b))
       (λ (l : h ≤ i). ⊎_elim (λ (m : h < i). absurd (inside m b a)) (λ (m : i ≤ h). omega arith) (cases_lt h i))
@@ -251,7 +260,7 @@ module _ (t : List ℕ) (u : IsUtf8 t) where
         let s : i ≡ j - 1 = omega arith in
         true≢false (sym v ∙ ap (λ k. is_white (code t k)) s ∙ w)
 
--- what is left to find from a place on: a blank line, or what begins a line of which whites and a break stand behind
+-- what is left to find from a place on: a blank line, or what begins a line of which white space and a break stand after
 abbrev pub Ends : List ℕ → ℕ → Bool → Type 0
 Ends t j true = Blank t j ⊎ BlankBefore t j
 Ends t j false = BlankBefore t j

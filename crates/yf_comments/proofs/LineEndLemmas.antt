@@ -24,7 +24,7 @@ module _ {t : List ℕ} where
   rest_line l (whites s e) = whites_line s e
   rest_line l (comment s c e) = comment_line s c e
 
-  -- behind it a line begins, or nothing is left
+  -- after it a line begins, or nothing is left
   pub rest_next : {i j : ℕ} {x : List CommentValue} → LineRest t i j x → LineStart t j ⊎ (j ≡ length t)
   rest_next (nothing e) = end_next e
   rest_next (whites s e) = end_next e

@@ -99,7 +99,7 @@ module _ {t : List ℕ} where
   separate_whites (by_whites {x = x} m l) = (x, m)
   separate_whites (at_start s) = ([], done)
 
--- a rest of a line by the place where its whites end
+-- a rest of a line by the place where its white space ends
 data RestView (t : List ℕ) : ℕ → ℕ → List CommentValue → Type 0 where
   bare_view : {i h j : ℕ} {w : List ℕ} → Many t is_white i h w → BreakOrEnd t h j → RestView t i j []
   comment_view : {i h k j : ℕ} {w : List ℕ} {x : List CommentValue} → Many t is_white i h w → CommentText t h k x → BreakOrEnd t k j → RestView t i j x
@@ -178,7 +178,7 @@ module _ {t : List ℕ} where
   pub rest_at_end : {i j : ℕ} {x : List CommentValue} → LineRest t i j x → i ≡ length t → i < j → ⊥
   rest_at_end r e l = view_at_end (rest_view r) e l
 
-  -- whites that stand where the rest begins end before the rest does, or with it at the end of the text
+  -- white space that stands where the rest begins end before the rest does, or with it at the end of the text
   view_tail : {i j k : ℕ} {w : List ℕ} {x : List CommentValue} → Many t is_white i j w → RestView t i k x
       → (j ≤ k) × (j ≡ k → (x ≡ []) × (k ≡ length t))
   view_tail {j = j} {k = k} {w = w} m (bare_view {h = h} n e) =
@@ -228,7 +228,7 @@ module _ {t : List ℕ} where
       → Nowhere (BreakOrEnd t h) → Stuck (LineRest t i)
   stuck_behind_whites s w n none = record { none = λ j y r. view_bare (separate_whites s).1 w n none (rest_view r) }
 
-  -- neither whites nor the start of a line
+  -- neither white space nor the start of a line
   pub no_separation : {i j : ℕ} → is_white (code t i) ≡ false → (LineStart t i → ⊥) → SeparateInLine t i j → ⊥
   no_separation {i} {j} w n (by_whites {x = x} m l) =
       let c = (many_chosen t is_white (done {i = i}) w).longest j x m in

@@ -1,4 +1,4 @@
--- The longest separation: behind the last line at whose start there is enough indentation.
+-- The longest separation: after the last line at whose start there is enough indentation.
 use Rattle.std.proofs.Common.{◌≡◌, ◌≢◌, ℕ, ℤ, pos, ◌<ℤ◌, suc, zero, ◌+◌, ◌<◌, ◌≤◌, true, false, ◌⊎◌, inl, inr, ⊎_elim, List, [], ◌∷◌, ◌++◌, length, refl, sym, ap, ◌∙◌, subst, arith, append-nil, add-zero, true≢false}
 use Rattle.std.proofs.lemmas.Bool.{cases_lt, cases_Bool}
 use Rattle.std.proofs.lemmas.Int.{ints}
@@ -26,7 +26,7 @@ use Rattle.yf_comments.specs.Comments.Upto.{upto_line, upto_lines}
 use Rattle.yf_comments.proofs.RowLemmas.{rest_tail, row_functional, separate_whites, no_separation, end_white, rest_moves, stuck_at_solid}
 use Rattle.yf_comments.proofs.LineEndLemmas.{line_end_rows, lines_rows, rows_ended, rows_line_end, row_stuck}
 
--- spaces, indentation and the prefix of a flow line are whites
+-- spaces, indentation and the prefix of a flow line are white space
 module _ (t : List ℕ) where
   pub spaces_whites : (i k : ℕ) → Spaces t i k → (w : List ℕ) × Many t is_white i (i + k) w
   spaces_whites i zero s = ([], subst (λ v. Many t is_white i v []) (sym (add-zero i)) done)
@@ -65,7 +65,7 @@ module _ {t : List ℕ} where
   still done l = (refl, refl)
   still (step r c) l = let a = r.later in let b = chain_forward row_functional c in absurd (omega arith)
 
-  -- the tail behind an earlier row ends no later, and where it ends there it has the same comments
+  -- the tail after an earlier row ends no later, and where it ends there it has the same comments
   tail_behind : {h j q e : ℕ} {w v : List ℕ} {y z : List CommentValue} → Many t is_white h j w → h ≤ q → Many t is_white q e v
       → is_white (code t e) ≡ false → Meets (Row t) h q y z → (j ≤ e) × (j ≡ e → z ≡ y)
   tail_behind {y = y} m l n s (goes_on x c f) =
@@ -88,7 +88,7 @@ module _ {t : List ℕ} where
   split r (goes_on z c e) = inl (chain_forward row_functional c)
   split r (falls_short z c e) = past r c
 
--- a tail of whites behind rows
+-- a tail of white space after rows
 record Tail (t : List ℕ) (i p j : ℕ) (y : List CommentValue) : Type 0 where
   place : ℕ
   rows : Chain (Row t) i place y
@@ -145,9 +145,9 @@ chosen_along {j = j} {x = x} f g c = record {
 stuck_along : {X : Type 0} {P Q : ℕ → X → Type 0} → ((k : ℕ) (y : X) → Q k y → P k y) → Stuck P → Stuck Q
 stuck_along g s = record { none = λ k y d. s.none k y (g k y d) }
 
--- indentation and whites, as a reader finds them
+-- indentation and white space, as a reader finds them
 module _ {t : List ℕ} where
-  -- whites behind a part of them
+  -- white space after a part of them
   rest_of_whites : {i h e : ℕ} {x y : List ℕ} → Many t is_white i h x → Many t is_white i e y → is_white (code t e) ≡ false
       → (w : List ℕ) × Many t is_white h e w
   rest_of_whites {i} {h} {e} {x} {y} m n s = behind (chain_meet (one_functional t is_white) m n) where
@@ -226,7 +226,7 @@ module _ {t : List ℕ} where
   prefix_at_end {n} {i} e (indented d) = indent_at_end e d
   prefix_at_end e (set_off d s) = indent_at_end e d
 
-  -- neither whites nor the start of a line, and a character
+  -- neither white space nor the start of a line, and a character
   pub stuck_first : {n : ℤ} {i : ℕ} → Nowhere (SeparateInLine t i) → i ≢ length t → Stuck (Upto t n i i)
   stuck_first s f = record { none = λ j x d. no_upto s (λ h y e l k p. f (end_stays s e l)) d }
 
@@ -327,13 +327,13 @@ module _ {t : List ℕ} {n : ℤ} {c : Ctx} {i : ℕ} where
   pub node_stuck : is_key c ≡ false → Stuck (SeparateLines t n i) → Stuck (Separate t n c i)
   node_stuck k d = stuck_along (λ j y u. by_lines k u) d
 
--- a character that begins neither whites nor a comment nor the end of a line
+-- a character that begins neither white space nor a comment nor the end of a line
 pub record Solid (t : List ℕ) (k : ℕ) : Type 0 where
   pub not_white : is_white (code t k) ≡ false
   pub no_comment : code t k ≢ 35
   pub no_end : Nowhere (BreakOrEnd t k)
 
--- a separation as a tail of whites behind rows
+-- a separation as a tail of white space after rows
 record Separated (t : List ℕ) (i j : ℕ) (y : List CommentValue) : Type 0 where
   place : ℕ
   rows : Chain (Row t) i place y

@@ -8,7 +8,7 @@ use Rattle.yf_chars.specs.Chain.{Chain, Many}
 use Rattle.yf_lines.specs.Basic.{is_key, Break, LineStart, SeparateInLine, FlowPrefix}
 use Rattle.yf_comments.specs.Comment.{CommentValue}
 
--- nothing but whites stands before the place on its line, no byte order mark either
+-- nothing but white space stands before the place on its line, no byte order mark either
 pub data Blank (t : List ℕ) : ℕ → Type 0 where
   text_begins : Blank t 0
   break_ends : {i j : ℕ} → Break t i j → Blank t j
@@ -18,7 +18,7 @@ pub data Blank (t : List ℕ) : ℕ → Type 0 where
 unfoldable pub is_gap : ℕ → Bool
 is_gap c = is_white c || is_break_char c || (c == 0xFEFF)
 
--- going back from the place over whites, breaks and marks, a line of whites alone is met
+-- going back from the place over white space, breaks and marks, a line of white space alone is met
 pub data BlankBefore (t : List ℕ) : ℕ → Type 0 where
   blank_line : {i j : ℕ} → Blank t i → Break t i j → BlankBefore t j
   past_gap : {i : ℕ} → BlankBefore t i → is_gap (code t i) ≡ true → BlankBefore t (next t i)
@@ -28,7 +28,7 @@ pub data Noted (t : List ℕ) (i : ℕ) : Bool → Type 0 where
   noted : BlankBefore t i → Noted t i true
   not_noted : (BlankBefore t i → ⊥) → Noted t i false
 
--- c-nb-comment-text: # and the characters behind it, up to the break or the first that is none of a comment
+-- c-nb-comment-text: # and the characters after it, up to the break or the first that is none of a comment
 pub data CommentText (t : List ℕ) : ℕ → ℕ → List CommentValue → Type 0 where
   comment_text : {i j : ℕ} {x : List ℕ} {b : Bool} → code t i ≡ 35 → Many t is_nb_char (i + 1) j x → Noted t i b
       → CommentText t i j (record { text = slice_range t i j; offset = i; blank_before = b } ∷ [])
@@ -44,7 +44,7 @@ pub data LineRest (t : List ℕ) : ℕ → ℕ → List CommentValue → Type 0 
   whites : {i h j : ℕ} → SeparateInLine t i h → BreakOrEnd t h j → LineRest t i j []
   comment : {i h k j : ℕ} {x : List CommentValue} → SeparateInLine t i h → CommentText t h k x → BreakOrEnd t k j → LineRest t i j x
 
--- l-comment: a line of whites, or of whites and a comment
+-- l-comment: a line of white space, or of white space and a comment
 pub data CommentLine (t : List ℕ) : ℕ → ℕ → List CommentValue → Type 0 where
   whites_line : {i h j : ℕ} → SeparateInLine t i h → BreakOrEnd t h j → CommentLine t i j []
   comment_line : {i h k j : ℕ} {x : List CommentValue} → SeparateInLine t i h → CommentText t h k x → BreakOrEnd t k j → CommentLine t i j x
@@ -69,7 +69,7 @@ pub record Row (t : List ℕ) (i j : ℕ) (x : List CommentValue) : Type 0 where
   pub rest : LineRest t i j x
   pub later : i < j
 
--- what a reader has kept: rows from i to j, whose comments stand in the list b behind those of a
+-- what a reader has kept: rows from i to j, whose comments stand in the list b after those of a
 pub record Kept (t : List ℕ) (i j : ℕ) (a b : List CommentValue) : Type 0 where
   pub more : List CommentValue
   pub rows : Chain (Row t) i j more

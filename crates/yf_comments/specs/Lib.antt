@@ -1,2 +1,3 @@
 pub mod Comment
 pub mod Comments
+pub mod GapLines

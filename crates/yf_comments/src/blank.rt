@@ -29,7 +29,7 @@ fn break_before(s: &str, at: usize) -> Option<usize>
     None
 }
 
-/// Whether, going back from the offset over whites, line breaks and byte order marks, a line of whites alone is met.
+/// Whether, going back from the offset over white space, line breaks and byte order marks, a line of white space alone is met.
 ///
 /// The walk ends at the first other character, so walks from different comments do not overlap.
 pub fn is_blank_before(s: &str, at: usize) -> bool
@@ -37,7 +37,7 @@ pub fn is_blank_before(s: &str, at: usize) -> bool
     ensures { MatchBool result (BlankBefore s.now at) (BlankBefore s.now at → ⊥) }
 {
     let mut place = at;
-    // whether whites alone stand between the place and a line break
+    // whether white space alone stands between the place and a line break
     let mut blank = false;
     'back: while place > 0 {
         if white_stands(s, place - 1) {

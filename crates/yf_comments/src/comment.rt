@@ -1,11 +1,11 @@
 //! One comment of a text.
 
-/// A comment (c-nb-comment-text, production 75): its text from the `#` on, without the line break behind it.
+/// A comment (c-nb-comment-text, production 75): its text from the `#` on, without the line break after it.
 #[derive(Clone, Copy, Debug)]
 pub struct Comment<'a> {
     pub text: &'a str,
     /// The byte offset of the `#`.
     pub offset: usize,
-    /// Whether a line of whites alone stands before the comment, with nothing but whites and line breaks between.
+    /// Whether a line of white space alone stands before the comment, with nothing but white space and line breaks between.
     pub blank_before: bool,
 }

@@ -6,7 +6,7 @@ use crate::comment::Comment;
 use std::alloc::{AllocError, Global};
 use std::marker::Model;
 
-/// What was read: the comments in it, and the offset behind it.
+/// What was read: the comments in it, and the offset after it.
 #[derive(Debug, Drop)]
 pub struct Separation<'a> {
     pub comments: Comments<'a>,

@@ -7,5 +7,3 @@ pub mod comments;
 pub mod lines;
 pub mod read;
 pub mod separation;
-#[cfg(test)]
-mod tests;

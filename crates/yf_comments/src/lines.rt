@@ -16,21 +16,21 @@ use yf_chars::classes::is_nb_char;
 use yf_chars::text::{peek, stands};
 use yf_lines::basic::{is_line_start, line_break, skip_whites};
 
-// A comment that was read, and the offset behind it.
+// A comment that was read, and the offset after it.
 #[derive(Clone, Copy)]
 struct CommentPart<'a> {
     comment: Comment<'a>,
     end: usize,
 }
 
-// The rest of a line that was read: its comment, if it has one, and the offset behind its break.
+// The rest of a line that was read: its comment, if it has one, and the offset after its break.
 #[derive(Clone, Copy)]
 struct Row<'a> {
     comment: Option<Comment<'a>>,
     end: usize,
 }
 
-// The offset behind all characters of a comment that stand at the offset.
+// The offset after all characters of a comment that stand at the offset.
 fn skip_nb_chars(s: &str, at: usize) -> usize
     requires { IsCharBoundary s.now at }
     ensures chars { (x : List ℕ) × Many s.now is_nb_char at result x }
@@ -86,7 +86,7 @@ fn break_or_end(s: &str, at: usize) -> Option<usize>
     }
 }
 
-// Reads what is left of a line behind its whites: a comment, if there is one, and a break or the end of the text.
+// Reads what is left of a line after its white space: a comment, if there is one, and a break or the end of the text.
 fn past_whites<'a>(s: &'a str, at: usize, place: usize) -> Option<Row<'a>>
     requires boundary { IsCharBoundary s.now place }
     requires separate { SeparateInLine s.now at place }
@@ -112,7 +112,7 @@ fn past_whites<'a>(s: &'a str, at: usize, place: usize) -> Option<Row<'a>>
     }
 }
 
-// Reads what is left of a line: whites, a comment where a white or the start of the line stands before it, and a break
+// Reads what is left of a line: white space, a comment where white space or the start of the line stands before it, and a break
 // or the end of the text (s-b-comment, production 77).
 fn line_rest<'a>(s: &'a str, at: usize, starts: bool) -> Option<Row<'a>>
     requires boundary { IsCharBoundary s.now at }
@@ -136,7 +136,7 @@ fn line_rest<'a>(s: &'a str, at: usize, starts: bool) -> Option<Row<'a>>
     }
 }
 
-// Reads what is left of a line, and keeps its comment; the offset behind it, or `None`, with no comment kept.
+// Reads what is left of a line, and keeps its comment; the offset after it, or `None`, with no comment kept.
 pub(crate) fn next_row<'a>(
     s: &'a str,
     at: usize,
@@ -188,7 +188,7 @@ fn comment_lines<'a>(
     Ok(end)
 }
 
-/// Reads the end of a line and the comment lines behind it (s-l-comments, production 79): as much as there is.
+/// Reads the end of a line and the comment lines after it (s-l-comments, production 79): as much as there is.
 ///
 /// What is left of the line may hold a comment; at the start of a line there need be nothing at all.
 /// `None` where neither the rest of a line nor the start of one is there, as between the CR and the LF of one break.

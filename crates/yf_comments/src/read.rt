@@ -12,7 +12,7 @@ use yf_chars::context::Ctx;
 use yf_lines::fault::Fault;
 use yf_lines::source_text::Src;
 
-/// Reads the end of a line and the comment lines behind it (s-l-comments, production 79), from a byte offset on: as much
+/// Reads the end of a line and the comment lines after it (s-l-comments, production 79), from a byte offset on: as much
 /// as there is, with all comments in order.
 ///
 /// `None` where the production derives nothing, as between the CR and the LF of one break.

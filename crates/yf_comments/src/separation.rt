@@ -21,7 +21,7 @@ struct Reach {
     count: usize,
 }
 
-/// Reads whites, or nothing at the start of a line (s-separate-in-line, production 66): as many as there are.
+/// Reads white space, or nothing at the start of a line (s-separate-in-line, production 66): as many as there are.
 pub fn separate_in_line(s: &str, at: usize) -> Option<usize>
     requires { IsCharBoundary s.now at }
     ensures reads { MatchOption result (Nowhere (SeparateInLine s.now at)) (λ e. Farthest (SeparateInLine s.now at) e) }
@@ -38,7 +38,7 @@ pub fn separate_in_line(s: &str, at: usize) -> Option<usize>
     None
 }
 
-/// Reads the prefix of a line in flow (s-flow-line-prefix(n), production 69), with all whites behind the indentation.
+/// Reads the prefix of a line in flow (s-flow-line-prefix(n), production 69), with all white space after the indentation.
 pub fn flow_line_prefix(s: &str, at: usize, width: usize) -> Option<usize>
     requires { IsCharBoundary s.now at }
     ensures reads { MatchOption result (Nowhere (FlowPrefix s.now (pos width) at)) (λ e. Farthest (FlowPrefix s.now (pos width) at) e) }
@@ -85,7 +85,7 @@ fn first_reach(s: &str, at: usize, width: usize) -> Option<Reach>
     None
 }
 
-// How far a separation goes from there, behind rows of comments, which it keeps all.
+// How far a separation goes from there, after rows of comments, which it keeps all.
 fn last_reach<'a>(
     s: &'a str,
     at: usize,
@@ -150,7 +150,7 @@ pub fn separate_lines<'a>(
 
 /// Reads a separation (s-separate(n,c), production 80): the longest, with its comments.
 ///
-/// In the two key contexts, and where `n` is negative, it is whites alone, or nothing at the start of a line.
+/// In the two key contexts, and where `n` is negative, it is white space alone, or nothing at the start of a line.
 pub fn separate<'a>(
     alloc: Global,
     s: &'a str,

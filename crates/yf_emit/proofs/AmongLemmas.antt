@@ -1,10 +1,10 @@
 -- Where the events of a part of a tree stand among all events.
-use Rattle.std.proofs.Common.{◌≡◌, ℕ, zero, suc, ◌+◌, List, [], ◌∷◌, ◌++◌, length, map, Option, Some, refl, sym, ap, ◌∙◌, append_assoc}
+use Rattle.std.proofs.Common.{◌≡◌, ℕ, ◌+◌, List, [], ◌∷◌, ◌++◌, length, map, Some, refl, sym, ap, ◌∙◌, append_assoc}
 use Rattle.std.specs.Prelude.{slice_get}
 use Rattle.std.proofs.lemmas.List.{length-append}
 use Rattle.yf_events.specs.Event.{Placed}
 use Rattle.yf_emit.specs.Keys.{NodeAt}
-use Rattle.yf_emit.specs.Tree.{Node, flat}
+use Rattle.yf_events.specs.Tree.{Node, flat}
 
 -- these events stand from the index on
 pub record Among (es ys : List Placed) (i : ℕ) : Type 0 where

@@ -122,7 +122,7 @@ cut_nowhere (b ∷ bs) e = by_byte (b == 10) refl (λ f. cut_nowhere bs f) where
   by_byte true f g = let none = rw f at e in absurd (omega (arith, none))
   by_byte false f g = let all = rw f at e in rw (f, g (omega (arith, all))) refl
 
--- a line printed, and the lines behind it
+-- a line printed, and the lines after it
 pub one_line : {now : List ℕ} (done : List ℕ) (f : List ℕ → List ℕ) (line : List ℕ) (ls all : List (List ℕ)) (whole : List ℕ)
     → all ≡ line ∷ ls → now ≡ done ++ ended (f line) → done ++ flat_map ended (map f all) ≡ whole → now ++ flat_map ended (map f ls) ≡ whole
 one_line done f line ls all whole e g h =
@@ -138,7 +138,7 @@ pub if_last_line : (now : List ℕ) (r : Result (Unit {0}) AllocError) (done : L
 if_last_line now (Ok x) done f line all whole e g h = last_line done f line all whole e g h
 if_last_line now (Err x) done f line all whole e g h = tt
 
--- a text behind a line feed
+-- a text after a line feed
 pub behind_feed : {rest : List ℕ} (bs : List ℕ) → IsUtf8 bs → rest ≡ after_first is_feed bs → position_or_len is_feed bs < length bs → IsUtf8 rest
 behind_feed bs u e l =
     let at = position_or_len is_feed bs in

@@ -1,12 +1,11 @@
 -- How many events a node has, and how many forms.
 use Rattle.std.proofs.Common.{◌≡◌, ℕ, suc, ◌+◌, Bool, true, false, List, [], ◌∷◌, ◌++◌, length, refl, sym, ap, ◌∙◌}
-use Rattle.std.specs.Prelude.{replicate}
 use Rattle.std.proofs.lemmas.List.{length-append, length-replicate}
 use Rattle.yf_events.specs.Event.{Placed, sequence_starts, sequence_ends, mapping_starts, mapping_ends}
 use Rattle.yf_emit.specs.declared.decide.Form.{Form}
 use Rattle.yf_emit.specs.Forms.{Site, site_at, key_site, value_site, forms, forms_of_items, forms_of_pairs, forms_within, no_form, form_of, is_kept_at}
-use Rattle.yf_emit.specs.Normal.{Setting, Spot, styled, styled_items, styled_pairs, inner_spot}
-use Rattle.yf_emit.specs.Tree.{Node, scalar, alias, sequence, mapping, Items, no_items, item, Pairs, no_pairs, pair, flat, flat_items, flat_pairs, placed, unplaced}
+use Rattle.yf_emit.specs.Normal.{Setting, styled, styled_items, styled_pairs, inner_spot}
+use Rattle.yf_events.specs.Tree.{Node, scalar, alias, sequence, mapping, Items, no_items, item, Pairs, no_pairs, pair, flat, flat_items, flat_pairs, placed, unplaced}
 
 pub two_counts : {X Y : Type 0} (vs bs : List X) (xs ys : List Y) → length vs ≡ length xs → length bs ≡ length ys → length (vs ++ bs) ≡ length (xs ++ ys)
 two_counts vs bs xs ys a b =

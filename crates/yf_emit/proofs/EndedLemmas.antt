@@ -14,7 +14,7 @@ use Rattle.yf_emit.specs.Measures.{up_to_greatest, width_if, joined_width, leaf_
 use Rattle.yf_emit.specs.Measuring.{joined_sum, opened, closed, have_texts, ended_scalar, ended_alias, leaf_if}
 use Rattle.yf_emit.specs.Normal.{Setting, styled, styled_items, styled_pairs}
 use Rattle.yf_emit.specs.OneLine.{width, spaced, written, more_items, more_pairs, props_text}
-use Rattle.yf_emit.specs.Tree.{Standing, scalar, alias, sequence, mapping, Items, no_items, item, Pairs, no_pairs, pair, flat, flat_items, flat_pairs}
+use Rattle.yf_events.specs.Tree.{Standing, scalar, alias, sequence, mapping, Items, no_items, item, Pairs, no_pairs, pair, flat, flat_items, flat_pairs}
 use Rattle.yf_emit.proofs.WidthLemmas.{cut_first, width_join, width_head, width_nil, utf8_head, joined_spaced}
 use Rattle.yf_emit.proofs.TreeTexts.{written_utf8, texts_join, pair_texts, items_utf8, pairs_utf8}
 use Rattle.yf_emit.proofs.SumLemmas.{ended_of, filled, first_item_in, first_pair_in, items_in, pairs_in, pair_text, pair_utf8, with_items, with_pairs}

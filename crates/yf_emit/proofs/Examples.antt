@@ -15,7 +15,7 @@ use Rattle.yf_emit.specs.declared.style.Style.{Style}
 use Rattle.yf_emit.specs.ContentStart.{property_len, gap_len, past_gap, past_second, content_start}
 use Rattle.yf_emit.specs.Layout.{Remark, layout}
 use Rattle.yf_emit.specs.Normal.{setting_of, normal_document}
-use Rattle.yf_emit.specs.Tree.{Standing, Node, scalar, sequence, mapping, Items, no_items, item, Pairs, no_pairs, pair, DocumentTree}
+use Rattle.yf_events.specs.Tree.{Standing, Node, scalar, sequence, mapping, Items, no_items, item, Pairs, no_pairs, pair, DocumentTree}
 
 -- settings
 

@@ -3,18 +3,17 @@ use Rattle.std.proofs.Common.{◌≡◌, ℕ, zero, suc, ◌+◌, ◌<◌, Bool,
 use Rattle.std.specs.Prelude.{◌||◌, ◌==◌, replicate, if◌then◌else◌}
 use Rattle.std.proofs.lemmas.Bool.{and_parts, cases_Bool}
 use Rattle.std.proofs.lemmas.Bool.Decides.{nat_tests}
-use Rattle.std.proofs.lemmas.List.{length-append, length-replicate}
 use Rattle.yf_props.specs.Props.{PropsValue}
 use Rattle.yf_events.specs.Event.{document_ends}
 use Rattle.yf_events.specs.declared.lists.Lists.{Lists}
 use Rattle.yf_emit.specs.declared.decide.Form.{Form}
 use Rattle.yf_emit.specs.declared.style.Style.{Style}
-use Rattle.yf_emit.specs.Forms.{Site, site_at, key_site, value_site, forms, forms_of_items, forms_of_pairs, forms_within, no_form, is_kept_at, document_forms, stream_forms}
+use Rattle.yf_emit.specs.Forms.{Site, site_at, key_site, value_site, forms, forms_of_items, forms_of_pairs, forms_within, no_form, document_forms, stream_forms}
 use Rattle.yf_emit.specs.ImplicitKeys.{begins_implicit}
 use Rattle.yf_emit.specs.Keys.{keys, keys_of_items, keys_of_pairs, keys_of_documents, block_keys}
 use Rattle.yf_emit.specs.Normal.{Setting, Spot, root_spot, inner_spot, key_spot, value_spot, is_implicit, fits, settled, settled_items, settled_pairs, styled, normal_document, setting_of}
-use Rattle.yf_emit.specs.Tree.{Standing, Node, scalar, alias, sequence, mapping, Items, no_items, item, Pairs, no_pairs, pair, DocumentTree, flat, flat_items, flat_pairs, flat_document, unplaced}
-use Rattle.yf_emit.proofs.CountLemmas.{two_counts, forms_count, items_forms, pairs_forms}
+use Rattle.yf_events.specs.Tree.{Standing, Node, scalar, alias, sequence, mapping, Items, no_items, item, Pairs, no_pairs, pair, DocumentTree, flat, flat_items, flat_pairs, flat_document, unplaced}
+use Rattle.yf_emit.proofs.CountLemmas.{two_counts, forms_count}
 use Rattle.yf_emit.proofs.SettledLemmas.{settled_count, settled_key, settled_value_entries, keys_by_entries}
 
 -- the index of each form, and whether it is of an implicit key

@@ -1,11 +1,11 @@
 -- The pass over the events of a node notes the forms of the node.
-use Rattle.std.proofs.Common.{◌≡◌, ℕ, zero, suc, ◌+◌, ◌-◌, ◌<◌, ◌≤◌, Bool, true, false, ◌&&◌, List, [], ◌∷◌, ◌++◌, length, get_or, Option, Some, None, refl, sym, ap, ◌∙◌, subst, ⊎_elim, arith, append_assoc, append-nil}
+use Rattle.std.proofs.Common.{◌≡◌, ℕ, suc, ◌+◌, ◌-◌, ◌≤◌, Bool, true, false, List, [], ◌∷◌, ◌++◌, length, get_or, Option, Some, None, refl, sym, ap, ◌∙◌, subst, ⊎_elim, arith, append_assoc, append-nil}
 use Rattle.std.specs.Prelude.{replicate, if◌then◌else◌, ◌==◌}
 use Rattle.std.proofs.lemmas.Bool.{and_parts, cases_Bool}
 use Rattle.std.proofs.lemmas.Bool.Decides.{nat_tests}
 use Rattle.std.proofs.lemmas.List.{length-append, length-replicate}
 use Rattle.std.proofs.lemmas.Option.{get_or_from_slice_get}
-use Rattle.yf_events.specs.Event.{EventValue, Placed, sequence_starts, sequence_ends, mapping_starts, mapping_ends}
+use Rattle.yf_events.specs.Event.{Placed, sequence_starts, sequence_ends, mapping_starts, mapping_ends}
 use Rattle.yf_props.specs.Props.{PropsValue}
 use Rattle.yf_emit.specs.declared.decide.Form.{Form}
 use Rattle.yf_emit.specs.declared.decide.Key.{Key}
@@ -16,11 +16,11 @@ use Rattle.yf_emit.specs.Deciding.{Given, given, State, state, next, pass, past,
 use Rattle.yf_emit.specs.Forms.{Site, site_at, key_site, value_site, forms, forms_of_items, forms_of_pairs, no_form, form_of, forms_within, is_kept_at, is_placed, items_are_placed, pairs_are_placed}
 use Rattle.yf_emit.specs.Measures.{Measured, measure_of, up_to_greatest, no_measure, leaf_indices, first_of}
 use Rattle.yf_emit.specs.Normal.{Setting, styled, styled_items, styled_pairs, inner_spot}
-use Rattle.yf_emit.specs.Tree.{Standing, Node, scalar, alias, sequence, mapping, Items, no_items, item, Pairs, no_pairs, pair, flat, flat_items, flat_pairs, placed, unplaced, is_text}
+use Rattle.yf_events.specs.Tree.{Standing, Node, scalar, alias, sequence, mapping, Items, no_items, item, Pairs, no_pairs, pair, flat, flat_items, flat_pairs, placed, unplaced, is_text}
 use Rattle.yf_emit.proofs.AmongLemmas.{Among, node_at, front, back, behind_first}
 use Rattle.yf_emit.proofs.LeafLemmas.{is_own_leaf}
 use Rattle.yf_emit.proofs.CountLemmas.{node_forms, items_count, pairs_count, items_forms, pairs_forms}
-use Rattle.yf_emit.proofs.PlaceLemmas.{place_of, Waits, key_there, key_waits, value_there, item_there}
+use Rattle.yf_emit.proofs.PlaceLemmas.{place_of, key_there, key_waits, value_there, item_there}
 use Rattle.yf_emit.proofs.RunLemmas.{looked_at, passed_over}
 use Rattle.yf_emit.proofs.SiteLemmas.{is_kept_there}
 use Rattle.yf_emit.proofs.ValueLemmas.{event_of}
@@ -86,7 +86,7 @@ past_node g (mapping at flow props pairs) i m list stack = refl
 abbrev level_at : Known → Site → Node → Level
 level_at k site x = record { is_map = is_map x; column = up_to_greatest site.spot.entries; key = None }
 
--- at its site, where the stack behind it is that one
+-- at its site, where the stack after it is that one
 pub record AtSite (k : Known) (x : Node) (i : ℕ) (stack behind : List Level) (site : Site) : Type 0 where
   pub place : next_place (given_of k) (event_of x) i (measure_of k.text k.by i x) stack ≡ place_of site
   pub stack_is : next_stack (given_of k) (event_of x) i (measure_of k.text k.by i x) stack ≡ behind

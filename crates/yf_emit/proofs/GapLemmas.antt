@@ -1,4 +1,4 @@
--- Laws of the whites, line breaks and comments that stand at the head of a list.
+-- Laws of the white space, line breaks and comments that stand at the head of a list.
 use Rattle.std.proofs.Common.{◌≡◌, ◌≢◌, ℕ, suc, ◌+◌, ◌<◌, ◌≤◌, Bool, true, false, List, [], ◌∷◌, length, take, drop, get_or, min, max, ⊎_elim, ap, ◌∙◌, sym, subst, refl, arith, add-one, drop-cons}
 use Rattle.std.proofs.lemmas.Bool.{ne_eqb, cases_lt}
 use Rattle.std.proofs.lemmas.List.{take_min, length-take, get_or-take, drop_all}
@@ -33,7 +33,7 @@ pub gap_none : (k : Bool) (b : ℕ) (bs : List ℕ) → b ≢ 10 → b ≢ 13 �
 unfolding gap_len is_break_char is_white
 gap_none k b bs m n f s h d = rw (f, ne_eqb b 10 m, ne_eqb b 13 n, ne_eqb b 32 s, ne_eqb b 9 h, ne_eqb b 35 d) refl
 
--- the byte of that index is the first of those from it on, in the front of a list
+-- the byte of that index is the first of those from it on, in the prefix of a list
 pub drop_front : (xs : List ℕ) (n i : ℕ) → i < min n (length xs) → drop i (take (min n (length xs)) xs) ≡ get_or xs i 0 ∷ drop (i + 1) (take (min n (length xs)) xs)
 drop_front xs n i h =
     let ys = take (min n (length xs)) xs in
@@ -41,7 +41,7 @@ drop_front xs n i h =
     let e : get_or ys i 0 ≡ get_or xs i 0 = get_or-take (min n (length xs)) xs i 0 h in
     subst (λ k. drop i ys ≡ get_or ys i 0 ∷ drop k ys) (sym (add-one i)) (drop-cons ys i 0 (omega (arith, l, h))) ∙ ap (λ b. b ∷ drop (i + 1) ys) e
 
--- one byte of the gap, and the byte behind it
+-- one byte of the gap, and the byte after it
 pub gap_more : (xs : List ℕ) (n i m : ℕ) (k d : Bool) → i < min n (length xs) → m ≡ i + gap_len k (drop i (take (min n (length xs)) xs))
     → ((bs : List ℕ) → gap_len k (get_or xs i 0 ∷ bs) ≡ suc (gap_len d bs)) → m ≡ i + 1 + gap_len d (drop (i + 1) (take (min n (length xs)) xs))
 gap_more xs n i m k d h e f =
@@ -54,7 +54,7 @@ gap_over xs n i m k h e f =
     let g = ap (gap_len k) (drop_front xs n i h) ∙ f (drop (i + 1) (take (min n (length xs)) xs)) in
     omega (arith, e, g)
 
--- behind the end stands nothing
+-- after the end stands nothing
 gap_of_none : (k : Bool) → gap_len k [] ≡ 0
 unfolding gap_len
 gap_of_none k = refl

@@ -1,20 +1,16 @@
 -- The first comment of a kind, as an index, as the comment itself, and as halving finds it.
-use Rattle.std.proofs.Common.{◌≡◌, ℕ, zero, suc, ◌<◌, ◌≤◌, Bool, true, false, not, ◌&&◌, List, [], ◌∷◌, length, map, Option, Some, None, refl, sym, ap, ◌∙◌, arith}
-use Rattle.std.specs.Prelude.{get_or, ◌^◌, ◌-◌, ◌+◌, min, nat_lt, nat_le, find, if◌then◌else◌, is_some, option_map, slice_get, MatchOption, IfSome}
+use Rattle.std.proofs.Common.{◌≡◌, ℕ, zero, suc, ◌<◌, ◌≤◌, Bool, true, false, ◌&&◌, List, [], ◌∷◌, length, map, Option, Some, None, refl, sym, ◌∙◌, arith}
+use Rattle.std.specs.Prelude.{◌^◌, ◌-◌, ◌+◌, min, nat_lt, nat_le, find, if◌then◌else◌, is_some, option_map, MatchOption, IfSome}
 use Rattle.std.specs.List.{AllWithin, HoldsAt}
 use Rattle.std.specs.List.Sorted.{IsNonDecreasingBy}
 use Rattle.std.proofs.lemmas.Bool.Decides.{nat_tests}
-use Rattle.std.proofs.lemmas.List.{get_or-map, length-map}
 use Rattle.yf_comments.specs.Comment.{CommentValue, comment_value}
 use Rattle.yf_comments.specs.declared.comment.Comment.{Comment}
 use Rattle.yf_emit.proofs.OffsetLemmas.{same_order}
-use Rattle.yf_emit.specs.Forms.{first_index, index_between, key_comment_index}
+use Rattle.yf_emit.specs.Forms.{first_index}
 use Rattle.yf_emit.specs.Kept.{is_within}
-use Rattle.yf_emit.specs.Measures.{up_to_greatest}
-use Rattle.yf_emit.specs.Normal.{key_comment, first_between, key_start}
-use Rattle.yf_emit.specs.Tree.{Node, leaves, is_text, is_filled_flow}
 
--- behind an offset is from the next one on, cut or not
+-- after an offset is from the next one on, cut or not
 behind : (a x to n : ℕ) → a ≤ 2 ^ 64 - 1 → to ≤ 2 ^ 64 - 1 → n ≡ min (a + 1) (2 ^ 64 - 1) → (nat_le n x && nat_lt x to) ≡ (nat_lt a x && nat_lt x to)
 behind a x to n g h e = grind (arith, nat_tests)
 
@@ -54,7 +50,7 @@ found_index : (p : CommentValue → Bool) (xs : List Comment) (r : Option ℕ) �
 found_index p xs None l h = sym (none_index p xs h)
 found_index p xs (Some k) l h = sym (some_index p xs k l h.0 h.1)
 
--- what halving finds behind an offset and before another one
+-- what halving finds after an offset and before another one
 pub between_is : (xs : List Comment) (from to n : ℕ) (r : Option ℕ)
     → IsNonDecreasingBy (λ (c : CommentValue). c.offset) (map comment_value xs) → from ≤ 2 ^ 64 - 1 → to ≤ 2 ^ 64 - 1 → n ≡ min (from + 1) (2 ^ 64 - 1)
     → IfSome r (λ k. k < length xs)

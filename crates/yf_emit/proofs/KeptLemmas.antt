@@ -14,11 +14,11 @@ use Rattle.yf_emit.specs.declared.style.Style.{Style}
 use Rattle.yf_emit.specs.Keys.{AddsKept, NodeAt, kept_text_of}
 use Rattle.yf_emit.specs.Kept.{may_be_kept, items_may_be_kept, pairs_may_be_kept, scalar_may_be_kept, has_comment}
 use Rattle.yf_emit.specs.declared.measure.Measure.{Measure}
-use Rattle.yf_emit.specs.Measures.{IsKeptText, Measured, TellsKept, measure_of, no_measure}
+use Rattle.yf_emit.specs.Measures.{Measured, TellsKept, measure_of, no_measure}
 use Rattle.yf_emit.proofs.OneLineRuns.{flat_filled}
 use Rattle.yf_emit.specs.Normal.{Setting, styled, styled_items, styled_pairs}
 use Rattle.yf_emit.specs.OneLine.{bare}
-use Rattle.yf_emit.specs.Tree.{Standing, Node, scalar, alias, sequence, mapping, Items, no_items, item, Pairs, no_pairs, pair, flat, is_collection, is_filled_flow}
+use Rattle.yf_events.specs.Tree.{Standing, Node, scalar, alias, sequence, mapping, Items, no_items, item, Pairs, no_pairs, pair, flat, is_collection, is_filled_flow}
 use Rattle.yf_emit.specs.Wanted.{quoted_in, style_in, wanted}
 
 -- A kept collection's text as an answer

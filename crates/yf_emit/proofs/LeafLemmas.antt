@@ -1,16 +1,16 @@
 -- Where the leaves of a node begin, by the indices of their events.
-use Rattle.std.proofs.Common.{◌≡◌, ℕ, zero, suc, ◌+◌, ◌<◌, Bool, true, false, not, ◌&&◌, List, [], ◌∷◌, ◌++◌, length, map, Option, Some, None, refl, sym, ap, ◌∙◌, arith}
+use Rattle.std.proofs.Common.{◌≡◌, ℕ, ◌+◌, ◌<◌, Bool, true, false, ◌&&◌, List, [], ◌∷◌, ◌++◌, length, map, Option, Some, None, refl, sym, ap, ◌∙◌, arith}
 use Rattle.std.specs.Prelude.{is_some, ◌==◌, nat_lt, if◌then◌else◌, slice_get}
 use Rattle.std.proofs.lemmas.Bool.{and_parts}
 use Rattle.std.proofs.lemmas.Bool.Decides.{nat_tests}
-use Rattle.std.proofs.lemmas.List.{length-append, map-append}
-use Rattle.yf_events.specs.Event.{Placed, sequence_starts, sequence_ends, mapping_starts, mapping_ends}
+use Rattle.std.proofs.lemmas.List.{map-append}
+use Rattle.yf_events.specs.Event.{Placed, sequence_ends, mapping_ends}
 use Rattle.yf_events.specs.declared.event.Span.{Span}
 use Rattle.yf_emit.specs.Deciding.{leaf_start, start_of_span, start_or, is_leaf_at}
 use Rattle.yf_emit.specs.Forms.{is_placed, items_are_placed, pairs_are_placed}
 use Rattle.yf_emit.specs.Measures.{leaf_indices, leaf_indices_of_items, leaf_indices_of_pairs, first_of, last_of}
 use Rattle.yf_emit.specs.Normal.{last_start}
-use Rattle.yf_emit.specs.Tree.{Standing, Node, scalar, alias, sequence, mapping, Items, no_items, item, Pairs, no_pairs, pair, flat, flat_items, flat_pairs, placed, unplaced, leaves, leaves_of_items, leaves_of_pairs, spans_of_leaf, is_text}
+use Rattle.yf_events.specs.Tree.{Node, scalar, alias, sequence, mapping, Items, no_items, item, Pairs, no_pairs, pair, flat, flat_items, flat_pairs, unplaced, leaves, leaves_of_items, leaves_of_pairs, spans_of_leaf, is_text}
 use Rattle.yf_emit.proofs.AmongLemmas.{Among, front, back, behind_first, first_at}
 
 abbrev starts_at : List Placed → List ℕ → List (Option ℕ)

@@ -1,6 +1,6 @@
 -- The innermost open collection, which is the last of the stack.
 use Rattle.std.proofs.Common.{◌≡◌, ℕ, ◌+◌, ◌-◌, ◌<◌, List, [], ◌∷◌, ◌++◌, length, set, get_or, reverse, refl, sym, ap, ◌∙◌, arith}
-use Rattle.std.specs.Prelude.{Option, Some, None, Bool, true, if◌then◌else◌}
+use Rattle.std.specs.Prelude.{Option, true}
 use Rattle.std.proofs.Math.Seq.{set-append_seam, get_or-append_seam}
 use Rattle.std.proofs.lemmas.List.{length-append, reverse-append}
 use Rattle.yf_events.specs.Event.{EventValue}

@@ -1,6 +1,10 @@
+pub mod AlikeForms
+pub mod AlikeLemmas
 pub mod AmongLemmas
 pub mod BlockLemmas
+pub mod BlockTexts
 pub mod CountLemmas
+pub mod DecoratedLemmas
 pub mod EndedLemmas
 mod Examples
 pub mod FlagLemmas
@@ -20,15 +24,15 @@ pub mod RestyledLemmas
 pub mod RunLemmas
 pub mod SettledLemmas
 mod ShownComments
+mod ShownDecos
 mod ShownKeys
 mod ShownNodes
 pub mod SiteLemmas
 pub mod StepLemmas
 pub mod StreamLemmas
 pub mod SumLemmas
-pub mod TreeLemmas
 pub mod TreeTexts
-pub mod TreesExist
+pub mod UniqueLemmas
 pub mod ValueLemmas
 pub mod WhiteLemmas
 pub mod WidthLemmas

@@ -12,7 +12,7 @@ use Rattle.yf_emit.specs.Keys.{NodeAt}
 use Rattle.yf_emit.specs.Measures.{Measured, measure_of, no_measure}
 use Rattle.yf_emit.specs.Measuring.{Found, found, opened, closed, handed, noted, popped, begun, passed, past, pass, have_texts, ended_scalar, ended_alias}
 use Rattle.yf_emit.specs.Normal.{Setting}
-use Rattle.yf_emit.specs.Tree.{Node, scalar, alias, sequence, mapping, flat}
+use Rattle.yf_events.specs.Tree.{Node, scalar, alias, sequence, mapping, flat}
 use Rattle.yf_emit.proofs.TreeTexts.{texts_join}
 use Rattle.yf_emit.proofs.SumLemmas.{ended_of}
 use Rattle.yf_emit.proofs.PassLemmas.{measures_in, node_passed}

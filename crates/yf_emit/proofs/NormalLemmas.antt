@@ -1,11 +1,11 @@
 -- The pass that writes the events of the normal form: of a node that begins outside of collections on one line it gives the events
 -- of the node with its forms settled, and within one those of the node with its styles.
-use Rattle.std.proofs.Common.{◌≡◌, ℕ, zero, suc, ◌+◌, ◌-◌, ◌<◌, ◌≤◌, Bool, true, false, not, ◌&&◌, ◌||◌, List, [], ◌∷◌, ◌++◌, length, map, replicate, get_or, Some, refl, sym, ap, ◌∙◌, subst, arith, append_assoc}
-use Rattle.std.specs.Prelude.{◌==◌, nat_lt, if◌then◌else◌, slice_get, is_some, drop}
+use Rattle.std.proofs.Common.{◌≡◌, ℕ, zero, suc, ◌+◌, ◌-◌, ◌<◌, ◌≤◌, Bool, true, false, not, ◌&&◌, ◌||◌, List, [], ◌∷◌, ◌++◌, length, map, replicate, get_or, Some, refl, sym, ap, ◌∙◌, subst, arith, append_assoc, add-one}
+use Rattle.std.specs.Prelude.{nat_lt, if◌then◌else◌, slice_get, drop}
 use Rattle.std.specs.List.{flat_map}
 use Rattle.std.proofs.lemmas.Bool.{and_parts}
 use Rattle.std.proofs.lemmas.Bool.Decides.{nat_tests}
-use Rattle.std.proofs.lemmas.List.{append-nil, drop-drop, drop_more, get_or-drop, length-append, replicate-append-replicate}
+use Rattle.std.proofs.lemmas.List.{append-nil, drop-drop, get_or-drop, length-append, replicate-append-replicate}
 use Rattle.yf_comments.specs.Comment.{CommentValue}
 use Rattle.yf_props.specs.Props.{PropsValue}
 use Rattle.yf_lines.specs.declared.quotes.Quotes.{Quotes}
@@ -17,11 +17,11 @@ use Rattle.yf_events.specs.declared.lists.Lists.{Lists}
 use Rattle.yf_emit.specs.Deciding.{is_leaf_at}
 use Rattle.yf_emit.specs.Forms.{Site, site_at, key_site, value_site, no_form, forms_within, forms, forms_of_items, forms_of_pairs, document_forms, stream_forms}
 use Rattle.yf_emit.specs.Kept.{has_comment, may_be_kept, items_may_be_kept, pairs_may_be_kept}
-use Rattle.yf_emit.specs.Measures.{up_to_greatest, Measured, measure_of, no_measure, first_of, leaf_indices, leaf_indices_of_items, leaf_indices_of_pairs}
+use Rattle.yf_emit.specs.Measures.{up_to_greatest, Measured, measure_of, no_measure, first_of, leaf_indices}
 use Rattle.yf_emit.specs.Normal.{Setting, root_spot, inner_spot, fits, styled, styled_items, styled_pairs, settled, settled_items, settled_pairs, normal_document, setting_of, Normal}
 use Rattle.yf_emit.specs.NormalEvents.{kept_until, is_flow_at, normal_from}
 use Rattle.yf_emit.specs.Restyled.{restyled, Restyled, none_left, one_more}
-use Rattle.yf_emit.specs.Tree.{Standing, Node, scalar, alias, sequence, mapping, Items, no_items, item, Pairs, no_pairs, pair, DocumentTree, placed, unplaced, flat, flat_items, flat_pairs, flat_document, flat_stream, TreesOf}
+use Rattle.yf_events.specs.Tree.{Standing, Node, scalar, alias, sequence, mapping, Items, no_items, item, Pairs, no_pairs, pair, DocumentTree, placed, unplaced, flat, flat_items, flat_pairs, flat_document, flat_stream, TreesOf}
 use Rattle.yf_emit.proofs.AmongLemmas.{Among, node_at, front, back, behind_first}
 use Rattle.yf_emit.proofs.LeafLemmas.{items_above, not_first, pairs_above, same}
 use Rattle.yf_emit.proofs.RestyledLemmas.{restyled_length}
@@ -35,7 +35,7 @@ pass_restyles q ms i u fs (e ∷ es) =
     one_more (is_flow_at i v (get_or ms i no_measure)) (pass_restyles q ms (i + 1) v (drop 1 fs) es)
 
 -- the pass makes the events ys of the events xs, which have these forms and stand from the index i on; before them the last kept
--- collection ends at the index u, and behind them at v
+-- collection ends at the index u, and after them at v
 pub record Becomes (q : Quotes) (ms : List Measure) (i u v : ℕ) (gs : List Form) (xs ys : List Placed) : Type 0 where
   pub is : (fs : List Form) (es : List Placed)
       → normal_from q ms i u (gs ++ fs) (xs ++ es) ≡ ys ++ normal_from q ms (i + length xs) v fs es
@@ -170,7 +170,7 @@ mutual
 
 -- Outside of collections on one line.
 
--- the same, where nothing is kept behind them
+-- the same, where nothing is kept after them
 record Outside (q : Quotes) (ms : List Measure) (i u : ℕ) (gs : List Form) (xs ys : List Placed) : Type 0 where
   until : ℕ
   ended : until ≤ i + length xs
@@ -391,16 +391,21 @@ normal_reading t r m s ms fs ds o d f e k = record {
 
 -- The pass as a loop.
 
-one_step : {X : Type 0} (q : Quotes) (ms : List Measure) (fs : List Form) (f : X → Placed) (xs : List X) (i u : ℕ) (x : X) → i < length xs
-    → x ≡ get_or xs i x → normal_from q ms i u (drop i fs) (map f (drop i xs))
-    ≡ restyled q (is_flow_at i (kept_until u (get_or ms i no_measure) (get_or fs i no_form)) (get_or ms i no_measure)) (f x)
-    ∷ normal_from q ms (i + 1) (kept_until u (get_or ms i no_measure) (get_or fs i no_form)) (drop (i + 1) fs) (map f (drop (i + 1) xs))
-one_step q ms fs f xs i u x l a =
-    ap (λ ys. normal_from q ms i u (drop i fs) (map f ys)) (drop_more xs i x l ∙ ap (λ y. y ∷ drop (i + 1) xs) (sym a))
+cut_at : (es : List Placed) (i : ℕ) (e : Placed) → slice_get es i ≡ Some e → drop i es ≡ e ∷ drop (suc i) es
+cut_at [] i e h = cc
+cut_at (x ∷ es) zero e h = ap (λ w. w ∷ es) (let same : x ≡ e = cc in same)
+cut_at (x ∷ es) (suc i) e h = cut_at es i e h
+
+one_step : (q : Quotes) (ms : List Measure) (fs : List Form) (es : List Placed) (i u : ℕ) (e : Placed) → slice_get es i ≡ Some e
+    → normal_from q ms i u (drop i fs) (drop i es)
+    ≡ restyled q (is_flow_at i (kept_until u (get_or ms i no_measure) (get_or fs i no_form)) (get_or ms i no_measure)) e
+    ∷ normal_from q ms (i + 1) (kept_until u (get_or ms i no_measure) (get_or fs i no_form)) (drop (i + 1) fs) (drop (i + 1) es)
+one_step q ms fs es i u e a =
+    ap (λ ys. normal_from q ms i u (drop i fs) ys) (cut_at es i e a ∙ ap (λ n. e ∷ drop n es) (sym (add-one i)))
     ∙ ap (λ g. by g (drop 1 (drop i fs))) same_form ∙ ap (λ gs. by (get_or fs i no_form) gs) (drop-drop 1 i fs) where
       by : Form → List Form → List Placed
-      by g gs = restyled q (is_flow_at i (kept_until u (get_or ms i no_measure) g) (get_or ms i no_measure)) (f x)
-          ∷ normal_from q ms (i + 1) (kept_until u (get_or ms i no_measure) g) gs (map f (drop (i + 1) xs))
+      by g gs = restyled q (is_flow_at i (kept_until u (get_or ms i no_measure) g) (get_or ms i no_measure)) e
+          ∷ normal_from q ms (i + 1) (kept_until u (get_or ms i no_measure) g) gs (drop (i + 1) es)
 
       here : i + 0 ≡ i
       here = omega arith
@@ -408,13 +413,13 @@ one_step q ms fs f xs i u x l a =
       same_form : get_or (drop i fs) 0 no_form ≡ get_or fs i no_form
       same_form = get_or-drop i fs 0 no_form ∙ ap (λ n. get_or fs n no_form) here
 
-pub pass_step : {X : Type 0} (q : Quotes) (ms : List Measure) (fs : List Form) (f : X → Placed) (xs : List X) (i u v : ℕ) (x : X) (m : Measure) (g : Form)
-    (b : Bool) (done : List Placed) (p : Placed) → i < length xs → x ≡ get_or xs i x → m ≡ get_or ms i no_measure → g ≡ get_or fs i no_form
-    → v ≡ kept_until u m g → b ≡ is_flow_at i v m → p ≡ restyled q b (f x)
-    → (done ++ (p ∷ [])) ++ normal_from q ms (i + 1) v (drop (i + 1) fs) (map f (drop (i + 1) xs)) ≡ done ++ normal_from q ms i u (drop i fs) (map f (drop i xs))
-pass_step q ms fs f xs i u v x m g b done p l a k n w c e =
-    append_assoc done (p ∷ []) _ ∙ ap (λ r. done ++ r) (sym (one_step q ms fs f xs i u x l a ∙ now)) where
-      now : restyled q (is_flow_at i (kept_until u (get_or ms i no_measure) (get_or fs i no_form)) (get_or ms i no_measure)) (f x)
-          ∷ normal_from q ms (i + 1) (kept_until u (get_or ms i no_measure) (get_or fs i no_form)) (drop (i + 1) fs) (map f (drop (i + 1) xs))
-          ≡ p ∷ normal_from q ms (i + 1) v (drop (i + 1) fs) (map f (drop (i + 1) xs))
+pub pass_step : (q : Quotes) (ms : List Measure) (fs : List Form) (es : List Placed) (i u v : ℕ) (x : Placed) (m : Measure) (g : Form)
+    (b : Bool) (done : List Placed) (p : Placed) → slice_get es i ≡ Some x → m ≡ get_or ms i no_measure → g ≡ get_or fs i no_form
+    → v ≡ kept_until u m g → b ≡ is_flow_at i v m → p ≡ restyled q b x
+    → (done ++ (p ∷ [])) ++ normal_from q ms (i + 1) v (drop (i + 1) fs) (drop (i + 1) es) ≡ done ++ normal_from q ms i u (drop i fs) (drop i es)
+pass_step q ms fs es i u v x m g b done p a k n w c e =
+    append_assoc done (p ∷ []) _ ∙ ap (λ r. done ++ r) (sym (one_step q ms fs es i u x a ∙ now)) where
+      now : restyled q (is_flow_at i (kept_until u (get_or ms i no_measure) (get_or fs i no_form)) (get_or ms i no_measure)) x
+          ∷ normal_from q ms (i + 1) (kept_until u (get_or ms i no_measure) (get_or fs i no_form)) (drop (i + 1) fs) (drop (i + 1) es)
+          ≡ p ∷ normal_from q ms (i + 1) v (drop (i + 1) fs) (drop (i + 1) es)
       now = rw (e, c, w, k, n) refl

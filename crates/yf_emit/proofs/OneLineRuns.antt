@@ -18,7 +18,7 @@ use Rattle.yf_emit.specs.Normal.{Setting, styled, styled_items, styled_pairs}
 use Rattle.yf_emit.specs.OneLine.{bare, written, more_items, more_pairs, spaced, space_behind, props_text, colon_behind, scalar_text}
 use Rattle.yf_emit.specs.OneLineRun.{separator, value_of, behind, added, next_open, run, between}
 use Rattle.yf_emit.specs.Rows.{is_empty_text}
-use Rattle.yf_emit.specs.Tree.{Standing, Node, scalar, alias, sequence, mapping, Items, no_items, item, Pairs, no_pairs, pair, is_collection, unplaced, flat, flat_items, flat_pairs, props_of}
+use Rattle.yf_events.specs.Tree.{Standing, Node, scalar, alias, sequence, mapping, Items, no_items, item, Pairs, no_pairs, pair, is_collection, unplaced, flat, flat_items, flat_pairs, props_of}
 use Rattle.yf_emit.specs.Wanted.{wanted, style_in}
 
 -- A node in a kept collection has a text
@@ -90,7 +90,7 @@ colon_is t c (alias at name) k = refl
 colon_is t c (sequence at flow props xs) k = refl
 colon_is t c (mapping at flow props ps) k = refl
 
--- Runs over the events of a node, of entries behind the first one, and of a key and its value
+-- Runs over the events of a node, of entries after the first one, and of a key and its value
 
 abbrev Runs : List ℕ → Setting → Node → Type 0
 Runs t c x = (f : Expected) (stack : List Expected) (es : List Placed)
@@ -314,7 +314,7 @@ run_step q stack next k last es v old new all h l a n i =
     rw (e1, e2) (append_assoc old (added q stack one.0.event) (run q (next_open stack one.0.event) (between (k + 1) last es))
     ∙ ap (λ w. old ++ run q stack w) (sym one.1) ∙ i)
 
--- nothing is left behind the last one, nor past the end
+-- nothing is left after the last one, nor past the end
 pub run_end : (q : Quotes) (stack : List Expected) (k last : ℕ) (es : List Placed) (old all : List ℕ) → last + 1 ≤ k
     → old ++ run q stack (between k last es) ≡ all → old ≡ all
 unfolding run

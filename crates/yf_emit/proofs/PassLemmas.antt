@@ -10,7 +10,7 @@ use Rattle.yf_emit.specs.declared.measure.Open.{Open}
 use Rattle.yf_emit.specs.Measures.{measure_of, no_measure}
 use Rattle.yf_emit.specs.Measuring.{found, opened, closed, handed, noted, popped, pass, have_texts, with_node, ended_scalar, ended_alias}
 use Rattle.yf_emit.specs.Normal.{Setting}
-use Rattle.yf_emit.specs.Tree.{Node, scalar, alias, sequence, mapping, Items, no_items, item, Pairs, no_pairs, pair, flat, flat_items, flat_pairs, unplaced}
+use Rattle.yf_events.specs.Tree.{Node, scalar, alias, sequence, mapping, Items, no_items, item, Pairs, no_pairs, pair, flat, flat_items, flat_pairs, unplaced}
 use Rattle.yf_emit.proofs.TreeTexts.{texts_join, pair_texts}
 use Rattle.yf_emit.proofs.SumLemmas.{ended_of, with_items, with_pairs}
 use Rattle.yf_emit.proofs.EndedLemmas.{ended_items, ended_pairs, ended_as_scalar, ended_as_alias}

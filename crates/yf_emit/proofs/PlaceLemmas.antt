@@ -1,25 +1,24 @@
 -- The pass puts each node where its site says.
-use Rattle.std.proofs.Common.{◌≡◌, ℕ, zero, suc, ◌+◌, ◌-◌, ◌<◌, ◌≤◌, Bool, true, false, not, ◌&&◌, List, [], ◌∷◌, ◌++◌, length, Option, Some, None, refl, sym, ap, ◌∙◌, arith}
-use Rattle.std.specs.Prelude.{◌||◌, ◌^◌, min, is_some, if◌then◌else◌}
+use Rattle.std.proofs.Common.{◌≡◌, ℕ, ◌+◌, Bool, true, false, not, ◌&&◌, List, Option, Some, None, refl, sym, ap, ◌∙◌, arith}
+use Rattle.std.specs.Prelude.{◌||◌, is_some, if◌then◌else◌}
 use Rattle.std.proofs.lemmas.Bool.{and_parts}
 use Rattle.yf_comments.specs.Comment.{CommentValue}
 use Rattle.yf_events.specs.Event.{Placed}
 use Rattle.yf_events.specs.declared.event.ScalarStyle.TheVariants.{Plain, Single, Double, Literal, Folded}
 use Rattle.yf_emit.specs.declared.decide.Key.{Key}
-use Rattle.yf_emit.specs.declared.decide.Level.{Level}
 use Rattle.yf_emit.specs.declared.decide.Place.{Place}
 use Rattle.yf_emit.specs.declared.style.Style.{Style}
 use Rattle.yf_emit.specs.Deciding as Deciding
 use Rattle.yf_emit.specs.Deciding.{Given, given, further, has_room, colon_width, is_leaf_at, comment_if, place_behind, value_place, key_place, place_in_map, key_width, key_of, key_behind, may_be_implicit}
-use Rattle.yf_emit.specs.Forms.{Site, site_at, key_site, value_site, key_comment_index, value_comment, index_between, is_placed}
-use Rattle.yf_emit.specs.Measures.{up_to_greatest, width_if, is_one_line, measure_of, leaf_indices, first_of, last_of}
+use Rattle.yf_emit.specs.Forms.{Site, site_at, key_site, value_site, key_comment_index, index_between, is_placed}
+use Rattle.yf_emit.specs.Measures.{up_to_greatest, width_if, is_one_line, measure_of, leaf_indices, first_of}
 use Rattle.yf_emit.specs.Normal as Normal
 use Rattle.yf_emit.specs.Normal.{Setting, Spot, inner_spot, key_spot, value_spot, is_implicit, styled, fits, settled, key_comment}
 use Rattle.yf_emit.specs.OneLine.{width, written, colon_behind}
-use Rattle.yf_emit.specs.Tree.{Node, scalar, alias, sequence, mapping, Items, no_items, item, Pairs, no_pairs, pair, flat, leaves, is_text, is_filled_flow, is_sequence}
+use Rattle.yf_events.specs.Tree.{Node, scalar, alias, sequence, mapping, no_items, item, no_pairs, pair, flat, leaves, is_text, is_filled_flow}
 use Rattle.yf_emit.proofs.AmongLemmas.{Among}
 use Rattle.yf_emit.proofs.LeafLemmas.{is_own_leaf}
-use Rattle.yf_emit.proofs.SiteLemmas.{can_be_kept, filled_room, cut_twice, is_implicit_there}
+use Rattle.yf_emit.proofs.SiteLemmas.{filled_room, cut_twice, is_implicit_there}
 use Rattle.yf_emit.proofs.ValueLemmas.{event_of, styled_text, styled_sequence, colon_there, key_start_there, trailing_there, same_comment}
 
 -- a site in numbers that are cut

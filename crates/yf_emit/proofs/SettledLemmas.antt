@@ -1,12 +1,12 @@
 -- A settled node has as many events, is an implicit key where it was one, and its entries stand where they stood.
-use Rattle.std.proofs.Common.{◌≡◌, ℕ, suc, ◌+◌, Bool, true, false, not, ◌&&◌, List, [], ◌∷◌, ◌++◌, length, refl, sym, ap, ◌∙◌, ⊎_elim}
+use Rattle.std.proofs.Common.{◌≡◌, ℕ, suc, ◌+◌, Bool, true, false, not, ◌&&◌, length, refl, sym, ap, ◌∙◌, ⊎_elim}
 use Rattle.std.specs.Prelude.{nat_le, if◌then◌else◌}
 use Rattle.std.proofs.lemmas.Bool.{and_parts, cases_Bool}
 use Rattle.yf_emit.specs.declared.style.Style.{Style}
 use Rattle.yf_emit.specs.Keys.{keys, keys_of_items, keys_of_pairs}
 use Rattle.yf_emit.specs.Normal.{Setting, Spot, inner_spot, key_spot, value_spot, value_of_implicit, value_entries, key_column, is_implicit, is_one_line_key, fits, settled, settled_items, settled_pairs}
 use Rattle.yf_emit.specs.OneLine.{width, written}
-use Rattle.yf_emit.specs.Tree.{Node, scalar, alias, sequence, mapping, Items, no_items, item, Pairs, no_pairs, pair, flat, flat_items, flat_pairs, is_sequence}
+use Rattle.yf_events.specs.Tree.{Node, scalar, alias, sequence, mapping, Items, no_items, item, Pairs, no_pairs, pair, flat, flat_items, flat_pairs, is_sequence}
 use Rattle.yf_emit.proofs.CountLemmas.{two_counts}
 
 either : (b : Bool) (x y : Node) → length (flat y) ≡ length (flat x) → length (flat (if b then x else y)) ≡ length (flat x)

@@ -2,7 +2,7 @@
 use Rattle.std.proofs.Common.{◌≡◌, true, false, [], ◌∷◌, None, codes, refl}
 use Rattle.yf_props.specs.Props.{no_props}
 use Rattle.yf_events.specs.declared.event.ScalarStyle.TheVariants.{Single, Double, Literal}
-use Rattle.yf_emit.specs.Tree.{scalar, sequence, no_items}
+use Rattle.yf_events.specs.Tree.{scalar, sequence, no_items}
 use Rattle.yf_emit.proofs.Examples.{house, sequences_at_keys, at, entry, entry_behind_blank, key, key_behind_blank, word, nothing, block_items, flow_items, block_pairs, flow_pairs, anchor, one_document, tree, root, remark, formatted}
 
 -- a text without documents; blank lines are printed once
@@ -13,7 +13,7 @@ comments_alone :
 unfolding formatted
 comments_alone = refl
 
--- a comment with no item behind it stands at the end
+-- a comment with no item after it stands at the end
 a_document_of_a_comment :
     formatted house (codes "---\n# c\n") (remark 4 (codes "# c") false false ∷ []) (one_document 0)
     (root (nothing None))
@@ -21,7 +21,7 @@ a_document_of_a_comment :
 unfolding formatted
 a_document_of_a_comment = refl
 
--- the collections round it become block collections, and it trails its leaf
+-- the collections around it become block collections, and it trails its leaf
 a_comment_between_brackets :
     formatted house (codes "{\"a\":1,b: [x, # c\n y]}") (remark 14 (codes "# c") false true ∷ []) (one_document 0)
     (root (flow_pairs (at 0 22 None) no_props (
@@ -35,7 +35,7 @@ a_comment_between_brackets :
 unfolding formatted
 a_comment_between_brackets = refl
 
--- the first trails the leaf, the second stands behind it; behind a kept tail no blank line is printed
+-- the first trails the leaf, the second stands after it; after a kept tail no blank line is printed
 two_comments_within_a_leaf :
     formatted house (codes "- &x # c\n\n  # d\n  |+\n  a\n\n")
     (remark 5 (codes "# c") false false ∷ remark 12 (codes "# d") true false ∷ [])
@@ -78,7 +78,7 @@ a_comment_between_key_and_value :
 unfolding formatted
 a_comment_between_key_and_value = refl
 
--- one behind a leaf on its line trails it, others stand before the line of the next item
+-- one after a leaf on its line trails it, others stand before the line of the next item
 comments_among_entries :
     formatted house (codes "[a, # c\n # d\n b, {k: # e\n v}] # f\n")
     (remark 4 (codes "# c") false true ∷
@@ -95,7 +95,7 @@ comments_among_entries :
 unfolding formatted
 comments_among_entries = refl
 
--- the first comment between a key and its value trails the key, also where the key stands behind a `-`
+-- the first comment between a key and its value trails the key, also where the key stands after a `-`
 a_comment_below_a_key_behind_a_sign :
     formatted house (codes "- k:\n  # c\n  # d\n    v\n")
     (remark 7 (codes "# c") false false ∷ remark 13 (codes "# d") false false ∷ [])
@@ -107,7 +107,7 @@ a_comment_below_a_key_behind_a_sign :
 unfolding formatted
 a_comment_below_a_key_behind_a_sign = refl
 
--- it stands before the `...` of the document behind it
+-- it stands before the `...` of the document after it
 a_comment_before_directives :
     formatted house (codes "a\n...\n# c\n%YAML 1.1\n--- b\n")
     (remark 6 (codes "# c") false false ∷ [])
@@ -119,7 +119,7 @@ a_comment_before_directives :
 unfolding formatted
 a_comment_before_directives = refl
 
--- printed once, and neither behind a `---` nor behind the `:` of a key whose value is still to come
+-- printed once, and neither after a `---` nor after the `:` of a key whose value is still to come
 blank_lines :
     formatted house (codes "a:\n\n  b: 1\n\n\n  # c\n\n  d: 2\n\n---\n\ne\n")
     (remark 15 (codes "# c") true false ∷ [])
@@ -198,7 +198,7 @@ a_comment_before_a_bracket :
 unfolding formatted
 a_comment_before_a_bracket = refl
 
--- comments behind a `---` stand before the line of the first item
+-- comments after a `---` stand before the line of the first item
 a_comment_after_a_marker :
     formatted house (codes "--- # c\n\n# d\na: # e\n  - b\n")
     (remark 4 (codes "# c") false false ∷

@@ -3,7 +3,7 @@ use Rattle.std.proofs.Common.{◌≡◌, true, false, [], ◌∷◌, Some, None,
 use Rattle.yf_props.specs.Props.{no_props}
 use Rattle.yf_emit.specs.Keys.{kept_text_of, block_keys}
 use Rattle.yf_emit.specs.Normal.{is_implicit, setting_of}
-use Rattle.yf_emit.specs.Tree.{sequence, no_items}
+use Rattle.yf_events.specs.Tree.{sequence, no_items}
 use Rattle.yf_emit.proofs.Examples.{house, at, entry, key, word, nothing, flow_items, flow_pairs, block_pairs, one_document, root, remark, lists_of, formatted}
 
 kept_text_of_a_single_pair :

@@ -3,7 +3,7 @@ use Rattle.std.proofs.Common.{◌≡◌, true, [], ◌∷◌, Some, None, codes,
 use Rattle.yf_props.specs.Props.{no_props}
 use Rattle.yf_props.specs.Props.TagValue.{IsShort}
 use Rattle.yf_events.specs.declared.event.ScalarStyle.TheVariants.{Plain, Single, Double, Literal, Folded}
-use Rattle.yf_emit.specs.Tree.{scalar, alias, sequence, mapping, no_items, no_pairs}
+use Rattle.yf_events.specs.Tree.{scalar, alias, sequence, mapping, no_items, no_pairs}
 use Rattle.yf_emit.proofs.Examples.{house, four_columns, single_quotes, short_lines, sequences_at_keys, at, entry, entry_behind_blank, key, word, nothing, block_items, flow_items, block_pairs, flow_pairs, anchor, tag, one_document, tree, root, formatted}
 
 -- entries of the root collection stand at column 0
@@ -33,7 +33,7 @@ an_explicit_entry_becomes_implicit :
 unfolding formatted
 an_explicit_entry_becomes_implicit = refl
 
--- a flow mapping with an empty value becomes a block mapping; an alias as key has a space behind it
+-- a flow mapping with an empty value becomes a block mapping; an alias as key has a space after it
 an_empty_scalar_is_never_kept :
     formatted house (codes "foo: &a x\nbar: {*a : y, &b: z}\n") [] (one_document 0)
     (root (block_pairs (at 0 30 None) no_props (
@@ -92,7 +92,7 @@ a_directive_and_a_tag :
 unfolding formatted
 a_directive_and_a_tag = refl
 
--- behind a sign stand as many spaces as make up the indentation
+-- after a sign stand as many spaces as make up the indentation
 entries_four_columns_to_the_right :
     formatted four_columns (codes "a: [1, {b: }]\nc:\n- - x\n  - y\n") [] (one_document 0)
     (root (block_pairs (at 0 28 None) no_props ((
@@ -237,7 +237,7 @@ sequences_at_the_column_of_their_keys :
 unfolding formatted
 sequences_at_the_column_of_their_keys = refl
 
--- its properties stand behind the key
+-- its properties stand after the key
 a_sequence_with_properties_at_its_key :
     formatted sequences_at_keys (codes "a: !!seq\n  - x\n") [] (one_document 0)
     (root (block_pairs (at 0 14 None) no_props ((

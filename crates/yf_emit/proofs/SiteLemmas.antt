@@ -1,23 +1,17 @@
 -- The pass finds of a node at its site what the definitions say: whether it is kept, whether it is an implicit key, and what its key
 -- and its value come to.
-use Rattle.std.proofs.Common.{◌≡◌, ℕ, zero, suc, ◌+◌, ◌-◌, ◌<◌, ◌≤◌, Bool, true, false, not, ◌&&◌, List, [], ◌∷◌, ◌++◌, length, map, Option, Some, None, refl, sym, ap, ◌∙◌, arith}
-use Rattle.std.specs.Prelude.{◌||◌, ◌^◌, min, is_some, ◌==◌, nat_lt, nat_le, if◌then◌else◌, slice_get}
-use Rattle.std.proofs.lemmas.Bool.{and_parts, cases_Bool}
+use Rattle.std.proofs.Common.{◌≡◌, ℕ, ◌+◌, ◌-◌, ◌≤◌, Bool, true, false, not, ◌&&◌, List, refl, ap, ◌∙◌, arith}
+use Rattle.std.specs.Prelude.{◌^◌, min, nat_lt, nat_le, if◌then◌else◌}
 use Rattle.std.proofs.lemmas.Bool.Decides.{nat_tests}
-use Rattle.yf_comments.specs.Comment.{CommentValue}
-use Rattle.yf_events.specs.Event.{EventValue, Placed, sequence_starts, mapping_starts, scalar_node, alias_node}
-use Rattle.yf_events.specs.declared.event.ScalarStyle.{ScalarStyle}
 use Rattle.yf_events.specs.declared.event.ScalarStyle.TheVariants.{Plain, Single, Double, Literal, Folded}
-use Rattle.yf_lines.specs.declared.quotes.Quotes.{Quotes}
-use Rattle.yf_emit.specs.declared.measure.Measure.{Measure}
 use Rattle.yf_emit.specs.declared.style.Style.{Style}
 use Rattle.yf_emit.specs.Deciding.{further, has_room, may_be_implicit, is_kept}
 use Rattle.yf_emit.specs.Forms.{is_kept_at}
-use Rattle.yf_emit.specs.Kept.{may_be_kept, items_may_be_kept, pairs_may_be_kept}
-use Rattle.yf_emit.specs.Measures.{up_to_greatest, width_if, is_one_line, is_one_line_style, measure_of}
-use Rattle.yf_emit.specs.Normal.{Setting, Spot, styled, styled_items, styled_pairs, fits, is_one_line_key, is_implicit}
+use Rattle.yf_emit.specs.Kept.{may_be_kept}
+use Rattle.yf_emit.specs.Measures.{up_to_greatest, width_if, is_one_line, measure_of}
+use Rattle.yf_emit.specs.Normal.{Setting, Spot, styled, fits, is_implicit}
 use Rattle.yf_emit.specs.OneLine.{width, written}
-use Rattle.yf_emit.specs.Tree.{Node, scalar, alias, sequence, mapping, Items, no_items, item, Pairs, no_pairs, pair, flat, is_filled_flow}
+use Rattle.yf_events.specs.Tree.{Node, scalar, alias, sequence, mapping, no_items, item, no_pairs, pair, is_filled_flow}
 
 -- numbers that are cut
 

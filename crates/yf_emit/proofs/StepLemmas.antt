@@ -1,15 +1,15 @@
 -- The steps of the pass, as the code takes them.
-use Rattle.std.proofs.Common.{◌≡◌, ℕ, suc, ◌+◌, ◌-◌, ◌<◌, ◌≤◌, Bool, true, false, ◌&&◌, List, [], ◌∷◌, ◌++◌, length, map, set, get_or, drop, Option, Some, None, refl, sym, ap, ◌∙◌, subst, arith, add-one}
-use Rattle.std.specs.Prelude.{reverse, nat_lt, is_some, MatchOption, IfSome}
+use Rattle.std.proofs.Common.{◌≡◌, ℕ, zero, suc, ◌+◌, ◌-◌, ◌<◌, ◌≤◌, Bool, true, false, ◌&&◌, List, [], ◌∷◌, ◌++◌, length, map, set, get_or, drop, Option, Some, None, refl, sym, ap, ◌∙◌, subst, arith, add-one}
+use Rattle.std.specs.Prelude.{reverse, nat_lt, slice_get, is_some, MatchOption, IfSome}
 use Rattle.std.specs.Str.{chars, IsUtf8, is_utf8}
 use Rattle.std.specs.List.{AllWithin, HoldsAt, list_any}
-use Rattle.std.proofs.Math.Seq.{set-append_seam, get_or-append_seam, drop-cons}
+use Rattle.std.proofs.Math.Seq.{set-append_seam, get_or-append_seam}
 use Rattle.std.proofs.lemmas.List.{length-append, reverse-append, drop_all}
 use Rattle.std.proofs.lemmas.Str.{IsUtf8-append, IsUtf8-nil, is_utf8-from_IsUtf8}
 use Rattle.yf_comments.specs.Comment.{CommentValue, comment_value}
 use Rattle.yf_comments.specs.declared.comment.Comment.{Comment}
-use Rattle.yf_events.specs.Event.{Placed, placed_value}
-use Rattle.yf_events.specs.declared.event.PlacedEvent.{PlacedEvent}
+use Rattle.yf_events.specs.Event.{EventValue, Placed}
+use Rattle.yf_events.specs.declared.event.Span.{Span}
 use Rattle.yf_emit.specs.declared.measure.Ended.{Ended}
 use Rattle.yf_emit.specs.declared.measure.Measure.{Measure}
 use Rattle.yf_emit.specs.declared.measure.Open.{Open}
@@ -23,7 +23,7 @@ use Rattle.yf_emit.proofs.MeasuredLemmas.{measured_all, pass_longer}
 
 -- widths
 
--- a text behind one character
+-- a text after one character
 pub head_wide : (b : ℕ) (text : List ℕ) (n w : ℕ) → nat_lt b 128 ≡ true → n ≡ up_to_greatest (width text) → w ≡ up_to_greatest (n + 1)
     → w ≡ up_to_greatest (width (b ∷ text))
 head_wide b text n w l e f =
@@ -102,41 +102,57 @@ handed_set (x ∷ xs) n o w e l p g q =
 
 -- the loop over the events
 
-abbrev pub Runs : List ℕ → Setting → List PlacedEvent → ℕ → List Measure → List Open → Type 0
-Runs t c es i list stack =
-    (length list ≡ i) × (pass t c (map placed_value (drop i es)) (found list stack) ≡ pass t c (map placed_value es) (found [] []))
+abbrev pub Runs : List ℕ → Setting → List Placed → ℕ → List Measure → List Open → Type 0
+Runs t c es i list stack = (length list ≡ i) × (pass t c (drop i es) (found list stack) ≡ pass t c es (found [] []))
 
-abbrev pub Texts : List PlacedEvent → ℕ → Type 0
-Texts es i = have_texts (map placed_value (drop i es)) ≡ true → have_texts (map placed_value es) ≡ true
+abbrev pub Texts : List Placed → ℕ → Type 0
+Texts es i = have_texts (drop i es) ≡ true → have_texts es ≡ true
 
-next_event : (es : List PlacedEvent) (i : ℕ) (e : PlacedEvent) → i < length es → e ≡ get_or es i e
-    → map placed_value (drop i es) ≡ placed_value e ∷ map placed_value (drop (i + 1) es)
-next_event es i e l g =
-    ap (map placed_value) (drop-cons es i e l) ∙ ap (λ w. placed_value w ∷ map placed_value (drop (suc i) es)) (sym g)
-    ∙ ap (λ k. placed_value e ∷ map placed_value (drop k es)) (sym (add-one i))
+-- the event at an index, by what is told of it
+record Stands (es : List Placed) (i : ℕ) (v : EventValue) (s : Option Span) : Type 0 where
+  e : Placed
+  event : e.event ≡ v
+  span : e.span ≡ s
+  cut : drop i es ≡ e ∷ drop (suc i) es
 
-pub runs_on : (t : List ℕ) (c : Setting) (es : List PlacedEvent) (i : ℕ) (e : PlacedEvent) (list first next : List Measure) (stack above : List Open)
-    → i < length es → e ≡ get_or es i e → Runs t c es i list stack → first ≡ list ++ (no_measure ∷ [])
-    → found next above ≡ passed t c i e.span (placed_value e).event (found first stack) → Runs t c es (i + 1) next above
+some_inj : {X : Type 0} {x y : X} → Some x ≡ Some y → x ≡ y
+some_inj h = cc
+
+stands : (es : List Placed) (i : ℕ) (v : EventValue) (s : Option Span) → slice_get (map (λ e. e.event) es) i ≡ Some v
+    → slice_get (map (λ e. e.span) es) i ≡ Some s → Stands es i v s
+stands [] i v s h k = cc
+stands (e ∷ es) zero v s h k = record { e = e; event = some_inj h; span = some_inj k; cut = refl }
+stands (e ∷ es) (suc i) v s h k =
+    let r = stands es i v s h k in
+    record { e = r.e; event = r.event; span = r.span; cut = r.cut }
+
+pub runs_on : (t : List ℕ) (c : Setting) (es : List Placed) (i : ℕ) (v : EventValue) (s : Option Span) (list first next : List Measure) (stack above : List Open)
+    → slice_get (map (λ e. e.event) es) i ≡ Some v → slice_get (map (λ e. e.span) es) i ≡ Some s → Runs t c es i list stack → first ≡ list ++ (no_measure ∷ [])
+    → found next above ≡ passed t c i s v (found first stack) → Runs t c es (i + 1) next above
 unfolding pass
-runs_on t c es i e list first next stack above l g r f p =
-    let step : found next above ≡ past t c (placed_value e) (found list stack) =
-    p ∙ ap (λ w. passed t c i e.span (placed_value e).event (found w stack)) f
-    ∙ ap (λ n. passed t c n e.span (placed_value e).event (found (list ++ (no_measure ∷ [])) stack)) (sym r.0) in
-    let long : length next ≡ length list + 1 = ap (λ w. length w.list) step ∙ pass_longer t c (placed_value e) (found list stack) in (
+runs_on t c es i v s list first next stack above h k r f p =
+    let x = stands es i v s h k in
+    let step : found next above ≡ past t c x.e (found list stack) =
+    p ∙ ap (λ w. passed t c i s v (found w stack)) f
+    ∙ ap (λ n. passed t c n s v (found (list ++ (no_measure ∷ [])) stack)) (sym r.0)
+    ∙ ap (λ w. passed t c (length list) w v (found (list ++ (no_measure ∷ [])) stack)) (sym x.span)
+    ∙ ap (λ w. passed t c (length list) x.e.span w (found (list ++ (no_measure ∷ [])) stack)) (sym x.event) in
+    let long : length next ≡ length list + 1 = ap (λ w. length w.list) step ∙ pass_longer t c x.e (found list stack) in (
       long ∙ ap (λ n. n + 1) r.0,
-      ap (pass t c (map placed_value (drop (i + 1) es))) step ∙ ap (λ w. pass t c w (found list stack)) (sym (next_event es i e l g)) ∙ r.1,
+      rw add-one (ap (pass t c (drop (suc i) es)) step ∙ ap (λ w. pass t c w (found list stack)) (sym x.cut) ∙ r.1),
     )
 
-pub texts_on : (es : List PlacedEvent) (i : ℕ) (e : PlacedEvent) → i < length es → e ≡ get_or es i e → Texts es i → has_text (placed_value e).event ≡ true
-    → Texts es (i + 1)
-texts_on es i e l g h u = λ v. h (rw (next_event es i e l g, u, v) refl)
+pub texts_on : (es : List Placed) (i : ℕ) (v : EventValue) (s : Option Span) → slice_get (map (λ e. e.event) es) i ≡ Some v
+    → slice_get (map (λ e. e.span) es) i ≡ Some s → Texts es i → has_text v ≡ true → Texts es (i + 1)
+texts_on es i v s h k g u =
+    let x = stands es i v s h k in
+    rw add-one (λ w. g (rw (x.cut, x.event, u, w) refl))
 
-pub at_last : (t : List ℕ) (c : Setting) (es : List PlacedEvent) (i : ℕ) (list : List Measure) (stack : List Open) (all : List Placed) → length es ≤ i
-    → map placed_value es ≡ all → Texts es i → Runs t c es i list stack → Measured t c all list
+pub at_last : (t : List ℕ) (c : Setting) (es : List Placed) (i : ℕ) (list : List Measure) (stack : List Open) → length es ≤ i
+    → Texts es i → Runs t c es i list stack → Measured t c es list
 unfolding pass
-at_last t c es i list stack all l e h r =
-    let none : map placed_value (drop i es) ≡ [] = ap (map placed_value) (drop_all i es l) in
-    let texts : have_texts (map placed_value es) ≡ true = h (rw none refl) in
-    let run : found list stack ≡ pass t c (map placed_value es) (found [] []) = ap (λ w. pass t c w (found list stack)) (sym none) ∙ r.1 in
-    subst (λ w. Measured t c w list) e (subst (λ w. Measured t c (map placed_value es) w) (sym (ap (λ f. f.list) run)) (measured_all t c (map placed_value es) texts))
+at_last t c es i list stack l h r =
+    let none : drop i es ≡ [] = drop_all i es l in
+    let texts : have_texts es ≡ true = h (rw none refl) in
+    let run : found list stack ≡ pass t c es (found [] []) = ap (λ w. pass t c w (found list stack)) (sym none) ∙ r.1 in
+    subst (λ w. Measured t c es w) (sym (ap (λ f. f.list) run)) (measured_all t c es texts)

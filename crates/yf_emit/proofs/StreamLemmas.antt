@@ -1,5 +1,5 @@
 -- The pass over the events of a stream notes the forms of its documents.
-use Rattle.std.proofs.Common.{◌≡◌, ℕ, zero, suc, ◌+◌, ◌<◌, ◌≤◌, Bool, true, false, ◌&&◌, List, [], ◌∷◌, ◌++◌, length, flat_map, get_or, refl, sym, ap, ◌∙◌, subst, arith, append_assoc, append-nil}
+use Rattle.std.proofs.Common.{◌≡◌, ℕ, suc, ◌+◌, true, List, [], ◌∷◌, ◌++◌, length, flat_map, refl, sym, ap, ◌∙◌, subst, arith, append_assoc, append-nil}
 use Rattle.std.proofs.lemmas.Bool.{and_parts}
 use Rattle.std.proofs.lemmas.List.{length-append}
 use Rattle.yf_events.specs.Event.{Placed, stream_starts, stream_ends, document_starts, document_ends}
@@ -7,11 +7,11 @@ use Rattle.yf_events.specs.declared.lists.Lists.{Lists}
 use Rattle.yf_emit.specs.declared.decide.Form.{Form}
 use Rattle.yf_emit.specs.declared.measure.Measure.{Measure}
 use Rattle.yf_emit.specs.declared.style.Style.{Style}
-use Rattle.yf_emit.specs.Deciding.{given, State, state, next, pass, past}
+use Rattle.yf_emit.specs.Deciding.{given, State, state, pass}
 use Rattle.yf_emit.specs.Forms.{Site, site_at, forms, no_form, document_forms, stream_forms, is_placed, documents_are_placed}
-use Rattle.yf_emit.specs.Measures.{Measured, no_measure}
+use Rattle.yf_emit.specs.Measures.{Measured}
 use Rattle.yf_emit.specs.Normal.{Setting, setting_of, root_spot, styled}
-use Rattle.yf_emit.specs.Tree.{DocumentTree, TreesOf, flat, flat_document, flat_stream, unplaced}
+use Rattle.yf_events.specs.Tree.{DocumentTree, TreesOf, flat, flat_document, flat_stream, unplaced}
 use Rattle.yf_emit.proofs.AmongLemmas.{Among, front, back, behind_first}
 use Rattle.yf_emit.proofs.CountLemmas.{node_forms}
 use Rattle.yf_emit.proofs.FormLemmas.{Known, given_of, run, enclosed, AtSite, node_passed}

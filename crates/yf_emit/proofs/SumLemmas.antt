@@ -15,7 +15,7 @@ use Rattle.yf_emit.specs.Measures.{up_to_greatest, width_if, leaf_indices, leaf_
 use Rattle.yf_emit.specs.Measuring.{or_else, sum_of, with_node, zero_if, have_texts}
 use Rattle.yf_emit.specs.Normal.{Setting, styled, styled_items, styled_pairs}
 use Rattle.yf_emit.specs.OneLine.{width, written, more_items, more_pairs, colon_behind}
-use Rattle.yf_emit.specs.Tree.{Standing, Node, scalar, alias, sequence, mapping, Items, no_items, item, Pairs, no_pairs, pair, flat, flat_items, flat_pairs}
+use Rattle.yf_events.specs.Tree.{Standing, Node, scalar, alias, sequence, mapping, Items, no_items, item, Pairs, no_pairs, pair, flat, flat_items, flat_pairs}
 use Rattle.yf_emit.specs.Wanted.{wanted, style_in}
 use Rattle.yf_emit.proofs.WidthLemmas.{cut_both, width_join, utf8_head}
 use Rattle.yf_emit.proofs.TreeTexts.{written_utf8, colon_utf8, texts_join, pair_texts}
@@ -88,7 +88,7 @@ pub and_assoc : (a b c : Bool) → ((a && b) && c) ≡ (a && (b && c))
 and_assoc true b c = refl
 and_assoc false b c = refl
 
--- one node more: what stands before it, the node, and what stands behind it
+-- one node more: what stands before it, the node, and what stands after it
 pub one_more : (b k : Bool) (y before w behind : List ℕ) → IsUtf8 y → IsUtf8 before → IsUtf8 w
     → sum_of (width_if b y) (sum_of (width_if true before) (sum_of (width_if k w) (width_if true behind)))
     ≡ width_if (b && k) (y ++ (before ++ (w ++ behind)))
@@ -123,7 +123,7 @@ pub same_filled : (i : ℕ) (m : Bool) (w : ℕ) (q : Bool) {a b : Bool} {y z ls
 same_filled i m w q {a} {b} {y} {z} e f g =
     same_collection i m w q (ap (λ k. width_if k y) e ∙ same_if b f) (ap first_of g) (ap last_of g)
 
--- the space behind an alias that is a key
+-- the space after an alias that is a key
 abbrev pub space : Bool → List ℕ
 space true = 32 ∷ []
 space false = []

@@ -9,7 +9,7 @@ use Rattle.yf_events.specs.declared.event.ScalarStyle.TheVariants.{Plain, Single
 use Rattle.yf_emit.specs.Measuring.{has_text, have_texts}
 use Rattle.yf_emit.specs.Normal.{Setting, styled, styled_items, styled_pairs}
 use Rattle.yf_emit.specs.OneLine.{props_text, scalar_text, bare, written, more_items, more_pairs, colon_behind, colon_behind_props}
-use Rattle.yf_emit.specs.Tree.{Node, scalar, alias, sequence, mapping, Items, no_items, item, Pairs, no_pairs, pair, flat, flat_items, flat_pairs, props_of}
+use Rattle.yf_events.specs.Tree.{Node, scalar, alias, sequence, mapping, Items, no_items, item, Pairs, no_pairs, pair, flat, flat_items, flat_pairs, props_of}
 use Rattle.yf_emit.specs.Wanted.{wanted}
 use Rattle.yf_emit.proofs.WidthLemmas.{utf8_head, utf8_spaced, single_utf8, double_utf8}
 

@@ -1,5 +1,5 @@
 -- The pass finds where the value of an implicit key stands, and which comment trails the key.
-use Rattle.std.proofs.Common.{◌≡◌, ℕ, zero, suc, ◌+◌, ◌-◌, ◌<◌, ◌≤◌, Bool, true, false, not, ◌&&◌, List, [], ◌∷◌, ◌++◌, length, map, Option, Some, None, refl, sym, ap, ◌∙◌, arith}
+use Rattle.std.proofs.Common.{◌≡◌, ℕ, Bool, true, false, not, ◌&&◌, List, [], ◌∷◌, map, Option, Some, None, refl, sym, ap, ◌∙◌}
 use Rattle.std.specs.Prelude.{◌||◌, is_some, codes, if◌then◌else◌, slice_get, nat_lt}
 use Rattle.std.specs.Str.{chars}
 use Rattle.yf_comments.specs.Comment.{CommentValue}
@@ -12,25 +12,20 @@ use Rattle.yf_lines.specs.Steady.{is_steady, has_line_feed, ends_with_colon, is_
 use Rattle.yf_lines.specs.declared.quotes.Quotes.{Quotes}
 use Rattle.yf_props.specs.Props.{PropsValue}
 use Rattle.yf_quoted.specs.Written.{quotes_for}
-use Rattle.yf_emit.specs.declared.decide.Key.{Key}
-use Rattle.yf_emit.specs.declared.decide.Place.{Place}
-use Rattle.yf_emit.specs.declared.measure.Measure.{Measure}
-use Rattle.yf_emit.specs.declared.style.Style.{Style}
 use Rattle.yf_emit.specs.Deciding as Deciding
 use Rattle.yf_emit.specs.Deciding.{Given, given, further, has_room, has_space, colon_width, is_leaf_at, leaf_start, start_or, start_of_entry, comment_between, comment_if, place_behind, value_place}
-use Rattle.yf_emit.specs.Forms as Forms
-use Rattle.yf_emit.specs.Forms.{Site, first_index, index_between, key_comment_index, value_comment, value_site, is_placed, is_empty_node, is_nothing, agree}
+use Rattle.yf_emit.specs.Forms.{index_between, key_comment_index, is_placed, is_empty_node, is_nothing, agree}
 use Rattle.yf_emit.specs.Kept.{may_be_kept}
-use Rattle.yf_emit.specs.Measures.{up_to_greatest, width_if, is_one_line, measure_of, leaf_indices, first_of, last_of}
+use Rattle.yf_emit.specs.Measures.{measure_of, leaf_indices, first_of, last_of}
 use Rattle.yf_emit.specs.Normal as Normal
 use Rattle.yf_emit.specs.Normal.{Setting, Spot, styled, styled_items, styled_pairs, fits, settled, settled_items, settled_pairs, value_of_implicit, value_column, value_entries, key_comment, last_start, entry_or}
-use Rattle.yf_emit.specs.OneLine.{width, written, colon_behind, colon_behind_props, props_text}
-use Rattle.yf_emit.specs.Tree.{Standing, Node, scalar, alias, sequence, mapping, Items, no_items, item, Pairs, no_pairs, pair, flat, flat_items, flat_pairs, standing, leaves, leaves_of_items, leaves_of_pairs, spans_of_leaf, is_text, is_filled_flow, is_sequence}
+use Rattle.yf_emit.specs.OneLine.{width, colon_behind, colon_behind_props, props_text}
+use Rattle.yf_events.specs.Tree.{Standing, Node, scalar, alias, sequence, mapping, Items, no_items, item, Pairs, no_pairs, pair, flat, standing, leaves, leaves_of_items, leaves_of_pairs, is_text, is_filled_flow, is_sequence}
 use Rattle.yf_emit.specs.Wanted.{wanted, quoted_in, style_in}
 use Rattle.yf_emit.proofs.AmongLemmas.{Among, first_at}
 use Rattle.yf_emit.proofs.IndexLemmas.{same_first}
 use Rattle.yf_emit.proofs.LeafLemmas.{node_starts, first_start, first_leaf, last_leaf, is_own_leaf}
-use Rattle.yf_emit.proofs.SiteLemmas.{can_be_kept, filled_room, cut_twice, cut_room}
+use Rattle.yf_emit.proofs.SiteLemmas.{can_be_kept}
 
 -- what of a node is the same in the style of the house
 
@@ -77,7 +72,7 @@ styled_sequence t m (alias at name) = refl
 styled_sequence t m (sequence at flow props items) = refl
 styled_sequence t m (mapping at flow props pairs) = refl
 
--- the colon behind a key
+-- the colon after a key
 
 colon_of_props : (p : List ℕ) → (if not (is_nothing p) then 2 else 1) ≡ width (colon_behind_props p)
 unfolding chars
@@ -140,7 +135,7 @@ pub colon_there : (t : List ℕ) (m : Setting) (i : ℕ) (x : Node) → is_place
     → colon_width (event_of x) (is_leaf_at i (first_of (leaf_indices i x))) ≡ width (colon_behind (styled t m x))
 colon_there t m i x h = ap (colon_width (event_of x)) (is_own_leaf i x h) ∙ colon_of t m x h
 
--- the offset behind which a comment trails a key
+-- the offset after which a comment trails a key
 
 entry_there : (es : List Placed) (i : ℕ) (x : Node) → Among es (flat x) i → slice_get (map (λ e. e.entry) es) i ≡ Some (standing x).entry
 entry_there es i (scalar at props style text lines) a = first_at (λ e. e.entry) _ _ a

@@ -7,7 +7,7 @@ use Rattle.yf_events.specs.declared.event.ScalarStyle.TheVariants.{Folded}
 abbrev pub is_feed : ℕ → Bool
 is_feed b = b == 10
 
--- a text up to its last character that is no line feed, and how many line feeds stand behind it
+-- a text up to its last character that is no line feed, and how many line feeds stand after it
 abbrev pub without_final_feeds : List ℕ → List ℕ
 without_final_feeds [] = []
 without_final_feeds (b ∷ bs) = if list_all is_feed (b ∷ bs) then [] else b ∷ without_final_feeds bs
@@ -29,7 +29,7 @@ abbrev pub content_lines : ScalarStyle → List ℕ → List (List ℕ) → List
 content_lines Folded text lines = lines
 content_lines style text lines = cut_at_feeds (without_final_feeds text)
 
--- the empty lines behind them, one for each line feed behind the first that ends the text
+-- the empty lines after them, one for each line feed after the first that ends the text
 abbrev pub tail_lines : List ℕ → List (List ℕ)
 tail_lines text = replicate (final_feeds text - 1) []
 

@@ -1,4 +1,4 @@
--- Where the content of a node begins, behind its properties (YAML 1.2.2, 6.9).
+-- Where the content of a node begins, after its properties (YAML 1.2.2, 6.9).
 use Rattle.std.specs.Prelude.{ℕ, suc, min, ◌+◌, ◌-◌, ◌==◌, if◌then◌else◌, Bool, true, false, List, [], ◌∷◌, Option, Some, None, length, take, drop}
 use Rattle.yf_chars.specs.Class.{is_break_char, is_white}
 use Rattle.yf_chars.specs.Text.{code}
@@ -24,7 +24,7 @@ written_len c props = if c == 38 then anchor_len props.anchor else (if c == 33 t
 unfoldable pub property_len : List ℕ → ℕ → PropsValue → ℕ
 property_len t i props = min (written_len (code t i) props) (length t - i)
 
--- how many bytes of whites, line breaks and comments stand at the head of a list, which may begin in a comment
+-- how many bytes of white space, line breaks and comments stand at the head of a list, which may begin in a comment
 unfoldable pub gap_len : Bool → List ℕ → ℕ
 gap_len in_comment [] = 0
 gap_len in_comment (b ∷ bs) =
@@ -33,11 +33,11 @@ gap_len in_comment (b ∷ bs) =
     (if is_white b then suc (gap_len false bs) else
     (if b == 35 then suc (gap_len true bs) else 0)))
 
--- the offset behind whites, line breaks and comments that stand there, and not past the end of a part of the text
+-- the offset after white space, line breaks and comments that stand there, and not past the end of a part of the text
 unfoldable pub past_gap : List ℕ → ℕ → ℕ → ℕ
 past_gap t i end = i + gap_len false (drop i (take end t))
 
--- behind one property and what separates it: another property, or the content
+-- after one property and what separates it: another property, or the content
 unfoldable pub past_second : List ℕ → ℕ → ℕ → PropsValue → ℕ
 past_second t i end props = if property_len t i props == 0 then i else past_gap t (i + property_len t i props) end
 

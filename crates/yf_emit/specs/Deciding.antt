@@ -1,10 +1,9 @@
 -- The pass over the events that decides all forms, one event at a time.
 use Rattle.std.specs.Prelude.{ℕ, ◌+◌, ◌==◌, Bool, true, false, not, ◌&&◌, ◌||◌, nat_lt, nat_le, if◌then◌else◌, List, [], ◌∷◌, ◌++◌, length, map, get_or, slice_get, Option, Some, None}
 use Rattle.yf_comments.specs.Comment.{CommentValue}
-use Rattle.yf_events.specs.Event.{EventValue, Placed, stream_starts, stream_ends, document_starts, document_ends, sequence_starts, sequence_ends, mapping_starts, mapping_ends, scalar_node, alias_node}
+use Rattle.yf_events.specs.Event.{EventValue, Placed, sequence_starts, sequence_ends, mapping_starts, mapping_ends, scalar_node, alias_node}
 use Rattle.yf_events.specs.declared.event.Entry.{Entry}
-use Rattle.yf_events.specs.declared.event.ScalarStyle.{ScalarStyle}
-use Rattle.yf_events.specs.declared.event.ScalarStyle.TheVariants.{Plain, Single, Double, Literal, Folded}
+use Rattle.yf_events.specs.declared.event.ScalarStyle.TheVariants.{Plain}
 use Rattle.yf_events.specs.declared.event.Span.{Span}
 use Rattle.yf_emit.specs.declared.decide.Form.{Form}
 use Rattle.yf_emit.specs.declared.decide.Key.{Key}
@@ -90,7 +89,7 @@ key_of es e i m implicit = record {
   start = key_start es i m.last_leaf;
 }
 
--- the comment behind the one offset and before the other
+-- the comment after the one offset and before the other
 abbrev pub comment_between : List CommentValue → ℕ → Option ℕ → Option ℕ
 comment_between cs from None = None
 comment_between cs from (Some to) = first_index (λ c. nat_lt from c.offset && nat_lt c.offset to) cs
@@ -208,7 +207,7 @@ past g sequence_ends i m list stack = state (list ++ no_form ∷ []) (outside st
 past g mapping_ends i m list stack = state (list ++ no_form ∷ []) (outside stack) i
 past g _ i m list stack = state (list ++ no_form ∷ []) stack i
 
--- the event at the index behind the forms so far; it gets no look where it stands within a node on one line
+-- the event at the index after the forms so far; it gets no look where it stands within a node on one line
 abbrev pub next : Given → List Measure → EventValue → State → State
 next g ms e f =
     if nat_lt f.done (length f.list) then past g e (length f.list) (get_or ms (length f.list) no_measure) f.list f.stack

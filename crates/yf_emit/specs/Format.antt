@@ -4,7 +4,7 @@ use Rattle.yf_events.specs.declared.lists.Lists.{Lists}
 use Rattle.yf_emit.specs.declared.style.Style.{Style}
 use Rattle.yf_emit.specs.Layout.{Writes}
 use Rattle.yf_emit.specs.Normal.{Normal}
-use Rattle.yf_emit.specs.ReadingOf.{ReadingOf}
+use Rattle.yf_stream.specs.ReadingOf.{ReadingOf}
 
 -- u is the layout of the normal form of the reading of t
 pub record Formats (t : List ℕ) (s : Style) (u : List ℕ) : Type 0 where

@@ -1,6 +1,6 @@
 -- Which form each node of a reading is given: whether it is a flow collection on one line, whether it is an implicit key, which
 -- comment trails its key, and where its entries stand. Columns are cut at the greatest number that they are given by.
-use Rattle.std.specs.Prelude.{◌≡◌, ℕ, ◌+◌, Bool, true, false, not, is_some, ◌&&◌, ◌||◌, nat_lt, if◌then◌else◌, List, [], ◌∷◌, ◌++◌, length, replicate, flat_map, option_map, suc, Option, Some, None}
+use Rattle.std.specs.Prelude.{◌≡◌, ℕ, Bool, true, false, not, is_some, ◌&&◌, ◌||◌, nat_lt, if◌then◌else◌, List, [], ◌∷◌, ◌++◌, length, replicate, flat_map, option_map, suc, Option, Some, None}
 use Rattle.std.specs.List.Sorted.{IsNonDecreasingBy}
 use Rattle.yf_comments.specs.Comment.{CommentValue}
 use Rattle.yf_props.specs.Props.{PropsValue}
@@ -14,7 +14,7 @@ use Rattle.yf_emit.specs.declared.style.Style.{Style}
 use Rattle.yf_emit.specs.Measures.{up_to_greatest, Measured}
 use Rattle.yf_emit.specs.Normal.{Setting, Spot, root_spot, inner_spot, key_spot, value_spot, is_implicit, key_start, fits, settled, styled, setting_of}
 use Rattle.yf_emit.specs.OneLine.{props_text}
-use Rattle.yf_emit.specs.Tree.{Node, scalar, alias, sequence, mapping, Items, no_items, item, Pairs, no_pairs, pair, DocumentTree, TreesOf, flat, flat_items, flat_pairs, leaves, is_text, is_filled_flow}
+use Rattle.yf_events.specs.Tree.{Node, scalar, alias, sequence, mapping, Items, no_items, item, Pairs, no_pairs, pair, DocumentTree, TreesOf, flat_items, flat_pairs, leaves, is_text, is_filled_flow}
 
 -- The comment that trails a key, as an index.
 

@@ -9,7 +9,7 @@ use Rattle.yf_events.specs.declared.event.ScalarStyle.{ScalarStyle}
 use Rattle.yf_events.specs.declared.event.ScalarStyle.TheVariants.{Plain, Single, Double, Literal, Folded}
 use Rattle.yf_events.specs.declared.event.Span.{Span}
 use Rattle.yf_emit.specs.ContentStart.{content_start}
-use Rattle.yf_emit.specs.Tree.{Node, scalar, alias, sequence, mapping, Items, no_items, item, Pairs, no_pairs, pair}
+use Rattle.yf_events.specs.Tree.{Node, scalar, alias, sequence, mapping, Items, no_items, item, Pairs, no_pairs, pair}
 
 -- a comment stands from one offset on, and before another one
 abbrev pub is_within : ℕ → ℕ → CommentValue → Bool

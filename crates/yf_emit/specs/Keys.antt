@@ -6,7 +6,7 @@ use Rattle.yf_emit.specs.declared.style.Style.{Style}
 use Rattle.yf_emit.specs.Kept.{may_be_kept}
 use Rattle.yf_emit.specs.Normal.{Setting, Spot, root_spot, inner_spot, key_spot, value_spot, is_implicit, styled, normal_document, setting_of}
 use Rattle.yf_emit.specs.OneLine.{bare}
-use Rattle.yf_emit.specs.Tree.{Node, scalar, alias, sequence, mapping, Items, no_items, item, Pairs, no_pairs, pair, DocumentTree, flat, flat_document, is_collection, is_filled_flow}
+use Rattle.yf_events.specs.Tree.{Node, scalar, alias, sequence, mapping, Items, no_items, item, Pairs, no_pairs, pair, DocumentTree, flat, flat_document, is_collection, is_filled_flow}
 
 -- the node that the event at an index begins
 pub record NodeAt (es : List Placed) (i : ℕ) (x : Node) : Type 0 where
@@ -20,7 +20,7 @@ pub record NodeAt (es : List Placed) (i : ℕ) (x : Node) : Type 0 where
 abbrev pub kept_text_of : List ℕ → Setting → Node → Option (List ℕ)
 kept_text_of t c x = if is_filled_flow x && may_be_kept t c.comments x then Some (bare (styled t c x)) else None
 
--- The new text is the old one and behind it the text on one line of the collection, empty or not, whose events stand from the
+-- The new text is the old one and after it the text on one line of the collection, empty or not, whose events stand from the
 -- first index to the last, where it may be kept.
 pub record AddsKept (es : List Placed) (s : Style) (first last : ℕ) (old new : List ℕ) : Type 0 where
   pub adds : (t : List ℕ) (c : Setting) (x : Node) → c.style ≡ s → NodeAt es first x → last + 1 ≡ first + length (flat x)

@@ -8,7 +8,7 @@ use Rattle.yf_events.specs.declared.lists.Lists.{Lists}
 use Rattle.yf_emit.specs.declared.style.Style.{Style}
 use Rattle.yf_emit.specs.Normal.{setting_of}
 use Rattle.yf_emit.specs.Rows.{Row, Ending, at_text_start, at_document_start, at_kept_tail, before_node, anywhere, stream_rows}
-use Rattle.yf_emit.specs.Tree.{DocumentTree, TreesOf}
+use Rattle.yf_events.specs.Tree.{DocumentTree, TreesOf}
 
 -- a comment, and whether it stands on the line on which the last leaf ends that begins before it
 abbrev pub Remark : Type 0
@@ -23,9 +23,9 @@ pub record Source : Type 0 where
 abbrev pub is_among : List CommentValue → CommentValue → Bool
 is_among cs c = list_any (λ d. d.offset == c.offset) cs
 
--- Comments behind a line.
+-- Comments after a line.
 
--- where the next leaf begins behind an offset; a comment stands before it, or anywhere where there is none
+-- where the next leaf begins after an offset; a comment stands before it, or anywhere where there is none
 abbrev pub next_leaf : List Span → ℕ → Option ℕ
 next_leaf leaves from = option_map (λ s. s.start) (find (λ s. nat_lt from s.start) leaves)
 
@@ -33,7 +33,7 @@ abbrev pub is_before : ℕ → Option ℕ → Bool
 is_before offset None = true
 is_before offset (Some end) = nat_lt offset end
 
--- the first comment behind the beginning of a leaf and before the next leaf
+-- the first comment after the beginning of a leaf and before the next leaf
 abbrev pub first_comment : Source → Span → Option Remark
 first_comment c leaf =
     find (λ r. nat_lt leaf.start r.0.offset && is_before r.0.offset (next_leaf c.leaves leaf.start)) c.remarks
@@ -47,7 +47,7 @@ trailing_leaf c leaf (Some r) =
 abbrev pub trailing : Source → Row → List CommentValue
 trailing c row = option_to_list row.key_comment ++ flat_map (λ leaf. trailing_leaf c leaf (first_comment c leaf)) row.leaves
 
--- a comment's text without the whites that end it
+-- a comment's text without the white space that ends it
 abbrev pub trimmed : List ℕ → List ℕ
 trimmed [] = []
 trimmed (b ∷ bs) = if list_all is_white (b ∷ bs) then [] else b ∷ trimmed bs
@@ -88,7 +88,7 @@ row_line c row = record {
   body = row.body;
 }
 
--- each comment on a line of its own stands directly before the line that holds the first item behind it, at that line's column;
+-- each comment on a line of its own stands directly before the line that holds the first item after it, at that line's column;
 -- where no item follows it stands at the end, at column 0. Items stand in the order of the source.
 abbrev pub lines_of : Source → List CommentValue → List Row → List Line
 lines_of c comments [] = map (comment_line 0) comments
@@ -96,7 +96,7 @@ lines_of c comments (row ∷ rows) =
     map (comment_line row.column) (filter (precedes_item row) comments)
     ++ (row_line c row ∷ lines_of c (filter (λ d. not (precedes_item row d)) comments) rows)
 
--- a blank line is not repeated at the beginning, behind a document's `---` line or a kept tail, and where a node's text is still
+-- a blank line is not repeated at the beginning, after a document's `---` line or a kept tail, and where a node's text is still
 -- to come
 abbrev pub may_be_blank_behind : Ending → Bool
 may_be_blank_behind at_text_start = false
@@ -114,7 +114,7 @@ blank_line before l = if may_be_blank_behind before && l.blank_before then 10 �
 abbrev pub line_bytes : Line → List ℕ
 line_bytes l = replicate l.column 32 ++ (ended l.text ++ flat_map ended l.body)
 
--- lines behind one with that ending
+-- lines after one with that ending
 abbrev pub bytes_behind : Ending → List Line → List ℕ
 bytes_behind before [] = []
 bytes_behind before (l ∷ ls) = blank_line before l ++ (line_bytes l ++ bytes_behind l.ending ls)

@@ -10,7 +10,7 @@ use Rattle.yf_emit.specs.Keys.{NodeAt, kept_text_of}
 use Rattle.yf_emit.specs.Kept.{may_be_kept}
 use Rattle.yf_emit.specs.Normal.{Setting, styled}
 use Rattle.yf_emit.specs.OneLine.{width, scalar_text, written}
-use Rattle.yf_emit.specs.Tree.{Node, scalar, alias, sequence, mapping, Items, no_items, item, Pairs, no_pairs, pair, flat, is_filled_flow}
+use Rattle.yf_events.specs.Tree.{Node, scalar, alias, sequence, mapping, Items, no_items, item, Pairs, no_pairs, pair, flat, is_filled_flow}
 
 -- a number, or the greatest of a `usize` where it is greater
 abbrev pub up_to_greatest : ℕ → ℕ

@@ -83,7 +83,7 @@ opened t cs i span props flow is_map = record {
 abbrev pub separator_width : Open → ℕ
 separator_width o = if o.is_empty then 0 else 2
 
--- an alias as a key has a space behind it
+-- an alias as a key has a space after it
 abbrev pub space_width : Open → Ended → ℕ
 space_width o e = if o.is_key && e.is_alias then 1 else 0
 

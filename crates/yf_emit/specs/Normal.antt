@@ -9,7 +9,7 @@ use Rattle.yf_events.specs.declared.lists.Lists.{Lists}
 use Rattle.yf_emit.specs.declared.style.Style.{Style}
 use Rattle.yf_emit.specs.Kept.{may_be_kept}
 use Rattle.yf_emit.specs.OneLine.{width, written, colon_behind}
-use Rattle.yf_emit.specs.Tree.{Node, scalar, alias, sequence, mapping, Items, no_items, item, Pairs, no_pairs, pair, DocumentTree, TreesOf, flat_stream, standing, leaves, is_text, is_filled_flow, is_sequence}
+use Rattle.yf_events.specs.Tree.{Node, scalar, alias, sequence, mapping, Items, no_items, item, Pairs, no_pairs, pair, DocumentTree, TreesOf, flat_stream, standing, leaves, is_text, is_filled_flow, is_sequence}
 use Rattle.yf_emit.specs.Wanted.{wanted}
 
 -- what the layout depends on beside a reading's trees: the settings, and the comments
@@ -47,7 +47,7 @@ pub record Spot : Type 0 where
   pub entries : ℕ
   pub lines : ℕ
 
--- a document's root; a node behind a `-`, a `?` or the `:` of an explicit value, in an entry at that column
+-- a document's root; a node after a `-`, a `?` or the `:` of an explicit value, in an entry at that column
 abbrev pub root_spot : Style → Spot
 root_spot s = record { column = 0; entries = 0; lines = s.indent }
 
@@ -74,7 +74,7 @@ is_one_line_key s column (mapping at flow props (pair k v ps)) = flow && fits s 
 abbrev pub is_implicit : Style → ℕ → Node → Bool
 is_implicit s column k = is_one_line_key s column k && nat_le (width (written k)) 1023
 
--- The comment that trails an implicit key: the first one behind the beginning of the key's last leaf (of its entry, where the
+-- The comment that trails an implicit key: the first one after the beginning of the key's last leaf (of its entry, where the
 -- key is an empty node) and before the value's first leaf, where the value is a leaf with characters or is kept on one line.
 
 -- where the last of these leaves begins, or the other offset where there is none
@@ -89,7 +89,7 @@ entry_or other (Some entry) = entry.start
 abbrev pub key_start : Node → ℕ
 key_start k = last_start (entry_or 0 (standing k).entry) (leaves k)
 
--- the first comment behind an offset and before the first of these leaves
+-- the first comment after an offset and before the first of these leaves
 abbrev pub first_between : List CommentValue → ℕ → List Span → Option CommentValue
 first_between cs from [] = None
 first_between cs from (s ∷ ss) = find (λ c. nat_lt from c.offset && nat_lt c.offset s.start) cs
@@ -97,7 +97,7 @@ first_between cs from (s ∷ ss) = find (λ c. nat_lt from c.offset && nat_lt c.
 abbrev pub key_comment : List CommentValue → Node → Node → Option CommentValue
 key_comment cs k v = if is_text v || is_filled_flow v then first_between cs (key_start k) (leaves v) else None
 
--- the value of an implicit key in an entry at that column begins behind the key, its `:` and a space, or on the next line where
+-- the value of an implicit key in an entry at that column begins after the key, its `:` and a space, or on the next line where
 -- a comment trails the key; a sequence's entries may stand at the key's column
 abbrev pub value_column : Setting → ℕ → Node → Node → ℕ
 value_column c column k v =

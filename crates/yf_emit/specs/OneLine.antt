@@ -5,7 +5,7 @@ use Rattle.yf_props.specs.Props.TagValue.{IsVerbatim, IsShort, IsNonSpecific}
 use Rattle.yf_quoted.specs.Written.{single_bytes, double_bytes}
 use Rattle.yf_events.specs.declared.event.ScalarStyle.{ScalarStyle}
 use Rattle.yf_events.specs.declared.event.ScalarStyle.TheVariants.{Plain, Single, Double, Literal, Folded}
-use Rattle.yf_emit.specs.Tree.{Node, scalar, alias, sequence, mapping, Items, no_items, item, Pairs, no_pairs, pair, props_of}
+use Rattle.yf_events.specs.Tree.{Node, scalar, alias, sequence, mapping, Items, no_items, item, Pairs, no_pairs, pair, props_of}
 
 -- how many characters a text has
 abbrev pub width : List ℕ → ℕ
@@ -17,7 +17,7 @@ spaced [] y = y
 spaced (b ∷ x) [] = b ∷ x
 spaced (b ∷ x) (c ∷ y) = (b ∷ x) ++ (32 ∷ c ∷ y)
 
--- a part with the space that stands between it and one before it, or one behind it
+-- a part with the space that stands between it and one before it, or one after it
 abbrev pub space_before : List ℕ → List ℕ
 space_before [] = []
 space_before (c ∷ y) = 32 ∷ c ∷ y
@@ -48,7 +48,7 @@ scalar_text Double text = double_bytes (chars text)
 scalar_text Literal text = []
 scalar_text Folded text = []
 
--- the `:` behind a key; before it stands a space where it would be read as a part of the key: behind an alias, and behind
+-- the `:` after a key; before it stands a space where it would be read as a part of the key: after an alias, and after
 -- properties without a text
 abbrev pub colon_behind_props : List ℕ → List ℕ
 colon_behind_props [] = codes ":"
@@ -59,7 +59,7 @@ colon_behind (scalar at props Plain [] lines) = colon_behind_props (props_text p
 colon_behind (alias at name) = codes " :"
 colon_behind x = codes ":"
 
--- the text of a node without its properties; a flow collection from bracket to bracket, with one space behind each comma and
+-- the text of a node without its properties; a flow collection from bracket to bracket, with one space after each comma and
 -- each `:`, and a single pair as a mapping
 abbrev mutual
   pub bare : Node → List ℕ

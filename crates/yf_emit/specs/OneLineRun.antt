@@ -17,7 +17,7 @@ separator Key = codes ", "
 separator Value = codes ": "
 separator ValueOfAlias = codes " : "
 
--- what comes next behind a key, and behind any node; the flag says whether it is an alias
+-- what comes next after a key, and after any node; the flag says whether it is an alias
 abbrev pub value_of : Bool → Expected
 value_of true = ValueOfAlias
 value_of false = Value
@@ -51,7 +51,7 @@ abbrev pub before_bracket : List Expected → PropsValue → List ℕ
 before_bracket [] props = []
 before_bracket (e ∷ stack) props = before_text (e ∷ stack) props
 
--- what an event adds, and what comes next behind it
+-- what an event adds, and what comes next after it
 abbrev pub added : Quotes → List Expected → EventValue → List ℕ
 added quotes stack (scalar_node props style text) = before_text stack props ++ scalar_text (wanted style text quotes) text
 added quotes stack (alias_node name) = separator_in stack ++ (42 ∷ name)

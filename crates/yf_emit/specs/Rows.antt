@@ -13,9 +13,9 @@ use Rattle.yf_emit.specs.declared.style.Style.{Style}
 use Rattle.yf_emit.specs.BlockLines.{header_text, block_lines, final_feeds, is_kept_tail}
 use Rattle.yf_emit.specs.Normal.{Setting, Spot, root_spot, inner_spot, key_spot, value_spot, is_implicit, key_comment}
 use Rattle.yf_emit.specs.OneLine.{spaced, props_text, written, colon_behind}
-use Rattle.yf_emit.specs.Tree.{Node, scalar, alias, sequence, mapping, Items, no_items, item, Pairs, no_pairs, pair, DocumentTree, standing, props_of, leaves, items_in, entry_start, is_block_collection}
+use Rattle.yf_events.specs.Tree.{Node, scalar, alias, sequence, mapping, Items, no_items, item, Pairs, no_pairs, pair, DocumentTree, standing, props_of, leaves, items_in, entry_start, is_block_collection}
 
--- with what a line ends, for the blank line behind it
+-- with what a line ends, for the blank line after it
 pub data Ending : Type 0 where
   -- nothing is printed yet
   at_text_start : Ending
@@ -39,15 +39,16 @@ pub record Row : Type 0 where
   -- it begins with an entry before which a blank line stands
   pub blank_before : Bool
   pub ending : Ending
-  -- the lines of a block scalar
+  -- the lines of a block scalar, and the column at which they stand; 0 where there are none
   pub body : List (List ℕ)
+  pub lines : ℕ
 
 -- a line with that text alone
 abbrev pub plain_row : ℕ → List ℕ → Row
 plain_row column text =
-    record { column = column; text = text; items = []; leaves = []; key_comment = None; blank_before = false; ending = anywhere; body = [] }
+    record { column = column; text = text; items = []; leaves = []; key_comment = None; blank_before = false; ending = anywhere; body = []; lines = 0 }
 
--- the first line of a node stands on the line that a sign or key begins, behind so many spaces; an empty node has no line, and no
+-- the first line of a node stands on the line that a sign or key begins, after so many spaces; an empty node has no line, and no
 -- space is left before it
 abbrev pub joined : Row → ℕ → List Row → List Row
 joined head spaces [] = head ∷ []
@@ -60,6 +61,7 @@ joined head spaces (r ∷ rs) = record {
   blank_before = head.blank_before;
   ending = r.ending;
   body = r.body;
+  lines = r.lines;
 } ∷ rs
 
 -- Nodes.
@@ -83,6 +85,7 @@ block_scalar s spot x props style text lines = record (plain_row spot.column (sp
   leaves = leaves x;
   ending = tail_ending (is_kept_tail (final_feeds text));
   body = block_lines style spot.lines text lines;
+  lines = spot.lines;
 } ∷ []
 
 abbrev pub scalar_rows : Style → Spot → Node → PropsValue → ScalarStyle → List ℕ → List (List ℕ) → List Row
@@ -106,7 +109,7 @@ abbrev pub entry_row : ℕ → List ℕ → Node → Row
 entry_row column text x =
     record (plain_row column text) { items = entry_start x; blank_before = blank_before_entry (standing x).entry }
 
--- behind `-`, `?` and the `:` of an explicit value stand as many spaces as make up the indentation
+-- after `-`, `?` and the `:` of an explicit value stand as many spaces as make up the indentation
 abbrev pub behind_sign : Style → Row → List Row → List Row
 behind_sign s head rows = joined head (s.indent - 1) rows
 
@@ -136,7 +139,7 @@ is_empty_text (b ∷ bs) = false
 abbrev pub begins_below : Node → Bool
 begins_below v = is_block_collection v && is_empty_text (props_text (props_of v))
 
--- the value behind an implicit key: on the next line where a comment trails the key, else behind one space
+-- the value after an implicit key: on the next line where a comment trails the key, else after one space
 abbrev pub behind_key : Row → Option CommentValue → Bool → List Row → List Row
 behind_key head (Some c) below rows = record head { key_comment = Some c; ending = before_node } ∷ rows
 behind_key head None true rows = record head { ending = before_node } ∷ rows

@@ -110,7 +110,7 @@ fn push_line(out: &mut String, line: &str, column: usize) -> Result<(), AllocErr
     out.push('\n')
 }
 
-/// Appends the line feeds behind the last content line's own.
+/// Appends the line feeds after the last content line's own.
 fn push_tail(out: &mut String, text: &str, column: usize) -> Result<(), AllocError>
     ensures { OnOk result (string_bytes out.new ≡ string_bytes out.old ++ flat_map ended (map (line_at column) (tail_lines text.now))) }
 {

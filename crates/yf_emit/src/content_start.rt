@@ -1,4 +1,4 @@
-//! Where the content of a node begins, behind its properties (YAML 1.2.2, section 6.9).
+//! Where the content of a node begins, after its properties (YAML 1.2.2, section 6.9).
 ghost use Rattle.std.specs.Prelude.{◌≡◌, ◌≤◌, ◌-◌, ◌∷◌, ℕ, suc, List, Some, length, MatchOption};
 ghost use Rattle.yf_chars.specs.Text.{code};
 ghost use Rattle.yf_emit.specs.ContentStart as ContentStart;
@@ -54,7 +54,7 @@ fn property_len(text: &str, at: usize, props: &Props) -> usize
     written_len(text, at, props).min(text.len().saturating_sub(at))
 }
 
-/// What a byte does to a separation: `None` where it is none of its bytes, else whether a comment goes on behind it.
+/// What a byte does to a separation: `None` where it is none of its bytes, else whether a comment goes on after it.
 fn behind_byte(in_comment: bool, byte: u8) -> Option<bool>
     ensures { MatchOption result ((bs : List ℕ) → gap_len in_comment (byte ∷ bs) ≡ 0) (λ next. (bs : List ℕ) → gap_len in_comment (byte ∷ bs) ≡ suc (gap_len next bs)) }
 {
@@ -79,7 +79,7 @@ fn behind_byte(in_comment: bool, byte: u8) -> Option<bool>
     None
 }
 
-/// The byte offset behind the whites, line breaks and comments that stand there, and not past the end.
+/// The byte offset after the white space, line breaks and comments that stand there, and not past the end.
 fn past_gap(text: &str, at: usize, end: usize) -> usize
     ensures { result ≡ ContentStart.past_gap text.now at end }
 {
@@ -95,7 +95,7 @@ fn past_gap(text: &str, at: usize, end: usize) -> usize
     at.max(stop)
 }
 
-/// The byte offset behind the property that stands there, if one does, and behind what separates it from what follows.
+/// The byte offset after the property that stands there, if one does, and after what separates it from what follows.
 fn past_second(text: &str, at: usize, end: usize, props: &Props) -> usize
     ensures { result ≡ ContentStart.past_second text.now at end (props_value props.now) }
 {
@@ -106,7 +106,7 @@ fn past_second(text: &str, at: usize, end: usize, props: &Props) -> usize
     past_gap(text, at + len, end)
 }
 
-/// The byte offset at which the content of a node begins, behind its properties: at its first character, its quote, its
+/// The byte offset at which the content of a node begins, after its properties: at its first character, its quote, its
 /// bracket or its header. Of properties alone it is their end.
 ///
 /// The span and the properties are those of a node of the text.

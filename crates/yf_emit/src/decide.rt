@@ -155,7 +155,7 @@ fn is_leaf(first_leaf: Option<usize>, i: usize) -> bool
     }
 }
 
-/// Whether a space stands before the `:` of this key: behind an alias, and behind properties alone.
+/// Whether a space stands before the `:` of this key: after an alias, and after properties alone.
 pub fn has_space(event: &Event, is_leaf: bool) -> bool
     ensures { result ≡ Deciding.has_space (event_value event.now) is_leaf }
 {
@@ -166,7 +166,7 @@ pub fn has_space(event: &Event, is_leaf: bool) -> bool
             text,
             ..
         } => {
-            if text.as_str().is_empty() {
+            if text.is_empty() {
                 return is_leaf;
             }
             false
@@ -193,7 +193,7 @@ fn leaf_start(reading: &Reading, leaf: Option<usize>) -> Option<usize>
     }
 }
 
-/// The byte offset behind which a comment trails a key: where its last leaf begins, or its entry where it has none.
+/// The byte offset after which a comment trails a key: where its last leaf begins, or its entry where it has none.
 fn key_start(reading: &Reading, i: usize, last_leaf: Option<usize>) -> usize
     requires { i < length reading.now.events }
     ensures { result ≡ Deciding.key_start reading.now.events i last_leaf }
@@ -229,7 +229,7 @@ fn key_of(reading: &Reading, event: &Event, i: usize, measure: &Measure, is_impl
     }
 }
 
-/// The first comment behind the one byte offset and before the other.
+/// The first comment after the one byte offset and before the other.
 fn comment_between(comments: &[Comment], from: usize, to: usize) -> Option<usize>
     ensures { IsNonDecreasingBy (λ c. c.offset) (map comment_value comments.now) → result ≡ Deciding.comment_between (map comment_value comments.now) from (Some to) }
 {
@@ -362,7 +362,7 @@ fn place_in_map(
     }
 }
 
-/// The key that waits for its value behind a key or a value.
+/// The key that waits for its value after a key or a value.
 fn key_behind(
     reading: &Reading,
     event: &Event,
@@ -549,7 +549,7 @@ pub fn decide(
     for i in 0..reading.len() {
         let event = reading.event(i);
         done = advance(
-            &mut list, &mut stack, reading, event, measures, style, i, done,
+            &mut list, &mut stack, reading, &event, measures, style, i, done,
         )?;
     }
     Ok(Forms { list })

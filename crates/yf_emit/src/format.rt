@@ -25,7 +25,7 @@ fn formatted(alloc: Global, src: &Src, reading: &Reading, style: &Style) -> Resu
     }
 }
 
-/// The stream of the text in the house style.
+/// The stream of the text in the house style. What is proved of it is what `Formatted` says, which ties it to no text.
 ///
 /// # Errors
 ///

@@ -1,12 +1,12 @@
 //! The text of a flow collection that is kept on one line.
 ghost use Rattle.std.specs.Prelude.{◌≡◌, ◌≤◌, ◌∷◌, ◌++◌, encode_utf8, false, option_map, reverse, IfErr, IfOk, OnOk};
-ghost use Rattle.std.specs.List.Sorted.{IsNonDecreasingBy};
 ghost use Rattle.std.specs.String.{string_bytes};
 ghost use Rattle.yf_props.specs.Props.{props_value};
 ghost use Rattle.yf_events.specs.Event.{event_value};
 ghost use Rattle.yf_emit.specs.Keys.{AddsKept};
 ghost use Rattle.yf_emit.specs.Measures.{IsKeptText, TellsKept};
 ghost use Rattle.yf_emit.specs.Normal.{setting_of};
+ghost use Rattle.yf_emit.specs.Textual.{CommentsAscend};
 ghost use Rattle.yf_emit.specs.OneLineRun as OneLineRun;
 ghost use Rattle.yf_emit.specs.OneLineRun.{added, behind_in, between, next_open, outside, run, separator_in};
 
@@ -45,7 +45,7 @@ fn separator(expected: Expected) -> &'static str
     }
 }
 
-/// What comes next behind a node.
+/// What comes next after a node.
 fn behind(is_alias: bool, expected: Expected) -> Expected
     ensures { result ≡ OneLineRun.behind is_alias expected }
 {
@@ -151,7 +151,6 @@ fn push_event(
             text: content,
         } => {
             before_text(text, stack, props)?;
-            let content = content.as_str();
             push_scalar(text, wanted_of(*written, content, style.quotes), content)
         }
         Event::Alias { name } => {
@@ -187,7 +186,7 @@ fn push_between(
     ensures { OnOk result (first ≤ last → string_bytes text.new ≡ string_bytes text.old ++ run style.now.quotes (reverse stack.old.items) (between first last reading.now.events)) }
 {
     for k in first..reading.len() {
-        push_event(text, stack, reading.event(k), style)?;
+        push_event(text, stack, &reading.event(k), style)?;
         if k == last {
             break;
         }
@@ -240,7 +239,7 @@ fn kept_within(
     i: usize,
     style: &Style,
 ) -> Result<Option<String>, AllocError>
-    ensures { IfOk result (λ o. IsNonDecreasingBy (λ c. c.offset) reading.now.comments → IsKeptText src.now.text (setting_of reading.now style.now) reading.now.events i (option_map string_bytes o)) }
+    ensures { IfOk result (λ o. CommentsAscend reading.now → IsKeptText src.now.text (setting_of reading.now style.now) reading.now.events i (option_map string_bytes o)) }
 {
     let measures = measure_all(alloc, src, reading, style)?;
     kept_text_of(alloc, &measures, reading, i, style)
@@ -261,7 +260,7 @@ pub fn kept_text(
     i: usize,
     style: &Style,
 ) -> Result<Option<String>, Fault>
-    ensures text { IfOk result (λ o. IsNonDecreasingBy (λ c. c.offset) reading.now.comments → IsKeptText src.now.text (setting_of reading.now style.now) reading.now.events i (option_map string_bytes o)) }
+    ensures text { IfOk result (λ o. CommentsAscend reading.now → IsKeptText src.now.text (setting_of reading.now style.now) reading.now.events i (option_map string_bytes o)) }
     ensures refused { IfErr result (λ fault. fault ≡ Fault.Memory) }
 {
     match kept_within(alloc, src, reading, i, style) {

@@ -52,11 +52,11 @@ struct Level {
 enum Spot {
     /// The root of a document, on a line of its own.
     Root,
-    /// Behind the `-`, the `?` or the explicit `:` of an entry at that column.
+    /// After the `-`, the `?` or the explicit `:` of an entry at that column.
     Behind(usize),
     /// A key without `?`.
     Key,
-    /// Behind the `:` of a key without `?`, in an entry at that column.
+    /// After the `:` of a key without `?`, in an entry at that column.
     Value(usize),
 }
 
@@ -273,7 +273,7 @@ impl Printer {
         }
     }
 
-    /// Prints a scalar of a block style: its header on the line, and its lines behind that.
+    /// Prints a scalar of a block style: its header on the line, and its lines after that.
     fn block_scalar(
         &mut self,
         reading: &Reading,
@@ -368,20 +368,20 @@ impl Printer {
     {
         match reading.event(i) {
             Event::Scalar { props, style, text } => {
-                self.scalar(reading, plan, i, spot, props, *style, text.as_str())
+                self.scalar(reading, plan, i, spot, &props, style, text)
             }
             Event::Alias { name } => {
                 self.output.line_text().push('*')?;
                 self.output.line_text().push_str(name)
             }
             Event::SeqStart { props, .. } | Event::MapStart { props, .. } => {
-                self.kept(alloc, reading, plan, i, props)
+                self.kept(alloc, reading, plan, i, &props)
             }
             _ => Ok(()),
         }
     }
 
-    /// Prints a leaf, an empty node or a flow collection that is kept, and the `:` behind a key.
+    /// Prints a leaf, an empty node or a flow collection that is kept, and the `:` after a key.
     fn leaf(
         &mut self,
         alloc: Global,
@@ -406,7 +406,7 @@ impl Printer {
             self.output.set_trailing(plan.trails.of_leaf(last));
         }
         if matches!(spot, Spot::Key) {
-            if has_space(reading.event(i), measure.is_leaf(i)) {
+            if has_space(&reading.event(i), measure.is_leaf(i)) {
                 self.output.line_text().push(' ')?;
             }
             self.output.line_text().push(':')?;
@@ -429,10 +429,10 @@ impl Printer {
         if !plan.forms.at(i).is_kept && !measure.is_leaf(i) {
             match reading.event(i) {
                 Event::SeqStart { props, .. } => {
-                    return self.collection(reading, plan, i, spot, props, Awaited::Item);
+                    return self.collection(reading, plan, i, spot, &props, Awaited::Item);
                 }
                 Event::MapStart { props, .. } => {
-                    return self.collection(reading, plan, i, spot, props, Awaited::Key);
+                    return self.collection(reading, plan, i, spot, &props, Awaited::Key);
                 }
                 _ => {}
             }

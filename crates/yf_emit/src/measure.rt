@@ -312,14 +312,14 @@ fn closed(collection: Open, end: usize) -> Ended
     }
 }
 
-/// A comma with the space behind it, or a `:` with it, stands before each node but the first.
+/// A comma with the space after it, or a `:` with it, stands before each node but the first.
 fn separator_width(collection: &Open) -> usize
     ensures { result ≡ Measuring.separator_width collection.now }
 {
     if collection.is_empty { 0 } else { 2 }
 }
 
-/// An alias as a key has one more space behind it.
+/// An alias as a key has one more space after it.
 fn space_width(collection: &Open, node: &Ended) -> usize
     ensures { result ≡ Measuring.space_width collection.now node.now }
 {
@@ -425,7 +425,7 @@ fn pass(
             style: written,
             text: content,
         } => {
-            let node = scalar(i, span, props, *written, content.as_str(), style);
+            let node = scalar(i, span, props, *written, content, style);
             end_node(list, stack, i, &node);
             Ok(())
         }
@@ -469,17 +469,15 @@ fn measured(
 {
     let mut list = Vec::new(alloc);
     let mut stack: Vec<Open> = Vec::new(alloc);
-    let events = reading.lists().events.as_slice();
-    for i in 0..events.len() {
+    for i in 0..reading.len() {
         list.push(Measure::NONE)?;
-        let placed = &events[i];
         pass(
             &mut list,
             &mut stack,
             text,
             comments,
-            &placed.event,
-            placed.span,
+            &reading.event(i),
+            reading.span(i),
             style,
             i,
         )?;

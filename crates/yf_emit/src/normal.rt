@@ -1,16 +1,14 @@
 //! The normal form of a reading: each scalar in the style, and each collection in the form, that the house style gives it.
-ghost use Rattle.std.specs.Prelude.{◌≡◌, map, true, IfErr, IfOk, List};
-ghost use Rattle.std.specs.List.Sorted.{IsNonDecreasingBy};
+ghost use Rattle.std.specs.Prelude.{◌≡◌, IfErr, IfOk};
 ghost use Rattle.yf_events.specs.Content.{content_of};
-ghost use Rattle.yf_events.specs.Event.{event_value, placed_value};
+ghost use Rattle.yf_events.specs.Event.{event_value, new_event_value, placed_value, view_value};
 ghost use Rattle.yf_events.specs.Nested.{IsStream};
 ghost use Rattle.yf_events.specs.Reading.{Fits, events_of};
 ghost use Rattle.yf_events.specs.declared.reading.TheConstants.{DEPTH};
-ghost use Rattle.yf_emit.specs.Forms.{documents_are_placed};
 ghost use Rattle.yf_emit.specs.Normal.{Normal};
 ghost use Rattle.yf_emit.specs.NormalEvents.{normal_from};
 ghost use Rattle.yf_emit.specs.Restyled.{IsRestyled, restyled, restyled_event};
-ghost use Rattle.yf_emit.specs.Tree.{DocumentTree, TreesOf};
+ghost use Rattle.yf_emit.specs.Textual.{IsTextual};
 
 use crate::copies::{
     copied_comments, copied_documents, copied_notes, copied_offsets, copied_slices, copied_tags,
@@ -20,7 +18,7 @@ use crate::measure::{Measures, measure_all};
 use crate::style::Style;
 use crate::wanted::wanted_of;
 use std::alloc::{AllocError, Global};
-use yf_events::event::{Event, PlacedEvent};
+use yf_events::event::{Event, NewEvent, PlacedEvent, View};
 use yf_events::events::Events;
 use yf_events::lists::Lists;
 use yf_events::reading::Reading;
@@ -29,56 +27,46 @@ use yf_lines::source_text::Src;
 use yf_lines::text::Text;
 
 /// The event in its normal form: `flow` says whether a collection is written between brackets.
-fn normal_event<'a>(event: &'a Event<'_>, flow: bool, style: &Style) -> Event<'a>
-    ensures { event_value result ≡ restyled_event style.now.quotes flow (event_value event.now) }
+fn normal_event<'a>(event: Event<'a>, flow: bool, style: &Style) -> NewEvent<'a>
+    ensures { new_event_value result ≡ restyled_event style.now.quotes flow (event_value event.entry) }
 {
     match event {
-        Event::StreamStart => Event::StreamStart,
-        Event::StreamEnd => Event::StreamEnd,
-        Event::DocStart { explicit } => Event::DocStart {
-            explicit: *explicit,
-        },
-        Event::DocEnd { explicit } => Event::DocEnd {
-            explicit: *explicit,
-        },
-        Event::SeqStart { props, .. } => Event::SeqStart {
-            flow,
-            props: *props,
-        },
-        Event::SeqEnd => Event::SeqEnd,
-        Event::MapStart { props, .. } => Event::MapStart {
-            flow,
-            props: *props,
-        },
-        Event::MapEnd => Event::MapEnd,
+        Event::StreamStart => NewEvent::StreamStart,
+        Event::StreamEnd => NewEvent::StreamEnd,
+        Event::DocStart { explicit } => NewEvent::DocStart { explicit },
+        Event::DocEnd { explicit } => NewEvent::DocEnd { explicit },
+        Event::SeqStart { props, .. } => NewEvent::SeqStart { flow, props },
+        Event::SeqEnd => NewEvent::SeqEnd,
+        Event::MapStart { props, .. } => NewEvent::MapStart { flow, props },
+        Event::MapEnd => NewEvent::MapEnd,
         Event::Scalar {
             props,
             style: written,
             text,
-        } => Event::Scalar {
-            props: *props,
-            style: wanted_of(*written, text.as_str(), style.quotes),
-            text: Text::Part(text.as_str()),
+        } => NewEvent::Scalar {
+            props,
+            style: wanted_of(written, text, style.quotes),
+            text: Text::Part(text),
         },
-        Event::Alias { name } => Event::Alias { name },
+        Event::Alias { name } => NewEvent::Alias { name },
     }
 }
 
 /// The event in its normal form, at its place.
 fn normal_placed<'a>(
     alloc: Global,
-    placed: &'a PlacedEvent<'_>,
+    view: View<'a>,
     flow: bool,
     style: &Style,
 ) -> Result<PlacedEvent<'a>, AllocError>
-    ensures { IfOk result (λ normal. placed_value normal ≡ restyled style.now.quotes flow (placed_value placed.now)) }
+    ensures { IfOk result (λ normal. placed_value normal ≡ restyled style.now.quotes flow (view_value view.entry)) }
 {
     Ok(PlacedEvent {
-        event: normal_event(&placed.event, flow, style),
-        span: placed.span,
-        tag_offset: placed.tag_offset,
-        entry: placed.entry,
-        folded: copied_slices(alloc, placed.folded.as_slice())?,
+        event: normal_event(view.event, flow, style),
+        span: view.span,
+        tag_offset: view.tag_offset,
+        entry: view.entry,
+        folded: copied_slices(alloc, view.folded)?,
     })
 }
 
@@ -86,12 +74,12 @@ fn normal_placed<'a>(
 /// one.
 fn normal_events<'a>(
     alloc: Global,
-    events: &'a [PlacedEvent<'_>],
+    events: &'a Events<'a>,
     measures: &Measures,
     forms: &Forms,
     style: &Style,
 ) -> Result<Events<'a>, AllocError>
-    ensures { IfOk result (λ normal. normal ≡ normal_from style.now.quotes measures.now 0 0 forms.now (map placed_value events.now)) }
+    ensures { IfOk result (λ normal. normal ≡ normal_from style.now.quotes measures.now 0 0 forms.now events.now) }
 {
     let mut normal = Events::new(alloc);
     let mut kept_until = 0;
@@ -101,7 +89,7 @@ fn normal_events<'a>(
             kept_until = measure.last;
         }
         let flow = measure.is_leaf(i) || i < kept_until;
-        normal.push(normal_placed(alloc, &events[i], flow, style)?)?;
+        normal.push(normal_placed(alloc, events.at(i), flow, style)?)?;
     }
     Ok(normal)
 }
@@ -110,11 +98,11 @@ fn normal_events<'a>(
 fn normal_lists<'a>(
     alloc: Global,
     src: &Src,
-    reading: &'a Reading<'_>,
+    reading: &'a Reading<'a>,
     style: &Style,
 ) -> Result<Lists<'a>, AllocError>
     ensures restyled { IfOk result (λ normal. IsRestyled style.now.quotes reading.now normal) }
-    ensures is_normal { IfOk result (λ normal. (ds : List DocumentTree) → TreesOf reading.now ds → documents_are_placed ds ≡ true → IsNonDecreasingBy (λ c. c.offset) reading.now.comments → Normal src.now.text reading.now style.now normal) }
+    ensures is_normal { IfOk result (λ normal. IsTextual reading.now → Normal src.now.text reading.now style.now normal) }
     ensures fit { IfOk result Fits }
     ensures nested { IfOk result (λ normal. IsStream DEPTH (events_of normal)) }
 {
@@ -122,7 +110,7 @@ fn normal_lists<'a>(
     let forms = decide(alloc, &measures, reading, style)?;
     let lists = reading.lists();
     Ok(Lists {
-        events: normal_events(alloc, lists.events.as_slice(), &measures, &forms, style)?,
+        events: normal_events(alloc, &lists.events, &measures, &forms, style)?,
         resolved: copied_tags(alloc, lists.resolved.as_slice())?,
         comments: copied_comments(alloc, lists.comments.as_slice())?,
         on_leaf_line: copied_notes(alloc, lists.on_leaf_line.as_slice())?,
@@ -140,11 +128,11 @@ fn normal_lists<'a>(
 pub fn normal<'a>(
     alloc: Global,
     src: &Src,
-    reading: &'a Reading<'_>,
+    reading: &'a Reading<'a>,
     style: &Style,
 ) -> Result<Reading<'a>, Fault>
     ensures restyled { IfOk result (λ normal. IsRestyled style.now.quotes reading.now normal) }
-    ensures is_normal { IfOk result (λ normal. (ds : List DocumentTree) → TreesOf reading.now ds → documents_are_placed ds ≡ true → IsNonDecreasingBy (λ c. c.offset) reading.now.comments → Normal src.now.text reading.now style.now normal) }
+    ensures is_normal { IfOk result (λ normal. IsTextual reading.now → Normal src.now.text reading.now style.now normal) }
     ensures content { IfOk result (λ normal. content_of normal ≡ content_of reading.now) }
     ensures nested { IfOk result (λ normal. IsStream DEPTH (events_of normal)) }
     ensures refused { IfErr result (λ fault. fault ≡ Fault.Memory) }

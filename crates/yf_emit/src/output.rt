@@ -19,7 +19,7 @@ struct Line {
     trailing: Option<usize>,
     /// Whether a blank line is noted before its first entry.
     blank_before: bool,
-    /// Whether a blank line may stand behind it.
+    /// Whether a blank line may stand after it.
     blank_may_follow: bool,
 }
 
@@ -35,25 +35,25 @@ pub struct Output {
     /// How many comments have been met, and how many of them have been printed or trail.
     met: usize,
     passed: usize,
-    /// Whether a blank line may stand behind what is printed.
+    /// Whether a blank line may stand after what is printed.
     blank_may_follow: bool,
 }
 
-/// A text without the whites at its end.
+/// A text without the white space at its end.
 fn without_whites(text: &str) -> &str
     ensures { result.now ≡ trimmed text.now }
 {
     text.trim_end_matches([' ', '\t'])
 }
 
-/// Appends the text of a comment without the whites at its end.
+/// Appends the text of a comment without the white space at its end.
 fn push_comment(out: &mut String, comment: &Comment) -> Result<(), AllocError>
     ensures { OnOk result (string_bytes out.new ≡ string_bytes out.old ++ trimmed (comment_value comment.now).text) }
 {
     out.push_str(without_whites(comment.text))
 }
 
-/// Appends a comment behind a text, two spaces from it.
+/// Appends a comment after a text, two spaces from it.
 fn push_behind(out: &mut String, comment: &Comment) -> Result<(), AllocError>
     ensures { OnOk result (string_bytes out.new ≡ string_bytes out.old ++ behind_two_spaces (comment_value comment.now)) }
 {
@@ -113,7 +113,7 @@ impl Output {
         }
     }
 
-    /// Notes that no blank line may stand behind the line.
+    /// Notes that no blank line may stand after the line.
     pub fn forbid_blank(&mut self) {
         if let Some(line) = &mut self.line {
             line.blank_may_follow = false;
@@ -186,7 +186,7 @@ impl Output {
         }
     }
 
-    /// The whole text: with the last line, and behind it the comments that are left.
+    /// The whole text: with the last line, and after it the comments that are left.
     pub fn finish(mut self, reading: &Reading, trails: &Trails) -> Result<String, AllocError> {
         self.close_line(reading, trails)?;
         self.met = reading.comments().len();

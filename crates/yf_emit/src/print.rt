@@ -1,5 +1,6 @@
 //! Printing a normal reading.
-ghost use Rattle.std.specs.Prelude.{◌≡◌, ◌⊎◌, IfErr};
+ghost use Rattle.std.specs.Prelude.{IfErr, OnOk};
+ghost use Rattle.yf_emit.specs.Printed.{RefusedPrint, WroteMade};
 
 use crate::layout::layout;
 use crate::style::Style;
@@ -9,12 +10,13 @@ use yf_lines::fault::Fault;
 use yf_lines::output::write_text;
 use yf_lines::watched::Sink;
 
-/// Writes a normal reading, which is one that `normal` gave for this style, in the house style. Nothing is written before
+/// Writes a normal reading, which is one that `normal` gave for this style, in the house style: a text is made of it, and that text
+/// is written, with nothing beside it. That it is the layout of the reading is tested, and not proved. Nothing is written before
 /// all memory that is needed has been granted.
 ///
 /// # Errors
 ///
-/// `Fault::Memory` where a growth of memory was refused, and `Fault::WriteFailed` where the writer failed; a front of the text
+/// `Fault::Memory` where a growth of memory was refused, and `Fault::WriteFailed` where the writer failed; a prefix of the text
 /// has then been written.
 pub fn print<W: Sink>(
     alloc: Global,
@@ -22,7 +24,8 @@ pub fn print<W: Sink>(
     style: &Style,
     writer: &mut W,
 ) -> Result<(), Fault>
-    ensures refused { IfErr result (λ fault. ((fault ≡ Fault.Memory) × (W.contents writer.new ≡ W.contents writer.old)) ⊎ (fault ≡ Fault.WriteFailed)) }
+    ensures printed { OnOk result (WroteMade (W.contents writer.old) (W.contents writer.new) (W.has_failed writer.old) (W.has_failed writer.new)) }
+    ensures refused { IfErr result (λ fault. RefusedPrint (W.contents writer.old) (W.contents writer.new) (W.has_failed writer.old) (W.has_failed writer.new) fault) }
 {
     match layout(alloc, reading, style) {
         Ok(text) => write_text(writer, text.as_str().as_bytes()),

@@ -1,4 +1,4 @@
-//! Which comments stand behind the text of a line, at its end: they trail a leaf or a key.
+//! Which comments stand after the text of a line, at its end: they trail a leaf or a key.
 ghost use Rattle.std.specs.Prelude.{◌<◌, ◌≤◌, length};
 
 use crate::comments_before::count_before;
@@ -41,17 +41,17 @@ impl Trails {
     }
 }
 
-/// A leaf behind which the next comment may stand.
+/// A leaf after which the next comment may stand.
 #[derive(Clone, Copy)]
 struct Leaf {
     event: usize,
     /// The byte offset of its end.
     end: usize,
-    /// The index of the first comment that begins behind its start.
+    /// The index of the first comment that begins after its start.
     first: usize,
 }
 
-/// Whether a comment that begins behind the leaf's start, and before the next leaf, stands inside of the leaf or on the line
+/// Whether a comment that begins after the leaf's start, and before the next leaf, stands inside of the leaf or on the line
 /// on which it ends.
 fn is_at(reading: &Reading, leaf: Leaf, k: usize) -> bool {
     let comments = reading.comments();
@@ -112,7 +112,7 @@ fn trails_of_keys(alloc: Global, reading: &Reading, forms: &Forms) -> Result<Tra
     Ok(trails)
 }
 
-/// Finds the comments that trail: those that end a key's line, and for each leaf the first comment behind its start and before
+/// Finds the comments that trail: those that end a key's line, and for each leaf the first comment after its start and before
 /// the next leaf, where it stands inside of the leaf or on the line on which the leaf ends.
 pub fn find_trails(
     alloc: Global,

@@ -68,7 +68,7 @@ pub fn wanted_style(reading: &Reading, i: usize, style: &Style) -> ScalarStyle
             style: written,
             text,
             ..
-        } => wanted_of(*written, text.as_str(), style.quotes),
+        } => wanted_of(written, text, style.quotes),
         _ => ScalarStyle::Plain,
     }
 }

@@ -111,7 +111,7 @@ fn push_optional_tag(out: &mut String, tag: &Option<Tag>) -> Result<(), AllocErr
     }
 }
 
-/// Appends a tag behind an anchor, where there is one, with a space between them.
+/// Appends a tag after an anchor, where there is one, with a space between them.
 fn push_tag_behind(out: &mut String, tag: &Option<Tag>) -> Result<(), AllocError>
     ensures { OnOk result (string_bytes out.new ≡ string_bytes out.old ++ space_before (tag_text (optional_tag_value tag.now))) }
 {
@@ -136,7 +136,7 @@ pub fn push_props(out: &mut String, props: &Props) -> Result<(), AllocError>
     }
 }
 
-/// Appends properties with a space behind them; nothing where there are none.
+/// Appends properties with a space after them; nothing where there are none.
 pub fn push_props_before(out: &mut String, props: &Props) -> Result<(), AllocError>
     ensures { OnOk result (string_bytes out.new ≡ string_bytes out.old ++ space_behind (props_text (props_value props.now))) }
 {

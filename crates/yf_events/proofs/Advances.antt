@@ -1,12 +1,13 @@
 -- One event of the pass, by what it does to what is awaited.
-use Rattle.std.proofs.Common.{ℕ, suc, zero, ◌+◌, ◌-◌, ◌<◌, ◌≤◌, ◌≡◌, false, List, [], ◌∷◌, ◌++◌, Some, None, length, refl, sym, ap, ◌∙◌, arith, length-append, map, drop, ◌==◌}
-use Rattle.std.specs.Prelude.{reverse}
+use Rattle.std.proofs.Common.{ℕ, suc, zero, ◌+◌, ◌-◌, ◌<◌, ◌≤◌, ◌≡◌, false, List, [], ◌∷◌, ◌++◌, Option, Some, None, Bool, length, refl, sym, ap, ◌∙◌, arith, length-append, map, drop, ◌==◌}
+use Rattle.std.specs.Prelude.{reverse, slice_get}
 use Rattle.std.proofs.lemmas.Bool.Decides.{nat_tests}
 use Rattle.std.proofs.lemmas.List.{reverse-append, length-reverse, drop_all}
-use Rattle.yf_events.specs.Event.{EventValue}
-use Rattle.yf_events.specs.Nesting.{Advances, move_at, run, is_over}
+use Rattle.yf_events.specs.Event.{EventValue, Placed}
+use Rattle.yf_events.specs.Nesting.{Advances, move_at, run, runs_on, is_over}
 use Rattle.yf_events.specs.declared.nesting.Awaited.{Awaited}
 use Rattle.yf_events.specs.declared.nesting.Awaited.TheVariants.{Stream, Documents, Root, Closing, Items, Keys, Values, Nothing}
+use Rattle.yf_events.proofs.LeafRuns.{events_cut}
 use Rattle.yf_events.specs.declared.nesting.Move.TheVariants.{Refuse, Stay, Open, Close}
 
 refused_at : (r : ℕ) (f : Awaited) (b : List Awaited) (e : EventValue) (es : List EventValue) → move_at f e ≡ Refuse → run r f b (e ∷ es) ≡ false
@@ -96,3 +97,12 @@ not_over_at r f b h = not_over f b h
 
 pub past_end : {X : Type 0} (g : X → EventValue) (i : ℕ) (xs : List X) → length xs ≤ i → map g (drop i xs) ≡ []
 past_end g i xs l = ap (map g) (drop_all i xs l)
+
+-- one more event of a list
+
+pub goes_on : (limit : ℕ) (f : Awaited) (b a : List Awaited) (v : EventValue) (next : Option Awaited) (es : List Placed) (i : ℕ) (all : Bool)
+    → Advances limit f b v next a → slice_get (map (λ e. e.event) es) i ≡ Some v
+    → run (limit - length b) f (reverse b) (map (λ e. e.event) (drop i es)) ≡ all
+    → runs_on next (limit - length a) (reverse a) (map (λ e. e.event) (drop (suc i) es)) ≡ all
+goes_on limit f b a v next es i all adv at e =
+    sym (adv.same (map (λ x. x.event) (drop (suc i) es))) ∙ ap (run (limit - length b) f (reverse b)) (sym (events_cut es i v at)) ∙ e

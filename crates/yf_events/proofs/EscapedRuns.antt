@@ -50,7 +50,7 @@ at_end old new before after text [] p e =
     progress_done old new before after text (subst (Progress old new before after text) escaped_nil p)
 at_end old new before after text (c ∷ y) p e = absurd (omega (arith, e))
 
--- an escape, and what is left behind it
+-- an escape, and what is left after it
 pub at_escape : (old new : Option (List ℕ)) (before after : Bool) (text y : List ℕ) → Progress old new before after text (escaped y)
     → 0 < length y → Progress old new before after text (escaped_byte (slice_index y 0) ++ escaped (take (length y - 1) (drop 1 y)))
 at_escape old new before after text [] p l = absurd (omega arith)

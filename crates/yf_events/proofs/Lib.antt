@@ -2,8 +2,10 @@ pub mod Advances
 pub mod Build
 pub mod ContentRuns
 pub mod EscapedRuns
-pub mod EventLists
 pub mod Nests
+pub mod LeafRuns
 pub mod PieceRuns
 pub mod Rests
-pub mod EditLemmas
+pub mod TreeLemmas
+pub mod TreesExist
+pub mod PackedRows

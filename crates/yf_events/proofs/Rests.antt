@@ -88,7 +88,7 @@ over_left r Items b h = cc
 over_left r Keys b h = cc
 over_left r Values b h = cc
 
--- what is known of the events behind the first
+-- what is known of the events after the first
 abbrev Sound : List EventValue → Type 0
 Sound es = (r : ℕ) (f : Awaited) (b : List Awaited) → run r f b es ≡ true → Rest r f b es
 

@@ -1,13 +1,16 @@
 -- What an event is to a contract: its names and texts are lists of bytes, wherever in memory they lie.
-use Rattle.std.specs.Prelude.{ℕ, zero, suc, Bool, List, [], ◌∷◌, Option, Some}
+use Rattle.std.specs.Prelude.{ℕ, zero, suc, Bool, List, [], ◌∷◌, Option, Some, map}
 use Rattle.yf_lines.specs.Text.{text_bytes}
 use Rattle.yf_props.specs.Props.{PropsValue, props_value}
 use Rattle.yf_events.specs.declared.event.Entry.{Entry}
 use Rattle.yf_events.specs.declared.event.Event.{Event}
 use Rattle.yf_events.specs.declared.event.Event.TheVariants.{StreamStart, StreamEnd, DocStart, DocEnd, SeqStart, SeqEnd, MapStart, MapEnd, Scalar, Alias}
+use Rattle.yf_events.specs.declared.event.NewEvent.{NewEvent}
+use Rattle.yf_events.specs.declared.event.NewEvent.TheVariants as New
 use Rattle.yf_events.specs.declared.event.PlacedEvent.{PlacedEvent}
 use Rattle.yf_events.specs.declared.event.ScalarStyle.{ScalarStyle}
 use Rattle.yf_events.specs.declared.event.Span.{Span}
+use Rattle.yf_events.specs.declared.event.View.{View}
 
 pub data EventValue : Type 0 where
   stream_starts : EventValue
@@ -32,8 +35,21 @@ event_value (SeqStart flow props) = sequence_starts flow (props_value props)
 event_value SeqEnd = sequence_ends
 event_value (MapStart flow props) = mapping_starts flow (props_value props)
 event_value MapEnd = mapping_ends
-event_value (Scalar props style text) = scalar_node (props_value props) style (text_bytes text)
+event_value (Scalar props style text) = scalar_node (props_value props) style text.now
 event_value (Alias name) = alias_node name.now
+
+-- the same of an event that is to be added
+abbrev pub new_event_value : NewEvent → EventValue
+new_event_value New.StreamStart = stream_starts
+new_event_value New.StreamEnd = stream_ends
+new_event_value (New.DocStart explicit) = document_starts explicit
+new_event_value (New.DocEnd explicit) = document_ends explicit
+new_event_value (New.SeqStart flow props) = sequence_starts flow (props_value props)
+new_event_value New.SeqEnd = sequence_ends
+new_event_value (New.MapStart flow props) = mapping_starts flow (props_value props)
+new_event_value New.MapEnd = mapping_ends
+new_event_value (New.Scalar props style text) = scalar_node (props_value props) style (text_bytes text)
+new_event_value (New.Alias name) = alias_node name.now
 
 -- an event with where it stands
 pub record Placed : Type 0 where
@@ -49,15 +65,14 @@ pub record Placed : Type 0 where
 
 abbrev pub placed_value : PlacedEvent → Placed
 placed_value e =
-    record { event = event_value e.event; span = e.span; tag_offset = e.tag_offset; entry = e.entry; folded = e.folded }
+    record { event = new_event_value e.event; span = e.span; tag_offset = e.tag_offset; entry = e.entry; folded = e.folded }
 
--- the events, of which the one at an index begins this entry, or has this part of the text
+abbrev pub view_value : View → Placed
+view_value v =
+    record { event = event_value v.event; span = v.span; tag_offset = v.tag_offset; entry = v.entry; folded = map (λ line. line.now) v.folded.now }
+
+-- the events, of which the one at an index begins this entry
 abbrev pub with_entry : List Placed → ℕ → Entry → List Placed
 with_entry [] i entry = []
 with_entry (e ∷ es) zero entry = record e { entry = Some entry } ∷ es
 with_entry (e ∷ es) (suc i) entry = e ∷ with_entry es i entry
-
-abbrev pub with_span : List Placed → ℕ → Span → List Placed
-with_span [] i span = []
-with_span (e ∷ es) zero span = record e { span = Some span } ∷ es
-with_span (e ∷ es) (suc i) span = e ∷ with_span es i span

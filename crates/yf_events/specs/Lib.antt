@@ -1,8 +1,12 @@
+pub mod Alike
 pub mod Content
 pub mod Edit
 pub mod Event
 pub mod Nested
 pub mod Nesting
 pub mod Notation
+pub mod Packed
 pub mod Pieces
 pub mod Reading
+pub mod Tree
+pub mod WellPlaced

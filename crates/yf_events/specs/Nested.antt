@@ -1,4 +1,4 @@
--- When events are well nested: each collection's end stands behind its nodes, a mapping holds pairs, each document one
+-- When events are well nested: each collection's end stands after its nodes, a mapping holds pairs, each document one
 -- root node, and no more collections than a limit are open at once.
 use Rattle.std.specs.Prelude.{ℕ, suc, Bool, List, [], ◌∷◌, ◌++◌}
 use Rattle.yf_props.specs.Props.{PropsValue}

@@ -1,4 +1,4 @@
--- The test whether events are well nested, as one pass with a stack of what is awaited behind the open collections.
+-- The test whether events are well nested, as one pass with a stack of what is awaited after the open collections.
 use Rattle.std.specs.Prelude.{ℕ, suc, zero, ◌-◌, ◌≡◌, Bool, true, false, List, [], ◌∷◌, Option, Some, None, length, reverse}
 use Rattle.yf_events.specs.Event.{EventValue, stream_starts, stream_ends, document_starts, document_ends, sequence_starts, sequence_ends, mapping_starts, mapping_ends, scalar_node, alias_node}
 use Rattle.yf_events.specs.declared.nesting.Awaited.{Awaited}
@@ -6,7 +6,7 @@ use Rattle.yf_events.specs.declared.nesting.Awaited.TheVariants.{Stream, Documen
 use Rattle.yf_events.specs.declared.nesting.Move.{Move}
 use Rattle.yf_events.specs.declared.nesting.Move.TheVariants.{Refuse, Stay, Open, Close}
 
--- what is awaited behind a node
+-- what is awaited after a node
 abbrev pub after_node : Awaited → Option Awaited
 after_node Stream = None
 after_node Documents = None
@@ -77,7 +77,7 @@ abbrev pub is_over : Awaited → List Awaited → Bool
 is_over Nothing [] = true
 is_over _ _ = false
 
--- with so much room for further collections, this awaited here, and those behind the open collections, innermost first
+-- with so much room for further collections, this awaited here, and those after the open collections, innermost first
 unfoldable pub run : ℕ → Awaited → List Awaited → List EventValue → Bool
 run room top below [] = is_over top below
 run room top below (e ∷ es) = follow (move_at top e) room below (λ r t b. run r t b es)

@@ -45,6 +45,19 @@ begins_leaf (sequence_starts _ _) rest = ends_next rest
 begins_leaf (mapping_starts _ _) rest = ends_next rest
 begins_leaf _ rest = false
 
+-- the same, where the next event ends a collection or not
+abbrev pub leaf_if : EventValue → Bool → Bool
+leaf_if (scalar_node _ _ _) ends = true
+leaf_if (alias_node _) ends = true
+leaf_if (sequence_starts _ _) ends = ends
+leaf_if (mapping_starts _ _) ends = ends
+leaf_if _ ends = false
+
+-- the first of the events begins a leaf
+abbrev pub first_begins_leaf : List Placed → Bool
+first_begins_leaf [] = false
+first_begins_leaf (e ∷ rest) = begins_leaf e.event rest
+
 -- where the leaves with characters begin; an empty node is none, and has no span
 abbrev pub start_in : Bool → Option Span → List ℕ
 start_in true (Some span) = span.start ∷ []
@@ -54,6 +67,16 @@ start_in false span = []
 abbrev pub leaf_starts : List Placed → List ℕ
 leaf_starts [] = []
 leaf_starts (e ∷ rest) = start_in (begins_leaf e.event rest) e.span ++ leaf_starts rest
+
+-- the first of the events begins a leaf with characters, and before the offset
+abbrev pub before_if : Bool → Option Span → ℕ → Bool
+before_if true (Some span) offset = nat_lt span.start offset
+before_if true None offset = false
+before_if false span offset = false
+
+abbrev pub first_begins_before : ℕ → List Placed → Bool
+first_begins_before offset [] = false
+first_begins_before offset (e ∷ rest) = before_if (begins_leaf e.event rest) e.span offset
 
 -- the place of a comment at an offset: how many documents begin before it, and how many leaves with characters
 abbrev pub documents_before : Lists → ℕ → ℕ
@@ -66,8 +89,7 @@ leaves_before r offset = count_by (λ start. nat_lt start offset) (leaf_starts r
 abbrev pub place_at : Lists → ℕ → Option (ℕ × ℕ)
 place_at r k = option_map (λ c. (documents_before r c.offset, leaves_before r c.offset)) (slice_get r.comments k)
 
--- what is true of every reading, with the list of its leaves that is kept beside it
-pub record Holds (r : Lists) (leaves : List ℕ) : Type 0 where
+-- what is true of every reading
+pub record Holds (r : Lists) : Type 0 where
   pub fits : Fits r
   pub stream : IsStream DEPTH (events_of r)
-  pub leaves_are : leaves ≡ leaf_starts r.events

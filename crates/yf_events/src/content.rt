@@ -90,8 +90,8 @@ fn scalar_kind<'r>(tag: Option<&'r str>, style: ScalarStyle, text: &str) -> Kind
 }
 
 /// What an event adds to the content, with the resolved tag of the node that it begins.
-fn item<'r>(event: &'r Event<'r>, tag: Option<&'r str>) -> Option<ContentItem<'r>>
-    ensures { items_listed result ≡ items_of_event (event_value event.now) (name_value tag.entry) }
+fn item<'r>(event: Event<'r>, tag: Option<&'r str>) -> Option<ContentItem<'r>>
+    ensures { items_listed result ≡ items_of_event (event_value event.entry) (name_value tag.entry) }
 {
     match event {
         Event::StreamStart | Event::StreamEnd | Event::DocEnd { .. } => None,
@@ -106,14 +106,11 @@ fn item<'r>(event: &'r Event<'r>, tag: Option<&'r str>) -> Option<ContentItem<'r
             tag,
         }),
         Event::MapEnd => Some(ContentItem::MappingEnd),
-        Event::Scalar { props, style, text } => {
-            let text = text.as_str();
-            Some(ContentItem::Scalar {
-                anchor: props.anchor,
-                kind: scalar_kind(tag, *style, text),
-                text,
-            })
-        }
+        Event::Scalar { props, style, text } => Some(ContentItem::Scalar {
+            anchor: props.anchor,
+            kind: scalar_kind(tag, style, text),
+            text,
+        }),
         Event::Alias { name } => Some(ContentItem::Alias { name }),
     }
 }

@@ -14,10 +14,41 @@ pub enum ScalarStyle {
     Folded,
 }
 
-/// One event. `explicit` says whether `---` or `...` is written, `flow` whether the collection is a flow collection
-/// (a single pair is one).
+/// One event, as a list of them tells it. `explicit` says whether `---` or `...` is written, `flow` whether the collection
+/// is a flow collection (a single pair is one).
+#[derive(Clone, Copy, Debug)]
+pub enum Event<'r> {
+    StreamStart,
+    StreamEnd,
+    DocStart {
+        explicit: bool,
+    },
+    DocEnd {
+        explicit: bool,
+    },
+    SeqStart {
+        flow: bool,
+        props: Props<'r>,
+    },
+    SeqEnd,
+    MapStart {
+        flow: bool,
+        props: Props<'r>,
+    },
+    MapEnd,
+    Scalar {
+        props: Props<'r>,
+        style: ScalarStyle,
+        text: &'r str,
+    },
+    Alias {
+        name: &'r str,
+    },
+}
+
+/// One event that is to be added to a list, with its text.
 #[derive(Debug, Drop)]
-pub enum Event<'a> {
+pub enum NewEvent<'a> {
     StreamStart,
     StreamEnd,
     DocStart {
@@ -60,14 +91,14 @@ pub struct Entry {
     pub start: usize,
     /// The byte offset of its `:`, where it has one.
     pub colon: Option<usize>,
-    /// Whether a blank line stands before it, with nothing but whites and line breaks between.
+    /// Whether a blank line stands before it, with nothing but white space and line breaks between.
     pub blank_before: bool,
 }
 
-/// An event with where it stands in the text.
+/// An event that is to be added to a list, with where it stands in the text.
 #[derive(Debug, Drop)]
 pub struct PlacedEvent<'a> {
-    pub event: Event<'a>,
+    pub event: NewEvent<'a>,
     /// The text of the node with its properties, at the event that begins it. An empty node has none, and neither has
     /// any other event.
     pub span: Option<Span>,
@@ -77,4 +108,14 @@ pub struct PlacedEvent<'a> {
     pub entry: Option<Entry>,
     /// The lines of a scalar that was read as a folded one.
     pub folded: Slices<'a>,
+}
+
+/// The same of an event in a list, by value.
+#[derive(Clone, Copy, Debug)]
+pub struct View<'r> {
+    pub event: Event<'r>,
+    pub span: Option<Span>,
+    pub tag_offset: Option<usize>,
+    pub entry: Option<Entry>,
+    pub folded: &'r [&'r str],
 }

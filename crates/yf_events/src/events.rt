@@ -1,35 +1,43 @@
 //! Lists of events.
 ghost use Rattle.std.specs.Prelude.{◌≡◌, ◌<◌, ◌≤◌, [], ◌∷◌, ◌++◌, drop, take, length, map, slice_get, if◌then◌else◌, is_ok};
-ghost use Rattle.yf_events.specs.Edit as Edit;
 
-use crate::event::{Entry, PlacedEvent, Span};
+use crate::event::{Entry, Event, PlacedEvent, Span, View};
+use crate::packed::{
+    More, PackedRow, entry_of, event_of, folded_of, keyed, more_in, narrow, narrow_entry, row_of,
+    shift, span_of, view_of,
+};
 use std::alloc::{AllocError, Global};
 use std::marker::Model;
 
 /// Events in order. In a contract it is the list of what they are.
 #[derive(Debug, Drop)]
 pub struct Events<'a> {
-    list: Vec<PlacedEvent<'a>>,
+    rows: Vec<PackedRow<'a>>,
+    more: Vec<More<'a>>,
 }
 
 impl<'a> Model for Events<'a> {
     ghost use Rattle.std.specs.Prelude.{List, map};
-    ghost use Rattle.yf_events.specs.Event.{Placed, placed_value};
+    ghost use Rattle.yf_events.specs.Event.{Placed};
+    ghost use Rattle.yf_events.specs.Packed.{RowsFit, row_value};
 
     ghost Value = { List Placed };
 
-    ghost view = { λ e. map placed_value e.list.items };
+    ghost view = { λ e. map (row_value e.more.items) e.rows.items };
+
+    ghost invariant = { λ e. RowsFit e.more.items e.rows.items };
 }
 
 impl<'a> Events<'a> {
     ghost use Rattle.yf_events.specs.Edit.{edited, ended, coloned};
-    ghost use Rattle.yf_events.specs.Event.{placed_value, with_entry, with_span};
+    ghost use Rattle.yf_events.specs.Event.{event_value, placed_value, view_value, with_entry};
 
     pub fn new(alloc: Global) -> Events<'a>
         ensures { result ≡ [] }
     {
         Events {
-            list: Vec::new(alloc),
+            rows: Vec::new(alloc),
+            more: Vec::new(alloc),
         }
     }
 
@@ -37,29 +45,72 @@ impl<'a> Events<'a> {
     pub fn push(&mut self, event: PlacedEvent<'a>) -> Result<(), AllocError>
         ensures { self.new ≡ (if is_ok result then self.old ++ placed_value event.entry ∷ [] else self.old) }
     {
-        self.list.push(event)?;
+        let row = row_of(&mut self.more, event)?;
+        self.rows.push(row)?;
         Ok(())
     }
 
+    #[inline]
     pub fn len(&self) -> usize
         ensures { result ≡ length self.now }
     {
-        self.list.len()
+        self.rows.len()
+    }
+
+    /// The event at an index, with where it stands.
+    #[inline]
+    pub fn at(&self, i: usize) -> View<'_>
+        requires { i < length self.now }
+        ensures { slice_get self.now i ≡ Some (view_value result) }
+    {
+        let row = &self.rows[i];
+        view_of(row, more_in(self.more.as_slice(), row.more))
     }
 
     /// The event at an index.
-    pub fn at(&self, i: usize) -> &PlacedEvent<'a>
+    #[inline]
+    pub fn event(&self, i: usize) -> Event<'_>
         requires { i < length self.now }
-        ensures { slice_get self.now i ≡ Some (placed_value result.now) }
+        ensures { slice_get (map (λ e. e.event) self.now) i ≡ Some (event_value result) }
     {
-        &self.list[i]
+        let row = &self.rows[i];
+        event_of(row, more_in(self.more.as_slice(), row.more))
+    }
+
+    /// The part of the text that the event at an index has.
+    #[inline]
+    pub fn span(&self, i: usize) -> Option<Span>
+        requires { i < length self.now }
+        ensures { slice_get (map (λ e. e.span) self.now) i ≡ Some result }
+    {
+        span_of(&self.rows[i])
+    }
+
+    /// The entry that the event at an index begins.
+    #[inline]
+    pub fn entry(&self, i: usize) -> Option<Entry>
+        requires { i < length self.now }
+        ensures { slice_get (map (λ e. e.entry) self.now) i ≡ Some result }
+    {
+        entry_of(&self.rows[i])
+    }
+
+    /// The lines of the scalar at an index, where it was read as a folded one; else none.
+    #[inline]
+    pub fn folded(&self, i: usize) -> &[&str]
+        requires { i < length self.now }
+        ensures { slice_get (map (λ e. e.folded) self.now) i ≡ Some (map (λ line. line.now) result.now) }
+    {
+        folded_of(more_in(self.more.as_slice(), self.rows[i].more))
     }
 
     /// Moves all events of another list to the end.
     pub fn append(&mut self, mut other: Events<'a>) -> Result<(), AllocError>
         ensures { self.new ≡ (if is_ok result then self.old ++ other.entry else self.old) }
     {
-        self.list.append(&mut other.list)?;
+        shift(&mut other.rows, narrow(self.more.len())?)?;
+        self.more.append(&mut other.more)?;
+        self.rows.append(&mut other.rows)?;
         Ok(())
     }
 
@@ -68,7 +119,8 @@ impl<'a> Events<'a> {
         requires { i ≤ length self.old }
         ensures { self.new ≡ (if is_ok result then take i self.old ++ placed_value event.entry ∷ drop i self.old else self.old) }
     {
-        self.list.insert(i, event)?;
+        let row = row_of(&mut self.more, event)?;
+        self.rows.insert(i, row)?;
         Ok(())
     }
 
@@ -76,79 +128,46 @@ impl<'a> Events<'a> {
     pub fn truncate(&mut self, count: usize)
         ensures { self.new ≡ take count self.old }
     {
-        self.list.truncate(count);
+        self.rows.truncate(count);
     }
 
     /// Gives the event at an index its entry.
-    pub fn set_entry(&mut self, i: usize, entry: Entry)
+    pub fn set_entry(&mut self, i: usize, entry: Entry) -> Result<(), AllocError>
         requires { i < length self.old }
-        ensures { self.new ≡ with_entry self.old i entry }
+        ensures { self.new ≡ (if is_ok result then with_entry self.old i entry else self.old) }
     {
-        self.list[i].entry = Some(entry);
-    }
-
-    /// Gives the event at an index its part of the text.
-    pub fn set_span(&mut self, i: usize, span: Span)
-        requires { i < length self.old }
-        ensures { self.new ≡ with_span self.old i span }
-    {
-        self.list[i].span = Some(span);
+        let beginning = narrow_entry(Some(entry))?;
+        let row = &mut self.rows[i];
+        row.begins = beginning.begins;
+        row.entry = beginning.start;
+        row.colon = beginning.colon;
+        Ok(())
     }
 
     /// Sets where the node ends that the event at an index begins. A node without a place, as an empty one, stays so.
     /// Past the end nothing is changed, here and below.
-    pub fn set_end(&mut self, i: usize, end: usize)
-        ensures edited { self.new ≡ edited (ended end) i self.old }
+    pub fn set_end(&mut self, i: usize, end: usize) -> Result<(), AllocError>
+        ensures edited { self.new ≡ (if is_ok result then edited (ended end) i self.old else self.old) }
         ensures len { length self.new ≡ length self.old }
     {
-        if i < self.list.len() {
-            let event = &mut self.list[i];
-            event.span = span_to(event.span, end);
+        let end = narrow(end)?;
+        if i < self.rows.len() {
+            self.rows[i].end = end;
         }
+        Ok(())
     }
 
     /// Sets where the `:` stands of the entry that the event at an index begins, if it begins one.
-    pub fn set_colon(&mut self, i: usize, colon: usize)
-        ensures edited { self.new ≡ edited (coloned colon) i self.old }
+    pub fn set_colon(&mut self, i: usize, colon: usize) -> Result<(), AllocError>
+        ensures edited { self.new ≡ (if is_ok result then edited (coloned colon) i self.old else self.old) }
         ensures len { length self.new ≡ length self.old }
     {
-        if i < self.list.len() {
-            let event = &mut self.list[i];
-            event.entry = with_colon(event.entry, colon);
+        let colon = narrow(colon)?;
+        if i < self.rows.len() {
+            let row = &mut self.rows[i];
+            row.begins = keyed(row.begins);
+            row.colon = colon;
         }
-    }
-
-    pub fn as_slice(&self) -> &[PlacedEvent<'a>]
-        ensures { map placed_value result.now ≡ self.now }
-    {
-        self.list.as_slice()
-    }
-}
-
-fn span_to(span: Option<Span>, end: usize) -> Option<Span>
-    ensures { result ≡ Edit.span_to end span }
-{
-    match span {
-        Some(Span { start, .. }) => Some(Span { start, end }),
-        None => None,
-    }
-}
-
-fn with_colon(entry: Option<Entry>, colon: usize) -> Option<Entry>
-    ensures { result ≡ Edit.with_colon colon entry }
-{
-    match entry {
-        Some(
-            Entry {
-                start,
-                blank_before,
-                ..
-            },
-        ) => Some(Entry {
-            start,
-            colon: Some(colon),
-            blank_before,
-        }),
-        None => None,
+        Ok(())
     }
 }

@@ -1,11 +1,10 @@
 //! The leaves of a reading: scalars, aliases and empty collections.
-ghost use Rattle.std.specs.Prelude.{◌≡◌, ◌++◌, map, IfOk};
-ghost use Rattle.yf_events.specs.Event.{event_value, placed_value};
+ghost use Rattle.std.specs.Prelude.{◌≡◌, ◌+◌, ◌<◌, cond, count_by, drop, length, nat_lt};
+ghost use Rattle.yf_events.specs.Event.{event_value};
 ghost use Rattle.yf_events.specs.Reading as Reading;
 
-use crate::event::{Event, PlacedEvent};
-use crate::row::Row;
-use std::alloc::{AllocError, Global};
+use crate::event::Event;
+use crate::events::Events;
 
 fn is_end(event: &Event) -> bool
     ensures { result ≡ Reading.is_end (event_value event.now) }
@@ -13,50 +12,62 @@ fn is_end(event: &Event) -> bool
     matches!(event, Event::SeqEnd | Event::MapEnd)
 }
 
-fn ends_next(rest: &[PlacedEvent]) -> bool
-    ensures { result ≡ Reading.ends_next (map placed_value rest.now) }
+fn ends_after(events: &Events, i: usize) -> bool
+    requires { i < length events.now }
+    ensures { result ≡ Reading.ends_next (drop (i + 1) events.now) }
 {
-    match rest.first() {
-        Some(next) => is_end(&next.event),
-        None => false,
+    if i < events.len() - 1 {
+        return is_end(&events.event(i + 1));
     }
+    false
 }
 
-/// Whether the event begins a leaf, with the events behind it.
-pub fn begins_leaf(event: &Event, rest: &[PlacedEvent]) -> bool
-    ensures { result ≡ Reading.begins_leaf (event_value event.now) (map placed_value rest.now) }
+/// Whether the event begins a leaf, where the next event ends a collection or not.
+fn begins(event: &Event, ends_next: bool) -> bool
+    ensures { result ≡ Reading.leaf_if (event_value event.now) ends_next }
 {
     match event {
         Event::Scalar { .. } | Event::Alias { .. } => true,
-        Event::SeqStart { .. } | Event::MapStart { .. } => ends_next(rest),
+        Event::SeqStart { .. } | Event::MapStart { .. } => ends_next,
         _ => false,
     }
 }
 
-/// Adds where the event begins, if it begins a leaf with characters.
-fn add_start(
-    starts: &mut Row<usize>,
-    placed: &PlacedEvent,
-    rest: &[PlacedEvent],
-) -> Result<(), AllocError>
-    ensures { IfOk result (λ _. starts.new ≡ starts.old ++ Reading.start_in (Reading.begins_leaf (event_value placed.now.event) (map placed_value rest.now)) placed.now.span) }
+/// Whether the event at an index begins a leaf.
+pub fn begins_leaf(events: &Events, i: usize) -> bool
+    requires { i < length events.now }
+    ensures { result ≡ Reading.first_begins_leaf (drop i events.now) }
 {
-    if begins_leaf(&placed.event, rest) {
-        if let Some(span) = placed.span {
-            return starts.push(span.start);
-        }
-        return Ok(());
-    }
-    Ok(())
+    begins(&events.event(i), ends_after(events, i))
 }
 
-/// Where the leaves with characters begin.
-pub fn leaf_starts(alloc: Global, events: &[PlacedEvent]) -> Result<Row<usize>, AllocError>
-    ensures { IfOk result (λ starts. starts ≡ Reading.leaf_starts (map placed_value events.now)) }
+/// Whether the event at an index begins a leaf with characters, and before the offset.
+fn begins_before(events: &Events, i: usize, offset: usize) -> bool
+    requires { i < length events.now }
+    ensures { result ≡ Reading.first_begins_before offset (drop i events.now) }
 {
-    let mut starts = Row::new(alloc);
-    for i in 0..events.len() {
-        add_start(&mut starts, &events[i], &events[i + 1..])?;
+    if begins_leaf(events, i) {
+        if let Some(span) = events.span(i) {
+            return span.start < offset;
+        }
+        return false;
     }
-    Ok(starts)
+    false
+}
+
+fn one_if(test: bool) -> usize
+    ensures { result ≡ cond test 1 0 }
+{
+    if test { 1 } else { 0 }
+}
+
+/// How many leaves with characters begin before the offset.
+pub fn leaves_before(events: &Events, offset: usize) -> usize
+    ensures { result ≡ count_by (λ start. nat_lt start offset) (Reading.leaf_starts events.now) }
+{
+    let mut count = 0;
+    for i in 0..events.len() {
+        count += one_if(begins_before(events, i, offset));
+    }
+    count
 }

@@ -12,6 +12,7 @@ pub mod leaves;
 pub mod lists;
 mod nesting;
 pub mod notation;
+mod packed;
 pub mod part;
 pub mod reading;
 pub mod row;

@@ -3,7 +3,8 @@ ghost use Rattle.std.specs.Prelude.{◌≡◌, ◌+◌, ◌≤◌, [], map, IfOk
 ghost use Rattle.yf_events.specs.Event.{event_value};
 ghost use Rattle.yf_events.specs.Nesting as Nesting;
 
-use crate::event::{Event, PlacedEvent};
+use crate::event::Event;
+use crate::events::Events;
 use std::alloc::{AllocError, Global};
 
 /// What may come next.
@@ -40,7 +41,7 @@ pub enum Move {
     Close,
 }
 
-/// What is awaited behind a node, if one may stand here.
+/// What is awaited after a node, if one may stand here.
 fn after_node(top: Awaited) -> Option<Awaited>
     ensures { result ≡ Nesting.after_node top }
 {
@@ -99,7 +100,7 @@ fn move_at(top: Awaited, event: &Event) -> Move
     }
 }
 
-/// Goes past one event: what is awaited behind it, or None where it may not come. `below` holds what is awaited behind
+/// Goes past one event: what is awaited after it, or None where it may not come. `below` holds what is awaited after
 /// each open collection, the innermost last.
 fn advance(
     top: Awaited,
@@ -129,13 +130,13 @@ fn advance(
 }
 
 /// Whether the events are a well nested stream with no more collections open at once than the limit.
-pub fn is_stream(alloc: Global, events: &[PlacedEvent], limit: usize) -> Result<bool, AllocError>
-    ensures { IfOk result (λ b. b ≡ Nesting.run limit Awaited.Stream [] (map (λ e. event_value e.event) events.now)) }
+pub fn is_stream(alloc: Global, events: &Events, limit: usize) -> Result<bool, AllocError>
+    ensures { IfOk result (λ b. b ≡ Nesting.run limit Awaited.Stream [] (map (λ e. e.event) events.now)) }
 {
     let mut below: Vec<Awaited> = Vec::new(alloc);
     let mut top = Awaited::Stream;
-    for placed in events {
-        match advance(top, &mut below, &placed.event, limit)? {
+    for i in 0..events.len() {
+        match advance(top, &mut below, &events.event(i), limit)? {
             Some(next) => {
                 top = next;
             }

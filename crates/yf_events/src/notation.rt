@@ -93,24 +93,24 @@ fn part_if<'s>(stands: bool, part: &'s str) -> &'s str
 #[tactic(auto, unfolding(crate::specs::Notation::event_line))]
 fn write_event<'x, W: Sink>(
     writer: &mut W,
-    event: &'x Event<'x>,
+    event: Event<'x>,
     tag: Option<&'x str>,
 ) -> Result<(), Fault>
-    ensures { Writes (W.contents writer.old) (W.contents writer.new) (W.has_failed writer.old) (W.has_failed writer.new) (Notation.event_line (event_value event.now) (name_value tag.entry)) result }
+    ensures { Writes (W.contents writer.old) (W.contents writer.new) (W.has_failed writer.old) (W.has_failed writer.new) (Notation.event_line (event_value event.entry) (name_value tag.entry)) result }
 {
     match event {
         Event::StreamStart => write_text(writer, b"+STR\n"),
         Event::StreamEnd => write_text(writer, b"-STR\n"),
         Event::DocStart { explicit } => write_texts(
             writer,
-            &["+DOC", part_if(*explicit, " ---"), "\n"],
+            &["+DOC", part_if(explicit, " ---"), "\n"],
         ),
         Event::DocEnd { explicit } => write_texts(
             writer,
-            &["-DOC", part_if(*explicit, " ..."), "\n"],
+            &["-DOC", part_if(explicit, " ..."), "\n"],
         ),
         Event::SeqStart { flow, props } => {
-            let brackets = part_if(*flow, " []");
+            let brackets = part_if(flow, " []");
             write_pieces(
                 writer,
                 &[
@@ -124,7 +124,7 @@ fn write_event<'x, W: Sink>(
         }
         Event::SeqEnd => write_text(writer, b"-SEQ\n"),
         Event::MapStart { flow, props } => {
-            let brackets = part_if(*flow, " {}");
+            let brackets = part_if(flow, " {}");
             write_pieces(
                 writer,
                 &[
@@ -138,8 +138,7 @@ fn write_event<'x, W: Sink>(
         }
         Event::MapEnd => write_text(writer, b"-MAP\n"),
         Event::Scalar { props, style, text } => {
-            let sign = style_sign(*style);
-            let text = text.as_str();
+            let sign = style_sign(style);
             write_pieces(
                 writer,
                 &[
@@ -159,7 +158,7 @@ fn write_event<'x, W: Sink>(
 
 /// Writes the notation of all events of a reading.
 ///
-/// Answers `Fault::WriteFailed` where a write fails or takes no bytes; a front of the notation has then been written.
+/// Answers `Fault::WriteFailed` where a write fails or takes no bytes; a prefix of the notation has then been written.
 /// Takes no memory.
 pub fn write_events<W: Sink>(reading: &Reading, writer: &mut W) -> Result<(), Fault>
     ensures { Writes (W.contents writer.old) (W.contents writer.new) (W.has_failed writer.old) (W.has_failed writer.new) (Notation.notation_of reading.now) result }

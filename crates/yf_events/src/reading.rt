@@ -3,10 +3,9 @@ ghost use Rattle.std.specs.Prelude.{◌≡◌, ◌<◌, count_by, length, map, n
 
 use crate::document::Doc;
 use crate::event::{Entry, Event, Span};
-use crate::leaves::leaf_starts;
+use crate::leaves::leaves_before;
 use crate::lists::Lists;
 use crate::nesting::is_stream;
-use crate::row::Row;
 use std::alloc::{AllocError, Global};
 use std::marker::Model;
 use yf_comments::comment::Comment;
@@ -20,7 +19,6 @@ pub const DEPTH: usize = 1024;
 #[derive(Debug, Drop)]
 pub struct Reading<'a> {
     lists: Lists<'a>,
-    leaf_starts: Row<usize>,
 }
 
 impl<'a> Model for Reading<'a> {
@@ -32,7 +30,7 @@ impl<'a> Model for Reading<'a> {
 
     ghost use Rattle.yf_events.specs.Reading.{Holds};
 
-    ghost invariant = { λ r. Holds r.lists r.leaf_starts };
+    ghost invariant = { λ r. Holds r.lists };
 }
 
 impl<'a> Reading<'a> {
@@ -59,14 +57,14 @@ impl<'a> Reading<'a> {
         requires { Fits lists }
         ensures { IfOk result (λ o. MatchOption o (IsStream DEPTH (events_of lists.entry) → ⊥) (λ r. (r ≡ lists.entry) × IsStream DEPTH (events_of r))) }
     {
-        if is_stream(alloc, lists.events.as_slice(), DEPTH)? {
-            let leaf_starts = leaf_starts(alloc, lists.events.as_slice())?;
-            return Ok(Some(Reading { lists, leaf_starts }));
+        if is_stream(alloc, &lists.events, DEPTH)? {
+            return Ok(Some(Reading { lists }));
         }
         Ok(None)
     }
 
     /// The lists that the reading was made of.
+    #[inline]
     pub fn lists(&self) -> &Lists<'a>
         ensures same { result.now ≡ self.now }
         ensures fit { Fits self.now }
@@ -76,6 +74,7 @@ impl<'a> Reading<'a> {
     }
 
     /// How many events there are, `StreamStart` and `StreamEnd` counted.
+    #[inline]
     pub fn len(&self) -> usize
         ensures { result ≡ length self.now.events }
     {
@@ -83,38 +82,42 @@ impl<'a> Reading<'a> {
     }
 
     /// The event at an index; `StreamStart` is event 0.
-    pub fn event(&self, i: usize) -> &Event<'a>
+    #[inline]
+    pub fn event(&self, i: usize) -> Event<'_>
         requires { i < length self.now.events }
-        ensures { slice_get (events_of self.now) i ≡ Some (event_value result.now) }
+        ensures { slice_get (events_of self.now) i ≡ Some (event_value result) }
     {
-        &self.lists.events.at(i).event
+        self.lists.events.event(i)
     }
 
     /// The part of the text that the node has which the event begins, with its properties. An empty node has none.
+    #[inline]
     pub fn span(&self, i: usize) -> Option<Span>
         requires { i < length self.now.events }
         ensures { slice_get (spans_of self.now) i ≡ Some result }
     {
-        self.lists.events.at(i).span
+        self.lists.events.span(i)
     }
 
     /// The entry that the event begins, as its item or key.
+    #[inline]
     pub fn entry(&self, i: usize) -> Option<Entry>
         requires { i < length self.now.events }
         ensures { slice_get (entries_of self.now) i ≡ Some result }
     {
-        self.lists.events.at(i).entry
+        self.lists.events.entry(i)
     }
 
     /// The lines of the scalar that the event is, where it was read as a folded one; else none.
-    pub fn folded_lines(&self, i: usize) -> &[&'a str]
+    pub fn folded_lines(&self, i: usize) -> &[&str]
         requires { i < length self.now.events }
         ensures { slice_get (folded_of self.now) i ≡ Some (map (λ line. line.now) result.now) }
     {
-        self.lists.events.at(i).folded.as_slice()
+        self.lists.events.folded(i)
     }
 
     /// The resolved tag of the node that the event begins, where one is written.
+    #[inline]
     pub fn resolved(&self, i: usize) -> Option<&str>
         requires { i < length self.now.events }
         ensures { slice_get self.now.resolved i ≡ Some (name_value result) }
@@ -154,7 +157,7 @@ impl<'a> Reading<'a> {
     {
         let offset = self.lists.comments.at(k).offset;
         let documents = documents_before(self.documents(), offset);
-        let leaves = starts_before(self.leaf_starts.as_slice(), offset);
+        let leaves = leaves_before(&self.lists.events, offset);
         (documents, leaves)
     }
 }
@@ -163,10 +166,4 @@ fn documents_before(documents: &[Doc], offset: usize) -> usize
     ensures { result ≡ count_by (λ d. nat_lt d.start offset) documents.now }
 {
     documents.iter().filter(|d| d.start < offset).count()
-}
-
-fn starts_before(starts: &[usize], offset: usize) -> usize
-    ensures { result ≡ count_by (λ start. nat_lt start offset) starts.now }
-{
-    starts.iter().filter(|start| **start < offset).count()
 }

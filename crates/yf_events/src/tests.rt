@@ -4,7 +4,7 @@ ghost use Rattle.yf_events.specs.Reading.{Fits};
 
 use crate::directive::{Directive, Directives};
 use crate::document::Doc;
-use crate::event::{Entry, Event, PlacedEvent, ScalarStyle, Span};
+use crate::event::{Entry, Event, NewEvent, PlacedEvent, ScalarStyle, Span};
 use crate::lists::Lists;
 use crate::notation::write_events;
 use crate::reading::Reading;
@@ -22,24 +22,24 @@ const NONE: Props<'static> = Props {
     tag: None,
 };
 
-fn scalar<'a>(style: ScalarStyle, text: &'a str) -> Event<'a> {
-    Event::Scalar {
+fn scalar<'a>(style: ScalarStyle, text: &'a str) -> NewEvent<'a> {
+    NewEvent::Scalar {
         props: NONE,
         style,
         text: Text::Part(text),
     }
 }
 
-fn sequence<'a>(flow: bool) -> Event<'a> {
-    Event::SeqStart { flow, props: NONE }
+fn sequence<'a>(flow: bool) -> NewEvent<'a> {
+    NewEvent::SeqStart { flow, props: NONE }
 }
 
-fn mapping<'a>(flow: bool) -> Event<'a> {
-    Event::MapStart { flow, props: NONE }
+fn mapping<'a>(flow: bool) -> NewEvent<'a> {
+    NewEvent::MapStart { flow, props: NONE }
 }
 
 /// Adds an event with no tag and no place.
-fn add<'a>(alloc: Global, lists: &mut Lists<'a>, event: Event<'a>) -> Result<(), Fail>
+fn add<'a>(alloc: Global, lists: &mut Lists<'a>, event: NewEvent<'a>) -> Result<(), Fail>
     requires { Fits lists.old }
     ensures { IfOk result (λ _. Fits lists.new) }
 {
@@ -58,22 +58,22 @@ fn add<'a>(alloc: Global, lists: &mut Lists<'a>, event: Event<'a>) -> Result<(),
 fn reading_of<'a>(
     alloc: Global,
     explicit: bool,
-    nodes: Vec<Event<'a>>,
+    nodes: Vec<NewEvent<'a>>,
 ) -> Result<Option<Reading<'a>>, Fail> {
     let mut lists = Lists::new(alloc);
-    add(alloc, &mut lists, Event::StreamStart)?;
-    add(alloc, &mut lists, Event::DocStart { explicit })?;
+    add(alloc, &mut lists, NewEvent::StreamStart)?;
+    add(alloc, &mut lists, NewEvent::DocStart { explicit })?;
     for node in nodes {
         add(alloc, &mut lists, node)?;
     }
-    add(alloc, &mut lists, Event::DocEnd { explicit })?;
-    add(alloc, &mut lists, Event::StreamEnd)?;
+    add(alloc, &mut lists, NewEvent::DocEnd { explicit })?;
+    add(alloc, &mut lists, NewEvent::StreamEnd)?;
     let reading = Reading::build(alloc, lists)?;
     Ok(reading)
 }
 
 /// The notation of such a stream.
-fn written(alloc: Global, explicit: bool, nodes: Vec<Event>) -> Result<Vec<u8>, Fail> {
+fn written(alloc: Global, explicit: bool, nodes: Vec<NewEvent>) -> Result<Vec<u8>, Fail> {
     let reading = reading_of(alloc, explicit, nodes)?.ok_or("no reading")?;
     let mut writer = Watched::new(Vec::new(alloc));
     write_events(&reading, &mut writer)?;
@@ -97,7 +97,7 @@ fn texts_are_written_with_escapes(rt: HostRuntime) -> Result<(), Fail> {
         quote,
         escapes,
         scalar(ScalarStyle::Plain, ""),
-        Event::SeqEnd,
+        NewEvent::SeqEnd,
     ]?;
     let bytes = written(rt.alloc(), false, nodes)?;
     let wanted =
@@ -108,15 +108,15 @@ fn texts_are_written_with_escapes(rt: HostRuntime) -> Result<(), Fail> {
 
 #[test]
 fn single_pairs_and_aliases_are_written(rt: HostRuntime) -> Result<(), Fail> {
-    let alias = Event::Alias { name: "a" };
+    let alias = NewEvent::Alias { name: "a" };
     let block = scalar(ScalarStyle::Literal, "b\n");
     let nodes = vec![in rt.alloc();
         sequence(true),
         mapping(true),
         alias,
         block,
-        Event::MapEnd,
-        Event::SeqEnd,
+        NewEvent::MapEnd,
+        NewEvent::SeqEnd,
     ]?;
     let bytes = written(rt.alloc(), true, nodes)?;
     let wanted =
@@ -147,7 +147,7 @@ fn block<'a>(alloc: Global) -> Result<PlacedEvent<'a>, Fail> {
         suffix: "str",
     });
     Ok(PlacedEvent {
-        event: Event::Scalar {
+        event: NewEvent::Scalar {
             props: Props {
                 anchor: Some("x"),
                 tag,
@@ -171,13 +171,13 @@ fn block_lists<'a>(alloc: Global) -> Result<Lists<'a>, Fail>
 {
     let resolved = OwnedText::new(String::from_str(alloc, "tag:yaml.org,2002:str")?);
     let mut lists = Lists::new(alloc);
-    add(alloc, &mut lists, Event::StreamStart)?;
-    add(alloc, &mut lists, Event::DocStart { explicit: true })?;
+    add(alloc, &mut lists, NewEvent::StreamStart)?;
+    add(alloc, &mut lists, NewEvent::DocStart { explicit: true })?;
     add(alloc, &mut lists, sequence(false))?;
     lists.push_event(block(alloc)?, Some(resolved))?;
-    add(alloc, &mut lists, Event::SeqEnd)?;
-    add(alloc, &mut lists, Event::DocEnd { explicit: false })?;
-    add(alloc, &mut lists, Event::StreamEnd)?;
+    add(alloc, &mut lists, NewEvent::SeqEnd)?;
+    add(alloc, &mut lists, NewEvent::DocEnd { explicit: false })?;
+    add(alloc, &mut lists, NewEvent::StreamEnd)?;
     Ok(lists)
 }
 
@@ -244,7 +244,7 @@ fn properties_are_written(rt: HostRuntime) -> Result<(), Fail> {
 }
 
 /// Whether the two streams of one document have the same content.
-fn alike(alloc: Global, one: Vec<Event>, other: Vec<Event>) -> Result<bool, Fail> {
+fn alike(alloc: Global, one: Vec<NewEvent>, other: Vec<NewEvent>) -> Result<bool, Fail> {
     let one = reading_of(alloc, true, one)?.ok_or("no reading")?;
     let other = reading_of(alloc, false, other)?.ok_or("no reading")?;
     let is_alike = have_same_content(alloc, &one, &other)?;
@@ -263,13 +263,13 @@ fn content_looks_past_styles_and_markers(rt: HostRuntime) -> Result<(), Fail> {
         mapping(true),
         scalar(ScalarStyle::Single, "a"),
         scalar(ScalarStyle::Folded, "b\n"),
-        Event::MapEnd,
+        NewEvent::MapEnd,
     ]?;
     let other = vec![in rt.alloc();
         mapping(false),
         scalar(ScalarStyle::Double, "a"),
         scalar(ScalarStyle::Double, "b\n"),
-        Event::MapEnd,
+        NewEvent::MapEnd,
     ]?;
     assert!(rt; alike(rt.alloc(), one, other)?);
     Ok(())
@@ -294,8 +294,8 @@ fn content_marks_plain_and_steady_texts(rt: HostRuntime) -> Result<(), Fail> {
     Ok(())
 }
 
-fn anchored<'a>(anchor: &'a str) -> Event<'a> {
-    Event::MapStart {
+fn anchored<'a>(anchor: &'a str) -> NewEvent<'a> {
+    NewEvent::MapStart {
         flow: false,
         props: Props {
             anchor: Some(anchor),
@@ -306,8 +306,8 @@ fn anchored<'a>(anchor: &'a str) -> Event<'a> {
 
 #[test]
 fn content_tells_anchors_apart(rt: HostRuntime) -> Result<(), Fail> {
-    let one = vec![in rt.alloc(); anchored("a"), Event::MapEnd]?;
-    let other = vec![in rt.alloc(); anchored("b"), Event::MapEnd]?;
+    let one = vec![in rt.alloc(); anchored("a"), NewEvent::MapEnd]?;
+    let other = vec![in rt.alloc(); anchored("b"), NewEvent::MapEnd]?;
     assert!(rt; !alike(rt.alloc(), one, other)?);
     Ok(())
 }
@@ -316,11 +316,11 @@ fn content_tells_anchors_apart(rt: HostRuntime) -> Result<(), Fail> {
 fn tagged<'a>(alloc: Global, tag: &str) -> Result<Option<Reading<'a>>, Fail> {
     let resolved = OwnedText::new(String::from_str(alloc, tag)?);
     let mut lists = Lists::new(alloc);
-    add(alloc, &mut lists, Event::StreamStart)?;
-    add(alloc, &mut lists, Event::DocStart { explicit: true })?;
+    add(alloc, &mut lists, NewEvent::StreamStart)?;
+    add(alloc, &mut lists, NewEvent::DocStart { explicit: true })?;
     lists.push_event(block(alloc)?, Some(resolved))?;
-    add(alloc, &mut lists, Event::DocEnd { explicit: false })?;
-    add(alloc, &mut lists, Event::StreamEnd)?;
+    add(alloc, &mut lists, NewEvent::DocEnd { explicit: false })?;
+    add(alloc, &mut lists, NewEvent::StreamEnd)?;
     let reading = Reading::build(alloc, lists)?;
     Ok(reading)
 }

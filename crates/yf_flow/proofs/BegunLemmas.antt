@@ -15,7 +15,6 @@ use Rattle.yf_grammar.specs.Parser.{found, plain_found, begins_content}
 use Rattle.yf_grammar.specs.Parser.Parses.{single_read, single_missed, double_read, double_missed}
 use Rattle.yf_flow.specs.declared.frame.Kind.{Kind}
 use Rattle.yf_flow.specs.declared.node.Lead.{Lead}
-use Rattle.yf_flow.specs.Leaves.{Firsts, no_escapes}
 use Rattle.yf_flow.specs.Begun.{ContentAt, content_there, plain_there, LeafAt, leaf_event, lead_event, is_sequence}
 use Rattle.yf_flow.proofs.LookLemmas.{single_begins, double_begins, nothing_begins}
 
@@ -32,7 +31,7 @@ module _ {t : List ℕ} {n : ℤ} {c : Ctx} {i depth j : ℕ} {lead : Lead} {old
     text = text;
     bad = [];
     read = λ l. rw (e, sym (plain_is x i j)) (plain_there b p);
-    added = record { events = v; comments = cs ∙ sym (append-nil old.comments); kept = []; firsts = no_escapes; escapes = es ∙ sym (append-nil old.escapes) };
+    added = record { events = v; comments = cs ∙ sym (append-nil old.comments); escapes = es ∙ sym (append-nil old.escapes) };
     deepest = refl;
   }
 
@@ -44,21 +43,20 @@ module _ {t : List ℕ} {n : ℤ} {c : Ctx} {i depth j : ℕ} {lead : Lead} {old
     text = text;
     bad = [];
     read = λ l. rw e (content_there (sym (single_begins b)) (single_read p));
-    added = record { events = v; comments = cs ∙ sym (append-nil old.comments); kept = []; firsts = no_escapes; escapes = es ∙ sym (append-nil old.escapes) };
+    added = record { events = v; comments = cs ∙ sym (append-nil old.comments); escapes = es ∙ sym (append-nil old.escapes) };
     deepest = refl;
   }
 
-  pub double_leaf : (text : List ℕ) (x : List Piece) (kept : List ℕ) → code t i ≡ 34 → text ≡ encode_utf8_all (text_of x)
-      → Chosen (DoubleQuoted t n c i) j x → Firsts (bad_escapes x) kept
-      → (mid : List Placed) → new.events ≡ mid ++ (leaf_event lead DoubleStyle text j ∷ []) → mid ≡ old.events → new.comments ≡ old.comments
-      → new.escapes ≡ old.escapes ++ kept
+  pub double_leaf : (text : List ℕ) (x : List Piece) → code t i ≡ 34 → text ≡ encode_utf8_all (text_of x)
+      → Chosen (DoubleQuoted t n c i) j x → (mid : List Placed) → new.events ≡ mid ++ (leaf_event lead DoubleStyle text j ∷ []) → mid ≡ old.events → new.comments ≡ old.comments
+      → new.escapes ≡ old.escapes ++ bad_escapes x
       → LeafAt t n c i depth lead old new (record { end = j; json = true; deepest = depth })
-  double_leaf text x kept b e p f mid v m cs es = record {
+  double_leaf text x b e p mid v m cs es = record {
     style = DoubleStyle;
     text = text;
     bad = bad_escapes x;
     read = λ l. rw e (content_there (sym (double_begins b)) (double_read p));
-    added = record { events = rw m at v; comments = cs ∙ sym (append-nil old.comments); kept = kept; firsts = f; escapes = es };
+    added = record { events = rw m at v; comments = cs ∙ sym (append-nil old.comments); escapes = es };
     deepest = refl;
   }
 

@@ -1,4 +1,4 @@
--- What leaf readers read ends behind its start.
+-- What leaf readers read ends after its start.
 use Rattle.std.proofs.Common.{ℕ, ℤ, ◌<◌, ◌≤◌, List, arith}
 use Rattle.yf_chars.specs.declared.context.Ctx.{Ctx}
 use Rattle.yf_chars.specs.Chain.{Chain, done, step}

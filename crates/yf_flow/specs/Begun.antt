@@ -20,7 +20,6 @@ use Rattle.yf_flow.specs.declared.frame.Node.{Node}
 use Rattle.yf_flow.specs.declared.node.Begun.{Begun}
 use Rattle.yf_flow.specs.declared.node.Begun.TheVariants.{Leaf, Opened, Nothing, TooDeep}
 use Rattle.yf_flow.specs.declared.node.Lead.{Lead}
-use Rattle.yf_flow.specs.Leaves.{Firsts}
 
 -- a node without properties
 abbrev pub bare_lead : ℕ → Option Entry → Lead
@@ -38,13 +37,11 @@ leaf_event lead style text j = lead_event lead (scalar_node (props_value lead.pr
 abbrev pub entry_event : EventValue → Option Entry → Placed
 entry_event event entry = record { event = event; span = None; tag_offset = None; entry = entry; folded = [] }
 
--- what a part has more: events, comments, and of the bad escapes of each scalar the first
+-- what a part has more: events, comments and bad escapes
 pub record Added (old new : Part) (es : List Placed) (cs : List CommentValue) (bad : List ℕ) : Type 0 where
   pub events : new.events ≡ old.events ++ es
   pub comments : new.comments ≡ old.comments ++ cs
-  pub kept : List ℕ
-  pub firsts : Firsts bad kept
-  pub escapes : new.escapes ≡ old.escapes ++ kept
+  pub escapes : new.escapes ≡ old.escapes ++ bad
 
 -- the outcome at a place of content or a plain scalar
 pub data ContentAt (t : List ℕ) (e : ℕ) (n : ℤ) (c : Ctx) (i : ℕ) : Option Found → Type 0 where
@@ -73,7 +70,7 @@ is_sequence Sequence = true
 is_sequence Mapping = false
 is_sequence Pair = false
 
--- a collection was opened by the bracket at i, behind comments that were read before it
+-- a collection was opened by the bracket at i, after comments that were read before it
 pub record OpenedAt (t : List ℕ) (i depth limit : ℕ) (lead : Lead) (cs : List CommentValue) (old new : Part) (f : Frame) : Type 0 where
   pub bracket : Opens f.kind (code t i)
   pub entry : f.entry ≡ i + 1

@@ -1,5 +1,5 @@
 -- What the readers of the parts without nodes give: the longest part of each production, with its value.
-use Rattle.std.specs.Prelude.{◌≡◌, ℕ, ◌≤◌, ℤ, true, false, List, [], ◌∷◌, ◌++◌, Option, Some, None, encode_utf8_all}
+use Rattle.std.specs.Prelude.{◌≡◌, ℕ, ◌≤◌, ℤ, true, false, List, ◌++◌, Option, Some, None, encode_utf8_all}
 use Rattle.yf_chars.specs.declared.context.Ctx.{Ctx}
 use Rattle.yf_chars.specs.Chain.{Stuck, Chosen}
 use Rattle.yf_lines.specs.Text.{text_bytes}
@@ -13,7 +13,7 @@ use Rattle.yf_flow.specs.declared.frame.Kind.TheVariants.{Sequence, Mapping, Pai
 use Rattle.yf_flow.specs.declared.gap.Gap.{Gap}
 use Rattle.yf_flow.specs.declared.leaf.Scalar.{Scalar}
 
--- the longest separation from i, with its comments behind those of a list; or there is none
+-- the longest separation from i, with its comments after those of a list; or there is none
 pub record SeparatedTo (t : List ℕ) (n : ℤ) (c : Ctx) (i j : ℕ) (old new : List CommentValue) : Type 0 where
   pub comments : List CommentValue
   pub chosen : Chosen (Separate t n c i) j comments
@@ -32,18 +32,11 @@ pub data GapRead (t : List ℕ) (n : ℤ) (c : Ctx) (i : ℕ) (old new : List Co
   gap_read : {j : ℕ} → SeparatedTo t n c i j old new → GapRead t n c i old new (record { end = j; is_separation = true })
   gap_missing : Unseparated t n c i old new → GapRead t n c i old new (record { end = i; is_separation = false })
 
--- of the escapes of each scalar that has any the first is kept
-pub data Firsts : List ℕ → List ℕ → Type 0 where
-  no_escapes : Firsts [] []
-  first_kept : {p : ℕ} (x : List ℕ) {y z : List ℕ} → Firsts y z → Firsts (p ∷ (x ++ y)) (p ∷ z)
-
--- a double-quoted scalar, of whose escapes the first is kept
+-- a double-quoted scalar, whose bad escapes are noted after those of a list
 pub record DoubleRest (t : List ℕ) (n : ℤ) (c : Ctx) (i : ℕ) (old new : List ℕ) (s : Scalar) : Type 0 where
   pub pieces : List Piece
   pub text : text_bytes s.text ≡ encode_utf8_all (text_of pieces)
-  pub kept : List ℕ
-  pub firsts : Firsts (bad_escapes pieces) kept
-  pub added : new ≡ old ++ kept
+  pub added : new ≡ old ++ bad_escapes pieces
   pub chosen : Chosen (DoubleQuoted t n c i) s.end pieces
 
 pub record DoubleMissing (t : List ℕ) (n : ℤ) (c : Ctx) (i : ℕ) (old new : List ℕ) : Type 0 where

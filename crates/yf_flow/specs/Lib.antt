@@ -1,3 +1,4 @@
 pub mod Begun
 pub mod Leaves
 pub mod Machine
+pub mod NodeReaders

@@ -5,6 +5,7 @@ use Rattle.std.specs.List.{All}
 use Rattle.std.specs.Str.{IsCharBoundary}
 use Rattle.yf_lines.specs.declared.fault.Fault.{Fault}
 use Rattle.yf_lines.specs.declared.fault.Fault.TheVariants.{Memory, EscapeValue, TooDeep as TooDeepFault}
+use Rattle.yf_lines.specs.FaultPlaces.{InText}
 use Rattle.yf_flow.specs.declared.frame.Frame.{Frame}
 use Rattle.yf_flow.specs.declared.frame.State.{State}
 use Rattle.yf_flow.specs.declared.frame.Step.{Step}
@@ -16,7 +17,7 @@ use Rattle.yf_flow.specs.declared.nodes.Outcome.TheVariants.{Found, Nothing as N
 use Rattle.yf_flow.specs.declared.node.Begun.{Begun}
 use Rattle.yf_flow.specs.declared.node.Begun.TheVariants.{Leaf, Opened, Nothing, TooDeep as TooDeepAt}
 
--- a place at an offset or behind it
+-- a place at an offset or after it
 pub record Place (t : List ℕ) (at p : ℕ) : Type 0 where
   pub boundary : IsCharBoundary t p
   pub order : at ≤ p
@@ -62,7 +63,7 @@ BegunAt t at m k (Opened f) = Place t (at + 1) f.entry × Awaiting t k f × m < 
 BegunAt t at m k Nothing = Unit {0}
 BegunAt t at m k (TooDeepAt p) = IsCharBoundary t p
 
--- how a node ends: at an offset or behind it
+-- how a node ends: at an offset or after it
 abbrev pub EndingAt : List ℕ → ℕ → Ending → Type 0
 EndingAt t at (End node) = Place t at node.end
 EndingAt t at NoEnd = Unit {0}
@@ -73,14 +74,14 @@ OutcomeAt t at (Found part end) = Place t (at + 1) end × All (IsCharBoundary t)
 OutcomeAt t at NoNode = Unit {0}
 OutcomeAt t at (TooDeepHere p) = IsCharBoundary t p
 
--- the faults of the readers: of the scan forms, and of those that answer a bad escape too
-abbrev pub IsScanFault : Fault → Type 0
-IsScanFault Memory = Unit {0}
-IsScanFault (TooDeepFault place) = Unit {0}
-IsScanFault _ = ⊥
+-- the faults of the readers, with places in the text: of the scan forms, and of those that answer a bad escape too
+abbrev pub IsScanFault : List ℕ → Fault → Type 0
+IsScanFault t Memory = Unit {0}
+IsScanFault t (TooDeepFault place) = InText t place
+IsScanFault t _ = ⊥
 
-abbrev pub IsReadFault : Fault → Type 0
-IsReadFault Memory = Unit {0}
-IsReadFault (TooDeepFault place) = Unit {0}
-IsReadFault (EscapeValue place) = Unit {0}
-IsReadFault _ = ⊥
+abbrev pub IsReadFault : List ℕ → Fault → Type 0
+IsReadFault t Memory = Unit {0}
+IsReadFault t (TooDeepFault place) = InText t place
+IsReadFault t (EscapeValue place) = InText t place
+IsReadFault t _ = ⊥

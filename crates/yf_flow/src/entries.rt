@@ -12,7 +12,7 @@ use crate::node::{Begun, begin_node, empty_node, unplaced};
 use smallvec::SmallVec;
 use std::alloc::{AllocError, Global};
 use yf_chars::text::stands;
-use yf_events::event::{Entry, Event, PlacedEvent, Span};
+use yf_events::event::{Entry, NewEvent, PlacedEvent, Span};
 use yf_events::part::Part;
 use yf_events::slices::Slices;
 use yf_lines::basic::skip_whites;
@@ -121,7 +121,7 @@ pub(crate) fn start_entry<'a>(
     })
 }
 
-// What stands behind the `?` of an entry and its separation (ns-flow-map-explicit-entry, production 143).
+// What stands after the `?` of an entry and its separation (ns-flow-map-explicit-entry, production 143).
 fn explicit_entry<'a>(
     alloc: Global,
     scene: Scene<'a>,
@@ -246,7 +246,7 @@ fn in_mapping<'a>(
 // The event that begins a single pair. Where the pair ends is noted once it has been read.
 fn pair_start<'a>(alloc: Global, text: &str, start: usize) -> PlacedEvent<'a> {
     PlacedEvent {
-        event: Event::MapStart {
+        event: NewEvent::MapStart {
             flow: true,
             props: Props {
                 anchor: None,
@@ -260,7 +260,7 @@ fn pair_start<'a>(alloc: Global, text: &str, start: usize) -> PlacedEvent<'a> {
     }
 }
 
-/// Goes on behind a node of the collection.
+/// Goes on after a node of the collection.
 pub(crate) fn finish_node<'a>(
     alloc: Global,
     scene: Scene<'a>,
@@ -291,7 +291,7 @@ pub(crate) fn finish_node<'a>(
     }
 }
 
-// Behind an item of a sequence: where a `:` follows on its line, it is the key of a single pair
+// After an item of a sequence: where a `:` follows on its line, it is the key of a single pair
 // (ns-flow-pair-entry, production 151).
 fn behind_item<'a>(
     alloc: Global,
@@ -349,7 +349,7 @@ fn pair_of_key<'a>(
         });
     }
     let event = top.entry_event;
-    part.events.set_colon(event, colon);
+    part.events.set_colon(event, colon)?;
     part.events
         .insert(event, pair_start(alloc, scene.text, top.entry))?;
     below.push(top)?;
@@ -364,7 +364,7 @@ fn pair_of_key<'a>(
     await_value(alloc, scene, colon, node.json, pair, below, part)
 }
 
-// Behind the key of an entry of a mapping, or of a single pair with `?`.
+// After the key of an entry of a mapping, or of a single pair with `?`.
 fn behind_key<'a>(
     alloc: Global,
     scene: Scene<'a>,
@@ -382,14 +382,14 @@ fn behind_key<'a>(
 {
     let place = read_gap(alloc, scene, node.end, part)?.end;
     if colon_stands(scene, place, node.json) {
-        part.events.set_colon(top.entry_event, place);
+        part.events.set_colon(top.entry_event, place)?;
         return await_value(alloc, scene, place, node.json, top, below, part);
     }
     part.events.push(empty_node(alloc, None))?;
     end_entry(alloc, scene, node.end, place, top, below, part)
 }
 
-// What stands behind the `:` at an offset: a node, or nothing. Behind a key that is not like JSON's, separation must
+// What stands after the `:` at an offset: a node, or nothing. After a key that is not like JSON's, separation must
 // come before the node (c-ns-flow-map-separate-value, production 147; c-ns-flow-map-adjacent-value, production 149).
 fn await_value<'a>(
     alloc: Global,
@@ -442,8 +442,8 @@ fn end_entry<'a>(
     match top.kind {
         Kind::Sequence | Kind::Mapping => after_entry(alloc, scene, at, top, below, part),
         Kind::Pair => {
-            part.events.push(unplaced(alloc, Event::MapEnd, None))?;
-            part.events.set_end(top.event, finish);
+            part.events.push(unplaced(alloc, NewEvent::MapEnd, None))?;
+            part.events.set_end(top.event, finish)?;
             match below.pop() {
                 Some(sequence) => after_entry(
                     alloc,
@@ -459,7 +459,7 @@ fn end_entry<'a>(
     }
 }
 
-// Behind an entry: a comma, or the bracket that closes the collection.
+// After an entry: a comma, or the bracket that closes the collection.
 fn after_entry<'a>(
     alloc: Global,
     scene: Scene<'a>,
@@ -505,11 +505,11 @@ fn close<'a>(
     ensures escapes { IfOk result (λ _. part.new.escapes ≡ part.old.escapes) }
 {
     let event = match top.kind {
-        Kind::Sequence => Event::SeqEnd,
-        Kind::Mapping | Kind::Pair => Event::MapEnd,
+        Kind::Sequence => NewEvent::SeqEnd,
+        Kind::Mapping | Kind::Pair => NewEvent::MapEnd,
     };
     part.events.push(unplaced(alloc, event, None))?;
-    part.events.set_end(top.event, at + 1);
+    part.events.set_end(top.event, at + 1)?;
     let node = Node {
         end: at + 1,
         json: true,

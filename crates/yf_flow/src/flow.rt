@@ -1,7 +1,8 @@
 //! The readers of flow nodes and of implicit keys.
-ghost use Rattle.std.specs.Prelude.{◌+◌, IfSome, MatchResult};
+ghost use Rattle.std.specs.Prelude.{◌≡◌, ◌+◌, [], IfOk, IfSome, MatchResult};
 ghost use Rattle.std.specs.List.{All};
 ghost use Rattle.std.specs.Str.{IsCharBoundary};
+ghost use Rattle.yf_lines.specs.FaultPlaces.{IsFirstPlace};
 ghost use Rattle.yf_flow.specs.Machine.{IsReadFault, IsScanFault, Place};
 
 use crate::nodes::{Outcome, read_node};
@@ -13,7 +14,7 @@ use yf_lines::fault::Fault;
 use yf_lines::place::Place as SourcePlace;
 use yf_lines::source_text::Src;
 
-/// A node that was read, and the byte offset behind it.
+/// A node that was read, and the byte offset after it.
 #[derive(Debug, Drop)]
 pub struct NodePart<'a> {
     pub part: Part<'a>,
@@ -29,7 +30,7 @@ pub struct ScannedPart<'a> {
 }
 
 /// Reads a flow node (ns-flow-node(n,c), production 161) from a byte offset on: its events and comments, each with its
-/// place, and the offset behind it. `n` is the indentation, from -1.
+/// place, and the offset after it. `n` is the indentation, from -1.
 ///
 /// `None` where no flow node begins there in that context.
 ///
@@ -45,7 +46,8 @@ pub fn read_flow_node<'a>(
     ctx: Ctx,
 ) -> Result<Option<NodePart<'a>>, Fault>
     requires { IsCharBoundary src.now.text at }
-    ensures { MatchResult result (λ o. IfSome o (λ p. Place src.now.text (at + 1) p.end)) IsReadFault }
+    ensures place { MatchResult result (λ o. IfSome o (λ p. Place src.now.text (at + 1) p.end)) (IsReadFault src.now.text) }
+    ensures escapes { IfOk result (λ o. IfSome o (λ p. p.part.escapes ≡ [])) }
 {
     match scan_flow_node(alloc, src, at, n, ctx) {
         Ok(None) => Ok(None),
@@ -84,7 +86,8 @@ pub fn scan_flow_node<'a>(
     ctx: Ctx,
 ) -> Result<Option<ScannedPart<'a>>, Fault>
     requires { IsCharBoundary src.now.text at }
-    ensures { MatchResult result (λ o. IfSome o (λ p. Place src.now.text (at + 1) p.end)) IsScanFault }
+    ensures place { MatchResult result (λ o. IfSome o (λ p. Place src.now.text (at + 1) p.end)) (IsScanFault src.now.text) }
+    ensures escapes { IfOk result (λ o. IfSome o (λ p. IsFirstPlace src.now.text p.part.escapes p.escape)) }
 {
     match read_node(alloc, src.text(), at, n, ctx, DEPTH) {
         Ok(Outcome::Found { part, end }) => {
@@ -102,15 +105,16 @@ pub fn scan_flow_node<'a>(
 /// The place of the first escape in the part that is no character.
 pub fn first_escape(src: &Src, part: &Part) -> Option<SourcePlace>
     requires { All (IsCharBoundary src.now.text) part.now.escapes }
+    ensures { IsFirstPlace src.now.text part.now.escapes result }
 {
-    match part.escapes.as_slice().first() {
-        Some(offset) => Some(src.place(*offset)),
-        None => None,
+    match part.escapes.as_slice() {
+        [] => None,
+        [first, ..] => Some(src.place(*first)),
     }
 }
 
 /// Reads the node of an implicit key (ns-s-implicit-yaml-key(c), production 154; c-s-implicit-json-key(c), production 155),
-/// on one line, without the whites behind it, from a byte offset on.
+/// on one line, without the white space after it, from a byte offset on.
 ///
 /// How many characters it has is for the caller to count. `None` where no such node begins there.
 ///
@@ -124,7 +128,8 @@ pub fn read_implicit_key<'a>(
     ctx: Ctx,
 ) -> Result<Option<NodePart<'a>>, Fault>
     requires { IsCharBoundary src.now.text at }
-    ensures { MatchResult result (λ o. IfSome o (λ p. Place src.now.text (at + 1) p.end)) IsReadFault }
+    ensures place { MatchResult result (λ o. IfSome o (λ p. Place src.now.text (at + 1) p.end)) (IsReadFault src.now.text) }
+    ensures escapes { IfOk result (λ o. IfSome o (λ p. p.part.escapes ≡ [])) }
 {
     read_flow_node(alloc, src, at, 0, ctx)
 }
@@ -141,7 +146,8 @@ pub fn scan_implicit_key<'a>(
     ctx: Ctx,
 ) -> Result<Option<ScannedPart<'a>>, Fault>
     requires { IsCharBoundary src.now.text at }
-    ensures { MatchResult result (λ o. IfSome o (λ p. Place src.now.text (at + 1) p.end)) IsScanFault }
+    ensures place { MatchResult result (λ o. IfSome o (λ p. Place src.now.text (at + 1) p.end)) (IsScanFault src.now.text) }
+    ensures escapes { IfOk result (λ o. IfSome o (λ p. IsFirstPlace src.now.text p.part.escapes p.escape)) }
 {
     scan_flow_node(alloc, src, at, 0, ctx)
 }

@@ -52,7 +52,7 @@ pub(crate) struct Frame {
 /// A node that has been read.
 #[derive(Clone, Copy)]
 pub struct Node {
-    /// The byte offset behind it.
+    /// The byte offset after it.
     pub end: usize,
     /// Whether it is a node like those of JSON: a quoted scalar or a flow collection.
     pub json: bool,
@@ -65,7 +65,7 @@ pub struct Node {
 pub(crate) enum Step {
     /// A node is awaited at the byte offset.
     Node(usize),
-    /// An entry, or the bracket that closes the collection, is awaited at the byte offset or behind a separation.
+    /// An entry, or the bracket that closes the collection, is awaited at the byte offset or after a separation.
     Entry(usize),
     /// A node of the collection has been read.
     Ended(Node),

@@ -1,5 +1,5 @@
 //! The readers of scalars and properties, as flow nodes take them.
-ghost use Rattle.std.specs.Prelude.{◌≡◌, ℕ, ◌+◌, List, encode_utf8_all, IfOk, IfSome, MatchOption};
+ghost use Rattle.std.specs.Prelude.{◌≡◌, ℕ, ◌+◌, ◌++◌, List, encode_utf8_all, IfOk, IfSome, MatchOption};
 ghost use Rattle.std.specs.List.{All};
 ghost use Rattle.std.specs.Str.{IsCharBoundary};
 ghost use Rattle.yf_chars.specs.Chain.{Stuck, Chosen};
@@ -7,7 +7,7 @@ ghost use Rattle.yf_lines.specs.Text.{text_bytes};
 ghost use Rattle.yf_plain.specs.Plain.{Plain};
 ghost use Rattle.yf_props.specs.Names as Names;
 ghost use Rattle.yf_props.specs.Properties.{properties_value};
-ghost use Rattle.yf_quoted.specs.Quoted.{Piece, first_bad, text_of, SingleQuoted, DoubleQuoted};
+ghost use Rattle.yf_quoted.specs.Quoted.{Piece, bad_escapes, text_of, SingleQuoted, DoubleQuoted};
 ghost use Rattle.yf_flow.specs.Machine.{Place};
 ghost use Rattle.yf_flow.specs.Leaves.{DoubleRead};
 
@@ -18,9 +18,10 @@ use yf_lines::text::Text;
 use yf_plain::plain::read_plain_in;
 use yf_props::properties::{Properties, node_properties};
 use yf_quoted::double::{Double, double_in};
+use yf_quoted::offsets::Offsets;
 use yf_quoted::single::{Single, single_in};
 
-/// A scalar that was read: its text, and the byte offset behind it.
+/// A scalar that was read: its text, and the byte offset after it.
 #[derive(Drop)]
 pub(crate) struct Scalar<'a> {
     pub(crate) text: Text<'a>,
@@ -76,16 +77,16 @@ pub(crate) fn read_single<'a>(
     }
 }
 
-// Reads a double-quoted scalar with its first escape that is no character.
+// Reads a double-quoted scalar with its escapes that are no character.
 fn read_double<'a>(
     alloc: Global,
     scene: Scene<'a>,
     at: usize,
 ) -> Result<Option<Double<'a>>, AllocError>
     requires { IsCharBoundary scene.text.now at }
-    ensures reads { IfOk result (λ o. MatchOption o (Stuck (DoubleQuoted scene.entry.text.now scene.entry.indentation scene.entry.context at)) (λ p. (x : List Piece) × (text_bytes p.text ≡ encode_utf8_all (text_of x)) × (p.bad ≡ first_bad x) × Chosen (DoubleQuoted scene.entry.text.now scene.entry.indentation scene.entry.context at) p.end x)) }
+    ensures reads { IfOk result (λ o. MatchOption o (Stuck (DoubleQuoted scene.entry.text.now scene.entry.indentation scene.entry.context at)) (λ p. (x : List Piece) × (text_bytes p.text ≡ encode_utf8_all (text_of x)) × (p.bad ≡ bad_escapes x) × Chosen (DoubleQuoted scene.entry.text.now scene.entry.indentation scene.entry.context at) p.end x)) }
     ensures place { IfOk result (λ o. IfSome o (λ p. Place scene.entry.text.now (at + 1) p.end)) }
-    ensures escape { IfOk result (λ o. IfSome o (λ p. IfSome p.bad (λ b. IsCharBoundary scene.entry.text.now b))) }
+    ensures escapes { IfOk result (λ o. IfSome o (λ p. All (IsCharBoundary scene.entry.text.now) p.bad)) }
 {
     match double_in(alloc, scene.text, at, scene.indentation, scene.context)? {
         Some(double) => Ok(Some(double)),
@@ -93,7 +94,7 @@ fn read_double<'a>(
     }
 }
 
-/// Reads a double-quoted scalar (c-double-quoted(n,c), production 109), and keeps the offset of its first escape that is
+/// Reads a double-quoted scalar (c-double-quoted(n,c), production 109), and keeps the offsets of its escapes that are
 /// no character.
 pub(crate) fn scan_double<'a>(
     alloc: Global,
@@ -111,14 +112,24 @@ pub(crate) fn scan_double<'a>(
 {
     match read_double(alloc, scene, at)? {
         Some(Double { text, bad, end }) => {
-            match bad {
-                Some(escape) => {
-                    part.escapes.push(escape)?;
-                    return Ok(Some(Scalar { text, end }));
-                }
-                None => return Ok(Some(Scalar { text, end })),
-            }
+            keep_escapes(&bad, part)?;
+            Ok(Some(Scalar { text, end }))
         }
         None => Ok(None),
     }
+}
+
+// Adds offsets of escapes that are no character.
+fn keep_escapes<'a>(bad: &Offsets, part: &mut Part<'a>) -> Result<(), AllocError>
+    ensures added { IfOk result (λ _. part.new.escapes ≡ part.old.escapes ++ bad.now) }
+    ensures events { IfOk result (λ _. part.new.events ≡ part.old.events) }
+    ensures comments { IfOk result (λ _. part.new.comments ≡ part.old.comments) }
+{
+    let offsets = bad.as_slice();
+    let mut at = 0;
+    'offsets: while at < offsets.len() {
+        part.escapes.push(offsets[at])?;
+        at += 1;
+    }
+    Ok(())
 }

@@ -22,7 +22,7 @@ pub(crate) fn closes(text: &str, at: usize, kind: Kind) -> bool
     }
 }
 
-/// Whether a comma or a closing bracket stands there, behind which there is nothing more of an entry.
+/// Whether a comma or a closing bracket stands there, after which there is nothing more of an entry.
 #[tactic(auto, using(crate::proofs::LookLemmas::end_comma, crate::proofs::LookLemmas::end_bracket, crate::proofs::LookLemmas::end_brace, crate::proofs::LookLemmas::no_end))]
 pub(crate) fn entry_ends(text: &str, at: usize) -> bool
     ensures { result ≡ ((code text.now at == 44) || (code text.now at == 93) || (code text.now at == 125)) }
@@ -59,7 +59,7 @@ pub(crate) fn content_begins(text: &str, at: usize) -> bool
     false
 }
 
-/// Whether the `:` of a value stands there, behind a node like those of JSON or another one, or no node at all: behind
+/// Whether the `:` of a value stands there, after a node like those of JSON or another one, or no node at all: after
 /// the others no plain character may follow it.
 #[tactic(auto, using(crate::proofs::LeafLemmas::colon_json, crate::proofs::LeafLemmas::colon_safe, crate::proofs::LeafLemmas::no_colon, crate::proofs::LeafLemmas::colon_at_end))]
 pub(crate) fn colon_stands(scene: Scene, at: usize, json: bool) -> bool
@@ -83,7 +83,7 @@ pub(crate) fn colon_stands(scene: Scene, at: usize, json: bool) -> bool
     false
 }
 
-/// How many characters an implicit key may have, the whites behind it counted.
+/// How many characters an implicit key may have, the white space after it counted.
 pub(crate) const KEY_LIMIT: usize = 1024;
 
 /// Whether the characters between the offsets are all on one line, and no more than an implicit key may have: 1024

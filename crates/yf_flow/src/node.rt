@@ -4,7 +4,7 @@ ghost use Rattle.std.specs.List.{All};
 ghost use Rattle.std.specs.Str.{IsCharBoundary};
 ghost use Rattle.yf_lines.specs.Text.{text_bytes};
 ghost use Rattle.yf_props.specs.Props.{no_props, props_value};
-ghost use Rattle.yf_events.specs.Event.{event_value, placed_value, scalar_node};
+ghost use Rattle.yf_events.specs.Event.{new_event_value, placed_value, scalar_node};
 ghost use Rattle.yf_grammar.specs.Meaning.{event_with, start_of};
 ghost use Rattle.yf_grammar.specs.Parser.{begins_content};
 ghost use Rattle.yf_chars.specs.Text.{code};
@@ -18,7 +18,7 @@ use crate::look::content_begins;
 use std::alloc::{AllocError, Global};
 use yf_chars::text::stands;
 use yf_comments::comments::Separation;
-use yf_events::event::{Entry, Event, PlacedEvent, ScalarStyle, Span};
+use yf_events::event::{Entry, NewEvent, PlacedEvent, ScalarStyle, Span};
 use yf_events::part::Part;
 use yf_events::slices::Slices;
 use yf_lines::text::Text;
@@ -63,8 +63,8 @@ impl<'a> Lead<'a> {
     }
 
     /// The event that begins the node, which ends at an offset.
-    pub fn placed(self, alloc: Global, event: Event<'a>, end: usize) -> PlacedEvent<'a>
-        ensures { placed_value result ≡ lead_event self.entry (event_value event.entry) end }
+    pub fn placed(self, alloc: Global, event: NewEvent<'a>, end: usize) -> PlacedEvent<'a>
+        ensures { placed_value result ≡ lead_event self.entry (new_event_value event.entry) end }
     {
         PlacedEvent {
             event,
@@ -80,8 +80,8 @@ impl<'a> Lead<'a> {
 }
 
 /// The event of an empty node without properties, or of the end of a collection.
-pub fn unplaced<'a>(alloc: Global, event: Event<'a>, entry: Option<Entry>) -> PlacedEvent<'a>
-    ensures { placed_value result ≡ entry_event (event_value event.entry) entry }
+pub fn unplaced<'a>(alloc: Global, event: NewEvent<'a>, entry: Option<Entry>) -> PlacedEvent<'a>
+    ensures { placed_value result ≡ entry_event (new_event_value event.entry) entry }
 {
     PlacedEvent {
         event,
@@ -96,7 +96,7 @@ pub fn unplaced<'a>(alloc: Global, event: Event<'a>, entry: Option<Entry>) -> Pl
 pub fn empty_node<'a>(alloc: Global, entry: Option<Entry>) -> PlacedEvent<'a>
     ensures { placed_value result ≡ entry_event (scalar_node no_props ScalarStyle.Plain []) entry }
 {
-    let event = Event::Scalar {
+    let event = NewEvent::Scalar {
         props: Props {
             anchor: None,
             tag: None,
@@ -124,7 +124,7 @@ pub(crate) fn begin_node<'a>(
 {
     match alias_node(scene.text, at) {
         Some((name, end)) => {
-            let event = Event::Alias { name };
+            let event = NewEvent::Alias { name };
             part.events
                 .push(Lead::bare(at, entry).placed(alloc, event, end))?;
             return Ok(Begun::Leaf(Node {
@@ -241,7 +241,7 @@ pub fn push_scalar<'a>(
     ensures comments { IfOk result (λ _. part.new.comments ≡ part.old.comments) }
     ensures escapes { IfOk result (λ _. part.new.escapes ≡ part.old.escapes) }
 {
-    let event = Event::Scalar {
+    let event = NewEvent::Scalar {
         props: lead.props,
         style,
         text,
@@ -382,13 +382,13 @@ fn double_node<'a>(
 }
 
 // The event that begins a flow collection.
-fn collection_start<'a>(kind: Kind, props: Props<'a>) -> Event<'a>
-    ensures { event_value result ≡ event_with (props_value props.entry) (start_of (is_sequence kind) true) }
+fn collection_start<'a>(kind: Kind, props: Props<'a>) -> NewEvent<'a>
+    ensures { new_event_value result ≡ event_with (props_value props.entry) (start_of (is_sequence kind) true) }
 {
     match kind {
-        Kind::Sequence => Event::SeqStart { flow: true, props },
-        Kind::Mapping => Event::MapStart { flow: true, props },
-        Kind::Pair => Event::MapStart { flow: true, props },
+        Kind::Sequence => NewEvent::SeqStart { flow: true, props },
+        Kind::Mapping => NewEvent::MapStart { flow: true, props },
+        Kind::Pair => NewEvent::MapStart { flow: true, props },
     }
 }
 

@@ -22,7 +22,7 @@ use yf_props::properties::Properties;
 /// What a reader of flow nodes found.
 #[derive(Debug, Drop)]
 pub(crate) enum Outcome<'a> {
-    /// A node, and the byte offset behind it.
+    /// A node, and the byte offset after it.
     Found { part: Part<'a>, end: usize },
     Nothing,
     /// Nothing within the limit of open collections; the bracket or entry at the offset would open a further one.
@@ -82,7 +82,7 @@ pub(crate) fn read_node<'a>(
     }
 }
 
-/// Reads what stands behind the properties of a flow node: a plain scalar, a quoted one or a flow collection. Its events
+/// Reads what stands after the properties of a flow node: a plain scalar, a quoted one or a flow collection. Its events
 /// are added to the part, with what is known of the node before its content; `depth` collections are open already.
 ///
 /// # Errors
@@ -184,7 +184,7 @@ fn read_collection<'a>(
     }
 }
 
-// Where the content behind properties is not derived, the node is empty and the properties are all of it.
+// Where the content after properties is not derived, the node is empty and the properties are all of it.
 fn properties_alone<'a>(
     alloc: Global,
     scene: Scene<'a>,

@@ -3,7 +3,8 @@ use crate::flow::{read_flow_node, read_implicit_key, scan_flow_node, scan_implic
 use std::alloc::{AllocError, Global};
 use std::test::Fail;
 use yf_chars::context::Ctx;
-use yf_events::event::{Event, PlacedEvent, ScalarStyle};
+use yf_events::event::{Event, ScalarStyle};
+use yf_events::events::Events;
 use yf_lines::fault::Fault;
 use yf_lines::source_text::Src;
 use yf_props::props::Props;
@@ -137,19 +138,19 @@ fn push_event(out: &mut String, event: &Event) -> Result<(), AllocError> {
             out.push_str("=VAL")?;
             push_props(out, *props)?;
             out.push_str(style_sign(*style))?;
-            out.push_str(text.as_str())
+            out.push_str(text)
         }
         _ => out.push_str("no node"),
     }
 }
 
-fn shown(alloc: Global, events: &[PlacedEvent]) -> Result<String, AllocError> {
+fn shown(alloc: Global, events: &Events) -> Result<String, AllocError> {
     let mut out = String::new(alloc);
-    for placed in events {
+    for i in 0..events.len() {
         if !out.is_empty() {
             out.push_str(" / ")?;
         }
-        push_event(&mut out, &placed.event)?;
+        push_event(&mut out, &events.event(i))?;
     }
     Ok(out)
 }
@@ -179,7 +180,7 @@ fn reads_nodes(rt: HostRuntime) -> Result<(), Fail> {
         assert!(rt; src.text().is_char_boundary(0));
         match read_flow_node(rt.alloc(), &src, 0, indentation, Ctx::FlowOut)? {
             Some(node) => {
-                let events = shown(rt.alloc(), node.part.events.as_slice())?;
+                let events = shown(rt.alloc(), &node.part.events)?;
                 assert_eq!(rt; events.as_str(), wanted);
                 assert_eq!(rt; node.end, wanted_end);
             }
@@ -205,7 +206,7 @@ fn reads_keys(rt: HostRuntime) -> Result<(), Fail> {
     let src = Src::new(rt.alloc(), "[a]: b")?;
     assert!(rt; src.text().is_char_boundary(0));
     if let Some(key) = read_implicit_key(rt.alloc(), &src, 0, Ctx::BlockKey)? {
-        let events = shown(rt.alloc(), key.part.events.as_slice())?;
+        let events = shown(rt.alloc(), &key.part.events)?;
         assert_eq!(rt; events.as_str(), "+SEQ [] / =VAL :a / -SEQ");
         assert_eq!(rt; key.end, 3);
     } else {
@@ -274,7 +275,7 @@ fn gives_the_first_bad_escape(rt: HostRuntime) -> Result<(), Fail> {
     let src = Src::new(rt.alloc(), "\"\\ud83dA\"")?;
     assert!(rt; src.text().is_char_boundary(0));
     if let Some(node) = scan_flow_node(rt.alloc(), &src, 0, 0, Ctx::FlowOut)? {
-        let events = shown(rt.alloc(), node.part.events.as_slice())?;
+        let events = shown(rt.alloc(), &node.part.events)?;
         assert_eq!(rt; events.as_str(), "=VAL \"\u{FFFD}A");
         assert_eq!(rt; node.end, 9);
         if let Some(place) = node.escape {
@@ -301,11 +302,11 @@ fn gives_the_first_bad_escape(rt: HostRuntime) -> Result<(), Fail> {
 
 // For each event with a place where it starts and ends, where its entry and the `:` of that stand (0 for none), and
 // whether a blank line stands before it.
-fn places(alloc: Global, events: &[PlacedEvent]) -> Result<Vec<[usize; 5]>, AllocError> {
+fn places(alloc: Global, events: &Events) -> Result<Vec<[usize; 5]>, AllocError> {
     let mut out = Vec::new(alloc);
-    for placed in events {
-        if let Some(span) = placed.span {
-            let row = match placed.entry {
+    for i in 0..events.len() {
+        if let Some(span) = events.span(i) {
+            let row = match events.entry(i) {
                 Some(entry) => [
                     span.start,
                     span.end,
@@ -326,7 +327,7 @@ fn keeps_places(rt: HostRuntime) -> Result<(), Fail> {
     let src = Src::new(rt.alloc(), "[a,\n\n &a k : # c\n v]")?;
     assert!(rt; src.text().is_char_boundary(0));
     if let Some(node) = scan_flow_node(rt.alloc(), &src, 0, 0, Ctx::FlowOut)? {
-        let found = places(rt.alloc(), node.part.events.as_slice())?;
+        let found = places(rt.alloc(), &node.part.events)?;
         let wanted = [
             [0, 20, 0, 0, 0],
             [1, 2, 1, 0, 0],

@@ -1,4 +1,4 @@
--- Runs of whites and breaks: what a separation begins with, and the characters of a plain scalar behind them.
+-- Runs of white space and breaks: what a separation begins with, and the characters of a plain scalar after them.
 use Rattle.std.proofs.Common.{◌≡◌, ◌≢◌, ℕ, ℤ, ◌+◌, ◌<◌, ◌≤◌, Bool, true, false, ◌||◌, ◌⊎◌, inl, inr, ⊎_elim, List, [], ◌∷◌, ◌++◌, refl, sym, ap, ◌∙◌, subst, arith, true≢false}
 use Rattle.std.proofs.lemmas.Bool.{cases_Bool, cases_eq}
 use Rattle.std.proofs.lemmas.Bool.Decides.{nat_tests}
@@ -33,7 +33,7 @@ use Rattle.yf_comments.proofs.RowLemmas.{separate_whites, text_hash}
 use Rattle.yf_comments.proofs.SeparateLemmas.{prefix_whites, spaces_whites}
 use Rattle.yf_plain.proofs.PlainLemmas.{ns_lf, ns_cr, ns_mark, white_not_ns}
 
--- a white or a character of a break
+-- white space or a character of a break
 unfoldable pub is_blank : ℕ → Bool
 is_blank c = is_white c || is_break_char c
 
@@ -135,7 +135,7 @@ module _ {t : List ℕ} where
   blanks_of_fold (at_break d p) = blanks_join (blanks_of_folded d) (blanks_of_prefix p)
   blanks_of_fold (past_whites s d p) = blanks_join (blanks_of_line s) (blanks_join (blanks_of_folded d) (blanks_of_prefix p))
 
--- what a separation begins with: it is blank throughout, or a comment stands behind the first blanks, and where there are
+-- what a separation begins with: it is blank throughout, or a comment stands after the first blanks, and where there are
 -- none a line begins
 pub data Front (t : List ℕ) (i j : ℕ) : Type 0 where
   all_blank : Blanks t i j → Front t i j
@@ -189,7 +189,7 @@ pub record Behind (t : List ℕ) (k : ℕ) : Type 0 where
 pub behind_byte : {t : List ℕ} (i : ℕ) {b : ℕ} → IsUtf8 t → code t i ≡ b → b < 128 → is_ns_char b ≡ true → Behind t (i + 1)
 behind_byte {t} i {b} u e l n = record { at = i; char = b; reads = reads_byte t i b u e l; ns = n }
 
--- behind such a character no line begins
+-- after such a character no line begins
 pub no_start_behind : {t : List ℕ} {k : ℕ} → IsUtf8 t → Behind t k → LineStart t k → ⊥
 no_start_behind {t} {k} u b s =
     let r = b.reads in
@@ -203,7 +203,7 @@ no_start_behind {t} {k} u b s =
     (λ (e : w.1 ≡ 0xFEFF). true≢false (sym n ∙ ap is_ns_char e ∙ ns_mark)) o) w.3)
     (line_start_behind u s)
 
--- behind blanks no character of content ends
+-- after blanks no character of content ends
 pub blanks_behind : {t : List ℕ} {i j : ℕ} {x : List ℕ} → IsUtf8 t → Many t is_blank i j x → (i ≡ j) ⊎ (is_ns_char (before t j) ≡ false)
 blanks_behind u done = inl refl
 blanks_behind {t} {j = j} u (step (one {i = i} e) c) =

@@ -54,7 +54,7 @@ nb_is_not : (c d : ℕ) → is_nb_char c ≡ true → is_nb_char d ≡ false →
 nb_is_not c d e f q = true≢false (sym e ∙ ap is_nb_char q ∙ f)
 
 module _ {t : List ℕ} where
-  quiet_nb : {i j : ℕ} {x : List ℕ} → IsUtf8 t → Many t is_nb_char i j x → Quiet t i j
+  pub quiet_nb : {i j : ℕ} {x : List ℕ} → IsUtf8 t → Many t is_nb_char i j x → Quiet t i j
   quiet_nb {i} u done = quiet_nothing t i
   quiet_nb u (step (one {i = i} e) c) =
       let low = nb_below (code t i) e in
@@ -62,7 +62,7 @@ module _ {t : List ℕ} where
       (quiet_nb u c)
 
   -- a visible character of ASCII ends no line
-  quiet_byte : {i b : ℕ} → IsUtf8 t → code t i ≡ b → 33 ≤ b → b < 128 → Quiet t i (i + 1)
+  pub quiet_byte : {i b : ℕ} → IsUtf8 t → code t i ≡ b → 33 ≤ b → b < 128 → Quiet t i (i + 1)
   quiet_byte {i} {b} u e l h = quiet_char u (reads_byte t i b u e h) (λ q. omega arith) (λ q. omega arith) (λ q. omega arith)
 
   clear_comment : {i j : ℕ} {x : List CommentValue} → IsUtf8 t → CommentText t i j x → Clear t i j
@@ -78,7 +78,7 @@ module _ {t : List ℕ} where
   clear_line_end (Comments.by_break b) = clear_break b
   clear_line_end {i} (Comments.by_end e) = clear_nothing t i
 
-  clear_rest : {i j : ℕ} {x : List CommentValue} → IsUtf8 t → LineRest t i j x → Clear t i j
+  pub clear_rest : {i j : ℕ} {x : List CommentValue} → IsUtf8 t → LineRest t i j x → Clear t i j
   clear_rest u (Comments.nothing e) = clear_line_end e
   clear_rest u (Comments.whites s e) = clear_join (clear_in_line u s) (clear_line_end e)
   clear_rest u (Comments.comment s d e) = clear_join (clear_in_line u s) (clear_join (clear_comment u d) (clear_line_end e))
@@ -91,7 +91,7 @@ module _ {t : List ℕ} where
   clear_comment_lines {i} u done = clear_nothing t i
   clear_comment_lines u (step s c) = clear_join (clear_comment_line u s) (clear_comment_lines u c)
 
-  clear_comments : {i j : ℕ} {x : List CommentValue} → IsUtf8 t → LineEnd t i j x → Clear t i j
+  pub clear_comments : {i j : ℕ} {x : List CommentValue} → IsUtf8 t → LineEnd t i j x → Clear t i j
   clear_comments u (Comments.past_rest r c) = clear_join (clear_rest u r) (clear_comment_lines u c)
   clear_comments u (Comments.from_start s c) = clear_comment_lines u c
 

@@ -54,7 +54,7 @@ module _ {t : List ℕ} (u : IsUtf8 t) where
       let a = properties_later q in
       let g = separate_forward z in
       plain_with_exact u s (wider_properties w q) (wider_separate w z) (wider_plain w p) (clear_back (omega arith) k) f r
-  complete (properties_alone y q) = λ m b s w k f e l o r. alone_exact u s (wider_properties w q) f r
+  complete (properties_alone y q) = λ m b s w k f e l o r. alone_exact u (wider_properties w q) f r
   complete (a_json {h = h} {j = j} {x = x} d) = λ m b s w k f e l o r.
       node_content (λ q. q ≡ found j h true x) (flow_starts d (wider_flow b s w)).content
       (λ q p. reaches_exact f (complete d m b (inside_not_block b s) w k e l q p)) r

@@ -26,13 +26,13 @@ use Rattle.yf_grammar.proofs.CompleteSteps.{end_visible, stop_of_colon, node_no_
 abbrev pub Exactly : List ℕ → ℕ → Task → ℕ → ℕ → Meaning → Type 0
 Exactly t e task j h x = (o : Option Found) → Parses t e task o → (b : Bool) × (o ≡ found j h b x)
 
--- behind `?` and a separation stands a key or a value, which is found; or nothing
+-- after `?` and a separation stands a key or a value, which is found; or nothing
 pub data ExplicitClaim (t : List ℕ) (m : ℤ) (d : Ctx) (s : ℕ) : ℕ → ℕ → ℕ → Meaning → Type 0 where
   entry_goes_on : {h i j : ℕ} {x : Meaning} → Visible t i → is_end (code t i) ≡ false
       → (Clear t i j → Ending t m d j → (e : ℕ) → h ≤ e → Exactly t e (AnExplicit m d s i) j h x) → ExplicitClaim t m d s h i j x
   nothing_stands : {i : ℕ} → ExplicitClaim t m d s 0 i i (entering s None (empty_node (s + 1)) ⊕ empty_node (s + 1))
 
--- a key is a node on one line, not too long, with whites behind it
+-- a key is a node on one line, not too long, with white space after it
 pub record KeyClaim (t : List ℕ) (h : ℕ) (json : Bool) (i j : ℕ) (x : Meaning) : Type 0 where
   pub node_end : ℕ
   pub separation : MaySeparateInLine t node_end j

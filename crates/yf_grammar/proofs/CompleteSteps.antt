@@ -21,7 +21,7 @@ use Rattle.yf_grammar.proofs.GapLemmas.{Visible, separate_is, separate_more}
 use Rattle.yf_grammar.proofs.PlainEnds.{plain_leaps}
 use Rattle.yf_grammar.proofs.PropertiesEnds.{properties_before, properties_begin, is_stop}
 use Rattle.yf_grammar.proofs.FlowStarts.{is_end, NodeStarts, flow_starts, sign_facts, safe_ns, separate_stuck}
-use Rattle.yf_grammar.proofs.WiderLemmas.{Wider, same_context, from_key, wider_safe}
+use Rattle.yf_grammar.proofs.WiderLemmas.{Wider, same_context, from_key, from_block_key, wider_safe}
 use Rattle.yf_grammar.proofs.ParserLemmas.{behind_nothing}
 use Rattle.yf_grammar.proofs.NodeExits.{alias_begins, propertied_is, some_found, none_found, past_properties, PastProperties, past_to_content, past_to_plain, past_to_nothing, past_to_broken, past_to_other}
 use Rattle.yf_grammar.proofs.NodeExact.{Followed, end_stop, end_no_colon, stop_no_first, stop_visible, followed_no_quote}
@@ -34,6 +34,7 @@ use Rattle.yf_grammar.proofs.ValueExact.{value_exact, adjacent_exact}
 pub wider_not_block : {n m : ℤ} {c d : Ctx} → Wider n c m d → is_block d ≡ false → is_block c ≡ false
 wider_not_block same_context b = b
 wider_not_block (from_key e) b = refl
+wider_not_block from_block_key b = refl
 
 colon_stop : is_stop 58 ≡ true
 unfolding is_stop
@@ -79,7 +80,7 @@ module _ {t : List ℕ} where
   pub node_no_colon : {d : Ctx} {i j : ℕ} → NodeStarts t d i j → ColonAt t false d i → ⊥
   node_no_colon s q = true≢false (sym (s.colon q.colon) ∙ q.behind)
 
-  -- a `?` at which a node begins is not behind it separated from what follows
+  -- a `?` at which a node begins is not after it separated from what follows
   pub sign_stuck : {m : ℤ} (d : Ctx) (i : ℕ) → IsUtf8 t → (code t i ≡ 63 → is_plain_safe (code t (i + 1)) d ≡ true) → code t i ≡ 63 → Stuck (Separate t m d (i + 1))
   sign_stuck d i u f e = separate_stuck (i + 1) u (behind_byte i u e (omega arith) sign_facts.1) (safe_ns (code t (i + 1)) d (f e))
 
@@ -120,7 +121,7 @@ content_visible t k v e = grind (arith, nat_tests)
 content_not_first : (t : List ℕ) (n : ℤ) (c : Ctx) (k : ℕ) → begins_content (code t k) ≡ true → begins_content (code t k) ≡ false → ⊥
 content_not_first t n c k e f = true≢false (sym e ∙ f)
 
--- properties and content behind them
+-- properties and content after them
 module _ {t : List ℕ} {n : ℤ} {c : Ctx} where
   pub propertied_content : {e i g k : ℕ} {p : PropertiesValue} {cs : List CommentValue} {o : Option Found} (Q : Option Found → Type 0) → IsUtf8 t → Properties t n c i g p
       → Separate t n c g k cs → Visible t k → begins_content (code t k) ≡ true → (Parses t e (AContent n c k) None → ⊥)
@@ -161,7 +162,7 @@ nothing_found i e = record { answer = record { end = i; height = 0; json = true;
 pub entries_as : {o : Option Found} {j h g : ℕ} {x y : Meaning} → g ≡ h → x.events ≡ y.events → x.comments ≡ y.comments → x.escapes ≡ y.escapes → EntriesFound o j g x → EntriesFound o j h y
 entries_as e a b c f = record { answer = f.answer; is = f.is; end = f.end; height = f.height ∙ e; events = f.events ∙ a; comments = f.comments ∙ b; escapes = f.escapes ∙ c }
 
--- a comma behind the last entry
+-- a comma after the last entry
 pub comma_found : {o : Option Found} {j h : ℕ} (x : Meaning) (cs ds : List CommentValue) → EntriesFound o j (max h 0) (noting (noting x cs) ds ⊕ only [] j) → EntriesFound o j h (noting x (cs ++ ds))
 unfolding noting ◌⊕◌ only
 comma_found {h = h} x cs ds f = entries_as (omega arith) (append-nil x.events) (append-nil ((x.comments ++ cs) ++ ds) ∙ append_assoc x.comments cs ds) (append-nil x.escapes) f
@@ -170,7 +171,7 @@ pub noting_twice : (x : Meaning) (cs ds : List CommentValue) → noting (noting 
 unfolding noting
 noting_twice x cs ds = ap (λ w. record x { comments = w }) (append_assoc x.comments cs ds)
 
--- behind `?` nothing, up to what ends the entry
+-- after `?` nothing, up to what ends the entry
 nothing_comments : (s l : ℕ) (cs ds : List CommentValue)
     → noting (behind (cs ++ ds) (entering s None (empty_node l) ⊕ empty_node l)) [] ≡ noting (behind cs (entering s None (empty_node l) ⊕ empty_node l)) ds
 unfolding noting behind entering empty_node ◌⊕◌
@@ -202,7 +203,7 @@ module _ {t : List ℕ} {n : ℤ} {c : Ctx} where
       let y = entering i None (collection false true i (behind (cs ++ ds) x).finish (behind (cs ++ ds) x)) in
       subst (λ w. EntryFound t n c o l 1 w) (nothing_paired i (i + 1) cs ds) (exact_entry l 1 false y unseparated v a)
 
-  -- a value with a node, behind a key of either kind
+  -- a value with a node, after a key of either kind
   beside_or_behind : {e i p k : ℕ} {cs : List CommentValue} {o : Option Found} (j h : ℕ) (x : Meaning) → IsUtf8 t → code t i ≡ 58 → p ≡ i + 1 → MaySeparate t n c p k cs → Visible t k
       → ((r : Option Found) → Parses t e (ANode n c k) r → (b : Bool) × (r ≡ found j h b x)) → Parses t e (AValue true n c i) o
       → (b : Bool) × (o ≡ found j h b (behind cs x))

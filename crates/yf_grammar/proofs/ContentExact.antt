@@ -14,7 +14,7 @@ use Rattle.yf_grammar.specs.Parser.Parses.{single_read, single_missed, double_re
 use Rattle.yf_grammar.proofs.GapLemmas.{Visible, gap_is}
 use Rattle.yf_grammar.proofs.QuotedEnds.{single_before_quote, double_same}
 
--- the outcome is what is derived up to j, or goes on behind it at a quote
+-- the outcome is what is derived up to j, or goes on after it at a quote
 pub data Reaches (t : List ℕ) (o : Option Found) (j h : ℕ) (x : Meaning) : Type 0 where
   reaches : o ≡ found j h true x → Reaches t o j h x
   passes : (f : Found) → o ≡ Some f → j < f.end → code t j ≡ 39 → Reaches t o j h x

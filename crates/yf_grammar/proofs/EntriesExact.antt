@@ -51,7 +51,7 @@ joined_found j h g y z f r cs ds a b c d e1 e2 e3 = record {
 }
 
 module _ {t : List ℕ} {n : ℤ} {c : Ctx} where
-  -- the reader's first entry is the derived one, with the comments behind it
+  -- the reader's first entry is the derived one, with the comments after it
   pub last_exact : {e i j h : ℕ} {s : Bool} {y : Meaning} {o : Option Found} → (code t i ≡ closing s → ⊥) → code t j ≡ closing s
       → ((r : Option Found) → Parses t e (AnEntry s n c i) r → EntryFound t n c r j h y) → Parses t e (TheEntries s n c i) o → EntriesFound o j h y
   last_exact a b f (entries_end q) = absurd (a q)

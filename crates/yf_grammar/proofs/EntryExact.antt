@@ -83,7 +83,7 @@ module _ {t : List ℕ} {n : ℤ} {c : Ctx} where
   mapping_entry s (mapping_sign_alone a d r) = r
   mapping_entry s (mapping_implicit a r) = r
 
-  -- in a sequence: a pair behind `?`
+  -- in a sequence: a pair after `?`
   pub pair_explicit_exact : {e i k : ℕ} {cs : List CommentValue} {o : Option Found} (j h : ℕ) (x : Meaning) → code t i ≡ 63 → Separate t n c (i + 1) k cs → Visible t k
       → suc h ≤ e → ((l : ℕ) (r : Option Found) → h ≤ l → Parses t l (AnExplicit n c i k) r → (b : Bool) × (r ≡ found j h b x)) → Parses t e (AnEntry true n c i) o
       → o ≡ found j (suc h) false (entering i None (collection false true i (behind cs x).finish (behind cs x)))

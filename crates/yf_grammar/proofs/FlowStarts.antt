@@ -118,7 +118,7 @@ pub record Starts (t : List ℕ) (i j : ℕ) : Type 0 where
   pub visible : Visible t i
   pub no_end : is_end (code t i) ≡ false
 
--- of a node: behind a `:` or `?` at its start stands a character that is safe
+-- of a node: after a `:` or `?` at its start stands a character that is safe
 pub record NodeStarts (t : List ℕ) (c : Ctx) (i j : ℕ) : Type 0 where
   pub starts : Starts t i j
   pub colon : code t i ≡ 58 → is_plain_safe (code t (i + 1)) c ≡ true
@@ -256,7 +256,7 @@ module _ {t : List ℕ} where
   flow_starts (an_indented_node _) = tt
   flow_starts (nothing_indented _ _) = tt
 
--- behind a character of content, before another one, nothing separates
+-- after a character of content, before another one, nothing separates
 module _ {t : List ℕ} where
   no_whites_there : {k m : ℕ} {w : List ℕ} → is_ns_char (code t k) ≡ true → Many t is_white k m w → k < m → ⊥
   no_whites_there {k} {m} {w} n c l = let f = (many_chosen t is_white (done {i = k}) (ns_not_white (code t k) n)).longest m w c in omega arith
@@ -270,7 +270,7 @@ module _ {t : List ℕ} where
   no_rest_there u b n (whites s e) = no_line_there u b n s
   no_rest_there u b n (comment s d e) = no_line_there u b n s
 
-  no_end_there : {k m : ℕ} {x : List CommentValue} → IsUtf8 t → Behind t k → is_ns_char (code t k) ≡ true → LineEnd t k m x → ⊥
+  pub no_end_there : {k m : ℕ} {x : List CommentValue} → IsUtf8 t → Behind t k → is_ns_char (code t k) ≡ true → LineEnd t k m x → ⊥
   no_end_there u b n (past_rest r c) = no_rest_there u b n r
   no_end_there u b n (from_start s c) = no_start_behind u b s
 

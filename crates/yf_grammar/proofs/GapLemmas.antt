@@ -1,4 +1,4 @@
--- The longest separation from a place, where what stands behind a separation is known.
+-- The longest separation from a place, where what stands after a separation is known.
 use Rattle.std.proofs.Common.{◌≡◌, ◌≢◌, ℕ, ℤ, ◌<◌, ◌≤◌, true, false, ◌⊎◌, inl, ⊎_elim, List, [], ◌++◌, length, refl, sym, ap, ◌∙◌, subst, arith, true≢false, append-nil}
 use Rattle.std.proofs.lemmas.Bool.{cases_lt}
 use Rattle.std.specs.Str.{IsUtf8}
@@ -56,7 +56,7 @@ module _ {t : List ℕ} where
   pub visible_apparent : {k : ℕ} → Visible t k → Apparent t k
   visible_apparent v = record { white = not_white_at v; hash = v.no_hash; ends = no_end_at v }
 
-  -- no whites and no row begin there
+  -- no white space and no row begin there
   still_whites : {k m : ℕ} {w : List ℕ} → Visible t k → Many t is_white k m w → m ≡ k
   still_whites {k} {m} {w} v c =
       let l = (many_chosen t is_white (done {i = k}) (not_white_at v)).longest m w c in
@@ -124,7 +124,7 @@ module _ {t : List ℕ} {n : ℤ} {c : Ctx} where
       let a = apparent_last s (visible_apparent v) r in
       let b = apparent_last r (visible_apparent w) s in omega arith
 
--- one separation behind another is one
+-- one separation after another is one
 module _ {t : List ℕ} where
   line_join : {i j k : ℕ} → SeparateInLine t i j → SeparateInLine t j k → SeparateInLine t i k
   line_join (at_start s) d = d
@@ -136,22 +136,22 @@ module _ {t : List ℕ} where
   rest_join s (whites r e) = whites (line_join s r) e
   rest_join s (comment r d e) = comment (line_join s r) d e
 
-  -- behind a line's rest a line begins, or nothing is left
-  rows_next : {i j : ℕ} {x : List CommentValue} → LineStart t i ⊎ (i ≡ length t) → Chain (Row t) i j x → LineStart t j ⊎ (j ≡ length t)
+  -- after a line's rest a line begins, or nothing is left
+  pub rows_next : {i j : ℕ} {x : List CommentValue} → LineStart t i ⊎ (i ≡ length t) → Chain (Row t) i j x → LineStart t j ⊎ (j ≡ length t)
   rows_next s done = s
   rows_next s (step r c) = rows_next (rest_next r.rest) c
 
-  end_next : {i j : ℕ} {x : List CommentValue} → LineEnd t i j x → LineStart t j ⊎ (j ≡ length t)
+  pub end_next : {i j : ℕ} {x : List CommentValue} → LineEnd t i j x → LineStart t j ⊎ (j ≡ length t)
   end_next (past_rest r c) = rows_next (rest_next r) (lines_rows c)
   end_next (from_start s c) = rows_next (inl s) (lines_rows c)
 
-  not_at_end : {l : ℕ} (k : ℕ) → Visible t l → k ≤ l → k ≡ length t → ⊥
+  pub not_at_end : {l : ℕ} (k : ℕ) → Visible t l → k ≤ l → k ≡ length t → ⊥
   not_at_end {l = l} k v f e = let n = ns_below (code t l) v.ns in let c : code t l ≡ no_char = code-past t l (omega arith) in absurd (omega arith)
 
   whites_no_start : {i j : ℕ} {w : List ℕ} → IsUtf8 t → Many t is_white i j w → i < j → LineStart t j → ⊥
   whites_no_start {j = j} u m l s = (quiet_whites u m).none j l (omega arith) s
 
-  -- whites before a line's end
+  -- white space before a line's end
   line_end_join : {i j k : ℕ} {x : List CommentValue} → IsUtf8 t → SeparateInLine t i j → LineEnd t j k x → LineEnd t i k x
   line_end_join u s (past_rest r c) = past_rest (rest_join s r) c
   line_end_join u (at_start a) (from_start s c) = from_start s c

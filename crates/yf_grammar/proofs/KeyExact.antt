@@ -1,4 +1,4 @@
--- A key with or without a value in a flow mapping, and what stands behind `?`, where their parts are found.
+-- A key with or without a value in a flow mapping, and what stands after `?`, where their parts are found.
 use Rattle.std.proofs.Common.{◌≡◌, ◌≢◌, ℕ, ℤ, max, ◌+◌, Bool, true, false, ◌||◌, ◌==◌, List, Option, Some, None, refl, sym, ap, ◌∙◌, subst, true≢false}
 use Rattle.yf_chars.specs.declared.context.Ctx.{Ctx}
 use Rattle.yf_chars.specs.Text.{code}
@@ -77,7 +77,7 @@ module _ {t : List ℕ} {n : ℤ} {c : Ctx} where
       let c1 : ColonAt t first.json c k = subst (λ h. ColonAt t h c k) (sym (ap (λ (h : Found). h.json) e1)) q in
       absurd (w (subst (λ h. ColonAt t first.json c h) (sym same.0) c1))
 
-  -- behind `?`: nothing before what ends an entry, and a key or value else
+  -- after `?`: nothing before what ends an entry, and a key or value else
   pub nothing_exact : {e s i : ℕ} {o : Option Found} → is_end (code t i) ≡ true → Parses t e (AnExplicit n c s i) o
       → o ≡ found i 0 false (entering s None (empty_node (s + 1)) ⊕ empty_node (s + 1))
   nothing_exact q (explicit_nothing b) = refl

@@ -59,7 +59,7 @@ json_below : (c : ℕ) → is_nb_json c ≡ true → c < no_char
 unfolding is_nb_json is_between
 json_below c e = grind (arith, nat_tests)
 
-anchor_ns : (c : ℕ) → is_anchor_char c ≡ true → is_ns_char c ≡ true
+pub anchor_ns : (c : ℕ) → is_anchor_char c ≡ true → is_ns_char c ≡ true
 unfolding is_anchor_char
 anchor_ns c e = (and_parts (is_ns_char c) (not (is_flow_indicator c)) e).0
 
@@ -91,16 +91,16 @@ key_in_flow FlowIn k = absurd (true≢false (sym k))
 key_in_flow BlockKey k = refl
 key_in_flow FlowKey k = refl
 
-line_none : (t : List ℕ) (i : ℕ) → OnOneLine t i i
+pub line_none : (t : List ℕ) (i : ℕ) → OnOneLine t i i
 line_none t i = record { each = λ h l m. absurd (omega arith) }
 
 one_at : (t : List ℕ) (i : ℕ) → is_break_char (code t i) ≡ false → OnOneLine t i (i + 1)
 one_at t i e = record { each = λ h l m. let same : i ≡ h = omega arith in ap (λ w. is_break_char (code t w)) (sym same) ∙ e }
 
-sign_at : (t : List ℕ) (i d : ℕ) → code t i ≡ d → d ≢ 10 → d ≢ 13 → OnOneLine t i (i + 1)
+pub sign_at : (t : List ℕ) (i d : ℕ) → code t i ≡ d → d ≢ 10 → d ≢ 13 → OnOneLine t i (i + 1)
 sign_at t i d e n m = one_at t i (break_none (code t i) (λ q. n (sym e ∙ q)) (λ q. m (sym e ∙ q)))
 
-char_at : (t : List ℕ) (i : ℕ) → IsUtf8 t → code t i < no_char → is_break_char (code t i) ≡ false → OnOneLine t i (next t i)
+pub char_at : (t : List ℕ) (i : ℕ) → IsUtf8 t → code t i < no_char → is_break_char (code t i) ≡ false → OnOneLine t i (next t i)
 char_at t i u l e = record {
   each = λ h a b. ⊎_elim
       (λ (q : i ≡ h). ap (λ w. is_break_char (code t w)) (sym q) ∙ e)
@@ -109,7 +109,7 @@ char_at t i u l e = record {
 }
 
 module _ {t : List ℕ} where
-  line_join : {i j k : ℕ} → OnOneLine t i j → OnOneLine t j k → OnOneLine t i k
+  pub line_join : {i j k : ℕ} → OnOneLine t i j → OnOneLine t j k → OnOneLine t i k
   line_join {j = j} a b = record { each = λ h l m. ⊎_elim (λ (e : h < j). a.each h l e) (λ (e : j ≤ h). b.each h e m) (cases_lt h j) }
 
   line_to : {i j k : ℕ} → j ≡ k → OnOneLine t i j → OnOneLine t i k

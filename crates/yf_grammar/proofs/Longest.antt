@@ -32,7 +32,7 @@ use Rattle.yf_grammar.proofs.CompleteSteps.{propertied_content, some_has}
 use Rattle.yf_grammar.proofs.Complete.{complete}
 use Rattle.yf_grammar.proofs.Sound.{found_is_derived}
 
--- the outcome is something that ends behind j, or at j with that meaning
+-- the outcome is something that ends after j, or at j with that meaning
 pub record Longest (o : Option Found) (j : ℕ) (x : Meaning) : Type 0 where
   pub answer : Found
   pub is : o ≡ Some answer

@@ -27,7 +27,7 @@ use Rattle.yf_grammar.proofs.FlowStarts.{is_end, bar_no_hash}
 use Rattle.yf_grammar.proofs.WiderLemmas.{is_inside}
 use Rattle.yf_grammar.proofs.NodeExits.{node_plain, past_properties, PastProperties, past_to_content, past_to_plain, past_to_nothing, past_to_broken, past_to_other}
 
--- behind a place stands what ends an entry, or the `:` behind a key of that kind
+-- after a place stands what ends an entry, or the `:` after a key of that kind
 pub record Followed (t : List ℕ) (n : ℤ) (c : Ctx) (json : Bool) (j : ℕ) : Type 0 where
   pub place : ℕ
   pub comments : List CommentValue
@@ -35,7 +35,7 @@ pub record Followed (t : List ℕ) (n : ℤ) (c : Ctx) (json : Bool) (j : ℕ) :
   pub stop : is_stop (code t place) ≡ true
   pub colon : code t place ≡ 58 → MayBeColon json t (place + 1) c
 
--- behind a place stands what ends an entry
+-- after a place stands what ends an entry
 pub record Ending (t : List ℕ) (n : ℤ) (c : Ctx) (j : ℕ) : Type 0 where
   pub place : ℕ
   pub comments : List CommentValue
@@ -125,24 +125,23 @@ plain_is x i j = refl
 plain_same : (i : ℕ) {j k : ℕ} {x y : List ℕ} → (k ≡ j) × (y ≡ x) → plain_found y i k ≡ found j 0 false (scalar PlainStyle (encode_utf8_all x) [] i j)
 plain_same i {j} {k} {x} {y} s = ap (λ w. plain_found y i w) s.0 ∙ ap (λ w. plain_found w i j) s.1 ∙ plain_is x i j
 
-module _ {t : List ℕ} (u : IsUtf8 t) {n : ℤ} {c : Ctx} (inside : is_inside c ≡ true) where
-  -- the longest plain scalar is the derived one
-  plain_agrees : {i j k : ℕ} {x y : List ℕ} → PlainText t n c i j x → Clear t i j → Followed t n c false j → Chosen (Plain t n c i) k y → (k ≡ j) × (y ≡ x)
-  plain_agrees p a f d = plain_ends u p a f.gap (stop_ns (code t f.place) f.stop) (stop_no_char t c f.place inside f.stop f.colon) d
-
+-- the same, where it is known how long the plain scalar goes
+module _ {t : List ℕ} (u : IsUtf8 t) {n : ℤ} {c : Ctx} where
   plain_first_of : {i j : ℕ} {x : List ℕ} → PlainText t n c i j x → is_bar (code t i) ≡ false
   plain_first_of {i} p = first_no_bar t c i (plain_leaps p).0
 
-  pub plain_exact : {e i j : ℕ} {x : List ℕ} {o : Option Found} → PlainText t n c i j x → Clear t i j → Followed t n c false j → Parses t e (ANode n c i) o
+  pub plain_agreed : {e i j : ℕ} {x : List ℕ} {o : Option Found} → PlainText t n c i j x → Clear t i j
+      → ((l : ℕ) (y : List ℕ) → Chosen (Plain t n c i) l y → (l ≡ j) × (y ≡ x)) → Parses t e (ANode n c i) o
       → o ≡ found j 0 false (scalar PlainStyle (encode_utf8_all x) [] i j)
-  plain_exact {i = i} {j = j} {x = x} p a f r =
+  plain_agreed {i = i} {j = j} {x = x} p a f r =
       node_plain (λ q. q ≡ found j 0 false (scalar PlainStyle (encode_utf8_all x) [] i j)) (no_bar_plain (code t i) (plain_first_of p))
-      (record { text = p; clear = a }) (λ k y d. plain_same i (plain_agrees p a f d)) r
+      (record { text = p; clear = a }) (λ k y d. plain_same i (f k y d)) r
 
-  pub plain_with_exact : {e i g k j : ℕ} {p : PropertiesValue} {cs : List CommentValue} {x : List ℕ} {o : Option Found} → Properties t n c i g p → Separate t n c g k cs
-      → PlainText t n c k j x → Clear t k j → Followed t n c false j → Parses t e (ANode n c i) o
+  pub plain_with_agreed : {e i g k j : ℕ} {p : PropertiesValue} {cs : List CommentValue} {x : List ℕ} {o : Option Found} → Properties t n c i g p
+      → Separate t n c g k cs → PlainText t n c k j x → Clear t k j → ((l : ℕ) (y : List ℕ) → Chosen (Plain t n c k) l y → (l ≡ j) × (y ≡ x))
+      → Parses t e (ANode n c i) o
       → o ≡ found j 0 false (behind (p.comments ++ cs) (with_props p.props p.tag_offset i g (scalar PlainStyle (encode_utf8_all x) [] k j)))
-  plain_with_exact {e} {i} {g} {k} {j} {p} {cs} {x} {o} d s q a f r = go (past_properties d (λ h z b. properties_before u d s v (no_bar_properties (code t k) bar) b) r) where
+  plain_with_agreed {e} {i} {g} {k} {j} {p} {cs} {x} {o} d s q a f r = go (past_properties d (λ h z b. properties_before u d s v (no_bar_properties (code t k) bar) b) r) where
     bar : is_bar (code t k) ≡ false
     bar = plain_first_of q
 
@@ -156,7 +155,7 @@ module _ {t : List ℕ} (u : IsUtf8 t) {n : ℤ} {c : Ctx} (inside : is_inside c
     go (past_to_content m ds h b y z w) = absurd (no_content m (separate_is v (separated s) b).0 y)
     go (past_to_plain m l ds y b z w eq) =
         let one = separate_is v (separated s) b in
-        let two = plain_agrees q a f (subst (λ h. Chosen (Plain t n c h) l y) one.0 w) in
+        let two = f l y (subst (λ h. Chosen (Plain t n c h) l y) one.0 w) in
         let e1 : m ≡ k = one.0 in
         let e2 : ds ≡ cs = one.1 in
         let e3 : l ≡ j = two.0 in
@@ -185,3 +184,17 @@ module _ {t : List ℕ} (u : IsUtf8 t) {n : ℤ} {c : Ctx} (inside : is_inside c
     go (past_to_nothing z eq) = eq ∙ lone_is p i j
     go (past_to_broken m ds b y z eq) = eq ∙ lone_is p i j
     go (past_to_other m ds b y z eq) = eq ∙ lone_is p i j
+
+module _ {t : List ℕ} (u : IsUtf8 t) {n : ℤ} {c : Ctx} (inside : is_inside c ≡ true) where
+  -- the longest plain scalar is the derived one
+  plain_agrees : {i j k : ℕ} {x y : List ℕ} → PlainText t n c i j x → Clear t i j → Followed t n c false j → Chosen (Plain t n c i) k y → (k ≡ j) × (y ≡ x)
+  plain_agrees p a f d = plain_ends u p a f.gap (stop_ns (code t f.place) f.stop) (stop_no_char t c f.place inside f.stop f.colon) d
+
+  pub plain_exact : {e i j : ℕ} {x : List ℕ} {o : Option Found} → PlainText t n c i j x → Clear t i j → Followed t n c false j → Parses t e (ANode n c i) o
+      → o ≡ found j 0 false (scalar PlainStyle (encode_utf8_all x) [] i j)
+  plain_exact p a f r = plain_agreed u p a (λ l y d. plain_agrees p a f d) r
+
+  pub plain_with_exact : {e i g k j : ℕ} {p : PropertiesValue} {cs : List CommentValue} {x : List ℕ} {o : Option Found} → Properties t n c i g p → Separate t n c g k cs
+      → PlainText t n c k j x → Clear t k j → Followed t n c false j → Parses t e (ANode n c i) o
+      → o ≡ found j 0 false (behind (p.comments ++ cs) (with_props p.props p.tag_offset i g (scalar PlainStyle (encode_utf8_all x) [] k j)))
+  plain_with_exact d s q a f r = plain_with_agreed u d s q a (λ l y z. plain_agrees q a f z) r

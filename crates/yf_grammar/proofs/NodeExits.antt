@@ -18,27 +18,27 @@ use Rattle.yf_grammar.proofs.PropertiesEnds.{properties_begin}
 
 -- one character begins one kind of node
 module _ (c : ℕ) where
-  alias_no_plain : begins_alias c ≡ true → begins_plain c ≡ true → ⊥
+  pub alias_no_plain : begins_alias c ≡ true → begins_plain c ≡ true → ⊥
   unfolding begins_plain begins_alias begins_properties begins_content
   alias_no_plain e f = grind (arith, nat_tests)
 
-  alias_no_content : begins_alias c ≡ true → begins_content c ≡ true → ⊥
+  pub alias_no_content : begins_alias c ≡ true → begins_content c ≡ true → ⊥
   unfolding begins_alias begins_content
   alias_no_content e f = grind (arith, nat_tests)
 
-  alias_no_properties : begins_alias c ≡ true → begins_properties c ≡ true → ⊥
+  pub alias_no_properties : begins_alias c ≡ true → begins_properties c ≡ true → ⊥
   unfolding begins_alias begins_properties
   alias_no_properties e f = grind (arith, nat_tests)
 
-  plain_no_content : begins_plain c ≡ true → begins_content c ≡ true → ⊥
+  pub plain_no_content : begins_plain c ≡ true → begins_content c ≡ true → ⊥
   unfolding begins_plain begins_alias begins_properties begins_content
   plain_no_content e f = grind (arith, nat_tests)
 
-  plain_no_properties : begins_plain c ≡ true → begins_properties c ≡ true → ⊥
+  pub plain_no_properties : begins_plain c ≡ true → begins_properties c ≡ true → ⊥
   unfolding begins_plain begins_alias begins_properties begins_content
   plain_no_properties e f = grind (arith, nat_tests)
 
-  content_no_properties : begins_content c ≡ true → begins_properties c ≡ true → ⊥
+  pub content_no_properties : begins_content c ≡ true → begins_properties c ≡ true → ⊥
   unfolding begins_properties begins_content
   content_no_properties e f = grind (arith, nat_tests)
 
@@ -111,7 +111,7 @@ module _ {t : List ℕ} where
   node_content {n = n} {c = c} {i = i} {o = o} Q p f (properties_before_broken a s b r) = absurd (content_no_properties (code t i) p (properties_begin a.derived))
   node_content {n = n} {c = c} {i = i} {o = o} Q p f (properties_before_other a s b r) = absurd (content_no_properties (code t i) p (properties_begin a.derived))
 
--- what is found behind the properties that end at g
+-- what is found after the properties that end at g
 pub data PastProperties (t : List ℕ) (e : ℕ) (n : ℤ) (c : Ctx) (i g : ℕ) (p : PropertiesValue) (o : Option Found) : Type 0 where
   past_to_content : (k : ℕ) (cs : List CommentValue) (f : Found) → Chosen (Separate t n c g) k cs → begins_content (code t k) ≡ true
       → Parses t e (AContent n c k) (Some f) → o ≡ propertied p cs i g f → PastProperties t e n c i g p o

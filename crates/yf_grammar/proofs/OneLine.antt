@@ -176,7 +176,7 @@ colon_key : (t : List ℕ) (c : Ctx) (json : Bool) (i : ℕ) → is_inside c ≡
 colon_key t c true i q m = tt
 colon_key t c false i q m = safe_same (code t i) c q ∙ m
 
--- between a and z no character of a break stands, and the text goes on behind z
+-- between a and z no character of a break stands, and the text goes on after z
 pub record AllOnLine (t : List ℕ) (a z : ℕ) : Type 0 where
   pub line : OnOneLine t a z
   pub goes_on : z < length t
@@ -187,7 +187,7 @@ not_broken o l m b = true≢false (sym b.char ∙ o.line.each b.at (omega (arith
 no_line_end : {t : List ℕ} {a z i j : ℕ} → AllOnLine t a z → a ≤ i → j ≤ z → Broken t i j ⊎ (j ≡ length t) → ⊥
 no_line_end {t} {a} {z} {i} {j} o l m e = ⊎_elim (λ (b : Broken t i j). not_broken o l m b) (λ (s : j ≡ length t). let g = o.goes_on in absurd (omega arith)) e
 
-prefix_in_line : {t : List ℕ} {n : ℤ} {i j : ℕ} → LineStart t i → FlowPrefix t n i j → SeparateInLine t i j
+pub prefix_in_line : {t : List ℕ} {n : ℤ} {i j : ℕ} → LineStart t i → FlowPrefix t n i j → SeparateInLine t i j
 prefix_in_line {t} {n} {i} {j} s p =
     let w = prefix_whites p in
     let f = whites_forward w.1 in
@@ -195,7 +195,7 @@ prefix_in_line {t} {n} {i} {j} s p =
     (λ (l : j ≤ i). let same : i ≡ j = omega arith in subst (λ k. SeparateInLine t i k) same (at_start s))
     (cases_lt i j)
 
--- the lines of comments behind the start of a line: on one line there is none
+-- the lines of comments after the start of a line: on one line there is none
 no_lines : {t : List ℕ} {a z i h : ℕ} {x : List CommentValue} → AllOnLine t a z → a ≤ i → h ≤ z → Chain (CommentLine t) i h x → (i ≡ h) × (x ≡ [])
 no_lines o l m done = (refl, refl)
 no_lines o l m (step s c) = let f = comment_lines_order c in absurd (no_line_end o l (omega arith) (comment_line_broken s))
@@ -213,11 +213,11 @@ module _ {t : List ℕ} {a z : ℕ} where
       let p' : FlowPrefix t n i j = subst (λ k. FlowPrefix t n k j) (sym parts.1) p in
       subst (λ w. Separate t (pos 0) FlowKey i j w) (sym parts.2) (Comments.in_key refl (prefix_in_line parts.0 p'))
 
-  separate_key : {n : ℤ} {c : Ctx} {i j : ℕ} {x : List CommentValue} → AllOnLine t a z → a ≤ i → j ≤ z → Separate t n c i j x → Separate t (pos 0) FlowKey i j x
+  pub separate_key : {n : ℤ} {c : Ctx} {i j : ℕ} {x : List CommentValue} → AllOnLine t a z → a ≤ i → j ≤ z → Separate t n c i j x → Separate t (pos 0) FlowKey i j x
   separate_key o l m (Comments.in_key e s) = Comments.in_key refl s
   separate_key o l m (Comments.in_node e s) = lines_in_line o l m s
 
-  gap_key : {n : ℤ} {c : Ctx} {i j : ℕ} {x : List CommentValue} → AllOnLine t a z → a ≤ i → j ≤ z → MaySeparate t n c i j x → MaySeparate t (pos 0) FlowKey i j x
+  pub gap_key : {n : ℤ} {c : Ctx} {i j : ℕ} {x : List CommentValue} → AllOnLine t a z → a ≤ i → j ≤ z → MaySeparate t n c i j x → MaySeparate t (pos 0) FlowKey i j x
   gap_key o l m Grammar.unseparated = Grammar.unseparated
   gap_key o l m (Grammar.separated s) = Grammar.separated (separate_key o l m s)
 
@@ -226,7 +226,7 @@ module _ {t : List ℕ} {a z : ℕ} where
   value_gap_key n c x true o l m s = gap_key o l m s
   value_gap_key n c x false o l m s = separate_key o l m s
 
-  properties_key : {n : ℤ} {c : Ctx} {i j : ℕ} {p : PropertiesValue} → AllOnLine t a z → a ≤ i → j ≤ z → Properties t n c i j p → Properties t (pos 0) FlowKey i j p
+  pub properties_key : {n : ℤ} {c : Ctx} {i j : ℕ} {p : PropertiesValue} → AllOnLine t a z → a ≤ i → j ≤ z → Properties t n c i j p → Properties t (pos 0) FlowKey i j p
   properties_key o l m (by_tag g) = by_tag g
   properties_key o l m (by_anchor g) = by_anchor g
   properties_key o l m (tag_first g s b) = let e = tag_later g in let f = anchor_forward b in tag_first g (separate_key o (omega arith) (omega arith) s) b
@@ -235,7 +235,7 @@ module _ {t : List ℕ} {a z : ℕ} where
   no_next : {n : ℤ} {c : Ctx} {i j : ℕ} {x : List ℕ} → AllOnLine t a z → a ≤ i → j ≤ z → PlainNext t n c i j x → ⊥
   no_next o l m (next_line {h = h} f e d) = let g = next_later t h in let k = items_forward d in not_broken o l (omega arith) (folded_broken f)
 
-  no_nexts : {n : ℤ} {c : Ctx} {i j : ℕ} {x : List ℕ} → AllOnLine t a z → a ≤ i → j ≤ z → Chain (PlainNext t n c) i j x → (i ≡ j) × (x ≡ [])
+  pub no_nexts : {n : ℤ} {c : Ctx} {i j : ℕ} {x : List ℕ} → AllOnLine t a z → a ≤ i → j ≤ z → Chain (PlainNext t n c) i j x → (i ≡ j) × (x ≡ [])
   no_nexts o l m done = (refl, refl)
   no_nexts o l m (step s c) = let f = nexts_forward c in absurd (no_next o l (omega arith) s)
 
@@ -248,11 +248,11 @@ module _ {t : List ℕ} {a z : ℕ} where
       let there : PlainLine t FlowKey i j x = subst (λ k. PlainLine t FlowKey i k x) rest.0 (line_key q d) in
       Plain.as_key refl (subst (λ w. PlainLine t FlowKey i j w) text there)
 
-  single_key : {n : ℤ} {c : Ctx} {i j : ℕ} {x : List ℕ} → AllOnLine t a z → a ≤ i → j ≤ z → SingleQuoted t n c i j x → SingleQuoted t (pos 0) FlowKey i j x
+  pub single_key : {n : ℤ} {c : Ctx} {i j : ℕ} {x : List ℕ} → AllOnLine t a z → a ≤ i → j ≤ z → SingleQuoted t n c i j x → SingleQuoted t (pos 0) FlowKey i j x
   single_key {n} o l m q =
       quoted_chars (single_means t) (λ h k y b u v. not_broken o (omega arith) (omega arith) (folded_broken b)) (single_onward t) (fold_onward t n) q
 
-  double_key : {n : ℤ} {c : Ctx} {i j : ℕ} {x : List Piece} → AllOnLine t a z → a ≤ i → j ≤ z → DoubleQuoted t n c i j x → DoubleQuoted t (pos 0) FlowKey i j x
+  pub double_key : {n : ℤ} {c : Ctx} {i j : ℕ} {x : List Piece} → AllOnLine t a z → a ≤ i → j ≤ z → DoubleQuoted t n c i j x → DoubleQuoted t (pos 0) FlowKey i j x
   double_key {n} o l m q =
       quoted_chars (double_means t) (λ h k y b u v. not_broken o (omega arith) (omega arith) (double_broken b)) (double_onward t) (double_break_onward t n) q
 
@@ -346,3 +346,8 @@ keyed o l m (Grammar.nothing_indented b g) = tt
 pub node_of_key : {t : List ℕ} {a z h i j : ℕ} {json : Bool} {n : ℤ} {c : Ctx} {x : Meaning} → AllOnLine t a z → is_inside c ≡ true → a ≤ i → j ≤ z
     → Derives t h (Grammar.NodeOf json n c) i j x → Derives t h (Grammar.NodeOf json (pos 0) FlowKey) i j x
 node_of_key o q l m d = keyed o l m d q
+
+-- and entries inside of a flow collection
+pub entries_of_key : {t : List ℕ} {a z h i j : ℕ} {s : Bool} {n : ℤ} {c : Ctx} {x : Meaning} → AllOnLine t a z → is_inside c ≡ true → a ≤ i → j ≤ z
+    → Derives t h (Grammar.Entries s n c) i j x → Derives t h (Grammar.Entries s (pos 0) FlowKey) i j x
+entries_of_key o q l m d = keyed o l m d q

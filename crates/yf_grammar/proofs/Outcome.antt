@@ -23,7 +23,7 @@ use Rattle.yf_grammar.proofs.Ways.{Agree, Is, Never, Fork, one_way, other_way, T
 abbrev pub Outcomes : Type 1
 Outcomes = ℕ → Task → Option Found → Type 0
 
--- what stands behind properties that end at g
+-- what stands after properties that end at g
 abbrev pub BehindProperties : Outcomes → List ℕ → ℕ → ℤ → Ctx → ℕ → ℕ → PropertiesValue → Option Found → Type 0
 BehindProperties R t e n c i g p = Takes (Separate t n c g)
     (λ k cs. Fork (begins_content (code t k) ≡ true) (begins_content (code t k) ≡ false)
@@ -55,7 +55,7 @@ ContentWay R t e n c i = Fork (code t i ≡ 39) (code t i ≢ 39)
     (Takes (DoubleQuoted t n c i) (λ j x. Is (found j 0 true (scalar DoubleStyle (encode_utf8_all (text_of x)) (bad_escapes x) i j))) (Is None))
     (BracketWay R t e n c i))
 
--- what stands behind an entry
+-- what stands after an entry
 abbrev pub BehindEntry : Outcomes → List ℕ → ℕ → Bool → ℤ → Ctx → Found → Option Found → Type 0
 BehindEntry R t e s n c f = Past t n c f.end (λ k cs. Fork (code t k ≡ closing s) (code t k ≢ closing s)
     (Is (found k f.height true (noting f.meaning cs)))
@@ -108,7 +108,7 @@ ExplicitWay R t e n c s i = Fork ((code t i == 44) || (code t i == 93) || (code 
     (Is (found i 0 false (entering s None (empty_node (s + 1)) ⊕ empty_node (s + 1))))
     (R e (Parser.AnImplicit n c s i))
 
--- what stands behind a key
+-- what stands after a key
 abbrev pub BehindKey : Outcomes → List ℕ → ℕ → ℤ → Ctx → ℕ → Found → Option Found → Type 0
 BehindKey R t e n c s f = Past t n c f.end (λ k cs. Fork (ColonAt t f.json c k) (ColonAt t f.json c k → ⊥)
     (Finds (R e (Parser.AValue f.json n c k)) (λ g. Is (paired s k f cs g)) Never)
@@ -206,7 +206,7 @@ pair_key_one : {t : List ℕ} {c : Ctx} {i : ℕ} {f : Found} (j k : ℕ) → Pa
 pair_key_one {t} j k a b =
     (many_unique t is_white b.run (ap is_white b.colon.colon ∙ white_colon) a.run (ap is_white a.colon.colon ∙ white_colon)).0
 
--- no sign, or one with no separation behind it
+-- no sign, or one with no separation after it
 unsigned : (R : Outcomes) (t : List ℕ) (e i : ℕ) (n : ℤ) (c : Ctx) (o : Option Found) → (code t i ≡ 63 → Stuck (Separate t n c (i + 1)))
     → UnsignedWay R t e n c i o → ItemWay R t e n c i o
 unsigned R t e i n c o a w = ⊎_elim (λ (q : code t i ≡ 63). one_way q (not_taken (a q) w)) (λ (q : code t i ≢ 63). other_way q w) (cases_eq (code t i) 63)

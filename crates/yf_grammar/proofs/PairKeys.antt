@@ -49,7 +49,7 @@ module _ {t : List ℕ} {c : Ctx} where
         let z : code t h ≡ 58 = ap (code t) same ∙ p.colon.colon in
         absurd (omega arith)
 
-line_run : {t : List ℕ} {i j : ℕ} → MaySeparateInLine t i j → (w : List ℕ) × Many t is_white i j w
+pub line_run : {t : List ℕ} {i j : ℕ} → MaySeparateInLine t i j → (w : List ℕ) × Many t is_white i j w
 line_run unseparated_in_line = ([], done)
 line_run (separated_in_line s) = separate_whites s
 

@@ -39,7 +39,7 @@ whites_in_line {t} {i} {j} m =
     (λ (l : j ≤ i). let same : i ≡ j = omega arith in subst (λ k. MaySeparateInLine t i k) same Grammar.unseparated_in_line)
     (cases_lt i j)
 
--- the key of a single pair is on one line, and the text goes on behind it
+-- the key of a single pair is on one line, and the text goes on after it
 pub key_on_line : {t : List ℕ} {c : Ctx} {i k : ℕ} {f : Found} → PairKey t c i f k → AllOnLine t i k
 key_on_line {t} {k = k} p = let e = p.colon.colon in record { line = p.line; goes_on = within_from_code t k (omega arith) }
 

@@ -71,7 +71,7 @@ noting_one {t} {floor} (with_entry {e = e} {y = y} {b = d} entry a n r) (with_en
     let rest : y ≡ z = noting_one r s in
     rw (note, same, rest) refl
 
-part_one : (p q : Part) → p.events ≡ q.events → p.comments ≡ q.comments → p.escapes ≡ q.escapes → p ≡ q
+pub part_one : (p q : Part) → p.events ≡ q.events → p.comments ≡ q.comments → p.escapes ≡ q.escapes → p ≡ q
 part_one p q a b c =
     let put : List Placed → List CommentValue → List ℕ → Part = λ x y z. record { events = x; comments = y; escapes = z } in
     ap (λ x. put x p.comments p.escapes) a ∙ ap (λ y. put q.events y p.escapes) b ∙ ap (λ z. put q.events q.comments z) c

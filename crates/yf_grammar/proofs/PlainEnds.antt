@@ -25,7 +25,7 @@ use Rattle.yf_grammar.specs.Parser.{begins_alias, begins_properties, begins_cont
 use Rattle.yf_grammar.proofs.BlankRuns.{is_blank, blank_of_hash, ns_not_blank, Blanks, no_blanks, blanks_unique, blanks_of_whites, blanks_of_fold, blanks_forward, blanks_behind, Front, separate_front, Behind, no_start_behind}
 use Rattle.yf_grammar.proofs.BlankRuns.Front.{all_blank, hash_at}
 
--- one more character of a plain scalar, behind whites or a fold, by its place alone
+-- one more character of a plain scalar, after white space or a fold, by its place alone
 pub data Leap (t : List ℕ) (c : Ctx) : ℕ → ℕ → List ℕ → Type 0 where
   leap : {i h : ℕ} → Blanks t i h → is_plain_char t c h ≡ true → Leap t c i (next t h) []
 
@@ -116,7 +116,7 @@ pub hash_not_blank : (c : ℕ) → c ≡ 35 → is_blank c ≡ false
 hash_not_blank c e = ap is_blank e ∙ blank_of_hash
 
 module _ {t : List ℕ} where
-  -- no character of a plain scalar stands behind a separation's first blanks, where none stands behind the separation
+  -- no character of a plain scalar stands after a separation's first blanks, where none stands after the separation
   blocked : {j l h : ℕ} (c : Ctx) → IsUtf8 t → Behind t j → Front t j l → is_blank (code t l) ≡ false → is_plain_char t c l ≡ false
       → Blanks t j h → is_plain_char t c h ≡ true → ⊥
   blocked {h = h} c u b (all_blank d) n m a e =
@@ -138,7 +138,7 @@ pub may_front : {t : List ℕ} {n : ℤ} {c : Ctx} {j l : ℕ} {cs : List Commen
 may_front unseparated = all_blank no_blanks
 may_front (separated s) = separate_front s
 
--- a plain scalar is the longest one where no character of one stands behind what separates it from what follows
+-- a plain scalar is the longest one where no character of one stands after what separates it from what follows
 pub plain_ends : {t : List ℕ} {n m : ℤ} {c d : Ctx} {i j k l : ℕ} {x y : List ℕ} {cs : List CommentValue} → IsUtf8 t → PlainText t n c i j x → Clear t i j
     → MaySeparate t m d j l cs → is_ns_char (code t l) ≡ true → is_plain_char t c l ≡ false → Chosen (Plain t n c i) k y → (k ≡ j) × (y ≡ x)
 plain_ends {t} {n} {c = c} {i = i} {j = j} {k = k} {l = l} {x = x} u p a s v e best =

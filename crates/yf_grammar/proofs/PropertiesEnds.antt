@@ -29,7 +29,7 @@ use Rattle.yf_grammar.specs.Grammar.MaySeparate.{unseparated, separated}
 use Rattle.yf_grammar.specs.Parser.{begins_properties}
 use Rattle.yf_grammar.proofs.GapLemmas.{Visible, separate_still, same_end}
 
--- what stands behind a node in a flow collection: a comma, a closing bracket, or the `:` behind a key
+-- what stands after a node in a flow collection: a comma, a closing bracket, or the `:` after a key
 unfoldable pub is_stop : ℕ → Bool
 is_stop c = (c == 44) || (c == 93) || (c == 125) || (c == 58)
 
@@ -119,7 +119,7 @@ module _ {t : List ℕ} where
   mark_no_word : {i j : ℕ} → Run (WordChar t) i j → code t i ≡ 33 → ⊥
   mark_no_word r e = no_word_at r (ap is_word_char e ∙ word_not_mark)
 
-  -- the suffix behind a `!` alone ends where a longer handle ends
+  -- the suffix after a `!` alone ends where a longer handle ends
   suffix_end : {i w k : ℕ} → Run (WordChar t) i w → code t w ≡ 33 → Run (TagChar t) i k → k ≡ w
   suffix_end {w = w} s b r =
       let stuck : Stuck (TagChar t w) = record { none = λ j x d. ⊎_elim (λ (q : is_tag_char (code t w) ≡ true). true≢false (sym q ∙ ap is_tag_char b ∙ tag_not_mark)) (λ (q : code t w ≡ 37). absurd (omega arith)) (tag_first_char d) } in
@@ -194,7 +194,7 @@ module _ {t : List ℕ} where
       let all = tag_all_solid e in
       (no_separation_inside t u (g - 1) g (omega arith) (all.each (g - 1) (omega arith) (omega arith)) (all.each g (omega arith) l)).none m x s
 
--- behind the properties that end at g no longer tag goes on, and no anchor or tag stands behind a separation
+-- after the properties that end at g no longer tag goes on, and no anchor or tag stands after a separation
 record Ended (t : List ℕ) (n : ℤ) (c : Ctx) (g : ℕ) : Type 0 where
   no_longer : {i k : ℕ} {v w : TagValue} → TagProperty t i g v → TagProperty t i k w → g < k → ⊥
   no_second : (k : ℕ) (x : List CommentValue) → Separate t n c g k x → (code t k ≡ 33) ⊎ (code t k ≡ 38) → ⊥
@@ -217,7 +217,7 @@ module _ {t : List ℕ} where
   tag_no_anchor d a = let e = tag_mark d in let f = anchor_here a in absurd (omega arith)
 
 module _ {t : List ℕ} {n : ℤ} {c : Ctx} where
-  -- the separation behind the first property is the same
+  -- the separation after the first property is the same
   second_place : {h k l : ℕ} {x y : List CommentValue} → Separate t n c h k x → (code t k ≡ 33) ⊎ (code t k ≡ 38) → Separate t n c h l y
       → (code t l ≡ 33) ⊎ (code t l ≡ 38) → l ≡ k
   second_place {k = k} {l = l} s e r f = same_end (mark_visible k e) s (mark_visible l f) r
@@ -273,22 +273,49 @@ module _ {t : List ℕ} {n : ℤ} {c : Ctx} where
       let same : k ≡ g = omega arith in
       (same, sym (best.only p (subst (λ z. Properties t n c i z p) (sym same) d)))
 
+  ended_before : {g m : ℕ} {x : List CommentValue} → IsUtf8 t → Separate t n c g m x → Visible t m → begins_properties (code t m) ≡ false → Ended t n c g
+  ended_before {g = g} {m = m} u s v f = record {
+    no_longer = λ a b l. tag_before_separation u a b s l;
+    no_second = λ k y r o. no_begin t m f (subst (λ z. (code t z ≡ 33) ⊎ (code t z ≡ 38)) (same_end v s (mark_visible k o) r) o);
+  }
+
+  ended_alone : {g m : ℕ} {x : List CommentValue} → IsUtf8 t → MaySeparate t n c g m x → Visible t m → is_stop (code t m) ≡ true → Ended t n c g
+  ended_alone {g = g} u (separated {j = m} s) v f = ended_before u s v (stop_no_begin (code t m) f)
+  ended_alone {g = g} u unseparated v f = record {
+    no_longer = λ a b l. tag_before_stop a b f l;
+    no_second = λ k y r o. no_begin t g (stop_no_begin (code t g) f) (subst (λ z. (code t z ≡ 33) ⊎ (code t z ≡ 38)) (separate_still v r).0 o);
+  }
+
+  ended_line : {m : ℤ} {d : Ctx} {g l : ℕ} {x : List CommentValue} → IsUtf8 t → Separate t m d g l x → ((h : ℕ) (y : List CommentValue) → Separate t n c g h y → Visible t h → ⊥) → Ended t n c g
+  ended_line u s f = record { no_longer = λ a b l. tag_before_separation u a b s l; no_second = λ h y r o. f h y r (mark_visible h o) }
+
   -- the reader takes the properties that stand before a separation and content
   pub properties_before : {i g m k : ℕ} {p q : PropertiesValue} {x : List CommentValue} → IsUtf8 t → Properties t n c i g p → Separate t n c g m x
       → Visible t m → begins_properties (code t m) ≡ false → Chosen (Properties t n c i) k q → (k ≡ g) × (q ≡ p)
-  properties_before {g = g} {m = m} u d s v f best = chosen_from u (record {
-    no_longer = λ a b l. tag_before_separation u a b s l;
-    no_second = λ k y r o. no_begin t m f (subst (λ z. (code t z ≡ 33) ⊎ (code t z ≡ 38)) (same_end v s (mark_visible k o) r) o);
-  }) d best
+  properties_before u d s v f best = chosen_from u (ended_before u s v f) d best
 
-  -- and those that stand alone, before what ends an entry
+  -- those that stand alone, before what ends an entry
   pub properties_alone_before : {i g m k : ℕ} {p q : PropertiesValue} {x : List CommentValue} → IsUtf8 t → Properties t n c i g p → MaySeparate t n c g m x
       → Visible t m → is_stop (code t m) ≡ true → Chosen (Properties t n c i) k q → (k ≡ g) × (q ≡ p)
-  properties_alone_before {g = g} u d (separated {j = m} s) v f best = properties_before u d s v (stop_no_begin (code t m) f) best
-  properties_alone_before {g = g} u d unseparated v f best = chosen_from u (record {
-    no_longer = λ a b l. tag_before_stop a b f l;
-    no_second = λ k y r o. no_begin t g (stop_no_begin (code t g) f) (subst (λ z. (code t z ≡ 33) ⊎ (code t z ≡ 38)) (separate_still v r).0 o);
-  }) d best
+  properties_alone_before u d s v f best = chosen_from u (ended_alone u s v f) d best
+
+  -- and those after which a separation stands that they cannot pass
+  pub properties_before_line : {m : ℤ} {d : Ctx} {i g l k : ℕ} {p q : PropertiesValue} {x : List CommentValue} → IsUtf8 t → Properties t n c i g p → Separate t m d g l x
+      → ((h : ℕ) (y : List CommentValue) → Separate t n c g h y → Visible t h → ⊥) → Chosen (Properties t n c i) k q → (k ≡ g) × (q ≡ p)
+  properties_before_line u e s f best = chosen_from u (ended_line u s f) e best
+
+  -- none that are derived there end later
+  pub properties_upto : {i g m k : ℕ} {p q : PropertiesValue} {x : List CommentValue} → IsUtf8 t → Properties t n c i g p → Separate t n c g m x
+      → Visible t m → begins_properties (code t m) ≡ false → Properties t n c i k q → k ≤ g
+  properties_upto u d s v f e = longest u (ended_before u s v f) d e
+
+  pub properties_alone_upto : {i g m k : ℕ} {p q : PropertiesValue} {x : List CommentValue} → IsUtf8 t → Properties t n c i g p → MaySeparate t n c g m x
+      → Visible t m → is_stop (code t m) ≡ true → Properties t n c i k q → k ≤ g
+  properties_alone_upto u d s v f e = longest u (ended_alone u s v f) d e
+
+  pub properties_upto_line : {m : ℤ} {d : Ctx} {i g l k : ℕ} {p q : PropertiesValue} {x : List CommentValue} → IsUtf8 t → Properties t n c i g p → Separate t m d g l x
+      → ((h : ℕ) (y : List CommentValue) → Separate t n c g h y → Visible t h → ⊥) → Properties t n c i k q → k ≤ g
+  properties_upto_line u e s f r = longest u (ended_line u s f) e r
 
 -- properties begin with & or !
 pub properties_begin : {t : List ℕ} {n : ℤ} {c : Ctx} {i j : ℕ} {p : PropertiesValue} → Properties t n c i j p → begins_properties (code t i) ≡ true

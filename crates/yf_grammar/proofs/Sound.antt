@@ -55,7 +55,7 @@ closed_within : {t : List ℕ} {e i : ℕ} {n : ℤ} {c : Ctx} {f : Found} (sequ
 closed_within sequence (closed_at_once s h m q) = omega arith
 closed_within sequence (closed_behind x d w s q) = w
 
--- an entry, a comma and what stands behind it
+-- an entry, a comma and what stands after it
 joined_closed : {t : List ℕ} {e i k m : ℕ} {sequence : Bool} {n : ℤ} {c : Ctx} {cs ds : List CommentValue} {f g : Found} → Made t e (Grammar.Entry sequence n c) i f
     → Gap t n c f.end k cs → code t k ≡ 44 → Gap t n c (k + 1) m ds → Closed t e sequence n c m g
     → Closed t e sequence n c i (record { end = g.end; height = max f.height g.height; json = true; meaning = noting f.meaning (cs ++ ds) ⊕ g.meaning })

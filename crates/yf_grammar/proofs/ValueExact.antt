@@ -1,4 +1,4 @@
--- The value behind a `:`, where what the reader finds of its node is known.
+-- The value after a `:`, where what the reader finds of its node is known.
 use Rattle.std.proofs.Common.{◌≡◌, ℕ, ℤ, ◌+◌, Bool, true, false, List, Option, Some, None, refl, ap, ◌∙◌, subst}
 use Rattle.yf_chars.specs.declared.context.Ctx.{Ctx}
 use Rattle.yf_chars.specs.Chain.{Stuck}
@@ -18,7 +18,7 @@ unfolding found
 behind_found cs f j h b x e = cc
 
 module _ {t : List ℕ} {n : ℤ} {c : Ctx} where
-  -- a value behind a separation
+  -- a value after a separation
   pub value_exact : {e i k : ℕ} {json : Bool} {cs : List CommentValue} {o : Option Found} (j h : ℕ) (x : Meaning) → Separate t n c (i + 1) k cs → Visible t k
       → ((r : Option Found) → Parses t e (ANode n c k) r → (b : Bool) × (r ≡ found j h b x)) → Parses t e (AValue json n c i) o
       → (b : Bool) × (o ≡ found j h b (behind cs x))
@@ -43,7 +43,7 @@ module _ {t : List ℕ} {n : ℤ} {c : Ctx} where
   adjacent_exact j h x s g (value_adjacent {f = f} d r) = g (Some f) r
   adjacent_exact j h x s g (value_adjacent_empty d r) = let a = g None r in absurd (none_found j h a.0 x a.1)
 
-  -- an empty value, where no node begins behind the longest separation
+  -- an empty value, where no node begins after the longest separation
   pub empty_exact : {e i l : ℕ} {json : Bool} {cs : List CommentValue} {o : Option Found} → MaySeparate t n c (i + 1) l cs → Visible t l
       → ((f : Found) → Parses t e (ANode n c l) (Some f) → ⊥) → Parses t e (AValue json n c i) o → o ≡ found (i + 1) 0 false (empty_node (i + 1))
   empty_exact {e = e} m v g (value_read {f = f} d r) =

@@ -27,7 +27,7 @@ yaml_node_is_found u s (a_plain_with d z p) k f r =
     let a = properties_later d in
     let b = separate_forward z in
     plain_with_exact u s d z p (clear_back (omega arith) k) f r
-yaml_node_is_found u s (properties_alone b d) k f r = alone_exact u s d f r
+yaml_node_is_found u s (properties_alone b d) k f r = alone_exact u d f r
 
 no_propertied : (p : PropertiesValue) (cs : List CommentValue) (i g : ℕ) (f : Found) → propertied p cs i g f ≡ None → ⊥
 unfolding propertied

@@ -15,7 +15,8 @@ use Rattle.yf_events.specs.declared.event.ScalarStyle.TheVariants.{Plain, Single
 use Rattle.yf_plain.specs.Plain.{PlainText}
 use Rattle.yf_props.specs.Names.{Alias, Properties, PropertiesValue}
 use Rattle.yf_grammar.specs.BlockScalar.{BlockScalar}
-use Rattle.yf_quoted.specs.Quoted.{Piece, good, bad, text_of, SingleQuoted, DoubleQuoted}
+use Rattle.yf_quoted.specs.Quoted.{Piece, text_of, SingleQuoted, DoubleQuoted}
+pub use Rattle.yf_quoted.specs.Quoted.{bad_escapes}
 use Rattle.yf_grammar.specs.Meaning.{Meaning, ◌⊕◌, behind, noting, scalar, alias_to, empty_node, collection, with_props, entering}
 
 -- where a flag stands for the kind of a collection, true is a sequence; where one stands for the kind of a node, true is
@@ -35,7 +36,7 @@ pub data Production : Type 0 where
   -- ns-flow-map-explicit-entry(n,c) and ns-flow-map-implicit-entry(n,c), of an entry that begins at the offset
   Explicit : ℤ → Ctx → ℕ → Production
   Implicit : ℤ → Ctx → ℕ → Production
-  -- the `:` and the value: c-ns-flow-map-separate-value(n,c), or c-ns-flow-map-adjacent-value(n,c) behind a JSON key
+  -- the `:` and the value: c-ns-flow-map-separate-value(n,c), or c-ns-flow-map-adjacent-value(n,c) after a JSON key
   ValueOf : Bool → ℤ → Ctx → Production
   -- ns-s-implicit-yaml-key(c) or c-s-implicit-json-key(c)
   KeyOf : Bool → Ctx → Production
@@ -49,12 +50,6 @@ pub data Production : Type 0 where
   BlockIndented : ℕ → Ctx → Production
   -- c-l-block-map-implicit-value: the `:` and the value
   BlockValue : ℕ → Production
-
--- the offsets of the escapes that are no character
-abbrev pub bad_escapes : List Piece → List ℕ
-bad_escapes [] = []
-bad_escapes (good c ∷ xs) = bad_escapes xs
-bad_escapes (bad p ∷ xs) = p ∷ bad_escapes xs
 
 -- in-flow(c)
 abbrev pub in_flow : Ctx → Ctx
@@ -88,16 +83,16 @@ pub data MaySeparateInLine (t : List ℕ) : ℕ → ℕ → Type 0 where
 unfoldable pub characters_between : List ℕ → ℕ → ℕ → ℕ
 characters_between t i j = length (chars (take (j - i) (drop i t)))
 
--- an implicit key has at most so many characters, the whites behind it counted
+-- an implicit key has at most so many characters, the white space after it counted
 abbrev pub KEY_LIMIT : ℕ
 KEY_LIMIT = 1024
 
--- a `:` before the offset may be read behind a node of that kind: where that is like YAML's, no plain character follows
+-- a `:` before the offset may be read after a node of that kind: where that is like YAML's, no plain character follows
 abbrev pub MayBeColon : Bool → List ℕ → ℕ → Ctx → Type 0
 MayBeColon true t i c = Unit {0}
 MayBeColon false t i c = is_plain_safe (code t i) c ≡ false
 
--- the separation before the value: it may be missing behind a JSON key alone
+-- the separation before the value: it may be missing after a JSON key alone
 abbrev pub ValueSeparate : Bool → List ℕ → ℤ → Ctx → ℕ → ℕ → List CommentValue → Type 0
 ValueSeparate true = MaySeparate
 ValueSeparate false = Separate
@@ -244,7 +239,7 @@ pub data Derives (t : List ℕ) : ℕ → Production → ℕ → ℕ → Meaning
       → Derives t h (BlockValue m) i j x
   an_empty_block_value : {m i j : ℕ} {cs : List CommentValue} → code t i ≡ 58 → LineEnd t (i + 1) j cs
       → Derives t 0 (BlockValue m) i j (noting (empty_node (i + 1)) cs)
-  -- s-l+block-indented(n,c): a compact collection, a node, or nothing, behind an indicator
+  -- s-l+block-indented(n,c): a compact collection, a node, or nothing, after an indicator
   a_compact_collection : {h l m i j : ℕ} {sequence : Bool} {c : Ctx} {x : Meaning} → is_block c ≡ true → Spaces t i l
       → Derives t h (BlockEntries sequence (m + 1 + l)) (i + l) j x
       → Derives t (suc h) (BlockIndented m c) i j (collection sequence false (i + l) x.finish x)

@@ -1,5 +1,9 @@
+pub mod Back
+pub mod BlockParser
 pub mod BlockScalar
 pub mod Grammar
+pub mod Halts
 pub mod Meaning
 pub mod Parser
 pub mod Part
+pub mod Refusal

@@ -15,7 +15,7 @@ pub record Meaning : Type 0 where
   pub escapes : List ℕ
   pub finish : ℕ
 
--- one part behind another
+-- one part after another
 infixl 5 ◌⊕◌
 unfoldable pub ◌⊕◌ : Meaning → Meaning → Meaning
 x ⊕ y = record {
@@ -25,7 +25,7 @@ x ⊕ y = record {
   finish = y.finish;
 }
 
--- comments before a part, and behind it
+-- comments before a part, and after it
 unfoldable pub behind : List CommentValue → Meaning → Meaning
 behind cs x = record x { comments = cs ++ x.comments }
 
@@ -39,7 +39,7 @@ plain_event event span = record { event = event; span = span; tag_offset = None;
 unfoldable pub from_to : ℕ → ℕ → Option Span
 from_to i j = Some (record { start = i; end = j })
 
--- a scalar without properties, an alias, an empty node behind what ends at an offset
+-- a scalar without properties, an alias, an empty node after what ends at an offset
 unfoldable pub scalar : ScalarStyle → List ℕ → List ℕ → ℕ → ℕ → Meaning
 scalar style text escapes i j = record {
   events = plain_event (scalar_node no_props style text) (from_to i j) ∷ [];
@@ -89,7 +89,7 @@ first_with props tag i j (e ∷ es) =
 unfoldable pub with_props : PropsValue → Option ℕ → ℕ → ℕ → Meaning → Meaning
 with_props props tag i j x = record x { events = first_with props tag i j x.events }
 
--- the first event begins an entry; whether a blank line stands before it is noted afterwards (`Settled`)
+-- the first event begins an entry; whether a blank line stands before it is noted afterwards (`Noting`)
 abbrev pub first_entering : Entry → List Placed → List Placed
 first_entering entry [] = []
 first_entering entry (e ∷ es) = record e { entry = Some entry } ∷ es

@@ -49,12 +49,12 @@ begins_content c = (c == 39) || (c == 34) || (c == 91) || (c == 123)
 unfoldable pub begins_plain : ℕ → Bool
 begins_plain c = not (begins_alias c || begins_properties c || begins_content c)
 
--- the `:` of a value stands behind a node of that kind
+-- the `:` of a value stands after a node of that kind
 pub record ColonAt (t : List ℕ) (json : Bool) (c : Ctx) (i : ℕ) : Type 0 where
   pub colon : code t i ≡ 58
   pub behind : MayBeColon json t (i + 1) c
 
--- a key of a single pair: on one line, and not too long; whites may stand behind it
+-- a key of a single pair: on one line, and not too long; white space may stand after it
 pub record PairKey (t : List ℕ) (c : Ctx) (i : ℕ) (f : Found) (k : ℕ) : Type 0 where
   pub whites : List ℕ
   pub run : Many t is_white f.end k whites
@@ -70,14 +70,14 @@ pub data Task : Type 0 where
   -- entries up to the closing bracket, from an entry or that bracket on; one entry
   TheEntries : Bool → ℤ → Ctx → ℕ → Task
   AnEntry : Bool → ℤ → Ctx → ℕ → Task
-  -- what stands behind `?` and its separation, of an entry of a mapping that begins at the first offset
+  -- what stands after `?` and its separation, of an entry of a mapping that begins at the first offset
   AnExplicit : ℤ → Ctx → ℕ → ℕ → Task
   -- a key or a lone value of an entry of a mapping that begins at the first offset
   AnImplicit : ℤ → Ctx → ℕ → ℕ → Task
-  -- the `:` behind a node of that kind, and the value
+  -- the `:` after a node of that kind, and the value
   AValue : Bool → ℤ → Ctx → ℕ → Task
 
--- a node with its properties from i to g and the separation behind them
+-- a node with its properties from i to g and the separation after them
 unfoldable pub propertied : PropertiesValue → List CommentValue → ℕ → ℕ → Found → Option Found
 propertied p cs i g f = Some (record f { meaning = behind (p.comments ++ cs) (with_props p.props p.tag_offset i g f.meaning) })
 
@@ -121,7 +121,7 @@ pub data Parses (t : List ℕ) : ℕ → Task → Option Found → Type 0 where
       → Parses t e (ANode n c i) None
   content_read : {e i : ℕ} {n : ℤ} {c : Ctx} {o : Option Found} → begins_content (code t i) ≡ true → Parses t e (AContent n c i) o
       → Parses t e (ANode n c i) o
-  -- properties: behind them content, a plain scalar, or nothing
+  -- properties: after them content, a plain scalar, or nothing
   properties_missed : {e i : ℕ} {n : ℤ} {c : Ctx} → begins_properties (code t i) ≡ true → Stuck (Properties t n c i)
       → Parses t e (ANode n c i) None
   properties_content : {e i g k : ℕ} {n : ℤ} {c : Ctx} {p : PropertiesValue} {cs : List CommentValue} {f : Found}
@@ -171,7 +171,7 @@ pub data Parses (t : List ℕ) : ℕ → Task → Option Found → Type 0 where
   entry_unclosed : {e i k : ℕ} {sequence : Bool} {n : ℤ} {c : Ctx} (cs : List CommentValue) {f : Found} → code t i ≢ closing sequence
       → Parses t e (AnEntry sequence n c i) (Some f) → Gap t n c f.end k cs → code t k ≢ closing sequence → code t k ≢ 44
       → Parses t e (TheEntries sequence n c i) None
-  -- an entry of a mapping: behind `?` and a separation, or without
+  -- an entry of a mapping: after `?` and a separation, or without
   mapping_explicit : {e i k : ℕ} {n : ℤ} {c : Ctx} {cs : List CommentValue} {f : Found} → code t i ≡ 63
       → Chosen (Separate t n c (i + 1)) k cs → Parses t e (AnExplicit n c i k) (Some f)
       → Parses t e (AnEntry false n c i) (Some (record f { meaning = behind cs f.meaning }))
@@ -181,7 +181,7 @@ pub data Parses (t : List ℕ) : ℕ → Task → Option Found → Type 0 where
       → Parses t e (AnImplicit n c i i) o → Parses t e (AnEntry false n c i) o
   mapping_implicit : {e i : ℕ} {n : ℤ} {c : Ctx} {o : Option Found} → code t i ≢ 63
       → Parses t e (AnImplicit n c i i) o → Parses t e (AnEntry false n c i) o
-  -- behind `?`: nothing before a comma or a bracket, else a key or a value
+  -- after `?`: nothing before a comma or a bracket, else a key or a value
   explicit_nothing : {e s i : ℕ} {n : ℤ} {c : Ctx} → (code t i == 44) || (code t i == 93) || (code t i == 125) ≡ true
       → Parses t e (AnExplicit n c s i) (found i 0 false (entering s None (empty_node (s + 1)) ⊕ empty_node (s + 1)))
   explicit_something : {e s i : ℕ} {n : ℤ} {c : Ctx} {o : Option Found} → (code t i == 44) || (code t i == 93) || (code t i == 125) ≡ false
@@ -219,7 +219,7 @@ pub data Parses (t : List ℕ) : ℕ → Task → Option Found → Type 0 where
   item_read : {e i : ℕ} {n : ℤ} {c : Ctx} {f : Found} → (code t i ≡ 63 → Stuck (Separate t n c (i + 1))) → (ColonAt t false c i → ⊥)
       → Parses t e (ANode n c i) (Some f) → ((k : ℕ) → PairKey t c i f k → ⊥)
       → Parses t e (AnEntry true n c i) (Some (record f { meaning = entering i None f.meaning }))
-  -- a value: the node behind the separation, which only behind a key like JSON's may be missing; else it is empty
+  -- a value: the node after the separation, which only after a key like JSON's may be missing; else it is empty
   value_read : {e i k : ℕ} {json : Bool} {n : ℤ} {c : Ctx} {cs : List CommentValue} {f : Found} → Chosen (Separate t n c (i + 1)) k cs
       → Parses t e (ANode n c k) (Some f) → Parses t e (AValue json n c i) (Some (record f { meaning = behind cs f.meaning }))
   value_empty : {e i k : ℕ} {json : Bool} {n : ℤ} {c : Ctx} (cs : List CommentValue) → Chosen (Separate t n c (i + 1)) k cs

@@ -13,8 +13,8 @@ use Rattle.yf_events.specs.declared.part.Part.{Part}
 use Rattle.yf_grammar.specs.Grammar.{Production, FlowNode, NodeOf, BlockNode, Derives}
 use Rattle.yf_grammar.specs.Meaning.{Meaning}
 
--- going back from the place over whites, breaks and marks, a line of whites alone is met that begins at the floor or
--- behind it
+-- going back from the place over white space, breaks and marks, a line of white space alone is met that begins at the floor or
+-- after it
 pub data BlankSince (t : List ℕ) (floor : ℕ) : ℕ → Type 0 where
   blank_line : {i j : ℕ} → floor ≤ i → Blank t i → Break t i j → BlankSince t floor j
   past_gap : {i : ℕ} → BlankSince t floor i → is_gap (code t i) ≡ true → BlankSince t floor (next t i)

@@ -1,4 +1,4 @@
--- Laws of the basic structures: breaks, whites, starts of lines, document markers.
+-- Laws of the basic structures: breaks, white space, starts of lines, document markers.
 use Rattle.std.proofs.Common.{◌≡◌, ◌≢◌, ℕ, ◌+◌, ◌-◌, ◌<◌, ◌≤◌, Bool, true, false, List, length, get_or, refl, sym, ap, ◌∙◌, subst, inl, inr, ◌⊎◌, ⊎_elim, arith, eqb, MatchBool}
 use Rattle.std.proofs.lemmas.Bool.{cases_eq, cases_lt, eq-eqb, ne_eqb, eqb-true}
 use Rattle.std.specs.Str.{IsUtf8}
@@ -10,7 +10,7 @@ use Rattle.yf_lines.specs.Basic.{Break, LineStart, Clear, is_marker, is_three}
 use Rattle.yf_lines.specs.Basic.Break.{cr_lf, lone_cr, lone_lf}
 use Rattle.yf_lines.specs.Basic.LineStart.{at_text, after_break, after_mark}
 
--- whites
+-- white space
 pub white_of_space : (c : ℕ) → c ≡ 32 → is_white c ≡ true
 unfolding is_white
 white_of_space c e = ap is_white e
@@ -115,7 +115,7 @@ line_start_view at_text = nothing_before refl
 line_start_view (after_break {i = i} b) = break_before i b
 line_start_view {t} (after_mark {i = i} s e) = mark_before i s e (sym (next-mark t i e))
 
--- behind a mark no break ends
+-- after a mark no break ends
 no_break_after_mark : (t : List ℕ) (i j : ℕ) → IsUtf8 t → code t i ≡ 0xFEFF → i + 3 ≡ j → (h : ℕ) → Break t h j → ⊥
 no_break_after_mark t i j u e s =
     let b = bytes_from_mark t i u e in
@@ -123,7 +123,7 @@ no_break_after_mark t i j u e s =
     let inside : code t (j - 1) ≡ no_char = ap (code t) p ∙ code-inside t (i + 2) (omega (arith, b.3)) (omega (arith, b.3)) in
     no_break_end t j (λ q. absurd (omega arith)) (λ q _. absurd (omega arith))
 
--- a mark may be taken away in front of the start of a line
+-- a mark may be taken away in prefix of the start of a line
 pub start_before_mark : (t : List ℕ) (j : ℕ) → IsUtf8 t → 3 ≤ j → code t (j - 3) ≡ 0xFEFF → LineStart t j → LineStart t (j - 3)
 start_before_mark t j u l e s = go (line_start_view s) where
   go : Before t j → LineStart t (j - 3)

@@ -17,7 +17,7 @@ use Rattle.yf_lines.specs.Basic.Break.{cr_lf, lone_cr, lone_lf}
 use Rattle.yf_lines.proofs.BasicLemmas.{Before, line_start_view, break_end, break_forward, three_first, no_marker, white_below, white_cases, clear_join, clear_nothing}
 use Rattle.yf_lines.proofs.BasicLemmas.Before.{nothing_before, break_before, mark_before}
 
--- what stands behind an offset at which a character begins
+-- what stands after an offset at which a character begins
 rest_behind : {t : List ℕ} {i c j : ℕ} → Reads t i c j → drop i t ≡ encode c ++ drop j t
 rest_behind {t} {i} {c} {j} r =
     let within : i ≤ length t = omega (arith, r.later, r.within) in
@@ -108,7 +108,7 @@ line_start_behind {t} {j} u s = go (line_start_view s) where
       let to : next t i ≡ j = next-mark t i e ∙ q in
       inr (i, code t i, subst (λ k. Reads t i (code t i) k) to r, inr (inr e))
 
--- no line begins behind the first offset, up to the second
+-- no line begins after the first offset, up to the second
 pub record Quiet (t : List ℕ) (i j : ℕ) : Type 0 where
   pub none : (h : ℕ) → i < h → h ≤ j → LineStart t h → ⊥
 
@@ -126,7 +126,7 @@ line_start_boundary {t} {j} u s =
     (λ (w : (k : ℕ) × (d : ℕ) × Reads t k d j × ((d ≡ 10) ⊎ ((d ≡ 13) ⊎ (d ≡ 0xFEFF)))). w.2.boundary)
     (line_start_behind u s)
 
--- behind a character that is no break and no mark, no line begins
+-- after a character that is no break and no mark, no line begins
 pub quiet_char : {t : List ℕ} {i c j : ℕ} → IsUtf8 t → Reads t i c j → c ≢ 10 → c ≢ 13 → c ≢ 0xFEFF → Quiet t i j
 quiet_char {t} {i} {c} {j} u r lf cr mark = record {
   none = λ h l m s. ⊎_elim
@@ -148,7 +148,7 @@ clear_quiet {t} {i} {j} n q = record {
       (λ (o : i ≢ h). q.none h (omega arith) (omega arith) f.start) (cases_eq i h);
 }
 
--- whites stay within their line
+-- white space stay within their line
 quiet_white : {t : List ℕ} (i : ℕ) → IsUtf8 t → is_white (code t i) ≡ true → Quiet t i (next t i)
 quiet_white {t} i u e =
     let low = white_below (code t i) e in

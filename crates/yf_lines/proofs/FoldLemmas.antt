@@ -24,7 +24,7 @@ use Rattle.yf_lines.specs.Basic.FlowFolded.{at_break, past_whites}
 use Rattle.yf_lines.specs.Fold.{FoldsTo, FoldLines, ContentAt, line_feeds, fold_of}
 use Rattle.yf_lines.proofs.BasicLemmas.{white_of_space, break_char, break_forward, break_unique}
 
--- some run of whites
+-- some run of white space
 abbrev pub Whites : List ℕ → ℕ → ℕ → Type 0
 Whites t i j = (x : List ℕ) × Many t is_white i j x
 
@@ -57,7 +57,7 @@ whites_of_line : {t : List ℕ} {n : ℤ} {i j : ℕ} → LinePrefix t n FlowIn 
 whites_of_line (in_block e d) = whites_of_indent d
 whites_of_line (in_flow e p) = whites_of_prefix p
 
--- whites end where another character stands
+-- white space ends where another character stands
 whites_end : {t : List ℕ} {i j k : ℕ} → Whites t i j → is_white (code t j) ≡ false → Whites t i k → is_white (code t k) ≡ false → j ≡ k
 whites_end {t} a e b f = (many_unique t is_white a.1 e b.1 f).0
 
@@ -72,7 +72,7 @@ white_no_lf c e = ap is_white e
 pub break_no_white : {t : List ℕ} {i j : ℕ} → Break t i j → is_white (code t i) ≡ false
 break_no_white {t} {i} b = ⊎_elim (λ (e : code t i ≡ 13). white_no_cr (code t i) e) (λ (e : code t i ≡ 10). white_no_lf (code t i) e) (break_char b)
 
--- an empty line: whites and a break
+-- an empty line: white space and a break
 record EmptyParts (t : List ℕ) (i j : ℕ) (x : List ℕ) : Type 0 where
   pub at : ℕ
   pub whites : Whites t i at
@@ -121,7 +121,7 @@ lines_unique {t} {n} {k = k} a b =
     let same = stuck_unique (empty_functional t n) a.empties (content_stuck a.content) b.empties (content_stuck b.content) in
     (content_end a.content (subst (λ l. ContentAt t n l k) (sym same.0) b.content), same.1)
 
--- a fold: whites, a break, and lines
+-- a fold: white space, a break, and lines
 record FoldParts (t : List ℕ) (n : ℤ) (i j : ℕ) (x : List ℕ) : Type 0 where
   pub at : ℕ
   pub whites : Whites t i at
@@ -245,7 +245,7 @@ no_fold_indent {t} {n} {i} l = record { none = λ j x f. go (fold_parts f) } whe
   go : {j : ℕ} {x : List ℕ} → FoldParts t n i j x → ⊥
   go p = first p.lines.content.prefix
 
--- the lines behind the break are found, or not
+-- the lines after the break are found, or not
 pub lines_found : {t : List ℕ} {n : ℤ} {i k j : ℕ} {x : List ℕ} → Chain (Empty t n FlowIn) i k x → ContentAt t n k j → FoldLines t n i j x
 lines_found {k = k} c d = record { line = k; empties = c; content = d }
 
@@ -343,7 +343,7 @@ empty_short {t} {i} {j} {e} {k} {w} s o l d b =
     let b' : Break t (i + (j - i)) k = subst (λ h. Break t h k) (d ∙ sym q) b in
     shorter (fewer (j - i) (less_pos l) s) b'
 
--- a fold covers whites and breaks alone
+-- a fold covers white space and breaks alone
 clear_empties : {t : List ℕ} {n : ℤ} {i j : ℕ} {x : List ℕ} → IsUtf8 t → Chain (Empty t n FlowIn) i j x → Clear t i j
 clear_empties {t} {i = i} u done = clear_nothing t i
 clear_empties u (step e c) =
@@ -356,7 +356,7 @@ clear_fold u f =
     clear_join (clear_join (clear_join (clear_whites u p.whites.1) (clear_break p.ends)) (clear_empties u p.lines.empties))
     (clear_whites u (whites_of_prefix p.lines.content.prefix).1)
 
--- the line to which a fold leads, and the whites at its start
+-- the line to which a fold leads, and the white space at its start
 last_break : {t : List ℕ} {n : ℤ} {i j : ℕ} {x : List ℕ} → (g : ℕ) × Break t g i → Chain (Empty t n FlowIn) i j x → (h : ℕ) × Break t h j
 last_break b done = b
 last_break b (step e c) = let p = empty_parts e in last_break (p.at, p.ends) c
@@ -375,7 +375,7 @@ fold_line f =
     let w = whites_of_prefix p.lines.content.prefix in
     record { line = p.lines.line; from = b.0; ends = b.1; blank = w.0; whites = w.1 }
 
--- where whites lead to a character that begins no break, there is no fold
+-- where white space lead to a character that begins no break, there is no fold
 pub fold_not_item : {t : List ℕ} {n : ℤ} {i h j : ℕ} {w x : List ℕ} → Many t is_white i h w → Nowhere (Break t h) → is_white (code t h) ≡ false
     → FoldsTo t n i j x → ⊥
 fold_not_item {t} {i = i} {h = h} {w = w} m b e f = (no_fold_break (w, m) e b).none _ _ f
@@ -394,6 +394,6 @@ fold_order {t} {n} (past_whites s d p) =
     let g = chain_forward (empty_functional t n) parts.empties in
     let l = chain_forward (one_functional t is_white) (whites_of_prefix p).1 in omega arith
 
--- the lines behind a break cover whites and breaks alone
+-- the lines after a break cover white space and breaks alone
 pub clear_lines : {t : List ℕ} {n : ℤ} {i j : ℕ} {x : List ℕ} → IsUtf8 t → FoldLines t n i j x → Clear t i j
 clear_lines u l = clear_join (clear_empties u l.empties) (clear_whites u (whites_of_prefix l.content.prefix).1)

@@ -6,3 +6,4 @@ pub mod PlaceLemmas
 pub mod ClearLemmas
 pub mod FoldLemmas
 pub mod OutputLemmas
+pub mod RestLemmas

@@ -52,7 +52,7 @@ not_in_mark t i e u m b l s =
     let h : 192 ≤ get_or t e 0 = b.1 (omega (arith, bytes.0)) (omega arith) in absurd (omega arith))
     (cases_eq e (i + 1))
 
--- the start of a line lies behind each of its marks
+-- the start of a line lies after each of its marks
 one_mark_start : {t : List ℕ} {i j : ℕ} {x : List ℕ} → LineStart t i → One t is_mark i j x → LineStart t j
 one_mark_start {t} {i} s (one e) = after_mark s (mark_code t i e)
 
@@ -78,7 +78,7 @@ pub end_no_mark : {t : List ℕ} {h j : ℕ} → LineEnd t h j → code t h ≢ 
 end_no_mark {t} {h} (at_break b) e = ⊎_elim (λ (q : code t h ≡ 13). omega arith) (λ (q : code t h ≡ 10). omega arith) (break_char b)
 end_no_mark {t} {h} (at_end q) e = let p : code t h ≡ no_char = code-past t h (omega arith) in absurd (omega arith)
 
--- no break ends inside of a line, behind its start
+-- no break ends inside of a line, after its start
 inside_cr_lf : (t : List ℕ) (e h : ℕ) → code t e ≡ 13 → code t (e + 1) ≡ 10 → h ≡ e + 1
     → (code t (h - 1) ≡ 10) ⊎ ((code t (h - 1) ≡ 13) × (code t h ≢ 10)) → ⊥
 inside_cr_lf t e h a b q (inl c) =
@@ -113,7 +113,7 @@ break_at_start {t} {i} {h} l m b o s =
     (cases_lt (h - 1) l.end))
     (cases_eq l.start h)
 
--- a start of a line in a line stands behind marks of its start
+-- a start of a line in a line stands after marks of its start
 pub start_in_line : {t : List ℕ} {h : ℕ} (l : Line) → IsUtf8 t → IsLine t l → IsCutAt t l → LineStart t h → l.start ≤ h → h < l.next
     → (x : List ℕ) × Many t is_mark l.start h x
 start_in_line {t} l u m c at_text o s = let z : l.start ≡ 0 = omega arith in ([], subst (λ k. Many t is_mark k 0 []) (sym z) done)

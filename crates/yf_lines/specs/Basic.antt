@@ -38,7 +38,7 @@ pub data Break (t : List ℕ) : ℕ → ℕ → Type 0 where
   lone_cr : {i : ℕ} → code t i ≡ 13 → code t (i + 1) ≢ 10 → Break t i (i + 1)
   lone_lf : {i : ℕ} → code t i ≡ 10 → code t (i - 1) ≢ 13 → Break t i (i + 1)
 
--- the start of a line: of the text, behind a break, and behind each byte order mark that stands there
+-- the start of a line: of the text, after a break, and after each byte order mark that stands there
 pub data LineStart (t : List ℕ) : ℕ → Type 0 where
   at_text : LineStart t 0
   after_break : {i j : ℕ} → Break t i j → LineStart t j
@@ -81,7 +81,7 @@ pub data Folded (t : List ℕ) (n : ℤ) (c : Ctx) : ℕ → ℕ → List ℕ �
   trimmed : {i h k j : ℕ} {x y : List ℕ} → Break t i h → Empty t n c h k x → Chain (Empty t n c) k j y → Folded t n c i j (x ++ y)
   as_space : {i j : ℕ} → Break t i j → Folded t n c i j (32 ∷ [])
 
--- s-flow-folded(n): whites round a folded break mean nothing
+-- s-flow-folded(n): white space round a folded break mean nothing
 pub data FlowFolded (t : List ℕ) (n : ℤ) : ℕ → ℕ → List ℕ → Type 0 where
   at_break : {i h j : ℕ} {x : List ℕ} → Folded t n FlowIn i h x → FlowPrefix t n h j → FlowFolded t n i j x
   past_whites : {i g h j : ℕ} {x : List ℕ} → SeparateInLine t i g → Folded t n FlowIn g h x → FlowPrefix t n h j → FlowFolded t n i j x

@@ -1,5 +1,5 @@
 -- Folded line breaks inside of flow scalars (YAML 1.2.2, 6.5), as their readers meet them: up to the first character
--- behind them that is neither a white nor a break.
+-- after them that is neither a white nor a break.
 use Rattle.std.specs.Prelude.{◌≡◌, ℕ, zero, suc, ℤ, false, List, [], ◌∷◌}
 use Rattle.yf_chars.specs.Text.{code}
 use Rattle.yf_chars.specs.Class.{is_white}
@@ -19,7 +19,7 @@ pub record ContentAt (t : List ℕ) (n : ℤ) (i j : ℕ) : Type 0 where
   pub no_white : is_white (code t j) ≡ false
   pub no_break : Nowhere (Break t j)
 
--- what stands behind the first break of a fold: empty lines, which mean x, and the indentation of the line behind them
+-- what stands after the first break of a fold: empty lines, which mean x, and the indentation of the line after them
 pub record FoldLines (t : List ℕ) (n : ℤ) (i j : ℕ) (x : List ℕ) : Type 0 where
   pub line : ℕ
   pub empties : Chain (Empty t n FlowIn) i line x

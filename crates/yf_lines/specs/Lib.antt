@@ -1,7 +1,10 @@
 pub mod Basic
+pub mod FaultPlaces
 pub mod Lines
 pub mod Output
 pub mod Steady
 pub mod Text
 pub mod Fold
 pub mod Watched
+pub mod LineText
+pub mod Rest

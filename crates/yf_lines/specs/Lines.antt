@@ -1,5 +1,5 @@
 -- The lines of a text t, the place of an offset, and the forbidden lines (YAML 1.2.2, 5.4 and 9.1.2). A line ends with
--- its break, CR LF, CR or LF; the text behind the last break is a line where it is not empty. Offsets count bytes.
+-- its break, CR LF, CR or LF; the text after the last break is a line where it is not empty. Offsets count bytes.
 use Rattle.std.specs.Prelude.{◌≡◌, ◌≢◌, ℕ, ◌+◌, ◌-◌, ◌<◌, ◌≤◌, Bool, true, false, ◌==◌, nat_lt, List, [], ◌∷◌, length, slice_get, Some}
 use Rattle.std.specs.Str.{IsCharBoundary, IsUtf8}
 use Rattle.yf_chars.specs.Chain.{Chain, Many}
@@ -100,7 +100,7 @@ pub data PlaceOf (t : List ℕ) (offset : ℕ) : ℕ → ℕ → Type 0 where
       → ColumnOf t l.start offset c → PlaceOf t offset (k + 1) c
   behind_lines : {ls : List Line} → AreLines t ls → offset ≡ length t → NewLine t → PlaceOf t offset (length ls + 1) 1
 
--- the line that begins at i is forbidden: behind its marks it begins with a document marker
+-- the line that begins at i is forbidden: after its marks it begins with a document marker
 pub record IsForbiddenLine (t : List ℕ) (i : ℕ) : Type 0 where
   pub at : ℕ
   pub behind : Marks t i at

@@ -11,7 +11,7 @@ pub record Wrote (old new : Option (List ℕ)) (before after : Bool) (text : Lis
   pub appended : Appends old new text
   pub same : after ≡ before
 
--- the writer has failed, and a front of the text was appended
+-- the writer has failed, and a prefix of the text was appended
 pub record Broke (old new : Option (List ℕ)) (after : Bool) (text : List ℕ) : Type 0 where
   pub failed : after ≡ true
   pub front : List ℕ

@@ -1,4 +1,4 @@
-//! The basic structures that all readers share (YAML 1.2.2, 5.4 and 6.1 to 6.5): line breaks, whites, indentation, the
+//! The basic structures that all readers share (YAML 1.2.2, 5.4 and 6.1 to 6.5): line breaks, white space, indentation, the
 //! start of a line and document markers. Offsets count bytes.
 ghost use Rattle.std.specs.Prelude.{◌≡◌, ◌≢◌, ◌+◌, ◌-◌, ◌<◌, ◌≤◌, ◌==◌, ℕ, Bool, true, false, List, length, IfSome, MatchOption, MatchBool};
 ghost use Rattle.std.specs.Str.{IsCharBoundary};
@@ -9,7 +9,7 @@ ghost use Rattle.yf_lines.specs.Basic.{Break, LineStart, Spaces, Forbidden, is_m
 
 use yf_chars::text::stands;
 
-/// Reads a line break (b-break, production 28): the offset behind it, or `None` where no break begins.
+/// Reads a line break (b-break, production 28): the offset after it, or `None` where no break begins.
 ///
 /// No break begins between the two characters of a CR LF.
 pub fn line_break(s: &str, at: usize) -> Option<usize>
@@ -43,7 +43,7 @@ pub fn white_stands(s: &str, at: usize) -> bool
     stands(s, at, b'\t')
 }
 
-/// The offset behind all whites that stand at the offset.
+/// The offset after all white space that stands at the offset.
 pub fn skip_whites(s: &str, at: usize) -> usize
     requires { IsCharBoundary s.now at }
     ensures whites { (x : List ℕ) × Many s.now is_white at result x }
@@ -58,7 +58,7 @@ pub fn skip_whites(s: &str, at: usize) -> usize
     end
 }
 
-/// The offset behind all spaces that stand at the offset.
+/// The offset after all spaces that stand at the offset.
 pub fn skip_spaces(s: &str, at: usize) -> usize
     requires { IsCharBoundary s.now at }
     ensures spaces { Spaces s.now at (result - at) }
@@ -122,7 +122,7 @@ pub fn break_ends(s: &str, at: usize) -> bool
     false
 }
 
-/// Whether the offset is the start of a line: of the text, behind a break, or behind byte order marks that stand there.
+/// Whether the offset is the start of a line: of the text, after a break, or after byte order marks that stand there.
 pub fn is_line_start(s: &str, at: usize) -> bool
     ensures { MatchBool result (LineStart s.now at) (LineStart s.now at → ⊥) }
 {

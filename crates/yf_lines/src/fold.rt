@@ -10,7 +10,7 @@ ghost use Rattle.yf_lines.specs.Fold.{FoldsTo, FoldLines, ContentAt, line_feeds,
 
 use crate::basic::{line_break, skip_spaces, skip_whites};
 
-/// A folded line break: the number of empty lines in it, and the byte offset of what stands behind it.
+/// A folded line break: the number of empty lines in it, and the byte offset of what stands after it.
 ///
 /// It means a space where no empty line stands in it, else a line feed for each of them.
 #[derive(Clone, Copy, Debug, PartialEq, Eq)]
@@ -29,8 +29,8 @@ pub fn indent_width(n: i32) -> Option<usize>
     Some(n as usize)
 }
 
-/// Reads the line break (s-flow-folded(n), production 74) at the end of a line of a scalar, with the whites round it and
-/// the empty lines behind it, up to the first character that is neither a white nor a break.
+/// Reads the line break (s-flow-folded(n), production 74) at the end of a line of a scalar, with the white space around it and
+/// the empty lines after it, up to the first character that is neither a white nor a break.
 ///
 /// `None` where the line does not end there, or the next line that is not empty is indented by fewer than `width` spaces.
 /// Whether that line is forbidden is not asked.
@@ -50,7 +50,7 @@ pub fn flow_folded(s: &str, at: usize, width: usize) -> Option<Fold>
     }
 }
 
-/// The empty lines from the start of a line on, and the indentation of the line behind them.
+/// The empty lines from the start of a line on, and the indentation of the line after them.
 pub fn fold_lines(s: &str, at: usize, width: usize) -> Option<Fold>
     requires { IsCharBoundary s.now at }
     ensures reads { MatchOption result (Stuck (FoldLines s.now (pos width) at)) (λ f. FoldLines s.now (pos width) at f.end (line_feeds f.feeds)) }
@@ -75,7 +75,7 @@ pub fn fold_lines(s: &str, at: usize, width: usize) -> Option<Fold>
     }
 }
 
-// The offset behind the line that begins there, where it is empty (l-empty(n,flow-in), production 70).
+// The offset after the line that begins there, where it is empty (l-empty(n,flow-in), production 70).
 fn empty_line(s: &str, at: usize, width: usize) -> Option<usize>
     requires { IsCharBoundary s.now at }
     ensures reads { MatchOption result (Stuck (Empty s.now (pos width) FlowIn at)) (λ j. Empty s.now (pos width) FlowIn at j (10 ∷ [])) }
@@ -95,7 +95,7 @@ fn empty_line(s: &str, at: usize, width: usize) -> Option<usize>
     }
 }
 
-// The offset behind the whites at the start of a line, where it is indented (s-flow-line-prefix(n), production 69) and not
+// The offset after the white space at the start of a line, where it is indented (s-flow-line-prefix(n), production 69) and not
 // empty.
 fn indented_line(s: &str, at: usize, width: usize) -> Option<usize>
     requires { IsCharBoundary s.now at }

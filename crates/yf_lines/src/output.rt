@@ -6,7 +6,7 @@ use crate::watched::Sink;
 
 /// Writes all the bytes, by as many writes as it takes.
 ///
-/// A write that fails, or that takes no bytes, is answered by `WriteFailed`; a front of the bytes has then been
+/// A write that fails, or that takes no bytes, is answered by `WriteFailed`; a prefix of the bytes has then been
 /// written. Nothing is flushed: a writer that keeps bytes back is flushed by its owner.
 pub fn write_text<W: Sink>(writer: &mut W, bytes: &[u8]) -> Result<(), Fault>
     ensures { Writes (W.contents writer.old) (W.contents writer.new)

@@ -87,7 +87,7 @@ impl<'a> LineTable<'a> {
         self.lines[i]
     }
 
-    /// Whether the line of that index is forbidden: whether it begins, behind its byte order marks, with a document
+    /// Whether the line of that index is forbidden: whether it begins, after its byte order marks, with a document
     /// marker (c-forbidden, production 206).
     pub fn is_forbidden(&self, i: usize) -> bool
         requires { i < length self.now.lines }
@@ -167,7 +167,7 @@ fn is_forbidden_line(text: &str, start: usize) -> bool
     marker_stands(text, at)
 }
 
-// The offset behind all byte order marks that stand at the offset.
+// The offset after all byte order marks that stand at the offset.
 fn skip_marks(text: &str, at: usize) -> usize
     requires { IsCharBoundary text.now at }
     ensures marks { Marks text.now at result }

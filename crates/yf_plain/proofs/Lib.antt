@@ -1,2 +1,5 @@
 pub mod PlainLemmas
 pub mod LineLemmas
+pub mod KeptLemmas
+pub mod PlainBack
+mod KeptShown

@@ -1,7 +1,7 @@
 -- Laws of plain scalars over several lines: character by character there is one way to go on.
 use lib.Utf8.{encode}
 use Rattle.std.proofs.lemmas.Str.{encodes-append}
-use Rattle.std.proofs.Common.{◌≡◌, ◌≢◌, ℕ, zero, suc, ◌<◌, ◌≤◌, ℤ, pos, ◌<ℤ◌, true, false, List, [], ◌∷◌, ◌++◌, refl, sym, ap, ◌∙◌, subst, inl, inr, ◌⊎◌, ⊎_elim, arith, append_assoc, encode_utf8_all}
+use Rattle.std.proofs.Common.{◌≡◌, ◌≢◌, ℕ, zero, suc, ◌<◌, ◌≤◌, ℤ, pos, ◌<ℤ◌, true, false, List, [], ◌∷◌, ◌++◌, refl, sym, ap, ◌∙◌, subst, inl, inr, ◌⊎◌, ⊎_elim, arith, append_assoc, append-nil, encode_utf8_all}
 use Rattle.std.proofs.lemmas.Bool.{true≢false}
 use Rattle.std.specs.Str.{IsUtf8}
 use Rattle.yf_chars.specs.declared.context.Ctx.{Ctx}
@@ -10,7 +10,8 @@ use Rattle.yf_chars.specs.Text.{code, next, before, Reads}
 use Rattle.yf_chars.specs.Class.{is_ns_char, is_white}
 use Rattle.yf_chars.specs.Chain.{Chain, Functional, Stuck, Chosen, Nowhere}
 use Rattle.yf_chars.specs.Chain.Chain.{done, step}
-use Rattle.yf_chars.proofs.ChainLemmas.{chain_chosen, chain_append, chain_forward}
+use Rattle.yf_chars.proofs.ChainLemmas.{chain_chosen, chain_append, chain_forward, chain_meet, Meets}
+use Rattle.yf_chars.proofs.ChainLemmas.Meets.{goes_on, falls_short}
 use Rattle.yf_chars.proofs.TextLemmas.{reads_real, next_later}
 use Rattle.yf_lines.specs.Basic.{Break, Forbidden, Clear, FlowFolded, is_block, is_flow, is_key}
 use Rattle.yf_lines.specs.Basic.LineStart.{after_break}
@@ -39,10 +40,10 @@ pub record ClearStep (t : List ℕ) (n : ℤ) (c : Ctx) (i j : ℕ) (x : List �
 ns_not : {c d : ℕ} → is_ns_char c ≡ true → is_ns_char d ≡ false → c ≢ d
 ns_not e n q = true≢false (sym e ∙ ap is_ns_char q ∙ n)
 
-content_no_break : {t : List ℕ} {h : ℕ} → is_ns_char (code t h) ≡ true → Nowhere (Break t h)
+pub content_no_break : {t : List ℕ} {h : ℕ} → is_ns_char (code t h) ≡ true → Nowhere (Break t h)
 content_no_break {t} {h} n = no_break_here t h (ns_not n ns_cr) (ns_not n ns_lf)
 
-folds_to : {t : List ℕ} {n : ℤ} {i h : ℕ} {x : List ℕ} → FlowFolded t n i h x → is_ns_char (code t h) ≡ true → FoldsTo t n i h x
+pub folds_to : {t : List ℕ} {n : ℤ} {i h : ℕ} {x : List ℕ} → FlowFolded t n i h x → is_ns_char (code t h) ≡ true → FoldsTo t n i h x
 folds_to {t} {h = h} f e = record { folded = f; no_white = ns_not_white (code t h) e; no_break = content_no_break e }
 
 -- the two kinds of step, by their parts
@@ -113,7 +114,7 @@ raw done = done
 raw (step s d) = step s.go (raw d)
 
 -- lines as steps
-items_stay : {t : List ℕ} {n : ℤ} {c : Ctx} {i j : ℕ} {x : List ℕ} → Chain (PlainItem t c) i j x → Chain (PlainStep t n c) i j x
+pub items_stay : {t : List ℕ} {n : ℤ} {c : Ctx} {i j : ℕ} {x : List ℕ} → Chain (PlainItem t c) i j x → Chain (PlainStep t n c) i j x
 items_stay done = done
 items_stay (step s d) = step (stay s) (items_stay d)
 
@@ -122,7 +123,7 @@ next_steps {t} {n} {c} {i} {j} (next_line {h = h} {x = x} {y = y} f e d) =
     let q : (x ++ code t h ∷ []) ++ y ≡ x ++ code t h ∷ y = append_assoc x (code t h ∷ []) y in
     subst (λ w. Chain (PlainStep t n c) i j w) q (step (move f e) (items_stay d))
 
-nexts_steps : {t : List ℕ} {n : ℤ} {c : Ctx} {i j : ℕ} {x : List ℕ} → Chain (PlainNext t n c) i j x → Chain (PlainStep t n c) i j x
+pub nexts_steps : {t : List ℕ} {n : ℤ} {c : Ctx} {i j : ℕ} {x : List ℕ} → Chain (PlainNext t n c) i j x → Chain (PlainStep t n c) i j x
 nexts_steps done = done
 nexts_steps (step s d) = chain_append (next_steps s) (nexts_steps d)
 
@@ -337,10 +338,52 @@ more_bytes {b} {f} {l} x y k e g h =
     ap (λ v. v ++ l) (h ∙ ap (λ v. v ++ fold_text k) e) ∙ append_assoc (encode_utf8_all x) (fold_text k) l
     ∙ ap (λ v. encode_utf8_all x ++ v) (sym w) ∙ sym (encodes-append x (fold_text k ++ y))
 
--- a scalar that does not go on behind its first line
+-- a scalar that does not go on after its first line
 pub one_line_chosen : {t : List ℕ} {n : ℤ} {c : Ctx} {i j : ℕ} {x : List ℕ} → is_flow c ≡ true → Chosen (PlainFront t c i) j x → Stuck (PlainItem t c j)
     → NoNextLine t n c j → Chosen (Plain t n c i) j x
 one_line_chosen f best s l = plain_chosen f (front_steps best.derived) (steps_stuck s l)
 
 pub no_next_negative : {t : List ℕ} {n : ℤ} {c : Ctx} {i : ℕ} → n <ℤ pos 0 → NoNextLine t n c i
 no_next_negative l = no_next_fold (no_fold_indent l)
+
+-- a scalar that is a longer one's front goes on after its end: with a character of the line, or with a next line
+pub data Onward (t : List ℕ) (n : ℤ) (c : Ctx) (k l : ℕ) : Type 0 where
+  on_line : {j : ℕ} {x : List ℕ} → PlainItem t c k j x → Onward t n c k l
+  on_next : {h : ℕ} {x : List ℕ} → FoldsTo t n k h x → is_plain_char t c h ≡ true → (Forbidden t h → ⊥) → h < l → Onward t n c k l
+
+step_onward : {t : List ℕ} {n : ℤ} {c : Ctx} {k j l : ℕ} {x : List ℕ} → ClearStep t n c k j x → j ≤ l → Onward t n c k l
+step_onward {t} {n} {c} {k} {l = l} s m = go (kind s.go) s.clear m where
+  go : {j : ℕ} {x : List ℕ} → Kind t n c k j x → Clear t k j → j ≤ l → Onward t n c k l
+  go (stays d) a m = on_line d
+  go (moves v) a m =
+      let f = folds_forward v.folded in let g = next_later t v.at in let e = v.end in
+      on_next v.folded v.char (λ q. a.none v.at (omega arith) (omega arith) q) (omega arith)
+
+chain_onward : {t : List ℕ} {n : ℤ} {c : Ctx} {k l : ℕ} {x : List ℕ} → Chain (ClearStep t n c) k l x → k < l → Onward t n c k l
+chain_onward done m = absurd (omega arith)
+chain_onward {t} {n} {c} (step s d) m = step_onward s (chain_forward (step_functional t n c) d)
+
+pub plain_onward : {t : List ℕ} {n : ℤ} {c : Ctx} {i k l : ℕ} {x y : List ℕ} → is_flow c ≡ true → Plain t n c i k x → Plain t n c i l y → k < l → Onward t n c k l
+plain_onward {t} {n} {c} {k = k} {l = l} f p q m =
+    let a = to_steps f p in
+    let b = to_steps f q in
+    go (chain_meet (step_functional t n c) a.steps b.steps)
+  where
+    go : {x y : List ℕ} → Meets (ClearStep t n c) k l x y → Onward t n c k l
+    go (goes_on z d e) = chain_onward d m
+    go (falls_short z d e) = let g = chain_forward (step_functional t n c) d in absurd (omega arith)
+
+-- up to one end it means one text
+chain_still : {t : List ℕ} {n : ℤ} {c : Ctx} {k l : ℕ} {x : List ℕ} → Chain (ClearStep t n c) k l x → l ≤ k → x ≡ []
+chain_still done m = refl
+chain_still {t} {n} {c} (step s d) m = let f = (step_functional t n c).forward s in let g = chain_forward (step_functional t n c) d in absurd (omega arith)
+
+pub plain_unique : {t : List ℕ} {n : ℤ} {c : Ctx} {i k : ℕ} {x y : List ℕ} → is_flow c ≡ true → Plain t n c i k x → Plain t n c i k y → y ≡ x
+plain_unique {t} {n} {c} {i} {k} {x} {y} f p q =
+    let a = to_steps f p in
+    let b = to_steps f q in
+    b.text ∙ ap (λ w. code t i ∷ w) (go (chain_meet (step_functional t n c) a.steps b.steps)) ∙ sym a.text
+  where
+    go : {x y : List ℕ} → Meets (ClearStep t n c) k k x y → y ≡ x
+    go {x} (goes_on z d e) = e ∙ ap (λ w. x ++ w) (chain_still d (omega arith)) ∙ append-nil x
+    go {y = y} (falls_short z d e) = sym (e ∙ ap (λ w. y ++ w) (chain_still d (omega arith)) ∙ append-nil y)

@@ -41,7 +41,7 @@ pub ns_below : (c : ℕ) → is_ns_char c ≡ true → c < no_char
 unfolding is_ns_char is_nb_char is_printable is_between
 ns_below c e = grind (arith, nat_tests)
 
-safe_is_ns : (c : ℕ) (x : Ctx) → is_plain_safe c x ≡ true → is_ns_char c ≡ true
+pub safe_is_ns : (c : ℕ) (x : Ctx) → is_plain_safe c x ≡ true → is_ns_char c ≡ true
 unfolding is_plain_safe
 safe_is_ns c BlockOut e = absurd (true≢false (sym e))
 safe_is_ns c BlockIn e = absurd (true≢false (sym e))
@@ -90,15 +90,15 @@ unfolding is_plain_first
 first_other t c i e = rw (e, or-false (is_ns_char (code t i) && not (is_indicator (code t i)))) refl
 
 -- such characters are characters of content
-ns_colon : is_ns_char 58 ≡ true
+pub ns_colon : is_ns_char 58 ≡ true
 unfolding is_ns_char is_nb_char is_printable is_between is_break_char is_white
 ns_colon = refl
 
-ns_hash : is_ns_char 35 ≡ true
+pub ns_hash : is_ns_char 35 ≡ true
 unfolding is_ns_char is_nb_char is_printable is_between is_break_char is_white
 ns_hash = refl
 
-ns_sign : (c : ℕ) → is_sign c ≡ true → is_ns_char c ≡ true
+pub ns_sign : (c : ℕ) → is_sign c ≡ true → is_ns_char c ≡ true
 unfolding is_sign is_ns_char is_nb_char is_printable is_between is_break_char is_white
 ns_sign c e = grind (arith, nat_tests)
 
@@ -157,7 +157,7 @@ first_at_end t c i e =
     ⊎_elim (λ (h : is_plain_first t c i ≡ true). absurd (true≢false (sym (first_is_ns t c i h) ∙ ap is_ns_char e ∙ ns_at_end)))
     (λ (h : is_plain_first t c i ≡ false). h) (cases_Bool (is_plain_first t c i))
 
--- behind whites stands a white
+-- after white space stands a white
 pub behind_whites : {t : List ℕ} {i j : ℕ} {x : List ℕ} → IsUtf8 t → Many t is_white i j x → (i ≡ j) ⊎ (is_white (before t j) ≡ true)
 behind_whites u done = inl refl
 behind_whites {t} {j = j} u (step (one {i = i} e) c) =
@@ -193,7 +193,7 @@ pub quiet_ns : {t : List ℕ} {i : ℕ} → IsUtf8 t → is_ns_char (code t i) �
 quiet_ns {t} {i} u e =
     quiet_char u (reads_real t i u (ns_below (code t i) e)) (ns_not (code t i) 10 e ns_lf) (ns_not (code t i) 13 e ns_cr) (ns_not (code t i) 0xFEFF e ns_mark)
 
--- one character with the whites before it
+-- one character with the white space before it
 record Parts (t : List ℕ) (c : Ctx) (i j : ℕ) (x : List ℕ) : Type 0 where
   pub at : ℕ
   pub blank : List ℕ

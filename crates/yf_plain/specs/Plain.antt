@@ -19,7 +19,7 @@ is_plain_first t c i =
     (is_ns_char (code t i) && not (is_indicator (code t i)))
     || (is_sign (code t i) && is_plain_safe (code t (i + 1)) c)
 
--- ns-plain-char(c): the character at i may stand in a plain scalar; # may behind a character that is no white, and :
+-- ns-plain-char(c): the character at i may stand in a plain scalar; # may after a character that is no white space, and :
 -- before one that is safe
 unfoldable pub is_plain_char : List ℕ → Ctx → ℕ → Bool
 is_plain_char t c i =
@@ -27,7 +27,7 @@ is_plain_char t c i =
     || ((code t i == 35) && is_ns_char (before t i))
     || ((code t i == 58) && is_plain_safe (code t (i + 1)) c)
 
--- whites, and the character behind them: one round of nb-ns-plain-in-line(c)
+-- white space, and the character after them: one round of nb-ns-plain-in-line(c)
 pub data PlainItem (t : List ℕ) (c : Ctx) : ℕ → ℕ → List ℕ → Type 0 where
   set_off : {i h : ℕ} {x : List ℕ} → Many t is_white i h x → is_plain_char t c h ≡ true → PlainItem t c i (next t h) (x ++ code t h ∷ [])
 
@@ -35,7 +35,7 @@ pub data PlainItem (t : List ℕ) (c : Ctx) : ℕ → ℕ → List ℕ → Type 
 pub data PlainLine (t : List ℕ) (c : Ctx) : ℕ → ℕ → List ℕ → Type 0 where
   one_line : {i j : ℕ} {x : List ℕ} → is_plain_first t c i ≡ true → Chain (PlainItem t c) (next t i) j x → PlainLine t c i j (code t i ∷ x)
 
--- s-ns-plain-next-line(n,c): a folded break, and the characters of the line behind it
+-- s-ns-plain-next-line(n,c): a folded break, and the characters of the line after it
 pub data PlainNext (t : List ℕ) (n : ℤ) (c : Ctx) : ℕ → ℕ → List ℕ → Type 0 where
   next_line : {i h j : ℕ} {x y : List ℕ} → FlowFolded t n i h x → is_plain_char t c h ≡ true → Chain (PlainItem t c) (next t h) j y
       → PlainNext t n c i j (x ++ code t h ∷ y)
@@ -64,6 +64,6 @@ pub record NextLine (t : List ℕ) (n : ℤ) (c : Ctx) (i feeds start j : ℕ) :
   pub items : Chain (PlainItem t c) (next t start) j text
   pub all : Stuck (PlainItem t c j)
 
--- a plain scalar does not go on behind i on a next line
+-- a plain scalar does not go on after i on a next line
 pub record NoNextLine (t : List ℕ) (n : ℤ) (c : Ctx) (i : ℕ) : Type 0 where
   pub none : (h : ℕ) (x : List ℕ) → FoldsTo t n i h x → is_plain_char t c h ≡ true → (Forbidden t h → ⊥) → ⊥

@@ -4,6 +4,3 @@
 pub mod plain;
 
 pub use yf_lines::steady::is_steady;
-
-#[cfg(test)]
-mod tests;

@@ -22,7 +22,7 @@ use yf_lines::source_text::Src;
 use yf_lines::text::{OwnedText, Text};
 
 /// Reads a plain scalar (ns-plain(n,c), production 131) that begins at the byte offset: its text, folded, and the offset
-/// behind it, or `None` where no plain scalar begins. `n` is the indentation, from -1.
+/// after it, or `None` where no plain scalar begins. `n` is the indentation, from -1.
 ///
 /// In keys it stands on one line. No plain scalar covers a document marker at the start of a line. The text is a slice of
 /// the source where the scalar stands on one line.
@@ -97,7 +97,7 @@ fn is_key(ctx: Ctx) -> bool
     matches!(ctx, Ctx::BlockKey | Ctx::FlowKey)
 }
 
-// The text of a plain scalar over several lines, and the offset behind it.
+// The text of a plain scalar over several lines, and the offset after it.
 #[derive(Drop)]
 struct Lines {
     text: String,
@@ -156,7 +156,7 @@ struct NextLine {
     end: usize,
 }
 
-// The next line of a plain scalar behind the end of one of its lines (s-ns-plain-next-line(n,c), production 134).
+// The next line of a plain scalar after the end of one of its lines (s-ns-plain-next-line(n,c), production 134).
 fn next_line(s: &str, at: usize, width: usize, ctx: Ctx) -> Option<NextLine>
     requires { IsCharBoundary s.now at }
     ensures reads { MatchOption result (NoNextLine s.now (pos width) ctx at) (λ l. P.NextLine s.now (pos width) ctx at l.feeds l.start l.end) }
@@ -182,7 +182,7 @@ fn next_line(s: &str, at: usize, width: usize, ctx: Ctx) -> Option<NextLine>
 }
 
 /// Reads the part of a plain scalar that stands on its first line (ns-plain-one-line(c), production 133): the byte
-/// offset behind it, or `None` where no plain scalar begins.
+/// offset after it, or `None` where no plain scalar begins.
 ///
 /// In a key this is the whole scalar.
 pub fn read_plain_line(s: &str, at: usize, ctx: Ctx) -> Option<usize>
@@ -201,7 +201,8 @@ pub fn read_plain_line(s: &str, at: usize, ctx: Ctx) -> Option<usize>
     }
 }
 
-// The characters of a plain scalar behind one of them, on the same line (nb-ns-plain-in-line(c), production 132).
+// The characters of a plain scalar after one of them, on the same line (nb-ns-plain-in-line(c), production 132).
+#[inline]
 fn plain_in_line(s: &str, at: usize, ctx: Ctx) -> usize
     requires boundary { IsCharBoundary s.now at }
     requires behind { Class.is_ns_char (before s.now at) ≡ true }
@@ -219,7 +220,8 @@ fn plain_in_line(s: &str, at: usize, ctx: Ctx) -> usize
     }
 }
 
-// Whites and one character behind them: the offset behind it.
+// White space and one character after them: the offset after it.
+#[inline]
 fn plain_item(s: &str, at: usize, ctx: Ctx) -> Option<usize>
     requires boundary { IsCharBoundary s.now at }
     requires behind { Class.is_ns_char (before s.now at) ≡ true }
@@ -235,8 +237,9 @@ fn plain_item(s: &str, at: usize, ctx: Ctx) -> Option<usize>
     }
 }
 
-// The offset behind the character that begins there, where it may stand in a plain scalar (ns-plain-char(c), production
+// The offset after the character that begins there, where it may stand in a plain scalar (ns-plain-char(c), production
 // 130); `after_char` tells whether a character of content stands before it.
+#[inline]
 fn plain_char(s: &str, at: usize, ctx: Ctx, after_char: bool) -> Option<usize>
     requires boundary { IsCharBoundary s.now at }
     requires look_behind { Class.is_ns_char (before s.now at) ≡ after_char }
@@ -265,7 +268,7 @@ fn plain_char(s: &str, at: usize, ctx: Ctx, after_char: bool) -> Option<usize>
     }
 }
 
-// The offset behind the character that begins there, where it may begin a plain scalar (ns-plain-first(c), production
+// The offset after the character that begins there, where it may begin a plain scalar (ns-plain-first(c), production
 // 126).
 fn plain_first(s: &str, at: usize, ctx: Ctx) -> Option<usize>
     requires { IsCharBoundary s.now at }

@@ -79,7 +79,7 @@ module _ {t : List ℕ} where
   pub anchor_chosen : {i j : ℕ} → code t i ≡ 38 → Run (AnchorChar t) (i + 1) j → Chosen (Anchor t i) j (slice_range t (i + 1) j)
   anchor_chosen {i} {j} e r = let d = ampersand_name e r in chosen_alone d (λ k y f. anchor_unique d f)
 
-  alias_parts : {i j : ℕ} {x : List ℕ} → Alias t i j x → (code t i ≡ 42) × Run (AnchorChar t) (i + 1) j
+  pub alias_parts : {i j : ℕ} {x : List ℕ} → Alias t i j x → (code t i ≡ 42) × Run (AnchorChar t) (i + 1) j
   alias_parts (asterisk_name e r) = (e, r)
 
   pub anchor_parts : {i j : ℕ} {x : List ℕ} → Anchor t i j x → (code t i ≡ 38) × Run (AnchorChar t) (i + 1) j

@@ -36,7 +36,7 @@ module _ {t : List ℕ} {n : ℤ} {c : Ctx} where
       let same : l ≡ k = omega arith in
       (same, s.only y (subst (λ v. Separate t n c h v y) same r))
 
-  -- an anchor, and a tag behind it
+  -- an anchor, and a tag after it
   past_anchor : {i h k j l : ℕ} {a : List ℕ} {x : List CommentValue} {v : TagValue} {p : PropertiesValue} → Anchor t i h a
       → Chosen (Separate t n c h) k x → Chosen (TagProperty t k) j v → Properties t n c i l p
       → (l < j) ⊎ ((l ≡ j) × (p ≡ tag_with_anchor k v a x))
@@ -95,7 +95,7 @@ module _ {t : List ℕ} (u : IsUtf8 t) {n : ℤ} {c : Ctx} where
       let all = tag_all_solid e in
       no_separation_inside t u (h - 1) h (omega arith) (all.each (h - 1) (omega arith) (omega arith)) (all.each h (omega arith) l)
 
-  -- a tag, and an anchor behind it
+  -- a tag, and an anchor after it
   past_tag : {i h k j l : ℕ} {a : List ℕ} {x : List CommentValue} {v : TagValue} {p : PropertiesValue} → Chosen (TagProperty t i) h v
       → Chosen (Separate t n c h) k x → Anchor t k j a → Properties t n c i l p
       → (l < j) ⊎ ((l ≡ j) × (p ≡ tag_with_anchor i v a x))

@@ -1,4 +1,4 @@
--- A separation that ends before a character with which none goes on is the longest, and none begins behind a character of
+-- A separation that ends before a character with which none goes on is the longest, and none begins after a character of
 -- a tag and before another.
 use Rattle.std.proofs.Common.{◌≡◌, ◌≢◌, ℕ, ℤ, ◌+◌, ◌<◌, ◌≤◌, true, false, ⊎_elim, List, [], refl, sym, ap, ◌∙◌, subst, arith, get_or}
 use Rattle.std.proofs.lemmas.Bool.{cases_Bool}
@@ -50,7 +50,7 @@ module _ {t : List ℕ} where
   pub solid_apparent : {k : ℕ} → Solid (code t k) → code t k ≢ 35 → Apparent t k
   solid_apparent {k} s n = record { white = no_white (code t k) s.low; hash = n; ends = record { none = λ j e. no_end s e } }
 
--- rows of comments, and whites behind them
+-- rows of comments, and white space after them
 record Tailed (t : List ℕ) (h k : ℕ) (x : List CommentValue) : Type 0 where
   place : ℕ
   rows : Chain (Row t) h place x
@@ -78,7 +78,7 @@ module _ {t : List ℕ} where
   pub separate_forward : {n : ℤ} {c : Ctx} {h k : ℕ} {x : List CommentValue} → Separate t n c h k x → h ≤ k
   separate_forward s = tail_forward (tail s)
 
-  -- no line's rest goes past such a character behind whites
+  -- no line's rest goes past such a character after white space
   blocked : {p r k : ℕ} {w : List ℕ} {z : List CommentValue} → Many t is_white p k w → Apparent t k → LineRest t p r z → ⊥
   blocked {r = r} m a (nothing e) =
       let same = (many_unique t is_white done (end_white e) m a.white).0 in
@@ -120,7 +120,7 @@ module _ {t : List ℕ} where
       let e = tail r in
       within d.whites_to a e.whites_to (chain_meet row_functional d.rows e.rows)
 
--- no line begins behind a visible character, nor a separation before another
+-- no line begins after a visible character, nor a separation before another
 module _ (t : List ℕ) (u : IsUtf8 t) (i h : ℕ) (q : h ≡ i + 1) (s : Solid (code t i)) where
   break_not_behind : {k e : ℕ} → Break t k e → e ≡ h → ⊥
   break_not_behind (cr_lf {i = k} a b) r =

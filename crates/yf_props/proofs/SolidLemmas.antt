@@ -84,20 +84,20 @@ high_uri c l =
       ne_eqb c 93 (λ e. omega arith),
     )
 
-uri_solid : (c : ℕ) → is_uri_char c ≡ true → Solid c
+pub uri_solid : (c : ℕ) → is_uri_char c ≡ true → Solid c
 uri_solid c e = record {
   low = ⊎_elim (λ (l : c < 33). absurd (true≢false (sym e ∙ low_uri c l))) (λ (l : 33 ≤ c). l) (cases_lt c 33);
   high = ⊎_elim (λ (l : c < 127). l) (λ (l : 127 ≤ c). absurd (true≢false (sym e ∙ high_uri c l))) (cases_lt c 127);
 }
 
-word_solid : (c : ℕ) → is_word_char c ≡ true → Solid c
+pub word_solid : (c : ℕ) → is_word_char c ≡ true → Solid c
 word_solid c e = uri_solid c (word_uri c e)
 
 tag_uri : (c : ℕ) → is_tag_char c ≡ true → is_uri_char c ≡ true
 unfolding is_tag_char
 tag_uri c e = (and_parts (is_uri_char c) (not (eqb c 33) && not (is_flow_indicator c)) e).0
 
-tag_solid : (c : ℕ) → is_tag_char c ≡ true → Solid c
+pub tag_solid : (c : ℕ) → is_tag_char c ≡ true → Solid c
 tag_solid c e = uri_solid c (tag_uri c e)
 
 low_hex : (c : ℕ) → c < 33 → is_hex_digit c ≡ false
@@ -116,7 +116,7 @@ high_hex c l =
       and-false (leb 97 c),
     )
 
-hex_solid : (c : ℕ) → is_hex_digit c ≡ true → Solid c
+pub hex_solid : (c : ℕ) → is_hex_digit c ≡ true → Solid c
 hex_solid c e = record {
   low = ⊎_elim (λ (l : c < 33). absurd (true≢false (sym e ∙ low_hex c l))) (λ (l : 33 ≤ c). l) (cases_lt c 33);
   high = ⊎_elim (λ (l : c < 127). l) (λ (l : 127 ≤ c). absurd (true≢false (sym e ∙ high_hex c l))) (cases_lt c 127);

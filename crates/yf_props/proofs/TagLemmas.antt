@@ -23,11 +23,11 @@ use Rattle.yf_props.specs.Names.TagProperty.{verbatim_tag, shorthand_tag, non_sp
 use Rattle.yf_props.proofs.NameLemmas.{chosen_alone, chosen_over, chosen_cases, run_unique, run_stuck}
 
 -- which characters are in which class
-percent_uri : is_uri_char 37 ≡ false
+pub percent_uri : is_uri_char 37 ≡ false
 unfolding is_uri_char is_word_char is_digit is_between
 percent_uri = refl
 
-percent_tag : is_tag_char 37 ≡ false
+pub percent_tag : is_tag_char 37 ≡ false
 unfolding is_tag_char is_uri_char is_word_char is_digit is_between
 percent_tag = refl
 
@@ -39,7 +39,7 @@ mark_tag : is_tag_char 33 ≡ false
 unfolding is_tag_char is_uri_char is_word_char is_digit is_between
 mark_tag = refl
 
-mark_word : is_word_char 33 ≡ false
+pub mark_word : is_word_char 33 ≡ false
 unfolding is_word_char is_digit is_between
 mark_word = refl
 
@@ -51,7 +51,7 @@ bracket_tag : is_tag_char 60 ≡ false
 unfolding is_tag_char is_uri_char is_word_char is_digit is_between
 bracket_tag = refl
 
-close_uri : is_uri_char 62 ≡ false
+pub close_uri : is_uri_char 62 ≡ false
 unfolding is_uri_char is_word_char is_digit is_between
 close_uri = refl
 
@@ -197,7 +197,7 @@ module _ {t : List ℕ} where
   first_word done = inl refl
   first_word (step (one e) c) = inr e
 
--- tags at an offset at which the name behind the ! ends at w
+-- tags at an offset at which the name after the ! ends at w
 module _ (t : List ℕ) (i w : ℕ) (x : List ℕ) (m : Many t is_word_char (i + 1) w x) (e : is_word_char (code t w) ≡ false) where
   handle_cases : {h : ℕ} → Handle t i h → (h ≡ i + 1) ⊎ ((h ≡ w + 1) × (code t w ≡ 33))
   handle_cases (primary_handle a) = inl refl

@@ -3,3 +3,4 @@ pub mod Handles
 pub mod Names
 pub mod Properties
 pub mod Props
+pub mod Written

@@ -9,7 +9,7 @@ ghost use Rattle.yf_props.specs.Names.{AnchorChar, Run, Alias, Anchor};
 use yf_chars::classes::is_anchor_char;
 use yf_chars::text::{peek, stands};
 
-// The offset behind all characters of a name that stand at the offset.
+// The offset after all characters of a name that stand at the offset.
 fn skip_anchor_chars(s: &str, at: usize) -> usize
     requires { IsCharBoundary s.now at }
     ensures chars { (x : List ℕ) × Many s.now is_anchor_char at result x }
@@ -32,7 +32,7 @@ fn skip_anchor_chars(s: &str, at: usize) -> usize
     }
 }
 
-// Reads the name of an anchor or an alias (ns-anchor-name, production 103) and gives it with the offset behind it.
+// Reads the name of an anchor or an alias (ns-anchor-name, production 103) and gives it with the offset after it.
 fn anchor_name<'a>(s: &'a str, at: usize) -> Option<(&'a str, usize)>
     requires { IsCharBoundary s.now at }
     ensures reads { MatchOption result (is_anchor_char (code s.now at) ≡ false) (λ p. Run (AnchorChar s.now) at p.1) }
@@ -46,7 +46,7 @@ fn anchor_name<'a>(s: &'a str, at: usize) -> Option<(&'a str, usize)>
     None
 }
 
-/// Reads an alias (c-ns-alias-node, production 104): its name, without the `*`, and the byte offset behind it.
+/// Reads an alias (c-ns-alias-node, production 104): its name, without the `*`, and the byte offset after it.
 ///
 /// The name is as long as its characters go; `None` where no alias begins at the offset.
 pub fn alias_node<'a>(s: &'a str, at: usize) -> Option<(&'a str, usize)>
@@ -62,7 +62,7 @@ pub fn alias_node<'a>(s: &'a str, at: usize) -> Option<(&'a str, usize)>
     None
 }
 
-// Reads an anchor (c-ns-anchor-property, production 101): its name, without the `&`, and the offset behind it.
+// Reads an anchor (c-ns-anchor-property, production 101): its name, without the `&`, and the offset after it.
 pub(crate) fn anchor_property<'a>(s: &'a str, at: usize) -> Option<(&'a str, usize)>
     ensures reads { MatchOption result (Stuck (Anchor s.now at)) (λ p. Chosen (Anchor s.now at) p.1 p.0.now) }
     ensures boundary { IfSome result (λ p. IsCharBoundary s.now p.1) }

@@ -39,7 +39,7 @@ fn default_of(handle: &str) -> Option<&'static str>
     }
 }
 
-// One text behind the other.
+// One text after the other.
 fn joined(alloc: Global, front: &str, back: &str) -> Result<OwnedText, AllocError>
     ensures { IfOk result (λ text. text ≡ front.now ++ back.now) }
 {
@@ -49,7 +49,7 @@ fn joined(alloc: Global, front: &str, back: &str) -> Result<OwnedText, AllocErro
     Ok(OwnedText::new(text))
 }
 
-// A prefix, and behind it what the suffix stands for.
+// A prefix, and after it what the suffix stands for.
 fn with_suffix(alloc: Global, prefix: &str, suffix: &str) -> Result<OwnedText, AllocError>
     ensures { IfOk result (λ text. (x : List ℕ) × SuffixText suffix.now x × (text ≡ prefix.now ++ x)) }
 {

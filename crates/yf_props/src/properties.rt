@@ -22,7 +22,7 @@ pub struct Properties<'a> {
     pub tag_offset: Option<usize>,
     /// The comments between the tag and the anchor.
     pub comments: Comments<'a>,
-    /// The byte offset behind the properties.
+    /// The byte offset after the properties.
     pub end: usize,
 }
 

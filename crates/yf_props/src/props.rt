@@ -3,7 +3,7 @@
 /// The properties of a node (c-ns-properties, production 96), each of which may be missing.
 #[derive(Clone, Copy, Debug)]
 pub struct Props<'a> {
-    /// The name behind the `&`.
+    /// The name after the `&`.
     pub anchor: Option<&'a str>,
     pub tag: Option<Tag<'a>>,
 }
@@ -13,7 +13,7 @@ pub struct Props<'a> {
 pub enum Tag<'a> {
     /// `!<..>`: the text between `<` and `>`.
     Verbatim(&'a str),
-    /// A shorthand: its handle with the exclamation marks, and the suffix behind it, its escapes not yet read.
+    /// A shorthand: its handle with the exclamation marks, and the suffix after it, its escapes not yet read.
     Short { handle: &'a str, suffix: &'a str },
     /// A lone `!`.
     NonSpecific,

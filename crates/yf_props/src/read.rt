@@ -13,7 +13,7 @@ use yf_lines::fault::Fault;
 use yf_lines::source_text::Src;
 
 /// Reads an alias (c-ns-alias-node, production 104) from a byte offset on: its name, without the `*`, and the byte offset
-/// behind it.
+/// after it.
 ///
 /// The name is as long as its characters go; `None` where no alias begins there.
 pub fn read_alias<'a>(src: &Src<'a>, at: usize) -> Option<(&'a str, usize)>

@@ -20,7 +20,7 @@ enum Chars {
     Suffix,
 }
 
-// A tag that was read, and the offset behind it.
+// A tag that was read, and the offset after it.
 #[derive(Clone, Copy)]
 pub(crate) struct TagPart<'a> {
     pub(crate) tag: Tag<'a>,
@@ -49,7 +49,7 @@ fn hex_stands(s: &str, at: usize) -> bool
     }
 }
 
-// Reads a character of the class, or `%` with two hexadecimal digits, and gives the offset behind it.
+// Reads a character of the class, or `%` with two hexadecimal digits, and gives the offset after it.
 fn read_char(s: &str, at: usize, class: Chars) -> Option<usize>
     requires { IsCharBoundary s.now at }
     ensures reads { MatchOption result (Stuck (Spelled s.now (class_of class) at)) (λ j. (x : List ℕ) × Spelled s.now (class_of class) at j x) }
@@ -76,7 +76,7 @@ fn read_char(s: &str, at: usize, class: Chars) -> Option<usize>
     }
 }
 
-// The offset behind all characters of the class, escapes among them, that stand at the offset.
+// The offset after all characters of the class, escapes among them, that stand at the offset.
 fn skip_chars(s: &str, at: usize, class: Chars) -> usize
     requires { IsCharBoundary s.now at }
     ensures chars { (x : List ℕ) × Chain (Spelled s.now (class_of class)) at result x }
@@ -93,7 +93,7 @@ fn skip_chars(s: &str, at: usize, class: Chars) -> usize
     }
 }
 
-// The offset behind all word characters that stand at the offset.
+// The offset after all word characters that stand at the offset.
 fn skip_word_chars(s: &str, at: usize) -> usize
     requires { IsCharBoundary s.now at }
     ensures chars { (x : List ℕ) × Many s.now is_word_char at result x }
@@ -117,7 +117,7 @@ fn skip_word_chars(s: &str, at: usize) -> usize
 }
 
 /// Reads the handle of a TAG directive (c-tag-handle, production 89), as long as its characters go, and gives the byte offset
-/// behind it.
+/// after it.
 pub fn tag_handle(s: &str, at: usize) -> Option<usize>
     ensures reads { IfSome result (λ j. Handle s.now at j) }
     ensures boundary { IfSome result (λ j. IsCharBoundary s.now j) }
@@ -134,7 +134,7 @@ pub fn tag_handle(s: &str, at: usize) -> Option<usize>
 }
 
 /// Reads the prefix of a TAG directive (ns-tag-prefix, production 93), as long as its characters go, and gives the byte
-/// offset behind it.
+/// offset after it.
 pub fn tag_prefix(s: &str, at: usize) -> Option<usize>
     requires { IsCharBoundary s.now at }
     ensures reads { MatchOption result (Stuck (TagPrefix s.now at)) (λ j. (x : List ℕ) × TagPrefix s.now at j x) }

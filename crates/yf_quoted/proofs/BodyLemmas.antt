@@ -67,7 +67,7 @@ module _ {A : Type 0} {t : List ℕ} {put : List ℕ → List A} {C B : ℕ → 
       let same = stuck_unique (step_functional l) c s b.steps (gap_stuck l no_char b.gap b.closing) in
       no_gap k b.last (subst (λ h. Gap t put B h k b.last) (sym same.0) b.gap) b.closing
 
--- how plain characters and whites are to mean
+-- how plain characters and white space are to mean
 pub record Means {A : Type 0} (t : List ℕ) (put : List ℕ → List A) (C : ℕ → ℕ → List A → Type 0) (quote : ℕ) : Type 0 where
   pub nothing : put [] ≡ []
   pub append : (x y : List ℕ) → put (x ++ y) ≡ put x ++ put y

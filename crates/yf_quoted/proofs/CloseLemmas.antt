@@ -63,7 +63,7 @@ pub record Closed (A : Type 0) : Type 0 where
 pub data Within {A : Type 0} (k : ℕ) (y : List A) : Option (Closed A) → Type 0 where
   known : {c : Closed A} → NoLonger c.close c.text k y → Within k y (Some c)
 
--- a body that goes on from e, behind the text x
+-- a body that goes on from e, after the text x
 pub record Later {A : Type 0} (t : List ℕ) (put : List ℕ → List A) (C B : ℕ → ℕ → List A → Type 0) (quote e : ℕ) (x : List A) (k : ℕ) (y : List A) : Type 0 where
   pub rest : List A
   pub body : Body t put C B quote e k rest
@@ -78,7 +78,7 @@ module _ {A : Type 0} {t : List ℕ} {put : List ℕ → List A} {C B : ℕ → 
   pub best_nothing : (i : ℕ) → Best t put C B quote i i [] None
   best_nothing i = record { derived = λ c e. cc; every = λ k y b. inl (record { rest = y; body = b; text = refl }) }
 
-  -- a body either closes with the gap of a step, or goes on behind the step
+  -- a body either closes with the gap of a step, or goes on after the step
   after_steps : {e h m k : ℕ} {z f last : List A} → Laws t put C B quote → (s : Step t put C B e h z) → Chain (Step t put C B) e m f → Gap t put B m k last
       → Clear t m k → code t k ≡ quote → ((k ≡ s.at) × (f ++ last ≡ s.front)) ⊎ Later t put C B quote h z k (f ++ last)
   after_steps {e} {h} {k = k} {last = last} l s done g a q = inl (l.ends e k s.at last s.front g (inr q) s.gap (inl (h, s.char, s.is)))

@@ -30,7 +30,7 @@ pub json_cr : is_nb_json 13 ≡ false
 unfolding is_nb_json is_between
 json_cr = refl
 
--- the escapes' and the quotes' own characters are no whites
+-- the escapes' and the quotes' own characters are no white space
 pub white_backslash : is_white 92 ≡ false
 unfolding is_white
 white_backslash = refl
@@ -171,7 +171,7 @@ gap_kind : {t : List ℕ} {w i j : ℕ} {x : List Piece} → Gap t goods (Double
 gap_kind (by_whites {x = x} m n) = whites_alone x m n refl
 gap_kind (by_break b n) = break_kind b n
 
--- on one line there are whites alone
+-- on one line there are white space alone
 line_kind : {t : List ℕ} {i j : ℕ} {x : List Piece} → Gap t goods (DoubleBreaks t None) i j x → Kind t (pos 0) i j x
 line_kind (by_whites {x = x} m n) = whites_alone x m n refl
 line_kind (by_break b n) = absurd b

@@ -15,7 +15,7 @@ use Rattle.yf_chars.proofs.TextLemmas.{reads_byte}
 use Rattle.yf_lines.proofs.BasicLemmas.{clear_join}
 use Rattle.yf_lines.proofs.ClearLemmas.{clear_whites, clear_char, clear_break, not_forbidden, spelled_whites, spelled_slice}
 use Rattle.yf_lines.proofs.FoldLemmas.{clear_fold, clear_lines, folds_functional, fold_not_item, lines_unique, break_no_white}
-use Rattle.yf_quoted.specs.Quoted.{DoubleBreak, Piece, goods, text_of, first_bad}
+use Rattle.yf_quoted.specs.Quoted.{DoubleBreak, Piece, goods, text_of, bad_escapes}
 use Rattle.yf_quoted.specs.Quoted.DoubleBreak.{folded_break, escaped_break}
 use Rattle.yf_quoted.specs.Body.{Gap, DoubleBreaks, PlainGap, NoPlainGap, DoubleGap, NoDoubleGap, gap_bytes}
 use Rattle.yf_quoted.specs.Body.Gap.{by_whites, by_break}
@@ -23,7 +23,7 @@ use Rattle.yf_quoted.specs.Body.PlainGap.{of_whites, of_fold}
 use Rattle.yf_quoted.specs.Body.NoPlainGap.{at_break}
 use Rattle.yf_quoted.proofs.DoubleLemmas.{Good, good_place, to_fold, goods_append, white_backslash}
 
--- no escaped break stands behind the whites
+-- no escaped break stands after the white space
 pub record NoEscape (t : List ℕ) (o : Option ℕ) (i : ℕ) : Type 0 where
   pub none : (w h l : ℕ) (x : List ℕ) → o ≡ Some w → Many t is_white i h x → code t h ≡ 92 → Break t (h + 1) l → ⊥
 
@@ -46,7 +46,7 @@ pub text_of_goods : (x : List ℕ) → text_of (goods x) ≡ x
 text_of_goods [] = refl
 text_of_goods (c ∷ x) = ap (λ w. c ∷ w) (text_of_goods x)
 
-pub no_bad_goods : (x : List ℕ) → first_bad (goods x) ≡ None
+pub no_bad_goods : (x : List ℕ) → bad_escapes (goods x) ≡ []
 no_bad_goods [] = refl
 no_bad_goods (c ∷ x) = no_bad_goods x
 
@@ -78,7 +78,7 @@ is_some w e = rw e refl
 pub none_some : {o : Option ℕ} → o ≡ None → IsSome o → ⊥
 none_some e s = true≢false (sym (rw e at s))
 
--- behind whites
+-- after white space
 whites_no_break : {t : List ℕ} {o : Option ℕ} {i j k w : ℕ} {x : List ℕ} {y : List Piece} → Many t is_white i j x → is_white (code t j) ≡ false
     → Nowhere (Break t j) → NoEscape t o i → o ≡ Some w → DoubleBreak t (pos w) i k y → is_white (code t k) ≡ false → Good t k → ⊥
 whites_no_break m n b e s (folded_break f) v g = fold_not_item m b n (to_fold f v g)
@@ -89,7 +89,7 @@ whites_only : {t : List ℕ} {o : Option ℕ} {i j k : ℕ} {x : List ℕ} {y : 
 whites_only {t} m n b e (by_whites v f) g = let same = many_unique t is_white v f m n in (same.0, ap goods same.1)
 whites_only {o = o} m n b e (by_break d f) g = let r = break_of o d in absurd (whites_no_break m n (b (is_some r.0 r.1)) e r.1 r.2 f g)
 
--- behind a fold
+-- after a fold
 fold_no_escape : {t : List ℕ} {n : ℤ} {i h j : ℕ} {w x : List ℕ} → FoldsTo t n i j x → Many t is_white i h w → code t h ≡ 92 → ⊥
 fold_no_escape {t} {h = h} f m q = fold_not_item m (no_break_here t h (λ e. omega arith) (λ e. omega arith)) (backslash t h q) f
 
@@ -131,7 +131,7 @@ double_of_plain {t} {o} {i} u l e (of_fold {feeds = feeds} {j = j} w s f) = reco
   clear = clear_fold u f;
 }
 
--- no gap behind a break that no line goes on from
+-- no gap after a break that no line goes on from
 stuck_break : {t : List ℕ} {w i j l k : ℕ} {x : List ℕ} {y : List Piece} → Many t is_white i j x → Break t j l → Stuck (FoldsTo t (pos w) i)
     → DoubleBreak t (pos w) i k y → is_white (code t k) ≡ false → Good t k → ⊥
 stuck_break {k = k} m b s (folded_break {x = x} f) v g = s.none k x (to_fold f v g)
@@ -175,7 +175,7 @@ escaped_found {t} {i = i} {h = h} {feeds = feeds} {x = x} u n m q b d = record {
   only = λ k y g c. escaped_only m q b d g (good_place c);
   bytes = ap (λ s. s ++ line_feeds feeds) (spelled_slice n (spelled_whites u m)) ∙ ap (λ s. encode_utf8_all x ++ s) (sym (feeds_bytes feeds))
       ∙ sym (encodes-append x (line_feeds feeds)) ∙ ap encode_utf8_all (sym (text_of_goods (x ++ line_feeds feeds))) ∙ ap (λ s. encode_utf8_all (text_of s)) (goods_append x (line_feeds feeds));
-  no_bad = ap first_bad (sym (goods_append x (line_feeds feeds))) ∙ no_bad_goods (x ++ line_feeds feeds);
+  no_bad = ap bad_escapes (sym (goods_append x (line_feeds feeds))) ∙ no_bad_goods (x ++ line_feeds feeds);
   clear = clear_join (clear_whites u m) (clear_join (clear_char u (reads_byte t h 92 u q (omega arith)) (not_forbidden t h (λ e. omega arith) (λ e. omega arith)))
       (clear_join (clear_break b) (clear_lines u d)));
 }

@@ -9,3 +9,5 @@ pub mod ScalarLemmas
 pub mod SingleLemmas
 pub mod SingleReadLemmas
 pub mod WriteLemmas
+pub mod QuotedBack
+mod QuotedShown

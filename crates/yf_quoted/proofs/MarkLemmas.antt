@@ -8,7 +8,7 @@ use Rattle.std.specs.String.{string_bytes}
 use Rattle.std.specs.String.Boundary.{IsSplitPoint}
 use Rattle.yf_quoted.specs.declared.single.Mark.{Mark}
 
--- the text may be cut at the mark, and the scalar ends between characters, behind its start
+-- the text may be cut at the mark, and the scalar ends between characters, after its start
 pub record Marked (from : ℕ) (t bs : List ℕ) (m : Mark) : Type 0 where
   pub within : m.len ≤ length bs
   pub front : IsUtf8 (take m.len bs)

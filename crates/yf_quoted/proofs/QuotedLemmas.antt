@@ -8,7 +8,7 @@ use Rattle.yf_chars.specs.Chain.Chain.{done, step}
 use Rattle.yf_lines.specs.Basic.{Clear}
 use Rattle.yf_lines.proofs.BasicLemmas.{clear_join, clear_nothing}
 use Rattle.yf_lines.proofs.ClearLemmas.{clear_char, Spelled, spelled_nothing, spelled_join, spelled_char, spelled_slice}
-use Rattle.yf_quoted.specs.Quoted.{DoubleQuoted, DoubleChar, DoubleBreak, Piece, goods, text_of, first_bad}
+use Rattle.yf_quoted.specs.Quoted.{DoubleQuoted, DoubleChar, DoubleBreak, Piece, goods, text_of, bad_escapes}
 use Rattle.yf_quoted.specs.Quoted.DoubleChar.{unescaped}
 use Rattle.yf_quoted.specs.Quoted.DoubleBreak.{folded_break, escaped_break}
 use Rattle.yf_quoted.specs.Body.{Body, DoubleBreaks, WidthOf, SimpleChar, DoubleRead, NoDoubleBody}
@@ -73,25 +73,25 @@ goods_text : (x : List ℕ) → text_of (goods x) ≡ x
 goods_text [] = refl
 goods_text (c ∷ x) = ap (λ w. c ∷ w) (goods_text x)
 
-goods_no_bad : (x : List ℕ) → first_bad (goods x) ≡ None
+goods_no_bad : (x : List ℕ) → bad_escapes (goods x) ≡ []
 goods_no_bad [] = refl
 goods_no_bad (c ∷ x) = goods_no_bad x
 
-pub simple_read : {t slice : List ℕ} {n : ℤ} {c : Ctx} {o : Option ℕ} {i j : ℕ} {x : List ℕ} → IsUtf8 t → WidthOf n c o → code t i ≡ 34 → j ≤ length t
-    → Chain (SimpleChar t) (i + 1) j x → code t j ≡ 34 → slice ≡ take (j - (i + 1)) (drop (i + 1) t)
-    → (y : List Piece) × (slice ≡ encode_utf8_all (text_of y)) × (None ≡ first_bad y) × Chosen (DoubleQuoted t n c i) (j + 1) y
-simple_read {t} {slice} {n} {c} {o} {i} {j} {x} u w q l d e s =
-    (goods x, s ∙ spelled_slice l (simple_spelled d) ∙ ap encode_utf8_all (sym (goods_text x)), sym (goods_no_bad x), double_chosen u w q (simple_body o u d e))
+pub simple_read : {t slice none : List ℕ} {n : ℤ} {c : Ctx} {o : Option ℕ} {i j : ℕ} {x : List ℕ} → IsUtf8 t → WidthOf n c o → code t i ≡ 34 → j ≤ length t
+    → Chain (SimpleChar t) (i + 1) j x → code t j ≡ 34 → slice ≡ take (j - (i + 1)) (drop (i + 1) t) → none ≡ []
+    → (y : List Piece) × (slice ≡ encode_utf8_all (text_of y)) × (none ≡ bad_escapes y) × Chosen (DoubleQuoted t n c i) (j + 1) y
+simple_read {t} {slice} {none} {n} {c} {o} {i} {j} {x} u w q l d e s b =
+    (goods x, s ∙ spelled_slice l (simple_spelled d) ∙ ap encode_utf8_all (sym (goods_text x)), b ∙ sym (goods_no_bad x), double_chosen u w q (simple_body o u d e))
 
-pub body_read : {t bytes : List ℕ} {n : ℤ} {c : Ctx} {o wrong : Option ℕ} {i j : ℕ} → IsUtf8 t → WidthOf n c o → code t i ≡ 34 → DoubleRead t o (i + 1) bytes wrong j
-    → (y : List Piece) × (bytes ≡ encode_utf8_all (text_of y)) × (wrong ≡ first_bad y) × Chosen (DoubleQuoted t n c i) j y
+pub body_read : {t bytes : List ℕ} {n : ℤ} {c : Ctx} {wrong : List ℕ} {o : Option ℕ} {i j : ℕ} → IsUtf8 t → WidthOf n c o → code t i ≡ 34 → DoubleRead t o (i + 1) bytes wrong j
+    → (y : List Piece) × (bytes ≡ encode_utf8_all (text_of y)) × (wrong ≡ bad_escapes y) × Chosen (DoubleQuoted t n c i) j y
 body_read {t} {n = n} {c = c} {i = i} u w q r =
-    (r.text, r.is, r.first, subst (λ k. Chosen (DoubleQuoted t n c i) k r.text) r.end (double_chosen u w q r.body))
+    (r.text, r.is, r.escapes, subst (λ k. Chosen (DoubleQuoted t n c i) k r.text) r.end (double_chosen u w q r.body))
 
 -- a bad escape in the longest part
-pub fault_from : {t s : List ℕ} {n m : ℤ} {c : Ctx} {i b j : ℕ} {place : Place} {bytes : List ℕ} {wrong : Option ℕ}
-    → (x : List Piece) × (bytes ≡ encode_utf8_all (text_of x)) × (wrong ≡ first_bad x) × Chosen (DoubleQuoted s m c i) j x
-    → s ≡ t → m ≡ n → wrong ≡ Some b → PlaceOf t b place.line place.column → DoubleFault t n c i (EscapeValue place)
+pub fault_from : {t s : List ℕ} {n m : ℤ} {c : Ctx} {i b j : ℕ} {place : Place} {bytes wrong more : List ℕ}
+    → (x : List Piece) × (bytes ≡ encode_utf8_all (text_of x)) × (wrong ≡ bad_escapes x) × Chosen (DoubleQuoted s m c i) j x
+    → s ≡ t → m ≡ n → wrong ≡ b ∷ more → PlaceOf t b place.line place.column → DoubleFault t n c i (EscapeValue place)
 fault_from {t} {s} {n} {m} {c} {i} {j = j} r e f w p =
     let one : Chosen (DoubleQuoted t m c i) j r.0 = subst (λ v. Chosen (DoubleQuoted v m c i) j r.0) e r.3 in
     let two : Chosen (DoubleQuoted t n c i) j r.0 = subst (λ v. Chosen (DoubleQuoted t v c i) j r.0) f one in

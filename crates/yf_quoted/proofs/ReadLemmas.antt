@@ -1,8 +1,10 @@
 -- Laws for the reader of double-quoted scalars.
 use Rattle.std.proofs.Common.{◌≡◌, ◌≢◌, ℕ, ◌+◌, Bool, false, List, [], ◌∷◌, ◌++◌, Option, Some, None, refl, sym, ap, ◌∙◌, subst, inl, inr, arith, append_assoc, append-nil, encode_utf8_all, encode_utf8, SomeIff, IfSome}
 use Rattle.std.proofs.lemmas.Bool.{true≢false}
+use Rattle.std.proofs.lemmas.List.Elements.{All-append, All-cons, All-nil}
 use Rattle.std.proofs.lemmas.Str.{encodes-append}
 use Rattle.std.specs.Char.{IsScalar}
+use Rattle.std.specs.List.{All}
 use Rattle.std.specs.Str.{IsUtf8, IsCharBoundary}
 use Rattle.yf_chars.specs.Text.{code, no_char}
 use Rattle.yf_chars.specs.Class.{is_nb_json, is_between}
@@ -15,10 +17,10 @@ use Rattle.yf_chars.proofs.ChainLemmas.{chain_more}
 use Rattle.yf_lines.specs.Basic.{Clear}
 use Rattle.yf_lines.proofs.BasicLemmas.{clear_join, clear_back}
 use Rattle.yf_lines.proofs.ClearLemmas.{clear_char, not_forbidden}
-use Rattle.yf_quoted.specs.Quoted.{DoubleChar, Piece, goods, text_of, first_bad}
+use Rattle.yf_quoted.specs.Quoted.{DoubleChar, Piece, goods, text_of, bad_escapes}
 use Rattle.yf_quoted.specs.Quoted.Piece.{good, bad}
 use Rattle.yf_quoted.specs.Quoted.DoubleChar.{unescaped, escaped, wrong}
-use Rattle.yf_quoted.specs.Body.{Gap, Step, DoubleBreaks, DoubleGap, NoDoubleGap, Simple, NoSimple, NoDoubleChar, DoubleRead, NoDoubleBody, piece, shown, first_of, gap_bytes}
+use Rattle.yf_quoted.specs.Body.{Gap, Step, DoubleBreaks, DoubleGap, NoDoubleGap, Simple, NoSimple, NoDoubleChar, DoubleRead, NoDoubleBody, piece, shown, gap_bytes}
 use Rattle.yf_quoted.proofs.BodyLemmas.{no_body}
 use Rattle.yf_quoted.proofs.DoubleLemmas.{Written, written, double_laws, no_quote_char}
 use Rattle.yf_quoted.proofs.DoubleLemmas.Written.{itself, by_escape}
@@ -68,49 +70,35 @@ pub piece_bytes : (o : Option ℕ) (p : ℕ) → encode_utf8_all (text_of (piece
 piece_bytes (Some c) p = append-nil (encode_utf8 c)
 piece_bytes None p = append-nil (encode_utf8 0xFFFD)
 
--- the first bad escape of two parts
-or_else : Option ℕ → Option ℕ → Option ℕ
-or_else (Some a) b = Some a
-or_else None b = b
+-- the bad escapes of two parts
+bad_append : (x y : List Piece) → bad_escapes (x ++ y) ≡ bad_escapes x ++ bad_escapes y
+bad_append [] y = refl
+bad_append (good c ∷ x) y = bad_append x y
+bad_append (bad p ∷ x) y = ap (λ w. p ∷ w) (bad_append x y)
 
-first_append : (x y : List Piece) → first_bad (x ++ y) ≡ or_else (first_bad x) (first_bad y)
-unfolding or_else
-first_append [] y = refl
-first_append (good c ∷ x) y = first_append x y
-first_append (bad p ∷ x) y = refl
+-- of a part after one without any
+bad_more : (x y z : List Piece) → bad_escapes y ≡ [] → bad_escapes (x ++ (y ++ z)) ≡ bad_escapes x ++ bad_escapes z
+bad_more x y z n =
+    bad_append x (y ++ z) ∙ ap (λ w. bad_escapes x ++ w) (bad_append y z ∙ ap (λ w. w ++ bad_escapes z) n)
 
-pub first_more : (x y : List Piece) (o : Option ℕ) (p : ℕ) → first_bad y ≡ None → first_bad (x ++ (y ++ piece o p ∷ [])) ≡ first_of (first_bad x) o p
-unfolding or_else
-first_more x y o p n =
-    first_append x (y ++ piece o p ∷ []) ∙ ap (or_else (first_bad x)) (first_append y (piece o p ∷ []) ∙ ap (λ w. or_else w (first_bad (piece o p ∷ []))) n)
-    ∙ go (first_bad x) o where
-      go : (a o : Option ℕ) → or_else a (first_bad (piece o p ∷ [])) ≡ first_of a o p
-      go (Some a) o = refl
-      go None (Some v) = refl
-      go None None = refl
-
-pub first_none : (x y : List Piece) → first_bad y ≡ None → first_bad (x ++ y) ≡ first_bad x
-unfolding or_else
-first_none x y n = first_append x y ∙ ap (or_else (first_bad x)) n ∙ go (first_bad x) where
-  go : (a : Option ℕ) → or_else a None ≡ a
-  go (Some a) = refl
-  go None = refl
+bad_none : (x y : List Piece) → bad_escapes y ≡ [] → bad_escapes (x ++ y) ≡ bad_escapes x
+bad_none x y n = bad_append x y ∙ ap (λ w. bad_escapes x ++ w) n ∙ append-nil (bad_escapes x)
 
 -- the text so far
-pub record SoFar (t : List ℕ) (o : Option ℕ) (i j : ℕ) (bytes : List ℕ) (wrong : Option ℕ) : Type 0 where
+pub record SoFar (t : List ℕ) (o : Option ℕ) (i j : ℕ) (bytes wrong : List ℕ) : Type 0 where
   pub text : List Piece
   pub steps : Chain (Step t goods (DoubleChar t) (DoubleBreaks t o)) i j text
   pub is : bytes ≡ encode_utf8_all (text_of text)
-  pub first : wrong ≡ first_bad text
+  pub escapes : wrong ≡ bad_escapes text
 
-pub nothing_yet : {t : List ℕ} {o : Option ℕ} {bytes : List ℕ} (i : ℕ) → bytes ≡ [] → SoFar t o i i bytes None
-nothing_yet i e = record { text = []; steps = done; is = e; first = refl }
+pub nothing_yet : {t : List ℕ} {o : Option ℕ} {bytes wrong : List ℕ} (i : ℕ) → bytes ≡ [] → wrong ≡ [] → SoFar t o i i bytes wrong
+nothing_yet i e n = record { text = []; steps = done; is = e; escapes = n }
 
-pub one_more : {t : List ℕ} {o : Option ℕ} {i j blank_end feeds k l : ℕ} {space : Bool} {bytes with_gap with_char : List ℕ} {wrong : Option ℕ} (v : Option ℕ)
+pub one_more : {t : List ℕ} {o : Option ℕ} {i j blank_end feeds k l : ℕ} {space : Bool} {bytes with_gap with_char wrong noted : List ℕ} (v : Option ℕ)
     → SoFar t o i j bytes wrong → DoubleGap t o j blank_end space feeds k → DoubleChar t k l (piece v k ∷ []) × Clear t k l
     → with_gap ≡ bytes ++ gap_bytes t j blank_end space feeds → with_char ≡ with_gap ++ encode_utf8 (shown v)
-    → SoFar t o i l with_char (first_of wrong v k)
-one_more {t} {j = j} {blank_end = blank_end} {feeds = feeds} {k = k} {space = space} v s g c p q =
+    → noted ≡ wrong ++ bad_escapes (piece v k ∷ []) → SoFar t o i l with_char noted
+one_more {t} {j = j} {blank_end = blank_end} {feeds = feeds} {k = k} {space = space} v s g c p q n =
     let shape = encode_utf8_all (text_of s.text) in
     record {
       text = s.text ++ (g.text ++ piece v k ∷ []);
@@ -119,10 +107,10 @@ one_more {t} {j = j} {blank_end = blank_end} {feeds = feeds} {k = k} {space = sp
           ∙ append_assoc shape (encode_utf8_all (text_of g.text)) (encode_utf8 (shown v))
           ∙ ap (λ w. shape ++ (encode_utf8_all (text_of g.text) ++ w)) (sym (piece_bytes v k))
           ∙ ap (λ w. shape ++ w) (sym (pieces_bytes g.text (piece v k ∷ []))) ∙ sym (pieces_bytes s.text (g.text ++ piece v k ∷ []));
-      first = ap (λ w. first_of w v k) s.first ∙ sym (first_more s.text g.text v k g.no_bad);
+      escapes = n ∙ ap (λ w. w ++ bad_escapes (piece v k ∷ [])) s.escapes ∙ sym (bad_more s.text g.text (piece v k ∷ []) g.no_bad);
     }
 
-pub closed : {t : List ℕ} {o : Option ℕ} {i j blank_end feeds k : ℕ} {space : Bool} {bytes with_gap : List ℕ} {wrong : Option ℕ}
+pub closed : {t : List ℕ} {o : Option ℕ} {i j blank_end feeds k : ℕ} {space : Bool} {bytes with_gap wrong : List ℕ}
     → SoFar t o i j bytes wrong → DoubleGap t o j blank_end space feeds k → code t k ≡ 34
     → with_gap ≡ bytes ++ gap_bytes t j blank_end space feeds → DoubleRead t o i with_gap wrong (k + 1)
 closed {t} {j = j} {blank_end = blank_end} {feeds = feeds} {k = k} {space = space} s g q p = record {
@@ -131,17 +119,17 @@ closed {t} {j = j} {blank_end = blank_end} {feeds = feeds} {k = k} {space = spac
   body = record { at = _; front = s.text; last = g.text; steps = s.steps; gap = g.gap; clear = g.clear; closing = q; text = refl };
   end = refl;
   is = p ∙ ap (λ w. w ++ gap_bytes t j blank_end space feeds) s.is ∙ ap (λ w. encode_utf8_all (text_of s.text) ++ w) g.bytes ∙ sym (pieces_bytes s.text g.text);
-  first = s.first ∙ sym (first_none s.text g.text g.no_bad);
+  escapes = s.escapes ∙ sym (bad_none s.text g.text g.no_bad);
 }
 
 -- nothing goes on
-pub no_gap_body : {t : List ℕ} {o : Option ℕ} {i j : ℕ} {bytes : List ℕ} {wrong : Option ℕ} → SoFar t o i j bytes wrong → NoDoubleGap t o j → NoDoubleBody t o i
+pub no_gap_body : {t : List ℕ} {o : Option ℕ} {i j : ℕ} {bytes wrong : List ℕ} → SoFar t o i j bytes wrong → NoDoubleGap t o j → NoDoubleBody t o i
 no_gap_body {t} {o} s n = record {
   none = no_body (double_laws t o) no_quote_char s.steps (record { none = λ k y st. n.none st.at st.front st.gap (inl (k, st.char, st.is)) })
       (λ k y g q. n.none k y g (inr q));
 }
 
-pub no_char_body : {t : List ℕ} {o : Option ℕ} {i j blank_end feeds k : ℕ} {space : Bool} {bytes : List ℕ} {wrong : Option ℕ} → SoFar t o i j bytes wrong
+pub no_char_body : {t : List ℕ} {o : Option ℕ} {i j blank_end feeds k : ℕ} {space : Bool} {bytes wrong : List ℕ} → SoFar t o i j bytes wrong
     → DoubleGap t o j blank_end space feeds k → code t k ≢ 34 → NoDoubleChar t k → NoDoubleBody t o i
 no_char_body {t} {o} {j = j} {k = k} s g q n = record { none = no_body (double_laws t o) no_quote_char s.steps (record { none = stuck }) shut } where
   shut : (h : ℕ) (y : List Piece) → Gap t goods (DoubleBreaks t o) j h y → code t h ≡ 34 → ⊥
@@ -154,7 +142,9 @@ no_char_body {t} {o} {j = j} {k = k} s g q n = record { none = no_body (double_l
       n.none h st.char (subst (λ m. DoubleChar t m h st.char) same.0 st.is) (clear_back f st.clear)
 
 -- places of bad escapes
-pub first_place : (t : List ℕ) (o v : Option ℕ) (p : ℕ) → IfSome o (λ b. IsCharBoundary t b) → IsCharBoundary t p → IfSome (first_of o v p) (λ b. IsCharBoundary t b)
-first_place t (Some b) v p h q = h
-first_place t None (Some w) p h q = h
-first_place t None None p h q = q
+pub bad_places : (t : List ℕ) (v : Option ℕ) {p : ℕ} (old : List ℕ) {noted : List ℕ} → noted ≡ old ++ bad_escapes (piece v p ∷ [])
+    → All (IsCharBoundary t) old → IsCharBoundary t p → All (IsCharBoundary t) noted
+bad_places t (Some c) {p} old e a b = subst (λ w. All (IsCharBoundary t) w) (sym (e ∙ append-nil old)) a
+bad_places t None {p} old e a b =
+    let whole = All-append (IsCharBoundary t) old (p ∷ []) a (All-cons (IsCharBoundary t) p [] b (All-nil (IsCharBoundary t))) in
+    subst (λ w. All (IsCharBoundary t) w) (sym e) whole

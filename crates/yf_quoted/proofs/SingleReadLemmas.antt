@@ -231,7 +231,7 @@ single_read {t} {n = n} {c = c} {i = i} u w q r = (r.text, r.is, subst (λ k. Ch
 pub no_single : {t : List ℕ} {n : ℤ} {c : Ctx} {o : Option ℕ} {i : ℕ} → WidthOf n c o → NoSingleBody t o (i + 1) → Stuck (SingleQuoted t n c i)
 no_single {t} w b = record { none = λ j y d. b.none d.close y (quoted_body (single_kind t) w d) }
 
--- characters on one line, and a quote behind them; it is the last one where no quote follows
+-- characters on one line, and a quote after them; it is the last one where no quote follows
 line_body : {t : List ℕ} {i j : ℕ} {x : List ℕ} (o : Option ℕ) → Chain (SingleChar t) i j x → Clear t i j → code t j ≡ 39
     → Body t as_they_are (SingleChar t) (SingleBreaks t o) 39 i j x
 line_body {t} o d a e = body_map (λ i j x b. absurd b) (chars_body {B = λ i j x. ⊥} (single_functional t) (single_means t) (λ i j x b. b) d e a)

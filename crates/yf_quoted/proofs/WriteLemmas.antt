@@ -26,7 +26,7 @@ use Rattle.yf_lines.specs.Basic.{LineStart, Clear, is_block}
 use Rattle.yf_lines.proofs.BasicLemmas.{clear_join, clear_nothing}
 use Rattle.yf_lines.proofs.ClearLemmas.{clear_char, line_start_behind}
 use Rattle.yf_lines.specs.declared.quotes.Quotes.TheVariants.{Single, Double}
-use Rattle.yf_quoted.specs.Quoted.{SingleChar, DoubleChar, Piece, goods, text_of, first_bad, SingleQuoted, DoubleQuoted}
+use Rattle.yf_quoted.specs.Quoted.{SingleChar, DoubleChar, Piece, goods, text_of, bad_escapes, SingleQuoted, DoubleQuoted}
 use Rattle.yf_quoted.specs.Quoted.Piece.{good}
 use Rattle.yf_quoted.specs.Quoted.SingleChar.{doubled, unquoted}
 use Rattle.yf_quoted.specs.Quoted.DoubleChar.{unescaped, escaped}
@@ -117,7 +117,7 @@ nb_chosen cs e =
     apart : Double ≡ Single → ⊥
     apart e = cc
 
--- no line begins behind a character that is no break and no mark
+-- no line begins after a character that is no break and no mark
 pub record NoLine (t : List ℕ) (i : ℕ) : Type 0 where
   pub none : LineStart t i → ⊥
 
@@ -190,7 +190,7 @@ last_of u (by_half n h o) = last_to (omega arith) (last_digit 3 u n)
 last_of u (by_pair n h m l) = last_to (omega arith) (last_digit 3 u m)
 last_of u (by_eight n) = last_to (omega arith) (last_digit 7 u n)
 
--- characters in a row: they cover no forbidden line, no line begins behind them, and the bytes that remain are r
+-- characters in a row: they cover no forbidden line, no line begins after them, and the bytes that remain are r
 record Walked {A : Type 0} (t : List ℕ) (C : ℕ → ℕ → List A → Type 0) (i j : ℕ) (x : List A) (r : List ℕ) : Type 0 where
   chars : Chain C i j x
   clear : Clear t i j
@@ -297,7 +297,7 @@ double_one {t} u c i r e s n = go refl ((reads_back c e).holds t i r u s.boundar
         inside = no_line_behind u read (nb_no 10 nb_lf c nb) (nb_no 13 nb_cr c nb) (nb_no 0xFEFF nb_mark c nb);
       }
 
--- the quotes round them
+-- the quotes around them
 ascii_stands : {t : List ℕ} {i : ℕ} (b : ℕ) (r : List ℕ) → b < 128 → drop i t ≡ b ∷ r → Stands t i (b ∷ r)
 ascii_stands {t} {i} b r l e =
     let long : length (drop i t) ≡ suc (length r) = ap length e in
@@ -353,7 +353,7 @@ single_back cs a = record { derived = derived; chosen = chosen } where
 pub double_back : (cs : List ℕ) → scalars cs ≡ true → DoubleBack (double_bytes cs) cs
 double_back cs a = record { chosen = chosen } where
   chosen : (t : List ℕ) (i : ℕ) (rest : List ℕ) (n : ℤ) (c : Ctx) → IsUtf8 t → drop i t ≡ double_bytes cs ++ rest → is_block c ≡ false
-      → (y : List Piece) × (text_of y ≡ cs) × (first_bad y ≡ None) × Chosen (DoubleQuoted t n c i) (i + length (double_bytes cs)) y
+      → (y : List Piece) × (text_of y ≡ cs) × (bad_escapes y ≡ []) × Chosen (DoubleQuoted t n c i) (i + length (double_bytes cs)) y
   chosen t i rest n c u e b =
       let middle = encode_utf8_all (flat_map spelled cs) in
       let w = some_width n c b in

@@ -1,5 +1,5 @@
--- The inside of quoted scalars, character by character, as their readers go on: a gap of whites or a break, and a
--- character or the closing quote behind it.
+-- The inside of quoted scalars, character by character, as their readers go on: a gap of white space or a break, and a
+-- character or the closing quote after it.
 use Rattle.std.specs.Prelude.{◌<ℤ◌, ◌≢◌, ◌⊎◌, ◌==◌, IsSome, encode_utf8_all, ◌≡◌, ℕ, ◌+◌, ◌≤◌, ℤ, pos, Bool, true, false, List, [], ◌∷◌, ◌++◌, Option, Some, None, if◌then◌else◌, slice_range}
 use Rattle.yf_chars.specs.declared.context.Ctx.{Ctx}
 use Rattle.yf_chars.specs.Text.{code, Reads}
@@ -8,13 +8,13 @@ use Rattle.yf_chars.specs.Chain.{Chain, Many, Stuck, Nowhere}
 use Rattle.yf_lines.specs.Basic.{Break, Forbidden, Clear, FlowFolded, is_flow, is_key}
 use Rattle.yf_lines.specs.Fold.{FoldsTo, fold_text, line_feeds}
 use Rattle.yf_quoted.specs.Quoted.Piece.{good, bad}
-use Rattle.yf_quoted.specs.Quoted.{Piece, SingleChar, as_they_are, DoubleChar, DoubleBreak, goods, text_of, first_bad}
+use Rattle.yf_quoted.specs.Quoted.{Piece, SingleChar, as_they_are, DoubleChar, DoubleBreak, goods, text_of, bad_escapes}
 
--- the bytes of what stands between two characters: whites from i to blank_end, a space, and line feeds
+-- the bytes of what stands between two characters: white space from i to blank_end, a space, and line feeds
 abbrev pub gap_bytes : List ℕ → ℕ → ℕ → Bool → ℕ → List ℕ
 gap_bytes t i blank_end space feeds = slice_range t i blank_end ++ ((if space then 32 ∷ [] else []) ++ line_feeds feeds)
 
--- whites, or a break, up to a character that is no white
+-- white space, or a break, up to a character that is no white space
 pub data Gap {A : Type 0} (t : List ℕ) (put : List ℕ → List A) (B : ℕ → ℕ → List A → Type 0) : ℕ → ℕ → List A → Type 0 where
   by_whites : {i j : ℕ} {x : List ℕ} → Many t is_white i j x → is_white (code t j) ≡ false → Gap t put B i j (put x)
   by_break : {i j : ℕ} {x : List A} → B i j x → is_white (code t j) ≡ false → Gap t put B i j x
@@ -49,12 +49,12 @@ abbrev pub SingleBreaks : List ℕ → Option ℕ → ℕ → ℕ → List ℕ �
 SingleBreaks t None i j x = ⊥
 SingleBreaks t (Some w) i j x = FlowFolded t (pos w) i j x
 
--- whites or a folded break, and what they mean; breaks are folded where lines are indented by a width
+-- white space or a folded break, and what they mean; breaks are folded where lines are indented by a width
 pub data PlainGap (t : List ℕ) (o : Option ℕ) (i : ℕ) : ℕ → Bool → ℕ → ℕ → Type 0 where
   of_whites : {j : ℕ} {x : List ℕ} → Many t is_white i j x → is_white (code t j) ≡ false → (IsSome o → Nowhere (Break t j)) → PlainGap t o i j false 0 j
   of_fold : {feeds j : ℕ} (w : ℕ) → o ≡ Some w → FoldsTo t (pos w) i j (fold_text feeds) → PlainGap t o i i (feeds == 0) feeds j
 
--- a break follows, and no line that goes on behind it
+-- a break follows, and no line that goes on after it
 pub data NoPlainGap (t : List ℕ) (o : Option ℕ) (i : ℕ) : Type 0 where
   at_break : {j k : ℕ} {x : List ℕ} (w : ℕ) → o ≡ Some w → Many t is_white i j x → Break t j k → Stuck (FoldsTo t (pos w) i) → NoPlainGap t o i
 
@@ -68,7 +68,7 @@ pub record DoubleGap (t : List ℕ) (o : Option ℕ) (i blank_end : ℕ) (space 
   pub gap : Gap t goods (DoubleBreaks t o) i j text
   pub only : (k : ℕ) (y : List Piece) → Gap t goods (DoubleBreaks t o) i k y → DoubleGoesOn t k → (k ≡ j) × (y ≡ text)
   pub bytes : gap_bytes t i blank_end space feeds ≡ encode_utf8_all (text_of text)
-  pub no_bad : first_bad text ≡ None
+  pub no_bad : bad_escapes text ≡ []
   pub clear : Clear t i j
 
 pub record NoDoubleGap (t : List ℕ) (o : Option ℕ) (i : ℕ) : Type 0 where
@@ -83,12 +83,6 @@ piece None p = bad p
 abbrev pub shown : Option ℕ → ℕ
 shown (Some v) = v
 shown None = 0xFFFD
-
--- the first bad escape, after one more character at p
-abbrev pub first_of : Option ℕ → Option ℕ → ℕ → Option ℕ
-first_of (Some b) v p = Some b
-first_of None (Some v) p = None
-first_of None None p = Some p
 
 -- a character that stands for itself in double quotes, where no forbidden line begins
 pub record Simple (t : List ℕ) (i j : ℕ) : Type 0 where
@@ -105,14 +99,14 @@ pub record NoSimple (t : List ℕ) (i : ℕ) : Type 0 where
 pub record NoDoubleChar (t : List ℕ) (i : ℕ) : Type 0 where
   pub none : (j : ℕ) (y : List Piece) → DoubleChar t i j y → Clear t i j → ⊥
 
--- the rest of a double-quoted scalar behind its opening quote, with the bytes of its text and its first bad escape
-pub record DoubleRead (t : List ℕ) (o : Option ℕ) (i : ℕ) (bytes : List ℕ) (wrong : Option ℕ) (j : ℕ) : Type 0 where
+-- the rest of a double-quoted scalar after its opening quote, with the bytes of its text and its bad escapes
+pub record DoubleRead (t : List ℕ) (o : Option ℕ) (i : ℕ) (bytes wrong : List ℕ) (j : ℕ) : Type 0 where
   pub text : List Piece
   pub close : ℕ
   pub body : Body t goods (DoubleChar t) (DoubleBreaks t o) 34 i close text
   pub end : close + 1 ≡ j
   pub is : bytes ≡ encode_utf8_all (text_of text)
-  pub first : wrong ≡ first_bad text
+  pub escapes : wrong ≡ bad_escapes text
 
 pub record NoDoubleBody (t : List ℕ) (o : Option ℕ) (i : ℕ) : Type 0 where
   pub none : (k : ℕ) (y : List Piece) → Body t goods (DoubleChar t) (DoubleBreaks t o) 34 i k y → ⊥
@@ -131,7 +125,7 @@ pub data SimpleChar (t : List ℕ) : ℕ → ℕ → List ℕ → Type 0 where
 pub record NoSingleChar (t : List ℕ) (i : ℕ) : Type 0 where
   pub none : (j : ℕ) (y : List ℕ) → SingleChar t i j y → Clear t i j → ⊥
 
--- the rest of a single-quoted scalar behind its opening quote, with the bytes of its text: of all that can be closed there,
+-- the rest of a single-quoted scalar after its opening quote, with the bytes of its text: of all that can be closed there,
 -- the longest
 pub record SingleRead (t : List ℕ) (o : Option ℕ) (i : ℕ) (bytes : List ℕ) (j : ℕ) : Type 0 where
   pub text : List ℕ

@@ -1,22 +1,15 @@
 -- What the readers of double-quoted scalars tell of escapes whose number is no character.
-use Rattle.std.specs.Prelude.{◌≡◌, ℕ, ℤ, List, Option, Some, None}
+use Rattle.std.specs.Prelude.{◌≡◌, ℕ, ℤ, List, ◌∷◌}
 use Rattle.yf_chars.specs.declared.context.Ctx.{Ctx}
 use Rattle.yf_chars.specs.Chain.{Chosen}
 use Rattle.yf_lines.specs.declared.fault.Fault.{Fault}
 use Rattle.yf_lines.specs.declared.fault.Fault.TheVariants.{EscapeValue, Memory}
 use Rattle.yf_lines.specs.declared.place.Place.{Place}
 use Rattle.yf_lines.specs.Lines.{PlaceOf}
-use Rattle.yf_quoted.specs.Quoted.{DoubleQuoted, Piece, first_bad}
-
--- the place of the first bad escape, where there is one
-abbrev pub BadPlace : List ℕ → Option ℕ → Option Place → Type 0
-BadPlace t None None = Unit {0}
-BadPlace t (Some b) (Some place) = PlaceOf t b place.line place.column
-BadPlace t None (Some place) = ⊥
-BadPlace t (Some b) None = ⊥
+use Rattle.yf_quoted.specs.Quoted.{DoubleQuoted, Piece, bad_escapes}
 
 -- why no text is given: the longest part holds a bad escape, the first of them at that place; or memory was refused
 pub data DoubleFault (t : List ℕ) (n : ℤ) (c : Ctx) (i : ℕ) : Fault → Type 0 where
-  for_escape : {j b : ℕ} {x : List Piece} {place : Place} → Chosen (DoubleQuoted t n c i) j x → first_bad x ≡ Some b → PlaceOf t b place.line place.column
+  for_escape : {j b : ℕ} {more : List ℕ} {x : List Piece} {place : Place} → Chosen (DoubleQuoted t n c i) j x → bad_escapes x ≡ b ∷ more → PlaceOf t b place.line place.column
       → DoubleFault t n c i (EscapeValue place)
   for_memory : DoubleFault t n c i Memory

@@ -1,6 +1,6 @@
 -- Single- and double-quoted scalars (YAML 1.2.2, sections 7.3.1 and 7.3.2) as relations between byte offsets of a text t:
 -- what stands from i to j is derived with the meaning x. n is an indentation, from -1; c is a context.
-use Rattle.std.specs.Prelude.{◌≡◌, ◌≢◌, ℕ, ◌+◌, ℤ, true, false, List, [], ◌∷◌, ◌++◌, Option, Some, None}
+use Rattle.std.specs.Prelude.{◌≡◌, ◌≢◌, ℕ, ◌+◌, ℤ, true, false, List, [], ◌∷◌, ◌++◌}
 use Rattle.std.specs.Char.{IsScalar}
 use Rattle.yf_chars.specs.declared.context.Ctx.{Ctx}
 use Rattle.yf_chars.specs.declared.context.Ctx.TheVariants.{FlowIn}
@@ -13,11 +13,11 @@ use Rattle.yf_lines.specs.Basic.{Break, Empty, FlowPrefix, FlowFolded, Clear, is
 -- The parts that both kinds of quotes share, over the characters C and the breaks B of the kind; put makes a meaning of
 -- plain characters.
 
--- whites, and a character behind them that is no white
+-- white space, and a character after them that is no white space
 pub data Item {A : Type 0} (t : List ℕ) (put : List ℕ → List A) (C : ℕ → ℕ → List A → Type 0) : ℕ → ℕ → List A → Type 0 where
   set_off : {i h j : ℕ} {x : List ℕ} {y : List A} → Many t is_white i h x → is_white (code t h) ≡ false → C h j y → Item t put C i j (put x ++ y)
 
--- what stands behind the last character of a line: whites before the closing quote, a break before it, or a break and
+-- what stands after the last character of a line: white space before the closing quote, a break before it, or a break and
 -- further lines
 pub data Rest {A : Type 0} (t : List ℕ) (put : List ℕ → List A) (C B : ℕ → ℕ → List A → Type 0) : ℕ → ℕ → List A → Type 0 where
   blank : {i j : ℕ} {x : List ℕ} → Many t is_white i j x → Rest t put C B i j (put x)
@@ -62,11 +62,11 @@ text_of [] = []
 text_of (good c ∷ xs) = c ∷ text_of xs
 text_of (bad p ∷ xs) = 0xFFFD ∷ text_of xs
 
--- the offset of the first bad escape
-abbrev pub first_bad : List Piece → Option ℕ
-first_bad [] = None
-first_bad (good c ∷ xs) = first_bad xs
-first_bad (bad p ∷ xs) = Some p
+-- the offsets of the escapes that are no character, in order of the text
+abbrev pub bad_escapes : List Piece → List ℕ
+bad_escapes [] = []
+bad_escapes (good c ∷ xs) = bad_escapes xs
+bad_escapes (bad p ∷ xs) = p ∷ bad_escapes xs
 
 abbrev pub goods : List ℕ → List Piece
 goods [] = []
@@ -78,7 +78,7 @@ pub data DoubleChar (t : List ℕ) : ℕ → ℕ → List Piece → Type 0 where
   escaped : {i j v : ℕ} → Escape t i j v → IsScalar v → DoubleChar t i j (good v ∷ [])
   wrong : {i j v : ℕ} → Escape t i j v → (IsScalar v → ⊥) → DoubleChar t i j (bad i ∷ [])
 
--- s-double-break(n): a folded break, or an escaped one (s-double-escaped(n)), before which the whites stay
+-- s-double-break(n): a folded break, or an escaped one (s-double-escaped(n)), before which the white space stay
 pub data DoubleBreak (t : List ℕ) (n : ℤ) : ℕ → ℕ → List Piece → Type 0 where
   folded_break : {i j : ℕ} {x : List ℕ} → FlowFolded t n i j x → DoubleBreak t n i j (goods x)
   escaped_break : {i h k l j : ℕ} {x y : List ℕ} → Many t is_white i h x → code t h ≡ 92 → Break t (h + 1) k → Chain (Empty t n FlowIn) k l y

@@ -9,7 +9,7 @@ use Rattle.yf_chars.specs.Escape.{spelled}
 use Rattle.yf_lines.specs.Basic.{is_block}
 use Rattle.yf_lines.specs.declared.quotes.Quotes.{Quotes}
 use Rattle.yf_lines.specs.declared.quotes.Quotes.TheVariants.{Single, Double}
-use Rattle.yf_quoted.specs.Quoted.{SingleQuoted, DoubleQuoted, Piece, text_of, first_bad}
+use Rattle.yf_quoted.specs.Quoted.{SingleQuoted, DoubleQuoted, Piece, text_of, bad_escapes}
 
 -- every character is an nb-char
 abbrev pub all_nb : List ℕ → Bool
@@ -48,4 +48,4 @@ pub record SingleBack (bytes x : List ℕ) : Type 0 where
 -- the same for a double-quoted scalar; it has no bad escape, and no longer scalar stands there
 pub record DoubleBack (bytes x : List ℕ) : Type 0 where
   pub chosen : (t : List ℕ) (i : ℕ) (rest : List ℕ) (n : ℤ) (c : Ctx) → IsUtf8 t → drop i t ≡ bytes ++ rest → is_block c ≡ false
-      → (y : List Piece) × (text_of y ≡ x) × (first_bad y ≡ None) × Chosen (DoubleQuoted t n c i) (i + length bytes) y
+      → (y : List Piece) × (text_of y ≡ x) × (bad_escapes y ≡ []) × Chosen (DoubleQuoted t n c i) (i + length bytes) y

@@ -1,15 +1,18 @@
 //! The reader of double-quoted scalars. Offsets count bytes.
 ghost use Rattle.std.specs.Prelude.{◌≡◌, ◌<◌, ◌≤◌, ◌++◌, ◌+◌, ◌∷◌, [], ℕ, Bool, true, false, List, IfSome, IfOk, IfErr, MatchOption, length, encode_utf8_all};
+ghost use Rattle.std.specs.List.{All};
 ghost use Rattle.std.specs.Str.{IsCharBoundary};
 ghost use Rattle.yf_lines.specs.Basic.{Clear};
+ghost use Rattle.yf_lines.specs.FaultPlaces.{IsFirstPlace};
 ghost use Rattle.yf_lines.specs.Text.{text_bytes};
-ghost use Rattle.yf_quoted.specs.Body.{Simple, NoSimple, NoDoubleChar, SimpleChar, DoubleRead, NoDoubleBody, piece, shown, first_of};
+ghost use Rattle.yf_quoted.specs.Body.{Simple, NoSimple, NoDoubleChar, SimpleChar, DoubleRead, NoDoubleBody, piece, shown};
 ghost use Rattle.yf_chars.specs.Chain.{Chain, Stuck, Chosen};
 ghost use Rattle.yf_quoted.specs.Quoted as Q;
-ghost use Rattle.yf_quoted.specs.Fault.{DoubleFault, BadPlace};
+ghost use Rattle.yf_quoted.specs.Fault.{DoubleFault};
 ghost use Rattle.yf_chars.specs.Text.{Reads};
 
 use crate::gap::{double_gap, is_block, lines_width, push_gap};
+use crate::offsets::Offsets;
 use std::alloc::{AllocError, Global};
 use yf_chars::classes::is_nb_json;
 use yf_chars::context::Ctx;
@@ -22,7 +25,7 @@ use yf_lines::source_text::Src;
 use yf_lines::text::{OwnedText, Text};
 
 /// Reads a double-quoted scalar (c-double-quoted(n,c), production 109) that begins at the byte offset: its text, and the
-/// offset behind it, or `None` where no such scalar stands there. `n` is the indentation, from -1.
+/// offset after it, or `None` where no such scalar stands there. `n` is the indentation, from -1.
 ///
 /// The text is a slice of the source where the scalar stands on one line without an escape.
 ///
@@ -37,13 +40,13 @@ pub fn read_double<'a>(
     ctx: Ctx,
 ) -> Result<Option<(Text<'a>, usize)>, Fault>
     requires { IsCharBoundary src.now.text at }
-    ensures reads { IfOk result (λ o. MatchOption o (Stuck (Q.DoubleQuoted src.now.text n ctx at)) (λ p. (x : List Q.Piece) × (text_bytes p.0 ≡ encode_utf8_all (Q.text_of x)) × (Q.first_bad x ≡ None) × Chosen (Q.DoubleQuoted src.now.text n ctx at) p.1 x)) }
+    ensures reads { IfOk result (λ o. MatchOption o (Stuck (Q.DoubleQuoted src.now.text n ctx at)) (λ p. (x : List Q.Piece) × (text_bytes p.0 ≡ encode_utf8_all (Q.text_of x)) × (Q.bad_escapes x ≡ []) × Chosen (Q.DoubleQuoted src.now.text n ctx at) p.1 x)) }
     ensures refused { IfErr result (λ e. DoubleFault src.now.text n ctx at e) }
     ensures boundary { IfOk result (λ o. IfSome o (λ p. IsCharBoundary src.now.text p.1)) }
 {
     match double_in(alloc, src.text(), at, n, ctx) {
         Ok(None) => Ok(None),
-        Ok(Some(read)) => match read.bad {
+        Ok(Some(read)) => match read.bad.first() {
             None => Ok(Some((read.text, read.end))),
             Some(bad) => Err(Fault::EscapeValue {
                 place: src.place(bad),
@@ -54,7 +57,7 @@ pub fn read_double<'a>(
 }
 
 /// Reads a double-quoted scalar as `read_double` does, but goes on past an escape whose number is no character, with
-/// U+FFFD in its place: the text, the place of the first such escape, and the offset behind the scalar.
+/// U+FFFD in its place: the text, the place of the first such escape, and the offset after the scalar.
 ///
 /// # Errors
 ///
@@ -67,14 +70,14 @@ pub fn scan_double<'a>(
     ctx: Ctx,
 ) -> Result<Option<(Text<'a>, Option<Place>, usize)>, Fault>
     requires { IsCharBoundary src.now.text at }
-    ensures reads { IfOk result (λ o. MatchOption o (Stuck (Q.DoubleQuoted src.now.text n ctx at)) (λ p. (x : List Q.Piece) × (text_bytes p.0 ≡ encode_utf8_all (Q.text_of x)) × BadPlace src.now.text (Q.first_bad x) p.1 × Chosen (Q.DoubleQuoted src.now.text n ctx at) p.2 x)) }
+    ensures reads { IfOk result (λ o. MatchOption o (Stuck (Q.DoubleQuoted src.now.text n ctx at)) (λ p. (x : List Q.Piece) × (text_bytes p.0 ≡ encode_utf8_all (Q.text_of x)) × IsFirstPlace src.now.text (Q.bad_escapes x) p.1 × Chosen (Q.DoubleQuoted src.now.text n ctx at) p.2 x)) }
     ensures boundary { IfOk result (λ o. IfSome o (λ p. IsCharBoundary src.now.text p.2)) }
     ensures refused { IfErr result (λ e. e ≡ Fault.Memory) }
 {
     match double_in(alloc, src.text(), at, n, ctx) {
         Ok(None) => Ok(None),
         Ok(Some(read)) => {
-            let place = match read.bad {
+            let place = match read.bad.first() {
                 None => None,
                 Some(bad) => Some(src.place(bad)),
             };
@@ -84,12 +87,11 @@ pub fn scan_double<'a>(
     }
 }
 
-/// A double-quoted scalar: its text with U+FFFD for each bad escape, the offset of the first of them, and the offset
-/// behind the scalar.
+/// A double-quoted scalar: its text with U+FFFD for each bad escape, the offsets of these, and the offset after the scalar.
 #[derive(Debug, Drop)]
 pub struct Double<'a> {
     pub text: Text<'a>,
-    pub bad: Option<usize>,
+    pub bad: Offsets,
     pub end: usize,
 }
 
@@ -102,10 +104,10 @@ pub fn double_in<'a>(
     ctx: Ctx,
 ) -> Result<Option<Double<'a>>, AllocError>
     requires { IsCharBoundary s.now at }
-    ensures reads { IfOk result (λ o. MatchOption o (Stuck (Q.DoubleQuoted s.now n ctx at)) (λ p. (x : List Q.Piece) × (text_bytes p.text ≡ encode_utf8_all (Q.text_of x)) × (p.bad ≡ Q.first_bad x) × Chosen (Q.DoubleQuoted s.now n ctx at) p.end x)) }
+    ensures reads { IfOk result (λ o. MatchOption o (Stuck (Q.DoubleQuoted s.now n ctx at)) (λ p. (x : List Q.Piece) × (text_bytes p.text ≡ encode_utf8_all (Q.text_of x)) × (p.bad ≡ Q.bad_escapes x) × Chosen (Q.DoubleQuoted s.now n ctx at) p.end x)) }
     ensures boundary { IfOk result (λ o. IfSome o (λ p. IsCharBoundary s.now p.end)) }
     ensures order { IfOk result (λ o. IfSome o (λ p. at < p.end)) }
-    ensures place { IfOk result (λ o. IfSome o (λ p. IfSome p.bad (λ b. IsCharBoundary s.now b))) }
+    ensures place { IfOk result (λ o. IfSome o (λ p. All (IsCharBoundary s.now) p.bad)) }
 {
     if is_block(ctx) {
         return Ok(None);
@@ -117,7 +119,7 @@ pub fn double_in<'a>(
     match simple_end(s, at + 1) {
         Some(close) => Ok(Some(Double {
             text: Text::Part(&s[at + 1..close]),
-            bad: None,
+            bad: Offsets::new(alloc),
             end: close + 1,
         })),
         None => match double_body(alloc, s, at + 1, width)? {
@@ -147,7 +149,7 @@ fn simple_end(s: &str, at: usize) -> Option<usize>
     }
 }
 
-// The offset behind a character that stands for itself.
+// The offset after a character that stands for itself.
 fn simple_char(s: &str, at: usize) -> Option<usize>
     requires { IsCharBoundary s.now at }
     ensures reads { MatchOption result (NoSimple s.now at) (λ j. Simple s.now at j) }
@@ -206,7 +208,7 @@ fn double_char(s: &str, at: usize) -> Option<DoubleChar>
     }
 }
 
-// The rest of a double-quoted scalar behind its opening quote.
+// The rest of a double-quoted scalar after its opening quote.
 fn double_body<'a>(
     alloc: Global,
     s: &'a str,
@@ -217,10 +219,10 @@ fn double_body<'a>(
     ensures reads { IfOk result (λ o. MatchOption o (NoDoubleBody s.now width at) (λ p. DoubleRead s.now width at (text_bytes p.text) p.bad p.end)) }
     ensures boundary { IfOk result (λ o. IfSome o (λ p. IsCharBoundary s.now p.end)) }
     ensures order { IfOk result (λ o. IfSome o (λ p. at < p.end)) }
-    ensures place { IfOk result (λ o. IfSome o (λ p. IfSome p.bad (λ b. IsCharBoundary s.now b))) }
+    ensures place { IfOk result (λ o. IfSome o (λ p. All (IsCharBoundary s.now) p.bad)) }
 {
     let mut text = String::new(alloc);
-    let mut bad = None;
+    let mut bad = Offsets::new(alloc);
     let mut end = at;
     'chars: loop {
         let gap = match double_gap(s, end, width) {
@@ -239,7 +241,7 @@ fn double_body<'a>(
             None => return Ok(None),
             Some(c) => {
                 text.push(shown(c.value))?;
-                bad = first_of(bad, c.value, gap.end);
+                note_bad(&mut bad, c.value, gap.end)?;
                 end = c.end;
             }
         }
@@ -256,15 +258,12 @@ fn shown(value: Option<char>) -> char
     }
 }
 
-// The first bad escape, after one more character at the place.
-fn first_of(bad: Option<usize>, value: Option<char>, place: usize) -> Option<usize>
-    ensures { result ≡ first_of bad value place }
+// Notes a bad escape at the place, where the value is none.
+fn note_bad(bad: &mut Offsets, value: Option<char>, place: usize) -> Result<(), AllocError>
+    ensures { IfOk result (λ _. bad.new ≡ bad.old ++ Q.bad_escapes (piece value place ∷ [])) }
 {
-    match bad {
-        Some(first) => Some(first),
-        None => match value {
-            Some(_) => None,
-            None => Some(place),
-        },
+    match value {
+        Some(_) => Ok(()),
+        None => bad.push(place),
     }
 }

@@ -1,4 +1,4 @@
-//! What stands between two characters of a quoted scalar: whites, or a line break. Offsets count bytes.
+//! What stands between two characters of a quoted scalar: white space, or a line break. Offsets count bytes.
 ghost use Rattle.std.specs.Prelude.{◌≡◌, ◌+◌, ◌<◌, ◌≤◌, ◌++◌, ◌∷◌, [], if◌then◌else◌, ℕ, pos, Bool, true, false, List, Option, IfSome, OnOk, MatchOption, length};
 ghost use Rattle.std.specs.Str.{IsCharBoundary};
 ghost use Rattle.std.specs.String.{string_bytes};
@@ -13,7 +13,7 @@ use yf_chars::text::stands;
 use yf_lines::basic::{line_break, skip_whites};
 use yf_lines::fold::{flow_folded, fold_lines, indent_width};
 
-/// Whites or a line break between two characters: the whites up to `blank_end` stay, then come a space or line feeds.
+/// White space or a line break between two characters: the white space up to `blank_end` stay, then come a space or line feeds.
 #[derive(Clone, Copy)]
 pub struct Gap {
     pub blank_end: usize,
@@ -86,7 +86,7 @@ pub fn double_gap(s: &str, at: usize, width: Option<usize>) -> Option<Gap>
     }
 }
 
-// The offset behind a backslash and the line break behind it.
+// The offset after a backslash and the line break after it.
 fn escaped_break(s: &str, at: usize) -> Option<usize>
     ensures reads { MatchOption result (code s.now at ≡ 92 → (l : ℕ) → Break s.now (at + 1) l → ⊥) (λ l. (code s.now at ≡ 92) × Break s.now (at + 1) l) }
     ensures boundary { IfSome result (λ l. IsCharBoundary s.now l) }
@@ -101,7 +101,7 @@ fn escaped_break(s: &str, at: usize) -> Option<usize>
     }
 }
 
-/// Appends what a gap behind the offset means.
+/// Appends what a gap after the offset means.
 pub fn push_gap(text: &mut String, s: &str, at: usize, gap: Gap) -> Result<(), AllocError>
     requires order { at ≤ gap.blank_end }
     requires start { IsCharBoundary s.now at }

@@ -3,6 +3,7 @@
 
 pub mod double;
 pub mod gap;
+pub mod offsets;
 pub mod single;
 #[cfg(test)]
 mod tests;

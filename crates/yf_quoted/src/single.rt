@@ -21,7 +21,7 @@ use yf_lines::source_text::Src;
 use yf_lines::text::{OwnedText, Text};
 
 /// Reads a single-quoted scalar (c-single-quoted(n,c), production 120) that begins at the byte offset: its text, folded,
-/// and the offset behind it, or `None` where no such scalar stands there. `n` is the indentation, from -1.
+/// and the offset after it, or `None` where no such scalar stands there. `n` is the indentation, from -1.
 ///
 /// Where a closing quote is missing, the first half of the last `''` closes the scalar. The text is a slice of the source
 /// where the scalar stands on one line without `''`.
@@ -48,7 +48,7 @@ pub fn read_single<'a>(
     }
 }
 
-/// A single-quoted scalar: its text, and the offset behind it.
+/// A single-quoted scalar: its text, and the offset after it.
 #[derive(Debug, Drop)]
 pub struct Single<'a> {
     pub text: Text<'a>,
@@ -87,7 +87,7 @@ pub fn single_in<'a>(
     }
 }
 
-// The place of the closing quote, where only characters that stand for themselves stand before it, and no quote behind.
+// The place of the closing quote, where only characters that stand for themselves stand before it, and no quote after.
 fn simple_end(s: &str, at: usize) -> Option<usize>
     requires { IsCharBoundary s.now at }
     ensures reads { IfSome result (λ j. (x : List ℕ) × Chain (Q.SingleChar s.now) at j x × Clear s.now at j × (slice_range s.now at j ≡ encode_utf8_all x)) }
@@ -111,7 +111,7 @@ fn simple_end(s: &str, at: usize) -> Option<usize>
     }
 }
 
-// A character, the offset behind it, and whether it is written as two quotes.
+// A character, the offset after it, and whether it is written as two quotes.
 #[derive(Clone, Copy)]
 struct SingleChar {
     value: char,
@@ -156,14 +156,14 @@ fn single_char(s: &str, at: usize) -> Option<SingleChar>
     }
 }
 
-// Where the first half of `''` may close the scalar: how many bytes of text stand before it, and the offset behind it.
+// Where the first half of `''` may close the scalar: how many bytes of text stand before it, and the offset after it.
 #[derive(Clone, Copy)]
 struct Mark {
     len: usize,
     end: usize,
 }
 
-// The rest of a single-quoted scalar behind its opening quote.
+// The rest of a single-quoted scalar after its opening quote.
 fn single_body<'a>(
     alloc: Global,
     s: &'a str,
@@ -203,7 +203,7 @@ fn single_body<'a>(
     }
 }
 
-// The mark behind a character.
+// The mark after a character.
 fn next_mark(mark: Option<Mark>, doubled: bool, len: usize, end: usize) -> Option<Mark>
     ensures { result ≡ (if doubled then Some (record { len = len; end = end }) else mark) }
 {

@@ -34,14 +34,14 @@ head_over b bs i l n =
 pub head_end : (b : ℕ) (bs : List ℕ) (i : ℕ) → length bs ≤ i → head_count b (drop i bs) ≡ 0
 head_end b bs i l = ap (head_count b) (drop_all i bs l)
 
--- the content of a block scalar is told by its text and the line behind its header
+-- the content of a block scalar is told by its text and the line after its header
 pub content_same : (ls : List Line) (text : List ℕ) (behind f n g m : ℕ) → BlockContent ls text behind f n → BlockContent ls text behind g m → (f ≡ g) × (n ≡ m)
 content_same ls text behind f n g m a b =
     let same : f ≡ g = a.empty ∙ sym b.empty in
     let line : a.line ≡ b.line = some_same (sym (subst (λ k. slice_get ls k ≡ Some a.line) same a.at) ∙ b.at) in
     (same, a.spaces ∙ ap (λ (l : Line). l.indent - head_count 32 (drop (head_count 10 text) text)) line ∙ sym b.spaces)
 
--- two numbers of lines begun at one offset are one, if there is a line behind the second
+-- two numbers of lines begun at one offset are one, if there is a line after the second
 same_behind : (ls : List Line) (offset j k m : ℕ) (l : Line) → Begun ls offset j → Begun ls offset k → slice_get ls m ≡ Some l → k ≤ m → j ≡ k
 same_behind ls offset j k m l a b e h =
     ⊎_elim (λ (x : j < k). absurd (begun_same ls offset j k l m a b e (omega (arith, x, h)) x))
@@ -127,7 +127,7 @@ past_end t ls first indent end k l a e h m b =
     (λ (x : k ≤ m). absurd (let o = starts_order t ls k m l b.line a e b.at x in let s = b.to in omega (arith, o, s, h)))
     (cases_lt m k)
 
--- where no line is left behind the empty ones, and where the text has line feeds alone
+-- where no line is left after the empty ones, and where the text has line feeds alone
 pub past_lines : (ls : List Line) (text bs : List ℕ) (behind feeds n : ℕ) → bs ≡ text → feeds ≡ head_count 10 bs → n ≡ length ls → n - behind ≤ feeds → behind ≤ length ls
     → (f m : ℕ) → BlockContent ls text behind f m → ⊥
 past_lines ls text bs behind feeds n e q z h w f m c =

@@ -39,7 +39,7 @@ white_no_break c e = ⊎_elim (λ (h : c ≡ 13). ap is_white h) (λ (h : c ≡ 
 ends_white : (t : List ℕ) (i : ℕ) → (is_break_char (code t i) ≡ true) ⊎ (i ≡ length t) → is_white (code t i) ≡ false
 ends_white t i s = ⊎_elim (λ (e : is_break_char (code t i) ≡ true). white_no_break (code t i) e) (λ (e : i ≡ length t). no_white_past t i (omega (arith, e))) s
 
--- other characters than white stand behind the marker
+-- other characters than white stand after the marker
 pub crowded : (t : List ℕ) (marker end : ℕ) (x : List ℕ) → Many t is_white (marker + 3) end x → is_white (code t end) ≡ false
     → is_break_char (code t end) ≡ false → end ≢ length t → IsAlone t marker → ⊥
 crowded t marker end x m w b n a =
@@ -51,7 +51,7 @@ stuck_there : {t : List ℕ} {i j : ℕ} {x : List ℕ} → Many t is_white i j 
 stuck_there done e = refl
 stuck_there (step (one a) c) e = absurd (true≢false (sym a ∙ e))
 
--- nothing stands behind a marker beyond the end
+-- nothing stands after a marker beyond the end
 pub beyond_text : (t : List ℕ) (marker : ℕ) → length t ≤ marker → IsAlone t marker → ⊥
 beyond_text t marker l a =
     let same : marker + 3 ≡ a.end = stuck_there a.run (no_white_past t (marker + 3) (omega (arith, l))) in
@@ -70,7 +70,7 @@ char_boundary t i h =
 break_below : (c : ℕ) → is_break_char c ≡ true → c < no_char
 break_below c e = ⊎_elim (λ (h : c ≡ 13). omega arith) (λ (h : c ≡ 10). omega arith) (break_char_cases c e)
 
--- nothing stands behind a marker that ends inside of a character
+-- nothing stands after a marker that ends inside of a character
 pub inside_char : (t : List ℕ) (marker : ℕ) → (IsCharBoundary t (marker + 3) → ⊥) → IsAlone t marker → ⊥
 inside_char t marker n a = n (by_run a.run a.stops) where
   by_run : {i j : ℕ} {x : List ℕ} → Many t is_white i j x → (is_break_char (code t j) ≡ true) ⊎ (j ≡ length t) → IsCharBoundary t i

@@ -13,3 +13,5 @@ pub mod NotedLemmas
 pub mod BlockLemmas
 pub mod TrailingLemmas
 pub mod StyleLemmas
+pub mod ShownMarks
+mod ShownKeys

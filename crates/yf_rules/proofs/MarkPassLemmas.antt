@@ -1,5 +1,6 @@
 -- Laws of a pass over byte order marks and the parts of the text that scalars have.
 use Rattle.std.proofs.Common.{◌≡◌, ℕ, ◌+◌, ◌<◌, ◌≤◌, List, Option, Some, None, length, max, refl, sym, subst, ap, ◌∙◌, inl, inr, ⊎_elim, arith}
+use Rattle.std.specs.Borrow.{Bor}
 use Rattle.std.specs.Prelude.{slice_get}
 use Rattle.std.specs.List.Sorted.{IsNonDecreasingBy, IsPermutation}
 use Rattle.std.proofs.lemmas.Bool.{cases_lt}
@@ -12,8 +13,6 @@ use Rattle.yf_events.specs.Event.{event_value, scalar_node}
 use Rattle.yf_events.specs.declared.event.Event.{Event}
 use Rattle.yf_events.specs.declared.event.Event.TheVariants.{Scalar}
 use Rattle.yf_events.specs.declared.event.ScalarStyle.{ScalarStyle}
-use Rattle.yf_lines.specs.Text.{text_bytes}
-use Rattle.yf_lines.specs.declared.text.Text.{Text}
 use Rattle.yf_props.specs.Props.{PropsValue, props_value}
 use Rattle.yf_props.specs.declared.props.Props.{Props}
 use Rattle.yf_events.specs.Reading.{events_of, spans_of}
@@ -87,7 +86,7 @@ begin_more spans count offset s e b c = record {
       (cases_lt k count);
 }
 
--- the parts from that one on begin behind the offset, since they ascend
+-- the parts from that one on begin after the offset, since they ascend
 pub none_from : (spans : List Span) (count offset : ℕ) (s : Span) → slice_get spans count ≡ Some s → offset < s.start → IsNonDecreasingBy (λ (x : Span). x.start) spans
     → NoneBegins spans count offset
 none_from spans count offset s e b up = record {
@@ -147,8 +146,8 @@ pub mark_text : {t : List ℕ} {r : Lists} {k o : ℕ} → LooseMark t r k o →
 mark_text {t} {k = k} (in_no_scalar e f) = within_from_code t k (omega (arith, e))
 
 -- the scalar that an event is, as the code has it
-pub scalar_event : (r : Lists) (i : ℕ) (e : Event) (props : Props) (style : ScalarStyle) (text : Text) → slice_get (events_of r) i ≡ Some (event_value e)
-    → e ≡ Scalar props style text → slice_get (events_of r) i ≡ Some (scalar_node (props_value props) style (text_bytes text))
+pub scalar_event : (r : Lists) (i : ℕ) (e : Event) (props : Props) (style : ScalarStyle) (text : Bor (List ℕ)) → slice_get (events_of r) i ≡ Some (event_value e)
+    → e ≡ Scalar props style text → slice_get (events_of r) i ≡ Some (scalar_node (props_value props) style text.now)
 scalar_event r i e props style text h q = h ∙ ap (λ v. Some (event_value v)) q
 
 pub span_answers : (r : Lists) (i : ℕ) (props : PropsValue) (style : ScalarStyle) (text : List ℕ) (o : Option Span)

@@ -1,4 +1,4 @@
--- Laws of runs of characters, and of the first character behind the longest line that is allowed.
+-- Laws of runs of characters, and of the first character after the longest line that is allowed.
 use Rattle.std.proofs.Common.{◌≡◌, ℕ, ◌+◌, ◌<◌, ◌≤◌, Bool, List, Option, Some, None, length, sym, subst, ap, ◌∙◌, arith, length-append}
 use Rattle.std.specs.Prelude.{slice_get}
 use Rattle.std.proofs.lemmas.Option.{slice_get_within}
@@ -28,7 +28,7 @@ by_meeting t j k x y (falls_short z e q) l = no_length e (let n : length x ≡ l
 pub ends_later : (t : List ℕ) (i j k : ℕ) (x y : List ℕ) → Many t is_char i j x → Many t is_char i k y → length x ≤ length y → j ≤ k
 ends_later t i j k x y c d l = by_meeting t j k x y (chain_meet (one_functional t is_char) c d) l
 
--- behind so many characters stands the end already
+-- after so many characters stands the end already
 pub too_short : (t : List ℕ) (start end count at passed : ℕ) (x : List ℕ) → Many t is_char start at x → length x ≡ passed → passed ≤ count → end ≤ at
     → (o : ℕ) → IsBehind t start end count o → ⊥
 too_short t start end count at passed x m l w e o b =

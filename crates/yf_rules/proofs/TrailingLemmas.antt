@@ -1,4 +1,4 @@
--- Laws of the whites at the ends of lines.
+-- Laws of the white space at the ends of lines.
 use Rattle.std.proofs.Common.{◌≡◌, ℕ, ◌<◌, ◌≤◌, Bool, true, false, List, Some, length, get_or, refl, sym, subst, ◌∙◌, ⊎_elim, arith, true≢false}
 use Rattle.std.specs.Prelude.{slice_get}
 use Rattle.std.proofs.lemmas.Bool.{cases_Bool}

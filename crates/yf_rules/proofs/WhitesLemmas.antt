@@ -1,4 +1,4 @@
--- Laws of the whites at the end of a part of a text, and of comments close behind other text.
+-- Laws of the white space at the end of a part of a text, and of comments close after other text.
 use Rattle.std.proofs.Common.{◌≡◌, ◌≢◌, ℕ, ◌+◌, ◌-◌, ◌<◌, ◌≤◌, true, false, List, ◌∷◌, Some, length, map, get_or, sym, subst, ap, ◌∙◌, ⊎_elim, arith, true≢false}
 use Rattle.std.specs.Prelude.{slice_get, option_map}
 use Rattle.std.proofs.lemmas.Bool.{cases_lt, cases_eq}
@@ -20,7 +20,7 @@ use Rattle.yf_rules.specs.Whites.{WhitesEnd, TwoSpaces, IsClose, CloseComment}
 use Rattle.yf_rules.specs.Whites.IsClose.{close}
 use Rattle.yf_rules.specs.Whites.CloseComment.{of_comment}
 
--- each character of a run of whites is white
+-- each character of a run of white space is white
 pub white_within : {t : List ℕ} {i j : ℕ} {x : List ℕ} (h : ℕ) → Many t is_white i j x → i ≤ h → h < j → is_white (code t h) ≡ true
 white_within h done a b = absurd (omega arith)
 white_within {t} {i} {j} h (step (one e) c) a b =
@@ -28,7 +28,7 @@ white_within {t} {i} {j} h (step (one e) c) a b =
     (λ (n : h ≢ i). let m : next t i ≡ i + 1 = next_ascii t i (white_below (code t i) e) in white_within h c (omega (arith, m, n, a)) b)
     (cases_eq h i)
 
--- the whites begin in one place
+-- the white space begin in one place
 no_later : (t : List ℕ) (start end i j : ℕ) → WhitesEnd t start end i → WhitesEnd t start end j → j ≤ end → i < j → ⊥
 no_later t start end i j a b w l =
     ⊎_elim (λ (e : j ≡ start). absurd (let f = a.from in omega (arith, e, f, l)))

@@ -22,20 +22,20 @@ pub record HasOffset (src : Table) (k offset : ℕ) : Type 0 where
   pub from : line.start ≤ offset
   pub to : offset < line.next
 
--- a line of a scalar behind the one on which its content, of a block scalar its header, begins. A block scalar ends with its last
--- content line, or with the empty lines behind it that it keeps
+-- a line of a scalar after the one on which its content, of a block scalar its header, begins. A block scalar ends with its last
+-- content line, or with the empty lines after it that it keeps
 pub data ScalarLine (src : Table) (r : Lists) (k : ℕ) : Type 0 where
   of_scalar : {i : ℕ} {props : PropsValue} {style : ScalarStyle} {text : List ℕ} {s : Span} {l : Line} → IsScalar r i props style text s
       → slice_get src.lines k ≡ Some l → content_start src.text s props < l.start → l.start < s.end → ScalarLine src r k
 
--- a line of whites alone that is part of no scalar
+-- a line of white space alone that is part of no scalar
 pub record IsBlank (src : Table) (r : Lists) (k : ℕ) : Type 0 where
   pub line : Line
   pub at : slice_get src.lines k ≡ Some line
   pub white : WhitesEnd src.text line.start line.end line.start
   pub outside : ScalarLine src r k → ⊥
 
--- a line with a directive, and one with a `---` that whites alone follow
+-- a line with a directive, and one with a `---` that white space alone follow
 pub data DirectiveLine (src : Table) (r : Lists) (k : ℕ) : Type 0 where
   has_directive : {d : Doc} {directive : Directive} → Contains r.documents d → Contains d.directives directive → HasOffset src k directive.offset
       → DirectiveLine src r k
@@ -44,7 +44,7 @@ pub data MarkerLine (src : Table) (r : Lists) (k : ℕ) : Type 0 where
   has_marker : {d : Doc} (m : ℕ) → slice_get r.documents m ≡ Some d → slice_get (markers_in (events_of r)) m ≡ Some true → IsAlone src.text d.start
       → HasOffset src k d.start → MarkerLine src r k
 
--- where no blank line may stand: first, directly behind another one or behind such a `---`, directly before a document marker
+-- where no blank line may stand: first, directly after another one or after such a `---`, directly before a document marker
 -- or a directive, and where only blank lines follow
 pub data WrongPlace (src : Table) (r : Lists) : ℕ → Type 0 where
   is_first : WrongPlace src r 0

@@ -7,16 +7,16 @@ use Rattle.yf_lines.specs.Lines.{Table, Marks, is_char}
 use Rattle.yf_rules.specs.Scalars.{ContentLine}
 use Rattle.yf_rules.specs.Whites.{WhitesEnd}
 
--- whites end the line, and begin at the offset
+-- white space ends the line, and begin at the offset
 pub data BlankEnd (src : Table) (k : ℕ) : Bool → ℕ → Type 0 where
   at_line_end : {l : Line} {o : ℕ} → slice_get src.lines k ≡ Some l → WhitesEnd src.text l.start l.end o → o < l.end
       → BlankEnd src k false o
 
--- trailing-blanks: the first of the whites that end a line, unless it is a content line of a block scalar
+-- trailing-blanks: the first of the white space that ends a line, unless it is a content line of a block scalar
 pub data TrailingBlank (src : Table) (r : Lists) (k : ℕ) : ℕ → Type 0 where
   trailing : {o : ℕ} → BlankEnd src k false o → ((i : ℕ) → ContentLine src r k i → ⊥) → TrailingBlank src r k o
 
--- the offset stands behind so many characters from `start` on, and before `end`
+-- the offset stands after so many characters from `start` on, and before `end`
 pub record IsBehind (t : List ℕ) (start end count offset : ℕ) : Type 0 where
   pub characters : List ℕ
   pub run : Many t is_char start offset characters

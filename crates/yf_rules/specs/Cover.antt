@@ -3,12 +3,12 @@ use Rattle.std.specs.Prelude.{◌≡◌, ℕ, ◌<◌, ◌≤◌, ◌⊎◌, Lis
 use Rattle.yf_chars.specs.Text.{code}
 use Rattle.yf_events.specs.declared.event.Span.{Span}
 
--- of the first parts, so many, the farthest end; 0 where there is none or none ends behind 0
+-- of the first parts, so many, the farthest end; 0 where there is none or none ends after 0
 pub record Covers (spans : List Span) (count reach : ℕ) : Type 0 where
   pub bound : (k : ℕ) (s : Span) → slice_get spans k ≡ Some s → k < count → s.end ≤ reach
   pub reached : (reach ≡ 0) ⊎ ((k : ℕ) × (s : Span) × (slice_get spans k ≡ Some s) × (k < count) × (s.end ≡ reach))
 
--- the first parts, so many, begin at the offset or before it, and all others behind it
+-- the first parts, so many, begin at the offset or before it, and all others after it
 pub record AllBegin (spans : List Span) (count offset : ℕ) : Type 0 where
   pub all : (k : ℕ) (s : Span) → slice_get spans k ≡ Some s → k < count → s.start ≤ offset
 

@@ -2,12 +2,13 @@
 -- alone. An index counts events from 0.
 use Rattle.std.specs.Prelude.{◌≡◌, ◌≢◌, ℕ, ◌+◌, ◌-◌, ◌<◌, ◌≤◌, Bool, true, false, if◌then◌else◌, List, length, slice_get, slice_range, Option, Some}
 use Rattle.std.specs.List.{Contains}
+use Rattle.yf_chars.specs.Class.{is_white_or_end}
 use Rattle.yf_chars.specs.Text.{code}
 use Rattle.yf_emit.specs.ContentStart.{content_start}
 use Rattle.yf_emit.specs.Keys.{NodeAt, block_keys, kept_text_of}
 use Rattle.yf_emit.specs.Normal.{Setting, setting_of}
 use Rattle.yf_emit.specs.OneLine.{bare}
-use Rattle.yf_emit.specs.Tree.{Node, scalar, alias, sequence, mapping, DocumentTree, TreesOf, flat, is_filled_flow, props_of, standing}
+use Rattle.yf_events.specs.Tree.{Node, scalar, alias, sequence, mapping, DocumentTree, TreesOf, flat, is_filled_flow, props_of, standing}
 use Rattle.yf_emit.specs.declared.style.Style.{Style}
 use Rattle.yf_events.specs.Reading.{entries_of}
 use Rattle.yf_events.specs.declared.event.Entry.{Entry}
@@ -31,7 +32,7 @@ pub record OuterFlow (r : Lists) (i : ℕ) (x : Node) : Type 0 where
 abbrev pub wanted_text : List ℕ → Setting → Node → Option (List ℕ)
 wanted_text t c x = if is_filled_flow x then kept_text_of t c x else Some (bare x)
 
--- flow-layout: the opening bracket of a flow collection that is written otherwise, or that has entries and ends behind the last
+-- flow-layout: the opening bracket of a flow collection that is written otherwise, or that has entries and ends after the last
 -- column
 pub data Displaced (src : Table) (r : Lists) (house : Style) (i : ℕ) : ℕ → Type 0 where
   other_text : {x : Node} {s : Span} → OuterFlow r i x → (standing x).span ≡ Some s
@@ -46,8 +47,9 @@ abbrev pub IsOutside : Lists → ℕ → Type 0
 IsOutside r offset =
     (j : ℕ) (y : Node) (s : Span) → NodeAt r.events j y → is_flow y ≡ true → (standing y).span ≡ Some s → s.start ≤ offset → offset < s.end → ⊥
 
--- key-mark: the `?` of an entry of a block mapping whose key the layout writes without
+-- key-mark: the `?` of an entry of a block mapping whose key the layout writes without; white, a break or the end of the text
+-- follows it, else it begins a plain scalar
 pub data NeedlessMark (src : Table) (r : Lists) (house : Style) (i : ℕ) : ℕ → Type 0 where
   needless : {trees : List DocumentTree} {entry : Entry} → TreesOf r trees → Contains (block_keys src.text r house trees) (i, true)
-      → slice_get (entries_of r) i ≡ Some (Some entry) → code src.text entry.start ≡ 63 → IsOutside r entry.start
-      → NeedlessMark src r house i entry.start
+      → slice_get (entries_of r) i ≡ Some (Some entry) → code src.text entry.start ≡ 63
+      → is_white_or_end (code src.text (entry.start + 1)) ≡ true → IsOutside r entry.start → NeedlessMark src r house i entry.start

@@ -9,6 +9,7 @@ pub mod ByLine
 pub mod Documents
 pub mod BlankLines
 pub mod Nodes
+pub mod Laws
 pub mod Layouts
 pub mod Sets
 pub mod Check

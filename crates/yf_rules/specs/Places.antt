@@ -36,7 +36,7 @@ place_cmp p q = ordering_then (nat_cmp p.line q.line) (nat_cmp p.column q.column
 abbrev pub Ascending : List Place → Type 0
 Ascending ps = IsStrictlySortedBy place_cmp ps
 
--- in the line that begins at the offset `start`, the offset has this column, and stands behind the line's marks
+-- in the line that begins at the offset `start`, the offset has this column, and stands after the line's marks
 pub record Reached (t : List ℕ) (start at column : ℕ) : Type 0 where
   pub behind : ℕ
   pub marks : Marks t start behind

@@ -44,7 +44,7 @@ head_count b [] = 0
 head_count b (c ∷ cs) = if c == b then suc (head_count b cs) else 0
 
 -- the content of a block scalar with this text begins on the line with the index `first` and is indented by so many spaces:
--- from the line behind the header on, which has the index `behind`, stand as many empty lines as the text begins with line
+-- from the line after the header on, which has the index `behind`, stand as many empty lines as the text begins with line
 -- feeds, and of the spaces of the next line those with which the text goes on are content. A text of line feeds alone has
 -- no content line
 pub record BlockContent (ls : List Line) (text : List ℕ) (behind first indent : ℕ) : Type 0 where
@@ -63,7 +63,7 @@ pub record InBlock (ls : List Line) (first indent end k : ℕ) : Type 0 where
   pub to : line.start < end
   pub longer : line.start + indent < line.end
 
--- a content line of the block scalar that the event of index i is. The header stands behind the properties, and is the last
+-- a content line of the block scalar that the event of index i is. The header stands after the properties, and is the last
 -- thing on its line
 pub data ContentLine (src : Table) (r : Lists) (k i : ℕ) : Type 0 where
   of_block : {props : PropsValue} {style : ScalarStyle} {text : List ℕ} {s : Span} (behind first indent : ℕ)

@@ -10,7 +10,7 @@ use Rattle.yf_events.specs.declared.lists.Lists.{Lists}
 use Rattle.yf_props.specs.Props.{PropsValue}
 use Rattle.yf_rules.specs.Scalars.{IsScalar}
 
--- quoting: the first character of content of a scalar, behind its properties, whose style is not the one wanted
+-- quoting: the first character of content of a scalar, after its properties, whose style is not the one wanted
 pub data Misquoted (t : List ℕ) (r : Lists) (house : Style) (i : ℕ) : ℕ → Type 0 where
   other_style : {props : PropsValue} {style : ScalarStyle} {text : List ℕ} {s : Span} → IsScalar r i props style text s
       → wanted_of_event (scalar_node props style text) house.quotes ≢ style → Misquoted t r house i (content_start t s props)

@@ -1,4 +1,4 @@
-//! Which lines begin before a byte offset and which behind it.
+//! Which lines begin before a byte offset and which after it.
 ghost use Rattle.std.specs.Prelude.{◌≤◌, length};
 ghost use Rattle.yf_lines.specs.Lines.{Begun};
 ghost use Rattle.yf_rules.specs.Scalars.{BegunTo};

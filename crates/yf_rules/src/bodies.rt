@@ -1,4 +1,4 @@
-//! The lines of each scalar behind the one on which it begins.
+//! The lines of each scalar after the one on which it begins.
 ghost use Rattle.std.specs.Prelude.{◌<◌, ◌≤◌, length};
 
 use crate::begun::lines_begun;
@@ -9,10 +9,10 @@ use yf_events::event::{Event, ScalarStyle};
 use yf_events::reading::Reading;
 use yf_lines::source_text::Src;
 
-/// The lines of a scalar behind the one on which its content begins.
+/// The lines of a scalar after the one on which its content begins.
 #[derive(Clone, Copy, Debug)]
 pub struct Body {
-    /// The byte offset at which the scalar begins behind its properties: of a block scalar its header.
+    /// The byte offset at which the scalar begins after its properties: of a block scalar its header.
     pub start: usize,
     /// The index of the first of the lines, and the byte offset before which all of them begin.
     pub first: usize,
@@ -66,13 +66,13 @@ fn body_at(src: &Src, reading: &Reading, i: usize, line: usize) -> Option<Body>
     match reading.event(i) {
         Event::Scalar { props, style, text } => match reading.span(i) {
             Some(span) => {
-                let start = content_start(src.text(), span, props);
+                let start = content_start(src.text(), span, &props);
                 let first = lines_begun(src, line, start);
                 Some(Body {
                     start,
                     first,
                     end: span.end,
-                    indent: content_indent(src, *style, text.as_str(), first),
+                    indent: content_indent(src, style, text, first),
                 })
             }
             None => None,

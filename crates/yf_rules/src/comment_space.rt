@@ -73,7 +73,7 @@ fn are_two_spaces(text: &str, from: usize, to: usize) -> bool
     false
 }
 
-/// Whether a comment stands behind other text on its line, and not two spaces behind it.
+/// Whether a comment stands after other text on its line, and not two spaces after it.
 fn is_close(text: &str, offset: usize) -> bool
     ensures { MatchBool result (IsClose text.now offset) (IsClose text.now offset → ⊥) }
 {

@@ -82,14 +82,14 @@ fn block_at(src: &Src, reading: &Reading, i: usize, hint: usize) -> Option<Block
 {
     match reading.event(i) {
         Event::Scalar { props, style, text } => {
-            if !is_block_style(*style) {
+            if !is_block_style(style) {
                 return None;
             }
             match reading.span(i) {
                 Some(span) => {
-                    let header = content_start(src.text(), span, props);
+                    let header = content_start(src.text(), span, &props);
                     let behind = lines_begun(src, hint, header);
-                    match content_of(src, text.as_str(), behind) {
+                    match content_of(src, text, behind) {
                         Some(content) => Some(Block {
                             first: content.first,
                             indent: content.indent,
@@ -102,6 +102,16 @@ fn block_at(src: &Src, reading: &Reading, i: usize, hint: usize) -> Option<Block
             }
         }
         _ => None,
+    }
+}
+
+/// How many lines begin up to the event of that index, where it has a place; else the hint.
+fn near(src: &Src, reading: &Reading, i: usize, hint: usize) -> usize
+    requires { i < length reading.now.events }
+{
+    match reading.span(i) {
+        Some(span) => lines_begun(src, hint, span.start),
+        None => hint,
     }
 }
 
@@ -131,6 +141,7 @@ pub fn content_lines(alloc: Global, src: &Src, reading: &Reading) -> Result<Vec<
     let mut list = vec![in alloc; false; src.lines().len()]?;
     let mut hint = 0;
     for i in 0..reading.len() {
+        hint = near(src, reading, i, hint);
         match block_at(src, reading, i, hint) {
             Some(block) => {
                 note(&mut list, src, block);

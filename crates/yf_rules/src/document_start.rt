@@ -17,7 +17,7 @@ use yf_lines::fault::Fault;
 use yf_lines::place::Place;
 use yf_lines::source_text::Src;
 
-/// The first character of content of a document without `---`, and a `---` with more than whites behind it on its line.
+/// The first character of content of a document without `---`, and a `---` with more than white space after it on its line.
 #[derive(Clone, Copy, Debug)]
 pub struct DocumentStart;
 
@@ -79,7 +79,7 @@ fn marker_at(reading: &Reading, i: usize) -> Option<bool>
     ensures { (es : List EventValue) → IfSome (slice_get (events_of reading.now) i) (λ e. markers_in (e ∷ es) ≡ option_to_list result ++ markers_in es) }
 {
     match reading.event(i) {
-        Event::DocStart { explicit } => Some(*explicit),
+        Event::DocStart { explicit } => Some(explicit),
         _ => None,
     }
 }

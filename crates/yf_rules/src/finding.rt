@@ -10,6 +10,6 @@ pub struct Finding {
     pub number: usize,
     /// The rule's name.
     pub id: &'static str,
-    /// Whether the house style mends it.
+    /// Whether the house style fixes it.
     pub fixable: bool,
 }

@@ -65,7 +65,7 @@ fn is_text(text: &str, from: usize, to: usize, other: &str) -> bool {
     part == other.as_bytes()
 }
 
-/// Whether the character that ends at the byte offset stands behind the longest line that the style allows.
+/// Whether the character that ends at the byte offset stands after the longest line that the style allows.
 fn ends_behind(src: &Src, end: usize, style: &Style) -> bool {
     let at = end.saturating_sub(1);
     if src.text().is_char_boundary(at) {
@@ -112,7 +112,7 @@ fn brackets(src: &Src, reading: &Reading, i: usize) -> Option<Span>
         Event::SeqStart { flow: true, props } | Event::MapStart { flow: true, props } => {
             match reading.span(i) {
                 Some(span) => Some(Span {
-                    start: content_start(src.text(), span, props),
+                    start: content_start(src.text(), span, &props),
                     end: span.end,
                 }),
                 None => None,

@@ -55,7 +55,7 @@ impl Rule for Indentation {
 }
 
 /// The column, from 0, at which the entries of a block collection are to stand: at column 0 those of a root, else as far
-/// to the right of the entries around it as the style says, or at their column for a sequence behind a key without `?`.
+/// to the right of the entries around it as the style says, or at their column for a sequence after a key without `?`.
 fn wanted_column(stand: Stand, is_sequence: bool, style: &Style) -> usize {
     match stand.outer {
         Some(outer) => {

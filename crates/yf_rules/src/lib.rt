@@ -23,7 +23,5 @@ pub mod repeated_keys;
 pub mod rule;
 pub mod spot;
 pub mod stands;
-#[cfg(test)]
-mod tests;
 pub mod trailing_blanks;
 pub mod whites;

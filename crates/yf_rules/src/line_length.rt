@@ -15,7 +15,7 @@ use yf_lines::fault::Fault;
 use yf_lines::place::Place;
 use yf_lines::source_text::Src;
 
-/// The column behind the longest line that the style allows, of a line that is longer.
+/// The column after the longest line that the style allows, of a line that is longer.
 #[derive(Clone, Copy, Debug)]
 pub struct LineLength;
 
@@ -57,7 +57,7 @@ impl Rule for LineLength {
     }
 }
 
-/// The byte offset behind so many characters of a line, where at least one more stands before the line's end.
+/// The byte offset after so many characters of a line, where at least one more stands before the line's end.
 fn behind_chars(text: &str, start: usize, end: usize, count: usize) -> Option<usize>
     requires start { IsCharBoundary text.now start }
     requires end { end ≤ length text.now }
@@ -81,7 +81,7 @@ fn behind_chars(text: &str, start: usize, end: usize, count: usize) -> Option<us
     None
 }
 
-/// The first character of the line of that index behind the longest line that is allowed, if it is longer.
+/// The first character of the line of that index after the longest line that is allowed, if it is longer.
 fn beyond(src: &Src, k: usize, max_line: usize) -> Option<usize>
     requires { k < length src.now.lines }
     ensures { Answers (BeyondLimit src.now max_line k) result }

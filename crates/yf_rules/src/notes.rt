@@ -18,9 +18,9 @@ use yf_lines::source_text::Src;
 pub struct Note {
     /// Whether it is part of a scalar that begins before it.
     pub is_inside: bool,
-    /// Whether it is a line of whites alone that is part of no scalar.
+    /// Whether it is a line of white space alone that is part of no scalar.
     pub is_blank: bool,
-    /// Whether it holds a document's `---` with nothing but whites behind it.
+    /// Whether it holds a document's `---` with nothing but white space after it.
     pub is_marker: bool,
     /// Whether it holds a directive.
     pub is_directive: bool,
@@ -105,7 +105,7 @@ fn note_directives(list: &mut Vec<Note>, src: &Src, document: &Doc, line: usize)
     line
 }
 
-/// Whether nothing but whites stands behind the `---` that begins there.
+/// Whether nothing but white space stands after the `---` that begins there.
 pub fn is_alone(text: &str, marker: usize) -> bool
     ensures { MatchBool result (IsAlone text.now marker) (IsAlone text.now marker → ⊥) }
 {
@@ -157,7 +157,7 @@ fn note_documents(list: &mut Vec<Note>, src: &Src, reading: &Reading) {
         if let Event::DocStart { explicit } = reading.event(i) {
             if k < documents.len() {
                 line = note_directives(list, src, &documents[k], line);
-                if *explicit {
+                if explicit {
                     line = note_marker(list, src, &documents[k], line);
                 }
                 k += 1;

@@ -12,7 +12,7 @@ use yf_lines::basic::mark_stands;
 use yf_lines::place::Place;
 use yf_lines::source_text::Src;
 
-/// The byte offset behind all byte order marks that stand there.
+/// The byte offset after all byte order marks that stand there.
 pub fn skip_marks(text: &str, at: usize) -> usize
     requires { IsCharBoundary text.now at }
     ensures marks { Marks text.now at result }
@@ -26,7 +26,7 @@ pub fn skip_marks(text: &str, at: usize) -> usize
     end
 }
 
-/// The index of the line that holds the byte offset: the one of that index, or one behind it.
+/// The index of the line that holds the byte offset: the one of that index, or one after it.
 pub fn line_from(src: &Src, line: usize, offset: usize) -> usize
     ensures { length src.now.lines ≤ line → result ≡ line }
 {
@@ -45,7 +45,7 @@ pub fn line_from(src: &Src, line: usize, offset: usize) -> usize
     at
 }
 
-/// The spot behind the marks of the line of that index.
+/// The spot after the marks of the line of that index.
 fn line_spot(src: &Src, line: usize) -> Spot
     ensures { IsSpot src.now.text src.now.lines result }
 {
@@ -113,6 +113,9 @@ fn place_from(src: &Src, from: Spot, offset: usize) -> Step
                 if spot.at <= offset {
                     return place_in_line(src, spot, spot.line + 1, offset);
                 }
+                if spot.column == 1 {
+                    return place_at_mark(src, spot, spot.line + 1, offset);
+                }
             }
         }
     }
@@ -122,7 +125,7 @@ fn place_from(src: &Src, from: Spot, offset: usize) -> Step
     }
 }
 
-/// The place of a byte offset behind a spot in its line, which has that number.
+/// The place of a byte offset after a spot in its line, which has that number.
 fn place_in_line(src: &Src, spot: Spot, number: usize, offset: usize) -> Step
     requires boundary { IsCharBoundary src.now.text offset }
     requires spot { IsSpot src.now.text src.now.lines spot }
@@ -145,6 +148,27 @@ fn place_in_line(src: &Src, spot: Spot, number: usize, offset: usize) -> Step
             at: offset,
             column,
         },
+    }
+}
+
+/// The place of a byte offset among the marks of a line with that number, whose spot is the one after them.
+fn place_at_mark(src: &Src, spot: Spot, number: usize, offset: usize) -> Step
+    requires spot { IsSpot src.now.text src.now.lines spot }
+    requires line { spot.line < length src.now.lines }
+    requires number { number ≡ spot.line + 1 }
+    requires within { IfSome (slice_get src.now.lines spot.line) (λ l. (l.start ≤ offset) × (offset < l.next)) }
+    requires order { offset < spot.at }
+    requires first { spot.column ≡ 1 }
+    ensures place { PlaceOf src.now.text offset result.place.line result.place.column }
+    ensures spot { result.spot ≡ spot }
+{
+    let _line = src.lines().line(spot.line);
+    Step {
+        place: Place {
+            line: number,
+            column: 1,
+        },
+        spot,
     }
 }
 

@@ -68,11 +68,11 @@ fn misquoted(src: &Src, reading: &Reading, i: usize, style: &Style) -> Option<us
             style: written,
             text,
         } => {
-            if wanted_of(*written, text.as_str(), style.quotes) == *written {
+            if wanted_of(written, text, style.quotes) == written {
                 return None;
             }
             match reading.span(i) {
-                Some(span) => Some(content_start(src.text(), span, props)),
+                Some(span) => Some(content_start(src.text(), span, &props)),
                 None => None,
             }
         }

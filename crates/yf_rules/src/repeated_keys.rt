@@ -97,11 +97,7 @@ fn pass<'r>(
         Event::Scalar { text, .. } => {
             let tag = reading.resolved(i);
             let key = match mapping_of_key(stack) {
-                Some(mapping) => Some(Key {
-                    mapping,
-                    tag,
-                    text: text.as_str(),
-                }),
+                Some(mapping) => Some(Key { mapping, tag, text }),
                 None => None,
             };
             Ok(key)

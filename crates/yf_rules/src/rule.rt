@@ -36,7 +36,7 @@ pub trait Rule: Drop {
     fn id(&self) -> &'static str
         ensures { result.now ≡ rule_id self.now };
 
-    /// Whether the house style mends what it finds.
+    /// Whether the house style fixes what it finds.
     fn fixable(&self) -> bool
         ensures { result ≡ is_fixable self.now };
 

@@ -2,7 +2,7 @@
 
 use yf_lines::place::Place;
 
-/// How far a pass over the text has come: in the line of that index, from 0, at a byte offset behind the line's byte order
+/// How far a pass over the text has come: in the line of that index, from 0, at a byte offset after the line's byte order
 /// marks, whose column is known.
 #[derive(Clone, Copy, Debug)]
 pub struct Spot {

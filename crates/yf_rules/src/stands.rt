@@ -86,7 +86,7 @@ fn first_entries(alloc: Global, reading: &Reading) -> Result<Vec<usize>, AllocEr
     Ok(offsets)
 }
 
-/// Whether the next node is the value of a key without `?`; the level then waits for what comes behind the node.
+/// Whether the next node is the value of a key without `?`; the level then waits for what comes after the node.
 fn next_in(level: &mut Level, src: &Src, reading: &Reading, i: usize) -> bool
     requires { i < length reading.now.events }
 {

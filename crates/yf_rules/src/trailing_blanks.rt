@@ -14,7 +14,7 @@ use yf_lines::fault::Fault;
 use yf_lines::place::Place;
 use yf_lines::source_text::Src;
 
-/// The first of the whites that end a line, unless it is a content line of a block scalar.
+/// The first of the white space that ends a line, unless it is a content line of a block scalar.
 #[derive(Clone, Copy, Debug)]
 pub struct TrailingBlanks;
 
@@ -56,7 +56,7 @@ impl Rule for TrailingBlanks {
     }
 }
 
-/// Where the whites begin that end the line of that index, unless it is a content line of a block scalar.
+/// Where the white space begin that end the line of that index, unless it is a content line of a block scalar.
 fn blank_end(src: &Src, k: usize, is_content: bool) -> Option<usize>
     requires { k < length src.now.lines }
     ensures { Answers (BlankEnd src.now k is_content) result }

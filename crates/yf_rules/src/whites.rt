@@ -1,4 +1,4 @@
-//! Whites at the ends of lines and before comments.
+//! White space at the ends of lines and before comments.
 ghost use Rattle.std.specs.Prelude.{◌≡◌, ◌≤◌};
 ghost use Rattle.yf_rules.specs.Whites.{WhitesEnd};
 
@@ -7,7 +7,7 @@ use yf_events::event::Entry;
 use yf_lines::basic::{white_or_end_stands, white_stands};
 use yf_lines::line::Line;
 
-/// The byte offset of the first of the whites that stand directly before `end`, and not before `start`.
+/// The byte offset of the first of the white space that stands directly before `end`, and not before `start`.
 pub fn whites_before(text: &str, start: usize, end: usize) -> usize
     requires { start ≤ end }
     ensures whites { WhitesEnd text.now start end result }
@@ -26,7 +26,7 @@ pub fn whites_before(text: &str, start: usize, end: usize) -> usize
     at
 }
 
-/// Whether the line holds whites alone, or nothing.
+/// Whether the line holds white space alone, or nothing.
 pub fn is_white_line(text: &str, line: Line) -> bool
     requires { line.start ≤ line.end }
 {

@@ -1,4 +1,4 @@
--- The end of a line lies at its start or behind it.
+-- The end of a line lies at its start or after it.
 use Rattle.std.proofs.Common.{ℕ, ◌≤◌, List}
 use Rattle.yf_chars.proofs.ChainLemmas.{chain_forward}
 use Rattle.yf_comments.specs.Comment.{CommentValue}

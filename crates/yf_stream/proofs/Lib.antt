@@ -1,1 +1,9 @@
 pub mod Forward
+pub mod ShownComment
+pub mod ShownEmpty
+pub mod ShownMarkers
+pub mod ShownOneShape
+pub mod ShownParts
+pub mod ShownPlain
+pub mod ShownStreams
+pub mod ShownWord

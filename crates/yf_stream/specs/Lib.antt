@@ -1,4 +1,6 @@
+pub mod ReadingOf
 pub mod Refusal
 pub mod Stream
+pub mod StreamReader
 pub mod Walk
 pub mod WellFormed

@@ -2,12 +2,7 @@
 use Rattle.std.specs.Prelude.{ℕ, List}
 use Rattle.yf_lines.specs.declared.fault.Fault.{Fault}
 use Rattle.yf_lines.specs.declared.fault.Fault.TheVariants.{Syntax, TooDeep, UnknownHandle, UnknownAlias, RepeatedDirective, BadVersion, EscapeValue, Memory}
-use Rattle.yf_lines.specs.declared.place.Place.{Place}
-use Rattle.yf_lines.specs.Lines.{PlaceOf}
-
--- the place of some character of the text, or of its end
-abbrev pub InText : List ℕ → Place → Type 0
-InText t place = (offset : ℕ) × PlaceOf t offset place.line place.column
+use Rattle.yf_lines.specs.FaultPlaces.{InText}
 
 -- the faults of the reader of streams
 abbrev pub IsStreamFault : List ℕ → Fault → Type 0

@@ -10,6 +10,7 @@ use Rattle.yf_comments.specs.Comment.{CommentValue}
 use Rattle.yf_comments.specs.Comments.{CommentLine, LineEnd}
 use Rattle.yf_props.specs.Names.{Handle, Run, TagPrefix}
 use Rattle.yf_events.specs.declared.directive.Directive.{Directive}
+use Rattle.yf_events.specs.Event.{Placed}
 use Rattle.yf_grammar.specs.Grammar.{BlockNode, Derives}
 use Rattle.yf_grammar.specs.Meaning.{Meaning, empty_node, noting}
 
@@ -27,7 +28,7 @@ pub data Parameters (t : List ℕ) (name : List ℕ) : ℕ → ℕ → List (Lis
   reserved_parameters : {i j : ℕ} {words : List (List ℕ)} → name ≢ codes "YAML" → name ≢ codes "TAG"
       → Chain (ReservedParameter t) i j words → Parameters t name i j words
 
--- directives, and the comments behind them
+-- directives, and the comments after them
 pub record Directives : Type 0 where
   pub directives : List Directive
   pub comments : List CommentValue
@@ -40,24 +41,35 @@ pub data DirectiveLines (t : List ℕ) : ℕ → ℕ → Directives → Type 0 w
   more_directives : {i k j : ℕ} {x y : Directives} → DirectiveLines t i k x → DirectiveLines t k j y
       → DirectiveLines t i j (record { directives = x.directives ++ y.directives; comments = x.comments ++ y.comments })
 
--- a document: where it begins, whether `---` is written, its directives with the comments behind them, and its node
+-- a document: where it begins, whether `---` is written, its directives, and what its node means but for comments. A
+-- comment line may be taken by a document's node, by its directives or by what stands between documents; a stream has one
+-- list of comments, and a document has none
 pub record Document : Type 0 where
   pub start : ℕ
   pub marked : Bool
-  pub lines : Directives
-  pub node : Meaning
+  pub directives : List Directive
+  pub events : List Placed
+  pub escapes : List ℕ
+  pub finish : ℕ
 
-abbrev pub no_directives : Directives
-no_directives = record { directives = []; comments = [] }
+unfoldable pub document_of : ℕ → Bool → List Directive → Meaning → Document
+document_of start marked directives x = record {
+  start = start;
+  marked = marked;
+  directives = directives;
+  events = x.events;
+  escapes = x.escapes;
+  finish = x.finish;
+}
 
 -- l-bare-document: a node that covers no forbidden line
 pub record BareNode (t : List ℕ) (h i j : ℕ) (x : Meaning) : Type 0 where
   pub derived : Derives t h (BlockNode (pos 0 -ℤ pos 1) BlockIn) i j x
   pub clear : Clear t i j
 
--- the first character of a node's text that is no white
+-- the first character of a node's text that is no white space; it is no #, which begins a comment line
 pub data ContentAt (t : List ℕ) : ℕ → ℕ → Type 0 where
-  content_at : {i k : ℕ} → SeparateInLine t i k → is_ns_char (code t k) ≡ true → ContentAt t i k
+  content_at : {i k : ℕ} → SeparateInLine t i k → is_ns_char (code t k) ≡ true → code t k ≢ 35 → ContentAt t i k
 
 -- l-explicit-document, from its `---` on
 pub data ExplicitNode (t : List ℕ) : ℕ → ℕ → ℕ → Meaning → Type 0 where
@@ -65,14 +77,13 @@ pub data ExplicitNode (t : List ℕ) : ℕ → ℕ → ℕ → Meaning → Type 
   marked_nothing : {i j : ℕ} {cs : List CommentValue} → is_three t i 45 ≡ true → LineEnd t (i + 3) j cs
       → ExplicitNode t 0 i j (noting (empty_node (i + 3)) cs)
 
--- l-any-document
-pub data AnyDocument (t : List ℕ) : ℕ → ℕ → ℕ → Document → Type 0 where
+-- l-any-document, with the comments in it
+pub data AnyDocument (t : List ℕ) : ℕ → ℕ → ℕ → Document → List CommentValue → Type 0 where
   bare_document : {h i k j : ℕ} {x : Meaning} → BareNode t h i j x → ContentAt t i k
-      → AnyDocument t h i j (record { start = k; marked = false; lines = no_directives; node = x })
-  explicit_document : {h i j : ℕ} {x : Meaning} → ExplicitNode t h i j x
-      → AnyDocument t h i j (record { start = i; marked = true; lines = no_directives; node = x })
+      → AnyDocument t h i j (document_of k false [] x) x.comments
+  explicit_document : {h i j : ℕ} {x : Meaning} → ExplicitNode t h i j x → AnyDocument t h i j (document_of i true [] x) x.comments
   directive_document : {h i k j : ℕ} {ds : Directives} {x : Meaning} → DirectiveLines t i k ds → ExplicitNode t h k j x
-      → AnyDocument t h i j (record { start = k; marked = true; lines = ds; node = x })
+      → AnyDocument t h i j (document_of k true ds.directives x) (ds.comments ++ x.comments)
 
 -- c-byte-order-mark, or l-comment
 pub data PrefixPart (t : List ℕ) : ℕ → ℕ → List CommentValue → Type 0 where
@@ -97,36 +108,33 @@ pub record Documents : Type 0 where
 abbrev pub only_comments : List CommentValue → Documents
 only_comments cs = record { documents = []; comments = cs }
 
--- comments, a document, and what follows
+-- a document, the comments before it and in it, and what follows
 unfoldable pub with_document : List CommentValue → Document → Documents → Documents
-with_document cs d rest = record {
-  documents = d ∷ rest.documents;
-  comments = cs ++ (d.lines.comments ++ (d.node.comments ++ rest.comments));
-}
+with_document cs d rest = record { documents = d ∷ rest.documents; comments = cs ++ rest.comments }
 
 unfoldable pub with_comments : List CommentValue → Documents → Documents
 with_comments cs rest = record rest { comments = cs ++ rest.comments }
 
--- l-yaml-stream behind its first document: further documents need a `---`, or a `...` before them
+-- l-yaml-stream after its first document: further documents need a `---`, or a `...` before them
 pub data StreamRest (t : List ℕ) : ℕ → ℕ → Documents → Type 0 where
   stream_ended : StreamRest t 0 (length t) (only_comments [])
   past_prefix : {h i k : ℕ} {cs : List CommentValue} {x : Documents} → PrefixPart t i k cs → StreamRest t h k x
       → StreamRest t h i (with_comments cs x)
   past_suffixes : {h i k l : ℕ} {cs ds : List CommentValue} {x : Documents} → Suffixes t i k cs → Prefixes t k l ds
       → StreamRest t h l x → StreamRest t h i (with_comments (cs ++ ds) x)
-  past_suffixes_and_document : {h g i k l j : ℕ} {cs ds : List CommentValue} {d : Document} {x : Documents} → Suffixes t i k cs
-      → Prefixes t k l ds → AnyDocument t h l j d → StreamRest t g j x → StreamRest t (max h g) i (with_document (cs ++ ds) d x)
+  past_suffixes_and_document : {h g i k l j : ℕ} {cs ds es : List CommentValue} {d : Document} {x : Documents} → Suffixes t i k cs
+      → Prefixes t k l ds → AnyDocument t h l j d es → StreamRest t g j x → StreamRest t (max h g) i (with_document (cs ++ (ds ++ es)) d x)
   past_explicit : {h g i j : ℕ} {x : Meaning} {rest : Documents} → ExplicitNode t h i j x → StreamRest t g j rest
-      → StreamRest t (max h g) i (with_document [] (record { start = i; marked = true; lines = no_directives; node = x }) rest)
+      → StreamRest t (max h g) i (with_document x.comments (document_of i true [] x) rest)
 
 -- l-yaml-stream: all of the text
 pub data Stream (t : List ℕ) : ℕ → Documents → Type 0 where
-  begins_with_document : {h g i j : ℕ} {cs : List CommentValue} {d : Document} {x : Documents} → Prefixes t 0 i cs
-      → AnyDocument t h i j d → StreamRest t g j x → Stream t (max h g) (with_document cs d x)
+  begins_with_document : {h g i j : ℕ} {cs ds : List CommentValue} {d : Document} {x : Documents} → Prefixes t 0 i cs
+      → AnyDocument t h i j d ds → StreamRest t g j x → Stream t (max h g) (with_document (cs ++ ds) d x)
   without_document : {h i : ℕ} {cs : List CommentValue} {x : Documents} → Prefixes t 0 i cs → StreamRest t h i x
       → Stream t h (with_comments cs x)
 
--- whether `...` is written at the end of a document: the next forbidden line behind it is one
+-- whether `...` is written at the end of a document: the next forbidden line after it is one
 pub data EndIsMarked (t : List ℕ) (i : ℕ) : Bool → Type 0 where
   marked_end : {j : ℕ} {cs : List CommentValue} → Prefixes t i j cs → Forbidden t j → code t j ≡ 46 → EndIsMarked t i true
   unmarked_end : ((j : ℕ) (cs : List CommentValue) → Prefixes t i j cs → Forbidden t j → code t j ≡ 46 → ⊥) → EndIsMarked t i false

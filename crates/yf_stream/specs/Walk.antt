@@ -5,12 +5,12 @@ use Rattle.std.specs.Str.{IsCharBoundary}
 use Rattle.yf_stream.specs.declared.documents.Next.{Next}
 use Rattle.yf_stream.specs.declared.documents.Next.TheVariants.{Go, Syntax, TooDeep}
 
--- a place at an offset or behind it
+-- a place at an offset or after it
 pub record Place (t : List ℕ) (at p : ℕ) : Type 0 where
   pub boundary : IsCharBoundary t p
   pub order : at ≤ p
 
--- the reading goes on at the offset or behind it
+-- the reading goes on at the offset or after it
 abbrev pub NextAt : List ℕ → ℕ → Next → Type 0
 NextAt t at (Go spot) = Place t at spot.at
 NextAt t at (Syntax place) = Unit {0}

@@ -37,7 +37,7 @@ abbrev pub declaration_of : List (List ℕ) → Option Declaration
 declaration_of (name ∷ handle ∷ prefix ∷ []) = if bytes_eq name (codes "TAG") then Some (handle, prefix) else None
 declaration_of _ = None
 
--- the declarations behind one more
+-- the declarations after one more
 abbrev pub with_declaration : List Declaration → Option Declaration → List Declaration
 with_declaration ds None = ds
 with_declaration ds (Some d) = if is_declared ds d.0 then ds else ds ++ (d ∷ [])
@@ -52,7 +52,7 @@ abbrev pub declaration_breaches : List Declaration → ℕ → Option Declaratio
 declaration_breaches ds offset None = []
 declaration_breaches ds offset (Some d) = breach_if (is_declared ds d.0) RepeatedDirective offset
 
--- the breaches of a document's directives, behind a YAML directive or none, and behind these declarations
+-- the breaches of a document's directives, after a YAML directive or none, and after these declarations
 abbrev pub directive_breaches : Bool → List Declaration → List Directive → List Breach
 directive_breaches seen ds [] = []
 directive_breaches seen ds (d ∷ rest) =
@@ -100,7 +100,7 @@ abbrev pub alias_breaches : List (List ℕ) → ℕ → Option (List ℕ) → Li
 alias_breaches names offset None = []
 alias_breaches names offset (Some name) = breach_if (not (has_name names name)) UnknownAlias offset
 
--- the breaches of a document's events, with the declarations of its handles, behind these anchors; an anchor has occurred
+-- the breaches of a document's events, with the declarations of its handles, after these anchors; an anchor has occurred
 -- within its own node too
 abbrev pub event_breaches : List Declaration → List (List ℕ) → List Placed → List Breach
 event_breaches ds names [] = []
@@ -128,8 +128,8 @@ pub data Precedes (a b : Breach) : Type 0 where
   same_place : a.offset ≡ b.offset → rank a.kind ≤ rank b.kind → Precedes a b
 
 abbrev pub document_breaches : Document → List Breach
-document_breaches d = directive_breaches false [] d.lines.directives
-    ++ (event_breaches (declarations [] d.lines.directives) [] d.node.events ++ escape_breaches d.node.escapes)
+document_breaches d = directive_breaches false [] d.directives
+    ++ (event_breaches (declarations [] d.directives) [] d.events ++ escape_breaches d.escapes)
 
 -- all breaches of a stream
 abbrev pub breaches : List Document → List Breach

@@ -3,17 +3,17 @@
 //! each escape is a character (section 5.7).
 ghost use Rattle.std.specs.Prelude.{◌≡◌, ◌+◌, ◌<◌, ◌≤◌, length, IfOk};
 
-use indexmap::IndexSet;
+use crate::anchors::Anchors;
+use crate::prefixes::Prefixes;
 use std::alloc::{AllocError, Global};
 use yf_events::directive::Directive;
 use yf_events::document::{Doc, Documents};
-use yf_events::event::{Event, PlacedEvent};
+use yf_events::event::{Event, View};
 use yf_events::events::Events;
 use yf_events::row::Row;
 use yf_lines::fault::Fault;
 use yf_lines::place::Place;
 use yf_lines::text::OwnedText;
-use yf_props::handles::Handles;
 use yf_props::props::{Props, Tag};
 
 /// What does not hold.
@@ -40,14 +40,11 @@ pub(crate) struct Resolved {
     pub(crate) first: Option<Breach>,
 }
 
-// The anchors that have occurred in a document.
-type Anchors<'a> = IndexSet<&'a str>;
-
 /// Resolves all tags, and finds the first breach.
-pub(crate) fn resolve<'a>(
+pub(crate) fn resolve<'e>(
     alloc: Global,
-    events: &Events<'a>,
-    documents: &Documents<'a>,
+    events: &'e Events<'e>,
+    documents: &Documents<'e>,
     escapes: &Row<usize>,
 ) -> Result<Resolved, AllocError>
     ensures { IfOk result (λ r. length r.tags ≡ length events.now) }
@@ -60,7 +57,7 @@ pub(crate) fn resolve<'a>(
     let mut begun = 0;
     let mut at = 0;
     'documents: while at < events.len() {
-        match events.at(at).event {
+        match events.event(at) {
             Event::DocStart { .. } => {
                 at = resolve_document(alloc, events, at, documents.get(begun), &mut resolved)?;
                 begun = begun.saturating_add(1);
@@ -85,13 +82,13 @@ fn first_escape(escapes: &Row<usize>) -> Option<Breach> {
     }
 }
 
-// Resolves the tags of one document, whose start is the event at the index, and gives the index of the event behind the
+// Resolves the tags of one document, whose start is the event at the index, and gives the index of the event after the
 // document.
-fn resolve_document<'a>(
+fn resolve_document<'e>(
     alloc: Global,
-    events: &Events<'a>,
+    events: &'e Events<'e>,
     start: usize,
-    document: Option<&Doc<'a>>,
+    document: Option<&Doc<'e>>,
     resolved: &mut Resolved,
 ) -> Result<usize, AllocError>
     requires start { start < length events.now }
@@ -99,11 +96,11 @@ fn resolve_document<'a>(
     ensures end { IfOk result (λ end. (start < end) × (end ≤ length events.now)) }
     ensures tags { IfOk result (λ end. length resolved.new.tags ≡ end) }
 {
-    let mut handles = Handles::new(alloc);
+    let mut handles = Prefixes::new(alloc);
     if let Some(document) = document {
         declare_all(document.directives.as_slice(), &mut handles, resolved)?;
     }
-    let mut anchors: Anchors = IndexSet::new(alloc);
+    let mut anchors = Anchors::new(alloc);
     resolved.tags.push(None)?;
     let count = events.len();
     let mut at = start + 1;
@@ -143,7 +140,7 @@ fn earlier(first: Option<Breach>, found: Breach) -> Option<Breach> {
 // Declares the handles of a document.
 fn declare_all<'a>(
     directives: &[Directive<'a>],
-    handles: &mut Handles<'a>,
+    handles: &mut Prefixes<'a>,
     resolved: &mut Resolved,
 ) -> Result<(), AllocError>
     ensures { resolved.new.tags ≡ resolved.old.tags }
@@ -162,7 +159,7 @@ fn declare_all<'a>(
                 has_version = true;
             }
             ["TAG", handle, prefix] => {
-                if !declare(handles, handle, prefix)? {
+                if !handles.declare(handle, prefix)? {
                     resolved.keep(offset, Kind::RepeatedDirective);
                 }
             }
@@ -172,28 +169,17 @@ fn declare_all<'a>(
     Ok(())
 }
 
-fn declare<'a>(
-    handles: &mut Handles<'a>,
-    handle: &'a str,
-    prefix: &'a str,
-) -> Result<bool, AllocError> {
-    match handles.declare(handle, prefix) {
-        Ok(is_new) => Ok(is_new),
-        Err(_) => Err(AllocError),
-    }
-}
-
 // Whether the number before the dot is 1.
 fn is_version_one(version: &str) -> bool {
     version.trim_start_matches('0').starts_with("1.")
 }
 
 // The resolved tag of the node that the event begins; its anchor has occurred from now on.
-fn resolve_event<'a>(
+fn resolve_event<'e>(
     alloc: Global,
-    placed: &PlacedEvent<'a>,
-    handles: &Handles<'a>,
-    anchors: &mut Anchors<'a>,
+    placed: View<'e>,
+    handles: &Prefixes<'e>,
+    anchors: &mut Anchors<'e>,
     resolved: &mut Resolved,
 ) -> Result<Option<OwnedText>, AllocError>
     ensures { resolved.new.tags ≡ resolved.old.tags }
@@ -218,19 +204,16 @@ fn resolve_event<'a>(
 
 fn note_anchor<'a>(props: Props<'a>, anchors: &mut Anchors<'a>) -> Result<(), AllocError> {
     if let Some(name) = props.anchor {
-        match anchors.insert(name) {
-            Ok(_) => {}
-            Err(_) => return Err(AllocError),
-        }
+        anchors.insert(name)?;
     }
     Ok(())
 }
 
-fn resolve_tag<'a>(
+fn resolve_tag<'e>(
     alloc: Global,
-    tag: Option<Tag<'a>>,
+    tag: Option<Tag<'e>>,
     offset: Option<usize>,
-    handles: &Handles<'a>,
+    handles: &Prefixes<'e>,
     resolved: &mut Resolved,
 ) -> Result<Option<OwnedText>, AllocError>
     ensures { resolved.new.tags ≡ resolved.old.tags }

@@ -13,14 +13,14 @@ use yf_events::slices::Slices;
 use yf_lines::basic::skip_whites;
 use yf_props::tag::{tag_handle, tag_prefix};
 
-/// The directives of a document, and the offset of the first line behind them and their comments.
+/// The directives of a document, and the offset of the first line after them and their comments.
 #[derive(Debug, Drop)]
 pub(crate) struct DirectiveLines<'a> {
     pub(crate) directives: Directives<'a>,
     pub(crate) end: usize,
 }
 
-// A directive, the comments behind it, and the offset of the first line behind them.
+// A directive, the comments after it, and the offset of the first line after them.
 #[derive(Debug, Drop)]
 struct DirectiveLine<'a> {
     directive: Directive<'a>,
@@ -55,7 +55,7 @@ pub(crate) fn read_directives<'a>(
 }
 
 #[tactic(auto, using(crate::proofs::Forward::line_end_forward))]
-// Reads a directive (l-directive, production 82) and the comments behind it.
+// Reads a directive (l-directive, production 82) and the comments after it.
 fn read_directive<'a>(
     alloc: Global,
     text: &'a str,
@@ -89,7 +89,7 @@ fn read_directive<'a>(
     }
 }
 
-// Reads the parameters of a directive with that name, and gives the offset behind them.
+// Reads the parameters of a directive with that name, and gives the offset after them.
 fn read_parameters<'a>(
     text: &'a str,
     name: &str,
@@ -190,7 +190,7 @@ fn read_reserved<'a>(
     }
 }
 
-// The offset behind all characters that are no whites that stand at the offset.
+// The offset after all characters that are no white space that stands at the offset.
 fn skip_ns_chars(text: &str, at: usize) -> usize
     requires { IsCharBoundary text.now at }
     ensures { Place text.now at result }
@@ -210,7 +210,7 @@ fn skip_ns_chars(text: &str, at: usize) -> usize
     }
 }
 
-// The offset behind all digits that stand at the offset.
+// The offset after all digits that stand at the offset.
 fn skip_digits(text: &str, at: usize) -> usize
     requires { IsCharBoundary text.now at }
     ensures { Place text.now at result }

@@ -14,7 +14,7 @@ use yf_comments::comments::{Comments, Separation};
 use yf_comments::lines::line_end;
 use yf_events::directive::Directives;
 use yf_events::document::{Doc, Documents};
-use yf_events::event::{Event, PlacedEvent, ScalarStyle};
+use yf_events::event::{NewEvent, PlacedEvent, ScalarStyle};
 use yf_events::events::Events;
 use yf_events::reading::DEPTH;
 use yf_events::row::Row;
@@ -84,7 +84,7 @@ impl<'a> Parts<'a> {
     pub(crate) fn push_unplaced(
         &mut self,
         alloc: Global,
-        event: Event<'a>,
+        event: NewEvent<'a>,
     ) -> Result<(), AllocError> {
         self.events.push(PlacedEvent {
             event,
@@ -103,7 +103,7 @@ impl<'a> Parts<'a> {
         explicit: bool,
     ) -> Result<(), AllocError> {
         if spot.is_open {
-            return self.push_unplaced(alloc, Event::DocEnd { explicit });
+            return self.push_unplaced(alloc, NewEvent::DocEnd { explicit });
         }
         Ok(())
     }
@@ -116,7 +116,7 @@ impl<'a> Parts<'a> {
         explicit: bool,
         directives: Directives<'a>,
     ) -> Result<(), AllocError> {
-        self.push_unplaced(alloc, Event::DocStart { explicit })?;
+        self.push_unplaced(alloc, NewEvent::DocStart { explicit })?;
         self.documents.push(Doc { start, directives })
     }
 }
@@ -238,7 +238,7 @@ fn read_suffix<'a>(
     }
 }
 
-// Reads directives and the document behind them (l-directive-document, production 209).
+// Reads directives and the document after them (l-directive-document, production 209).
 fn directive_document<'a>(
     alloc: Global,
     text: &'a str,
@@ -279,7 +279,7 @@ fn explicit_document<'a>(
 }
 
 #[tactic(auto, using(crate::proofs::Forward::line_end_forward))]
-// Reads what is left of the line of a `---` behind which no node stands.
+// Reads what is left of the line of a `---` after which no node stands.
 fn empty_document<'a>(
     alloc: Global,
     text: &'a str,
@@ -295,7 +295,7 @@ fn empty_document<'a>(
             parts.comments.append(comments)?;
             parts.push_unplaced(
                 alloc,
-                Event::Scalar {
+                NewEvent::Scalar {
                     props: Props {
                         anchor: None,
                         tag: None,
@@ -345,7 +345,7 @@ fn take_node<'a>(found: Found<'a>, parts: &mut Parts<'a>) -> Result<Spot, AllocE
     Ok(behind_node(end, floor, reached))
 }
 
-// Behind a document's root node another document needs a `---`, or a `...` before it.
+// After a document's root node another document needs a `---`, or a `...` before it.
 fn behind_node(at: usize, floor: usize, reached: usize) -> Spot
     ensures { result.at ≡ at }
 {

@@ -4,7 +4,6 @@ ghost use Rattle.std.specs.Prelude.{◌≡◌, length, IfOk};
 use std::alloc::{AllocError, Global};
 use yf_comments::comment::Comment;
 use yf_comments::comments::Comments;
-use yf_events::event::PlacedEvent;
 use yf_events::events::Events;
 use yf_events::leaves::begins_leaf;
 use yf_events::row::Row;
@@ -33,26 +32,25 @@ pub(crate) fn on_leaf_lines(
     };
     'comments: while notes.len() < comments.len() {
         let comment = comments.at(notes.len());
-        seen = leaves_before(events.as_slice(), comment.offset, seen);
+        seen = leaves_before(events, comment.offset, seen);
         notes.push(ends_on_line(text, seen.leaf_end, comment))?;
     }
     Ok(notes)
 }
 
 // Goes on to the last leaf that begins before the offset.
-fn leaves_before(events: &[PlacedEvent], offset: usize, seen: Seen) -> Seen {
+fn leaves_before(events: &Events, offset: usize, seen: Seen) -> Seen {
     let mut at = seen.events;
     let mut leaf_end = seen.leaf_end;
     'events: while at < events.len() {
-        let placed = &events[at];
-        if let Some(span) = placed.span {
+        if let Some(span) = events.span(at) {
             if offset <= span.start {
                 return Seen {
                     events: at,
                     leaf_end,
                 };
             }
-            if begins_leaf(&placed.event, &events[at + 1..]) {
+            if begins_leaf(events, at) {
                 leaf_end = Some(span.end);
             }
         }

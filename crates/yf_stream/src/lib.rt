@@ -1,10 +1,10 @@
 //! Whole streams (YAML 1.2.2, chapter 9): documents, their markers and directives, and what must hold in each of them.
 #![tactic(auto)]
 
+mod anchors;
 mod breaches;
 mod directives;
 mod documents;
 mod leaf_lines;
+mod prefixes;
 pub mod stream;
-#[cfg(test)]
-mod tests;

@@ -2,13 +2,14 @@
 ghost use Rattle.std.specs.Prelude.{◌≡◌, ◌+◌, ◌-◌, ◌<◌, ◌≤◌, length, IfErr, IfOk, MatchResult};
 ghost use Rattle.std.specs.Str.{IsCharBoundary};
 ghost use Rattle.yf_events.specs.Reading.{Fits};
-ghost use Rattle.yf_stream.specs.Refusal.{InText, IsStreamFault};
+ghost use Rattle.yf_lines.specs.FaultPlaces.{InText};
+ghost use Rattle.yf_stream.specs.Refusal.{IsStreamFault};
 
 use crate::breaches::{Breach, Kind, Resolved, resolve};
 use crate::documents::{Next, Parts, Spot, read_next, skip_prefix};
 use crate::leaf_lines::on_leaf_lines;
 use std::alloc::{AllocError, Global};
-use yf_events::event::Event;
+use yf_events::event::NewEvent;
 use yf_events::lists::Lists;
 use yf_events::reading::Reading;
 use yf_lines::fault::Fault;
@@ -92,6 +93,17 @@ fn read_lists<'a>(alloc: Global, text: &'a str) -> Result<Result<Lists<'a>, Refu
     if let Some(refusal) = read_documents(alloc, text, &mut parts)? {
         return Ok(Err(refusal));
     }
+    noted_lists(alloc, text, parts)
+}
+
+// The lists of the parts with resolved tags and the notes of comments, or the first breach.
+fn noted_lists<'a>(
+    alloc: Global,
+    text: &'a str,
+    parts: Parts<'a>,
+) -> Result<Result<Lists<'a>, Refusal>, AllocError>
+    ensures { IfOk result (λ r. IfOk r (λ lists. Fits lists)) }
+{
     let Parts {
         events,
         comments,
@@ -119,7 +131,7 @@ fn read_documents<'a>(
     text: &'a str,
     parts: &mut Parts<'a>,
 ) -> Result<Option<Refusal>, AllocError> {
-    parts.push_unplaced(alloc, Event::StreamStart)?;
+    parts.push_unplaced(alloc, NewEvent::StreamStart)?;
     let mut spot = Spot {
         at: 0,
         floor: 0,
@@ -131,7 +143,7 @@ fn read_documents<'a>(
         spot = skip_prefix(alloc, text, spot, parts)?;
         if spot.at == text.len() {
             parts.close(alloc, spot, false)?;
-            parts.push_unplaced(alloc, Event::StreamEnd)?;
+            parts.push_unplaced(alloc, NewEvent::StreamEnd)?;
             return Ok(None);
         }
         match read_next(alloc, text, spot, parts)? {

@@ -1,4 +1,4 @@
-use Rattle.std.proofs.Common.{arith, ◌≡◌, map}
+use Rattle.std.proofs.Common.{arith}
 use Rattle.yf_emit.proofs.IndexLemmas.{between_is}
 use Rattle.yf_emit.proofs.decide.comment_between.Goals as goal
 

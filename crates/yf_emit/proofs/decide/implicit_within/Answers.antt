@@ -7,8 +7,9 @@ use Rattle.yf_emit.proofs.decide.implicit_within.Goals as goal
 
 pub returns : goal.returns
 returns c = record {
-  is = λ s ds trees placed.
-      let forms = c.in_ok-forms.ensures.are s c.args.src.now.text (setting_of c.args.reading.now c.args.style.now) ds trees placed (c.in_ok-measures.ensures s) in
+  is = λ w.
+      let forms = c.in_ok-forms.ensures.are w.comments c.args.src.now.text (setting_of c.args.reading.now c.args.style.now) w.trees w.of_reading w.placed
+      (c.in_ok-measures.ensures w.comments) in
       ap (λ (f : Form). f.is_implicit) (c.at.ensures ∙ ap (λ fs. get_or fs c.args.i no_form) forms)
-      ∙ implicit_there c.args.src.now.text c.args.reading.now c.args.style.now ds c.args.i;
+      ∙ implicit_there c.args.src.now.text c.args.reading.now c.args.style.now w.trees c.args.i;
 }

@@ -1,4 +1,4 @@
-use Rattle.std.proofs.Common.{◌≡◌, ◌≤◌, ◌+◌, arith, length}
+use Rattle.std.proofs.Common.{◌≤◌, ◌+◌, arith, length}
 use Rattle.yf_emit.proofs.OneLineRuns.{run_step, run_end, run_past}
 use Rattle.yf_emit.proofs.kept.push_between.Goals as goal
 

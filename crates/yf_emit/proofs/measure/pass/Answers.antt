@@ -1,12 +1,10 @@
-use Rattle.std.proofs.Common.{subst}
-use Rattle.std.specs.Str.{IsUtf8}
 use Rattle.std.proofs.lemmas.Str.{is_utf8-from_IsUtf8}
 use Rattle.yf_emit.proofs.StepLemmas.{both_texts}
 use Rattle.yf_emit.proofs.measure.pass.Goals as goal
 
 pub returns-in-Scalar-clause-utf8 : goal.returns-in-Scalar-clause-utf8
 returns-in-Scalar-clause-utf8 c =
-    rw c.in-Scalar.is (both_texts _ _ c.scalar-node.ensures.utf8.0 (subst (λ w. IsUtf8 w) c.as_str.ensures c.scalar-node.ensures.utf8.1))
+    rw c.in-Scalar.is (both_texts _ _ c.scalar-node.ensures.utf8.0 c.scalar-node.ensures.utf8.1)
 
 pub returns-in-Alias-clause-utf8 : goal.returns-in-Alias-clause-utf8
 returns-in-Alias-clause-utf8 c = rw c.in-Alias.is (is_utf8-from_IsUtf8 c.in-Alias.name.now c.alias-node.ensures.utf8)

@@ -1,5 +1,5 @@
-use Rattle.std.proofs.Common.{◌≡◌, ◌<◌, length, ◌∙◌, sym, refl, arith}
-use Rattle.yf_events.specs.Event.{placed_value}
+use Rattle.std.proofs.Common.{◌≡◌, ◌∙◌, sym, refl}
+use Rattle.yf_events.specs.Event.{view_value}
 use Rattle.yf_emit.specs.NormalEvents.{is_flow_at, kept_until}
 use Rattle.yf_emit.proofs.NormalLemmas.{pass_step}
 use Rattle.yf_emit.proofs.normal.normal_events.Goals as goal
@@ -22,10 +22,8 @@ flow_now c = elim c.if-is_leaf.branch [
 
 pub loop-i-preserved : goal.loop-i-preserved
 loop-i-preserved c =
-    let x = c.index-events-i.result in
     let m = c.at-measure.result in
-    let l : c.loop-i.i < length c.args.events.now = omega (arith, c.loop-i-test.true) in
     rw c.in_ok-push.ensures
-    (pass_step c.args.style.now.quotes c.args.measures.now c.args.forms.now placed_value c.args.events.now c.loop-i.i c.loop-i.kept_until
-    c.if-at.kept_until x m c.at.result c.if-is_leaf.flow c.loop-i.normal _ l c.index-events-i.is c.at-measure.ensures c.at.ensures
+    (pass_step c.args.style.now.quotes c.args.measures.now c.args.forms.now c.args.events.now c.loop-i.i c.loop-i.kept_until
+    c.if-at.kept_until (view_value c.at-in-loop-i.result) m c.at.result c.if-is_leaf.flow c.loop-i.normal _ c.at-in-loop-i.ensures c.at-measure.ensures c.at.ensures
     (until_now c) (flow_now c) c.in_ok-normal_placed.ensures ∙ c.loop-i.invariant)

@@ -11,7 +11,7 @@ events_are : (c : goal.After-drop-measures-inside-2) → c.in_ok-normal_events.f
     ≡ normal_from c.args.style.now.quotes c.in_ok-measures.measures 0 0 c.in_ok-forms.forms c.args.reading.now.events
 events_are c =
     c.in_ok-normal_events.ensures
-    ∙ ap (normal_from c.args.style.now.quotes c.in_ok-measures.measures 0 0 c.in_ok-forms.forms) (c.as_slice.ensures ∙ ap (λ w. w.events) c.lists-lists.ensures.same)
+    ∙ ap (λ w. normal_from c.args.style.now.quotes c.in_ok-measures.measures 0 0 c.in_ok-forms.forms w.events) c.lists-lists.ensures.same
 
 is_restyled : (c : goal.After-drop-measures-inside-2) → IsRestyled c.args.style.now.quotes c.args.reading.now (record {
   events = c.in_ok-normal_events.field-0;
@@ -24,11 +24,11 @@ is_restyled : (c : goal.After-drop-measures-inside-2) → IsRestyled c.args.styl
 is_restyled c =
     let same = c.lists-lists.ensures.same in
     restyled_whole c.args.reading.now _ (rw (events_are c) (pass_restyles c.args.style.now.quotes c.in_ok-measures.measures 0 0 c.in_ok-forms.forms c.args.reading.now.events))
-    (c.in_ok-copied_tags.ensures ∙ c.as_slice-2.ensures ∙ ap (λ w. w.resolved) same)
-    (c.in_ok-copied_comments.ensures ∙ c.as_slice-3.ensures ∙ ap (λ w. w.comments) same)
-    (c.in_ok-copied_notes.ensures ∙ c.as_slice-4.ensures ∙ ap (λ w. w.on_leaf_line) same)
-    (c.in_ok-copied_documents.ensures ∙ c.as_slice-5.ensures ∙ ap (λ w. w.documents) same)
-    (c.in_ok-copied_offsets.ensures ∙ c.as_slice-6.ensures ∙ ap (λ w. w.escapes) same)
+    (c.in_ok-copied_tags.ensures ∙ c.as_slice.ensures ∙ ap (λ w. w.resolved) same)
+    (c.in_ok-copied_comments.ensures ∙ c.as_slice-2.ensures ∙ ap (λ w. w.comments) same)
+    (c.in_ok-copied_notes.ensures ∙ c.as_slice-3.ensures ∙ ap (λ w. w.on_leaf_line) same)
+    (c.in_ok-copied_documents.ensures ∙ c.as_slice-4.ensures ∙ ap (λ w. w.documents) same)
+    (c.in_ok-copied_offsets.ensures ∙ c.as_slice-5.ensures ∙ ap (λ w. w.escapes) same)
 
 pub returns-clause-restyled : goal.returns-clause-restyled
 returns-clause-restyled c = is_restyled c
@@ -40,7 +40,7 @@ pub returns-clause-nested : goal.returns-clause-nested
 returns-clause-nested c = still_stream DEPTH (is_restyled c) c.lists-lists.ensures.nested
 
 pub returns-clause-is_normal : goal.returns-clause-is_normal
-returns-clause-is_normal c ds o p a =
-    let m = c.in_ok-measures.ensures a in
-    normal_reading c.args.src.now.text c.args.reading.now _ c.args.style.now c.in_ok-measures.measures c.in_ok-forms.forms ds o m
-    (c.in_ok-forms.ensures.are a c.args.src.now.text _ ds o p m) (events_are c) (is_restyled c).rest
+returns-clause-is_normal c w =
+    let m = c.in_ok-measures.ensures w.comments in
+    normal_reading c.args.src.now.text c.args.reading.now _ c.args.style.now c.in_ok-measures.measures c.in_ok-forms.forms w.trees w.of_reading m
+    (c.in_ok-forms.ensures.are w.comments c.args.src.now.text _ w.trees w.of_reading w.placed m) (events_are c) (is_restyled c).rest

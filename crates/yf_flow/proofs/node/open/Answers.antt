@@ -1,5 +1,4 @@
-use Rattle.std.proofs.Common.{[], refl, sym, append-nil, arith}
-use Rattle.yf_flow.specs.Leaves.{no_escapes}
+use Rattle.std.proofs.Common.{refl, sym, append-nil, arith}
 use Rattle.yf_flow.proofs.BegunLemmas.{start_event}
 use Rattle.yf_flow.proofs.node.open.Goals as goal
 
@@ -14,8 +13,6 @@ returns-clause-exact c = record {
   added = record {
     events = start_event c.args.lead c.args.kind _ _ _ _ _ c.in_ok-push.ensures c.placed.ensures c.collection_start-start.ensures;
     comments = sym (append-nil _);
-    kept = [];
-    firsts = no_escapes;
     escapes = sym (append-nil _);
   };
 }

@@ -1,4 +1,5 @@
-use Rattle.std.proofs.Common.{◌-◌, ◌≤◌, length, IfSome}
+use Rattle.std.proofs.Common.{◌-◌, ◌≤◌, length}
+use Rattle.std.specs.List.{All}
 use Rattle.std.specs.Str.{IsCharBoundary}
 use Rattle.std.specs.String.{string_bytes}
 use Rattle.yf_quoted.proofs.ReadLemmas.{SoFar}
@@ -9,7 +10,7 @@ invariant-chars l = record {
   read : SoFar l.s l.width l.at l.end (string_bytes l.text) l.bad;
   boundary : IsCharBoundary l.s l.end;
   order : l.fn.at ≤ l.end;
-  place : IfSome l.bad (λ b. IsCharBoundary l.s b);
+  place : All (IsCharBoundary l.s) l.bad;
 }
 
 abbrev pub decreases-chars : goal.decreases-chars

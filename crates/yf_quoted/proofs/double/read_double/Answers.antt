@@ -5,7 +5,7 @@ use Rattle.yf_quoted.proofs.double.read_double.Goals as goal
 
 pub returns-in-Ok-Some-clause-refused : goal.returns-in-Ok-Some-clause-refused
 returns-in-Ok-Some-clause-refused c =
-    fault_from (rw c.in-Ok-Some.field-0-is at c.in-Ok-Some.ensures.reads) c.text.ensures (to_z-of_z c.ranges.n) (rw c.in-Ok-Some.field-0-is at c.in-Some.is) c.place.ensures.place
+    fault_from (rw c.in-Ok-Some.field-0-is at c.in-Ok-Some.ensures.reads) c.text.ensures (to_z-of_z c.ranges.n) (rw c.in-Some.is at c.first.ensures).1 c.place.ensures.place
 
 pub returns-clause-refused : goal.returns-clause-refused
 returns-clause-refused c = for_memory

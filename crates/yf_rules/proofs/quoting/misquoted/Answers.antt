@@ -3,7 +3,6 @@ use denote.Enum.Bare.{sameb}
 use Rattle.yf_events.specs.contracts.event.ScalarStyle.{the_type}
 use Rattle.yf_events.specs.declared.event.ScalarStyle.{ScalarStyle}
 use Rattle.yf_events.specs.declared.event.ScalarStyle.TheVariants.{Plain, Single, Double, Literal, Folded}
-use Rattle.yf_lines.specs.Text.{text_bytes}
 use Rattle.yf_props.specs.Props.{props_value}
 use Rattle.yf_rules.proofs.MarkPassLemmas.{scalar_event}
 use Rattle.yf_rules.proofs.StyleLemmas.{misquoted_read}
@@ -21,7 +20,7 @@ returns-in-Some c =
     let w = c.in-Scalar in
     let z : c.eq.result ≡ sameb the_type c.wanted_of.result w.written = c.eq.ensures in
     let n : c.wanted_of.result ≡ w.written → ⊥ = λ e. true≢false (sym (z ∙ ap (λ v. sameb the_type v w.written) e ∙ alike w.written) ∙ c.if-eq.false) in
-    misquoted_read c.args.src.now.text c.text.result.now c.args.reading.now c.args.style.now c.args.i (props_value w.props) w.written c.wanted_of.result (text_bytes w.text)
-    c.as_str.result.now c.in-Some.span c.content_start.result c.text.ensures
-    (scalar_event c.args.reading.now c.args.i c.event.result.now w.props w.written w.text c.event.ensures w.is) c.as_str.ensures c.wanted_of.ensures n c.in-Some.ensures
+    misquoted_read c.args.src.now.text c.text.result.now c.args.reading.now c.args.style.now c.args.i (props_value w.props) w.written c.wanted_of.result w.text.now
+    w.text.now c.in-Some.span c.content_start.result c.text.ensures
+    (scalar_event c.args.reading.now c.args.i c.event.result w.props w.written w.text c.event.ensures w.is) refl c.wanted_of.ensures n c.in-Some.ensures
     c.content_start.ensures

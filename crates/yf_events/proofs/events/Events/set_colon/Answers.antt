@@ -1,19 +1,19 @@
-use Rattle.std.proofs.Common.{◌≡◌, ◌≤◌, length, map, ap, sym, refl, ◌∙◌, subst, arith}
-use Rattle.yf_events.specs.Edit.{edited, coloned}
-use Rattle.yf_events.specs.Event.{placed_value}
-use Rattle.yf_events.proofs.EditLemmas.{edited_set, edited_past, length-values}
+use Rattle.std.proofs.Common.{ap, sym, ◌∙◌, refl, arith}
+use Rattle.yf_events.specs.Edit.{coloned, with_colon}
+use Rattle.yf_events.specs.Packed.{entry_at, row_value}
+use Rattle.yf_events.proofs.PackedRows.{edited_seen, keyed_is, fits_set, past_seen}
 use Rattle.yf_events.proofs.events.Events.set_colon.Goals as goal
+
+pub invariant_of-self : goal.invariant_of-self
+invariant_of-self c =
+    fits_set _ c.self.inside.rows.items c.args.i c.index_mut-row.result.now _ (omega (arith, c.self.inside.rows.ok.0)) c.index_mut-row.ensures.value refl c.self.invariant
 
 pub returns-then-i-len-clause-edited : goal.returns-then-i-len-clause-edited
 returns-then-i-len-clause-edited c =
-    let v = c.self.inside.list in
-    let f = coloned c.args.colon in
-    edited_set f v.items c.args.i c.index_mut-event.result.now _ (omega (arith, v.ok.0)) c.index_mut-event.ensures.value (ap (λ s. record (placed_value c.index_mut-event.result.now) { entry = s }) c.with_colon-event.ensures)
-    ∙ ap (edited f c.args.i) c.self.view_is
+    edited_seen _ (coloned c.args.colon) c.self.inside.rows.items _ c.args.i c.index_mut-row.result.now _ (omega (arith, c.self.inside.rows.ok.0)) c.index_mut-row.ensures.value
+    (ap (λ x. record (row_value c.self.inside.more.items c.index_mut-row.result.now) { entry = x }) (ap (λ b. entry_at b c.index_mut-row.result.now.entry c.in_ok-colon.colon) c.keyed-row.ensures ∙ keyed_is c.index_mut-row.result.now.begins c.index_mut-row.result.now.entry c.index_mut-row.result.now.colon c.in_ok-colon.colon ∙ ap (λ k. with_colon k (entry_at c.index_mut-row.result.now.begins c.index_mut-row.result.now.entry c.index_mut-row.result.now.colon)) (c.in_ok-colon.ensures)))
+    c.self.view_is
 
 pub returns-else-i-len-clause-edited : goal.returns-else-i-len-clause-edited
 returns-else-i-len-clause-edited c =
-    let v = c.self.inside.list in
-    let f = coloned c.args.colon in
-    let past : length (map placed_value v.items) ≤ c.args.i = omega (arith, v.ok.0, length-values v.items) in
-    subst (λ w. w ≡ edited f c.args.i w) c.self.view_is (sym (edited_past f (map placed_value v.items) c.args.i past))
+    past_seen _ (coloned c.args.colon) c.self.inside.rows.items _ c.args.i (omega (arith, c.self.inside.rows.ok.0)) c.self.view_is

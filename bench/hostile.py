@@ -1,0 +1,362 @@
+#!/usr/bin/env python3
+"""Runs yamlfmt on texts that are made to be slow or to take memory, and fails where one does.
+
+Usage: bench/hostile.py [--program PROGRAM] [--list] [NAME..]
+
+PROGRAM is the one that ./yamlfmt builds unless another is named; build it first. With NAMEs, only those shapes. Run by hand,
+not part of rt ci; what is known of the shapes stands in docs/HOSTILE.md. Each shape is a text of a size; each of the three
+verbs is timed (in processor seconds) at a size, at twice and at four times that. It is a fault where the time grows more than
+2.5-fold twice in a row, where more bytes of memory are taken a byte of input than LIMIT says, where a run takes more than two
+minutes, or where it ends with a signal or with another status than 0, 1 and 2.
+"""
+import os
+import subprocess
+import sys
+import tempfile
+import time
+
+TOP = os.path.dirname(os.path.dirname(os.path.abspath(__file__)))
+
+VERBS = ('events', 'check', 'fmt')
+
+# Bytes of memory a byte of input.
+LIMIT = {'events': 700, 'check': 700, 'fmt': 1500}
+
+RATIO = 2.5
+
+# Each shape by its name: a function from a number of bytes to a text of about that size.
+SHAPES = {}
+
+
+def shape(name, make):
+    assert name not in SHAPES, name
+    SHAPES[name] = make
+
+
+def repeated(name, part, front='', end=''):
+    """The part over and over."""
+    shape(name, lambda n: front + part * (max(1, n // len(part.encode()))) + end)
+
+
+def numbered(name, part, front='', end=''):
+    """A part with a number in it, which counts up."""
+    width = len(part % 1000000)
+
+    def make(n):
+        return front + ''.join(part % (1000000 + i) for i in range(max(1, n // width))) + end
+
+    shape(name, make)
+
+
+def documents(name, body):
+    """A document over and over."""
+    repeated(name, body + '\n---\n')
+
+
+INDICATORS = {
+    'dash': '-', 'question': '?', 'colon': ':', 'comma': ',', 'open-bracket': '[', 'close-bracket': ']', 'open-brace': '{',
+    'close-brace': '}', 'hash': '#', 'ampersand': '&', 'star': '*', 'bang': '!', 'bar': '|', 'greater': '>', 'quote': "'",
+    'double-quote': '"', 'percent': '%', 'at': '@', 'backtick': '`', 'dot': '.', 'tilde': '~',
+}
+for word, sign in INDICATORS.items():
+    repeated('run-of-' + word, sign)
+    repeated('spaced-' + word, sign + ' ')
+    repeated('lines-of-' + word, sign + '\n')
+    repeated('keys-with-' + word, 'k: ' + sign + '\n')
+    repeated('indented-' + word, '  ' + sign + ' a\n', 'k:\n')
+
+# Deep nesting, below the limit of 1,024 open collections and at it.
+documents('deep-flow-sequences', '[' * 1000 + ']' * 1000)
+documents('deep-flow-mappings', '{a: ' * 1000 + '}' * 1000)
+documents('deep-flow-keys', '{? ' * 1000 + '}' * 1000)
+documents('deep-single-pairs', '[a: ' * 500 + ']' * 500)
+documents('deep-flow-both', '[{a: ' * 500 + '}]' * 500)
+documents('deep-flow-open', '[' * 1000)
+documents('deep-dashes', '- ' * 1000 + 'a')
+documents('deep-questions', '? ' * 1000 + 'a')
+documents('deep-questions-empty', '? ' * 1000)
+documents('deep-colons', ': ' * 1000 + 'a')
+documents('deep-compact-both', '- ? ' * 500 + 'a')
+documents('deep-lines-of-dashes', '\n'.join(' ' * i + '-' for i in range(500)))
+documents('deep-lines-of-keys', '\n'.join(' ' * i + 'k:' for i in range(500)))
+documents('deep-lines-of-questions', '\n'.join(' ' * i + '?' for i in range(500)))
+documents('deep-lines-both', '\n'.join(' ' * i + ('- ' if i % 2 else '? ') + 'k:' for i in range(400)))
+documents('deep-properties', '\n'.join(' ' * i + '- &a !b' for i in range(300)))
+documents('deep-flow-in-block', '- ' * 500 + '[' * 500 + ']' * 500)
+documents('deep-refused', '[' * 1025)
+documents('deep-quoted-keys', '{"a": ' * 1000 + '}' * 1000)
+repeated('wide-flow-sequences', '[], ', '[', ']')
+repeated('wide-flow-pairs', 'a: b, ', '{', '}')
+repeated('wide-single-pairs', 'a: b, ', '[', ']')
+repeated('wide-nested-flow', '[a, {b: c}], ', '[', ']')
+repeated('wide-flow-lines', 'a,\n ', '[', ']')
+repeated('wide-flow-comments', 'a, # c\n ', '[', ']')
+repeated('wide-flow-empties', ', ', '{a', '}')
+repeated('flow-never-closed', '[a, ')
+repeated('flow-mapping-never-closed', '{a: b, ')
+repeated('flow-lines-never-closed', '- [a\n')
+
+# Block scalars.
+repeated('literal-without-content', 'k: |\n')
+repeated('folded-without-content', '- >\n')
+repeated('digit-without-content', 'k: |9\n')
+repeated('keep-without-content', 'k: |+\n\n')
+repeated('documents-of-literals', '--- |\n')
+repeated('short-literals', '- |\n  a\n')
+repeated('short-folded', '- >\n  a\n  b\n')
+repeated('literal-lines', '  a\n', 'k: |\n')
+repeated('literal-blank-lines', '\n', 'k: |\n', '  a\n')
+repeated('literal-kept-tail', '\n', 'k: |+\n  a\n')
+repeated('literal-spaces', '  \n', 'k: |\n', '  a\n')
+repeated('literal-long-line', 'a', 'k: |\n  ')
+repeated('literal-marks', '  \ufeff\n', 'k: |\n')
+repeated('folded-lines', '  a\n', 'k: >\n')
+repeated('folded-more-indented', '  a\n   b\n', 'k: >\n')
+repeated('folded-blank-lines', '  a\n\n', 'k: >\n')
+repeated('folded-tabs', '  \ta\n', 'k: >\n')
+repeated('literal-comments', '- | # c\n')
+repeated('literal-then-comments', '# c\n', '- |\n  a\n')
+shape('literal-ascending', lambda n: 'k: |\n' + '\n'.join(' ' * (1 + i % 1000) + 'a' for i in range(max(2, n // 500))))
+
+# Comments.
+repeated('comments', '# c\n')
+repeated('comments-after-items', '- a # c\n')
+repeated('comments-between-keys', 'k: v\n\n# c\n')
+repeated('comments-indented', '        # c\n', '- a\n')
+repeated('comments-after-keys', 'k: # c\n  v\n')
+repeated('comments-in-properties', '- &a # c\n  !b # c\n  x\n')
+repeated('comments-at-end', '# c\n', 'k:\n  - a\n')
+repeated('comment-long', 'c', '# ')
+repeated('comment-of-hashes', '# ', '# ')
+
+# Documents and directives.
+repeated('documents-empty', '---\n')
+repeated('documents-short', '--- a\n')
+repeated('documents-ends', '...\n')
+repeated('documents-both', '---\n...\n')
+repeated('documents-versions', '%YAML 1.2\n---\n...\n')
+repeated('documents-tags', '%TAG !e! tag:e,2000:\n---\n!e!a b\n...\n')
+repeated('documents-comments', '--- # c\n')
+repeated('directives-reserved', '%FOO a b\n', '', '---\na\n')
+repeated('directives-words', 'a ', '%FOO ', '\n---\na\n')
+repeated('directives-repeated', '%TAG ! tag:a\n', '', '---\na\n')
+numbered('directives-handles', '%%TAG !e%d! tag:a\n', '', '---\n!e1000000!a b\n')
+numbered('directives-handles-used', '%%TAG !e%d! tag:a\n', '', '---\n' + '- !e1000000!a b\n' * 1000)
+repeated('directive-never-ends', '%FOO a\n')
+repeated('markers-in-scalars', ' ---\n', 'a\n')
+
+# Keys.
+numbered('keys', 'k%d: v\n')
+repeated('keys-repeated', 'k: v\n')
+numbered('keys-flow', 'k%d: v, ', '{', '}')
+numbered('keys-explicit', '? k%d\n: v\n')
+numbered('keys-quoted', '"k%d": v\n')
+numbered('keys-tagged', '!t k%d: v\n')
+numbered('keys-nested', 'k%d:\n  a: b\n')
+repeated('keys-empty', ': a\n')
+repeated('keys-only', 'k:\n')
+repeated('keys-of-flow', '[a, b]: c\n')
+repeated('keys-of-aliases', '*a : b\n', 'x: &a y\n')
+repeated('keys-long', 'k' * 1000 + ': v\n')
+repeated('keys-too-long', 'k' * 1100 + ': v\n')
+repeated('keys-never', 'k' * 1000 + '\n')
+repeated('keys-flow-too-long', 'k' * 1100 + ': v, ', '{', '}')
+repeated('keys-flow-never', '"k", ' , '[', ']')
+repeated('keys-quoted-long', '"' + 'k' * 1000 + '": v\n')
+repeated('key-one-line', 'a: b: c ')
+repeated('key-spaces', ' ', 'a', ': b\n')
+repeated('key-then-blanks', '\n', 'k:', '  v\n')
+
+# Anchors, aliases, tags.
+numbered('anchors', '- &a%d x\n')
+repeated('anchors-alike', '- &a x\n')
+repeated('aliases', '- *a\n', '- &a x\n')
+numbered('aliases-own', '- &a%d x\n- *a1000000\n')
+repeated('aliases-unknown', '- *a\n')
+repeated('alias-long', 'a', '- &b x\n- *')
+repeated('anchor-long', 'a', '- &', ' x\n')
+repeated('anchors-on-empties', '- &a\n')
+repeated('anchors-on-keys', '&a k: &b v\n')
+repeated('tags', '- !a x\n')
+repeated('tags-of-schemas', '- !!str x\n')
+repeated('tags-verbatim', '- !<tag:e.com,2000:t> x\n')
+repeated('tags-alone', '- !\n')
+repeated('tags-unknown', '- !e!a x\n')
+repeated('tag-long', 'a', '- !', ' x\n')
+repeated('tag-percent', '%41', '- !', ' x\n')
+repeated('tag-percent-bad', '%FF', '- !', ' x\n')
+shape('tag-prefix-long', lambda n: '%TAG !e! tag:' + 'x' * (n // 2) + '\n---\n' + '- !e!a\n' * (n // 14))
+repeated('properties-only', '&a !b ')
+
+# Marks, breaks, white space.
+repeated('marks', '\ufeff')
+repeated('marks-then-text', '\ufeff', '', 'a\n')
+repeated('marks-on-lines', '\ufeff\n')
+repeated('marks-on-documents', '\ufeff---\n')
+repeated('marks-on-comments', '\ufeff# c\n')
+repeated('marks-in-text', 'a\ufeff', '- ')
+repeated('marks-on-keys', '\ufeffk: v\n')
+repeated('breaks', '\n')
+repeated('breaks-returns', '\r')
+repeated('breaks-both', '\r\n')
+repeated('breaks-after-text', '\n', 'a')
+repeated('breaks-between-items', '- a\n\n\n')
+repeated('returns-between-items', '- a\r\n')
+repeated('spaces', ' ')
+repeated('spaces-on-lines', '  \n')
+repeated('tabs', '\t')
+repeated('tabs-on-lines', '\t\n')
+repeated('tabs-after-dashes', '-\t')
+repeated('spaces-after-text', ' ', 'a')
+repeated('spaces-at-line-ends', '- a   \n')
+repeated('spaces-indented', ' ', '- a\n')
+shape('indents-ascending', lambda n: '\n'.join(' ' * (i % 1000) for i in range(max(2, n // 500))))
+
+# Quotes and plain scalars, long lines and many lines.
+repeated('single-never-closed', 'a', "'")
+repeated('double-never-closed', 'a', '"')
+repeated('single-lines-never-closed', 'a\n', "'")
+repeated('double-lines-never-closed', 'a\n', '"')
+repeated('double-opened-on-each-line', '- "a\n')
+repeated('single-opened-on-each-line', "- 'a\n")
+repeated('single-long', 'a', "'", "'")
+repeated('double-long', 'a', '"', '"')
+repeated('single-quotes', "''", "'", "'")
+repeated('double-escapes', '\\x41', '"', '"')
+repeated('double-wide-escapes', '\\U0001F600', '"', '"')
+repeated('double-surrogates', '\\ud83d\\ude00', '"', '"')
+repeated('double-bad-escapes', '\\ud83d', '"', '"')
+repeated('double-unknown-escapes', '\\q', '"', '"')
+repeated('double-backslashes', '\\\\', '"', '"')
+repeated('double-line-escapes', 'a\\\n', '"', '"')
+repeated('double-lines', ' a\n', '"', '"')
+repeated('double-blank-lines', '\n', '"a', '"')
+repeated('double-control', '\\0', '"', '"')
+repeated('single-lines', ' a\n', "'", "'")
+repeated('single-blank-lines', '\n', "'a", "'")
+repeated('single-spaces', ' ', "'", "'")
+repeated('double-spaces', ' ', '"', '"')
+repeated('quoted-items', '- "a"\n- \'b\'\n')
+repeated('plain-long', 'a')
+repeated('plain-words', 'a b ')
+repeated('plain-lines', 'a\n')
+repeated('plain-lines-in-items', '- a\n  b\n  c\n')
+repeated('plain-blank-lines', '\n', 'a\n', 'b\n')
+repeated('plain-spaces', ' ', 'a', 'b\n')
+repeated('plain-colons', 'a:')
+repeated('plain-hashes', 'a#')
+repeated('plain-dashes', '-a')
+repeated('plain-flow-signs', 'a,]}')
+repeated('plain-wide', '\U0001F600')
+repeated('plain-in-flow', 'a ', '[', ']')
+repeated('plain-lines-in-flow', 'a\n ', '[', ']')
+repeated('items', '- a\n')
+repeated('items-empty', '-\n')
+repeated('items-long', '- ' + 'a' * 2000 + '\n')
+repeated('items-in-keys', 'k:\n- a\n')
+repeated('mixed-refused-late', '- a\n', '', 'b: c: d\n')
+
+
+def run(program, verb, path):
+    """Processor seconds, peak of resident memory in bytes, and the status (None where it took too long)."""
+    with open(path, 'rb') as source:
+        child = subprocess.Popen([program, verb], stdin=source, stdout=subprocess.DEVNULL, stderr=subprocess.DEVNULL)
+        deadline = time.monotonic() + 120
+        while True:
+            pid, status, usage = os.wait4(child.pid, os.WNOHANG)
+            if pid:
+                return usage.ru_utime + usage.ru_stime, usage.ru_maxrss * 1024, os.waitstatus_to_exitcode(status)
+            if time.monotonic() > deadline:
+                child.kill()
+                os.wait4(child.pid, 0)
+                return 120.0, 0, None
+            time.sleep(0.002)
+
+
+class Measure:
+    def __init__(self, program, folder):
+        self.program, self.folder = program, folder
+        self.faults, self.rows = [], []
+        self.base = 0
+        self.base = self.at(lambda n: '', 'events', 0)[1]
+
+    def at(self, make, verb, size, times=1):
+        """Seconds (the least of so many runs), bytes above those of an empty input, the status, and the size of the text."""
+        path = os.path.join(self.folder, 'hostile.yaml')
+        with open(path, 'wb') as out:
+            out.write(make(size).encode())
+        size = os.path.getsize(path)
+        seconds, memory, status = min(run(self.program, verb, path) for _ in range(times))
+        return seconds, memory - self.base, status, size
+
+    def start(self, make, verb):
+        """A size at which a run takes a time that can be measured."""
+        size = 1 << 16
+        while size < 1 << 20 and self.at(make, verb, size)[0] < 0.02:
+            size *= 2
+        return size
+
+    def grows(self, make, verb, size, times):
+        """The two ratios, and the last measurement."""
+        first, second, third = (self.at(make, verb, size * k, times) for k in (1, 2, 4))
+        floor = 0.005
+        return (second[0] + floor) / (first[0] + floor), (third[0] + floor) / (second[0] + floor), third
+
+    def verb(self, name, verb):
+        make = SHAPES[name]
+        size = self.start(make, verb)
+        for times in (1, 3):
+            one, two, (seconds, memory, status, length) = self.grows(make, verb, size, times)
+            if min(one, two) <= RATIO:
+                break
+        a_byte = memory / max(1, length)
+        wrong = []
+        if status not in (0, 1, 2):
+            wrong.append('status %s' % status)
+        if min(one, two) > RATIO:
+            wrong.append('ratios %.1f, %.1f' % (one, two))
+        if a_byte > LIMIT[verb]:
+            wrong.append('%.0f bytes a byte' % a_byte)
+        self.rows.append((name, verb, length, seconds, two, a_byte))
+        print('%-30s %-6s %9d bytes %7.2f s %5.1f %5.1f %7.1f bytes a byte  %s'
+              % (name, verb, length, seconds, one, two, a_byte, 'FAULT ' + ', '.join(wrong) if wrong else ''), flush=True)
+        if wrong:
+            self.faults.append('%s %s: %s' % (verb, name, ', '.join(wrong)))
+
+
+def report(rows):
+    """The shapes that take most for each verb."""
+    for verb in VERBS:
+        mine = [row for row in rows if row[1] == verb]
+        slow = max(mine, key=lambda row: row[3] / row[2])
+        wide = sorted(mine, key=lambda row: -row[5])[:5]
+        print('%s: slowest %s with %.2f s a MB; most memory %s' % (verb, slow[0], slow[3] / slow[2] * (1 << 20),
+              ', '.join('%s %.0f' % (row[0], row[5]) for row in wide)))
+
+
+def main():
+    words = sys.argv[1:]
+    program = os.path.join(TOP, 'crates/yamlfmt/out/yamlfmt')
+    if words[:1] == ['--program']:
+        program, words = os.path.abspath(words[1]), words[2:]
+    if words == ['--list']:
+        print('\n'.join(SHAPES))
+        return
+    if not os.access(program, os.X_OK):
+        sys.exit('there is no program %s: run ./yamlfmt once, which builds it' % program)
+    unknown = [word for word in words if word not in SHAPES]
+    if unknown:
+        sys.exit('no such shape: %s' % ', '.join(unknown))
+    with tempfile.TemporaryDirectory() as folder:
+        measure = Measure(program, folder)
+        for name in words or SHAPES:
+            for verb in VERBS:
+                measure.verb(name, verb)
+    report(measure.rows)
+    if measure.faults:
+        sys.exit('%d faults\n%s' % (len(measure.faults), '\n'.join(measure.faults)))
+    print('no fault in %d shapes' % len(words or SHAPES))
+
+
+if __name__ == '__main__':
+    main()

@@ -1,0 +1,191 @@
+#!/usr/bin/env python3
+"""Tries each recipe of docs/RECIPES.md as it stands there, each in a scratch folder, where its tool is installed; and the
+examples of README.md and docs/STYLE.md. Says `tried`, `FAILED` or `no TOOL` of each, and ends with 1 where one failed.
+
+Usage: bench/recipes.py [PROGRAM]     (default: the program that ./yamlfmt builds; build it first)
+
+Not part of rt ci.
+"""
+import json
+import os
+import re
+import shutil
+import subprocess
+import sys
+import tempfile
+
+TOP = os.path.dirname(os.path.dirname(os.path.abspath(__file__)))
+BAD = '---\na: "x" # c\n'
+GOOD = '---\na: "x"  # c\n'
+FOUND = '2:8 comment-space (fixable)'
+
+
+def recipes():
+    with open(TOP + '/docs/RECIPES.md', encoding='utf-8') as page:
+        found = re.findall(r'<!-- recipe: ([a-z-]+) -->\n```\w+\n(.*?)```', page.read(), re.S)
+    return {name: text.replace('YAMLFMT', TOP) for name, text in found}
+
+
+def sh(words, room, **more):
+    env = dict(os.environ, PATH=room + '/bin:' + os.environ['PATH'], HOME=room, GIT_CONFIG_NOSYSTEM='1')
+    return subprocess.run(words, cwd=room, env=env, stdout=subprocess.PIPE, stderr=subprocess.STDOUT, text=True, **more)
+
+
+def repository(room):
+    """A repository with a file that is not in the house style, committed, and one more that is no YAML file."""
+    for line in ('git init -q .', 'git config user.email a@example.com', 'git config user.name a'):
+        sh(line.split(), room)
+    write(room + '/a b.yaml', BAD)
+    write(room + '/c.txt', 'text\n')
+    sh(['git', 'add', 'a b.yaml', 'c.txt'], room)
+
+
+def write(path, text):
+    os.makedirs(os.path.dirname(path), exist_ok=True)
+    with open(path, 'w', encoding='utf-8', newline='') as file:
+        file.write(text)
+
+
+def read(path):
+    with open(path, encoding='utf-8', newline='') as file:
+        return file.read()
+
+
+def matched(pattern, output):
+    """What the matcher's pattern finds in the output."""
+    rule = pattern['regexp']
+    hits = [re.search(rule, line) for line in output.splitlines()]
+    return [(h[pattern['file']], h[pattern['line']], h[pattern['column']], h[pattern['message']]) for h in hits if h]
+
+
+def folder(room, text):
+    repository(room)
+    done = sh(['sh', '-c', text], room)
+    return done.returncode == 0 and read(room + '/a b.yaml') == GOOD
+
+
+def git(room, text):
+    repository(room)
+    sh(['sh', '-c', text], room)
+    refused = sh(['git', 'commit', '-qm', 'bad'], room)
+    sh([TOP + '/hooks/each_file', 'fmt', '--write', 'a b.yaml'], room)
+    still = sh(['git', 'commit', '-qm', 'not staged'], room)
+    sh(['git', 'add', 'a b.yaml'], room)
+    taken = sh(['git', 'commit', '-qm', 'good'], room)
+    return refused.returncode and 'a b.yaml' in refused.stdout and still.returncode and not taken.returncode
+
+
+def pre_commit(room, text):
+    """pre-commit clones the repository: here one of the hooks and the built program alone."""
+    tool = room + '/tool'
+    for name in ('hooks/each_file', 'hooks/program', '.pre-commit-hooks.yaml', 'crates.txt'):
+        os.makedirs(os.path.dirname(tool + '/' + name), exist_ok=True)
+        shutil.copy(TOP + '/' + name, tool + '/' + name)
+    for part in ('src', 'specs', 'proofs'):
+        write(tool + '/crates/yamlfmt/%s/none' % part, '')
+    os.makedirs(tool + '/crates/yamlfmt/out')
+    shutil.copy(TOP + '/crates/yamlfmt/out/yamlfmt', tool + '/crates/yamlfmt/out/yamlfmt')
+    write(tool + '/hooks/program', '#!/bin/sh\necho "$(dirname "$(dirname "$(readlink -f "$0")")")/crates/yamlfmt/out/yamlfmt"\n')
+    os.chmod(tool + '/hooks/program', 0o755)
+    for line in ('git init -q .', 'git config user.email a@example.com', 'git config user.name a', 'git add -f .', 'git commit -qm tool'):
+        sh(line.split(), tool)
+    commit = sh(['git', 'rev-parse', 'HEAD'], tool).stdout.strip()
+    repository(room)
+    write(room + '/yamlfmt.toml', 'quotes = "single"\n')
+    write(room + '/.pre-commit-config.yaml', text.replace('https://example.com/team/yamlfmt', tool).replace('COMMIT', commit))
+    done = sh(['pre-commit', 'run', '--files', 'a b.yaml', 'c.txt'], room)
+    return done.returncode == 1 and read(room + '/a b.yaml') == GOOD.replace('"', "'")
+
+
+def vim(room, text):
+    write(room + '/vimrc', 'filetype on\n' + text)
+    write(room + '/a.yaml', BAD)
+    write(room + '/bad.yaml', 'a: b: c\n')
+    words = ['vim', '-N', '-u', room + '/vimrc', '-i', 'NONE', '-es']
+    sh(words + ['-c', 'set ft=yaml | silent make % | call writefile([string(getqflist())], "found")', '-c', 'YamlFormat', '-c', 'wq', 'a.yaml'], room)
+    sh(words + ['-c', 'YamlFormat', '-c', 'wq', 'bad.yaml'], room)
+    found = read(room + '/found')
+    return "'lnum': 2" in found and "'col': 8" in found and read(room + '/a.yaml') == GOOD and read(room + '/bad.yaml') == 'a: b: c\n'
+
+
+def vscode(room, text):
+    repository(room)
+    task = json.loads(text)['tasks'][0]
+    done = sh(['sh', '-c', task['command']], room)
+    return ('a b.yaml', '2', '8', 'comment-space (fixable)') in matched(task['problemMatcher']['pattern'], done.stdout)
+
+
+def workflow(room, text):
+    repository(room)
+    write(room + '/w.yaml', text)
+    sound = sh([room + '/bin/yamlfmt', 'events', 'w.yaml'], room)
+    script = '\n'.join(line.strip() for line in text.split('- run: |\n')[1].splitlines())
+    done = sh(['sh', '-c', script], room)
+    pattern = json.loads(recipes()['matcher'])['problemMatcher'][0]['pattern'][0]
+    return not sound.returncode and ('a b.yaml', '2', '8', 'comment-space (fixable)') in matched(pattern, done.stdout)
+
+
+TOOLS = {'folder': ('git', folder), 'git': ('git', git), 'pre-commit': ('pre-commit', pre_commit), 'vim': ('vim', vim),
+         'vscode': ('git', vscode), 'workflow': ('git', workflow)}
+
+
+def cell(text):
+    """The lines that a cell of a table stands for."""
+    parts = re.findall(r'`` (.*?) ``|`(.*?)`|\(empty\)', text)
+    return ''.join((a or b).replace('\\|', '|') + '\n' for a, b in parts)
+
+
+def style_rows(program):
+    """The rows `Read | Written` of docs/STYLE.md that say no more than text."""
+    rows = re.findall(r'^\| (`.*?) \| (`.*?) \|', read(TOP + '/docs/STYLE.md'), re.M)
+    for left, right in rows:
+        if re.sub(r'`[^`]*`|\(empty\)|[ /]', '', left + right):
+            continue
+        text, wanted = cell(left), cell(right)
+        said = subprocess.run([program, 'fmt'], input=text, stdout=subprocess.PIPE, text=True).stdout
+        if said not in (wanted, '---\n' + wanted):
+            print('  %r gives %r, and not %r' % (text, said, wanted))
+            yield False
+        yield True
+
+
+def readme(program):
+    page = read(TOP + '/README.md')
+    block = re.search(r'makes of it:\n\n((?:    .*\n|\n)+)', page)[1]
+    lines = [line[4:] for line in block.rstrip('\n').split('\n')]
+    width = 48
+    before = '\n'.join(line[:width].rstrip() for line in lines).rstrip('\n') + '\n'
+    after = '\n'.join(line[width:].rstrip() for line in lines).rstrip('\n') + '\n'
+    said = subprocess.run([program, 'fmt'], input=before, stdout=subprocess.PIPE, text=True).stdout
+    return said == after
+
+
+def main():
+    program = sys.argv[1] if len(sys.argv) > 1 else TOP + '/crates/yamlfmt/out/yamlfmt'
+    if not os.access(program, os.X_OK):
+        sys.exit('%s is not there: ./yamlfmt --help builds it' % program)
+    failed = 0
+    for name, text in recipes().items():
+        if name not in TOOLS:
+            continue
+        tool, tried = TOOLS[name]
+        if not shutil.which(tool):
+            print('%s: no %s' % (name, tool))
+            continue
+        with tempfile.TemporaryDirectory() as room:
+            os.makedirs(room + '/bin')
+            os.symlink(os.path.abspath(program), room + '/bin/yamlfmt')
+            good = tried(room, text)
+        print('%s: %s' % (name, 'tried' if good else 'FAILED'))
+        failed += not good
+    good = all([*style_rows(program)])
+    print('docs/STYLE.md: %s' % ('tried' if good else 'FAILED'))
+    failed += not good
+    good = readme(program)
+    print('README.md: %s' % ('tried' if good else 'FAILED'))
+    failed += not good
+    return 1 if failed else 0
+
+
+if __name__ == '__main__':
+    sys.exit(main())

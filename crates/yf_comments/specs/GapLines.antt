@@ -1,0 +1,36 @@
+-- The lines that are written between two lines with nodes: blank ones, and comments with so many spaces before them.
+use Rattle.std.specs.Prelude.{◌≡◌, ℕ, ◌<◌, List, [], ◌∷◌, ◌++◌, replicate}
+use Rattle.yf_lines.specs.LineText.{IsLineText}
+
+pub data GapLine : Type 0 where
+  blank : GapLine
+  remark : ℕ → List ℕ → GapLine
+
+-- their bytes, and r after them
+abbrev pub gap_then : List GapLine → List ℕ → List ℕ
+gap_then [] r = r
+gap_then (blank ∷ gs) r = 10 ∷ gap_then gs r
+gap_then (remark column text ∷ gs) r = replicate column 32 ++ (text ++ (10 ∷ gap_then gs r))
+
+-- a comment's text: # and nb-chars
+pub record IsRemark (text : List ℕ) : Type 0 where
+  pub behind : List ℕ
+  pub is : text ≡ 35 ∷ behind
+  pub line : IsLineText behind
+
+abbrev pub AreGapLines : List GapLine → Type 0
+AreGapLines [] = Unit {0}
+AreGapLines (blank ∷ gs) = AreGapLines gs
+AreGapLines (remark column text ∷ gs) = IsRemark text × AreGapLines gs
+
+-- each comment stands left of the column
+abbrev pub AllLeft : ℕ → List GapLine → Type 0
+AllLeft k [] = Unit {0}
+AllLeft k (blank ∷ gs) = AllLeft k gs
+AllLeft k (remark column text ∷ gs) = (column < k) × AllLeft k gs
+
+-- the texts of the comments, in order
+abbrev pub remarks_of : List GapLine → List (List ℕ)
+remarks_of [] = []
+remarks_of (blank ∷ gs) = remarks_of gs
+remarks_of (remark column text ∷ gs) = text ∷ remarks_of gs

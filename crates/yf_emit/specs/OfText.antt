@@ -1,0 +1,75 @@
+-- Part of what holds of the readings of texts, beside what their normal forms depend on: the order of places, and that the styles of scalars
+-- can spell their texts.
+use Rattle.std.specs.Prelude.{◌≡◌, ◌<◌, ◌≤◌, ℕ, List, [], ◌∷◌, ◌++◌, length, map, true, Option, Some, None}
+use Rattle.std.specs.List.{All}
+use Rattle.std.specs.List.Sorted.{IsNonDecreasingBy}
+use Rattle.std.specs.Str.{IsUtf8}
+use Rattle.yf_comments.specs.Comment.{CommentValue}
+use Rattle.yf_events.specs.Event.{EventValue, Placed, sequence_starts, mapping_starts, scalar_node}
+use Rattle.yf_events.specs.Tree.{Standing, Node, scalar, alias, sequence, mapping, Items, no_items, item, Pairs, no_pairs, pair, DocumentTree, standing, entry_start, placed}
+use Rattle.yf_events.specs.WellPlaced.{begins_node}
+use Rattle.yf_events.specs.declared.document.Doc.{Doc}
+use Rattle.yf_events.specs.declared.event.ScalarStyle.TheVariants.{Plain}
+use Rattle.yf_events.specs.declared.event.Span.{Span}
+use Rattle.yf_events.specs.declared.lists.Lists.{Lists}
+use Rattle.yf_grammar.specs.Grammar.{Production, Derives}
+use Rattle.yf_grammar.specs.Meaning.{Meaning}
+use Rattle.yf_emit.specs.Rows.{colon_offset}
+use Rattle.yf_emit.specs.Textual.{IsTextual}
+
+-- Places in order: of each node its beginning, what stands in it, and its end; of each entry its beginning, and its `:` between the key
+-- and the value; of each document its directives and its beginning.
+
+abbrev pub around : Option Span → List ℕ → List ℕ
+around None inner = inner
+around (Some span) inner = span.start ∷ (inner ++ (span.end ∷ []))
+
+abbrev mutual
+  pub marks_in : Node → List ℕ
+  marks_in (scalar at props style text lines) = around at.span []
+  marks_in (alias at name) = around at.span []
+  marks_in (sequence at flow props items) = around at.span (marks_in_items items)
+  marks_in (mapping at flow props pairs) = around at.span (marks_in_pairs pairs)
+
+  pub marks_in_items : Items → List ℕ
+  marks_in_items no_items = []
+  marks_in_items (item x xs) = entry_start x ++ (marks_in x ++ marks_in_items xs)
+
+  pub marks_in_pairs : Pairs → List ℕ
+  marks_in_pairs no_pairs = []
+  marks_in_pairs (pair k v ps) = entry_start k ++ (marks_in k ++ (colon_offset (standing k).entry ++ (marks_in v ++ marks_in_pairs ps)))
+
+abbrev pub marks_in_documents : List Doc → List DocumentTree → List ℕ
+marks_in_documents [] trees = []
+marks_in_documents (d ∷ ds) [] = []
+marks_in_documents (d ∷ ds) (tree ∷ trees) =
+    map (λ w. w.offset) d.directives ++ (d.start ∷ (marks_in tree.root ++ marks_in_documents ds trees))
+
+-- Spelling.
+
+-- of a collection, its properties alone
+abbrev pub as_leaf : EventValue → EventValue
+as_leaf (sequence_starts flow props) = scalar_node props Plain []
+as_leaf (mapping_starts flow props) = scalar_node props Plain []
+as_leaf e = e
+
+-- the grammar derives a node of some text that has this event alone, wherever it stands there
+pub record IsSpelled (e : EventValue) (lines : List (List ℕ)) : Type 0 where
+  pub text : List ℕ
+  pub utf8 : IsUtf8 text
+  pub production : Production
+  pub height : ℕ
+  pub from : ℕ
+  pub to : ℕ
+  pub meaning : Meaning
+  pub derived : Derives text height production from to meaning
+  pub at : Standing
+  pub is : meaning.events ≡ placed at (as_leaf e) lines ∷ []
+
+-- what the proofs ask of a reading r of the text t; readings of texts have more, as strict order and spellings within flow collections
+pub record OfText (t : List ℕ) (r : Lists) : Type 0 where
+  pub textual : IsTextual r
+  pub order : IsNonDecreasingBy (λ (n : ℕ). n) (marks_in_documents r.documents textual.trees)
+  pub within : All (λ (n : ℕ). n ≤ length t) (marks_in_documents r.documents textual.trees)
+  pub comments : All (λ (c : CommentValue). c.offset < length t) r.comments
+  pub spelled : All (λ (e : Placed). begins_node e.event ≡ true → IsSpelled e.event e.folded) r.events

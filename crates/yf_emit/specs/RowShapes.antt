@@ -1,0 +1,69 @@
+-- What of a row, and of a form, does not depend on where the nodes stand in the text.
+use Rattle.std.specs.Prelude.{◌≡◌, ℕ, ◌+◌, Bool, true, false, is_some, List, [], ◌∷◌, ◌++◌, length, replicate}
+use Rattle.yf_comments.specs.Comment.{CommentValue}
+use Rattle.yf_events.specs.Tree.{Node}
+use Rattle.yf_emit.specs.declared.decide.Form.{Form}
+use Rattle.yf_emit.specs.declared.style.Style.{Style}
+use Rattle.yf_emit.specs.Forms.{value_comment}
+use Rattle.yf_emit.specs.Normal.{is_implicit, key_comment}
+use Rattle.yf_emit.specs.Rows.{Row, Ending, before_node}
+
+-- a row: how many leaves with characters stand on it, and whether a comment trails its key
+pub record RowShape : Type 0 where
+  pub column : ℕ
+  pub text : List ℕ
+  pub leaves : ℕ
+  pub is_commented : Bool
+  pub ending : Ending
+  pub body : List (List ℕ)
+  pub lines : ℕ
+
+abbrev pub shape_of : Row → RowShape
+shape_of r = record {
+  column = r.column;
+  text = r.text;
+  leaves = length r.leaves;
+  is_commented = is_some r.key_comment;
+  ending = r.ending;
+  body = r.body;
+  lines = r.lines;
+}
+
+-- the shapes of `joined` rows
+abbrev pub joined_shapes : RowShape → ℕ → List RowShape → List RowShape
+joined_shapes head spaces [] = head ∷ []
+joined_shapes head spaces (r ∷ rs) = record {
+  column = head.column;
+  text = head.text ++ (replicate spaces 32 ++ r.text);
+  leaves = head.leaves + r.leaves;
+  is_commented = r.is_commented;
+  ending = r.ending;
+  body = r.body;
+  lines = r.lines;
+} ∷ rs
+
+-- of a value after an implicit key: whether a comment trails the key, and whether the value begins on a line of its own
+abbrev pub shapes_behind_key : RowShape → Bool → Bool → List RowShape → List RowShape
+shapes_behind_key head true below rows = record head { is_commented = true; ending = before_node } ∷ rows
+shapes_behind_key head false true rows = record head { ending = before_node } ∷ rows
+shapes_behind_key head false false rows = joined_shapes head 1 rows
+
+-- a form: whether a comment trails the key
+pub record FormShape : Type 0 where
+  pub is_kept : Bool
+  pub is_implicit : Bool
+  pub is_commented : Bool
+  pub column : ℕ
+
+abbrev pub form_shape : Form → FormShape
+form_shape f = record { is_kept = f.is_kept; is_implicit = f.is_implicit; is_commented = is_some f.key_comment; column = f.column }
+
+-- All that rows take of comments: where the key is implicit, a comment trails it in both or in neither.
+pub record KeysAgree (s : Style) (cs ds : List CommentValue) (k v l w : Node) : Type 0 where
+  pub comment : (column : ℕ) → is_implicit s column k ≡ true → is_some (key_comment cs k v) ≡ is_some (key_comment ds l w)
+
+-- and all that forms take: the same, at each column, of a value whose form is settled
+pub record ValuesAgree (s : Style) (cs ds : List CommentValue) (k v l w : Node) : Type 0 where
+  pub keys : KeysAgree s cs ds k v l w
+  pub comment : (column : ℕ) → is_some (value_comment (record { style = s; comments = cs }) column k v)
+      ≡ is_some (value_comment (record { style = s; comments = ds }) column l w)

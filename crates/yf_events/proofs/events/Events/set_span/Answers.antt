@@ -1,7 +1,0 @@
-use Rattle.std.proofs.Common.{refl}
-use Rattle.yf_events.proofs.EventLists.{span_seen}
-use Rattle.yf_events.proofs.events.Events.set_span.Goals as goal
-
-pub returns : goal.returns
-returns c =
-    span_seen c.self.inside.list.items _ c.args.i c.index_mut.result.now _ c.args.span c.requires c.index_mut.ensures.value refl c.self.view_is

@@ -1,0 +1,26 @@
+-- A text that stands within one line: its characters are nb-chars, neither breaks nor byte order marks.
+use Rattle.std.specs.Prelude.{◌≡◌, ℕ, ◌<◌, Bool, true, ◌==◌, ◌||◌, List, [], ◌∷◌, encode_utf8_all}
+use Rattle.yf_chars.specs.Class.{is_nb_char}
+
+-- the characters are nb-chars
+abbrev pub AllNb : List ℕ → Type 0
+AllNb [] = Unit {0}
+AllNb (c ∷ cs) = (is_nb_char c ≡ true) × AllNb cs
+
+pub record IsLineText (x : List ℕ) : Type 0 where
+  pub chars : List ℕ
+  pub bytes : encode_utf8_all chars ≡ x
+  pub each : AllNb chars
+
+-- what may stand after a name that is written on a line: a space, a break, a comma or a closing bracket
+unfoldable pub is_behind_name : ℕ → Bool
+is_behind_name c = (c == 32) || (c == 10) || (c == 44) || (c == 93) || (c == 125)
+
+-- and after any other text: also a colon
+unfoldable pub is_behind_text : ℕ → Bool
+is_behind_text c = (c == 58) || is_behind_name c
+
+-- the bytes that follow: none, or one of a class first
+pub data Follows (p : ℕ → Bool) : List ℕ → Type 0 where
+  nothing_follows : Follows p []
+  byte_follows : {c : ℕ} {r : List ℕ} → c < 128 → p c ≡ true → Follows p (c ∷ r)

@@ -1,0 +1,70 @@
+-- What names, tags and properties are made of, and how they are written on a line: the anchor before the tag.
+use Rattle.std.specs.Prelude.{◌≡◌, ◌≢◌, ℕ, ◌+◌, Bool, true, List, [], ◌∷◌, ◌++◌, length, Option, Some, None, encode_utf8_all}
+use Rattle.yf_chars.specs.Class.{is_anchor_char, is_hex_digit, is_tag_char, is_uri_char, is_word_char}
+use Rattle.yf_props.specs.Names.{PropertiesValue}
+use Rattle.yf_props.specs.Props.{PropsValue, TagValue}
+use Rattle.yf_props.specs.Props.TagValue.{IsVerbatim, IsShort, IsNonSpecific}
+
+-- each character is of the class
+abbrev pub AllOf : (ℕ → Bool) → List ℕ → Type 0
+AllOf p [] = Unit {0}
+AllOf p (c ∷ cs) = (p c ≡ true) × AllOf p cs
+
+-- the bytes of a name: characters of anchors, one or more
+pub record IsName (x : List ℕ) : Type 0 where
+  pub chars : List ℕ
+  pub bytes : encode_utf8_all chars ≡ x
+  pub each : AllOf is_anchor_char chars
+  pub some : chars ≢ []
+
+-- characters of the class, and each % with two hexadecimal digits
+pub data IsSpelled (p : ℕ → Bool) : List ℕ → Type 0 where
+  nothing_spelled : IsSpelled p []
+  itself_spelled : {c : ℕ} {x : List ℕ} → p c ≡ true → IsSpelled p x → IsSpelled p (c ∷ x)
+  escape_spelled : {a b : ℕ} {x : List ℕ} → is_hex_digit a ≡ true → is_hex_digit b ≡ true → IsSpelled p x → IsSpelled p (37 ∷ a ∷ b ∷ x)
+
+-- a handle: !, !! or word characters between two !
+pub data IsHandle : List ℕ → Type 0 where
+  primary_form : IsHandle (33 ∷ [])
+  secondary_form : IsHandle (33 ∷ 33 ∷ [])
+  named_form : {x : List ℕ} → AllOf is_word_char x → x ≢ [] → IsHandle (33 ∷ (x ++ 33 ∷ []))
+
+pub data IsTag : TagValue → Type 0 where
+  verbatim_form : {x : List ℕ} → IsSpelled is_uri_char x → x ≢ [] → IsTag (IsVerbatim x)
+  short_form : {h x : List ℕ} → IsHandle h → IsSpelled is_tag_char x → x ≢ [] → IsTag (IsShort h x)
+  lone_form : IsTag IsNonSpecific
+
+-- properties of a name and a tag, where they are there
+pub record IsProps (p : PropsValue) : Type 0 where
+  pub anchor : (name : List ℕ) → p.anchor ≡ Some name → IsName name
+  pub tag : (v : TagValue) → p.tag ≡ Some v → IsTag v
+
+-- the bytes of each
+abbrev pub alias_bytes : List ℕ → List ℕ
+alias_bytes name = 42 ∷ name
+
+abbrev pub anchor_bytes : List ℕ → List ℕ
+anchor_bytes name = 38 ∷ name
+
+abbrev pub tag_bytes : TagValue → List ℕ
+tag_bytes (IsVerbatim text) = 33 ∷ 60 ∷ (text ++ 62 ∷ [])
+tag_bytes (IsShort handle suffix) = handle ++ suffix
+tag_bytes IsNonSpecific = 33 ∷ []
+
+abbrev pub parts_bytes : Option (List ℕ) → Option TagValue → List ℕ
+parts_bytes None None = []
+parts_bytes None (Some v) = tag_bytes v
+parts_bytes (Some name) None = anchor_bytes name
+parts_bytes (Some name) (Some v) = anchor_bytes name ++ (32 ∷ tag_bytes v)
+
+abbrev pub props_bytes : PropsValue → List ℕ
+props_bytes p = parts_bytes p.anchor p.tag
+
+-- what properties that are written at the offset mean
+abbrev pub tag_offset_at : ℕ → Option (List ℕ) → Option TagValue → Option ℕ
+tag_offset_at q anchor None = None
+tag_offset_at q None (Some v) = Some q
+tag_offset_at q (Some name) (Some v) = Some (q + length (anchor_bytes name) + 1)
+
+abbrev pub props_at : ℕ → PropsValue → PropertiesValue
+props_at q p = record { props = p; tag_offset = tag_offset_at q p.anchor p.tag; comments = [] }

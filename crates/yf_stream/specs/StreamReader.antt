@@ -1,0 +1,51 @@
+-- What the reader of streams is to answer. The contract promises less of it today: a well nested reading, and faults of these kinds
+-- with places in the text.
+use Rattle.std.specs.Prelude.{◌≡◌, ℕ, ◌<◌, ◌≤◌, List, Result, MatchResult}
+use Rattle.yf_lines.specs.FaultPlaces.{InText, IsPlaceOf}
+use Rattle.yf_lines.specs.declared.fault.Fault.{Fault}
+use Rattle.yf_lines.specs.declared.fault.Fault.TheVariants.{Memory, Syntax, TooDeep, UnknownHandle, UnknownAlias, RepeatedDirective, BadVersion, EscapeValue}
+use Rattle.yf_lines.specs.declared.place.Place.{Place}
+use Rattle.yf_events.specs.declared.lists.Lists.{Lists}
+use Rattle.yf_events.specs.declared.reading.TheConstants.{DEPTH}
+use Rattle.yf_grammar.specs.Refusal.{openers}
+use Rattle.yf_stream.specs.declared.breaches.Breach.{Breach}
+use Rattle.yf_stream.specs.declared.breaches.Kind.{Kind}
+use Rattle.yf_stream.specs.declared.breaches.Kind.TheVariants as Breaches
+use Rattle.yf_stream.specs.ReadingOf.{ReadingOf}
+use Rattle.yf_stream.specs.Stream.{Documents, Stream}
+use Rattle.yf_stream.specs.WellFormed.{IsFirst, Shapes, breaches}
+
+-- no stream is derived within the limit of open collections
+abbrev pub NoStream : List ℕ → Type 0
+NoStream t = (h : ℕ) (x : Documents) → Stream t h x → h ≤ DEPTH → ⊥
+
+-- the fault that tells of a breach of that kind
+abbrev pub fault_of : Kind → Place → Fault
+fault_of Breaches.UnknownHandle place = UnknownHandle place
+fault_of Breaches.UnknownAlias place = UnknownAlias place
+fault_of Breaches.RepeatedDirective place = RepeatedDirective place
+fault_of Breaches.BadVersion place = BadVersion place
+fault_of Breaches.EscapeValue place = EscapeValue place
+
+-- the fault is Syntax, at a place in the text
+abbrev pub IsSyntax : List ℕ → Fault → Type 0
+IsSyntax t (Syntax place what) = InText t place
+IsSyntax t _ = ⊥
+
+-- a text is refused only where memory was refused; where no stream is derived within the limit, as too deep only if it has more
+-- openers than the limit; or where its one shape breaches what must hold of it: for the first breach, at the place of that
+pub data StreamFault (t : List ℕ) : Fault → Type 0 where
+  for_memory : StreamFault t Memory
+  no_stream : {fault : Fault} → NoStream t → IsSyntax t fault → StreamFault t fault
+  too_deep : {place : Place} → NoStream t → DEPTH < openers t → InText t place → StreamFault t (TooDeep place)
+  breached : {x : Documents} {b : Breach} {place : Place} {fault : Fault} → Shapes t x → IsFirst (breaches x.documents) b
+      → IsPlaceOf t b.offset place → fault ≡ fault_of b.kind place → StreamFault t fault
+
+-- the reading of a text, and the only one
+pub record TheReading (t : List ℕ) (r : Lists) : Type 0 where
+  pub reads : ReadingOf t r
+  pub only : (other : Lists) → ReadingOf t other → other ≡ r
+
+-- read_stream: a text is accepted with its only reading, and refused only for the causes of `StreamFault`
+abbrev pub ReadsStream : List ℕ → Result Lists Fault → Type 0
+ReadsStream t answer = MatchResult answer (TheReading t) (StreamFault t)
