@@ -48,6 +48,7 @@ pub mod HaltsSound
 pub mod InlineViews
 pub mod KeyExact
 pub mod KeyLines
+pub mod LawsHold
 pub mod LeafBack
 pub mod LeafHalts
 pub mod LeafKeys

@@ -3,6 +3,7 @@ pub mod BlockParser
 pub mod BlockScalar
 pub mod Grammar
 pub mod Halts
+pub mod Laws
 pub mod Meaning
 pub mod Parser
 pub mod Part
