@@ -21,6 +21,7 @@ pub mod BlockParts
 pub mod BlockQuestions
 pub mod BlockReach
 pub mod BlockScalars
+mod BlockShown
 pub mod BlockSigns
 pub mod BlockSound
 pub mod BlockStarts
@@ -77,6 +78,7 @@ pub mod PropertiesLines
 pub mod PropertiesWalk
 pub mod QuotedEnds
 pub mod ScalarPlaced
+mod ShownParts
 pub mod SinceKnown
 pub mod Sound
 pub mod SoundSteps
