@@ -1,6 +1,7 @@
 -- Parts of small block nodes: where a line begins, ends or stops, and what does not stand at a character.
 use Rattle.std.proofs.Common.{◌≡◌, ◌≢◌, ℕ, ◌+◌, ◌-◌, ◌<◌, ◌≤◌, ℤ, pos, Bool, true, false, ◌==◌, ◌||◌, List, [], length, refl, sym, ap, ◌∙◌, arith, true≢false}
 use Rattle.std.proofs.lemmas.Bool.{eq-eqb}
+use Rattle.std.proofs.lemmas.Int.{ints}
 use Rattle.std.specs.Str.{IsUtf8}
 use Rattle.yf_chars.specs.declared.context.Ctx.{Ctx}
 use Rattle.yf_chars.specs.Text.{code}
@@ -24,9 +25,9 @@ use Rattle.yf_grammar.specs.BlockScalar.{BlockScalar}
 use Rattle.yf_grammar.specs.BlockScalar.BlockScalar.{block_scalar}
 use Rattle.yf_grammar.specs.Meaning.{Meaning}
 use Rattle.yf_grammar.specs.Parser.{OnOneLine, begins_properties}
-use Rattle.yf_grammar.specs.BlockParser.{LinesEnd, LineText, Begins, NoNode, NextEntry, next_item, next_pair, NoEntry, Columns, NoSign, DashAt, SignAt}
+use Rattle.yf_grammar.specs.BlockParser.{LinesEnd, LineText, Begins, line_indented, line_first, line_dashed, NoNode, NextEntry, next_item, next_pair, NoEntry, Columns, NoSign, DashAt, SignAt}
 use Rattle.yf_grammar.proofs.BlankRuns.{Behind}
-use Rattle.yf_grammar.proofs.BlockClaims.{line_from, line_still}
+use Rattle.yf_grammar.proofs.BlockClaims.{line_from, line_still, line_unique}
 use Rattle.yf_grammar.proofs.BlockFirst.{no_line_end_before}
 use Rattle.yf_grammar.proofs.GapLemmas.{Visible, visible_solid}
 use Rattle.yf_grammar.proofs.PropertiesEnds.{properties_begin}
@@ -72,6 +73,15 @@ module _ {t : List ℕ} where
 
   pub no_entry : {s : Bool} {m k : ℕ} → LinesEnd t k → NoEntry t s m k
   no_entry e = record { no_next = no_next e; not_deeper = λ l p w. absurd (w.goes_on e) }
+
+  -- nor where a line begins without spaces and without a `-`
+  shallow : {n k i m p : ℕ} {c : Ctx} → m ≡ 0 → (code t p == 45) ≡ false → k ≢ i → Begins t (pos n) c i k m p → ⊥
+  shallow e d f (line_indented l) = omega (arith, ints)
+  shallow e d f (line_first s) = f s
+  shallow e d f (line_dashed s q l) = differs d s.dash
+
+  pub no_deep_node : {n : ℕ} {c : Ctx} {i k p : ℕ} → LineText t k 0 p → (code t p == 45) ≡ false → k ≢ i → NoNode t (pos n) c i k
+  no_deep_node {p = p} w d f = record { none = λ m q v b. let same = line_unique w v in shallow same.0 (ap (λ h. code t h == 45) same.1 ∙ d) f b }
 
   -- what the character is not the sign of
   pub no_signs : {cols : Columns} {p : ℕ} → (code t p == 45) ≡ false → (code t p == 63) ≡ false → (code t p == 58) ≡ false → NoSign t cols p
