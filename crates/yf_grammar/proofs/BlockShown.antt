@@ -27,7 +27,7 @@ use Rattle.yf_grammar.proofs.BlankRuns.{behind_byte}
 use Rattle.yf_grammar.proofs.ShownParts.{differs, seen, feed, line_at, no_spaces, text_start, line_ends, text_stops, no_node, no_deep_node, no_entry, goes_on}
 
 -- at the first line of a document both kinds of collections may begin
-root_columns : LineColumns (negsuc 0) BlockIn 0 0 0 (record { sequence = Some 0; mapping = Some 0 })
+pub root_columns : LineColumns (negsuc 0) BlockIn 0 0 0 (record { sequence = Some 0; mapping = Some 0 })
 root_columns = record { sequence = column_there refl (omega (arith, ints)); mapping = column_there refl (omega (arith, ints)) }
 
 -- a `-` and a blank line, which the node takes

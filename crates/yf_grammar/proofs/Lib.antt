@@ -21,7 +21,7 @@ pub mod BlockParts
 pub mod BlockQuestions
 pub mod BlockReach
 pub mod BlockScalars
-mod BlockShown
+pub mod BlockShown
 pub mod BlockSigns
 pub mod BlockSound
 pub mod BlockStarts
@@ -53,6 +53,7 @@ pub mod LawsHold
 pub mod LeafBack
 pub mod LeafHalts
 pub mod LeafKeys
+mod LeavesShown
 pub mod LineNodes
 pub mod LineParts
 pub mod Longest
@@ -78,7 +79,7 @@ pub mod PropertiesLines
 pub mod PropertiesWalk
 pub mod QuotedEnds
 pub mod ScalarPlaced
-mod ShownParts
+pub mod ShownParts
 pub mod SinceKnown
 pub mod Sound
 pub mod SoundSteps

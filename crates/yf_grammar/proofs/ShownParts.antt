@@ -1,16 +1,19 @@
 -- Parts of small block nodes: where a line begins, ends or stops, and what does not stand at a character.
-use Rattle.std.proofs.Common.{◌≡◌, ◌≢◌, ℕ, ◌+◌, ◌-◌, ◌<◌, ◌≤◌, ℤ, pos, Bool, true, false, ◌==◌, ◌||◌, List, [], length, refl, sym, ap, ◌∙◌, arith, true≢false}
+use Rattle.std.proofs.Common.{◌≡◌, ◌≢◌, ℕ, ◌+◌, ◌-◌, ◌<◌, ◌≤◌, ℤ, pos, Bool, true, false, ◌==◌, ◌||◌, List, [], ◌∷◌, length, refl, sym, ap, ◌∙◌, arith, true≢false}
 use Rattle.std.proofs.lemmas.Bool.{eq-eqb}
 use Rattle.std.proofs.lemmas.Int.{ints}
 use Rattle.std.specs.Str.{IsUtf8}
 use Rattle.yf_chars.specs.declared.context.Ctx.{Ctx}
-use Rattle.yf_chars.specs.Text.{code}
+use Rattle.yf_chars.specs.declared.context.Ctx.TheVariants.{FlowOut}
+use Rattle.yf_chars.specs.Text.{code, next}
 use Rattle.yf_chars.specs.Class.{is_ns_char, is_white, is_break_char}
 use Rattle.yf_chars.specs.Chain.{Stuck, Chosen, Many}
 use Rattle.yf_chars.specs.Chain.Chain.{done}
-use Rattle.yf_lines.specs.Basic.{Break, Forbidden, Spaces, is_marker}
+use Rattle.yf_lines.specs.Basic.{Break, Clear, Forbidden, Spaces, is_marker}
 use Rattle.yf_lines.specs.Basic.Break.{lone_lf}
 use Rattle.yf_lines.specs.Basic.LineStart.{at_text}
+use Rattle.yf_lines.proofs.BasicLemmas.{no_break_here}
+use Rattle.yf_lines.proofs.FoldLemmas.{no_fold_break}
 use Rattle.yf_comments.specs.Comment.{CommentValue}
 use Rattle.yf_comments.specs.Comments.{LineEnd, Row}
 use Rattle.yf_comments.specs.Comments.LineEnd.{from_start, past_rest}
@@ -20,6 +23,9 @@ use Rattle.yf_comments.proofs.LineEndLemmas.{line_end_chosen, row_stuck, row_stu
 use Rattle.yf_comments.proofs.RowLemmas.{stuck_at_solid}
 use Rattle.yf_block_scalar.specs.Header.BlockHeader.{block_header}
 use Rattle.yf_block_scalar.specs.Header.Style.{literal_sign, folded_sign}
+use Rattle.yf_plain.specs.Plain.{Plain, PlainItem, NoNextLine, is_plain_first, is_plain_char}
+use Rattle.yf_plain.proofs.LineLemmas.{no_next_fold, one_line_chosen}
+use Rattle.yf_plain.proofs.PlainLemmas.{item_stuck, line_chosen}
 use Rattle.yf_props.specs.Names.{Properties, PropertiesValue}
 use Rattle.yf_grammar.specs.BlockScalar.{BlockScalar}
 use Rattle.yf_grammar.specs.BlockScalar.BlockScalar.{block_scalar}
@@ -103,3 +109,19 @@ module _ {t : List ℕ} where
 
   pub one_character : {i : ℕ} → is_break_char (code t i) ≡ false → OnOneLine t i (i + 1)
   one_character {i} f = record { each = λ h l m. let same : h ≡ i = omega arith in ap (λ k. is_break_char (code t k)) same ∙ f }
+
+  -- a plain scalar of one character, after which neither its line nor a next one goes on
+  pub plain_character : {n : ℤ} {i : ℕ} → is_plain_first t FlowOut i ≡ true → Clear t i (next t i) → is_white (code t (next t i)) ≡ false
+      → is_plain_char t FlowOut (next t i) ≡ false → NoNextLine t n FlowOut (next t i) → Chosen (Plain t n FlowOut i) (next t i) (code t i ∷ [])
+  plain_character {i = i} f c w e l =
+      let stuck : Stuck (PlainItem t FlowOut (next t i)) = item_stuck done w e in
+      let best = line_chosen f done stuck in
+      one_line_chosen refl
+      (record { derived = record { text = best.derived; clear = c }; longest = λ k y d. best.longest k y d.text; only = λ y d. best.only y d.text }) stuck l
+
+  pub no_fold : {n : ℤ} {c : Ctx} {i : ℕ} → is_white (code t i) ≡ false → (code t i == 13) ≡ false → (code t i == 10) ≡ false → NoNextLine t n c i
+  no_fold {i = i} w a b = no_next_fold (no_fold_break ([], done) w (no_break_here t i (differs a) (differs b)))
+
+  -- no marker begins at the place
+  pub clear_place : {i : ℕ} → is_marker t i ≡ false → Clear t i (i + 1)
+  clear_place {i} e = record { none = λ h l m f. let same : h ≡ i = omega arith in true≢false (sym f.marker ∙ ap (is_marker t) same ∙ e) }
