@@ -1,5 +1,6 @@
 -- Small block nodes with keys and plain scalars, each with the outcome that the reader has there, written out by hand.
-use Rattle.std.proofs.Common.{◌≡◌, ◌≢◌, ℕ, suc, zero, ◌+◌, ◌<◌, ◌≤◌, ℤ, pos, negsuc, Bool, true, false, List, [], ◌∷◌, Option, Some, None, codes, refl, sym, subst, arith, true≢false, length, encode_utf8_all}
+use Rattle.std.proofs.Common.{◌≡◌, ◌≢◌, ℕ, suc, zero, ◌+◌, ◌<◌, ◌≤◌, ℤ, pos, negsuc, Bool, true, false, List, [], ◌∷◌, Option, Some, None, codes, refl, sym, subst, arith, true≢false, length, ⊎_elim}
+use Rattle.std.proofs.lemmas.Bool.{cases_lt}
 use Rattle.std.specs.Str.{IsUtf8, chars}
 use lib.Utf8.{encode}
 use Rattle.yf_chars.specs.declared.context.Ctx.TheVariants.{BlockIn, FlowOut, FlowIn}
@@ -8,16 +9,32 @@ use Rattle.yf_chars.specs.Class.{is_ns_char, is_nb_char, is_printable, is_betwee
 use Rattle.yf_chars.specs.Chain.{Many, Stuck, Chosen}
 use Rattle.yf_chars.specs.Chain.Chain.{done, step}
 use Rattle.yf_lines.specs.Basic.{Break, Clear, is_marker, is_three}
+use Rattle.yf_lines.specs.Basic.Indent.{exactly}
+use Rattle.yf_lines.specs.Basic.FlowPrefix.{indented}
+use Rattle.yf_lines.specs.Fold.{FoldsTo}
+use Rattle.yf_lines.proofs.BasicLemmas.{break_forward, clear_front, clear_join, no_break_here}
+use Rattle.yf_lines.proofs.FoldLemmas.{fold_found, lines_found}
+use Rattle.yf_comments.specs.Comments.{LineEnd}
 use Rattle.yf_events.specs.declared.event.ScalarStyle.TheVariants.{Plain as PlainStyle}
-use Rattle.yf_plain.specs.Plain.{Plain, is_plain_first, is_plain_char, is_sign}
+use Rattle.yf_plain.specs.Plain.{Plain, PlainItem, NoNextLine, is_plain_first, is_plain_char, is_sign}
+use Rattle.yf_plain.specs.Plain.PlainLine.{one_line}
+use Rattle.yf_plain.specs.Plain.PlainNext.{next_line}
+use Rattle.yf_plain.specs.Plain.PlainText.{as_lines}
+use Rattle.yf_plain.proofs.LineLemmas.{Onward, on_line, on_next, plain_onward, plain_unique}
+use Rattle.yf_plain.proofs.PlainLemmas.{item_stuck}
 use Rattle.yf_grammar.specs.Meaning.{Meaning, ◌⊕◌, behind, noting, scalar, empty_node, collection, entering}
 use Rattle.yf_grammar.specs.Grammar.{characters_between}
 use Rattle.yf_grammar.specs.Parser.{Found, found, plain_found, Parses, ANode, begins_plain, begins_alias, begins_properties, begins_content}
 use Rattle.yf_grammar.specs.Parser.Parses.{plain_read}
-use Rattle.yf_grammar.specs.BlockParser.{LineText, SignAt, KeyBefore, line_first, text_ends, Nothing, past, told, alone, headed, Awaited, collected, pair_found, by_key, Whole}
-use Rattle.yf_grammar.specs.BlockParser.Whole.{awaited_below, below_alone, below_node, mapping_read, items_last, key_read}
+use Rattle.yf_grammar.specs.BlockParser.{LineText, KeyBefore, key_unfit, NoKeyAt, unfit_node, line_first, text_ends, Nothing, past, told, alone, headed, Awaited, collected, pair_found, by_key, Whole}
+use Rattle.yf_grammar.specs.BlockParser.Whole.{awaited_below, below_alone, below_node, mapping_read, leaf_there, leaf_unended, items_last, key_read}
+use Rattle.yf_grammar.specs.Halts.{none_open, PlainPart, plain_part, with_plain, Halts}
+use Rattle.yf_grammar.specs.Halts.Halts.{halts_below, halts_node, halts_leaf, halts_plain}
+use Rattle.yf_grammar.proofs.BlankRuns.{behind_byte}
 use Rattle.yf_grammar.proofs.BlockShown.{root_columns}
-use Rattle.yf_grammar.proofs.ShownParts.{seen, line_at, no_spaces, text_start, text_stops, no_node, no_entry, one_character, plain_character, no_fold, clear_place}
+use Rattle.yf_grammar.proofs.Forward.{whites_forward}
+use Rattle.yf_grammar.proofs.PlainCut.{LastLine, plain_without_last}
+use Rattle.yf_grammar.proofs.ShownParts.{seen, feed, line_at, no_spaces, text_start, line_ends, text_stops, no_node, no_entry, no_signs, no_scalar, no_properties, goes_on, one_character, plain_character, no_fold, clear_place}
 
 -- a key on one line
 abbrev key : List ℕ
@@ -53,3 +70,95 @@ key_whole =
     (key_read (λ s. omega (arith, s.sign_stands)) (λ s. omega (arith, s.sign_stands)) (key_node 1) (omega arith) key_before
     (awaited_below (text_stops refl) (below_alone (text_stops refl) (no_node (text_ends refl)))))
     (no_entry (text_ends refl)))))
+
+-- a plain scalar whose last line is a key's: the node that begins at it is broken, and ends with the line before the key
+abbrev scalar_key : List ℕ
+scalar_key = codes "a\nb:"
+
+scalar_key_utf8 : IsUtf8 scalar_key
+unfolding encode
+scalar_key_utf8 = (codes "a\nb:", (refl, refl))
+
+scalar_key_line : LineText scalar_key 0 0 0
+unfolding code begins chars is_ns_char is_nb_char is_printable is_between is_break_char is_white is_marker is_three is_white_or_end
+scalar_key_line = line_at 0 0 (no_spaces 0) (seen 0 refl refl) refl
+
+scalar_key_feed : Break scalar_key 1 2
+unfolding code begins chars
+scalar_key_feed = feed 1 refl refl
+
+scalar_key_fold : FoldsTo scalar_key (pos 0) 1 2 (codes " ")
+unfolding code begins chars is_white
+scalar_key_fold = fold_found ([], done) scalar_key_feed
+    (lines_found done (record { prefix = indented (exactly 0 refl (no_spaces 2)); no_white = refl; no_break = no_break_here scalar_key 2 (λ e. omega (arith, e)) (λ e. omega (arith, e)) }))
+
+scalar_key_clear : Clear scalar_key 0 3
+unfolding code begins chars is_marker is_three is_white_or_end is_white is_break_char
+scalar_key_clear = clear_join (clear_place refl) (clear_join (clear_place refl) (clear_place refl))
+
+-- its first line, and both lines
+scalar_key_first : Plain scalar_key (pos 0) FlowOut 0 1 (codes "a")
+unfolding code begins chars next is_plain_first is_sign is_plain_safe is_ns_char is_nb_char is_printable is_between is_break_char is_white is_indicator is_flow_indicator
+scalar_key_first = record { text = as_lines refl (one_line refl done) done; clear = clear_front (omega arith) scalar_key_clear }
+
+scalar_key_both : Plain scalar_key (pos 0) FlowOut 0 3 (codes "a b")
+unfolding code begins chars next is_plain_first is_plain_char is_sign is_plain_safe is_ns_char is_nb_char is_printable is_between is_break_char is_white is_indicator is_flow_indicator
+scalar_key_both = record { text = as_lines refl (one_line refl done) (step (next_line scalar_key_fold.folded refl done) done); clear = scalar_key_clear }
+
+scalar_key_plain : Chosen (Plain scalar_key (pos 0) FlowOut 0) 3 (codes "a b")
+unfolding code begins chars next is_plain_char is_plain_safe is_ns_char is_nb_char is_printable is_between is_break_char is_white is_indicator is_flow_indicator
+scalar_key_plain =
+    let stops : NoNextLine scalar_key (pos 0) FlowOut 3 = no_fold refl refl refl in
+    let stuck : Stuck (PlainItem scalar_key FlowOut 3) = item_stuck done refl refl in
+    record {
+      derived = scalar_key_both;
+      longest = λ k y p. ⊎_elim (λ (l : 3 < k). absurd (further stuck stops (plain_onward refl scalar_key_both p l))) (λ (l : k ≤ 3). l) (cases_lt 3 k);
+      only = λ y p. plain_unique refl scalar_key_both p;
+    }
+  where
+    further : {l : ℕ} → Stuck (PlainItem scalar_key FlowOut 3) → NoNextLine scalar_key (pos 0) FlowOut 3 → Onward scalar_key (pos 0) FlowOut 3 l → ⊥
+    further s n (on_line {j = j} {x = x} i) = s.none j x i
+    further s n (on_next {h = h} {x = x} f e g l) = n.none h x f e g
+
+abbrev scalar_key_found : Found
+scalar_key_found = record { end = 3; height = 0; json = false; meaning = scalar PlainStyle (codes "a b") [] 0 3 }
+
+scalar_key_node : (e : ℕ) → Parses scalar_key e (ANode (pos 0) FlowOut 0) (Some scalar_key_found)
+unfolding code begins chars begins_plain begins_alias begins_properties begins_content plain_found found encode
+scalar_key_node e = plain_read refl scalar_key_plain
+
+scalar_key_goes_on : Stuck (LineEnd scalar_key 3)
+unfolding code begins chars is_ns_char is_nb_char is_printable is_between is_break_char is_white
+scalar_key_goes_on = goes_on scalar_key_utf8 (behind_byte 2 scalar_key_utf8 refl (omega arith) refl) done (seen 3 refl refl)
+
+-- it is no key, since it stands on two lines
+scalar_key_no_key : NoKeyAt scalar_key 0 (negsuc 0) (record { sequence = Some 0; mapping = Some 0 }) 0
+unfolding code begins chars is_break_char
+scalar_key_no_key = unfit_node (scalar_key_node 0) (key_unfit (λ k b. let l = whites_forward b.run in true≢false (b.line.each 1 (omega arith) (omega arith))))
+
+scalar_key_whole : Whole scalar_key 0 (Awaited false (negsuc 0) BlockIn Nothing 0) None
+unfolding code begins chars past told begins_properties begins_alias
+scalar_key_whole =
+    awaited_below (text_start scalar_key_line)
+    (below_node (text_start scalar_key_line) scalar_key_line (line_first refl) root_columns
+    (leaf_there (no_signs refl refl refl) scalar_key_no_key (no_properties refl)
+    (leaf_unended (no_scalar refl refl) (record { no_props = refl; no_alias = λ e. refl }) (scalar_key_node 0) scalar_key_goes_on)))
+
+scalar_key_last : LastLine scalar_key 0 3 2
+scalar_key_last = record { from = 1; ends = scalar_key_feed; first = omega arith; inside = omega arith; last = λ g h l b. let f = break_forward b in omega arith }
+
+scalar_key_part : Chosen (PlainPart scalar_key (pos 0) [] 0) 2 (scalar PlainStyle (codes "a") [] 0 1)
+unfolding code begins chars is_ns_char is_nb_char is_printable is_between is_break_char is_white noting scalar encode
+scalar_key_part =
+    let end : LineEnd scalar_key 1 2 [] = (line_ends scalar_key_feed (seen 2 refl refl)).derived in
+    let part : PlainPart scalar_key (pos 0) [] 0 2 (scalar PlainStyle (codes "a") [] 0 1) = plain_part scalar_key_first (record { line = end; allowed = none_open }) in
+    let cut = plain_without_last scalar_key_utf8 scalar_key_plain (record { none = λ j x m. scalar_key_goes_on.none j x m.line }) scalar_key_last in
+    subst (λ x. Chosen (PlainPart scalar_key (pos 0) [] 0) 2 x) (sym (cut.best.only (scalar PlainStyle (codes "a") [] 0 1) part)) cut.best
+
+scalar_key_halts : Halts scalar_key 0 [] (Awaited false (negsuc 0) BlockIn Nothing 0) (found 2 0 false (scalar PlainStyle (codes "a") [] 0 1))
+unfolding code begins chars past told headed with_plain found behind begins_properties begins_alias begins_plain begins_content
+scalar_key_halts =
+    halts_below (text_start scalar_key_line)
+    (halts_node (text_start scalar_key_line) scalar_key_line (line_first refl) root_columns
+    (halts_leaf (no_signs refl refl refl) scalar_key_no_key (no_properties refl)
+    (halts_plain (no_scalar refl refl) (record { no_props = refl; no_alias = λ e. refl }) refl scalar_key_part)))
