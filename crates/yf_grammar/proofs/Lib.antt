@@ -76,6 +76,7 @@ pub mod PlainTails
 pub mod PropertiedNodes
 pub mod PropertiesEnds
 pub mod PropertiesLines
+mod PropertiesShown
 pub mod PropertiesWalk
 pub mod QuotedEnds
 pub mod ScalarPlaced

@@ -1,6 +1,6 @@
 -- Parts of small block nodes: where a line begins, ends or stops, and what does not stand at a character.
-use Rattle.std.proofs.Common.{◌≡◌, ◌≢◌, ℕ, ◌+◌, ◌-◌, ◌<◌, ◌≤◌, ℤ, pos, Bool, true, false, ◌==◌, ◌||◌, List, [], ◌∷◌, length, refl, sym, ap, ◌∙◌, arith, true≢false}
-use Rattle.std.proofs.lemmas.Bool.{eq-eqb}
+use Rattle.std.proofs.Common.{◌≡◌, ◌≢◌, ℕ, ◌+◌, ◌-◌, ◌<◌, ◌≤◌, ℤ, pos, Bool, true, false, ◌==◌, ◌||◌, List, [], ◌∷◌, length, refl, sym, ap, ◌∙◌, arith, true≢false, ⊎_elim}
+use Rattle.std.proofs.lemmas.Bool.{eq-eqb, cases_lt}
 use Rattle.std.proofs.lemmas.Int.{ints}
 use Rattle.std.specs.Str.{IsUtf8}
 use Rattle.yf_chars.specs.declared.context.Ctx.{Ctx}
@@ -109,6 +109,11 @@ module _ {t : List ℕ} where
 
   pub one_character : {i : ℕ} → is_break_char (code t i) ≡ false → OnOneLine t i (i + 1)
   one_character {i} f = record { each = λ h l m. let same : h ≡ i = omega arith in ap (λ k. is_break_char (code t k)) same ∙ f }
+
+  pub next_character : {i j : ℕ} → OnOneLine t i j → is_break_char (code t j) ≡ false → OnOneLine t i (j + 1)
+  next_character {i} {j} o f = record {
+    each = λ h l m. ⊎_elim (λ (b : h < j). o.each h l b) (λ (b : j ≤ h). let same : h ≡ j = omega arith in ap (λ k. is_break_char (code t k)) same ∙ f) (cases_lt h j);
+  }
 
   -- a plain scalar of one character, after which neither its line nor a next one goes on
   pub plain_character : {n : ℤ} {i : ℕ} → is_plain_first t FlowOut i ≡ true → Clear t i (next t i) → is_white (code t (next t i)) ≡ false
