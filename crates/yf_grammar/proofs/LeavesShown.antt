@@ -1,38 +1,55 @@
--- Small block nodes with keys and plain scalars, each with the outcome that the reader has there, written out by hand.
-use Rattle.std.proofs.Common.{◌≡◌, ◌≢◌, ℕ, suc, zero, ◌+◌, ◌<◌, ◌≤◌, ℤ, pos, negsuc, Bool, true, false, List, [], ◌∷◌, Option, Some, None, codes, refl, sym, subst, arith, true≢false, length, ⊎_elim}
+-- Small block nodes with a key, a plain scalar and a block scalar, each with the outcome that the reader has there, written out by hand.
+use Rattle.std.proofs.Common.{◌≡◌, ◌≢◌, ℕ, suc, zero, ◌+◌, ◌<◌, ◌≤◌, ℤ, pos, negsuc, Bool, true, false, List, [], ◌∷◌, Option, Some, None, codes, refl, sym, ap, ◌∙◌, subst, arith, true≢false, length, ⊎_elim}
 use Rattle.std.proofs.lemmas.Bool.{cases_lt}
 use Rattle.std.specs.Str.{IsUtf8, chars}
 use lib.Utf8.{encode}
 use Rattle.yf_chars.specs.declared.context.Ctx.TheVariants.{BlockIn, FlowOut, FlowIn}
-use Rattle.yf_chars.specs.Text.{begins, code, next}
+use Rattle.yf_chars.specs.Text.{begins, code, next, no_char}
 use Rattle.yf_chars.specs.Class.{is_ns_char, is_nb_char, is_printable, is_between, is_break_char, is_white, is_white_or_end, is_indicator, is_flow_indicator, is_plain_safe}
 use Rattle.yf_chars.specs.Chain.{Many, Stuck, Chosen}
 use Rattle.yf_chars.specs.Chain.Chain.{done, step}
+use Rattle.yf_chars.specs.Chain.One.{one}
+use Rattle.yf_chars.proofs.TextLemmas.{code-past}
 use Rattle.yf_lines.specs.Basic.{Break, Clear, is_marker, is_three}
 use Rattle.yf_lines.specs.Basic.Indent.{exactly}
 use Rattle.yf_lines.specs.Basic.FlowPrefix.{indented}
 use Rattle.yf_lines.specs.Fold.{FoldsTo}
-use Rattle.yf_lines.proofs.BasicLemmas.{break_forward, clear_front, clear_join, no_break_here}
+use Rattle.yf_lines.proofs.BasicLemmas.{break_char, break_forward, clear_front, clear_join, no_break_here}
 use Rattle.yf_lines.proofs.FoldLemmas.{fold_found, lines_found}
+use Rattle.yf_lines.specs.Lines.LineEnd.{at_end}
+use Rattle.yf_lines.specs.Lines.OneLine.{one_line as one_text_line}
 use Rattle.yf_comments.specs.Comments.{LineEnd}
-use Rattle.yf_events.specs.declared.event.ScalarStyle.TheVariants.{Plain as PlainStyle}
+use Rattle.yf_comments.specs.Comments.BreakOrEnd.{by_break}
+use Rattle.yf_comments.specs.Comments.LineRest.{nothing}
+use Rattle.yf_comments.proofs.RowLemmas.{none_nb}
+use Rattle.yf_block_scalar.specs.declared.header.Chomp.TheVariants.{Clip}
+use Rattle.yf_block_scalar.specs.Header.{BlockHeader, HeaderValue}
+use Rattle.yf_block_scalar.specs.Header.BlockHeader.{block_header}
+use Rattle.yf_block_scalar.specs.Header.Style.{literal_sign}
+use Rattle.yf_block_scalar.specs.Header.Indicators.{neither}
+use Rattle.yf_block_scalar.specs.Body.{Body, BodyValue, Line, empty_line, content_line, content, Taken, up_to, by_text, MarkerLine, marker_here, past_mark, detected, no_comment}
+use Rattle.yf_events.specs.Event.{scalar_node}
+use Rattle.yf_props.specs.Props.{no_props}
+use Rattle.yf_events.specs.declared.event.ScalarStyle.TheVariants.{Plain as PlainStyle, Literal}
 use Rattle.yf_plain.specs.Plain.{Plain, PlainItem, NoNextLine, is_plain_first, is_plain_char, is_sign}
 use Rattle.yf_plain.specs.Plain.PlainLine.{one_line}
 use Rattle.yf_plain.specs.Plain.PlainNext.{next_line}
 use Rattle.yf_plain.specs.Plain.PlainText.{as_lines}
-use Rattle.yf_plain.proofs.LineLemmas.{Onward, on_line, on_next, plain_onward, plain_unique}
-use Rattle.yf_plain.proofs.PlainLemmas.{item_stuck}
-use Rattle.yf_grammar.specs.Meaning.{Meaning, ◌⊕◌, behind, noting, scalar, empty_node, collection, entering}
+use Rattle.yf_plain.proofs.LineLemmas.{no_plain, Onward, on_line, on_next, plain_onward, plain_unique}
+use Rattle.yf_plain.proofs.PlainLemmas.{item_stuck, no_front}
+use Rattle.yf_grammar.specs.BlockScalar.{BlockScalar, block_scalar, LinesBetween, counted}
+use Rattle.yf_grammar.specs.Meaning.{Meaning, from_to, ◌⊕◌, behind, noting, scalar, empty_node, collection, entering}
 use Rattle.yf_grammar.specs.Grammar.{characters_between}
 use Rattle.yf_grammar.specs.Parser.{Found, found, plain_found, Parses, ANode, begins_plain, begins_alias, begins_properties, begins_content}
-use Rattle.yf_grammar.specs.Parser.Parses.{plain_read}
-use Rattle.yf_grammar.specs.BlockParser.{LineText, KeyBefore, key_unfit, NoKeyAt, unfit_node, line_first, text_ends, Nothing, past, told, alone, headed, Awaited, collected, pair_found, by_key, Whole}
-use Rattle.yf_grammar.specs.BlockParser.Whole.{awaited_below, below_alone, below_node, mapping_read, leaf_there, leaf_unended, items_last, key_read}
+use Rattle.yf_grammar.specs.Parser.Parses.{plain_read, plain_missed}
+use Rattle.yf_grammar.specs.BlockParser.{LineText, KeyBefore, key_missed, key_unfit, NoKeyAt, unfit_node, line_first, text_ends, Nothing, past, told, alone, headed, Awaited, collected, leaf_found, pair_found, by_key, Whole}
+use Rattle.yf_grammar.specs.BlockParser.Whole.{awaited_below, below_alone, below_node, mapping_read, leaf_there, scalar_read, leaf_unended, items_last, key_read}
 use Rattle.yf_grammar.specs.Halts.{none_open, PlainPart, plain_part, with_plain, Halts}
 use Rattle.yf_grammar.specs.Halts.Halts.{halts_below, halts_node, halts_leaf, halts_plain}
 use Rattle.yf_grammar.proofs.BlankRuns.{behind_byte}
 use Rattle.yf_grammar.proofs.BlockShown.{root_columns}
 use Rattle.yf_grammar.proofs.Forward.{whites_forward}
+use Rattle.yf_grammar.proofs.OneScalars.{scalar_chosen}
 use Rattle.yf_grammar.proofs.PlainCut.{LastLine, plain_without_last}
 use Rattle.yf_grammar.proofs.ShownParts.{seen, feed, line_at, no_spaces, text_start, line_ends, text_stops, no_node, no_entry, no_signs, no_scalar, no_properties, goes_on, one_character, plain_character, no_fold, clear_place}
 
@@ -162,3 +179,106 @@ scalar_key_halts =
     (halts_node (text_start scalar_key_line) scalar_key_line (line_first refl) root_columns
     (halts_leaf (no_signs refl refl refl) scalar_key_no_key (no_properties refl)
     (halts_plain (no_scalar refl refl) (record { no_props = refl; no_alias = λ e. refl }) refl scalar_key_part)))
+
+-- a block scalar, whose last line has no break
+abbrev literal : List ℕ
+literal = codes "|\na"
+
+literal_utf8 : IsUtf8 literal
+unfolding encode
+literal_utf8 = (codes "|\na", (refl, refl))
+
+literal_line : LineText literal 0 0 0
+unfolding code begins chars is_ns_char is_nb_char is_printable is_between is_break_char is_white is_marker is_three is_white_or_end
+literal_line = line_at 0 0 (no_spaces 0) (seen 0 refl refl) refl
+
+abbrev literal_header : HeaderValue
+literal_header = record { header = record { folded = false; digit = None; chomp = Clip }; comments = [] }
+
+abbrev literal_body : BodyValue
+literal_body = record { lines = codes "a" ∷ []; open_end = true; tail = 0; comments = [] }
+
+literal_head : BlockHeader literal 0 2 literal_header
+unfolding code begins chars
+literal_head = block_header (literal_sign refl) neither (nothing (by_break (feed 1 refl refl)))
+
+-- nothing stands after its line
+none_after : (i : ℕ) → 3 ≤ i → code literal i ≡ no_char
+none_after i l = code-past literal i l
+
+no_line_after : {j : ℕ} {x : List (List ℕ)} → Line literal 0 3 j x → ⊥
+no_line_after (empty_line {m = m} s l) =
+    let n = none_after (3 + m) (omega arith) in
+    ⊎_elim (λ (e : code literal (3 + m) ≡ 13). omega arith) (λ (e : code literal (3 + m) ≡ 10). omega arith) (break_char s.ends)
+no_line_after (content_line (content s c l e n)) = characters c l where
+  characters : {h : ℕ} {x : List ℕ} → Many literal is_nb_char 3 h x → 3 < h → ⊥
+  characters done l = omega arith
+  characters (step (one e) r) l = true≢false (sym e ∙ none_nb (code literal 3) (none_after 3 (omega arith)))
+
+literal_taken : Taken literal 0 2 (codes "a" ∷ []) true 0 3
+unfolding code begins chars next is_nb_char is_printable is_between is_break_char is_marker is_three is_white_or_end is_white
+literal_taken = record {
+  end = 3;
+  lines = up_to done (content (no_spaces 2) (step (one refl) done) (omega arith) (by_text refl) refl);
+  tail = record { widths = []; lines = done; within = omega arith; counts = refl };
+  most = record { none = λ j x d. no_line_after d };
+}
+
+no_marker_line : {i : ℕ} → i ≡ 2 → MarkerLine literal i → ⊥
+unfolding code begins chars is_marker is_three is_white_or_end is_white is_break_char
+no_marker_line e (marker_here m) = true≢false (sym m ∙ ap (is_marker literal) e)
+no_marker_line e (past_mark {i = i} m d) = let c = ap (code literal) e in omega (arith, m, c)
+
+literal_lines : Body literal (negsuc 0) literal_header.header 2 3 literal_body
+unfolding code begins chars
+literal_lines = detected refl
+    (record {
+      at = 2;
+      widths = [];
+      before = done;
+      within = omega arith;
+      first = record {
+        spaces = no_spaces 2;
+        other = record { inside = λ e. omega (arith, e); no_space = λ e. omega (arith, e); no_break = no_break_here literal 2 (λ e. omega (arith, e)) (λ e. omega (arith, e)) };
+        deep = omega arith;
+        clear = no_marker_line refl;
+      };
+    })
+    literal_taken (no_comment (λ m l. absurd (omega arith)))
+
+literal_one : LinesBetween literal 1 2 3
+unfolding code begins chars is_break_char
+literal_one = counted
+    (step
+    (one_text_line {l = record { start = 2; end = 3; next = 3; indent = 0 }}
+    (record {
+      order = omega arith;
+      unbroken = record { order = omega arith; none = λ h l m. let same : h ≡ 2 = omega arith in ap (λ k. is_break_char (code literal k)) same };
+      ends = at_end refl;
+      indented = record { spaces = no_spaces 2; stops = λ e. omega (arith, e) };
+    }))
+    done)
+    refl
+
+abbrev literal_meaning : Meaning
+literal_meaning = record {
+  events = record { event = scalar_node no_props Literal (codes "a"); span = Some (record { start = 0; end = 3 }); tag_offset = None; entry = None; folded = [] } ∷ [];
+  comments = [];
+  escapes = [];
+  finish = 3;
+}
+
+literal_scalar : BlockScalar literal (negsuc 0) 0 3 literal_meaning
+unfolding from_to
+literal_scalar = block_scalar literal_head literal_lines literal_one
+
+literal_no_key : NoKeyAt literal 0 (negsuc 0) (record { sequence = Some 0; mapping = Some 0 }) 0
+unfolding code begins chars begins_plain begins_alias begins_properties begins_content is_plain_first is_sign is_plain_safe is_ns_char is_nb_char is_printable is_between is_break_char is_white is_indicator is_flow_indicator
+literal_no_key = unfit_node (plain_missed refl (no_plain (no_front refl))) key_missed
+
+literal_whole : Whole literal 0 (Awaited false (negsuc 0) BlockIn Nothing 0) (found 3 0 false literal_meaning)
+unfolding code begins chars past told headed leaf_found found behind noting begins_properties
+literal_whole =
+    awaited_below (text_start literal_line)
+    (below_node (text_start literal_line) literal_line (line_first refl) root_columns
+    (leaf_there (no_signs refl refl refl) literal_no_key (no_properties refl) (scalar_read (scalar_chosen literal_utf8 literal_scalar))))
