@@ -1,9 +1,13 @@
 pub mod Forward
-pub mod ShownComment
 pub mod ShownEmpty
+pub mod ShownItem
+pub mod ShownMarked
 pub mod ShownMarkers
+pub mod ShownNotes
 pub mod ShownOneShape
 pub mod ShownParts
 pub mod ShownPlain
+pub mod ShownSpaced
 pub mod ShownStreams
 pub mod ShownWord
+pub mod ShownWords

@@ -1,12 +1,11 @@
 -- The empty text: whatever is derived of it is the stream without documents and comments, so it has one shape.
-use Rattle.std.proofs.Common.{◌≡◌, ◌≢◌, ℕ, zero, suc, ◌+◌, ◌<◌, ◌≤◌, true, false, List, [], ◌∷◌, ◌++◌, refl, sym, ap, ◌∙◌, arith}
+use Rattle.std.proofs.Common.{◌≡◌, ℕ, ◌<◌, true, List, [], ◌++◌, refl, sym, ap, ◌∙◌, arith}
 use Rattle.std.proofs.lemmas.Bool.{true≢false}
-use Rattle.std.specs.Str.{chars}
 use Rattle.yf_chars.specs.Text.{code, no_char}
 use Rattle.yf_chars.proofs.TextLemmas.{code-past}
 use Rattle.yf_lines.proofs.BasicLemmas.{three_first}
 use Rattle.yf_chars.specs.Class.{is_between, is_printable, is_break_char, is_nb_char, is_ns_char, is_white}
-use Rattle.yf_chars.specs.Chain.{Chain, Many}
+use Rattle.yf_chars.specs.Chain.{Many}
 use Rattle.yf_chars.specs.Chain.Chain.{done, step}
 use Rattle.yf_chars.specs.Chain.One.{one}
 use Rattle.yf_lines.specs.Basic.{Break, SeparateInLine, is_three}
@@ -17,7 +16,7 @@ use Rattle.yf_comments.specs.Comments.{BreakOrEnd, CommentLine, CommentText}
 use Rattle.yf_comments.specs.Comments.BreakOrEnd.{by_break, by_end}
 use Rattle.yf_comments.specs.Comments.CommentLine.{comment_line, whites_line}
 use Rattle.yf_comments.specs.Comments.CommentText.{comment_text}
-use Rattle.yf_stream.specs.Stream.{AnyDocument, ContentAt, DirectiveLines, Documents, ExplicitNode, PrefixPart, Prefixes, Stream, StreamRest, Suffixes, only_comments, with_comments, with_document}
+use Rattle.yf_stream.specs.Stream.{AnyDocument, DirectiveLines, Documents, ExplicitNode, PrefixPart, Prefixes, Stream, StreamRest, Suffixes, with_comments}
 use Rattle.yf_stream.specs.Stream.AnyDocument.{bare_document, directive_document, explicit_document}
 use Rattle.yf_stream.specs.Stream.ContentAt.{content_at}
 use Rattle.yf_stream.specs.Stream.DirectiveLines.{last_directive, more_directives}

@@ -12,7 +12,7 @@ use Rattle.yf_lines.specs.Basic.Break.{lone_lf}
 use Rattle.yf_lines.specs.Basic.LineStart.{at_text, after_break}
 use Rattle.yf_lines.specs.Basic.SeparateInLine.{at_start, by_whites}
 use Rattle.yf_lines.proofs.BasicLemmas.{clear_join}
-use Rattle.yf_comments.specs.Comments.{CommentLine, LineEnd, Noted, is_gap}
+use Rattle.yf_comments.specs.Comments.{CommentLine, CommentText, LineEnd, Noted, is_gap}
 use Rattle.yf_comments.specs.Comments.CommentText.{comment_text}
 use Rattle.yf_comments.specs.Comments.BreakOrEnd.{by_break}
 use Rattle.yf_comments.specs.Comments.LineRest.{nothing}
@@ -38,14 +38,14 @@ use Rattle.yf_stream.proofs.ShownParts.{clear_one, later_comment, unmarked, no_m
 use Rattle.yf_stream.proofs.ShownStreams.{comment_at}
 
 -- a sequence, and a comment line: it is the last item's, or stands after the document
-abbrev item_then_comment : List ℕ
+abbrev pub item_then_comment : List ℕ
 item_then_comment = codes "- a\n# c\n"
 
-item_then_comment_feed_3 : Break item_then_comment 3 4
+pub item_then_comment_feed_3 : Break item_then_comment 3 4
 unfolding code begins chars
 item_then_comment_feed_3 = lone_lf refl (λ e. omega (arith, e))
 
-item_then_comment_feed_7 : Break item_then_comment 7 8
+pub item_then_comment_feed_7 : Break item_then_comment 7 8
 unfolding code begins chars
 item_then_comment_feed_7 = lone_lf refl (λ e. omega (arith, e))
 
@@ -53,9 +53,12 @@ item_then_comment_note : Noted item_then_comment 4 false
 unfolding code begins chars is_gap is_white is_break_char unmarked
 item_then_comment_note = later_comment item_then_comment 2 refl refl (λ i l. no_mark item_then_comment 3 i refl (omega arith))
 
-item_then_comment_comment : CommentLine item_then_comment 4 8 (comment_at 4 ∷ [])
+pub item_then_comment_text : CommentText item_then_comment 4 7 (comment_at 4 ∷ [])
 unfolding code begins chars next is_nb_char is_printable is_break_char is_between
-item_then_comment_comment = comment_line (at_start (after_break item_then_comment_feed_3)) (comment_text refl (step (one refl) (step (one refl) done)) item_then_comment_note) (by_break item_then_comment_feed_7)
+item_then_comment_text = comment_text refl (step (one refl) (step (one refl) done)) item_then_comment_note
+
+item_then_comment_comment : CommentLine item_then_comment 4 8 (comment_at 4 ∷ [])
+item_then_comment_comment = comment_line (at_start (after_break item_then_comment_feed_3)) item_then_comment_text (by_break item_then_comment_feed_7)
 
 item_then_comment_word : Derives item_then_comment 0 (FlowNode (pos 1) FlowOut) 2 3 (scalar Plain (codes "a") [] 2 3)
 unfolding code begins chars next is_plain_first is_ns_char is_nb_char is_printable is_break_char is_between is_white is_indicator is_flow_indicator lib.Utf8.encode
@@ -90,13 +93,13 @@ item_then_comment_space = by_whites (step (one refl) done) (omega arith)
 no_spaces : Spaces item_then_comment 0 0
 no_spaces = record { each = λ m l. omega arith }
 
-abbrev item_then_comment_node : Meaning
+abbrev pub item_then_comment_node : Meaning
 item_then_comment_node = collection true false 0 3 (entering 0 None (scalar Plain (codes "a") [] 2 3))
 
-abbrev item_then_comment_meant : Documents
+abbrev pub item_then_comment_meant : Documents
 item_then_comment_meant = record { documents = document_of 0 false [] item_then_comment_node ∷ []; comments = comment_at 4 ∷ [] }
 
-item_then_comment_in_node : Stream item_then_comment 1 item_then_comment_meant
+pub item_then_comment_in_node : Stream item_then_comment 1 item_then_comment_meant
 unfolding code begins chars next is_white noting behind scalar plain_event from_to document_of with_document with_comments collection entering is_ns_char is_nb_char is_printable is_break_char is_between
 item_then_comment_in_node =
     let entry = a_dash_entry refl refl (an_indented_node (flow_in_block {n = pos 0} refl (in_node refl (in_line item_then_comment_space)) item_then_comment_word item_then_comment_end_with)) in
@@ -111,14 +114,14 @@ item_then_comment_after_node =
     begins_with_document done (bare_document (record { derived = node; clear = item_then_comment_clear_short }) item_then_comment_content) item_then_comment_after
 
 -- `a` on the line of the marker, and a comment line
-abbrev marked_word_then_comment : List ℕ
+abbrev pub marked_word_then_comment : List ℕ
 marked_word_then_comment = codes "--- a\n# c\n"
 
-marked_word_then_comment_feed_5 : Break marked_word_then_comment 5 6
+pub marked_word_then_comment_feed_5 : Break marked_word_then_comment 5 6
 unfolding code begins chars
 marked_word_then_comment_feed_5 = lone_lf refl (λ e. omega (arith, e))
 
-marked_word_then_comment_feed_9 : Break marked_word_then_comment 9 10
+pub marked_word_then_comment_feed_9 : Break marked_word_then_comment 9 10
 unfolding code begins chars
 marked_word_then_comment_feed_9 = lone_lf refl (λ e. omega (arith, e))
 
@@ -126,9 +129,12 @@ marked_word_then_comment_note : Noted marked_word_then_comment 6 false
 unfolding code begins chars is_gap is_white is_break_char unmarked
 marked_word_then_comment_note = later_comment marked_word_then_comment 4 refl refl (λ i l. no_mark marked_word_then_comment 5 i refl (omega arith))
 
-marked_word_then_comment_comment : CommentLine marked_word_then_comment 6 10 (comment_at 6 ∷ [])
+pub marked_word_then_comment_text : CommentText marked_word_then_comment 6 9 (comment_at 6 ∷ [])
 unfolding code begins chars next is_nb_char is_printable is_break_char is_between
-marked_word_then_comment_comment = comment_line (at_start (after_break marked_word_then_comment_feed_5)) (comment_text refl (step (one refl) (step (one refl) done)) marked_word_then_comment_note) (by_break marked_word_then_comment_feed_9)
+marked_word_then_comment_text = comment_text refl (step (one refl) (step (one refl) done)) marked_word_then_comment_note
+
+marked_word_then_comment_comment : CommentLine marked_word_then_comment 6 10 (comment_at 6 ∷ [])
+marked_word_then_comment_comment = comment_line (at_start (after_break marked_word_then_comment_feed_5)) marked_word_then_comment_text (by_break marked_word_then_comment_feed_9)
 
 marked_word_then_comment_word : Derives marked_word_then_comment 0 (FlowNode (pos 0) FlowOut) 4 5 (scalar Plain (codes "a") [] 4 5)
 unfolding code begins chars next is_plain_first is_ns_char is_nb_char is_printable is_break_char is_between is_white is_indicator is_flow_indicator lib.Utf8.encode
@@ -156,10 +162,10 @@ marked_word_then_comment_space : SeparateInLine marked_word_then_comment 3 4
 unfolding code begins chars next is_white
 marked_word_then_comment_space = by_whites (step (one refl) done) (omega arith)
 
-abbrev marked_word_then_comment_meant : Documents
+abbrev pub marked_word_then_comment_meant : Documents
 marked_word_then_comment_meant = record { documents = document_of 0 true [] (scalar Plain (codes "a") [] 4 5) ∷ []; comments = comment_at 6 ∷ [] }
 
-marked_word_then_comment_in_node : Stream marked_word_then_comment 0 marked_word_then_comment_meant
+pub marked_word_then_comment_in_node : Stream marked_word_then_comment 0 marked_word_then_comment_meant
 unfolding code begins chars next is_white noting behind scalar plain_event from_to document_of with_document with_comments is_three
 marked_word_then_comment_in_node =
     let node = flow_in_block {n = pos 0 -ℤ pos 1} refl (in_node refl (in_line marked_word_then_comment_space)) marked_word_then_comment_word marked_word_then_comment_end_with in
@@ -172,14 +178,14 @@ marked_word_then_comment_after_node =
     begins_with_document done (explicit_document (marked_node refl (record { derived = node; clear = marked_word_then_comment_clear_short }))) marked_word_then_comment_after
 
 -- a marker with nothing after it, and a comment line; the document may also count as one that follows
-abbrev marker_then_comment : List ℕ
+abbrev pub marker_then_comment : List ℕ
 marker_then_comment = codes "---\n# c\n"
 
-marker_then_comment_feed_3 : Break marker_then_comment 3 4
+pub marker_then_comment_feed_3 : Break marker_then_comment 3 4
 unfolding code begins chars
 marker_then_comment_feed_3 = lone_lf refl (λ e. omega (arith, e))
 
-marker_then_comment_feed_7 : Break marker_then_comment 7 8
+pub marker_then_comment_feed_7 : Break marker_then_comment 7 8
 unfolding code begins chars
 marker_then_comment_feed_7 = lone_lf refl (λ e. omega (arith, e))
 
@@ -187,9 +193,12 @@ marker_then_comment_note : Noted marker_then_comment 4 false
 unfolding code begins chars is_gap is_white is_break_char unmarked
 marker_then_comment_note = later_comment marker_then_comment 2 refl refl (λ i l. no_mark marker_then_comment 3 i refl (omega arith))
 
-marker_then_comment_comment : CommentLine marker_then_comment 4 8 (comment_at 4 ∷ [])
+pub marker_then_comment_text : CommentText marker_then_comment 4 7 (comment_at 4 ∷ [])
 unfolding code begins chars next is_nb_char is_printable is_break_char is_between
-marker_then_comment_comment = comment_line (at_start (after_break marker_then_comment_feed_3)) (comment_text refl (step (one refl) (step (one refl) done)) marker_then_comment_note) (by_break marker_then_comment_feed_7)
+marker_then_comment_text = comment_text refl (step (one refl) (step (one refl) done)) marker_then_comment_note
+
+marker_then_comment_comment : CommentLine marker_then_comment 4 8 (comment_at 4 ∷ [])
+marker_then_comment_comment = comment_line (at_start (after_break marker_then_comment_feed_3)) marker_then_comment_text (by_break marker_then_comment_feed_7)
 
 marker_then_comment_end : LineEnd marker_then_comment 3 4 []
 marker_then_comment_end = past_rest (nothing (by_break marker_then_comment_feed_3)) done
@@ -201,10 +210,10 @@ marker_then_comment_after : StreamRest marker_then_comment 0 4 (only_comments (c
 unfolding with_comments
 marker_then_comment_after = past_prefix (prefix_comment marker_then_comment_comment) stream_ended
 
-abbrev marker_then_comment_meant : Documents
+abbrev pub marker_then_comment_meant : Documents
 marker_then_comment_meant = record { documents = document_of 0 true [] (empty_node 3) ∷ []; comments = comment_at 4 ∷ [] }
 
-marker_then_comment_with_marker : Stream marker_then_comment 0 marker_then_comment_meant
+pub marker_then_comment_with_marker : Stream marker_then_comment 0 marker_then_comment_meant
 unfolding code begins chars next is_white noting behind scalar plain_event from_to document_of with_document with_comments is_three empty_node
 marker_then_comment_with_marker = begins_with_document done (explicit_document (marked_nothing refl marker_then_comment_end_with)) stream_ended
 

@@ -1,223 +1,204 @@
--- The text of one word and a comment line: whoever takes the comment, it is one stream, so the text has one shape.
-use Rattle.std.proofs.Common.{◌≡◌, ◌≢◌, ℕ, zero, suc, ℤ, ◌+◌, ◌<◌, Bool, true, false, List, [], ◌∷◌, ◌++◌, codes, refl, sym, ap, ◌∙◌, ◌⊎◌, inl, inr, ⊎_elim, arith, subst}
-use Rattle.std.proofs.lemmas.Bool.{true≢false}
-use Rattle.std.specs.Prelude.{if◌then◌else◌}
+-- The texts of one word and one comment line: whoever takes the comment, it is one stream, so each has one shape.
+use Rattle.std.proofs.Common.{◌≡◌, ◌≢◌, ℕ, ℤ, pos, ◌+◌, ◌+ℤ◌, ◌-ℤ◌, ◌<◌, ◌≤◌, false, List, [], ◌∷◌, ◌++◌, refl, sym, ap, ◌∙◌, ◌⊎◌, inl, inr, ⊎_elim, arith, subst}
+use Rattle.std.proofs.lemmas.Bool.{cases_lt}
 use Rattle.std.specs.Str.{chars}
 use Rattle.yf_chars.specs.declared.context.Ctx.{Ctx}
-use Rattle.yf_chars.specs.declared.context.Ctx.TheVariants.{BlockIn, FlowOut, BlockOut, FlowIn, BlockKey, FlowKey}
-use Rattle.yf_chars.specs.Text.{begins, before, code, next}
-use Rattle.yf_chars.specs.Class.{is_between, is_printable, is_break_char, is_nb_char, is_ns_char, is_white, is_plain_safe, is_flow_indicator}
-use Rattle.yf_chars.specs.Chain.{Chain, Many}
+use Rattle.yf_chars.specs.declared.context.Ctx.TheVariants.{BlockIn, FlowOut}
+use Rattle.yf_chars.specs.Text.{before, begins, code}
+use Rattle.yf_chars.specs.Class.{is_between, is_printable, is_break_char, is_nb_char, is_ns_char, is_white}
 use Rattle.yf_chars.specs.Chain.Chain.{done, step}
-use Rattle.yf_chars.specs.Chain.One.{one}
-use Rattle.yf_lines.specs.Basic.{Break, Folded, FlowFolded, FlowPrefix, SeparateInLine, Spaces, Empty}
-use Rattle.yf_lines.specs.Basic.Folded.{as_space, trimmed}
-use Rattle.yf_lines.specs.Basic.FlowFolded.{at_break, past_whites}
-use Rattle.yf_lines.specs.Basic.FlowPrefix.{indented, set_off as behind_indentation}
-use Rattle.yf_lines.specs.Basic.Indent.{exactly}
+use Rattle.yf_lines.specs.Basic.{SeparateInLine}
+use Rattle.yf_lines.specs.Basic.SeparateInLine.{at_start}
+use Rattle.yf_lines.proofs.BasicLemmas.{break_char}
+use Rattle.yf_lines.specs.Basic.LineStart.{after_break, at_text}
 use Rattle.yf_comments.specs.Comment.{CommentValue}
-use Rattle.yf_comments.specs.Comments.LineRest.{comment, nothing}
-use Rattle.yf_stream.proofs.ShownPlain.{no_alias, no_block_scalar, no_directive, no_entries, no_explicit, no_json, no_properties, no_suffix}
-use Rattle.yf_plain.specs.Plain.{PlainItem, PlainLine, PlainNext, PlainText, is_plain_char}
-use Rattle.yf_plain.specs.Plain.PlainItem.{set_off}
-use Rattle.yf_plain.specs.Plain.PlainLine.{one_line}
-use Rattle.yf_plain.specs.Plain.PlainNext.{next_line}
-use Rattle.yf_plain.specs.Plain.PlainText.{as_key, as_lines}
-use Rattle.yf_lines.specs.Basic.Empty.{prefixed, shorter}
-use Rattle.yf_lines.specs.Basic.IndentLess.{fewer}
-use Rattle.yf_lines.specs.Basic.LinePrefix.{in_block, in_flow}
-use Rattle.yf_events.specs.declared.event.ScalarStyle.TheVariants.{Plain}
-use Rattle.yf_grammar.specs.Grammar.{BlockNode, Derives, FlowNode, NodeOf}
-use Rattle.yf_grammar.specs.Grammar.Derives.{flow_node, an_alias, a_plain, a_plain_with, properties_alone, a_json, a_json_with, a_block_scalar, a_block_scalar_with, a_block_collection, a_block_collection_with, flow_in_block}
+use Rattle.yf_comments.specs.Comments.{BreakOrEnd}
+use Rattle.yf_comments.specs.Comments.BreakOrEnd.{by_break, by_end}
+use Rattle.yf_comments.specs.Comments.LineRest.{comment}
+use Rattle.yf_comments.specs.Comments.CommentLine.{comment_line, whites_line}
+use Rattle.yf_comments.proofs.RowLemmas.{separate_whites}
+use Rattle.yf_grammar.proofs.Forward.{in_line_forward}
+use Rattle.yf_grammar.specs.Grammar.{BlockNode, Derives, FlowNode}
+use Rattle.yf_grammar.specs.Grammar.Derives.{a_block_scalar, a_block_scalar_with, a_block_collection, a_block_collection_with, flow_in_block}
 use Rattle.yf_grammar.specs.Meaning.{Meaning, behind, noting, plain_event, scalar}
-use Rattle.yf_stream.specs.Stream.{AnyDocument, Document, Documents, PrefixPart, Prefixes, Stream, StreamRest, document_of, with_comments, with_document}
+use Rattle.yf_grammar.proofs.GapLemmas.{Visible, separate_still}
+use Rattle.yf_stream.specs.Stream.{AnyDocument, ContentAt, Document, Documents, Prefixes, Stream, StreamRest, document_of, with_document}
 use Rattle.yf_stream.specs.Stream.AnyDocument.{bare_document, directive_document, explicit_document}
 use Rattle.yf_stream.specs.Stream.ContentAt.{content_at}
 use Rattle.yf_stream.specs.Stream.PrefixPart.{order_mark, prefix_comment}
 use Rattle.yf_stream.specs.Stream.Stream.{begins_with_document, without_document}
 use Rattle.yf_stream.specs.Stream.StreamRest.{past_explicit, past_prefix, past_suffixes, past_suffixes_and_document, stream_ended}
 use Rattle.yf_stream.specs.WellFormed.{Reads, Shapes}
-use Rattle.yf_stream.proofs.ShownStreams.{word_then_comment_in_node}
-use Rattle.yf_stream.proofs.ShownComment.{white_at, known, other_char, kept, break_is, no_sign, separation, takes_two, line_takes, end_takes, separated_start, separate_start, text, remark, Takes, Lines}
+use Rattle.yf_stream.proofs.ShownParts.{all_at}
+use Rattle.yf_stream.proofs.ShownStreams.{comment_at, comment_then_word, comment_then_word_feed_3, comment_then_word_read, comment_then_word_text, word_then_comment, word_then_comment_feed_1, word_then_comment_feed_5, word_then_comment_in_node, word_then_comment_text}
+use Rattle.yf_stream.proofs.ShownPlain.{is_sign, no_block_scalar, no_directive, no_entries, no_explicit, no_properties, no_suffix}
+use Rattle.yf_stream.proofs.ShownNotes.{OneComment, Takes, all_kept, before_end, end_takes, is_simple, part_side, prefix_forward, prefix_side, prefix_takes, remark_is, rest_is, same_side, separation_side, simple, takes_two}
+use Rattle.yf_stream.proofs.ShownWords.{WordAt, flow_is, whites_stay, word_at}
 
--- the plain scalar
-no_plain_char : (c : Ctx) (i : ℕ) → (i ≡ 1) ⊎ (i ≡ 2) → is_plain_char text c i ≡ false
-unfolding is_plain_char code begins chars before is_ns_char is_nb_char is_printable is_break_char is_between is_white is_plain_safe is_flow_indicator
-no_plain_char c i e = ⊎_elim (λ (a : i ≡ 1). rw a (at_feed c)) (λ (a : i ≡ 2). rw a (at_hash c)) e where
-  at_feed : (c : Ctx) → is_plain_char text c 1 ≡ false
-  at_feed BlockOut = refl
-  at_feed BlockIn = refl
-  at_feed FlowOut = refl
-  at_feed FlowIn = refl
-  at_feed BlockKey = refl
-  at_feed FlowKey = refl
+-- a block node that is the word, with comments round it
+pub record Node (p : ℕ) (remark : CommentValue) (q j : ℕ) (x : Meaning) : Type 0 where
+  pub events : x.events ≡ (word_at q).events
+  pub escapes : x.escapes ≡ (word_at q).escapes
+  pub finish : x.finish ≡ (word_at q).finish
+  pub takes : Takes p remark q j x.comments
 
-  at_hash : (c : Ctx) → is_plain_char text c 2 ≡ false
-  at_hash BlockOut = refl
-  at_hash BlockIn = refl
-  at_hash FlowOut = refl
-  at_hash FlowIn = refl
-  at_hash BlockKey = refl
-  at_hash FlowKey = refl
+-- one document, which is the word, and one comment
+abbrev pub one_stream : ℕ → CommentValue → Documents
+one_stream q remark = record { documents = document_of q false [] (word_at q) ∷ []; comments = remark ∷ [] }
 
-items_stay : {c : Ctx} {j : ℕ} {x : List ℕ} {i : ℕ} → i ≡ 1 → Chain (PlainItem text c) i j x → (j ≡ 1) × (x ≡ [])
-items_stay e done = (e, refl)
-items_stay {c} e (step (set_off {h = h} w f) r) = absurd (true≢false (sym f ∙ no_plain_char c h (inl (here e w)))) where
-  here : {i h : ℕ} {x : List ℕ} → i ≡ 1 → Many text is_white i h x → h ≡ 1
-  here e done = e
-  here e (step (one f) c) = let a = white_at _ f in absurd (omega (arith, a, e))
+module _ {t : List ℕ} {p e q : ℕ} {remark : CommentValue} (o : OneComment t p e 0 remark) (w : WordAt t q) (seen : Visible t q) (apart : p ≤ q → e ≤ q)
+    (begins_at : (i k : ℕ) (cs : List CommentValue) → Prefixes t 0 i cs → ContentAt t i k → (i ≡ q) × (k ≡ q)) where
+  no_dash : (i : ℕ) → code t i ≢ 45
+  no_dash i f = let l = o.chars.dash i f in omega arith
 
--- from the end of the word the next line begins at the comment
-no_spaces_there : (i k : ℕ) → i ≡ 2 → Spaces text i k → k ≡ 0
-unfolding code begins chars
-no_spaces_there i zero e s = refl
-no_spaces_there i (suc k) e s =
-    let start : i + 0 ≡ 2 = omega arith in
-    let f : code text 2 ≡ 32 = subst (λ k. code text k ≡ 32) start (s.each 0 (omega arith)) in
-    absurd (omega (arith, f))
+  other_place : q ≢ p
+  other_place f = let a = ap (code t) f ∙ o.sign in let b = w.word in omega (arith, sym b ∙ a)
 
-separated_there : {i j : ℕ} → i ≡ 2 → SeparateInLine text i j → j ≡ 2
-separated_there e s = ⊎_elim (λ a. a.0 ∙ e) (λ a. absurd (omega (arith, a.0))) (separation s)
+  word_takes : Takes p remark q (q + 1) []
+  word_takes = same_side remark (omega arith) (λ l. let f = other_place in omega (arith, f))
 
-prefixed_there : {n : ℤ} {i j : ℕ} → i ≡ 2 → FlowPrefix text n i j → j ≡ 2
-prefixed_there z (indented (exactly {i = i} k e s)) = let m = no_spaces_there i k z s in omega arith
-prefixed_there z (behind_indentation (exactly {i = i} k e s) l) = let m = no_spaces_there i k z s in separated_there (omega arith) l
+  block_is : {h j : ℕ} {n : ℤ} {c : Ctx} {x : Meaning} → Derives t h (BlockNode n c) q j x → Node p remark q j x
+  unfolding behind noting scalar
+  block_is (a_block_scalar b s d) = absurd (no_block_scalar t o.chars.sign d)
+  block_is (a_block_scalar_with b s f r d) = absurd (no_properties t o.chars.sign f)
+  block_is (a_block_collection b l s m d) = absurd (no_entries t o.chars.sign no_dash d)
+  block_is (a_block_collection_with b s f l k m d) = absurd (no_properties t o.chars.sign f)
+  block_is {j = j} (flow_in_block {h = h} {k = k} {l = l} {n = n} {cs = cs} {ds = ds} {x = x} b s d f) =
+      let a = separate_still seen s in
+      let r = flow_is w (subst (λ k. Derives t h (FlowNode (n +ℤ pos 1) FlowOut) k l x) a.0 d) in
+      let rest : Takes p remark (q + 1) j ds = subst (λ l. Takes p remark l j ds) r.0 (end_takes o f) in
+      record {
+        events = ap (λ m. m.events) r.1;
+        escapes = ap (λ m. m.escapes) r.1;
+        finish = ap (λ m. m.finish) r.1;
+        takes = rw (a.1, r.1) (takes_two word_takes rest);
+      }
 
-no_break_there : {i j : ℕ} → i ≡ 2 → Break text i j → ⊥
-no_break_there e b = ⊎_elim (λ a. omega (arith, a.0)) (λ a. omega (arith, a.0)) (break_is b)
+  record Whole (j : ℕ) (d : Document) (cs : List CommentValue) : Type 0 where
+    is : d ≡ document_of q false [] (word_at q)
+    takes : Takes p remark q j cs
 
-no_empty_line : {n : ℤ} {i j : ℕ} {x : List ℕ} → i ≡ 2 → Empty text n FlowIn i j x → ⊥
-no_empty_line e (prefixed (in_block k p) b) = true≢false (sym k)
-no_empty_line e (prefixed (in_flow k p) b) = no_break_there (prefixed_there e p) b
-no_empty_line e (shorter (fewer {i = i} k l s) b) = let m = no_spaces_there i k e s in no_break_there (omega arith) b
+  document_is : {h i j : ℕ} {d : Document} {ds cs : List CommentValue} → Prefixes t 0 i ds → AnyDocument t h i j d cs → (i ≡ q) × Whole j d cs
+  unfolding document_of scalar
+  document_is {h} {i} {j} {ds = ds} f (bare_document {k = k} {x = x} b c) =
+      let at = begins_at i k ds f c in
+      let a = block_is (subst (λ i. Derives t h (BlockNode (pos 0 -ℤ pos 1) BlockIn) i j x) at.0 b.derived) in
+      (at.0, record { is = rw (at.1, a.events, a.escapes, a.finish) refl; takes = a.takes })
+  document_is f (explicit_document d) = absurd (no_explicit t o.chars.sign no_dash d)
+  document_is f (directive_document d x) = absurd (no_directive t o.chars.sign d)
 
-folded_there : {n : ℤ} {i j : ℕ} {x : List ℕ} → i ≡ 1 → Folded text n FlowIn i j x → j ≡ 2
-folded_there e (trimmed b m c) = absurd (no_empty_line (broken e b) m) where
-  broken : {i j : ℕ} → i ≡ 1 → Break text i j → j ≡ 2
-  broken e b = ⊎_elim (λ a. a.1) (λ a. absurd (omega (arith, a.0))) (break_is b)
-folded_there e (as_space b) = ⊎_elim (λ a. a.1) (λ a. absurd (omega (arith, a.0))) (break_is b)
+  -- what follows the document begins after the word
+  rest_later : {h i : ℕ} {x : Documents} → StreamRest t h i x → q < i
+  rest_later stream_ended = before_end o q 97 w.word (omega arith)
+  rest_later {i = i} (past_prefix f r) =
+      ⊎_elim (λ m. m) (λ m. let n = part_side o seen.ns apart f m in let l = rest_later r in absurd (omega arith)) (cases_lt q i)
+  rest_later (past_suffixes s f r) = absurd (no_suffix t o.chars.sign s)
+  rest_later (past_suffixes_and_document s f d r) = absurd (no_suffix t o.chars.sign s)
+  rest_later (past_explicit d r) = absurd (no_explicit t o.chars.sign no_dash d)
 
-fold_there : {n : ℤ} {i j : ℕ} {x : List ℕ} → i ≡ 1 → FlowFolded text n i j x → j ≡ 2
-fold_there e (at_break f p) = prefixed_there (folded_there e f) p
-fold_there e (past_whites s f p) = prefixed_there (folded_there (⊎_elim (λ a. a.0 ∙ e) (λ a. absurd (omega (arith, a.0))) (separation s)) f) p
+  pub one_stream_only : (h : ℕ) (x : Documents) → Stream t h x → x ≡ one_stream q remark
+  unfolding with_document
+  one_stream_only h x (begins_with_document {cs = cs} {ds = ds} {d = d} {x = rest} f a r) =
+      let whole = document_is f a in
+      let m = rest_is o (omega arith) r in
+      let front = takes_two (subst (λ i. Takes p remark 0 i cs) whole.0 (prefix_takes o f)) whole.1.takes in
+      let all : (cs ++ ds) ++ rest.comments ≡ remark ∷ [] = ap (λ v. (cs ++ ds) ++ v) m.comments ∙ front.taken ∙ all_kept o in
+      rw (whole.1.is, m.documents, all) refl
+  one_stream_only h x (without_document f r) = let l = rest_later r in let m = prefix_side o seen.ns apart f (omega arith) in absurd (omega arith)
 
-next_lines_stay : {n : ℤ} {c : Ctx} {i j : ℕ} {x : List ℕ} → i ≡ 1 → Chain (PlainNext text n c) i j x → (j ≡ 1) × (x ≡ [])
-next_lines_stay e done = (e, refl)
-next_lines_stay {c = c} e (step (next_line {h = h} f p r) d) = absurd (true≢false (sym p ∙ no_plain_char c h (inr (fold_there e f))))
+-- the word, and the comment line
+word_then_comment_one : OneComment word_then_comment 2 6 0 (comment_at 2)
+unfolding code begins chars all_at is_simple is_sign
+word_then_comment_one = record {
+  chars = simple word_then_comment 2 0 refl;
+  start = after_break word_then_comment_feed_1;
+  line = comment (at_start (after_break word_then_comment_feed_1)) word_then_comment_text (by_break word_then_comment_feed_5);
+  sign = refl;
+  later = omega arith;
+}
 
-first_next : next text 0 ≡ 1
-unfolding code begins chars next
-first_next = refl
+word_then_comment_at : WordAt word_then_comment 0
+unfolding code begins chars before
+word_then_comment_at = record { sign = word_then_comment_one.chars.sign; word = refl; feed = refl; behind = inr (refl, refl) }
 
-line_is : {c : Ctx} {i j : ℕ} {x : List ℕ} → i ≡ 0 → PlainLine text c i j x → (j ≡ 1) × (x ≡ 97 ∷ [])
-unfolding code begins chars
-line_is z (one_line f r) = let a = items_stay (ap (next text) z ∙ first_next) r in (a.0, rw (z, a.1) refl)
+word_then_comment_seen : Visible word_then_comment 0
+unfolding code begins chars is_ns_char is_nb_char is_printable is_break_char is_between is_white
+word_then_comment_seen = record { ns = refl; no_hash = λ e. omega (arith, e) }
 
-abbrev word_scalar : Meaning
-word_scalar = scalar Plain (codes "a") [] 0 1
+word_then_comment_begins : (i k : ℕ) (cs : List CommentValue) → Prefixes word_then_comment 0 i cs → ContentAt word_then_comment i k → (i ≡ 0) × (k ≡ 0)
+word_then_comment_begins i k cs f (content_at s n c) =
+    let a = prefix_side word_then_comment_one word_then_comment_seen.ns (λ l. absurd (omega arith)) f (omega arith) in
+    let b = separation_side word_then_comment_one word_then_comment_seen.ns (λ l. absurd (omega arith)) s a in
+    (omega arith, omega arith)
 
-text_is : {n : ℤ} {c : Ctx} {i j : ℕ} {x : List ℕ} → i ≡ 0 → PlainText text n c i j x → (j ≡ 1) × (x ≡ 97 ∷ [])
-text_is z (as_key k l) = line_is z l
-text_is z (as_lines f l r) = let a = line_is z l in let b = next_lines_stay a.0 r in (b.0, rw (a.1, b.1) refl)
+word_then_comment_shape : Shapes word_then_comment (one_stream 0 (comment_at 2))
+word_then_comment_shape = record {
+  height = 0;
+  derived = word_then_comment_in_node;
+  within = omega arith;
+  only = λ h x d l. one_stream_only word_then_comment_one word_then_comment_at word_then_comment_seen (λ m. absurd (omega arith)) word_then_comment_begins h x d;
+}
 
--- the node: its text, and the comment or not
-record Word (j : ℕ) (x : Meaning) : Type 0 where
-  end : j ≡ 1
-  means : x ≡ word_scalar
-
-node_is : {h i j : ℕ} {json : Bool} {n : ℤ} {c : Ctx} {x : Meaning} → i ≡ 0 → Derives text h (NodeOf json n c) i j x → Word j x
-unfolding lib.Utf8.encode
-node_is z (an_alias b d) = absurd (no_alias text no_sign d)
-node_is z (a_plain p) = let a = text_is z p in record { end = a.0; means = rw (a.0, a.1, z) refl }
-node_is z (a_plain_with p s x) = absurd (no_properties text no_sign p)
-node_is z (properties_alone b p) = absurd (no_properties text no_sign p)
-node_is z (a_json d) = absurd (no_json text no_sign d)
-node_is z (a_json_with p s d) = absurd (no_properties text no_sign p)
-
-flow_is : {h i j : ℕ} {n : ℤ} {c : Ctx} {x : Meaning} → i ≡ 0 → Derives text h (FlowNode n c) i j x → Word j x
-flow_is z (flow_node d) = node_is z d
-
--- a block node is the word, with comments after it
-record Node (j : ℕ) (x : Meaning) : Type 0 where
-  events : x.events ≡ word_scalar.events
-  escapes : x.escapes ≡ word_scalar.escapes
-  finish : x.finish ≡ word_scalar.finish
-  takes : Takes 0 j x.comments
-
-word_takes : {j : ℕ} {x : Meaning} → Word j x → Takes 0 j x.comments
-unfolding kept scalar
-word_takes w = record { taken = rw (w.means, w.end) refl }
-
-block_is : {h i j : ℕ} {n : ℤ} {c : Ctx} {x : Meaning} → i ≡ 0 → Derives text h (BlockNode n c) i j x → Node j x
-unfolding behind noting scalar
-block_is z (a_block_scalar b s d) = absurd (no_block_scalar text no_sign d)
-block_is z (a_block_scalar_with b s p r d) = absurd (no_properties text no_sign p)
-block_is z (a_block_collection b l s m d) = absurd (no_entries text no_sign d)
-block_is z (a_block_collection_with b s p l k m d) = absurd (no_properties text no_sign p)
-block_is {j = j} z (flow_in_block {k = k} {l = l} {cs = cs} {ds = ds} {x = x} b s d e) =
-    let a = separate_start z s in let w = flow_is a.0 d in
-    let front : Takes 0 0 cs = subst (λ m. Takes 0 m cs) a.0 (subst (λ m. Takes m k cs) z a.1) in record {
-      events = ap (λ m. m.events) w.means;
-      escapes = ap (λ m. m.escapes) w.means;
-      finish = ap (λ m. m.finish) w.means;
-      takes = takes_two front (takes_two (word_takes w) (end_takes e));
-    }
-
--- what stands between documents
-part_takes : {i j : ℕ} {cs : List CommentValue} → PrefixPart text i j cs → Lines i j cs
-unfolding known
-part_takes (order_mark e) = absurd (other_char _ 0xFEFF refl (omega arith) e)
-part_takes (prefix_comment c) = line_takes c
-
-start_prefix : {j : ℕ} {cs : List CommentValue} → Prefixes text 0 j cs → (j ≡ 0) × (cs ≡ [])
-start_prefix c = go refl c where
-  go : {i j : ℕ} {cs : List CommentValue} → i ≡ 0 → Prefixes text i j cs → (j ≡ 0) × (cs ≡ [])
-  go e done = (e, refl)
-  go e (step p c) = let l = part_takes p in let f = l.later in absurd (omega (arith, e, f))
-
--- the document
-record Whole (j : ℕ) (d : Document) (cs : List CommentValue) : Type 0 where
-  is : d ≡ document_of 0 false [] word_scalar
-  takes : Takes 0 j cs
-
-document_is : {h i j : ℕ} {d : Document} {cs : List CommentValue} → i ≡ 0 → AnyDocument text h i j d cs → Whole j d cs
-unfolding document_of scalar
-document_is z (bare_document {x = x} b (content_at {k = k} s n c)) =
-    let a = block_is z b.derived in let k0 : k ≡ 0 = separated_start z s in
-    record { is = rw (k0, a.events, a.escapes, a.finish) refl; takes = a.takes }
-document_is z (explicit_document e) = absurd (no_explicit text no_sign e)
-document_is z (directive_document d e) = absurd (no_directive text no_sign d)
-
--- after the document: the comment, if it is still to come; nothing else, and nothing so at the start
-record Rest (i : ℕ) (x : Documents) : Type 0 where
-  documents : x.documents ≡ []
-  comments : x.comments ≡ kept i
-  later : 1 < i
-
-rest_is : {h i : ℕ} {x : Documents} → StreamRest text h i x → Rest i x
-unfolding with_comments kept
-rest_is stream_ended = record { documents = refl; comments = refl; later = omega arith }
-rest_is (past_prefix {cs = cs} p r) =
-    let a = part_takes p in let b = rest_is r in
-    record { documents = b.documents; comments = ap (λ w. cs ++ w) b.comments ∙ a.takes.taken; later = a.later }
-rest_is (past_suffixes s p r) = absurd (no_suffix text no_sign s)
-rest_is (past_suffixes_and_document s p d r) = absurd (no_suffix text no_sign s)
-rest_is (past_explicit e r) = absurd (no_explicit text no_sign e)
-
-abbrev one_stream : Documents
-one_stream = record { documents = document_of 0 false [] word_scalar ∷ []; comments = remark ∷ [] }
-
-one_stream_only : (h : ℕ) (x : Documents) → Stream text h x → x ≡ one_stream
-unfolding with_document kept
-one_stream_only h x (begins_with_document {cs = cs} {ds = ds} {d = d} {x = rest} p a r) =
-    let b = start_prefix p in let w = document_is b.0 a in let m = rest_is r in
-    let all : ds ++ rest.comments ≡ remark ∷ [] = ap (λ v. ds ++ v) m.comments ∙ w.takes.taken in
-    rw (b.1, w.is, m.documents, all) refl
-one_stream_only h x (without_document p r) = let b = start_prefix p in let l = (rest_is r).later in absurd (omega (arith, b.0, l))
-
-one_shape : Shapes text one_stream
-one_shape = record { height = 0; derived = word_then_comment_in_node; within = omega arith; only = λ h x d l. one_stream_only h x d }
-
-one_reading : Reads text one_stream
+word_then_comment_reading : Reads word_then_comment (one_stream 0 (comment_at 2))
 unfolding document_of scalar plain_event
-one_reading = record { shapes = one_shape; well_formed = refl }
+word_then_comment_reading = record { shapes = word_then_comment_shape; well_formed = refl }
+
+-- the comment line, and the word
+comment_then_word_one : OneComment comment_then_word 0 4 0 (comment_at 0)
+unfolding code begins chars all_at is_simple is_sign
+comment_then_word_one = record {
+  chars = simple comment_then_word 0 0 refl;
+  start = at_text;
+  line = comment (at_start at_text) comment_then_word_text (by_break comment_then_word_feed_3);
+  sign = refl;
+  later = omega arith;
+}
+
+comment_then_word_at : WordAt comment_then_word 4
+unfolding code begins chars before
+comment_then_word_at = record { sign = comment_then_word_one.chars.sign; word = refl; feed = refl; behind = inl refl }
+
+comment_then_word_seen : Visible comment_then_word 4
+unfolding code begins chars is_ns_char is_nb_char is_printable is_break_char is_between is_white
+comment_then_word_seen = record { ns = refl; no_hash = λ e. omega (arith, e) }
+
+-- at the start of the text stands no white space, and no line ends
+comment_then_word_still : {k : ℕ} → SeparateInLine comment_then_word 0 k → k ≡ 0
+unfolding code begins chars is_white
+comment_then_word_still s = whites_stay refl (separate_whites s).1
+
+comment_then_word_no_end : {k : ℕ} → BreakOrEnd comment_then_word 0 k → ⊥
+unfolding code begins chars
+comment_then_word_no_end (by_break b) = ⊎_elim (λ e. omega (arith, e)) (λ e. omega (arith, e)) (break_char b)
+comment_then_word_no_end (by_end e) = omega (arith, e)
+
+comment_then_word_front : {i : ℕ} {cs : List CommentValue} → Prefixes comment_then_word 0 i cs → (i ≡ 0) ⊎ (i ≡ 4)
+comment_then_word_front done = inl refl
+comment_then_word_front (step (order_mark f) c) = absurd (comment_then_word_one.chars.mark _ f)
+comment_then_word_front (step (prefix_comment (whites_line {j = j} s b)) c) =
+    absurd (comment_then_word_no_end (subst (λ h. BreakOrEnd comment_then_word h j) (comment_then_word_still s) b))
+comment_then_word_front {i} (step {h = h} {y = y} (prefix_comment (comment_line s r b)) c) =
+    let k = (remark_is comment_then_word_one r b).1.0 in
+    let m = prefix_side comment_then_word_one comment_then_word_seen.ns (λ l. omega arith) c (omega arith) in
+    let n = prefix_forward comment_then_word_one c in inr (omega arith)
+
+comment_then_word_begins : (i k : ℕ) (cs : List CommentValue) → Prefixes comment_then_word 0 i cs → ContentAt comment_then_word i k → (i ≡ 4) × (k ≡ 4)
+unfolding code begins chars
+comment_then_word_begins i k cs f (content_at s n c) = ⊎_elim
+    (λ (e : i ≡ 0). let a = comment_then_word_still (subst (λ i. SeparateInLine comment_then_word i k) e s) in absurd (c (ap (code comment_then_word) a)))
+    (λ (e : i ≡ 4).
+    let a : k ≤ 4 = separation_side comment_then_word_one comment_then_word_seen.ns (λ l. omega arith) s (omega (arith, e)) in
+    let b = in_line_forward s in (e, omega arith))
+    (comment_then_word_front f)
+
+comment_then_word_shape : Shapes comment_then_word (one_stream 4 (comment_at 0))
+comment_then_word_shape = record {
+  height = 0;
+  derived = comment_then_word_read;
+  within = omega arith;
+  only = λ h x d l. one_stream_only comment_then_word_one comment_then_word_at comment_then_word_seen (λ m. omega arith) comment_then_word_begins h x d;
+}
+
+comment_then_word_reading : Reads comment_then_word (one_stream 4 (comment_at 0))
+unfolding document_of scalar plain_event
+comment_then_word_reading = record { shapes = comment_then_word_shape; well_formed = refl }

@@ -1,13 +1,11 @@
 -- Parts of small streams: places without a document marker, comments that follow no blank line.
-use Rattle.std.proofs.Common.{◌≡◌, ◌≢◌, ℕ, zero, suc, ◌+◌, ◌-◌, ◌<◌, ◌≤◌, Bool, true, false, not, ◌&&◌, ◌||◌, ◌==◌, List, refl, sym, ap, ◌∙◌, ◌⊎◌, inl, inr, ⊎_elim, arith, subst}
-use Rattle.std.proofs.lemmas.Bool.{true≢false, eqb-true, cases_Bool, cases_eq}
-use Rattle.std.proofs.lemmas.Str.{len_utf8_ascii}
-use Rattle.std.specs.Char.{len_utf8}
+use Rattle.std.proofs.Common.{◌≡◌, ◌≢◌, ℕ, zero, suc, ◌+◌, ◌<◌, ◌≤◌, Bool, true, false, not, ◌&&◌, ◌||◌, ◌==◌, List, refl, sym, ap, ◌∙◌, ◌⊎◌, inl, inr, ⊎_elim, arith}
+use Rattle.std.proofs.lemmas.Bool.{true≢false, eqb-true, cases_Bool, cases_eq, and_parts}
 use Rattle.yf_chars.specs.Text.{code, next}
 use Rattle.yf_chars.specs.Class.{is_white, is_break_char}
 use Rattle.yf_chars.proofs.TextLemmas.{next_later, next_ascii}
 use Rattle.yf_lines.proofs.BasicLemmas.{white_below}
-use Rattle.yf_lines.specs.Basic.{Break, Clear, Forbidden, is_marker}
+use Rattle.yf_lines.specs.Basic.{Break, Clear, is_marker}
 use Rattle.yf_lines.specs.Basic.Break.{cr_lf, lone_cr, lone_lf}
 use Rattle.yf_comments.specs.Comments.{Blank, BlankBefore, Noted, is_gap}
 use Rattle.yf_comments.specs.Comments.Blank.{text_begins, break_ends, white_ends}
@@ -104,3 +102,15 @@ no_mark t (suc n) i e l h = ⊎_elim here (λ (m : i ≡ n → ⊥). further (om
   further : i < n → (unmarked t n ≡ true → i < n → code t i ≢ 0xFEFF) → ⊥
   further m before = ⊎_elim (λ (b : (code t n == 0xFEFF) ≡ true). true≢false (sym e ∙ rw b refl))
       (λ (b : (code t n == 0xFEFF) ≡ false). before (rw b at e) m h) (cases_Bool (code t n == 0xFEFF))
+
+-- of the first n offsets each it holds, with the code there
+unfoldable pub all_at : (ℕ → ℕ → Bool) → List ℕ → ℕ → Bool
+all_at f t zero = true
+all_at f t (suc n) = f n (code t n) && all_at f t n
+
+pub holds_at : (f : ℕ → ℕ → Bool) (t : List ℕ) (n i : ℕ) → all_at f t n ≡ true → i < n → f i (code t i) ≡ true
+unfolding all_at
+holds_at f t zero i e l = absurd (omega arith)
+holds_at f t (suc n) i e l =
+    let both = and_parts (f n (code t n)) (all_at f t n) e in
+    ⊎_elim (λ (s : i ≡ n). rw s both.0) (λ (m : i ≡ n → ⊥). holds_at f t n i both.1 (omega (arith, m))) (cases_eq i n)

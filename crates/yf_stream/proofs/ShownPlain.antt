@@ -1,5 +1,5 @@
 -- Texts of plain words: without the characters that begin other nodes, entries and markers nothing else is derived.
-use Rattle.std.proofs.Common.{◌≡◌, ◌≢◌, ℕ, ℤ, Bool, true, false, ◌||◌, ◌==◌, List, refl, sym, ◌∙◌, ◌⊎◌, ⊎_elim}
+use Rattle.std.proofs.Common.{◌≡◌, ◌≢◌, ℕ, ℤ, Bool, true, false, ◌||◌, ◌==◌, List, refl, sym, ◌∙◌, ⊎_elim}
 use Rattle.std.proofs.lemmas.Bool.{true≢false, eqb-true, cases_Bool}
 use Rattle.yf_chars.specs.declared.context.Ctx.{Ctx}
 use Rattle.yf_chars.specs.Text.{code}
@@ -22,9 +22,9 @@ use Rattle.yf_stream.specs.Stream.DirectiveLines.{last_directive, more_directive
 use Rattle.yf_stream.specs.Stream.ExplicitNode.{marked_node, marked_nothing}
 use Rattle.yf_stream.specs.Stream.Suffixes.{last_suffix, more_suffixes}
 
--- the characters that begin entries, block scalars, quoted scalars, flow collections, aliases, properties, directives and markers
+-- the characters that begin pairs, block scalars, quoted scalars, flow collections, aliases, properties, directives and `...`
 unfoldable pub is_sign : ℕ → Bool
-is_sign c = (c == 45) || (c == 63) || (c == 58) || (c == 124) || (c == 62) || (c == 91) || (c == 123) || (c == 39) || (c == 34) || (c == 42) || (c == 38) || (c == 33) || (c == 37) || (c == 46)
+is_sign c = (c == 63) || (c == 58) || (c == 124) || (c == 62) || (c == 91) || (c == 123) || (c == 39) || (c == 34) || (c == 42) || (c == 38) || (c == 33) || (c == 37) || (c == 46)
 
 module _ (t : List ℕ) (none : (i c : ℕ) → is_sign c ≡ true → code t i ≡ c → ⊥) where
   no_three : (i c : ℕ) → is_sign c ≡ true → is_three t i c ≡ true → ⊥
@@ -35,18 +35,24 @@ module _ (t : List ℕ) (none : (i c : ℕ) → is_sign c ≡ true → code t i 
   no_value (a_block_value e d) = none _ 58 refl e
   no_value (an_empty_block_value e l) = none _ 58 refl e
 
-  pub no_entry : {h m i j : ℕ} {s : Bool} {x : Meaning} → Derives t h (BlockEntry s m) i j x → ⊥
+  pub no_pair : {h m i j : ℕ} {x : Meaning} → Derives t h (BlockEntry false m) i j x → ⊥
   unfolding is_sign
-  no_entry (a_dash_entry e n d) = none _ 45 refl e
-  no_entry (an_explicit_entry_with e w a c b) = none _ 63 refl e
-  no_entry (an_explicit_key_alone e w a c) = none _ 63 refl e
-  no_entry (a_keyed_entry k v) = no_value v
-  no_entry (an_unkeyed_entry v) = no_value v
+  no_pair (an_explicit_entry_with e w a c b) = none _ 63 refl e
+  no_pair (an_explicit_key_alone e w a c) = none _ 63 refl e
+  no_pair (a_keyed_entry k v) = no_value v
+  no_pair (an_unkeyed_entry v) = no_value v
 
-  pub no_entries : {h m i j : ℕ} {s : Bool} {x : Meaning} → Derives t h (BlockEntries s m) i j x → ⊥
-  unfolding is_sign
-  no_entries (a_last_entry e) = no_entry e
-  no_entries (an_entry_before e s r) = no_entry e
+  entry_dash : {h m i j : ℕ} {s : Bool} {x : Meaning} → Derives t h (BlockEntry s m) i j x → code t i ≡ 45
+  entry_dash (a_dash_entry e n d) = e
+  entry_dash (an_explicit_entry_with e w a c b) = absurd (no_pair (an_explicit_entry_with e w a c b))
+  entry_dash (an_explicit_key_alone e w a c) = absurd (no_pair (an_explicit_key_alone e w a c))
+  entry_dash (a_keyed_entry k v) = absurd (no_value v)
+  entry_dash (an_unkeyed_entry v) = absurd (no_value v)
+
+  -- the entries of a block collection are those of a sequence
+  pub entries_dash : {h m i j : ℕ} {s : Bool} {x : Meaning} → Derives t h (BlockEntries s m) i j x → code t i ≡ 45
+  entries_dash (a_last_entry e) = entry_dash e
+  entries_dash (an_entry_before e s r) = entry_dash e
 
   pub no_block_scalar : {n : ℤ} {i j : ℕ} {x : Meaning} → BlockScalar t n i j x → ⊥
   unfolding is_sign
@@ -64,11 +70,6 @@ module _ (t : List ℕ) (none : (i c : ℕ) → is_sign c ≡ true → code t i 
   no_json (a_double q) = none _ 34 refl q.opening
   no_json (an_empty_collection s b e m f) = no_opening _ s e
   no_json (a_collection s b e m d f) = no_opening _ s e
-
-  pub no_explicit : {h i j : ℕ} {x : Meaning} → ExplicitNode t h i j x → ⊥
-  unfolding is_sign
-  no_explicit (marked_node m b) = no_three _ 45 refl m
-  no_explicit (marked_nothing m e) = no_three _ 45 refl m
 
   pub no_directive : {i j : ℕ} {x : Directives} → DirectiveLines t i j x → ⊥
   unfolding is_sign
@@ -90,3 +91,16 @@ module _ (t : List ℕ) (none : (i c : ℕ) → is_sign c ≡ true → code t i 
       let begin = properties_begin p in
       ⊎_elim (λ (a : (code t i == 38) ≡ true). none i 38 refl (eqb-true (code t i) 38 a))
       (λ (a : (code t i == 38) ≡ false). none i 33 refl (eqb-true (code t i) 33 (rw a at begin))) (cases_Bool (code t i == 38))
+
+-- a `---` begins with a dash
+pub explicit_dash : {t : List ℕ} {h i j : ℕ} {x : Meaning} → ExplicitNode t h i j x → is_three t i 45 ≡ true
+explicit_dash (marked_node m b) = m
+explicit_dash (marked_nothing m e) = m
+
+-- without dashes there are no block collections and no `---`
+module _ (t : List ℕ) (none : (i c : ℕ) → is_sign c ≡ true → code t i ≡ c → ⊥) (no_dash : (i : ℕ) → code t i ≢ 45) where
+  pub no_entries : {h m i j : ℕ} {s : Bool} {x : Meaning} → Derives t h (BlockEntries s m) i j x → ⊥
+  no_entries {i = i} d = no_dash i (entries_dash t none d)
+
+  pub no_explicit : {h i j : ℕ} {x : Meaning} → ExplicitNode t h i j x → ⊥
+  no_explicit {i = i} d = true≢false (sym (explicit_dash d) ∙ three_first t i 45 (no_dash i))

@@ -1,10 +1,10 @@
 -- Small streams, derived in each way: a comment line may be taken by the node before it or by what stands between documents, and
 -- the stream means the same.
-use Rattle.std.proofs.Common.{◌≢◌, ℕ, ◌+◌, ◌-ℤ◌, pos, ◌<◌, true, false, List, [], ◌∷◌, codes, refl, sym, arith}
+use Rattle.std.proofs.Common.{ℕ, ◌+◌, ◌-ℤ◌, pos, ◌<◌, false, List, [], ◌∷◌, codes, refl, sym, arith}
 use Rattle.std.proofs.lemmas.Bool.{true≢false}
 use Rattle.std.specs.Str.{chars}
 use Rattle.yf_chars.specs.declared.context.Ctx.TheVariants.{FlowOut}
-use Rattle.yf_chars.specs.Text.{begins, code, next, before}
+use Rattle.yf_chars.specs.Text.{begins, code, next}
 use Rattle.yf_chars.specs.Class.{is_between, is_printable, is_break_char, is_nb_char, is_ns_char, is_white, is_indicator, is_flow_indicator, is_white_or_end}
 use Rattle.yf_chars.specs.Chain.{Many}
 use Rattle.yf_chars.specs.Chain.Chain.{done, step}
@@ -15,7 +15,7 @@ use Rattle.yf_lines.specs.Basic.LineStart.{at_text, after_break}
 use Rattle.yf_lines.specs.Basic.SeparateInLine.{at_start, by_whites}
 use Rattle.yf_lines.proofs.BasicLemmas.{clear_join}
 use Rattle.yf_comments.specs.Comment.{CommentValue}
-use Rattle.yf_comments.specs.Comments.{CommentLine, LineEnd, Noted, is_gap}
+use Rattle.yf_comments.specs.Comments.{CommentLine, CommentText, LineEnd, Noted, is_gap}
 use Rattle.yf_comments.specs.Comments.CommentText.{comment_text}
 use Rattle.yf_comments.specs.Comments.BreakOrEnd.{by_break}
 use Rattle.yf_comments.specs.Comments.LineRest.{nothing}
@@ -30,7 +30,7 @@ use Rattle.yf_events.specs.declared.event.ScalarStyle.TheVariants.{Plain}
 use Rattle.yf_grammar.specs.Grammar.{Derives, FlowNode}
 use Rattle.yf_grammar.specs.Grammar.Derives.{flow_node, a_plain, flow_in_block}
 use Rattle.yf_grammar.specs.Meaning.{scalar, behind, noting, plain_event, from_to}
-use Rattle.yf_stream.specs.Stream.{BareNode, ContentAt, Document, Documents, Stream, StreamRest, document_of, with_document, with_comments, only_comments}
+use Rattle.yf_stream.specs.Stream.{RootNode, ContentAt, Document, Documents, Stream, StreamRest, document_of, with_document, with_comments, only_comments}
 use Rattle.yf_stream.specs.Stream.ContentAt.{content_at}
 use Rattle.yf_stream.specs.Stream.AnyDocument.{bare_document}
 use Rattle.yf_stream.specs.Stream.Suffixes.{last_suffix}
@@ -47,10 +47,10 @@ abbrev pub word_document : ℕ → Document
 word_document i = document_of i false [] (scalar Plain (codes "a") [] i (i + 1))
 
 -- a comment line, and `a`: the document begins at the `a`
-abbrev comment_then_word : List ℕ
+abbrev pub comment_then_word : List ℕ
 comment_then_word = codes "# c\na\n"
 
-comment_then_word_feed_3 : Break comment_then_word 3 4
+pub comment_then_word_feed_3 : Break comment_then_word 3 4
 unfolding code begins chars
 comment_then_word_feed_3 = lone_lf refl (λ e. omega (arith, e))
 
@@ -62,9 +62,12 @@ comment_then_word_note : Noted comment_then_word 0 false
 unfolding code begins chars is_gap is_white is_break_char unmarked
 comment_then_word_note = first_comment comment_then_word
 
-comment_then_word_comment : CommentLine comment_then_word 0 4 (comment_at 0 ∷ [])
+pub comment_then_word_text : CommentText comment_then_word 0 3 (comment_at 0 ∷ [])
 unfolding code begins chars next is_nb_char is_printable is_break_char is_between
-comment_then_word_comment = comment_line (at_start at_text) (comment_text refl (step (one refl) (step (one refl) done)) comment_then_word_note) (by_break comment_then_word_feed_3)
+comment_then_word_text = comment_text refl (step (one refl) (step (one refl) done)) comment_then_word_note
+
+comment_then_word_comment : CommentLine comment_then_word 0 4 (comment_at 0 ∷ [])
+comment_then_word_comment = comment_line (at_start at_text) comment_then_word_text (by_break comment_then_word_feed_3)
 
 comment_then_word_word : Derives comment_then_word 0 (FlowNode (pos 0) FlowOut) 4 5 (scalar Plain (codes "a") [] 4 5)
 unfolding code begins chars next is_plain_first is_ns_char is_nb_char is_printable is_break_char is_between is_white is_indicator is_flow_indicator lib.Utf8.encode
@@ -78,7 +81,7 @@ comment_then_word_content : ContentAt comment_then_word 4 4
 unfolding code begins chars is_ns_char is_nb_char is_printable is_break_char is_between is_white
 comment_then_word_content = content_at (at_start (after_break comment_then_word_feed_3)) refl (λ e. omega (arith, e))
 
-comment_then_word_read : Stream comment_then_word 0 (record { documents = word_document 4 ∷ []; comments = comment_at 0 ∷ [] })
+pub comment_then_word_read : Stream comment_then_word 0 (record { documents = word_document 4 ∷ []; comments = comment_at 0 ∷ [] })
 unfolding code begins chars next is_white noting behind scalar plain_event from_to document_of with_document with_comments
 comment_then_word_read =
     let node = flow_in_block {n = pos 0 -ℤ pos 1} refl (in_node refl (in_line (at_start (after_break comment_then_word_feed_3)))) comment_then_word_word (past_rest (nothing (by_break comment_then_word_feed_5)) done) in
@@ -98,11 +101,11 @@ no_content_at_a_comment k c = none c where
 abbrev pub word_then_comment : List ℕ
 word_then_comment = codes "a\n# c\n"
 
-word_then_comment_feed_1 : Break word_then_comment 1 2
+pub word_then_comment_feed_1 : Break word_then_comment 1 2
 unfolding code begins chars
 word_then_comment_feed_1 = lone_lf refl (λ e. omega (arith, e))
 
-word_then_comment_feed_5 : Break word_then_comment 5 6
+pub word_then_comment_feed_5 : Break word_then_comment 5 6
 unfolding code begins chars
 word_then_comment_feed_5 = lone_lf refl (λ e. omega (arith, e))
 
@@ -110,9 +113,12 @@ word_then_comment_note : Noted word_then_comment 2 false
 unfolding code begins chars is_gap is_white is_break_char unmarked
 word_then_comment_note = later_comment word_then_comment 0 refl refl (λ i l. no_mark word_then_comment 1 i refl (omega arith))
 
-word_then_comment_comment : CommentLine word_then_comment 2 6 (comment_at 2 ∷ [])
+pub word_then_comment_text : CommentText word_then_comment 2 5 (comment_at 2 ∷ [])
 unfolding code begins chars next is_nb_char is_printable is_break_char is_between
-word_then_comment_comment = comment_line (at_start (after_break word_then_comment_feed_1)) (comment_text refl (step (one refl) (step (one refl) done)) word_then_comment_note) (by_break word_then_comment_feed_5)
+word_then_comment_text = comment_text refl (step (one refl) (step (one refl) done)) word_then_comment_note
+
+word_then_comment_comment : CommentLine word_then_comment 2 6 (comment_at 2 ∷ [])
+word_then_comment_comment = comment_line (at_start (after_break word_then_comment_feed_1)) word_then_comment_text (by_break word_then_comment_feed_5)
 
 word_then_comment_word : Derives word_then_comment 0 (FlowNode (pos 0) FlowOut) 0 1 (scalar Plain (codes "a") [] 0 1)
 unfolding code begins chars next is_plain_first is_ns_char is_nb_char is_printable is_break_char is_between is_white is_indicator is_flow_indicator lib.Utf8.encode
@@ -216,14 +222,14 @@ two_documents_end_with = past_rest (nothing (by_break two_documents_feed_5)) (st
 abbrev two_documents_meant : Documents
 two_documents_meant = record { documents = word_document 0 ∷ document_of 10 false [] (scalar Plain (codes "b") [] 10 11) ∷ []; comments = comment_at 6 ∷ [] }
 
-two_documents_a : BareNode two_documents 0 0 2 (scalar Plain (codes "a") [] 0 1)
+two_documents_a : RootNode two_documents 0 0 2 (scalar Plain (codes "a") [] 0 1)
 unfolding code begins chars noting behind scalar
 two_documents_a = record {
   derived = flow_in_block {n = pos 0 -ℤ pos 1} refl (in_node refl (in_line (at_start at_text))) two_documents_word (past_rest (nothing (by_break two_documents_feed_1)) done);
   clear = two_documents_clear;
 }
 
-two_documents_b : BareNode two_documents 0 10 12 (scalar Plain (codes "b") [] 10 11)
+two_documents_b : RootNode two_documents 0 10 12 (scalar Plain (codes "b") [] 10 11)
 unfolding code begins chars noting behind scalar
 two_documents_b = record {
   derived = flow_in_block {n = pos 0 -ℤ pos 1} refl (in_node refl (in_line (at_start (after_break two_documents_feed_9)))) two_documents_word_b

@@ -1,5 +1,5 @@
 -- The text of one word: whatever is derived of it is the stream of that word, so it has one shape.
-use Rattle.std.proofs.Common.{◌≡◌, ◌≢◌, ℕ, zero, suc, ℤ, pos, ◌-ℤ◌, ◌+◌, ◌<◌, ◌≤◌, Bool, true, false, List, [], ◌∷◌, ◌++◌, codes, refl, sym, ap, ◌∙◌, ◌⊎◌, inl, inr, ⊎_elim, arith, subst}
+use Rattle.std.proofs.Common.{◌≡◌, ◌≢◌, ℕ, zero, suc, ℤ, pos, ◌-ℤ◌, ◌<◌, ◌≤◌, Bool, true, false, List, [], ◌∷◌, ◌++◌, codes, refl, sym, ap, ◌∙◌, ◌⊎◌, inl, inr, ⊎_elim, arith, subst}
 use Rattle.std.proofs.lemmas.Bool.{true≢false}
 use Rattle.std.specs.Str.{chars}
 use Rattle.yf_chars.specs.declared.context.Ctx.{Ctx}
@@ -68,6 +68,9 @@ no_white i e = ⊎_elim (λ (a : code word i ≡ 97). true≢false (sym e ∙ ap
 no_sign : (i c : ℕ) → is_sign c ≡ true → code word i ≡ c → ⊥
 unfolding is_sign
 no_sign i c s e = ⊎_elim (λ (a : code word i ≡ 97). true≢false (sym s ∙ ap is_sign (sym e ∙ a))) (λ (a : code word i ≡ no_char). true≢false (sym s ∙ ap is_sign (sym e ∙ a))) (code_at i)
+
+no_dash : (i : ℕ) → code word i ≢ 45
+no_dash i e = not_char i 45 (λ f. omega arith) (omega arith) e
 
 no_break : {i j : ℕ} → Break word i j → ⊥
 no_break (cr_lf p q) = not_char _ 13 (λ e. omega arith) (omega arith) p
@@ -189,7 +192,7 @@ block_is : {h i j : ℕ} {n : ℤ} {c : Ctx} {x : Meaning} → i ≡ 0 → Deriv
 unfolding behind noting scalar
 block_is z (a_block_scalar b s d) = absurd (no_block_scalar word no_sign d)
 block_is z (a_block_scalar_with b s p r d) = absurd (no_properties word no_sign p)
-block_is z (a_block_collection b l s m d) = absurd (no_entries word no_sign d)
+block_is z (a_block_collection b l s m d) = absurd (no_entries word no_sign no_dash d)
 block_is z (a_block_collection_with b s p l k m d) = absurd (no_properties word no_sign p)
 block_is z (flow_in_block {cs = cs} {ds = ds} {x = x} b s d l) =
     let a = separate_stays s in let e = end_stays l in let w = flow_is (a.end ∙ z) d in
@@ -215,7 +218,7 @@ document_is : {h i j : ℕ} {d : Document} {cs : List CommentValue} → i ≡ 0 
 unfolding document_of scalar
 document_is z (bare_document {x = x} b (content_at {k = k} s n c)) =
     let a = block_is z b.derived in let k0 : k ≡ 0 = separation_stays s ∙ z in record { end = a.end; is = rw (k0, a.means) refl; none = ap (λ m. m.comments) a.means }
-document_is z (explicit_document e) = absurd (no_explicit word no_sign e)
+document_is z (explicit_document e) = absurd (no_explicit word no_sign no_dash e)
 document_is z (directive_document d e) = absurd (no_directive word no_sign d)
 
 -- what follows, at the end; nothing else follows the start
@@ -225,7 +228,7 @@ rest_is stream_ended = (refl, refl)
 rest_is (past_prefix {x = x} p r) = let a = part_stays p in (a.there, ap (λ cs. with_comments cs x) a.stays.none ∙ (rest_is r).1)
 rest_is (past_suffixes s p r) = absurd (no_suffix word no_sign s)
 rest_is (past_suffixes_and_document s p d r) = absurd (no_suffix word no_sign s)
-rest_is (past_explicit e r) = absurd (no_explicit word no_sign e)
+rest_is (past_explicit e r) = absurd (no_explicit word no_sign no_dash e)
 
 abbrev word_stream : Documents
 word_stream = record { documents = document_of 0 false [] word_scalar ∷ []; comments = [] }

@@ -62,8 +62,8 @@ document_of start marked directives x = record {
   finish = x.finish;
 }
 
--- l-bare-document: a node that covers no forbidden line
-pub record BareNode (t : List ℕ) (h i j : ℕ) (x : Meaning) : Type 0 where
+-- a document's node (l-bare-document), which covers no forbidden line
+pub record RootNode (t : List ℕ) (h i j : ℕ) (x : Meaning) : Type 0 where
   pub derived : Derives t h (BlockNode (pos 0 -ℤ pos 1) BlockIn) i j x
   pub clear : Clear t i j
 
@@ -73,13 +73,13 @@ pub data ContentAt (t : List ℕ) : ℕ → ℕ → Type 0 where
 
 -- l-explicit-document, from its `---` on
 pub data ExplicitNode (t : List ℕ) : ℕ → ℕ → ℕ → Meaning → Type 0 where
-  marked_node : {h i j : ℕ} {x : Meaning} → is_three t i 45 ≡ true → BareNode t h (i + 3) j x → ExplicitNode t h i j x
+  marked_node : {h i j : ℕ} {x : Meaning} → is_three t i 45 ≡ true → RootNode t h (i + 3) j x → ExplicitNode t h i j x
   marked_nothing : {i j : ℕ} {cs : List CommentValue} → is_three t i 45 ≡ true → LineEnd t (i + 3) j cs
       → ExplicitNode t 0 i j (noting (empty_node (i + 3)) cs)
 
 -- l-any-document, with the comments in it
 pub data AnyDocument (t : List ℕ) : ℕ → ℕ → ℕ → Document → List CommentValue → Type 0 where
-  bare_document : {h i k j : ℕ} {x : Meaning} → BareNode t h i j x → ContentAt t i k
+  bare_document : {h i k j : ℕ} {x : Meaning} → RootNode t h i j x → ContentAt t i k
       → AnyDocument t h i j (document_of k false [] x) x.comments
   explicit_document : {h i j : ℕ} {x : Meaning} → ExplicitNode t h i j x → AnyDocument t h i j (document_of i true [] x) x.comments
   directive_document : {h i k j : ℕ} {ds : Directives} {x : Meaning} → DirectiveLines t i k ds → ExplicitNode t h k j x
