@@ -4,9 +4,10 @@ ghost use Rattle.std.specs.List.{All};
 ghost use Rattle.std.specs.Str.{IsCharBoundary};
 ghost use Rattle.yf_block.specs.Machine.{Ready, left, ProgressAt, IsNodeAt};
 
-use crate::content::{Spot, read_inline};
+use crate::content::Spot;
 use crate::frame::{Awaited, Frame, Frames, Kind, Progress, Scope, State, Step, Wanted};
 use crate::held::{Held, lead_of, line_properties, place_behind};
+use crate::inline::read_inline;
 use crate::look::{is_blank_after, key_ends, sign_stands};
 use std::alloc::{AllocError, Global};
 use yf_events::event::{Entry, NewEvent, PlacedEvent};

@@ -4,8 +4,8 @@ ghost use Rattle.std.specs.List.{All};
 ghost use Rattle.std.specs.Str.{IsCharBoundary};
 ghost use Rattle.yf_block.specs.Machine.{HaltAt};
 
-use crate::content::flow_indentation;
 use crate::halt::{Halt, Owed, Plain};
+use crate::inline::flow_indentation;
 use smallvec::SmallVec;
 use std::alloc::{AllocError, Global};
 use yf_chars::context::Ctx;

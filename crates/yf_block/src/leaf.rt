@@ -4,7 +4,7 @@ ghost use Rattle.std.specs.Str.{IsCharBoundary};
 ghost use Rattle.yf_lines.specs.Basic.{LineStart};
 ghost use Rattle.yf_flow.specs.Machine.{Place};
 
-use crate::content::flow_indentation;
+use crate::inline::flow_indentation;
 use std::alloc::{AllocError, Global};
 use yf_block_scalar::body::BlockText;
 use yf_block_scalar::header::Header;

@@ -9,6 +9,7 @@ pub(crate) mod finish;
 pub(crate) mod frame;
 pub(crate) mod halt;
 pub(crate) mod held;
+pub(crate) mod inline;
 pub(crate) mod leaf;
 pub(crate) mod line;
 pub mod look;

@@ -8,8 +8,8 @@ use Rattle.std.proofs.lemmas.Option.{get_or_from_slice_get}
 use Rattle.yf_events.specs.Event.{Placed, sequence_starts, sequence_ends, mapping_starts, mapping_ends}
 use Rattle.yf_props.specs.Props.{PropsValue}
 use Rattle.yf_emit.specs.declared.decide.Form.{Form}
-use Rattle.yf_emit.specs.declared.decide.Key.{Key}
-use Rattle.yf_emit.specs.declared.decide.Level.{Level}
+use Rattle.yf_emit.specs.declared.keys.Key.{Key}
+use Rattle.yf_emit.specs.declared.places.Level.{Level}
 use Rattle.yf_emit.specs.declared.measure.Measure.{Measure}
 use Rattle.yf_emit.specs.Deciding as Deciding
 use Rattle.yf_emit.specs.Deciding.{Given, given, State, state, next, pass, past, node, behind_node, is_leaf_at, is_whole, form_at, next_place, next_stack, key_of, may_be_implicit}

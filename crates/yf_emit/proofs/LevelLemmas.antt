@@ -4,8 +4,8 @@ use Rattle.std.specs.Prelude.{Option, true}
 use Rattle.std.proofs.Math.Seq.{set-append_seam, get_or-append_seam}
 use Rattle.std.proofs.lemmas.List.{length-append, reverse-append}
 use Rattle.yf_events.specs.Event.{EventValue}
-use Rattle.yf_emit.specs.declared.decide.Key.{Key}
-use Rattle.yf_emit.specs.declared.decide.Level.{Level}
+use Rattle.yf_emit.specs.declared.keys.Key.{Key}
+use Rattle.yf_emit.specs.declared.places.Level.{Level}
 use Rattle.yf_emit.specs.declared.measure.Measure.{Measure}
 use Rattle.yf_emit.specs.Deciding.{Given, next_stack, key_behind}
 

@@ -5,8 +5,8 @@ use Rattle.std.proofs.lemmas.Bool.Decides.{nat_tests}
 use Rattle.std.proofs.lemmas.List.{length-append, drop_all}
 use Rattle.yf_events.specs.Event.{EventValue, Placed, stream_starts, stream_ends, document_starts, document_ends, sequence_starts, sequence_ends, mapping_starts, mapping_ends, scalar_node, alias_node}
 use Rattle.yf_emit.specs.declared.decide.Form.{Form}
-use Rattle.yf_emit.specs.declared.decide.Level.{Level}
-use Rattle.yf_emit.specs.declared.decide.Place.{Place}
+use Rattle.yf_emit.specs.declared.places.Level.{Level}
+use Rattle.yf_emit.specs.declared.places.Place.{Place}
 use Rattle.yf_emit.specs.declared.measure.Measure.{Measure}
 use Rattle.yf_emit.specs.Deciding.{Given, State, state, past, next, pass, behind_node, node_at, form_at, is_whole, is_kept, next_place, next_stack}
 use Rattle.yf_emit.specs.Forms.{no_form}

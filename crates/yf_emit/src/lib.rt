@@ -2,17 +2,23 @@
 #![tactic(auto)]
 
 pub mod block;
+pub(crate) mod collection;
 pub mod comments_before;
 pub mod content_start;
 pub mod copies;
 pub mod decide;
+pub(crate) mod ended;
 pub mod format;
 pub mod kept;
+pub mod keys;
 pub mod layout;
+pub(crate) mod leaves;
 pub mod measure;
 pub mod normal;
 pub mod output;
+pub(crate) mod places;
 pub mod print;
+pub(crate) mod printer;
 pub mod style;
 #[cfg(test)]
 mod tests;

@@ -3,9 +3,11 @@
 #![tactic(auto)]
 
 pub(crate) mod entries;
+pub(crate) mod entry_ends;
 pub mod flow;
 pub mod frame;
 pub(crate) mod gap;
+pub(crate) mod json;
 pub(crate) mod leaf;
 pub mod look;
 pub mod node;

@@ -4,7 +4,8 @@ ghost use Rattle.std.specs.List.{All};
 ghost use Rattle.std.specs.Str.{IsCharBoundary};
 ghost use Rattle.yf_flow.specs.Machine.{Awaiting, BegunAt, EndingAt, OutcomeAt};
 
-use crate::entries::{Below, finish_node, start_entry, take_node};
+use crate::entries::{Below, start_entry, take_node};
+use crate::entry_ends::finish_node;
 use crate::frame::{Frame, Node, Scene, State, Step};
 use crate::leaf::read_properties;
 use crate::node::{Begun, Lead, begin_content, begin_node, push_scalar};

@@ -2,7 +2,7 @@ use Rattle.std.proofs.Common.{◌≡◌, ap, refl, Some}
 use Rattle.yf_emit.specs.Measures.{width_if}
 use Rattle.std.specs.Prelude.{true, ◌∷◌}
 use Rattle.yf_emit.proofs.StepLemmas.{head_wide}
-use Rattle.yf_emit.proofs.measure.alias.Goals as goal
+use Rattle.yf_emit.proofs.ended.alias.Goals as goal
 
 pub returns-clause-ended : goal.returns-clause-ended
 returns-clause-ended c =

@@ -1,6 +1,6 @@
 use Rattle.std.proofs.Common.{◌∙◌}
 use Rattle.yf_flow.proofs.BegunLemmas.{double_leaf, double_none}
-use Rattle.yf_flow.proofs.node.double_node.Goals as goal
+use Rattle.yf_flow.proofs.json.double_node.Goals as goal
 
 pub returns-in_ok-push_scalar-in-Some-clause-exact : goal.returns-in_ok-push_scalar-in-Some-clause-exact
 returns-in_ok-push_scalar-in-Some-clause-exact c =

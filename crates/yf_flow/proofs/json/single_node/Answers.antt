@@ -1,5 +1,5 @@
 use Rattle.yf_flow.proofs.BegunLemmas.{single_leaf, single_none}
-use Rattle.yf_flow.proofs.node.single_node.Goals as goal
+use Rattle.yf_flow.proofs.json.single_node.Goals as goal
 
 pub returns-in_ok-push_scalar-in-Some-clause-exact : goal.returns-in_ok-push_scalar-in-Some-clause-exact
 returns-in_ok-push_scalar-in-Some-clause-exact c =

@@ -4,7 +4,7 @@ use Rattle.std.specs.Prelude.{is_some}
 use Rattle.yf_comments.specs.Comment.{comment_value}
 use Rattle.yf_emit.specs.Kept.{is_within}
 use Rattle.yf_emit.proofs.StepLemmas.{by_found}
-use Rattle.yf_emit.proofs.measure.has_comment.Goals as goal
+use Rattle.yf_emit.proofs.collection.has_comment.Goals as goal
 
 pub returns-in-Some : goal.returns-in-Some
 returns-in-Some c = λ s.

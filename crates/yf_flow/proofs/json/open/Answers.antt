@@ -1,6 +1,6 @@
 use Rattle.std.proofs.Common.{refl, sym, append-nil, arith}
 use Rattle.yf_flow.proofs.BegunLemmas.{start_event}
-use Rattle.yf_flow.proofs.node.open.Goals as goal
+use Rattle.yf_flow.proofs.json.open.Goals as goal
 
 pub returns-clause-exact : goal.returns-clause-exact
 returns-clause-exact c = record {

@@ -1,5 +1,5 @@
 use Rattle.yf_flow.proofs.BegunLemmas.{content_stands}
-use Rattle.yf_flow.proofs.node.json_content.Goals as goal
+use Rattle.yf_flow.proofs.json.json_content.Goals as goal
 
 pub returns-clause-exact : goal.returns-clause-exact
 returns-clause-exact c =

@@ -2,7 +2,7 @@ use Rattle.std.proofs.Common.{arith}
 use Rattle.yf_events.specs.Event.{event_value}
 use Rattle.yf_emit.specs.Deciding.{given}
 use Rattle.yf_emit.proofs.LevelLemmas.{count_in_map}
-use Rattle.yf_emit.proofs.decide.count_node.Goals as goal
+use Rattle.yf_emit.proofs.places.count_node.Goals as goal
 
 pub returns-then-level : goal.returns-then-level
 returns-then-level c =

@@ -5,7 +5,7 @@ use Rattle.yf_emit.specs.OneLine.{props_text, scalar_text}
 use Rattle.yf_emit.specs.Wanted.{wanted}
 use Rattle.yf_emit.proofs.StepLemmas.{styled_wide}
 use Rattle.yf_emit.proofs.TreeTexts.{scalar_utf8}
-use Rattle.yf_emit.proofs.measure.width_in_style.Goals as goal
+use Rattle.yf_emit.proofs.ended.width_in_style.Goals as goal
 
 pub returns-in-Some-clause-width : goal.returns-in-Some-clause-width
 returns-in-Some-clause-width c =

@@ -1,0 +1,249 @@
+//! What stands on a line after properties, or where there are none: a flow node or an alias, which may be the first key of
+//! a mapping.
+ghost use Rattle.std.specs.Prelude.{◌≡◌, ◌+◌, ◌-◌, ◌*◌, ◌^◌, ◌≤◌, ◌≤ℤ◌, pos, length, IfOk};
+ghost use Rattle.std.specs.List.{All};
+ghost use Rattle.std.specs.Str.{IsCharBoundary};
+ghost use Rattle.yf_flow.specs.Machine.{Place, EndingAt};
+ghost use Rattle.yf_block.specs.Machine.{Ready, left, ProgressAt, HeldBefore, behind_held, MayBoundary, IsEndAt};
+
+use crate::content::{Behind, Claim, Share};
+use crate::entry::{await_value, collection_start, entry_at};
+use crate::frame::{Frame, Frames, Kind, Progress, Scope, State, Step};
+use crate::halt::{Plain, note_node, note_shorter};
+use crate::held::{Held, lead_of};
+use crate::leaf::read_line_end;
+use crate::look::{key_ends, sign_stands};
+use std::alloc::{AllocError, Global};
+use yf_chars::context::Ctx;
+use yf_chars::text::stands;
+use yf_comments::comments::Separation;
+use yf_events::event::{Entry, NewEvent, PlacedEvent, ScalarStyle};
+use yf_events::part::Part;
+use yf_flow::frame::{Node, Scene};
+use yf_flow::node::{Lead, push_scalar};
+use yf_flow::nodes::{Ending, read_content};
+use yf_lines::basic::skip_whites;
+use yf_lines::text::Text;
+use yf_props::alias::alias_node;
+
+/// Reads what stands after properties, or where there are none: nothing before a `:`, an alias, or the content of a flow
+/// node outside of brackets. `depth` collections are open.
+pub(crate) fn read_inline<'a>(
+    alloc: Global,
+    scope: Scope<'a>,
+    least: usize,
+    at: usize,
+    inner: Option<Held<'a>>,
+    lead: Lead<'a>,
+    depth: usize,
+    part: &mut Part<'a>,
+) -> Result<Ending, AllocError>
+    requires boundary { IsCharBoundary scope.text.now at }
+    requires held { HeldBefore scope.text.now at inner }
+    requires escapes { All (IsCharBoundary scope.text.now) part.old.escapes }
+    ensures escapes { IfOk result (λ _. All (IsCharBoundary scope.entry.text.now) part.new.escapes) }
+    ensures found { IfOk result (λ e. EndingAt scope.entry.text.now (behind_held at inner.entry) e) }
+{
+    if let Some(held) = inner {
+        if sign_stands(scope.text, at, b':') {
+            push_scalar(
+                alloc,
+                lead,
+                ScalarStyle::Plain,
+                Text::Part(""),
+                held.end,
+                part,
+            )?;
+            return Ok(inline_end(held.end, depth));
+        }
+    }
+    if stands(scope.text, at, b'*') {
+        if inner.is_some() {
+            return Ok(Ending::Nothing);
+        }
+        return match alias_node(scope.text, at) {
+            None => Ok(Ending::Nothing),
+            Some((name, end)) => {
+                part.events
+                    .push(lead.placed(alloc, NewEvent::Alias { name }, end))?;
+                Ok(inline_end(end, depth))
+            }
+        };
+    }
+    let scene = Scene {
+        text: scope.text,
+        indentation: flow_indentation(least),
+        context: Ctx::FlowOut,
+        limit: scope.limit,
+    };
+    read_content(alloc, scene, at, lead, depth, part)
+}
+
+fn inline_end(end: usize, depth: usize) -> Ending
+    ensures { IsEndAt end result }
+{
+    Ending::End(Node {
+        end,
+        json: false,
+        deepest: depth,
+    })
+}
+
+// More columns than any text of 1 GiB has.
+const WIDEST: usize = 1 << 30;
+
+/// The indentation of that many spaces as a number; past 2^30 it is 2^30.
+pub(crate) fn flow_indentation(least: usize) -> i32
+    ensures upper { result ≤ℤ pos (2 ^ 30) }
+    ensures lower { pos 0 ≤ℤ result }
+{
+    least.min(WIDEST) as i32
+}
+
+/// After a flow node on its line: it is the first key of a mapping, or the end of the line follows.
+pub(crate) fn finish_inline<'a>(
+    alloc: Global,
+    scope: Scope<'a>,
+    behind: Behind<'a>,
+    claim: Claim<'a>,
+    node: Node,
+    progress: Progress<'a>,
+    frames: &mut Frames,
+    part: &mut Part<'a>,
+) -> Result<State<'a>, AllocError>
+    requires node { Place scope.text.now (behind.spot.at + 1) node.end }
+    requires start { IsCharBoundary scope.text.now behind.spot.at }
+    requires place { IsCharBoundary scope.text.now behind.at }
+    requires held { HeldBefore scope.text.now behind.at behind.inner }
+    requires progress { ProgressAt scope.text.now progress }
+    requires escapes { All (IsCharBoundary scope.text.now) part.old.escapes }
+    ensures ready { IfOk result (λ s. Ready scope.entry.text.now (behind.entry.spot.at) s) }
+    ensures moves { IfOk result (λ s. left (length scope.entry.text.now) s.step ≤ 3 * (length scope.entry.text.now - behind.entry.spot.at)) }
+    ensures escapes { IfOk result (λ _. All (IsCharBoundary scope.entry.text.now) part.new.escapes) }
+{
+    let text = scope.text;
+    let spot = behind.spot;
+    let colon = skip_whites(text, node.end);
+    if let Some(column) = spot.column {
+        if key_ends(text, spot.at, colon) {
+            if node.deepest.max(frames.len()) >= scope.limit {
+                return Ok(progress.and_then(Step::TooDeep(spot.at)));
+            }
+            let frame = Frame::new(Kind::Mapping, column, claim.before.events);
+            let entry = entry_at(text, progress.floor, spot.at, Some(colon));
+            begin_mapping(alloc, scope, behind, claim, entry, frames.len(), part)?;
+            frames.push(frame)?;
+            return Ok(await_value(colon, column, progress));
+        }
+    }
+    match claim.share {
+        Share::Apart => Ok(progress.and_then(Step::Failed(spot.at))),
+        Share::Nothing | Share::Joined => {
+            let plain = Plain {
+                lead: claim.lead,
+                least: spot.wanted.least,
+                at: behind.at,
+                end: node.end,
+                event: claim.before.events,
+            };
+            let plain = if node.json { None } else { Some(plain) };
+            end_inline(
+                alloc,
+                text,
+                node.end,
+                plain,
+                progress.reaching(node.end),
+                frames,
+                part,
+            )
+        }
+    }
+}
+
+// The end of the line after a flow node that is no key.
+fn end_inline<'a>(
+    alloc: Global,
+    text: &'a str,
+    at: usize,
+    plain: Option<Plain<'a>>,
+    progress: Progress<'a>,
+    frames: &Frames,
+    part: &mut Part<'a>,
+) -> Result<State<'a>, AllocError>
+    requires boundary { IsCharBoundary text.now at }
+    requires plain { MayBoundary text.now plain }
+    requires progress { ProgressAt text.now progress }
+    ensures ready { IfOk result (λ s. Ready text.now (at) s) }
+    ensures moves { IfOk result (λ s. left (length text.now) s.step ≤ 3 * (length text.now - at) + 1) }
+    ensures escapes { IfOk result (λ _. part.new.escapes ≡ part.old.escapes) }
+{
+    match read_line_end(alloc, text, at)? {
+        Some(Separation { comments, end }) => {
+            part.comments.append(comments)?;
+            let progress = note_node(text, at, end, plain, progress, frames, part);
+            Ok(progress.and_then(Step::Resume(end)))
+        }
+        None => {
+            let progress = note_shorter(text, plain, progress, part);
+            Ok(progress.and_then(Step::Failed(skip_whites(text, at))))
+        }
+    }
+}
+
+// Puts the beginning of a mapping before its first key, which has been read. The properties of lines before are the
+// mapping's; where the key was read with them, it is read again without.
+fn begin_mapping<'a>(
+    alloc: Global,
+    scope: Scope<'a>,
+    behind: Behind<'a>,
+    claim: Claim<'a>,
+    entry: Entry,
+    depth: usize,
+    part: &mut Part<'a>,
+) -> Result<(), AllocError>
+    requires place { IsCharBoundary scope.text.now behind.at }
+    requires held { HeldBefore scope.text.now behind.at behind.inner }
+    requires escapes { All (IsCharBoundary scope.text.now) part.old.escapes }
+    ensures escapes { IfOk result (λ _. All (IsCharBoundary scope.entry.text.now) part.new.escapes) }
+{
+    let spot = behind.spot;
+    let start = collection_start(alloc, Kind::Mapping, spot.at, spot.outer, spot.wanted.entry);
+    match claim.share {
+        Share::Nothing | Share::Apart => put_before(claim.before.events, start, entry, part),
+        Share::Joined => {
+            part.events.truncate(claim.before.events);
+            part.escapes.truncate(claim.before.escapes);
+            part.events.push(start)?;
+            let lead = lead_of(spot.at, behind.inner, Some(entry));
+            let _ = read_inline(
+                alloc,
+                scope,
+                spot.wanted.least,
+                behind.at,
+                behind.inner,
+                lead,
+                depth,
+                part,
+            )?;
+            Ok(())
+        }
+    }
+}
+
+// Puts an event before the one at an index, which begins that entry. Past the end nothing is changed.
+fn put_before<'a>(
+    event: usize,
+    start: PlacedEvent<'a>,
+    entry: Entry,
+    part: &mut Part<'a>,
+) -> Result<(), AllocError>
+    ensures escapes { IfOk result (λ _. part.new.escapes ≡ part.old.escapes) }
+{
+    if event < part.events.len() {
+        part.events.set_entry(event, entry)?;
+    }
+    if event <= part.events.len() {
+        part.events.insert(event, start)?;
+    }
+    Ok(())
+}

@@ -1,0 +1,252 @@
+//! The steps after a node of a flow collection: what its end makes of it, the end of its entry, and the closing bracket.
+//! Each step leads on to a later place of the text, and none goes back.
+ghost use Rattle.std.specs.Prelude.{◌≡◌, ◌+◌, ◌-◌, ◌*◌, ◌<◌, ◌≤◌, length, IfOk};
+ghost use Rattle.std.specs.List.{All};
+ghost use Rattle.std.specs.Str.{IsCharBoundary};
+ghost use Rattle.yf_flow.specs.Machine.{Indexed, Ready, left};
+
+use crate::entries::{Below, await_value, failed, pair_start};
+use crate::frame::{Frame, Kind, Node, Role, Scene, State, Step};
+use crate::gap::read_gap;
+use crate::look::{closes, colon_stands, is_key_line};
+use crate::node::{empty_node, unplaced};
+use std::alloc::{AllocError, Global};
+use yf_chars::text::stands;
+use yf_events::event::NewEvent;
+use yf_events::part::Part;
+use yf_lines::basic::skip_whites;
+
+/// Goes on after a node of the collection.
+pub(crate) fn finish_node<'a>(
+    alloc: Global,
+    scene: Scene<'a>,
+    node: Node,
+    top: Frame,
+    below: &mut Below,
+    part: &mut Part<'a>,
+) -> Result<State, AllocError>
+    requires boundary { IsCharBoundary scene.text.now node.end }
+    requires top { Indexed scene.text.now (length part.old.events) top }
+    requires below { All (Indexed scene.text.now (length part.old.events)) below.old.items }
+    ensures ready { IfOk result (λ s. Ready scene.entry.text.now node.end (length part.new.events) below.new.items s) }
+    ensures moves { IfOk result (λ s. left (length scene.entry.text.now) s.step ≤ 2 * (length scene.entry.text.now - node.end) + 1) }
+    ensures escapes { IfOk result (λ _. part.new.escapes ≡ part.old.escapes) }
+{
+    match top.role {
+        Role::Item => behind_item(alloc, scene, node, top, below, part),
+        Role::Key => behind_key(alloc, scene, node, top.reaching(node.deepest), below, part),
+        Role::Value => end_entry(
+            alloc,
+            scene,
+            node.end,
+            node.end,
+            top.reaching(node.deepest),
+            below,
+            part,
+        ),
+    }
+}
+
+// After an item of a sequence: where a `:` follows on its line, it is the key of a single pair
+// (ns-flow-pair-entry, production 151).
+fn behind_item<'a>(
+    alloc: Global,
+    scene: Scene<'a>,
+    node: Node,
+    top: Frame,
+    below: &mut Below,
+    part: &mut Part<'a>,
+) -> Result<State, AllocError>
+    requires boundary { IsCharBoundary scene.text.now node.end }
+    requires top { Indexed scene.text.now (length part.old.events) top }
+    requires below { All (Indexed scene.text.now (length part.old.events)) below.old.items }
+    ensures ready { IfOk result (λ s. Ready scene.entry.text.now node.end (length part.new.events) below.new.items s) }
+    ensures moves { IfOk result (λ s. left (length scene.entry.text.now) s.step ≤ 2 * (length scene.entry.text.now - node.end) + 1) }
+    ensures escapes { IfOk result (λ _. part.new.escapes ≡ part.old.escapes) }
+{
+    let colon = skip_whites(scene.text, node.end);
+    if colon_stands(scene, colon, node.json) {
+        if is_key_line(scene.text, top.entry, colon) {
+            return pair_of_key(alloc, scene, node, colon, top, below, part);
+        }
+    }
+    after_entry(
+        alloc,
+        scene,
+        node.end,
+        top.reaching(node.deepest),
+        below,
+        part,
+    )
+}
+
+// The item that was read last becomes the key of a single pair.
+fn pair_of_key<'a>(
+    alloc: Global,
+    scene: Scene<'a>,
+    node: Node,
+    colon: usize,
+    top: Frame,
+    below: &mut Below,
+    part: &mut Part<'a>,
+) -> Result<State, AllocError>
+    requires boundary { IsCharBoundary scene.text.now (colon + 1) }
+    requires top { Indexed scene.text.now (length part.old.events) top }
+    requires below { All (Indexed scene.text.now (length part.old.events)) below.old.items }
+    ensures ready { IfOk result (λ s. Ready scene.entry.text.now colon (length part.new.events) below.new.items s) }
+    ensures moves { IfOk result (λ s. left (length scene.entry.text.now) s.step ≤ 2 * (length scene.entry.text.now - colon) + 1) }
+    ensures escapes { IfOk result (λ _. part.new.escapes ≡ part.old.escapes) }
+{
+    let deepest = top.depth.max(node.deepest);
+    if deepest >= scene.limit {
+        return Ok(State {
+            top,
+            step: Step::TooDeep(top.entry),
+        });
+    }
+    let event = top.entry_event;
+    part.events.set_colon(event, colon)?;
+    part.events
+        .insert(event, pair_start(alloc, scene.text, top.entry))?;
+    below.push(top)?;
+    let pair = Frame {
+        kind: Kind::Pair,
+        depth: top.depth + 1,
+        deepest: deepest + 1,
+        event,
+        role: Role::Value,
+        ..top
+    };
+    await_value(alloc, scene, colon, node.json, pair, below, part)
+}
+
+// After the key of an entry of a mapping, or of a single pair with `?`.
+fn behind_key<'a>(
+    alloc: Global,
+    scene: Scene<'a>,
+    node: Node,
+    top: Frame,
+    below: &mut Below,
+    part: &mut Part<'a>,
+) -> Result<State, AllocError>
+    requires boundary { IsCharBoundary scene.text.now node.end }
+    requires top { Indexed scene.text.now (length part.old.events) top }
+    requires below { All (Indexed scene.text.now (length part.old.events)) below.old.items }
+    ensures ready { IfOk result (λ s. Ready scene.entry.text.now node.end (length part.new.events) below.new.items s) }
+    ensures moves { IfOk result (λ s. left (length scene.entry.text.now) s.step ≤ 2 * (length scene.entry.text.now - node.end) + 1) }
+    ensures escapes { IfOk result (λ _. part.new.escapes ≡ part.old.escapes) }
+{
+    let place = read_gap(alloc, scene, node.end, part)?.end;
+    if colon_stands(scene, place, node.json) {
+        part.events.set_colon(top.entry_event, place)?;
+        return await_value(alloc, scene, place, node.json, top, below, part);
+    }
+    part.events.push(empty_node(alloc, None))?;
+    end_entry(alloc, scene, node.end, place, top, below, part)
+}
+
+/// An entry has been read whose last node or indicator ends at `finish`; what follows is read from `at` on. A single pair
+/// ends with it.
+pub(crate) fn end_entry<'a>(
+    alloc: Global,
+    scene: Scene<'a>,
+    finish: usize,
+    at: usize,
+    top: Frame,
+    below: &mut Below,
+    part: &mut Part<'a>,
+) -> Result<State, AllocError>
+    requires boundary { IsCharBoundary scene.text.now at }
+    requires top { Indexed scene.text.now (length part.old.events) top }
+    requires below { All (Indexed scene.text.now (length part.old.events)) below.old.items }
+    ensures ready { IfOk result (λ s. Ready scene.entry.text.now at (length part.new.events) below.new.items s) }
+    ensures moves { IfOk result (λ s. left (length scene.entry.text.now) s.step ≤ 2 * (length scene.entry.text.now - at) + 1) }
+    ensures escapes { IfOk result (λ _. part.new.escapes ≡ part.old.escapes) }
+{
+    match top.kind {
+        Kind::Sequence | Kind::Mapping => after_entry(alloc, scene, at, top, below, part),
+        Kind::Pair => {
+            part.events.push(unplaced(alloc, NewEvent::MapEnd, None))?;
+            part.events.set_end(top.event, finish)?;
+            match below.pop() {
+                Some(sequence) => after_entry(
+                    alloc,
+                    scene,
+                    at,
+                    sequence.reaching(top.deepest),
+                    below,
+                    part,
+                ),
+                None => Ok(failed(top)),
+            }
+        }
+    }
+}
+
+// After an entry: a comma, or the bracket that closes the collection.
+fn after_entry<'a>(
+    alloc: Global,
+    scene: Scene<'a>,
+    at: usize,
+    top: Frame,
+    below: &mut Below,
+    part: &mut Part<'a>,
+) -> Result<State, AllocError>
+    requires boundary { IsCharBoundary scene.text.now at }
+    requires top { Indexed scene.text.now (length part.old.events) top }
+    requires below { All (Indexed scene.text.now (length part.old.events)) below.old.items }
+    ensures ready { IfOk result (λ s. Ready scene.entry.text.now at (length part.new.events) below.new.items s) }
+    ensures moves { IfOk result (λ s. left (length scene.entry.text.now) s.step ≤ 2 * (length scene.entry.text.now - at) + 1) }
+    ensures escapes { IfOk result (λ _. part.new.escapes ≡ part.old.escapes) }
+{
+    let place = read_gap(alloc, scene, at, part)?.end;
+    if stands(scene.text, place, b',') {
+        return Ok(State {
+            top,
+            step: Step::Entry(place + 1),
+        });
+    }
+    if closes(scene.text, place, top.kind) {
+        return close(alloc, scene, place, top, below, part);
+    }
+    Ok(failed(top))
+}
+
+/// Closes the collection by the bracket at an offset.
+pub(crate) fn close<'a>(
+    alloc: Global,
+    scene: Scene<'a>,
+    at: usize,
+    top: Frame,
+    below: &mut Below,
+    part: &mut Part<'a>,
+) -> Result<State, AllocError>
+    requires boundary { IsCharBoundary scene.text.now (at + 1) }
+    requires top { top.event < length part.old.events }
+    requires below { All (Indexed scene.text.now (length part.old.events)) below.old.items }
+    ensures ready { IfOk result (λ s. Ready scene.entry.text.now at (length part.new.events) below.new.items s) }
+    ensures moves { IfOk result (λ s. left (length scene.entry.text.now) s.step ≤ 2 * (length scene.entry.text.now - at) + 1) }
+    ensures escapes { IfOk result (λ _. part.new.escapes ≡ part.old.escapes) }
+{
+    let event = match top.kind {
+        Kind::Sequence => NewEvent::SeqEnd,
+        Kind::Mapping | Kind::Pair => NewEvent::MapEnd,
+    };
+    part.events.push(unplaced(alloc, event, None))?;
+    part.events.set_end(top.event, at + 1)?;
+    let node = Node {
+        end: at + 1,
+        json: true,
+        deepest: top.deepest,
+    };
+    match below.pop() {
+        Some(outer) => Ok(State {
+            top: outer,
+            step: Step::Ended(node),
+        }),
+        None => Ok(State {
+            top,
+            step: Step::Done(node),
+        }),
+    }
+}
