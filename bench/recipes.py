@@ -1,6 +1,6 @@
 #!/usr/bin/env python3
 """Tries each recipe of docs/RECIPES.md as it stands there, each in a scratch folder, where its tool is installed; and the
-examples of README.md and docs/STYLE.md. Says `tried`, `FAILED` or `no TOOL` of each, and ends with 1 where one failed.
+examples of README.md and docs/STYLE.md; and whether `--version` is the newest version of CHANGELOG.md. Says `tried`, `FAILED` or `no TOOL` of each, and ends with 1 where one failed.
 
 Usage: bench/recipes.py [PROGRAM]     (default: the program that ./yamlfmt builds; build it first)
 
@@ -160,8 +160,13 @@ def readme(program):
     return said == after
 
 
+def version(program):
+    newest = re.search(r'^## (\S+)', read(TOP + '/CHANGELOG.md'), re.M)[1]
+    return all(sh([program, word], TOP).stdout == 'yamlfmt %s\n' % newest for word in ('--version', '-V'))
+
+
 def main():
-    program = sys.argv[1] if len(sys.argv) > 1 else TOP + '/crates/yamlfmt/out/yamlfmt'
+    program = os.path.abspath(sys.argv[1]) if len(sys.argv) > 1 else TOP + '/crates/yamlfmt/out/yamlfmt'
     if not os.access(program, os.X_OK):
         sys.exit('%s is not there: ./yamlfmt --help builds it' % program)
     failed = 0
@@ -174,16 +179,17 @@ def main():
             continue
         with tempfile.TemporaryDirectory() as room:
             os.makedirs(room + '/bin')
-            os.symlink(os.path.abspath(program), room + '/bin/yamlfmt')
+            os.symlink(program, room + '/bin/yamlfmt')
             good = tried(room, text)
         print('%s: %s' % (name, 'tried' if good else 'FAILED'))
         failed += not good
     good = all([*style_rows(program)])
     print('docs/STYLE.md: %s' % ('tried' if good else 'FAILED'))
     failed += not good
-    good = readme(program)
-    print('README.md: %s' % ('tried' if good else 'FAILED'))
-    failed += not good
+    for page, tried in (('README.md', readme), ('CHANGELOG.md', version)):
+        good = tried(program)
+        print('%s: %s' % (page, 'tried' if good else 'FAILED'))
+        failed += not good
     return 1 if failed else 0
 
 

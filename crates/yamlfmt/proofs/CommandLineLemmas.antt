@@ -1,8 +1,8 @@
 -- The program's command is one of those whose matches the library gives exactly.
-use Rattle.std.proofs.Common.{◌≡◌, ◌⊎◌, true, List, [], Result, Ok, Err, MatchResult, refl, subst, inl, inr}
+use Rattle.std.proofs.Common.{◌≡◌, ◌⊎◌, true, List, [], ◌∷◌, Result, Ok, Err, MatchResult, refl, subst, codes, inl, inr}
 use Rattle.clap.specs.Words.{Text, fault_of, is_simple, is_simple_and_free, subcommand_of, IsAmong}
 use Rattle.clap.specs.declared.error.kind.ErrorKind.{ErrorKind}
-use Rattle.clap.specs.declared.error.kind.ErrorKind.TheVariants.{DisplayHelp, OutOfMemory}
+use Rattle.clap.specs.declared.error.kind.ErrorKind.TheVariants.{DisplayVersion, OutOfMemory}
 use Rattle.clap.proofs.OnLiterals.{clap_on_literals}
 use Rattle.yamlfmt.specs.CommandLine.{Answers, Asks, AsksFor, Lacks, Met, NamesNoVerb, WritesNoFile, RefusesWords, yamlfmt}
 use Rattle.yamlfmt.specs.declared.command_line.Cmd.{Cmd}
@@ -17,19 +17,29 @@ pub yamlfmt_is_free : is_simple_and_free yamlfmt ≡ true
 unfolding clap_on_literals yamlfmt
 yamlfmt_is_free = refl
 
+-- what asks for the version
+pub version_asked : fault_of yamlfmt (codes "--version" ∷ []) ≡ DisplayVersion ∷ []
+unfolding clap_on_literals yamlfmt
+version_asked = refl
+
+pub version_asked_shortly : fault_of yamlfmt (codes "-V" ∷ []) ≡ DisplayVersion ∷ []
+unfolding clap_on_literals yamlfmt
+version_asked_shortly = refl
+
 -- words that are taken
 pub taken : (met : Met) (words : List Text) (r : Result Cmd Usage) → met ≡ subcommand_of yamlfmt words → fault_of yamlfmt words ≡ []
     → MatchResult r (Asks met) (Lacks met) → MatchResult r (AsksFor words) (RefusesWords words)
 taken met words (Ok cmd) e f h = (f, subst (λ (m : Met). Asks m cmd) e h)
 taken met words (Err (Help text)) e f h = absurd h
-taken met words (Err (Wrong text)) e f h = inr (subst (λ (m : Met). NamesNoVerb m ⊎ WritesNoFile m) e h)
+taken met words (Err (Wrong text)) e f h = inr (f, subst (λ (m : Met). NamesNoVerb m ⊎ WritesNoFile m) e h)
 taken met words (Err Memory) e f h = tt
 
 -- words that are refused
 pub refused : (kind : ErrorKind) (words : List Text) (usage : Usage) → (kind ≡ OutOfMemory) ⊎ IsAmong kind (fault_of yamlfmt words)
     → Answers kind usage → RefusesWords words usage
-refused kind words (Help text) (inl e) a = cc
-refused kind words (Help text) (inr among) a = subst (λ (k : ErrorKind). IsAmong k (fault_of yamlfmt words)) a among
+refused kind words (Help text) (inl e) (inl help) = cc
+refused kind words (Help text) (inl e) (inr version) = cc
+refused kind words (Help text) (inr among) a = (kind, a, among)
 refused kind words (Wrong text) (inl e) a = absurd (a.1 e)
 refused kind words (Wrong text) (inr among) a = inl (kind, a.0, among)
 refused kind words Memory among a = tt

@@ -1,12 +1,12 @@
 -- The commands of the program, and what the words of a command line ask for. How words are read as a command with
 -- options is the command-line library's definition of a parse.
-use Rattle.std.specs.Prelude.{◌≡◌, ◌≢◌, ◌⊎◌, ⊤, ℕ, Bool, true, false, List, [], Option, Some, None, IsSome, codes, MatchOption, IsSomeAnd}
+use Rattle.std.specs.Prelude.{◌≡◌, ◌≢◌, ◌⊎◌, ⊤, Bool, true, false, List, [], Option, Some, None, IsSome, codes, MatchOption, IsSomeAnd}
 use Rattle.std.specs.Str.{bytes_eq}
 use Rattle.clap.specs.Words.{App, Row, Rule, Shape, Text, first_of, new_app, new_rule, subcommand_of, with_rule, with_subcommand, IsAmong, fault_of}
 use Rattle.clap.specs.Simple.{on_top}
 use Rattle.clap.specs.declared.builder.action.ArgAction.TheVariants.{SetTrue}
 use Rattle.clap.specs.declared.error.kind.ErrorKind.{ErrorKind}
-use Rattle.clap.specs.declared.error.kind.ErrorKind.TheVariants.{DisplayHelp, OutOfMemory}
+use Rattle.clap.specs.declared.error.kind.ErrorKind.TheVariants.{DisplayHelp, DisplayVersion, OutOfMemory}
 use Rattle.yamlfmt.specs.declared.command_line.Cmd.{Cmd}
 use Rattle.yamlfmt.specs.declared.command_line.Usage.{Usage}
 use Rattle.yamlfmt.specs.declared.command_line.Usage.TheVariants.{Help, Wrong, Memory}
@@ -33,9 +33,10 @@ reading_command name = with_rule (with_rule (new_app name) config_option) file_w
 abbrev pub writing_command : App
 writing_command = with_rule (with_rule (with_rule (new_app (codes "fmt")) config_option) write_flag) file_word
 
--- one of the commands is wanted; without any word, the help is the refusal; the program's name is not among the words
+-- one of the commands is wanted; without any word, the help is the refusal; the program's name is not among the words;
+-- there is a version
 abbrev pub wants_command : Shape → Shape
-wants_command s = record s { no_binary_name = true; subcommand_required = true; arg_required_else_help = true }
+wants_command s = record s { has_version = true; no_binary_name = true; subcommand_required = true; arg_required_else_help = true }
 
 -- `yamlfmt COMMAND`
 unfoldable pub yamlfmt : App
@@ -87,21 +88,25 @@ IsWrong (Help text) = ⊥
 IsWrong (Wrong text) = ⊤
 IsWrong Memory = ⊥
 
+-- help or the version is asked for
+abbrev pub AsksText : ErrorKind → Type 0
+AsksText kind = (kind ≡ DisplayHelp) ⊎ (kind ≡ DisplayVersion)
+
 -- how a refusal of each kind is answered
 abbrev pub Answers : ErrorKind → Usage → Type 0
-Answers kind (Help text) = kind ≡ DisplayHelp
-Answers kind (Wrong text) = (kind ≢ DisplayHelp) × (kind ≢ OutOfMemory)
+Answers kind (Help text) = AsksText kind
+Answers kind (Wrong text) = (¬ AsksText kind) × (kind ≢ OutOfMemory)
 Answers kind Memory = ⊤
 
 -- the words are taken, and ask for the command
 abbrev pub AsksFor : List Text → Cmd → Type 0
 AsksFor words cmd = (fault_of yamlfmt words ≡ []) × Asks (subcommand_of yamlfmt words) cmd
 
--- help is answered where it is asked for; the words are wrong where they are not taken, name no command or have
--- `--write` without a file
+-- help or the version is answered where it is asked for; the words are wrong where they are not taken and ask for neither,
+-- or are taken, and name no command or have `--write` without a file
 abbrev pub RefusesWords : List Text → Usage → Type 0
-RefusesWords words (Help text) = IsAmong DisplayHelp (fault_of yamlfmt words)
+RefusesWords words (Help text) = (kind : ErrorKind) × AsksText kind × IsAmong kind (fault_of yamlfmt words)
 RefusesWords words (Wrong text) =
-    ((kind : ErrorKind) × (kind ≢ DisplayHelp) × IsAmong kind (fault_of yamlfmt words))
-    ⊎ (NamesNoVerb (subcommand_of yamlfmt words) ⊎ WritesNoFile (subcommand_of yamlfmt words))
+    ((kind : ErrorKind) × (¬ AsksText kind) × IsAmong kind (fault_of yamlfmt words))
+    ⊎ ((fault_of yamlfmt words ≡ []) × (NamesNoVerb (subcommand_of yamlfmt words) ⊎ WritesNoFile (subcommand_of yamlfmt words)))
 RefusesWords words Memory = ⊤

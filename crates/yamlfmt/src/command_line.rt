@@ -23,6 +23,9 @@ const WRITE: &str = "write";
 
 const FILE: &str = "file";
 
+/// The version: that of the newest part of CHANGELOG.md.
+const VERSION: &str = "0.2.0";
+
 /// What is to be done with a stream.
 #[derive(Clone, Copy, Debug, PartialEq, Eq)]
 pub enum Verb {
@@ -49,7 +52,7 @@ pub struct Cmd {
 /// Why the words of a command line give no command.
 #[derive(Debug, Drop)]
 pub enum Usage {
-    /// Help was asked for; its text, for standard output.
+    /// Help or the version was asked for; its text, for standard output.
     Help(OwnedText),
     /// The words are none that the program takes; why, for standard error.
     Wrong(OwnedText),
@@ -73,8 +76,8 @@ impl From<AllocError> for Usage {
 /// - `check [--config FILE] [FILE]`
 /// - `fmt [--config FILE] [--write] [FILE]`, where `--write` needs FILE.
 ///
-/// Any other words are `Usage::Wrong`, with a text that says why; `--help` and `help` are `Usage::Help`. `Usage::Memory`
-/// may come in the place of each answer, where a growth of memory was refused.
+/// `--help`, `help` and `--version` are `Usage::Help`, and any other words `Usage::Wrong`, with a text that says why.
+/// `Usage::Memory` may come in the place of each answer, where a growth of memory was refused.
 pub fn parse_line(alloc: Global, words: &[String]) -> Result<Cmd, Usage>
     ensures { MatchResult result (AsksFor (map string_bytes words.now)) (RefusesWords (map string_bytes words.now)) }
 {
@@ -97,6 +100,7 @@ fn yamlfmt_command<'a>(alloc: Global) -> Result<Command<'a>, AllocError>
     let fmt = fmt_command(alloc)?;
     Command::new(alloc, "yamlfmt")
         .bin_name("yamlfmt")?
+        .version(VERSION)
         .about(
             "Prints the events of a YAML stream, checks its style and rewrites it in one house style",
         )
@@ -173,7 +177,7 @@ fn usage_of(alloc: Global, words: &[String], error: &Error) -> Usage
 {
     match error.kind() {
         ErrorKind::OutOfMemory => Usage::Memory,
-        ErrorKind::DisplayHelp => match text_of(alloc, error) {
+        ErrorKind::DisplayHelp | ErrorKind::DisplayVersion => match text_of(alloc, error) {
             Ok(text) => Usage::Help(text),
             Err(_) => Usage::Memory,
         },

@@ -69,6 +69,7 @@ fn refuses_other_words(rt: HostRuntime) -> Result<(), Fail> {
         "check a b",
         "events --config",
         "events --write a",
+        "events --version",
         "check --write a",
         "events --config s --config t",
         "fmt --write",
@@ -103,7 +104,8 @@ Commands:
   help    Print this message or the help of the given subcommand(s)
 
 Options:
-  -h, --help  Print help
+  -h, --help     Print help
+  -V, --version  Print version
 ";
     let events = "Print the events of a YAML stream
 
@@ -120,6 +122,8 @@ Options:
         ("--help", overview),
         ("help", overview),
         ("events -h", events),
+        ("--version", "yamlfmt 0.2.0\n"),
+        ("-V", "yamlfmt 0.2.0\n"),
     ] {
         let words = words_of(rt.alloc(), line)?;
         match parse_line(rt.alloc(), words.as_slice()) {
