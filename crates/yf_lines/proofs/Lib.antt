@@ -7,3 +7,4 @@ pub mod ClearLemmas
 pub mod FoldLemmas
 pub mod OutputLemmas
 pub mod RestLemmas
+pub mod RowLemmas

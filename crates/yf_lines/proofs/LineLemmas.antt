@@ -95,7 +95,7 @@ line_made (one_line {l} m) = record { line = l; is = refl; start = refl; next = 
 abbrev pub line_by : ℕ → ℕ → ℕ → ℕ → Line
 line_by i h j k = record { start = i; end = h; next = j; indent = k }
 
-same_fields : (a b : Line) → a.start ≡ b.start → a.end ≡ b.end → a.next ≡ b.next → a.indent ≡ b.indent → a ≡ b
+pub same_fields : (a b : Line) → a.start ≡ b.start → a.end ≡ b.end → a.next ≡ b.next → a.indent ≡ b.indent → a ≡ b
 same_fields a b s e n d =
     ap (λ w. line_by w a.end a.next a.indent) s
     ∙ ap (λ w. line_by b.start w a.next a.indent) e

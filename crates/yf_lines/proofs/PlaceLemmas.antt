@@ -54,18 +54,6 @@ characters_more t m i c j x a r =
     let b : is_char (code t i) ≡ true = lt-ltb (code t i) no_char (omega (arith, r.char, r.below)) in
     subst (λ k. Many t is_char m k (x ++ code t i ∷ [])) r.end (many_more t is_char a b)
 
--- what a search by halves finds
-pub begun_from_point : (ls : List Line) (offset k : ℕ) → IsPartitionPoint (λ (l : Line). leb l.start offset ≡ true) (λ (l : Line). leb l.start offset ≡ false) ls k → Begun ls offset k
-begun_from_point ls offset k p = record {
-  before = λ m l e w.
-      let q : get_or ls m l ≡ l = get_or_from_slice_get ls m l l e in
-      let b = leb-true (get_or ls m l).start offset (p.0 m l (omega arith) w) in omega (arith, ap (λ w. w.start) q);
-  behind = λ m l e w.
-      let q : get_or ls m l ≡ l = get_or_from_slice_get ls m l l e in
-      let f : leb l.start offset ≡ false = subst (λ (v : Line). leb v.start offset ≡ false) q (p.1 m l w (slice_get_within ls m l e)) in
-      ⊎_elim (λ (a : offset < l.start). a) (λ (a : l.start ≤ offset). absurd (true≢false (sym (le-leb l.start offset a) ∙ f))) (cases_lt offset l.start);
-}
-
 -- no line has begun: the text is empty
 pub place_in_empty : (t : List ℕ) (ls : List Line) (offset : ℕ) → AreLines t ls → offset ≤ length t → Begun ls offset 0 → PlaceOf t offset 1 1
 place_in_empty t ls offset a w b = go ls a (follow a) b where

@@ -8,3 +8,4 @@ pub mod Fold
 pub mod Watched
 pub mod LineText
 pub mod Rest
+pub mod Rows

@@ -9,6 +9,7 @@ pub mod line;
 pub mod output;
 pub mod place;
 pub mod quotes;
+pub mod rows;
 pub mod source_text;
 pub mod steady;
 pub mod table;

@@ -1,16 +1,16 @@
 //! The lines of a text, found once and kept.
 ghost use Rattle.std.specs.Prelude.{◌≡◌, ◌↔◌, ◌≢◌, ◌+◌, ◌-◌, ◌<◌, ◌≤◌, ◌⊎◌, ℕ, true, false, Some, List, [], ◌∷◌, length, slice_get, IfOk, IfSome, IsTrue, MatchBool};
-ghost use Rattle.std.specs.List.Sorted.{IsNonDecreasingBy};
 ghost use Rattle.std.specs.Str.{IsCharBoundary};
 ghost use Rattle.yf_chars.specs.Class.{is_break_char};
 ghost use Rattle.yf_chars.specs.Text.{code};
 ghost use Rattle.yf_lines.specs.Basic.{LineStart, Forbidden, Clear};
 ghost use Rattle.yf_lines.specs.declared.line.Line.{Line};
-ghost use Rattle.yf_lines.specs.Lines.{AreLines, IsLine, IsCutAt, OneLine, Unbroken, Apart, Marks, IsForbiddenLine, PlaceOf, Begun, ColumnOf};
+ghost use Rattle.yf_lines.specs.Lines.{AreLines, IsLine, IsCutAt, OneLine, Unbroken, Apart, Marks, IsForbiddenLine, PlaceOf, ColumnOf};
 
 use crate::basic::{line_break, mark_stands, marker_stands, skip_spaces};
 use crate::line::Line;
 use crate::place::Place;
+use crate::rows::{LineRow, line_at, lines_begun, row_of};
 use std::alloc::{AllocError, Global};
 use std::marker::Model;
 use yf_chars::text::{peek, stands};
@@ -19,17 +19,19 @@ use yf_chars::text::{peek, stands};
 #[derive(Debug, Drop)]
 pub struct LineTable<'a> {
     text: &'a str,
-    lines: Vec<Line>,
+    rows: Vec<LineRow>,
 }
 
 impl<'a> Model for LineTable<'a> {
+    ghost use Rattle.std.specs.Prelude.{length};
     ghost use Rattle.yf_lines.specs.Lines.{IsTable, Table};
+    ghost use Rattle.yf_lines.specs.Rows.{lines_of};
 
     ghost Value = { Table };
 
-    ghost view = { λ a. record { text = a.text.now; lines = a.lines.items } };
+    ghost view = { λ a. record { text = a.text.now; lines = lines_of a.text.now (length a.text.now) a.rows.items } };
 
-    ghost invariant = { λ a. IsTable a.text.now a.lines.items };
+    ghost invariant = { λ a. IsTable a.text.now (lines_of a.text.now (length a.text.now) a.rows.items) };
 }
 
 impl<'a> LineTable<'a> {
@@ -37,20 +39,21 @@ impl<'a> LineTable<'a> {
     ///
     /// # Errors
     ///
-    /// `AllocError` where a growth of memory was refused.
+    /// `AllocError` where a growth of memory was refused, or where a line begins after byte 2^32 - 1 of the text.
     pub fn build(alloc: Global, text: &'a str) -> Result<LineTable<'a>, AllocError>
         ensures text { IfOk result (λ table. table.text ≡ text.now) }
         ensures lines { IfOk result (λ table. AreLines text.now table.lines) }
         ensures only { IfOk result (λ table. (ls : List Line) → AreLines text.now ls → ls ≡ table.lines) }
     {
-        let mut lines = Vec::new(alloc);
+        let mut rows = Vec::new(alloc);
         let mut at = 0;
         while at < text.len() {
             let line = read_line(text, at);
-            lines.push(line)?;
+            let row = row_of(line)?;
+            rows.push(row)?;
             at = line.next;
         }
-        Ok(LineTable { text, lines })
+        Ok(LineTable { text, rows })
     }
 
     /// The text that the table was built of.
@@ -65,14 +68,14 @@ impl<'a> LineTable<'a> {
         ensures count { result ≡ length self.now.lines }
         ensures lines { AreLines self.now.text self.now.lines }
     {
-        self.lines.len()
+        self.rows.as_slice().len()
     }
 
     /// Whether the text is empty, and so without lines.
     pub fn is_empty(&self) -> bool
         ensures { IsTrue result ↔ (self.now.lines ≡ []) }
     {
-        self.lines.is_empty()
+        self.len() == 0
     }
 
     /// The line of that index, from 0.
@@ -84,7 +87,7 @@ impl<'a> LineTable<'a> {
         ensures cut { IsCutAt self.now.text result }
         ensures lines { AreLines self.now.text self.now.lines }
     {
-        self.lines[i]
+        line_at(self.text, self.rows.as_slice(), i)
     }
 
     /// Whether the line of that index is forbidden: whether it begins, after its byte order marks, with a document
@@ -106,7 +109,7 @@ impl<'a> LineTable<'a> {
         ensures place { PlaceOf self.now.text offset result.line result.column }
         ensures only { (line column : ℕ) → PlaceOf self.now.text offset line column → (line ≡ result.line) × (column ≡ result.column) }
     {
-        let begun = lines_begun(self.lines.as_slice(), offset);
+        let begun = lines_begun(self.rows.as_slice(), offset);
         if begun == 0 {
             return Place { line: 1, column: 1 };
         }
@@ -124,15 +127,6 @@ impl<'a> LineTable<'a> {
             column: column_in_line(self.text, line.start, offset),
         }
     }
-}
-
-// How many of the lines begin at the offset or before.
-fn lines_begun(lines: &[Line], offset: usize) -> usize
-    requires { IsNonDecreasingBy (λ l. l.start) lines.now }
-    ensures bound { result ≤ length lines.now }
-    ensures begun { Begun lines.now offset result }
-{
-    lines.partition_point(|line| line.start <= offset)
 }
 
 // The column of the offset, from 1, in the line that begins at `start`.

@@ -1,25 +1,35 @@
 use Rattle.std.proofs.Common.{◌≡◌, ◌≢◌, ◌<◌, ◌≤◌, ◌+◌, ◌-◌, length, ap, subst, sym, ◌∙◌, arith}
 use Rattle.std.specs.List.Sorted.{IsNonDecreasingBy}
-use Rattle.yf_lines.specs.declared.line.Line.{Line}
+use Rattle.yf_lines.specs.declared.rows.LineRow.{LineRow}
 use Rattle.yf_lines.specs.Lines.{PlaceOf, Begun, ColumnOf}
 use Rattle.yf_lines.proofs.PlaceLemmas.{place_in_empty, place_held, place_behind, place_unique}
-use Rattle.yf_lines.proofs.TableLemmas.{starts_ascend}
+use Rattle.yf_lines.specs.Rows.{lines_of}
+use Rattle.yf_lines.proofs.RowLemmas.{begun_table, length_lines, rows_ascend}
 use Rattle.yf_lines.proofs.table.LineTable.place.Goals as goal
 use Rattle.yf_lines.proofs.table.LineTable.place.Goals.{then-line+else-offset-line, else-line}
 
 pub lines_begun-begun-requires : goal.lines_begun-begun-requires
 lines_begun-begun-requires c =
-    subst (λ ls. IsNonDecreasingBy (λ (l : Line). l.start) ls) (sym c.as_slice.ensures.value)
-    (starts_ascend c.self.inside.text.now c.self.inside.lines.items c.self.invariant.lines)
+    let t = c.self.inside.text.now in
+    subst (λ rs. IsNonDecreasingBy (λ (r : LineRow). r.start) rs) (sym c.as_slice.ensures.value)
+    (rows_ascend t (length t) c.self.inside.rows.items c.self.invariant.lines)
+
+pub line-line-requires : goal.line-line-requires
+line-line-requires c =
+    let t = c.self.inside.text.now in
+    let n = length_lines t (length t) c.self.inside.rows.items in
+    let b = c.lines_begun-begun.ensures.bound in
+    omega (arith, b, n, ap length c.as_slice.ensures.value, ap (λ v. length v.lines) c.self.view_is, c.if-begun-eq0.false)
 
 pub returns-then-begun-eq0-clause-place : goal.returns-then-begun-eq0-clause-place
 returns-then-begun-eq0-clause-place c =
-    let ls = c.self.inside.lines.items in
+    let t = c.self.inside.text.now in
+    let ls = lines_of t (length t) c.self.inside.rows.items in
     let o = c.args.offset in
-    let b : Begun ls o c.lines_begun-begun.result = subst (λ w. Begun w o c.lines_begun-begun.result) c.as_slice.ensures.value c.lines_begun-begun.ensures.begun in
-    let n : Begun ls o 0 = subst (λ k. Begun ls o k) c.if-begun-eq0.true b in
-    let w : o ≤ length c.self.inside.text.now = omega (arith, c.requires.0, ap (λ v. length v.text) c.self.view_is) in
-    rw (← c.self.view_is) (place_in_empty c.self.inside.text.now ls o c.self.invariant.lines w n)
+    let n : Begun c.args.self.now.lines o 0 = subst (λ k. Begun c.args.self.now.lines o k) c.if-begun-eq0.true (begun_table _ c.self.inside.text.now c.self.inside.rows.items _ c.args.offset c.lines_begun-begun.result c.as_slice.ensures.value c.self.view_is c.lines_begun-begun.ensures.begun) in
+    let m : Begun ls o 0 = subst (λ w. Begun w o 0) (sym (ap (λ w. w.lines) c.self.view_is)) n in
+    let w : o ≤ length t = omega (arith, c.requires.0, ap (λ v. length v.text) c.self.view_is) in
+    rw (← c.self.view_is) (place_in_empty t ls o c.self.invariant.lines w m)
 
 pub returns-then-offset-line-clause-place : goal.returns-then-offset-line-clause-place
 returns-then-offset-line-clause-place c =
@@ -27,9 +37,7 @@ returns-then-offset-line-clause-place c =
     let o = c.args.offset in
     let k = c.lines_begun-begun.result in
     let e : (k - 1) + 1 ≡ k = omega (arith, c.if-begun-eq0.false) in
-    let same = c.as_slice.ensures.value ∙ ap (λ w. w.lines) c.self.view_is in
-    let b : Begun v.lines o k = subst (λ w. Begun w o k) same c.lines_begun-begun.ensures.begun in
-    let begun : Begun v.lines o ((k - 1) + 1) = subst (λ w. Begun v.lines o w) (sym e) b in
+    let begun : Begun v.lines o ((k - 1) + 1) = subst (λ w. Begun v.lines o w) (sym e) (begun_table _ c.self.inside.text.now c.self.inside.rows.items _ c.args.offset c.lines_begun-begun.result c.as_slice.ensures.value c.self.view_is c.lines_begun-begun.ensures.begun) in
     subst (λ w. PlaceOf v.text o (w + 1) 1) e
     (place_behind v.text v.lines o (k - 1) c.line-line.result c.line-line.ensures.lines c.line-line.ensures.item begun c.requires.0 c.if-line.true c.if-offset-line.true)
 
@@ -40,9 +48,7 @@ returns-clause-place c =
     let o = c.args.offset in
     let k = c.lines_begun-begun.result in
     let e : (k - 1) + 1 ≡ k = omega (arith, c.if-begun-eq0.false) in
-    let same = c.as_slice.ensures.value ∙ ap (λ w. w.lines) c.self.view_is in
-    let b : Begun v.lines o k = subst (λ w. Begun w o k) same c.lines_begun-begun.ensures.begun in
-    let begun : Begun v.lines o ((k - 1) + 1) = subst (λ w. Begun v.lines o w) (sym e) b in
+    let begun : Begun v.lines o ((k - 1) + 1) = subst (λ w. Begun v.lines o w) (sym e) (begun_table _ c.self.inside.text.now c.self.inside.rows.items _ c.args.offset c.lines_begun-begun.result c.as_slice.ensures.value c.self.view_is c.lines_begun-begun.ensures.begun) in
     let not_behind : l.end < l.next → o ≢ l.next =
     elim c.if-line.branch [
       | then-line+else-offset-line w ↦ λ _ q. w.if-offset-line.false q

@@ -1,0 +1,39 @@
+-- Rows of a table of lines: which lines they stand for in a text t. e is the offset after all of them.
+use Rattle.std.specs.Prelude.{◌≡◌, ℕ, zero, suc, ◌-◌, ◌<◌, ◌≤◌, ◌==◌, Bool, true, false, if◌then◌else◌, List, [], ◌∷◌, slice_get, Some}
+use Rattle.yf_chars.specs.Text.{code}
+use Rattle.yf_lines.specs.declared.line.Line.{Line}
+use Rattle.yf_lines.specs.declared.rows.LineRow.{LineRow}
+
+-- how many bytes the break has that ends with these two characters: none, where it ends with no break
+abbrev pub break_width : ℕ → ℕ → ℕ
+break_width before last =
+    if last == 10 then (if before == 13 then 2 else 1) else (if last == 13 then 1 else 0)
+
+-- where the text of a line ends after which the next line begins at n
+abbrev pub end_before : List ℕ → ℕ → ℕ
+end_before t n = n - break_width (code t (n - 2)) (code t (n - 1))
+
+-- the line of a row, after which the next line begins at n
+abbrev pub line_of : List ℕ → LineRow → ℕ → Line
+line_of t r n = record { start = r.start; end = end_before t n; next = n; indent = r.indent }
+
+-- where the first of the lines begins
+abbrev pub first_start : List LineRow → ℕ → ℕ
+first_start [] e = e
+first_start (r ∷ rs) e = r.start
+
+-- the lines of rows
+abbrev pub lines_of : List ℕ → ℕ → List LineRow → List Line
+lines_of t e [] = []
+lines_of t e (r ∷ rs) = line_of t r (first_start rs e) ∷ lines_of t e rs
+
+-- where the line begins that follows the one at an index
+abbrev pub next_start : List LineRow → ℕ → ℕ → ℕ
+next_start [] k e = e
+next_start (r ∷ rs) zero e = first_start rs e
+next_start (r ∷ rs) (suc k) e = next_start rs k e
+
+-- k rows begin at the offset or before, and no other does
+pub record RowsBegun (rs : List LineRow) (offset k : ℕ) : Type 0 where
+  pub before : (m : ℕ) (r : LineRow) → slice_get rs m ≡ Some r → m < k → r.start ≤ offset
+  pub behind : (m : ℕ) (r : LineRow) → slice_get rs m ≡ Some r → k ≤ m → offset < r.start
