@@ -1,5 +1,5 @@
 -- Small block nodes, each with the outcome that the reader has there, written out by hand: so it has one.
-use Rattle.std.proofs.Common.{◌≡◌, ◌≢◌, ℕ, suc, zero, ◌+◌, ◌<◌, ◌≤◌, ℤ, pos, negsuc, Bool, true, false, List, [], ◌∷◌, Option, Some, None, codes, refl, arith}
+use Rattle.std.proofs.Common.{◌≡◌, ℕ, suc, zero, ◌+◌, ◌<◌, pos, negsuc, true, false, List, [], ◌∷◌, Some, None, codes, refl, arith}
 use Rattle.std.proofs.lemmas.Int.{ints}
 use Rattle.std.specs.Str.{IsUtf8, chars}
 use lib.Utf8.{encode}
@@ -21,13 +21,13 @@ use Rattle.yf_comments.specs.Comments.LineEnd.{past_rest}
 use Rattle.yf_comments.specs.Comments.LineRest.{nothing}
 use Rattle.yf_comments.proofs.LineEndLemmas.{line_end_chosen, row_stuck_end}
 use Rattle.yf_comments.proofs.NoteKnown.{none_behind}
-use Rattle.yf_grammar.specs.Meaning.{Meaning, ◌⊕◌, behind, noting, empty_node, collection, entering}
+use Rattle.yf_grammar.specs.Meaning.{◌⊕◌, behind, noting, empty_node, collection, entering}
 use Rattle.yf_grammar.specs.Grammar.{BlockNode, Derives, a_block_collection, a_last_entry, a_dash_entry, nothing_indented, ColonLine}
-use Rattle.yf_grammar.specs.Parser.{Found, found}
-use Rattle.yf_grammar.specs.BlockParser.{LinesEnd, text_ends, marker_stands, LineText, DashAt, SignAt, line_first, line_dashed, LineColumns, column_there, column_not, compact_columns, NoNode, Nothing, Indicator, past, told, alone, headed, Awaited, Below, Inline, Items, Item, Later, First, collected, item_found, lone_key, lone_value, pair_found, by_question, by_colon, Whole}
+use Rattle.yf_grammar.specs.Parser.{found}
+use Rattle.yf_grammar.specs.BlockParser.{LinesEnd, text_ends, marker_stands, LineText, DashAt, SignAt, line_first, line_dashed, LineColumns, column_there, column_not, compact_columns, NoNode, Nothing, past, told, alone, headed, Awaited, collected, item_found, lone_key, lone_value, pair_found, by_question, by_colon, Whole}
 use Rattle.yf_grammar.specs.BlockParser.Whole.{awaited_below, awaited_inline, below_alone, below_node, sequence_read, mapping_read, items_last, item_read, question_alone, question_and_value, colon_read}
 use Rattle.yf_grammar.proofs.BlankRuns.{behind_byte}
-use Rattle.yf_grammar.proofs.ShownParts.{differs, seen, feed, line_at, no_spaces, text_start, line_ends, text_stops, no_node, no_deep_node, no_entry, goes_on}
+use Rattle.yf_grammar.proofs.ShownParts.{seen, feed, line_at, no_spaces, text_start, line_ends, text_stops, no_node, no_deep_node, no_entry, goes_on}
 
 -- at the first line of a document both kinds of collections may begin
 pub root_columns : LineColumns (negsuc 0) BlockIn 0 0 0 (record { sequence = Some 0; mapping = Some 0 })

@@ -1,6 +1,5 @@
 -- A small block node that is broken, of which nothing is left: it might end at a place before which no end is allowed.
-use Rattle.std.proofs.Common.{◌≡◌, ◌≢◌, ℕ, suc, zero, ◌+◌, ◌<◌, ◌≤◌, ℤ, pos, negsuc, Bool, true, false, List, [], ◌∷◌, Option, Some, None, codes, refl, sym, subst, length, arith}
-use Rattle.std.proofs.lemmas.Int.{ints}
+use Rattle.std.proofs.Common.{◌≡◌, ℕ, suc, zero, ◌+◌, ◌<◌, ℤ, pos, negsuc, true, false, List, [], ◌∷◌, Some, None, codes, refl, sym, subst, length, arith}
 use Rattle.std.specs.Str.{IsUtf8, chars}
 use lib.Utf8.{encode}
 use Rattle.yf_chars.specs.declared.context.Ctx.TheVariants.{BlockOut, BlockIn, FlowOut}
@@ -21,9 +20,9 @@ use Rattle.yf_plain.proofs.LineLemmas.{no_plain}
 use Rattle.yf_plain.proofs.PlainLemmas.{no_front}
 use Rattle.yf_grammar.specs.Meaning.{noting, empty_node}
 use Rattle.yf_grammar.specs.Grammar.{ColonLine}
-use Rattle.yf_grammar.specs.Parser.{Found, found, Parses, ANode, begins_plain, begins_alias, begins_properties, begins_content}
+use Rattle.yf_grammar.specs.Parser.{Found, found, begins_plain, begins_alias, begins_properties, begins_content}
 use Rattle.yf_grammar.specs.Parser.Parses.{plain_missed}
-use Rattle.yf_grammar.specs.BlockParser.{LineText, SignAt, Columns, compact_columns, NoNode, NoKeyAt, unfit_node, key_missed, MayLeaf, line_first, Nothing, Indicator, past, told, alone, Awaited, Inline, Items, Item, First, collected, lone_key, by_question, Whole}
+use Rattle.yf_grammar.specs.BlockParser.{LineText, SignAt, Columns, compact_columns, NoNode, NoKeyAt, unfit_node, key_missed, line_first, Nothing, Indicator, past, alone, Awaited, Inline, Items, Item, First, by_question, Whole}
 use Rattle.yf_grammar.specs.BlockParser.Whole.{awaited_below, awaited_inline, below_alone, leaf_there, leaf_missed, question_value_missed}
 use Rattle.yf_grammar.specs.Halts.{Allowed, none_open, one_open, MayEnd, alone_to, alone_nowhere, not_found, then_found, Halts}
 use Rattle.yf_grammar.specs.Halts.Halts.{halts_below, halts_inline, halts_alone, halts_before_node, halts_mapping, halts_leaf, halts_plain_missed, halts_item, halts_before_value}
