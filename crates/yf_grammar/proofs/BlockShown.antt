@@ -1,5 +1,5 @@
 -- Small block nodes, each with the outcome that the reader has there, written out by hand: so it has one.
-use Rattle.std.proofs.Common.{◌≡◌, ◌≢◌, ℕ, suc, zero, ◌+◌, ◌<◌, ◌≤◌, ℤ, pos, negsuc, Bool, true, false, List, [], ◌∷◌, Option, Some, None, codes, refl, arith}
+use Rattle.std.proofs.Common.{◌≡◌, ℕ, suc, zero, ◌+◌, ◌<◌, pos, negsuc, true, false, List, [], ◌∷◌, Some, None, codes, refl, arith}
 use Rattle.std.proofs.lemmas.Int.{ints}
 use Rattle.std.specs.Str.{IsUtf8, chars}
 use lib.Utf8.{encode}
@@ -12,19 +12,22 @@ use Rattle.yf_chars.specs.Chain.One.{one}
 use Rattle.yf_lines.specs.Basic.{Break, Spaces, is_marker, is_three}
 use Rattle.yf_lines.specs.Basic.LineStart.{after_break}
 use Rattle.yf_lines.specs.Basic.SeparateInLine.{at_start}
-use Rattle.yf_comments.specs.Comments.{LineEnd}
-use Rattle.yf_comments.specs.Comments.BreakOrEnd.{by_break}
-use Rattle.yf_comments.specs.Comments.CommentLine.{whites_line}
+use Rattle.yf_comments.specs.Comment.{CommentValue}
+use Rattle.yf_comments.specs.Comments.{LineEnd, Noted, not_noted, is_gap}
+use Rattle.yf_comments.specs.Comments.BreakOrEnd.{by_break, by_end}
+use Rattle.yf_comments.specs.Comments.CommentLine.{comment_line, whites_line}
+use Rattle.yf_comments.specs.Comments.CommentText.{comment_text}
 use Rattle.yf_comments.specs.Comments.LineEnd.{past_rest}
 use Rattle.yf_comments.specs.Comments.LineRest.{nothing}
 use Rattle.yf_comments.proofs.LineEndLemmas.{line_end_chosen, row_stuck_end}
-use Rattle.yf_grammar.specs.Meaning.{Meaning, ◌⊕◌, behind, noting, empty_node, collection, entering}
-use Rattle.yf_grammar.specs.Grammar.{ColonLine}
-use Rattle.yf_grammar.specs.Parser.{Found, found}
-use Rattle.yf_grammar.specs.BlockParser.{LinesEnd, text_ends, marker_stands, LineText, DashAt, SignAt, line_first, line_dashed, LineColumns, column_there, column_not, compact_columns, NoNode, Nothing, Indicator, past, told, alone, headed, Awaited, Below, Inline, Items, Item, Later, First, collected, item_found, lone_key, lone_value, pair_found, by_question, by_colon, Whole}
+use Rattle.yf_comments.proofs.NoteKnown.{none_behind}
+use Rattle.yf_grammar.specs.Meaning.{◌⊕◌, behind, noting, empty_node, collection, entering}
+use Rattle.yf_grammar.specs.Grammar.{BlockNode, Derives, a_block_collection, a_last_entry, a_dash_entry, nothing_indented, ColonLine}
+use Rattle.yf_grammar.specs.Parser.{found}
+use Rattle.yf_grammar.specs.BlockParser.{LinesEnd, text_ends, marker_stands, LineText, DashAt, SignAt, line_first, line_dashed, LineColumns, column_there, column_not, compact_columns, NoNode, Nothing, past, told, alone, headed, Awaited, collected, item_found, lone_key, lone_value, pair_found, by_question, by_colon, Whole}
 use Rattle.yf_grammar.specs.BlockParser.Whole.{awaited_below, awaited_inline, below_alone, below_node, sequence_read, mapping_read, items_last, item_read, question_alone, question_and_value, colon_read}
 use Rattle.yf_grammar.proofs.BlankRuns.{behind_byte}
-use Rattle.yf_grammar.proofs.ShownParts.{differs, seen, feed, line_at, no_spaces, text_start, line_ends, text_stops, no_node, no_deep_node, no_entry, goes_on}
+use Rattle.yf_grammar.proofs.ShownParts.{seen, feed, line_at, no_spaces, text_start, line_ends, text_stops, no_node, no_deep_node, no_entry, goes_on}
 
 -- at the first line of a document both kinds of collections may begin
 pub root_columns : LineColumns (negsuc 0) BlockIn 0 0 0 (record { sequence = Some 0; mapping = Some 0 })
@@ -54,6 +57,60 @@ dash_blank_read =
     awaited_below (text_start dash_blank_line)
     (below_node (text_start dash_blank_line) dash_blank_line (line_first refl) root_columns
     (sequence_read refl dash_blank_dash (items_last (item_read dash_blank_dash (awaited_below dash_blank_end (below_alone dash_blank_end (no_node (text_ends refl))))) (no_entry (text_ends refl)))))
+
+-- in the grammar the blank line may stay out as well
+dash_blank_derived : {j : ℕ} → LineEnd dash_blank 1 j [] → Derives dash_blank 1 (BlockNode (negsuc 0) BlockIn) 0 j (collection true false 0 1 (entering 0 None (empty_node 1)))
+unfolding code begins chars is_ns_char is_nb_char is_printable is_between is_break_char is_white behind noting empty_node collection entering
+dash_blank_derived e =
+    a_block_collection refl (text_start dash_blank_line).derived (no_spaces 0) (omega (arith, ints)) (a_last_entry (a_dash_entry refl refl (nothing_indented refl e)))
+
+dash_blank_short : Derives dash_blank 1 (BlockNode (negsuc 0) BlockIn) 0 2 (collection true false 0 1 (entering 0 None (empty_node 1)))
+unfolding code begins chars
+dash_blank_short = dash_blank_derived (past_rest (nothing (by_break (feed 1 refl refl))) done)
+
+dash_blank_long : Derives dash_blank 1 (BlockNode (negsuc 0) BlockIn) 0 3 (collection true false 0 1 (entering 0 None (empty_node 1)))
+dash_blank_long = dash_blank_derived dash_blank_end.derived
+
+-- a `-` and a comment line, which the node takes with its comment
+abbrev dash_comment : List ℕ
+dash_comment = codes "-\n#"
+
+dash_comment_utf8 : IsUtf8 dash_comment
+unfolding encode
+dash_comment_utf8 = (codes "-\n#", (refl, refl))
+
+dash_comment_dash : DashAt dash_comment 0
+unfolding code begins chars is_ns_char is_nb_char is_printable is_between is_break_char is_white
+dash_comment_dash = record { dash = refl; behind = refl }
+
+dash_comment_line : LineText dash_comment 0 0 0
+unfolding code begins chars is_ns_char is_nb_char is_printable is_between is_break_char is_white is_marker is_three is_white_or_end
+dash_comment_line = line_at 0 0 (no_spaces 0) (seen 0 refl refl) refl
+
+dash_comment_feed : Break dash_comment 1 2
+unfolding code begins chars
+dash_comment_feed = feed 1 refl refl
+
+dash_comment_note : Noted dash_comment 2 false
+unfolding code begins chars next is_gap is_white is_break_char
+dash_comment_note = not_noted (none_behind 0 dash_comment_utf8 (omega arith) refl refl dash_comment_feed)
+
+abbrev remark : CommentValue
+remark = record { text = codes "#"; offset = 2; blank_before = false }
+
+dash_comment_end : Chosen (LineEnd dash_comment 1) 3 (remark ∷ [])
+unfolding code begins chars
+dash_comment_end = line_end_chosen
+    (past_rest (nothing (by_break dash_comment_feed)) (step (comment_line (at_start (after_break dash_comment_feed)) (comment_text refl done dash_comment_note) (by_end refl)) done))
+    (row_stuck_end refl)
+
+dash_comment_read : Whole dash_comment 1 (Awaited false (negsuc 0) BlockIn Nothing 0)
+    (found 3 1 false (collection true false 0 1 (entering 0 None (noting (empty_node 1) (remark ∷ [])))))
+unfolding past told alone headed collected item_found found behind noting empty_node collection entering
+dash_comment_read =
+    awaited_below (text_start dash_comment_line)
+    (below_node (text_start dash_comment_line) dash_comment_line (line_first refl) root_columns
+    (sequence_read refl dash_comment_dash (items_last (item_read dash_comment_dash (awaited_below dash_comment_end (below_alone dash_comment_end (no_node (text_ends refl))))) (no_entry (text_ends refl)))))
 
 -- a `?` alone: its value is empty
 abbrev question : List ℕ

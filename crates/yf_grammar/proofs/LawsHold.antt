@@ -1,9 +1,6 @@
 -- The laws of the recursive readers hold.
-use Rattle.std.proofs.Common.{◌≡◌, ℕ, zero, suc, ◌+◌, ℤ, pos, negsuc, ◌+ℤ◌, ◌≤ℤ◌, List, Some, refl, arith}
+use Rattle.std.proofs.Common.{zero, suc, ◌+◌, ℤ, pos, negsuc, ◌+ℤ◌, ◌≤ℤ◌, refl, arith}
 use Rattle.std.proofs.lemmas.Int.{ints}
-use Rattle.std.specs.Str.{IsUtf8}
-use Rattle.yf_chars.specs.declared.context.Ctx.{Ctx}
-use Rattle.yf_grammar.specs.Parser.{Found}
 use Rattle.yf_grammar.specs.Halts.{none_open}
 use Rattle.yf_grammar.specs.Laws.{FlowNodesAreChosen, NoFlowNodeIsMissed, KeysAreChosen, NoKeyIsMissed, FlowOutcomesAreOne, WholeNodesAreChosen, DerivedNodesAreWhole, LastHaltsAreChosen, NoBlockNodeIsMissed}
 use Rattle.yf_grammar.proofs.BlockHalts.{whole_halts}

@@ -1,9 +1,9 @@
 -- Small block nodes with a key, a plain scalar and a block scalar, each with the outcome that the reader has there, written out by hand.
-use Rattle.std.proofs.Common.{◌≡◌, ◌≢◌, ℕ, suc, zero, ◌+◌, ◌<◌, ◌≤◌, ℤ, pos, negsuc, Bool, true, false, List, [], ◌∷◌, Option, Some, None, codes, refl, sym, ap, ◌∙◌, subst, arith, true≢false, length, ⊎_elim}
+use Rattle.std.proofs.Common.{◌≡◌, ℕ, ◌+◌, ◌<◌, ◌≤◌, pos, negsuc, true, false, List, [], ◌∷◌, Some, None, codes, refl, sym, ap, ◌∙◌, subst, arith, true≢false, ⊎_elim}
 use Rattle.std.proofs.lemmas.Bool.{cases_lt}
 use Rattle.std.specs.Str.{IsUtf8, chars}
 use lib.Utf8.{encode}
-use Rattle.yf_chars.specs.declared.context.Ctx.TheVariants.{BlockIn, FlowOut, FlowIn}
+use Rattle.yf_chars.specs.declared.context.Ctx.TheVariants.{BlockIn, FlowOut}
 use Rattle.yf_chars.specs.Text.{begins, code, next, no_char}
 use Rattle.yf_chars.specs.Class.{is_ns_char, is_nb_char, is_printable, is_between, is_break_char, is_white, is_white_or_end, is_indicator, is_flow_indicator, is_plain_safe}
 use Rattle.yf_chars.specs.Chain.{Many, Stuck, Chosen}

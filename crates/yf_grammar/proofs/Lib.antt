@@ -45,6 +45,7 @@ pub mod GapLemmas
 pub mod HaltGaps
 pub mod HaltsClear
 pub mod HaltsLater
+mod HaltsShown
 pub mod HaltsSound
 pub mod InlineViews
 pub mod KeyExact

@@ -1,12 +1,12 @@
 -- Properties on a line of their own, before properties on the next line: both are those of a leaf there; those of a line that
 -- begins with a key are the key's, and the others the mapping's.
-use Rattle.std.proofs.Common.{◌≡◌, ◌≢◌, ℕ, ◌+◌, ◌<◌, ◌≤◌, ℤ, pos, negsuc, ◌+ℤ◌, Bool, true, false, ◌==◌, inl, List, [], ◌∷◌, Option, Some, None, codes, refl, ap, ◌∙◌, arith}
+use Rattle.std.proofs.Common.{◌≡◌, ℕ, ◌+◌, ◌<◌, ◌≤◌, ℤ, pos, negsuc, false, ◌==◌, inl, List, [], Option, Some, None, codes, refl, ap, ◌∙◌, arith}
 use Rattle.std.proofs.lemmas.Int.{ints}
 use Rattle.std.specs.Str.{IsUtf8, chars}
 use lib.Utf8.{encode}
 use Rattle.yf_chars.specs.declared.context.Ctx.TheVariants.{BlockIn, FlowOut, FlowKey}
 use Rattle.yf_chars.specs.Text.{begins, code, next}
-use Rattle.yf_chars.specs.Class.{is_ns_char, is_nb_char, is_printable, is_between, is_break_char, is_white, is_white_or_end, is_indicator, is_flow_indicator, is_plain_safe, is_anchor_char, is_digit, is_word_char, is_tag_char, is_uri_char, is_hex_digit}
+use Rattle.yf_chars.specs.Class.{is_ns_char, is_nb_char, is_printable, is_between, is_break_char, is_white, is_white_or_end, is_indicator, is_flow_indicator, is_plain_safe, is_anchor_char, is_digit, is_word_char, is_tag_char, is_uri_char}
 use Rattle.yf_chars.specs.Chain.{Many, Stuck, Chosen}
 use Rattle.yf_chars.specs.Chain.Chain.{done, step}
 use Rattle.yf_chars.specs.Chain.One.{one}
@@ -20,7 +20,7 @@ use Rattle.yf_plain.specs.Plain.{Plain, is_plain_first, is_plain_char, is_sign}
 use Rattle.yf_plain.proofs.LineLemmas.{no_plain}
 use Rattle.yf_plain.proofs.PlainLemmas.{no_front}
 use Rattle.yf_props.specs.Props.TagValue.{IsNonSpecific}
-use Rattle.yf_props.specs.Names.{Anchor, Properties, PropertiesValue, TagChar, TagProperty, anchor_only, tag_only}
+use Rattle.yf_props.specs.Names.{Anchor, Properties, TagChar, TagProperty, anchor_only, tag_only}
 use Rattle.yf_props.specs.Names.Anchor.{ampersand_name}
 use Rattle.yf_props.proofs.NameLemmas.{no_anchor_here, run_of}
 use Rattle.yf_props.proofs.PropertiesLemmas.{anchor_alone, tag_alone, no_anchor_behind}

@@ -1,5 +1,5 @@
 -- Parts of small block nodes: where a line begins, ends or stops, and what does not stand at a character.
-use Rattle.std.proofs.Common.{◌≡◌, ◌≢◌, ℕ, ◌+◌, ◌-◌, ◌<◌, ◌≤◌, ℤ, pos, Bool, true, false, ◌==◌, ◌||◌, List, [], ◌∷◌, length, refl, sym, ap, ◌∙◌, arith, true≢false, ⊎_elim}
+use Rattle.std.proofs.Common.{◌≡◌, ◌≢◌, ℕ, ◌+◌, ◌-◌, ◌<◌, ◌≤◌, ℤ, pos, Bool, true, false, ◌==◌, List, [], ◌∷◌, length, refl, sym, ap, ◌∙◌, arith, true≢false, ⊎_elim}
 use Rattle.std.proofs.lemmas.Bool.{eq-eqb, cases_lt}
 use Rattle.std.proofs.lemmas.Int.{ints}
 use Rattle.std.specs.Str.{IsUtf8}
@@ -9,12 +9,11 @@ use Rattle.yf_chars.specs.Text.{code, next}
 use Rattle.yf_chars.specs.Class.{is_ns_char, is_white, is_break_char}
 use Rattle.yf_chars.specs.Chain.{Stuck, Chosen, Many}
 use Rattle.yf_chars.specs.Chain.Chain.{done}
-use Rattle.yf_lines.specs.Basic.{Break, Clear, Forbidden, Spaces, is_marker}
+use Rattle.yf_lines.specs.Basic.{Break, Clear, Spaces, is_marker}
 use Rattle.yf_lines.specs.Basic.Break.{lone_lf}
 use Rattle.yf_lines.specs.Basic.LineStart.{at_text}
 use Rattle.yf_lines.proofs.BasicLemmas.{no_break_here}
 use Rattle.yf_lines.proofs.FoldLemmas.{no_fold_break}
-use Rattle.yf_comments.specs.Comment.{CommentValue}
 use Rattle.yf_comments.specs.Comments.{LineEnd, Row}
 use Rattle.yf_comments.specs.Comments.LineEnd.{from_start, past_rest}
 use Rattle.yf_comments.specs.Comments.LineRest.{nothing}
@@ -26,12 +25,12 @@ use Rattle.yf_block_scalar.specs.Header.Style.{literal_sign, folded_sign}
 use Rattle.yf_plain.specs.Plain.{Plain, PlainItem, NoNextLine, is_plain_first, is_plain_char}
 use Rattle.yf_plain.proofs.LineLemmas.{no_next_fold, one_line_chosen}
 use Rattle.yf_plain.proofs.PlainLemmas.{item_stuck, line_chosen}
-use Rattle.yf_props.specs.Names.{Properties, PropertiesValue}
+use Rattle.yf_props.specs.Names.{Properties}
 use Rattle.yf_grammar.specs.BlockScalar.{BlockScalar}
 use Rattle.yf_grammar.specs.BlockScalar.BlockScalar.{block_scalar}
 use Rattle.yf_grammar.specs.Meaning.{Meaning}
 use Rattle.yf_grammar.specs.Parser.{OnOneLine, begins_properties}
-use Rattle.yf_grammar.specs.BlockParser.{LinesEnd, LineText, Begins, line_indented, line_first, line_dashed, NoNode, NextEntry, next_item, next_pair, NoEntry, Columns, NoSign, DashAt, SignAt}
+use Rattle.yf_grammar.specs.BlockParser.{LinesEnd, LineText, Begins, line_indented, line_first, line_dashed, NoNode, NextEntry, next_item, next_pair, NoEntry, Columns, NoSign}
 use Rattle.yf_grammar.proofs.BlankRuns.{Behind}
 use Rattle.yf_grammar.proofs.BlockClaims.{line_from, line_still, line_unique}
 use Rattle.yf_grammar.proofs.BlockFirst.{no_line_end_before}
