@@ -14,8 +14,6 @@ pub mod normal;
 pub mod output;
 pub mod print;
 pub mod style;
-#[cfg(test)]
-mod tests;
 pub mod trails;
 pub mod wanted;
 pub mod width;
