@@ -1,6 +1,14 @@
 //! Tests of crates below. A crate with tests is proved twice, so they stand here.
 
+mod block;
 mod block_scalars;
 mod chars;
 mod comments;
+mod emit;
+mod events;
+mod flow;
+mod lines;
+mod node_text;
 mod plain;
+mod props;
+mod quoted;

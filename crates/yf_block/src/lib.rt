@@ -16,5 +16,3 @@ pub mod look;
 pub mod nodes;
 pub(crate) mod resume;
 pub(crate) mod scalar;
-#[cfg(test)]
-mod tests;

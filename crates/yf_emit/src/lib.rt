@@ -20,8 +20,6 @@ pub(crate) mod places;
 pub mod print;
 pub(crate) mod printer;
 pub mod style;
-#[cfg(test)]
-mod tests;
 pub mod trails;
 pub mod wanted;
 pub mod width;

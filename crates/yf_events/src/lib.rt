@@ -17,5 +17,3 @@ pub mod part;
 pub mod reading;
 pub mod row;
 pub mod slices;
-#[cfg(test)]
-mod tests;

@@ -12,5 +12,3 @@ pub(crate) mod leaf;
 pub mod look;
 pub mod node;
 pub mod nodes;
-#[cfg(test)]
-mod tests;

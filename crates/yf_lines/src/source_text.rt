@@ -61,20 +61,3 @@ impl<'a> Src<'a> {
         self.table.place(offset)
     }
 }
-
-#[cfg(test)]
-mod tests {
-    use super::*;
-    use std::test::Fail;
-
-    #[test]
-    fn keeps_text_and_lines(rt: HostRuntime) -> Result<(), Fail> {
-        let src = Src::new(rt.alloc(), "a\r\nb")?;
-        assert_eq!(rt; src.text(), "a\r\nb");
-        assert_eq!(rt; src.lines().len(), 2);
-        assert!(rt; src.text().is_char_boundary(3));
-        let place = src.place(3);
-        assert_eq!(rt; [place.line, place.column], [2, 1]);
-        Ok(())
-    }
-}

@@ -171,27 +171,3 @@ impl<T: Write> Sink for Watched<T> {
         self.failed
     }
 }
-
-#[cfg(test)]
-mod tests {
-    use super::*;
-
-    #[test]
-    fn gives_the_writer_back(rt: HostRuntime) {
-        let mut writer = Watched::new(Vec::new(rt.alloc()));
-        assert!(rt; writer.write_watched(b"a").is_ok());
-        assert!(rt; writer.flush().is_ok());
-        assert!(rt; !writer.failed());
-        assert_eq!(rt; writer.into_inner().as_slice(), b"a".as_slice());
-    }
-
-    #[test]
-    fn gives_the_reader_back(rt: HostRuntime) {
-        let mut reader = Watched::new(b"ab".as_slice());
-        let mut buffer = [0; 1];
-        assert!(rt; reader.read_watched(&mut buffer).is_ok());
-        assert!(rt; !reader.failed());
-        assert_eq!(rt; buffer[0], b'a');
-        assert_eq!(rt; reader.into_inner(), b"b".as_slice());
-    }
-}

@@ -7,5 +7,3 @@ pub mod properties;
 pub mod props;
 pub mod read;
 pub mod tag;
-#[cfg(test)]
-mod tests;

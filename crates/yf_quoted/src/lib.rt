@@ -5,6 +5,4 @@ pub mod double;
 pub mod gap;
 pub mod offsets;
 pub mod single;
-#[cfg(test)]
-mod tests;
 pub mod write;

@@ -1,0 +1,233 @@
+//! Block nodes, whose events were worked out from the productions.
+
+use crate::crates_below::node_text::{places, repeated, shown};
+use std::alloc::Global;
+use std::test::Fail;
+use yf_block::block::{read_block_node, scan_block_node};
+use yf_block::nodes::{Found, Outcome, block_node_in};
+use yf_chars::context::Ctx;
+use yf_lines::fault::Fault;
+use yf_lines::source_text::Src;
+
+/// Texts, the events of the block node that begins the text at indentation -1 in block-in, and where the node ends.
+const NODES: [(&str, &str, usize); 34] = [
+    ("? k\n: v\n", "+MAP / =VAL :k / =VAL :v / -MAP", 8),
+    (
+        "a:\n- x\n- - y\n  - z\n",
+        "+MAP / =VAL :a / +SEQ / =VAL :x / +SEQ / =VAL :y / =VAL :z / -SEQ / -SEQ / -MAP",
+        19,
+    ),
+    ("-", "+SEQ / =VAL : / -SEQ", 1),
+    ("- a\n- b\n", "+SEQ / =VAL :a / =VAL :b / -SEQ", 8),
+    (
+        "foo: &a x\nbar: {*a : y, &b: z}\n",
+        "+MAP / =VAL :foo / =VAL &a :x / =VAL :bar / +MAP {} / =ALI *a / =VAL :y / =VAL &b: :z / =VAL : / -MAP / -MAP",
+        31,
+    ),
+    (
+        "key: [\n  1\n ]\n",
+        "+MAP / =VAL :key / +SEQ [] / =VAL :1 / -SEQ / -MAP",
+        14,
+    ),
+    (
+        "- &x # c\n\n  # d\n  |+\n  a\n\n",
+        "+SEQ / =VAL &x |a\n\n / -SEQ",
+        26,
+    ),
+    ("- |\n x", "+SEQ / =VAL |x / -SEQ", 6),
+    (" ...\n", "=VAL :...", 5),
+    (
+        "-: a\na:: b\nc: 12\n",
+        "+MAP / =VAL :- / =VAL :a / =VAL :a: / =VAL :b / =VAL :c / =VAL :12 / -MAP",
+        17,
+    ),
+    (
+        "? a # c\nb: 1\n",
+        "+MAP / =VAL :a / =VAL : / =VAL :b / =VAL :1 / -MAP",
+        13,
+    ),
+    (
+        "- &x\n  # c\n  k: # d\n    v\n",
+        "+SEQ / +MAP &x / =VAL :k / =VAL :v / -MAP / -SEQ",
+        26,
+    ),
+    (
+        "a: [1, {b: }]\nc:\n- - x\n  - y\n",
+        "+MAP / =VAL :a / +SEQ [] / =VAL :1 / +MAP {} / =VAL :b / =VAL : / -MAP / -SEQ / =VAL :c / +SEQ / +SEQ / =VAL :x / =VAL :y / -SEQ / -SEQ / -MAP",
+        29,
+    ),
+    (
+        "? [a, {b: }]\n: - c\n  - d\n? |\n  x\n: y\n",
+        "+MAP / +SEQ [] / =VAL :a / +MAP {} / =VAL :b / =VAL : / -MAP / -SEQ / +SEQ / =VAL :c / =VAL :d / -SEQ / =VAL |x\n / =VAL :y / -MAP",
+        37,
+    ),
+    (
+        "- |2\n    x\n\n- >\n a\n b\n\n   c\n- |\n\n",
+        "+SEQ / =VAL |  x\n / =VAL >a b\n\n  c\n / =VAL | / -SEQ",
+        33,
+    ),
+    (
+        "{a: x, : # c\n v}\n",
+        "+MAP {} / =VAL :a / =VAL :x / =VAL : / =VAL :v / -MAP",
+        17,
+    ),
+    (
+        "*a : !!map\n  &b k : *c\n",
+        "+MAP / =ALI *a / +MAP <tag> / =VAL &b :k / =ALI *c / -MAP / -MAP",
+        23,
+    ),
+    ("&a\n&b k: v\n", "+MAP &a / =VAL &b :k / =VAL :v / -MAP", 11),
+    ("\"\\ud83d\\ude00 \\x41\"", "=VAL \"\u{1F600} A", 19),
+    (
+        "a: 'x'  # c \r\nb: |\r\n  y \r\na: 1\r\n",
+        "+MAP / =VAL :a / =VAL 'x / =VAL :b / =VAL |y \n / =VAL :a / =VAL :1 / -MAP",
+        32,
+    ),
+    (
+        "[a, # c\n # d\n b, {k: # e\n v}] # f\n",
+        "+SEQ [] / =VAL :a / =VAL :b / +MAP {} / =VAL :k / =VAL :v / -MAP / -SEQ",
+        34,
+    ),
+    (
+        "a:\n\n  b: 1\n\n\n  # c\n\n  d: 2\n\n---\n\ne\n",
+        "+MAP / =VAL :a / +MAP / =VAL :b / =VAL :1 / =VAL :d / =VAL :2 / -MAP / -MAP",
+        28,
+    ),
+    (
+        "- 'it''s'\n- \"\\r\"\n",
+        "+SEQ / =VAL 'it's / =VAL \"\r / -SEQ",
+        17,
+    ),
+    ("- *a\n- &a x\n", "+SEQ / =ALI *a / =VAL &a :x / -SEQ", 12),
+    (
+        "[a: b, c]\n",
+        "+SEQ [] / +MAP {} / =VAL :a / =VAL :b / -MAP / =VAL :c / -SEQ",
+        10,
+    ),
+    // the longest part, where the text goes wrong later
+    ("a:\n\tb: 1\n", "+MAP / =VAL :a / =VAL : / -MAP", 3),
+    ("- a\n- [", "+SEQ / =VAL :a / -SEQ", 4),
+    ("a\nb: c\n", "=VAL :a", 2),
+    ("&a\n---", "=VAL &a :", 3),
+    ("?\n\n: \"", "+MAP / =VAL : / =VAL : / -MAP", 2),
+    ("? a\n b\n: [", "+MAP / =VAL :a / =VAL : / -MAP", 4),
+    (
+        "- a\n # c\n- b\n  # d\n - \"",
+        "+SEQ / =VAL :a / =VAL :b / -SEQ",
+        19,
+    ),
+    ("- &a !b\n  [", "+SEQ / =VAL &a <tag> : / -SEQ", 8),
+    ("? a\n# c\n: [", "+MAP / =VAL :a / =VAL : / -MAP", 4),
+];
+
+/// Texts that no block node begins.
+const REFUSED: [&str; 9] = [
+    "a: b: c\n",
+    "key: [\n  1\n]\n",
+    "# c\n",
+    "--- a\n",
+    "? : \"",
+    "\"a",
+    "[a",
+    "{a: b",
+    "- a: b: c",
+];
+
+#[test]
+fn reads_nodes(rt: HostRuntime) -> Result<(), Fail> {
+    for (text, wanted, wanted_end) in NODES {
+        let src = Src::new(rt.alloc(), text)?;
+        assert!(rt; src.text().is_char_boundary(0));
+        let found = scan_block_node(rt.alloc(), &src, 0, -1, Ctx::BlockIn)?;
+        let node = found.ok_or("no node")?;
+        let events = shown(rt.alloc(), &node.part.events)?;
+        assert!(rt;
+            events.as_str() == wanted && node.end == wanted_end,
+            "{text}"
+        );
+    }
+    for text in REFUSED {
+        let src = Src::new(rt.alloc(), text)?;
+        assert!(rt; src.text().is_char_boundary(0));
+        let found = scan_block_node(rt.alloc(), &src, 0, -1, Ctx::BlockIn)?;
+        assert!(rt; found.is_none(), "{text}");
+    }
+    Ok(())
+}
+
+/// Where the block node ends that begins the text; `None` where it is nested too deep, and 0 where there is none.
+fn node_end(alloc: Global, text: &str) -> Result<Option<usize>, Fail> {
+    let src = Src::new(alloc, text)?;
+    if !src.text().is_char_boundary(0) {
+        return Err("no boundary".into());
+    }
+    match scan_block_node(alloc, &src, 0, -1, Ctx::BlockIn) {
+        Ok(Some(node)) => Ok(Some(node.end)),
+        Ok(None) => Ok(Some(0)),
+        Err(Fault::TooDeep { .. }) => Ok(None),
+        Err(fault) => Err(fault.into()),
+    }
+}
+
+/// Texts of sequences and of keys: a part, how many times it stands, what follows, and where the node ends as `node_end`
+/// tells it.
+const LIMITS: [(&str, usize, &str, Option<usize>); 4] = [
+    ("- ", 1024, "a", Some(2049)),
+    ("- ", 1025, "a", None),
+    ("k", 1024, ": v", Some(1027)),
+    ("k", 1025, ": v", Some(0)),
+];
+
+#[test]
+fn limits_depth_and_keys(rt: HostRuntime) -> Result<(), Fail> {
+    for (part, count, rest, wanted) in LIMITS {
+        let text = repeated(rt.alloc(), "", part, count, rest, 1)?;
+        let end = node_end(rt.alloc(), text.as_str())?;
+        assert!(rt; end == wanted, "{part} {count}");
+    }
+    Ok(())
+}
+
+#[test]
+fn gives_the_first_bad_escape(rt: HostRuntime) -> Result<(), Fail> {
+    let src = Src::new(rt.alloc(), "- \"\\ud83d\"\n- [")?;
+    assert!(rt; src.text().is_char_boundary(0));
+    match read_block_node(rt.alloc(), &src, 0, -1, Ctx::BlockIn) {
+        Err(Fault::EscapeValue { place }) => assert!(rt; place.line == 1 && place.column == 4),
+        _ => assert!(rt; false),
+    }
+    Ok(())
+}
+
+/// A text that goes wrong at its end, and the places of its events, as `places` tells them.
+const CUT: &str = "&a\n\nk: |+\n x\n\nl:\n\n - b # c\n - ? d\n   : [";
+
+const PLACES: [[usize; 5]; 6] = [
+    [0, 22, 0, 0, 0],
+    [4, 5, 4, 5, 1],
+    [7, 14, 0, 0, 0],
+    [14, 15, 14, 15, 0],
+    [19, 22, 0, 0, 0],
+    [21, 22, 19, 0, 1],
+];
+
+#[test]
+fn keeps_places(rt: HostRuntime) -> Result<(), Fail> {
+    assert!(rt; CUT.is_char_boundary(0));
+    match block_node_in(rt.alloc(), CUT, 0, -1, Ctx::BlockIn, 1024)? {
+        Outcome::Found(
+            Found {
+                part,
+                end,
+                reached,
+                floor,
+            },
+        ) => {
+            let found = places(rt.alloc(), &part.events)?;
+            assert!(rt; found.as_slice() == PLACES.as_slice());
+            assert!(rt; end == 27 && reached == 39 && floor == 14);
+        }
+        _ => assert!(rt; false),
+    }
+    Ok(())
+}

@@ -1,0 +1,115 @@
+//! How the tests of the readers of nodes write what they read.
+
+use std::alloc::{AllocError, Global};
+use yf_events::event::{Event, ScalarStyle};
+use yf_events::events::Events;
+use yf_props::props::Props;
+
+fn push_props(out: &mut String, props: Props) -> Result<(), AllocError> {
+    if let Some(name) = props.anchor {
+        out.push_str(" &")?;
+        out.push_str(name)?;
+    }
+    if props.tag.is_some() {
+        out.push_str(" <tag>")?;
+    }
+    Ok(())
+}
+
+fn style_sign(style: ScalarStyle) -> &'static str {
+    match style {
+        ScalarStyle::Plain => " :",
+        ScalarStyle::Single => " '",
+        ScalarStyle::Double => " \"",
+        ScalarStyle::Literal => " |",
+        ScalarStyle::Folded => " >",
+    }
+}
+
+fn start_sign(sequence: bool, flow: bool) -> &'static str {
+    match (sequence, flow) {
+        (true, true) => "+SEQ []",
+        (true, false) => "+SEQ",
+        (false, true) => "+MAP {}",
+        (false, false) => "+MAP",
+    }
+}
+
+fn push_event(out: &mut String, event: &Event) -> Result<(), AllocError> {
+    match event {
+        Event::SeqStart { flow, props } => {
+            out.push_str(start_sign(true, *flow))?;
+            push_props(out, *props)
+        }
+        Event::MapStart { flow, props } => {
+            out.push_str(start_sign(false, *flow))?;
+            push_props(out, *props)
+        }
+        Event::SeqEnd => out.push_str("-SEQ"),
+        Event::MapEnd => out.push_str("-MAP"),
+        Event::Alias { name } => {
+            out.push_str("=ALI *")?;
+            out.push_str(name)
+        }
+        Event::Scalar { props, style, text } => {
+            out.push_str("=VAL")?;
+            push_props(out, *props)?;
+            out.push_str(style_sign(*style))?;
+            out.push_str(text)
+        }
+        _ => out.push_str("no node"),
+    }
+}
+
+/// The events of a node as in the YAML test suite, with ` / ` between lines.
+pub fn shown(alloc: Global, events: &Events) -> Result<String, AllocError> {
+    let mut out = String::new(alloc);
+    for i in 0..events.len() {
+        if !out.is_empty() {
+            out.push_str(" / ")?;
+        }
+        push_event(&mut out, &events.event(i))?;
+    }
+    Ok(out)
+}
+
+/// For each event with a place where it starts and ends, where its entry and the `:` of that stand (0 for none), and
+/// whether a blank line stands before it.
+pub fn places(alloc: Global, events: &Events) -> Result<Vec<[usize; 5]>, AllocError> {
+    let mut out = Vec::new(alloc);
+    for i in 0..events.len() {
+        if let Some(span) = events.span(i) {
+            let row = match events.entry(i) {
+                Some(entry) => [
+                    span.start,
+                    span.end,
+                    entry.start,
+                    entry.colon.unwrap_or(0),
+                    entry.blank_before as usize,
+                ],
+                None => [span.start, span.end, 0, 0, 0],
+            };
+            out.push(row)?;
+        }
+    }
+    Ok(out)
+}
+
+/// A text so many times between two others, the second of which stands so many times as well.
+pub fn repeated(
+    alloc: Global,
+    before: &str,
+    part: &str,
+    count: usize,
+    rest: &str,
+    more: usize,
+) -> Result<String, AllocError> {
+    let mut text = String::from_str(alloc, before)?;
+    for _ in 0..count {
+        text.push_str(part)?;
+    }
+    for _ in 0..more {
+        text.push_str(rest)?;
+    }
+    Ok(text)
+}

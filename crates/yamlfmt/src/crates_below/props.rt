@@ -1,0 +1,163 @@
+//! Properties, aliases and tag handles, at texts whose names and ends were worked out by hand from the productions.
+
+use std::alloc::Global;
+use std::test::Fail;
+use yf_chars::context::Ctx;
+use yf_lines::fault::Fault;
+use yf_lines::place::Place;
+use yf_lines::source_text::Src;
+use yf_props::alias::alias_node;
+use yf_props::handles::Handles;
+use yf_props::properties::{Properties, node_properties};
+use yf_props::props::Tag;
+use yf_props::read::{read_alias, read_props};
+
+const PLACE: Place = Place { line: 1, column: 3 };
+
+const STREAM: &str = "- &a x # c\n- *a\n- !!str y\n- # d\n";
+
+/// The properties that begin at the offset.
+fn props_at<'a>(alloc: Global, text: &'a str, at: usize, n: i32) -> Result<Properties<'a>, Fail> {
+    let src = Src::new(alloc, text)?;
+    match read_props(alloc, &src, at, n, Ctx::FlowIn)? {
+        Some(found) => Ok(found),
+        None => Err("no properties".into()),
+    }
+}
+
+/// A tag's handle and suffix; for a verbatim tag `<>` and its text.
+fn parts_of<'a>(tag: Option<Tag<'a>>) -> (&'a str, &'a str) {
+    match tag {
+        Some(Tag::Short { handle, suffix }) => (handle, suffix),
+        Some(Tag::Verbatim(text)) => ("<>", text),
+        Some(Tag::NonSpecific) => ("!", ""),
+        None => ("", ""),
+    }
+}
+
+/// Texts, a place at which properties begin, the indentation, where the properties end, their anchor, where their tag
+/// begins, the tag, and how many comments there are.
+const PROPERTIES: [(
+    &str,
+    usize,
+    i32,
+    usize,
+    Option<&str>,
+    Option<usize>,
+    (&str, &str),
+    usize,
+); 6] = [
+    ("&a !!str x", 0, 0, 8, Some("a"), Some(3), ("!!", "str"), 0),
+    (
+        "!<a%21> # c\n  &b: x",
+        0,
+        2,
+        17,
+        Some("b:"),
+        Some(0),
+        ("<>", "a%21"),
+        1,
+    ),
+    // a suffix is not empty
+    ("!! x", 0, 0, 1, None, Some(0), ("!", ""), 0),
+    ("!e! x", 0, 0, 2, None, Some(0), ("!", "e"), 0),
+    // names go as far as their characters
+    ("&a: !-!b,", 0, 0, 8, Some("a:"), Some(4), ("!-!", "b"), 0),
+    // before a comment
+    (STREAM, 2, 0, 4, Some("a"), None, ("", ""), 0),
+];
+
+#[test]
+fn reads_properties(rt: HostRuntime) -> Result<(), Fail> {
+    for (text, at, n, end, anchor, tag_offset, tag, comments) in PROPERTIES {
+        let found = props_at(rt.alloc(), text, at, n)?;
+        assert!(rt;
+            found.end == end && found.tag_offset == tag_offset,
+            "{text}"
+        );
+        assert!(rt; found.props.anchor == anchor, "{text}");
+        assert!(rt; parts_of(found.props.tag) == tag, "{text}");
+        assert!(rt; found.comments.len() == comments, "{text}");
+    }
+    let found = node_properties(rt.alloc(), "&a", 0, -1, Ctx::BlockIn)?.ok_or("none")?;
+    assert!(rt; found.end == 2);
+    Ok(())
+}
+
+#[test]
+fn reads_aliases(rt: HostRuntime) -> Result<(), Fail> {
+    assert!(rt; alias_node("*\u{E9} x", 0) == Some(("\u{E9}", 3)));
+    let src = Src::new(rt.alloc(), STREAM)?;
+    assert!(rt; read_alias(&src, 13) == Some(("a", 15)));
+    assert!(rt; read_alias(&src, 2).is_none());
+    Ok(())
+}
+
+#[test]
+fn resolves_by_default(rt: HostRuntime) -> Result<(), Fail> {
+    let handles = Handles::new(rt.alloc());
+    let tag = props_at(rt.alloc(), STREAM, 18, 0)?
+        .props
+        .tag
+        .ok_or("no tag")?;
+    let text = handles.resolve(rt.alloc(), &tag, PLACE)?;
+    assert!(rt; text.as_str() == "tag:yaml.org,2002:str");
+    let tag = props_at(rt.alloc(), "- !x!t v\n", 2, 0)?
+        .props
+        .tag
+        .ok_or("no tag")?;
+    match handles.resolve(rt.alloc(), &tag, PLACE) {
+        Err(Fault::UnknownHandle { place }) => assert!(rt; place == PLACE),
+        Err(fault) => return Err(fault.into()),
+        Ok(_) => return Err("resolved".into()),
+    }
+    Ok(())
+}
+
+/// Handles and prefixes as they are declared one after another, and whether the handle was free. A default is no
+/// declaration, and a declared prefix is kept.
+const DECLARED: [(&str, &str, bool); 3] = [
+    ("!e!", "tag:e.com,2000:", true),
+    ("!e!", "tag:other,2000:", false),
+    ("!!", "tag:f.com,2000:", true),
+];
+
+/// Tags, and what they stand for after these declarations.
+const TAGS: [(Tag, &str); 5] = [
+    (
+        Tag::Short {
+            handle: "!e!",
+            suffix: "t%21",
+        },
+        "tag:e.com,2000:t!",
+    ),
+    (
+        Tag::Short {
+            handle: "!e!",
+            suffix: "t%FF",
+        },
+        "tag:e.com,2000:t%FF",
+    ),
+    (
+        Tag::Short {
+            handle: "!!",
+            suffix: "int",
+        },
+        "tag:f.com,2000:int",
+    ),
+    (Tag::Verbatim("a%21"), "a%21"),
+    (Tag::NonSpecific, "!"),
+];
+
+#[test]
+fn resolves_by_declarations(rt: HostRuntime) -> Result<(), Fail> {
+    let mut handles = Handles::new(rt.alloc());
+    for (handle, prefix, free) in DECLARED {
+        assert!(rt; handles.declare(handle, prefix)? == free, "{prefix}");
+    }
+    for (tag, wanted) in TAGS {
+        let text = handles.resolve(rt.alloc(), &tag, PLACE)?;
+        assert!(rt; text.as_str() == wanted, "{wanted}");
+    }
+    Ok(())
+}
