@@ -78,7 +78,7 @@ pub record BreaksOffFormatted (style : Style) (known old new : Option (List ℕ)
   pub formats : FormatsText style known formatted
   pub broke : Broke old new after formatted
 
--- The text that was read is refused by that fault of the reader of streams.
+-- For the text that was read the reader of streams may answer that fault.
 pub record RefusesText (known : Option (List ℕ)) (fault : Fault) : Type 0 where
   pub text : List ℕ
   pub gave : Gave known text

@@ -31,7 +31,7 @@ pub const INPUT_LIMIT: usize = 1_073_741_824;
 /// has been written, after any other fault nothing. Refused are: more than `INPUT_LIMIT` bytes or a read that fails
 /// (`ReadFailed`), bytes that are no text (`NotUtf8`), a text that `read_stream` refuses, and a write that fails or takes
 /// nothing (`WriteFailed`). `Memory` may come in the place of each answer but `ReadFailed`, where a growth of memory was
-/// refused.
+/// refused. That the events are those of the text is tested, and not proved.
 pub fn run_events<R: Source, W: Sink>(
     alloc: Global,
     reader: &mut R,
@@ -52,7 +52,8 @@ pub fn run_events<R: Source, W: Sink>(
 }
 
 /// Reads all there is, and writes a line for each finding of the rules, in the order of their places: line and column, the
-/// rule's name, and ` (fixable)` where the house style fixes it. The answer is whether there is a finding.
+/// rule's name, and ` (fixable)` where the house style fixes it. The answer is whether there is a finding. That the findings
+/// are those of the text's reading is tested, and not proved.
 ///
 /// Refused is what `run_events` refuses, and nothing has then been written but, after `Fault::WriteFailed`, a prefix of the
 /// lines.
@@ -116,7 +117,8 @@ fn write_finding<W: Sink>(finding: &Finding, writer: &mut W) -> Result<(), Fault
     write_texts(writer, &[line, ":", column, " ", finding.id, fixable, "\n"])
 }
 
-/// Reads all there is, and writes it in the house style.
+/// Reads all there is, and writes it in the house style. Proved of what is written is what `Formatted` says, which ties it to
+/// no text.
 ///
 /// Refused is what `run_events` refuses, and nothing has then been written but, after `Fault::WriteFailed`, a prefix of the
 /// text.

@@ -57,6 +57,7 @@ pub record FormatLaw (t : List ℕ) (s : Style) (u : List ℕ) : Type 0 where
   pub comments : HasSameComments t u
   pub unchanged : IsUnchanged s u
 
--- Formatting refuses a text exactly as the reader of streams does.
+-- Formatting gives what the law says, and refuses a text only for the causes for which the reader of streams may. That it then tells the
+-- same place of a fault of syntax is not said.
 abbrev pub FormatsOrRefuses : List ℕ → Style → Result (List ℕ) Fault → Type 0
 FormatsOrRefuses t s answer = MatchResult answer (FormatLaw t s) (StreamFault t)

@@ -10,7 +10,7 @@ use Rattle.yf_emit.specs.Forms.{documents_are_placed}
 abbrev pub CommentsAscend : Lists → Type 0
 CommentsAscend r = IsNonDecreasingBy (λ (c : CommentValue). c.offset) r.comments
 
--- what the normal form of a reading depends on: it has trees, a node has a place in the text exactly where it has characters, and the
+-- what the normal form of a reading depends on: it has trees, a leaf has a place in the text exactly where it has characters, and the
 -- comments stand in order
 pub record IsTextual (r : Lists) : Type 0 where
   pub trees : List DocumentTree

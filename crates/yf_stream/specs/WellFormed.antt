@@ -141,7 +141,7 @@ pub record IsFirst (bs : List Breach) (b : Breach) : Type 0 where
   pub among : Contains bs b
   pub all : All (Precedes b) bs
 
--- the one reading of a text: what its stream derives within the limit of open collections, and whatever is so derived
+-- the one shape of a text: what is derived of it as a stream within the limit of open collections, and all that is so derived is that
 pub record Shapes (t : List ℕ) (x : Documents) : Type 0 where
   pub height : ℕ
   pub derived : Stream t height x

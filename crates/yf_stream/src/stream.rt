@@ -33,6 +33,9 @@ enum Refusal {
 /// anchor of its name before it in its document (`UnknownAlias`), a second YAML directive or a second TAG directive for one
 /// handle in a document (`RepeatedDirective`), another major version than 1 (`BadVersion`), an escape that is no character
 /// (`EscapeValue`). `Fault::Memory` may come in the place of each answer, where a growth of memory was refused.
+///
+/// Proved of this is that the faults are of these kinds, each but `Memory` with a place in the text, and that the reading is
+/// well nested; the rest is tested.
 pub fn read_stream<'a>(alloc: Global, text: &'a str) -> Result<Reading<'a>, Fault>
     ensures { IfErr result (λ fault. IsStreamFault text.now fault) }
 {
