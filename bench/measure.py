@@ -1,18 +1,19 @@
 #!/usr/bin/env python3
-"""Times yamlfmt on ordinary configuration text of 1 and 16 MB, and prints the ratio of the two times and the peak memory.
+"""Measures yamlfmt on ordinary configuration text of 1 and 16 MB: processor seconds (user and system), their ratio, the peak of
+memory, and, where valgrind is installed, the instructions a byte on 300 KB.
 
 Usage: bench/measure.py [PROGRAM]     (default: the program that ./yamlfmt builds; build it first)
 
-Peers are timed on the same files where they are installed: fy-tool's `--testsuite` output beside `events`, and beside
-`fmt` another yamlfmt, prettier and ruamel.yaml. Not part of rt ci.
+Peers are measured on the same files where they are installed: fy-tool's `--testsuite` output beside `events`, yamllint beside
+`check`, and beside `fmt` another yamlfmt, prettier and ruamel.yaml. Not part of rt ci.
 """
 import importlib.util
 import os
+import re
 import shutil
 import subprocess
 import sys
 import tempfile
-import time
 
 TOP = os.path.dirname(os.path.dirname(os.path.abspath(__file__)))
 
@@ -45,21 +46,34 @@ def text_of(size):
 
 
 def run(words, path, good):
-    """Seconds, and the peak of resident memory in bytes."""
+    """Processor seconds, and the peak of resident memory in bytes."""
     with open(path, 'rb') as source:
-        start = time.monotonic()
         child = subprocess.Popen(words, stdin=source, stdout=subprocess.DEVNULL)
         _, status, usage = os.wait4(child.pid, 0)
-        seconds = time.monotonic() - start
     if os.waitstatus_to_exitcode(status) not in good:
         sys.exit('%s: status %d' % (' '.join(words), status))
-    return seconds, usage.ru_maxrss * 1024
+    return usage.ru_utime + usage.ru_stime, usage.ru_maxrss * 1024
+
+
+def instructions(name, words, path):
+    """Prints the instructions a byte, as valgrind counts them."""
+    counter = shutil.which('valgrind')
+    if counter is None:
+        return
+    with open(path, 'rb') as source:
+        words = [counter, '--tool=callgrind', '--callgrind-out-file=/dev/null', *words]
+        said = subprocess.run(words, stdin=source, stdout=subprocess.DEVNULL, stderr=subprocess.PIPE, text=True).stderr
+    count = re.search(r'Collected : (\d+)', said)
+    if count:
+        print('%-24s %9d bytes  %.0f instructions a byte' % (name, os.path.getsize(path), int(count[1]) / os.path.getsize(path)))
 
 
 def measure(name, words, files, good=(0,)):
     seconds = []
     for path, size in files:
-        best = min(run(words, path, good) for _ in range(2))
+        best = run(words, path, good)
+        if best[0] < 10:
+            best = min(best, run(words, path, good))
         seconds.append(best[0])
         print('%-24s %9d bytes  %7.2f s  %6.1f bytes of memory a byte of input' % (name, size, best[0], best[1] / size))
     print('%-24s ratio of the times %.1f' % (name, seconds[1] / seconds[0]))
@@ -77,11 +91,19 @@ def words_of(name, *words):
 
 
 def peers():
-    """Names of peers, and their command lines from standard input to standard output, or None."""
-    yield 'fy-tool --testsuite', words_of('fy-tool', '--testsuite', '-')
-    yield 'another yamlfmt', words_of('yamlfmt', '-in')
-    yield 'prettier', words_of('prettier', '--parser', 'yaml')
-    yield 'ruamel.yaml', [sys.executable, '-c', ROUND_TRIP] if importlib.util.find_spec('ruamel') else None
+    """Names of peers, their command lines from standard input to standard output, or None, and the statuses of a good run."""
+    yield 'fy-tool --testsuite', words_of('fy-tool', '--testsuite', '-'), (0,)
+    yield 'yamllint', words_of('yamllint', '-'), (0, 1)
+    yield 'another yamlfmt', words_of('yamlfmt', '-in'), (0,)
+    yield 'prettier', words_of('prettier', '--parser', 'yaml'), (0,)
+    yield 'ruamel.yaml', [sys.executable, '-c', ROUND_TRIP] if importlib.util.find_spec('ruamel') else None, (0,)
+
+
+def written(folder, size):
+    path = os.path.join(folder, '%d.yaml' % size)
+    with open(path, 'w') as out:
+        out.write(text_of(size))
+    return path
 
 
 def main():
@@ -89,18 +111,15 @@ def main():
     if not os.access(program, os.X_OK):
         sys.exit('there is no program %s: run ./yamlfmt once, which builds it' % program)
     with tempfile.TemporaryDirectory() as folder:
-        files = []
-        for megabytes in (1, 16):
-            path = os.path.join(folder, '%d.yaml' % megabytes)
-            with open(path, 'w') as out:
-                out.write(text_of(megabytes << 20))
-            files.append((path, os.path.getsize(path)))
+        files = [(path, os.path.getsize(path)) for path in (written(folder, megabytes << 20) for megabytes in (1, 16))]
         measure('yamlfmt events', [program, 'events'], files)
         measure('yamlfmt check', [program, 'check'], files, good=(0, 1))
         measure('yamlfmt fmt', [program, 'fmt'], files)
-        for name, words in peers():
+        for verb in ('events', 'check', 'fmt'):
+            instructions('yamlfmt ' + verb, [program, verb], written(folder, 300_000))
+        for name, words, good in peers():
             if words:
-                measure(name, words, files)
+                measure(name, words, files, good)
             else:
                 print('%-24s not installed' % name)
 

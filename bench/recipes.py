@@ -4,6 +4,8 @@ examples of README.md and docs/STYLE.md; and whether `--version` is the newest v
 
 Usage: bench/recipes.py [PROGRAM]     (default: the program that ./yamlfmt builds; build it first)
 
+The hooks are copies of those here that run PROGRAM, so that nothing is built.
+
 Not part of rt ci.
 """
 import json
@@ -20,10 +22,18 @@ GOOD = '---\na: "x"  # c\n'
 FOUND = '2:8 comment-space (fixable)'
 
 
-def recipes():
-    with open(TOP + '/docs/RECIPES.md', encoding='utf-8') as page:
-        found = re.findall(r'<!-- recipe: ([a-z-]+) -->\n```\w+\n(.*?)```', page.read(), re.S)
-    return {name: text.replace('YAMLFMT', TOP) for name, text in found}
+def recipes(clone):
+    found = re.findall(r'<!-- recipe: ([a-z-]+) -->\n```\w+\n(.*?)```', read(TOP + '/docs/RECIPES.md'), re.S)
+    return {name: text.replace('YAMLFMT', clone) for name, text in found}
+
+
+def with_hooks(clone, program):
+    """Puts the hooks into the folder, with a hooks/program that names the program."""
+    os.makedirs(clone + '/hooks')
+    for name in ('each_file', 'pre-commit'):
+        shutil.copy(TOP + '/hooks/' + name, clone + '/hooks/' + name)
+    write(clone + '/hooks/program', "#!/bin/sh\necho '%s'\n" % program)
+    os.chmod(clone + '/hooks/program', 0o755)
 
 
 def sh(words, room, **more):
@@ -58,35 +68,28 @@ def matched(pattern, output):
     return [(h[pattern['file']], h[pattern['line']], h[pattern['column']], h[pattern['message']]) for h in hits if h]
 
 
-def folder(room, text):
+def folder(room, text, clone):
     repository(room)
     done = sh(['sh', '-c', text], room)
     return done.returncode == 0 and read(room + '/a b.yaml') == GOOD
 
 
-def git(room, text):
+def git(room, text, clone):
     repository(room)
     sh(['sh', '-c', text], room)
     refused = sh(['git', 'commit', '-qm', 'bad'], room)
-    sh([TOP + '/hooks/each_file', 'fmt', '--write', 'a b.yaml'], room)
+    sh([clone + '/hooks/each_file', 'fmt', '--write', 'a b.yaml'], room)
     still = sh(['git', 'commit', '-qm', 'not staged'], room)
     sh(['git', 'add', 'a b.yaml'], room)
     taken = sh(['git', 'commit', '-qm', 'good'], room)
     return refused.returncode and 'a b.yaml' in refused.stdout and still.returncode and not taken.returncode
 
 
-def pre_commit(room, text):
-    """pre-commit clones the repository: here one of the hooks and the built program alone."""
+def pre_commit(room, text, clone):
+    """pre-commit clones the repository: here one of the hooks alone."""
     tool = room + '/tool'
-    for name in ('hooks/each_file', 'hooks/program', '.pre-commit-hooks.yaml', 'crates.txt'):
-        os.makedirs(os.path.dirname(tool + '/' + name), exist_ok=True)
-        shutil.copy(TOP + '/' + name, tool + '/' + name)
-    for part in ('src', 'specs', 'proofs'):
-        write(tool + '/crates/yamlfmt/%s/none' % part, '')
-    os.makedirs(tool + '/crates/yamlfmt/out')
-    shutil.copy(TOP + '/crates/yamlfmt/out/yamlfmt', tool + '/crates/yamlfmt/out/yamlfmt')
-    write(tool + '/hooks/program', '#!/bin/sh\necho "$(dirname "$(dirname "$(readlink -f "$0")")")/crates/yamlfmt/out/yamlfmt"\n')
-    os.chmod(tool + '/hooks/program', 0o755)
+    shutil.copytree(clone, tool)
+    shutil.copy(TOP + '/.pre-commit-hooks.yaml', tool)
     for line in ('git init -q .', 'git config user.email a@example.com', 'git config user.name a', 'git add -f .', 'git commit -qm tool'):
         sh(line.split(), tool)
     commit = sh(['git', 'rev-parse', 'HEAD'], tool).stdout.strip()
@@ -97,7 +100,7 @@ def pre_commit(room, text):
     return done.returncode == 1 and read(room + '/a b.yaml') == GOOD.replace('"', "'")
 
 
-def vim(room, text):
+def vim(room, text, clone):
     write(room + '/vimrc', 'filetype on\n' + text)
     write(room + '/a.yaml', BAD)
     write(room + '/bad.yaml', 'a: b: c\n')
@@ -108,20 +111,20 @@ def vim(room, text):
     return "'lnum': 2" in found and "'col': 8" in found and read(room + '/a.yaml') == GOOD and read(room + '/bad.yaml') == 'a: b: c\n'
 
 
-def vscode(room, text):
+def vscode(room, text, clone):
     repository(room)
     task = json.loads(text)['tasks'][0]
     done = sh(['sh', '-c', task['command']], room)
     return ('a b.yaml', '2', '8', 'comment-space (fixable)') in matched(task['problemMatcher']['pattern'], done.stdout)
 
 
-def workflow(room, text):
+def workflow(room, text, clone):
     repository(room)
     write(room + '/w.yaml', text)
     sound = sh([room + '/bin/yamlfmt', 'events', 'w.yaml'], room)
     script = '\n'.join(line.strip() for line in text.split('- run: |\n')[1].splitlines())
     done = sh(['sh', '-c', script], room)
-    pattern = json.loads(recipes()['matcher'])['problemMatcher'][0]['pattern'][0]
+    pattern = json.loads(recipes(clone)['matcher'])['problemMatcher'][0]['pattern'][0]
     return not sound.returncode and ('a b.yaml', '2', '8', 'comment-space (fixable)') in matched(pattern, done.stdout)
 
 
@@ -165,24 +168,30 @@ def version(program):
     return all(sh([program, word], TOP).stdout == 'yamlfmt %s\n' % newest for word in ('--version', '-V'))
 
 
+def is_good(name, text, clone, program):
+    """Tries a recipe, where it is one and its tool is there, and tells."""
+    if name not in TOOLS:
+        return True
+    tool, tried = TOOLS[name]
+    if not shutil.which(tool):
+        print('%s: no %s' % (name, tool))
+        return True
+    with tempfile.TemporaryDirectory() as room:
+        os.makedirs(room + '/bin')
+        os.symlink(program, room + '/bin/yamlfmt')
+        good = tried(room, text, clone)
+    print('%s: %s' % (name, 'tried' if good else 'FAILED'), flush=True)
+    return good
+
+
 def main():
     program = os.path.abspath(sys.argv[1]) if len(sys.argv) > 1 else TOP + '/crates/yamlfmt/out/yamlfmt'
     if not os.access(program, os.X_OK):
         sys.exit('%s is not there: ./yamlfmt --help builds it' % program)
     failed = 0
-    for name, text in recipes().items():
-        if name not in TOOLS:
-            continue
-        tool, tried = TOOLS[name]
-        if not shutil.which(tool):
-            print('%s: no %s' % (name, tool))
-            continue
-        with tempfile.TemporaryDirectory() as room:
-            os.makedirs(room + '/bin')
-            os.symlink(program, room + '/bin/yamlfmt')
-            good = tried(room, text)
-        print('%s: %s' % (name, 'tried' if good else 'FAILED'))
-        failed += not good
+    with tempfile.TemporaryDirectory() as clone:
+        with_hooks(clone, program)
+        failed += sum(not is_good(name, text, clone, program) for name, text in recipes(clone).items())
     good = all([*style_rows(program)])
     print('docs/STYLE.md: %s' % ('tried' if good else 'FAILED'))
     failed += not good
