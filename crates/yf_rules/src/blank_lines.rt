@@ -1,6 +1,6 @@
 //! Rule 8, blank-lines.
 
-use crate::notes::{Note, Notes, find_notes};
+use crate::notes::{Notes, find_notes};
 use crate::rule::{Rule, placed};
 use std::alloc::{AllocError, Global};
 use yf_emit::style::Style;
@@ -55,7 +55,7 @@ impl Rule for BlankLines {
 fn last_line(src: &Src, notes: &Notes) -> usize {
     let mut count = 0;
     for i in 0..src.lines().len() {
-        if !notes.is_blank(src, i) {
+        if !notes.at(i).is_blank {
             count = i + 1;
         }
     }
@@ -63,18 +63,19 @@ fn last_line(src: &Src, notes: &Notes) -> usize {
 }
 
 /// Whether a blank line follows one that no blank line may follow.
-fn follows(src: &Src, notes: &Notes, i: usize) -> bool {
+fn follows(notes: &Notes, i: usize) -> bool {
     if i == 0 {
         return true;
     }
-    notes.at(i - 1) == Note::Marker || notes.is_blank(src, i - 1)
+    let before = notes.at(i - 1);
+    before.is_blank || before.is_marker
 }
 
 /// Whether a blank line precedes a line that no blank line may precede.
 fn precedes(src: &Src, notes: &Notes, i: usize) -> bool {
     let next = i.saturating_add(1);
     if next < src.lines().len() {
-        return src.lines().is_forbidden(next) || notes.at(next) == Note::Directive;
+        return src.lines().is_forbidden(next) || notes.at(next).is_directive;
     }
     false
 }
@@ -90,8 +91,8 @@ fn offsets(
     let lines = src.lines();
     let mut offsets = Vec::new(alloc);
     for i in 0..lines.len() {
-        if notes.is_blank(src, i) {
-            if i >= last || follows(src, &notes, i) || precedes(src, &notes, i) {
+        if notes.at(i).is_blank {
+            if i >= last || follows(&notes, i) || precedes(src, &notes, i) {
                 offsets.push(lines.line(i).start)?;
             }
         }

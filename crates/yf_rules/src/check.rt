@@ -1,5 +1,5 @@
 //! All findings of several rules.
-ghost use Rattle.std.specs.Prelude.{◌≡◌, ◌++◌, map, IfErr, IfOk};
+ghost use Rattle.std.specs.Prelude.{◌≡◌, map, IfErr, IfOk};
 ghost use Rattle.yf_rules.specs.Check.{Checked, RuleFindings, SortedFrom, finding_at};
 ghost use Rattle.yf_rules.specs.Places.{FoundAt};
 
@@ -96,20 +96,6 @@ fn sort_findings(findings: &mut Vec<Finding>) -> Result<(), AllocError>
     }
 }
 
-/// The findings, and those of one more rule after them. Where there are none yet, the others are not copied.
-fn joined(mut all: Vec<Finding>, mut findings: Vec<Finding>) -> Result<Vec<Finding>, Fault>
-    ensures refused { IfErr result (λ fault. fault ≡ Fault.Memory) }
-    ensures joined { IfOk result (λ joined. joined.items ≡ all.entry.items ++ findings.entry.items) }
-{
-    if all.is_empty() {
-        return Ok(findings);
-    }
-    match all.append(&mut findings) {
-        Ok(()) => Ok(all),
-        Err(_) => Err(Fault::Memory),
-    }
-}
-
 /// All findings of the rules, once for each box, in a text with this reading, sorted by line, column and number. Findings
 /// that are alike in all three keep the order of the boxes.
 ///
@@ -128,8 +114,11 @@ pub fn check(
 {
     let mut all = Vec::new(alloc);
     for rule in rules {
-        let findings = findings_of(alloc, rule, src, reading, style)?;
-        all = joined(all, findings)?;
+        let mut findings = findings_of(alloc, rule, src, reading, style)?;
+        match all.append(&mut findings) {
+            Ok(()) => {}
+            Err(_) => return Err(Fault::Memory),
+        }
     }
     match sort_findings(&mut all) {
         Ok(()) => Ok(all),

@@ -2,7 +2,7 @@
 ghost use Rattle.std.specs.Prelude.{◌<◌, length, MatchBool};
 ghost use Rattle.yf_rules.specs.Whites.{IsAlone};
 
-use crate::bodies::{Body, body_at};
+use crate::bodies::{Bodies, Body, find_bodies};
 use crate::places::line_from;
 use crate::whites::is_white_line;
 use std::alloc::{AllocError, Global};
@@ -14,42 +14,39 @@ use yf_lines::basic::skip_whites;
 use yf_lines::source_text::Src;
 
 /// What is known of a line.
-#[derive(Clone, Copy, Debug, PartialEq, Eq)]
-pub enum Note {
-    Nothing,
-    /// It is part of a scalar that begins before it.
-    Inside,
-    /// It holds a document's `---` with nothing but white space after it.
-    Marker,
-    /// It holds a directive.
-    Directive,
+#[derive(Clone, Copy, Debug)]
+pub struct Note {
+    /// Whether it is part of a scalar that begins before it.
+    pub is_inside: bool,
+    /// Whether it is a line of white space alone that is part of no scalar.
+    pub is_blank: bool,
+    /// Whether it holds a document's `---` with nothing but white space after it.
+    pub is_marker: bool,
+    /// Whether it holds a directive.
+    pub is_directive: bool,
 }
 
-/// The notes on all lines, one byte for each.
+impl Note {
+    const NONE: Note = Note {
+        is_inside: false,
+        is_blank: false,
+        is_marker: false,
+        is_directive: false,
+    };
+}
+
+/// The notes on all lines.
 #[derive(Debug, Drop)]
 pub struct Notes {
     list: Vec<Note>,
 }
 
 impl Notes {
-    /// Whether the line of an index is one of white space alone that is part of no scalar.
-    pub fn is_blank(&self, src: &Src, i: usize) -> bool {
-        if i < src.lines().len() {
-            return match self.at(i) {
-                Note::Inside => false,
-                Note::Nothing | Note::Marker | Note::Directive => {
-                    is_white_line(src.text(), src.lines().line(i))
-                }
-            };
-        }
-        false
-    }
-
     /// On the line of an index; nothing is noted of a line past the end.
     pub fn at(&self, i: usize) -> Note {
         match self.list.get(i) {
             Some(note) => *note,
-            None => Note::Nothing,
+            None => Note::NONE,
         }
     }
 }
@@ -60,6 +57,13 @@ fn put(list: &mut Vec<Note>, i: usize, note: Note) {
     }
 }
 
+fn noted(list: &Vec<Note>, i: usize) -> Note {
+    match list.get(i) {
+        Some(note) => *note,
+        None => Note::NONE,
+    }
+}
+
 /// Notes the lines of a scalar.
 fn note_body(list: &mut Vec<Note>, src: &Src, body: Body) {
     let lines = src.lines();
@@ -67,18 +71,17 @@ fn note_body(list: &mut Vec<Note>, src: &Src, body: Body) {
         if lines.line(i).start >= body.end {
             return;
         }
-        put(list, i, Note::Inside);
-    }
-}
-
-/// Notes the lines of all scalars.
-fn note_bodies(list: &mut Vec<Note>, src: &Src, reading: &Reading) {
-    let mut line = 0;
-    for i in 0..reading.len() {
-        if let Some(body) = body_at(src, reading, i, line) {
-            note_body(list, src, body);
-            line = body.first;
-        }
+        let old = noted(list, i);
+        put(
+            list,
+            i,
+            Note {
+                is_inside: true,
+                is_blank: old.is_blank,
+                is_marker: old.is_marker,
+                is_directive: old.is_directive,
+            },
+        );
     }
 }
 
@@ -87,7 +90,17 @@ fn note_directives(list: &mut Vec<Note>, src: &Src, document: &Doc, line: usize)
     let mut line = line;
     for directive in document.directives.as_slice() {
         line = line_from(src, line, directive.offset);
-        put(list, line, Note::Directive);
+        let old = noted(list, line);
+        put(
+            list,
+            line,
+            Note {
+                is_inside: old.is_inside,
+                is_blank: old.is_blank,
+                is_marker: old.is_marker,
+                is_directive: true,
+            },
+        );
     }
     line
 }
@@ -120,7 +133,17 @@ pub fn is_alone(text: &str, marker: usize) -> bool
 fn note_marker(list: &mut Vec<Note>, src: &Src, document: &Doc, line: usize) -> usize {
     let line = line_from(src, line, document.start);
     if is_alone(src.text(), document.start) {
-        put(list, line, Note::Marker);
+        let old = noted(list, line);
+        put(
+            list,
+            line,
+            Note {
+                is_inside: old.is_inside,
+                is_blank: old.is_blank,
+                is_marker: true,
+                is_directive: old.is_directive,
+            },
+        );
     }
     line
 }
@@ -143,10 +166,40 @@ fn note_documents(list: &mut Vec<Note>, src: &Src, reading: &Reading) {
     }
 }
 
+/// Notes which lines are blank.
+fn note_blanks(list: &mut Vec<Note>, src: &Src) {
+    let lines = src.lines();
+    for i in 0..lines.len() {
+        let old = noted(list, i);
+        let is_blank = !old.is_inside && is_white_line(src.text(), lines.line(i));
+        put(
+            list,
+            i,
+            Note {
+                is_inside: old.is_inside,
+                is_blank,
+                is_marker: old.is_marker,
+                is_directive: old.is_directive,
+            },
+        );
+    }
+}
+
+fn note_bodies(list: &mut Vec<Note>, src: &Src, reading: &Reading, bodies: &Bodies) {
+    for i in 0..reading.len() {
+        note_body(list, src, bodies.at(i));
+    }
+}
+
 /// What is known of the lines of a text and its reading.
 pub fn find_notes(alloc: Global, src: &Src, reading: &Reading) -> Result<Notes, AllocError> {
-    let mut list = vec![in alloc; Note::Nothing; src.lines().len()]?;
-    note_bodies(&mut list, src, reading);
+    let bodies = find_bodies(alloc, src, reading)?;
+    let mut list = Vec::new(alloc);
+    for _ in 0..src.lines().len() {
+        list.push(Note::NONE)?;
+    }
+    note_bodies(&mut list, src, reading, &bodies);
     note_documents(&mut list, src, reading);
+    note_blanks(&mut list, src);
     Ok(Notes { list })
 }

@@ -53,102 +53,85 @@ impl Rule for RepeatedKeys {
     }
 }
 
-/// A scalar key: its resolved tag and its text.
+/// A scalar key: its mapping, by the event that begins it, its resolved tag and its text.
 #[derive(Clone, Copy, Debug, PartialEq, Eq, PartialOrd, Ord)]
 struct Key<'r> {
+    mapping: usize,
     tag: Option<&'r str>,
     text: &'r str,
 }
 
 /// A collection whose end has not come yet.
-#[derive(Drop)]
-struct Level<'r> {
+#[derive(Clone, Copy)]
+struct Level {
+    start: usize,
     is_map: bool,
     /// Whether a value comes next.
     at_value: bool,
-    /// Of a mapping the scalar keys so far.
-    keys: BTreeSet<Key<'r>>,
 }
 
-/// Goes past a node of the collection: whether it is a key.
-fn pass_node(level: &mut Level) -> bool {
-    if !level.is_map {
-        return false;
-    }
-    let is_key = !level.at_value;
-    level.at_value = is_key;
-    is_key
-}
-
-/// Goes past a node of the innermost collection that is open.
-fn pass_in(stack: &mut Vec<Level>) {
+/// The mapping of which the next node is a key, by the event that begins it.
+fn mapping_of_key(stack: &mut Vec<Level>) -> Option<usize> {
     match stack.last_mut() {
         Some(level) => {
-            let _ = pass_node(level);
-        }
-        None => {}
-    }
-}
-
-/// Goes past a scalar: whether it is a key that its mapping has already.
-fn pass_scalar<'r>(stack: &mut Vec<Level<'r>>, scalar: Key<'r>) -> Result<bool, AllocError> {
-    match stack.last_mut() {
-        Some(level) => {
-            if pass_node(level) {
-                let is_new = level.keys.insert(scalar)?;
-                return Ok(!is_new);
+            if !level.is_map {
+                return None;
             }
-            Ok(false)
+            let is_key = !level.at_value;
+            level.at_value = is_key;
+            if is_key { Some(level.start) } else { None }
         }
-        None => Ok(false),
+        None => None,
     }
 }
 
-/// Goes past the start of a collection.
-fn open(alloc: Global, stack: &mut Vec<Level>, is_map: bool) -> Result<(), AllocError> {
-    pass_in(stack);
-    stack.push(Level {
-        is_map,
-        at_value: false,
-        keys: BTreeSet::new(alloc),
-    })?;
-    Ok(())
-}
-
-/// Goes past one event: whether it is a scalar key that its mapping has already.
+/// Goes past one event: the scalar key that it is.
 fn pass<'r>(
-    alloc: Global,
-    stack: &mut Vec<Level<'r>>,
+    stack: &mut Vec<Level>,
     reading: &'r Reading<'r>,
     i: usize,
-) -> Result<bool, AllocError>
+) -> Result<Option<Key<'r>>, AllocError>
     requires { i < length reading.now.events }
 {
     match reading.event(i) {
         Event::Scalar { text, .. } => {
             let tag = reading.resolved(i);
-            pass_scalar(stack, Key { tag, text })
+            let key = match mapping_of_key(stack) {
+                Some(mapping) => Some(Key { mapping, tag, text }),
+                None => None,
+            };
+            Ok(key)
         }
         Event::Alias { .. } => {
-            pass_in(stack);
-            Ok(false)
+            let _ = mapping_of_key(stack);
+            Ok(None)
         }
         Event::SeqStart { .. } => {
-            open(alloc, stack, false)?;
-            Ok(false)
+            open(stack, i, false)?;
+            Ok(None)
         }
         Event::MapStart { .. } => {
-            open(alloc, stack, true)?;
-            Ok(false)
+            open(stack, i, true)?;
+            Ok(None)
         }
         Event::SeqEnd | Event::MapEnd => {
             let _ = stack.pop();
-            Ok(false)
+            Ok(None)
         }
         Event::StreamStart | Event::StreamEnd | Event::DocStart { .. } | Event::DocEnd { .. } => {
-            Ok(false)
+            Ok(None)
         }
     }
+}
+
+fn open(stack: &mut Vec<Level>, start: usize, is_map: bool) -> Result<(), AllocError> {
+    let _ = mapping_of_key(stack);
+    stack.push(Level {
+        start,
+        is_map,
+        at_value: false,
+    })?;
+    Ok(())
 }
 
 /// Where a key stands: at its first character, an empty one at its `:`, or at its `?` where its entry has none.
@@ -173,11 +156,14 @@ fn offsets(
     reading: &Reading,
     _style: &Style,
 ) -> Result<Vec<usize>, AllocError> {
+    let mut keys: BTreeSet<Key> = BTreeSet::new(alloc);
     let mut stack = Vec::new(alloc);
     let mut offsets = Vec::new(alloc);
     for i in 0..reading.len() {
-        if pass(alloc, &mut stack, reading, i)? {
-            offsets.push(key_offset(reading, i))?;
+        if let Some(key) = pass(&mut stack, reading, i)? {
+            if !keys.insert(key)? {
+                offsets.push(key_offset(reading, i))?;
+            }
         }
     }
     Ok(offsets)

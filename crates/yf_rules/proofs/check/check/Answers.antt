@@ -7,7 +7,7 @@ loop-rule-init g c = none_checked _ _ c.new-all.ensures.items
 
 pub loop-rule-preserved : goal.loop-rule-preserved
 loop-rule-preserved g c =
-    more_checked _ _ _ _ _ _ _ (omega arith) c.rule-item.is c.loop-rule.invariant c.in_ok-findings.ensures.findings c.in_ok-joined.ensures.joined
+    more_checked _ _ _ _ _ _ _ (omega arith) c.rule-item.is c.loop-rule.invariant c.in_ok-findings.ensures.findings c.in-Ok.ensures.items
 
 pub returns-in-Ok-sort_findings-clause-findings : goal.returns-in-Ok-sort_findings-clause-findings
 returns-in-Ok-sort_findings-clause-findings g c =
