@@ -9,7 +9,6 @@ use yf_events::directive::{Directive, Directives};
 use yf_events::document::{Doc, Documents};
 use yf_events::row::Row;
 use yf_events::slices::Slices;
-use yf_lines::text::OwnedText;
 
 /// The same slices.
 pub fn copied_slices<'a>(alloc: Global, parts: &'a [&str]) -> Result<Slices<'a>, AllocError>
@@ -90,29 +89,6 @@ pub fn copied_comments<'a>(
     let mut copy = Comments::new(alloc);
     for comment in comments {
         copy.push(copied_comment(comment))?;
-    }
-    Ok(copy)
-}
-
-fn copied_tag(alloc: Global, tag: &Option<OwnedText>) -> Result<Option<OwnedText>, AllocError>
-    ensures { IfOk result (λ copy. copy ≡ tag.now) }
-{
-    match tag {
-        Some(tag) => Ok(Some(OwnedText::new(String::from_str(alloc, tag.as_str())?))),
-        None => Ok(None),
-    }
-}
-
-/// The same resolved tags.
-pub fn copied_tags(
-    alloc: Global,
-    tags: &[Option<OwnedText>],
-) -> Result<Row<Option<OwnedText>>, AllocError>
-    ensures { IfOk result (λ copy. copy ≡ tags.now) }
-{
-    let mut copy = Row::new(alloc);
-    for tag in tags {
-        copy.push(copied_tag(alloc, tag)?)?;
     }
     Ok(copy)
 }

@@ -11,7 +11,7 @@ ghost use Rattle.yf_emit.specs.Restyled.{IsRestyled, restyled, restyled_event};
 ghost use Rattle.yf_emit.specs.Textual.{IsTextual};
 
 use crate::copies::{
-    copied_comments, copied_documents, copied_notes, copied_offsets, copied_slices, copied_tags,
+    copied_comments, copied_documents, copied_notes, copied_offsets, copied_slices,
 };
 use crate::decide::{Forms, decide};
 use crate::measure::{Measures, measure_all};
@@ -111,7 +111,7 @@ fn normal_lists<'a>(
     let lists = reading.lists();
     Ok(Lists {
         events: normal_events(alloc, &lists.events, &measures, &forms, style)?,
-        resolved: copied_tags(alloc, lists.resolved.as_slice())?,
+        resolved: lists.resolved.lent(alloc)?,
         comments: copied_comments(alloc, lists.comments.as_slice())?,
         on_leaf_line: copied_notes(alloc, lists.on_leaf_line.as_slice())?,
         documents: copied_documents(alloc, lists.documents.as_slice())?,

@@ -56,3 +56,7 @@ pub at_escape : (old new : Option (List ℕ)) (before after : Bool) (text y : Li
 at_escape old new before after text [] p l = absurd (omega arith)
 at_escape old new before after text (c ∷ y) p l =
     subst (Progress old new before after text) (escaped_cons c y ∙ ap (λ w. escaped_byte c ++ escaped w) (sym (take_rest (c ∷ y) 1))) p
+
+-- a text in two parts
+pub escaped_parts : {text : List ℕ} (front back : List ℕ) → text ≡ front ++ back → escaped text ≡ escaped front ++ escaped back
+escaped_parts front back is = ap escaped is ∙ escaped_join front back

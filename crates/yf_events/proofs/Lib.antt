@@ -9,3 +9,4 @@ pub mod Rests
 pub mod TreeLemmas
 pub mod TreesExist
 pub mod PackedRows
+pub mod TagLists

@@ -7,7 +7,8 @@ use Rattle.std.proofs.lemmas.List.{map-append, take-map, drop-map, length-map}
 use Rattle.yf_events.specs.Event.{EventValue, Placed, with_entry}
 use Rattle.yf_events.specs.Edit.{edited, span_to, with_colon}
 use Rattle.yf_events.specs.Packed.{Grown, Kept, kept_none, kept_at, Lacks, RowOf, RowsFit, entry_at, folded_in, keyed, more_at, moved_on, props_in, row_value, row_with, shape_value, shifted, span_at, text_in, text_or}
-use Rattle.yf_props.specs.Props.{PropsValue}
+use Rattle.yf_events.specs.Tags.{written_tag}
+use Rattle.yf_props.specs.Props.{PropsValue, TagValue}
 use Rattle.yf_events.specs.declared.event.Entry.{Entry}
 use Rattle.yf_events.specs.declared.event.Span.{Span}
 use Rattle.yf_events.specs.declared.packed.Begins.{Begins}
@@ -233,6 +234,13 @@ pub event_seen : (more lent : List More) (rows : List PackedRow) (vs : List Plac
 event_seen more lent rows vs i r m e l is seen same at event =
     seen_at (λ w. w.event) more rows vs i r l is seen
     ∙ ap Some (sym (event ∙ ap (λ w. shape_value r.shape (props_in w) (text_in w r.text.now)) (at ∙ ap (λ w. more_at w r.more) same)))
+
+pub tag_seen : (more lent : List More) (rows : List PackedRow) (vs : List Placed) (i : ℕ) (r : PackedRow) (m : Option More) (tag : Option TagValue) → i < length vs
+    → r ≡ get_or rows i r → map (row_value more) rows ≡ vs → lent ≡ more → m ≡ more_at lent r.more → tag ≡ written_tag (shape_value r.shape (props_in m) (text_in m r.text.now))
+    → slice_get (map (λ w. written_tag w.event) vs) i ≡ Some tag
+tag_seen more lent rows vs i r m tag l is seen same at written =
+    seen_at (λ w. written_tag w.event) more rows vs i r l is seen
+    ∙ ap Some (sym (written ∙ ap (λ w. written_tag (shape_value r.shape (props_in w) (text_in w r.text.now))) (at ∙ ap (λ w. more_at w r.more) same)))
 
 pub folded_seen : (more lent : List More) (rows : List PackedRow) (vs : List Placed) (i : ℕ) (r : PackedRow) (m : Option More) (lines : List (List ℕ)) → i < length vs
     → r ≡ get_or rows i r → map (row_value more) rows ≡ vs → lent ≡ more → m ≡ more_at lent r.more → lines ≡ folded_in m

@@ -1,8 +1,8 @@
 -- A list of events is that of one list of trees at most.
-use Rattle.std.proofs.Common.{◌≡◌, ℕ, List, [], ◌∷◌, ◌++◌, map, flat_map, refl, sym, ap, ◌∙◌, append_assoc}
+use Rattle.std.proofs.Common.{◌≡◌, ℕ, List, [], ◌∷◌, ◌++◌, flat_map, refl, sym, ap, ◌∙◌, append_assoc}
 use Rattle.yf_events.specs.Event.{EventValue, Placed, stream_ends, document_starts, document_ends, sequence_starts, sequence_ends, mapping_starts, mapping_ends, scalar_node, alias_node}
 use Rattle.yf_events.specs.declared.lists.Lists.{Lists}
-use Rattle.yf_events.specs.Tree.{DocumentTree, TreesOf, flat_document, flat_stream, Standing, Node, scalar, alias, sequence, mapping, Items, no_items, item, Pairs, no_pairs, pair, placed, unplaced, flat, flat_items, flat_pairs}
+use Rattle.yf_events.specs.Tree.{DocumentTree, TreesOf, flat_document, Standing, Node, scalar, alias, sequence, mapping, Items, no_items, item, Pairs, no_pairs, pair, placed, unplaced, flat, flat_items, flat_pairs}
 
 -- what two equal lists have in common at their front
 

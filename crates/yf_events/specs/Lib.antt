@@ -8,5 +8,6 @@ pub mod Notation
 pub mod Packed
 pub mod Pieces
 pub mod Reading
+pub mod Tags
 pub mod Tree
 pub mod WellPlaced

@@ -12,12 +12,13 @@ use crate::reading::Reading;
 use std::alloc::{AllocError, Global};
 use yf_lines::fault::Fault;
 use yf_lines::steady::is_steady;
+use yf_props::resolved::ResolvedTag;
 
 /// What is known of a scalar's type.
 #[derive(Clone, Copy, Debug, PartialEq, Eq)]
 pub enum Kind<'r> {
     /// It has this resolved tag.
-    Tagged(&'r str),
+    Tagged(&'r ResolvedTag<'r>),
     /// It has no tag, is plain, and may stay plain on one line, so that a schema may take it for a number or the like.
     PlainAndSteady,
     /// It has no tag, and is none of those.
@@ -39,12 +40,12 @@ pub enum ContentItem<'r> {
     },
     Sequence {
         anchor: Option<&'r str>,
-        tag: Option<&'r str>,
+        tag: Option<&'r ResolvedTag<'r>>,
     },
     SequenceEnd,
     Mapping {
         anchor: Option<&'r str>,
-        tag: Option<&'r str>,
+        tag: Option<&'r ResolvedTag<'r>>,
     },
     MappingEnd,
 }
@@ -69,11 +70,11 @@ pub struct Content<'r> {
     nodes: Vec<ContentItem<'r>>,
 }
 
-fn scalar_kind<'r>(tag: Option<&'r str>, style: ScalarStyle, text: &str) -> Kind<'r>
+fn scalar_kind<'r>(tag: Option<&'r ResolvedTag<'r>>, style: ScalarStyle, text: &str) -> Kind<'r>
     ensures { kind_value result ≡ kind_of (name_value tag.entry) style text.now }
 {
     match tag {
-        Some(name) => Kind::Tagged(name),
+        Some(tag) => Kind::Tagged(tag),
         None => match style {
             ScalarStyle::Plain => {
                 if is_steady(text) {
@@ -90,7 +91,7 @@ fn scalar_kind<'r>(tag: Option<&'r str>, style: ScalarStyle, text: &str) -> Kind
 }
 
 /// What an event adds to the content, with the resolved tag of the node that it begins.
-fn item<'r>(event: Event<'r>, tag: Option<&'r str>) -> Option<ContentItem<'r>>
+fn item<'r>(event: Event<'r>, tag: Option<&'r ResolvedTag<'r>>) -> Option<ContentItem<'r>>
     ensures { items_listed result ≡ items_of_event (event_value event.entry) (name_value tag.entry) }
 {
     match event {

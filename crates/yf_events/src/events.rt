@@ -3,11 +3,12 @@ ghost use Rattle.std.specs.Prelude.{◌≡◌, ◌<◌, ◌≤◌, [], ◌∷◌
 
 use crate::event::{Entry, Event, PlacedEvent, Span, View};
 use crate::packed::{
-    More, PackedRow, entry_of, event_of, folded_of, keyed, more_in, narrow, narrow_entry, row_of,
-    shift, span_of, view_of,
+    More, PackedRow, entry_of, event_of, folded_of, keyed, more_in, shift, span_of, tag_of, view_of,
 };
+use crate::packing::{narrow, narrow_entry, row_of};
 use std::alloc::{AllocError, Global};
 use std::marker::Model;
+use yf_props::props::Tag;
 
 /// Events in order. In a contract it is the list of what they are.
 #[derive(Debug, Drop)]
@@ -30,6 +31,8 @@ impl<'a> Model for Events<'a> {
 
 impl<'a> Events<'a> {
     ghost use Rattle.yf_events.specs.Edit.{edited, ended, coloned};
+    ghost use Rattle.yf_events.specs.Tags.{written_tag};
+    ghost use Rattle.yf_props.specs.Props.{optional_tag_value};
     ghost use Rattle.yf_events.specs.Event.{event_value, placed_value, view_value, with_entry};
 
     pub fn new(alloc: Global) -> Events<'a>
@@ -75,6 +78,15 @@ impl<'a> Events<'a> {
     {
         let row = &self.rows[i];
         event_of(row, more_in(self.more.as_slice(), row.more))
+    }
+
+    /// The tag of the node that the event at an index begins, as it is written.
+    pub fn tag(&self, i: usize) -> Option<Tag<'a>>
+        requires { i < length self.now }
+        ensures { slice_get (map (λ e. written_tag e.event) self.now) i ≡ Some (optional_tag_value result) }
+    {
+        let row = &self.rows[i];
+        tag_of(row, more_in(self.more.as_slice(), row.more))
     }
 
     /// The part of the text that the event at an index has.

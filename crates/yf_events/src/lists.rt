@@ -6,9 +6,10 @@ use crate::document::Documents;
 use crate::event::PlacedEvent;
 use crate::events::Events;
 use crate::row::Row;
+use crate::tags::Tags;
 use std::alloc::{AllocError, Global};
 use yf_comments::comment::Comment;
-use yf_lines::text::OwnedText;
+use yf_props::resolved::ResolvedTag;
 
 /// What was read of a stream, in order of the text.
 #[derive(Debug, Drop)]
@@ -16,7 +17,7 @@ pub struct Lists<'a> {
     /// All events of the stream.
     pub events: Events<'a>,
     /// For each event the resolved tag of the node that it begins, where a tag is written (section 6.9.1).
-    pub resolved: Row<Option<OwnedText>>,
+    pub resolved: Tags<'a>,
     pub comments: Comments<'a>,
     /// For each comment, whether it stands on the line on which the last leaf with characters that begins before it
     /// ends.
@@ -37,7 +38,7 @@ impl<'a> Lists<'a> {
     {
         Lists {
             events: Events::new(alloc),
-            resolved: Row::new(alloc),
+            resolved: Tags::new(alloc),
             comments: Comments::new(alloc),
             on_leaf_line: Row::new(alloc),
             documents: Documents::new(alloc),
@@ -50,9 +51,9 @@ impl<'a> Lists<'a> {
     pub fn push_event(
         &mut self,
         event: PlacedEvent<'a>,
-        tag: Option<OwnedText>,
+        tag: Option<ResolvedTag<'a>>,
     ) -> Result<(), AllocError>
-        ensures added { IfOk result (λ _. self.new ≡ record self.old { events = self.old.events ++ placed_value event.entry ∷ []; resolved = self.old.resolved ++ tag ∷ [] }) }
+        ensures added { IfOk result (λ _. self.new ≡ record self.old { events = self.old.events ++ placed_value event.entry ∷ []; resolved = self.old.resolved ++ tag.entry ∷ [] }) }
         ensures fit { Fits self.old → IfOk result (λ _. Fits self.new) }
     {
         self.events.push(event)?;

@@ -13,6 +13,7 @@ use crate::reading::Reading;
 use yf_lines::fault::Fault;
 use yf_lines::output::{write_text, write_texts};
 use yf_lines::watched::Sink;
+use yf_props::resolved::ResolvedTag;
 
 /// A piece of a line.
 #[derive(Clone, Copy)]
@@ -24,7 +25,7 @@ pub enum Piece<'a> {
     /// An anchor, with the space and the `&` before it.
     Anchor(Option<&'a str>),
     /// A resolved tag, with the space before it and `<` and `>` around it.
-    Tag(Option<&'a str>),
+    Tag(Option<&'a ResolvedTag<'a>>),
 }
 
 fn write_anchor<W: Sink>(writer: &mut W, anchor: Option<&str>) -> Result<(), Fault>
@@ -36,13 +37,22 @@ fn write_anchor<W: Sink>(writer: &mut W, anchor: Option<&str>) -> Result<(), Fau
     }
 }
 
-fn write_tag<W: Sink>(writer: &mut W, tag: Option<&str>) -> Result<(), Fault>
+// Writes a resolved tag with its escapes.
+fn write_resolved<W: Sink>(writer: &mut W, tag: &ResolvedTag) -> Result<(), Fault>
+    ensures { Writes (W.contents writer.old) (W.contents writer.new) (W.has_failed writer.old) (W.has_failed writer.new) (Notation.escaped tag.now) result }
+{
+    let (prefix, suffix) = tag.parts();
+    write_escaped(writer, prefix)?;
+    write_escaped(writer, suffix)
+}
+
+fn write_tag<W: Sink>(writer: &mut W, tag: Option<&ResolvedTag>) -> Result<(), Fault>
     ensures { Writes (W.contents writer.old) (W.contents writer.new) (W.has_failed writer.old) (W.has_failed writer.new) (Notation.tag_part (name_value tag.entry)) result }
 {
     match tag {
-        Some(name) => {
+        Some(tag) => {
             write_text(writer, b" <")?;
-            write_escaped(writer, name)?;
+            write_resolved(writer, tag)?;
             write_text(writer, b">")
         }
         None => write_text(writer, b""),
@@ -94,7 +104,7 @@ fn part_if<'s>(stands: bool, part: &'s str) -> &'s str
 fn write_event<'x, W: Sink>(
     writer: &mut W,
     event: Event<'x>,
-    tag: Option<&'x str>,
+    tag: Option<&'x ResolvedTag<'x>>,
 ) -> Result<(), Fault>
     ensures { Writes (W.contents writer.old) (W.contents writer.new) (W.has_failed writer.old) (W.has_failed writer.new) (Notation.event_line (event_value event.entry) (name_value tag.entry)) result }
 {

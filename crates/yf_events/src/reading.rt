@@ -10,6 +10,7 @@ use std::alloc::{AllocError, Global};
 use std::marker::Model;
 use yf_comments::comment::Comment;
 use yf_lines::fault::Fault;
+use yf_props::resolved::ResolvedTag;
 
 /// How many collections may be open at once. A single pair of a flow sequence counts as a mapping.
 pub const DEPTH: usize = 1024;
@@ -118,14 +119,11 @@ impl<'a> Reading<'a> {
 
     /// The resolved tag of the node that the event begins, where one is written.
     #[inline]
-    pub fn resolved(&self, i: usize) -> Option<&str>
+    pub fn resolved(&self, i: usize) -> Option<&ResolvedTag<'a>>
         requires { i < length self.now.events }
         ensures { slice_get self.now.resolved i ≡ Some (name_value result) }
     {
-        match self.lists.resolved.at(i) {
-            Some(tag) => Some(tag.as_str()),
-            None => None,
-        }
+        self.lists.resolved.at(i)
     }
 
     /// The comments, in order of the text.

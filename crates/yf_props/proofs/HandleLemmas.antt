@@ -1,5 +1,5 @@
 -- Looking a handle up among the declarations, and the texts of tags.
-use Rattle.std.proofs.Common.{◌≡◌, ℕ, Bool, true, false, cond, List, [], ◌∷◌, ◌++◌, map, Option, Some, None, Result, Ok, Err, IfOk, codes, refl, sym, ap, ◌∙◌, subst, is_some, true≢false, append-nil}
+use Rattle.std.proofs.Common.{◌≡◌, ℕ, Bool, true, false, cond, List, [], ◌∷◌, ◌++◌, map, Option, Some, None, codes, refl, sym, ap, ◌∙◌, subst, is_some, true≢false, append-nil}
 use Rattle.std.specs.Borrow.{Bor}
 use Rattle.std.specs.Map.{lookup}
 use Rattle.std.specs.Str.{IsUtf8, bytes_eq}
@@ -55,11 +55,6 @@ decoded_suffix {s} {d} e u =
     let u' : IsUtf8 (percent_decode s) = subst IsUtf8 e u in
     subst (λ x. SuffixText s x) (sym e) (as_decoded u')
 
-pub behind_prefix : {E : Type 0} (r : Result (List ℕ) E) (p : List ℕ) {s d : List ℕ} → IfOk r (λ text. text ≡ p ++ d) → SuffixText s d
-    → IfOk r (λ text. (x : List ℕ) × SuffixText s x × (text ≡ p ++ x))
-behind_prefix (Ok text) p {d = d} e x = (d, x, e)
-behind_prefix (Err f) p e x = tt
-
 -- texts of tags
 module _ {ds : List Declaration} where
   pub verbatim_is : {text x : List ℕ} → x ≡ text ++ [] → TagText ds (IsVerbatim text) x
@@ -68,6 +63,6 @@ module _ {ds : List Declaration} where
   pub non_specific_is : {x : List ℕ} → x ≡ codes "!" ++ [] → TagText ds IsNonSpecific x
   non_specific_is e = subst (λ y. TagText ds IsNonSpecific y) (sym e) non_specific_text
 
-  pub shorthand_is : {handle prefix suffix text : List ℕ} → prefix_of ds handle ≡ Some prefix
-      → (x : List ℕ) × SuffixText suffix x × (text ≡ prefix ++ x) → TagText ds (IsShort handle suffix) text
-  shorthand_is {handle} {prefix} {suffix} e d = subst (λ y. TagText ds (IsShort handle suffix) y) (sym d.2) (shorthand_text e d.1)
+  pub shorthand_is : {handle prefix suffix x text : List ℕ} → prefix_of ds handle ≡ Some prefix → SuffixText suffix x → text ≡ prefix ++ x
+      → TagText ds (IsShort handle suffix) text
+  shorthand_is {handle} {prefix} {suffix} e d is = subst (λ y. TagText ds (IsShort handle suffix) y) (sym is) (shorthand_text e d)

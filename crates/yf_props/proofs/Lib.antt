@@ -9,3 +9,4 @@ pub mod NamesBack
 pub mod PropsBack
 pub mod PropsLines
 mod PropsShown
+pub mod OrderLemmas

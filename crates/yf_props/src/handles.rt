@@ -1,16 +1,19 @@
 //! Tag handles (YAML 1.2.2, section 6.8.2), and what tags stand for (section 6.9.1).
-ghost use Rattle.std.specs.Prelude.{◌≡◌, ◌⊎◌, ◌++◌, [], ◌∷◌, ℕ, List, false, not, Option, Some, None, Ok, Err, MatchOption, IfOk, IfErr, if◌then◌else◌, codes};
+ghost use Rattle.std.specs.Prelude.{◌≡◌, ◌⊎◌, ◌++◌, [], ◌∷◌, false, not, Option, Some, None, Ok, Err, MatchOption, IfOk, IfErr, if◌then◌else◌, codes};
+ghost use Rattle.yf_lines.specs.Text.{text_bytes};
 ghost use Rattle.yf_props.specs.Props.{tag_value};
 ghost use Rattle.yf_props.specs.Handles.{default_prefix, prefix_of, SuffixText, TagText, UnknownHandleOf, is_declared};
 
 use crate::props::Tag;
+use crate::resolved::ResolvedTag;
 use indexmap::IndexMap;
 use percent_encoding::{DecodeError, percent_decode};
 use std::alloc::{AllocError, Global};
+use std::borrow::CowStr;
 use std::marker::Model;
 use yf_lines::fault::Fault;
 use yf_lines::place::Place;
-use yf_lines::text::OwnedText;
+use yf_lines::text::{OwnedText, Text};
 
 /// The tag handles of one document. In a contract it is the list of the declarations, each a handle and its prefix; a
 /// handle without one may have a default.
@@ -39,23 +42,14 @@ fn default_of(handle: &str) -> Option<&'static str>
     }
 }
 
-// One text after the other.
-fn joined(alloc: Global, front: &str, back: &str) -> Result<OwnedText, AllocError>
-    ensures { IfOk result (λ text. text ≡ front.now ++ back.now) }
-{
-    let mut text = String::new(alloc);
-    text.push_str(front)?;
-    text.push_str(back)?;
-    Ok(OwnedText::new(text))
-}
-
-// A prefix, and after it what the suffix stands for.
-fn with_suffix(alloc: Global, prefix: &str, suffix: &str) -> Result<OwnedText, AllocError>
-    ensures { IfOk result (λ text. (x : List ℕ) × SuffixText suffix.now x × (text ≡ prefix.now ++ x)) }
+// What a suffix stands for: a text of its own only where escapes are read.
+fn suffix_text<'a>(alloc: Global, suffix: &'a str) -> Result<Text<'a>, AllocError>
+    ensures { IfOk result (λ text. SuffixText suffix.now (text_bytes text)) }
 {
     match percent_decode(suffix.as_bytes()).decode_utf8(alloc) {
-        Ok(decoded) => joined(alloc, prefix, decoded.as_str()),
-        Err(DecodeError::Utf8(_)) => joined(alloc, prefix, suffix),
+        Ok(CowStr::Borrowed(part)) => Ok(Text::Part(part)),
+        Ok(CowStr::Owned(decoded)) => Ok(Text::Owned(OwnedText::new(decoded))),
+        Err(DecodeError::Utf8(_)) => Ok(Text::Part(suffix)),
         Err(DecodeError::OutOfMemory) => Err(AllocError),
     }
 }
@@ -91,7 +85,7 @@ impl<'a> Handles<'a> {
     }
 
     // The prefix of a handle: the declared one, or else the default.
-    fn prefix(&self, handle: &str) -> Option<&str>
+    fn prefix(&self, handle: &str) -> Option<&'a str>
         ensures { MatchOption result (prefix_of self.now handle.now ≡ None) (λ prefix. prefix_of self.now handle.now ≡ Some prefix.now) }
     {
         match self.prefixes.get(handle) {
@@ -105,21 +99,25 @@ impl<'a> Handles<'a> {
     /// where the bytes are then not UTF-8 the suffix stays as it is written.
     ///
     /// `UnknownHandle` at the place, which is the tag's, where the handle is neither declared nor a default.
-    pub fn resolve(&self, alloc: Global, tag: &Tag<'_>, place: Place) -> Result<OwnedText, Fault>
+    pub fn resolve(
+        &self,
+        alloc: Global,
+        tag: &Tag<'a>,
+        place: Place,
+    ) -> Result<ResolvedTag<'a>, Fault>
         ensures text { IfOk result (λ text. TagText self.now (tag_value tag.now) text) }
         ensures refused { IfErr result (λ fault. (fault ≡ Fault.Memory) ⊎ ((fault ≡ Fault.UnknownHandle place) × UnknownHandleOf self.now (tag_value tag.now))) }
     {
-        let resolved = match *tag {
-            Tag::Verbatim(text) => joined(alloc, text, ""),
+        match *tag {
+            Tag::Verbatim(text) => Ok(ResolvedTag::new(text, Text::Part(""))),
             Tag::Short { handle, suffix } => match self.prefix(handle) {
-                Some(prefix) => with_suffix(alloc, prefix, suffix),
-                None => return Err(Fault::UnknownHandle { place }),
+                Some(prefix) => match suffix_text(alloc, suffix) {
+                    Ok(suffix) => Ok(ResolvedTag::new(prefix, suffix)),
+                    Err(AllocError) => Err(Fault::Memory),
+                },
+                None => Err(Fault::UnknownHandle { place }),
             },
-            Tag::NonSpecific => joined(alloc, "!", ""),
-        };
-        match resolved {
-            Ok(text) => Ok(text),
-            Err(AllocError) => Err(Fault::Memory),
+            Tag::NonSpecific => Ok(ResolvedTag::new("!", Text::Part(""))),
         }
     }
 }

@@ -6,4 +6,5 @@ pub mod handles;
 pub mod properties;
 pub mod props;
 pub mod read;
+pub mod resolved;
 pub mod tag;

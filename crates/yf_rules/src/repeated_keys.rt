@@ -10,6 +10,7 @@ use yf_events::reading::Reading;
 use yf_lines::fault::Fault;
 use yf_lines::place::Place;
 use yf_lines::source_text::Src;
+use yf_props::resolved::ResolvedTag;
 
 /// The first character of a scalar key whose text and resolved tag are those of an earlier scalar key of its mapping.
 #[derive(Clone, Copy, Debug)]
@@ -53,12 +54,12 @@ impl Rule for RepeatedKeys {
     }
 }
 
-/// A scalar key: its mapping, by the event that begins it, its resolved tag and its text.
+/// A scalar key: its mapping, by the event that begins it, its text and its resolved tag.
 #[derive(Clone, Copy, Debug, PartialEq, Eq, PartialOrd, Ord)]
 struct Key<'r> {
     mapping: usize,
-    tag: Option<&'r str>,
     text: &'r str,
+    tag: Option<&'r ResolvedTag<'r>>,
 }
 
 /// A collection whose end has not come yet.
@@ -97,7 +98,7 @@ fn pass<'r>(
         Event::Scalar { text, .. } => {
             let tag = reading.resolved(i);
             let key = match mapping_of_key(stack) {
-                Some(mapping) => Some(Key { mapping, tag, text }),
+                Some(mapping) => Some(Key { mapping, text, tag }),
                 None => None,
             };
             Ok(key)

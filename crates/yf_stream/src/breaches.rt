@@ -11,10 +11,11 @@ use yf_events::document::{Doc, Documents};
 use yf_events::event::{Event, View};
 use yf_events::events::Events;
 use yf_events::row::Row;
+use yf_events::tags::Tags;
 use yf_lines::fault::Fault;
 use yf_lines::place::Place;
-use yf_lines::text::OwnedText;
 use yf_props::props::{Props, Tag};
+use yf_props::resolved::ResolvedTag;
 
 /// What does not hold.
 #[derive(Clone, Copy, Debug, PartialEq, Eq)]
@@ -35,22 +36,22 @@ pub(crate) struct Breach {
 
 /// For each event the resolved tag of the node that it begins; and the first breach, if there is one.
 #[derive(Debug, Drop)]
-pub(crate) struct Resolved {
-    pub(crate) tags: Row<Option<OwnedText>>,
+pub(crate) struct Resolved<'a> {
+    pub(crate) tags: Tags<'a>,
     pub(crate) first: Option<Breach>,
 }
 
 /// Resolves all tags, and finds the first breach.
-pub(crate) fn resolve<'e>(
+pub(crate) fn resolve<'a>(
     alloc: Global,
-    events: &'e Events<'e>,
-    documents: &Documents<'e>,
+    events: &Events<'a>,
+    documents: &Documents<'a>,
     escapes: &Row<usize>,
-) -> Result<Resolved, AllocError>
+) -> Result<Resolved<'a>, AllocError>
     ensures { IfOk result (λ r. length r.tags ≡ length events.now) }
 {
     let mut resolved = Resolved {
-        tags: Row::new(alloc),
+        tags: Tags::new(alloc),
         first: first_escape(escapes),
     };
     let documents = documents.as_slice();
@@ -84,12 +85,12 @@ fn first_escape(escapes: &Row<usize>) -> Option<Breach> {
 
 // Resolves the tags of one document, whose start is the event at the index, and gives the index of the event after the
 // document.
-fn resolve_document<'e>(
+fn resolve_document<'e, 'a>(
     alloc: Global,
-    events: &'e Events<'e>,
+    events: &'e Events<'a>,
     start: usize,
-    document: Option<&Doc<'e>>,
-    resolved: &mut Resolved,
+    document: Option<&Doc<'a>>,
+    resolved: &mut Resolved<'a>,
 ) -> Result<usize, AllocError>
     requires start { start < length events.now }
     requires tags { length resolved.old.tags ≡ start }
@@ -109,14 +110,15 @@ fn resolve_document<'e>(
         if matches!(placed.event, Event::DocStart { .. }) {
             return Ok(at);
         }
-        let tag = resolve_event(alloc, placed, &handles, &mut anchors, resolved)?;
+        note_event(placed, &mut anchors, resolved)?;
+        let tag = resolve_tag(alloc, events.tag(at), placed.tag_offset, &handles, resolved)?;
         resolved.tags.push(tag)?;
         at += 1;
     }
     Ok(at)
 }
 
-impl Resolved {
+impl<'a> Resolved<'a> {
     // Keeps a breach if it is the first in the text so far; of two at one place, the one that was found first.
     fn keep(&mut self, offset: usize, kind: Kind)
         ensures { self.new.tags ≡ self.old.tags }
@@ -174,31 +176,26 @@ fn is_version_one(version: &str) -> bool {
     version.trim_start_matches('0').starts_with("1.")
 }
 
-// The resolved tag of the node that the event begins; its anchor has occurred from now on.
-fn resolve_event<'e>(
-    alloc: Global,
+// The anchor of the node that the event begins has occurred from now on; an alias names one that has.
+fn note_event<'e>(
     placed: View<'e>,
-    handles: &Prefixes<'e>,
     anchors: &mut Anchors<'e>,
     resolved: &mut Resolved,
-) -> Result<Option<OwnedText>, AllocError>
+) -> Result<(), AllocError>
     ensures { resolved.new.tags ≡ resolved.old.tags }
 {
     match placed.event {
         Event::Scalar { props, .. }
         | Event::SeqStart { props, .. }
-        | Event::MapStart { props, .. } => {
-            note_anchor(props, anchors)?;
-            resolve_tag(alloc, props.tag, placed.tag_offset, handles, resolved)
-        }
+        | Event::MapStart { props, .. } => note_anchor(props, anchors),
         Event::Alias { name } => {
             if !anchors.contains(name) {
                 let offset = placed.span.map_or(0, |span| span.start);
                 resolved.keep(offset, Kind::UnknownAlias);
             }
-            Ok(None)
+            Ok(())
         }
-        _ => Ok(None),
+        _ => Ok(()),
     }
 }
 
@@ -209,13 +206,14 @@ fn note_anchor<'a>(props: Props<'a>, anchors: &mut Anchors<'a>) -> Result<(), Al
     Ok(())
 }
 
-fn resolve_tag<'e>(
+// What the tag stands for.
+fn resolve_tag<'a>(
     alloc: Global,
-    tag: Option<Tag<'e>>,
+    tag: Option<Tag<'a>>,
     offset: Option<usize>,
-    handles: &Prefixes<'e>,
+    handles: &Prefixes<'a>,
     resolved: &mut Resolved,
-) -> Result<Option<OwnedText>, AllocError>
+) -> Result<Option<ResolvedTag<'a>>, AllocError>
     ensures { resolved.new.tags ≡ resolved.old.tags }
 {
     let (Some(tag), Some(offset)) = (tag, offset) else {
@@ -224,7 +222,7 @@ fn resolve_tag<'e>(
     // The place of a refusal is told once the first of them is known.
     let start = Place { line: 1, column: 1 };
     match handles.resolve(alloc, &tag, start) {
-        Ok(text) => Ok(Some(text)),
+        Ok(tag) => Ok(Some(tag)),
         Err(Fault::UnknownHandle { .. }) => {
             resolved.keep(offset, Kind::UnknownHandle);
             Ok(None)

@@ -4,9 +4,9 @@ use std::alloc::{AllocError, Global};
 use std::collections::BTreeMap;
 use yf_lines::fault::Fault;
 use yf_lines::place::Place;
-use yf_lines::text::OwnedText;
 use yf_props::handles::Handles;
 use yf_props::props::Tag;
+use yf_props::resolved::ResolvedTag;
 
 /// How many handles are found by their hashes.
 const FEW: usize = 64;
@@ -49,7 +49,7 @@ impl<'a> Prefixes<'a> {
         alloc: Global,
         tag: &Tag<'a>,
         place: Place,
-    ) -> Result<OwnedText, Fault> {
+    ) -> Result<ResolvedTag<'a>, Fault> {
         if self.all.len() > FEW {
             if let Tag::Short { handle, .. } = *tag {
                 if let Some(prefix) = self.all.get(&handle) {

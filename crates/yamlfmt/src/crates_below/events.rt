@@ -13,9 +13,10 @@ use yf_events::notation::write_events;
 use yf_events::reading::Reading;
 use yf_events::slices::Slices;
 use yf_lines::fault::Fault;
-use yf_lines::text::{OwnedText, Text};
+use yf_lines::text::Text;
 use yf_lines::watched::Watched;
 use yf_props::props::{Props, Tag};
+use yf_props::resolved::ResolvedTag;
 
 /// An event of a node, as the rows of the tables name it.
 #[derive(Clone, Copy)]
@@ -107,7 +108,7 @@ fn add_node<'a>(alloc: Global, lists: &mut Lists<'a>, node: Node) -> Result<(), 
             text: Text::Part(text),
         },
         Node::Tagged(tag) => {
-            let resolved = OwnedText::new(String::from_str(alloc, tag)?);
+            let resolved = ResolvedTag::new(tag, Text::Part(""));
             lists.push_event(block(alloc)?, Some(resolved))?;
             return Ok(());
         }

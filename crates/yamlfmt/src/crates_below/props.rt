@@ -6,11 +6,13 @@ use yf_chars::context::Ctx;
 use yf_lines::fault::Fault;
 use yf_lines::place::Place;
 use yf_lines::source_text::Src;
+use yf_lines::text::Text;
 use yf_props::alias::alias_node;
 use yf_props::handles::Handles;
 use yf_props::properties::{Properties, node_properties};
 use yf_props::props::Tag;
 use yf_props::read::{read_alias, read_props};
+use yf_props::resolved::ResolvedTag;
 
 const PLACE: Place = Place { line: 1, column: 3 };
 
@@ -100,8 +102,8 @@ fn resolves_by_default(rt: HostRuntime) -> Result<(), Fail> {
         .props
         .tag
         .ok_or("no tag")?;
-    let text = handles.resolve(rt.alloc(), &tag, PLACE)?;
-    assert!(rt; text.as_str() == "tag:yaml.org,2002:str");
+    let tag = handles.resolve(rt.alloc(), &tag, PLACE)?;
+    assert!(rt; tag == ResolvedTag::new("tag:yaml.org,2002:str", Text::Part("")));
     let tag = props_at(rt.alloc(), "- !x!t v\n", 2, 0)?
         .props
         .tag
@@ -156,8 +158,11 @@ fn resolves_by_declarations(rt: HostRuntime) -> Result<(), Fail> {
         assert!(rt; handles.declare(handle, prefix)? == free, "{prefix}");
     }
     for (tag, wanted) in TAGS {
-        let text = handles.resolve(rt.alloc(), &tag, PLACE)?;
-        assert!(rt; text.as_str() == wanted, "{wanted}");
+        let resolved = handles.resolve(rt.alloc(), &tag, PLACE)?;
+        assert!(rt;
+            resolved == ResolvedTag::new(wanted, Text::Part("")),
+            "{wanted}"
+        );
     }
     Ok(())
 }

@@ -15,7 +15,7 @@ events_are c =
 
 is_restyled : (c : goal.After-drop-measures-inside-2) → IsRestyled c.args.style.now.quotes c.args.reading.now (record {
   events = c.in_ok-normal_events.field-0;
-  resolved = c.in_ok-copied_tags.field-0;
+  resolved = c.in_ok-lent.field-0;
   comments = c.in_ok-copied_comments.field-0;
   on_leaf_line = c.in_ok-copied_notes.field-0;
   documents = c.in_ok-copied_documents.field-0;
@@ -24,11 +24,11 @@ is_restyled : (c : goal.After-drop-measures-inside-2) → IsRestyled c.args.styl
 is_restyled c =
     let same = c.lists-lists.ensures.same in
     restyled_whole c.args.reading.now _ (rw (events_are c) (pass_restyles c.args.style.now.quotes c.in_ok-measures.measures 0 0 c.in_ok-forms.forms c.args.reading.now.events))
-    (c.in_ok-copied_tags.ensures ∙ c.as_slice.ensures ∙ ap (λ w. w.resolved) same)
-    (c.in_ok-copied_comments.ensures ∙ c.as_slice-2.ensures ∙ ap (λ w. w.comments) same)
-    (c.in_ok-copied_notes.ensures ∙ c.as_slice-3.ensures ∙ ap (λ w. w.on_leaf_line) same)
-    (c.in_ok-copied_documents.ensures ∙ c.as_slice-4.ensures ∙ ap (λ w. w.documents) same)
-    (c.in_ok-copied_offsets.ensures ∙ c.as_slice-5.ensures ∙ ap (λ w. w.escapes) same)
+    (c.in_ok-lent.ensures ∙ ap (λ w. w.resolved) same)
+    (c.in_ok-copied_comments.ensures ∙ c.as_slice.ensures ∙ ap (λ w. w.comments) same)
+    (c.in_ok-copied_notes.ensures ∙ c.as_slice-2.ensures ∙ ap (λ w. w.on_leaf_line) same)
+    (c.in_ok-copied_documents.ensures ∙ c.as_slice-3.ensures ∙ ap (λ w. w.documents) same)
+    (c.in_ok-copied_offsets.ensures ∙ c.as_slice-4.ensures ∙ ap (λ w. w.escapes) same)
 
 pub returns-clause-restyled : goal.returns-clause-restyled
 returns-clause-restyled c = is_restyled c

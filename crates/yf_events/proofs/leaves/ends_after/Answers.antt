@@ -1,4 +1,4 @@
-use Rattle.std.proofs.Common.{sym, ◌∙◌, arith}
+use Rattle.std.proofs.Common.{sym, ◌∙◌}
 use Rattle.yf_events.proofs.LeafRuns.{ends_at}
 use Rattle.yf_events.proofs.leaves.ends_after.Goals as goal
 

@@ -6,13 +6,13 @@ returns-in_err-write_text-in-Some g c =
     let broke = c.in_err-write_text-in-Some.ensures in
     rw c.in-Some.is (writes_refused _ _ _ _ _ _ _ c.from_residual.ensures.1 broke.0 (broke_first _ _ _ _ _ broke.1))
 
-pub returns-in_err-write_escaped-in-Some : goal.returns-in_err-write_escaped-in-Some
-returns-in_err-write_escaped-in-Some g c =
-    let broke = c.in_err-write_escaped-in-Some.ensures in
-    rw c.in-Some.is (writes_refused _ _ _ _ _ _ _ c.from_residual-in_err-write_escaped-in-Some.ensures.1 broke.0
+pub returns-in_err-write_resolved-in-Some : goal.returns-in_err-write_resolved-in-Some
+returns-in_err-write_resolved-in-Some g c =
+    let broke = c.in_err-write_resolved-in-Some.ensures in
+    rw c.in-Some.is (writes_refused _ _ _ _ _ _ _ c.from_residual-in_err-write_resolved-in-Some.ensures.1 broke.0
     (broke_second _ _ _ _ _ _ _ _ c.in_ok-write_text-in-Some.ensures (broke_first _ _ _ _ _ broke.1)))
 
-pub returns-in_ok-write_escaped-in-Some : goal.returns-in_ok-write_escaped-in-Some
-returns-in_ok-write_escaped-in-Some g c =
+pub returns-in_ok-write_resolved-in-Some : goal.returns-in_ok-write_resolved-in-Some
+returns-in_ok-write_resolved-in-Some g c =
     rw c.in-Some.is (writes_second _ _ _ _ _ _ _ _ _ c.in_ok-write_text-in-Some.ensures
-    (writes_second _ _ _ _ _ _ _ _ _ c.in_ok-write_escaped-in-Some.ensures c.write_text-in-Some.ensures))
+    (writes_second _ _ _ _ _ _ _ _ _ c.in_ok-write_resolved-in-Some.ensures c.write_text-in-Some.ensures))

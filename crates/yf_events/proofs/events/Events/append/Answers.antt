@@ -1,6 +1,5 @@
-use Rattle.std.proofs.Common.{ap, sym, ◌∙◌, arith}
+use Rattle.std.proofs.Common.{arith}
 use Rattle.std.proofs.lemmas.Result.{err_from_is_err_and}
-use Rattle.yf_events.specs.Packed.{Grown}
 use Rattle.yf_events.proofs.PackedRows.{append_fits, append_seen, same_fits, same_seen, moved_by}
 use Rattle.yf_events.proofs.events.Events.append.Goals as goal
 

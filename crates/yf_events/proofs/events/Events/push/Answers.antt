@@ -1,4 +1,3 @@
-use Rattle.std.proofs.Common.{ap, sym, ◌∙◌, refl, arith}
 use Rattle.std.proofs.lemmas.Result.{err_from_is_err_and}
 use Rattle.yf_events.proofs.PackedRows.{grown_fits, grown_seen, push_fits, push_seen, same_fits, same_seen}
 use Rattle.yf_events.proofs.events.Events.push.Goals as goal

@@ -1,4 +1,4 @@
-use Rattle.std.proofs.Common.{ap, sym, ◌∙◌, refl, arith}
+use Rattle.std.proofs.Common.{ap, ◌∙◌, refl, arith}
 use Rattle.yf_events.specs.Edit.{coloned, with_colon}
 use Rattle.yf_events.specs.Packed.{entry_at, row_value}
 use Rattle.yf_events.proofs.PackedRows.{edited_seen, keyed_is, fits_set, past_seen}

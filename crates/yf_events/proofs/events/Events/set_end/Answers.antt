@@ -1,4 +1,4 @@
-use Rattle.std.proofs.Common.{ap, sym, ◌∙◌, refl, arith}
+use Rattle.std.proofs.Common.{ap, ◌∙◌, refl, arith}
 use Rattle.yf_events.specs.Edit.{ended, span_to}
 use Rattle.yf_events.specs.Packed.{row_value, span_at}
 use Rattle.yf_events.proofs.PackedRows.{edited_seen, ended_is, fits_set, past_seen}

@@ -1,5 +1,4 @@
-use Rattle.std.proofs.Common.{Some, ap, sym, ◌∙◌, refl, length, arith}
-use Rattle.std.proofs.lemmas.List.{length-map}
+use Rattle.std.proofs.Common.{Some, ap, sym, ◌∙◌, refl}
 use Rattle.yf_events.specs.Packed.{row_value}
 use Rattle.yf_events.proofs.PackedRows.{edited_seen, fits_set, rows_long, with_entry_is}
 use Rattle.yf_events.proofs.events.Events.set_entry.Goals as goal

@@ -1,6 +1,5 @@
-use Rattle.std.proofs.Common.{ap, sym, ◌∙◌}
 use Rattle.yf_events.proofs.PackedRows.{made, placed_is}
-use Rattle.yf_events.proofs.packed.row_of.Goals as goal
+use Rattle.yf_events.proofs.packing.row_of.Goals as goal
 
 pub returns-clause-row : goal.returns-clause-row
 returns-clause-row c =

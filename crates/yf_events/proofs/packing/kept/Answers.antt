@@ -1,6 +1,6 @@
 use Rattle.std.proofs.Common.{arith}
 use Rattle.yf_events.proofs.PackedRows.{stored, not_stored}
-use Rattle.yf_events.proofs.packed.kept.Goals as goal
+use Rattle.yf_events.proofs.packing.kept.Goals as goal
 
 pub returns-then-lacks-clause-kept : goal.returns-then-lacks-clause-kept
 returns-then-lacks-clause-kept c = not_stored _ _ c.if-lacks.ensures

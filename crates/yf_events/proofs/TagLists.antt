@@ -1,0 +1,149 @@
+-- Tags that are kept for the events that have one, and the list that has for each event its tag or none.
+use Rattle.std.proofs.Common.{ℕ, zero, suc, ◌+◌, ◌<◌, ◌≤◌, ◌≡◌, ◌≢◌, ◌==◌, List, [], ◌∷◌, ◌++◌, length, get_or, Option, Some, None, Result, Ok, Err, if◌then◌else◌, inl, inr, refl, sym, ap, ◌∙◌, subst, arith}
+use Rattle.std.specs.Prelude.{slice_get, MatchResult}
+use Rattle.std.specs.List.Sorted.{IsSearchInRange, IsBinarySearchResult, IsNonDecreasingBy}
+use Rattle.std.specs.Ordering.{nat_cmp, ordering_index}
+use Rattle.std.proofs.lemmas.Bool.{cases_lt}
+use Rattle.std.proofs.lemmas.Bool.Decides.{nat_tests}
+use Rattle.std.proofs.lemmas.Cmp.{ranked}
+use Rattle.std.proofs.lemmas.List.{get_or_append_left, get_or_default, get_or_push, length_push}
+use Rattle.std.proofs.lemmas.List.Sorted.{IsNonDecreasingBy-from_default}
+use Rattle.yf_events.specs.Tags.{Rises, event_at, tag_at, tags_listed}
+use Rattle.yf_events.specs.declared.tags.TaggedEvent.{TaggedEvent}
+
+abbrev no_tag : TaggedEvent
+no_tag = record { event = 0; tag = [] }
+
+-- no tag is kept for the event
+absent : (ts : List TaggedEvent) (i : ℕ) → ((k : ℕ) → k < length ts → event_at ts k ≢ i) → tag_at ts i ≡ None
+absent [] i other = refl
+absent (t ∷ ts) i other = grind (arith, nat_tests, other 0 (omega arith), absent ts i (λ k l. other (suc k) (omega (arith, l))))
+
+-- the first tag that is kept for the event
+present : (ts : List TaggedEvent) (i k : ℕ) → k < length ts → event_at ts k ≡ i → ((j : ℕ) → j < k → event_at ts j ≢ i) → tag_at ts i ≡ Some (get_or ts k no_tag).tag
+present [] i k l is other = absurd (omega (arith, l))
+present (t ∷ ts) i zero l is other = grind (arith, nat_tests, is)
+present (t ∷ ts) i (suc k) l is other = grind (arith, nat_tests, other 0 (omega arith), present ts i k (omega (arith, l)) is (λ j m. other (suc j) (omega (arith, m))))
+
+-- one tag more
+
+tag_before : (ts : List TaggedEvent) (t : TaggedEvent) (i : ℕ) → t.event ≢ i → tag_at (ts ++ t ∷ []) i ≡ tag_at ts i
+tag_before [] t i other = grind (arith, nat_tests, other)
+tag_before (x ∷ ts) t i other = ap (λ w. if x.event == i then Some x.tag else w) (tag_before ts t i other)
+
+tag_added : (ts : List TaggedEvent) (t : TaggedEvent) → ((k : ℕ) → k < length ts → event_at ts k ≢ t.event) → tag_at (ts ++ t ∷ []) t.event ≡ Some t.tag
+tag_added [] t other = grind (arith, nat_tests)
+tag_added (x ∷ ts) t other = grind (arith, nat_tests, other 0 (omega arith), tag_added ts t (λ k l. other (suc k) (omega (arith, l))))
+
+listed_before : (n : ℕ) (ts : List TaggedEvent) (t : TaggedEvent) → n ≤ t.event → tags_listed n (ts ++ t ∷ []) ≡ tags_listed n ts
+listed_before zero ts t l = refl
+listed_before (suc n) ts t l =
+    ap (λ w. w ++ tag_at (ts ++ t ∷ []) n ∷ []) (listed_before n ts t (omega (arith, l)))
+    ∙ ap (λ w. tags_listed n ts ++ w ∷ []) (tag_before ts t n (λ same. omega (arith, l, same)))
+
+-- the list
+
+pub listed_length : (n : ℕ) (ts : List TaggedEvent) → length (tags_listed n ts) ≡ n
+listed_length zero ts = refl
+listed_length (suc n) ts = length_push (tags_listed n ts) (tag_at ts n) ∙ omega (arith, listed_length n ts)
+
+got_in : {X : Type 0} (xs : List X) (y : X) (i : ℕ) → i < length xs → slice_get (xs ++ y ∷ []) i ≡ slice_get xs i
+got_in [] y i l = absurd (omega (arith, l))
+got_in (x ∷ xs) y zero l = refl
+got_in (x ∷ xs) y (suc i) l = got_in xs y i (omega (arith, l))
+
+got_last : {X : Type 0} (xs : List X) (y : X) (i : ℕ) → i ≡ length xs → slice_get (xs ++ y ∷ []) i ≡ Some y
+got_last [] y zero e = refl
+got_last [] y (suc i) e = absurd (omega (arith, e))
+got_last (x ∷ xs) y zero e = absurd (omega (arith, e))
+got_last (x ∷ xs) y (suc i) e = got_last xs y i (omega (arith, e))
+
+pub listed_at : (n : ℕ) (ts : List TaggedEvent) (i : ℕ) → i < n → slice_get (tags_listed n ts) i ≡ Some (tag_at ts i)
+listed_at zero ts i l = absurd (omega (arith, l))
+listed_at (suc n) ts i l = elim (cases_lt i n) [
+  | inl less ↦ got_in (tags_listed n ts) (tag_at ts n) i (omega (arith, less, listed_length n ts)) ∙ listed_at n ts i less
+  | inr least ↦
+      let same : i ≡ n = omega (arith, l, least) in
+      subst (λ w. slice_get (tags_listed n ts ++ tag_at ts n ∷ []) w ≡ Some (tag_at ts w)) (sym same)
+      (got_last (tags_listed n ts) (tag_at ts n) n (omega (arith, listed_length n ts)))
+]
+
+-- the next event has no tag
+pub next_untagged : (n count : ℕ) (ts : List TaggedEvent) → Rises n ts → count ≡ n + 1 → tags_listed count ts ≡ tags_listed n ts ++ None ∷ []
+next_untagged n count ts r e =
+    let later : count ≡ suc n = omega (arith, e) in
+    ap (λ w. tags_listed w ts) later
+    ∙ ap (λ w. tags_listed n ts ++ w ∷ []) (absent ts n (λ k l same. omega (arith, r.within k l, same)))
+
+pub rises_untagged : (n count : ℕ) (ts : List TaggedEvent) → Rises n ts → count ≡ n + 1 → Rises count ts
+rises_untagged n count ts r e = record { rise = r.rise; within = λ k l. omega (arith, r.within k l, e) }
+
+-- the next event has a tag
+pub next_tagged : (n count : ℕ) (ts after : List TaggedEvent) (t : TaggedEvent) → Rises n ts → count ≡ n + 1 → t.event ≡ n → after ≡ ts ++ t ∷ []
+    → tags_listed count after ≡ tags_listed n ts ++ Some t.tag ∷ []
+next_tagged n count ts after t r e is more =
+    let later : count ≡ suc n = omega (arith, e) in
+    let added : tag_at (ts ++ t ∷ []) n ≡ Some t.tag = subst (λ w. tag_at (ts ++ t ∷ []) w ≡ Some t.tag) is (tag_added ts t (λ k l same. omega (arith, r.within k l, same, is))) in
+    ap (λ w. tags_listed w after) later
+    ∙ ap (λ w. tags_listed (suc n) w) more
+    ∙ ap (λ w. w ++ tag_at (ts ++ t ∷ []) n ∷ []) (listed_before n ts t (omega (arith, is)))
+    ∙ ap (λ w. tags_listed n ts ++ w ∷ []) added
+
+event_before : (ts : List TaggedEvent) (t : TaggedEvent) (k : ℕ) → k < length ts → event_at (ts ++ t ∷ []) k ≡ event_at ts k
+event_before ts t k l = ap (λ w. w.event) (get_or_append_left ts (t ∷ []) no_tag k l)
+
+event_last : (ts : List TaggedEvent) (t : TaggedEvent) (k : ℕ) → length ts ≡ k → event_at (ts ++ t ∷ []) k ≡ t.event
+event_last ts t k e = ap (λ w. w.event) (get_or_push ts t no_tag k e)
+
+pub rises_tagged : (n count : ℕ) (ts after : List TaggedEvent) (t : TaggedEvent) → Rises n ts → count ≡ n + 1 → t.event ≡ n → after ≡ ts ++ t ∷ []
+    → Rises count after
+rises_tagged n count ts after t r e is more =
+    subst (Rises count) (sym more) (record {
+      rise = λ j k less l. elim (cases_lt k (length ts)) [
+        | inl inside ↦ omega (arith, event_before ts t j (omega (arith, less, inside)), event_before ts t k inside, r.rise j k less inside)
+        | inr past ↦
+            let last : length ts ≡ k = omega (arith, past, l, length_push ts t) in
+            let inside : j < length ts = omega (arith, less, last) in
+            omega (arith, event_before ts t j inside, event_last ts t k last, r.within j inside, is)
+      ];
+      within = λ k l. elim (cases_lt k (length ts)) [
+        | inl inside ↦ omega (arith, event_before ts t k inside, r.within k inside, e)
+        | inr past ↦
+            let last : length ts ≡ k = omega (arith, past, l, length_push ts t) in
+            omega (arith, event_last ts t k last, is, e)
+      ];
+    })
+
+-- a search by the events
+
+abbrev RisesIn : List TaggedEvent → Type 0
+RisesIn ts = (j k : ℕ) → j < k → k < length ts → event_at ts j < event_at ts k
+
+comparisons_rise : (ts : List TaggedEvent) (i : ℕ) → RisesIn ts → IsNonDecreasingBy (λ t. ordering_index (nat_cmp t.event i)) ts
+comparisons_rise ts i rise = IsNonDecreasingBy-from_default (λ t. ordering_index (nat_cmp t.event i)) ts no_tag (λ j k le within.
+    let events_rise : event_at ts j ≤ event_at ts k = grind (arith, rise j k, λ (same : j ≡ k). ap (event_at ts) same) in
+    grind (arith, nat_tests))
+
+pub searched : (ts : List TaggedEvent) (i : ℕ) (r : Result ℕ ℕ) → RisesIn ts → IsSearchInRange r (length ts) → IsBinarySearchResult (λ t. nat_cmp t.event i) ts r
+    → MatchResult r (λ k. (k < length ts) × (event_at ts k ≡ i)) (λ x. tag_at ts i ≡ None)
+searched ts i (Ok k) rise within equal = (within, ranked _ i _ (sym (equal no_tag)))
+searched ts i (Err k) rise within parted = absent ts i (λ j l same. elim (cases_lt j k) [
+  | inl less ↦ let below : event_at ts j < i = ranked _ i _ (sym ((parted (comparisons_rise ts i rise)).0 j no_tag (omega (arith, within)) less)) in omega (arith, below, same)
+  | inr least ↦ let above : i < event_at ts j = ranked _ i _ (sym ((parted (comparisons_rise ts i rise)).1 j no_tag least l)) in omega (arith, above, same)
+])
+
+-- the tag of an event, found at a place
+
+pub tag_found : (n : ℕ) (ts : List TaggedEvent) (v : List (Option (List ℕ))) (i k : ℕ) (t : TaggedEvent) → tags_listed n ts ≡ v → RisesIn ts → i < length v
+    → (k < length ts) × (event_at ts k ≡ i) → t ≡ get_or ts k t → slice_get v i ≡ Some (Some t.tag)
+tag_found n ts v i k t seen rise l at is =
+    let inside : i < n = omega (arith, l, ap length seen, listed_length n ts) in
+    let read : get_or ts k no_tag ≡ t = get_or_default ts k no_tag t at.0 ∙ sym is in
+    ap (λ w. slice_get w i) (sym seen) ∙ listed_at n ts i inside
+    ∙ ap Some (present ts i k at.0 at.1 (λ j m same. omega (arith, rise j k m at.0, same, at.1)) ∙ ap (λ w. Some w.tag) read)
+
+pub no_tag_found : (n : ℕ) (ts : List TaggedEvent) (v : List (Option (List ℕ))) (i : ℕ) → tags_listed n ts ≡ v → i < length v → tag_at ts i ≡ None
+    → slice_get v i ≡ Some None
+no_tag_found n ts v i seen l none =
+    let inside : i < n = omega (arith, l, ap length seen, listed_length n ts) in
+    ap (λ w. slice_get w i) (sym seen) ∙ listed_at n ts i inside ∙ ap Some none

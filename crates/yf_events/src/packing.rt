@@ -1,0 +1,251 @@
+//! Events put into rows and their table.
+ghost use Rattle.std.specs.Prelude.{◌≡◌, [], IfOk, MatchBool};
+ghost use Rattle.yf_events.specs.Event.{new_event_value, placed_value, scalar_node};
+ghost use Rattle.yf_lines.specs.Text.{text_bytes};
+ghost use Rattle.yf_events.specs.Packed.{Grown, Kept, Lacks, RowOf, entry_at, shape_value, span_at, text_or};
+ghost use Rattle.yf_props.specs.Props.{no_props, props_value};
+
+use crate::event::{Entry, NewEvent, PlacedEvent, ScalarStyle, Span};
+use crate::packed::{Begins, More, NO_PROPS, PackedRow, Shape};
+use std::alloc::AllocError;
+use yf_lines::text::{OwnedText, Text};
+use yf_props::props::Props;
+
+/// An event without its place, taken apart.
+#[derive(Debug, Drop)]
+struct Taken<'a> {
+    shape: Shape,
+    props: Props<'a>,
+    part: &'a str,
+    owned: Option<OwnedText>,
+}
+
+#[derive(Clone, Copy)]
+struct Stretch {
+    placed: bool,
+    start: u32,
+    end: u32,
+}
+
+/// What a row keeps of an entry.
+#[derive(Clone, Copy)]
+pub struct Beginning {
+    pub begins: Begins,
+    pub start: u32,
+    pub colon: u32,
+}
+
+/// The number in 32 bits. One that has no room there is refused as a growth of memory is: a stream has at most 2^30 bytes.
+pub fn narrow(offset: usize) -> Result<u32, AllocError>
+    ensures { IfOk result (λ n. n ≡ offset) }
+{
+    if offset <= 0xFFFF_FFFF {
+        return Ok(offset as u32);
+    }
+    Err(AllocError)
+}
+
+fn narrow_span(span: Option<Span>) -> Result<Stretch, AllocError>
+    ensures { IfOk result (λ s. span_at s.placed s.start s.end ≡ span) }
+{
+    match span {
+        Some(span) => {
+            let start = narrow(span.start)?;
+            let end = narrow(span.end)?;
+            Ok(Stretch {
+                placed: true,
+                start,
+                end,
+            })
+        }
+        None => Ok(Stretch {
+            placed: false,
+            start: 0,
+            end: 0,
+        }),
+    }
+}
+
+/// What a row keeps of the entry that an event begins.
+pub fn narrow_entry(entry: Option<Entry>) -> Result<Beginning, AllocError>
+    ensures { IfOk result (λ b. entry_at b.begins b.start b.colon ≡ entry) }
+{
+    match entry {
+        Some(entry) => {
+            let start = narrow(entry.start)?;
+            match entry.colon {
+                Some(colon) => {
+                    let colon = narrow(colon)?;
+                    let begins = if entry.blank_before {
+                        Begins::KeyedAfterBlank
+                    } else {
+                        Begins::Keyed
+                    };
+                    Ok(Beginning {
+                        begins,
+                        start,
+                        colon,
+                    })
+                }
+                None => {
+                    let begins = if entry.blank_before {
+                        Begins::ItemAfterBlank
+                    } else {
+                        Begins::Item
+                    };
+                    Ok(Beginning {
+                        begins,
+                        start,
+                        colon: 0,
+                    })
+                }
+            }
+        }
+        None => Ok(Beginning {
+            begins: Begins::Nothing,
+            start: 0,
+            colon: 0,
+        }),
+    }
+}
+
+fn bare<'a>(shape: Shape) -> Taken<'a>
+    ensures { shape_value result.shape (props_value result.props) (text_or result.part.now result.owned) ≡ shape_value shape no_props [] }
+{
+    Taken {
+        shape,
+        props: NO_PROPS,
+        part: "",
+        owned: None,
+    }
+}
+
+fn scalar_taken<'a>(props: Props<'a>, style: ScalarStyle, text: Text<'a>) -> Taken<'a>
+    ensures { shape_value result.shape (props_value result.props) (text_or result.part.now result.owned) ≡ scalar_node (props_value props.entry) style (text_bytes text.entry) }
+{
+    let shape = Shape::Scalar { style };
+    match text {
+        Text::Part(part) => Taken {
+            shape,
+            props,
+            part,
+            owned: None,
+        },
+        Text::Owned(text) => Taken {
+            shape,
+            props,
+            part: "",
+            owned: Some(text),
+        },
+    }
+}
+
+fn taken_apart<'a>(event: NewEvent<'a>) -> Taken<'a>
+    ensures { shape_value result.shape (props_value result.props) (text_or result.part.now result.owned) ≡ new_event_value event.entry }
+{
+    match event {
+        NewEvent::StreamStart => bare(Shape::StreamStart),
+        NewEvent::StreamEnd => bare(Shape::StreamEnd),
+        NewEvent::DocStart { explicit } => bare(Shape::DocStart { explicit }),
+        NewEvent::DocEnd { explicit } => bare(Shape::DocEnd { explicit }),
+        NewEvent::SeqStart { flow, props } => Taken {
+            shape: Shape::SeqStart { flow },
+            props,
+            part: "",
+            owned: None,
+        },
+        NewEvent::SeqEnd => bare(Shape::SeqEnd),
+        NewEvent::MapStart { flow, props } => Taken {
+            shape: Shape::MapStart { flow },
+            props,
+            part: "",
+            owned: None,
+        },
+        NewEvent::MapEnd => bare(Shape::MapEnd),
+        NewEvent::Scalar { props, style, text } => scalar_taken(props, style, text),
+        NewEvent::Alias { name } => Taken {
+            shape: Shape::Alias,
+            props: NO_PROPS,
+            part: name,
+            owned: None,
+        },
+    }
+}
+
+/// Whether a row can do without it.
+fn lacks(more: &More) -> bool
+    ensures { MatchBool result (Lacks more.now) (Unit {0}) }
+{
+    if more.props.anchor.is_some() {
+        return false;
+    }
+    if more.props.tag.is_some() {
+        return false;
+    }
+    if more.tag_offset.is_some() {
+        return false;
+    }
+    if more.text.is_some() {
+        return false;
+    }
+    more.folded.as_slice().is_empty()
+}
+
+/// Puts it into the table if a row can't do without it, and answers its number.
+fn kept<'a>(list: &mut Vec<More<'a>>, more: More<'a>) -> Result<u32, AllocError>
+    ensures grown { Grown list.old.items list.new.items }
+    ensures kept { IfOk result (λ number. Kept list.new.items number more.entry) }
+{
+    if lacks(&more) {
+        return Ok(0);
+    }
+    list.push(more)?;
+    let number = narrow(list.len())?;
+    Ok(number)
+}
+
+/// The row of an event, whose properties and the like are put into the table.
+pub fn row_of<'a>(
+    list: &mut Vec<More<'a>>,
+    event: PlacedEvent<'a>,
+) -> Result<PackedRow<'a>, AllocError>
+    ensures grown { Grown list.old.items list.new.items }
+    ensures row { IfOk result (λ r. RowOf list.new.items r (placed_value event.entry)) }
+{
+    let PlacedEvent {
+        event,
+        span,
+        tag_offset,
+        entry,
+        folded,
+    } = event;
+    let taken = taken_apart(event);
+    let stretch = narrow_span(span)?;
+    let beginning = narrow_entry(entry)?;
+    let Taken {
+        shape,
+        props,
+        part,
+        owned,
+    } = taken;
+    let more = kept(
+        list,
+        More {
+            props,
+            tag_offset,
+            text: owned,
+            folded,
+        },
+    )?;
+    Ok(PackedRow {
+        shape,
+        placed: stretch.placed,
+        begins: beginning.begins,
+        start: stretch.start,
+        end: stretch.end,
+        entry: beginning.start,
+        colon: beginning.colon,
+        more,
+        text: part,
+    })
+}

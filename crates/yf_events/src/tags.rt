@@ -1,0 +1,112 @@
+//! The resolved tags of events.
+ghost use Rattle.std.specs.Prelude.{◌≡◌, ◌<◌, ℕ, [], ◌∷◌, ◌++◌, length, slice_get, Some, None, IfOk, MatchResult, if◌then◌else◌, is_ok};
+ghost use Rattle.yf_events.specs.Tags.{event_at, tag_at};
+ghost use Rattle.yf_props.specs.Props.{name_value};
+
+use std::alloc::{AllocError, Global};
+use std::marker::Model;
+use yf_props::resolved::ResolvedTag;
+
+/// A resolved tag, with the index of the event that begins its node.
+#[derive(Debug, Drop)]
+pub struct TaggedEvent<'a> {
+    event: usize,
+    tag: ResolvedTag<'a>,
+}
+
+/// For each event the resolved tag of the node that it begins, where a tag is written (section 6.9.1). An event without
+/// a tag takes no memory. In a contract it is the list that has for each event its tag or none.
+#[derive(Debug, Drop)]
+pub struct Tags<'a> {
+    count: usize,
+    tagged: Vec<TaggedEvent<'a>>,
+}
+
+impl<'a> Model for Tags<'a> {
+    ghost use Rattle.std.specs.Prelude.{List, Option, ℕ};
+    ghost use Rattle.yf_events.specs.Tags.{Rises, tags_listed};
+
+    ghost Value = { List (Option (List ℕ)) };
+
+    ghost view = { λ t. tags_listed t.count t.tagged.items };
+
+    ghost invariant = { λ t. Rises t.count t.tagged.items };
+}
+
+impl<'a> Tags<'a> {
+    pub fn new(alloc: Global) -> Tags<'a>
+        ensures { result ≡ [] }
+    {
+        Tags {
+            count: 0,
+            tagged: Vec::new(alloc),
+        }
+    }
+
+    /// For how many events it tells.
+    pub fn len(&self) -> usize
+        ensures { result ≡ length self.now }
+    {
+        self.count
+    }
+
+    /// Adds what the next event has.
+    pub fn push(&mut self, tag: Option<ResolvedTag<'a>>) -> Result<(), AllocError>
+        ensures { self.new ≡ (if is_ok result then self.old ++ tag.entry ∷ [] else self.old) }
+    {
+        let event = self.count;
+        let Some(count) = event.checked_add(1) else {
+            return Err(AllocError);
+        };
+        if let Some(tag) = tag {
+            self.tagged.push(TaggedEvent { event, tag })?;
+        }
+        self.count = count;
+        Ok(())
+    }
+
+    /// The resolved tag of the event at an index.
+    pub fn at(&self, i: usize) -> Option<&ResolvedTag<'a>>
+        requires { i < length self.now }
+        ensures { slice_get self.now i ≡ Some (name_value result) }
+    {
+        match place_of(self.tagged.as_slice(), i) {
+            Ok(place) => Some(&self.tagged[place].tag),
+            Err(_) => None,
+        }
+    }
+
+    /// The same tags, which share the texts of these.
+    pub fn lent(&self, alloc: Global) -> Result<Tags<'_>, AllocError>
+        ensures { IfOk result (λ copy. copy ≡ self.now) }
+    {
+        Ok(Tags {
+            count: self.count,
+            tagged: all_lent(alloc, self.tagged.as_slice())?,
+        })
+    }
+}
+
+// Where the tag of an event is, or that it has none.
+fn place_of(tagged: &[TaggedEvent], event: usize) -> Result<usize, usize>
+    requires { (j k : ℕ) → j < k → k < length tagged.now → event_at tagged.now j < event_at tagged.now k }
+    ensures { MatchResult result (λ k. (k < length tagged.now) × (event_at tagged.now k ≡ event)) (λ _. tag_at tagged.now event ≡ None) }
+{
+    tagged.binary_search_by_key(&event, |tagged| tagged.event)
+}
+
+fn all_lent<'r>(
+    alloc: Global,
+    tagged: &'r [TaggedEvent],
+) -> Result<Vec<TaggedEvent<'r>>, AllocError>
+    ensures { IfOk result (λ copy. copy.items ≡ tagged.now) }
+{
+    let mut copy = Vec::new(alloc);
+    for one in tagged {
+        copy.push(TaggedEvent {
+            event: one.event,
+            tag: one.tag.lent(),
+        })?;
+    }
+    Ok(copy)
+}
