@@ -1,14 +1,12 @@
 -- What holds between two steps of the reader: the places that it keeps lie between characters, and less of the text is
 -- left at each step.
 use Rattle.std.specs.Prelude.{◌≡◌, ℕ, ◌+◌, ◌-◌, ◌*◌, ◌≤◌, List, Option, Some, None}
-use Rattle.std.specs.List.{All}
 use Rattle.std.specs.Str.{IsCharBoundary}
 use Rattle.yf_lines.specs.declared.fault.Fault.{Fault}
 use Rattle.yf_flow.specs.Machine.{Place, EndingAt}
 use Rattle.yf_flow.specs.declared.nodes.Ending.{Ending}
 use Rattle.yf_flow.specs.declared.nodes.Ending.TheVariants.{End, Nothing as NoEnd, TooDeep as TooDeepThere}
 use Rattle.yf_block.specs.declared.frame.Progress.{Progress}
-use Rattle.yf_block.specs.declared.frame.State.{State}
 use Rattle.yf_block.specs.declared.frame.Step.{Step}
 use Rattle.yf_block.specs.declared.frame.Step.TheVariants.{Node, Line, Resume, Done, Failed, TooDeep}
 use Rattle.yf_block.specs.declared.halt.Halt.{Halt}
@@ -19,7 +17,7 @@ use Rattle.yf_block.specs.declared.resume.Fit.TheVariants.{Item, Entry as EntryA
 use Rattle.yf_block.specs.declared.nodes.Outcome.{Outcome}
 use Rattle.yf_block.specs.declared.nodes.Outcome.TheVariants.{Found, Nothing as NoNode, TooDeep as TooDeepHere}
 use Rattle.yf_block.specs.declared.nodes.Stop.{Stop}
-use Rattle.yf_block.specs.declared.nodes.Stop.TheVariants.{At, TooDeep as TooDeepAt}
+use Rattle.yf_block.specs.declared.nodes.Stop.TheVariants.{Done as DoneAt, Failed as FailedAt, TooDeep as TooDeepAt}
 
 -- a place at which all open nodes may end
 pub record HaltAt (t : List ℕ) (h : Halt) : Type 0 where
@@ -32,25 +30,22 @@ MayHalt t (Some h) = HaltAt t h
 
 pub record ProgressAt (t : List ℕ) (p : Progress) : Type 0 where
   pub floor : IsCharBoundary t p.floor
+  pub from : IsCharBoundary t p.from
   pub halt : MayHalt t p.halt
 
 -- a step from an offset on
 abbrev pub StepReady : List ℕ → ℕ → Step → Type 0
-StepReady t at (Node node) = Place t at node.at
-StepReady t at (Line line) = Place t at line.at × IsCharBoundary t line.from
+StepReady t at (Node p) = Place t at p
+StepReady t at (Line p) = Place t at p
 StepReady t at (Resume p) = Place t at p
 StepReady t at (Done p) = IsCharBoundary t p
 StepReady t at (Failed p) = IsCharBoundary t p
 StepReady t at (TooDeep p) = IsCharBoundary t p
 
-pub record Ready (t : List ℕ) (at : ℕ) (s : State) : Type 0 where
-  pub progress : ProgressAt t s.progress
-  pub step : StepReady t at s.step
-
 -- how much is left to do of n bytes
 abbrev pub left : ℕ → Step → ℕ
-left n (Node node) = 3 * (n - node.at) + 3
-left n (Line line) = 3 * (n - line.at) + 2
+left n (Node p) = 3 * (n - p) + 3
+left n (Line p) = 3 * (n - p) + 2
 left n (Resume p) = 3 * (n - p) + 1
 left n (Done p) = 0
 left n (Failed p) = 0
@@ -67,11 +62,12 @@ behind_held at None = at + 1
 behind_held at (Some held) = held.end
 
 abbrev pub StopAt : List ℕ → Stop → Type 0
-StopAt t (At p) = IsCharBoundary t p
+StopAt t (DoneAt p) = IsCharBoundary t p
+StopAt t (FailedAt p) = IsCharBoundary t p
 StopAt t (TooDeepAt p) = IsCharBoundary t p
 
 abbrev pub OutcomeAt : List ℕ → ℕ → Outcome → Type 0
-OutcomeAt t at (Found f) = Place t (at + 1) f.end × IsCharBoundary t f.reached × IsCharBoundary t f.floor × All (IsCharBoundary t) f.part.escapes
+OutcomeAt t at (Found f) = Place t (at + 1) f.end × IsCharBoundary t f.reached × IsCharBoundary t f.floor
 OutcomeAt t at (NoNode p) = IsCharBoundary t p
 OutcomeAt t at (TooDeepHere p) = IsCharBoundary t p
 
@@ -86,7 +82,7 @@ MayBoundary t (Some plain) = IsCharBoundary t plain.at
 
 -- a node is awaited at an offset
 abbrev pub IsNodeAt : ℕ → Step → Type 0
-IsNodeAt p (Node node) = node.at ≡ p
+IsNodeAt p (Node q) = q ≡ p
 IsNodeAt p _ = ⊥
 
 abbrev pub IsEndAt : ℕ → Ending → Type 0

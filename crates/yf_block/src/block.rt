@@ -7,7 +7,11 @@ ghost use Rattle.yf_flow.specs.Machine.{Place, IsReadFault, IsScanFault};
 use crate::nodes::{Found, Outcome, block_node_in};
 use std::alloc::{AllocError, Global};
 use yf_chars::context::Ctx;
+use yf_events::comments::Comments;
+use yf_events::events::Events;
+use yf_events::part::Part;
 use yf_events::reading::DEPTH;
+use yf_events::row::Row;
 use yf_flow::flow::{NodePart, ScannedPart, first_escape};
 use yf_lines::fault::Fault;
 use yf_lines::source_text::Src;
@@ -73,11 +77,11 @@ pub fn scan_block_node<'a>(
     ensures place { MatchResult result (λ o. IfSome o (λ p. Place src.now.text (at + 1) p.end)) (IsScanFault src.now.text) }
     ensures escapes { IfOk result (λ o. IfSome o (λ p. IsFirstPlace src.now.text p.part.escapes p.escape)) }
 {
-    match block_node_in(alloc, src.text(), at, n, ctx, DEPTH) {
+    let mut part = new_part(alloc);
+    match block_node_in(alloc, src.text(), at, n, ctx, DEPTH, &mut part) {
         Ok(
             Outcome::Found(
                 Found {
-                    part,
                     end,
                     reached: _,
                     floor: _,
@@ -92,5 +96,15 @@ pub fn scan_block_node<'a>(
             place: src.place(offset),
         }),
         Err(AllocError) => Err(Fault::Memory),
+    }
+}
+
+fn new_part<'a>(alloc: Global) -> Part<'a>
+    ensures { result.escapes ≡ [] }
+{
+    Part {
+        events: Events::new(alloc),
+        comments: Comments::new(alloc),
+        escapes: Row::new(alloc),
     }
 }

@@ -3,10 +3,10 @@ ghost use Rattle.std.specs.Prelude.{◌+◌, ◌-◌, ◌*◌, ◌≤◌, length
 ghost use Rattle.std.specs.List.{All};
 ghost use Rattle.std.specs.Str.{IsCharBoundary};
 ghost use Rattle.yf_flow.specs.Machine.{Place};
-ghost use Rattle.yf_block.specs.Machine.{Ready, left, ProgressAt, HeldTo};
+ghost use Rattle.yf_block.specs.Machine.{StepReady, left, ProgressAt, HeldTo};
 
 use crate::entry::open_mapping;
-use crate::frame::{Frames, Progress, Scope, State, Step, Wanted};
+use crate::frame::{Frames, Progress, Scope, Step, Wanted};
 use crate::halt::Counts;
 use crate::held::{Held, joined, joined_behind, lead_of, line_properties, place_behind};
 use crate::inline::{finish_inline, read_inline};
@@ -22,13 +22,10 @@ use yf_lines::basic::skip_whites;
 
 /// A place of a line at which the text of a node begins.
 #[derive(Clone, Copy)]
-pub(crate) struct Spot<'a> {
+pub(crate) struct Spot {
     pub(crate) at: usize,
     /// The column of a collection that may begin there.
     pub(crate) column: Option<usize>,
-    /// The properties that stand on lines before.
-    pub(crate) outer: Option<Held<'a>>,
-    pub(crate) wanted: Wanted,
 }
 
 /// What stands after the properties of a line.
@@ -38,7 +35,7 @@ pub(crate) struct Behind<'a> {
     /// The properties of the line.
     pub(crate) inner: Option<Held<'a>>,
     /// Where the text of the node begins.
-    pub(crate) spot: Spot<'a>,
+    pub(crate) spot: Spot,
 }
 
 /// To which node the properties belong that stand on lines before.
@@ -65,21 +62,22 @@ pub(crate) struct Claim<'a> {
 pub(crate) fn take_content<'a>(
     alloc: Global,
     scope: Scope<'a>,
-    spot: Spot<'a>,
-    progress: Progress<'a>,
+    spot: Spot,
+    progress: &mut Progress<'a>,
     frames: &mut Frames,
     part: &mut Part<'a>,
-) -> Result<State<'a>, AllocError>
+) -> Result<Step, AllocError>
     requires boundary { IsCharBoundary scope.text.now spot.at }
-    requires progress { ProgressAt scope.text.now progress }
+    requires progress { ProgressAt scope.text.now progress.old }
     requires escapes { All (IsCharBoundary scope.text.now) part.old.escapes }
-    ensures ready { IfOk result (λ s. Ready scope.entry.text.now (spot.entry.at) s) }
-    ensures moves { IfOk result (λ s. left (length scope.entry.text.now) s.step ≤ 3 * (length scope.entry.text.now - spot.entry.at)) }
+    ensures progress { IfOk result (λ _. ProgressAt scope.entry.text.now progress.new) }
+    ensures ready { IfOk result (λ s. StepReady scope.entry.text.now (spot.at) s) }
+    ensures moves { IfOk result (λ s. left (length scope.entry.text.now) s ≤ 3 * (length scope.entry.text.now - spot.at)) }
     ensures escapes { IfOk result (λ _. All (IsCharBoundary scope.entry.text.now) part.new.escapes) }
 {
     if let Some(column) = spot.column {
         if entry_sign_stands(scope.text, spot.at) {
-            return open_mapping(alloc, scope, spot, column, progress, frames, part);
+            return open_mapping(alloc, scope, spot.at, column, progress, frames, part);
         }
     }
     match line_properties(alloc, scope.text, spot.at)? {
@@ -89,7 +87,7 @@ pub(crate) fn take_content<'a>(
                 inner: None,
                 spot,
             };
-            take_behind(alloc, scope, behind, progress, frames, part)
+            take_behind(alloc, scope, &behind, progress, frames, part)
         }
         Some(inner) => take_propertied(alloc, scope, inner, spot, progress, frames, part),
     }
@@ -108,43 +106,39 @@ fn take_propertied<'a>(
     alloc: Global,
     scope: Scope<'a>,
     inner: Held<'a>,
-    spot: Spot<'a>,
-    progress: Progress<'a>,
+    spot: Spot,
+    progress: &mut Progress<'a>,
     frames: &mut Frames,
     part: &mut Part<'a>,
-) -> Result<State<'a>, AllocError>
+) -> Result<Step, AllocError>
     requires boundary { IsCharBoundary scope.text.now spot.at }
     requires inner { Place scope.text.now (spot.at + 1) inner.end }
-    requires progress { ProgressAt scope.text.now progress }
+    requires progress { ProgressAt scope.text.now progress.old }
     requires escapes { All (IsCharBoundary scope.text.now) part.old.escapes }
-    ensures ready { IfOk result (λ s. Ready scope.entry.text.now (spot.entry.at) s) }
-    ensures moves { IfOk result (λ s. left (length scope.entry.text.now) s.step ≤ 3 * (length scope.entry.text.now - spot.entry.at)) }
+    ensures progress { IfOk result (λ _. ProgressAt scope.entry.text.now progress.new) }
+    ensures ready { IfOk result (λ s. StepReady scope.entry.text.now (spot.at) s) }
+    ensures moves { IfOk result (λ s. left (length scope.entry.text.now) s ≤ 3 * (length scope.entry.text.now - spot.at)) }
     ensures escapes { IfOk result (λ _. All (IsCharBoundary scope.entry.text.now) part.new.escapes) }
 {
     let place = skip_whites(scope.text, inner.end);
     if line_ends(scope.text, place, place > inner.end) {
-        return match joined_behind(spot.outer, inner) {
-            None => Ok(progress.and_then(Step::Failed(spot.at))),
-            Some(outer) => end_line(
-                alloc,
-                scope.text,
-                inner.end,
-                Some(outer),
-                spot.wanted,
-                progress,
-                part,
-            ),
+        return match joined_behind(progress.wanted.outer, inner) {
+            None => Ok(Step::Failed(spot.at)),
+            Some(outer) => {
+                progress.wanted.outer = Some(outer);
+                end_line(alloc, scope.text, inner.end, progress, part)
+            }
         };
     }
     match place_behind(scope.text, inner) {
-        None => Ok(progress.and_then(Step::Failed(place))),
+        None => Ok(Step::Failed(place)),
         Some(at) => {
             let behind = Behind {
                 at,
                 inner: Some(inner),
                 spot,
             };
-            take_behind(alloc, scope, behind, progress, frames, part)
+            take_behind(alloc, scope, &behind, progress, frames, part)
         }
     }
 }
@@ -153,30 +147,32 @@ fn take_propertied<'a>(
 fn take_behind<'a>(
     alloc: Global,
     scope: Scope<'a>,
-    behind: Behind<'a>,
-    progress: Progress<'a>,
+    behind: &Behind<'a>,
+    progress: &mut Progress<'a>,
     frames: &mut Frames,
     part: &mut Part<'a>,
-) -> Result<State<'a>, AllocError>
-    requires boundary { IsCharBoundary scope.text.now behind.at }
-    requires start { IsCharBoundary scope.text.now behind.spot.at }
-    requires held { HeldTo scope.text.now behind.spot.at behind.at behind.inner }
-    requires progress { ProgressAt scope.text.now progress }
+) -> Result<Step, AllocError>
+    requires boundary { IsCharBoundary scope.text.now behind.now.at }
+    requires start { IsCharBoundary scope.text.now behind.now.spot.at }
+    requires held { HeldTo scope.text.now behind.now.spot.at behind.now.at behind.now.inner }
+    requires progress { ProgressAt scope.text.now progress.old }
     requires escapes { All (IsCharBoundary scope.text.now) part.old.escapes }
-    ensures ready { IfOk result (λ s. Ready scope.entry.text.now (behind.entry.spot.at) s) }
-    ensures moves { IfOk result (λ s. left (length scope.entry.text.now) s.step ≤ 3 * (length scope.entry.text.now - behind.entry.spot.at)) }
+    ensures progress { IfOk result (λ _. ProgressAt scope.entry.text.now progress.new) }
+    ensures ready { IfOk result (λ s. StepReady scope.entry.text.now (behind.now.spot.at) s) }
+    ensures moves { IfOk result (λ s. left (length scope.entry.text.now) s ≤ 3 * (length scope.entry.text.now - behind.now.spot.at)) }
     ensures escapes { IfOk result (λ _. All (IsCharBoundary scope.entry.text.now) part.new.escapes) }
 {
-    let claim = claim_of(scope.text, behind, part);
+    let claim = claim_of(scope.text, behind, &progress.wanted, part);
+    let least = progress.wanted.least;
     if block_scalar_stands(scope.text, behind.at) {
         return match claim.share {
-            Share::Apart => Ok(progress.and_then(Step::Failed(behind.spot.at))),
+            Share::Apart => Ok(Step::Failed(behind.spot.at)),
             Share::Nothing | Share::Joined => take_block_scalar(
                 alloc,
                 scope,
                 behind.at,
-                claim.lead,
-                behind.spot.wanted.least,
+                &claim.lead,
+                least,
                 progress,
                 frames,
                 part,
@@ -186,18 +182,18 @@ fn take_behind<'a>(
     match read_inline(
         alloc,
         scope,
-        behind.spot.wanted.least,
+        least,
         behind.at,
-        behind.inner,
-        claim.lead,
+        &behind.inner,
+        &claim.lead,
         frames.len(),
         part,
     )? {
         Ending::End(node) => finish_inline(
-            alloc, scope, behind, claim, node, progress, frames, part,
+            alloc, scope, behind, &claim, node, progress, frames, part,
         ),
-        Ending::Nothing => Ok(progress.and_then(Step::Failed(behind.at))),
-        Ending::TooDeep(place) => Ok(progress.and_then(Step::TooDeep(place))),
+        Ending::Nothing => Ok(Step::Failed(behind.at)),
+        Ending::TooDeep(place) => Ok(Step::TooDeep(place)),
     }
 }
 
@@ -210,11 +206,15 @@ fn block_scalar_stands(text: &str, at: usize) -> bool {
 }
 
 // What is known of the node after the properties of a line, as long as it is not known whether it is a key.
-fn claim_of<'a>(text: &str, behind: Behind<'a>, part: &Part<'a>) -> Claim<'a> {
-    let spot = behind.spot;
+fn claim_of<'a>(
+    text: &str,
+    behind: &Behind<'a>,
+    wanted: &Wanted<'a>,
+    part: &Part<'a>,
+) -> Claim<'a> {
     let before = Counts::of(part);
-    let own = lead_of(spot.at, behind.inner, spot.wanted.entry);
-    match spot.outer {
+    let own = lead_of(behind.spot.at, behind.inner, wanted.entry);
+    match wanted.outer {
         None => Claim {
             lead: own,
             share: Share::Nothing,
@@ -227,7 +227,7 @@ fn claim_of<'a>(text: &str, behind: Behind<'a>, part: &Part<'a>) -> Claim<'a> {
             };
             match whole {
                 Some(held) if !stands(text, behind.at, b'*') => Claim {
-                    lead: held.lead(spot.wanted.entry),
+                    lead: held.lead(wanted.entry),
                     share: Share::Joined,
                     before,
                 },

@@ -2,11 +2,10 @@
 ghost use Rattle.std.specs.Prelude.{◌≡◌, ◌+◌, ◌-◌, ◌*◌, ◌^◌, ◌<◌, ◌≤◌, length, IfOk};
 ghost use Rattle.std.specs.List.{All};
 ghost use Rattle.std.specs.Str.{IsCharBoundary};
-ghost use Rattle.yf_block.specs.Machine.{Ready, left, ProgressAt, IsNodeAt};
+ghost use Rattle.yf_block.specs.Machine.{StepReady, left, ProgressAt, IsNodeAt};
 
-use crate::content::Spot;
-use crate::frame::{Awaited, Frame, Frames, Kind, Progress, Scope, State, Step, Wanted};
-use crate::held::{Held, lead_of, line_properties, place_behind};
+use crate::frame::{Frame, Frames, Kind, Progress, Scope, Step, Wanted};
+use crate::held::{lead_of, line_properties, place_behind};
 use crate::inline::read_inline;
 use crate::look::{is_blank_after, key_ends, sign_stands};
 use std::alloc::{AllocError, Global};
@@ -27,15 +26,14 @@ pub(crate) fn entry_at(text: &str, floor: usize, start: usize, colon: Option<usi
     }
 }
 
-/// The event that begins a block collection. Where the collection ends is noted once it has been read.
+/// The event that begins a block collection as the awaited node. Where the collection ends is noted once it has been read.
 pub(crate) fn collection_start<'a>(
     alloc: Global,
     kind: Kind,
     at: usize,
-    outer: Option<Held<'a>>,
-    entry: Option<Entry>,
+    wanted: &Wanted<'a>,
 ) -> PlacedEvent<'a> {
-    let lead = lead_of(at, outer, entry);
+    let lead = lead_of(at, wanted.outer, wanted.entry);
     let event = match kind {
         Kind::Sequence => NewEvent::SeqStart {
             flow: false,
@@ -54,32 +52,27 @@ pub(crate) fn collection_start<'a>(
 pub(crate) fn open_sequence<'a>(
     alloc: Global,
     scope: Scope<'a>,
-    spot: Spot<'a>,
+    at: usize,
     column: usize,
-    progress: Progress<'a>,
+    progress: &mut Progress<'a>,
     frames: &mut Frames,
     part: &mut Part<'a>,
-) -> Result<State<'a>, AllocError>
-    requires boundary { IsCharBoundary scope.text.now spot.at }
-    requires behind { IsCharBoundary scope.text.now (spot.at + 1) }
-    requires progress { ProgressAt scope.text.now progress }
-    ensures ready { IfOk result (λ s. Ready scope.entry.text.now (spot.entry.at) s) }
-    ensures moves { IfOk result (λ s. left (length scope.entry.text.now) s.step ≤ 3 * (length scope.entry.text.now - spot.entry.at)) }
+) -> Result<Step, AllocError>
+    requires boundary { IsCharBoundary scope.text.now at }
+    requires behind { IsCharBoundary scope.text.now (at + 1) }
+    requires progress { ProgressAt scope.text.now progress.old }
+    ensures progress { IfOk result (λ _. ProgressAt scope.entry.text.now progress.new) }
+    ensures ready { IfOk result (λ s. StepReady scope.entry.text.now at s) }
+    ensures moves { IfOk result (λ s. left (length scope.entry.text.now) s ≤ 3 * (length scope.entry.text.now - at)) }
     ensures escapes { IfOk result (λ _. part.new.escapes ≡ part.old.escapes) }
 {
     let frame = Frame::new(Kind::Sequence, column, part.events.len());
     if frames.len() >= scope.limit {
-        return Ok(progress.and_then(Step::TooDeep(spot.at)));
+        return Ok(Step::TooDeep(at));
     }
-    let start = collection_start(
-        alloc,
-        Kind::Sequence,
-        spot.at,
-        spot.outer,
-        spot.wanted.entry,
-    );
+    let start = collection_start(alloc, Kind::Sequence, at, &progress.wanted);
     part.events.push(start)?;
-    take_item(scope.text, spot.at, frame, progress, frames)
+    take_item(scope.text, at, frame, progress, frames)
 }
 
 /// The entry of a sequence whose `-` stands at an offset.
@@ -87,66 +80,70 @@ pub(crate) fn take_item<'a>(
     text: &str,
     at: usize,
     frame: Frame,
-    progress: Progress<'a>,
+    progress: &mut Progress<'a>,
     frames: &mut Frames,
-) -> Result<State<'a>, AllocError>
+) -> Result<Step, AllocError>
     requires behind { IsCharBoundary text.now (at + 1) }
-    requires progress { ProgressAt text.now progress }
-    ensures ready { IfOk result (λ s. Ready text.now (at) s) }
-    ensures moves { IfOk result (λ s. left (length text.now) s.step ≤ 3 * (length text.now - at)) }
+    requires progress { ProgressAt text.now progress.old }
+    ensures progress { IfOk result (λ _. ProgressAt text.now progress.new) }
+    ensures ready { IfOk result (λ s. StepReady text.now at s) }
+    ensures moves { IfOk result (λ s. left (length text.now) s ≤ 3 * (length text.now - at)) }
 {
     frames.push(frame)?;
     let entry = entry_at(text, progress.floor, at, None);
-    Ok(behind_indicator(at, true, false, frame.column, Some(entry), progress))
+    Ok(await_node(at, true, false, frame.column, Some(entry), progress))
 }
 
 // The node that is awaited after an indicator in a collection of that column.
-fn behind_indicator<'a>(
+fn await_node<'a>(
     at: usize,
     compact: bool,
     out: bool,
     column: usize,
     entry: Option<Entry>,
-    progress: Progress<'a>,
-) -> State<'a>
+    progress: &mut Progress<'a>,
+) -> Step
     requires { at + 1 < 2 ^ 64 }
-    ensures floor { result.progress.floor ≡ progress.entry.floor }
-    ensures halt { result.progress.halt ≡ progress.entry.halt }
-    ensures step { IsNodeAt (at + 1) result.step }
+    ensures floor { progress.new.floor ≡ progress.old.floor }
+    ensures from { progress.new.from ≡ progress.old.from }
+    ensures halt { progress.new.halt ≡ progress.old.halt }
+    ensures step { IsNodeAt (at + 1) result }
 {
-    let wanted = Wanted {
+    progress.last = at + 1;
+    progress.wanted = Wanted {
         least: column.saturating_add(1),
         out,
-        entry,
-    };
-    progress.reaching(at + 1).and_then(Step::Node(Awaited {
-        at: at + 1,
         compact,
-        wanted,
-    }))
+        entry,
+        outer: None,
+    };
+    Step::Node(at + 1)
 }
 
 /// The value after the `:` of an implicit key, or of an empty one.
-pub(crate) fn await_value<'a>(colon: usize, column: usize, progress: Progress<'a>) -> State<'a>
+pub(crate) fn await_value<'a>(colon: usize, column: usize, progress: &mut Progress<'a>) -> Step
     requires { colon + 1 < 2 ^ 64 }
-    ensures floor { result.progress.floor ≡ progress.entry.floor }
-    ensures halt { result.progress.halt ≡ progress.entry.halt }
-    ensures step { IsNodeAt (colon + 1) result.step }
+    ensures floor { progress.new.floor ≡ progress.old.floor }
+    ensures from { progress.new.from ≡ progress.old.from }
+    ensures halt { progress.new.halt ≡ progress.old.halt }
+    ensures step { IsNodeAt (colon + 1) result }
 {
-    behind_indicator(colon, false, true, column, None, progress)
+    await_node(colon, false, true, column, None, progress)
 }
 
 /// The value after the `:` of an entry with a `?` (l-block-map-explicit-value, production 191).
 pub(crate) fn take_explicit_value<'a>(
     colon: usize,
     frame: Frame,
-    progress: Progress<'a>,
+    progress: &mut Progress<'a>,
     frames: &mut Frames,
     part: &mut Part<'a>,
-) -> Result<State<'a>, AllocError>
+) -> Result<Step, AllocError>
     requires { colon + 1 < 2 ^ 64 }
-    ensures progress { IfOk result (λ s. (s.progress.floor ≡ progress.entry.floor) × (s.progress.halt ≡ progress.entry.halt)) }
-    ensures step { IfOk result (λ s. IsNodeAt (colon + 1) s.step) }
+    ensures floor { IfOk result (λ _. progress.new.floor ≡ progress.old.floor) }
+    ensures from { IfOk result (λ _. progress.new.from ≡ progress.old.from) }
+    ensures halt { IfOk result (λ _. progress.new.halt ≡ progress.old.halt) }
+    ensures step { IfOk result (λ s. IsNodeAt (colon + 1) s) }
     ensures escapes { IfOk result (λ _. part.new.escapes ≡ part.old.escapes) }
 {
     part.events.set_colon(frame.entry_event, colon)?;
@@ -154,7 +151,7 @@ pub(crate) fn take_explicit_value<'a>(
         awaits_colon: false,
         ..frame
     })?;
-    Ok(behind_indicator(colon, true, true, frame.column, None, progress))
+    Ok(await_node(colon, true, true, frame.column, None, progress))
 }
 
 /// Opens the mapping whose first entry begins with the `?` or the `:` at the place (l+block-mapping, production 187;
@@ -162,26 +159,27 @@ pub(crate) fn take_explicit_value<'a>(
 pub(crate) fn open_mapping<'a>(
     alloc: Global,
     scope: Scope<'a>,
-    spot: Spot<'a>,
+    at: usize,
     column: usize,
-    progress: Progress<'a>,
+    progress: &mut Progress<'a>,
     frames: &mut Frames,
     part: &mut Part<'a>,
-) -> Result<State<'a>, AllocError>
-    requires boundary { IsCharBoundary scope.text.now spot.at }
-    requires progress { ProgressAt scope.text.now progress }
+) -> Result<Step, AllocError>
+    requires boundary { IsCharBoundary scope.text.now at }
+    requires progress { ProgressAt scope.text.now progress.old }
     requires escapes { All (IsCharBoundary scope.text.now) part.old.escapes }
-    ensures ready { IfOk result (λ s. Ready scope.entry.text.now (spot.entry.at) s) }
-    ensures moves { IfOk result (λ s. left (length scope.entry.text.now) s.step ≤ 3 * (length scope.entry.text.now - spot.entry.at)) }
+    ensures progress { IfOk result (λ _. ProgressAt scope.entry.text.now progress.new) }
+    ensures ready { IfOk result (λ s. StepReady scope.entry.text.now at s) }
+    ensures moves { IfOk result (λ s. left (length scope.entry.text.now) s ≤ 3 * (length scope.entry.text.now - at)) }
     ensures escapes { IfOk result (λ _. All (IsCharBoundary scope.entry.text.now) part.new.escapes) }
 {
     let frame = Frame::new(Kind::Mapping, column, part.events.len());
     if frames.len() >= scope.limit {
-        return Ok(progress.and_then(Step::TooDeep(spot.at)));
+        return Ok(Step::TooDeep(at));
     }
-    let start = collection_start(alloc, Kind::Mapping, spot.at, spot.outer, spot.wanted.entry);
+    let start = collection_start(alloc, Kind::Mapping, at, &progress.wanted);
     part.events.push(start)?;
-    take_entry(alloc, scope, spot.at, frame, progress, frames, part)
+    take_entry(alloc, scope, at, frame, progress, frames, part)
 }
 
 /// The entry of a mapping that begins at an offset (ns-l-block-map-entry, production 188).
@@ -190,15 +188,16 @@ pub(crate) fn take_entry<'a>(
     scope: Scope<'a>,
     at: usize,
     frame: Frame,
-    progress: Progress<'a>,
+    progress: &mut Progress<'a>,
     frames: &mut Frames,
     part: &mut Part<'a>,
-) -> Result<State<'a>, AllocError>
+) -> Result<Step, AllocError>
     requires boundary { IsCharBoundary scope.text.now at }
-    requires progress { ProgressAt scope.text.now progress }
+    requires progress { ProgressAt scope.text.now progress.old }
     requires escapes { All (IsCharBoundary scope.text.now) part.old.escapes }
-    ensures ready { IfOk result (λ s. Ready scope.entry.text.now (at) s) }
-    ensures moves { IfOk result (λ s. left (length scope.entry.text.now) s.step ≤ 3 * (length scope.entry.text.now - at)) }
+    ensures progress { IfOk result (λ _. ProgressAt scope.entry.text.now progress.new) }
+    ensures ready { IfOk result (λ s. StepReady scope.entry.text.now at s) }
+    ensures moves { IfOk result (λ s. left (length scope.entry.text.now) s ≤ 3 * (length scope.entry.text.now - at)) }
     ensures escapes { IfOk result (λ _. All (IsCharBoundary scope.entry.text.now) part.new.escapes) }
 {
     let entry = entry_at(scope.text, progress.floor, at, None);
@@ -208,7 +207,8 @@ pub(crate) fn take_entry<'a>(
             entry_event: part.events.len(),
             ..frame
         })?;
-        return Ok(behind_indicator(at, true, true, frame.column, Some(entry), progress));
+        progress.colons = progress.colons.saturating_add(1);
+        return Ok(await_node(at, true, true, frame.column, Some(entry), progress));
     }
     frames.push(Frame {
         awaits_colon: false,
@@ -231,15 +231,16 @@ fn take_key<'a>(
     scope: Scope<'a>,
     column: usize,
     entry: Entry,
-    progress: Progress<'a>,
+    progress: &mut Progress<'a>,
     frames: &mut Frames,
     part: &mut Part<'a>,
-) -> Result<State<'a>, AllocError>
+) -> Result<Step, AllocError>
     requires boundary { IsCharBoundary scope.text.now entry.start }
-    requires progress { ProgressAt scope.text.now progress }
+    requires progress { ProgressAt scope.text.now progress.old }
     requires escapes { All (IsCharBoundary scope.text.now) part.old.escapes }
-    ensures ready { IfOk result (λ s. Ready scope.entry.text.now (entry.start) s) }
-    ensures moves { IfOk result (λ s. left (length scope.entry.text.now) s.step ≤ 3 * (length scope.entry.text.now - entry.start)) }
+    ensures progress { IfOk result (λ _. ProgressAt scope.entry.text.now progress.new) }
+    ensures ready { IfOk result (λ s. StepReady scope.entry.text.now (entry.start) s) }
+    ensures moves { IfOk result (λ s. left (length scope.entry.text.now) s ≤ 3 * (length scope.entry.text.now - entry.start)) }
     ensures escapes { IfOk result (λ _. All (IsCharBoundary scope.entry.text.now) part.new.escapes) }
 {
     let start = entry.start;
@@ -249,22 +250,22 @@ fn take_key<'a>(
         Some(held) => place_behind(scope.text, held),
     };
     match place {
-        None => Ok(progress.and_then(Step::Failed(start))),
+        None => Ok(Step::Failed(start)),
         Some(at) => {
             let event = part.events.len();
             let lead = lead_of(start, inner, Some(entry));
             let least = column.saturating_add(1);
-            match read_inline(alloc, scope, least, at, inner, lead, frames.len(), part)? {
+            match read_inline(alloc, scope, least, at, &inner, &lead, frames.len(), part)? {
                 Ending::End(node) => {
                     let colon = skip_whites(scope.text, node.end);
                     if key_ends(scope.text, start, colon) {
                         part.events.set_colon(event, colon)?;
                         return Ok(await_value(colon, column, progress));
                     }
-                    Ok(progress.and_then(Step::Failed(colon)))
+                    Ok(Step::Failed(colon))
                 }
-                Ending::Nothing => Ok(progress.and_then(Step::Failed(at))),
-                Ending::TooDeep(deep) => Ok(progress.and_then(Step::TooDeep(deep))),
+                Ending::Nothing => Ok(Step::Failed(at)),
+                Ending::TooDeep(deep) => Ok(Step::TooDeep(deep)),
             }
         }
     }

@@ -12,7 +12,7 @@ use yf_chars::context::Ctx;
 use yf_events::event::{Entry, Event, NewEvent, ScalarStyle};
 use yf_events::events::Events;
 use yf_events::part::Part;
-use yf_flow::node::{empty_node, push_scalar, unplaced};
+use yf_flow::node::{Lead, empty_node, push_scalar, unplaced};
 use yf_lines::text::Text;
 use yf_plain::plain::read_plain_in;
 
@@ -29,24 +29,25 @@ struct Unended {
 // The open collections of a list of events, the outermost first.
 type Nest = SmallVec<Unended, 8>;
 
-/// Cuts a part back to what a halt keeps of it, and ends all nodes that are open in it.
+/// Cuts a part back to what a halt keeps of it, and ends all nodes that are open in it. Of the node that is owed it is known
+/// what stands before its content; the events from an index on are those of the block node.
 pub(crate) fn cut_back<'a>(
     alloc: Global,
     text: &'a str,
-    halt: Halt<'a>,
+    first: usize,
+    halt: &Halt,
+    lead: &Lead<'a>,
     part: &mut Part<'a>,
 ) -> Result<(), AllocError>
-    requires halt { HaltAt text.now halt }
+    requires halt { HaltAt text.now halt.now }
     requires escapes { All (IsCharBoundary text.now) part.old.escapes }
     ensures escapes { IfOk result (λ _. All (IsCharBoundary text.now) part.new.escapes) }
 {
-    part.events.truncate(halt.counts.events);
-    part.comments.truncate(halt.counts.comments);
-    part.escapes.truncate(halt.counts.escapes);
-    drop_colons(halt.end, part)?;
-    let last = push_owed(alloc, text, halt, part)?;
+    halt.counts.cut(part);
+    drop_colons(halt.end, first, part)?;
+    let last = push_owed(alloc, text, halt, lead, part)?;
     let mut nest = Nest::new(alloc);
-    for index in 0..part.events.len() {
+    for index in first..part.events.len() {
         pass(&part.events.event(index), index, &mut nest)?;
     }
     'nest: while let Some(collection) = nest.pop() {
@@ -56,11 +57,11 @@ pub(crate) fn cut_back<'a>(
     Ok(())
 }
 
-// Entries of a part whose `:` stands at its end or after have none in it.
-fn drop_colons(end: usize, part: &mut Part) -> Result<(), AllocError>
+// Entries of a part, from an event on, whose `:` stands at its end or after have none in it.
+fn drop_colons(end: usize, first: usize, part: &mut Part) -> Result<(), AllocError>
     ensures { part.new.escapes ≡ part.old.escapes }
 {
-    for index in 0..part.events.len() {
+    for index in first..part.events.len() {
         drop_colon(end, index, part)?;
     }
     Ok(())
@@ -92,31 +93,24 @@ fn drop_colon(end: usize, index: usize, part: &mut Part) -> Result<(), AllocErro
 fn push_owed<'a>(
     alloc: Global,
     text: &'a str,
-    halt: Halt<'a>,
+    halt: &Halt,
+    lead: &Lead<'a>,
     part: &mut Part<'a>,
 ) -> Result<usize, AllocError>
-    requires halt { HaltAt text.now halt }
+    requires halt { HaltAt text.now halt.now }
     ensures escapes { IfOk result (λ _. part.new.escapes ≡ part.old.escapes) }
 {
     match halt.owed {
         Owed::Nothing => Ok(halt.last),
-        Owed::Empty(None, entry) => {
-            part.events.push(empty_node(alloc, entry))?;
+        Owed::Empty => {
+            part.events.push(empty_node(alloc, lead.entry))?;
             Ok(halt.last)
         }
-        Owed::Empty(Some(held), entry) => {
-            let lead = held.lead(entry);
-            push_scalar(
-                alloc,
-                lead,
-                ScalarStyle::Plain,
-                Text::Part(""),
-                held.end,
-                part,
-            )?;
-            Ok(held.end)
+        Owed::Propertied(end) => {
+            push_scalar(alloc, *lead, ScalarStyle::Plain, Text::Part(""), end, part)?;
+            Ok(end)
         }
-        Owed::Shorter(plain) => push_shorter(alloc, text, halt, plain, part),
+        Owed::Shorter(plain) => push_shorter(alloc, text, halt, plain, lead, part),
     }
 }
 
@@ -124,11 +118,12 @@ fn push_owed<'a>(
 fn push_shorter<'a>(
     alloc: Global,
     text: &'a str,
-    halt: Halt<'a>,
-    plain: Plain<'a>,
+    halt: &Halt,
+    plain: Plain,
+    lead: &Lead<'a>,
     part: &mut Part<'a>,
 ) -> Result<usize, AllocError>
-    requires halt { HaltAt text.now halt }
+    requires halt { HaltAt text.now halt.now }
     ensures escapes { IfOk result (λ _. part.new.escapes ≡ part.old.escapes) }
 {
     part.events.truncate(plain.event);
@@ -144,7 +139,7 @@ fn push_shorter<'a>(
         Ctx::FlowOut,
     ) {
         Ok(Some((shorter, end))) => {
-            push_scalar(alloc, plain.lead, ScalarStyle::Plain, shorter, end, part)?;
+            push_scalar(alloc, *lead, ScalarStyle::Plain, shorter, end, part)?;
             Ok(end)
         }
         Ok(None) => Ok(halt.last),

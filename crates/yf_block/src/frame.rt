@@ -1,10 +1,10 @@
 //! The open collections of a block node, and the steps of its reader.
-ghost use Rattle.std.specs.Prelude.{◌≡◌};
 
 use crate::halt::Halt;
 use crate::held::Held;
 use smallvec::SmallVec;
 use yf_events::event::Entry;
+use yf_flow::node::Lead;
 
 /// What is read: the text, and how many collections may be open at once.
 #[derive(Clone, Copy)]
@@ -40,70 +40,54 @@ pub(crate) type Frames = SmallVec<Frame, 8>;
 
 /// Which node is awaited.
 #[derive(Clone, Copy)]
-pub(crate) struct Wanted {
+pub(crate) struct Wanted<'a> {
     /// The fewest spaces of its indentation, n + 1.
     pub(crate) least: usize,
     /// Whether a sequence may stand one column less deep, as in the context block-out.
     pub(crate) out: bool,
+    /// Whether a collection may begin on the line of the indicator before it (s-l+block-indented, production 185).
+    pub(crate) compact: bool,
     /// The entry that it begins.
     pub(crate) entry: Option<Entry>,
-}
-
-/// A node that is awaited after an indicator.
-#[derive(Clone, Copy)]
-pub(crate) struct Awaited {
-    /// The byte offset after the indicator.
-    pub(crate) at: usize,
-    /// Whether a collection may begin on the line of the indicator (s-l+block-indented, production 185).
-    pub(crate) compact: bool,
-    pub(crate) wanted: Wanted,
-}
-
-/// A node that is awaited at the start of a line.
-#[derive(Clone, Copy)]
-pub(crate) struct Fresh<'a> {
-    /// The byte offset of the line.
-    pub(crate) at: usize,
-    /// Where the end of the line before it was read from, with the comment lines after it.
-    pub(crate) from: usize,
-    /// Whether nothing was read yet, so that no indentation is asked of a node without entries.
-    pub(crate) first: bool,
-    /// The properties of the node so far.
+    /// Its properties so far: those on lines before.
     pub(crate) outer: Option<Held<'a>>,
-    pub(crate) wanted: Wanted,
 }
 
-/// What comes next.
+/// What comes next, each at a byte offset.
 #[derive(Clone, Copy)]
-pub(crate) enum Step<'a> {
-    Node(Awaited),
-    Line(Fresh<'a>),
-    /// A node has been read; the line at the byte offset may go on with an open collection.
+pub(crate) enum Step {
+    /// The awaited node, after an indicator that ends there.
+    Node(usize),
+    /// The awaited node, at the start of a line.
+    Line(usize),
+    /// A node has been read; the line may go on with an open collection.
     Resume(usize),
-    /// The outermost node has been read; it ends at the byte offset.
+    /// The outermost node has been read; it ends there.
     Done(usize),
-    /// The text goes wrong at the byte offset.
+    /// The text goes wrong.
     Failed(usize),
-    /// The limit of open collections is passed at the byte offset.
+    /// The limit of open collections is passed.
     TooDeep(usize),
 }
 
-/// What has been read.
+/// What has been read, and which node is awaited. It is changed in place.
 #[derive(Clone, Copy)]
 pub(crate) struct Progress<'a> {
     /// The byte offset after the last node with characters, or the last indicator.
     pub(crate) last: usize,
     /// The byte offset after the last block scalar; 0 where there is none.
     pub(crate) floor: usize,
+    /// How many of the open collections await the `:` of an entry with a `?`.
+    pub(crate) colons: usize,
+    pub(crate) wanted: Wanted<'a>,
+    /// Where the end of the line before the awaited node was read from, with the comment lines after it.
+    pub(crate) from: usize,
+    /// Whether nothing was read yet before a line, so that no indentation is asked of a node without entries.
+    pub(crate) first: bool,
     /// The last place at which all open nodes may end.
-    pub(crate) halt: Option<Halt<'a>>,
-}
-
-/// What has been read, and what comes next.
-#[derive(Clone, Copy)]
-pub(crate) struct State<'a> {
-    pub(crate) progress: Progress<'a>,
-    pub(crate) step: Step<'a>,
+    pub(crate) halt: Option<Halt>,
+    /// What is known of the node that is owed there.
+    pub(crate) owed: Lead<'a>,
 }
 
 impl Frame {
@@ -115,26 +99,6 @@ impl Frame {
             event,
             entry_event: event,
             awaits_colon: false,
-        }
-    }
-}
-
-impl<'a> Progress<'a> {
-    /// The same, where the last node or indicator ends at an offset.
-    pub(crate) fn reaching(self, last: usize) -> Progress<'a>
-        ensures floor { result.floor ≡ self.entry.floor }
-        ensures halt { result.halt ≡ self.entry.halt }
-    {
-        Progress { last, ..self }
-    }
-
-    pub(crate) fn and_then(self, step: Step<'a>) -> State<'a>
-        ensures progress { result.progress ≡ self.entry }
-        ensures step { result.step ≡ step.entry }
-    {
-        State {
-            progress: self,
-            step,
         }
     }
 }

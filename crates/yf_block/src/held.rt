@@ -50,6 +50,9 @@ pub(crate) fn line_properties<'a>(
 ) -> Result<Option<Held<'a>>, AllocError>
     ensures { IfOk result (λ o. IfSome o (λ h. Place text.now (at + 1) h.end)) }
 {
+    if !property_stands(text, at) {
+        return Ok(None);
+    }
     match read_properties(alloc, text, at)? {
         Some(
             Properties {
@@ -68,6 +71,14 @@ pub(crate) fn line_properties<'a>(
     }
 }
 
+// Whether the first character of an anchor or a tag stands there.
+fn property_stands(text: &str, at: usize) -> bool {
+    if stands(text, at, b'&') {
+        return true;
+    }
+    stands(text, at, b'!')
+}
+
 /// The place of what stands after properties on their line: after white space, or the `:` of an empty key. `None` where
 /// something else follows, or a property of a kind that they have.
 pub(crate) fn place_behind(text: &str, held: Held) -> Option<usize>
@@ -80,10 +91,7 @@ pub(crate) fn place_behind(text: &str, held: Held) -> Option<usize>
             return None;
         }
     }
-    if stands(text, place, b'&') {
-        return None;
-    }
-    if stands(text, place, b'!') {
+    if property_stands(text, place) {
         return None;
     }
     Some(place)

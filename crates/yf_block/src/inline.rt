@@ -4,11 +4,11 @@ ghost use Rattle.std.specs.Prelude.{◌≡◌, ◌+◌, ◌-◌, ◌*◌, ◌^�
 ghost use Rattle.std.specs.List.{All};
 ghost use Rattle.std.specs.Str.{IsCharBoundary};
 ghost use Rattle.yf_flow.specs.Machine.{Place, EndingAt};
-ghost use Rattle.yf_block.specs.Machine.{Ready, left, ProgressAt, HeldBefore, behind_held, MayBoundary, IsEndAt};
+ghost use Rattle.yf_block.specs.Machine.{StepReady, left, ProgressAt, HeldBefore, behind_held, MayBoundary, IsEndAt};
 
 use crate::content::{Behind, Claim, Share};
 use crate::entry::{await_value, collection_start, entry_at};
-use crate::frame::{Frame, Frames, Kind, Progress, Scope, State, Step};
+use crate::frame::{Frame, Frames, Kind, Progress, Scope, Step, Wanted};
 use crate::halt::{Plain, note_node, note_shorter};
 use crate::held::{Held, lead_of};
 use crate::leaf::read_line_end;
@@ -33,22 +33,22 @@ pub(crate) fn read_inline<'a>(
     scope: Scope<'a>,
     least: usize,
     at: usize,
-    inner: Option<Held<'a>>,
-    lead: Lead<'a>,
+    inner: &Option<Held<'a>>,
+    lead: &Lead<'a>,
     depth: usize,
     part: &mut Part<'a>,
 ) -> Result<Ending, AllocError>
     requires boundary { IsCharBoundary scope.text.now at }
-    requires held { HeldBefore scope.text.now at inner }
+    requires held { HeldBefore scope.text.now at inner.now }
     requires escapes { All (IsCharBoundary scope.text.now) part.old.escapes }
     ensures escapes { IfOk result (λ _. All (IsCharBoundary scope.entry.text.now) part.new.escapes) }
-    ensures found { IfOk result (λ e. EndingAt scope.entry.text.now (behind_held at inner.entry) e) }
+    ensures found { IfOk result (λ e. EndingAt scope.entry.text.now (behind_held at inner.now) e) }
 {
-    if let Some(held) = inner {
+    if let Some(held) = *inner {
         if sign_stands(scope.text, at, b':') {
             push_scalar(
                 alloc,
-                lead,
+                *lead,
                 ScalarStyle::Plain,
                 Text::Part(""),
                 held.end,
@@ -58,7 +58,7 @@ pub(crate) fn read_inline<'a>(
         }
     }
     if stands(scope.text, at, b'*') {
-        if inner.is_some() {
+        if let Some(_) = *inner {
             return Ok(Ending::Nothing);
         }
         return match alias_node(scope.text, at) {
@@ -76,7 +76,7 @@ pub(crate) fn read_inline<'a>(
         context: Ctx::FlowOut,
         limit: scope.limit,
     };
-    read_content(alloc, scene, at, lead, depth, part)
+    read_content(alloc, scene, at, *lead, depth, part)
 }
 
 fn inline_end(end: usize, depth: usize) -> Ending
@@ -104,21 +104,22 @@ pub(crate) fn flow_indentation(least: usize) -> i32
 pub(crate) fn finish_inline<'a>(
     alloc: Global,
     scope: Scope<'a>,
-    behind: Behind<'a>,
-    claim: Claim<'a>,
+    behind: &Behind<'a>,
+    claim: &Claim<'a>,
     node: Node,
-    progress: Progress<'a>,
+    progress: &mut Progress<'a>,
     frames: &mut Frames,
     part: &mut Part<'a>,
-) -> Result<State<'a>, AllocError>
-    requires node { Place scope.text.now (behind.spot.at + 1) node.end }
-    requires start { IsCharBoundary scope.text.now behind.spot.at }
-    requires place { IsCharBoundary scope.text.now behind.at }
-    requires held { HeldBefore scope.text.now behind.at behind.inner }
-    requires progress { ProgressAt scope.text.now progress }
+) -> Result<Step, AllocError>
+    requires node { Place scope.text.now (behind.now.spot.at + 1) node.end }
+    requires start { IsCharBoundary scope.text.now behind.now.spot.at }
+    requires place { IsCharBoundary scope.text.now behind.now.at }
+    requires held { HeldBefore scope.text.now behind.now.at behind.now.inner }
+    requires progress { ProgressAt scope.text.now progress.old }
     requires escapes { All (IsCharBoundary scope.text.now) part.old.escapes }
-    ensures ready { IfOk result (λ s. Ready scope.entry.text.now (behind.entry.spot.at) s) }
-    ensures moves { IfOk result (λ s. left (length scope.entry.text.now) s.step ≤ 3 * (length scope.entry.text.now - behind.entry.spot.at)) }
+    ensures progress { IfOk result (λ _. ProgressAt scope.entry.text.now progress.new) }
+    ensures ready { IfOk result (λ s. StepReady scope.entry.text.now (behind.now.spot.at) s) }
+    ensures moves { IfOk result (λ s. left (length scope.entry.text.now) s ≤ 3 * (length scope.entry.text.now - behind.now.spot.at)) }
     ensures escapes { IfOk result (λ _. All (IsCharBoundary scope.entry.text.now) part.new.escapes) }
 {
     let text = scope.text;
@@ -127,32 +128,43 @@ pub(crate) fn finish_inline<'a>(
     if let Some(column) = spot.column {
         if key_ends(text, spot.at, colon) {
             if node.deepest.max(frames.len()) >= scope.limit {
-                return Ok(progress.and_then(Step::TooDeep(spot.at)));
+                return Ok(Step::TooDeep(spot.at));
             }
             let frame = Frame::new(Kind::Mapping, column, claim.before.events);
             let entry = entry_at(text, progress.floor, spot.at, Some(colon));
-            begin_mapping(alloc, scope, behind, claim, entry, frames.len(), part)?;
+            let depth = frames.len();
+            begin_mapping(
+                alloc,
+                scope,
+                behind,
+                claim,
+                entry,
+                &progress.wanted,
+                depth,
+                part,
+            )?;
             frames.push(frame)?;
             return Ok(await_value(colon, column, progress));
         }
     }
     match claim.share {
-        Share::Apart => Ok(progress.and_then(Step::Failed(spot.at))),
+        Share::Apart => Ok(Step::Failed(spot.at)),
         Share::Nothing | Share::Joined => {
             let plain = Plain {
-                lead: claim.lead,
-                least: spot.wanted.least,
+                least: progress.wanted.least,
                 at: behind.at,
                 end: node.end,
                 event: claim.before.events,
             };
             let plain = if node.json { None } else { Some(plain) };
+            progress.last = node.end;
             end_inline(
                 alloc,
                 text,
                 node.end,
                 plain,
-                progress.reaching(node.end),
+                &claim.lead,
+                progress,
                 frames,
                 part,
             )
@@ -165,63 +177,65 @@ fn end_inline<'a>(
     alloc: Global,
     text: &'a str,
     at: usize,
-    plain: Option<Plain<'a>>,
-    progress: Progress<'a>,
+    plain: Option<Plain>,
+    lead: &Lead<'a>,
+    progress: &mut Progress<'a>,
     frames: &Frames,
     part: &mut Part<'a>,
-) -> Result<State<'a>, AllocError>
+) -> Result<Step, AllocError>
     requires boundary { IsCharBoundary text.now at }
     requires plain { MayBoundary text.now plain }
-    requires progress { ProgressAt text.now progress }
-    ensures ready { IfOk result (λ s. Ready text.now (at) s) }
-    ensures moves { IfOk result (λ s. left (length text.now) s.step ≤ 3 * (length text.now - at) + 1) }
+    requires progress { ProgressAt text.now progress.old }
+    ensures progress { IfOk result (λ _. ProgressAt text.now progress.new) }
+    ensures ready { IfOk result (λ s. StepReady text.now at s) }
+    ensures moves { IfOk result (λ s. left (length text.now) s ≤ 3 * (length text.now - at) + 1) }
     ensures escapes { IfOk result (λ _. part.new.escapes ≡ part.old.escapes) }
 {
     match read_line_end(alloc, text, at)? {
         Some(Separation { comments, end }) => {
             part.comments.append(comments)?;
-            let progress = note_node(text, at, end, plain, progress, frames, part);
-            Ok(progress.and_then(Step::Resume(end)))
+            note_node(text, at, end, plain, lead, progress, frames, part);
+            Ok(Step::Resume(end))
         }
         None => {
-            let progress = note_shorter(text, plain, progress, part);
-            Ok(progress.and_then(Step::Failed(skip_whites(text, at))))
+            note_shorter(text, plain, lead, progress, part);
+            Ok(Step::Failed(skip_whites(text, at)))
         }
     }
 }
 
-// Puts the beginning of a mapping before its first key, which has been read. The properties of lines before are the
-// mapping's; where the key was read with them, it is read again without.
+// Puts the beginning of a mapping, the awaited node, before its first key, which has been read. The properties of lines
+// before are the mapping's; where the key was read with them, it is read again without.
 fn begin_mapping<'a>(
     alloc: Global,
     scope: Scope<'a>,
-    behind: Behind<'a>,
-    claim: Claim<'a>,
+    behind: &Behind<'a>,
+    claim: &Claim<'a>,
     entry: Entry,
+    wanted: &Wanted<'a>,
     depth: usize,
     part: &mut Part<'a>,
 ) -> Result<(), AllocError>
-    requires place { IsCharBoundary scope.text.now behind.at }
-    requires held { HeldBefore scope.text.now behind.at behind.inner }
+    requires place { IsCharBoundary scope.text.now behind.now.at }
+    requires held { HeldBefore scope.text.now behind.now.at behind.now.inner }
     requires escapes { All (IsCharBoundary scope.text.now) part.old.escapes }
     ensures escapes { IfOk result (λ _. All (IsCharBoundary scope.entry.text.now) part.new.escapes) }
 {
-    let spot = behind.spot;
-    let start = collection_start(alloc, Kind::Mapping, spot.at, spot.outer, spot.wanted.entry);
+    let start = collection_start(alloc, Kind::Mapping, behind.spot.at, wanted);
     match claim.share {
         Share::Nothing | Share::Apart => put_before(claim.before.events, start, entry, part),
         Share::Joined => {
             part.events.truncate(claim.before.events);
             part.escapes.truncate(claim.before.escapes);
             part.events.push(start)?;
-            let lead = lead_of(spot.at, behind.inner, Some(entry));
+            let lead = lead_of(behind.spot.at, behind.inner, Some(entry));
             let _ = read_inline(
                 alloc,
                 scope,
-                spot.wanted.least,
+                wanted.least,
                 behind.at,
-                behind.inner,
-                lead,
+                &behind.inner,
+                &lead,
                 depth,
                 part,
             )?;

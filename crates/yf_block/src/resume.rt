@@ -2,10 +2,10 @@
 ghost use Rattle.std.specs.Prelude.{◌≡◌, ◌+◌, ◌-◌, ◌*◌, ◌<◌, ◌≤◌, length, IfOk};
 ghost use Rattle.std.specs.List.{All};
 ghost use Rattle.std.specs.Str.{IsCharBoundary};
-ghost use Rattle.yf_block.specs.Machine.{Ready, left, ProgressAt, MayPlace, FitsAt};
+ghost use Rattle.yf_block.specs.Machine.{StepReady, left, ProgressAt, MayPlace, FitsAt};
 
 use crate::entry::{take_entry, take_explicit_value, take_item};
-use crate::frame::{Frame, Frames, Kind, Progress, Scope, State, Step};
+use crate::frame::{Frame, Frames, Kind, Progress, Scope, Step};
 use crate::look::{dash_stands, entry_place, sign_stands};
 use std::alloc::{AllocError, Global};
 use yf_events::event::NewEvent;
@@ -30,33 +30,37 @@ pub(crate) fn resume<'a>(
     alloc: Global,
     scope: Scope<'a>,
     at: usize,
-    progress: Progress<'a>,
+    progress: &mut Progress<'a>,
     frames: &mut Frames,
     part: &mut Part<'a>,
-) -> Result<State<'a>, AllocError>
+) -> Result<Step, AllocError>
     requires boundary { IsCharBoundary scope.text.now at }
-    requires progress { ProgressAt scope.text.now progress }
+    requires progress { ProgressAt scope.text.now progress.old }
     requires escapes { All (IsCharBoundary scope.text.now) part.old.escapes }
-    ensures ready { IfOk result (λ s. Ready scope.entry.text.now (at) s) }
-    ensures moves { IfOk result (λ s. left (length scope.entry.text.now) s.step < 3 * (length scope.entry.text.now - at) + 1) }
+    ensures progress { IfOk result (λ _. ProgressAt scope.entry.text.now progress.new) }
+    ensures ready { IfOk result (λ s. StepReady scope.entry.text.now at s) }
+    ensures moves { IfOk result (λ s. left (length scope.entry.text.now) s < 3 * (length scope.entry.text.now - at) + 1) }
     ensures escapes { IfOk result (λ _. All (IsCharBoundary scope.entry.text.now) part.new.escapes) }
 {
     let place = entry_place(scope.text, at);
     'frames: while let Some(frame) = frames.pop() {
-        match fit_of(scope.text, at, place, frame) {
+        if frame.awaits_colon {
+            progress.colons = progress.colons.saturating_sub(1);
+        }
+        match fit_of(scope.text, at, place, &frame) {
             Fit::Item(start) => return take_item(scope.text, start, frame, progress, frames),
             Fit::Entry(start) => {
                 return next_entry(alloc, scope, start, frame, progress, frames, part);
             }
-            Fit::Deeper(start) => return Ok(progress.and_then(Step::Failed(start))),
+            Fit::Deeper(start) => return Ok(Step::Failed(start)),
             Fit::Behind => end_collection(alloc, frame, progress.last, part)?,
         }
     }
-    Ok(progress.and_then(Step::Done(at)))
+    Ok(Step::Done(at))
 }
 
 // What the line at an offset is to a collection; the place is that of its first character, if an entry may begin there.
-fn fit_of(text: &str, at: usize, place: Option<usize>, frame: Frame) -> Fit
+fn fit_of(text: &str, at: usize, place: Option<usize>, frame: &Frame) -> Fit
     requires { MayPlace text.now at place }
     ensures { FitsAt text.now at result }
 {
@@ -89,15 +93,16 @@ fn next_entry<'a>(
     scope: Scope<'a>,
     at: usize,
     frame: Frame,
-    progress: Progress<'a>,
+    progress: &mut Progress<'a>,
     frames: &mut Frames,
     part: &mut Part<'a>,
-) -> Result<State<'a>, AllocError>
+) -> Result<Step, AllocError>
     requires boundary { IsCharBoundary scope.text.now at }
-    requires progress { ProgressAt scope.text.now progress }
+    requires progress { ProgressAt scope.text.now progress.old }
     requires escapes { All (IsCharBoundary scope.text.now) part.old.escapes }
-    ensures ready { IfOk result (λ s. Ready scope.entry.text.now (at) s) }
-    ensures moves { IfOk result (λ s. left (length scope.entry.text.now) s.step ≤ 3 * (length scope.entry.text.now - at)) }
+    ensures progress { IfOk result (λ _. ProgressAt scope.entry.text.now progress.new) }
+    ensures ready { IfOk result (λ s. StepReady scope.entry.text.now at s) }
+    ensures moves { IfOk result (λ s. left (length scope.entry.text.now) s ≤ 3 * (length scope.entry.text.now - at)) }
     ensures escapes { IfOk result (λ _. All (IsCharBoundary scope.entry.text.now) part.new.escapes) }
 {
     if frame.awaits_colon {

@@ -3,9 +3,9 @@ ghost use Rattle.std.specs.Prelude.{◌≡◌, ◌+◌, ◌-◌, ◌*◌, ◌<�
 ghost use Rattle.std.specs.Str.{IsCharBoundary};
 ghost use Rattle.yf_lines.specs.Basic.{LineStart};
 ghost use Rattle.yf_flow.specs.Machine.{Place};
-ghost use Rattle.yf_block.specs.Machine.{Ready, left, ProgressAt};
+ghost use Rattle.yf_block.specs.Machine.{StepReady, left, ProgressAt};
 
-use crate::frame::{Frames, Progress, Scope, State, Step};
+use crate::frame::{Frames, Progress, Scope, Step};
 use crate::halt::note_node;
 use crate::leaf::{read_header, read_lines};
 use crate::look::skip_lines;
@@ -26,20 +26,21 @@ pub(crate) fn take_block_scalar<'a>(
     alloc: Global,
     scope: Scope<'a>,
     at: usize,
-    lead: Lead<'a>,
+    lead: &Lead<'a>,
     least: usize,
-    progress: Progress<'a>,
+    progress: &mut Progress<'a>,
     frames: &Frames,
     part: &mut Part<'a>,
-) -> Result<State<'a>, AllocError>
+) -> Result<Step, AllocError>
     requires boundary { IsCharBoundary scope.text.now at }
-    requires progress { ProgressAt scope.text.now progress }
-    ensures ready { IfOk result (λ s. Ready scope.entry.text.now (at) s) }
-    ensures moves { IfOk result (λ s. left (length scope.entry.text.now) s.step ≤ 3 * (length scope.entry.text.now - at)) }
+    requires progress { ProgressAt scope.text.now progress.old }
+    ensures progress { IfOk result (λ _. ProgressAt scope.entry.text.now progress.new) }
+    ensures ready { IfOk result (λ s. StepReady scope.entry.text.now at s) }
+    ensures moves { IfOk result (λ s. left (length scope.entry.text.now) s ≤ 3 * (length scope.entry.text.now - at)) }
     ensures escapes { IfOk result (λ _. part.new.escapes ≡ part.old.escapes) }
 {
     match read_header(scope.text, at) {
-        None => Ok(progress.and_then(Step::Failed(at))),
+        None => Ok(Step::Failed(at)),
         Some(
             HeaderLine {
                 header,
@@ -51,7 +52,7 @@ pub(crate) fn take_block_scalar<'a>(
                 part.comments.push(comment)?;
             }
             match read_lines(alloc, scope.text, end, least, header)? {
-                None => Ok(progress.and_then(Step::Failed(end))),
+                None => Ok(Step::Failed(end)),
                 Some(block) => take_body(
                     alloc, scope.text, end, lead, block, progress, frames, part,
                 ),
@@ -65,17 +66,18 @@ fn take_body<'a>(
     alloc: Global,
     text: &'a str,
     at: usize,
-    lead: Lead<'a>,
+    lead: &Lead<'a>,
     block: BlockText<'a>,
-    progress: Progress<'a>,
+    progress: &mut Progress<'a>,
     frames: &Frames,
     part: &mut Part<'a>,
-) -> Result<State<'a>, AllocError>
+) -> Result<Step, AllocError>
     requires boundary { IsCharBoundary text.now at }
     requires next { Place text.now at block.next }
-    requires progress { ProgressAt text.now progress }
-    ensures ready { IfOk result (λ s. Ready text.now (at) s) }
-    ensures moves { IfOk result (λ s. left (length text.now) s.step ≤ 3 * (length text.now - at) + 1) }
+    requires progress { ProgressAt text.now progress.old }
+    ensures progress { IfOk result (λ _. ProgressAt text.now progress.new) }
+    ensures ready { IfOk result (λ s. StepReady text.now at s) }
+    ensures moves { IfOk result (λ s. left (length text.now) s ≤ 3 * (length text.now - at) + 1) }
     ensures escapes { IfOk result (λ _. part.new.escapes ≡ part.old.escapes) }
 {
     let finish = skip_lines(text, at, reach(&block));
@@ -84,13 +86,10 @@ fn take_body<'a>(
         .push(placed_scalar(alloc, lead, &block, finish)?)?;
     let BlockText { comments, .. } = block;
     part.comments.append(comments)?;
-    let progress = Progress {
-        last: finish,
-        floor: finish,
-        ..progress
-    };
-    let progress = note_node(text, next, next, None, progress, frames, part);
-    Ok(progress.and_then(Step::Resume(next)))
+    progress.last = finish;
+    progress.floor = finish;
+    note_node(text, next, next, None, lead, progress, frames, part);
+    Ok(Step::Resume(next))
 }
 
 // How many lines after its header a scalar reaches: to its last content line, or through its kept tail.
@@ -104,7 +103,7 @@ fn reach(block: &BlockText) -> usize {
 // The event of a block scalar that ends at an offset.
 fn placed_scalar<'a>(
     alloc: Global,
-    lead: Lead<'a>,
+    lead: &Lead<'a>,
     block: &BlockText<'a>,
     finish: usize,
 ) -> Result<PlacedEvent<'a>, AllocError> {

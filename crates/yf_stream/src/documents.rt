@@ -1,12 +1,13 @@
 //! The documents of a stream (YAML 1.2.2, section 9.1): what begins one, and what ends it. Offsets count bytes.
-ghost use Rattle.std.specs.Prelude.{◌≡◌, ◌+◌, ◌<◌, ◌≤◌, IfOk, IfSome};
+ghost use Rattle.std.specs.Prelude.{◌≡◌, ◌+◌, ◌<◌, ◌≤◌, [], IfOk, IfSome};
+ghost use Rattle.std.specs.List.{All};
 ghost use Rattle.std.specs.Str.{IsCharBoundary};
 ghost use Rattle.yf_stream.specs.Walk.{Place, NextAt};
 
 use crate::directives::{DirectiveLines, read_directives};
 use std::alloc::{AllocError, Global};
 use yf_block::look::is_blank_after;
-use yf_block::nodes::{Found, Outcome, block_node_in};
+use yf_block::nodes::{Outcome, block_node_in};
 use yf_chars::context::Ctx;
 use yf_chars::text::{peek, stands};
 use yf_comments::comment::Comment;
@@ -16,6 +17,7 @@ use yf_events::directive::Directives;
 use yf_events::document::{Doc, Documents};
 use yf_events::event::{NewEvent, PlacedEvent, ScalarStyle};
 use yf_events::events::Events;
+use yf_events::part::Part;
 use yf_events::reading::DEPTH;
 use yf_events::row::Row;
 use yf_events::slices::Slices;
@@ -29,11 +31,8 @@ const BYTE_ORDER_MARK: char = '\u{FEFF}';
 /// What has been read of a stream so far, in order of the text.
 #[derive(Debug, Drop)]
 pub(crate) struct Parts<'a> {
-    pub(crate) events: Events<'a>,
-    pub(crate) comments: Comments<'a>,
+    pub(crate) part: Part<'a>,
     pub(crate) documents: Documents<'a>,
-    /// The byte offsets of the escapes that are no character.
-    pub(crate) escapes: Row<usize>,
 }
 
 /// How far the stream has been read.
@@ -71,12 +70,16 @@ enum Marker {
 }
 
 impl<'a> Parts<'a> {
-    pub(crate) fn new(alloc: Global) -> Parts<'a> {
+    pub(crate) fn new(alloc: Global) -> Parts<'a>
+        ensures { result.part.escapes ≡ [] }
+    {
         Parts {
-            events: Events::new(alloc),
-            comments: Comments::new(alloc),
+            part: Part {
+                events: Events::new(alloc),
+                comments: Comments::new(alloc),
+                escapes: Row::new(alloc),
+            },
             documents: Documents::new(alloc),
-            escapes: Row::new(alloc),
         }
     }
 
@@ -85,8 +88,10 @@ impl<'a> Parts<'a> {
         &mut self,
         alloc: Global,
         event: NewEvent<'a>,
-    ) -> Result<(), AllocError> {
-        self.events.push(PlacedEvent {
+    ) -> Result<(), AllocError>
+        ensures { IfOk result (λ _. self.new.part.escapes ≡ self.old.part.escapes) }
+    {
+        self.part.events.push(PlacedEvent {
             event,
             span: None,
             tag_offset: None,
@@ -101,7 +106,9 @@ impl<'a> Parts<'a> {
         alloc: Global,
         spot: Spot,
         explicit: bool,
-    ) -> Result<(), AllocError> {
+    ) -> Result<(), AllocError>
+        ensures { IfOk result (λ _. self.new.part.escapes ≡ self.old.part.escapes) }
+    {
         if spot.is_open {
             return self.push_unplaced(alloc, NewEvent::DocEnd { explicit });
         }
@@ -115,7 +122,9 @@ impl<'a> Parts<'a> {
         start: usize,
         explicit: bool,
         directives: Directives<'a>,
-    ) -> Result<(), AllocError> {
+    ) -> Result<(), AllocError>
+        ensures { IfOk result (λ _. self.new.part.escapes ≡ self.old.part.escapes) }
+    {
         self.push_unplaced(alloc, NewEvent::DocStart { explicit })?;
         self.documents.push(Doc { start, directives })
     }
@@ -130,7 +139,8 @@ pub(crate) fn skip_prefix<'a>(
     parts: &mut Parts<'a>,
 ) -> Result<Spot, AllocError>
     requires { IsCharBoundary text.now spot.at }
-    ensures { IfOk result (λ s. Place text.now spot.at s.at) }
+    ensures place { IfOk result (λ s. Place text.now spot.at s.at) }
+    ensures escapes { IfOk result (λ _. parts.new.part.escapes ≡ parts.old.part.escapes) }
 {
     let mut at = spot.at;
     'lines: loop {
@@ -157,9 +167,11 @@ fn keep_comments<'a>(
     floor: usize,
     comments: &Comments<'a>,
     parts: &mut Parts<'a>,
-) -> Result<(), AllocError> {
+) -> Result<(), AllocError>
+    ensures { IfOk result (λ _. parts.new.part.escapes ≡ parts.old.part.escapes) }
+{
     for comment in comments.as_slice() {
-        parts.comments.push(Comment {
+        parts.part.comments.push(Comment {
             blank_before: is_blank_after(text, floor, comment.offset),
             ..*comment
         })?;
@@ -175,8 +187,10 @@ pub(crate) fn read_next<'a>(
     spot: Spot,
     parts: &mut Parts<'a>,
 ) -> Result<Next, AllocError>
-    requires { IsCharBoundary text.now spot.at }
-    ensures { IfOk result (λ next. NextAt text.now (spot.at + 1) next) }
+    requires boundary { IsCharBoundary text.now spot.at }
+    requires escapes { All (IsCharBoundary text.now) parts.old.part.escapes }
+    ensures next { IfOk result (λ next. NextAt text.now (spot.at + 1) next) }
+    ensures escapes { IfOk result (λ _. All (IsCharBoundary text.now) parts.new.part.escapes) }
 {
     match marker_at(text, spot.at) {
         Some(Marker::DocumentEnd) => return read_suffix(alloc, text, spot, parts),
@@ -219,13 +233,15 @@ fn read_suffix<'a>(
     spot: Spot,
     parts: &mut Parts<'a>,
 ) -> Result<Next, AllocError>
-    requires { IsCharBoundary text.now (spot.at + 3) }
-    ensures { IfOk result (λ next. NextAt text.now (spot.at + 1) next) }
+    requires boundary { IsCharBoundary text.now (spot.at + 3) }
+    requires escapes { All (IsCharBoundary text.now) parts.old.part.escapes }
+    ensures next { IfOk result (λ next. NextAt text.now (spot.at + 1) next) }
+    ensures escapes { IfOk result (λ _. All (IsCharBoundary text.now) parts.new.part.escapes) }
 {
     parts.close(alloc, spot, true)?;
     match line_end(alloc, text, spot.at + 3)? {
         Some(Separation { comments, end }) => {
-            parts.comments.append(comments)?;
+            parts.part.comments.append(comments)?;
             Ok(Next::Go(Spot {
                 at: end,
                 floor: 0,
@@ -245,10 +261,12 @@ fn directive_document<'a>(
     at: usize,
     parts: &mut Parts<'a>,
 ) -> Result<Next, AllocError>
-    requires { IsCharBoundary text.now at }
-    ensures { IfOk result (λ next. NextAt text.now (at + 1) next) }
+    requires boundary { IsCharBoundary text.now at }
+    requires escapes { All (IsCharBoundary text.now) parts.old.part.escapes }
+    ensures next { IfOk result (λ next. NextAt text.now (at + 1) next) }
+    ensures escapes { IfOk result (λ _. All (IsCharBoundary text.now) parts.new.part.escapes) }
 {
-    match read_directives(alloc, text, at, &mut parts.comments)? {
+    match read_directives(alloc, text, at, &mut parts.part.comments)? {
         Ok(DirectiveLines { directives, end }) => {
             if let Some(Marker::DocumentStart) = marker_at(text, end) {
                 return explicit_document(alloc, text, end, directives, parts);
@@ -267,12 +285,22 @@ fn explicit_document<'a>(
     directives: Directives<'a>,
     parts: &mut Parts<'a>,
 ) -> Result<Next, AllocError>
-    requires { IsCharBoundary text.now (at + 3) }
-    ensures { IfOk result (λ next. NextAt text.now (at + 1) next) }
+    requires boundary { IsCharBoundary text.now (at + 3) }
+    requires escapes { All (IsCharBoundary text.now) parts.old.part.escapes }
+    ensures next { IfOk result (λ next. NextAt text.now (at + 1) next) }
+    ensures escapes { IfOk result (λ _. All (IsCharBoundary text.now) parts.new.part.escapes) }
 {
     parts.open(alloc, at, true, directives)?;
-    match block_node_in(alloc, text, at + 3, -1, Ctx::BlockIn, DEPTH)? {
-        Outcome::Found(found) => Ok(Next::Go(take_node(found, parts)?)),
+    match block_node_in(
+        alloc,
+        text,
+        at + 3,
+        -1,
+        Ctx::BlockIn,
+        DEPTH,
+        &mut parts.part,
+    )? {
+        Outcome::Found(found) => Ok(Next::Go(behind_node(found.end, found.floor, found.reached))),
         Outcome::Nothing { reached } => empty_document(alloc, text, at + 3, reached, parts),
         Outcome::TooDeep(place) => Ok(Next::TooDeep(place)),
     }
@@ -287,12 +315,14 @@ fn empty_document<'a>(
     reached: usize,
     parts: &mut Parts<'a>,
 ) -> Result<Next, AllocError>
-    requires { IsCharBoundary text.now at }
-    ensures { IfOk result (λ next. NextAt text.now at next) }
+    requires boundary { IsCharBoundary text.now at }
+    requires escapes { All (IsCharBoundary text.now) parts.old.part.escapes }
+    ensures next { IfOk result (λ next. NextAt text.now at next) }
+    ensures escapes { IfOk result (λ _. All (IsCharBoundary text.now) parts.new.part.escapes) }
 {
     match line_end(alloc, text, at)? {
         Some(Separation { comments, end }) => {
-            parts.comments.append(comments)?;
+            parts.part.comments.append(comments)?;
             parts.push_unplaced(
                 alloc,
                 NewEvent::Scalar {
@@ -317,32 +347,18 @@ fn bare_document<'a>(
     at: usize,
     parts: &mut Parts<'a>,
 ) -> Result<Next, AllocError>
-    requires { IsCharBoundary text.now at }
-    ensures { IfOk result (λ next. NextAt text.now (at + 1) next) }
+    requires boundary { IsCharBoundary text.now at }
+    requires escapes { All (IsCharBoundary text.now) parts.old.part.escapes }
+    ensures next { IfOk result (λ next. NextAt text.now (at + 1) next) }
+    ensures escapes { IfOk result (λ _. All (IsCharBoundary text.now) parts.new.part.escapes) }
 {
     let start = skip_whites(text, at);
     parts.open(alloc, start, false, Directives::new(alloc))?;
-    match block_node_in(alloc, text, at, -1, Ctx::BlockIn, DEPTH)? {
-        Outcome::Found(found) => Ok(Next::Go(take_node(found, parts)?)),
+    match block_node_in(alloc, text, at, -1, Ctx::BlockIn, DEPTH, &mut parts.part)? {
+        Outcome::Found(found) => Ok(Next::Go(behind_node(found.end, found.floor, found.reached))),
         Outcome::Nothing { reached } => Ok(Next::Syntax(reached)),
         Outcome::TooDeep(place) => Ok(Next::TooDeep(place)),
     }
-}
-
-// Adds a document's root node.
-fn take_node<'a>(found: Found<'a>, parts: &mut Parts<'a>) -> Result<Spot, AllocError>
-    ensures { IfOk result (λ spot. spot.at ≡ found.entry.end) }
-{
-    let Found {
-        part,
-        end,
-        reached,
-        floor,
-    } = found;
-    parts.events.append(part.events)?;
-    parts.comments.append(part.comments)?;
-    parts.escapes.append(part.escapes)?;
-    Ok(behind_node(end, floor, reached))
 }
 
 // After a document's root node another document needs a `---`, or a `...` before it.

@@ -1,5 +1,6 @@
 //! The reader of whole streams.
 ghost use Rattle.std.specs.Prelude.{◌≡◌, ◌+◌, ◌-◌, ◌<◌, ◌≤◌, length, IfErr, IfOk, MatchResult};
+ghost use Rattle.std.specs.List.{All};
 ghost use Rattle.std.specs.Str.{IsCharBoundary};
 ghost use Rattle.yf_events.specs.Reading.{Fits};
 ghost use Rattle.yf_lines.specs.FaultPlaces.{InText};
@@ -11,6 +12,7 @@ use crate::leaf_lines::on_leaf_lines;
 use std::alloc::{AllocError, Global};
 use yf_events::event::NewEvent;
 use yf_events::lists::Lists;
+use yf_events::part::Part;
 use yf_events::reading::Reading;
 use yf_lines::fault::Fault;
 use yf_lines::place::Place;
@@ -108,10 +110,12 @@ fn noted_lists<'a>(
     ensures { IfOk result (λ r. IfOk r (λ lists. Fits lists)) }
 {
     let Parts {
-        events,
-        comments,
+        part: Part {
+            events,
+            comments,
+            escapes,
+        },
         documents,
-        escapes,
     } = parts;
     let Resolved { tags, first } = resolve(alloc, &events, &documents, &escapes)?;
     if let Some(breach) = first {
@@ -133,7 +137,10 @@ fn read_documents<'a>(
     alloc: Global,
     text: &'a str,
     parts: &mut Parts<'a>,
-) -> Result<Option<Refusal>, AllocError> {
+) -> Result<Option<Refusal>, AllocError>
+    requires { All (IsCharBoundary text.now) parts.old.part.escapes }
+    ensures { IfOk result (λ _. All (IsCharBoundary text.now) parts.new.part.escapes) }
+{
     parts.push_unplaced(alloc, NewEvent::StreamStart)?;
     let mut spot = Spot {
         at: 0,

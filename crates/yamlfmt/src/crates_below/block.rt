@@ -6,6 +6,10 @@ use std::test::Fail;
 use yf_block::block::{read_block_node, scan_block_node};
 use yf_block::nodes::{Found, Outcome, block_node_in};
 use yf_chars::context::Ctx;
+use yf_events::comments::Comments;
+use yf_events::events::Events;
+use yf_events::part::Part;
+use yf_events::row::Row;
 use yf_lines::fault::Fault;
 use yf_lines::source_text::Src;
 
@@ -214,10 +218,14 @@ const PLACES: [[usize; 5]; 6] = [
 #[test]
 fn keeps_places(rt: HostRuntime) -> Result<(), Fail> {
     assert!(rt; CUT.is_char_boundary(0));
-    match block_node_in(rt.alloc(), CUT, 0, -1, Ctx::BlockIn, 1024)? {
+    let mut part = Part {
+        events: Events::new(rt.alloc()),
+        comments: Comments::new(rt.alloc()),
+        escapes: Row::new(rt.alloc()),
+    };
+    match block_node_in(rt.alloc(), CUT, 0, -1, Ctx::BlockIn, 1024, &mut part)? {
         Outcome::Found(
             Found {
-                part,
                 end,
                 reached,
                 floor,

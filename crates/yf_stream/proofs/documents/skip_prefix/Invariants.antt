@@ -1,9 +1,12 @@
-use Rattle.std.proofs.Common.{◌-◌, length}
+use Rattle.std.proofs.Common.{◌≡◌, ◌-◌, length}
 use Rattle.yf_stream.specs.Walk.{Place}
 use Rattle.yf_stream.proofs.documents.skip_prefix.Given as goal
 
 abbrev pub invariant-lines : goal.invariant-lines
-invariant-lines l = Place l.text l.spot.at l.at
+invariant-lines l = record {
+  place : Place l.text l.spot.at l.at;
+  escapes : l.parts.part.escapes ≡ l.initial.parts.part.escapes;
+}
 
 abbrev pub decreases-lines : goal.decreases-lines
 decreases-lines l = length l.text - l.at
