@@ -48,18 +48,21 @@ pub mod HaltsLater
 mod HaltsShown
 pub mod HaltsSound
 pub mod InlineViews
+pub mod Irrefutable
 pub mod KeyExact
 pub mod KeyLines
 pub mod LawsHold
 pub mod LeafBack
 pub mod LeafHalts
 pub mod LeafKeys
+pub mod LeavesReached
 mod LeavesShown
 pub mod LineNodes
 pub mod LineParts
 pub mod Longest
 pub mod NodeExact
 pub mod NodeExits
+pub mod NodesAnswered
 pub mod NodesBehind
 pub mod OneLine
 pub mod OneScalars
@@ -77,6 +80,7 @@ pub mod PlainTails
 pub mod PropertiedNodes
 pub mod PropertiesEnds
 pub mod PropertiesLines
+pub mod PropertiesReached
 mod PropertiesShown
 pub mod PropertiesWalk
 pub mod QuotedEnds
@@ -87,6 +91,7 @@ pub mod Sound
 pub mod SoundSteps
 pub mod ValueExact
 pub mod Ways
+pub mod WholeAnswered
 pub mod WholeSound
 pub mod WiderLemmas
 pub mod YamlNodes

@@ -69,7 +69,7 @@ joined_closed {cs = cs} {ds = ds} {f = f} {g = g} d a b l (closed_behind x r w s
     let v = d.within in
     closed_behind (noting f.meaning (cs ++ ds) ⊕ x) (Grammar.more_entries d.derived (gap_separate a) b (gap_separate l) r) (omega arith) (same_behind (noting f.meaning (cs ++ ds)) s) q
 
-sound : {t : List ℕ} {e : ℕ} {task : Task} {o : Option Found} → Parses t e task o → Sound t e task o
+pub sound : {t : List ℕ} {e : ℕ} {task : Task} {o : Option Found} → Parses t e task o → Sound t e task o
 unfolding found plain_found propertied lone_properties bracketed joined paired pair_entry
 sound (Parser.alias_read a) = λ b. record { derived = Grammar.an_alias b a.derived; within = omega arith }
 sound (Parser.alias_missed a s) = tt

@@ -11,3 +11,4 @@ pub mod ShownSpaced
 pub mod ShownStreams
 pub mod ShownWord
 pub mod ShownWords
+pub mod Stable
