@@ -33,6 +33,7 @@ module _ {t : List ℕ} {n : ℤ} {c : Ctx} {i depth j : ℕ} {lead : Lead} {old
     read = λ l. rw (e, sym (plain_is x i j)) (plain_there b p);
     added = record { events = v; comments = cs ∙ sym (append-nil old.comments); escapes = es ∙ sym (append-nil old.escapes) };
     deepest = refl;
+    no_lines = λ p w. refl;
   }
 
   pub single_leaf : (text x : List ℕ) → code t i ≡ 39 → text ≡ encode_utf8_all x → Chosen (SingleQuoted t n c i) j x
@@ -45,6 +46,7 @@ module _ {t : List ℕ} {n : ℤ} {c : Ctx} {i depth j : ℕ} {lead : Lead} {old
     read = λ l. rw e (content_there (sym (single_begins b)) (single_read p));
     added = record { events = v; comments = cs ∙ sym (append-nil old.comments); escapes = es ∙ sym (append-nil old.escapes) };
     deepest = refl;
+    no_lines = λ p w. refl;
   }
 
   pub double_leaf : (text : List ℕ) (x : List Piece) → code t i ≡ 34 → text ≡ encode_utf8_all (text_of x)
@@ -58,6 +60,7 @@ module _ {t : List ℕ} {n : ℤ} {c : Ctx} {i depth j : ℕ} {lead : Lead} {old
     read = λ l. rw e (content_there (sym (double_begins b)) (double_read p));
     added = record { events = rw m at v; comments = cs ∙ sym (append-nil old.comments); escapes = es };
     deepest = refl;
+    no_lines = λ p w. refl;
   }
 
 module _ {t : List ℕ} {n : ℤ} {c : Ctx} {i : ℕ} where

@@ -3,3 +3,4 @@ pub mod Forward
 pub mod Frames
 pub mod LeafLemmas
 pub mod LookLemmas
+pub mod NodeBegunLemmas

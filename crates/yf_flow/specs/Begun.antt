@@ -6,10 +6,11 @@ use Rattle.yf_chars.specs.Text.{code}
 use Rattle.yf_chars.specs.Chain.{Stuck, Chosen}
 use Rattle.yf_comments.specs.Comment.{CommentValue}
 use Rattle.yf_plain.specs.Plain.{Plain}
-use Rattle.yf_props.specs.Props.{props_value}
+use Rattle.yf_props.specs.Props.{PropsValue, props_value}
 use Rattle.yf_events.specs.Event.{EventValue, Placed, scalar_node}
 use Rattle.yf_events.specs.declared.event.Entry.{Entry}
 use Rattle.yf_events.specs.declared.event.ScalarStyle.{ScalarStyle}
+use Rattle.yf_events.specs.declared.event.ScalarStyle.TheVariants.{Literal, Folded}
 use Rattle.yf_events.specs.declared.part.Part.{Part}
 use Rattle.yf_grammar.specs.Meaning.{scalar, start_of, event_with}
 use Rattle.yf_grammar.specs.Parser.{Found, found, AContent, Parses, begins_content, plain_found}
@@ -50,6 +51,12 @@ pub data ContentAt (t : List ℕ) (e : ℕ) (n : ℤ) (c : Ctx) (i : ℕ) : Opti
       → ContentAt t e n c i (plain_found x i j)
   plain_missing : begins_content (code t i) ≡ false → Stuck (Plain t n c i) → ContentAt t e n c i None
 
+-- an event of a block scalar
+abbrev pub is_lined : EventValue → Bool
+is_lined (scalar_node _ Literal _) = true
+is_lined (scalar_node _ Folded _) = true
+is_lined _ = false
+
 -- a scalar as content, within any limit
 pub record LeafAt (t : List ℕ) (n : ℤ) (c : Ctx) (i depth : ℕ) (lead : Lead) (old new : Part) (node : Node) : Type 0 where
   pub style : ScalarStyle
@@ -58,6 +65,7 @@ pub record LeafAt (t : List ℕ) (n : ℤ) (c : Ctx) (i depth : ℕ) (lead : Lea
   pub read : (e : ℕ) → ContentAt t e n c i (found node.end 0 node.json (scalar style text bad i node.end))
   pub added : Added old new (leaf_event lead style text node.end ∷ []) [] bad
   pub deepest : node.deepest ≡ depth
+  pub no_lines : (props : PropsValue) (words : List ℕ) → is_lined (scalar_node props style words) ≡ false
 
 -- the bracket that opens a collection of that kind
 abbrev pub Opens : Kind → ℕ → Type 0

@@ -1,4 +1,6 @@
 pub mod Begun
 pub mod Leaves
 pub mod Machine
+pub mod NodeBegun
 pub mod NodeReaders
+pub mod Tied

@@ -3,11 +3,15 @@ ghost use Rattle.std.specs.Prelude.{◌≡◌, ◌+◌, ◌≤◌, length, false
 ghost use Rattle.std.specs.List.{All};
 ghost use Rattle.std.specs.Str.{IsCharBoundary};
 ghost use Rattle.yf_lines.specs.Text.{text_bytes};
+ghost use Rattle.yf_chars.specs.Chain.{Chosen};
+ghost use Rattle.yf_props.specs.Names as Names;
 ghost use Rattle.yf_props.specs.Props.{no_props};
+ghost use Rattle.yf_props.specs.Properties.{properties_value};
 ghost use Rattle.yf_events.specs.Event.{new_event_value, placed_value, scalar_node};
 ghost use Rattle.yf_grammar.specs.Parser.{begins_content};
 ghost use Rattle.yf_chars.specs.Text.{code};
 ghost use Rattle.yf_flow.specs.Machine.{BegunAt, Place};
+ghost use Rattle.yf_flow.specs.NodeBegun.{NodeBegun};
 ghost use Rattle.yf_flow.specs.Begun.{ContentBegun, bare_lead, entry_event, leaf_event, lead_event};
 
 use crate::frame::{Frame, Node, Scene};
@@ -117,6 +121,7 @@ pub(crate) fn begin_node<'a>(
 ) -> Result<Begun, AllocError>
     requires boundary { IsCharBoundary scene.text.now at }
     requires escapes { All (IsCharBoundary scene.text.now) part.old.escapes }
+    ensures exact { IfOk result (λ b. NodeBegun scene.entry.text.now scene.entry.indentation scene.entry.context at depth scene.entry.limit entry part.old part.new b) }
     ensures begun { IfOk result (λ b. BegunAt scene.entry.text.now at (length part.old.events) (length part.new.events) b) }
     ensures grows { IfOk result (λ _. length part.old.events ≤ length part.new.events) }
     ensures escapes { IfOk result (λ _. All (IsCharBoundary scene.entry.text.now) part.new.escapes) }
@@ -175,6 +180,8 @@ fn propertied_node<'a>(
     requires boundary { IsCharBoundary scene.text.now at }
     requires place { Place scene.text.now (at + 1) properties.end }
     requires escapes { All (IsCharBoundary scene.text.now) part.old.escapes }
+    requires properties { Chosen (Names.Properties scene.text.now scene.indentation scene.context at) properties.end (properties_value properties) }
+    ensures exact { IfOk result (λ b. NodeBegun scene.entry.text.now scene.entry.indentation scene.entry.context at depth scene.entry.limit entry part.old part.new b) }
     ensures begun { IfOk result (λ b. BegunAt scene.entry.text.now at (length part.old.events) (length part.new.events) b) }
     ensures grows { IfOk result (λ _. length part.old.events ≤ length part.new.events) }
     ensures escapes { IfOk result (λ _. All (IsCharBoundary scene.entry.text.now) part.new.escapes) }

@@ -1,4 +1,7 @@
 mod BackShown
+pub mod AwaitEntries
+pub mod AwaitFails
+pub mod AwaitValues
 pub mod BareNodes
 pub mod BlankRuns
 pub mod BlockClaims

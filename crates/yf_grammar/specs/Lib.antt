@@ -1,3 +1,4 @@
+pub mod Awaits
 pub mod Back
 pub mod BlockParser
 pub mod BlockScalar

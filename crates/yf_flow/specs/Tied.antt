@@ -1,0 +1,200 @@
+-- What ties the reader's stack to the recursive reader: of each open collection, what has been read of it and what its outcome will
+-- be, once the outcome of what is awaited is known; and the flat lists of events, comments and escapes that have been written so far.
+use Rattle.std.specs.Prelude.{◌≡◌, ◌≢◌, ℕ, suc, max, ◌+◌, ◌≤◌, ℤ, Bool, true, false, List, [], ◌∷◌, ◌++◌, length, Option, Some, None}
+use Rattle.yf_chars.specs.declared.context.Ctx.{Ctx}
+use Rattle.yf_chars.specs.Text.{code}
+use Rattle.yf_comments.specs.Comment.{CommentValue}
+use Rattle.yf_props.specs.Props.{no_props}
+use Rattle.yf_events.specs.Event.{Placed, mapping_starts}
+use Rattle.yf_events.specs.declared.event.Entry.{Entry}
+use Rattle.yf_events.specs.declared.part.Part.{Part}
+use Rattle.yf_grammar.specs.Grammar.{in_flow, closing}
+use Rattle.yf_grammar.specs.Meaning.{Meaning, ◌⊕◌, noting, entering}
+use Rattle.yf_grammar.specs.Part.{NotedSince}
+use Rattle.yf_grammar.specs.Parser.{Found, AContent, ANode, ColonAt, Parses, only}
+use Rattle.yf_grammar.specs.Awaits.{EntriesAwaited, SeparationAwaited, IsEntry, with_pair, wrapped, RestAwaited, KeyAwaited, ValueAwaited, ValueNodeAwaited, ItemAwaited, is_entry_end, Before, NodeOver, Within}
+use Rattle.yf_flow.specs.declared.frame.Frame.{Frame}
+use Rattle.yf_flow.specs.declared.frame.Kind.{Kind}
+use Rattle.yf_flow.specs.declared.frame.Kind.TheVariants.{Sequence, Mapping, Pair}
+use Rattle.yf_flow.specs.declared.frame.Role.{Role}
+use Rattle.yf_flow.specs.declared.frame.Role.TheVariants.{Item, Key, Value}
+use Rattle.yf_flow.specs.declared.frame.Node as TheNode
+use Rattle.yf_flow.specs.NodeBegun.{opened_event, comments_before}
+use Rattle.yf_flow.specs.Begun.{is_lined}
+
+-- an event with the note of its entry filled in
+pub data NoteOf (t : List ℕ) : Placed → Placed → Type 0 where
+  entryless : {e : Placed} → e.entry ≡ None → NoteOf t e e
+  entry_noted : {e : Placed} {b : Bool} (entry : Entry) → e.entry ≡ Some entry → NotedSince t 0 entry.start b
+      → NoteOf t e (record e { entry = Some (record entry { blank_before = b }) })
+
+pub record NotedEvent (t : List ℕ) (e f : Placed) : Type 0 where
+  pub no_lines : is_lined e.event ≡ false
+  pub note : NoteOf t e f
+
+pub data Noted (t : List ℕ) : List Placed → List Placed → Type 0 where
+  no_events : Noted t [] []
+  event_before : {e f : Placed} {x y : List Placed} → NotedEvent t e f → Noted t x y → Noted t (e ∷ x) (f ∷ y)
+
+-- what has been written so far
+pub record Written (t : List ℕ) (w : Meaning) (part : Part) : Type 0 where
+  pub events : Noted t w.events part.events
+  pub comments : part.comments ≡ w.comments
+  pub escapes : part.escapes ≡ w.escapes
+
+-- one event
+abbrev pub one : Placed → Meaning
+one e = record { events = e ∷ []; comments = []; escapes = []; finish = 0 }
+
+-- an event without a place, which may begin an entry; the entry of a node that is awaited
+abbrev pub entry_from : ℕ → Entry
+entry_from s = record { start = s; colon = None; blank_before = false }
+
+abbrev pub entry_of : Role → ℕ → Option Entry
+entry_of Value s = None
+entry_of _ s = Some (entry_from s)
+
+abbrev pub in_role : Role → ℕ → Meaning → Meaning
+in_role Value s x = x
+in_role _ s x = entering s None x
+
+-- the event that begins a single pair, while its end is not known, before what is read of it
+abbrev pub pair_event : ℕ → Placed
+pair_event s = record { event = mapping_starts true no_props; span = Some (record { start = s; end = s }); tag_offset = None; entry = Some (entry_from s); folded = [] }
+
+abbrev pub ahead : Bool → ℕ → Meaning → Meaning
+ahead false s y = y
+ahead true s y = record y { events = pair_event s ∷ y.events }
+
+-- what is written when so much is known of the entries of a collection, and of its present one
+abbrev pub entries_written : Meaning → Placed → Meaning → Meaning
+entries_written w begin x = w ⊕ one begin ⊕ x
+
+abbrev pub entry_written : Meaning → Placed → Meaning → Bool → ℕ → Meaning → Meaning
+entry_written w begin x pair s y = entries_written w begin x ⊕ ahead pair s y
+
+abbrev pub kind_of : Bool → Kind
+kind_of true = Sequence
+kind_of false = Mapping
+
+-- the frame of a collection in which e more may be opened and at most h were open at once, and whose first event has the index m
+pub record CollectionFrame (limit e h m : ℕ) (sequence : Bool) (f : Frame) : Type 0 where
+  pub kind : f.kind ≡ kind_of sequence
+  pub event : f.event ≡ m
+  pub room : f.depth + e ≡ limit
+  pub deepest : f.deepest ≡ f.depth + h
+
+pub record PairFrame (limit e g m : ℕ) (f : Frame) : Type 0 where
+  pub kind : f.kind ≡ Pair
+  pub event : f.event ≡ m
+  pub room : f.depth + e ≡ limit
+  pub deepest : f.deepest ≡ f.depth + g
+
+-- the frames of the present entry's collection: a single pair has one of its own on that of its sequence
+pub data Framed (limit : ℕ) : Bool → Bool → ℕ → ℕ → ℕ → ℕ → ℕ → Frame → List Frame → Type 0 where
+  of_collection : {sequence : Bool} {e h g m k : ℕ} {f : Frame} → CollectionFrame limit e (max h g) m sequence f → Framed limit sequence false e h g m k f []
+  of_pair : {e h g m k : ℕ} {f s : Frame} → PairFrame limit e g k f → CollectionFrame limit (suc e) h m true s → Framed limit true true e h g m k f (s ∷ [])
+
+-- the node that the present entry awaits
+pub data NodeIn (t : List ℕ) (n : ℤ) (d : Ctx) (s : ℕ) : Role → Bool → ℕ → Bool → ℕ → ℕ → Meaning → Type 0 where
+  item_in : {e : ℕ} → ItemAwaited t n d s → NodeIn t n d s Item true e false s 0 (only [] 0)
+  key_in : {sequence pair : Bool} {e p : ℕ} {x : Meaning} → KeyAwaited t e sequence n d pair s x p → (ColonAt t false d p → ⊥)
+      → NodeIn t n d s Key sequence e pair p 0 x
+  value_in : {sequence pair : Bool} {e p h : ℕ} {x : Meaning} → ValueNodeAwaited t e sequence n d pair s h x p → is_entry_end (code t p) ≡ false
+      → NodeIn t n d s Value sequence e pair p h x
+
+-- the outermost collection: its bracket, its context, the limit within which it is read, and what was written before
+pub record Base : Type 0 where
+  pub place : ℕ
+  pub context : Ctx
+  pub limit : ℕ
+  pub written : Meaning
+  pub event : Placed
+
+pub record IsBase (base : Base) (i : ℕ) (c : Ctx) (e : ℕ) (w : Meaning) (begin : Placed) : Type 0 where
+  pub place : i ≡ base.place
+  pub context : c ≡ base.context
+  pub limit : e ≡ base.limit
+  pub written : w ≡ base.written
+  pub event : begin ≡ base.event
+
+-- the collections round one whose bracket stands at i, the innermost first; so many may be opened, it and those in it
+pub data Below (t : List ℕ) (n : ℤ) (d : Ctx) (base : Base) : List Frame → ℕ → Ctx → ℕ → Meaning → Placed → Type 0 where
+  outermost : {i e : ℕ} {c : Ctx} {w : Meaning} {begin : Placed} → IsBase base i c e w begin → Below t n d base [] i c e w begin
+  inside : {frames rest all : List Frame} {top : Frame} {i h s g p k e : ℕ} {c : Ctx} {w x y : Meaning} {begin : Placed} {sequence pair : Bool} {role : Role} {b : Before} (inner : Bool)
+      → Below t n d base frames i c (suc (with_pair pair e)) w begin
+      → EntriesAwaited t (with_pair pair e) sequence n c d i h x s
+      → code t s ≢ closing sequence
+      → NodeIn t n d s role sequence e pair p g y
+      → Framed base.limit sequence pair e h g (length w.events) (length (entries_written w begin x).events) top rest
+      → top.role ≡ role
+      → NodeOver t n d p k b
+      → all ≡ top ∷ (rest ++ frames)
+      → Below t n d base all k d e (noting (entry_written w begin x pair s y) (comments_before b)) (opened_event p b (entry_of role s) inner k)
+
+-- entries of the collection that is read now are awaited
+pub record AtEntry (t : List ℕ) (n : ℤ) (d : Ctx) (base : Base) (frames : List Frame) (top : Frame) (at : ℕ) (part : Part) : Type 0 where
+  pub sequence : Bool
+  pub place : ℕ
+  pub context : Ctx
+  pub limit : ℕ
+  pub high : ℕ
+  pub before : Meaning
+  pub begin : Placed
+  pub known : Meaning
+  pub below : Below t n d base frames place context (suc limit) before begin
+  pub awaited : SeparationAwaited t limit sequence n context d place high known at
+  pub frame : CollectionFrame base.limit limit high (length before.events) sequence top
+  pub written : Written t (entries_written before begin known) part
+
+-- what is known of the present entry and its collection
+pub record InEntry : Type 0 where
+  pub sequence : Bool
+  pub place : ℕ
+  pub context : Ctx
+  pub pair : Bool
+  pub limit : ℕ
+  pub high : ℕ
+  pub before : Meaning
+  pub begin : Placed
+  pub known : Meaning
+  pub start : ℕ
+  pub under : List Frame
+
+-- the present entry is tied to the frames: g collections were open at once in what is read of it
+pub record EntryTied (t : List ℕ) (n : ℤ) (d : Ctx) (base : Base) (frames : List Frame) (top : Frame) (g : ℕ) (l : InEntry) : Type 0 where
+  pub rest : List Frame
+  pub below : Below t n d base l.under l.place l.context (suc (with_pair l.pair l.limit)) l.before l.begin
+  pub entries : EntriesAwaited t (with_pair l.pair l.limit) l.sequence n l.context d l.place l.high l.known l.start
+  pub open_there : code t l.start ≢ closing l.sequence
+  pub framed : Framed base.limit l.sequence l.pair l.limit l.high g (length l.before.events) (length (entries_written l.before l.begin l.known).events) top rest
+  pub all : frames ≡ rest ++ l.under
+
+abbrev pub written_in : InEntry → Meaning → Meaning
+written_in l y = entry_written l.before l.begin l.known l.pair l.start y
+
+-- a node of the entry is awaited at p, or it has been read
+pub record AtNode (t : List ℕ) (n : ℤ) (d : Ctx) (base : Base) (frames : List Frame) (top : Frame) (p : ℕ) (part : Part) : Type 0 where
+  pub layer : InEntry
+  pub height : ℕ
+  pub read : Meaning
+  pub tied : EntryTied t n d base frames top height layer
+  pub node : NodeIn t n d layer.start top.role layer.sequence layer.limit layer.pair p height read
+  pub entry : top.entry ≡ layer.start
+  pub written : Written t (written_in layer read) part
+
+pub record AtEnded (t : List ℕ) (n : ℤ) (d : Ctx) (base : Base) (frames : List Frame) (top : Frame) (node : TheNode.Node) (part : Part) : Type 0 where
+  pub layer : InEntry
+  pub height : ℕ
+  pub read : Meaning
+  pub place : ℕ
+  pub answer : Found
+  pub tied : EntryTied t n d base frames top height layer
+  pub awaited : NodeIn t n d layer.start top.role layer.sequence layer.limit layer.pair place height read
+  pub entry : top.entry ≡ layer.start
+  pub parsed : Parses t layer.limit (ANode n d place) (Some answer)
+  pub end : node.end ≡ answer.end
+  pub json : node.json ≡ answer.json
+  pub deepest : node.deepest ≡ top.depth + answer.height
+  pub finish : answer.meaning.finish ≡ answer.end
+  pub written : Written t (written_in layer (read ⊕ in_role top.role layer.start answer.meaning)) part
