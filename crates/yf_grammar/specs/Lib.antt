@@ -5,6 +5,7 @@ pub mod Grammar
 pub mod Halts
 pub mod Laws
 pub mod Meaning
+pub mod Meant
 pub mod Parser
 pub mod Part
 pub mod Refusal
