@@ -3,24 +3,30 @@ pub mod AlikeLemmas
 pub mod AmongLemmas
 pub mod BlockLemmas
 pub mod BlockTexts
+pub mod CollectionsMade
 pub mod CountLemmas
 pub mod DecoratedLemmas
 pub mod EndedLemmas
+pub mod EntriesMade
 mod Examples
 pub mod FlagLemmas
 pub mod FormLemmas
 pub mod GapLemmas
 pub mod IndexLemmas
 pub mod KeptLemmas
+pub mod KeysMade
 pub mod LeafLemmas
 pub mod LevelLemmas
 pub mod MeasuredLemmas
+pub mod NodePlaces
+pub mod NodesMade
 pub mod NormalLemmas
 pub mod OffsetLemmas
 pub mod OneLineRuns
 pub mod PassLemmas
 pub mod PlaceLemmas
 pub mod RestyledLemmas
+pub mod RowEnds
 pub mod RunLemmas
 pub mod SettledLemmas
 mod ShownComments
@@ -32,6 +38,7 @@ pub mod StepLemmas
 pub mod StreamLemmas
 pub mod SumLemmas
 pub mod TreeTexts
+pub mod TreesMade
 pub mod UniqueLemmas
 pub mod ValueLemmas
 pub mod WhiteLemmas

@@ -2,17 +2,13 @@
 -- As bytes with anything that follows. It equals `layout` (`proofs/DecoratedLemmas.antt`), and the proofs about a layout rest on it.
 use Rattle.std.specs.Prelude.{ℕ, Bool, true, false, not, ◌&&◌, List, [], ◌∷◌, ◌++◌, map, filter, replicate}
 use Rattle.yf_comments.specs.Comment.{CommentValue}
+pub use Rattle.yf_comments.specs.GapLines.{GapLine, blank, remark, gap_then}
 use Rattle.yf_events.specs.Tree.{DocumentTree}
 use Rattle.yf_events.specs.declared.lists.Lists.{Lists}
 use Rattle.yf_emit.specs.declared.style.Style.{Style}
 use Rattle.yf_emit.specs.Layout.{Source, may_be_blank_behind, own_line_comments, precedes_item, source_of, trailing, trimmed}
 use Rattle.yf_emit.specs.Normal.{setting_of}
 use Rattle.yf_emit.specs.Rows.{Row, Ending, anywhere, at_text_start, stream_rows}
-
--- a line before a row: a blank one, or a comment at a column
-pub data GapLine : Type 0 where
-  blank : GapLine
-  remark : ℕ → List ℕ → GapLine
 
 -- the texts of the comments that trail a row, and the lines after it
 pub record Deco : Type 0 where
@@ -37,11 +33,6 @@ past [] ds = ds
 past (x ∷ xs) ds = past xs (after ds)
 
 -- Bytes, and r after them.
-
-abbrev pub gap_then : List GapLine → List ℕ → List ℕ
-gap_then [] r = r
-gap_then (blank ∷ gs) r = 10 ∷ gap_then gs r
-gap_then (remark column text ∷ gs) r = replicate column 32 ++ (text ++ (10 ∷ gap_then gs r))
 
 abbrev pub trails_then : List (List ℕ) → List ℕ → List ℕ
 trails_then [] r = r

@@ -1,8 +1,10 @@
 pub mod BlockLines
 pub mod BlockValues
+pub mod Carried
 pub mod ContentStart
 pub mod Decorated
 pub mod Deciding
+pub mod Fits
 pub mod Format
 pub mod Formatted
 pub mod Forms

@@ -63,6 +63,7 @@ mod LeavesShown
 pub mod LineNodes
 pub mod LineParts
 pub mod Longest
+pub mod MeantLemmas
 pub mod NodeExact
 pub mod NodeExits
 pub mod NodesAnswered

@@ -6,6 +6,7 @@ pub mod Grammar
 pub mod Halts
 pub mod Laws
 pub mod Meaning
+pub mod Meant
 pub mod Parser
 pub mod Part
 pub mod Refusal

@@ -1,0 +1,144 @@
+-- Block collections, with properties or without, from the rows of their entries.
+use Rattle.std.proofs.Common.{◌≡◌, ◌≢◌, ℕ, suc, ◌+◌, ◌≤◌, ℤ, pos, Bool, true, false, true≢false, List, [], ◌∷◌, ◌++◌, length, Option, Some, None, refl, sym, ap, ◌∙◌, subst, arith}
+use Rattle.std.specs.Prelude.{not, ◌≤ℤ◌, ◌+ℤ◌}
+use Rattle.std.specs.Str.{IsUtf8}
+use Rattle.yf_chars.specs.declared.context.Ctx.{Ctx}
+use Rattle.yf_lines.proofs.RestLemmas.{Rest, rest_spaces, rest_stands, rest_text}
+use Rattle.yf_comments.proofs.GapLinesLemmas.{texts}
+use Rattle.yf_props.specs.Props.{PropsValue, TagValue, no_props}
+use Rattle.yf_props.specs.Props.TagValue.{IsVerbatim, IsShort, IsNonSpecific}
+use Rattle.yf_props.specs.Written.{IsTag, verbatim_form, short_form, lone_form, IsHandle, primary_form, secondary_form, named_form, IsProps, tag_bytes, parts_bytes, props_bytes, tag_offset_at}
+use Rattle.yf_props.proofs.PropsBack.{props_back}
+use Rattle.yf_props.proofs.PropsLines.{props_line_text}
+use Rattle.yf_events.specs.Tree.{Node, is_sequence}
+use Rattle.yf_grammar.specs.Grammar.{least_column}
+use Rattle.yf_grammar.specs.Meaning.{Meaning, behind, collection, with_props}
+use Rattle.yf_grammar.specs.Meant.{Meant, tall}
+use Rattle.yf_grammar.proofs.MeantLemmas.{meant_behind, texts_behind, texts_collection, texts_with_props}
+use Rattle.yf_emit.specs.declared.style.Style.{Style}
+use Rattle.yf_emit.specs.Carried.{AreDecos, carried_texts, Calm}
+use Rattle.yf_emit.specs.Decorated.{Deco, first, after, end_then, lines_then, inline_then}
+use Rattle.yf_emit.specs.Normal.{Spot}
+use Rattle.yf_emit.specs.OneLine.{spaced, anchor_text, tag_text, props_text}
+use Rattle.yf_emit.specs.Rows.{Row, before_node, plain_row, props_row, is_empty_text, begins_below}
+use Rattle.yf_emit.proofs.EntriesMade.{Begins, begins, EntriesMakes, lines_begin}
+use Rattle.yf_emit.proofs.NodePlaces.{NodeAt, entries_at, propertied_at}
+use Rattle.yf_emit.proofs.NodesMade.{Stood, NodeMade, Claim, some_rows}
+use Rattle.yf_emit.proofs.RowEnds.{row_end, end_follows, first_deco, after_decos}
+
+-- Properties are written as they are spelled.
+
+handle_first : (name h x : List ℕ) → IsHandle h → spaced (38 ∷ name) (h ++ x) ≡ (38 ∷ name) ++ (32 ∷ (h ++ x))
+handle_first name h x primary_form = refl
+handle_first name h x secondary_form = refl
+handle_first name h x (named_form a n) = refl
+
+tag_first : (name : List ℕ) (v : TagValue) → IsTag v → spaced (38 ∷ name) (tag_text (Some v)) ≡ (38 ∷ name) ++ (32 ∷ tag_bytes v)
+tag_first name v (verbatim_form s n) = refl
+tag_first name v (short_form {h = h} {x = x} k s n) = handle_first name h x k
+tag_first name v lone_form = refl
+
+same_tag : (v : TagValue) → tag_text (Some v) ≡ tag_bytes v
+same_tag (IsVerbatim text) = refl
+same_tag (IsShort handle suffix) = refl
+same_tag IsNonSpecific = refl
+
+pub same_props : {p : PropsValue} → IsProps p → props_text p ≡ props_bytes p
+same_props {p} k = go p.anchor p.tag (λ v e. k.tag v e) refl where
+  go : (a : Option (List ℕ)) (v : Option TagValue) → ((w : TagValue) → p.tag ≡ Some w → IsTag w) → p.tag ≡ v → spaced (anchor_text a) (tag_text v) ≡ parts_bytes a v
+  go None None k e = refl
+  go None (Some v) k e = same_tag v
+  go (Some name) None k e = refl
+  go (Some name) (Some v) k e = tag_first name v (k v e)
+
+handle_some : (h x : List ℕ) → IsHandle h → is_empty_text (h ++ x) ≡ false
+handle_some h x primary_form = refl
+handle_some h x secondary_form = refl
+handle_some h x (named_form a n) = refl
+
+tag_some : (v : TagValue) → IsTag v → is_empty_text (tag_bytes v) ≡ false
+tag_some v (verbatim_form s n) = refl
+tag_some v (short_form {h = h} {x = x} k s n) = handle_some h x k
+tag_some v lone_form = refl
+
+pub some_props : {p : PropsValue} → IsProps p → p ≢ no_props → is_empty_text (props_bytes p) ≡ false
+some_props {p} k n = go p.anchor p.tag refl refl (λ v e. k.tag v e) where
+  none : p.anchor ≡ None → p.tag ≡ None → p ≡ no_props
+  none e f = ap (λ a. record { anchor = a; tag = p.tag }) e ∙ ap (λ v. record { anchor = None; tag = v }) f
+
+  go : (a : Option (List ℕ)) (v : Option TagValue) → p.anchor ≡ a → p.tag ≡ v → ((w : TagValue) → p.tag ≡ Some w → IsTag w) → is_empty_text (parts_bytes a v) ≡ false
+  go None None e f k = absurd (n (none e f))
+  go None (Some v) e f k = tag_some v (k v f)
+  go (Some name) None e f k = refl
+  go (Some name) (Some v) e f k = refl
+
+-- A collection without properties.
+
+pub bare_claim : {s : Style} {x : Node} {spot : Spot} {es : List Row} {sequence : Bool} {bound : ℕ} {Q : Meaning → Type 0} → begins_below x ≡ true → is_sequence x ≡ sequence → tall x ≡ suc bound
+    → ((i j : ℕ) (m : Meaning) → Q m → Meant x (collection sequence false i j m)) → EntriesMakes sequence spot.entries bound Q es → Claim s x spot es
+bare_claim {s} {x} {spot} {es} {sequence} {bound} {Q} below kind high meant e = claim e.starts e where
+  made : {rs : List Row} → EntriesMakes sequence spot.entries bound Q rs → {t : List ℕ} (n : ℤ) (c : Ctx) (ds : List Deco) (r : List ℕ) (q : ℕ) → IsUtf8 t → Stood s x n c spot → AreDecos ds
+      → Calm rs ds r → Rest t q (inline_then rs ds r) → NodeMade t n c spot.entries x rs ds q r
+  made e {t} n c ds r q u stood a k w =
+      let one = e.made ds r q u a k w in
+      let low : one.height ≤ bound = one.low in
+      record {
+        height = suc one.height;
+        place = one.place;
+        meaning = collection sequence false q one.meaning.finish one.meaning;
+        at = entries_at (ap not below) refl refl (subst (λ b. least_column b n c ≤ℤ pos spot.entries) kind stood.least) one.derived;
+        low = omega (arith, low, high);
+        rest = one.rest;
+        start = one.start;
+        meant = meant q one.meaning.finish one.meaning one.meant;
+        is = texts_collection sequence false q one.meaning.finish one.meaning ∙ one.is;
+      }
+
+  claim : {rs : List Row} → Begins spot.entries rs → EntriesMakes sequence spot.entries bound Q rs → Claim s x spot rs
+  claim (begins f) e = some_rows (λ b. absurd (true≢false (sym below ∙ b))) (λ b. f) (record { made = made e })
+
+-- With properties on a line of their own.
+
+module _ {s : Style} {x : Node} {spot : Spot} {es : List Row} {sequence : Bool} {bound : ℕ} {Q : Meaning → Type 0} {p : PropsValue} (props : IsProps p) (some : p ≢ no_props)
+    (below : begins_below x ≡ false) (kind : is_sequence x ≡ sequence) (high : tall x ≡ suc bound)
+    (meant : (o : Option ℕ) (f g i j : ℕ) (m : Meaning) → Q m → Meant x (with_props p o f g (collection sequence false i j m)))
+    (e : EntriesMakes sequence spot.entries bound Q es) where
+  propertied_made : {t : List ℕ} (row : Row) → row.text ≡ props_bytes p → row.body ≡ [] → (n : ℤ) (c : Ctx) (ds : List Deco) (r : List ℕ) (q : ℕ) → IsUtf8 t → Stood s x n c spot
+      → AreDecos ds → Calm (row ∷ es) ds r → Rest t q (inline_then (row ∷ es) ds r) → NodeMade t n c spot.entries x (row ∷ es) ds q r
+  propertied_made {t} row text body n c ds r q u stood a k w =
+      let there : Rest t q (props_bytes p ++ end_then (first ds) [] (lines_then es (after ds) r)) =
+      subst (λ l. Rest t q (props_bytes p ++ end_then (first ds) l (lines_then es (after ds) r))) body
+      (subst (λ v. Rest t q (v ++ end_then (first ds) row.body (lines_then es (after ds) r))) text w) in
+      let properties = props_back (n +ℤ pos 1) c (end_then (first ds) [] (lines_then es (after ds) r)) u props some (end_follows (first ds) [] (lines_then es (after ds) r)) (rest_stands there) in
+      let after_props = rest_text (props_bytes p) u (props_line_text props) there in
+      let end = row_end (first ds) (lines_then es (after ds) r) u (first_deco a) after_props.rest in
+      let spaces = rest_spaces spot.entries end.place u (subst (λ v. Rest t end.place v) (lines_begin (after ds) r e.starts) end.rest) in
+      let one = e.made (after ds) r (end.place + spot.entries) u (after_decos a) k.1 spaces.1 in
+      let low : one.height ≤ bound = one.low in
+      let offset : Option ℕ = tag_offset_at q p.anchor p.tag in
+      let g : ℕ = q + length (props_bytes p) in
+      let inner : Meaning = collection sequence false (end.place + spot.entries) one.meaning.finish one.meaning in
+      let at = propertied_at {c = c} {p = p} stood.block properties end.end spaces.0 (subst (λ b. least_column b n c ≤ℤ pos spot.entries) kind stood.least) one.derived in
+      record {
+        height = suc one.height;
+        place = one.place;
+        meaning = behind end.comments (with_props p offset q g inner);
+        at = subst (λ f. NodeAt t n c spot.entries f (suc one.height) q one.place (behind end.comments (with_props p offset q g inner))) (ap not (sym below)) at;
+        low = omega (arith, low, high);
+        rest = one.rest;
+        start = one.start;
+        meant = meant_behind end.comments (meant offset q g (end.place + spot.entries) one.meaning.finish one.meaning one.meant);
+        is = texts_behind end.comments (with_props p offset q g inner) ∙ (ap (λ z. z ++ texts (with_props p offset q g inner).comments) end.is
+            ∙ ap (λ z. carried_texts (first ds) ++ z) (texts_with_props p offset q g inner ∙ (texts_collection sequence false (end.place + spot.entries) one.meaning.finish one.meaning ∙ one.is)));
+      }
+
+  propertied_row : (w : List ℕ) → w ≡ props_bytes p → is_empty_text w ≡ false → Claim s x spot (props_row spot.column w ++ es)
+  propertied_row [] e f = absurd (true≢false f)
+  propertied_row (b ∷ w) text f =
+      some_rows (λ z. refl) (λ z. absurd (true≢false (sym z ∙ below))) (record {
+        made = λ {t} n c ds r q u stood a k v.
+            propertied_made (record (plain_row spot.column (b ∷ w)) { ending = before_node }) text refl n c ds r q u stood a k v;
+      })
+
+  pub propertied_claim : Claim s x spot (props_row spot.column (props_text p) ++ es)
+  propertied_claim = propertied_row (props_text p) (same_props props) (ap is_empty_text (same_props props) ∙ some_props props some)

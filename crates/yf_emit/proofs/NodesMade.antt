@@ -1,0 +1,150 @@
+-- What it means that the rows of a node, wherever they stand with what they carry, are derived as that node; leaves on one line, and nodes
+-- after a sign.
+use Rattle.std.proofs.Common.{◌≡◌, ℕ, ◌+◌, ◌-◌, ◌<◌, ◌≤◌, ℤ, pos, Bool, true, false, List, [], ◌∷◌, ◌++◌, replicate, refl, sym, ap, ◌∙◌, subst, arith, append_assoc, append-nil, ◌⊎◌, inl, inr}
+use Rattle.std.specs.Prelude.{◌≤ℤ◌, ◌+ℤ◌, not, None}
+use Rattle.std.specs.Str.{IsUtf8}
+use Rattle.yf_chars.specs.declared.context.Ctx.{Ctx}
+use Rattle.yf_chars.specs.declared.context.Ctx.TheVariants.{FlowOut}
+use Rattle.yf_chars.specs.Text.{code}
+use Rattle.yf_lines.specs.Basic.{is_block, LineStart}
+use Rattle.yf_lines.proofs.RestLemmas.{Rest, rest_ascii, rest_spaces, rest_text}
+use Rattle.yf_comments.proofs.GapLinesLemmas.{texts}
+use Rattle.yf_block_scalar.specs.Body.{base}
+use Rattle.yf_events.specs.Tree.{Node, is_sequence}
+use Rattle.yf_grammar.specs.Grammar.{Derives, BlockIndented, least_column}
+use Rattle.yf_grammar.specs.Grammar.Derives.{flow_node, nothing_indented}
+use Rattle.yf_grammar.specs.Meaning.{Meaning, noting, empty_node}
+use Rattle.yf_grammar.specs.Meant.{Meant, tall}
+use Rattle.yf_grammar.proofs.FlowBack.{visible_at}
+use Rattle.yf_grammar.proofs.LeafBack.{any_follow}
+use Rattle.yf_grammar.proofs.MeantLemmas.{meant_noting, texts_noting, texts_empty}
+use Rattle.yf_emit.specs.declared.style.Style.{Style}
+use Rattle.yf_emit.specs.Carried.{AreDecos, carried_texts, comments_in, Calm}
+use Rattle.yf_emit.specs.Decorated.{Deco, first, after, trails_then, end_then, lines_then, inline_then}
+use Rattle.yf_emit.specs.Fits.{LineNode}
+use Rattle.yf_emit.specs.Normal.{Spot}
+use Rattle.yf_emit.specs.OneLine.{written}
+use Rattle.yf_emit.specs.Rows.{Row, anywhere, joined, begins_below}
+use Rattle.yf_emit.proofs.NodePlaces.{NodeAt, leaf_at, behind_sign_at}
+use Rattle.yf_emit.proofs.RowEnds.{row_end, end_follows, first_deco}
+
+-- where a node stands in its block: in a block context, its entries at a column at which they may stand, and the lines of a block scalar
+-- so many columns right of the indentation around it
+pub record Stood (s : Style) (x : Node) (n : ℤ) (c : Ctx) (spot : Spot) : Type 0 where
+  pub block : is_block c ≡ true
+  pub least : least_column (is_sequence x) n c ≤ℤ pos spot.entries
+  pub lines : spot.lines ≡ base n + s.indent
+
+-- the node whose first row's text stands at q, up to the row that r begins with
+pub record NodeMade (t : List ℕ) (n : ℤ) (c : Ctx) (m : ℕ) (x : Node) (rs : List Row) (ds : List Deco) (q : ℕ) (r : List ℕ) : Type 0 where
+  pub height : ℕ
+  pub place : ℕ
+  pub meaning : Meaning
+  pub at : NodeAt t n c m (not (begins_below x)) height q place meaning
+  pub low : height ≤ tall x
+  pub rest : Rest t place r
+  pub start : LineStart t place
+  pub meant : Meant x meaning
+  pub is : texts meaning.comments ≡ comments_in rs ds
+
+pub record Makes (s : Style) (x : Node) (spot : Spot) (rs : List Row) : Type 0 where
+  pub made : {t : List ℕ} (n : ℤ) (c : Ctx) (ds : List Deco) (r : List ℕ) (q : ℕ) → IsUtf8 t → Stood s x n c spot → AreDecos ds → Calm rs ds r
+      → Rest t q (inline_then rs ds r) → NodeMade t n c spot.entries x rs ds q r
+
+-- what is shown of a node and its rows: it has none and means nothing, or they are derived as the node
+pub record MeansNothing (x : Node) : Type 0 where
+  pub meant : (i : ℕ) → Meant x (empty_node i)
+
+pub data Claim (s : Style) (x : Node) (spot : Spot) : List Row → Type 0 where
+  no_row : MeansNothing x → Claim s x spot []
+  some_rows : {r : Row} {rs : List Row} → (begins_below x ≡ false → r.column ≡ spot.column) → (begins_below x ≡ true → r.column ≡ spot.entries)
+      → Makes s x spot (r ∷ rs) → Claim s x spot (r ∷ rs)
+
+-- A leaf or a flow collection on one line.
+
+pub line_made : {t : List ℕ} {s : Style} {x : Node} {r : Row} (spot : Spot) (n : ℤ) (c : Ctx) (ds : List Deco) (z : List ℕ) (q : ℕ) → begins_below x ≡ false
+    → r.text ≡ written x → r.body ≡ [] → LineNode FlowOut x → IsUtf8 t → Stood s x n c spot → AreDecos ds → Rest t q (inline_then (r ∷ []) ds z)
+    → NodeMade t n c spot.entries x (r ∷ []) ds q z
+line_made {t} {s} {x} {r} spot n c ds z q b text body node u stood a w =
+    let there : Rest t q (written x ++ end_then (first ds) [] z) =
+    subst (λ l. Rest t q (written x ++ end_then (first ds) l z)) body (subst (λ v. Rest t q (v ++ end_then (first ds) r.body z)) text w) in
+    let derived = node.back.made (n +ℤ pos 1) q (end_then (first ds) [] z) u (any_follow node.colon (end_follows (first ds) [] z)) there in
+    let behind_text = rest_text (written x) u node.back.line there in
+    let end = row_end (first ds) z u (first_deco a) behind_text.rest in
+    let at = leaf_at {c = c} spot.entries stood.block (flow_node derived) end.end in
+    record {
+      height = node.height;
+      place = end.place;
+      meaning = noting (node.mean q) end.comments;
+      at = subst (λ f. NodeAt t n c spot.entries f node.height q end.place (noting (node.mean q) end.comments)) (ap not (sym b)) at;
+      low = node.low;
+      rest = end.rest;
+      start = end.start;
+      meant = meant_noting end.comments (node.meant q);
+      is = texts_noting (node.mean q) end.comments ∙ (ap (λ k. texts k ++ texts end.comments) (node.silent q) ∙ (end.is ∙ sym (append-nil (carried_texts (first ds)))));
+    }
+
+-- After a sign.
+
+abbrev pub sign_row : ℕ → ℕ → List ℕ → Bool → Row
+sign_row column sign items blank =
+    record { column = column; text = sign ∷ []; items = items; leaves = []; key_comment = None; blank_before = blank; ending = anywhere; body = []; lines = 0 }
+
+pub record SignMade (t : List ℕ) (a : ℕ) (c : Ctx) (sign : ℕ) (x : Node) (rs : List Row) (ds : List Deco) (q : ℕ) (r : List ℕ) : Type 0 where
+  pub height : ℕ
+  pub place : ℕ
+  pub meaning : Meaning
+  pub stands : code t q ≡ sign
+  pub behind : (code t (q + 1) ≡ 32) ⊎ (code t (q + 1) ≡ 10)
+  pub derived : Derives t height (BlockIndented a c) (q + 1) place meaning
+  pub low : height ≤ tall x
+  pub rest : Rest t place r
+  pub start : LineStart t place
+  pub meant : Meant x meaning
+  pub is : texts meaning.comments ≡ comments_in rs ds
+
+end_code : {t : List ℕ} {q : ℕ} (xs : List (List ℕ)) (r : List ℕ) → IsUtf8 t → Rest t q (trails_then xs (10 ∷ r)) → (code t q ≡ 32) ⊎ (code t q ≡ 10)
+end_code [] r u s = inr (rest_ascii 10 u (omega arith) (λ e. absurd (omega arith)) s).0.char
+end_code (x ∷ xs) r u s = inl (rest_ascii 32 u (omega arith) (λ e. absurd (omega arith)) s).0.char
+
+pub sign_made : {t : List ℕ} {s : Style} {x : Node} {spot : Spot} {rs : List Row} (a sign : ℕ) (column : ℕ) (items : List ℕ) (blank : Bool) (c : Ctx) (ds : List Deco) (r : List ℕ) (q : ℕ)
+    → 32 ≤ sign → sign < 127 → 2 ≤ s.indent → Claim s x spot rs → spot.entries ≡ a + s.indent → IsUtf8 t → Stood s x (pos a) c spot → AreDecos ds
+    → Calm (joined (sign_row column sign items blank) (s.indent - 1) rs) ds r → Rest t q (inline_then (joined (sign_row column sign items blank) (s.indent - 1) rs) ds r)
+    → SignMade t a c sign x (joined (sign_row column sign items blank) (s.indent - 1) rs) ds q r
+sign_made {t} {s} {x} {spot} a sign column items blank c ds r q low high wide (no_row m) e u stood k calm w =
+    let at = visible_at sign u low high w in
+    let end = row_end (first ds) r u (first_deco k) at.1 in
+    record {
+      height = 0;
+      place = end.place;
+      meaning = noting (empty_node (q + 1)) end.comments;
+      stands = at.0;
+      behind = end_code (first ds).trails _ u at.1;
+      derived = nothing_indented stood.block end.end;
+      low = omega arith;
+      rest = end.rest;
+      start = end.start;
+      meant = meant_noting end.comments (m.meant (q + 1));
+      is = texts_noting (empty_node (q + 1)) end.comments ∙ (ap (λ z. z ++ texts end.comments) (texts_empty (q + 1)) ∙ (end.is ∙ sym (append-nil (carried_texts (first ds)))));
+    }
+sign_made {t} {s} {x} {spot} a sign column items blank c ds r q low high wide (some_rows {r = y} {rs = ys} f g m) e u stood k calm w =
+    let n : ℕ = s.indent - 1 in
+    let same : (replicate n 32 ++ y.text) ++ end_then (first ds) y.body (lines_then ys (after ds) r) ≡ replicate n 32 ++ inline_then (y ∷ ys) ds r =
+    append_assoc (replicate n 32) y.text (end_then (first ds) y.body (lines_then ys (after ds) r)) in
+    let at = visible_at sign u low high (subst (λ v. Rest t q (sign ∷ v)) same w) in
+    let spaces = rest_spaces n (q + 1) u at.1 in
+    let node = m.made (pos a) c ds r (q + 1 + n) u stood k calm spaces.1 in
+    let zero_more : q + 1 + 0 ≡ q + 1 = omega arith in
+    record {
+      height = node.height;
+      place = node.place;
+      meaning = node.meaning;
+      stands = at.0;
+      behind = inl (ap (code t) (sym zero_more) ∙ spaces.0.each 0 (omega arith));
+      derived = behind_sign_at n stood.block (omega arith) (e ∙ omega arith) spaces.0 refl node.at;
+      low = node.low;
+      rest = node.rest;
+      start = node.start;
+      meant = node.meant;
+      is = node.is;
+    }

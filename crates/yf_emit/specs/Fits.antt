@@ -1,0 +1,65 @@
+-- Trees whose rows are read again: each node that is written on one line is, wherever it stands.
+use Rattle.std.specs.Prelude.{◌≡◌, ◌≢◌, ℕ, ◌≤◌, Bool, true, false, is_some, List, [], ◌∷◌}
+use Rattle.yf_chars.specs.declared.context.Ctx.{Ctx}
+use Rattle.yf_chars.specs.declared.context.Ctx.TheVariants.{FlowOut, BlockKey}
+use Rattle.yf_props.specs.Props.{PropsValue, no_props}
+use Rattle.yf_props.specs.Written.{IsProps}
+use Rattle.yf_events.specs.declared.event.ScalarStyle.TheVariants.{Plain, Single, Double, Literal, Folded}
+use Rattle.yf_events.specs.Tree.{Standing, Node, scalar, alias, sequence, mapping, Items, no_items, item, Pairs, no_pairs, pair}
+use Rattle.yf_grammar.specs.Back.{Back}
+use Rattle.yf_grammar.specs.Meaning.{Meaning}
+use Rattle.yf_grammar.specs.Meant.{Meant, tall}
+use Rattle.yf_emit.specs.OneLine.{written, colon_behind}
+
+-- a node on one line is derived wherever its text stands, and means the same node
+pub record LineNode (c : Ctx) (x : Node) : Type 0 where
+  pub json : Bool
+  pub colon : Bool
+  pub height : ℕ
+  pub mean : ℕ → Meaning
+  pub back : Back json colon c (written x) height mean
+  pub low : height ≤ tall x
+  pub meant : (q : ℕ) → Meant x (mean q)
+  pub silent : (q : ℕ) → (mean q).comments ≡ []
+
+-- the `:` after a key: at once, where it may stand there, or after a space
+pub data ColonFits (at_once : Bool) : List ℕ → Type 0 where
+  colon_at_once : at_once ≡ true → ColonFits at_once (58 ∷ [])
+  colon_apart : ColonFits at_once (32 ∷ 58 ∷ [])
+
+pub record KeyNode (x : Node) : Type 0 where
+  pub node : LineNode BlockKey x
+  pub colon : ColonFits node.colon (colon_behind x)
+
+-- whether a node is written on one line wherever it stands
+abbrev pub is_inline : Node → Bool
+is_inline (scalar at props Plain text lines) = true
+is_inline (scalar at props Single text lines) = true
+is_inline (scalar at props Double text lines) = true
+is_inline (scalar at props Literal text lines) = false
+is_inline (scalar at props Folded text lines) = false
+is_inline (alias at name) = true
+is_inline (sequence at flow props items) = flow
+is_inline (mapping at flow props pairs) = flow
+
+-- the properties of a block collection: none, or some that are spelled as properties are
+pub data FitProps : PropsValue → Type 0 where
+  no_fit_props : FitProps no_props
+  some_fit_props : {p : PropsValue} → IsProps p → p ≢ no_props → FitProps p
+
+mutual
+  pub data Fit : Node → Type 0 where
+    fit_nothing : {at : Standing} → is_some at.span ≡ false → Fit (scalar at no_props Plain [] [])
+    fit_line : {x : Node} → is_inline x ≡ true → written x ≢ [] → LineNode FlowOut x → KeyNode x → Fit x
+    fit_sequence : {at : Standing} {p : PropsValue} {x : Node} {xs : Items} → is_some at.span ≡ true → FitProps p → Fit x → FitItems xs
+        → Fit (sequence at false p (item x xs))
+    fit_mapping : {at : Standing} {p : PropsValue} {k v : Node} {ps : Pairs} → is_some at.span ≡ true → FitProps p → Fit k → Fit v → FitPairs ps
+        → Fit (mapping at false p (pair k v ps))
+
+  pub data FitItems : Items → Type 0 where
+    fit_no_items : FitItems no_items
+    fit_item : {x : Node} {xs : Items} → Fit x → FitItems xs → FitItems (item x xs)
+
+  pub data FitPairs : Pairs → Type 0 where
+    fit_no_pairs : FitPairs no_pairs
+    fit_pair : {k v : Node} {ps : Pairs} → Fit k → Fit v → FitPairs ps → FitPairs (pair k v ps)

@@ -1,0 +1,175 @@
+-- The trees that parts of a production mean make up the tree that it means.
+use Rattle.std.proofs.Common.{◌≡◌, ℕ, Bool, true, false, List, [], ◌∷◌, ◌++◌, Option, Some, None, refl, sym, ap, ◌∙◌, subst, append_assoc, append-nil}
+use Rattle.std.specs.Prelude.{is_some}
+use Rattle.yf_comments.specs.Comment.{CommentValue}
+use Rattle.yf_comments.proofs.GapLinesLemmas.{texts, texts_append}
+use Rattle.yf_props.specs.Props.{PropsValue, no_props}
+use Rattle.yf_events.specs.Alike.{Alike, alike_scalars, alike_aliases, alike_sequences, alike_mappings, AlikeItems, alike_nothing, alike_item, AlikePairs, alike_no_pairs, alike_pair}
+use Rattle.yf_events.specs.Event.{sequence_starts, sequence_ends, mapping_starts, mapping_ends}
+use Rattle.yf_events.specs.declared.event.Entry.{Entry}
+use Rattle.yf_events.specs.declared.event.ScalarStyle.TheVariants.{Plain}
+use Rattle.yf_events.specs.Tree.{Standing, Node, scalar as scalar_tree, alias as alias_tree, sequence, mapping, Items, no_items, item, Pairs, no_pairs, pair, placed, unplaced, flat, flat_items, flat_pairs}
+use Rattle.yf_grammar.specs.Meaning.{Meaning, ◌⊕◌, behind, noting, plain_event, from_to, empty_node, collection, with_props, first_entering, entering}
+use Rattle.yf_grammar.specs.Meant.{Anywhere, Meant, ItemsMeant, PairsMeant}
+
+-- Comments.
+
+pub texts_both : (x y : Meaning) → texts (x ⊕ y).comments ≡ texts x.comments ++ texts y.comments
+unfolding ◌⊕◌
+texts_both x y = texts_append x.comments y.comments
+
+pub texts_behind : (cs : List CommentValue) (x : Meaning) → texts (behind cs x).comments ≡ texts cs ++ texts x.comments
+unfolding behind
+texts_behind cs x = texts_append cs x.comments
+
+pub texts_noting : (x : Meaning) (cs : List CommentValue) → texts (noting x cs).comments ≡ texts x.comments ++ texts cs
+unfolding noting
+texts_noting x cs = texts_append x.comments cs
+
+pub texts_entering : (i : ℕ) (c : Option ℕ) (x : Meaning) → texts (entering i c x).comments ≡ texts x.comments
+unfolding entering
+texts_entering i c x = refl
+
+pub texts_collection : (s f : Bool) (i j : ℕ) (x : Meaning) → texts (collection s f i j x).comments ≡ texts x.comments
+unfolding collection
+texts_collection s f i j x = refl
+
+pub texts_with_props : (p : PropsValue) (o : Option ℕ) (i j : ℕ) (x : Meaning) → texts (with_props p o i j x).comments ≡ texts x.comments
+unfolding with_props
+texts_with_props p o i j x = refl
+
+pub texts_empty : (i : ℕ) → texts (empty_node i).comments ≡ []
+unfolding empty_node
+texts_empty i = refl
+
+-- Nodes.
+
+pub meant_behind : {x : Node} {m : Meaning} (cs : List CommentValue) → Meant x m → Meant x (behind cs m)
+unfolding behind
+meant_behind cs a = record { node = a.node; alike = a.alike; events = a.events; escapes = a.escapes }
+
+pub meant_noting : {x : Node} {m : Meaning} (cs : List CommentValue) → Meant x m → Meant x (noting m cs)
+unfolding noting
+meant_noting cs a = record { node = a.node; alike = a.alike; events = a.events; escapes = a.escapes }
+
+-- the entry that it begins
+abbrev entered : Entry → Node → Node
+entered e (scalar_tree at props style text lines) = scalar_tree (record at { entry = Some e }) props style text lines
+entered e (alias_tree at name) = alias_tree (record at { entry = Some e }) name
+entered e (sequence at flow props xs) = sequence (record at { entry = Some e }) flow props xs
+entered e (mapping at flow props ps) = mapping (record at { entry = Some e }) flow props ps
+
+entered_events : (e : Entry) (x : Node) → first_entering e (flat x) ≡ flat (entered e x)
+entered_events e (scalar_tree at props style text lines) = refl
+entered_events e (alias_tree at name) = refl
+entered_events e (sequence at flow props xs) = refl
+entered_events e (mapping at flow props ps) = refl
+
+entered_alike : {x y : Node} (e : Entry) → Alike Anywhere x y → Alike Anywhere x (entered e y)
+entered_alike e (alike_scalars a) = alike_scalars a
+entered_alike e (alike_aliases a) = alike_aliases a
+entered_alike e (alike_sequences a b) = alike_sequences a b
+entered_alike e (alike_mappings a b) = alike_mappings a b
+
+pub meant_entering : {x : Node} {m : Meaning} (i : ℕ) (c : Option ℕ) → Meant x m → Meant x (entering i c m)
+unfolding entering
+meant_entering i c a =
+    let entry : Entry = record { start = i; colon = c; blank_before = false } in
+    record {
+      node = entered entry a.node;
+      alike = entered_alike entry a.alike;
+      events = ap (first_entering entry) a.events ∙ entered_events entry a.node;
+      escapes = a.escapes;
+    }
+
+pub meant_nothing : {at : Standing} {lines : List (List ℕ)} (i : ℕ) → is_some at.span ≡ false → lines ≡ [] → Meant (scalar_tree at no_props Plain [] lines) (empty_node i)
+unfolding empty_node plain_event
+meant_nothing {at} i e l = subst (λ ls. Meant (scalar_tree at no_props Plain [] ls) (empty_node i)) (sym l) (record {
+  node = scalar_tree (record { span = None; tag_offset = None; entry = None }) no_props Plain [] [];
+  alike = alike_scalars e;
+  events = refl;
+  escapes = refl;
+})
+
+-- Items and pairs.
+
+pub last_item_meant : {x : Node} {m : Meaning} → Meant x m → ItemsMeant (item x no_items) m
+last_item_meant a = record {
+  items = item a.node no_items;
+  alike = alike_item a.alike alike_nothing;
+  events = a.events ∙ sym (append-nil (flat a.node));
+  escapes = a.escapes;
+}
+
+pub more_items_meant : {x : Node} {xs : Items} {m n : Meaning} → Meant x m → ItemsMeant xs n → ItemsMeant (item x xs) (m ⊕ n)
+unfolding ◌⊕◌
+more_items_meant {n = n} a b = record {
+  items = item a.node b.items;
+  alike = alike_item a.alike b.alike;
+  events = ap (λ z. z ++ n.events) a.events ∙ ap (λ z. flat a.node ++ z) b.events;
+  escapes = ap (λ z. z ++ n.escapes) a.escapes ∙ b.escapes;
+}
+
+pub last_pair_meant : {k v : Node} {m n : Meaning} → Meant k m → Meant v n → PairsMeant (pair k v no_pairs) (m ⊕ n)
+unfolding ◌⊕◌
+last_pair_meant {n = n} a b = record {
+  pairs = pair a.node b.node no_pairs;
+  alike = alike_pair a.alike b.alike tt alike_no_pairs;
+  events = ap (λ z. z ++ n.events) a.events ∙ ap (λ z. flat a.node ++ z) (b.events ∙ sym (append-nil (flat b.node)));
+  escapes = ap (λ z. z ++ n.escapes) a.escapes ∙ b.escapes;
+}
+
+pub more_pairs_meant : {k v : Node} {ps : Pairs} {m n o : Meaning} → Meant k m → Meant v n → PairsMeant ps o → PairsMeant (pair k v ps) (m ⊕ n ⊕ o)
+unfolding ◌⊕◌
+more_pairs_meant {m = m} {n = n} {o = o} a b c = record {
+  pairs = pair a.node b.node c.pairs;
+  alike = alike_pair a.alike b.alike tt c.alike;
+  events = append_assoc m.events n.events o.events
+      ∙ (ap (λ z. z ++ (n.events ++ o.events)) a.events ∙ ap (λ z. flat a.node ++ z) (ap (λ z. z ++ o.events) b.events ∙ ap (λ z. flat b.node ++ z) c.events));
+  escapes = append_assoc m.escapes n.escapes o.escapes ∙ (ap (λ z. z ++ (n.escapes ++ o.escapes)) a.escapes ∙ (ap (λ z. z ++ o.escapes) b.escapes ∙ c.escapes));
+}
+
+-- Collections in block style, with properties or without.
+
+abbrev spanned : ℕ → ℕ → Option ℕ → Standing
+spanned i j o = record { span = from_to i j; tag_offset = o; entry = None }
+
+pub sequence_meant : {at : Standing} {xs : Items} {m : Meaning} (i j : ℕ) → is_some at.span ≡ true → ItemsMeant xs m
+    → Meant (sequence at false no_props xs) (collection true false i j m)
+unfolding collection plain_event from_to
+sequence_meant i j e a = record {
+  node = sequence (spanned i j None) false no_props a.items;
+  alike = alike_sequences e a.alike;
+  events = ap (λ z. placed (spanned i j None) (sequence_starts false no_props) [] ∷ (z ++ (unplaced sequence_ends ∷ []))) a.events;
+  escapes = a.escapes;
+}
+
+pub mapping_meant : {at : Standing} {ps : Pairs} {m : Meaning} (i j : ℕ) → is_some at.span ≡ true → PairsMeant ps m
+    → Meant (mapping at false no_props ps) (collection false false i j m)
+unfolding collection plain_event from_to
+mapping_meant i j e a = record {
+  node = mapping (spanned i j None) false no_props a.pairs;
+  alike = alike_mappings e a.alike;
+  events = ap (λ z. placed (spanned i j None) (mapping_starts false no_props) [] ∷ (z ++ (unplaced mapping_ends ∷ []))) a.events;
+  escapes = a.escapes;
+}
+
+pub sequence_with_meant : {at : Standing} {xs : Items} {m : Meaning} (p : PropsValue) (o : Option ℕ) (f g i j : ℕ) → is_some at.span ≡ true → ItemsMeant xs m
+    → Meant (sequence at false p xs) (with_props p o f g (collection true false i j m))
+unfolding collection plain_event from_to with_props
+sequence_with_meant p o f g i j e a = record {
+  node = sequence (spanned f j o) false p a.items;
+  alike = alike_sequences e a.alike;
+  events = ap (λ z. placed (spanned f j o) (sequence_starts false p) [] ∷ (z ++ (unplaced sequence_ends ∷ []))) a.events;
+  escapes = a.escapes;
+}
+
+pub mapping_with_meant : {at : Standing} {ps : Pairs} {m : Meaning} (p : PropsValue) (o : Option ℕ) (f g i j : ℕ) → is_some at.span ≡ true → PairsMeant ps m
+    → Meant (mapping at false p ps) (with_props p o f g (collection false false i j m))
+unfolding collection plain_event from_to with_props
+mapping_with_meant p o f g i j e a = record {
+  node = mapping (spanned f j o) false p a.pairs;
+  alike = alike_mappings e a.alike;
+  events = ap (λ z. placed (spanned f j o) (mapping_starts false p) [] ∷ (z ++ (unplaced mapping_ends ∷ []))) a.events;
+  escapes = a.escapes;
+}
