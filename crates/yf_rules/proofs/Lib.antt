@@ -12,6 +12,7 @@ pub mod BegunLemmas
 pub mod NotedLemmas
 pub mod BlockLemmas
 pub mod TrailingLemmas
+pub mod BlankLemmas
 pub mod StyleLemmas
 pub mod ShownMarks
 mod ShownKeys

@@ -2,7 +2,7 @@
 use Rattle.std.proofs.Common.{◌≡◌, ◌≢◌, ℕ, ◌+◌, ◌<◌, ◌≤◌, Bool, true, false, List, length, get_or, set, replicate, refl, sym, subst, ap, ◌∙◌, inl, inr, ⊎_elim, arith, true≢false}
 use Rattle.std.proofs.lemmas.Bool.{cases_lt, cases_eq}
 use Rattle.std.proofs.lemmas.List.{get_or-set_same, get_or-set_other, get_or-replicate, get_or_past, length-replicate, length-set}
-use Rattle.yf_rules.specs.Noted.{Noted, NotedBy}
+use Rattle.yf_rules.specs.Noted.{Noted, NotedBy, Tells}
 
 -- what a pass over the lines has noted before the line `at`
 pub record Until (P : ℕ → Type 0) (at k : ℕ) : Type 0 where
@@ -73,4 +73,56 @@ pub none_more_by : (xs : List Bool) (i : ℕ) (P : ℕ → ℕ → Type 0) → (
 none_more_by xs i P f b = record {
   only = λ k q. let w = b.only k q in (w.0, omega (arith, w.1), w.2);
   all = λ j k l m p. ⊎_elim (λ (h : j < i). b.all j k h m p) (λ (h : i ≤ j). absurd (f k (subst (λ x. P x k) (omega (arith, h, l)) p))) (cases_lt j i);
+}
+
+-- one line is noted, or none
+pub sole_noted : (old : List Bool) (P : ℕ → Type 0) (at : ℕ) → at < length old → P at → ((k : ℕ) → P k → k ≡ at) → Noted old (set old at true) P
+sole_noted old P at l p f = record {
+  len = length-set old at true;
+  only = λ k q. ⊎_elim (λ (h : k ≡ at). inr (subst P (sym h) p)) (λ (h : k ≢ at). inl (sym (get_or-set_other old at k true false h) ∙ q)) (cases_eq k at);
+  kept = λ k q. ⊎_elim (λ (h : k ≡ at). subst (λ j. get_or (set old at true) j false ≡ true) (sym h) (get_or-set_same old at true false l))
+      (λ (h : k ≢ at). get_or-set_other old at k true false h ∙ q) (cases_eq k at);
+  all = λ k m q. subst (λ j. get_or (set old at true) j false ≡ true) (sym (f k q)) (get_or-set_same old at true false l);
+}
+
+pub none_noted : (old : List Bool) (P : ℕ → Type 0) → ((k : ℕ) → P k → ⊥) → Noted old old P
+none_noted old P f = record { len = refl; only = λ k q. inl q; kept = λ k q. q; all = λ k m q. absurd (f k q) }
+
+-- the same under another name
+pub noted_as : (old new : List Bool) (P Q : ℕ → Type 0) → ((k : ℕ) → P k → Q k) → ((k : ℕ) → Q k → P k) → Noted old new P → Noted old new Q
+noted_as old new P Q f g n = record {
+  len = n.len;
+  only = λ k q. ⊎_elim (λ (o : get_or old k false ≡ true). inl o) (λ (o : P k). inr (f k o)) (n.only k q);
+  kept = n.kept;
+  all = λ k m q. n.all k m (g k q);
+}
+
+-- what the indices below n say, step by step
+abbrev pub Below : (ℕ → ℕ → Type 0) → ℕ → ℕ → Type 0
+Below P n k = (i : ℕ) × (i < n) × P i k
+
+pub none_below : (xs : List Bool) (P : ℕ → ℕ → Type 0) → Noted xs xs (Below P 0)
+none_below xs P = none_noted xs (Below P 0) (λ k w. omega (arith, w.1))
+
+pub one_below : (old mid new : List Bool) (P : ℕ → ℕ → Type 0) (n : ℕ) → Noted old mid (Below P n) → Noted mid new (P n) → Noted old new (Below P (n + 1))
+one_below old mid new P n a b = record {
+  len = b.len ∙ a.len;
+  only = λ k q. ⊎_elim
+      (λ (o : get_or mid k false ≡ true). ⊎_elim (λ (e : get_or old k false ≡ true). inl e) (λ (w : Below P n k). inr (w.0, omega (arith, w.1), w.2)) (a.only k o))
+      (λ (o : P n k). inr (n, omega arith, o))
+      (b.only k q);
+  kept = λ k q. b.kept k (a.kept k q);
+  all = λ k m w. ⊎_elim (λ (h : w.0 < n). b.kept k (a.all k m (w.0, h, w.2)))
+      (λ (h : n ≤ w.0). b.all k (omega (arith, m, a.len)) (subst (λ i. P i k) (omega (arith, h, w.1)) w.2))
+      (cases_lt w.0 n);
+}
+
+pub all_below : (old new : List Bool) (P : ℕ → ℕ → Type 0) (n : ℕ) → ((i k : ℕ) → P i k → i < n) → Noted old new (Below P n) → Noted old new (λ k. (i : ℕ) × P i k)
+all_below old new P n f a = noted_as old new (Below P n) (λ k. (i : ℕ) × P i k) (λ k w. (w.0, w.2)) (λ k w. (w.0, f w.0 k w.1, w.1)) a
+
+-- of lines of which nothing is noted at first, the notes tell it
+pub noted_tells : (n : ℕ) (xs ys : List Bool) (P : ℕ → Type 0) → xs ≡ replicate n false → ((k : ℕ) → P k → k < n) → Noted xs ys P → Tells ys P
+noted_tells n xs ys P e f a = record {
+  only = λ k q. ⊎_elim (λ (o : get_or xs k false ≡ true). absurd (none_true n k (sym (ap (λ zs. get_or zs k false) e) ∙ o))) (λ (o : P k). o) (a.only k q);
+  all = λ k p. a.all k (omega (arith, f k p, ap length e, length-replicate n false)) p;
 }

@@ -1,5 +1,5 @@
 -- Laws of runs of characters, and of the first character after the longest line that is allowed.
-use Rattle.std.proofs.Common.{◌≡◌, ℕ, ◌+◌, ◌<◌, ◌≤◌, Bool, List, Option, Some, None, length, sym, subst, ap, ◌∙◌, arith, length-append}
+use Rattle.std.proofs.Common.{◌≡◌, ℕ, ◌+◌, ◌-◌, ◌<◌, ◌≤◌, Bool, List, Option, Some, None, length, sym, subst, ap, ◌∙◌, arith, length-append}
 use Rattle.std.specs.Prelude.{slice_get}
 use Rattle.std.proofs.lemmas.Option.{slice_get_within}
 use Rattle.yf_chars.specs.Chain.{Many, One}
@@ -7,6 +7,7 @@ use Rattle.yf_chars.specs.Chain.Chain.{done, step}
 use Rattle.yf_chars.specs.Chain.One.{one}
 use Rattle.yf_chars.proofs.ChainLemmas.{Meets, chain_meet, chain_forward, one_functional}
 use Rattle.yf_chars.proofs.ChainLemmas.Meets.{goes_on, falls_short}
+use Rattle.yf_chars.proofs.TextLemmas.{next_later}
 use Rattle.yf_lines.proofs.MarkLemmas.{marks_unique}
 use Rattle.yf_lines.proofs.TableLemmas.{some_same}
 use Rattle.yf_lines.specs.declared.line.Line.{Line}
@@ -33,6 +34,16 @@ pub too_short : (t : List ℕ) (start end count at passed : ℕ) (x : List ℕ) 
     → (o : ℕ) → IsBehind t start end count o → ⊥
 too_short t start end count at passed x m l w e o b =
     let k = ends_later t start at o x b.characters m b.run (omega (arith, l, w, b.many)) in omega (arith, k, e, b.before)
+
+-- a run has as many bytes as characters at least
+run_bytes : {t : List ℕ} {p : ℕ → Bool} {i j : ℕ} {x : List ℕ} → Many t p i j x → i + length x ≤ j
+run_bytes done = omega arith
+run_bytes {t} {i = i} (step {y = y} (one a) c) =
+    let l = next_later t i in let r = run_bytes c in omega (arith, l, r)
+
+-- so many bytes have no more characters
+pub too_few_bytes : (t : List ℕ) (start end count : ℕ) → end - start ≤ count → (o : ℕ) → IsBehind t start end count o → ⊥
+too_few_bytes t start end count h o b = let r = run_bytes b.run in omega (arith, r, h, b.many, b.before)
 
 pub behind_all : (t : List ℕ) (start end count at passed : ℕ) (x : List ℕ) → Many t is_char start at x → length x ≡ passed → count ≡ passed → at < end
     → Sole (IsBehind t start end count) at

@@ -1,5 +1,5 @@
 -- A repeated key of a small reading.
-use Rattle.std.proofs.Common.{◌≡◌, ℕ, List, [], ◌∷◌, Option, Some, None, codes, false, arith, refl}
+use Rattle.std.proofs.Common.{ℕ, List, [], ◌∷◌, Option, Some, None, codes, false, arith, refl}
 use Rattle.yf_props.specs.Props.{no_props}
 use Rattle.yf_events.specs.Tree.{Standing, Node, scalar, mapping, no_pairs, pair, DocumentTree, flat_stream}
 use Rattle.yf_events.specs.declared.event.Entry.{Entry}

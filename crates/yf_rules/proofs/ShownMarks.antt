@@ -1,5 +1,5 @@
 -- A `?` that begins a plain scalar is no mark of a key.
-use Rattle.std.proofs.Common.{◌≡◌, ℕ, ◌+◌, true, false, codes, refl, sym, ap, ◌∙◌}
+use Rattle.std.proofs.Common.{◌≡◌, ℕ, ◌+◌, codes, refl, sym, ◌∙◌}
 use Rattle.std.proofs.lemmas.Bool.{true≢false}
 use Rattle.std.specs.Str.{chars}
 use Rattle.yf_chars.specs.Class.{is_break_char, is_white, is_white_or_end}

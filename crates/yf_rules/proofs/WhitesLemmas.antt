@@ -1,7 +1,7 @@
 -- Laws of the white space at the end of a part of a text, and of comments close after other text.
 use Rattle.std.proofs.Common.{◌≡◌, ◌≢◌, ℕ, ◌+◌, ◌-◌, ◌<◌, ◌≤◌, true, false, List, ◌∷◌, Some, length, map, get_or, sym, subst, ap, ◌∙◌, ⊎_elim, arith, true≢false}
-use Rattle.std.specs.Prelude.{slice_get, option_map}
-use Rattle.std.proofs.lemmas.Bool.{cases_lt, cases_eq}
+use Rattle.std.specs.Prelude.{slice_get, option_map, ◌==◌, MatchBool}
+use Rattle.std.proofs.lemmas.Bool.{cases_lt, cases_eq, eq-eqb, ne_eqb}
 use Rattle.std.proofs.lemmas.List.{length-map}
 use Rattle.std.proofs.lemmas.Option.{slice_get_within, slice_get-map, slice_get-get_or}
 use Rattle.yf_chars.specs.Chain.{Many}
@@ -96,3 +96,10 @@ open_read t u r cs k d q e l n o h =
 
 pub comment_count : (r : Lists) (cs : List Comment) → map comment_value cs ≡ r.comments → length cs ≡ length r.comments
 comment_count r cs e = sym (length-map cs comment_value) ∙ ap length e
+
+-- whether white space alone stands in a part of the text
+pub white_line : (t : List ℕ) (start end at : ℕ) → WhitesEnd t start end at → MatchBool (at == start) (WhitesEnd t start end start) (WhitesEnd t start end start → ⊥)
+white_line t start end at w = ⊎_elim
+    (λ (e : at ≡ start). rw (eq-eqb at start e) (subst (λ k. WhitesEnd t start end k) e w))
+    (λ (e : at ≢ start). rw (ne_eqb at start e) (λ v. e (whites_unique t start end at start w v)))
+    (cases_eq at start)

@@ -8,6 +8,7 @@ pub mod Cover
 pub mod ByLine
 pub mod Documents
 pub mod BlankLines
+pub mod BlankNotes
 pub mod Nodes
 pub mod Laws
 pub mod Layouts

@@ -12,3 +12,8 @@ pub record Noted (old new : List Bool) (P : ℕ → Type 0) : Type 0 where
 pub record NotedBy (list : List Bool) (n : ℕ) (P : ℕ → ℕ → Type 0) : Type 0 where
   pub only : (k : ℕ) → get_or list k false ≡ true → (i : ℕ) × (i < n) × P i k
   pub all : (i k : ℕ) → i < n → k < length list → P i k → get_or list k false ≡ true
+
+-- the list tells of each line whether P holds
+pub record Tells (list : List Bool) (P : ℕ → Type 0) : Type 0 where
+  pub only : (k : ℕ) → get_or list k false ≡ true → P k
+  pub all : (k : ℕ) → P k → get_or list k false ≡ true

@@ -7,6 +7,7 @@ use Rattle.yf_lines.specs.declared.line.Line.{Line}
 use Rattle.yf_lines.specs.Lines.{Table}
 use Rattle.yf_events.specs.declared.lists.Lists.{Lists}
 use Rattle.yf_emit.specs.declared.style.Style.{Style}
+use Rattle.yf_rules.specs.BlankLines.{MisplacedBlank}
 use Rattle.yf_rules.specs.ByLine.{BeyondLimit, TrailingBlank}
 use Rattle.yf_rules.specs.Documents.{NoMarkerLine}
 use Rattle.yf_rules.specs.Exact.{Exactly}
@@ -31,9 +32,9 @@ first_return t (l ∷ ls) = if code t l.end == 13 then l.end ∷ [] else first_r
 abbrev pub line_breaks_at : Table → Lists → Style → List ℕ → Type 0
 line_breaks_at src reading style offsets = offsets ≡ first_return src.text src.lines
 
--- of some rules no set is told here: that their places lie in the text is all that their contracts say. The sets of blank-lines
--- (`MisplacedBlank`), indentation (`Misindented`), flow-layout (`Displaced`), repeated-keys (`RepeatedKey`) and key-mark
--- (`NeedlessMark`) are defined, and the rules held to them by tests alone
+-- of some rules no set is told here: that their places lie in the text is all that their contracts say. The sets of indentation
+-- (`Misindented`), flow-layout (`Displaced`), repeated-keys (`RepeatedKey`) and key-mark (`NeedlessMark`) are defined, and the
+-- rules held to them by tests alone
 abbrev pub AnyOffsets : List ℕ → Type 0
 AnyOffsets offsets = Unit {0}
 
@@ -53,7 +54,7 @@ abbrev pub byte_order_mark_at : Table → Lists → Style → List ℕ → Type 
 byte_order_mark_at src reading style offsets = Exactly (LooseMark src.text reading) offsets
 
 abbrev pub blank_lines_at : Table → Lists → Style → List ℕ → Type 0
-blank_lines_at src reading style offsets = AnyOffsets offsets
+blank_lines_at src reading style offsets = Exactly (MisplacedBlank src reading) offsets
 
 abbrev pub flow_layout_at : Table → Lists → Style → List ℕ → Type 0
 flow_layout_at src reading style offsets = AnyOffsets offsets

@@ -1,6 +1,13 @@
 //! Rule 8, blank-lines.
+ghost use Rattle.std.specs.Prelude.{◌≡◌, ◌<◌, length, IfOk, MatchBool};
+ghost use Rattle.yf_events.specs.declared.lists.Lists.{Lists};
+ghost use Rattle.yf_lines.specs.Lines.{Table};
+ghost use Rattle.yf_rules.specs.BlankLines.{MisplacedBlank};
+ghost use Rattle.yf_rules.specs.BlankNotes.{AreNotes, Follows, LastLine, Precedes};
+ghost use Rattle.yf_rules.specs.Exact.{Answers};
+ghost use Rattle.yf_rules.specs.Sets.{blank_lines_at};
 
-use crate::notes::{Notes, find_notes};
+use crate::notes::{Notes, find_notes, flag};
 use crate::rule::{Rule, placed};
 use std::alloc::{AllocError, Global};
 use yf_emit::style::Style;
@@ -52,49 +59,87 @@ impl Rule for BlankLines {
 }
 
 /// How many lines there are up to the last one that is not blank.
-fn last_line(src: &Src, notes: &Notes) -> usize {
-    let mut count = 0;
-    for i in 0..src.lines().len() {
-        if !notes.at(i).is_blank {
-            count = i + 1;
+fn last_line(blank: &[bool]) -> usize
+    ensures { LastLine blank.now result }
+{
+    let mut at = blank.len();
+    while at > 0 {
+        if !blank[at - 1] {
+            return at;
         }
+        at -= 1;
     }
-    count
+    at
 }
 
-/// Whether a blank line follows one that no blank line may follow.
-fn follows(notes: &Notes, i: usize) -> bool {
-    if i == 0 {
+/// Whether the line of that index follows one that no blank line may follow.
+fn follows(notes: &Notes, k: usize) -> bool
+    requires { k < length notes.now.blank.items }
+    ensures { (src : Table) (r : Lists) → AreNotes src r notes.now.blank.items notes.now.markers.items notes.now.directives.items → MatchBool result (Follows src r k) (Follows src r k → ⊥) }
+{
+    if k == 0 {
         return true;
     }
-    let before = notes.at(i - 1);
-    before.is_blank || before.is_marker
+    if notes.blank[k - 1] {
+        return true;
+    }
+    flag(notes.markers.as_slice(), k - 1)
 }
 
-/// Whether a blank line precedes a line that no blank line may precede.
-fn precedes(src: &Src, notes: &Notes, i: usize) -> bool {
-    let next = i.saturating_add(1);
-    if next < src.lines().len() {
-        return src.lines().is_forbidden(next) || notes.at(next).is_directive;
+/// Whether the line of that index precedes one that no blank line may precede.
+fn precedes(src: &Src, notes: &Notes, k: usize) -> bool
+    requires { k < length src.now.lines }
+    ensures { (r : Lists) → AreNotes src.now r notes.now.blank.items notes.now.markers.items notes.now.directives.items → MatchBool result (Precedes src.now r k) (Precedes src.now r k → ⊥) }
+{
+    let lines = src.lines();
+    let count = lines.len();
+    if k + 1 >= count {
+        return false;
     }
-    false
+    if lines.is_forbidden(k + 1) {
+        return true;
+    }
+    flag(notes.directives.as_slice(), k + 1)
+}
+
+/// The start of the line of that index, if it is blank and at fault; from the line `last` on all are blank.
+fn misplaced(src: &Src, notes: &Notes, last: usize, k: usize) -> Option<usize>
+    requires line { k < length src.now.lines }
+    requires last { LastLine notes.now.blank.items last }
+    requires count { length notes.now.blank.items ≡ length src.now.lines }
+    ensures { (r : Lists) → AreNotes src.now r notes.now.blank.items notes.now.markers.items notes.now.directives.items → Answers (MisplacedBlank src.now r k) result }
+{
+    if !notes.blank[k] {
+        return None;
+    }
+    let start = src.lines().line(k).start;
+    if k >= last {
+        return Some(start);
+    }
+    if follows(notes, k) {
+        return Some(start);
+    }
+    if precedes(src, notes, k) {
+        return Some(start);
+    }
+    None
 }
 
 fn offsets(
     alloc: Global,
     src: &Src,
     reading: &Reading,
-    _style: &Style,
-) -> Result<Vec<usize>, AllocError> {
+    style: &Style,
+) -> Result<Vec<usize>, AllocError>
+    ensures { IfOk result (λ offsets. blank_lines_at src.now reading.now style.now offsets.items) }
+{
     let notes = find_notes(alloc, src, reading)?;
-    let last = last_line(src, &notes);
-    let lines = src.lines();
+    let last = last_line(notes.blank.as_slice());
     let mut offsets = Vec::new(alloc);
-    for i in 0..lines.len() {
-        if notes.at(i).is_blank {
-            if i >= last || follows(&notes, i) || precedes(src, &notes, i) {
-                offsets.push(lines.line(i).start)?;
-            }
+    for k in 0..src.lines().len() {
+        match misplaced(src, &notes, last, k) {
+            Some(offset) => offsets.push(offset)?,
+            None => {}
         }
     }
     Ok(offsets)

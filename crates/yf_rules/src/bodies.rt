@@ -3,7 +3,6 @@ ghost use Rattle.std.specs.Prelude.{◌<◌, ◌≤◌, length};
 
 use crate::begun::lines_begun;
 use crate::content_lines::{content_of, is_block_style};
-use std::alloc::{AllocError, Global};
 use yf_emit::content_start::content_start;
 use yf_events::event::{Event, ScalarStyle};
 use yf_events::reading::Reading;
@@ -21,31 +20,6 @@ pub struct Body {
     pub indent: Option<usize>,
 }
 
-impl Body {
-    const NONE: Body = Body {
-        start: 0,
-        first: 0,
-        end: 0,
-        indent: None,
-    };
-}
-
-/// The bodies of all scalars, by the events.
-#[derive(Debug, Drop)]
-pub struct Bodies {
-    list: Vec<Body>,
-}
-
-impl Bodies {
-    /// Of the scalar that the event at an index is; without lines of any other event.
-    pub fn at(&self, i: usize) -> Body {
-        match self.list.get(i) {
-            Some(body) => *body,
-            None => Body::NONE,
-        }
-    }
-}
-
 /// The number of spaces before the content of a scalar with this text, if it is a block scalar that has any.
 fn content_indent(src: &Src, style: ScalarStyle, text: &str, behind: usize) -> Option<usize>
     requires { behind ≤ length src.now.lines }
@@ -59,8 +33,10 @@ fn content_indent(src: &Src, style: ScalarStyle, text: &str, behind: usize) -> O
     None
 }
 
-/// The body of the scalar that the event at an index is, looked for from the line of that index on.
-fn body_at(src: &Src, reading: &Reading, i: usize, line: usize) -> Option<Body>
+/// The body of the scalar that the event at an index is; `None` of any other event and of an empty scalar. It is looked for from
+/// the line of that index on, so that a pass over the events goes over the lines once: `first` of one body is the line for the
+/// next one.
+pub fn body_at(src: &Src, reading: &Reading, i: usize, line: usize) -> Option<Body>
     requires { i < length reading.now.events }
 {
     match reading.event(i) {
@@ -79,20 +55,4 @@ fn body_at(src: &Src, reading: &Reading, i: usize, line: usize) -> Option<Body>
         },
         _ => None,
     }
-}
-
-/// The bodies of all scalars of a reading of the text, in one pass over its lines.
-pub fn find_bodies(alloc: Global, src: &Src, reading: &Reading) -> Result<Bodies, AllocError> {
-    let mut list = Vec::new(alloc);
-    let mut line = 0;
-    for i in 0..reading.len() {
-        match body_at(src, reading, i, line) {
-            Some(body) => {
-                list.push(body)?;
-                line = body.first;
-            }
-            None => list.push(Body::NONE)?,
-        }
-    }
-    Ok(Bodies { list })
 }

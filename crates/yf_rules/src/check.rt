@@ -1,6 +1,8 @@
 //! All findings of several rules.
-ghost use Rattle.std.specs.Prelude.{◌≡◌, map, IfErr, IfOk};
-ghost use Rattle.yf_rules.specs.Check.{Checked, RuleFindings, SortedFrom, finding_at};
+ghost use Rattle.std.specs.Prelude.{◌≡◌, ◌++◌, true, map, IfErr, IfOk};
+ghost use Rattle.std.specs.List.Sorted.{IsSortedByKey};
+ghost use Rattle.std.specs.Ordering.{is_lt};
+ghost use Rattle.yf_rules.specs.Check.{Checked, RuleFindings, SortedFrom, finding_at, key_cmp, sort_key};
 ghost use Rattle.yf_rules.specs.Places.{FoundAt};
 
 use crate::finding::Finding;
@@ -86,13 +88,50 @@ fn findings_of(
     }
 }
 
-/// Sorts findings by line, column and number; those that are alike in all three keep their order.
+/// Whether a finding stands before another one by line, column and number.
+fn comes_before(a: &Finding, b: &Finding) -> bool
+    ensures { result ≡ is_lt (key_cmp (sort_key a.now) (sort_key b.now)) }
+{
+    (a.place.line, a.place.column, a.number) < (b.place.line, b.place.column, b.number)
+}
+
+/// Whether findings are sorted by line, column and number.
+fn are_sorted(findings: &[Finding]) -> bool
+    ensures { result ≡ true → IsSortedByKey sort_key key_cmp findings.now }
+{
+    for k in 1..findings.len() {
+        if comes_before(&findings[k], &findings[k - 1]) {
+            return false;
+        }
+    }
+    true
+}
+
+/// Sorts findings by line, column and number; those that are alike in all three keep their order. It takes memory only where
+/// they are not sorted yet.
 fn sort_findings(findings: &mut Vec<Finding>) -> Result<(), AllocError>
     ensures { IfOk result (λ _. SortedFrom findings.old.items findings.new.items) }
 {
+    if are_sorted(findings.as_slice()) {
+        return Ok(());
+    }
     match findings.sort_by_key(|f| (f.place.line, f.place.column, f.number)) {
         Ok(()) => Ok(()),
         Err(AllocError) => Err(AllocError),
+    }
+}
+
+/// The findings, and those of one more rule after them. Where there are none yet, the others are not copied.
+fn joined(mut all: Vec<Finding>, mut findings: Vec<Finding>) -> Result<Vec<Finding>, Fault>
+    ensures refused { IfErr result (λ fault. fault ≡ Fault.Memory) }
+    ensures joined { IfOk result (λ joined. joined.items ≡ all.items ++ findings.items) }
+{
+    if all.is_empty() {
+        return Ok(findings);
+    }
+    match all.append(&mut findings) {
+        Ok(()) => Ok(all),
+        Err(_) => Err(Fault::Memory),
     }
 }
 
@@ -114,11 +153,8 @@ pub fn check(
 {
     let mut all = Vec::new(alloc);
     for rule in rules {
-        let mut findings = findings_of(alloc, rule, src, reading, style)?;
-        match all.append(&mut findings) {
-            Ok(()) => {}
-            Err(_) => return Err(Fault::Memory),
-        }
+        let findings = findings_of(alloc, rule, src, reading, style)?;
+        all = joined(all, findings)?;
     }
     match sort_findings(&mut all) {
         Ok(()) => Ok(all),

@@ -60,7 +60,7 @@ impl Rule for DocumentStart {
 }
 
 /// Of each document, whether its `---` is written.
-fn markers(alloc: Global, reading: &Reading) -> Result<Vec<bool>, AllocError>
+pub fn markers(alloc: Global, reading: &Reading) -> Result<Vec<bool>, AllocError>
     ensures { IfOk result (λ markers. markers.items ≡ markers_in (events_of reading.now)) }
 {
     let mut markers = Vec::new(alloc);

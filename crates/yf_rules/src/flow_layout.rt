@@ -122,14 +122,27 @@ fn brackets(src: &Src, reading: &Reading, i: usize) -> Option<Span>
     }
 }
 
+/// Whether the text has any flow collection.
+fn has_brackets(src: &Src, reading: &Reading) -> bool {
+    for i in 0..reading.len() {
+        if brackets(src, reading, i).is_some() {
+            return true;
+        }
+    }
+    false
+}
+
 fn offsets(
     alloc: Global,
     src: &Src,
     reading: &Reading,
     style: &Style,
 ) -> Result<Vec<usize>, AllocError> {
-    let measures = measure_all(alloc, src, reading, style)?;
     let mut offsets = Vec::new(alloc);
+    if !has_brackets(src, reading) {
+        return Ok(offsets);
+    }
+    let measures = measure_all(alloc, src, reading, style)?;
     let mut next = 0;
     for i in 0..reading.len() {
         if next <= i {

@@ -1,9 +1,9 @@
 //! Rule 2, indentation.
 ghost use Rattle.std.specs.Prelude.{◌<◌, length};
 
-use crate::bodies::{Bodies, Body, find_bodies};
+use crate::bodies::{Body, body_at};
 use crate::rule::{Rule, placed};
-use crate::stands::{Stand, Stands, find_stands};
+use crate::stands::{Pass, Stand};
 use std::alloc::{AllocError, Global};
 use yf_emit::style::Style;
 use yf_events::event::Event;
@@ -97,17 +97,20 @@ fn misplaced_content(stand: Stand, body: Body, style: &Style) -> Option<usize> {
 
 fn misplaced(
     reading: &Reading,
-    stands: &Stands,
-    bodies: &Bodies,
+    stand: Stand,
+    body: Option<Body>,
     i: usize,
     style: &Style,
 ) -> Option<usize>
     requires { i < length reading.now.events }
 {
     match reading.event(i) {
-        Event::SeqStart { .. } => misplaced_entry(stands.at(i), true, style),
-        Event::MapStart { .. } => misplaced_entry(stands.at(i), false, style),
-        Event::Scalar { .. } => misplaced_content(stands.at(i), bodies.at(i), style),
+        Event::SeqStart { .. } => misplaced_entry(stand, true, style),
+        Event::MapStart { .. } => misplaced_entry(stand, false, style),
+        Event::Scalar { .. } => match body {
+            Some(body) => misplaced_content(stand, body, style),
+            None => None,
+        },
         _ => None,
     }
 }
@@ -118,11 +121,16 @@ fn offsets(
     reading: &Reading,
     style: &Style,
 ) -> Result<Vec<usize>, AllocError> {
-    let stands = find_stands(alloc, src, reading)?;
-    let bodies = find_bodies(alloc, src, reading)?;
+    let mut pass = Pass::new(alloc, src, reading)?;
     let mut offsets = Vec::new(alloc);
+    let mut line = 0;
     for i in 0..reading.len() {
-        if let Some(offset) = misplaced(reading, &stands, &bodies, i, style) {
+        let stand = pass.next(src, reading, i)?;
+        let body = body_at(src, reading, i, line);
+        if let Some(body) = body {
+            line = body.first;
+        }
+        if let Some(offset) = misplaced(reading, stand, body, i, style) {
             offsets.push(offset)?;
         }
     }

@@ -2,7 +2,7 @@
 ghost use Rattle.std.specs.Prelude.{◌<◌, length};
 
 use crate::rule::{Rule, placed};
-use crate::stands::{Stands, find_stands};
+use crate::stands::{Pass, Stand};
 use crate::whites::has_question_mark;
 use std::alloc::{AllocError, Global};
 use yf_emit::decide::{Forms, decide};
@@ -55,13 +55,10 @@ impl Rule for KeyMark {
     }
 }
 
-/// The `?` before the key, if it is to be written without.
-fn needless(src: &Src, reading: &Reading, stands: &Stands, forms: &Forms, i: usize) -> Option<usize>
+/// The `?` with which the entry is written that the event begins, if it begins one that is.
+fn mark_of(src: &Src, reading: &Reading, i: usize) -> Option<usize>
     requires { i < length reading.now.events }
 {
-    if stands.at(i).outer.is_none() || !forms.at(i).is_implicit {
-        return None;
-    }
     match reading.entry(i) {
         Some(entry) => {
             if has_question_mark(src.text(), entry) {
@@ -73,18 +70,52 @@ fn needless(src: &Src, reading: &Reading, stands: &Stands, forms: &Forms, i: usi
     }
 }
 
+/// Whether any entry is written with a `?`.
+fn has_marks(src: &Src, reading: &Reading) -> bool {
+    for i in 0..reading.len() {
+        if mark_of(src, reading, i).is_some() {
+            return true;
+        }
+    }
+    false
+}
+
+/// The `?` before the key, if it is to be written without.
+fn needless(src: &Src, reading: &Reading, stand: Stand, forms: &Forms, i: usize) -> Option<usize>
+    requires { i < length reading.now.events }
+{
+    if stand.outer.is_none() || !forms.at(i).is_implicit {
+        return None;
+    }
+    mark_of(src, reading, i)
+}
+
+/// The forms of all events. What is measured for them is given back before they are used.
+fn forms_of(
+    alloc: Global,
+    src: &Src,
+    reading: &Reading,
+    style: &Style,
+) -> Result<Forms, AllocError> {
+    let measures = measure_all(alloc, src, reading, style)?;
+    decide(alloc, &measures, reading, style)
+}
+
 fn offsets(
     alloc: Global,
     src: &Src,
     reading: &Reading,
     style: &Style,
 ) -> Result<Vec<usize>, AllocError> {
-    let stands = find_stands(alloc, src, reading)?;
-    let measures = measure_all(alloc, src, reading, style)?;
-    let forms = decide(alloc, &measures, reading, style)?;
     let mut offsets = Vec::new(alloc);
+    if !has_marks(src, reading) {
+        return Ok(offsets);
+    }
+    let forms = forms_of(alloc, src, reading, style)?;
+    let mut pass = Pass::new(alloc, src, reading)?;
     for i in 0..reading.len() {
-        if let Some(offset) = needless(src, reading, &stands, &forms, i) {
+        let stand = pass.next(src, reading, i)?;
+        if let Some(offset) = needless(src, reading, stand, &forms, i) {
             offsets.push(offset)?;
         }
     }

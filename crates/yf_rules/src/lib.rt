@@ -21,6 +21,7 @@ pub mod places;
 pub mod quoting;
 pub mod repeated_keys;
 pub mod rule;
+pub mod scalar_lines;
 pub mod spot;
 pub mod stands;
 pub mod trailing_blanks;

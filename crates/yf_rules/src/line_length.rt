@@ -57,12 +57,16 @@ impl Rule for LineLength {
     }
 }
 
-/// The byte offset after so many characters of a line, where at least one more stands before the line's end.
+/// The byte offset after so many characters of a line, where at least one more stands before the line's end. A line of so
+/// many bytes has no more characters, so that these are counted of longer lines alone.
 fn behind_chars(text: &str, start: usize, end: usize, count: usize) -> Option<usize>
     requires start { IsCharBoundary text.now start }
     requires end { end ≤ length text.now }
     ensures { Answers (IsBehind text.now start end count) result }
 {
+    if end.saturating_sub(start) <= count {
+        return None;
+    }
     let mut at = start;
     let mut passed = 0;
     while passed < count {

@@ -172,24 +172,20 @@ fn place_at_mark(src: &Src, spot: Spot, number: usize, offset: usize) -> Step
     }
 }
 
-/// The place of each byte offset, in one pass where the offsets ascend. An offset within a character has none.
-pub fn places_of(
-    alloc: Global,
-    src: &Src,
-    offsets: &[usize],
-) -> Result<Vec<Option<Place>>, AllocError> {
-    let mut places = Vec::new(alloc);
+/// The column, from 0, of each byte offset, in its place. It takes one pass where the offsets ascend. An offset within a
+/// character has 0.
+pub fn columns_of(src: &Src, mut offsets: Vec<usize>) -> Vec<usize> {
     let mut spot = line_spot(src, 0);
-    for offset in offsets {
-        if src.text().is_char_boundary(*offset) {
-            let step = place_from(src, spot, *offset);
+    for k in 0..offsets.len() {
+        let offset = offsets[k];
+        offsets[k] = 0;
+        if src.text().is_char_boundary(offset) {
+            let step = place_from(src, spot, offset);
             spot = step.spot;
-            places.push(Some(step.place))?;
-        } else {
-            places.push(None)?;
+            offsets[k] = step.place.column.saturating_sub(1);
         }
     }
-    Ok(places)
+    offsets
 }
 
 /// The places of the byte offsets that have one, in their order and in one pass where the offsets ascend.

@@ -54,85 +54,102 @@ impl Rule for RepeatedKeys {
     }
 }
 
-/// A scalar key: its mapping, by the event that begins it, its text and its resolved tag.
+/// A scalar key: its text and its resolved tag.
 #[derive(Clone, Copy, Debug, PartialEq, Eq, PartialOrd, Ord)]
 struct Key<'r> {
-    mapping: usize,
     text: &'r str,
     tag: Option<&'r ResolvedTag<'r>>,
 }
 
 /// A collection whose end has not come yet.
-#[derive(Clone, Copy)]
-struct Level {
-    start: usize,
+#[derive(Drop)]
+struct Level<'r> {
     is_map: bool,
     /// Whether a value comes next.
     at_value: bool,
+    /// Of a mapping the scalar keys so far.
+    keys: BTreeSet<Key<'r>>,
 }
 
-/// The mapping of which the next node is a key, by the event that begins it.
-fn mapping_of_key(stack: &mut Vec<Level>) -> Option<usize> {
+/// Goes past a node of the collection: whether it is a key.
+fn pass_node(level: &mut Level) -> bool {
+    if !level.is_map {
+        return false;
+    }
+    let is_key = !level.at_value;
+    level.at_value = is_key;
+    is_key
+}
+
+/// Goes past a node of the innermost collection that is open.
+fn pass_in(stack: &mut Vec<Level>) {
     match stack.last_mut() {
         Some(level) => {
-            if !level.is_map {
-                return None;
-            }
-            let is_key = !level.at_value;
-            level.at_value = is_key;
-            if is_key { Some(level.start) } else { None }
+            let _ = pass_node(level);
         }
-        None => None,
+        None => {}
     }
 }
 
-/// Goes past one event: the scalar key that it is.
+/// Goes past a scalar: whether it is a key that its mapping has already.
+fn pass_scalar<'r>(stack: &mut Vec<Level<'r>>, scalar: Key<'r>) -> Result<bool, AllocError> {
+    match stack.last_mut() {
+        Some(level) => {
+            if pass_node(level) {
+                let is_new = level.keys.insert(scalar)?;
+                return Ok(!is_new);
+            }
+            Ok(false)
+        }
+        None => Ok(false),
+    }
+}
+
+/// Goes past the start of a collection.
+fn open(alloc: Global, stack: &mut Vec<Level>, is_map: bool) -> Result<(), AllocError> {
+    pass_in(stack);
+    stack.push(Level {
+        is_map,
+        at_value: false,
+        keys: BTreeSet::new(alloc),
+    })?;
+    Ok(())
+}
+
+/// Goes past one event: whether it is a scalar key that its mapping has already.
 fn pass<'r>(
-    stack: &mut Vec<Level>,
+    alloc: Global,
+    stack: &mut Vec<Level<'r>>,
     reading: &'r Reading<'r>,
     i: usize,
-) -> Result<Option<Key<'r>>, AllocError>
+) -> Result<bool, AllocError>
     requires { i < length reading.now.events }
 {
     match reading.event(i) {
         Event::Scalar { text, .. } => {
             let tag = reading.resolved(i);
-            let key = match mapping_of_key(stack) {
-                Some(mapping) => Some(Key { mapping, text, tag }),
-                None => None,
-            };
-            Ok(key)
+            pass_scalar(stack, Key { text, tag })
         }
         Event::Alias { .. } => {
-            let _ = mapping_of_key(stack);
-            Ok(None)
+            pass_in(stack);
+            Ok(false)
         }
         Event::SeqStart { .. } => {
-            open(stack, i, false)?;
-            Ok(None)
+            open(alloc, stack, false)?;
+            Ok(false)
         }
         Event::MapStart { .. } => {
-            open(stack, i, true)?;
-            Ok(None)
+            open(alloc, stack, true)?;
+            Ok(false)
         }
         Event::SeqEnd | Event::MapEnd => {
             let _ = stack.pop();
-            Ok(None)
+            Ok(false)
         }
         Event::StreamStart | Event::StreamEnd | Event::DocStart { .. } | Event::DocEnd { .. } => {
-            Ok(None)
+            Ok(false)
         }
     }
-}
-
-fn open(stack: &mut Vec<Level>, start: usize, is_map: bool) -> Result<(), AllocError> {
-    let _ = mapping_of_key(stack);
-    stack.push(Level {
-        start,
-        is_map,
-        at_value: false,
-    })?;
-    Ok(())
 }
 
 /// Where a key stands: at its first character, an empty one at its `:`, or at its `?` where its entry has none.
@@ -157,14 +174,11 @@ fn offsets(
     reading: &Reading,
     _style: &Style,
 ) -> Result<Vec<usize>, AllocError> {
-    let mut keys: BTreeSet<Key> = BTreeSet::new(alloc);
     let mut stack = Vec::new(alloc);
     let mut offsets = Vec::new(alloc);
     for i in 0..reading.len() {
-        if let Some(key) = pass(&mut stack, reading, i)? {
-            if !keys.insert(key)? {
-                offsets.push(key_offset(reading, i))?;
-            }
+        if pass(alloc, &mut stack, &*reading, i)? {
+            offsets.push(key_offset(reading, i))?;
         }
     }
     Ok(offsets)

@@ -1,12 +1,12 @@
-//! In which block collection each node stands, and at which column its entries do. Columns count from 0 here.
+//! In which block collection each node stands, and at which column its entries do. Columns count from 0 here. It is told in
+//! one pass over the events, and kept of the open collections alone.
 ghost use Rattle.std.specs.Prelude.{◌<◌, length};
 
-use crate::places::places_of;
+use crate::places::columns_of;
 use crate::whites::has_question_mark;
 use std::alloc::{AllocError, Global};
 use yf_events::event::Event;
 use yf_events::reading::Reading;
-use yf_lines::place::Place;
 use yf_lines::source_text::Src;
 
 /// Where the node stands that an event begins.
@@ -32,24 +32,8 @@ impl Stand {
     };
 }
 
-/// Where the nodes stand.
-#[derive(Debug, Drop)]
-pub struct Stands {
-    list: Vec<Stand>,
-}
-
-impl Stands {
-    /// Of the event at an index.
-    pub fn at(&self, i: usize) -> Stand {
-        match self.list.get(i) {
-            Some(stand) => *stand,
-            None => Stand::NONE,
-        }
-    }
-}
-
 /// A collection whose end has not come yet.
-#[derive(Clone, Copy)]
+#[derive(Clone, Copy, Debug)]
 struct Level {
     column: Option<usize>,
     is_map: bool,
@@ -126,110 +110,82 @@ fn next_stand(stack: &mut Vec<Level>, src: &Src, reading: &Reading, i: usize) ->
     }
 }
 
-/// Notes a node.
-fn put(list: &mut Vec<Stand>, i: usize, stand: Stand) {
-    if i < list.len() {
-        list[i] = stand;
-    }
+/// A pass over the events of a reading, which tells where the node stands that each begins.
+#[derive(Debug, Drop)]
+pub struct Pass {
+    /// The columns of the first entries of all block collections, in order.
+    columns: Vec<usize>,
+    /// How many of them have begun.
+    begun: usize,
+    stack: Vec<Level>,
 }
 
-/// The column, from 0, of the place at an index.
-fn column_at(places: &[Option<Place>], k: usize) -> usize {
-    if k < places.len() {
-        if let Some(place) = places[k] {
-            return place.column.saturating_sub(1);
-        }
+impl Pass {
+    /// A pass before the first event of a reading of the text.
+    pub fn new(alloc: Global, src: &Src, reading: &Reading) -> Result<Pass, AllocError> {
+        let offsets = first_entries(alloc, reading)?;
+        Ok(Pass {
+            columns: columns_of(src, offsets),
+            begun: 0,
+            stack: Vec::new(alloc),
+        })
     }
-    0
-}
 
-/// Goes past the start of a collection; `k` block collections begin before it. How many do afterwards.
-fn open(
-    list: &mut Vec<Stand>,
-    stack: &mut Vec<Level>,
-    src: &Src,
-    reading: &Reading,
-    places: &[Option<Place>],
-    i: usize,
-    k: usize,
-) -> Result<usize, AllocError>
-    requires { i < length reading.now.events }
-{
-    let stand = next_stand(stack, src, reading, i);
-    let is_map = matches!(reading.event(i), Event::MapStart { .. });
-    match first_entry(reading, i) {
-        Some(first) => {
-            let column = Some(column_at(places, k));
-            put(
-                list,
-                i,
-                Stand {
-                    outer: stand.outer,
-                    is_implicit_value: stand.is_implicit_value,
-                    column,
-                    first,
-                },
-            );
-            stack.push(Level {
-                column,
-                is_map,
-                key: None,
-            })?;
-            Ok(k.saturating_add(1))
-        }
-        None => {
-            put(list, i, stand);
-            stack.push(Level {
-                column: None,
-                is_map,
-                key: None,
-            })?;
-            Ok(k)
+    /// Goes past the event at an index, which is the next one: where the node stands that it begins.
+    pub fn next(&mut self, src: &Src, reading: &Reading, i: usize) -> Result<Stand, AllocError>
+        requires { i < length reading.now.events }
+    {
+        match reading.event(i) {
+            Event::Scalar { .. } | Event::Alias { .. } => {
+                Ok(next_stand(&mut self.stack, src, reading, i))
+            }
+            Event::SeqStart { .. } => self.open(src, reading, i, false),
+            Event::MapStart { .. } => self.open(src, reading, i, true),
+            Event::SeqEnd | Event::MapEnd => {
+                let _ = self.stack.pop();
+                Ok(Stand::NONE)
+            }
+            Event::StreamStart | Event::StreamEnd | Event::DocStart { .. } | Event::DocEnd { .. } =>
+                Ok(Stand::NONE),
         }
     }
-}
 
-/// Goes past one event; `k` block collections begin before it. How many do afterwards.
-fn pass(
-    list: &mut Vec<Stand>,
-    stack: &mut Vec<Level>,
-    src: &Src,
-    reading: &Reading,
-    places: &[Option<Place>],
-    i: usize,
-    k: usize,
-) -> Result<usize, AllocError>
-    requires { i < length reading.now.events }
-{
-    match reading.event(i) {
-        Event::Scalar { .. } | Event::Alias { .. } => {
-            let stand = next_stand(stack, src, reading, i);
-            put(list, i, stand);
-            Ok(k)
-        }
-        Event::SeqStart { .. } | Event::MapStart { .. } => {
-            open(list, stack, src, reading, places, i, k)
-        }
-        Event::SeqEnd | Event::MapEnd => {
-            let _ = stack.pop();
-            Ok(k)
-        }
-        Event::StreamStart | Event::StreamEnd | Event::DocStart { .. } | Event::DocEnd { .. } => {
-            Ok(k)
-        }
+    /// Goes past the start of a collection.
+    fn open(
+        &mut self,
+        src: &Src,
+        reading: &Reading,
+        i: usize,
+        is_map: bool,
+    ) -> Result<Stand, AllocError>
+        requires { i < length reading.now.events }
+    {
+        let stand = next_stand(&mut self.stack, src, reading, i);
+        let first = first_entry(reading, i);
+        let column = match first {
+            Some(_) => Some(self.next_column()),
+            None => None,
+        };
+        self.stack.push(Level {
+            column,
+            is_map,
+            key: None,
+        })?;
+        Ok(Stand {
+            outer: stand.outer,
+            is_implicit_value: stand.is_implicit_value,
+            column,
+            first: first.unwrap_or(0),
+        })
     }
-}
 
-/// Where all nodes of a reading of the text stand, in one pass.
-pub fn find_stands(alloc: Global, src: &Src, reading: &Reading) -> Result<Stands, AllocError> {
-    let offsets = first_entries(alloc, reading)?;
-    let places = places_of(alloc, src, offsets.as_slice())?;
-    let mut list = Vec::new(alloc);
-    let mut stack: Vec<Level> = Vec::new(alloc);
-    let mut k = 0;
-    for i in 0..reading.len() {
-        list.push(Stand::NONE)?;
-        k = pass(&mut list, &mut stack, src, reading, places.as_slice(), i, k)?;
+    /// The column of the first entry of the block collection that begins next.
+    fn next_column(&mut self) -> usize {
+        let k = self.begun;
+        self.begun = k.saturating_add(1);
+        if k < self.columns.len() {
+            return self.columns[k];
+        }
+        0
     }
-    Ok(Stands { list })
 }

@@ -1,5 +1,5 @@
 //! White space at the ends of lines and before comments.
-ghost use Rattle.std.specs.Prelude.{◌≡◌, ◌≤◌};
+ghost use Rattle.std.specs.Prelude.{◌≡◌, ◌≤◌, MatchBool};
 ghost use Rattle.yf_rules.specs.Whites.{WhitesEnd};
 
 use yf_chars::text::stands;
@@ -29,6 +29,7 @@ pub fn whites_before(text: &str, start: usize, end: usize) -> usize
 /// Whether the line holds white space alone, or nothing.
 pub fn is_white_line(text: &str, line: Line) -> bool
     requires { line.start ≤ line.end }
+    ensures { MatchBool result (WhitesEnd text.now line.start line.end line.start) (WhitesEnd text.now line.start line.end line.start → ⊥) }
 {
     whites_before(text, line.start, line.end) == line.start
 }

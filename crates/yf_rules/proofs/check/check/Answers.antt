@@ -7,8 +7,8 @@ loop-rule-init g c = none_checked _ _ c.new-all.ensures.items
 
 pub loop-rule-preserved : goal.loop-rule-preserved
 loop-rule-preserved g c =
-    more_checked _ _ _ _ _ _ _ (omega arith) c.rule-item.is c.loop-rule.invariant c.in_ok-findings.ensures.findings c.in-Ok.ensures.items
+    more_checked _ _ _ _ _ _ _ (omega arith) c.rule-item.is c.loop-rule.invariant c.in_ok-findings.ensures.findings c.in_ok-all.ensures.joined
 
-pub returns-in-Ok-sort_findings-clause-findings : goal.returns-in-Ok-sort_findings-clause-findings
-returns-in-Ok-sort_findings-clause-findings g c =
-    all_checked _ _ _ _ _ (omega arith) c.loop-rule.invariant c.in-Ok-sort_findings.ensures
+pub returns-in-Ok-clause-findings : goal.returns-in-Ok-clause-findings
+returns-in-Ok-clause-findings g c =
+    all_checked _ _ _ _ _ (omega arith) c.loop-rule.invariant c.in-Ok.ensures

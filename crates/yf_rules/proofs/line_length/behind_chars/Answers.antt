@@ -3,11 +3,15 @@ use Rattle.std.proofs.lemmas.List.{length_push}
 use Rattle.yf_chars.specs.Chain.Chain.{done}
 use Rattle.yf_chars.specs.Text.{code, Reads}
 use Rattle.yf_lines.proofs.PlaceLemmas.{characters_more}
-use Rattle.yf_rules.proofs.RunLemmas.{too_short, behind_all}
+use Rattle.yf_rules.proofs.RunLemmas.{too_few_bytes, too_short, behind_all}
 use Rattle.yf_rules.proofs.line_length.behind_chars.Goals as goal
 
 pub loop-passed-init : goal.loop-passed-init
 loop-passed-init c = record { run = ([], done, omega arith); boundary = c.requires.start; within = omega arith }
+
+pub returns-then-saturating_sub-count : goal.returns-then-saturating_sub-count
+returns-then-saturating_sub-count c =
+    too_few_bytes c.args.text.now c.args.start c.args.end c.args.count (omega (arith, c.saturating_sub.ensures, c.if-saturating_sub-count.true))
 
 pub returns-then-at-end : goal.returns-then-at-end
 returns-then-at-end c =
