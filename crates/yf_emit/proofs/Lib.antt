@@ -5,8 +5,11 @@ pub mod BlockLemmas
 pub mod BlockTexts
 pub mod CountLemmas
 pub mod DecoratedLemmas
+pub mod DraftLemmas
 pub mod EndedLemmas
 mod Examples
+pub mod FedLemmas
+pub mod FeedLemmas
 pub mod FlagLemmas
 pub mod FormLemmas
 pub mod GapLemmas
@@ -21,6 +24,7 @@ pub mod OneLineRuns
 pub mod PassLemmas
 pub mod PlaceLemmas
 pub mod RestyledLemmas
+pub mod PrintLemmas
 pub mod RunLemmas
 pub mod SettledLemmas
 mod ShownComments
@@ -31,6 +35,7 @@ pub mod SiteLemmas
 pub mod StepLemmas
 pub mod StreamLemmas
 pub mod SumLemmas
+pub mod TrailLemmas
 pub mod TreeTexts
 pub mod UniqueLemmas
 pub mod ValueLemmas
