@@ -6,9 +6,12 @@ pub mod BlockTexts
 pub mod CollectionsMade
 pub mod CountLemmas
 pub mod DecoratedLemmas
+pub mod DraftLemmas
 pub mod EndedLemmas
 pub mod EntriesMade
 mod Examples
+pub mod FedLemmas
+pub mod FeedLemmas
 pub mod FlagLemmas
 pub mod FormLemmas
 pub mod GapLemmas
@@ -27,6 +30,7 @@ pub mod PassLemmas
 pub mod PlaceLemmas
 pub mod RestyledLemmas
 pub mod RowEnds
+pub mod PrintLemmas
 pub mod RunLemmas
 pub mod SettledLemmas
 mod ShownComments
@@ -37,6 +41,7 @@ pub mod SiteLemmas
 pub mod StepLemmas
 pub mod StreamLemmas
 pub mod SumLemmas
+pub mod TrailLemmas
 pub mod TreeTexts
 pub mod TreesMade
 pub mod UniqueLemmas

@@ -8,6 +8,7 @@ use Rattle.yf_events.specs.declared.lists.Lists.{Lists}
 use Rattle.yf_events.specs.declared.reading.TheConstants.{DEPTH}
 use Rattle.yf_emit.specs.declared.style.Style.{Style}
 use Rattle.yf_emit.specs.Normal.{Normal}
+use Rattle.yf_emit.specs.Printout.{Printout}
 use Rattle.yf_emit.specs.Restyled.{IsRestyled}
 use Rattle.yf_emit.specs.Textual.{IsTextual}
 
@@ -21,4 +22,5 @@ pub record Formatted (t : List ℕ) (s : Style) (u : List ℕ) : Type 0 where
   pub restyled : IsRestyled s.quotes reading normal
   pub is_normal : IsTextual reading → Normal t reading s normal
   pub same : content_of normal ≡ content_of reading
+  pub is : Printout normal s u
   pub utf8 : IsUtf8 u

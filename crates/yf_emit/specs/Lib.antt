@@ -2,9 +2,10 @@ pub mod BlockLines
 pub mod BlockValues
 pub mod Carried
 pub mod ContentStart
-pub mod Decorated
 pub mod Deciding
 pub mod Fits
+pub mod Decorated
+pub mod Drafts
 pub mod Format
 pub mod Formatted
 pub mod Forms
@@ -21,9 +22,13 @@ pub mod OfText
 pub mod OneLine
 pub mod OneLineRun
 pub mod Printed
+pub mod Printers
+pub mod Printing
+pub mod Printout
 pub mod Restyled
 pub mod RowShapes
 pub mod Rows
 pub mod SameComments
 pub mod Textual
+pub mod Trailing
 pub mod Wanted

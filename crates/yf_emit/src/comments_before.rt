@@ -1,8 +1,9 @@
 //! Where comments stand among the nodes.
-ghost use Rattle.std.specs.Prelude.{◌≡◌, ◌<◌, ◌≤◌, false, length, nat_lt, true, IfSome, MatchOption};
+ghost use Rattle.std.specs.Prelude.{◌≡◌, ◌+◌, ◌<◌, ◌≤◌, drop, false, length, map, nat_lt, true, IfSome, MatchOption};
 ghost use Rattle.std.specs.List.{AllWithin, HoldsAt};
 ghost use Rattle.std.specs.List.Sorted.{IsNonDecreasingBy, IsPartitionPoint};
 ghost use Rattle.yf_comments.specs.Comment.{comment_value};
+ghost use Rattle.yf_emit.specs.Drafts.{count_to};
 ghost use Rattle.yf_emit.specs.Kept.{is_within};
 
 use yf_comments::comment::Comment;
@@ -37,4 +38,18 @@ pub fn first_between(comments: &[Comment], from: usize, to: usize) -> Option<usi
         }
     }
     None
+}
+
+/// The index of the first comment, from an index on, that does not begin before the byte offset.
+pub(crate) fn first_behind(comments: &[Comment], from: usize, offset: usize) -> usize
+    ensures { result ≡ from + count_to offset (drop from (map comment_value comments.now)) }
+{
+    let mut k = from;
+    while k < comments.len() {
+        if offset <= comments[k].offset {
+            return k;
+        }
+        k += 1;
+    }
+    k
 }

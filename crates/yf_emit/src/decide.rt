@@ -68,6 +68,13 @@ impl Forms {
             None => Form::NONE,
         }
     }
+
+    /// All of them, in order of the events.
+    pub fn as_slice(&self) -> &[Form]
+        ensures { result.now ≡ self.now }
+    {
+        self.list.as_slice()
+    }
 }
 
 /// Whether a node that the event at an index begins holds no node to look at.

@@ -1,5 +1,5 @@
 //! The text of a flow collection that is kept on one line.
-ghost use Rattle.std.specs.Prelude.{◌≡◌, ◌≤◌, ◌∷◌, ◌++◌, encode_utf8, false, option_map, reverse, IfErr, IfOk, OnOk};
+ghost use Rattle.std.specs.Prelude.{◌≡◌, [], ◌∷◌, ◌++◌, encode_utf8, false, option_map, reverse, IfErr, IfOk, OnOk};
 ghost use Rattle.std.specs.String.{string_bytes};
 ghost use Rattle.yf_props.specs.Props.{props_value};
 ghost use Rattle.yf_events.specs.Event.{event_value};
@@ -183,13 +183,13 @@ fn push_between(
     last: usize,
     style: &Style,
 ) -> Result<(), AllocError>
-    ensures { OnOk result (first ≤ last → string_bytes text.new ≡ string_bytes text.old ++ run style.now.quotes (reverse stack.old.items) (between first last reading.now.events)) }
+    ensures { OnOk result (string_bytes text.new ≡ string_bytes text.old ++ run style.now.quotes (reverse stack.old.items) (between first last reading.now.events)) }
 {
     for k in first..reading.len() {
-        push_event(text, stack, &reading.event(k), style)?;
-        if k == last {
+        if last < k {
             break;
         }
+        push_event(text, stack, &reading.event(k), style)?;
     }
     Ok(())
 }
@@ -225,7 +225,8 @@ pub fn push_kept(
     last: usize,
     style: &Style,
 ) -> Result<(), AllocError>
-    ensures { OnOk result (AddsKept reading.now.events style.now first last (string_bytes text.old) (string_bytes text.new)) }
+    ensures run { OnOk result (string_bytes text.new ≡ string_bytes text.old ++ run style.now.quotes [] (between first last reading.now.events)) }
+    ensures kept { OnOk result (AddsKept reading.now.events style.now first last (string_bytes text.old) (string_bytes text.new)) }
 {
     let mut stack = Vec::new(alloc);
     push_between(text, &mut stack, reading, first, last, style)?;

@@ -10,9 +10,9 @@ use yf_lines::fault::Fault;
 use yf_lines::output::write_text;
 use yf_lines::watched::Sink;
 
-/// Writes a normal reading, which is one that `normal` gave for this style, in the house style: a text is made of it, and that text
-/// is written, with nothing beside it. That it is the layout of the reading is tested, and not proved. Nothing is written before
-/// all memory that is needed has been granted.
+/// Writes a normal reading, which is one that `normal` gave for this style, in the house style: the text that one pass over its
+/// events prints of it, with nothing beside it. That this text is the layout of the reading is tested, and not proved. Nothing is
+/// written before all memory that is needed has been granted.
 ///
 /// # Errors
 ///
@@ -24,8 +24,8 @@ pub fn print<W: Sink>(
     style: &Style,
     writer: &mut W,
 ) -> Result<(), Fault>
-    ensures printed { OnOk result (WroteMade (W.contents writer.old) (W.contents writer.new) (W.has_failed writer.old) (W.has_failed writer.new)) }
-    ensures refused { IfErr result (λ fault. RefusedPrint (W.contents writer.old) (W.contents writer.new) (W.has_failed writer.old) (W.has_failed writer.new) fault) }
+    ensures printed { OnOk result (WroteMade reading.now style.now (W.contents writer.old) (W.contents writer.new) (W.has_failed writer.old) (W.has_failed writer.new)) }
+    ensures refused { IfErr result (λ fault. RefusedPrint reading.now style.now (W.contents writer.old) (W.contents writer.new) (W.has_failed writer.old) (W.has_failed writer.new) fault) }
 {
     match layout(alloc, reading, style) {
         Ok(text) => write_text(writer, text.as_str().as_bytes()),

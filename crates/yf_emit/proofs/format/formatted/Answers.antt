@@ -9,5 +9,6 @@ returns-in-Ok-clause-formatted c = record {
   restyled = c.in_ok-normal.ensures.restyled;
   is_normal = c.in_ok-normal.ensures.is_normal;
   same = c.in_ok-normal.ensures.content;
+  is = c.in-Ok.ensures;
   utf8 = IsUtf8-string_bytes c.in-Ok.text;
 }

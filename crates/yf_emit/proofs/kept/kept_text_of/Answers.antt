@@ -7,4 +7,4 @@ returns-then-not-measure c = tells_none _ _ _ _ c.at-measure.result c.at-measure
 
 pub returns : goal.returns
 returns c =
-    tells_some _ _ _ _ c.at-measure.result _ _ c.at-measure.ensures c.new-text.ensures.bytes c.in_ok-push_kept.ensures (not-false _ c.if-not-measure.false)
+    tells_some _ _ _ _ c.at-measure.result _ _ c.at-measure.ensures c.new-text.ensures.bytes c.in_ok-push_kept.ensures.kept (not-false _ c.if-not-measure.false)

@@ -1,12 +1,10 @@
-use Rattle.std.proofs.Common.{◌≡◌, ◌≤◌, ◌++◌}
+use Rattle.std.proofs.Common.{◌≡◌, ◌++◌}
 use Rattle.std.specs.Prelude.{reverse}
 use Rattle.std.specs.String.{string_bytes}
 use Rattle.yf_emit.specs.OneLineRun.{between, run}
 use Rattle.yf_emit.proofs.kept.push_between.Given as goal
 
 abbrev pub invariant-loop-k : goal.invariant-loop-k
-invariant-loop-k l = record {
-  within : l.first ≤ l.last → l.k ≤ l.last;
-  rest : l.first ≤ l.last → string_bytes l.text ++ run l.style.quotes (reverse l.stack.items) (between l.k l.last l.reading.events)
-      ≡ string_bytes l.initial.text ++ run l.style.quotes (reverse l.initial.stack.items) (between l.first l.last l.reading.events);
-}
+invariant-loop-k l =
+    string_bytes l.text ++ run l.style.quotes (reverse l.stack.items) (between l.k l.last l.reading.events)
+    ≡ string_bytes l.initial.text ++ run l.style.quotes (reverse l.initial.stack.items) (between l.first l.last l.reading.events)

@@ -1,0 +1,27 @@
+-- The text that one pass over its events prints of a reading, by the measures and forms of its nodes, and by the comments that trail.
+use Rattle.std.specs.Prelude.{◌≡◌, ℕ, List, []}
+use Rattle.yf_events.specs.declared.lists.Lists.{Lists}
+use Rattle.yf_emit.specs.declared.decide.Form.{Form}
+use Rattle.yf_emit.specs.declared.measure.Measure.{Measure}
+use Rattle.yf_emit.specs.declared.printer.Plan.{Plan}
+use Rattle.yf_emit.specs.declared.style.Style.{Style}
+use Rattle.yf_emit.specs.Forms.{Decided}
+use Rattle.yf_emit.specs.Measures.{Measured}
+use Rattle.yf_emit.specs.Measuring.{setting}
+use Rattle.yf_emit.specs.Printing.{printed, work_of}
+use Rattle.yf_emit.specs.Trailing.{all_found, found}
+
+-- u is the text that is printed of the reading m
+pub record Printout (m : Lists) (s : Style) (u : List ℕ) : Type 0 where
+  pub measures : List Measure
+  pub forms : List Form
+  pub measured : Measured [] (setting s []) m.events measures
+  pub decided : Decided m s measures forms
+  pub is : u ≡ printed (work_of m s measures forms (all_found m measures forms))
+
+-- what is decided of the reading m before it is printed
+pub record IsPlan (m : Lists) (s : Style) (plan : Plan) : Type 0 where
+  pub style : plan.style ≡ s
+  pub measured : Measured [] (setting s []) m.events plan.measures
+  pub decided : Decided m s plan.measures plan.forms
+  pub trails : found plan.trails ≡ all_found m plan.measures plan.forms
