@@ -1,15 +1,18 @@
 -- The laws of the recursive readers hold.
 use Rattle.std.proofs.Common.{zero, suc, ◌+◌, ℤ, pos, negsuc, ◌+ℤ◌, ◌≤ℤ◌, refl, arith}
 use Rattle.std.proofs.lemmas.Int.{ints}
+use Rattle.yf_grammar.specs.BlockParser.{Nothing}
 use Rattle.yf_grammar.specs.Halts.{none_open}
-use Rattle.yf_grammar.specs.Laws.{FlowNodesAreChosen, NoFlowNodeIsMissed, KeysAreChosen, NoKeyIsMissed, FlowOutcomesAreOne, WholeNodesAreChosen, DerivedNodesAreWhole, LastHaltsAreChosen, NoBlockNodeIsMissed}
+use Rattle.yf_grammar.specs.Laws.{FlowNodesAreChosen, NoFlowNodeIsMissed, KeysAreChosen, NoKeyIsMissed, FlowOutcomesAreOne, WholeNodesAreChosen, DerivedNodesAreWhole, FlowNodesHaveOutcomes, BlockNodesHaveOutcomes, LastHaltsAreChosen, NoBlockNodeIsMissed}
 use Rattle.yf_grammar.proofs.BlockHalts.{whole_halts}
 use Rattle.yf_grammar.proofs.BlockParts.{no_block_node}
 use Rattle.yf_grammar.proofs.BlockStatements.{node_at_end, plain_is_whole}
 use Rattle.yf_grammar.proofs.DerivedNodes.{last_halt_is_chosen}
+use Rattle.yf_grammar.proofs.NodesAnswered.{node_answered}
 use Rattle.yf_grammar.proofs.Outcome.{outcome_is_one}
 use Rattle.yf_grammar.proofs.Parts.{found_is_chosen, none_is_stuck, found_is_chosen_key, none_is_no_key}
 use Rattle.yf_grammar.proofs.SoundSteps.{Width}
+use Rattle.yf_grammar.proofs.WholeAnswered.{whole_answered}
 
 pub flow_nodes_are_chosen : FlowNodesAreChosen
 flow_nodes_are_chosen t e i n c f part u b r p = found_is_chosen u b r p.events p.comments p.escapes
@@ -43,3 +46,9 @@ derived_nodes_are_whole t h e i j n c x o u d within clear still ends r = node_a
 
 pub no_block_node_is_missed : NoBlockNodeIsMissed
 no_block_node_is_missed t e i n c u r = no_block_node u r
+
+pub flow_nodes_have_outcomes : FlowNodesHaveOutcomes
+flow_nodes_have_outcomes t e i n c u f none = (node_answered u e n c i f).held (λ r. none r.outcome r.read)
+
+pub block_nodes_have_outcomes : BlockNodesHaveOutcomes
+block_nodes_have_outcomes t e i n c u none = (whole_answered u e n c Nothing i).held (λ r. none r.outcome r.read)

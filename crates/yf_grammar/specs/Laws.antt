@@ -4,7 +4,7 @@ use Rattle.std.specs.Prelude.{◌≡◌, ℕ, ℤ, pos, ◌+ℤ◌, ◌≤ℤ◌
 use Rattle.std.specs.Str.{IsUtf8}
 use Rattle.yf_chars.specs.declared.context.Ctx.{Ctx}
 use Rattle.yf_chars.specs.Chain.{Stuck, Chosen}
-use Rattle.yf_lines.specs.Basic.{is_block, Clear}
+use Rattle.yf_lines.specs.Basic.{is_block, is_flow, Clear}
 use Rattle.yf_comments.specs.Comments.{Row}
 use Rattle.yf_events.specs.declared.part.Part.{Part}
 use Rattle.yf_grammar.specs.Meaning.{Meaning}
@@ -42,6 +42,10 @@ NoKeyIsMissed = (t : List ℕ) (e i : ℕ) (c : Ctx) → IsUtf8 t → is_block c
 abbrev pub FlowOutcomesAreOne : Type 0
 FlowOutcomesAreOne = (t : List ℕ) (e : ℕ) (task : Task) (o p : Option Found) → Parses t e task o → Parses t e task p → o ≡ p
 
+-- A flow node outside of keys has an outcome at each place, within each limit: it cannot be that it has none.
+abbrev pub FlowNodesHaveOutcomes : Type 0
+FlowNodesHaveOutcomes = (t : List ℕ) (e i : ℕ) (n : ℤ) (c : Ctx) → IsUtf8 t → is_flow c ≡ true → ((o : Option Found) → Parses t e (ANode n c i) o → ⊥) → ⊥
+
 -- What the reader of block nodes finds where it is called, with an indentation of -1 or more, is the longest block node there that is
 -- derived within the limit of open collections and covers no forbidden line, and it means one thing.
 abbrev pub WholeNodesAreChosen : Type 0
@@ -53,6 +57,10 @@ WholeNodesAreChosen = (t : List ℕ) (e i : ℕ) (n : ℤ) (c : Ctx) (f : Found)
 abbrev pub DerivedNodesAreWhole : Type 0
 DerivedNodesAreWhole = (t : List ℕ) (h e i j : ℕ) (n : ℤ) (c : Ctx) (x : Meaning) (o : Option Found) → IsUtf8 t → Derives t h (BlockNode n c) i j x → h ≤ e → Clear t i j
     → Stuck (Row t j) → LinesEnd t j → Whole t e (Awaited false n c Nothing i) o → o ≡ found j h false x
+
+-- That reader has an outcome at each place where it is called, within each limit: it cannot be that it has none.
+abbrev pub BlockNodesHaveOutcomes : Type 0
+BlockNodesHaveOutcomes = (t : List ℕ) (e i : ℕ) (n : ℤ) (c : Ctx) → IsUtf8 t → ((o : Option Found) → Whole t e (Awaited false n c Nothing i) o → ⊥) → ⊥
 
 -- Of a node that is broken further on, what is left up to the last place at which it may end is the longest block node there, and
 -- means one thing.
