@@ -4,3 +4,7 @@ pub mod Frames
 pub mod LeafLemmas
 pub mod LookLemmas
 pub mod NodeBegunLemmas
+pub mod NotedLemmas
+pub mod TiedClose
+pub mod TiedEnds
+pub mod TiedFails

@@ -6,26 +6,29 @@ use Rattle.yf_chars.specs.Text.{code}
 use Rattle.yf_comments.specs.Comment.{CommentValue}
 use Rattle.yf_props.specs.Props.{no_props}
 use Rattle.yf_events.specs.Event.{Placed, mapping_starts}
-use Rattle.yf_events.specs.declared.event.Entry.{Entry}
+use Rattle.yf_events.specs.Edit.{ended}
+use Rattle.yf_events.specs.declared.event.Entry as TheEntry
 use Rattle.yf_events.specs.declared.part.Part.{Part}
 use Rattle.yf_grammar.specs.Grammar.{in_flow, closing}
-use Rattle.yf_grammar.specs.Meaning.{Meaning, ◌⊕◌, noting, entering}
+use Rattle.yf_grammar.specs.Meaning.{Meaning, ◌⊕◌, noting, entering, plain_event, end_of}
 use Rattle.yf_grammar.specs.Part.{NotedSince}
 use Rattle.yf_grammar.specs.Parser.{Found, AContent, ANode, ColonAt, Parses, only}
-use Rattle.yf_grammar.specs.Awaits.{EntriesAwaited, SeparationAwaited, IsEntry, with_pair, wrapped, RestAwaited, KeyAwaited, ValueAwaited, ValueNodeAwaited, ItemAwaited, is_entry_end, Before, NodeOver, Within}
+use Rattle.yf_grammar.specs.Awaits.{ended_at, EntriesAwaited, SeparationAwaited, IsEntry, with_pair, wrapped, RestAwaited, KeyAwaited, ValueAwaited, ValueNodeAwaited, ItemAwaited, is_entry_end, Before, NodeOver, Within}
 use Rattle.yf_flow.specs.declared.frame.Frame.{Frame}
 use Rattle.yf_flow.specs.declared.frame.Kind.{Kind}
 use Rattle.yf_flow.specs.declared.frame.Kind.TheVariants.{Sequence, Mapping, Pair}
 use Rattle.yf_flow.specs.declared.frame.Role.{Role}
 use Rattle.yf_flow.specs.declared.frame.Role.TheVariants.{Item, Key, Value}
 use Rattle.yf_flow.specs.declared.frame.Node as TheNode
+use Rattle.yf_flow.specs.declared.frame.Step.{Step}
+use Rattle.yf_flow.specs.declared.frame.Step.TheVariants.{Node, Entry, Ended, Done, Failed, TooDeep}
 use Rattle.yf_flow.specs.NodeBegun.{opened_event, comments_before}
 use Rattle.yf_flow.specs.Begun.{is_lined}
 
 -- an event with the note of its entry filled in
 pub data NoteOf (t : List ℕ) : Placed → Placed → Type 0 where
   entryless : {e : Placed} → e.entry ≡ None → NoteOf t e e
-  entry_noted : {e : Placed} {b : Bool} (entry : Entry) → e.entry ≡ Some entry → NotedSince t 0 entry.start b
+  entry_noted : {e : Placed} {b : Bool} (entry : TheEntry.Entry) → e.entry ≡ Some entry → NotedSince t 0 entry.start b
       → NoteOf t e (record e { entry = Some (record entry { blank_before = b }) })
 
 pub record NotedEvent (t : List ℕ) (e f : Placed) : Type 0 where
@@ -35,6 +38,12 @@ pub record NotedEvent (t : List ℕ) (e f : Placed) : Type 0 where
 pub data Noted (t : List ℕ) : List Placed → List Placed → Type 0 where
   no_events : Noted t [] []
   event_before : {e f : Placed} {x y : List Placed} → NotedEvent t e f → Noted t x y → Noted t (e ∷ x) (f ∷ y)
+
+-- an entry that begins at s, with its note
+pub record EntryNoted (t : List ℕ) (s : ℕ) (colon : Option ℕ) (entry : TheEntry.Entry) : Type 0 where
+  pub start : entry.start ≡ s
+  pub colon_there : entry.colon ≡ colon
+  pub note : NotedSince t 0 s entry.blank_before
 
 -- what has been written so far
 pub record Written (t : List ℕ) (w : Meaning) (part : Part) : Type 0 where
@@ -47,10 +56,10 @@ abbrev pub one : Placed → Meaning
 one e = record { events = e ∷ []; comments = []; escapes = []; finish = 0 }
 
 -- an event without a place, which may begin an entry; the entry of a node that is awaited
-abbrev pub entry_from : ℕ → Entry
+abbrev pub entry_from : ℕ → TheEntry.Entry
 entry_from s = record { start = s; colon = None; blank_before = false }
 
-abbrev pub entry_of : Role → ℕ → Option Entry
+abbrev pub entry_of : Role → ℕ → Option TheEntry.Entry
 entry_of Value s = None
 entry_of _ s = Some (entry_from s)
 
@@ -103,15 +112,19 @@ pub data NodeIn (t : List ℕ) (n : ℤ) (d : Ctx) (s : ℕ) : Role → Bool →
   value_in : {sequence pair : Bool} {e p h : ℕ} {x : Meaning} → ValueNodeAwaited t e sequence n d pair s h x p → is_entry_end (code t p) ≡ false
       → NodeIn t n d s Value sequence e pair p h x
 
--- the outermost collection: its bracket, its context, the limit within which it is read, and what was written before
+-- the outermost collection: its bracket, its context, how many collections may be opened, it and those in it, and how many with those
+-- round it, and what was written before
 pub record Base : Type 0 where
+  pub sequence : Bool
   pub place : ℕ
   pub context : Ctx
   pub limit : ℕ
+  pub total : ℕ
   pub written : Meaning
   pub event : Placed
 
-pub record IsBase (base : Base) (i : ℕ) (c : Ctx) (e : ℕ) (w : Meaning) (begin : Placed) : Type 0 where
+pub record IsBase (base : Base) (sequence : Bool) (i : ℕ) (c : Ctx) (e : ℕ) (w : Meaning) (begin : Placed) : Type 0 where
+  pub sequence_flag : sequence ≡ base.sequence
   pub place : i ≡ base.place
   pub context : c ≡ base.context
   pub limit : e ≡ base.limit
@@ -119,18 +132,19 @@ pub record IsBase (base : Base) (i : ℕ) (c : Ctx) (e : ℕ) (w : Meaning) (beg
   pub event : begin ≡ base.event
 
 -- the collections round one whose bracket stands at i, the innermost first; so many may be opened, it and those in it
-pub data Below (t : List ℕ) (n : ℤ) (d : Ctx) (base : Base) : List Frame → ℕ → Ctx → ℕ → Meaning → Placed → Type 0 where
-  outermost : {i e : ℕ} {c : Ctx} {w : Meaning} {begin : Placed} → IsBase base i c e w begin → Below t n d base [] i c e w begin
-  inside : {frames rest all : List Frame} {top : Frame} {i h s g p k e : ℕ} {c : Ctx} {w x y : Meaning} {begin : Placed} {sequence pair : Bool} {role : Role} {b : Before} (inner : Bool)
-      → Below t n d base frames i c (suc (with_pair pair e)) w begin
+pub data Below (t : List ℕ) (n : ℤ) (d : Ctx) (base : Base) : List Frame → Bool → ℕ → Ctx → ℕ → Meaning → Placed → Type 0 where
+  outermost : {sequence : Bool} {i e : ℕ} {c : Ctx} {w : Meaning} {begin : Placed} → IsBase base sequence i c e w begin → Below t n d base [] sequence i c e w begin
+  inside : {frames rest all : List Frame} {top : Frame} {i h s g p k e : ℕ} {c : Ctx} {w x y : Meaning} {begin : Placed} {sequence pair inner : Bool} {role : Role} {b : Before}
+      → Below t n d base frames sequence i c (suc (with_pair pair e)) w begin
       → EntriesAwaited t (with_pair pair e) sequence n c d i h x s
       → code t s ≢ closing sequence
       → NodeIn t n d s role sequence e pair p g y
-      → Framed base.limit sequence pair e h g (length w.events) (length (entries_written w begin x).events) top rest
+      → Framed base.total sequence pair e h g (length w.events) (length (entries_written w begin x).events) top rest
       → top.role ≡ role
+      → top.entry ≡ s
       → NodeOver t n d p k b
       → all ≡ top ∷ (rest ++ frames)
-      → Below t n d base all k d e (noting (entry_written w begin x pair s y) (comments_before b)) (opened_event p b (entry_of role s) inner k)
+      → Below t n d base all inner k d e (noting (entry_written w begin x pair s y) (comments_before b)) (opened_event p b (entry_of role s) inner k)
 
 -- entries of the collection that is read now are awaited
 pub record AtEntry (t : List ℕ) (n : ℤ) (d : Ctx) (base : Base) (frames : List Frame) (top : Frame) (at : ℕ) (part : Part) : Type 0 where
@@ -142,10 +156,63 @@ pub record AtEntry (t : List ℕ) (n : ℤ) (d : Ctx) (base : Base) (frames : Li
   pub before : Meaning
   pub begin : Placed
   pub known : Meaning
-  pub below : Below t n d base frames place context (suc limit) before begin
+  pub below : Below t n d base frames sequence place context (suc limit) before begin
   pub awaited : SeparationAwaited t limit sequence n context d place high known at
-  pub frame : CollectionFrame base.limit limit high (length before.events) sequence top
+  pub frame : CollectionFrame base.total limit high (length before.events) sequence top
   pub written : Written t (entries_written before begin known) part
+
+-- the same once the separation has been read: an entry begins at k, or the bracket stands there
+pub record AtPlace (t : List ℕ) (n : ℤ) (d : Ctx) (base : Base) (frames : List Frame) (top : Frame) (k : ℕ) (part : Part) : Type 0 where
+  pub sequence : Bool
+  pub place : ℕ
+  pub context : Ctx
+  pub limit : ℕ
+  pub high : ℕ
+  pub before : Meaning
+  pub begin : Placed
+  pub known : Meaning
+  pub below : Below t n d base frames sequence place context (suc limit) before begin
+  pub entries : EntriesAwaited t limit sequence n context d place high known k
+  pub frame : CollectionFrame base.total limit high (length before.events) sequence top
+  pub written : Written t (entries_written before begin known) part
+
+-- the collection is closed by the bracket at k
+pub record AtClosing (t : List ℕ) (n : ℤ) (d : Ctx) (base : Base) (frames : List Frame) (top : Frame) (k : ℕ) (part : Part) : Type 0 where
+  pub sequence : Bool
+  pub place : ℕ
+  pub context : Ctx
+  pub limit : ℕ
+  pub high : ℕ
+  pub before : Meaning
+  pub begin : Placed
+  pub known : Meaning
+  pub below : Below t n d base frames sequence place context (suc limit) before begin
+  pub parsed : Parses t (suc limit) (AContent n context place) (Some (ended_at sequence place high known k))
+  pub frame : CollectionFrame base.total limit high (length before.events) sequence top
+  pub written : Written t (entries_written before begin known) part
+
+-- an entry of the collection has been read, and perhaps the separation after it
+pub record AtEntryEnd (t : List ℕ) (n : ℤ) (d : Ctx) (base : Base) (frames : List Frame) (top : Frame) (at : ℕ) (part : Part) : Type 0 where
+  pub sequence : Bool
+  pub place : ℕ
+  pub context : Ctx
+  pub limit : ℕ
+  pub high : ℕ
+  pub before : Meaning
+  pub begin : Placed
+  pub known : Meaning
+  pub start : ℕ
+  pub end : ℕ
+  pub height : ℕ
+  pub meaning : Meaning
+  pub comments : List CommentValue
+  pub below : Below t n d base frames sequence place context (suc limit) before begin
+  pub entries : EntriesAwaited t limit sequence n context d place high known start
+  pub open_there : code t start ≢ closing sequence
+  pub entry : IsEntry t limit sequence n d start end height meaning
+  pub within : Within t n d end at comments
+  pub frame : CollectionFrame base.total limit (max high height) (length before.events) sequence top
+  pub written : Written t (entries_written before begin (known ⊕ noting meaning comments)) part
 
 -- what is known of the present entry and its collection
 pub record InEntry : Type 0 where
@@ -164,10 +231,10 @@ pub record InEntry : Type 0 where
 -- the present entry is tied to the frames: g collections were open at once in what is read of it
 pub record EntryTied (t : List ℕ) (n : ℤ) (d : Ctx) (base : Base) (frames : List Frame) (top : Frame) (g : ℕ) (l : InEntry) : Type 0 where
   pub rest : List Frame
-  pub below : Below t n d base l.under l.place l.context (suc (with_pair l.pair l.limit)) l.before l.begin
+  pub below : Below t n d base l.under l.sequence l.place l.context (suc (with_pair l.pair l.limit)) l.before l.begin
   pub entries : EntriesAwaited t (with_pair l.pair l.limit) l.sequence n l.context d l.place l.high l.known l.start
   pub open_there : code t l.start ≢ closing l.sequence
-  pub framed : Framed base.limit l.sequence l.pair l.limit l.high g (length l.before.events) (length (entries_written l.before l.begin l.known).events) top rest
+  pub framed : Framed base.total l.sequence l.pair l.limit l.high g (length l.before.events) (length (entries_written l.before l.begin l.known).events) top rest
   pub all : frames ≡ rest ++ l.under
 
 abbrev pub written_in : InEntry → Meaning → Meaning
@@ -198,3 +265,27 @@ pub record AtEnded (t : List ℕ) (n : ℤ) (d : Ctx) (base : Base) (frames : Li
   pub deepest : node.deepest ≡ top.depth + answer.height
   pub finish : answer.meaning.finish ≡ answer.end
   pub written : Written t (written_in layer (read ⊕ in_role top.role layer.start answer.meaning)) part
+
+-- the outermost collection has been read
+pub record AtDone (t : List ℕ) (n : ℤ) (base : Base) (node : TheNode.Node) (part : Part) : Type 0 where
+  pub high : ℕ
+  pub known : Meaning
+  pub bracket : ℕ
+  pub parsed : Parses t base.limit (AContent n base.context base.place) (Some (ended_at base.sequence base.place high known bracket))
+  pub end : node.end ≡ bracket + 1
+  pub json : node.json ≡ true
+  pub deepest : node.deepest + base.limit ≡ base.total + suc high
+  pub written : Written t (entries_written base.written (ended (bracket + 1) base.event) known ⊕ one (plain_event (end_of base.sequence) None)) part
+
+-- none is derived there
+abbrev pub NoBase : List ℕ → ℤ → Base → Type 0
+NoBase t n base = Parses t base.limit (AContent n base.context base.place) None
+
+-- what comes next
+abbrev pub StepTied : List ℕ → ℤ → Ctx → Base → List Frame → Frame → Step → Part → Type 0
+StepTied t n d base frames top (Node p) part = AtNode t n d base frames top p part
+StepTied t n d base frames top (Entry p) part = AtEntry t n d base frames top p part
+StepTied t n d base frames top (Ended node) part = AtEnded t n d base frames top node part
+StepTied t n d base frames top (Done node) part = AtDone t n base node part
+StepTied t n d base frames top Failed part = NoBase t n base
+StepTied t n d base frames top (TooDeep p) part = NoBase t n base

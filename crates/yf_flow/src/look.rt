@@ -1,9 +1,10 @@
 //! Tests of what stands at a place of a flow node. They look and read nothing.
-ghost use Rattle.std.specs.Prelude.{◌≡◌, ◌+◌, ◌≤◌, ◌==◌, ◌||◌, true, false, MatchBool};
+ghost use Rattle.std.specs.Prelude.{◌≡◌, ◌≢◌, ◌+◌, ◌≤◌, ◌==◌, ◌||◌, true, false, MatchBool};
 ghost use Rattle.std.specs.Str.{IsCharBoundary};
 ghost use Rattle.yf_chars.specs.Text.{code, Reads};
 ghost use Rattle.yf_grammar.specs.Parser.{ColonAt, begins_content};
-ghost use Rattle.yf_flow.specs.Leaves.{Closes};
+ghost use Rattle.yf_grammar.specs.Part.{NotedSince};
+ghost use Rattle.yf_flow.specs.Leaves.{Closes, KeyLine};
 
 use crate::frame::{Kind, Scene};
 use yf_chars::classes::is_plain_safe;
@@ -107,7 +108,10 @@ pub fn is_key_line(text: &str, start: usize, end: usize) -> bool
 }
 
 /// Whether a blank line stands before the place at which an entry begins.
-pub(crate) fn is_blank_before_entry(text: &str, at: usize) -> bool {
+#[tactic(auto, using(crate::proofs::NotedLemmas::note_of))]
+pub(crate) fn is_blank_before_entry(text: &str, at: usize) -> bool
+    ensures { code text.now at ≢ 10 → NotedSince text.now 0 at result }
+{
     if stands(text, at, b'\n') {
         return false;
     }

@@ -1,0 +1,91 @@
+-- Events with the notes of their entries filled in: what is done to both lists alike keeps them so.
+use Rattle.std.proofs.Common.{◌≡◌, ◌≢◌, ℕ, zero, suc, ◌+◌, ◌≤◌, Bool, true, false, List, [], ◌∷◌, ◌++◌, length, take, drop, Option, Some, None, MatchBool, refl, sym, ap, ◌∙◌, subst, arith, true≢false}
+use Rattle.yf_chars.specs.Text.{code}
+use Rattle.yf_comments.specs.Comments.{BlankBefore}
+use Rattle.yf_comments.specs.Comments.BlankBefore.{blank_line as line_before, past_gap as gap_before}
+use Rattle.yf_events.specs.Event.{EventValue, Placed, stream_starts, stream_ends, document_starts, document_ends, sequence_starts, sequence_ends, mapping_starts, mapping_ends, scalar_node, alias_node}
+use Rattle.yf_events.specs.Edit.{edited, ended, coloned, with_colon}
+use Rattle.yf_events.specs.declared.event.Entry.{Entry}
+use Rattle.yf_events.specs.declared.event.ScalarStyle.{ScalarStyle}
+use Rattle.yf_events.specs.declared.event.ScalarStyle.TheVariants.{Plain, Single, Double, Literal, Folded}
+use Rattle.yf_grammar.specs.Part.{BlankSince, NotedSince, Noting, floor_behind}
+use Rattle.yf_grammar.specs.Part.BlankSince.{blank_line, past_gap}
+use Rattle.yf_grammar.specs.Part.NotedSince.{noted, not_noted}
+use Rattle.yf_grammar.specs.Part.Noting.{no_event, without_entry, with_entry}
+use Rattle.yf_grammar.proofs.SinceKnown.{since_before}
+use Rattle.yf_flow.specs.Begun.{is_lined}
+use Rattle.yf_flow.specs.Tied.{NoteOf, entryless, entry_noted, NotedEvent, Noted, no_events, event_before}
+
+-- where no block scalar stands before, a blank line is met or not
+since_zero : {t : List ℕ} {j : ℕ} → BlankBefore t j → BlankSince t 0 j
+since_zero (line_before b k) = blank_line (omega arith) b k
+since_zero (gap_before b e) = past_gap (since_zero b) e
+
+pub note_of : {t : List ℕ} {i : ℕ} (b : Bool) → MatchBool b (BlankBefore t i) (BlankBefore t i → ⊥) → NotedSince t 0 i b
+note_of true b = noted (since_zero b)
+note_of false f = not_noted (λ s. f (since_before s))
+
+floor_zero : (e : Placed) (v : EventValue) → is_lined v ≡ false → floor_behind 0 e v ≡ 0
+floor_zero e stream_starts q = refl
+floor_zero e stream_ends q = refl
+floor_zero e (document_starts b) q = refl
+floor_zero e (document_ends b) q = refl
+floor_zero e (sequence_starts f p) q = refl
+floor_zero e sequence_ends q = refl
+floor_zero e (mapping_starts f p) q = refl
+floor_zero e mapping_ends q = refl
+floor_zero e (scalar_node p Plain x) q = refl
+floor_zero e (scalar_node p Single x) q = refl
+floor_zero e (scalar_node p Double x) q = refl
+floor_zero e (scalar_node p Literal x) q = absurd (true≢false q)
+floor_zero e (scalar_node p Folded x) q = absurd (true≢false q)
+floor_zero e (alias_node x) q = refl
+
+module _ {t : List ℕ} where
+  noting_one : {e f : Placed} {x y : List Placed} → NoteOf t e f → Noting t (floor_behind 0 e e.event) x y → Noting t 0 (e ∷ x) (f ∷ y)
+  noting_one (entryless q) r = without_entry q r
+  noting_one (entry_noted entry q s) r = with_entry entry q s r
+
+  pub noted_noting : {x y : List Placed} → Noted t x y → Noting t 0 x y
+  noted_noting no_events = no_event
+  noted_noting (event_before {e = e} {x = x} {y = y} n r) =
+      noting_one n.note (subst (λ z. Noting t z x y) (sym (floor_zero e e.event n.no_lines)) (noted_noting r))
+
+  pub noted_append : {x y z w : List Placed} → Noted t x y → Noted t z w → Noted t (x ++ z) (y ++ w)
+  noted_append no_events r = r
+  noted_append (event_before n s) r = event_before n (noted_append s r)
+
+  pub noted_more : {x y : List Placed} {e f : Placed} → Noted t x y → NotedEvent t e f → Noted t (x ++ e ∷ []) (y ++ f ∷ [])
+  noted_more r n = noted_append r (event_before n no_events)
+
+  pub noted_length : {x y : List Placed} → Noted t x y → length x ≡ length y
+  noted_length no_events = refl
+  noted_length (event_before n r) = ap suc (noted_length r)
+
+  note_ended : {e f : Placed} (j : ℕ) → NoteOf t e f → NoteOf t (ended j e) (ended j f)
+  note_ended j (entryless q) = entryless q
+  note_ended j (entry_noted entry q s) = entry_noted entry q s
+
+  note_coloned : {e f : Placed} (k : ℕ) → NoteOf t e f → NoteOf t (coloned k e) (coloned k f)
+  note_coloned k (entryless q) = entryless (ap (with_colon k) q)
+  note_coloned k (entry_noted entry q s) = entry_noted (record entry { colon = Some k }) (ap (with_colon k) q) s
+
+  pub noted_ended : {x y : List Placed} (j i : ℕ) → Noted t x y → Noted t (edited (ended j) i x) (edited (ended j) i y)
+  noted_ended j i no_events = no_events
+  noted_ended j zero (event_before n r) = event_before (record { no_lines = n.no_lines; note = note_ended j n.note }) r
+  noted_ended j (suc i) (event_before n r) = event_before n (noted_ended j i r)
+
+  pub noted_coloned : {x y : List Placed} (k i : ℕ) → Noted t x y → Noted t (edited (coloned k) i x) (edited (coloned k) i y)
+  noted_coloned k i no_events = no_events
+  noted_coloned k zero (event_before n r) = event_before (record { no_lines = n.no_lines; note = note_coloned k n.note }) r
+  noted_coloned k (suc i) (event_before n r) = event_before n (noted_coloned k i r)
+
+  pub noted_inserted : (x z : List Placed) {y : List Placed} {e f : Placed} → Noted t (x ++ z) y → NotedEvent t e f
+      → Noted t (x ++ e ∷ z) (take (length x) y ++ f ∷ drop (length x) y)
+  noted_inserted [] z r n = event_before n r
+  noted_inserted (a ∷ x) z (event_before m r) n = event_before m (noted_inserted x z r n)
+
+-- the event at an index
+pub edited_here : (f : Placed → Placed) (x : List Placed) (e : Placed) (z : List Placed) → edited f (length x) (x ++ e ∷ z) ≡ x ++ f e ∷ z
+edited_here f [] e z = refl
+edited_here f (a ∷ x) e z = ap (λ w. a ∷ w) (edited_here f x e z)

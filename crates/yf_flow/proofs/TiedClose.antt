@@ -1,0 +1,140 @@
+-- A collection that is closed is a node of the entry round it, or the outermost one.
+use Rattle.std.proofs.Common.{◌≡◌, ◌≢◌, ℕ, suc, max, ◌+◌, ◌≤◌, ℤ, Bool, true, false, List, [], ◌∷◌, ◌++◌, length, Option, Some, None, refl, sym, ap, ◌∙◌, subst, arith, append_assoc, append-nil}
+use Rattle.yf_chars.specs.declared.context.Ctx.{Ctx}
+use Rattle.yf_chars.specs.Text.{code}
+use Rattle.yf_comments.specs.Comment.{CommentValue}
+use Rattle.yf_events.specs.Event.{EventValue, Placed}
+use Rattle.yf_events.specs.Edit.{edited, ended}
+use Rattle.yf_events.specs.declared.part.Part.{Part}
+use Rattle.yf_grammar.specs.Meaning.{Meaning, ◌⊕◌, noting, behind, with_props, collection, entering, plain_event, from_to, end_of}
+use Rattle.yf_grammar.specs.Parser.{Found, AContent, ANode, Parses}
+use Rattle.yf_grammar.specs.Awaits.{Before, Bare, Propertied, ended_at, over, NodeOver, bare_there, properties_there}
+use Rattle.yf_grammar.proofs.AwaitEntries.{plus_assoc}
+use Rattle.yf_grammar.proofs.AwaitFails.{over_some}
+use Rattle.yf_grammar.proofs.ParserLemmas.{Same}
+use Rattle.yf_flow.specs.declared.frame.Frame.{Frame}
+use Rattle.yf_flow.specs.declared.frame.Role.{Role}
+use Rattle.yf_flow.specs.declared.frame.Role.TheVariants.{Item, Key, Value}
+use Rattle.yf_flow.specs.declared.frame.Node.{Node}
+use Rattle.yf_flow.specs.Begun.{entry_event}
+use Rattle.yf_flow.specs.NodeBegun.{comments_before, opened_event}
+use Rattle.yf_flow.specs.Tied.{NotedEvent, entryless, Noted, Written, one, entry_of, in_role, ahead, entries_written, entry_written, CollectionFrame, Framed, of_collection, of_pair, NodeIn, Base, IsBase, Below, outermost, inside, AtClosing, AtEnded, AtDone, InEntry, EntryTied}
+use Rattle.yf_flow.proofs.NotedLemmas.{noted_more, noted_ended, edited_here}
+use Rattle.yf_flow.proofs.TiedEnds.{written_as, written_same}
+
+-- where a node begins, before its content at k
+abbrev NodeStart : Before → ℕ → ℕ → Type 0
+NodeStart Bare p k = p ≡ k
+NodeStart (Propertied q cs i g) p k = p ≡ i
+
+-- what is written where a collection ends, in the role of its node
+ended_meaning : (role : Role) (b : Before) (s p k j : ℕ) (sequence : Bool) (x : Meaning) → NodeStart b p k
+    → Same (record {
+      events = ended j (opened_event p b (entry_of role s) sequence k) ∷ (x.events ++ plain_event (end_of sequence) None ∷ []);
+      comments = comments_before b ++ x.comments;
+      escapes = x.escapes;
+      finish = j;
+    }) (in_role role s (over b (collection sequence true k j x)))
+unfolding collection plain_event from_to behind with_props entering
+ended_meaning Value Bare s p k j true x e = rw e record { events = refl; comments = refl; escapes = refl }
+ended_meaning Value Bare s p k j false x e = rw e record { events = refl; comments = refl; escapes = refl }
+ended_meaning Value (Propertied q cs i g) s p k j true x e = rw e record { events = refl; comments = refl; escapes = refl }
+ended_meaning Value (Propertied q cs i g) s p k j false x e = rw e record { events = refl; comments = refl; escapes = refl }
+ended_meaning Item Bare s p k j true x e = rw e record { events = refl; comments = refl; escapes = refl }
+ended_meaning Item Bare s p k j false x e = rw e record { events = refl; comments = refl; escapes = refl }
+ended_meaning Item (Propertied q cs i g) s p k j true x e = rw e record { events = refl; comments = refl; escapes = refl }
+ended_meaning Item (Propertied q cs i g) s p k j false x e = rw e record { events = refl; comments = refl; escapes = refl }
+ended_meaning Key Bare s p k j true x e = rw e record { events = refl; comments = refl; escapes = refl }
+ended_meaning Key Bare s p k j false x e = rw e record { events = refl; comments = refl; escapes = refl }
+ended_meaning Key (Propertied q cs i g) s p k j true x e = rw e record { events = refl; comments = refl; escapes = refl }
+ended_meaning Key (Propertied q cs i g) s p k j false x e = rw e record { events = refl; comments = refl; escapes = refl }
+
+over_finish : (b : Before) (sequence : Bool) (k j : ℕ) (x : Meaning) → (over b (collection sequence true k j x)).finish ≡ j
+unfolding collection behind with_props
+over_finish Bare sequence k j x = refl
+over_finish (Propertied q cs i g) sequence k j x = refl
+
+ahead_plus : (pair : Bool) (s : ℕ) (y m : Meaning) → ahead pair s y ⊕ m ≡ ahead pair s (y ⊕ m)
+unfolding ◌⊕◌
+ahead_plus true s y m = refl
+ahead_plus false s y m = refl
+
+pub entry_more : (w : Meaning) (begin : Placed) (x : Meaning) (pair : Bool) (s : ℕ) (y m : Meaning) → entry_written w begin x pair s y ⊕ m ≡ entry_written w begin x pair s (y ⊕ m)
+entry_more w begin x pair s y m =
+    sym (plus_assoc (entries_written w begin x) (ahead pair s y) m) ∙ ap (λ z. entries_written w begin x ⊕ z) (ahead_plus pair s y m)
+
+-- the events round those of the entries
+closed_same : (w x m : Meaning) (cs : List CommentValue) (first last : Placed) (j : ℕ)
+    → Same (record { events = first ∷ (x.events ++ last ∷ []); comments = cs ++ x.comments; escapes = x.escapes; finish = j }) m
+    → Same (entries_written (noting w cs) first x ⊕ one last) (w ⊕ m)
+unfolding ◌⊕◌ noting
+closed_same w x m cs first last j s = record {
+  events = append_assoc (w.events ++ first ∷ []) x.events (last ∷ []) ∙ append_assoc w.events (first ∷ []) (x.events ++ last ∷ []) ∙ ap (λ z. w.events ++ z) s.events;
+  comments = append-nil ((w.comments ++ cs ++ []) ++ x.comments) ∙ ap (λ z. z ++ x.comments) (append-nil (w.comments ++ cs)) ∙ append_assoc w.comments cs x.comments ∙ ap (λ z. w.comments ++ z) s.comments;
+  escapes = append-nil ((w.escapes ++ []) ++ x.escapes) ∙ ap (λ z. z ++ x.escapes) (append-nil w.escapes) ∙ ap (λ z. w.escapes ++ z) s.escapes;
+}
+
+-- an event is added, and the end of the collection is noted
+pub ended_written : {t : List ℕ} {old new : Part} (w x : Meaning) (begin : Placed) (j : ℕ) (event : EventValue) → Written t (entries_written w begin x) old
+    → NotedEvent t (plain_event event None) (entry_event event None)
+    → new.events ≡ edited (ended j) (length w.events) (old.events ++ entry_event event None ∷ []) → new.comments ≡ old.comments → new.escapes ≡ old.escapes
+    → Written t (entries_written w (ended j begin) x ⊕ one (plain_event event None)) new
+unfolding ◌⊕◌
+ended_written {t} {old} {new} w x begin j event p q a b c =
+    let last = plain_event event None in
+    let whole = (w.events ++ begin ∷ []) ++ x.events ++ last ∷ [] in
+    let e : whole ≡ w.events ++ begin ∷ (x.events ++ last ∷ []) = append_assoc (w.events ++ begin ∷ []) x.events (last ∷ []) ∙ append_assoc w.events (begin ∷ []) (x.events ++ last ∷ []) in
+    let f : edited (ended j) (length w.events) whole ≡ (w.events ++ ended j begin ∷ []) ++ x.events ++ last ∷ [] =
+    ap (λ z. edited (ended j) (length w.events) z) e ∙ edited_here (ended j) w.events begin (x.events ++ last ∷ [])
+    ∙ sym (append_assoc w.events (ended j begin ∷ []) (x.events ++ last ∷ [])) ∙ sym (append_assoc (w.events ++ ended j begin ∷ []) x.events (last ∷ [])) in
+    let r = noted_ended j (length w.events) (noted_more p.events q) in
+    record {
+      events = subst (λ z. Noted t z new.events) f (subst (λ z. Noted t (edited (ended j) (length w.events) whole) z) (sym a) r);
+      comments = b ∙ p.comments ∙ sym (append-nil ((w.comments ++ []) ++ x.comments));
+      escapes = c ∙ p.escapes ∙ sym (append-nil ((w.escapes ++ []) ++ x.escapes));
+    }
+
+cons_parts : {X : Type 0} {a b : X} {x y : List X} → a ∷ x ≡ b ∷ y → (a ≡ b) × (x ≡ y)
+cons_parts e = (cc, cc)
+
+no_cons : {X : Type 0} {b : X} {y : List X} → [] ≡ b ∷ y → ⊥
+no_cons e = cc
+
+start_of_node : {t : List ℕ} {n : ℤ} {d : Ctx} {p k : ℕ} {b : Before} → NodeOver t n d p k b → NodeStart b p k
+start_of_node (bare_there q) = refl
+start_of_node (properties_there q s c) = refl
+
+frame_depth : {total e h g m k : ℕ} {sequence pair : Bool} {f : Frame} {rest : List Frame} → Framed total sequence pair e h g m k f rest → f.depth + e ≡ total
+frame_depth (of_collection c) = c.room
+frame_depth (of_pair p c) = p.room
+
+module _ {t : List ℕ} {n : ℤ} {d : Ctx} {base : Base} where
+  -- the node of the entry round it
+  pub closed_into : {frames rest : List Frame} {sequence : Bool} {i e l : ℕ} {c : Ctx} {w : Meaning} {begin : Placed} {outer : Frame} {part : Part} (node : Node) (h k : ℕ) (x : Meaning)
+      → Below t n d base frames sequence i c e w begin → frames ≡ outer ∷ rest → e ≡ suc l → Parses t e (AContent n c i) (Some (ended_at sequence i h x k))
+      → node.end ≡ k + 1 → node.json ≡ true → node.deepest + l ≡ base.total + h
+      → Written t (entries_written w (ended (k + 1) begin) x ⊕ one (plain_event (end_of sequence) None)) part → AtEnded t n d base rest outer node part
+  closed_into node h k x (outermost b) q y r a j v p = absurd (no_cons q)
+  closed_into {rest = rest} {sequence = sequence} {i} {e} {l} {outer = outer} {part = part} node h k x (inside {frames = under} {rest = more} {i = i'} {h = h'} {s = s} {g = g} {p = place} {c = c'} {w = w'} {x = x'} {y = y'} {begin = begin'} {sequence = sequence'} {pair = pair} {role = role} {b = b} below entries stays aw framed ro fi ov al) q y r a j v p =
+      let z = cons_parts (sym al ∙ q) in
+      let f = ended_at sequence i h x k in
+      let dep = frame_depth framed in
+      let written = written_same (closed_same (entry_written w' begin' x' pair s y') x (in_role role s (over b (collection sequence true i (k + 1) x))) (comments_before b)
+      (ended (k + 1) (opened_event place b (entry_of role s) sequence i)) (plain_event (end_of sequence) None) (k + 1) (ended_meaning role b s place i (k + 1) sequence x (start_of_node ov))) p in
+      subst (λ o. AtEnded t n d base rest o node part) z.0 (record {
+        layer = record { sequence = sequence'; place = i'; context = c'; pair = pair; limit = e; high = h'; before = w'; begin = begin'; known = x'; start = s; under = under };
+        height = g;
+        read = y';
+        place = place;
+        answer = record f { meaning = over b f.meaning };
+        tied = record { rest = more; below = below; entries = entries; open_there = stays; framed = framed; all = sym z.1 };
+        awaited = subst (λ o. NodeIn t n d s o sequence' e pair place g y') (sym ro) aw;
+        entry = fi;
+        parsed = over_some f ov r;
+        end = a;
+        json = j;
+        deepest = omega (arith, dep, y, v);
+        finish = over_finish b sequence i (k + 1) x;
+        written = subst (λ o. Written t (entry_written w' begin' x' pair s (y' ⊕ in_role o s (over b (collection sequence true i (k + 1) x)))) part) (sym ro)
+            (written_as (entry_more w' begin' x' pair s y' (in_role role s (over b (collection sequence true i (k + 1) x)))) written);
+      })
