@@ -8,13 +8,16 @@ ghost use Rattle.yf_block.specs.Machine.{StepReady, left, ProgressAt, HeldTo};
 use crate::entry::open_mapping;
 use crate::frame::{Frames, Progress, Scope, Step, Wanted};
 use crate::halt::Counts;
-use crate::held::{Held, joined, joined_behind, lead_of, line_properties, place_behind};
+use crate::held::{
+    Held, joined, joined_behind, lead_of, line_properties, place_behind, property_stands,
+};
 use crate::inline::{finish_inline, read_inline};
 use crate::line::end_line;
 use crate::look::{line_ends, sign_stands};
 use crate::scalar::take_block_scalar;
 use std::alloc::{AllocError, Global};
 use yf_chars::text::stands;
+use yf_events::event::Entry;
 use yf_events::part::Part;
 use yf_flow::node::Lead;
 use yf_flow::nodes::Ending;
@@ -80,17 +83,17 @@ pub(crate) fn take_content<'a>(
             return open_mapping(alloc, scope, spot.at, column, progress, frames, part);
         }
     }
-    match line_properties(alloc, scope.text, spot.at)? {
-        None => {
-            let behind = Behind {
-                at: spot.at,
-                inner: None,
-                spot,
-            };
-            take_behind(alloc, scope, &behind, progress, frames, part)
+    if property_stands(scope.text, spot.at) {
+        if let Some(inner) = line_properties(alloc, scope.text, spot.at)? {
+            return take_propertied(alloc, scope, inner, spot, progress, frames, part);
         }
-        Some(inner) => take_propertied(alloc, scope, inner, spot, progress, frames, part),
     }
+    let behind = Behind {
+        at: spot.at,
+        inner: None,
+        spot,
+    };
+    take_behind(alloc, scope, &behind, progress, frames, part)
 }
 
 // Whether an entry begins there with its `?` or its `:`.
@@ -102,6 +105,7 @@ fn entry_sign_stands(text: &str, at: usize) -> bool {
 }
 
 // What stands after the properties of a line: nothing, or the content of a node or key.
+#[inline(never)]
 fn take_propertied<'a>(
     alloc: Global,
     scope: Scope<'a>,
@@ -212,31 +216,39 @@ fn claim_of<'a>(
     wanted: &Wanted<'a>,
     part: &Part<'a>,
 ) -> Claim<'a> {
-    let before = Counts::of(part);
-    let own = lead_of(behind.spot.at, behind.inner, wanted.entry);
     match wanted.outer {
         None => Claim {
-            lead: own,
+            lead: lead_of(behind.spot.at, behind.inner, wanted.entry),
             share: Share::Nothing,
+            before: Counts::of(part),
+        },
+        Some(outer) => shared_claim(text, behind, outer, wanted.entry, Counts::of(part)),
+    }
+}
+
+// The same where properties stand on lines before.
+#[inline(never)]
+fn shared_claim<'a>(
+    text: &str,
+    behind: &Behind<'a>,
+    outer: Held<'a>,
+    entry: Option<Entry>,
+    before: Counts,
+) -> Claim<'a> {
+    let whole = match behind.inner {
+        None => Some(outer),
+        Some(inner) => joined(outer, inner),
+    };
+    match whole {
+        Some(held) if !stands(text, behind.at, b'*') => Claim {
+            lead: held.lead(entry),
+            share: Share::Joined,
             before,
         },
-        Some(outer) => {
-            let whole = match behind.inner {
-                None => Some(outer),
-                Some(inner) => joined(outer, inner),
-            };
-            match whole {
-                Some(held) if !stands(text, behind.at, b'*') => Claim {
-                    lead: held.lead(wanted.entry),
-                    share: Share::Joined,
-                    before,
-                },
-                _ => Claim {
-                    lead: own,
-                    share: Share::Apart,
-                    before,
-                },
-            }
-        }
+        _ => Claim {
+            lead: lead_of(behind.spot.at, behind.inner, entry),
+            share: Share::Apart,
+            before,
+        },
     }
 }

@@ -194,6 +194,7 @@ pub(crate) fn note_node<'a>(
 }
 
 /// Notes that all may end before the last line of a plain scalar, if it has several.
+#[inline(never)]
 pub(crate) fn note_shorter<'a>(
     text: &str,
     plain: Option<Plain>,

@@ -71,8 +71,8 @@ pub(crate) fn line_properties<'a>(
     }
 }
 
-// Whether the first character of an anchor or a tag stands there.
-fn property_stands(text: &str, at: usize) -> bool {
+/// Whether the first character of an anchor or a tag stands there.
+pub(crate) fn property_stands(text: &str, at: usize) -> bool {
     if stands(text, at, b'&') {
         return true;
     }

@@ -101,6 +101,7 @@ pub(crate) fn flow_indentation(least: usize) -> i32
 }
 
 /// After a flow node on its line: it is the first key of a mapping, or the end of the line follows.
+#[inline(never)]
 pub(crate) fn finish_inline<'a>(
     alloc: Global,
     scope: Scope<'a>,

@@ -9,7 +9,7 @@ use yf_comments::comments::Comments;
 use yf_flow::look::is_key_line;
 use yf_lines::basic::{
     is_forbidden_at, line_break, mark_ends, mark_stands, skip_spaces, skip_whites,
-    white_or_end_stands, white_stands,
+    white_or_end_stands,
 };
 
 /// Whether the `-` of an entry stands there (c-l-block-seq-entry, production 184).
@@ -99,33 +99,25 @@ pub fn is_blank_after(text: &str, floor: usize, at: usize) -> bool {
     // whether white space alone stands between the place and a line break
     let mut blank = false;
     'back: while place > floor {
-        if white_stands(text, place - 1) {
-            place -= 1;
-            continue;
+        match text.as_bytes().get(place - 1) {
+            Some(b' ' | b'\t') => place -= 1,
+            Some(b'\n' | b'\r') => {
+                if blank {
+                    return true;
+                }
+                blank = true;
+                place = break_start(text, place);
+            }
+            _ => {
+                if !mark_ends(text, place) {
+                    return false;
+                }
+                place -= 3;
+                blank = false;
+            }
         }
-        if mark_ends(text, place) {
-            place -= 3;
-            blank = false;
-            continue;
-        }
-        if !break_ends_at(text, place) {
-            return false;
-        }
-        if blank {
-            return true;
-        }
-        blank = true;
-        place = break_start(text, place);
     }
     blank
-}
-
-// Whether the character before the offset is one of a line break.
-fn break_ends_at(text: &str, at: usize) -> bool {
-    if stands(text, at.saturating_sub(1), b'\n') {
-        return true;
-    }
-    stands(text, at.saturating_sub(1), b'\r')
 }
 
 // Where the break begins that ends at the offset.

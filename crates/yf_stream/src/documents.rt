@@ -31,6 +31,7 @@ const BYTE_ORDER_MARK: char = '\u{FEFF}';
 /// What has been read of a stream so far, in order of the text.
 #[derive(Debug, Drop)]
 pub(crate) struct Parts<'a> {
+    /// The events and comments of the stream, and its escapes that are no character.
     pub(crate) part: Part<'a>,
     pub(crate) documents: Documents<'a>,
 }
