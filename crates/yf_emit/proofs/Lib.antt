@@ -3,9 +3,11 @@ pub mod AlikeLemmas
 pub mod AmongLemmas
 pub mod BlockLemmas
 pub mod BlockTexts
+pub mod ClearRows
 pub mod CollectionsMade
 pub mod CountLemmas
 pub mod DecoratedLemmas
+pub mod DocumentsMade
 pub mod EndedLemmas
 pub mod EntriesMade
 mod Examples
@@ -15,6 +17,7 @@ pub mod GapLemmas
 pub mod IndexLemmas
 pub mod KeptLemmas
 pub mod KeysMade
+pub mod LayoutLawsHold
 pub mod LeafLemmas
 pub mod LevelLemmas
 pub mod MeasuredLemmas
@@ -27,6 +30,7 @@ pub mod PassLemmas
 pub mod PlaceLemmas
 pub mod RestyledLemmas
 pub mod RowEnds
+pub mod RowTexts
 pub mod RunLemmas
 pub mod SettledLemmas
 mod ShownComments
@@ -36,6 +40,7 @@ mod ShownNodes
 pub mod SiteLemmas
 pub mod StepLemmas
 pub mod StreamLemmas
+pub mod StreamsMade
 pub mod SumLemmas
 pub mod TreeTexts
 pub mod TreesMade

@@ -24,7 +24,7 @@ use Rattle.yf_emit.proofs.NodesMade.{Stood, Claim, no_row, some_rows, line_made}
 
 -- A node on one line.
 
-inline_rows : (c : Setting) (spot : Spot) (x : Node) → is_inline x ≡ true → rows c spot x ≡ one_line spot x
+pub inline_rows : (c : Setting) (spot : Spot) (x : Node) → is_inline x ≡ true → rows c spot x ≡ one_line spot x
 inline_rows c spot (scalar at props Plain text lines) e = refl
 inline_rows c spot (scalar at props Single text lines) e = refl
 inline_rows c spot (scalar at props Double text lines) e = refl
@@ -84,7 +84,7 @@ pub record Everywhere (c : Setting) (x : Node) : Type 0 where
 within_limit : (n : ℕ) → nat_le n 1023 ≡ true → n ≤ 1023
 within_limit n e = grind (arith, nat_tests)
 
-not_implicit : (c : Setting) (column : ℕ) (k : Node) → is_one_line_key c.style column k ≡ false → is_implicit c.style column k ≡ true → ⊥
+pub not_implicit : (c : Setting) (column : ℕ) (k : Node) → is_one_line_key c.style column k ≡ false → is_implicit c.style column k ≡ true → ⊥
 not_implicit c column k e f = true≢false (sym (and_parts (is_one_line_key c.style column k) (nat_le (width (written k)) 1023) f).0 ∙ e)
 
 implicit_makes : (c : Setting) (column : ℕ) {k v : Node} → is_implicit c.style column k ≡ true → Fit k → Claim c.style v (value_of_implicit c column k v) (rows c (value_of_implicit c column k v) v)
@@ -108,7 +108,7 @@ question_makes c column {k} {v} {at} e f a b =
     (record { block = refl; least = (least_inner (is_sequence v) column c.style.indent c.style.indent_from).1; lines = refl }) a b
 
 -- the rows of a pair, by whether its key is implicit
-abbrev either_pair : Bool → Setting → ℕ → Node → Node → List Row
+abbrev pub either_pair : Bool → Setting → ℕ → Node → Node → List Row
 either_pair b c column k v =
     if b then implicit_pair c column k v (rows c (if b then value_of_implicit c column k v else inner_spot c.style column) v)
     else explicit_pair c.style column k (rows c (key_spot c.style column k) k) (rows c (if b then value_of_implicit c column k v else inner_spot c.style column) v)

@@ -1,7 +1,11 @@
 -- Trees whose rows are read again: each node that is written on one line is, wherever it stands.
-use Rattle.std.specs.Prelude.{◌≡◌, ◌≢◌, ℕ, ◌≤◌, Bool, true, false, is_some, List, [], ◌∷◌}
+use Rattle.std.specs.Prelude.{◌≡◌, ◌≢◌, ℕ, ◌≤◌, Bool, true, false, is_some, List, [], ◌∷◌, ◌++◌}
+use Rattle.std.specs.Str.{IsUtf8}
 use Rattle.yf_chars.specs.declared.context.Ctx.{Ctx}
 use Rattle.yf_chars.specs.declared.context.Ctx.TheVariants.{FlowOut, BlockKey}
+use Rattle.yf_lines.specs.Basic.{Forbidden}
+use Rattle.yf_lines.specs.LineText.{Follows, is_behind_text}
+use Rattle.yf_lines.specs.Rest.{Rest}
 use Rattle.yf_props.specs.Props.{PropsValue, no_props}
 use Rattle.yf_props.specs.Written.{IsProps}
 use Rattle.yf_events.specs.declared.event.ScalarStyle.TheVariants.{Plain, Single, Double, Literal, Folded}
@@ -11,6 +15,10 @@ use Rattle.yf_grammar.specs.Meaning.{Meaning}
 use Rattle.yf_grammar.specs.Meant.{Meant, tall}
 use Rattle.yf_emit.specs.OneLine.{written, colon_behind}
 
+-- a text at the start of a line begins no line with a document marker there, whatever follows that may follow
+pub record Unmarked (w : List ℕ) : Type 0 where
+  pub none : {t : List ℕ} (q : ℕ) (r : List ℕ) → IsUtf8 t → Follows is_behind_text r → Rest t q (w ++ r) → Forbidden t q → ⊥
+
 -- a node on one line is derived wherever its text stands, and means the same node
 pub record LineNode (c : Ctx) (x : Node) : Type 0 where
   pub json : Bool
@@ -18,6 +26,7 @@ pub record LineNode (c : Ctx) (x : Node) : Type 0 where
   pub height : ℕ
   pub mean : ℕ → Meaning
   pub back : Back json colon c (written x) height mean
+  pub unmarked : Unmarked (written x)
   pub low : height ≤ tall x
   pub meant : (q : ℕ) → Meant x (mean q)
   pub silent : (q : ℕ) → (mean q).comments ≡ []

@@ -4,6 +4,7 @@ pub mod Carried
 pub mod ContentStart
 pub mod Decorated
 pub mod Deciding
+pub mod FitDocuments
 pub mod Fits
 pub mod Format
 pub mod Formatted
@@ -12,6 +13,7 @@ pub mod ImplicitKeys
 pub mod Kept
 pub mod Keys
 pub mod Laws
+pub mod LayoutLaws
 pub mod Layout
 pub mod Measures
 pub mod Measuring
