@@ -32,6 +32,7 @@ pub mod RestyledLemmas
 pub mod RowEnds
 pub mod RowTexts
 pub mod RunLemmas
+pub mod ScalarsMade
 pub mod SettledLemmas
 mod ShownComments
 mod ShownDecos

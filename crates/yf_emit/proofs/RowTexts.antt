@@ -13,15 +13,18 @@ use Rattle.yf_comments.specs.Comment.{CommentValue}
 use Rattle.yf_props.specs.Props.{PropsValue, TagValue, no_props}
 use Rattle.yf_props.specs.Written.{IsTag, verbatim_form, short_form, lone_form, IsHandle, primary_form, secondary_form, named_form, IsProps, tag_bytes, parts_bytes, props_bytes}
 use Rattle.yf_props.proofs.PropsLines.{props_line_text}
-use Rattle.yf_events.specs.Tree.{Node, Items, item, Pairs, pair}
+use Rattle.yf_events.specs.declared.event.ScalarStyle.{ScalarStyle}
+use Rattle.yf_events.specs.Tree.{Standing, Node, scalar, Items, item, Pairs, pair}
 use Rattle.yf_emit.specs.declared.style.Style.{Style}
-use Rattle.yf_emit.specs.Fits.{Unmarked, LineNode, ColonFits, colon_at_once, colon_apart, FitProps, no_fit_props, some_fit_props, Fit, fit_nothing, fit_line, fit_sequence, fit_mapping, FitItems, fit_no_items, fit_item, FitPairs, fit_no_pairs, fit_pair}
+use Rattle.yf_emit.specs.BlockLines.{content_lines, final_feeds, header_text}
+use Rattle.yf_emit.specs.Fits.{Unmarked, FitScalar, LineNode, ColonFits, colon_at_once, colon_apart, FitProps, no_fit_props, some_fit_props, Fit, fit_nothing, fit_line, fit_scalar, fit_sequence, fit_mapping, FitItems, fit_no_items, fit_item, FitPairs, fit_no_pairs, fit_pair}
 use Rattle.yf_emit.specs.Normal.{Setting, Spot, inner_spot, key_spot, value_of_implicit, value_spot, is_implicit, key_comment}
 use Rattle.yf_emit.specs.OneLine.{written, colon_behind, props_text}
-use Rattle.yf_emit.specs.Rows.{Row, joined, one_line_row, props_row, behind_sign, entry_row, colon_row, key_row, behind_key, begins_below, explicit_pair, pair_rows, rows, rows_of_items, rows_of_pairs}
+use Rattle.yf_emit.specs.Rows.{Row, block_scalar, joined, one_line_row, props_row, behind_sign, entry_row, colon_row, key_row, behind_key, begins_below, explicit_pair, pair_rows, rows, rows_of_items, rows_of_pairs}
 use Rattle.yf_emit.proofs.ClearRows.{unmarked_first, unmarked_more, line_indented, IsRowText, no_body_text, AreRowTexts, no_row_text, row_text}
 use Rattle.yf_emit.proofs.CollectionsMade.{same_props}
-use Rattle.yf_emit.proofs.TreesMade.{inline_rows, not_implicit, either_pair}
+use Rattle.yf_emit.proofs.ScalarsMade.{header_line, header_unmarked, header_with, body_texts, scalar_rows_are}
+use Rattle.yf_emit.proofs.TreesMade.{inline_rows, not_implicit, block_is_no_key, either_pair}
 
 -- Single texts.
 
@@ -126,6 +129,8 @@ key_texts c column e (fit_nothing f) = record {
 }
 key_texts c column {k} e (fit_line inline some node key) =
     let both = colon_text key.node.colon (colon_behind k) key.colon key.node in record { text = both.0; unmarked = both.1; body = no_body_text }
+key_texts c column {k} e (fit_scalar {at = at} {p = p} {style = style} {text = text} {lines = lines} f g h) =
+    absurd (not_implicit c column k (block_is_no_key c column at p text lines style h.block) e)
 key_texts c column {k} e (fit_sequence f p g gs) = absurd (not_implicit c column k refl e)
 key_texts c column {k} e (fit_mapping f p g h gs) = absurd (not_implicit c column k refl e)
 
@@ -141,33 +146,53 @@ question_texts s column k a b =
 
 -- what holds of the rows of a node wherever it stands
 pub record TextsEverywhere (c : Setting) (x : Node) : Type 0 where
-  pub texts : (spot : Spot) → AreRowTexts (rows c spot x)
+  pub texts : (spot : Spot) → 0 < spot.lines → AreRowTexts (rows c spot x)
+
+deep : (c : Setting) (column : ℕ) → 0 < column + c.style.indent
+deep c column = let wide : 2 ≤ c.style.indent = c.style.indent_from in omega (arith, wide)
+
+-- the row of a literal or folded scalar
+scalar_texts : (at : Standing) {p : PropsValue} {style : ScalarStyle} {text : List ℕ} {lines : List (List ℕ)} (s : Style) (spot : Spot) → 0 < spot.lines → FitProps p → FitScalar style text lines
+    → AreRowTexts (block_scalar s spot (scalar at p style text lines) p style text lines)
+scalar_texts at {style = style} {text = text} {lines = lines} s spot l no_fit_props f =
+    row_text (record { text = header_line style s.indent text s.indent_to; unmarked = header_unmarked style s.indent text; body = body_texts spot.lines (final_feeds text - 1) (content_lines style text lines) l f.texts }) no_row_text
+scalar_texts at {style = style} {text = text} {lines = lines} s spot l (some_fit_props {p = p} k n) f =
+    let is = header_with style s.indent text k n in
+    row_text (record {
+      text = subst (λ w. IsLineText w) (sym is) (line_append (props_line_text k) (line_ascii 32 (omega arith) (sign_nb 32 (omega arith) (omega arith)) (header_line style s.indent text s.indent_to)));
+      unmarked = subst (λ w. Unmarked w) (sym is) (unmarked_more 32 (header_text style s.indent text) (props_unmarked k n) (omega arith) space_behind_text);
+      body = body_texts spot.lines (final_feeds text - 1) (content_lines style text lines) l f.texts;
+    }) no_row_text
 
 pair_texts : (c : Setting) (column : ℕ) {k v : Node} → Fit k → TextsEverywhere c k → TextsEverywhere c v
     → AreRowTexts (pair_rows c column k v (rows c (key_spot c.style column k) k) (rows c (value_spot c column k v) v))
 pair_texts c column {k} {v} fit f g = go (is_implicit c.style column k) refl where
   go : (b : Bool) → is_implicit c.style column k ≡ b → AreRowTexts (either_pair (is_implicit c.style column k) c column k v)
   go true e = subst (λ b. AreRowTexts (either_pair b c column k v)) (sym e)
-      (behind_key_texts (key_comment c.comments k v) (begins_below v) (key_texts c column e fit) (g.texts (value_of_implicit c column k v)))
-  go false e = subst (λ b. AreRowTexts (either_pair b c column k v)) (sym e) (question_texts c.style column k (f.texts (key_spot c.style column k)) (g.texts (inner_spot c.style column)))
+      (behind_key_texts (key_comment c.comments k v) (begins_below v) (key_texts c column e fit) (g.texts (value_of_implicit c column k v) (deep c column)))
+  go false e = subst (λ b. AreRowTexts (either_pair b c column k v)) (sym e) (question_texts c.style column k (f.texts (key_spot c.style column k) (deep c column)) (g.texts (inner_spot c.style column) (deep c column)))
 
 dash_texts : (c : Setting) (column : ℕ) {x : Node} → TextsEverywhere c x → AreRowTexts (behind_sign c.style (entry_row column (45 ∷ []) x) (rows c (inner_spot c.style column) x))
 dash_texts c column {x} f =
     let wide : 2 ≤ c.style.indent = c.style.indent_from in
-    joined_texts (c.style.indent - 1) (omega (arith, wide)) (sign_text 45 column x (omega arith) (omega arith) dash_unmarked) (f.texts (inner_spot c.style column))
+    joined_texts (c.style.indent - 1) (omega (arith, wide)) (sign_text 45 column x (omega arith) (omega arith) dash_unmarked) (f.texts (inner_spot c.style column) (deep c column))
 
 -- Trees.
 
 mutual
   texts_everywhere : (c : Setting) {x : Node} → Fit x → TextsEverywhere c x
-  texts_everywhere c (fit_nothing e) = record { texts = λ spot. no_row_text }
+  texts_everywhere c (fit_nothing e) = record { texts = λ spot l. no_row_text }
   texts_everywhere c {x} (fit_line inline some node key) = record {
-    texts = λ spot.
+    texts = λ spot l.
         subst (λ rs. AreRowTexts rs) (sym (inline_rows c spot x inline)) (one_line_texts spot.column x (written x) node.back.line node.unmarked);
   }
-  texts_everywhere c (fit_sequence e props f fs) = record { texts = λ spot. append_texts (fit_props_texts spot.column props) (texts_of_items c spot.entries (texts_everywhere c f) fs) }
+  texts_everywhere c (fit_scalar {at = at} {p = p} {style = style} {text = text} {lines = lines} e props f) = record {
+    texts = λ spot l.
+        subst (λ rs. AreRowTexts rs) (sym (scalar_rows_are c spot at p text lines style f.block)) (scalar_texts at c.style spot l props f);
+  }
+  texts_everywhere c (fit_sequence e props f fs) = record { texts = λ spot l. append_texts (fit_props_texts spot.column props) (texts_of_items c spot.entries (texts_everywhere c f) fs) }
   texts_everywhere c (fit_mapping e props f g fs) = record {
-    texts = λ spot.
+    texts = λ spot l.
         append_texts (fit_props_texts spot.column props) (texts_of_pairs c spot.entries f (texts_everywhere c f) (texts_everywhere c g) fs);
   }
 
@@ -179,5 +204,5 @@ mutual
   texts_of_pairs c column fit f g fit_no_pairs = append_texts (pair_texts c column fit f g) no_row_text
   texts_of_pairs c column fit f g (fit_pair a b fs) = append_texts (pair_texts c column fit f g) (texts_of_pairs c column a (texts_everywhere c a) (texts_everywhere c b) fs)
 
-pub row_texts : (c : Setting) (spot : Spot) {x : Node} → Fit x → AreRowTexts (rows c spot x)
-row_texts c spot f = (texts_everywhere c f).texts spot
+pub row_texts : (c : Setting) (spot : Spot) {x : Node} → 0 < spot.lines → Fit x → AreRowTexts (rows c spot x)
+row_texts c spot l f = (texts_everywhere c f).texts spot l

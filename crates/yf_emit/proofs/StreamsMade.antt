@@ -1,5 +1,5 @@
 -- A stream of documents from its rows.
-use Rattle.std.proofs.Common.{◌≡◌, ℕ, max, ◌≤◌, Bool, true, false, List, [], ◌∷◌, ◌++◌, length, map, drop, refl, sym, ap, ◌∙◌, subst, arith, append_assoc, length-drop}
+use Rattle.std.proofs.Common.{◌≡◌, ℕ, max, ◌<◌, ◌≤◌, Bool, true, false, List, [], ◌∷◌, ◌++◌, length, map, drop, refl, sym, ap, ◌∙◌, subst, arith, append_assoc, length-drop}
 use Rattle.std.specs.Str.{IsUtf8}
 use Rattle.yf_chars.specs.Chain.{Chain}
 use Rattle.yf_chars.specs.Chain.Chain.{done, step}
@@ -73,9 +73,12 @@ pub record AnyMade (t : List ℕ) (d : Doc) (x : DocumentTree) (rs : List Row) (
 abbrev root_rows : Setting → DocumentTree → List Row
 root_rows c x = rows c (root_spot c.style) x.root
 
+root_deep : (c : Setting) → 0 < c.style.indent
+root_deep c = let wide : 2 ≤ c.style.indent = c.style.indent_from in omega (arith, wide)
+
 explicit_at : {t : List ℕ} (c : Setting) (x : DocumentTree) (row : Row) (ds : List Deco) (r : List ℕ) (q : ℕ) → Fit x.root → IsUtf8 t → AreDecos ds → Calm (root_rows c x) (after ds) r
     → Rest t q (45 ∷ 45 ∷ 45 ∷ end_then (first ds) [] (lines_then (root_rows c x) (after ds) r)) → ExplicitMade t x.root (row ∷ root_rows c x) ds q r
-explicit_at c x row ds r q fit u a k w = explicit_made row ds r q (node_claim c (root_spot c.style) fit) (row_texts c (root_spot c.style) fit) u a k w
+explicit_at c x row ds r q fit u a k w = explicit_made row ds r q (node_claim c (root_spot c.style) fit) (row_texts c (root_spot c.style) (root_deep c) fit) u a k w
 
 -- where the first row is given, of any items
 directed : {t : List ℕ} (c : Setting) {d : Doc} (x : DocumentTree) {e : Directive} {es : List Directive} (row : Row) (ds : List Deco) (r : List ℕ) (q : ℕ) → d.directives ≡ e ∷ es
