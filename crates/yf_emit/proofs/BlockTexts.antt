@@ -12,18 +12,18 @@ use Rattle.yf_emit.specs.Layout.{ended}
 
 -- The header.
 
-style_written : (style : ScalarStyle) → style_bytes (is_folded style) ≡ style_sign style
+pub style_written : (style : ScalarStyle) → style_bytes (is_folded style) ≡ style_sign style
 style_written Plain = refl
 style_written Single = refl
 style_written Double = refl
 style_written Literal = refl
 style_written Folded = refl
 
-digit_written : (b : Bool) (indent : ℕ) → digit_bytes (if b then Some indent else None) indent ≡ (if b then (48 + indent) ∷ [] else [])
+pub digit_written : (b : Bool) (indent : ℕ) → digit_bytes (if b then Some indent else None) indent ≡ (if b then (48 + indent) ∷ [] else [])
 digit_written true indent = refl
 digit_written false indent = refl
 
-sign_written : (n : ℕ) → sign_bytes (chomp_of n) ≡ chomping_sign n
+pub sign_written : (n : ℕ) → sign_bytes (chomp_of n) ≡ chomping_sign n
 sign_written zero = refl
 sign_written (suc zero) = refl
 sign_written (suc (suc n)) = refl
@@ -42,7 +42,7 @@ header_written style indent text =
 
 -- The lines.
 
-line_written : (column : ℕ) (x : List ℕ) → indented column x ≡ line_at column x
+pub line_written : (column : ℕ) (x : List ℕ) → indented column x ≡ line_at column x
 line_written column [] = refl
 line_written column (b ∷ x) = refl
 

@@ -3,10 +3,12 @@ pub mod AlikeLemmas
 pub mod AmongLemmas
 pub mod BlockLemmas
 pub mod BlockTexts
+pub mod ClearRows
 pub mod CollectionsMade
 pub mod CountLemmas
 pub mod DecoratedLemmas
 pub mod DraftLemmas
+pub mod DocumentsMade
 pub mod EndedLemmas
 pub mod EntriesMade
 mod Examples
@@ -18,6 +20,7 @@ pub mod GapLemmas
 pub mod IndexLemmas
 pub mod KeptLemmas
 pub mod KeysMade
+pub mod LayoutLawsHold
 pub mod LeafLemmas
 pub mod LevelLemmas
 pub mod MeasuredLemmas
@@ -31,7 +34,9 @@ pub mod PlaceLemmas
 pub mod RestyledLemmas
 pub mod RowEnds
 pub mod PrintLemmas
+pub mod RowTexts
 pub mod RunLemmas
+pub mod ScalarsMade
 pub mod SettledLemmas
 mod ShownComments
 mod ShownDecos
@@ -40,6 +45,7 @@ mod ShownNodes
 pub mod SiteLemmas
 pub mod StepLemmas
 pub mod StreamLemmas
+pub mod StreamsMade
 pub mod SumLemmas
 pub mod TrailLemmas
 pub mod TreeTexts

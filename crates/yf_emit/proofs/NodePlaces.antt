@@ -29,7 +29,7 @@ pub data NodeAt (t : List ℕ) (n : ℤ) (c : Ctx) (m : ℕ) (beside : Bool) (h 
   entries_at : {g : ℕ} {sequence : Bool} {y : Meaning} → beside ≡ false → h ≡ suc g → x ≡ collection sequence false i y.finish y
       → least_column sequence n c ≤ℤ pos m → Derives t g (BlockEntries sequence m) i j y → NodeAt t n c m beside h i j x
 
-block_no_key : (c : Ctx) → is_block c ≡ true → is_key c ≡ false
+pub block_no_key : (c : Ctx) → is_block c ≡ true → is_key c ≡ false
 block_no_key BlockOut e = refl
 block_no_key BlockIn e = refl
 block_no_key FlowOut e = absurd (true≢false (sym e))
@@ -43,7 +43,7 @@ pub leaf_at : {t : List ℕ} {n : ℤ} {c : Ctx} {h i l j : ℕ} {x : Meaning} {
     → Derives t h (FlowNode (n +ℤ pos 1) FlowOut) i l x → LineEnd t l j ds → NodeAt t n c m true h i j (noting x ds)
 leaf_at m b d e = apart_at refl (λ k cs s. flow_in_block b (in_node refl s) d e)
 
-both_behind : (cs ds : List CommentValue) (x : Meaning) → behind (cs ++ [] ++ ds) x ≡ behind cs (behind ds x)
+pub both_behind : (cs ds : List CommentValue) (x : Meaning) → behind (cs ++ [] ++ ds) x ≡ behind cs (behind ds x)
 unfolding behind
 both_behind cs ds x = ap (λ z. record x { comments = z }) (ap (λ z. (z ++ ds) ++ x.comments) (append-nil cs) ∙ append_assoc cs ds x.comments)
 

@@ -20,7 +20,7 @@ use Rattle.yf_emit.proofs.DecoratedLemmas.{lines_append}
 
 -- The end of a line.
 
-record TrailsAt (t : List ℕ) (q : ℕ) (xs : List (List ℕ)) (r : List ℕ) : Type 0 where
+pub record TrailsAt (t : List ℕ) (q : ℕ) (xs : List (List ℕ)) (r : List ℕ) : Type 0 where
   pub place : ℕ
   pub notes : List CommentValue
   pub line : LineRest t q place notes
@@ -28,7 +28,7 @@ record TrailsAt (t : List ℕ) (q : ℕ) (xs : List (List ℕ)) (r : List ℕ) :
   pub rest : Rest t place r
   pub is : texts notes ≡ xs
 
-trails_at : {t : List ℕ} (xs : List (List ℕ)) (r : List ℕ) {q : ℕ} → IsUtf8 t → AreTrails xs → Rest t q (trails_then xs (10 ∷ r)) → TrailsAt t q xs r
+pub trails_at : {t : List ℕ} (xs : List (List ℕ)) (r : List ℕ) {q : ℕ} → IsUtf8 t → AreTrails xs → Rest t q (trails_then xs (10 ∷ r)) → TrailsAt t q xs r
 trails_at [] r {q} u a s =
     let end = rest_break u s in
     record { place = q + 1; notes = []; line = nothing (by_break end.0); start = after_break end.0; rest = end.1; is = refl }

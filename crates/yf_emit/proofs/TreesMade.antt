@@ -6,25 +6,27 @@ use Rattle.std.proofs.lemmas.Bool.Decides.{nat_tests}
 use Rattle.std.proofs.lemmas.Int.{ints}
 use Rattle.yf_chars.specs.declared.context.Ctx.TheVariants.{FlowOut, BlockIn, BlockOut}
 use Rattle.yf_props.specs.Props.{PropsValue}
+use Rattle.yf_events.specs.declared.event.ScalarStyle.{ScalarStyle}
 use Rattle.yf_events.specs.declared.event.ScalarStyle.TheVariants.{Plain, Single, Double, Literal, Folded}
-use Rattle.yf_events.specs.Tree.{Node, scalar, alias, sequence, mapping, Items, no_items, item, Pairs, no_pairs, pair, items_in, leaves, entry_start, standing, is_sequence}
+use Rattle.yf_events.specs.Tree.{Standing, Node, scalar, alias, sequence, mapping, Items, no_items, item, Pairs, no_pairs, pair, items_in, leaves, entry_start, standing, is_sequence}
 use Rattle.yf_grammar.specs.Grammar.{least_column}
 use Rattle.yf_grammar.specs.Meaning.{Meaning}
 use Rattle.yf_grammar.specs.Meant.{Meant, ItemsMeant, PairsMeant, tall, tall_items, tall_pairs}
 use Rattle.yf_grammar.proofs.MeantLemmas.{meant_nothing, last_item_meant, more_items_meant, sequence_meant, mapping_meant, sequence_with_meant, mapping_with_meant}
 use Rattle.yf_emit.specs.declared.style.Style.{Style}
-use Rattle.yf_emit.specs.Fits.{LineNode, is_inline, FitProps, no_fit_props, some_fit_props, Fit, fit_nothing, fit_line, fit_sequence, fit_mapping, FitItems, fit_no_items, fit_item, FitPairs, fit_no_pairs, fit_pair}
+use Rattle.yf_emit.specs.Fits.{LineNode, is_inline, is_block_style, FitProps, no_fit_props, some_fit_props, Fit, fit_nothing, fit_line, fit_scalar, fit_sequence, fit_mapping, FitItems, fit_no_items, fit_item, FitPairs, fit_no_pairs, fit_pair}
 use Rattle.yf_emit.specs.Normal.{Setting, Spot, inner_spot, key_spot, value_of_implicit, value_spot, is_implicit, is_one_line_key, key_comment}
 use Rattle.yf_emit.specs.OneLine.{written, width, props_text}
 use Rattle.yf_emit.specs.Rows.{Row, plain_row, one_line, one_line_row, props_row, behind_sign, entry_row, colon_offset, blank_before_entry, begins_below, is_empty_text, implicit_pair, explicit_pair, pair_rows, rows, rows_of_items, rows_of_pairs}
 use Rattle.yf_emit.proofs.CollectionsMade.{same_props, some_props, bare_claim, propertied_claim}
 use Rattle.yf_emit.proofs.EntriesMade.{EntryMakes, EntriesMakes, entries_last, entries_more, item_makes, explicit_makes, PairMeant, last_of_pairs, more_of_pairs}
 use Rattle.yf_emit.proofs.KeysMade.{keyed_makes, unkeyed_makes}
+use Rattle.yf_emit.proofs.ScalarsMade.{scalar_claim}
 use Rattle.yf_emit.proofs.NodesMade.{Stood, Claim, no_row, some_rows, line_made}
 
 -- A node on one line.
 
-inline_rows : (c : Setting) (spot : Spot) (x : Node) → is_inline x ≡ true → rows c spot x ≡ one_line spot x
+pub inline_rows : (c : Setting) (spot : Spot) (x : Node) → is_inline x ≡ true → rows c spot x ≡ one_line spot x
 inline_rows c spot (scalar at props Plain text lines) e = refl
 inline_rows c spot (scalar at props Single text lines) e = refl
 inline_rows c spot (scalar at props Double text lines) e = refl
@@ -84,8 +86,16 @@ pub record Everywhere (c : Setting) (x : Node) : Type 0 where
 within_limit : (n : ℕ) → nat_le n 1023 ≡ true → n ≤ 1023
 within_limit n e = grind (arith, nat_tests)
 
-not_implicit : (c : Setting) (column : ℕ) (k : Node) → is_one_line_key c.style column k ≡ false → is_implicit c.style column k ≡ true → ⊥
+pub not_implicit : (c : Setting) (column : ℕ) (k : Node) → is_one_line_key c.style column k ≡ false → is_implicit c.style column k ≡ true → ⊥
 not_implicit c column k e f = true≢false (sym (and_parts (is_one_line_key c.style column k) (nat_le (width (written k)) 1023) f).0 ∙ e)
+
+pub block_is_no_key : (c : Setting) (column : ℕ) (at : Standing) (p : PropsValue) (text : List ℕ) (lines : List (List ℕ)) (style : ScalarStyle) → is_block_style style ≡ true
+    → is_one_line_key c.style column (scalar at p style text lines) ≡ false
+block_is_no_key c column at p text lines Plain e = absurd (true≢false (sym e))
+block_is_no_key c column at p text lines Single e = absurd (true≢false (sym e))
+block_is_no_key c column at p text lines Double e = absurd (true≢false (sym e))
+block_is_no_key c column at p text lines Literal e = refl
+block_is_no_key c column at p text lines Folded e = refl
 
 implicit_makes : (c : Setting) (column : ℕ) {k v : Node} → is_implicit c.style column k ≡ true → Fit k → Claim c.style v (value_of_implicit c column k v) (rows c (value_of_implicit c column k v) v)
     → EntryMakes false column (max (tall k) (tall v)) (PairMeant k v) (implicit_pair c column k v (rows c (value_of_implicit c column k v) v))
@@ -96,6 +106,8 @@ implicit_makes c column {k} {v} e (fit_line inline some node key) value =
     keyed_makes column (entry_start k ++ items_in k) (leaves k) (blank_before_entry (standing k).entry) (key_comment c.comments k v) (begins_below v) value refl
     (λ z b. commented_column (is_some (key_comment c.comments k v)) column c.style.indent _ c.style.indent_from z) (value_stood c column k v) key
     (within_limit (width (written k)) (and_parts (is_one_line_key c.style column k) (nat_le (width (written k)) 1023) e).1)
+implicit_makes c column {k} {v} e (fit_scalar {at = at} {p = p} {style = style} {text = text} {lines = lines} f g h) value =
+    absurd (not_implicit c column k (block_is_no_key c column at p text lines style h.block) e)
 implicit_makes c column {k} {v} e (fit_sequence f p g gs) value = absurd (not_implicit c column k refl e)
 implicit_makes c column {k} {v} e (fit_mapping f p g h gs) value = absurd (not_implicit c column k refl e)
 
@@ -108,7 +120,7 @@ question_makes c column {k} {v} {at} e f a b =
     (record { block = refl; least = (least_inner (is_sequence v) column c.style.indent c.style.indent_from).1; lines = refl }) a b
 
 -- the rows of a pair, by whether its key is implicit
-abbrev either_pair : Bool → Setting → ℕ → Node → Node → List Row
+abbrev pub either_pair : Bool → Setting → ℕ → Node → Node → List Row
 either_pair b c column k v =
     if b then implicit_pair c column k v (rows c (if b then value_of_implicit c column k v else inner_spot c.style column) v)
     else explicit_pair c.style column k (rows c (key_spot c.style column k) k) (rows c (if b then value_of_implicit c column k v else inner_spot c.style column) v)
@@ -141,6 +153,7 @@ mutual
     claim = λ spot.
         subst (λ rs. Claim c.style x spot rs) (sym (inline_rows c spot x inline)) (line_claim spot (written x) refl some (inline_beside x inline) node);
   }
+  node_everywhere c (fit_scalar e props f) = record { claim = λ spot. scalar_claim c spot e props f }
   node_everywhere c (fit_sequence {at = at} {p = p} {x = x} {xs = xs} e props f fs) = record { claim = λ spot. sequence_claim spot props (items_everywhere c spot.entries (node_everywhere c f) fs) } where
     sequence_claim : (spot : Spot) {p : PropsValue} → FitProps p → EntriesMakes true spot.entries (tall_items (item x xs)) (ItemsMeant (item x xs)) (rows_of_items c spot.entries (item x xs))
         → Claim c.style (sequence at false p (item x xs)) spot (props_row spot.column (props_text p) ++ rows_of_items c spot.entries (item x xs))

@@ -1,15 +1,29 @@
 -- Trees whose rows are read again: each node that is written on one line is, wherever it stands.
-use Rattle.std.specs.Prelude.{◌≡◌, ◌≢◌, ℕ, ◌≤◌, Bool, true, false, is_some, List, [], ◌∷◌}
+use Rattle.std.specs.Prelude.{◌≡◌, ◌≢◌, ℕ, ◌≤◌, Bool, true, false, is_some, List, [], ◌∷◌, ◌++◌, ◌-◌}
+use Rattle.std.specs.Str.{IsUtf8}
 use Rattle.yf_chars.specs.declared.context.Ctx.{Ctx}
 use Rattle.yf_chars.specs.declared.context.Ctx.TheVariants.{FlowOut, BlockKey}
+use Rattle.yf_lines.specs.Basic.{Forbidden}
+use Rattle.yf_lines.specs.LineText.{Follows, is_behind_text}
+use Rattle.yf_lines.specs.Rest.{Rest}
 use Rattle.yf_props.specs.Props.{PropsValue, no_props}
 use Rattle.yf_props.specs.Written.{IsProps}
+use Rattle.yf_block_scalar.specs.Content.{content_of}
+use Rattle.yf_block_scalar.specs.Written.{AreLineTexts, EndsWithContent, StartsUnspaced}
+use Rattle.yf_events.specs.declared.event.ScalarStyle.{ScalarStyle}
 use Rattle.yf_events.specs.declared.event.ScalarStyle.TheVariants.{Plain, Single, Double, Literal, Folded}
 use Rattle.yf_events.specs.Tree.{Standing, Node, scalar, alias, sequence, mapping, Items, no_items, item, Pairs, no_pairs, pair}
 use Rattle.yf_grammar.specs.Back.{Back}
+use Rattle.yf_grammar.specs.BlockScalar.{kept_lines}
 use Rattle.yf_grammar.specs.Meaning.{Meaning}
 use Rattle.yf_grammar.specs.Meant.{Meant, tall}
+use Rattle.yf_emit.specs.BlockLines.{begins_with_space, content_lines, final_feeds}
+use Rattle.yf_emit.specs.BlockValues.{is_folded, header_of}
 use Rattle.yf_emit.specs.OneLine.{written, colon_behind}
+
+-- a text at the start of a line begins no line with a document marker there, whatever follows that may follow
+pub record Unmarked (w : List ℕ) : Type 0 where
+  pub none : {t : List ℕ} (q : ℕ) (r : List ℕ) → IsUtf8 t → Follows is_behind_text r → Rest t q (w ++ r) → Forbidden t q → ⊥
 
 -- a node on one line is derived wherever its text stands, and means the same node
 pub record LineNode (c : Ctx) (x : Node) : Type 0 where
@@ -18,6 +32,7 @@ pub record LineNode (c : Ctx) (x : Node) : Type 0 where
   pub height : ℕ
   pub mean : ℕ → Meaning
   pub back : Back json colon c (written x) height mean
+  pub unmarked : Unmarked (written x)
   pub low : height ≤ tall x
   pub meant : (q : ℕ) → Meant x (mean q)
   pub silent : (q : ℕ) → (mean q).comments ≡ []
@@ -42,15 +57,34 @@ is_inline (alias at name) = true
 is_inline (sequence at flow props items) = flow
 is_inline (mapping at flow props pairs) = flow
 
--- the properties of a block collection: none, or some that are spelled as properties are
+-- a style of several lines
+abbrev pub is_block_style : ScalarStyle → Bool
+is_block_style Plain = false
+is_block_style Single = false
+is_block_style Double = false
+is_block_style Literal = true
+is_block_style Folded = true
+
+-- the properties of a block collection or scalar: none, or some that are spelled as properties are
 pub data FitProps : PropsValue → Type 0 where
   no_fit_props : FitProps no_props
   some_fit_props : {p : PropsValue} → IsProps p → p ≢ no_props → FitProps p
+
+-- a scalar whose lines are those of its text: so it is read again from its lines at any column
+pub record FitScalar (style : ScalarStyle) (text : List ℕ) (lines : List (List ℕ)) : Type 0 where
+  pub block : is_block_style style ≡ true
+  pub content : (indent : ℕ) → content_of (header_of style indent text) (content_lines style text lines) (final_feeds text - 1) false ≡ text
+  pub kept : kept_lines (is_folded style) (content_lines style text lines) ≡ lines
+  pub texts : AreLineTexts (content_lines style text lines)
+  pub last : EndsWithContent (content_lines style text lines)
+  pub unspaced : begins_with_space text ≡ false → StartsUnspaced (content_lines style text lines)
 
 mutual
   pub data Fit : Node → Type 0 where
     fit_nothing : {at : Standing} → is_some at.span ≡ false → Fit (scalar at no_props Plain [] [])
     fit_line : {x : Node} → is_inline x ≡ true → written x ≢ [] → LineNode FlowOut x → KeyNode x → Fit x
+    fit_scalar : {at : Standing} {p : PropsValue} {style : ScalarStyle} {text : List ℕ} {lines : List (List ℕ)} → is_some at.span ≡ true → FitProps p
+        → FitScalar style text lines → Fit (scalar at p style text lines)
     fit_sequence : {at : Standing} {p : PropsValue} {x : Node} {xs : Items} → is_some at.span ≡ true → FitProps p → Fit x → FitItems xs
         → Fit (sequence at false p (item x xs))
     fit_mapping : {at : Standing} {p : PropsValue} {k v : Node} {ps : Pairs} → is_some at.span ≡ true → FitProps p → Fit k → Fit v → FitPairs ps

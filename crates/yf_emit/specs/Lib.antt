@@ -3,6 +3,7 @@ pub mod BlockValues
 pub mod Carried
 pub mod ContentStart
 pub mod Deciding
+pub mod FitDocuments
 pub mod Fits
 pub mod Decorated
 pub mod Drafts
@@ -13,6 +14,7 @@ pub mod ImplicitKeys
 pub mod Kept
 pub mod Keys
 pub mod Laws
+pub mod LayoutLaws
 pub mod Layout
 pub mod Measures
 pub mod Measuring

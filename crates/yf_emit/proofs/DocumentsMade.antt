@@ -1,0 +1,167 @@
+-- A document from its rows: its directives, its `---` and its node.
+use Rattle.std.proofs.Common.{◌≡◌, ℕ, ◌+◌, ◌<◌, ◌≤◌, pos, Bool, true, false, List, [], ◌∷◌, ◌++◌, map, slice_range, refl, sym, ap, ◌∙◌, subst, arith, append-nil}
+use Rattle.std.specs.Prelude.{◌-ℤ◌, ◌≤ℤ◌, ◌&&◌, ◌==◌, not}
+use Rattle.std.specs.Str.{IsUtf8}
+use Rattle.std.proofs.lemmas.Bool.Decides.{nat_tests}
+use Rattle.std.proofs.lemmas.Int.{ints}
+use Rattle.std.proofs.lemmas.List.{map-append}
+use Rattle.yf_chars.specs.declared.context.Ctx.TheVariants.{BlockIn}
+use Rattle.yf_chars.specs.Text.{code}
+use Rattle.yf_lines.specs.Basic.{is_three, LineStart, Clear}
+use Rattle.yf_lines.specs.LineText.{IsLineText, Follows}
+use Rattle.yf_lines.specs.LineText.Follows.{byte_follows}
+use Rattle.yf_lines.proofs.RestLemmas.{Rest, rest_spaces, rest_text, line_nothing}
+use Rattle.yf_comments.proofs.GapLinesLemmas.{texts, texts_append}
+use Rattle.yf_events.specs.declared.directive.Directive.{Directive}
+use Rattle.yf_events.specs.Tree.{Node, is_sequence}
+use Rattle.yf_grammar.specs.Grammar.{Derives, BlockNode, least_column}
+use Rattle.yf_grammar.specs.Meaning.{Meaning, behind, noting, empty_node}
+use Rattle.yf_grammar.specs.Meant.{Meant, tall}
+use Rattle.yf_grammar.proofs.FlowBack.{visible_at, visible_line}
+use Rattle.yf_grammar.proofs.MeantLemmas.{meant_behind, meant_noting, texts_behind, texts_noting, texts_empty}
+use Rattle.yf_stream.specs.Stream.{ExplicitNode, DirectiveLines, Directives}
+use Rattle.yf_stream.specs.Stream.ExplicitNode.{marked_node, marked_nothing}
+use Rattle.yf_stream.specs.Stream.DirectiveLines.{last_directive, more_directives}
+use Rattle.yf_emit.specs.declared.style.Style.{Style}
+use Rattle.yf_emit.specs.Carried.{AreDecos, carried_texts, comments_in, Calm}
+use Rattle.yf_emit.specs.Decorated.{Deco, first, after, trails_then, end_then, lines_then}
+use Rattle.yf_emit.specs.FitDocuments.{is_apart, FitDirective, FitDirectives, fit_no_directives, fit_directive}
+use Rattle.yf_emit.specs.Normal.{root_spot}
+use Rattle.yf_emit.specs.Rows.{Row, directive_row, joined_words, begins_below}
+use Rattle.yf_emit.proofs.ClearRows.{AreRowTexts, rows_clear_after, place_of_rest}
+use Rattle.yf_emit.proofs.NodePlaces.{below_at}
+use Rattle.yf_emit.proofs.NodesMade.{Stood, Claim, no_row, some_rows}
+use Rattle.yf_emit.proofs.RowEnds.{row_end, first_deco, after_decos}
+
+-- The `---` and the node after it.
+
+pub record ExplicitMade (t : List ℕ) (x : Node) (rs : List Row) (ds : List Deco) (q : ℕ) (r : List ℕ) : Type 0 where
+  pub height : ℕ
+  pub place : ℕ
+  pub meaning : Meaning
+  pub node : ExplicitNode t height q place meaning
+  pub low : height ≤ tall x
+  pub rest : Rest t place r
+  pub start : LineStart t place
+  pub meant : Meant x meaning
+  pub is : texts meaning.comments ≡ comments_in rs ds
+
+same_number : (c : ℕ) → (c == c) ≡ true
+same_number c = grind (arith, nat_tests)
+
+three_stand : (t : List ℕ) (q c : ℕ) → code t q ≡ c → code t (q + 1) ≡ c → code t (q + 2) ≡ c → is_three t q c ≡ true
+unfolding is_three
+three_stand t q c a b d =
+    ap (λ z. (z == c) && ((code t (q + 1) == c) && (code t (q + 2) == c))) a ∙ (ap (λ z. (c == c) && ((z == c) && (code t (q + 2) == c))) b
+    ∙ (ap (λ z. (c == c) && ((c == c) && (z == c))) d ∙ ap (λ z. z && (z && z)) (same_number c)))
+
+pub three_at : {t : List ℕ} (c : ℕ) {q : ℕ} {r : List ℕ} → IsUtf8 t → 32 ≤ c → c < 127 → Rest t q (c ∷ c ∷ c ∷ r) → (is_three t q c ≡ true) × Rest t (q + 3) r
+three_at {t} c {q} {r} u l h s =
+    let one = visible_at c u l h s in
+    let two = visible_at c u l h one.1 in
+    let three = visible_at c u l h two.1 in
+    let second : q + 1 + 1 ≡ q + 2 = omega arith in
+    let third : q + 1 + 1 + 1 ≡ q + 3 = omega arith in
+    (three_stand t q c one.0 two.0 (subst (λ k. code t k ≡ c) second three.0), subst (λ k. Rest t k r) third three.1)
+
+dashes_line : IsLineText (45 ∷ 45 ∷ 45 ∷ [])
+dashes_line = visible_line 45 (omega arith) (omega arith) (visible_line 45 (omega arith) (omega arith) (visible_line 45 (omega arith) (omega arith) line_nothing))
+
+root_least : (sequence : Bool) → least_column sequence (pos 0 -ℤ pos 1) BlockIn ≤ℤ pos 0
+root_least true = omega (arith, ints)
+root_least false = omega (arith, ints)
+
+pub root_stood : (s : Style) (x : Node) → Stood s x (pos 0 -ℤ pos 1) BlockIn (root_spot s)
+root_stood s x = record { block = refl; least = root_least (is_sequence x); lines = omega arith }
+
+not_beside : (b : Bool) → not b ≡ false → b ≡ true
+not_beside true e = refl
+not_beside false e = sym e
+
+pub explicit_made : {t : List ℕ} {s : Style} {x : Node} {rs : List Row} (row : Row) (ds : List Deco) (r : List ℕ) (q : ℕ) → Claim s x (root_spot s) rs → AreRowTexts rs → IsUtf8 t → AreDecos ds → Calm rs (after ds) r
+    → Rest t q (45 ∷ 45 ∷ 45 ∷ end_then (first ds) [] (lines_then rs (after ds) r)) → ExplicitMade t x (row ∷ rs) ds q r
+explicit_made {t} {s} {x} row ds r q (no_row m) free u a k w =
+    let mark = three_at 45 u (omega arith) (omega arith) w in
+    let end = row_end (first ds) r u (first_deco a) mark.1 in
+    record {
+      height = 0;
+      place = end.place;
+      meaning = noting (empty_node (q + 3)) end.comments;
+      node = marked_nothing mark.0 end.end;
+      low = omega arith;
+      rest = end.rest;
+      start = end.start;
+      meant = meant_noting end.comments (m.meant (q + 3));
+      is = texts_noting (empty_node (q + 3)) end.comments ∙ (ap (λ z. z ++ texts end.comments) (texts_empty (q + 3)) ∙ (end.is ∙ sym (append-nil (carried_texts (first ds)))));
+    }
+explicit_made {t} {s} {x} row ds r q (some_rows {r = y} {rs = ys} f g m) lines u a k w =
+    let mark = three_at 45 u (omega arith) (omega arith) w in
+    let end = row_end (first ds) (lines_then (y ∷ ys) (after ds) r) u (first_deco a) mark.1 in
+    let spaces = rest_spaces y.column end.place u end.rest in
+    let node = m.made (pos 0 -ℤ pos 1) BlockIn (after ds) r (end.place + y.column) u (root_stood s x) (after_decos a) k spaces.1 in
+    let derived : Derives t node.height (BlockNode (pos 0 -ℤ pos 1) BlockIn) (q + 3) node.place (behind end.comments node.meaning) =
+    below_at 0 refl refl (λ e. omega arith) (λ e. g (not_beside (begins_below x) e)) end.end end.start spaces.0 node.at in
+    let free = rows_clear_after (45 ∷ 45 ∷ 45 ∷ []) 3 ds r u dashes_line (omega arith) lines a w in
+    let clear : Clear t (q + 3) node.place = subst (λ j. Clear t (q + 3) j) (place_of_rest free.rest node.rest) free.clear in
+    record {
+      height = node.height;
+      place = node.place;
+      meaning = behind end.comments node.meaning;
+      node = marked_node mark.0 (record { derived = derived; clear = clear });
+      low = node.low;
+      rest = node.rest;
+      start = node.start;
+      meant = meant_behind end.comments node.meant;
+      is = texts_behind end.comments node.meaning ∙ (ap (λ z. z ++ texts node.meaning.comments) end.is ∙ ap (λ z. carried_texts (first ds) ++ z) node.is);
+    }
+
+-- Directives.
+
+pub record DirectivesMade (t : List ℕ) (dirs : List Directive) (rs : List Row) (ds : List Deco) (q : ℕ) (r : List ℕ) : Type 0 where
+  pub place : ℕ
+  pub meaning : Directives
+  pub lines : DirectiveLines t q place meaning
+  pub words : map (λ (e : Directive). e.words) meaning.directives ≡ map (λ (e : Directive). e.words) dirs
+  pub rest : Rest t place r
+  pub is : texts meaning.comments ≡ comments_in rs ds
+
+percent_line : {w : List ℕ} → IsLineText w → IsLineText (37 ∷ w)
+percent_line a = visible_line 37 (omega arith) (omega arith) a
+
+apart_follows : (xs : List (List ℕ)) (r : List ℕ) → Follows is_apart (trails_then xs (10 ∷ r))
+apart_follows [] r = byte_follows (omega arith) refl
+apart_follows (x ∷ xs) r = byte_follows (omega arith) refl
+
+one_directive : {t : List ℕ} {d : Directive} (row : Row) (ds : List Deco) (r : List ℕ) (q : ℕ) → FitDirective d.words → IsUtf8 t → AreDecos ds
+    → Rest t q (37 ∷ (joined_words d.words ++ end_then (first ds) [] r)) → DirectivesMade t (d ∷ []) (row ∷ []) ds q r
+one_directive {t} {d} row ds r q fit u a w =
+    let at = fit.made q (end_then (first ds) [] r) u (apart_follows (first ds).trails _) w in
+    let sign = visible_at 37 u (omega arith) (omega arith) w in
+    let text = rest_text (37 ∷ joined_words d.words) u (percent_line fit.line) w in
+    let end = row_end (first ds) r u (first_deco a) text.rest in
+    record {
+      place = end.place;
+      meaning = record { directives = record { offset = q; words = slice_range t (q + 1) at.middle ∷ at.others } ∷ []; comments = end.comments };
+      lines = last_directive sign.0 at.name at.parameters end.end;
+      words = ap (λ z. z ∷ []) at.are;
+      rest = end.rest;
+      is = end.is ∙ sym (append-nil (carried_texts (first ds)));
+    }
+
+pub directives_made : {t : List ℕ} {d : Directive} {dirs : List Directive} (row : Row) (ds : List Deco) (r : List ℕ) (q : ℕ) → FitDirective d.words → FitDirectives dirs → IsUtf8 t → AreDecos ds
+    → Rest t q (37 ∷ (joined_words d.words ++ end_then (first ds) [] (lines_then (map directive_row dirs) (after ds) r)))
+    → DirectivesMade t (d ∷ dirs) (row ∷ map directive_row dirs) ds q r
+directives_made {d = d} row ds r q fit fit_no_directives u a w = one_directive {d = d} row ds r q fit u a w
+directives_made {t} {d = d} row ds r q fit (fit_directive {d = e} {ds = es} f fs) u a w =
+    let one = one_directive {d = d} row ds (lines_then (map directive_row (e ∷ es)) (after ds) r) q fit u a w in
+    let more = directives_made {d = e} {dirs = es} (directive_row e) (after ds) r one.place f fs u (after_decos a) one.rest in
+    record {
+      place = more.place;
+      meaning = record { directives = one.meaning.directives ++ more.meaning.directives; comments = one.meaning.comments ++ more.meaning.comments };
+      lines = more_directives one.lines more.lines;
+      words = map-append (λ (e : Directive). e.words) one.meaning.directives more.meaning.directives
+          ∙ (ap (λ z. z ++ map (λ (e : Directive). e.words) more.meaning.directives) one.words ∙ ap (λ z. d.words ∷ z) more.words);
+      rest = more.rest;
+      is = texts_append one.meaning.comments more.meaning.comments ∙ (ap (λ z. z ++ texts more.meaning.comments) (one.is ∙ append-nil (carried_texts (first ds)))
+          ∙ ap (λ z. carried_texts (first ds) ++ z) more.is);
+    }

@@ -1,0 +1,343 @@
+-- A literal or folded scalar from its row: its header, its lines and what it carries.
+use Rattle.std.proofs.Common.{◌≡◌, ◌≢◌, ℕ, zero, suc, ◌+◌, ◌-◌, ◌<◌, ◌≤◌, ℤ, pos, Bool, true, false, true≢false, List, [], ◌∷◌, ◌++◌, length, map, replicate, Option, Some, None, refl, sym, ap, ◌∙◌, subst, arith, append_assoc, append-nil, ⊎_elim}
+use Rattle.std.specs.Prelude.{not, ◌+ℤ◌, is_some, if◌then◌else◌}
+use Rattle.std.specs.Str.{IsUtf8}
+use Rattle.std.proofs.lemmas.Bool.{cases_Bool}
+use Rattle.yf_chars.specs.declared.context.Ctx.{Ctx}
+use Rattle.yf_lines.specs.Basic.{is_block, is_key, LineStart}
+use Rattle.yf_lines.specs.Basic.LineStart.{after_break}
+use Rattle.yf_lines.specs.LineText.{IsLineText}
+use Rattle.yf_lines.proofs.RestLemmas.{Rest, rest_text, rest_break, line_nothing, line_append}
+use Rattle.yf_comments.specs.Comment.{CommentValue}
+use Rattle.yf_comments.specs.Comments.{SeparateLines}
+use Rattle.yf_comments.specs.Comments.Separate.{in_node}
+use Rattle.yf_comments.specs.GapLines.{AreGapLines, AllLeft, remarks_of}
+use Rattle.yf_comments.proofs.GapLinesLemmas.{texts, gap_at}
+use Rattle.yf_block_scalar.specs.Body.{base}
+use Rattle.yf_block_scalar.specs.Content.{content_of, feeds}
+use Rattle.yf_block_scalar.specs.Placed.{lines_then as scalar_lines, trail_then, IsTrail, trail_texts, Below, KeptGap, scalar_then}
+use Rattle.yf_block_scalar.specs.Written.{style_bytes, digit_bytes, sign_bytes, indented, AreLineTexts, EndsWithContent, StartsUnspaced}
+use Rattle.yf_block_scalar.specs.declared.header.Chomp.{Chomp}
+use Rattle.yf_block_scalar.specs.declared.header.Chomp.TheVariants.{Strip, Clip, Keep}
+use Rattle.yf_block_scalar.specs.declared.header.Header.{Header}
+use Rattle.yf_block_scalar.proofs.PlacedScalar.{placed}
+use Rattle.yf_props.specs.Props.{PropsValue, no_props}
+use Rattle.yf_props.specs.Written.{IsProps, props_bytes, tag_offset_at}
+use Rattle.yf_events.specs.Alike.{alike_scalars}
+use Rattle.yf_events.specs.Event.{scalar_node}
+use Rattle.yf_events.specs.declared.event.ScalarStyle.{ScalarStyle}
+use Rattle.yf_events.specs.declared.event.ScalarStyle.TheVariants.{Plain, Single, Double, Literal, Folded}
+use Rattle.yf_events.specs.Tree.{Standing, Node, scalar, flat}
+use Rattle.yf_grammar.specs.BlockScalar.{BlockScalar, style_of, kept_lines}
+use Rattle.yf_grammar.specs.Grammar.{Derives, BlockNode}
+use Rattle.yf_grammar.specs.Grammar.Derives.{a_block_scalar, a_block_scalar_with}
+use Rattle.yf_grammar.specs.Meaning.{Meaning, behind, first_with, with_props, from_to}
+use Rattle.yf_grammar.specs.Meant.{Meant, tall}
+use Rattle.yf_grammar.proofs.FlowBack.{visible_line}
+use Rattle.yf_grammar.proofs.LeafBack.{behind_nothing, propertied}
+use Rattle.yf_grammar.proofs.MeantLemmas.{texts_with_props}
+use Rattle.yf_grammar.proofs.ScalarPlaced.{ScalarNode, scalar_event, scalar_placed}
+use Rattle.yf_emit.specs.declared.style.Style.{Style}
+use Rattle.yf_emit.specs.BlockLines.{begins_with_space, block_lines, chomping_sign, content_lines, digit_text, final_feeds, header_text, is_kept_tail, line_at, style_sign, tail_lines}
+use Rattle.yf_emit.specs.BlockValues.{is_folded, chomp_of, digit_of, header_of}
+use Rattle.yf_emit.specs.Carried.{AreTrails, IsDeco, AreDecos, carried_texts, comments_in, CalmBody, Calm}
+use Rattle.yf_emit.specs.Decorated.{GapLine, gap_then, Deco, first, after, trails_then, body_then, end_then, inline_then}
+use Rattle.yf_emit.specs.Fits.{FitScalar, FitProps, no_fit_props, some_fit_props, is_block_style, Unmarked}
+use Rattle.yf_emit.specs.Layout.{may_be_blank_behind}
+use Rattle.yf_emit.specs.Normal.{Setting, Spot}
+use Rattle.yf_emit.specs.OneLine.{spaced, props_text}
+use Rattle.yf_emit.specs.Rows.{Row, Ending, block_scalar, tail_ending, is_empty_text, begins_below, rows}
+use Rattle.yf_emit.proofs.BlockTexts.{style_written, digit_written, sign_written, line_written}
+use Rattle.yf_emit.proofs.ClearRows.{unmarked_first, unmarked_nothing, line_indented, AreBodyTexts, no_body_text, body_text, place_of_rest}
+use Rattle.yf_emit.proofs.CollectionsMade.{same_props, some_props}
+use Rattle.yf_emit.proofs.NodePlaces.{NodeAt, apart_at, both_behind, block_no_key}
+use Rattle.yf_emit.proofs.NodesMade.{Stood, NodeMade, Claim, some_rows}
+use Rattle.yf_emit.proofs.RowEnds.{trails_at, first_deco}
+
+-- The bytes are those of yf_block_scalar.
+
+header_bytes_are : (style : ScalarStyle) (indent : ℕ) (text : List ℕ) (r : List ℕ)
+    → header_text style indent text ++ r ≡ style_bytes (is_folded style) ++ (digit_bytes (digit_of indent text) indent ++ (sign_bytes (chomp_of (final_feeds text)) ++ r))
+header_bytes_are style indent text r =
+    append_assoc (style_sign style) (digit_text indent text ++ chomping_sign (final_feeds text)) r
+    ∙ (ap (λ z. style_sign style ++ z) (append_assoc (digit_text indent text) (chomping_sign (final_feeds text)) r)
+    ∙ (ap (λ z. z ++ (digit_text indent text ++ (chomping_sign (final_feeds text) ++ r))) (sym (style_written style))
+    ∙ (ap (λ z. style_bytes (is_folded style) ++ (z ++ (chomping_sign (final_feeds text) ++ r))) (sym (digit_written (begins_with_space text) indent))
+    ∙ ap (λ z. style_bytes (is_folded style) ++ (digit_bytes (digit_of indent text) indent ++ (z ++ r))) (sym (sign_written (final_feeds text))))))
+
+tail_are : (column n : ℕ) (r : List ℕ) → body_then (map (line_at column) (replicate n [])) r ≡ feeds n ++ r
+tail_are column zero r = refl
+tail_are column (suc n) r = ap (λ z. 10 ∷ z) (tail_are column n r)
+
+lines_are : (column : ℕ) (ls : List (List ℕ)) (n : ℕ) (r : List ℕ) → body_then (map (line_at column) (ls ++ replicate n [])) r ≡ scalar_lines column ls (feeds n ++ r)
+lines_are column [] n r = tail_are column n r
+lines_are column (x ∷ ls) n r =
+    ap (λ z. line_at column x ++ (10 ∷ z)) (lines_are column ls n r) ∙ ap (λ z. z ++ (10 ∷ scalar_lines column ls (feeds n ++ r))) (sym (line_written column x))
+
+-- the comment that trails the header
+abbrev trail_of : List (List ℕ) → Option (List ℕ)
+trail_of [] = None
+trail_of (x ∷ xs) = Some x
+
+trail_is : (xs : List (List ℕ)) (r : List ℕ) → AreTrails xs → trails_then xs (10 ∷ r) ≡ trail_then (trail_of xs) r
+trail_is [] r a = refl
+trail_is (x ∷ []) r a = refl
+trail_is (x ∷ y ∷ zs) r a = absurd a
+
+trail_fits : (xs : List (List ℕ)) → AreTrails xs → IsTrail (trail_of xs)
+trail_fits [] a = tt
+trail_fits (x ∷ []) a = a
+trail_fits (x ∷ y ∷ zs) a = absurd a
+
+trail_comments : (xs : List (List ℕ)) → AreTrails xs → trail_texts (trail_of xs) ≡ xs
+trail_comments [] a = refl
+trail_comments (x ∷ []) a = refl
+trail_comments (x ∷ y ∷ zs) a = absurd a
+
+-- What follows it.
+
+kept_gap : (text : List ℕ) (gap : List GapLine) → (may_be_blank_behind (tail_ending (is_kept_tail (final_feeds text))) ≡ false → KeptGap Keep gap) → KeptGap (chomp_of (final_feeds text)) gap
+kept_gap text gap f = go (final_feeds text) f where
+  go : (n : ℕ) → (may_be_blank_behind (tail_ending (is_kept_tail n)) ≡ false → KeptGap Keep gap) → KeptGap (chomp_of n) gap
+  go zero g = tt
+  go (suc zero) g = tt
+  go (suc (suc n)) g = g refl
+
+calm_body : (column n : ℕ) (ls : List (List ℕ)) (ending : Ending) (gap : List GapLine) (r : List ℕ) → EndsWithContent ls → CalmBody (map (line_at column) (ls ++ replicate n [])) column ending gap r
+    → AllLeft column gap × (Below column r × (may_be_blank_behind ending ≡ false → KeptGap Keep gap))
+calm_body column n [] ending gap r last c = absurd last
+calm_body column n (x ∷ ls) ending gap r last c = c
+
+-- The lines are texts of their own.
+
+line_at_text : (column : ℕ) (x : List ℕ) → IsLineText x → IsLineText (line_at column x)
+line_at_text column [] a = line_nothing
+line_at_text column (b ∷ x) a = line_indented column a
+
+line_at_unmarked : (column : ℕ) (x : List ℕ) → 0 < column → Unmarked (line_at column x)
+line_at_unmarked column [] l = unmarked_nothing
+line_at_unmarked zero (b ∷ x) l = absurd (omega arith)
+line_at_unmarked (suc k) (b ∷ x) l = unmarked_first 32 (replicate k 32 ++ (b ∷ x)) (omega arith) (λ e. omega arith) (λ e. omega arith) (λ e. omega arith)
+
+tail_texts : (column n : ℕ) → AreBodyTexts (map (line_at column) (replicate n []))
+tail_texts column zero = no_body_text
+tail_texts column (suc n) = body_text line_nothing unmarked_nothing (tail_texts column n)
+
+pub body_texts : (column n : ℕ) (ls : List (List ℕ)) → 0 < column → AreLineTexts ls → AreBodyTexts (map (line_at column) (ls ++ replicate n []))
+body_texts column n [] l a = tail_texts column n
+body_texts column n (x ∷ ls) l a = body_text (line_at_text column x a.0) (line_at_unmarked column x l) (body_texts column n ls l a.1)
+
+-- where a row with a body ends, a line starts
+record Started (t : List ℕ) (r : List ℕ) : Type 0 where
+  pub place : ℕ
+  pub start : LineStart t place
+  pub rest : Rest t place r
+
+body_start : {t : List ℕ} {xs : List (List ℕ)} (r : List ℕ) {q : ℕ} → IsUtf8 t → AreBodyTexts xs → LineStart t q → Rest t q (body_then xs r) → Started t r
+body_start r {q} u no_body_text l s = record { place = q; start = l; rest = s }
+body_start r u (body_text {x = x} {xs = xs} a n more) l s =
+    let at = rest_text x u a s in
+    let end = rest_break u at.rest in
+    body_start r u more (after_break end.0) end.1
+
+end_start : {t : List ℕ} (d : Deco) {body : List (List ℕ)} (r : List ℕ) {q : ℕ} → IsUtf8 t → IsDeco d → AreBodyTexts body → Rest t q (end_then d body r) → Started t r
+end_start d {body} r u a b s =
+    let line = trails_at d.trails (body_then body (gap_then d.gap r)) u a.trails s in
+    let lines = body_start (gap_then d.gap r) u b line.start line.rest in
+    let gap = gap_at d.gap r u a.gap lines.start lines.rest in
+    record { place = gap.place; start = gap.start; rest = gap.rest }
+
+-- The node.
+
+wide_enough : (n : ℤ) (column indent : ℕ) → 2 ≤ indent → indent ≤ 8 → column ≡ base n + indent → (base n < column) × ((column ≤ base n + 9) × (column - base n ≡ indent))
+wide_enough n column indent wide near e = (omega arith, (omega arith, omega arith))
+
+unspaced_of : {style : ScalarStyle} {text : List ℕ} {lines : List (List ℕ)} (indent : ℕ) → FitScalar style text lines → digit_of indent text ≡ None → StartsUnspaced (content_lines style text lines)
+unspaced_of {style} {text} indent f e = ⊎_elim (λ (h : begins_with_space text ≡ true). absurd (some_digit (sym (ap (λ b. if b then Some indent else None) h) ∙ e)))
+    (λ (h : begins_with_space text ≡ false). f.unspaced h) (cases_Bool (begins_with_space text)) where
+      some_digit : Some indent ≡ None → ⊥
+      some_digit e = true≢false (ap is_some e)
+
+-- the scalar from its header on, after the text of the row before it
+scalar_at : {t : List ℕ} {style : ScalarStyle} {text : List ℕ} {lines : List (List ℕ)} (indent : ℕ) (n : ℤ) (column : ℕ) (d : Deco) (r : List ℕ) (q : ℕ) → FitScalar style text lines → 2 ≤ indent → indent ≤ 8
+    → column ≡ base n + indent → IsUtf8 t → IsDeco d → CalmBody (block_lines style column text lines) column (tail_ending (is_kept_tail (final_feeds text))) d.gap r
+    → Rest t q (header_text style indent text ++ end_then d (block_lines style column text lines) r)
+    → ScalarNode t n (header_of style indent text) (content_lines style text lines) (final_feeds text - 1) (d.trails ++ remarks_of d.gap) q r
+scalar_at {t} {style} {text} {lines} indent n column d r q f wide near e u a calm w =
+    let ls : List (List ℕ) = content_lines style text lines in
+    let count : ℕ = final_feeds text - 1 in
+    let h : Header = header_of style indent text in
+    let sizes = wide_enough n column indent wide near e in
+    let quiet = calm_body column count ls (tail_ending (is_kept_tail (final_feeds text))) d.gap r f.last calm in
+    let shape : header_text style indent text ++ end_then d (block_lines style column text lines) r ≡ scalar_then h (column - base n) (trail_of d.trails) column ls count (gap_then d.gap r) =
+    header_bytes_are style indent text (end_then d (block_lines style column text lines) r)
+    ∙ (ap (λ z. style_bytes h.folded ++ (digit_bytes h.digit indent ++ (sign_bytes h.chomp ++ trails_then d.trails (10 ∷ z)))) (lines_are column ls count (gap_then d.gap r))
+    ∙ (ap (λ z. style_bytes h.folded ++ (digit_bytes h.digit indent ++ (sign_bytes h.chomp ++ z))) (trail_is d.trails (scalar_lines column ls (feeds count ++ gap_then d.gap r)) a.trails)
+    ∙ ap (λ z. style_bytes h.folded ++ (digit_bytes h.digit z ++ (sign_bytes h.chomp ++ trail_then (trail_of d.trails) (scalar_lines column ls (feeds count ++ gap_then d.gap r))))) (sym sizes.1.1))) in
+    let made = scalar_placed (placed n column h (trail_of d.trails) ls count d.gap u sizes.0 sizes.1.0 f.texts f.last (unspaced_of indent f) (trail_fits d.trails a.trails) a.gap quiet.0
+    (kept_gap text d.gap quiet.1.1) quiet.1.0 (subst (λ z. Rest t q z) shape w)) in
+    subst (λ z. ScalarNode t n h ls count (z ++ remarks_of d.gap) q r) (trail_comments d.trails a.trails) made
+
+style_back : (style : ScalarStyle) → is_block_style style ≡ true → style_of (is_folded style) ≡ style
+style_back Plain e = absurd (true≢false (sym e))
+style_back Single e = absurd (true≢false (sym e))
+style_back Double e = absurd (true≢false (sym e))
+style_back Literal e = refl
+style_back Folded e = refl
+
+-- its event
+bare_meant : {at : Standing} {style : ScalarStyle} {text : List ℕ} {lines : List (List ℕ)} (indent i : ℕ) (m : Meaning) → is_some at.span ≡ true → FitScalar style text lines
+    → m.events ≡ scalar_event (header_of style indent text) (content_lines style text lines) (final_feeds text - 1) i m.finish ∷ [] → m.escapes ≡ [] → Meant (scalar at no_props style text lines) m
+unfolding from_to
+bare_meant {style = style} {text = text} {lines = lines} indent i m e f events escapes = record {
+  node = scalar (record { span = from_to i m.finish; tag_offset = None; entry = None }) no_props style text lines;
+  alike = alike_scalars e;
+  events = events ∙ λ z. record {
+    event = scalar_node no_props (style_back style f.block z) (f.content indent z);
+    span = from_to i m.finish;
+    tag_offset = None;
+    entry = None;
+    folded = f.kept z;
+  } ∷ [];
+  escapes = escapes;
+}
+
+props_meant : {at : Standing} {style : ScalarStyle} {text : List ℕ} {lines : List (List ℕ)} (indent i q g : ℕ) (p : PropsValue) (o : Option ℕ) (m : Meaning) → is_some at.span ≡ true → FitScalar style text lines
+    → m.events ≡ scalar_event (header_of style indent text) (content_lines style text lines) (final_feeds text - 1) i m.finish ∷ [] → m.escapes ≡ [] → Meant (scalar at p style text lines) (with_props p o q g m)
+unfolding from_to with_props
+props_meant {style = style} {text = text} {lines = lines} indent i q g p o m e f events escapes = record {
+  node = scalar (record { span = from_to q m.finish; tag_offset = o; entry = None }) p style text lines;
+  alike = alike_scalars e;
+  events = ap (λ es. first_with p o q g es) events ∙ λ z. record {
+    event = scalar_node p (style_back style f.block z) (f.content indent z);
+    span = from_to q m.finish;
+    tag_offset = o;
+    entry = None;
+    folded = f.kept z;
+  } ∷ [];
+  escapes = escapes;
+}
+
+pub header_line : (style : ScalarStyle) (indent : ℕ) (text : List ℕ) → indent ≤ 8 → IsLineText (header_text style indent text)
+header_line style indent text near = line_append (sign_line style) (line_append (digit_line (begins_with_space text)) (chomp_line (final_feeds text))) where
+  sign_line : (style : ScalarStyle) → IsLineText (style_sign style)
+  sign_line Plain = visible_line 124 (omega arith) (omega arith) line_nothing
+  sign_line Single = visible_line 124 (omega arith) (omega arith) line_nothing
+  sign_line Double = visible_line 124 (omega arith) (omega arith) line_nothing
+  sign_line Literal = visible_line 124 (omega arith) (omega arith) line_nothing
+  sign_line Folded = visible_line 62 (omega arith) (omega arith) line_nothing
+
+  digit_line : (b : Bool) → IsLineText (if b then (48 + indent) ∷ [] else [])
+  digit_line true = visible_line (48 + indent) (omega arith) (omega arith) line_nothing
+  digit_line false = line_nothing
+
+  chomp_line : (n : ℕ) → IsLineText (chomping_sign n)
+  chomp_line zero = visible_line 45 (omega arith) (omega arith) line_nothing
+  chomp_line (suc zero) = line_nothing
+  chomp_line (suc (suc n)) = visible_line 43 (omega arith) (omega arith) line_nothing
+
+pub header_unmarked : (style : ScalarStyle) (indent : ℕ) (text : List ℕ) → Unmarked (header_text style indent text)
+header_unmarked Plain indent text = unmarked_first 124 (digit_text indent text ++ chomping_sign (final_feeds text)) (omega arith) (λ e. omega arith) (λ e. omega arith) (λ e. omega arith)
+header_unmarked Single indent text = unmarked_first 124 (digit_text indent text ++ chomping_sign (final_feeds text)) (omega arith) (λ e. omega arith) (λ e. omega arith) (λ e. omega arith)
+header_unmarked Double indent text = unmarked_first 124 (digit_text indent text ++ chomping_sign (final_feeds text)) (omega arith) (λ e. omega arith) (λ e. omega arith) (λ e. omega arith)
+header_unmarked Literal indent text = unmarked_first 124 (digit_text indent text ++ chomping_sign (final_feeds text)) (omega arith) (λ e. omega arith) (λ e. omega arith) (λ e. omega arith)
+header_unmarked Folded indent text = unmarked_first 62 (digit_text indent text ++ chomping_sign (final_feeds text)) (omega arith) (λ e. omega arith) (λ e. omega arith) (λ e. omega arith)
+
+header_some : (style : ScalarStyle) (indent : ℕ) (text : List ℕ) → is_empty_text (header_text style indent text) ≡ false
+header_some Plain indent text = refl
+header_some Single indent text = refl
+header_some Double indent text = refl
+header_some Literal indent text = refl
+header_some Folded indent text = refl
+
+spaced_some : (x y : List ℕ) → is_empty_text x ≡ false → is_empty_text y ≡ false → spaced x y ≡ x ++ (32 ∷ y)
+spaced_some [] y e f = absurd (true≢false e)
+spaced_some (b ∷ x) [] e f = absurd (true≢false f)
+spaced_some (b ∷ x) (c ∷ y) e f = refl
+
+-- with properties
+pub header_with : {p : PropsValue} (style : ScalarStyle) (indent : ℕ) (text : List ℕ) → IsProps p → p ≢ no_props → spaced (props_text p) (header_text style indent text) ≡ props_bytes p ++ (32 ∷ header_text style indent text)
+header_with {p} style indent text k n =
+    ap (λ z. spaced z (header_text style indent text)) (same_props k) ∙ spaced_some (props_bytes p) (header_text style indent text) (some_props k n) (header_some style indent text)
+
+module _ {s : Style} {at : Standing} {style : ScalarStyle} {text : List ℕ} {lines : List (List ℕ)} (placed_at : is_some at.span ≡ true) (f : FitScalar style text lines) where
+  bare_made : {t : List ℕ} (row : Row) (spot : Spot) (n : ℤ) (c : Ctx) (ds : List Deco) (r : List ℕ) (q : ℕ) → row.text ≡ header_text style s.indent text → row.body ≡ block_lines style spot.lines text lines
+      → IsUtf8 t → Stood s (scalar at no_props style text lines) n c spot → AreDecos ds → CalmBody (block_lines style spot.lines text lines) spot.lines (tail_ending (is_kept_tail (final_feeds text))) (first ds).gap r
+      → Rest t q (inline_then (row ∷ []) ds r) → NodeMade t n c spot.entries (scalar at no_props style text lines) (row ∷ []) ds q r
+  bare_made {t} row spot n c ds r q said body u stood a calm w =
+      let there : Rest t q (header_text style s.indent text ++ end_then (first ds) (block_lines style spot.lines text lines) r) =
+      subst (λ z. Rest t q (header_text style s.indent text ++ end_then (first ds) z r)) body (subst (λ z. Rest t q (z ++ end_then (first ds) row.body r)) said w) in
+      let node = scalar_at s.indent n spot.lines (first ds) r q f s.indent_from s.indent_to stood.lines u (first_deco a) calm there in
+      let text_end = rest_text (header_text style s.indent text) u (header_line style s.indent text s.indent_to) there in
+      let deep : 0 < spot.lines = above_zero n stood.lines in
+      let begun = end_start (first ds) r u (first_deco a) (body_texts spot.lines (final_feeds text - 1) (content_lines style text lines) deep f.texts) text_end.rest in
+      record {
+        height = 0;
+        place = node.place;
+        meaning = node.meaning;
+        at = apart_at refl (λ k cs sep. a_block_scalar stood.block (in_node (block_no_key c stood.block) sep) node.derived);
+        low = omega arith;
+        rest = node.rest;
+        start = subst (λ j. LineStart t j) (place_of_rest begun.rest node.rest) begun.start;
+        meant = bare_meant s.indent q node.meaning placed_at f node.events node.escapes;
+        is = node.is ∙ sym (append-nil (carried_texts (first ds)));
+      }
+    where
+      above_zero : (n : ℤ) {k : ℕ} → k ≡ base n + s.indent → 0 < k
+      above_zero n e = let wide : 2 ≤ s.indent = s.indent_from in omega (arith, wide, e)
+
+  props_made : {t : List ℕ} {p : PropsValue} (row : Row) (spot : Spot) (n : ℤ) (c : Ctx) (ds : List Deco) (r : List ℕ) (q : ℕ) → IsProps p → p ≢ no_props → row.text ≡ props_bytes p ++ (32 ∷ header_text style s.indent text)
+      → row.body ≡ block_lines style spot.lines text lines → IsUtf8 t → Stood s (scalar at p style text lines) n c spot → AreDecos ds
+      → CalmBody (block_lines style spot.lines text lines) spot.lines (tail_ending (is_kept_tail (final_feeds text))) (first ds).gap r
+      → Rest t q (inline_then (row ∷ []) ds r) → NodeMade t n c spot.entries (scalar at p style text lines) (row ∷ []) ds q r
+  props_made {t} {p} row spot n c ds r q props some said body u stood a calm w =
+      let z : List ℕ = end_then (first ds) (block_lines style spot.lines text lines) r in
+      let there : Rest t q (props_bytes p ++ (32 ∷ (header_text style s.indent text ++ z))) =
+      subst (λ v. Rest t q v) (append_assoc (props_bytes p) (32 ∷ header_text style s.indent text) z)
+      (subst (λ v. Rest t q ((props_bytes p ++ (32 ∷ header_text style s.indent text)) ++ end_then (first ds) v r)) body (subst (λ v. Rest t q (v ++ end_then (first ds) row.body r)) said w)) in
+      let before = propertied (n +ℤ pos 1) c (header_text style s.indent text ++ z) u props some there in
+      let i : ℕ = q + length (props_bytes p) + 1 in
+      let node = scalar_at s.indent n spot.lines (first ds) r i f s.indent_from s.indent_to stood.lines u (first_deco a) calm before.rest in
+      let text_end = rest_text (header_text style s.indent text) u (header_line style s.indent text s.indent_to) before.rest in
+      let deep : 0 < spot.lines = above_zero n stood.lines in
+      let begun = end_start (first ds) r u (first_deco a) (body_texts spot.lines (final_feeds text - 1) (content_lines style text lines) deep f.texts) text_end.rest in
+      let o : Option ℕ = tag_offset_at q p.anchor p.tag in
+      let g : ℕ = q + length (props_bytes p) in
+      record {
+        height = 0;
+        place = node.place;
+        meaning = with_props p o q g node.meaning;
+        at = apart_at refl (λ k cs sep. subst (λ m. Derives t 0 (BlockNode n c) k node.place m) (both_behind cs [] (with_props p o q g node.meaning) ∙ ap (λ m. behind cs m) (behind_nothing (with_props p o q g node.meaning)))
+            (a_block_scalar_with stood.block (in_node (block_no_key c stood.block) sep) before.properties before.separate node.derived));
+        low = omega arith;
+        rest = node.rest;
+        start = subst (λ j. LineStart t j) (place_of_rest begun.rest node.rest) begun.start;
+        meant = props_meant s.indent i q g p o node.meaning placed_at f node.events node.escapes;
+        is = texts_with_props p o q g node.meaning ∙ (node.is ∙ sym (append-nil (carried_texts (first ds))));
+      }
+    where
+      above_zero : (n : ℤ) {k : ℕ} → k ≡ base n + s.indent → 0 < k
+      above_zero n e = let wide : 2 ≤ s.indent = s.indent_from in omega (arith, wide, e)
+
+  block_claim : {p : PropsValue} (spot : Spot) → FitProps p → Claim s (scalar at p style text lines) spot (block_scalar s spot (scalar at p style text lines) p style text lines)
+  block_claim spot no_fit_props =
+      some_rows (λ z. refl) (λ z. absurd (true≢false (sym z))) (record { made = λ {t} n c ds r q u stood a calm w. bare_made _ spot n c ds r q refl refl u stood a calm.0 w })
+  block_claim spot (some_fit_props {p = p} k n) =
+      some_rows (λ z. refl) (λ z. absurd (true≢false (sym z))) (record {
+        made = λ {t} m c ds r q u stood a calm w.
+            props_made _ spot m c ds r q k n (header_with style s.indent text k n) refl u stood a calm.0 w;
+      })
+
+-- its rows, by its style
+pub scalar_rows_are : (c : Setting) (spot : Spot) (at : Standing) (p : PropsValue) (text : List ℕ) (lines : List (List ℕ)) (style : ScalarStyle) → is_block_style style ≡ true
+    → rows c spot (scalar at p style text lines) ≡ block_scalar c.style spot (scalar at p style text lines) p style text lines
+scalar_rows_are c spot at p text lines Plain e = absurd (true≢false (sym e))
+scalar_rows_are c spot at p text lines Single e = absurd (true≢false (sym e))
+scalar_rows_are c spot at p text lines Double e = absurd (true≢false (sym e))
+scalar_rows_are c spot at p text lines Literal e = refl
+scalar_rows_are c spot at p text lines Folded e = refl
+
+pub scalar_claim : (c : Setting) (spot : Spot) {at : Standing} {p : PropsValue} {style : ScalarStyle} {text : List ℕ} {lines : List (List ℕ)} → is_some at.span ≡ true → FitProps p → FitScalar style text lines
+    → Claim c.style (scalar at p style text lines) spot (rows c spot (scalar at p style text lines))
+scalar_claim c spot {at} {p} {style} {text} {lines} e k f =
+    subst (λ rs. Claim c.style (scalar at p style text lines) spot rs) (sym (scalar_rows_are c spot at p text lines style f.block)) (block_claim e f spot k)

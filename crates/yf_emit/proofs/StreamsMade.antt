@@ -1,0 +1,278 @@
+-- A stream of documents from its rows.
+use Rattle.std.proofs.Common.{◌≡◌, ℕ, max, ◌<◌, ◌≤◌, Bool, true, false, List, [], ◌∷◌, ◌++◌, length, map, drop, refl, sym, ap, ◌∙◌, subst, arith, append_assoc, length-drop}
+use Rattle.std.specs.Str.{IsUtf8}
+use Rattle.yf_chars.specs.Chain.{Chain}
+use Rattle.yf_chars.specs.Chain.Chain.{done, step}
+use Rattle.yf_lines.specs.Basic.LineStart.{at_text}
+use Rattle.yf_lines.proofs.RestLemmas.{Rest, rest_start}
+use Rattle.yf_comments.specs.Comment.{CommentValue}
+use Rattle.yf_comments.specs.Comments.{CommentLine}
+use Rattle.yf_comments.specs.GapLines.{AreGapLines, remarks_of}
+use Rattle.yf_comments.proofs.GapLinesLemmas.{texts, texts_append, gap_at}
+use Rattle.yf_events.specs.declared.directive.Directive.{Directive}
+use Rattle.yf_events.specs.declared.document.Doc.{Doc}
+use Rattle.yf_events.specs.Tree.{DocumentTree}
+use Rattle.yf_grammar.specs.Meaning.{Meaning}
+use Rattle.yf_grammar.specs.Meant.{Meant, tall}
+use Rattle.yf_stream.specs.Stream.{Document, document_of, Documents, only_comments, with_document, with_comments, AnyDocument, Prefixes, StreamRest}
+use Rattle.yf_stream.specs.Stream.AnyDocument.{explicit_document, directive_document}
+use Rattle.yf_stream.specs.Stream.PrefixPart.{prefix_comment}
+use Rattle.yf_stream.specs.Stream.Stream.{begins_with_document, without_document}
+use Rattle.yf_stream.specs.Stream.StreamRest.{stream_ended, past_suffixes_and_document, past_explicit}
+use Rattle.yf_stream.specs.Stream.Suffixes.{last_suffix}
+use Rattle.yf_emit.specs.Carried.{AreDecos, carried_texts, comments_in, Calm}
+use Rattle.yf_emit.specs.Decorated.{GapLine, gap_then, Deco, first, after, past, end_then, lines_then}
+use Rattle.yf_emit.specs.FitDocuments.{FitDirective, FitDirectives, fit_directive, FitDocuments, fit_no_documents, fit_document, DocumentMeant, DocumentsMeant, no_documents_meant, document_meant, tall_documents}
+use Rattle.yf_emit.specs.Fits.{Fit}
+use Rattle.yf_emit.specs.LayoutLaws.{StreamMade}
+use Rattle.yf_emit.specs.Normal.{Setting, root_spot}
+use Rattle.yf_emit.specs.Rows.{Row, directive_row, start_row, end_rows, beginning_at, joined_words, rows, document_rows, stream_rows}
+use Rattle.yf_emit.proofs.DecoratedLemmas.{lines_append}
+use Rattle.yf_emit.proofs.DocumentsMade.{ExplicitMade, explicit_made, directives_made, three_at}
+use Rattle.yf_emit.proofs.RowEnds.{row_end, first_deco, after_decos, past_decos, comments_append, calm_append}
+use Rattle.yf_emit.proofs.RowTexts.{row_texts}
+use Rattle.yf_emit.proofs.TreesMade.{node_claim}
+
+-- What is meant.
+
+meant_document : {d : Doc} {x : DocumentTree} {m : Meaning} (i : ℕ) (dirs : List Directive) → map (λ (e : Directive). e.words) dirs ≡ map (λ (e : Directive). e.words) d.directives
+    → Meant x.root m → DocumentMeant d x (document_of i true dirs m)
+unfolding document_of
+meant_document i dirs e a = record { marked = refl; words = e; node = a.node; alike = a.alike; events = a.events; escapes = a.escapes }
+
+texts_with_document : (cs : List CommentValue) (d : Document) (rest : Documents) → texts (with_document cs d rest).comments ≡ texts cs ++ texts rest.comments
+unfolding with_document
+texts_with_document cs d rest = texts_append cs rest.comments
+
+documents_with : {d : Doc} {ds : List Doc} {x : DocumentTree} {xs : List DocumentTree} {m : Document} (rest : Documents) (cs : List CommentValue) → DocumentMeant d x m → DocumentsMeant ds xs rest.documents
+    → DocumentsMeant (d ∷ ds) (x ∷ xs) (with_document cs m rest).documents
+unfolding with_document
+documents_with rest cs a b = document_meant a b
+
+texts_with_comments : (cs : List CommentValue) (rest : Documents) → texts (with_comments cs rest).comments ≡ texts cs ++ texts rest.comments
+unfolding with_comments
+texts_with_comments cs rest = texts_append cs rest.comments
+
+same_documents : (cs : List CommentValue) (rest : Documents) → rest.documents ≡ (with_comments cs rest).documents
+unfolding with_comments
+same_documents cs rest = refl
+
+-- Rows of directives, and of the node after them.
+
+pub record AnyMade (t : List ℕ) (d : Doc) (x : DocumentTree) (rs : List Row) (ds : List Deco) (q : ℕ) (r : List ℕ) : Type 0 where
+  pub height : ℕ
+  pub place : ℕ
+  pub document : Document
+  pub comments : List CommentValue
+  pub derived : AnyDocument t height q place document comments
+  pub low : height ≤ tall x.root
+  pub rest : Rest t place r
+  pub meant : DocumentMeant d x document
+  pub is : texts comments ≡ comments_in rs ds
+
+abbrev root_rows : Setting → DocumentTree → List Row
+root_rows c x = rows c (root_spot c.style) x.root
+
+root_deep : (c : Setting) → 0 < c.style.indent
+root_deep c = let wide : 2 ≤ c.style.indent = c.style.indent_from in omega (arith, wide)
+
+explicit_at : {t : List ℕ} (c : Setting) (x : DocumentTree) (row : Row) (ds : List Deco) (r : List ℕ) (q : ℕ) → Fit x.root → IsUtf8 t → AreDecos ds → Calm (root_rows c x) (after ds) r
+    → Rest t q (45 ∷ 45 ∷ 45 ∷ end_then (first ds) [] (lines_then (root_rows c x) (after ds) r)) → ExplicitMade t x.root (row ∷ root_rows c x) ds q r
+explicit_at c x row ds r q fit u a k w = explicit_made row ds r q (node_claim c (root_spot c.style) fit) (row_texts c (root_spot c.style) (root_deep c) fit) u a k w
+
+-- where the first row is given, of any items
+directed : {t : List ℕ} (c : Setting) {d : Doc} (x : DocumentTree) {e : Directive} {es : List Directive} (row : Row) (ds : List Deco) (r : List ℕ) (q : ℕ) → d.directives ≡ e ∷ es
+    → FitDirective e.words → FitDirectives es → Fit x.root → IsUtf8 t → AreDecos ds → Calm ((row ∷ map directive_row es) ++ (start_row ∷ root_rows c x)) ds r
+    → Rest t q (37 ∷ (joined_words e.words ++ end_then (first ds) [] (lines_then (map directive_row es ++ (start_row ∷ root_rows c x)) (after ds) r)))
+    → AnyMade t d x ((row ∷ map directive_row es) ++ (start_row ∷ root_rows c x)) ds q r
+directed {t} c {d} x {e} {es} row ds r q same f fs fit u a k w =
+    let tree : List Row = root_rows c x in
+    let z : List ℕ = lines_then (start_row ∷ tree) (past (map directive_row es) (after ds)) r in
+    let there : Rest t q (37 ∷ (joined_words e.words ++ end_then (first ds) [] (lines_then (map directive_row es) (after ds) z))) =
+    subst (λ v. Rest t q (37 ∷ (joined_words e.words ++ end_then (first ds) [] v))) (lines_append (map directive_row es) (start_row ∷ tree) (after ds) r) w in
+    let one = directives_made {d = e} {dirs = es} row ds z q f fs u a there in
+    let ks = calm_append (row ∷ map directive_row es) (start_row ∷ tree) ds r k in
+    let node = explicit_at c x start_row (past (map directive_row es) (after ds)) r one.place fit u (past_decos (row ∷ map directive_row es) a) ks.1.1 one.rest in
+    record {
+      height = node.height;
+      place = node.place;
+      document = document_of one.place true one.meaning.directives node.meaning;
+      comments = one.meaning.comments ++ node.meaning.comments;
+      derived = directive_document one.lines node.node;
+      low = node.low;
+      rest = node.rest;
+      meant = meant_document one.place one.meaning.directives (one.words ∙ ap (λ z. map (λ (e : Directive). e.words) z) (sym same)) node.meant;
+      is = texts_append one.meaning.comments node.meaning.comments ∙ (ap (λ z. z ++ texts node.meaning.comments) one.is
+          ∙ (ap (λ z. comments_in (row ∷ map directive_row es) ds ++ z) node.is ∙ sym (comments_append (row ∷ map directive_row es) (start_row ∷ tree) ds)));
+    }
+
+-- the rows of a document, by its directives
+abbrev head_rows : Bool → ℕ → List Directive → List Row
+head_rows is_first start dirs = beginning_at start (end_rows is_first dirs ++ (map directive_row dirs ++ (start_row ∷ [])))
+
+beside_tree : (row : Row) (es : List Directive) (tree : List Row) → ((row ∷ map directive_row es) ++ (start_row ∷ [])) ++ tree ≡ (row ∷ map directive_row es) ++ (start_row ∷ tree)
+beside_tree row es tree = append_assoc (row ∷ map directive_row es) (start_row ∷ []) tree
+
+-- The first document of a stream.
+
+first_with : {t : List ℕ} (c : Setting) {d : Doc} (x : DocumentTree) (start : ℕ) (dirs : List Directive) (ds : List Deco) (r : List ℕ) (q : ℕ) → d.directives ≡ dirs → FitDirectives dirs → Fit x.root → IsUtf8 t → AreDecos ds
+    → Calm (head_rows true start dirs ++ root_rows c x) ds r → Rest t q (lines_then (head_rows true start dirs ++ root_rows c x) ds r) → AnyMade t d x (head_rows true start dirs ++ root_rows c x) ds q r
+first_with {t} c {d} x start [] ds r q same f fit u a k w =
+    let node = explicit_at c x (record start_row { items = start ∷ [] }) ds r q fit u a k.1 w in
+    record {
+      height = node.height;
+      place = node.place;
+      document = document_of q true [] node.meaning;
+      comments = node.meaning.comments;
+      derived = explicit_document node.node;
+      low = node.low;
+      rest = node.rest;
+      meant = meant_document q [] (ap (λ z. map (λ (e : Directive). e.words) z) (sym same)) node.meant;
+      is = node.is;
+    }
+first_with {t} c {d} x start (e ∷ es) ds r q same (fit_directive f fs) fit u a k w =
+    let row : Row = record (directive_row e) { items = start ∷ [] } in
+    let shape = beside_tree row es (root_rows c x) in
+    subst (λ z. AnyMade t d x z ds q r) (sym shape)
+    (directed c x {e = e} row ds r q same f fs fit u a (subst (λ z. Calm z ds r) shape k) (subst (λ z. Rest t q (lines_then z ds r)) shape w))
+
+-- Later documents, each with what stands after it.
+
+record StepMade (t : List ℕ) (d : Doc) (x : DocumentTree) (rs : List Row) (ds : List Deco) (q : ℕ) (r : List ℕ) : Type 0 where
+  pub height : ℕ
+  pub place : ℕ
+  pub document : Document
+  pub comments : List CommentValue
+  pub join : (g : ℕ) (rest : Documents) → StreamRest t g place rest → StreamRest t (max height g) q (with_document comments document rest)
+  pub low : height ≤ tall x.root
+  pub rest : Rest t place r
+  pub meant : DocumentMeant d x document
+  pub is : texts comments ≡ comments_in rs ds
+
+step_with : {t : List ℕ} (c : Setting) {d : Doc} (x : DocumentTree) (start : ℕ) (dirs : List Directive) (ds : List Deco) (r : List ℕ) (q : ℕ) → d.directives ≡ dirs → FitDirectives dirs → Fit x.root → IsUtf8 t → AreDecos ds
+    → Calm (head_rows false start dirs ++ root_rows c x) ds r → Rest t q (lines_then (head_rows false start dirs ++ root_rows c x) ds r) → StepMade t d x (head_rows false start dirs ++ root_rows c x) ds q r
+step_with {t} c {d} x start [] ds r q same f fit u a k w =
+    let node = explicit_at c x (record start_row { items = start ∷ [] }) ds r q fit u a k.1 w in
+    record {
+      height = node.height;
+      place = node.place;
+      document = document_of q true [] node.meaning;
+      comments = node.meaning.comments;
+      join = λ g rest s. past_explicit node.node s;
+      low = node.low;
+      rest = node.rest;
+      meant = meant_document q [] (ap (λ z. map (λ (e : Directive). e.words) z) (sym same)) node.meant;
+      is = node.is;
+    }
+step_with {t} c {d} x start (e ∷ es) ds r q same (fit_directive f fs) fit u a k w =
+    let row : Row = directive_row e in
+    let shape = beside_tree row es (root_rows c x) in
+    let mark = three_at 46 u (omega arith) (omega arith) w in
+    let end = row_end (first ds) (lines_then (((row ∷ map directive_row es) ++ (start_row ∷ [])) ++ root_rows c x) (after ds) r) u (first_deco a) mark.1 in
+    let made = directed c {d = d} x {e = e} row (after ds) r end.place same f fs fit u (after_decos a) (subst (λ z. Calm z (after ds) r) shape k.1)
+    (subst (λ z. Rest t end.place (lines_then z (after ds) r)) shape end.rest) in
+    record {
+      height = made.height;
+      place = made.place;
+      document = made.document;
+      comments = end.comments ++ made.comments;
+      join = λ g rest s. past_suffixes_and_document (last_suffix mark.0 end.end) done made.derived s;
+      low = made.low;
+      rest = made.rest;
+      meant = made.meant;
+      is = texts_append end.comments made.comments ∙ (ap (λ z. z ++ texts made.comments) end.is
+          ∙ ap (λ z. carried_texts (first ds) ++ z) (made.is ∙ ap (λ z. comments_in z (after ds)) (sym shape)));
+    }
+
+-- The rest of a stream.
+
+pub record RestMade (t : List ℕ) (ds : List Doc) (xs : List DocumentTree) (rs : List Row) (decos : List Deco) (q : ℕ) : Type 0 where
+  pub height : ℕ
+  pub documents : Documents
+  pub derived : StreamRest t height q documents
+  pub low : height ≤ tall_documents xs
+  pub meant : DocumentsMeant ds xs documents.documents
+  pub is : texts documents.comments ≡ comments_in rs decos
+
+ended_at : {t : List ℕ} {q : ℕ} → Rest t q [] → q ≡ length t
+ended_at {t} {q} s =
+    let none : length (drop q t) ≡ 0 = ap length s.bytes in
+    omega (arith, none, length-drop q t, s.boundary.0)
+
+rest_made : {t : List ℕ} (c : Setting) {ds : List Doc} {xs : List DocumentTree} → FitDocuments ds xs → (decos : List Deco) (q : ℕ) → IsUtf8 t → AreDecos decos → Calm (stream_rows c false ds xs) decos []
+    → Rest t q (lines_then (stream_rows c false ds xs) decos []) → RestMade t ds xs (stream_rows c false ds xs) decos q
+rest_made {t} c fit_no_documents decos q u a k w = record {
+  height = 0;
+  documents = only_comments [];
+  derived = subst (λ p. StreamRest t 0 p (only_comments [])) (sym (ended_at w)) stream_ended;
+  low = omega arith;
+  meant = no_documents_meant;
+  is = refl;
+}
+rest_made {t} c (fit_document {d = d} {ds = ds} {x = x} {xs = xs} f fit more) decos q u a k w =
+    let head : List Row = document_rows c false d x in
+    let others : List Row = stream_rows c false ds xs in
+    let ks = calm_append head others decos [] k in
+    let one = step_with c {d = d} x d.start d.directives decos (lines_then others (past head decos) []) q refl f fit u a ks.0
+    (subst (λ z. Rest t q z) (lines_append head others decos []) w) in
+    let last = rest_made c more (past head decos) one.place u (past_decos head a) ks.1 one.rest in
+    let low : one.height ≤ tall x.root = one.low in
+    let high : last.height ≤ tall_documents xs = last.low in
+    record {
+      height = max one.height last.height;
+      documents = with_document one.comments one.document last.documents;
+      derived = one.join last.height last.documents last.derived;
+      low = omega (arith, low, high);
+      meant = documents_with last.documents one.comments one.meant last.meant;
+      is = texts_with_document one.comments one.document last.documents ∙ (ap (λ z. z ++ texts last.documents.comments) one.is
+          ∙ (ap (λ z. comments_in head decos ++ z) last.is ∙ sym (comments_append head others decos)));
+    }
+
+-- Whole streams.
+
+prefixes_of : {t : List ℕ} {i j : ℕ} {cs : List CommentValue} → Chain (CommentLine t) i j cs → Prefixes t i j cs
+prefixes_of done = done
+prefixes_of (step a more) = step (prefix_comment a) (prefixes_of more)
+
+stream_made : {t : List ℕ} (c : Setting) {ds : List Doc} {xs : List DocumentTree} (gap : List GapLine) (decos : List Deco) → FitDocuments ds xs → IsUtf8 t → AreGapLines gap → AreDecos decos
+    → Calm (stream_rows c true ds xs) decos [] → Rest t 0 (gap_then gap (lines_then (stream_rows c true ds xs) decos []))
+    → StreamMade t ds xs (remarks_of gap ++ comments_in (stream_rows c true ds xs) decos)
+stream_made {t} c gap decos fit_no_documents u g a k w =
+    let at = gap_at gap [] u g at_text w in
+    let rest : StreamRest t 0 at.place (only_comments []) = subst (λ p. StreamRest t 0 p (only_comments [])) (sym (ended_at at.rest)) stream_ended in
+    record {
+      height = 0;
+      documents = with_comments at.comments (only_comments []);
+      derived = without_document (prefixes_of at.lines) rest;
+      low = omega arith;
+      meant = subst (λ z. DocumentsMeant [] [] z) (same_documents at.comments (only_comments [])) no_documents_meant;
+      is = texts_with_comments at.comments (only_comments []) ∙ ap (λ z. z ++ []) at.is;
+    }
+stream_made {t} c gap decos (fit_document {d = d} {ds = ds} {x = x} {xs = xs} f fit more) u g a k w =
+    let head : List Row = document_rows c true d x in
+    let others : List Row = stream_rows c false ds xs in
+    let at = gap_at gap (lines_then (head ++ others) decos []) u g at_text w in
+    let ks = calm_append head others decos [] k in
+    let one = first_with c {d = d} x d.start d.directives decos (lines_then others (past head decos) []) at.place refl f fit u a ks.0
+    (subst (λ z. Rest t at.place z) (lines_append head others decos []) at.rest) in
+    let last = rest_made c more (past head decos) one.place u (past_decos head a) ks.1 one.rest in
+    let low : one.height ≤ tall x.root = one.low in
+    let high : last.height ≤ tall_documents xs = last.low in
+    record {
+      height = max one.height last.height;
+      documents = with_document (at.comments ++ one.comments) one.document last.documents;
+      derived = begins_with_document (prefixes_of at.lines) one.derived last.derived;
+      low = omega (arith, low, high);
+      meant = documents_with last.documents (at.comments ++ one.comments) one.meant last.meant;
+      is = texts_with_document (at.comments ++ one.comments) one.document last.documents
+          ∙ (joined_texts at.comments one.comments last.documents.comments at.is one.is last.is ∙ ap (λ z. remarks_of gap ++ z) (sym (comments_append head others decos)));
+    }
+  where
+    joined_texts : (us vs ws : List CommentValue) {xs ys zs : List (List ℕ)} → texts us ≡ xs → texts vs ≡ ys → texts ws ≡ zs → texts (us ++ vs) ++ texts ws ≡ xs ++ (ys ++ zs)
+    joined_texts us vs ws e f g = ap (λ z. z ++ texts ws) (texts_append us vs) ∙ (append_assoc (texts us) (texts vs) (texts ws) ∙ λ n. e n ++ (f n ++ g n))
+
+-- what is laid out is derived again
+pub layout_derived : {t : List ℕ} (c : Setting) {ds : List Doc} {xs : List DocumentTree} (gap : List GapLine) (decos : List Deco) → FitDocuments ds xs → IsUtf8 t → AreGapLines gap → AreDecos decos
+    → Calm (stream_rows c true ds xs) decos [] → t ≡ gap_then gap (lines_then (stream_rows c true ds xs) decos [])
+    → StreamMade t ds xs (remarks_of gap ++ comments_in (stream_rows c true ds xs) decos)
+layout_derived {t} c gap decos fit u g a k e = stream_made c gap decos fit u g a k (subst (λ z. Rest t 0 z) e (rest_start t u))

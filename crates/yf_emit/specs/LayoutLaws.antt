@@ -1,0 +1,35 @@
+-- The laws of layouts, each with the plain sentence that it stands for. `proofs/LayoutLawsHold.antt` proves them.
+use Rattle.std.specs.Prelude.{◌≡◌, ℕ, ◌≤◌, List, [], ◌++◌, map}
+use Rattle.std.specs.Str.{IsUtf8}
+use Rattle.yf_comments.specs.Comment.{CommentValue}
+use Rattle.yf_comments.specs.GapLines.{AreGapLines, remarks_of}
+use Rattle.yf_events.specs.declared.document.Doc.{Doc}
+use Rattle.yf_events.specs.declared.lists.Lists.{Lists}
+use Rattle.yf_events.specs.Tree.{DocumentTree}
+use Rattle.yf_stream.specs.Stream.{Documents, Stream}
+use Rattle.yf_emit.specs.declared.style.Style.{Style}
+use Rattle.yf_emit.specs.Carried.{AreDecos, comments_in, Calm}
+use Rattle.yf_emit.specs.Decorated.{first_gap, row_decos, rows_of}
+use Rattle.yf_emit.specs.FitDocuments.{FitDocuments, DocumentsMeant, tall_documents}
+use Rattle.yf_emit.specs.Layout.{layout}
+
+-- The text is a stream of documents that mean these trees, with these directives, and its comments have these texts, in order.
+pub record StreamMade (t : List ℕ) (ds : List Doc) (xs : List DocumentTree) (comments : List (List ℕ)) : Type 0 where
+  pub height : ℕ
+  pub documents : Documents
+  pub derived : Stream t height documents
+  pub low : height ≤ tall_documents xs
+  pub meant : DocumentsMeant ds xs documents.documents
+  pub is : map (λ (c : CommentValue). c.text) documents.comments ≡ comments
+
+-- the texts of the comments that a layout prints, in order
+abbrev pub printed_comments : Lists → Style → List DocumentTree → List (List ℕ)
+printed_comments m s trees = remarks_of (first_gap m (rows_of m s trees)) ++ comments_in (rows_of m s trees) (row_decos m (rows_of m s trees))
+
+-- What is laid out is derived again: where each node on one line reads back, and what the rows carry are comments and blank lines that may
+-- stand there, the layout is a stream of documents that mean the same trees up to their places, with the same directives, and its comments are
+-- those that were printed, in that order.
+abbrev pub LayoutsAreDerived : Type 0
+LayoutsAreDerived = (t : List ℕ) (m : Lists) (s : Style) (trees : List DocumentTree) → IsUtf8 t → FitDocuments m.documents trees
+    → AreGapLines (first_gap m (rows_of m s trees)) → AreDecos (row_decos m (rows_of m s trees)) → Calm (rows_of m s trees) (row_decos m (rows_of m s trees)) []
+    → t ≡ layout m s trees → StreamMade t m.documents trees (printed_comments m s trees)
