@@ -1,7 +1,7 @@
 -- Line ends and block scalars end after their start, and after a header a line begins.
-use Rattle.std.proofs.Common.{◌≡◌, ℕ, ℤ, ◌+◌, ◌<◌, ◌≤◌, ⊎_elim, Bool, Option, List, length, arith}
+use Rattle.std.proofs.Common.{◌≡◌, ℕ, ℤ, ◌<◌, ◌≤◌, ⊎_elim, Bool, Option, List, length, arith}
 use Rattle.std.proofs.lemmas.Bool.{cases_lt}
-use Rattle.yf_chars.specs.Chain.{Chain, done, step, Chosen}
+use Rattle.yf_chars.specs.Chain.{Chain, done, step}
 use Rattle.yf_lines.specs.Basic.{LineStart}
 use Rattle.yf_lines.proofs.BasicLemmas.{break_forward}
 use Rattle.yf_comments.specs.Comment.{CommentValue}
@@ -11,7 +11,7 @@ use Rattle.yf_comments.proofs.LineEndLemmas.{line_end_rows, rest_next}
 use Rattle.yf_block_scalar.specs.declared.header.Header.{Header}
 use Rattle.yf_block_scalar.specs.declared.header.Chomp.{Chomp}
 use Rattle.yf_block_scalar.specs.Header.{Style, literal_sign, folded_sign, Digit, digit, Sign, strip_sign, keep_sign, Indicators, neither, digit_alone, sign_alone, digit_sign, sign_digit, BlockHeader, block_header, HeaderValue}
-use Rattle.yf_block_scalar.specs.Body.{SpaceLine, Bare, bare, Ends, by_break, by_text, Content, content, Line, empty_line, content_line, Lines, no_content, up_to, Tail, Taken, Detected, Trail, comments, no_comment, Body, BodyValue, indicated, detected, without_content}
+use Rattle.yf_block_scalar.specs.Body.{SpaceLine, Bare, bare, Ends, by_break, by_text, Content, content, Line, empty_line, content_line, Lines, no_content, up_to, Taken, Trail, comments, no_comment, Body, BodyValue, indicated, detected, without_content}
 
 rows_forward : {t : List ℕ} {i j : ℕ} {x : List CommentValue} → Chain (Row t) i j x → i ≤ j
 rows_forward done = omega arith

@@ -1,11 +1,10 @@
 -- What holds between two steps of the reader: the places that it keeps lie between characters, and less of the text is
 -- left at each step.
-use Rattle.std.specs.Prelude.{◌≡◌, ℕ, ◌+◌, ◌-◌, ◌*◌, ◌≤◌, List, Option, Some, None}
+use Rattle.std.specs.Prelude.{◌≡◌, ℕ, ◌+◌, ◌-◌, ◌*◌, ◌≤◌, length, List, Option, Some, None}
 use Rattle.std.specs.Str.{IsCharBoundary}
-use Rattle.yf_lines.specs.declared.fault.Fault.{Fault}
-use Rattle.yf_flow.specs.Machine.{Place, EndingAt}
+use Rattle.yf_flow.specs.Machine.{Place}
 use Rattle.yf_flow.specs.declared.nodes.Ending.{Ending}
-use Rattle.yf_flow.specs.declared.nodes.Ending.TheVariants.{End, Nothing as NoEnd, TooDeep as TooDeepThere}
+use Rattle.yf_flow.specs.declared.nodes.Ending.TheVariants.{End}
 use Rattle.yf_block.specs.declared.frame.Progress.{Progress}
 use Rattle.yf_block.specs.declared.frame.Step.{Step}
 use Rattle.yf_block.specs.declared.frame.Step.TheVariants.{Node, Line, Resume, Done, Failed, TooDeep}
@@ -50,6 +49,12 @@ left n (Resume p) = 3 * (n - p) + 1
 left n (Done p) = 0
 left n (Failed p) = 0
 left n (TooDeep p) = 0
+
+-- a step from an offset on, after which so much is left at most
+pub record Stepped (t : List ℕ) (at more : ℕ) (p : Progress) (s : Step) : Type 0 where
+  pub progress : ProgressAt t p
+  pub ready : StepReady t at s
+  pub moves : left (length t) s ≤ 3 * (length t - at) + more
 
 -- from an offset on stand properties, or none, and after them a place
 abbrev pub HeldTo : List ℕ → ℕ → ℕ → Option Held → Type 0

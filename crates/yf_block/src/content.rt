@@ -1,9 +1,9 @@
 //! What a node has on one line: the sign of an entry, properties, a block scalar, or a flow node.
-ghost use Rattle.std.specs.Prelude.{◌+◌, ◌-◌, ◌*◌, ◌≤◌, length, IfOk};
+ghost use Rattle.std.specs.Prelude.{◌+◌, IfOk};
 ghost use Rattle.std.specs.List.{All};
 ghost use Rattle.std.specs.Str.{IsCharBoundary};
 ghost use Rattle.yf_flow.specs.Machine.{Place};
-ghost use Rattle.yf_block.specs.Machine.{StepReady, left, ProgressAt, HeldTo};
+ghost use Rattle.yf_block.specs.Machine.{Stepped, ProgressAt, HeldTo};
 
 use crate::entry::open_mapping;
 use crate::frame::{Frames, Progress, Scope, Step, Wanted};
@@ -73,9 +73,7 @@ pub(crate) fn take_content<'a>(
     requires boundary { IsCharBoundary scope.text.now spot.at }
     requires progress { ProgressAt scope.text.now progress.old }
     requires escapes { All (IsCharBoundary scope.text.now) part.old.escapes }
-    ensures progress { IfOk result (λ _. ProgressAt scope.entry.text.now progress.new) }
-    ensures ready { IfOk result (λ s. StepReady scope.entry.text.now (spot.at) s) }
-    ensures moves { IfOk result (λ s. left (length scope.entry.text.now) s ≤ 3 * (length scope.entry.text.now - spot.at)) }
+    ensures stepped { IfOk result (λ s. Stepped scope.entry.text.now (spot.at) 0 progress.new s) }
     ensures escapes { IfOk result (λ _. All (IsCharBoundary scope.entry.text.now) part.new.escapes) }
 {
     if let Some(column) = spot.column {
@@ -119,9 +117,7 @@ fn take_propertied<'a>(
     requires inner { Place scope.text.now (spot.at + 1) inner.end }
     requires progress { ProgressAt scope.text.now progress.old }
     requires escapes { All (IsCharBoundary scope.text.now) part.old.escapes }
-    ensures progress { IfOk result (λ _. ProgressAt scope.entry.text.now progress.new) }
-    ensures ready { IfOk result (λ s. StepReady scope.entry.text.now (spot.at) s) }
-    ensures moves { IfOk result (λ s. left (length scope.entry.text.now) s ≤ 3 * (length scope.entry.text.now - spot.at)) }
+    ensures stepped { IfOk result (λ s. Stepped scope.entry.text.now (spot.at) 0 progress.new s) }
     ensures escapes { IfOk result (λ _. All (IsCharBoundary scope.entry.text.now) part.new.escapes) }
 {
     let place = skip_whites(scope.text, inner.end);
@@ -161,9 +157,7 @@ fn take_behind<'a>(
     requires held { HeldTo scope.text.now behind.now.spot.at behind.now.at behind.now.inner }
     requires progress { ProgressAt scope.text.now progress.old }
     requires escapes { All (IsCharBoundary scope.text.now) part.old.escapes }
-    ensures progress { IfOk result (λ _. ProgressAt scope.entry.text.now progress.new) }
-    ensures ready { IfOk result (λ s. StepReady scope.entry.text.now (behind.now.spot.at) s) }
-    ensures moves { IfOk result (λ s. left (length scope.entry.text.now) s ≤ 3 * (length scope.entry.text.now - behind.now.spot.at)) }
+    ensures stepped { IfOk result (λ s. Stepped scope.entry.text.now (behind.now.spot.at) 0 progress.new s) }
     ensures escapes { IfOk result (λ _. All (IsCharBoundary scope.entry.text.now) part.new.escapes) }
 {
     let claim = claim_of(scope.text, behind, &progress.wanted, part);

@@ -1,8 +1,8 @@
 //! Block collections and their entries (YAML 1.2.2, section 8.2).
-ghost use Rattle.std.specs.Prelude.{◌≡◌, ◌+◌, ◌-◌, ◌*◌, ◌^◌, ◌<◌, ◌≤◌, length, IfOk};
+ghost use Rattle.std.specs.Prelude.{◌≡◌, ◌+◌, ◌^◌, ◌<◌, IfOk};
 ghost use Rattle.std.specs.List.{All};
 ghost use Rattle.std.specs.Str.{IsCharBoundary};
-ghost use Rattle.yf_block.specs.Machine.{StepReady, left, ProgressAt, IsNodeAt};
+ghost use Rattle.yf_block.specs.Machine.{Stepped, ProgressAt, IsNodeAt};
 
 use crate::frame::{Frame, Frames, Kind, Progress, Scope, Step, Wanted};
 use crate::held::{lead_of, line_properties, place_behind};
@@ -61,9 +61,7 @@ pub(crate) fn open_sequence<'a>(
     requires boundary { IsCharBoundary scope.text.now at }
     requires behind { IsCharBoundary scope.text.now (at + 1) }
     requires progress { ProgressAt scope.text.now progress.old }
-    ensures progress { IfOk result (λ _. ProgressAt scope.entry.text.now progress.new) }
-    ensures ready { IfOk result (λ s. StepReady scope.entry.text.now at s) }
-    ensures moves { IfOk result (λ s. left (length scope.entry.text.now) s ≤ 3 * (length scope.entry.text.now - at)) }
+    ensures stepped { IfOk result (λ s. Stepped scope.entry.text.now at 0 progress.new s) }
     ensures escapes { IfOk result (λ _. part.new.escapes ≡ part.old.escapes) }
 {
     let frame = Frame::new(Kind::Sequence, column, part.events.len());
@@ -85,9 +83,7 @@ pub(crate) fn take_item<'a>(
 ) -> Result<Step, AllocError>
     requires behind { IsCharBoundary text.now (at + 1) }
     requires progress { ProgressAt text.now progress.old }
-    ensures progress { IfOk result (λ _. ProgressAt text.now progress.new) }
-    ensures ready { IfOk result (λ s. StepReady text.now at s) }
-    ensures moves { IfOk result (λ s. left (length text.now) s ≤ 3 * (length text.now - at)) }
+    ensures stepped { IfOk result (λ s. Stepped text.now at 0 progress.new s) }
 {
     frames.push(frame)?;
     let entry = entry_at(text, progress.floor, at, None);
@@ -168,9 +164,7 @@ pub(crate) fn open_mapping<'a>(
     requires boundary { IsCharBoundary scope.text.now at }
     requires progress { ProgressAt scope.text.now progress.old }
     requires escapes { All (IsCharBoundary scope.text.now) part.old.escapes }
-    ensures progress { IfOk result (λ _. ProgressAt scope.entry.text.now progress.new) }
-    ensures ready { IfOk result (λ s. StepReady scope.entry.text.now at s) }
-    ensures moves { IfOk result (λ s. left (length scope.entry.text.now) s ≤ 3 * (length scope.entry.text.now - at)) }
+    ensures stepped { IfOk result (λ s. Stepped scope.entry.text.now at 0 progress.new s) }
     ensures escapes { IfOk result (λ _. All (IsCharBoundary scope.entry.text.now) part.new.escapes) }
 {
     let frame = Frame::new(Kind::Mapping, column, part.events.len());
@@ -195,9 +189,7 @@ pub(crate) fn take_entry<'a>(
     requires boundary { IsCharBoundary scope.text.now at }
     requires progress { ProgressAt scope.text.now progress.old }
     requires escapes { All (IsCharBoundary scope.text.now) part.old.escapes }
-    ensures progress { IfOk result (λ _. ProgressAt scope.entry.text.now progress.new) }
-    ensures ready { IfOk result (λ s. StepReady scope.entry.text.now at s) }
-    ensures moves { IfOk result (λ s. left (length scope.entry.text.now) s ≤ 3 * (length scope.entry.text.now - at)) }
+    ensures stepped { IfOk result (λ s. Stepped scope.entry.text.now at 0 progress.new s) }
     ensures escapes { IfOk result (λ _. All (IsCharBoundary scope.entry.text.now) part.new.escapes) }
 {
     let entry = entry_at(scope.text, progress.floor, at, None);
@@ -238,9 +230,7 @@ fn take_key<'a>(
     requires boundary { IsCharBoundary scope.text.now entry.start }
     requires progress { ProgressAt scope.text.now progress.old }
     requires escapes { All (IsCharBoundary scope.text.now) part.old.escapes }
-    ensures progress { IfOk result (λ _. ProgressAt scope.entry.text.now progress.new) }
-    ensures ready { IfOk result (λ s. StepReady scope.entry.text.now (entry.start) s) }
-    ensures moves { IfOk result (λ s. left (length scope.entry.text.now) s ≤ 3 * (length scope.entry.text.now - entry.start)) }
+    ensures stepped { IfOk result (λ s. Stepped scope.entry.text.now (entry.start) 0 progress.new s) }
     ensures escapes { IfOk result (λ _. All (IsCharBoundary scope.entry.text.now) part.new.escapes) }
 {
     let start = entry.start;

@@ -1,10 +1,10 @@
 //! What stands on a line after properties, or where there are none: a flow node or an alias, which may be the first key of
 //! a mapping.
-ghost use Rattle.std.specs.Prelude.{◌≡◌, ◌+◌, ◌-◌, ◌*◌, ◌^◌, ◌≤◌, ◌≤ℤ◌, pos, length, IfOk};
+ghost use Rattle.std.specs.Prelude.{◌≡◌, ◌+◌, ◌^◌, ◌≤◌, ◌≤ℤ◌, pos, IfOk};
 ghost use Rattle.std.specs.List.{All};
 ghost use Rattle.std.specs.Str.{IsCharBoundary};
 ghost use Rattle.yf_flow.specs.Machine.{Place, EndingAt};
-ghost use Rattle.yf_block.specs.Machine.{StepReady, left, ProgressAt, HeldBefore, behind_held, MayBoundary, IsEndAt};
+ghost use Rattle.yf_block.specs.Machine.{Stepped, ProgressAt, HeldBefore, behind_held, MayBoundary, IsEndAt};
 
 use crate::content::{Behind, Claim, Share};
 use crate::entry::{await_value, collection_start, entry_at};
@@ -101,7 +101,6 @@ pub(crate) fn flow_indentation(least: usize) -> i32
 }
 
 /// After a flow node on its line: it is the first key of a mapping, or the end of the line follows.
-#[inline(never)]
 pub(crate) fn finish_inline<'a>(
     alloc: Global,
     scope: Scope<'a>,
@@ -118,9 +117,7 @@ pub(crate) fn finish_inline<'a>(
     requires held { HeldBefore scope.text.now behind.now.at behind.now.inner }
     requires progress { ProgressAt scope.text.now progress.old }
     requires escapes { All (IsCharBoundary scope.text.now) part.old.escapes }
-    ensures progress { IfOk result (λ _. ProgressAt scope.entry.text.now progress.new) }
-    ensures ready { IfOk result (λ s. StepReady scope.entry.text.now (behind.now.spot.at) s) }
-    ensures moves { IfOk result (λ s. left (length scope.entry.text.now) s ≤ 3 * (length scope.entry.text.now - behind.now.spot.at)) }
+    ensures stepped { IfOk result (λ s. Stepped scope.entry.text.now (behind.now.spot.at) 0 progress.new s) }
     ensures escapes { IfOk result (λ _. All (IsCharBoundary scope.entry.text.now) part.new.escapes) }
 {
     let text = scope.text;
@@ -187,9 +184,7 @@ fn end_inline<'a>(
     requires boundary { IsCharBoundary text.now at }
     requires plain { MayBoundary text.now plain }
     requires progress { ProgressAt text.now progress.old }
-    ensures progress { IfOk result (λ _. ProgressAt text.now progress.new) }
-    ensures ready { IfOk result (λ s. StepReady text.now at s) }
-    ensures moves { IfOk result (λ s. left (length text.now) s ≤ 3 * (length text.now - at) + 1) }
+    ensures stepped { IfOk result (λ s. Stepped text.now at 1 progress.new s) }
     ensures escapes { IfOk result (λ _. part.new.escapes ≡ part.old.escapes) }
 {
     match read_line_end(alloc, text, at)? {

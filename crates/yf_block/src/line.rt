@@ -1,9 +1,9 @@
 //! Nodes where they are awaited: after an indicator, or at the start of a line (s-l+block-node, production 196).
-ghost use Rattle.std.specs.Prelude.{◌≡◌, ◌+◌, ◌-◌, ◌*◌, ◌<◌, ◌≤◌, length, IfOk};
+ghost use Rattle.std.specs.Prelude.{◌≡◌, ◌≤◌, IfOk};
 ghost use Rattle.std.specs.List.{All};
 ghost use Rattle.std.specs.Str.{IsCharBoundary};
 ghost use Rattle.yf_flow.specs.Machine.{Place};
-ghost use Rattle.yf_block.specs.Machine.{StepReady, left, ProgressAt};
+ghost use Rattle.yf_block.specs.Machine.{Stepped, ProgressAt};
 
 use crate::content::{Spot, take_content};
 use crate::entry::open_sequence;
@@ -29,9 +29,7 @@ pub(crate) fn first_line<'a>(
 ) -> Result<Step, AllocError>
     requires boundary { IsCharBoundary text.now at }
     requires progress { ProgressAt text.now progress.old }
-    ensures progress { IfOk result (λ _. ProgressAt text.now progress.new) }
-    ensures ready { IfOk result (λ s. StepReady text.now at s) }
-    ensures moves { IfOk result (λ s. left (length text.now) s ≤ 3 * (length text.now - at) + 2) }
+    ensures stepped { IfOk result (λ s. Stepped text.now at 2 progress.new s) }
     ensures escapes { IfOk result (λ _. part.new.escapes ≡ part.old.escapes) }
 {
     let step = end_line(alloc, text, at, progress, part)?;
@@ -51,9 +49,7 @@ pub(crate) fn end_line<'a>(
 ) -> Result<Step, AllocError>
     requires boundary { IsCharBoundary text.now at }
     requires progress { ProgressAt text.now progress.old }
-    ensures progress { IfOk result (λ _. ProgressAt text.now progress.new) }
-    ensures ready { IfOk result (λ s. StepReady text.now at s) }
-    ensures moves { IfOk result (λ s. left (length text.now) s ≤ 3 * (length text.now - at) + 2) }
+    ensures stepped { IfOk result (λ s. Stepped text.now at 2 progress.new s) }
     ensures escapes { IfOk result (λ _. part.new.escapes ≡ part.old.escapes) }
 {
     match read_line_end(alloc, text, at)? {
@@ -79,9 +75,7 @@ pub(crate) fn take_node<'a>(
     requires boundary { IsCharBoundary scope.text.now at }
     requires progress { ProgressAt scope.text.now progress.old }
     requires escapes { All (IsCharBoundary scope.text.now) part.old.escapes }
-    ensures progress { IfOk result (λ _. ProgressAt scope.entry.text.now progress.new) }
-    ensures ready { IfOk result (λ s. StepReady scope.entry.text.now at s) }
-    ensures moves { IfOk result (λ s. left (length scope.entry.text.now) s < 3 * (length scope.entry.text.now - at) + 3) }
+    ensures stepped { IfOk result (λ s. Stepped scope.entry.text.now at 2 progress.new s) }
     ensures escapes { IfOk result (λ _. All (IsCharBoundary scope.entry.text.now) part.new.escapes) }
 {
     let text = scope.text;
@@ -129,9 +123,7 @@ pub(crate) fn take_line<'a>(
     requires boundary { IsCharBoundary scope.text.now at }
     requires progress { ProgressAt scope.text.now progress.old }
     requires escapes { All (IsCharBoundary scope.text.now) part.old.escapes }
-    ensures progress { IfOk result (λ _. ProgressAt scope.entry.text.now progress.new) }
-    ensures ready { IfOk result (λ s. StepReady scope.entry.text.now at s) }
-    ensures moves { IfOk result (λ s. left (length scope.entry.text.now) s < 3 * (length scope.entry.text.now - at) + 2) }
+    ensures stepped { IfOk result (λ s. Stepped scope.entry.text.now at 1 progress.new s) }
     ensures escapes { IfOk result (λ _. All (IsCharBoundary scope.entry.text.now) part.new.escapes) }
 {
     let text = scope.text;
@@ -174,9 +166,7 @@ fn take_indented<'a>(
     requires place { Place scope.text.now at start }
     requires progress { ProgressAt scope.text.now progress.old }
     requires escapes { All (IsCharBoundary scope.text.now) part.old.escapes }
-    ensures progress { IfOk result (λ _. ProgressAt scope.entry.text.now progress.new) }
-    ensures ready { IfOk result (λ s. StepReady scope.entry.text.now at s) }
-    ensures moves { IfOk result (λ s. left (length scope.entry.text.now) s < 3 * (length scope.entry.text.now - at) + 2) }
+    ensures stepped { IfOk result (λ s. Stepped scope.entry.text.now at 1 progress.new s) }
     ensures escapes { IfOk result (λ _. All (IsCharBoundary scope.entry.text.now) part.new.escapes) }
 {
     let width = start - at;

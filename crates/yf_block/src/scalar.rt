@@ -1,9 +1,9 @@
 //! Block scalars as nodes (YAML 1.2.2, section 8.1).
-ghost use Rattle.std.specs.Prelude.{◌≡◌, ◌+◌, ◌-◌, ◌*◌, ◌<◌, ◌≤◌, length, IfOk, IfSome};
+ghost use Rattle.std.specs.Prelude.{◌≡◌, IfOk};
 ghost use Rattle.std.specs.Str.{IsCharBoundary};
 ghost use Rattle.yf_lines.specs.Basic.{LineStart};
 ghost use Rattle.yf_flow.specs.Machine.{Place};
-ghost use Rattle.yf_block.specs.Machine.{StepReady, left, ProgressAt};
+ghost use Rattle.yf_block.specs.Machine.{Stepped, ProgressAt};
 
 use crate::frame::{Frames, Progress, Scope, Step};
 use crate::halt::note_node;
@@ -34,9 +34,7 @@ pub(crate) fn take_block_scalar<'a>(
 ) -> Result<Step, AllocError>
     requires boundary { IsCharBoundary scope.text.now at }
     requires progress { ProgressAt scope.text.now progress.old }
-    ensures progress { IfOk result (λ _. ProgressAt scope.entry.text.now progress.new) }
-    ensures ready { IfOk result (λ s. StepReady scope.entry.text.now at s) }
-    ensures moves { IfOk result (λ s. left (length scope.entry.text.now) s ≤ 3 * (length scope.entry.text.now - at)) }
+    ensures stepped { IfOk result (λ s. Stepped scope.entry.text.now at 0 progress.new s) }
     ensures escapes { IfOk result (λ _. part.new.escapes ≡ part.old.escapes) }
 {
     match read_header(scope.text, at) {
@@ -75,9 +73,7 @@ fn take_body<'a>(
     requires boundary { IsCharBoundary text.now at }
     requires next { Place text.now at block.next }
     requires progress { ProgressAt text.now progress.old }
-    ensures progress { IfOk result (λ _. ProgressAt text.now progress.new) }
-    ensures ready { IfOk result (λ s. StepReady text.now at s) }
-    ensures moves { IfOk result (λ s. left (length text.now) s ≤ 3 * (length text.now - at) + 1) }
+    ensures stepped { IfOk result (λ s. Stepped text.now at 1 progress.new s) }
     ensures escapes { IfOk result (λ _. part.new.escapes ≡ part.old.escapes) }
 {
     let finish = skip_lines(text, at, reach(&block));

@@ -1,4 +1,4 @@
-use Rattle.std.proofs.Common.{ℕ, ◌≤◌, length}
+use Rattle.std.proofs.Common.{◌≤◌, length}
 use Rattle.yf_block.proofs.halt.awaits_colon_at.Given as goal
 
 abbrev pub decreases-frames : goal.decreases-frames

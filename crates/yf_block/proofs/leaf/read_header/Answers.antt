@@ -1,4 +1,4 @@
-use Rattle.std.proofs.Common.{◌+◌, ◌≤◌, arith}
+use Rattle.std.proofs.Common.{arith}
 use Rattle.yf_block.proofs.Forward.{header_forward, header_starts}
 use Rattle.yf_block.proofs.leaf.read_header.Goals as goal
 

@@ -1,4 +1,4 @@
-use Rattle.std.proofs.Common.{◌+◌, ◌≤◌, arith}
+use Rattle.std.proofs.Common.{arith}
 use Rattle.yf_flow.proofs.Forward.{properties_forward}
 use Rattle.yf_block.proofs.leaf.read_properties.Goals as goal
 

@@ -1,4 +1,4 @@
-use Rattle.std.proofs.Common.{ℕ, ◌-◌, length, IfSome}
+use Rattle.std.proofs.Common.{◌-◌, length, IfSome}
 use Rattle.std.specs.Str.{IsCharBoundary}
 use Rattle.yf_block.proofs.look.last_line_start.Given as goal
 
