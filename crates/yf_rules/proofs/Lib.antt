@@ -13,6 +13,9 @@ pub mod NotedLemmas
 pub mod BlockLemmas
 pub mod TrailingLemmas
 pub mod BlankLemmas
+pub mod KeyTreeLemmas
+pub mod KeySetLemmas
+pub mod KeyPassLemmas
 pub mod StyleLemmas
 pub mod ShownMarks
 mod ShownKeys

@@ -1,7 +1,7 @@
 -- A repeated key of a small reading.
 use Rattle.std.proofs.Common.{ℕ, List, [], ◌∷◌, Option, Some, None, codes, false, arith, refl}
 use Rattle.yf_props.specs.Props.{no_props}
-use Rattle.yf_events.specs.Tree.{Standing, Node, scalar, mapping, no_pairs, pair, DocumentTree, flat_stream}
+use Rattle.yf_events.specs.Tree.{Standing, Node, scalar, mapping, no_pairs, pair, DocumentTree, TreesOf, flat_stream}
 use Rattle.yf_events.specs.declared.event.Entry.{Entry}
 use Rattle.yf_events.specs.declared.event.ScalarStyle.TheVariants.{Plain, Double}
 use Rattle.yf_events.specs.declared.lists.Lists.{Lists}
@@ -44,15 +44,18 @@ reading = record {
   escapes = [];
 }
 
-repeated_text : RepeatedKey reading 5 5
+trees_of : TreesOf reading trees
+trees_of = record { events = refl; documents = refl }
+
+repeated_text : RepeatedKey reading trees 5 5
 repeated_text =
-    repeats {trees = trees} {x = (2, root)} {k = (5, quoted (at 5 8 (entry 5 8)) (codes "a"))} {v = (6, word (at 10 11 None) (codes "2"))}
+    repeats {x = (2, root)} {k = (5, quoted (at 5 8 (entry 5 8)) (codes "a"))} {v = (6, word (at 10 11 None) (codes "2"))}
     {l = (3, word (at 0 1 (entry 0 1)) (codes "a"))} {w = (4, word (at 3 4 None) (codes "1"))} {text = codes "a"}
-    (record { events = refl; documents = refl }) (is_root (0, omega arith, refl)) (1, omega arith, refl) (0, omega arith, refl) (omega arith) refl refl refl refl
+    (is_root (0, omega arith, refl)) (1, omega arith, refl) (0, omega arith, refl) (omega arith) refl refl refl refl
 
 -- it stands at its `:`
-repeated_nothing : RepeatedKey reading 9 16
+repeated_nothing : RepeatedKey reading trees 9 16
 repeated_nothing =
-    repeats {trees = trees} {x = (2, root)} {k = (9, nothing (entry 16 16))} {v = (10, word (at 18 19 None) (codes "4"))}
+    repeats {x = (2, root)} {k = (9, nothing (entry 16 16))} {v = (10, word (at 18 19 None) (codes "4"))}
     {l = (7, nothing (entry 12 12))} {w = (8, word (at 14 15 None) (codes "3"))} {text = []}
-    (record { events = refl; documents = refl }) (is_root (0, omega arith, refl)) (3, omega arith, refl) (2, omega arith, refl) (omega arith) refl refl refl refl
+    (is_root (0, omega arith, refl)) (3, omega arith, refl) (2, omega arith, refl) (omega arith) refl refl refl refl

@@ -10,6 +10,7 @@ pub mod Documents
 pub mod BlankLines
 pub mod BlankNotes
 pub mod Nodes
+pub mod KeyPass
 pub mod Laws
 pub mod Layouts
 pub mod Sets

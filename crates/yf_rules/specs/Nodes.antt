@@ -1,5 +1,5 @@
--- The sets of places of two rules that ask how nodes stand in one another. The code of these rules is held to them by tests alone. An
--- index counts events from 0.
+-- The sets of places of two rules that ask how nodes stand in one another, in the trees of a reading. The code of the rule indentation
+-- is held to its set by tests alone. An index counts events from 0.
 use Rattle.std.specs.Prelude.{◌≡◌, ◌≢◌, ℕ, ◌+◌, ◌<◌, true, false, List, [], ◌∷◌, length, slice_get, Option, Some, None}
 use Rattle.std.specs.List.{Contains}
 use Rattle.yf_chars.specs.Class.{is_white_or_end}
@@ -83,11 +83,10 @@ scalar_text (scalar at props style text lines) = Some text
 scalar_text _ = None
 
 -- repeated-keys: a scalar key whose text and resolved tag are those of an earlier scalar key of its mapping
-pub data RepeatedKey (r : Lists) (i : ℕ) : ℕ → Type 0 where
-  repeats : {trees : List DocumentTree} {x k v l w : Numbered} {text : List ℕ} → TreesOf r trees → StandsIn trees x
-      → Contains (pairs_of x.0 x.1) (k, v) → Contains (pairs_of x.0 x.1) (l, w) → l.0 < k.0 → k.0 ≡ i
+pub data RepeatedKey (r : Lists) (trees : List DocumentTree) (i : ℕ) : ℕ → Type 0 where
+  repeats : {x k v l w : Numbered} {text : List ℕ} → StandsIn trees x → Contains (pairs_of x.0 x.1) (k, v) → Contains (pairs_of x.0 x.1) (l, w) → l.0 < k.0 → k.0 ≡ i
       → scalar_text k.1 ≡ Some text → scalar_text l.1 ≡ Some text → slice_get r.resolved k.0 ≡ slice_get r.resolved l.0
-      → RepeatedKey r i (key_place k.1)
+      → RepeatedKey r trees i (key_place k.1)
 
 -- Indentation.
 

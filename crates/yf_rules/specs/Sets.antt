@@ -5,12 +5,14 @@ use Rattle.yf_chars.specs.Text.{code}
 use Rattle.yf_lines.specs.Basic.{Break}
 use Rattle.yf_lines.specs.declared.line.Line.{Line}
 use Rattle.yf_lines.specs.Lines.{Table}
+use Rattle.yf_events.specs.Tree.{DocumentTree, TreesOf}
 use Rattle.yf_events.specs.declared.lists.Lists.{Lists}
 use Rattle.yf_emit.specs.declared.style.Style.{Style}
 use Rattle.yf_rules.specs.BlankLines.{MisplacedBlank}
 use Rattle.yf_rules.specs.ByLine.{BeyondLimit, TrailingBlank}
 use Rattle.yf_rules.specs.Documents.{NoMarkerLine}
 use Rattle.yf_rules.specs.Exact.{Exactly}
+use Rattle.yf_rules.specs.Nodes.{RepeatedKey}
 use Rattle.yf_rules.specs.Scalars.{LooseMark}
 use Rattle.yf_rules.specs.Styles.{Misquoted}
 use Rattle.yf_rules.specs.Whites.{CloseComment}
@@ -33,8 +35,7 @@ abbrev pub line_breaks_at : Table → Lists → Style → List ℕ → Type 0
 line_breaks_at src reading style offsets = offsets ≡ first_return src.text src.lines
 
 -- of some rules no set is told here: that their places lie in the text is all that their contracts say. The sets of indentation
--- (`Misindented`), flow-layout (`Displaced`), repeated-keys (`RepeatedKey`) and key-mark (`NeedlessMark`) are defined, and the
--- rules held to them by tests alone
+-- (`Misindented`), flow-layout (`Displaced`) and key-mark (`NeedlessMark`) are defined, and the rules held to them by tests alone
 abbrev pub AnyOffsets : List ℕ → Type 0
 AnyOffsets offsets = Unit {0}
 
@@ -65,8 +66,9 @@ comment_space_at src reading style offsets = Exactly (CloseComment src.text read
 abbrev pub line_length_at : Table → Lists → Style → List ℕ → Type 0
 line_length_at src reading style offsets = Exactly (BeyondLimit src style.max_line) offsets
 
+-- of a reading with trees, which it has exactly where it is well placed
 abbrev pub repeated_keys_at : Table → Lists → Style → List ℕ → Type 0
-repeated_keys_at src reading style offsets = AnyOffsets offsets
+repeated_keys_at src reading style offsets = (trees : List DocumentTree) → TreesOf reading trees → Exactly (RepeatedKey reading trees) offsets
 
 abbrev pub key_mark_at : Table → Lists → Style → List ℕ → Type 0
 key_mark_at src reading style offsets = AnyOffsets offsets

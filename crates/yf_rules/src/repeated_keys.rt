@@ -1,5 +1,9 @@
 //! Rule 12, repeated-keys.
-ghost use Rattle.std.specs.Prelude.{◌<◌, length};
+ghost use Rattle.std.specs.Prelude.{◌≡◌, ◌<◌, ◌∷◌, ◌&&◌, List, Some, None, length, reverse, slice_get, IfOk};
+ghost use Rattle.yf_events.specs.Event.{EventValue, Placed};
+ghost use Rattle.yf_events.specs.Reading.{events_of};
+ghost use Rattle.yf_rules.specs.KeyPass.{AreLevels, IsLevel, Opened, after, event_place, has_key, is_repeat, key_value, new_level, next, past_key, repeats_in, takes_key, without_first};
+ghost use Rattle.yf_rules.specs.Sets.{repeated_keys_at};
 
 use crate::rule::{Rule, placed};
 use std::alloc::{AllocError, Global};
@@ -71,49 +75,74 @@ struct Level<'r> {
     keys: BTreeSet<Key<'r>>,
 }
 
-/// Goes past a node of the collection: whether it is a key.
-fn pass_node(level: &mut Level) -> bool {
-    if !level.is_map {
-        return false;
-    }
-    let is_key = !level.at_value;
-    level.at_value = is_key;
-    is_key
+/// A collection after a node in it that is no scalar.
+fn past<'r>(level: Level<'r>) -> Level<'r>
+    ensures { (l : Opened) → IsLevel level.entry l → IsLevel result (past_key None l) }
+{
+    let mut past = level;
+    past.at_value = !past.at_value;
+    past
 }
 
-/// Goes past a node of the innermost collection that is open.
-fn pass_in(stack: &mut Vec<Level>) {
-    match stack.last_mut() {
-        Some(level) => {
-            let _ = pass_node(level);
-        }
+/// A collection after a scalar in it, and whether the scalar is a key that the collection has already.
+fn past_scalar<'r>(mut level: Level<'r>, scalar: Key<'r>) -> Result<(Level<'r>, bool), AllocError>
+    ensures { IfOk result (λ p. (l : Opened) → IsLevel level.entry l → IsLevel p.0 (past_key (Some (key_value scalar.entry)) l) × (p.1 ≡ (takes_key l && has_key (key_value scalar.entry) l.keys))) }
+{
+    let takes_key = level.is_map && !level.at_value;
+    level.at_value = !level.at_value;
+    if takes_key {
+        let is_new = level.keys.insert(scalar)?;
+        return Ok((level, !is_new));
+    }
+    Ok((level, false))
+}
+
+/// Goes past a node that is no scalar, in the innermost collection that is open.
+fn pass_node(stack: &mut Vec<Level>) -> Result<(), AllocError>
+    ensures { IfOk result (λ _. (st : List Opened) → AreLevels (reverse stack.old.items) st → AreLevels (reverse stack.new.items) (after None st)) }
+{
+    match stack.pop() {
+        Some(level) => stack.push(past(level))?,
         None => {}
     }
+    Ok(())
 }
 
 /// Goes past a scalar: whether it is a key that its mapping has already.
-fn pass_scalar<'r>(stack: &mut Vec<Level<'r>>, scalar: Key<'r>) -> Result<bool, AllocError> {
-    match stack.last_mut() {
+fn pass_scalar<'r>(stack: &mut Vec<Level<'r>>, scalar: Key<'r>) -> Result<bool, AllocError>
+    ensures { IfOk result (λ hit. (st : List Opened) → AreLevels (reverse stack.old.items) st → AreLevels (reverse stack.new.items) (after (Some (key_value scalar.entry)) st) × (hit ≡ repeats_in (key_value scalar.entry) st)) }
+{
+    match stack.pop() {
         Some(level) => {
-            if pass_node(level) {
-                let is_new = level.keys.insert(scalar)?;
-                return Ok(!is_new);
-            }
-            Ok(false)
+            let (level, is_known) = past_scalar(level, scalar)?;
+            stack.push(level)?;
+            Ok(is_known)
         }
         None => Ok(false),
     }
 }
 
 /// Goes past the start of a collection.
-fn open(alloc: Global, stack: &mut Vec<Level>, is_map: bool) -> Result<(), AllocError> {
-    pass_in(stack);
+fn pass_start(alloc: Global, stack: &mut Vec<Level>, is_map: bool) -> Result<(), AllocError>
+    ensures { IfOk result (λ _. (st : List Opened) → AreLevels (reverse stack.old.items) st → AreLevels (reverse stack.new.items) (new_level is_map ∷ after None st)) }
+{
+    pass_node(stack)?;
     stack.push(Level {
         is_map,
         at_value: false,
         keys: BTreeSet::new(alloc),
     })?;
     Ok(())
+}
+
+/// Goes past the end of a collection.
+fn pass_end(stack: &mut Vec<Level>)
+    ensures { (st : List Opened) → AreLevels (reverse stack.old.items) st → AreLevels (reverse stack.new.items) (without_first st) }
+{
+    match stack.pop() {
+        Some(_) => return,
+        None => {}
+    }
 }
 
 /// Goes past one event: whether it is a scalar key that its mapping has already.
@@ -124,6 +153,7 @@ fn pass<'r>(
     i: usize,
 ) -> Result<bool, AllocError>
     requires { i < length reading.now.events }
+    ensures { IfOk result (λ hit. (st : List Opened) (e : EventValue) → slice_get (events_of reading.now) i ≡ Some e → AreLevels (reverse stack.old.items) st → AreLevels (reverse stack.new.items) (next e (slice_get reading.now.resolved i) st) × (hit ≡ is_repeat e (slice_get reading.now.resolved i) st)) }
 {
     match reading.event(i) {
         Event::Scalar { text, .. } => {
@@ -131,19 +161,19 @@ fn pass<'r>(
             pass_scalar(stack, Key { text, tag })
         }
         Event::Alias { .. } => {
-            pass_in(stack);
+            pass_node(stack)?;
             Ok(false)
         }
         Event::SeqStart { .. } => {
-            open(alloc, stack, false)?;
+            pass_start(alloc, stack, false)?;
             Ok(false)
         }
         Event::MapStart { .. } => {
-            open(alloc, stack, true)?;
+            pass_start(alloc, stack, true)?;
             Ok(false)
         }
         Event::SeqEnd | Event::MapEnd => {
-            let _ = stack.pop();
+            pass_end(stack);
             Ok(false)
         }
         Event::StreamStart | Event::StreamEnd | Event::DocStart { .. } | Event::DocEnd { .. } => {
@@ -155,6 +185,7 @@ fn pass<'r>(
 /// Where a key stands: at its first character, an empty one at its `:`, or at its `?` where its entry has none.
 fn key_offset(reading: &Reading, i: usize) -> usize
     requires { i < length reading.now.events }
+    ensures { (e : Placed) → slice_get reading.now.events i ≡ Some e → result ≡ event_place e }
 {
     if let Some(span) = reading.span(i) {
         return span.start;
@@ -170,10 +201,12 @@ fn key_offset(reading: &Reading, i: usize) -> usize
 
 fn offsets(
     alloc: Global,
-    _src: &Src,
+    src: &Src,
     reading: &Reading,
-    _style: &Style,
-) -> Result<Vec<usize>, AllocError> {
+    style: &Style,
+) -> Result<Vec<usize>, AllocError>
+    ensures { IfOk result (λ offsets. repeated_keys_at src.now reading.now style.now offsets.items) }
+{
     let mut stack = Vec::new(alloc);
     let mut offsets = Vec::new(alloc);
     for i in 0..reading.len() {

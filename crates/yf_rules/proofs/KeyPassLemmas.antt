@@ -1,0 +1,105 @@
+-- Laws of the pass that finds repeated keys.
+use Rattle.std.proofs.Common.{◌≡◌, ℕ, ◌+◌, ◌<◌, ◌≤◌, Bool, true, false, List, [], ◌∷◌, ◌++◌, Some, None, length, drop, get_or, reverse, add-one, refl, sym, subst, ap, ◌∙◌, append_assoc, ⊎_elim, arith}
+use Rattle.std.specs.Prelude.{slice_get, option_map, ◌&&◌, Option}
+use Rattle.std.proofs.lemmas.List.{append-nil, drop_all, reverse-append}
+use Rattle.std.proofs.lemmas.Option.{slice_get_cases, slice_get_within, slice_get-map, get_or_from_slice_get}
+use Rattle.std.proofs.Math.Seq.{drop-cons}
+use Rattle.yf_events.specs.Event.{Placed}
+use Rattle.yf_events.specs.Reading.{events_of}
+use Rattle.yf_events.specs.Tree.{DocumentTree, TreesOf}
+use Rattle.yf_events.specs.declared.lists.Lists.{Lists}
+use Rattle.yf_rules.specs.Exact.{Exactly}
+use Rattle.yf_rules.specs.KeyPass.{AreLevels, IsLevel, KeyValue, Opened, after, event_place, has_key, is_repeat, new_level, next, offset_if, past_key, repeats_in, run, takes_key, without_first}
+use Rattle.yf_rules.specs.KeyPass.AreLevels.{no_levels, one_level}
+use Rattle.yf_rules.specs.Nodes.{RepeatedKey}
+use Rattle.yf_rules.specs.declared.repeated_keys.Level.{Level}
+use Rattle.yf_rules.proofs.KeySetLemmas.{exactly_repeated}
+use Rattle.yf_rules.proofs.KeyTreeLemmas.{run_stream}
+
+-- the innermost level
+record First (a : Level) (more : List Level) (st : List Opened) : Type 0 where
+  l : Opened
+  ls : List Opened
+  is : st ≡ l ∷ ls
+  level : IsLevel a l
+  levels : AreLevels more ls
+
+head_same : {a b : Level} {xs ys : List Level} → a ∷ xs ≡ b ∷ ys → a ≡ b
+head_same e = cc
+
+tail_same : {a b : Level} {xs ys : List Level} → a ∷ xs ≡ b ∷ ys → xs ≡ ys
+tail_same e = cc
+
+nil_cons : {b : Level} {ys : List Level} → [] ≡ b ∷ ys → ⊥
+nil_cons e = cc
+
+first_level : {xs : List Level} {st : List Opened} (a : Level) (more : List Level) → xs ≡ a ∷ more → AreLevels xs st → First a more st
+first_level a more e no_levels = absurd (nil_cons e)
+first_level a more e (one_level {l = l} {ls = ls} p q) = record {
+  l = l;
+  ls = ls;
+  is = refl;
+  level = subst (λ x. IsLevel x l) (head_same e) p;
+  levels = subst (λ xs. AreLevels xs ls) (tail_same e) q;
+}
+
+reverse_push : (xs : List Level) (x : Level) → reverse (xs ++ x ∷ []) ≡ x ∷ reverse xs
+reverse_push xs x = reverse-append xs (x ∷ [])
+
+module _ (old rest new : List Level) (a b : Level) (p : old ≡ rest ++ a ∷ []) (q : new ≡ rest ++ b ∷ []) where
+  pub node_passed : (w : Option KeyValue) → ((l : Opened) → IsLevel a l → IsLevel b (past_key w l)) → (st : List Opened) → AreLevels (reverse old) st
+      → AreLevels (reverse new) (after w st)
+  node_passed w g st h =
+      let f = first_level a (reverse rest) (ap reverse p ∙ reverse_push rest a) h in
+      subst (λ s. AreLevels (reverse new) (after w s)) (sym f.is)
+      (subst (λ xs. AreLevels xs (past_key w f.l ∷ f.ls)) (sym (ap reverse q ∙ reverse_push rest b)) (one_level (g f.l f.level) f.levels))
+
+  pub scalar_passed : (w : KeyValue) (hit : Bool) → ((l : Opened) → IsLevel a l → IsLevel b (past_key (Some w) l) × (hit ≡ (takes_key l && has_key w l.keys)))
+      → (st : List Opened) → AreLevels (reverse old) st → AreLevels (reverse new) (after (Some w) st) × (hit ≡ repeats_in w st)
+  scalar_passed w hit g st h =
+      let f = first_level a (reverse rest) (ap reverse p ∙ reverse_push rest a) h in
+      (node_passed (Some w) (λ l k. (g l k).0) st h, (g f.l f.level).1 ∙ ap (λ s. repeats_in w s) (sym f.is))
+
+pub end_passed : (old rest : List Level) (a : Level) → old ≡ rest ++ a ∷ [] → (st : List Opened) → AreLevels (reverse old) st → AreLevels (reverse rest) (without_first st)
+end_passed old rest a p st h =
+    let f = first_level a (reverse rest) (ap reverse p ∙ reverse_push rest a) h in
+    subst (λ s. AreLevels (reverse rest) (without_first s)) (sym f.is) f.levels
+
+pub start_passed : (mid new : List Level) (a : Level) (is_map : Bool) (st : List Opened) → new ≡ mid ++ a ∷ [] → IsLevel a (new_level is_map) → AreLevels (reverse mid) st
+    → AreLevels (reverse new) (new_level is_map ∷ st)
+start_passed mid new a is_map st q i h = subst (λ xs. AreLevels xs (new_level is_map ∷ st)) (sym (ap reverse q ∙ reverse_push mid a)) (one_level i h)
+
+-- one event more
+pub event_at : (r : Lists) (i : ℕ) → i < length r.events → (x : Placed) × (slice_get r.events i ≡ Some x) × (slice_get (events_of r) i ≡ Some x.event)
+event_at r i h = ⊎_elim
+    (λ (w : (x : Placed) × (i < length r.events) × (slice_get r.events i ≡ Some x) × (get_or r.events i x ≡ x)).
+    (w.0, w.2, slice_get-map (λ e. e.event) r.events i ∙ ap (option_map (λ (e : Placed). e.event)) w.2))
+    (λ (w : (length r.events ≤ i) × (slice_get r.events i ≡ None)). absurd (omega (arith, w.0, h)))
+    (slice_get_cases r.events i).1
+
+pub pass_step : (tags : List (Option (List ℕ))) (es : List Placed) (i : ℕ) (x : Placed) (st : List Opened) (os new all : List ℕ) (hit : Bool) → slice_get es i ≡ Some x
+    → os ++ run tags i st (drop i es) ≡ all → hit ≡ is_repeat x.event (slice_get tags i) st → new ≡ os ++ offset_if hit (event_place x)
+    → new ++ run tags (i + 1) (next x.event (slice_get tags i) st) (drop (i + 1) es) ≡ all
+pass_step tags es i x st os new all hit e inv h q =
+    let d : drop i es ≡ x ∷ drop (i + 1) es =
+    subst (λ k. drop i es ≡ get_or es i x ∷ drop k es) (sym (add-one i)) (drop-cons es i x (slice_get_within es i x e)) ∙ ap (λ m. m ∷ drop (i + 1) es) (get_or_from_slice_get es i x x e) in
+    let rest = run tags (i + 1) (next x.event (slice_get tags i) st) (drop (i + 1) es) in
+    ap (λ w. w ++ rest) q ∙ append_assoc os (offset_if hit (event_place x)) rest ∙ ap (λ b. os ++ (offset_if b (event_place x) ++ rest)) h
+    ∙ ap (λ w. os ++ run tags i st w) (sym d) ∙ inv
+
+pub hit_found : (hit : Bool) (p o : ℕ) (os new : List ℕ) → hit ≡ true → o ≡ p → new ≡ os ++ o ∷ [] → new ≡ os ++ offset_if hit p
+hit_found true p o os new e f q = q ∙ ap (λ x. os ++ x ∷ []) f
+hit_found false p o os new e f q = absurd (false_true e) where
+  false_true : false ≡ true → ⊥
+  false_true e = cc
+
+pub no_hit_found : (hit : Bool) (p : ℕ) (os new : List ℕ) → hit ≡ false → new ≡ os → new ≡ os ++ offset_if hit p
+no_hit_found false p os new e q = q ∙ sym (append-nil os)
+no_hit_found true p os new e q = absurd (true_false e) where
+  true_false : true ≡ false → ⊥
+  true_false e = cc
+
+pub pass_done : (r : Lists) (i : ℕ) (st : List Opened) (os : List ℕ) → length r.events ≤ i → os ++ run r.resolved i st (drop i r.events) ≡ run r.resolved 0 [] r.events
+    → (trees : List DocumentTree) → TreesOf r trees → Exactly (RepeatedKey r trees) os
+pass_done r i st os h inv trees t = exactly_repeated r trees os
+    (sym (append-nil os) ∙ ap (λ es. os ++ run r.resolved i st es) (sym (drop_all i r.events h)) ∙ inv ∙ ap (run r.resolved 0 []) t.events ∙ run_stream trees r.resolved)
