@@ -14,6 +14,7 @@ pub mod FlagLemmas
 pub mod FormLemmas
 pub mod GapLemmas
 pub mod IndexLemmas
+pub mod JoinLemmas
 pub mod KeptLemmas
 pub mod LeafLemmas
 pub mod LevelLemmas
@@ -31,6 +32,7 @@ mod ShownComments
 mod ShownDecos
 mod ShownKeys
 mod ShownNodes
+pub mod SignLemmas
 pub mod SiteLemmas
 pub mod StepLemmas
 pub mod StreamLemmas
