@@ -5,10 +5,13 @@ use Rattle.std.proofs.lemmas.List.{length-drop}
 use Rattle.std.proofs.lemmas.Grind.{flat_map-append}
 use Rattle.yf_comments.specs.Comment.{CommentValue}
 use Rattle.yf_events.specs.declared.event.Span.{Span}
-use Rattle.yf_emit.specs.Decorated.{ending_behind}
-use Rattle.yf_emit.specs.Drafts.{Draft, Remarks, all_met, all_passed, between, blank_text, closed, count_to, finished, fresh, met_lines, opened, own_line, own_line_if, own_lines, past, with_blank, with_line}
-use Rattle.yf_emit.specs.Layout.{Source, Line, behind_two_spaces, bytes_behind, comment_line, ended, first_comment, line_bytes, lines_of, may_be_blank_behind, precedes_item, row_line, trailing, trailing_leaf, trimmed}
-use Rattle.yf_emit.specs.Rows.{Row, Ending, anywhere}
+use Rattle.yf_events.specs.Tree.{DocumentTree}
+use Rattle.yf_events.specs.declared.lists.Lists.{Lists}
+use Rattle.yf_emit.specs.declared.style.Style.{Style}
+use Rattle.yf_emit.specs.Decorated.{ending_behind, rows_of}
+use Rattle.yf_emit.specs.Drafts.{all_met, all_passed, between, blank_text, closed, count_to, Draft, finished, fresh, met_lines, no_draft, opened, own_line, own_line_if, own_lines, past, remarks, Remarks, with_blank, with_line}
+use Rattle.yf_emit.specs.Layout.{behind_two_spaces, bytes_behind, comment_line, ended, first_comment, layout, Line, line_bytes, lines_of, may_be_blank_behind, own_line_comments, precedes_item, row_line, Source, source_of, trailing, trailing_leaf, trimmed}
+use Rattle.yf_emit.specs.Rows.{Row, Ending, anywhere, at_text_start}
 use Rattle.yf_emit.proofs.FeedLemmas.{ascend, ascend_rest, counted, drop_twice, first_ones, left, other_ones}
 
 -- Rows as parts of a draft.
@@ -284,3 +287,14 @@ fed_bytes c r a (row ∷ rows) before text column blank follow p l =
     ∙ (ap (λ w. ((text ++ gap_bytes row.column may w) ++ (blank_text (row.blank_before && may_after may w) ++ bytes)) ++ bytes_behind row.ending (lines_of c (left r.trailing (p + n) (drop (p + n) cs)) rows)) same
     ∙ (ap (λ w. ((text ++ gap_bytes row.column may mine) ++ (blank_text (row.blank_before && may_after may mine) ++ bytes)) ++ bytes_behind row.ending (lines_of c w rows)) rest
     ∙ row_after before text row.column mine (row_line c row) (lines_of c (filter (λ d. not (precedes_item row d)) (left r.trailing p ds)) rows) bytes (row_law c row))))
+
+-- a layout is its rows, added to nothing, where the comments that do not trail are those that it has on lines of their own
+pub layout_fed : (m : Lists) (s : Style) (trees : List DocumentTree) (marks : List Bool) → ascend m.comments ≡ true
+    → left marks 0 m.comments ≡ own_line_comments (source_of m (rows_of m s trees)) (rows_of m s trees)
+    → finished (remarks m.comments marks) (fed (remarks m.comments marks) (trail (source_of m (rows_of m s trees))) (rows_of m s trees) no_draft)
+    ≡ layout m s trees
+layout_fed m s trees marks a h =
+    let rows : List Row = rows_of m s trees in
+    let c : Source = source_of m rows in
+    fed_bytes c (remarks m.comments marks) a rows at_text_start [] 0 false false 0 (omega arith)
+    ∙ ap (λ w. bytes_behind at_text_start (lines_of c w rows)) h

@@ -18,6 +18,7 @@ pub mod FlagLemmas
 pub mod FormLemmas
 pub mod GapLemmas
 pub mod IndexLemmas
+pub mod JoinLemmas
 pub mod KeptLemmas
 pub mod KeysMade
 pub mod LayoutLawsHold
@@ -42,6 +43,7 @@ mod ShownComments
 mod ShownDecos
 mod ShownKeys
 mod ShownNodes
+pub mod SignLemmas
 pub mod SiteLemmas
 pub mod StepLemmas
 pub mod StreamLemmas

@@ -1,6 +1,5 @@
 -- The pass over the events that prints a reading, one event at a time. Columns count from 0.
 use Rattle.std.specs.Prelude.{ℕ, ◌+◌, ◌-◌, ◌==◌, Bool, true, false, not, ◌&&◌, nat_lt, nat_le, is_some, if◌then◌else◌, List, [], ◌∷◌, ◌++◌, codes, drop, flat_map, get_or, replicate, slice_get, Option, Some, None}
-use Rattle.yf_comments.specs.Comment.{CommentValue}
 use Rattle.yf_props.specs.Props.{PropsValue}
 use Rattle.yf_events.specs.Event.{EventValue, Placed, stream_starts, stream_ends, document_starts, document_ends, sequence_starts, sequence_ends, mapping_starts, mapping_ends, scalar_node, alias_node}
 use Rattle.yf_events.specs.declared.directive.Directive.{Directive}
@@ -52,9 +51,6 @@ work_of reading style measures forms trails = record {
 abbrev pub work : Lists → Plan → Work
 work reading plan = work_of reading plan.style plan.measures plan.forms (found plan.trails)
 
-abbrev pub comments_of : Work → List CommentValue
-comments_of g = g.reading.comments
-
 abbrev pub remarks_of : Work → Remarks
 remarks_of g = remarks g.reading.comments g.trailing
 
@@ -90,7 +86,7 @@ directives g is_first [] d = d
 directives g is_first (x ∷ xs) d = directive_lines g (x ∷ xs) (end_line g is_first d)
 
 abbrev pub document_begun : Work → Bool → Doc → Draft → Draft
-document_begun g is_first x d = directives g is_first x.directives (past (comments_of g) x.start d)
+document_begun g is_first x d = directives g is_first x.directives (past g.reading.comments x.start d)
 
 abbrev pub marked : Draft → Draft
 marked d = without_blank (with_text (codes "---") d)
@@ -101,7 +97,7 @@ marked d = without_blank (with_text (codes "---") d)
 abbrev pub before_value : Work → Option ℕ → ℕ → Draft → Draft
 before_value g None column d = with_text (32 ∷ []) d
 before_value g (Some k) column d =
-    next_line g (further column g.style.indent) (without_blank (with_key_trail (comments_of g) (Some k) d))
+    next_line g (further column g.style.indent) (without_blank (with_key_trail g.reading.comments (Some k) d))
 
 abbrev pub before_text : Work → Form → Spot → Draft → Draft
 before_text g f Spot.Root d = next_line g 0 d
@@ -159,7 +155,7 @@ with_node g i last e spot d = with_node_event g i last e.event e.folded spot d
 
 abbrev pub leaf_noted : Work → ℕ → Option Span → Draft → Draft
 leaf_noted g j None d = d
-leaf_noted g j (Some span) d = with_trail (comments_of g) (get_or g.trails j None) (past (comments_of g) span.start d)
+leaf_noted g j (Some span) d = with_trail g.reading.comments (get_or g.trails j None) (past g.reading.comments span.start d)
 
 abbrev pub leaf_noted_if : Bool → Work → ℕ → Option Span → Draft → Draft
 leaf_noted_if true g j span d = leaf_noted g j span d
@@ -170,7 +166,7 @@ is_leaf g j = is_leaf_at j (get_or g.measures j no_measure).first_leaf
 
 abbrev pub entry_met : Work → Option Entry → Draft → Draft
 entry_met g None d = d
-entry_met g (Some entry) d = past (comments_of g) entry.start d
+entry_met g (Some entry) d = past g.reading.comments entry.start d
 
 abbrev pub event_noted : Work → ℕ → Placed → Draft → Draft
 event_noted g j e d = leaf_noted_if (is_leaf g j) g j e.span (entry_met g e.entry d)
@@ -246,14 +242,14 @@ blank_noted false blank d = with_blank blank d
 
 abbrev pub entry_noted : Work → Bool → Option Entry → Draft → Draft
 entry_noted g inline None d = d
-entry_noted g inline (Some entry) d = past (comments_of g) entry.start (blank_noted inline entry.blank_before d)
+entry_noted g inline (Some entry) d = past g.reading.comments entry.start (blank_noted inline entry.blank_before d)
 
 abbrev pub entry_begun : Work → Bool → ℕ → Option Entry → Draft → Draft
 entry_begun g inline column entry d = entry_noted g inline entry (line_begun g inline column d)
 
 abbrev pub colon_past : Work → Option ℕ → Draft → Draft
 colon_past g None d = d
-colon_past g (Some offset) d = past (comments_of g) offset d
+colon_past g (Some offset) d = past g.reading.comments offset d
 
 abbrev pub colon_of : Option Entry → Option ℕ
 colon_of None = None
@@ -285,12 +281,10 @@ awaited_behind f entry Key = value_awaited f.is_implicit entry
 awaited_behind f entry Value = Key
 awaited_behind f entry (ExplicitValue colon) = Key
 
-abbrev pub level_at : ℕ → Awaited → Level
-level_at column awaited = record { column = column; awaited = awaited; is_inline = false }
-
 abbrev pub levels_behind : Form → Option Entry → List Level → List Level
 levels_behind f entry [] = []
-levels_behind f entry (level ∷ levels) = level_at level.column (awaited_behind f entry level.awaited) ∷ levels
+levels_behind f entry (level ∷ levels) =
+    record { column = level.column; awaited = awaited_behind f entry level.awaited; is_inline = false } ∷ levels
 
 abbrev pub question_if : Bool → Draft → Draft
 question_if true d = d

@@ -25,7 +25,8 @@ fn formatted(alloc: Global, src: &Src, reading: &Reading, style: &Style) -> Resu
     }
 }
 
-/// The stream of the text in the house style. What is proved of it is what `Formatted` says, which ties it to no text.
+/// The stream of the text in the house style. What is proved of it is what `Formatted` says: it is what is printed of a normal
+/// reading, which is tied to no text.
 ///
 /// # Errors
 ///

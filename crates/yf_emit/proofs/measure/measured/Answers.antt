@@ -1,4 +1,4 @@
-use Rattle.std.proofs.Common.{arith, map, refl, ◌≤◌, length}
+use Rattle.std.proofs.Common.{arith, map, refl}
 use Rattle.std.specs.Prelude.{reverse}
 use Rattle.yf_comments.specs.Comment.{comment_value}
 use Rattle.yf_emit.specs.Measuring.{setting}
