@@ -43,6 +43,7 @@ pub mod FlowStarts
 pub mod Forward
 pub mod GapLemmas
 pub mod HaltGaps
+pub mod HaltsAnswered
 pub mod HaltsClear
 pub mod HaltsLater
 mod HaltsShown
