@@ -1,5 +1,5 @@
 -- The relation of last halts has an outcome of each task: that cannot be refuted.
-use Rattle.std.proofs.Common.{◌≡◌, ◌≢◌, ℕ, suc, zero, ◌+◌, ◌-◌, ◌*◌, ◌<◌, ◌≤◌, ℤ, pos, ◌+ℤ◌, ◌≤ℤ◌, Bool, true, false, ⊎_elim, List, [], ◌∷◌, Option, Some, None, length, refl, sym, ap, ◌∙◌, subst, arith}
+use Rattle.std.proofs.Common.{◌≡◌, ℕ, suc, zero, ◌+◌, ◌<◌, ◌≤◌, ℤ, pos, ◌+ℤ◌, Bool, true, false, ⊎_elim, List, [], ◌∷◌, Option, Some, None, refl, sym, ◌∙◌, arith}
 use Rattle.std.proofs.lemmas.Bool.{cases_Bool, cases_lt}
 use Rattle.std.specs.Str.{IsUtf8}
 use Rattle.yf_chars.specs.declared.context.Ctx.{Ctx}
@@ -8,15 +8,12 @@ use Rattle.yf_chars.specs.Text.{code}
 use Rattle.yf_chars.specs.Class.{is_white}
 use Rattle.yf_chars.specs.Chain.{Stuck, Chosen}
 use Rattle.yf_chars.proofs.TextLemmas.{within_from_code}
-use Rattle.yf_comments.specs.Comment.{CommentValue}
-use Rattle.yf_comments.specs.Comments.{LineEnd}
 use Rattle.yf_comments.proofs.RowLemmas.{row_functional}
 use Rattle.yf_comments.proofs.LineEndLemmas.{line_end_rows}
 use Rattle.yf_plain.proofs.PlainLemmas.{ns_below}
 use Rattle.yf_props.specs.Names.{Properties, PropertiesValue}
 use Rattle.yf_grammar.specs.BlockScalar.{BlockScalar}
 use Rattle.yf_grammar.specs.Grammar.{ColonLine}
-use Rattle.yf_grammar.specs.Meaning.{Meaning}
 use Rattle.yf_grammar.specs.Parser.{Found, Parses, ANode, begins_plain}
 use Rattle.yf_grammar.specs.BlockParser.{DashAt, SignAt, Columns, Ahead, Indicator, past, KeyBefore, key_missed, key_unfit, NextEntry, Origin, First, Later, key_limit, key_indent, BlockTask, Awaited, Below, Inline, Leaf, Items, Item, MappingAt, by_question, by_colon, by_key, NoSign, NoKeyAt, no_column, unfit_node, MayLeaf, Whole, node_unfit}
 use Rattle.yf_grammar.specs.Halts.{MayEnd, PlainPart, ScalarPart, Alone, alone_to, alone_nowhere, not_found, not_after, Halts}
@@ -30,7 +27,6 @@ use Rattle.yf_grammar.proofs.WholeAnswered as Wholes
 use Rattle.yf_grammar.proofs.BlockGaps.{rows_order}
 use Rattle.yf_grammar.proofs.FlowStarts.{flow_starts}
 use Rattle.yf_grammar.proofs.HaltsLater.{line_order, key_order, node_later, whole_later}
-use Rattle.yf_grammar.proofs.NodeExits.{none_some}
 use Rattle.yf_grammar.proofs.OneScalars.{scalar_one}
 use Rattle.yf_grammar.proofs.PlainCut.{LastLine, whole_plain, plain_without_last, plain_one_line, no_plain_part}
 use Rattle.yf_grammar.proofs.PropertiesEnds.{properties_begin, properties_later}

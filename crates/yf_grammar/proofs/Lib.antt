@@ -28,6 +28,7 @@ pub mod BlockStarts
 pub mod BlockStatements
 pub mod ClearBlocks
 pub mod ClearLemmas
+pub mod CommentOrder
 pub mod Complete
 pub mod CompleteClaims
 pub mod CompleteSteps
