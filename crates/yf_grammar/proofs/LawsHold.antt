@@ -3,11 +3,12 @@ use Rattle.std.proofs.Common.{zero, suc, ◌+◌, ℤ, pos, negsuc, ◌+ℤ◌, 
 use Rattle.std.proofs.lemmas.Int.{ints}
 use Rattle.yf_grammar.specs.BlockParser.{Nothing}
 use Rattle.yf_grammar.specs.Halts.{none_open}
-use Rattle.yf_grammar.specs.Laws.{FlowNodesAreChosen, NoFlowNodeIsMissed, KeysAreChosen, NoKeyIsMissed, FlowOutcomesAreOne, WholeNodesAreChosen, DerivedNodesAreWhole, FlowNodesHaveOutcomes, BlockNodesHaveOutcomes, LastHaltsAreChosen, NoBlockNodeIsMissed}
+use Rattle.yf_grammar.specs.Laws.{FlowNodesAreChosen, NoFlowNodeIsMissed, KeysAreChosen, NoKeyIsMissed, FlowOutcomesAreOne, WholeNodesAreChosen, DerivedNodesAreWhole, FlowNodesHaveOutcomes, BlockNodesHaveOutcomes, LastHaltsHaveOutcomes, LastHaltsAreChosen, NoBlockNodeIsMissed}
 use Rattle.yf_grammar.proofs.BlockHalts.{whole_halts}
 use Rattle.yf_grammar.proofs.BlockParts.{no_block_node}
 use Rattle.yf_grammar.proofs.BlockStatements.{node_at_end, plain_is_whole}
 use Rattle.yf_grammar.proofs.DerivedNodes.{last_halt_is_chosen}
+use Rattle.yf_grammar.proofs.HaltsAnswered.{halts_answered}
 use Rattle.yf_grammar.proofs.NodesAnswered.{node_answered}
 use Rattle.yf_grammar.proofs.Outcome.{outcome_is_one}
 use Rattle.yf_grammar.proofs.Parts.{found_is_chosen, none_is_stuck, found_is_chosen_key, none_is_no_key}
@@ -52,3 +53,6 @@ flow_nodes_have_outcomes t e i n c u f none = (node_answered u e n c i f).held (
 
 pub block_nodes_have_outcomes : BlockNodesHaveOutcomes
 block_nodes_have_outcomes t e i n c u none = (whole_answered u e n c Nothing i).held (λ r. none r.outcome r.read)
+
+pub last_halts_have_outcomes : LastHaltsHaveOutcomes
+last_halts_have_outcomes t e i n c u none = (halts_answered u e n c Nothing i).held (λ r. none r.outcome r.read)

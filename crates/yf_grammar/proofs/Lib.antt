@@ -31,6 +31,7 @@ pub mod BlockStarts
 pub mod BlockStatements
 pub mod ClearBlocks
 pub mod ClearLemmas
+pub mod CommentOrder
 pub mod Complete
 pub mod CompleteClaims
 pub mod CompleteSteps
@@ -46,6 +47,7 @@ pub mod FlowStarts
 pub mod Forward
 pub mod GapLemmas
 pub mod HaltGaps
+pub mod HaltsAnswered
 pub mod HaltsClear
 pub mod HaltsLater
 mod HaltsShown

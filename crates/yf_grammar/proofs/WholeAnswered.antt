@@ -47,10 +47,10 @@ module _ {t : List ℕ} {e : ℕ} {task : BlockTask} {B : Type 0} where
   tells : Irrefutable (Answer t e task) → ((f : Found) → Whole t e task (Some f) → Irrefutable B) → (Whole t e task None → Irrefutable B) → Irrefutable B
   tells a some none = then a (λ r. by_outcome r.outcome r.read some none)
 
-abbrev left : List ℕ → ℕ → ℕ
+abbrev pub left : List ℕ → ℕ → ℕ
 left t i = 8 * (length t - i)
 
-abbrev weight : List ℕ → BlockTask → ℕ
+abbrev pub weight : List ℕ → BlockTask → ℕ
 weight t (Leaf n a p) = 1 + left t p
 weight t (Item s m q i) = 2 + left t i
 weight t (Items s m q i) = 3 + left t i
@@ -67,30 +67,30 @@ abbrev pub Fit : BlockTask → Type 0
 Fit (Awaited b n c a i) = Column b n
 Fit _ = Unit {0}
 
-no_value : {m : ℕ} → None ≡ Some m → ⊥
+pub no_value : {m : ℕ} → None ≡ Some m → ⊥
 no_value e = absurd (cc)
 
-properties_real : (c : ℕ) → begins_properties c ≡ true → c < no_char
+pub properties_real : (c : ℕ) → begins_properties c ≡ true → c < no_char
 unfolding begins_properties
 properties_real c e = grind (arith, nat_tests)
 
 -- a line on which a node begins
-record NodeLine (t : List ℕ) (n : ℤ) (c : Ctx) (i k : ℕ) : Type 0 where
-  column : ℕ
-  first : ℕ
-  line : LineText t k column first
-  begins : Begins t n c i k column first
+pub record NodeLine (t : List ℕ) (n : ℤ) (c : Ctx) (i k : ℕ) : Type 0 where
+  pub column : ℕ
+  pub first : ℕ
+  pub line : LineText t k column first
+  pub begins : Begins t n c i k column first
 
-column_any : (k m p : ℕ) (least : ℤ) → Irrefutable ((o : Option ℕ) × ColumnIf k m p least o)
+pub column_any : (k m p : ℕ) (least : ℤ) → Irrefutable ((o : Option ℕ) × ColumnIf k m p least o)
 column_any k m p least = by_cases ((p ≡ k + m) × (least ≤ℤ pos m)) (λ q. sure (Some m, column_there q.0 q.1)) (λ q. sure (None, column_not (λ a b. q (a, b))))
 
-joins_any : {B : Type 0} (a : Ahead) (q : PropertiesValue) (p g : ℕ) → ((z : Ahead) → Joins a q p g z → Irrefutable B) → (Apart a q → Irrefutable B) → Irrefutable B
+pub joins_any : {B : Type 0} (a : Ahead) (q : PropertiesValue) (p g : ℕ) → ((z : Ahead) → Joins a q p g z → Irrefutable B) → (Apart a q → Irrefutable B) → Irrefutable B
 joins_any Nothing q p g f n = f _ (first_held (λ h e. absurd (cc)))
 joins_any (Indicator i) q p g f n = f _ (first_held (λ h e. absurd (cc)))
 joins_any (Props h) q p g f n = by_cases (Clash h q) (λ c. n (record { held = h; is = refl; clash = c })) (λ c. f _ (more_held refl c))
 
 module _ {t : List ℕ} where
-  compact_any : {b : Bool} {n : ℤ} {i p : ℕ} → Column b n → i ≤ p → Irrefutable ((cols : Columns) × Compact t b n i p cols)
+  pub compact_any : {b : Bool} {n : ℤ} {i p : ℕ} → Column b n → i ≤ p → Irrefutable ((cols : Columns) × Compact t b n i p cols)
   compact_any without_column l = sure (record { sequence = None; mapping = None }, no_columns (λ q. absurd (true≢false (sym q))))
   compact_any {i = i} {p = p} (at_column {b = false} m) l = sure (record { sequence = None; mapping = None }, no_columns (λ q. absurd (true≢false (sym q))))
   compact_any {i = i} {p = p} (at_column {b = true} m) l = by_cases (Spaces t i (p - i))
@@ -101,7 +101,7 @@ module _ {t : List ℕ} where
       (λ s. sure (record { sequence = None; mapping = None }, no_columns (λ q. s)))
 
   -- an entry that was found begins with a character
-  item_real : {e m i : ℕ} {s : Bool} {q : Origin} {o : Option Found} {f : Found} → Whole t e (Item s m q i) o → o ≡ Some f → i < length t
+  pub item_real : {e m i : ℕ} {s : Bool} {q : Origin} {o : Option Found} {f : Found} → Whole t e (Item s m q i) o → o ≡ Some f → i < length t
   item_real {i = i} (BlockParser.item_read d r) e = let a = d.dash in within_from_code t i (omega arith)
   item_real (BlockParser.item_missed d r) e = absurd (none_some e)
   item_real (BlockParser.item_undashed d) e = absurd (none_some e)
@@ -117,10 +117,15 @@ module _ {t : List ℕ} where
   item_real (BlockParser.no_key a b k) e = absurd (none_some e)
   item_real (BlockParser.key_too_deep a b p l d) e = absurd (none_some e)
 
--- each task, where tasks of less weight have outcomes
-module _ {t : List ℕ} (u : IsUtf8 t) (v : ℕ) (known : (e : ℕ) (task : BlockTask) → Fit task → weight t task < v → Irrefutable (Answer t e task)) where
+module _ {t : List ℕ} where
+  -- a `-` where no sequence may begin: no key begins there
+  pub dash_no_key : {e p : ℕ} {n : ℤ} {cols : Columns} {o : Option Found} → DashAt t p → Parses t e (ANode (n +ℤ pos 1) FlowOut p) o → NoKeyAt t e n cols p
+  dash_no_key {o = None} d r = unfit_node r key_missed
+  dash_no_key {o = Some f} d r = absurd (node_no_dash refl (found_is_derived refl r).0 d)
+
+module _ {t : List ℕ} (u : IsUtf8 t) where
   -- white space from a white on, as far as it goes
-  past_whites : {B : Type 0} (i : ℕ) → is_white (code t i) ≡ true → ((p : ℕ) (w : List ℕ) → Many t is_white i p w → i < p → is_white (code t p) ≡ false → Irrefutable B) → Irrefutable B
+  pub past_whites : {B : Type 0} (i : ℕ) → is_white (code t i) ≡ true → ((p : ℕ) (w : List ℕ) → Many t is_white i p w → i < p → is_white (code t p) ≡ false → Irrefutable B) → Irrefutable B
   past_whites i e f = takes (whites_reached u i)
       (λ p w m. ⊎_elim
       (λ (b : is_white (code t p) ≡ true). let l = m.longest _ _ (many_more t is_white m.derived b) in let n = next_later t p in absurd (omega arith))
@@ -131,11 +136,13 @@ module _ {t : List ℕ} (u : IsUtf8 t) (v : ℕ) (known : (e : ℕ) (task : Bloc
       (cases_Bool (is_white (code t p))))
       (λ s. absurd (s.none i [] (done {i = i})))
 
+-- each task, where tasks of less weight have outcomes
+module _ {t : List ℕ} (u : IsUtf8 t) (v : ℕ) (known : (e : ℕ) (task : BlockTask) → Fit task → weight t task < v → Irrefutable (Answer t e task)) where
   awaited_answer : (e i : ℕ) (b : Bool) (n : ℤ) (c : Ctx) (a : Ahead) → Column b n → weight t (Awaited b n c a i) ≤ v → Irrefutable (Answer t e (Awaited b n c a i))
   awaited_answer e i b n c a col w = takes (line_end_reached u i)
       (λ k ds d. then (known e (Below n c a i) tt (omega arith)) (λ r. answer (BlockParser.awaited_below d r.read)))
       (λ s. ⊎_elim
-      (λ (q : is_white (code t i) ≡ true). past_whites i q
+      (λ (q : is_white (code t i) ≡ true). past_whites u i q
       (λ p x m l z. then (compact_any col (omega arith))
       (λ y. then (known e (Inline n c y.0 a p) tt (omega arith)) (λ r. answer (BlockParser.awaited_inline s m l z y.1 r.read)))))
       (λ (q : is_white (code t i) ≡ false). answer (BlockParser.awaited_missed s q))
@@ -164,7 +171,7 @@ module _ {t : List ℕ} (u : IsUtf8 t) (v : ℕ) (known : (e : ℕ) (task : Bloc
       (λ z y. then (known e (Below n c z g) tt (omega arith)) (λ x. answer (BlockParser.properties_below s d r y x.read)))
       (λ y. answer (BlockParser.properties_apart_below s d r y)))
       (λ r. ⊎_elim
-      (λ (b : is_white (code t g) ≡ true). past_whites g b
+      (λ (b : is_white (code t g) ≡ true). past_whites u g b
       (λ j x m o f. joins_any a q p g
       (λ z y. then (known e (Leaf n z j) tt (omega arith)) (λ h. answer (BlockParser.properties_leaf s k d r m o f y h.read)))
       (λ y. answer (BlockParser.properties_apart s k d r y))))
@@ -188,11 +195,6 @@ module _ {t : List ℕ} (u : IsUtf8 t) (v : ℕ) (known : (e : ℕ) (task : Bloc
   mapping_answer zero m p n c cols a w d q y = answer (BlockParser.mapping_too_deep d q y)
   mapping_answer (suc e) m p n c cols a w d q y = tells (known e (Items false m (First n) p) tt (omega arith))
       (λ f r. answer (BlockParser.mapping_read d q y r)) (λ r. answer (BlockParser.mapping_missed d q y r))
-
-  -- a `-` where no sequence may begin: no key begins there
-  dash_no_key : {e p : ℕ} {n : ℤ} {cols : Columns} {o : Option Found} → DashAt t p → Parses t e (ANode (n +ℤ pos 1) FlowOut p) o → NoKeyAt t e n cols p
-  dash_no_key {o = None} d r = unfit_node r key_missed
-  dash_no_key {o = Some f} d r = absurd (node_no_dash refl (found_is_derived refl r).0 d)
 
   dash_answer : (e p : ℕ) (n : ℤ) (c : Ctx) (cols : Columns) (a : Ahead) (o : Option ℕ) → cols.sequence ≡ o → weight t (Inline n c cols a p) ≤ v → DashAt t p
       → Irrefutable (Answer t e (Inline n c cols a p))

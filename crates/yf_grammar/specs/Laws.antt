@@ -71,3 +71,7 @@ LastHaltsAreChosen = (t : List ℕ) (e i : ℕ) (n : ℤ) (c : Ctx) (f : Found) 
 -- Where it may end nowhere, no block node is derived.
 abbrev pub NoBlockNodeIsMissed : Type 0
 NoBlockNodeIsMissed = (t : List ℕ) (e i : ℕ) (n : ℤ) (c : Ctx) → IsUtf8 t → Halts t e [] (Awaited false n c Nothing i) None → Stuck (BlockNodePart t e n c i)
+
+-- There is a last place at which a node may end, or there is none, within each limit: it cannot be that neither is so.
+abbrev pub LastHaltsHaveOutcomes : Type 0
+LastHaltsHaveOutcomes = (t : List ℕ) (e i : ℕ) (n : ℤ) (c : Ctx) → IsUtf8 t → ((o : Option Found) → Halts t e [] (Awaited false n c Nothing i) o → ⊥) → ⊥

@@ -1,4 +1,8 @@
 pub mod Forward
+pub mod LawsHold
+pub mod OneDirective
+pub mod OneReading
+pub mod OneStream
 pub mod ShownEmpty
 pub mod ShownItem
 pub mod ShownMarked
@@ -12,3 +16,4 @@ pub mod ShownStreams
 pub mod ShownWord
 pub mod ShownWords
 pub mod Stable
+pub mod StreamPath

@@ -1,3 +1,4 @@
+pub mod Laws
 pub mod ReadingOf
 pub mod Refusal
 pub mod Stream

@@ -1,0 +1,33 @@
+-- The laws of streams and of readings, each with the plain sentence that it stands for: a text is derived as one stream at most, and
+-- has one reading at most. `proofs/LawsHold.antt` proves them, so a change of the definitions that breaks one is refused there.
+use Rattle.std.specs.Prelude.{◌≡◌, ℕ, ◌≤◌, List}
+use Rattle.std.specs.Str.{IsUtf8}
+use Rattle.yf_lines.specs.declared.fault.Fault.{Fault}
+use Rattle.yf_lines.specs.declared.fault.Fault.TheVariants.{Memory}
+use Rattle.yf_events.specs.declared.lists.Lists.{Lists}
+use Rattle.yf_events.specs.declared.reading.TheConstants.{DEPTH}
+use Rattle.yf_stream.specs.ReadingOf.{ReadingOf}
+use Rattle.yf_stream.specs.Stream.{Documents, Stream}
+use Rattle.yf_stream.specs.StreamReader.{StreamFault, TheReading}
+use Rattle.yf_stream.specs.WellFormed.{Shapes}
+
+-- All derivations of a text as a stream within the limit of open collections mean the same: the same documents, with the same nodes,
+-- directives and markers, and the same comments, whichever part takes them.
+abbrev pub StreamsAreOne : Type 0
+StreamsAreOne = (t : List ℕ) (h g : ℕ) (x y : Documents) → IsUtf8 t → Stream t h x → h ≤ DEPTH → Stream t g y → g ≤ DEPTH → y ≡ x
+
+-- So what is derived of a text within the limit is its one shape.
+abbrev pub DerivedStreamsAreShapes : Type 0
+DerivedStreamsAreShapes = (t : List ℕ) (h : ℕ) (x : Documents) → IsUtf8 t → Stream t h x → h ≤ DEPTH → Shapes t x
+
+-- A text has one reading at most, all lists and notes of it.
+abbrev pub ReadingsAreOne : Type 0
+ReadingsAreOne = (t : List ℕ) (r s : Lists) → ReadingOf t r → ReadingOf t s → s ≡ r
+
+-- So each reading of a text is the one with which the reader of streams is to answer.
+abbrev pub ReadingsAreTheReading : Type 0
+ReadingsAreTheReading = (t : List ℕ) (r : Lists) → ReadingOf t r → TheReading t r
+
+-- A text that has a reading may be refused for want of memory alone.
+abbrev pub ReadTextsHaveNoFault : Type 0
+ReadTextsHaveNoFault = (t : List ℕ) (r : Lists) (fault : Fault) → ReadingOf t r → StreamFault t fault → fault ≡ Memory
