@@ -8,3 +8,4 @@ pub mod NotedLemmas
 pub mod TiedClose
 pub mod TiedEnds
 pub mod TiedFails
+pub mod TiedPairs
