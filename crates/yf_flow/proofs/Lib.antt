@@ -9,3 +9,4 @@ pub mod TiedClose
 pub mod TiedEnds
 pub mod TiedFails
 pub mod TiedPairs
+pub mod TiedValues

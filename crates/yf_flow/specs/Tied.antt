@@ -253,6 +253,16 @@ pub record AtEntryDone (t : List ℕ) (n : ℤ) (d : Ctx) (base : Base) (frames 
   pub within : Within t n d end at comments
   pub written : Written t (written_in layer (noting meaning comments)) part
 
+-- the value of the entry is awaited from its `:` on, after a key of that kind
+pub record AtValue (t : List ℕ) (n : ℤ) (d : Ctx) (base : Base) (frames : List Frame) (top : Frame) (json : Bool) (colon : ℕ) (part : Part) : Type 0 where
+  pub layer : InEntry
+  pub height : ℕ
+  pub read : Meaning
+  pub tied : EntryTied t n d base frames top height layer
+  pub value : ValueAwaited t layer.limit layer.sequence n d layer.pair layer.start json height read colon
+  pub entry : top.entry ≡ layer.start
+  pub written : Written t (written_in layer read) part
+
 -- a node of the entry is awaited at p, or it has been read
 pub record AtNode (t : List ℕ) (n : ℤ) (d : Ctx) (base : Base) (frames : List Frame) (top : Frame) (p : ℕ) (part : Part) : Type 0 where
   pub layer : InEntry

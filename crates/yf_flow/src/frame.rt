@@ -120,6 +120,10 @@ impl Frame {
         ensures event { result.event ≡ self.event }
         ensures index { result.entry_event ≡ self.entry_event }
         ensures entry { result.entry ≡ self.entry }
+        ensures kind { result.kind ≡ self.kind }
+        ensures depth { result.depth ≡ self.depth }
+        ensures deepest { result.deepest ≡ self.deepest }
+        ensures role { result.role ≡ Role.Value }
     {
         Frame {
             role: Role::Value,
