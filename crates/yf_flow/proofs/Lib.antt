@@ -8,3 +8,5 @@ pub mod NotedLemmas
 pub mod TiedClose
 pub mod TiedEnds
 pub mod TiedFails
+pub mod TiedPairs
+pub mod TiedValues

@@ -1,5 +1,6 @@
 -- A collection that is closed is a node of the entry round it, or the outermost one.
-use Rattle.std.proofs.Common.{◌≡◌, ◌≢◌, ℕ, suc, max, ◌+◌, ◌≤◌, ℤ, Bool, true, false, List, [], ◌∷◌, ◌++◌, length, Option, Some, None, refl, sym, ap, ◌∙◌, subst, arith, append_assoc, append-nil}
+use Rattle.std.proofs.Common.{◌≡◌, ◌≢◌, ℕ, suc, max, ◌+◌, ◌≤◌, ◌<◌, ℤ, Bool, true, false, List, [], ◌∷◌, ◌++◌, length, Option, Some, None, refl, sym, ap, ◌∙◌, subst, arith, append_assoc, append-nil, reverse}
+use Rattle.std.proofs.lemmas.List.{reverse-append}
 use Rattle.yf_chars.specs.declared.context.Ctx.{Ctx}
 use Rattle.yf_chars.specs.Text.{code}
 use Rattle.yf_comments.specs.Comment.{CommentValue}
@@ -13,12 +14,15 @@ use Rattle.yf_grammar.proofs.AwaitEntries.{plus_assoc}
 use Rattle.yf_grammar.proofs.AwaitFails.{over_some}
 use Rattle.yf_grammar.proofs.ParserLemmas.{Same}
 use Rattle.yf_flow.specs.declared.frame.Frame.{Frame}
+use Rattle.yf_flow.specs.declared.frame.Kind.{Kind}
 use Rattle.yf_flow.specs.declared.frame.Role.{Role}
 use Rattle.yf_flow.specs.declared.frame.Role.TheVariants.{Item, Key, Value}
 use Rattle.yf_flow.specs.declared.frame.Node.{Node}
 use Rattle.yf_flow.specs.Begun.{entry_event}
 use Rattle.yf_flow.specs.NodeBegun.{comments_before, opened_event}
-use Rattle.yf_flow.specs.Tied.{NotedEvent, entryless, Noted, Written, one, entry_of, in_role, ahead, entries_written, entry_written, CollectionFrame, Framed, of_collection, of_pair, NodeIn, Base, IsBase, Below, outermost, inside, AtClosing, AtEnded, AtDone, InEntry, EntryTied}
+use Rattle.yf_flow.specs.Tied.{NotedEvent, entryless, Noted, Written, one, entry_of, in_role, ahead, entries_written, entry_written, kind_of, end_event, CollectionFrame, Framed, of_collection, of_pair, NodeIn, Base, IsBase, Below, outermost, inside, AtClosing, AtEnded, AtDone, InEntry, EntryTied, NoBase, StepTied}
+use Rattle.yf_flow.specs.declared.frame.Step.{Step}
+use Rattle.yf_flow.specs.declared.frame.Step.TheVariants.{Failed}
 use Rattle.yf_flow.proofs.NotedLemmas.{noted_more, noted_ended, edited_here}
 use Rattle.yf_flow.proofs.TiedEnds.{written_as, written_same}
 
@@ -64,7 +68,7 @@ entry_more w begin x pair s y m =
     sym (plus_assoc (entries_written w begin x) (ahead pair s y) m) ∙ ap (λ z. entries_written w begin x ⊕ z) (ahead_plus pair s y m)
 
 -- the events round those of the entries
-closed_same : (w x m : Meaning) (cs : List CommentValue) (first last : Placed) (j : ℕ)
+pub closed_same : (w x m : Meaning) (cs : List CommentValue) (first last : Placed) (j : ℕ)
     → Same (record { events = first ∷ (x.events ++ last ∷ []); comments = cs ++ x.comments; escapes = x.escapes; finish = j }) m
     → Same (entries_written (noting w cs) first x ⊕ one last) (w ⊕ m)
 unfolding ◌⊕◌ noting
@@ -94,10 +98,10 @@ ended_written {t} {old} {new} w x begin j event p q a b c =
       escapes = c ∙ p.escapes ∙ sym (append-nil ((w.escapes ++ []) ++ x.escapes));
     }
 
-cons_parts : {X : Type 0} {a b : X} {x y : List X} → a ∷ x ≡ b ∷ y → (a ≡ b) × (x ≡ y)
+pub cons_parts : {X : Type 0} {a b : X} {x y : List X} → a ∷ x ≡ b ∷ y → (a ≡ b) × (x ≡ y)
 cons_parts e = (cc, cc)
 
-no_cons : {X : Type 0} {b : X} {y : List X} → [] ≡ b ∷ y → ⊥
+pub no_cons : {X : Type 0} {b : X} {y : List X} → [] ≡ b ∷ y → ⊥
 no_cons e = cc
 
 start_of_node : {t : List ℕ} {n : ℤ} {d : Ctx} {p k : ℕ} {b : Before} → NodeOver t n d p k b → NodeStart b p k
@@ -138,3 +142,61 @@ module _ {t : List ℕ} {n : ℤ} {d : Ctx} {base : Base} where
         written = subst (λ o. Written t (entry_written w' begin' x' pair s (y' ⊕ in_role o s (over b (collection sequence true i (k + 1) x)))) part) (sym ro)
             (written_as (entry_more w' begin' x' pair s y' (in_role role s (over b (collection sequence true i (k + 1) x)))) written);
       })
+
+  -- or the outermost one
+  pub closed_base : {frames : List Frame} {sequence : Bool} {i e l : ℕ} {c : Ctx} {w : Meaning} {begin : Placed} {part : Part} (node : Node) (h k : ℕ) (x : Meaning)
+      → Below t n d base frames sequence i c e w begin → frames ≡ [] → e ≡ suc l → Parses t e (AContent n c i) (Some (ended_at sequence i h x k))
+      → node.end ≡ k + 1 → node.json ≡ true → node.deepest + l ≡ base.total + h
+      → Written t (entries_written w (ended (k + 1) begin) x ⊕ one (plain_event (end_of sequence) None)) part → AtDone t n base node part
+  closed_base {sequence = sequence} {i} {e} {c = c} {w = w} {begin = begin} {part = part} node h k x (outermost b) q y r a j v p = record {
+    high = h;
+    known = x;
+    bracket = k;
+    parsed = subst (λ z. Parses t z (AContent n base.context base.place) (Some (ended_at base.sequence base.place h x k))) b.limit
+        (subst (λ z. Parses t e (AContent n z base.place) (Some (ended_at base.sequence base.place h x k))) b.context
+        (subst (λ z. Parses t e (AContent n c z) (Some (ended_at base.sequence z h x k))) b.place (subst (λ z. Parses t e (AContent n c i) (Some (ended_at z i h x k))) b.sequence_flag r)));
+    end = a;
+    json = j;
+    deepest = omega (arith, y, v, b.limit);
+    written = subst (λ z. Written t (entries_written base.written (ended (k + 1) base.event) x ⊕ one (plain_event (end_of z) None)) part) b.sequence_flag
+        (subst (λ z. Written t (entries_written base.written (ended (k + 1) z) x ⊕ one (plain_event (end_of sequence) None)) part) b.event
+        (subst (λ z. Written t (entries_written z (ended (k + 1) begin) x ⊕ one (plain_event (end_of sequence) None)) part) b.written p));
+  }
+  closed_base node h k x (inside below entries stays aw framed ro fi ov al) q y r a j v p = absurd (no_cons (sym q ∙ al))
+
+end_kind : (sequence : Bool) (kind : Kind) → kind ≡ kind_of sequence → end_event kind ≡ end_of sequence
+unfolding end_event
+end_kind true kind e = ap end_event e
+end_kind false kind e = ap end_event e
+
+pub ends_noted : (t : List ℕ) (sequence : Bool) → NotedEvent t (plain_event (end_of sequence) None) (entry_event (end_of sequence) None)
+unfolding plain_event
+ends_noted t true = record { no_lines = refl; note = entryless refl }
+ends_noted t false = record { no_lines = refl; note = entryless refl }
+
+-- the step
+module _ {t : List ℕ} {n : ℤ} {d : Ctx} {base : Base} {frames : List Frame} {top : Frame} {k : ℕ} {old new : Part} (a : AtClosing t n d base frames top k old) (x : new.events ≡ edited (ended (k + 1)) top.event (old.events ++ entry_event (end_event top.kind) None ∷ [])) (y : new.comments ≡ old.comments) (z : new.escapes ≡ old.escapes) where
+  closing_written : Written t (entries_written a.before (ended (k + 1) a.begin) a.known ⊕ one (plain_event (end_of a.sequence) None)) new
+  closing_written =
+      ended_written a.before a.known a.begin (k + 1) (end_of a.sequence) a.written (ends_noted t a.sequence)
+      (x ∙ ap (λ i. edited (ended (k + 1)) i (old.events ++ entry_event (end_event top.kind) None ∷ [])) a.frame.event
+      ∙ ap (λ v. edited (ended (k + 1)) (length a.before.events) (old.events ++ entry_event v None ∷ [])) (end_kind a.sequence top.kind a.frame.kind)) y z
+
+  pub close_into : (outer : Frame) (rest : List Frame) → frames ≡ outer ∷ rest → AtEnded t n d base rest outer (record { end = k + 1; json = true; deepest = top.deepest }) new
+  close_into outer rest q =
+      closed_into (record { end = k + 1; json = true; deepest = top.deepest }) a.high k a.known a.below q refl a.parsed refl refl (omega (arith, a.frame)) closing_written
+
+  pub close_base : frames ≡ [] → AtDone t n base (record { end = k + 1; json = true; deepest = top.deepest }) new
+  close_base q = closed_base (record { end = k + 1; json = true; deepest = top.deepest }) a.high k a.known a.below q refl a.parsed refl refl (omega (arith, a.frame)) closing_written
+
+-- frames in the order of a stack
+pub popped : {X : Type 0} (old new : List X) (x : X) → old ≡ new ++ x ∷ [] → reverse old ≡ x ∷ reverse new
+popped old new x e = ap reverse e ∙ reverse-append new (x ∷ [])
+
+pub none_left : {X : Type 0} (old : List X) → (0 < length old → ⊥) → reverse old ≡ []
+none_left [] f = refl
+none_left (x ∷ old) f = absurd (f (omega arith))
+
+pub failed_tied : (t : List ℕ) (n : ℤ) (d : Ctx) (base : Base) (frames : List Frame) (top : Frame) (part : Part) (step : Step) → step ≡ Failed → NoBase t n base
+    → StepTied t n d base frames top step part
+failed_tied t n d base frames top part step e x = subst (λ s. StepTied t n d base frames top s part) (sym e) x

@@ -5,7 +5,7 @@ use Rattle.yf_chars.specs.declared.context.Ctx.{Ctx}
 use Rattle.yf_chars.specs.Text.{code}
 use Rattle.yf_comments.specs.Comment.{CommentValue}
 use Rattle.yf_props.specs.Props.{no_props}
-use Rattle.yf_events.specs.Event.{Placed, mapping_starts}
+use Rattle.yf_events.specs.Event.{EventValue, Placed, mapping_starts, mapping_ends, sequence_ends}
 use Rattle.yf_events.specs.Edit.{ended}
 use Rattle.yf_events.specs.declared.event.Entry as TheEntry
 use Rattle.yf_events.specs.declared.part.Part.{Part}
@@ -240,6 +240,29 @@ pub record EntryTied (t : List ℕ) (n : ℤ) (d : Ctx) (base : Base) (frames : 
 abbrev pub written_in : InEntry → Meaning → Meaning
 written_in l y = entry_written l.before l.begin l.known l.pair l.start y
 
+-- the entry has been read, and perhaps the separation after it; its last node or indicator ends at the first offset
+pub record AtEntryDone (t : List ℕ) (n : ℤ) (d : Ctx) (base : Base) (frames : List Frame) (top : Frame) (last at : ℕ) (part : Part) : Type 0 where
+  pub layer : InEntry
+  pub height : ℕ
+  pub meaning : Meaning
+  pub end : ℕ
+  pub comments : List CommentValue
+  pub tied : EntryTied t n d base frames top height layer
+  pub entry : IsEntry t (with_pair layer.pair layer.limit) layer.sequence n d layer.start end (with_pair layer.pair height) (wrapped layer.pair layer.start meaning)
+  pub finish : meaning.finish ≡ last
+  pub within : Within t n d end at comments
+  pub written : Written t (written_in layer (noting meaning comments)) part
+
+-- the value of the entry is awaited from its `:` on, after a key of that kind
+pub record AtValue (t : List ℕ) (n : ℤ) (d : Ctx) (base : Base) (frames : List Frame) (top : Frame) (json : Bool) (colon : ℕ) (part : Part) : Type 0 where
+  pub layer : InEntry
+  pub height : ℕ
+  pub read : Meaning
+  pub tied : EntryTied t n d base frames top height layer
+  pub value : ValueAwaited t layer.limit layer.sequence n d layer.pair layer.start json height read colon
+  pub entry : top.entry ≡ layer.start
+  pub written : Written t (written_in layer read) part
+
 -- a node of the entry is awaited at p, or it has been read
 pub record AtNode (t : List ℕ) (n : ℤ) (d : Ctx) (base : Base) (frames : List Frame) (top : Frame) (p : ℕ) (part : Part) : Type 0 where
   pub layer : InEntry
@@ -265,6 +288,12 @@ pub record AtEnded (t : List ℕ) (n : ℤ) (d : Ctx) (base : Base) (frames : Li
   pub deepest : node.deepest ≡ top.depth + answer.height
   pub finish : answer.meaning.finish ≡ answer.end
   pub written : Written t (written_in layer (read ⊕ in_role top.role layer.start answer.meaning)) part
+
+-- the event that ends a collection
+unfoldable pub end_event : Kind → EventValue
+end_event Sequence = sequence_ends
+end_event Mapping = mapping_ends
+end_event Pair = mapping_ends
 
 -- the outermost collection has been read
 pub record AtDone (t : List ℕ) (n : ℤ) (base : Base) (node : TheNode.Node) (part : Part) : Type 0 where

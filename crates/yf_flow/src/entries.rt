@@ -1,9 +1,10 @@
 //! The steps that begin and read the entries of a flow collection: keys, values and single pairs. Each step leads on to a
 //! later place of the text, and none goes back.
-ghost use Rattle.std.specs.Prelude.{◌≡◌, ◌+◌, ◌-◌, ◌*◌, ◌<◌, ◌≤◌, length, IfOk, IfSome};
+ghost use Rattle.std.specs.Prelude.{◌≡◌, ◌+◌, ◌-◌, ◌*◌, ◌<◌, ◌≤◌, length, reverse, IfOk, IfSome};
 ghost use Rattle.std.specs.List.{All};
-ghost use Rattle.std.specs.Str.{IsCharBoundary};
+ghost use Rattle.std.specs.Str.{IsCharBoundary, IsUtf8};
 ghost use Rattle.yf_flow.specs.Machine.{Awaiting, Indexed, Ready, left};
+ghost use Rattle.yf_flow.specs.Tied.{AtValue, Base, StepTied};
 
 use crate::entry_ends::{close, end_entry};
 use crate::frame::{Frame, Kind, Role, Scene, State, Step};
@@ -275,6 +276,7 @@ pub(crate) fn await_value<'a>(
     requires boundary { IsCharBoundary scene.text.now (colon + 1) }
     requires top { Indexed scene.text.now (length part.old.events) top }
     requires below { All (Indexed scene.text.now (length part.old.events)) below.old.items }
+    ensures tied { (base : Base) → IsUtf8 scene.entry.text.now → AtValue scene.entry.text.now scene.entry.indentation scene.entry.context base (reverse below.old.items) top json colon part.old → IfOk result (λ s. StepTied scene.entry.text.now scene.entry.indentation scene.entry.context base (reverse below.new.items) s.top s.step part.new) }
     ensures ready { IfOk result (λ s. Ready scene.entry.text.now colon (length part.new.events) below.new.items s) }
     ensures moves { IfOk result (λ s. left (length scene.entry.text.now) s.step ≤ 2 * (length scene.entry.text.now - colon) + 1) }
     ensures escapes { IfOk result (λ _. part.new.escapes ≡ part.old.escapes) }
@@ -284,7 +286,13 @@ pub(crate) fn await_value<'a>(
         part.events.push(empty_node(alloc, None))?;
         return end_entry(alloc, scene, colon + 1, gap.end, top, below, part);
     }
-    if json || gap.is_separation {
+    if gap.is_separation {
+        return Ok(State {
+            top: top.with_value(),
+            step: Step::Node(gap.end),
+        });
+    }
+    if json {
         return Ok(State {
             top: top.with_value(),
             step: Step::Node(gap.end),

@@ -1,9 +1,11 @@
 //! The steps after a node of a flow collection: what its end makes of it, the end of its entry, and the closing bracket.
 //! Each step leads on to a later place of the text, and none goes back.
-ghost use Rattle.std.specs.Prelude.{◌≡◌, ◌+◌, ◌-◌, ◌*◌, ◌<◌, ◌≤◌, length, IfOk};
+ghost use Rattle.std.specs.Prelude.{◌≡◌, ◌+◌, ◌-◌, ◌*◌, ◌<◌, ◌≤◌, length, reverse, IfOk};
 ghost use Rattle.std.specs.List.{All};
-ghost use Rattle.std.specs.Str.{IsCharBoundary};
+ghost use Rattle.std.specs.Str.{IsCharBoundary, IsUtf8};
+ghost use Rattle.yf_events.specs.Event.{new_event_value};
 ghost use Rattle.yf_flow.specs.Machine.{Indexed, Ready, left};
+ghost use Rattle.yf_flow.specs.Tied.{AtClosing, AtEntryDone, AtEntryEnd, Base, StepTied, end_event};
 
 use crate::entries::{Below, await_value, failed, pair_start};
 use crate::frame::{Frame, Kind, Node, Role, Scene, State, Step};
@@ -159,27 +161,50 @@ pub(crate) fn end_entry<'a>(
     requires boundary { IsCharBoundary scene.text.now at }
     requires top { Indexed scene.text.now (length part.old.events) top }
     requires below { All (Indexed scene.text.now (length part.old.events)) below.old.items }
+    ensures tied { (base : Base) → IsUtf8 scene.entry.text.now → AtEntryDone scene.entry.text.now scene.entry.indentation scene.entry.context base (reverse below.old.items) top finish at part.old → IfOk result (λ s. StepTied scene.entry.text.now scene.entry.indentation scene.entry.context base (reverse below.new.items) s.top s.step part.new) }
     ensures ready { IfOk result (λ s. Ready scene.entry.text.now at (length part.new.events) below.new.items s) }
     ensures moves { IfOk result (λ s. left (length scene.entry.text.now) s.step ≤ 2 * (length scene.entry.text.now - at) + 1) }
     ensures escapes { IfOk result (λ _. part.new.escapes ≡ part.old.escapes) }
 {
-    match top.kind {
-        Kind::Sequence | Kind::Mapping => after_entry(alloc, scene, at, top, below, part),
-        Kind::Pair => {
-            part.events.push(unplaced(alloc, NewEvent::MapEnd, None))?;
-            part.events.set_end(top.event, finish)?;
-            match below.pop() {
-                Some(sequence) => after_entry(
-                    alloc,
-                    scene,
-                    at,
-                    sequence.reaching(top.deepest),
-                    below,
-                    part,
-                ),
-                None => Ok(failed(top)),
-            }
+    if top.kind.is_pair() {
+        return end_pair(alloc, scene, finish, at, top, below, part);
+    }
+    after_entry(alloc, scene, at, top, below, part)
+}
+
+// The same of a single pair: what follows belongs to its sequence.
+fn end_pair<'a>(
+    alloc: Global,
+    scene: Scene<'a>,
+    finish: usize,
+    at: usize,
+    top: Frame,
+    below: &mut Below,
+    part: &mut Part<'a>,
+) -> Result<State, AllocError>
+    requires boundary { IsCharBoundary scene.text.now at }
+    requires top { Indexed scene.text.now (length part.old.events) top }
+    requires below { All (Indexed scene.text.now (length part.old.events)) below.old.items }
+    requires pair { top.kind ≡ Kind.Pair }
+    ensures tied { (base : Base) → IsUtf8 scene.entry.text.now → AtEntryDone scene.entry.text.now scene.entry.indentation scene.entry.context base (reverse below.old.items) top finish at part.old → IfOk result (λ s. StepTied scene.entry.text.now scene.entry.indentation scene.entry.context base (reverse below.new.items) s.top s.step part.new) }
+    ensures ready { IfOk result (λ s. Ready scene.entry.text.now at (length part.new.events) below.new.items s) }
+    ensures moves { IfOk result (λ s. left (length scene.entry.text.now) s.step ≤ 2 * (length scene.entry.text.now - at) + 1) }
+    ensures escapes { IfOk result (λ _. part.new.escapes ≡ part.old.escapes) }
+{
+    part.events.push(unplaced(alloc, NewEvent::MapEnd, None))?;
+    part.events.set_end(top.event, finish)?;
+    match below.pop() {
+        Some(sequence) => {
+            after_entry(
+                alloc,
+                scene,
+                at,
+                sequence.reaching(top.deepest),
+                below,
+                part,
+            )
         }
+        None => Ok(failed(top)),
     }
 }
 
@@ -195,6 +220,7 @@ fn after_entry<'a>(
     requires boundary { IsCharBoundary scene.text.now at }
     requires top { Indexed scene.text.now (length part.old.events) top }
     requires below { All (Indexed scene.text.now (length part.old.events)) below.old.items }
+    ensures tied { (base : Base) → IsUtf8 scene.entry.text.now → AtEntryEnd scene.entry.text.now scene.entry.indentation scene.entry.context base (reverse below.old.items) top at part.old → IfOk result (λ s. StepTied scene.entry.text.now scene.entry.indentation scene.entry.context base (reverse below.new.items) s.top s.step part.new) }
     ensures ready { IfOk result (λ s. Ready scene.entry.text.now at (length part.new.events) below.new.items s) }
     ensures moves { IfOk result (λ s. left (length scene.entry.text.now) s.step ≤ 2 * (length scene.entry.text.now - at) + 1) }
     ensures escapes { IfOk result (λ _. part.new.escapes ≡ part.old.escapes) }
@@ -212,6 +238,18 @@ fn after_entry<'a>(
     Ok(failed(top))
 }
 
+// The event that ends a collection.
+#[tactic(auto, unfolding(crate::specs::Tied::end_event))]
+fn collection_end<'a>(kind: Kind) -> NewEvent<'a>
+    ensures { new_event_value result ≡ end_event kind }
+{
+    match kind {
+        Kind::Sequence => NewEvent::SeqEnd,
+        Kind::Mapping => NewEvent::MapEnd,
+        Kind::Pair => NewEvent::MapEnd,
+    }
+}
+
 /// Closes the collection by the bracket at an offset.
 pub(crate) fn close<'a>(
     alloc: Global,
@@ -224,15 +262,13 @@ pub(crate) fn close<'a>(
     requires boundary { IsCharBoundary scene.text.now (at + 1) }
     requires top { top.event < length part.old.events }
     requires below { All (Indexed scene.text.now (length part.old.events)) below.old.items }
+    ensures tied { (base : Base) → AtClosing scene.entry.text.now scene.entry.indentation scene.entry.context base (reverse below.old.items) top at part.old → IfOk result (λ s. StepTied scene.entry.text.now scene.entry.indentation scene.entry.context base (reverse below.new.items) s.top s.step part.new) }
     ensures ready { IfOk result (λ s. Ready scene.entry.text.now at (length part.new.events) below.new.items s) }
     ensures moves { IfOk result (λ s. left (length scene.entry.text.now) s.step ≤ 2 * (length scene.entry.text.now - at) + 1) }
     ensures escapes { IfOk result (λ _. part.new.escapes ≡ part.old.escapes) }
 {
-    let event = match top.kind {
-        Kind::Sequence => NewEvent::SeqEnd,
-        Kind::Mapping | Kind::Pair => NewEvent::MapEnd,
-    };
-    part.events.push(unplaced(alloc, event, None))?;
+    part.events
+        .push(unplaced(alloc, collection_end(top.kind), None))?;
     part.events.set_end(top.event, at + 1)?;
     let node = Node {
         end: at + 1,

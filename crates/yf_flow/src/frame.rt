@@ -1,5 +1,5 @@
 //! The open collections of a flow node, and the steps of its reader.
-ghost use Rattle.std.specs.Prelude.{◌≡◌};
+ghost use Rattle.std.specs.Prelude.{◌≡◌, max, MatchBool};
 
 use yf_chars::context::Ctx;
 
@@ -84,6 +84,18 @@ pub(crate) struct State {
     pub(crate) step: Step,
 }
 
+impl Kind {
+    pub(crate) fn is_pair(self) -> bool
+        ensures cases { MatchBool result (self ≡ Kind.Pair) (self ≡ Kind.Pair → ⊥) }
+    {
+        match self {
+            Kind::Sequence => false,
+            Kind::Mapping => false,
+            Kind::Pair => true,
+        }
+    }
+}
+
 impl Frame {
     /// The collection with another entry, whose first event will have the index.
     pub(crate) fn with_entry(self, entry: usize, entry_event: usize) -> Frame
@@ -108,6 +120,10 @@ impl Frame {
         ensures event { result.event ≡ self.event }
         ensures index { result.entry_event ≡ self.entry_event }
         ensures entry { result.entry ≡ self.entry }
+        ensures kind { result.kind ≡ self.kind }
+        ensures depth { result.depth ≡ self.depth }
+        ensures deepest { result.deepest ≡ self.deepest }
+        ensures role { result.role ≡ Role.Value }
     {
         Frame {
             role: Role::Value,
@@ -120,6 +136,10 @@ impl Frame {
         ensures event { result.event ≡ self.event }
         ensures index { result.entry_event ≡ self.entry_event }
         ensures entry { result.entry ≡ self.entry }
+        ensures kind { result.kind ≡ self.kind }
+        ensures depth { result.depth ≡ self.depth }
+        ensures deepest { result.deepest ≡ max self.deepest deepest }
+        ensures role { result.role ≡ self.role }
     {
         Frame {
             deepest: self.deepest.max(deepest),

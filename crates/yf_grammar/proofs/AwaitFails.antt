@@ -16,15 +16,18 @@ use Rattle.yf_grammar.specs.Grammar.MaySeparateInLine.{unseparated_in_line, sepa
 use Rattle.yf_grammar.specs.Grammar.MaySeparate.{unseparated, separated}
 use Rattle.yf_props.specs.Names.{PropertiesValue}
 use Rattle.yf_grammar.specs.Meaning.{Meaning, behind, with_props, empty_node}
+use Rattle.yf_grammar.specs.Parser.{begins_plain, begins_alias, begins_properties}
 use Rattle.yf_grammar.specs.Parser.{Found, Gap, PairKey, ANode, AContent, Parses, begins_content, propertied}
 use Rattle.yf_grammar.specs.Parser.Gap.{longest_gap, no_gap}
-use Rattle.yf_grammar.specs.Parser.Parses.{content_read, properties_content, properties_before_broken}
+use Rattle.yf_grammar.specs.Parser.Parses.{plain_missed, content_read, properties_content, properties_before_broken}
 use Rattle.yf_grammar.specs.Awaits.{EntriesAwaited, with_pair, NodeAwaited, as_item, as_key, as_value, Before, over, NodeOver, bare_there, properties_there, Within, not_yet, gap_past, is_entry_end}
 use Rattle.yf_grammar.proofs.AwaitEntries.{read_as, found_is, entry_fails, entry_stays_open}
 use Rattle.yf_grammar.proofs.AwaitValues.{key_fails, key_alone, item_fails, item_alone}
 use Rattle.yf_grammar.proofs.GapLemmas.{Visible, separate_still, separate_join, gap_is}
 use Rattle.yf_grammar.proofs.ParserLemmas.{whites_in_line}
-use Rattle.yf_grammar.proofs.NodeExact.{lone_is}
+use Rattle.yf_grammar.proofs.NodeExact.{lone_is, stop_no_first, end_stop, end_no_colon}
+use Rattle.yf_grammar.proofs.PlainEnds.{plain_leaps}
+use Rattle.yf_grammar.proofs.FlowStarts.{is_end}
 use Rattle.yf_props.proofs.SeparationEnds.{separate_forward}
 use Rattle.yf_grammar.proofs.Ways.{gap_one}
 
@@ -84,7 +87,7 @@ sign_visible : {t : List ℕ} {k : ℕ} (c : ℕ) → code t k ≡ c → is_ns_c
 sign_visible c e n h = record { ns = ap is_ns_char e ∙ n; no_hash = λ q. h (sym e ∙ q) }
 
 -- neither a comma nor a bracket
-not_ended : (s : Bool) (c : ℕ) → is_entry_end c ≡ false → (c ≢ closing s) × (c ≢ 44)
+pub not_ended : (s : Bool) (c : ℕ) → is_entry_end c ≡ false → (c ≢ closing s) × (c ≢ 44)
 not_ended true c e = (λ q. true≢false (sym (ap is_entry_end q) ∙ e), λ q. true≢false (sym (ap is_entry_end q) ∙ e))
 not_ended false c e = (λ q. true≢false (sym (ap is_entry_end q) ∙ e), λ q. true≢false (sym (ap is_entry_end q) ∙ e))
 
@@ -160,3 +163,17 @@ content_fails (bare_there b) a z w r = node_fails w a z (content_read b r)
 content_fails (properties_there {i = i} {g = g} {p = p} q s b) a z w r =
     lone_fails (record { end = g; height = 0; json = false; meaning = behind p.comments (with_props p.props p.tag_offset i g (empty_node g)) }) w a z
     (read_as (lone_is p i g ∙ found_is g 0 false (behind p.comments (with_props p.props p.tag_offset i g (empty_node g)))) (properties_before_broken q s b r)) (longest_gap s) b
+
+-- where an entry ends no node is derived
+as_end : (c : ℕ) → is_entry_end c ≡ true → is_end c ≡ true
+unfolding is_end
+as_end c e = e
+
+end_plain : (c : ℕ) → is_entry_end c ≡ true → begins_plain c ≡ true
+unfolding begins_plain begins_alias begins_properties begins_content
+end_plain c e = grind (arith, nat_tests)
+
+pub end_missed : {t : List ℕ} {e i : ℕ} {n : ℤ} {c : Ctx} → is_entry_end (code t i) ≡ true → Parses t e (ANode n c i) None
+end_missed {t} {i = i} {c = c} q =
+    let z = as_end (code t i) q in
+    plain_missed (end_plain (code t i) q) (record { none = λ j x p. stop_no_first t c i (end_stop (code t i) z) (λ e. absurd (end_no_colon (code t i) z e)) (plain_leaps p.text).0 })

@@ -1,0 +1,36 @@
+use Rattle.std.proofs.Common.{sym, ap, ◌∙◌, ◌++◌, ◌∷◌, [], subst}
+use Rattle.yf_chars.specs.Text.{code}
+use Rattle.yf_events.specs.Event.{placed_value}
+use Rattle.yf_grammar.specs.Awaits.{is_entry_end}
+use Rattle.yf_flow.proofs.TiedClose.{failed_tied}
+use Rattle.yf_flow.proofs.TiedEnds.{gap_of}
+use Rattle.yf_flow.proofs.TiedValues.{separated_gap, unseparated_gap, value_done, value_after, value_beside, value_fails}
+use Rattle.yf_flow.proofs.entries.await_value.Goals as goal
+
+pub returns-then-entry_ends-clause-tied : goal.returns-then-entry_ends-clause-tied
+returns-then-entry_ends-clause-tied c = λ base u a.
+    let r = c.in_ok-gap.ensures in
+    let g = gap_of r.reads in
+    c.end_entry.ensures.tied base u
+    (value_done a g.1 (sym c.entry_ends.ensures ∙ c.if-entry_ends.true)
+    (c.in_ok-push.ensures ∙ ap (λ w. w ++ placed_value c.empty_node.result ∷ []) r.events ∙ ap (λ w. c.args.part.now.events ++ w ∷ []) c.empty_node.ensures) g.2 r.escapes)
+
+pub returns-then-gap-clause-tied : goal.returns-then-gap-clause-tied
+returns-then-gap-clause-tied c = λ base u a.
+    let r = c.in_ok-gap.ensures in
+    let g = separated_gap r.reads c.if-gap.true in
+    let v = c.with_value.ensures in
+    value_after a c.with_value.result v.kind v.event v.depth v.deepest v.entry v.role r.events r.escapes g.1 (sym c.entry_ends.ensures ∙ c.if-entry_ends.false) g.2
+
+pub returns-then-json-clause-tied : goal.returns-then-json-clause-tied
+returns-then-json-clause-tied c = λ base u a.
+    let r = c.in_ok-gap.ensures in
+    let g = unseparated_gap r.reads c.if-gap.false in
+    let v = c.with_value-then-json.ensures in
+    value_beside a c.with_value-then-json.result v.kind v.event v.depth v.deepest v.entry v.role r.events r.escapes c.if-json.true g.0 _ g.1 (sym c.entry_ends.ensures ∙ c.if-entry_ends.false) g.2
+
+pub returns-clause-tied : goal.returns-clause-tied
+returns-clause-tied c = λ base u a.
+    let r = c.in_ok-gap.ensures in
+    let g = unseparated_gap r.reads c.if-gap.false in
+    failed_tied _ _ _ base _ _ _ _ c.failed.ensures (value_fails a c.if-json.false g.0 (ap (λ p. is_entry_end (code c.args.scene.text.now p)) (sym g.1) ∙ sym c.entry_ends.ensures ∙ c.if-entry_ends.false))

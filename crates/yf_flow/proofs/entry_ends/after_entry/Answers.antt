@@ -1,0 +1,18 @@
+use Rattle.yf_flow.proofs.TiedClose.{failed_tied}
+use Rattle.yf_flow.proofs.TiedEnds.{gap_of, entry_next, entry_closing, entry_fails}
+use Rattle.yf_flow.proofs.entry_ends.after_entry.Goals as goal
+
+pub returns-then-stands-clause-tied : goal.returns-then-stands-clause-tied
+returns-then-stands-clause-tied c = λ base u a.
+    let g = gap_of c.in_ok-place.ensures.reads in
+    entry_next u a g.1 c.in_ok-place.ensures.events g.2 c.in_ok-place.ensures.escapes c.if-stands.ensures.cases.char
+
+pub returns-then-closes-clause-tied : goal.returns-then-closes-clause-tied
+returns-then-closes-clause-tied c = λ base u a.
+    let g = gap_of c.in_ok-place.ensures.reads in
+    c.close.ensures.tied base (entry_closing u a g.1 c.in_ok-place.ensures.events g.2 c.in_ok-place.ensures.escapes c.if-closes.ensures.cases)
+
+pub returns-clause-tied : goal.returns-clause-tied
+returns-clause-tied c = λ base u a.
+    let g = gap_of c.in_ok-place.ensures.reads in
+    failed_tied _ _ _ base _ _ _ _ c.failed.ensures (entry_fails u a g.1 c.if-closes.ensures.cases c.if-stands.ensures.cases)

@@ -1,0 +1,18 @@
+use Rattle.std.proofs.Common.{refl, sym, true≢false, ap, ◌∙◌, None, ◌++◌, ◌∷◌, [], ◌+◌}
+use Rattle.yf_events.specs.Edit.{edited, ended}
+use Rattle.yf_flow.specs.Begun.{entry_event}
+use Rattle.yf_flow.proofs.TiedClose.{close_into, close_base, popped, none_left}
+use Rattle.yf_flow.proofs.entry_ends.close.Goals as goal
+
+pub returns-in-Some-clause-tied : goal.returns-in-Some-clause-tied
+returns-in-Some-clause-tied c = λ base a.
+    close_into a
+    (c.in_ok-set_end.ensures.edited ∙ ap (λ w. edited (ended (c.args.at + 1)) c.args.top.event w)
+    (c.in_ok-push.ensures ∙ ap (λ w. c.args.part.now.events ++ w ∷ []) (c.unplaced.ensures ∙ ap (λ v. entry_event v None) c.collection_end.ensures))) refl refl c.in-Some.outer _ (popped _ _ _ c.in-Some.ensures.items)
+
+pub returns-in-None-clause-tied : goal.returns-in-None-clause-tied
+returns-in-None-clause-tied c = λ base a.
+    close_base a
+    (c.in_ok-set_end.ensures.edited ∙ ap (λ w. edited (ended (c.args.at + 1)) c.args.top.event w)
+    (c.in_ok-push.ensures ∙ ap (λ w. c.args.part.now.events ++ w ∷ []) (c.unplaced.ensures ∙ ap (λ v. entry_event v None) c.collection_end.ensures))) refl refl
+    (none_left _ (λ l. true≢false (sym (c.in-None.ensures.variant.1 l))))

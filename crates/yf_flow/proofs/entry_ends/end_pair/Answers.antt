@@ -1,0 +1,15 @@
+use Rattle.std.proofs.Common.{refl, sym, true≢false, ap, ◌∙◌, ◌++◌, ◌∷◌, []}
+use Rattle.yf_events.specs.Edit.{edited, ended}
+use Rattle.yf_flow.proofs.TiedClose.{popped, none_left}
+use Rattle.yf_flow.proofs.TiedPairs.{done_pair, pair_below}
+use Rattle.yf_flow.proofs.entry_ends.end_pair.Goals as goal
+
+pub returns-in-Some-clause-tied : goal.returns-in-Some-clause-tied
+returns-in-Some-clause-tied c = λ base u a.
+    c.after_entry.ensures.tied base u
+    (done_pair a c.requires.pair
+    (c.in_ok-set_end.ensures.edited ∙ ap (λ w. edited (ended c.args.finish) c.args.top.event w) (c.in_ok-push.ensures ∙ ap (λ w. c.args.part.now.events ++ w ∷ []) c.unplaced.ensures))
+    refl refl c.in-Some.sequence _ (popped _ _ _ c.in-Some.ensures.items) c.reaching.result c.reaching.ensures.kind c.reaching.ensures.event c.reaching.ensures.depth c.reaching.ensures.deepest)
+
+pub returns-in-None-clause-tied : goal.returns-in-None-clause-tied
+returns-in-None-clause-tied c = λ base u a. absurd (pair_below a c.requires.pair (none_left _ (λ l. true≢false (sym (c.in-None.ensures.variant.1 l)))))
