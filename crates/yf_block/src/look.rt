@@ -42,9 +42,37 @@ pub(crate) fn key_ends(text: &str, start: usize, at: usize) -> bool
     ensures { result ≡ true → IsCharBoundary text.now (at + 1) }
 {
     if sign_stands(text, at, b':') {
+        if is_short_line(text, start, at) {
+            return true;
+        }
         return is_key_line(text, start, at);
     }
     false
+}
+
+// An implicit key may have as many characters, so it may always have as many bytes.
+const SHORT: usize = 1024;
+
+// Whether the bytes between the offsets are all on one line, and no more than a short key has.
+fn is_short_line(text: &str, start: usize, end: usize) -> bool {
+    if end > text.len() {
+        return false;
+    }
+    if start > end {
+        return false;
+    }
+    if end - start > SHORT {
+        return false;
+    }
+    for byte in &text.as_bytes()[start..end] {
+        if *byte == b'\n' {
+            return false;
+        }
+        if *byte == b'\r' {
+            return false;
+        }
+    }
+    true
 }
 
 /// Whether nothing more stands on the line from the offset on; a comment stands after a white.
