@@ -8,5 +8,6 @@ pub mod NotedLemmas
 pub mod TiedClose
 pub mod TiedEnds
 pub mod TiedFails
+pub mod TiedNodes
 pub mod TiedPairs
 pub mod TiedValues
