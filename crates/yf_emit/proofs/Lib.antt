@@ -12,12 +12,15 @@ pub mod EndedLemmas
 pub mod EntriesMade
 mod Examples
 pub mod FlagLemmas
+pub mod FlowFits
 pub mod FormLemmas
 pub mod GapLemmas
+pub mod GapsFit
 pub mod IndexLemmas
 pub mod KeptLemmas
 pub mod KeysMade
 pub mod LayoutLawsHold
+pub mod LeafFits
 pub mod LeafLemmas
 pub mod LevelLemmas
 pub mod MeasuredLemmas
@@ -37,6 +40,7 @@ pub mod SettledLemmas
 mod ShownComments
 mod ShownDecos
 mod ShownKeys
+mod ShownLayouts
 mod ShownNodes
 pub mod SiteLemmas
 pub mod StepLemmas

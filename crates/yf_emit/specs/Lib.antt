@@ -5,6 +5,7 @@ pub mod ContentStart
 pub mod Decorated
 pub mod Deciding
 pub mod FitDocuments
+pub mod FitFlows
 pub mod Fits
 pub mod Format
 pub mod Formatted

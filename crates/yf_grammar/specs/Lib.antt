@@ -9,3 +9,4 @@ pub mod Meant
 pub mod Parser
 pub mod Part
 pub mod Refusal
+pub mod Unmarked
