@@ -7,8 +7,9 @@ use Rattle.yf_lines.specs.LineText.{IsLineText, Follows, is_behind_name, is_behi
 use Rattle.yf_lines.specs.LineText.Follows.{byte_follows}
 use Rattle.yf_lines.proofs.BasicLemmas.{clear_join, clear_nothing}
 use Rattle.yf_lines.proofs.ClearLemmas.{not_forbidden, clear_break}
-use Rattle.yf_lines.proofs.RestLemmas.{Rest, rest_stands, rest_ascii, rest_text, rest_break, text_clear, follows_not, line_nothing, line_append, line_ascii}
+use Rattle.yf_lines.proofs.RestLemmas.{Rest, rest_ascii, rest_text, rest_break, text_clear, line_nothing, line_append, line_ascii}
 use Rattle.yf_comments.specs.GapLines.{IsRemark, AreGapLines}
+pub use Rattle.yf_grammar.proofs.PlainUnmarked.{unmarked_nothing}
 use Rattle.yf_emit.specs.Carried.{AreTrails, IsDeco, AreDecos}
 use Rattle.yf_emit.specs.Decorated.{GapLine, blank, remark, gap_then, Deco, first, after, trails_then, body_then, end_then, lines_then}
 use Rattle.yf_emit.specs.Fits.{Unmarked}
@@ -23,9 +24,6 @@ unmarked_first c x l cr dash dot = record {
       let e = (rest_ascii c u l cr s).0.char in
       not_forbidden t q (λ g. dash (sym e ∙ g)) (λ g. dot (sym e ∙ g)) n;
 }
-
-pub unmarked_nothing : Unmarked []
-unmarked_nothing = record { none = λ {t} q r u f s n. let no = follows_not u (rest_stands s) f in not_forbidden t q no.0 no.1 n }
 
 pub unmarked_more : {w : List ℕ} (c : ℕ) (z : List ℕ) → Unmarked w → c < 128 → is_behind_text c ≡ true → Unmarked (w ++ (c ∷ z))
 unmarked_more {w} c z a l e = record { none = λ {t} q r u f s n. a.none q (c ∷ (z ++ r)) u (byte_follows l e) (subst (λ v. Rest t q v) (append_assoc w (c ∷ z) r) s) n }

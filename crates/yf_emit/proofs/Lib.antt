@@ -15,13 +15,16 @@ mod Examples
 pub mod FedLemmas
 pub mod FeedLemmas
 pub mod FlagLemmas
+pub mod FlowFits
 pub mod FormLemmas
 pub mod GapLemmas
+pub mod GapsFit
 pub mod IndexLemmas
 pub mod JoinLemmas
 pub mod KeptLemmas
 pub mod KeysMade
 pub mod LayoutLawsHold
+pub mod LeafFits
 pub mod LeafLemmas
 pub mod LevelLemmas
 pub mod MeasuredLemmas
@@ -42,6 +45,7 @@ pub mod SettledLemmas
 mod ShownComments
 mod ShownDecos
 mod ShownKeys
+mod ShownLayouts
 mod ShownNodes
 pub mod SignLemmas
 pub mod SiteLemmas

@@ -52,7 +52,7 @@ sign_nb c l h = grind (arith, nat_tests)
 ascii_line : (c : ℕ) → 32 ≤ c → c < 127 → IsLineText (c ∷ [])
 ascii_line c l h = line_ascii c (omega arith) (sign_nb c l h) line_nothing
 
-space_behind_text : is_behind_text 32 ≡ true
+pub space_behind_text : is_behind_text 32 ≡ true
 unfolding is_behind_text is_behind_name
 space_behind_text = refl
 
@@ -70,7 +70,7 @@ tag_unmarked v (verbatim_form {x = x} s n) = unmarked_first 33 (60 ∷ (x ++ 62 
 tag_unmarked v (short_form {h = h} {x = x} k s n) = handle_unmarked h x k
 tag_unmarked v lone_form = unmarked_first 33 [] (omega arith) (λ e. omega arith) (λ e. omega arith) (λ e. omega arith)
 
-props_unmarked : {p : PropsValue} → IsProps p → p ≢ no_props → Unmarked (props_bytes p)
+pub props_unmarked : {p : PropsValue} → IsProps p → p ≢ no_props → Unmarked (props_bytes p)
 props_unmarked {p} k n = go p.anchor p.tag refl refl (λ v e. k.tag v e) where
   none : p.anchor ≡ None → p.tag ≡ None → p ≡ no_props
   none e f = ap (λ a. record { anchor = a; tag = p.tag }) e ∙ ap (λ v. record { anchor = None; tag = v }) f

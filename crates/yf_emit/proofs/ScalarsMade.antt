@@ -1,24 +1,21 @@
 -- A literal or folded scalar from its row: its header, its lines and what it carries.
 use Rattle.std.proofs.Common.{◌≡◌, ◌≢◌, ℕ, zero, suc, ◌+◌, ◌-◌, ◌<◌, ◌≤◌, ℤ, pos, Bool, true, false, true≢false, List, [], ◌∷◌, ◌++◌, length, map, replicate, Option, Some, None, refl, sym, ap, ◌∙◌, subst, arith, append_assoc, append-nil, ⊎_elim}
-use Rattle.std.specs.Prelude.{not, ◌+ℤ◌, is_some, if◌then◌else◌}
+use Rattle.std.specs.Prelude.{◌+ℤ◌, is_some, if◌then◌else◌}
 use Rattle.std.specs.Str.{IsUtf8}
 use Rattle.std.proofs.lemmas.Bool.{cases_Bool}
 use Rattle.yf_chars.specs.declared.context.Ctx.{Ctx}
-use Rattle.yf_lines.specs.Basic.{is_block, is_key, LineStart}
+use Rattle.yf_lines.specs.Basic.{LineStart}
 use Rattle.yf_lines.specs.Basic.LineStart.{after_break}
 use Rattle.yf_lines.specs.LineText.{IsLineText}
 use Rattle.yf_lines.proofs.RestLemmas.{Rest, rest_text, rest_break, line_nothing, line_append}
-use Rattle.yf_comments.specs.Comment.{CommentValue}
-use Rattle.yf_comments.specs.Comments.{SeparateLines}
 use Rattle.yf_comments.specs.Comments.Separate.{in_node}
-use Rattle.yf_comments.specs.GapLines.{AreGapLines, AllLeft, remarks_of}
-use Rattle.yf_comments.proofs.GapLinesLemmas.{texts, gap_at}
+use Rattle.yf_comments.specs.GapLines.{AllLeft, remarks_of}
+use Rattle.yf_comments.proofs.GapLinesLemmas.{gap_at}
 use Rattle.yf_block_scalar.specs.Body.{base}
-use Rattle.yf_block_scalar.specs.Content.{content_of, feeds}
+use Rattle.yf_block_scalar.specs.Content.{feeds}
 use Rattle.yf_block_scalar.specs.Placed.{lines_then as scalar_lines, trail_then, IsTrail, trail_texts, Below, KeptGap, scalar_then}
-use Rattle.yf_block_scalar.specs.Written.{style_bytes, digit_bytes, sign_bytes, indented, AreLineTexts, EndsWithContent, StartsUnspaced}
-use Rattle.yf_block_scalar.specs.declared.header.Chomp.{Chomp}
-use Rattle.yf_block_scalar.specs.declared.header.Chomp.TheVariants.{Strip, Clip, Keep}
+use Rattle.yf_block_scalar.specs.Written.{style_bytes, digit_bytes, sign_bytes, AreLineTexts, EndsWithContent, StartsUnspaced}
+use Rattle.yf_block_scalar.specs.declared.header.Chomp.TheVariants.{Keep}
 use Rattle.yf_block_scalar.specs.declared.header.Header.{Header}
 use Rattle.yf_block_scalar.proofs.PlacedScalar.{placed}
 use Rattle.yf_props.specs.Props.{PropsValue, no_props}
@@ -27,30 +24,30 @@ use Rattle.yf_events.specs.Alike.{alike_scalars}
 use Rattle.yf_events.specs.Event.{scalar_node}
 use Rattle.yf_events.specs.declared.event.ScalarStyle.{ScalarStyle}
 use Rattle.yf_events.specs.declared.event.ScalarStyle.TheVariants.{Plain, Single, Double, Literal, Folded}
-use Rattle.yf_events.specs.Tree.{Standing, Node, scalar, flat}
-use Rattle.yf_grammar.specs.BlockScalar.{BlockScalar, style_of, kept_lines}
+use Rattle.yf_events.specs.Tree.{Standing, scalar}
+use Rattle.yf_grammar.specs.BlockScalar.{style_of}
 use Rattle.yf_grammar.specs.Grammar.{Derives, BlockNode}
 use Rattle.yf_grammar.specs.Grammar.Derives.{a_block_scalar, a_block_scalar_with}
 use Rattle.yf_grammar.specs.Meaning.{Meaning, behind, first_with, with_props, from_to}
-use Rattle.yf_grammar.specs.Meant.{Meant, tall}
+use Rattle.yf_grammar.specs.Meant.{Meant}
 use Rattle.yf_grammar.proofs.FlowBack.{visible_line}
 use Rattle.yf_grammar.proofs.LeafBack.{behind_nothing, propertied}
 use Rattle.yf_grammar.proofs.MeantLemmas.{texts_with_props}
 use Rattle.yf_grammar.proofs.ScalarPlaced.{ScalarNode, scalar_event, scalar_placed}
 use Rattle.yf_emit.specs.declared.style.Style.{Style}
-use Rattle.yf_emit.specs.BlockLines.{begins_with_space, block_lines, chomping_sign, content_lines, digit_text, final_feeds, header_text, is_kept_tail, line_at, style_sign, tail_lines}
+use Rattle.yf_emit.specs.BlockLines.{begins_with_space, block_lines, chomping_sign, content_lines, digit_text, final_feeds, header_text, is_kept_tail, line_at, style_sign}
 use Rattle.yf_emit.specs.BlockValues.{is_folded, chomp_of, digit_of, header_of}
-use Rattle.yf_emit.specs.Carried.{AreTrails, IsDeco, AreDecos, carried_texts, comments_in, CalmBody, Calm}
-use Rattle.yf_emit.specs.Decorated.{GapLine, gap_then, Deco, first, after, trails_then, body_then, end_then, inline_then}
+use Rattle.yf_emit.specs.Carried.{AreTrails, IsDeco, AreDecos, carried_texts, CalmBody}
+use Rattle.yf_emit.specs.Decorated.{GapLine, gap_then, Deco, first, trails_then, body_then, end_then, inline_then}
 use Rattle.yf_emit.specs.Fits.{FitScalar, FitProps, no_fit_props, some_fit_props, is_block_style, Unmarked}
 use Rattle.yf_emit.specs.Layout.{may_be_blank_behind}
 use Rattle.yf_emit.specs.Normal.{Setting, Spot}
 use Rattle.yf_emit.specs.OneLine.{spaced, props_text}
-use Rattle.yf_emit.specs.Rows.{Row, Ending, block_scalar, tail_ending, is_empty_text, begins_below, rows}
+use Rattle.yf_emit.specs.Rows.{Row, Ending, block_scalar, tail_ending, is_empty_text, rows}
 use Rattle.yf_emit.proofs.BlockTexts.{style_written, digit_written, sign_written, line_written}
 use Rattle.yf_emit.proofs.ClearRows.{unmarked_first, unmarked_nothing, line_indented, AreBodyTexts, no_body_text, body_text, place_of_rest}
 use Rattle.yf_emit.proofs.CollectionsMade.{same_props, some_props}
-use Rattle.yf_emit.proofs.NodePlaces.{NodeAt, apart_at, both_behind, block_no_key}
+use Rattle.yf_emit.proofs.NodePlaces.{apart_at, both_behind, block_no_key}
 use Rattle.yf_emit.proofs.NodesMade.{Stood, NodeMade, Claim, some_rows}
 use Rattle.yf_emit.proofs.RowEnds.{trails_at, first_deco}
 
@@ -250,7 +247,7 @@ header_some Double indent text = refl
 header_some Literal indent text = refl
 header_some Folded indent text = refl
 
-spaced_some : (x y : List ℕ) → is_empty_text x ≡ false → is_empty_text y ≡ false → spaced x y ≡ x ++ (32 ∷ y)
+pub spaced_some : (x y : List ℕ) → is_empty_text x ≡ false → is_empty_text y ≡ false → spaced x y ≡ x ++ (32 ∷ y)
 spaced_some [] y e f = absurd (true≢false e)
 spaced_some (b ∷ x) [] e f = absurd (true≢false f)
 spaced_some (b ∷ x) (c ∷ y) e f = refl

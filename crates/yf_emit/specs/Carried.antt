@@ -1,10 +1,11 @@
 -- What the rows of a layout may carry after them, and which comments they carry.
-use Rattle.std.specs.Prelude.{◌≡◌, ℕ, false, List, [], ◌∷◌, ◌++◌}
+use Rattle.std.specs.Prelude.{◌≡◌, ℕ, false, List, [], ◌∷◌, ◌++◌, map}
+use Rattle.yf_comments.specs.Comment.{CommentValue}
 use Rattle.yf_comments.specs.GapLines.{IsRemark, AreGapLines, AllLeft, remarks_of}
 use Rattle.yf_block_scalar.specs.Placed.{Below, KeptGap}
 use Rattle.yf_block_scalar.specs.declared.header.Chomp.TheVariants.{Keep}
 use Rattle.yf_emit.specs.Decorated.{GapLine, Deco, first, after, lines_then}
-use Rattle.yf_emit.specs.Layout.{may_be_blank_behind}
+use Rattle.yf_emit.specs.Layout.{Source, may_be_blank_behind, trailing, trimmed}
 use Rattle.yf_emit.specs.Rows.{Row, Ending}
 
 -- one comment at most trails a row
@@ -39,3 +40,12 @@ CalmBody (l ∷ ls) column ending gap r = AllLeft column gap × (Below column r 
 abbrev pub Calm : List Row → List Deco → List ℕ → Type 0
 Calm [] ds r = Unit {0}
 Calm (x ∷ xs) ds r = CalmBody x.body x.lines x.ending (first ds).gap (lines_then xs (after ds) r) × Calm xs (after ds) r
+
+-- the comments are texts of comments, and what trails each row is one of them at most
+pub data AreRemarks : List CommentValue → Type 0 where
+  no_remark : AreRemarks []
+  one_remark : {c : CommentValue} {cs : List CommentValue} → IsRemark (trimmed c.text) → AreRemarks cs → AreRemarks (c ∷ cs)
+
+abbrev pub TrailsFit : Source → List Row → Type 0
+TrailsFit c [] = Unit {0}
+TrailsFit c (row ∷ rows) = AreTrails (map (λ d. trimmed d.text) (trailing c row)) × TrailsFit c rows

@@ -1,11 +1,7 @@
 -- Trees whose rows are read again: each node that is written on one line is, wherever it stands.
-use Rattle.std.specs.Prelude.{◌≡◌, ◌≢◌, ℕ, ◌≤◌, Bool, true, false, is_some, List, [], ◌∷◌, ◌++◌, ◌-◌}
-use Rattle.std.specs.Str.{IsUtf8}
+use Rattle.std.specs.Prelude.{◌≡◌, ◌≢◌, ℕ, ◌≤◌, Bool, true, false, is_some, List, [], ◌∷◌, ◌-◌}
 use Rattle.yf_chars.specs.declared.context.Ctx.{Ctx}
 use Rattle.yf_chars.specs.declared.context.Ctx.TheVariants.{FlowOut, BlockKey}
-use Rattle.yf_lines.specs.Basic.{Forbidden}
-use Rattle.yf_lines.specs.LineText.{Follows, is_behind_text}
-use Rattle.yf_lines.specs.Rest.{Rest}
 use Rattle.yf_props.specs.Props.{PropsValue, no_props}
 use Rattle.yf_props.specs.Written.{IsProps}
 use Rattle.yf_block_scalar.specs.Content.{content_of}
@@ -17,13 +13,10 @@ use Rattle.yf_grammar.specs.Back.{Back}
 use Rattle.yf_grammar.specs.BlockScalar.{kept_lines}
 use Rattle.yf_grammar.specs.Meaning.{Meaning}
 use Rattle.yf_grammar.specs.Meant.{Meant, tall}
+pub use Rattle.yf_grammar.specs.Unmarked.{Unmarked}
 use Rattle.yf_emit.specs.BlockLines.{begins_with_space, content_lines, final_feeds}
 use Rattle.yf_emit.specs.BlockValues.{is_folded, header_of}
 use Rattle.yf_emit.specs.OneLine.{written, colon_behind}
-
--- a text at the start of a line begins no line with a document marker there, whatever follows that may follow
-pub record Unmarked (w : List ℕ) : Type 0 where
-  pub none : {t : List ℕ} (q : ℕ) (r : List ℕ) → IsUtf8 t → Follows is_behind_text r → Rest t q (w ++ r) → Forbidden t q → ⊥
 
 -- a node on one line is derived wherever its text stands, and means the same node
 pub record LineNode (c : Ctx) (x : Node) : Type 0 where
@@ -42,9 +35,12 @@ pub data ColonFits (at_once : Bool) : List ℕ → Type 0 where
   colon_at_once : at_once ≡ true → ColonFits at_once (58 ∷ [])
   colon_apart : ColonFits at_once (32 ∷ 58 ∷ [])
 
-pub record KeyNode (x : Node) : Type 0 where
-  pub node : LineNode BlockKey x
+pub record InlineNode (c : Ctx) (x : Node) : Type 0 where
+  pub node : LineNode c x
   pub colon : ColonFits node.colon (colon_behind x)
+
+abbrev pub KeyNode : Node → Type 0
+KeyNode = InlineNode BlockKey
 
 -- whether a node is written on one line wherever it stands
 abbrev pub is_inline : Node → Bool

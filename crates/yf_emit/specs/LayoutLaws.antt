@@ -2,16 +2,16 @@
 use Rattle.std.specs.Prelude.{◌≡◌, ℕ, ◌≤◌, List, [], ◌++◌, map}
 use Rattle.std.specs.Str.{IsUtf8}
 use Rattle.yf_comments.specs.Comment.{CommentValue}
-use Rattle.yf_comments.specs.GapLines.{AreGapLines, remarks_of}
+use Rattle.yf_comments.specs.GapLines.{remarks_of}
 use Rattle.yf_events.specs.declared.document.Doc.{Doc}
 use Rattle.yf_events.specs.declared.lists.Lists.{Lists}
 use Rattle.yf_events.specs.Tree.{DocumentTree}
 use Rattle.yf_stream.specs.Stream.{Documents, Stream}
 use Rattle.yf_emit.specs.declared.style.Style.{Style}
-use Rattle.yf_emit.specs.Carried.{AreDecos, comments_in, Calm}
+use Rattle.yf_emit.specs.Carried.{comments_in, Calm, AreRemarks, TrailsFit}
 use Rattle.yf_emit.specs.Decorated.{first_gap, row_decos, rows_of}
 use Rattle.yf_emit.specs.FitDocuments.{FitDocuments, DocumentsMeant, tall_documents}
-use Rattle.yf_emit.specs.Layout.{layout}
+use Rattle.yf_emit.specs.Layout.{layout, source_of}
 
 -- The text is a stream of documents that mean these trees, with these directives, and its comments have these texts, in order.
 pub record StreamMade (t : List ℕ) (ds : List Doc) (xs : List DocumentTree) (comments : List (List ℕ)) : Type 0 where
@@ -26,10 +26,10 @@ pub record StreamMade (t : List ℕ) (ds : List Doc) (xs : List DocumentTree) (c
 abbrev pub printed_comments : Lists → Style → List DocumentTree → List (List ℕ)
 printed_comments m s trees = remarks_of (first_gap m (rows_of m s trees)) ++ comments_in (rows_of m s trees) (row_decos m (rows_of m s trees))
 
--- What is laid out is derived again: where each node on one line reads back, and what the rows carry are comments and blank lines that may
--- stand there, the layout is a stream of documents that mean the same trees up to their places, with the same directives, and its comments are
--- those that were printed, in that order.
+-- What is laid out is derived again: where each node on one line reads back, the comments are texts of comments of which one at most trails a
+-- row, and what stands after a block scalar is none of it, the layout is a stream of documents that mean the same trees up to their places, with
+-- the same directives, and its comments are those that were printed, in that order.
 abbrev pub LayoutsAreDerived : Type 0
-LayoutsAreDerived = (t : List ℕ) (m : Lists) (s : Style) (trees : List DocumentTree) → IsUtf8 t → FitDocuments m.documents trees
-    → AreGapLines (first_gap m (rows_of m s trees)) → AreDecos (row_decos m (rows_of m s trees)) → Calm (rows_of m s trees) (row_decos m (rows_of m s trees)) []
+LayoutsAreDerived = (t : List ℕ) (m : Lists) (s : Style) (trees : List DocumentTree) → IsUtf8 t → FitDocuments m.documents trees → AreRemarks m.comments
+    → TrailsFit (source_of m (rows_of m s trees)) (rows_of m s trees) → Calm (rows_of m s trees) (row_decos m (rows_of m s trees)) []
     → t ≡ layout m s trees → StreamMade t m.documents trees (printed_comments m s trees)

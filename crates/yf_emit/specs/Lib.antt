@@ -4,6 +4,7 @@ pub mod Carried
 pub mod ContentStart
 pub mod Deciding
 pub mod FitDocuments
+pub mod FitFlows
 pub mod Fits
 pub mod Decorated
 pub mod Drafts

@@ -83,6 +83,7 @@ pub mod PlainCut
 pub mod PlainEnds
 pub mod PlainStops
 pub mod PlainTails
+pub mod PlainUnmarked
 pub mod PropertiedNodes
 pub mod PropertiesEnds
 pub mod PropertiesLines

@@ -129,47 +129,47 @@ more_pairs_meant {m = m} {n = n} {o = o} a b c = record {
   escapes = append_assoc m.escapes n.escapes o.escapes ∙ (ap (λ z. z ++ (n.escapes ++ o.escapes)) a.escapes ∙ (ap (λ z. z ++ o.escapes) b.escapes ∙ c.escapes));
 }
 
--- Collections in block style, with properties or without.
+-- Collections, in flow style or not, with properties or without.
 
 abbrev spanned : ℕ → ℕ → Option ℕ → Standing
 spanned i j o = record { span = from_to i j; tag_offset = o; entry = None }
 
-pub sequence_meant : {at : Standing} {xs : Items} {m : Meaning} (i j : ℕ) → is_some at.span ≡ true → ItemsMeant xs m
-    → Meant (sequence at false no_props xs) (collection true false i j m)
+pub sequence_meant : {at : Standing} {xs : Items} {m : Meaning} (flow : Bool) (i j : ℕ) → is_some at.span ≡ true → ItemsMeant xs m
+    → Meant (sequence at flow no_props xs) (collection true flow i j m)
 unfolding collection plain_event from_to
-sequence_meant i j e a = record {
-  node = sequence (spanned i j None) false no_props a.items;
+sequence_meant flow i j e a = record {
+  node = sequence (spanned i j None) flow no_props a.items;
   alike = alike_sequences e a.alike;
-  events = ap (λ z. placed (spanned i j None) (sequence_starts false no_props) [] ∷ (z ++ (unplaced sequence_ends ∷ []))) a.events;
+  events = ap (λ z. placed (spanned i j None) (sequence_starts flow no_props) [] ∷ (z ++ (unplaced sequence_ends ∷ []))) a.events;
   escapes = a.escapes;
 }
 
-pub mapping_meant : {at : Standing} {ps : Pairs} {m : Meaning} (i j : ℕ) → is_some at.span ≡ true → PairsMeant ps m
-    → Meant (mapping at false no_props ps) (collection false false i j m)
+pub mapping_meant : {at : Standing} {ps : Pairs} {m : Meaning} (flow : Bool) (i j : ℕ) → is_some at.span ≡ true → PairsMeant ps m
+    → Meant (mapping at flow no_props ps) (collection false flow i j m)
 unfolding collection plain_event from_to
-mapping_meant i j e a = record {
-  node = mapping (spanned i j None) false no_props a.pairs;
+mapping_meant flow i j e a = record {
+  node = mapping (spanned i j None) flow no_props a.pairs;
   alike = alike_mappings e a.alike;
-  events = ap (λ z. placed (spanned i j None) (mapping_starts false no_props) [] ∷ (z ++ (unplaced mapping_ends ∷ []))) a.events;
+  events = ap (λ z. placed (spanned i j None) (mapping_starts flow no_props) [] ∷ (z ++ (unplaced mapping_ends ∷ []))) a.events;
   escapes = a.escapes;
 }
 
-pub sequence_with_meant : {at : Standing} {xs : Items} {m : Meaning} (p : PropsValue) (o : Option ℕ) (f g i j : ℕ) → is_some at.span ≡ true → ItemsMeant xs m
-    → Meant (sequence at false p xs) (with_props p o f g (collection true false i j m))
+pub sequence_with_meant : {at : Standing} {xs : Items} {m : Meaning} (flow : Bool) (p : PropsValue) (o : Option ℕ) (f g i j : ℕ) → is_some at.span ≡ true → ItemsMeant xs m
+    → Meant (sequence at flow p xs) (with_props p o f g (collection true flow i j m))
 unfolding collection plain_event from_to with_props
-sequence_with_meant p o f g i j e a = record {
-  node = sequence (spanned f j o) false p a.items;
+sequence_with_meant flow p o f g i j e a = record {
+  node = sequence (spanned f j o) flow p a.items;
   alike = alike_sequences e a.alike;
-  events = ap (λ z. placed (spanned f j o) (sequence_starts false p) [] ∷ (z ++ (unplaced sequence_ends ∷ []))) a.events;
+  events = ap (λ z. placed (spanned f j o) (sequence_starts flow p) [] ∷ (z ++ (unplaced sequence_ends ∷ []))) a.events;
   escapes = a.escapes;
 }
 
-pub mapping_with_meant : {at : Standing} {ps : Pairs} {m : Meaning} (p : PropsValue) (o : Option ℕ) (f g i j : ℕ) → is_some at.span ≡ true → PairsMeant ps m
-    → Meant (mapping at false p ps) (with_props p o f g (collection false false i j m))
+pub mapping_with_meant : {at : Standing} {ps : Pairs} {m : Meaning} (flow : Bool) (p : PropsValue) (o : Option ℕ) (f g i j : ℕ) → is_some at.span ≡ true → PairsMeant ps m
+    → Meant (mapping at flow p ps) (with_props p o f g (collection false flow i j m))
 unfolding collection plain_event from_to with_props
-mapping_with_meant p o f g i j e a = record {
-  node = mapping (spanned f j o) false p a.pairs;
+mapping_with_meant flow p o f g i j e a = record {
+  node = mapping (spanned f j o) flow p a.pairs;
   alike = alike_mappings e a.alike;
-  events = ap (λ z. placed (spanned f j o) (mapping_starts false p) [] ∷ (z ++ (unplaced mapping_ends ∷ []))) a.events;
+  events = ap (λ z. placed (spanned f j o) (mapping_starts flow p) [] ∷ (z ++ (unplaced mapping_ends ∷ []))) a.events;
   escapes = a.escapes;
 }

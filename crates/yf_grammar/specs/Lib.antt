@@ -10,3 +10,4 @@ pub mod Meant
 pub mod Parser
 pub mod Part
 pub mod Refusal
+pub mod Unmarked
