@@ -101,7 +101,7 @@ pub record BrokeOffLines (C : Table → Lists → List Finding → Type 0) (know
   pub found : Found C known findings
   pub broke : Broke old new after (findings_text findings)
 
--- a text was read, and of what is given for it holds what `Formatted` says, which any text meets
+-- a text was read, and what is given for it is what `Formatted` says: the print of a normal form, of which reading is not said
 pub record Rendered (style : Style) (known : Option (List ℕ)) (formatted : List ℕ) : Type 0 where
   pub text : List ℕ
   pub gave : Gave known text

@@ -117,8 +117,8 @@ fn write_finding<W: Sink>(finding: &Finding, writer: &mut W) -> Result<(), Fault
     write_texts(writer, &[line, ":", column, " ", finding.id, fixable, "\n"])
 }
 
-/// Reads all there is, and writes it in the house style. Proved of what is written is what `Formatted` says, which ties it to
-/// no text.
+/// Reads all there is, and writes it in the house style. Proved of what is written is what `Formatted` says: it is what is
+/// printed of the normal form of a reading; that the reading is the text's is not said.
 ///
 /// Refused is what `run_events` refuses, and nothing has then been written but, after `Fault::WriteFailed`, a prefix of the
 /// text.

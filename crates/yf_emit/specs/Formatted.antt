@@ -14,7 +14,8 @@ use Rattle.yf_emit.specs.Textual.{IsTextual}
 
 -- There is a reading, and one that differs from it by the styles of its scalars, which are those of the house, and by which of its
 -- collections are flow collections, and says the same; where the reading is one as texts have them, the other is its normal form. And u
--- is a text. That the reading is that of t, and that u is the layout of the normal form (`Formats`), is not said: any text meets this.
+-- is the text that one pass prints of the other. That the reading is that of t, and that u is the layout of the normal form (`Formats`),
+-- is not said.
 pub record Formatted (t : List ℕ) (s : Style) (u : List ℕ) : Type 0 where
   pub reading : Lists
   pub normal : Lists
