@@ -3,8 +3,10 @@ pub mod LawsHold
 pub mod OneDirective
 pub mod OneReading
 pub mod OneStream
+pub mod ReadingOrder
 pub mod ShownEmpty
 pub mod ShownItem
+pub mod ShownLaws
 pub mod ShownMarked
 pub mod ShownMarkers
 pub mod ShownNotes

@@ -1,6 +1,6 @@
 -- The path of a stream: its documents over places at which no comment line begins, each with all comment lines after it, whoever takes
 -- them. Each stream that is derived has a path.
-use Rattle.std.proofs.Common.{◌≡◌, ◌≢◌, ℕ, max, ◌+◌, ◌-ℤ◌, pos, ◌<◌, ◌≤◌, ℤ, Bool, true, false, inl, inr, ◌⊎◌, ⊎_elim, List, [], ◌∷◌, ◌++◌, length, refl, sym, ap, ◌∙◌, subst, arith, true≢false, append_assoc, add-zero}
+use Rattle.std.proofs.Common.{◌≡◌, ◌≢◌, ℕ, max, ◌+◌, ◌<◌, ◌≤◌, ℤ, Bool, true, false, inl, ⊎_elim, List, [], ◌∷◌, ◌++◌, length, refl, sym, ap, ◌∙◌, subst, arith, true≢false, append_assoc, add-zero}
 use Rattle.std.proofs.lemmas.Bool.{cases_eq, cases_lt, eqb-true}
 use Rattle.std.proofs.Math.Bool.{and-false}
 use Rattle.std.specs.Str.{IsUtf8}
@@ -8,12 +8,12 @@ use Rattle.yf_chars.specs.declared.context.Ctx.{Ctx}
 use Rattle.yf_chars.specs.Text.{code, next, no_char}
 use Rattle.yf_chars.specs.Class.{is_white, is_white_or_end, is_ns_char, is_nb_char, is_printable, is_between, is_break_char, is_indicator, is_flow_indicator}
 use Rattle.yf_plain.specs.Plain.{is_plain_first, is_sign}
-use Rattle.yf_chars.specs.Chain.{Chain, Many, Nowhere, Stuck}
+use Rattle.yf_chars.specs.Chain.{Chain, Many, Stuck}
 use Rattle.yf_chars.specs.Chain.One.{one}
 use Rattle.yf_chars.specs.Chain.Chain.{done, step}
 use Rattle.yf_chars.proofs.ChainLemmas.{chain_append, chain_one, stuck_unique}
 use Rattle.yf_chars.proofs.TextLemmas.{code-past}
-use Rattle.yf_lines.specs.Basic.{is_block, Spaces, Forbidden, LineStart, SeparateInLine, is_three, is_marker}
+use Rattle.yf_lines.specs.Basic.{is_block, Spaces, Forbidden, LineStart, SeparateInLine, is_three}
 use Rattle.yf_lines.specs.Basic.LineStart.{at_text, after_mark}
 use Rattle.yf_lines.specs.Basic.SeparateInLine.{by_whites, at_start}
 use Rattle.yf_lines.proofs.BasicLemmas.{break_char, marker_of_dashes, marker_of_dots, three_all, three_first, three_second}
@@ -30,7 +30,7 @@ use Rattle.yf_events.specs.declared.directive.Directive.{Directive}
 use Rattle.yf_grammar.specs.Grammar.{BlockEntries, BlockEntry, BlockNode, BlockValue, Derives, NodeOf}
 use Rattle.yf_grammar.specs.Grammar.Derives.{flow_node, an_alias, a_plain, a_plain_with, properties_alone, a_json, a_json_with, a_key, a_block_scalar, a_block_scalar_with, a_block_collection, a_block_collection_with, flow_in_block, a_last_entry, an_entry_before, a_dash_entry, an_explicit_entry_with, an_explicit_key_alone, a_keyed_entry, an_unkeyed_entry, a_block_value, an_empty_block_value}
 use Rattle.yf_grammar.specs.Meaning.{Meaning, empty_node, noting}
-use Rattle.yf_grammar.proofs.BlankRuns.{Behind, behind_byte, no_start_behind}
+use Rattle.yf_grammar.proofs.BlankRuns.{behind_byte, no_start_behind}
 use Rattle.yf_grammar.proofs.BlockEnds.{LineOrEnd, block_ends}
 use Rattle.yf_grammar.specs.Parser.{begins_alias, begins_content, begins_properties}
 use Rattle.yf_grammar.proofs.BlockScalars.{is_bar_sign, scalar_sign}
@@ -48,7 +48,7 @@ use Rattle.yf_stream.specs.Stream.PrefixPart.{order_mark, prefix_comment}
 use Rattle.yf_stream.specs.Stream.Stream.{begins_with_document, without_document}
 use Rattle.yf_stream.specs.Stream.StreamRest.{past_explicit, past_prefix, past_suffixes, past_suffixes_and_document, stream_ended}
 use Rattle.yf_stream.specs.Stream.Suffixes.{last_suffix, more_suffixes}
-use Rattle.yf_stream.proofs.OneDirective.{DirectivesTo, lines_begin, lines_to, visible_still, percent_still, dash_still, dot_still}
+use Rattle.yf_stream.proofs.OneDirective.{DirectivesTo, lines_begin, lines_to, percent_still, dash_still, dot_still}
 
 -- comment lines, as many as there are
 pub record Settled (t : List ℕ) (i l : ℕ) (es : List CommentValue) : Type 0 where
