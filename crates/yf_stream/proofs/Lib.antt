@@ -1,5 +1,6 @@
 pub mod Forward
 pub mod LawsHold
+pub mod NoPercent
 pub mod OneDirective
 pub mod OneReading
 pub mod OneStream
