@@ -1,17 +1,15 @@
 -- The laws of streams and of readings hold.
-use Rattle.std.proofs.Common.{◌≡◌, ℕ, ◌<◌, List, [], refl, sym, ap, ◌∙◌, subst, arith}
+use Rattle.std.proofs.Common.{◌≡◌, ◌<◌, [], refl, sym, ap, ◌∙◌, subst, arith}
 use Rattle.std.specs.List.{Contains}
 use Rattle.yf_lines.specs.declared.fault.Fault.{Fault}
 use Rattle.yf_lines.specs.declared.fault.Fault.TheVariants.{Memory}
-use Rattle.yf_events.specs.declared.lists.Lists.{Lists}
-use Rattle.yf_stream.specs.Laws.{StreamsAreOne, DerivedStreamsAreShapes, ReadingsAreOne, ReadingsAreTheReading, ReadTextsHaveNoFault}
-use Rattle.yf_stream.specs.ReadingOf.{ReadingOf}
+use Rattle.yf_stream.specs.Laws.{StreamsAreOne, DerivedStreamsAreShapes, ReadingsAreOne, ReadingsAreTheReading, ReadTextsHaveNoFault, CommentsOfReadingsAscend, CommentsOfReadingsAreWithin}
 use Rattle.yf_stream.specs.StreamReader.{NoStream, StreamFault, for_memory, no_stream, too_deep, breached}
-use Rattle.yf_stream.specs.WellFormed.{Shapes, IsFirst, breaches}
-use Rattle.yf_stream.specs.Stream.{Documents}
+use Rattle.yf_stream.specs.WellFormed.{breaches}
 use Rattle.yf_stream.specs.declared.breaches.Breach.{Breach}
 use Rattle.yf_stream.proofs.OneReading.{one_reading}
 use Rattle.yf_stream.proofs.OneStream.{one_stream}
+use Rattle.yf_stream.proofs.ReadingOrder.{comments_in_order, comments_within}
 
 pub streams_are_one : StreamsAreOne
 streams_are_one t h g x y u d v f w = one_stream u d v f w
@@ -42,3 +40,9 @@ read_texts_have_no_fault t r fault a f = go fault f where
       let same : a.derived ≡ x = s.only y.height a.derived y.derived y.within in
       let none : breaches x.documents ≡ [] = ap (λ w. breaches w.documents) (sym same) ∙ a.reads.well_formed in
       absurd (none_first (subst (λ w. Contains w b) none first.among))
+
+pub comments_of_readings_ascend : CommentsOfReadingsAscend
+comments_of_readings_ascend t r a = comments_in_order a
+
+pub comments_of_readings_are_within : CommentsOfReadingsAreWithin
+comments_of_readings_are_within t r a = comments_within a

@@ -1,10 +1,13 @@
 pub mod Forward
 pub mod LawsHold
+pub mod NoPercent
 pub mod OneDirective
 pub mod OneReading
 pub mod OneStream
+pub mod ReadingOrder
 pub mod ShownEmpty
 pub mod ShownItem
+pub mod ShownLaws
 pub mod ShownMarked
 pub mod ShownMarkers
 pub mod ShownNotes

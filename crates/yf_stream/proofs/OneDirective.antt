@@ -1,9 +1,8 @@
 -- Directives before a `---` are read in one way.
-use Rattle.std.proofs.Common.{◌≡◌, ◌≢◌, ℕ, ◌+◌, ◌<◌, ◌≤◌, Bool, true, false, inl, inr, ⊎_elim, List, [], ◌∷◌, ◌++◌, length, slice_range, codes, refl, sym, ap, ◌∙◌, subst, arith, true≢false, append_assoc, append-nil}
-use Rattle.std.proofs.lemmas.Bool.{cases_Bool, cases_eq}
+use Rattle.std.proofs.Common.{◌≡◌, ◌≢◌, ℕ, ◌+◌, ◌<◌, ◌≤◌, Bool, true, false, List, [], ◌∷◌, ◌++◌, length, slice_range, codes, refl, sym, ap, ◌∙◌, subst, arith, true≢false, append_assoc, append-nil}
 use Rattle.std.proofs.lemmas.Bool.Decides.{nat_tests}
 use Rattle.std.specs.Str.{IsUtf8}
-use Rattle.yf_chars.specs.Text.{code, next, no_char}
+use Rattle.yf_chars.specs.Text.{code, next}
 use Rattle.yf_chars.specs.Class.{is_white, is_digit, is_ns_char, is_nb_char, is_printable, is_between, is_break_char, is_word_char, is_uri_char, is_tag_char}
 use Rattle.yf_chars.specs.Chain.{Chain, Functional, Many, One, Stuck}
 use Rattle.yf_chars.specs.Chain.One.{one}
@@ -11,7 +10,7 @@ use Rattle.yf_chars.specs.Chain.Chain.{done, step}
 use Rattle.yf_chars.proofs.ChainLemmas.{chain_forward, chain_meet, many_unique, Meets, one_functional}
 use Rattle.yf_chars.proofs.ChainLemmas.Meets.{goes_on, falls_short}
 use Rattle.yf_chars.proofs.TextLemmas.{reads_real}
-use Rattle.yf_lines.specs.Basic.{LineStart, SeparateInLine}
+use Rattle.yf_lines.specs.Basic.{SeparateInLine}
 use Rattle.yf_lines.specs.Basic.SeparateInLine.{by_whites, at_start}
 use Rattle.yf_comments.specs.Comment.{CommentValue}
 use Rattle.yf_comments.specs.Comments.{LineEnd, Row}
@@ -23,7 +22,7 @@ use Rattle.yf_props.specs.Names.{Handle, Run, Spelled, TagChar, TagPrefix, UriCh
 use Rattle.yf_props.specs.Names.Handle.{primary_handle, secondary_handle, named_handle}
 use Rattle.yf_props.specs.Names.Spelled.{as_itself, as_escape}
 use Rattle.yf_props.specs.Names.TagPrefix.{local_prefix, global_prefix}
-use Rattle.yf_props.proofs.NameLemmas.{run_unique, run_stuck}
+use Rattle.yf_props.proofs.NameLemmas.{run_unique}
 use Rattle.yf_props.proofs.SeparationEnds.{Solid}
 use Rattle.yf_props.proofs.SolidLemmas.{hex_solid, tag_solid, uri_solid, word_solid}
 use Rattle.yf_props.proofs.TagLemmas.{mark_word, percent_tag, percent_uri, spelled_functional, spelled_stuck, tag_functional}

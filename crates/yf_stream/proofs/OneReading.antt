@@ -1,13 +1,11 @@
 -- A text has at most one reading: what `ReadingOf` adds to the one derivation of a text is determined by it.
-use Rattle.std.proofs.Common.{◌≡◌, ◌≢◌, ℕ, Bool, true, false, List, [], ◌∷◌, ◌++◌, map, flat_map, length, Option, Some, None, ◌⊎◌, ⊎_elim, refl, sym, ap, ◌∙◌, subst, arith}
-use Rattle.std.specs.Str.{IsUtf8}
+use Rattle.std.proofs.Common.{◌≡◌, ℕ, Bool, List, [], ◌∷◌, ◌++◌, map, flat_map, length, Option, Some, None, ◌⊎◌, ⊎_elim, refl, sym, ap, ◌∙◌, subst}
 use Rattle.yf_chars.specs.Text.{code}
 use Rattle.yf_chars.specs.Chain.{Chain}
 use Rattle.yf_chars.specs.Chain.Chain.{done, step}
 use Rattle.yf_chars.proofs.ChainLemmas.{chain_append, chain_meet, Meets}
 use Rattle.yf_chars.proofs.ChainLemmas.Meets.{goes_on, falls_short}
 use Rattle.yf_lines.specs.Basic.{Forbidden, LineStart}
-use Rattle.yf_lines.specs.declared.line.Line.{Line}
 use Rattle.yf_lines.proofs.LineLemmas.{lines_unique}
 use Rattle.yf_comments.specs.Comment.{CommentValue}
 use Rattle.yf_comments.specs.Comments.{CommentLine, LineEnd, LineRest, Row}
@@ -20,16 +18,15 @@ use Rattle.yf_props.specs.Handles.SuffixText.{as_decoded, as_written}
 use Rattle.yf_props.specs.Handles.TagText.{non_specific_text, shorthand_text, verbatim_text}
 use Rattle.yf_props.specs.Props.{TagValue}
 use Rattle.yf_events.specs.Event.{Placed, document_ends, document_starts, stream_ends, stream_starts}
-use Rattle.yf_events.specs.Tree.{DocumentTree, TreesOf, leaves, unplaced}
+use Rattle.yf_events.specs.Tree.{TreesOf, leaves, unplaced}
 use Rattle.yf_events.specs.declared.document.Doc.{Doc}
-use Rattle.yf_events.specs.declared.event.Span.{Span}
 use Rattle.yf_events.specs.declared.lists.Lists.{Lists}
 use Rattle.yf_events.proofs.TreeLemmas.{trees_unique}
 use Rattle.yf_grammar.specs.Part.{NotedSince, noted, not_noted, Noting}
 use Rattle.yf_grammar.proofs.GapLemmas.{end_next}
 use Rattle.yf_grammar.proofs.Parts.{noting_one}
-use Rattle.yf_stream.specs.ReadingOf.{DocumentEvents, no_document, one_document, EventTags, no_event, tagged, untagged, NotedComments, no_comment, one_comment, ReadingOf, doc_of, floor_at, leaf_lines}
-use Rattle.yf_stream.specs.Stream.{Document, Documents, EndIsMarked, PrefixPart, Prefixes}
+use Rattle.yf_stream.specs.ReadingOf.{DocumentEvents, no_document, one_document, EventTags, no_event, tagged, untagged, NotedComments, no_comment, one_comment, ReadingOf, doc_of, leaf_lines}
+use Rattle.yf_stream.specs.Stream.{Document, EndIsMarked, Prefixes}
 use Rattle.yf_stream.specs.Stream.EndIsMarked.{marked_end, unmarked_end}
 use Rattle.yf_stream.specs.Stream.PrefixPart.{order_mark, prefix_comment}
 use Rattle.yf_stream.proofs.OneDirective.{dot_still}

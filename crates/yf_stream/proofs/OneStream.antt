@@ -1,21 +1,19 @@
 -- A text has one derivation as a stream within the limit of open collections, but for who takes its comment lines: all that is so derived
 -- is one stream of documents and comments.
-use Rattle.std.proofs.Common.{◌≡◌, ◌≢◌, ℕ, max, ◌+◌, ◌-ℤ◌, ℤ, pos, ◌<◌, ◌≤◌, Bool, true, false, ⊎_elim, List, [], ◌∷◌, ◌++◌, length, Option, Some, None, refl, sym, ap, ◌∙◌, subst, arith, true≢false, append-nil}
+use Rattle.std.proofs.Common.{◌≡◌, ℕ, ◌+◌, ◌-ℤ◌, ℤ, pos, ◌≤◌, Bool, true, false, List, [], ◌++◌, Option, Some, None, refl, sym, ap, ◌∙◌, subst, arith, true≢false, append-nil}
 use Rattle.std.specs.Str.{IsUtf8}
 use Rattle.yf_chars.specs.declared.context.Ctx.{Ctx}
 use Rattle.yf_chars.specs.declared.context.Ctx.TheVariants.{BlockIn}
 use Rattle.yf_chars.specs.Text.{code, no_char}
 use Rattle.yf_chars.specs.Class.{is_ns_char, is_nb_char, is_printable, is_between, is_break_char, is_white}
-use Rattle.yf_chars.specs.Chain.{Chain, Chosen, Stuck}
-use Rattle.yf_chars.specs.Chain.Chain.{done, step}
-use Rattle.yf_chars.proofs.ChainLemmas.{chain_append, chain_forward, many_unique, one_functional, stuck_unique}
-use Rattle.yf_lines.specs.Basic.{Forbidden}
+use Rattle.yf_chars.specs.Chain.{Stuck}
+use Rattle.yf_chars.specs.Chain.Chain.{done}
+use Rattle.yf_chars.proofs.ChainLemmas.{chain_append, many_unique, stuck_unique}
 use Rattle.yf_comments.specs.Comment.{CommentValue}
 use Rattle.yf_comments.specs.Comments.{LineEnd, Row}
 use Rattle.yf_comments.proofs.RowLemmas.{row_functional, separate_whites}
 use Rattle.yf_comments.proofs.LineEndLemmas.{line_end_rows}
 use Rattle.yf_plain.proofs.PlainLemmas.{ns_not_white}
-use Rattle.yf_events.specs.declared.directive.Directive.{Directive}
 use Rattle.yf_grammar.specs.Meaning.{Meaning, empty_node, noting}
 use Rattle.yf_grammar.specs.Parser.{Found, found}
 use Rattle.yf_grammar.specs.BlockParser.{LinesEnd, text_ends, mark_stands, marker_stands, LineText, Nothing, Awaited, Below, Whole, alone}
@@ -26,9 +24,9 @@ use Rattle.yf_grammar.proofs.DocumentNodes.{DocumentFound, takes_lines, leaves_l
 use Rattle.yf_grammar.proofs.BlockExtended.{by_scalar}
 use Rattle.yf_grammar.proofs.Irrefutable.{Irrefutable, sure, then}
 use Rattle.yf_grammar.proofs.WholeAnswered.{whole_answered}
-use Rattle.yf_stream.specs.Stream.{ContentAt, Document, Documents, Stream, document_of, only_comments, with_comments, with_document}
+use Rattle.yf_stream.specs.Stream.{ContentAt, Documents, Stream, document_of, with_comments, with_document}
 use Rattle.yf_stream.specs.Stream.ContentAt.{content_at}
-use Rattle.yf_stream.proofs.OneDirective.{DirectivesTo, directives_one}
+use Rattle.yf_stream.proofs.OneDirective.{directives_one}
 use Rattle.yf_stream.proofs.Stable.{stable_nat, stable_meaning}
 use Rattle.yf_stream.proofs.StreamPath.{Settled, NodeTo, ExplicitTo, node_to, nothing_to, Path, path_ends, path_mark, path_suffix, path_explicit, path_directives, path_bare, settled_one, end_code, stream_from}
 

@@ -1,19 +1,17 @@
 -- The path of a stream: its documents over places at which no comment line begins, each with all comment lines after it, whoever takes
 -- them. Each stream that is derived has a path.
-use Rattle.std.proofs.Common.{◌≡◌, ◌≢◌, ℕ, max, ◌+◌, ◌-ℤ◌, pos, ◌<◌, ◌≤◌, ℤ, Bool, true, false, inl, inr, ◌⊎◌, ⊎_elim, List, [], ◌∷◌, ◌++◌, length, refl, sym, ap, ◌∙◌, subst, arith, true≢false, append_assoc, add-zero}
-use Rattle.std.proofs.lemmas.Bool.{cases_eq, cases_lt, eqb-true}
-use Rattle.std.proofs.Math.Bool.{and-false}
+use Rattle.std.proofs.Common.{◌≡◌, ◌≢◌, ℕ, max, ◌+◌, ◌<◌, ℤ, Bool, true, false, inl, ⊎_elim, List, [], ◌∷◌, ◌++◌, length, refl, sym, ap, ◌∙◌, subst, arith, true≢false, append_assoc}
+use Rattle.std.proofs.lemmas.Bool.{cases_eq, eqb-true}
 use Rattle.std.specs.Str.{IsUtf8}
 use Rattle.yf_chars.specs.declared.context.Ctx.{Ctx}
 use Rattle.yf_chars.specs.Text.{code, next, no_char}
-use Rattle.yf_chars.specs.Class.{is_white, is_white_or_end, is_ns_char, is_nb_char, is_printable, is_between, is_break_char, is_indicator, is_flow_indicator}
-use Rattle.yf_plain.specs.Plain.{is_plain_first, is_sign}
-use Rattle.yf_chars.specs.Chain.{Chain, Many, Nowhere, Stuck}
+use Rattle.yf_chars.specs.Class.{is_white, is_white_or_end, is_ns_char, is_nb_char, is_printable, is_between, is_break_char}
+use Rattle.yf_chars.specs.Chain.{Chain, Many, Stuck}
 use Rattle.yf_chars.specs.Chain.One.{one}
 use Rattle.yf_chars.specs.Chain.Chain.{done, step}
 use Rattle.yf_chars.proofs.ChainLemmas.{chain_append, chain_one, stuck_unique}
 use Rattle.yf_chars.proofs.TextLemmas.{code-past}
-use Rattle.yf_lines.specs.Basic.{is_block, Spaces, Forbidden, LineStart, SeparateInLine, is_three, is_marker}
+use Rattle.yf_lines.specs.Basic.{Forbidden, LineStart, SeparateInLine, is_three}
 use Rattle.yf_lines.specs.Basic.LineStart.{at_text, after_mark}
 use Rattle.yf_lines.specs.Basic.SeparateInLine.{by_whites, at_start}
 use Rattle.yf_lines.proofs.BasicLemmas.{break_char, marker_of_dashes, marker_of_dots, three_all, three_first, three_second}
@@ -27,19 +25,13 @@ use Rattle.yf_comments.proofs.RowLemmas.{row_functional, separate_whites, stuck_
 use Rattle.yf_comments.proofs.LineEndLemmas.{line_end_rows, lines_rows, row_stuck, row_stuck_end}
 use Rattle.yf_block_scalar.proofs.HeaderLemmas.{rest_stop}
 use Rattle.yf_events.specs.declared.directive.Directive.{Directive}
-use Rattle.yf_grammar.specs.Grammar.{BlockEntries, BlockEntry, BlockNode, BlockValue, Derives, NodeOf}
-use Rattle.yf_grammar.specs.Grammar.Derives.{flow_node, an_alias, a_plain, a_plain_with, properties_alone, a_json, a_json_with, a_key, a_block_scalar, a_block_scalar_with, a_block_collection, a_block_collection_with, flow_in_block, a_last_entry, an_entry_before, a_dash_entry, an_explicit_entry_with, an_explicit_key_alone, a_keyed_entry, an_unkeyed_entry, a_block_value, an_empty_block_value}
+use Rattle.yf_grammar.specs.Grammar.{BlockNode, Derives}
+use Rattle.yf_grammar.specs.Grammar.Derives.{a_block_scalar, a_block_scalar_with, a_block_collection, a_block_collection_with, flow_in_block}
 use Rattle.yf_grammar.specs.Meaning.{Meaning, empty_node, noting}
-use Rattle.yf_grammar.proofs.BlankRuns.{Behind, behind_byte, no_start_behind}
+use Rattle.yf_grammar.proofs.BlankRuns.{behind_byte, no_start_behind}
 use Rattle.yf_grammar.proofs.BlockEnds.{LineOrEnd, block_ends}
-use Rattle.yf_grammar.specs.Parser.{begins_alias, begins_content, begins_properties}
-use Rattle.yf_grammar.proofs.BlockScalars.{is_bar_sign, scalar_sign}
 use Rattle.yf_grammar.proofs.BlockStarts.{block_starts}
-use Rattle.yf_grammar.proofs.FlowStarts.{flow_starts}
-use Rattle.yf_grammar.proofs.NodeExits.{alias_begins}
-use Rattle.yf_grammar.proofs.PlainEnds.{plain_leaps}
-use Rattle.yf_grammar.proofs.PropertiesEnds.{properties_begin}
-use Rattle.yf_grammar.proofs.GapLemmas.{Visible, end_next, rows_next, separate_still, visible_solid}
+use Rattle.yf_grammar.proofs.GapLemmas.{end_next, rows_next, visible_solid}
 use Rattle.yf_stream.specs.Stream.{AnyDocument, ContentAt, Document, Documents, ExplicitNode, PrefixPart, Prefixes, RootNode, Stream, StreamRest, Suffixes, document_of, only_comments, with_comments, with_document}
 use Rattle.yf_stream.specs.Stream.AnyDocument.{bare_document, directive_document, explicit_document}
 use Rattle.yf_stream.specs.Stream.ContentAt.{content_at}
@@ -48,7 +40,8 @@ use Rattle.yf_stream.specs.Stream.PrefixPart.{order_mark, prefix_comment}
 use Rattle.yf_stream.specs.Stream.Stream.{begins_with_document, without_document}
 use Rattle.yf_stream.specs.Stream.StreamRest.{past_explicit, past_prefix, past_suffixes, past_suffixes_and_document, stream_ended}
 use Rattle.yf_stream.specs.Stream.Suffixes.{last_suffix, more_suffixes}
-use Rattle.yf_stream.proofs.OneDirective.{DirectivesTo, lines_begin, lines_to, visible_still, percent_still, dash_still, dot_still}
+use Rattle.yf_stream.proofs.NoPercent.{no_percent_node}
+use Rattle.yf_stream.proofs.OneDirective.{DirectivesTo, lines_begin, lines_to, percent_still, dash_still, dot_still}
 
 -- comment lines, as many as there are
 pub record Settled (t : List ℕ) (i l : ℕ) (es : List CommentValue) : Type 0 where
@@ -130,10 +123,6 @@ ends_by_white : (c : ℕ) → is_white c ≡ true → is_white_or_end c ≡ true
 unfolding is_white_or_end
 ends_by_white c e = rw e refl
 
-percent_ns : is_ns_char 37 ≡ true
-unfolding is_ns_char is_nb_char is_printable is_between is_break_char is_white
-percent_ns = refl
-
 signs_visible : (is_ns_char 45 ≡ true) × (is_ns_char 46 ≡ true)
 unfolding is_ns_char is_nb_char is_printable is_between is_break_char is_white
 signs_visible = (refl, refl)
@@ -195,77 +184,6 @@ module _ {t : List ℕ} where
   node_white n (a_block_collection b e s l d) = line_end_white n e
   node_white n (a_block_collection_with b s p e r l d) = separate_white n s
   node_white n (flow_in_block b s d e) = separate_white n s
-
--- no node begins with a `%`
-percent_bars : (is_bar_sign 37 ≡ false) × (begins_properties 37 ≡ false) × (begins_content 37 ≡ false) × (begins_alias 37 ≡ false)
-unfolding is_bar_sign begins_properties begins_content begins_alias
-percent_bars = (refl, refl, refl, refl)
-
-percent_first : (t : List ℕ) (c : Ctx) (i : ℕ) → code t i ≡ 37 → is_plain_first t c i ≡ false
-unfolding is_plain_first is_indicator is_sign is_flow_indicator is_ns_char is_nb_char is_white is_printable is_break_char is_between
-percent_first t c i e = rw e (and-false (is_ns_char 37))
-
-apart : (b : ℕ → Bool) (c : ℕ) → c ≡ 37 → b 37 ≡ false → b c ≡ true → ⊥
-apart b c e f g = true≢false (sym g ∙ ap b e ∙ f)
-
-moved_code : (t : List ℕ) (k l : ℕ) → l ≡ k → code t k ≡ 37 → code t l ≡ 37
-moved_code t k l e f = ap (code t) e ∙ f
-
-module _ {t : List ℕ} where
-  percent_visible : {k : ℕ} → code t k ≡ 37 → Visible t k
-  percent_visible e = record { ns = ap is_ns_char e ∙ percent_ns; no_hash = λ q. absurd (omega arith) }
-
-  no_percent_flow : {h i j : ℕ} {json : Bool} {n : ℤ} {c : Ctx} {x : Meaning} → is_block c ≡ false → code t i ≡ 37 → Derives t h (NodeOf json n c) i j x → ⊥
-  no_percent_flow {i = i} b e (an_alias f a) = apart begins_alias (code t i) e percent_bars.3 (alias_begins a)
-  no_percent_flow {i = i} {c = c} b e (a_plain p) = true≢false (sym (plain_leaps p).0 ∙ percent_first t c i e)
-  no_percent_flow {i = i} b e (a_plain_with p s q) = apart begins_properties (code t i) e percent_bars.1 (properties_begin p)
-  no_percent_flow {i = i} b e (properties_alone f p) = apart begins_properties (code t i) e percent_bars.1 (properties_begin p)
-  no_percent_flow {i = i} b e (a_json q) = apart begins_content (code t i) e percent_bars.2 (flow_starts q b).content
-  no_percent_flow {i = i} b e (a_json_with p s q) = apart begins_properties (code t i) e percent_bars.1 (properties_begin p)
-
-  no_percent_value : {h m i j : ℕ} {x : Meaning} → code t i ≡ 37 → Derives t h (BlockValue m) i j x → ⊥
-  no_percent_value e (a_block_value f d) = omega arith
-  no_percent_value e (an_empty_block_value f l) = omega arith
-
-  no_percent_entry : {h m i j : ℕ} {s : Bool} {x : Meaning} → code t i ≡ 37 → Derives t h (BlockEntry s m) i j x → ⊥
-  no_percent_entry e (a_dash_entry f n d) = omega arith
-  no_percent_entry e (an_explicit_entry_with f w a c b) = omega arith
-  no_percent_entry e (an_explicit_key_alone f w a c) = omega arith
-  no_percent_entry e (a_keyed_entry (a_key d g m) v) = no_percent_flow refl e d
-  no_percent_entry e (an_unkeyed_entry v) = no_percent_value e v
-
-  no_percent_entries : {h m i j : ℕ} {s : Bool} {x : Meaning} → code t i ≡ 37 → Derives t h (BlockEntries s m) i j x → ⊥
-  no_percent_entries e (a_last_entry d) = no_percent_entry e d
-  no_percent_entries e (an_entry_before d s r) = no_percent_entry e d
-
-  -- nothing but the start of a line ends there
-  no_lines : {k l : ℕ} {x : List CommentValue} → code t k ≡ 37 → LineEnd t k l x → l ≡ k
-  no_lines {k} e d = go (line_end_rows d) where
-    go : {l : ℕ} {x : List CommentValue} → Chain (Row t) k l x → l ≡ k
-    go done = refl
-    go (step {h = h} {x = x} r c) = absurd ((percent_still e).none h x r)
-
-  no_spaces : {k m : ℕ} → code t k ≡ 37 → Spaces t k m → m ≡ 0
-  no_spaces {k} {m} e s = ⊎_elim
-      (λ (l : 0 < m).
-      let f = s.each 0 l in
-      let g : code t k ≡ 32 = ap (code t) (sym (add-zero k)) ∙ f in
-      absurd (omega arith))
-      (λ (l : m ≤ 0). omega arith)
-      (cases_lt 0 m)
-
-  no_percent_node : {h k j : ℕ} {n : ℤ} {c : Ctx} {x : Meaning} → code t k ≡ 37 → Derives t h (BlockNode n c) k j x → ⊥
-  no_percent_node {k = k} e (a_block_scalar {k = l} b s d) =
-      apart is_bar_sign (code t l) (moved_code t k l (separate_still (percent_visible e) s).0 e) percent_bars.0 (scalar_sign d)
-  no_percent_node {k = k} e (a_block_scalar_with {f = l} b s p q d) =
-      apart begins_properties (code t l) (moved_code t k l (separate_still (percent_visible e) s).0 e) percent_bars.1 (properties_begin p)
-  no_percent_node {k = k} e (a_block_collection {k = l} {m = m} b d s o y) =
-      let same = no_lines e d in
-      let none = no_spaces (moved_code t k l same e) s in
-      no_percent_entries (moved_code t k (l + m) (omega arith) e) y
-  no_percent_node {k = k} e (a_block_collection_with {f = l} b s p d r o y) =
-      apart begins_properties (code t l) (moved_code t k l (separate_still (percent_visible e) s).0 e) percent_bars.1 (properties_begin p)
-  no_percent_node {k = k} e (flow_in_block {k = l} b s (flow_node d) m) = no_percent_flow refl (moved_code t k l (separate_still (percent_visible e) s).0 e) d
 
 module _ {t : List ℕ} (u : IsUtf8 t) where
   no_start_after : (k c : ℕ) → is_three t k c ≡ true → c < 128 → is_ns_char c ≡ true → LineStart t (k + 3) → ⊥

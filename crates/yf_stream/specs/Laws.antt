@@ -1,7 +1,10 @@
 -- The laws of streams and of readings, each with the plain sentence that it stands for: a text is derived as one stream at most, and
 -- has one reading at most. `proofs/LawsHold.antt` proves them, so a change of the definitions that breaks one is refused there.
-use Rattle.std.specs.Prelude.{◌≡◌, ℕ, ◌≤◌, List}
+use Rattle.std.specs.Prelude.{◌≡◌, ℕ, ◌<◌, ◌≤◌, List, length}
+use Rattle.std.specs.List.{All}
+use Rattle.std.specs.List.Sorted.{IsNonDecreasingBy}
 use Rattle.std.specs.Str.{IsUtf8}
+use Rattle.yf_comments.specs.Comment.{CommentValue}
 use Rattle.yf_lines.specs.declared.fault.Fault.{Fault}
 use Rattle.yf_lines.specs.declared.fault.Fault.TheVariants.{Memory}
 use Rattle.yf_events.specs.declared.lists.Lists.{Lists}
@@ -31,3 +34,11 @@ ReadingsAreTheReading = (t : List ℕ) (r : Lists) → ReadingOf t r → TheRead
 -- A text that has a reading may be refused for want of memory alone.
 abbrev pub ReadTextsHaveNoFault : Type 0
 ReadTextsHaveNoFault = (t : List ℕ) (r : Lists) (fault : Fault) → ReadingOf t r → StreamFault t fault → fault ≡ Memory
+
+-- The comments of a reading stand in the order of the text.
+abbrev pub CommentsOfReadingsAscend : Type 0
+CommentsOfReadingsAscend = (t : List ℕ) (r : Lists) → ReadingOf t r → IsNonDecreasingBy (λ (c : CommentValue). c.offset) r.comments
+
+-- Each of them begins within the text.
+abbrev pub CommentsOfReadingsAreWithin : Type 0
+CommentsOfReadingsAreWithin = (t : List ℕ) (r : Lists) → ReadingOf t r → All (λ (c : CommentValue). c.offset < length t) r.comments

@@ -1,0 +1,122 @@
+-- The comments of a stream, and those of a reading, stand in the order of the text, and within it.
+use Rattle.std.proofs.Common.{ℕ, suc, zero, ◌+◌, ◌<◌, ◌≤◌, List, [], ◌∷◌, length, arith}
+use Rattle.std.specs.Prelude.{slice_index_or}
+use Rattle.std.specs.List.Sorted.{IsNonDecreasingBy}
+use Rattle.yf_chars.specs.Chain.{Chain}
+use Rattle.yf_chars.specs.Chain.Chain.{done, step}
+use Rattle.yf_chars.proofs.ChainLemmas.{chain_forward, chain_one}
+use Rattle.yf_chars.proofs.TextLemmas.{next_later}
+use Rattle.yf_comments.specs.Comment.{CommentValue}
+use Rattle.yf_comments.proofs.LineEndLemmas.{lines_rows}
+use Rattle.yf_props.specs.Names.{Handle, TagPrefix}
+use Rattle.yf_props.specs.Names.Handle.{primary_handle, secondary_handle, named_handle}
+use Rattle.yf_props.specs.Names.TagPrefix.{local_prefix, global_prefix}
+use Rattle.yf_props.proofs.TagLemmas.{percent_uri, spelled_functional, tag_functional}
+use Rattle.yf_chars.specs.Class.{is_uri_char}
+use Rattle.yf_events.specs.Event.{Placed}
+use Rattle.yf_events.specs.declared.lists.Lists.{Lists}
+use Rattle.yf_grammar.specs.Meaning.{Meaning, empty_node, noting}
+use Rattle.yf_grammar.proofs.CommentOrder.{Ascend, no_more, one_more, ascend_after, ascend_join, ascend_order, derived_ascends, end_ascends, rows_ascend}
+use Rattle.yf_grammar.proofs.Forward.{in_line_forward}
+use Rattle.yf_stream.specs.ReadingOf.{NotedComments, no_comment, one_comment, ReadingOf}
+use Rattle.yf_stream.specs.Stream.{AnyDocument, DirectiveLines, Directives, Document, Documents, ExplicitNode, Parameters, PrefixPart, Prefixes, ReservedParameter, Stream, StreamRest, Suffixes, with_comments, with_document}
+use Rattle.yf_stream.specs.Stream.AnyDocument.{bare_document, directive_document, explicit_document}
+use Rattle.yf_stream.specs.Stream.DirectiveLines.{last_directive, more_directives}
+use Rattle.yf_stream.specs.Stream.ExplicitNode.{marked_node, marked_nothing}
+use Rattle.yf_stream.specs.Stream.Parameters.{version_parameter, tag_parameters, reserved_parameters}
+use Rattle.yf_stream.specs.Stream.PrefixPart.{order_mark, prefix_comment}
+use Rattle.yf_stream.specs.Stream.ReservedParameter.{reserved_parameter}
+use Rattle.yf_stream.specs.Stream.Stream.{begins_with_document, without_document}
+use Rattle.yf_stream.specs.Stream.StreamRest.{past_explicit, past_prefix, past_suffixes, past_suffixes_and_document, stream_ended}
+use Rattle.yf_stream.specs.Stream.Suffixes.{last_suffix, more_suffixes}
+
+module _ {t : List ℕ} where
+  -- directives
+  handle_forward : {i h : ℕ} → Handle t i h → i ≤ h
+  handle_forward (primary_handle a) = omega arith
+  handle_forward (secondary_handle a b) = omega arith
+  handle_forward (named_handle a r b) = let l = r.some in omega arith
+
+  prefix_forward : {i j : ℕ} {x : List ℕ} → TagPrefix t i j x → i ≤ j
+  prefix_forward (local_prefix e c) = let f = chain_forward (spelled_functional t is_uri_char percent_uri) c in omega arith
+  prefix_forward (global_prefix s c) = let f = tag_functional.forward s in let g = chain_forward (spelled_functional t is_uri_char percent_uri) c in omega arith
+
+  word_forward : {i j : ℕ} {x : List (List ℕ)} → ReservedParameter t i j x → i ≤ j
+  word_forward (reserved_parameter s n r) = let f = in_line_forward s in let l = r.some in omega arith
+
+  words_forward : {i j : ℕ} {x : List (List ℕ)} → Chain (ReservedParameter t) i j x → i ≤ j
+  words_forward done = omega arith
+  words_forward (step s c) = let f = word_forward s in let g = words_forward c in omega arith
+
+  parameters_forward : {name : List ℕ} {i j : ℕ} {x : List (List ℕ)} → Parameters t name i j x → i ≤ j
+  parameters_forward (version_parameter e s a q b) = let f = in_line_forward s in let g = a.some in let h = b.some in omega arith
+  parameters_forward (tag_parameters e s a q b) =
+      let f = in_line_forward s in let g = handle_forward a in let h = in_line_forward q in let k = prefix_forward b in omega arith
+  parameters_forward (reserved_parameters e n c) = words_forward c
+
+  directives_ascend : {i j : ℕ} {x : Directives} → DirectiveLines t i j x → Ascend i x.comments j
+  directives_ascend (last_directive e r p d) = let f = r.some in let g = parameters_forward p in ascend_after (omega arith) (end_ascends d)
+  directives_ascend (more_directives a b) = ascend_join (directives_ascend a) (directives_ascend b)
+
+  -- the parts of a stream
+  part_ascends : {i j : ℕ} {x : List CommentValue} → PrefixPart t i j x → Ascend i x j
+  part_ascends (order_mark {i = i} e) = let l = next_later t i in no_more (omega arith)
+  part_ascends (prefix_comment c) = rows_ascend (lines_rows (chain_one c))
+
+  parts_ascend : {i j : ℕ} {x : List CommentValue} → Prefixes t i j x → Ascend i x j
+  parts_ascend done = no_more (omega arith)
+  parts_ascend (step s c) = ascend_join (part_ascends s) (parts_ascend c)
+
+  suffixes_ascend : {i j : ℕ} {x : List CommentValue} → Suffixes t i j x → Ascend i x j
+  suffixes_ascend (last_suffix e d) = ascend_after (omega arith) (end_ascends d)
+  suffixes_ascend (more_suffixes e d s) = ascend_join (ascend_after (omega arith) (end_ascends d)) (suffixes_ascend s)
+
+  explicit_ascends : {h i j : ℕ} {x : Meaning} → ExplicitNode t h i j x → Ascend i x.comments j
+  unfolding noting empty_node
+  explicit_ascends (marked_node e n) = ascend_after (omega arith) (derived_ascends n.derived)
+  explicit_ascends (marked_nothing e d) = ascend_after (omega arith) (end_ascends d)
+
+  document_ascends : {h i j : ℕ} {d : Document} {x : List CommentValue} → AnyDocument t h i j d x → Ascend i x j
+  document_ascends (bare_document n c) = derived_ascends n.derived
+  document_ascends (explicit_document e) = explicit_ascends e
+  document_ascends (directive_document d e) = ascend_join (directives_ascend d) (explicit_ascends e)
+
+  rest_ascends : {h i : ℕ} {x : Documents} → StreamRest t h i x → Ascend i x.comments (length t)
+  unfolding with_comments with_document
+  rest_ascends stream_ended = no_more (omega arith)
+  rest_ascends (past_prefix s r) = ascend_join (part_ascends s) (rest_ascends r)
+  rest_ascends (past_suffixes s p r) = ascend_join (ascend_join (suffixes_ascend s) (parts_ascend p)) (rest_ascends r)
+  rest_ascends (past_suffixes_and_document s p d r) = ascend_join (ascend_join (suffixes_ascend s) (ascend_join (parts_ascend p) (document_ascends d))) (rest_ascends r)
+  rest_ascends (past_explicit e r) = ascend_join (explicit_ascends e) (rest_ascends r)
+
+  pub stream_ascends : {h : ℕ} {x : Documents} → Stream t h x → Ascend 0 x.comments (length t)
+  unfolding with_comments with_document
+  stream_ascends (begins_with_document p d r) = ascend_join (ascend_join (parts_ascend p) (document_ascends d)) (rest_ascends r)
+  stream_ascends (without_document p r) = ascend_join (parts_ascend p) (rest_ascends r)
+
+  noted_ascend : {es : List Placed} {i j : ℕ} {x y : List CommentValue} → NotedComments t es x y → Ascend i x j → Ascend i y j
+  noted_ascend no_comment a = a
+  noted_ascend {es = es} {i = i} {j = j} (one_comment {c = c} n r) (one_more m a) = one_more m (noted_ascend {i = c.offset + 1} r a)
+
+-- the comments of a reading
+pub reading_ascends : {t : List ℕ} {r : Lists} → ReadingOf t r → Ascend 0 r.comments (length t)
+reading_ascends a = noted_ascend a.comments (stream_ascends a.reads.shapes.derived)
+
+-- in terms of indices
+later_offset : {i k : ℕ} (cs : List CommentValue) (j : ℕ) (d : CommentValue) → Ascend i cs k → j < length cs → (i ≤ (slice_index_or cs j d).offset) × ((slice_index_or cs j d).offset < k)
+later_offset [] j d a l = absurd (omega arith)
+later_offset (c ∷ cs) zero d (one_more m a) l = let f = ascend_order a in (m, omega arith)
+later_offset {i = i} {k = k} (c ∷ cs) (suc j) d (one_more m a) l = let r = later_offset {i = c.offset + 1} cs j d a (omega arith) in (omega (arith, r.0), r.1)
+
+ascend_in_order : {k l : ℕ} (cs : List CommentValue) → Ascend k cs l → (i j : ℕ) (d : CommentValue) → i ≤ j → j < length cs → (slice_index_or cs i d).offset ≤ (slice_index_or cs j d).offset
+ascend_in_order [] a i j d le lt = absurd (omega arith)
+ascend_in_order (c ∷ cs) (one_more m a) zero zero d le lt = omega arith
+ascend_in_order (c ∷ cs) (one_more m a) zero (suc j) d le lt = let r = (later_offset cs j d a (omega arith)).0 in omega arith
+ascend_in_order (c ∷ cs) (one_more m a) (suc i) zero d le lt = absurd (omega arith)
+ascend_in_order {k = k} {l = l} (c ∷ cs) (one_more m a) (suc i) (suc j) d le lt = ascend_in_order {k = c.offset + 1} cs a i j d (omega arith) (omega arith)
+
+pub comments_in_order : {t : List ℕ} {r : Lists} → ReadingOf t r → IsNonDecreasingBy (λ (c : CommentValue). c.offset) r.comments
+comments_in_order {r = r} a = ascend_in_order r.comments (reading_ascends a)
+
+pub comments_within : {t : List ℕ} {r : Lists} → ReadingOf t r → (k : ℕ) (d : CommentValue) → k < length r.comments → (slice_index_or r.comments k d).offset < length t
+comments_within {r = r} a k d l = (later_offset r.comments k d (reading_ascends a) l).1
