@@ -108,7 +108,7 @@ start_of_node : {t : List ℕ} {n : ℤ} {d : Ctx} {p k : ℕ} {b : Before} → 
 start_of_node (bare_there q) = refl
 start_of_node (properties_there q s c) = refl
 
-frame_depth : {total e h g m k : ℕ} {sequence pair : Bool} {f : Frame} {rest : List Frame} → Framed total sequence pair e h g m k f rest → f.depth + e ≡ total
+pub frame_depth : {total e h g m k : ℕ} {sequence pair : Bool} {f : Frame} {rest : List Frame} → Framed total sequence pair e h g m k f rest → f.depth + e ≡ total
 frame_depth (of_collection c) = c.room
 frame_depth (of_pair p c) = p.room
 
