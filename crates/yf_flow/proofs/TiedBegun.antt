@@ -1,19 +1,25 @@
 -- What is found where a node is awaited: where there is none, the outermost collection is not derived; where a bracket opens a
 -- collection, its entries are awaited.
-use Rattle.std.proofs.Common.{◌≡◌, ◌≢◌, ℕ, suc, max, ◌+◌, ◌≤◌, ℤ, Bool, true, false, List, [], ◌∷◌, ◌++◌, length, Option, Some, None, refl, sym, ap, ◌∙◌, subst, arith}
+use Rattle.std.proofs.Common.{◌≡◌, ◌≢◌, ℕ, suc, max, ◌+◌, ◌-◌, ◌≤◌, ℤ, Bool, true, false, List, [], ◌∷◌, ◌++◌, length, Option, Some, None, refl, sym, ap, ◌∙◌, subst, arith, append-nil}
 use Rattle.yf_chars.specs.declared.context.Ctx.{Ctx}
 use Rattle.yf_chars.specs.Text.{code}
 use Rattle.yf_comments.specs.Comment.{CommentValue}
 use Rattle.yf_events.specs.declared.part.Part.{Part}
 use Rattle.yf_grammar.specs.Grammar.{in_flow, opening}
-use Rattle.yf_grammar.specs.Meaning.{Meaning, noting}
+use Rattle.yf_events.specs.Event.{Placed}
+use Rattle.yf_events.specs.declared.event.Entry.{Entry}
+use Rattle.yf_flow.specs.declared.frame.Kind.{Kind}
+use Rattle.yf_flow.specs.declared.frame.Kind.TheVariants.{Sequence, Mapping, Pair}
+use Rattle.yf_flow.specs.Begun.{Added, Opens, is_sequence}
+use Rattle.yf_flow.proofs.NotedLemmas.{noted_more, noted_length}
+use Rattle.yf_grammar.specs.Meaning.{Meaning, ◌⊕◌, noting}
 use Rattle.yf_grammar.specs.Parser.{Gap, AContent, Parses, only}
 use Rattle.yf_grammar.specs.Awaits.{EntriesAwaited, SeparationAwaited}
 use Rattle.yf_grammar.proofs.AwaitEntries.{entries_opened}
 use Rattle.yf_grammar.proofs.AwaitFails.{node_fails, content_fails}
 use Rattle.yf_flow.specs.declared.frame.Frame.{Frame}
-use Rattle.yf_flow.specs.NodeBegun.{NodeMissing, no_node, no_content, NodeFull}
-use Rattle.yf_flow.specs.Tied.{Base, AtNode, NoBase}
+use Rattle.yf_flow.specs.NodeBegun.{comments_before, opened_event, NodeOpened, NodeMissing, no_node, no_content, NodeFull}
+use Rattle.yf_flow.specs.Tied.{NotedEvent, Noted, Written, entry_of, entries_written, written_in, kind_of, Base, Below, inside, AtEntry, AtNode, NoBase}
 use Rattle.yf_flow.proofs.TiedClose.{frame_depth}
 use Rattle.yf_flow.proofs.TiedFails.{all_fails, awaited_node}
 
@@ -33,3 +39,56 @@ module _ {t : List ℕ} {n : ℤ} {d : Ctx} {base : Base} {frames : List Frame} 
 pub bracket_awaits : {t : List ℕ} {e i : ℕ} {n : ℤ} {d : Ctx} (sequence : Bool) → in_flow d ≡ d → code t i ≡ opening sequence
     → SeparationAwaited t e sequence n d d i 0 (only [] 0) (i + 1)
 bracket_awaits {t} {e} {i} {n} {d} sequence q b = record { past = λ k cs g. subst (λ z. EntriesAwaited t e sequence n d z i 0 (noting (only [] 0) cs) k) q (entries_opened k cs b g) }
+
+opened_kind : (kind : Kind) (x : ℕ) → Opens kind x → (kind ≡ kind_of (is_sequence kind)) × (x ≡ opening (is_sequence kind))
+opened_kind Sequence x e = (refl, e)
+opened_kind Mapping x e = (refl, e)
+opened_kind Pair x e = absurd e
+
+opened_written : {t : List ℕ} {w : Meaning} {old new : Part} (cs : List CommentValue) (begin event : Placed) → Written t w old → NotedEvent t begin event → Added old new (event ∷ []) cs []
+    → Written t (entries_written (noting w cs) begin (only [] 0)) new
+unfolding ◌⊕◌ noting only
+opened_written {t} {w} {old} {new} cs begin event p e a = record {
+  events = subst (λ z. Noted t z new.events) (sym (append-nil (w.events ++ begin ∷ []))) (subst (λ z. Noted t (w.events ++ begin ∷ []) z) (sym a.events) (noted_more p.events e));
+  comments = a.comments ∙ ap (λ z. z ++ cs) p.comments ∙ sym (append-nil (w.comments ++ cs)) ∙ sym (append-nil ((w.comments ++ cs) ++ []));
+  escapes = a.escapes ∙ append-nil old.escapes ∙ p.escapes ∙ sym (append-nil w.escapes) ∙ sym (append-nil (w.escapes ++ []));
+}
+
+noting_events : (w : Meaning) (cs : List CommentValue) → (noting w cs).events ≡ w.events
+unfolding noting
+noting_events w cs = refl
+
+-- a collection is opened
+pub opened_entry : {t : List ℕ} {n : ℤ} {d : Ctx} {base : Base} {frames : List Frame} {top f : Frame} {p : ℕ} {old new : Part} {entry : Option Entry} → in_flow d ≡ d
+    → (a : AtNode t n d base frames top p old) → (o : NodeOpened t n d p top.depth base.total entry old new f)
+    → NotedEvent t (opened_event p o.before (entry_of top.role a.layer.start) (is_sequence f.kind) o.content) (opened_event p o.before entry (is_sequence f.kind) o.content)
+    → AtEntry t n d base (top ∷ frames) f f.entry new
+opened_entry {t} {n} {d} {base} {frames} {top} {f} {p} {old} {new} {entry} q a o e =
+    let r = frame_depth a.tied.framed in
+    let l = o.room in
+    let k = opened_kind f.kind (code t o.content) o.bracket in
+    let w = written_in a.layer a.read in
+    let begin = opened_event p o.before (entry_of top.role a.layer.start) (is_sequence f.kind) o.content in
+    let d1 = o.deep in
+    let d2 = o.deepest in
+    let less : a.layer.limit ≡ suc (a.layer.limit - 1) = omega arith in
+    record {
+      sequence = is_sequence f.kind;
+      place = o.content;
+      context = d;
+      limit = a.layer.limit - 1;
+      high = 0;
+      before = noting w (comments_before o.before);
+      begin = begin;
+      known = only [] 0;
+      below = subst (λ z. Below t n d base (top ∷ frames) (is_sequence f.kind) o.content d z (noting w (comments_before o.before)) begin) less
+          (inside a.tied.below a.tied.entries a.tied.open_there a.node a.tied.framed refl a.entry o.over (ap (λ z. top ∷ z) a.tied.all));
+      awaited = subst (λ z. SeparationAwaited t (a.layer.limit - 1) (is_sequence f.kind) n d d o.content 0 (only [] 0) z) (sym o.first) (bracket_awaits (is_sequence f.kind) q k.1);
+      frame = record {
+        kind = k.0;
+        event = o.event ∙ sym (noted_length a.written.events) ∙ ap (λ z. length z) (sym (noting_events w (comments_before o.before)));
+        room = omega arith;
+        deepest = omega arith;
+      };
+      written = opened_written (comments_before o.before) begin (opened_event p o.before entry (is_sequence f.kind) o.content) a.written e o.added;
+    }
