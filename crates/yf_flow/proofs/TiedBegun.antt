@@ -10,17 +10,21 @@ use Rattle.yf_events.specs.Event.{Placed}
 use Rattle.yf_events.specs.declared.event.Entry.{Entry}
 use Rattle.yf_flow.specs.declared.frame.Kind.{Kind}
 use Rattle.yf_flow.specs.declared.frame.Kind.TheVariants.{Sequence, Mapping, Pair}
-use Rattle.yf_flow.specs.Begun.{Added, Opens, is_sequence}
+use Rattle.yf_flow.specs.Begun.{Added, Opens, is_sequence, is_lined}
 use Rattle.yf_flow.proofs.NotedLemmas.{noted_more, noted_length}
-use Rattle.yf_grammar.specs.Meaning.{Meaning, ◌⊕◌, noting}
+use Rattle.yf_grammar.specs.Meaning.{Meaning, ◌⊕◌, noting, entering, first_entering}
 use Rattle.yf_grammar.specs.Parser.{Gap, AContent, Parses, only}
 use Rattle.yf_grammar.specs.Awaits.{EntriesAwaited, SeparationAwaited}
 use Rattle.yf_grammar.proofs.AwaitEntries.{entries_opened}
 use Rattle.yf_grammar.proofs.AwaitFails.{node_fails, content_fails}
 use Rattle.yf_flow.specs.declared.frame.Frame.{Frame}
-use Rattle.yf_flow.specs.NodeBegun.{comments_before, opened_event, NodeOpened, NodeMissing, no_node, no_content, NodeFull}
-use Rattle.yf_flow.specs.Tied.{NotedEvent, Noted, Written, entry_of, entries_written, written_in, kind_of, Base, Below, inside, AtEntry, AtNode, NoBase}
-use Rattle.yf_flow.proofs.TiedClose.{frame_depth}
+use Rattle.yf_flow.specs.NodeBegun.{given, NodeLeaf, comments_before, opened_event, NodeOpened, NodeMissing, no_node, no_content, NodeFull}
+use Rattle.yf_flow.specs.Tied.{NoteOf, in_role, entry_from, AtEnded, NotedEvent, Noted, Written, entry_of, entries_written, written_in, kind_of, Base, Below, inside, AtEntry, AtNode, NoBase}
+use Rattle.yf_flow.proofs.TiedClose.{frame_depth, entry_more}
+use Rattle.yf_flow.proofs.TiedEnds.{written_as}
+use Rattle.yf_flow.specs.declared.frame.Role.{Role}
+use Rattle.yf_flow.specs.declared.frame.Role.TheVariants.{Item, Key, Value}
+use Rattle.yf_flow.specs.declared.frame.Node.{Node}
 use Rattle.yf_flow.proofs.TiedFails.{all_fails, awaited_node}
 
 module _ {t : List ℕ} {n : ℤ} {d : Ctx} {base : Base} {frames : List Frame} {top : Frame} {p : ℕ} {part : Part} (a : AtNode t n d base frames top p part) where
@@ -92,3 +96,49 @@ opened_entry {t} {n} {d} {base} {frames} {top} {f} {p} {old} {new} {entry} q a o
       };
       written = opened_written (comments_before o.before) begin (opened_event p o.before entry (is_sequence f.kind) o.content) a.written e o.added;
     }
+
+-- the one event of a leaf, in its role
+record RoleEvent (role : Role) (s : ℕ) (x : Meaning) (e : Placed) : Type 0 where
+  events : (in_role role s x).events ≡ record e { entry = entry_of role s } ∷ []
+  comments : (in_role role s x).comments ≡ x.comments
+  escapes : (in_role role s x).escapes ≡ x.escapes
+
+role_event : (role : Role) (s : ℕ) (x : Meaning) (e : Placed) → x.events ≡ e ∷ [] → e.entry ≡ None → RoleEvent role s x e
+unfolding entering
+role_event Value s x e a b = record { events = a ∙ ap (λ z. record e { entry = z } ∷ []) b; comments = refl; escapes = refl }
+role_event Item s x e a b = record { events = ap (λ z. first_entering (entry_from s) z) a; comments = refl; escapes = refl }
+role_event Key s x e a b = record { events = ap (λ z. first_entering (entry_from s) z) a; comments = refl; escapes = refl }
+
+leaf_written : {t : List ℕ} {w : Meaning} {old new : Part} {entry : Option Entry} (role : Role) (s : ℕ) (x : Meaning) (e : Placed) → RoleEvent role s x e → x.events ≡ e ∷ [] → Written t w old
+    → is_lined e.event ≡ false → NoteOf t (record e { entry = entry_of role s }) (record e { entry = entry }) → Added old new (given entry x.events) x.comments x.escapes
+    → Written t (w ⊕ in_role role s x) new
+unfolding ◌⊕◌
+leaf_written {t} {w} {old} {new} {entry} role s x e r q p l note a = record {
+  events = subst (λ z. Noted t (w.events ++ z) new.events) (sym r.events)
+      (subst (λ z. Noted t (w.events ++ record e { entry = entry_of role s } ∷ []) z) (sym (a.events ∙ ap (λ z. old.events ++ given entry z) q))
+      (noted_more p.events (record { no_lines = l; note = note })));
+  comments = a.comments ∙ ap (λ z. z ++ x.comments) p.comments ∙ ap (λ z. w.comments ++ z) (sym r.comments);
+  escapes = a.escapes ∙ ap (λ z. z ++ x.escapes) p.escapes ∙ ap (λ z. w.escapes ++ z) (sym r.escapes);
+}
+
+-- a leaf was read
+pub leaf_ended : {t : List ℕ} {n : ℤ} {d : Ctx} {base : Base} {frames : List Frame} {top : Frame} {p : ℕ} {old new : Part} {entry : Option Entry} {node : Node} (a : AtNode t n d base frames top p old)
+    → NodeLeaf t n d p top.depth entry old new node → ((e : Placed) → NoteOf t (record e { entry = entry_of top.role a.layer.start }) (record e { entry = entry }))
+    → AtEnded t n d base frames top node new
+leaf_ended {top = top} {p = p} a l note = record {
+  layer = a.layer;
+  height = a.height;
+  read = a.read;
+  place = p;
+  answer = l.answer;
+  tied = a.tied;
+  awaited = a.node;
+  entry = a.entry;
+  parsed = l.read a.layer.limit;
+  end = l.end;
+  json = l.json;
+  deepest = let x = l.deepest in let y = l.flat in omega arith;
+  finish = l.finish;
+  written = written_as (entry_more a.layer.before a.layer.begin a.layer.known a.layer.pair a.layer.start a.read (in_role top.role a.layer.start l.answer.meaning))
+      (leaf_written top.role a.layer.start l.answer.meaning l.event (role_event top.role a.layer.start l.answer.meaning l.event l.only_event l.no_entry) l.only_event a.written l.no_lines (note l.event) l.added);
+}
