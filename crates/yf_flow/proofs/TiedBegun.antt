@@ -1,6 +1,6 @@
 -- What is found where a node is awaited: where there is none, the outermost collection is not derived; where a bracket opens a
 -- collection, its entries are awaited.
-use Rattle.std.proofs.Common.{◌≡◌, ◌≢◌, ℕ, suc, max, ◌+◌, ◌-◌, ◌≤◌, ℤ, Bool, true, false, List, [], ◌∷◌, ◌++◌, length, Option, Some, None, refl, sym, ap, ◌∙◌, subst, arith, append-nil}
+use Rattle.std.proofs.Common.{◌≡◌, ℕ, suc, ◌+◌, ◌-◌, ℤ, Bool, false, List, [], ◌∷◌, ◌++◌, length, Option, None, refl, sym, ap, ◌∙◌, subst, arith, append-nil}
 use Rattle.yf_chars.specs.declared.context.Ctx.{Ctx}
 use Rattle.yf_chars.specs.Text.{code}
 use Rattle.yf_comments.specs.Comment.{CommentValue}
@@ -13,7 +13,7 @@ use Rattle.yf_flow.specs.declared.frame.Kind.TheVariants.{Sequence, Mapping, Pai
 use Rattle.yf_flow.specs.Begun.{Added, Opens, is_sequence, is_lined}
 use Rattle.yf_flow.proofs.NotedLemmas.{noted_more, noted_length}
 use Rattle.yf_grammar.specs.Meaning.{Meaning, ◌⊕◌, noting, entering, first_entering}
-use Rattle.yf_grammar.specs.Parser.{Gap, AContent, Parses, only}
+use Rattle.yf_grammar.specs.Parser.{AContent, Parses, only}
 use Rattle.yf_grammar.specs.Awaits.{EntriesAwaited, SeparationAwaited}
 use Rattle.yf_grammar.proofs.AwaitEntries.{entries_opened}
 use Rattle.yf_grammar.proofs.AwaitFails.{node_fails, content_fails}
