@@ -5,6 +5,7 @@ pub mod LeafLemmas
 pub mod LookLemmas
 pub mod NodeBegunLemmas
 pub mod NotedLemmas
+pub mod TiedBegun
 pub mod TiedClose
 pub mod TiedEnds
 pub mod TiedFails

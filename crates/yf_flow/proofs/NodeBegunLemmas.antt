@@ -1,8 +1,7 @@
 -- What is found where a node is awaited, from what is found of its properties and its content.
-use Rattle.std.proofs.Common.{◌≡◌, ◌≢◌, ℕ, ◌+◌, ◌<◌, ◌≤◌, ℤ, Bool, true, false, List, [], ◌∷◌, ◌++◌, length, Option, Some, None, Result, IfOk, Ok, Err, refl, sym, ap, ◌∙◌, subst, arith, true≢false, append_assoc, append-nil, encode_utf8_all, ◌⊎◌, inl, inr, ⊎_elim, ◌==◌, ◌||◌, not}
+use Rattle.std.proofs.Common.{◌≡◌, ℕ, ◌+◌, ℤ, Bool, true, false, List, [], ◌∷◌, ◌++◌, length, Option, Some, None, refl, sym, ap, ◌∙◌, subst, arith, true≢false, append_assoc, append-nil, encode_utf8_all, ◌⊎◌, inl, inr, ⊎_elim, ◌==◌}
 use Rattle.std.proofs.lemmas.Bool.{cases_Bool}
 use Rattle.std.proofs.lemmas.Bool.Decides.{nat_tests}
-use Rattle.std.specs.declared.alloc.AllocError.{AllocError}
 use Rattle.yf_chars.specs.declared.context.Ctx.{Ctx}
 use Rattle.yf_chars.specs.Text.{code}
 use Rattle.yf_chars.specs.Chain.{Stuck, Chosen}
@@ -11,15 +10,15 @@ use Rattle.yf_comments.specs.Comments.{Separate}
 use Rattle.yf_plain.specs.Plain.{Plain}
 use Rattle.yf_props.specs.Names.{Alias, Properties, PropertiesValue}
 use Rattle.yf_props.specs.Props.{props_value, no_props}
-use Rattle.yf_events.specs.Event.{EventValue, Placed, alias_node, scalar_node}
+use Rattle.yf_events.specs.Event.{Placed, alias_node, scalar_node}
 use Rattle.yf_events.specs.declared.event.Entry.{Entry}
 use Rattle.yf_events.specs.declared.event.ScalarStyle.{ScalarStyle}
 use Rattle.yf_events.specs.declared.event.ScalarStyle.TheVariants.{Plain as PlainStyle}
 use Rattle.yf_events.specs.declared.part.Part.{Part}
 use Rattle.yf_grammar.specs.Grammar.{opening}
 use Rattle.yf_grammar.specs.Meaning.{Meaning, behind, with_props, scalar, alias_to, empty_node, plain_event, from_to, start_of, event_with}
-use Rattle.yf_grammar.specs.Parser.{Found, found, ANode, AContent, Parses, begins_alias, begins_properties, begins_content, begins_plain, plain_found, propertied, lone_properties}
-use Rattle.yf_grammar.specs.Parser.Parses.{alias_read, alias_missed, plain_read, plain_missed, content_read, properties_missed, properties_content, properties_plain, properties_end, properties_before_other, too_deep}
+use Rattle.yf_grammar.specs.Parser.{Found, found, ANode, AContent, Parses, begins_alias, begins_properties, begins_content, begins_plain, propertied, lone_properties}
+use Rattle.yf_grammar.specs.Parser.Parses.{alias_read, alias_missed, plain_read, plain_missed, content_read, properties_missed, properties_content, properties_plain, too_deep}
 use Rattle.yf_grammar.specs.Awaits.{Before, Bare, Propertied, NodeOver, bare_there, properties_there, over}
 use Rattle.yf_grammar.proofs.AwaitEntries.{read_as, found_is}
 use Rattle.yf_grammar.proofs.NodeExact.{lone_is}
@@ -32,7 +31,7 @@ use Rattle.yf_flow.specs.declared.node.Begun.{Begun}
 use Rattle.yf_flow.specs.declared.node.Begun.TheVariants.{Leaf, Opened, Nothing, TooDeep}
 use Rattle.yf_flow.specs.declared.node.Lead.{Lead}
 use Rattle.yf_flow.specs.Begun.{ContentAt, content_there, plain_there, plain_missing, Added, LeafAt, OpenedAt, FullAt, Opens, is_sequence, is_lined, ContentBegun, bare_lead, lead_event, leaf_event}
-use Rattle.yf_flow.specs.NodeBegun.{given, props_before, tag_before, comments_before, opened_event, NodeLeaf, NodeOpened, NodeMissing, no_node, no_content, NodeFull, NodeBegun}
+use Rattle.yf_flow.specs.NodeBegun.{given, props_before, tag_before, comments_before, opened_event, NodeLeaf, NodeOpened, no_node, no_content, NodeFull, NodeBegun}
 
 no_bar_plain : (c : ℕ) → is_bar c ≡ false → begins_plain c ≡ true
 unfolding is_bar begins_plain begins_alias begins_properties begins_content

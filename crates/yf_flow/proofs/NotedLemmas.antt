@@ -1,12 +1,9 @@
 -- Events with the notes of their entries filled in: what is done to both lists alike keeps them so.
-use Rattle.std.proofs.Common.{◌≡◌, ◌≢◌, ℕ, zero, suc, ◌+◌, ◌≤◌, Bool, true, false, List, [], ◌∷◌, ◌++◌, length, take, drop, Option, Some, None, MatchBool, refl, sym, ap, ◌∙◌, subst, arith, true≢false}
-use Rattle.yf_chars.specs.Text.{code}
+use Rattle.std.proofs.Common.{◌≡◌, ℕ, zero, suc, Bool, true, false, List, [], ◌∷◌, ◌++◌, length, take, drop, Some, MatchBool, refl, sym, ap, subst, arith, true≢false}
 use Rattle.yf_comments.specs.Comments.{BlankBefore}
 use Rattle.yf_comments.specs.Comments.BlankBefore.{blank_line as line_before, past_gap as gap_before}
 use Rattle.yf_events.specs.Event.{EventValue, Placed, stream_starts, stream_ends, document_starts, document_ends, sequence_starts, sequence_ends, mapping_starts, mapping_ends, scalar_node, alias_node}
 use Rattle.yf_events.specs.Edit.{edited, ended, coloned, with_colon}
-use Rattle.yf_events.specs.declared.event.Entry.{Entry}
-use Rattle.yf_events.specs.declared.event.ScalarStyle.{ScalarStyle}
 use Rattle.yf_events.specs.declared.event.ScalarStyle.TheVariants.{Plain, Single, Double, Literal, Folded}
 use Rattle.yf_grammar.specs.Part.{BlankSince, NotedSince, Noting, floor_behind}
 use Rattle.yf_grammar.specs.Part.BlankSince.{blank_line, past_gap}

@@ -1,14 +1,13 @@
 -- A collection that is closed is a node of the entry round it, or the outermost one.
-use Rattle.std.proofs.Common.{◌≡◌, ◌≢◌, ℕ, suc, max, ◌+◌, ◌≤◌, ◌<◌, ℤ, Bool, true, false, List, [], ◌∷◌, ◌++◌, length, Option, Some, None, refl, sym, ap, ◌∙◌, subst, arith, append_assoc, append-nil, reverse}
+use Rattle.std.proofs.Common.{◌≡◌, ℕ, suc, ◌+◌, ◌<◌, ℤ, Bool, true, false, List, [], ◌∷◌, ◌++◌, length, Some, None, refl, sym, ap, ◌∙◌, subst, arith, append_assoc, append-nil, reverse}
 use Rattle.std.proofs.lemmas.List.{reverse-append}
 use Rattle.yf_chars.specs.declared.context.Ctx.{Ctx}
-use Rattle.yf_chars.specs.Text.{code}
 use Rattle.yf_comments.specs.Comment.{CommentValue}
 use Rattle.yf_events.specs.Event.{EventValue, Placed}
 use Rattle.yf_events.specs.Edit.{edited, ended}
 use Rattle.yf_events.specs.declared.part.Part.{Part}
 use Rattle.yf_grammar.specs.Meaning.{Meaning, ◌⊕◌, noting, behind, with_props, collection, entering, plain_event, from_to, end_of}
-use Rattle.yf_grammar.specs.Parser.{Found, AContent, ANode, Parses}
+use Rattle.yf_grammar.specs.Parser.{AContent, Parses}
 use Rattle.yf_grammar.specs.Awaits.{Before, Bare, Propertied, ended_at, over, NodeOver, bare_there, properties_there}
 use Rattle.yf_grammar.proofs.AwaitEntries.{plus_assoc}
 use Rattle.yf_grammar.proofs.AwaitFails.{over_some}
@@ -20,7 +19,7 @@ use Rattle.yf_flow.specs.declared.frame.Role.TheVariants.{Item, Key, Value}
 use Rattle.yf_flow.specs.declared.frame.Node.{Node}
 use Rattle.yf_flow.specs.Begun.{entry_event}
 use Rattle.yf_flow.specs.NodeBegun.{comments_before, opened_event}
-use Rattle.yf_flow.specs.Tied.{NotedEvent, entryless, Noted, Written, one, entry_of, in_role, ahead, entries_written, entry_written, kind_of, end_event, CollectionFrame, Framed, of_collection, of_pair, NodeIn, Base, IsBase, Below, outermost, inside, AtClosing, AtEnded, AtDone, InEntry, EntryTied, NoBase, StepTied}
+use Rattle.yf_flow.specs.Tied.{NotedEvent, entryless, Noted, Written, one, entry_of, in_role, ahead, entries_written, entry_written, kind_of, end_event, Framed, of_collection, of_pair, NodeIn, Base, Below, outermost, inside, AtClosing, AtEnded, AtDone, NoBase, StepTied}
 use Rattle.yf_flow.specs.declared.frame.Step.{Step}
 use Rattle.yf_flow.specs.declared.frame.Step.TheVariants.{Failed}
 use Rattle.yf_flow.proofs.NotedLemmas.{noted_more, noted_ended, edited_here}
@@ -108,7 +107,7 @@ start_of_node : {t : List ℕ} {n : ℤ} {d : Ctx} {p k : ℕ} {b : Before} → 
 start_of_node (bare_there q) = refl
 start_of_node (properties_there q s c) = refl
 
-frame_depth : {total e h g m k : ℕ} {sequence pair : Bool} {f : Frame} {rest : List Frame} → Framed total sequence pair e h g m k f rest → f.depth + e ≡ total
+pub frame_depth : {total e h g m k : ℕ} {sequence pair : Bool} {f : Frame} {rest : List Frame} → Framed total sequence pair e h g m k f rest → f.depth + e ≡ total
 frame_depth (of_collection c) = c.room
 frame_depth (of_pair p c) = p.room
 

@@ -1,32 +1,26 @@
 -- The end of an entry, and the bracket that closes a collection.
-use Rattle.std.proofs.Common.{◌≡◌, ◌≢◌, ℕ, suc, max, ◌+◌, ◌≤◌, ℤ, Bool, true, false, List, [], ◌∷◌, ◌++◌, length, Option, Some, None, refl, sym, ap, ◌∙◌, subst, arith, append_assoc, append-nil}
+use Rattle.std.proofs.Common.{◌≡◌, ◌≢◌, ℕ, max, ◌+◌, ℤ, Bool, true, false, List, [], ◌++◌, sym, ap, ◌∙◌, subst, append-nil}
 use Rattle.std.specs.Str.{IsUtf8}
 use Rattle.yf_chars.specs.declared.context.Ctx.{Ctx}
 use Rattle.yf_chars.specs.Text.{code}
 use Rattle.yf_comments.specs.Comment.{CommentValue}
 use Rattle.yf_events.specs.Event.{Placed}
-use Rattle.yf_events.specs.Edit.{edited, ended}
 use Rattle.yf_events.specs.declared.part.Part.{Part}
 use Rattle.yf_grammar.specs.Grammar.{closing}
-use Rattle.yf_grammar.specs.Meaning.{Meaning, ◌⊕◌, noting, behind, with_props, collection, entering, plain_event, from_to, end_of}
-use Rattle.yf_grammar.specs.Parser.{Found, Gap, AContent, ANode, Parses}
+use Rattle.yf_grammar.specs.Meaning.{Meaning, ◌⊕◌, noting}
+use Rattle.yf_grammar.specs.Parser.{Gap}
 use Rattle.yf_grammar.specs.Parser.Gap.{longest_gap, no_gap}
-use Rattle.yf_grammar.specs.Awaits.{ended_at, over, Within, not_yet, gap_past, NodeOver, bare_there, properties_there, EntriesAwaited, SeparationAwaited}
-use Rattle.yf_grammar.proofs.AwaitEntries.{plus_assoc, noting_last, entries_closed, entry_closes, entry_stays_open, entry_passes}
-use Rattle.yf_grammar.proofs.AwaitFails.{gap_still, within_gap, over_some}
+use Rattle.yf_grammar.specs.Awaits.{Within, not_yet, gap_past}
+use Rattle.yf_grammar.proofs.AwaitEntries.{noting_last, entries_closed, entry_closes, entry_stays_open, entry_passes}
+use Rattle.yf_grammar.proofs.AwaitFails.{gap_still, within_gap}
 use Rattle.yf_grammar.proofs.CompleteSteps.{closing_end, comma_end, end_visible, noting_twice}
 use Rattle.yf_grammar.proofs.GapLemmas.{Visible}
 use Rattle.yf_grammar.proofs.ParserLemmas.{Same}
 use Rattle.yf_flow.specs.declared.frame.Frame.{Frame}
 use Rattle.yf_flow.specs.declared.frame.Kind.{Kind}
-use Rattle.yf_flow.specs.declared.frame.Role.{Role}
-use Rattle.yf_flow.specs.declared.frame.Role.TheVariants.{Item, Key, Value}
-use Rattle.yf_flow.specs.declared.frame.Node.{Node}
 use Rattle.yf_flow.specs.declared.gap.Gap as TheGap
 use Rattle.yf_flow.specs.Leaves.{GapRead, gap_read, gap_missing, Closes}
-use Rattle.yf_flow.specs.NodeBegun.{comments_before, opened_event}
-use Rattle.yf_flow.specs.Tied.{NotedEvent, entryless, Noted, Written, one, entry_of, in_role, ahead, entries_written, entry_written, kind_of, CollectionFrame, Framed, of_collection, of_pair, NodeIn, Base, IsBase, Below, outermost, inside, AtEntry, AtPlace, AtClosing, AtEntryEnd, AtEnded, AtDone, NoBase, InEntry, EntryTied}
-use Rattle.yf_flow.proofs.NotedLemmas.{noted_more, noted_ended, edited_here}
+use Rattle.yf_flow.specs.Tied.{Noted, Written, one, entries_written, kind_of, Base, AtEntry, AtPlace, AtClosing, AtEntryEnd, NoBase}
 use Rattle.yf_flow.proofs.TiedFails.{all_fails}
 
 -- what was read of a separation

@@ -1,5 +1,5 @@
 -- Where a node or an entry of an open collection is not derived, the outermost collection is not.
-use Rattle.std.proofs.Common.{◌≡◌, ℕ, ◌++◌, ℤ, Bool, List, [], ◌∷◌, Option, Some, None, sym, subst}
+use Rattle.std.proofs.Common.{ℕ, ℤ, Bool, List, None, subst}
 use Rattle.yf_chars.specs.declared.context.Ctx.{Ctx}
 use Rattle.yf_events.specs.Event.{Placed}
 use Rattle.yf_grammar.specs.Meaning.{Meaning}

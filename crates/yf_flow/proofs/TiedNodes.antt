@@ -1,5 +1,5 @@
 -- After a value of an entry, or a key without one, the entry has been read.
-use Rattle.std.proofs.Common.{◌≡◌, ◌≢◌, ℕ, suc, max, ◌+◌, ◌≤◌, ℤ, Bool, true, false, List, [], ◌∷◌, ◌++◌, length, Option, Some, None, refl, sym, ap, ◌∙◌, subst, arith}
+use Rattle.std.proofs.Common.{◌≡◌, ℕ, max, ◌+◌, ℤ, Bool, false, List, [], ◌∷◌, ◌++◌, Some, None, refl, sym, ap, ◌∙◌, subst, arith}
 use Rattle.yf_chars.specs.declared.context.Ctx.{Ctx}
 use Rattle.yf_events.specs.declared.part.Part.{Part}
 use Rattle.yf_grammar.specs.Meaning.{Meaning, ◌⊕◌, noting, entering, empty_node}
@@ -19,7 +19,7 @@ use Rattle.yf_flow.specs.declared.frame.Frame.{Frame}
 use Rattle.yf_flow.specs.declared.frame.Role.{Role}
 use Rattle.yf_flow.specs.declared.frame.Role.TheVariants.{Item, Key, Value}
 use Rattle.yf_flow.specs.declared.frame.Node.{Node}
-use Rattle.yf_flow.specs.Tied.{in_role, written_in, Written, Framed, of_collection, of_pair, NodeIn, item_in, key_in, value_in, Base, EntryTied, AtEnded, AtEntryDone}
+use Rattle.yf_flow.specs.Tied.{in_role, written_in, Written, Framed, of_collection, of_pair, NodeIn, item_in, key_in, value_in, Base, AtEnded, AtEntryDone}
 use Rattle.yf_flow.proofs.TiedEnds.{written_as}
 
 -- the frame of a collection with a node in it

@@ -1,9 +1,9 @@
 -- The end of an entry, and of the single pair that it is.
-use Rattle.std.proofs.Common.{◌≡◌, ◌≢◌, ℕ, suc, max, ◌+◌, ◌≤◌, ℤ, Bool, true, false, List, [], ◌∷◌, ◌++◌, length, Option, Some, None, refl, sym, ap, ◌∙◌, subst, arith, append_assoc, append-nil}
+use Rattle.std.proofs.Common.{◌≡◌, ◌≢◌, ℕ, suc, max, ℤ, Bool, true, false, List, [], ◌∷◌, ◌++◌, length, None, refl, sym, ap, ◌∙◌, subst, arith, append_assoc, append-nil}
 use Rattle.yf_chars.specs.declared.context.Ctx.{Ctx}
 use Rattle.yf_chars.specs.Text.{code}
 use Rattle.yf_comments.specs.Comment.{CommentValue}
-use Rattle.yf_events.specs.Event.{EventValue, Placed, mapping_ends}
+use Rattle.yf_events.specs.Event.{Placed, mapping_ends}
 use Rattle.yf_events.specs.Edit.{edited, ended}
 use Rattle.yf_events.specs.declared.part.Part.{Part}
 use Rattle.yf_grammar.specs.Grammar.{closing}
@@ -14,9 +14,9 @@ use Rattle.yf_grammar.proofs.LeafBack.{noting_nothing}
 use Rattle.yf_grammar.proofs.ParserLemmas.{Same}
 use Rattle.yf_flow.specs.declared.frame.Frame.{Frame}
 use Rattle.yf_flow.specs.declared.frame.Kind.{Kind}
-use Rattle.yf_flow.specs.declared.frame.Kind.TheVariants.{Sequence, Mapping, Pair}
+use Rattle.yf_flow.specs.declared.frame.Kind.TheVariants.{Pair}
 use Rattle.yf_flow.specs.Begun.{entry_event}
-use Rattle.yf_flow.specs.Tied.{Written, one, pair_event, entries_written, entry_written, kind_of, CollectionFrame, PairFrame, Framed, of_collection, of_pair, Base, Below, AtEntryEnd, AtEntryDone}
+use Rattle.yf_flow.specs.Tied.{Written, one, pair_event, entries_written, entry_written, kind_of, Framed, of_collection, of_pair, Base, Below, AtEntryEnd, AtEntryDone}
 use Rattle.yf_flow.proofs.TiedEnds.{written_as, written_same}
 use Rattle.yf_flow.proofs.TiedClose.{ended_written, closed_same, ends_noted, cons_parts, no_cons}
 

@@ -1,12 +1,12 @@
 -- The value of an entry after its `:`: a node that is awaited, or nothing.
-use Rattle.std.proofs.Common.{◌≡◌, ◌≢◌, ℕ, suc, max, ◌+◌, ◌≤◌, ℤ, Bool, true, false, List, [], ◌∷◌, ◌++◌, length, Option, Some, None, refl, sym, ap, ◌∙◌, subst, arith, append-nil, true≢false}
+use Rattle.std.proofs.Common.{◌≡◌, ℕ, max, ◌+◌, ℤ, Bool, true, false, List, [], ◌∷◌, ◌++◌, None, refl, sym, ap, ◌∙◌, subst, append-nil, true≢false}
 use Rattle.yf_chars.specs.declared.context.Ctx.{Ctx}
 use Rattle.yf_chars.specs.Text.{code}
 use Rattle.yf_chars.specs.Chain.{Stuck, Chosen}
 use Rattle.yf_comments.specs.Comment.{CommentValue}
 use Rattle.yf_comments.specs.Comments.{Separate}
 use Rattle.yf_props.specs.Props.{no_props}
-use Rattle.yf_events.specs.Event.{Placed, scalar_node}
+use Rattle.yf_events.specs.Event.{scalar_node}
 use Rattle.yf_events.specs.declared.event.ScalarStyle.TheVariants.{Plain}
 use Rattle.yf_events.specs.declared.part.Part.{Part}
 use Rattle.yf_grammar.specs.Meaning.{Meaning, ◌⊕◌, noting, empty_node, plain_event}
@@ -21,7 +21,7 @@ use Rattle.yf_flow.specs.declared.frame.Role.TheVariants.{Value}
 use Rattle.yf_flow.specs.declared.gap.Gap as TheGap
 use Rattle.yf_flow.specs.Leaves.{GapRead, gap_read, gap_missing}
 use Rattle.yf_flow.specs.Begun.{entry_event}
-use Rattle.yf_flow.specs.Tied.{entryless, Noted, Written, ahead, entries_written, entry_written, written_in, Framed, of_collection, of_pair, NodeIn, value_in, Base, InEntry, EntryTied, AtNode, AtValue, AtEntryDone, NoBase}
+use Rattle.yf_flow.specs.Tied.{entryless, Noted, Written, ahead, entries_written, written_in, Framed, of_collection, of_pair, NodeIn, value_in, Base, InEntry, EntryTied, AtNode, AtValue, AtEntryDone, NoBase}
 use Rattle.yf_flow.proofs.NotedLemmas.{noted_more}
 use Rattle.yf_flow.proofs.TiedFails.{all_fails}
 use Rattle.yf_flow.proofs.TiedEnds.{written_as, written_noting}

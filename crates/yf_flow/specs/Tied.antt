@@ -1,6 +1,6 @@
 -- What ties the reader's stack to the recursive reader: of each open collection, what has been read of it and what its outcome will
 -- be, once the outcome of what is awaited is known; and the flat lists of events, comments and escapes that have been written so far.
-use Rattle.std.specs.Prelude.{◌≡◌, ◌≢◌, ℕ, suc, max, ◌+◌, ◌≤◌, ℤ, Bool, true, false, List, [], ◌∷◌, ◌++◌, length, Option, Some, None}
+use Rattle.std.specs.Prelude.{◌≡◌, ◌≢◌, ℕ, suc, max, ◌+◌, ℤ, Bool, true, false, List, [], ◌∷◌, ◌++◌, length, Option, Some, None}
 use Rattle.yf_chars.specs.declared.context.Ctx.{Ctx}
 use Rattle.yf_chars.specs.Text.{code}
 use Rattle.yf_comments.specs.Comment.{CommentValue}
@@ -9,11 +9,11 @@ use Rattle.yf_events.specs.Event.{EventValue, Placed, mapping_starts, mapping_en
 use Rattle.yf_events.specs.Edit.{ended}
 use Rattle.yf_events.specs.declared.event.Entry as TheEntry
 use Rattle.yf_events.specs.declared.part.Part.{Part}
-use Rattle.yf_grammar.specs.Grammar.{in_flow, closing}
+use Rattle.yf_grammar.specs.Grammar.{closing}
 use Rattle.yf_grammar.specs.Meaning.{Meaning, ◌⊕◌, noting, entering, plain_event, end_of}
 use Rattle.yf_grammar.specs.Part.{NotedSince}
 use Rattle.yf_grammar.specs.Parser.{Found, AContent, ANode, ColonAt, Parses, only}
-use Rattle.yf_grammar.specs.Awaits.{ended_at, EntriesAwaited, SeparationAwaited, IsEntry, with_pair, wrapped, RestAwaited, KeyAwaited, ValueAwaited, ValueNodeAwaited, ItemAwaited, is_entry_end, Before, NodeOver, Within}
+use Rattle.yf_grammar.specs.Awaits.{ended_at, EntriesAwaited, SeparationAwaited, IsEntry, with_pair, wrapped, KeyAwaited, ValueAwaited, ValueNodeAwaited, ItemAwaited, is_entry_end, Before, NodeOver, Within}
 use Rattle.yf_flow.specs.declared.frame.Frame.{Frame}
 use Rattle.yf_flow.specs.declared.frame.Kind.{Kind}
 use Rattle.yf_flow.specs.declared.frame.Kind.TheVariants.{Sequence, Mapping, Pair}

@@ -4,7 +4,7 @@ ghost use Rattle.std.specs.Str.{IsCharBoundary};
 ghost use Rattle.yf_chars.specs.Text.{code, Reads};
 ghost use Rattle.yf_grammar.specs.Parser.{ColonAt, begins_content};
 ghost use Rattle.yf_grammar.specs.Part.{NotedSince};
-ghost use Rattle.yf_flow.specs.Leaves.{Closes, KeyLine};
+ghost use Rattle.yf_flow.specs.Leaves.{Closes};
 
 use crate::frame::{Kind, Scene};
 use yf_chars::classes::is_plain_safe;

@@ -1,4 +1,4 @@
-use Rattle.std.proofs.Common.{sym, ap, ◌∙◌, ◌++◌, ◌∷◌, [], subst}
+use Rattle.std.proofs.Common.{sym, ap, ◌∙◌, ◌++◌, ◌∷◌, []}
 use Rattle.yf_chars.specs.Text.{code}
 use Rattle.yf_events.specs.Event.{placed_value}
 use Rattle.yf_grammar.specs.Awaits.{is_entry_end}
