@@ -34,6 +34,7 @@ pub mod PlaceLemmas
 pub mod RestyledLemmas
 pub mod RowEnds
 pub mod RowTexts
+pub mod RowsUtf8
 pub mod RunLemmas
 pub mod ScalarsMade
 pub mod SettledLemmas
