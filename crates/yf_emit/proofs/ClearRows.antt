@@ -44,7 +44,7 @@ pub line_indented : (k : ℕ) {w : List ℕ} → IsLineText w → IsLineText (re
 line_indented zero a = a
 line_indented (suc k) a = line_ascii 32 (omega arith) space_nb (line_indented k a)
 
-remark_line : {text : List ℕ} → IsRemark text → IsLineText text
+pub remark_line : {text : List ℕ} → IsRemark text → IsLineText text
 remark_line a = subst (λ w. IsLineText w) (sym a.is) (line_ascii 35 (omega arith) hash_nb a.line)
 
 remark_unmarked : {text : List ℕ} → IsRemark text → Unmarked text
@@ -103,15 +103,15 @@ body_clear {t} r {q} u no_body_text s = record { place = q; clear = clear_nothin
 body_clear r u (body_text {x = x} {xs = xs} l n more) s = let one = line_clear x (body_then xs r) u l n s in also one (body_clear r u more one.rest)
 
 -- the end of a row's text with the comment that trails it
-abbrev trails_bytes : List (List ℕ) → List ℕ
+abbrev pub trails_bytes : List (List ℕ) → List ℕ
 trails_bytes [] = []
 trails_bytes (x ∷ xs) = 32 ∷ 32 ∷ (x ++ trails_bytes xs)
 
-trails_are : (xs : List (List ℕ)) (r : List ℕ) → trails_then xs r ≡ trails_bytes xs ++ r
+pub trails_are : (xs : List (List ℕ)) (r : List ℕ) → trails_then xs r ≡ trails_bytes xs ++ r
 trails_are [] r = refl
 trails_are (x ∷ xs) r = ap (λ z. 32 ∷ 32 ∷ z) (ap (λ z. x ++ z) (trails_are xs r) ∙ sym (append_assoc x (trails_bytes xs) r))
 
-trails_line : (xs : List (List ℕ)) → AreTrails xs → IsLineText (trails_bytes xs)
+pub trails_line : (xs : List (List ℕ)) → AreTrails xs → IsLineText (trails_bytes xs)
 trails_line [] a = line_nothing
 trails_line (x ∷ []) a = line_ascii 32 (omega arith) space_nb (line_ascii 32 (omega arith) space_nb (line_append (remark_line a) line_nothing))
 trails_line (x ∷ y ∷ zs) a = absurd a

@@ -39,6 +39,7 @@ pub mod RestyledLemmas
 pub mod RowEnds
 pub mod PrintLemmas
 pub mod RowTexts
+pub mod RowsUtf8
 pub mod RunLemmas
 pub mod ScalarsMade
 pub mod SettledLemmas

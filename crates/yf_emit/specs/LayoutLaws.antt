@@ -26,10 +26,15 @@ pub record StreamMade (t : List ℕ) (ds : List Doc) (xs : List DocumentTree) (c
 abbrev pub printed_comments : Lists → Style → List DocumentTree → List (List ℕ)
 printed_comments m s trees = remarks_of (first_gap m (rows_of m s trees)) ++ comments_in (rows_of m s trees) (row_decos m (rows_of m s trees))
 
+-- The layout is a text: where the texts of its rows are.
+abbrev pub LayoutsAreTexts : Type 0
+LayoutsAreTexts = (m : Lists) (s : Style) (trees : List DocumentTree) → FitDocuments m.documents trees → AreRemarks m.comments
+    → TrailsFit (source_of m (rows_of m s trees)) (rows_of m s trees) → IsUtf8 (layout m s trees)
+
 -- What is laid out is derived again: where each node on one line reads back, the comments are texts of comments of which one at most trails a
 -- row, and what stands after a block scalar is none of it, the layout is a stream of documents that mean the same trees up to their places, with
 -- the same directives, and its comments are those that were printed, in that order.
 abbrev pub LayoutsAreDerived : Type 0
-LayoutsAreDerived = (t : List ℕ) (m : Lists) (s : Style) (trees : List DocumentTree) → IsUtf8 t → FitDocuments m.documents trees → AreRemarks m.comments
+LayoutsAreDerived = (m : Lists) (s : Style) (trees : List DocumentTree) → FitDocuments m.documents trees → AreRemarks m.comments
     → TrailsFit (source_of m (rows_of m s trees)) (rows_of m s trees) → Calm (rows_of m s trees) (row_decos m (rows_of m s trees)) []
-    → t ≡ layout m s trees → StreamMade t m.documents trees (printed_comments m s trees)
+    → StreamMade (layout m s trees) m.documents trees (printed_comments m s trees)
