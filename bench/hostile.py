@@ -20,7 +20,7 @@ TOP = os.path.dirname(os.path.dirname(os.path.abspath(__file__)))
 VERBS = ('events', 'check', 'fmt')
 
 # Bytes of memory a byte of input.
-LIMIT = {'events': 700, 'check': 700, 'fmt': 1500}
+LIMIT = {'events': 150, 'check': 250, 'fmt': 1000}
 
 RATIO = 2.5
 

@@ -96,24 +96,38 @@ const REFUSED: [(&str, i32); 7] = [
     ("[a,\n--- b]", 0),
 ];
 
+/// Whether the flow node that begins the text has these events and ends there.
+fn is_read(alloc: Global, text: &str, n: i32, wanted: &str, end: usize) -> Result<bool, Fail> {
+    let src = Src::new(alloc, text)?;
+    if !src.text().is_char_boundary(0) {
+        return Err("no boundary".into());
+    }
+    match read_flow_node(alloc, &src, 0, n, Ctx::FlowOut)? {
+        Some(node) => {
+            let events = shown(alloc, &node.part.events)?;
+            Ok(events.as_str() == wanted && node.end == end)
+        }
+        None => Ok(false),
+    }
+}
+
+/// Whether a flow node begins the text.
+fn is_found(alloc: Global, text: &str, n: i32) -> Result<bool, Fail> {
+    let src = Src::new(alloc, text)?;
+    if !src.text().is_char_boundary(0) {
+        return Err("no boundary".into());
+    }
+    let found = scan_flow_node(alloc, &src, 0, n, Ctx::FlowOut)?;
+    Ok(found.is_some())
+}
+
 #[test]
 fn reads_nodes(rt: HostRuntime) -> Result<(), Fail> {
-    for (text, n, wanted, wanted_end) in NODES {
-        let src = Src::new(rt.alloc(), text)?;
-        assert!(rt; src.text().is_char_boundary(0));
-        let found = read_flow_node(rt.alloc(), &src, 0, n, Ctx::FlowOut)?;
-        let node = found.ok_or("no node")?;
-        let events = shown(rt.alloc(), &node.part.events)?;
-        assert!(rt;
-            events.as_str() == wanted && node.end == wanted_end,
-            "{text}"
-        );
+    for (text, n, wanted, end) in NODES {
+        assert!(rt; is_read(rt.alloc(), text, n, wanted, end)?, "{text}");
     }
     for (text, n) in REFUSED {
-        let src = Src::new(rt.alloc(), text)?;
-        assert!(rt; src.text().is_char_boundary(0));
-        let found = scan_flow_node(rt.alloc(), &src, 0, n, Ctx::FlowOut)?;
-        assert!(rt; found.is_none(), "{text}");
+        assert!(rt; !is_found(rt.alloc(), text, n)?, "{text}");
     }
     Ok(())
 }
