@@ -4,6 +4,7 @@ pub mod AwaitFails
 pub mod AwaitValues
 pub mod BareNodes
 pub mod BlankRuns
+pub mod BlockAwaitItems
 pub mod BlockClaims
 pub mod BlockCover
 pub mod BlockEmpty

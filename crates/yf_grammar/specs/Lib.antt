@@ -1,5 +1,6 @@
 pub mod Awaits
 pub mod Back
+pub mod BlockAwaits
 pub mod BlockParser
 pub mod BlockScalar
 pub mod Grammar
