@@ -2,7 +2,7 @@
 -- entries come the outcomes of all of them. Entries that were read whole, x, lie between p and i, where the next one begins; h
 -- collections were open at once in them. `Whole` and `Halts` run together: o is the part up to the last place at which all may
 -- end so far, which stays the outcome of `Halts` where nothing from i on has an end.
-use Rattle.std.specs.Prelude.{ℕ, max, Bool, true, false, List, Option, Some, None}
+use Rattle.std.specs.Prelude.{ℕ, max, Bool, false, List, Option, Some, None}
 use Rattle.yf_grammar.specs.Meaning.{Meaning, ◌⊕◌}
 use Rattle.yf_grammar.specs.Parser.{Found}
 use Rattle.yf_grammar.specs.BlockParser.{Origin, Later, Items, Whole}
