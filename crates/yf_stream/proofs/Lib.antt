@@ -4,6 +4,7 @@ pub mod NoPercent
 pub mod OneDirective
 pub mod OneReading
 pub mod OneStream
+pub mod PlaceLawsHold
 pub mod ReadingOrder
 pub mod ShownEmpty
 pub mod ShownItem

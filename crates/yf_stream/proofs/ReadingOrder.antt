@@ -103,7 +103,7 @@ pub reading_ascends : {t : List ℕ} {r : Lists} → ReadingOf t r → Ascend 0 
 reading_ascends a = noted_ascend a.comments (stream_ascends a.reads.shapes.derived)
 
 -- in terms of indices
-later_offset : {i k : ℕ} (cs : List CommentValue) (j : ℕ) (d : CommentValue) → Ascend i cs k → j < length cs → (i ≤ (slice_index_or cs j d).offset) × ((slice_index_or cs j d).offset < k)
+pub later_offset : {i k : ℕ} (cs : List CommentValue) (j : ℕ) (d : CommentValue) → Ascend i cs k → j < length cs → (i ≤ (slice_index_or cs j d).offset) × ((slice_index_or cs j d).offset < k)
 later_offset [] j d a l = absurd (omega arith)
 later_offset (c ∷ cs) zero d (one_more m a) l = let f = ascend_order a in (m, omega arith)
 later_offset {i = i} {k = k} (c ∷ cs) (suc j) d (one_more m a) l = let r = later_offset {i = c.offset + 1} cs j d a (omega arith) in (omega (arith, r.0), r.1)

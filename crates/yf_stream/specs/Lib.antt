@@ -1,4 +1,5 @@
 pub mod Laws
+pub mod PlaceLaws
 pub mod ReadingOf
 pub mod Refusal
 pub mod Stream
