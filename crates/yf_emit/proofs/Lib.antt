@@ -38,6 +38,7 @@ pub mod PlaceLemmas
 pub mod RestyledLemmas
 pub mod RowEnds
 pub mod PrintLemmas
+pub mod QuotedFits
 pub mod RowTexts
 pub mod RowsUtf8
 pub mod RunLemmas
