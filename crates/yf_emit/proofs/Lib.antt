@@ -51,6 +51,7 @@ mod ShownLayouts
 mod ShownNodes
 pub mod SignLemmas
 pub mod SiteLemmas
+pub mod SkipLemmas
 pub mod StepLemmas
 pub mod StreamLemmas
 pub mod StreamsMade
@@ -60,5 +61,6 @@ pub mod TreeTexts
 pub mod TreesMade
 pub mod UniqueLemmas
 pub mod ValueLemmas
+pub mod WantedLemmas
 pub mod WhiteLemmas
 pub mod WidthLemmas
