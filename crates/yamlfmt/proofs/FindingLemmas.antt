@@ -10,6 +10,7 @@ use Rattle.yf_events.specs.Reading.{events_of}
 use Rattle.yf_lines.proofs.OutputLemmas.{Progress}
 use Rattle.yf_rules.specs.declared.finding.Finding.{Finding}
 use Rattle.yamlfmt.specs.Run.{Found, Gave, finding_line, findings_text, has_any}
+use Rattle.yamlfmt.specs.Findings.{FoundIn}
 
 pub next_finding : (old new : Option (List ℕ)) (before after : Bool) (text : List ℕ) (findings : List Finding) (i : ℕ) (d : Finding)
     → i < length findings → Progress old new before after text (findings_text (drop i findings))
@@ -18,18 +19,29 @@ next_finding old new before after text findings i d within p =
     let cut : drop i findings ≡ get_or findings i d ∷ drop (i + 1) findings = rw add-one (drop-cons findings i d within) in
     subst (Progress old new before after text) (ap findings_text cut) p
 
--- what the rules find in the text that was read
-pub found_in : {C : Table → Lists → List Finding → Type 0} {known : Option (List ℕ)} {text bytes : List ℕ} {findings : List Finding}
-    (src : Table) (reading : Lists) → src.text ≡ text → text ≡ bytes → Gave known bytes → IsUtf8 text → AreLines text src.lines
-    → IsStream DEPTH (events_of reading) → C src reading findings → Found C known findings
-found_in {known = known} src reading e f gave utf8 lines nested checked = record {
+-- what the rules find in a text
+pub found_text : {C : Table → Lists → List Finding → Type 0} {text : List ℕ} {findings : List Finding} (src : Table) (reading : Lists)
+    → src.text ≡ text → AreLines text src.lines → IsStream DEPTH (events_of reading) → C src reading findings → FoundIn C text findings
+found_text src reading same lines nested checked = record {
   src = src;
   reading = reading;
-  gave = subst (λ t. Gave known t) (sym (e ∙ f)) gave;
-  utf8 = subst (λ t. IsUtf8 t) (sym e) utf8;
-  lines = subst (λ t. AreLines t src.lines) (sym e) lines;
+  of_text = same;
+  lines = subst (λ t. AreLines t src.lines) (sym same) lines;
   nested = nested;
   checked = checked;
+}
+
+-- what the rules find in the text that was read
+pub found_in : {C : Table → Lists → List Finding → Type 0} {known : Option (List ℕ)} {text bytes : List ℕ} {findings : List Finding}
+    → FoundIn C text findings → text ≡ bytes → Gave known bytes → IsUtf8 text → Found C known findings
+found_in {known = known} found same gave utf8 = record {
+  src = found.src;
+  reading = found.reading;
+  gave = subst (λ t. Gave known t) (sym (found.of_text ∙ same)) gave;
+  utf8 = subst (λ t. IsUtf8 t) (sym found.of_text) utf8;
+  lines = found.lines;
+  nested = found.nested;
+  checked = found.checked;
 }
 
 -- the same findings have the same lines

@@ -3,6 +3,7 @@ pub mod Laws
 pub mod Report
 pub mod Shown
 pub mod Run
+pub mod Findings
 pub mod Files
 pub mod Settings
 pub mod CommandLine

@@ -3,6 +3,8 @@
 ghost use Rattle.std.specs.Prelude.{◌≡◌, string_bytes, IfErr, IfOk, OnOk};
 ghost use Rattle.yf_lines.specs.Output.{Writes};
 ghost use Rattle.yf_rules.specs.Check.{Checked, RuleFindings};
+ghost use Rattle.yf_stream.specs.Refusal.{IsStreamFault};
+ghost use Rattle.yamlfmt.specs.Findings.{FoundIn};
 ghost use Rattle.yamlfmt.specs.Run.{Printed, Refused, RefusedCheck, RefusedFmt, RefusedText, Rendered, Restyled, Told};
 ghost use Rattle.yamlfmt.specs.Run.{finding_line, findings_text, has_any};
 
@@ -76,16 +78,30 @@ pub fn run_check<R: Source, W: Sink>(
         Ok(text) => text,
         Err(BadByte { offset }) => return Err(Fault::NotUtf8 { offset }),
     };
-    let src = match Src::new(alloc, text) {
-        Ok(src) => src,
-        Err(AllocError) => return Err(Fault::Memory),
-    };
-    let reading = read_stream(alloc, src.text())?;
-    let findings = check(alloc, rules, &src, &reading, style)?;
+    let findings = findings_in(alloc, rules, text, style)?;
     match write_findings(findings.as_slice(), writer) {
         Ok(()) => Ok(has_any(findings.as_slice())),
         Err(_) => Err(Fault::WriteFailed),
     }
+}
+
+// What the rules find in a text.
+fn findings_in(
+    alloc: Global,
+    rules: &[Box<dyn Rule>],
+    text: &str,
+    style: &Style,
+) -> Result<Vec<Finding>, Fault>
+    ensures found { IfOk result (λ findings. FoundIn (λ src reading findings. Checked (λ rule found. RuleFindings (rule_number rule) (rule_id rule) (is_fixable rule) (faults rule) src reading style.now found) rules.now findings)
+        text.now findings.items) }
+    ensures refused { IfErr result (λ fault. IsStreamFault text.now fault) }
+{
+    let src = match Src::new(alloc, text) {
+        Ok(src) => src,
+        Err(AllocError) => return Err(Fault::Memory),
+    };
+    let stream = read_stream(alloc, text)?;
+    check(alloc, rules, &src, &stream, style)
 }
 
 fn has_any(findings: &[Finding]) -> bool

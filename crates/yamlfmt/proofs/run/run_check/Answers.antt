@@ -1,6 +1,6 @@
 use Rattle.std.proofs.Common.{◌≡◌, ◌∙◌, List, ℕ, subst, sym}
 use Rattle.std.specs.Str.{IsUtf8}
-use Rattle.yamlfmt.proofs.FindingLemmas.{found_in, nested_same, wrote_same, broke_same, any_same}
+use Rattle.yamlfmt.proofs.FindingLemmas.{found_in, wrote_same, broke_same, any_same}
 use Rattle.yamlfmt.proofs.run.run_check.Goals as goal
 
 pub returns-in-Ok-write_findings-clause-findings : goal.returns-in-Ok-write_findings-clause-findings
@@ -9,8 +9,7 @@ returns-in-Ok-write_findings-clause-findings g c =
     let utf8 = subst (λ (t : List ℕ). IsUtf8 t) (sym c.in-Ok.ensures.1) c.in-Ok.ensures.0 in
     record {
       findings = c.in_ok-findings.findings.items;
-      found = found_in c.in-Ok-new.src c.in_ok-reading.reading c.in-Ok-new.ensures.text same c.in_ok-bytes.ensures.whole utf8
-          c.in-Ok-new.ensures.lines (nested_same c.reading.view_is c.reading.invariant.stream) c.in_ok-findings.ensures.findings;
+      found = found_in c.in_ok-findings.ensures.found same c.in_ok-bytes.ensures.whole utf8;
       wrote = wrote_same c.as_slice-2.ensures.value c.in-Ok-write_findings.ensures;
       answer = c.has_any.ensures ∙ any_same c.as_slice-in-Ok-write_findings.ensures.value;
     }
@@ -21,8 +20,7 @@ returns-clause-refusals g c =
     let utf8 = subst (λ (t : List ℕ). IsUtf8 t) (sym c.in-Ok.ensures.1) c.in-Ok.ensures.0 in (
       record {
         findings = c.in_ok-findings.findings.items;
-        found = found_in c.in-Ok-new.src c.in_ok-reading.reading c.in-Ok-new.ensures.text same c.in_ok-bytes.ensures.whole utf8
-            c.in-Ok-new.ensures.lines (nested_same c.reading.view_is c.reading.invariant.stream) c.in_ok-findings.ensures.findings;
+        found = found_in c.in_ok-findings.ensures.found same c.in_ok-bytes.ensures.whole utf8;
         broke = broke_same c.as_slice-2.ensures.value c.in-Err-write_findings.ensures.1;
       },
       c.in_ok-bytes.ensures.works,
