@@ -3,6 +3,7 @@ pub mod Forward
 pub mod Frames
 pub mod LeafLemmas
 pub mod LookLemmas
+pub mod KeyLineLemmas
 pub mod NodeBegunLemmas
 pub mod NotedLemmas
 pub mod TiedBegun

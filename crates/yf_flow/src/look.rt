@@ -4,7 +4,7 @@ ghost use Rattle.std.specs.Str.{IsCharBoundary};
 ghost use Rattle.yf_chars.specs.Text.{code, Reads};
 ghost use Rattle.yf_grammar.specs.Parser.{ColonAt, begins_content};
 ghost use Rattle.yf_grammar.specs.Part.{NotedSince};
-ghost use Rattle.yf_flow.specs.Leaves.{Closes};
+ghost use Rattle.yf_flow.specs.Leaves.{Closes, KeyLine};
 
 use crate::frame::{Kind, Scene};
 use yf_chars::classes::is_plain_safe;
@@ -91,6 +91,7 @@ pub(crate) const KEY_LIMIT: usize = 1024;
 /// (ns-s-implicit-yaml-key, production 154; c-s-implicit-json-key, production 155).
 pub fn is_key_line(text: &str, start: usize, end: usize) -> bool
     requires { IsCharBoundary text.now start }
+    ensures { IsCharBoundary text.now end → MatchBool result (KeyLine text.now start end) (KeyLine text.now start end → ⊥) }
 {
     let mut at = start;
     let mut room = KEY_LIMIT;
@@ -99,8 +100,16 @@ pub fn is_key_line(text: &str, start: usize, end: usize) -> bool
             return false;
         }
         match peek(text, at) {
-            Some(('\n' | '\r', _)) | None => return false,
-            Some((_, next)) => at = next,
+            Some((c, next)) => {
+                if c == '\n' {
+                    return false;
+                }
+                if c == '\r' {
+                    return false;
+                }
+                at = next;
+            }
+            None => return false,
         }
         room -= 1;
     }
