@@ -1,4 +1,5 @@
 pub mod Begun
+pub mod EntryBegun
 pub mod Leaves
 pub mod Machine
 pub mod NodeBegun

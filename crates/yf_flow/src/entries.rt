@@ -1,10 +1,13 @@
 //! The steps that begin and read the entries of a flow collection: keys, values and single pairs. Each step leads on to a
 //! later place of the text, and none goes back.
-ghost use Rattle.std.specs.Prelude.{◌≡◌, ◌+◌, ◌-◌, ◌*◌, ◌<◌, ◌≤◌, length, reverse, IfOk, IfSome};
+ghost use Rattle.std.specs.Prelude.{◌≡◌, ◌≢◌, ◌+◌, ◌-◌, ◌*◌, ◌<◌, ◌≤◌, length, reverse, IfOk, IfSome};
 ghost use Rattle.std.specs.List.{All};
 ghost use Rattle.std.specs.Str.{IsCharBoundary, IsUtf8};
+ghost use Rattle.yf_chars.specs.Text.{code};
+ghost use Rattle.yf_events.specs.Event.{placed_value};
+ghost use Rattle.yf_flow.specs.EntryBegun.{EntryBegun};
 ghost use Rattle.yf_flow.specs.Machine.{Awaiting, Indexed, Ready, left};
-ghost use Rattle.yf_flow.specs.Tied.{AtValue, Base, StepTied};
+ghost use Rattle.yf_flow.specs.Tied.{AtValue, Base, EntryNoted, NotedEvent, StepTied, pair_event};
 
 use crate::entry_ends::{close, end_entry};
 use crate::frame::{Frame, Kind, Role, Scene, State, Step};
@@ -23,14 +26,19 @@ use yf_props::props::Props;
 pub(crate) type Below = SmallVec<Frame, 8>;
 
 // The entry that the node begins which is read now, if it begins one.
-fn entry_begun(text: &str, top: Frame) -> Option<Entry> {
+fn entry_begun(text: &str, top: Frame) -> Option<Entry>
+    ensures { code text.now top.entry ≢ 10 → EntryBegun text.now top.entry top.role result }
+{
     match top.role {
         Role::Item | Role::Key => Some(entry_at(text, top.entry, None)),
         Role::Value => None,
     }
 }
 
-fn entry_at(text: &str, start: usize, colon: Option<usize>) -> Entry {
+// The entry that begins at the offset, with its note.
+fn entry_at(text: &str, start: usize, colon: Option<usize>) -> Entry
+    ensures { code text.now start ≢ 10 → EntryNoted text.now start colon result }
+{
     Entry {
         start,
         colon,
@@ -246,7 +254,9 @@ fn in_mapping<'a>(
 }
 
 /// The event that begins a single pair. Where the pair ends is noted once it has been read.
-pub(crate) fn pair_start<'a>(alloc: Global, text: &str, start: usize) -> PlacedEvent<'a> {
+pub(crate) fn pair_start<'a>(alloc: Global, text: &str, start: usize) -> PlacedEvent<'a>
+    ensures { code text.now start ≢ 10 → NotedEvent text.now (pair_event start) (placed_value result) }
+{
     PlacedEvent {
         event: NewEvent::MapStart {
             flow: true,
