@@ -1,3 +1,4 @@
+pub mod CommentSigns
 pub mod Forward
 pub mod LawsHold
 pub mod NoPercent
@@ -6,6 +7,7 @@ pub mod OneReading
 pub mod OneStream
 pub mod PlaceLawsHold
 pub mod ReadingOrder
+pub mod ReadingSigns
 pub mod ShownEmpty
 pub mod ShownItem
 pub mod ShownLaws

@@ -1,5 +1,6 @@
 -- Laws of where the parts of a reading stand, each with the plain sentence that it stands for. `proofs/PlaceLawsHold.antt` proves them.
-use Rattle.std.specs.Prelude.{ℕ, ◌<◌, List, length, slice_index_or}
+use Rattle.std.specs.Prelude.{◌≡◌, ℕ, ◌<◌, List, length, slice_index_or}
+use Rattle.yf_chars.specs.Text.{code}
 use Rattle.yf_comments.specs.Comment.{CommentValue}
 use Rattle.yf_events.specs.WellPlaced.{WellPlaced}
 use Rattle.yf_events.specs.declared.lists.Lists.{Lists}
@@ -13,3 +14,8 @@ CommentsOfReadingsAscendStrictly = (t : List ℕ) (r : Lists) → ReadingOf t r 
 -- The events of a reading have no place and no lines but those that its trees have, and as many documents are listed as begin.
 abbrev pub ReadingsAreWellPlaced : Type 0
 ReadingsAreWellPlaced = (t : List ℕ) (r : Lists) → ReadingOf t r → WellPlaced r
+
+-- Each comment of a reading begins with its sign, #.
+abbrev pub CommentsOfReadingsHaveSigns : Type 0
+CommentsOfReadingsHaveSigns = (t : List ℕ) (r : Lists) → ReadingOf t r → (k : ℕ) (d : CommentValue) → k < length r.comments
+    → code t (slice_index_or r.comments k d).offset ≡ 35
