@@ -1,4 +1,4 @@
--- The comments of what is derived stand in the order of the text, each within what derives it.
+-- The comments of what is derived stand in the order of the text, each within what derives it, and each begins with its sign.
 use Rattle.std.proofs.Common.{◌≡◌, ℕ, ℤ, ◌+◌, ◌≤◌, Bool, true, false, List, [], ◌∷◌, ◌++◌, Option, ⊎_elim, arith}
 use Rattle.std.proofs.lemmas.Bool.{cases_Bool}
 use Rattle.yf_chars.specs.declared.context.Ctx.{Ctx}
@@ -6,6 +6,7 @@ use Rattle.yf_chars.specs.Chain.{Chain}
 use Rattle.yf_chars.specs.Chain.Chain.{done, step}
 use Rattle.yf_chars.proofs.ChainLemmas.{chain_forward, one_functional}
 use Rattle.yf_chars.specs.Class.{is_nb_char, is_white}
+use Rattle.yf_chars.specs.Text.{code}
 use Rattle.yf_lines.specs.Basic.{is_block, FlowPrefix}
 use Rattle.yf_comments.specs.Comment.{CommentValue}
 use Rattle.yf_comments.specs.Comments.{CommentText, LineRest, LineEnd, Row, Separate}
@@ -45,64 +46,64 @@ use Rattle.yf_grammar.proofs.Forward.{in_line_forward}
 use Rattle.yf_grammar.proofs.PlainEnds.{plain_later}
 use Rattle.yf_grammar.proofs.QuotedEnds.{single_later, double_later}
 
--- comments in order, from one place up to another
-pub data Ascend : ℕ → List CommentValue → ℕ → Type 0 where
-  no_more : {i j : ℕ} → i ≤ j → Ascend i [] j
-  one_more : {i j : ℕ} {c : CommentValue} {cs : List CommentValue} → i ≤ c.offset → Ascend (c.offset + 1) cs j → Ascend i (c ∷ cs) j
+-- comments of a text in order, each with its sign, from one place up to another
+pub data Ascend (t : List ℕ) : ℕ → List CommentValue → ℕ → Type 0 where
+  no_more : {i j : ℕ} → i ≤ j → Ascend t i [] j
+  one_more : {i j : ℕ} {c : CommentValue} {cs : List CommentValue} → i ≤ c.offset → code t c.offset ≡ 35 → Ascend t (c.offset + 1) cs j → Ascend t i (c ∷ cs) j
 
-pub ascend_after : {i h j : ℕ} {cs : List CommentValue} → i ≤ h → Ascend h cs j → Ascend i cs j
+pub ascend_after : {t : List ℕ} {i h j : ℕ} {cs : List CommentValue} → i ≤ h → Ascend t h cs j → Ascend t i cs j
 ascend_after l (no_more m) = no_more (omega arith)
-ascend_after l (one_more m a) = one_more (omega arith) a
+ascend_after l (one_more m s a) = one_more (omega arith) s a
 
-pub ascend_upto : {i h j : ℕ} {cs : List CommentValue} → Ascend i cs h → h ≤ j → Ascend i cs j
+pub ascend_upto : {t : List ℕ} {i h j : ℕ} {cs : List CommentValue} → Ascend t i cs h → h ≤ j → Ascend t i cs j
 ascend_upto (no_more m) l = no_more (omega arith)
-ascend_upto (one_more m a) l = one_more m (ascend_upto a l)
+ascend_upto (one_more m s a) l = one_more m s (ascend_upto a l)
 
-pub ascend_join : {i h j : ℕ} {cs ds : List CommentValue} → Ascend i cs h → Ascend h ds j → Ascend i (cs ++ ds) j
+pub ascend_join : {t : List ℕ} {i h j : ℕ} {cs ds : List CommentValue} → Ascend t i cs h → Ascend t h ds j → Ascend t i (cs ++ ds) j
 ascend_join (no_more m) b = ascend_after m b
-ascend_join (one_more m a) b = one_more m (ascend_join a b)
+ascend_join (one_more m s a) b = one_more m s (ascend_join a b)
 
-pub ascend_order : {i j : ℕ} {cs : List CommentValue} → Ascend i cs j → i ≤ j
+pub ascend_order : {t : List ℕ} {i j : ℕ} {cs : List CommentValue} → Ascend t i cs j → i ≤ j
 ascend_order (no_more m) = m
-ascend_order (one_more m a) = let l = ascend_order a in omega arith
+ascend_order (one_more m s a) = let l = ascend_order a in omega arith
 
 -- without the comments at the end
-ascend_nothing : {i j : ℕ} {cs : List CommentValue} → Ascend i cs j → Ascend i (cs ++ []) j
+ascend_nothing : {t : List ℕ} {i j : ℕ} {cs : List CommentValue} → Ascend t i cs j → Ascend t i (cs ++ []) j
 ascend_nothing a = ascend_join a (no_more (omega arith))
 
-ascend_noted : {i j : ℕ} (b : Bool) (cs : List CommentValue) → Ascend i cs j → Ascend i (first_noted b cs) j
+ascend_noted : {t : List ℕ} {i j : ℕ} (b : Bool) (cs : List CommentValue) → Ascend t i cs j → Ascend t i (first_noted b cs) j
 ascend_noted b [] a = a
-ascend_noted b (c ∷ cs) (one_more m a) = one_more m a
+ascend_noted b (c ∷ cs) (one_more m s a) = one_more m s a
 
 module _ {t : List ℕ} where
-  text_ascends : {i j : ℕ} {x : List CommentValue} → CommentText t i j x → Ascend i x j
-  text_ascends (comment_text e m n) = one_more (omega arith) (no_more (chain_forward (one_functional t is_nb_char) m))
+  text_ascends : {i j : ℕ} {x : List CommentValue} → CommentText t i j x → Ascend t i x j
+  text_ascends (comment_text e m n) = one_more (omega arith) e (no_more (chain_forward (one_functional t is_nb_char) m))
 
-  rest_ascends : {i j : ℕ} {x : List CommentValue} → LineRest t i j x → Ascend i x j
+  rest_ascends : {i j : ℕ} {x : List CommentValue} → LineRest t i j x → Ascend t i x j
   rest_ascends (nothing e) = no_more (break_or_end_forward e)
   rest_ascends (whites s e) = let f = in_line_forward s in let g = break_or_end_forward e in no_more (omega arith)
   rest_ascends (comment s c e) = ascend_after (in_line_forward s) (ascend_upto (text_ascends c) (break_or_end_forward e))
 
-  pub rows_ascend : {i j : ℕ} {x : List CommentValue} → Chain (Row t) i j x → Ascend i x j
+  pub rows_ascend : {i j : ℕ} {x : List CommentValue} → Chain (Row t) i j x → Ascend t i x j
   rows_ascend done = no_more (omega arith)
   rows_ascend (step r c) = ascend_join (rest_ascends r.rest) (rows_ascend c)
 
-  pub end_ascends : {i j : ℕ} {x : List CommentValue} → LineEnd t i j x → Ascend i x j
+  pub end_ascends : {i j : ℕ} {x : List CommentValue} → LineEnd t i j x → Ascend t i x j
   end_ascends d = rows_ascend (line_end_rows d)
 
   prefix_forward : {n : ℤ} {i j : ℕ} → FlowPrefix t n i j → i ≤ j
   prefix_forward p = chain_forward (one_functional t is_white) (prefix_whites p).1
 
-  separate_ascends : {n : ℤ} {c : Ctx} {i j : ℕ} {x : List CommentValue} → Separate t n c i j x → Ascend i x j
+  separate_ascends : {n : ℤ} {c : Ctx} {i j : ℕ} {x : List CommentValue} → Separate t n c i j x → Ascend t i x j
   separate_ascends (in_key e s) = no_more (in_line_forward s)
   separate_ascends (in_node e (in_line s)) = no_more (in_line_forward s)
   separate_ascends (in_node e (over_lines d p)) = ascend_upto (end_ascends d) (prefix_forward p)
 
-  may_ascends : {n : ℤ} {c : Ctx} {i j : ℕ} {x : List CommentValue} → MaySeparate t n c i j x → Ascend i x j
+  may_ascends : {n : ℤ} {c : Ctx} {i j : ℕ} {x : List CommentValue} → MaySeparate t n c i j x → Ascend t i x j
   may_ascends unseparated = no_more (omega arith)
   may_ascends (separated s) = separate_ascends s
 
-value_ascends : (t : List ℕ) (n : ℤ) (c : Ctx) (i j : ℕ) (x : List CommentValue) (json : Bool) → ValueSeparate json t n c i j x → Ascend i x j
+value_ascends : (t : List ℕ) (n : ℤ) (c : Ctx) (i j : ℕ) (x : List CommentValue) (json : Bool) → ValueSeparate json t n c i j x → Ascend t i x j
 value_ascends t n c i j x true s = may_ascends s
 value_ascends t n c i j x false s = separate_ascends s
 
@@ -110,7 +111,7 @@ module _ {t : List ℕ} where
   anchor_forward : {i j : ℕ} {x : List ℕ} → Anchor t i j x → i ≤ j
   anchor_forward a = let l = (anchor_parts a).1.some in omega arith
 
-  properties_ascend : {n : ℤ} {c : Ctx} {i j : ℕ} {p : PropertiesValue} → Properties t n c i j p → Ascend i p.comments j
+  properties_ascend : {n : ℤ} {c : Ctx} {i j : ℕ} {p : PropertiesValue} → Properties t n c i j p → Ascend t i p.comments j
   properties_ascend (by_tag g) = let l = tag_later g in no_more (omega arith)
   properties_ascend (by_anchor a) = no_more (anchor_forward a)
   properties_ascend (tag_first g s a) = let l = tag_later g in ascend_after (omega arith) (ascend_upto (separate_ascends s) (anchor_forward a))
@@ -135,26 +136,26 @@ module _ {t : List ℕ} where
   marks_forward (digit_sign d s) = let f = digit_forward d in let g = sign_forward s in omega arith
   marks_forward (sign_digit s d) = let f = sign_forward s in let g = digit_forward d in omega arith
 
-  header_ascends : {i j : ℕ} {h : HeaderValue} → BlockHeader t i j h → Ascend i h.comments j
+  header_ascends : {i j : ℕ} {h : HeaderValue} → BlockHeader t i j h → Ascend t i h.comments j
   header_ascends (block_header s m r) = let f = style_forward s in let g = marks_forward m in ascend_after (omega arith) (rest_ascends r)
 
   taken_forward : {k i p count : ℕ} {ls : List (List ℕ)} {o : Bool} → Taken t k i ls o count p → i ≤ p
   taken_forward {k} d = let f = chain_forward (line_functional t k) (lines_chain d.lines) in let g = chain_forward (bare_functional t) d.tail.lines in omega arith
 
-  trail_ascends : {k i j : ℕ} {x : List CommentValue} → Trail t k i j x → Ascend i x j
+  trail_ascends : {k i j : ℕ} {x : List CommentValue} → Trail t k i j x → Ascend t i x j
   trail_ascends (comments m l a e c) = end_ascends c.derived
   trail_ascends (no_comment n) = no_more (omega arith)
 
-  body_ascends : {n : ℤ} {h : Header} {i j : ℕ} {v : BodyValue} → Body t n h i j v → Ascend i v.comments j
+  body_ascends : {n : ℤ} {h : Header} {i j : ℕ} {v : BodyValue} → Body t n h i j v → Ascend t i v.comments j
   body_ascends (indicated {x = x} e a b) = ascend_after (taken_forward a) (ascend_noted _ x (trail_ascends b))
   body_ascends (detected {x = x} e d a b) = ascend_after (taken_forward a) (ascend_noted _ x (trail_ascends b))
   body_ascends (without_content {x = x} e c d b) = ascend_after (chain_forward (bare_functional t) c) (ascend_noted _ x (trail_ascends b))
 
-  scalar_ascends : {n : ℤ} {i j : ℕ} {x : Meaning} → BlockScalar t n i j x → Ascend i x.comments j
+  scalar_ascends : {n : ℤ} {i j : ℕ} {x : Meaning} → BlockScalar t n i j x → Ascend t i x.comments j
   scalar_ascends (block_scalar h b l) = ascend_join (header_ascends h) (body_ascends b)
 
   -- of all productions
-  pub derived_ascends : {h i j : ℕ} {p : Production} {x : Meaning} → Derives t h p i j x → Ascend i x.comments j
+  pub derived_ascends : {h i j : ℕ} {p : Production} {x : Meaning} → Derives t h p i j x → Ascend t i x.comments j
   unfolding behind noting ◌⊕◌ collection with_props entering scalar alias_to empty_node
   derived_ascends (flow_node d) = derived_ascends d
   derived_ascends (an_alias b a) = let l = (alias_parts a).1.some in no_more (omega arith)

@@ -9,7 +9,7 @@ use Rattle.yf_stream.specs.WellFormed.{breaches}
 use Rattle.yf_stream.specs.declared.breaches.Breach.{Breach}
 use Rattle.yf_stream.proofs.OneReading.{one_reading}
 use Rattle.yf_stream.proofs.OneStream.{one_stream}
-use Rattle.yf_stream.proofs.ReadingOrder.{comments_in_order, comments_within}
+use Rattle.yf_stream.proofs.ReadingOrder.{comments_at, comments_in_order}
 
 pub streams_are_one : StreamsAreOne
 streams_are_one t h g x y u d v f w = one_stream u d v f w
@@ -45,4 +45,4 @@ pub comments_of_readings_ascend : CommentsOfReadingsAscend
 comments_of_readings_ascend t r a = comments_in_order a
 
 pub comments_of_readings_are_within : CommentsOfReadingsAreWithin
-comments_of_readings_are_within t r a = comments_within a
+comments_of_readings_are_within t r a k d l = (comments_at a k d l).before

@@ -1,4 +1,3 @@
-pub mod CommentSigns
 pub mod Forward
 pub mod LawsHold
 pub mod NoPercent
@@ -7,7 +6,6 @@ pub mod OneReading
 pub mod OneStream
 pub mod PlaceLawsHold
 pub mod ReadingOrder
-pub mod ReadingSigns
 pub mod ShownEmpty
 pub mod ShownItem
 pub mod ShownLaws
