@@ -1,6 +1,6 @@
 -- The lines of a block scalar are lines of the text, one for one.
-use Rattle.std.proofs.Common.{◌≡◌, ◌≢◌, ℕ, zero, suc, ◌+◌, ◌-◌, ◌<◌, ◌≤◌, Bool, true, false, List, [], ◌∷◌, ◌++◌, length, length-append, not, ◌&&◌, eqb, refl, sym, ap, ◌∙◌, ⊎_elim, arith}
-use Rattle.std.proofs.lemmas.Bool.{cases_eq, cases_lt, and_parts, not-true}
+use Rattle.std.proofs.Common.{◌≡◌, ◌≢◌, ℕ, zero, suc, ◌+◌, ◌-◌, ◌<◌, ◌≤◌, Bool, true, false, List, [], ◌∷◌, ◌++◌, length, length-append, refl, sym, ap, ◌∙◌, ⊎_elim, arith}
+use Rattle.std.proofs.lemmas.Bool.{cases_eq, cases_lt}
 use Rattle.std.proofs.lemmas.Bool.Decides.{nat_tests}
 use Rattle.std.specs.Str.{IsUtf8}
 use Rattle.yf_chars.specs.Text.{code, no_char, Reads}
@@ -8,6 +8,7 @@ use Rattle.yf_chars.specs.Class.{is_nb_char, is_printable, is_between, is_break_
 use Rattle.yf_chars.specs.Chain.{Chain, Many}
 use Rattle.yf_chars.specs.Chain.Chain.{done, step}
 use Rattle.yf_chars.specs.Chain.One.{one}
+use Rattle.yf_chars.proofs.BreakChars.{nb_no_break, space_no_break}
 use Rattle.yf_chars.proofs.ChainLemmas.{chain_append, chain_one}
 use Rattle.yf_chars.proofs.TextLemmas.{reads_real, code-end}
 use Rattle.yf_lines.specs.Basic.{Spaces, Break}
@@ -42,16 +43,6 @@ unbroken_here i = record { order = omega arith; none = λ h l m. absurd (omega a
 no_break_end : is_break_char no_char ≡ false
 unfolding is_break_char
 no_break_end = refl
-
-space_no_break : (c : ℕ) → c ≡ 32 → is_break_char c ≡ false
-unfolding is_break_char
-space_no_break c e = ap is_break_char e
-
-nb_no_break : (c : ℕ) → is_nb_char c ≡ true → is_break_char c ≡ false
-unfolding is_nb_char
-nb_no_break c e =
-    let inner = (and_parts (is_printable c) (not (is_break_char c) && not (eqb c 0xFEFF)) e).1 in
-    not-true (is_break_char c) (and_parts (not (is_break_char c)) (not (eqb c 0xFEFF)) inner).0
 
 unbroken_char : {t : List ℕ} {i c j : ℕ} → IsUtf8 t → Reads t i c j → is_break_char c ≡ false → Unbroken t i j
 unbroken_char {t} {i} {c} {j} u r e = record {

@@ -1,3 +1,4 @@
+pub mod BreakChars
 pub mod ChainLemmas
 pub mod EscapeLemmas
 pub mod SpelledLemmas

@@ -1,13 +1,14 @@
 -- The characters of a key, counted one by one: how many there are from a place on is one less after the next of them.
 use Rattle.std.proofs.Common.{◌≡◌, ◌≢◌, ℕ, ◌+◌, ◌-◌, ◌<◌, ◌≤◌, ⊎_elim, true, false, List, ◌∷◌, ◌++◌, length, take, drop, refl, sym, ap, ◌∙◌, subst, arith, true≢false}
 use Rattle.std.proofs.Math.Seq.{take-append-add}
-use Rattle.std.proofs.lemmas.Bool.{cases_eq, cases_lt, ne_eqb}
+use Rattle.std.proofs.lemmas.Bool.{cases_eq, cases_lt}
 use Rattle.std.proofs.lemmas.Str as S
 use Rattle.std.proofs.lemmas.Str.{length-encode}
 use Rattle.std.specs.Str.{IsUtf8, IsCharBoundary, chars}
 use lib.Utf8.{encode}
-use Rattle.yf_chars.specs.Text.{code, next, Reads}
+use Rattle.yf_chars.specs.Text.{code, next, no_char, Reads}
 use Rattle.yf_chars.specs.Class.{is_break_char}
+use Rattle.yf_chars.proofs.BreakChars.{no_break}
 use Rattle.yf_chars.proofs.TextLemmas.{begins_from_boundary, drop_there, reads_char}
 use Rattle.yf_lines.proofs.ClearLemmas.{no_boundary_inside, code_inside}
 use Rattle.yf_grammar.specs.Grammar.{characters_between, KEY_LIMIT}
@@ -58,10 +59,6 @@ pub return_breaks : is_break_char 13 ≡ true
 unfolding is_break_char
 return_breaks = refl
 
-no_break : {c : ℕ} → c ≢ 10 → c ≢ 13 → is_break_char c ≡ false
-unfolding is_break_char
-no_break {c} n m = rw (ne_eqb c 10 n, ne_eqb c 13 m) refl
-
 module _ {t : List ℕ} {start end : ℕ} where
   pub key_begun : IsCharBoundary t start → KeySoFar t start end start KEY_LIMIT
   key_begun b = record {
@@ -80,8 +77,8 @@ module _ {t : List ℕ} {start end : ℕ} where
       each = λ h f g. ⊎_elim
           (λ (e : h < at). k.line.each h f e)
           (λ (e : at ≤ h). ⊎_elim
-          (λ (s : at ≡ h). subst (λ i. is_break_char (code t i) ≡ false) s (ap is_break_char r.char ∙ no_break n m))
-          (λ (s : at ≢ h). ap is_break_char (code_inside u r (omega arith) g) ∙ no_break (omega arith) (omega arith))
+          (λ (s : at ≡ h). subst (λ i. is_break_char (code t i) ≡ false) s (ap is_break_char r.char ∙ no_break c n m))
+          (λ (s : at ≢ h). ap is_break_char (code_inside u r (omega arith) g) ∙ no_break no_char (omega arith) (omega arith))
           (cases_eq at h))
           (cases_lt h at);
     };

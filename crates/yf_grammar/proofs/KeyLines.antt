@@ -1,6 +1,6 @@
 -- What stands in a key is on one line.
 use Rattle.std.proofs.Common.{◌≡◌, ◌≢◌, ℕ, ℤ, ◌+◌, ◌-◌, ◌<◌, ◌≤◌, Bool, true, false, ⊎_elim, List, None, refl, sym, ap, ◌∙◌, subst, arith, true≢false, not}
-use Rattle.std.proofs.lemmas.Bool.{cases_eq, cases_lt, ne_eqb, and_parts}
+use Rattle.std.proofs.lemmas.Bool.{cases_eq, cases_lt, and_parts}
 use Rattle.std.proofs.lemmas.Bool.Decides.{nat_tests}
 use Rattle.std.specs.Str.{IsUtf8}
 use Rattle.std.specs.Char.{digit_value}
@@ -13,6 +13,7 @@ use Rattle.yf_chars.specs.Chain.Chain.{done, step}
 use Rattle.yf_chars.specs.Chain.One.{one}
 use Rattle.yf_chars.specs.Escape.{Escape, Numbered, named}
 use Rattle.yf_chars.specs.Escape.Escape.{by_letter, by_two, by_four, by_half, by_pair, by_eight}
+use Rattle.yf_chars.proofs.BreakChars.{no_break}
 use Rattle.yf_chars.proofs.TextLemmas.{reads_real}
 use Rattle.yf_chars.proofs.EscapeLemmas.{no_name}
 use Rattle.yf_lines.specs.Basic.{is_key, is_flow, SeparateInLine}
@@ -45,15 +46,11 @@ use Rattle.yf_grammar.specs.Grammar.MaySeparateInLine.{unseparated_in_line, sepa
 use Rattle.yf_grammar.specs.Grammar.Derives.{flow_node, an_alias, a_plain, a_plain_with, properties_alone, a_json, a_json_with, a_single, a_double, an_empty_collection, a_collection, last_entry, last_entry_with_comma, more_entries, a_node_entry, a_pair_entry, an_explicit_entry, an_implicit_entry, an_explicit_pair, a_keyed_pair, an_unkeyed_pair, explicit_with, explicit_without, key_alone, key_and_value, value_alone, empty_value, a_value, a_key, a_block_scalar, a_block_scalar_with, a_block_collection, a_block_collection_with, flow_in_block, a_last_entry, an_entry_before, a_dash_entry, an_explicit_entry_with, an_explicit_key_alone, a_keyed_entry, an_unkeyed_entry, a_block_value, an_empty_block_value, a_compact_collection, an_indented_node, nothing_indented}
 use Rattle.yf_grammar.specs.Parser.{OnOneLine}
 
-break_none : (c : ℕ) → c ≢ 10 → c ≢ 13 → is_break_char c ≡ false
-unfolding is_break_char
-break_none c n m = rw (ne_eqb c 10 n, ne_eqb c 13 m) refl
-
 ns_line : (c : ℕ) → is_ns_char c ≡ true → is_break_char c ≡ false
-ns_line c e = break_none c (λ q. true≢false (sym e ∙ ap is_ns_char q ∙ ns_lf)) (λ q. true≢false (sym e ∙ ap is_ns_char q ∙ ns_cr))
+ns_line c e = no_break c (λ q. true≢false (sym e ∙ ap is_ns_char q ∙ ns_lf)) (λ q. true≢false (sym e ∙ ap is_ns_char q ∙ ns_cr))
 
 json_line : (c : ℕ) → is_nb_json c ≡ true → is_break_char c ≡ false
-json_line c e = break_none c (λ q. true≢false (sym e ∙ ap is_nb_json q ∙ json_lf)) (λ q. true≢false (sym e ∙ ap is_nb_json q ∙ json_cr))
+json_line c e = no_break c (λ q. true≢false (sym e ∙ ap is_nb_json q ∙ json_lf)) (λ q. true≢false (sym e ∙ ap is_nb_json q ∙ json_cr))
 
 json_below : (c : ℕ) → is_nb_json c ≡ true → c < no_char
 unfolding is_nb_json is_between
@@ -68,7 +65,7 @@ unfolding named
 unnamed_breaks = (refl, refl)
 
 digit_line : (c : ℕ) → digit_value c < 16 → is_break_char c ≡ false
-digit_line c l = break_none c (λ e. ten (subst (λ w. digit_value w < 16) e l)) (λ e. thirteen (subst (λ w. digit_value w < 16) e l)) where
+digit_line c l = no_break c (λ e. ten (subst (λ w. digit_value w < 16) e l)) (λ e. thirteen (subst (λ w. digit_value w < 16) e l)) where
   ten : digit_value 10 < 16 → ⊥
   ten l = omega arith
 
@@ -98,13 +95,13 @@ one_at : (t : List ℕ) (i : ℕ) → is_break_char (code t i) ≡ false → OnO
 one_at t i e = record { each = λ h l m. let same : i ≡ h = omega arith in ap (λ w. is_break_char (code t w)) (sym same) ∙ e }
 
 pub sign_at : (t : List ℕ) (i d : ℕ) → code t i ≡ d → d ≢ 10 → d ≢ 13 → OnOneLine t i (i + 1)
-sign_at t i d e n m = one_at t i (break_none (code t i) (λ q. n (sym e ∙ q)) (λ q. m (sym e ∙ q)))
+sign_at t i d e n m = one_at t i (no_break (code t i) (λ q. n (sym e ∙ q)) (λ q. m (sym e ∙ q)))
 
 pub char_at : (t : List ℕ) (i : ℕ) → IsUtf8 t → code t i < no_char → is_break_char (code t i) ≡ false → OnOneLine t i (next t i)
 char_at t i u l e = record {
   each = λ h a b. ⊎_elim
       (λ (q : i ≡ h). ap (λ w. is_break_char (code t w)) (sym q) ∙ e)
-      (λ (n : i ≢ h). let f = code_inside u (reads_real t i u l) (omega arith) b in break_none (code t h) (λ q. omega arith) (λ q. omega arith))
+      (λ (n : i ≢ h). let f = code_inside u (reads_real t i u l) (omega arith) b in no_break (code t h) (λ q. omega arith) (λ q. omega arith))
       (cases_eq i h);
 }
 
@@ -119,7 +116,7 @@ module _ {t : List ℕ} where
   whites_line {i} u done = line_none t i
   whites_line u (step (one {i = i} e) c) =
       let w = white_cases (code t i) e in
-      line_join (char_at t i u (omega (arith, w)) (break_none (code t i) (λ q. omega (arith, w)) (λ q. omega (arith, w)))) (whites_line u c)
+      line_join (char_at t i u (omega (arith, w)) (no_break (code t i) (λ q. omega (arith, w)) (λ q. omega (arith, w)))) (whites_line u c)
 
   in_line_line : {i j : ℕ} → IsUtf8 t → SeparateInLine t i j → OnOneLine t i j
   in_line_line u s = whites_line u (separate_whites s).1
@@ -148,7 +145,7 @@ module _ {t : List ℕ} where
   anchor_line u (ampersand_name {i = i} e r) = line_join (sign_at t i 38 e (λ q. omega arith) (λ q. omega arith)) (names_line u r.chain)
 
   tag_line : {i j : ℕ} {x : TagValue} → TagProperty t i j x → OnOneLine t i j
-  tag_line d = let a = tag_all_solid d in record { each = λ h l m. let s = a.each h l m in break_none (code t h) (λ q. omega (arith, s.low)) (λ q. omega (arith, s.low)) }
+  tag_line d = let a = tag_all_solid d in record { each = λ h l m. let s = a.each h l m in no_break (code t h) (λ q. omega (arith, s.low)) (λ q. omega (arith, s.low)) }
 
   properties_line : {n : ℤ} {c : Ctx} {i j : ℕ} {p : PropertiesValue} → IsUtf8 t → is_key c ≡ true → Properties t n c i j p → OnOneLine t i j
   properties_line u k (by_tag d) = tag_line d
@@ -185,7 +182,7 @@ module _ {t : List ℕ} where
   escape_line : {i j v : ℕ} → Escape t i j v → OnOneLine t i j
   escape_line (by_letter {i = i} b e) =
       let first = sign_at t i 92 b (λ q. omega arith) (λ q. omega arith) in
-      let second = one_at t (i + 1) (break_none (code t (i + 1)) (λ q. no_name 10 unnamed_breaks.0 q e) (λ q. no_name 13 unnamed_breaks.1 q e)) in
+      let second = one_at t (i + 1) (no_break (code t (i + 1)) (λ q. no_name 10 unnamed_breaks.0 q e) (λ q. no_name 13 unnamed_breaks.1 q e)) in
       line_to (omega arith) (line_join first second)
   escape_line (by_two n) = line_to (omega arith) (numbered_line n (λ e. omega arith) (λ e. omega arith))
   escape_line (by_four n h) = line_to (omega arith) (numbered_line n (λ e. omega arith) (λ e. omega arith))

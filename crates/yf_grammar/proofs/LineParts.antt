@@ -1,6 +1,6 @@
 -- The longest part of a line's end, with comment lines, at which all may end: all of it, or, where all may not end after it, all but
 -- its last line; a line's end of one line has no such part.
-use Rattle.std.proofs.Common.{◌≡◌, ◌≢◌, ℕ, ◌+◌, ◌<◌, ◌≤◌, true, false, ⊎_elim, List, [], ◌++◌, length, refl, sym, ap, ◌∙◌, subst, arith, true≢false, append-nil}
+use Rattle.std.proofs.Common.{◌≡◌, ◌≢◌, ℕ, ◌+◌, ◌<◌, ◌≤◌, true, ⊎_elim, List, [], ◌++◌, length, refl, sym, ap, ◌∙◌, subst, arith, true≢false, append-nil}
 use Rattle.std.proofs.lemmas.Bool.{cases_lt, cases_eq}
 use Rattle.std.proofs.lemmas.Bool.Decides.{nat_tests}
 use Rattle.std.specs.Str.{IsUtf8}
@@ -9,6 +9,7 @@ use Rattle.yf_chars.specs.Class.{is_nb_char, is_break_char, is_printable, is_bet
 use Rattle.yf_chars.specs.Chain.{Chain, Many, Chosen, Stuck}
 use Rattle.yf_chars.specs.Chain.Chain.{done, step}
 use Rattle.yf_chars.specs.Chain.One.{one}
+use Rattle.yf_chars.proofs.BreakChars.{nb_no_break}
 use Rattle.yf_chars.proofs.TextLemmas.{code-past}
 use Rattle.yf_chars.proofs.ChainLemmas.{chain_more, chain_forward, one_functional, chain_meet, Meets}
 use Rattle.yf_chars.proofs.ChainLemmas.Meets.{goes_on, falls_short}
@@ -32,10 +33,6 @@ use Rattle.yf_grammar.proofs.BlockClaims.{line_still, colon_line}
 use Rattle.yf_grammar.proofs.Forward.{in_line_forward}
 use Rattle.yf_grammar.proofs.KeyLines.{may_in_line, char_at, sign_at, line_join, line_none}
 use Rattle.yf_grammar.proofs.PlainCut.{LastLine, last_line_one, allowed_all}
-
-nb_no_break : (c : ℕ) → is_nb_char c ≡ true → is_break_char c ≡ false
-unfolding is_nb_char is_printable is_between is_break_char
-nb_no_break c e = grind (arith, nat_tests)
 
 nb_real : (c : ℕ) → is_nb_char c ≡ true → c < no_char
 unfolding is_nb_char is_printable is_between is_break_char

@@ -6,6 +6,7 @@ use Rattle.std.specs.Str.{IsUtf8, IsCharBoundary}
 use Rattle.yf_chars.specs.Text.{code, no_char}
 use Rattle.yf_chars.specs.Class.{is_break_char}
 use Rattle.yf_chars.specs.Chain.{Functional, Stuck, Nowhere}
+use Rattle.yf_chars.proofs.BreakChars.{space_no_break}
 use Rattle.yf_chars.proofs.TextLemmas.{within_from_code, code-past, byte_from_code, reads_byte}
 use Rattle.yf_chars.proofs.ChainLemmas.{chain_chosen}
 use Rattle.yf_lines.specs.declared.line.Line.{Line}
@@ -142,10 +143,6 @@ pub break_char_cases : (c : ℕ) → is_break_char c ≡ true → (c ≡ 13) ⊎
 break_char_cases c b =
     ⊎_elim (λ (e : c ≡ 10). inr e) (λ (n : c ≢ 10). inl (eqb-true c 13 (sym (breaks_only_cr c n) ∙ b))) (cases_eq c 10)
 
-space_is_no_break : (c : ℕ) → c ≡ 32 → is_break_char c ≡ false
-unfolding is_break_char
-space_is_no_break c e = ap is_break_char e
-
 pub unbroken_nothing : (t : List ℕ) (i : ℕ) → Unbroken t i i
 unbroken_nothing t i = record { order = omega arith; none = λ h l s. absurd (omega arith) }
 
@@ -161,7 +158,7 @@ pub unbroken_spaces : (t : List ℕ) (i h j : ℕ) → i ≤ h → Spaces t i (h
 unbroken_spaces t i h j o s n = record {
   order = omega (arith, n.order);
   none = λ m l k.
-      ⊎_elim (λ (b : m < h). let e : i + (m - i) ≡ m = omega arith in space_is_no_break (code t m) (ap (code t) (sym e) ∙ s.each (m - i) (omega arith)))
+      ⊎_elim (λ (b : m < h). let e : i + (m - i) ≡ m = omega arith in space_no_break (code t m) (ap (code t) (sym e) ∙ s.each (m - i) (omega arith)))
       (λ (b : h ≤ m). n.none m b k) (cases_lt m h);
 }
 
