@@ -1,6 +1,7 @@
 -- The pass goes past two lists one after the other, and gives no look to events within a node that is printed; at the beginning of a
 -- document it adds the rows of the document's beginning.
 use Rattle.std.proofs.Common.{◌≡◌, ℕ, suc, ◌+◌, ◌≤◌, Bool, true, false, ◌&&◌, List, [], ◌∷◌, ◌++◌, length, map, refl, sym, ap, ◌∙◌, arith, append-nil}
+use Rattle.std.proofs.Math.Bool.{and-false}
 use Rattle.std.specs.Prelude.{codes, if◌then◌else◌, nat_lt}
 use Rattle.std.proofs.lemmas.Bool.Decides.{nat_tests}
 use Rattle.yf_events.specs.Event.{Placed}
@@ -41,11 +42,8 @@ start_added g t items d =
     ∙ (ap (λ w. edited (d.line ++ w) (d.trails ++ []) (d.body ++ []) (d.may_follow && false) after) (append-nil (codes "---"))
     ∙ (ap (λ w. edited line w (d.body ++ []) (d.may_follow && false) after) (append-nil d.trails)
     ∙ (ap (λ w. edited line d.trails w (d.may_follow && false) after) (append-nil d.body)
-    ∙ (ap (λ w. edited line d.trails d.body w after) (never d.may_follow)
-    ∙ sym (ap marked (past_edited g.reading.comments items d.line d.trails d.body d.may_follow d)))))) where
-      never : (b : Bool) → (b && false) ≡ false
-      never true = refl
-      never false = refl
+    ∙ (ap (λ w. edited line d.trails d.body w after) (and-false d.may_follow)
+    ∙ sym (ap marked (past_edited g.reading.comments items d.line d.trails d.body d.may_follow d))))))
 
 -- directives, and the `---` after them
 lines_fed : (g : Work) (t : Span → List ℕ) (xs : List Directive) (d : Draft)
