@@ -3,7 +3,7 @@ use Rattle.std.proofs.Common.{◌≡◌, ◌≢◌, ℕ, ◌+◌, ◌<◌, ◌�
 use Rattle.std.specs.Option.{option_to_list}
 use Rattle.std.specs.Prelude.{slice_get, IfSome}
 use Rattle.std.specs.Str.{IsCharBoundary}
-use Rattle.std.proofs.lemmas.Bool.{cases_Bool, ne_eqb}
+use Rattle.std.proofs.lemmas.Bool.{cases_Bool}
 use Rattle.std.proofs.lemmas.List.{append-nil, drop_all, length-map}
 use Rattle.std.proofs.lemmas.Option.{slice_get_within, slice_get_cases, slice_get_read, slice_get-get_or, get_or_from_slice_get}
 use Rattle.std.proofs.Math.Seq.{drop-cons}
@@ -21,9 +21,10 @@ use Rattle.yf_chars.specs.Chain.Chain.{done, step}
 use Rattle.yf_chars.specs.Chain.One.{one}
 use Rattle.yf_chars.specs.Class.{is_break_char, is_white}
 use Rattle.yf_chars.specs.Text.{begins, code, no_char}
+use Rattle.yf_chars.proofs.BreakChars.{no_break}
 use Rattle.yf_chars.proofs.ChainLemmas.{many_unique}
 use Rattle.yf_chars.proofs.TextLemmas.{boundary_from_begins, code-nowhere, code-past}
-use Rattle.yf_lines.proofs.LineLemmas.{break_char_cases, breaks_only_cr}
+use Rattle.yf_lines.proofs.LineLemmas.{break_char_cases}
 use Rattle.yf_rules.specs.Whites.{IsAlone}
 use Rattle.yf_rules.proofs.WhitesLemmas.{no_white_past}
 
@@ -83,12 +84,9 @@ pub alone_at : (t : List ℕ) (marker end : ℕ) → ((x : List ℕ) × Many t i
     → IsAlone t marker
 alone_at t marker end w s = record { whites = w.0; end = end; run = w.1; stops = s }
 
-no_break_code : (c : ℕ) → c ≢ 10 → c ≢ 13 → is_break_char c ≡ false
-no_break_code c m n = breaks_only_cr c m ∙ ne_eqb c 13 n
-
 pub crowded_at : (t : List ℕ) (marker end : ℕ) → ((x : List ℕ) × Many t is_white (marker + 3) end x) → is_white (code t end) ≡ false
     → code t end ≢ 10 → code t end ≢ 13 → end ≢ length t → IsAlone t marker → ⊥
-crowded_at t marker end w e m n l a = crowded t marker end w.0 w.1 e (no_break_code (code t end) m n) l a
+crowded_at t marker end w e m n l a = crowded t marker end w.0 w.1 e (no_break (code t end) m n) l a
 
 -- of the documents, and of the events that begin them
 pub marker_more : (es : List EventValue) (i : ℕ) (e : EventValue) (ms ns : List Bool) → slice_get es i ≡ Some e → ms ++ markers_in (drop i es) ≡ markers_in es
