@@ -49,6 +49,7 @@ mod ShownDecos
 mod ShownKeys
 mod ShownLayouts
 mod ShownNodes
+mod ShownScalars
 pub mod SignLemmas
 pub mod SiteLemmas
 pub mod SkipLemmas
