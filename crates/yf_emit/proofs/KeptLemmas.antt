@@ -19,7 +19,8 @@ use Rattle.yf_emit.proofs.OneLineRuns.{flat_filled}
 use Rattle.yf_emit.specs.Normal.{Setting, styled, styled_items, styled_pairs}
 use Rattle.yf_emit.specs.OneLine.{bare}
 use Rattle.yf_events.specs.Tree.{Standing, Node, scalar, alias, sequence, mapping, Items, no_items, item, Pairs, no_pairs, pair, flat, is_collection, is_filled_flow}
-use Rattle.yf_emit.specs.Wanted.{quoted_in, style_in, wanted}
+use Rattle.yf_emit.specs.Wanted.{lines_in, quoted_in, style_in, wanted}
+use Rattle.yf_emit.proofs.WantedLemmas.{lines_stay}
 
 -- A kept collection's text as an answer
 
@@ -160,7 +161,10 @@ same_pair x y v w ps qs e h k = cc
 
 mutual
   styled_again : (t : List ℕ) (c : Setting) (x : Node) → may_be_kept t c.comments x ≡ true → styled t c (styled t c x) ≡ styled t c x
-  styled_again t c (scalar at props style text lines) k = ap (λ w. scalar at props w text lines) (wanted_again style text c.style.quotes k)
+  styled_again t c (scalar at props style text lines) k =
+      let w = wanted style text c.style.quotes in
+      ap (λ v. scalar at props v text (lines_in v (lines_in w lines))) (wanted_again style text c.style.quotes k)
+      ∙ ap (λ ls. scalar at props w text ls) (lines_stay w lines)
   styled_again t c (alias at name) k = refl
   styled_again t c (sequence at flow props no_items) k = refl
   styled_again t c (sequence at flow props (item x xs)) k =

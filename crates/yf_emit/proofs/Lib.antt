@@ -1,6 +1,7 @@
 pub mod AlikeForms
 pub mod AlikeLemmas
 pub mod AmongLemmas
+pub mod BlockFits
 pub mod BlockLemmas
 pub mod BlockTexts
 pub mod ClearRows
@@ -34,7 +35,9 @@ pub mod NormalLemmas
 pub mod OffsetLemmas
 pub mod OneLineRuns
 pub mod PassLemmas
+pub mod PlainFits
 pub mod PlaceLemmas
+pub mod PropsFits
 pub mod RestyledLemmas
 pub mod RowEnds
 pub mod PrintLemmas
@@ -49,6 +52,7 @@ mod ShownDecos
 mod ShownKeys
 mod ShownLayouts
 mod ShownNodes
+mod ShownScalars
 pub mod SignLemmas
 pub mod SiteLemmas
 pub mod SkipLemmas

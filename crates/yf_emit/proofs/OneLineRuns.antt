@@ -19,7 +19,7 @@ use Rattle.yf_emit.specs.OneLine.{bare, written, more_items, more_pairs, spaced,
 use Rattle.yf_emit.specs.OneLineRun.{separator, value_of, behind, added, next_open, run, between}
 use Rattle.yf_emit.specs.Rows.{is_empty_text}
 use Rattle.yf_events.specs.Tree.{Standing, Node, scalar, alias, sequence, mapping, Items, no_items, item, Pairs, no_pairs, pair, is_collection, unplaced, flat, flat_items, flat_pairs, props_of}
-use Rattle.yf_emit.specs.Wanted.{wanted, style_in}
+use Rattle.yf_emit.specs.Wanted.{lines_in, wanted, style_in}
 
 -- A node in a kept collection has a text
 
@@ -85,7 +85,8 @@ is_alias (mapping at flow props ps) = false
 
 colon_is : (t : List ℕ) (c : Setting) (x : Node) → may_be_kept t c.comments x ≡ true
     → separator (value_of (is_alias x)) ≡ colon_behind (styled t c x) ++ codes " "
-colon_is t c (scalar at props style text lines) k = ap (λ w. w ++ codes " ") (sym (scalar_colon at props style text lines c.style.quotes k))
+colon_is t c (scalar at props style text lines) k =
+    ap (λ w. w ++ codes " ") (sym (scalar_colon at props style text (lines_in (wanted style text c.style.quotes) lines) c.style.quotes k))
 colon_is t c (alias at name) k = refl
 colon_is t c (sequence at flow props xs) k = refl
 colon_is t c (mapping at flow props ps) k = refl

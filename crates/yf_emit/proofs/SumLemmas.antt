@@ -16,7 +16,7 @@ use Rattle.yf_emit.specs.Measuring.{or_else, sum_of, with_node, zero_if, have_te
 use Rattle.yf_emit.specs.Normal.{Setting, styled, styled_items, styled_pairs}
 use Rattle.yf_emit.specs.OneLine.{width, written, more_items, more_pairs, colon_behind}
 use Rattle.yf_events.specs.Tree.{Standing, Node, scalar, alias, sequence, mapping, Items, no_items, item, Pairs, no_pairs, pair, flat, flat_items, flat_pairs}
-use Rattle.yf_emit.specs.Wanted.{wanted, style_in}
+use Rattle.yf_emit.specs.Wanted.{lines_in, wanted, quoted_in, style_in}
 use Rattle.yf_emit.proofs.WidthLemmas.{cut_both, width_join, utf8_head}
 use Rattle.yf_emit.proofs.TreeTexts.{written_utf8, colon_utf8, texts_join, pair_texts}
 
@@ -219,9 +219,11 @@ colon_filled at props Folded b text lines = refl
 -- a key that may be kept is no empty node, so a space stands before its `:` only where it is an alias
 pub kept_colon : (t : List ℕ) (c : Setting) (k : Node) → may_be_kept t c.comments k ≡ true → colon_behind (styled t c k) ≡ space (is_alias k) ++ (58 ∷ [])
 kept_colon t c (scalar at props Plain [] lines) e = absurd cc
-kept_colon t c (scalar at props Plain (b ∷ text) lines) e = colon_filled at props (wanted Plain (b ∷ text) c.style.quotes) b text lines
-kept_colon t c (scalar at props Single text lines) e = colon_quoted at props (quotes_for (chars text) c.style.quotes) text lines
-kept_colon t c (scalar at props Double text lines) e = colon_quoted at props (quotes_for (chars text) c.style.quotes) text lines
+kept_colon t c (scalar at props Plain (b ∷ text) lines) e = colon_filled at props (wanted Plain (b ∷ text) c.style.quotes) b text (lines_in (wanted Plain (b ∷ text) c.style.quotes) lines)
+kept_colon t c (scalar at props Single text lines) e =
+    colon_quoted at props (quotes_for (chars text) c.style.quotes) text (lines_in (quoted_in text c.style.quotes) lines)
+kept_colon t c (scalar at props Double text lines) e =
+    colon_quoted at props (quotes_for (chars text) c.style.quotes) text (lines_in (quoted_in text c.style.quotes) lines)
 kept_colon t c (scalar at props Literal text lines) e = absurd cc
 kept_colon t c (scalar at props Folded text lines) e = absurd cc
 kept_colon t c (alias at name) e = refl

@@ -21,7 +21,7 @@ use Rattle.yf_emit.specs.Normal as Normal
 use Rattle.yf_emit.specs.Normal.{Setting, Spot, styled, styled_items, styled_pairs, fits, settled, settled_items, settled_pairs, value_of_implicit, value_column, value_entries, key_comment, last_start, entry_or}
 use Rattle.yf_emit.specs.OneLine.{width, colon_behind, colon_behind_props, props_text}
 use Rattle.yf_events.specs.Tree.{Standing, Node, scalar, alias, sequence, mapping, Items, no_items, item, Pairs, no_pairs, pair, flat, standing, leaves, leaves_of_items, leaves_of_pairs, is_text, is_filled_flow, is_sequence}
-use Rattle.yf_emit.specs.Wanted.{wanted, quoted_in, style_in}
+use Rattle.yf_emit.specs.Wanted.{lines_in, wanted, quoted_in, style_in}
 use Rattle.yf_emit.proofs.AmongLemmas.{Among, first_at}
 use Rattle.yf_emit.proofs.IndexLemmas.{same_first}
 use Rattle.yf_emit.proofs.LeafLemmas.{node_starts, first_start, first_leaf, last_leaf, is_own_leaf}
@@ -124,7 +124,7 @@ scalar_colon t m at props Folded (b ∷ text) lines h = one_colon _ (colon_behin
 
 colon_of : (t : List ℕ) (m : Setting) (x : Node) → is_placed x ≡ true → colon_width (event_of x) (is_text x) ≡ width (colon_behind (styled t m x))
 unfolding chars
-colon_of t m (scalar at props style text lines) h = scalar_colon t m at props style text lines (agreed _ _ h)
+colon_of t m (scalar at props style text lines) h = scalar_colon t m at props style text (lines_in (wanted style text m.style.quotes) lines) (agreed _ _ h)
 colon_of t m (alias at name) h = refl
 colon_of t m (sequence at flow props no_items) h = refl
 colon_of t m (sequence at flow props (item x xs)) h = refl

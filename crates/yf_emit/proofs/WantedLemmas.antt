@@ -1,4 +1,4 @@
--- A scalar in the style of the house keeps it.
+-- A scalar in the style of the house keeps it, and its lines.
 use Rattle.std.proofs.Common.{◌≡◌, ℕ, Bool, true, false, List, chars, refl, ap}
 use Rattle.std.specs.Prelude.{if◌then◌else◌}
 use Rattle.yf_lines.specs.Steady.{is_steady}
@@ -6,7 +6,7 @@ use Rattle.yf_lines.specs.declared.quotes.Quotes.{Quotes}
 use Rattle.yf_quoted.specs.Written.{quotes_for}
 use Rattle.yf_events.specs.declared.event.ScalarStyle.{ScalarStyle}
 use Rattle.yf_events.specs.declared.event.ScalarStyle.TheVariants.{Plain, Single, Double, Literal, Folded}
-use Rattle.yf_emit.specs.Wanted.{has_block_content, quoted_in, style_in, wanted}
+use Rattle.yf_emit.specs.Wanted.{has_block_content, lines_in, quoted_in, style_in, wanted}
 
 quoted_stays : (t : List ℕ) (q : Quotes) → wanted (quoted_in t q) t q ≡ quoted_in t q
 quoted_stays t q = by (quotes_for (chars t) q) where
@@ -26,3 +26,10 @@ wanted_stays Single t q = quoted_stays t q
 wanted_stays Double t q = quoted_stays t q
 wanted_stays Literal t q = choice_stays Literal t q (has_block_content t) (λ e. ap (λ b. if b then Literal else quoted_in t q) e)
 wanted_stays Folded t q = choice_stays Folded t q (has_block_content t) (λ e. ap (λ b. if b then Folded else quoted_in t q) e)
+
+pub lines_stay : (style : ScalarStyle) (lines : List (List ℕ)) → lines_in style (lines_in style lines) ≡ lines_in style lines
+lines_stay Plain lines = refl
+lines_stay Single lines = refl
+lines_stay Double lines = refl
+lines_stay Literal lines = refl
+lines_stay Folded lines = refl

@@ -10,7 +10,7 @@ use Rattle.yf_emit.specs.declared.style.Style.{Style}
 use Rattle.yf_emit.specs.Kept.{may_be_kept}
 use Rattle.yf_emit.specs.OneLine.{width, written, colon_behind}
 use Rattle.yf_events.specs.Tree.{Node, scalar, alias, sequence, mapping, Items, no_items, item, Pairs, no_pairs, pair, DocumentTree, TreesOf, flat_stream, standing, leaves, is_text, is_filled_flow, is_sequence}
-use Rattle.yf_emit.specs.Wanted.{wanted}
+use Rattle.yf_emit.specs.Wanted.{lines_in, wanted}
 
 -- what the layout depends on beside a reading's trees: the settings, and the comments
 pub record Setting : Type 0 where
@@ -19,10 +19,11 @@ pub record Setting : Type 0 where
 
 -- Styles, and which flow collections may be kept on one line wherever they stand.
 
--- each scalar in the style of the house; a collection stays a flow collection where it is empty, or may be kept
+-- each scalar in the style of the house, with its lines where it is folded; a collection stays a flow collection where it is empty, or may be kept
 abbrev mutual
   pub styled : List ℕ → Setting → Node → Node
-  styled t c (scalar at props style text lines) = scalar at props (wanted style text c.style.quotes) text lines
+  styled t c (scalar at props style text lines) =
+      scalar at props (wanted style text c.style.quotes) text (lines_in (wanted style text c.style.quotes) lines)
   styled t c (alias at name) = alias at name
   styled t c (sequence at flow props items) =
       sequence at (may_be_kept t c.comments (sequence at flow props items)) props (styled_items t c items)

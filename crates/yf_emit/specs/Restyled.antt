@@ -1,9 +1,10 @@
--- A reading of which nothing differs from another but the styles of scalars and the brackets of collections.
-use Rattle.std.specs.Prelude.{◌≡◌, Bool, List, [], ◌∷◌}
+-- A reading of which nothing differs from another but the styles of scalars, with the lines of those that are folded no more, and the
+-- brackets of collections.
+use Rattle.std.specs.Prelude.{◌≡◌, ℕ, Bool, List, [], ◌∷◌}
 use Rattle.yf_events.specs.Event.{EventValue, Placed, sequence_starts, mapping_starts, scalar_node}
 use Rattle.yf_events.specs.declared.lists.Lists.{Lists}
 use Rattle.yf_lines.specs.declared.quotes.Quotes.{Quotes}
-use Rattle.yf_emit.specs.Wanted.{wanted}
+use Rattle.yf_emit.specs.Wanted.{lines_in, wanted}
 
 -- an event with the style that the house gives a scalar, and with these brackets or none round a collection
 abbrev pub restyled_event : Quotes → Bool → EventValue → EventValue
@@ -12,8 +13,14 @@ restyled_event quotes flow (sequence_starts _ props) = sequence_starts flow prop
 restyled_event quotes flow (mapping_starts _ props) = mapping_starts flow props
 restyled_event quotes flow e = e
 
+-- the lines that are kept of an event
+abbrev pub lines_of : EventValue → List (List ℕ) → List (List ℕ)
+lines_of (scalar_node props style text) lines = lines_in style lines
+lines_of e lines = []
+
 abbrev pub restyled : Quotes → Bool → Placed → Placed
-restyled quotes flow e = record e { event = restyled_event quotes flow e.event }
+restyled quotes flow e =
+    record e { event = restyled_event quotes flow e.event; folded = lines_of (restyled_event quotes flow e.event) e.folded }
 
 -- the events of the one list, and in the same order each of them so in the other
 pub data Restyled (quotes : Quotes) : List Placed → List Placed → Type 0 where

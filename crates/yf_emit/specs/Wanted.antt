@@ -1,5 +1,5 @@
--- In which style the house style writes a scalar.
-use Rattle.std.specs.Prelude.{ℕ, Bool, List, chars, not, ◌==◌, ◌&&◌, if◌then◌else◌}
+-- In which style the house style writes a scalar, and which lines it keeps of it.
+use Rattle.std.specs.Prelude.{ℕ, Bool, List, [], chars, not, ◌==◌, ◌&&◌, if◌then◌else◌}
 use Rattle.std.specs.List.{list_any}
 use Rattle.yf_lines.specs.Steady.{is_steady}
 use Rattle.yf_lines.specs.declared.quotes.Quotes.{Quotes}
@@ -34,3 +34,8 @@ wanted Folded t quotes = if has_block_content t then Folded else quoted_in t quo
 abbrev pub wanted_of_event : EventValue → Quotes → ScalarStyle
 wanted_of_event (scalar_node props style text) quotes = wanted style text quotes
 wanted_of_event _ quotes = Plain
+
+-- the lines that are kept of a scalar in its style: those of a folded one alone, as it is read
+abbrev pub lines_in : ScalarStyle → List (List ℕ) → List (List ℕ)
+lines_in Folded lines = lines
+lines_in style lines = []

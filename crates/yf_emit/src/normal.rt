@@ -1,5 +1,5 @@
 //! The normal form of a reading: each scalar in the style, and each collection in the form, that the house style gives it.
-ghost use Rattle.std.specs.Prelude.{◌≡◌, IfErr, IfOk};
+ghost use Rattle.std.specs.Prelude.{◌≡◌, map, IfErr, IfOk};
 ghost use Rattle.yf_events.specs.Content.{content_of};
 ghost use Rattle.yf_events.specs.Event.{event_value, new_event_value, placed_value, view_value};
 ghost use Rattle.yf_events.specs.Nested.{IsStream};
@@ -7,7 +7,7 @@ ghost use Rattle.yf_events.specs.Reading.{Fits, events_of};
 ghost use Rattle.yf_events.specs.declared.reading.TheConstants.{DEPTH};
 ghost use Rattle.yf_emit.specs.Normal.{Normal};
 ghost use Rattle.yf_emit.specs.NormalEvents.{normal_from};
-ghost use Rattle.yf_emit.specs.Restyled.{IsRestyled, restyled, restyled_event};
+ghost use Rattle.yf_emit.specs.Restyled.{IsRestyled, lines_of, restyled, restyled_event};
 ghost use Rattle.yf_emit.specs.Textual.{IsTextual};
 
 use crate::copies::{
@@ -18,10 +18,11 @@ use crate::measure::{Measures, measure_all};
 use crate::style::Style;
 use crate::wanted::wanted_of;
 use std::alloc::{AllocError, Global};
-use yf_events::event::{Event, NewEvent, PlacedEvent, View};
+use yf_events::event::{Event, NewEvent, PlacedEvent, ScalarStyle, View};
 use yf_events::events::Events;
 use yf_events::lists::Lists;
 use yf_events::reading::Reading;
+use yf_events::slices::Slices;
 use yf_lines::fault::Fault;
 use yf_lines::source_text::Src;
 use yf_lines::text::Text;
@@ -52,6 +53,23 @@ fn normal_event<'a>(event: Event<'a>, flow: bool, style: &Style) -> NewEvent<'a>
     }
 }
 
+/// The lines that are kept of an event in its normal form: those of a folded scalar.
+fn normal_lines<'a>(
+    alloc: Global,
+    event: &NewEvent,
+    lines: &'a [&str],
+) -> Result<Slices<'a>, AllocError>
+    ensures { IfOk result (λ kept. kept ≡ lines_of (new_event_value event.now) (map (λ line. line.now) lines.now)) }
+{
+    match event {
+        NewEvent::Scalar {
+            style: ScalarStyle::Folded,
+            ..
+        } => copied_slices(alloc, lines),
+        _ => Ok(Slices::new(alloc)),
+    }
+}
+
 /// The event in its normal form, at its place.
 fn normal_placed<'a>(
     alloc: Global,
@@ -61,12 +79,14 @@ fn normal_placed<'a>(
 ) -> Result<PlacedEvent<'a>, AllocError>
     ensures { IfOk result (λ normal. placed_value normal ≡ restyled style.now.quotes flow (view_value view.entry)) }
 {
+    let event = normal_event(view.event, flow, style);
+    let folded = normal_lines(alloc, &event, view.folded)?;
     Ok(PlacedEvent {
-        event: normal_event(view.event, flow, style),
+        event,
         span: view.span,
         tag_offset: view.tag_offset,
         entry: view.entry,
-        folded: copied_slices(alloc, view.folded)?,
+        folded,
     })
 }
 
@@ -120,7 +140,8 @@ fn normal_lists<'a>(
 }
 
 /// The normal form of a reading of the text: each scalar has the style of `wanted_style`, and each collection stands between
-/// brackets where the house style writes it on one line. Nothing else differs, so what the reading says is the same.
+/// brackets where the house style writes it on one line. Nothing else differs but the lines of a scalar that is folded no more, so what
+/// the reading says is the same.
 ///
 /// # Errors
 ///
