@@ -29,6 +29,7 @@ pub mod BlockShown
 pub mod BlockSigns
 pub mod BlockSound
 pub mod BlockStarts
+pub mod BlockStepEntries
 pub mod BlockStatements
 pub mod ClearBlocks
 pub mod ClearLemmas

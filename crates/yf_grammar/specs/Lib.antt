@@ -3,6 +3,7 @@ pub mod Back
 pub mod BlockAwaits
 pub mod BlockParser
 pub mod BlockScalar
+pub mod BlockSteps
 pub mod Grammar
 pub mod Halts
 pub mod Laws
