@@ -30,6 +30,7 @@ pub mod BlockSigns
 pub mod BlockSound
 pub mod BlockStarts
 pub mod BlockStepEntries
+pub mod BlockStepNodes
 pub mod BlockStatements
 pub mod ClearBlocks
 pub mod ClearLemmas
