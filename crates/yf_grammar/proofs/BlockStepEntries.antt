@@ -66,7 +66,7 @@ pub key_halts : {t : List ℕ} {e m i k : ℕ} {ws : List ℕ} {q : Origin} {f :
 unfolding then_found pair_found found
 key_halts u c p l b = record { some = λ g h. halts_key u c p l b h; none = λ h. halts_key u c p l b h }
 
-lone_key_made : (i : ℕ) (o : Option Found) → then_found (lone_key i) o ≡ made_or (as_lone_key i) None o
+pub lone_key_made : (i : ℕ) (o : Option Found) → then_found (lone_key i) o ≡ made_or (as_lone_key i) None o
 unfolding then_found made_or lone_key found
 lone_key_made i None = refl
 lone_key_made i (Some f) = refl

@@ -28,6 +28,7 @@ pub mod BlockScalars
 pub mod BlockShown
 pub mod BlockSigns
 pub mod BlockSound
+pub mod BlockStackSteps
 pub mod BlockStarts
 pub mod BlockStepEntries
 pub mod BlockStepNodes

@@ -1,0 +1,70 @@
+-- The states of a reader of block nodes with a stack, as far as they are tied to the relations `Whole` and `Halts`: what has been
+-- read, and what is known of the outermost node. In each of them h is the outermost node's last halt, should the text go wrong next.
+use Rattle.std.specs.Prelude.{◌≡◌, ℕ, suc, max, List, [], Option, Some, None}
+use Rattle.yf_comments.specs.Comment.{CommentValue}
+use Rattle.yf_grammar.specs.Meaning.{◌⊕◌}
+use Rattle.yf_grammar.specs.Parser.{Found}
+use Rattle.yf_grammar.specs.BlockParser.{Origin, BlockTask, Item, Whole}
+use Rattle.yf_grammar.specs.Halts.{Halts}
+use Rattle.yf_grammar.specs.BlockSteps.{TaskAwaited, TaskHalted, made_or, as_behind}
+use Rattle.yf_grammar.specs.BlockStack.{Layer, Stage, collection_made, rounds, EntriesIn, Around}
+
+-- a node is awaited, after so many comments, where e more collections may be opened
+pub record NodeAt (t : List ℕ) (d : ℕ) (root : BlockTask) (ls : List Layer) (e : ℕ) (ws : List ℕ) (ds : List CommentValue) (task : BlockTask)
+    (h : Option Found) : Type 0 where
+  pub outer : BlockTask
+  pub round : Option Found
+  pub last : Option Found
+  pub around : Around t d root ls e ws outer round
+  pub awaited : TaskAwaited t e task (as_behind ds) e outer
+  pub halted : TaskHalted t e ws task (as_behind ds) last e ws outer
+  pub halt : h ≡ made_or (rounds ls) round last
+
+-- a node has been found whole, and ends there
+pub record NodeRead (t : List ℕ) (d : ℕ) (root : BlockTask) (ls : List Layer) (e : ℕ) (ws : List ℕ) (at : ℕ) (h : Option Found) : Type 0 where
+  pub task : BlockTask
+  pub round : Option Found
+  pub last : Option Found
+  pub node : Found
+  pub around : Around t d root ls e ws task round
+  pub whole : Whole t e task (Some node)
+  pub halted : Halts t e ws task last
+  pub end : node.end ≡ at
+  pub halt : h ≡ made_or (rounds ls) round last
+
+-- the present entry of the innermost collection has been found whole, and ends there
+pub record EntryRead (t : List ℕ) (d : ℕ) (root : BlockTask) (l : Layer) (ls : List Layer) (e : ℕ) (ws : List ℕ) (at : ℕ) (h : Option Found) : Type 0 where
+  pub outer : BlockTask
+  pub origin : Origin
+  pub start : ℕ
+  pub round : Option Found
+  pub before : Option Found
+  pub last : Option Found
+  pub entry : Found
+  pub around : Around t d root ls (suc e) ws outer round
+  pub entries : EntriesIn t e ws l origin start before outer
+  pub whole : Whole t e (Item l.sequence l.column origin start) (Some entry)
+  pub halted : Halts t e ws (Item l.sequence l.column origin start) last
+  pub end : entry.end ≡ at
+  pub halt : h ≡ made_or (rounds ls) round (made_or (collection_made l) before last)
+
+-- an entry of the innermost collection begins there
+pub record EntryAt (t : List ℕ) (d : ℕ) (root : BlockTask) (l : Layer) (ls : List Layer) (e : ℕ) (ws : List ℕ) (q : Origin) (i : ℕ) (h : Option Found) : Type 0 where
+  pub outer : BlockTask
+  pub round : Option Found
+  pub before : Option Found
+  pub around : Around t d root ls (suc e) ws outer round
+  pub entries : EntriesIn t e ws l q i before outer
+  pub halt : h ≡ made_or (rounds ls) round before
+
+-- nothing is found, and h is the outermost node's last halt
+pub record Broken (t : List ℕ) (d : ℕ) (root : BlockTask) (h : Option Found) : Type 0 where
+  pub whole : Whole t d root None
+  pub halted : Halts t d [] root h
+
+-- a collection with a further entry, and one whose present entry has come to a stage
+abbrev pub with_entry : Layer → Found → Layer
+with_entry l f = record l { high = max l.high f.height; known = l.known ⊕ f.meaning }
+
+abbrev pub at_stage : Layer → Stage → Layer
+at_stage l s = record l { stage = s }
