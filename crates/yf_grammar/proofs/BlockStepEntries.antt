@@ -4,9 +4,9 @@ use Rattle.yf_chars.specs.declared.context.Ctx.TheVariants.{BlockOut, BlockIn, F
 use Rattle.yf_grammar.specs.Grammar.{ColonLine}
 use Rattle.yf_grammar.specs.Parser.{Found, found, Parses, ANode}
 use Rattle.yf_grammar.specs.BlockParser.{DashAt, SignAt, Indicator, KeyBefore, Origin, key_limit, key_indent, BlockTask, Awaited, Item, item_found, lone_key, lone_value, pair_found, Whole}
-use Rattle.yf_grammar.specs.BlockParser.Whole.{item_read, item_missed, question_and_value, question_value_missed, colon_read, colon_missed, key_read, key_value_missed}
-use Rattle.yf_grammar.specs.Halts.{then_found, Halts}
-use Rattle.yf_grammar.specs.Halts.Halts.{halts_dash, halts_before_value, halts_value, halts_colon, halts_key}
+use Rattle.yf_grammar.specs.BlockParser.Whole.{item_read, item_missed, question_missed, question_alone, question_and_value, question_value_missed, colon_read, colon_missed, key_read, key_value_missed}
+use Rattle.yf_grammar.specs.Halts.{NoneAfter, then_found, Halts}
+use Rattle.yf_grammar.specs.Halts.Halts.{halts_dash, halts_question, halts_before_value, halts_value, halts_colon, halts_key}
 use Rattle.yf_grammar.specs.BlockSteps.{TaskAwaited, TaskHalted, made_or, as_item, as_lone_key, as_lone_value, as_value}
 
 -- the same task, and a task over another one
@@ -66,10 +66,25 @@ pub key_halts : {t : List ℕ} {e m i k : ℕ} {ws : List ℕ} {q : Origin} {f :
 unfolding then_found pair_found found
 key_halts u c p l b = record { some = λ g h. halts_key u c p l b h; none = λ h. halts_key u c p l b h }
 
-pub lone_key_made : (i : ℕ) (o : Option Found) → then_found (lone_key i) o ≡ made_or (as_lone_key i) None o
+lone_key_made : (i : ℕ) (o : Option Found) → then_found (lone_key i) o ≡ made_or (as_lone_key i) None o
 unfolding then_found made_or lone_key found
 lone_key_made i None = refl
 lone_key_made i (Some f) = refl
+
+-- after `?`: the key is missing; it is all of the entry, where no `:` follows it; and its last halt counts
+pub question_broken : {t : List ℕ} {e m i : ℕ} {q : Origin} → SignAt t 63 i → Whole t e (Awaited true (pos m) BlockOut (Indicator (i + 1)) (i + 1)) None
+    → Whole t e (Item false m q i) None
+question_broken s w = question_missed s w
+
+pub question_ends : {t : List ℕ} {e m i : ℕ} {q : Origin} {f : Found} → SignAt t 63 i → Whole t e (Awaited true (pos m) BlockOut (Indicator (i + 1)) (i + 1)) (Some f)
+    → (ColonLine t m f.end → ⊥) → Whole t e (Item false m q i) (Some (as_lone_key i f))
+unfolding lone_key found
+question_ends s w c = question_alone s w c
+
+pub question_halts : {t : List ℕ} {e m i : ℕ} {ws : List ℕ} {q : Origin} {r o : Option Found} → SignAt t 63 i
+    → Whole t e (Awaited true (pos m) BlockOut (Indicator (i + 1)) (i + 1)) r → NoneAfter (ColonLine t m) r
+    → Halts t e (m ∷ ws) (Awaited true (pos m) BlockOut (Indicator (i + 1)) (i + 1)) o → Halts t e ws (Item false m q i) (made_or (as_lone_key i) None o)
+question_halts {t} {e} {m} {i} {ws} {q} {o = o} s w c h = subst (λ z. Halts t e ws (Item false m q i) z) (lone_key_made i o) (halts_question s w c h)
 
 -- after the `:` of an entry with a `?` whose key was found; where the value has no end, the key alone counts, up to its last halt
 -- before that `:`

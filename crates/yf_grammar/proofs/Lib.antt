@@ -24,6 +24,7 @@ pub mod BlockNodes
 pub mod BlockParts
 pub mod BlockQuestions
 pub mod BlockReach
+pub mod BlockResume
 pub mod BlockScalars
 pub mod BlockShown
 pub mod BlockSigns

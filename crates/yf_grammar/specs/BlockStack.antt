@@ -59,17 +59,6 @@ pub record EntryIn (t : List ℕ) (e : ℕ) (ws : List ℕ) (l : Layer) (q : Ori
   pub awaited : TaskAwaited t e inner (entry_made l.stage) e (Item l.sequence l.column q i)
   pub halted : TaskHalted t e ws inner (entry_made l.stage) o e ws (Item l.sequence l.column q i)
 
--- the collections round a node that is awaited, in the outermost node with the limit d: e more may be opened, ws are the columns of
--- the open `?` entries, and r is the outermost node's last halt where the awaited one has none
-pub data Around (t : List ℕ) (d : ℕ) (root : BlockTask) : List Layer → ℕ → List ℕ → BlockTask → Option Found → Type 0 where
-  outermost : Around t d root [] d [] root None
-  in_entry : {e i : ℕ} {ws : List ℕ} {ls : List Layer} {l : Layer} {q : Origin} {outer inner : BlockTask} {r o z : Option Found}
-      → Around t d root ls (suc e) ws outer r → EntriesIn t e ws l q i o outer → EntryIn t e ws l q i z inner → asks l.stage ≡ false
-      → Around t d root (l ∷ ls) e ws inner (made_or (rounds ls) r (made_or (collection_made l) o z))
-  in_key : {e i : ℕ} {ws : List ℕ} {ls : List Layer} {l : Layer} {q : Origin} {outer : BlockTask} {r o : Option Found}
-      → Around t d root ls (suc e) ws outer r → EntriesIn t e ws l q i o outer → SignAt t 63 i → l.stage ≡ AtKey i → l.sequence ≡ false
-      → Around t d root (l ∷ ls) e (l.column ∷ ws) (Awaited true (pos l.column) BlockOut (Indicator (i + 1)) (i + 1)) (made_or (rounds ls) r o)
-
 -- the columns of the open `?` entries
 abbrev pub column_if : Bool → ℕ → List ℕ → List ℕ
 column_if true w ws = w ∷ ws
@@ -78,3 +67,14 @@ column_if false w ws = ws
 abbrev pub asked : List Layer → List ℕ
 asked [] = []
 asked (l ∷ ls) = column_if (asks l.stage) l.column (asked ls)
+
+-- the collections round a node that is awaited, in the outermost node with the limit d: e more may be opened, and r is the
+-- outermost node's last halt where the awaited one has none
+pub data Around (t : List ℕ) (d : ℕ) (root : BlockTask) : List Layer → ℕ → BlockTask → Option Found → Type 0 where
+  outermost : Around t d root [] d root None
+  in_entry : {e i : ℕ} {ls : List Layer} {l : Layer} {q : Origin} {outer inner : BlockTask} {r o z : Option Found}
+      → Around t d root ls (suc e) outer r → EntriesIn t e (asked ls) l q i o outer → EntryIn t e (asked ls) l q i z inner → asks l.stage ≡ false
+      → Around t d root (l ∷ ls) e inner (made_or (rounds ls) r (made_or (collection_made l) o z))
+  in_key : {e i : ℕ} {ls : List Layer} {l : Layer} {q : Origin} {outer : BlockTask} {r o : Option Found}
+      → Around t d root ls (suc e) outer r → EntriesIn t e (asked ls) l q i o outer → SignAt t 63 i → l.stage ≡ AtKey i → l.sequence ≡ false
+      → Around t d root (l ∷ ls) e (Awaited true (pos l.column) BlockOut (Indicator (i + 1)) (i + 1)) (made_or (rounds ls) r o)

@@ -7,33 +7,33 @@ use Rattle.yf_grammar.specs.Parser.{Found}
 use Rattle.yf_grammar.specs.BlockParser.{Origin, BlockTask, Item, Whole}
 use Rattle.yf_grammar.specs.Halts.{Halts}
 use Rattle.yf_grammar.specs.BlockSteps.{TaskAwaited, TaskHalted, made_or, as_behind}
-use Rattle.yf_grammar.specs.BlockStack.{Layer, Stage, collection_made, rounds, EntriesIn, Around}
+use Rattle.yf_grammar.specs.BlockStack.{Layer, Stage, collection_made, rounds, EntriesIn, asked, Around}
 
 -- a node is awaited, after so many comments, where e more collections may be opened
-pub record NodeAt (t : List ℕ) (d : ℕ) (root : BlockTask) (ls : List Layer) (e : ℕ) (ws : List ℕ) (ds : List CommentValue) (task : BlockTask)
+pub record NodeAt (t : List ℕ) (d : ℕ) (root : BlockTask) (ls : List Layer) (e : ℕ) (ds : List CommentValue) (task : BlockTask)
     (h : Option Found) : Type 0 where
   pub outer : BlockTask
   pub round : Option Found
   pub last : Option Found
-  pub around : Around t d root ls e ws outer round
+  pub around : Around t d root ls e outer round
   pub awaited : TaskAwaited t e task (as_behind ds) e outer
-  pub halted : TaskHalted t e ws task (as_behind ds) last e ws outer
+  pub halted : TaskHalted t e (asked ls) task (as_behind ds) last e (asked ls) outer
   pub halt : h ≡ made_or (rounds ls) round last
 
 -- a node has been found whole, and ends there
-pub record NodeRead (t : List ℕ) (d : ℕ) (root : BlockTask) (ls : List Layer) (e : ℕ) (ws : List ℕ) (at : ℕ) (h : Option Found) : Type 0 where
+pub record NodeRead (t : List ℕ) (d : ℕ) (root : BlockTask) (ls : List Layer) (e : ℕ) (at : ℕ) (h : Option Found) : Type 0 where
   pub task : BlockTask
   pub round : Option Found
   pub last : Option Found
   pub node : Found
-  pub around : Around t d root ls e ws task round
+  pub around : Around t d root ls e task round
   pub whole : Whole t e task (Some node)
-  pub halted : Halts t e ws task last
+  pub halted : Halts t e (asked ls) task last
   pub end : node.end ≡ at
   pub halt : h ≡ made_or (rounds ls) round last
 
 -- the present entry of the innermost collection has been found whole, and ends there
-pub record EntryRead (t : List ℕ) (d : ℕ) (root : BlockTask) (l : Layer) (ls : List Layer) (e : ℕ) (ws : List ℕ) (at : ℕ) (h : Option Found) : Type 0 where
+pub record EntryRead (t : List ℕ) (d : ℕ) (root : BlockTask) (l : Layer) (ls : List Layer) (e : ℕ) (at : ℕ) (h : Option Found) : Type 0 where
   pub outer : BlockTask
   pub origin : Origin
   pub start : ℕ
@@ -41,20 +41,20 @@ pub record EntryRead (t : List ℕ) (d : ℕ) (root : BlockTask) (l : Layer) (ls
   pub before : Option Found
   pub last : Option Found
   pub entry : Found
-  pub around : Around t d root ls (suc e) ws outer round
-  pub entries : EntriesIn t e ws l origin start before outer
+  pub around : Around t d root ls (suc e) outer round
+  pub entries : EntriesIn t e (asked ls) l origin start before outer
   pub whole : Whole t e (Item l.sequence l.column origin start) (Some entry)
-  pub halted : Halts t e ws (Item l.sequence l.column origin start) last
+  pub halted : Halts t e (asked ls) (Item l.sequence l.column origin start) last
   pub end : entry.end ≡ at
   pub halt : h ≡ made_or (rounds ls) round (made_or (collection_made l) before last)
 
 -- an entry of the innermost collection begins there
-pub record EntryAt (t : List ℕ) (d : ℕ) (root : BlockTask) (l : Layer) (ls : List Layer) (e : ℕ) (ws : List ℕ) (q : Origin) (i : ℕ) (h : Option Found) : Type 0 where
+pub record EntryAt (t : List ℕ) (d : ℕ) (root : BlockTask) (l : Layer) (ls : List Layer) (e : ℕ) (q : Origin) (i : ℕ) (h : Option Found) : Type 0 where
   pub outer : BlockTask
   pub round : Option Found
   pub before : Option Found
-  pub around : Around t d root ls (suc e) ws outer round
-  pub entries : EntriesIn t e ws l q i before outer
+  pub around : Around t d root ls (suc e) outer round
+  pub entries : EntriesIn t e (asked ls) l q i before outer
   pub halt : h ≡ made_or (rounds ls) round before
 
 -- nothing is found, and h is the outermost node's last halt

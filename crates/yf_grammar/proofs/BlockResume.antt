@@ -1,0 +1,94 @@
+-- A reader of block nodes with a stack after a node that was found whole: its entry ends, or the `:` after its key follows; then the
+-- next entry of the innermost collection begins, or that collection ends, and with it perhaps some round it, or a deeper line breaks all.
+use Rattle.std.proofs.Common.{◌≡◌, ℕ, suc, ◌+◌, max, pos, Bool, true, false, List, [], ◌∷◌, Option, Some, None, refl, sym, ap, ◌∙◌, subst, arith, true≢false}
+use Rattle.yf_chars.specs.declared.context.Ctx.TheVariants.{BlockOut}
+use Rattle.yf_grammar.specs.Grammar.{ColonLine}
+use Rattle.yf_grammar.specs.Parser.{Found}
+use Rattle.yf_grammar.specs.BlockParser.{SignAt, Origin, Later, Indicator, BlockTask, Awaited, Items, Item, NextEntry, NoEntry, DeeperLine, Whole}
+use Rattle.yf_grammar.specs.BlockParser.Whole.{question_alone, items_last, items_deeper}
+use Rattle.yf_grammar.specs.Halts.{not_after, Halts}
+use Rattle.yf_grammar.specs.Halts.Halts.{halts_question, halts_item}
+use Rattle.yf_grammar.specs.BlockSteps.{made_or, as_lone_key}
+use Rattle.yf_grammar.specs.BlockStack.{Layer, Stage, AtKey, AtValue, asks, entry_made, collection_made, rounds, EntriesIn, EntryIn, asked, Around, outermost, in_entry, in_key}
+use Rattle.yf_grammar.specs.BlockStates.{NodeRead, EntryRead, Broken, at_stage}
+use Rattle.yf_grammar.proofs.BlockStepEntries.{outcome_halted, question_ends, question_halts}
+use Rattle.yf_grammar.proofs.BlockStackSteps.{made_itself, in_entry_halt, in_key_halt, entry_asked, key_asked, node_broken, node_halted}
+
+-- what is made of a node does not end elsewhere
+pub entry_end : (s : Stage) (f : Found) → (entry_made s f).end ≡ f.end
+entry_end (Stage.AtItem i) f = refl
+entry_end (AtKey i) f = refl
+entry_end (Stage.AtLoneValue i) f = refl
+entry_end (AtValue i k g) f = refl
+
+entry_after : {t : List ℕ} {d : ℕ} {root : BlockTask} {l : Layer} {ls : List Layer} {e at : ℕ} {inner : BlockTask} {r x h : Option Found} {f : Found} → Around t d root (l ∷ ls) e inner r
+    → Whole t e inner (Some f) → Halts t e (asked (l ∷ ls)) inner x → f.end ≡ at → h ≡ made_or (rounds (l ∷ ls)) r x → (asks l.stage ≡ true → ColonLine t l.column at → ⊥)
+    → EntryRead t d root l ls e at h
+entry_after {l = l} {ls = ls} {x = x} {f = f} (in_entry {r = r} {o = o} {z = z} a n y s) w u j p c = record {
+  outer = _;
+  origin = _;
+  start = _;
+  round = r;
+  before = o;
+  last = made_or (entry_made l.stage) z x;
+  entry = entry_made l.stage f;
+  around = a;
+  entries = n;
+  whole = y.awaited.some f w;
+  halted = outcome_halted y.halted (entry_asked ls l s u);
+  end = entry_end l.stage f ∙ j;
+  halt = p ∙ sym (in_entry_halt ls l r o z x);
+}
+entry_after {t} {l = l} {ls = ls} {e = e} {x = x} {f = f} (in_key {i = i} {q = q} {r = r} {o = o} a n b k s) w u j p c =
+    let no_colon : (ColonLine t l.column f.end → ⊥) = λ v. c (ap (λ z. asks z) k) (subst (λ z. ColonLine t l.column z) j v) in
+    record {
+      outer = _;
+      origin = q;
+      start = i;
+      round = r;
+      before = o;
+      last = made_or (as_lone_key i) None x;
+      entry = as_lone_key i f;
+      around = a;
+      entries = n;
+      whole = subst (λ z. Whole t e (Item z l.column q i) (Some (as_lone_key i f))) (sym s) (question_ends b w no_colon);
+      halted = subst (λ z. Halts t e (asked ls) (Item z l.column q i) (made_or (as_lone_key i) None x)) (sym s)
+          (question_halts b w (not_after no_colon) (key_asked ls l k u));
+      end = j;
+      halt = p ∙ sym (in_key_halt ls l i r o x k);
+    }
+
+-- the entry ends with its node, where that is no key before a `:`
+pub entry_was_read : {t : List ℕ} {d : ℕ} {root : BlockTask} {l : Layer} {ls : List Layer} {e at : ℕ} {h : Option Found} → NodeRead t d root (l ∷ ls) e at h
+    → (asks l.stage ≡ true → ColonLine t l.column at → ⊥) → EntryRead t d root l ls e at h
+entry_was_read s c = entry_after s.around s.whole s.halted s.end s.halt c
+
+-- the collection ends with its entry
+pub collection_ends : {t : List ℕ} {d : ℕ} {root : BlockTask} {l : Layer} {ls : List Layer} {e at : ℕ} {h : Option Found} → EntryRead t d root l ls e at h
+    → NoEntry t l.sequence l.column at → NodeRead t d root ls (suc e) at h
+collection_ends {t} {l = l} s n =
+    let no_more : NoEntry t l.sequence l.column s.entry.end = subst (λ z. NoEntry t l.sequence l.column z) (sym s.end) n in
+    record {
+      task = s.outer;
+      round = s.round;
+      last = made_or (collection_made l) s.before s.last;
+      node = collection_made l s.entry;
+      around = s.around;
+      whole = s.entries.awaited.some s.entry (items_last s.whole no_more);
+      halted = outcome_halted s.entries.halted (halts_item s.whole (not_after (λ z. no_more.no_next z)) s.halted);
+      end = s.end;
+      halt = s.halt;
+    }
+
+-- a deeper line breaks all
+pub deeper_breaks : {t : List ℕ} {d : ℕ} {root : BlockTask} {l : Layer} {ls : List Layer} {e at : ℕ} {h : Option Found} → EntryRead t d root l ls e at h
+    → DeeperLine t l.column at → (NextEntry t l.sequence l.column at → ⊥) → Broken t d root h
+deeper_breaks {t} {d} {root} {l} {ls} s v n =
+    let deep : DeeperLine t l.column s.entry.end = subst (λ z. DeeperLine t l.column z) (sym s.end) v in
+    let none = λ (z : NextEntry t l.sequence l.column s.entry.end). n (subst (λ u. NextEntry t l.sequence l.column u) s.end z) in
+    let whole = s.entries.awaited.none (items_deeper s.whole deep) in
+    let halt = outcome_halted s.entries.halted (halts_item s.whole (not_after none) s.halted) in
+    record {
+      whole = node_broken s.around whole;
+      halted = subst (λ z. Halts t d [] root z) (sym s.halt) (node_halted s.around whole halt);
+    }
