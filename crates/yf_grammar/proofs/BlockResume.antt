@@ -3,14 +3,17 @@
 use Rattle.std.proofs.Common.{◌≡◌, ℕ, suc, ◌+◌, max, pos, Bool, true, false, List, [], ◌∷◌, Option, Some, None, refl, sym, ap, ◌∙◌, subst, arith, true≢false}
 use Rattle.yf_chars.specs.declared.context.Ctx.TheVariants.{BlockOut}
 use Rattle.yf_grammar.specs.Grammar.{ColonLine}
-use Rattle.yf_grammar.specs.Parser.{Found}
-use Rattle.yf_grammar.specs.BlockParser.{SignAt, Origin, Later, Indicator, BlockTask, Awaited, Items, Item, NextEntry, NoEntry, DeeperLine, Whole}
-use Rattle.yf_grammar.specs.BlockParser.Whole.{question_alone, items_last, items_deeper}
+use Rattle.yf_grammar.specs.Parser.{Found, found}
+use Rattle.yf_grammar.specs.BlockParser.{SignAt, Origin, Later, Indicator, BlockTask, Awaited, Items, Item, NextEntry, next_item, next_pair, NoEntry, DeeperLine, items_found, Whole}
+use Rattle.yf_grammar.specs.BlockParser.Whole.{items_last, items_deeper, items_then, items_then_missed}
 use Rattle.yf_grammar.specs.Halts.{not_after, Halts}
-use Rattle.yf_grammar.specs.Halts.Halts.{halts_question, halts_item}
-use Rattle.yf_grammar.specs.BlockSteps.{made_or, as_lone_key}
+use Rattle.yf_grammar.specs.Halts.Halts.{halts_item, halts_before_item, halts_items}
+use Rattle.yf_grammar.specs.BlockAwaits.{after_entries}
+use Rattle.yf_grammar.specs.BlockSteps.{made_or, as_lone_key, as_collection, as_behind}
 use Rattle.yf_grammar.specs.BlockStack.{Layer, Stage, AtKey, AtValue, asks, entry_made, collection_made, rounds, EntriesIn, EntryIn, asked, Around, outermost, in_entry, in_key}
-use Rattle.yf_grammar.specs.BlockStates.{NodeRead, EntryRead, Broken, at_stage}
+use Rattle.yf_grammar.specs.BlockStates.{NodeRead, EntryRead, EntryAt, Broken, with_entry}
+use Rattle.yf_grammar.proofs.BlockAwaitItems.{regrouped}
+use Rattle.yf_grammar.proofs.BlockClaims.{line_unique}
 use Rattle.yf_grammar.proofs.BlockStepEntries.{outcome_halted, question_ends, question_halts}
 use Rattle.yf_grammar.proofs.BlockStackSteps.{made_itself, in_entry_halt, in_key_halt, entry_asked, key_asked, node_broken, node_halted}
 
@@ -81,14 +84,62 @@ collection_ends {t} {l = l} s n =
     }
 
 -- a deeper line breaks all
+deeper_no_next : {t : List ℕ} {s : Bool} {m k : ℕ} → DeeperLine t m k → NextEntry t s m k → ⊥
+deeper_no_next d (next_item w z) = let e = (line_unique w d.line).0 in let b = d.deep in omega (arith, e, b)
+deeper_no_next d (next_pair w) = let e = (line_unique w d.line).0 in let b = d.deep in omega (arith, e, b)
+
 pub deeper_breaks : {t : List ℕ} {d : ℕ} {root : BlockTask} {l : Layer} {ls : List Layer} {e at : ℕ} {h : Option Found} → EntryRead t d root l ls e at h
-    → DeeperLine t l.column at → (NextEntry t l.sequence l.column at → ⊥) → Broken t d root h
-deeper_breaks {t} {d} {root} {l} {ls} s v n =
+    → DeeperLine t l.column at → Broken t d root h
+deeper_breaks {t} {d} {root} {l} {ls} s v =
     let deep : DeeperLine t l.column s.entry.end = subst (λ z. DeeperLine t l.column z) (sym s.end) v in
-    let none = λ (z : NextEntry t l.sequence l.column s.entry.end). n (subst (λ u. NextEntry t l.sequence l.column u) s.end z) in
     let whole = s.entries.awaited.none (items_deeper s.whole deep) in
-    let halt = outcome_halted s.entries.halted (halts_item s.whole (not_after none) s.halted) in
+    let halt = outcome_halted s.entries.halted (halts_item s.whole (not_after (deeper_no_next deep)) s.halted) in
     record {
       whole = node_broken s.around whole;
       halted = subst (λ z. Halts t d [] root z) (sym s.halt) (node_halted s.around whole halt);
     }
+
+-- another entry follows
+after_twice : (l : Layer) (f g : Found) → collection_made l (after_entries f.height f.meaning g) ≡ collection_made (with_entry l f) g
+after_twice l f g = ap (λ z. as_behind l.comments (as_collection l.ahead l.sequence l.first z)) (regrouped l.high l.known f g)
+
+entries_follow : {t : List ℕ} {e i : ℕ} {ws : List ℕ} {l : Layer} {q : Origin} {o x : Option Found} {outer : BlockTask} {f : Found} → EntriesIn t e ws l q i o outer
+    → Whole t e (Item l.sequence l.column q i) (Some f) → Halts t e ws (Item l.sequence l.column q i) x → NextEntry t l.sequence l.column f.end
+    → EntriesIn t e ws (with_entry l f) Later (f.end + l.column) (made_or (collection_made l) o x) outer
+unfolding items_found found
+entries_follow {t} {e} {i} {ws} {l} {q} {o} {x} {outer} {f} n w u b = record {
+  awaited = record {
+    some = λ g r. subst (λ z. Whole t (suc e) outer (Some z)) (after_twice l f g) (n.awaited.some (after_entries f.height f.meaning g) (items_then w b r));
+    none = λ r. n.awaited.none (items_then_missed w b r);
+  };
+  halted = record {
+    some = λ g r. subst (λ z. Halts t (suc e) ws outer (Some z)) (after_twice l f g) (n.halted.some (after_entries f.height f.meaning g) (halts_items w b r));
+    none = λ r. outcome_halted n.halted (halts_before_item w b r u);
+  };
+}
+
+pub entry_follows : {t : List ℕ} {d : ℕ} {root : BlockTask} {l : Layer} {ls : List Layer} {e at : ℕ} {h : Option Found} (s : EntryRead t d root l ls e at h)
+    → NextEntry t l.sequence l.column at → EntryAt t d root (with_entry l s.entry) ls e Later (at + l.column) h
+entry_follows {t} {l = l} {ls = ls} {e = e} {at = at} s b = record {
+  outer = s.outer;
+  round = s.round;
+  before = made_or (collection_made l) s.before s.last;
+  around = s.around;
+  entries = subst (λ z. EntriesIn t e (asked ls) (with_entry l s.entry) Later (z + l.column) (made_or (collection_made l) s.before s.last) s.outer) s.end
+      (entries_follow s.entries s.whole s.halted (subst (λ z. NextEntry t l.sequence l.column z) (sym s.end) b));
+  halt = s.halt;
+}
+
+-- the outermost node has been read
+whole_root : {t : List ℕ} {d : ℕ} {root : BlockTask} {e : ℕ} {inner : BlockTask} {r o : Option Found} → Around t d root [] e inner r → Whole t e inner o → Whole t d root o
+whole_root outermost w = w
+
+halted_root : {t : List ℕ} {d : ℕ} {root : BlockTask} {e : ℕ} {inner : BlockTask} {r o : Option Found} → Around t d root [] e inner r → Halts t e [] inner o
+    → Halts t d [] root (made_or (λ z. z) r o)
+halted_root {t} {d} {root} {o = o} outermost w = subst (λ z. Halts t d [] root z) (sym (made_itself o)) w
+
+pub root_was_read : {t : List ℕ} {d : ℕ} {root : BlockTask} {e at : ℕ} {h : Option Found} (s : NodeRead t d root [] e at h) → Whole t d root (Some s.node)
+root_was_read s = whole_root s.around s.whole
+
+pub root_halts : {t : List ℕ} {d : ℕ} {root : BlockTask} {e at : ℕ} {h : Option Found} → NodeRead t d root [] e at h → Halts t d [] root h
+root_halts {t} {d} {root} s = subst (λ z. Halts t d [] root z) (sym s.halt) (halted_root s.around s.halted)
