@@ -10,6 +10,7 @@ pub mod BlockCover
 pub mod BlockEmpty
 pub mod BlockEnds
 pub mod BlockEntries
+pub mod BlockEntryBegins
 pub mod BlockExtended
 pub mod BlockFirst
 pub mod BlockGaps
@@ -20,6 +21,7 @@ pub mod BlockKeyLines
 pub mod BlockKeys
 pub mod BlockLeading
 pub mod BlockLeaves
+pub mod BlockNodeSteps
 pub mod BlockNodes
 pub mod BlockParts
 pub mod BlockQuestions

@@ -1,13 +1,13 @@
 -- The states of a reader of block nodes with a stack, as far as they are tied to the relations `Whole` and `Halts`: what has been
 -- read, and what is known of the outermost node. In each of them h is the outermost node's last halt, should the text go wrong next.
-use Rattle.std.specs.Prelude.{◌≡◌, ℕ, suc, max, List, [], Option, Some, None}
+use Rattle.std.specs.Prelude.{◌≡◌, ℕ, suc, max, Bool, List, [], Option, Some, None}
 use Rattle.yf_comments.specs.Comment.{CommentValue}
 use Rattle.yf_grammar.specs.Meaning.{◌⊕◌}
-use Rattle.yf_grammar.specs.Parser.{Found}
-use Rattle.yf_grammar.specs.BlockParser.{Origin, BlockTask, Item, Whole}
+use Rattle.yf_grammar.specs.Parser.{Found, only}
+use Rattle.yf_grammar.specs.BlockParser.{Ahead, Nothing, Indicator, Props, Origin, BlockTask, Item, Whole}
 use Rattle.yf_grammar.specs.Halts.{Halts}
 use Rattle.yf_grammar.specs.BlockSteps.{TaskAwaited, TaskHalted, made_or, as_behind}
-use Rattle.yf_grammar.specs.BlockStack.{Layer, Stage, collection_made, rounds, EntriesIn, asked, Around}
+use Rattle.yf_grammar.specs.BlockStack.{Layer, Stage, AtItem, AtKey, AtLoneValue, AtValue, collection_made, rounds, EntriesIn, asked, Around}
 
 -- a node is awaited, after so many comments, where e more collections may be opened
 pub record NodeAt (t : List ℕ) (d : ℕ) (root : BlockTask) (ls : List Layer) (e : ℕ) (ds : List CommentValue) (task : BlockTask)
@@ -68,3 +68,20 @@ with_entry l f = record l { high = max l.high f.height; known = l.known ⊕ f.me
 
 abbrev pub at_stage : Layer → Stage → Layer
 at_stage l s = record l { stage = s }
+
+-- a collection no entry of which has been read
+abbrev pub new_layer : Bool → ℕ → Ahead → List CommentValue → ℕ → Layer
+new_layer sequence m a ds p = record { sequence = sequence; column = m; ahead = a; comments = ds; first = p; high = 0; known = only [] 0; stage = AtItem p }
+
+-- where the present entry begins
+abbrev pub place_of : Stage → ℕ
+place_of (AtItem i) = i
+place_of (AtKey i) = i
+place_of (AtLoneValue i) = i
+place_of (AtValue i k f) = i
+
+-- the comments that go before a node, and not to the properties ahead of it
+abbrev pub told_before : Ahead → List CommentValue → List CommentValue
+told_before Nothing ds = ds
+told_before (Indicator i) ds = ds
+told_before (Props h) ds = []
