@@ -1,6 +1,6 @@
 -- A reader of block nodes with a stack at the beginning of an entry: a node is awaited after its `-`, its `?`, its `:` or its key, or
 -- after the `:` of an entry whose key was read; or the entry is missing.
-use Rattle.std.proofs.Common.{◌≡◌, ℕ, suc, ◌+◌, ◌≤◌, pos, Bool, true, false, List, [], ◌∷◌, Option, Some, None, refl, sym, ap, ◌∙◌, subst, true≢false}
+use Rattle.std.proofs.Common.{◌≡◌, ℕ, ◌+◌, ◌≤◌, pos, true, false, List, [], ◌∷◌, Option, Some, None, refl, sym, ap, ◌∙◌, subst, true≢false}
 use Rattle.yf_chars.specs.declared.context.Ctx.TheVariants.{BlockOut, BlockIn, FlowOut}
 use Rattle.yf_grammar.specs.Grammar.{ColonLine}
 use Rattle.yf_grammar.specs.Meaning.{behind}
@@ -10,7 +10,7 @@ use Rattle.yf_grammar.specs.BlockParser.Whole.{items_missed}
 use Rattle.yf_grammar.specs.Halts.{not_found, Halts}
 use Rattle.yf_grammar.specs.Halts.Halts.{halts_item}
 use Rattle.yf_grammar.specs.BlockSteps.{TaskAwaited, TaskHalted, made_or, as_item, as_lone_key, as_lone_value, as_value}
-use Rattle.yf_grammar.specs.BlockStack.{Layer, Stage, AtItem, AtKey, AtLoneValue, AtValue, asks, entry_made, collection_made, rounds, EntriesIn, EntryIn, asked, Around, outermost, in_entry, in_key}
+use Rattle.yf_grammar.specs.BlockStack.{Layer, Stage, AtItem, AtKey, AtLoneValue, AtValue, asks, rounds, EntriesIn, EntryIn, asked, Around, in_entry, in_key}
 use Rattle.yf_grammar.specs.BlockStates.{NodeAt, NodeRead, EntryAt, Broken, at_stage, place_of}
 use Rattle.yf_grammar.proofs.BlockStepEntries.{awaits_itself, halts_itself, dash_awaits, dash_halts, colon_awaits, colon_halts, key_awaits, key_halts, value_awaits, value_halts}
 use Rattle.yf_grammar.proofs.BlockStackSteps.{in_key_halt, key_asked, node_broken, node_halted}

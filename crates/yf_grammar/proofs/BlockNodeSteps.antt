@@ -1,6 +1,6 @@
 -- A reader of block nodes with a stack while a node is awaited: on its line or a later one, behind properties, as the first entry of
 -- a collection; and where it is read, or missing.
-use Rattle.std.proofs.Common.{◌≡◌, ℕ, suc, ◌+◌, ◌<◌, max, ℤ, pos, Bool, true, false, List, [], ◌∷◌, ◌++◌, Option, Some, None, refl, sym, ap, ◌∙◌, subst, arith, append_assoc, append-nil}
+use Rattle.std.proofs.Common.{◌≡◌, ℕ, suc, max, ℤ, Bool, true, false, List, [], ◌++◌, Option, Some, None, refl, sym, ap, ◌∙◌, subst, arith, append_assoc, append-nil}
 use Rattle.yf_chars.specs.declared.context.Ctx.{Ctx}
 use Rattle.yf_chars.specs.Chain.{Chosen}
 use Rattle.yf_comments.specs.Comment.{CommentValue}
@@ -11,7 +11,7 @@ use Rattle.yf_grammar.specs.BlockParser.{DashAt, LineText, Columns, LineColumns,
 use Rattle.yf_grammar.specs.Halts.{Alone, Halts}
 use Rattle.yf_grammar.specs.BlockAwaits.{after_entries}
 use Rattle.yf_grammar.specs.BlockSteps.{TaskAwaited, TaskHalted, made_or, as_collection, as_behind, as_told}
-use Rattle.yf_grammar.specs.BlockStack.{Layer, collection_made, rounds, EntriesIn, asked}
+use Rattle.yf_grammar.specs.BlockStack.{Layer, rounds, asked}
 use Rattle.yf_grammar.specs.BlockStates.{NodeAt, NodeRead, EntryAt, Broken, new_layer, told_before}
 use Rattle.yf_grammar.proofs.BlockStepEntries.{outcome_halted, awaits_through, halts_through}
 use Rattle.yf_grammar.proofs.BlockStepNodes.{line_awaits, line_halts, sequence_awaits, sequence_halts, mapping_awaits, mapping_halts}

@@ -1,16 +1,15 @@
 -- A reader of block nodes with a stack after a node that was found whole: its entry ends, or the `:` after its key follows; then the
 -- next entry of the innermost collection begins, or that collection ends, and with it perhaps some round it, or a deeper line breaks all.
-use Rattle.std.proofs.Common.{◌≡◌, ℕ, suc, ◌+◌, max, pos, Bool, true, false, List, [], ◌∷◌, Option, Some, None, refl, sym, ap, ◌∙◌, subst, arith, true≢false}
-use Rattle.yf_chars.specs.declared.context.Ctx.TheVariants.{BlockOut}
+use Rattle.std.proofs.Common.{◌≡◌, ℕ, suc, ◌+◌, Bool, true, List, [], ◌∷◌, Option, Some, None, refl, sym, ap, ◌∙◌, subst, arith}
 use Rattle.yf_grammar.specs.Grammar.{ColonLine}
 use Rattle.yf_grammar.specs.Parser.{Found, found}
-use Rattle.yf_grammar.specs.BlockParser.{SignAt, Origin, Later, Indicator, BlockTask, Awaited, Items, Item, NextEntry, next_item, next_pair, NoEntry, DeeperLine, items_found, Whole}
+use Rattle.yf_grammar.specs.BlockParser.{Origin, Later, BlockTask, Item, NextEntry, next_item, next_pair, NoEntry, DeeperLine, items_found, Whole}
 use Rattle.yf_grammar.specs.BlockParser.Whole.{items_last, items_deeper, items_then, items_then_missed}
 use Rattle.yf_grammar.specs.Halts.{not_after, Halts}
 use Rattle.yf_grammar.specs.Halts.Halts.{halts_item, halts_before_item, halts_items}
 use Rattle.yf_grammar.specs.BlockAwaits.{after_entries}
 use Rattle.yf_grammar.specs.BlockSteps.{made_or, as_lone_key, as_collection, as_behind}
-use Rattle.yf_grammar.specs.BlockStack.{Layer, Stage, AtKey, AtValue, asks, entry_made, collection_made, rounds, EntriesIn, EntryIn, asked, Around, outermost, in_entry, in_key}
+use Rattle.yf_grammar.specs.BlockStack.{Layer, Stage, AtKey, AtValue, asks, entry_made, collection_made, rounds, EntriesIn, asked, Around, outermost, in_entry, in_key}
 use Rattle.yf_grammar.specs.BlockStates.{NodeRead, EntryRead, EntryAt, Broken, with_entry}
 use Rattle.yf_grammar.proofs.BlockAwaitItems.{regrouped}
 use Rattle.yf_grammar.proofs.BlockClaims.{line_unique}

@@ -1,15 +1,12 @@
 -- A reader of block nodes with a stack keeps the outcomes of `Whole` and `Halts`: what a broken node makes of the outermost one.
-use Rattle.std.proofs.Common.{◌≡◌, ℕ, suc, ◌+◌, max, Bool, true, false, List, [], ◌∷◌, length, Option, Some, None, refl, sym, ap, ◌∙◌, subst, arith, true≢false}
-use Rattle.yf_grammar.specs.Grammar.{ColonLine}
-use Rattle.yf_grammar.specs.Meaning.{◌⊕◌}
-use Rattle.yf_grammar.specs.Parser.{Found, found}
-use Rattle.yf_grammar.specs.BlockParser.{SignAt, Origin, Later, BlockTask, Items, Item, lone_key, NextEntry, NoEntry, DeeperLine, Whole}
-use Rattle.yf_grammar.specs.BlockParser.Whole.{question_missed, question_alone, items_missed}
-use Rattle.yf_grammar.specs.Halts.{not_found, not_after, Halts}
-use Rattle.yf_grammar.specs.Halts.Halts.{halts_question, halts_item}
+use Rattle.std.proofs.Common.{◌≡◌, ℕ, ◌+◌, false, List, [], ◌∷◌, length, Option, Some, None, refl, sym, ap, subst, arith}
+use Rattle.yf_grammar.specs.Parser.{Found}
+use Rattle.yf_grammar.specs.BlockParser.{BlockTask, Item, Whole}
+use Rattle.yf_grammar.specs.BlockParser.Whole.{question_missed, items_missed}
+use Rattle.yf_grammar.specs.Halts.{not_found, Halts}
+use Rattle.yf_grammar.specs.Halts.Halts.{halts_item}
 use Rattle.yf_grammar.specs.BlockSteps.{made_or, as_lone_key}
-use Rattle.yf_grammar.specs.BlockStack.{Layer, Stage, AtItem, AtKey, AtLoneValue, AtValue, asks, entry_made, collection_made, rounds, EntriesIn, EntryIn, Around, outermost, in_entry, in_key, column_if, asked}
-use Rattle.yf_grammar.specs.BlockStates.{NodeRead, Broken}
+use Rattle.yf_grammar.specs.BlockStack.{Layer, AtKey, asks, entry_made, collection_made, rounds, Around, outermost, in_entry, in_key, column_if, asked}
 use Rattle.yf_grammar.proofs.BlockStepEntries.{outcome_halted, question_halts}
 
 -- a halt of what is made of it, or one before

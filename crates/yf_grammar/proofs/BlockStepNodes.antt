@@ -1,6 +1,6 @@
 -- A block node from where it is awaited to what stands on its line: a later line, properties on hold, a leaf, or the entries of a
 -- collection, and from those to further ones.
-use Rattle.std.proofs.Common.{◌≡◌, ℕ, suc, ◌+◌, ◌<◌, ℤ, pos, Bool, true, false, List, Option, Some, None, refl, subst}
+use Rattle.std.proofs.Common.{◌≡◌, ℕ, suc, ◌<◌, ℤ, pos, Bool, true, false, List, Option, Some, None, refl, subst}
 use Rattle.yf_chars.specs.declared.context.Ctx.{Ctx}
 use Rattle.yf_chars.specs.declared.context.Ctx.TheVariants.{FlowKey}
 use Rattle.yf_chars.specs.Text.{code}
@@ -10,7 +10,7 @@ use Rattle.yf_comments.specs.Comment.{CommentValue}
 use Rattle.yf_comments.specs.Comments.{LineEnd}
 use Rattle.yf_props.specs.Names.{Properties, PropertiesValue}
 use Rattle.yf_grammar.specs.Meaning.{Meaning}
-use Rattle.yf_grammar.specs.BlockParser.{DashAt, LineText, Columns, Compact, LineColumns, Begins, Ahead, Nothing, Indicator, Props, past, told, Joins, Origin, Later, First, MappingAt, NoSign, NoKeyAt, BlockTask, Awaited, Below, Inline, Leaf, Items, collected, Whole}
+use Rattle.yf_grammar.specs.BlockParser.{DashAt, LineText, Columns, Compact, LineColumns, Begins, Ahead, Nothing, Indicator, Props, past, told, Joins, Origin, Later, First, MappingAt, NoSign, NoKeyAt, Awaited, Below, Inline, Leaf, Items, collected, Whole}
 use Rattle.yf_grammar.specs.BlockParser.Whole.{awaited_below, awaited_inline, below_node, sequence_read, sequence_missed, mapping_read, mapping_missed, properties_below, properties_leaf, leaf_there}
 use Rattle.yf_grammar.specs.Halts.{Alone, then_found, Halts}
 use Rattle.yf_grammar.specs.Halts.Halts.{halts_below, halts_inline, halts_node, halts_before_node, halts_sequence, halts_mapping, halts_properties_below, halts_properties_leaf, halts_leaf}
