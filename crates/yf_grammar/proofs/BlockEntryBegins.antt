@@ -83,11 +83,11 @@ value_after {t} {d} {root} {l} {ls} {e} {x = x} {h = h} {f = f} (in_key {i = i} 
     let found = node_is_at (in_entry a entries entry refl) (p ∙ sym (in_key_halt ls l i r o x k)) in
     subst (λ z. NodeAt t d root (stage z ∷ ls) e [] task h) place found
 
-pub value_follows : {t : List ℕ} {d : ℕ} {root : BlockTask} {l : Layer} {ls : List Layer} {e at : ℕ} {h : Option Found} (s : NodeRead t d root (l ∷ ls) e at h) → asks l.stage ≡ true
-    → ColonLine t l.column at → NodeAt t d root (at_stage l (AtValue (place_of l.stage) (at + l.column) s.node) ∷ ls) e []
+pub value_follows : {t : List ℕ} {d : ℕ} {root : BlockTask} {l : Layer} {ls : List Layer} {e at : ℕ} {h : Option Found} {f : Found} → NodeRead t d root (l ∷ ls) e f at h → asks l.stage ≡ true
+    → ColonLine t l.column at → NodeAt t d root (at_stage l (AtValue (place_of l.stage) (at + l.column) f) ∷ ls) e []
     (Awaited true (pos l.column) BlockOut (Indicator (at + l.column + 1)) (at + l.column + 1)) h
-value_follows {t} {d} {root} {l = l} {ls = ls} {e = e} {at = at} {h = h} s c v =
-    subst (λ z. NodeAt t d root (at_stage l (AtValue (place_of l.stage) (z + l.column) s.node) ∷ ls) e []
+value_follows {t} {d} {root} {l = l} {ls = ls} {e = e} {at = at} {h = h} {f = f} s c v =
+    subst (λ z. NodeAt t d root (at_stage l (AtValue (place_of l.stage) (z + l.column) f) ∷ ls) e []
     (Awaited true (pos l.column) BlockOut (Indicator (z + l.column + 1)) (z + l.column + 1)) h) s.end
     (value_after s.around s.whole s.halted s.halt c (subst (λ z. ColonLine t l.column z) (sym s.end) v))
 

@@ -110,12 +110,11 @@ mapping_begins s u q y = collection_begins false s (mapping_awaits u q y) (mappi
 
 -- it is read, or missing
 pub node_was_read : {t : List ℕ} {d : ℕ} {root : BlockTask} {ls : List Layer} {e : ℕ} {ds : List CommentValue} {task : BlockTask} {h o : Option Found} {f : Found}
-    → NodeAt t d root ls e ds task h → Whole t e task (Some f) → Halts t e (asked ls) task o → NodeRead t d root ls e f.end (made_or (λ g. rounds ls (as_behind ds g)) h o)
+    → NodeAt t d root ls e ds task h → Whole t e task (Some f) → Halts t e (asked ls) task o → NodeRead t d root ls e (as_behind ds f) f.end (made_or (λ g. rounds ls (as_behind ds g)) h o)
 node_was_read {ls = ls} {ds = ds} {h = h} {o = o} {f = f} s w u = record {
   task = s.outer;
   round = s.round;
   last = made_or (as_behind ds) s.last o;
-  node = as_behind ds f;
   around = s.around;
   whole = s.awaited.some f w;
   halted = outcome_halted s.halted u;

@@ -25,7 +25,7 @@ entry_end (AtValue i k g) f = refl
 
 entry_after : {t : List ℕ} {d : ℕ} {root : BlockTask} {l : Layer} {ls : List Layer} {e at : ℕ} {inner : BlockTask} {r x h : Option Found} {f : Found} → Around t d root (l ∷ ls) e inner r
     → Whole t e inner (Some f) → Halts t e (asked (l ∷ ls)) inner x → f.end ≡ at → h ≡ made_or (rounds (l ∷ ls)) r x → (asks l.stage ≡ true → ColonLine t l.column at → ⊥)
-    → EntryRead t d root l ls e at h
+    → EntryRead t d root l ls e (entry_made l.stage f) at h
 entry_after {l = l} {ls = ls} {x = x} {f = f} (in_entry {r = r} {o = o} {z = z} a n y s) w u j p c = record {
   outer = _;
   origin = _;
@@ -33,7 +33,6 @@ entry_after {l = l} {ls = ls} {x = x} {f = f} (in_entry {r = r} {o = o} {z = z} 
   round = r;
   before = o;
   last = made_or (entry_made l.stage) z x;
-  entry = entry_made l.stage f;
   around = a;
   entries = n;
   whole = y.awaited.some f w;
@@ -41,16 +40,15 @@ entry_after {l = l} {ls = ls} {x = x} {f = f} (in_entry {r = r} {o = o} {z = z} 
   end = entry_end l.stage f ∙ j;
   halt = p ∙ sym (in_entry_halt ls l r o z x);
 }
-entry_after {t} {l = l} {ls = ls} {e = e} {x = x} {f = f} (in_key {i = i} {q = q} {r = r} {o = o} a n b k s) w u j p c =
+entry_after {t} {d} {root} {l} {ls} {e} {at} {x = x} {h = h} {f = f} (in_key {i = i} {q = q} {r = r} {o = o} a n b k s) w u j p c =
     let no_colon : (ColonLine t l.column f.end → ⊥) = λ v. c (ap (λ z. asks z) k) (subst (λ z. ColonLine t l.column z) j v) in
-    record {
+    let read : EntryRead t d root l ls e (as_lone_key i f) at h = record {
       outer = _;
       origin = q;
       start = i;
       round = r;
       before = o;
       last = made_or (as_lone_key i) None x;
-      entry = as_lone_key i f;
       around = a;
       entries = n;
       whole = subst (λ z. Whole t e (Item z l.column q i) (Some (as_lone_key i f))) (sym s) (question_ends b w no_colon);
@@ -58,25 +56,25 @@ entry_after {t} {l = l} {ls = ls} {e = e} {x = x} {f = f} (in_key {i = i} {q = q
           (question_halts b w (not_after no_colon) (key_asked ls l k u));
       end = j;
       halt = p ∙ sym (in_key_halt ls l i r o x k);
-    }
+    } in
+    subst (λ z. EntryRead t d root l ls e (entry_made z f) at h) (sym k) read
 
 -- the entry ends with its node, where that is no key before a `:`
-pub entry_was_read : {t : List ℕ} {d : ℕ} {root : BlockTask} {l : Layer} {ls : List Layer} {e at : ℕ} {h : Option Found} → NodeRead t d root (l ∷ ls) e at h
-    → (asks l.stage ≡ true → ColonLine t l.column at → ⊥) → EntryRead t d root l ls e at h
+pub entry_was_read : {t : List ℕ} {d : ℕ} {root : BlockTask} {l : Layer} {ls : List Layer} {e at : ℕ} {h : Option Found} {f : Found} → NodeRead t d root (l ∷ ls) e f at h
+    → (asks l.stage ≡ true → ColonLine t l.column at → ⊥) → EntryRead t d root l ls e (entry_made l.stage f) at h
 entry_was_read s c = entry_after s.around s.whole s.halted s.end s.halt c
 
 -- the collection ends with its entry
-pub collection_ends : {t : List ℕ} {d : ℕ} {root : BlockTask} {l : Layer} {ls : List Layer} {e at : ℕ} {h : Option Found} → EntryRead t d root l ls e at h
-    → NoEntry t l.sequence l.column at → NodeRead t d root ls (suc e) at h
-collection_ends {t} {l = l} s n =
-    let no_more : NoEntry t l.sequence l.column s.entry.end = subst (λ z. NoEntry t l.sequence l.column z) (sym s.end) n in
+pub collection_ends : {t : List ℕ} {d : ℕ} {root : BlockTask} {l : Layer} {ls : List Layer} {e at : ℕ} {h : Option Found} {f : Found} → EntryRead t d root l ls e f at h
+    → NoEntry t l.sequence l.column at → NodeRead t d root ls (suc e) (collection_made l f) at h
+collection_ends {t} {l = l} {f = f} s n =
+    let no_more : NoEntry t l.sequence l.column f.end = subst (λ z. NoEntry t l.sequence l.column z) (sym s.end) n in
     record {
       task = s.outer;
       round = s.round;
       last = made_or (collection_made l) s.before s.last;
-      node = collection_made l s.entry;
       around = s.around;
-      whole = s.entries.awaited.some s.entry (items_last s.whole no_more);
+      whole = s.entries.awaited.some f (items_last s.whole no_more);
       halted = outcome_halted s.entries.halted (halts_item s.whole (not_after (λ z. no_more.no_next z)) s.halted);
       end = s.end;
       halt = s.halt;
@@ -87,10 +85,10 @@ deeper_no_next : {t : List ℕ} {s : Bool} {m k : ℕ} → DeeperLine t m k → 
 deeper_no_next d (next_item w z) = let e = (line_unique w d.line).0 in let b = d.deep in omega (arith, e, b)
 deeper_no_next d (next_pair w) = let e = (line_unique w d.line).0 in let b = d.deep in omega (arith, e, b)
 
-pub deeper_breaks : {t : List ℕ} {d : ℕ} {root : BlockTask} {l : Layer} {ls : List Layer} {e at : ℕ} {h : Option Found} → EntryRead t d root l ls e at h
+pub deeper_breaks : {t : List ℕ} {d : ℕ} {root : BlockTask} {l : Layer} {ls : List Layer} {e at : ℕ} {h : Option Found} {f : Found} → EntryRead t d root l ls e f at h
     → DeeperLine t l.column at → Broken t d root h
-deeper_breaks {t} {d} {root} {l} {ls} s v =
-    let deep : DeeperLine t l.column s.entry.end = subst (λ z. DeeperLine t l.column z) (sym s.end) v in
+deeper_breaks {t} {d} {root} {l} {ls} {f = f} s v =
+    let deep : DeeperLine t l.column f.end = subst (λ z. DeeperLine t l.column z) (sym s.end) v in
     let whole = s.entries.awaited.none (items_deeper s.whole deep) in
     let halt = outcome_halted s.entries.halted (halts_item s.whole (not_after (deeper_no_next deep)) s.halted) in
     record {
@@ -117,14 +115,14 @@ entries_follow {t} {e} {i} {ws} {l} {q} {o} {x} {outer} {f} n w u b = record {
   };
 }
 
-pub entry_follows : {t : List ℕ} {d : ℕ} {root : BlockTask} {l : Layer} {ls : List Layer} {e at : ℕ} {h : Option Found} (s : EntryRead t d root l ls e at h)
-    → NextEntry t l.sequence l.column at → EntryAt t d root (with_entry l s.entry) ls e Later (at + l.column) h
-entry_follows {t} {l = l} {ls = ls} {e = e} {at = at} s b = record {
+pub entry_follows : {t : List ℕ} {d : ℕ} {root : BlockTask} {l : Layer} {ls : List Layer} {e at : ℕ} {h : Option Found} {f : Found} → EntryRead t d root l ls e f at h
+    → NextEntry t l.sequence l.column at → EntryAt t d root (with_entry l f) ls e Later (at + l.column) h
+entry_follows {t} {l = l} {ls = ls} {e = e} {at = at} {f = f} s b = record {
   outer = s.outer;
   round = s.round;
   before = made_or (collection_made l) s.before s.last;
   around = s.around;
-  entries = subst (λ z. EntriesIn t e (asked ls) (with_entry l s.entry) Later (z + l.column) (made_or (collection_made l) s.before s.last) s.outer) s.end
+  entries = subst (λ z. EntriesIn t e (asked ls) (with_entry l f) Later (z + l.column) (made_or (collection_made l) s.before s.last) s.outer) s.end
       (entries_follow s.entries s.whole s.halted (subst (λ z. NextEntry t l.sequence l.column z) (sym s.end) b));
   halt = s.halt;
 }
@@ -137,8 +135,8 @@ halted_root : {t : List ℕ} {d : ℕ} {root : BlockTask} {e : ℕ} {inner : Blo
     → Halts t d [] root (made_or (λ z. z) r o)
 halted_root {t} {d} {root} {o = o} outermost w = subst (λ z. Halts t d [] root z) (sym (made_itself o)) w
 
-pub root_was_read : {t : List ℕ} {d : ℕ} {root : BlockTask} {e at : ℕ} {h : Option Found} (s : NodeRead t d root [] e at h) → Whole t d root (Some s.node)
+pub root_was_read : {t : List ℕ} {d : ℕ} {root : BlockTask} {e at : ℕ} {h : Option Found} {f : Found} → NodeRead t d root [] e f at h → Whole t d root (Some f)
 root_was_read s = whole_root s.around s.whole
 
-pub root_halts : {t : List ℕ} {d : ℕ} {root : BlockTask} {e at : ℕ} {h : Option Found} → NodeRead t d root [] e at h → Halts t d [] root h
+pub root_halts : {t : List ℕ} {d : ℕ} {root : BlockTask} {e at : ℕ} {h : Option Found} {f : Found} → NodeRead t d root [] e f at h → Halts t d [] root h
 root_halts {t} {d} {root} s = subst (λ z. Halts t d [] root z) (sym s.halt) (halted_root s.around s.halted)

@@ -21,11 +21,10 @@ pub record NodeAt (t : List ℕ) (d : ℕ) (root : BlockTask) (ls : List Layer) 
   pub halt : h ≡ made_or (rounds ls) round last
 
 -- a node has been found whole, and ends there
-pub record NodeRead (t : List ℕ) (d : ℕ) (root : BlockTask) (ls : List Layer) (e : ℕ) (at : ℕ) (h : Option Found) : Type 0 where
+pub record NodeRead (t : List ℕ) (d : ℕ) (root : BlockTask) (ls : List Layer) (e : ℕ) (node : Found) (at : ℕ) (h : Option Found) : Type 0 where
   pub task : BlockTask
   pub round : Option Found
   pub last : Option Found
-  pub node : Found
   pub around : Around t d root ls e task round
   pub whole : Whole t e task (Some node)
   pub halted : Halts t e (asked ls) task last
@@ -33,14 +32,13 @@ pub record NodeRead (t : List ℕ) (d : ℕ) (root : BlockTask) (ls : List Layer
   pub halt : h ≡ made_or (rounds ls) round last
 
 -- the present entry of the innermost collection has been found whole, and ends there
-pub record EntryRead (t : List ℕ) (d : ℕ) (root : BlockTask) (l : Layer) (ls : List Layer) (e : ℕ) (at : ℕ) (h : Option Found) : Type 0 where
+pub record EntryRead (t : List ℕ) (d : ℕ) (root : BlockTask) (l : Layer) (ls : List Layer) (e : ℕ) (entry : Found) (at : ℕ) (h : Option Found) : Type 0 where
   pub outer : BlockTask
   pub origin : Origin
   pub start : ℕ
   pub round : Option Found
   pub before : Option Found
   pub last : Option Found
-  pub entry : Found
   pub around : Around t d root ls (suc e) outer round
   pub entries : EntriesIn t e (asked ls) l origin start before outer
   pub whole : Whole t e (Item l.sequence l.column origin start) (Some entry)
