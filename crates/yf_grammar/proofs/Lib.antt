@@ -32,6 +32,7 @@ pub mod BlockShown
 pub mod BlockSigns
 pub mod BlockSound
 pub mod BlockStackSteps
+pub mod BlockStackShown
 pub mod BlockStarts
 pub mod BlockStepEntries
 pub mod BlockStepNodes
