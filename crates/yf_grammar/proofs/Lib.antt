@@ -7,6 +7,7 @@ pub mod BlankRuns
 pub mod BlockAwaitItems
 pub mod BlockClaims
 pub mod BlockCover
+pub mod BlockDedents
 pub mod BlockEmpty
 pub mod BlockEnds
 pub mod BlockEntries

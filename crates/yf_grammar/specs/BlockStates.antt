@@ -1,13 +1,14 @@
 -- The states of a reader of block nodes with a stack, as far as they are tied to the relations `Whole` and `Halts`: what has been
 -- read, and what is known of the outermost node. In each of them h is the outermost node's last halt, should the text go wrong next.
-use Rattle.std.specs.Prelude.{◌≡◌, ℕ, suc, max, Bool, List, [], Option, Some, None}
+use Rattle.std.specs.Prelude.{◌≡◌, ℕ, suc, max, ◌<◌, Bool, List, [], ◌∷◌, true, Option, Some, None}
 use Rattle.yf_comments.specs.Comment.{CommentValue}
+use Rattle.yf_grammar.specs.Grammar.{ColonLine}
 use Rattle.yf_grammar.specs.Meaning.{◌⊕◌}
 use Rattle.yf_grammar.specs.Parser.{Found, only}
-use Rattle.yf_grammar.specs.BlockParser.{Ahead, Nothing, Indicator, Props, Origin, BlockTask, Item, Whole}
+use Rattle.yf_grammar.specs.BlockParser.{Ahead, Nothing, Indicator, Props, Origin, BlockTask, Item, NoEntry, Whole}
 use Rattle.yf_grammar.specs.Halts.{Halts}
 use Rattle.yf_grammar.specs.BlockSteps.{TaskAwaited, TaskHalted, made_or, as_behind}
-use Rattle.yf_grammar.specs.BlockStack.{Layer, Stage, AtItem, AtKey, AtLoneValue, AtValue, collection_made, rounds, EntriesIn, asked, Around}
+use Rattle.yf_grammar.specs.BlockStack.{Layer, Stage, AtItem, AtKey, AtLoneValue, AtValue, asks, collection_made, rounds, EntriesIn, asked, Around}
 
 -- a node is awaited, after so many comments, where e more collections may be opened
 pub record NodeAt (t : List ℕ) (d : ℕ) (root : BlockTask) (ls : List Layer) (e : ℕ) (ds : List CommentValue) (task : BlockTask)
@@ -83,3 +84,17 @@ abbrev pub told_before : Ahead → List CommentValue → List CommentValue
 told_before Nothing ds = ds
 told_before (Indicator i) ds = ds
 told_before (Props h) ds = []
+
+-- the line at an offset, or the want of one, ends a collection after its present node; and several, the innermost first
+pub record EndsHere (t : List ℕ) (at : ℕ) (l : Layer) : Type 0 where
+  pub no_entry : NoEntry t l.sequence l.column at
+  pub no_colon : asks l.stage ≡ true → ColonLine t l.column at → ⊥
+
+pub data AllEnd (t : List ℕ) (at : ℕ) : List Layer → Type 0 where
+  all_ended : AllEnd t at []
+  one_ends : {l : Layer} {ls : List Layer} → EndsHere t at l → AllEnd t at ls → AllEnd t at (l ∷ ls)
+
+-- collections whose columns are all greater
+pub data AllDeeper (m : ℕ) : List Layer → Type 0 where
+  no_more : AllDeeper m []
+  one_deeper : {l : Layer} {ls : List Layer} → m < l.column → AllDeeper m ls → AllDeeper m (l ∷ ls)
