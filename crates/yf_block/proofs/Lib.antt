@@ -1,1 +1,2 @@
+pub mod AwaitingLemmas
 pub mod Forward

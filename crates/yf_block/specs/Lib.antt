@@ -1,2 +1,3 @@
+pub mod Awaiting
 pub mod Machine
 pub mod NodeReaders

@@ -1,6 +1,7 @@
 //! The last place at which all open nodes may end: what the reader falls back on where the text goes wrong later.
-ghost use Rattle.std.specs.Prelude.{◌≡◌, IfSome, take};
+ghost use Rattle.std.specs.Prelude.{◌≡◌, IfSome, MatchBool, reverse, take};
 ghost use Rattle.std.specs.Str.{IsCharBoundary};
+ghost use Rattle.yf_block.specs.Awaiting.{AwaitsAt};
 ghost use Rattle.yf_block.specs.Machine.{ProgressAt, MayBoundary};
 
 use crate::frame::{Frames, Progress};
@@ -126,7 +127,9 @@ fn value_follows(text: &str, at: usize, colons: usize, frames: &Frames) -> bool
 }
 
 // Whether an open mapping awaits a `:` at the column.
-fn awaits_colon_at(frames: &Frames, column: usize) -> bool {
+fn awaits_colon_at(frames: &Frames, column: usize) -> bool
+    ensures { MatchBool result (AwaitsAt column (reverse frames.now.items)) (AwaitsAt column (reverse frames.now.items) → ⊥) }
+{
     let items = frames.as_slice();
     let mut index = items.len();
     'frames: while index > 0 {

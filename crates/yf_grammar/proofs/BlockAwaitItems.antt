@@ -41,16 +41,16 @@ pub entry_broken : {t : List ℕ} {e : ℕ} {s : Bool} {m : ℕ} {q : Origin} {p
     → Whole t e (Item s m Later i) (Some f) → DeeperLine t m f.end → Whole t e (Items s m q p) None
 entry_broken a w d = a.none (items_deeper w d)
 
-regrouped : (h : ℕ) (x : Meaning) (f g : Found)
-    → Some (after_entries h x (after_entries f.height f.meaning g)) ≡ Some (after_entries (max h f.height) (x ⊕ f.meaning) g)
-regrouped h x f g = ap (λ (z : ℕ). Some (record { end = g.end; height = z; json = false; meaning = x ⊕ (f.meaning ⊕ g.meaning) })) (omega arith)
-    ∙ ap (λ w. Some (record { end = g.end; height = max (max h f.height) g.height; json = false; meaning = w })) (plus_assoc x f.meaning g.meaning)
+pub regrouped : (h : ℕ) (x : Meaning) (f g : Found)
+    → after_entries h x (after_entries f.height f.meaning g) ≡ after_entries (max h f.height) (x ⊕ f.meaning) g
+regrouped h x f g = ap (λ (z : ℕ). record { end = g.end; height = z; json = false; meaning = x ⊕ (f.meaning ⊕ g.meaning) }) (omega arith)
+    ∙ ap (λ w. record { end = g.end; height = max (max h f.height) g.height; json = false; meaning = w }) (plus_assoc x f.meaning g.meaning)
 
 -- an entry was read, and another one follows
 pub entry_then : {t : List ℕ} {e : ℕ} {s : Bool} {m : ℕ} {q : Origin} {p i h : ℕ} {x : Meaning} {f : Found} → ItemsAwaited t e s m q p i h x
     → Whole t e (Item s m Later i) (Some f) → NextEntry t s m f.end → ItemsAwaited t e s m q p (f.end + m) (max h f.height) (x ⊕ f.meaning)
 entry_then {t} {e} {s} {m} {q} {p} {i} {h} {x} {f} a w n = record {
-  some = λ g r. subst (λ z. Whole t e (Items s m q p) z) (regrouped h x f g)
+  some = λ g r. subst (λ z. Whole t e (Items s m q p) z) (ap (λ z. Some z) (regrouped h x f g))
       (a.some (after_entries f.height f.meaning g) (subst (λ z. Whole t e (Items s m Later i) z) (items_found_is f g) (items_then w n r)));
   none = λ r. a.none (items_then_missed w n r);
 }
@@ -66,7 +66,7 @@ pub halt_then : {t : List ℕ} {e : ℕ} {ws : List ℕ} {s : Bool} {m : ℕ} {q
     → ItemsHalted t e ws s m q p i h x o → Whole t e (Item s m Later i) (Some f) → NextEntry t s m f.end → Halts t e ws (Item s m Later i) r
     → ItemsHalted t e ws s m q p (f.end + m) (max h f.height) (x ⊕ f.meaning) (kept_halt h x o r)
 halt_then {t} {e} {ws} {s} {m} {q} {p} {i} {h} {x} {o} {r} {f} a w n b = record {
-  some = λ g c. subst (λ z. Halts t e ws (Items s m q p) z) (regrouped h x f g)
+  some = λ g c. subst (λ z. Halts t e ws (Items s m q p) z) (ap (λ z. Some z) (regrouped h x f g))
       (a.some (after_entries f.height f.meaning g) (subst (λ z. Halts t e ws (Items s m Later i) z) (items_found_is f g) (halts_items w n c)));
   none = λ c. halt_of_rest a (halts_before_item w n c b);
 }

@@ -3,6 +3,9 @@ pub mod Back
 pub mod BlockAwaits
 pub mod BlockParser
 pub mod BlockScalar
+pub mod BlockStack
+pub mod BlockStates
+pub mod BlockSteps
 pub mod Grammar
 pub mod Halts
 pub mod Laws
