@@ -66,7 +66,7 @@ begun k row column d b c =
     ∙ ap (λ n. with_row (remarks_of k.work) k.trail row (opened (remarks_of k.work) n d)) c)
 
 -- one row
-row_put : (k : Known) (f : Form) (sp : Printer.Spot) (row : Row) (d : Draft) → row.blank_before ≡ false → ColumnAt k.work.style.indent f.key_comment sp row.column
+pub row_put : (k : Known) (f : Form) (sp : Printer.Spot) (row : Row) (d : Draft) → row.blank_before ≡ false → ColumnAt k.work.style.indent f.key_comment sp row.column
     → with_row (remarks_of k.work) k.trail row (before_text k.work f sp d) ≡ put k f.key_comment false sp (row ∷ []) d
 row_put k f Printer.Spot.Root row d b c = begun k row 0 d b c
 row_put k f (Printer.Spot.Behind column) row d b c = refl
@@ -132,7 +132,7 @@ one_line_put k f sp spot x i last e d t n filled c =
 
 -- Block scalars.
 
-block_met : (k : Known) (spot : Spot) (x : Node) (props : PropsValue) (style : ScalarStyle) (text : List ℕ) (lines : List (List ℕ)) (sp : Printer.Spot) (d : Draft)
+pub block_met : (k : Known) (spot : Spot) (x : Node) (props : PropsValue) (style : ScalarStyle) (text : List ℕ) (lines : List (List ℕ)) (sp : Printer.Spot) (d : Draft)
     → is_empty_text (header_text style k.work.style.indent text) ≡ false → lines_column k.work.style.indent sp ≡ spot.lines
     → met k (items_in x) (leaves x) (with_block k.work.style sp style text lines (with_props_before props d))
     ≡ with_row (remarks_of k.work) k.trail (record (plain_row spot.column (spaced (props_text props) (header_text style k.work.style.indent text))) {

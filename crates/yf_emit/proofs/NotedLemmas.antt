@@ -57,7 +57,7 @@ met_more k is js ss rs d =
 
 -- Leaves.
 
-leaf_met : (k : Known) (i : ℕ) (x : Node) (o : Option Span) (d : Draft) → NodeAt k.work.reading.events i x → (standing x).span ≡ o → is_text x ≡ is_some o
+pub leaf_met : (k : Known) (i : ℕ) (x : Node) (o : Option Span) (d : Draft) → NodeAt k.work.reading.events i x → (standing x).span ≡ o → is_text x ≡ is_some o
     → leaf_noted_if (is_text x) k.work i o d ≡ met k (map (λ s. s.start) (spans_of_leaf o)) (spans_of_leaf o) d
 leaf_met k i x None d n e t = ap (λ b. leaf_noted_if b k.work i None d) t ∙ sym (met_nothing k d)
 leaf_met k i x (Some span) d n e t =
@@ -74,21 +74,21 @@ pub record Noted (k : Known) (j : ℕ) (ys : List Placed) (items : List ℕ) (sp
   pub noted : (last : ℕ) (rest : List Placed) (d : Draft) → j + length ys ≤ last + 1
       → events_noted k.work last j (ys ++ rest) d ≡ events_noted k.work last (j + length ys) rest (met k items spans d)
 
-noted_none : (k : Known) (j : ℕ) → Noted k j [] [] []
+pub noted_none : (k : Known) (j : ℕ) → Noted k j [] [] []
 noted_none k j = record {
   noted = λ last rest d l.
       let e : j ≡ j + 0 = omega arith in
       ap (λ w. events_noted k.work last j rest w) (sym (met_nothing k d)) ∙ ap (λ n. events_noted k.work last n rest (met k [] [] d)) e;
 }
 
-noted_same : (k : Known) (j : ℕ) (ys : List Placed) (is js : List ℕ) (ss rs : List Span) → is ≡ js → ss ≡ rs → Noted k j ys is ss → Noted k j ys js rs
+pub noted_same : (k : Known) (j : ℕ) (ys : List Placed) (is js : List ℕ) (ss rs : List Span) → is ≡ js → ss ≡ rs → Noted k j ys is ss → Noted k j ys js rs
 noted_same k j ys is js ss rs e f h = record {
   noted = λ last rest d l.
       h.noted last rest d l
       ∙ (ap (λ w. events_noted k.work last (j + length ys) rest (met k w ss d)) e ∙ ap (λ w. events_noted k.work last (j + length ys) rest (met k js w d)) f);
 }
 
-noted_append : (k : Known) (j : ℕ) (ys zs : List Placed) (is js : List ℕ) (ss rs : List Span) → Noted k j ys is ss → Noted k (j + length ys) zs js rs
+pub noted_append : (k : Known) (j : ℕ) (ys zs : List Placed) (is js : List ℕ) (ss rs : List Span) → Noted k j ys is ss → Noted k (j + length ys) zs js rs
     → Noted k j (ys ++ zs) (is ++ js) (ss ++ rs)
 noted_append k j ys zs is js ss rs h i = record {
   noted = λ last rest d l.
@@ -120,7 +120,7 @@ entry_is k None d = sym (met_nothing k d)
 entry_is k (Some e) d = ap (λ w. all_past k.work.reading.comments (e.start ∷ []) w) (sym (met_nothing k d))
 
 -- an event that begins no node stands for no text
-end_noted : (k : Known) (j : ℕ) (e : Placed) → e.span ≡ None → e.entry ≡ None → Noted k j (e ∷ []) [] []
+pub end_noted : (k : Known) (j : ℕ) (e : Placed) → e.span ≡ None → e.entry ≡ None → Noted k j (e ∷ []) [] []
 end_noted k j e s n = noted_event k j e [] [] (λ d. ap (λ o. leaf_noted_if (is_leaf k.work j) k.work j o (entry_met k.work e.entry d)) s
     ∙ (by (is_leaf k.work j) (entry_met k.work e.entry d) ∙ (ap (λ o. entry_met k.work o d) n ∙ sym (met_nothing k d)))) where
       by : (b : Bool) (d : Draft) → leaf_noted_if b k.work j None d ≡ d
