@@ -95,16 +95,16 @@ within k i last e tail is js ss rs d a l h n =
     ∙ (stopped k.work last (i + 1 + length tail) b.after (met k js rs (met k is ss d)) past
     ∙ met_more k is js ss rs d)))
 
-and_true : (b : Bool) → (b && true) ≡ b
+pub and_true : (b : Bool) → (b && true) ≡ b
 and_true true = refl
 and_true false = refl
 
-never : (b : Bool) → (b && false) ≡ false
+pub never : (b : Bool) → (b && false) ≡ false
 never true = refl
 never false = refl
 
 -- a row with a text alone
-row_met : (k : Known) (column : ℕ) (text : List ℕ) (is : List ℕ) (ss : List Span) (d : Draft)
+pub row_met : (k : Known) (column : ℕ) (text : List ℕ) (is : List ℕ) (ss : List Span) (d : Draft)
     → met k is ss (with_text text d) ≡ with_row (remarks_of k.work) k.trail (record (plain_row column text) { items = is; leaves = ss }) d
 row_met k column text is ss d =
     let line : List ℕ = d.line ++ text in
