@@ -194,10 +194,16 @@ pub record Laid (k : Known) (i : ℕ) (x : Node) : Type 0 where
   pub house : House (setting_in k) x
   pub among : Among k.work.reading.events (flat x) i
 
+-- it is a block scalar
+abbrev pub has_lines : Node → Bool
+has_lines (scalar at props Literal text lines) = true
+has_lines (scalar at props Folded text lines) = true
+has_lines x = false
+
 -- where it goes is where it stands in the layout
 pub record Spotted (k : Known) (key : Option ℕ) (sp : Printer.Spot) (spot : Spot) (x : Node) : Type 0 where
   pub column : ColumnAt k.work.style.indent key sp spot.column
-  pub lines : lines_column k.work.style.indent sp ≡ spot.lines
+  pub lines : has_lines x ≡ true → lines_column k.work.style.indent sp ≡ spot.lines
   pub no_key : is_text x ≡ false → is_filled_flow x ≡ false → key ≡ None
 
 abbrev pub measure : Known → ℕ → Node → Measure
@@ -238,12 +244,12 @@ scalar_printed k i f sp spot at props style text lines d l s n t w =
     (λ d. t d ∙ scalar_added k i i sp at props style text lines d w) (written_filled (props_text props) (scalar_text style text) w)
 
 block_printed : (k : Known) (i : ℕ) (f : Form) (sp : Printer.Spot) (spot : Spot) (at : Standing) (props : PropsValue) (style : ScalarStyle) (text : List ℕ) (lines : List (List ℕ)) (d : Draft)
-    → Laid k i (scalar at props style text lines) → Spotted k f.key_comment sp spot (scalar at props style text lines) → is_empty_node props style text ≡ false
+    → Laid k i (scalar at props style text lines) → Spotted k f.key_comment sp spot (scalar at props style text lines) → is_empty_node props style text ≡ false → has_lines (scalar at props style text lines) ≡ true
     → ((d : Draft) → with_scalar k.work.style sp props style text lines d ≡ Printing.with_block k.work.style sp style text lines (with_props_before props d))
     → is_empty_text (header_text style k.work.style.indent text) ≡ false
     → text_if (is_some (first_of (leaf_indices i (scalar at props style text lines)))) k.work i (measure k i (scalar at props style text lines)) f (head_of (scalar at props style text lines)) sp d
     ≡ put k f.key_comment false sp (block_scalar k.work.style spot (scalar at props style text lines) props style text lines) d
-block_printed k i f sp spot at props style text lines d l s n t w =
+block_printed k i f sp spot at props style text lines d l s n b t w =
     let x : Node = scalar at props style text lines in
     let row : Row = record (plain_row spot.column (spaced (props_text props) (header_text style k.work.style.indent text))) {
       items = items_in x;
@@ -256,7 +262,7 @@ block_printed k i f sp spot at props style text lines d l s n t w =
     ap (λ b. text_if b k.work i (measure k i x) f (head_of x) sp d) (some_leaf i (is_some at.span) (agreed _ _ l.placed ∙ ap not n))
     ∙ (ap (λ w. Printing.node_noted k.work i (measure k i x).last (head_of x) w) (t before)
     ∙ (node_within k i (measure k i x).last x _ l.placed l.begins l.among (last_of_node i x)
-    ∙ (block_met k spot x props style text lines sp before w s.lines ∙ row_put k f sp row d refl s.column)))
+    ∙ (block_met k spot x props style text lines sp before w (s.lines b) ∙ row_put k f sp row d refl s.column)))
 
 -- an empty node, and a plain one that has properties alone
 plain_printed : (k : Known) (i : ℕ) (f : Form) (sp : Printer.Spot) (spot : Spot) (at : Standing) (props : PropsValue) (lines : List (List ℕ)) (d : Draft)
@@ -307,9 +313,9 @@ text_printed k i f sp spot (scalar at props Plain (c ∷ text) lines) d l s b = 
 text_printed k i f sp spot (scalar at props Single text lines) d l s b = scalar_printed k i f sp spot at props Single text lines d l s refl (λ d. refl) refl
 text_printed k i f sp spot (scalar at props Double text lines) d l s b = scalar_printed k i f sp spot at props Double text lines d l s refl (λ d. refl) refl
 text_printed k i f sp spot (scalar at props Literal text lines) d l s b =
-    block_printed k i f sp spot at props Literal text lines d l s refl (λ d. refl) (header_filled Literal k.work.style.indent text)
+    block_printed k i f sp spot at props Literal text lines d l s refl refl (λ d. refl) (header_filled Literal k.work.style.indent text)
 text_printed k i f sp spot (scalar at props Folded text lines) d l s b =
-    block_printed k i f sp spot at props Folded text lines d l s refl (λ d. refl) (header_filled Folded k.work.style.indent text)
+    block_printed k i f sp spot at props Folded text lines d l s refl refl (λ d. refl) (header_filled Folded k.work.style.indent text)
 text_printed k i f sp spot (alias at name) d l s b = one_line_printed k i f sp spot (alias at name) d l s refl (λ d. refl) refl
 text_printed k i f sp spot (sequence at true props no_items) d l s b = flow_printed k i f sp spot (sequence at true props no_items) d l s refl refl refl (λ d. refl)
 text_printed k i f sp spot (sequence at true props (item x xs)) d l s b =
