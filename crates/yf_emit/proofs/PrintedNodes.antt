@@ -86,7 +86,7 @@ NodeReaches k i docs site x levels d =
 
 -- The form at the index of a node.
 
-form_there : (k : Known) (i : ℕ) (site : Site) (x : Node) → Part k.work.forms (forms (setting_in k) site x) i → get_or k.work.forms i no_form ≡ form k site x
+pub form_there : (k : Known) (i : ℕ) (site : Site) (x : Node) → Part k.work.forms (forms (setting_in k) site x) i → get_or k.work.forms i no_form ≡ form k site x
 form_there k i site (scalar at props style text lines) a = first_form _ [] a
 form_there k i site (alias at name) a = first_form _ [] a
 form_there k i site (sequence at flow props items) a = first_form _ _ a
