@@ -29,7 +29,7 @@ pub fed_on_append : (r : Remarks) (t : Span → List ℕ) (x : Row) (xs ys : Lis
     → fed_on r t ((x ∷ xs) ++ ys) d ≡ fed r t ys (fed_on r t (x ∷ xs) d)
 fed_on_append r t x xs ys d = fed_append r t xs ys (with_row r t x d)
 
-past_append : (cs : List CommentValue) (xs ys : List ℕ) (d : Draft) → all_past cs (xs ++ ys) d ≡ all_past cs ys (all_past cs xs d)
+pub past_append : (cs : List CommentValue) (xs ys : List ℕ) (d : Draft) → all_past cs (xs ++ ys) d ≡ all_past cs ys (all_past cs xs d)
 past_append cs [] ys d = refl
 past_append cs (x ∷ xs) ys d = past_append cs xs ys (past cs x d)
 

@@ -23,7 +23,7 @@ use Rattle.yf_emit.specs.Wanted.{lines_in, wanted, style_in}
 
 -- A node in a kept collection has a text
 
-spaced_filled : (p y : List ℕ) → is_empty_text y ≡ false → spaced p y ≡ space_behind p ++ y
+pub spaced_filled : (p y : List ℕ) → is_empty_text y ≡ false → spaced p y ≡ space_behind p ++ y
 spaced_filled [] y n = refl
 spaced_filled (b ∷ x) [] n = absurd (true≢false n)
 spaced_filled (b ∷ x) (c ∷ y) n = sym (append_assoc (b ∷ x) (32 ∷ []) (c ∷ y))
@@ -32,7 +32,7 @@ quoted_text : (q : Quotes) (s : List ℕ) → is_empty_text (scalar_text (style_
 quoted_text Quotes.Single s = refl
 quoted_text Quotes.Double s = refl
 
-scalar_filled : (style : ScalarStyle) (text : List ℕ) (q : Quotes) → scalar_may_be_kept style text ≡ true
+pub scalar_filled : (style : ScalarStyle) (text : List ℕ) (q : Quotes) → scalar_may_be_kept style text ≡ true
     → is_empty_text (scalar_text (wanted style text q) text) ≡ false
 scalar_filled Plain [] q k = absurd (true≢false (sym k))
 scalar_filled Plain (b ∷ text) q k = rw k refl
@@ -55,7 +55,7 @@ scalar_colon at props Double text lines q k = quoted_colon (quotes_for (chars te
 scalar_colon at props Literal text lines q k = absurd (true≢false (sym k))
 scalar_colon at props Folded text lines q k = absurd (true≢false (sym k))
 
-node_filled : (t : List ℕ) (c : Setting) (x : Node) → may_be_kept t c.comments x ≡ true → is_empty_text (bare (styled t c x)) ≡ false
+pub node_filled : (t : List ℕ) (c : Setting) (x : Node) → may_be_kept t c.comments x ≡ true → is_empty_text (bare (styled t c x)) ≡ false
 node_filled t c (scalar at props style text lines) k = scalar_filled style text c.style.quotes k
 node_filled t c (alias at name) k = refl
 node_filled t c (sequence at flow props no_items) k = refl
@@ -63,7 +63,7 @@ node_filled t c (sequence at flow props (item x xs)) k = refl
 node_filled t c (mapping at flow props no_pairs) k = refl
 node_filled t c (mapping at flow props (pair x y ps)) k = refl
 
-same_props : (t : List ℕ) (c : Setting) (x : Node) → props_of (styled t c x) ≡ props_of x
+pub same_props : (t : List ℕ) (c : Setting) (x : Node) → props_of (styled t c x) ≡ props_of x
 same_props t c (scalar at props style text lines) = refl
 same_props t c (alias at name) = refl
 same_props t c (sequence at flow props xs) = refl
@@ -176,14 +176,14 @@ pairs_inside t c at flow props x y ps k r s u stack es =
 
 -- what may be kept holds nodes that may
 
-kept_items : (t : List ℕ) (c : Setting) (at : Standing) (flow : Bool) (props : PropsValue) (x : Node) (xs : Items)
+pub kept_items : (t : List ℕ) (c : Setting) (at : Standing) (flow : Bool) (props : PropsValue) (x : Node) (xs : Items)
     → may_be_kept t c.comments (sequence at flow props (item x xs)) ≡ true → (may_be_kept t c.comments x ≡ true) × (items_may_be_kept t c.comments xs ≡ true)
 kept_items t c at flow props x xs k =
     let last = and_parts (flow && not (has_comment t c.comments at.span props) && may_be_kept t c.comments x) (items_may_be_kept t c.comments xs) k in
     let first = and_parts (flow && not (has_comment t c.comments at.span props)) (may_be_kept t c.comments x) last.0 in
     (first.1, last.1)
 
-kept_pairs : (t : List ℕ) (c : Setting) (at : Standing) (flow : Bool) (props : PropsValue) (x y : Node) (ps : Pairs)
+pub kept_pairs : (t : List ℕ) (c : Setting) (at : Standing) (flow : Bool) (props : PropsValue) (x y : Node) (ps : Pairs)
     → may_be_kept t c.comments (mapping at flow props (pair x y ps)) ≡ true
     → (may_be_kept t c.comments x ≡ true) × (may_be_kept t c.comments y ≡ true) × (pairs_may_be_kept t c.comments ps ≡ true)
 kept_pairs t c at flow props x y ps k =
@@ -192,7 +192,7 @@ kept_pairs t c at flow props x y ps k =
     let key = and_parts (flow && not (has_comment t c.comments at.span props)) (may_be_kept t c.comments x) value.0 in
     (key.1, value.1, last.1)
 
-kept_more_pairs : (t : List ℕ) (c : Setting) (x y : Node) (ps : Pairs) → pairs_may_be_kept t c.comments (pair x y ps) ≡ true
+pub kept_more_pairs : (t : List ℕ) (c : Setting) (x y : Node) (ps : Pairs) → pairs_may_be_kept t c.comments (pair x y ps) ≡ true
     → (may_be_kept t c.comments x ≡ true) × (may_be_kept t c.comments y ≡ true) × (pairs_may_be_kept t c.comments ps ≡ true)
 kept_more_pairs t c x y ps k =
     let last = and_parts (may_be_kept t c.comments x && may_be_kept t c.comments y) (pairs_may_be_kept t c.comments ps) k in
@@ -283,7 +283,7 @@ between_node es first last x n e =
     ∙ take_at (flat x) n.after (length (flat x)) refl
 
 -- so the events of one that may be kept add its text
-kept_run : (t : List ℕ) (c : Setting) (x : Node) (es : List Placed) (first last : ℕ) (q : Quotes) → c.style.quotes ≡ q → NodeAt es first x
+pub kept_run : (t : List ℕ) (c : Setting) (x : Node) (es : List Placed) (first last : ℕ) (q : Quotes) → c.style.quotes ≡ q → NodeAt es first x
     → last + 1 ≡ first + length (flat x) → is_collection x ≡ true → may_be_kept t c.comments x ≡ true → run q [] (between first last es) ≡ bare (styled t c x)
 kept_run t c x es first last q s n e b k =
     ap (λ w. run w [] (between first last es)) (sym s) ∙ ap (run c.style.quotes []) (between_node es first last x n e) ∙ whole_run t c x b k

@@ -50,7 +50,7 @@ noted_on g last k es e d new all h l n i =
     ∙ (ap (λ b. if b then events_noted g last (k + 1) (drop (suc k) es) (event_noted g k e d) else d) (sym (at_most k last l))
     ∙ (ap (λ w. events_noted g last k w d) (sym (cut_at es k e h)) ∙ i)))
 
-stopped : (g : Work) (last k : ℕ) (es : List Placed) (d : Draft) → last < k → events_noted g last k es d ≡ d
+pub stopped : (g : Work) (last k : ℕ) (es : List Placed) (d : Draft) → last < k → events_noted g last k es d ≡ d
 unfolding events_noted
 stopped g last k [] d l = refl
 stopped g last k (e ∷ es) d l =

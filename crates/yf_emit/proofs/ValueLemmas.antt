@@ -92,7 +92,7 @@ colon_behind_text at props b text lines Double = refl
 colon_behind_text at props b text lines Literal = refl
 colon_behind_text at props b text lines Folded = refl
 
-agreed : (a b : Bool) → agree a b ≡ true → a ≡ b
+pub agreed : (a b : Bool) → agree a b ≡ true → a ≡ b
 agreed true true e = refl
 agreed true false e = absurd cc
 agreed false true e = absurd cc

@@ -1,3 +1,4 @@
+pub mod Begins
 pub mod BlockLines
 pub mod BlockValues
 pub mod Carried

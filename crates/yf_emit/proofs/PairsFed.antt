@@ -1,0 +1,70 @@
+-- What is printed of a key and its value are the rows of the pair.
+use Rattle.std.proofs.Common.{◌≡◌, ℕ, ◌+◌, ◌-◌, Bool, true, false, not, ◌&&◌, List, [], ◌∷◌, ◌++◌, codes, Option, Some, None, refl, sym, ap, ◌∙◌, true≢false}
+use Rattle.std.specs.Prelude.{◌||◌, is_some, nat_lt, slice_get, option_map, suc, find, if◌then◌else◌}
+use Rattle.yf_comments.specs.Comment.{CommentValue}
+use Rattle.yf_events.specs.Tree.{Node, scalar, alias, sequence, mapping, no_items, item, no_pairs, pair, is_block_collection, is_filled_flow, is_text, items_in, leaves, standing}
+use Rattle.yf_events.specs.declared.event.Entry.{Entry}
+use Rattle.yf_events.specs.declared.event.ScalarStyle.TheVariants.{Plain, Single, Double, Literal, Folded}
+use Rattle.yf_events.specs.declared.event.Span.{Span}
+use Rattle.yf_emit.specs.declared.decide.Form.{Form}
+use Rattle.yf_emit.specs.declared.printer.Awaited.{Awaited}
+use Rattle.yf_emit.specs.Drafts.{Draft, behind_at, behind_if, with_text}
+use Rattle.yf_emit.specs.Forms.{first_index, index_between, key_comment_index}
+use Rattle.yf_emit.specs.Layout.{behind_two_spaces}
+use Rattle.yf_emit.specs.Normal as Normal
+use Rattle.yf_emit.specs.Normal.{Setting, first_between, key_comment}
+use Rattle.yf_emit.specs.OneLine.{colon_behind, written}
+use Rattle.yf_emit.specs.Printing.{colon_of, entry_begun, key_spot, question_if, remarks_of, sign_in, spot_in, value_awaited, with_colon}
+use Rattle.yf_emit.specs.Rows.{Row, begins_below, behind_key, behind_sign, colon_row, entry_row, explicit_pair, implicit_pair, is_empty_text, joined, key_row, one_line_row}
+use Rattle.yf_emit.proofs.EntriesFed.{begun, begun_append, filled_joined, joined_begun, key_begun, sign_begun, value_begun}
+use Rattle.yf_emit.proofs.FedLemmas.{fed, key_text}
+use Rattle.yf_emit.proofs.JoinLemmas.{fed_behind, fed_on, joined_fed}
+use Rattle.yf_emit.proofs.LeafFed.{put, put_value, with_colon_of}
+use Rattle.yf_emit.proofs.LeafPrinted.{setting_in}
+use Rattle.yf_emit.proofs.NotedLemmas.{Known}
+use Rattle.yf_emit.proofs.SignLemmas.{colon_fed}
+
+-- The comment at the index of the one that trails a key is that comment.
+
+found_text : (p : CommentValue → Bool) (cs : List CommentValue) → behind_if cs (first_index p cs) ≡ key_text (find p cs)
+found_text p [] = refl
+found_text p (c ∷ cs) = by (p c) (found_text p cs) where
+  shifted : (o : Option ℕ) → behind_if (c ∷ cs) (option_map suc o) ≡ behind_if cs o
+  shifted None = refl
+  shifted (Some j) = refl
+
+  by : (b : Bool) → behind_if cs (first_index p cs) ≡ key_text (find p cs) → behind_if (c ∷ cs) (if b then Some 0 else option_map suc (first_index p cs)) ≡ key_text (if b then Some c else find p cs)
+  by true h = refl
+  by false h = shifted (first_index p cs) ∙ h
+
+pub comment_text : (cs : List CommentValue) (k v : Node) → behind_if cs (key_comment_index cs k v) ≡ key_text (key_comment cs k v)
+comment_text cs k v = by (is_text v || is_filled_flow v) (leaves v) where
+  by : (b : Bool) (ss : List Span)
+      → behind_if cs (if b then index_between cs (Normal.key_start k) ss else None) ≡ key_text (if b then first_between cs (Normal.key_start k) ss else None)
+  by true [] = refl
+  by true (s ∷ ss) = found_text (λ c. nat_lt (Normal.key_start k) c.offset && nat_lt c.offset s.start) cs
+  by false ss = refl
+
+-- b says whether the key x is implicit; o is the comment that trails it, and xs and ys are the rows of the key and of its value y
+pub pair_fed : (k : Known) (inline b : Bool) (column place : ℕ) (x y : Node) (f : Form) (entry : Option Entry) (o : Option ℕ) (xs ys : List Row) (d : Draft)
+    → (b ≡ true → xs ≡ one_line_row place x (written x)) → (b ≡ true → is_empty_text (written x) ≡ true → (items_in x ≡ []) × (leaves x ≡ []))
+    → (b ≡ true → behind_if k.work.reading.comments o ≡ key_text (key_comment k.work.reading.comments x y))
+    → (b ≡ true → is_some o ≡ is_some (key_comment k.work.reading.comments x y))
+    → with_colon_of y (spot_in f column (value_awaited b (standing x).entry)) (put k o (begins_below y) (spot_in f column (value_awaited b (standing x).entry)) ys
+    (sign_in k.work f entry false column (value_awaited b (standing x).entry)
+    (with_colon_of x (key_spot b column) (put k None (begins_below x) (key_spot b column) xs (question_if b (entry_begun k.work inline column (standing x).entry d))))))
+    ≡ begun k inline (if b then implicit_pair (setting_in k) column x y ys else explicit_pair k.work.style column x xs ys) d
+pair_fed k inline true column place x y f entry o xs ys d r e t s =
+    ap (λ w. put_value k o (begins_below y) ys (with_text (colon_behind x) (fed_on (remarks_of k.work) k.trail w (entry_begun k.work inline column (standing x).entry d)))) (r refl)
+    ∙ (ap (λ w. put_value k o (begins_below y) ys w) (key_begun k inline column place x d (e refl))
+    ∙ value_begun k inline (key_row column x) o (key_comment k.work.reading.comments x y) (begins_below y) ys d (record { key = refl; body = refl; ending = refl }) (t refl) (s refl))
+pair_fed k inline false column place x y f entry o xs ys d r e t s =
+    let n : ℕ = k.work.style.indent - 1 in
+    let before : List Row = behind_sign k.work.style (entry_row column (codes "?") x) xs in
+    let key : fed_behind (remarks_of k.work) k.trail n xs (with_text (codes "?") (entry_begun k.work inline column (standing x).entry d)) ≡ begun k inline before d =
+    ap (λ w. fed_behind (remarks_of k.work) k.trail n xs w) (sign_begun k inline column (codes "?") x d)
+    ∙ sym (joined_begun k inline (entry_row column (codes "?") x) n xs d (record { key = refl; body = refl; ending = refl })) in
+    ap (λ w. fed_behind (remarks_of k.work) k.trail n ys (with_colon k.work column (colon_of (standing x).entry) w)) key
+    ∙ (ap (λ w. fed_behind (remarks_of k.work) k.trail n ys w) (colon_fed k.work k.trail column x (begun k inline before d))
+    ∙ (sym (joined_fed (remarks_of k.work) k.trail (colon_row column x) n ys (begun k inline before d) (record { key = refl; body = refl; ending = refl }))
+    ∙ sym (begun_append k inline before (behind_sign k.work.style (colon_row column x) ys) d (filled_joined (entry_row column (codes "?") x) n xs))))
