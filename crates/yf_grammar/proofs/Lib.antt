@@ -69,6 +69,7 @@ pub mod Longest
 pub mod MeantLemmas
 pub mod NodeExact
 pub mod NodeExits
+pub mod NodePlaces
 pub mod NodesAnswered
 pub mod NodesBehind
 pub mod OneLine
@@ -80,6 +81,9 @@ pub mod PairKeys
 pub mod PairsBack
 pub mod ParserLemmas
 pub mod Parts
+pub mod PlacedLeaves
+pub mod PlacedNodes
+pub mod PlacedScalars
 pub mod PlainCut
 pub mod PlainEnds
 pub mod PlainStops

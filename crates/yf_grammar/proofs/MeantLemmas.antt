@@ -4,11 +4,11 @@ use Rattle.std.specs.Prelude.{is_some}
 use Rattle.yf_comments.specs.Comment.{CommentValue}
 use Rattle.yf_comments.proofs.GapLinesLemmas.{texts, texts_append}
 use Rattle.yf_props.specs.Props.{PropsValue, no_props}
-use Rattle.yf_events.specs.Alike.{Alike, alike_scalars, alike_aliases, alike_sequences, alike_mappings, AlikeItems, alike_nothing, alike_item, AlikePairs, alike_no_pairs, alike_pair}
+use Rattle.yf_events.specs.Alike.{Alike, alike_scalars, alike_aliases, alike_sequences, alike_mappings, alike_nothing, alike_item, alike_no_pairs, alike_pair}
 use Rattle.yf_events.specs.Event.{sequence_starts, sequence_ends, mapping_starts, mapping_ends}
 use Rattle.yf_events.specs.declared.event.Entry.{Entry}
 use Rattle.yf_events.specs.declared.event.ScalarStyle.TheVariants.{Plain}
-use Rattle.yf_events.specs.Tree.{Standing, Node, scalar as scalar_tree, alias as alias_tree, sequence, mapping, Items, no_items, item, Pairs, no_pairs, pair, placed, unplaced, flat, flat_items, flat_pairs}
+use Rattle.yf_events.specs.Tree.{Standing, Node, scalar as scalar_tree, alias as alias_tree, sequence, mapping, Items, no_items, item, Pairs, no_pairs, pair, placed, unplaced, flat}
 use Rattle.yf_grammar.specs.Meaning.{Meaning, ◌⊕◌, behind, noting, plain_event, from_to, empty_node, collection, with_props, first_entering, entering}
 use Rattle.yf_grammar.specs.Meant.{Anywhere, Meant, ItemsMeant, PairsMeant}
 
@@ -53,13 +53,13 @@ unfolding noting
 meant_noting cs a = record { node = a.node; alike = a.alike; events = a.events; escapes = a.escapes }
 
 -- the entry that it begins
-abbrev entered : Entry → Node → Node
+abbrev pub entered : Entry → Node → Node
 entered e (scalar_tree at props style text lines) = scalar_tree (record at { entry = Some e }) props style text lines
 entered e (alias_tree at name) = alias_tree (record at { entry = Some e }) name
 entered e (sequence at flow props xs) = sequence (record at { entry = Some e }) flow props xs
 entered e (mapping at flow props ps) = mapping (record at { entry = Some e }) flow props ps
 
-entered_events : (e : Entry) (x : Node) → first_entering e (flat x) ≡ flat (entered e x)
+pub entered_events : (e : Entry) (x : Node) → first_entering e (flat x) ≡ flat (entered e x)
 entered_events e (scalar_tree at props style text lines) = refl
 entered_events e (alias_tree at name) = refl
 entered_events e (sequence at flow props xs) = refl
