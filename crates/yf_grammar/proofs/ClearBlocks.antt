@@ -1,5 +1,5 @@
 -- What the reader of block nodes finds, whole or not, covers no forbidden line.
-use Rattle.std.proofs.Common.{◌≡◌, ◌≢◌, ℕ, ◌+◌, ◌<◌, ◌≤◌, ℤ, Bool, true, false, List, [], Option, Some, refl, sym, ap, ◌∙◌, subst, arith, true≢false}
+use Rattle.std.proofs.Common.{◌≡◌, ◌≢◌, ℕ, suc, ◌+◌, ◌<◌, ◌≤◌, ℤ, Bool, true, false, List, [], Option, Some, None, refl, sym, ap, ◌∙◌, subst, arith, true≢false}
 use Rattle.std.proofs.lemmas.Bool.Decides.{nat_tests}
 use Rattle.std.specs.Str.{IsUtf8}
 use Rattle.yf_chars.specs.Text.{code}
@@ -12,7 +12,7 @@ use Rattle.yf_comments.specs.Comment.{CommentValue}
 use Rattle.yf_comments.proofs.SeparateLemmas.{spaces_whites}
 use Rattle.yf_block_scalar.specs.declared.header.Header.{Header}
 use Rattle.yf_block_scalar.specs.declared.header.Chomp.{Chomp}
-use Rattle.yf_block_scalar.specs.Header.{BlockHeader, HeaderValue, Digit, Sign, Indicators}
+use Rattle.yf_block_scalar.specs.Header.{BlockHeader, HeaderValue, Style, Digit, Sign, Indicators}
 use Rattle.yf_block_scalar.specs.Header.BlockHeader.{block_header}
 use Rattle.yf_block_scalar.specs.Header.Style.{literal_sign, folded_sign}
 use Rattle.yf_block_scalar.specs.Header.Digit.{digit}
@@ -27,10 +27,12 @@ use Rattle.yf_grammar.specs.Meaning.{Meaning}
 use Rattle.yf_grammar.specs.Parser.{Found}
 use Rattle.yf_grammar.specs.BlockParser.{DashAt, NextEntry, next_item, next_pair, Ahead, BlockTask, Awaited, Below, Inline, Leaf, Items, Item, Whole, collected, item_found, lone_key, lone_value, pair_found}
 use Rattle.yf_grammar.specs.BlockParser as BlockParser
+use Rattle.yf_grammar.specs.Halts.{Alone, alone_to, alone_nowhere, PlainPart, plain_part, Halts}
+use Rattle.yf_grammar.specs.Halts as Halting
 use Rattle.yf_grammar.proofs.ClearLemmas.{clear_sign, quiet_nb, quiet_byte, clear_rest, clear_comments, clear_properties, found_is_clear}
 use Rattle.yf_grammar.proofs.NodeExits.{none_some}
 use Rattle.yf_grammar.proofs.BlockClaims.{line_whites, dash_ns}
-use Rattle.yf_grammar.proofs.OutcomeEnds.{collected_end, leaf_end, item_end, lone_key_end, lone_value_end, pair_end, items_end, alone_end, told_of}
+use Rattle.yf_grammar.proofs.OutcomeEnds.{collected_end, leaf_end, with_plain_end, item_end, lone_key_end, lone_value_end, pair_end, items_end, alone_end, told_of, then_of}
 use Rattle.yf_grammar.proofs.WholeSound.{next_spaces}
 
 -- a block scalar

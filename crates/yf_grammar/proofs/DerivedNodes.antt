@@ -1,6 +1,6 @@
 -- What the reader of block nodes finds where it is called, whole or up to its last halt, is a node that is derived within the
 -- limit and covers no forbidden line; so the last halt is the longest part.
-use Rattle.std.proofs.Common.{◌≡◌, ℕ, ◌≤◌, ℤ, true, false, List, [], Some, refl, sym, true≢false}
+use Rattle.std.proofs.Common.{◌≡◌, ℕ, ◌≤◌, ℤ, true, false, List, [], Option, Some, None, refl, sym, true≢false}
 use Rattle.std.specs.Str.{IsUtf8}
 use Rattle.yf_chars.specs.declared.context.Ctx.{Ctx}
 use Rattle.yf_chars.specs.Chain.{Chosen}

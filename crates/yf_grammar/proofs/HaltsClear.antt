@@ -1,9 +1,11 @@
 -- The last halt of the reader of block nodes covers no forbidden line.
-use Rattle.std.proofs.Common.{◌≡◌, ℕ, ◌+◌, ℤ, true, false, List, [], Option, Some, refl, arith}
+use Rattle.std.proofs.Common.{◌≡◌, ◌≢◌, ℕ, ◌+◌, ◌<◌, ◌≤◌, ℤ, true, false, List, [], Option, Some, None, refl, arith}
 use Rattle.std.specs.Str.{IsUtf8}
+use Rattle.yf_chars.specs.Chain.{Chosen}
 use Rattle.yf_lines.specs.Basic.{Clear}
 use Rattle.yf_lines.proofs.BasicLemmas.{clear_join}
 use Rattle.yf_lines.proofs.ClearLemmas.{clear_whites}
+use Rattle.yf_comments.specs.Comment.{CommentValue}
 use Rattle.yf_grammar.specs.Meaning.{Meaning}
 use Rattle.yf_grammar.specs.Parser.{Found}
 use Rattle.yf_grammar.specs.BlockParser.{Ahead, BlockTask, collected, item_found, lone_key, lone_value, pair_found}

@@ -1,5 +1,5 @@
 -- Leaves on one line, with properties or without, are derived wherever they stand.
-use Rattle.std.proofs.Common.{◌≡◌, ◌≢◌, ℕ, ◌+◌, ℤ, Bool, true, false, List, [], ◌∷◌, ◌++◌, length, refl, ap, subst, arith, append_assoc, append-nil, encode_utf8_all}
+use Rattle.std.proofs.Common.{◌≡◌, ◌≢◌, ℕ, ◌+◌, ℤ, Bool, true, false, List, [], ◌∷◌, ◌++◌, None, length, refl, ap, subst, arith, append_assoc, append-nil, encode_utf8_all}
 use Rattle.std.proofs.lemmas.List.{length-append}
 use Rattle.std.specs.Str.{IsUtf8}
 use lib.Utf8.{scalars}

@@ -84,6 +84,7 @@ pub mod Parts
 pub mod PlacedLeaves
 pub mod PlacedNodes
 pub mod PlacedScalars
+pub mod PlacesDerived
 pub mod PlainCut
 pub mod PlainEnds
 pub mod PlainStops

@@ -136,6 +136,23 @@ module _ {t : List ℕ} where
         ends = b.ends;
       }
 
+  pub pair_key_noting : {i j : ℕ} (x y : Meaning) (cs : List CommentValue) → PairAt t i j (x ⊕ y) → PairAt t i j (noting x cs ⊕ y)
+  unfolding noting ◌⊕◌
+  pair_key_noting x y cs a = record {
+    key = a.key;
+    value = a.value;
+    entry = a.entry;
+    key_end = a.key_end;
+    value_start = a.value_start;
+    begins = a.begins;
+    events = a.events;
+    order = a.order;
+    key_stands = a.key_stands;
+    colon = a.colon;
+    value_stands = a.value_stands;
+    ends = a.ends;
+  }
+
   pub pair_behind : {i j : ℕ} {x : Meaning} (cs : List CommentValue) → PairAt t i j x → PairAt t i j (behind cs x)
   unfolding behind
   pair_behind cs a = record {
@@ -214,38 +231,80 @@ entry_noting cs (a_pair a) = a_pair (record {
   ends = a.ends;
 })
 
+pub entries_behind : {t : List ℕ} {s : Bool} {i j : ℕ} {x : Meaning} (cs : List CommentValue) → EntriesAt t s i j x → EntriesAt t s i j (behind cs x)
+unfolding behind
+entries_behind cs (some_items a) = some_items (record { items = a.items; events = a.events; stands = a.stands; ends = a.ends })
+entries_behind cs (some_pairs a) = some_pairs (record { pairs = a.pairs; events = a.events; stands = a.stands; ends = a.ends })
+
+pub entries_none : {t : List ℕ} {i j : ℕ} (s : Bool) (cs : List CommentValue) → i ≤ j
+    → EntriesAt t s i j (record { events = []; comments = cs; escapes = []; finish = j })
+entries_none true cs l = some_items (record { items = no_items; events = refl; stands = no_items_stand l; ends = omega arith })
+entries_none false cs l = some_pairs (record { pairs = no_pairs; events = refl; stands = no_pairs_stand l; ends = omega arith })
+
+-- up to the finish alone
+pub node_narrow : {t : List ℕ} {i j : ℕ} {x : Meaning} → NodeAt t i j x → NodeAt t i x.finish x
+node_narrow a = record { node = a.node; events = a.events; stands = a.stands; ends = omega arith }
+
+pub pair_narrow : {t : List ℕ} {i j : ℕ} {x : Meaning} → PairAt t i j x → PairAt t i x.finish x
+pair_narrow a = record {
+  key = a.key;
+  value = a.value;
+  entry = a.entry;
+  key_end = a.key_end;
+  value_start = a.value_start;
+  begins = a.begins;
+  events = a.events;
+  order = a.order;
+  key_stands = a.key_stands;
+  colon = a.colon;
+  value_stands = a.value_stands;
+  ends = omega arith;
+}
+
+pub entries_narrow : {t : List ℕ} {s : Bool} {i j : ℕ} {x : Meaning} → EntriesAt t s i j x → EntriesAt t s i x.finish x
+entries_narrow (some_items a) = some_items (record { items = a.items; events = a.events; stands = a.stands; ends = omega arith })
+entries_narrow (some_pairs a) = some_pairs (record { pairs = a.pairs; events = a.events; stands = a.stands; ends = omega arith })
+
+pub entries_end : {t : List ℕ} {s : Bool} {i j : ℕ} {x : Meaning} → EntriesAt t s i j x → x.finish ≤ j
+entries_end (some_items a) = a.ends
+entries_end (some_pairs a) = a.ends
+
+pub entries_wider : {t : List ℕ} {s : Bool} {i j k : ℕ} {x : Meaning} → EntriesAt t s i j x → j ≤ k → EntriesAt t s i k x
+entries_wider (some_items a) l = some_items (record { items = a.items; events = a.events; stands = a.stands; ends = omega (arith, a.ends) })
+entries_wider (some_pairs a) l = some_pairs (record { pairs = a.pairs; events = a.events; stands = a.stands; ends = omega (arith, a.ends) })
+
 -- Collections, in flow style or not: from a to b, and with properties from f to g.
 
 abbrev spanned : ℕ → ℕ → Option ℕ → Standing
 spanned a b o = record { span = from_to a b; tag_offset = o; entry = None }
 
-pub collection_at : {t : List ℕ} {i k j a b : ℕ} {s : Bool} {x : Meaning} (flow : Bool) (cs : List CommentValue) → IsSpelled (scalar_node no_props Plain []) []
-    → Begins t i a → a ≤ k → EntriesAt t s k b x → b ≤ j → NodeAt t i j (collection s flow a b (behind cs x))
-unfolding collection plain_event from_to behind
-collection_at {a = a} {b = b} flow cs p v m (some_items e) n = record {
+pub collection_at : {t : List ℕ} {i k j a b : ℕ} {s : Bool} {x : Meaning} (flow : Bool) → IsSpelled (scalar_node no_props Plain []) []
+    → Begins t i a → a ≤ k → EntriesAt t s k b x → b ≤ j → NodeAt t i j (collection s flow a b x)
+unfolding collection plain_event from_to
+collection_at {a = a} {b = b} flow p v m (some_items e) n = record {
   node = sequence (spanned a b None) flow no_props e.items;
   events = ap (λ z. placed (spanned a b None) (sequence_starts flow no_props) [] ∷ (z ++ (unplaced sequence_ends ∷ []))) e.events;
   stands = sequence_stands refl v (items_upto (items_after m e.stands) e.ends) (omega arith) p;
   ends = n;
 }
-collection_at {a = a} {b = b} flow cs p v m (some_pairs e) n = record {
+collection_at {a = a} {b = b} flow p v m (some_pairs e) n = record {
   node = mapping (spanned a b None) flow no_props e.pairs;
   events = ap (λ z. placed (spanned a b None) (mapping_starts flow no_props) [] ∷ (z ++ (unplaced mapping_ends ∷ []))) e.events;
   stands = mapping_stands refl v (pairs_upto (pairs_after m e.stands) e.ends) (omega arith) p;
   ends = n;
 }
 
-pub collection_with : {t : List ℕ} {i k j f b : ℕ} {s : Bool} {x : Meaning} (flow : Bool) (cs : List CommentValue) (props : PropsValue) (o : Option ℕ) (g a : ℕ)
+pub collection_with : {t : List ℕ} {i k j f b : ℕ} {s : Bool} {x : Meaning} (flow : Bool) (props : PropsValue) (o : Option ℕ) (g a : ℕ)
     → IsSpelled (scalar_node props Plain []) [] → Begins t i f → f ≤ k → EntriesAt t s k b x → b ≤ j
-    → NodeAt t i j (with_props props o f g (collection s flow a b (behind cs x)))
-unfolding collection plain_event from_to behind with_props
-collection_with {f = f} {b = b} flow cs props o g a p v m (some_items e) n = record {
+    → NodeAt t i j (with_props props o f g (collection s flow a b x))
+unfolding collection plain_event from_to with_props
+collection_with {f = f} {b = b} flow props o g a p v m (some_items e) n = record {
   node = sequence (spanned f b o) flow props e.items;
   events = ap (λ z. placed (spanned f b o) (sequence_starts flow props) [] ∷ (z ++ (unplaced sequence_ends ∷ []))) e.events;
   stands = sequence_stands refl v (items_upto (items_after m e.stands) e.ends) (omega arith) p;
   ends = n;
 }
-collection_with {f = f} {b = b} flow cs props o g a p v m (some_pairs e) n = record {
+collection_with {f = f} {b = b} flow props o g a p v m (some_pairs e) n = record {
   node = mapping (spanned f b o) flow props e.pairs;
   events = ap (λ z. placed (spanned f b o) (mapping_starts flow props) [] ∷ (z ++ (unplaced mapping_ends ∷ []))) e.events;
   stands = mapping_stands refl v (pairs_upto (pairs_after m e.stands) e.ends) (omega arith) p;

@@ -2,7 +2,7 @@
 -- characters of the text t from i to j with the meaning x, and that h collections are open at once at most (a single
 -- pair counts as a mapping). n is an indentation, from -1; c is a context; m is the column of the entries of a block
 -- collection. Flow nodes: YAML 1.2.2, chapter 7; block nodes: chapter 8.
-use Rattle.std.specs.Prelude.{◌≡◌, ℕ, suc, max, ◌+◌, ◌-◌, ◌≤◌, ℤ, pos, ◌+ℤ◌, ◌≤ℤ◌, Bool, true, false, List, [], ◌++◌, Some, None, length, take, drop, encode_utf8_all}
+use Rattle.std.specs.Prelude.{◌≡◌, ℕ, suc, max, ◌+◌, ◌-◌, ◌≤◌, ℤ, pos, ◌+ℤ◌, ◌≤ℤ◌, Bool, true, false, List, [], ◌∷◌, ◌++◌, Some, None, length, take, drop, encode_utf8_all}
 use Rattle.std.specs.Str.{chars}
 use Rattle.yf_chars.specs.declared.context.Ctx.{Ctx}
 use Rattle.yf_chars.specs.declared.context.Ctx.TheVariants.{BlockOut, BlockIn, FlowOut, FlowIn, BlockKey, FlowKey}

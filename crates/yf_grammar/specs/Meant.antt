@@ -1,5 +1,5 @@
 -- What a production means as trees: trees whose events it has, and that differ from given ones by nothing but where their nodes stand.
-use Rattle.std.specs.Prelude.{◌≡◌, ℕ, suc, max, []}
+use Rattle.std.specs.Prelude.{◌≡◌, ℕ, suc, max, List, []}
 use Rattle.yf_events.specs.Alike.{Alike, AlikeItems, AlikePairs}
 use Rattle.yf_events.specs.Tree.{Node, scalar, alias, sequence, mapping, Items, no_items, item, Pairs, no_pairs, pair, flat, flat_items, flat_pairs}
 use Rattle.yf_grammar.specs.Meaning.{Meaning}
