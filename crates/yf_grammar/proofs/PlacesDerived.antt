@@ -1,5 +1,5 @@
 -- Each node that is derived is a tree whose nodes stand in order in the text, and whose scalars are spelled there.
-use Rattle.std.proofs.Common.{◌≡◌, ◌≢◌, ℕ, suc, ℤ, pos, ◌+◌, ◌<◌, ◌≤◌, Bool, true, false, List, [], ◌∷◌, ◌++◌, Option, Some, None, refl, sym, ap, ◌∙◌, arith}
+use Rattle.std.proofs.Common.{◌≡◌, ℕ, ℤ, ◌+◌, ◌<◌, ◌≤◌, Bool, true, false, List, [], ◌++◌, Some, None, refl, ap, ◌∙◌, arith}
 use Rattle.std.specs.Prelude.{encode_utf8_all}
 use Rattle.std.specs.Str.{IsUtf8}
 use Rattle.yf_chars.specs.declared.context.Ctx.{Ctx}
@@ -11,7 +11,7 @@ use Rattle.yf_props.specs.Names.{Properties, PropertiesValue}
 use Rattle.yf_props.proofs.SeparationEnds.{separate_forward}
 use Rattle.yf_quoted.specs.Quoted.{text_of, bad_escapes}
 use Rattle.yf_events.specs.declared.event.ScalarStyle.TheVariants.{Plain, Single, Double}
-use Rattle.yf_grammar.specs.Meaning.{Meaning, ◌⊕◌, behind, noting, scalar, alias_to, empty_node, collection, with_props, entering}
+use Rattle.yf_grammar.specs.Meaning.{Meaning, behind, collection, with_props, entering}
 use Rattle.yf_grammar.specs.Grammar.{Production, FlowNode, NodeOf, JsonContent, Entries, Entry, Pair, Explicit, Implicit, ValueOf, KeyOf, BlockNode, BlockEntries, BlockEntry, BlockIndented, BlockValue, Derives, opening}
 use Rattle.yf_grammar.specs.Grammar.Derives.{flow_node, an_alias, a_plain, a_plain_with, properties_alone, a_json, a_json_with, a_single, a_double, an_empty_collection, a_collection, last_entry, last_entry_with_comma, more_entries, a_node_entry, a_pair_entry, an_explicit_entry, an_implicit_entry, an_explicit_pair, a_keyed_pair, an_unkeyed_pair, explicit_with, explicit_without, key_alone, key_and_value, value_alone, empty_value, a_value, a_key, a_block_scalar, a_block_scalar_with, a_block_collection, a_block_collection_with, flow_in_block, a_last_entry, an_entry_before, a_dash_entry, an_explicit_entry_with, an_explicit_key_alone, a_keyed_entry, an_unkeyed_entry, a_block_value, an_empty_block_value, a_compact_collection, an_indented_node, nothing_indented}
 use Rattle.yf_grammar.proofs.BlockStarts.{block_starts, line_end_forward}
