@@ -72,6 +72,7 @@ pub mod NodeExits
 pub mod NodePlaces
 pub mod NodesAnswered
 pub mod NodesBehind
+pub mod NotedNodes
 pub mod OneLine
 pub mod OneScalars
 pub mod Outcome
