@@ -1,4 +1,6 @@
 pub mod CommentSigns
+pub mod DirectiveOrder
+pub mod DocumentPlaces
 pub mod Forward
 pub mod LawsHold
 pub mod NoPercent
@@ -8,6 +10,7 @@ pub mod OneStream
 pub mod PlaceLawsHold
 pub mod ReadingOrder
 pub mod ReadingSigns
+pub mod ReadingTrees
 pub mod ShownEmpty
 pub mod ShownItem
 pub mod ShownLaws
