@@ -68,7 +68,7 @@ module _ {t : List ℕ} where
   marks_forward (digit_sign d s) = let f = digit_forward d in let g = sign_forward s in omega arith
   marks_forward (sign_digit s d) = let f = sign_forward s in let g = digit_forward d in omega arith
 
-  header_later : {i j : ℕ} {h : HeaderValue} → BlockHeader t i j h → i < j
+  pub header_later : {i j : ℕ} {h : HeaderValue} → BlockHeader t i j h → i < j
   header_later (block_header s m r) = let f = style_later s in let g = marks_forward m in let h = rest_forward r in omega arith
 
   taken_forward : {k i p count : ℕ} {ls : List (List ℕ)} {o : Bool} → Taken t k i ls o count p → i ≤ p

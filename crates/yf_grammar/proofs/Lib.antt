@@ -77,8 +77,10 @@ pub mod Longest
 pub mod MeantLemmas
 pub mod NodeExact
 pub mod NodeExits
+pub mod NodePlaces
 pub mod NodesAnswered
 pub mod NodesBehind
+pub mod NotedNodes
 pub mod OneLine
 pub mod OneScalars
 pub mod Outcome
@@ -88,6 +90,10 @@ pub mod PairKeys
 pub mod PairsBack
 pub mod ParserLemmas
 pub mod Parts
+pub mod PlacedLeaves
+pub mod PlacedNodes
+pub mod PlacedScalars
+pub mod PlacesDerived
 pub mod PlainCut
 pub mod PlainEnds
 pub mod PlainStops

@@ -53,13 +53,13 @@ unfolding noting
 meant_noting cs a = record { node = a.node; alike = a.alike; events = a.events; escapes = a.escapes }
 
 -- the entry that it begins
-abbrev entered : Entry → Node → Node
+abbrev pub entered : Entry → Node → Node
 entered e (scalar_tree at props style text lines) = scalar_tree (record at { entry = Some e }) props style text lines
 entered e (alias_tree at name) = alias_tree (record at { entry = Some e }) name
 entered e (sequence at flow props xs) = sequence (record at { entry = Some e }) flow props xs
 entered e (mapping at flow props ps) = mapping (record at { entry = Some e }) flow props ps
 
-entered_events : (e : Entry) (x : Node) → first_entering e (flat x) ≡ flat (entered e x)
+pub entered_events : (e : Entry) (x : Node) → first_entering e (flat x) ≡ flat (entered e x)
 entered_events e (scalar_tree at props style text lines) = refl
 entered_events e (alias_tree at name) = refl
 entered_events e (sequence at flow props xs) = refl

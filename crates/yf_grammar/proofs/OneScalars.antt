@@ -72,7 +72,7 @@ module _ {t : List ℕ} where
       let f : length (ms ++ z) ≡ length ms = sym (ap length e) ∙ l in
       sym (no_lines c (omega (arith, length-append ms z)))
 
-  lines_one : {c d i j k : ℕ} → c ≡ d → LinesBetween t c i j → LinesBetween t d i k → k ≡ j
+  pub lines_one : {c d i j k : ℕ} → c ≡ d → LinesBetween t c i j → LinesBetween t d i k → k ≡ j
   lines_one e (counted a l) (counted b m) = lines_meet (chain_meet (line_functional t) a b) (l ∙ e ∙ sym m)
 
 scalar_meaning : ℕ → ℕ → HeaderValue → BodyValue → Meaning

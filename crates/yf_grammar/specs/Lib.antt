@@ -14,4 +14,5 @@ pub mod Meant
 pub mod Parser
 pub mod Part
 pub mod Refusal
+pub mod Spelled
 pub mod Unmarked

@@ -1,3 +1,5 @@
+pub mod DirectiveOrder
+pub mod DocumentPlaces
 pub mod Forward
 pub mod LawsHold
 pub mod NoPercent
@@ -6,6 +8,7 @@ pub mod OneReading
 pub mod OneStream
 pub mod PlaceLawsHold
 pub mod ReadingOrder
+pub mod ReadingTrees
 pub mod ShownEmpty
 pub mod ShownItem
 pub mod ShownLaws

@@ -1,4 +1,5 @@
 pub mod Laws
+pub mod NodeLaws
 pub mod PlaceLaws
 pub mod ReadingOf
 pub mod Refusal

@@ -1,0 +1,113 @@
+-- The nodes of a tree stand in a text in order: each begins at a visible character, what is in it stands between its beginning and its end,
+-- an entry begins before its node, and its `:` stands between key and value.
+use Rattle.std.proofs.Common.{◌≡◌, ◌≢◌, ℕ, ◌<◌, ◌≤◌, Bool, List, [], length, Option, Some, None, arith}
+use Rattle.yf_props.specs.Props.{PropsValue, TagValue, no_props}
+use Rattle.yf_events.specs.Event.{scalar_node, alias_node}
+use Rattle.yf_events.specs.declared.event.Entry.{Entry}
+use Rattle.yf_events.specs.declared.event.ScalarStyle.{ScalarStyle}
+use Rattle.yf_events.specs.declared.event.ScalarStyle.TheVariants.{Plain}
+use Rattle.yf_events.specs.Tree.{Standing, Node, scalar as scalar_tree, alias as alias_tree, sequence, mapping, Items, no_items, item, Pairs, no_pairs, pair, standing}
+use Rattle.yf_grammar.specs.Meaning.{from_to}
+use Rattle.yf_grammar.specs.Spelled.{IsSpelled}
+use Rattle.yf_grammar.proofs.GapLemmas.{Visible}
+
+-- with a tag or an anchor
+pub data HasProps : PropsValue → Type 0 where
+  has_tag : {anchor : Option (List ℕ)} {tag : TagValue} → HasProps (record { anchor = anchor; tag = Some tag })
+  has_anchor : {name : List ℕ} {tag : Option TagValue} → HasProps (record { anchor = Some name; tag = tag })
+
+-- a scalar that is no empty node
+pub data HasCharacters : PropsValue → ScalarStyle → List ℕ → Type 0 where
+  by_props : {props : PropsValue} {style : ScalarStyle} {text : List ℕ} → HasProps props → HasCharacters props style text
+  by_text : {props : PropsValue} {style : ScalarStyle} {text : List ℕ} → 0 < length text → HasCharacters props style text
+  by_style : {props : PropsValue} {style : ScalarStyle} {text : List ℕ} → style ≢ Plain → HasCharacters props style text
+
+-- a node begins at a place or after it, with a visible character
+pub record Begins (t : List ℕ) (i a : ℕ) : Type 0 where
+  pub order : i ≤ a
+  pub visible : Visible t a
+
+-- a `:` that may be missing
+pub data ColonStands : ℕ → ℕ → Option ℕ → Type 0 where
+  no_colon : {i j : ℕ} → i ≤ j → ColonStands i j None
+  a_colon : {i j k : ℕ} → i ≤ k → k ≤ j → ColonStands i j (Some k)
+
+mutual
+  pub data NodeStands (t : List ℕ) : ℕ → ℕ → Node → Type 0 where
+    stands_nowhere : {i j : ℕ} {at : Standing} → i ≤ j → at.span ≡ None → NodeStands t i j (scalar_tree at no_props Plain [] [])
+    scalar_stands : {i a b j : ℕ} {at : Standing} {props : PropsValue} {style : ScalarStyle} {text : List ℕ} {lines : List (List ℕ)}
+        → at.span ≡ from_to a b → Begins t i a → a ≤ b → b ≤ j → HasCharacters props style text
+        → IsSpelled (scalar_node props style text) lines → NodeStands t i j (scalar_tree at props style text lines)
+    alias_stands : {i a b j : ℕ} {at : Standing} {name : List ℕ} → at.span ≡ from_to a b → Begins t i a → a ≤ b → b ≤ j
+        → IsSpelled (alias_node name) [] → NodeStands t i j (alias_tree at name)
+    sequence_stands : {i a b j : ℕ} {at : Standing} {flow : Bool} {props : PropsValue} {xs : Items} → at.span ≡ from_to a b → Begins t i a
+        → ItemsStand t a b xs → b ≤ j → IsSpelled (scalar_node props Plain []) [] → NodeStands t i j (sequence at flow props xs)
+    mapping_stands : {i a b j : ℕ} {at : Standing} {flow : Bool} {props : PropsValue} {ps : Pairs} → at.span ≡ from_to a b → Begins t i a
+        → PairsStand t a b ps → b ≤ j → IsSpelled (scalar_node props Plain []) [] → NodeStands t i j (mapping at flow props ps)
+
+  pub data ItemsStand (t : List ℕ) : ℕ → ℕ → Items → Type 0 where
+    no_items_stand : {i j : ℕ} → i ≤ j → ItemsStand t i j no_items
+    item_stands : {i k j : ℕ} {x : Node} {xs : Items} (e : Entry) → (standing x).entry ≡ Some e → i ≤ e.start → NodeStands t e.start k x
+        → ItemsStand t k j xs → ItemsStand t i j (item x xs)
+
+  pub data PairsStand (t : List ℕ) : ℕ → ℕ → Pairs → Type 0 where
+    no_pairs_stand : {i j : ℕ} → i ≤ j → PairsStand t i j no_pairs
+    pair_stands : {i l m n j : ℕ} {k v : Node} {ps : Pairs} (e : Entry) → (standing k).entry ≡ Some e → i ≤ e.start
+        → NodeStands t e.start l k → ColonStands l m e.colon → NodeStands t m n v → PairsStand t n j ps → PairsStand t i j (pair k v ps)
+
+colon_order : {i j : ℕ} {c : Option ℕ} → ColonStands i j c → i ≤ j
+colon_order (no_colon l) = l
+colon_order (a_colon l m) = omega arith
+
+-- Wider bounds.
+
+module _ {t : List ℕ} where
+  begins_after : {h i a : ℕ} → h ≤ i → Begins t i a → Begins t h a
+  begins_after l b = record { order = omega (arith, b.order); visible = b.visible }
+
+  pub node_after : {h i j : ℕ} {x : Node} → h ≤ i → NodeStands t i j x → NodeStands t h j x
+  node_after l (stands_nowhere m e) = stands_nowhere (omega arith) e
+  node_after l (scalar_stands e b m n w s) = scalar_stands e (begins_after l b) m n w s
+  node_after l (alias_stands e b m n s) = alias_stands e (begins_after l b) m n s
+  node_after l (sequence_stands e b m n s) = sequence_stands e (begins_after l b) m n s
+  node_after l (mapping_stands e b m n s) = mapping_stands e (begins_after l b) m n s
+
+  pub node_upto : {i j k : ℕ} {x : Node} → NodeStands t i j x → j ≤ k → NodeStands t i k x
+  node_upto (stands_nowhere m e) l = stands_nowhere (omega arith) e
+  node_upto (scalar_stands e b m n w s) l = scalar_stands e b m (omega arith) w s
+  node_upto (alias_stands e b m n s) l = alias_stands e b m (omega arith) s
+  node_upto (sequence_stands e b m n s) l = sequence_stands e b m (omega arith) s
+  node_upto (mapping_stands e b m n s) l = mapping_stands e b m (omega arith) s
+
+  pub items_after : {h i j : ℕ} {xs : Items} → h ≤ i → ItemsStand t i j xs → ItemsStand t h j xs
+  items_after l (no_items_stand m) = no_items_stand (omega arith)
+  items_after l (item_stands e q m a b) = item_stands e q (omega arith) a b
+
+  pub items_upto : {i j k : ℕ} {xs : Items} → ItemsStand t i j xs → j ≤ k → ItemsStand t i k xs
+  items_upto (no_items_stand m) l = no_items_stand (omega arith)
+  items_upto (item_stands e q m a b) l = item_stands e q m a (items_upto b l)
+
+  pub pairs_after : {h i j : ℕ} {ps : Pairs} → h ≤ i → PairsStand t i j ps → PairsStand t h j ps
+  pairs_after l (no_pairs_stand m) = no_pairs_stand (omega arith)
+  pairs_after l (pair_stands e q m a c b d) = pair_stands e q (omega arith) a c b d
+
+  pub pairs_upto : {i j k : ℕ} {ps : Pairs} → PairsStand t i j ps → j ≤ k → PairsStand t i k ps
+  pairs_upto (no_pairs_stand m) l = no_pairs_stand (omega arith)
+  pairs_upto (pair_stands e q m a c b d) l = pair_stands e q m a c b (pairs_upto d l)
+
+mutual
+  pub node_order : {t : List ℕ} {i j : ℕ} {x : Node} → NodeStands t i j x → i ≤ j
+  node_order (stands_nowhere m e) = m
+  node_order (scalar_stands e b m n w s) = omega (arith, b.order)
+  node_order (alias_stands e b m n s) = omega (arith, b.order)
+  node_order (sequence_stands e b m n s) = let l = items_order m in omega (arith, b.order)
+  node_order (mapping_stands e b m n s) = let l = pairs_order m in omega (arith, b.order)
+
+  pub items_order : {t : List ℕ} {i j : ℕ} {xs : Items} → ItemsStand t i j xs → i ≤ j
+  items_order (no_items_stand m) = m
+  items_order (item_stands e q m a b) = let k = node_order a in let l = items_order b in omega arith
+
+  pub pairs_order : {t : List ℕ} {i j : ℕ} {ps : Pairs} → PairsStand t i j ps → i ≤ j
+  pairs_order (no_pairs_stand m) = m
+  pairs_order (pair_stands e q m a c b d) =
+      let k = node_order a in let l = colon_order c in let n = node_order b in let o = pairs_order d in omega arith

@@ -1,0 +1,173 @@
+-- Notes on blank lines leave the nodes of a tree where they stand.
+use Rattle.std.proofs.Common.{◌≡◌, ℕ, Bool, List, [], ◌∷◌, ◌++◌, Option, Some, None, refl, sym, ap, ◌∙◌, subst, append_assoc}
+use Rattle.yf_events.specs.Event.{Placed, scalar_node, alias_node, sequence_starts, sequence_ends, mapping_starts, mapping_ends}
+use Rattle.yf_events.specs.declared.event.Entry.{Entry}
+use Rattle.yf_events.specs.declared.event.ScalarStyle.TheVariants.{Plain}
+use Rattle.yf_events.specs.Tree.{Standing, Node, scalar as scalar_tree, alias as alias_tree, sequence, mapping, Items, no_items, item, Pairs, no_pairs, pair, placed, unplaced, standing, flat, flat_items, flat_pairs}
+use Rattle.yf_props.specs.Props.{no_props}
+use Rattle.yf_grammar.specs.Part.{Noting, no_event, without_entry, with_entry}
+use Rattle.yf_grammar.proofs.NodePlaces.{NodeStands, stands_nowhere, scalar_stands, alias_stands, sequence_stands, mapping_stands, ItemsStand, no_items_stand, item_stands, PairsStand, no_pairs_stand, pair_stands}
+
+-- an entry with some note
+pub record KeptEntry (e : Entry) (o : Option Entry) : Type 0 where
+  pub blank : Bool
+  pub is : o ≡ Some (record e { blank_before = blank })
+
+-- the first event, and the others
+record NotedFirst (t : List ℕ) (e : Placed) (rest ys : List Placed) : Type 0 where
+  at : Standing
+  span : at.span ≡ e.span
+  entry : (f : Entry) → e.entry ≡ Some f → KeptEntry f at.entry
+  more : List Placed
+  floor : ℕ
+  is : ys ≡ placed at e.event e.folded ∷ more
+  noting : Noting t floor rest more
+
+-- an event without an entry
+pub record NotedPlain (t : List ℕ) (e : Placed) (rest ys : List Placed) : Type 0 where
+  pub more : List Placed
+  pub floor : ℕ
+  pub is : ys ≡ e ∷ more
+  pub noting : Noting t floor rest more
+
+pub record NotedNode (t : List ℕ) (i j : ℕ) (x : Node) (rest ys : List Placed) : Type 0 where
+  pub node : Node
+  pub stands : NodeStands t i j node
+  pub entry : (f : Entry) → (standing x).entry ≡ Some f → KeptEntry f (standing node).entry
+  pub more : List Placed
+  pub floor : ℕ
+  pub is : ys ≡ flat node ++ more
+  pub noting : Noting t floor rest more
+
+record NotedItems (t : List ℕ) (i j : ℕ) (rest ys : List Placed) : Type 0 where
+  items : Items
+  stand : ItemsStand t i j items
+  more : List Placed
+  floor : ℕ
+  is : ys ≡ flat_items items ++ more
+  noting : Noting t floor rest more
+
+record NotedPairs (t : List ℕ) (i j : ℕ) (rest ys : List Placed) : Type 0 where
+  pairs : Pairs
+  stand : PairsStand t i j pairs
+  more : List Placed
+  floor : ℕ
+  is : ys ≡ flat_pairs pairs ++ more
+  noting : Noting t floor rest more
+
+same_entry : (e f : Entry) (o : Option Entry) → o ≡ Some e → o ≡ Some f → e ≡ f
+same_entry e f o p q = cc
+
+noted_same : (b : Bool) (e f : Entry) → e ≡ f → Some (record e { blank_before = b }) ≡ Some (record f { blank_before = b })
+noted_same b e f q = λ i. Some (record { start = (q i).start; colon = (q i).colon; blank_before = b })
+
+module _ {t : List ℕ} where
+  noted_first : {floor : ℕ} {e : Placed} {rest ys : List Placed} → Noting t floor (e ∷ rest) ys → NotedFirst t e rest ys
+  noted_first {e = e} (without_entry q n) = record {
+    at = record { span = e.span; tag_offset = e.tag_offset; entry = e.entry };
+    span = refl;
+    entry = λ f p. absurd cc;
+    more = _;
+    floor = _;
+    is = refl;
+    noting = n;
+  }
+  noted_first {e = e} (with_entry {b = b} entry q s n) = record {
+    at = record { span = e.span; tag_offset = e.tag_offset; entry = Some (record entry { blank_before = b }) };
+    span = refl;
+    entry = λ f p. record { blank = b; is = noted_same b entry f (same_entry entry f e.entry q p) };
+    more = _;
+    floor = _;
+    is = refl;
+    noting = n;
+  }
+
+  pub noted_plain : {floor : ℕ} {e : Placed} {rest ys : List Placed} → e.entry ≡ None → Noting t floor (e ∷ rest) ys → NotedPlain t e rest ys
+  noted_plain p (without_entry q n) = record { more = _; floor = _; is = refl; noting = n }
+  noted_plain p (with_entry entry q s n) = absurd cc
+
+  regrouped : {floor : ℕ} {ys : List Placed} (x y z : List Placed) → Noting t floor ((x ++ y) ++ z) ys → Noting t floor (x ++ (y ++ z)) ys
+  regrouped {floor = floor} {ys = ys} x y z n = subst (λ w. Noting t floor w ys) (append_assoc x y z) n
+
+-- how the events of a collection, of an item and of a pair are joined
+
+enclosed : (ys more more2 more3 inner : List Placed) (first last : Placed) → ys ≡ first ∷ more → more ≡ inner ++ more2 → more2 ≡ last ∷ more3
+    → ys ≡ (first ∷ (inner ++ (last ∷ []))) ++ more3
+enclosed ys more more2 more3 inner first last e f g =
+    let whole : ys ≡ first ∷ (inner ++ (last ∷ more3)) = cc in whole ∙ ap (λ z. first ∷ z) (sym (append_assoc inner (last ∷ []) more3))
+
+two : (ys more more2 x y : List Placed) → ys ≡ x ++ more → more ≡ y ++ more2 → ys ≡ (x ++ y) ++ more2
+two ys more more2 x y e f = let whole : ys ≡ x ++ (y ++ more2) = cc in whole ∙ sym (append_assoc x y more2)
+
+mutual
+  pub noted_node : {t : List ℕ} {i j floor : ℕ} {x : Node} {rest ys : List Placed} → NodeStands t i j x → Noting t floor (flat x ++ rest) ys
+      → NotedNode t i j x rest ys
+  noted_node (stands_nowhere m q) n =
+      let f = noted_first n in
+      record { node = scalar_tree f.at no_props Plain [] []; stands = stands_nowhere m (f.span ∙ q); entry = f.entry; more = f.more; floor = f.floor; is = f.is; noting = f.noting }
+  noted_node (scalar_stands {props = props} {style = style} {text = text} {lines = lines} q b l m w s) n =
+      let f = noted_first n in
+      record { node = scalar_tree f.at props style text lines; stands = scalar_stands (f.span ∙ q) b l m w s; entry = f.entry; more = f.more; floor = f.floor; is = f.is; noting = f.noting }
+  noted_node (alias_stands {name = name} q b l m s) n =
+      let f = noted_first n in
+      record { node = alias_tree f.at name; stands = alias_stands (f.span ∙ q) b l m s; entry = f.entry; more = f.more; floor = f.floor; is = f.is; noting = f.noting }
+  noted_node {rest = rest} {ys = ys} (sequence_stands {flow = flow} {props = props} {xs = xs} q b a m s) n =
+      let f = noted_first n in
+      let inner = noted_items a (regrouped (flat_items xs) (unplaced sequence_ends ∷ []) rest f.noting) in
+      let last = noted_plain refl inner.noting in
+      record {
+        node = sequence f.at flow props inner.items;
+        stands = sequence_stands (f.span ∙ q) b inner.stand m s;
+        entry = f.entry;
+        more = last.more;
+        floor = last.floor;
+        is = enclosed ys f.more inner.more last.more (flat_items inner.items) (placed f.at (sequence_starts flow props) []) (unplaced sequence_ends) f.is inner.is last.is;
+        noting = last.noting;
+      }
+  noted_node {rest = rest} {ys = ys} (mapping_stands {flow = flow} {props = props} {ps = ps} q b a m s) n =
+      let f = noted_first n in
+      let inner = noted_pairs a (regrouped (flat_pairs ps) (unplaced mapping_ends ∷ []) rest f.noting) in
+      let last = noted_plain refl inner.noting in
+      record {
+        node = mapping f.at flow props inner.pairs;
+        stands = mapping_stands (f.span ∙ q) b inner.stand m s;
+        entry = f.entry;
+        more = last.more;
+        floor = last.floor;
+        is = enclosed ys f.more inner.more last.more (flat_pairs inner.pairs) (placed f.at (mapping_starts flow props) []) (unplaced mapping_ends) f.is inner.is last.is;
+        noting = last.noting;
+      }
+
+  noted_items : {t : List ℕ} {i j floor : ℕ} {xs : Items} {rest ys : List Placed} → ItemsStand t i j xs → Noting t floor (flat_items xs ++ rest) ys
+      → NotedItems t i j rest ys
+  noted_items (no_items_stand m) n = record { items = no_items; stand = no_items_stand m; more = _; floor = _; is = refl; noting = n }
+  noted_items {rest = rest} {ys = ys} (item_stands {x = x} {xs = xs} e q m a b) n =
+      let first = noted_node a (regrouped (flat x) (flat_items xs) rest n) in
+      let others = noted_items b first.noting in
+      let entry = first.entry e q in
+      record {
+        items = item first.node others.items;
+        stand = item_stands (record e { blank_before = entry.blank }) entry.is m first.stands others.stand;
+        more = others.more;
+        floor = others.floor;
+        is = two ys first.more others.more (flat first.node) (flat_items others.items) first.is others.is;
+        noting = others.noting;
+      }
+
+  noted_pairs : {t : List ℕ} {i j floor : ℕ} {ps : Pairs} {rest ys : List Placed} → PairsStand t i j ps → Noting t floor (flat_pairs ps ++ rest) ys
+      → NotedPairs t i j rest ys
+  noted_pairs (no_pairs_stand m) n = record { pairs = no_pairs; stand = no_pairs_stand m; more = _; floor = _; is = refl; noting = n }
+  noted_pairs {rest = rest} {ys = ys} (pair_stands {k = k} {v = v} {ps = ps} e q m a c b d) n =
+      let key = noted_node a (regrouped (flat k) (flat v ++ flat_pairs ps) rest n) in
+      let value = noted_node b (regrouped (flat v) (flat_pairs ps) rest key.noting) in
+      let others = noted_pairs d value.noting in
+      let entry = key.entry e q in
+      record {
+        pairs = pair key.node value.node others.pairs;
+        stand = pair_stands (record e { blank_before = entry.blank }) entry.is m key.stands c value.stands others.stand;
+        more = others.more;
+        floor = others.floor;
+        is = two ys key.more others.more (flat key.node) (flat value.node ++ flat_pairs others.pairs) key.is
+            (two key.more value.more others.more (flat value.node) (flat_pairs others.pairs) value.is others.is);
+        noting = others.noting;
+      }

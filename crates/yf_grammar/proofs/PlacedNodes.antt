@@ -1,0 +1,312 @@
+-- The trees that the parts of a production mean make up the tree that it means, with their nodes in order.
+use Rattle.std.proofs.Common.{◌≡◌, ℕ, ◌≤◌, Bool, true, false, List, [], ◌∷◌, ◌++◌, Option, Some, None, refl, sym, ap, ◌∙◌, append_assoc, append-nil, arith}
+use Rattle.yf_comments.specs.Comment.{CommentValue}
+use Rattle.yf_props.specs.Props.{PropsValue, no_props}
+use Rattle.yf_events.specs.Event.{scalar_node, sequence_starts, sequence_ends, mapping_starts, mapping_ends}
+use Rattle.yf_events.specs.declared.event.Entry.{Entry}
+use Rattle.yf_events.specs.declared.event.ScalarStyle.TheVariants.{Plain}
+use Rattle.yf_events.specs.Tree.{Standing, Node, scalar as scalar_tree, alias as alias_tree, sequence, mapping, Items, no_items, item, Pairs, no_pairs, pair, placed, unplaced, standing, flat, flat_items, flat_pairs}
+use Rattle.yf_grammar.specs.Meaning.{Meaning, ◌⊕◌, behind, noting, plain_event, from_to, empty_node, collection, with_props, first_entering, entering}
+use Rattle.yf_grammar.specs.Spelled.{IsSpelled}
+use Rattle.yf_grammar.proofs.MeantLemmas.{entered, entered_events}
+use Rattle.yf_grammar.proofs.NodePlaces.{Begins, ColonStands, NodeStands, stands_nowhere, scalar_stands, alias_stands, sequence_stands, mapping_stands, ItemsStand, no_items_stand, item_stands, PairsStand, no_pairs_stand, pair_stands, node_after, node_upto, items_after, items_upto, pairs_after, pairs_upto}
+
+-- What a production means that begins at i and ends at j: a node, the items of a sequence, the pairs of a mapping, and one of them. They end
+-- where the meaning has its finish.
+
+pub record NodeAt (t : List ℕ) (i j : ℕ) (x : Meaning) : Type 0 where
+  pub node : Node
+  pub events : x.events ≡ flat node
+  pub stands : NodeStands t i x.finish node
+  pub ends : x.finish ≤ j
+
+pub record ItemAt (t : List ℕ) (i j : ℕ) (x : Meaning) : Type 0 where
+  pub node : Node
+  pub entry : Entry
+  pub begins : (standing node).entry ≡ Some entry
+  pub events : x.events ≡ flat node
+  pub order : i ≤ entry.start
+  pub stands : NodeStands t entry.start x.finish node
+  pub ends : x.finish ≤ j
+
+pub record PairAt (t : List ℕ) (i j : ℕ) (x : Meaning) : Type 0 where
+  pub key : Node
+  pub value : Node
+  pub entry : Entry
+  pub key_end : ℕ
+  pub value_start : ℕ
+  pub begins : (standing key).entry ≡ Some entry
+  pub events : x.events ≡ flat key ++ flat value
+  pub order : i ≤ entry.start
+  pub key_stands : NodeStands t entry.start key_end key
+  pub colon : ColonStands key_end value_start entry.colon
+  pub value_stands : NodeStands t value_start x.finish value
+  pub ends : x.finish ≤ j
+
+pub record ItemsAt (t : List ℕ) (i j : ℕ) (x : Meaning) : Type 0 where
+  pub items : Items
+  pub events : x.events ≡ flat_items items
+  pub stands : ItemsStand t i x.finish items
+  pub ends : x.finish ≤ j
+
+pub record PairsAt (t : List ℕ) (i j : ℕ) (x : Meaning) : Type 0 where
+  pub pairs : Pairs
+  pub events : x.events ≡ flat_pairs pairs
+  pub stands : PairsStand t i x.finish pairs
+  pub ends : x.finish ≤ j
+
+-- by the kind of collection: true is a sequence
+pub data EntryAt (t : List ℕ) : Bool → ℕ → ℕ → Meaning → Type 0 where
+  an_item : {i j : ℕ} {x : Meaning} → ItemAt t i j x → EntryAt t true i j x
+  a_pair : {i j : ℕ} {x : Meaning} → PairAt t i j x → EntryAt t false i j x
+
+pub data EntriesAt (t : List ℕ) : Bool → ℕ → ℕ → Meaning → Type 0 where
+  some_items : {i j : ℕ} {x : Meaning} → ItemsAt t i j x → EntriesAt t true i j x
+  some_pairs : {i j : ℕ} {x : Meaning} → PairsAt t i j x → EntriesAt t false i j x
+
+entered_standing : (e : Entry) (x : Node) → (standing (entered e x)).entry ≡ Some e
+entered_standing e (scalar_tree at props style text lines) = refl
+entered_standing e (alias_tree at name) = refl
+entered_standing e (sequence at flow props xs) = refl
+entered_standing e (mapping at flow props ps) = refl
+
+module _ {t : List ℕ} where
+  -- Nodes.
+
+  pub node_wider : {h i j k : ℕ} {x : Meaning} → h ≤ i → NodeAt t i j x → j ≤ k → NodeAt t h k x
+  node_wider l a m = record { node = a.node; events = a.events; stands = node_after l a.stands; ends = omega (arith, a.ends) }
+
+  pub node_behind : {i j : ℕ} {x : Meaning} (cs : List CommentValue) → NodeAt t i j x → NodeAt t i j (behind cs x)
+  unfolding behind
+  node_behind cs a = record { node = a.node; events = a.events; stands = a.stands; ends = a.ends }
+
+  pub node_noting : {i j : ℕ} {x : Meaning} (cs : List CommentValue) → NodeAt t i j x → NodeAt t i j (noting x cs)
+  unfolding noting
+  node_noting cs a = record { node = a.node; events = a.events; stands = a.stands; ends = a.ends }
+
+  pub nothing_at : {i j : ℕ} → i ≤ j → NodeAt t i j (empty_node i)
+  unfolding empty_node plain_event
+  nothing_at l = record {
+    node = scalar_tree (record { span = None; tag_offset = None; entry = None }) no_props Plain [] [];
+    events = refl;
+    stands = stands_nowhere (omega arith) refl;
+    ends = l;
+  }
+
+  entered_stands : {i j : ℕ} {x : Node} (e : Entry) → NodeStands t i j x → NodeStands t i j (entered e x)
+  entered_stands e (stands_nowhere m q) = stands_nowhere m q
+  entered_stands e (scalar_stands q b m n w s) = scalar_stands q b m n w s
+  entered_stands e (alias_stands q b m n s) = alias_stands q b m n s
+  entered_stands e (sequence_stands q b m n s) = sequence_stands q b m n s
+  entered_stands e (mapping_stands q b m n s) = mapping_stands q b m n s
+
+  -- Entries.
+
+  pub item_of : {i j s : ℕ} {x : Meaning} → s ≤ i → NodeAt t i j x → ItemAt t s j (entering s None x)
+  unfolding entering
+  item_of {s = s} l a =
+      let entry : Entry = record { start = s; colon = None; blank_before = false } in
+      record {
+        node = entered entry a.node;
+        entry = entry;
+        begins = entered_standing entry a.node;
+        events = ap (first_entering entry) a.events ∙ entered_events entry a.node;
+        order = omega arith;
+        stands = entered_stands entry (node_after l a.stands);
+        ends = a.ends;
+      }
+
+  pub pair_of : {i j s k m : ℕ} {x y : Meaning} (colon : Option ℕ) → s ≤ i → NodeAt t i k x → ColonStands k m colon → NodeAt t m j y
+      → PairAt t s j (entering s colon x ⊕ y)
+  unfolding entering ◌⊕◌
+  pair_of {s = s} {k = k} {m = m} {y = y} colon l a c b =
+      let entry : Entry = record { start = s; colon = colon; blank_before = false } in
+      record {
+        key = entered entry a.node;
+        value = b.node;
+        entry = entry;
+        key_end = k;
+        value_start = m;
+        begins = entered_standing entry a.node;
+        events = ap (λ z. z ++ y.events) (ap (first_entering entry) a.events ∙ entered_events entry a.node) ∙ ap (λ z. flat (entered entry a.node) ++ z) b.events;
+        order = omega arith;
+        key_stands = entered_stands entry (node_upto (node_after l a.stands) a.ends);
+        colon = c;
+        value_stands = b.stands;
+        ends = b.ends;
+      }
+
+  pub pair_key_noting : {i j : ℕ} (x y : Meaning) (cs : List CommentValue) → PairAt t i j (x ⊕ y) → PairAt t i j (noting x cs ⊕ y)
+  unfolding noting ◌⊕◌
+  pair_key_noting x y cs a = record {
+    key = a.key;
+    value = a.value;
+    entry = a.entry;
+    key_end = a.key_end;
+    value_start = a.value_start;
+    begins = a.begins;
+    events = a.events;
+    order = a.order;
+    key_stands = a.key_stands;
+    colon = a.colon;
+    value_stands = a.value_stands;
+    ends = a.ends;
+  }
+
+  pub pair_behind : {i j : ℕ} {x : Meaning} (cs : List CommentValue) → PairAt t i j x → PairAt t i j (behind cs x)
+  unfolding behind
+  pair_behind cs a = record {
+    key = a.key;
+    value = a.value;
+    entry = a.entry;
+    key_end = a.key_end;
+    value_start = a.value_start;
+    begins = a.begins;
+    events = a.events;
+    order = a.order;
+    key_stands = a.key_stands;
+    colon = a.colon;
+    value_stands = a.value_stands;
+    ends = a.ends;
+  }
+
+  item_last : {i k j : ℕ} {x : Meaning} → ItemAt t i k x → k ≤ j → ItemsAt t i j x
+  item_last a l = record {
+    items = item a.node no_items;
+    events = a.events ∙ sym (append-nil (flat a.node));
+    stands = item_stands a.entry a.begins a.order a.stands (no_items_stand (omega arith));
+    ends = omega (arith, a.ends);
+  }
+
+  pair_last : {i k j : ℕ} {x : Meaning} → PairAt t i k x → k ≤ j → PairsAt t i j x
+  pair_last a l = record {
+    pairs = pair a.key a.value no_pairs;
+    events = a.events ∙ ap (λ z. flat a.key ++ z) (sym (append-nil (flat a.value)));
+    stands = pair_stands a.entry a.begins a.order a.key_stands a.colon a.value_stands (no_pairs_stand (omega arith));
+    ends = omega (arith, a.ends);
+  }
+
+  items_more : {i k m j : ℕ} {x y : Meaning} → ItemAt t i k x → k ≤ m → ItemsAt t m j y → ItemsAt t i j (x ⊕ y)
+  unfolding ◌⊕◌
+  items_more {y = y} a l b = record {
+    items = item a.node b.items;
+    events = ap (λ z. z ++ y.events) a.events ∙ ap (λ z. flat a.node ++ z) b.events;
+    stands = item_stands a.entry a.begins a.order a.stands (items_after (omega (arith, a.ends)) b.stands);
+    ends = b.ends;
+  }
+
+  pairs_more : {i k m j : ℕ} {x y : Meaning} → PairAt t i k x → k ≤ m → PairsAt t m j y → PairsAt t i j (x ⊕ y)
+  unfolding ◌⊕◌
+  pairs_more {x = x} {y = y} a l b = record {
+    pairs = pair a.key a.value b.pairs;
+    events = ap (λ z. z ++ y.events) a.events ∙ append_assoc (flat a.key) (flat a.value) y.events ∙ ap (λ z. flat a.key ++ (flat a.value ++ z)) b.events;
+    stands = pair_stands a.entry a.begins a.order a.key_stands a.colon a.value_stands (pairs_after (omega (arith, a.ends)) b.stands);
+    ends = b.ends;
+  }
+
+pub last_of : {t : List ℕ} {s : Bool} {i k j : ℕ} {x : Meaning} → EntryAt t s i k x → k ≤ j → EntriesAt t s i j x
+last_of (an_item a) l = some_items (item_last a l)
+last_of (a_pair a) l = some_pairs (pair_last a l)
+
+pub more_of : {t : List ℕ} {s : Bool} {i k m j : ℕ} {x y : Meaning} → EntryAt t s i k x → k ≤ m → EntriesAt t s m j y → EntriesAt t s i j (x ⊕ y)
+more_of (an_item a) l (some_items b) = some_items (items_more a l b)
+more_of (a_pair a) l (some_pairs b) = some_pairs (pairs_more a l b)
+
+pub entry_noting : {t : List ℕ} {s : Bool} {i j : ℕ} {x : Meaning} (cs : List CommentValue) → EntryAt t s i j x → EntryAt t s i j (noting x cs)
+unfolding noting
+entry_noting cs (an_item a) =
+    an_item (record { node = a.node; entry = a.entry; begins = a.begins; events = a.events; order = a.order; stands = a.stands; ends = a.ends })
+entry_noting cs (a_pair a) = a_pair (record {
+  key = a.key;
+  value = a.value;
+  entry = a.entry;
+  key_end = a.key_end;
+  value_start = a.value_start;
+  begins = a.begins;
+  events = a.events;
+  order = a.order;
+  key_stands = a.key_stands;
+  colon = a.colon;
+  value_stands = a.value_stands;
+  ends = a.ends;
+})
+
+pub entries_behind : {t : List ℕ} {s : Bool} {i j : ℕ} {x : Meaning} (cs : List CommentValue) → EntriesAt t s i j x → EntriesAt t s i j (behind cs x)
+unfolding behind
+entries_behind cs (some_items a) = some_items (record { items = a.items; events = a.events; stands = a.stands; ends = a.ends })
+entries_behind cs (some_pairs a) = some_pairs (record { pairs = a.pairs; events = a.events; stands = a.stands; ends = a.ends })
+
+pub entries_none : {t : List ℕ} {i j : ℕ} (s : Bool) (cs : List CommentValue) → i ≤ j
+    → EntriesAt t s i j (record { events = []; comments = cs; escapes = []; finish = j })
+entries_none true cs l = some_items (record { items = no_items; events = refl; stands = no_items_stand l; ends = omega arith })
+entries_none false cs l = some_pairs (record { pairs = no_pairs; events = refl; stands = no_pairs_stand l; ends = omega arith })
+
+-- up to the finish alone
+pub node_narrow : {t : List ℕ} {i j : ℕ} {x : Meaning} → NodeAt t i j x → NodeAt t i x.finish x
+node_narrow a = record { node = a.node; events = a.events; stands = a.stands; ends = omega arith }
+
+pub pair_narrow : {t : List ℕ} {i j : ℕ} {x : Meaning} → PairAt t i j x → PairAt t i x.finish x
+pair_narrow a = record {
+  key = a.key;
+  value = a.value;
+  entry = a.entry;
+  key_end = a.key_end;
+  value_start = a.value_start;
+  begins = a.begins;
+  events = a.events;
+  order = a.order;
+  key_stands = a.key_stands;
+  colon = a.colon;
+  value_stands = a.value_stands;
+  ends = omega arith;
+}
+
+pub entries_narrow : {t : List ℕ} {s : Bool} {i j : ℕ} {x : Meaning} → EntriesAt t s i j x → EntriesAt t s i x.finish x
+entries_narrow (some_items a) = some_items (record { items = a.items; events = a.events; stands = a.stands; ends = omega arith })
+entries_narrow (some_pairs a) = some_pairs (record { pairs = a.pairs; events = a.events; stands = a.stands; ends = omega arith })
+
+pub entries_end : {t : List ℕ} {s : Bool} {i j : ℕ} {x : Meaning} → EntriesAt t s i j x → x.finish ≤ j
+entries_end (some_items a) = a.ends
+entries_end (some_pairs a) = a.ends
+
+pub entries_wider : {t : List ℕ} {s : Bool} {i j k : ℕ} {x : Meaning} → EntriesAt t s i j x → j ≤ k → EntriesAt t s i k x
+entries_wider (some_items a) l = some_items (record { items = a.items; events = a.events; stands = a.stands; ends = omega (arith, a.ends) })
+entries_wider (some_pairs a) l = some_pairs (record { pairs = a.pairs; events = a.events; stands = a.stands; ends = omega (arith, a.ends) })
+
+-- Collections, in flow style or not: from a to b, and with properties from f to g.
+
+abbrev spanned : ℕ → ℕ → Option ℕ → Standing
+spanned a b o = record { span = from_to a b; tag_offset = o; entry = None }
+
+pub collection_at : {t : List ℕ} {i k j a b : ℕ} {s : Bool} {x : Meaning} (flow : Bool) → IsSpelled (scalar_node no_props Plain []) []
+    → Begins t i a → a ≤ k → EntriesAt t s k b x → b ≤ j → NodeAt t i j (collection s flow a b x)
+unfolding collection plain_event from_to
+collection_at {a = a} {b = b} flow p v m (some_items e) n = record {
+  node = sequence (spanned a b None) flow no_props e.items;
+  events = ap (λ z. placed (spanned a b None) (sequence_starts flow no_props) [] ∷ (z ++ (unplaced sequence_ends ∷ []))) e.events;
+  stands = sequence_stands refl v (items_upto (items_after m e.stands) e.ends) (omega arith) p;
+  ends = n;
+}
+collection_at {a = a} {b = b} flow p v m (some_pairs e) n = record {
+  node = mapping (spanned a b None) flow no_props e.pairs;
+  events = ap (λ z. placed (spanned a b None) (mapping_starts flow no_props) [] ∷ (z ++ (unplaced mapping_ends ∷ []))) e.events;
+  stands = mapping_stands refl v (pairs_upto (pairs_after m e.stands) e.ends) (omega arith) p;
+  ends = n;
+}
+
+pub collection_with : {t : List ℕ} {i k j f b : ℕ} {s : Bool} {x : Meaning} (flow : Bool) (props : PropsValue) (o : Option ℕ) (g a : ℕ)
+    → IsSpelled (scalar_node props Plain []) [] → Begins t i f → f ≤ k → EntriesAt t s k b x → b ≤ j
+    → NodeAt t i j (with_props props o f g (collection s flow a b x))
+unfolding collection plain_event from_to with_props
+collection_with {f = f} {b = b} flow props o g a p v m (some_items e) n = record {
+  node = sequence (spanned f b o) flow props e.items;
+  events = ap (λ z. placed (spanned f b o) (sequence_starts flow props) [] ∷ (z ++ (unplaced sequence_ends ∷ []))) e.events;
+  stands = sequence_stands refl v (items_upto (items_after m e.stands) e.ends) (omega arith) p;
+  ends = n;
+}
+collection_with {f = f} {b = b} flow props o g a p v m (some_pairs e) n = record {
+  node = mapping (spanned f b o) flow props e.pairs;
+  events = ap (λ z. placed (spanned f b o) (mapping_starts flow props) [] ∷ (z ++ (unplaced mapping_ends ∷ []))) e.events;
+  stands = mapping_stands refl v (pairs_upto (pairs_after m e.stands) e.ends) (omega arith) p;
+  ends = n;
+}

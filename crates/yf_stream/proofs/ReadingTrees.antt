@@ -1,0 +1,99 @@
+-- The reading of a text has trees, whose documents and nodes stand in order.
+use Rattle.std.proofs.Common.{◌≡◌, ℕ, suc, ◌≤◌, List, [], ◌∷◌, ◌++◌, map, flat_map, length, Option, refl, sym, ap, ◌∙◌, subst, append_assoc}
+use Rattle.std.specs.Str.{IsUtf8}
+use Rattle.yf_events.specs.Event.{Placed, document_starts, document_ends, stream_starts, stream_ends}
+use Rattle.yf_events.specs.Tree.{DocumentTree, TreesOf, unplaced, flat, flat_document}
+use Rattle.yf_events.specs.declared.document.Doc.{Doc}
+use Rattle.yf_events.specs.declared.lists.Lists.{Lists}
+use Rattle.yf_grammar.specs.Part.{Noting, no_event}
+use Rattle.yf_grammar.proofs.NodePlaces.{NodeStands}
+use Rattle.yf_grammar.proofs.NotedNodes.{noted_node, noted_plain}
+use Rattle.yf_stream.specs.ReadingOf.{DocumentEvents, no_document, one_document, ReadingOf, doc_of}
+use Rattle.yf_stream.specs.Stream.{Document}
+use Rattle.yf_stream.proofs.DirectiveOrder.{DirectivesStand}
+use Rattle.yf_stream.proofs.DocumentPlaces.{DocumentsStand, no_documents_stand, document_stands, stream_stands}
+
+-- documents in order, each with its tree: directives, the beginning, and the nodes
+pub data TreesStand (t : List ℕ) : ℕ → List Doc → List DocumentTree → Type 0 where
+  no_trees_stand : {i : ℕ} → i ≤ length t → TreesStand t i [] []
+  tree_stands : {i j : ℕ} {d : Doc} {ds : List Doc} {tree : DocumentTree} {trees : List DocumentTree} → DirectivesStand i d.directives d.start
+      → NodeStands t d.start j tree.root → TreesStand t j ds trees → TreesStand t i (d ∷ ds) (tree ∷ trees)
+
+pub record ReadingStands (t : List ℕ) (r : Lists) : Type 0 where
+  pub trees : List DocumentTree
+  pub of_reading : TreesOf r trees
+  pub stand : TreesStand t 0 r.documents trees
+
+record NotedTrees (t : List ℕ) (i : ℕ) (ds : List Document) (rest ys : List Placed) : Type 0 where
+  trees : List DocumentTree
+  stand : TreesStand t i (map doc_of ds) trees
+  count : length ds ≡ length trees
+  more : List Placed
+  floor : ℕ
+  is : ys ≡ flat_map flat_document trees ++ more
+  noting : Noting t floor rest more
+
+-- how the events of documents are joined
+
+parted : (s e : Placed) (root x rest : List Placed) → (s ∷ (root ++ (e ∷ x))) ++ rest ≡ s ∷ (root ++ (e ∷ (x ++ rest)))
+parted s e root x rest = ap (λ z. s ∷ z) (append_assoc root (e ∷ x) rest)
+
+document_joined : (s e : Placed) (root x rest : List Placed) → ((s ∷ (root ++ (e ∷ []))) ++ x) ++ rest ≡ s ∷ (root ++ (e ∷ (x ++ rest)))
+document_joined s e root x rest = ap (λ z. s ∷ z) (append_assoc (root ++ (e ∷ [])) x rest ∙ append_assoc root (e ∷ []) (x ++ rest))
+
+joined : (ys more more2 more3 more4 root x : List Placed) (s e : Placed) → ys ≡ s ∷ more → more ≡ root ++ more2 → more2 ≡ e ∷ more3
+    → more3 ≡ x ++ more4 → ys ≡ ((s ∷ (root ++ (e ∷ []))) ++ x) ++ more4
+joined ys more more2 more3 more4 root x s e p q f g =
+    let whole : ys ≡ s ∷ (root ++ (e ∷ (x ++ more4))) = cc in whole ∙ sym (document_joined s e root x more4)
+
+enclosed : (ys more more2 more3 x : List Placed) (s e : Placed) → ys ≡ s ∷ more → more ≡ x ++ more2 → more2 ≡ e ∷ more3 → more3 ≡ []
+    → ys ≡ s ∷ (x ++ (e ∷ []))
+enclosed ys more more2 more3 x s e p q f g = cc
+
+nothing_noted : {t : List ℕ} {floor : ℕ} {ys : List Placed} → Noting t floor [] ys → ys ≡ []
+nothing_noted no_event = refl
+
+module _ {t : List ℕ} where
+  noted_trees : {i floor : ℕ} {ds : List Document} {x rest ys : List Placed} {tags : List (Option (List ℕ))} → DocumentsStand t i ds
+      → DocumentEvents t ds x tags → Noting t floor (x ++ rest) ys → NotedTrees t i ds rest ys
+  noted_trees (no_documents_stand l) no_document n =
+      record { trees = []; stand = no_trees_stand l; count = refl; more = _; floor = _; is = refl; noting = n }
+  noted_trees {floor = floor} {rest = rest} {ys = ys} (document_stands a b) (one_document {d = d} {x = x} {closed = closed} tags ends marked others) n =
+      let s : Placed = unplaced (document_starts d.marked) in
+      let e : Placed = unplaced (document_ends closed) in
+      let events : List Placed = flat a.node in
+      let same : (s ∷ (d.events ++ (e ∷ x))) ++ rest ≡ s ∷ (events ++ (e ∷ (x ++ rest))) =
+      ap (λ z. (s ∷ (z ++ (e ∷ x))) ++ rest) a.events ∙ parted s e events x rest in
+      let first = noted_plain refl (subst (λ z. Noting t floor z ys) same n) in
+      let root = noted_node a.stands first.noting in
+      let last = noted_plain refl root.noting in
+      let behind = noted_trees b others last.noting in
+      record {
+        trees = record { marked = d.marked; closed = closed; root = root.node } ∷ behind.trees;
+        stand = tree_stands a.directives root.stands behind.stand;
+        count = ap suc behind.count;
+        more = behind.more;
+        floor = behind.floor;
+        is = joined ys first.more root.more last.more behind.more (flat root.node) (flat_map flat_document behind.trees) s e first.is root.is last.is behind.is;
+        noting = behind.noting;
+      }
+
+-- the trees of a reading
+pub reading_stands : {t : List ℕ} {r : Lists} → IsUtf8 t → ReadingOf t r → ReadingStands t r
+reading_stands {t} {r} u a =
+    let first = noted_plain refl a.noted in
+    let inner = noted_trees (stream_stands u a.reads.shapes.derived) a.events first.noting in
+    let last = noted_plain refl inner.noting in
+    let counts : length r.documents ≡ length a.derived.documents = ap length a.documents ∙ count_map doc_of a.derived.documents in
+    record {
+      trees = inner.trees;
+      of_reading = record {
+        events = enclosed r.events first.more inner.more last.more (flat_map flat_document inner.trees) (unplaced stream_starts) (unplaced stream_ends) first.is
+            inner.is last.is (nothing_noted last.noting);
+        documents = counts ∙ inner.count;
+      };
+      stand = subst (λ z. TreesStand t 0 z inner.trees) (sym a.documents) inner.stand;
+    } where
+      count_map : (f : Document → Doc) (ds : List Document) → length (map f ds) ≡ length ds
+      count_map f [] = refl
+      count_map f (d ∷ ds) = ap suc (count_map f ds)
