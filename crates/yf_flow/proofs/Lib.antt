@@ -1,4 +1,5 @@
 pub mod BegunLemmas
+pub mod EntryNotes
 pub mod Forward
 pub mod Frames
 pub mod LeafLemmas
@@ -12,4 +13,5 @@ pub mod TiedEnds
 pub mod TiedFails
 pub mod TiedNodes
 pub mod TiedPairs
+pub mod TiedTaken
 pub mod TiedValues

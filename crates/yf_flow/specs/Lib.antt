@@ -4,4 +4,5 @@ pub mod Leaves
 pub mod Machine
 pub mod NodeBegun
 pub mod NodeReaders
+pub mod Steps
 pub mod Tied
