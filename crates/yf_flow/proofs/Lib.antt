@@ -11,7 +11,10 @@ pub mod TiedBegun
 pub mod TiedClose
 pub mod TiedEnds
 pub mod TiedFails
+pub mod TiedItems
+pub mod TiedKeys
 pub mod TiedNodes
+pub mod TiedPairKeys
 pub mod TiedPairs
 pub mod TiedTaken
 pub mod TiedValues

@@ -1,5 +1,6 @@
 pub mod Begun
 pub mod EntryBegun
+pub mod KeyThere
 pub mod Leaves
 pub mod Machine
 pub mod NodeBegun

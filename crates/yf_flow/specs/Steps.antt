@@ -1,9 +1,10 @@
 -- Where an entry of a flow collection begins, and what its first sign makes of it, as the reader's steps find it.
-use Rattle.std.specs.Prelude.{◌≡◌, ℕ, false, List}
+use Rattle.std.specs.Prelude.{◌≡◌, ℕ, max, false, List}
 use Rattle.std.specs.Str.{IsUtf8}
 use Rattle.yf_chars.specs.declared.context.Ctx.{Ctx}
 use Rattle.yf_lines.specs.Basic.{is_block}
 use Rattle.yf_grammar.specs.Grammar.{in_flow}
+use Rattle.yf_flow.specs.declared.frame.Frame.{Frame}
 use Rattle.yf_flow.specs.declared.frame.Kind.{Kind}
 use Rattle.yf_flow.specs.declared.frame.Kind.TheVariants.{Sequence, Mapping, Pair}
 use Rattle.yf_flow.specs.declared.frame.Role.{Role}
@@ -22,3 +23,12 @@ abbrev pub first_role : Kind → Role
 first_role Sequence = Item
 first_role Mapping = Key
 first_role Pair = Key
+
+-- the frame of a collection with a node in it in which so many collections were open
+pub record Reached (first : Frame) (high : ℕ) (o : Frame) : Type 0 where
+  pub kind : o.kind ≡ first.kind
+  pub event : o.event ≡ first.event
+  pub index : o.entry_event ≡ first.entry_event
+  pub entry : o.entry ≡ first.entry
+  pub depth : o.depth ≡ first.depth
+  pub deepest : o.deepest ≡ max first.deepest high
