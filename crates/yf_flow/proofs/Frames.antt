@@ -1,5 +1,5 @@
 -- The open collections: what holds of them stays so when events are added, and when one is opened or closed.
-use Rattle.std.proofs.Common.{◌≡◌, ℕ, ◌<◌, ◌≤◌, List, [], ◌∷◌, ◌++◌, length, subst, sym, arith, length-append}
+use Rattle.std.proofs.Common.{◌≡◌, ℕ, zero, suc, ◌<◌, ◌≤◌, List, [], ◌∷◌, ◌++◌, length, take, drop, refl, ap, subst, sym, arith, length-append}
 use Rattle.std.proofs.lemmas.List.Elements.{All-append, All-weaker, All-cons, All-nil}
 use Rattle.std.specs.List.{All}
 use Rattle.std.specs.Str.{IsCharBoundary}
@@ -24,3 +24,12 @@ pushed_longer {X} xs ys x e = rw e (omega (arith, length-append {A = X}))
 -- of no escapes each begins between characters
 pub none_outside : (t es : List ℕ) → es ≡ [] → All (IsCharBoundary t) es
 none_outside t es e = subst (λ xs. All (IsCharBoundary t) xs) (sym e) (All-nil (IsCharBoundary t))
+
+-- an element put among others
+inserted_length : {X : Type 0} (i : ℕ) (xs : List X) (x : X) → length (take i xs ++ x ∷ drop i xs) ≡ suc (length xs)
+inserted_length zero xs x = refl
+inserted_length (suc i) [] x = refl
+inserted_length (suc i) (a ∷ xs) x = ap suc (inserted_length i xs x)
+
+pub inserted_longer : {X : Type 0} (i : ℕ) (xs ys : List X) (x : X) → ys ≡ take i xs ++ x ∷ drop i xs → length xs < length ys
+inserted_longer i xs ys x e = rw e (omega (arith, inserted_length i xs x))

@@ -1,4 +1,5 @@
 pub mod BegunLemmas
+pub mod EntryNotes
 pub mod Forward
 pub mod Frames
 pub mod LeafLemmas
@@ -10,6 +11,10 @@ pub mod TiedBegun
 pub mod TiedClose
 pub mod TiedEnds
 pub mod TiedFails
+pub mod TiedItems
+pub mod TiedKeys
 pub mod TiedNodes
+pub mod TiedPairKeys
 pub mod TiedPairs
+pub mod TiedTaken
 pub mod TiedValues

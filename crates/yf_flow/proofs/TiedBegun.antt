@@ -86,7 +86,7 @@ opened_entry {t} {n} {d} {base} {frames} {top} {f} {p} {old} {new} {entry} q a o
       begin = begin;
       known = only [] 0;
       below = subst (λ z. Below t n d base (top ∷ frames) (is_sequence f.kind) o.content d z (noting w (comments_before o.before)) begin) less
-          (inside a.tied.below a.tied.entries a.tied.open_there a.node a.tied.framed refl a.entry o.over (ap (λ z. top ∷ z) a.tied.all));
+          (inside a.tied.below a.tied.entries a.tied.open_there a.node a.tied.framed refl a.entry a.index o.over (ap (λ z. top ∷ z) a.tied.all));
       awaited = subst (λ z. SeparationAwaited t (a.layer.limit - 1) (is_sequence f.kind) n d d o.content 0 (only [] 0) z) (sym o.first) (bracket_awaits (is_sequence f.kind) q k.1);
       frame = record {
         kind = k.0;
@@ -134,6 +134,7 @@ leaf_ended {top = top} {p = p} a l note = record {
   tied = a.tied;
   awaited = a.node;
   entry = a.entry;
+  index = a.index;
   parsed = l.read a.layer.limit;
   end = l.end;
   json = l.json;

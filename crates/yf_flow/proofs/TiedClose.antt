@@ -118,7 +118,7 @@ module _ {t : List ℕ} {n : ℤ} {d : Ctx} {base : Base} where
       → node.end ≡ k + 1 → node.json ≡ true → node.deepest + l ≡ base.total + h
       → Written t (entries_written w (ended (k + 1) begin) x ⊕ one (plain_event (end_of sequence) None)) part → AtEnded t n d base rest outer node part
   closed_into node h k x (outermost b) q y r a j v p = absurd (no_cons q)
-  closed_into {rest = rest} {sequence = sequence} {i} {e} {l} {outer = outer} {part = part} node h k x (inside {frames = under} {rest = more} {i = i'} {h = h'} {s = s} {g = g} {p = place} {c = c'} {w = w'} {x = x'} {y = y'} {begin = begin'} {sequence = sequence'} {pair = pair} {role = role} {b = b} below entries stays aw framed ro fi ov al) q y r a j v p =
+  closed_into {rest = rest} {sequence = sequence} {i} {e} {l} {outer = outer} {part = part} node h k x (inside {frames = under} {rest = more} {i = i'} {h = h'} {s = s} {g = g} {p = place} {c = c'} {w = w'} {x = x'} {y = y'} {begin = begin'} {sequence = sequence'} {pair = pair} {role = role} {b = b} below entries stays aw framed ro fi ix ov al) q y r a j v p =
       let z = cons_parts (sym al ∙ q) in
       let f = ended_at sequence i h x k in
       let dep = frame_depth framed in
@@ -133,6 +133,7 @@ module _ {t : List ℕ} {n : ℤ} {d : Ctx} {base : Base} where
         tied = record { rest = more; below = below; entries = entries; open_there = stays; framed = framed; all = sym z.1 };
         awaited = subst (λ o. NodeIn t n d s o sequence' e pair place g y') (sym ro) aw;
         entry = fi;
+        index = λ q. ix (λ r. q (ro ∙ r));
         parsed = over_some f ov r;
         end = a;
         json = j;
@@ -161,7 +162,7 @@ module _ {t : List ℕ} {n : ℤ} {d : Ctx} {base : Base} where
         (subst (λ z. Written t (entries_written base.written (ended (k + 1) z) x ⊕ one (plain_event (end_of sequence) None)) part) b.event
         (subst (λ z. Written t (entries_written z (ended (k + 1) begin) x ⊕ one (plain_event (end_of sequence) None)) part) b.written p));
   }
-  closed_base node h k x (inside below entries stays aw framed ro fi ov al) q y r a j v p = absurd (no_cons (sym q ∙ al))
+  closed_base node h k x (inside below entries stays aw framed ro fi ix ov al) q y r a j v p = absurd (no_cons (sym q ∙ al))
 
 end_kind : (sequence : Bool) (kind : Kind) → kind ≡ kind_of sequence → end_event kind ≡ end_of sequence
 unfolding end_event

@@ -26,4 +26,4 @@ base_fails {t} {n} {base} {sequence} {i} {e} {c} b r =
 pub all_fails : {t : List ℕ} {n : ℤ} {d : Ctx} {base : Base} {frames : List Frame} {sequence : Bool} {i e : ℕ} {c : Ctx} {w : Meaning} {begin : Placed}
     → Below t n d base frames sequence i c e w begin → Parses t e (AContent n c i) None → Parses t base.limit (AContent n base.context base.place) None
 all_fails (outermost b) r = base_fails b r
-all_fails (inside b entries stays node framed role first over all) r = all_fails b (content_fails over entries stays (awaited_node node) r)
+all_fails (inside b entries stays node framed role first index over all) r = all_fails b (content_fails over entries stays (awaited_node node) r)

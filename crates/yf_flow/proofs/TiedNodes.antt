@@ -73,12 +73,12 @@ value_read_done {t} {n} {d} {base} {node = node} {part = part} a v o k ev de hi 
 }
 
 -- the node of a key
-record KeyRead (t : List ℕ) (n : ℤ) (d : Ctx) (s : ℕ) (sequence : Bool) (e : ℕ) (pair : Bool) (p g : ℕ) (y : Meaning) : Type 0 where
-  nothing_open : g ≡ 0
-  awaited : KeyAwaited t e sequence n d pair s y p
-  no_colon : ColonAt t false d p → ⊥
+pub record KeyRead (t : List ℕ) (n : ℤ) (d : Ctx) (s : ℕ) (sequence : Bool) (e : ℕ) (pair : Bool) (p g : ℕ) (y : Meaning) : Type 0 where
+  pub nothing_open : g ≡ 0
+  pub awaited : KeyAwaited t e sequence n d pair s y p
+  pub no_colon : ColonAt t false d p → ⊥
 
-key_read : {t : List ℕ} {n : ℤ} {d : Ctx} {s e p g : ℕ} {role : Role} {sequence pair : Bool} {y : Meaning} → NodeIn t n d s role sequence e pair p g y → role ≡ Key
+pub key_read : {t : List ℕ} {n : ℤ} {d : Ctx} {s e p g : ℕ} {role : Role} {sequence pair : Bool} {y : Meaning} → NodeIn t n d s role sequence e pair p g y → role ≡ Key
     → KeyRead t n d s sequence e pair p g y
 key_read (item_in a) q = absurd (item_no_key q)
 key_read (key_in a b) q = record { nothing_open = refl; awaited = a; no_colon = b }

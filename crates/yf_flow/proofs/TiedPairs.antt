@@ -20,7 +20,7 @@ use Rattle.yf_flow.specs.Tied.{Written, one, pair_event, entries_written, entry_
 use Rattle.yf_flow.proofs.TiedEnds.{written_as, written_same}
 use Rattle.yf_flow.proofs.TiedClose.{ended_written, closed_same, ends_noted, cons_parts, no_cons}
 
-kind_no_pair : (sequence : Bool) (kind : Kind) → kind ≡ kind_of sequence → kind ≡ Pair → ⊥
+pub kind_no_pair : (sequence : Bool) (kind : Kind) → kind ≡ kind_of sequence → kind ≡ Pair → ⊥
 kind_no_pair true kind e q = cc
 kind_no_pair false kind e q = cc
 

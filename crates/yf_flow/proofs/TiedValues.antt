@@ -107,6 +107,8 @@ module _ {t : List ℕ} {n : ℤ} {d : Ctx} {base : Base} {frames : List Frame} 
       tied = moved;
       node = subst (λ r. NodeIn t n d a.layer.start r a.layer.sequence a.layer.limit a.layer.pair p a.height (noting a.read cs)) (sym ro) (value_in (node_after a.value q) z);
       entry = en ∙ a.entry;
+      index = λ q. absurd (q ro);
+      begins = λ q. absurd (q ro);
       written = written_as (entry_noting a.layer a.read cs) (written_noting cs x y w a.written);
     }
 
@@ -120,5 +122,7 @@ module _ {t : List ℕ} {n : ℤ} {d : Ctx} {base : Base} {frames : List Frame} 
       node = subst (λ r. NodeIn t n d a.layer.start r a.layer.sequence a.layer.limit a.layer.pair p a.height a.read) (sym ro)
           (value_in (subst (λ r. ValueNodeAwaited t a.layer.limit a.layer.sequence n d a.layer.pair a.layer.start a.height a.read r) (sym same) (node_beside a.value e q)) z);
       entry = en ∙ a.entry;
+      index = λ q. absurd (q ro);
+      begins = λ q. absurd (q ro);
       written = written_kept x y w a.written;
     }

@@ -1,7 +1,9 @@
 pub mod Begun
 pub mod EntryBegun
+pub mod KeyThere
 pub mod Leaves
 pub mod Machine
 pub mod NodeBegun
 pub mod NodeReaders
+pub mod Steps
 pub mod Tied

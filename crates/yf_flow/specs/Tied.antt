@@ -142,6 +142,7 @@ pub data Below (t : List ℕ) (n : ℤ) (d : Ctx) (base : Base) : List Frame →
       → Framed base.total sequence pair e h g (length w.events) (length (entries_written w begin x).events) top rest
       → top.role ≡ role
       → top.entry ≡ s
+      → ((role ≡ Value → ⊥) → top.entry_event ≡ length (entry_written w begin x pair s y).events)
       → NodeOver t n d p k b
       → all ≡ top ∷ (rest ++ frames)
       → Below t n d base all inner k d e (noting (entry_written w begin x pair s y) (comments_before b)) (opened_event p b (entry_of role s) inner k)
@@ -271,6 +272,8 @@ pub record AtNode (t : List ℕ) (n : ℤ) (d : Ctx) (base : Base) (frames : Lis
   pub tied : EntryTied t n d base frames top height layer
   pub node : NodeIn t n d layer.start top.role layer.sequence layer.limit layer.pair p height read
   pub entry : top.entry ≡ layer.start
+  pub index : (top.role ≡ Value → ⊥) → top.entry_event ≡ length (written_in layer read).events
+  pub begins : (top.role ≡ Value → ⊥) → code t p ≢ 10 → code t layer.start ≢ 10
   pub written : Written t (written_in layer read) part
 
 pub record AtEnded (t : List ℕ) (n : ℤ) (d : Ctx) (base : Base) (frames : List Frame) (top : Frame) (node : TheNode.Node) (part : Part) : Type 0 where
@@ -282,6 +285,7 @@ pub record AtEnded (t : List ℕ) (n : ℤ) (d : Ctx) (base : Base) (frames : Li
   pub tied : EntryTied t n d base frames top height layer
   pub awaited : NodeIn t n d layer.start top.role layer.sequence layer.limit layer.pair place height read
   pub entry : top.entry ≡ layer.start
+  pub index : (top.role ≡ Value → ⊥) → top.entry_event ≡ length (written_in layer read).events
   pub parsed : Parses t layer.limit (ANode n d place) (Some answer)
   pub end : node.end ≡ answer.end
   pub json : node.json ≡ answer.json

@@ -7,7 +7,8 @@ ghost use Rattle.yf_chars.specs.Text.{code};
 ghost use Rattle.yf_events.specs.Event.{placed_value};
 ghost use Rattle.yf_flow.specs.EntryBegun.{EntryBegun};
 ghost use Rattle.yf_flow.specs.Machine.{Awaiting, Indexed, Ready, left};
-ghost use Rattle.yf_flow.specs.Tied.{AtValue, Base, EntryNoted, NotedEvent, StepTied, pair_event};
+ghost use Rattle.yf_flow.specs.Steps.{Reading};
+ghost use Rattle.yf_flow.specs.Tied.{AtNode, AtValue, Base, EntryNoted, NotedEvent, StepTied, pair_event};
 
 use crate::entry_ends::{close, end_entry};
 use crate::frame::{Frame, Kind, Role, Scene, State, Step};
@@ -27,7 +28,7 @@ pub(crate) type Below = SmallVec<Frame, 8>;
 
 // The entry that the node begins which is read now, if it begins one.
 fn entry_begun(text: &str, top: Frame) -> Option<Entry>
-    ensures { code text.now top.entry ≢ 10 → EntryBegun text.now top.entry top.role result }
+    ensures { EntryBegun text.now top.entry top.role result }
 {
     match top.role {
         Role::Item | Role::Key => Some(entry_at(text, top.entry, None)),
@@ -69,6 +70,7 @@ pub(crate) fn take_node<'a>(
     requires top { Awaiting scene.text.now (length part.old.events) top }
     requires below { All (Indexed scene.text.now (length part.old.events)) below.old.items }
     requires escapes { All (IsCharBoundary scene.text.now) part.old.escapes }
+    ensures tied { (base : Base) → Reading scene.entry.text.now scene.entry.context scene.entry.limit base → AtNode scene.entry.text.now scene.entry.indentation scene.entry.context base (reverse below.old.items) top at part.old → IfOk result (λ s. StepTied scene.entry.text.now scene.entry.indentation scene.entry.context base (reverse below.new.items) s.top s.step part.new) }
     ensures ready { IfOk result (λ s. Ready scene.entry.text.now at (length part.new.events) below.new.items s) }
     ensures moves { IfOk result (λ s. left (length scene.entry.text.now) s.step < 2 * (length scene.entry.text.now - at) + 1) }
     ensures escapes { IfOk result (λ _. All (IsCharBoundary scene.entry.text.now) part.new.escapes) }

@@ -5,12 +5,14 @@ ghost use Rattle.std.specs.List.{All};
 ghost use Rattle.std.specs.Str.{IsCharBoundary, IsUtf8};
 ghost use Rattle.yf_events.specs.Event.{new_event_value};
 ghost use Rattle.yf_flow.specs.Machine.{Indexed, Ready, left};
-ghost use Rattle.yf_flow.specs.Tied.{AtClosing, AtEntryDone, AtEntryEnd, Base, StepTied, end_event};
+ghost use Rattle.yf_grammar.specs.Parser.{PairKey};
+ghost use Rattle.yf_flow.specs.Steps.{Reached, Reading};
+ghost use Rattle.yf_flow.specs.Tied.{AtClosing, AtEnded, AtEntryDone, AtEntryEnd, Base, StepTied, end_event};
 
 use crate::entries::{Below, await_value, failed, pair_start};
 use crate::frame::{Frame, Kind, Node, Role, Scene, State, Step};
 use crate::gap::read_gap;
-use crate::look::{closes, colon_stands, is_key_line};
+use crate::look::{closes, colon_stands, is_pair_key};
 use crate::node::{empty_node, unplaced};
 use std::alloc::{AllocError, Global};
 use yf_chars::text::stands;
@@ -30,6 +32,7 @@ pub(crate) fn finish_node<'a>(
     requires boundary { IsCharBoundary scene.text.now node.end }
     requires top { Indexed scene.text.now (length part.old.events) top }
     requires below { All (Indexed scene.text.now (length part.old.events)) below.old.items }
+    ensures tied { (base : Base) → Reading scene.entry.text.now scene.entry.context scene.entry.limit base → AtEnded scene.entry.text.now scene.entry.indentation scene.entry.context base (reverse below.old.items) top node part.old → IfOk result (λ s. StepTied scene.entry.text.now scene.entry.indentation scene.entry.context base (reverse below.new.items) s.top s.step part.new) }
     ensures ready { IfOk result (λ s. Ready scene.entry.text.now node.end (length part.new.events) below.new.items s) }
     ensures moves { IfOk result (λ s. left (length scene.entry.text.now) s.step ≤ 2 * (length scene.entry.text.now - node.end) + 1) }
     ensures escapes { IfOk result (λ _. part.new.escapes ≡ part.old.escapes) }
@@ -62,15 +65,14 @@ fn behind_item<'a>(
     requires boundary { IsCharBoundary scene.text.now node.end }
     requires top { Indexed scene.text.now (length part.old.events) top }
     requires below { All (Indexed scene.text.now (length part.old.events)) below.old.items }
+    ensures tied { (base : Base) → Reading scene.entry.text.now scene.entry.context scene.entry.limit base → AtEnded scene.entry.text.now scene.entry.indentation scene.entry.context base (reverse below.old.items) top node part.old → top.role ≡ Role.Item → IfOk result (λ s. StepTied scene.entry.text.now scene.entry.indentation scene.entry.context base (reverse below.new.items) s.top s.step part.new) }
     ensures ready { IfOk result (λ s. Ready scene.entry.text.now node.end (length part.new.events) below.new.items s) }
     ensures moves { IfOk result (λ s. left (length scene.entry.text.now) s.step ≤ 2 * (length scene.entry.text.now - node.end) + 1) }
     ensures escapes { IfOk result (λ _. part.new.escapes ≡ part.old.escapes) }
 {
     let colon = skip_whites(scene.text, node.end);
-    if colon_stands(scene, colon, node.json) {
-        if is_key_line(scene.text, top.entry, colon) {
-            return pair_of_key(alloc, scene, node, colon, top, below, part);
-        }
+    if is_pair_key(scene, top.entry, colon, node.json) {
+        return pair_of_key(alloc, scene, node, colon, top, below, part);
     }
     after_entry(
         alloc,
@@ -95,6 +97,7 @@ fn pair_of_key<'a>(
     requires boundary { IsCharBoundary scene.text.now (colon + 1) }
     requires top { Indexed scene.text.now (length part.old.events) top }
     requires below { All (Indexed scene.text.now (length part.old.events)) below.old.items }
+    ensures tied { (base : Base) → Reading scene.entry.text.now scene.entry.context scene.entry.limit base → (a : AtEnded scene.entry.text.now scene.entry.indentation scene.entry.context base (reverse below.old.items) top node part.old) → top.role ≡ Role.Item → PairKey scene.entry.text.now scene.entry.context a.layer.start a.answer colon → IfOk result (λ s. StepTied scene.entry.text.now scene.entry.indentation scene.entry.context base (reverse below.new.items) s.top s.step part.new) }
     ensures ready { IfOk result (λ s. Ready scene.entry.text.now colon (length part.new.events) below.new.items s) }
     ensures moves { IfOk result (λ s. left (length scene.entry.text.now) s.step ≤ 2 * (length scene.entry.text.now - colon) + 1) }
     ensures escapes { IfOk result (λ _. part.new.escapes ≡ part.old.escapes) }
@@ -134,6 +137,7 @@ fn behind_key<'a>(
     requires boundary { IsCharBoundary scene.text.now node.end }
     requires top { Indexed scene.text.now (length part.old.events) top }
     requires below { All (Indexed scene.text.now (length part.old.events)) below.old.items }
+    ensures tied { (base : Base) → Reading scene.entry.text.now scene.entry.context scene.entry.limit base → (first : Frame) → AtEnded scene.entry.text.now scene.entry.indentation scene.entry.context base (reverse below.old.items) first node part.old → first.role ≡ Role.Key → Reached first node.deepest top → IfOk result (λ s. StepTied scene.entry.text.now scene.entry.indentation scene.entry.context base (reverse below.new.items) s.top s.step part.new) }
     ensures ready { IfOk result (λ s. Ready scene.entry.text.now node.end (length part.new.events) below.new.items s) }
     ensures moves { IfOk result (λ s. left (length scene.entry.text.now) s.step ≤ 2 * (length scene.entry.text.now - node.end) + 1) }
     ensures escapes { IfOk result (λ _. part.new.escapes ≡ part.old.escapes) }

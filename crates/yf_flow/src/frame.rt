@@ -1,5 +1,6 @@
 //! The open collections of a flow node, and the steps of its reader.
 ghost use Rattle.std.specs.Prelude.{◌≡◌, max, MatchBool};
+ghost use Rattle.yf_flow.specs.Steps.{first_role};
 
 use yf_chars::context::Ctx;
 
@@ -102,6 +103,10 @@ impl Frame {
         ensures event { result.event ≡ self.event }
         ensures index { result.entry_event ≡ entry_event }
         ensures entry { result.entry ≡ entry }
+        ensures kind { result.kind ≡ self.kind }
+        ensures depth { result.depth ≡ self.depth }
+        ensures deepest { result.deepest ≡ self.deepest }
+        ensures role { result.role ≡ first_role self.kind }
     {
         let role = match self.kind {
             Kind::Sequence => Role::Item,

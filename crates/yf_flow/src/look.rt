@@ -4,6 +4,7 @@ ghost use Rattle.std.specs.Str.{IsCharBoundary};
 ghost use Rattle.yf_chars.specs.Text.{code, Reads};
 ghost use Rattle.yf_grammar.specs.Parser.{ColonAt, begins_content};
 ghost use Rattle.yf_grammar.specs.Part.{NotedSince};
+ghost use Rattle.yf_flow.specs.KeyThere.{KeyThere};
 ghost use Rattle.yf_flow.specs.Leaves.{Closes, KeyLine};
 
 use crate::frame::{Kind, Scene};
@@ -114,6 +115,23 @@ pub fn is_key_line(text: &str, start: usize, end: usize) -> bool
         room -= 1;
     }
     true
+}
+
+/// Whether the `:` of a value stands at `colon`, after a node that begins at `start` and, with the white space behind it, may
+/// be the key of a single pair.
+pub(crate) fn is_pair_key(scene: Scene, start: usize, colon: usize, json: bool) -> bool
+    requires start { IsCharBoundary scene.text.now start }
+    requires colon { IsCharBoundary scene.text.now colon }
+    ensures behind { result ≡ true → IsCharBoundary scene.entry.text.now (colon + 1) }
+    ensures cases { MatchBool result (KeyThere scene.entry.text.now scene.entry.context start json colon) (KeyThere scene.entry.text.now scene.entry.context start json colon → ⊥) }
+{
+    if colon_stands(scene, colon, json) {
+        if is_key_line(scene.text, start, colon) {
+            return true;
+        }
+        return false;
+    }
+    false
 }
 
 /// Whether a blank line stands before the place at which an entry begins.

@@ -1,13 +1,8 @@
-use Rattle.std.proofs.Common.{◌≡◌, ℕ, List, [], Some, None, refl, sym, ap, ◌∙◌, subst}
+use Rattle.std.proofs.Common.{◌≡◌, ℕ, List, [], Some, None, refl, sym, subst}
 use Rattle.yf_events.specs.declared.event.Entry.{Entry}
 use Rattle.yf_flow.specs.Tied.{EntryNoted, NotedEvent, NoteOf, entry_noted, entry_from, pair_event}
+use Rattle.yf_flow.proofs.EntryNotes.{entry_is}
 use Rattle.yf_flow.proofs.entries.pair_start.Goals as goal
-
--- an entry is its start, its colon and its note
-entry_is : {t : List ℕ} {s : ℕ} (e : Entry) → EntryNoted t s None e → record (entry_from s) { blank_before = e.blank_before } ≡ e
-entry_is {s = s} e q =
-    sym (ap (λ z. record { start = z; colon = e.colon; blank_before = e.blank_before }) q.start
-    ∙ ap (λ z. record { start = s; colon = z; blank_before = e.blank_before }) q.colon_there)
 
 pair_noted : {t : List ℕ} {s : ℕ} (e : Entry) → EntryNoted t s None e → (folded : List (List ℕ)) → folded ≡ []
     → NotedEvent t (pair_event s) (record (pair_event s) { entry = Some e; folded = folded })

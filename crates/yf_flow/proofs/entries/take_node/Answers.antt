@@ -1,0 +1,28 @@
+use Rattle.std.proofs.Common.{arith}
+use Rattle.yf_flow.proofs.Frames.{frames_pushed}
+use Rattle.yf_flow.proofs.TiedBegun.{missing_fails}
+use Rattle.yf_flow.proofs.TiedClose.{popped, failed_tied}
+use Rattle.yf_flow.proofs.TiedTaken.{taken_leaf, taken_opened, taken_full}
+use Rattle.yf_flow.proofs.entries.take_node.Goals as goal
+
+pub returns-in-Leaf-clause-tied : goal.returns-in-Leaf-clause-tied
+returns-in-Leaf-clause-tied c = λ base r a. taken_leaf r a c.entry_begun-entry.ensures (rw c.in-Leaf.is at c.in_ok-node.ensures.exact)
+
+pub returns-in_ok-push-in-Opened-clause-tied : goal.returns-in_ok-push-in-Opened-clause-tied
+returns-in_ok-push-in-Opened-clause-tied c = λ base r a.
+    taken_opened r a c.entry_begun-entry.ensures (rw c.in-Opened.is at c.in_ok-node.ensures.exact) (popped _ _ c.args.top c.in_ok-push-in-Opened.ensures.ok)
+
+pub returns-in_ok-push-in-Opened-clause-ready : goal.returns-in_ok-push-in-Opened-clause-ready
+returns-in_ok-push-in-Opened-clause-ready c =
+    let b = rw c.in-Opened.is at c.in_ok-node.ensures.begun in
+    let q = c.requires.top in
+    record {
+      below = frames_pushed _ _ _ _ _ c.in_ok-push-in-Opened.ensures.ok c.in_ok-node.ensures.grows c.requires.below (record { event = omega (arith, b.2, q.event); entry = omega (arith, b.2, q.entry); place = q.place });
+      step = (record { boundary = b.0.boundary; order = omega (arith, b.0.order) }, b.1);
+    }
+
+pub returns-in-Nothing-clause-tied : goal.returns-in-Nothing-clause-tied
+returns-in-Nothing-clause-tied c = λ base r a. failed_tied _ _ _ base _ _ _ _ c.failed.ensures (missing_fails a (rw c.in-Nothing.is at c.in_ok-node.ensures.exact))
+
+pub returns-in-TooDeep-clause-tied : goal.returns-in-TooDeep-clause-tied
+returns-in-TooDeep-clause-tied c = λ base r a. taken_full r a (rw c.in-TooDeep.is at c.in_ok-node.ensures.exact)

@@ -1,0 +1,13 @@
+use Rattle.yf_flow.proofs.TiedItems.{ended_key, ended_no_key, item_read_done, item_is_no_pair}
+use Rattle.yf_flow.proofs.TiedPairs.{done_entry}
+use Rattle.yf_flow.proofs.entry_ends.behind_item.Goals as goal
+
+pub returns-then-is_pair_key-clause-tied : goal.returns-then-is_pair_key-clause-tied
+returns-then-is_pair_key-clause-tied c = λ base r a q. c.pair_of_key.ensures.tied base r a q (ended_key a c.skip_whites-colon.ensures.whites.1 c.if-is_pair_key.ensures.cases)
+
+pub returns-clause-tied : goal.returns-clause-tied
+returns-clause-tied c = λ base r a q.
+    let v = c.reaching.ensures in
+    c.after_entry.ensures.tied base r.utf8
+    (done_entry (item_read_done a q (ended_no_key a c.skip_whites-colon.ensures.whites.1 c.skip_whites-colon.ensures.all c.if-is_pair_key.ensures.cases) c.reaching.result v.kind v.event v.depth v.deepest)
+    (item_is_no_pair a q c.reaching.result v.kind))

@@ -1,0 +1,23 @@
+use Rattle.std.proofs.Common.{◌∙◌, ◌++◌, ◌∷◌, take, drop, refl, ap, arith}
+use Rattle.yf_events.specs.Event.{placed_value}
+use Rattle.yf_flow.proofs.Frames.{frames_pushed, inserted_longer}
+use Rattle.yf_flow.proofs.TiedClose.{popped}
+use Rattle.yf_flow.proofs.TiedItems.{item_deep_fails}
+use Rattle.yf_flow.proofs.TiedPairKeys.{key_pair}
+use Rattle.yf_flow.proofs.entry_ends.pair_of_key.Goals as goal
+
+pub returns-then-deepest-scene-clause-tied : goal.returns-then-deepest-scene-clause-tied
+returns-then-deepest-scene-clause-tied c = λ base r a q key. item_deep_fails a q r key (omega (arith, c.max-deepest.ensures, c.if-deepest-scene.true))
+
+pub await_value-requires-clause-below : goal.await_value-requires-clause-below
+await_value-requires-clause-below c =
+    let l = inserted_longer _ _ _ _ c.in_ok-insert.ensures in
+    let q = c.requires.top in
+    frames_pushed _ _ _ _ c.args.top c.in_ok-push.ensures.ok (omega (arith, l, c.in_ok-set_colon.ensures.len)) c.requires.below
+    (record { event = omega (arith, l, c.in_ok-set_colon.ensures.len, q.event); entry = omega (arith, l, c.in_ok-set_colon.ensures.len, q.entry); place = q.place })
+
+pub returns-clause-tied : goal.returns-clause-tied
+returns-clause-tied c = λ base r a q key.
+    c.await_value.ensures.tied base r.utf8
+    (key_pair a q r key (omega (arith, c.max-deepest.ensures, c.if-deepest-scene.false)) _ refl refl (omega (arith, c.max-deepest.ensures)) refl refl (placed_value c.pair_start.result) c.pair_start.ensures
+    (c.in_ok-insert.ensures ∙ ap (λ z. take c.args.top.entry_event z ++ placed_value c.pair_start.result ∷ drop c.args.top.entry_event z) c.in_ok-set_colon.ensures.edited) refl refl (popped _ _ c.args.top c.in_ok-push.ensures.ok))
