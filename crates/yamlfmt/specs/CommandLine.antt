@@ -38,10 +38,14 @@ writing_command = with_rule (with_rule (with_rule (new_app (codes "fmt")) config
 abbrev pub wants_command : Shape → Shape
 wants_command s = record s { has_version = true; no_binary_name = true; subcommand_required = true; arg_required_else_help = true }
 
+-- `yamlfmt`, before its commands
+abbrev pub bare_command : App
+bare_command = on_top wants_command (new_app (codes "yamlfmt"))
+
 -- `yamlfmt COMMAND`
 unfoldable pub yamlfmt : App
 yamlfmt =
-    with_subcommand (with_subcommand (with_subcommand (on_top wants_command (new_app (codes "yamlfmt")))
+    with_subcommand (with_subcommand (with_subcommand bare_command
     (reading_command (codes "events")).top)
     (reading_command (codes "check")).top)
     writing_command.top

@@ -2,7 +2,7 @@
 ghost use Rattle.std.specs.Prelude.{◌≡◌, ◌≢◌, false, map, IfOk, MatchOption, MatchResult, string_bytes};
 ghost use Rattle.clap.specs.Words.{app_of, first_of, found_of, kind_of, rows_of, rule_of, subcommand_rows_of};
 ghost use Rattle.clap.specs.declared.builder.command.Command.TheViews.{out-Command};
-ghost use Rattle.yamlfmt.specs.CommandLine.{config_option, file_word, write_flag, reading_command, writing_command, yamlfmt};
+ghost use Rattle.yamlfmt.specs.CommandLine.{bare_command, config_option, file_word, write_flag, reading_command, writing_command, yamlfmt};
 ghost use Rattle.yamlfmt.specs.CommandLine.{Answers, Asks, AsksFor, IsWrong, Lacks, RefusesWords, is_set, verb_word};
 
 use crate::shown::shown_text;
@@ -91,25 +91,34 @@ pub fn parse_line(alloc: Global, words: &[String]) -> Result<Cmd, Usage>
 fn yamlfmt_command<'a>(alloc: Global) -> Result<Command<'a>, AllocError>
     ensures { IfOk result (λ c. app_of c ≡ yamlfmt) }
 {
+    let bare = bare_command(alloc)?;
     let events = reading_command(alloc, EVENTS, "Print the events of a YAML stream")?;
+    let with_events = bare.subcommand(events)?;
     let check = reading_command(
         alloc,
         CHECK,
         "Print where a YAML stream departs from the house style",
     )?;
+    let with_check = with_events.subcommand(check)?;
     let fmt = fmt_command(alloc)?;
-    Command::new(alloc, "yamlfmt")
-        .bin_name("yamlfmt")?
-        .version(VERSION)
-        .about(
-            "Prints the events of a YAML stream, checks its style and rewrites it in one house style",
-        )
-        .no_binary_name(true)
-        .subcommand_required(true)
-        .arg_required_else_help(true)
-        .subcommand(events)?
-        .subcommand(check)?
-        .subcommand(fmt)
+    with_check.subcommand(fmt)
+}
+
+// The program's command before its subcommands.
+fn bare_command<'a>(alloc: Global) -> Result<Command<'a>, AllocError>
+    ensures { IfOk result (λ c. app_of c ≡ bare_command) }
+{
+    let named = Command::new(alloc, "yamlfmt").bin_name("yamlfmt")?;
+    Ok(
+        named
+            .version(VERSION)
+            .about(
+                "Prints the events of a YAML stream, checks its style and rewrites it in one house style",
+            )
+            .no_binary_name(true)
+            .subcommand_required(true)
+            .arg_required_else_help(true),
+    )
 }
 
 fn reading_command<'a>(

@@ -7,7 +7,7 @@ use crate::input::read_all;
 use crate::replacing::{Held, Opened, open_regular, replace};
 use crate::run::INPUT_LIMIT;
 use std::alloc::Global;
-use std::fs::File;
+use std::fs::{File, Metadata};
 use std::rt::Files;
 use yf_chars::utf8::{BadByte, check_utf8};
 use yf_emit::format::format;
@@ -50,17 +50,25 @@ where
     if formatted.as_str().as_bytes() == bytes.as_slice() {
         return Ok(());
     }
+    replace_text(rt, reader.get_ref(), &metadata, path, formatted.as_str())
+}
+
+// Puts the text in the place of the open file, by way of a new file beside it.
+fn replace_text<R: Files + AllocGlobal>(
+    rt: &R,
+    file: &R::File,
+    metadata: &Metadata,
+    path: &str,
+    text: &str,
+) -> Result<(), Fault>
+where
+    R::File: Held,
+    ensures { IfErr result IsRewriteFault }
+{
     let Ok(new_path) = format!(in rt.alloc(); "{path}.yamlfmt-new") else {
         return Err(Fault::Memory);
     };
-    match replace(
-        rt,
-        reader.get_ref(),
-        &metadata,
-        path,
-        new_path.as_str(),
-        formatted.as_str(),
-    ) {
+    match replace(rt, file, metadata, path, new_path.as_str(), text) {
         Ok(()) => Ok(()),
         Err(_) => Err(Fault::WriteFailed),
     }

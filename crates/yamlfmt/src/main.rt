@@ -47,7 +47,7 @@ use command_line::{Cmd, parse_line};
 use files::{open, rewrite};
 use program::{GOOD, answer_usage, read_style, run, written_out};
 use report::report;
-use std::alloc::AllocError;
+use std::alloc::{AllocError, Global};
 use std::io::BufWriter;
 use std::process::ExitCode;
 use std::{env, io};
@@ -146,20 +146,23 @@ fn run_with_rules<R: Source>(
     reader: &mut R,
 ) -> Result<u8, AllocError> {
     let alloc = rt.alloc();
+    let (trailing_blanks, final_break, line_breaks, blank_lines, line_length) = line_rules(alloc)?;
+    let (byte_order_mark, document_start, comment_space, repeated_keys) = stream_rules(alloc)?;
+    let (indentation, quoting, flow_layout, key_mark) = node_rules(alloc)?;
     let rules: [Box<dyn Rule>; 13] = [
-        Box::new(alloc, TrailingBlanks)?,
-        Box::new(alloc, Indentation)?,
-        Box::new(alloc, Quoting)?,
-        Box::new(alloc, DocumentStart)?,
-        Box::new(alloc, FinalBreak)?,
-        Box::new(alloc, LineBreaks)?,
-        Box::new(alloc, ByteOrderMark)?,
-        Box::new(alloc, BlankLines)?,
-        Box::new(alloc, FlowLayout)?,
-        Box::new(alloc, CommentSpace)?,
-        Box::new(alloc, LineLength)?,
-        Box::new(alloc, RepeatedKeys)?,
-        Box::new(alloc, KeyMark)?,
+        trailing_blanks,
+        indentation,
+        quoting,
+        document_start,
+        final_break,
+        line_breaks,
+        byte_order_mark,
+        blank_lines,
+        flow_layout,
+        comment_space,
+        line_length,
+        repeated_keys,
+        key_mark,
     ];
     let Ok(output) = BufWriter::with_capacity(alloc, HELD_BACK, rt.stdout()) else {
         return Err(AllocError);
@@ -176,4 +179,66 @@ fn run_with_rules<R: Source>(
         &mut error_stream,
     );
     Ok(written_out(status, &mut writer, &mut error_stream))
+}
+
+/// The rules of lines.
+fn line_rules(
+    alloc: Global,
+) -> Result<
+    (
+        Box<TrailingBlanks>,
+        Box<FinalBreak>,
+        Box<LineBreaks>,
+        Box<BlankLines>,
+        Box<LineLength>,
+    ),
+    AllocError,
+> {
+    Ok((
+        Box::new(alloc, TrailingBlanks)?,
+        Box::new(alloc, FinalBreak)?,
+        Box::new(alloc, LineBreaks)?,
+        Box::new(alloc, BlankLines)?,
+        Box::new(alloc, LineLength)?,
+    ))
+}
+
+/// The rules of what stands between nodes, and of keys.
+fn stream_rules(
+    alloc: Global,
+) -> Result<
+    (
+        Box<ByteOrderMark>,
+        Box<DocumentStart>,
+        Box<CommentSpace>,
+        Box<RepeatedKeys>,
+    ),
+    AllocError,
+> {
+    Ok((
+        Box::new(alloc, ByteOrderMark)?,
+        Box::new(alloc, DocumentStart)?,
+        Box::new(alloc, CommentSpace)?,
+        Box::new(alloc, RepeatedKeys)?,
+    ))
+}
+
+/// The rules of how nodes are written.
+fn node_rules(
+    alloc: Global,
+) -> Result<
+    (
+        Box<Indentation>,
+        Box<Quoting>,
+        Box<FlowLayout>,
+        Box<KeyMark>,
+    ),
+    AllocError,
+> {
+    Ok((
+        Box::new(alloc, Indentation)?,
+        Box::new(alloc, Quoting)?,
+        Box::new(alloc, FlowLayout)?,
+        Box::new(alloc, KeyMark)?,
+    ))
 }
