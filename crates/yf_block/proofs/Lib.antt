@@ -1,2 +1,3 @@
 pub mod AwaitingLemmas
 pub mod Forward
+pub mod TiedFrames
