@@ -1,2 +1,4 @@
 pub mod AwaitingLemmas
 pub mod Forward
+pub mod TiedFrames
+pub mod LookLemmas

@@ -1,3 +1,6 @@
 pub mod Awaiting
+pub mod BlockStepTied
+pub mod BlockTied
+pub mod Looks
 pub mod Machine
 pub mod NodeReaders

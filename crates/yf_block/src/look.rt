@@ -1,7 +1,9 @@
 //! Tests of what stands at a place of a block node, and walks that read nothing.
-ghost use Rattle.std.specs.Prelude.{◌≡◌, ◌+◌, ◌<◌, true, IfSome};
+ghost use Rattle.std.specs.Prelude.{◌≡◌, ◌+◌, ◌<◌, true, IfSome, MatchBool};
 ghost use Rattle.std.specs.Str.{IsCharBoundary};
 ghost use Rattle.yf_flow.specs.Machine.{Place};
+ghost use Rattle.yf_grammar.specs.BlockParser.{DashAt, LinesEnd, SignAt};
+ghost use Rattle.yf_block.specs.Looks.{LineEndsAt};
 
 use yf_chars::classes::is_ns_char;
 use yf_chars::text::{peek, stands};
@@ -14,7 +16,8 @@ use yf_lines::basic::{
 
 /// Whether the `-` of an entry stands there (c-l-block-seq-entry, production 184).
 pub(crate) fn dash_stands(text: &str, at: usize) -> bool
-    ensures { result ≡ true → IsCharBoundary text.now (at + 1) }
+    ensures boundary { result ≡ true → IsCharBoundary text.now (at + 1) }
+    ensures cases { MatchBool result (DashAt text.now at) (DashAt text.now at → ⊥) }
 {
     if stands(text, at, b'-') {
         return match peek(text, at + 1) {
@@ -28,7 +31,8 @@ pub(crate) fn dash_stands(text: &str, at: usize) -> bool
 /// Whether that sign of an entry, `?` or `:`, stands there, with white, a break or the end of the text after it.
 pub(crate) fn sign_stands(text: &str, at: usize, sign: u8) -> bool
     requires { sign < 128 }
-    ensures { result ≡ true → IsCharBoundary text.now (at + 1) }
+    ensures boundary { result ≡ true → IsCharBoundary text.now (at + 1) }
+    ensures cases { MatchBool result (SignAt text.now sign at) (SignAt text.now sign at → ⊥) }
 {
     if stands(text, at, sign) {
         return white_or_end_stands(text, at + 1);
@@ -76,7 +80,9 @@ fn is_short_line(text: &str, start: usize, end: usize) -> bool {
 }
 
 /// Whether nothing more stands on the line from the offset on; a comment stands after a white.
-pub(crate) fn line_ends(text: &str, at: usize, behind_white: bool) -> bool {
+pub(crate) fn line_ends(text: &str, at: usize, behind_white: bool) -> bool
+    ensures { MatchBool result (LineEndsAt text.now behind_white at) (LineEndsAt text.now behind_white at → ⊥) }
+{
     if at == text.len() {
         return true;
     }
@@ -93,7 +99,9 @@ pub(crate) fn line_ends(text: &str, at: usize, behind_white: bool) -> bool {
 }
 
 /// Whether no line of a node begins there: at the end of the text, a byte order mark or a document marker.
-pub(crate) fn node_ends(text: &str, at: usize) -> bool {
+pub(crate) fn node_ends(text: &str, at: usize) -> bool
+    ensures { MatchBool result (LinesEnd text.now at) (LinesEnd text.now at → ⊥) }
+{
     if at == text.len() {
         return true;
     }

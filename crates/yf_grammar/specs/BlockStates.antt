@@ -1,6 +1,6 @@
 -- The states of a reader of block nodes with a stack, as far as they are tied to the relations `Whole` and `Halts`: what has been
 -- read, and what is known of the outermost node. In each of them h is the outermost node's last halt, should the text go wrong next.
-use Rattle.std.specs.Prelude.{◌≡◌, ℕ, suc, max, ◌<◌, Bool, List, [], ◌∷◌, true, Option, Some, None}
+use Rattle.std.specs.Prelude.{◌≡◌, ℕ, suc, max, ◌<◌, ◌≤◌, Bool, List, [], ◌∷◌, true, Option, Some, None}
 use Rattle.yf_comments.specs.Comment.{CommentValue}
 use Rattle.yf_grammar.specs.Grammar.{ColonLine}
 use Rattle.yf_grammar.specs.Meaning.{◌⊕◌}
@@ -98,3 +98,12 @@ pub data AllEnd (t : List ℕ) (at : ℕ) : List Layer → Type 0 where
 pub data AllDeeper (m : ℕ) : List Layer → Type 0 where
   no_more : AllDeeper m []
   one_deeper : {l : Layer} {ls : List Layer} → m < l.column → AllDeeper m ls → AllDeeper m (l ∷ ls)
+
+-- collections no column of which is greater; and those none of which is less deep than one round it
+pub data AllWithin (m : ℕ) : List Layer → Type 0 where
+  none_within : AllWithin m []
+  one_within : {l : Layer} {ls : List Layer} → l.column ≤ m → AllWithin m ls → AllWithin m (l ∷ ls)
+
+pub data Deepening : List Layer → Type 0 where
+  none_deepens : Deepening []
+  one_deepens : {l : Layer} {ls : List Layer} → AllWithin l.column ls → Deepening ls → Deepening (l ∷ ls)
