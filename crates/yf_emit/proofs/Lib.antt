@@ -38,6 +38,7 @@ pub mod PassLemmas
 pub mod PlainFits
 pub mod PlaceLemmas
 pub mod PropsFits
+pub mod ReadFits
 pub mod RestyledLemmas
 pub mod RowEnds
 pub mod PrintLemmas

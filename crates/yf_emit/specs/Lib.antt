@@ -29,6 +29,7 @@ pub mod Printed
 pub mod Printers
 pub mod Printing
 pub mod Printout
+pub mod ReadTrees
 pub mod Restyled
 pub mod RowShapes
 pub mod Rows
