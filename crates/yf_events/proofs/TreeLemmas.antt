@@ -47,7 +47,7 @@ three x y z r = append_assoc x (y ++ z) r ∙ ap (λ w. x ++ w) (append_assoc y 
 
 -- two trees whose events begin the same list are the same tree
 mutual
-  node_unique : (x y : Node) (r s : List Placed) → flat x ++ r ≡ flat y ++ s → (x ≡ y) × (r ≡ s)
+  pub node_unique : (x y : Node) (r s : List Placed) → flat x ++ r ≡ flat y ++ s → (x ≡ y) × (r ≡ s)
   node_unique (scalar a p st t l) (scalar b q su u m) r s e =
       let h : placed a (scalar_node p st t) l ≡ placed b (scalar_node q su u) m = same_first _ _ _ _ e in
       let e1 : a ≡ b = same_standing _ _ _ _ _ _ h in

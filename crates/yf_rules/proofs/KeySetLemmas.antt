@@ -13,6 +13,7 @@ use Rattle.std.proofs.lemmas.Map.Views.{tells_apart}
 use Rattle.std.proofs.lemmas.List.Elements.{Contains-append_cases, Contains-append_left, Contains-append_right, Contains-push_cases}
 use Rattle.yf_events.specs.Tree.{Node, scalar, alias, sequence, mapping, Items, no_items, item, Pairs, no_pairs, pair, DocumentTree, flat, flat_document}
 use Rattle.yf_events.specs.declared.lists.Lists.{Lists}
+use Rattle.yf_rules.proofs.FlowLemmas.{node_size}
 use Rattle.yf_rules.specs.Exact.{Exactly}
 use Rattle.yf_rules.specs.KeyPass.{KeyValue, add_key, found_in, found_in_documents, found_in_items, found_in_pairs, has_key, is_known, key_of, offset_if, value_cmp}
 use Rattle.yf_rules.specs.Nodes.{Holds, Numbered, NumberedPair, RepeatedKey, StandsIn, items_from, items_of, key_place, pairs_from, pairs_of, roots_from, scalar_text}
@@ -24,14 +25,14 @@ nothing_in : {X : Type 0} (y : X) → Contains {X = X} [] y → ⊥
 nothing_in y c = omega (arith, c.1)
 
 -- the first element of a list, or a later one
-head_or_later : {X : Type 0} (x : X) (xs : List X) (y : X) → Contains (x ∷ xs) y → (x ≡ y) ⊎ Contains xs y
+pub head_or_later : {X : Type 0} (x : X) (xs : List X) (y : X) → Contains (x ∷ xs) y → (x ≡ y) ⊎ Contains xs y
 head_or_later {X} x xs y c = ⊎_elim (λ (h : Contains (x ∷ []) y). ⊎_elim (λ (n : Contains {X = X} [] y). absurd (nothing_in y n)) (λ (e : x ≡ y). inl e) (Contains-push_cases [] x y h))
     (λ (h : Contains xs y). inr h) (Contains-append_cases (x ∷ []) xs y c)
 
-is_head : {X : Type 0} (x : X) (xs : List X) → Contains (x ∷ xs) x
+pub is_head : {X : Type 0} (x : X) (xs : List X) → Contains (x ∷ xs) x
 is_head x xs = (0, omega arith, refl)
 
-is_later : {X : Type 0} (x : X) (xs : List X) (y : X) → Contains xs y → Contains (x ∷ xs) y
+pub is_later : {X : Type 0} (x : X) (xs : List X) (y : X) → Contains xs y → Contains (x ∷ xs) y
 is_later x xs y c = Contains-append_right (x ∷ []) xs y c
 
 -- an offset that is found on a condition
@@ -65,12 +66,6 @@ not_less e = cc
 
 not_greater : Greater ≡ Equal → ⊥
 not_greater e = cc
-
-node_size : (x : Node) → 1 ≤ length (flat x)
-node_size (scalar at props style text lines) = omega arith
-node_size (alias at name) = omega arith
-node_size (sequence at flow props items) = omega arith
-node_size (mapping at flow props pairs) = omega arith
 
 text_of : (x : Node) (tags : List (Option (List ℕ))) (i : ℕ) (w : KeyValue) → key_of tags i x ≡ Some w → scalar_text x ≡ Some w.0
 text_of (scalar at props style text lines) tags i w e = ap (λ v. Some v.0) (some_value e)

@@ -17,5 +17,10 @@ pub mod KeyTreeLemmas
 pub mod KeySetLemmas
 pub mod KeyPassLemmas
 pub mod StyleLemmas
+pub mod NodeLemmas
+pub mod FlowLemmas
+pub mod ColumnLemmas
+pub mod DisplacedLemmas
+pub mod NeedlessLemmas
 pub mod ShownMarks
 mod ShownKeys

@@ -12,6 +12,9 @@ pub mod BlankNotes
 pub mod Nodes
 pub mod KeyPass
 pub mod Laws
+pub mod OuterFlow
+pub mod QuestionMarks
+pub mod MarkedKeys
 pub mod Layouts
 pub mod Sets
 pub mod Check

@@ -7,11 +7,13 @@ use Rattle.yf_lines.specs.declared.line.Line.{Line}
 use Rattle.yf_lines.specs.Lines.{Table}
 use Rattle.yf_events.specs.Tree.{DocumentTree, TreesOf}
 use Rattle.yf_events.specs.declared.lists.Lists.{Lists}
+use Rattle.yf_emit.specs.Textual.{CommentsAscend, IsTextual}
 use Rattle.yf_emit.specs.declared.style.Style.{Style}
 use Rattle.yf_rules.specs.BlankLines.{MisplacedBlank}
 use Rattle.yf_rules.specs.ByLine.{BeyondLimit, TrailingBlank}
 use Rattle.yf_rules.specs.Documents.{NoMarkerLine}
 use Rattle.yf_rules.specs.Exact.{Exactly}
+use Rattle.yf_rules.specs.Layouts.{Displaced, NeedlessMark}
 use Rattle.yf_rules.specs.Nodes.{RepeatedKey}
 use Rattle.yf_rules.specs.Scalars.{LooseMark}
 use Rattle.yf_rules.specs.Styles.{Misquoted}
@@ -34,8 +36,8 @@ first_return t (l ∷ ls) = if code t l.end == 13 then l.end ∷ [] else first_r
 abbrev pub line_breaks_at : Table → Lists → Style → List ℕ → Type 0
 line_breaks_at src reading style offsets = offsets ≡ first_return src.text src.lines
 
--- of some rules no set is told here: that their places lie in the text is all that their contracts say. The sets of indentation
--- (`Misindented`), flow-layout (`Displaced`) and key-mark (`NeedlessMark`) are defined, and the rules held to them by tests alone
+-- of indentation no set is told here: that its places lie in the text is all that its contract says. Its set (`Misindented`) is defined,
+-- and the rule held to it by tests alone
 abbrev pub AnyOffsets : List ℕ → Type 0
 AnyOffsets offsets = Unit {0}
 
@@ -57,8 +59,10 @@ byte_order_mark_at src reading style offsets = Exactly (LooseMark src.text readi
 abbrev pub blank_lines_at : Table → Lists → Style → List ℕ → Type 0
 blank_lines_at src reading style offsets = Exactly (MisplacedBlank src reading) offsets
 
+-- of a reading with trees whose comments stand in the order of the text
 abbrev pub flow_layout_at : Table → Lists → Style → List ℕ → Type 0
-flow_layout_at src reading style offsets = AnyOffsets offsets
+flow_layout_at src reading style offsets =
+    (trees : List DocumentTree) → TreesOf reading trees → CommentsAscend reading → Exactly (Displaced src reading style) offsets
 
 abbrev pub comment_space_at : Table → Lists → Style → List ℕ → Type 0
 comment_space_at src reading style offsets = Exactly (CloseComment src.text reading) offsets
@@ -70,5 +74,6 @@ line_length_at src reading style offsets = Exactly (BeyondLimit src style.max_li
 abbrev pub repeated_keys_at : Table → Lists → Style → List ℕ → Type 0
 repeated_keys_at src reading style offsets = (trees : List DocumentTree) → TreesOf reading trees → Exactly (RepeatedKey reading trees) offsets
 
+-- of a reading as texts have them
 abbrev pub key_mark_at : Table → Lists → Style → List ℕ → Type 0
-key_mark_at src reading style offsets = AnyOffsets offsets
+key_mark_at src reading style offsets = (w : IsTextual reading) → Exactly (NeedlessMark src reading style w.trees) offsets

@@ -1,8 +1,16 @@
 //! Rule 13, key-mark.
-ghost use Rattle.std.specs.Prelude.{◌<◌, length};
+ghost use Rattle.std.specs.Prelude.{◌≡◌, ◌<◌, ℕ, false, List, length, IfOk};
+ghost use Rattle.yf_emit.specs.declared.style.Style.{Style};
+ghost use Rattle.yf_events.specs.Tree.{DocumentTree};
+ghost use Rattle.yf_rules.specs.Exact.{Answers};
+ghost use Rattle.yf_rules.specs.Layouts.{NeedlessMark};
+ghost use Rattle.yf_rules.specs.MarkedKeys.{TellsKeys};
+ghost use Rattle.yf_rules.specs.QuestionMarks.{IsMarked};
+ghost use Rattle.yf_rules.specs.OuterFlow.{FlowsDone};
+ghost use Rattle.yf_rules.specs.Sets.{key_mark_at};
 
+use crate::outer_flow::past_flow;
 use crate::rule::{Rule, placed};
-use crate::stands::{Pass, Stand};
 use crate::whites::has_question_mark;
 use std::alloc::{AllocError, Global};
 use yf_emit::decide::{Forms, decide};
@@ -58,6 +66,7 @@ impl Rule for KeyMark {
 /// The `?` with which the entry is written that the event begins, if it begins one that is.
 fn mark_of(src: &Src, reading: &Reading, i: usize) -> Option<usize>
     requires { i < length reading.now.events }
+    ensures { Answers (IsMarked src.now.text reading.now i) result }
 {
     match reading.entry(i) {
         Some(entry) => {
@@ -71,34 +80,30 @@ fn mark_of(src: &Src, reading: &Reading, i: usize) -> Option<usize>
 }
 
 /// Whether any entry is written with a `?`.
-fn has_marks(src: &Src, reading: &Reading) -> bool {
+fn has_marks(src: &Src, reading: &Reading) -> bool
+    ensures { result ≡ false → (i o : ℕ) → IsMarked src.now.text reading.now i o → ⊥ }
+{
     for i in 0..reading.len() {
-        if mark_of(src, reading, i).is_some() {
-            return true;
+        match mark_of(src, reading, i) {
+            Some(_) => return true,
+            None => {}
         }
     }
     false
 }
 
-/// The `?` before the key, if it is to be written without.
-fn needless(src: &Src, reading: &Reading, stand: Stand, forms: &Forms, i: usize) -> Option<usize>
+/// The `?` before the key, if it is to be written without; keys that begin up to the event of the index `done` stand in a flow collection.
+fn needless(src: &Src, reading: &Reading, forms: &Forms, i: usize, done: usize) -> Option<usize>
     requires { i < length reading.now.events }
+    ensures { (house : Style) (trees : List DocumentTree) → TellsKeys src.now.text reading.now house trees forms.now → FlowsDone reading.now.events i done → Answers (NeedlessMark src.now reading.now house trees i) result }
 {
-    if stand.outer.is_none() || !forms.at(i).is_implicit {
+    if i <= done {
         return None;
     }
-    mark_of(src, reading, i)
-}
-
-/// The forms of all events. What is measured for them is given back before they are used.
-fn forms_of(
-    alloc: Global,
-    src: &Src,
-    reading: &Reading,
-    style: &Style,
-) -> Result<Forms, AllocError> {
-    let measures = measure_all(alloc, src, reading, style)?;
-    decide(alloc, &measures, reading, style)
+    if forms.at(i).is_implicit {
+        return mark_of(src, reading, i);
+    }
+    None
 }
 
 fn offsets(
@@ -106,18 +111,22 @@ fn offsets(
     src: &Src,
     reading: &Reading,
     style: &Style,
-) -> Result<Vec<usize>, AllocError> {
+) -> Result<Vec<usize>, AllocError>
+    ensures { IfOk result (λ offsets. key_mark_at src.now reading.now style.now offsets.items) }
+{
     let mut offsets = Vec::new(alloc);
     if !has_marks(src, reading) {
         return Ok(offsets);
     }
-    let forms = forms_of(alloc, src, reading, style)?;
-    let mut pass = Pass::new(alloc, src, reading)?;
+    let measures = measure_all(alloc, src, reading, style)?;
+    let forms = decide(alloc, &measures, reading, style)?;
+    let mut done = 0;
     for i in 0..reading.len() {
-        let stand = pass.next(src, reading, i)?;
-        if let Some(offset) = needless(src, reading, stand, &forms, i) {
-            offsets.push(offset)?;
+        match needless(src, reading, &forms, i, done) {
+            Some(offset) => offsets.push(offset)?,
+            None => {}
         }
+        done = past_flow(reading, &measures, i, done);
     }
     Ok(offsets)
 }

@@ -17,6 +17,7 @@ pub mod key_mark;
 pub mod line_breaks;
 pub mod line_length;
 pub mod notes;
+pub mod outer_flow;
 pub mod places;
 pub mod quoting;
 pub mod repeated_keys;

@@ -1,5 +1,6 @@
 //! White space at the ends of lines and before comments.
 ghost use Rattle.std.specs.Prelude.{◌≡◌, ◌≤◌, MatchBool};
+ghost use Rattle.yf_rules.specs.QuestionMarks.{HasQuestionMark};
 ghost use Rattle.yf_rules.specs.Whites.{WhitesEnd};
 
 use yf_chars::text::stands;
@@ -35,7 +36,9 @@ pub fn is_white_line(text: &str, line: Line) -> bool
 }
 
 /// Whether an entry of a block mapping is written with a `?`.
-pub fn has_question_mark(text: &str, entry: Entry) -> bool {
+pub fn has_question_mark(text: &str, entry: Entry) -> bool
+    ensures { MatchBool result (HasQuestionMark text.now entry.start) (HasQuestionMark text.now entry.start → ⊥) }
+{
     if stands(text, entry.start, b'?') {
         return white_or_end_stands(text, entry.start + 1);
     }

@@ -1,0 +1,28 @@
+-- An offset at which no character begins has column 1, if it has any.
+use Rattle.std.proofs.Common.{◌≡◌, ℕ, ◌+◌, ◌<◌, ◌⊎◌, true, List, [], length, refl, inl, inr, ⊎_elim, ap, arith}
+use Rattle.std.specs.Str.{IsCharBoundary, IsUtf8}
+use Rattle.std.proofs.lemmas.Bool.Decides.{nat_tests}
+use Rattle.yf_chars.specs.Chain.{Many, one}
+use Rattle.yf_chars.specs.Chain.Chain.{done, step}
+use Rattle.yf_chars.specs.Text.{code, no_char}
+use Rattle.yf_chars.proofs.TextLemmas.{reads_real}
+use Rattle.yf_lines.specs.Lines.{ColumnOf, PlaceOf, among_marks, behind_marks, behind_lines, in_line, is_char}
+
+is_real : (c : ℕ) → is_char c ≡ true → c < no_char
+is_real c e = grind (arith, nat_tests)
+
+run_boundary : {t : List ℕ} {i j : ℕ} {x : List ℕ} → IsUtf8 t → IsCharBoundary t i → Many t is_char i j x → IsCharBoundary t j
+run_boundary u b done = b
+run_boundary {t} u b (step (one {i = i} p) more) = run_boundary u (reads_real t i u (is_real (code t i) p)).boundary more
+
+run_end : {t : List ℕ} {i j : ℕ} {x : List ℕ} → IsUtf8 t → Many t is_char i j x → (x ≡ []) ⊎ IsCharBoundary t j
+run_end u done = inl refl
+run_end {t} u (step (one {i = i} p) more) = inr (run_boundary u (reads_real t i u (is_real (code t i) p)).boundary more)
+
+in_column : {t : List ℕ} {i o c : ℕ} → IsUtf8 t → ColumnOf t i o c → (c ≡ 1) ⊎ IsCharBoundary t o
+in_column u (among_marks m l) = inl refl
+in_column u (behind_marks {x = x} m run) = ⊎_elim (λ (e : x ≡ []). inl (ap (λ w. length w + 1) e)) (λ b. inr b) (run_end u run)
+
+pub column_one : {t : List ℕ} {o line column : ℕ} → IsUtf8 t → PlaceOf t o line column → (column ≡ 1) ⊎ IsCharBoundary t o
+column_one u (in_line k ls at h c) = in_column u c
+column_one u (behind_lines ls e n) = inl refl
