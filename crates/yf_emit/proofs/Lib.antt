@@ -64,3 +64,15 @@ pub mod ValueLemmas
 pub mod WantedLemmas
 pub mod WhiteLemmas
 pub mod WidthLemmas
+pub mod SettledTwice
+pub mod StyledTwice
+pub mod NotedLemmas
+pub mod LeafFed
+pub mod LeafPrinted
+pub mod Reaching
+pub mod EntriesFed
+pub mod PairsFed
+pub mod PrintedNodes
+pub mod PrintedTrees
+pub mod PairSites
+pub mod NodesPrinted
