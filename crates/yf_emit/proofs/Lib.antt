@@ -76,3 +76,4 @@ pub mod PrintedNodes
 pub mod PrintedTrees
 pub mod PairSites
 pub mod NodesPrinted
+pub mod DocumentsPrinted
