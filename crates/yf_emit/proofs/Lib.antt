@@ -77,3 +77,4 @@ pub mod PrintedTrees
 pub mod PairSites
 pub mod NodesPrinted
 pub mod DocumentsPrinted
+pub mod LayoutPrinted
