@@ -78,3 +78,4 @@ pub mod PairSites
 pub mod NodesPrinted
 pub mod DocumentsPrinted
 pub mod LayoutPrinted
+pub mod LeafMarks
