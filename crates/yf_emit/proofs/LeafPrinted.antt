@@ -121,10 +121,10 @@ collection_added k i last x d h c m e n l =
     ∙ ap (λ w. d.line ++ w) (sym (spaced_filled (props_text (props_of x)) (bare x) e)))
 
 -- a flow collection of a normal form may be kept
-same_flag : {at : Standing} {a b : Bool} {p q : PropsValue} {xs ys : Items} → sequence at a p xs ≡ sequence at b q ys → a ≡ b
+pub same_flag : {at : Standing} {a b : Bool} {p q : PropsValue} {xs ys : Items} → sequence at a p xs ≡ sequence at b q ys → a ≡ b
 same_flag e = cc
 
-same_flag_of_map : {at : Standing} {a b : Bool} {p q : PropsValue} {xs ys : Pairs} → mapping at a p xs ≡ mapping at b q ys → a ≡ b
+pub same_flag_of_map : {at : Standing} {a b : Bool} {p q : PropsValue} {xs ys : Pairs} → mapping at a p xs ≡ mapping at b q ys → a ≡ b
 same_flag_of_map e = cc
 
 -- such a collection has a leaf
@@ -228,7 +228,7 @@ one_line_printed k i f sp spot x d l s e t w =
 some_leaf : (i : ℕ) (b : Bool) → b ≡ true → is_some (first_of (if b then i ∷ [] else [])) ≡ true
 some_leaf i b e = ap (λ b. is_some (first_of (if b then i ∷ [] else []))) e
 
-written_filled : (p y : List ℕ) → is_empty_text y ≡ false → is_empty_text (spaced p y) ≡ false
+pub written_filled : (p y : List ℕ) → is_empty_text y ≡ false → is_empty_text (spaced p y) ≡ false
 written_filled [] y e = e
 written_filled (b ∷ x) [] e = refl
 written_filled (b ∷ x) (c ∷ y) e = refl

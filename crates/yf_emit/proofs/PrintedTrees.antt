@@ -72,7 +72,7 @@ cut : (n m : ℕ) → n + 8 * m + 8 ≤ 2 ^ 64 - 1 → up_to_greatest n ≡ n
 cut n m l = omega (arith, l)
 
 -- round its entries stand its beginning and its end
-open_reaches : (k : Known) (i docs n : ℕ) (site : Site) (x : Node) (levels : List Level) (first : Awaited) (e end : Placed) (ys : List Placed) (xs : List Row) (d : Draft)
+pub open_reaches : (k : Known) (i docs n : ℕ) (site : Site) (x : Node) (levels : List Level) (first : Awaited) (e end : Placed) (ys : List Placed) (xs : List Row) (d : Draft)
     → At k i n site x levels → flat x ≡ e ∷ (ys ++ (end ∷ []))
     → ((f : Form) (p : ℕ) → Printing.is_whole i (measure k i x) f ≡ false → Printing.past_event k.work i (measure k i x) f e e.event (state d levels docs p)
     ≡ state (collection_begun k.work (props_of x) (Printing.spot f levels) (sign k.work f (standing x).entry levels d))
@@ -133,13 +133,13 @@ pub record PairsAt (k : Known) (i n column : ℕ) (ps : Pairs) : Type 0 where
   pub room : column + 8 * n + 16 ≤ 2 ^ 64 - 1
 
 -- parts of the events and forms of entries
-next_part : (k : Known) (i j : ℕ) (site : Site) (x : Node) (fs : List Form) → Part k.work.forms (forms (setting_in k) site x ++ fs) i → j ≡ i + length (flat x) → Part k.work.forms fs j
+pub next_part : (k : Known) (i j : ℕ) (site : Site) (x : Node) (fs : List Form) → Part k.work.forms (forms (setting_in k) site x ++ fs) i → j ≡ i + length (flat x) → Part k.work.forms fs j
 next_part k i j site x fs a e = back_part (forms (setting_in k) site x) fs a (e ∙ ap (λ n. i + n) (sym (forms_count (setting_in k) site x)))
 
-item_parts : {x y : Node} {xs ys : Items} → item x xs ≡ item y ys → (x ≡ y) × (xs ≡ ys)
+pub item_parts : {x y : Node} {xs ys : Items} → item x xs ≡ item y ys → (x ≡ y) × (xs ≡ ys)
 item_parts e = (cc, cc)
 
-pair_parts : {x y v w : Node} {ps qs : Pairs} → pair x v ps ≡ pair y w qs → (x ≡ y) × ((v ≡ w) × (ps ≡ qs))
+pub pair_parts : {x y v w : Node} {ps qs : Pairs} → pair x v ps ≡ pair y w qs → (x ≡ y) × ((v ≡ w) × (ps ≡ qs))
 pair_parts e = (cc, (cc, cc))
 
 items_of : {at bt : Standing} {f g : Bool} {p q : PropsValue} {xs ys : Items} → sequence at f p xs ≡ sequence bt g q ys → xs ≡ ys
@@ -149,7 +149,7 @@ pairs_of : {at bt : Standing} {f g : Bool} {p q : PropsValue} {xs ys : Pairs} �
 pairs_of e = cc
 
 -- an item at its site
-item_at : (k : Known) (i n column : ℕ) (inline : Bool) (x : Node) (xs : Items) (others : List Level) → ItemsAt k i n column (item x xs)
+pub item_at : (k : Known) (i n column : ℕ) (inline : Bool) (x : Node) (xs : Items) (others : List Level) → ItemsAt k i n column (item x xs)
     → At k i n (site_at (inner_spot k.work.style column)) x (level column Item inline ∷ others)
 item_at k i n column inline x xs others a = record {
   laid = record {
@@ -166,7 +166,7 @@ item_at k i n column inline x xs others a = record {
   room = let r = a.room in let s = k.work.style.indent_to in omega (arith, r, s);
 }
 
-items_after : (k : Known) (i n column : ℕ) (x : Node) (xs : Items) → ItemsAt k i n column (item x xs) → ItemsAt k (i + length (flat x)) n column xs
+pub items_after : (k : Known) (i n column : ℕ) (x : Node) (xs : Items) → ItemsAt k i n column (item x xs) → ItemsAt k (i + length (flat x)) n column xs
 items_after k i n column x xs a = record {
   are_placed = (and_parts (is_placed x) (items_are_placed xs) a.are_placed).1;
   begin = (and_parts (keys_begin x) (keys_begin_in_items xs) a.begin).1;
@@ -179,7 +179,7 @@ items_after k i n column x xs a = record {
 }
 
 -- the entries of a block sequence, and of a block mapping
-items_within : (k : Known) (i n : ℕ) (site : Site) (at : Standing) (props : PropsValue) (x : Node) (xs : Items) (levels : List Level)
+pub items_within : (k : Known) (i n : ℕ) (site : Site) (at : Standing) (props : PropsValue) (x : Node) (xs : Items) (levels : List Level)
     → At k i (suc n) site (sequence at false props (item x xs)) levels → ItemsAt k (i + 1) n site.spot.entries (item x xs)
 items_within k i n site at props x xs levels a = record {
   are_placed = a.laid.placed;
@@ -193,7 +193,7 @@ items_within k i n site at props x xs levels a = record {
   room = let r = a.room in omega (arith, r);
 }
 
-pairs_within : (k : Known) (i n : ℕ) (site : Site) (at : Standing) (props : PropsValue) (x y : Node) (ps : Pairs) (levels : List Level)
+pub pairs_within : (k : Known) (i n : ℕ) (site : Site) (at : Standing) (props : PropsValue) (x y : Node) (ps : Pairs) (levels : List Level)
     → At k i (suc n) site (mapping at false props (pair x y ps)) levels → PairsAt k (i + 1) n site.spot.entries (pair x y ps)
 pairs_within k i n site at props x y ps levels a = record {
   are_placed = a.laid.placed;

@@ -1,0 +1,200 @@
+-- The pass of the printer over the events of a stream of normal forms adds the rows of the stream.
+use Rattle.std.proofs.Common.{◌≡◌, ℕ, zero, suc, ◌+◌, ◌≤◌, ◌<◌, Bool, true, false, ◌&&◌, List, [], ◌∷◌, ◌++◌, length, map, flat_map, drop, Option, Some, None, refl, sym, ap, ◌∙◌, subst, arith, append_assoc, append-nil, true≢false, add-one}
+use Rattle.std.specs.Prelude.{◌-◌, ◌^◌, ◌*◌, ◌==◌, slice_get, nat_lt, if◌then◌else◌}
+use Rattle.std.proofs.lemmas.Bool.{and_parts}
+use Rattle.std.proofs.lemmas.Bool.Decides.{nat_tests}
+use Rattle.std.proofs.lemmas.List.{length-append}
+use Rattle.yf_events.specs.Event.{Placed, stream_starts, stream_ends, document_starts, document_ends}
+use Rattle.yf_events.specs.Tree.{DocumentTree, flat, flat_document, flat_stream, unplaced, standing}
+use Rattle.yf_events.specs.declared.document.Doc.{Doc}
+use Rattle.yf_emit.specs.declared.decide.Form.{Form}
+use Rattle.yf_emit.specs.declared.printer.Level.{Level}
+use Rattle.yf_emit.specs.Begins.{keys_begin, keys_begin_in_documents}
+use Rattle.yf_emit.specs.Drafts.{Draft, finished, no_draft}
+use Rattle.yf_emit.specs.Forms.{Site, document_forms, documents_are_placed, forms, is_placed, no_form, site_at, stream_forms}
+use Rattle.yf_emit.specs.Measuring.{setting}
+use Rattle.yf_emit.specs.Normal.{Setting, root_spot, settled, styled}
+use Rattle.yf_emit.specs.Printing as Printing
+use Rattle.yf_emit.specs.Printing.{State, Work, document_begun, looked, marked, next_line, pass, printed, remarks_of, start, state}
+use Rattle.yf_emit.specs.Rows.{Row, beginning_at, directive_row, document_rows, end_rows, rows, start_row, stream_rows}
+use Rattle.yf_emit.proofs.AmongLemmas.{Among, back, behind_first, front}
+use Rattle.yf_emit.proofs.CountLemmas.{node_forms, two_counts}
+use Rattle.yf_emit.proofs.FedLemmas.{fed}
+use Rattle.yf_emit.proofs.JoinLemmas.{fed_append}
+use Rattle.yf_emit.proofs.LeafPrinted.{setting_in}
+use Rattle.yf_emit.proofs.NodesPrinted.{node_reaches}
+use Rattle.yf_emit.proofs.NotedLemmas.{Known}
+use Rattle.yf_emit.proofs.PrintedNodes.{At, nests}
+use Rattle.yf_emit.proofs.Reaching.{Part, Reached, Reaches, back_part, front_part}
+use Rattle.yf_emit.proofs.SkipLemmas.{document_fed, pass_append}
+use Rattle.yf_emit.proofs.StyledTwice.{House}
+
+-- a document of a normal form, with so many open collections at most
+pub record IsNormal (c : Setting) (n : ℕ) (d : DocumentTree) : Type 0 where
+  pub house : House c d.root
+  pub settled : settled c (root_spot c.style) d.root ≡ d.root
+  pub nests : nests n d.root ≡ true
+
+pub data AreNormal (c : Setting) (n : ℕ) : List DocumentTree → Type 0 where
+  no_documents : AreNormal c n []
+  one_more : {d : DocumentTree} {ds : List DocumentTree} → IsNormal c n d → AreNormal c n ds → AreNormal c n (d ∷ ds)
+
+abbrev root_site : Known → Site
+root_site k = site_at (root_spot k.work.style)
+
+abbrev forms_in : Known → DocumentTree → List Form
+forms_in k d = document_forms [] (setting k.work.style []) (setting_in k) d
+
+-- documents whose events stand from an index on
+record DocumentsAt (k : Known) (i n : ℕ) (ds : List DocumentTree) : Type 0 where
+  are_placed : documents_are_placed ds ≡ true
+  begin : keys_begin_in_documents ds ≡ true
+  normal : AreNormal (setting_in k) n ds
+  among : Among k.work.reading.events (flat_map flat_document ds) i
+  forms : Part k.work.forms (flat_map (forms_in k) ds) i
+  room : 8 * n + 8 ≤ 2 ^ 64 - 1
+
+below : (a b : ℕ) → a < b → nat_lt a b ≡ true
+below a b l = grind (arith, nat_tests)
+
+-- an event of a document that gets a look
+looked_at : (g : Work) (i : ℕ) (e : Placed) (es : List Placed) (w v : State) → w.done < i → looked g i e w ≡ v → pass g i (e ∷ es) w ≡ pass g (i + 1) es v
+unfolding pass
+looked_at g i e es w v l h = ap (λ b. pass g (i + 1) es (if b then looked g i e w else w)) (below w.done i l) ∙ ap (pass g (i + 1) es) h
+
+-- the document that begins
+document_there : (xs : List Doc) (j : ℕ) (x : Doc) (ys : List Doc) → drop j xs ≡ x ∷ ys → (slice_get xs j ≡ Some x) × (drop (suc j) xs ≡ ys)
+document_there [] zero x ys e = absurd cc
+document_there [] (suc j) x ys e = absurd cc
+document_there (y ∷ xs) zero x ys e = (ap Some cc, cc)
+document_there (y ∷ xs) (suc j) x ys e = document_there xs j x ys e
+
+not_first : (j : ℕ) → (j + 1 == 0) ≡ false
+not_first j = grind (arith, nat_tests)
+
+document_looked : (k : Known) (i j p : ℕ) (is_first : Bool) (x : Doc) (b : Bool) (d : Draft) → slice_get k.work.reading.documents j ≡ Some x → (j == 0) ≡ is_first
+    → looked k.work i (unplaced (document_starts b)) (state d [] j p)
+    ≡ state (fed (remarks_of k.work) k.trail (beginning_at x.start (end_rows is_first x.directives ++ (map directive_row x.directives ++ (start_row ∷ [])))) d) [] (j + 1) p
+document_looked k i j p is_first x b d h f =
+    ap (λ o. state (Printing.document_printed k.work j o d) [] (Printing.documents_behind j o) p) h
+    ∙ (ap (λ w. state (marked (document_begun k.work w x (next_line k.work 0 d))) [] (j + 1) p) f
+    ∙ ap (λ w. state w [] (j + 1) p) (document_fed k.work k.trail is_first x d))
+
+normal_parts : {c : Setting} {n : ℕ} {d : DocumentTree} {ds : List DocumentTree} → AreNormal c n (d ∷ ds) → IsNormal c n d × AreNormal c n ds
+normal_parts (one_more h t) = (h, t)
+
+-- the root of a document at its site
+root_at : (k : Known) (i n : ℕ) (d : DocumentTree) (ds : List DocumentTree) → DocumentsAt k i n (d ∷ ds) → At k (i + 1) n (root_site k) d.root []
+root_at k i n d ds a =
+    let end : Placed = unplaced (document_ends d.closed) in
+    let c : Setting = setting_in k in
+    let h = (normal_parts a.normal).0 in
+    let mine : List Form = forms c (root_site k) (styled [] (setting k.work.style []) d.root) in
+    let part : Part k.work.forms mine (i + 1) =
+    front_part mine (no_form ∷ []) (back_part (no_form ∷ []) (mine ++ (no_form ∷ [])) (front_part (forms_in k d) (flat_map (forms_in k) ds) a.forms) refl) in
+    record {
+      laid = record {
+        placed = (and_parts (is_placed d.root) (documents_are_placed ds) a.are_placed).0;
+        begins = (and_parts (keys_begin d.root) (keys_begin_in_documents ds) a.begin).0;
+        house = h.house;
+        among = front (flat d.root) (end ∷ []) (behind_first (unplaced (document_starts d.marked)) (flat d.root ++ (end ∷ [])) (front (flat_document d) (flat_map flat_document ds) a.among));
+      };
+      forms = subst (λ x. Part k.work.forms (forms c (root_site k) x) (i + 1)) h.house part;
+      settled = h.settled;
+      spotted = record { column = refl; lines = λ e. refl; no_key = λ e f. refl };
+      no_key = λ e. refl;
+      nests = h.nests;
+      room = let r = a.room in omega (arith, r);
+    }
+
+document_count : (k : Known) (d : DocumentTree) → length (forms_in k d) ≡ length (flat_document d)
+document_count k d =
+    ap suc (two_counts (forms (setting_in k) (root_site k) (styled [] (setting k.work.style []) d.root)) (no_form ∷ []) (flat d.root) (unplaced (document_ends d.closed) ∷ [])
+    (node_forms (setting_in k) (root_site k) [] (setting k.work.style []) d.root) refl)
+
+documents_after : (k : Known) (i n : ℕ) (d : DocumentTree) (ds : List DocumentTree) → DocumentsAt k i n (d ∷ ds) → DocumentsAt k (i + length (flat_document d)) n ds
+documents_after k i n d ds a = record {
+  are_placed = (and_parts (is_placed d.root) (documents_are_placed ds) a.are_placed).1;
+  begin = (and_parts (keys_begin d.root) (keys_begin_in_documents ds) a.begin).1;
+  normal = (normal_parts a.normal).1;
+  among = back (flat_document d) (flat_map flat_document ds) a.among;
+  forms = back_part (forms_in k d) (flat_map (forms_in k) ds) a.forms (ap (λ m. i + m) (sym (document_count k d)));
+  room = a.room;
+}
+
+-- what one document adds
+record Added (k : Known) (i j : ℕ) (d : DocumentTree) (w : State) (e : Draft) : Type 0 where
+  done : ℕ
+  within : done < i + length (flat_document d)
+  is : pass k.work i (flat_document d) w ≡ state e [] (j + 1) done
+
+document_added : (k : Known) (i n j p : ℕ) (is_first : Bool) (x : Doc) (t : DocumentTree) (ds : List DocumentTree) (d : Draft) → DocumentsAt k i n (t ∷ ds) → p < i
+    → slice_get k.work.reading.documents j ≡ Some x → (j == 0) ≡ is_first
+    → Added k i j t (state d [] j p) (fed (remarks_of k.work) k.trail (document_rows (setting_in k) is_first x t) d)
+unfolding pass
+document_added k i n j p is_first x t ds d a l h f =
+    let end : Placed = unplaced (document_ends t.closed) in
+    let begins : List Row = beginning_at x.start (end_rows is_first x.directives ++ (map directive_row x.directives ++ (start_row ∷ []))) in
+    let mine : List Row = rows (setting_in k) (root_spot k.work.style) t.root in
+    let one : Draft = fed (remarks_of k.work) k.trail begins d in
+    let two : Draft = fed (remarks_of k.work) k.trail mine one in
+    let reached = (node_reaches k (i + 1) (j + 1) n (root_site k) t.root [] one (root_at k i n t ds a)).goes p (omega (arith, l)) in
+    let first = looked_at k.work i (unplaced (document_starts t.marked)) (flat t.root ++ (end ∷ [])) (state d [] j p) (state one [] (j + 1) p) l
+    (document_looked k i j p is_first x t.marked d h f) in
+    let last = looked_at k.work (i + 1 + length (flat t.root)) end [] (state two [] (j + 1) reached.done) (state two [] (j + 1) reached.done) reached.within refl in
+    let long : length (flat t.root ++ (end ∷ [])) ≡ length (flat t.root) + 1 = length-append (flat t.root) (end ∷ []) in
+    record {
+      done = reached.done;
+      within = let r = reached.within in omega (arith, long, r);
+      is = first ∙ (pass_append k.work (i + 1) (flat t.root) (end ∷ []) (state one [] (j + 1) p)
+          ∙ (ap (pass k.work (i + 1 + length (flat t.root)) (end ∷ [])) reached.is
+          ∙ (last ∙ ap (λ w. state w [] (j + 1) reached.done) (sym (fed_append (remarks_of k.work) k.trail begins mine d)))));
+    }
+
+documents_printed : (k : Known) (i n j p : ℕ) (is_first : Bool) (xs : List Doc) (ds : List DocumentTree) (d : Draft) → DocumentsAt k i n ds → p < i → length xs ≡ length ds
+    → drop j k.work.reading.documents ≡ xs → (j == 0) ≡ is_first
+    → (pass k.work i (flat_map flat_document ds ++ (unplaced stream_ends ∷ [])) (state d [] j p)).draft
+    ≡ fed (remarks_of k.work) k.trail (stream_rows (setting_in k) is_first xs ds) d
+unfolding pass
+documents_printed k i n j p is_first [] [] d a l m e f =
+    ap (λ (w : State). w.draft) (looked_at k.work i (unplaced stream_ends) [] (state d [] j p) (state d [] j p) l refl)
+documents_printed k i n j p is_first [] (t ∷ ds) d a l m e f = absurd (omega (arith, m))
+documents_printed k i n j p is_first (x ∷ xs) [] d a l m e f = absurd (omega (arith, m))
+documents_printed k i n j p is_first (x ∷ xs) (t ∷ ds) d a l m e f =
+    let there = document_there k.work.reading.documents j x xs e in
+    let mine : List Row = document_rows (setting_in k) is_first x t in
+    let one : Draft = fed (remarks_of k.work) k.trail mine d in
+    let added = document_added k i n j p is_first x t ds d a l there.0 f in
+    let more : List Placed = flat_map flat_document ds in
+    let last : List Placed = unplaced stream_ends ∷ [] in
+    let next : ℕ = i + length (flat_document t) in
+    ap (λ es. (pass k.work i es (state d [] j p)).draft) (append_assoc (flat_document t) more last)
+    ∙ (ap (λ (w : State). w.draft) (pass_append k.work i (flat_document t) (more ++ last) (state d [] j p))
+    ∙ (ap (λ w. (pass k.work next (more ++ last) w).draft) added.is
+    ∙ (documents_printed k next n (j + 1) added.done false xs ds one (documents_after k i n t ds a) added.within (omega (arith, m))
+    (ap (λ q. drop q k.work.reading.documents) (add-one j) ∙ there.1) (not_first j)
+    ∙ sym (fed_append (remarks_of k.work) k.trail mine (stream_rows (setting_in k) false xs ds) d))))
+
+-- the whole text is what its rows come to
+pub stream_printed : (k : Known) (n : ℕ) (ds : List DocumentTree) → k.work.reading.events ≡ flat_stream ds → length k.work.reading.documents ≡ length ds
+    → documents_are_placed ds ≡ true → keys_begin_in_documents ds ≡ true → AreNormal (setting_in k) n ds → 8 * n + 8 ≤ 2 ^ 64 - 1
+    → k.work.forms ≡ stream_forms [] (setting k.work.style []) (setting_in k) ds
+    → printed k.work ≡ finished (remarks_of k.work) (fed (remarks_of k.work) k.trail (stream_rows (setting_in k) true k.work.reading.documents ds) no_draft)
+unfolding pass
+stream_printed k n ds e m h b a r f =
+    let es : List Placed = flat_map flat_document ds in
+    let last : List Placed = unplaced stream_ends ∷ [] in
+    let whole : Among k.work.reading.events (flat_stream ds) 0 = record { before = []; after = []; is = e ∙ sym (append-nil (flat_stream ds)); index = refl } in
+    let fs : List Form = flat_map (forms_in k) ds in
+    let all : Part k.work.forms (stream_forms [] (setting k.work.style []) (setting_in k) ds) 0 =
+    record { before = []; after = []; is = f ∙ sym (append-nil (stream_forms [] (setting k.work.style []) (setting_in k) ds)); index = refl } in
+    let at : DocumentsAt k 1 n ds = record {
+      are_placed = h;
+      begin = b;
+      normal = a;
+      among = front es last (behind_first (unplaced stream_starts) (es ++ last) whole);
+      forms = front_part fs (no_form ∷ []) (back_part (no_form ∷ []) (fs ++ (no_form ∷ [])) all refl);
+      room = r;
+    } in
+    ap (λ w. finished (remarks_of k.work) (pass k.work 0 w start).draft) e
+    ∙ ap (finished (remarks_of k.work)) (documents_printed k 1 n 0 0 true k.work.reading.documents ds no_draft at (omega arith) m refl refl)
