@@ -49,6 +49,7 @@ pub mod DerivedNodes
 pub mod DocumentNodes
 pub mod EntriesExact
 pub mod EntryExact
+pub mod EventsStand
 pub mod FlowBack
 pub mod FlowLeaves
 pub mod FlowReading

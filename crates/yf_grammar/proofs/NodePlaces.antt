@@ -2,6 +2,7 @@
 -- an entry begins before its node, and its `:` stands between key and value.
 use Rattle.std.proofs.Common.{◌≡◌, ◌≢◌, ℕ, ◌<◌, ◌≤◌, Bool, List, [], length, Option, Some, None, arith}
 use Rattle.yf_props.specs.Props.{PropsValue, TagValue, no_props}
+use Rattle.yf_props.specs.Props.TagValue.{IsVerbatim, IsShort, IsNonSpecific}
 use Rattle.yf_events.specs.Event.{scalar_node, alias_node}
 use Rattle.yf_events.specs.declared.event.Entry.{Entry}
 use Rattle.yf_events.specs.declared.event.ScalarStyle.{ScalarStyle}
@@ -11,9 +12,15 @@ use Rattle.yf_grammar.specs.Meaning.{from_to}
 use Rattle.yf_grammar.specs.Spelled.{IsSpelled}
 use Rattle.yf_grammar.proofs.GapLemmas.{Visible}
 
+-- a tag that is written with a character at least
+pub data HasText : TagValue → Type 0 where
+  verbatim_text : {text : List ℕ} → HasText (IsVerbatim text)
+  short_text : {handle suffix : List ℕ} → 0 < length handle → HasText (IsShort handle suffix)
+  non_specific_text : HasText IsNonSpecific
+
 -- with a tag or an anchor
 pub data HasProps : PropsValue → Type 0 where
-  has_tag : {anchor : Option (List ℕ)} {tag : TagValue} → HasProps (record { anchor = anchor; tag = Some tag })
+  has_tag : {anchor : Option (List ℕ)} {tag : TagValue} → HasText tag → HasProps (record { anchor = anchor; tag = Some tag })
   has_anchor : {name : List ℕ} {tag : Option TagValue} → HasProps (record { anchor = Some name; tag = tag })
 
 -- a scalar that is no empty node

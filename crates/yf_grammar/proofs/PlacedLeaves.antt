@@ -1,14 +1,16 @@
 -- Leaves stand where they are read, and their styles spell them.
-use Rattle.std.proofs.Common.{◌≡◌, ◌≢◌, ℕ, ℤ, ◌<◌, ◌≤◌, true, false, List, [], length, Option, None, refl, sym, ◌∙◌, arith, true≢false, length-append}
+use Rattle.std.proofs.Common.{◌≡◌, ◌≢◌, ℕ, ℤ, ◌+◌, ◌<◌, ◌≤◌, true, false, List, [], length, Option, None, refl, sym, ◌∙◌, arith, true≢false, length-append}
 use Rattle.std.proofs.lemmas.Bool.Decides.{nat_tests}
+use Rattle.std.proofs.lemmas.List.{length-take, length-drop}
 use Rattle.std.proofs.lemmas.Str.{IsUtf8-nil, length-le-encodes}
-use Rattle.std.specs.Prelude.{encode_utf8_all}
+use Rattle.std.specs.Prelude.{◌-◌, drop, encode_utf8_all, slice_range}
 use Rattle.std.specs.Str.{IsUtf8}
 use Rattle.yf_chars.specs.declared.context.Ctx.{Ctx}
 use Rattle.yf_chars.specs.declared.context.Ctx.TheVariants.{BlockOut, BlockIn, FlowOut, FlowIn, BlockKey, FlowKey}
 use Rattle.yf_chars.specs.Text.{code}
 use Rattle.yf_chars.specs.Class.{is_ns_char, is_nb_char, is_printable, is_between, is_break_char, is_white}
 use Rattle.yf_chars.specs.Chain.Chain.{done}
+use Rattle.yf_chars.proofs.TextLemmas.{within_from_code}
 use Rattle.yf_lines.specs.Basic.{is_block, is_key}
 use Rattle.yf_comments.specs.Comment.{CommentValue}
 use Rattle.yf_comments.specs.Comments.{Separate}
@@ -19,9 +21,12 @@ use Rattle.yf_comments.specs.Comments.Separate.{in_key, in_node}
 use Rattle.yf_plain.specs.Plain.{PlainText, PlainLine}
 use Rattle.yf_plain.specs.Plain.PlainLine.{one_line}
 use Rattle.yf_plain.specs.Plain.PlainText.{as_key, as_lines}
-use Rattle.yf_props.specs.Names.{Alias, Properties, PropertiesValue}
+use Rattle.yf_props.specs.Names.{Alias, Handle, TagProperty, Properties, PropertiesValue}
+use Rattle.yf_props.specs.Names.Handle.{primary_handle, secondary_handle, named_handle}
+use Rattle.yf_props.specs.Names.ShorthandTag.{handle_suffix}
+use Rattle.yf_props.specs.Names.TagProperty.{verbatim_tag, shorthand_tag, non_specific_tag}
 use Rattle.yf_props.specs.Names.Properties.{by_tag, by_anchor, tag_first, anchor_first}
-use Rattle.yf_props.specs.Props.{PropsValue, no_props}
+use Rattle.yf_props.specs.Props.{PropsValue, no_props, TagValue}
 use Rattle.yf_events.specs.Event.{scalar_node}
 use Rattle.yf_events.specs.declared.event.ScalarStyle.{ScalarStyle}
 use Rattle.yf_events.specs.declared.event.ScalarStyle.TheVariants.{Plain, Single, Double}
@@ -32,7 +37,7 @@ use Rattle.yf_grammar.specs.Meaning.{behind, noting, plain_event, from_to, empty
 use Rattle.yf_grammar.specs.Parser.{begins_properties, begins_content}
 use Rattle.yf_grammar.specs.Spelled.{IsSpelled}
 use Rattle.yf_grammar.proofs.GapLemmas.{Visible}
-use Rattle.yf_grammar.proofs.NodePlaces.{HasProps, has_tag, has_anchor, HasCharacters, by_props, by_text, scalar_stands, alias_stands}
+use Rattle.yf_grammar.proofs.NodePlaces.{HasProps, has_tag, has_anchor, HasText, verbatim_text, short_text, non_specific_text, HasCharacters, by_props, by_text, scalar_stands, alias_stands}
 use Rattle.yf_grammar.proofs.PlacedNodes.{NodeAt}
 
 -- What nodes begin with.
@@ -80,10 +85,26 @@ single_plain e = absurd cc
 pub double_plain : Double ≢ Plain
 double_plain e = absurd cc
 
+slice_some : (t : List ℕ) (i j : ℕ) → i < j → i < length t → 0 < length (slice_range t i j)
+slice_some t i j l m = omega (arith, length-take (j - i) (drop i t), length-drop i t)
+
+sign_within : (t : List ℕ) (i : ℕ) → code t i ≡ 33 → i < length t
+sign_within t i e = within_from_code t i (omega arith)
+
+handle_some : {t : List ℕ} {i j : ℕ} → Handle t i j → 0 < length (slice_range t i j)
+handle_some {t} {i} {j} (primary_handle a) = slice_some t i j (omega arith) (sign_within t i a)
+handle_some {t} {i} {j} (secondary_handle a b) = slice_some t i j (omega arith) (sign_within t i a)
+handle_some {t} {i} {j} (named_handle a r b) = let l = r.some in slice_some t i j (omega arith) (sign_within t i a)
+
+tag_written : {t : List ℕ} {i j : ℕ} {v : TagValue} → TagProperty t i j v → HasText v
+tag_written (verbatim_tag v) = verbatim_text
+tag_written (shorthand_tag (handle_suffix h r)) = short_text (handle_some h)
+tag_written (non_specific_tag e n) = non_specific_text
+
 pub properties_written : {t : List ℕ} {n : ℤ} {c : Ctx} {i j : ℕ} {p : PropertiesValue} → Properties t n c i j p → HasProps p.props
-properties_written (by_tag g) = has_tag
+properties_written (by_tag g) = has_tag (tag_written g)
 properties_written (by_anchor a) = has_anchor
-properties_written (tag_first g s a) = has_tag
+properties_written (tag_first g s a) = has_tag (tag_written g)
 properties_written (anchor_first a s g) = has_anchor
 
 -- An empty node, and properties alone.

@@ -3,6 +3,7 @@ pub mod DocumentPlaces
 pub mod Forward
 pub mod LawsHold
 pub mod NoPercent
+pub mod NodeLawsHold
 pub mod OneDirective
 pub mod OneReading
 pub mod OneStream

@@ -1,0 +1,29 @@
+-- The laws of where the nodes of a reading stand hold.
+use Rattle.std.proofs.Common.{◌≡◌, ℕ, List, flat_map, Some, refl, sym, subst}
+use Rattle.yf_events.specs.Event.{document_starts, document_ends, stream_starts, stream_ends, Placed}
+use Rattle.yf_events.specs.Tree.{DocumentTree, flat_document, flat_stream}
+use Rattle.yf_events.specs.declared.document.Doc.{Doc}
+use Rattle.yf_events.specs.declared.event.Span.{Span}
+use Rattle.yf_events.specs.declared.lists.Lists.{Lists}
+use Rattle.yf_grammar.proofs.EventsStand.{EventsStand, no_events_stand, event_stands, events_all, events_join, node_events, unplaced_stands}
+use Rattle.yf_stream.specs.NodeLaws.{IsVisibleAt, NodesOfReadingsBeginVisibly}
+use Rattle.yf_stream.proofs.ReadingTrees.{ReadingStands, TreesStand, no_trees_stand, tree_stands, reading_stands}
+
+module _ {t : List ℕ} where
+  trees_events : {i : ℕ} {ds : List Doc} {trees : List DocumentTree} → TreesStand t i ds trees → EventsStand t (flat_map flat_document trees)
+  trees_events (no_trees_stand l) = no_events_stand
+  trees_events (tree_stands {tree = tree} d a b) =
+      events_join (event_stands (unplaced_stands (document_starts tree.marked) refl)
+      (events_join (node_events a) (event_stands (unplaced_stands (document_ends tree.closed) refl) no_events_stand))) (trees_events b)
+
+  -- of a reading
+  pub reading_events : {r : Lists} → ReadingStands t r → EventsStand t r.events
+  reading_events {r = r} a =
+      let all : EventsStand t (flat_stream a.trees) =
+      event_stands (unplaced_stands stream_starts refl) (events_join (trees_events a.stand) (event_stands (unplaced_stands stream_ends refl) no_events_stand)) in
+      subst (λ z. EventsStand t z) (sym a.of_reading.events) all
+
+pub nodes_of_readings_begin_visibly : NodesOfReadingsBeginVisibly
+nodes_of_readings_begin_visibly t r u a =
+    events_all {P = λ e. (s : Span) → e.span ≡ Some s → IsVisibleAt t s.start} r.events (reading_events (reading_stands u a))
+    (λ e h s q. let v = h.visible s q in record { visible = v.ns; no_hash = v.no_hash })
