@@ -11,10 +11,12 @@ pub mod TiedBegun
 pub mod TiedClose
 pub mod TiedEnds
 pub mod TiedFails
+pub mod TiedFirst
 pub mod TiedItems
 pub mod TiedKeys
 pub mod TiedNodes
 pub mod TiedPairKeys
 pub mod TiedPairs
+pub mod TiedSigns
 pub mod TiedTaken
 pub mod TiedValues
