@@ -5,6 +5,7 @@ pub mod Frames
 pub mod LeafLemmas
 pub mod LookLemmas
 pub mod KeyLineLemmas
+pub mod MachineLemmas
 pub mod NodeBegunLemmas
 pub mod NotedLemmas
 pub mod TiedBegun
