@@ -54,7 +54,7 @@ closes_kind : (sequence : Bool) (kind : Kind) (x : ℕ) → kind ≡ kind_of seq
 closes_kind true kind x e c = subst (λ k. Closes k x) e c
 closes_kind false kind x e c = subst (λ k. Closes k x) e c
 
-closes_not : (sequence : Bool) (kind : Kind) (x : ℕ) → kind ≡ kind_of sequence → (Closes kind x → ⊥) → x ≢ closing sequence
+pub closes_not : (sequence : Bool) (kind : Kind) (x : ℕ) → kind ≡ kind_of sequence → (Closes kind x → ⊥) → x ≢ closing sequence
 closes_not true kind x e c q = c (subst (λ k. Closes k x) (sym e) q)
 closes_not false kind x e c q = c (subst (λ k. Closes k x) (sym e) q)
 

@@ -1,4 +1,6 @@
+pub mod Beginning
 pub mod Begun
+pub mod Ends
 pub mod EntryBegun
 pub mod KeyThere
 pub mod Leaves

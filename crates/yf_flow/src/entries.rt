@@ -1,14 +1,19 @@
 //! The steps that begin and read the entries of a flow collection: keys, values and single pairs. Each step leads on to a
 //! later place of the text, and none goes back.
-ghost use Rattle.std.specs.Prelude.{◌≡◌, ◌≢◌, ◌+◌, ◌-◌, ◌*◌, ◌<◌, ◌≤◌, length, reverse, IfOk, IfSome};
+ghost use Rattle.std.specs.Prelude.{◌≡◌, ◌≢◌, ℕ, false, List, [], ◌+◌, ◌-◌, ◌*◌, ◌<◌, ◌≤◌, length, reverse, IfOk, IfSome, MatchOption};
 ghost use Rattle.std.specs.List.{All};
 ghost use Rattle.std.specs.Str.{IsCharBoundary, IsUtf8};
+ghost use Rattle.yf_chars.specs.Chain.{Chosen};
 ghost use Rattle.yf_chars.specs.Text.{code};
+ghost use Rattle.yf_comments.specs.Comment.{CommentValue};
+ghost use Rattle.yf_comments.specs.Comments.{Separate};
 ghost use Rattle.yf_events.specs.Event.{placed_value};
+ghost use Rattle.yf_grammar.specs.Parser.{ColonAt};
+ghost use Rattle.yf_flow.specs.Beginning.{AloneAwaited, AtFirst, AtSign, Questioned, SignAt};
 ghost use Rattle.yf_flow.specs.EntryBegun.{EntryBegun};
-ghost use Rattle.yf_flow.specs.Machine.{Awaiting, Indexed, Ready, left};
+ghost use Rattle.yf_flow.specs.Machine.{Awaiting, Indexed, Place, Ready, left};
 ghost use Rattle.yf_flow.specs.Steps.{Reading};
-ghost use Rattle.yf_flow.specs.Tied.{AtNode, AtValue, Base, EntryNoted, NotedEvent, StepTied, pair_event};
+ghost use Rattle.yf_flow.specs.Tied.{AtEntry, AtNode, AtValue, Base, EntryNoted, NoBase, NotedEvent, StepTied, pair_event};
 
 use crate::entry_ends::{close, end_entry};
 use crate::frame::{Frame, Kind, Role, Scene, State, Step};
@@ -109,6 +114,7 @@ pub(crate) fn start_entry<'a>(
     requires boundary { IsCharBoundary scene.text.now at }
     requires top { Awaiting scene.text.now (length part.old.events) top }
     requires below { All (Indexed scene.text.now (length part.old.events)) below.old.items }
+    ensures tied { (base : Base) → Reading scene.entry.text.now scene.entry.context scene.entry.limit base → AtEntry scene.entry.text.now scene.entry.indentation scene.entry.context base (reverse below.old.items) top at part.old → IfOk result (λ s. StepTied scene.entry.text.now scene.entry.indentation scene.entry.context base (reverse below.new.items) s.top s.step part.new) }
     ensures ready { IfOk result (λ s. Ready scene.entry.text.now at (length part.new.events) below.new.items s) }
     ensures moves { IfOk result (λ s. left (length scene.entry.text.now) s.step ≤ 2 * (length scene.entry.text.now - at) + 1) }
     ensures escapes { IfOk result (λ _. part.new.escapes ≡ part.old.escapes) }
@@ -118,11 +124,9 @@ pub(crate) fn start_entry<'a>(
         return close(alloc, scene, place, top, below, part);
     }
     let top = top.with_entry(place, part.events.len());
-    if stands(scene.text, place, b'?') {
-        match read_separation_into(alloc, scene, place + 1, part)? {
-            Some(end) => return explicit_entry(alloc, scene, end, top, below, part),
-            None => {}
-        }
+    match read_question(alloc, scene, place, part)? {
+        Some(end) => return explicit_entry(alloc, scene, end, top, below, part),
+        None => {}
     }
     if colon_stands(scene, place, false) {
         return lone_value(alloc, scene, place, top, below, part);
@@ -131,6 +135,28 @@ pub(crate) fn start_entry<'a>(
         top,
         step: Step::Node(place),
     })
+}
+
+// The `?` of an entry at the offset and the separation after it, if both stand there: where that ends.
+fn read_question<'a>(
+    alloc: Global,
+    scene: Scene<'a>,
+    at: usize,
+    part: &mut Part<'a>,
+) -> Result<Option<usize>, AllocError>
+    requires boundary { IsCharBoundary scene.text.now at }
+    ensures place { IfOk result (λ o. IfSome o (λ end. Place scene.entry.text.now (at + 1) end)) }
+    ensures reads { IfOk result (λ o. Questioned scene.entry.text.now scene.entry.indentation scene.entry.context at part.old.comments part.new.comments o) }
+    ensures events { IfOk result (λ _. part.new.events ≡ part.old.events) }
+    ensures escapes { IfOk result (λ _. part.new.escapes ≡ part.old.escapes) }
+{
+    if stands(scene.text, at, b'?') {
+        match read_separation_into(alloc, scene, at + 1, part)? {
+            Some(end) => return Ok(Some(end)),
+            None => return Ok(None),
+        }
+    }
+    Ok(None)
 }
 
 // What stands after the `?` of an entry and its separation (ns-flow-map-explicit-entry, production 143).
@@ -145,6 +171,7 @@ fn explicit_entry<'a>(
     requires boundary { IsCharBoundary scene.text.now at }
     requires top { Awaiting scene.text.now (length part.old.events) top }
     requires below { All (Indexed scene.text.now (length part.old.events)) below.old.items }
+    ensures tied { (base : Base) → Reading scene.entry.text.now scene.entry.context scene.entry.limit base → (cs : List CommentValue) → code scene.entry.text.now top.entry ≡ 63 → Chosen (Separate scene.entry.text.now scene.entry.indentation scene.entry.context (top.entry + 1)) at cs → AtFirst scene.entry.text.now scene.entry.indentation scene.entry.context base (reverse below.old.items) top cs part.old → IfOk result (λ s. StepTied scene.entry.text.now scene.entry.indentation scene.entry.context base (reverse below.new.items) s.top s.step part.new) }
     ensures ready { IfOk result (λ s. Ready scene.entry.text.now at (length part.new.events) below.new.items s) }
     ensures moves { IfOk result (λ s. left (length scene.entry.text.now) s.step ≤ 2 * (length scene.entry.text.now - at) + 1) }
     ensures escapes { IfOk result (λ _. part.new.escapes ≡ part.old.escapes) }
@@ -184,6 +211,7 @@ fn lone_value<'a>(
     requires boundary { IsCharBoundary scene.text.now (colon + 1) }
     requires top { Awaiting scene.text.now (length part.old.events) top }
     requires below { All (Indexed scene.text.now (length part.old.events)) below.old.items }
+    ensures tied { (base : Base) → Reading scene.entry.text.now scene.entry.context scene.entry.limit base → ColonAt scene.entry.text.now false scene.entry.context colon → top.entry ≡ colon → AtFirst scene.entry.text.now scene.entry.indentation scene.entry.context base (reverse below.old.items) top [] part.old → IfOk result (λ s. StepTied scene.entry.text.now scene.entry.indentation scene.entry.context base (reverse below.new.items) s.top s.step part.new) }
     ensures ready { IfOk result (λ s. Ready scene.entry.text.now colon (length part.new.events) below.new.items s) }
     ensures moves { IfOk result (λ s. left (length scene.entry.text.now) s.step ≤ 2 * (length scene.entry.text.now - colon) + 1) }
     ensures escapes { IfOk result (λ _. part.new.escapes ≡ part.old.escapes) }
@@ -209,6 +237,7 @@ fn keyless_value<'a>(
     requires boundary { IsCharBoundary scene.text.now (colon + 1) }
     requires top { Awaiting scene.text.now (length part.old.events) top }
     requires below { All (Indexed scene.text.now (length part.old.events)) below.old.items }
+    ensures tied { (base : Base) → Reading scene.entry.text.now scene.entry.context scene.entry.limit base → (cs : List CommentValue) → code scene.entry.text.now top.entry ≢ 10 → (a : AtSign scene.entry.text.now scene.entry.indentation scene.entry.context base (reverse below.old.items) top cs part.old) → AloneAwaited scene.entry.text.now scene.entry.indentation scene.entry.context a.layer cs colon → IfOk result (λ s. StepTied scene.entry.text.now scene.entry.indentation scene.entry.context base (reverse below.new.items) s.top s.step part.new) }
     ensures ready { IfOk result (λ s. Ready scene.entry.text.now colon (length part.new.events) below.new.items s) }
     ensures moves { IfOk result (λ s. left (length scene.entry.text.now) s.step ≤ 2 * (length scene.entry.text.now - colon) + 1) }
     ensures escapes { IfOk result (λ _. part.new.escapes ≡ part.old.escapes) }
@@ -228,13 +257,15 @@ fn in_mapping<'a>(
 ) -> Result<Option<Frame>, AllocError>
     requires top { Awaiting scene.text.now (length part.old.events) top }
     requires below { All (Indexed scene.text.now (length part.old.events)) below.old.items }
+    ensures tied { (base : Base) → Reading scene.entry.text.now scene.entry.context scene.entry.limit base → (p : ℕ) → (cs : List CommentValue) → SignAt scene.entry.text.now scene.entry.indentation scene.entry.context top.entry cs p → AtFirst scene.entry.text.now scene.entry.indentation scene.entry.context base (reverse below.old.items) top cs part.old → IfOk result (λ o. MatchOption o (NoBase scene.entry.text.now scene.entry.indentation base) (λ f. AtSign scene.entry.text.now scene.entry.indentation scene.entry.context base (reverse below.new.items) f cs part.new)) }
     ensures below { IfOk result (λ _. All (Indexed scene.entry.text.now (length part.new.events)) below.new.items) }
     ensures top { IfOk result (λ o. IfSome o (λ f. Awaiting scene.entry.text.now (length part.new.events) f)) }
     ensures room { IfOk result (λ o. IfSome o (λ f. f.entry ≡ top.entry)) }
     ensures escapes { IfOk result (λ _. part.new.escapes ≡ part.old.escapes) }
 {
     match top.kind {
-        Kind::Mapping | Kind::Pair => Ok(Some(top)),
+        Kind::Mapping => Ok(Some(top)),
+        Kind::Pair => Ok(Some(top)),
         Kind::Sequence => {
             if top.depth >= scene.limit {
                 return Ok(None);

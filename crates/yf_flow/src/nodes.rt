@@ -2,7 +2,10 @@
 ghost use Rattle.std.specs.Prelude.{◌≡◌, ℕ, [], ◌+◌, ◌<◌, ◌≤◌, length, IfOk};
 ghost use Rattle.std.specs.List.{All};
 ghost use Rattle.std.specs.Str.{IsCharBoundary};
+ghost use Rattle.yf_flow.specs.Ends.{EndTied};
 ghost use Rattle.yf_flow.specs.Machine.{Awaiting, BegunAt, EndingAt, OutcomeAt};
+ghost use Rattle.yf_flow.specs.Steps.{Reading};
+ghost use Rattle.yf_flow.specs.Tied.{AtEntry, Base};
 
 use crate::entries::{Below, start_entry, take_node};
 use crate::entry_ends::finish_node;
@@ -165,6 +168,7 @@ fn read_collection<'a>(
     requires boundary { IsCharBoundary scene.text.now frame.entry }
     requires top { Awaiting scene.text.now (length part.old.events) frame }
     requires escapes { All (IsCharBoundary scene.text.now) part.old.escapes }
+    ensures tied { (base : Base) → Reading scene.entry.text.now scene.entry.context scene.entry.limit base → AtEntry scene.entry.text.now scene.entry.indentation scene.entry.context base [] frame frame.entry part.old → IfOk result (λ e. EndTied scene.entry.text.now scene.entry.indentation base e part.new) }
     ensures found { IfOk result (λ e. EndingAt scene.entry.text.now frame.entry e) }
     ensures escapes { IfOk result (λ _. All (IsCharBoundary scene.entry.text.now) part.new.escapes) }
 {

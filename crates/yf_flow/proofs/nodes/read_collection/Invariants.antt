@@ -1,13 +1,17 @@
-use Rattle.std.proofs.Common.{length}
+use Rattle.std.proofs.Common.{[], length, reverse}
 use Rattle.std.specs.List.{All}
 use Rattle.std.specs.Str.{IsCharBoundary}
 use Rattle.yf_flow.specs.Machine.{Ready, left}
+use Rattle.yf_flow.specs.Steps.{Reading}
+use Rattle.yf_flow.specs.Tied.{Base, AtEntry, StepTied}
 use Rattle.yf_flow.proofs.nodes.read_collection.Given as goal
 
 abbrev pub invariant-steps : goal.invariant-steps
 invariant-steps l = record {
   ready : Ready l.scene.text.now l.fn.frame.entry (length l.part.events) l.below.items l.state;
   escapes : All (IsCharBoundary l.scene.text.now) l.part.escapes;
+  tied : (base : Base) → Reading l.scene.text.now l.scene.context l.scene.limit base → AtEntry l.scene.text.now l.scene.indentation l.scene.context base [] l.fn.frame l.fn.frame.entry l.initial.part
+      → StepTied l.scene.text.now l.scene.indentation l.scene.context base (reverse l.below.items) l.state.top l.state.step l.part;
 }
 
 abbrev pub decreases-steps : goal.decreases-steps

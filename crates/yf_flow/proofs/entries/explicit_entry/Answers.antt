@@ -1,0 +1,29 @@
+use Rattle.std.proofs.Common.{refl, sym, ap, ◌∙◌, ◌++◌, ◌∷◌, []}
+use Rattle.yf_flow.specs.Beginning.{question_there}
+use Rattle.yf_flow.proofs.TiedSigns.{code_at, chosen_at, question_no_feed, rest_nothing, rest_value, rest_key}
+use Rattle.yf_flow.proofs.entries.explicit_entry.Goals as goal
+
+pub returns-in-None-clause-tied : goal.returns-in-None-clause-tied
+returns-in-None-clause-tied c = λ base r cs b q a. rw c.in-None.is at (c.in_ok-in_mapping.ensures.tied base r _ cs (question_there b q) a)
+
+pub returns-then-entry_ends-clause-tied : goal.returns-then-entry_ends-clause-tied
+returns-then-entry_ends-clause-tied c = λ base r cs b q a.
+    let m = rw c.in-Some.is at c.in_ok-in_mapping.ensures.room in
+    let s = rw c.in-Some.is at (c.in_ok-in_mapping.ensures.tied base r _ cs (question_there b q) a) in
+    c.end_entry.ensures.tied base r.utf8
+    (rest_nothing s (code_at c.args.scene.text.now m b) (chosen_at m q) (sym c.entry_ends.ensures ∙ c.if-entry_ends.true) c.entry_at-entry.result (c.entry_at-entry.ensures (question_no_feed c.args.scene.text.now _ (code_at c.args.scene.text.now m b)))
+    _ (c.in_ok-push-in-Some.ensures ∙ ap (λ z. c.in_mapping.new.part.events ++ z ∷ []) c.empty_node.ensures)
+    (c.in_ok-push-in-Some-2.ensures ∙ ap (λ z. c.push.new.self ++ z ∷ []) c.empty_node-then-entry_ends.ensures) refl refl)
+
+pub returns-then-colon_stands-clause-tied : goal.returns-then-colon_stands-clause-tied
+returns-then-colon_stands-clause-tied c = λ base r cs b q a.
+    let m = rw c.in-Some.is at c.in_ok-in_mapping.ensures.room in
+    let s = rw c.in-Some.is at (c.in_ok-in_mapping.ensures.tied base r _ cs (question_there b q) a) in
+    c.keyless_value.ensures.tied base r cs (question_no_feed c.args.scene.text.now _ (code_at c.args.scene.text.now m b)) s
+    (rest_value s (code_at c.args.scene.text.now m b) (chosen_at m q) (sym c.entry_ends.ensures ∙ c.if-entry_ends.false) c.if-colon_stands.ensures.cases)
+
+pub returns-else-colon_stands-clause-tied : goal.returns-else-colon_stands-clause-tied
+returns-else-colon_stands-clause-tied c = λ base r cs b q a.
+    let m = rw c.in-Some.is at c.in_ok-in_mapping.ensures.room in
+    let s = rw c.in-Some.is at (c.in_ok-in_mapping.ensures.tied base r _ cs (question_there b q) a) in
+    rest_key s (code_at c.args.scene.text.now m b) (chosen_at m q) (sym c.entry_ends.ensures ∙ c.if-entry_ends.false) c.if-colon_stands.ensures.cases

@@ -1,0 +1,12 @@
+use Rattle.std.proofs.Common.{refl, ◌∙◌, []}
+use Rattle.yf_flow.proofs.TiedSigns.{lone_sign, colon_no_feed, alone_at}
+use Rattle.yf_flow.proofs.entries.lone_value.Goals as goal
+
+pub returns-in-None-clause-tied : goal.returns-in-None-clause-tied
+returns-in-None-clause-tied c = λ base r col e a. rw c.in-None.is at (c.in_ok-in_mapping.ensures.tied base r _ [] (lone_sign e col) a)
+
+pub returns-in-Some-clause-tied : goal.returns-in-Some-clause-tied
+returns-in-Some-clause-tied c = λ base r col e a.
+    let m = rw c.in-Some.is at c.in_ok-in_mapping.ensures.room in
+    let s = rw c.in-Some.is at (c.in_ok-in_mapping.ensures.tied base r _ [] (lone_sign e col) a) in
+    c.keyless_value.ensures.tied base r [] (colon_no_feed (m ∙ e) col) s (alone_at s (m ∙ e) refl col)

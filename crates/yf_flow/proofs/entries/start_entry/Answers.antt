@@ -1,0 +1,42 @@
+use Rattle.std.proofs.Common.{sym, ◌∙◌, append-nil}
+use Rattle.yf_flow.proofs.TiedEnds.{gap_of, place_awaited, place_closing}
+use Rattle.yf_flow.proofs.TiedFirst.{first_begun, first_node_at}
+use Rattle.yf_flow.proofs.TiedSigns.{code_at, chosen_at}
+use Rattle.yf_flow.proofs.entries.start_entry.Goals as goal
+
+pub returns-then-closes-clause-tied : goal.returns-then-closes-clause-tied
+returns-then-closes-clause-tied c = λ base r a.
+    let p = c.in_ok-place.ensures in
+    let g = gap_of p.reads in
+    c.close.ensures.tied base (place_closing (place_awaited a g.1 p.events g.2 p.escapes) c.if-closes.ensures.cases)
+
+pub returns-in-Some-clause-tied : goal.returns-in-Some-clause-tied
+returns-in-Some-clause-tied c = λ base r a.
+    let p = c.in_ok-place.ensures in
+    let g = gap_of p.reads in
+    let v = c.with_entry-top.ensures in
+    let q = c.in_ok-end.ensures in
+    let s = rw c.in-Some.is at q.reads in
+    c.explicit_entry.ensures.tied base r s.1.comments (code_at c.args.scene.text.now v.entry s.0) (chosen_at v.entry s.1.chosen)
+    (first_begun (place_awaited a g.1 p.events g.2 p.escapes) c.if-closes.ensures.cases q.events s.1.added q.escapes c.with_entry-top.result v.kind v.event v.depth v.deepest v.entry v.role (v.index ∙ c.len.ensures))
+
+pub returns-then-colon_stands-clause-tied : goal.returns-then-colon_stands-clause-tied
+returns-then-colon_stands-clause-tied c = λ base r a.
+    let p = c.in_ok-place.ensures in
+    let g = gap_of p.reads in
+    let v = c.with_entry-top.ensures in
+    let q = c.in_ok-end.ensures in
+    let s = rw c.in-None.is at q.reads in
+    c.lone_value.ensures.tied base r c.if-colon_stands.ensures.cases v.entry
+    (first_begun (place_awaited a g.1 p.events g.2 p.escapes) c.if-closes.ensures.cases q.events (s.same ∙ sym (append-nil _)) q.escapes c.with_entry-top.result v.kind v.event v.depth v.deepest v.entry v.role (v.index ∙ c.len.ensures))
+
+pub returns-clause-tied : goal.returns-clause-tied
+returns-clause-tied c = λ base r a.
+    let p = c.in_ok-place.ensures in
+    let g = gap_of p.reads in
+    let v = c.with_entry-top.ensures in
+    let q = c.in_ok-end.ensures in
+    let s = rw c.in-None.is at q.reads in
+    first_node_at
+    (first_begun (place_awaited a g.1 p.events g.2 p.escapes) c.if-closes.ensures.cases q.events (s.same ∙ sym (append-nil _)) q.escapes c.with_entry-top.result v.kind v.event v.depth v.deepest v.entry v.role (v.index ∙ c.len.ensures))
+    v.entry s.none c.if-colon_stands.ensures.cases
