@@ -2,3 +2,4 @@ pub mod AwaitingLemmas
 pub mod Forward
 pub mod TiedFrames
 pub mod LookLemmas
+pub mod EntryLineLemmas

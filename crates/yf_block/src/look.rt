@@ -1,9 +1,9 @@
 //! Tests of what stands at a place of a block node, and walks that read nothing.
-ghost use Rattle.std.specs.Prelude.{◌≡◌, ◌+◌, ◌<◌, true, IfSome, MatchBool};
+ghost use Rattle.std.specs.Prelude.{◌≡◌, ◌+◌, ◌<◌, true, ℕ, IfSome, MatchBool, MatchOption};
 ghost use Rattle.std.specs.Str.{IsCharBoundary};
 ghost use Rattle.yf_flow.specs.Machine.{Place};
-ghost use Rattle.yf_grammar.specs.BlockParser.{DashAt, LinesEnd, SignAt};
-ghost use Rattle.yf_block.specs.Looks.{LineEndsAt};
+ghost use Rattle.yf_grammar.specs.BlockParser.{DashAt, LineText, LinesEnd, SignAt};
+ghost use Rattle.yf_block.specs.Looks.{EntryPlace, LineEndsAt, NotWithinBreak};
 
 use yf_chars::classes::is_ns_char;
 use yf_chars::text::{peek, stands};
@@ -114,7 +114,8 @@ pub(crate) fn node_ends(text: &str, at: usize) -> bool
 /// Where the first character other than a space stands of the line that begins there, if it can be that of an entry.
 pub(crate) fn entry_place(text: &str, at: usize) -> Option<usize>
     requires { IsCharBoundary text.now at }
-    ensures { IfSome result (λ p. Place text.now at p) }
+    ensures place { IfSome result (λ p. Place text.now at p) }
+    ensures entry { MatchOption result (NotWithinBreak text.now at → (m : ℕ) → (p : ℕ) → LineText text.now at m p → ⊥) (λ p. EntryPlace text.now at p) }
 {
     if node_ends(text, at) {
         return None;
