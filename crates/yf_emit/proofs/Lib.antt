@@ -38,7 +38,9 @@ pub mod PassLemmas
 pub mod PlainFits
 pub mod PlaceLemmas
 pub mod PropsFits
+pub mod ReadDerived
 pub mod ReadFits
+pub mod ReadParts
 pub mod RestyledLemmas
 pub mod RowEnds
 pub mod PrintLemmas
