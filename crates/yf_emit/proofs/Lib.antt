@@ -79,3 +79,4 @@ pub mod NodesPrinted
 pub mod DocumentsPrinted
 pub mod LayoutPrinted
 pub mod LeafMarks
+pub mod TrailChoice
