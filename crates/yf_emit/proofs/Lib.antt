@@ -80,3 +80,4 @@ pub mod DocumentsPrinted
 pub mod LayoutPrinted
 pub mod LeafMarks
 pub mod TrailChoice
+pub mod TrailRuns
