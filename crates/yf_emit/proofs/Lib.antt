@@ -81,3 +81,4 @@ pub mod LayoutPrinted
 pub mod LeafMarks
 pub mod TrailChoice
 pub mod TrailRuns
+pub mod TrailLeaves

@@ -19,7 +19,7 @@ use Rattle.yf_emit.proofs.TrailChoice.{rising, start_of_first, until}
 below : (a b : ℕ) → a < b → nat_lt a b ≡ true
 below a b l = grind (arith, nat_tests)
 
-less : (a b : ℕ) → nat_lt a b ≡ true → a < b
+pub less : (a b : ℕ) → nat_lt a b ≡ true → a < b
 less a b e = grind (arith, nat_tests)
 
 pub counted_on : (o p : ℕ) (cs : List CommentValue) → o < p → count_to o cs + count_to p (drop (count_to o cs) cs) ≡ count_to p cs
@@ -79,7 +79,7 @@ trails_alike : (r : Lists) (one other : List Bool) (l : Leaf) (u : ℕ) → Agre
 trails_alike r one other l u a =
     ap (λ b. nat_lt l.first u && (not b && is_at r l.end l.first)) (a.agree l.first (omega arith))
 
-given_agrees : (r : Lists) (l : Leaf) (u : ℕ) (f : Found) (other : List Bool) → l.first ≤ u → Agree l.first f.trailing other → Agree u (given r (Some l) u f).trailing other
+pub given_agrees : (r : Lists) (l : Leaf) (u : ℕ) (f : Found) (other : List Bool) → l.first ≤ u → Agree l.first f.trailing other → Agree u (given r (Some l) u f).trailing other
 given_agrees r l u f other h a = by (trails_leaf r f.trailing l u) refl where
   by : (b : Bool) → trails_leaf r f.trailing l u ≡ b → Agree u (given_if b l f).trailing other
   by false e = agree_later l.first u f.trailing other h a
@@ -124,7 +124,7 @@ in_order (l ∷ ls) = not_at l.event ls && in_order ls
 counted_later : (o p : ℕ) (cs : List CommentValue) → o < p → count_to o cs ≤ count_to p cs
 counted_later o p cs l = let e = counted_on o p cs l in omega (arith, e)
 
-counted_within : (o : ℕ) (cs : List CommentValue) → count_to o cs ≤ length cs
+pub counted_within : (o : ℕ) (cs : List CommentValue) → count_to o cs ≤ length cs
 counted_within o [] = omega arith
 counted_within o (c ∷ cs) = by (nat_lt c.offset o) (counted_within o cs) where
   by : (b : Bool) → count_to o cs ≤ length cs → (if b then suc (count_to o cs) else 0) ≤ suc (length cs)
