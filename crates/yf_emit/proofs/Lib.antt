@@ -82,3 +82,4 @@ pub mod LeafMarks
 pub mod TrailChoice
 pub mod TrailRuns
 pub mod TrailLeaves
+pub mod TrailOthers
