@@ -86,3 +86,7 @@ pub mod NodesPrinted
 pub mod DocumentsPrinted
 pub mod LayoutPrinted
 pub mod LeafMarks
+pub mod TrailChoice
+pub mod TrailRuns
+pub mod TrailLeaves
+pub mod TrailOthers
