@@ -27,6 +27,7 @@ pub mod LayoutLawsHold
 pub mod LeafFits
 pub mod LeafLemmas
 pub mod LevelLemmas
+pub mod MarksOrder
 pub mod MeasuredLemmas
 pub mod NodePlaces
 pub mod NodesMade
@@ -35,6 +36,8 @@ pub mod OffsetLemmas
 pub mod OneLineRuns
 pub mod PassLemmas
 pub mod PlaceLemmas
+pub mod PlacedTrees
+pub mod ReadingsOfTexts
 pub mod RestyledLemmas
 pub mod RowEnds
 pub mod PrintLemmas
