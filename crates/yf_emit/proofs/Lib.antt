@@ -28,6 +28,7 @@ pub mod LayoutLawsHold
 pub mod LeafFits
 pub mod LeafLemmas
 pub mod LevelLemmas
+pub mod MarksOrder
 pub mod MeasuredLemmas
 pub mod NodePlaces
 pub mod NodesMade
@@ -37,10 +38,12 @@ pub mod OneLineRuns
 pub mod PassLemmas
 pub mod PlainFits
 pub mod PlaceLemmas
+pub mod PlacedTrees
 pub mod PropsFits
 pub mod ReadDerived
 pub mod ReadFits
 pub mod ReadParts
+pub mod ReadingsOfTexts
 pub mod RestyledLemmas
 pub mod RowEnds
 pub mod PrintLemmas

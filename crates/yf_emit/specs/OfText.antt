@@ -3,17 +3,14 @@
 use Rattle.std.specs.Prelude.{◌≡◌, ◌<◌, ◌≤◌, ℕ, List, [], ◌∷◌, ◌++◌, length, map, true, Option, Some, None}
 use Rattle.std.specs.List.{All}
 use Rattle.std.specs.List.Sorted.{IsNonDecreasingBy}
-use Rattle.std.specs.Str.{IsUtf8}
 use Rattle.yf_comments.specs.Comment.{CommentValue}
-use Rattle.yf_events.specs.Event.{EventValue, Placed, sequence_starts, mapping_starts, scalar_node}
-use Rattle.yf_events.specs.Tree.{Standing, Node, scalar, alias, sequence, mapping, Items, no_items, item, Pairs, no_pairs, pair, DocumentTree, standing, entry_start, placed}
+use Rattle.yf_events.specs.Event.{Placed}
+use Rattle.yf_events.specs.Tree.{Node, scalar, alias, sequence, mapping, Items, no_items, item, Pairs, no_pairs, pair, DocumentTree, standing, entry_start}
 use Rattle.yf_events.specs.WellPlaced.{begins_node}
 use Rattle.yf_events.specs.declared.document.Doc.{Doc}
-use Rattle.yf_events.specs.declared.event.ScalarStyle.TheVariants.{Plain}
 use Rattle.yf_events.specs.declared.event.Span.{Span}
 use Rattle.yf_events.specs.declared.lists.Lists.{Lists}
-use Rattle.yf_grammar.specs.Grammar.{Production, Derives}
-use Rattle.yf_grammar.specs.Meaning.{Meaning}
+use Rattle.yf_grammar.specs.Spelled.{IsSpelled}
 use Rattle.yf_emit.specs.Rows.{colon_offset}
 use Rattle.yf_emit.specs.Textual.{IsTextual}
 
@@ -44,27 +41,6 @@ marks_in_documents [] trees = []
 marks_in_documents (d ∷ ds) [] = []
 marks_in_documents (d ∷ ds) (tree ∷ trees) =
     map (λ w. w.offset) d.directives ++ (d.start ∷ (marks_in tree.root ++ marks_in_documents ds trees))
-
--- Spelling.
-
--- of a collection, its properties alone
-abbrev pub as_leaf : EventValue → EventValue
-as_leaf (sequence_starts flow props) = scalar_node props Plain []
-as_leaf (mapping_starts flow props) = scalar_node props Plain []
-as_leaf e = e
-
--- the grammar derives a node of some text that has this event alone, wherever it stands there
-pub record IsSpelled (e : EventValue) (lines : List (List ℕ)) : Type 0 where
-  pub text : List ℕ
-  pub utf8 : IsUtf8 text
-  pub production : Production
-  pub height : ℕ
-  pub from : ℕ
-  pub to : ℕ
-  pub meaning : Meaning
-  pub derived : Derives text height production from to meaning
-  pub at : Standing
-  pub is : meaning.events ≡ placed at (as_leaf e) lines ∷ []
 
 -- what the proofs ask of a reading r of the text t; readings of texts have more, as strict order and spellings within flow collections
 pub record OfText (t : List ℕ) (r : Lists) : Type 0 where
