@@ -12,3 +12,4 @@ pub mod PlacedLemmas
 pub mod PlacedScalar
 mod PlacedShown
 pub mod LinesMade
+pub mod ScalarOrder

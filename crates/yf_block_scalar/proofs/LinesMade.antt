@@ -1,16 +1,16 @@
 -- The lines of a block scalar are lines of the text, one for one.
-use Rattle.std.proofs.Common.{◌≡◌, ◌≢◌, ℕ, zero, suc, ◌+◌, ◌-◌, ◌<◌, ◌≤◌, Bool, true, false, List, [], ◌∷◌, ◌++◌, length, length-append, refl, sym, ap, ◌∙◌, ⊎_elim, arith}
+use Rattle.std.proofs.Common.{◌≡◌, ◌≢◌, ℕ, zero, suc, ◌+◌, ◌-◌, ◌<◌, ◌≤◌, Bool, false, List, [], ◌∷◌, ◌++◌, length, length-append, refl, sym, ap, ◌∙◌, ⊎_elim, arith}
 use Rattle.std.proofs.lemmas.Bool.{cases_eq, cases_lt}
-use Rattle.std.proofs.lemmas.Bool.Decides.{nat_tests}
 use Rattle.std.specs.Str.{IsUtf8}
 use Rattle.yf_chars.specs.Text.{code, no_char, Reads}
-use Rattle.yf_chars.specs.Class.{is_nb_char, is_printable, is_between, is_break_char}
+use Rattle.yf_chars.specs.Class.{is_nb_char, is_break_char}
 use Rattle.yf_chars.specs.Chain.{Chain, Many}
 use Rattle.yf_chars.specs.Chain.Chain.{done, step}
 use Rattle.yf_chars.specs.Chain.One.{one}
 use Rattle.yf_chars.proofs.BreakChars.{nb_no_break, space_no_break}
 use Rattle.yf_chars.proofs.ChainLemmas.{chain_append, chain_one}
 use Rattle.yf_chars.proofs.TextLemmas.{reads_real, code-end}
+use Rattle.yf_chars.proofs.CharBounds.{nb_below}
 use Rattle.yf_lines.specs.Basic.{Spaces, Break}
 use Rattle.yf_lines.specs.Lines.{Unbroken, OneLine}
 use Rattle.yf_lines.specs.declared.line.Line.{Line as TextLine}
@@ -50,10 +50,6 @@ unbroken_char {t} {i} {c} {j} u r e = record {
   none = λ h l m. ⊎_elim (λ (f : i ≡ h). ap (λ k. is_break_char (code t k)) (sym f) ∙ ap is_break_char r.char ∙ e)
       (λ (n : i ≢ h). ap is_break_char (code_inside u r (omega arith) m) ∙ no_break_end) (cases_eq i h);
 }
-
-nb_below : (c : ℕ) → is_nb_char c ≡ true → c < no_char
-unfolding is_nb_char is_printable is_between
-nb_below c e = grind (arith, nat_tests)
 
 unbroken_nb : {t : List ℕ} {i j : ℕ} {x : List ℕ} → IsUtf8 t → Many t is_nb_char i j x → Unbroken t i j
 unbroken_nb {i = i} u done = unbroken_here i

@@ -1,5 +1,6 @@
 pub mod BreakChars
 pub mod ChainLemmas
+pub mod CharBounds
 pub mod EscapeLemmas
 pub mod SpelledLemmas
 pub mod TextLemmas

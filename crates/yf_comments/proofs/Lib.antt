@@ -6,3 +6,4 @@ pub mod SpaceLemmas
 pub mod NoteKnown
 pub mod GapLinesLemmas
 mod NoteShown
+pub mod LineOrder

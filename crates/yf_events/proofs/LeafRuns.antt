@@ -2,16 +2,14 @@
 use Rattle.std.proofs.Common.{◌≡◌, ℕ, zero, suc, ◌+◌, ◌<◌, ◌≤◌, Bool, true, false, List, [], ◌∷◌, ◌++◌, Option, Some, None, length, map, drop, refl, sym, ap, ◌∙◌, cond, zero-add, arith}
 use Rattle.std.specs.Prelude.{slice_get, count_by, nat_lt}
 use Rattle.std.proofs.lemmas.List.Sums.{sum_by-cons}
+use Rattle.std.proofs.lemmas.Option.{same_Some}
 use Rattle.yf_events.specs.Event.{EventValue, Placed, stream_starts, stream_ends, document_starts, document_ends, sequence_starts, sequence_ends, mapping_starts, mapping_ends, scalar_node, alias_node}
 use Rattle.yf_events.specs.Reading.{begins_leaf, before_if, ends_next, first_begins_before, first_begins_leaf, is_end, leaf_if, leaf_starts, start_in}
 use Rattle.yf_events.specs.declared.event.Span.{Span}
 
-some_inj : {X : Type 0} {a b : X} → Some a ≡ Some b → a ≡ b
-some_inj h = cc
-
 pub ends_at : (es : List Placed) (k : ℕ) (v : EventValue) → slice_get (map (λ e. e.event) es) k ≡ Some v → ends_next (drop k es) ≡ is_end v
 ends_at [] k v h = cc
-ends_at (e ∷ es) zero v h = ap is_end (some_inj h)
+ends_at (e ∷ es) zero v h = ap is_end (same_Some _ _ h)
 ends_at (e ∷ es) (suc k) v h = ends_at es k v h
 
 pub ends_past : (es : List Placed) (k : ℕ) → length es ≤ k → ends_next (drop k es) ≡ false
@@ -23,13 +21,13 @@ ends_past (e ∷ es) (suc k) l = ends_past es k (omega arith)
 pub begins_at : (es : List Placed) (i : ℕ) (v : EventValue) → slice_get (map (λ e. e.event) es) i ≡ Some v
     → first_begins_leaf (drop i es) ≡ begins_leaf v (drop (suc i) es)
 begins_at [] i v h = cc
-begins_at (e ∷ es) zero v h = ap (λ w. begins_leaf w es) (some_inj h)
+begins_at (e ∷ es) zero v h = ap (λ w. begins_leaf w es) (same_Some _ _ h)
 begins_at (e ∷ es) (suc i) v h = begins_at es i v h
 
 pub before_at : (es : List Placed) (i offset : ℕ) (span : Option Span) → slice_get (map (λ e. e.span) es) i ≡ Some span
     → first_begins_before offset (drop i es) ≡ before_if (first_begins_leaf (drop i es)) span offset
 before_at [] i offset span h = cc
-before_at (e ∷ es) zero offset span h = ap (λ w. before_if (begins_leaf e.event es) w offset) (some_inj h)
+before_at (e ∷ es) zero offset span h = ap (λ w. before_if (begins_leaf e.event es) w offset) (same_Some _ _ h)
 before_at (e ∷ es) (suc i) offset span h = before_at es i offset span h
 
 count_start : (b : Bool) (span : Option Span) (offset : ℕ) (starts : List ℕ)
@@ -76,5 +74,5 @@ leaf_seen es i v b at ends = ap (leaf_if v) ends ∙ leaf_is v (drop (suc i) es)
 pub events_cut : (es : List Placed) (i : ℕ) (v : EventValue) → slice_get (map (λ e. e.event) es) i ≡ Some v
     → map (λ e. e.event) (drop i es) ≡ v ∷ map (λ e. e.event) (drop (suc i) es)
 events_cut [] i v h = cc
-events_cut (e ∷ es) zero v h = ap (λ w. w ∷ map (λ x. x.event) es) (some_inj h)
+events_cut (e ∷ es) zero v h = ap (λ w. w ∷ map (λ x. x.event) es) (same_Some _ _ h)
 events_cut (e ∷ es) (suc i) v h = events_cut es i v h

@@ -3,6 +3,7 @@ use Rattle.std.proofs.Common.{ℕ, zero, suc, arith, refl, Some, ◌+◌, ◌<�
 use Rattle.std.specs.List.{flat_map, zip}
 use Rattle.std.specs.Prelude.{slice_get}
 use Rattle.std.proofs.lemmas.List.{drop_all, length-map}
+use Rattle.std.proofs.lemmas.Option.{same_Some}
 use Rattle.yf_lines.specs.Output.{Wrote}
 use Rattle.yf_events.specs.Event.{EventValue}
 use Rattle.yf_events.specs.Notation.{event_line, notation, notation_of}
@@ -26,9 +27,6 @@ no_item f old new before after text xs i past p =
 
 -- Events, each with its resolved tag
 
-some_parts : {X : Type 0} {a c : X} → Some a ≡ Some c → a ≡ c
-some_parts h = cc
-
 drop_nil : {X : Type 0} (i : ℕ) → drop i (let none : List X = [] in none) ≡ []
 drop_nil zero = refl
 drop_nil (suc i) = refl
@@ -37,7 +35,7 @@ pub zip_at : {X Y : Type 0} (xs : List X) (ys : List Y) (i : ℕ) (x : X) (y : Y
     → drop i (zip xs ys) ≡ (x, y) ∷ drop (suc i) (zip xs ys)
 zip_at [] ys i x y p q = cc
 zip_at (a ∷ xs) [] i x y p q = cc
-zip_at (a ∷ xs) (b ∷ ys) zero x y p q = ap (λ w. (w, b) ∷ zip xs ys) (some_parts p) ∙ ap (λ w. (x, w) ∷ zip xs ys) (some_parts q)
+zip_at (a ∷ xs) (b ∷ ys) zero x y p q = ap (λ w. (w, b) ∷ zip xs ys) (same_Some _ _ p) ∙ ap (λ w. (x, w) ∷ zip xs ys) (same_Some _ _ q)
 zip_at (a ∷ xs) (b ∷ ys) (suc i) x y p q = zip_at xs ys i x y p q
 
 pub zip_past : {X Y : Type 0} (xs : List X) (ys : List Y) (i : ℕ) → length xs ≤ i → drop i (zip xs ys) ≡ []

@@ -1,5 +1,6 @@
 -- What the one-pass test accepts is a well nested stream.
 use Rattle.std.proofs.Common.{ℕ, suc, zero, ◌≡◌, Bool, true, List, [], ◌∷◌, ◌++◌, Option, Some, None, refl, sym, subst, append_assoc}
+use Rattle.std.proofs.lemmas.Option.{same_Some}
 use Rattle.yf_props.specs.Props.{PropsValue}
 use Rattle.yf_events.specs.Event.{EventValue, stream_starts, stream_ends, document_starts, document_ends, sequence_starts, sequence_ends, mapping_starts, mapping_ends, scalar_node, alias_node}
 use Rattle.yf_events.specs.Nested.{one_node, many_nodes, many_pairs, many_documents, Nested, a_scalar, an_alias, a_sequence, a_mapping, no_nodes, more_nodes, no_pairs, more_pairs, no_documents, more_documents, IsStream, a_stream}
@@ -34,9 +35,6 @@ more_keys {k = k} {v = v} n m (keys_left {x = w} {y = y} o rest) =
 key_first : {r : ℕ} {b : List Awaited} {x z : List EventValue} → Nested one_node r x → Rest r Values b z → Rest r Keys b (x ++ z)
 key_first n (values_left m rest) = more_keys n m rest
 
-some_inj : {a c : Awaited} → Some a ≡ Some c → a ≡ c
-some_inj h = cc
-
 -- a node where one is awaited
 node_first : {r : ℕ} {b : List Awaited} {x y : List EventValue} (f g : Awaited) → Nested one_node r x → after_node f ≡ Some g
     → Rest r g b y → Rest r f b (x ++ y)
@@ -44,10 +42,10 @@ node_first Stream g n h rest = cc
 node_first Documents g n h rest = cc
 node_first Closing g n h rest = cc
 node_first Nothing g n h rest = cc
-node_first {r} {b} {y = y} Root g n h rest = root_left n (subst (λ w. Rest r w b y) (sym (some_inj h)) rest)
-node_first {r} {b} {y = y} Items g n h rest = more_items n (subst (λ w. Rest r w b y) (sym (some_inj h)) rest)
-node_first {r} {b} {y = y} Keys g n h rest = key_first n (subst (λ w. Rest r w b y) (sym (some_inj h)) rest)
-node_first {r} {b} {y = y} Values g n h rest = values_left n (subst (λ w. Rest r w b y) (sym (some_inj h)) rest)
+node_first {r} {b} {y = y} Root g n h rest = root_left n (subst (λ w. Rest r w b y) (sym (same_Some _ _ h)) rest)
+node_first {r} {b} {y = y} Items g n h rest = more_items n (subst (λ w. Rest r w b y) (sym (same_Some _ _ h)) rest)
+node_first {r} {b} {y = y} Keys g n h rest = key_first n (subst (λ w. Rest r w b y) (sym (same_Some _ _ h)) rest)
+node_first {r} {b} {y = y} Values g n h rest = values_left n (subst (λ w. Rest r w b y) (sym (same_Some _ _ h)) rest)
 
 sequence_first : {r : ℕ} {b : List Awaited} {z : List EventValue} (f g : Awaited) (flow : Bool) (props : PropsValue) → after_node f ≡ Some g
     → Rest r Items (g ∷ b) z → Rest (suc r) f b (sequence_starts flow props ∷ z)

@@ -8,3 +8,4 @@ pub mod FoldLemmas
 pub mod OutputLemmas
 pub mod RestLemmas
 pub mod RowLemmas
+pub mod VisibleLines

@@ -3,3 +3,4 @@ pub mod LineLemmas
 pub mod KeptLemmas
 pub mod PlainBack
 mod KeptShown
+pub mod PlainOrder

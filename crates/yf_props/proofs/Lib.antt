@@ -10,3 +10,4 @@ pub mod PropsBack
 pub mod PropsLines
 mod PropsShown
 pub mod OrderLemmas
+pub mod NameOrder

@@ -3,6 +3,7 @@ use Rattle.std.proofs.Common.{◌≡◌, ◌≢◌, ℕ, suc, ◌+◌, ◌<◌, 
 use Rattle.std.proofs.lemmas.Bool.Decides.{nat_tests}
 use Rattle.std.proofs.lemmas.Str.{encode_ascii}
 use Rattle.std.specs.Str.{IsUtf8}
+use Rattle.std.proofs.lemmas.Option.{same_Some}
 use lib.Utf8.{encodes}
 use Rattle.yf_chars.specs.declared.context.Ctx.{Ctx}
 use Rattle.yf_chars.specs.Text.{code, next, no_char, Reads}
@@ -200,20 +201,17 @@ tag_made u (shorthand_tag d) = shorthand_made u d
 tag_made u (non_specific_tag a s) = lone_form
 
 -- properties
-some_same : {A : Type 0} {x y : A} → Some x ≡ Some y → x ≡ y
-some_same e = cc
-
 none_some : {A : Type 0} {B : Type 0} {x : A} → None ≡ Some x → B
 none_some e = cc
 
 pub props_made : {t : List ℕ} {n : ℤ} {c : Ctx} {i j : ℕ} {p : PropertiesValue} → IsUtf8 t → Properties t n c i j p → IsProps p.props
-props_made u (by_tag d) = let made = tag_made u d in record { anchor = λ name e. none_some e; tag = λ v e. subst (λ w. IsTag w) (some_same e) made }
-props_made u (by_anchor a) = let made = anchor_made u a in record { anchor = λ name e. subst (λ w. IsName w) (some_same e) made; tag = λ v e. none_some e }
+props_made u (by_tag d) = let made = tag_made u d in record { anchor = λ name e. none_some e; tag = λ v e. subst (λ w. IsTag w) (same_Some _ _ e) made }
+props_made u (by_anchor a) = let made = anchor_made u a in record { anchor = λ name e. subst (λ w. IsName w) (same_Some _ _ e) made; tag = λ v e. none_some e }
 props_made u (tag_first d s a) =
     let made = tag_made u d in
     let named = anchor_made u a in
-    record { anchor = λ name e. subst (λ w. IsName w) (some_same e) named; tag = λ v e. subst (λ w. IsTag w) (some_same e) made }
+    record { anchor = λ name e. subst (λ w. IsName w) (same_Some _ _ e) named; tag = λ v e. subst (λ w. IsTag w) (same_Some _ _ e) made }
 props_made u (anchor_first a s d) =
     let made = tag_made u d in
     let named = anchor_made u a in
-    record { anchor = λ name e. subst (λ w. IsName w) (some_same e) named; tag = λ v e. subst (λ w. IsTag w) (some_same e) made }
+    record { anchor = λ name e. subst (λ w. IsName w) (same_Some _ _ e) named; tag = λ v e. subst (λ w. IsTag w) (same_Some _ _ e) made }

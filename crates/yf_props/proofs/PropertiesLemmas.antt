@@ -13,6 +13,7 @@ use Rattle.yf_props.proofs.NameLemmas.{chosen_over, chosen_cases, anchor_parts, 
 use Rattle.yf_props.proofs.TagLemmas.{tag_mark, tag_later}
 use Rattle.yf_props.proofs.SeparationEnds.{Apparent, solid_apparent, separate_forward, apparent_last, no_separation_inside}
 use Rattle.yf_props.proofs.SolidLemmas.{tag_all_solid}
+use Rattle.yf_props.proofs.NameOrder.{anchor_forward}
 
 module _ {t : List ℕ} where
   mark_apparent : {k : ℕ} → code t k ≡ 33 → Apparent t k
@@ -23,9 +24,6 @@ module _ {t : List ℕ} where
 
   not_both : {i j k : ℕ} {a : List ℕ} {v : TagValue} → Anchor t i j a → TagProperty t i k v → ⊥
   not_both a v = let e = (anchor_parts a).0 in let f = tag_mark v in absurd (omega arith)
-
-  anchor_later : {i j : ℕ} {a : List ℕ} → Anchor t i j a → i < j
-  anchor_later a = let l = (anchor_parts a).1.some in omega arith
 
 module _ {t : List ℕ} {n : ℤ} {c : Ctx} where
   -- a separation that ends before a character with which none goes on is the chosen one
@@ -102,7 +100,7 @@ module _ {t : List ℕ} (u : IsUtf8 t) {n : ℤ} {c : Ctx} where
   past_tag g s a (by_tag {j = l} {tag = w} d) =
       let e = g.longest l w d in
       let f = separate_forward s.derived in
-      let m = anchor_later a in
+      let m = anchor_forward a in
       inl (omega arith)
   past_tag g s a (by_anchor b) = absurd (not_both b g.derived)
   past_tag g s a (anchor_first b r e) = absurd (not_both b g.derived)

@@ -1,26 +1,19 @@
 -- Names, tags and properties stand within one line.
-use Rattle.std.proofs.Common.{◌≡◌, ℕ, ◌<◌, ◌≤◌, Bool, true, Option, Some, None, List, [], ◌∷◌, ◌++◌, refl, arith, subst, append-nil}
+use Rattle.std.proofs.Common.{◌≡◌, ℕ, Bool, true, Option, Some, None, List, [], ◌∷◌, ◌++◌, refl, arith, subst, append-nil}
 use Rattle.std.proofs.lemmas.Bool.{and_parts}
-use Rattle.std.proofs.lemmas.Bool.Decides.{nat_tests}
 use Rattle.std.proofs.Common.{not, ◌&&◌}
-use Rattle.yf_chars.specs.Class.{is_anchor_char, is_ns_char, is_nb_char, is_printable, is_between, is_break_char, is_white, is_word_char, is_flow_indicator}
+use Rattle.yf_chars.specs.Class.{is_anchor_char, is_ns_char, is_nb_char, is_white, is_word_char, is_flow_indicator}
 use Rattle.yf_lines.specs.LineText.{AllNb, IsLineText}
-use Rattle.yf_lines.proofs.RestLemmas.{line_append, line_ascii, line_nothing}
+use Rattle.yf_lines.proofs.RestLemmas.{line_append, line_nothing}
+use Rattle.yf_lines.proofs.VisibleLines.{visible_line}
 use Rattle.yf_props.specs.Props.{PropsValue, TagValue}
 use Rattle.yf_props.specs.Written.{AllOf, IsName, IsSpelled, nothing_spelled, itself_spelled, escape_spelled, IsHandle, primary_form, secondary_form, named_form, IsTag, verbatim_form, short_form, lone_form, IsProps, alias_bytes, anchor_bytes, tag_bytes, parts_bytes, props_bytes}
 use Rattle.yf_props.proofs.SeparationEnds.{Solid}
 use Rattle.yf_props.proofs.SolidLemmas.{uri_solid, word_solid, tag_solid, hex_solid}
 
 -- characters
-visible_nb : (c : ℕ) → 32 ≤ c → c < 127 → is_nb_char c ≡ true
-unfolding is_nb_char is_printable is_between is_break_char
-visible_nb c l h = grind (arith, nat_tests)
-
-visible : (c : ℕ) {x : List ℕ} → 32 ≤ c → c < 127 → IsLineText x → IsLineText (c ∷ x)
-visible c l h x = line_ascii c (omega arith) (visible_nb c l h) x
-
 solid : (c : ℕ) {x : List ℕ} → Solid c → IsLineText x → IsLineText (c ∷ x)
-solid c s x = let l = s.low in let h = s.high in visible c (omega arith) (omega arith) x
+solid c s x = let l = s.low in let h = s.high in visible_line c (omega arith) (omega arith) x
 
 anchor_nb : (c : ℕ) → is_anchor_char c ≡ true → is_nb_char c ≡ true
 unfolding is_anchor_char is_ns_char
@@ -37,14 +30,14 @@ name_line n = record { chars = n.chars; bytes = n.bytes; each = names_nb n.chars
 spelled_line : {p : ℕ → Bool} {x y : List ℕ} → ((c : ℕ) → p c ≡ true → Solid c) → IsSpelled p x → IsLineText y → IsLineText (x ++ y)
 spelled_line S nothing_spelled y = y
 spelled_line S (itself_spelled {c = c} e k) y = solid c (S c e) (spelled_line S k y)
-spelled_line S (escape_spelled {a = a} {b = b} e f k) y = visible 37 (omega arith) (omega arith) (solid a (hex_solid a e) (solid b (hex_solid b f) (spelled_line S k y)))
+spelled_line S (escape_spelled {a = a} {b = b} e f k) y = visible_line 37 (omega arith) (omega arith) (solid a (hex_solid a e) (solid b (hex_solid b f) (spelled_line S k y)))
 
 words_line : (x : List ℕ) {y : List ℕ} → AllOf is_word_char x → IsLineText y → IsLineText (x ++ y)
 words_line [] a y = y
 words_line (c ∷ x) a y = solid c (word_solid c a.0) (words_line x a.1 y)
 
 mark_line : {x : List ℕ} → IsLineText x → IsLineText (33 ∷ x)
-mark_line x = visible 33 (omega arith) (omega arith) x
+mark_line x = visible_line 33 (omega arith) (omega arith) x
 
 handle_line : {h : List ℕ} → IsHandle h → IsLineText h
 handle_line primary_form = mark_line line_nothing
@@ -53,15 +46,15 @@ handle_line (named_form {x = x} a n) = mark_line (words_line x a (mark_line line
 
 tag_line : {v : TagValue} → IsTag v → IsLineText (tag_bytes v)
 tag_line (verbatim_form k n) =
-    mark_line (visible 60 (omega arith) (omega arith) (spelled_line uri_solid k (visible 62 (omega arith) (omega arith) line_nothing)))
+    mark_line (visible_line 60 (omega arith) (omega arith) (spelled_line uri_solid k (visible_line 62 (omega arith) (omega arith) line_nothing)))
 tag_line (short_form {h = h} {x = x} a k n) = line_append (handle_line a) (subst (λ w. IsLineText w) (append-nil x) (spelled_line tag_solid k line_nothing))
 tag_line lone_form = mark_line line_nothing
 
 pub alias_line_text : {name : List ℕ} → IsName name → IsLineText (alias_bytes name)
-alias_line_text n = visible 42 (omega arith) (omega arith) (name_line n)
+alias_line_text n = visible_line 42 (omega arith) (omega arith) (name_line n)
 
 anchor_line : {name : List ℕ} → IsName name → IsLineText (anchor_bytes name)
-anchor_line n = visible 38 (omega arith) (omega arith) (name_line n)
+anchor_line n = visible_line 38 (omega arith) (omega arith) (name_line n)
 
 pub props_line_text : {p : PropsValue} → IsProps p → IsLineText (props_bytes p)
 props_line_text {p} k = go p.anchor p.tag refl refl where
@@ -69,4 +62,4 @@ props_line_text {p} k = go p.anchor p.tag refl refl where
   go None None e g = line_nothing
   go None (Some v) e g = tag_line (k.tag v g)
   go (Some a) None e g = anchor_line (k.anchor a e)
-  go (Some a) (Some v) e g = line_append (anchor_line (k.anchor a e)) (visible 32 (omega arith) (omega arith) (tag_line (k.tag v g)))
+  go (Some a) (Some v) e g = line_append (anchor_line (k.anchor a e)) (visible_line 32 (omega arith) (omega arith) (tag_line (k.tag v g)))

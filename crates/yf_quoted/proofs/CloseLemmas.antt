@@ -1,5 +1,6 @@
 -- Where the closing quote can also be half of a character: the bodies from one place, and which of them is the longest.
 use Rattle.std.proofs.Common.{◌≡◌, ◌≢◌, ℕ, ◌<◌, ◌≤◌, List, [], ◌++◌, Option, Some, None, refl, sym, ap, ◌∙◌, subst, inl, inr, ◌⊎◌, ⊎_elim, arith, append_assoc}
+use Rattle.std.proofs.lemmas.Option.{same_Some}
 use Rattle.yf_chars.specs.Text.{code}
 use Rattle.yf_chars.specs.Chain.{Chain, Stuck}
 use Rattle.yf_chars.specs.Chain.Chain.{done, step}
@@ -120,7 +121,7 @@ module _ {A : Type 0} {t : List ℕ} {put : List ℕ → List A} {C B : ℕ → 
   pub best_mark : {i e h : ℕ} {x z : List A} {best : Option (Closed A)} → Laws t put C B quote → Chain (Step t put C B) i e x → Best t put C B quote i e x best
       → (s : Step t put C B e h z) → code t s.at ≡ quote → Best t put C B quote i h (x ++ z) (Some (record { close = s.at; text = x ++ s.front }))
   best_mark {i} {e} {h} {x} {z} {best} l a b s q = record {
-    derived = λ c r. let same = some_same r in subst (λ (d : Closed A). Body t put C B quote i d.close d.text × (d.close < h)) same (body, l.chars.forward s.is);
+    derived = λ c r. let same = same_Some _ _ r in subst (λ (d : Closed A). Body t put C B quote i d.close d.text × (d.close < h)) same (body, l.chars.forward s.is);
     every = λ k y d. ⊎_elim
         (λ (r : Later t put C B quote e x k y). ⊎_elim
         (λ (m : (k ≡ s.at) × (r.rest ≡ s.front)). inr (known (record { within = omega (arith, m.0); same = λ p. r.text ∙ ap (λ w. x ++ w) m.1 })))
@@ -143,9 +144,6 @@ module _ {A : Type 0} {t : List ℕ} {put : List ℕ → List A} {C B : ℕ → 
       closing = q;
       text = refl;
     }
-
-    some_same : {c d : Closed A} → Some c ≡ Some d → c ≡ d
-    some_same e = cc
 
     before : {k : ℕ} {y : List A} {best : Option (Closed A)} → Within k y best → ((c : Closed A) → best ≡ Some c → c.close < e)
         → Within k y (Some (record { close = s.at; text = x ++ s.front }))

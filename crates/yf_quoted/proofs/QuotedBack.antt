@@ -5,10 +5,11 @@ use Rattle.std.proofs.lemmas.Bool.Decides.{nat_tests}
 use lib.Utf8.{scalars, scalar, scalar_cases}
 use Rattle.std.specs.Str.{IsUtf8}
 use Rattle.yf_chars.specs.declared.context.Ctx.{Ctx}
-use Rattle.yf_chars.specs.Class.{is_between, is_printable, is_break_char, is_nb_char}
+use Rattle.yf_chars.specs.Class.{is_nb_char}
 use Rattle.yf_chars.specs.Escape.{upper_digit, two_digits, is_by_two, is_by_four, spelled_long, spelled_by, spelled, short_name}
 use Rattle.yf_chars.proofs.EscapeLemmas.{by_two_below, by_four_below}
 use Rattle.yf_chars.proofs.SpelledLemmas.{Stands, plain_char}
+use Rattle.yf_chars.proofs.CharBounds.{visible_nb}
 use Rattle.yf_lines.specs.Basic.{is_block}
 use Rattle.yf_lines.specs.LineText.{AllNb, IsLineText}
 use Rattle.yf_lines.proofs.RestLemmas.{nb_append, line_append, line_ascii, line_nothing}
@@ -17,12 +18,8 @@ use Rattle.yf_quoted.specs.Written.{all_nb, twice, single_bytes, double_bytes}
 use Rattle.yf_quoted.proofs.WriteLemmas.{single_back, double_back}
 
 -- the characters that are written
-nb_of : (c : ℕ) → 32 ≤ c → c < 127 → is_nb_char c ≡ true
-unfolding is_nb_char is_printable is_between is_break_char
-nb_of c l h = grind (arith, nat_tests)
-
 twice_nb : (c : ℕ) → is_nb_char c ≡ true → AllNb (twice c)
-twice_nb c e = ⊎_elim (λ (q : c ≡ 39). let nb = nb_of 39 (omega arith) (omega arith) in rw (q) (nb, (nb, tt))) (λ (q : c ≢ 39). rw (ne_eqb c 39 q) (e, tt)) (cases_eq c 39)
+twice_nb c e = ⊎_elim (λ (q : c ≡ 39). let nb = visible_nb 39 (omega arith) (omega arith) in rw (q) (nb, (nb, tt))) (λ (q : c ≢ 39). rw (ne_eqb c 39 q) (e, tt)) (cases_eq c 39)
 
 all_twice : (cs : List ℕ) → all_nb cs ≡ true → AllNb (flat_map twice cs)
 all_twice [] e = tt
@@ -39,7 +36,7 @@ unfolding two_digits
 digits_nb v l =
     let a = digit_nb (v / 16) (omega arith) in
     let b = digit_nb (v % 16) (omega arith) in
-    (nb_of _ a.0 a.1, (nb_of _ b.0 b.1, tt))
+    (visible_nb _ a.0 a.1, (visible_nb _ b.0 b.1, tt))
 
 letter_bounds : (c l : ℕ) → short_name c ≡ Some l → (32 ≤ l) × (l < 127)
 unfolding short_name
@@ -53,12 +50,12 @@ itself_nb c s n e f =
 long_nb : (c : ℕ) → scalar c ≡ true → short_name c ≡ None → AllNb (spelled_long c)
 unfolding spelled_long
 long_nb c s n =
-    ⊎_elim (λ (e : is_by_two c ≡ true). rw e (nb_of 92 (omega arith) (omega arith), (nb_of 120 (omega arith) (omega arith), digits_nb c (by_two_below c e))))
+    ⊎_elim (λ (e : is_by_two c ≡ true). rw e (visible_nb 92 (omega arith) (omega arith), (visible_nb 120 (omega arith) (omega arith), digits_nb c (by_two_below c e))))
     (λ (e : is_by_two c ≡ false).
     ⊎_elim (λ (f : is_by_four c ≡ true).
     let l = by_four_below c f in
     rw (e, f) (nb_append (92 ∷ 117 ∷ two_digits (c / 256)) (two_digits (c % 256))
-    (nb_of 92 (omega arith) (omega arith), (nb_of 117 (omega arith) (omega arith), digits_nb (c / 256) (omega arith))) (digits_nb (c % 256) (omega arith))))
+    (visible_nb 92 (omega arith) (omega arith), (visible_nb 117 (omega arith) (omega arith), digits_nb (c / 256) (omega arith))) (digits_nb (c % 256) (omega arith))))
     (λ (f : is_by_four c ≡ false). rw (e, f) (itself_nb c s n e f, tt)) (cases_Bool (is_by_four c)))
     (cases_Bool (is_by_two c))
 
@@ -66,7 +63,7 @@ spelled_nb : (c : ℕ) → scalar c ≡ true → AllNb (spelled c)
 unfolding spelled spelled_by
 spelled_nb c s = go (short_name c) refl where
   go : (o : Option ℕ) → short_name c ≡ o → AllNb (spelled_by o c)
-  go (Some l) e = let b = letter_bounds c l e in (nb_of 92 (omega arith) (omega arith), (nb_of l b.0 b.1, tt))
+  go (Some l) e = let b = letter_bounds c l e in (visible_nb 92 (omega arith) (omega arith), (visible_nb l b.0 b.1, tt))
   go None e = long_nb c s e
 
 all_spelled : (cs : List ℕ) → scalars cs ≡ true → AllNb (flat_map spelled cs)
@@ -78,7 +75,7 @@ all_spelled (c ∷ cs) e =
 -- a text in quotes stands within one line
 in_quotes : (q : ℕ) (cs : List ℕ) → 32 ≤ q → q < 127 → AllNb cs → IsLineText (q ∷ (encode_utf8_all cs ++ q ∷ []))
 in_quotes q cs l h a =
-    let nb = nb_of q l h in
+    let nb = visible_nb q l h in
     line_ascii q (omega arith) nb (line_append (record { chars = cs; bytes = refl; each = a }) (line_ascii q (omega arith) nb line_nothing))
 
 pub single_line_text : (cs : List ℕ) → all_nb cs ≡ true → IsLineText (single_bytes cs)

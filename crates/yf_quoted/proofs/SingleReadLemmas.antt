@@ -2,9 +2,9 @@
 use Rattle.std.proofs.Common.{◌≡◌, ◌≢◌, ℕ, ◌+◌, ◌-◌, ◌<◌, ◌≤◌, ℤ, Bool, true, false, List, [], ◌∷◌, ◌++◌, Option, Some, None, MatchOption, MatchBool, IsSomeAnd, if◌then◌else◌, refl, sym, ap, ◌∙◌, subst, inl, inr, arith, append_assoc, append-nil, encode_utf8_all, encode_utf8, length, take, drop}
 use Rattle.std.proofs.Math.Seq.{take-append_seam}
 use Rattle.std.proofs.lemmas.Bool.{true≢false}
-use Rattle.std.proofs.lemmas.Bool.Decides.{nat_tests}
 use Rattle.std.proofs.lemmas.Str.{encodes-append}
 use Rattle.std.specs.Str.{IsUtf8}
+use Rattle.std.proofs.lemmas.Option.{same_Some}
 use Rattle.yf_chars.specs.declared.context.Ctx.{Ctx}
 use Rattle.yf_chars.specs.Text.{code, next, Reads, no_char}
 use Rattle.yf_chars.specs.Class.{is_nb_json, is_between}
@@ -13,6 +13,7 @@ use Rattle.yf_chars.specs.Chain.Chain.{done, step}
 use Rattle.yf_chars.proofs.ChainLemmas.{chain_more}
 use Rattle.yf_lines.specs.Basic.{Clear, Forbidden}
 use Rattle.yf_chars.proofs.TextLemmas.{next_later, next_ascii, reads_real}
+use Rattle.yf_chars.proofs.CharBounds.{json_below}
 use Rattle.yf_lines.proofs.BasicLemmas.{clear_join, clear_back, clear_nothing}
 use Rattle.yf_lines.proofs.ClearLemmas.{clear_char, Spelled, spelled_nothing, spelled_join, spelled_char, spelled_slice}
 use Rattle.yf_quoted.specs.declared.single.Mark.{Mark}
@@ -31,10 +32,6 @@ use Rattle.yf_quoted.proofs.SingleLemmas.SingleWritten.{as_pair, as_itself}
 json_end : is_nb_json no_char ≡ false
 unfolding is_nb_json is_between
 json_end = refl
-
-json_below : (c : ℕ) → is_nb_json c ≡ true → c < no_char
-unfolding is_nb_json is_between
-json_below c e = grind (arith, nat_tests)
 
 -- characters
 pub no_single_end : {t : List ℕ} {i : ℕ} → code t i ≡ no_char → NoSingleChar t i
@@ -207,11 +204,8 @@ cut_read {t} {o} {i} {j} {bytes} {longer} {mark} r more s n e h = go r s.known (
     is = h.1 ∙ ap (λ k. take k longer) l ∙ ap (take (length (encode_utf8_all c.text))) f ∙ take-append_seam (encode_utf8_all c.text) q;
     longest = λ k y d. of_known (which (best_last b n.none d));
   } where
-    some_same : {c d : Closed ℕ} → Some c ≡ Some d → d ≡ c
-    some_same e = cc
-
     of_known : {k : ℕ} {y : List ℕ} → (d : Closed ℕ) × (Some c ≡ Some d) × NoLonger d.close d.text k y → (k ≤ c.close) × (k ≡ c.close → y ≡ c.text)
-    of_known {k} {y} w = let same = subst (λ (d : Closed ℕ). NoLonger d.close d.text k y) (some_same w.1) w.2 in (same.within, same.same)
+    of_known {k} {y} w = let same = subst (λ (d : Closed ℕ). NoLonger d.close d.text k y) (sym (same_Some _ _ w.1)) w.2 in (same.within, same.same)
 
 -- whole scalars
 pub single_chosen : {t : List ℕ} {n : ℤ} {c : Ctx} {o : Option ℕ} {i j : ℕ} {x : List ℕ} → IsUtf8 t → WidthOf n c o → code t i ≡ 39

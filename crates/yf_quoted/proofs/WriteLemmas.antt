@@ -10,6 +10,7 @@ use lib.Utf8.{encode, scalars, scalar}
 use Rattle.std.specs.Char.{digit_value, len_utf8}
 use Rattle.std.specs.Str.{IsUtf8}
 use Rattle.std.specs.String.Boundary.{IsSplitPoint}
+use Rattle.std.proofs.Math.Bool.{and-false}
 use Rattle.yf_chars.specs.declared.context.Ctx.{Ctx}
 use Rattle.yf_chars.specs.Text.{code, next, Reads}
 use Rattle.yf_chars.specs.Class.{is_between, is_printable, is_break_char, is_nb_char, is_nb_json}
@@ -99,10 +100,7 @@ nb_json c e = grind (arith, nat_tests)
 pub nb_at : (cs : List ℕ) (n c : ℕ) → n < length cs → c ≡ get_or cs n c → is_nb_char c ≡ false → all_nb cs ≡ false
 nb_at [] n c l e f = absurd (omega arith)
 nb_at (d ∷ cs) zero c l e f = rw (sym (ap is_nb_char e) ∙ f) refl
-nb_at (d ∷ cs) (suc n) c l e f = ap (λ w. is_nb_char d && w) (nb_at cs n c (omega arith) e f) ∙ false_right (is_nb_char d) where
-  false_right : (b : Bool) → (b && false) ≡ false
-  false_right true = refl
-  false_right false = refl
+nb_at (d ∷ cs) (suc n) c l e f = ap (λ w. is_nb_char d && w) (nb_at cs n c (omega arith) e f) ∙ and-false (is_nb_char d)
 
 pub nb_more : (cs : List ℕ) (c : ℕ) → all_nb cs ≡ true → is_nb_char c ≡ true → all_nb (cs ++ c ∷ []) ≡ true
 nb_more [] c a e = rw e refl
