@@ -3,3 +3,4 @@ pub mod Forward
 pub mod TiedFrames
 pub mod LookLemmas
 pub mod EntryLineLemmas
+pub mod FitLemmas
