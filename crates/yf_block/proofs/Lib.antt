@@ -4,3 +4,4 @@ pub mod TiedFrames
 pub mod LookLemmas
 pub mod EntryLineLemmas
 pub mod FitLemmas
+pub mod TiedFits
