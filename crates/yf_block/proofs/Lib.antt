@@ -3,3 +3,5 @@ pub mod Forward
 pub mod TiedFrames
 pub mod LookLemmas
 pub mod EntryLineLemmas
+pub mod FitLemmas
+pub mod TiedFits

@@ -1,14 +1,13 @@
 -- Which `:` the frames await is what the collections ask for: so it is known whether all may end at a line.
-use Rattle.std.proofs.Common.{◌≡◌, ℕ, ◌+◌, ◌≤◌, Bool, true, false, List, [], ◌∷◌, refl, sym, ap, ◌∙◌, subst, arith, true≢false}
-use Rattle.std.proofs.lemmas.Bool.{cases_Bool}
+use Rattle.std.proofs.Common.{◌≡◌, ℕ, ◌≤◌, Bool, true, false, List, refl, sym, ◌∙◌, subst, arith, true≢false}
 use Rattle.yf_grammar.specs.Grammar.{ColonLine}
 use Rattle.yf_grammar.specs.Meaning.{Meaning}
 use Rattle.yf_grammar.specs.Halts.{Allowed, none_open, one_open}
 use Rattle.yf_grammar.specs.BlockStack.{Layer, asks, column_if, asked}
-use Rattle.yf_grammar.specs.BlockStates.{AllWithin, none_within, one_within, Deepening, none_deepens, one_deepens}
+use Rattle.yf_grammar.specs.BlockStates.{AllWithin, one_within, Deepening, none_deepens, one_deepens}
 use Rattle.yf_block.specs.declared.frame.Frame.{Frame}
 use Rattle.yf_block.specs.Awaiting.{AwaitsAt, awaits_here, awaits_round}
-use Rattle.yf_block.specs.BlockTied.{FrameTied, FramesTied, no_frames, frame_tied}
+use Rattle.yf_block.specs.BlockTied.{FramesTied, no_frames, frame_tied}
 
 -- a column at which a `:` is awaited is one of the collections' columns
 awaited_within : {w : Meaning} {m k : ℕ} {fs : List Frame} {ls : List Layer} → FramesTied w fs ls → AllWithin m ls → AwaitsAt k fs → k ≤ m

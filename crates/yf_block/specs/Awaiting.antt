@@ -1,5 +1,6 @@
 -- Which `:` the open collections of a block node await.
 use Rattle.std.specs.Prelude.{◌≡◌, ℕ, ◌≤◌, true, List, ◌∷◌}
+use Rattle.yf_grammar.specs.Grammar.{ColonLine}
 use Rattle.yf_block.specs.declared.frame.Frame.{Frame}
 
 -- of the open collections, the innermost first, one awaits the `:` of an entry with a `?` at the column, and none within it is less deep
@@ -11,3 +12,9 @@ pub data AwaitsAt (m : ℕ) : List Frame → Type 0 where
 pub record AwaitsAlike (m : ℕ) (xs ys : List Frame) : Type 0 where
   pub into : AwaitsAt m xs → AwaitsAt m ys
   pub back : AwaitsAt m ys → AwaitsAt m xs
+
+-- on the line at the offset stands the `:` of an entry with a `?` that is open
+pub record AwaitedColon (t : List ℕ) (at : ℕ) (fs : List Frame) : Type 0 where
+  pub column : ℕ
+  pub line : ColonLine t column at
+  pub awaits : AwaitsAt column fs

@@ -1,7 +1,8 @@
 //! The last place at which all open nodes may end: what the reader falls back on where the text goes wrong later.
-ghost use Rattle.std.specs.Prelude.{◌≡◌, IfSome, MatchBool, reverse, take};
+ghost use Rattle.std.specs.Prelude.{◌≡◌, ℕ, IfSome, MatchBool, reverse, take};
 ghost use Rattle.std.specs.Str.{IsCharBoundary};
-ghost use Rattle.yf_block.specs.Awaiting.{AwaitsAt};
+ghost use Rattle.yf_block.specs.Awaiting.{AwaitedColon, AwaitsAt};
+ghost use Rattle.yf_block.specs.Looks.{NotWithinBreak};
 ghost use Rattle.yf_block.specs.Machine.{ProgressAt, MayBoundary};
 
 use crate::frame::{Frames, Progress};
@@ -111,6 +112,7 @@ fn note_awaited<'a>(end: usize, progress: &mut Progress<'a>, part: &Part<'a>)
 // to be empty before it. So many of the open collections await one.
 fn value_follows(text: &str, at: usize, colons: usize, frames: &Frames) -> bool
     requires { IsCharBoundary text.now at }
+    ensures { MatchBool result (AwaitedColon text.now at (reverse frames.now.items)) (NotWithinBreak text.now at → (colons ≡ 0 → (m : ℕ) → AwaitsAt m (reverse frames.now.items) → ⊥) → AwaitedColon text.now at (reverse frames.now.items) → ⊥) }
 {
     if colons == 0 {
         return false;

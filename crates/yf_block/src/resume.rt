@@ -2,6 +2,7 @@
 ghost use Rattle.std.specs.Prelude.{◌≡◌, IfOk};
 ghost use Rattle.std.specs.List.{All};
 ghost use Rattle.std.specs.Str.{IsCharBoundary};
+ghost use Rattle.yf_block.specs.Fits.{FitsLine, PlaceTied};
 ghost use Rattle.yf_block.specs.Machine.{Stepped, ProgressAt, MayPlace, FitsAt};
 
 use crate::entry::{take_entry, take_explicit_value, take_item};
@@ -60,7 +61,8 @@ pub(crate) fn resume<'a>(
 // What the line at an offset is to a collection; the place is that of its first character, if an entry may begin there.
 fn fit_of(text: &str, at: usize, place: Option<usize>, frame: &Frame) -> Fit
     requires { MayPlace text.now at place }
-    ensures { FitsAt text.now at result }
+    ensures places { FitsAt text.now at result }
+    ensures line { PlaceTied text.now at place → FitsLine text.now at frame.now result }
 {
     match place {
         None => Fit::Behind,
