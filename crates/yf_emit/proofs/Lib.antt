@@ -27,6 +27,7 @@ pub mod KeysMade
 pub mod LayoutLawsHold
 pub mod LeafFits
 pub mod LeafLemmas
+pub mod LeafTexts
 pub mod LevelLemmas
 pub mod MarksOrder
 pub mod MeasuredLemmas

@@ -9,10 +9,8 @@ use Rattle.yf_lines.specs.Basic.{is_block}
 use Rattle.yf_plain.specs.Kept.{is_inside}
 use Rattle.yf_plain.specs.Plain.{PlainText}
 use Rattle.yf_plain.proofs.KeptLemmas.{plain_kept}
-use Rattle.yf_quoted.specs.Quoted.{Piece, text_of, bad_escapes, SingleQuoted, DoubleQuoted}
-use Rattle.yf_block_scalar.specs.Body.{Body, BodyValue}
+use Rattle.yf_quoted.specs.Quoted.{text_of, bad_escapes}
 use Rattle.yf_block_scalar.specs.Content.{content_of}
-use Rattle.yf_block_scalar.specs.declared.header.Header.{Header}
 use Rattle.yf_props.specs.Names.{Alias, PropertiesValue}
 use Rattle.yf_props.specs.Props.{no_props}
 use Rattle.yf_props.proofs.NamesMade.{alias_made, props_made}
@@ -28,15 +26,9 @@ use Rattle.yf_emit.specs.Fits.{FitScalar, no_fit_props}
 use Rattle.yf_emit.specs.ReadTrees.{ReadText, read_scalar, read_alias}
 use Rattle.yf_emit.specs.Wanted.{has_block_content}
 use Rattle.yf_emit.proofs.BlockFits.{read_block_fits}
+use Rattle.yf_emit.proofs.LeafTexts.{plain_utf8, single_utf8, double_utf8, block_utf8}
 use Rattle.yf_emit.proofs.PropsFits.{props_some}
 use Rattle.yf_emit.proofs.ReadParts.{NodeRead, PairRead, EntryRead, an_item, a_pair, EntriesRead, spanned, some_span, node_behind, node_noting, pair_behind, entry_noting, entries_behind, node_entering, nothing_read, pair_of, last_of, more_of, none_of, collection_read, node_with}
-
--- what is asked of the texts of leaves: they are UTF-8
-pub record LeafTexts (t : List ℕ) : Type 0 where
-  pub plain : {n : ℤ} {c : Ctx} {i j : ℕ} {x : List ℕ} → PlainText t n c i j x → IsUtf8 (encode_utf8_all x)
-  pub single : {n : ℤ} {c : Ctx} {i j : ℕ} {x : List ℕ} → SingleQuoted t n c i j x → IsUtf8 (encode_utf8_all x)
-  pub double : {n : ℤ} {c : Ctx} {i j : ℕ} {x : List Piece} → DoubleQuoted t n c i j x → IsUtf8 (encode_utf8_all (text_of x))
-  pub block : {n : ℤ} {h : Header} {i j : ℕ} {v : BodyValue} → Body t n h i j v → IsUtf8 (content_of h v.lines v.tail v.open_end)
 
 -- in a flow collection a node is known to be so; elsewhere nothing is asked
 abbrev pub ReadClaim : Production → Meaning → Type 0
@@ -83,7 +75,7 @@ scalar_read : {b : Bool} (style : ScalarStyle) (text bad : List ℕ) (i j : ℕ)
 unfolding scalar plain_event
 scalar_read style text bad i j u r = record { node = scalar_tree (spanned i j) no_props style text []; events = refl; read = read_scalar (some_span i j) no_fit_props u r }
 
-module _ {t : List ℕ} (u : IsUtf8 t) (l : LeafTexts t) where
+module _ {t : List ℕ} (u : IsUtf8 t) where
   alias_read : {b : Bool} {i j : ℕ} {name : List ℕ} → Alias t i j name → NodeRead b (alias_to name i j)
   unfolding alias_to plain_event
   alias_read {i = i} {j = j} {name = name} a = record { node = alias_tree (spanned i j) name; events = refl; read = read_alias (some_span i j) (alias_made u a) }
@@ -91,14 +83,14 @@ module _ {t : List ℕ} (u : IsUtf8 t) (l : LeafTexts t) where
   plain_read : {n : ℤ} {c : Ctx} {i j : ℕ} {x : List ℕ} (b : Bool) → (b ≡ true → is_inside c ≡ true) → PlainText t n c i j x
       → NodeRead b (scalar Plain (encode_utf8_all x) [] i j)
   plain_read {i = i} {j = j} {x = x} b m p =
-      scalar_read Plain (encode_utf8_all x) [] i j (l.plain p)
+      scalar_read Plain (encode_utf8_all x) [] i j (plain_utf8 p)
       (record { stays = λ d k e s. plain_kept d u p (record { flow = k; inside = λ h. m (e h) }) s })
 
   block_read : {n : ℤ} {i j : ℕ} {x : Meaning} → BlockScalar t n i j x → NodeRead false x
   block_read {i = i} (block_scalar {e = e} {h = h} {b = v} a d g) = record {
     node = scalar_tree (spanned i e) no_props (style_of h.header.folded) text (kept_lines h.header.folded v.lines);
     events = refl;
-    read = read_scalar (some_span i e) no_fit_props (l.block d) (by h.header.folded (λ k. read_block_fits u d k));
+    read = read_scalar (some_span i e) no_fit_props (block_utf8 u d) (by h.header.folded (λ k. read_block_fits u d k));
   } where
     text : List ℕ
     text = content_of h.header v.lines v.tail v.open_end
@@ -120,8 +112,8 @@ module _ {t : List ℕ} (u : IsUtf8 t) (l : LeafTexts t) where
   reads (a_json d) = λ k b m. reads d k b m
   reads (a_json_with {i = i} {g = g} {p = v} {cs = cs} p s d) = λ k b m.
       node_behind (v.comments ++ cs) (node_with v.tag_offset i g (props_made u p) (props_some p) (reads d k b m))
-  reads (a_single {i = i} {j = j} {x = x} q) = λ k b m. scalar_read Single (encode_utf8_all x) [] i j (l.single q) tt
-  reads (a_double {i = i} {j = j} {x = x} q) = λ k b m. scalar_read Double (encode_utf8_all (text_of x)) (bad_escapes x) i j (l.double q) tt
+  reads (a_single {i = i} {j = j} {x = x} q) = λ k b m. scalar_read Single (encode_utf8_all x) [] i j (single_utf8 u q) tt
+  reads (a_double {i = i} {j = j} {x = x} q) = λ k b m. scalar_read Double (encode_utf8_all (text_of x)) (bad_escapes x) i j (double_utf8 u q) tt
   reads (an_empty_collection {i = i} {j = j} s {cs = cs} f e o g) = λ k b m. collection_read true i (j + 1) (none_of (b || true) s cs j)
   reads (a_collection {i = i} {j = j} s {c = c} {cs = cs} f e o d g) = λ k b m.
       collection_read true i (j + 1) (entries_behind cs (reads d (in_flow_inside c k) (b || true)))

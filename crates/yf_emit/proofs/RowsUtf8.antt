@@ -30,13 +30,13 @@ chars_utf8 : (cs : List ℕ) → AllNb cs → IsUtf8 (encodes cs)
 chars_utf8 [] a = IsUtf8-nil
 chars_utf8 (c ∷ cs) a = IsUtf8-append (encode c) (encodes cs) (IsUtf8-encode c (nb_scalar c a.0)) (chars_utf8 cs a.1)
 
-line_utf8 : {w : List ℕ} → IsLineText w → IsUtf8 w
+pub line_utf8 : {w : List ℕ} → IsLineText w → IsUtf8 w
 line_utf8 a = subst (λ w. IsUtf8 w) a.bytes (chars_utf8 a.chars a.each)
 
 feed_scalar : IsScalar 10
 feed_scalar = refl
 
-feed_utf8 : {z : List ℕ} → IsUtf8 z → IsUtf8 (10 ∷ z)
+pub feed_utf8 : {z : List ℕ} → IsUtf8 z → IsUtf8 (10 ∷ z)
 feed_utf8 {z} u =
     let same : encode 10 ≡ 10 ∷ [] = encode_ascii 10 (omega arith) in
     subst (λ w. IsUtf8 (w ++ z)) same (IsUtf8-append (encode 10) z (IsUtf8-encode 10 feed_scalar) u)
