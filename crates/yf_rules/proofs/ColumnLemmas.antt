@@ -1,11 +1,14 @@
 -- An offset at which no character begins has column 1, if it has any.
-use Rattle.std.proofs.Common.{◌≡◌, ℕ, ◌+◌, ◌<◌, ◌⊎◌, true, List, [], length, refl, inl, inr, ⊎_elim, ap, arith}
+use Rattle.std.proofs.Common.{◌≡◌, ℕ, ◌+◌, ◌-◌, ◌<◌, ◌≤◌, ◌⊎◌, ◌∙◌, true, List, [], length, get_or, set, refl, sym, subst, inl, inr, ⊎_elim, ap, arith}
 use Rattle.std.specs.Str.{IsCharBoundary, IsUtf8}
+use Rattle.std.proofs.lemmas.Bool.{cases_lt}
 use Rattle.std.proofs.lemmas.Bool.Decides.{nat_tests}
+use Rattle.std.proofs.lemmas.List.{get_or-set_other, get_or-set_same, length-set}
 use Rattle.yf_chars.specs.Chain.{Many, one}
 use Rattle.yf_chars.specs.Chain.Chain.{done, step}
 use Rattle.yf_chars.specs.Text.{code, no_char}
 use Rattle.yf_chars.proofs.TextLemmas.{reads_real}
+use Rattle.yf_rules.specs.Columns.{ColumnsTo, IsColumn}
 use Rattle.yf_lines.specs.Lines.{ColumnOf, PlaceOf, among_marks, behind_marks, behind_lines, in_line, is_char}
 
 is_real : (c : ℕ) → is_char c ≡ true → c < no_char
@@ -26,3 +29,38 @@ in_column u (behind_marks {x = x} m run) = ⊎_elim (λ (e : x ≡ []). inl (ap 
 pub column_one : {t : List ℕ} {o line column : ℕ} → IsUtf8 t → PlaceOf t o line column → (column ≡ 1) ⊎ IsCharBoundary t o
 column_one u (in_line k ls at h c) = in_column u c
 column_one u (behind_lines ls e n) = inl refl
+
+-- a column counts from 1
+from_one : {t : List ℕ} {i o c : ℕ} → ColumnOf t i o c → 1 ≤ c
+from_one (among_marks m l) = omega arith
+from_one (behind_marks {x = x} m run) = omega arith
+
+place_from_one : {t : List ℕ} {o line column : ℕ} → PlaceOf t o line column → 1 ≤ column
+place_from_one (in_line k ls at h c) = from_one c
+place_from_one (behind_lines ls e n) = omega arith
+
+pub column_there : (t : List ℕ) (o line column less : ℕ) → PlaceOf t o line column → less ≡ column - 1 → IsColumn t o less
+column_there t o line column less p e =
+    let n = place_from_one p in
+    record { line = line; place = subst (λ c. PlaceOf t o line c) (let q : column ≡ less + 1 = omega (arith, n, e) in q) p }
+
+-- columns of a list of offsets
+
+pub no_columns : (t offsets : List ℕ) → ColumnsTo t offsets offsets 0
+no_columns t offsets = record { count = refl; columns = λ j l b. absurd (omega (arith, l)); others = λ j l. refl }
+
+pub one_column : (t offsets now new : List ℕ) (k column : ℕ) → k < length now → ColumnsTo t offsets now k → new ≡ set now k column
+    → (IsCharBoundary t (get_or now k 0) → IsColumn t (get_or now k 0) column) → ColumnsTo t offsets new (k + 1)
+one_column t offsets now new k column l c e f = subst (λ w. ColumnsTo t offsets w (k + 1)) (sym e) (record {
+  count = length-set now k column ∙ c.count;
+  columns = λ j h b. ⊎_elim
+      (λ (m : j < k). subst (λ w. IsColumn t (get_or offsets j 0) w) (sym (get_or-set_other now k j column 0 (omega (arith, m)))) (c.columns j m b))
+      (λ (m : k ≤ j).
+      let q : j ≡ k = omega (arith, h, m) in
+      subst (λ i. IsColumn t (get_or offsets i 0) (get_or (set now k column) i 0)) (sym q)
+      (subst (λ w. IsColumn t (get_or offsets k 0) w) (sym (get_or-set_same now k column 0 l))
+      (subst (λ w. IsColumn t w column) (c.others k (omega arith))
+      (f (subst (λ w. IsCharBoundary t w) (sym (c.others k (omega arith))) (subst (λ i. IsCharBoundary t (get_or offsets i 0)) q b))))))
+      (cases_lt j k);
+  others = λ j h. get_or-set_other now k j column 0 (omega (arith, h)) ∙ c.others j (omega (arith, h));
+})

@@ -14,6 +14,8 @@ pub mod KeyPass
 pub mod Laws
 pub mod OuterFlow
 pub mod QuestionMarks
+pub mod Columns
+pub mod Indents
 pub mod MarkedKeys
 pub mod Layouts
 pub mod Sets

@@ -1,9 +1,9 @@
 //! Rule 2, indentation.
-ghost use Rattle.std.specs.Prelude.{◌<◌, length};
+ghost use Rattle.std.specs.Prelude.{◌≡◌, ◌≢◌, ◌+◌, ◌<◌, length, MatchBool};
 
 use crate::bodies::{Body, body_at};
 use crate::rule::{Rule, placed};
-use crate::stands::{Pass, Stand};
+use crate::stands::{Around, Pass, Stand};
 use std::alloc::{AllocError, Global};
 use yf_emit::style::Style;
 use yf_events::event::Event;
@@ -54,17 +54,31 @@ impl Rule for Indentation {
     }
 }
 
-/// The column, from 0, at which the entries of a block collection are to stand: at column 0 those of a root, else as far
-/// to the right of the entries around it as the style says, or at their column for a sequence after a key without `?`.
-fn wanted_column(stand: Stand, is_sequence: bool, style: &Style) -> usize {
+/// Whether the one column is not so many columns to the right of the other.
+fn is_off(column: usize, outer: usize, indent: usize) -> bool
+    ensures { MatchBool result (column ≢ outer + indent) (column ≡ outer + indent) }
+{
+    if column < outer {
+        return true;
+    }
+    if column - outer == indent {
+        return false;
+    }
+    true
+}
+
+/// Whether entries of a block collection at that column, from 0, are out of place: those of a root are to stand at column 0, others as far
+/// to the right of the entries around them as the style says, or at their column for a sequence after a key without `?`.
+fn is_misplaced(stand: Stand, column: usize, is_sequence: bool, style: &Style) -> bool {
     match stand.outer {
-        Some(outer) => {
+        Around::Nothing => column != 0,
+        Around::Entries(outer) => {
             if is_sequence && stand.is_implicit_value && !style.seq_indent {
-                return outer;
+                return column != outer;
             }
-            outer.saturating_add(style.indent)
+            is_off(column, outer, style.indent)
         }
-        None => 0,
+        Around::Unknown => false,
     }
 }
 
@@ -72,24 +86,32 @@ fn wanted_column(stand: Stand, is_sequence: bool, style: &Style) -> usize {
 fn misplaced_entry(stand: Stand, is_sequence: bool, style: &Style) -> Option<usize> {
     match stand.column {
         Some(column) => {
-            if column == wanted_column(stand, is_sequence, style) {
-                return None;
+            if is_misplaced(stand, column, is_sequence, style) {
+                return Some(stand.first);
             }
-            Some(stand.first)
+            None
         }
         None => None,
     }
 }
 
+/// Whether the content of a block scalar with that indentation is out of place.
+fn is_misindented(stand: Stand, indent: usize, style: &Style) -> bool {
+    match stand.outer {
+        Around::Nothing => indent != style.indent,
+        Around::Entries(outer) => is_off(indent, outer, style.indent),
+        Around::Unknown => false,
+    }
+}
+
 /// The header of the block scalar, if its content is not indented as it is to be.
 fn misplaced_content(stand: Stand, body: Body, style: &Style) -> Option<usize> {
-    let wanted = stand.outer.unwrap_or(0).saturating_add(style.indent);
     match body.indent {
         Some(indent) => {
-            if indent == wanted {
-                return None;
+            if is_misindented(stand, indent, style) {
+                return Some(body.start);
             }
-            Some(body.start)
+            None
         }
         None => None,
     }

@@ -3,6 +3,7 @@ ghost use Rattle.std.specs.Prelude.{◌≡◌, ◌<◌, ◌≤◌, ◌+◌, ℕ,
 ghost use Rattle.std.specs.Str.{IsCharBoundary};
 ghost use Rattle.yf_chars.specs.Chain.{Many};
 ghost use Rattle.yf_lines.specs.Lines.{Marks, PlaceOf, is_char};
+ghost use Rattle.yf_rules.specs.Columns.{ColumnsTo, IsColumn};
 ghost use Rattle.yf_rules.specs.Places.{IsSpot, PlacesOf};
 
 use crate::spot::{Spot, Step};
@@ -172,18 +173,30 @@ fn place_at_mark(src: &Src, spot: Spot, number: usize, offset: usize) -> Step
     }
 }
 
+/// The column, from 0, of a byte offset, from a spot before it on, and the spot that the next pass begins with. An offset within a character
+/// has 0.
+fn column_after(src: &Src, from: Spot, offset: usize) -> (usize, Spot)
+    requires { IsSpot src.now.text src.now.lines from }
+    ensures column { IsCharBoundary src.now.text offset → IsColumn src.now.text offset result.0 }
+    ensures spot { IsSpot src.now.text src.now.lines result.1 }
+{
+    if src.text().is_char_boundary(offset) {
+        let step = place_from(src, from, offset);
+        return (step.place.column.saturating_sub(1), step.spot);
+    }
+    (0, from)
+}
+
 /// The column, from 0, of each byte offset, in its place. It takes one pass where the offsets ascend. An offset within a
 /// character has 0.
-pub fn columns_of(src: &Src, mut offsets: Vec<usize>) -> Vec<usize> {
+pub fn columns_of(src: &Src, mut offsets: Vec<usize>) -> Vec<usize>
+    ensures { ColumnsTo src.now.text offsets.items result.items (length offsets.items) }
+{
     let mut spot = line_spot(src, 0);
     for k in 0..offsets.len() {
-        let offset = offsets[k];
-        offsets[k] = 0;
-        if src.text().is_char_boundary(offset) {
-            let step = place_from(src, spot, offset);
-            spot = step.spot;
-            offsets[k] = step.place.column.saturating_sub(1);
-        }
+        let (column, next) = column_after(src, spot, offsets[k]);
+        offsets[k] = column;
+        spot = next;
     }
     offsets
 }

@@ -9,13 +9,22 @@ use yf_events::event::Event;
 use yf_events::reading::Reading;
 use yf_lines::source_text::Src;
 
+/// What holds a node.
+#[derive(Clone, Copy, Debug)]
+pub enum Around {
+    /// Nothing: it is the root of a document.
+    Nothing,
+    /// A block collection whose entries stand at that column.
+    Entries(usize),
+    /// A flow collection, or a block collection whose first entry has no place.
+    Unknown,
+}
+
 /// Where the node stands that an event begins.
 #[derive(Clone, Copy, Debug)]
 pub struct Stand {
-    /// The column of the entries of the block collection that holds the node; `None` of a root node and in a flow
-    /// collection.
-    pub outer: Option<usize>,
-    /// Whether it is the value of a key of a block mapping that is written without `?`.
+    pub outer: Around,
+    /// Whether it is the value of a key that is written without `?`.
     pub is_implicit_value: bool,
     /// Of a block collection the column of its first entry.
     pub column: Option<usize>,
@@ -25,7 +34,7 @@ pub struct Stand {
 
 impl Stand {
     const NONE: Stand = Stand {
-        outer: None,
+        outer: Around::Unknown,
         is_implicit_value: false,
         column: None,
         first: 0,
@@ -41,8 +50,23 @@ struct Level {
     key: Option<bool>,
 }
 
+/// The byte offset at which the entry begins that the event begins, where a character begins there or the text ends.
+fn entry_start(src: &Src, reading: &Reading, i: usize) -> Option<usize>
+    requires { i < length reading.now.events }
+{
+    match reading.entry(i) {
+        Some(entry) => {
+            if src.text().is_char_boundary(entry.start) {
+                return Some(entry.start);
+            }
+            None
+        }
+        None => None,
+    }
+}
+
 /// The byte offset of the first entry of the block collection that the event begins.
-fn first_entry(reading: &Reading, i: usize) -> Option<usize>
+fn first_entry(src: &Src, reading: &Reading, i: usize) -> Option<usize>
     requires { i < length reading.now.events }
 {
     let is_block = matches!(
@@ -51,19 +75,16 @@ fn first_entry(reading: &Reading, i: usize) -> Option<usize>
     );
     let next = i.saturating_add(1);
     if is_block && next < reading.len() {
-        return match reading.entry(next) {
-            Some(entry) => Some(entry.start),
-            None => None,
-        };
+        return entry_start(src, reading, next);
     }
     None
 }
 
 /// The byte offsets of the first entries of all block collections, in order.
-fn first_entries(alloc: Global, reading: &Reading) -> Result<Vec<usize>, AllocError> {
+fn first_entries(alloc: Global, src: &Src, reading: &Reading) -> Result<Vec<usize>, AllocError> {
     let mut offsets = Vec::new(alloc);
     for i in 0..reading.len() {
-        if let Some(offset) = first_entry(reading, i) {
+        if let Some(offset) = first_entry(src, reading, i) {
             offsets.push(offset)?;
         }
     }
@@ -85,10 +106,18 @@ fn next_in(level: &mut Level, src: &Src, reading: &Reading, i: usize) -> bool
         None => {
             level.key = Some(match reading.entry(i) {
                 Some(entry) => !has_question_mark(src.text(), entry),
-                None => true,
+                None => false,
             });
             false
         }
+    }
+}
+
+/// What holds the next node, in the innermost open collection.
+fn held_by(level: &Level) -> Around {
+    match level.column {
+        Some(column) => Around::Entries(column),
+        None => Around::Unknown,
     }
 }
 
@@ -97,12 +126,17 @@ fn next_stand(stack: &mut Vec<Level>, src: &Src, reading: &Reading, i: usize) ->
     requires { i < length reading.now.events }
 {
     match stack.last_mut() {
-        None => Stand::NONE,
+        None => Stand {
+            outer: Around::Nothing,
+            is_implicit_value: false,
+            column: None,
+            first: 0,
+        },
         Some(level) => {
             let is_value = next_in(level, src, reading, i);
             Stand {
-                outer: level.column,
-                is_implicit_value: is_value && level.column.is_some(),
+                outer: held_by(level),
+                is_implicit_value: is_value,
                 column: None,
                 first: 0,
             }
@@ -123,7 +157,7 @@ pub struct Pass {
 impl Pass {
     /// A pass before the first event of a reading of the text.
     pub fn new(alloc: Global, src: &Src, reading: &Reading) -> Result<Pass, AllocError> {
-        let offsets = first_entries(alloc, reading)?;
+        let offsets = first_entries(alloc, src, reading)?;
         Ok(Pass {
             columns: columns_of(src, offsets),
             begun: 0,
@@ -161,7 +195,7 @@ impl Pass {
         requires { i < length reading.now.events }
     {
         let stand = next_stand(&mut self.stack, src, reading, i);
-        let first = first_entry(reading, i);
+        let first = first_entry(src, reading, i);
         let column = match first {
             Some(_) => Some(self.next_column()),
             None => None,

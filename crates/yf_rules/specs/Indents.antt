@@ -1,0 +1,76 @@
+-- Where the entries of block collections and the content of block scalars are to stand, in the trees of a reading. The code of the rule
+-- indentation is held to its set by tests alone. An index counts events from 0.
+use Rattle.std.specs.Prelude.{◌≡◌, ◌≢◌, ℕ, ◌+◌, true, false, List, Option, Some, None}
+use Rattle.std.specs.List.{Contains}
+use Rattle.std.specs.Str.{IsCharBoundary}
+use Rattle.yf_emit.specs.ContentStart.{content_start}
+use Rattle.yf_emit.specs.declared.style.Style.{Style}
+use Rattle.yf_events.specs.Tree.{Node, scalar, alias, sequence, mapping, Items, no_items, item, Pairs, no_pairs, pair, DocumentTree, is_block_collection, is_sequence, standing}
+use Rattle.yf_events.specs.declared.event.Entry.{Entry}
+use Rattle.yf_events.specs.declared.event.ScalarStyle.{ScalarStyle}
+use Rattle.yf_events.specs.declared.event.Span.{Span}
+use Rattle.yf_lines.specs.Lines.{Begun, PlaceOf, Table}
+use Rattle.yf_props.specs.Props.{PropsValue}
+use Rattle.yf_rules.specs.Nodes.{Holds, Numbered, StandsIn, pairs_of, roots_from}
+use Rattle.yf_rules.specs.QuestionMarks.{HasQuestionMark}
+use Rattle.yf_rules.specs.Scalars.{BlockContent, is_block_style}
+
+-- the first node in a collection
+abbrev pub first_item : Items → Option Node
+first_item no_items = None
+first_item (item x xs) = Some x
+
+abbrev pub first_key : Pairs → Option Node
+first_key no_pairs = None
+first_key (pair k v ps) = Some k
+
+abbrev pub first_in : Node → Option Node
+first_in (scalar at props style text lines) = None
+first_in (alias at name) = None
+first_in (sequence at flow props items) = first_item items
+first_in (mapping at flow props pairs) = first_key pairs
+
+-- the column, from 0, of the entries of a block collection, and where its first entry begins: at a character, or at the text's end
+pub data EntriesAt (src : Table) (x : Node) : ℕ → ℕ → Type 0 where
+  at_first : {first : Node} {entry : Entry} {line column : ℕ} → is_block_collection x ≡ true → first_in x ≡ Some first
+      → (standing first).entry ≡ Some entry → IsCharBoundary src.text entry.start → PlaceOf src.text entry.start line (column + 1)
+      → EntriesAt src x column entry.start
+
+-- a key with an entry that is written without `?`
+pub data WithoutMark (src : Table) (k : Node) : Type 0 where
+  no_mark : {entry : Entry} → (standing k).entry ≡ Some entry → (HasQuestionMark src.text entry.start → ⊥) → WithoutMark src k
+
+-- a block sequence that is the value of a key without `?` in a block mapping
+pub record ImplicitValue (src : Table) (x y : Numbered) : Type 0 where
+  pub key : Numbered
+  pub in_mapping : Contains (pairs_of x.0 x.1) (key, y)
+  pub of_block : is_block_collection x.1 ≡ true
+  pub is_block : is_block_collection y.1 ≡ true
+  pub is_sequence : is_sequence y.1 ≡ true
+  pub without_mark : WithoutMark src key.1
+
+-- the column, from 0, at which the entries of a block collection are to stand: a root's at 0, others `indent` right of the
+-- entries around them, but where `seq_indent` is off, a sequence after a key without `?` at the key's column
+pub data WantedColumn (src : Table) (house : Style) (trees : List DocumentTree) (y : Numbered) : ℕ → Type 0 where
+  of_root : Contains (roots_from 1 trees) y → WantedColumn src house trees y 0
+  further : {x : Numbered} {column start : ℕ} → StandsIn trees x → Holds x y → EntriesAt src x.1 column start
+      → (house.seq_indent ≡ false → ImplicitValue src x y → ⊥) → WantedColumn src house trees y (column + house.indent)
+  at_key : {x : Numbered} {column start : ℕ} → StandsIn trees x → house.seq_indent ≡ false → ImplicitValue src x y → EntriesAt src x.1 column start
+      → WantedColumn src house trees y column
+
+-- by how many spaces the content of a block scalar is to be indented
+pub data WantedIndent (src : Table) (house : Style) (trees : List DocumentTree) (y : Numbered) : ℕ → Type 0 where
+  at_root : Contains (roots_from 1 trees) y → WantedIndent src house trees y house.indent
+  in_entry : {x : Numbered} {column start : ℕ} → StandsIn trees x → Holds x y → EntriesAt src x.1 column start
+      → WantedIndent src house trees y (column + house.indent)
+
+-- indentation: the first entry of a block collection at another column, and the header of a block scalar with other
+-- indentation
+pub data Misindented (src : Table) (house : Style) (trees : List DocumentTree) (i : ℕ) : ℕ → Type 0 where
+  entries : {y : Numbered} {column wanted start : ℕ} → StandsIn trees y → y.0 ≡ i
+      → EntriesAt src y.1 column start → WantedColumn src house trees y wanted → column ≢ wanted → Misindented src house trees i start
+  content : {y : Numbered} {props : PropsValue} {style : ScalarStyle} {text : List ℕ} {lines : List (List ℕ)} {s : Span}
+      {behind first indent wanted : ℕ} → StandsIn trees y → y.0 ≡ i → y.1 ≡ scalar (standing y.1) props style text lines
+      → (standing y.1).span ≡ Some s → is_block_style style ≡ true → Begun src.lines (content_start src.text s props) behind
+      → BlockContent src.lines text behind first indent → WantedIndent src house trees y wanted → indent ≢ wanted
+      → Misindented src house trees i (content_start src.text s props)
