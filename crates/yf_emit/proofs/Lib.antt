@@ -83,3 +83,4 @@ pub mod TrailChoice
 pub mod TrailRuns
 pub mod TrailLeaves
 pub mod TrailOthers
+pub mod TrailsAgree

@@ -75,7 +75,7 @@ pub record Agree (n : ℕ) (one other : List Bool) : Type 0 where
 agree_later : (n m : ℕ) (one other : List Bool) → n ≤ m → Agree n one other → Agree m one other
 agree_later n m one other l a = record { agree = λ k h. a.agree k (omega (arith, l, h)) }
 
-trails_alike : (r : Lists) (one other : List Bool) (l : Leaf) (u : ℕ) → Agree l.first one other → trails_leaf r one l u ≡ trails_leaf r other l u
+pub trails_alike : (r : Lists) (one other : List Bool) (l : Leaf) (u : ℕ) → Agree l.first one other → trails_leaf r one l u ≡ trails_leaf r other l u
 trails_alike r one other l u a =
     ap (λ b. nat_lt l.first u && (not b && is_at r l.end l.first)) (a.agree l.first (omega arith))
 
@@ -143,11 +143,11 @@ abbrev pub found_of : Lists → List Bool → Mark → List Mark → Option ℕ
 found_of r keys l ls = if trails_leaf r keys (leaf_in r l) (end_of r ls) then Some (count_to l.span.start r.comments) else None
 
 -- from the first leaf on the comments are marked as by the keys
-abbrev AgreeFrom : Lists → List Mark → List Bool → List Bool → Type 0
+abbrev pub AgreeFrom : Lists → List Mark → List Bool → List Bool → Type 0
 AgreeFrom r [] one other = Unit {0}
 AgreeFrom r (l ∷ ls) one other = Agree (count_to l.span.start r.comments) one other
 
-agree_behind : (r : Lists) (l : Mark) (ls : List Mark) (f : Found) (keys : List Bool) → rising (spans (l ∷ ls)) ≡ true → AgreeFrom r (l ∷ ls) f.trailing keys
+pub agree_behind : (r : Lists) (l : Mark) (ls : List Mark) (f : Found) (keys : List Bool) → rising (spans (l ∷ ls)) ≡ true → AgreeFrom r (l ∷ ls) f.trailing keys
     → AgreeFrom r ls (given r (Some (leaf_in r l)) (end_of r ls) f).trailing keys
 agree_behind r l [] f keys u a = tt
 agree_behind r l (m ∷ ls) f keys u a = given_agrees r (leaf_in r l) (end_of r (m ∷ ls)) f keys (counted_to_end r l (m ∷ ls) u) a
