@@ -84,3 +84,4 @@ pub mod TrailRuns
 pub mod TrailLeaves
 pub mod TrailOthers
 pub mod TrailsAgree
+pub mod RowLeaves

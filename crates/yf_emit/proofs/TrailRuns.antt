@@ -1,5 +1,5 @@
 -- What the pass over leaves finds: of each leaf the comment that is counted after it, where that trails and no key has it.
-use Rattle.std.proofs.Common.{◌≡◌, ◌≢◌, ℕ, zero, suc, ◌+◌, ◌≤◌, ◌<◌, Bool, true, false, not, ◌&&◌, List, [], ◌∷◌, ◌++◌, length, map, drop, get_or, set, Option, Some, None, refl, sym, ap, ◌∙◌, subst, arith, true≢false}
+use Rattle.std.proofs.Common.{◌≡◌, ◌≢◌, ℕ, suc, ◌+◌, ◌≤◌, ◌<◌, Bool, true, false, not, ◌&&◌, List, [], ◌∷◌, ◌++◌, length, map, drop, get_or, Option, Some, None, refl, sym, ap, ◌∙◌, arith}
 use Rattle.std.specs.Prelude.{nat_lt, if◌then◌else◌}
 use Rattle.std.specs.List.{list_all}
 use Rattle.std.proofs.lemmas.Bool.{and_parts}
@@ -10,7 +10,7 @@ use Rattle.yf_events.specs.declared.event.Span.{Span}
 use Rattle.yf_events.specs.declared.lists.Lists.{Lists}
 use Rattle.yf_emit.specs.declared.trails.Leaf.{Leaf}
 use Rattle.yf_emit.specs.Drafts.{count_to}
-use Rattle.yf_emit.specs.Trailing.{Found, State, ended, given, given_if, is_at, state, trails_leaf}
+use Rattle.yf_emit.specs.Trailing.{Found, ended, given, given_if, is_at, state, trails_leaf}
 use Rattle.yf_emit.proofs.LeafMarks.{Mark, past_marks}
 use Rattle.yf_emit.proofs.TrailChoice.{rising, start_of_first, until}
 

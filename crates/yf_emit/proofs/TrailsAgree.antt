@@ -1,7 +1,7 @@
 -- The marks that the pass over leaves ends with tell which comments trail in the layout.
-use Rattle.std.proofs.Common.{◌≡◌, ◌≢◌, ℕ, zero, suc, ◌+◌, ◌≤◌, ◌<◌, Bool, true, false, not, ◌&&◌, List, [], ◌∷◌, ◌++◌, length, map, flat_map, get_or, set, Option, Some, None, refl, sym, ap, ◌∙◌, arith, append_assoc}
+use Rattle.std.proofs.Common.{◌≡◌, ◌≢◌, ℕ, zero, suc, ◌<◌, Bool, true, false, ◌&&◌, List, [], ◌∷◌, ◌++◌, length, flat_map, get_or, set, Option, Some, None, refl, sym, ap, ◌∙◌, arith, append_assoc}
 use Rattle.std.specs.Prelude.{◌||◌, ◌==◌, nat_lt, option_to_list, slice_get, zip, if◌then◌else◌}
-use Rattle.std.specs.List.{list_all, list_any}
+use Rattle.std.specs.List.{list_all}
 use Rattle.std.proofs.lemmas.Bool.{and_parts}
 use Rattle.std.proofs.lemmas.Bool.Decides.{nat_tests}
 use Rattle.std.proofs.lemmas.List.{get_or-set_other, get_or-set_same, length-set, map-append}
@@ -9,8 +9,7 @@ use Rattle.yf_comments.specs.Comment.{CommentValue}
 use Rattle.yf_events.specs.declared.event.Span.{Span}
 use Rattle.yf_events.specs.declared.lists.Lists.{Lists}
 use Rattle.yf_emit.specs.declared.trails.Leaf.{Leaf}
-use Rattle.yf_emit.specs.Drafts.{count_to}
-use Rattle.yf_emit.specs.Layout.{Source, first_comment, is_among, own_line_comments, trailing, trailing_leaf}
+use Rattle.yf_emit.specs.Layout.{Source, first_comment, is_among, own_line_comments, trailing_leaf}
 use Rattle.yf_emit.specs.Rows.{Row}
 use Rattle.yf_emit.specs.Trailing.{Found, given, given_if, trails_leaf}
 use Rattle.yf_emit.proofs.FeedLemmas.{ascend, left}

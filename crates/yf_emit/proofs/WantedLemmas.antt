@@ -1,5 +1,5 @@
 -- A scalar in the style of the house keeps it.
-use Rattle.std.proofs.Common.{◌≡◌, ℕ, Bool, true, false, List, chars, refl, ap, ◌∙◌}
+use Rattle.std.proofs.Common.{◌≡◌, ℕ, Bool, true, false, List, chars, refl, ap}
 use Rattle.std.specs.Prelude.{if◌then◌else◌}
 use Rattle.yf_lines.specs.Steady.{is_steady}
 use Rattle.yf_lines.specs.declared.quotes.Quotes.{Quotes}
