@@ -1,14 +1,13 @@
 -- The pass of the printer over the events of a stream of normal forms adds the rows of the stream.
-use Rattle.std.proofs.Common.{◌≡◌, ℕ, zero, suc, ◌+◌, ◌≤◌, ◌<◌, Bool, true, false, ◌&&◌, List, [], ◌∷◌, ◌++◌, length, map, flat_map, drop, Option, Some, None, refl, sym, ap, ◌∙◌, subst, arith, append_assoc, append-nil, true≢false, add-one}
+use Rattle.std.proofs.Common.{◌≡◌, ℕ, zero, suc, ◌+◌, ◌≤◌, ◌<◌, Bool, true, false, List, [], ◌∷◌, ◌++◌, length, map, flat_map, drop, Some, refl, sym, ap, ◌∙◌, subst, arith, append_assoc, append-nil, add-one}
 use Rattle.std.specs.Prelude.{◌-◌, ◌^◌, ◌*◌, ◌==◌, slice_get, nat_lt, if◌then◌else◌}
 use Rattle.std.proofs.lemmas.Bool.{and_parts}
 use Rattle.std.proofs.lemmas.Bool.Decides.{nat_tests}
 use Rattle.std.proofs.lemmas.List.{length-append}
 use Rattle.yf_events.specs.Event.{Placed, stream_starts, stream_ends, document_starts, document_ends}
-use Rattle.yf_events.specs.Tree.{DocumentTree, flat, flat_document, flat_stream, unplaced, standing}
+use Rattle.yf_events.specs.Tree.{DocumentTree, flat, flat_document, flat_stream, unplaced}
 use Rattle.yf_events.specs.declared.document.Doc.{Doc}
 use Rattle.yf_emit.specs.declared.decide.Form.{Form}
-use Rattle.yf_emit.specs.declared.printer.Level.{Level}
 use Rattle.yf_emit.specs.Begins.{keys_begin, keys_begin_in_documents}
 use Rattle.yf_emit.specs.Drafts.{Draft, finished, no_draft}
 use Rattle.yf_emit.specs.Forms.{Site, document_forms, documents_are_placed, forms, is_placed, no_form, site_at, stream_forms}
@@ -25,7 +24,7 @@ use Rattle.yf_emit.proofs.LeafPrinted.{setting_in}
 use Rattle.yf_emit.proofs.NodesPrinted.{node_reaches}
 use Rattle.yf_emit.proofs.NotedLemmas.{Known}
 use Rattle.yf_emit.proofs.PrintedNodes.{At, nests}
-use Rattle.yf_emit.proofs.Reaching.{Part, Reached, Reaches, back_part, front_part}
+use Rattle.yf_emit.proofs.Reaching.{Part, back_part, front_part}
 use Rattle.yf_emit.proofs.SkipLemmas.{document_fed, pass_append}
 use Rattle.yf_emit.proofs.StyledTwice.{House}
 

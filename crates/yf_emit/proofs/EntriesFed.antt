@@ -1,19 +1,17 @@
 -- What is printed round the nodes in an entry are the rows of the entry.
-use Rattle.std.proofs.Common.{◌≡◌, ℕ, ◌+◌, ◌-◌, Bool, true, false, not, ◌&&◌, List, [], ◌∷◌, ◌++◌, flat_map, replicate, codes, Option, Some, None, refl, sym, ap, ◌∙◌, append_assoc, append-nil, true≢false}
-use Rattle.std.specs.Prelude.{is_some, if◌then◌else◌}
+use Rattle.std.proofs.Common.{◌≡◌, ℕ, ◌-◌, Bool, true, false, not, ◌&&◌, List, [], ◌∷◌, ◌++◌, flat_map, replicate, Option, Some, None, refl, sym, ap, ◌∙◌, append_assoc, append-nil, true≢false}
+use Rattle.std.specs.Prelude.{is_some}
 use Rattle.yf_comments.specs.Comment.{CommentValue}
-use Rattle.yf_props.specs.Props.{PropsValue}
 use Rattle.yf_events.specs.Tree.{Node, entry_start, is_block_collection, items_in, leaves, props_of, standing, starts_of_entry}
 use Rattle.yf_events.specs.declared.event.Entry.{Entry}
-use Rattle.yf_events.specs.declared.event.Span.{Span}
 use Rattle.yf_emit.specs.declared.printer.Spot as Printer
 use Rattle.yf_emit.specs.Drafts.{Draft, behind_if, opened, with_blank, with_key_trail, with_text, without_blank}
 use Rattle.yf_emit.specs.Layout.{ended, may_be_blank_behind}
 use Rattle.yf_emit.specs.OneLine.{colon_behind, props_text, written}
-use Rattle.yf_emit.specs.Printing.{Work, before_collection, blank_unless, collection_begun, entry_begun, has_props, is_behind, next_line, props_line, remarks_of, space_if}
-use Rattle.yf_emit.specs.Rows.{Row, anywhere, before_node, begins_below, behind_key, behind_sign, blank_before_entry, entry_row, is_empty_text, joined, key_row, one_line_row, plain_row, props_row}
+use Rattle.yf_emit.specs.Printing.{before_collection, collection_begun, entry_begun, has_props, is_behind, next_line, remarks_of}
+use Rattle.yf_emit.specs.Rows.{Row, before_node, begins_below, behind_key, blank_before_entry, entry_row, is_empty_text, joined, key_row, one_line_row, plain_row, props_row}
 use Rattle.yf_emit.proofs.FedLemmas.{all_past, fed, key_text, with_row}
-use Rattle.yf_emit.proofs.JoinLemmas.{IsHead, edited, entry_below, entry_on_line, fed_append, fed_behind, fed_on, fed_on_append, head_is, joined_fed, joined_on, past_append, past_edited}
+use Rattle.yf_emit.proofs.JoinLemmas.{IsHead, edited, entry_below, entry_on_line, fed_append, fed_behind, fed_on, fed_on_append, joined_fed, joined_on, past_append, past_edited}
 use Rattle.yf_emit.proofs.LeafFed.{ColumnAt, never, put, put_value, row_met}
 use Rattle.yf_emit.proofs.NotedLemmas.{Known, met, met_nothing}
 

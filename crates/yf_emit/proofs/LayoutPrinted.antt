@@ -1,5 +1,5 @@
 -- What the pass of the printer prints of a stream of normal forms is its layout, where the comments that trail are those of the layout.
-use Rattle.std.proofs.Common.{◌≡◌, ℕ, ◌+◌, ◌≤◌, Bool, true, List, [], get_or, length, Option, Some, None, refl, sym, ap, ◌∙◌}
+use Rattle.std.proofs.Common.{◌≡◌, ℕ, ◌+◌, ◌≤◌, true, List, [], get_or, Some, None, ◌∙◌}
 use Rattle.std.specs.Prelude.{◌-◌, ◌*◌, ◌^◌}
 use Rattle.yf_comments.specs.Comment.{CommentValue}
 use Rattle.yf_events.specs.Tree.{DocumentTree, Node, TreesOf, is_text, standing}

@@ -1,30 +1,23 @@
 -- What a leaf, or a flow collection on one line, adds is its row: on the line that is being made, behind spaces, or on a line of its own.
-use Rattle.std.proofs.Common.{◌≡◌, ℕ, suc, ◌+◌, ◌-◌, ◌≤◌, ◌<◌, Bool, true, false, not, ◌&&◌, List, [], ◌∷◌, ◌++◌, length, map, flat_map, drop, replicate, chars, Option, Some, None, refl, sym, ap, ◌∙◌, arith, append_assoc, append-nil, true≢false, drop_at}
-use Rattle.std.specs.Prelude.{is_some, if◌then◌else◌}
-use Rattle.std.proofs.lemmas.Bool.{and_parts}
-use Rattle.yf_comments.specs.Comment.{CommentValue}
+use Rattle.std.proofs.Common.{◌≡◌, ℕ, suc, ◌+◌, ◌-◌, ◌≤◌, ◌<◌, Bool, true, false, ◌&&◌, List, [], ◌∷◌, ◌++◌, length, flat_map, drop, Option, Some, None, refl, sym, ap, ◌∙◌, arith, append_assoc, append-nil, true≢false, drop_at}
 use Rattle.yf_props.specs.Props.{PropsValue}
-use Rattle.yf_events.specs.Event.{EventValue, Placed, sequence_starts, sequence_ends, mapping_starts, mapping_ends, scalar_node}
-use Rattle.yf_events.specs.Tree.{Standing, Node, scalar, alias, sequence, mapping, Items, no_items, item, Pairs, no_pairs, pair, flat, flat_items, flat_pairs, is_text, items_in, leaves, placed, props_of, spans_of_leaf, standing, unplaced}
+use Rattle.yf_events.specs.Event.{Placed}
+use Rattle.yf_events.specs.Tree.{Node, items_in, leaves}
 use Rattle.yf_events.specs.declared.event.ScalarStyle.{ScalarStyle}
-use Rattle.yf_events.specs.declared.event.ScalarStyle.TheVariants.{Plain, Single, Double, Literal, Folded}
 use Rattle.yf_events.specs.declared.event.Span.{Span}
 use Rattle.yf_emit.specs.declared.decide.Form.{Form}
-use Rattle.yf_emit.specs.declared.measure.Measure.{Measure}
 use Rattle.yf_emit.specs.declared.printer.Spot as Printer
-use Rattle.yf_emit.specs.declared.style.Style.{Style}
 use Rattle.yf_emit.specs.BlockLines.{block_lines, final_feeds, header_text, is_kept_tail}
 use Rattle.yf_emit.specs.Deciding.{further}
 use Rattle.yf_emit.specs.Drafts.{Draft, opened, with_blank, with_body, with_key_trail, with_text, without_blank}
-use Rattle.yf_emit.specs.Forms.{is_placed}
 use Rattle.yf_emit.specs.Layout.{ended, may_be_blank_behind}
 use Rattle.yf_emit.specs.Normal.{Spot}
-use Rattle.yf_emit.specs.OneLine.{colon_behind, props_text, scalar_text, space_behind, spaced, written}
+use Rattle.yf_emit.specs.OneLine.{colon_behind, props_text, space_behind, spaced, written}
 use Rattle.yf_emit.specs.Printing as Printing
 use Rattle.yf_emit.specs.Printing.{Work, before_text, blank_unless, is_leaf, leaf_noted_if, lines_column, remarks_of, with_block, with_node, with_props_before, with_scalar}
-use Rattle.yf_emit.specs.Rows.{Row, block_scalar, is_empty_text, one_line, one_line_row, plain_row, tail_ending}
+use Rattle.yf_emit.specs.Rows.{Row, is_empty_text, one_line, one_line_row, plain_row, tail_ending}
 use Rattle.yf_emit.proofs.AmongLemmas.{Among, behind_first}
-use Rattle.yf_emit.proofs.FedLemmas.{all_past, fed, key_text, with_row}
+use Rattle.yf_emit.proofs.FedLemmas.{all_past, fed, with_row}
 use Rattle.yf_emit.proofs.JoinLemmas.{fed_behind, fed_on}
 use Rattle.yf_emit.proofs.NotedLemmas.{Known, Noted, met, met_more}
 use Rattle.yf_emit.proofs.OneLineRuns.{spaced_filled}

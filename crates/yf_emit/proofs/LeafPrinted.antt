@@ -1,13 +1,10 @@
 -- What is printed for a leaf, an empty node or a flow collection on one line are its rows, and the `:` after a key.
-use Rattle.std.proofs.Common.{◌≡◌, ℕ, suc, ◌+◌, ◌-◌, ◌≤◌, ◌<◌, Bool, true, false, not, ◌&&◌, List, [], ◌∷◌, ◌++◌, length, map, chars, Option, Some, None, refl, sym, ap, ◌∙◌, subst, arith, append_assoc, append-nil, true≢false}
+use Rattle.std.proofs.Common.{◌≡◌, ℕ, ◌+◌, ◌-◌, Bool, true, false, not, List, [], ◌∷◌, ◌++◌, length, map, Option, Some, None, refl, sym, ap, ◌∙◌, subst, arith, append_assoc, append-nil, true≢false}
 use Rattle.std.specs.Prelude.{is_some, if◌then◌else◌}
 use Rattle.std.proofs.lemmas.Bool.{and_parts}
-use Rattle.std.proofs.lemmas.List.{length-append}
-use Rattle.yf_comments.specs.Comment.{CommentValue}
-use Rattle.yf_lines.specs.declared.quotes.Quotes.{Quotes}
 use Rattle.yf_props.specs.Props.{PropsValue}
-use Rattle.yf_events.specs.Event.{EventValue, Placed, sequence_starts, sequence_ends, mapping_starts, mapping_ends, scalar_node}
-use Rattle.yf_events.specs.Tree.{Standing, Node, scalar, alias, sequence, mapping, Items, no_items, item, Pairs, no_pairs, pair, flat, flat_items, flat_pairs, is_block_collection, is_collection, is_filled_flow, is_text, items_in, items_in_items, items_in_pairs, leaves, leaves_of_items, leaves_of_pairs, placed, props_of, spans_of_leaf, standing, unplaced}
+use Rattle.yf_events.specs.Event.{Placed, sequence_ends, mapping_ends, scalar_node}
+use Rattle.yf_events.specs.Tree.{Standing, Node, scalar, alias, sequence, mapping, Items, no_items, item, Pairs, no_pairs, pair, flat, flat_items, flat_pairs, is_block_collection, is_collection, is_filled_flow, is_text, items_in, leaves, placed, props_of, spans_of_leaf, standing, unplaced}
 use Rattle.yf_events.specs.declared.event.ScalarStyle.{ScalarStyle}
 use Rattle.yf_events.specs.declared.event.ScalarStyle.TheVariants.{Plain, Single, Double, Literal, Folded}
 use Rattle.yf_events.specs.declared.event.Span.{Span}
@@ -19,8 +16,8 @@ use Rattle.yf_emit.specs.Begins.{keys_begin}
 use Rattle.yf_emit.specs.BlockLines.{block_lines, final_feeds, header_text, is_kept_tail}
 use Rattle.yf_emit.specs.Deciding.{has_space, is_leaf_at}
 use Rattle.yf_emit.specs.Drafts.{Draft, with_text}
-use Rattle.yf_emit.specs.Forms.{agree, is_empty_node, is_nothing, is_placed}
-use Rattle.yf_emit.specs.Kept.{has_comment, may_be_kept, scalar_may_be_kept}
+use Rattle.yf_emit.specs.Forms.{is_empty_node, is_nothing, is_placed}
+use Rattle.yf_emit.specs.Kept.{may_be_kept, scalar_may_be_kept}
 use Rattle.yf_emit.specs.Keys.{NodeAt}
 use Rattle.yf_emit.specs.Measures.{first_of, leaf_indices, leaf_indices_of_items, leaf_indices_of_pairs, measure_of}
 use Rattle.yf_emit.specs.Measuring.{setting}

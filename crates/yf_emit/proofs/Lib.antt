@@ -94,3 +94,5 @@ pub mod TrailChoice
 pub mod TrailRuns
 pub mod TrailLeaves
 pub mod TrailOthers
+pub mod TrailsAgree
+pub mod RowLeaves

@@ -1,24 +1,20 @@
 -- The pass of the printer over the events of any node of a normal form adds the rows of the node, and leaves the collections round it open.
-use Rattle.std.proofs.Common.{◌≡◌, ℕ, zero, suc, ◌+◌, ◌≤◌, Bool, true, false, not, ◌&&◌, List, [], ◌∷◌, ◌++◌, length, codes, Option, Some, None, refl, sym, ap, ◌∙◌, subst, arith, true≢false}
+use Rattle.std.proofs.Common.{◌≡◌, ℕ, zero, suc, ◌+◌, Bool, true, false, List, [], ◌∷◌, ◌++◌, length, codes, Option, None, refl, sym, ap, ◌∙◌, subst, true≢false}
 use Rattle.std.specs.Prelude.{◌-◌, is_some, if◌then◌else◌}
 use Rattle.yf_comments.specs.Comment.{CommentValue}
 use Rattle.yf_events.specs.Event.{Placed, sequence_starts, sequence_ends, mapping_starts, mapping_ends}
-use Rattle.yf_events.specs.Tree.{Standing, Node, scalar, alias, sequence, mapping, Items, no_items, item, Pairs, no_pairs, pair, flat, flat_items, flat_pairs, placed, standing, unplaced}
+use Rattle.yf_events.specs.Tree.{Node, scalar, alias, sequence, mapping, Items, no_items, item, Pairs, no_pairs, pair, flat, flat_items, flat_pairs, placed, standing, unplaced}
 use Rattle.yf_events.specs.declared.event.Entry.{Entry}
 use Rattle.yf_emit.specs.declared.decide.Form.{Form}
-use Rattle.yf_emit.specs.declared.printer.Awaited.{Awaited}
 use Rattle.yf_emit.specs.declared.printer.Awaited.TheVariants.{Item, Key}
 use Rattle.yf_emit.specs.declared.printer.Level.{Level}
-use Rattle.yf_emit.specs.declared.printer.Spot as Printer
 use Rattle.yf_emit.specs.Drafts.{Draft, behind_if}
 use Rattle.yf_emit.specs.Forms.{Site, key_comment_index, key_site, site_at, value_site}
 use Rattle.yf_emit.specs.Normal.{Setting, inner_spot, is_implicit, key_comment, key_spot, settled, value_spot}
-use Rattle.yf_emit.specs.OneLine.{written}
 use Rattle.yf_emit.specs.Printing as Printing
 use Rattle.yf_emit.specs.Printing.{awaited_behind, remarks_of, state, value_awaited}
-use Rattle.yf_emit.specs.Rows.{Row, behind_key, behind_sign, colon_row, entry_row, explicit_pair, implicit_pair, is_empty_text, joined, key_row, one_line_row, pair_rows, rows, rows_of_items, rows_of_pairs}
+use Rattle.yf_emit.specs.Rows.{Row, behind_sign, colon_row, entry_row, explicit_pair, implicit_pair, key_row, pair_rows, rows, rows_of_items, rows_of_pairs}
 use Rattle.yf_emit.proofs.EntriesFed.{begun, begun_append, begun_none, filled, filled_append, filled_joined, filled_pair, joined_begun, sign_begun}
-use Rattle.yf_emit.proofs.FedLemmas.{fed, key_text}
 use Rattle.yf_emit.proofs.JoinLemmas.{fed_behind}
 use Rattle.yf_emit.proofs.LeafLemmas.{is_own_leaf}
 use Rattle.yf_emit.proofs.LeafPrinted.{measure, setting_in}

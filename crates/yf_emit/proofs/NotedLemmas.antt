@@ -1,5 +1,5 @@
 -- The pass over the events of a node on one line goes past its items, and adds what trails its leaves.
-use Rattle.std.proofs.Common.{◌≡◌, ℕ, suc, ◌+◌, ◌-◌, ◌≤◌, ◌<◌, Bool, true, false, ◌&&◌, List, [], ◌∷◌, ◌++◌, length, map, flat_map, get_or, Option, Some, None, refl, sym, ap, ◌∙◌, arith, append_assoc, append-nil}
+use Rattle.std.proofs.Common.{◌≡◌, ℕ, ◌+◌, ◌≤◌, Bool, true, false, ◌&&◌, List, [], ◌∷◌, ◌++◌, length, map, flat_map, get_or, Option, Some, None, refl, sym, ap, ◌∙◌, arith, append_assoc, append-nil}
 use Rattle.std.specs.Prelude.{is_some, nat_le, if◌then◌else◌}
 use Rattle.std.proofs.lemmas.Bool.{and_parts}
 use Rattle.std.proofs.lemmas.Bool.Decides.{nat_tests}
@@ -18,7 +18,7 @@ use Rattle.yf_emit.specs.Forms.{is_placed, items_are_placed, pairs_are_placed}
 use Rattle.yf_emit.specs.Keys.{NodeAt}
 use Rattle.yf_emit.specs.Measures.{Measured, measure_of, no_measure}
 use Rattle.yf_emit.specs.Measuring.{setting}
-use Rattle.yf_emit.specs.Printing.{Work, entry_met, event_noted, events_noted, is_leaf, leaf_noted, leaf_noted_if}
+use Rattle.yf_emit.specs.Printing.{Work, entry_met, event_noted, events_noted, is_leaf, leaf_noted_if}
 use Rattle.yf_emit.proofs.AmongLemmas.{Among, back, behind_first, front, node_at}
 use Rattle.yf_emit.proofs.FedLemmas.{all_past}
 use Rattle.yf_emit.proofs.JoinLemmas.{edited, past_append, past_edited}

@@ -1,23 +1,19 @@
 -- The key and the value of a pair in a block mapping stand at their sites.
-use Rattle.std.proofs.Common.{◌≡◌, ℕ, suc, ◌+◌, ◌-◌, ◌≤◌, Bool, true, false, not, ◌&&◌, List, [], ◌∷◌, ◌++◌, length, map, Option, Some, None, refl, sym, ap, ◌∙◌, arith, true≢false}
-use Rattle.std.specs.Prelude.{◌^◌, ◌*◌, ◌||◌, min, is_some, nat_le, if◌then◌else◌}
+use Rattle.std.proofs.Common.{◌≡◌, ℕ, ◌+◌, ◌-◌, ◌≤◌, Bool, true, false, not, ◌&&◌, List, [], ◌∷◌, ◌++◌, length, map, Option, Some, None, refl, sym, ap, ◌∙◌, arith, true≢false}
+use Rattle.std.specs.Prelude.{◌^◌, ◌*◌, ◌||◌, is_some, if◌then◌else◌}
 use Rattle.std.proofs.lemmas.Bool.{and_parts}
 use Rattle.yf_comments.specs.Comment.{CommentValue}
-use Rattle.yf_props.specs.Props.{PropsValue}
-use Rattle.yf_events.specs.Tree.{Standing, Node, scalar, alias, sequence, mapping, Items, no_items, item, Pairs, no_pairs, pair, flat, flat_pairs, is_block_collection, is_filled_flow, is_sequence, is_text, items_in, leaves, spans_of_leaf, standing}
+use Rattle.yf_events.specs.Tree.{Node, scalar, alias, sequence, mapping, no_items, item, Pairs, no_pairs, pair, flat, flat_pairs, is_block_collection, is_filled_flow, is_sequence, is_text, items_in, leaves, spans_of_leaf, standing}
 use Rattle.yf_events.specs.declared.event.Entry.{Entry}
 use Rattle.yf_events.specs.declared.event.ScalarStyle.TheVariants.{Plain, Single, Double, Literal, Folded}
 use Rattle.yf_events.specs.declared.event.Span.{Span}
 use Rattle.yf_emit.specs.declared.decide.Form.{Form}
 use Rattle.yf_emit.specs.declared.printer.Awaited.TheVariants.{Key}
 use Rattle.yf_emit.specs.declared.printer.Level.{Level}
-use Rattle.yf_emit.specs.declared.printer.Spot as Printer
 use Rattle.yf_emit.specs.declared.style.Style.{Style}
 use Rattle.yf_emit.specs.Begins.{keys_begin, keys_begin_in_pairs, no_entry}
 use Rattle.yf_emit.specs.Deciding.{further}
-use Rattle.yf_emit.specs.Drafts.{behind_if}
-use Rattle.yf_emit.specs.Forms.{forms, forms_of_pairs, index_between, is_nothing, is_placed, key_comment_index, key_site, pairs_are_placed, value_comment, value_site}
-use Rattle.yf_emit.specs.Measures.{up_to_greatest}
+use Rattle.yf_emit.specs.Forms.{forms, forms_of_pairs, index_between, is_nothing, is_placed, key_comment_index, key_site, pairs_are_placed, value_site}
 use Rattle.yf_emit.specs.Normal as Normal
 use Rattle.yf_emit.specs.Normal.{Setting, inner_spot, is_implicit, key_comment, settled, value_column, value_entries, value_of_implicit, value_spot}
 use Rattle.yf_emit.specs.OneLine.{bare, colon_behind, props_text, scalar_text, spaced, width, written}
@@ -26,14 +22,12 @@ use Rattle.yf_emit.specs.Printing.{lines_column, spot_in, value_awaited}
 use Rattle.yf_emit.specs.Rows.{is_empty_text, one_line_row, rows}
 use Rattle.yf_emit.proofs.AmongLemmas.{back, front}
 use Rattle.yf_emit.proofs.EntriesFed.{is_key}
-use Rattle.yf_emit.proofs.FedLemmas.{key_text}
 use Rattle.yf_emit.proofs.LeafFed.{ColumnAt}
 use Rattle.yf_emit.proofs.LeafPrinted.{Spotted, has_lines, same_flag, same_flag_of_map, setting_in, written_filled}
 use Rattle.yf_emit.proofs.NotedLemmas.{Known}
-use Rattle.yf_emit.proofs.PairsFed.{comment_text}
 use Rattle.yf_emit.proofs.PrintedNodes.{At, form, nests, pairs_nest}
 use Rattle.yf_emit.proofs.PrintedTrees.{PairsAt, level, next_part, pair_parts}
-use Rattle.yf_emit.proofs.Reaching.{Part, front_part}
+use Rattle.yf_emit.proofs.Reaching.{front_part}
 use Rattle.yf_emit.proofs.StyledTwice.{House}
 use Rattle.yf_emit.proofs.ValueLemmas.{agreed, same_comment}
 
@@ -76,11 +70,11 @@ key_rows c spot column (mapping at false props no_pairs) h e = absurd (true≢fa
 key_rows c spot column (mapping at false props (pair k v ps)) h e = absurd (true≢false (sym e))
 
 -- a key without a text has no characters
-none_of : (o : Option Span) → is_some o ≡ false → o ≡ None
+pub none_of : (o : Option Span) → is_some o ≡ false → o ≡ None
 none_of None e = refl
 none_of (Some s) e = absurd (true≢false e)
 
-nothing_spaced : (p : List ℕ) → is_empty_text (spaced p []) ≡ true → is_nothing p ≡ true
+pub nothing_spaced : (p : List ℕ) → is_empty_text (spaced p []) ≡ true → is_nothing p ≡ true
 nothing_spaced [] e = refl
 nothing_spaced (b ∷ p) e = absurd (true≢false (sym e))
 

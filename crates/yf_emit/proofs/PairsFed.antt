@@ -1,23 +1,20 @@
 -- What is printed of a key and its value are the rows of the pair.
-use Rattle.std.proofs.Common.{◌≡◌, ℕ, ◌+◌, ◌-◌, Bool, true, false, not, ◌&&◌, List, [], ◌∷◌, ◌++◌, codes, Option, Some, None, refl, sym, ap, ◌∙◌, true≢false}
-use Rattle.std.specs.Prelude.{◌||◌, is_some, nat_lt, slice_get, option_map, suc, find, if◌then◌else◌}
+use Rattle.std.proofs.Common.{◌≡◌, ℕ, ◌-◌, Bool, true, false, ◌&&◌, List, [], ◌∷◌, codes, Option, Some, None, refl, sym, ap, ◌∙◌}
+use Rattle.std.specs.Prelude.{◌||◌, is_some, nat_lt, option_map, suc, find, if◌then◌else◌}
 use Rattle.yf_comments.specs.Comment.{CommentValue}
-use Rattle.yf_events.specs.Tree.{Node, scalar, alias, sequence, mapping, no_items, item, no_pairs, pair, is_block_collection, is_filled_flow, is_text, items_in, leaves, standing}
+use Rattle.yf_events.specs.Tree.{Node, is_filled_flow, is_text, items_in, leaves, standing}
 use Rattle.yf_events.specs.declared.event.Entry.{Entry}
-use Rattle.yf_events.specs.declared.event.ScalarStyle.TheVariants.{Plain, Single, Double, Literal, Folded}
 use Rattle.yf_events.specs.declared.event.Span.{Span}
 use Rattle.yf_emit.specs.declared.decide.Form.{Form}
-use Rattle.yf_emit.specs.declared.printer.Awaited.{Awaited}
-use Rattle.yf_emit.specs.Drafts.{Draft, behind_at, behind_if, with_text}
+use Rattle.yf_emit.specs.Drafts.{Draft, behind_if, with_text}
 use Rattle.yf_emit.specs.Forms.{first_index, index_between, key_comment_index}
-use Rattle.yf_emit.specs.Layout.{behind_two_spaces}
 use Rattle.yf_emit.specs.Normal as Normal
 use Rattle.yf_emit.specs.Normal.{Setting, first_between, key_comment}
 use Rattle.yf_emit.specs.OneLine.{colon_behind, written}
 use Rattle.yf_emit.specs.Printing.{colon_of, entry_begun, key_spot, question_if, remarks_of, sign_in, spot_in, value_awaited, with_colon}
-use Rattle.yf_emit.specs.Rows.{Row, begins_below, behind_key, behind_sign, colon_row, entry_row, explicit_pair, implicit_pair, is_empty_text, joined, key_row, one_line_row}
+use Rattle.yf_emit.specs.Rows.{Row, begins_below, behind_sign, colon_row, entry_row, explicit_pair, implicit_pair, is_empty_text, key_row, one_line_row}
 use Rattle.yf_emit.proofs.EntriesFed.{begun, begun_append, filled_joined, joined_begun, key_begun, sign_begun, value_begun}
-use Rattle.yf_emit.proofs.FedLemmas.{fed, key_text}
+use Rattle.yf_emit.proofs.FedLemmas.{key_text}
 use Rattle.yf_emit.proofs.JoinLemmas.{fed_behind, fed_on, joined_fed}
 use Rattle.yf_emit.proofs.LeafFed.{put, put_value, with_colon_of}
 use Rattle.yf_emit.proofs.LeafPrinted.{setting_in}

@@ -1,44 +1,29 @@
 -- The pass of the printer over the events of a node adds the rows of the node.
-use Rattle.std.proofs.Common.{◌≡◌, ℕ, zero, suc, ◌+◌, ◌-◌, ◌≤◌, ◌<◌, Bool, true, false, not, ◌&&◌, List, [], ◌∷◌, ◌++◌, length, get_or, codes, Option, Some, None, refl, sym, ap, ◌∙◌, subst, arith, append_assoc, append-nil, true≢false}
-use Rattle.std.specs.Prelude.{◌^◌, ◌*◌, ◌||◌, min, is_some, nat_le, if◌then◌else◌}
-use Rattle.std.proofs.lemmas.Bool.{and_parts}
-use Rattle.std.proofs.lemmas.List.{length-append}
-use Rattle.yf_comments.specs.Comment.{CommentValue}
-use Rattle.yf_props.specs.Props.{PropsValue}
-use Rattle.yf_events.specs.Event.{EventValue, Placed, sequence_starts, sequence_ends, mapping_starts, mapping_ends, scalar_node}
-use Rattle.yf_events.specs.Tree.{Standing, Node, scalar, alias, sequence, mapping, Items, no_items, item, Pairs, no_pairs, pair, flat, flat_items, flat_pairs, is_block_collection, is_collection, is_filled_flow, is_text, items_in, leaves, placed, props_of, standing, unplaced}
-use Rattle.yf_events.specs.declared.event.Entry.{Entry}
-use Rattle.yf_events.specs.declared.event.ScalarStyle.TheVariants.{Plain, Single, Double, Literal, Folded}
+use Rattle.std.proofs.Common.{◌≡◌, ℕ, zero, suc, ◌+◌, ◌-◌, ◌≤◌, Bool, true, false, ◌&&◌, List, [], ◌∷◌, length, get_or, refl, sym, ap, ◌∙◌, subst, arith, true≢false}
+use Rattle.std.specs.Prelude.{◌^◌, ◌*◌, if◌then◌else◌}
+use Rattle.yf_events.specs.Tree.{Node, scalar, alias, sequence, mapping, Items, no_items, item, Pairs, no_pairs, pair, flat, is_block_collection, is_collection, is_filled_flow, props_of, standing}
 use Rattle.yf_emit.specs.declared.decide.Form.{Form}
 use Rattle.yf_emit.specs.declared.measure.Measure.{Measure}
-use Rattle.yf_emit.specs.declared.printer.Awaited.{Awaited}
-use Rattle.yf_emit.specs.declared.printer.Awaited.TheVariants.{Item, Key, Value, ExplicitValue}
+use Rattle.yf_emit.specs.declared.printer.Awaited.TheVariants.{Item, Key}
 use Rattle.yf_emit.specs.declared.printer.Level.{Level}
 use Rattle.yf_emit.specs.declared.printer.Spot as Printer
-use Rattle.yf_emit.specs.declared.style.Style.{Style}
-use Rattle.yf_emit.specs.Begins.{keys_begin, keys_begin_in_items, keys_begin_in_pairs, no_entry}
-use Rattle.yf_emit.specs.Deciding.{further, is_leaf_at}
+use Rattle.yf_emit.specs.Deciding.{is_leaf_at}
 use Rattle.yf_emit.specs.Drafts.{Draft}
-use Rattle.yf_emit.specs.Forms.{Site, form_of, forms, forms_of_items, forms_of_pairs, is_kept_at, is_placed, items_are_placed, key_comment_index, key_site, no_form, pairs_are_placed, site_at, value_site}
-use Rattle.yf_emit.specs.Measures.{first_of, leaf_indices, measure_of, no_measure, up_to_greatest}
-use Rattle.yf_emit.specs.Measuring.{setting}
-use Rattle.yf_emit.specs.Normal.{Setting, Spot, fits, inner_spot, is_implicit, settled, settled_items, settled_pairs, styled_items, styled_pairs, value_of_implicit, value_spot}
-use Rattle.yf_emit.specs.Normal as Normal
-use Rattle.yf_emit.specs.OneLine.{props_text, written}
+use Rattle.yf_emit.specs.Forms.{Site, form_of, forms, is_placed, no_form}
+use Rattle.yf_emit.specs.Measures.{first_of, leaf_indices, no_measure}
+use Rattle.yf_emit.specs.Normal.{fits, settled}
+use Rattle.yf_emit.specs.OneLine.{props_text}
 use Rattle.yf_emit.specs.Printing as Printing
 use Rattle.yf_emit.specs.Printing.{State, Work, collection_begun, has_props, is_behind, level_of, levels_behind, looked, sign, state}
-use Rattle.yf_emit.specs.Rows.{Row, begins_below, is_empty_text, one_line, one_line_row, props_row, rows, rows_of_items, rows_of_pairs}
-use Rattle.yf_emit.proofs.AmongLemmas.{Among, back, behind_first, front, node_at}
-use Rattle.yf_emit.proofs.CountLemmas.{forms_count}
-use Rattle.yf_emit.proofs.EntriesFed.{begun, begun_append, begun_none, collection_put, filled, filled_append, filled_joined, filled_pair, is_key, joined_begun, sign_begun}
-use Rattle.yf_emit.proofs.LeafFed.{ColumnAt, put, with_colon_of}
+use Rattle.yf_emit.specs.Rows.{begins_below, is_empty_text, rows}
+use Rattle.yf_emit.proofs.AmongLemmas.{node_at}
+use Rattle.yf_emit.proofs.EntriesFed.{is_key}
+use Rattle.yf_emit.proofs.LeafFed.{put, with_colon_of}
 use Rattle.yf_emit.proofs.LeafLemmas.{is_own_leaf}
-use Rattle.yf_emit.proofs.LeafPrinted.{Laid, Spotted, flat_is, has_lines, head_of, leaf_printed, measure, setting_in, tail_of}
+use Rattle.yf_emit.proofs.LeafPrinted.{Laid, Spotted, flat_is, head_of, leaf_printed, measure, setting_in, tail_of}
 use Rattle.yf_emit.proofs.NotedLemmas.{Known, measure_there}
 use Rattle.yf_emit.proofs.OneLineRuns.{flat_filled}
-use Rattle.yf_emit.proofs.PairsFed.{comment_text, pair_fed}
-use Rattle.yf_emit.proofs.Reaching.{Part, Reaches, back_part, first_form, front_part, reaches_append, reaches_begun, reaches_event, reaches_none, reaches_same, reaches_whole}
-use Rattle.yf_emit.proofs.ValueLemmas.{same_comment}
+use Rattle.yf_emit.proofs.Reaching.{Part, Reaches, first_form, reaches_same, reaches_whole}
 
 -- so many collections are open at once in a node, or fewer
 abbrev mutual

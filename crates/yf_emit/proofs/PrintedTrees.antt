@@ -1,45 +1,33 @@
 -- The pass of the printer over the events of any node of a normal form adds the rows of the node.
-use Rattle.std.proofs.Common.{◌≡◌, ℕ, zero, suc, ◌+◌, ◌-◌, ◌≤◌, ◌<◌, Bool, true, false, not, ◌&&◌, List, [], ◌∷◌, ◌++◌, length, get_or, codes, Option, Some, None, refl, sym, ap, ◌∙◌, subst, arith, append_assoc, append-nil, true≢false}
-use Rattle.std.specs.Prelude.{◌^◌, ◌*◌, ◌||◌, min, is_some, nat_le, if◌then◌else◌}
+use Rattle.std.proofs.Common.{◌≡◌, ℕ, suc, ◌+◌, ◌-◌, ◌≤◌, Bool, true, false, not, ◌&&◌, List, [], ◌∷◌, ◌++◌, length, get_or, None, refl, sym, ap, ◌∙◌, subst, arith, true≢false}
+use Rattle.std.specs.Prelude.{◌^◌, ◌*◌}
 use Rattle.std.proofs.lemmas.Bool.{and_parts}
-use Rattle.std.proofs.lemmas.List.{length-append}
-use Rattle.yf_comments.specs.Comment.{CommentValue}
 use Rattle.yf_props.specs.Props.{PropsValue}
-use Rattle.yf_events.specs.Event.{EventValue, Placed, sequence_starts, sequence_ends, mapping_starts, mapping_ends}
-use Rattle.yf_events.specs.Tree.{Standing, Node, scalar, alias, sequence, mapping, Items, no_items, item, Pairs, no_pairs, pair, flat, flat_items, flat_pairs, is_block_collection, is_filled_flow, is_text, items_in, leaves, placed, props_of, standing, unplaced}
-use Rattle.yf_events.specs.declared.event.Entry.{Entry}
-use Rattle.yf_events.specs.declared.event.ScalarStyle.TheVariants.{Plain, Single, Double, Literal, Folded}
+use Rattle.yf_events.specs.Event.{Placed, sequence_starts, sequence_ends, mapping_starts, mapping_ends}
+use Rattle.yf_events.specs.Tree.{Standing, Node, sequence, mapping, Items, item, Pairs, pair, flat, flat_items, flat_pairs, is_block_collection, is_filled_flow, is_text, placed, props_of, standing, unplaced}
 use Rattle.yf_emit.specs.declared.decide.Form.{Form}
-use Rattle.yf_emit.specs.declared.measure.Measure.{Measure}
 use Rattle.yf_emit.specs.declared.printer.Awaited.{Awaited}
-use Rattle.yf_emit.specs.declared.printer.Awaited.TheVariants.{Item, Key, Value, ExplicitValue}
+use Rattle.yf_emit.specs.declared.printer.Awaited.TheVariants.{Item}
 use Rattle.yf_emit.specs.declared.printer.Level.{Level}
 use Rattle.yf_emit.specs.declared.printer.Spot as Printer
-use Rattle.yf_emit.specs.declared.style.Style.{Style}
-use Rattle.yf_emit.specs.Begins.{keys_begin, keys_begin_in_items, keys_begin_in_pairs, no_entry}
-use Rattle.yf_emit.specs.Deciding.{further, is_leaf_at}
-use Rattle.yf_emit.specs.Drafts.{Draft, behind_if}
-use Rattle.yf_emit.specs.Forms.{Site, forms, forms_of_items, forms_of_pairs, is_placed, items_are_placed, key_comment_index, key_site, no_form, pairs_are_placed, site_at, value_comment, value_site}
+use Rattle.yf_emit.specs.Begins.{keys_begin, keys_begin_in_items, keys_begin_in_pairs}
+use Rattle.yf_emit.specs.Drafts.{Draft}
+use Rattle.yf_emit.specs.Forms.{Site, forms, forms_of_items, forms_of_pairs, is_placed, items_are_placed, no_form, pairs_are_placed, site_at}
 use Rattle.yf_emit.specs.Measures.{no_measure, up_to_greatest}
 use Rattle.yf_emit.specs.Measuring.{setting}
-use Rattle.yf_emit.specs.Normal.{Setting, Spot, inner_spot, is_implicit, is_one_line_key, settled, settled_items, settled_pairs, styled_items, styled_pairs, value_entries, value_of_implicit, value_spot}
-use Rattle.yf_emit.specs.Normal as Normal
-use Rattle.yf_emit.specs.OneLine.{props_text, written}
+use Rattle.yf_emit.specs.Normal.{inner_spot, settled_items, settled_pairs, styled_items, styled_pairs}
+use Rattle.yf_emit.specs.OneLine.{props_text}
 use Rattle.yf_emit.specs.Printing as Printing
 use Rattle.yf_emit.specs.Printing.{collection_begun, has_props, is_behind, level_of, levels_behind, looked, sign, spot_in, state, value_awaited}
-use Rattle.yf_emit.specs.Rows.{Row, begins_below, behind_sign, entry_row, is_empty_text, one_line_row, pair_rows, props_row, rows, rows_of_items, rows_of_pairs}
+use Rattle.yf_emit.specs.Rows.{Row, begins_below, props_row, rows}
 use Rattle.yf_emit.proofs.AmongLemmas.{Among, back, behind_first, front, node_at}
 use Rattle.yf_emit.proofs.CountLemmas.{forms_count}
-use Rattle.yf_emit.proofs.EntriesFed.{begun, begun_append, begun_none, collection_put, filled, filled_append, filled_joined, filled_pair, is_key, joined_begun, sign_begun}
-use Rattle.yf_emit.proofs.FedLemmas.{fed, key_text}
+use Rattle.yf_emit.proofs.EntriesFed.{begun, collection_put, filled, is_key}
 use Rattle.yf_emit.proofs.LeafFed.{ColumnAt, put, with_colon_of}
-use Rattle.yf_emit.proofs.LeafLemmas.{is_own_leaf}
-use Rattle.yf_emit.proofs.LeafPrinted.{Laid, Spotted, has_lines, head_of, measure, setting_in}
+use Rattle.yf_emit.proofs.LeafPrinted.{measure, setting_in}
 use Rattle.yf_emit.proofs.NotedLemmas.{Known, measure_there}
-use Rattle.yf_emit.proofs.PairsFed.{comment_text, pair_fed}
-use Rattle.yf_emit.proofs.PrintedNodes.{At, NodeReaches, form, form_there, items_nest, nests, node_draft, pairs_nest, spot_of, whole_reaches}
-use Rattle.yf_emit.proofs.Reaching.{Part, Reaches, back_part, front_part, reaches_append, reaches_begun, reaches_event, reaches_none, reaches_same}
-use Rattle.yf_emit.proofs.ValueLemmas.{same_comment}
+use Rattle.yf_emit.proofs.PrintedNodes.{At, NodeReaches, form, form_there, items_nest, nests, node_draft, pairs_nest, spot_of}
+use Rattle.yf_emit.proofs.Reaching.{Part, Reaches, back_part, front_part, reaches_append, reaches_begun, reaches_event, reaches_same}
 
 abbrev pub level : ℕ → Awaited → Bool → Level
 level column awaited inline = record { column = column; awaited = awaited; is_inline = inline }
@@ -142,10 +130,10 @@ item_parts e = (cc, cc)
 pub pair_parts : {x y v w : Node} {ps qs : Pairs} → pair x v ps ≡ pair y w qs → (x ≡ y) × ((v ≡ w) × (ps ≡ qs))
 pair_parts e = (cc, (cc, cc))
 
-items_of : {at bt : Standing} {f g : Bool} {p q : PropsValue} {xs ys : Items} → sequence at f p xs ≡ sequence bt g q ys → xs ≡ ys
+pub items_of : {at bt : Standing} {f g : Bool} {p q : PropsValue} {xs ys : Items} → sequence at f p xs ≡ sequence bt g q ys → xs ≡ ys
 items_of e = cc
 
-pairs_of : {at bt : Standing} {f g : Bool} {p q : PropsValue} {xs ys : Pairs} → mapping at f p xs ≡ mapping bt g q ys → xs ≡ ys
+pub pairs_of : {at bt : Standing} {f g : Bool} {p q : PropsValue} {xs ys : Pairs} → mapping at f p xs ≡ mapping bt g q ys → xs ≡ ys
 pairs_of e = cc
 
 -- an item at its site

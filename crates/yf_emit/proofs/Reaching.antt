@@ -1,6 +1,6 @@
 -- How far the pass of the printer comes over some events: what is printed then, and which collections are open.
-use Rattle.std.proofs.Common.{◌≡◌, ℕ, suc, ◌+◌, ◌-◌, ◌≤◌, ◌<◌, Bool, true, false, List, [], ◌∷◌, ◌++◌, length, get_or, Some, refl, sym, ap, ◌∙◌, arith, append_assoc}
-use Rattle.std.specs.Prelude.{nat_lt, slice_get, if◌then◌else◌}
+use Rattle.std.proofs.Common.{◌≡◌, ℕ, suc, ◌+◌, ◌<◌, true, List, [], ◌∷◌, ◌++◌, length, get_or, refl, sym, ap, ◌∙◌, arith, append_assoc}
+use Rattle.std.specs.Prelude.{nat_lt, if◌then◌else◌}
 use Rattle.std.proofs.lemmas.Bool.Decides.{nat_tests}
 use Rattle.std.proofs.lemmas.List.{length-append}
 use Rattle.yf_events.specs.Event.{Placed}
@@ -8,7 +8,7 @@ use Rattle.yf_emit.specs.declared.decide.Form.{Form}
 use Rattle.yf_emit.specs.declared.printer.Level.{Level}
 use Rattle.yf_emit.specs.Drafts.{Draft}
 use Rattle.yf_emit.specs.Forms.{no_form}
-use Rattle.yf_emit.specs.Printing.{State, Work, looked, next, pass, state}
+use Rattle.yf_emit.specs.Printing.{State, Work, looked, pass, state}
 use Rattle.yf_emit.proofs.SkipLemmas.{pass_append, pass_skips}
 
 -- the last event that needs no look stands among those that were passed

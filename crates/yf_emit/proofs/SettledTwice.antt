@@ -1,9 +1,8 @@
 -- A settled node stays as it is, where its entries and, if it is a flow collection, its column are the same; so a normal form is settled.
-use Rattle.std.proofs.Common.{◌≡◌, ℕ, Bool, true, false, not, ◌&&◌, ◌+◌, refl, sym, ap, ◌∙◌, ⊎_elim}
-use Rattle.std.specs.Prelude.{◌||◌, nat_le, is_some, if◌then◌else◌}
-use Rattle.std.proofs.lemmas.Bool.{and_parts, cases_Bool}
-use Rattle.yf_emit.specs.declared.style.Style.{Style}
-use Rattle.yf_emit.specs.Normal.{Setting, Spot, inner_spot, key_spot, value_spot, value_of_implicit, key_column, is_implicit, is_one_line_key, fits, settled, settled_items, settled_pairs}
+use Rattle.std.proofs.Common.{◌≡◌, ℕ, Bool, true, false, ◌&&◌, ◌+◌, refl, sym, ap, ◌∙◌}
+use Rattle.std.specs.Prelude.{nat_le, if◌then◌else◌}
+use Rattle.std.proofs.lemmas.Bool.{and_parts}
+use Rattle.yf_emit.specs.Normal.{Setting, Spot, inner_spot, key_spot, value_spot, value_of_implicit, is_implicit, fits, settled, settled_items, settled_pairs}
 use Rattle.yf_emit.specs.OneLine.{width, written}
 use Rattle.yf_events.specs.Tree.{Node, scalar, alias, sequence, mapping, Items, no_items, item, Pairs, no_pairs, pair, is_filled_flow}
 use Rattle.yf_emit.proofs.SettledLemmas.{settled_key, settled_value_entries}

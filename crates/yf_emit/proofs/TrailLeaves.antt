@@ -1,17 +1,16 @@
 -- The comment that the pass finds to trail a leaf is the one that trails it in the layout.
-use Rattle.std.proofs.Common.{◌≡◌, ℕ, zero, suc, ◌+◌, ◌≤◌, ◌<◌, Bool, true, false, not, ◌&&◌, List, [], ◌∷◌, ◌++◌, length, map, flat_map, get_or, Option, Some, None, refl, sym, ap, ◌∙◌, arith, append-nil}
+use Rattle.std.proofs.Common.{◌≡◌, ℕ, zero, suc, ◌≤◌, ◌<◌, Bool, true, false, not, ◌&&◌, List, [], ◌∷◌, ◌++◌, length, flat_map, get_or, Option, Some, None, refl, sym, ap, ◌∙◌, arith, append-nil}
 use Rattle.std.specs.Prelude.{◌||◌, nat_lt, option_to_list, slice_get, zip, if◌then◌else◌}
 use Rattle.yf_comments.specs.Comment.{CommentValue}
-use Rattle.yf_events.specs.declared.event.Span.{Span}
 use Rattle.yf_events.specs.declared.lists.Lists.{Lists}
 use Rattle.yf_emit.specs.Drafts.{behind_at, behind_if, count_to}
-use Rattle.yf_emit.specs.Layout.{Remark, Source, behind_two_spaces, first_comment, is_among, trailing_leaf}
-use Rattle.yf_emit.specs.Trailing.{is_at, is_at_end, trails_leaf}
+use Rattle.yf_emit.specs.Layout.{Source, behind_two_spaces, first_comment, is_among, trailing_leaf}
+use Rattle.yf_emit.specs.Trailing.{is_at, is_at_end}
 use Rattle.yf_emit.proofs.FedLemmas.{trail}
 use Rattle.yf_emit.proofs.FeedLemmas.{ascend}
 use Rattle.yf_emit.proofs.LeafMarks.{Mark}
-use Rattle.yf_emit.proofs.TrailChoice.{first_counted, none_at, pick, rising, start_of_first, until}
-use Rattle.yf_emit.proofs.TrailRuns.{counted_within, end_of, found_of, leaf_in, less, spans}
+use Rattle.yf_emit.proofs.TrailChoice.{first_counted, none_at, rising}
+use Rattle.yf_emit.proofs.TrailRuns.{counted_within, end_of, found_of, less, spans}
 
 -- a comment and its note at an index
 record Both (cs : List CommentValue) (bs : List Bool) (n : ℕ) : Type 0 where

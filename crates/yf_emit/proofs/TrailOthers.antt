@@ -1,5 +1,5 @@
 -- The comments that the pass finds to trail nothing are those that the layout puts on lines of their own.
-use Rattle.std.proofs.Common.{◌≡◌, ◌≢◌, ℕ, zero, suc, ◌+◌, ◌≤◌, ◌<◌, Bool, true, false, not, ◌&&◌, List, [], ◌∷◌, ◌++◌, length, map, flat_map, get_or, set, Option, Some, None, refl, sym, ap, ◌∙◌, arith, append-nil, append_assoc}
+use Rattle.std.proofs.Common.{◌≡◌, ℕ, zero, suc, ◌+◌, Bool, true, false, not, ◌&&◌, List, [], ◌∷◌, ◌++◌, length, map, flat_map, get_or, Option, Some, None, refl, sym, ap, ◌∙◌, arith}
 use Rattle.std.specs.Prelude.{◌||◌, ◌==◌, filter, nat_lt, option_to_list, slice_get, zip, if◌then◌else◌}
 use Rattle.std.specs.List.{list_all, list_any}
 use Rattle.std.proofs.lemmas.Bool.{and_parts}
@@ -7,7 +7,6 @@ use Rattle.std.proofs.lemmas.Bool.Decides.{nat_tests}
 use Rattle.std.proofs.lemmas.Grind.{flat_map-append}
 use Rattle.yf_comments.specs.Comment.{CommentValue}
 use Rattle.yf_events.specs.declared.event.Span.{Span}
-use Rattle.yf_events.specs.declared.lists.Lists.{Lists}
 use Rattle.yf_emit.specs.Layout.{Remark, Source, first_comment, is_among, own_line_comments, trailing, trailing_leaf}
 use Rattle.yf_emit.specs.Rows.{Row}
 use Rattle.yf_emit.proofs.FeedLemmas.{left}

@@ -1,5 +1,5 @@
 -- What the pass over leaves finds: of each leaf the comment that is counted after it, where that trails and no key has it.
-use Rattle.std.proofs.Common.{◌≡◌, ◌≢◌, ℕ, zero, suc, ◌+◌, ◌≤◌, ◌<◌, Bool, true, false, not, ◌&&◌, List, [], ◌∷◌, ◌++◌, length, map, drop, get_or, set, Option, Some, None, refl, sym, ap, ◌∙◌, subst, arith, true≢false}
+use Rattle.std.proofs.Common.{◌≡◌, ◌≢◌, ℕ, suc, ◌+◌, ◌≤◌, ◌<◌, Bool, true, false, not, ◌&&◌, List, [], ◌∷◌, ◌++◌, length, map, drop, get_or, Option, Some, None, refl, sym, ap, ◌∙◌, arith}
 use Rattle.std.specs.Prelude.{nat_lt, if◌then◌else◌}
 use Rattle.std.specs.List.{list_all}
 use Rattle.std.proofs.lemmas.Bool.{and_parts}
@@ -10,7 +10,7 @@ use Rattle.yf_events.specs.declared.event.Span.{Span}
 use Rattle.yf_events.specs.declared.lists.Lists.{Lists}
 use Rattle.yf_emit.specs.declared.trails.Leaf.{Leaf}
 use Rattle.yf_emit.specs.Drafts.{count_to}
-use Rattle.yf_emit.specs.Trailing.{Found, State, ended, given, given_if, is_at, state, trails_leaf}
+use Rattle.yf_emit.specs.Trailing.{Found, ended, given, given_if, is_at, state, trails_leaf}
 use Rattle.yf_emit.proofs.LeafMarks.{Mark, past_marks}
 use Rattle.yf_emit.proofs.TrailChoice.{rising, start_of_first, until}
 
@@ -75,7 +75,7 @@ pub record Agree (n : ℕ) (one other : List Bool) : Type 0 where
 agree_later : (n m : ℕ) (one other : List Bool) → n ≤ m → Agree n one other → Agree m one other
 agree_later n m one other l a = record { agree = λ k h. a.agree k (omega (arith, l, h)) }
 
-trails_alike : (r : Lists) (one other : List Bool) (l : Leaf) (u : ℕ) → Agree l.first one other → trails_leaf r one l u ≡ trails_leaf r other l u
+pub trails_alike : (r : Lists) (one other : List Bool) (l : Leaf) (u : ℕ) → Agree l.first one other → trails_leaf r one l u ≡ trails_leaf r other l u
 trails_alike r one other l u a =
     ap (λ b. nat_lt l.first u && (not b && is_at r l.end l.first)) (a.agree l.first (omega arith))
 
@@ -143,11 +143,11 @@ abbrev pub found_of : Lists → List Bool → Mark → List Mark → Option ℕ
 found_of r keys l ls = if trails_leaf r keys (leaf_in r l) (end_of r ls) then Some (count_to l.span.start r.comments) else None
 
 -- from the first leaf on the comments are marked as by the keys
-abbrev AgreeFrom : Lists → List Mark → List Bool → List Bool → Type 0
+abbrev pub AgreeFrom : Lists → List Mark → List Bool → List Bool → Type 0
 AgreeFrom r [] one other = Unit {0}
 AgreeFrom r (l ∷ ls) one other = Agree (count_to l.span.start r.comments) one other
 
-agree_behind : (r : Lists) (l : Mark) (ls : List Mark) (f : Found) (keys : List Bool) → rising (spans (l ∷ ls)) ≡ true → AgreeFrom r (l ∷ ls) f.trailing keys
+pub agree_behind : (r : Lists) (l : Mark) (ls : List Mark) (f : Found) (keys : List Bool) → rising (spans (l ∷ ls)) ≡ true → AgreeFrom r (l ∷ ls) f.trailing keys
     → AgreeFrom r ls (given r (Some (leaf_in r l)) (end_of r ls) f).trailing keys
 agree_behind r l [] f keys u a = tt
 agree_behind r l (m ∷ ls) f keys u a = given_agrees r (leaf_in r l) (end_of r (m ∷ ls)) f keys (counted_to_end r l (m ∷ ls) u) a
