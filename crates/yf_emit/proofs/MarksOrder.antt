@@ -1,5 +1,5 @@
 -- The places of trees that stand in a text are in order.
-use Rattle.std.proofs.Common.{◌≡◌, ℕ, suc, zero, ◌<◌, ◌≤◌, List, [], ◌∷◌, ◌++◌, map, length, Option, Some, None, refl, sym, subst, arith}
+use Rattle.std.proofs.Common.{◌≡◌, ℕ, suc, zero, ◌<◌, ◌≤◌, List, [], ◌∷◌, ◌++◌, map, length, Option, Some, sym, subst, arith}
 use Rattle.std.specs.Prelude.{option_to_list, slice_index_or}
 use Rattle.yf_events.specs.declared.directive.Directive.{Directive}
 use Rattle.yf_events.specs.declared.document.Doc.{Doc}
@@ -38,11 +38,11 @@ around_rises {i} {j} {ms} {o} a b e l m n =
 entry_rises : {i : ℕ} {o : Option Entry} (e : Entry) → o ≡ Some e → i ≤ e.start → Rises i (starts_of_entry o) e.start
 entry_rises {i} e q l = subst (λ z. Rises i (starts_of_entry z) e.start) (sym q) (a_place l (no_place (omega arith)))
 
-colon_rises : {i j : ℕ} {o : Option Entry} (e : Entry) → o ≡ Some e → ColonStands i j e.colon → Rises i (colon_offset o) j
+colon_rises : {t : List ℕ} {i j : ℕ} {o : Option Entry} (e : Entry) → o ≡ Some e → ColonStands t i j e.colon → Rises i (colon_offset o) j
 colon_rises {i} {j} e q c = subst (λ z. Rises i (colon_offset z) j) (sym q) (offset_rises c) where
-  offset_rises : {i j : ℕ} {c : Option ℕ} → ColonStands i j c → Rises i (option_to_list c) j
+  offset_rises : {t : List ℕ} {i j : ℕ} {c : Option ℕ} → ColonStands t i j c → Rises i (option_to_list c) j
   offset_rises (no_colon l) = no_place l
-  offset_rises (a_colon l m) = a_place l (no_place m)
+  offset_rises (a_colon l e m) = a_place l (no_place m)
 
 mutual
   pub node_rises : {t : List ℕ} {i j : ℕ} {x : Node} → NodeStands t i j x → Rises i (marks_in x) j
@@ -54,12 +54,12 @@ mutual
 
   items_rise : {t : List ℕ} {i j : ℕ} {xs : Items} → ItemsStand t i j xs → Rises i (marks_in_items xs) j
   items_rise (no_items_stand m) = no_place m
-  items_rise (item_stands e q l a b) = rises_join (entry_rises e q l) (rises_join (node_rises a) (items_rise b))
+  items_rise (item_stands e q l a b) = rises_join (entry_rises e q l.order) (rises_join (node_rises a) (items_rise b))
 
   pairs_rise : {t : List ℕ} {i j : ℕ} {ps : Pairs} → PairsStand t i j ps → Rises i (marks_in_pairs ps) j
   pairs_rise (no_pairs_stand m) = no_place m
   pairs_rise (pair_stands e q l a c b d) =
-      rises_join (entry_rises e q l) (rises_join (node_rises a) (rises_join (colon_rises e q c) (rises_join (node_rises b) (pairs_rise d))))
+      rises_join (entry_rises e q l.order) (rises_join (node_rises a) (rises_join (colon_rises e q c) (rises_join (node_rises b) (pairs_rise d))))
 
 directives_rise : {i j : ℕ} {ds : List Directive} → DirectivesStand i ds j → Rises i (map (λ w. w.offset) ds) j
 directives_rise (no_directives_stand m) = no_place m

@@ -1,5 +1,6 @@
 -- In a tree that stands in a text a leaf has a place exactly where it has characters.
-use Rattle.std.proofs.Common.{◌≡◌, ◌≢◌, ℕ, ◌<◌, Bool, true, false, ◌&&◌, not, List, [], ◌∷◌, ◌++◌, length, Option, Some, None, refl, sym, ap, ◌∙◌, true≢false, arith}
+use Rattle.std.proofs.Common.{◌≡◌, ℕ, ◌<◌, Bool, true, false, not, List, [], ◌∷◌, ◌++◌, length, Option, Some, refl, sym, ap, true≢false, arith}
+use Rattle.std.proofs.lemmas.Bool.{and_from}
 use Rattle.std.specs.Prelude.{is_some}
 use Rattle.yf_props.specs.Props.{PropsValue, TagValue}
 use Rattle.yf_events.specs.declared.event.ScalarStyle.{ScalarStyle}
@@ -64,11 +65,6 @@ some_span : (o : Option Span) (a b : ℕ) → o ≡ from_to a b → is_some o �
 unfolding from_to
 some_span o a b e = ap is_some e
 
-both : (a b : Bool) → a ≡ true → b ≡ true → (a && b) ≡ true
-both true true e f = refl
-both true false e f = absurd (true≢false (sym f))
-both false b e f = absurd (true≢false (sym e))
-
 mutual
   pub node_placed : {t : List ℕ} {i j : ℕ} {x : Node} → NodeStands t i j x → is_placed x ≡ true
   node_placed (stands_nowhere m e) = agree_none _ (ap is_some e)
@@ -76,14 +72,14 @@ mutual
       agree_some _ _ (some_span _ _ _ e) (full props style text w)
   node_placed (alias_stands e b l m s) = some_span _ _ _ e
   node_placed (sequence_stands e b (no_items_stand l) m s) = some_span _ _ _ e
-  node_placed (sequence_stands e b (item_stands f q l a c) m s) = both _ _ (node_placed a) (items_placed c)
+  node_placed (sequence_stands e b (item_stands f q l a c) m s) = and_from _ _ (node_placed a) (items_placed c)
   node_placed (mapping_stands e b (no_pairs_stand l) m s) = some_span _ _ _ e
-  node_placed (mapping_stands e b (pair_stands f q l a c d g) m s) = both _ _ (node_placed a) (both _ _ (node_placed d) (pairs_placed g))
+  node_placed (mapping_stands e b (pair_stands f q l a c d g) m s) = and_from _ _ (node_placed a) (and_from _ _ (node_placed d) (pairs_placed g))
 
   items_placed : {t : List ℕ} {i j : ℕ} {xs : Items} → ItemsStand t i j xs → items_are_placed xs ≡ true
   items_placed (no_items_stand l) = refl
-  items_placed (item_stands f q l a c) = both _ _ (node_placed a) (items_placed c)
+  items_placed (item_stands f q l a c) = and_from _ _ (node_placed a) (items_placed c)
 
   pairs_placed : {t : List ℕ} {i j : ℕ} {ps : Pairs} → PairsStand t i j ps → pairs_are_placed ps ≡ true
   pairs_placed (no_pairs_stand l) = refl
-  pairs_placed (pair_stands f q l a c d g) = both _ _ (node_placed a) (both _ _ (node_placed d) (pairs_placed g))
+  pairs_placed (pair_stands f q l a c d g) = and_from _ _ (node_placed a) (and_from _ _ (node_placed d) (pairs_placed g))

@@ -1,7 +1,7 @@
 -- The reading of a text has the places and spellings that the proofs of the layout ask for.
-use Rattle.std.proofs.Common.{◌≡◌, ℕ, Bool, true, false, ◌&&◌, List, [], ◌∷◌, refl, sym, true≢false}
+use Rattle.std.proofs.Common.{◌≡◌, ℕ, true, List, refl}
+use Rattle.std.proofs.lemmas.Bool.{and_from}
 use Rattle.std.specs.Str.{IsUtf8}
-use Rattle.yf_events.specs.Event.{Placed}
 use Rattle.yf_events.specs.Tree.{DocumentTree}
 use Rattle.yf_events.specs.WellPlaced.{begins_node}
 use Rattle.yf_events.specs.declared.document.Doc.{Doc}
@@ -12,21 +12,16 @@ use Rattle.yf_stream.specs.ReadingOf.{ReadingOf}
 use Rattle.yf_stream.proofs.LawsHold.{comments_of_readings_ascend, comments_of_readings_are_within}
 use Rattle.yf_stream.proofs.NodeLawsHold.{reading_events}
 use Rattle.yf_stream.proofs.ReadingTrees.{TreesStand, no_trees_stand, tree_stands, reading_stands}
-use Rattle.yf_emit.specs.Forms.{documents_are_placed, is_placed}
+use Rattle.yf_emit.specs.Forms.{documents_are_placed}
 use Rattle.yf_emit.specs.Laws.{ReadingsAreOfTexts}
-use Rattle.yf_emit.specs.OfText.{OfText, marks_in_documents}
+use Rattle.yf_emit.specs.OfText.{marks_in_documents}
 use Rattle.yf_emit.specs.Textual.{IsTextual}
 use Rattle.yf_emit.proofs.MarksOrder.{rises_in_order, rises_within, trees_rise}
 use Rattle.yf_emit.proofs.PlacedTrees.{node_placed}
 
-both : (a b : Bool) → a ≡ true → b ≡ true → (a && b) ≡ true
-both true true e f = refl
-both true false e f = absurd (true≢false (sym f))
-both false b e f = absurd (true≢false (sym e))
-
 trees_placed : {t : List ℕ} {i : ℕ} {ds : List Doc} {trees : List DocumentTree} → TreesStand t i ds trees → documents_are_placed trees ≡ true
 trees_placed (no_trees_stand l) = refl
-trees_placed (tree_stands d a b) = both _ _ (node_placed a) (trees_placed b)
+trees_placed (tree_stands d a b) = and_from _ _ (node_placed a) (trees_placed b)
 
 pub reading_is_textual : {t : List ℕ} {r : Lists} → IsUtf8 t → ReadingOf t r → IsTextual r
 reading_is_textual {t} {r} u a =

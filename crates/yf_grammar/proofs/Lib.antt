@@ -64,6 +64,7 @@ mod HaltsShown
 pub mod HaltsSound
 pub mod InlineViews
 pub mod Irrefutable
+pub mod ItemsVisible
 pub mod KeyExact
 pub mod KeyLines
 pub mod LawsHold

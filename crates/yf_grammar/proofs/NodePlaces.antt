@@ -1,6 +1,7 @@
 -- The nodes of a tree stand in a text in order: each begins at a visible character, what is in it stands between its beginning and its end,
 -- an entry begins before its node, and its `:` stands between key and value.
 use Rattle.std.proofs.Common.{◌≡◌, ◌≢◌, ℕ, ◌<◌, ◌≤◌, Bool, List, [], length, Option, Some, None, arith}
+use Rattle.yf_chars.specs.Text.{code}
 use Rattle.yf_props.specs.Props.{PropsValue, TagValue, no_props}
 use Rattle.yf_props.specs.Props.TagValue.{IsVerbatim, IsShort, IsNonSpecific}
 use Rattle.yf_events.specs.Event.{scalar_node, alias_node}
@@ -35,9 +36,9 @@ pub record Begins (t : List ℕ) (i a : ℕ) : Type 0 where
   pub visible : Visible t a
 
 -- a `:` that may be missing
-pub data ColonStands : ℕ → ℕ → Option ℕ → Type 0 where
-  no_colon : {i j : ℕ} → i ≤ j → ColonStands i j None
-  a_colon : {i j k : ℕ} → i ≤ k → k ≤ j → ColonStands i j (Some k)
+pub data ColonStands (t : List ℕ) : ℕ → ℕ → Option ℕ → Type 0 where
+  no_colon : {i j : ℕ} → i ≤ j → ColonStands t i j None
+  a_colon : {i j k : ℕ} → i ≤ k → code t k ≡ 58 → k ≤ j → ColonStands t i j (Some k)
 
 mutual
   pub data NodeStands (t : List ℕ) : ℕ → ℕ → Node → Type 0 where
@@ -54,17 +55,17 @@ mutual
 
   pub data ItemsStand (t : List ℕ) : ℕ → ℕ → Items → Type 0 where
     no_items_stand : {i j : ℕ} → i ≤ j → ItemsStand t i j no_items
-    item_stands : {i k j : ℕ} {x : Node} {xs : Items} (e : Entry) → (standing x).entry ≡ Some e → i ≤ e.start → NodeStands t e.start k x
+    item_stands : {i k j : ℕ} {x : Node} {xs : Items} (e : Entry) → (standing x).entry ≡ Some e → Begins t i e.start → NodeStands t e.start k x
         → ItemsStand t k j xs → ItemsStand t i j (item x xs)
 
   pub data PairsStand (t : List ℕ) : ℕ → ℕ → Pairs → Type 0 where
     no_pairs_stand : {i j : ℕ} → i ≤ j → PairsStand t i j no_pairs
-    pair_stands : {i l m n j : ℕ} {k v : Node} {ps : Pairs} (e : Entry) → (standing k).entry ≡ Some e → i ≤ e.start
-        → NodeStands t e.start l k → ColonStands l m e.colon → NodeStands t m n v → PairsStand t n j ps → PairsStand t i j (pair k v ps)
+    pair_stands : {i l m n j : ℕ} {k v : Node} {ps : Pairs} (e : Entry) → (standing k).entry ≡ Some e → Begins t i e.start
+        → NodeStands t e.start l k → ColonStands t l m e.colon → NodeStands t m n v → PairsStand t n j ps → PairsStand t i j (pair k v ps)
 
-colon_order : {i j : ℕ} {c : Option ℕ} → ColonStands i j c → i ≤ j
+colon_order : {t : List ℕ} {i j : ℕ} {c : Option ℕ} → ColonStands t i j c → i ≤ j
 colon_order (no_colon l) = l
-colon_order (a_colon l m) = omega arith
+colon_order (a_colon l e m) = omega arith
 
 -- Wider bounds.
 
@@ -88,7 +89,7 @@ module _ {t : List ℕ} where
 
   pub items_after : {h i j : ℕ} {xs : Items} → h ≤ i → ItemsStand t i j xs → ItemsStand t h j xs
   items_after l (no_items_stand m) = no_items_stand (omega arith)
-  items_after l (item_stands e q m a b) = item_stands e q (omega arith) a b
+  items_after l (item_stands e q m a b) = item_stands e q (begins_after l m) a b
 
   pub items_upto : {i j k : ℕ} {xs : Items} → ItemsStand t i j xs → j ≤ k → ItemsStand t i k xs
   items_upto (no_items_stand m) l = no_items_stand (omega arith)
@@ -96,7 +97,7 @@ module _ {t : List ℕ} where
 
   pub pairs_after : {h i j : ℕ} {ps : Pairs} → h ≤ i → PairsStand t i j ps → PairsStand t h j ps
   pairs_after l (no_pairs_stand m) = no_pairs_stand (omega arith)
-  pairs_after l (pair_stands e q m a c b d) = pair_stands e q (omega arith) a c b d
+  pairs_after l (pair_stands e q m a c b d) = pair_stands e q (begins_after l m) a c b d
 
   pub pairs_upto : {i j k : ℕ} {ps : Pairs} → PairsStand t i j ps → j ≤ k → PairsStand t i k ps
   pairs_upto (no_pairs_stand m) l = no_pairs_stand (omega arith)
@@ -112,9 +113,9 @@ mutual
 
   pub items_order : {t : List ℕ} {i j : ℕ} {xs : Items} → ItemsStand t i j xs → i ≤ j
   items_order (no_items_stand m) = m
-  items_order (item_stands e q m a b) = let k = node_order a in let l = items_order b in omega arith
+  items_order (item_stands e q m a b) = let k = node_order a in let l = items_order b in omega (arith, m.order)
 
   pub pairs_order : {t : List ℕ} {i j : ℕ} {ps : Pairs} → PairsStand t i j ps → i ≤ j
   pairs_order (no_pairs_stand m) = m
   pairs_order (pair_stands e q m a c b d) =
-      let k = node_order a in let l = colon_order c in let n = node_order b in let o = pairs_order d in omega arith
+      let k = node_order a in let l = colon_order c in let n = node_order b in let o = pairs_order d in omega (arith, m.order)

@@ -1,11 +1,11 @@
 -- Notes on blank lines leave the nodes of a tree where they stand.
 use Rattle.std.proofs.Common.{◌≡◌, ℕ, Bool, List, [], ◌∷◌, ◌++◌, Option, Some, None, refl, sym, ap, ◌∙◌, subst, append_assoc}
-use Rattle.yf_events.specs.Event.{Placed, scalar_node, alias_node, sequence_starts, sequence_ends, mapping_starts, mapping_ends}
+use Rattle.yf_events.specs.Event.{Placed, sequence_starts, sequence_ends, mapping_starts, mapping_ends}
 use Rattle.yf_events.specs.declared.event.Entry.{Entry}
 use Rattle.yf_events.specs.declared.event.ScalarStyle.TheVariants.{Plain}
 use Rattle.yf_events.specs.Tree.{Standing, Node, scalar as scalar_tree, alias as alias_tree, sequence, mapping, Items, no_items, item, Pairs, no_pairs, pair, placed, unplaced, standing, flat, flat_items, flat_pairs}
 use Rattle.yf_props.specs.Props.{no_props}
-use Rattle.yf_grammar.specs.Part.{Noting, no_event, without_entry, with_entry}
+use Rattle.yf_grammar.specs.Part.{Noting, without_entry, with_entry}
 use Rattle.yf_grammar.proofs.NodePlaces.{NodeStands, stands_nowhere, scalar_stands, alias_stands, sequence_stands, mapping_stands, ItemsStand, no_items_stand, item_stands, PairsStand, no_pairs_stand, pair_stands}
 
 -- an entry with some note

@@ -8,6 +8,7 @@ use Rattle.yf_events.specs.declared.event.ScalarStyle.TheVariants.{Plain}
 use Rattle.yf_events.specs.Tree.{Standing, Node, scalar as scalar_tree, alias as alias_tree, sequence, mapping, Items, no_items, item, Pairs, no_pairs, pair, placed, unplaced, standing, flat, flat_items, flat_pairs}
 use Rattle.yf_grammar.specs.Meaning.{Meaning, ◌⊕◌, behind, noting, plain_event, from_to, empty_node, collection, with_props, first_entering, entering}
 use Rattle.yf_grammar.specs.Spelled.{IsSpelled}
+use Rattle.yf_grammar.proofs.GapLemmas.{Visible}
 use Rattle.yf_grammar.proofs.MeantLemmas.{entered, entered_events}
 use Rattle.yf_grammar.proofs.NodePlaces.{Begins, ColonStands, NodeStands, stands_nowhere, scalar_stands, alias_stands, sequence_stands, mapping_stands, ItemsStand, no_items_stand, item_stands, PairsStand, no_pairs_stand, pair_stands, node_after, node_upto, items_after, items_upto, pairs_after, pairs_upto}
 
@@ -25,7 +26,7 @@ pub record ItemAt (t : List ℕ) (i j : ℕ) (x : Meaning) : Type 0 where
   pub entry : Entry
   pub begins : (standing node).entry ≡ Some entry
   pub events : x.events ≡ flat node
-  pub order : i ≤ entry.start
+  pub first : Begins t i entry.start
   pub stands : NodeStands t entry.start x.finish node
   pub ends : x.finish ≤ j
 
@@ -37,9 +38,9 @@ pub record PairAt (t : List ℕ) (i j : ℕ) (x : Meaning) : Type 0 where
   pub value_start : ℕ
   pub begins : (standing key).entry ≡ Some entry
   pub events : x.events ≡ flat key ++ flat value
-  pub order : i ≤ entry.start
+  pub first : Begins t i entry.start
   pub key_stands : NodeStands t entry.start key_end key
-  pub colon : ColonStands key_end value_start entry.colon
+  pub colon : ColonStands t key_end value_start entry.colon
   pub value_stands : NodeStands t value_start x.finish value
   pub ends : x.finish ≤ j
 
@@ -102,24 +103,24 @@ module _ {t : List ℕ} where
 
   -- Entries.
 
-  pub item_of : {i j s : ℕ} {x : Meaning} → s ≤ i → NodeAt t i j x → ItemAt t s j (entering s None x)
+  pub item_of : {i j s : ℕ} {x : Meaning} → s ≤ i → Visible t s → NodeAt t i j x → ItemAt t s j (entering s None x)
   unfolding entering
-  item_of {s = s} l a =
+  item_of {s = s} l v a =
       let entry : Entry = record { start = s; colon = None; blank_before = false } in
       record {
         node = entered entry a.node;
         entry = entry;
         begins = entered_standing entry a.node;
         events = ap (first_entering entry) a.events ∙ entered_events entry a.node;
-        order = omega arith;
+        first = record { order = omega arith; visible = v };
         stands = entered_stands entry (node_after l a.stands);
         ends = a.ends;
       }
 
-  pub pair_of : {i j s k m : ℕ} {x y : Meaning} (colon : Option ℕ) → s ≤ i → NodeAt t i k x → ColonStands k m colon → NodeAt t m j y
+  pub pair_of : {i j s k m : ℕ} {x y : Meaning} (colon : Option ℕ) → s ≤ i → Visible t s → NodeAt t i k x → ColonStands t k m colon → NodeAt t m j y
       → PairAt t s j (entering s colon x ⊕ y)
   unfolding entering ◌⊕◌
-  pair_of {s = s} {k = k} {m = m} {y = y} colon l a c b =
+  pair_of {s = s} {k = k} {m = m} {y = y} colon l v a c b =
       let entry : Entry = record { start = s; colon = colon; blank_before = false } in
       record {
         key = entered entry a.node;
@@ -129,7 +130,7 @@ module _ {t : List ℕ} where
         value_start = m;
         begins = entered_standing entry a.node;
         events = ap (λ z. z ++ y.events) (ap (first_entering entry) a.events ∙ entered_events entry a.node) ∙ ap (λ z. flat (entered entry a.node) ++ z) b.events;
-        order = omega arith;
+        first = record { order = omega arith; visible = v };
         key_stands = entered_stands entry (node_upto (node_after l a.stands) a.ends);
         colon = c;
         value_stands = b.stands;
@@ -146,7 +147,7 @@ module _ {t : List ℕ} where
     value_start = a.value_start;
     begins = a.begins;
     events = a.events;
-    order = a.order;
+    first = a.first;
     key_stands = a.key_stands;
     colon = a.colon;
     value_stands = a.value_stands;
@@ -163,7 +164,7 @@ module _ {t : List ℕ} where
     value_start = a.value_start;
     begins = a.begins;
     events = a.events;
-    order = a.order;
+    first = a.first;
     key_stands = a.key_stands;
     colon = a.colon;
     value_stands = a.value_stands;
@@ -174,7 +175,7 @@ module _ {t : List ℕ} where
   item_last a l = record {
     items = item a.node no_items;
     events = a.events ∙ sym (append-nil (flat a.node));
-    stands = item_stands a.entry a.begins a.order a.stands (no_items_stand (omega arith));
+    stands = item_stands a.entry a.begins a.first a.stands (no_items_stand (omega arith));
     ends = omega (arith, a.ends);
   }
 
@@ -182,7 +183,7 @@ module _ {t : List ℕ} where
   pair_last a l = record {
     pairs = pair a.key a.value no_pairs;
     events = a.events ∙ ap (λ z. flat a.key ++ z) (sym (append-nil (flat a.value)));
-    stands = pair_stands a.entry a.begins a.order a.key_stands a.colon a.value_stands (no_pairs_stand (omega arith));
+    stands = pair_stands a.entry a.begins a.first a.key_stands a.colon a.value_stands (no_pairs_stand (omega arith));
     ends = omega (arith, a.ends);
   }
 
@@ -191,7 +192,7 @@ module _ {t : List ℕ} where
   items_more {y = y} a l b = record {
     items = item a.node b.items;
     events = ap (λ z. z ++ y.events) a.events ∙ ap (λ z. flat a.node ++ z) b.events;
-    stands = item_stands a.entry a.begins a.order a.stands (items_after (omega (arith, a.ends)) b.stands);
+    stands = item_stands a.entry a.begins a.first a.stands (items_after (omega (arith, a.ends)) b.stands);
     ends = b.ends;
   }
 
@@ -200,7 +201,7 @@ module _ {t : List ℕ} where
   pairs_more {x = x} {y = y} a l b = record {
     pairs = pair a.key a.value b.pairs;
     events = ap (λ z. z ++ y.events) a.events ∙ append_assoc (flat a.key) (flat a.value) y.events ∙ ap (λ z. flat a.key ++ (flat a.value ++ z)) b.events;
-    stands = pair_stands a.entry a.begins a.order a.key_stands a.colon a.value_stands (pairs_after (omega (arith, a.ends)) b.stands);
+    stands = pair_stands a.entry a.begins a.first a.key_stands a.colon a.value_stands (pairs_after (omega (arith, a.ends)) b.stands);
     ends = b.ends;
   }
 
@@ -215,7 +216,7 @@ more_of (a_pair a) l (some_pairs b) = some_pairs (pairs_more a l b)
 pub entry_noting : {t : List ℕ} {s : Bool} {i j : ℕ} {x : Meaning} (cs : List CommentValue) → EntryAt t s i j x → EntryAt t s i j (noting x cs)
 unfolding noting
 entry_noting cs (an_item a) =
-    an_item (record { node = a.node; entry = a.entry; begins = a.begins; events = a.events; order = a.order; stands = a.stands; ends = a.ends })
+    an_item (record { node = a.node; entry = a.entry; begins = a.begins; events = a.events; first = a.first; stands = a.stands; ends = a.ends })
 entry_noting cs (a_pair a) = a_pair (record {
   key = a.key;
   value = a.value;
@@ -224,7 +225,7 @@ entry_noting cs (a_pair a) = a_pair (record {
   value_start = a.value_start;
   begins = a.begins;
   events = a.events;
-  order = a.order;
+  first = a.first;
   key_stands = a.key_stands;
   colon = a.colon;
   value_stands = a.value_stands;
@@ -254,7 +255,7 @@ pair_narrow a = record {
   value_start = a.value_start;
   begins = a.begins;
   events = a.events;
-  order = a.order;
+  first = a.first;
   key_stands = a.key_stands;
   colon = a.colon;
   value_stands = a.value_stands;

@@ -45,8 +45,8 @@ PlacesClaim t (JsonContent n c) i j x = is_block c ≡ false → ContentAt t n c
 PlacesClaim t (Entries s n c) i j x = is_block c ≡ false → EntriesAt t s i j x
 PlacesClaim t (Entry s n c) i j x = is_block c ≡ false → EntryAt t s i j x
 PlacesClaim t (Pair n c) i j x = is_block c ≡ false → PairAt t i j x
-PlacesClaim t (Explicit n c s) i j x = is_block c ≡ false → s < i → PairAt t s j x
-PlacesClaim t (Implicit n c s) i j x = is_block c ≡ false → s ≤ i → PairAt t s j x
+PlacesClaim t (Explicit n c s) i j x = is_block c ≡ false → s < i → Visible t s → PairAt t s j x
+PlacesClaim t (Implicit n c s) i j x = is_block c ≡ false → s ≤ i → Visible t s → PairAt t s j x
 PlacesClaim t (ValueOf json n c) i j x = is_block c ≡ false → NodeAt t i j x
 PlacesClaim t (KeyOf json c) i j x = is_block c ≡ false → NodeAt t i j x
 PlacesClaim t (BlockNode n c) i j x = VisibleAt t i j x
@@ -114,20 +114,20 @@ module _ {t : List ℕ} (u : IsUtf8 t) where
   places (last_entry {cs = cs} d m) = λ b. last_of (entry_noting cs (places d b)) (may_forward m)
   places (last_entry_with_comma {cs = cs} {ds = ds} d m e o) = λ b. let f = may_forward m in let g = may_forward o in last_of (entry_noting (cs ++ ds) (places d b)) (omega arith)
   places (more_entries {cs = cs} {ds = ds} d m e o r) = λ b. let f = may_forward m in let g = may_forward o in more_of (entry_noting (cs ++ ds) (places d b)) (omega arith) (places r b)
-  places (a_node_entry d) = λ b. an_item (item_of (omega arith) (places d b))
+  places (a_node_entry d) = λ b. an_item (item_of (omega arith) (flow_starts d b).starts.visible (places d b))
   places (a_pair_entry d) = λ b.
       let a = places d b in
-      an_item (item_of (omega arith) (collection_at true nothing_spelled (here (flow_starts d b).visible) (omega arith) (last_of (a_pair (pair_narrow a)) (omega arith)) a.ends))
-  places (an_explicit_entry {cs = cs} e s d) = λ b. let l = separate_forward s in a_pair (pair_behind cs (places d b (omega arith)))
-  places (an_implicit_entry d) = λ b. a_pair (places d b (omega arith))
-  places (an_explicit_pair {cs = cs} e s d) = λ b. let l = separate_forward s in pair_behind cs (places d b (omega arith))
-  places (a_keyed_pair {k = k} d v) = λ b. pair_of (Some k) (omega arith) (places d refl) (a_colon (omega arith) (omega arith)) (places v b)
-  places (an_unkeyed_pair {i = i} v) = λ b. pair_of {k = i} (Some i) (omega arith) (nothing_at (omega arith)) (a_colon (omega arith) (omega arith)) (places v b)
-  places (explicit_with d) = λ b l. places d b (omega arith)
-  places (explicit_without {s = s} f) = λ b l. pair_of {k = s + 1} None (omega arith) (nothing_at (omega arith)) (no_colon (omega arith)) (nothing_at (omega arith))
-  places (key_alone d) = λ b l. let a = places d b in pair_of None l (node_narrow a) (no_colon (omega arith)) (nothing_at a.ends)
-  places (key_and_value {s = s} {k = k} {cs = cs} {x = x} {y = y} d m v) = λ b l. let f = may_forward m in pair_key_noting (entering s (Some k) x) y cs (pair_of (Some k) l (places d b) (a_colon f (omega arith)) (places v b))
-  places (value_alone {i = i} v) = λ b l. pair_of {k = i} (Some i) l (nothing_at (omega arith)) (a_colon (omega arith) (omega arith)) (places v b)
+      an_item (item_of (omega arith) (flow_starts d b).visible (collection_at true nothing_spelled (here (flow_starts d b).visible) (omega arith) (last_of (a_pair (pair_narrow a)) (omega arith)) a.ends))
+  places (an_explicit_entry {cs = cs} e s d) = λ b. let l = separate_forward s in a_pair (pair_behind cs (places d b (omega arith) (flow_starts (an_explicit_entry e s d) b).visible))
+  places (an_implicit_entry d) = λ b. a_pair (places d b (omega arith) (flow_starts d b).visible)
+  places (an_explicit_pair {cs = cs} e s d) = λ b. let l = separate_forward s in pair_behind cs (places d b (omega arith) (flow_starts (an_explicit_pair e s d) b).visible)
+  places (a_keyed_pair {k = k} d v) = λ b. pair_of (Some k) (omega arith) (flow_starts d refl).visible (places d refl) (a_colon (omega arith) (flow_starts v b).colon (omega arith)) (places v b)
+  places (an_unkeyed_pair {i = i} v) = λ b. pair_of {k = i} (Some i) (omega arith) (flow_starts (an_unkeyed_pair v) b).visible (nothing_at (omega arith)) (a_colon (omega arith) (flow_starts v b).colon (omega arith)) (places v b)
+  places (explicit_with d) = λ b l w. places d b (omega arith) w
+  places (explicit_without {s = s} f) = λ b l w. pair_of {k = s + 1} None (omega arith) w (nothing_at (omega arith)) (no_colon (omega arith)) (nothing_at (omega arith))
+  places (key_alone d) = λ b l w. let a = places d b in pair_of None l w (node_narrow a) (no_colon (omega arith)) (nothing_at a.ends)
+  places (key_and_value {s = s} {k = k} {cs = cs} {x = x} {y = y} d m v) = λ b l w. let f = may_forward m in pair_key_noting (entering s (Some k) x) y cs (pair_of (Some k) l w (places d b) (a_colon f (flow_starts v b).colon (omega arith)) (places v b))
+  places (value_alone {i = i} v) = λ b l w. pair_of {k = i} (Some i) l w (nothing_at (omega arith)) (a_colon (omega arith) (flow_starts v b).colon (omega arith)) (places v b)
   places (empty_value {i = i} f e m) = λ b. node_wider {j = i + 1} (omega arith) (nothing_at (omega arith)) (omega arith)
   places (a_value {i = i} {k = k} {json = json} {n = n} {c = c} cs e m s d) = λ b.
       let f = value_forward t n c (i + 1) k cs json s in node_behind cs (node_wider (omega arith) (places d b) (omega arith))
@@ -168,13 +168,13 @@ module _ {t : List ℕ} (u : IsUtf8 t) where
   }
   places (a_last_entry d) = last_of (places d) (omega arith)
   places (an_entry_before d s e) = more_of (places d) (omega arith) (places e)
-  places (a_dash_entry e n d) = an_item (item_of (omega arith) (places d))
+  places (a_dash_entry e n d) = an_item (item_of (omega arith) (block_starts (a_dash_entry e n d)).visible (places d))
   places (an_explicit_entry_with {m = m} {k = k} e w d c r) =
-      a_pair (pair_of (Some (k + m)) (omega arith) (places d) (a_colon (omega arith) (omega arith)) (places r))
+      a_pair (pair_of (Some (k + m)) (omega arith) (block_starts (an_explicit_entry_with e w d c r)).visible (places d) (a_colon (omega arith) c.colon (omega arith)) (places r))
   places (an_explicit_key_alone e w d c) =
-      let a = places d in a_pair (pair_of None (omega arith) (node_narrow a) (no_colon (omega arith)) (nothing_at a.ends))
-  places (a_keyed_entry {k = k} d v) = a_pair (pair_of (Some k) (omega arith) (places d refl) (a_colon (omega arith) (omega arith)) (places v))
-  places (an_unkeyed_entry {i = i} v) = a_pair (pair_of {k = i} (Some i) (omega arith) (nothing_at (omega arith)) (a_colon (omega arith) (omega arith)) (places v))
+      let a = places d in a_pair (pair_of None (omega arith) (block_starts (an_explicit_key_alone e w d c)).visible (node_narrow a) (no_colon (omega arith)) (nothing_at a.ends))
+  places (a_keyed_entry {k = k} d v) = a_pair (pair_of (Some k) (omega arith) (flow_starts d refl).visible (places d refl) (a_colon (omega arith) (block_starts v).colon (omega arith)) (places v))
+  places (an_unkeyed_entry {i = i} v) = a_pair (pair_of {k = i} (Some i) (omega arith) (block_starts (an_unkeyed_entry v)).visible (nothing_at (omega arith)) (a_colon (omega arith) (block_starts v).colon (omega arith)) (places v))
   places (a_block_value e d) = let a = places d in node_wider (omega (arith, a.begins.order)) a.node (omega arith)
   places (an_empty_block_value {cs = cs} e d) = node_noting cs (node_wider (omega arith) (nothing_at (line_end_forward d)) (omega arith))
   places (a_compact_collection {l = l} {i = i} b s d) =

@@ -1,13 +1,13 @@
 -- The documents of a stream stand in order: directives, the beginning, the node with all that is in it, and the next document.
-use Rattle.std.proofs.Common.{◌≡◌, ◌≢◌, ℕ, ◌+◌, ◌<◌, ◌≤◌, Bool, true, false, List, [], ◌∷◌, ◌++◌, length, refl, sym, ap, ◌∙◌, ⊎_elim, arith, true≢false}
+use Rattle.std.proofs.Common.{◌≡◌, ◌≢◌, ℕ, ◌<◌, ◌≤◌, true, false, List, [], ◌∷◌, length, sym, ap, ◌∙◌, ⊎_elim, arith, true≢false}
 use Rattle.std.proofs.lemmas.Bool.{cases_eq}
 use Rattle.std.proofs.lemmas.Bool.Decides.{nat_tests}
 use Rattle.std.specs.Str.{IsUtf8}
 use Rattle.yf_chars.specs.Chain.{Many}
 use Rattle.yf_chars.specs.Chain.Chain.{done, step}
 use Rattle.yf_chars.specs.Chain.One.{one}
-use Rattle.yf_chars.specs.Class.{is_ns_char, is_white}
-use Rattle.yf_chars.specs.Text.{code, next}
+use Rattle.yf_chars.specs.Class.{is_white}
+use Rattle.yf_chars.specs.Text.{code}
 use Rattle.yf_chars.proofs.ChainLemmas.{chain_forward, chain_one}
 use Rattle.yf_chars.proofs.TextLemmas.{next_ascii, next_later}
 use Rattle.yf_lines.specs.Basic.{SeparateInLine}
@@ -17,13 +17,13 @@ use Rattle.yf_comments.proofs.LineEndLemmas.{lines_rows}
 use Rattle.yf_comments.proofs.RowLemmas.{row_functional}
 use Rattle.yf_plain.proofs.PlainLemmas.{ns_not_white}
 use Rattle.yf_events.specs.Tree.{Node, flat}
-use Rattle.yf_grammar.specs.Meaning.{Meaning, empty_node, noting}
+use Rattle.yf_grammar.specs.Meaning.{Meaning}
 use Rattle.yf_grammar.proofs.Forward.{in_line_forward}
 use Rattle.yf_grammar.proofs.GapLemmas.{Visible}
 use Rattle.yf_grammar.proofs.NodePlaces.{NodeStands, node_after, node_upto}
 use Rattle.yf_grammar.proofs.PlacedNodes.{NodeAt, node_wider, node_noting, nothing_at}
 use Rattle.yf_grammar.proofs.PlacesDerived.{VisibleAt, places}
-use Rattle.yf_stream.specs.Stream.{AnyDocument, ContentAt, DirectiveLines, Directives, Document, Documents, ExplicitNode, PrefixPart, Prefixes, RootNode, Stream, StreamRest, Suffixes, document_of, with_comments, with_document}
+use Rattle.yf_stream.specs.Stream.{AnyDocument, ContentAt, Directives, Document, Documents, ExplicitNode, PrefixPart, Prefixes, Stream, StreamRest, Suffixes, document_of, with_comments, with_document}
 use Rattle.yf_stream.specs.Stream.AnyDocument.{bare_document, directive_document, explicit_document}
 use Rattle.yf_stream.specs.Stream.ContentAt.{content_at}
 use Rattle.yf_stream.specs.Stream.ExplicitNode.{marked_node, marked_nothing}

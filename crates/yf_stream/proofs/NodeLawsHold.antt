@@ -1,12 +1,14 @@
 -- The laws of where the nodes of a reading stand hold.
 use Rattle.std.proofs.Common.{◌≡◌, ℕ, List, flat_map, Some, refl, sym, subst}
-use Rattle.yf_events.specs.Event.{document_starts, document_ends, stream_starts, stream_ends, Placed}
-use Rattle.yf_events.specs.Tree.{DocumentTree, flat_document, flat_stream}
+use Rattle.yf_events.specs.Event.{document_starts, document_ends, stream_starts, stream_ends}
+use Rattle.yf_events.proofs.TreeLemmas.{trees_unique}
+use Rattle.yf_events.specs.Tree.{DocumentTree, items_in, flat_document, flat_stream}
 use Rattle.yf_events.specs.declared.document.Doc.{Doc}
 use Rattle.yf_events.specs.declared.event.Span.{Span}
 use Rattle.yf_events.specs.declared.lists.Lists.{Lists}
 use Rattle.yf_grammar.proofs.EventsStand.{EventsStand, no_events_stand, event_stands, events_all, events_join, node_events, unplaced_stands}
-use Rattle.yf_stream.specs.NodeLaws.{IsVisibleAt, NodesOfReadingsBeginVisibly}
+use Rattle.yf_grammar.proofs.ItemsVisible.{AllVisible, none_visible, node_visible, visible_at, visible_join}
+use Rattle.yf_stream.specs.NodeLaws.{IsVisibleAt, ItemsOfReadingsBeginVisibly, NodesOfReadingsBeginVisibly}
 use Rattle.yf_stream.proofs.ReadingTrees.{ReadingStands, TreesStand, no_trees_stand, tree_stands, reading_stands}
 
 module _ {t : List ℕ} where
@@ -23,7 +25,20 @@ module _ {t : List ℕ} where
       event_stands (unplaced_stands stream_starts refl) (events_join (trees_events a.stand) (event_stands (unplaced_stands stream_ends refl) no_events_stand)) in
       subst (λ z. EventsStand t z) (sym a.of_reading.events) all
 
+  items_visible_in : {i : ℕ} {ds : List Doc} {trees : List DocumentTree} → TreesStand t i ds trees
+      → AllVisible t (flat_map (λ (d : DocumentTree). items_in d.root) trees)
+  items_visible_in (no_trees_stand l) = none_visible
+  items_visible_in (tree_stands d a b) = visible_join (node_visible a) (items_visible_in b)
+
 pub nodes_of_readings_begin_visibly : NodesOfReadingsBeginVisibly
 nodes_of_readings_begin_visibly t r u a =
     events_all {P = λ e. (s : Span) → e.span ≡ Some s → IsVisibleAt t s.start} r.events (reading_events (reading_stands u a))
     (λ e h s q. let v = h.visible s q in record { visible = v.ns; no_hash = v.no_hash })
+
+pub items_of_readings_begin_visibly : ItemsOfReadingsBeginVisibly
+items_of_readings_begin_visibly t r trees u a of_reading =
+    let w = reading_stands u a in
+    let same : w.trees ≡ trees = trees_unique r w.trees trees w.of_reading of_reading in
+    let all : AllVisible t (flat_map (λ (d : DocumentTree). items_in d.root) trees) =
+    subst (λ z. AllVisible t (flat_map (λ (d : DocumentTree). items_in d.root) z)) same (items_visible_in w.stand) in
+    λ k d l. let v = visible_at (flat_map (λ (d : DocumentTree). items_in d.root) trees) all k d l in record { visible = v.ns; no_hash = v.no_hash }

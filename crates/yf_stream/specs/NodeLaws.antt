@@ -1,10 +1,11 @@
 -- Laws of where the nodes of a reading stand, each with the plain sentence that it stands for. `proofs/NodeLawsHold.antt` proves them.
-use Rattle.std.specs.Prelude.{◌≡◌, ◌≢◌, ℕ, true, List, Some}
+use Rattle.std.specs.Prelude.{◌≡◌, ◌≢◌, ℕ, true, List, flat_map, Some}
 use Rattle.std.specs.List.{All}
 use Rattle.std.specs.Str.{IsUtf8}
 use Rattle.yf_chars.specs.Class.{is_ns_char}
 use Rattle.yf_chars.specs.Text.{code}
 use Rattle.yf_events.specs.Event.{Placed}
+use Rattle.yf_events.specs.Tree.{DocumentTree, TreesOf, items_in}
 use Rattle.yf_events.specs.declared.event.Span.{Span}
 use Rattle.yf_events.specs.declared.lists.Lists.{Lists}
 use Rattle.yf_stream.specs.ReadingOf.{ReadingOf}
@@ -18,3 +19,8 @@ pub record IsVisibleAt (t : List ℕ) (i : ℕ) : Type 0 where
 abbrev pub NodesOfReadingsBeginVisibly : Type 0
 NodesOfReadingsBeginVisibly = (t : List ℕ) (r : Lists) → IsUtf8 t → ReadingOf t r
     → All (λ (e : Placed). (s : Span) → e.span ≡ Some s → IsVisibleAt t s.start) r.events
+
+-- So does each entry that begins with an item or a key of a reading's trees, and each leaf with characters: none begins where a comment does.
+abbrev pub ItemsOfReadingsBeginVisibly : Type 0
+ItemsOfReadingsBeginVisibly = (t : List ℕ) (r : Lists) (trees : List DocumentTree) → IsUtf8 t → ReadingOf t r → TreesOf r trees
+    → All (λ (i : ℕ). IsVisibleAt t i) (flat_map (λ (d : DocumentTree). items_in d.root) trees)
