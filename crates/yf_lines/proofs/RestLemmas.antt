@@ -4,7 +4,7 @@ use Rattle.std.proofs.Math.Seq.{take-append_seam}
 use Rattle.std.proofs.lemmas.Str as S
 use Rattle.std.proofs.lemmas.Str.{len_utf8_bounds, length-encode, encode_ascii, len_utf8_ascii, drop_past_char, encodes-append}
 use Rattle.std.specs.Char.{len_utf8}
-use Rattle.std.specs.Str.{IsUtf8, IsCharBoundary}
+use Rattle.std.specs.Str.{IsUtf8}
 use lib.Utf8.{encode, encodes}
 use Rattle.yf_chars.specs.Text.{code, next, before, last_or, Reads, no_char}
 use Rattle.yf_chars.specs.Class.{is_nb_char, is_printable, is_break_char, is_between}

@@ -1,7 +1,5 @@
-use Rattle.std.proofs.Common.{◌≡◌, ap, sym, ◌∙◌, Some, length}
+use Rattle.std.proofs.Common.{ap, sym, ◌∙◌, Some, length}
 use Rattle.std.proofs.lemmas.Option.{slice_get-get_or}
-use Rattle.yf_lines.specs.declared.line.Line.{Line}
-use Rattle.yf_lines.specs.Rows.{end_before}
 use Rattle.yf_lines.proofs.RowLemmas.{got_line, line_by_end}
 use Rattle.yf_lines.proofs.rows.line_at.Goals as goal
 
