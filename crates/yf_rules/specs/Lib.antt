@@ -14,6 +14,7 @@ pub mod KeyPass
 pub mod Laws
 pub mod OuterFlow
 pub mod QuestionMarks
+pub mod Stands
 pub mod Columns
 pub mod Indents
 pub mod MarkedKeys

@@ -1,5 +1,6 @@
 //! Rule 2, indentation.
-ghost use Rattle.std.specs.Prelude.{◌≡◌, ◌≢◌, ◌+◌, ◌<◌, length, MatchBool};
+ghost use Rattle.std.specs.Prelude.{◌≡◌, ◌+◌, ◌<◌, ◌&&◌, Some, length};
+ghost use Rattle.yf_rules.specs.Stands.{is_other, wanted_column, wanted_indent};
 
 use crate::bodies::{Body, body_at};
 use crate::rule::{Rule, placed};
@@ -56,7 +57,7 @@ impl Rule for Indentation {
 
 /// Whether the one column is not so many columns to the right of the other.
 fn is_off(column: usize, outer: usize, indent: usize) -> bool
-    ensures { MatchBool result (column ≢ outer + indent) (column ≡ outer + indent) }
+    ensures { result ≡ is_other column (Some (outer + indent)) }
 {
     if column < outer {
         return true;
@@ -69,7 +70,9 @@ fn is_off(column: usize, outer: usize, indent: usize) -> bool
 
 /// Whether entries of a block collection at that column, from 0, are out of place: those of a root are to stand at column 0, others as far
 /// to the right of the entries around them as the style says, or at their column for a sequence after a key without `?`.
-fn is_misplaced(stand: Stand, column: usize, is_sequence: bool, style: &Style) -> bool {
+fn is_misplaced(stand: Stand, column: usize, is_sequence: bool, style: &Style) -> bool
+    ensures { result ≡ is_other column (wanted_column style.now (is_sequence && stand.is_implicit_value) stand.outer) }
+{
     match stand.outer {
         Around::Nothing => column != 0,
         Around::Entries(outer) => {
@@ -96,7 +99,9 @@ fn misplaced_entry(stand: Stand, is_sequence: bool, style: &Style) -> Option<usi
 }
 
 /// Whether the content of a block scalar with that indentation is out of place.
-fn is_misindented(stand: Stand, indent: usize, style: &Style) -> bool {
+fn is_misindented(stand: Stand, indent: usize, style: &Style) -> bool
+    ensures { result ≡ is_other indent (wanted_indent style.now stand.outer) }
+{
     match stand.outer {
         Around::Nothing => indent != style.indent,
         Around::Entries(outer) => is_off(indent, outer, style.indent),
