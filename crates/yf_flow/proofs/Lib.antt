@@ -8,6 +8,7 @@ pub mod KeyLineLemmas
 pub mod MachineLemmas
 pub mod NodeBegunLemmas
 pub mod NotedLemmas
+pub mod TiedBase
 pub mod TiedBegun
 pub mod TiedClose
 pub mod TiedEnds

@@ -44,12 +44,12 @@ pub bracket_awaits : {t : List ℕ} {e i : ℕ} {n : ℤ} {d : Ctx} (sequence : 
     → SeparationAwaited t e sequence n d d i 0 (only [] 0) (i + 1)
 bracket_awaits {t} {e} {i} {n} {d} sequence q b = record { past = λ k cs g. subst (λ z. EntriesAwaited t e sequence n d z i 0 (noting (only [] 0) cs) k) q (entries_opened k cs b g) }
 
-opened_kind : (kind : Kind) (x : ℕ) → Opens kind x → (kind ≡ kind_of (is_sequence kind)) × (x ≡ opening (is_sequence kind))
+pub opened_kind : (kind : Kind) (x : ℕ) → Opens kind x → (kind ≡ kind_of (is_sequence kind)) × (x ≡ opening (is_sequence kind))
 opened_kind Sequence x e = (refl, e)
 opened_kind Mapping x e = (refl, e)
 opened_kind Pair x e = absurd e
 
-opened_written : {t : List ℕ} {w : Meaning} {old new : Part} (cs : List CommentValue) (begin event : Placed) → Written t w old → NotedEvent t begin event → Added old new (event ∷ []) cs []
+pub opened_written : {t : List ℕ} {w : Meaning} {old new : Part} (cs : List CommentValue) (begin event : Placed) → Written t w old → NotedEvent t begin event → Added old new (event ∷ []) cs []
     → Written t (entries_written (noting w cs) begin (only [] 0)) new
 unfolding ◌⊕◌ noting only
 opened_written {t} {w} {old} {new} cs begin event p e a = record {
@@ -58,7 +58,7 @@ opened_written {t} {w} {old} {new} cs begin event p e a = record {
   escapes = a.escapes ∙ append-nil old.escapes ∙ p.escapes ∙ sym (append-nil w.escapes) ∙ sym (append-nil (w.escapes ++ []));
 }
 
-noting_events : (w : Meaning) (cs : List CommentValue) → (noting w cs).events ≡ w.events
+pub noting_events : (w : Meaning) (cs : List CommentValue) → (noting w cs).events ≡ w.events
 unfolding noting
 noting_events w cs = refl
 
@@ -98,18 +98,18 @@ opened_entry {t} {n} {d} {base} {frames} {top} {f} {p} {old} {new} {entry} q a o
     }
 
 -- the one event of a leaf, in its role
-record RoleEvent (role : Role) (s : ℕ) (x : Meaning) (e : Placed) : Type 0 where
+pub record RoleEvent (role : Role) (s : ℕ) (x : Meaning) (e : Placed) : Type 0 where
   events : (in_role role s x).events ≡ record e { entry = entry_of role s } ∷ []
   comments : (in_role role s x).comments ≡ x.comments
   escapes : (in_role role s x).escapes ≡ x.escapes
 
-role_event : (role : Role) (s : ℕ) (x : Meaning) (e : Placed) → x.events ≡ e ∷ [] → e.entry ≡ None → RoleEvent role s x e
+pub role_event : (role : Role) (s : ℕ) (x : Meaning) (e : Placed) → x.events ≡ e ∷ [] → e.entry ≡ None → RoleEvent role s x e
 unfolding entering
 role_event Value s x e a b = record { events = a ∙ ap (λ z. record e { entry = z } ∷ []) b; comments = refl; escapes = refl }
 role_event Item s x e a b = record { events = ap (λ z. first_entering (entry_from s) z) a; comments = refl; escapes = refl }
 role_event Key s x e a b = record { events = ap (λ z. first_entering (entry_from s) z) a; comments = refl; escapes = refl }
 
-leaf_written : {t : List ℕ} {w : Meaning} {old new : Part} {entry : Option Entry} (role : Role) (s : ℕ) (x : Meaning) (e : Placed) → RoleEvent role s x e → x.events ≡ e ∷ [] → Written t w old
+pub leaf_written : {t : List ℕ} {w : Meaning} {old new : Part} {entry : Option Entry} (role : Role) (s : ℕ) (x : Meaning) (e : Placed) → RoleEvent role s x e → x.events ≡ e ∷ [] → Written t w old
     → is_lined e.event ≡ false → NoteOf t (record e { entry = entry_of role s }) (record e { entry = entry }) → Added old new (given entry x.events) x.comments x.escapes
     → Written t (w ⊕ in_role role s x) new
 unfolding ◌⊕◌

@@ -26,12 +26,12 @@ use Rattle.yf_flow.proofs.NotedLemmas.{noted_more, noted_ended, edited_here}
 use Rattle.yf_flow.proofs.TiedEnds.{written_as, written_same}
 
 -- where a node begins, before its content at k
-abbrev NodeStart : Before → ℕ → ℕ → Type 0
+abbrev pub NodeStart : Before → ℕ → ℕ → Type 0
 NodeStart Bare p k = p ≡ k
 NodeStart (Propertied q cs i g) p k = p ≡ i
 
 -- what is written where a collection ends, in the role of its node
-ended_meaning : (role : Role) (b : Before) (s p k j : ℕ) (sequence : Bool) (x : Meaning) → NodeStart b p k
+pub ended_meaning : (role : Role) (b : Before) (s p k j : ℕ) (sequence : Bool) (x : Meaning) → NodeStart b p k
     → Same (record {
       events = ended j (opened_event p b (entry_of role s) sequence k) ∷ (x.events ++ plain_event (end_of sequence) None ∷ []);
       comments = comments_before b ++ x.comments;
@@ -103,7 +103,7 @@ cons_parts e = (cc, cc)
 pub no_cons : {X : Type 0} {b : X} {y : List X} → [] ≡ b ∷ y → ⊥
 no_cons e = cc
 
-start_of_node : {t : List ℕ} {n : ℤ} {d : Ctx} {p k : ℕ} {b : Before} → NodeOver t n d p k b → NodeStart b p k
+pub start_of_node : {t : List ℕ} {n : ℤ} {d : Ctx} {p k : ℕ} {b : Before} → NodeOver t n d p k b → NodeStart b p k
 start_of_node (bare_there q) = refl
 start_of_node (properties_there q s c) = refl
 

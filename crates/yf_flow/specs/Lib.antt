@@ -6,6 +6,7 @@ pub mod KeyThere
 pub mod Leaves
 pub mod Machine
 pub mod NodeBegun
+pub mod NodeRead
 pub mod NodeReaders
 pub mod Steps
 pub mod Tied

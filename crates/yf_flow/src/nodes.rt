@@ -2,7 +2,7 @@
 ghost use Rattle.std.specs.Prelude.{◌≡◌, ℕ, [], ◌+◌, ◌<◌, ◌≤◌, length, IfOk};
 ghost use Rattle.std.specs.List.{All};
 ghost use Rattle.std.specs.Str.{IsCharBoundary};
-ghost use Rattle.yf_flow.specs.Ends.{EndTied};
+ghost use Rattle.yf_flow.specs.Ends.{BegunTied, EndTied, EndsAs};
 ghost use Rattle.yf_flow.specs.Machine.{Awaiting, BegunAt, EndingAt, OutcomeAt};
 ghost use Rattle.yf_flow.specs.Steps.{Reading};
 ghost use Rattle.yf_flow.specs.Tied.{AtEntry, Base};
@@ -128,6 +128,7 @@ fn end_node<'a>(
 ) -> Result<Ending, AllocError>
     requires begun { (m : ℕ) × BegunAt scene.text.now at m (length part.old.events) begun }
     requires escapes { All (IsCharBoundary scene.text.now) part.old.escapes }
+    ensures ends { (base : Base) → BegunTied scene.entry.text.now scene.entry.indentation scene.entry.context scene.entry.limit base begun part.old → IfOk result (λ e. EndsAs scene.entry.text.now scene.entry.indentation base begun part.old part.new e) }
     ensures found { IfOk result (λ e. EndingAt scene.entry.text.now (at + 1) e) }
     ensures escapes { IfOk result (λ _. All (IsCharBoundary scene.entry.text.now) part.new.escapes) }
 {
