@@ -1,12 +1,12 @@
 -- The outermost collection of a node: its bracket, and what has been read once it is closed or given up.
-use Rattle.std.proofs.Common.{◌≡◌, ℕ, suc, ◌+◌, ◌-◌, ◌<◌, ℤ, Bool, true, List, [], ◌∷◌, ◌++◌, length, Some, None, refl, sym, ap, ◌∙◌, subst, arith}
+use Rattle.std.proofs.Common.{◌≡◌, ℕ, ◌+◌, ◌-◌, ℤ, Bool, true, List, [], length, None, refl, sym, ap, ◌∙◌, subst, arith}
 use Rattle.yf_chars.specs.declared.context.Ctx.{Ctx}
 use Rattle.yf_chars.specs.Text.{code}
 use Rattle.yf_events.specs.Edit.{ended}
 use Rattle.yf_events.specs.declared.part.Part.{Part}
 use Rattle.yf_grammar.specs.Grammar.{in_flow, opening}
-use Rattle.yf_grammar.specs.Meaning.{Meaning, ◌⊕◌, noting, collection, plain_event, end_of}
-use Rattle.yf_grammar.specs.Parser.{Found, AContent, Parses, only}
+use Rattle.yf_grammar.specs.Meaning.{Meaning, noting, collection, plain_event, end_of}
+use Rattle.yf_grammar.specs.Parser.{AContent, Parses, only}
 use Rattle.yf_grammar.specs.Awaits.{over, ended_at, SeparationAwaited}
 use Rattle.yf_grammar.proofs.AwaitEntries.{entries_opened}
 use Rattle.yf_grammar.proofs.AwaitFails.{over_some, gap_outside}
@@ -16,7 +16,7 @@ use Rattle.yf_flow.specs.declared.frame.Role.TheVariants.{Value}
 use Rattle.yf_flow.specs.Begun.{is_sequence}
 use Rattle.yf_flow.specs.NodeBegun.{comments_before, opened_event, NodeLeaf, NodeOpened, NodeMissing, no_node, no_content, NodeFull}
 use Rattle.yf_flow.specs.NodeRead.{NodeRead, NodeLost, no_node_there, content_lost}
-use Rattle.yf_flow.specs.Tied.{entryless, Written, Base, Below, outermost, AtEntry, AtDone, NoBase}
+use Rattle.yf_flow.specs.Tied.{entryless, Written, Base, outermost, AtEntry, AtDone, NoBase}
 use Rattle.yf_flow.proofs.NotedLemmas.{noted_length}
 use Rattle.yf_flow.proofs.TiedBegun.{opened_kind, opened_written, noting_events, role_event, leaf_written}
 use Rattle.yf_flow.proofs.TiedClose.{closed_same, ended_meaning, start_of_node}

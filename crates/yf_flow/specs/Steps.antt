@@ -1,4 +1,4 @@
--- Where an entry of a flow collection begins, and what its first sign makes of it, as the reader's steps find it.
+-- What the steps of the reader rest on: what is read, the role of an entry's first node, and a frame with a node in it.
 use Rattle.std.specs.Prelude.{◌≡◌, ℕ, max, false, List}
 use Rattle.std.specs.Str.{IsUtf8}
 use Rattle.yf_chars.specs.declared.context.Ctx.{Ctx}
