@@ -8,13 +8,13 @@ use Rattle.yf_quoted.specs.Written.{quotes_for}
 use Rattle.yf_events.specs.declared.event.ScalarStyle.{ScalarStyle}
 use Rattle.yf_events.specs.declared.event.ScalarStyle.TheVariants.{Plain, Single, Double, Literal, Folded}
 use Rattle.yf_events.specs.declared.event.Span.{Span}
-use Rattle.yf_events.specs.Tree.{Node, scalar, alias, sequence, mapping, Items, no_items, item, Pairs, no_pairs, pair}
+use Rattle.yf_events.specs.Tree.{Node, Standing, scalar, alias, sequence, mapping, Items, no_items, item, Pairs, no_pairs, pair}
 use Rattle.yf_emit.specs.Kept.{has_comment, items_may_be_kept, may_be_kept, pairs_may_be_kept, scalar_may_be_kept}
 use Rattle.yf_emit.specs.Measuring.{setting}
 use Rattle.yf_emit.specs.Normal.{Setting, Spot, fits, inner_spot, key_spot, settled, settled_items, settled_pairs, styled, styled_items, styled_pairs, value_spot}
-use Rattle.yf_emit.specs.Wanted.{style_in, wanted}
+use Rattle.yf_emit.specs.Wanted.{lines_in, style_in, wanted}
 use Rattle.yf_emit.proofs.OneLineRuns.{kept_items, kept_more_pairs, kept_pairs}
-use Rattle.yf_emit.proofs.WantedLemmas.{wanted_stays}
+use Rattle.yf_emit.proofs.WantedLemmas.{lines_stay, wanted_stays}
 
 no_comment : (t : List ℕ) (o : Option Span) (props : PropsValue) → has_comment t [] o props ≡ false
 no_comment t None props = refl
@@ -69,9 +69,16 @@ mutual
       let parts = kept_more_pairs t c x y ps k in
       rw (still_kept t c x parts.0, still_kept t c y parts.1, pairs_still_kept t c ps parts.2) refl
 
+scalar_house : (t : List ℕ) (c : Setting) (at : Standing) (props : PropsValue) (style : ScalarStyle) (text : List ℕ) (lines : List (List ℕ))
+    → House c (styled t c (scalar at props style text lines))
+scalar_house t c at props style text lines =
+    let w : ScalarStyle = wanted style text c.style.quotes in
+    ap (λ s. scalar at props s text (lines_in s (lines_in w lines))) (wanted_stays style text c.style.quotes)
+    ∙ ap (λ l. scalar at props w text l) (lines_stay w lines)
+
 mutual
   pub kept_house : (t : List ℕ) (c : Setting) (x : Node) → may_be_kept t c.comments x ≡ true → House c (styled t c x)
-  kept_house t c (scalar at props style text lines) k = ap (λ w. scalar at props w text lines) (wanted_stays style text c.style.quotes)
+  kept_house t c (scalar at props style text lines) k = scalar_house t c at props style text lines
   kept_house t c (alias at name) k = refl
   kept_house t c (sequence at flow props no_items) k = refl
   kept_house t c (sequence at flow props (item x xs)) k =
@@ -111,7 +118,7 @@ either c false f x y h k = k
 
 mutual
   pub normal_house : (t : List ℕ) (c : Setting) (spot : Spot) (x : Node) → House c (settled c spot (styled t c x))
-  normal_house t c spot (scalar at props style text lines) = ap (λ w. scalar at props w text lines) (wanted_stays style text c.style.quotes)
+  normal_house t c spot (scalar at props style text lines) = scalar_house t c at props style text lines
   normal_house t c spot (alias at name) = refl
   normal_house t c spot (sequence at flow props no_items) = refl
   normal_house t c spot (sequence at flow props (item x xs)) =
