@@ -6,7 +6,7 @@ use crate::context::Ctx;
 
 /// A printable character (c-printable, production 1).
 #[tactic(auto, unfolding(crate::specs::Class::is_printable, crate::specs::Class::is_between))]
-#[inline]
+#[inline(always)]
 pub fn is_printable(c: char) -> bool
     ensures { result ≡ Class.is_printable c }
 {
@@ -15,7 +15,7 @@ pub fn is_printable(c: char) -> bool
 
 /// A character that a quoted scalar may hold as itself (nb-json, production 2): a tab or anything from a space on.
 #[tactic(auto, unfolding(crate::specs::Class::is_nb_json, crate::specs::Class::is_between))]
-#[inline]
+#[inline(always)]
 pub fn is_nb_json(c: char) -> bool
     ensures { result ≡ Class.is_nb_json c }
 {
@@ -24,7 +24,7 @@ pub fn is_nb_json(c: char) -> bool
 
 /// A character of a line break (b-char, production 26): line feed or carriage return.
 #[tactic(auto, unfolding(crate::specs::Class::is_break_char))]
-#[inline]
+#[inline(always)]
 pub fn is_break_char(c: char) -> bool
     ensures { result ≡ Class.is_break_char c }
 {
@@ -33,7 +33,7 @@ pub fn is_break_char(c: char) -> bool
 
 /// A printable character that is no line break and no byte order mark (nb-char, production 27).
 #[tactic(auto, unfolding(crate::specs::Class::is_nb_char, crate::specs::Class::is_printable, crate::specs::Class::is_between, crate::specs::Class::is_break_char))]
-#[inline]
+#[inline(always)]
 pub fn is_nb_char(c: char) -> bool
     ensures { result ≡ Class.is_nb_char c }
 {
@@ -48,7 +48,7 @@ pub fn is_nb_char(c: char) -> bool
 
 /// A white: space or tab (s-white, production 33).
 #[tactic(auto, unfolding(crate::specs::Class::is_white))]
-#[inline]
+#[inline(always)]
 pub fn is_white(c: char) -> bool
     ensures { result ≡ Class.is_white c }
 {
@@ -57,7 +57,7 @@ pub fn is_white(c: char) -> bool
 
 /// A character of content that is no white space (ns-char, production 34).
 #[tactic(auto, unfolding(crate::specs::Class::is_ns_char, crate::specs::Class::is_nb_char, crate::specs::Class::is_printable, crate::specs::Class::is_between, crate::specs::Class::is_break_char, crate::specs::Class::is_white))]
-#[inline]
+#[inline(always)]
 pub fn is_ns_char(c: char) -> bool
     ensures { result ≡ Class.is_ns_char c }
 {
@@ -69,7 +69,7 @@ pub fn is_ns_char(c: char) -> bool
 
 /// One of `,` `[` `]` `{` `}` (c-flow-indicator, production 23).
 #[tactic(auto, unfolding(crate::specs::Class::is_flow_indicator))]
-#[inline]
+#[inline(always)]
 pub fn is_flow_indicator(c: char) -> bool
     ensures { result ≡ Class.is_flow_indicator c }
 {
@@ -78,7 +78,7 @@ pub fn is_flow_indicator(c: char) -> bool
 
 /// An indicator (c-indicator, production 22).
 #[tactic(auto, unfolding(crate::specs::Class::is_indicator))]
-#[inline]
+#[inline(always)]
 pub fn is_indicator(c: char) -> bool
     ensures { result ≡ Class.is_indicator c }
 {
@@ -178,7 +178,7 @@ pub fn is_anchor_char(c: char) -> bool
 ///
 /// In the two block contexts there is none, since plain scalars are read in flow and key contexts alone.
 #[tactic(auto, unfolding(crate::specs::Class::is_plain_safe))]
-#[inline]
+#[inline(always)]
 pub fn is_plain_safe(c: char, ctx: Ctx) -> bool
     ensures { result ≡ Class.is_plain_safe c ctx }
 {

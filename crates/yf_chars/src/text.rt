@@ -6,7 +6,7 @@ ghost use Rattle.yf_chars.specs.Text.{code, before, no_char, Reads};
 /// The character that begins at the byte offset, and the offset after it; `None` at the end of the text.
 ///
 /// ASCII takes one test and no decoding.
-#[inline]
+#[inline(always)]
 pub fn peek(s: &str, at: usize) -> Option<(char, usize)>
     requires { IsCharBoundary s.now at }
     ensures { MatchOption result ((code s.now at ≡ no_char) × (at ≡ length s.now)) (λ p. Reads s.now at p.0 p.1) }
@@ -26,7 +26,7 @@ pub fn peek(s: &str, at: usize) -> Option<(char, usize)>
 }
 
 /// Whether that ASCII character begins at the byte offset.
-#[inline]
+#[inline(always)]
 pub fn stands(s: &str, at: usize, byte: u8) -> bool
     requires { byte < 128 }
     ensures value { result ≡ (code s.now at == byte) }

@@ -45,6 +45,7 @@ impl<'a> Events<'a> {
     }
 
     /// Adds an event at the end.
+    #[inline(always)]
     pub fn push(&mut self, event: PlacedEvent<'a>) -> Result<(), AllocError>
         ensures { self.new ≡ (if is_ok result then self.old ++ placed_value event.entry ∷ [] else self.old) }
     {
@@ -53,7 +54,7 @@ impl<'a> Events<'a> {
         Ok(())
     }
 
-    #[inline]
+    #[inline(always)]
     pub fn len(&self) -> usize
         ensures { result ≡ length self.now }
     {
@@ -61,7 +62,7 @@ impl<'a> Events<'a> {
     }
 
     /// The event at an index, with where it stands.
-    #[inline]
+    #[inline(always)]
     pub fn at(&self, i: usize) -> View<'_>
         requires { i < length self.now }
         ensures { slice_get self.now i ≡ Some (view_value result) }
@@ -71,7 +72,7 @@ impl<'a> Events<'a> {
     }
 
     /// The event at an index.
-    #[inline]
+    #[inline(always)]
     pub fn event(&self, i: usize) -> Event<'_>
         requires { i < length self.now }
         ensures { slice_get (map (λ e. e.event) self.now) i ≡ Some (event_value result) }
@@ -81,6 +82,7 @@ impl<'a> Events<'a> {
     }
 
     /// The tag of the node that the event at an index begins, as it is written.
+    #[inline(always)]
     pub fn tag(&self, i: usize) -> Option<Tag<'a>>
         requires { i < length self.now }
         ensures { slice_get (map (λ e. written_tag e.event) self.now) i ≡ Some (optional_tag_value result) }
@@ -90,7 +92,7 @@ impl<'a> Events<'a> {
     }
 
     /// The part of the text that the event at an index has.
-    #[inline]
+    #[inline(always)]
     pub fn span(&self, i: usize) -> Option<Span>
         requires { i < length self.now }
         ensures { slice_get (map (λ e. e.span) self.now) i ≡ Some result }
@@ -99,7 +101,7 @@ impl<'a> Events<'a> {
     }
 
     /// The entry that the event at an index begins.
-    #[inline]
+    #[inline(always)]
     pub fn entry(&self, i: usize) -> Option<Entry>
         requires { i < length self.now }
         ensures { slice_get (map (λ e. e.entry) self.now) i ≡ Some result }
@@ -108,7 +110,7 @@ impl<'a> Events<'a> {
     }
 
     /// The lines of the scalar at an index, where it was read as a folded one; else none.
-    #[inline]
+    #[inline(always)]
     pub fn folded(&self, i: usize) -> &[&str]
         requires { i < length self.now }
         ensures { slice_get (map (λ e. e.folded) self.now) i ≡ Some (map (λ line. line.now) result.now) }

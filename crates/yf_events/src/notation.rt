@@ -3,7 +3,7 @@ ghost use Rattle.std.specs.Prelude.{◌≡◌, ◌<◌, length, slice_get, Some}
 ghost use Rattle.std.specs.List.{flat_map};
 ghost use Rattle.yf_events.specs.Event.{event_value};
 ghost use Rattle.yf_events.specs.Notation as Notation;
-ghost use Rattle.yf_events.specs.Pieces.{piece_bytes};
+ghost use Rattle.yf_events.specs.Pieces.{bare_head, bare_line, piece_bytes, start_line};
 ghost use Rattle.yf_lines.specs.Output.{Writes};
 ghost use Rattle.yf_props.specs.Props.{name_value};
 
@@ -99,6 +99,51 @@ fn part_if<'s>(stands: bool, part: &'s str) -> &'s str
     if stands { part } else { "" }
 }
 
+// What the line of a scalar without properties begins with.
+fn bare_head(style: ScalarStyle) -> &'static str
+    ensures { result.now ≡ bare_head style }
+{
+    match style {
+        ScalarStyle::Plain => "=VAL :",
+        ScalarStyle::Single => "=VAL '",
+        ScalarStyle::Double => "=VAL \"",
+        ScalarStyle::Literal => "=VAL |",
+        ScalarStyle::Folded => "=VAL >",
+    }
+}
+
+// Writes the line of a scalar without properties, as most are, by three writes.
+fn write_bare_scalar<W: Sink>(writer: &mut W, style: ScalarStyle, text: &str) -> Result<(), Fault>
+    ensures { Writes (W.contents writer.old) (W.contents writer.new) (W.has_failed writer.old) (W.has_failed writer.new) (bare_line style text.now) result }
+{
+    write_text(writer, bare_head(style).as_bytes())?;
+    write_escaped(writer, text)?;
+    write_text(writer, b"\n")
+}
+
+// Writes the line of the start of a collection.
+fn write_start<'x, W: Sink>(
+    writer: &mut W,
+    name: &'x str,
+    anchor: Option<&'x str>,
+    tag: Option<&'x ResolvedTag<'x>>,
+) -> Result<(), Fault>
+    ensures { Writes (W.contents writer.old) (W.contents writer.new) (W.has_failed writer.old) (W.has_failed writer.new) (start_line name.now (name_value anchor.entry) (name_value tag.entry)) result }
+{
+    match (anchor, tag) {
+        (None, None) => write_texts(writer, &[name, "\n"]),
+        (anchor, tag) => write_pieces(
+            writer,
+            &[
+                Piece::Plain(name),
+                Piece::Anchor(anchor),
+                Piece::Tag(tag),
+                Piece::Plain("\n"),
+            ],
+        ),
+    }
+}
+
 /// Writes the line of an event, with the resolved tag of the node that it begins.
 #[tactic(auto, unfolding(crate::specs::Notation::event_line))]
 fn write_event<'x, W: Sink>(
@@ -120,48 +165,33 @@ fn write_event<'x, W: Sink>(
             &["-DOC", part_if(explicit, " ..."), "\n"],
         ),
         Event::SeqStart { flow, props } => {
-            let brackets = part_if(flow, " []");
-            write_pieces(
-                writer,
-                &[
-                    Piece::Plain("+SEQ"),
-                    Piece::Plain(brackets),
-                    Piece::Anchor(props.anchor),
-                    Piece::Tag(tag),
-                    Piece::Plain("\n"),
-                ],
-            )
+            let name = if flow { "+SEQ []" } else { "+SEQ" };
+            write_start(writer, name, props.anchor, tag)
         }
         Event::SeqEnd => write_text(writer, b"-SEQ\n"),
         Event::MapStart { flow, props } => {
-            let brackets = part_if(flow, " {}");
-            write_pieces(
-                writer,
-                &[
-                    Piece::Plain("+MAP"),
-                    Piece::Plain(brackets),
-                    Piece::Anchor(props.anchor),
-                    Piece::Tag(tag),
-                    Piece::Plain("\n"),
-                ],
-            )
+            let name = if flow { "+MAP {}" } else { "+MAP" };
+            write_start(writer, name, props.anchor, tag)
         }
         Event::MapEnd => write_text(writer, b"-MAP\n"),
-        Event::Scalar { props, style, text } => {
-            let sign = style_sign(style);
-            write_pieces(
-                writer,
-                &[
-                    Piece::Plain("=VAL"),
-                    Piece::Anchor(props.anchor),
-                    Piece::Tag(tag),
-                    Piece::Plain(" "),
-                    Piece::Plain(sign),
-                    Piece::Escaped(text),
-                    Piece::Plain("\n"),
-                ],
-            )
-        }
+        Event::Scalar { props, style, text } => match (props.anchor, tag) {
+            (None, None) => write_bare_scalar(writer, style, text),
+            (anchor, tag) => {
+                let sign = style_sign(style);
+                write_pieces(
+                    writer,
+                    &[
+                        Piece::Plain("=VAL"),
+                        Piece::Anchor(anchor),
+                        Piece::Tag(tag),
+                        Piece::Plain(" "),
+                        Piece::Plain(sign),
+                        Piece::Escaped(text),
+                        Piece::Plain("\n"),
+                    ],
+                )
+            }
+        },
         Event::Alias { name } => write_texts(writer, &["=ALI *", name, "\n"]),
     }
 }

@@ -82,7 +82,7 @@ pub fn keyed(begins: Begins) -> Begins
 }
 
 /// What the table has at a number.
-#[inline]
+#[inline(always)]
 pub fn more_in<'r, 'a>(list: &'r [More<'a>], number: u32) -> Option<&'r More<'a>>
     ensures { more_value result ≡ more_at list.now number }
 {
@@ -93,7 +93,7 @@ pub fn more_in<'r, 'a>(list: &'r [More<'a>], number: u32) -> Option<&'r More<'a>
 }
 
 /// The event of a row.
-#[inline]
+#[inline(always)]
 pub fn event_of<'r>(row: &'r PackedRow<'r>, more: Option<&'r More<'r>>) -> Event<'r>
     ensures { event_value result ≡ shape_value row.now.shape (props_in (more_value more.entry)) (text_in (more_value more.entry) row.now.text.now) }
 {
@@ -121,7 +121,7 @@ pub fn event_of<'r>(row: &'r PackedRow<'r>, more: Option<&'r More<'r>>) -> Event
     }
 }
 
-#[inline]
+#[inline(always)]
 fn text_of<'r>(row: &'r PackedRow<'r>, more: Option<&'r More<'r>>) -> &'r str
     ensures { result.now ≡ text_in (more_value more.entry) row.now.text.now }
 {
@@ -135,7 +135,7 @@ fn text_of<'r>(row: &'r PackedRow<'r>, more: Option<&'r More<'r>>) -> &'r str
 }
 
 /// The part of the text that a row has.
-#[inline]
+#[inline(always)]
 pub fn span_of(row: &PackedRow) -> Option<Span>
     ensures { result ≡ span_at row.now.placed row.now.start row.now.end }
 {
@@ -149,7 +149,7 @@ pub fn span_of(row: &PackedRow) -> Option<Span>
 }
 
 /// The entry that a row begins.
-#[inline]
+#[inline(always)]
 pub fn entry_of(row: &PackedRow) -> Option<Entry>
     ensures { result ≡ entry_at row.now.begins row.now.entry row.now.colon }
 {
@@ -169,6 +169,7 @@ pub fn entry_of(row: &PackedRow) -> Option<Entry>
 }
 
 /// The tag of the node that a row begins, as it is written.
+#[inline(always)]
 pub fn tag_of<'a>(row: &PackedRow<'a>, more: Option<&More<'a>>) -> Option<Tag<'a>>
     ensures { optional_tag_value result ≡ written_tag (shape_value row.now.shape (props_in (more_value more.entry)) (text_in (more_value more.entry) row.now.text.now)) }
 {
@@ -188,7 +189,7 @@ pub fn tag_of<'a>(row: &PackedRow<'a>, more: Option<&More<'a>>) -> Option<Tag<'a
 }
 
 /// Where the tag begins.
-#[inline]
+#[inline(always)]
 pub fn tag_offset_of(more: Option<&More>) -> Option<usize>
     ensures { result ≡ Packed.tag_offset_in (more_value more.entry) }
 {
@@ -199,7 +200,7 @@ pub fn tag_offset_of(more: Option<&More>) -> Option<usize>
 }
 
 /// The lines of a folded scalar.
-#[inline]
+#[inline(always)]
 pub fn folded_of<'r>(more: Option<&'r More<'r>>) -> &'r [&'r str]
     ensures { map (λ line. line.now) result.now ≡ folded_in (more_value more.entry) }
 {
@@ -210,7 +211,7 @@ pub fn folded_of<'r>(more: Option<&'r More<'r>>) -> &'r [&'r str]
 }
 
 /// The event of a row, with where it stands.
-#[inline]
+#[inline(always)]
 pub fn view_of<'r>(row: &'r PackedRow<'r>, more: Option<&'r More<'r>>) -> View<'r>
     ensures { view_value result ≡ row_with row.now (more_value more.entry) }
 {

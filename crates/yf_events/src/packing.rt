@@ -36,6 +36,7 @@ pub struct Beginning {
 }
 
 /// The number in 32 bits. One that has no room there is refused as a growth of memory is: a stream has at most 2^30 bytes.
+#[inline(always)]
 pub fn narrow(offset: usize) -> Result<u32, AllocError>
     ensures { IfOk result (λ n. n ≡ offset) }
 {
@@ -45,6 +46,7 @@ pub fn narrow(offset: usize) -> Result<u32, AllocError>
     Err(AllocError)
 }
 
+#[inline(always)]
 fn narrow_span(span: Option<Span>) -> Result<Stretch, AllocError>
     ensures { IfOk result (λ s. span_at s.placed s.start s.end ≡ span) }
 {
@@ -67,6 +69,7 @@ fn narrow_span(span: Option<Span>) -> Result<Stretch, AllocError>
 }
 
 /// What a row keeps of the entry that an event begins.
+#[inline(always)]
 pub fn narrow_entry(entry: Option<Entry>) -> Result<Beginning, AllocError>
     ensures { IfOk result (λ b. entry_at b.begins b.start b.colon ≡ entry) }
 {
@@ -109,6 +112,7 @@ pub fn narrow_entry(entry: Option<Entry>) -> Result<Beginning, AllocError>
     }
 }
 
+#[inline(always)]
 fn bare<'a>(shape: Shape) -> Taken<'a>
     ensures { shape_value result.shape (props_value result.props) (text_or result.part.now result.owned) ≡ shape_value shape no_props [] }
 {
@@ -120,6 +124,7 @@ fn bare<'a>(shape: Shape) -> Taken<'a>
     }
 }
 
+#[inline(always)]
 fn scalar_taken<'a>(props: Props<'a>, style: ScalarStyle, text: Text<'a>) -> Taken<'a>
     ensures { shape_value result.shape (props_value result.props) (text_or result.part.now result.owned) ≡ scalar_node (props_value props.entry) style (text_bytes text.entry) }
 {
@@ -140,6 +145,7 @@ fn scalar_taken<'a>(props: Props<'a>, style: ScalarStyle, text: Text<'a>) -> Tak
     }
 }
 
+#[inline(always)]
 fn taken_apart<'a>(event: NewEvent<'a>) -> Taken<'a>
     ensures { shape_value result.shape (props_value result.props) (text_or result.part.now result.owned) ≡ new_event_value event.entry }
 {
@@ -173,6 +179,7 @@ fn taken_apart<'a>(event: NewEvent<'a>) -> Taken<'a>
 }
 
 /// Whether a row can do without it.
+#[inline(always)]
 fn lacks(more: &More) -> bool
     ensures { MatchBool result (Lacks more.now) (Unit {0}) }
 {
@@ -192,6 +199,7 @@ fn lacks(more: &More) -> bool
 }
 
 /// Puts it into the table if a row can't do without it, and answers its number.
+#[inline(always)]
 fn kept<'a>(list: &mut Vec<More<'a>>, more: More<'a>) -> Result<u32, AllocError>
     ensures grown { Grown list.old.items list.new.items }
     ensures kept { IfOk result (λ number. Kept list.new.items number more.entry) }
@@ -205,6 +213,7 @@ fn kept<'a>(list: &mut Vec<More<'a>>, more: More<'a>) -> Result<u32, AllocError>
 }
 
 /// The row of an event, whose properties and the like are put into the table.
+#[inline(always)]
 pub fn row_of<'a>(
     list: &mut Vec<More<'a>>,
     event: PlacedEvent<'a>,

@@ -65,7 +65,7 @@ impl<'a> Reading<'a> {
     }
 
     /// The lists that the reading was made of.
-    #[inline]
+    #[inline(always)]
     pub fn lists(&self) -> &Lists<'a>
         ensures same { result.now ≡ self.now }
         ensures fit { Fits self.now }
@@ -75,7 +75,7 @@ impl<'a> Reading<'a> {
     }
 
     /// How many events there are, `StreamStart` and `StreamEnd` counted.
-    #[inline]
+    #[inline(always)]
     pub fn len(&self) -> usize
         ensures { result ≡ length self.now.events }
     {
@@ -83,7 +83,7 @@ impl<'a> Reading<'a> {
     }
 
     /// The event at an index; `StreamStart` is event 0.
-    #[inline]
+    #[inline(always)]
     pub fn event(&self, i: usize) -> Event<'_>
         requires { i < length self.now.events }
         ensures { slice_get (events_of self.now) i ≡ Some (event_value result) }
@@ -92,7 +92,7 @@ impl<'a> Reading<'a> {
     }
 
     /// The part of the text that the node has which the event begins, with its properties. An empty node has none.
-    #[inline]
+    #[inline(always)]
     pub fn span(&self, i: usize) -> Option<Span>
         requires { i < length self.now.events }
         ensures { slice_get (spans_of self.now) i ≡ Some result }
@@ -101,7 +101,7 @@ impl<'a> Reading<'a> {
     }
 
     /// The entry that the event begins, as its item or key.
-    #[inline]
+    #[inline(always)]
     pub fn entry(&self, i: usize) -> Option<Entry>
         requires { i < length self.now.events }
         ensures { slice_get (entries_of self.now) i ≡ Some result }
@@ -118,7 +118,7 @@ impl<'a> Reading<'a> {
     }
 
     /// The resolved tag of the node that the event begins, where one is written.
-    #[inline]
+    #[inline(always)]
     pub fn resolved(&self, i: usize) -> Option<&ResolvedTag<'a>>
         requires { i < length self.now.events }
         ensures { slice_get self.now.resolved i ≡ Some (name_value result) }

@@ -202,7 +202,7 @@ pub fn read_plain_line(s: &str, at: usize, ctx: Ctx) -> Option<usize>
 }
 
 // The characters of a plain scalar after one of them, on the same line (nb-ns-plain-in-line(c), production 132).
-#[inline]
+#[inline(always)]
 fn plain_in_line(s: &str, at: usize, ctx: Ctx) -> usize
     requires boundary { IsCharBoundary s.now at }
     requires behind { Class.is_ns_char (before s.now at) ≡ true }
@@ -221,7 +221,7 @@ fn plain_in_line(s: &str, at: usize, ctx: Ctx) -> usize
 }
 
 // White space and one character after them: the offset after it.
-#[inline]
+#[inline(always)]
 fn plain_item(s: &str, at: usize, ctx: Ctx) -> Option<usize>
     requires boundary { IsCharBoundary s.now at }
     requires behind { Class.is_ns_char (before s.now at) ≡ true }
@@ -239,7 +239,7 @@ fn plain_item(s: &str, at: usize, ctx: Ctx) -> Option<usize>
 
 // The offset after the character that begins there, where it may stand in a plain scalar (ns-plain-char(c), production
 // 130); `after_char` tells whether a character of content stands before it.
-#[inline]
+#[inline(always)]
 fn plain_char(s: &str, at: usize, ctx: Ctx, after_char: bool) -> Option<usize>
     requires boundary { IsCharBoundary s.now at }
     requires look_behind { Class.is_ns_char (before s.now at) ≡ after_char }

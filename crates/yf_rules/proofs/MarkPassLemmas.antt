@@ -1,14 +1,17 @@
 -- Laws of a pass over byte order marks and the parts of the text that scalars have.
-use Rattle.std.proofs.Common.{◌≡◌, ℕ, ◌+◌, ◌<◌, ◌≤◌, List, Option, Some, None, length, max, refl, sym, subst, ap, ◌∙◌, inl, inr, ⊎_elim, arith}
+use Rattle.std.proofs.Common.{◌≡◌, ◌≢◌, ℕ, ◌+◌, ◌<◌, ◌≤◌, Bool, true, false, List, [], Option, Some, None, length, max, refl, sym, subst, ap, ◌∙◌, inl, inr, ⊎_elim, arith, get_or, eqb, MatchBool}
 use Rattle.std.specs.Borrow.{Bor}
 use Rattle.std.specs.Prelude.{slice_get}
 use Rattle.std.specs.List.Sorted.{IsNonDecreasingBy, IsPermutation}
-use Rattle.std.proofs.lemmas.Bool.{cases_lt}
+use Rattle.std.proofs.lemmas.Bool.{cases_lt, false≢true}
 use Rattle.std.proofs.lemmas.List.{length-map}
 use Rattle.std.proofs.lemmas.List.Sorted.{Contains-permutation, IsPermutation-sym}
 use Rattle.std.proofs.lemmas.Option.{slice_get_within, slice_get-get_or, get_or_from_slice_get}
 use Rattle.yf_chars.specs.Text.{code}
-use Rattle.yf_chars.proofs.TextLemmas.{within_from_code}
+use Rattle.std.specs.List.{list_any}
+use Rattle.std.specs.Str.{IsUtf8}
+use Rattle.std.proofs.lemmas.List.Folds.{list_any_at}
+use Rattle.yf_chars.proofs.TextLemmas.{bytes_from_mark, within_from_code}
 use Rattle.yf_events.specs.Event.{event_value, scalar_node}
 use Rattle.yf_events.specs.declared.event.Event.{Event}
 use Rattle.yf_events.specs.declared.event.Event.TheVariants.{Scalar}
@@ -21,6 +24,7 @@ use Rattle.yf_events.specs.declared.lists.Lists.{Lists}
 use Rattle.yf_rules.specs.Cover.{Covers, AllBegin, NoneBegins, IsBeyond}
 use Rattle.yf_rules.specs.Cover.IsBeyond.{is_beyond}
 use Rattle.yf_rules.specs.Exact.{Exactly, Sole, Answers}
+use Rattle.yf_rules.proofs.ExactLemmas.{none_yet}
 use Rattle.yf_rules.specs.Scalars.{ScalarSpan, IsWithin, LooseMark}
 use Rattle.yf_rules.specs.Scalars.ScalarSpan.{of_scalar}
 use Rattle.yf_rules.specs.Scalars.LooseMark.{in_no_scalar}
@@ -154,3 +158,21 @@ pub span_answers : (r : Lists) (i : ℕ) (props : PropsValue) (style : ScalarSty
     → slice_get (events_of r) i ≡ Some (scalar_node props style text) → slice_get (spans_of r) i ≡ Some o → Answers (ScalarSpan r i) o
 span_answers r i props style text None e p = λ x h. span_none p h
 span_answers r i props style text (Some s) e p = record { holds = of_scalar (record { event = e; part = p }); only = λ x h. span_sole p h }
+
+-- a text without the first byte of a mark has no mark
+pub no_mark : (t : List ℕ) (b : Bool) → IsUtf8 t → b ≡ list_any (λ y. eqb y 239) t → MatchBool b (Unit {0}) ((k : ℕ) → code t k ≢ 0xFEFF)
+no_mark t true u e = tt
+no_mark t false u e = λ k h.
+    let marked = bytes_from_mark t k u h in
+    false≢true (e ∙ list_any_at (λ y. eqb y 239) t k 0 (omega (arith, marked.0)) (ap (λ y. eqb y 239) marked.1))
+
+-- and so no mark outside of scalars
+pub no_loose_mark : (t : List ℕ) (r : Lists) (xs : List ℕ) → xs ≡ [] → ((k : ℕ) → code t k ≢ 0xFEFF) → Exactly (LooseMark t r) xs
+no_loose_mark t r xs e none =
+    let empty = none_yet (LooseMark t r) xs e in
+    record {
+      only = λ x c. let found = empty.only x c in (found.0, found.2);
+      all = λ k x p. absurd (never k x p);
+    } where
+      never : (k x : ℕ) → LooseMark t r k x → ⊥
+      never k _ (in_no_scalar h f) = none k h

@@ -1,6 +1,7 @@
 //! Rule 7, byte-order-mark.
-ghost use Rattle.std.specs.Prelude.{◌<◌, length, IfOk};
+ghost use Rattle.std.specs.Prelude.{◌<◌, ◌≢◌, ℕ, length, IfOk, MatchBool};
 ghost use Rattle.std.specs.List.Sorted.{IsNonDecreasingBy};
+ghost use Rattle.yf_chars.specs.Text.{code};
 ghost use Rattle.yf_rules.specs.Cover.{AllBegin, Covers, IsBeyond, NoneBegins};
 ghost use Rattle.yf_rules.specs.Exact.{Answers, Exactly};
 ghost use Rattle.yf_rules.specs.Scalars.{ScalarSpan};
@@ -133,6 +134,13 @@ fn loose_mark(text: &str, reach: usize, offset: usize) -> Option<usize>
     None
 }
 
+// Whether the text has a byte with which a mark begins; few texts have one.
+fn has_first_byte(text: &str) -> bool
+    ensures { MatchBool result (Unit {0}) ((k : ℕ) → code text.now k ≢ 0xFEFF) }
+{
+    text.as_bytes().contains(&0xEF)
+}
+
 fn offsets(
     alloc: Global,
     src: &Src,
@@ -142,8 +150,11 @@ fn offsets(
     ensures { IfOk result (λ offsets. byte_order_mark_at src.now reading.now style.now offsets.items) }
 {
     let text = src.text();
-    let spans = sorted_spans(alloc, reading)?;
     let mut offsets = Vec::new(alloc);
+    if !has_first_byte(text) {
+        return Ok(offsets);
+    }
+    let spans = sorted_spans(alloc, reading)?;
     let mut cover = Cover { count: 0, reach: 0 };
     for i in 0..text.len() {
         cover = cover_to(spans.as_slice(), cover, i);

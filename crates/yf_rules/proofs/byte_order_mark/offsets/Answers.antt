@@ -1,9 +1,10 @@
-use Rattle.std.proofs.Common.{◌+◌, ◌∙◌, ap, subst, length, arith}
+use Rattle.std.proofs.Common.{ℕ, ◌+◌, ◌≢◌, ◌∙◌, ap, subst, length, arith}
+use Rattle.yf_chars.specs.Text.{code}
 use Rattle.yf_rules.specs.Cover.{Covers, AllBegin, NoneBegins, IsBeyond}
 use Rattle.yf_rules.specs.Exact.{Exactly, Sole}
 use Rattle.yf_rules.specs.Scalars.{LooseMark, ScalarSpan}
 use Rattle.yf_rules.proofs.ExactLemmas.{none_yet, one_found, none_found, all_found_upto}
-use Rattle.yf_rules.proofs.MarkPassLemmas.{begin_later, begin_none, covers_none, mark_found, mark_not_found, mark_text}
+use Rattle.yf_rules.proofs.MarkPassLemmas.{begin_later, begin_none, covers_none, mark_found, mark_not_found, mark_text, no_loose_mark}
 use Rattle.yf_rules.proofs.byte_order_mark.offsets.Goals as goal
 use Rattle.yf_rules.proofs.byte_order_mark.offsets.Goals.{in-Some+in_ok-push-in-Some, in-None}
 
@@ -45,3 +46,7 @@ pub returns : goal.returns
 returns c =
     all_found_upto _ _ c.loop-i.i c.loop-i.offsets.items c.loop-i.invariant.marks (λ k x l p. p)
     (λ k x p. (let h = mark_text p in omega (arith, h, ap length c.text-text.ensures, c.loop-i-test.false), p))
+
+pub returns-then-not-has_first_byte : goal.returns-then-not-has_first_byte
+returns-then-not-has_first_byte c =
+    no_loose_mark _ _ _ c.new-offsets.ensures.items (subst (λ v. (k : ℕ) → code v k ≢ 0xFEFF) c.text-text.ensures (rw c.if-not-has_first_byte.true at c.has_first_byte.ensures))
