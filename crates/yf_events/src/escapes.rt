@@ -1,5 +1,6 @@
 //! Texts with escapes, as the notation of events spells them.
 ghost use Rattle.std.specs.Prelude.{◌≡◌, ◌/◌, ◌%◌, ◌<◌, ◌≤◌, ℕ, true, false, [], ◌∷◌, length, slice_index};
+ghost use Rattle.yf_chars.specs.Signs.{BACKSLASH};
 ghost use Rattle.yf_events.specs.Notation as Notation;
 ghost use Rattle.yf_lines.specs.Output.{Writes};
 
@@ -58,7 +59,7 @@ fn write_escape<W: Sink>(writer: &mut W, byte: u8) -> Result<(), Fault>
 }
 
 fn write_hex<W: Sink>(writer: &mut W, byte: u8) -> Result<(), Fault>
-    ensures { Writes (W.contents writer.old) (W.contents writer.new) (W.has_failed writer.old) (W.has_failed writer.new) (92 ∷ 120 ∷ Notation.hex_digit (byte / 16) ∷ Notation.hex_digit (byte % 16) ∷ []) result }
+    ensures { Writes (W.contents writer.old) (W.contents writer.new) (W.has_failed writer.old) (W.has_failed writer.new) (BACKSLASH ∷ 120 ∷ Notation.hex_digit (byte / 16) ∷ Notation.hex_digit (byte % 16) ∷ []) result }
 {
     let spelled = [b'\\', b'x', hex_digit(byte / 16), hex_digit(byte % 16)];
     write_text(writer, &spelled)

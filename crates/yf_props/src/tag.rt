@@ -1,6 +1,7 @@
 //! Tags (YAML 1.2.2, section 6.9.1).
 ghost use Rattle.std.specs.Prelude.{◌≡◌, ◌+◌, ◌<◌, ◌≤◌, ℕ, List, true, false, IfSome, MatchOption};
 ghost use Rattle.std.specs.Str.{IsCharBoundary};
+ghost use Rattle.yf_chars.specs.Signs.{EXCLAMATION};
 ghost use Rattle.yf_chars.specs.Chain.{Chain, Chosen, Stuck, Many};
 ghost use Rattle.yf_chars.specs.Class.{is_hex_digit, is_word_char};
 ghost use Rattle.yf_chars.specs.Text.{code, Reads};
@@ -176,7 +177,7 @@ fn verbatim<'a>(s: &'a str, at: usize) -> Option<TagPart<'a>>
 
 // Reads a shorthand tag whose handle is not the lone `!`.
 fn long_shorthand<'a>(s: &'a str, at: usize) -> Option<TagPart<'a>>
-    requires { Reads s.now at 33 (at + 1) }
+    requires { Reads s.now at EXCLAMATION (at + 1) }
     ensures reads { MatchOption result ((h j : ℕ) → Handle s.now at h → at + 1 < h → Run (TagChar s.now) h j → ⊥) (λ p. Chosen (ShorthandTag s.now at) p.end (tag_value p.tag)) }
     ensures boundary { IfSome result (λ p. IsCharBoundary s.now p.end) }
 {
@@ -198,7 +199,7 @@ fn long_shorthand<'a>(s: &'a str, at: usize) -> Option<TagPart<'a>>
 
 // Reads a shorthand tag (c-ns-shorthand-tag, production 99), with the longest handle that a suffix follows.
 fn shorthand<'a>(s: &'a str, at: usize) -> Option<TagPart<'a>>
-    requires { Reads s.now at 33 (at + 1) }
+    requires { Reads s.now at EXCLAMATION (at + 1) }
     ensures reads { MatchOption result (Stuck (ShorthandTag s.now at) × Stuck (TagChar s.now (at + 1))) (λ p. Chosen (ShorthandTag s.now at) p.end (tag_value p.tag)) }
     ensures boundary { IfSome result (λ p. IsCharBoundary s.now p.end) }
 {

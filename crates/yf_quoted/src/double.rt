@@ -2,6 +2,7 @@
 ghost use Rattle.std.specs.Prelude.{◌≡◌, ◌<◌, ◌≤◌, ◌++◌, ◌+◌, ◌∷◌, [], ℕ, Bool, true, false, List, IfSome, IfOk, IfErr, MatchOption, length, encode_utf8_all};
 ghost use Rattle.std.specs.List.{All};
 ghost use Rattle.std.specs.Str.{IsCharBoundary};
+ghost use Rattle.yf_chars.specs.Signs.{DOUBLE_QUOTE};
 ghost use Rattle.yf_lines.specs.Basic.{Clear};
 ghost use Rattle.yf_lines.specs.FaultPlaces.{IsFirstPlace};
 ghost use Rattle.yf_lines.specs.Text.{text_bytes};
@@ -135,7 +136,7 @@ fn simple_end(s: &str, at: usize) -> Option<usize>
     ensures reads { IfSome result (λ j. (x : List ℕ) × Chain (SimpleChar s.now) at j x) }
     ensures boundary { IfSome result (λ j. IsCharBoundary s.now j) }
     ensures order { IfSome result (λ j. at ≤ j) }
-    ensures close { IfSome result (λ j. Reads s.now j 34 (j + 1)) }
+    ensures close { IfSome result (λ j. Reads s.now j DOUBLE_QUOTE (j + 1)) }
 {
     let mut end = at;
     'chars: loop {

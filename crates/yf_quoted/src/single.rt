@@ -3,6 +3,7 @@ ghost use Rattle.std.specs.Prelude.{◌≡◌, ◌≢◌, ◌<◌, ◌≤◌, �
 ghost use Rattle.std.specs.String.{string_bytes};
 ghost use Rattle.std.specs.String.Boundary.{IsSplitPoint};
 ghost use Rattle.std.specs.Str.{IsCharBoundary};
+ghost use Rattle.yf_chars.specs.Signs.{SINGLE_QUOTE};
 ghost use Rattle.yf_chars.specs.Chain.{Chain, Stuck, Chosen};
 ghost use Rattle.yf_chars.specs.Text.{Reads, code};
 ghost use Rattle.yf_lines.specs.Basic.{Clear};
@@ -91,10 +92,10 @@ pub fn single_in<'a>(
 fn simple_end(s: &str, at: usize) -> Option<usize>
     requires { IsCharBoundary s.now at }
     ensures reads { IfSome result (λ j. (x : List ℕ) × Chain (Q.SingleChar s.now) at j x × Clear s.now at j × (slice_range s.now at j ≡ encode_utf8_all x)) }
-    ensures alone { IfSome result (λ j. code s.now (j + 1) ≢ 39) }
+    ensures alone { IfSome result (λ j. code s.now (j + 1) ≢ SINGLE_QUOTE) }
     ensures boundary { IfSome result (λ j. IsCharBoundary s.now j) }
     ensures order { IfSome result (λ j. at ≤ j) }
-    ensures close { IfSome result (λ j. Reads s.now j 39 (j + 1)) }
+    ensures close { IfSome result (λ j. Reads s.now j SINGLE_QUOTE (j + 1)) }
 {
     let mut end = at;
     'chars: loop {
@@ -123,7 +124,7 @@ struct SingleChar {
 fn single_char(s: &str, at: usize) -> Option<SingleChar>
     requires { IsCharBoundary s.now at }
     ensures reads { MatchOption result (NoSingleChar s.now at) (λ c. Q.SingleChar s.now at c.end (c.value ∷ []) × Clear s.now at c.end) }
-    ensures doubled { IfSome result (λ c. MatchBool c.doubled (code s.now at ≡ 39) (code s.now at ≢ 39)) }
+    ensures doubled { IfSome result (λ c. MatchBool c.doubled (code s.now at ≡ SINGLE_QUOTE) (code s.now at ≢ SINGLE_QUOTE)) }
     ensures boundary { IfSome result (λ c. IsCharBoundary s.now c.end) }
     ensures order { IfSome result (λ c. at < c.end) }
     ensures quote { IfSome result (λ c. c.doubled ≡ true → IsCharBoundary s.now (at + 1)) }
