@@ -125,7 +125,8 @@ fn push_comment(text: &mut String, comment: &Option<Comment>) -> Result<(), Allo
 }
 
 fn push_body(text: &mut String, block: &BlockText, column: usize) -> Result<(), AllocError>
-    ensures { OnOk result (string_bytes text.new ≡ string_bytes text.old ++ body_bytes block.now.header.chomp block.now.lines block.now.tail block.now.open_end column) }
+    ensures { OnOk result (string_bytes text.new ≡ string_bytes text.old
+        ++ body_bytes block.now.header.chomp block.now.lines block.now.tail block.now.open_end column) }
 {
     let chomp = block.header.chomp;
     if block.lines.len() == 0 {

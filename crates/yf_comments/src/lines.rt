@@ -146,7 +146,8 @@ pub(crate) fn next_row<'a>(
 ) -> Result<Option<usize>, AllocError>
     requires boundary { IsCharBoundary s.now at }
     requires starts { MatchBool starts (LineStart s.now at) (LineStart s.now at → ⊥) }
-    ensures reads { IfOk result (λ o. MatchOption o (Stuck (LineRest s.now at)) (λ e. (x : List CommentValue) × LineRest s.now at e x × (comments.new ≡ comments.old ++ x))) }
+    ensures reads { IfOk result (λ o. MatchOption o (Stuck (LineRest s.now at))
+        (λ e. (x : List CommentValue) × LineRest s.now at e x × (comments.new ≡ comments.old ++ x))) }
     ensures unchanged { IfOk result (λ o. IfNone o (comments.new ≡ comments.old)) }
     ensures boundary { IfOk result (λ o. IfSome o (λ e. IsCharBoundary s.now e)) }
 {

@@ -89,7 +89,8 @@ pub fn double_gap(s: &str, at: usize, width: Option<usize>) -> Option<Gap>
 
 // The offset after a backslash and the line break after it.
 fn escaped_break(s: &str, at: usize) -> Option<usize>
-    ensures reads { MatchOption result (code s.now at ≡ BACKSLASH → (l : ℕ) → Break s.now (at + 1) l → ⊥) (λ l. (code s.now at ≡ BACKSLASH) × Break s.now (at + 1) l) }
+    ensures reads { MatchOption result (code s.now at ≡ BACKSLASH → (l : ℕ) → Break s.now (at + 1) l → ⊥)
+        (λ l. (code s.now at ≡ BACKSLASH) × Break s.now (at + 1) l) }
     ensures boundary { IfSome result (λ l. IsCharBoundary s.now l) }
     ensures order { IfSome result (λ l. at < l) }
 {

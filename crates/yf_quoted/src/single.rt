@@ -38,7 +38,8 @@ pub fn read_single<'a>(
     ctx: Ctx,
 ) -> Result<Option<(Text<'a>, usize)>, Fault>
     requires { IsCharBoundary src.now.text at }
-    ensures reads { IfOk result (λ o. MatchOption o (Stuck (Q.SingleQuoted src.now.text n ctx at)) (λ p. (x : List ℕ) × (text_bytes p.0 ≡ encode_utf8_all x) × Chosen (Q.SingleQuoted src.now.text n ctx at) p.1 x)) }
+    ensures reads { IfOk result (λ o. MatchOption o (Stuck (Q.SingleQuoted src.now.text n ctx at))
+        (λ p. (x : List ℕ) × (text_bytes p.0 ≡ encode_utf8_all x) × Chosen (Q.SingleQuoted src.now.text n ctx at) p.1 x)) }
     ensures boundary { IfOk result (λ o. IfSome o (λ p. IsCharBoundary src.now.text p.1)) }
     ensures refused { IfErr result (λ e. e ≡ Fault.Memory) }
 {
@@ -65,7 +66,8 @@ pub fn single_in<'a>(
     ctx: Ctx,
 ) -> Result<Option<Single<'a>>, AllocError>
     requires { IsCharBoundary s.now at }
-    ensures reads { IfOk result (λ o. MatchOption o (Stuck (Q.SingleQuoted s.now n ctx at)) (λ p. (x : List ℕ) × (text_bytes p.text ≡ encode_utf8_all x) × Chosen (Q.SingleQuoted s.now n ctx at) p.end x)) }
+    ensures reads { IfOk result (λ o. MatchOption o (Stuck (Q.SingleQuoted s.now n ctx at))
+        (λ p. (x : List ℕ) × (text_bytes p.text ≡ encode_utf8_all x) × Chosen (Q.SingleQuoted s.now n ctx at) p.end x)) }
     ensures boundary { IfOk result (λ o. IfSome o (λ p. IsCharBoundary s.now p.end)) }
     ensures order { IfOk result (λ o. IfSome o (λ p. at < p.end)) }
 {
@@ -91,7 +93,8 @@ pub fn single_in<'a>(
 // The place of the closing quote, where only characters that stand for themselves stand before it, and no quote after.
 fn simple_end(s: &str, at: usize) -> Option<usize>
     requires { IsCharBoundary s.now at }
-    ensures reads { IfSome result (λ j. (x : List ℕ) × Chain (Q.SingleChar s.now) at j x × Clear s.now at j × (slice_range s.now at j ≡ encode_utf8_all x)) }
+    ensures reads { IfSome result (λ j. (x : List ℕ) × Chain (Q.SingleChar s.now) at j x × Clear s.now at j
+        × (slice_range s.now at j ≡ encode_utf8_all x)) }
     ensures alone { IfSome result (λ j. code s.now (j + 1) ≢ SINGLE_QUOTE) }
     ensures boundary { IfSome result (λ j. IsCharBoundary s.now j) }
     ensures order { IfSome result (λ j. at ≤ j) }
@@ -172,7 +175,8 @@ fn single_body<'a>(
     width: Option<usize>,
 ) -> Result<Option<Single<'a>>, AllocError>
     requires { IsCharBoundary s.now at }
-    ensures reads { IfOk result (λ o. MatchOption o (NoSingleBody s.now width at) (λ p. SingleRead s.now width at (text_bytes p.text) p.end)) }
+    ensures reads { IfOk result (λ o. MatchOption o (NoSingleBody s.now width at)
+        (λ p. SingleRead s.now width at (text_bytes p.text) p.end)) }
     ensures boundary { IfOk result (λ o. IfSome o (λ p. IsCharBoundary s.now p.end)) }
     ensures order { IfOk result (λ o. IfSome o (λ p. at < p.end)) }
 {
@@ -217,7 +221,8 @@ fn next_mark(mark: Option<Mark>, doubled: bool, len: usize, end: usize) -> Optio
 // The scalar up to the mark.
 fn cut<'a>(mut text: String, mark: Option<Mark>) -> Option<Single<'a>>
     requires { IfSome mark (λ m. IsSplitPoint (string_bytes text) m.len) }
-    ensures { MatchOption mark (result ≡ None) (λ m. IsSomeAnd result (λ r. (r.end ≡ m.end) × (text_bytes r.text ≡ take m.len (string_bytes text)))) }
+    ensures { MatchOption mark (result ≡ None) (λ m. IsSomeAnd result
+        (λ r. (r.end ≡ m.end) × (text_bytes r.text ≡ take m.len (string_bytes text)))) }
 {
     match mark {
         None => None,
