@@ -2,43 +2,46 @@
 
 use crate::answers::{Answer, answer_to, lines_of};
 use crate::command_line::Verb;
+use crate::rules::{WithRules, with_all_rules};
 use crate::settings::style_from_toml;
 use std::alloc::Global;
 use std::test::Fail;
 use yf_emit::style::Style;
-use yf_rules::blank_lines::BlankLines;
-use yf_rules::byte_order_mark::ByteOrderMark;
-use yf_rules::comment_space::CommentSpace;
-use yf_rules::document_start::DocumentStart;
-use yf_rules::final_break::FinalBreak;
-use yf_rules::flow_layout::FlowLayout;
-use yf_rules::indentation::Indentation;
-use yf_rules::key_mark::KeyMark;
-use yf_rules::line_breaks::LineBreaks;
-use yf_rules::line_length::LineLength;
-use yf_rules::quoting::Quoting;
-use yf_rules::repeated_keys::RepeatedKeys;
 use yf_rules::rule::Rule;
-use yf_rules::trailing_blanks::TrailingBlanks;
+
+/// A text that is checked in a style.
+#[derive(Drop)]
+struct CheckOf<'a> {
+    alloc: Global,
+    style: &'a Style,
+    input: &'a str,
+}
+
+impl WithRules for CheckOf<'_> {
+    type Answer = Answer;
+
+    /// What the checker answers with these rules.
+    fn with_rules(self, rules: &[Box<dyn Rule>]) -> Answer {
+        answer_to(
+            self.alloc,
+            Verb::Check,
+            rules,
+            self.style,
+            self.input.as_bytes(),
+        )
+    }
+}
 
 /// What the checker answers with all rules.
 fn checked(alloc: Global, style: &Style, input: &str) -> Result<Answer, Fail> {
-    let rules: [Box<dyn Rule>; 13] = [
-        Box::new(alloc, KeyMark)?,
-        Box::new(alloc, RepeatedKeys)?,
-        Box::new(alloc, LineLength)?,
-        Box::new(alloc, CommentSpace)?,
-        Box::new(alloc, FlowLayout)?,
-        Box::new(alloc, BlankLines)?,
-        Box::new(alloc, ByteOrderMark)?,
-        Box::new(alloc, LineBreaks)?,
-        Box::new(alloc, FinalBreak)?,
-        Box::new(alloc, DocumentStart)?,
-        Box::new(alloc, Quoting)?,
-        Box::new(alloc, Indentation)?,
-        Box::new(alloc, TrailingBlanks)?,
-    ];
-    Ok(answer_to(alloc, Verb::Check, &rules, style, input.as_bytes()))
+    Ok(with_all_rules(
+        alloc,
+        CheckOf {
+            alloc,
+            style,
+            input,
+        },
+    )?)
 }
 
 /// Whether the checker finds those, which stand between ` / `, and answers the status for it.

@@ -3,6 +3,7 @@
 ghost use Rattle.std.specs.Prelude.{◌≤◌};
 
 use crate::fmt_tests::{COMMENTED, NODES, PLAIN_STREAMS, WITH_SETTINGS};
+use crate::rules::{WithRules, with_all_rules};
 use std::alloc::{AllocError, Global};
 use std::test::Fail;
 use yf_comments::comment::Comment;
@@ -12,19 +13,8 @@ use yf_events::reading::Reading;
 use yf_lines::fault::Fault;
 use yf_lines::quotes::Quotes;
 use yf_lines::source_text::Src;
-use yf_rules::blank_lines::BlankLines;
-use yf_rules::byte_order_mark::ByteOrderMark;
 use yf_rules::check::check;
-use yf_rules::comment_space::CommentSpace;
-use yf_rules::document_start::DocumentStart;
-use yf_rules::final_break::FinalBreak;
-use yf_rules::flow_layout::FlowLayout;
-use yf_rules::indentation::Indentation;
-use yf_rules::key_mark::KeyMark;
-use yf_rules::line_breaks::LineBreaks;
-use yf_rules::quoting::Quoting;
 use yf_rules::rule::Rule;
-use yf_rules::trailing_blanks::TrailingBlanks;
 use yf_stream::stream::read_stream;
 
 /// The text of a comment without the white space at its end.
@@ -245,25 +235,25 @@ fn holds_of_texts(alloc: Global, rules: &[Box<dyn Rule>], texts: Texts) -> Resul
     )
 }
 
-/// Whether the laws hold of all of these texts, with all rules that find what can be fixed.
-fn laws_hold(alloc: Global, texts: Texts) -> Result<bool, AllocError> {
-    let rules: [Box<dyn Rule>; 11] = [
-        Box::new(alloc, TrailingBlanks)?,
-        Box::new(alloc, Indentation)?,
-        Box::new(alloc, Quoting)?,
-        Box::new(alloc, DocumentStart)?,
-        Box::new(alloc, FinalBreak)?,
-        Box::new(alloc, LineBreaks)?,
-        Box::new(alloc, ByteOrderMark)?,
-        Box::new(alloc, BlankLines)?,
-        Box::new(alloc, FlowLayout)?,
-        Box::new(alloc, CommentSpace)?,
-        Box::new(alloc, KeyMark)?,
-    ];
-    match holds_of_texts(alloc, &rules, texts) {
-        Ok(holds) => Ok(holds),
-        Err(_) => Ok(false),
+/// The texts of which the laws are asked.
+#[derive(Drop)]
+struct Laws {
+    alloc: Global,
+    texts: Texts,
+}
+
+impl WithRules for Laws {
+    type Answer = bool;
+
+    /// Whether the laws hold of all texts, with these rules.
+    fn with_rules(self, rules: &[Box<dyn Rule>]) -> bool {
+        matches!(holds_of_texts(self.alloc, rules, self.texts), Ok(true))
     }
+}
+
+/// Whether the laws hold of all of these texts, with all rules.
+fn laws_hold(alloc: Global, texts: Texts) -> Result<bool, AllocError> {
+    with_all_rules(alloc, Laws { alloc, texts })
 }
 
 #[test]

@@ -33,6 +33,7 @@ mod replacing;
 #[cfg(test)]
 mod replacing_tests;
 mod report;
+mod rules;
 mod run;
 mod settings;
 #[cfg(test)]
@@ -47,27 +48,15 @@ use command_line::{Cmd, parse_line};
 use files::{open, rewrite};
 use program::{GOOD, answer_usage, read_style, run, written_out};
 use report::report;
-use std::alloc::{AllocError, Global};
+use rules::{WithRules, with_all_rules};
+use std::alloc::AllocError;
 use std::io::BufWriter;
 use std::process::ExitCode;
 use std::{env, io};
 use yf_emit::style::Style;
 use yf_lines::fault::Fault;
 use yf_lines::watched::{Sink, Source, Watched};
-use yf_rules::blank_lines::BlankLines;
-use yf_rules::byte_order_mark::ByteOrderMark;
-use yf_rules::comment_space::CommentSpace;
-use yf_rules::document_start::DocumentStart;
-use yf_rules::final_break::FinalBreak;
-use yf_rules::flow_layout::FlowLayout;
-use yf_rules::indentation::Indentation;
-use yf_rules::key_mark::KeyMark;
-use yf_rules::line_breaks::LineBreaks;
-use yf_rules::line_length::LineLength;
-use yf_rules::quoting::Quoting;
-use yf_rules::repeated_keys::RepeatedKeys;
 use yf_rules::rule::Rule;
-use yf_rules::trailing_blanks::TrailingBlanks;
 
 /// The status for a command line that cannot be read.
 const UNREADABLE: u8 = 3;
@@ -145,100 +134,46 @@ fn run_with_rules<R: Source>(
     style: &Style,
     reader: &mut R,
 ) -> Result<u8, AllocError> {
-    let alloc = rt.alloc();
-    let (trailing_blanks, final_break, line_breaks, blank_lines, line_length) = line_rules(alloc)?;
-    let (byte_order_mark, document_start, comment_space, repeated_keys) = stream_rules(alloc)?;
-    let (indentation, quoting, flow_layout, key_mark) = node_rules(alloc)?;
-    let rules: [Box<dyn Rule>; 13] = [
-        trailing_blanks,
-        indentation,
-        quoting,
-        document_start,
-        final_break,
-        line_breaks,
-        byte_order_mark,
-        blank_lines,
-        flow_layout,
-        comment_space,
-        line_length,
-        repeated_keys,
-        key_mark,
-    ];
-    let Ok(output) = BufWriter::with_capacity(alloc, HELD_BACK, rt.stdout()) else {
-        return Err(AllocError);
-    };
-    let mut writer = Watched::new(output);
-    let mut error_stream = Watched::new(rt.stderr());
-    let status = run(
-        alloc,
-        command,
-        &rules,
-        style,
-        reader,
-        &mut writer,
-        &mut error_stream,
-    );
-    Ok(written_out(status, &mut writer, &mut error_stream))
+    with_all_rules(
+        rt.alloc(),
+        Command {
+            rt,
+            command,
+            style,
+            reader,
+        },
+    )?
 }
 
-/// The rules of lines.
-fn line_rules(
-    alloc: Global,
-) -> Result<
-    (
-        Box<TrailingBlanks>,
-        Box<FinalBreak>,
-        Box<LineBreaks>,
-        Box<BlankLines>,
-        Box<LineLength>,
-    ),
-    AllocError,
-> {
-    Ok((
-        Box::new(alloc, TrailingBlanks)?,
-        Box::new(alloc, FinalBreak)?,
-        Box::new(alloc, LineBreaks)?,
-        Box::new(alloc, BlankLines)?,
-        Box::new(alloc, LineLength)?,
-    ))
+/// A command in a style, over what it reads.
+#[derive(Drop)]
+struct Command<'a, R: Source> {
+    rt: &'a HostRuntime,
+    command: &'a Cmd,
+    style: &'a Style,
+    reader: &'a mut R,
 }
 
-/// The rules of what stands between nodes, and of keys.
-fn stream_rules(
-    alloc: Global,
-) -> Result<
-    (
-        Box<ByteOrderMark>,
-        Box<DocumentStart>,
-        Box<CommentSpace>,
-        Box<RepeatedKeys>,
-    ),
-    AllocError,
-> {
-    Ok((
-        Box::new(alloc, ByteOrderMark)?,
-        Box::new(alloc, DocumentStart)?,
-        Box::new(alloc, CommentSpace)?,
-        Box::new(alloc, RepeatedKeys)?,
-    ))
-}
+impl<R: Source> WithRules for Command<'_, R> {
+    type Answer = Result<u8, AllocError>;
 
-/// The rules of how nodes are written.
-fn node_rules(
-    alloc: Global,
-) -> Result<
-    (
-        Box<Indentation>,
-        Box<Quoting>,
-        Box<FlowLayout>,
-        Box<KeyMark>,
-    ),
-    AllocError,
-> {
-    Ok((
-        Box::new(alloc, Indentation)?,
-        Box::new(alloc, Quoting)?,
-        Box::new(alloc, FlowLayout)?,
-        Box::new(alloc, KeyMark)?,
-    ))
+    /// Does the command, and answers its status.
+    fn with_rules(self, rules: &[Box<dyn Rule>]) -> Result<u8, AllocError> {
+        let alloc = self.rt.alloc();
+        let Ok(output) = BufWriter::with_capacity(alloc, HELD_BACK, self.rt.stdout()) else {
+            return Err(AllocError);
+        };
+        let mut writer = Watched::new(output);
+        let mut error_stream = Watched::new(self.rt.stderr());
+        let status = run(
+            alloc,
+            self.command,
+            rules,
+            self.style,
+            self.reader,
+            &mut writer,
+            &mut error_stream,
+        );
+        Ok(written_out(status, &mut writer, &mut error_stream))
+    }
 }

@@ -2,6 +2,7 @@
 -- text t, each the start of a line or the end of the text. n is the indentation of the collection around, from -1; k is
 -- the number of spaces of the content's indentation.
 use Rattle.std.specs.Prelude.{◌≡◌, ◌≢◌, ℕ, ◌+◌, ◌<◌, ◌≤◌, ℤ, pos, negsuc, max, Bool, true, false, nat_lt, List, [], ◌∷◌, ◌++◌, length, slice_range, Some, None}
+use Rattle.yf_chars.specs.Signs.{BYTE_ORDER_MARK, NUMBER_SIGN, SPACE}
 use Rattle.yf_chars.specs.Text.{code, next, no_char}
 use Rattle.yf_chars.specs.Class.{is_nb_char}
 use Rattle.yf_chars.specs.Chain.{Chain, Many, Stuck, Chosen, Nowhere}
@@ -75,13 +76,13 @@ pub record Taken (t : List ℕ) (k i : ℕ) (ls : List (List ℕ)) (o : Bool) (c
 -- a character other than space, and no break
 pub record Other (t : List ℕ) (i : ℕ) : Type 0 where
   pub inside : code t i ≢ no_char
-  pub no_space : code t i ≢ 32
+  pub no_space : code t i ≢ SPACE
   pub no_break : Nowhere (Break t i)
 
 -- a document marker begins the line, byte order marks before it not counted
 pub data MarkerLine (t : List ℕ) : ℕ → Type 0 where
   marker_here : {i : ℕ} → is_marker t i ≡ true → MarkerLine t i
-  past_mark : {i : ℕ} → code t i ≡ 0xFEFF → MarkerLine t (next t i) → MarkerLine t i
+  past_mark : {i : ℕ} → code t i ≡ BYTE_ORDER_MARK → MarkerLine t (next t i) → MarkerLine t i
 
 -- a line with k spaces, at least n + 1, before another character, and no document marker
 pub record Indented (t : List ℕ) (n : ℤ) (i k : ℕ) : Type 0 where
@@ -119,9 +120,9 @@ first_noted b (c ∷ cs) = record c { blank_before = b } ∷ cs
 -- the comment lines after the tail: where the next line is a comment with fewer than k spaces before its #, that one
 -- and the comment lines after it (l-trail-comments)
 pub data Trail (t : List ℕ) (k : ℕ) : ℕ → ℕ → List CommentValue → Type 0 where
-  comments : {i j : ℕ} {x : List CommentValue} (m : ℕ) → m < k → Spaces t i m → code t (i + m) ≡ 35
+  comments : {i j : ℕ} {x : List CommentValue} (m : ℕ) → m < k → Spaces t i m → code t (i + m) ≡ NUMBER_SIGN
       → Chosen (LineEnd t i) j x → Trail t k i j x
-  no_comment : {i : ℕ} → ((m : ℕ) → m < k → Spaces t i m → code t (i + m) ≢ 35) → Trail t k i i []
+  no_comment : {i : ℕ} → ((m : ℕ) → m < k → Spaces t i m → code t (i + m) ≢ NUMBER_SIGN) → Trail t k i i []
 
 -- what is read after a header
 pub record BodyValue : Type 0 where

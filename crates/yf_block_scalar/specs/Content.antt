@@ -2,6 +2,7 @@
 -- first one after the header to the last content line, without their indentation and breaks, an empty line as [].
 -- Texts are bytes of UTF-8; 10 is the line feed.
 use Rattle.std.specs.Prelude.{ℕ, ◌+◌, ◌==◌, Bool, true, false, ◌||◌, List, [], ◌∷◌, ◌++◌, if◌then◌else◌, replicate}
+use Rattle.yf_chars.specs.Signs.{LINE_FEED, SPACE}
 use Rattle.yf_chars.specs.Class.{is_white}
 use Rattle.yf_block_scalar.specs.declared.header.Header.{Header}
 use Rattle.yf_block_scalar.specs.declared.header.Chomp.{Chomp}
@@ -9,7 +10,7 @@ use Rattle.yf_block_scalar.specs.declared.header.Chomp.TheVariants.{Strip, Clip,
 
 -- so many line feeds
 abbrev pub feeds : ℕ → List ℕ
-feeds e = replicate e 10
+feeds e = replicate e LINE_FEED
 
 -- a content line that begins with white is spaced: it is more indented than the others, or begins with a tab
 abbrev pub is_spaced : List ℕ → Bool
@@ -19,7 +20,7 @@ is_spaced (c ∷ x) = is_white c
 -- what stands between two content lines with e empty lines between them, of which one is spaced or none
 abbrev pub joint : Bool → ℕ → List ℕ
 joint true e = feeds (e + 1)
-joint false e = if e == 0 then 32 ∷ [] else feeds e
+joint false e = if e == 0 then SPACE ∷ [] else feeds e
 
 -- the lines after a content line and e empty lines; the flag says whether that content line is spaced
 abbrev pub folded_behind : Bool → ℕ → List (List ℕ) → List ℕ
@@ -30,13 +31,13 @@ folded_behind s e ((c ∷ x) ∷ ls) = joint (s || is_white c) e ++ (c ∷ x) ++
 -- folded lines: each empty line before the first content line is a line feed
 abbrev pub folded : List (List ℕ) → List ℕ
 folded [] = []
-folded ([] ∷ ls) = 10 ∷ folded ls
+folded ([] ∷ ls) = LINE_FEED ∷ folded ls
 folded ((c ∷ x) ∷ ls) = (c ∷ x) ++ folded_behind (is_white c) 0 ls
 
 -- literal lines: joined by line feeds
 abbrev pub literal_behind : List (List ℕ) → List ℕ
 literal_behind [] = []
-literal_behind (x ∷ ls) = 10 ∷ (x ++ literal_behind ls)
+literal_behind (x ∷ ls) = LINE_FEED ∷ (x ++ literal_behind ls)
 
 abbrev pub literal : List (List ℕ) → List ℕ
 literal [] = []
@@ -45,7 +46,7 @@ literal (x ∷ ls) = x ++ literal_behind ls
 -- the line feeds after the last content line, which the tail's empty lines follow
 abbrev pub ending : Chomp → ℕ → List ℕ
 ending Strip tail = []
-ending Clip tail = 10 ∷ []
+ending Clip tail = LINE_FEED ∷ []
 ending Keep tail = feeds (tail + 1)
 
 -- the same without a content line

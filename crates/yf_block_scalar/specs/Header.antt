@@ -1,5 +1,6 @@
 -- The header of a block scalar (YAML 1.2.2, section 8.1.1) as relations between byte offsets of a text t.
 use Rattle.std.specs.Prelude.{◌≡◌, ℕ, ◌+◌, ◌-◌, Bool, true, false, List, Option, Some, None}
+use Rattle.yf_chars.specs.Signs.{BAR, DASH, GREATER, PLUS}
 use Rattle.yf_chars.specs.Text.{code}
 use Rattle.yf_chars.specs.Class.{is_between}
 use Rattle.yf_comments.specs.declared.comment.Comment.{Comment}
@@ -11,8 +12,8 @@ use Rattle.yf_block_scalar.specs.declared.header.Chomp.TheVariants.{Strip, Clip,
 
 -- c-literal or c-folded; the flag says whether it is folded
 pub data Style (t : List ℕ) : ℕ → ℕ → Bool → Type 0 where
-  literal_sign : {i : ℕ} → code t i ≡ 124 → Style t i (i + 1) false
-  folded_sign : {i : ℕ} → code t i ≡ 62 → Style t i (i + 1) true
+  literal_sign : {i : ℕ} → code t i ≡ BAR → Style t i (i + 1) false
+  folded_sign : {i : ℕ} → code t i ≡ GREATER → Style t i (i + 1) true
 
 -- c-indentation-indicator: a digit from 1 to 9
 pub data Digit (t : List ℕ) : ℕ → ℕ → ℕ → Type 0 where
@@ -20,8 +21,8 @@ pub data Digit (t : List ℕ) : ℕ → ℕ → ℕ → Type 0 where
 
 -- c-chomping-indicator: one of the two signs
 pub data Sign (t : List ℕ) : ℕ → ℕ → Chomp → Type 0 where
-  strip_sign : {i : ℕ} → code t i ≡ 45 → Sign t i (i + 1) Strip
-  keep_sign : {i : ℕ} → code t i ≡ 43 → Sign t i (i + 1) Keep
+  strip_sign : {i : ℕ} → code t i ≡ DASH → Sign t i (i + 1) Strip
+  keep_sign : {i : ℕ} → code t i ≡ PLUS → Sign t i (i + 1) Keep
 
 -- each of them at most once, in either order
 pub data Indicators (t : List ℕ) : ℕ → ℕ → Option ℕ → Chomp → Type 0 where

@@ -1,6 +1,7 @@
 -- A block scalar as it is written among other lines: its header with the comment that trails it, its lines at a column, each
 -- with its break, and what stands after them: blank lines and comments, and then a line that stands further left, or nothing.
 use Rattle.std.specs.Prelude.{◌≡◌, ◌≢◌, ℕ, ◌<◌, true, List, [], ◌∷◌, ◌++◌, replicate, encode_utf8, Option, Some, None}
+use Rattle.yf_chars.specs.Signs.{LINE_FEED, NUMBER_SIGN, SPACE}
 use Rattle.yf_chars.specs.Class.{is_ns_char}
 use Rattle.yf_comments.specs.GapLines.{GapLine, blank, remark, IsRemark}
 use Rattle.yf_block_scalar.specs.declared.header.Header.{Header}
@@ -12,12 +13,12 @@ use Rattle.yf_block_scalar.specs.Written.{indented, style_bytes, digit_bytes, si
 -- lines at the column, and r after them
 abbrev pub lines_then : ℕ → List (List ℕ) → List ℕ → List ℕ
 lines_then k [] r = r
-lines_then k (x ∷ ls) r = indented k x ++ (10 ∷ lines_then k ls r)
+lines_then k (x ∷ ls) r = indented k x ++ (LINE_FEED ∷ lines_then k ls r)
 
 -- the comment that trails a header, if there is one, and the break
 abbrev pub trail_then : Option (List ℕ) → List ℕ → List ℕ
-trail_then None r = 10 ∷ r
-trail_then (Some text) r = 32 ∷ 32 ∷ (text ++ (10 ∷ r))
+trail_then None r = LINE_FEED ∷ r
+trail_then (Some text) r = SPACE ∷ SPACE ∷ (text ++ (LINE_FEED ∷ r))
 
 abbrev pub IsTrail : Option (List ℕ) → Type 0
 IsTrail None = Unit {0}
@@ -30,7 +31,7 @@ trail_texts (Some text) = text ∷ []
 -- nothing, or fewer than k spaces before a character that begins no comment
 pub data Below (k : ℕ) : List ℕ → Type 0 where
   nothing_below : Below k []
-  line_below : (m c : ℕ) (r : List ℕ) → m < k → is_ns_char c ≡ true → c ≢ 35 → Below k (replicate m 32 ++ (encode_utf8 c ++ r))
+  line_below : (m c : ℕ) (r : List ℕ) → m < k → is_ns_char c ≡ true → c ≢ NUMBER_SIGN → Below k (replicate m SPACE ++ (encode_utf8 c ++ r))
 
 -- no blank line stands after a scalar that keeps its final breaks, where it would be content
 abbrev pub KeptGap : Chomp → List GapLine → Type 0

@@ -2,6 +2,7 @@
 -- width, 1 to 9) right of the indentation around it. Texts are bytes.
 use Rattle.std.specs.Prelude.{length, ◌≡◌, ◌≢◌, ℕ, ◌+◌, ◌-◌, ℤ, Bool, true, List, [], ◌∷◌, ◌++◌, map, replicate, if◌then◌else◌, Option, Some, None}
 pub use Rattle.yf_lines.specs.LineText.{AllNb, IsLineText}
+use Rattle.yf_chars.specs.Signs.{BAR, DASH, GREATER, LINE_FEED, NUMBER_SIGN, PLUS, SPACE}
 use Rattle.yf_comments.specs.declared.comment.Comment.{Comment}
 use Rattle.yf_block_scalar.specs.declared.body.BlockText.{BlockText}
 use Rattle.yf_block_scalar.specs.declared.header.Header.{Header}
@@ -12,7 +13,7 @@ use Rattle.yf_block_scalar.specs.Header.{BlockHeader, HeaderValue}
 use Rattle.yf_block_scalar.specs.Content.{feeds, literal, content_of}
 
 abbrev pub style_bytes : Bool → List ℕ
-style_bytes b = if b then 62 ∷ [] else 124 ∷ []
+style_bytes b = if b then GREATER ∷ [] else BAR ∷ []
 
 -- a header with a digit has the width as its digit
 abbrev pub digit_bytes : Option ℕ → ℕ → List ℕ
@@ -20,22 +21,22 @@ digit_bytes None width = []
 digit_bytes (Some d) width = (48 + width) ∷ []
 
 abbrev pub sign_bytes : Chomp → List ℕ
-sign_bytes Strip = 45 ∷ []
+sign_bytes Strip = DASH ∷ []
 sign_bytes Clip = []
-sign_bytes Keep = 43 ∷ []
+sign_bytes Keep = PLUS ∷ []
 
 -- a comment stands after two spaces
 abbrev pub comment_bytes : Option Comment → List ℕ
 comment_bytes None = []
-comment_bytes (Some c) = 32 ∷ 32 ∷ c.text.now
+comment_bytes (Some c) = SPACE ∷ SPACE ∷ c.text.now
 
 abbrev pub header_bytes : Header → Option Comment → ℕ → List ℕ
-header_bytes h c width = style_bytes h.folded ++ digit_bytes h.digit width ++ sign_bytes h.chomp ++ comment_bytes c ++ 10 ∷ []
+header_bytes h c width = style_bytes h.folded ++ digit_bytes h.digit width ++ sign_bytes h.chomp ++ comment_bytes c ++ LINE_FEED ∷ []
 
 -- a line at the column; an empty line has no spaces
 abbrev pub indented : ℕ → List ℕ → List ℕ
 indented column [] = []
-indented column (c ∷ x) = replicate column 32 ++ (c ∷ x)
+indented column (c ∷ x) = replicate column SPACE ++ (c ∷ x)
 
 -- only the tail of a kept scalar is written
 abbrev pub tail_bytes : Chomp → ℕ → List ℕ
@@ -45,9 +46,9 @@ tail_bytes Keep tail = feeds tail
 
 -- the break after the last content line; where that line ended at the end of the text, only a stripped scalar has one
 abbrev pub break_bytes : Chomp → Bool → List ℕ
-break_bytes Strip open_end = 10 ∷ []
-break_bytes Clip open_end = if open_end then [] else 10 ∷ []
-break_bytes Keep open_end = if open_end then [] else 10 ∷ []
+break_bytes Strip open_end = LINE_FEED ∷ []
+break_bytes Clip open_end = if open_end then [] else LINE_FEED ∷ []
+break_bytes Keep open_end = if open_end then [] else LINE_FEED ∷ []
 
 abbrev pub body_bytes : Chomp → List (List ℕ) → ℕ → Bool → ℕ → List ℕ
 body_bytes c [] tail open_end column = tail_bytes c tail
@@ -70,12 +71,12 @@ EndsWithContent (x ∷ y ∷ ls) = EndsWithContent (y ∷ ls)
 abbrev pub StartsUnspaced : List (List ℕ) → Type 0
 StartsUnspaced [] = ⊥
 StartsUnspaced ([] ∷ ls) = StartsUnspaced ls
-StartsUnspaced ((c ∷ x) ∷ ls) = c ≢ 32
+StartsUnspaced ((c ∷ x) ∷ ls) = c ≢ SPACE
 
 -- a comment's text: # and nb-chars
 abbrev pub IsCommentText : Option Comment → Type 0
 IsCommentText None = Unit {0}
-IsCommentText (Some c) = (x : List ℕ) × ((c.text.now ≡ 35 ∷ x) × IsLineText x)
+IsCommentText (Some c) = (x : List ℕ) × ((c.text.now ≡ NUMBER_SIGN ∷ x) × IsLineText x)
 
 -- a scalar as a text can hold it, with a content line: its lines and comment are of nb-chars, an indentation that is to be
 -- detected is that of its first content line, and after a line that ends at the end of the text stands nothing

@@ -25,7 +25,8 @@ pub fn content(alloc: Global, block: &BlockText) -> Result<String, Fault>
 }
 
 fn push_content(text: &mut String, block: &BlockText) -> Result<(), AllocError>
-    ensures { OnOk result (string_bytes text.new ≡ string_bytes text.old ++ content_of block.now.header block.now.lines block.now.tail block.now.open_end) }
+    ensures { OnOk result (string_bytes text.new ≡ string_bytes text.old
+        ++ content_of block.now.header block.now.lines block.now.tail block.now.open_end) }
 {
     if block.lines.len() == 0 {
         return match block.header.chomp {

@@ -67,7 +67,8 @@ fn sign_at(s: &str, at: usize) -> Option<Chomp>
 fn read_marks(s: &str, at: usize) -> Marks
     requires { IsCharBoundary s.now at }
     ensures reads { Indicators s.now at result.end result.digit result.chomp }
-    ensures all { (k : ℕ) (d : Option ℕ) (c : Chomp) → Indicators s.now at k d c → is_white_or_end (code s.now k) ≡ true → (k ≡ result.end) × (d ≡ result.digit) × (c ≡ result.chomp) }
+    ensures all { (k : ℕ) (d : Option ℕ) (c : Chomp) → Indicators s.now at k d c → is_white_or_end (code s.now k) ≡ true
+        → (k ≡ result.end) × (d ≡ result.digit) × (c ≡ result.chomp) }
     ensures boundary { IsCharBoundary s.now result.end }
 {
     let next = at + 1;
@@ -125,7 +126,8 @@ fn style_at(s: &str, at: usize) -> Option<bool>
 ///
 /// `None` where no header begins at the byte offset. It takes no memory.
 pub fn block_header<'a>(s: &'a str, at: usize) -> Option<HeaderLine<'a>>
-    ensures reads { MatchOption result (Stuck (BlockHeader s.now at)) (λ r. Chosen (BlockHeader s.now at) r.end (header_value r.header r.comment)) }
+    ensures reads { MatchOption result (Stuck (BlockHeader s.now at))
+        (λ r. Chosen (BlockHeader s.now at) r.end (header_value r.header r.comment)) }
     ensures comment { IfSome result (λ r. IsCommentText r.comment) }
     ensures boundary { IfSome result (λ r. IsCharBoundary s.now r.end) }
 {

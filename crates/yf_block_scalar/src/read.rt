@@ -21,7 +21,9 @@ use yf_lines::source_text::Src;
 ///
 /// `None` where no header begins there. It takes no memory.
 pub fn read_header<'a>(src: &Src<'a>, at: usize) -> Option<HeaderLine<'a>>
-    ensures { MatchOption result (Stuck (BlockHeader src.now.text at)) (λ r. Chosen (BlockHeader src.now.text at) r.end (header_value r.header r.comment) × IsCharBoundary src.now.text r.end × IsCommentText r.comment) }
+    ensures { MatchOption result (Stuck (BlockHeader src.now.text at))
+        (λ r. Chosen (BlockHeader src.now.text at) r.end (header_value r.header r.comment) × IsCharBoundary src.now.text r.end
+        × IsCommentText r.comment) }
 {
     match block_header(src.text(), at) {
         Some(found) => Some(found),
@@ -48,7 +50,9 @@ pub fn read_body<'a>(
 ) -> Result<Option<BlockText<'a>>, Fault>
     requires within { line ≤ length src.now.lines }
     requires small { n ≤ℤ pos (2 ^ 30) }
-    ensures { MatchResult result (λ o. MatchOption o (Stuck (Body src.now.text n header (line_offset src.now line))) (λ b. (b.header ≡ header) × (b.comment ≡ None) × Chosen (Body src.now.text n header (line_offset src.now line)) b.next (body_value b) × IsCharBoundary src.now.text b.next × (b.lines ≢ [] → IsScalar b))) (λ fault. fault ≡ Fault.Memory) }
+    ensures { MatchResult result (λ o. MatchOption o (Stuck (Body src.now.text n header (line_offset src.now line)))
+        (λ b. (b.header ≡ header) × (b.comment ≡ None) × Chosen (Body src.now.text n header (line_offset src.now line)) b.next
+        (body_value b) × IsCharBoundary src.now.text b.next × (b.lines ≢ [] → IsScalar b))) (λ fault. fault ≡ Fault.Memory) }
 {
     match block_body(alloc, src.text(), offset_of_line(src, line), n, header) {
         Ok(found) => Ok(found),

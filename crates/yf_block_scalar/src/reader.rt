@@ -37,7 +37,9 @@ fn read_indented<'a>(
 ) -> Result<BlockText<'a>, AllocError>
     requires boundary { IsCharBoundary s.now at }
     requires starts { at < length s.now → LineStart s.now at }
-    ensures reads { IfOk result (λ b. (p : ℕ) × (x : List CommentValue) × (Taken s.now indent at b.lines b.open_end b.tail p × Trail s.now indent p b.next x × (b.comments ≡ first_noted (is_gap_tail header.chomp b.tail) x))) }
+    ensures reads { IfOk result (λ b. (p : ℕ) × (x : List CommentValue)
+        × (Taken s.now indent at b.lines b.open_end b.tail p × Trail s.now indent p b.next x
+        × (b.comments ≡ first_noted (is_gap_tail header.chomp b.tail) x))) }
     ensures boundary { IfOk result (λ b. IsCharBoundary s.now b.next) }
     ensures header { IfOk result (λ b. b.header ≡ header) }
     ensures comment { IfOk result (λ b. b.comment ≡ None) }
@@ -77,7 +79,8 @@ fn read_bare<'a>(
 ) -> Result<BlockText<'a>, AllocError>
     requires boundary { IsCharBoundary s.now at }
     requires starts { at < length s.now → LineStart s.now at }
-    ensures reads { IfOk result (λ b. (x : List CommentValue) × (Trail s.now least at b.next x × (b.comments ≡ first_noted (is_gap_tail header.chomp count) x))) }
+    ensures reads { IfOk result (λ b. (x : List CommentValue)
+        × (Trail s.now least at b.next x × (b.comments ≡ first_noted (is_gap_tail header.chomp count) x))) }
     ensures lines { IfOk result (λ b. b.lines ≡ []) }
     ensures open_end { IfOk result (λ b. b.open_end ≡ false) }
     ensures tail { IfOk result (λ b. b.tail ≡ count) }
@@ -122,7 +125,8 @@ pub fn block_body<'a>(
     requires boundary { IsCharBoundary s.now at }
     requires starts { at < length s.now → LineStart s.now at }
     requires small { n ≤ℤ pos (2 ^ 30) }
-    ensures reads { IfOk result (λ o. MatchOption o (Stuck (Body s.now n header at)) (λ b. (b.header ≡ header) × (b.comment ≡ None) × Chosen (Body s.now n header at) b.next (body_value b))) }
+    ensures reads { IfOk result (λ o. MatchOption o (Stuck (Body s.now n header at))
+        (λ b. (b.header ≡ header) × (b.comment ≡ None) × Chosen (Body s.now n header at) b.next (body_value b))) }
     ensures scalar { IfOk result (λ o. IfSome o (λ b. b.lines ≢ [] → IsScalar b)) }
     ensures boundary { IfOk result (λ o. IfSome o (λ b. IsCharBoundary s.now b.next)) }
 {

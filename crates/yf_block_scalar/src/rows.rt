@@ -81,7 +81,8 @@ pub(crate) fn space_line(s: &str, at: usize) -> Option<SpacePart>
 // Reads an empty line: that many spaces alone at most, with their break. The offset after it.
 pub(crate) fn empty_line(s: &str, at: usize, indent: usize) -> Option<usize>
     requires { IsCharBoundary s.now at }
-    ensures reads { MatchOption result ((m j : ℕ) → SpaceLine s.now at m j → m ≤ indent → ⊥) (λ j. (m : ℕ) × (m ≤ indent) × SpaceLine s.now at m j) }
+    ensures reads { MatchOption result ((m j : ℕ) → SpaceLine s.now at m j → m ≤ indent → ⊥)
+        (λ j. (m : ℕ) × (m ≤ indent) × SpaceLine s.now at m j) }
     ensures boundary { IfSome result (λ j. IsCharBoundary s.now j) }
     ensures order { IfSome result (λ j. at < j) }
 {
@@ -99,7 +100,8 @@ pub(crate) fn empty_line(s: &str, at: usize, indent: usize) -> Option<usize>
 // Reads a content line whose indentation is that many spaces (s-indent(n) nb-char+, productions 170 and 174).
 pub(crate) fn content_line(s: &str, at: usize, indent: usize) -> Option<ContentPart>
     requires { IsCharBoundary s.now at }
-    ensures reads { MatchOption result ((j : ℕ) (x : List ℕ) (o : Bool) → Content s.now indent at j x o → ⊥) (λ p. Content s.now indent at p.next (slice_range s.now (at + indent) p.end) p.open_end) }
+    ensures reads { MatchOption result ((j : ℕ) (x : List ℕ) (o : Bool) → Content s.now indent at j x o → ⊥)
+        (λ p. Content s.now indent at p.next (slice_range s.now (at + indent) p.end) p.open_end) }
     ensures boundary { IfSome result (λ p. IsCharBoundary s.now (at + indent) × IsCharBoundary s.now p.end × IsCharBoundary s.now p.next) }
     ensures order { IfSome result (λ p. (at + indent < p.end) × (p.end ≤ p.next)) }
 {

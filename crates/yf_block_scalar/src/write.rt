@@ -1,6 +1,7 @@
 //! Writes block scalars (YAML 1.2.2, section 8.1).
 ghost use Rattle.std.specs.Prelude.{◌≡◌, ◌++◌, ◌+◌, ◌<◌, ◌≤◌, ◌≤ℤ◌, ◌^◌, pos, [], ◌∷◌, map, replicate, IfOk, IfErr, OnErr, OnOk};
 ghost use Rattle.std.specs.String.{string_bytes};
+ghost use Rattle.yf_chars.specs.Signs.{SPACE};
 ghost use Rattle.yf_block_scalar.specs.Body.{base};
 ghost use Rattle.yf_block_scalar.specs.Content.{literal};
 ghost use Rattle.yf_block_scalar.specs.Written.{IsRead, IsScalar, body_bytes, break_bytes, comment_bytes, digit_bytes, header_bytes, indented, sign_bytes, style_bytes, tail_bytes, written_of};
@@ -124,7 +125,8 @@ fn push_comment(text: &mut String, comment: &Option<Comment>) -> Result<(), Allo
 }
 
 fn push_body(text: &mut String, block: &BlockText, column: usize) -> Result<(), AllocError>
-    ensures { OnOk result (string_bytes text.new ≡ string_bytes text.old ++ body_bytes block.now.header.chomp block.now.lines block.now.tail block.now.open_end column) }
+    ensures { OnOk result (string_bytes text.new ≡ string_bytes text.old
+        ++ body_bytes block.now.header.chomp block.now.lines block.now.tail block.now.open_end column) }
 {
     let chomp = block.header.chomp;
     if block.lines.len() == 0 {
@@ -186,7 +188,7 @@ fn push_line(text: &mut String, line: &str, column: usize) -> Result<(), AllocEr
 }
 
 fn push_spaces(text: &mut String, count: usize) -> Result<(), AllocError>
-    ensures { OnOk result (string_bytes text.new ≡ string_bytes text.old ++ replicate count 32) }
+    ensures { OnOk result (string_bytes text.new ≡ string_bytes text.old ++ replicate count SPACE) }
 {
     for _done in 0..count {
         text.push(' ')?;

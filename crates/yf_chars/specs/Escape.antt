@@ -2,6 +2,7 @@
 -- project.
 use Rattle.std.specs.Prelude.{◌≡◌, ℕ, zero, suc, ◌+◌, ◌-◌, ◌*◌, ◌/◌, ◌%◌, ◌<◌, Bool, true, false, ◌==◌, ◌||◌, List, [], ◌∷◌, ◌++◌, Option, Some, None, if◌then◌else◌, nat_lt}
 use Rattle.std.specs.Char.{digit_value}
+use Rattle.yf_chars.specs.Signs.{BACKSLASH, BYTE_ORDER_MARK, CARRIAGE_RETURN, DOUBLE_QUOTE, LINE_FEED, SLASH, SPACE, TAB, UNDERSCORE}
 use Rattle.yf_chars.specs.Text.{code}
 use Rattle.yf_chars.specs.Class.{is_between}
 
@@ -11,18 +12,18 @@ named c =
     if c == 48 then Some 0x00 else
     if c == 97 then Some 0x07 else
     if c == 98 then Some 0x08 else
-    if (c == 116) || (c == 9) then Some 0x09 else
+    if (c == 116) || (c == TAB) then Some 0x09 else
     if c == 110 then Some 0x0A else
     if c == 118 then Some 0x0B else
     if c == 102 then Some 0x0C else
     if c == 114 then Some 0x0D else
     if c == 101 then Some 0x1B else
-    if c == 32 then Some 0x20 else
-    if c == 34 then Some 0x22 else
-    if c == 47 then Some 0x2F else
-    if c == 92 then Some 0x5C else
+    if c == SPACE then Some SPACE else
+    if c == DOUBLE_QUOTE then Some DOUBLE_QUOTE else
+    if c == SLASH then Some SLASH else
+    if c == BACKSLASH then Some BACKSLASH else
     if c == 78 then Some 0x85 else
-    if c == 95 then Some 0xA0 else
+    if c == UNDERSCORE then Some 0xA0 else
     if c == 76 then Some 0x2028 else
     if c == 80 then Some 0x2029 else None
 
@@ -38,7 +39,7 @@ pub record Digits (t : List ℕ) (i k v : ℕ) : Type 0 where
 
 -- a backslash, the letter c and k hexadecimal digits, which write v
 pub record Numbered (t : List ℕ) (i c k v : ℕ) : Type 0 where
-  pub backslash : code t i ≡ 92
+  pub backslash : code t i ≡ BACKSLASH
   pub letter : code t (i + 1) ≡ c
   pub digits : Digits t (i + 2) k v
 
@@ -59,7 +60,7 @@ pub record NoLow (t : List ℕ) (i : ℕ) : Type 0 where
 -- c-ns-esc-char: the escape from i to j stands for the number v. A high half by \u and a low half by \u directly after
 -- it are one escape.
 pub data Escape (t : List ℕ) : ℕ → ℕ → ℕ → Type 0 where
-  by_letter : {i v : ℕ} → code t i ≡ 92 → named (code t (i + 1)) ≡ Some v → Escape t i (i + 2) v
+  by_letter : {i v : ℕ} → code t i ≡ BACKSLASH → named (code t (i + 1)) ≡ Some v → Escape t i (i + 2) v
   by_two : {i v : ℕ} → Numbered t i 120 2 v → Escape t i (i + 4) v
   by_four : {i v : ℕ} → Numbered t i 117 4 v → is_high v ≡ false → Escape t i (i + 6) v
   by_half : {i v : ℕ} → Numbered t i 117 4 v → is_high v ≡ true → NoLow t (i + 6) → Escape t i (i + 6) v
@@ -74,11 +75,11 @@ upper_digit d = if nat_lt d 10 then 48 + d else 55 + d
 -- the letter of the shortest escape, where a character has one here
 unfoldable pub short_name : ℕ → Option ℕ
 short_name c =
-    if c == 34 then Some 34 else
-    if c == 92 then Some 92 else
-    if c == 10 then Some 110 else
-    if c == 9 then Some 116 else
-    if c == 13 then Some 114 else
+    if c == DOUBLE_QUOTE then Some DOUBLE_QUOTE else
+    if c == BACKSLASH then Some BACKSLASH else
+    if c == LINE_FEED then Some 110 else
+    if c == TAB then Some 116 else
+    if c == CARRIAGE_RETURN then Some 114 else
     if c == 0 then Some 48 else None
 
 -- characters that are spelled by two digits: the other ones below a space, and those from U+007F to U+00A0
@@ -88,19 +89,19 @@ is_by_two c = is_between 0 31 c || is_between 127 160 c
 -- characters that are spelled by four digits: the separators of lines and paragraphs, the byte order mark, and the two
 -- that are no characters of the standard
 unfoldable pub is_by_four : ℕ → Bool
-is_by_four c = (c == 0x2028) || (c == 0x2029) || (c == 0xFEFF) || (c == 0xFFFE) || (c == 0xFFFF)
+is_by_four c = (c == 0x2028) || (c == 0x2029) || (c == BYTE_ORDER_MARK) || (c == 0xFFFE) || (c == 0xFFFF)
 
 unfoldable pub two_digits : ℕ → List ℕ
 two_digits v = upper_digit (v / 16) ∷ upper_digit (v % 16) ∷ []
 
 unfoldable pub spelled_long : ℕ → List ℕ
 spelled_long c =
-    if is_by_two c then 92 ∷ 120 ∷ two_digits c else
-    if is_by_four c then 92 ∷ 117 ∷ two_digits (c / 256) ++ two_digits (c % 256)
+    if is_by_two c then BACKSLASH ∷ 120 ∷ two_digits c else
+    if is_by_four c then BACKSLASH ∷ 117 ∷ two_digits (c / 256) ++ two_digits (c % 256)
     else c ∷ []
 
 unfoldable pub spelled_by : Option ℕ → ℕ → List ℕ
-spelled_by (Some letter) c = 92 ∷ letter ∷ []
+spelled_by (Some letter) c = BACKSLASH ∷ letter ∷ []
 spelled_by None c = spelled_long c
 
 -- how a character is spelled in double quotes

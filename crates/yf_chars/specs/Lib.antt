@@ -3,3 +3,4 @@ pub mod Class
 pub mod Escape
 pub mod Spelled
 pub mod Text
+pub mod Signs

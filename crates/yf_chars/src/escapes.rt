@@ -125,7 +125,8 @@ fn named(letter: char) -> Option<u32>
 fn numbered(s: &str, at: usize, letter: u8, count: usize) -> Option<u32>
     requires ascii { letter < 128 }
     requires few { count ≤ 8 }
-    ensures reads { MatchOption result ((v : ℕ) → Escapes.Numbered s.now at letter count v → ⊥) (λ v. Escapes.Numbered s.now at letter count v) }
+    ensures reads { MatchOption result ((v : ℕ) → Escapes.Numbered s.now at letter count v → ⊥)
+        (λ v. Escapes.Numbered s.now at letter count v) }
     ensures end { OnSome result (IsCharBoundary s.now (at + 2 + count)) }
 {
     if !stands(s, at, b'\\') {
@@ -166,7 +167,8 @@ fn digits(s: &str, at: usize, count: usize) -> Option<u32>
 ///
 /// `NoMemory` where a growth of memory was refused; the string is then as before.
 pub fn push_escaped(out: &mut String, c: char) -> Result<(), NoMemory>
-    ensures spelled { string_bytes out.new ≡ (if is_ok result then string_bytes out.old ++ encode_utf8_all (Escapes.spelled c) else string_bytes out.old) }
+    ensures spelled { string_bytes out.new ≡ (if is_ok result then string_bytes out.old ++ encode_utf8_all (Escapes.spelled c)
+        else string_bytes out.old) }
     ensures read { ReadsBack (encode_utf8_all (Escapes.spelled c)) c }
 {
     match out.reserve(6) {

@@ -1,6 +1,7 @@
 -- Comments and separation (YAML 1.2.2, 6.6 and 6.7) as relations between byte offsets of a text t. What they mean is
 -- the list of their comments. n is an indentation, from -1; c is a context.
 use Rattle.std.specs.Prelude.{◌≡◌, ℕ, ◌+◌, ◌<◌, ◌≤◌, ℤ, Bool, true, false, ◌==◌, ◌||◌, List, [], ◌∷◌, ◌++◌, length, slice_range}
+use Rattle.yf_chars.specs.Signs.{BYTE_ORDER_MARK, NUMBER_SIGN}
 use Rattle.yf_chars.specs.declared.context.Ctx.{Ctx}
 use Rattle.yf_chars.specs.Text.{code, next}
 use Rattle.yf_chars.specs.Class.{is_white, is_break_char, is_nb_char}
@@ -16,7 +17,7 @@ pub data Blank (t : List ℕ) : ℕ → Type 0 where
 
 -- a white, a character of a break, or a byte order mark
 unfoldable pub is_gap : ℕ → Bool
-is_gap c = is_white c || is_break_char c || (c == 0xFEFF)
+is_gap c = is_white c || is_break_char c || (c == BYTE_ORDER_MARK)
 
 -- going back from the place over white space, breaks and marks, a line of white space alone is met
 pub data BlankBefore (t : List ℕ) : ℕ → Type 0 where
@@ -30,7 +31,7 @@ pub data Noted (t : List ℕ) (i : ℕ) : Bool → Type 0 where
 
 -- c-nb-comment-text: # and the characters after it, up to the break or the first that is none of a comment
 pub data CommentText (t : List ℕ) : ℕ → ℕ → List CommentValue → Type 0 where
-  comment_text : {i j : ℕ} {x : List ℕ} {b : Bool} → code t i ≡ 35 → Many t is_nb_char (i + 1) j x → Noted t i b
+  comment_text : {i j : ℕ} {x : List ℕ} {b : Bool} → code t i ≡ NUMBER_SIGN → Many t is_nb_char (i + 1) j x → Noted t i b
       → CommentText t i j (record { text = slice_range t i j; offset = i; blank_before = b } ∷ [])
 
 -- b-comment: a break or the end of the text

@@ -1,5 +1,6 @@
 -- The lines that are written between two lines with nodes: blank ones, and comments with so many spaces before them.
 use Rattle.std.specs.Prelude.{◌≡◌, ℕ, ◌<◌, List, [], ◌∷◌, ◌++◌, replicate}
+use Rattle.yf_chars.specs.Signs.{LINE_FEED, NUMBER_SIGN, SPACE}
 use Rattle.yf_lines.specs.LineText.{IsLineText}
 
 pub data GapLine : Type 0 where
@@ -9,13 +10,13 @@ pub data GapLine : Type 0 where
 -- their bytes, and r after them
 abbrev pub gap_then : List GapLine → List ℕ → List ℕ
 gap_then [] r = r
-gap_then (blank ∷ gs) r = 10 ∷ gap_then gs r
-gap_then (remark column text ∷ gs) r = replicate column 32 ++ (text ++ (10 ∷ gap_then gs r))
+gap_then (blank ∷ gs) r = LINE_FEED ∷ gap_then gs r
+gap_then (remark column text ∷ gs) r = replicate column SPACE ++ (text ++ (LINE_FEED ∷ gap_then gs r))
 
 -- a comment's text: # and nb-chars
 pub record IsRemark (text : List ℕ) : Type 0 where
   pub behind : List ℕ
-  pub is : text ≡ 35 ∷ behind
+  pub is : text ≡ NUMBER_SIGN ∷ behind
   pub line : IsLineText behind
 
 abbrev pub AreGapLines : List GapLine → Type 0

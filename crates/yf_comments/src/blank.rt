@@ -1,5 +1,6 @@
 //! Whether a blank line stands before a place.
 ghost use Rattle.std.specs.Prelude.{◌≡◌, ◌≢◌, ◌-◌, ◌<◌, ◌≤◌, ℕ, MatchBool, MatchOption, length};
+ghost use Rattle.yf_chars.specs.Signs.{CARRIAGE_RETURN, LINE_FEED};
 ghost use Rattle.yf_chars.specs.Text.{code};
 ghost use Rattle.yf_lines.specs.Basic.{Break};
 ghost use Rattle.yf_comments.specs.Comments.{BlankBefore};
@@ -33,7 +34,7 @@ fn break_before(s: &str, at: usize) -> Option<usize>
 ///
 /// The walk ends at the first other character, so walks from different comments do not overlap.
 pub fn is_blank_before(s: &str, at: usize) -> bool
-    requires { code s.now at ≡ 10 → code s.now (at - 1) ≢ 13 }
+    requires { code s.now at ≡ LINE_FEED → code s.now (at - 1) ≢ CARRIAGE_RETURN }
     ensures { MatchBool result (BlankBefore s.now at) (BlankBefore s.now at → ⊥) }
 {
     let mut place = at;

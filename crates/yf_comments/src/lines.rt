@@ -1,6 +1,7 @@
 //! Comments, and the lines that hold nothing else (YAML 1.2.2, section 6.6).
 ghost use Rattle.std.specs.Prelude.{◌≡◌, ◌≢◌, ◌+◌, ◌-◌, ◌<◌, ◌≤◌, ℕ, List, [], ◌∷◌, ◌++◌, Bool, true, false, Option, Some, None, length, IfOk, IfSome, IfNone, MatchOption, MatchBool};
 ghost use Rattle.std.specs.Str.{IsCharBoundary};
+ghost use Rattle.yf_chars.specs.Signs.{NUMBER_SIGN};
 ghost use Rattle.yf_chars.specs.Chain.{Chosen, Stuck, Many, Nowhere, Farthest};
 ghost use Rattle.yf_chars.specs.Class.{is_nb_char, is_white};
 ghost use Rattle.yf_chars.specs.Text.{code};
@@ -55,7 +56,7 @@ fn skip_nb_chars(s: &str, at: usize) -> usize
 
 // Reads a comment's text (c-nb-comment-text, production 75), as long as its characters go.
 fn comment_text<'a>(s: &'a str, at: usize) -> Option<CommentPart<'a>>
-    ensures reads { MatchOption result (code s.now at ≢ 35) (λ p. CommentText s.now at p.end (comment_value p.comment ∷ [])) }
+    ensures reads { MatchOption result (code s.now at ≢ NUMBER_SIGN) (λ p. CommentText s.now at p.end (comment_value p.comment ∷ [])) }
     ensures all { IfSome result (λ p. is_nb_char (code s.now p.end) ≡ false) }
     ensures boundary { IfSome result (λ p. IsCharBoundary s.now p.end) }
 {
@@ -145,7 +146,8 @@ pub(crate) fn next_row<'a>(
 ) -> Result<Option<usize>, AllocError>
     requires boundary { IsCharBoundary s.now at }
     requires starts { MatchBool starts (LineStart s.now at) (LineStart s.now at → ⊥) }
-    ensures reads { IfOk result (λ o. MatchOption o (Stuck (LineRest s.now at)) (λ e. (x : List CommentValue) × LineRest s.now at e x × (comments.new ≡ comments.old ++ x))) }
+    ensures reads { IfOk result (λ o. MatchOption o (Stuck (LineRest s.now at))
+        (λ e. (x : List CommentValue) × LineRest s.now at e x × (comments.new ≡ comments.old ++ x))) }
     ensures unchanged { IfOk result (λ o. IfNone o (comments.new ≡ comments.old)) }
     ensures boundary { IfOk result (λ o. IfSome o (λ e. IsCharBoundary s.now e)) }
 {

@@ -26,7 +26,8 @@ pub fn read_line_end<'a>(
     at: usize,
 ) -> Result<Option<Separation<'a>>, Fault>
     requires { IsCharBoundary src.now.text at }
-    ensures { MatchResult result (λ o. MatchOption o (Stuck (LineEnd src.now.text at)) (λ p. Chosen (LineEnd src.now.text at) p.end p.comments × IsCharBoundary src.now.text p.end)) (λ fault. fault ≡ Fault.Memory) }
+    ensures { MatchResult result (λ o. MatchOption o (Stuck (LineEnd src.now.text at))
+        (λ p. Chosen (LineEnd src.now.text at) p.end p.comments × IsCharBoundary src.now.text p.end)) (λ fault. fault ≡ Fault.Memory) }
 {
     match line_end(alloc, src.text(), at) {
         Ok(found) => Ok(found),
@@ -51,7 +52,9 @@ pub fn read_separation<'a>(
     ctx: Ctx,
 ) -> Result<Option<Separation<'a>>, Fault>
     requires { IsCharBoundary src.now.text at }
-    ensures { MatchResult result (λ o. MatchOption o (Stuck (Separate src.now.text n ctx at)) (λ p. Chosen (Separate src.now.text n ctx at) p.end p.comments × IsCharBoundary src.now.text p.end)) (λ fault. fault ≡ Fault.Memory) }
+    ensures { MatchResult result (λ o. MatchOption o (Stuck (Separate src.now.text n ctx at))
+        (λ p. Chosen (Separate src.now.text n ctx at) p.end p.comments × IsCharBoundary src.now.text p.end))
+        (λ fault. fault ≡ Fault.Memory) }
 {
     match separate(alloc, src.text(), at, n, ctx) {
         Ok(found) => Ok(found),

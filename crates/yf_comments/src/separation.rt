@@ -95,7 +95,8 @@ fn last_reach<'a>(
     requires boundary { IsCharBoundary s.now at }
     requires fresh { comments.old ≡ [] }
     ensures reads { IfOk result (λ o. (p : ℕ) × Chain (Row s.now) at p comments.new × Stuck (Row s.now p)
-        × MatchOption o (Stuck (Upto s.now (pos width) at p)) (λ r. Chosen (Upto s.now (pos width) at p) r.end (take r.count comments.new))) }
+        × MatchOption o (Stuck (Upto s.now (pos width) at p))
+        (λ r. Chosen (Upto s.now (pos width) at p) r.end (take r.count comments.new))) }
     ensures boundary { IfOk result (λ o. IfSome o (λ r. IsCharBoundary s.now r.end)) }
 {
     let mut reach = first_reach(s, at, width);
@@ -132,7 +133,8 @@ pub fn separate_lines<'a>(
     width: usize,
 ) -> Result<Option<Separation<'a>>, AllocError>
     requires { IsCharBoundary s.now at }
-    ensures reads { IfOk result (λ o. MatchOption o (Stuck (SeparateLines s.now (pos width) at)) (λ p. Chosen (SeparateLines s.now (pos width) at) p.end p.comments)) }
+    ensures reads { IfOk result (λ o. MatchOption o (Stuck (SeparateLines s.now (pos width) at))
+        (λ p. Chosen (SeparateLines s.now (pos width) at) p.end p.comments)) }
     ensures boundary { IfOk result (λ o. IfSome o (λ p. IsCharBoundary s.now p.end)) }
 {
     let mut comments = Comments::new(alloc);
@@ -159,7 +161,8 @@ pub fn separate<'a>(
     ctx: Ctx,
 ) -> Result<Option<Separation<'a>>, AllocError>
     requires { IsCharBoundary s.now at }
-    ensures reads { IfOk result (λ o. MatchOption o (Stuck (Separate s.now n ctx at)) (λ p. Chosen (Separate s.now n ctx at) p.end p.comments)) }
+    ensures reads { IfOk result (λ o. MatchOption o (Stuck (Separate s.now n ctx at))
+        (λ p. Chosen (Separate s.now n ctx at) p.end p.comments)) }
     ensures boundary { IfOk result (λ o. IfSome o (λ p. IsCharBoundary s.now p.end)) }
 {
     match line_width(n, ctx) {

@@ -2,6 +2,7 @@
 -- tab, carriage return and backspace are escaped in texts and tags, and so is every other character below x20.
 use Rattle.std.specs.Prelude.{ℕ, ◌+◌, ◌/◌, ◌%◌, Bool, true, false, List, [], ◌∷◌, ◌++◌, Option, Some, None, ◌==◌, ◌||◌, nat_lt, if◌then◌else◌, codes}
 use Rattle.std.specs.List.{concat, flat_map, zip}
+use Rattle.yf_chars.specs.Signs.{BACKSLASH, CARRIAGE_RETURN, LINE_FEED, TAB}
 use Rattle.yf_events.specs.Event.{EventValue, stream_starts, stream_ends, document_starts, document_ends, sequence_starts, sequence_ends, mapping_starts, mapping_ends, scalar_node, alias_node}
 use Rattle.yf_events.specs.Reading.{events_of}
 use Rattle.yf_events.specs.declared.event.ScalarStyle.{ScalarStyle}
@@ -15,16 +16,16 @@ hex_digit n = if nat_lt n 10 then 48 + n else 55 + n
 -- one byte of a text or a tag; those of a character above x7F are none of the bytes escaped
 unfoldable pub escaped_byte : ℕ → List ℕ
 escaped_byte c =
-    if c == 92 then codes "\\\\" else
-    if c == 10 then codes "\\n" else
-    if c == 9 then codes "\\t" else
-    if c == 13 then codes "\\r" else
+    if c == BACKSLASH then codes "\\\\" else
+    if c == LINE_FEED then codes "\\n" else
+    if c == TAB then codes "\\t" else
+    if c == CARRIAGE_RETURN then codes "\\r" else
     if c == 8 then codes "\\b" else
-    if nat_lt c 32 then 92 ∷ 120 ∷ hex_digit (c / 16) ∷ hex_digit (c % 16) ∷ [] else c ∷ []
+    if nat_lt c 32 then BACKSLASH ∷ 120 ∷ hex_digit (c / 16) ∷ hex_digit (c % 16) ∷ [] else c ∷ []
 
 -- whether a byte is escaped
 unfoldable pub is_escaped : ℕ → Bool
-is_escaped c = (c == 92) || nat_lt c 32
+is_escaped c = (c == BACKSLASH) || nat_lt c 32
 
 unfoldable pub escaped : List ℕ → List ℕ
 escaped text = flat_map escaped_byte text

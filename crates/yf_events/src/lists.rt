@@ -53,7 +53,10 @@ impl<'a> Lists<'a> {
         event: PlacedEvent<'a>,
         tag: Option<ResolvedTag<'a>>,
     ) -> Result<(), AllocError>
-        ensures added { IfOk result (λ _. self.new ≡ record self.old { events = self.old.events ++ placed_value event.entry ∷ []; resolved = self.old.resolved ++ tag.entry ∷ [] }) }
+        ensures added { IfOk result (λ _. self.new ≡ record self.old {
+          events = self.old.events ++ placed_value event.entry ∷ [];
+          resolved = self.old.resolved ++ tag.entry ∷ [];
+        }) }
         ensures fit { Fits self.old → IfOk result (λ _. Fits self.new) }
     {
         self.events.push(event)?;
@@ -66,7 +69,10 @@ impl<'a> Lists<'a> {
         comment: Comment<'a>,
         on_leaf_line: bool,
     ) -> Result<(), AllocError>
-        ensures added { IfOk result (λ _. self.new ≡ record self.old { comments = self.old.comments ++ comment_value comment.entry ∷ []; on_leaf_line = self.old.on_leaf_line ++ on_leaf_line ∷ [] }) }
+        ensures added { IfOk result (λ _. self.new ≡ record self.old {
+          comments = self.old.comments ++ comment_value comment.entry ∷ [];
+          on_leaf_line = self.old.on_leaf_line ++ on_leaf_line ∷ [];
+        }) }
         ensures fit { Fits self.old → IfOk result (λ _. Fits self.new) }
     {
         self.comments.push(comment)?;

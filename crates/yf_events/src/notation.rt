@@ -29,7 +29,8 @@ pub enum Piece<'a> {
 }
 
 fn write_anchor<W: Sink>(writer: &mut W, anchor: Option<&str>) -> Result<(), Fault>
-    ensures { Writes (W.contents writer.old) (W.contents writer.new) (W.has_failed writer.old) (W.has_failed writer.new) (Notation.anchor_part (name_value anchor.entry)) result }
+    ensures { Writes (W.contents writer.old) (W.contents writer.new) (W.has_failed writer.old) (W.has_failed writer.new)
+        (Notation.anchor_part (name_value anchor.entry)) result }
 {
     match anchor {
         Some(name) => write_texts(writer, &[" &", name]),
@@ -39,7 +40,8 @@ fn write_anchor<W: Sink>(writer: &mut W, anchor: Option<&str>) -> Result<(), Fau
 
 // Writes a resolved tag with its escapes.
 fn write_resolved<W: Sink>(writer: &mut W, tag: &ResolvedTag) -> Result<(), Fault>
-    ensures { Writes (W.contents writer.old) (W.contents writer.new) (W.has_failed writer.old) (W.has_failed writer.new) (Notation.escaped tag.now) result }
+    ensures { Writes (W.contents writer.old) (W.contents writer.new) (W.has_failed writer.old) (W.has_failed writer.new)
+        (Notation.escaped tag.now) result }
 {
     let (prefix, suffix) = tag.parts();
     write_escaped(writer, prefix)?;
@@ -47,7 +49,8 @@ fn write_resolved<W: Sink>(writer: &mut W, tag: &ResolvedTag) -> Result<(), Faul
 }
 
 fn write_tag<W: Sink>(writer: &mut W, tag: Option<&ResolvedTag>) -> Result<(), Fault>
-    ensures { Writes (W.contents writer.old) (W.contents writer.new) (W.has_failed writer.old) (W.has_failed writer.new) (Notation.tag_part (name_value tag.entry)) result }
+    ensures { Writes (W.contents writer.old) (W.contents writer.new) (W.has_failed writer.old) (W.has_failed writer.new)
+        (Notation.tag_part (name_value tag.entry)) result }
 {
     match tag {
         Some(tag) => {
@@ -60,7 +63,8 @@ fn write_tag<W: Sink>(writer: &mut W, tag: Option<&ResolvedTag>) -> Result<(), F
 }
 
 fn write_piece<W: Sink>(writer: &mut W, piece: &Piece) -> Result<(), Fault>
-    ensures { Writes (W.contents writer.old) (W.contents writer.new) (W.has_failed writer.old) (W.has_failed writer.new) (piece_bytes piece.now) result }
+    ensures { Writes (W.contents writer.old) (W.contents writer.new) (W.has_failed writer.old) (W.has_failed writer.new)
+        (piece_bytes piece.now) result }
 {
     match piece {
         Piece::Plain(text) => write_text(writer, text.as_bytes()),
@@ -71,7 +75,8 @@ fn write_piece<W: Sink>(writer: &mut W, piece: &Piece) -> Result<(), Fault>
 }
 
 fn write_pieces<W: Sink>(writer: &mut W, pieces: &[Piece]) -> Result<(), Fault>
-    ensures { Writes (W.contents writer.old) (W.contents writer.new) (W.has_failed writer.old) (W.has_failed writer.new) (flat_map piece_bytes pieces.now) result }
+    ensures { Writes (W.contents writer.old) (W.contents writer.new) (W.has_failed writer.old) (W.has_failed writer.new)
+        (flat_map piece_bytes pieces.now) result }
 {
     for piece in pieces {
         write_piece(writer, piece)?;
@@ -151,7 +156,8 @@ fn write_event<'x, W: Sink>(
     event: Event<'x>,
     tag: Option<&'x ResolvedTag<'x>>,
 ) -> Result<(), Fault>
-    ensures { Writes (W.contents writer.old) (W.contents writer.new) (W.has_failed writer.old) (W.has_failed writer.new) (Notation.event_line (event_value event.entry) (name_value tag.entry)) result }
+    ensures { Writes (W.contents writer.old) (W.contents writer.new) (W.has_failed writer.old) (W.has_failed writer.new)
+        (Notation.event_line (event_value event.entry) (name_value tag.entry)) result }
 {
     match event {
         Event::StreamStart => write_text(writer, b"+STR\n"),
@@ -201,7 +207,8 @@ fn write_event<'x, W: Sink>(
 /// Answers `Fault::WriteFailed` where a write fails or takes no bytes; a prefix of the notation has then been written.
 /// Takes no memory.
 pub fn write_events<W: Sink>(reading: &Reading, writer: &mut W) -> Result<(), Fault>
-    ensures { Writes (W.contents writer.old) (W.contents writer.new) (W.has_failed writer.old) (W.has_failed writer.new) (Notation.notation_of reading.now) result }
+    ensures { Writes (W.contents writer.old) (W.contents writer.new) (W.has_failed writer.old) (W.has_failed writer.new)
+        (Notation.notation_of reading.now) result }
 {
     for i in 0..reading.len() {
         write_event(writer, reading.event(i), reading.resolved(i))?;

@@ -95,7 +95,8 @@ pub fn more_in<'r, 'a>(list: &'r [More<'a>], number: u32) -> Option<&'r More<'a>
 /// The event of a row.
 #[inline(always)]
 pub fn event_of<'r>(row: &'r PackedRow<'r>, more: Option<&'r More<'r>>) -> Event<'r>
-    ensures { event_value result ≡ shape_value row.now.shape (props_in (more_value more.entry)) (text_in (more_value more.entry) row.now.text.now) }
+    ensures { event_value result ≡ shape_value row.now.shape (props_in (more_value more.entry))
+        (text_in (more_value more.entry) row.now.text.now) }
 {
     let props = match more {
         Some(more) => more.props,
@@ -171,7 +172,8 @@ pub fn entry_of(row: &PackedRow) -> Option<Entry>
 /// The tag of the node that a row begins, as it is written.
 #[inline(always)]
 pub fn tag_of<'a>(row: &PackedRow<'a>, more: Option<&More<'a>>) -> Option<Tag<'a>>
-    ensures { optional_tag_value result ≡ written_tag (shape_value row.now.shape (props_in (more_value more.entry)) (text_in (more_value more.entry) row.now.text.now)) }
+    ensures { optional_tag_value result ≡ written_tag (shape_value row.now.shape (props_in (more_value more.entry))
+        (text_in (more_value more.entry) row.now.text.now)) }
 {
     match row.shape {
         Shape::SeqStart { .. } | Shape::MapStart { .. } | Shape::Scalar { .. } => match more {

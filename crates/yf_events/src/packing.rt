@@ -126,7 +126,8 @@ fn bare<'a>(shape: Shape) -> Taken<'a>
 
 #[inline(always)]
 fn scalar_taken<'a>(props: Props<'a>, style: ScalarStyle, text: Text<'a>) -> Taken<'a>
-    ensures { shape_value result.shape (props_value result.props) (text_or result.part.now result.owned) ≡ scalar_node (props_value props.entry) style (text_bytes text.entry) }
+    ensures { shape_value result.shape (props_value result.props) (text_or result.part.now result.owned) ≡ scalar_node
+        (props_value props.entry) style (text_bytes text.entry) }
 {
     let shape = Shape::Scalar { style };
     match text {

@@ -46,7 +46,8 @@ impl<'a> Reading<'a> {
     /// Answers `Fault::Memory` where a growth of memory was refused.
     pub fn build(alloc: Global, lists: Lists<'a>) -> Result<Option<Reading<'a>>, Fault>
         requires { Fits lists }
-        ensures { MatchResult result (λ o. MatchOption o (IsStream DEPTH (events_of lists.entry) → ⊥) (λ r. (r ≡ lists.entry) × IsStream DEPTH (events_of r))) (λ fault. fault ≡ Fault.Memory) }
+        ensures { MatchResult result (λ o. MatchOption o (IsStream DEPTH (events_of lists.entry) → ⊥)
+            (λ r. (r ≡ lists.entry) × IsStream DEPTH (events_of r))) (λ fault. fault ≡ Fault.Memory) }
     {
         match Reading::build_within(alloc, lists) {
             Ok(reading) => Ok(reading),
@@ -56,7 +57,8 @@ impl<'a> Reading<'a> {
 
     fn build_within(alloc: Global, lists: Lists<'a>) -> Result<Option<Reading<'a>>, AllocError>
         requires { Fits lists }
-        ensures { IfOk result (λ o. MatchOption o (IsStream DEPTH (events_of lists.entry) → ⊥) (λ r. (r ≡ lists.entry) × IsStream DEPTH (events_of r))) }
+        ensures { IfOk result (λ o. MatchOption o (IsStream DEPTH (events_of lists.entry) → ⊥)
+            (λ r. (r ≡ lists.entry) × IsStream DEPTH (events_of r))) }
     {
         if is_stream(alloc, &lists.events, DEPTH)? {
             return Ok(Some(Reading { lists }));

@@ -1,6 +1,7 @@
 -- The basic structures of YAML 1.2.2 (5.4 line breaks, 6.1 to 6.5) as relations between byte offsets of a text t.
 -- n is an indentation, from -1; c is a context.
 use Rattle.std.specs.Prelude.{◌≡◌, ◌≢◌, ℕ, ◌+◌, ◌-◌, ◌<◌, ◌≤◌, ℤ, pos, ◌<ℤ◌, Bool, true, false, ◌==◌, ◌&&◌, ◌||◌, List, [], ◌∷◌, ◌++◌}
+use Rattle.yf_chars.specs.Signs.{BYTE_ORDER_MARK, CARRIAGE_RETURN, LINE_FEED, SPACE}
 use Rattle.yf_chars.specs.declared.context.Ctx.{Ctx}
 use Rattle.yf_chars.specs.declared.context.Ctx.TheVariants.{BlockOut, BlockIn, FlowOut, FlowIn, BlockKey, FlowKey}
 use Rattle.yf_chars.specs.Text.{code, next}
@@ -34,19 +35,19 @@ is_key FlowKey = true
 
 -- b-break: a CR before a LF and that LF are one break, and neither is a break alone
 pub data Break (t : List ℕ) : ℕ → ℕ → Type 0 where
-  cr_lf : {i : ℕ} → code t i ≡ 13 → code t (i + 1) ≡ 10 → Break t i (i + 2)
-  lone_cr : {i : ℕ} → code t i ≡ 13 → code t (i + 1) ≢ 10 → Break t i (i + 1)
-  lone_lf : {i : ℕ} → code t i ≡ 10 → code t (i - 1) ≢ 13 → Break t i (i + 1)
+  cr_lf : {i : ℕ} → code t i ≡ CARRIAGE_RETURN → code t (i + 1) ≡ LINE_FEED → Break t i (i + 2)
+  lone_cr : {i : ℕ} → code t i ≡ CARRIAGE_RETURN → code t (i + 1) ≢ LINE_FEED → Break t i (i + 1)
+  lone_lf : {i : ℕ} → code t i ≡ LINE_FEED → code t (i - 1) ≢ CARRIAGE_RETURN → Break t i (i + 1)
 
 -- the start of a line: of the text, after a break, and after each byte order mark that stands there
 pub data LineStart (t : List ℕ) : ℕ → Type 0 where
   at_text : LineStart t 0
   after_break : {i j : ℕ} → Break t i j → LineStart t j
-  after_mark : {i : ℕ} → LineStart t i → code t i ≡ 0xFEFF → LineStart t (next t i)
+  after_mark : {i : ℕ} → LineStart t i → code t i ≡ BYTE_ORDER_MARK → LineStart t (next t i)
 
 -- k spaces from i on
 pub record Spaces (t : List ℕ) (i k : ℕ) : Type 0 where
-  pub each : (m : ℕ) → m < k → code t (i + m) ≡ 32
+  pub each : (m : ℕ) → m < k → code t (i + m) ≡ SPACE
 
 -- s-indent(n): n spaces, and nothing where n is negative
 pub data Indent (t : List ℕ) (n : ℤ) : ℕ → ℕ → Type 0 where
@@ -73,13 +74,13 @@ pub data LinePrefix (t : List ℕ) (n : ℤ) (c : Ctx) : ℕ → ℕ → Type 0 
 
 -- l-empty(n,c): an empty line, which means a line feed
 pub data Empty (t : List ℕ) (n : ℤ) (c : Ctx) : ℕ → ℕ → List ℕ → Type 0 where
-  prefixed : {i h j : ℕ} → LinePrefix t n c i h → Break t h j → Empty t n c i j (10 ∷ [])
-  shorter : {i h j : ℕ} → IndentLess t n i h → Break t h j → Empty t n c i j (10 ∷ [])
+  prefixed : {i h j : ℕ} → LinePrefix t n c i h → Break t h j → Empty t n c i j (LINE_FEED ∷ [])
+  shorter : {i h j : ℕ} → IndentLess t n i h → Break t h j → Empty t n c i j (LINE_FEED ∷ [])
 
 -- b-l-folded(n,c): a break before empty lines means what they mean, and a break alone a space
 pub data Folded (t : List ℕ) (n : ℤ) (c : Ctx) : ℕ → ℕ → List ℕ → Type 0 where
   trimmed : {i h k j : ℕ} {x y : List ℕ} → Break t i h → Empty t n c h k x → Chain (Empty t n c) k j y → Folded t n c i j (x ++ y)
-  as_space : {i j : ℕ} → Break t i j → Folded t n c i j (32 ∷ [])
+  as_space : {i j : ℕ} → Break t i j → Folded t n c i j (SPACE ∷ [])
 
 -- s-flow-folded(n): white space round a folded break mean nothing
 pub data FlowFolded (t : List ℕ) (n : ℤ) : ℕ → ℕ → List ℕ → Type 0 where

@@ -1,6 +1,7 @@
 -- Folded line breaks inside of flow scalars (YAML 1.2.2, 6.5), as their readers meet them: up to the first character
 -- after them that is neither a white nor a break.
 use Rattle.std.specs.Prelude.{◌≡◌, ℕ, zero, suc, ℤ, false, List, [], ◌∷◌}
+use Rattle.yf_chars.specs.Signs.{LINE_FEED, SPACE}
 use Rattle.yf_chars.specs.Text.{code}
 use Rattle.yf_chars.specs.Class.{is_white}
 use Rattle.yf_chars.specs.Chain.{Chain, Nowhere}
@@ -28,11 +29,11 @@ pub record FoldLines (t : List ℕ) (n : ℤ) (i j : ℕ) (x : List ℕ) : Type 
 -- k line feeds
 abbrev pub line_feeds : ℕ → List ℕ
 line_feeds zero = []
-line_feeds (suc k) = 10 ∷ line_feeds k
+line_feeds (suc k) = LINE_FEED ∷ line_feeds k
 
 -- what a fold means: a space, or the line feeds of its empty lines
 abbrev pub fold_of : List ℕ → List ℕ
-fold_of [] = 32 ∷ []
+fold_of [] = SPACE ∷ []
 fold_of (c ∷ cs) = c ∷ cs
 
 -- the same for a fold with k empty lines

@@ -2,6 +2,7 @@
 -- its break, CR LF, CR or LF; the text after the last break is a line where it is not empty. Offsets count bytes.
 use Rattle.std.specs.Prelude.{◌≡◌, ◌≢◌, ℕ, ◌+◌, ◌-◌, ◌<◌, ◌≤◌, Bool, true, false, ◌==◌, nat_lt, List, [], ◌∷◌, length, slice_get, Some}
 use Rattle.std.specs.Str.{IsCharBoundary, IsUtf8}
+use Rattle.yf_chars.specs.Signs.{BYTE_ORDER_MARK, CARRIAGE_RETURN, LINE_FEED, SPACE}
 use Rattle.yf_chars.specs.Chain.{Chain, Many}
 use Rattle.yf_chars.specs.Class.{is_break_char}
 use Rattle.yf_chars.specs.Text.{code, no_char}
@@ -21,7 +22,7 @@ pub data LineEnd (t : List ℕ) : ℕ → ℕ → Type 0 where
 -- k spaces stand from i on, and no more
 pub record Indented (t : List ℕ) (i k : ℕ) : Type 0 where
   pub spaces : Spaces t i k
-  pub stops : code t (i + k) ≢ 32
+  pub stops : code t (i + k) ≢ SPACE
 
 -- a line of the text: it has a character at least, its break among them
 pub record IsLine (t : List ℕ) (l : Line) : Type 0 where
@@ -56,11 +57,11 @@ pub record IsTable (t : List ℕ) (ls : List Line) : Type 0 where
 
 -- the offset does not stand inside of a CR LF
 pub record Apart (t : List ℕ) (i : ℕ) : Type 0 where
-  pub no_cr : code t i ≡ 10 → code t (i - 1) ≢ 13
+  pub no_cr : code t i ≡ LINE_FEED → code t (i - 1) ≢ CARRIAGE_RETURN
 
 -- the byte order mark
 abbrev pub is_mark : ℕ → Bool
-is_mark c = c == 0xFEFF
+is_mark c = c == BYTE_ORDER_MARK
 
 -- a character, and not the end of the text
 abbrev pub is_char : ℕ → Bool

@@ -1,5 +1,6 @@
 -- Rows of a table of lines: which lines they stand for in a text t. e is the offset after all of them.
 use Rattle.std.specs.Prelude.{◌≡◌, ℕ, zero, suc, ◌-◌, ◌<◌, ◌≤◌, ◌==◌, if◌then◌else◌, List, [], ◌∷◌, slice_get, Some}
+use Rattle.yf_chars.specs.Signs.{CARRIAGE_RETURN, LINE_FEED}
 use Rattle.yf_chars.specs.Text.{code}
 use Rattle.yf_lines.specs.declared.line.Line.{Line}
 use Rattle.yf_lines.specs.declared.rows.LineRow.{LineRow}
@@ -7,7 +8,7 @@ use Rattle.yf_lines.specs.declared.rows.LineRow.{LineRow}
 -- how many bytes the break has that ends with these two characters: none, where it ends with no break
 abbrev pub break_width : ℕ → ℕ → ℕ
 break_width before last =
-    if last == 10 then (if before == 13 then 2 else 1) else (if last == 13 then 1 else 0)
+    if last == LINE_FEED then (if before == CARRIAGE_RETURN then 2 else 1) else (if last == CARRIAGE_RETURN then 1 else 0)
 
 -- where the text of a line ends after which the next line begins at n
 abbrev pub end_before : List ℕ → ℕ → ℕ

@@ -2,6 +2,7 @@
 //! start of a line and document markers. Offsets count bytes.
 ghost use Rattle.std.specs.Prelude.{◌≡◌, ◌≢◌, ◌+◌, ◌-◌, ◌<◌, ◌≤◌, ◌==◌, ℕ, Bool, true, false, List, length, IfSome, MatchOption, MatchBool};
 ghost use Rattle.std.specs.Str.{IsCharBoundary};
+ghost use Rattle.yf_chars.specs.Signs.{BYTE_ORDER_MARK, SPACE};
 ghost use Rattle.yf_chars.specs.Chain.{Many, Nowhere};
 ghost use Rattle.yf_chars.specs.Class.{is_white, is_white_or_end};
 ghost use Rattle.yf_chars.specs.Text.{code, Reads};
@@ -62,7 +63,7 @@ pub fn skip_whites(s: &str, at: usize) -> usize
 pub fn skip_spaces(s: &str, at: usize) -> usize
     requires { IsCharBoundary s.now at }
     ensures spaces { Spaces s.now at (result - at) }
-    ensures all { code s.now result ≢ 32 }
+    ensures all { code s.now result ≢ SPACE }
     ensures boundary { IsCharBoundary s.now result }
     ensures order { at ≤ result }
 {
@@ -75,7 +76,7 @@ pub fn skip_spaces(s: &str, at: usize) -> usize
 
 /// Whether a byte order mark (U+FEFF) begins at the offset.
 pub fn mark_stands(s: &str, at: usize) -> bool
-    ensures { MatchBool result (code s.now at ≡ 0xFEFF) (code s.now at ≢ 0xFEFF) }
+    ensures { MatchBool result (code s.now at ≡ BYTE_ORDER_MARK) (code s.now at ≢ BYTE_ORDER_MARK) }
 {
     let bytes = s.as_bytes();
     if bytes.len() < 3 {
@@ -95,7 +96,7 @@ pub fn mark_stands(s: &str, at: usize) -> bool
 
 /// Whether a byte order mark ends at the offset.
 pub fn mark_ends(s: &str, at: usize) -> bool
-    ensures { MatchBool result ((3 ≤ at) × (code s.now (at - 3) ≡ 0xFEFF)) (3 ≤ at → code s.now (at - 3) ≢ 0xFEFF) }
+    ensures { MatchBool result ((3 ≤ at) × (code s.now (at - 3) ≡ BYTE_ORDER_MARK)) (3 ≤ at → code s.now (at - 3) ≢ BYTE_ORDER_MARK) }
 {
     if at < 3 {
         return false;

@@ -1,6 +1,7 @@
 //! Folded line breaks inside of plain and quoted scalars (YAML 1.2.2, 6.5 "Line Folding"). Offsets count bytes.
 ghost use Rattle.std.specs.Prelude.{◌≡◌, ◌≢◌, ◌+◌, ◌<◌, ◌≤◌, ℕ, ℤ, pos, ◌<ℤ◌, Bool, true, false, List, [], ◌∷◌, IfSome, MatchOption};
 ghost use Rattle.std.specs.Str.{IsCharBoundary};
+ghost use Rattle.yf_chars.specs.Signs.{LINE_FEED};
 ghost use Rattle.yf_chars.specs.Chain.{Chain, Stuck, Nowhere};
 ghost use Rattle.yf_chars.specs.Class.{is_white};
 ghost use Rattle.yf_chars.specs.Text.{code};
@@ -36,7 +37,8 @@ pub fn indent_width(n: i32) -> Option<usize>
 /// Whether that line is forbidden is not asked.
 pub fn flow_folded(s: &str, at: usize, width: usize) -> Option<Fold>
     requires { IsCharBoundary s.now at }
-    ensures reads { MatchOption result (Stuck (FoldsTo s.now (pos width) at)) (λ f. FoldsTo s.now (pos width) at f.end (fold_text f.feeds)) }
+    ensures reads { MatchOption result (Stuck (FoldsTo s.now (pos width) at))
+        (λ f. FoldsTo s.now (pos width) at f.end (fold_text f.feeds)) }
     ensures boundary { IfSome result (λ f. IsCharBoundary s.now f.end) }
     ensures order { IfSome result (λ f. at < f.end) }
 {
@@ -53,7 +55,8 @@ pub fn flow_folded(s: &str, at: usize, width: usize) -> Option<Fold>
 /// The empty lines from the start of a line on, and the indentation of the line after them.
 pub fn fold_lines(s: &str, at: usize, width: usize) -> Option<Fold>
     requires { IsCharBoundary s.now at }
-    ensures reads { MatchOption result (Stuck (FoldLines s.now (pos width) at)) (λ f. FoldLines s.now (pos width) at f.end (line_feeds f.feeds)) }
+    ensures reads { MatchOption result (Stuck (FoldLines s.now (pos width) at))
+        (λ f. FoldLines s.now (pos width) at f.end (line_feeds f.feeds)) }
     ensures boundary { IfSome result (λ f. IsCharBoundary s.now f.end) }
     ensures order { IfSome result (λ f. at ≤ f.end) }
 {
@@ -78,7 +81,8 @@ pub fn fold_lines(s: &str, at: usize, width: usize) -> Option<Fold>
 // The offset after the line that begins there, where it is empty (l-empty(n,flow-in), production 70).
 fn empty_line(s: &str, at: usize, width: usize) -> Option<usize>
     requires { IsCharBoundary s.now at }
-    ensures reads { MatchOption result (Stuck (Empty s.now (pos width) FlowIn at)) (λ j. Empty s.now (pos width) FlowIn at j (10 ∷ [])) }
+    ensures reads { MatchOption result (Stuck (Empty s.now (pos width) FlowIn at))
+        (λ j. Empty s.now (pos width) FlowIn at j (LINE_FEED ∷ [])) }
     ensures boundary { IfSome result (λ j. IsCharBoundary s.now j) }
     ensures order { IfSome result (λ j. at < j) }
 {

@@ -94,8 +94,11 @@ impl<'a> LineTable<'a> {
     /// marker (c-forbidden, production 206).
     pub fn is_forbidden(&self, i: usize) -> bool
         requires { i < length self.now.lines }
-        ensures line { IfSome (slice_get self.now.lines i) (λ l. MatchBool result (IsForbiddenLine self.now.text l.start) (IsForbiddenLine self.now.text l.start → ⊥)) }
-        ensures within { IfSome (slice_get self.now.lines i) (λ l. MatchBool result ((h : ℕ) × (l.start ≤ h) × (h < l.next) × Forbidden self.now.text h) (Clear self.now.text l.start l.next)) }
+        ensures line { IfSome (slice_get self.now.lines i)
+            (λ l. MatchBool result (IsForbiddenLine self.now.text l.start) (IsForbiddenLine self.now.text l.start → ⊥)) }
+        ensures within { IfSome (slice_get self.now.lines i)
+            (λ l. MatchBool result ((h : ℕ) × (l.start ≤ h) × (h < l.next) × Forbidden self.now.text h)
+            (Clear self.now.text l.start l.next)) }
     {
         let start = self.line(i).start;
         is_forbidden_line(self.text, start)

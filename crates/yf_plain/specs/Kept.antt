@@ -1,5 +1,6 @@
 -- A plain scalar on one line, by its characters alone: wherever they stand, they are one.
 use Rattle.std.specs.Prelude.{◌≡◌, ℕ, Bool, true, false, ◌==◌, ◌&&◌, ◌||◌, not, List, [], ◌∷◌, encode_utf8_all}
+use Rattle.yf_chars.specs.Signs.{COLON, NUMBER_SIGN}
 use Rattle.yf_chars.specs.declared.context.Ctx.{Ctx}
 use Rattle.yf_chars.specs.declared.context.Ctx.TheVariants.{BlockOut, BlockIn, FlowOut, FlowIn, BlockKey, FlowKey}
 use Rattle.yf_chars.specs.Text.{first_or_none}
@@ -15,9 +16,9 @@ starts_plain x c d = (is_ns_char c && not (is_indicator c)) || (is_sign c && is_
 -- ns-plain-char(x) of the character c between the characters b and d
 unfoldable pub goes_on_plain : Ctx → ℕ → ℕ → ℕ → Bool
 goes_on_plain x b c d =
-    (is_plain_safe c x && (not (c == 58) && not (c == 35)))
-    || ((c == 35) && is_ns_char b)
-    || ((c == 58) && is_plain_safe d x)
+    (is_plain_safe c x && (not (c == COLON) && not (c == NUMBER_SIGN)))
+    || ((c == NUMBER_SIGN) && is_ns_char b)
+    || ((c == COLON) && is_plain_safe d x)
 
 -- after the character b: such characters, and white space between them
 unfoldable pub is_plain_behind : Ctx → ℕ → List ℕ → Bool

@@ -1,6 +1,7 @@
 -- Plain scalars (YAML 1.2.2, section 7.3.3) as relations between byte offsets of a text t: what stands from i to j is
 -- derived with the text x, a list of characters. n is an indentation, from -1; c is a context.
 use Rattle.std.specs.Prelude.{◌≡◌, ℕ, ◌+◌, ℤ, Bool, true, ◌==◌, ◌&&◌, ◌||◌, not, List, [], ◌∷◌, ◌++◌}
+use Rattle.yf_chars.specs.Signs.{COLON, DASH, NUMBER_SIGN, QUESTION}
 use Rattle.yf_chars.specs.declared.context.Ctx.{Ctx}
 use Rattle.yf_chars.specs.Text.{code, next, before}
 use Rattle.yf_chars.specs.Class.{is_ns_char, is_indicator, is_white, is_plain_safe}
@@ -10,7 +11,7 @@ use Rattle.yf_lines.specs.Fold.{FoldsTo, fold_text}
 
 -- the indicators ? : and -
 unfoldable pub is_sign : ℕ → Bool
-is_sign c = (c == 63) || (c == 58) || (c == 45)
+is_sign c = (c == QUESTION) || (c == COLON) || (c == DASH)
 
 -- ns-plain-first(c): the character at i may begin a plain scalar; one of ? : - may where it is followed by a
 -- character that is safe
@@ -23,9 +24,9 @@ is_plain_first t c i =
 -- before one that is safe
 unfoldable pub is_plain_char : List ℕ → Ctx → ℕ → Bool
 is_plain_char t c i =
-    (is_plain_safe (code t i) c && (not (code t i == 58) && not (code t i == 35)))
-    || ((code t i == 35) && is_ns_char (before t i))
-    || ((code t i == 58) && is_plain_safe (code t (i + 1)) c)
+    (is_plain_safe (code t i) c && (not (code t i == COLON) && not (code t i == NUMBER_SIGN)))
+    || ((code t i == NUMBER_SIGN) && is_ns_char (before t i))
+    || ((code t i == COLON) && is_plain_safe (code t (i + 1)) c)
 
 -- white space, and the character after them: one round of nb-ns-plain-in-line(c)
 pub data PlainItem (t : List ℕ) (c : Ctx) : ℕ → ℕ → List ℕ → Type 0 where

@@ -38,7 +38,8 @@ pub fn read_plain<'a>(
     ctx: Ctx,
 ) -> Result<Option<(Text<'a>, usize)>, Fault>
     requires { IsCharBoundary src.now.text at }
-    ensures reads { IfOk result (λ o. MatchOption o (Stuck (Plain src.now.text n ctx at)) (λ p. (x : List ℕ) × (text_bytes p.0 ≡ encode_utf8_all x) × Chosen (Plain src.now.text n ctx at) p.1 x)) }
+    ensures reads { IfOk result (λ o. MatchOption o (Stuck (Plain src.now.text n ctx at))
+        (λ p. (x : List ℕ) × (text_bytes p.0 ≡ encode_utf8_all x) × Chosen (Plain src.now.text n ctx at) p.1 x)) }
     ensures boundary { IfOk result (λ o. IfSome o (λ p. IsCharBoundary src.now.text p.1)) }
     ensures refused { IfErr result (λ e. e ≡ Fault.Memory) }
 {
@@ -54,7 +55,8 @@ pub fn read_plain_in<'a>(
     ctx: Ctx,
 ) -> Result<Option<(Text<'a>, usize)>, Fault>
     requires { IsCharBoundary s.now at }
-    ensures reads { IfOk result (λ o. MatchOption o (Stuck (Plain s.now n ctx at)) (λ p. (x : List ℕ) × (text_bytes p.0 ≡ encode_utf8_all x) × Chosen (Plain s.now n ctx at) p.1 x)) }
+    ensures reads { IfOk result (λ o. MatchOption o (Stuck (Plain s.now n ctx at))
+        (λ p. (x : List ℕ) × (text_bytes p.0 ≡ encode_utf8_all x) × Chosen (Plain s.now n ctx at) p.1 x)) }
     ensures boundary { IfOk result (λ o. IfSome o (λ p. IsCharBoundary s.now p.1)) }
     ensures refused { IfErr result (λ e. e ≡ Fault.Memory) }
 {
@@ -118,7 +120,8 @@ fn plain_lines(
     requires flow { is_flow ctx ≡ true }
     requires first { (x : List ℕ) × PlainFront s.now ctx at first_end x }
     requires all { Stuck (PlainItem s.now ctx first_end) }
-    ensures reads { IfOk result (λ l. (x : List ℕ) × (string_bytes l.text ≡ encode_utf8_all x) × Chosen (Plain s.now (pos width) ctx at) l.end x) }
+    ensures reads { IfOk result (λ l. (x : List ℕ) × (string_bytes l.text ≡ encode_utf8_all x)
+        × Chosen (Plain s.now (pos width) ctx at) l.end x) }
     ensures boundary { IfOk result (λ l. IsCharBoundary s.now l.end) }
 {
     let mut text = String::from_str(alloc, &s[at..first_end])?;
@@ -159,7 +162,8 @@ struct NextLine {
 // The next line of a plain scalar after the end of one of its lines (s-ns-plain-next-line(n,c), production 134).
 fn next_line(s: &str, at: usize, width: usize, ctx: Ctx) -> Option<NextLine>
     requires { IsCharBoundary s.now at }
-    ensures reads { MatchOption result (NoNextLine s.now (pos width) ctx at) (λ l. P.NextLine s.now (pos width) ctx at l.feeds l.start l.end) }
+    ensures reads { MatchOption result (NoNextLine s.now (pos width) ctx at)
+        (λ l. P.NextLine s.now (pos width) ctx at l.feeds l.start l.end) }
     ensures boundary { IfSome result (λ l. IsCharBoundary s.now l.start × IsCharBoundary s.now l.end) }
     ensures order { IfSome result (λ l. (at < l.start) × (l.start ≤ l.end)) }
 {
@@ -243,7 +247,8 @@ fn plain_item(s: &str, at: usize, ctx: Ctx) -> Option<usize>
 fn plain_char(s: &str, at: usize, ctx: Ctx, after_char: bool) -> Option<usize>
     requires boundary { IsCharBoundary s.now at }
     requires look_behind { Class.is_ns_char (before s.now at) ≡ after_char }
-    ensures { MatchOption result (is_plain_char s.now ctx at ≡ false) (λ j. (is_plain_char s.now ctx at ≡ true) × Reads s.now at (code s.now at) j) }
+    ensures { MatchOption result (is_plain_char s.now ctx at ≡ false)
+        (λ j. (is_plain_char s.now ctx at ≡ true) × Reads s.now at (code s.now at) j) }
 {
     match peek(s, at) {
         None => None,
@@ -272,7 +277,8 @@ fn plain_char(s: &str, at: usize, ctx: Ctx, after_char: bool) -> Option<usize>
 // 126).
 fn plain_first(s: &str, at: usize, ctx: Ctx) -> Option<usize>
     requires { IsCharBoundary s.now at }
-    ensures { MatchOption result (is_plain_first s.now ctx at ≡ false) (λ j. (is_plain_first s.now ctx at ≡ true) × Reads s.now at (code s.now at) j) }
+    ensures { MatchOption result (is_plain_first s.now ctx at ≡ false)
+        (λ j. (is_plain_first s.now ctx at ≡ true) × Reads s.now at (code s.now at) j) }
 {
     match peek(s, at) {
         None => None,

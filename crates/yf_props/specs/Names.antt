@@ -1,6 +1,7 @@
 -- Aliases, anchors, tags and node properties (YAML 1.2.2, 5.6, 6.8.2, 6.9 and 7.1) as relations between byte offsets of
 -- a text t. A name is as long as its characters go. n is an indentation, from -1; c is a context.
 use Rattle.std.specs.Prelude.{◌≡◌, ℕ, ◌+◌, ◌<◌, ℤ, Bool, true, List, [], ◌∷◌, ◌++◌, Option, Some, None, slice_range}
+use Rattle.yf_chars.specs.Signs.{AMPERSAND, ASTERISK, EXCLAMATION, GREATER, LESS, PERCENT}
 use Rattle.yf_chars.specs.declared.context.Ctx.{Ctx}
 use Rattle.yf_chars.specs.Text.{code, next}
 use Rattle.yf_chars.specs.Class.{is_anchor_char, is_hex_digit, is_tag_char, is_uri_char, is_word_char}
@@ -13,8 +14,8 @@ use Rattle.yf_props.specs.Props.TagValue.{IsVerbatim, IsShort, IsNonSpecific}
 -- a character of a class, or % and two hexadecimal digits
 pub data Spelled (t : List ℕ) (p : ℕ → Bool) : ℕ → ℕ → List ℕ → Type 0 where
   as_itself : {i : ℕ} → p (code t i) ≡ true → Spelled t p i (next t i) (code t i ∷ [])
-  as_escape : {i : ℕ} → code t i ≡ 37 → is_hex_digit (code t (i + 1)) ≡ true → is_hex_digit (code t (i + 2)) ≡ true
-      → Spelled t p i (i + 3) (37 ∷ code t (i + 1) ∷ code t (i + 2) ∷ [])
+  as_escape : {i : ℕ} → code t i ≡ PERCENT → is_hex_digit (code t (i + 1)) ≡ true → is_hex_digit (code t (i + 2)) ≡ true
+      → Spelled t p i (i + 3) (PERCENT ∷ code t (i + 1) ∷ code t (i + 2) ∷ [])
 
 -- ns-anchor-char, ns-word-char, ns-uri-char and ns-tag-char
 abbrev pub AnchorChar : List ℕ → ℕ → ℕ → List ℕ → Type 0
@@ -38,26 +39,26 @@ pub record Run (S : ℕ → ℕ → List ℕ → Type 0) (i j : ℕ) : Type 0 wh
 
 -- c-ns-anchor-property, which means its name: & and the name
 pub data Anchor (t : List ℕ) : ℕ → ℕ → List ℕ → Type 0 where
-  ampersand_name : {i j : ℕ} → code t i ≡ 38 → Run (AnchorChar t) (i + 1) j → Anchor t i j (slice_range t (i + 1) j)
+  ampersand_name : {i j : ℕ} → code t i ≡ AMPERSAND → Run (AnchorChar t) (i + 1) j → Anchor t i j (slice_range t (i + 1) j)
 
 -- c-ns-alias-node, which means its name: * and the name
 pub data Alias (t : List ℕ) : ℕ → ℕ → List ℕ → Type 0 where
-  asterisk_name : {i j : ℕ} → code t i ≡ 42 → Run (AnchorChar t) (i + 1) j → Alias t i j (slice_range t (i + 1) j)
+  asterisk_name : {i j : ℕ} → code t i ≡ ASTERISK → Run (AnchorChar t) (i + 1) j → Alias t i j (slice_range t (i + 1) j)
 
 -- c-tag-handle: !, !! or a name between two !
 pub data Handle (t : List ℕ) : ℕ → ℕ → Type 0 where
-  primary_handle : {i : ℕ} → code t i ≡ 33 → Handle t i (i + 1)
-  secondary_handle : {i : ℕ} → code t i ≡ 33 → code t (i + 1) ≡ 33 → Handle t i (i + 2)
-  named_handle : {i j : ℕ} → code t i ≡ 33 → Run (WordChar t) (i + 1) j → code t j ≡ 33 → Handle t i (j + 1)
+  primary_handle : {i : ℕ} → code t i ≡ EXCLAMATION → Handle t i (i + 1)
+  secondary_handle : {i : ℕ} → code t i ≡ EXCLAMATION → code t (i + 1) ≡ EXCLAMATION → Handle t i (i + 2)
+  named_handle : {i j : ℕ} → code t i ≡ EXCLAMATION → Run (WordChar t) (i + 1) j → code t j ≡ EXCLAMATION → Handle t i (j + 1)
 
 -- ns-tag-prefix: of tags of the document's own, or of all tags that begin so
 pub data TagPrefix (t : List ℕ) : ℕ → ℕ → List ℕ → Type 0 where
-  local_prefix : {i j : ℕ} {x : List ℕ} → code t i ≡ 33 → Chain (UriChar t) (i + 1) j x → TagPrefix t i j (33 ∷ x)
+  local_prefix : {i j : ℕ} {x : List ℕ} → code t i ≡ EXCLAMATION → Chain (UriChar t) (i + 1) j x → TagPrefix t i j (EXCLAMATION ∷ x)
   global_prefix : {i k j : ℕ} {c x : List ℕ} → TagChar t i k c → Chain (UriChar t) k j x → TagPrefix t i j (c ++ x)
 
 -- c-verbatim-tag, which means what stands between < and >
 pub data VerbatimTag (t : List ℕ) : ℕ → ℕ → List ℕ → Type 0 where
-  in_brackets : {i j : ℕ} → code t i ≡ 33 → code t (i + 1) ≡ 60 → Run (UriChar t) (i + 2) j → code t j ≡ 62
+  in_brackets : {i j : ℕ} → code t i ≡ EXCLAMATION → code t (i + 1) ≡ LESS → Run (UriChar t) (i + 2) j → code t j ≡ GREATER
       → VerbatimTag t i (j + 1) (slice_range t (i + 2) j)
 
 -- c-ns-shorthand-tag: a handle and a suffix
@@ -68,7 +69,7 @@ pub data ShorthandTag (t : List ℕ) : ℕ → ℕ → TagValue → Type 0 where
 pub data TagProperty (t : List ℕ) : ℕ → ℕ → TagValue → Type 0 where
   verbatim_tag : {i j : ℕ} {text : List ℕ} → VerbatimTag t i j text → TagProperty t i j (IsVerbatim text)
   shorthand_tag : {i j : ℕ} {tag : TagValue} → ShorthandTag t i j tag → TagProperty t i j tag
-  non_specific_tag : {i : ℕ} → code t i ≡ 33 → Stuck (TagChar t (i + 1)) → TagProperty t i (i + 1) IsNonSpecific
+  non_specific_tag : {i : ℕ} → code t i ≡ EXCLAMATION → Stuck (TagChar t (i + 1)) → TagProperty t i (i + 1) IsNonSpecific
 
 -- what properties mean: the properties, where the ! of their tag stands, and the comments between the two
 pub record PropertiesValue : Type 0 where

@@ -1,5 +1,6 @@
 -- What names, tags and properties are made of, and how they are written on a line: the anchor before the tag.
 use Rattle.std.specs.Prelude.{◌≡◌, ◌≢◌, ℕ, ◌+◌, Bool, true, List, [], ◌∷◌, ◌++◌, length, Option, Some, None, encode_utf8_all}
+use Rattle.yf_chars.specs.Signs.{AMPERSAND, ASTERISK, EXCLAMATION, GREATER, LESS, PERCENT, SPACE}
 use Rattle.yf_chars.specs.Class.{is_anchor_char, is_hex_digit, is_tag_char, is_uri_char, is_word_char}
 use Rattle.yf_props.specs.Names.{PropertiesValue}
 use Rattle.yf_props.specs.Props.{PropsValue, TagValue}
@@ -21,13 +22,13 @@ pub record IsName (x : List ℕ) : Type 0 where
 pub data IsSpelled (p : ℕ → Bool) : List ℕ → Type 0 where
   nothing_spelled : IsSpelled p []
   itself_spelled : {c : ℕ} {x : List ℕ} → p c ≡ true → IsSpelled p x → IsSpelled p (c ∷ x)
-  escape_spelled : {a b : ℕ} {x : List ℕ} → is_hex_digit a ≡ true → is_hex_digit b ≡ true → IsSpelled p x → IsSpelled p (37 ∷ a ∷ b ∷ x)
+  escape_spelled : {a b : ℕ} {x : List ℕ} → is_hex_digit a ≡ true → is_hex_digit b ≡ true → IsSpelled p x → IsSpelled p (PERCENT ∷ a ∷ b ∷ x)
 
 -- a handle: !, !! or word characters between two !
 pub data IsHandle : List ℕ → Type 0 where
-  primary_form : IsHandle (33 ∷ [])
-  secondary_form : IsHandle (33 ∷ 33 ∷ [])
-  named_form : {x : List ℕ} → AllOf is_word_char x → x ≢ [] → IsHandle (33 ∷ (x ++ 33 ∷ []))
+  primary_form : IsHandle (EXCLAMATION ∷ [])
+  secondary_form : IsHandle (EXCLAMATION ∷ EXCLAMATION ∷ [])
+  named_form : {x : List ℕ} → AllOf is_word_char x → x ≢ [] → IsHandle (EXCLAMATION ∷ (x ++ EXCLAMATION ∷ []))
 
 pub data IsTag : TagValue → Type 0 where
   verbatim_form : {x : List ℕ} → IsSpelled is_uri_char x → x ≢ [] → IsTag (IsVerbatim x)
@@ -41,21 +42,21 @@ pub record IsProps (p : PropsValue) : Type 0 where
 
 -- the bytes of each
 abbrev pub alias_bytes : List ℕ → List ℕ
-alias_bytes name = 42 ∷ name
+alias_bytes name = ASTERISK ∷ name
 
 abbrev pub anchor_bytes : List ℕ → List ℕ
-anchor_bytes name = 38 ∷ name
+anchor_bytes name = AMPERSAND ∷ name
 
 abbrev pub tag_bytes : TagValue → List ℕ
-tag_bytes (IsVerbatim text) = 33 ∷ 60 ∷ (text ++ 62 ∷ [])
+tag_bytes (IsVerbatim text) = EXCLAMATION ∷ LESS ∷ (text ++ GREATER ∷ [])
 tag_bytes (IsShort handle suffix) = handle ++ suffix
-tag_bytes IsNonSpecific = 33 ∷ []
+tag_bytes IsNonSpecific = EXCLAMATION ∷ []
 
 abbrev pub parts_bytes : Option (List ℕ) → Option TagValue → List ℕ
 parts_bytes None None = []
 parts_bytes None (Some v) = tag_bytes v
 parts_bytes (Some name) None = anchor_bytes name
-parts_bytes (Some name) (Some v) = anchor_bytes name ++ (32 ∷ tag_bytes v)
+parts_bytes (Some name) (Some v) = anchor_bytes name ++ (SPACE ∷ tag_bytes v)
 
 abbrev pub props_bytes : PropsValue → List ℕ
 props_bytes p = parts_bytes p.anchor p.tag

@@ -73,7 +73,8 @@ impl<'a> Handles<'a> {
     pub fn declare(&mut self, handle: &'a str, prefix: &'a str) -> Result<bool, Fault>
         ensures declared { IfOk result (λ fresh. (fresh ≡ not (is_declared self.old handle.entry.now))
             × (self.new ≡ (if fresh then self.old ++ (handle.entry.now, prefix.entry.now) ∷ [] else self.old))) }
-        ensures refused { IfErr result (λ fault. (fault ≡ Fault.Memory) × (self.new ≡ self.old) × (is_declared self.old handle.entry.now ≡ false)) }
+        ensures refused { IfErr result (λ fault. (fault ≡ Fault.Memory) × (self.new ≡ self.old)
+            × (is_declared self.old handle.entry.now ≡ false)) }
     {
         if self.prefixes.contains_key(handle) {
             return Ok(false);
@@ -106,7 +107,8 @@ impl<'a> Handles<'a> {
         place: Place,
     ) -> Result<ResolvedTag<'a>, Fault>
         ensures text { IfOk result (λ text. TagText self.now (tag_value tag.now) text) }
-        ensures refused { IfErr result (λ fault. (fault ≡ Fault.Memory) ⊎ ((fault ≡ Fault.UnknownHandle place) × UnknownHandleOf self.now (tag_value tag.now))) }
+        ensures refused { IfErr result (λ fault. (fault ≡ Fault.Memory)
+            ⊎ ((fault ≡ Fault.UnknownHandle place) × UnknownHandleOf self.now (tag_value tag.now))) }
     {
         match *tag {
             Tag::Verbatim(text) => Ok(ResolvedTag::new(text, Text::Part(""))),

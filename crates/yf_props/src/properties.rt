@@ -142,7 +142,8 @@ pub fn node_properties<'a>(
     n: i32,
     ctx: Ctx,
 ) -> Result<Option<Properties<'a>>, AllocError>
-    ensures reads { IfOk result (λ o. MatchOption o (Stuck (PropertiesOf s.now n ctx at)) (λ p. Chosen (PropertiesOf s.now n ctx at) p.end (properties_value p))) }
+    ensures reads { IfOk result (λ o. MatchOption o (Stuck (PropertiesOf s.now n ctx at))
+        (λ p. Chosen (PropertiesOf s.now n ctx at) p.end (properties_value p))) }
     ensures boundary { IfOk result (λ o. IfSome o (λ p. IsCharBoundary s.now p.end)) }
 {
     match anchor_property(s, at) {

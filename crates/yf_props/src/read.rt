@@ -41,7 +41,9 @@ pub fn read_props<'a>(
     n: i32,
     ctx: Ctx,
 ) -> Result<Option<Properties<'a>>, Fault>
-    ensures { MatchResult result (λ o. MatchOption o (Stuck (PropertiesOf src.now.text n ctx at)) (λ p. Chosen (PropertiesOf src.now.text n ctx at) p.end (properties_value p) × IsCharBoundary src.now.text p.end)) (λ fault. fault ≡ Fault.Memory) }
+    ensures { MatchResult result (λ o. MatchOption o (Stuck (PropertiesOf src.now.text n ctx at))
+        (λ p. Chosen (PropertiesOf src.now.text n ctx at) p.end (properties_value p) × IsCharBoundary src.now.text p.end))
+        (λ fault. fault ≡ Fault.Memory) }
 {
     match node_properties(alloc, src.text(), at, n, ctx) {
         Ok(found) => Ok(found),

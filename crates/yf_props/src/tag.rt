@@ -1,6 +1,7 @@
 //! Tags (YAML 1.2.2, section 6.9.1).
 ghost use Rattle.std.specs.Prelude.{◌≡◌, ◌+◌, ◌<◌, ◌≤◌, ℕ, List, true, false, IfSome, MatchOption};
 ghost use Rattle.std.specs.Str.{IsCharBoundary};
+ghost use Rattle.yf_chars.specs.Signs.{EXCLAMATION};
 ghost use Rattle.yf_chars.specs.Chain.{Chain, Chosen, Stuck, Many};
 ghost use Rattle.yf_chars.specs.Class.{is_hex_digit, is_word_char};
 ghost use Rattle.yf_chars.specs.Text.{code, Reads};
@@ -52,7 +53,8 @@ fn hex_stands(s: &str, at: usize) -> bool
 // Reads a character of the class, or `%` with two hexadecimal digits, and gives the offset after it.
 fn read_char(s: &str, at: usize, class: Chars) -> Option<usize>
     requires { IsCharBoundary s.now at }
-    ensures reads { MatchOption result (Stuck (Spelled s.now (class_of class) at)) (λ j. (x : List ℕ) × Spelled s.now (class_of class) at j x) }
+    ensures reads { MatchOption result (Stuck (Spelled s.now (class_of class) at))
+        (λ j. (x : List ℕ) × Spelled s.now (class_of class) at j x) }
     ensures boundary { IfSome result (λ j. IsCharBoundary s.now j) }
     ensures order { IfSome result (λ j. at < j) }
 {
@@ -152,7 +154,8 @@ pub fn tag_prefix(s: &str, at: usize) -> Option<usize>
 
 // Reads a verbatim tag (c-verbatim-tag, production 98).
 fn verbatim<'a>(s: &'a str, at: usize) -> Option<TagPart<'a>>
-    ensures reads { MatchOption result (Stuck (VerbatimTag s.now at)) (λ p. (text : List ℕ) × Chosen (VerbatimTag s.now at) p.end text × (tag_value p.tag ≡ IsVerbatim text)) }
+    ensures reads { MatchOption result (Stuck (VerbatimTag s.now at))
+        (λ p. (text : List ℕ) × Chosen (VerbatimTag s.now at) p.end text × (tag_value p.tag ≡ IsVerbatim text)) }
     ensures boundary { IfSome result (λ p. IsCharBoundary s.now p.end) }
 {
     if stands(s, at, b'!') {
@@ -176,8 +179,9 @@ fn verbatim<'a>(s: &'a str, at: usize) -> Option<TagPart<'a>>
 
 // Reads a shorthand tag whose handle is not the lone `!`.
 fn long_shorthand<'a>(s: &'a str, at: usize) -> Option<TagPart<'a>>
-    requires { Reads s.now at 33 (at + 1) }
-    ensures reads { MatchOption result ((h j : ℕ) → Handle s.now at h → at + 1 < h → Run (TagChar s.now) h j → ⊥) (λ p. Chosen (ShorthandTag s.now at) p.end (tag_value p.tag)) }
+    requires { Reads s.now at EXCLAMATION (at + 1) }
+    ensures reads { MatchOption result ((h j : ℕ) → Handle s.now at h → at + 1 < h → Run (TagChar s.now) h j → ⊥)
+        (λ p. Chosen (ShorthandTag s.now at) p.end (tag_value p.tag)) }
     ensures boundary { IfSome result (λ p. IsCharBoundary s.now p.end) }
 {
     let name_end = skip_word_chars(s, at + 1);
@@ -198,8 +202,9 @@ fn long_shorthand<'a>(s: &'a str, at: usize) -> Option<TagPart<'a>>
 
 // Reads a shorthand tag (c-ns-shorthand-tag, production 99), with the longest handle that a suffix follows.
 fn shorthand<'a>(s: &'a str, at: usize) -> Option<TagPart<'a>>
-    requires { Reads s.now at 33 (at + 1) }
-    ensures reads { MatchOption result (Stuck (ShorthandTag s.now at) × Stuck (TagChar s.now (at + 1))) (λ p. Chosen (ShorthandTag s.now at) p.end (tag_value p.tag)) }
+    requires { Reads s.now at EXCLAMATION (at + 1) }
+    ensures reads { MatchOption result (Stuck (ShorthandTag s.now at) × Stuck (TagChar s.now (at + 1)))
+        (λ p. Chosen (ShorthandTag s.now at) p.end (tag_value p.tag)) }
     ensures boundary { IfSome result (λ p. IsCharBoundary s.now p.end) }
 {
     match long_shorthand(s, at) {

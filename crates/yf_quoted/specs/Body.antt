@@ -1,6 +1,7 @@
 -- The inside of quoted scalars, character by character, as their readers go on: a gap of white space or a break, and a
 -- character or the closing quote after it.
 use Rattle.std.specs.Prelude.{◌<ℤ◌, ◌≢◌, ◌⊎◌, ◌==◌, IsSome, encode_utf8_all, ◌≡◌, ℕ, ◌+◌, ◌≤◌, ℤ, pos, Bool, true, false, List, [], ◌∷◌, ◌++◌, Option, Some, None, if◌then◌else◌, slice_range}
+use Rattle.yf_chars.specs.Signs.{BACKSLASH, DOUBLE_QUOTE, SPACE}
 use Rattle.yf_chars.specs.declared.context.Ctx.{Ctx}
 use Rattle.yf_chars.specs.Text.{code, Reads}
 use Rattle.yf_chars.specs.Class.{is_white, is_nb_json}
@@ -12,7 +13,7 @@ use Rattle.yf_quoted.specs.Quoted.{Piece, SingleChar, as_they_are, DoubleChar, D
 
 -- the bytes of what stands between two characters: white space from i to blank_end, a space, and line feeds
 abbrev pub gap_bytes : List ℕ → ℕ → ℕ → Bool → ℕ → List ℕ
-gap_bytes t i blank_end space feeds = slice_range t i blank_end ++ ((if space then 32 ∷ [] else []) ++ line_feeds feeds)
+gap_bytes t i blank_end space feeds = slice_range t i blank_end ++ ((if space then SPACE ∷ [] else []) ++ line_feeds feeds)
 
 -- white space, or a break, up to a character that is no white space
 pub data Gap {A : Type 0} (t : List ℕ) (put : List ℕ → List A) (B : ℕ → ℕ → List A → Type 0) : ℕ → ℕ → List A → Type 0 where
@@ -60,7 +61,7 @@ pub data NoPlainGap (t : List ℕ) (o : Option ℕ) (i : ℕ) : Type 0 where
 
 -- a character or the closing quote of a double-quoted scalar begins there
 abbrev pub DoubleGoesOn : List ℕ → ℕ → Type 0
-DoubleGoesOn t k = ((l : ℕ) × (z : List Piece) × DoubleChar t k l z) ⊎ (code t k ≡ 34)
+DoubleGoesOn t k = ((l : ℕ) × (z : List Piece) × DoubleChar t k l z) ⊎ (code t k ≡ DOUBLE_QUOTE)
 
 -- the gap of a double-quoted scalar from i to j, and its bytes: no other gap leads on
 pub record DoubleGap (t : List ℕ) (o : Option ℕ) (i blank_end : ℕ) (space : Bool) (feeds j : ℕ) : Type 0 where
@@ -87,13 +88,13 @@ shown None = 0xFFFD
 -- a character that stands for itself in double quotes, where no forbidden line begins
 pub record Simple (t : List ℕ) (i j : ℕ) : Type 0 where
   pub json : is_nb_json (code t i) ≡ true
-  pub no_backslash : code t i ≢ 92
-  pub no_quote : code t i ≢ 34
+  pub no_backslash : code t i ≢ BACKSLASH
+  pub no_quote : code t i ≢ DOUBLE_QUOTE
   pub reads : Reads t i (code t i) j
   pub allowed : Forbidden t i → ⊥
 
 pub record NoSimple (t : List ℕ) (i : ℕ) : Type 0 where
-  pub none : is_nb_json (code t i) ≡ true → code t i ≢ 92 → code t i ≢ 34 → (Forbidden t i → ⊥) → ⊥
+  pub none : is_nb_json (code t i) ≡ true → code t i ≢ BACKSLASH → code t i ≢ DOUBLE_QUOTE → (Forbidden t i → ⊥) → ⊥
 
 -- no character of a double-quoted scalar is there that covers no forbidden line
 pub record NoDoubleChar (t : List ℕ) (i : ℕ) : Type 0 where

@@ -2,6 +2,7 @@
 -- what stands from i to j is derived with the meaning x. n is an indentation, from -1; c is a context.
 use Rattle.std.specs.Prelude.{◌≡◌, ◌≢◌, ℕ, ◌+◌, ℤ, true, false, List, [], ◌∷◌, ◌++◌}
 use Rattle.std.specs.Char.{IsScalar}
+use Rattle.yf_chars.specs.Signs.{BACKSLASH, DOUBLE_QUOTE, SINGLE_QUOTE}
 use Rattle.yf_chars.specs.declared.context.Ctx.{Ctx}
 use Rattle.yf_chars.specs.declared.context.Ctx.TheVariants.{FlowIn}
 use Rattle.yf_chars.specs.Text.{code, next}
@@ -41,8 +42,8 @@ pub record Quoted {A : Type 0} (t : List ℕ) (put : List ℕ → List A) (C B :
 
 -- nb-single-char: two quotes stand for one
 pub data SingleChar (t : List ℕ) : ℕ → ℕ → List ℕ → Type 0 where
-  doubled : {i : ℕ} → code t i ≡ 39 → code t (i + 1) ≡ 39 → SingleChar t i (i + 2) (39 ∷ [])
-  unquoted : {i : ℕ} → is_nb_json (code t i) ≡ true → code t i ≢ 39 → SingleChar t i (next t i) (code t i ∷ [])
+  doubled : {i : ℕ} → code t i ≡ SINGLE_QUOTE → code t (i + 1) ≡ SINGLE_QUOTE → SingleChar t i (i + 2) (SINGLE_QUOTE ∷ [])
+  unquoted : {i : ℕ} → is_nb_json (code t i) ≡ true → code t i ≢ SINGLE_QUOTE → SingleChar t i (next t i) (code t i ∷ [])
 
 abbrev pub as_they_are : List ℕ → List ℕ
 as_they_are x = x
@@ -74,14 +75,14 @@ goods (c ∷ cs) = good c ∷ goods cs
 
 -- nb-double-char
 pub data DoubleChar (t : List ℕ) : ℕ → ℕ → List Piece → Type 0 where
-  unescaped : {i : ℕ} → is_nb_json (code t i) ≡ true → code t i ≢ 92 → code t i ≢ 34 → DoubleChar t i (next t i) (good (code t i) ∷ [])
+  unescaped : {i : ℕ} → is_nb_json (code t i) ≡ true → code t i ≢ BACKSLASH → code t i ≢ DOUBLE_QUOTE → DoubleChar t i (next t i) (good (code t i) ∷ [])
   escaped : {i j v : ℕ} → Escape t i j v → IsScalar v → DoubleChar t i j (good v ∷ [])
   wrong : {i j v : ℕ} → Escape t i j v → (IsScalar v → ⊥) → DoubleChar t i j (bad i ∷ [])
 
 -- s-double-break(n): a folded break, or an escaped one (s-double-escaped(n)), before which the white space stay
 pub data DoubleBreak (t : List ℕ) (n : ℤ) : ℕ → ℕ → List Piece → Type 0 where
   folded_break : {i j : ℕ} {x : List ℕ} → FlowFolded t n i j x → DoubleBreak t n i j (goods x)
-  escaped_break : {i h k l j : ℕ} {x y : List ℕ} → Many t is_white i h x → code t h ≡ 92 → Break t (h + 1) k → Chain (Empty t n FlowIn) k l y
+  escaped_break : {i h k l j : ℕ} {x y : List ℕ} → Many t is_white i h x → code t h ≡ BACKSLASH → Break t (h + 1) k → Chain (Empty t n FlowIn) k l y
       → FlowPrefix t n l j → DoubleBreak t n i j (goods x ++ goods y)
 
 -- c-double-quoted(n,c)

@@ -1,6 +1,7 @@
 -- How a text is written in quotes on one line (YAML 1.2.2, sections 7.3.1 and 7.3.2), and what reading that gives.
 use Rattle.std.specs.Prelude.{◌≡◌, ◌≢◌, ℕ, ◌+◌, ℤ, Bool, true, false, ◌==◌, ◌&&◌, List, [], ◌∷◌, ◌++◌, drop, length, flat_map, encode_utf8_all, if◌then◌else◌, None}
 use Rattle.std.specs.Str.{IsUtf8}
+use Rattle.yf_chars.specs.Signs.{DOUBLE_QUOTE, SINGLE_QUOTE}
 use Rattle.yf_chars.specs.declared.context.Ctx.{Ctx}
 use Rattle.yf_chars.specs.Text.{code}
 use Rattle.yf_chars.specs.Class.{is_nb_char}
@@ -23,14 +24,14 @@ quotes_for cs Double = Double
 
 -- in single quotes a quote is written twice
 abbrev pub twice : ℕ → List ℕ
-twice c = if c == 39 then 39 ∷ 39 ∷ [] else c ∷ []
+twice c = if c == SINGLE_QUOTE then SINGLE_QUOTE ∷ SINGLE_QUOTE ∷ [] else c ∷ []
 
 -- the bytes of the text in quotes
 abbrev pub single_bytes : List ℕ → List ℕ
-single_bytes cs = 39 ∷ encode_utf8_all (flat_map twice cs) ++ 39 ∷ []
+single_bytes cs = SINGLE_QUOTE ∷ encode_utf8_all (flat_map twice cs) ++ SINGLE_QUOTE ∷ []
 
 abbrev pub double_bytes : List ℕ → List ℕ
-double_bytes cs = 34 ∷ encode_utf8_all (flat_map spelled cs) ++ 34 ∷ []
+double_bytes cs = DOUBLE_QUOTE ∷ encode_utf8_all (flat_map spelled cs) ++ DOUBLE_QUOTE ∷ []
 
 -- bytes that grew at the end
 pub record Grown (old new : List ℕ) : Type 0 where
@@ -43,7 +44,7 @@ pub record SingleBack (bytes x : List ℕ) : Type 0 where
   pub derived : (t : List ℕ) (i : ℕ) (rest : List ℕ) (n : ℤ) (c : Ctx) → IsUtf8 t → drop i t ≡ bytes ++ rest → is_block c ≡ false
       → SingleQuoted t n c i (i + length bytes) x
   pub chosen : (t : List ℕ) (i : ℕ) (rest : List ℕ) (n : ℤ) (c : Ctx) → IsUtf8 t → drop i t ≡ bytes ++ rest → is_block c ≡ false
-      → code t (i + length bytes) ≢ 39 → Chosen (SingleQuoted t n c i) (i + length bytes) x
+      → code t (i + length bytes) ≢ SINGLE_QUOTE → Chosen (SingleQuoted t n c i) (i + length bytes) x
 
 -- the same for a double-quoted scalar; it has no bad escape, and no longer scalar stands there
 pub record DoubleBack (bytes x : List ℕ) : Type 0 where

@@ -2,6 +2,7 @@
 ghost use Rattle.std.specs.Prelude.{◌≡◌, ◌<◌, ◌≤◌, ◌++◌, ◌+◌, ◌∷◌, [], ℕ, Bool, true, false, List, IfSome, IfOk, IfErr, MatchOption, length, encode_utf8_all};
 ghost use Rattle.std.specs.List.{All};
 ghost use Rattle.std.specs.Str.{IsCharBoundary};
+ghost use Rattle.yf_chars.specs.Signs.{DOUBLE_QUOTE};
 ghost use Rattle.yf_lines.specs.Basic.{Clear};
 ghost use Rattle.yf_lines.specs.FaultPlaces.{IsFirstPlace};
 ghost use Rattle.yf_lines.specs.Text.{text_bytes};
@@ -40,7 +41,9 @@ pub fn read_double<'a>(
     ctx: Ctx,
 ) -> Result<Option<(Text<'a>, usize)>, Fault>
     requires { IsCharBoundary src.now.text at }
-    ensures reads { IfOk result (λ o. MatchOption o (Stuck (Q.DoubleQuoted src.now.text n ctx at)) (λ p. (x : List Q.Piece) × (text_bytes p.0 ≡ encode_utf8_all (Q.text_of x)) × (Q.bad_escapes x ≡ []) × Chosen (Q.DoubleQuoted src.now.text n ctx at) p.1 x)) }
+    ensures reads { IfOk result (λ o. MatchOption o (Stuck (Q.DoubleQuoted src.now.text n ctx at))
+        (λ p. (x : List Q.Piece) × (text_bytes p.0 ≡ encode_utf8_all (Q.text_of x)) × (Q.bad_escapes x ≡ [])
+        × Chosen (Q.DoubleQuoted src.now.text n ctx at) p.1 x)) }
     ensures refused { IfErr result (λ e. DoubleFault src.now.text n ctx at e) }
     ensures boundary { IfOk result (λ o. IfSome o (λ p. IsCharBoundary src.now.text p.1)) }
 {
@@ -70,7 +73,9 @@ pub fn scan_double<'a>(
     ctx: Ctx,
 ) -> Result<Option<(Text<'a>, Option<Place>, usize)>, Fault>
     requires { IsCharBoundary src.now.text at }
-    ensures reads { IfOk result (λ o. MatchOption o (Stuck (Q.DoubleQuoted src.now.text n ctx at)) (λ p. (x : List Q.Piece) × (text_bytes p.0 ≡ encode_utf8_all (Q.text_of x)) × IsFirstPlace src.now.text (Q.bad_escapes x) p.1 × Chosen (Q.DoubleQuoted src.now.text n ctx at) p.2 x)) }
+    ensures reads { IfOk result (λ o. MatchOption o (Stuck (Q.DoubleQuoted src.now.text n ctx at))
+        (λ p. (x : List Q.Piece) × (text_bytes p.0 ≡ encode_utf8_all (Q.text_of x))
+        × IsFirstPlace src.now.text (Q.bad_escapes x) p.1 × Chosen (Q.DoubleQuoted src.now.text n ctx at) p.2 x)) }
     ensures boundary { IfOk result (λ o. IfSome o (λ p. IsCharBoundary src.now.text p.2)) }
     ensures refused { IfErr result (λ e. e ≡ Fault.Memory) }
 {
@@ -104,7 +109,9 @@ pub fn double_in<'a>(
     ctx: Ctx,
 ) -> Result<Option<Double<'a>>, AllocError>
     requires { IsCharBoundary s.now at }
-    ensures reads { IfOk result (λ o. MatchOption o (Stuck (Q.DoubleQuoted s.now n ctx at)) (λ p. (x : List Q.Piece) × (text_bytes p.text ≡ encode_utf8_all (Q.text_of x)) × (p.bad ≡ Q.bad_escapes x) × Chosen (Q.DoubleQuoted s.now n ctx at) p.end x)) }
+    ensures reads { IfOk result (λ o. MatchOption o (Stuck (Q.DoubleQuoted s.now n ctx at))
+        (λ p. (x : List Q.Piece) × (text_bytes p.text ≡ encode_utf8_all (Q.text_of x)) × (p.bad ≡ Q.bad_escapes x)
+        × Chosen (Q.DoubleQuoted s.now n ctx at) p.end x)) }
     ensures boundary { IfOk result (λ o. IfSome o (λ p. IsCharBoundary s.now p.end)) }
     ensures order { IfOk result (λ o. IfSome o (λ p. at < p.end)) }
     ensures place { IfOk result (λ o. IfSome o (λ p. All (IsCharBoundary s.now) p.bad)) }
@@ -135,7 +142,7 @@ fn simple_end(s: &str, at: usize) -> Option<usize>
     ensures reads { IfSome result (λ j. (x : List ℕ) × Chain (SimpleChar s.now) at j x) }
     ensures boundary { IfSome result (λ j. IsCharBoundary s.now j) }
     ensures order { IfSome result (λ j. at ≤ j) }
-    ensures close { IfSome result (λ j. Reads s.now j 34 (j + 1)) }
+    ensures close { IfSome result (λ j. Reads s.now j DOUBLE_QUOTE (j + 1)) }
 {
     let mut end = at;
     'chars: loop {
@@ -186,7 +193,8 @@ struct DoubleChar {
 // A character of a double-quoted scalar (nb-double-char, production 107).
 fn double_char(s: &str, at: usize) -> Option<DoubleChar>
     requires { IsCharBoundary s.now at }
-    ensures reads { MatchOption result (NoDoubleChar s.now at) (λ c. Q.DoubleChar s.now at c.end (piece c.value at ∷ []) × Clear s.now at c.end) }
+    ensures reads { MatchOption result (NoDoubleChar s.now at)
+        (λ c. Q.DoubleChar s.now at c.end (piece c.value at ∷ []) × Clear s.now at c.end) }
     ensures boundary { IfSome result (λ c. IsCharBoundary s.now c.end) }
     ensures order { IfSome result (λ c. at < c.end) }
 {
@@ -216,7 +224,8 @@ fn double_body<'a>(
     width: Option<usize>,
 ) -> Result<Option<Double<'a>>, AllocError>
     requires { IsCharBoundary s.now at }
-    ensures reads { IfOk result (λ o. MatchOption o (NoDoubleBody s.now width at) (λ p. DoubleRead s.now width at (text_bytes p.text) p.bad p.end)) }
+    ensures reads { IfOk result (λ o. MatchOption o (NoDoubleBody s.now width at)
+        (λ p. DoubleRead s.now width at (text_bytes p.text) p.bad p.end)) }
     ensures boundary { IfOk result (λ o. IfSome o (λ p. IsCharBoundary s.now p.end)) }
     ensures order { IfOk result (λ o. IfSome o (λ p. at < p.end)) }
     ensures place { IfOk result (λ o. IfSome o (λ p. All (IsCharBoundary s.now) p.bad)) }

@@ -2,6 +2,7 @@
 ghost use Rattle.std.specs.Prelude.{◌≡◌, ◌+◌, ◌<◌, ◌≤◌, ◌++◌, ◌∷◌, [], if◌then◌else◌, ℕ, pos, Bool, true, false, List, Option, IfSome, OnOk, MatchOption, length};
 ghost use Rattle.std.specs.Str.{IsCharBoundary};
 ghost use Rattle.std.specs.String.{string_bytes};
+ghost use Rattle.yf_chars.specs.Signs.{BACKSLASH, SPACE};
 ghost use Rattle.yf_lines.specs.Fold.{line_feeds};
 ghost use Rattle.yf_chars.specs.Text.{code};
 ghost use Rattle.yf_lines.specs.Basic.{Break, is_block, is_key};
@@ -88,7 +89,8 @@ pub fn double_gap(s: &str, at: usize, width: Option<usize>) -> Option<Gap>
 
 // The offset after a backslash and the line break after it.
 fn escaped_break(s: &str, at: usize) -> Option<usize>
-    ensures reads { MatchOption result (code s.now at ≡ 92 → (l : ℕ) → Break s.now (at + 1) l → ⊥) (λ l. (code s.now at ≡ 92) × Break s.now (at + 1) l) }
+    ensures reads { MatchOption result (code s.now at ≡ BACKSLASH → (l : ℕ) → Break s.now (at + 1) l → ⊥)
+        (λ l. (code s.now at ≡ BACKSLASH) × Break s.now (at + 1) l) }
     ensures boundary { IfSome result (λ l. IsCharBoundary s.now l) }
     ensures order { IfSome result (λ l. at < l) }
 {
@@ -115,7 +117,7 @@ pub fn push_gap(text: &mut String, s: &str, at: usize, gap: Gap) -> Result<(), A
 
 // Appends a space, or nothing.
 fn push_space(text: &mut String, space: bool) -> Result<(), AllocError>
-    ensures { OnOk result (string_bytes text.new ≡ string_bytes text.old ++ (if space then 32 ∷ [] else [])) }
+    ensures { OnOk result (string_bytes text.new ≡ string_bytes text.old ++ (if space then SPACE ∷ [] else [])) }
 {
     if space {
         return text.push(' ');

@@ -3,6 +3,7 @@ ghost use Rattle.std.specs.Prelude.{◌≡◌, ◌≢◌, ◌<◌, ◌≤◌, �
 ghost use Rattle.std.specs.String.{string_bytes};
 ghost use Rattle.std.specs.String.Boundary.{IsSplitPoint};
 ghost use Rattle.std.specs.Str.{IsCharBoundary};
+ghost use Rattle.yf_chars.specs.Signs.{SINGLE_QUOTE};
 ghost use Rattle.yf_chars.specs.Chain.{Chain, Stuck, Chosen};
 ghost use Rattle.yf_chars.specs.Text.{Reads, code};
 ghost use Rattle.yf_lines.specs.Basic.{Clear};
@@ -37,7 +38,8 @@ pub fn read_single<'a>(
     ctx: Ctx,
 ) -> Result<Option<(Text<'a>, usize)>, Fault>
     requires { IsCharBoundary src.now.text at }
-    ensures reads { IfOk result (λ o. MatchOption o (Stuck (Q.SingleQuoted src.now.text n ctx at)) (λ p. (x : List ℕ) × (text_bytes p.0 ≡ encode_utf8_all x) × Chosen (Q.SingleQuoted src.now.text n ctx at) p.1 x)) }
+    ensures reads { IfOk result (λ o. MatchOption o (Stuck (Q.SingleQuoted src.now.text n ctx at))
+        (λ p. (x : List ℕ) × (text_bytes p.0 ≡ encode_utf8_all x) × Chosen (Q.SingleQuoted src.now.text n ctx at) p.1 x)) }
     ensures boundary { IfOk result (λ o. IfSome o (λ p. IsCharBoundary src.now.text p.1)) }
     ensures refused { IfErr result (λ e. e ≡ Fault.Memory) }
 {
@@ -64,7 +66,8 @@ pub fn single_in<'a>(
     ctx: Ctx,
 ) -> Result<Option<Single<'a>>, AllocError>
     requires { IsCharBoundary s.now at }
-    ensures reads { IfOk result (λ o. MatchOption o (Stuck (Q.SingleQuoted s.now n ctx at)) (λ p. (x : List ℕ) × (text_bytes p.text ≡ encode_utf8_all x) × Chosen (Q.SingleQuoted s.now n ctx at) p.end x)) }
+    ensures reads { IfOk result (λ o. MatchOption o (Stuck (Q.SingleQuoted s.now n ctx at))
+        (λ p. (x : List ℕ) × (text_bytes p.text ≡ encode_utf8_all x) × Chosen (Q.SingleQuoted s.now n ctx at) p.end x)) }
     ensures boundary { IfOk result (λ o. IfSome o (λ p. IsCharBoundary s.now p.end)) }
     ensures order { IfOk result (λ o. IfSome o (λ p. at < p.end)) }
 {
@@ -90,11 +93,12 @@ pub fn single_in<'a>(
 // The place of the closing quote, where only characters that stand for themselves stand before it, and no quote after.
 fn simple_end(s: &str, at: usize) -> Option<usize>
     requires { IsCharBoundary s.now at }
-    ensures reads { IfSome result (λ j. (x : List ℕ) × Chain (Q.SingleChar s.now) at j x × Clear s.now at j × (slice_range s.now at j ≡ encode_utf8_all x)) }
-    ensures alone { IfSome result (λ j. code s.now (j + 1) ≢ 39) }
+    ensures reads { IfSome result (λ j. (x : List ℕ) × Chain (Q.SingleChar s.now) at j x × Clear s.now at j
+        × (slice_range s.now at j ≡ encode_utf8_all x)) }
+    ensures alone { IfSome result (λ j. code s.now (j + 1) ≢ SINGLE_QUOTE) }
     ensures boundary { IfSome result (λ j. IsCharBoundary s.now j) }
     ensures order { IfSome result (λ j. at ≤ j) }
-    ensures close { IfSome result (λ j. Reads s.now j 39 (j + 1)) }
+    ensures close { IfSome result (λ j. Reads s.now j SINGLE_QUOTE (j + 1)) }
 {
     let mut end = at;
     'chars: loop {
@@ -123,7 +127,7 @@ struct SingleChar {
 fn single_char(s: &str, at: usize) -> Option<SingleChar>
     requires { IsCharBoundary s.now at }
     ensures reads { MatchOption result (NoSingleChar s.now at) (λ c. Q.SingleChar s.now at c.end (c.value ∷ []) × Clear s.now at c.end) }
-    ensures doubled { IfSome result (λ c. MatchBool c.doubled (code s.now at ≡ 39) (code s.now at ≢ 39)) }
+    ensures doubled { IfSome result (λ c. MatchBool c.doubled (code s.now at ≡ SINGLE_QUOTE) (code s.now at ≢ SINGLE_QUOTE)) }
     ensures boundary { IfSome result (λ c. IsCharBoundary s.now c.end) }
     ensures order { IfSome result (λ c. at < c.end) }
     ensures quote { IfSome result (λ c. c.doubled ≡ true → IsCharBoundary s.now (at + 1)) }
@@ -171,7 +175,8 @@ fn single_body<'a>(
     width: Option<usize>,
 ) -> Result<Option<Single<'a>>, AllocError>
     requires { IsCharBoundary s.now at }
-    ensures reads { IfOk result (λ o. MatchOption o (NoSingleBody s.now width at) (λ p. SingleRead s.now width at (text_bytes p.text) p.end)) }
+    ensures reads { IfOk result (λ o. MatchOption o (NoSingleBody s.now width at)
+        (λ p. SingleRead s.now width at (text_bytes p.text) p.end)) }
     ensures boundary { IfOk result (λ o. IfSome o (λ p. IsCharBoundary s.now p.end)) }
     ensures order { IfOk result (λ o. IfSome o (λ p. at < p.end)) }
 {
@@ -216,7 +221,8 @@ fn next_mark(mark: Option<Mark>, doubled: bool, len: usize, end: usize) -> Optio
 // The scalar up to the mark.
 fn cut<'a>(mut text: String, mark: Option<Mark>) -> Option<Single<'a>>
     requires { IfSome mark (λ m. IsSplitPoint (string_bytes text) m.len) }
-    ensures { MatchOption mark (result ≡ None) (λ m. IsSomeAnd result (λ r. (r.end ≡ m.end) × (text_bytes r.text ≡ take m.len (string_bytes text)))) }
+    ensures { MatchOption mark (result ≡ None) (λ m. IsSomeAnd result
+        (λ r. (r.end ≡ m.end) × (text_bytes r.text ≡ take m.len (string_bytes text)))) }
 {
     match mark {
         None => None,

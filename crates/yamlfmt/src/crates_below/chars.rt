@@ -1,6 +1,7 @@
 //! Bytes, and escapes as they are read and written.
 
 use std::test::Fail;
+use yf_chars::classes::{is_break_char, is_white};
 use yf_chars::escapes::{Escape, push_escaped, read_escape};
 use yf_chars::utf8::{BadByte, check_utf8};
 
@@ -36,4 +37,15 @@ fn reads_and_writes_escapes(rt: HostRuntime) -> Result<(), Fail> {
     }
     assert_eq!(rt; out.as_str(), "\\x07\\u2028\\\"e");
     Ok(())
+}
+
+#[test]
+fn tells_white_space_from_breaks(rt: HostRuntime) {
+    for c in [' ', '\t'] {
+        assert!(rt; is_white(c) && !is_break_char(c));
+    }
+    for c in ['\n', '\r'] {
+        assert!(rt; is_break_char(c) && !is_white(c));
+    }
+    assert!(rt; !is_white('\u{A0}') && !is_break_char('\u{85}'));
 }
