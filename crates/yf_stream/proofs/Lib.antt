@@ -1,4 +1,6 @@
+pub mod DirectiveLineLemmas
 pub mod DirectiveOrder
+pub mod DirectiveWords
 pub mod DocumentPlaces
 pub mod Forward
 pub mod LawsHold

@@ -1,3 +1,4 @@
+pub mod DirectiveReaders
 pub mod Laws
 pub mod NodeLaws
 pub mod PlaceLaws
