@@ -1,13 +1,17 @@
+pub mod DirectiveLineLemmas
 pub mod DirectiveOrder
+pub mod DirectiveWords
 pub mod DocumentPlaces
 pub mod Forward
 pub mod LawsHold
+pub mod MarkerLemmas
 pub mod NoPercent
 pub mod NodeLawsHold
 pub mod OneDirective
 pub mod OneReading
 pub mod OneStream
 pub mod PlaceLawsHold
+pub mod PrefixLemmas
 pub mod ReadingOrder
 pub mod ReadingTrees
 pub mod ShownEmpty

@@ -46,14 +46,14 @@ digit_bounds : (c : ℕ) → is_digit c ≡ true → (48 ≤ c) × (c < 58)
 unfolding is_digit is_between
 digit_bounds c e = (grind (arith, nat_tests), grind (arith, nat_tests))
 
-digit_ns : (c : ℕ) → is_digit c ≡ true → is_ns_char c ≡ true
+pub digit_ns : (c : ℕ) → is_digit c ≡ true → is_ns_char c ≡ true
 digit_ns c e = let b = digit_bounds c e in solid_ns c (omega (arith, b.0)) (omega (arith, b.1))
 
 mark_no_tag : is_tag_char 33 ≡ false
 unfolding is_tag_char is_uri_char is_word_char is_digit is_between
 mark_no_tag = refl
 
-yaml_no_tag : codes "YAML" ≡ codes "TAG" → ⊥
+pub yaml_no_tag : codes "YAML" ≡ codes "TAG" → ⊥
 yaml_no_tag e = let f = ap length e in absurd (omega arith)
 
 module _ {t : List ℕ} (u : IsUtf8 t) where
@@ -65,11 +65,11 @@ module _ {t : List ℕ} (u : IsUtf8 t) where
   many_behind f done b = b
   many_behind f (step (one {i = i} e) c) b = many_behind f c (behind_next i (f (code t i) e))
 
-  run_first : {p : ℕ → Bool} {i j : ℕ} {x : List ℕ} → Many t p i j x → i < j → p (code t i) ≡ true
+  pub run_first : {p : ℕ → Bool} {i j : ℕ} {x : List ℕ} → Many t p i j x → i < j → p (code t i) ≡ true
   run_first done l = absurd (omega arith)
   run_first (step (one e) c) l = e
 
-  run_behind : {p : ℕ → Bool} {i j : ℕ} {x : List ℕ} → ((c : ℕ) → p c ≡ true → is_ns_char c ≡ true) → Many t p i j x → i < j → Behind t j
+  pub run_behind : {p : ℕ → Bool} {i j : ℕ} {x : List ℕ} → ((c : ℕ) → p c ≡ true → is_ns_char c ≡ true) → Many t p i j x → i < j → Behind t j
   run_behind f done l = absurd (omega arith)
   run_behind f (step (one {i = i} e) c) l = many_behind f c (behind_next i (f (code t i) e))
 
@@ -89,10 +89,10 @@ module _ {t : List ℕ} (u : IsUtf8 t) where
   spelled_ns f (as_escape {i = i} a b d) = solid_ns (code t i) (omega arith) (omega arith)
 
   -- white space up to a character that is none ends at one place
-  in_line_one : {i j k : ℕ} → SeparateInLine t i j → is_white (code t j) ≡ false → SeparateInLine t i k → is_white (code t k) ≡ false → j ≡ k
+  pub in_line_one : {i j k : ℕ} → SeparateInLine t i j → is_white (code t j) ≡ false → SeparateInLine t i k → is_white (code t k) ≡ false → j ≡ k
   in_line_one a e b f = (many_unique t is_white (separate_whites a).1 e (separate_whites b).1 f).0
 
-  no_ns_white : (i : ℕ) → is_ns_char (code t i) ≡ true → is_white (code t i) ≡ false
+  pub no_ns_white : (i : ℕ) → is_ns_char (code t i) ≡ true → is_white (code t i) ≡ false
   no_ns_white i e = ns_not_white (code t i) e
 
   byte_no_white : (i : ℕ) {b : ℕ} → code t i ≡ b → 33 ≤ b → b < 127 → is_white (code t i) ≡ false
@@ -160,7 +160,7 @@ module _ {t : List ℕ} (u : IsUtf8 t) where
   word_start : {i k : ℕ} → Run (One t is_ns_char) i k → is_ns_char (code t i) ≡ true
   word_start r = run_first r.chain r.some
 
-  reserved_functional : Functional (ReservedParameter t)
+  pub reserved_functional : Functional (ReservedParameter t)
   reserved_functional = record { one_end = λ a b. ends a b; one_meaning = λ a b. words a b; forward = λ a. later a } where
     starts : {i k h j l : ℕ} → SeparateInLine t i k → Run (One t is_ns_char) k j → SeparateInLine t i h → Run (One t is_ns_char) h l → (k ≡ h) × (j ≡ l)
     starts {k = k} {h} {j} {l} s r v q =
@@ -180,12 +180,12 @@ module _ {t : List ℕ} (u : IsUtf8 t) where
   reserved_behind : {i j : ℕ} {x : List (List ℕ)} → ReservedParameter t i j x → Behind t j
   reserved_behind (reserved_parameter s n r) = run_behind (λ c e. e) r.chain r.some
 
-  words_behind : {i j : ℕ} {x : List (List ℕ)} → Chain (ReservedParameter t) i j x → Behind t i → Behind t j
+  pub words_behind : {i j : ℕ} {x : List (List ℕ)} → Chain (ReservedParameter t) i j x → Behind t i → Behind t j
   words_behind done b = b
   words_behind (step s c) b = words_behind c (reserved_behind s)
 
   -- no line ends before one more word
-  no_end_before : {i j n : ℕ} {x : List (List ℕ)} {b : List CommentValue} → Behind t i → ReservedParameter t i j x → LineEnd t i n b → ⊥
+  pub no_end_before : {i j n : ℕ} {x : List (List ℕ)} {b : List CommentValue} → Behind t i → ReservedParameter t i j x → LineEnd t i n b → ⊥
   no_end_before {n = n} {b = b} o (reserved_parameter {k = k} s h r) l =
       let v = visible_solid (record { ns = word_start r; no_hash = h }) in
       (line_end_stuck (λ q. no_start_behind u o q) (stuck_at_solid (separate_whites s).1 v.not_white v.no_comment v.no_end)).none n b l
@@ -202,14 +202,14 @@ module _ {t : List ℕ} (u : IsUtf8 t) where
     go (falls_short z r q) = let v = stays (words_behind e h) r f in (sym v.0, q ∙ ap (λ w. y ++ w) v.1 ∙ append-nil y)
 
   -- all parameters, before the end of the line
-  version_one : {i k p d e j l : ℕ} → SeparateInLine t i k → Run (One t is_digit) k d → Run (One t is_digit) (d + 1) j
+  pub version_one : {i k p d e j l : ℕ} → SeparateInLine t i k → Run (One t is_digit) k d → Run (One t is_digit) (d + 1) j
       → SeparateInLine t i p → Run (One t is_digit) p e → Run (One t is_digit) (e + 1) l → (k ≡ p) × (j ≡ l)
   version_one {k = k} {p} {d} {e} {j} {l} s a b r c f =
       let same = in_line_one s (no_ns_white k (digit_ns (code t k) (run_first a.chain a.some))) r (no_ns_white p (digit_ns (code t p) (run_first c.chain c.some))) in
       let dot = run_unique (one_functional t is_digit) a (subst (λ w. Run (One t is_digit) w e) (sym same) c) in
       (same, run_unique (one_functional t is_digit) b (subst (λ w. Run (One t is_digit) (w + 1) l) (sym dot) f))
 
-  parameters_one : {i j k m n : ℕ} {name : List ℕ} {x y : List (List ℕ)} {a b : List CommentValue} → Behind t i → Parameters t name i j x → LineEnd t j m a
+  pub parameters_one : {i j k m n : ℕ} {name : List ℕ} {x y : List (List ℕ)} {a b : List CommentValue} → Behind t i → Parameters t name i j x → LineEnd t j m a
       → Parameters t name i k y → LineEnd t k n b → (j ≡ k) × (x ≡ y)
   parameters_one h (version_parameter {k = k} {j = j} e s a q b) d (version_parameter {k = p} {j = l} f r c v g) w =
       let o = version_one s a b r c g in
@@ -296,7 +296,7 @@ module _ {t : List ℕ} where
   lines_to (more_directives a b) f = lines_then a (lines_to b f)
 
 module _ {t : List ℕ} (u : IsUtf8 t) where
-  line_one : {i k l : ℕ} {d e : Directive} {cs es : List CommentValue} → LineTo t i k d cs → LineTo t i l e es → (k ≡ l) × (d ≡ e) × (cs ≡ es)
+  pub line_one : {i k l : ℕ} {d e : Directive} {cs es : List CommentValue} → LineTo t i k d cs → LineTo t i l e es → (k ≡ l) × (d ≡ e) × (cs ≡ es)
   line_one {i} {k} {l} {d} {e} {cs} {es} a b =
       let n = run_unique (one_functional t is_ns_char) a.name b.name in
       let p : Parameters t (slice_range t (i + 1) a.name_end) a.name_end b.words_end b.words =

@@ -6,56 +6,27 @@ use Rattle.std.specs.List.Sorted.{IsNonDecreasingBy}
 use Rattle.yf_chars.specs.Chain.{Chain}
 use Rattle.yf_chars.specs.Chain.Chain.{done, step}
 use Rattle.yf_chars.specs.Text.{code}
-use Rattle.yf_chars.proofs.ChainLemmas.{chain_forward, chain_one}
+use Rattle.yf_chars.proofs.ChainLemmas.{chain_one}
 use Rattle.yf_chars.proofs.TextLemmas.{next_later}
 use Rattle.yf_comments.specs.Comment.{CommentValue}
 use Rattle.yf_comments.proofs.LineEndLemmas.{lines_rows}
-use Rattle.yf_props.specs.Names.{Handle, TagPrefix}
-use Rattle.yf_props.specs.Names.Handle.{primary_handle, secondary_handle, named_handle}
-use Rattle.yf_props.specs.Names.TagPrefix.{local_prefix, global_prefix}
-use Rattle.yf_props.proofs.TagLemmas.{percent_uri, spelled_functional, tag_functional}
-use Rattle.yf_chars.specs.Class.{is_uri_char}
 use Rattle.yf_events.specs.Event.{Placed}
 use Rattle.yf_events.specs.declared.lists.Lists.{Lists}
 use Rattle.yf_grammar.specs.Meaning.{Meaning, empty_node, noting}
 use Rattle.yf_grammar.proofs.CommentOrder.{Ascend, no_more, one_more, ascend_after, ascend_join, ascend_order, derived_ascends, end_ascends, rows_ascend}
-use Rattle.yf_grammar.proofs.Forward.{in_line_forward}
 use Rattle.yf_stream.specs.ReadingOf.{NotedComments, no_comment, one_comment, ReadingOf}
-use Rattle.yf_stream.specs.Stream.{AnyDocument, DirectiveLines, Directives, Document, Documents, ExplicitNode, Parameters, PrefixPart, Prefixes, ReservedParameter, Stream, StreamRest, Suffixes, with_comments, with_document}
+use Rattle.yf_stream.specs.Stream.{AnyDocument, DirectiveLines, Directives, Document, Documents, ExplicitNode, PrefixPart, Prefixes, Stream, StreamRest, Suffixes, with_comments, with_document}
 use Rattle.yf_stream.specs.Stream.AnyDocument.{bare_document, directive_document, explicit_document}
 use Rattle.yf_stream.specs.Stream.DirectiveLines.{last_directive, more_directives}
 use Rattle.yf_stream.specs.Stream.ExplicitNode.{marked_node, marked_nothing}
-use Rattle.yf_stream.specs.Stream.Parameters.{version_parameter, tag_parameters, reserved_parameters}
 use Rattle.yf_stream.specs.Stream.PrefixPart.{order_mark, prefix_comment}
-use Rattle.yf_stream.specs.Stream.ReservedParameter.{reserved_parameter}
 use Rattle.yf_stream.specs.Stream.Stream.{begins_with_document, without_document}
 use Rattle.yf_stream.specs.Stream.StreamRest.{past_explicit, past_prefix, past_suffixes, past_suffixes_and_document, stream_ended}
 use Rattle.yf_stream.specs.Stream.Suffixes.{last_suffix, more_suffixes}
+use Rattle.yf_stream.proofs.DirectiveOrder.{parameters_forward}
 
 module _ {t : List ℕ} where
   -- directives
-  handle_forward : {i h : ℕ} → Handle t i h → i ≤ h
-  handle_forward (primary_handle a) = omega arith
-  handle_forward (secondary_handle a b) = omega arith
-  handle_forward (named_handle a r b) = let l = r.some in omega arith
-
-  prefix_forward : {i j : ℕ} {x : List ℕ} → TagPrefix t i j x → i ≤ j
-  prefix_forward (local_prefix e c) = let f = chain_forward (spelled_functional t is_uri_char percent_uri) c in omega arith
-  prefix_forward (global_prefix s c) = let f = tag_functional.forward s in let g = chain_forward (spelled_functional t is_uri_char percent_uri) c in omega arith
-
-  word_forward : {i j : ℕ} {x : List (List ℕ)} → ReservedParameter t i j x → i ≤ j
-  word_forward (reserved_parameter s n r) = let f = in_line_forward s in let l = r.some in omega arith
-
-  words_forward : {i j : ℕ} {x : List (List ℕ)} → Chain (ReservedParameter t) i j x → i ≤ j
-  words_forward done = omega arith
-  words_forward (step s c) = let f = word_forward s in let g = words_forward c in omega arith
-
-  parameters_forward : {name : List ℕ} {i j : ℕ} {x : List (List ℕ)} → Parameters t name i j x → i ≤ j
-  parameters_forward (version_parameter e s a q b) = let f = in_line_forward s in let g = a.some in let h = b.some in omega arith
-  parameters_forward (tag_parameters e s a q b) =
-      let f = in_line_forward s in let g = handle_forward a in let h = in_line_forward q in let k = prefix_forward b in omega arith
-  parameters_forward (reserved_parameters e n c) = words_forward c
-
   directives_ascend : {i j : ℕ} {x : Directives} → DirectiveLines t i j x → Ascend t i x.comments j
   directives_ascend (last_directive e r p d) = let f = r.some in let g = parameters_forward p in ascend_after (omega arith) (end_ascends d)
   directives_ascend (more_directives a b) = ascend_join (directives_ascend a) (directives_ascend b)

@@ -1,6 +1,9 @@
+pub mod DirectiveReaders
+pub mod DocumentReaders
 pub mod Laws
 pub mod NodeLaws
 pub mod PlaceLaws
+pub mod ReaderLaws
 pub mod ReadingOf
 pub mod Refusal
 pub mod Stream

@@ -1,6 +1,12 @@
 //! Directives (YAML 1.2.2, section 6.8). Offsets count bytes.
-ghost use Rattle.std.specs.Prelude.{◌≡◌, ◌+◌, ◌<◌, ◌≤◌, IfOk, IfSome};
+ghost use Rattle.std.specs.Prelude.{◌≡◌, ◌+◌, ◌<◌, ◌≤◌, ℕ, List, [], ◌∷◌, false, codes, IfOk, IfSome, MatchOption, MatchResult};
 ghost use Rattle.std.specs.Str.{IsCharBoundary};
+ghost use Rattle.yf_chars.specs.Chain.{Chosen, Many, Stuck};
+ghost use Rattle.yf_chars.specs.Class.{is_digit, is_ns_char};
+ghost use Rattle.yf_chars.specs.Text.{code};
+ghost use Rattle.yf_lines.specs.Basic.{LineStart};
+ghost use Rattle.yf_stream.specs.DirectiveReaders.{DirectivesEnd, DirectivesRead, IsDirective, NoDirective, NoWords, ReservedRead, WordsRead};
+ghost use Rattle.yf_stream.specs.Stream.{Parameters};
 ghost use Rattle.yf_stream.specs.Walk.{Place};
 
 use std::alloc::{AllocError, Global};
@@ -37,7 +43,8 @@ pub(crate) fn read_directives<'a>(
     comments: &mut Comments<'a>,
 ) -> Result<Result<DirectiveLines<'a>, usize>, AllocError>
     requires { IsCharBoundary text.now at }
-    ensures { IfOk result (λ r. IfOk r (λ lines. Place text.entry.now at lines.end)) }
+    ensures reads { IfOk result (λ r. MatchResult r (λ lines. DirectivesRead text.now at lines.end lines.directives comments.old comments.new) (λ place. DirectivesEnd text.now at place)) }
+    ensures place { IfOk result (λ r. MatchResult r (λ lines. Place text.now at lines.end) (λ place. Place text.now at place)) }
 {
     let mut directives = Directives::new(alloc);
     let mut end = at;
@@ -62,12 +69,16 @@ fn read_directive<'a>(
     at: usize,
 ) -> Result<Option<DirectiveLine<'a>>, AllocError>
     requires { IsCharBoundary text.now at }
-    ensures { IfOk result (λ o. IfSome o (λ line. Place text.now (at + 1) line.end)) }
+    ensures reads { IfOk result (λ o. MatchOption o (NoDirective text.now at) (λ line. Chosen (IsDirective text.now at) line.end (record { directives = line.directive ∷ []; comments = line.comments }))) }
+    ensures place { IfOk result (λ o. IfSome o (λ line. Place text.now (at + 1) line.end)) }
 {
     if !stands(text, at, b'%') {
         return Ok(None);
     }
     let name_end = skip_ns_chars(text, at + 1);
+    if name_end == at + 1 {
+        return Ok(None);
+    }
     let name = &text[at + 1..name_end];
     let mut words = Slices::new(alloc);
     words.push(name)?;
@@ -96,11 +107,12 @@ fn read_parameters<'a>(
     at: usize,
     words: &mut Slices<'a>,
 ) -> Result<Option<usize>, AllocError>
-    requires { IsCharBoundary text.now at }
-    ensures { IfOk result (λ o. IfSome o (λ end. Place text.now at end)) }
+    requires boundary { IsCharBoundary text.now at }
+    requires within { LineStart text.now at → ⊥ }
+    ensures reads { IfOk result (λ o. MatchOption o (NoWords text.now name.now at) (λ end. WordsRead text.now name.now at end words.old words.new)) }
+    ensures place { IfOk result (λ o. IfSome o (λ end. Place text.now at end)) }
 {
     match name {
-        "" => Ok(None),
         "YAML" => read_version(text, at, words),
         "TAG" => read_tag_parameters(text, at, words),
         _ => read_reserved(text, at, words),
@@ -113,8 +125,10 @@ fn read_version<'a>(
     at: usize,
     words: &mut Slices<'a>,
 ) -> Result<Option<usize>, AllocError>
-    requires { IsCharBoundary text.now at }
-    ensures { IfOk result (λ o. IfSome o (λ end. Place text.now at end)) }
+    requires boundary { IsCharBoundary text.now at }
+    requires within { LineStart text.now at → ⊥ }
+    ensures reads { IfOk result (λ o. MatchOption o (Stuck (Parameters text.now (codes "YAML") at)) (λ end. WordsRead text.now (codes "YAML") at end words.old words.new)) }
+    ensures place { IfOk result (λ o. IfSome o (λ end. Place text.now at end)) }
 {
     let start = skip_whites(text, at);
     if start == at {
@@ -141,8 +155,10 @@ fn read_tag_parameters<'a>(
     at: usize,
     words: &mut Slices<'a>,
 ) -> Result<Option<usize>, AllocError>
-    requires { IsCharBoundary text.now at }
-    ensures { IfOk result (λ o. IfSome o (λ end. Place text.now at end)) }
+    requires boundary { IsCharBoundary text.now at }
+    requires within { LineStart text.now at → ⊥ }
+    ensures reads { IfOk result (λ o. IfSome o (λ end. WordsRead text.now (codes "TAG") at end words.old words.new)) }
+    ensures place { IfOk result (λ o. IfSome o (λ end. Place text.now at end)) }
 {
     let start = skip_whites(text, at);
     if start == at {
@@ -169,8 +185,10 @@ fn read_reserved<'a>(
     at: usize,
     words: &mut Slices<'a>,
 ) -> Result<Option<usize>, AllocError>
-    requires { IsCharBoundary text.now at }
-    ensures { IfOk result (λ o. IfSome o (λ end. Place text.now at end)) }
+    requires boundary { IsCharBoundary text.now at }
+    requires within { LineStart text.now at → ⊥ }
+    ensures reads { IfOk result (λ o. MatchOption o ⊥ (λ end. ReservedRead text.now at end words.old words.new)) }
+    ensures place { IfOk result (λ o. IfSome o (λ end. Place text.now at end)) }
 {
     let mut end = at;
     'words: loop {
@@ -193,7 +211,9 @@ fn read_reserved<'a>(
 // The offset after all characters that are no white space that stands at the offset.
 fn skip_ns_chars(text: &str, at: usize) -> usize
     requires { IsCharBoundary text.now at }
-    ensures { Place text.now at result }
+    ensures chars { (x : List ℕ) × Many text.now is_ns_char at result x }
+    ensures all { is_ns_char (code text.now result) ≡ false }
+    ensures place { Place text.now at result }
 {
     let mut end = at;
     'chars: loop {
@@ -213,7 +233,9 @@ fn skip_ns_chars(text: &str, at: usize) -> usize
 // The offset after all digits that stand at the offset.
 fn skip_digits(text: &str, at: usize) -> usize
     requires { IsCharBoundary text.now at }
-    ensures { Place text.now at result }
+    ensures chars { (x : List ℕ) × Many text.now is_digit at result x }
+    ensures all { is_digit (code text.now result) ≡ false }
+    ensures place { Place text.now at result }
 {
     let mut end = at;
     'digits: loop {

@@ -2,6 +2,8 @@
 ghost use Rattle.std.specs.Prelude.{◌≡◌, ◌+◌, ◌<◌, ◌≤◌, [], IfOk, IfSome};
 ghost use Rattle.std.specs.List.{All};
 ghost use Rattle.std.specs.Str.{IsCharBoundary};
+ghost use Rattle.yf_events.specs.Event.{new_event_value};
+ghost use Rattle.yf_stream.specs.DocumentReaders.{IsMarker, Kept, PrefixRead, SuffixRead, closed, opened, with_event};
 ghost use Rattle.yf_stream.specs.Walk.{Place, NextAt};
 
 use crate::directives::{DirectiveLines, read_directives};
@@ -9,7 +11,7 @@ use std::alloc::{AllocError, Global};
 use yf_block::look::is_blank_after;
 use yf_block::nodes::{Outcome, block_node_in};
 use yf_chars::context::Ctx;
-use yf_chars::text::{peek, stands};
+use yf_chars::text::stands;
 use yf_comments::comment::Comment;
 use yf_comments::comments::{Comments, Separation};
 use yf_comments::lines::line_end;
@@ -21,12 +23,9 @@ use yf_events::part::Part;
 use yf_events::reading::DEPTH;
 use yf_events::row::Row;
 use yf_events::slices::Slices;
-use yf_lines::basic::{is_forbidden_at, skip_whites};
+use yf_lines::basic::{is_forbidden_at, mark_stands, skip_whites};
 use yf_lines::text::Text;
 use yf_props::props::Props;
-
-/// The byte order mark (c-byte-order-mark, production 3).
-const BYTE_ORDER_MARK: char = '\u{FEFF}';
 
 /// What has been read of a stream so far, in order of the text.
 #[derive(Debug, Drop)]
@@ -90,7 +89,8 @@ impl<'a> Parts<'a> {
         alloc: Global,
         event: NewEvent<'a>,
     ) -> Result<(), AllocError>
-        ensures { IfOk result (λ _. self.new.part.escapes ≡ self.old.part.escapes) }
+        ensures parts { IfOk result (λ _. self.new ≡ with_event self.old (new_event_value event.entry)) }
+        ensures escapes { IfOk result (λ _. self.new.part.escapes ≡ self.old.part.escapes) }
     {
         self.part.events.push(PlacedEvent {
             event,
@@ -108,7 +108,8 @@ impl<'a> Parts<'a> {
         spot: Spot,
         explicit: bool,
     ) -> Result<(), AllocError>
-        ensures { IfOk result (λ _. self.new.part.escapes ≡ self.old.part.escapes) }
+        ensures parts { IfOk result (λ _. self.new ≡ closed explicit spot.is_open self.old) }
+        ensures escapes { IfOk result (λ _. self.new.part.escapes ≡ self.old.part.escapes) }
     {
         if spot.is_open {
             return self.push_unplaced(alloc, NewEvent::DocEnd { explicit });
@@ -124,7 +125,8 @@ impl<'a> Parts<'a> {
         explicit: bool,
         directives: Directives<'a>,
     ) -> Result<(), AllocError>
-        ensures { IfOk result (λ _. self.new.part.escapes ≡ self.old.part.escapes) }
+        ensures parts { IfOk result (λ _. self.new ≡ opened start explicit directives.entry self.old) }
+        ensures escapes { IfOk result (λ _. self.new.part.escapes ≡ self.old.part.escapes) }
     {
         self.push_unplaced(alloc, NewEvent::DocStart { explicit })?;
         self.documents.push(Doc { start, directives })
@@ -140,13 +142,15 @@ pub(crate) fn skip_prefix<'a>(
     parts: &mut Parts<'a>,
 ) -> Result<Spot, AllocError>
     requires { IsCharBoundary text.now spot.at }
+    ensures reads { IfOk result (λ s. PrefixRead text.now spot.at s.at parts.old.part.comments parts.new.part.comments) }
+    ensures spot { IfOk result (λ s. s ≡ record spot { at = s.at }) }
     ensures place { IfOk result (λ s. Place text.now spot.at s.at) }
     ensures escapes { IfOk result (λ _. parts.new.part.escapes ≡ parts.old.part.escapes) }
 {
     let mut at = spot.at;
     'lines: loop {
-        if let Some((BYTE_ORDER_MARK, next)) = peek(text, at) {
-            at = next;
+        if mark_stands(text, at) {
+            at += 3;
             continue;
         }
         match line_end(alloc, text, at)? {
@@ -169,7 +173,8 @@ fn keep_comments<'a>(
     comments: &Comments<'a>,
     parts: &mut Parts<'a>,
 ) -> Result<(), AllocError>
-    ensures { IfOk result (λ _. parts.new.part.escapes ≡ parts.old.part.escapes) }
+    ensures kept { IfOk result (λ _. Kept comments.now parts.old.part.comments parts.new.part.comments) }
+    ensures escapes { IfOk result (λ _. parts.new.part.escapes ≡ parts.old.part.escapes) }
 {
     for comment in comments.as_slice() {
         parts.part.comments.push(Comment {
@@ -213,7 +218,8 @@ pub(crate) fn read_next<'a>(
 // The document marker at the start of a line that begins at the offset.
 fn marker_at(text: &str, at: usize) -> Option<Marker>
     requires { IsCharBoundary text.now at }
-    ensures { IfSome result (λ _. IsCharBoundary text.now (at + 3)) }
+    ensures marker { IsMarker text.now at result }
+    ensures boundary { IfSome result (λ _. IsCharBoundary text.now (at + 3)) }
 {
     if is_forbidden_at(text, at) {
         if stands(text, at + 2, b'-') {
@@ -236,6 +242,7 @@ fn read_suffix<'a>(
 ) -> Result<Next, AllocError>
     requires boundary { IsCharBoundary text.now (spot.at + 3) }
     requires escapes { All (IsCharBoundary text.now) parts.old.part.escapes }
+    ensures reads { IfOk result (λ next. SuffixRead text.now spot parts.old parts.new next) }
     ensures next { IfOk result (λ next. NextAt text.now (spot.at + 1) next) }
     ensures escapes { IfOk result (λ _. All (IsCharBoundary text.now) parts.new.part.escapes) }
 {

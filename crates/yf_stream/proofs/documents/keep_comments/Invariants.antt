@@ -1,5 +1,10 @@
-use Rattle.std.proofs.Common.{◌≡◌}
+use Rattle.std.proofs.Common.{◌≡◌, map, drop}
+use Rattle.yf_comments.specs.Comment.{comment_value}
+use Rattle.yf_stream.proofs.PrefixLemmas.{KeptUpto}
 use Rattle.yf_stream.proofs.documents.keep_comments.Given as goal
 
 abbrev pub invariant-loop-comment : goal.invariant-loop-comment
-invariant-loop-comment l = l.parts.part.escapes ≡ l.initial.parts.part.escapes
+invariant-loop-comment l = record {
+  kept : KeptUpto l.comments l.initial.parts.part.comments l.parts.part.comments (map comment_value (drop l.comment-index l.comment-items));
+  escapes : l.parts.part.escapes ≡ l.initial.parts.part.escapes;
+}

@@ -1,0 +1,47 @@
+use Rattle.std.proofs.Common.{refl, sym, ◌∙◌, subst, arith}
+use Rattle.std.specs.Str.{IsCharBoundary}
+use Rattle.yf_chars.proofs.TextLemmas.{next-mark, reads_real, within_from_code}
+use Rattle.yf_stream.proofs.Forward.{line_end_forward}
+use Rattle.yf_stream.proofs.PrefixLemmas.{kept_none, no_row, prefix_begins, prefix_lines, prefix_mark, prefix_settled}
+use Rattle.yf_stream.proofs.documents.skip_prefix.Goals as goal
+
+pub lines-init : goal.lines-init
+lines-init c = record { read = prefix_begins _ _; place = record { boundary = c.requires; order = omega arith }; escapes = refl }
+
+pub lines-smaller-then-mark_stands : goal.lines-smaller-then-mark_stands
+lines-smaller-then-mark_stands c =
+    let mark = c.if-mark_stands.ensures in
+    let within = within_from_code c.args.text.now c.lines.at (omega arith) in
+    omega (arith, within)
+
+pub lines-preserved-then-mark_stands : goal.lines-preserved-then-mark_stands
+lines-preserved-then-mark_stands c =
+    let t = c.args.text.now in
+    let mark = c.if-mark_stands.ensures in
+    let end = next-mark t c.lines.at mark in
+    let reads = reads_real t c.lines.at c.utf8.text (omega arith) in
+    record {
+      read = prefix_mark c.lines.invariant.read mark (sym end);
+      place = record { boundary = subst (IsCharBoundary t) end reads.boundary; order = omega (arith, c.lines.invariant.place.order) };
+      escapes = c.lines.invariant.escapes;
+    }
+
+pub returns-then-end-at-clause-reads : goal.returns-then-end-at-clause-reads
+returns-then-end-at-clause-reads c =
+    let line = rw c.in-Some.is at c.in_ok-comments.ensures.reads in
+    prefix_settled c.lines.invariant.read c.if-mark_stands.ensures line c.in_ok-keep_comments-in-Some.ensures.kept c.if-end-at.true
+
+pub lines-preserved : goal.lines-preserved
+lines-preserved c =
+    let line = rw c.in-Some.is at c.in_ok-comments.ensures.reads in
+    let forward = line_end_forward line.derived in
+    record {
+      read = prefix_lines c.lines.invariant.read line c.in_ok-keep_comments-in-Some.ensures.kept;
+      place = record { boundary = rw c.in-Some.is at c.in_ok-comments.ensures.boundary; order = omega (arith, c.lines.invariant.place.order, forward) };
+      escapes = c.in_ok-keep_comments-in-Some.ensures.escapes ∙ c.lines.invariant.escapes;
+    }
+
+pub returns-in-None-clause-reads : goal.returns-in-None-clause-reads
+returns-in-None-clause-reads c =
+    let line = rw c.in-None.is at c.in_ok-comments.ensures.reads in
+    record { upto = c.lines.invariant.read; no_mark = c.if-mark_stands.ensures; no_row = no_row line }

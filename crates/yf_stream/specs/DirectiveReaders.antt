@@ -1,0 +1,67 @@
+-- What the readers of directives answer: parameters as long as they go, and directives with all comment lines after them.
+use Rattle.std.specs.Prelude.{◌≡◌, ◌≢◌, ℕ, ◌+◌, List, [], ◌∷◌, ◌++◌, codes, slice_range}
+use Rattle.yf_chars.specs.Text.{code}
+use Rattle.yf_chars.specs.Class.{is_ns_char}
+use Rattle.yf_chars.specs.Chain.{Chain, Chosen, One, Stuck}
+use Rattle.yf_comments.specs.Comment.{CommentValue}
+use Rattle.yf_comments.specs.Comments.{LineEnd}
+use Rattle.yf_props.specs.Names.{Run}
+use Rattle.yf_events.specs.declared.directive.Directive.{Directive}
+use Rattle.yf_stream.specs.Stream.{Directives, Parameters, ReservedParameter}
+
+-- the words of a directive with another name than YAML and TAG have been read up to a place, as long as they go, and stand in a list
+-- after those that it held before
+pub record ReservedRead (t : List ℕ) (i j : ℕ) (a b : List (List ℕ)) : Type 0 where
+  pub words : List (List ℕ)
+  pub read : Chosen (Chain (ReservedParameter t) i) j words
+  pub list : b ≡ a ++ words
+
+-- the parameters of a directive with that name have been read up to a place; those of a TAG directive may go on
+pub record WordsRead (t name : List ℕ) (i j : ℕ) (a b : List (List ℕ)) : Type 0 where
+  pub words : List (List ℕ)
+  pub derived : Parameters t name i j words
+  pub longest : name ≢ codes "TAG" → Chosen (Parameters t name i) j words
+  pub list : b ≡ a ++ words
+
+-- the directive with that name has no parameters there, if it is no TAG directive
+pub record NoWords (t name : List ℕ) (i : ℕ) : Type 0 where
+  pub none : name ≢ codes "TAG" → Stuck (Parameters t name i)
+
+-- l-directive, once, with the comment lines after it
+pub record IsDirective (t : List ℕ) (i j : ℕ) (x : Directives) : Type 0 where
+  pub name_end : ℕ
+  pub words_end : ℕ
+  pub words : List (List ℕ)
+  pub percent : code t i ≡ 37
+  pub name : Run (One t is_ns_char) (i + 1) name_end
+  pub parameters : Parameters t (slice_range t (i + 1) name_end) name_end words_end words
+  pub ends : LineEnd t words_end j x.comments
+  pub is : x.directives ≡ record { offset = i; words = slice_range t (i + 1) name_end ∷ words } ∷ []
+
+-- no directive stands there, but perhaps one with the name TAG
+pub record NoDirective (t : List ℕ) (i : ℕ) : Type 0 where
+  pub none : (j : ℕ) (x : Directives) (d : IsDirective t i j x) → slice_range t (i + 1) d.name_end ≢ codes "TAG" → ⊥
+
+-- directives in order, each with all comment lines after it
+pub data LongestDirectives (t : List ℕ) : ℕ → ℕ → List Directive → List CommentValue → Type 0 where
+  no_directives : {i : ℕ} → LongestDirectives t i i [] []
+  one_directive : {i k j : ℕ} {x : Directives} {ds : List Directive} {cs : List CommentValue} → Chosen (IsDirective t i) k x
+      → LongestDirectives t k j ds cs → LongestDirectives t i j (x.directives ++ ds) (x.comments ++ cs)
+
+-- directives from a place on have been read up to another, and their comments stand in a list after those that it held before
+pub record DirectivesUpto (t : List ℕ) (i j : ℕ) (ds : List Directive) (a b : List CommentValue) : Type 0 where
+  pub comments : List CommentValue
+  pub longest : LongestDirectives t i j ds comments
+  pub list : b ≡ a ++ comments
+
+-- all of them have been read
+pub record DirectivesRead (t : List ℕ) (i j : ℕ) (ds : List Directive) (a b : List CommentValue) : Type 0 where
+  pub upto : DirectivesUpto t i j ds a b
+  pub last : code t j ≢ 37
+
+-- directives from a place on end at a % with which none begins
+pub record DirectivesEnd (t : List ℕ) (i p : ℕ) : Type 0 where
+  pub before : Directives
+  pub longest : LongestDirectives t i p before.directives before.comments
+  pub percent : code t p ≡ 37
+  pub none : NoDirective t p

@@ -1,0 +1,84 @@
+-- What the readers of a stream answer of what stands between its documents: the marker of a line, the lines before a document, and the
+-- line of a `...`.
+use Rattle.std.specs.Prelude.{◌≡◌, ◌≢◌, ℕ, ◌+◌, Bool, true, false, List, [], ◌∷◌, ◌++◌, Option, Some, None, if◌then◌else◌}
+use Rattle.yf_chars.specs.Text.{code, next}
+use Rattle.yf_chars.specs.Chain.{Chain, Chosen, Stuck}
+use Rattle.yf_lines.specs.Basic.{Forbidden}
+use Rattle.yf_comments.specs.Comment.{CommentValue}
+use Rattle.yf_comments.specs.Comments.{LineEnd, Row}
+use Rattle.yf_events.specs.declared.directive.Directive.{Directive}
+use Rattle.yf_events.specs.Event.{EventValue, document_starts, document_ends}
+use Rattle.yf_events.specs.Tree.{unplaced}
+use Rattle.yf_stream.specs.declared.documents.Marker.{Marker}
+use Rattle.yf_stream.specs.declared.documents.Marker.TheVariants.{DocumentStart, DocumentEnd}
+use Rattle.yf_stream.specs.declared.documents.Next.{Next}
+use Rattle.yf_stream.specs.declared.documents.Next.TheVariants.{Go, Syntax, TooDeep}
+use Rattle.yf_stream.specs.declared.documents.Parts.{Parts}
+use Rattle.yf_stream.specs.declared.documents.Spot.{Spot}
+
+-- the marker of the line that begins there; without one, the line is no marker's
+abbrev pub IsMarker : List ℕ → ℕ → Option Marker → Type 0
+IsMarker t i None = Forbidden t i → ⊥
+IsMarker t i (Some DocumentStart) = Forbidden t i × (code t i ≡ 45)
+IsMarker t i (Some DocumentEnd) = Forbidden t i × (code t i ≡ 46)
+
+-- a byte order mark, or what is left of a line
+pub data PrefixRow (t : List ℕ) : ℕ → ℕ → List CommentValue → Type 0 where
+  mark_row : {i : ℕ} → code t i ≡ 0xFEFF → PrefixRow t i (next t i) []
+  line_row : {i j : ℕ} {cs : List CommentValue} → Row t i j cs → PrefixRow t i j cs
+
+-- the same comments, but for their notes of blank lines
+pub data Renoted : List CommentValue → List CommentValue → Type 0 where
+  none_renoted : Renoted [] []
+  one_renoted : {c : CommentValue} {cs ns : List CommentValue} (b : Bool) → Renoted cs ns → Renoted (c ∷ cs) (record c { blank_before = b } ∷ ns)
+
+-- comments have been added to a list, but for their notes
+pub record Kept (cs a b : List CommentValue) : Type 0 where
+  pub noted : List CommentValue
+  pub renoted : Renoted cs noted
+  pub list : b ≡ a ++ noted
+
+-- byte order marks and lines have been passed up to a place, and their comments added to a list
+pub record PrefixUpto (t : List ℕ) (i j : ℕ) (a b : List CommentValue) : Type 0 where
+  pub comments : List CommentValue
+  pub rows : Chain (PrefixRow t) i j comments
+  pub kept : Kept comments a b
+
+-- all of them: neither begins at the place
+pub record PrefixRead (t : List ℕ) (i j : ℕ) (a b : List CommentValue) : Type 0 where
+  pub upto : PrefixUpto t i j a b
+  pub no_mark : code t j ≢ 0xFEFF
+  pub no_row : Stuck (Row t j)
+
+-- what has been read, with one more event that stands for no text
+abbrev pub with_event : Parts → EventValue → Parts
+with_event p e = record p { part = record p.part { events = p.part.events ++ unplaced e ∷ [] } }
+
+-- with the end of the document that is open, if there is one
+abbrev pub closed : Bool → Bool → Parts → Parts
+closed explicit true p = with_event p (document_ends explicit)
+closed explicit false p = p
+
+-- with the start of one more document
+abbrev pub opened : ℕ → Bool → List Directive → Parts → Parts
+opened start explicit directives p = record (with_event p (document_starts explicit)) {
+  documents = p.documents ++ (record { start = start; directives = directives }) ∷ [];
+}
+
+-- with more comments
+abbrev pub commented : List CommentValue → Parts → Parts
+commented cs p = record p { part = record p.part { comments = p.part.comments ++ cs } }
+
+-- a `...` ends there with the comment lines after it, and a document may begin without a `---`
+pub record SuffixEnds (t : List ℕ) (spot : Spot) (a b : Parts) (after : Spot) : Type 0 where
+  pub comments : List CommentValue
+  pub line : Chosen (LineEnd t (spot.at + 3)) after.at comments
+  pub bare : after.may_be_bare ≡ true
+  pub no_document : after.is_open ≡ false
+  pub parts : b ≡ commented comments (closed true spot.is_open a)
+
+-- what comes after the three dots at a spot: the next spot, or no line ends there
+abbrev pub SuffixRead : List ℕ → Spot → Parts → Parts → Next → Type 0
+SuffixRead t spot a b (Go after) = SuffixEnds t spot a b after
+SuffixRead t spot a b (Syntax place) = Stuck (LineEnd t (spot.at + 3))
+SuffixRead t spot a b (TooDeep place) = ⊥
