@@ -6,6 +6,7 @@ pub mod PlaceLaws
 pub mod ReaderLaws
 pub mod ReadingOf
 pub mod Refusal
+pub mod RefusalPlaces
 pub mod Stream
 pub mod StreamReader
 pub mod Walk

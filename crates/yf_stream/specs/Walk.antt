@@ -10,8 +10,8 @@ pub record Place (t : List ℕ) (at p : ℕ) : Type 0 where
   pub boundary : IsCharBoundary t p
   pub order : at ≤ p
 
--- the reading goes on at the offset or after it
+-- the reading goes on at the offset or after it, or stops at a place between characters
 abbrev pub NextAt : List ℕ → ℕ → Next → Type 0
-NextAt t at (Go spot) = Place t at spot.at
-NextAt t at (Syntax place) = Unit {0}
-NextAt t at (TooDeep place) = Unit {0}
+NextAt t at (Go spot) = Place t at spot.at × IsCharBoundary t spot.reached
+NextAt t at (Syntax place) = IsCharBoundary t place
+NextAt t at (TooDeep place) = IsCharBoundary t place

@@ -194,6 +194,7 @@ pub(crate) fn read_next<'a>(
     parts: &mut Parts<'a>,
 ) -> Result<Next, AllocError>
     requires boundary { IsCharBoundary text.now spot.at }
+    requires reached { IsCharBoundary text.now spot.reached }
     requires escapes { All (IsCharBoundary text.now) parts.old.part.escapes }
     ensures next { IfOk result (λ next. NextAt text.now (spot.at + 1) next) }
     ensures escapes { IfOk result (λ _. All (IsCharBoundary text.now) parts.new.part.escapes) }
@@ -324,6 +325,7 @@ fn empty_document<'a>(
     parts: &mut Parts<'a>,
 ) -> Result<Next, AllocError>
     requires boundary { IsCharBoundary text.now at }
+    requires reached { IsCharBoundary text.now reached }
     requires escapes { All (IsCharBoundary text.now) parts.old.part.escapes }
     ensures next { IfOk result (λ next. NextAt text.now at next) }
     ensures escapes { IfOk result (λ _. All (IsCharBoundary text.now) parts.new.part.escapes) }
@@ -371,7 +373,8 @@ fn bare_document<'a>(
 
 // After a document's root node another document needs a `---`, or a `...` before it.
 fn behind_node(at: usize, floor: usize, reached: usize) -> Spot
-    ensures { result.at ≡ at }
+    ensures at { result.at ≡ at }
+    ensures reached { result.reached ≡ reached }
 {
     Spot {
         at,

@@ -1,10 +1,11 @@
 //! The reader of whole streams.
-ghost use Rattle.std.specs.Prelude.{◌≡◌, ◌+◌, ◌-◌, ◌<◌, ◌≤◌, length, IfErr, IfOk, MatchResult};
+ghost use Rattle.std.specs.Prelude.{◌≡◌, ◌+◌, ◌-◌, ◌<◌, ◌≤◌, length, IfErr, IfOk, IfSome, MatchResult};
 ghost use Rattle.std.specs.List.{All};
 ghost use Rattle.std.specs.Str.{IsCharBoundary};
 ghost use Rattle.yf_events.specs.Reading.{Fits};
 ghost use Rattle.yf_lines.specs.FaultPlaces.{InText};
 ghost use Rattle.yf_stream.specs.Refusal.{IsStreamFault};
+ghost use Rattle.yf_stream.specs.RefusalPlaces.{RefusalAt};
 
 use crate::breaches::{Breach, Kind, Resolved, resolve};
 use crate::documents::{Next, Parts, Spot, read_next, skip_prefix};
@@ -53,6 +54,7 @@ pub fn read_stream<'a>(alloc: Global, text: &'a str) -> Result<Reading<'a>, Faul
 
 // The fault with its place.
 fn fault_at(alloc: Global, text: &str, refusal: Refusal) -> Fault
+    requires { RefusalAt text.now refusal }
     ensures { IsStreamFault text.now result }
 {
     let Ok(table) = LineTable::build(alloc, text) else {
@@ -60,11 +62,11 @@ fn fault_at(alloc: Global, text: &str, refusal: Refusal) -> Fault
     };
     match refusal {
         Refusal::Syntax(offset) => Fault::Syntax {
-            place: place_of(&table, text, offset),
+            place: table.place(offset),
             what: "no production derives the text",
         },
         Refusal::TooDeep(offset) => Fault::TooDeep {
-            place: place_of(&table, text, offset),
+            place: table.place(offset),
         },
         Refusal::Breach(breach) => {
             let place = place_of(&table, text, breach.offset);
@@ -79,7 +81,7 @@ fn fault_at(alloc: Global, text: &str, refusal: Refusal) -> Fault
     }
 }
 
-// The place of an offset. Every offset that is told stands between characters; that is not proved, so it is tested.
+// The place of a breach. Its offset stands between characters; that is not proved, so it is tested.
 fn place_of(table: &LineTable, text: &str, offset: usize) -> Place
     requires { table.now.text ≡ text.now }
     ensures { InText text.now result }
@@ -92,7 +94,7 @@ fn place_of(table: &LineTable, text: &str, offset: usize) -> Place
 
 // The lists of the stream's reading, or why there is none.
 fn read_lists<'a>(alloc: Global, text: &'a str) -> Result<Result<Lists<'a>, Refusal>, AllocError>
-    ensures { IfOk result (λ r. IfOk r (λ lists. Fits lists)) }
+    ensures { IfOk result (λ r. MatchResult r (λ lists. Fits lists) (λ refusal. RefusalAt text.now refusal)) }
 {
     let mut parts = Parts::new(alloc);
     if let Some(refusal) = read_documents(alloc, text, &mut parts)? {
@@ -107,7 +109,7 @@ fn noted_lists<'a>(
     text: &'a str,
     parts: Parts<'a>,
 ) -> Result<Result<Lists<'a>, Refusal>, AllocError>
-    ensures { IfOk result (λ r. IfOk r (λ lists. Fits lists)) }
+    ensures { IfOk result (λ r. MatchResult r (λ lists. Fits lists) (λ refusal. RefusalAt text.now refusal)) }
 {
     let Parts {
         part: Part {
@@ -139,7 +141,8 @@ fn read_documents<'a>(
     parts: &mut Parts<'a>,
 ) -> Result<Option<Refusal>, AllocError>
     requires { All (IsCharBoundary text.now) parts.old.part.escapes }
-    ensures { IfOk result (λ _. All (IsCharBoundary text.now) parts.new.part.escapes) }
+    ensures refusal { IfOk result (λ o. IfSome o (λ refusal. RefusalAt text.now refusal)) }
+    ensures escapes { IfOk result (λ _. All (IsCharBoundary text.now) parts.new.part.escapes) }
 {
     parts.push_unplaced(alloc, NewEvent::StreamStart)?;
     let mut spot = Spot {

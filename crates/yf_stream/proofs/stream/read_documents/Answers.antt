@@ -7,5 +7,6 @@ use Rattle.yf_stream.proofs.stream.read_documents.Goals as goal
 pub documents-init : goal.documents-init
 documents-init c = record {
   place = IsCharBoundary-start c.args.text.now c.utf8.text;
+  reached = IsCharBoundary-start c.args.text.now c.utf8.text;
   escapes = subst (All (IsCharBoundary c.args.text.now)) (sym c.in_ok-push_unplaced.ensures.escapes) c.requires;
 }

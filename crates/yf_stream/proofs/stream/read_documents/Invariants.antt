@@ -6,6 +6,7 @@ use Rattle.yf_stream.proofs.stream.read_documents.Given as goal
 abbrev pub invariant-documents : goal.invariant-documents
 invariant-documents l = record {
   place : IsCharBoundary l.text l.spot.at;
+  reached : IsCharBoundary l.text l.spot.reached;
   escapes : All (IsCharBoundary l.text) l.parts.part.escapes;
 }
 
