@@ -15,6 +15,7 @@ use Rattle.yf_emit.specs.Decorated.{GapLine, blank, remark, gap_then, Deco, firs
 use Rattle.yf_emit.specs.Fits.{Unmarked}
 use Rattle.yf_emit.specs.Rows.{Row}
 use Rattle.yf_emit.proofs.RowEnds.{first_deco, after_decos}
+use Rattle.yf_emit.proofs.SeenTexts.{IsSeen}
 
 -- Texts that are no markers.
 
@@ -124,10 +125,11 @@ trails_unmarked (x ∷ xs) a = unmarked_more 32 (32 ∷ (x ++ trails_bytes xs)) 
 rest_of_row : {t : List ℕ} (d : Deco) {body : List (List ℕ)} (r : List ℕ) {q : ℕ} → IsUtf8 t → IsDeco d → AreBodyTexts body → Rest t q (body_then body (gap_then d.gap r)) → ClearTo t q r
 rest_of_row d r u a b s = let one = body_clear (gap_then d.gap r) u b s in also one (gap_clear d.gap r u a.gap one.rest)
 
--- a row's text: on a line of its own, and no marker
+-- a row's text: on a line of its own, visible from its start, and no marker
 pub record IsRowText (x : Row) : Type 0 where
   pub text : IsLineText x.text
   pub unmarked : Unmarked x.text
+  pub seen : IsSeen x.text
   pub body : AreBodyTexts x.body
 
 pub data AreRowTexts : List Row → Type 0 where

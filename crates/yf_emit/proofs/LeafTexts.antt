@@ -38,7 +38,7 @@ use Rattle.yf_block_scalar.specs.declared.header.Chomp.{Chomp}
 use Rattle.yf_block_scalar.specs.declared.header.Chomp.TheVariants.{Strip, Clip, Keep}
 use Rattle.yf_block_scalar.specs.declared.header.Header.{Header}
 use Rattle.yf_block_scalar.proofs.ScalarLemmas.{body_scalar}
-use Rattle.yf_emit.proofs.RowsUtf8.{line_utf8, feed_utf8}
+use Rattle.yf_emit.proofs.LineUtf8.{line_utf8, feed_utf8}
 
 -- Characters.
 

@@ -4,10 +4,13 @@ pub mod AmongLemmas
 pub mod BlockFits
 pub mod BlockLemmas
 pub mod BlockTexts
+pub mod CalmRows
 pub mod ClearRows
 pub mod CollectionsMade
+pub mod CommentsFit
 pub mod CountLemmas
 pub mod DecoratedLemmas
+pub mod DirectivesFit
 pub mod DraftLemmas
 pub mod DocumentsMade
 pub mod EndedLemmas
@@ -29,6 +32,7 @@ pub mod LeafFits
 pub mod LeafLemmas
 pub mod LeafTexts
 pub mod LevelLemmas
+pub mod LineUtf8
 pub mod MarksOrder
 pub mod MeasuredLemmas
 pub mod NodePlaces
@@ -53,6 +57,7 @@ pub mod RowTexts
 pub mod RowsUtf8
 pub mod RunLemmas
 pub mod ScalarsMade
+pub mod SeenTexts
 pub mod SettledLemmas
 mod ShownComments
 mod ShownDecos
@@ -70,6 +75,7 @@ pub mod SumLemmas
 pub mod TrailLemmas
 pub mod TreeTexts
 pub mod TreesMade
+pub mod TreesRead
 pub mod UniqueLemmas
 pub mod ValueLemmas
 pub mod WantedLemmas

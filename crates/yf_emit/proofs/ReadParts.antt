@@ -11,6 +11,7 @@ use Rattle.yf_events.specs.declared.event.ScalarStyle.TheVariants.{Plain}
 use Rattle.yf_events.specs.declared.event.Span.{Span}
 use Rattle.yf_events.specs.Tree.{Standing, Node, scalar as scalar_tree, alias as alias_tree, sequence, mapping, Items, no_items, item, Pairs, no_pairs, pair, placed, unplaced, flat, flat_items, flat_pairs}
 use Rattle.yf_grammar.specs.Meaning.{Meaning, ◌⊕◌, behind, noting, plain_event, from_to, empty_node, collection, span_since, first_with, with_props, first_entering, entering}
+use Rattle.yf_grammar.proofs.MeantLemmas.{entered, entered_events}
 use Rattle.yf_emit.specs.Fits.{FitProps, no_fit_props, some_fit_props}
 use Rattle.yf_emit.specs.ReadTrees.{ReadText, ReadNode, read_nothing, read_props, read_scalar, read_alias, read_sequence, read_mapping, ReadItems, read_no_items, read_item, ReadPairs, read_no_pairs, read_pair}
 
@@ -71,32 +72,19 @@ entries_behind cs (some_pairs a) = some_pairs (record { pairs = a.pairs; events 
 
 -- Entries.
 
--- a node that begins an entry
-abbrev begun : Entry → Node → Node
-begun e (scalar_tree at props style text lines) = scalar_tree (record at { entry = Some e }) props style text lines
-begun e (alias_tree at name) = alias_tree (record at { entry = Some e }) name
-begun e (sequence at flow props xs) = sequence (record at { entry = Some e }) flow props xs
-begun e (mapping at flow props ps) = mapping (record at { entry = Some e }) flow props ps
-
-begun_events : (e : Entry) (x : Node) → first_entering e (flat x) ≡ flat (begun e x)
-begun_events e (scalar_tree at props style text lines) = refl
-begun_events e (alias_tree at name) = refl
-begun_events e (sequence at flow props xs) = refl
-begun_events e (mapping at flow props ps) = refl
-
-begun_read : {b : Bool} {x : Node} (e : Entry) → ReadNode b x → ReadNode b (begun e x)
-begun_read e (read_nothing s) = read_nothing s
-begun_read e (read_props s p n) = read_props s p n
-begun_read e (read_scalar s f u r) = read_scalar s f u r
-begun_read e (read_alias s n) = read_alias s n
-begun_read e (read_sequence s f a) = read_sequence s f a
-begun_read e (read_mapping s f a) = read_mapping s f a
+entered_read : {b : Bool} {x : Node} (e : Entry) → ReadNode b x → ReadNode b (entered e x)
+entered_read e (read_nothing s) = read_nothing s
+entered_read e (read_props s p n) = read_props s p n
+entered_read e (read_scalar s f u r) = read_scalar s f u r
+entered_read e (read_alias s n) = read_alias s n
+entered_read e (read_sequence s f a) = read_sequence s f a
+entered_read e (read_mapping s f a) = read_mapping s f a
 
 pub node_entering : {b : Bool} {x : Meaning} (i : ℕ) (c : Option ℕ) → NodeRead b x → NodeRead b (entering i c x)
 unfolding entering
 node_entering i c a =
     let e : Entry = record { start = i; colon = c; blank_before = false } in
-    record { node = begun e a.node; events = ap (first_entering e) a.events ∙ begun_events e a.node; read = begun_read e a.read }
+    record { node = entered e a.node; events = ap (first_entering e) a.events ∙ entered_events e a.node; read = entered_read e a.read }
 
 pub nothing_read : (b : Bool) (i : ℕ) → NodeRead b (empty_node i)
 unfolding empty_node plain_event

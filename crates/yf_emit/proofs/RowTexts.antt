@@ -14,6 +14,7 @@ use Rattle.yf_props.specs.Props.{PropsValue, TagValue, no_props}
 use Rattle.yf_props.specs.Written.{IsTag, verbatim_form, short_form, lone_form, IsHandle, primary_form, secondary_form, named_form, IsProps, tag_bytes, parts_bytes, props_bytes}
 use Rattle.yf_props.proofs.PropsLines.{props_line_text}
 use Rattle.yf_events.specs.declared.event.ScalarStyle.{ScalarStyle}
+use Rattle.yf_events.specs.declared.event.ScalarStyle.TheVariants.{Plain, Single, Double, Literal, Folded}
 use Rattle.yf_events.specs.Tree.{Standing, Node, scalar, Items, item, Pairs, pair}
 use Rattle.yf_emit.specs.declared.style.Style.{Style}
 use Rattle.yf_emit.specs.BlockLines.{content_lines, final_feeds, header_text}
@@ -24,6 +25,7 @@ use Rattle.yf_emit.specs.Rows.{Row, block_scalar, joined, one_line_row, props_ro
 use Rattle.yf_emit.proofs.ClearRows.{unmarked_first, unmarked_more, line_indented, IsRowText, no_body_text, AreRowTexts, no_row_text, row_text}
 use Rattle.yf_emit.proofs.CollectionsMade.{same_props}
 use Rattle.yf_emit.proofs.ScalarsMade.{header_line, header_unmarked, header_with, body_texts, scalar_rows_are}
+use Rattle.yf_emit.proofs.SeenTexts.{IsSeen, seen_ascii, seen_more, seen_back, props_seen}
 use Rattle.yf_emit.proofs.TreesMade.{inline_rows, not_implicit, block_is_no_key, either_pair}
 
 -- Single texts.
@@ -90,29 +92,30 @@ append_texts (row_text a more) b = row_text a (append_texts more b)
 joined_texts : {head : Row} {rs : List Row} (n : ℕ) → 0 < n → IsRowText head → AreRowTexts rs → AreRowTexts (joined head n rs)
 joined_texts n some h no_row_text = row_text h no_row_text
 joined_texts {head} n some h (row_text {x = x} a more) =
-    row_text (record { text = line_append h.text (line_indented n a.text); unmarked = spaced_unmarked n some; body = a.body }) more
+    row_text (record { text = line_append h.text (line_indented n a.text); unmarked = spaced_unmarked n some; seen = seen_more (replicate n 32 ++ x.text) h.seen; body = a.body }) more
   where
     spaced_unmarked : (n : ℕ) → 0 < n → Unmarked (head.text ++ (replicate n 32 ++ x.text))
     spaced_unmarked zero some = absurd (omega arith)
     spaced_unmarked (suc n) some = unmarked_more 32 (replicate n 32 ++ x.text) h.unmarked (omega arith) space_behind_text
 
 behind_key_texts : {head : Row} {rs : List Row} (o : Option CommentValue) (below : Bool) → IsRowText head → AreRowTexts rs → AreRowTexts (behind_key head o below rs)
-behind_key_texts (Some c) below h a = row_text (record { text = h.text; unmarked = h.unmarked; body = h.body }) a
-behind_key_texts None true h a = row_text (record { text = h.text; unmarked = h.unmarked; body = h.body }) a
+behind_key_texts (Some c) below h a = row_text (record { text = h.text; unmarked = h.unmarked; seen = h.seen; body = h.body }) a
+behind_key_texts None true h a = row_text (record { text = h.text; unmarked = h.unmarked; seen = h.seen; body = h.body }) a
 behind_key_texts None false h a = joined_texts 1 (omega arith) h a
 
-one_line_texts : (column : ℕ) (x : Node) (w : List ℕ) → IsLineText w → Unmarked w → AreRowTexts (one_line_row column x w)
-one_line_texts column x [] l a = no_row_text
-one_line_texts column x (b ∷ w) l a = row_text (record { text = l; unmarked = a; body = no_body_text }) no_row_text
+one_line_texts : (column : ℕ) (x : Node) (w : List ℕ) → IsLineText w → Unmarked w → IsSeen w → AreRowTexts (one_line_row column x w)
+one_line_texts column x [] l a v = no_row_text
+one_line_texts column x (b ∷ w) l a v = row_text (record { text = l; unmarked = a; seen = v; body = no_body_text }) no_row_text
 
-props_texts : (column : ℕ) (w : List ℕ) → IsLineText w → Unmarked w → AreRowTexts (props_row column w)
-props_texts column [] l a = no_row_text
-props_texts column (b ∷ w) l a = row_text (record { text = l; unmarked = a; body = no_body_text }) no_row_text
+props_texts : (column : ℕ) (w : List ℕ) → IsLineText w → Unmarked w → IsSeen w → AreRowTexts (props_row column w)
+props_texts column [] l a v = no_row_text
+props_texts column (b ∷ w) l a v = row_text (record { text = l; unmarked = a; seen = v; body = no_body_text }) no_row_text
 
 fit_props_texts : (column : ℕ) {p : PropsValue} → FitProps p → AreRowTexts (props_row column (props_text p))
 fit_props_texts column no_fit_props = no_row_text
 fit_props_texts column (some_fit_props {p = p} k n) =
     props_texts column (props_text p) (subst (λ w. IsLineText w) (sym (same_props k)) (props_line_text k)) (subst (λ w. Unmarked w) (sym (same_props k)) (props_unmarked k n))
+    (subst (λ w. IsSeen w) (sym (same_props k)) (props_seen k n))
 
 -- Keys and pairs.
 
@@ -125,24 +128,26 @@ key_texts : (c : Setting) (column : ℕ) {k : Node} → is_implicit c.style colu
 key_texts c column e (fit_nothing f) = record {
   text = ascii_line 58 (omega arith) (omega arith);
   unmarked = unmarked_first 58 [] (omega arith) (λ e. omega arith) (λ e. omega arith) (λ e. omega arith);
+  seen = seen_ascii 58 [] (omega arith) (omega arith) (λ e. omega arith);
   body = no_body_text;
 }
 key_texts c column {k} e (fit_line inline some node key) =
-    let both = colon_text key.node.colon (colon_behind k) key.colon key.node in record { text = both.0; unmarked = both.1; body = no_body_text }
+    let both = colon_text key.node.colon (colon_behind k) key.colon key.node in record { text = both.0; unmarked = both.1; seen = seen_more (colon_behind k) (seen_back refl key.node.back); body = no_body_text }
 key_texts c column {k} e (fit_scalar {at = at} {p = p} {style = style} {text = text} {lines = lines} f g h) =
     absurd (not_implicit c column k (block_is_no_key c column at p text lines style h.block) e)
 key_texts c column {k} e (fit_sequence f p g gs) = absurd (not_implicit c column k refl e)
 key_texts c column {k} e (fit_mapping f p g h gs) = absurd (not_implicit c column k refl e)
 
-sign_text : (sign column : ℕ) (x : Node) → 32 ≤ sign → sign < 127 → Unmarked (sign ∷ []) → IsRowText (entry_row column (sign ∷ []) x)
-sign_text sign column x l h a = record { text = ascii_line sign l h; unmarked = a; body = no_body_text }
+sign_text : (sign column : ℕ) (x : Node) → 36 ≤ sign → sign < 127 → Unmarked (sign ∷ []) → IsRowText (entry_row column (sign ∷ []) x)
+sign_text sign column x l h a =
+    record { text = ascii_line sign (omega arith) h; unmarked = a; seen = seen_ascii sign [] (omega arith) h (λ e. omega arith); body = no_body_text }
 
 question_texts : (s : Style) (column : ℕ) (k : Node) {rs ls : List Row} → AreRowTexts rs → AreRowTexts ls → AreRowTexts (explicit_pair s column k rs ls)
 question_texts s column k a b =
     let wide : 2 ≤ s.indent = s.indent_from in
     append_texts (joined_texts (s.indent - 1) (omega (arith, wide)) (sign_text 63 column k (omega arith) (omega arith) (unmarked_first 63 [] (omega arith) (λ e. omega arith) (λ e. omega arith) (λ e. omega arith))) a)
     (joined_texts {head = colon_row column k} (s.indent - 1) (omega (arith, wide))
-    (record { text = ascii_line 58 (omega arith) (omega arith); unmarked = unmarked_first 58 [] (omega arith) (λ e. omega arith) (λ e. omega arith) (λ e. omega arith); body = no_body_text }) b)
+    (record { text = ascii_line 58 (omega arith) (omega arith); unmarked = unmarked_first 58 [] (omega arith) (λ e. omega arith) (λ e. omega arith) (λ e. omega arith); seen = seen_ascii 58 [] (omega arith) (omega arith) (λ e. omega arith); body = no_body_text }) b)
 
 -- what holds of the rows of a node wherever it stands
 pub record TextsEverywhere (c : Setting) (x : Node) : Type 0 where
@@ -151,16 +156,24 @@ pub record TextsEverywhere (c : Setting) (x : Node) : Type 0 where
 deep : (c : Setting) (column : ℕ) → 0 < column + c.style.indent
 deep c column = let wide : 2 ≤ c.style.indent = c.style.indent_from in omega (arith, wide)
 
+header_seen : (style : ScalarStyle) (indent : ℕ) (text : List ℕ) → IsSeen (header_text style indent text)
+header_seen Plain indent text = seen_ascii 124 _ (omega arith) (omega arith) (λ e. omega arith)
+header_seen Single indent text = seen_ascii 124 _ (omega arith) (omega arith) (λ e. omega arith)
+header_seen Double indent text = seen_ascii 124 _ (omega arith) (omega arith) (λ e. omega arith)
+header_seen Literal indent text = seen_ascii 124 _ (omega arith) (omega arith) (λ e. omega arith)
+header_seen Folded indent text = seen_ascii 62 _ (omega arith) (omega arith) (λ e. omega arith)
+
 -- the row of a literal or folded scalar
 scalar_texts : (at : Standing) {p : PropsValue} {style : ScalarStyle} {text : List ℕ} {lines : List (List ℕ)} (s : Style) (spot : Spot) → 0 < spot.lines → FitProps p → FitScalar style text lines
     → AreRowTexts (block_scalar s spot (scalar at p style text lines) p style text lines)
 scalar_texts at {style = style} {text = text} {lines = lines} s spot l no_fit_props f =
-    row_text (record { text = header_line style s.indent text s.indent_to; unmarked = header_unmarked style s.indent text; body = body_texts spot.lines (final_feeds text - 1) (content_lines style text lines) l f.texts }) no_row_text
+    row_text (record { text = header_line style s.indent text s.indent_to; unmarked = header_unmarked style s.indent text; seen = header_seen style s.indent text; body = body_texts spot.lines (final_feeds text - 1) (content_lines style text lines) l f.texts }) no_row_text
 scalar_texts at {style = style} {text = text} {lines = lines} s spot l (some_fit_props {p = p} k n) f =
     let is = header_with style s.indent text k n in
     row_text (record {
       text = subst (λ w. IsLineText w) (sym is) (line_append (props_line_text k) (line_ascii 32 (omega arith) (sign_nb 32 (omega arith) (omega arith)) (header_line style s.indent text s.indent_to)));
       unmarked = subst (λ w. Unmarked w) (sym is) (unmarked_more 32 (header_text style s.indent text) (props_unmarked k n) (omega arith) space_behind_text);
+      seen = subst (λ w. IsSeen w) (sym is) (seen_more (32 ∷ header_text style s.indent text) (props_seen k n));
       body = body_texts spot.lines (final_feeds text - 1) (content_lines style text lines) l f.texts;
     }) no_row_text
 
@@ -184,7 +197,7 @@ mutual
   texts_everywhere c (fit_nothing e) = record { texts = λ spot l. no_row_text }
   texts_everywhere c {x} (fit_line inline some node key) = record {
     texts = λ spot l.
-        subst (λ rs. AreRowTexts rs) (sym (inline_rows c spot x inline)) (one_line_texts spot.column x (written x) node.back.line node.unmarked);
+        subst (λ rs. AreRowTexts rs) (sym (inline_rows c spot x inline)) (one_line_texts spot.column x (written x) node.back.line node.unmarked (seen_back refl node.back));
   }
   texts_everywhere c (fit_scalar {at = at} {p = p} {style = style} {text = text} {lines = lines} e props f) = record {
     texts = λ spot l.

@@ -1,12 +1,8 @@
 -- The bytes of rows whose texts are texts within lines, with what they carry, are UTF-8.
 use Rattle.std.proofs.Common.{◌≡◌, ℕ, ◌<◌, ◌≤◌, Bool, true, false, List, [], ◌∷◌, ◌++◌, map, replicate, refl, sym, ap, ◌∙◌, subst, arith, append_assoc}
-use Rattle.std.specs.Char.{IsScalar}
 use Rattle.std.specs.Str.{IsUtf8}
-use Rattle.std.proofs.lemmas.Bool.Decides.{nat_tests}
-use Rattle.std.proofs.lemmas.Str.{IsUtf8-append, IsUtf8-encode, IsUtf8-nil, encode_ascii}
-use lib.Utf8.{encode, encodes}
-use Rattle.yf_chars.specs.Class.{is_nb_char, is_printable, is_between, is_break_char}
-use Rattle.yf_lines.specs.LineText.{AllNb, IsLineText}
+use Rattle.std.proofs.lemmas.Str.{IsUtf8-append, IsUtf8-nil}
+use Rattle.yf_lines.specs.LineText.{IsLineText}
 use Rattle.yf_lines.proofs.RestLemmas.{line_nothing, line_append}
 use Rattle.yf_comments.specs.GapLines.{AreGapLines}
 use Rattle.yf_events.specs.declared.directive.Directive.{Directive}
@@ -19,27 +15,10 @@ use Rattle.yf_emit.specs.FitDocuments.{FitDirectives, fit_no_directives, fit_dir
 use Rattle.yf_emit.specs.Normal.{Setting, root_spot}
 use Rattle.yf_emit.specs.Rows.{Row, directive_row, end_rows, beginning_at, stream_rows}
 use Rattle.yf_emit.proofs.ClearRows.{line_indented, remark_line, trails_bytes, trails_are, trails_line, AreBodyTexts, no_body_text, body_text, AreRowTexts, no_row_text, row_text}
+use Rattle.yf_emit.proofs.LineUtf8.{line_utf8, feed_utf8}
 use Rattle.yf_emit.proofs.RowEnds.{first_deco, after_decos}
 use Rattle.yf_emit.proofs.RowTexts.{row_texts}
-
-nb_scalar : (c : ℕ) → is_nb_char c ≡ true → IsScalar c
-unfolding is_nb_char is_printable is_between is_break_char
-nb_scalar c e = grind (arith, nat_tests)
-
-chars_utf8 : (cs : List ℕ) → AllNb cs → IsUtf8 (encodes cs)
-chars_utf8 [] a = IsUtf8-nil
-chars_utf8 (c ∷ cs) a = IsUtf8-append (encode c) (encodes cs) (IsUtf8-encode c (nb_scalar c a.0)) (chars_utf8 cs a.1)
-
-pub line_utf8 : {w : List ℕ} → IsLineText w → IsUtf8 w
-line_utf8 a = subst (λ w. IsUtf8 w) a.bytes (chars_utf8 a.chars a.each)
-
-feed_scalar : IsScalar 10
-feed_scalar = refl
-
-pub feed_utf8 : {z : List ℕ} → IsUtf8 z → IsUtf8 (10 ∷ z)
-feed_utf8 {z} u =
-    let same : encode 10 ≡ 10 ∷ [] = encode_ascii 10 (omega arith) in
-    subst (λ w. IsUtf8 (w ++ z)) same (IsUtf8-append (encode 10) z (IsUtf8-encode 10 feed_scalar) u)
+use Rattle.yf_emit.proofs.SeenTexts.{IsSeen, seen_ascii}
 
 ended_utf8 : {w z : List ℕ} → IsLineText w → IsUtf8 z → IsUtf8 (w ++ (10 ∷ z))
 ended_utf8 {w} {z} a u = IsUtf8-append w (10 ∷ z) (line_utf8 a) (feed_utf8 u)
@@ -50,14 +29,14 @@ gap_utf8 (blank ∷ gs) r a u = feed_utf8 (gap_utf8 gs r a u)
 gap_utf8 (remark column text ∷ gs) r a u =
     subst (λ w. IsUtf8 w) (append_assoc (replicate column 32) text (10 ∷ gap_then gs r)) (ended_utf8 (line_indented column (remark_line a.0)) (gap_utf8 gs r a.1 u))
 
--- rows with their lines
-data AreLines : List (List ℕ) → Type 0 where
+-- rows with their lines, each with a text that begins visibly
+pub data AreLines : List (List ℕ) → Type 0 where
   no_line : AreLines []
   line_more : {x : List ℕ} {xs : List (List ℕ)} → IsLineText x → AreLines xs → AreLines (x ∷ xs)
 
-data RowLines : List Row → Type 0 where
+pub data RowLines : List Row → Type 0 where
   no_rows : RowLines []
-  row_more : {x : Row} {xs : List Row} → IsLineText x.text → AreLines x.body → RowLines xs → RowLines (x ∷ xs)
+  row_more : {x : Row} {xs : List Row} → IsLineText x.text → IsSeen x.text → AreLines x.body → RowLines xs → RowLines (x ∷ xs)
 
 body_lines : {xs : List (List ℕ)} → AreBodyTexts xs → AreLines xs
 body_lines no_body_text = no_line
@@ -65,11 +44,11 @@ body_lines (body_text a n more) = line_more a (body_lines more)
 
 text_lines : {xs : List Row} → AreRowTexts xs → RowLines xs
 text_lines no_row_text = no_rows
-text_lines (row_text a more) = row_more a.text (body_lines a.body) (text_lines more)
+text_lines (row_text a more) = row_more a.text a.seen (body_lines a.body) (text_lines more)
 
 both_lines : {xs ys : List Row} → RowLines xs → RowLines ys → RowLines (xs ++ ys)
 both_lines no_rows b = b
-both_lines (row_more a k more) b = row_more a k (both_lines more b)
+both_lines (row_more a s k more) b = row_more a s k (both_lines more b)
 
 body_utf8 : {xs : List (List ℕ)} (r : List ℕ) → AreLines xs → IsUtf8 r → IsUtf8 (body_then xs r)
 body_utf8 r no_line u = u
@@ -85,31 +64,34 @@ row_utf8 x d r a b k u =
 
 rows_utf8 : {rs : List Row} (ds : List Deco) (r : List ℕ) → RowLines rs → AreDecos ds → IsUtf8 r → IsUtf8 (lines_then rs ds r)
 rows_utf8 ds r no_rows k u = u
-rows_utf8 ds r (row_more {x = x} {xs = xs} a b more) k u = row_utf8 x (first ds) (lines_then xs (after ds) r) a b (first_deco k) (rows_utf8 (after ds) r more (after_decos k) u)
+rows_utf8 ds r (row_more {x = x} {xs = xs} a s b more) k u = row_utf8 x (first ds) (lines_then xs (after ds) r) a b (first_deco k) (rows_utf8 (after ds) r more (after_decos k) u)
 
 -- The rows of a stream.
 
 three_line : (c : ℕ) → 32 ≤ c → c < 127 → IsLineText (c ∷ c ∷ c ∷ [])
 three_line c l h = visible_line c l h (visible_line c l h (visible_line c l h line_nothing))
 
+three_seen : (c : ℕ) → 36 ≤ c → c < 127 → IsSeen (c ∷ c ∷ c ∷ [])
+three_seen c l h = seen_ascii c (c ∷ c ∷ []) (omega arith) h (λ e. omega arith)
+
 start_lines : (start : ℕ) {rs : List Row} → RowLines rs → RowLines (beginning_at start rs)
 start_lines start no_rows = no_rows
-start_lines start (row_more a k more) = row_more a k more
+start_lines start (row_more a s k more) = row_more a s k more
 
 end_lines : (b : Bool) (dirs : List Directive) → RowLines (end_rows b dirs)
 end_lines true dirs = no_rows
 end_lines false [] = no_rows
-end_lines false (d ∷ ds) = row_more (three_line 46 (omega arith) (omega arith)) no_line no_rows
+end_lines false (d ∷ ds) = row_more (three_line 46 (omega arith) (omega arith)) (three_seen 46 (omega arith) (omega arith)) no_line no_rows
 
 directive_lines : {dirs : List Directive} → FitDirectives dirs → RowLines (map directive_row dirs)
 directive_lines fit_no_directives = no_rows
-directive_lines (fit_directive f fs) = row_more (visible_line 37 (omega arith) (omega arith) f.line) no_line (directive_lines fs)
+directive_lines (fit_directive f fs) = row_more (visible_line 37 (omega arith) (omega arith) f.line) (seen_ascii 37 _ (omega arith) (omega arith) (λ e. omega arith)) no_line (directive_lines fs)
 
-stream_lines : (c : Setting) {ds : List Doc} {xs : List DocumentTree} (b : Bool) → FitDocuments ds xs → RowLines (stream_rows c b ds xs)
+pub stream_lines : (c : Setting) {ds : List Doc} {xs : List DocumentTree} (b : Bool) → FitDocuments ds xs → RowLines (stream_rows c b ds xs)
 stream_lines c b fit_no_documents = no_rows
 stream_lines c b (fit_document {d = d} {x = x} f fit more) =
     let wide : 2 ≤ c.style.indent = c.style.indent_from in
-    both_lines (both_lines (start_lines d.start (both_lines (end_lines b d.directives) (both_lines (directive_lines f) (row_more (three_line 45 (omega arith) (omega arith)) no_line no_rows))))
+    both_lines (both_lines (start_lines d.start (both_lines (end_lines b d.directives) (both_lines (directive_lines f) (row_more (three_line 45 (omega arith) (omega arith)) (three_seen 45 (omega arith) (omega arith)) no_line no_rows))))
     (text_lines (row_texts c (root_spot c.style) (omega (arith, wide)) fit))) (stream_lines c false more)
 
 -- so the layout of such documents is UTF-8

@@ -8,7 +8,7 @@ use Rattle.yf_events.specs.declared.lists.Lists.{Lists}
 use Rattle.yf_events.specs.Tree.{DocumentTree}
 use Rattle.yf_stream.specs.Stream.{Documents, Stream}
 use Rattle.yf_emit.specs.declared.style.Style.{Style}
-use Rattle.yf_emit.specs.Carried.{comments_in, Calm, AreRemarks, TrailsFit}
+use Rattle.yf_emit.specs.Carried.{comments_in, AreRemarks, TrailsFit}
 use Rattle.yf_emit.specs.Decorated.{first_gap, row_decos, rows_of}
 use Rattle.yf_emit.specs.FitDocuments.{FitDocuments, DocumentsMeant, tall_documents}
 use Rattle.yf_emit.specs.Layout.{layout, source_of}
@@ -31,10 +31,9 @@ abbrev pub LayoutsAreTexts : Type 0
 LayoutsAreTexts = (m : Lists) (s : Style) (trees : List DocumentTree) → FitDocuments m.documents trees → AreRemarks m.comments
     → TrailsFit (source_of m (rows_of m s trees)) (rows_of m s trees) → IsUtf8 (layout m s trees)
 
--- What is laid out is derived again: where each node on one line reads back, the comments are texts of comments of which one at most trails a
--- row, and what stands after a block scalar is none of it, the layout is a stream of documents that mean the same trees up to their places, with
--- the same directives, and its comments are those that were printed, in that order.
+-- What is laid out is derived again: where each node on one line reads back, and the comments are texts of comments of which one at most trails
+-- a row, the layout is a stream of documents that mean the same trees up to their places, with the same directives, and its comments are those
+-- that were printed, in that order.
 abbrev pub LayoutsAreDerived : Type 0
 LayoutsAreDerived = (m : Lists) (s : Style) (trees : List DocumentTree) → FitDocuments m.documents trees → AreRemarks m.comments
-    → TrailsFit (source_of m (rows_of m s trees)) (rows_of m s trees) → Calm (rows_of m s trees) (row_decos m (rows_of m s trees)) []
-    → StreamMade (layout m s trees) m.documents trees (printed_comments m s trees)
+    → TrailsFit (source_of m (rows_of m s trees)) (rows_of m s trees) → StreamMade (layout m s trees) m.documents trees (printed_comments m s trees)

@@ -1,8 +1,8 @@
--- The comments of what is derived stand in the order of the text, each within what derives it, and each begins with its sign.
-use Rattle.std.proofs.Common.{◌≡◌, ℕ, ℤ, ◌+◌, ◌≤◌, Bool, true, false, List, [], ◌∷◌, ◌++◌, Option, ⊎_elim, arith}
+-- The comments of what is derived stand in the order of the text, each within what derives it, and each is its sign with the characters after it.
+use Rattle.std.proofs.Common.{◌≡◌, ℕ, ℤ, ◌+◌, ◌≤◌, Bool, true, false, List, [], ◌∷◌, ◌++◌, Option, slice_range, refl, ⊎_elim, arith}
 use Rattle.std.proofs.lemmas.Bool.{cases_Bool}
 use Rattle.yf_chars.specs.declared.context.Ctx.{Ctx}
-use Rattle.yf_chars.specs.Chain.{Chain}
+use Rattle.yf_chars.specs.Chain.{Chain, Many}
 use Rattle.yf_chars.specs.Chain.Chain.{done, step}
 use Rattle.yf_chars.proofs.ChainLemmas.{chain_forward, one_functional}
 use Rattle.yf_chars.specs.Class.{is_nb_char, is_white}
@@ -46,10 +46,19 @@ use Rattle.yf_grammar.proofs.Forward.{in_line_forward}
 use Rattle.yf_grammar.proofs.PlainEnds.{plain_later}
 use Rattle.yf_grammar.proofs.QuotedEnds.{single_later, double_later}
 
--- comments of a text in order, each with its sign, from one place up to another
+-- a comment at a place: # and the characters after it
+pub record CommentStands (t : List ℕ) (i : ℕ) (text : List ℕ) : Type 0 where
+  pub sign : code t i ≡ 35
+  pub end : ℕ
+  pub characters : List ℕ
+  pub chain : Many t is_nb_char (i + 1) end characters
+  pub is : text ≡ slice_range t i end
+
+-- comments of a text in order, from one place up to another
 pub data Ascend (t : List ℕ) : ℕ → List CommentValue → ℕ → Type 0 where
   no_more : {i j : ℕ} → i ≤ j → Ascend t i [] j
-  one_more : {i j : ℕ} {c : CommentValue} {cs : List CommentValue} → i ≤ c.offset → code t c.offset ≡ 35 → Ascend t (c.offset + 1) cs j → Ascend t i (c ∷ cs) j
+  one_more : {i j : ℕ} {c : CommentValue} {cs : List CommentValue} → i ≤ c.offset → CommentStands t c.offset c.text → Ascend t (c.offset + 1) cs j
+      → Ascend t i (c ∷ cs) j
 
 pub ascend_after : {t : List ℕ} {i h j : ℕ} {cs : List CommentValue} → i ≤ h → Ascend t h cs j → Ascend t i cs j
 ascend_after l (no_more m) = no_more (omega arith)
@@ -77,7 +86,8 @@ ascend_noted b (c ∷ cs) (one_more m s a) = one_more m s a
 
 module _ {t : List ℕ} where
   text_ascends : {i j : ℕ} {x : List CommentValue} → CommentText t i j x → Ascend t i x j
-  text_ascends (comment_text e m n) = one_more (omega arith) e (no_more (chain_forward (one_functional t is_nb_char) m))
+  text_ascends (comment_text e m n) =
+      one_more (omega arith) (record { sign = e; end = _; characters = _; chain = m; is = refl }) (no_more (chain_forward (one_functional t is_nb_char) m))
 
   rest_ascends : {i j : ℕ} {x : List CommentValue} → LineRest t i j x → Ascend t i x j
   rest_ascends (nothing e) = no_more (break_or_end_forward e)

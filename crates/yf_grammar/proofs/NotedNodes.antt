@@ -1,10 +1,14 @@
--- Notes on blank lines leave the nodes of a tree where they stand.
+-- Notes on blank lines leave the nodes of a tree where they stand, and as they are.
 use Rattle.std.proofs.Common.{◌≡◌, ℕ, Bool, List, [], ◌∷◌, ◌++◌, Option, Some, None, refl, sym, ap, ◌∙◌, subst, append_assoc}
+use Rattle.std.specs.Prelude.{is_some}
+use Rattle.yf_events.specs.Alike.{Alike, alike_scalars, alike_aliases, alike_sequences, alike_mappings, AlikeItems, alike_nothing, alike_item, AlikePairs, alike_no_pairs, alike_pair}
 use Rattle.yf_events.specs.Event.{Placed, sequence_starts, sequence_ends, mapping_starts, mapping_ends}
 use Rattle.yf_events.specs.declared.event.Entry.{Entry}
 use Rattle.yf_events.specs.declared.event.ScalarStyle.TheVariants.{Plain}
+use Rattle.yf_events.specs.declared.event.Span.{Span}
 use Rattle.yf_events.specs.Tree.{Standing, Node, scalar as scalar_tree, alias as alias_tree, sequence, mapping, Items, no_items, item, Pairs, no_pairs, pair, placed, unplaced, standing, flat, flat_items, flat_pairs}
 use Rattle.yf_props.specs.Props.{no_props}
+use Rattle.yf_grammar.specs.Meant.{Anywhere}
 use Rattle.yf_grammar.specs.Part.{Noting, without_entry, with_entry}
 use Rattle.yf_grammar.proofs.NodePlaces.{NodeStands, stands_nowhere, scalar_stands, alias_stands, sequence_stands, mapping_stands, ItemsStand, no_items_stand, item_stands, PairsStand, no_pairs_stand, pair_stands}
 
@@ -33,23 +37,26 @@ pub record NotedPlain (t : List ℕ) (e : Placed) (rest ys : List Placed) : Type
 pub record NotedNode (t : List ℕ) (i j : ℕ) (x : Node) (rest ys : List Placed) : Type 0 where
   pub node : Node
   pub stands : NodeStands t i j node
+  pub alike : Alike Anywhere x node
   pub entry : (f : Entry) → (standing x).entry ≡ Some f → KeptEntry f (standing node).entry
   pub more : List Placed
   pub floor : ℕ
   pub is : ys ≡ flat node ++ more
   pub noting : Noting t floor rest more
 
-record NotedItems (t : List ℕ) (i j : ℕ) (rest ys : List Placed) : Type 0 where
+record NotedItems (t : List ℕ) (i j : ℕ) (xs : Items) (rest ys : List Placed) : Type 0 where
   items : Items
   stand : ItemsStand t i j items
+  alike : AlikeItems Anywhere xs items
   more : List Placed
   floor : ℕ
   is : ys ≡ flat_items items ++ more
   noting : Noting t floor rest more
 
-record NotedPairs (t : List ℕ) (i j : ℕ) (rest ys : List Placed) : Type 0 where
+record NotedPairs (t : List ℕ) (i j : ℕ) (ps : Pairs) (rest ys : List Placed) : Type 0 where
   pairs : Pairs
   stand : PairsStand t i j pairs
+  alike : AlikePairs Anywhere ps pairs
   more : List Placed
   floor : ℕ
   is : ys ≡ flat_pairs pairs ++ more
@@ -89,6 +96,10 @@ module _ {t : List ℕ} where
   regrouped : {floor : ℕ} {ys : List Placed} (x y z : List Placed) → Noting t floor ((x ++ y) ++ z) ys → Noting t floor (x ++ (y ++ z)) ys
   regrouped {floor = floor} {ys = ys} x y z n = subst (λ w. Noting t floor w ys) (append_assoc x y z) n
 
+-- a place, or none
+spanned_as : {o p : Option Span} → p ≡ o → is_some o ≡ is_some p
+spanned_as e = ap is_some (sym e)
+
 -- how the events of a collection, of an item and of a pair are joined
 
 enclosed : (ys more more2 more3 inner : List Placed) (first last : Placed) → ys ≡ first ∷ more → more ≡ inner ++ more2 → more2 ≡ last ∷ more3
@@ -104,13 +115,13 @@ mutual
       → NotedNode t i j x rest ys
   noted_node (stands_nowhere m q) n =
       let f = noted_first n in
-      record { node = scalar_tree f.at no_props Plain [] []; stands = stands_nowhere m (f.span ∙ q); entry = f.entry; more = f.more; floor = f.floor; is = f.is; noting = f.noting }
+      record { node = scalar_tree f.at no_props Plain [] []; stands = stands_nowhere m (f.span ∙ q); alike = alike_scalars (spanned_as f.span); entry = f.entry; more = f.more; floor = f.floor; is = f.is; noting = f.noting }
   noted_node (scalar_stands {props = props} {style = style} {text = text} {lines = lines} q b l m w s) n =
       let f = noted_first n in
-      record { node = scalar_tree f.at props style text lines; stands = scalar_stands (f.span ∙ q) b l m w s; entry = f.entry; more = f.more; floor = f.floor; is = f.is; noting = f.noting }
+      record { node = scalar_tree f.at props style text lines; stands = scalar_stands (f.span ∙ q) b l m w s; alike = alike_scalars (spanned_as f.span); entry = f.entry; more = f.more; floor = f.floor; is = f.is; noting = f.noting }
   noted_node (alias_stands {name = name} q b l m s) n =
       let f = noted_first n in
-      record { node = alias_tree f.at name; stands = alias_stands (f.span ∙ q) b l m s; entry = f.entry; more = f.more; floor = f.floor; is = f.is; noting = f.noting }
+      record { node = alias_tree f.at name; stands = alias_stands (f.span ∙ q) b l m s; alike = alike_aliases (spanned_as f.span); entry = f.entry; more = f.more; floor = f.floor; is = f.is; noting = f.noting }
   noted_node {rest = rest} {ys = ys} (sequence_stands {flow = flow} {props = props} {xs = xs} q b a m s) n =
       let f = noted_first n in
       let inner = noted_items a (regrouped (flat_items xs) (unplaced sequence_ends ∷ []) rest f.noting) in
@@ -118,6 +129,7 @@ mutual
       record {
         node = sequence f.at flow props inner.items;
         stands = sequence_stands (f.span ∙ q) b inner.stand m s;
+        alike = alike_sequences (spanned_as f.span) inner.alike;
         entry = f.entry;
         more = last.more;
         floor = last.floor;
@@ -131,6 +143,7 @@ mutual
       record {
         node = mapping f.at flow props inner.pairs;
         stands = mapping_stands (f.span ∙ q) b inner.stand m s;
+        alike = alike_mappings (spanned_as f.span) inner.alike;
         entry = f.entry;
         more = last.more;
         floor = last.floor;
@@ -139,8 +152,8 @@ mutual
       }
 
   noted_items : {t : List ℕ} {i j floor : ℕ} {xs : Items} {rest ys : List Placed} → ItemsStand t i j xs → Noting t floor (flat_items xs ++ rest) ys
-      → NotedItems t i j rest ys
-  noted_items (no_items_stand m) n = record { items = no_items; stand = no_items_stand m; more = _; floor = _; is = refl; noting = n }
+      → NotedItems t i j xs rest ys
+  noted_items (no_items_stand m) n = record { items = no_items; stand = no_items_stand m; alike = alike_nothing; more = _; floor = _; is = refl; noting = n }
   noted_items {rest = rest} {ys = ys} (item_stands {x = x} {xs = xs} e q m a b) n =
       let first = noted_node a (regrouped (flat x) (flat_items xs) rest n) in
       let others = noted_items b first.noting in
@@ -148,6 +161,7 @@ mutual
       record {
         items = item first.node others.items;
         stand = item_stands (record e { blank_before = entry.blank }) entry.is m first.stands others.stand;
+        alike = alike_item first.alike others.alike;
         more = others.more;
         floor = others.floor;
         is = two ys first.more others.more (flat first.node) (flat_items others.items) first.is others.is;
@@ -155,8 +169,8 @@ mutual
       }
 
   noted_pairs : {t : List ℕ} {i j floor : ℕ} {ps : Pairs} {rest ys : List Placed} → PairsStand t i j ps → Noting t floor (flat_pairs ps ++ rest) ys
-      → NotedPairs t i j rest ys
-  noted_pairs (no_pairs_stand m) n = record { pairs = no_pairs; stand = no_pairs_stand m; more = _; floor = _; is = refl; noting = n }
+      → NotedPairs t i j ps rest ys
+  noted_pairs (no_pairs_stand m) n = record { pairs = no_pairs; stand = no_pairs_stand m; alike = alike_no_pairs; more = _; floor = _; is = refl; noting = n }
   noted_pairs {rest = rest} {ys = ys} (pair_stands {k = k} {v = v} {ps = ps} e q m a c b d) n =
       let key = noted_node a (regrouped (flat k) (flat v ++ flat_pairs ps) rest n) in
       let value = noted_node b (regrouped (flat v) (flat_pairs ps) rest key.noting) in
@@ -165,6 +179,7 @@ mutual
       record {
         pairs = pair key.node value.node others.pairs;
         stand = pair_stands (record e { blank_before = entry.blank }) entry.is m key.stands c value.stands others.stand;
+        alike = alike_pair key.alike value.alike tt others.alike;
         more = others.more;
         floor = others.floor;
         is = two ys key.more others.more (flat key.node) (flat value.node ++ flat_pairs others.pairs) key.is

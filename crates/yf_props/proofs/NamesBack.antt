@@ -7,7 +7,7 @@ use Rattle.std.specs.Str.{IsUtf8}
 use lib.Utf8.{encode, encodes}
 use Rattle.yf_chars.specs.Text.{code, next, no_char}
 use Rattle.yf_chars.specs.Class.{is_anchor_char, is_ns_char, is_nb_char, is_printable, is_between, is_break_char, is_white, is_digit, is_hex_digit, is_tag_char, is_uri_char, is_word_char, is_flow_indicator}
-use Rattle.yf_chars.specs.Chain.{Chain, Many, Stuck}
+use Rattle.yf_chars.specs.Chain.{Chain, Many, One, Stuck}
 use Rattle.yf_chars.specs.Chain.Chain.{done, step}
 use Rattle.yf_chars.specs.Chain.One.{one}
 use Rattle.yf_chars.proofs.ChainLemmas.{one_stuck}
@@ -19,6 +19,7 @@ use Rattle.yf_props.specs.Names.Anchor.{ampersand_name}
 use Rattle.yf_props.specs.Names.Alias.{asterisk_name}
 use Rattle.yf_props.specs.Names.Spelled.{as_itself, as_escape}
 use Rattle.yf_props.specs.Written.{AllOf, IsName, IsSpelled, nothing_spelled, itself_spelled, escape_spelled, alias_bytes, anchor_bytes}
+use Rattle.yf_props.proofs.NamesMade.{RunText}
 use Rattle.yf_props.proofs.TagLemmas.{spelled_stuck, percent_tag}
 use Rattle.yf_props.proofs.SolidLemmas.{hex_solid}
 use Rattle.yf_props.proofs.SeparationEnds.{Solid}
@@ -63,17 +64,28 @@ some_bytes : (cs : List ℕ) → cs ≢ [] → 0 < length (encodes cs)
 some_bytes [] n = absurd (n refl)
 some_bytes (c ∷ cs) n = omega (arith, length-append (encode c) (encodes cs), length-encode c, len_utf8_bounds c)
 
+-- a run of a class, where none of it follows
+pub run_back : {t : List ℕ} {p : ℕ → Bool} {x : List ℕ} (r : List ℕ) (q : ℕ) → IsUtf8 t → RunText p x → p (code t (q + length x)) ≡ false → Stands t q (x ++ r)
+    → Run (One t p) q (q + length x)
+run_back {t} {p} {x} r q u n e s =
+    let bytes : encodes n.chars ≡ x = n.bytes in
+    let s' : Stands t q (encodes n.chars ++ r) = subst (λ w. Stands t q (w ++ r)) (sym bytes) s in
+    let stop = one_stuck t p (q + length (encodes n.chars)) (subst (λ w. p (code t (q + length w)) ≡ false) (sym bytes) e) in
+    let long = some_bytes n.chars n.some in
+    subst (λ w. Run (One t p) q (q + length w)) bytes
+    (record { characters = n.chars; chain = many_back p n.chars r q u n.each s'; some = omega arith; all = stop })
+
+pub run_end : {t : List ℕ} {p : ℕ → Bool} {x : List ℕ} (r : List ℕ) (q : ℕ) → IsUtf8 t → RunText p x → Stands t q (x ++ r) → Stands t (q + length x) r
+run_end {t} {p} {x} r q u n s =
+    let bytes : encodes n.chars ≡ x = n.bytes in
+    subst (λ w. Stands t (q + length w) r) bytes (stands_chars n.chars u (subst (λ w. Stands t q (w ++ r)) (sym bytes) s))
+
 -- names
 name_run : {t : List ℕ} {name : List ℕ} (r : List ℕ) (q : ℕ) → IsUtf8 t → IsName name → Follows is_behind_name r → Stands t q (name ++ r)
     → Run (AnchorChar t) q (q + length name)
 name_run {t} {name} r q u n f s =
-    let bytes : encodes n.chars ≡ name = n.bytes in
-    let s' : Stands t q (encodes n.chars ++ r) = subst (λ w. Stands t q (w ++ r)) (sym bytes) s in
-    let end = stands_chars n.chars u s' in
-    let long = some_bytes n.chars n.some in
-    let stop = one_stuck t is_anchor_char (q + length (encodes n.chars)) (none_of_name (code t (q + length (encodes n.chars))) (follows_code u end f)) in
-    subst (λ w. Run (AnchorChar t) q (q + length w)) bytes
-    (record { characters = n.chars; chain = many_back is_anchor_char n.chars r q u n.each s'; some = omega arith; all = stop })
+    let run : RunText is_anchor_char name = record { chars = n.chars; bytes = n.bytes; each = n.each; some = n.some } in
+    run_back r q u run (none_of_name (code t (q + length name)) (follows_code u (run_end r q u run s) f)) s
 
 past_sign : (q : ℕ) (x : List ℕ) (c : ℕ) → q + 1 + length x ≡ q + length (c ∷ x)
 past_sign q x c = omega arith
@@ -98,33 +110,45 @@ pub record SpelledAt (t : List ℕ) (p : ℕ → Bool) (q j : ℕ) (r : List ℕ
   pub chain : Chain (Spelled t p) q j meaning
   pub rest : Stands t j r
 
+-- one of them
+pub itself_back : {t : List ℕ} {p : ℕ → Bool} (c : ℕ) (r : List ℕ) (q : ℕ) → IsUtf8 t → Solid c → p c ≡ true → Stands t q (c ∷ r)
+    → Spelled t p q (q + 1) (code t q ∷ []) × Stands t (q + 1) r
+itself_back {t} {p} c r q u s e at =
+    let got = stands_ascii c u (let h = s.high in omega arith) at in
+    let here : p (code t q) ≡ true = ap p got.0.char ∙ e in
+    (subst (λ k. Spelled t p q k (code t q ∷ [])) got.0.end (as_itself here), got.1)
+
+pub escape_back : {t : List ℕ} {p : ℕ → Bool} (a b : ℕ) (r : List ℕ) (q : ℕ) → IsUtf8 t → is_hex_digit a ≡ true → is_hex_digit b ≡ true → Stands t q (37 ∷ a ∷ b ∷ r)
+    → Spelled t p q (q + 3) (37 ∷ code t (q + 1) ∷ code t (q + 2) ∷ []) × Stands t (q + 3) r
+escape_back {t} {p} a b r q u e f at =
+    let high = hex_solid a e in
+    let low = hex_solid b f in
+    let got = stands_ascii 37 u (omega arith) at in
+    let got₁ = stands_ascii a u (let h = high.high in omega arith) got.1 in
+    let got₂ = stands_ascii b u (let h = low.high in omega arith) got₁.1 in
+    let two : q + 1 + 1 ≡ q + 2 = omega arith in
+    let three : q + 1 + 1 + 1 ≡ q + 3 = omega arith in
+    let first : is_hex_digit (code t (q + 1)) ≡ true = ap is_hex_digit got₁.0.char ∙ e in
+    let second : is_hex_digit (code t (q + 2)) ≡ true = ap (λ w. is_hex_digit (code t w)) (sym two) ∙ ap is_hex_digit got₂.0.char ∙ f in
+    (as_escape got.0.char first second, subst (λ w. Stands t w r) three got₂.1)
+
 pub spelled_back : {t : List ℕ} {p : ℕ → Bool} {x : List ℕ} (r : List ℕ) (q : ℕ) → IsUtf8 t → ((c : ℕ) → p c ≡ true → Solid c) → IsSpelled p x → Stands t q (x ++ r)
     → SpelledAt t p q (q + length x) r
 spelled_back {t} {p} r q u S nothing_spelled s =
     record { meaning = []; chain = subst (λ w. Chain (Spelled t p) q w []) (sym (add-zero q)) done; rest = subst (λ w. Stands t w r) (sym (add-zero q)) s }
 spelled_back {t} {p} r q u S (itself_spelled {c = c} {x = x} e k) s =
-    let solid = S c e in
-    let got = stands_ascii c u (let h = solid.high in omega arith) s in
-    let more = spelled_back r (q + 1) u S k got.1 in
-    let here : p (code t q) ≡ true = ap p got.0.char ∙ e in
-    let rest : Chain (Spelled t p) (next t q) (q + 1 + length x) more.meaning = subst (λ w. Chain (Spelled t p) w (q + 1 + length x) more.meaning) (sym got.0.end) more.chain in
+    let first = itself_back c (x ++ r) q u (S c e) e s in
+    let more = spelled_back r (q + 1) u S k first.1 in
     let there : q + 1 + length x ≡ q + length (c ∷ x) = omega arith in
-    let whole : Chain (Spelled t p) q (q + 1 + length x) (code t q ∷ [] ++ more.meaning) = step (as_itself here) rest in
-    record { meaning = code t q ∷ [] ++ more.meaning; chain = subst (λ w. Chain (Spelled t p) q w (code t q ∷ [] ++ more.meaning)) there whole; rest = subst (λ w. Stands t w r) there more.rest }
+    let meaning : List ℕ = code t q ∷ [] ++ more.meaning in
+    let whole : Chain (Spelled t p) q (q + 1 + length x) meaning = step first.0 more.chain in
+    record { meaning = meaning; chain = subst (λ w. Chain (Spelled t p) q w meaning) there whole; rest = subst (λ w. Stands t w r) there more.rest }
 spelled_back {t} {p} r q u S (escape_spelled {a = a} {b = b} {x = x} e f k) s =
-    let high = hex_solid a e in
-    let low = hex_solid b f in
-    let got = stands_ascii 37 u (omega arith) s in
-    let got₁ = stands_ascii a u (let h = high.high in omega arith) got.1 in
-    let got₂ = stands_ascii b u (let h = low.high in omega arith) got₁.1 in
-    let two : q + 1 + 1 ≡ q + 2 = omega arith in
-    let three : q + 1 + 1 + 1 ≡ q + 3 = omega arith in
-    let more = spelled_back r (q + 3) u S k (subst (λ w. Stands t w (x ++ r)) three got₂.1) in
-    let first : is_hex_digit (code t (q + 1)) ≡ true = ap is_hex_digit got₁.0.char ∙ e in
-    let second : is_hex_digit (code t (q + 2)) ≡ true = ap (λ w. is_hex_digit (code t w)) (sym two) ∙ ap is_hex_digit got₂.0.char ∙ f in
+    let first = escape_back a b (x ++ r) q u e f s in
+    let more = spelled_back r (q + 3) u S k first.1 in
     let there : q + 3 + length x ≡ q + length (37 ∷ a ∷ b ∷ x) = omega arith in
     let meaning : List ℕ = 37 ∷ code t (q + 1) ∷ code t (q + 2) ∷ more.meaning in
-    let whole : Chain (Spelled t p) q (q + 3 + length x) meaning = step (as_escape got.0.char first second) more.chain in
+    let whole : Chain (Spelled t p) q (q + 3 + length x) meaning = step first.0 more.chain in
     record { meaning = meaning; chain = subst (λ w. Chain (Spelled t p) q w meaning) there whole; rest = subst (λ w. Stands t w r) there more.rest }
 
 pub long_some : (x : List ℕ) → x ≢ [] → 0 < length x

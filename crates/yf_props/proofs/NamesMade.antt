@@ -1,5 +1,5 @@
 -- What derived names, tags and properties are made of.
-use Rattle.std.proofs.Common.{◌≡◌, ◌≢◌, ℕ, suc, ◌+◌, ◌<◌, ◌≤◌, ℤ, Bool, true, List, [], ◌∷◌, ◌++◌, Some, None, length, slice_range, refl, sym, ap, ◌∙◌, subst, arith}
+use Rattle.std.proofs.Common.{◌≡◌, ◌≢◌, ℕ, suc, ◌+◌, ◌<◌, ◌≤◌, ℤ, Bool, true, List, [], ◌∷◌, ◌++◌, Some, None, length, slice_range, encode_utf8_all, refl, sym, ap, ◌∙◌, subst, arith}
 use Rattle.std.proofs.lemmas.Bool.Decides.{nat_tests}
 use Rattle.std.proofs.lemmas.Str.{encode_ascii}
 use Rattle.std.specs.Str.{IsUtf8}
@@ -8,7 +8,7 @@ use lib.Utf8.{encodes}
 use Rattle.yf_chars.specs.declared.context.Ctx.{Ctx}
 use Rattle.yf_chars.specs.Text.{code, next, no_char, Reads}
 use Rattle.yf_chars.specs.Class.{is_anchor_char, is_ns_char, is_nb_char, is_printable, is_between, is_word_char}
-use Rattle.yf_chars.specs.Chain.{Chain, Many}
+use Rattle.yf_chars.specs.Chain.{Chain, Many, One}
 use Rattle.yf_chars.specs.Chain.Chain.{done, step}
 use Rattle.yf_chars.specs.Chain.One.{one}
 use Rattle.yf_chars.proofs.TextLemmas.{reads_real, reads_byte}
@@ -30,32 +30,32 @@ use Rattle.yf_props.proofs.SeparationEnds.{Solid}
 use Rattle.yf_props.proofs.SolidLemmas.{uri_solid, word_solid, tag_solid, hex_solid}
 
 -- characters that stand from one offset to another: their bytes
-record Stretch (t : List ℕ) (i j : ℕ) (x : List ℕ) : Type 0 where
+pub record Stretch (t : List ℕ) (i j : ℕ) (x : List ℕ) : Type 0 where
   pub spelled : C.Spelled t i j x
   pub within : j ≤ length t
 
-stretch_slice : {t : List ℕ} {i j : ℕ} {x : List ℕ} → Stretch t i j x → slice_range t i j ≡ encodes x
+pub stretch_slice : {t : List ℕ} {i j : ℕ} {x : List ℕ} → Stretch t i j x → slice_range t i j ≡ encodes x
 stretch_slice s = spelled_slice s.within s.spelled
 
-stretch_nothing : (t : List ℕ) (i : ℕ) → i ≤ length t → Stretch t i i []
+pub stretch_nothing : (t : List ℕ) (i : ℕ) → i ≤ length t → Stretch t i i []
 stretch_nothing t i l = record { spelled = spelled_nothing t i; within = l }
 
-stretch_char : {t : List ℕ} {i c j k : ℕ} {x : List ℕ} → Reads t i c j → Stretch t j k x → Stretch t i k (c ∷ x)
+pub stretch_char : {t : List ℕ} {i c j k : ℕ} {x : List ℕ} → Reads t i c j → Stretch t j k x → Stretch t i k (c ∷ x)
 stretch_char r s = record { spelled = spelled_join (spelled_char r) s.spelled; within = s.within }
 
 -- runs of a class
-many_stretch : {t : List ℕ} {p : ℕ → Bool} {i j : ℕ} {x : List ℕ} → IsUtf8 t → ((c : ℕ) → p c ≡ true → c < no_char) → i ≤ length t → Many t p i j x → Stretch t i j x
+pub many_stretch : {t : List ℕ} {p : ℕ → Bool} {i j : ℕ} {x : List ℕ} → IsUtf8 t → ((c : ℕ) → p c ≡ true → c < no_char) → i ≤ length t → Many t p i j x → Stretch t i j x
 many_stretch {t} {i = i} u b l done = stretch_nothing t i l
 many_stretch {t} u b l (step (one {i = i} e) m) = let r = reads_real t i u (b (code t i) e) in stretch_char r (many_stretch u b r.within m)
 
-many_each : {t : List ℕ} {p : ℕ → Bool} {i j : ℕ} {x : List ℕ} → Many t p i j x → AllOf p x
+pub many_each : {t : List ℕ} {p : ℕ → Bool} {i j : ℕ} {x : List ℕ} → Many t p i j x → AllOf p x
 many_each done = tt
 many_each (step (one e) m) = (e, many_each m)
 
 pub cons_some : {c : ℕ} {x : List ℕ} → c ∷ x ≢ []
 cons_some {c} {x} e = let long : suc (length x) ≡ 0 = ap length e in omega arith
 
-many_some : {t : List ℕ} {p : ℕ → Bool} {i j : ℕ} {x : List ℕ} → i < j → Many t p i j x → x ≢ []
+pub many_some : {t : List ℕ} {p : ℕ → Bool} {i j : ℕ} {x : List ℕ} → i < j → Many t p i j x → x ≢ []
 many_some l done = absurd (omega arith)
 many_some l (step (one e) m) = cons_some
 
@@ -67,13 +67,19 @@ anchor_below c e = grind (arith, nat_tests)
 past_mark : {t : List ℕ} (i c : ℕ) → IsUtf8 t → code t i ≡ c → c < 128 → i + 1 ≤ length t
 past_mark {t} i c u e l = (reads_byte t i c u e l).within
 
+-- the bytes of a run of a class
+pub record RunText (p : ℕ → Bool) (x : List ℕ) : Type 0 where
+  pub chars : List ℕ
+  pub bytes : encode_utf8_all chars ≡ x
+  pub each : AllOf p chars
+  pub some : chars ≢ []
+
+pub run_made : {t : List ℕ} {p : ℕ → Bool} {i j : ℕ} → IsUtf8 t → ((c : ℕ) → p c ≡ true → c < no_char) → i ≤ length t → Run (One t p) i j → RunText p (slice_range t i j)
+run_made u b l r =
+    record { chars = r.characters; bytes = sym (stretch_slice (many_stretch u b l r.chain)); each = many_each r.chain; some = many_some r.some r.chain }
+
 name_made : {t : List ℕ} {i j : ℕ} → IsUtf8 t → i ≤ length t → Run (AnchorChar t) i j → IsName (slice_range t i j)
-name_made {t} {i} {j} u l r = record {
-  chars = r.characters;
-  bytes = sym (stretch_slice (many_stretch u anchor_below l r.chain));
-  each = many_each r.chain;
-  some = many_some r.some r.chain;
-}
+name_made u l r = let a = run_made u anchor_below l r in record { chars = a.chars; bytes = a.bytes; each = a.each; some = a.some }
 
 pub alias_made : {t : List ℕ} {i j : ℕ} {name : List ℕ} → IsUtf8 t → Alias t i j name → IsName name
 alias_made {t} u (asterisk_name {i = i} e r) = name_made u (past_mark i 42 u e (omega arith)) r
@@ -86,11 +92,11 @@ abbrev Low : List ℕ → Type 0
 Low [] = Unit {0}
 Low (c ∷ x) = (c < 128) × Low x
 
-low_bytes : (x : List ℕ) → Low x → encodes x ≡ x
+pub low_bytes : (x : List ℕ) → Low x → encodes x ≡ x
 low_bytes [] l = refl
 low_bytes (c ∷ x) l = ap (λ w. w ++ encodes x) (encode_ascii c l.0) ∙ ap (λ w. c ∷ w) (low_bytes x l.1)
 
-record Characters (t : List ℕ) (p : ℕ → Bool) (i j : ℕ) (x : List ℕ) : Type 0 where
+pub record Characters (t : List ℕ) (p : ℕ → Bool) (i j : ℕ) (x : List ℕ) : Type 0 where
   pub stretch : Stretch t i j x
   pub low : Low x
   pub text : IsSpelled p x
@@ -98,7 +104,7 @@ record Characters (t : List ℕ) (p : ℕ → Bool) (i j : ℕ) (x : List ℕ) :
 one_byte : {t : List ℕ} (i : ℕ) → IsUtf8 t → Solid (code t i) → Reads t i (code t i) (i + 1)
 one_byte {t} i u s = let h = s.high in reads_byte t i (code t i) u refl (omega arith)
 
-spelled_made : {t : List ℕ} {p : ℕ → Bool} {i j : ℕ} {x : List ℕ} → IsUtf8 t → (S : (c : ℕ) → p c ≡ true → Solid c) → i ≤ length t → Chain (Spelled t p) i j x
+pub spelled_made : {t : List ℕ} {p : ℕ → Bool} {i j : ℕ} {x : List ℕ} → IsUtf8 t → (S : (c : ℕ) → p c ≡ true → Solid c) → i ≤ length t → Chain (Spelled t p) i j x
     → Characters t p i j x
 spelled_made {t} {i = i} u S l done = record { stretch = stretch_nothing t i l; low = tt; text = nothing_spelled }
 spelled_made {t} u S l (step (as_itself {i = i} e) d) =
@@ -152,11 +158,11 @@ low_append : (x y : List ℕ) → Low x → Low y → Low (x ++ y)
 low_append [] y a b = b
 low_append (c ∷ x) y a b = (a.0, low_append x y a.1 b)
 
-record HandleSlice (t : List ℕ) (i h : ℕ) : Type 0 where
+pub record HandleSlice (t : List ℕ) (i h : ℕ) : Type 0 where
   pub text : IsHandle (slice_range t i h)
   pub within : h ≤ length t
 
-handle_made : {t : List ℕ} {i h : ℕ} → IsUtf8 t → Handle t i h → HandleSlice t i h
+pub handle_made : {t : List ℕ} {i h : ℕ} → IsUtf8 t → Handle t i h → HandleSlice t i h
 handle_made {t} u (primary_handle {i = i} a) =
     let r = reads_byte t i 33 u a (omega arith) in
     let s = stretch_char r (stretch_nothing t (i + 1) r.within) in

@@ -26,11 +26,11 @@ use Rattle.yf_props.proofs.NamesMade.{words_bytes}
 use Rattle.yf_props.proofs.NamesBack.{tag_stuck, many_back, spelled_back, long_some, spelled_run, anchor_back}
 
 -- handles
-record HandleAt (t : List ℕ) (q j : ℕ) (r : List ℕ) : Type 0 where
+pub record HandleAt (t : List ℕ) (q j : ℕ) (r : List ℕ) : Type 0 where
   pub handle : Handle t q j
   pub rest : Stands t j r
 
-handle_back : {t h : List ℕ} (r : List ℕ) (q : ℕ) → IsUtf8 t → IsHandle h → Stands t q (h ++ r) → HandleAt t q (q + length h) r
+pub handle_back : {t h : List ℕ} (r : List ℕ) (q : ℕ) → IsUtf8 t → IsHandle h → Stands t q (h ++ r) → HandleAt t q (q + length h) r
 handle_back r q u primary_form s = let got = stands_ascii 33 u (omega arith) s in record { handle = primary_handle got.0.char; rest = got.1 }
 handle_back {t} r q u secondary_form s =
     let got = stands_ascii 33 u (omega arith) s in

@@ -12,7 +12,7 @@ use Rattle.yf_props.proofs.SeparationEnds.{Solid}
 use Rattle.yf_props.proofs.SolidLemmas.{uri_solid, word_solid, tag_solid, hex_solid}
 
 -- characters
-solid : (c : ℕ) {x : List ℕ} → Solid c → IsLineText x → IsLineText (c ∷ x)
+pub solid : (c : ℕ) {x : List ℕ} → Solid c → IsLineText x → IsLineText (c ∷ x)
 solid c s x = let l = s.low in let h = s.high in visible_line c (omega arith) (omega arith) x
 
 anchor_nb : (c : ℕ) → is_anchor_char c ≡ true → is_nb_char c ≡ true
@@ -27,7 +27,7 @@ names_nb (c ∷ cs) a = (anchor_nb c a.0, names_nb cs a.1)
 name_line : {x : List ℕ} → IsName x → IsLineText x
 name_line n = record { chars = n.chars; bytes = n.bytes; each = names_nb n.chars n.each }
 
-spelled_line : {p : ℕ → Bool} {x y : List ℕ} → ((c : ℕ) → p c ≡ true → Solid c) → IsSpelled p x → IsLineText y → IsLineText (x ++ y)
+pub spelled_line : {p : ℕ → Bool} {x y : List ℕ} → ((c : ℕ) → p c ≡ true → Solid c) → IsSpelled p x → IsLineText y → IsLineText (x ++ y)
 spelled_line S nothing_spelled y = y
 spelled_line S (itself_spelled {c = c} e k) y = solid c (S c e) (spelled_line S k y)
 spelled_line S (escape_spelled {a = a} {b = b} e f k) y = visible_line 37 (omega arith) (omega arith) (solid a (hex_solid a e) (solid b (hex_solid b f) (spelled_line S k y)))
@@ -36,10 +36,10 @@ words_line : (x : List ℕ) {y : List ℕ} → AllOf is_word_char x → IsLineTe
 words_line [] a y = y
 words_line (c ∷ x) a y = solid c (word_solid c a.0) (words_line x a.1 y)
 
-mark_line : {x : List ℕ} → IsLineText x → IsLineText (33 ∷ x)
+pub mark_line : {x : List ℕ} → IsLineText x → IsLineText (33 ∷ x)
 mark_line x = visible_line 33 (omega arith) (omega arith) x
 
-handle_line : {h : List ℕ} → IsHandle h → IsLineText h
+pub handle_line : {h : List ℕ} → IsHandle h → IsLineText h
 handle_line primary_form = mark_line line_nothing
 handle_line secondary_form = mark_line (mark_line line_nothing)
 handle_line (named_form {x = x} a n) = mark_line (words_line x a (mark_line line_nothing))

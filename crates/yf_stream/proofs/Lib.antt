@@ -28,4 +28,5 @@ pub mod ShownStreams
 pub mod ShownWord
 pub mod ShownWords
 pub mod Stable
+pub mod StreamDocuments
 pub mod StreamPath

@@ -8,6 +8,7 @@ use Rattle.yf_events.specs.declared.event.Span.{Span}
 use Rattle.yf_events.specs.declared.lists.Lists.{Lists}
 use Rattle.yf_grammar.proofs.EventsStand.{EventsStand, no_events_stand, event_stands, events_all, events_join, node_events, unplaced_stands}
 use Rattle.yf_grammar.proofs.ItemsVisible.{AllVisible, none_visible, node_visible, visible_at, visible_join}
+use Rattle.yf_stream.specs.Stream.{Document}
 use Rattle.yf_stream.specs.NodeLaws.{IsVisibleAt, ItemsOfReadingsBeginVisibly, NodesOfReadingsBeginVisibly}
 use Rattle.yf_stream.proofs.ReadingTrees.{ReadingStands, TreesStand, no_trees_stand, tree_stands, reading_stands}
 
@@ -19,7 +20,7 @@ module _ {t : List ℕ} where
       (events_join (node_events a) (event_stands (unplaced_stands (document_ends tree.closed) refl) no_events_stand))) (trees_events b)
 
   -- of a reading
-  pub reading_events : {r : Lists} → ReadingStands t r → EventsStand t r.events
+  pub reading_events : {ds : List Document} {r : Lists} → ReadingStands t ds r → EventsStand t r.events
   reading_events {r = r} a =
       let all : EventsStand t (flat_stream a.trees) =
       event_stands (unplaced_stands stream_starts refl) (events_join (trees_events a.stand) (event_stands (unplaced_stands stream_ends refl) no_events_stand)) in

@@ -83,7 +83,7 @@ pub record CommentAt (t : List ℕ) (i k : ℕ) (c : CommentValue) : Type 0 wher
 
 pub comment_at : {t : List ℕ} {i k : ℕ} (cs : List CommentValue) (j : ℕ) (d : CommentValue) → Ascend t i cs k → j < length cs → CommentAt t i k (slice_index_or cs j d)
 comment_at [] j d a l = absurd (omega arith)
-comment_at (c ∷ cs) zero d (one_more m s a) l = let f = ascend_order a in record { from = m; before = omega arith; sign = s }
+comment_at (c ∷ cs) zero d (one_more m s a) l = let f = ascend_order a in record { from = m; before = omega arith; sign = s.sign }
 comment_at {i = i} {k = k} (c ∷ cs) (suc j) d (one_more m s a) l =
     let r = comment_at {i = c.offset + 1} cs j d a (omega arith) in record { from = omega (arith, r.from); before = r.before; sign = r.sign }
 

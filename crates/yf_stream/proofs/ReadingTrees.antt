@@ -1,10 +1,12 @@
--- The reading of a text has trees, whose documents and nodes stand in order.
+-- The reading of a text has trees, whose documents and nodes stand in order, and which mean what is derived.
 use Rattle.std.proofs.Common.{◌≡◌, ℕ, suc, ◌≤◌, List, [], ◌∷◌, ◌++◌, map, flat_map, length, Option, refl, sym, ap, ◌∙◌, subst, append_assoc}
 use Rattle.std.specs.Str.{IsUtf8}
 use Rattle.yf_events.specs.Event.{Placed, document_starts, document_ends, stream_starts, stream_ends}
-use Rattle.yf_events.specs.Tree.{DocumentTree, TreesOf, unplaced, flat, flat_document}
+use Rattle.yf_events.specs.Alike.{Alike}
+use Rattle.yf_events.specs.Tree.{Node, DocumentTree, TreesOf, unplaced, flat, flat_document}
 use Rattle.yf_events.specs.declared.document.Doc.{Doc}
 use Rattle.yf_events.specs.declared.lists.Lists.{Lists}
+use Rattle.yf_grammar.specs.Meant.{Anywhere}
 use Rattle.yf_grammar.specs.Part.{Noting, no_event}
 use Rattle.yf_grammar.proofs.NodePlaces.{NodeStands}
 use Rattle.yf_grammar.proofs.NotedNodes.{noted_node, noted_plain}
@@ -19,14 +21,22 @@ pub data TreesStand (t : List ℕ) : ℕ → List Doc → List DocumentTree → 
   tree_stands : {i j : ℕ} {d : Doc} {ds : List Doc} {tree : DocumentTree} {trees : List DocumentTree} → DirectivesStand i d.directives d.start
       → NodeStands t d.start j tree.root → TreesStand t j ds trees → TreesStand t i (d ∷ ds) (tree ∷ trees)
 
-pub record ReadingStands (t : List ℕ) (r : Lists) : Type 0 where
+-- the trees of documents that are derived: they mean the same, but for notes on blank lines
+pub data TreesMeant : List Document → List DocumentTree → Type 0 where
+  no_trees_meant : TreesMeant [] []
+  tree_meant : {d : Document} {ds : List Document} {x : Node} {tree : DocumentTree} {trees : List DocumentTree} → d.events ≡ flat x → Alike Anywhere x tree.root
+      → TreesMeant ds trees → TreesMeant (d ∷ ds) (tree ∷ trees)
+
+pub record ReadingStands (t : List ℕ) (ds : List Document) (r : Lists) : Type 0 where
   pub trees : List DocumentTree
   pub of_reading : TreesOf r trees
   pub stand : TreesStand t 0 r.documents trees
+  pub meant : TreesMeant ds trees
 
 record NotedTrees (t : List ℕ) (i : ℕ) (ds : List Document) (rest ys : List Placed) : Type 0 where
   trees : List DocumentTree
   stand : TreesStand t i (map doc_of ds) trees
+  meant : TreesMeant ds trees
   count : length ds ≡ length trees
   more : List Placed
   floor : ℕ
@@ -57,7 +67,7 @@ module _ {t : List ℕ} where
   noted_trees : {i floor : ℕ} {ds : List Document} {x rest ys : List Placed} {tags : List (Option (List ℕ))} → DocumentsStand t i ds
       → DocumentEvents t ds x tags → Noting t floor (x ++ rest) ys → NotedTrees t i ds rest ys
   noted_trees (no_documents_stand l) no_document n =
-      record { trees = []; stand = no_trees_stand l; count = refl; more = _; floor = _; is = refl; noting = n }
+      record { trees = []; stand = no_trees_stand l; meant = no_trees_meant; count = refl; more = _; floor = _; is = refl; noting = n }
   noted_trees {floor = floor} {rest = rest} {ys = ys} (document_stands a b) (one_document {d = d} {x = x} {closed = closed} tags ends marked others) n =
       let s : Placed = unplaced (document_starts d.marked) in
       let e : Placed = unplaced (document_ends closed) in
@@ -71,6 +81,7 @@ module _ {t : List ℕ} where
       record {
         trees = record { marked = d.marked; closed = closed; root = root.node } ∷ behind.trees;
         stand = tree_stands a.directives root.stands behind.stand;
+        meant = tree_meant a.events root.alike behind.meant;
         count = ap suc behind.count;
         more = behind.more;
         floor = behind.floor;
@@ -79,7 +90,7 @@ module _ {t : List ℕ} where
       }
 
 -- the trees of a reading
-pub reading_stands : {t : List ℕ} {r : Lists} → IsUtf8 t → ReadingOf t r → ReadingStands t r
+pub reading_stands : {t : List ℕ} {r : Lists} → IsUtf8 t → (a : ReadingOf t r) → ReadingStands t a.derived.documents r
 reading_stands {t} {r} u a =
     let first = noted_plain refl a.noted in
     let inner = noted_trees (stream_stands u a.reads.shapes.derived) a.events first.noting in
@@ -93,6 +104,7 @@ reading_stands {t} {r} u a =
         documents = counts ∙ inner.count;
       };
       stand = subst (λ z. TreesStand t 0 z inner.trees) (sym a.documents) inner.stand;
+      meant = inner.meant;
     } where
       count_map : (f : Document → Doc) (ds : List Document) → length (map f ds) ≡ length ds
       count_map f [] = refl

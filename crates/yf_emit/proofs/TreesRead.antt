@@ -1,0 +1,87 @@
+-- The trees of a reading are trees as they are read, so the documents of its normal form can be laid out and are read again.
+use Rattle.std.proofs.Common.{◌≡◌, ℕ, ◌+◌, Bool, true, false, List, [], map, refl, sym, ap, ◌∙◌, subst, append-nil}
+use Rattle.std.specs.Str.{IsUtf8}
+use Rattle.yf_comments.specs.Comment.{CommentValue}
+use Rattle.yf_events.proofs.TreeLemmas.{node_unique, trees_unique}
+use Rattle.yf_events.specs.Alike.{Alike, alike_scalars, alike_aliases, alike_sequences, alike_mappings, AlikeItems, alike_nothing, alike_item, AlikePairs, alike_no_pairs, alike_pair}
+use Rattle.yf_events.specs.Event.{Placed}
+use Rattle.yf_events.specs.declared.directive.Directive.{Directive}
+use Rattle.yf_events.specs.declared.lists.Lists.{Lists}
+use Rattle.yf_events.specs.Tree.{Node, Items, Pairs, DocumentTree, TreesOf, flat}
+use Rattle.yf_grammar.specs.Meaning.{Meaning}
+use Rattle.yf_stream.specs.ReadingOf.{ReadingOf, doc_of}
+use Rattle.yf_stream.specs.Stream.{AnyDocument, Directives, Document, ExplicitNode, document_of}
+use Rattle.yf_stream.specs.Stream.AnyDocument.{bare_document, directive_document, explicit_document}
+use Rattle.yf_stream.specs.Stream.ExplicitNode.{marked_node, marked_nothing}
+use Rattle.yf_stream.proofs.ReadingTrees.{TreesMeant, no_trees_meant, tree_meant, reading_stands}
+use Rattle.yf_stream.proofs.StreamDocuments.{DocumentsDerived, no_documents_derived, document_derived, stream_derived}
+use Rattle.yf_emit.specs.FitDocuments.{FitDirectives, fit_no_directives, FitDocuments, fit_no_documents, fit_document}
+use Rattle.yf_emit.specs.Normal.{Setting, root_spot, normal_document}
+use Rattle.yf_emit.specs.ReadTrees.{ReadNode, read_nothing, read_props, read_scalar, read_alias, read_sequence, read_mapping, ReadItems, read_no_items, read_item, ReadPairs, read_no_pairs, read_pair}
+use Rattle.yf_emit.proofs.DirectivesFit.{directives_fit}
+use Rattle.yf_emit.proofs.ReadDerived.{reads}
+use Rattle.yf_emit.proofs.ReadFits.{read_fits}
+use Rattle.yf_emit.proofs.ReadParts.{NodeRead, node_noting, nothing_read}
+
+-- What is read of a tree is so of each one alike.
+
+mutual
+  read_alike : {K : Node → Node → Node → Node → Type 0} {b : Bool} {x y : Node} → Alike K x y → ReadNode b x → ReadNode b y
+  read_alike (alike_scalars e) (read_nothing s) = read_nothing (sym e ∙ s)
+  read_alike (alike_scalars e) (read_props s p n) = read_props (sym e ∙ s) p n
+  read_alike (alike_scalars e) (read_scalar s f u r) = read_scalar (sym e ∙ s) f u r
+  read_alike (alike_aliases e) (read_alias s n) = read_alias (sym e ∙ s) n
+  read_alike (alike_sequences e a) (read_sequence s f r) = read_sequence (sym e ∙ s) f (items_alike a r)
+  read_alike (alike_mappings e a) (read_mapping s f r) = read_mapping (sym e ∙ s) f (pairs_alike a r)
+
+  items_alike : {K : Node → Node → Node → Node → Type 0} {b : Bool} {xs ys : Items} → AlikeItems K xs ys → ReadItems b xs → ReadItems b ys
+  items_alike alike_nothing read_no_items = read_no_items
+  items_alike (alike_item a more) (read_item r rs) = read_item (read_alike a r) (items_alike more rs)
+
+  pairs_alike : {K : Node → Node → Node → Node → Type 0} {b : Bool} {ps qs : Pairs} → AlikePairs K ps qs → ReadPairs b ps → ReadPairs b qs
+  pairs_alike alike_no_pairs read_no_pairs = read_no_pairs
+  pairs_alike (alike_pair a c k more) (read_pair r s rs) = read_pair (read_alike a r) (read_alike c s) (pairs_alike more rs)
+
+-- Documents.
+
+-- what is known of a document that is derived
+record DocumentRead (d : Document) : Type 0 where
+  node : Node
+  events : d.events ≡ flat node
+  read : ReadNode false node
+  directives : FitDirectives d.directives
+
+module _ {t : List ℕ} (u : IsUtf8 t) where
+  explicit_read : {h i j : ℕ} {x : Meaning} → ExplicitNode t h i j x → NodeRead false x
+  explicit_read (marked_node e n) = reads u n.derived
+  explicit_read (marked_nothing {i = i} {cs = cs} e d) = node_noting cs (nothing_read false (i + 3))
+
+  document_with : {x : Meaning} (i : ℕ) (marked : Bool) (ds : List Directive) → FitDirectives ds → NodeRead false x → DocumentRead (document_of i marked ds x)
+  unfolding document_of
+  document_with i marked ds f a = record { node = a.node; events = a.events; read = a.read; directives = f }
+
+  document_read : {h i j : ℕ} {d : Document} {cs : List CommentValue} → AnyDocument t h i j d cs → DocumentRead d
+  document_read (bare_document {k = k} n c) = document_with k false [] fit_no_directives (reads u n.derived)
+  document_read (explicit_document {i = i} e) = document_with i true [] fit_no_directives (explicit_read e)
+  document_read (directive_document {k = k} {ds = ds} d e) = document_with k true ds.directives (directives_fit u d) (explicit_read e)
+
+  same_node : {es : List Placed} {x y : Node} → es ≡ flat x → es ≡ flat y → x ≡ y
+  same_node {x = x} {y = y} e f = (node_unique x y [] [] (append-nil (flat x) ∙ (sym e ∙ (f ∙ sym (append-nil (flat y)))))).0
+
+  documents_fit : {h : ℕ} {ds : List Document} {trees : List DocumentTree} (s : List ℕ) (c : Setting) → DocumentsDerived t h ds → TreesMeant ds trees
+      → FitDocuments (map doc_of ds) (map (normal_document s c) trees)
+  documents_fit s c no_documents_derived no_trees_meant = fit_no_documents
+  documents_fit s c (document_derived a l more) (tree_meant {x = x} e b others) =
+      let d = document_read a in
+      let read : ReadNode false x = subst (λ w. ReadNode false w) (same_node d.events e) d.read in
+      fit_document d.directives (read_fits s c (root_spot c.style) (read_alike b read)) (documents_fit s c more others)
+
+  -- of a reading
+  pub reading_fits : {r : Lists} {trees : List DocumentTree} (s : List ℕ) (c : Setting) → ReadingOf t r → TreesOf r trees
+      → FitDocuments r.documents (map (normal_document s c) trees)
+  reading_fits {r = r} {trees = trees} s c a of_reading =
+      let w = reading_stands u a in
+      let same : w.trees ≡ trees = trees_unique r w.trees trees w.of_reading of_reading in
+      let fits = documents_fit s c (stream_derived a.reads.shapes.derived) w.meant in
+      subst (λ ds. FitDocuments ds (map (normal_document s c) trees)) (sym a.documents)
+      (subst (λ xs. FitDocuments (map doc_of a.derived.documents) (map (normal_document s c) xs)) same fits)
