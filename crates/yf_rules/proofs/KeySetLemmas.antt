@@ -21,7 +21,7 @@ use Rattle.yf_rules.specs.Nodes.Holds.{as_item, as_key, as_value}
 use Rattle.yf_rules.specs.Nodes.RepeatedKey.{repeats}
 use Rattle.yf_rules.specs.Nodes.StandsIn.{is_root, is_inner}
 
-nothing_in : {X : Type 0} (y : X) → Contains {X = X} [] y → ⊥
+pub nothing_in : {X : Type 0} (y : X) → Contains {X = X} [] y → ⊥
 nothing_in y c = omega (arith, c.1)
 
 -- the first element of a list, or a later one
@@ -208,10 +208,10 @@ roots_repeat r trees (d ∷ ds) i f o c =
     (Contains-append_cases (found_in r.resolved (i + 1) d.root) (found_in_documents r.resolved j ds) o c)
 
 -- the other way: what is found in a part is found in the whole
-first_same : {a b : Numbered} {c d : Numbered} → ◌≡◌ {A = NumberedPair} (a, c) (b, d) → a ≡ b
+pub first_same : {a b : Numbered} {c d : Numbered} → ◌≡◌ {A = NumberedPair} (a, c) (b, d) → a ≡ b
 first_same e = ap (λ (p : NumberedPair). p.0) e
 
-second_same : {a b : Numbered} {c d : Numbered} → ◌≡◌ {A = NumberedPair} (a, c) (b, d) → c ≡ d
+pub second_same : {a b : Numbered} {c d : Numbered} → ◌≡◌ {A = NumberedPair} (a, c) (b, d) → c ≡ d
 second_same e = ap (λ (p : NumberedPair). p.1) e
 
 items_found : (tags : List (Option (List ℕ))) (xs : Items) (i : ℕ) (y : Numbered) (o : ℕ) → Contains (items_from i xs) y → Contains (found_in tags y.0 y.1) o

@@ -16,6 +16,10 @@ pub mod BlankLemmas
 pub mod KeyTreeLemmas
 pub mod KeySetLemmas
 pub mod KeyPassLemmas
+pub mod StandTreeLemmas
+pub mod StandSetLemmas
+pub mod EntryLemmas
+pub mod PassLemmas
 pub mod StyleLemmas
 pub mod NodeLemmas
 pub mod FlowLemmas

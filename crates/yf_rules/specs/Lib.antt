@@ -15,6 +15,9 @@ pub mod Laws
 pub mod OuterFlow
 pub mod QuestionMarks
 pub mod Stands
+pub mod Standings
+pub mod Entries
+pub mod Passing
 pub mod Columns
 pub mod Indents
 pub mod MarkedKeys

@@ -1,5 +1,5 @@
 -- What holds a node, and where the node's entries or content are to stand for that.
-use Rattle.std.specs.Prelude.{ℕ, ◌+◌, ◌==◌, ◌&&◌, Bool, true, false, not, if◌then◌else◌, Option, Some, None}
+use Rattle.std.specs.Prelude.{ℕ, ◌+◌, ◌==◌, ◌&&◌, Bool, false, not, if◌then◌else◌, Option, Some, None}
 use Rattle.yf_emit.specs.declared.style.Style.{Style}
 use Rattle.yf_rules.specs.declared.stands.Around.{Around}
 use Rattle.yf_rules.specs.declared.stands.Around.TheVariants.{Nothing, Entries, Unknown}

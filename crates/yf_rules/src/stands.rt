@@ -1,6 +1,12 @@
 //! In which block collection each node stands, and at which column its entries do. Columns count from 0 here. It is told in
 //! one pass over the events, and kept of the open collections alone.
-ghost use Rattle.std.specs.Prelude.{◌<◌, length};
+ghost use Rattle.std.specs.Prelude.{◌≡◌, ◌<◌, ◌+◌, ◌&&◌, Some, None, [], drop, get_or, length, reverse, slice_get, IfOk};
+ghost use Rattle.yf_events.specs.Event.{EventValue};
+ghost use Rattle.yf_events.specs.Reading.{events_of};
+ghost use Rattle.yf_rules.specs.Entries as Entries;
+ghost use Rattle.yf_rules.specs.Entries.{all_entries, entries_from, start_at, unmarked_at};
+ghost use Rattle.yf_rules.specs.Passing.{IsPass, Opens, Passes};
+ghost use Rattle.yf_rules.specs.Standings.{after, held, is_beside, past, stand_in};
 
 use crate::places::columns_of;
 use crate::whites::has_question_mark;
@@ -53,6 +59,7 @@ struct Level {
 /// The byte offset at which the entry begins that the event begins, where a character begins there or the text ends.
 fn entry_start(src: &Src, reading: &Reading, i: usize) -> Option<usize>
     requires { i < length reading.now.events }
+    ensures { result ≡ start_at src.now.text (Entries.first_entry (drop i reading.now.events)) }
 {
     match reading.entry(i) {
         Some(entry) => {
@@ -65,23 +72,36 @@ fn entry_start(src: &Src, reading: &Reading, i: usize) -> Option<usize>
     }
 }
 
+/// Whether the event begins a block collection.
+fn starts_block(reading: &Reading, i: usize) -> bool
+    requires { i < length reading.now.events }
+    ensures { (e : EventValue) → slice_get (events_of reading.now) i ≡ Some e → result ≡ Entries.starts_block e }
+{
+    match reading.event(i) {
+        Event::SeqStart { flow, .. } => !flow,
+        Event::MapStart { flow, .. } => !flow,
+        _ => false,
+    }
+}
+
 /// The byte offset of the first entry of the block collection that the event begins.
 fn first_entry(src: &Src, reading: &Reading, i: usize) -> Option<usize>
     requires { i < length reading.now.events }
+    ensures { result ≡ entries_from src.now.text (drop i reading.now.events) }
 {
-    let is_block = matches!(
-        reading.event(i),
-        Event::SeqStart { flow: false, .. } | Event::MapStart { flow: false, .. }
-    );
-    let next = i.saturating_add(1);
-    if is_block && next < reading.len() {
-        return entry_start(src, reading, next);
+    if starts_block(reading, i) {
+        let next = i.saturating_add(1);
+        if next < reading.len() {
+            return entry_start(src, reading, next);
+        }
     }
     None
 }
 
 /// The byte offsets of the first entries of all block collections, in order.
-fn first_entries(alloc: Global, src: &Src, reading: &Reading) -> Result<Vec<usize>, AllocError> {
+fn first_entries(alloc: Global, src: &Src, reading: &Reading) -> Result<Vec<usize>, AllocError>
+    ensures { IfOk result (λ offsets. offsets.items ≡ all_entries src.now.text reading.now.events) }
+{
     let mut offsets = Vec::new(alloc);
     for i in 0..reading.len() {
         if let Some(offset) = first_entry(src, reading, i) {
@@ -94,6 +114,8 @@ fn first_entries(alloc: Global, src: &Src, reading: &Reading) -> Result<Vec<usiz
 /// Whether the next node is the value of a key without `?`; the level then waits for what comes after the node.
 fn next_in(level: &mut Level, src: &Src, reading: &Reading, i: usize) -> bool
     requires { i < length reading.now.events }
+    ensures level { level.new ≡ past (unmarked_at src.now.text reading.now.events i) level.old }
+    ensures value { result ≡ (level.old.is_map && is_beside level.old.key) }
 {
     if !level.is_map {
         return false;
@@ -114,7 +136,9 @@ fn next_in(level: &mut Level, src: &Src, reading: &Reading, i: usize) -> bool
 }
 
 /// What holds the next node, in the innermost open collection.
-fn held_by(level: &Level) -> Around {
+fn held_by(level: &Level) -> Around
+    ensures { result ≡ held level.now.column }
+{
     match level.column {
         Some(column) => Around::Entries(column),
         None => Around::Unknown,
@@ -124,6 +148,8 @@ fn held_by(level: &Level) -> Around {
 /// Where the next node stands, a block collection's own entries left out.
 fn next_stand(stack: &mut Vec<Level>, src: &Src, reading: &Reading, i: usize) -> Stand
     requires { i < length reading.now.events }
+    ensures stack { reverse stack.new.items ≡ after (unmarked_at src.now.text reading.now.events i) (reverse stack.old.items) }
+    ensures stand { result ≡ stand_in (reverse stack.old.items) None 0 }
 {
     match stack.last_mut() {
         None => Stand {
@@ -156,7 +182,10 @@ pub struct Pass {
 
 impl Pass {
     /// A pass before the first event of a reading of the text.
-    pub fn new(alloc: Global, src: &Src, reading: &Reading) -> Result<Pass, AllocError> {
+    pub fn new(alloc: Global, src: &Src, reading: &Reading) -> Result<Pass, AllocError>
+        ensures pass { IfOk result (λ pass. IsPass src.now.text reading.now.events pass.columns.items pass.begun 0) }
+        ensures stack { IfOk result (λ pass. reverse pass.stack.items ≡ []) }
+    {
         let offsets = first_entries(alloc, src, reading)?;
         Ok(Pass {
             columns: columns_of(src, offsets),
@@ -168,6 +197,7 @@ impl Pass {
     /// Goes past the event at an index, which is the next one: where the node stands that it begins.
     pub fn next(&mut self, src: &Src, reading: &Reading, i: usize) -> Result<Stand, AllocError>
         requires { i < length reading.now.events }
+        ensures { IfOk result (λ stand. (e : EventValue) → slice_get (events_of reading.now) i ≡ Some e → Passes src.now.text reading.now.events i e self.old self.new stand) }
     {
         match reading.event(i) {
             Event::Scalar { .. } | Event::Alias { .. } => {
@@ -193,6 +223,7 @@ impl Pass {
         is_map: bool,
     ) -> Result<Stand, AllocError>
         requires { i < length reading.now.events }
+        ensures { IfOk result (λ stand. Opens src.now.text reading.now.events i is_map self.old self.new stand) }
     {
         let stand = next_stand(&mut self.stack, src, reading, i);
         let first = first_entry(src, reading, i);
@@ -214,7 +245,12 @@ impl Pass {
     }
 
     /// The column of the first entry of the block collection that begins next.
-    fn next_column(&mut self) -> usize {
+    fn next_column(&mut self) -> usize
+        ensures column { result ≡ get_or self.old.columns.items self.old.begun 0 }
+        ensures begun { self.old.begun < length self.old.columns.items → self.new.begun ≡ self.old.begun + 1 }
+        ensures columns { self.new.columns ≡ self.old.columns }
+        ensures stack { self.new.stack ≡ self.old.stack }
+    {
         let k = self.begun;
         self.begun = k.saturating_add(1);
         if k < self.columns.len() {
