@@ -1,8 +1,12 @@
 //! Tests of what stands at a place of a block node, and walks that read nothing.
-ghost use Rattle.std.specs.Prelude.{◌≡◌, ◌+◌, ◌<◌, true, ℕ, IfSome, MatchBool, MatchOption};
+ghost use Rattle.std.specs.Prelude.{◌≡◌, ◌≢◌, ◌+◌, ◌-◌, ◌<◌, true, ℕ, IfSome, MatchBool, MatchOption};
 ghost use Rattle.std.specs.Str.{IsCharBoundary};
+ghost use Rattle.yf_chars.specs.Text.{code};
+ghost use Rattle.yf_lines.specs.Basic.{Break};
+ghost use Rattle.yf_comments.specs.Comments.{Blank};
 ghost use Rattle.yf_flow.specs.Machine.{Place};
 ghost use Rattle.yf_grammar.specs.BlockParser.{DashAt, LineText, LinesEnd, SignAt};
+ghost use Rattle.yf_grammar.specs.Part.{NotedSince};
 ghost use Rattle.yf_block.specs.Looks.{EntryPlace, LineEndsAt, NotWithinBreak};
 
 use yf_chars::classes::is_ns_char;
@@ -10,8 +14,8 @@ use yf_chars::text::{peek, stands};
 use yf_comments::comments::Comments;
 use yf_flow::look::is_key_line;
 use yf_lines::basic::{
-    is_forbidden_at, line_break, mark_ends, mark_stands, skip_spaces, skip_whites,
-    white_or_end_stands,
+    break_ends, is_forbidden_at, line_break, mark_ends, mark_stands, skip_spaces, skip_whites,
+    white_or_end_stands, white_stands,
 };
 
 /// Whether the `-` of an entry stands there (c-l-block-seq-entry, production 184).
@@ -131,28 +135,31 @@ pub(crate) fn entry_place(text: &str, at: usize) -> Option<usize>
 /// begins after the floor, or at it.
 ///
 /// The walk ends at the first other character, so walks from different entries do not overlap.
-pub fn is_blank_after(text: &str, floor: usize, at: usize) -> bool {
+pub fn is_blank_after(text: &str, floor: usize, at: usize) -> bool
+    ensures { (code text.now at ≡ 10 → code text.now (at - 1) ≢ 13) → (floor < at → Blank text.now floor) → NotedSince text.now floor at result }
+{
     let mut place = at;
     // whether white space alone stands between the place and a line break
     let mut blank = false;
     'back: while place > floor {
-        match text.as_bytes().get(place - 1) {
-            Some(b' ' | b'\t') => place -= 1,
-            Some(b'\n' | b'\r') => {
-                if blank {
-                    return true;
-                }
-                blank = true;
-                place = break_start(text, place);
-            }
-            _ => {
-                if !mark_ends(text, place) {
-                    return false;
-                }
-                place -= 3;
-                blank = false;
-            }
+        if white_stands(text, place - 1) {
+            place -= 1;
+            continue;
         }
+        if break_ends(text, place) {
+            if blank {
+                return true;
+            }
+            blank = true;
+            place = break_start(text, place);
+            continue;
+        }
+        if mark_ends(text, place) {
+            place -= 3;
+            blank = false;
+            continue;
+        }
+        return false;
     }
     blank
 }
@@ -160,7 +167,8 @@ pub fn is_blank_after(text: &str, floor: usize, at: usize) -> bool {
 // Where the break begins that ends at the offset.
 fn break_start(text: &str, at: usize) -> usize
     requires { 0 < at }
-    ensures { result < at }
+    ensures earlier { result < at }
+    ensures begins { (i : ℕ) → Break text.now i at → result ≡ i }
 {
     if stands(text, at.saturating_sub(1), b'\n') {
         if stands(text, at.saturating_sub(2), b'\r') {

@@ -111,6 +111,7 @@ pub mod QuotedEnds
 pub mod ScalarPlaced
 pub mod ShownParts
 pub mod SinceKnown
+pub mod SinceWalk
 pub mod Sound
 pub mod SoundSteps
 pub mod ValueExact
