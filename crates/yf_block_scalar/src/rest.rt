@@ -7,7 +7,7 @@ ghost use Rattle.yf_comments.specs.Comment.{row_comments};
 ghost use Rattle.yf_comments.specs.Comments.{BreakOrEnd, LineRest};
 ghost use Rattle.yf_block_scalar.specs.Written.{IsCommentText};
 
-use crate::rows::skip_nb_chars;
+use yf_chars::runs::{NbChars, skip_while};
 use yf_chars::text::stands;
 use yf_comments::blank::is_blank_before;
 use yf_comments::comment::Comment;
@@ -51,7 +51,7 @@ pub(crate) fn line_rest<'a>(s: &'a str, at: usize) -> Option<Rest<'a>>
         };
     }
     if stands(s, place, b'#') {
-        let text_end = skip_nb_chars(s, place + 1);
+        let text_end = skip_while::<NbChars>(s, place + 1);
         let comment = Comment {
             text: &s[place..text_end],
             offset: place,

@@ -1,16 +1,12 @@
 //! The lines of a block scalar one by one, once its indentation is known.
-ghost use Rattle.std.specs.Prelude.{◌≡◌, ◌≢◌, ◌+◌, ◌-◌, ◌<◌, ◌≤◌, ℕ, Bool, false, List, [], length, slice_range, IfOk, IfSome, MatchOption};
+ghost use Rattle.std.specs.Prelude.{◌+◌, ◌-◌, ◌<◌, ◌≤◌, ℕ, Bool, false, List, [], length, slice_range, IfOk, IfSome, MatchOption};
 ghost use Rattle.std.specs.Str.{IsCharBoundary};
-ghost use Rattle.yf_chars.specs.Chain.{Many};
-ghost use Rattle.yf_chars.specs.Class.{is_nb_char};
-ghost use Rattle.yf_chars.specs.Text.{code};
 ghost use Rattle.yf_lines.specs.Basic.{LineStart};
 ghost use Rattle.yf_block_scalar.specs.Body.{SpaceLine, Content, Taken};
 
 use crate::lines::Lines;
 use std::alloc::{AllocError, Global};
-use yf_chars::classes::is_nb_char;
-use yf_chars::text::peek;
+use yf_chars::runs::{NbChars, skip_while};
 use yf_lines::basic::{line_break, marker_stands, skip_spaces};
 
 // A line of spaces alone: how many they are, and the offset after its break.
@@ -36,29 +32,6 @@ pub(crate) struct Rows<'a> {
     pub(crate) open_end: bool,
     pub(crate) tail: usize,
     pub(crate) next: usize,
-}
-
-// The offset after all nb-chars that stand at the offset.
-pub(crate) fn skip_nb_chars(s: &str, at: usize) -> usize
-    requires { IsCharBoundary s.now at }
-    ensures chars { (x : List ℕ) × Many s.now is_nb_char at result x }
-    ensures all { is_nb_char (code s.now result) ≡ false }
-    ensures boundary { IsCharBoundary s.now result }
-    ensures order { at ≤ result }
-{
-    let mut end = at;
-    'chars: loop {
-        match peek(s, end) {
-            Some((c, next)) => {
-                if is_nb_char(c) {
-                    end = next;
-                } else {
-                    return end;
-                }
-            }
-            None => return end,
-        }
-    }
 }
 
 // Reads a line of spaces alone, with its break.
@@ -113,7 +86,7 @@ pub(crate) fn content_line(s: &str, at: usize, indent: usize) -> Option<ContentP
         return None;
     }
     let from = at + indent;
-    let end = skip_nb_chars(s, from);
+    let end = skip_while::<NbChars>(s, from);
     if end == from {
         return None;
     }

@@ -1,7 +1,8 @@
 -- The character classes of YAML 1.2.2, chapter 5 (and 6.9, 7.3 for names, tags and plain scalars), as tests on a
 -- character's code. No class holds 0x110000, which stands for "no character" (`code` of `Text`).
 use Rattle.std.specs.Prelude.{ℕ, Bool, false, ◌==◌, nat_le, not, ◌&&◌, ◌||◌}
-use Rattle.yf_chars.specs.Signs.{AMPERSAND, ASTERISK, AT_SIGN, BACKTICK, BAR, BYTE_ORDER_MARK, CARRIAGE_RETURN, COLON, COMMA, DASH, DOLLAR, DOT, DOUBLE_QUOTE, EQUALS, EXCLAMATION, GREATER, LEFT_BRACE, LEFT_BRACKET, LEFT_PARENTHESIS, LINE_FEED, NO_CHARACTER, NUMBER_SIGN, PERCENT, PLUS, QUESTION, RIGHT_BRACE, RIGHT_BRACKET, RIGHT_PARENTHESIS, SEMICOLON, SINGLE_QUOTE, SLASH, SPACE, TAB, TILDE, UNDERSCORE}
+use Rattle.yf_chars.specs.Text.{no_char}
+use Rattle.yf_chars.specs.Signs.{AMPERSAND, ASTERISK, AT_SIGN, BACKTICK, BAR, BYTE_ORDER_MARK, CARRIAGE_RETURN, COLON, COMMA, DASH, DOLLAR, DOT, DOUBLE_QUOTE, EQUALS, EXCLAMATION, GREATER, LEFT_BRACE, LEFT_BRACKET, LEFT_PARENTHESIS, LINE_FEED, NUMBER_SIGN, PERCENT, PLUS, QUESTION, RIGHT_BRACE, RIGHT_BRACKET, RIGHT_PARENTHESIS, SEMICOLON, SINGLE_QUOTE, SLASH, SPACE, TAB, TILDE, UNDERSCORE}
 use Rattle.yf_chars.specs.declared.context.Ctx.{Ctx}
 use Rattle.yf_chars.specs.declared.context.Ctx.TheVariants.{BlockOut, BlockIn, FlowOut, FlowIn, BlockKey, FlowKey}
 
@@ -81,4 +82,4 @@ is_plain_safe c FlowKey = is_ns_char c && not (is_flow_indicator c)
 
 -- what may follow a document marker, and `-`, `?` or `:` as an indicator: white, a break or the end of the text
 unfoldable pub is_white_or_end : ℕ → Bool
-is_white_or_end c = is_white c || is_break_char c || (c == NO_CHARACTER)
+is_white_or_end c = is_white c || is_break_char c || (c == no_char)

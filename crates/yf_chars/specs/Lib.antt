@@ -4,3 +4,4 @@ pub mod Escape
 pub mod Spelled
 pub mod Text
 pub mod Signs
+pub mod ClassEnds

@@ -144,7 +144,3 @@ TILDE = 126
 -- a byte order mark
 abbrev pub BYTE_ORDER_MARK : ℕ
 BYTE_ORDER_MARK = 0xFEFF
-
--- what stands where no character begins
-abbrev pub NO_CHARACTER : ℕ
-NO_CHARACTER = 0x110000

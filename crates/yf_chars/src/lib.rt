@@ -6,5 +6,6 @@ pub mod classes;
 pub mod context;
 pub mod error;
 pub mod escapes;
+pub mod runs;
 pub mod text;
 pub mod utf8;

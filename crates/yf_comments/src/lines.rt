@@ -1,8 +1,8 @@
 //! Comments, and the lines that hold nothing else (YAML 1.2.2, section 6.6).
-ghost use Rattle.std.specs.Prelude.{◌≡◌, ◌≢◌, ◌+◌, ◌-◌, ◌<◌, ◌≤◌, ℕ, List, [], ◌∷◌, ◌++◌, Bool, true, false, Option, Some, None, length, IfOk, IfSome, IfNone, MatchOption, MatchBool};
+ghost use Rattle.std.specs.Prelude.{◌≡◌, ◌≢◌, ◌+◌, ◌-◌, ◌<◌, ◌≤◌, List, [], ◌∷◌, ◌++◌, Bool, true, false, Option, Some, None, length, IfOk, IfSome, IfNone, MatchOption, MatchBool};
 ghost use Rattle.std.specs.Str.{IsCharBoundary};
 ghost use Rattle.yf_chars.specs.Signs.{NUMBER_SIGN};
-ghost use Rattle.yf_chars.specs.Chain.{Chosen, Stuck, Many, Nowhere, Farthest};
+ghost use Rattle.yf_chars.specs.Chain.{Chosen, Stuck, Nowhere, Farthest};
 ghost use Rattle.yf_chars.specs.Class.{is_nb_char, is_white};
 ghost use Rattle.yf_chars.specs.Text.{code};
 ghost use Rattle.yf_lines.specs.Basic.{LineStart, SeparateInLine};
@@ -13,8 +13,8 @@ use crate::blank::is_blank_before;
 use crate::comment::Comment;
 use crate::comments::{Comments, Separation};
 use std::alloc::{AllocError, Global};
-use yf_chars::classes::is_nb_char;
-use yf_chars::text::{peek, stands};
+use yf_chars::runs::{NbChars, skip_while};
+use yf_chars::text::stands;
 use yf_lines::basic::{is_line_start, line_break, skip_whites};
 
 // A comment that was read, and the offset after it.
@@ -31,29 +31,6 @@ struct Row<'a> {
     end: usize,
 }
 
-// The offset after all characters of a comment that stand at the offset.
-fn skip_nb_chars(s: &str, at: usize) -> usize
-    requires { IsCharBoundary s.now at }
-    ensures chars { (x : List ℕ) × Many s.now is_nb_char at result x }
-    ensures all { is_nb_char (code s.now result) ≡ false }
-    ensures boundary { IsCharBoundary s.now result }
-    ensures order { at ≤ result }
-{
-    let mut end = at;
-    'chars: loop {
-        match peek(s, end) {
-            Some((c, next)) => {
-                if is_nb_char(c) {
-                    end = next;
-                } else {
-                    return end;
-                }
-            }
-            None => return end,
-        }
-    }
-}
-
 // Reads a comment's text (c-nb-comment-text, production 75), as long as its characters go.
 fn comment_text<'a>(s: &'a str, at: usize) -> Option<CommentPart<'a>>
     ensures reads { MatchOption result (code s.now at ≢ NUMBER_SIGN) (λ p. CommentText s.now at p.end (comment_value p.comment ∷ [])) }
@@ -61,7 +38,7 @@ fn comment_text<'a>(s: &'a str, at: usize) -> Option<CommentPart<'a>>
     ensures boundary { IfSome result (λ p. IsCharBoundary s.now p.end) }
 {
     if stands(s, at, b'#') {
-        let end = skip_nb_chars(s, at + 1);
+        let end = skip_while::<NbChars>(s, at + 1);
         let comment = Comment {
             text: &s[at..end],
             offset: at,

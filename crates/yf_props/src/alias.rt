@@ -1,36 +1,13 @@
 //! Names of anchors and aliases (YAML 1.2.2, sections 6.9.2 and 7.1).
-ghost use Rattle.std.specs.Prelude.{◌≡◌, ◌+◌, ◌<◌, ◌≤◌, ℕ, List, false, slice_range, IfSome, MatchOption};
+ghost use Rattle.std.specs.Prelude.{◌≡◌, ◌+◌, ◌<◌, false, slice_range, IfSome, MatchOption};
 ghost use Rattle.std.specs.Str.{IsCharBoundary};
-ghost use Rattle.yf_chars.specs.Chain.{Chosen, Stuck, Many};
+ghost use Rattle.yf_chars.specs.Chain.{Chosen, Stuck};
 ghost use Rattle.yf_chars.specs.Class.{is_anchor_char};
 ghost use Rattle.yf_chars.specs.Text.{code};
 ghost use Rattle.yf_props.specs.Names.{AnchorChar, Run, Alias, Anchor};
 
-use yf_chars::classes::is_anchor_char;
-use yf_chars::text::{peek, stands};
-
-// The offset after all characters of a name that stand at the offset.
-fn skip_anchor_chars(s: &str, at: usize) -> usize
-    requires { IsCharBoundary s.now at }
-    ensures chars { (x : List ℕ) × Many s.now is_anchor_char at result x }
-    ensures all { is_anchor_char (code s.now result) ≡ false }
-    ensures boundary { IsCharBoundary s.now result }
-    ensures order { at ≤ result }
-{
-    let mut end = at;
-    'chars: loop {
-        match peek(s, end) {
-            Some((c, next)) => {
-                if is_anchor_char(c) {
-                    end = next;
-                } else {
-                    return end;
-                }
-            }
-            None => return end,
-        }
-    }
-}
+use yf_chars::runs::{AnchorChars, skip_while};
+use yf_chars::text::stands;
 
 // Reads the name of an anchor or an alias (ns-anchor-name, production 103) and gives it with the offset after it.
 fn anchor_name<'a>(s: &'a str, at: usize) -> Option<(&'a str, usize)>
@@ -39,7 +16,7 @@ fn anchor_name<'a>(s: &'a str, at: usize) -> Option<(&'a str, usize)>
     ensures name { IfSome result (λ p. p.0.now ≡ slice_range s.now at p.1) }
     ensures boundary { IfSome result (λ p. IsCharBoundary s.now p.1) }
 {
-    let end = skip_anchor_chars(s, at);
+    let end = skip_while::<AnchorChars>(s, at);
     if end > at {
         return Some((&s[at..end], end));
     }

@@ -2,8 +2,8 @@
 ghost use Rattle.std.specs.Prelude.{◌≡◌, ◌+◌, ◌<◌, ◌≤◌, ℕ, List, true, false, IfSome, MatchOption};
 ghost use Rattle.std.specs.Str.{IsCharBoundary};
 ghost use Rattle.yf_chars.specs.Signs.{EXCLAMATION};
-ghost use Rattle.yf_chars.specs.Chain.{Chain, Chosen, Stuck, Many};
-ghost use Rattle.yf_chars.specs.Class.{is_hex_digit, is_word_char};
+ghost use Rattle.yf_chars.specs.Chain.{Chain, Chosen, Stuck};
+ghost use Rattle.yf_chars.specs.Class.{is_hex_digit};
 ghost use Rattle.yf_chars.specs.Text.{code, Reads};
 ghost use Rattle.yf_props.specs.Chars.{class_of};
 ghost use Rattle.yf_props.specs.Names.{Spelled, TagChar, Run, Handle, VerbatimTag, ShorthandTag, TagProperty, TagPrefix};
@@ -11,7 +11,8 @@ ghost use Rattle.yf_props.specs.Props.{tag_value};
 ghost use Rattle.yf_props.specs.Props.TagValue.{IsVerbatim};
 
 use crate::props::Tag;
-use yf_chars::classes::{is_hex_digit, is_tag_char, is_uri_char, is_word_char};
+use yf_chars::classes::{is_hex_digit, is_tag_char, is_uri_char};
+use yf_chars::runs::{WordChars, skip_while};
 use yf_chars::text::{peek, stands};
 
 // Which characters a part of a tag may hold as themselves: all of a URI, or those of a suffix.
@@ -95,29 +96,6 @@ fn skip_chars(s: &str, at: usize, class: Chars) -> usize
     }
 }
 
-// The offset after all word characters that stand at the offset.
-fn skip_word_chars(s: &str, at: usize) -> usize
-    requires { IsCharBoundary s.now at }
-    ensures chars { (x : List ℕ) × Many s.now is_word_char at result x }
-    ensures all { is_word_char (code s.now result) ≡ false }
-    ensures boundary { IsCharBoundary s.now result }
-    ensures order { at ≤ result }
-{
-    let mut end = at;
-    'chars: loop {
-        match peek(s, end) {
-            Some((c, next)) => {
-                if is_word_char(c) {
-                    end = next;
-                } else {
-                    return end;
-                }
-            }
-            None => return end,
-        }
-    }
-}
-
 /// Reads the handle of a TAG directive (c-tag-handle, production 89), as long as its characters go, and gives the byte offset
 /// after it.
 pub fn tag_handle(s: &str, at: usize) -> Option<usize>
@@ -126,7 +104,7 @@ pub fn tag_handle(s: &str, at: usize) -> Option<usize>
     ensures order { IfSome result (λ j. at < j) }
 {
     if stands(s, at, b'!') {
-        let name_end = skip_word_chars(s, at + 1);
+        let name_end = skip_while::<WordChars>(s, at + 1);
         if stands(s, name_end, b'!') {
             return Some(name_end + 1);
         }
@@ -184,7 +162,7 @@ fn long_shorthand<'a>(s: &'a str, at: usize) -> Option<TagPart<'a>>
         (λ p. Chosen (ShorthandTag s.now at) p.end (tag_value p.tag)) }
     ensures boundary { IfSome result (λ p. IsCharBoundary s.now p.end) }
 {
-    let name_end = skip_word_chars(s, at + 1);
+    let name_end = skip_while::<WordChars>(s, at + 1);
     if stands(s, name_end, b'!') {
         let start = name_end + 1;
         let end = skip_chars(s, start, Chars::Suffix);

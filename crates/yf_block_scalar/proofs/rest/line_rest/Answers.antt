@@ -20,15 +20,15 @@ pub returns-in-Some-break_or_end-clause-reads : goal.returns-in-Some-break_or_en
 returns-in-Some-break_or_end-clause-reads c =
     let later : c.args.at < c.skip_whites-place.result = omega (arith, c.skip_whites-place.ensures.order) in
     comment (by_whites c.skip_whites-place.ensures.whites.1 later)
-    (text_from c.range.result.now c.is_blank_before.result c.if-stands.ensures.cases.char c.skip_nb_chars-text_end.ensures.chars c.range.ensures.value c.is_blank_before.ensures)
+    (text_from c.range.result.now c.is_blank_before.result c.if-stands.ensures.cases.char c.skip_while-text_end.ensures.chars c.range.ensures.value c.is_blank_before.ensures)
     c.in-Some-break_or_end.ensures.reads
 
 pub returns-in-None-break_or_end-clause-reads : goal.returns-in-None-break_or_end-clause-reads
 returns-in-None-break_or_end-clause-reads c =
     let later : c.args.at < c.skip_whites-place.result = omega (arith, c.skip_whites-place.ensures.order) in
     stuck_behind_comment (by_whites c.skip_whites-place.ensures.whites.1 later)
-    (text_from c.range.result.now c.is_blank_before.result c.if-stands.ensures.cases.char c.skip_nb_chars-text_end.ensures.chars c.range.ensures.value c.is_blank_before.ensures)
-    c.skip_nb_chars-text_end.ensures.all c.in-None-break_or_end.ensures.reads
+    (text_from c.range.result.now c.is_blank_before.result c.if-stands.ensures.cases.char c.skip_while-text_end.ensures.chars c.range.ensures.value c.is_blank_before.ensures)
+    c.skip_while-text_end.ensures.all c.in-None-break_or_end.ensures.reads
 
 pub returns-in-Some-break_or_end-2-clause-reads : goal.returns-in-Some-break_or_end-2-clause-reads
 returns-in-Some-break_or_end-2-clause-reads c =
@@ -42,5 +42,5 @@ returns-in-None-break_or_end-2-clause-reads c =
 
 pub returns-in-Some-break_or_end-clause-comment : goal.returns-in-Some-break_or_end-clause-comment
 returns-in-Some-break_or_end-clause-comment c =
-    let text = hash_text c.skip_whites-place.result c.utf8.s c.if-stands.ensures.cases.char c.skip_nb_chars-text_end.ensures.chars.1 in
+    let text = hash_text c.skip_whites-place.result c.utf8.s c.if-stands.ensures.cases.char c.skip_while-text_end.ensures.chars.1 in
     (text.0, (c.range.ensures.value ∙ text.1.0, text.1.1))

@@ -4,8 +4,8 @@ use Rattle.yf_props.proofs.tag.tag_handle.Goals as goal
 
 pub returns-then-stands-2-clause-reads : goal.returns-then-stands-2-clause-reads
 returns-then-stands-2-clause-reads c =
-    let m = c.skip_word_chars-name_end.ensures.chars in
-    long_handle c.args.s.now c.args.at c.skip_word_chars-name_end.result m.0 m.1 c.skip_word_chars-name_end.ensures.all c.if-stands.ensures.cases.char c.if-stands-2.ensures.cases.char
+    let m = c.skip_while-name_end.ensures.chars in
+    long_handle c.args.s.now c.args.at c.skip_while-name_end.result m.0 m.1 c.skip_while-name_end.ensures.all c.if-stands.ensures.cases.char c.if-stands-2.ensures.cases.char
 
 pub returns-then-stands-clause-reads : goal.returns-then-stands-clause-reads
 returns-then-stands-clause-reads c = primary_handle c.if-stands.ensures.cases.char

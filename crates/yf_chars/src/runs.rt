@@ -1,0 +1,97 @@
+//! Runs of characters of one class.
+ghost use Rattle.std.specs.Prelude.{◌≡◌, ◌≤◌, ℕ, List, false};
+ghost use Rattle.std.specs.Str.{IsCharBoundary};
+ghost use Rattle.yf_chars.specs.Chain.{Many};
+ghost use Rattle.yf_chars.specs.Text.{code};
+
+use crate::classes;
+use crate::text::peek;
+
+/// A class of characters, to which the number that stands where no character begins does not belong.
+pub trait CharClass {
+    ghost use Rattle.std.specs.Prelude.{◌≡◌, ℕ, Bool, false};
+    ghost use Rattle.yf_chars.specs.Text.{no_char};
+
+    ghost members: { ℕ → Bool };
+
+    /// Whether the character is in the class.
+    fn holds(c: char) -> bool
+        ensures { result ≡ members c };
+
+    ghost none: { members no_char ≡ false };
+}
+
+/// The characters within a line, but for byte order marks (nb-char, production 27).
+pub struct NbChars;
+
+impl CharClass for NbChars {
+    ghost use Rattle.yf_chars.specs.Class as Class;
+    ghost use Rattle.yf_chars.specs.ClassEnds as ClassEnds;
+
+    ghost members = { Class.is_nb_char };
+
+    ghost none = { ClassEnds.no_nb_char };
+
+    #[inline]
+    fn holds(c: char) -> bool {
+        classes::is_nb_char(c)
+    }
+}
+
+/// The characters of an anchor's name (ns-anchor-char, production 102).
+pub struct AnchorChars;
+
+impl CharClass for AnchorChars {
+    ghost use Rattle.yf_chars.specs.Class as Class;
+    ghost use Rattle.yf_chars.specs.ClassEnds as ClassEnds;
+
+    ghost members = { Class.is_anchor_char };
+
+    ghost none = { ClassEnds.no_anchor_char };
+
+    #[inline]
+    fn holds(c: char) -> bool {
+        classes::is_anchor_char(c)
+    }
+}
+
+/// The characters of words (ns-word-char, production 38).
+pub struct WordChars;
+
+impl CharClass for WordChars {
+    ghost use Rattle.yf_chars.specs.Class as Class;
+    ghost use Rattle.yf_chars.specs.ClassEnds as ClassEnds;
+
+    ghost members = { Class.is_word_char };
+
+    ghost none = { ClassEnds.no_word_char };
+
+    #[inline]
+    fn holds(c: char) -> bool {
+        classes::is_word_char(c)
+    }
+}
+
+/// The offset after all characters of the class that stand at the offset.
+#[inline]
+pub fn skip_while<C: CharClass>(s: &str, at: usize) -> usize
+    requires { IsCharBoundary s.now at }
+    ensures chars { (x : List ℕ) × Many s.now C.members at result x }
+    ensures all { C.members (code s.now result) ≡ false }
+    ensures boundary { IsCharBoundary s.now result }
+    ensures order { at ≤ result }
+{
+    let mut end = at;
+    'chars: loop {
+        match peek(s, end) {
+            Some((c, next)) => {
+                if C::holds(c) {
+                    end = next;
+                } else {
+                    return end;
+                }
+            }
+            None => return end,
+        }
+    }
+}
