@@ -277,7 +277,7 @@ module _ {t : List ℕ} where
   lines_begin (last_directive e r p l) = e
   lines_begin (more_directives a b) = lines_begin a
 
-  directives_begin : {i l : ℕ} {ds : List Directive} {cs : List CommentValue} → DirectivesTo t i l ds cs → code t i ≡ 37
+  pub directives_begin : {i l : ℕ} {ds : List Directive} {cs : List CommentValue} → DirectivesTo t i l ds cs → code t i ≡ 37
   directives_begin (last_to d e) = d.percent
   directives_begin (more_to d e r) = d.percent
 

@@ -2,7 +2,7 @@ use Rattle.std.proofs.Common.{refl, sym, ◌∙◌, subst, arith}
 use Rattle.std.specs.Str.{IsCharBoundary}
 use Rattle.yf_chars.proofs.TextLemmas.{next-mark, reads_real, within_from_code}
 use Rattle.yf_stream.proofs.Forward.{line_end_forward}
-use Rattle.yf_stream.proofs.PrefixLemmas.{kept_none, no_row, prefix_begins, prefix_lines, prefix_mark, prefix_settled}
+use Rattle.yf_stream.proofs.PrefixLemmas.{no_row, prefix_begins, prefix_lines, prefix_mark, prefix_settled}
 use Rattle.yf_stream.proofs.documents.skip_prefix.Goals as goal
 
 pub lines-init : goal.lines-init
