@@ -1,7 +1,8 @@
 -- Each comment of what is derived, and of a reading, is a comment of the text.
-use Rattle.std.proofs.Common.{◌≡◌, ℕ, ℤ, ◌+◌, Bool, true, false, List, [], ◌∷◌, ◌++◌, refl}
-use Rattle.std.proofs.lemmas.List.Elements.{All-cons, All-nil}
+use Rattle.std.proofs.Common.{ℕ, ℤ, ◌+◌, Bool, true, false, List, [], ◌∷◌, ◌++◌, refl, ◌∙◌}
+use Rattle.std.proofs.lemmas.List.Elements.{All-cons, All-nil, All-weaker}
 use Rattle.std.specs.List.{All}
+use Rattle.std.specs.Str.{IsUtf8}
 use Rattle.yf_chars.specs.declared.context.Ctx.{Ctx}
 use Rattle.yf_chars.specs.Chain.{Chain}
 use Rattle.yf_chars.specs.Chain.Chain.{done, step}
@@ -21,6 +22,8 @@ use Rattle.yf_block_scalar.specs.Header.BlockHeader.{block_header}
 use Rattle.yf_block_scalar.specs.Body.{Trail, Body, BodyValue, first_noted}
 use Rattle.yf_block_scalar.specs.Body.Trail.{comments, no_comment}
 use Rattle.yf_block_scalar.specs.Body.Body.{indicated, detected, without_content}
+use Rattle.yf_comments.specs.GapLines.{IsRemark}
+use Rattle.yf_block_scalar.proofs.ScalarLemmas.{hash_text}
 use Rattle.yf_events.specs.Event.{Placed}
 use Rattle.yf_grammar.specs.BlockScalar.{BlockScalar}
 use Rattle.yf_grammar.specs.BlockScalar.BlockScalar.{block_scalar}
@@ -28,7 +31,7 @@ use Rattle.yf_grammar.specs.Grammar.{Derives, Production, MaySeparate, ValueSepa
 use Rattle.yf_grammar.specs.Grammar.MaySeparate.{unseparated, separated}
 use Rattle.yf_grammar.specs.Grammar.Derives.{flow_node, an_alias, a_plain, a_plain_with, properties_alone, a_json, a_json_with, a_single, a_double, an_empty_collection, a_collection, last_entry, last_entry_with_comma, more_entries, a_node_entry, a_pair_entry, an_explicit_entry, an_implicit_entry, an_explicit_pair, a_keyed_pair, an_unkeyed_pair, explicit_with, explicit_without, key_alone, key_and_value, value_alone, empty_value, a_value, a_key, a_block_scalar, a_block_scalar_with, a_block_collection, a_block_collection_with, flow_in_block, a_last_entry, an_entry_before, a_dash_entry, an_explicit_entry_with, an_explicit_key_alone, a_keyed_entry, an_unkeyed_entry, a_block_value, an_empty_block_value, a_compact_collection, an_indented_node, nothing_indented}
 use Rattle.yf_grammar.specs.Meaning.{Meaning, ◌⊕◌, alias_to, behind, collection, empty_node, entering, noting, scalar, with_props}
-use Rattle.yf_stream.specs.CommentLaws.{CommentsOfReadingsAreTexts, StandsAsText}
+use Rattle.yf_stream.specs.CommentLaws.{CommentsOfReadingsAreRemarks, CommentsOfReadingsAreTexts, StandsAsText}
 use Rattle.yf_stream.specs.ReadingOf.{NotedComments, no_comment as nothing_noted, one_comment}
 use Rattle.yf_stream.specs.Stream.{AnyDocument, DirectiveLines, Directives, Document, Documents, ExplicitNode, PrefixPart, Prefixes, Stream, StreamRest, Suffixes, with_comments, with_document}
 use Rattle.yf_stream.specs.Stream.AnyDocument.{bare_document, directive_document, explicit_document}
@@ -206,3 +209,10 @@ module _ {t : List ℕ} where
 
 pub comments_of_readings_are_texts : CommentsOfReadingsAreTexts
 comments_of_readings_are_texts t r a = all_texts (noted_texts a.comments (stream_texts a.reads.shapes.derived))
+
+text_remark : {t : List ℕ} {c : CommentValue} → IsUtf8 t → StandsAsText t c → IsRemark c.text
+text_remark {c = c} u s = let h = hash_text c.offset u s.sign s.chain in record { behind = h.0; is = s.text ∙ h.1.0; line = h.1.1 }
+
+pub comments_of_readings_are_remarks : CommentsOfReadingsAreRemarks
+comments_of_readings_are_remarks t r u a =
+    All-weaker (StandsAsText t) (λ (c : CommentValue). IsRemark c.text) (λ c s. text_remark u s) r.comments (comments_of_readings_are_texts t r a)

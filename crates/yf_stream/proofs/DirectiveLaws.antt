@@ -1,5 +1,5 @@
 -- The directives that are read are those that the grammar derives before a `---`.
-use Rattle.std.proofs.Common.{◌≡◌, ◌≢◌, ℕ, ◌+◌, ◌<◌, List, [], ◌∷◌, ◌++◌, slice_range, refl, sym, ap, ◌∙◌, subst, arith, append-nil}
+use Rattle.std.proofs.Common.{◌≡◌, ◌≢◌, ℕ, ◌+◌, List, [], ◌∷◌, ◌++◌, slice_range, refl, sym, ap, ◌∙◌, subst, arith, append-nil}
 use Rattle.std.specs.Str.{IsUtf8}
 use Rattle.yf_chars.specs.Chain.{Chosen, Stuck}
 use Rattle.yf_chars.specs.Text.{code}
@@ -47,15 +47,17 @@ module _ {t : List ℕ} where
       let d = c.derived in (
         record { offset = i; words = slice_range t (i + 1) d.name_end ∷ d.words },
         record {
-          name_end = d.name_end;
-          words_end = d.words_end;
-          words = d.words;
-          percent = d.percent;
-          name = d.name;
-          parameters = d.parameters;
-          ends = d.ends;
+          line = record {
+            name_end = d.name_end;
+            words_end = d.words_end;
+            words = d.words;
+            percent = d.percent;
+            name = d.name;
+            parameters = d.parameters;
+            ends = d.ends;
+            is = refl;
+          };
           last = still c;
-          is = refl;
         },
         d.is,
       )
