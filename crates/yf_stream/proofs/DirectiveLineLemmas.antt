@@ -1,12 +1,16 @@
 -- Directives, as a reader finds them: each up to the end of its line, with all comment lines after it.
 use Rattle.std.proofs.Common.{◌≡◌, ◌≢◌, ℕ, ◌+◌, ◌≤◌, List, [], ◌∷◌, ◌++◌, slice_range, codes, false, refl, sym, ap, ◌∙◌, subst, arith, append_assoc, append-nil}
-use Rattle.std.specs.Str.{IsUtf8}
-use Rattle.yf_chars.specs.Text.{code}
+use Rattle.std.proofs.lemmas.List.Elements.{All-append, All-cons, All-nil}
+use Rattle.std.proofs.lemmas.Bool.{true_from_ne_false}
+use Rattle.std.specs.List.{All}
+use Rattle.std.specs.Str.{IsCharBoundary, IsUtf8}
+use Rattle.yf_chars.specs.Text.{begins, code}
 use Rattle.yf_chars.specs.Class.{is_ns_char}
 use Rattle.yf_chars.specs.Chain.{Chain, Chosen, One, Stuck}
 use Rattle.yf_chars.specs.Chain.Chain.{done, step}
 use Rattle.yf_chars.proofs.ChainLemmas.{chain_forward, chain_meet, one_functional, Meets}
 use Rattle.yf_chars.proofs.ChainLemmas.Meets.{goes_on, falls_short}
+use Rattle.yf_chars.proofs.TextLemmas.{boundary_from_begins, code-nowhere}
 use Rattle.yf_comments.specs.Comment.{CommentValue}
 use Rattle.yf_comments.specs.Comments.{LineEnd}
 use Rattle.yf_grammar.proofs.BlankRuns.{Behind}
@@ -14,6 +18,7 @@ use Rattle.yf_props.specs.Names.{Run}
 use Rattle.yf_props.proofs.NameLemmas.{run_unique}
 use Rattle.yf_events.specs.declared.directive.Directive.{Directive}
 use Rattle.yf_stream.specs.DirectiveReaders.{DirectivesEnd, DirectivesUpto, IsDirective, LongestDirectives, no_directives, one_directive, NoDirective, NoWords, WordsRead}
+use Rattle.yf_stream.specs.RefusalPlaces.{DirectivesAt}
 use Rattle.yf_stream.specs.Stream.{Directives, Parameters, ReservedParameter}
 use Rattle.yf_stream.specs.Stream.Parameters.{version_parameter, tag_parameters, reserved_parameters}
 use Rattle.yf_stream.proofs.DirectiveWords.{no_run}
@@ -125,3 +130,16 @@ directives_read {t} {i} {j = j} {a = a} {x = x} r d e f = record {
 
 pub directives_end : {t : List ℕ} {i p : ℕ} {ds : List Directive} {a b : List CommentValue} → DirectivesUpto t i p ds a b → code t p ≡ 37 → NoDirective t p → DirectivesEnd t i p
 directives_end {ds = ds} r e n = record { before = record { directives = ds; comments = r.comments }; longest = r.longest; percent = e; none = n }
+
+-- each directive begins between characters
+percent_boundary : (t : List ℕ) (i : ℕ) → code t i ≡ 37 → IsCharBoundary t i
+percent_boundary t i e = boundary_from_begins t i (true_from_ne_false (begins t i) (λ b. let c = code-nowhere t i b in absurd (omega arith)))
+
+pub directives_at : {t : List ℕ} {i j : ℕ} {ds : List Directive} {cs : List CommentValue} → LongestDirectives t i j ds cs → DirectivesAt t ds
+directives_at {t} no_directives = All-nil (λ (d : Directive). IsCharBoundary t d.offset)
+directives_at {t} (one_directive {i = i} {x = x} {ds = ds} c r) =
+    let d = c.derived in
+    let P = λ (d : Directive). IsCharBoundary t d.offset in
+    All-append P x.directives ds
+    (subst (λ z. All P z) (sym d.is) (All-cons P _ [] (percent_boundary t i d.percent) (All-nil P)))
+    (directives_at r)

@@ -1,3 +1,5 @@
+pub mod CommentTexts
+pub mod DirectiveLaws
 pub mod DirectiveLineLemmas
 pub mod DirectiveOrder
 pub mod DirectiveWords

@@ -30,6 +30,7 @@ use Rattle.yf_events.specs.declared.directive.Directive.{Directive}
 use Rattle.yf_grammar.proofs.BlankRuns.{Behind, behind_byte, no_start_behind}
 use Rattle.yf_grammar.proofs.FlowStarts.{no_end_there}
 use Rattle.yf_grammar.proofs.GapLemmas.{Visible, visible_solid}
+use Rattle.yf_stream.specs.DirectiveReaders.{IsDirective}
 use Rattle.yf_stream.specs.Stream.{DirectiveLines, Directives, Parameters, ReservedParameter}
 use Rattle.yf_stream.specs.Stream.DirectiveLines.{last_directive, more_directives}
 use Rattle.yf_stream.specs.Stream.Parameters.{version_parameter, tag_parameters, reserved_parameters}
@@ -239,17 +240,16 @@ module _ {t : List ℕ} (u : IsUtf8 t) where
   parameters_one h (reserved_parameters e s a) d (tag_parameters f r c v g) w = absurd (s f)
   parameters_one h (reserved_parameters e s a) d (reserved_parameters f r c) w = words_one h a d c w
 
--- a directive's line, and all comment lines after it
+-- a directive, its line, and all comment lines after it
 pub record LineTo (t : List ℕ) (i l : ℕ) (d : Directive) (cs : List CommentValue) : Type 0 where
-  pub name_end : ℕ
-  pub words_end : ℕ
-  pub words : List (List ℕ)
-  pub percent : code t i ≡ 37
-  pub name : Run (One t is_ns_char) (i + 1) name_end
-  pub parameters : Parameters t (slice_range t (i + 1) name_end) name_end words_end words
-  pub ends : LineEnd t words_end l cs
+  pub line : IsDirective t i l (record { directives = d ∷ []; comments = cs })
   pub last : Stuck (Row t l)
-  pub is : d ≡ record { offset = i; words = slice_range t (i + 1) name_end ∷ words }
+
+one_of : {d e : Directive} → d ∷ [] ≡ e ∷ [] → d ≡ e
+one_of {d} e = ap (first_or d) e where
+  first_or : Directive → List Directive → Directive
+  first_or d [] = d
+  first_or d (x ∷ xs) = x
 
 -- directives from one place up to a `-`
 pub data DirectivesTo (t : List ℕ) : ℕ → ℕ → List Directive → List CommentValue → Type 0 where
@@ -277,34 +277,38 @@ module _ {t : List ℕ} where
   lines_begin (last_directive e r p l) = e
   lines_begin (more_directives a b) = lines_begin a
 
-  directives_begin : {i l : ℕ} {ds : List Directive} {cs : List CommentValue} → DirectivesTo t i l ds cs → code t i ≡ 37
-  directives_begin (last_to d e) = d.percent
-  directives_begin (more_to d e r) = d.percent
+  pub directives_begin : {i l : ℕ} {ds : List Directive} {cs : List CommentValue} → DirectivesTo t i l ds cs → code t i ≡ 37
+  directives_begin (last_to d e) = d.line.percent
+  directives_begin (more_to d e r) = d.line.percent
 
   moved_to : {i l : ℕ} {ds : List Directive} {cs : List CommentValue} {es : List Directive} {fs : List CommentValue} → ds ≡ es → cs ≡ fs → DirectivesTo t i l ds cs → DirectivesTo t i l es fs
   moved_to {i} {l} {cs = cs} {es = es} e f d = subst (λ w. DirectivesTo t i l es w) f (subst (λ w. DirectivesTo t i l w cs) e d)
 
   lines_then : {i k l : ℕ} {x : Directives} {ds : List Directive} {es : List CommentValue} → DirectiveLines t i k x → DirectivesTo t k l ds es → DirectivesTo t i l (x.directives ++ ds) (x.comments ++ es)
   lines_then (last_directive {k = n} {l = p} {words = w} e r q m) d =
-      more_to (record { name_end = n; words_end = p; words = w; percent = e; name = r; parameters = q; ends = m; last = percent_still (directives_begin d); is = refl }) (directives_begin d) d
+      more_to (record { line = record { name_end = n; words_end = p; words = w; percent = e; name = r; parameters = q; ends = m; is = refl }; last = percent_still (directives_begin d) }) (directives_begin d) d
   lines_then {ds = ds} {es = es} (more_directives {x = x} {y = y} a b) d =
       moved_to (sym (append_assoc x.directives y.directives ds)) (sym (append_assoc x.comments y.comments es)) (lines_then a (lines_then b d))
 
   pub lines_to : {i k : ℕ} {x : Directives} → DirectiveLines t i k x → code t k ≡ 45 → DirectivesTo t i k x.directives x.comments
   lines_to (last_directive {k = n} {l = p} {words = w} e r q m) f =
-      last_to (record { name_end = n; words_end = p; words = w; percent = e; name = r; parameters = q; ends = m; last = dash_still f; is = refl }) f
+      last_to (record { line = record { name_end = n; words_end = p; words = w; percent = e; name = r; parameters = q; ends = m; is = refl }; last = dash_still f }) f
   lines_to (more_directives a b) f = lines_then a (lines_to b f)
 
 module _ {t : List ℕ} (u : IsUtf8 t) where
   pub line_one : {i k l : ℕ} {d e : Directive} {cs es : List CommentValue} → LineTo t i k d cs → LineTo t i l e es → (k ≡ l) × (d ≡ e) × (cs ≡ es)
   line_one {i} {k} {l} {d} {e} {cs} {es} a b =
-      let n = run_unique (one_functional t is_ns_char) a.name b.name in
-      let p : Parameters t (slice_range t (i + 1) a.name_end) a.name_end b.words_end b.words =
-      subst (λ w. Parameters t (slice_range t (i + 1) w) w b.words_end b.words) (sym n) b.parameters in
-      let v = parameters_one u (run_behind u (λ c q. q) a.name.chain a.name.some) a.parameters a.ends p b.ends in
-      let m : LineEnd t a.words_end l es = subst (λ w. LineEnd t w l es) (sym v.0) b.ends in
-      let r = stuck_unique row_functional (line_end_rows a.ends) a.last (line_end_rows m) b.last in
-      (r.0, a.is ∙ ap (λ w. record { offset = i; words = slice_range t (i + 1) w ∷ a.words }) n ∙ ap (λ w. record { offset = i; words = slice_range t (i + 1) b.name_end ∷ w }) v.1 ∙ sym b.is, r.1)
+      let x = a.line in
+      let y = b.line in
+      let n = run_unique (one_functional t is_ns_char) x.name y.name in
+      let p : Parameters t (slice_range t (i + 1) x.name_end) x.name_end y.words_end y.words =
+      subst (λ w. Parameters t (slice_range t (i + 1) w) w y.words_end y.words) (sym n) y.parameters in
+      let v = parameters_one u (run_behind u (λ c q. q) x.name.chain x.name.some) x.parameters x.ends p y.ends in
+      let m : LineEnd t x.words_end l es = subst (λ w. LineEnd t w l es) (sym v.0) y.ends in
+      let r = stuck_unique row_functional (line_end_rows x.ends) a.last (line_end_rows m) b.last in
+      let words : slice_range t (i + 1) x.name_end ∷ x.words ≡ slice_range t (i + 1) y.name_end ∷ y.words =
+      ap (λ w. slice_range t (i + 1) w ∷ x.words) n ∙ ap (λ w. slice_range t (i + 1) y.name_end ∷ w) v.1 in
+      (r.0, one_of (x.is ∙ ap (λ w. record { offset = i; words = w } ∷ []) words ∙ sym y.is), r.1)
 
   pub directives_one : {i k l : ℕ} {ds es : List Directive} {cs fs : List CommentValue} → DirectivesTo t i k ds cs → DirectivesTo t i l es fs → (k ≡ l) × (ds ≡ es) × (cs ≡ fs)
   directives_one (last_to a e) (last_to b f) = let r = line_one a b in (r.0, ap (λ w. w ∷ []) r.1, r.2)

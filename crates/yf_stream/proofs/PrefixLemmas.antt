@@ -1,6 +1,5 @@
 -- The lines before a document, as a reader passes them, and the comments that it keeps.
 use Rattle.std.proofs.Common.{◌≡◌, ◌≢◌, ℕ, ◌+◌, ◌<◌, ◌≤◌, Bool, List, [], ◌∷◌, ◌++◌, length, map, drop, inl, ⊎_elim, refl, sym, ap, ◌∙◌, subst, arith, append_assoc, append-nil}
-use Rattle.std.proofs.lemmas.Bool.{cases_lt}
 use Rattle.std.proofs.lemmas.List.{drop_all, drop_more}
 use Rattle.std.specs.Prelude.{slice_index_or}
 use Rattle.yf_chars.specs.Text.{code, next}
@@ -16,7 +15,7 @@ use Rattle.yf_comments.specs.Comments.{LineEnd, Row}
 use Rattle.yf_comments.proofs.LineEndLemmas.{line_end_rows, lines_rows, rest_line, rest_next, rows_line_end}
 use Rattle.yf_comments.proofs.RowLemmas.{rest_at_end, row_functional}
 use Rattle.yf_grammar.proofs.BlockEnds.{LineOrEnd}
-use Rattle.yf_stream.specs.DocumentReaders.{Kept, PrefixRead, PrefixRow, PrefixUpto, Renoted, commented, mark_row, line_row, none_renoted, one_renoted}
+use Rattle.yf_stream.specs.DocumentReaders.{Kept, PrefixRead, PrefixRow, PrefixUpto, Renoted, mark_row, line_row, none_renoted, one_renoted}
 use Rattle.yf_stream.specs.Stream.{PrefixPart, Prefixes}
 use Rattle.yf_stream.specs.Stream.PrefixPart.{order_mark, prefix_comment}
 use Rattle.yf_stream.specs.ReaderLaws.{PrefixesAreRead}

@@ -1,6 +1,6 @@
 -- What the readers of a stream answer of what stands between its documents: the marker of a line, the lines before a document, and the
 -- line of a `...`.
-use Rattle.std.specs.Prelude.{◌≡◌, ◌≢◌, ℕ, ◌+◌, Bool, true, false, List, [], ◌∷◌, ◌++◌, Option, Some, None, if◌then◌else◌}
+use Rattle.std.specs.Prelude.{◌≡◌, ◌≢◌, ℕ, ◌+◌, Bool, true, false, List, [], ◌∷◌, ◌++◌, Option, Some, None}
 use Rattle.yf_chars.specs.Text.{code, next}
 use Rattle.yf_chars.specs.Chain.{Chain, Chosen, Stuck}
 use Rattle.yf_lines.specs.Basic.{Forbidden}

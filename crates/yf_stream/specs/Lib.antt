@@ -1,3 +1,4 @@
+pub mod CommentLaws
 pub mod DirectiveReaders
 pub mod DocumentReaders
 pub mod Laws

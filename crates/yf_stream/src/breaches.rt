@@ -1,7 +1,10 @@
 //! What must hold in each document besides its grammar: the handles of its tags are declared (YAML 1.2.2, section 6.9.1),
 //! each alias names an anchor before it (section 7.1), no directive is repeated and the version is 1 (section 6.8), and
 //! each escape is a character (section 5.7).
-ghost use Rattle.std.specs.Prelude.{◌≡◌, ◌+◌, ◌<◌, ◌≤◌, length, IfOk};
+ghost use Rattle.std.specs.Prelude.{◌≡◌, ◌+◌, ◌<◌, ◌≤◌, length, IfOk, IfSome};
+ghost use Rattle.std.specs.List.{All};
+ghost use Rattle.std.specs.Str.{IsCharBoundary};
+ghost use Rattle.yf_stream.specs.RefusalPlaces.{DirectivesAt, DocumentsAt, FirstAt, KindAt};
 
 use crate::anchors::Anchors;
 use crate::prefixes::Prefixes;
@@ -41,18 +44,22 @@ pub(crate) struct Resolved<'a> {
     pub(crate) first: Option<Breach>,
 }
 
-/// Resolves all tags, and finds the first breach.
+/// Resolves all tags of what was read of the text, and finds the first breach.
 pub(crate) fn resolve<'a>(
     alloc: Global,
+    _text: &str,
     events: &Events<'a>,
     documents: &Documents<'a>,
     escapes: &Row<usize>,
 ) -> Result<Resolved<'a>, AllocError>
-    ensures { IfOk result (λ r. length r.tags ≡ length events.now) }
+    requires documents { DocumentsAt _text.now documents.now }
+    requires escapes { All (IsCharBoundary _text.now) escapes.now }
+    ensures tags { IfOk result (λ r. length r.tags ≡ length events.now) }
+    ensures first { IfOk result (λ r. FirstAt _text.now r.first) }
 {
     let mut resolved = Resolved {
         tags: Tags::new(alloc),
-        first: first_escape(escapes),
+        first: first_escape(_text, escapes),
     };
     let documents = documents.as_slice();
     let mut begun = 0;
@@ -60,7 +67,14 @@ pub(crate) fn resolve<'a>(
     'documents: while at < events.len() {
         match events.event(at) {
             Event::DocStart { .. } => {
-                at = resolve_document(alloc, events, at, documents.get(begun), &mut resolved)?;
+                at = resolve_document(
+                    alloc,
+                    _text,
+                    events,
+                    at,
+                    documents.get(begun),
+                    &mut resolved,
+                )?;
                 begun = begun.saturating_add(1);
             }
             _ => {
@@ -73,7 +87,10 @@ pub(crate) fn resolve<'a>(
 }
 
 // The first escape that is no character.
-fn first_escape(escapes: &Row<usize>) -> Option<Breach> {
+fn first_escape(_text: &str, escapes: &Row<usize>) -> Option<Breach>
+    requires { All (IsCharBoundary _text.now) escapes.now }
+    ensures { FirstAt _text.now result }
+{
     match escapes.as_slice().first() {
         Some(offset) => Some(Breach {
             offset: *offset,
@@ -87,19 +104,28 @@ fn first_escape(escapes: &Row<usize>) -> Option<Breach> {
 // document.
 fn resolve_document<'e, 'a>(
     alloc: Global,
+    _text: &str,
     events: &'e Events<'a>,
     start: usize,
     document: Option<&Doc<'a>>,
     resolved: &mut Resolved<'a>,
 ) -> Result<usize, AllocError>
     requires start { start < length events.now }
+    requires document { IfSome document (λ d. DirectivesAt _text.now d.now.directives) }
     requires tags { length resolved.old.tags ≡ start }
+    requires first { FirstAt _text.now resolved.old.first }
     ensures end { IfOk result (λ end. (start < end) × (end ≤ length events.now)) }
     ensures tags { IfOk result (λ end. length resolved.new.tags ≡ end) }
+    ensures first { IfOk result (λ _. FirstAt _text.now resolved.new.first) }
 {
     let mut handles = Prefixes::new(alloc);
     if let Some(document) = document {
-        declare_all(document.directives.as_slice(), &mut handles, resolved)?;
+        declare_all(
+            _text,
+            document.directives.as_slice(),
+            &mut handles,
+            resolved,
+        )?;
     }
     let mut anchors = Anchors::new(alloc);
     resolved.tags.push(None)?;
@@ -110,8 +136,15 @@ fn resolve_document<'e, 'a>(
         if matches!(placed.event, Event::DocStart { .. }) {
             return Ok(at);
         }
-        note_event(placed, &mut anchors, resolved)?;
-        let tag = resolve_tag(alloc, events.tag(at), placed.tag_offset, &handles, resolved)?;
+        note_event(_text, placed, &mut anchors, resolved)?;
+        let tag = resolve_tag(
+            alloc,
+            _text,
+            events.tag(at),
+            placed.tag_offset,
+            &handles,
+            resolved,
+        )?;
         resolved.tags.push(tag)?;
         at += 1;
     }
@@ -120,14 +153,22 @@ fn resolve_document<'e, 'a>(
 
 impl<'a> Resolved<'a> {
     // Keeps a breach if it is the first in the text so far; of two at one place, the one that was found first.
-    fn keep(&mut self, offset: usize, kind: Kind)
-        ensures { self.new.tags ≡ self.old.tags }
+    fn keep(&mut self, _text: &str, offset: usize, kind: Kind)
+        requires kind { KindAt _text.now offset kind }
+        requires first { FirstAt _text.now self.old.first }
+        ensures tags { self.new.tags ≡ self.old.tags }
+        ensures first { FirstAt _text.now self.new.first }
     {
-        self.first = earlier(self.first, Breach { offset, kind });
+        self.first = earlier(_text, self.first, Breach { offset, kind });
     }
 }
 
-fn earlier(first: Option<Breach>, found: Breach) -> Option<Breach> {
+// The earlier of two breaches in the text; of two at one place, the first.
+fn earlier(_text: &str, first: Option<Breach>, found: Breach) -> Option<Breach>
+    requires first { FirstAt _text.now first }
+    requires found { KindAt _text.now found.offset found.kind }
+    ensures { FirstAt _text.now result }
+{
     match first {
         Some(breach) => {
             if breach.offset <= found.offset {
@@ -141,11 +182,15 @@ fn earlier(first: Option<Breach>, found: Breach) -> Option<Breach> {
 
 // Declares the handles of a document.
 fn declare_all<'a>(
+    _text: &str,
     directives: &[Directive<'a>],
     handles: &mut Prefixes<'a>,
     resolved: &mut Resolved,
 ) -> Result<(), AllocError>
-    ensures { resolved.new.tags ≡ resolved.old.tags }
+    requires directives { DirectivesAt _text.now directives.now }
+    requires first { FirstAt _text.now resolved.old.first }
+    ensures tags { resolved.new.tags ≡ resolved.old.tags }
+    ensures first { FirstAt _text.now resolved.new.first }
 {
     let mut has_version = false;
     for directive in directives {
@@ -153,16 +198,16 @@ fn declare_all<'a>(
         match directive.words.as_slice() {
             ["YAML", version] => {
                 if has_version {
-                    resolved.keep(offset, Kind::RepeatedDirective);
+                    resolved.keep(_text, offset, Kind::RepeatedDirective);
                 }
                 if !is_version_one(version) {
-                    resolved.keep(offset, Kind::BadVersion);
+                    resolved.keep(_text, offset, Kind::BadVersion);
                 }
                 has_version = true;
             }
             ["TAG", handle, prefix] => {
                 if !handles.declare(handle, prefix)? {
-                    resolved.keep(offset, Kind::RepeatedDirective);
+                    resolved.keep(_text, offset, Kind::RepeatedDirective);
                 }
             }
             _ => {}
@@ -178,11 +223,14 @@ fn is_version_one(version: &str) -> bool {
 
 // The anchor of the node that the event begins has occurred from now on; an alias names one that has.
 fn note_event<'e>(
+    _text: &str,
     placed: View<'e>,
     anchors: &mut Anchors<'e>,
     resolved: &mut Resolved,
 ) -> Result<(), AllocError>
-    ensures { resolved.new.tags ≡ resolved.old.tags }
+    requires { FirstAt _text.now resolved.old.first }
+    ensures tags { resolved.new.tags ≡ resolved.old.tags }
+    ensures first { FirstAt _text.now resolved.new.first }
 {
     match placed.event {
         Event::Scalar { props, .. }
@@ -191,7 +239,7 @@ fn note_event<'e>(
         Event::Alias { name } => {
             if !anchors.contains(name) {
                 let offset = placed.span.map_or(0, |span| span.start);
-                resolved.keep(offset, Kind::UnknownAlias);
+                resolved.keep(_text, offset, Kind::UnknownAlias);
             }
             Ok(())
         }
@@ -209,12 +257,15 @@ fn note_anchor<'a>(props: Props<'a>, anchors: &mut Anchors<'a>) -> Result<(), Al
 // What the tag stands for.
 fn resolve_tag<'a>(
     alloc: Global,
+    _text: &str,
     tag: Option<Tag<'a>>,
     offset: Option<usize>,
     handles: &Prefixes<'a>,
     resolved: &mut Resolved,
 ) -> Result<Option<ResolvedTag<'a>>, AllocError>
-    ensures { resolved.new.tags ≡ resolved.old.tags }
+    requires { FirstAt _text.now resolved.old.first }
+    ensures tags { resolved.new.tags ≡ resolved.old.tags }
+    ensures first { FirstAt _text.now resolved.new.first }
 {
     let (Some(tag), Some(offset)) = (tag, offset) else {
         return Ok(None);
@@ -224,7 +275,7 @@ fn resolve_tag<'a>(
     match handles.resolve(alloc, &tag, start) {
         Ok(tag) => Ok(Some(tag)),
         Err(Fault::UnknownHandle { .. }) => {
-            resolved.keep(offset, Kind::UnknownHandle);
+            resolved.keep(_text, offset, Kind::UnknownHandle);
             Ok(None)
         }
         Err(_) => Err(AllocError),

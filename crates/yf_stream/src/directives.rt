@@ -6,6 +6,7 @@ ghost use Rattle.yf_chars.specs.Class.{is_digit, is_ns_char};
 ghost use Rattle.yf_chars.specs.Text.{code};
 ghost use Rattle.yf_lines.specs.Basic.{LineStart};
 ghost use Rattle.yf_stream.specs.DirectiveReaders.{DirectivesEnd, DirectivesRead, IsDirective, NoDirective, NoWords, ReservedRead, WordsRead};
+ghost use Rattle.yf_stream.specs.RefusalPlaces.{DirectivesAt};
 ghost use Rattle.yf_stream.specs.Stream.{Parameters};
 ghost use Rattle.yf_stream.specs.Walk.{Place};
 
@@ -44,6 +45,7 @@ pub(crate) fn read_directives<'a>(
 ) -> Result<Result<DirectiveLines<'a>, usize>, AllocError>
     requires { IsCharBoundary text.now at }
     ensures reads { IfOk result (λ r. MatchResult r (λ lines. DirectivesRead text.now at lines.end lines.directives comments.old comments.new) (λ place. DirectivesEnd text.now at place)) }
+    ensures begin { IfOk result (λ r. IfOk r (λ lines. DirectivesAt text.now lines.directives)) }
     ensures place { IfOk result (λ r. MatchResult r (λ lines. Place text.now at lines.end) (λ place. Place text.now at place)) }
 {
     let mut directives = Directives::new(alloc);

@@ -4,6 +4,7 @@ ghost use Rattle.std.specs.List.{All};
 ghost use Rattle.std.specs.Str.{IsCharBoundary};
 ghost use Rattle.yf_events.specs.Event.{new_event_value};
 ghost use Rattle.yf_stream.specs.DocumentReaders.{IsMarker, Kept, PrefixRead, SuffixRead, closed, opened, with_event};
+ghost use Rattle.yf_stream.specs.RefusalPlaces.{DirectivesAt, DocumentsAt};
 ghost use Rattle.yf_stream.specs.Walk.{Place, NextAt};
 
 use crate::directives::{DirectiveLines, read_directives};
@@ -71,7 +72,8 @@ enum Marker {
 
 impl<'a> Parts<'a> {
     pub(crate) fn new(alloc: Global) -> Parts<'a>
-        ensures { result.part.escapes ≡ [] }
+        ensures escapes { result.part.escapes ≡ [] }
+        ensures documents { result.documents ≡ [] }
     {
         Parts {
             part: Part {
@@ -89,6 +91,7 @@ impl<'a> Parts<'a> {
         alloc: Global,
         event: NewEvent<'a>,
     ) -> Result<(), AllocError>
+        ensures documents { IfOk result (λ _. self.new.documents ≡ self.old.documents) }
         ensures parts { IfOk result (λ _. self.new ≡ with_event self.old (new_event_value event.entry)) }
         ensures escapes { IfOk result (λ _. self.new.part.escapes ≡ self.old.part.escapes) }
     {
@@ -108,6 +111,7 @@ impl<'a> Parts<'a> {
         spot: Spot,
         explicit: bool,
     ) -> Result<(), AllocError>
+        ensures documents { IfOk result (λ _. self.new.documents ≡ self.old.documents) }
         ensures parts { IfOk result (λ _. self.new ≡ closed explicit spot.is_open self.old) }
         ensures escapes { IfOk result (λ _. self.new.part.escapes ≡ self.old.part.escapes) }
     {
@@ -146,6 +150,7 @@ pub(crate) fn skip_prefix<'a>(
     ensures spot { IfOk result (λ s. s ≡ record spot { at = s.at }) }
     ensures place { IfOk result (λ s. Place text.now spot.at s.at) }
     ensures escapes { IfOk result (λ _. parts.new.part.escapes ≡ parts.old.part.escapes) }
+    ensures documents { IfOk result (λ _. parts.new.documents ≡ parts.old.documents) }
 {
     let mut at = spot.at;
     'lines: loop {
@@ -175,6 +180,7 @@ fn keep_comments<'a>(
 ) -> Result<(), AllocError>
     ensures kept { IfOk result (λ _. Kept comments.now parts.old.part.comments parts.new.part.comments) }
     ensures escapes { IfOk result (λ _. parts.new.part.escapes ≡ parts.old.part.escapes) }
+    ensures documents { IfOk result (λ _. parts.new.documents ≡ parts.old.documents) }
 {
     for comment in comments.as_slice() {
         parts.part.comments.push(Comment {
@@ -196,8 +202,10 @@ pub(crate) fn read_next<'a>(
     requires boundary { IsCharBoundary text.now spot.at }
     requires reached { IsCharBoundary text.now spot.reached }
     requires escapes { All (IsCharBoundary text.now) parts.old.part.escapes }
+    requires documents { DocumentsAt text.now parts.old.documents }
     ensures next { IfOk result (λ next. NextAt text.now (spot.at + 1) next) }
     ensures escapes { IfOk result (λ _. All (IsCharBoundary text.now) parts.new.part.escapes) }
+    ensures documents { IfOk result (λ _. DocumentsAt text.now parts.new.documents) }
 {
     match marker_at(text, spot.at) {
         Some(Marker::DocumentEnd) => return read_suffix(alloc, text, spot, parts),
@@ -243,9 +251,11 @@ fn read_suffix<'a>(
 ) -> Result<Next, AllocError>
     requires boundary { IsCharBoundary text.now (spot.at + 3) }
     requires escapes { All (IsCharBoundary text.now) parts.old.part.escapes }
+    requires documents { DocumentsAt text.now parts.old.documents }
     ensures reads { IfOk result (λ next. SuffixRead text.now spot parts.old parts.new next) }
     ensures next { IfOk result (λ next. NextAt text.now (spot.at + 1) next) }
     ensures escapes { IfOk result (λ _. All (IsCharBoundary text.now) parts.new.part.escapes) }
+    ensures documents { IfOk result (λ _. DocumentsAt text.now parts.new.documents) }
 {
     parts.close(alloc, spot, true)?;
     match line_end(alloc, text, spot.at + 3)? {
@@ -272,8 +282,10 @@ fn directive_document<'a>(
 ) -> Result<Next, AllocError>
     requires boundary { IsCharBoundary text.now at }
     requires escapes { All (IsCharBoundary text.now) parts.old.part.escapes }
+    requires documents { DocumentsAt text.now parts.old.documents }
     ensures next { IfOk result (λ next. NextAt text.now (at + 1) next) }
     ensures escapes { IfOk result (λ _. All (IsCharBoundary text.now) parts.new.part.escapes) }
+    ensures documents { IfOk result (λ _. DocumentsAt text.now parts.new.documents) }
 {
     match read_directives(alloc, text, at, &mut parts.part.comments)? {
         Ok(DirectiveLines { directives, end }) => {
@@ -295,9 +307,12 @@ fn explicit_document<'a>(
     parts: &mut Parts<'a>,
 ) -> Result<Next, AllocError>
     requires boundary { IsCharBoundary text.now (at + 3) }
+    requires directives { DirectivesAt text.now directives }
     requires escapes { All (IsCharBoundary text.now) parts.old.part.escapes }
+    requires documents { DocumentsAt text.now parts.old.documents }
     ensures next { IfOk result (λ next. NextAt text.now (at + 1) next) }
     ensures escapes { IfOk result (λ _. All (IsCharBoundary text.now) parts.new.part.escapes) }
+    ensures documents { IfOk result (λ _. DocumentsAt text.now parts.new.documents) }
 {
     parts.open(alloc, at, true, directives)?;
     match block_node_in(
@@ -327,8 +342,10 @@ fn empty_document<'a>(
     requires boundary { IsCharBoundary text.now at }
     requires reached { IsCharBoundary text.now reached }
     requires escapes { All (IsCharBoundary text.now) parts.old.part.escapes }
+    requires documents { DocumentsAt text.now parts.old.documents }
     ensures next { IfOk result (λ next. NextAt text.now at next) }
     ensures escapes { IfOk result (λ _. All (IsCharBoundary text.now) parts.new.part.escapes) }
+    ensures documents { IfOk result (λ _. DocumentsAt text.now parts.new.documents) }
 {
     match line_end(alloc, text, at)? {
         Some(Separation { comments, end }) => {
@@ -359,8 +376,10 @@ fn bare_document<'a>(
 ) -> Result<Next, AllocError>
     requires boundary { IsCharBoundary text.now at }
     requires escapes { All (IsCharBoundary text.now) parts.old.part.escapes }
+    requires documents { DocumentsAt text.now parts.old.documents }
     ensures next { IfOk result (λ next. NextAt text.now (at + 1) next) }
     ensures escapes { IfOk result (λ _. All (IsCharBoundary text.now) parts.new.part.escapes) }
+    ensures documents { IfOk result (λ _. DocumentsAt text.now parts.new.documents) }
 {
     let start = skip_whites(text, at);
     parts.open(alloc, start, false, Directives::new(alloc))?;

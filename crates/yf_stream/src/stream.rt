@@ -5,7 +5,7 @@ ghost use Rattle.std.specs.Str.{IsCharBoundary};
 ghost use Rattle.yf_events.specs.Reading.{Fits};
 ghost use Rattle.yf_lines.specs.FaultPlaces.{InText};
 ghost use Rattle.yf_stream.specs.Refusal.{IsStreamFault};
-ghost use Rattle.yf_stream.specs.RefusalPlaces.{RefusalAt};
+ghost use Rattle.yf_stream.specs.RefusalPlaces.{DocumentsAt, RefusalAt};
 
 use crate::breaches::{Breach, Kind, Resolved, resolve};
 use crate::documents::{Next, Parts, Spot, read_next, skip_prefix};
@@ -68,20 +68,27 @@ fn fault_at(alloc: Global, text: &str, refusal: Refusal) -> Fault
         Refusal::TooDeep(offset) => Fault::TooDeep {
             place: table.place(offset),
         },
-        Refusal::Breach(breach) => {
-            let place = place_of(&table, text, breach.offset);
-            match breach.kind {
-                Kind::UnknownHandle => Fault::UnknownHandle { place },
-                Kind::UnknownAlias => Fault::UnknownAlias { place },
-                Kind::RepeatedDirective => Fault::RepeatedDirective { place },
-                Kind::BadVersion => Fault::BadVersion { place },
-                Kind::EscapeValue => Fault::EscapeValue { place },
-            }
-        }
+        Refusal::Breach(Breach { offset, kind }) => match kind {
+            Kind::UnknownHandle => Fault::UnknownHandle {
+                place: place_of(&table, text, offset),
+            },
+            Kind::UnknownAlias => Fault::UnknownAlias {
+                place: place_of(&table, text, offset),
+            },
+            Kind::RepeatedDirective => Fault::RepeatedDirective {
+                place: table.place(offset),
+            },
+            Kind::BadVersion => Fault::BadVersion {
+                place: table.place(offset),
+            },
+            Kind::EscapeValue => Fault::EscapeValue {
+                place: table.place(offset),
+            },
+        },
     }
 }
 
-// The place of a breach. Its offset stands between characters; that is not proved, so it is tested.
+// The place of a tag or an alias. Its offset stands between characters; that is not proved, so it is tested.
 fn place_of(table: &LineTable, text: &str, offset: usize) -> Place
     requires { table.now.text ≡ text.now }
     ensures { InText text.now result }
@@ -109,6 +116,8 @@ fn noted_lists<'a>(
     text: &'a str,
     parts: Parts<'a>,
 ) -> Result<Result<Lists<'a>, Refusal>, AllocError>
+    requires escapes { All (IsCharBoundary text.now) parts.part.escapes }
+    requires documents { DocumentsAt text.now parts.documents }
     ensures { IfOk result (λ r. MatchResult r (λ lists. Fits lists) (λ refusal. RefusalAt text.now refusal)) }
 {
     let Parts {
@@ -119,7 +128,7 @@ fn noted_lists<'a>(
         },
         documents,
     } = parts;
-    let Resolved { tags, first } = resolve(alloc, &events, &documents, &escapes)?;
+    let Resolved { tags, first } = resolve(alloc, text, &events, &documents, &escapes)?;
     if let Some(breach) = first {
         return Ok(Err(Refusal::Breach(breach)));
     }
@@ -140,9 +149,11 @@ fn read_documents<'a>(
     text: &'a str,
     parts: &mut Parts<'a>,
 ) -> Result<Option<Refusal>, AllocError>
-    requires { All (IsCharBoundary text.now) parts.old.part.escapes }
+    requires escapes { All (IsCharBoundary text.now) parts.old.part.escapes }
+    requires documents { DocumentsAt text.now parts.old.documents }
     ensures refusal { IfOk result (λ o. IfSome o (λ refusal. RefusalAt text.now refusal)) }
     ensures escapes { IfOk result (λ _. All (IsCharBoundary text.now) parts.new.part.escapes) }
+    ensures documents { IfOk result (λ _. DocumentsAt text.now parts.new.documents) }
 {
     parts.push_unplaced(alloc, NewEvent::StreamStart)?;
     let mut spot = Spot {

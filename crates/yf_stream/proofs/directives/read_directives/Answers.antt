@@ -1,5 +1,5 @@
 use Rattle.std.proofs.Common.{arith}
-use Rattle.yf_stream.proofs.DirectiveLineLemmas.{directives_empty, directives_end, directives_read}
+use Rattle.yf_stream.proofs.DirectiveLineLemmas.{directives_at, directives_empty, directives_end, directives_read}
 use Rattle.yf_stream.proofs.directives.read_directives.Goals as goal
 
 pub directives-init : goal.directives-init
@@ -19,3 +19,6 @@ directives-preserved c =
 
 pub returns-in-None-clause-reads : goal.returns-in-None-clause-reads
 returns-in-None-clause-reads c = directives_end c.directives.invariant.read c.directives-test.ensures.cases.char (rw c.in-None.is at c.in_ok-line.ensures.reads)
+
+pub returns-clause-begin : goal.returns-clause-begin
+returns-clause-begin c = directives_at c.directives.invariant.read.longest

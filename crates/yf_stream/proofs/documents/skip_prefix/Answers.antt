@@ -2,11 +2,11 @@ use Rattle.std.proofs.Common.{refl, sym, ◌∙◌, subst, arith}
 use Rattle.std.specs.Str.{IsCharBoundary}
 use Rattle.yf_chars.proofs.TextLemmas.{next-mark, reads_real, within_from_code}
 use Rattle.yf_stream.proofs.Forward.{line_end_forward}
-use Rattle.yf_stream.proofs.PrefixLemmas.{kept_none, no_row, prefix_begins, prefix_lines, prefix_mark, prefix_settled}
+use Rattle.yf_stream.proofs.PrefixLemmas.{no_row, prefix_begins, prefix_lines, prefix_mark, prefix_settled}
 use Rattle.yf_stream.proofs.documents.skip_prefix.Goals as goal
 
 pub lines-init : goal.lines-init
-lines-init c = record { read = prefix_begins _ _; place = record { boundary = c.requires; order = omega arith }; escapes = refl }
+lines-init c = record { read = prefix_begins _ _; place = record { boundary = c.requires; order = omega arith }; escapes = refl; documents = refl }
 
 pub lines-smaller-then-mark_stands : goal.lines-smaller-then-mark_stands
 lines-smaller-then-mark_stands c =
@@ -24,6 +24,7 @@ lines-preserved-then-mark_stands c =
       read = prefix_mark c.lines.invariant.read mark (sym end);
       place = record { boundary = subst (IsCharBoundary t) end reads.boundary; order = omega (arith, c.lines.invariant.place.order) };
       escapes = c.lines.invariant.escapes;
+      documents = c.lines.invariant.documents;
     }
 
 pub returns-then-end-at-clause-reads : goal.returns-then-end-at-clause-reads
@@ -39,6 +40,7 @@ lines-preserved c =
       read = prefix_lines c.lines.invariant.read line c.in_ok-keep_comments-in-Some.ensures.kept;
       place = record { boundary = rw c.in-Some.is at c.in_ok-comments.ensures.boundary; order = omega (arith, c.lines.invariant.place.order, forward) };
       escapes = c.in_ok-keep_comments-in-Some.ensures.escapes ∙ c.lines.invariant.escapes;
+      documents = c.in_ok-keep_comments-in-Some.ensures.documents ∙ c.lines.invariant.documents;
     }
 
 pub returns-in-None-clause-reads : goal.returns-in-None-clause-reads

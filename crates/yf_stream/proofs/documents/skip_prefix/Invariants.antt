@@ -8,6 +8,7 @@ invariant-lines l = record {
   read : PrefixUpto l.text l.spot.at l.at l.initial.parts.part.comments l.parts.part.comments;
   place : Place l.text l.spot.at l.at;
   escapes : l.parts.part.escapes ≡ l.initial.parts.part.escapes;
+  documents : l.parts.documents ≡ l.initial.parts.documents;
 }
 
 abbrev pub decreases-lines : goal.decreases-lines

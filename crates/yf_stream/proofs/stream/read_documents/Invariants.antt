@@ -1,6 +1,7 @@
 use Rattle.std.proofs.Common.{◌-◌, length}
 use Rattle.std.specs.List.{All}
 use Rattle.std.specs.Str.{IsCharBoundary}
+use Rattle.yf_stream.specs.RefusalPlaces.{DocumentsAt}
 use Rattle.yf_stream.proofs.stream.read_documents.Given as goal
 
 abbrev pub invariant-documents : goal.invariant-documents
@@ -8,6 +9,7 @@ invariant-documents l = record {
   place : IsCharBoundary l.text l.spot.at;
   reached : IsCharBoundary l.text l.spot.reached;
   escapes : All (IsCharBoundary l.text) l.parts.part.escapes;
+  documents : DocumentsAt l.text l.parts.documents;
 }
 
 abbrev pub decreases-documents : goal.decreases-documents
