@@ -90,6 +90,15 @@ pub mod NodesPrinted
 pub mod DocumentsPrinted
 pub mod LayoutPrinted
 pub mod LeafMarks
+pub mod MarkSpans
+pub mod KeyTrails
+pub mod DocumentTrails
+pub mod TrailsHold
+pub mod NormalSame
+pub mod NestsRun
+pub mod NormalParts
+pub mod LayoutHolds
+pub mod WritingLemmas
 pub mod TrailChoice
 pub mod TrailRuns
 pub mod TrailLeaves
