@@ -17,6 +17,7 @@ use Rattle.yf_emit.specs.OneLine.{props_text, written}
 use Rattle.yf_emit.specs.Rows.{Row, begins_below, behind_key, behind_sign, colon_row, entry_row, explicit_pair, implicit_pair, joined, key_row, one_line_row, pair_rows, props_row, rows, rows_of_items, rows_of_pairs}
 use Rattle.yf_emit.proofs.LeafPrinted.{same_flag, same_flag_of_map}
 use Rattle.yf_emit.proofs.PairSites.{key_rows}
+use Rattle.yf_emit.proofs.PrintedNodes.{kept_where}
 use Rattle.yf_emit.proofs.PrintedTrees.{item_parts, items_of, pair_parts, pairs_of}
 use Rattle.yf_emit.proofs.StyledTwice.{House}
 use Rattle.yf_emit.proofs.TrailOthers.{at_indices}
@@ -107,10 +108,6 @@ keys_behind head None true xs e = ap (λ o. option_to_list o ++ keys_on xs) e
 keys_behind head None false xs e = keys_joined head 1 xs e
 
 -- Of a normal form: settled, and in the style of the house.
-
-kept_where : (b : Bool) (x y : Node) → is_filled_flow x ≡ true → is_filled_flow y ≡ false → (if b then x else y) ≡ x → b ≡ true
-kept_where true x y p q e = refl
-kept_where false x y p q e = absurd (true≢false (sym p ∙ (ap is_filled_flow (sym e) ∙ q)))
 
 -- of a node on one line
 whole_given : (c : Setting) (site : Site) (f : Form) (column : ℕ) (x : Node) (w : List ℕ) (fs : List Form) → f.key_comment ≡ site.key_comment → given c fs ≡ []

@@ -99,6 +99,7 @@ pub mod NestsRun
 pub mod NormalParts
 pub mod LayoutHolds
 pub mod WritingLemmas
+pub mod FormatHolds
 pub mod TrailChoice
 pub mod TrailRuns
 pub mod TrailLeaves

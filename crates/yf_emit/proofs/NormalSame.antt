@@ -2,7 +2,7 @@
 use Rattle.std.proofs.Common.{◌≡◌, ℕ, Bool, true, false, not, ◌&&◌, List, [], ◌∷◌, ◌++◌, Option, Some, None, refl, sym, ap, ◌∙◌}
 use Rattle.std.specs.Prelude.{is_some, if◌then◌else◌}
 use Rattle.std.specs.Str.{chars}
-use Rattle.yf_lines.specs.Steady.{is_steady, has_line_feed, ends_with_colon, is_only, is_marker_of}
+use Rattle.yf_lines.specs.Steady.{is_steady}
 use Rattle.yf_lines.specs.declared.quotes.Quotes.{Quotes}
 use Rattle.yf_props.specs.Props.{PropsValue}
 use Rattle.yf_quoted.specs.Written.{quotes_for}
@@ -15,6 +15,7 @@ use Rattle.yf_emit.specs.Forms.{agree, is_empty_node, is_nothing, is_placed, ite
 use Rattle.yf_emit.specs.Kept.{may_be_kept}
 use Rattle.yf_emit.specs.Normal.{Setting, Spot, fits, inner_spot, key_spot, settled, settled_items, settled_pairs, styled, styled_items, styled_pairs, value_spot}
 use Rattle.yf_emit.specs.Wanted.{has_block_content, lines_in, quoted_in, style_in, wanted}
+use Rattle.yf_emit.proofs.ValueLemmas.{nothing_steady}
 
 pub record SameNode (x y : Node) : Type 0 where
   pub placed : is_placed x ≡ is_placed y
@@ -96,10 +97,6 @@ mutual
       same_pair (settled_same c (key_spot c.style column k) k) (settled_same c (value_spot c column k v) v) (pairs_same c column ps)
 
 -- Nodes in the style of the house.
-
-nothing_steady : is_steady [] ≡ true
-unfolding is_steady has_line_feed ends_with_colon is_only is_marker_of
-nothing_steady = refl
 
 quoted_full : (props : PropsValue) (text : List ℕ) (q : Quotes) → is_empty_node props (style_in q) text ≡ false
 quoted_full props text Quotes.Single = refl
