@@ -79,7 +79,7 @@ document_looked k i j p is_first x b d h f =
     ∙ (ap (λ w. state (marked (document_begun k.work w x (next_line k.work 0 d))) [] (j + 1) p) f
     ∙ ap (λ w. state w [] (j + 1) p) (document_fed k.work k.trail is_first x d))
 
-normal_parts : {c : Setting} {n : ℕ} {d : DocumentTree} {ds : List DocumentTree} → AreNormal c n (d ∷ ds) → IsNormal c n d × AreNormal c n ds
+pub normal_parts : {c : Setting} {n : ℕ} {d : DocumentTree} {ds : List DocumentTree} → AreNormal c n (d ∷ ds) → IsNormal c n d × AreNormal c n ds
 normal_parts (one_more h t) = (h, t)
 
 -- the root of a document at its site

@@ -96,6 +96,16 @@ pub mod NodesPrinted
 pub mod DocumentsPrinted
 pub mod LayoutPrinted
 pub mod LeafMarks
+pub mod MarkSpans
+pub mod KeyTrails
+pub mod DocumentTrails
+pub mod TrailsHold
+pub mod NormalSame
+pub mod NestsRun
+pub mod NormalParts
+pub mod LayoutHolds
+pub mod WritingLemmas
+pub mod FormatHolds
 pub mod TrailChoice
 pub mod TrailRuns
 pub mod TrailLeaves

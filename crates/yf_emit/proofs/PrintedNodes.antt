@@ -79,7 +79,7 @@ form_there k i site (mapping at flow props pairs) a = first_form _ _ a
 
 -- Nodes that are printed as a whole.
 
-kept_where : (b : Bool) (x y : Node) → is_filled_flow x ≡ true → is_filled_flow y ≡ false → (if b then x else y) ≡ x → b ≡ true
+pub kept_where : (b : Bool) (x y : Node) → is_filled_flow x ≡ true → is_filled_flow y ≡ false → (if b then x else y) ≡ x → b ≡ true
 kept_where true x y p q e = refl
 kept_where false x y p q e = absurd (true≢false (sym p ∙ (ap is_filled_flow (sym e) ∙ q)))
 

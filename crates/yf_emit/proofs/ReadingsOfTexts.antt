@@ -19,7 +19,7 @@ use Rattle.yf_emit.specs.Textual.{IsTextual}
 use Rattle.yf_emit.proofs.MarksOrder.{rises_in_order, rises_within, trees_rise}
 use Rattle.yf_emit.proofs.PlacedTrees.{node_placed}
 
-trees_placed : {t : List ℕ} {i : ℕ} {ds : List Doc} {trees : List DocumentTree} → TreesStand t i ds trees → documents_are_placed trees ≡ true
+pub trees_placed : {t : List ℕ} {i : ℕ} {ds : List Doc} {trees : List DocumentTree} → TreesStand t i ds trees → documents_are_placed trees ≡ true
 trees_placed (no_trees_stand l) = refl
 trees_placed (tree_stands d a b) = and_from _ _ (node_placed a) (trees_placed b)
 

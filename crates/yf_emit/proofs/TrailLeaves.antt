@@ -6,10 +6,11 @@ use Rattle.yf_events.specs.declared.lists.Lists.{Lists}
 use Rattle.yf_emit.specs.Drafts.{behind_at, behind_if, count_to}
 use Rattle.yf_emit.specs.Layout.{Source, behind_two_spaces, first_comment, is_among, trailing_leaf}
 use Rattle.yf_emit.specs.Trailing.{is_at, is_at_end}
-use Rattle.yf_emit.proofs.FedLemmas.{trail}
+use Rattle.yf_emit.specs.TrailsOf.{at_index}
+use Rattle.yf_emit.specs.InOrder.{rising}
 use Rattle.yf_emit.proofs.FeedLemmas.{ascend}
 use Rattle.yf_emit.proofs.LeafMarks.{Mark}
-use Rattle.yf_emit.proofs.TrailChoice.{first_counted, none_at, rising}
+use Rattle.yf_emit.proofs.TrailChoice.{first_counted, none_at}
 use Rattle.yf_emit.proofs.TrailRuns.{counted_within, end_of, found_of, less, spans}
 
 -- a comment and its note at an index
@@ -41,11 +42,6 @@ turned false false = refl
 end_within : (r : Lists) (ls : List Mark) → end_of r ls ≤ length r.comments
 end_within r [] = omega arith
 end_within r (l ∷ ls) = counted_within l.span.start r.comments
-
--- the comment at an index, as a list
-abbrev pub at_index : List CommentValue → Option ℕ → List CommentValue
-at_index cs None = []
-at_index cs (Some n) = option_to_list (slice_get cs n)
 
 -- the comment that is found of a leaf is the one that the layout has after it
 pub chosen_of : (r : Lists) (c : Source) (keys : List Bool) (xs : List Mark) (l : Mark) (ys : List Mark) → c.remarks ≡ zip r.comments r.on_leaf_line
@@ -80,16 +76,10 @@ chosen_of r c keys xs l ys m e lv a u n k =
             whole true j d h = sym (ap option_to_list h)
             whole false j d h = refl
 
-text_of : (cs : List CommentValue) (o : Option ℕ) → behind_if cs o ≡ flat_map behind_two_spaces (at_index cs o)
+-- what is printed of it
+pub text_of : (cs : List CommentValue) (o : Option ℕ) → behind_if cs o ≡ flat_map behind_two_spaces (at_index cs o)
 text_of cs None = refl
 text_of cs (Some n) = by (slice_get cs n) where
   by : (o : Option CommentValue) → behind_at o ≡ flat_map behind_two_spaces (option_to_list o)
   by None = refl
   by (Some d) = sym (append-nil (behind_two_spaces d))
-
--- what the pass prints behind a leaf
-pub leaf_trail : (r : Lists) (c : Source) (keys : List Bool) (xs : List Mark) (l : Mark) (ys : List Mark) → c.remarks ≡ zip r.comments r.on_leaf_line
-    → length r.on_leaf_line ≡ length r.comments → c.leaves ≡ spans xs ++ (l.span ∷ spans ys) → ascend r.comments ≡ true → rising (spans xs ++ (l.span ∷ spans ys)) ≡ true
-    → none_at l.span.start r.comments ≡ true → KeyMarks c r.comments keys → behind_if r.comments (found_of r keys l ys) ≡ trail c l.span
-leaf_trail r c keys xs l ys m e lv a u n k =
-    text_of r.comments (found_of r keys l ys) ∙ ap (λ w. flat_map behind_two_spaces w) (sym (chosen_of r c keys xs l ys m e lv a u n k))

@@ -11,8 +11,9 @@ use Rattle.yf_events.specs.declared.lists.Lists.{Lists}
 use Rattle.yf_emit.specs.declared.trails.Leaf.{Leaf}
 use Rattle.yf_emit.specs.Drafts.{count_to}
 use Rattle.yf_emit.specs.Trailing.{Found, ended, given, given_if, is_at, state, trails_leaf}
-use Rattle.yf_emit.proofs.LeafMarks.{Mark, past_marks}
-use Rattle.yf_emit.proofs.TrailChoice.{rising, start_of_first, until}
+use Rattle.yf_emit.specs.InOrder.{rising}
+use Rattle.yf_emit.proofs.LeafMarks.{Mark, in_order, not_at, past_marks}
+use Rattle.yf_emit.proofs.TrailChoice.{start_of_first, until}
 
 -- Counting on from one offset to a later one counts all before the later one.
 
@@ -93,9 +94,6 @@ given_agrees r l u f other h a = by (trails_leaf r f.trailing l u) refl where
 
 -- what is found of the event at an index stays where other leaves are met
 
-abbrev pub not_at : ℕ → List Mark → Bool
-not_at j ls = list_all (λ l. nat_lt j l.event) ls
-
 given_elsewhere : (r : Lists) (l : Leaf) (u : ℕ) (f : Found) (j : ℕ) → j ≢ l.event → get_or (given r (Some l) u f).of_leaf j None ≡ get_or f.of_leaf j None
 given_elsewhere r l u f j n = by (trails_leaf r f.trailing l u) where
   by : (b : Bool) → get_or (given_if b l f).of_leaf j None ≡ get_or f.of_leaf j None
@@ -115,11 +113,6 @@ given_length r l u f = by (trails_leaf r f.trailing l u) where
   by : (b : Bool) → length (given_if b l f).of_leaf ≡ length f.of_leaf
   by true = length-set f.of_leaf l.event (Some l.first)
   by false = refl
-
--- events that come one after the other
-abbrev pub in_order : List Mark → Bool
-in_order [] = true
-in_order (l ∷ ls) = not_at l.event ls && in_order ls
 
 counted_later : (o p : ℕ) (cs : List CommentValue) → o < p → count_to o cs ≤ count_to p cs
 counted_later o p cs l = let e = counted_on o p cs l in omega (arith, e)

@@ -9,14 +9,16 @@ use Rattle.yf_comments.specs.Comment.{CommentValue}
 use Rattle.yf_events.specs.declared.event.Span.{Span}
 use Rattle.yf_events.specs.declared.lists.Lists.{Lists}
 use Rattle.yf_emit.specs.declared.trails.Leaf.{Leaf}
-use Rattle.yf_emit.specs.Layout.{Source, first_comment, is_among, own_line_comments, trailing_leaf}
+use Rattle.yf_emit.specs.Layout.{Source, first_comment, is_among, trailing, trailing_leaf}
 use Rattle.yf_emit.specs.Rows.{Row}
 use Rattle.yf_emit.specs.Trailing.{Found, given, given_if, trails_leaf}
-use Rattle.yf_emit.proofs.FeedLemmas.{ascend, left}
+use Rattle.yf_emit.specs.TrailsOf.{at_index}
+use Rattle.yf_emit.specs.InOrder.{rising}
+use Rattle.yf_emit.proofs.FeedLemmas.{ascend}
 use Rattle.yf_emit.proofs.LeafMarks.{Mark}
-use Rattle.yf_emit.proofs.TrailChoice.{none_at, rising}
-use Rattle.yf_emit.proofs.TrailLeaves.{KeyMarks, at_index, chosen_of}
-use Rattle.yf_emit.proofs.TrailOthers.{among_indices, among_rows, at_indices, has, others_left, strict}
+use Rattle.yf_emit.proofs.TrailChoice.{none_at}
+use Rattle.yf_emit.proofs.TrailLeaves.{KeyMarks, chosen_of}
+use Rattle.yf_emit.proofs.TrailOthers.{among_indices, among_rows, at_indices, has, strict}
 use Rattle.yf_emit.proofs.TrailRuns.{AgreeFrom, agree_behind, closed_all, end_of, found_of, leaf_in, spans, trails_alike}
 
 -- the comments that are found to trail leaves, in order
@@ -24,11 +26,11 @@ abbrev pub founds : Lists → List Bool → List Mark → List ℕ
 founds r keys [] = []
 founds r keys (l ∷ ls) = option_to_list (found_of r keys l ls) ++ founds r keys ls
 
-or_false : (b : Bool) → b ≡ (b || false)
+pub or_false : (b : Bool) → b ≡ (b || false)
 or_false true = refl
 or_false false = refl
 
-or_assoc : (a b c : Bool) → ((a || b) || c) ≡ (a || (b || c))
+pub or_assoc : (a b c : Bool) → ((a || b) || c) ≡ (a || (b || c))
 or_assoc true b c = refl
 or_assoc false b c = refl
 
@@ -36,7 +38,7 @@ or_true : (b : Bool) → true ≡ (b || true)
 or_true true = refl
 or_true false = refl
 
-has_append : (k : ℕ) (ns ms : List ℕ) → has k (ns ++ ms) ≡ (has k ns || has k ms)
+pub has_append : (k : ℕ) (ns ms : List ℕ) → has k (ns ++ ms) ≡ (has k ns || has k ms)
 has_append k [] ms = refl
 has_append k (n ∷ ns) ms = ap (λ b. (n == k) || b) (has_append k ns ms) ∙ sym (or_assoc (n == k) (has k ns) (has k ms))
 
@@ -47,7 +49,7 @@ is_other : (n k : ℕ) → (n == k) ≡ false → k ≢ n
 is_other n k e = grind (arith, nat_tests)
 
 -- one more is marked
-marked_one : (T : List Bool) (n k : ℕ) → k < length T → get_or (set T n true) k false ≡ (get_or T k false || ((n == k) || false))
+pub marked_one : (T : List Bool) (n k : ℕ) → k < length T → get_or (set T n true) k false ≡ (get_or T k false || ((n == k) || false))
 marked_one T n k l = by (n == k) refl where
   by : (b : Bool) → (n == k) ≡ b → get_or (set T n true) k false ≡ (get_or T k false || (b || false))
   by true e =
@@ -106,19 +108,18 @@ all_chosen r c keys xs (l ∷ ls) m e lv a u n k =
     (all_chosen r c keys (xs ++ (l ∷ [])) ls m e (lv ∙ sym moved) a (ap rising moved ∙ u) parts.1 k)
     ∙ one_chosen r.comments (found_of r keys l ls) (founds r keys ls))
 
-some_within : (cs : List CommentValue) (k : ℕ) (d : CommentValue) → slice_get cs k ≡ Some d → k < length cs
+pub some_within : (cs : List CommentValue) (k : ℕ) (d : CommentValue) → slice_get cs k ≡ Some d → k < length cs
 some_within [] k d e = absurd cc
 some_within (c ∷ cs) zero d e = omega arith
 some_within (c ∷ cs) (suc k) d e = let h = some_within cs k d e in omega (arith, h)
 
--- So what is left are the comments on lines of their own.
-pub others_agree : (r : Lists) (c : Source) (rows : List Row) (ls : List Mark) (f : Found) → c.remarks ≡ zip r.comments r.on_leaf_line → length r.on_leaf_line ≡ length r.comments
+-- So a comment is marked where it trails a row.
+pub marks_agree : (r : Lists) (c : Source) (rows : List Row) (ls : List Mark) (f : Found) → c.remarks ≡ zip r.comments r.on_leaf_line → length r.on_leaf_line ≡ length r.comments
     → c.leaves ≡ spans ls → c.leaves ≡ flat_map (λ row. row.leaves) rows → c.key_comments ≡ flat_map (λ row. option_to_list row.key_comment) rows
     → ascend r.comments ≡ true → strict r.comments ≡ true → rising (spans ls) ≡ true → none_at_starts r.comments (spans ls) ≡ true
     → KeyMarks c r.comments f.trailing → AgreeFrom r ls f.trailing f.trailing → length f.trailing ≡ length r.comments
-    → left (closed_all r ls f).trailing 0 r.comments ≡ own_line_comments c rows
-others_agree r c rows ls f m e lv ll lk a s u n k g w =
-    others_left c r.comments r.on_leaf_line (closed_all r ls f).trailing rows m e (λ j d q.
+    → (j : ℕ) (d : CommentValue) → slice_get r.comments j ≡ Some d → get_or (closed_all r ls f).trailing j false ≡ is_among (flat_map (trailing c) rows) d
+marks_agree r c rows ls f m e lv ll lk a s u n k g w j d q =
     let of_leaf : Span → List CommentValue = λ leaf. trailing_leaf c leaf (first_comment c leaf) in
     let low = some_within r.comments j d q in
     marked_at r ls f f.trailing j u g (omega (arith, low, w))
@@ -126,4 +127,4 @@ others_agree r c rows ls f m e lv ll lk a s u n k g w =
     ∙ (ap (λ b. is_among c.key_comments d || b) (sym (among_indices r.comments (founds r f.trailing ls) j d s q))
     ∙ (ap (λ v. is_among c.key_comments d || is_among v d) (sym (all_chosen r c f.trailing [] ls m e lv a u n k))
     ∙ (ap (λ v. is_among c.key_comments d || is_among (flat_map of_leaf v) d) (sym lv ∙ ll)
-    ∙ (ap (λ v. is_among v d || is_among (flat_map of_leaf (flat_map (λ (row : Row). row.leaves) rows)) d) lk ∙ sym (among_rows c rows d)))))))
+    ∙ (ap (λ v. is_among v d || is_among (flat_map of_leaf (flat_map (λ (row : Row). row.leaves) rows)) d) lk ∙ sym (among_rows c rows d))))))

@@ -98,7 +98,7 @@ agreed true false e = absurd cc
 agreed false true e = absurd cc
 agreed false false e = refl
 
-nothing_steady : is_steady [] ≡ true
+pub nothing_steady : is_steady [] ≡ true
 unfolding is_steady has_line_feed ends_with_colon is_only is_marker_of
 nothing_steady = refl
 

@@ -13,6 +13,7 @@ pub mod Format
 pub mod Formatted
 pub mod Forms
 pub mod ImplicitKeys
+pub mod InOrder
 pub mod Kept
 pub mod Keys
 pub mod Laws
@@ -22,6 +23,7 @@ pub mod Measures
 pub mod Measuring
 pub mod Normal
 pub mod NormalEvents
+pub mod NormalForm
 pub mod OfText
 pub mod OneLine
 pub mod OneLineRun
@@ -36,4 +38,5 @@ pub mod Rows
 pub mod SameComments
 pub mod Textual
 pub mod Trailing
+pub mod TrailsOf
 pub mod Wanted

@@ -6,8 +6,10 @@ use Rattle.yf_emit.specs.declared.measure.Measure.{Measure}
 use Rattle.yf_emit.specs.declared.printer.Plan.{Plan}
 use Rattle.yf_emit.specs.declared.style.Style.{Style}
 use Rattle.yf_emit.specs.Forms.{Decided}
+use Rattle.yf_emit.specs.Layout.{Writes}
 use Rattle.yf_emit.specs.Measures.{Measured}
 use Rattle.yf_emit.specs.Measuring.{setting}
+use Rattle.yf_emit.specs.NormalForm.{NormalForm}
 use Rattle.yf_emit.specs.Printing.{printed, work_of}
 use Rattle.yf_emit.specs.Trailing.{all_found, found}
 
@@ -18,6 +20,11 @@ pub record Printout (m : Lists) (s : Style) (u : List ℕ) : Type 0 where
   pub measured : Measured [] (setting s []) m.events measures
   pub decided : Decided m s measures forms
   pub is : u ≡ printed (work_of m s measures forms (all_found m measures forms))
+
+-- and it is the layout of m, where m is the normal form of a text's reading
+pub record IsPrinted (m : Lists) (s : Style) (u : List ℕ) : Type 0 where
+  pub printout : Printout m s u
+  pub writes : NormalForm m s → Writes m s u
 
 -- what is decided of the reading m before it is printed
 pub record IsPlan (m : Lists) (s : Style) (plan : Plan) : Type 0 where

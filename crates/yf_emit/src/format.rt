@@ -25,8 +25,8 @@ fn formatted(alloc: Global, src: &Src, reading: &Reading, style: &Style) -> Resu
     }
 }
 
-/// The stream of the text in the house style. What is proved of it is what `Formatted` says: it is what is printed of a normal
-/// reading, which is tied to no text.
+/// The stream of the text in the house style. What is proved of it is what `Formatted` says: it is the layout of the normal form of a
+/// reading, where that is the text's.
 ///
 /// # Errors
 ///

@@ -8,7 +8,7 @@ ghost use Rattle.yf_emit.specs.Measures.{no_measure};
 ghost use Rattle.yf_emit.specs.Printing as Printing;
 ghost use Rattle.yf_emit.specs.Printing.{work};
 ghost use Rattle.yf_emit.specs.Printers.{state_of};
-ghost use Rattle.yf_emit.specs.Printout.{IsPlan, Printout};
+ghost use Rattle.yf_emit.specs.Printout.{IsPlan, IsPrinted};
 
 use crate::decide::{Form, decide};
 use crate::leaves::push_leaf;
@@ -247,9 +247,10 @@ fn text_of(alloc: Global, reading: &Reading, plan: &Plan) -> Result<String, Allo
     output.finish(reading, &plan.trails)
 }
 
-/// The text of a normal reading in the house style.
+/// The text of a normal reading in the house style: of the normal form of a text's reading, its layout; of any other reading, what one
+/// pass over its events prints of it.
 pub fn layout(alloc: Global, reading: &Reading, style: &Style) -> Result<String, AllocError>
-    ensures { IfOk result (λ text. Printout reading.now style.now (string_bytes text)) }
+    ensures { IfOk result (λ text. IsPrinted reading.now style.now (string_bytes text)) }
 {
     let plan = plan_of(alloc, reading, style)?;
     text_of(alloc, reading, &plan)

@@ -10,8 +10,8 @@ use yf_lines::fault::Fault;
 use yf_lines::output::write_text;
 use yf_lines::watched::Sink;
 
-/// Writes a normal reading, which is one that `normal` gave for this style, in the house style: the text that one pass over its
-/// events prints of it, with nothing beside it. That this text is the layout of the reading is tested, and not proved. Nothing is
+/// Writes a normal reading, which is one that `normal` gave for this style, in the house style: its layout, with nothing beside it.
+/// Of a reading that is not the normal form of a text's reading, it writes what one pass over its events prints of it. Nothing is
 /// written before all memory that is needed has been granted.
 ///
 /// # Errors

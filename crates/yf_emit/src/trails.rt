@@ -3,6 +3,7 @@ ghost use Rattle.std.specs.Prelude.{◌≡◌, ◌<◌, ◌≤◌, false, get_or
 ghost use Rattle.yf_comments.specs.Comment.{comment_value};
 ghost use Rattle.yf_emit.specs.Trailing as Trailing;
 ghost use Rattle.yf_emit.specs.Trailing.{all_found, found, given, keys_taken, leaf_if, state, taken};
+ghost use Rattle.yf_emit.specs.TrailsOf.{FindsTrails};
 
 use crate::comments_before::first_behind;
 use crate::decide::{Form, Forms};
@@ -223,14 +224,16 @@ fn trails_of_keys(alloc: Global, reading: &Reading, forms: &Forms) -> Result<Tra
 }
 
 /// Finds the comments that trail: those that end a key's line, and for each leaf the first comment after its start and before
-/// the next leaf, where it stands inside of the leaf or on the line on which the leaf ends.
+/// the next leaf, where it stands inside of the leaf or on the line on which the leaf ends. Of a normal form, with its own measures
+/// and forms, these are the comments that trail in its layout.
 pub fn find_trails(
     alloc: Global,
     reading: &Reading,
     measures: &Measures,
     forms: &Forms,
 ) -> Result<Trails, AllocError>
-    ensures { IfOk result (λ trails. found trails ≡ all_found reading.now measures.now forms.now) }
+    ensures found { IfOk result (λ trails. found trails ≡ all_found reading.now measures.now forms.now) }
+    ensures layout { IfOk result (λ trails. FindsTrails reading.now measures.now forms.now (found trails)) }
 {
     let mut trails = trails_of_keys(alloc, reading, forms)?;
     let mut last: Option<Leaf> = None;
