@@ -21,7 +21,7 @@ use Rattle.yf_emit.proofs.ValueLemmas.{agreed}
 abbrev pub leaves_on : List Row → List Span
 leaves_on rows = flat_map (λ row. row.leaves) rows
 
-on_append : (xs ys : List Row) → leaves_on (xs ++ ys) ≡ leaves_on xs ++ leaves_on ys
+pub on_append : (xs ys : List Row) → leaves_on (xs ++ ys) ≡ leaves_on xs ++ leaves_on ys
 on_append xs ys = flat_map-append (λ (row : Row). row.leaves) xs ys
 
 on_joined : (head : Row) (n : ℕ) (xs : List Row) → leaves_on (joined head n xs) ≡ head.leaves ++ leaves_on xs

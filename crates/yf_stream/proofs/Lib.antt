@@ -1,3 +1,4 @@
+pub mod BreachLemmas
 pub mod DirectiveOrder
 pub mod DocumentPlaces
 pub mod Forward
@@ -10,6 +11,7 @@ pub mod OneStream
 pub mod PlaceLawsHold
 pub mod ReadingOrder
 pub mod ReadingTrees
+pub mod SameTags
 pub mod ShownEmpty
 pub mod ShownItem
 pub mod ShownLaws
