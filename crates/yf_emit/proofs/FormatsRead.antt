@@ -8,11 +8,10 @@ use Rattle.yf_events.specs.Alike.{Alike, alike_scalars, alike_aliases, alike_seq
 use Rattle.yf_events.specs.Event.{EventValue, Placed, stream_starts, stream_ends, document_starts, document_ends, sequence_starts, sequence_ends, mapping_starts, mapping_ends, scalar_node, alias_node}
 use Rattle.yf_events.specs.declared.lists.Lists.{Lists}
 use Rattle.yf_events.specs.declared.reading.TheConstants.{DEPTH}
-use Rattle.yf_events.specs.Tree.{Node, scalar, alias, sequence, mapping, Items, no_items, item, Pairs, no_pairs, pair, DocumentTree, TreesOf, flat, flat_stream}
+use Rattle.yf_events.specs.Tree.{Node, scalar, alias, sequence, mapping, Items, no_items, item, Pairs, no_pairs, pair, DocumentTree, TreesOf, flat}
 use Rattle.yf_grammar.specs.Meant.{Anywhere, tall, tall_items, tall_pairs}
 use Rattle.yf_stream.specs.ReadingOf.{ReadingOf, doc_of}
 use Rattle.yf_stream.specs.Stream.{Document}
-use Rattle.yf_stream.specs.WellFormed.{Reads, breaches}
 use Rattle.yf_stream.proofs.BreachLemmas.{SameDocument, SameDocuments, no_same_documents, same_documents, alike_values, documents_quiet, sign, signs}
 use Rattle.yf_stream.proofs.LawsHold.{derived_streams_are_shapes}
 use Rattle.yf_stream.proofs.ReadingTrees.{TreesMeant, no_trees_meant, tree_meant, reading_stands}
@@ -28,7 +27,7 @@ use Rattle.yf_emit.specs.Restyled.{Restyled, none_left, one_more, restyled_event
 use Rattle.yf_emit.proofs.CommentsFit.{reading_remarks}
 use Rattle.yf_emit.proofs.LayoutLawsHold.{layouts_are_texts, layouts_are_derived}
 use Rattle.yf_emit.proofs.NormalRestyled.{root_restyled}
-use Rattle.yf_emit.proofs.TreesRead.{DocumentRead, document_read, reading_fits, same_node}
+use Rattle.yf_emit.proofs.TreesRead.{document_read, reading_fits, same_node}
 
 -- Heights: styles and brackets change none.
 

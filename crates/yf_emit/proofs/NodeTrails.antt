@@ -1,11 +1,10 @@
 -- The rows of a normal form carry one comment each at most behind them, where none stands between the leaves of a flow collection on one line.
-use Rattle.std.proofs.Common.{◌≡◌, ℕ, ◌-◌, Bool, true, false, true≢false, not, ◌&&◌, ◌||◌, List, [], ◌∷◌, ◌++◌, codes, map, Option, Some, None, refl, sym, ap, ◌∙◌, subst, append_assoc, append-nil}
-use Rattle.std.specs.Prelude.{find, nat_lt, is_some, if◌then◌else◌}
+use Rattle.std.proofs.Common.{◌≡◌, ℕ, ◌-◌, Bool, true, false, true≢false, ◌&&◌, ◌||◌, List, [], ◌∷◌, ◌++◌, codes, map, Option, Some, None, refl, sym, ap, ◌∙◌, subst, append_assoc, append-nil}
+use Rattle.std.specs.Prelude.{find, is_some, if◌then◌else◌}
 use Rattle.std.proofs.lemmas.Bool.{and_parts}
 use Rattle.std.proofs.lemmas.Option.{same_Some}
 use Rattle.yf_comments.specs.Comment.{CommentValue}
 use Rattle.yf_comments.specs.GapLines.{IsRemark}
-use Rattle.yf_props.specs.Props.{PropsValue}
 use Rattle.yf_events.specs.declared.event.ScalarStyle.TheVariants.{Plain, Single, Double, Literal, Folded}
 use Rattle.yf_events.specs.declared.event.Span.{Span}
 use Rattle.yf_events.specs.declared.directive.Directive.{Directive}
@@ -20,7 +19,7 @@ use Rattle.yf_emit.specs.Layout.{source_of, trimmed}
 use Rattle.yf_emit.specs.Measuring.{setting}
 use Rattle.yf_emit.specs.Normal.{Setting, Spot, entry_or, first_between, inner_spot, is_implicit, is_one_line_key, key_comment, key_spot, key_start, last_start, styled_items, styled_pairs, value_of_implicit, value_spot, root_spot, setting_of}
 use Rattle.yf_emit.specs.OneLine.{written, props_text}
-use Rattle.yf_emit.specs.Rows.{Row, begins_below, behind_key, behind_sign, block_scalar, colon_row, entry_row, explicit_pair, implicit_pair, is_empty_text, joined, key_row, one_line, one_line_row, pair_rows, props_row, rows, rows_of_items, rows_of_pairs, beginning_at, directive_row, document_rows, end_rows, start_row, stream_rows}
+use Rattle.yf_emit.specs.Rows.{Row, begins_below, behind_key, behind_sign, colon_row, entry_row, implicit_pair, is_empty_text, joined, key_row, one_line_row, pair_rows, props_row, rows, rows_of_items, rows_of_pairs, beginning_at, directive_row, document_rows, end_rows, start_row, stream_rows}
 use Rattle.yf_emit.specs.StillLeaves.{Still, nothing_still, one_still, more_still, between, KeptStill, ItemsStill, PairsStill}
 use Rattle.yf_emit.proofs.LeafPrinted.{same_flag, same_flag_of_map}
 use Rattle.yf_emit.proofs.PrintedTrees.{item_parts, items_of, pair_parts, pairs_of}

@@ -1,6 +1,6 @@
 -- Each node that is derived is a tree that is read: its plain scalars were ones in their contexts, and its literal and folded ones have
 -- the lines of their texts.
-use Rattle.std.proofs.Common.{◌≡◌, ℕ, ◌+◌, ℤ, Bool, true, false, true≢false, List, [], ◌++◌, Option, Some, None, refl, sym, arith, encode_utf8_all}
+use Rattle.std.proofs.Common.{◌≡◌, ℕ, ◌+◌, ℤ, Bool, true, false, true≢false, List, [], ◌++◌, Some, None, refl, sym, arith, encode_utf8_all}
 use Rattle.std.specs.Prelude.{◌||◌}
 use Rattle.std.specs.Str.{IsUtf8}
 use Rattle.yf_chars.specs.declared.context.Ctx.{Ctx}
@@ -11,7 +11,7 @@ use Rattle.yf_plain.specs.Plain.{PlainText}
 use Rattle.yf_plain.proofs.KeptLemmas.{plain_kept}
 use Rattle.yf_quoted.specs.Quoted.{text_of, bad_escapes}
 use Rattle.yf_block_scalar.specs.Content.{content_of}
-use Rattle.yf_props.specs.Names.{Alias, PropertiesValue}
+use Rattle.yf_props.specs.Names.{Alias}
 use Rattle.yf_props.specs.Props.{no_props}
 use Rattle.yf_props.proofs.NamesMade.{alias_made, props_made}
 use Rattle.yf_events.specs.declared.event.ScalarStyle.{ScalarStyle}

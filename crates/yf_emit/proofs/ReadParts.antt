@@ -1,11 +1,10 @@
 -- The trees that the parts of a production mean make up the tree that it means, and what is known of their texts is known of it.
 use Rattle.std.proofs.Common.{◌≡◌, ◌≢◌, ℕ, suc, max, ◌≤◌, Bool, true, false, List, [], ◌∷◌, ◌++◌, Option, Some, None, refl, sym, ap, ◌∙◌, subst, arith, append_assoc, append-nil}
 use Rattle.std.specs.Prelude.{is_some, ◌||◌}
-use Rattle.std.proofs.Math.Bool.{or-false}
 use Rattle.yf_comments.specs.Comment.{CommentValue}
 use Rattle.yf_props.specs.Props.{PropsValue, no_props}
 use Rattle.yf_props.specs.Written.{IsProps}
-use Rattle.yf_events.specs.Event.{Placed, sequence_starts, sequence_ends, mapping_starts, mapping_ends}
+use Rattle.yf_events.specs.Event.{sequence_starts, sequence_ends, mapping_starts, mapping_ends}
 use Rattle.yf_events.specs.declared.event.Entry.{Entry}
 use Rattle.yf_events.specs.declared.event.ScalarStyle.TheVariants.{Plain}
 use Rattle.yf_events.specs.declared.event.Span.{Span}
@@ -13,8 +12,8 @@ use Rattle.yf_events.specs.Tree.{Standing, Node, scalar as scalar_tree, alias as
 use Rattle.yf_grammar.specs.Meaning.{Meaning, ◌⊕◌, behind, noting, plain_event, from_to, empty_node, collection, span_since, first_with, with_props, first_entering, entering}
 use Rattle.yf_grammar.specs.Meant.{tall, tall_items, tall_pairs}
 use Rattle.yf_grammar.proofs.MeantLemmas.{entered, entered_events}
-use Rattle.yf_emit.specs.Fits.{FitProps, no_fit_props, some_fit_props}
-use Rattle.yf_emit.specs.ReadTrees.{ReadText, ReadNode, read_nothing, read_props, read_scalar, read_alias, read_sequence, read_mapping, ReadItems, read_no_items, read_item, ReadPairs, read_no_pairs, read_pair}
+use Rattle.yf_emit.specs.Fits.{no_fit_props, some_fit_props}
+use Rattle.yf_emit.specs.ReadTrees.{ReadNode, read_nothing, read_props, read_scalar, read_alias, read_sequence, read_mapping, ReadItems, read_no_items, read_item, ReadPairs, read_no_pairs, read_pair}
 
 -- with so many collections open at once at most
 pub record NodeRead (h : ℕ) (b : Bool) (x : Meaning) : Type 0 where

@@ -1,22 +1,18 @@
 -- The reading of a formatted text says what the reading says that was formatted.
-use Rattle.std.proofs.Common.{◌≡◌, ℕ, Bool, false, List, [], ◌∷◌, ◌++◌, map, flat_map, zip, Option, None, refl, sym, ap, ◌∙◌, subst, append_assoc}
-use Rattle.std.specs.Str.{IsUtf8}
-use Rattle.yf_events.specs.Content.{ContentOf, ContentValue, BeforeValue, before_document, a_directive, a_word, content_of, nodes_of, items_of_event, items_of_directive, items_of_document}
+use Rattle.std.proofs.Common.{◌≡◌, ℕ, false, List, [], ◌∷◌, ◌++◌, map, flat_map, zip, Option, None, refl, sym, ap, ◌∙◌, subst, append_assoc}
+use Rattle.yf_events.specs.Content.{ContentValue, BeforeValue, before_document, a_directive, a_word, content_of, nodes_of, items_of_event, items_of_directive, items_of_document}
 use Rattle.yf_events.specs.Event.{EventValue, Placed, stream_starts, stream_ends, document_starts, document_ends, sequence_starts, sequence_ends, mapping_starts, mapping_ends, scalar_node, alias_node}
 use Rattle.yf_events.specs.declared.directive.Directive.{Directive}
 use Rattle.yf_events.specs.declared.document.Doc.{Doc}
 use Rattle.yf_events.specs.declared.lists.Lists.{Lists}
-use Rattle.yf_events.specs.Reading.{events_of}
-use Rattle.yf_events.specs.Tree.{DocumentTree, unplaced, flat, flat_document, flat_stream}
-use Rattle.yf_stream.specs.ReadingOf.{DocumentEvents, no_document, one_document, ReadingOf, doc_of}
+use Rattle.yf_events.specs.Tree.{DocumentTree, unplaced, flat, flat_document}
+use Rattle.yf_stream.specs.ReadingOf.{DocumentEvents, no_document, one_document, doc_of}
 use Rattle.yf_stream.specs.Stream.{Document, Documents}
 use Rattle.yf_stream.proofs.BreachLemmas.{alike_values, values, values_append, words}
 use Rattle.yf_stream.proofs.LawsHold.{readings_are_one}
 use Rattle.yf_stream.proofs.SameTags.{noting_values, same_tags}
-use Rattle.yf_emit.specs.declared.style.Style.{Style}
 use Rattle.yf_emit.specs.FitDocuments.{DocumentsMeant, no_documents_meant, document_meant}
-use Rattle.yf_emit.specs.Format.{Formats}
-use Rattle.yf_emit.specs.FormatLaws.{TrailsFitIn, FormatsKeepContent}
+use Rattle.yf_emit.specs.FormatLaws.{FormatsKeepContent}
 use Rattle.yf_emit.proofs.FormatsRead.{formats_well, same_in_documents}
 use Rattle.yf_emit.proofs.NormalRestyled.{normal_restyled}
 use Rattle.yf_emit.proofs.RestyledLemmas.{same_content}

@@ -1,5 +1,5 @@
 -- The trees of a reading are trees as they are read, so the documents of its normal form can be laid out and are read again.
-use Rattle.std.proofs.Common.{◌≡◌, ℕ, ◌+◌, ◌≤◌, Bool, true, false, List, [], map, refl, sym, ap, ◌∙◌, subst, append-nil}
+use Rattle.std.proofs.Common.{◌≡◌, ℕ, ◌+◌, ◌≤◌, Bool, true, false, List, [], map, sym, ◌∙◌, subst, append-nil}
 use Rattle.std.specs.Str.{IsUtf8}
 use Rattle.yf_comments.specs.Comment.{CommentValue}
 use Rattle.yf_events.proofs.TreeLemmas.{node_unique, trees_unique}
@@ -11,7 +11,7 @@ use Rattle.yf_events.specs.Tree.{Node, Items, Pairs, DocumentTree, TreesOf, flat
 use Rattle.yf_grammar.specs.Meaning.{Meaning}
 use Rattle.yf_grammar.specs.Meant.{tall}
 use Rattle.yf_stream.specs.ReadingOf.{ReadingOf, doc_of}
-use Rattle.yf_stream.specs.Stream.{AnyDocument, Directives, Document, ExplicitNode, document_of}
+use Rattle.yf_stream.specs.Stream.{AnyDocument, Document, ExplicitNode, document_of}
 use Rattle.yf_stream.specs.Stream.AnyDocument.{bare_document, directive_document, explicit_document}
 use Rattle.yf_stream.specs.Stream.ExplicitNode.{marked_node, marked_nothing}
 use Rattle.yf_stream.proofs.ReadingTrees.{TreesMeant, no_trees_meant, tree_meant, reading_stands}
