@@ -163,7 +163,7 @@ nb_of_ns : (c : ℕ) → is_ns_char c ≡ true → is_nb_char c ≡ true
 unfolding is_ns_char
 nb_of_ns c e = (and_parts (is_nb_char c) (not (is_white c)) e).0
 
-all_nb : {p : ℕ → Bool} → ((c : ℕ) → p c ≡ true → is_nb_char c ≡ true) → (cs : List ℕ) → AllOf p cs → AllNb cs
+pub all_nb : {p : ℕ → Bool} → ((c : ℕ) → p c ≡ true → is_nb_char c ≡ true) → (cs : List ℕ) → AllOf p cs → AllNb cs
 all_nb f [] a = tt
 all_nb f (c ∷ cs) a = (f c a.0, all_nb f cs a.1)
 
