@@ -1,5 +1,5 @@
 -- After the lines of a block scalar, what stands in a layout stands further left, and is none of it.
-use Rattle.std.proofs.Common.{◌≡◌, ℕ, zero, suc, ◌+◌, ◌<◌, ◌≤◌, Bool, true, false, ◌&&◌, List, [], ◌∷◌, ◌++◌, map, replicate, Option, Some, None, encode_utf8, true≢false, refl, sym, ap, ◌∙◌, subst, arith, append_assoc}
+use Rattle.std.proofs.Common.{◌≡◌, ℕ, ◌+◌, ◌<◌, ◌≤◌, Bool, true, false, ◌&&◌, List, [], ◌∷◌, ◌++◌, map, replicate, Option, Some, None, encode_utf8, true≢false, refl, sym, ap, ◌∙◌, subst, arith, append_assoc}
 use Rattle.std.specs.Prelude.{filter, not, if◌then◌else◌, ◌-◌}
 use Rattle.yf_comments.specs.Comment.{CommentValue}
 use Rattle.yf_comments.specs.GapLines.{AllLeft}
@@ -17,10 +17,9 @@ use Rattle.yf_emit.specs.Decorated.{GapLine, blank, remark, Deco, blank_if, rema
 use Rattle.yf_emit.specs.FitDocuments.{FitDocuments}
 use Rattle.yf_emit.specs.Layout.{Source, trimmed, precedes_item, may_be_blank_behind, own_line_comments, source_of}
 use Rattle.yf_emit.specs.Normal.{Setting, Spot, inner_spot, key_spot, value_of_implicit, value_entries, value_spot, root_spot, is_implicit, key_comment, setting_of}
-use Rattle.yf_emit.specs.Rows.{Row, Ending, anywhere, one_line, one_line_row, props_row, block_scalar, joined, behind_sign, behind_key, begins_below, entry_row, colon_row, key_row, explicit_pair, pair_rows, rows, rows_of_items, rows_of_pairs, directive_row, end_rows, start_row, beginning_at, document_rows, stream_rows}
+use Rattle.yf_emit.specs.Rows.{Row, Ending, anywhere, one_line, one_line_row, props_row, joined, behind_sign, behind_key, begins_below, entry_row, colon_row, key_row, explicit_pair, pair_rows, rows, rows_of_items, rows_of_pairs, directive_row, end_rows, start_row, beginning_at, stream_rows}
 use Rattle.yf_emit.specs.OneLine.{written, props_text}
 use Rattle.yf_emit.proofs.RowsUtf8.{RowLines, no_rows, row_more, stream_lines}
-use Rattle.yf_emit.proofs.SeenTexts.{IsSeen}
 use Rattle.yf_emit.proofs.TreesMade.{either_pair}
 
 -- Columns of rows.

@@ -1,5 +1,5 @@
 -- The comments of a reading are written as comments, without the white space that ends them.
-use Rattle.std.proofs.Common.{◌≡◌, ℕ, ◌+◌, ◌<◌, ◌≤◌, ◌/◌, ◌%◌, Bool, true, false, List, [], ◌∷◌, ◌++◌, length, slice_range, refl, sym, ap, ◌∙◌, subst, arith, ⊎_elim, ltb}
+use Rattle.std.proofs.Common.{◌≡◌, ℕ, ◌+◌, ◌<◌, ◌≤◌, ◌/◌, ◌%◌, Bool, true, false, List, [], ◌∷◌, ◌++◌, refl, sym, ap, ◌∙◌, subst, arith, ⊎_elim, ltb}
 use Rattle.std.proofs.lemmas.Bool.{cases_lt, le-ltb}
 use Rattle.std.proofs.lemmas.Bool.Decides.{nat_tests}
 use Rattle.std.proofs.lemmas.Str.{encode_ascii}
@@ -13,7 +13,6 @@ use Rattle.yf_chars.proofs.TextLemmas.{reads_byte}
 use Rattle.yf_lines.specs.LineText.{AllNb, IsLineText}
 use Rattle.yf_comments.specs.Comment.{CommentValue}
 use Rattle.yf_comments.specs.GapLines.{IsRemark}
-use Rattle.yf_props.specs.Written.{AllOf}
 use Rattle.yf_props.proofs.NamesMade.{many_each, many_stretch, stretch_char, stretch_slice}
 use Rattle.yf_events.specs.declared.lists.Lists.{Lists}
 use Rattle.yf_grammar.proofs.CommentOrder.{Ascend, no_more, one_more, CommentStands}
@@ -21,6 +20,7 @@ use Rattle.yf_stream.specs.ReadingOf.{ReadingOf}
 use Rattle.yf_stream.proofs.ReadingOrder.{reading_ascends}
 use Rattle.yf_emit.specs.Carried.{AreRemarks, no_remark, one_remark}
 use Rattle.yf_emit.specs.Layout.{trimmed}
+use Rattle.yf_emit.proofs.DirectivesFit.{all_nb}
 
 -- Bytes of characters that are no ASCII are no white space.
 
@@ -111,10 +111,6 @@ nb_below : (c : ℕ) → is_nb_char c ≡ true → c < no_char
 unfolding is_nb_char is_printable is_between
 nb_below c e = grind (arith, nat_tests)
 
-all_nb : (cs : List ℕ) → AllOf is_nb_char cs → AllNb cs
-all_nb [] a = tt
-all_nb (c ∷ cs) a = (a.0, all_nb cs a.1)
-
 comment_remark : {t : List ℕ} {i : ℕ} {text : List ℕ} → IsUtf8 t → CommentStands t i text → IsRemark text
 comment_remark {t} {i} u a =
     let sign = reads_byte t i 35 u a.sign (omega arith) in
@@ -122,7 +118,7 @@ comment_remark {t} {i} u a =
     record {
       behind = encodes a.characters;
       is = a.is ∙ (stretch_slice whole ∙ ap (λ w. w ++ encodes a.characters) (encode_ascii 35 (omega arith)));
-      line = record { chars = a.characters; bytes = refl; each = all_nb a.characters (many_each a.chain) };
+      line = record { chars = a.characters; bytes = refl; each = all_nb (λ c e. e) a.characters (many_each a.chain) };
     }
 
 ascending_remarks : {t : List ℕ} {i j : ℕ} {cs : List CommentValue} → IsUtf8 t → Ascend t i cs j → AreRemarks cs

@@ -1,5 +1,5 @@
 -- Directives that are read can be written, with one space between their words.
-use Rattle.std.proofs.Common.{◌≡◌, ◌≢◌, ℕ, ◌+◌, ◌<◌, ◌≤◌, Bool, true, false, true≢false, List, [], ◌∷◌, ◌++◌, length, slice_range, codes, encode_utf8_all, refl, sym, ap, ◌∙◌, subst, arith, ⊎_elim, ◌⊎◌, inl, inr, eqb, not, drop, append_assoc, append-nil, length-append, length-drop}
+use Rattle.std.proofs.Common.{◌≡◌, ◌≢◌, ℕ, ◌+◌, ◌<◌, ◌≤◌, Bool, true, false, List, [], ◌∷◌, ◌++◌, length, slice_range, codes, refl, sym, ap, ◌∙◌, subst, arith, ⊎_elim, ◌⊎◌, inl, inr, eqb, not, drop, append_assoc, append-nil, length-append, length-drop}
 use Rattle.std.proofs.lemmas.Str.{encode_ascii, encodes-append}
 use Rattle.std.proofs.lemmas.Bool.{and_parts, eqb-true, or_cases}
 use Rattle.std.proofs.lemmas.Bool.Decides.{nat_tests}
@@ -12,7 +12,6 @@ use Rattle.yf_chars.specs.Chain.Chain.{done, step}
 use Rattle.yf_chars.specs.Chain.One.{one}
 use Rattle.yf_chars.proofs.TextLemmas.{reads_byte, reads_real}
 use Rattle.yf_chars.proofs.SpelledLemmas.{Stands, stands_ascii, stands_char}
-use Rattle.yf_lines.specs.Basic.{SeparateInLine}
 use Rattle.yf_lines.specs.LineText.{AllNb, IsLineText, Follows}
 use Rattle.yf_lines.specs.LineText.Follows.{byte_follows}
 use Rattle.yf_lines.proofs.ClearLemmas.{spelled_join}
@@ -20,12 +19,12 @@ use Rattle.yf_lines.proofs.RestLemmas.{follows_code, line_append, line_ascii, li
 use Rattle.yf_lines.proofs.VisibleLines.{visible_line}
 use Rattle.yf_comments.proofs.SpaceLemmas.{space_in_line}
 use Rattle.yf_plain.proofs.PlainLemmas.{ns_below}
-use Rattle.yf_props.specs.Names.{Handle, Run, Spelled, TagChar, TagPrefix, UriChar}
+use Rattle.yf_props.specs.Names.{Run, TagPrefix}
 use Rattle.yf_props.specs.Names.Spelled.{as_itself, as_escape}
 use Rattle.yf_props.specs.Names.TagPrefix.{local_prefix, global_prefix}
 use Rattle.yf_props.specs.Written.{AllOf, IsHandle, IsSpelled, nothing_spelled, itself_spelled, escape_spelled}
 use Rattle.yf_props.proofs.NamesBack.{escape_back, itself_back, run_back, run_end, spelled_back}
-use Rattle.yf_props.proofs.NamesMade.{RunText, Stretch, handle_made, low_bytes, many_each, many_some, many_stretch, run_made, spelled_made, stretch_char, stretch_nothing, stretch_slice}
+use Rattle.yf_props.proofs.NamesMade.{RunText, Stretch, handle_made, low_bytes, many_each, many_some, many_stretch, run_made, spelled_made, stretch_char, stretch_slice}
 use Rattle.yf_props.proofs.PropsBack.{handle_back}
 use Rattle.yf_props.proofs.PropsLines.{handle_line, mark_line, spelled_line}
 use Rattle.yf_props.proofs.SolidLemmas.{tag_solid, uri_solid}
@@ -164,7 +163,7 @@ nb_of_ns : (c : ℕ) → is_ns_char c ≡ true → is_nb_char c ≡ true
 unfolding is_ns_char
 nb_of_ns c e = (and_parts (is_nb_char c) (not (is_white c)) e).0
 
-all_nb : {p : ℕ → Bool} → ((c : ℕ) → p c ≡ true → is_nb_char c ≡ true) → (cs : List ℕ) → AllOf p cs → AllNb cs
+pub all_nb : {p : ℕ → Bool} → ((c : ℕ) → p c ≡ true → is_nb_char c ≡ true) → (cs : List ℕ) → AllOf p cs → AllNb cs
 all_nb f [] a = tt
 all_nb f (c ∷ cs) a = (f c a.0, all_nb f cs a.1)
 

@@ -21,6 +21,7 @@ pub mod FeedLemmas
 pub mod FlagLemmas
 pub mod FlowFits
 pub mod FormLemmas
+pub mod FormatsRead
 pub mod GapLemmas
 pub mod GapsFit
 pub mod IndexLemmas
@@ -36,8 +37,10 @@ pub mod LineUtf8
 pub mod MarksOrder
 pub mod MeasuredLemmas
 pub mod NodePlaces
+pub mod NodeTrails
 pub mod NodesMade
 pub mod NormalLemmas
+pub mod NormalRestyled
 pub mod OffsetLemmas
 pub mod OneLineRuns
 pub mod PassLemmas
@@ -54,9 +57,11 @@ pub mod RowEnds
 pub mod PrintLemmas
 pub mod QuotedFits
 pub mod RowTexts
+pub mod RowTrails
 pub mod RowsUtf8
 pub mod RunLemmas
 pub mod ScalarsMade
+pub mod SameContent
 pub mod SeenTexts
 pub mod SettledLemmas
 mod ShownComments

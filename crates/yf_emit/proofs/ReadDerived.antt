@@ -1,6 +1,6 @@
 -- Each node that is derived is a tree that is read: its plain scalars were ones in their contexts, and its literal and folded ones have
 -- the lines of their texts.
-use Rattle.std.proofs.Common.{◌≡◌, ℕ, ◌+◌, ℤ, Bool, true, false, true≢false, List, [], ◌++◌, Option, Some, None, refl, sym, encode_utf8_all}
+use Rattle.std.proofs.Common.{◌≡◌, ℕ, ◌+◌, ℤ, Bool, true, false, true≢false, List, [], ◌++◌, Some, None, refl, sym, arith, encode_utf8_all}
 use Rattle.std.specs.Prelude.{◌||◌}
 use Rattle.std.specs.Str.{IsUtf8}
 use Rattle.yf_chars.specs.declared.context.Ctx.{Ctx}
@@ -11,7 +11,7 @@ use Rattle.yf_plain.specs.Plain.{PlainText}
 use Rattle.yf_plain.proofs.KeptLemmas.{plain_kept}
 use Rattle.yf_quoted.specs.Quoted.{text_of, bad_escapes}
 use Rattle.yf_block_scalar.specs.Content.{content_of}
-use Rattle.yf_props.specs.Names.{Alias, PropertiesValue}
+use Rattle.yf_props.specs.Names.{Alias}
 use Rattle.yf_props.specs.Props.{no_props}
 use Rattle.yf_props.proofs.NamesMade.{alias_made, props_made}
 use Rattle.yf_events.specs.declared.event.ScalarStyle.{ScalarStyle}
@@ -31,22 +31,22 @@ use Rattle.yf_emit.proofs.PropsFits.{props_some}
 use Rattle.yf_emit.proofs.ReadParts.{NodeRead, PairRead, EntryRead, an_item, a_pair, EntriesRead, spanned, some_span, node_behind, node_noting, pair_behind, entry_noting, entries_behind, node_entering, nothing_read, pair_of, last_of, more_of, none_of, collection_read, node_with}
 
 -- in a flow collection a node is known to be so; elsewhere nothing is asked
-abbrev pub ReadClaim : Production → Meaning → Type 0
-ReadClaim (FlowNode n c) x = is_block c ≡ false → (b : Bool) → (b ≡ true → is_inside c ≡ true) → NodeRead b x
-ReadClaim (NodeOf json n c) x = is_block c ≡ false → (b : Bool) → (b ≡ true → is_inside c ≡ true) → NodeRead b x
-ReadClaim (JsonContent n c) x = is_block c ≡ false → (b : Bool) → (b ≡ true → is_inside c ≡ true) → NodeRead b x
-ReadClaim (KeyOf json c) x = is_block c ≡ false → (b : Bool) → (b ≡ true → is_inside c ≡ true) → NodeRead b x
-ReadClaim (Entries s n c) x = is_inside c ≡ true → (b : Bool) → EntriesRead b s x
-ReadClaim (Entry s n c) x = is_inside c ≡ true → (b : Bool) → EntryRead b s x
-ReadClaim (Pair n c) x = is_inside c ≡ true → (b : Bool) → PairRead b x
-ReadClaim (Explicit n c s) x = is_inside c ≡ true → (b : Bool) → PairRead b x
-ReadClaim (Implicit n c s) x = is_inside c ≡ true → (b : Bool) → PairRead b x
-ReadClaim (ValueOf json n c) x = is_inside c ≡ true → (b : Bool) → NodeRead b x
-ReadClaim (BlockNode n c) x = NodeRead false x
-ReadClaim (BlockEntries s m) x = EntriesRead false s x
-ReadClaim (BlockEntry s m) x = EntryRead false s x
-ReadClaim (BlockIndented m c) x = NodeRead false x
-ReadClaim (BlockValue m) x = NodeRead false x
+abbrev pub ReadClaim : ℕ → Production → Meaning → Type 0
+ReadClaim h (FlowNode n c) x = is_block c ≡ false → (b : Bool) → (b ≡ true → is_inside c ≡ true) → NodeRead h b x
+ReadClaim h (NodeOf json n c) x = is_block c ≡ false → (b : Bool) → (b ≡ true → is_inside c ≡ true) → NodeRead h b x
+ReadClaim h (JsonContent n c) x = is_block c ≡ false → (b : Bool) → (b ≡ true → is_inside c ≡ true) → NodeRead h b x
+ReadClaim h (KeyOf json c) x = is_block c ≡ false → (b : Bool) → (b ≡ true → is_inside c ≡ true) → NodeRead h b x
+ReadClaim h (Entries s n c) x = is_inside c ≡ true → (b : Bool) → EntriesRead h b s x
+ReadClaim h (Entry s n c) x = is_inside c ≡ true → (b : Bool) → EntryRead h b s x
+ReadClaim h (Pair n c) x = is_inside c ≡ true → (b : Bool) → PairRead h b x
+ReadClaim h (Explicit n c s) x = is_inside c ≡ true → (b : Bool) → PairRead h b x
+ReadClaim h (Implicit n c s) x = is_inside c ≡ true → (b : Bool) → PairRead h b x
+ReadClaim h (ValueOf json n c) x = is_inside c ≡ true → (b : Bool) → NodeRead h b x
+ReadClaim h (BlockNode n c) x = NodeRead h false x
+ReadClaim h (BlockEntries s m) x = EntriesRead h false s x
+ReadClaim h (BlockEntry s m) x = EntryRead h false s x
+ReadClaim h (BlockIndented m c) x = NodeRead h false x
+ReadClaim h (BlockValue m) x = NodeRead h false x
 
 -- Contexts.
 
@@ -71,24 +71,25 @@ nowhere b e = absurd (true≢false (sym e))
 
 -- Leaves.
 
-scalar_read : {b : Bool} (style : ScalarStyle) (text bad : List ℕ) (i j : ℕ) → IsUtf8 text → ReadText b style text [] → NodeRead b (scalar style text bad i j)
+scalar_read : {b : Bool} (style : ScalarStyle) (text bad : List ℕ) (i j : ℕ) → IsUtf8 text → ReadText b style text [] → NodeRead 0 b (scalar style text bad i j)
 unfolding scalar plain_event
-scalar_read style text bad i j u r = record { node = scalar_tree (spanned i j) no_props style text []; events = refl; read = read_scalar (some_span i j) no_fit_props u r }
+scalar_read style text bad i j u r = record { node = scalar_tree (spanned i j) no_props style text []; low = omega arith; events = refl; read = read_scalar (some_span i j) no_fit_props u r }
 
 module _ {t : List ℕ} (u : IsUtf8 t) where
-  alias_read : {b : Bool} {i j : ℕ} {name : List ℕ} → Alias t i j name → NodeRead b (alias_to name i j)
+  alias_read : {b : Bool} {i j : ℕ} {name : List ℕ} → Alias t i j name → NodeRead 0 b (alias_to name i j)
   unfolding alias_to plain_event
-  alias_read {i = i} {j = j} {name = name} a = record { node = alias_tree (spanned i j) name; events = refl; read = read_alias (some_span i j) (alias_made u a) }
+  alias_read {i = i} {j = j} {name = name} a = record { node = alias_tree (spanned i j) name; low = omega arith; events = refl; read = read_alias (some_span i j) (alias_made u a) }
 
   plain_read : {n : ℤ} {c : Ctx} {i j : ℕ} {x : List ℕ} (b : Bool) → (b ≡ true → is_inside c ≡ true) → PlainText t n c i j x
-      → NodeRead b (scalar Plain (encode_utf8_all x) [] i j)
+      → NodeRead 0 b (scalar Plain (encode_utf8_all x) [] i j)
   plain_read {i = i} {j = j} {x = x} b m p =
       scalar_read Plain (encode_utf8_all x) [] i j (plain_utf8 p)
       (record { stays = λ d k e s. plain_kept d u p (record { flow = k; inside = λ h. m (e h) }) s })
 
-  block_read : {n : ℤ} {i j : ℕ} {x : Meaning} → BlockScalar t n i j x → NodeRead false x
+  block_read : {n : ℤ} {i j : ℕ} {x : Meaning} → BlockScalar t n i j x → NodeRead 0 false x
   block_read {i = i} (block_scalar {e = e} {h = h} {b = v} a d g) = record {
     node = scalar_tree (spanned i e) no_props (style_of h.header.folded) text (kept_lines h.header.folded v.lines);
+    low = omega arith;
     events = refl;
     read = read_scalar (some_span i e) no_fit_props (block_utf8 u d) (by h.header.folded (λ k. read_block_fits u d k));
   } where
@@ -101,7 +102,7 @@ module _ {t : List ℕ} (u : IsUtf8 t) where
 
   -- Nodes.
 
-  pub reads : {h i j : ℕ} {p : Production} {x : Meaning} → Derives t h p i j x → ReadClaim p x
+  pub reads : {h i j : ℕ} {p : Production} {x : Meaning} → Derives t h p i j x → ReadClaim h p x
   reads (flow_node d) = λ k b m. reads d k b m
   reads (an_alias f a) = λ k b m. alias_read a
   reads (a_plain p) = λ k b m. plain_read b m p
@@ -125,14 +126,14 @@ module _ {t : List ℕ} (u : IsUtf8 t) where
   reads (an_explicit_entry {cs = cs} e s d) = λ k b. a_pair (pair_behind cs (reads d k b))
   reads (an_implicit_entry d) = λ k b. a_pair (reads d k b)
   reads (an_explicit_pair {cs = cs} e s d) = λ k b. pair_behind cs (reads d k b)
-  reads (a_keyed_pair {i = i} {k = g} d v) = λ k b. pair_of (node_entering i (Some g) (reads d refl b (λ _. refl))) (reads v k b)
-  reads (an_unkeyed_pair {i = i} v) = λ k b. pair_of (node_entering i (Some i) (nothing_read b i)) (reads v k b)
+  reads (a_keyed_pair {i = i} {k = g} d v) = λ k b. pair_of (node_entering i (Some g) (reads d refl b (λ _. refl))) (reads v k b) (omega arith)
+  reads (an_unkeyed_pair {i = i} v) = λ k b. pair_of (node_entering i (Some i) (nothing_read b i)) (reads v k b) (omega arith)
   reads (explicit_with d) = λ k b. reads d k b
-  reads (explicit_without {s = s} f) = λ k b. pair_of (node_entering s None (nothing_read b (s + 1))) (nothing_read b (s + 1))
-  reads (key_alone {s = s} {c = c} {x = x} d) = λ k b. pair_of (node_entering s None (reads d (inside_flow c k) b (λ _. k))) (nothing_read b x.finish)
+  reads (explicit_without {s = s} f) = λ k b. pair_of (node_entering s None (nothing_read b (s + 1))) (nothing_read b (s + 1)) (omega arith)
+  reads (key_alone {s = s} {c = c} {x = x} d) = λ k b. pair_of (node_entering s None (reads d (inside_flow c k) b (λ _. k))) (nothing_read b x.finish) (omega arith)
   reads (key_and_value {s = s} {k = g} {c = c} {cs = cs} d o v) = λ k b.
-      pair_of (node_noting cs (node_entering s (Some g) (reads d (inside_flow c k) b (λ _. k)))) (reads v k b)
-  reads (value_alone {s = s} {i = i} v) = λ k b. pair_of (node_entering s (Some i) (nothing_read b i)) (reads v k b)
+      pair_of (node_noting cs (node_entering s (Some g) (reads d (inside_flow c k) b (λ _. k)))) (reads v k b) (omega arith)
+  reads (value_alone {s = s} {i = i} v) = λ k b. pair_of (node_entering s (Some i) (nothing_read b i)) (reads v k b) (omega arith)
   reads (empty_value {i = i} f e o) = λ k b. nothing_read b (i + 1)
   reads (a_value {c = c} cs e o s d) = λ k b. node_behind cs (reads d (inside_flow c k) b (λ _. k))
   reads (a_key d s o) = λ k b m. reads d k b m
@@ -146,10 +147,10 @@ module _ {t : List ℕ} (u : IsUtf8 t) where
   reads (a_last_entry d) = last_of (reads d)
   reads (an_entry_before d s e) = more_of (reads d) (reads e)
   reads (a_dash_entry {i = i} e n d) = an_item (node_entering i None (reads d))
-  reads (an_explicit_entry_with {m = m} {i = i} {k = k} e w d c r) = a_pair (pair_of (node_entering i (Some (k + m)) (reads d)) (reads r))
-  reads (an_explicit_key_alone {i = i} {x = x} e w d c) = a_pair (pair_of (node_entering i None (reads d)) (nothing_read false x.finish))
-  reads (a_keyed_entry {i = i} {k = k} d v) = a_pair (pair_of (node_entering i (Some k) (reads d refl false (nowhere false))) (reads v))
-  reads (an_unkeyed_entry {i = i} v) = a_pair (pair_of (node_entering i (Some i) (nothing_read false i)) (reads v))
+  reads (an_explicit_entry_with {m = m} {i = i} {k = k} e w d c r) = a_pair (pair_of (node_entering i (Some (k + m)) (reads d)) (reads r) (omega arith))
+  reads (an_explicit_key_alone {i = i} {x = x} e w d c) = a_pair (pair_of (node_entering i None (reads d)) (nothing_read false x.finish) (omega arith))
+  reads (a_keyed_entry {i = i} {k = k} d v) = a_pair (pair_of (node_entering i (Some k) (reads d refl false (nowhere false))) (reads v) (omega arith))
+  reads (an_unkeyed_entry {i = i} v) = a_pair (pair_of (node_entering i (Some i) (nothing_read false i)) (reads v) (omega arith))
   reads (a_block_value e d) = reads d
   reads (an_empty_block_value {i = i} {cs = cs} e d) = node_noting cs (nothing_read false (i + 1))
   reads (a_compact_collection {l = l} {i = i} {x = x} b s d) = collection_read false (i + l) x.finish (reads d)

@@ -1,6 +1,6 @@
 -- Of a tree that is read, the normal form can be laid out and is read again: each node on one line reads back, and each literal or folded
 -- scalar has the lines of its text.
-use Rattle.std.proofs.Common.{◌≡◌, ◌≢◌, ℕ, Bool, true, false, true≢false, not, ◌&&◌, ◌||◌, List, [], ◌∷◌, length, chars, refl, sym, ap, ◌∙◌, subst}
+use Rattle.std.proofs.Common.{◌≡◌, ◌≢◌, ℕ, Bool, true, false, true≢false, not, ◌&&◌, List, [], ◌∷◌, chars, refl, sym, ap, ◌∙◌, subst}
 use Rattle.std.specs.Prelude.{is_some, if◌then◌else◌}
 use Rattle.std.specs.Str.{IsUtf8}
 use Rattle.std.proofs.lemmas.Bool.{and_parts, or_right}
@@ -15,14 +15,13 @@ use Rattle.yf_props.specs.Written.{IsProps}
 use Rattle.yf_quoted.specs.Written.{quotes_for}
 use Rattle.yf_events.specs.declared.event.ScalarStyle.{ScalarStyle}
 use Rattle.yf_events.specs.declared.event.ScalarStyle.TheVariants.{Plain, Single, Double, Literal, Folded}
-use Rattle.yf_events.specs.Tree.{Standing, Node, scalar, alias, sequence, mapping, Items, no_items, item, Pairs, no_pairs, pair}
-use Rattle.yf_grammar.specs.Grammar.{in_flow}
+use Rattle.yf_events.specs.Tree.{Standing, Node, scalar, sequence, mapping, Items, item, Pairs, pair}
 use Rattle.yf_grammar.proofs.FlowStarts.{in_flow_not_block}
 use Rattle.yf_emit.specs.FitFlows.{FitFlow, flow_leaf, flow_no_items, flow_no_pairs, flow_sequence, flow_mapping, FitFlowItems, flow_last_item, flow_item, FitFlowPairs, flow_last_pair, flow_pair}
-use Rattle.yf_emit.specs.Fits.{InlineNode, is_inline, FitProps, no_fit_props, some_fit_props, FitScalar, Fit, fit_nothing, fit_line, fit_scalar, fit_sequence, fit_mapping, FitItems, fit_no_items, fit_item, FitPairs, fit_no_pairs, fit_pair}
+use Rattle.yf_emit.specs.Fits.{InlineNode, is_inline, FitProps, FitScalar, Fit, fit_nothing, fit_line, fit_scalar, fit_sequence, fit_mapping, FitItems, fit_no_items, fit_item, FitPairs, fit_no_pairs, fit_pair}
 use Rattle.yf_emit.specs.Kept.{may_be_kept, items_may_be_kept, pairs_may_be_kept, scalar_may_be_kept, has_comment}
 use Rattle.yf_emit.specs.Normal.{Setting, Spot, styled, styled_items, styled_pairs, fits, settled, settled_items, settled_pairs, inner_spot, key_spot, value_spot}
-use Rattle.yf_emit.specs.OneLine.{bare, spaced, props_text, written}
+use Rattle.yf_emit.specs.OneLine.{spaced, props_text, written}
 use Rattle.yf_emit.specs.ReadTrees.{ReadPlain, ReadText, ReadNode, read_nothing, read_props, read_scalar, read_alias, read_sequence, read_mapping, ReadItems, read_no_items, read_item, ReadPairs, read_no_pairs, read_pair}
 use Rattle.yf_emit.specs.Wanted.{has_block_content, lines_in, quoted_in, style_in, wanted}
 use Rattle.yf_emit.specs.Rows.{is_empty_text}

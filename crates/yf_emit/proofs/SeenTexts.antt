@@ -1,12 +1,12 @@
 -- Texts that begin with a visible character other than #, as no comment and no blank line does.
-use Rattle.std.proofs.Common.{◌≡◌, ◌≢◌, ℕ, pos, ◌<◌, ◌≤◌, Bool, true, false, ◌&&◌, not, List, [], ◌∷◌, ◌++◌, encode_utf8, take, drop, refl, sym, ap, ◌∙◌, subst, arith, append_assoc, append-nil, Option, Some, None}
+use Rattle.std.proofs.Common.{◌≡◌, ◌≢◌, ℕ, pos, ◌<◌, ◌≤◌, Bool, true, false, List, [], ◌∷◌, ◌++◌, encode_utf8, drop, refl, sym, ap, ◌∙◌, subst, arith, append_assoc, append-nil, Option, Some, None}
 use Rattle.std.proofs.lemmas.List.{take-append-drop}
 use Rattle.std.proofs.lemmas.Bool.Decides.{nat_tests}
 use Rattle.std.proofs.lemmas.Str.{encode_ascii}
 use Rattle.std.specs.Str.{IsUtf8}
 use Rattle.yf_chars.specs.declared.context.Ctx.{Ctx}
 use Rattle.yf_chars.specs.Class.{is_between, is_break_char, is_nb_char, is_ns_char, is_printable, is_white}
-use Rattle.yf_chars.specs.Text.{code, next, Reads}
+use Rattle.yf_chars.specs.Text.{code, next}
 use Rattle.yf_chars.proofs.TextLemmas.{reads_real}
 use Rattle.yf_lines.specs.Basic.{is_block}
 use Rattle.yf_lines.specs.LineText.Follows.{nothing_follows}

@@ -3,14 +3,19 @@ use Rattle.std.proofs.Common.{◌≡◌, true, false, List, [], ◌∷◌, None,
 use Rattle.std.specs.Str.{chars}
 use Rattle.yf_chars.specs.Class.{is_between, is_white}
 use Rattle.yf_chars.specs.Text.{begins, code}
+use Rattle.yf_comments.specs.GapLines.{IsRemark}
 use Rattle.yf_props.specs.Props.{no_props}
 use Rattle.yf_events.specs.Tree.{DocumentTree, scalar, flat_stream}
 use Rattle.yf_events.specs.declared.event.ScalarStyle.TheVariants.{Literal}
 use Rattle.yf_events.specs.declared.lists.Lists.{Lists}
+use Rattle.yf_emit.specs.Carried.{TrailsFit}
 use Rattle.yf_emit.specs.Decorated.{blank, remark as own_line, first_gap, row_decos, rows_of, decorated}
+use Rattle.yf_emit.specs.Layout.{source_of}
 use Rattle.yf_emit.specs.Rows.{Row}
 use Rattle.yf_emit.specs.SameComments.{kept}
 use Rattle.yf_emit.proofs.Examples.{house, at, key, word, block_pairs, one_document, root, remark, lists_of}
+use Rattle.yf_emit.proofs.RowLeaves.{leaves_on}
+use Rattle.yf_emit.proofs.TrailChoice.{rising}
 
 -- the normal reading of "# top\na: x  # c \n\n# d\nb: |\n  y\n"
 
@@ -55,3 +60,12 @@ shown_bytes = refl
 shown_kept : kept small_lists ≡ (codes "# top", (0, 0)) ∷ (codes "# c", (1, 2)) ∷ (codes "# d", (1, 2)) ∷ []
 unfolding is_white is_between chars begins code lib.Utf8.encode
 shown_kept = refl
+
+-- one comment at most trails each row
+shown_trails : IsRemark (codes "# c") → TrailsFit (source_of small_lists small_rows) small_rows
+unfolding is_white is_between chars begins code lib.Utf8.encode
+shown_trails a = (tt, (a, (tt, tt)))
+
+shown_rising : rising (leaves_on small_rows) ≡ true
+unfolding is_white is_between chars begins code lib.Utf8.encode
+shown_rising = refl

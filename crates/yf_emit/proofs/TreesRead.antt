@@ -1,5 +1,5 @@
 -- The trees of a reading are trees as they are read, so the documents of its normal form can be laid out and are read again.
-use Rattle.std.proofs.Common.{◌≡◌, ℕ, ◌+◌, Bool, true, false, List, [], map, refl, sym, ap, ◌∙◌, subst, append-nil}
+use Rattle.std.proofs.Common.{◌≡◌, ℕ, ◌+◌, ◌≤◌, Bool, true, false, List, [], map, sym, ◌∙◌, subst, append-nil}
 use Rattle.std.specs.Str.{IsUtf8}
 use Rattle.yf_comments.specs.Comment.{CommentValue}
 use Rattle.yf_events.proofs.TreeLemmas.{node_unique, trees_unique}
@@ -9,8 +9,9 @@ use Rattle.yf_events.specs.declared.directive.Directive.{Directive}
 use Rattle.yf_events.specs.declared.lists.Lists.{Lists}
 use Rattle.yf_events.specs.Tree.{Node, Items, Pairs, DocumentTree, TreesOf, flat}
 use Rattle.yf_grammar.specs.Meaning.{Meaning}
+use Rattle.yf_grammar.specs.Meant.{tall}
 use Rattle.yf_stream.specs.ReadingOf.{ReadingOf, doc_of}
-use Rattle.yf_stream.specs.Stream.{AnyDocument, Directives, Document, ExplicitNode, document_of}
+use Rattle.yf_stream.specs.Stream.{AnyDocument, Document, ExplicitNode, document_of}
 use Rattle.yf_stream.specs.Stream.AnyDocument.{bare_document, directive_document, explicit_document}
 use Rattle.yf_stream.specs.Stream.ExplicitNode.{marked_node, marked_nothing}
 use Rattle.yf_stream.proofs.ReadingTrees.{TreesMeant, no_trees_meant, tree_meant, reading_stands}
@@ -45,28 +46,30 @@ mutual
 -- Documents.
 
 -- what is known of a document that is derived
-record DocumentRead (d : Document) : Type 0 where
-  node : Node
-  events : d.events ≡ flat node
-  read : ReadNode false node
-  directives : FitDirectives d.directives
+pub record DocumentRead (h : ℕ) (d : Document) : Type 0 where
+  pub node : Node
+  pub low : tall node ≤ h
+  pub events : d.events ≡ flat node
+  pub read : ReadNode false node
+  pub directives : FitDirectives d.directives
+
+-- events are those of one tree at most
+pub same_node : {es : List Placed} {x y : Node} → es ≡ flat x → es ≡ flat y → x ≡ y
+same_node {x = x} {y = y} e f = (node_unique x y [] [] (append-nil (flat x) ∙ (sym e ∙ (f ∙ sym (append-nil (flat y)))))).0
 
 module _ {t : List ℕ} (u : IsUtf8 t) where
-  explicit_read : {h i j : ℕ} {x : Meaning} → ExplicitNode t h i j x → NodeRead false x
+  explicit_read : {h i j : ℕ} {x : Meaning} → ExplicitNode t h i j x → NodeRead h false x
   explicit_read (marked_node e n) = reads u n.derived
   explicit_read (marked_nothing {i = i} {cs = cs} e d) = node_noting cs (nothing_read false (i + 3))
 
-  document_with : {x : Meaning} (i : ℕ) (marked : Bool) (ds : List Directive) → FitDirectives ds → NodeRead false x → DocumentRead (document_of i marked ds x)
+  document_with : {h : ℕ} {x : Meaning} (i : ℕ) (marked : Bool) (ds : List Directive) → FitDirectives ds → NodeRead h false x → DocumentRead h (document_of i marked ds x)
   unfolding document_of
-  document_with i marked ds f a = record { node = a.node; events = a.events; read = a.read; directives = f }
+  document_with i marked ds f a = record { node = a.node; low = a.low; events = a.events; read = a.read; directives = f }
 
-  document_read : {h i j : ℕ} {d : Document} {cs : List CommentValue} → AnyDocument t h i j d cs → DocumentRead d
+  pub document_read : {h i j : ℕ} {d : Document} {cs : List CommentValue} → AnyDocument t h i j d cs → DocumentRead h d
   document_read (bare_document {k = k} n c) = document_with k false [] fit_no_directives (reads u n.derived)
   document_read (explicit_document {i = i} e) = document_with i true [] fit_no_directives (explicit_read e)
   document_read (directive_document {k = k} {ds = ds} d e) = document_with k true ds.directives (directives_fit u d) (explicit_read e)
-
-  same_node : {es : List Placed} {x y : Node} → es ≡ flat x → es ≡ flat y → x ≡ y
-  same_node {x = x} {y = y} e f = (node_unique x y [] [] (append-nil (flat x) ∙ (sym e ∙ (f ∙ sym (append-nil (flat y)))))).0
 
   documents_fit : {h : ℕ} {ds : List Document} {trees : List DocumentTree} (s : List ℕ) (c : Setting) → DocumentsDerived t h ds → TreesMeant ds trees
       → FitDocuments (map doc_of ds) (map (normal_document s c) trees)

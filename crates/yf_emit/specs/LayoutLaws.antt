@@ -1,5 +1,5 @@
 -- The laws of layouts, each with the plain sentence that it stands for. `proofs/LayoutLawsHold.antt` proves them.
-use Rattle.std.specs.Prelude.{◌≡◌, ℕ, ◌≤◌, List, [], ◌++◌, map}
+use Rattle.std.specs.Prelude.{◌≡◌, ℕ, ◌≤◌, List, ◌++◌, map}
 use Rattle.std.specs.Str.{IsUtf8}
 use Rattle.yf_comments.specs.Comment.{CommentValue}
 use Rattle.yf_comments.specs.GapLines.{remarks_of}

@@ -10,6 +10,7 @@ pub mod Fits
 pub mod Decorated
 pub mod Drafts
 pub mod Format
+pub mod FormatLaws
 pub mod Formatted
 pub mod Forms
 pub mod ImplicitKeys
@@ -36,6 +37,7 @@ pub mod Restyled
 pub mod RowShapes
 pub mod Rows
 pub mod SameComments
+pub mod StillLeaves
 pub mod Textual
 pub mod Trailing
 pub mod TrailsOf

@@ -1,3 +1,4 @@
+pub mod BreachLemmas
 pub mod CommentTexts
 pub mod DirectiveLaws
 pub mod DirectiveLineLemmas
@@ -16,6 +17,7 @@ pub mod PlaceLawsHold
 pub mod PrefixLemmas
 pub mod ReadingOrder
 pub mod ReadingTrees
+pub mod SameTags
 pub mod ShownEmpty
 pub mod ShownItem
 pub mod ShownLaws

@@ -57,7 +57,7 @@ tag_text_one (shorthand_text {prefix = p} {x = x} e a) (shorthand_text {prefix =
     ap (λ w. w ++ x) same ∙ ap (λ w. q ++ w) (suffix_one a b)
 tag_text_one non_specific_text non_specific_text = refl
 
-tags_one : {ds : List Declaration} {es : List Placed} {x y : List (Option (List ℕ))} → EventTags ds es x → EventTags ds es y → x ≡ y
+pub tags_one : {ds : List Declaration} {es : List Placed} {x y : List (Option (List ℕ))} → EventTags ds es x → EventTags ds es y → x ≡ y
 tags_one no_event no_event = refl
 tags_one (untagged e r) (untagged f s) = ap (λ w. None ∷ w) (tags_one r s)
 tags_one (untagged e r) (tagged f a s) = absurd (no_some (sym e ∙ f))

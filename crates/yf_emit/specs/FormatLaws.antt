@@ -1,0 +1,33 @@
+-- The laws of what formatting gives, each with the plain sentence that it stands for. `proofs/FormatsRead.antt` and `proofs/SameContent.antt` prove
+-- them. Each asks that at most one comment trails a row of the layout, which is to be proved of readings.
+use Rattle.std.specs.Prelude.{ℕ, List}
+use Rattle.std.specs.Str.{IsUtf8}
+use Rattle.yf_stream.specs.Stream.{Documents}
+use Rattle.yf_stream.specs.WellFormed.{Reads}
+use Rattle.yf_emit.specs.declared.style.Style.{Style}
+use Rattle.yf_emit.specs.Carried.{TrailsFit}
+use Rattle.yf_emit.specs.Decorated.{rows_of}
+use Rattle.yf_emit.specs.FitDocuments.{DocumentsMeant}
+use Rattle.yf_emit.specs.Format.{Formats}
+use Rattle.yf_emit.specs.Laws.{HasSameContent}
+use Rattle.yf_emit.specs.Layout.{source_of}
+
+-- one comment at most trails each row of the layout
+abbrev pub TrailsFitIn : {t : List ℕ} {s : Style} {u : List ℕ} → Formats t s u → Type 0
+TrailsFitIn {s = s} f = TrailsFit (source_of f.normal (rows_of f.normal s f.writes.trees)) (rows_of f.normal s f.writes.trees)
+
+-- u is a text that means one thing within the limit of open collections and breaks no rule of streams, and its documents mean the trees of the
+-- normal form, with their directives.
+pub record WellFormed {t : List ℕ} {s : Style} {u : List ℕ} (f : Formats t s u) : Type 0 where
+  pub utf8 : IsUtf8 u
+  pub documents : Documents
+  pub reads : Reads u documents
+  pub meant : DocumentsMeant f.normal.documents f.writes.trees documents.documents
+
+-- What formatting gives is a well-formed stream.
+abbrev pub FormatsAreWellFormed : Type 0
+FormatsAreWellFormed = (t u : List ℕ) (s : Style) → IsUtf8 t → (f : Formats t s u) → TrailsFitIn f → WellFormed f
+
+-- And it has the same content.
+abbrev pub FormatsKeepContent : Type 0
+FormatsKeepContent = (t u : List ℕ) (s : Style) → IsUtf8 t → (f : Formats t s u) → TrailsFitIn f → HasSameContent t u
