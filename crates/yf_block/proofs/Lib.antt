@@ -5,6 +5,7 @@ pub mod TiedNodes
 pub mod TiedReads
 pub mod TiedResume
 pub mod TiedResumed
+mod TiedShown
 pub mod LookLemmas
 pub mod NotingLemmas
 pub mod EntryLineLemmas

@@ -77,7 +77,7 @@ pub record AtLine (t : List ℕ) (d : ℕ) (root : BlockTask) (before : Part) (f
   pub node : NodeAt t d root layers room comments (Below indentation context ahead progress.from) halt
   pub line : Chosen (LineEnd t progress.from) p told
   pub first : progress.first ≡ true → progress.from ≡ p
-  pub not_first : progress.first ≡ false → progress.from ≡ p → ⊥
+  pub not_first : progress.first ≡ false → progress.from ≡ p → p ≡ length t
   pub wanted : WantedTied t progress.floor layers indentation context ahead progress.wanted
   pub last : (i : ℕ) → ahead ≡ Indicator i → progress.last ≡ i
   pub stack : StackTied (length before.events) layers frames progress
