@@ -1,20 +1,43 @@
 -- What ties the reader's stack to the recursive reader of block nodes: of each frame the collection that it stands for, and the flat
--- lists of events, comments and escapes that have been written so far.
-use Rattle.std.specs.Prelude.{◌≡◌, ℕ, Bool, true, false, List, [], ◌∷◌, length, Some, None}
+-- lists of events, comments and escapes that have been written so far, after those of the part to which they are added.
+use Rattle.std.specs.Prelude.{◌≡◌, ℕ, ◌+◌, ◌<◌, Bool, true, false, List, [], ◌∷◌, ◌++◌, length, Option, Some, None}
+use Rattle.yf_comments.specs.Comment.{CommentValue}
+use Rattle.yf_comments.specs.Comments.{Blank}
+use Rattle.yf_props.specs.Props.{PropsValue, no_props}
 use Rattle.yf_events.specs.Event.{Placed}
+use Rattle.yf_events.specs.declared.event.Entry as TheEntry
 use Rattle.yf_events.specs.declared.part.Part.{Part}
-use Rattle.yf_grammar.specs.Meaning.{Meaning, ◌⊕◌, behind, plain_event, from_to, start_of, entering, empty_node}
-use Rattle.yf_grammar.specs.Part.{Noting}
+use Rattle.yf_grammar.specs.Meaning.{Meaning, ◌⊕◌, noting, start_of, event_with, entering, empty_node}
+use Rattle.yf_grammar.specs.Part.{Noting, NotedSince, floor_behind}
 use Rattle.yf_grammar.specs.Parser.{only}
-use Rattle.yf_grammar.specs.BlockParser.{headed}
-use Rattle.yf_grammar.specs.BlockStack.{Layer, Stage, AtItem, AtKey, AtLoneValue, AtValue, asks}
+use Rattle.yf_grammar.specs.BlockParser.{Ahead, Props}
+use Rattle.yf_grammar.specs.BlockStack.{Layer, Stage, AtItem, AtKey, AtLoneValue, AtValue, asks, asked}
+use Rattle.yf_grammar.specs.BlockStates.{Deepening}
+use Rattle.yf_flow.specs.Begun.{Added}
 use Rattle.yf_block.specs.declared.frame.Frame.{Frame}
 use Rattle.yf_block.specs.declared.frame.Kind.{Kind}
 use Rattle.yf_block.specs.declared.frame.Kind.TheVariants.{Sequence, Mapping}
+use Rattle.yf_block.specs.declared.frame.Progress.{Progress}
+use Rattle.yf_block.specs.declared.frame.Wanted.{Wanted}
 
 abbrev pub kind_of : Bool → Kind
 kind_of true = Sequence
 kind_of false = Mapping
+
+-- where the entry begins that the awaited node begins, if it begins one: a value does not
+abbrev pub stage_entry : Stage → Option ℕ
+stage_entry (AtItem i) = Some i
+stage_entry (AtKey i) = Some i
+stage_entry (AtLoneValue i) = None
+stage_entry (AtValue i k f) = None
+
+abbrev pub layers_entry : List Layer → Option ℕ
+layers_entry [] = None
+layers_entry (l ∷ ls) = stage_entry l.stage
+
+abbrev pub begins : Option ℕ → Meaning → Meaning
+begins None x = x
+begins (Some i) x = entering i None x
 
 -- what has been written of the present entry before the node that is awaited in it
 abbrev pub stage_written : Stage → Meaning
@@ -23,45 +46,102 @@ stage_written (AtKey i) = only [] 0
 stage_written (AtLoneValue i) = entering i (Some i) (empty_node i)
 stage_written (AtValue i k f) = entering i (Some k) f.meaning
 
--- the awaited node begins the present entry, or is its value
-abbrev pub in_stage : Stage → Meaning → Meaning
-in_stage (AtItem i) x = entering i None x
-in_stage (AtKey i) x = entering i None x
-in_stage (AtLoneValue i) x = x
-in_stage (AtValue i k f) x = x
+-- what stands ahead of a node: its properties with their comments, and where it begins if it would begin at p without them
+abbrev pub ahead_comments : Ahead → List CommentValue
+ahead_comments (Props h) = h.value.comments
+ahead_comments _ = []
 
-abbrev pub in_layers : List Layer → Meaning → Meaning
-in_layers [] x = x
-in_layers (l ∷ ls) x = in_stage l.stage x
+abbrev pub ahead_props : Ahead → PropsValue
+ahead_props (Props h) = h.value.props
+ahead_props _ = no_props
 
--- the beginning of a collection, while its end is not known
+abbrev pub ahead_tag : Ahead → Option ℕ
+ahead_tag (Props h) = h.value.tag_offset
+ahead_tag _ = None
+
+abbrev pub ahead_start : Ahead → ℕ → ℕ
+ahead_start (Props h) p = h.start
+ahead_start _ p = p
+
+-- an entry that begins at an offset, before its note is filled in
+abbrev pub entry_at : Option ℕ → Option TheEntry.Entry
+entry_at None = None
+entry_at (Some i) = Some (record { start = i; colon = None; blank_before = false })
+
+-- one event; the one that begins a collection, while its end is not known
 abbrev pub one : Placed → Meaning
 one e = record { events = e ∷ []; comments = []; escapes = []; finish = 0 }
 
-abbrev pub begun : Layer → List Layer → Meaning
-begun l ls = behind l.comments (in_layers ls (headed l.ahead (one (plain_event (start_of l.sequence false) (from_to l.first l.first)))))
+abbrev pub begun_event : Layer → Option TheEntry.Entry → Placed
+begun_event l entry = record {
+  event = event_with (ahead_props l.ahead) (start_of l.sequence false);
+  span = Some (record { start = ahead_start l.ahead l.first; end = l.first });
+  tag_offset = ahead_tag l.ahead;
+  entry = entry;
+  folded = [];
+}
 
--- what has been written before the node that is awaited; w was written before the outermost node
-abbrev pub all_written : Meaning → List Layer → Meaning
-all_written w [] = w
-all_written w (l ∷ ls) = all_written w ls ⊕ begun l ls ⊕ l.known ⊕ stage_written l.stage
+-- what has been written up to the entries of a collection before the present one, after what was written before the collection
+abbrev pub entries_behind : Meaning → Layer → List Layer → Meaning
+entries_behind w l ls = noting w (l.comments ++ ahead_comments l.ahead) ⊕ one (begun_event l (entry_at (layers_entry ls))) ⊕ l.known
 
-abbrev pub entries_written : Meaning → Layer → List Layer → Meaning
-entries_written w l ls = all_written w ls ⊕ begun l ls ⊕ l.known
+-- what has been written before the node that is awaited in the innermost collection, from the outermost node on
+abbrev pub all_written : List Layer → Meaning
+all_written [] = only [] 0
+all_written (l ∷ ls) = entries_behind (all_written ls) l ls ⊕ stage_written l.stage
 
-pub record Written (t : List ℕ) (w : Meaning) (part : Part) : Type 0 where
-  pub events : Noting t 0 w.events part.events
-  pub comments : part.comments ≡ w.comments
-  pub escapes : part.escapes ≡ w.escapes
+abbrev pub entries_written : Layer → List Layer → Meaning
+entries_written l ls = entries_behind (all_written ls) l ls
 
--- a frame stands for a collection, and frames for collections, the innermost first
-pub record FrameTied (w : Meaning) (l : Layer) (ls : List Layer) (f : Frame) : Type 0 where
+-- a part has so much more than one before, with the notes of its entries filled in
+pub record Written (t : List ℕ) (before : Part) (x : Meaning) (part : Part) : Type 0 where
+  pub events : List Placed
+  pub noting : Noting t 0 x.events events
+  pub added : Added before part events x.comments x.escapes
+
+-- the end of the last block scalar of some events
+abbrev pub floor_after : ℕ → List Placed → ℕ
+floor_after floor [] = floor
+floor_after floor (e ∷ es) = floor_after (floor_behind floor e e.event) es
+
+-- so much has been read; the last block scalar ends where a line begins, or at the end of the text
+pub record ReadTied (t : List ℕ) (before : Part) (x : Meaning) (progress : Progress) (part : Part) : Type 0 where
+  pub floor : progress.floor ≡ floor_after 0 x.events
+  pub floor_line : progress.floor < length t → Blank t progress.floor
+  pub written : Written t before x part
+
+-- a frame stands for a collection in which an entry is awaited, before which part had m events; for one in which a node is awaited
+pub record CollectionTied (m : ℕ) (l : Layer) (ls : List Layer) (f : Frame) : Type 0 where
   pub kind : f.kind ≡ kind_of l.sequence
   pub column : f.column ≡ l.column
-  pub awaits : f.awaits_colon ≡ asks l.stage
-  pub event : f.event ≡ length (all_written w ls).events
-  pub entry : asks l.stage ≡ true → f.entry_event ≡ length (entries_written w l ls).events
+  pub event : f.event ≡ m + length (all_written ls).events
 
-pub data FramesTied (w : Meaning) : List Frame → List Layer → Type 0 where
-  no_frames : FramesTied w [] []
-  frame_tied : {f : Frame} {fs : List Frame} {l : Layer} {ls : List Layer} → FrameTied w l ls f → FramesTied w fs ls → FramesTied w (f ∷ fs) (l ∷ ls)
+pub record FrameTied (m : ℕ) (l : Layer) (ls : List Layer) (f : Frame) : Type 0 where
+  pub collection : CollectionTied m l ls f
+  pub awaits : f.awaits_colon ≡ asks l.stage
+  pub entry : asks l.stage ≡ true → f.entry_event ≡ m + length (entries_written l ls).events
+
+-- frames for collections, the innermost first
+pub data FramesTied (m : ℕ) : List Frame → List Layer → Type 0 where
+  no_frames : FramesTied m [] []
+  frame_tied : {f : Frame} {fs : List Frame} {l : Layer} {ls : List Layer} → FrameTied m l ls f → FramesTied m fs ls → FramesTied m (f ∷ fs) (l ∷ ls)
+
+-- how many `:` a frame awaits
+abbrev pub colons_if : Bool → ℕ
+colons_if true = 1
+colons_if false = 0
+
+-- the open collections
+pub record StackTied (m : ℕ) (ls : List Layer) (frames : List Frame) (progress : Progress) : Type 0 where
+  pub order : Deepening ls
+  pub frames_tied : FramesTied m frames ls
+  pub colons : progress.colons ≡ length (asked ls)
+
+-- the entry that the awaited node begins, with its note
+pub data EntryTied (t : List ℕ) (floor : ℕ) : Option ℕ → Option TheEntry.Entry → Type 0 where
+  no_entry : EntryTied t floor None None
+  entry_begins : {i : ℕ} {b : Bool} → NotedSince t floor i b → EntryTied t floor (Some i) (Some (record { start = i; colon = None; blank_before = b }))
+
+-- what is awaited after an indicator in a collection at that column
+abbrev pub wanted_after : ℕ → Bool → Bool → Option TheEntry.Entry → Wanted
+wanted_after column compact out entry = record { least = column + 1; out = out; compact = compact; entry = entry; outer = None }

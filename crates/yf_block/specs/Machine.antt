@@ -85,11 +85,6 @@ abbrev pub MayBoundary : List ℕ → Option Plain → Type 0
 MayBoundary t None = Unit {0}
 MayBoundary t (Some plain) = IsCharBoundary t plain.at
 
--- a node is awaited at an offset
-abbrev pub IsNodeAt : ℕ → Step → Type 0
-IsNodeAt p (Node q) = q ≡ p
-IsNodeAt p _ = ⊥
-
 abbrev pub IsEndAt : ℕ → Ending → Type 0
 IsEndAt p (End node) = node.end ≡ p
 IsEndAt p _ = ⊥

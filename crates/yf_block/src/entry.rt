@@ -1,8 +1,15 @@
 //! Block collections and their entries (YAML 1.2.2, section 8.2).
-ghost use Rattle.std.specs.Prelude.{◌≡◌, ◌+◌, ◌^◌, ◌<◌, IfOk};
+ghost use Rattle.std.specs.Prelude.{◌≡◌, ◌≢◌, ℕ, ◌+◌, ◌-◌, ◌^◌, ◌<◌, ◌≤◌, true, false, IfOk, reverse};
 ghost use Rattle.std.specs.List.{All};
 ghost use Rattle.std.specs.Str.{IsCharBoundary};
-ghost use Rattle.yf_block.specs.Machine.{Stepped, ProgressAt, IsNodeAt};
+ghost use Rattle.yf_chars.specs.Text.{code};
+ghost use Rattle.yf_comments.specs.Comments.{Blank};
+ghost use Rattle.yf_grammar.specs.BlockParser.{BlockTask, DashAt, SignAt};
+ghost use Rattle.yf_grammar.specs.Part.{NotedSince};
+ghost use Rattle.yf_block.specs.BlockStepTied.{AtEntry, AtTop, BlockTied, KeyOrTied};
+ghost use Rattle.yf_block.specs.BlockTied.{wanted_after};
+ghost use Rattle.yf_block.specs.Fits.{PairLine};
+ghost use Rattle.yf_block.specs.Machine.{Stepped, ProgressAt};
 
 use crate::frame::{Frame, Frames, Kind, Progress, Scope, Step, Wanted};
 use crate::held::{lead_of, line_properties, place_behind};
@@ -17,7 +24,9 @@ use yf_lines::basic::skip_whites;
 
 /// The entry that begins at an offset.
 pub(crate) fn entry_at(text: &str, floor: usize, start: usize, colon: Option<usize>) -> Entry
-    ensures { result.start ≡ start }
+    ensures start { result.start ≡ start }
+    ensures colon { result.colon ≡ colon }
+    ensures note { (code text.now start ≡ 10 → code text.now (start - 1) ≢ 13) → (floor < start → Blank text.now floor) → NotedSince text.now floor start result.blank_before }
 {
     Entry {
         start,
@@ -83,6 +92,7 @@ pub(crate) fn take_item<'a>(
 ) -> Result<Step, AllocError>
     requires behind { IsCharBoundary text.now (at + 1) }
     requires progress { ProgressAt text.now progress.old }
+    ensures tied { (d : ℕ) → (root : BlockTask) → (before : Part) → (part : Part) → DashAt text.now at → frame.kind ≡ Kind.Sequence → frame.awaits_colon ≡ false → AtEntry text.now d root before (reverse frames.old.items) frame at progress.old part → IfOk result (λ s. KeyOrTied text.now d root before (reverse frames.new.items) s progress.new part) }
     ensures stepped { IfOk result (λ s. Stepped text.now at 0 progress.new s) }
 {
     frames.push(frame)?;
@@ -103,7 +113,10 @@ fn await_node<'a>(
     ensures floor { progress.new.floor ≡ progress.old.floor }
     ensures from { progress.new.from ≡ progress.old.from }
     ensures halt { progress.new.halt ≡ progress.old.halt }
-    ensures step { IsNodeAt (at + 1) result }
+    ensures last { progress.new.last ≡ at + 1 }
+    ensures colons { progress.new.colons ≡ progress.old.colons }
+    ensures wanted { column ≤ at → progress.new.wanted ≡ wanted_after column compact out entry }
+    ensures step { result ≡ Step.Node (at + 1) }
 {
     progress.last = at + 1;
     progress.wanted = Wanted {
@@ -122,13 +135,17 @@ pub(crate) fn await_value<'a>(colon: usize, column: usize, progress: &mut Progre
     ensures floor { progress.new.floor ≡ progress.old.floor }
     ensures from { progress.new.from ≡ progress.old.from }
     ensures halt { progress.new.halt ≡ progress.old.halt }
-    ensures step { IsNodeAt (colon + 1) result }
+    ensures last { progress.new.last ≡ colon + 1 }
+    ensures colons { progress.new.colons ≡ progress.old.colons }
+    ensures wanted { column ≤ colon → progress.new.wanted ≡ wanted_after column false true None }
+    ensures step { result ≡ Step.Node (colon + 1) }
 {
     await_node(colon, false, true, column, None, progress)
 }
 
 /// The value after the `:` of an entry with a `?` (l-block-map-explicit-value, production 191).
 pub(crate) fn take_explicit_value<'a>(
+    _text: &str,
     colon: usize,
     frame: Frame,
     progress: &mut Progress<'a>,
@@ -136,10 +153,11 @@ pub(crate) fn take_explicit_value<'a>(
     part: &mut Part<'a>,
 ) -> Result<Step, AllocError>
     requires { colon + 1 < 2 ^ 64 }
+    ensures tied { (line : ℕ) → (d : ℕ) → (root : BlockTask) → (before : Part) → frame.awaits_colon ≡ true → SignAt _text.now 58 colon → PairLine _text.now line frame colon → AtTop _text.now d root before (reverse frames.old.items) line frame progress.old part.old → IfOk result (λ s. BlockTied _text.now d root before (reverse frames.new.items) s progress.new part.new) }
     ensures floor { IfOk result (λ _. progress.new.floor ≡ progress.old.floor) }
     ensures from { IfOk result (λ _. progress.new.from ≡ progress.old.from) }
     ensures halt { IfOk result (λ _. progress.new.halt ≡ progress.old.halt) }
-    ensures step { IfOk result (λ s. IsNodeAt (colon + 1) s) }
+    ensures step { IfOk result (λ s. s ≡ Step.Node (colon + 1)) }
     ensures escapes { IfOk result (λ _. part.new.escapes ≡ part.old.escapes) }
 {
     part.events.set_colon(frame.entry_event, colon)?;
@@ -189,6 +207,7 @@ pub(crate) fn take_entry<'a>(
     requires boundary { IsCharBoundary scope.text.now at }
     requires progress { ProgressAt scope.text.now progress.old }
     requires escapes { All (IsCharBoundary scope.text.now) part.old.escapes }
+    ensures tied { (d : ℕ) → (root : BlockTask) → (before : Part) → d < 2 ^ 64 → frame.kind ≡ Kind.Mapping → AtEntry scope.entry.text.now d root before (reverse frames.old.items) frame at progress.old part.old → IfOk result (λ s. KeyOrTied scope.entry.text.now d root before (reverse frames.new.items) s progress.new part.new) }
     ensures stepped { IfOk result (λ s. Stepped scope.entry.text.now at 0 progress.new s) }
     ensures escapes { IfOk result (λ _. All (IsCharBoundary scope.entry.text.now) part.new.escapes) }
 {

@@ -1,8 +1,13 @@
 //! After a node, at the start of a line: the next entry of an open collection, or the end of collections.
-ghost use Rattle.std.specs.Prelude.{◌≡◌, IfOk};
+ghost use Rattle.std.specs.Prelude.{◌≡◌, ℕ, ◌-◌, ◌^◌, ◌<◌, ◌++◌, IfOk, IfSome, MatchOption, reverse};
 ghost use Rattle.std.specs.List.{All};
 ghost use Rattle.std.specs.Str.{IsCharBoundary};
-ghost use Rattle.yf_block.specs.Fits.{FitsLine, PlaceTied};
+ghost use Rattle.yf_events.specs.Edit.{edited, ended};
+ghost use Rattle.yf_grammar.specs.BlockParser.{BlockTask};
+ghost use Rattle.yf_block.specs.BlockStepTied.{AtResume, AtDone, AtFit, AtTop, KeyOrTied};
+ghost use Rattle.yf_block.specs.BlockTied.{colons_if};
+ghost use Rattle.yf_block.specs.Closing.{closing};
+ghost use Rattle.yf_block.specs.Fits.{FitsLine, PairLine, PlaceTied};
 ghost use Rattle.yf_block.specs.Machine.{Stepped, ProgressAt, MayPlace, FitsAt};
 
 use crate::entry::{take_entry, take_explicit_value, take_item};
@@ -26,6 +31,13 @@ enum Fit {
     Behind,
 }
 
+// The innermost collection that does not end before a line, and what the line is to it. It is no longer on the stack.
+#[derive(Clone, Copy)]
+struct Next {
+    frame: Frame,
+    fit: Fit,
+}
+
 /// Goes on at the start of a line after a node.
 pub(crate) fn resume<'a>(
     alloc: Global,
@@ -38,24 +50,57 @@ pub(crate) fn resume<'a>(
     requires boundary { IsCharBoundary scope.text.now at }
     requires progress { ProgressAt scope.text.now progress.old }
     requires escapes { All (IsCharBoundary scope.text.now) part.old.escapes }
+    ensures tied { (d : ℕ) → (root : BlockTask) → (before : Part) → d < 2 ^ 64 → AtResume scope.entry.text.now d root before (reverse frames.old.items) at progress.old part.old → IfOk result (λ s. KeyOrTied scope.entry.text.now d root before (reverse frames.new.items) s progress.new part.new) }
     ensures stepped { IfOk result (λ s. Stepped scope.entry.text.now at 0 progress.new s) }
     ensures escapes { IfOk result (λ _. All (IsCharBoundary scope.entry.text.now) part.new.escapes) }
 {
-    let place = entry_place(scope.text, at);
+    match end_collections(alloc, scope.text, at, progress, frames, part)? {
+        None => Ok(Step::Done(at)),
+        Some(Next { frame, fit }) => match fit {
+            Fit::Item(start) => take_item(scope.text, start, frame, progress, frames),
+            Fit::Entry(start) => next_entry(alloc, scope, start, frame, progress, frames, part),
+            Fit::Deeper(start) => Ok(Step::Failed(start)),
+            Fit::Behind => Ok(Step::Failed(at)),
+        },
+    }
+}
+
+// Ends the collections that end before the line at an offset; `None` where all of them do.
+fn end_collections<'a>(
+    alloc: Global,
+    text: &'a str,
+    at: usize,
+    progress: &mut Progress<'a>,
+    frames: &mut Frames,
+    part: &mut Part<'a>,
+) -> Result<Option<Next>, AllocError>
+    requires boundary { IsCharBoundary text.now at }
+    requires progress { ProgressAt text.now progress.old }
+    ensures progress { IfOk result (λ _. ProgressAt text.now progress.new) }
+    ensures places { IfOk result (λ o. IfSome o (λ n. FitsAt text.now at n.fit)) }
+    ensures escapes { IfOk result (λ _. part.new.escapes ≡ part.old.escapes) }
+    ensures tied { (d : ℕ) → (root : BlockTask) → (before : Part) → AtResume text.now d root before (reverse frames.old.items) at progress.old part.old → IfOk result (λ o. MatchOption o (AtDone text.now d root before at part.new) (λ n. AtFit text.now d root before (reverse frames.new.items) at n progress.new part.new)) }
+{
+    let place = entry_place(text, at);
     'frames: while let Some(frame) = frames.pop() {
-        if frame.awaits_colon {
-            progress.colons = progress.colons.saturating_sub(1);
-        }
-        match fit_of(scope.text, at, place, &frame) {
-            Fit::Item(start) => return take_item(scope.text, start, frame, progress, frames),
-            Fit::Entry(start) => {
-                return next_entry(alloc, scope, start, frame, progress, frames, part);
-            }
-            Fit::Deeper(start) => return Ok(Step::Failed(start)),
+        progress.colons = colons_without(&frame, progress.colons);
+        let fit = fit_of(text, at, place, &frame);
+        match fit {
             Fit::Behind => end_collection(alloc, frame, progress.last, part)?,
+            _ => return Ok(Some(Next { frame, fit })),
         }
     }
-    Ok(Step::Done(at))
+    Ok(None)
+}
+
+// How many of so many collections await a `:` when this one is left out.
+fn colons_without(frame: &Frame, colons: usize) -> usize
+    ensures { result ≡ colons - colons_if frame.now.awaits_colon }
+{
+    if frame.awaits_colon {
+        return colons.saturating_sub(1);
+    }
+    colons
 }
 
 // What the line at an offset is to a collection; the place is that of its first character, if an entry may begin there.
@@ -100,14 +145,16 @@ fn next_entry<'a>(
     requires boundary { IsCharBoundary scope.text.now at }
     requires progress { ProgressAt scope.text.now progress.old }
     requires escapes { All (IsCharBoundary scope.text.now) part.old.escapes }
+    ensures tied { (line : ℕ) → (d : ℕ) → (root : BlockTask) → (before : Part) → d < 2 ^ 64 → PairLine scope.entry.text.now line frame at → AtTop scope.entry.text.now d root before (reverse frames.old.items) line frame progress.old part.old → IfOk result (λ s. KeyOrTied scope.entry.text.now d root before (reverse frames.new.items) s progress.new part.new) }
     ensures stepped { IfOk result (λ s. Stepped scope.entry.text.now at 0 progress.new s) }
     ensures escapes { IfOk result (λ _. All (IsCharBoundary scope.entry.text.now) part.new.escapes) }
 {
     if frame.awaits_colon {
         if sign_stands(scope.text, at, b':') {
-            return take_explicit_value(at, frame, progress, frames, part);
+            return take_explicit_value(scope.text, at, frame, progress, frames, part);
         }
         part.events.push(empty_node(alloc, None))?;
+        return take_entry(alloc, scope, at, frame, progress, frames, part);
     }
     take_entry(alloc, scope, at, frame, progress, frames, part)
 }
@@ -119,6 +166,8 @@ fn end_collection<'a>(
     last: usize,
     part: &mut Part<'a>,
 ) -> Result<(), AllocError>
+    ensures events { IfOk result (λ _. part.new.events ≡ edited (ended last) frame.event (part.old.events ++ closing frame)) }
+    ensures comments { IfOk result (λ _. part.new.comments ≡ part.old.comments) }
     ensures escapes { IfOk result (λ _. part.new.escapes ≡ part.old.escapes) }
 {
     let event = match frame.kind {

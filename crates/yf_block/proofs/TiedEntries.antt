@@ -1,0 +1,94 @@
+-- A further entry of a collection follows the one that was read, or the `:` of an entry with a `?`; or a deeper line breaks all.
+use Rattle.std.proofs.Common.{◌≡◌, ℕ, ◌+◌, Bool, true, false, List, [], ◌∷◌, ◌++◌, refl, sym, ap, ◌∙◌, subst, arith, append_assoc, append-nil, true≢false}
+use Rattle.yf_events.specs.declared.part.Part.{Part}
+use Rattle.yf_grammar.specs.Grammar.{ColonLine}
+use Rattle.yf_grammar.specs.Meaning.{◌⊕◌, noting}
+use Rattle.yf_grammar.specs.Part.Noting.{no_event}
+use Rattle.yf_grammar.specs.BlockParser.{SignAt, NextEntry, Later, BlockTask, DeeperLine}
+use Rattle.yf_grammar.specs.BlockStack.{Layer, asks, entry_made}
+use Rattle.yf_grammar.specs.BlockStates.{EntryAt, with_entry}
+use Rattle.yf_grammar.proofs.BlockResume.{entry_was_read, entry_follows, deeper_breaks}
+use Rattle.yf_grammar.proofs.BlockClaims.{line_unique, colon_line}
+use Rattle.yf_block.specs.declared.frame.Frame.{Frame}
+use Rattle.yf_block.specs.declared.frame.Progress.{Progress}
+use Rattle.yf_block.specs.Fits.{ItemLine, PairLine, DeepLine}
+use Rattle.yf_block.specs.Closing.{value_missing}
+use Rattle.yf_block.specs.BlockTied.{stage_entry, layers_entry, begins, stage_written, entry_at, begun_event, all_written, entries_written, ReadTied}
+use Rattle.yf_block.specs.BlockStepTied.{AtTop, AtEntry, AtFailed}
+use Rattle.yf_block.proofs.TiedClosing.{asks_mapping, stage_events, stage_comments, stage_escapes, noting_value, floor_value}
+use Rattle.yf_block.proofs.TiedFits.{is_sequence_of, tied_deeper, tied_item, tied_pair}
+use Rattle.yf_block.proofs.TiedReads.{joined_lists, read_events}
+
+-- no `:` stands at the column of a deeper line
+deep_no_colon : {t : List ℕ} {m at : ℕ} → DeeperLine t m at → ColonLine t m at → ⊥
+deep_no_colon {m = m} {at} d c = let e = (line_unique d.line (colon_line c)).0 in let l = d.deep in omega (arith, e, l)
+
+module _ {t : List ℕ} {d : ℕ} {root : BlockTask} {before : Part} {at : ℕ} {frames : List Frame} {f : Frame} {progress : Progress} {old : Part}
+    (a : AtTop t d root before frames at f progress old) where
+  pub top_breaks : DeepLine t at f → AtFailed t d root
+  top_breaks l =
+      let v = tied_deeper a.frame l in
+      record { halt = a.halt; broken = deeper_breaks (entry_was_read a.node (λ e c. deep_no_colon v c)) v }
+
+  -- the entry ends with its node, or with an empty value
+  abbrev next_layer : Layer
+  next_layer = with_entry a.layer (entry_made a.layer.stage a.answer)
+
+  next_read : {new : Part} → new.events ≡ old.events ++ value_missing f.awaits_colon → new.comments ≡ old.comments → new.escapes ≡ old.escapes
+      → ReadTied t before (entries_written next_layer a.layers) progress new
+  unfolding ◌⊕◌ noting
+  next_read {new} x y z =
+      let l = a.layer in
+      let w = all_written a.layers in
+      let i = begins (stage_entry l.stage) a.answer.meaning in
+      let b = begun_event l (entry_at (layers_entry a.layers)) in
+      read_events a.read (value_missing (asks l.stage) ++ []) (value_missing (asks l.stage) ++ []) (noting_value _ (asks l.stage) _ _ no_event) (floor_value _ (asks l.stage) [])
+      (x ∙ ap (λ v. old.events ++ value_missing v) a.frame.awaits ∙ ap (λ v. old.events ++ v) (sym (append-nil (value_missing (asks l.stage))))) y z
+      (ap (λ v. (((((w.events ++ b ∷ []) ++ l.known.events) ++ (stage_written l.stage).events) ++ i.events) ++ v)) (append-nil (value_missing (asks l.stage)))
+      ∙ append_assoc (((w.events ++ b ∷ []) ++ l.known.events) ++ (stage_written l.stage).events) i.events (value_missing (asks l.stage))
+      ∙ joined_lists (w.events ++ b ∷ []) l.known.events (stage_written l.stage).events (i.events ++ value_missing (asks l.stage)) (entry_made l.stage a.answer).meaning.events
+      (sym (append_assoc (stage_written l.stage).events i.events (value_missing (asks l.stage))) ∙ stage_events l.stage a.answer))
+      (joined_lists _ l.known.comments (stage_written l.stage).comments i.comments (entry_made l.stage a.answer).meaning.comments (stage_comments l.stage a.answer))
+      (joined_lists _ l.known.escapes (stage_written l.stage).escapes i.escapes (entry_made l.stage a.answer).meaning.escapes (stage_escapes l.stage a.answer))
+
+  next_entry_at : {p : ℕ} {new : Part} → (asks a.layer.stage ≡ true → ColonLine t a.layer.column at → ⊥) → NextEntry t a.layer.sequence a.layer.column at → p ≡ at + f.column
+      → new.events ≡ old.events ++ value_missing f.awaits_colon → new.comments ≡ old.comments → new.escapes ≡ old.escapes → AtEntry t d root before frames f p progress new
+  next_entry_at {p} n b e x y z =
+      let c = a.frame.collection.column in
+      let place : at + a.layer.column ≡ p = omega (arith, c, e) in
+      record {
+        layer = next_layer;
+        layers = a.layers;
+        room = a.room;
+        origin = Later;
+        halt = a.halt;
+        entry = subst (λ (k : ℕ). EntryAt t d root next_layer a.layers a.room Later k a.halt) place (entry_follows (entry_was_read a.node n) b);
+        order = a.order;
+        shallow = omega (arith, place);
+        collection = record { kind = a.frame.collection.kind; column = c; event = a.frame.collection.event };
+        stack = a.stack;
+        read = next_read x y z;
+      }
+
+  pub item_follows_top : {p : ℕ} → ItemLine t at f p → f.awaits_colon ≡ false → AtEntry t d root before frames f p progress old
+  item_follows_top i e =
+      next_entry_at (λ q c. true≢false (sym q ∙ sym a.frame.awaits ∙ e)) (tied_item a.frame i) i.stands
+      (sym (append-nil old.events) ∙ ap (λ v. old.events ++ value_missing v) (sym e)) refl refl
+
+  pub no_item_awaits : {p : ℕ} → ItemLine t at f p → f.awaits_colon ≡ false
+  no_item_awaits i = a.frame.awaits ∙ not_asked (asks a.layer.stage) (asks_mapping a.node.around) where
+    sequence_there : a.layer.sequence ≡ false → ⊥
+    sequence_there s = true≢false (sym (is_sequence_of a.layer.sequence (sym i.kind ∙ a.frame.collection.kind)) ∙ s)
+
+    not_asked : (b : Bool) → (b ≡ true → a.layer.sequence ≡ false) → b ≡ false
+    not_asked true s = absurd (sequence_there (s refl))
+    not_asked false s = refl
+
+  -- after an entry without a `?`, or where its `:` does not follow
+  pub pair_follows_top : {p : ℕ} {new : Part} → PairLine t at f p → (f.awaits_colon ≡ true → SignAt t 58 p → ⊥) → new.events ≡ old.events ++ value_missing f.awaits_colon
+      → new.comments ≡ old.comments → new.escapes ≡ old.escapes → AtEntry t d root before frames f p progress new
+  pair_follows_top {p} i n x y z =
+      let c = a.frame.collection.column in
+      let s = i.stands in
+      let place : at + a.layer.column ≡ p = omega (arith, c, s) in
+      next_entry_at (λ q v. n (a.frame.awaits ∙ q) (subst (λ (k : ℕ). SignAt t 58 k) place (record { sign_stands = v.colon; behind = v.behind }))) (tied_pair a.frame i) s x y z

@@ -1,0 +1,93 @@
+-- After a node that was found whole, collection by collection: its frame is taken off the stack, and the line ends it or goes on with it.
+use Rattle.std.proofs.Common.{◌≡◌, ℕ, suc, ◌-◌, Bool, true, false, List, [], ◌∷◌, ◌++◌, length, Option, Some, None, MatchOption, sym, ap, ◌∙◌, subst, arith}
+use Rattle.yf_events.specs.Edit.{edited, ended}
+use Rattle.yf_events.specs.declared.part.Part.{Part}
+use Rattle.yf_grammar.specs.Meaning.{Meaning, ◌⊕◌}
+use Rattle.yf_grammar.specs.Parser.{only}
+use Rattle.yf_grammar.specs.BlockParser.{LineText, BlockTask}
+use Rattle.yf_grammar.specs.BlockStack.{Layer, asks, asked, column_if}
+use Rattle.yf_grammar.specs.BlockStates.{NodeRead, Deepening, one_deepens}
+use Rattle.yf_grammar.proofs.BlockResume.{entry_was_read, collection_ends, root_was_read}
+use Rattle.yf_block.specs.declared.frame.Frame.{Frame}
+use Rattle.yf_block.specs.declared.frame.Progress.{Progress}
+use Rattle.yf_block.specs.Looks.{EntryPlace, NotWithinBreak}
+use Rattle.yf_block.specs.Fits.{PlaceTied, EndLine}
+use Rattle.yf_block.specs.Closing.{closing}
+use Rattle.yf_block.specs.BlockTied.{layers_entry, begins, all_written, ReadTied, frame_tied, no_frames, FramesTied, colons_if, FrameTied, Written}
+use Rattle.yf_block.specs.BlockStepTied.{AtResume, AtTop, AtDone}
+use Rattle.yf_flow.proofs.TiedClose.{cons_parts, no_cons}
+use Rattle.yf_block.proofs.TiedClosing.{asks_mapping, closed_read, closed_finish}
+use Rattle.yf_block.proofs.TiedFits.{tied_ends}
+use Rattle.yf_block.proofs.TiedReads.{read_moved}
+
+pub place_tied : {t : List ℕ} {at : ℕ} (o : Option ℕ) → NotWithinBreak t at → MatchOption o (NotWithinBreak t at → (m : ℕ) → (p : ℕ) → LineText t at m p → ⊥) (λ p. EntryPlace t at p) → PlaceTied t at o
+place_tied None b e = e b
+place_tied (Some p) b e = e
+
+written_first : {t : List ℕ} {before part : Part} {x : Meaning} → Written t before (only [] 0 ⊕ x) part → Written t before x part
+unfolding only ◌⊕◌
+written_first w = record { events = w.events; noting = w.noting; added = w.added }
+
+count_asked : (b : Bool) (w : ℕ) (ws : List ℕ) (n m : ℕ) → n ≡ length (column_if b w ws) → m ≡ n - colons_if b → m ≡ length ws
+count_asked true w ws n m e q = omega (arith, e, q)
+count_asked false w ws n m e q = omega (arith, e, q)
+
+module _ {t : List ℕ} {d : ℕ} {root : BlockTask} {before part : Part} {at : ℕ} where
+  -- the frame of the innermost collection
+  pub top_of : {frames rest : List Frame} {f : Frame} {old new : Progress} → AtResume t d root before frames at old part → frames ≡ f ∷ rest
+      → new.colons ≡ old.colons - colons_if f.awaits_colon → new.last ≡ old.last → new.floor ≡ old.floor → AtTop t d root before rest at f new part
+  top_of {frames} {rest} {f} {old} {new} a e c l o = go frames a.layers a.stack.frames_tied a.stack.order a.node a.stack.colons a.read e where
+    go : (fs : List Frame) (ls : List Layer) → FramesTied (length before.events) fs ls → Deepening ls → NodeRead t d root ls a.room a.answer at a.halt → old.colons ≡ length (asked ls)
+        → ReadTied t before (all_written ls ⊕ begins (layers_entry ls) a.answer.meaning) old part → fs ≡ f ∷ rest → AtTop t d root before rest at f new part
+    go [] [] no_frames s n k r q = absurd (no_cons q)
+    go [] (layer ∷ ls) u s n k r q = elim u [ ]
+    go (g ∷ fs) [] u s n k r q = elim u [ ]
+    go (g ∷ fs) (layer ∷ ls) (frame_tied u v) (one_deepens w s) n k r q =
+        let z = cons_parts q in
+        let u' : FrameTied (length before.events) layer ls f = subst (λ g. FrameTied (length before.events) layer ls g) z.0 u in
+        record {
+          layer = layer;
+          layers = ls;
+          room = a.room;
+          answer = a.answer;
+          halt = a.halt;
+          node = n;
+          outside = a.outside;
+          order = w;
+          frame = u';
+          last = l ∙ a.last;
+          stack = record {
+            order = s;
+            frames_tied = subst (λ g. FramesTied (length before.events) g ls) z.1 v;
+            colons = count_asked (asks layer.stage) layer.column (asked ls) old.colons new.colons k (c ∙ ap (λ b. old.colons - colons_if b) u'.awaits);
+          };
+          read = read_moved r o;
+        }
+
+  -- its collection ends
+  pub one_ended : {frames : List Frame} {f : Frame} {progress : Progress} {new : Part} → AtTop t d root before frames at f progress part → EndLine t at f
+      → new.events ≡ edited (ended progress.last) f.event (part.events ++ closing f) → new.comments ≡ part.comments → new.escapes ≡ part.escapes
+      → AtResume t d root before frames at progress new
+  one_ended {f = f} a e x y z =
+      let n = tied_ends a.frame (asks_mapping a.node.around) e in
+      record {
+        layers = a.layers;
+        room = suc a.room;
+        answer = _;
+        halt = a.halt;
+        node = collection_ends (entry_was_read a.node n.no_colon) n.no_entry;
+        outside = a.outside;
+        last = closed_finish a.layer a.layers a.answer f a.frame a.read a.last x y z;
+        stack = a.stack;
+        read = closed_read a.layer a.layers a.answer f a.frame a.read a.last x y z;
+      }
+
+  -- all have ended
+  pub all_ended : {frames : List Frame} {progress : Progress} → AtResume t d root before frames at progress part → frames ≡ [] → AtDone t d root before at part
+  all_ended {frames} {progress} a e = go frames a.layers a.stack.frames_tied a.node a.read e where
+    go : (fs : List Frame) (ls : List Layer) → FramesTied (length before.events) fs ls → NodeRead t d root ls a.room a.answer at a.halt
+        → ReadTied t before (all_written ls ⊕ begins (layers_entry ls) a.answer.meaning) progress part → fs ≡ [] → AtDone t d root before at part
+    go [] (layer ∷ ls) u n r q = elim u [ ]
+    go (g ∷ fs) [] u n r q = elim u [ ]
+    go [] [] no_frames n r q = record { answer = a.answer; whole = root_was_read n; end = n.end; written = written_first r.written }
+    go (g ∷ fs) (layer ∷ ls) (frame_tied u v) n r q = absurd (no_cons (sym q))

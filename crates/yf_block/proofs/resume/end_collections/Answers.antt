@@ -1,0 +1,27 @@
+use Rattle.std.proofs.Common.{refl, sym, ◌∙◌, true≢false}
+use Rattle.yf_flow.proofs.TiedClose.{popped, none_left}
+use Rattle.yf_block.proofs.TiedResume.{place_tied, top_of, one_ended, all_ended}
+use Rattle.yf_block.proofs.resume.end_collections.Goals as goal
+
+pub frames-preserved : goal.frames-preserved
+frames-preserved c = record {
+  progress = let p = c.frames.invariant.progress in record { floor = p.floor; from = p.from; halt = p.halt };
+  escapes = c.in_ok-end_collection-in-Behind.ensures.escapes ∙ c.frames.invariant.escapes;
+  tied = λ d root before a.
+      let r = c.frames.invariant.tied d root before a in
+      let top = top_of r (popped _ _ _ c.in-Some.ensures.items) c.colons_without-progress.ensures refl refl in
+      let line = rw c.in-Behind.is at (c.fit_of-fit.ensures.line (place_tied _ r.outside c.entry_place-place.ensures.entry)) in
+      one_ended top line c.in_ok-end_collection-in-Behind.ensures.events c.in_ok-end_collection-in-Behind.ensures.comments c.in_ok-end_collection-in-Behind.ensures.escapes;
+}
+
+pub returns-in_default-fit-clause-tied : goal.returns-in_default-fit-clause-tied
+returns-in_default-fit-clause-tied c = λ d root before a.
+    let r = c.frames.invariant.tied d root before a in
+    record {
+      top = top_of r (popped _ _ _ c.in-Some.ensures.items) c.colons_without-progress.ensures refl refl;
+      line = c.fit_of-fit.ensures.line (place_tied _ r.outside c.entry_place-place.ensures.entry);
+      goes_on = c.in_default-fit.not-Behind;
+    }
+
+pub returns-clause-tied : goal.returns-clause-tied
+returns-clause-tied c = λ d root before a. all_ended (c.frames.invariant.tied d root before a) (none_left _ (λ l. true≢false (sym (c.in_default.ensures.variant.1 l))))
