@@ -7,7 +7,9 @@ pub mod LookLemmas
 pub mod KeyLineLemmas
 pub mod MachineLemmas
 pub mod NodeBegunLemmas
+pub mod NodeEnds
 pub mod NotedLemmas
+pub mod ReadersLemmas
 pub mod TiedBase
 pub mod TiedBegun
 pub mod TiedClose

@@ -5,8 +5,10 @@ pub mod EntryBegun
 pub mod KeyThere
 pub mod Leaves
 pub mod Machine
+pub mod NodeAnswers
 pub mod NodeBegun
 pub mod NodeRead
 pub mod NodeReaders
 pub mod Steps
 pub mod Tied
+pub mod WithinLimit

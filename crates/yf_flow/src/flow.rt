@@ -1,9 +1,11 @@
 //! The readers of flow nodes and of implicit keys.
-ghost use Rattle.std.specs.Prelude.{◌≡◌, ◌+◌, [], IfOk, IfSome, MatchResult};
+ghost use Rattle.std.specs.Prelude.{◌≡◌, ◌+◌, [], false, IfOk, IfSome, MatchResult};
 ghost use Rattle.std.specs.List.{All};
 ghost use Rattle.std.specs.Str.{IsCharBoundary};
+ghost use Rattle.yf_lines.specs.Basic.{is_block};
 ghost use Rattle.yf_lines.specs.FaultPlaces.{IsFirstPlace};
 ghost use Rattle.yf_flow.specs.Machine.{IsReadFault, IsScanFault, Place};
+ghost use Rattle.yf_flow.specs.WithinLimit.{FlowNodeWithin, KeyWithin, ReadsNodeWithin, ScansNodeWithin};
 
 use crate::nodes::{Outcome, read_node};
 use std::alloc::{AllocError, Global};
@@ -29,14 +31,16 @@ pub struct ScannedPart<'a> {
     pub end: usize,
 }
 
-/// Reads a flow node (ns-flow-node(n,c), production 161) from a byte offset on: its events and comments, each with its
-/// place, and the offset after it. `n` is the indentation, from -1.
+/// Reads the longest flow node (ns-flow-node(n,c), production 161) from a byte offset on: its events and comments, each with
+/// its place, and the offset after it. `n` is the indentation, from -1. No more than `DEPTH` collections are open in it at
+/// once, a single pair counted as one, and it covers no document marker.
 ///
-/// `None` where no flow node begins there in that context.
+/// `None` where no such node is derived there in that context. In the two block contexts, in which no flow node stands, it is
+/// always `None`.
 ///
 /// # Errors
 ///
-/// `Fault::TooDeep` where the nodes there open more than `DEPTH` collections at once, a single pair counted as one;
+/// `Fault::TooDeep` where no such node is derived there, and the nodes there open more than `DEPTH` collections at once;
 /// `Fault::EscapeValue` at the first escape in the node that is no character; `Fault::Memory`.
 pub fn read_flow_node<'a>(
     alloc: Global,
@@ -48,27 +52,14 @@ pub fn read_flow_node<'a>(
     requires { IsCharBoundary src.now.text at }
     ensures place { MatchResult result (λ o. IfSome o (λ p. Place src.now.text (at + 1) p.end)) (IsReadFault src.now.text) }
     ensures escapes { IfOk result (λ o. IfSome o (λ p. p.part.escapes ≡ [])) }
+    ensures reads { is_block ctx ≡ false → ReadsNodeWithin src.now.text (FlowNodeWithin src.now.text n ctx at) result }
 {
     match scan_flow_node(alloc, src, at, n, ctx) {
         Ok(None) => Ok(None),
-        Ok(
-            Some(
-                ScannedPart {
-                    part,
-                    escape: None,
-                    end,
-                },
-            ),
-        ) => Ok(Some(NodePart { part, end })),
-        Ok(
-            Some(
-                ScannedPart {
-                    part: _,
-                    escape: Some(place),
-                    end: _,
-                },
-            ),
-        ) => Err(Fault::EscapeValue { place }),
+        Ok(Some(ScannedPart { part, escape, end })) => match escape {
+            None => Ok(Some(NodePart { part, end })),
+            Some(place) => Err(Fault::EscapeValue { place }),
+        },
         Err(fault) => Err(fault),
     }
 }
@@ -88,6 +79,7 @@ pub fn scan_flow_node<'a>(
     requires { IsCharBoundary src.now.text at }
     ensures place { MatchResult result (λ o. IfSome o (λ p. Place src.now.text (at + 1) p.end)) (IsScanFault src.now.text) }
     ensures escapes { IfOk result (λ o. IfSome o (λ p. IsFirstPlace src.now.text p.part.escapes p.escape)) }
+    ensures reads { is_block ctx ≡ false → ScansNodeWithin src.now.text (FlowNodeWithin src.now.text n ctx at) result }
 {
     match read_node(alloc, src.text(), at, n, ctx, DEPTH) {
         Ok(Outcome::Found { part, end }) => {
@@ -113,10 +105,11 @@ pub fn first_escape(src: &Src, part: &Part) -> Option<SourcePlace>
     }
 }
 
-/// Reads the node of an implicit key (ns-s-implicit-yaml-key(c), production 154; c-s-implicit-json-key(c), production 155),
-/// on one line, without the white space after it, from a byte offset on.
+/// Reads the longest node of an implicit key (ns-s-implicit-yaml-key(c), production 154; c-s-implicit-json-key(c), production
+/// 155), without the white space after it, from a byte offset on.
 ///
-/// How many characters it has is for the caller to count. `None` where no such node begins there.
+/// In a key context it stands on one line. How many characters it has is for the caller to count. `None` where no such node is
+/// derived there, and always in the two block contexts.
 ///
 /// # Errors
 ///
@@ -130,6 +123,7 @@ pub fn read_implicit_key<'a>(
     requires { IsCharBoundary src.now.text at }
     ensures place { MatchResult result (λ o. IfSome o (λ p. Place src.now.text (at + 1) p.end)) (IsReadFault src.now.text) }
     ensures escapes { IfOk result (λ o. IfSome o (λ p. p.part.escapes ≡ [])) }
+    ensures reads { is_block ctx ≡ false → ReadsNodeWithin src.now.text (KeyWithin src.now.text ctx at) result }
 {
     read_flow_node(alloc, src, at, 0, ctx)
 }
@@ -148,6 +142,7 @@ pub fn scan_implicit_key<'a>(
     requires { IsCharBoundary src.now.text at }
     ensures place { MatchResult result (λ o. IfSome o (λ p. Place src.now.text (at + 1) p.end)) (IsScanFault src.now.text) }
     ensures escapes { IfOk result (λ o. IfSome o (λ p. IsFirstPlace src.now.text p.part.escapes p.escape)) }
+    ensures reads { is_block ctx ≡ false → ScansNodeWithin src.now.text (KeyWithin src.now.text ctx at) result }
 {
     scan_flow_node(alloc, src, at, 0, ctx)
 }

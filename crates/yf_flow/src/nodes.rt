@@ -1,9 +1,13 @@
 //! The reader of flow nodes: one forward pass, with a stack of the open collections.
-ghost use Rattle.std.specs.Prelude.{◌≡◌, ℕ, [], ◌+◌, ◌<◌, ◌≤◌, length, IfOk};
+ghost use Rattle.std.specs.Prelude.{◌≡◌, ℕ, [], ◌+◌, ◌<◌, ◌≤◌, length, true, false, None, IfOk, MatchOption};
 ghost use Rattle.std.specs.List.{All};
-ghost use Rattle.std.specs.Str.{IsCharBoundary};
+ghost use Rattle.std.specs.Str.{IsCharBoundary, IsUtf8};
+ghost use Rattle.yf_lines.specs.Basic.{is_block};
+ghost use Rattle.yf_grammar.specs.Parser.{ANode, Parses};
 ghost use Rattle.yf_flow.specs.Ends.{BegunTied, EndTied, EndsAs};
 ghost use Rattle.yf_flow.specs.Machine.{Awaiting, BegunAt, EndingAt, OutcomeAt};
+ghost use Rattle.yf_flow.specs.NodeAnswers.{InnerContext, NodeAnswers};
+ghost use Rattle.yf_flow.specs.NodeRead.{NodeLost};
 ghost use Rattle.yf_flow.specs.Steps.{Reading};
 ghost use Rattle.yf_flow.specs.Tied.{AtEntry, Base};
 
@@ -52,7 +56,8 @@ pub(crate) fn read_node<'a>(
     limit: usize,
 ) -> Result<Outcome<'a>, AllocError>
     requires { IsCharBoundary text.now at }
-    ensures { IfOk result (λ o. OutcomeAt text.now at o) }
+    ensures place { IfOk result (λ o. OutcomeAt text.now at o) }
+    ensures answers { is_block context ≡ false → IfOk result (λ o. NodeAnswers text.now indentation context limit at o) }
 {
     match inner_context(context) {
         None => Ok(Outcome::Nothing),
@@ -141,7 +146,9 @@ fn end_node<'a>(
 }
 
 // The context within flow collections of that context (in-flow(c)); no flow node stands in the two block contexts.
-fn inner_context(context: Ctx) -> Option<Ctx> {
+fn inner_context(context: Ctx) -> Option<Ctx>
+    ensures { MatchOption result (is_block context ≡ true) (InnerContext context) }
+{
     match context {
         Ctx::BlockOut | Ctx::BlockIn => None,
         Ctx::FlowOut | Ctx::FlowIn => Some(Ctx::FlowIn),
@@ -150,7 +157,9 @@ fn inner_context(context: Ctx) -> Option<Ctx> {
 }
 
 fn new_part<'a>(alloc: Global) -> Part<'a>
-    ensures { result.escapes ≡ [] }
+    ensures events { result.events ≡ [] }
+    ensures comments { result.comments ≡ [] }
+    ensures escapes { result.escapes ≡ [] }
 {
     Part {
         events: Events::new(alloc),
@@ -199,7 +208,8 @@ fn properties_alone<'a>(
 ) -> Result<Outcome<'a>, AllocError>
     requires boundary { IsCharBoundary scene.text.now at }
     requires otherwise { OutcomeAt scene.text.now at otherwise }
-    ensures { IfOk result (λ o. OutcomeAt scene.entry.text.now at o) }
+    ensures place { IfOk result (λ o. OutcomeAt scene.entry.text.now at o) }
+    ensures answers { IsUtf8 scene.entry.text.now → is_block scene.entry.context ≡ false → NodeLost scene.entry.text.now scene.entry.limit scene.entry.indentation scene.entry.context at → (Parses scene.entry.text.now scene.entry.limit (ANode scene.entry.indentation scene.entry.context at) None → NodeAnswers scene.entry.text.now scene.entry.indentation scene.entry.context scene.entry.limit at otherwise.entry) → IfOk result (λ o. NodeAnswers scene.entry.text.now scene.entry.indentation scene.entry.context scene.entry.limit at o) }
 {
     match read_properties(alloc, scene, at)? {
         None => Ok(otherwise),

@@ -1,0 +1,40 @@
+-- What the readers of a node within a limit answer, in terms of the recursive reader: how a node ends that was written after what was
+-- written before it, and the node with its part alone.
+use Rattle.std.specs.Prelude.{◌≡◌, ℕ, ℤ, false, List, Some, None}
+use Rattle.yf_chars.specs.declared.context.Ctx.{Ctx}
+use Rattle.yf_lines.specs.Basic.{is_block}
+use Rattle.yf_events.specs.declared.part.Part.{Part}
+use Rattle.yf_grammar.specs.Grammar.{in_flow}
+use Rattle.yf_grammar.specs.Meaning.{Meaning}
+use Rattle.yf_grammar.specs.Parser.{Found, ANode, Parses}
+use Rattle.yf_flow.specs.declared.nodes.Ending.{Ending}
+use Rattle.yf_flow.specs.declared.nodes.Ending.TheVariants.{End, Nothing as NoEnd, TooDeep as TooDeepThere}
+use Rattle.yf_flow.specs.declared.nodes.Outcome.{Outcome}
+use Rattle.yf_flow.specs.declared.nodes.Outcome.TheVariants.{Found as NodeThere, Nothing as NoNode, TooDeep as TooDeepHere}
+use Rattle.yf_flow.specs.NodeRead.{NodeRead, NodeLost}
+use Rattle.yf_flow.specs.Tied.{Written}
+
+-- the context within the collections of a node
+pub record InnerContext (c d : Ctx) : Type 0 where
+  pub is : d ≡ in_flow c
+  pub inner : in_flow d ≡ d
+  pub no_block : is_block d ≡ false
+  pub outer : is_block c ≡ false
+
+-- a node that was begun has been read, or neither it nor the content after its properties is derived
+abbrev pub NodeEnds : List ℕ → ℤ → Ctx → ℕ → ℕ → Meaning → Part → Ending → Type 0
+NodeEnds t n c limit i w part (End node) = NodeRead t limit n c i w node part
+NodeEnds t n c limit i w part NoEnd = NodeLost t limit n c i
+NodeEnds t n c limit i w part (TooDeepThere p) = NodeLost t limit n c i
+
+-- the node, which ends there, and its part
+pub record NodeFound (t : List ℕ) (n : ℤ) (c : Ctx) (limit i : ℕ) (part : Part) (end : ℕ) : Type 0 where
+  pub answer : Found
+  pub parsed : Parses t limit (ANode n c i) (Some answer)
+  pub ends : end ≡ answer.end
+  pub written : Written t answer.meaning part
+
+abbrev pub NodeAnswers : List ℕ → ℤ → Ctx → ℕ → ℕ → Outcome → Type 0
+NodeAnswers t n c limit i (NodeThere part end) = NodeFound t n c limit i part end
+NodeAnswers t n c limit i NoNode = Parses t limit (ANode n c i) None
+NodeAnswers t n c limit i (TooDeepHere p) = Parses t limit (ANode n c i) None
