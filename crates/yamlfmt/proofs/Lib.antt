@@ -1,5 +1,11 @@
+-- The lemmas, each group under the function or the theorem that it serves.
+
+-- `style_from_toml` and `read_style`
 pub mod SettingsLemmas
-pub mod CommandLineLemmas
 pub mod ProgramLemmas
+-- `parse_line`
+pub mod CommandLineLemmas
+-- `run_check`
 pub mod FindingLemmas
+-- `report`
 pub mod ShownLemmas

@@ -8,14 +8,14 @@ use std::alloc::{AllocError, Global};
 use std::test::Fail;
 use yf_emit::style::Style;
 use yf_lines::watched::{Sink, Source, Watched};
-use yf_rules::blank_lines::BlankLines;
-use yf_rules::comment_space::CommentSpace;
-use yf_rules::document_start::DocumentStart;
-use yf_rules::flow_layout::FlowLayout;
-use yf_rules::key_mark::KeyMark;
-use yf_rules::quoting::Quoting;
-use yf_rules::repeated_keys::RepeatedKeys;
 use yf_rules::rule::Rule;
+use yf_rules::rules::blank_lines::BlankLines;
+use yf_rules::rules::comment_space::CommentSpace;
+use yf_rules::rules::document_start::DocumentStart;
+use yf_rules::rules::flow_layout::FlowLayout;
+use yf_rules::rules::key_mark::KeyMark;
+use yf_rules::rules::quoting::Quoting;
+use yf_rules::rules::repeated_keys::RepeatedKeys;
 
 const VERBS: [Verb; 3] = [Verb::Events, Verb::Check, Verb::Fmt];
 

@@ -1,20 +1,20 @@
 //! The rules of style that the program knows.
 
 use std::alloc::{AllocError, Global};
-use yf_rules::blank_lines::BlankLines;
-use yf_rules::byte_order_mark::ByteOrderMark;
-use yf_rules::comment_space::CommentSpace;
-use yf_rules::document_start::DocumentStart;
-use yf_rules::final_break::FinalBreak;
-use yf_rules::flow_layout::FlowLayout;
-use yf_rules::indentation::Indentation;
-use yf_rules::key_mark::KeyMark;
-use yf_rules::line_breaks::LineBreaks;
-use yf_rules::line_length::LineLength;
-use yf_rules::quoting::Quoting;
-use yf_rules::repeated_keys::RepeatedKeys;
 use yf_rules::rule::Rule;
-use yf_rules::trailing_blanks::TrailingBlanks;
+use yf_rules::rules::blank_lines::BlankLines;
+use yf_rules::rules::byte_order_mark::ByteOrderMark;
+use yf_rules::rules::comment_space::CommentSpace;
+use yf_rules::rules::document_start::DocumentStart;
+use yf_rules::rules::final_break::FinalBreak;
+use yf_rules::rules::flow_layout::FlowLayout;
+use yf_rules::rules::indentation::Indentation;
+use yf_rules::rules::key_mark::KeyMark;
+use yf_rules::rules::line_breaks::LineBreaks;
+use yf_rules::rules::line_length::LineLength;
+use yf_rules::rules::quoting::Quoting;
+use yf_rules::rules::repeated_keys::RepeatedKeys;
+use yf_rules::rules::trailing_blanks::TrailingBlanks;
 
 /// Work that takes all rules of style.
 pub trait WithRules: Drop {

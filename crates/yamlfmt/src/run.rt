@@ -39,7 +39,8 @@ pub fn run_events<R: Source, W: Sink>(
     reader: &mut R,
     writer: &mut W,
 ) -> Result<(), Fault>
-    ensures events { OnOk result (Printed (R.remaining reader.old) (W.contents writer.old) (W.contents writer.new) (W.has_failed writer.old) (W.has_failed writer.new)) }
+    ensures events { OnOk result (Printed (R.remaining reader.old) (W.contents writer.old) (W.contents writer.new)
+        (W.has_failed writer.old) (W.has_failed writer.new)) }
     ensures reader { OnOk result (R.has_failed reader.new ≡ R.has_failed reader.old) }
     ensures refusals { IfErr result (λ fault. Refused (R.remaining reader.old) (R.has_failed reader.old) (R.has_failed reader.new)
         (W.contents writer.old) (W.contents writer.new) (W.has_failed writer.old) (W.has_failed writer.new) fault) }
@@ -66,10 +67,14 @@ pub fn run_check<R: Source, W: Sink>(
     writer: &mut W,
     style: &Style,
 ) -> Result<bool, Fault>
-    ensures findings { IfOk result (λ any. Told (λ src reading findings. Checked (λ rule found. RuleFindings (rule_number rule) (rule_id rule) (is_fixable rule) (faults rule) src reading style.now found) rules.now findings)
+    ensures findings { IfOk result (λ any. Told (λ src reading findings. Checked
+        (λ rule found. RuleFindings (rule_number rule) (rule_id rule) (is_fixable rule)
+        (faults rule) src reading style.now found) rules.now findings)
         (R.remaining reader.old) (W.contents writer.old) (W.contents writer.new) (W.has_failed writer.old) (W.has_failed writer.new) any) }
     ensures reader { OnOk result (R.has_failed reader.new ≡ R.has_failed reader.old) }
-    ensures refusals { IfErr result (λ fault. RefusedCheck (λ src reading findings. Checked (λ rule found. RuleFindings (rule_number rule) (rule_id rule) (is_fixable rule) (faults rule) src reading style.now found) rules.now findings)
+    ensures refusals { IfErr result (λ fault. RefusedCheck
+        (λ src reading findings. Checked (λ rule found. RuleFindings (rule_number rule) (rule_id rule) (is_fixable rule)
+        (faults rule) src reading style.now found) rules.now findings)
         (R.remaining reader.old) (R.has_failed reader.old) (R.has_failed reader.new)
         (W.contents writer.old) (W.contents writer.new) (W.has_failed writer.old) (W.has_failed writer.new) fault) }
 {
@@ -92,7 +97,9 @@ fn findings_in(
     text: &str,
     style: &Style,
 ) -> Result<Vec<Finding>, Fault>
-    ensures found { IfOk result (λ findings. FoundIn (λ src reading findings. Checked (λ rule found. RuleFindings (rule_number rule) (rule_id rule) (is_fixable rule) (faults rule) src reading style.now found) rules.now findings)
+    ensures found { IfOk result (λ findings. FoundIn (λ src reading findings. Checked
+        (λ rule found. RuleFindings (rule_number rule) (rule_id rule) (is_fixable rule)
+        (faults rule) src reading style.now found) rules.now findings)
         text.now findings.items) }
     ensures refused { IfErr result (λ fault. IsStreamFault text.now fault) }
 {
@@ -144,9 +151,11 @@ pub fn run_fmt<R: Source, W: Sink>(
     writer: &mut W,
     style: &Style,
 ) -> Result<(), Fault>
-    ensures formatted { OnOk result (Restyled style.now (R.remaining reader.old) (W.contents writer.old) (W.contents writer.new) (W.has_failed writer.old) (W.has_failed writer.new)) }
+    ensures formatted { OnOk result (Restyled style.now (R.remaining reader.old) (W.contents writer.old) (W.contents writer.new)
+        (W.has_failed writer.old) (W.has_failed writer.new)) }
     ensures reader { OnOk result (R.has_failed reader.new ≡ R.has_failed reader.old) }
-    ensures refusals { IfErr result (λ fault. RefusedFmt style.now (R.remaining reader.old) (R.has_failed reader.old) (R.has_failed reader.new)
+    ensures refusals { IfErr result (λ fault. RefusedFmt style.now (R.remaining reader.old) (R.has_failed reader.old)
+        (R.has_failed reader.new)
         (W.contents writer.old) (W.contents writer.new) (W.has_failed writer.old) (W.has_failed writer.new) fault) }
 {
     let formatted = read_formatted(alloc, reader, style)?;
@@ -163,7 +172,8 @@ pub fn read_formatted<R: Source>(
 ) -> Result<String, Fault>
     ensures formatted { IfOk result (λ formatted. Rendered style.now (R.remaining reader.old) (string_bytes formatted)) }
     ensures reader { OnOk result (R.has_failed reader.new ≡ R.has_failed reader.old) }
-    ensures refusals { IfErr result (λ fault. RefusedText (R.remaining reader.old) (R.has_failed reader.old) (R.has_failed reader.new) fault) }
+    ensures refusals { IfErr result (λ fault. RefusedText (R.remaining reader.old) (R.has_failed reader.old)
+        (R.has_failed reader.new) fault) }
 {
     let bytes = read_all(alloc, reader, INPUT_LIMIT)?;
     let text = match check_utf8(bytes.as_slice()) {

@@ -69,7 +69,8 @@ fn wrong_key(alloc: Global, key: &str) -> Fault
 
 // The least key of the table that is no setting, or whose value the setting may not have.
 fn least_wrong_key<'t>(table: &'t Table) -> Option<&'t str>
-    ensures { MatchOption result ((key : List ℕ) → IsRight (table_view table.now) key) (λ key. IsLeastWrong (table_view table.now) key.now) }
+    ensures { MatchOption result ((key : List ℕ) → IsRight (table_view table.now) key)
+        (λ key. IsLeastWrong (table_view table.now) key.now) }
 {
     for (key, value) in table {
         if !is_right(key.as_str(), value) {

@@ -1,15 +1,20 @@
-pub mod AwaitingLemmas
+-- The lemmas, each group under the function or the theorem that it serves.
+
+-- what all functions rest on: ends and looks ahead
 pub mod Forward
+pub mod LookLemmas
+pub mod EntryLineLemmas
+pub mod AwaitingLemmas
+pub mod FitLemmas
+-- `read_block_node`: the stack and the recursive reader agree (`BlockTied`)
 pub mod TiedFrames
+pub mod TiedFits
+-- for further theorems
+pub mod NotingLemmas
+pub mod TiedClosing
+pub mod TiedEntries
 pub mod TiedNodes
 pub mod TiedReads
 pub mod TiedResume
 pub mod TiedResumed
 mod TiedShown
-pub mod LookLemmas
-pub mod NotingLemmas
-pub mod EntryLineLemmas
-pub mod FitLemmas
-pub mod TiedClosing
-pub mod TiedEntries
-pub mod TiedFits

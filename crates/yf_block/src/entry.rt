@@ -26,7 +26,8 @@ use yf_lines::basic::skip_whites;
 pub(crate) fn entry_at(text: &str, floor: usize, start: usize, colon: Option<usize>) -> Entry
     ensures start { result.start ≡ start }
     ensures colon { result.colon ≡ colon }
-    ensures note { (code text.now start ≡ 10 → code text.now (start - 1) ≢ 13) → (floor < start → Blank text.now floor) → NotedSince text.now floor start result.blank_before }
+    ensures note { (code text.now start ≡ 10 → code text.now (start - 1) ≢ 13) → (floor < start → Blank text.now floor)
+        → NotedSince text.now floor start result.blank_before }
 {
     Entry {
         start,
@@ -92,7 +93,9 @@ pub(crate) fn take_item<'a>(
 ) -> Result<Step, AllocError>
     requires behind { IsCharBoundary text.now (at + 1) }
     requires progress { ProgressAt text.now progress.old }
-    ensures tied { (d : ℕ) → (root : BlockTask) → (before : Part) → (part : Part) → DashAt text.now at → frame.kind ≡ Kind.Sequence → frame.awaits_colon ≡ false → AtEntry text.now d root before (reverse frames.old.items) frame at progress.old part → IfOk result (λ s. KeyOrTied text.now d root before (reverse frames.new.items) s progress.new part) }
+    ensures tied { (d : ℕ) → (root : BlockTask) → (before : Part) → (part : Part) → DashAt text.now at → frame.kind ≡ Kind.Sequence
+        → frame.awaits_colon ≡ false → AtEntry text.now d root before (reverse frames.old.items) frame at progress.old part
+        → IfOk result (λ s. KeyOrTied text.now d root before (reverse frames.new.items) s progress.new part) }
     ensures stepped { IfOk result (λ s. Stepped text.now at 0 progress.new s) }
 {
     frames.push(frame)?;
@@ -153,7 +156,10 @@ pub(crate) fn take_explicit_value<'a>(
     part: &mut Part<'a>,
 ) -> Result<Step, AllocError>
     requires { colon + 1 < 2 ^ 64 }
-    ensures tied { (line : ℕ) → (d : ℕ) → (root : BlockTask) → (before : Part) → frame.awaits_colon ≡ true → SignAt _text.now 58 colon → PairLine _text.now line frame colon → AtTop _text.now d root before (reverse frames.old.items) line frame progress.old part.old → IfOk result (λ s. BlockTied _text.now d root before (reverse frames.new.items) s progress.new part.new) }
+    ensures tied { (line : ℕ) → (d : ℕ) → (root : BlockTask) → (before : Part) → frame.awaits_colon ≡ true
+        → SignAt _text.now 58 colon → PairLine _text.now line frame colon
+        → AtTop _text.now d root before (reverse frames.old.items) line frame progress.old part.old
+        → IfOk result (λ s. BlockTied _text.now d root before (reverse frames.new.items) s progress.new part.new) }
     ensures floor { IfOk result (λ _. progress.new.floor ≡ progress.old.floor) }
     ensures from { IfOk result (λ _. progress.new.from ≡ progress.old.from) }
     ensures halt { IfOk result (λ _. progress.new.halt ≡ progress.old.halt) }
@@ -207,7 +213,9 @@ pub(crate) fn take_entry<'a>(
     requires boundary { IsCharBoundary scope.text.now at }
     requires progress { ProgressAt scope.text.now progress.old }
     requires escapes { All (IsCharBoundary scope.text.now) part.old.escapes }
-    ensures tied { (d : ℕ) → (root : BlockTask) → (before : Part) → d < 2 ^ 64 → frame.kind ≡ Kind.Mapping → AtEntry scope.entry.text.now d root before (reverse frames.old.items) frame at progress.old part.old → IfOk result (λ s. KeyOrTied scope.entry.text.now d root before (reverse frames.new.items) s progress.new part.new) }
+    ensures tied { (d : ℕ) → (root : BlockTask) → (before : Part) → d < 2 ^ 64 → frame.kind ≡ Kind.Mapping
+        → AtEntry scope.entry.text.now d root before (reverse frames.old.items) frame at progress.old part.old
+        → IfOk result (λ s. KeyOrTied scope.entry.text.now d root before (reverse frames.new.items) s progress.new part.new) }
     ensures stepped { IfOk result (λ s. Stepped scope.entry.text.now at 0 progress.new s) }
     ensures escapes { IfOk result (λ _. All (IsCharBoundary scope.entry.text.now) part.new.escapes) }
 {

@@ -112,7 +112,9 @@ fn note_awaited<'a>(end: usize, progress: &mut Progress<'a>, part: &Part<'a>)
 // to be empty before it. So many of the open collections await one.
 fn value_follows(text: &str, at: usize, colons: usize, frames: &Frames) -> bool
     requires { IsCharBoundary text.now at }
-    ensures { MatchBool result (AwaitedColon text.now at (reverse frames.now.items)) (NotWithinBreak text.now at → (colons ≡ 0 → (m : ℕ) → AwaitsAt m (reverse frames.now.items) → ⊥) → AwaitedColon text.now at (reverse frames.now.items) → ⊥) }
+    ensures { MatchBool result (AwaitedColon text.now at (reverse frames.now.items))
+        (NotWithinBreak text.now at → (colons ≡ 0 → (m : ℕ) → AwaitsAt m (reverse frames.now.items) → ⊥)
+        → AwaitedColon text.now at (reverse frames.now.items) → ⊥) }
 {
     if colons == 0 {
         return false;

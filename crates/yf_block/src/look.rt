@@ -119,7 +119,8 @@ pub(crate) fn node_ends(text: &str, at: usize) -> bool
 pub(crate) fn entry_place(text: &str, at: usize) -> Option<usize>
     requires { IsCharBoundary text.now at }
     ensures place { IfSome result (λ p. Place text.now at p) }
-    ensures entry { MatchOption result (NotWithinBreak text.now at → (m : ℕ) → (p : ℕ) → LineText text.now at m p → ⊥) (λ p. EntryPlace text.now at p) }
+    ensures entry { MatchOption result (NotWithinBreak text.now at → (m : ℕ) → (p : ℕ) → LineText text.now at m p → ⊥)
+        (λ p. EntryPlace text.now at p) }
 {
     if node_ends(text, at) {
         return None;
@@ -136,7 +137,8 @@ pub(crate) fn entry_place(text: &str, at: usize) -> Option<usize>
 ///
 /// The walk ends at the first other character, so walks from different entries do not overlap.
 pub fn is_blank_after(text: &str, floor: usize, at: usize) -> bool
-    ensures { (code text.now at ≡ 10 → code text.now (at - 1) ≢ 13) → (floor < at → Blank text.now floor) → NotedSince text.now floor at result }
+    ensures { (code text.now at ≡ 10 → code text.now (at - 1) ≢ 13) → (floor < at → Blank text.now floor)
+        → NotedSince text.now floor at result }
 {
     let mut place = at;
     // whether white space alone stands between the place and a line break

@@ -50,7 +50,9 @@ pub(crate) fn resume<'a>(
     requires boundary { IsCharBoundary scope.text.now at }
     requires progress { ProgressAt scope.text.now progress.old }
     requires escapes { All (IsCharBoundary scope.text.now) part.old.escapes }
-    ensures tied { (d : ℕ) → (root : BlockTask) → (before : Part) → d < 2 ^ 64 → AtResume scope.entry.text.now d root before (reverse frames.old.items) at progress.old part.old → IfOk result (λ s. KeyOrTied scope.entry.text.now d root before (reverse frames.new.items) s progress.new part.new) }
+    ensures tied { (d : ℕ) → (root : BlockTask) → (before : Part) → d < 2 ^ 64
+        → AtResume scope.entry.text.now d root before (reverse frames.old.items) at progress.old part.old
+        → IfOk result (λ s. KeyOrTied scope.entry.text.now d root before (reverse frames.new.items) s progress.new part.new) }
     ensures stepped { IfOk result (λ s. Stepped scope.entry.text.now at 0 progress.new s) }
     ensures escapes { IfOk result (λ _. All (IsCharBoundary scope.entry.text.now) part.new.escapes) }
 {
@@ -79,7 +81,10 @@ fn end_collections<'a>(
     ensures progress { IfOk result (λ _. ProgressAt text.now progress.new) }
     ensures places { IfOk result (λ o. IfSome o (λ n. FitsAt text.now at n.fit)) }
     ensures escapes { IfOk result (λ _. part.new.escapes ≡ part.old.escapes) }
-    ensures tied { (d : ℕ) → (root : BlockTask) → (before : Part) → AtResume text.now d root before (reverse frames.old.items) at progress.old part.old → IfOk result (λ o. MatchOption o (AtDone text.now d root before at part.new) (λ n. AtFit text.now d root before (reverse frames.new.items) at n progress.new part.new)) }
+    ensures tied { (d : ℕ) → (root : BlockTask) → (before : Part)
+        → AtResume text.now d root before (reverse frames.old.items) at progress.old part.old
+        → IfOk result (λ o. MatchOption o (AtDone text.now d root before at part.new)
+        (λ n. AtFit text.now d root before (reverse frames.new.items) at n progress.new part.new)) }
 {
     let place = entry_place(text, at);
     'frames: while let Some(frame) = frames.pop() {
@@ -145,7 +150,10 @@ fn next_entry<'a>(
     requires boundary { IsCharBoundary scope.text.now at }
     requires progress { ProgressAt scope.text.now progress.old }
     requires escapes { All (IsCharBoundary scope.text.now) part.old.escapes }
-    ensures tied { (line : ℕ) → (d : ℕ) → (root : BlockTask) → (before : Part) → d < 2 ^ 64 → PairLine scope.entry.text.now line frame at → AtTop scope.entry.text.now d root before (reverse frames.old.items) line frame progress.old part.old → IfOk result (λ s. KeyOrTied scope.entry.text.now d root before (reverse frames.new.items) s progress.new part.new) }
+    ensures tied { (line : ℕ) → (d : ℕ) → (root : BlockTask) → (before : Part) → d < 2 ^ 64
+        → PairLine scope.entry.text.now line frame at → AtTop scope.entry.text.now d root before
+        (reverse frames.old.items) line frame progress.old part.old
+        → IfOk result (λ s. KeyOrTied scope.entry.text.now d root before (reverse frames.new.items) s progress.new part.new) }
     ensures stepped { IfOk result (λ s. Stepped scope.entry.text.now at 0 progress.new s) }
     ensures escapes { IfOk result (λ _. All (IsCharBoundary scope.entry.text.now) part.new.escapes) }
 {

@@ -1,6 +1,11 @@
-pub mod BreakChars
-pub mod ChainLemmas
+-- The lemmas, each group under the function or the theorem that it serves.
+
+-- characters at offsets: `peek` and `stands`, and each reader above
+pub mod TextLemmas
 pub mod CharBounds
+pub mod BreakChars
+-- a reader takes the longest part, with one meaning (`Chosen` of all readers above)
+pub mod ChainLemmas
+-- escapes: `read_escape` and `push_escaped`, and that what is spelled is read again
 pub mod EscapeLemmas
 pub mod SpelledLemmas
-pub mod TextLemmas

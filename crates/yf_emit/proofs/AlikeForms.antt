@@ -6,7 +6,7 @@ use Rattle.yf_comments.specs.Comment.{CommentValue}
 use Rattle.yf_events.specs.Alike.{Alike, alike_scalars, alike_aliases, alike_sequences, alike_mappings, AlikeItems, alike_nothing, alike_item, AlikePairs, alike_no_pairs, alike_pair}
 use Rattle.yf_events.specs.Event.{Placed, sequence_starts, sequence_ends, mapping_starts, mapping_ends}
 use Rattle.yf_events.specs.Tree.{Node, scalar, alias, sequence, mapping, Items, Pairs, is_filled_flow, flat, flat_items, flat_pairs, placed, unplaced}
-use Rattle.yf_emit.specs.declared.decide.Form.{Form}
+use Rattle.yf_emit.specs.declared.form.decide.Form.{Form}
 use Rattle.yf_emit.specs.declared.style.Style.{Style}
 use Rattle.yf_emit.specs.Forms.{Site, site_at, key_site, value_site, no_form, is_kept_at, form_of, forms_within, forms, forms_of_items, forms_of_pairs}
 use Rattle.yf_emit.specs.Measures.{up_to_greatest}

@@ -6,7 +6,7 @@ use Rattle.yf_events.specs.Tree.{DocumentTree, Node, leaves}
 use Rattle.yf_events.specs.declared.directive.Directive.{Directive}
 use Rattle.yf_events.specs.declared.document.Doc.{Doc}
 use Rattle.yf_events.specs.declared.event.Span.{Span}
-use Rattle.yf_emit.specs.declared.decide.Form.{Form}
+use Rattle.yf_emit.specs.declared.form.decide.Form.{Form}
 use Rattle.yf_emit.specs.Forms.{document_forms, documents_are_placed, forms, is_placed, no_form, site_at, stream_forms}
 use Rattle.yf_emit.specs.Measuring.{setting}
 use Rattle.yf_emit.specs.Normal.{Setting, root_spot, styled}

@@ -7,7 +7,7 @@ use Rattle.std.proofs.lemmas.List.{length-append}
 use Rattle.yf_events.specs.Event.{Placed, stream_starts, stream_ends, document_starts, document_ends}
 use Rattle.yf_events.specs.Tree.{DocumentTree, flat, flat_document, flat_stream, unplaced}
 use Rattle.yf_events.specs.declared.document.Doc.{Doc}
-use Rattle.yf_emit.specs.declared.decide.Form.{Form}
+use Rattle.yf_emit.specs.declared.form.decide.Form.{Form}
 use Rattle.yf_emit.specs.Begins.{keys_begin, keys_begin_in_documents}
 use Rattle.yf_emit.specs.Drafts.{Draft, finished, no_draft}
 use Rattle.yf_emit.specs.Forms.{Site, document_forms, documents_are_placed, forms, is_placed, no_form, site_at, stream_forms}

@@ -8,7 +8,7 @@ use Rattle.std.specs.Str.{is_utf8}
 use Rattle.yf_props.specs.Props.{PropsValue}
 use Rattle.yf_events.specs.declared.event.ScalarStyle.{ScalarStyle}
 use Rattle.yf_events.specs.declared.event.Span.{Span}
-use Rattle.yf_emit.specs.declared.ended.Ended.{Ended}
+use Rattle.yf_emit.specs.declared.form.ended.Ended.{Ended}
 use Rattle.yf_emit.specs.Kept.{has_comment, may_be_kept, items_may_be_kept, pairs_may_be_kept}
 use Rattle.yf_emit.specs.Measures.{up_to_greatest, width_if, joined_width, leaf_indices, first_of, last_of}
 use Rattle.yf_emit.specs.Measuring.{joined_sum, opened, closed, have_texts, ended_scalar, ended_alias, leaf_if}

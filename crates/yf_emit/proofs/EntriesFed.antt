@@ -4,7 +4,7 @@ use Rattle.std.specs.Prelude.{is_some}
 use Rattle.yf_comments.specs.Comment.{CommentValue}
 use Rattle.yf_events.specs.Tree.{Node, entry_start, is_block_collection, items_in, leaves, props_of, standing, starts_of_entry}
 use Rattle.yf_events.specs.declared.event.Entry.{Entry}
-use Rattle.yf_emit.specs.declared.printer.Spot as Printer
+use Rattle.yf_emit.specs.declared.print.printer.Spot as Printer
 use Rattle.yf_emit.specs.Drafts.{Draft, behind_if, opened, with_blank, with_key_trail, with_text, without_blank}
 use Rattle.yf_emit.specs.Layout.{ended, may_be_blank_behind}
 use Rattle.yf_emit.specs.OneLine.{colon_behind, props_text, written}

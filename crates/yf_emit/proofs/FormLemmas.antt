@@ -7,10 +7,10 @@ use Rattle.std.proofs.lemmas.List.{length-append, length-replicate}
 use Rattle.std.proofs.lemmas.Option.{get_or_from_slice_get}
 use Rattle.yf_events.specs.Event.{Placed, sequence_starts, sequence_ends, mapping_starts, mapping_ends}
 use Rattle.yf_props.specs.Props.{PropsValue}
-use Rattle.yf_emit.specs.declared.decide.Form.{Form}
-use Rattle.yf_emit.specs.declared.keys.Key.{Key}
-use Rattle.yf_emit.specs.declared.places.Level.{Level}
-use Rattle.yf_emit.specs.declared.measure.Measure.{Measure}
+use Rattle.yf_emit.specs.declared.form.decide.Form.{Form}
+use Rattle.yf_emit.specs.declared.form.keys.Key.{Key}
+use Rattle.yf_emit.specs.declared.form.places.Level.{Level}
+use Rattle.yf_emit.specs.declared.form.measure.Measure.{Measure}
 use Rattle.yf_emit.specs.Deciding as Deciding
 use Rattle.yf_emit.specs.Deciding.{Given, given, State, state, next, pass, past, node, behind_node, is_leaf_at, is_whole, form_at, next_place, next_stack, key_of, may_be_implicit}
 use Rattle.yf_emit.specs.Forms.{Site, site_at, key_site, value_site, forms, forms_of_items, forms_of_pairs, no_form, form_of, forms_within, is_kept_at, is_placed, items_are_placed, pairs_are_placed}

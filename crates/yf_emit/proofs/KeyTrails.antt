@@ -8,7 +8,7 @@ use Rattle.yf_props.specs.Props.{PropsValue}
 use Rattle.yf_events.specs.Tree.{Node, scalar, alias, sequence, mapping, Items, no_items, item, Pairs, no_pairs, pair, flat_items, flat_pairs, is_filled_flow, is_text, leaves}
 use Rattle.yf_events.specs.declared.event.ScalarStyle.TheVariants.{Plain, Single, Double, Literal, Folded}
 use Rattle.yf_events.specs.declared.event.Span.{Span}
-use Rattle.yf_emit.specs.declared.decide.Form.{Form}
+use Rattle.yf_emit.specs.declared.form.decide.Form.{Form}
 use Rattle.yf_emit.specs.Forms.{Site, first_index, form_of, forms, forms_of_items, forms_of_pairs, forms_within, index_between, is_kept_at, key_comment_index, key_site, no_form, site_at, value_comment, value_site}
 use Rattle.yf_emit.specs.Measuring.{setting}
 use Rattle.yf_emit.specs.Normal as Normal

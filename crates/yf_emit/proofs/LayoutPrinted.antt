@@ -3,8 +3,8 @@ use Rattle.std.proofs.Common.{◌≡◌, ℕ, ◌+◌, ◌≤◌, true, List, []
 use Rattle.std.specs.Prelude.{◌-◌, ◌*◌, ◌^◌}
 use Rattle.yf_events.specs.Tree.{DocumentTree, TreesOf}
 use Rattle.yf_events.specs.declared.lists.Lists.{Lists}
-use Rattle.yf_emit.specs.declared.decide.Form.{Form}
-use Rattle.yf_emit.specs.declared.measure.Measure.{Measure}
+use Rattle.yf_emit.specs.declared.form.decide.Form.{Form}
+use Rattle.yf_emit.specs.declared.form.measure.Measure.{Measure}
 use Rattle.yf_emit.specs.declared.style.Style.{Style}
 use Rattle.yf_emit.specs.Begins.{keys_begin_in_documents}
 use Rattle.yf_emit.specs.Decorated.{rows_of}

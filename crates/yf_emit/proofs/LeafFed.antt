@@ -5,8 +5,8 @@ use Rattle.yf_events.specs.Event.{Placed}
 use Rattle.yf_events.specs.Tree.{Node, items_in, leaves}
 use Rattle.yf_events.specs.declared.event.ScalarStyle.{ScalarStyle}
 use Rattle.yf_events.specs.declared.event.Span.{Span}
-use Rattle.yf_emit.specs.declared.decide.Form.{Form}
-use Rattle.yf_emit.specs.declared.printer.Spot as Printer
+use Rattle.yf_emit.specs.declared.form.decide.Form.{Form}
+use Rattle.yf_emit.specs.declared.print.printer.Spot as Printer
 use Rattle.yf_emit.specs.BlockLines.{block_lines, final_feeds, header_text, is_kept_tail}
 use Rattle.yf_emit.specs.Deciding.{further}
 use Rattle.yf_emit.specs.Drafts.{Draft, opened, with_blank, with_body, with_key_trail, with_text, without_blank}

@@ -7,8 +7,8 @@ use Rattle.std.proofs.lemmas.Bool.Decides.{nat_tests}
 use Rattle.yf_events.specs.Event.{Placed}
 use Rattle.yf_events.specs.declared.event.Span.{Span}
 use Rattle.yf_events.specs.declared.lists.Lists.{Lists}
-use Rattle.yf_emit.specs.declared.measure.Measure.{Measure}
-use Rattle.yf_emit.specs.declared.trails.Leaf.{Leaf}
+use Rattle.yf_emit.specs.declared.form.measure.Measure.{Measure}
+use Rattle.yf_emit.specs.declared.print.trails.Leaf.{Leaf}
 use Rattle.yf_emit.specs.Drafts.{count_to}
 use Rattle.yf_emit.specs.Trailing.{State, first_of, is_leaf, leaf_if, next, pass, with_leaf}
 

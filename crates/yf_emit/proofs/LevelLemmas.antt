@@ -4,9 +4,9 @@ use Rattle.std.specs.Prelude.{Option, true}
 use Rattle.std.proofs.Math.Seq.{set-append_seam, get_or-append_seam}
 use Rattle.std.proofs.lemmas.List.{length-append, reverse-append}
 use Rattle.yf_events.specs.Event.{EventValue}
-use Rattle.yf_emit.specs.declared.keys.Key.{Key}
-use Rattle.yf_emit.specs.declared.places.Level.{Level}
-use Rattle.yf_emit.specs.declared.measure.Measure.{Measure}
+use Rattle.yf_emit.specs.declared.form.keys.Key.{Key}
+use Rattle.yf_emit.specs.declared.form.places.Level.{Level}
+use Rattle.yf_emit.specs.declared.form.measure.Measure.{Measure}
 use Rattle.yf_emit.specs.Deciding.{Given, next_stack, key_behind}
 
 last_level : (x : Level) (xs : List Level) → (zs : List Level) × (y : Level) × (x ∷ xs ≡ zs ++ (y ∷ []))

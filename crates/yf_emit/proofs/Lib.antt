@@ -1,93 +1,50 @@
-pub mod AlikeForms
-pub mod AlikeLemmas
-pub mod AmongLemmas
-pub mod BlockFits
-pub mod BlockLemmas
-pub mod BlockTexts
-pub mod CalmRows
-pub mod ClearRows
-pub mod CollectionsMade
-pub mod CommentsFit
-pub mod CountLemmas
-pub mod DecoratedLemmas
-pub mod DirectivesFit
-pub mod DraftLemmas
-pub mod DocumentsMade
-pub mod EndedLemmas
-pub mod EntriesMade
-mod Examples
-pub mod FedLemmas
-pub mod FeedLemmas
-pub mod FlagLemmas
-pub mod FlowFits
-pub mod FormLemmas
-pub mod FormatsRead
-pub mod GapLemmas
-pub mod GapsFit
-pub mod IndexLemmas
-pub mod JoinLemmas
-pub mod KeptLemmas
-pub mod KeysMade
-pub mod LayoutLawsHold
-pub mod LeafFits
-pub mod LeafLemmas
-pub mod LeafTexts
-pub mod LevelLemmas
-pub mod LineUtf8
-pub mod MarksOrder
-pub mod MeasuredLemmas
-pub mod NodePlaces
-pub mod NodeTrails
-pub mod NodesMade
-pub mod NormalLemmas
-pub mod NormalRestyled
-pub mod OffsetLemmas
-pub mod OneLineRuns
-pub mod PassLemmas
-pub mod PlainFits
-pub mod PlaceLemmas
-pub mod PlacedTrees
-pub mod PropsFits
-pub mod ReadDerived
-pub mod ReadFits
-pub mod ReadParts
-pub mod ReadingsOfTexts
-pub mod RestyledLemmas
-pub mod RowEnds
-pub mod PrintLemmas
-pub mod QuotedFits
-pub mod RowTexts
-pub mod RowTrails
-pub mod RowsUtf8
-pub mod RunLemmas
-pub mod ScalarsMade
-pub mod SameContent
-pub mod SeenTexts
-pub mod SettledLemmas
-mod ShownComments
-mod ShownDecos
-mod ShownKeys
-mod ShownLayouts
-mod ShownNodes
-mod ShownScalars
-pub mod SignLemmas
-pub mod SiteLemmas
-pub mod SkipLemmas
-pub mod StepLemmas
-pub mod StreamLemmas
-pub mod StreamsMade
-pub mod SumLemmas
-pub mod TrailLemmas
-pub mod TreeTexts
-pub mod TreesMade
-pub mod TreesRead
-pub mod UniqueLemmas
-pub mod ValueLemmas
-pub mod WantedLemmas
-pub mod WhiteLemmas
+-- The lemmas, each group under the function or the theorem that it serves.
+
+-- texts and widths: `width` and `written`, lines of block scalars
 pub mod WidthLemmas
-pub mod SettledTwice
+pub mod TreeTexts
+pub mod BlockLemmas
+pub mod WhiteLemmas
+pub mod GapLemmas
+-- `measure_all`: how wide each node is
+pub mod LevelLemmas
+pub mod OffsetLemmas
+pub mod SumLemmas
+pub mod EndedLemmas
+pub mod PassLemmas
+pub mod StepLemmas
+pub mod MeasuredLemmas
+-- `decide` and `implicit_key`: the form of each node
+pub mod IndexLemmas
+pub mod AmongLemmas
+pub mod CountLemmas
+pub mod LeafLemmas
+pub mod RunLemmas
+pub mod SiteLemmas
+pub mod ValueLemmas
+pub mod PlaceLemmas
+pub mod FormLemmas
+pub mod StreamLemmas
+pub mod SettledLemmas
+pub mod FlagLemmas
+-- `kept_text`: what may be on one line
+pub mod WantedLemmas
+pub mod OneLineRuns
+pub mod KeptLemmas
+-- `normal`: the normal form of a reading, which is settled, and the only one
+pub mod RestyledLemmas
+pub mod NormalLemmas
 pub mod StyledTwice
+pub mod SettledTwice
+pub mod UniqueLemmas
+-- `layout`: the pass of the printer prints the rows of the layout
+pub mod DraftLemmas
+pub mod PrintLemmas
+pub mod SkipLemmas
+pub mod FeedLemmas
+pub mod FedLemmas
+pub mod JoinLemmas
+pub mod SignLemmas
 pub mod NotedLemmas
 pub mod LeafFed
 pub mod LeafPrinted
@@ -100,20 +57,78 @@ pub mod PairSites
 pub mod NodesPrinted
 pub mod DocumentsPrinted
 pub mod LayoutPrinted
+-- `find_trails`: the comments that trail are those of the layout
+pub mod TrailLemmas
 pub mod LeafMarks
-pub mod MarkSpans
-pub mod KeyTrails
-pub mod DocumentTrails
-pub mod TrailsHold
-pub mod NormalSame
-pub mod NestsRun
-pub mod NormalParts
-pub mod LayoutHolds
-pub mod WritingLemmas
-pub mod FormatHolds
 pub mod TrailChoice
 pub mod TrailRuns
 pub mod TrailLeaves
 pub mod TrailOthers
-pub mod TrailsAgree
 pub mod RowLeaves
+pub mod TrailsAgree
+-- the reading of a text is one of a text (`ReadingsAreOfTexts`)
+pub mod MarksOrder
+pub mod PlacedTrees
+pub mod ReadingsOfTexts
+-- what is read can be written and is read again (`Fits`, `ReadTrees`)
+pub mod PropsFits
+pub mod PlainFits
+pub mod QuotedFits
+pub mod LeafFits
+pub mod LeafTexts
+pub mod FlowFits
+pub mod BlockFits
+pub mod ReadParts
+pub mod ReadDerived
+pub mod ReadFits
+-- a layout is a text, and is derived as its trees (`LayoutsAreTexts`, `LayoutsAreDerived`)
+pub mod DecoratedLemmas
+pub mod RowEnds
+pub mod ClearRows
+pub mod RowTexts
+pub mod RowsUtf8
+pub mod GapsFit
+pub mod BlockTexts
+pub mod NodePlaces
+pub mod NodesMade
+pub mod ScalarsMade
+pub mod EntriesMade
+pub mod KeysMade
+pub mod CollectionsMade
+pub mod TreesMade
+pub mod DocumentsMade
+pub mod StreamsMade
+pub mod LayoutLawsHold
+-- trees that are alike up to places are laid out alike (a second run changes nothing)
+pub mod AlikeLemmas
+pub mod AlikeForms
+-- the definitions by small readings
+mod Examples
+mod ShownNodes
+mod ShownKeys
+mod ShownComments
+mod ShownDecos
+mod ShownScalars
+mod ShownLayouts
+-- for further theorems
+pub mod CalmRows
+pub mod CommentsFit
+pub mod DirectivesFit
+pub mod DocumentTrails
+pub mod FormatHolds
+pub mod FormatsRead
+pub mod KeyTrails
+pub mod LayoutHolds
+pub mod LineUtf8
+pub mod MarkSpans
+pub mod NestsRun
+pub mod NodeTrails
+pub mod NormalParts
+pub mod NormalRestyled
+pub mod NormalSame
+pub mod RowTrails
+pub mod SameContent
+pub mod SeenTexts
+pub mod TrailsHold
+pub mod TreesRead
+pub mod WritingLemmas

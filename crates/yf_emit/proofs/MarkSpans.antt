@@ -7,7 +7,7 @@ use Rattle.std.proofs.lemmas.Option.{get_or_from_slice_get}
 use Rattle.yf_events.specs.Event.{Placed, sequence_starts, sequence_ends, mapping_starts, mapping_ends, scalar_node, alias_node, document_starts, document_ends, stream_starts, stream_ends}
 use Rattle.yf_events.specs.Tree.{Node, scalar, alias, sequence, mapping, Items, no_items, item, Pairs, no_pairs, pair, DocumentTree, flat, flat_document, flat_items, flat_pairs, flat_stream, is_text, leaves, leaves_of_items, leaves_of_pairs, placed, spans_of_leaf, standing, unplaced}
 use Rattle.yf_events.specs.declared.event.Span.{Span}
-use Rattle.yf_emit.specs.declared.measure.Measure.{Measure}
+use Rattle.yf_emit.specs.declared.form.measure.Measure.{Measure}
 use Rattle.yf_emit.specs.Deciding as Deciding
 use Rattle.yf_emit.specs.Forms.{documents_are_placed, is_placed, items_are_placed, pairs_are_placed}
 use Rattle.yf_emit.specs.Keys.{NodeAt}

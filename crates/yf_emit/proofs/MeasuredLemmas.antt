@@ -5,9 +5,9 @@ use Rattle.std.proofs.lemmas.List.{length-append}
 use Rattle.std.proofs.lemmas.List.{length-set}
 use Rattle.yf_events.specs.Event.{EventValue, Placed, stream_starts, stream_ends, document_starts, document_ends, sequence_starts, sequence_ends, mapping_starts, mapping_ends, scalar_node, alias_node}
 use Rattle.yf_events.specs.declared.event.Span.{Span}
-use Rattle.yf_emit.specs.declared.ended.Ended.{Ended}
-use Rattle.yf_emit.specs.declared.measure.Measure.{Measure}
-use Rattle.yf_emit.specs.declared.collection.Open.{Open}
+use Rattle.yf_emit.specs.declared.form.ended.Ended.{Ended}
+use Rattle.yf_emit.specs.declared.form.measure.Measure.{Measure}
+use Rattle.yf_emit.specs.declared.form.collection.Open.{Open}
 use Rattle.yf_emit.specs.Keys.{NodeAt}
 use Rattle.yf_emit.specs.Measures.{Measured, measure_of, no_measure}
 use Rattle.yf_emit.specs.Measuring.{Found, found, opened, closed, handed, noted, popped, begun, passed, past, pass, have_texts, ended_scalar, ended_alias}

@@ -5,9 +5,9 @@ use Rattle.yf_comments.specs.Comment.{CommentValue}
 use Rattle.yf_events.specs.Event.{Placed, sequence_starts, sequence_ends, mapping_starts, mapping_ends}
 use Rattle.yf_events.specs.Tree.{Node, scalar, alias, sequence, mapping, Items, no_items, item, Pairs, no_pairs, pair, flat, flat_items, flat_pairs, placed, standing, unplaced}
 use Rattle.yf_events.specs.declared.event.Entry.{Entry}
-use Rattle.yf_emit.specs.declared.decide.Form.{Form}
-use Rattle.yf_emit.specs.declared.printer.Awaited.TheVariants.{Item, Key}
-use Rattle.yf_emit.specs.declared.printer.Level.{Level}
+use Rattle.yf_emit.specs.declared.form.decide.Form.{Form}
+use Rattle.yf_emit.specs.declared.print.printer.Awaited.TheVariants.{Item, Key}
+use Rattle.yf_emit.specs.declared.print.printer.Level.{Level}
 use Rattle.yf_emit.specs.Drafts.{Draft, behind_if}
 use Rattle.yf_emit.specs.Forms.{Site, key_comment_index, key_site, site_at, value_site}
 use Rattle.yf_emit.specs.Normal.{Setting, inner_spot, is_implicit, key_comment, key_spot, settled, value_spot}

@@ -10,8 +10,8 @@ use Rattle.yf_comments.specs.Comment.{CommentValue}
 use Rattle.yf_props.specs.Props.{PropsValue}
 use Rattle.yf_lines.specs.declared.quotes.Quotes.{Quotes}
 use Rattle.yf_events.specs.Event.{Placed, stream_starts, stream_ends, document_starts, document_ends, sequence_starts, sequence_ends, mapping_starts, mapping_ends}
-use Rattle.yf_emit.specs.declared.decide.Form.{Form}
-use Rattle.yf_emit.specs.declared.measure.Measure.{Measure}
+use Rattle.yf_emit.specs.declared.form.decide.Form.{Form}
+use Rattle.yf_emit.specs.declared.form.measure.Measure.{Measure}
 use Rattle.yf_emit.specs.declared.style.Style.{Style}
 use Rattle.yf_events.specs.declared.lists.Lists.{Lists}
 use Rattle.yf_emit.specs.Deciding.{is_leaf_at}

@@ -9,8 +9,8 @@ use Rattle.yf_quoted.specs.Written.{quotes_for}
 use Rattle.yf_events.specs.Event.{EventValue, Placed, sequence_ends, mapping_ends}
 use Rattle.yf_events.specs.declared.event.ScalarStyle.{ScalarStyle}
 use Rattle.yf_events.specs.declared.event.ScalarStyle.TheVariants.{Plain, Single, Double, Literal, Folded}
-use Rattle.yf_emit.specs.declared.kept.Expected.{Expected}
-use Rattle.yf_emit.specs.declared.kept.Expected.TheVariants.{FirstItem, Item, FirstKey, Key}
+use Rattle.yf_emit.specs.declared.form.kept.Expected.{Expected}
+use Rattle.yf_emit.specs.declared.form.kept.Expected.TheVariants.{FirstItem, Item, FirstKey, Key}
 use Rattle.yf_emit.specs.declared.style.Style.{Style}
 use Rattle.yf_emit.specs.Keys.{AddsKept, NodeAt}
 use Rattle.yf_emit.specs.Kept.{may_be_kept, items_may_be_kept, pairs_may_be_kept, scalar_may_be_kept, has_comment}

@@ -7,9 +7,9 @@ use Rattle.yf_events.specs.Tree.{Node, scalar, alias, sequence, mapping, no_item
 use Rattle.yf_events.specs.declared.event.Entry.{Entry}
 use Rattle.yf_events.specs.declared.event.ScalarStyle.TheVariants.{Plain, Single, Double, Literal, Folded}
 use Rattle.yf_events.specs.declared.event.Span.{Span}
-use Rattle.yf_emit.specs.declared.decide.Form.{Form}
-use Rattle.yf_emit.specs.declared.printer.Awaited.TheVariants.{Key}
-use Rattle.yf_emit.specs.declared.printer.Level.{Level}
+use Rattle.yf_emit.specs.declared.form.decide.Form.{Form}
+use Rattle.yf_emit.specs.declared.print.printer.Awaited.TheVariants.{Key}
+use Rattle.yf_emit.specs.declared.print.printer.Level.{Level}
 use Rattle.yf_emit.specs.declared.style.Style.{Style}
 use Rattle.yf_emit.specs.Begins.{keys_begin, keys_begin_in_pairs, no_entry}
 use Rattle.yf_emit.specs.Deciding.{further}

@@ -5,7 +5,7 @@ use Rattle.yf_comments.specs.Comment.{CommentValue}
 use Rattle.yf_events.specs.Tree.{Node, is_filled_flow, is_text, items_in, leaves, standing}
 use Rattle.yf_events.specs.declared.event.Entry.{Entry}
 use Rattle.yf_events.specs.declared.event.Span.{Span}
-use Rattle.yf_emit.specs.declared.decide.Form.{Form}
+use Rattle.yf_emit.specs.declared.form.decide.Form.{Form}
 use Rattle.yf_emit.specs.Drafts.{Draft, behind_if, with_text}
 use Rattle.yf_emit.specs.Forms.{first_index, index_between, key_comment_index}
 use Rattle.yf_emit.specs.Normal as Normal

@@ -4,9 +4,9 @@ use Rattle.std.proofs.Math.Seq.{set-append_seam}
 use Rattle.std.proofs.lemmas.Bool.{and_parts}
 use Rattle.std.proofs.lemmas.List.{length-append}
 use Rattle.yf_events.specs.Event.{Placed, sequence_ends, mapping_ends}
-use Rattle.yf_emit.specs.declared.ended.Ended.{Ended}
-use Rattle.yf_emit.specs.declared.measure.Measure.{Measure}
-use Rattle.yf_emit.specs.declared.collection.Open.{Open}
+use Rattle.yf_emit.specs.declared.form.ended.Ended.{Ended}
+use Rattle.yf_emit.specs.declared.form.measure.Measure.{Measure}
+use Rattle.yf_emit.specs.declared.form.collection.Open.{Open}
 use Rattle.yf_emit.specs.Measures.{measure_of, no_measure}
 use Rattle.yf_emit.specs.Measuring.{found, opened, closed, handed, noted, popped, pass, have_texts, with_node, ended_scalar, ended_alias}
 use Rattle.yf_emit.specs.Normal.{Setting}

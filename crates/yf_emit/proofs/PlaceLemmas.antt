@@ -5,8 +5,8 @@ use Rattle.std.proofs.lemmas.Bool.{and_parts}
 use Rattle.yf_comments.specs.Comment.{CommentValue}
 use Rattle.yf_events.specs.Event.{Placed}
 use Rattle.yf_events.specs.declared.event.ScalarStyle.TheVariants.{Plain, Single, Double, Literal, Folded}
-use Rattle.yf_emit.specs.declared.keys.Key.{Key}
-use Rattle.yf_emit.specs.declared.places.Place.{Place}
+use Rattle.yf_emit.specs.declared.form.keys.Key.{Key}
+use Rattle.yf_emit.specs.declared.form.places.Place.{Place}
 use Rattle.yf_emit.specs.declared.style.Style.{Style}
 use Rattle.yf_emit.specs.Deciding as Deciding
 use Rattle.yf_emit.specs.Deciding.{Given, given, further, has_room, colon_width, is_leaf_at, comment_if, place_behind, value_place, key_place, place_in_map, key_width, key_of, key_behind, may_be_implicit}

@@ -2,11 +2,11 @@
 use Rattle.std.proofs.Common.{◌≡◌, ℕ, zero, suc, ◌+◌, ◌-◌, ◌≤◌, Bool, true, false, ◌&&◌, List, [], ◌∷◌, length, get_or, refl, sym, ap, ◌∙◌, subst, arith, true≢false}
 use Rattle.std.specs.Prelude.{◌^◌, ◌*◌, if◌then◌else◌}
 use Rattle.yf_events.specs.Tree.{Node, scalar, alias, sequence, mapping, Items, no_items, item, Pairs, no_pairs, pair, flat, is_block_collection, is_collection, is_filled_flow, props_of, standing}
-use Rattle.yf_emit.specs.declared.decide.Form.{Form}
-use Rattle.yf_emit.specs.declared.measure.Measure.{Measure}
-use Rattle.yf_emit.specs.declared.printer.Awaited.TheVariants.{Item, Key}
-use Rattle.yf_emit.specs.declared.printer.Level.{Level}
-use Rattle.yf_emit.specs.declared.printer.Spot as Printer
+use Rattle.yf_emit.specs.declared.form.decide.Form.{Form}
+use Rattle.yf_emit.specs.declared.form.measure.Measure.{Measure}
+use Rattle.yf_emit.specs.declared.print.printer.Awaited.TheVariants.{Item, Key}
+use Rattle.yf_emit.specs.declared.print.printer.Level.{Level}
+use Rattle.yf_emit.specs.declared.print.printer.Spot as Printer
 use Rattle.yf_emit.specs.Deciding.{is_leaf_at}
 use Rattle.yf_emit.specs.Drafts.{Draft}
 use Rattle.yf_emit.specs.Forms.{Site, form_of, forms, is_placed, no_form}

@@ -5,11 +5,11 @@ use Rattle.std.proofs.lemmas.Bool.{and_parts}
 use Rattle.yf_props.specs.Props.{PropsValue}
 use Rattle.yf_events.specs.Event.{Placed, sequence_starts, sequence_ends, mapping_starts, mapping_ends}
 use Rattle.yf_events.specs.Tree.{Standing, Node, sequence, mapping, Items, item, Pairs, pair, flat, flat_items, flat_pairs, is_block_collection, is_filled_flow, is_text, placed, props_of, standing, unplaced}
-use Rattle.yf_emit.specs.declared.decide.Form.{Form}
-use Rattle.yf_emit.specs.declared.printer.Awaited.{Awaited}
-use Rattle.yf_emit.specs.declared.printer.Awaited.TheVariants.{Item}
-use Rattle.yf_emit.specs.declared.printer.Level.{Level}
-use Rattle.yf_emit.specs.declared.printer.Spot as Printer
+use Rattle.yf_emit.specs.declared.form.decide.Form.{Form}
+use Rattle.yf_emit.specs.declared.print.printer.Awaited.{Awaited}
+use Rattle.yf_emit.specs.declared.print.printer.Awaited.TheVariants.{Item}
+use Rattle.yf_emit.specs.declared.print.printer.Level.{Level}
+use Rattle.yf_emit.specs.declared.print.printer.Spot as Printer
 use Rattle.yf_emit.specs.Begins.{keys_begin, keys_begin_in_items, keys_begin_in_pairs}
 use Rattle.yf_emit.specs.Drafts.{Draft}
 use Rattle.yf_emit.specs.Forms.{Site, forms, forms_of_items, forms_of_pairs, is_placed, items_are_placed, no_form, pairs_are_placed, site_at}

@@ -4,8 +4,8 @@ use Rattle.std.specs.Prelude.{nat_lt, if◌then◌else◌}
 use Rattle.std.proofs.lemmas.Bool.Decides.{nat_tests}
 use Rattle.std.proofs.lemmas.List.{length-append}
 use Rattle.yf_events.specs.Event.{Placed}
-use Rattle.yf_emit.specs.declared.decide.Form.{Form}
-use Rattle.yf_emit.specs.declared.printer.Level.{Level}
+use Rattle.yf_emit.specs.declared.form.decide.Form.{Form}
+use Rattle.yf_emit.specs.declared.print.printer.Level.{Level}
 use Rattle.yf_emit.specs.Drafts.{Draft}
 use Rattle.yf_emit.specs.Forms.{no_form}
 use Rattle.yf_emit.specs.Printing.{State, Work, looked, pass, state}

@@ -4,10 +4,10 @@ use Rattle.std.specs.Prelude.{drop, slice_get, nat_lt, if◌then◌else◌}
 use Rattle.std.proofs.lemmas.Bool.Decides.{nat_tests}
 use Rattle.std.proofs.lemmas.List.{length-append, drop_all}
 use Rattle.yf_events.specs.Event.{EventValue, Placed, stream_starts, stream_ends, document_starts, document_ends, sequence_starts, sequence_ends, mapping_starts, mapping_ends, scalar_node, alias_node}
-use Rattle.yf_emit.specs.declared.decide.Form.{Form}
-use Rattle.yf_emit.specs.declared.places.Level.{Level}
-use Rattle.yf_emit.specs.declared.places.Place.{Place}
-use Rattle.yf_emit.specs.declared.measure.Measure.{Measure}
+use Rattle.yf_emit.specs.declared.form.decide.Form.{Form}
+use Rattle.yf_emit.specs.declared.form.places.Level.{Level}
+use Rattle.yf_emit.specs.declared.form.places.Place.{Place}
+use Rattle.yf_emit.specs.declared.form.measure.Measure.{Measure}
 use Rattle.yf_emit.specs.Deciding.{Given, State, state, past, next, pass, behind_node, node_at, form_at, is_whole, is_kept, next_place, next_stack}
 use Rattle.yf_emit.specs.Forms.{no_form}
 use Rattle.yf_emit.specs.Measures.{no_measure}

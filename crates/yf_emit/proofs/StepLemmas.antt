@@ -10,9 +10,9 @@ use Rattle.yf_comments.specs.Comment.{CommentValue, comment_value}
 use Rattle.yf_comments.specs.declared.comment.Comment.{Comment}
 use Rattle.yf_events.specs.Event.{EventValue, Placed}
 use Rattle.yf_events.specs.declared.event.Span.{Span}
-use Rattle.yf_emit.specs.declared.ended.Ended.{Ended}
-use Rattle.yf_emit.specs.declared.measure.Measure.{Measure}
-use Rattle.yf_emit.specs.declared.collection.Open.{Open}
+use Rattle.yf_emit.specs.declared.form.ended.Ended.{Ended}
+use Rattle.yf_emit.specs.declared.form.measure.Measure.{Measure}
+use Rattle.yf_emit.specs.declared.form.collection.Open.{Open}
 use Rattle.yf_emit.specs.Measures.{up_to_greatest, width_if, joined_width, no_measure, Measured}
 use Rattle.yf_emit.specs.Measuring.{found, handed, with_node, passed, past, pass, has_text, have_texts}
 use Rattle.yf_emit.specs.Normal.{Setting}

@@ -8,8 +8,8 @@ use Rattle.yf_events.specs.declared.event.ScalarStyle.TheVariants.{Plain, Single
 use Rattle.yf_props.specs.Props.{PropsValue}
 use Rattle.yf_lines.specs.declared.quotes.Quotes.{Quotes}
 use Rattle.yf_quoted.specs.Written.{quotes_for}
-use Rattle.yf_emit.specs.declared.ended.Ended.{Ended}
-use Rattle.yf_emit.specs.declared.collection.Open.{Open}
+use Rattle.yf_emit.specs.declared.form.ended.Ended.{Ended}
+use Rattle.yf_emit.specs.declared.form.collection.Open.{Open}
 use Rattle.yf_emit.specs.Kept.{may_be_kept, items_may_be_kept, pairs_may_be_kept}
 use Rattle.yf_emit.specs.Measures.{up_to_greatest, width_if, leaf_indices, leaf_indices_of_items, leaf_indices_of_pairs, first_of, last_of, measure_of}
 use Rattle.yf_emit.specs.Measuring.{or_else, sum_of, with_node, zero_if, have_texts}

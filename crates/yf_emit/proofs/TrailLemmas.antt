@@ -5,7 +5,7 @@ use Rattle.std.proofs.lemmas.List.{drop_all}
 use Rattle.yf_events.specs.Event.{Placed}
 use Rattle.yf_events.specs.declared.event.Span.{Span}
 use Rattle.yf_events.specs.declared.lists.Lists.{Lists}
-use Rattle.yf_emit.specs.declared.measure.Measure.{Measure}
+use Rattle.yf_emit.specs.declared.form.measure.Measure.{Measure}
 use Rattle.yf_emit.specs.Trailing.{State, next, pass}
 
 step_at : (r : Lists) (ms : List Measure) (n i : ℕ) (es : List Placed) (s : Option Span) (w : State) → slice_get (map (λ e. e.span) es) i ≡ Some s

@@ -8,7 +8,7 @@ use Rattle.std.proofs.lemmas.List.{get_or-set_other, get_or-set_same, length-set
 use Rattle.yf_comments.specs.Comment.{CommentValue}
 use Rattle.yf_events.specs.declared.event.Span.{Span}
 use Rattle.yf_events.specs.declared.lists.Lists.{Lists}
-use Rattle.yf_emit.specs.declared.trails.Leaf.{Leaf}
+use Rattle.yf_emit.specs.declared.print.trails.Leaf.{Leaf}
 use Rattle.yf_emit.specs.Drafts.{count_to}
 use Rattle.yf_emit.specs.Trailing.{Found, ended, given, given_if, is_at, state, trails_leaf}
 use Rattle.yf_emit.specs.InOrder.{rising}

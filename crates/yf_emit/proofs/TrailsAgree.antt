@@ -8,7 +8,7 @@ use Rattle.std.proofs.lemmas.List.{get_or-set_other, get_or-set_same, length-set
 use Rattle.yf_comments.specs.Comment.{CommentValue}
 use Rattle.yf_events.specs.declared.event.Span.{Span}
 use Rattle.yf_events.specs.declared.lists.Lists.{Lists}
-use Rattle.yf_emit.specs.declared.trails.Leaf.{Leaf}
+use Rattle.yf_emit.specs.declared.print.trails.Leaf.{Leaf}
 use Rattle.yf_emit.specs.Layout.{Source, first_comment, is_among, trailing, trailing_leaf}
 use Rattle.yf_emit.specs.Rows.{Row}
 use Rattle.yf_emit.specs.Trailing.{Found, given, given_if, trails_leaf}

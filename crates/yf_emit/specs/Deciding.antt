@@ -5,11 +5,11 @@ use Rattle.yf_events.specs.Event.{EventValue, Placed, sequence_starts, sequence_
 use Rattle.yf_events.specs.declared.event.Entry.{Entry}
 use Rattle.yf_events.specs.declared.event.ScalarStyle.TheVariants.{Plain}
 use Rattle.yf_events.specs.declared.event.Span.{Span}
-use Rattle.yf_emit.specs.declared.decide.Form.{Form}
-use Rattle.yf_emit.specs.declared.keys.Key.{Key}
-use Rattle.yf_emit.specs.declared.places.Level.{Level}
-use Rattle.yf_emit.specs.declared.places.Place.{Place}
-use Rattle.yf_emit.specs.declared.measure.Measure.{Measure}
+use Rattle.yf_emit.specs.declared.form.decide.Form.{Form}
+use Rattle.yf_emit.specs.declared.form.keys.Key.{Key}
+use Rattle.yf_emit.specs.declared.form.places.Level.{Level}
+use Rattle.yf_emit.specs.declared.form.places.Place.{Place}
+use Rattle.yf_emit.specs.declared.form.measure.Measure.{Measure}
 use Rattle.yf_emit.specs.declared.style.Style.{Style}
 use Rattle.yf_emit.specs.Forms.{first_index, no_form}
 use Rattle.yf_emit.specs.Measures.{up_to_greatest, no_measure}

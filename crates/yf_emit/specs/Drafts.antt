@@ -2,7 +2,7 @@
 use Rattle.std.specs.Prelude.{ℕ, suc, ◌+◌, ◌-◌, min, Bool, true, false, ◌&&◌, nat_lt, if◌then◌else◌, List, [], ◌∷◌, ◌++◌, length, replicate, take, drop, get_or, slice_get, Option, Some, None}
 use Rattle.std.specs.String.{string_bytes}
 use Rattle.yf_comments.specs.Comment.{CommentValue}
-use Rattle.yf_emit.specs.declared.output.Output.{Output}
+use Rattle.yf_emit.specs.declared.print.output.Output.{Output}
 use Rattle.yf_emit.specs.Layout.{behind_two_spaces, trimmed}
 
 -- all comments, and for each whether it trails a leaf or a key

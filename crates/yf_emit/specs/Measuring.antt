@@ -7,9 +7,9 @@ use Rattle.yf_events.specs.declared.event.ScalarStyle.{ScalarStyle}
 use Rattle.yf_events.specs.declared.event.Span.{Span}
 use Rattle.yf_lines.specs.declared.quotes.Quotes.{Quotes}
 use Rattle.yf_props.specs.Props.{PropsValue}
-use Rattle.yf_emit.specs.declared.ended.Ended.{Ended}
-use Rattle.yf_emit.specs.declared.measure.Measure.{Measure}
-use Rattle.yf_emit.specs.declared.collection.Open.{Open}
+use Rattle.yf_emit.specs.declared.form.ended.Ended.{Ended}
+use Rattle.yf_emit.specs.declared.form.measure.Measure.{Measure}
+use Rattle.yf_emit.specs.declared.form.collection.Open.{Open}
 use Rattle.yf_emit.specs.declared.style.Style.{Style}
 use Rattle.yf_emit.specs.Kept.{has_comment, scalar_may_be_kept}
 use Rattle.yf_emit.specs.Measures.{up_to_greatest, width_if, is_one_line_style, joined_width, no_measure}

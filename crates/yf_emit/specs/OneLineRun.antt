@@ -3,8 +3,8 @@ use Rattle.std.specs.Prelude.{ℕ, ◌+◌, ◌-◌, Bool, true, false, List, []
 use Rattle.yf_lines.specs.declared.quotes.Quotes.{Quotes}
 use Rattle.yf_props.specs.Props.{PropsValue}
 use Rattle.yf_events.specs.Event.{EventValue, Placed, stream_starts, stream_ends, document_starts, document_ends, sequence_starts, sequence_ends, mapping_starts, mapping_ends, scalar_node, alias_node}
-use Rattle.yf_emit.specs.declared.kept.Expected.{Expected}
-use Rattle.yf_emit.specs.declared.kept.Expected.TheVariants.{FirstItem, Item, FirstKey, Key, Value, ValueOfAlias}
+use Rattle.yf_emit.specs.declared.form.kept.Expected.{Expected}
+use Rattle.yf_emit.specs.declared.form.kept.Expected.TheVariants.{FirstItem, Item, FirstKey, Key, Value, ValueOfAlias}
 use Rattle.yf_emit.specs.OneLine.{props_text, scalar_text, space_behind}
 use Rattle.yf_emit.specs.Wanted.{wanted}
 

@@ -1,6 +1,6 @@
 -- The printer between two events, as what it has printed and what it awaits.
 use Rattle.std.specs.Prelude.{reverse}
-use Rattle.yf_emit.specs.declared.layout.Printer.{Printer}
+use Rattle.yf_emit.specs.declared.print.layout.Printer.{Printer}
 use Rattle.yf_emit.specs.Drafts.{draft}
 use Rattle.yf_emit.specs.Printing.{State, state}
 

@@ -9,13 +9,13 @@ use Rattle.yf_events.specs.declared.event.ScalarStyle.{ScalarStyle}
 use Rattle.yf_events.specs.declared.event.ScalarStyle.TheVariants.{Plain, Single, Double, Literal, Folded}
 use Rattle.yf_events.specs.declared.event.Span.{Span}
 use Rattle.yf_events.specs.declared.lists.Lists.{Lists}
-use Rattle.yf_emit.specs.declared.decide.Form.{Form}
-use Rattle.yf_emit.specs.declared.measure.Measure.{Measure}
-use Rattle.yf_emit.specs.declared.printer.Awaited.{Awaited}
-use Rattle.yf_emit.specs.declared.printer.Awaited.TheVariants.{Item, Key, Value, ExplicitValue}
-use Rattle.yf_emit.specs.declared.printer.Level.{Level}
-use Rattle.yf_emit.specs.declared.printer.Plan.{Plan}
-use Rattle.yf_emit.specs.declared.printer.Spot.{Spot}
+use Rattle.yf_emit.specs.declared.form.decide.Form.{Form}
+use Rattle.yf_emit.specs.declared.form.measure.Measure.{Measure}
+use Rattle.yf_emit.specs.declared.print.printer.Awaited.{Awaited}
+use Rattle.yf_emit.specs.declared.print.printer.Awaited.TheVariants.{Item, Key, Value, ExplicitValue}
+use Rattle.yf_emit.specs.declared.print.printer.Level.{Level}
+use Rattle.yf_emit.specs.declared.print.printer.Plan.{Plan}
+use Rattle.yf_emit.specs.declared.print.printer.Spot.{Spot}
 use Rattle.yf_emit.specs.declared.style.Style.{Style}
 use Rattle.yf_emit.specs.BlockLines.{block_lines, final_feeds, header_text, is_kept_tail}
 use Rattle.yf_emit.specs.Deciding.{further, has_space, is_leaf_at}

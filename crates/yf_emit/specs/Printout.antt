@@ -1,9 +1,9 @@
 -- The text that one pass over its events prints of a reading, by the measures and forms of its nodes, and by the comments that trail.
 use Rattle.std.specs.Prelude.{◌≡◌, ℕ, List, []}
 use Rattle.yf_events.specs.declared.lists.Lists.{Lists}
-use Rattle.yf_emit.specs.declared.decide.Form.{Form}
-use Rattle.yf_emit.specs.declared.measure.Measure.{Measure}
-use Rattle.yf_emit.specs.declared.printer.Plan.{Plan}
+use Rattle.yf_emit.specs.declared.form.decide.Form.{Form}
+use Rattle.yf_emit.specs.declared.form.measure.Measure.{Measure}
+use Rattle.yf_emit.specs.declared.print.printer.Plan.{Plan}
 use Rattle.yf_emit.specs.declared.style.Style.{Style}
 use Rattle.yf_emit.specs.Forms.{Decided}
 use Rattle.yf_emit.specs.Layout.{Writes}

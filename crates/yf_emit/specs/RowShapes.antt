@@ -2,7 +2,7 @@
 use Rattle.std.specs.Prelude.{◌≡◌, ℕ, ◌+◌, Bool, true, false, is_some, List, [], ◌∷◌, ◌++◌, length, replicate}
 use Rattle.yf_comments.specs.Comment.{CommentValue}
 use Rattle.yf_events.specs.Tree.{Node}
-use Rattle.yf_emit.specs.declared.decide.Form.{Form}
+use Rattle.yf_emit.specs.declared.form.decide.Form.{Form}
 use Rattle.yf_emit.specs.declared.style.Style.{Style}
 use Rattle.yf_emit.specs.Forms.{value_comment}
 use Rattle.yf_emit.specs.Normal.{is_implicit, key_comment}

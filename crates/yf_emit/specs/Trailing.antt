@@ -4,10 +4,10 @@ use Rattle.yf_comments.specs.Comment.{CommentValue}
 use Rattle.yf_events.specs.Event.{Placed}
 use Rattle.yf_events.specs.declared.event.Span.{Span}
 use Rattle.yf_events.specs.declared.lists.Lists.{Lists}
-use Rattle.yf_emit.specs.declared.decide.Form.{Form}
-use Rattle.yf_emit.specs.declared.measure.Measure.{Measure}
-use Rattle.yf_emit.specs.declared.trails.Leaf.{Leaf}
-use Rattle.yf_emit.specs.declared.trails.Trails.{Trails}
+use Rattle.yf_emit.specs.declared.form.decide.Form.{Form}
+use Rattle.yf_emit.specs.declared.form.measure.Measure.{Measure}
+use Rattle.yf_emit.specs.declared.print.trails.Leaf.{Leaf}
+use Rattle.yf_emit.specs.declared.print.trails.Trails.{Trails}
 use Rattle.yf_emit.specs.Deciding.{is_leaf_at}
 use Rattle.yf_emit.specs.Drafts.{count_to}
 use Rattle.yf_emit.specs.Measures.{no_measure}

@@ -4,8 +4,8 @@ use Rattle.yf_comments.specs.Comment.{CommentValue}
 use Rattle.yf_events.specs.Tree.{DocumentTree, Node, TreesOf, is_text, standing}
 use Rattle.yf_events.specs.declared.event.Span.{Span}
 use Rattle.yf_events.specs.declared.lists.Lists.{Lists}
-use Rattle.yf_emit.specs.declared.decide.Form.{Form}
-use Rattle.yf_emit.specs.declared.measure.Measure.{Measure}
+use Rattle.yf_emit.specs.declared.form.decide.Form.{Form}
+use Rattle.yf_emit.specs.declared.form.measure.Measure.{Measure}
 use Rattle.yf_emit.specs.declared.style.Style.{Style}
 use Rattle.yf_emit.specs.Decorated.{rows_of}
 use Rattle.yf_emit.specs.Forms.{Decided}

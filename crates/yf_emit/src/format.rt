@@ -4,8 +4,8 @@ ghost use Rattle.std.specs.String.{string_bytes};
 ghost use Rattle.yf_emit.specs.Formatted.{Formatted};
 ghost use Rattle.yf_stream.specs.Refusal.{IsStreamFault};
 
-use crate::layout::layout;
 use crate::normal::normal;
+use crate::print::layout::layout;
 use crate::style::Style;
 use std::alloc::{AllocError, Global};
 use yf_events::reading::Reading;

@@ -10,13 +10,15 @@ ghost use Rattle.yf_emit.specs.NormalEvents.{normal_from};
 ghost use Rattle.yf_emit.specs.Restyled.{IsRestyled, lines_of, restyled, restyled_event};
 ghost use Rattle.yf_emit.specs.Textual.{IsTextual};
 
-use crate::copies::{
+pub mod copies;
+
+use crate::form::decide::{Forms, decide};
+use crate::form::measure::{Measures, measure_all};
+use crate::normal::copies::{
     copied_comments, copied_documents, copied_notes, copied_offsets, copied_slices,
 };
-use crate::decide::{Forms, decide};
-use crate::measure::{Measures, measure_all};
 use crate::style::Style;
-use crate::wanted::wanted_of;
+use crate::text::wanted::wanted_of;
 use std::alloc::{AllocError, Global};
 use yf_events::event::{Event, NewEvent, PlacedEvent, ScalarStyle, View};
 use yf_events::events::Events;

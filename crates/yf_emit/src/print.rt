@@ -2,7 +2,13 @@
 ghost use Rattle.std.specs.Prelude.{IfErr, OnOk};
 ghost use Rattle.yf_emit.specs.Printed.{RefusedPrint, WroteMade};
 
-use crate::layout::layout;
+pub mod layout;
+pub(crate) mod leaves;
+pub mod output;
+pub(crate) mod printer;
+pub mod trails;
+
+use crate::print::layout::layout;
 use crate::style::Style;
 use std::alloc::{AllocError, Global};
 use yf_events::reading::Reading;
@@ -24,8 +30,10 @@ pub fn print<W: Sink>(
     style: &Style,
     writer: &mut W,
 ) -> Result<(), Fault>
-    ensures printed { OnOk result (WroteMade reading.now style.now (W.contents writer.old) (W.contents writer.new) (W.has_failed writer.old) (W.has_failed writer.new)) }
-    ensures refused { IfErr result (λ fault. RefusedPrint reading.now style.now (W.contents writer.old) (W.contents writer.new) (W.has_failed writer.old) (W.has_failed writer.new) fault) }
+    ensures printed { OnOk result (WroteMade reading.now style.now (W.contents writer.old) (W.contents writer.new)
+        (W.has_failed writer.old) (W.has_failed writer.new)) }
+    ensures refused { IfErr result (λ fault. RefusedPrint reading.now style.now (W.contents writer.old) (W.contents writer.new)
+        (W.has_failed writer.old) (W.has_failed writer.new) fault) }
 {
     match layout(alloc, reading, style) {
         Ok(text) => write_text(writer, text.as_str().as_bytes()),

@@ -1,12 +1,20 @@
+-- The lemmas, each group under the function or the theorem that it serves.
+
+-- `Reading::build`: it accepts exactly the well nested streams within the limit
+pub mod Nests
+pub mod Rests
 pub mod Advances
 pub mod Build
-pub mod ContentRuns
-pub mod EscapedRuns
-pub mod Nests
+-- `begins_leaf`, `leaves_before` and `place_of`
 pub mod LeafRuns
+-- `content`
+pub mod ContentRuns
+-- `write_events` and `write_escaped`
 pub mod PieceRuns
-pub mod Rests
-pub mod TreeLemmas
-pub mod TreesExist
+pub mod EscapedRuns
+-- lists of events in rows: `Events` and `Tags`
 pub mod PackedRows
 pub mod TagLists
+-- trees of events: at most one list of them, and one exactly where the places are those of trees
+pub mod TreeLemmas
+pub mod TreesExist

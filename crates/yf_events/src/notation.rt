@@ -119,7 +119,8 @@ fn bare_head(style: ScalarStyle) -> &'static str
 
 // Writes the line of a scalar without properties, as most are, by three writes.
 fn write_bare_scalar<W: Sink>(writer: &mut W, style: ScalarStyle, text: &str) -> Result<(), Fault>
-    ensures { Writes (W.contents writer.old) (W.contents writer.new) (W.has_failed writer.old) (W.has_failed writer.new) (bare_line style text.now) result }
+    ensures { Writes (W.contents writer.old) (W.contents writer.new) (W.has_failed writer.old) (W.has_failed writer.new)
+        (bare_line style text.now) result }
 {
     write_text(writer, bare_head(style).as_bytes())?;
     write_escaped(writer, text)?;
@@ -133,7 +134,8 @@ fn write_start<'x, W: Sink>(
     anchor: Option<&'x str>,
     tag: Option<&'x ResolvedTag<'x>>,
 ) -> Result<(), Fault>
-    ensures { Writes (W.contents writer.old) (W.contents writer.new) (W.has_failed writer.old) (W.has_failed writer.new) (start_line name.now (name_value anchor.entry) (name_value tag.entry)) result }
+    ensures { Writes (W.contents writer.old) (W.contents writer.new) (W.has_failed writer.old) (W.has_failed writer.new)
+        (start_line name.now (name_value anchor.entry) (name_value tag.entry)) result }
 {
     match (anchor, tag) {
         (None, None) => write_texts(writer, &[name, "\n"]),

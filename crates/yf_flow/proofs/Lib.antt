@@ -1,15 +1,18 @@
-pub mod BegunLemmas
-pub mod EntryNotes
+-- The lemmas, each group under the function or the theorem that it serves.
+
+-- what all functions rest on: ends, looks ahead, open collections and notes
 pub mod Forward
-pub mod Frames
-pub mod LeafLemmas
 pub mod LookLemmas
+pub mod LeafLemmas
 pub mod KeyLineLemmas
 pub mod MachineLemmas
-pub mod NodeBegunLemmas
-pub mod NodeEnds
+pub mod Frames
+pub mod EntryNotes
 pub mod NotedLemmas
-pub mod ReadersLemmas
+-- `read_content`: what is found where a node is awaited
+pub mod BegunLemmas
+pub mod NodeBegunLemmas
+-- `read_flow_node` and `read_implicit_key`: the stack and the recursive reader agree (`Tied`)
 pub mod TiedBase
 pub mod TiedBegun
 pub mod TiedClose
@@ -24,3 +27,6 @@ pub mod TiedPairs
 pub mod TiedSigns
 pub mod TiedTaken
 pub mod TiedValues
+-- for further theorems
+pub mod NodeEnds
+pub mod ReadersLemmas

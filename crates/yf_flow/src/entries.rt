@@ -75,7 +75,10 @@ pub(crate) fn take_node<'a>(
     requires top { Awaiting scene.text.now (length part.old.events) top }
     requires below { All (Indexed scene.text.now (length part.old.events)) below.old.items }
     requires escapes { All (IsCharBoundary scene.text.now) part.old.escapes }
-    ensures tied { (base : Base) → Reading scene.entry.text.now scene.entry.context scene.entry.limit base → AtNode scene.entry.text.now scene.entry.indentation scene.entry.context base (reverse below.old.items) top at part.old → IfOk result (λ s. StepTied scene.entry.text.now scene.entry.indentation scene.entry.context base (reverse below.new.items) s.top s.step part.new) }
+    ensures tied { (base : Base) → Reading scene.entry.text.now scene.entry.context scene.entry.limit base
+        → AtNode scene.entry.text.now scene.entry.indentation scene.entry.context base (reverse below.old.items) top at part.old
+        → IfOk result (λ s. StepTied scene.entry.text.now scene.entry.indentation scene.entry.context base
+        (reverse below.new.items) s.top s.step part.new) }
     ensures ready { IfOk result (λ s. Ready scene.entry.text.now at (length part.new.events) below.new.items s) }
     ensures moves { IfOk result (λ s. left (length scene.entry.text.now) s.step < 2 * (length scene.entry.text.now - at) + 1) }
     ensures escapes { IfOk result (λ _. All (IsCharBoundary scene.entry.text.now) part.new.escapes) }
@@ -114,7 +117,10 @@ pub(crate) fn start_entry<'a>(
     requires boundary { IsCharBoundary scene.text.now at }
     requires top { Awaiting scene.text.now (length part.old.events) top }
     requires below { All (Indexed scene.text.now (length part.old.events)) below.old.items }
-    ensures tied { (base : Base) → Reading scene.entry.text.now scene.entry.context scene.entry.limit base → AtEntry scene.entry.text.now scene.entry.indentation scene.entry.context base (reverse below.old.items) top at part.old → IfOk result (λ s. StepTied scene.entry.text.now scene.entry.indentation scene.entry.context base (reverse below.new.items) s.top s.step part.new) }
+    ensures tied { (base : Base) → Reading scene.entry.text.now scene.entry.context scene.entry.limit base
+        → AtEntry scene.entry.text.now scene.entry.indentation scene.entry.context base (reverse below.old.items) top at part.old
+        → IfOk result (λ s. StepTied scene.entry.text.now scene.entry.indentation scene.entry.context base
+        (reverse below.new.items) s.top s.step part.new) }
     ensures ready { IfOk result (λ s. Ready scene.entry.text.now at (length part.new.events) below.new.items s) }
     ensures moves { IfOk result (λ s. left (length scene.entry.text.now) s.step ≤ 2 * (length scene.entry.text.now - at) + 1) }
     ensures escapes { IfOk result (λ _. part.new.escapes ≡ part.old.escapes) }
@@ -171,7 +177,12 @@ fn explicit_entry<'a>(
     requires boundary { IsCharBoundary scene.text.now at }
     requires top { Awaiting scene.text.now (length part.old.events) top }
     requires below { All (Indexed scene.text.now (length part.old.events)) below.old.items }
-    ensures tied { (base : Base) → Reading scene.entry.text.now scene.entry.context scene.entry.limit base → (cs : List CommentValue) → code scene.entry.text.now top.entry ≡ 63 → Chosen (Separate scene.entry.text.now scene.entry.indentation scene.entry.context (top.entry + 1)) at cs → AtFirst scene.entry.text.now scene.entry.indentation scene.entry.context base (reverse below.old.items) top cs part.old → IfOk result (λ s. StepTied scene.entry.text.now scene.entry.indentation scene.entry.context base (reverse below.new.items) s.top s.step part.new) }
+    ensures tied { (base : Base) → Reading scene.entry.text.now scene.entry.context scene.entry.limit base
+        → (cs : List CommentValue) → code scene.entry.text.now top.entry ≡ 63
+        → Chosen (Separate scene.entry.text.now scene.entry.indentation scene.entry.context (top.entry + 1)) at cs
+        → AtFirst scene.entry.text.now scene.entry.indentation scene.entry.context base (reverse below.old.items) top cs part.old
+        → IfOk result (λ s. StepTied scene.entry.text.now scene.entry.indentation scene.entry.context base
+        (reverse below.new.items) s.top s.step part.new) }
     ensures ready { IfOk result (λ s. Ready scene.entry.text.now at (length part.new.events) below.new.items s) }
     ensures moves { IfOk result (λ s. left (length scene.entry.text.now) s.step ≤ 2 * (length scene.entry.text.now - at) + 1) }
     ensures escapes { IfOk result (λ _. part.new.escapes ≡ part.old.escapes) }
@@ -211,7 +222,11 @@ fn lone_value<'a>(
     requires boundary { IsCharBoundary scene.text.now (colon + 1) }
     requires top { Awaiting scene.text.now (length part.old.events) top }
     requires below { All (Indexed scene.text.now (length part.old.events)) below.old.items }
-    ensures tied { (base : Base) → Reading scene.entry.text.now scene.entry.context scene.entry.limit base → ColonAt scene.entry.text.now false scene.entry.context colon → top.entry ≡ colon → AtFirst scene.entry.text.now scene.entry.indentation scene.entry.context base (reverse below.old.items) top [] part.old → IfOk result (λ s. StepTied scene.entry.text.now scene.entry.indentation scene.entry.context base (reverse below.new.items) s.top s.step part.new) }
+    ensures tied { (base : Base) → Reading scene.entry.text.now scene.entry.context scene.entry.limit base
+        → ColonAt scene.entry.text.now false scene.entry.context colon → top.entry ≡ colon
+        → AtFirst scene.entry.text.now scene.entry.indentation scene.entry.context base (reverse below.old.items) top [] part.old
+        → IfOk result (λ s. StepTied scene.entry.text.now scene.entry.indentation scene.entry.context base
+        (reverse below.new.items) s.top s.step part.new) }
     ensures ready { IfOk result (λ s. Ready scene.entry.text.now colon (length part.new.events) below.new.items s) }
     ensures moves { IfOk result (λ s. left (length scene.entry.text.now) s.step ≤ 2 * (length scene.entry.text.now - colon) + 1) }
     ensures escapes { IfOk result (λ _. part.new.escapes ≡ part.old.escapes) }
@@ -237,7 +252,10 @@ fn keyless_value<'a>(
     requires boundary { IsCharBoundary scene.text.now (colon + 1) }
     requires top { Awaiting scene.text.now (length part.old.events) top }
     requires below { All (Indexed scene.text.now (length part.old.events)) below.old.items }
-    ensures tied { (base : Base) → Reading scene.entry.text.now scene.entry.context scene.entry.limit base → (cs : List CommentValue) → code scene.entry.text.now top.entry ≢ 10 → (a : AtSign scene.entry.text.now scene.entry.indentation scene.entry.context base (reverse below.old.items) top cs part.old) → AloneAwaited scene.entry.text.now scene.entry.indentation scene.entry.context a.layer cs colon → IfOk result (λ s. StepTied scene.entry.text.now scene.entry.indentation scene.entry.context base (reverse below.new.items) s.top s.step part.new) }
+    ensures tied { (base : Base) → Reading scene.entry.text.now scene.entry.context scene.entry.limit base
+        → (cs : List CommentValue) → code scene.entry.text.now top.entry ≢ 10
+        → (a : AtSign scene.entry.text.now scene.entry.indentation scene.entry.context base
+        (reverse below.old.items) top cs part.old) → AloneAwaited scene.entry.text.now scene.entry.indentation scene.entry.context a.layer cs colon → IfOk result (λ s. StepTied scene.entry.text.now scene.entry.indentation scene.entry.context base (reverse below.new.items) s.top s.step part.new) }
     ensures ready { IfOk result (λ s. Ready scene.entry.text.now colon (length part.new.events) below.new.items s) }
     ensures moves { IfOk result (λ s. left (length scene.entry.text.now) s.step ≤ 2 * (length scene.entry.text.now - colon) + 1) }
     ensures escapes { IfOk result (λ _. part.new.escapes ≡ part.old.escapes) }
@@ -257,7 +275,11 @@ fn in_mapping<'a>(
 ) -> Result<Option<Frame>, AllocError>
     requires top { Awaiting scene.text.now (length part.old.events) top }
     requires below { All (Indexed scene.text.now (length part.old.events)) below.old.items }
-    ensures tied { (base : Base) → Reading scene.entry.text.now scene.entry.context scene.entry.limit base → (p : ℕ) → (cs : List CommentValue) → SignAt scene.entry.text.now scene.entry.indentation scene.entry.context top.entry cs p → AtFirst scene.entry.text.now scene.entry.indentation scene.entry.context base (reverse below.old.items) top cs part.old → IfOk result (λ o. MatchOption o (NoBase scene.entry.text.now scene.entry.indentation base) (λ f. AtSign scene.entry.text.now scene.entry.indentation scene.entry.context base (reverse below.new.items) f cs part.new)) }
+    ensures tied { (base : Base) → Reading scene.entry.text.now scene.entry.context scene.entry.limit base → (p : ℕ)
+        → (cs : List CommentValue) → SignAt scene.entry.text.now scene.entry.indentation scene.entry.context top.entry cs p
+        → AtFirst scene.entry.text.now scene.entry.indentation scene.entry.context base (reverse below.old.items) top cs part.old
+        → IfOk result (λ o. MatchOption o (NoBase scene.entry.text.now scene.entry.indentation base)
+        (λ f. AtSign scene.entry.text.now scene.entry.indentation scene.entry.context base (reverse below.new.items) f cs part.new)) }
     ensures below { IfOk result (λ _. All (Indexed scene.entry.text.now (length part.new.events)) below.new.items) }
     ensures top { IfOk result (λ o. IfSome o (λ f. Awaiting scene.entry.text.now (length part.new.events) f)) }
     ensures room { IfOk result (λ o. IfSome o (λ f. f.entry ≡ top.entry)) }
@@ -319,7 +341,11 @@ pub(crate) fn await_value<'a>(
     requires boundary { IsCharBoundary scene.text.now (colon + 1) }
     requires top { Indexed scene.text.now (length part.old.events) top }
     requires below { All (Indexed scene.text.now (length part.old.events)) below.old.items }
-    ensures tied { (base : Base) → IsUtf8 scene.entry.text.now → AtValue scene.entry.text.now scene.entry.indentation scene.entry.context base (reverse below.old.items) top json colon part.old → IfOk result (λ s. StepTied scene.entry.text.now scene.entry.indentation scene.entry.context base (reverse below.new.items) s.top s.step part.new) }
+    ensures tied { (base : Base) → IsUtf8 scene.entry.text.now
+        → AtValue scene.entry.text.now scene.entry.indentation scene.entry.context base
+        (reverse below.old.items) top json colon part.old → IfOk result
+        (λ s. StepTied scene.entry.text.now scene.entry.indentation scene.entry.context base
+        (reverse below.new.items) s.top s.step part.new) }
     ensures ready { IfOk result (λ s. Ready scene.entry.text.now colon (length part.new.events) below.new.items s) }
     ensures moves { IfOk result (λ s. left (length scene.entry.text.now) s.step ≤ 2 * (length scene.entry.text.now - colon) + 1) }
     ensures escapes { IfOk result (λ _. part.new.escapes ≡ part.old.escapes) }

@@ -32,7 +32,10 @@ pub(crate) fn finish_node<'a>(
     requires boundary { IsCharBoundary scene.text.now node.end }
     requires top { Indexed scene.text.now (length part.old.events) top }
     requires below { All (Indexed scene.text.now (length part.old.events)) below.old.items }
-    ensures tied { (base : Base) → Reading scene.entry.text.now scene.entry.context scene.entry.limit base → AtEnded scene.entry.text.now scene.entry.indentation scene.entry.context base (reverse below.old.items) top node part.old → IfOk result (λ s. StepTied scene.entry.text.now scene.entry.indentation scene.entry.context base (reverse below.new.items) s.top s.step part.new) }
+    ensures tied { (base : Base) → Reading scene.entry.text.now scene.entry.context scene.entry.limit base
+        → AtEnded scene.entry.text.now scene.entry.indentation scene.entry.context base (reverse below.old.items) top node part.old
+        → IfOk result (λ s. StepTied scene.entry.text.now scene.entry.indentation scene.entry.context base
+        (reverse below.new.items) s.top s.step part.new) }
     ensures ready { IfOk result (λ s. Ready scene.entry.text.now node.end (length part.new.events) below.new.items s) }
     ensures moves { IfOk result (λ s. left (length scene.entry.text.now) s.step ≤ 2 * (length scene.entry.text.now - node.end) + 1) }
     ensures escapes { IfOk result (λ _. part.new.escapes ≡ part.old.escapes) }
@@ -65,7 +68,10 @@ fn behind_item<'a>(
     requires boundary { IsCharBoundary scene.text.now node.end }
     requires top { Indexed scene.text.now (length part.old.events) top }
     requires below { All (Indexed scene.text.now (length part.old.events)) below.old.items }
-    ensures tied { (base : Base) → Reading scene.entry.text.now scene.entry.context scene.entry.limit base → AtEnded scene.entry.text.now scene.entry.indentation scene.entry.context base (reverse below.old.items) top node part.old → top.role ≡ Role.Item → IfOk result (λ s. StepTied scene.entry.text.now scene.entry.indentation scene.entry.context base (reverse below.new.items) s.top s.step part.new) }
+    ensures tied { (base : Base) → Reading scene.entry.text.now scene.entry.context scene.entry.limit base
+        → AtEnded scene.entry.text.now scene.entry.indentation scene.entry.context base (reverse below.old.items) top node part.old
+        → top.role ≡ Role.Item → IfOk result (λ s. StepTied scene.entry.text.now scene.entry.indentation scene.entry.context base
+        (reverse below.new.items) s.top s.step part.new) }
     ensures ready { IfOk result (λ s. Ready scene.entry.text.now node.end (length part.new.events) below.new.items s) }
     ensures moves { IfOk result (λ s. left (length scene.entry.text.now) s.step ≤ 2 * (length scene.entry.text.now - node.end) + 1) }
     ensures escapes { IfOk result (λ _. part.new.escapes ≡ part.old.escapes) }
@@ -97,7 +103,12 @@ fn pair_of_key<'a>(
     requires boundary { IsCharBoundary scene.text.now (colon + 1) }
     requires top { Indexed scene.text.now (length part.old.events) top }
     requires below { All (Indexed scene.text.now (length part.old.events)) below.old.items }
-    ensures tied { (base : Base) → Reading scene.entry.text.now scene.entry.context scene.entry.limit base → (a : AtEnded scene.entry.text.now scene.entry.indentation scene.entry.context base (reverse below.old.items) top node part.old) → top.role ≡ Role.Item → PairKey scene.entry.text.now scene.entry.context a.layer.start a.answer colon → IfOk result (λ s. StepTied scene.entry.text.now scene.entry.indentation scene.entry.context base (reverse below.new.items) s.top s.step part.new) }
+    ensures tied { (base : Base) → Reading scene.entry.text.now scene.entry.context scene.entry.limit base
+        → (a : AtEnded scene.entry.text.now scene.entry.indentation scene.entry.context base
+        (reverse below.old.items) top node part.old) → top.role ≡ Role.Item
+        → PairKey scene.entry.text.now scene.entry.context a.layer.start a.answer colon
+        → IfOk result (λ s. StepTied scene.entry.text.now scene.entry.indentation scene.entry.context base
+        (reverse below.new.items) s.top s.step part.new) }
     ensures ready { IfOk result (λ s. Ready scene.entry.text.now colon (length part.new.events) below.new.items s) }
     ensures moves { IfOk result (λ s. left (length scene.entry.text.now) s.step ≤ 2 * (length scene.entry.text.now - colon) + 1) }
     ensures escapes { IfOk result (λ _. part.new.escapes ≡ part.old.escapes) }
@@ -137,7 +148,11 @@ fn behind_key<'a>(
     requires boundary { IsCharBoundary scene.text.now node.end }
     requires top { Indexed scene.text.now (length part.old.events) top }
     requires below { All (Indexed scene.text.now (length part.old.events)) below.old.items }
-    ensures tied { (base : Base) → Reading scene.entry.text.now scene.entry.context scene.entry.limit base → (first : Frame) → AtEnded scene.entry.text.now scene.entry.indentation scene.entry.context base (reverse below.old.items) first node part.old → first.role ≡ Role.Key → Reached first node.deepest top → IfOk result (λ s. StepTied scene.entry.text.now scene.entry.indentation scene.entry.context base (reverse below.new.items) s.top s.step part.new) }
+    ensures tied { (base : Base) → Reading scene.entry.text.now scene.entry.context scene.entry.limit base → (first : Frame)
+        → AtEnded scene.entry.text.now scene.entry.indentation scene.entry.context base
+        (reverse below.old.items) first node part.old → first.role ≡ Role.Key → Reached first node.deepest top
+        → IfOk result (λ s. StepTied scene.entry.text.now scene.entry.indentation scene.entry.context base
+        (reverse below.new.items) s.top s.step part.new) }
     ensures ready { IfOk result (λ s. Ready scene.entry.text.now node.end (length part.new.events) below.new.items s) }
     ensures moves { IfOk result (λ s. left (length scene.entry.text.now) s.step ≤ 2 * (length scene.entry.text.now - node.end) + 1) }
     ensures escapes { IfOk result (λ _. part.new.escapes ≡ part.old.escapes) }
@@ -165,7 +180,11 @@ pub(crate) fn end_entry<'a>(
     requires boundary { IsCharBoundary scene.text.now at }
     requires top { Indexed scene.text.now (length part.old.events) top }
     requires below { All (Indexed scene.text.now (length part.old.events)) below.old.items }
-    ensures tied { (base : Base) → IsUtf8 scene.entry.text.now → AtEntryDone scene.entry.text.now scene.entry.indentation scene.entry.context base (reverse below.old.items) top finish at part.old → IfOk result (λ s. StepTied scene.entry.text.now scene.entry.indentation scene.entry.context base (reverse below.new.items) s.top s.step part.new) }
+    ensures tied { (base : Base) → IsUtf8 scene.entry.text.now
+        → AtEntryDone scene.entry.text.now scene.entry.indentation scene.entry.context base
+        (reverse below.old.items) top finish at part.old → IfOk result
+        (λ s. StepTied scene.entry.text.now scene.entry.indentation scene.entry.context base
+        (reverse below.new.items) s.top s.step part.new) }
     ensures ready { IfOk result (λ s. Ready scene.entry.text.now at (length part.new.events) below.new.items s) }
     ensures moves { IfOk result (λ s. left (length scene.entry.text.now) s.step ≤ 2 * (length scene.entry.text.now - at) + 1) }
     ensures escapes { IfOk result (λ _. part.new.escapes ≡ part.old.escapes) }
@@ -190,7 +209,11 @@ fn end_pair<'a>(
     requires top { Indexed scene.text.now (length part.old.events) top }
     requires below { All (Indexed scene.text.now (length part.old.events)) below.old.items }
     requires pair { top.kind ≡ Kind.Pair }
-    ensures tied { (base : Base) → IsUtf8 scene.entry.text.now → AtEntryDone scene.entry.text.now scene.entry.indentation scene.entry.context base (reverse below.old.items) top finish at part.old → IfOk result (λ s. StepTied scene.entry.text.now scene.entry.indentation scene.entry.context base (reverse below.new.items) s.top s.step part.new) }
+    ensures tied { (base : Base) → IsUtf8 scene.entry.text.now
+        → AtEntryDone scene.entry.text.now scene.entry.indentation scene.entry.context base
+        (reverse below.old.items) top finish at part.old → IfOk result
+        (λ s. StepTied scene.entry.text.now scene.entry.indentation scene.entry.context base
+        (reverse below.new.items) s.top s.step part.new) }
     ensures ready { IfOk result (λ s. Ready scene.entry.text.now at (length part.new.events) below.new.items s) }
     ensures moves { IfOk result (λ s. left (length scene.entry.text.now) s.step ≤ 2 * (length scene.entry.text.now - at) + 1) }
     ensures escapes { IfOk result (λ _. part.new.escapes ≡ part.old.escapes) }
@@ -224,7 +247,10 @@ fn after_entry<'a>(
     requires boundary { IsCharBoundary scene.text.now at }
     requires top { Indexed scene.text.now (length part.old.events) top }
     requires below { All (Indexed scene.text.now (length part.old.events)) below.old.items }
-    ensures tied { (base : Base) → IsUtf8 scene.entry.text.now → AtEntryEnd scene.entry.text.now scene.entry.indentation scene.entry.context base (reverse below.old.items) top at part.old → IfOk result (λ s. StepTied scene.entry.text.now scene.entry.indentation scene.entry.context base (reverse below.new.items) s.top s.step part.new) }
+    ensures tied { (base : Base) → IsUtf8 scene.entry.text.now
+        → AtEntryEnd scene.entry.text.now scene.entry.indentation scene.entry.context base (reverse below.old.items) top at part.old
+        → IfOk result (λ s. StepTied scene.entry.text.now scene.entry.indentation scene.entry.context base
+        (reverse below.new.items) s.top s.step part.new) }
     ensures ready { IfOk result (λ s. Ready scene.entry.text.now at (length part.new.events) below.new.items s) }
     ensures moves { IfOk result (λ s. left (length scene.entry.text.now) s.step ≤ 2 * (length scene.entry.text.now - at) + 1) }
     ensures escapes { IfOk result (λ _. part.new.escapes ≡ part.old.escapes) }
@@ -266,7 +292,10 @@ pub(crate) fn close<'a>(
     requires boundary { IsCharBoundary scene.text.now (at + 1) }
     requires top { top.event < length part.old.events }
     requires below { All (Indexed scene.text.now (length part.old.events)) below.old.items }
-    ensures tied { (base : Base) → AtClosing scene.entry.text.now scene.entry.indentation scene.entry.context base (reverse below.old.items) top at part.old → IfOk result (λ s. StepTied scene.entry.text.now scene.entry.indentation scene.entry.context base (reverse below.new.items) s.top s.step part.new) }
+    ensures tied { (base : Base) → AtClosing scene.entry.text.now scene.entry.indentation scene.entry.context base
+        (reverse below.old.items) top at part.old → IfOk result
+        (λ s. StepTied scene.entry.text.now scene.entry.indentation scene.entry.context base
+        (reverse below.new.items) s.top s.step part.new) }
     ensures ready { IfOk result (λ s. Ready scene.entry.text.now at (length part.new.events) below.new.items s) }
     ensures moves { IfOk result (λ s. left (length scene.entry.text.now) s.step ≤ 2 * (length scene.entry.text.now - at) + 1) }
     ensures escapes { IfOk result (λ _. part.new.escapes ≡ part.old.escapes) }

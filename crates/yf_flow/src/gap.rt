@@ -27,7 +27,9 @@ pub(crate) fn read_separation<'a>(
 ) -> Result<Option<Separation<'a>>, AllocError>
     requires { IsCharBoundary scene.text.now at }
     ensures place { IfOk result (λ o. IfSome o (λ p. Place scene.entry.text.now at p.end)) }
-    ensures reads { IfOk result (λ o. MatchOption o (Stuck (Separate scene.entry.text.now scene.entry.indentation scene.entry.context at)) (λ p. Chosen (Separate scene.entry.text.now scene.entry.indentation scene.entry.context at) p.end p.comments)) }
+    ensures reads { IfOk result (λ o. MatchOption o (Stuck
+        (Separate scene.entry.text.now scene.entry.indentation scene.entry.context at))
+        (λ p. Chosen (Separate scene.entry.text.now scene.entry.indentation scene.entry.context at) p.end p.comments)) }
 {
     match separate(alloc, scene.text, at, scene.indentation, scene.context)? {
         Some(separation) => Ok(Some(separation)),

@@ -36,7 +36,9 @@ pub(crate) fn read_properties<'a>(
 ) -> Result<Option<Properties<'a>>, AllocError>
     requires { IsCharBoundary scene.text.now at }
     ensures place { IfOk result (λ o. IfSome o (λ p. Place scene.entry.text.now (at + 1) p.end)) }
-    ensures reads { IfOk result (λ o. MatchOption o (Stuck (Names.Properties scene.entry.text.now scene.entry.indentation scene.entry.context at)) (λ p. Chosen (Names.Properties scene.entry.text.now scene.entry.indentation scene.entry.context at) p.end (properties_value p))) }
+    ensures reads { IfOk result (λ o. MatchOption o (Stuck
+        (Names.Properties scene.entry.text.now scene.entry.indentation scene.entry.context at))
+        (λ p. Chosen (Names.Properties scene.entry.text.now scene.entry.indentation scene.entry.context at) p.end (properties_value p))) }
 {
     match node_properties(alloc, scene.text, at, scene.indentation, scene.context)? {
         Some(properties) => Ok(Some(properties)),
@@ -52,7 +54,10 @@ pub(crate) fn read_plain<'a>(
 ) -> Result<Option<Scalar<'a>>, AllocError>
     requires { IsCharBoundary scene.text.now at }
     ensures place { IfOk result (λ o. IfSome o (λ p. Place scene.entry.text.now (at + 1) p.end)) }
-    ensures reads { IfOk result (λ o. MatchOption o (Stuck (Plain scene.entry.text.now scene.entry.indentation scene.entry.context at)) (λ p. (x : List ℕ) × (text_bytes p.text ≡ encode_utf8_all x) × Chosen (Plain scene.entry.text.now scene.entry.indentation scene.entry.context at) p.end x)) }
+    ensures reads { IfOk result (λ o. MatchOption o (Stuck
+        (Plain scene.entry.text.now scene.entry.indentation scene.entry.context at))
+        (λ p. (x : List ℕ) × (text_bytes p.text ≡ encode_utf8_all x)
+        × Chosen (Plain scene.entry.text.now scene.entry.indentation scene.entry.context at) p.end x)) }
 {
     match read_plain_in(alloc, scene.text, at, scene.indentation, scene.context) {
         Ok(Some((text, end))) => Ok(Some(Scalar { text, end })),
@@ -69,7 +74,10 @@ pub(crate) fn read_single<'a>(
 ) -> Result<Option<Scalar<'a>>, AllocError>
     requires { IsCharBoundary scene.text.now at }
     ensures place { IfOk result (λ o. IfSome o (λ p. Place scene.entry.text.now (at + 1) p.end)) }
-    ensures reads { IfOk result (λ o. MatchOption o (Stuck (SingleQuoted scene.entry.text.now scene.entry.indentation scene.entry.context at)) (λ p. (x : List ℕ) × (text_bytes p.text ≡ encode_utf8_all x) × Chosen (SingleQuoted scene.entry.text.now scene.entry.indentation scene.entry.context at) p.end x)) }
+    ensures reads { IfOk result (λ o. MatchOption o (Stuck
+        (SingleQuoted scene.entry.text.now scene.entry.indentation scene.entry.context at))
+        (λ p. (x : List ℕ) × (text_bytes p.text ≡ encode_utf8_all x)
+        × Chosen (SingleQuoted scene.entry.text.now scene.entry.indentation scene.entry.context at) p.end x)) }
 {
     match single_in(alloc, scene.text, at, scene.indentation, scene.context)? {
         Some(Single { text, end }) => Ok(Some(Scalar { text, end })),
@@ -84,7 +92,10 @@ fn read_double<'a>(
     at: usize,
 ) -> Result<Option<Double<'a>>, AllocError>
     requires { IsCharBoundary scene.text.now at }
-    ensures reads { IfOk result (λ o. MatchOption o (Stuck (DoubleQuoted scene.entry.text.now scene.entry.indentation scene.entry.context at)) (λ p. (x : List Piece) × (text_bytes p.text ≡ encode_utf8_all (text_of x)) × (p.bad ≡ bad_escapes x) × Chosen (DoubleQuoted scene.entry.text.now scene.entry.indentation scene.entry.context at) p.end x)) }
+    ensures reads { IfOk result (λ o. MatchOption o (Stuck
+        (DoubleQuoted scene.entry.text.now scene.entry.indentation scene.entry.context at))
+        (λ p. (x : List Piece) × (text_bytes p.text ≡ encode_utf8_all (text_of x)) × (p.bad ≡ bad_escapes x)
+        × Chosen (DoubleQuoted scene.entry.text.now scene.entry.indentation scene.entry.context at) p.end x)) }
     ensures place { IfOk result (λ o. IfSome o (λ p. Place scene.entry.text.now (at + 1) p.end)) }
     ensures escapes { IfOk result (λ o. IfSome o (λ p. All (IsCharBoundary scene.entry.text.now) p.bad)) }
 {

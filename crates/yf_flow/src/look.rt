@@ -66,7 +66,8 @@ pub(crate) fn content_begins(text: &str, at: usize) -> bool
 #[tactic(auto, using(crate::proofs::LeafLemmas::colon_json, crate::proofs::LeafLemmas::colon_safe, crate::proofs::LeafLemmas::no_colon, crate::proofs::LeafLemmas::colon_at_end))]
 pub(crate) fn colon_stands(scene: Scene, at: usize, json: bool) -> bool
     ensures behind { result ≡ true → IsCharBoundary scene.entry.text.now (at + 1) }
-    ensures cases { MatchBool result (ColonAt scene.entry.text.now json scene.entry.context at) (ColonAt scene.entry.text.now json scene.entry.context at → ⊥) }
+    ensures cases { MatchBool result (ColonAt scene.entry.text.now json scene.entry.context at)
+        (ColonAt scene.entry.text.now json scene.entry.context at → ⊥) }
 {
     if stands(scene.text, at, b':') {
         if json {
@@ -123,7 +124,8 @@ pub(crate) fn is_pair_key(scene: Scene, start: usize, colon: usize, json: bool) 
     requires start { IsCharBoundary scene.text.now start }
     requires colon { IsCharBoundary scene.text.now colon }
     ensures behind { result ≡ true → IsCharBoundary scene.entry.text.now (colon + 1) }
-    ensures cases { MatchBool result (KeyThere scene.entry.text.now scene.entry.context start json colon) (KeyThere scene.entry.text.now scene.entry.context start json colon → ⊥) }
+    ensures cases { MatchBool result (KeyThere scene.entry.text.now scene.entry.context start json colon)
+        (KeyThere scene.entry.text.now scene.entry.context start json colon → ⊥) }
 {
     if colon_stands(scene, colon, json) {
         if is_key_line(scene.text, start, colon) {

@@ -180,7 +180,8 @@ fn propertied_node<'a>(
     requires boundary { IsCharBoundary scene.text.now at }
     requires place { Place scene.text.now (at + 1) properties.end }
     requires escapes { All (IsCharBoundary scene.text.now) part.old.escapes }
-    requires properties { Chosen (Names.Properties scene.text.now scene.indentation scene.context at) properties.end (properties_value properties) }
+    requires properties { Chosen (Names.Properties scene.text.now scene.indentation scene.context at) properties.end
+        (properties_value properties) }
     ensures exact { IfOk result (λ b. NodeBegun scene.entry.text.now scene.entry.indentation scene.entry.context at depth scene.entry.limit entry part.old part.new b) }
     ensures begun { IfOk result (λ b. BegunAt scene.entry.text.now at (length part.old.events) (length part.new.events) b) }
     ensures grows { IfOk result (λ _. length part.old.events ≤ length part.new.events) }
@@ -242,7 +243,8 @@ pub fn push_scalar<'a>(
     end: usize,
     part: &mut Part<'a>,
 ) -> Result<(), AllocError>
-    ensures pushed { IfOk result (λ _. part.new.events ≡ part.old.events ++ (leaf_event lead.entry style (text_bytes text.entry) end ∷ [])) }
+    ensures pushed { IfOk result (λ _. part.new.events ≡ part.old.events ++
+        (leaf_event lead.entry style (text_bytes text.entry) end ∷ [])) }
     ensures found { IfOk result (λ _. length part.new.events ≡ length part.old.events + 1) }
     ensures comments { IfOk result (λ _. part.new.comments ≡ part.old.comments) }
     ensures escapes { IfOk result (λ _. part.new.escapes ≡ part.old.escapes) }

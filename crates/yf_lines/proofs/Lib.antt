@@ -1,11 +1,18 @@
+-- The lemmas, each group under the function or the theorem that it serves.
+
+-- breaks, white space, starts of lines and document markers: `line_break`, `skip_whites`, `is_line_start`, `marker_stands`
 pub mod BasicLemmas
+pub mod ClearLemmas
+-- `fold_lines` and `flow_folded`
+pub mod FoldLemmas
+-- the table of lines and places: `LineTable::build`, `line`, `is_forbidden`, `place`
 pub mod LineLemmas
 pub mod TableLemmas
+pub mod RowLemmas
 pub mod MarkLemmas
 pub mod PlaceLemmas
-pub mod ClearLemmas
-pub mod FoldLemmas
+-- `write_text` and `write_texts`
 pub mod OutputLemmas
+-- what is written is read again (the laws of layouts of yf_emit)
 pub mod RestLemmas
-pub mod RowLemmas
 pub mod VisibleLines

@@ -1,13 +1,21 @@
-pub mod HandleLemmas
+-- The lemmas, each group under the function or the theorem that it serves.
+
+-- `alias_node` and anchors
 pub mod NameLemmas
+pub mod NameOrder
+-- tags: `tag_handle`, `tag_prefix` and the tag of a node
+pub mod TagLemmas
+pub mod SolidLemmas
+-- `node_properties` and `read_props`
 pub mod PropertiesLemmas
 pub mod SeparationEnds
-pub mod SolidLemmas
-pub mod TagLemmas
+-- `Handles`: `declare` and `resolve`; the order of resolved tags
+pub mod HandleLemmas
+pub mod OrderLemmas
+-- what is written is read again (the laws of layouts of yf_emit)
 pub mod NamesMade
 pub mod NamesBack
 pub mod PropsBack
 pub mod PropsLines
+-- the definitions by small texts
 mod PropsShown
-pub mod OrderLemmas
-pub mod NameOrder

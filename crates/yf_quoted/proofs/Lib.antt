@@ -1,13 +1,20 @@
+-- The lemmas, each group under the function or the theorem that it serves.
+
+-- both kinds: their insides, gaps and closing quotes
 pub mod BodyLemmas
-pub mod CloseLemmas
-pub mod DoubleLemmas
 pub mod GapLemmas
-pub mod MarkLemmas
-pub mod QuotedLemmas
-pub mod ReadLemmas
+pub mod CloseLemmas
 pub mod ScalarLemmas
+-- `read_double`, `scan_double` and `double_in`
+pub mod DoubleLemmas
+pub mod ReadLemmas
+pub mod QuotedLemmas
+-- `read_single` and `single_in`
 pub mod SingleLemmas
 pub mod SingleReadLemmas
+pub mod MarkLemmas
+-- `write_single` and `write_double`: what is written is read again
 pub mod WriteLemmas
 pub mod QuotedBack
+-- the definitions by small texts
 mod QuotedShown

@@ -7,7 +7,7 @@ use Rattle.std.proofs.lemmas.Option.{get_or_from_slice_get, slice_get-map, slice
 use Rattle.yf_emit.specs.Keys.{NodeAt}
 use Rattle.yf_emit.specs.Measures.{Measured, measure_of, no_measure}
 use Rattle.yf_emit.specs.Normal.{Setting}
-use Rattle.yf_emit.specs.declared.measure.Measure.{Measure}
+use Rattle.yf_emit.specs.declared.form.measure.Measure.{Measure}
 use Rattle.yf_emit.proofs.AmongLemmas.{Among, first_at}
 use Rattle.yf_emit.proofs.ValueLemmas.{event_of}
 use Rattle.yf_events.specs.Event.{EventValue, Placed, stream_starts, stream_ends, document_starts, document_ends, sequence_starts, sequence_ends, mapping_starts, mapping_ends, scalar_node, alias_node}

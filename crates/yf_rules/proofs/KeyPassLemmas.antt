@@ -12,7 +12,7 @@ use Rattle.yf_rules.specs.Exact.{Exactly}
 use Rattle.yf_rules.specs.KeyPass.{AreLevels, IsLevel, KeyValue, Opened, after, event_place, has_key, is_repeat, new_level, next, offset_if, past_key, repeats_in, run, takes_key, without_first}
 use Rattle.yf_rules.specs.KeyPass.AreLevels.{no_levels, one_level}
 use Rattle.yf_rules.specs.Nodes.{RepeatedKey}
-use Rattle.yf_rules.specs.declared.repeated_keys.Level.{Level}
+use Rattle.yf_rules.specs.declared.rules.repeated_keys.Level.{Level}
 use Rattle.yf_rules.proofs.KeySetLemmas.{exactly_repeated}
 use Rattle.yf_rules.proofs.KeyTreeLemmas.{run_stream}
 

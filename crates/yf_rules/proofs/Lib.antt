@@ -1,30 +1,46 @@
-pub mod SpotLemmas
-pub mod PlacesLemmas
-pub mod FoundLemmas
+-- The lemmas, each group under the function or the theorem that it serves.
+
+-- `check`, and the places of offsets
 pub mod CheckLemmas
-pub mod BreakLemmas
+pub mod FoundLemmas
+pub mod PlacesLemmas
+pub mod SpotLemmas
+-- what is known of texts and readings, for several rules
 pub mod ExactLemmas
-pub mod RunLemmas
-pub mod WhitesLemmas
-pub mod DocumentLemmas
-pub mod MarkPassLemmas
 pub mod BegunLemmas
 pub mod NotedLemmas
+pub mod WhitesLemmas
+pub mod ColumnLemmas
+pub mod NodeLemmas
+pub mod FlowLemmas
 pub mod BlockLemmas
+-- trailing-blanks
 pub mod TrailingLemmas
+-- quoting
+pub mod StyleLemmas
+-- document-start
+pub mod DocumentLemmas
+-- final-break and line-breaks
+pub mod BreakLemmas
+-- byte-order-mark
+pub mod MarkPassLemmas
+-- blank-lines
 pub mod BlankLemmas
+-- flow-layout
+pub mod DisplacedLemmas
+-- line-length
+pub mod RunLemmas
+-- repeated-keys
 pub mod KeyTreeLemmas
 pub mod KeySetLemmas
 pub mod KeyPassLemmas
-pub mod StandTreeLemmas
-pub mod StandSetLemmas
-pub mod EntryLemmas
-pub mod PassLemmas
-pub mod StyleLemmas
-pub mod NodeLemmas
-pub mod FlowLemmas
-pub mod ColumnLemmas
-pub mod DisplacedLemmas
+-- key-mark
 pub mod NeedlessLemmas
+-- the definitions by small readings
 pub mod ShownMarks
 mod ShownKeys
+-- for further theorems
+pub mod EntryLemmas
+pub mod PassLemmas
+pub mod StandSetLemmas
+pub mod StandTreeLemmas

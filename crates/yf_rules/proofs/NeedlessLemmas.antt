@@ -10,7 +10,7 @@ use Rattle.yf_emit.specs.Forms.{no_form, stream_forms}
 use Rattle.yf_emit.specs.ImplicitKeys.{begins_implicit}
 use Rattle.yf_emit.specs.Keys.{block_keys}
 use Rattle.yf_emit.specs.Normal.{setting_of}
-use Rattle.yf_emit.specs.declared.decide.Form.{Form}
+use Rattle.yf_emit.specs.declared.form.decide.Form.{Form}
 use Rattle.yf_emit.specs.declared.style.Style.{Style}
 use Rattle.yf_emit.proofs.FlagLemmas.{implicit_there}
 use Rattle.yf_events.specs.Reading.{entries_of}

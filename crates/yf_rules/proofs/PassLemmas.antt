@@ -7,9 +7,9 @@ use Rattle.yf_events.specs.Event.{EventValue, Placed}
 use Rattle.yf_rules.specs.Entries.{all_entries, column_at, entries_from, if_any, starts_block, unmarked_at}
 use Rattle.yf_rules.specs.Passing.{IsPass, Passes, stand_of}
 use Rattle.yf_rules.specs.Standings.{after, beside, held, is_beside, next, opened, outer, past, stand_in, turned}
-use Rattle.yf_rules.specs.declared.stands.Level.{Level}
-use Rattle.yf_rules.specs.declared.stands.Pass.{Pass}
-use Rattle.yf_rules.specs.declared.stands.Stand.{Stand}
+use Rattle.yf_rules.specs.declared.facts.stands.Level.{Level}
+use Rattle.yf_rules.specs.declared.facts.stands.Pass.{Pass}
+use Rattle.yf_rules.specs.declared.facts.stands.Stand.{Stand}
 use Rattle.yf_rules.proofs.EntryLemmas.{all_from, in_none}
 
 -- a mapping before a key

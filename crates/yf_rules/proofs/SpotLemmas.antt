@@ -12,7 +12,7 @@ use Rattle.yf_lines.specs.Lines.{AreLines, Marks, PlaceOf, ColumnOf, is_char}
 use Rattle.yf_lines.specs.Lines.ColumnOf.{among_marks, behind_marks}
 use Rattle.yf_lines.specs.Lines.Holds.{inside}
 use Rattle.yf_lines.specs.Lines.PlaceOf.{in_line}
-use Rattle.yf_rules.specs.declared.spot.Spot.{Spot}
+use Rattle.yf_rules.specs.declared.facts.spot.Spot.{Spot}
 use Rattle.yf_rules.specs.Places.{Reached, IsSpot}
 
 -- what a spot says in its line

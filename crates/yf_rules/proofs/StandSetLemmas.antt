@@ -10,8 +10,8 @@ use Rattle.yf_rules.specs.Nodes.Holds.{as_item, as_key, as_value}
 use Rattle.yf_rules.specs.Nodes.StandsIn.{is_root, is_inner}
 use Rattle.yf_rules.specs.Standings.{IsHeld, Stood, held, stood, stood_in, stood_in_documents, stood_in_items, stood_in_pairs}
 use Rattle.yf_rules.specs.Standings.IsHeld.{by_nothing, by_sequence, as_its_key, as_its_value}
-use Rattle.yf_rules.specs.declared.stands.Around.{Around}
-use Rattle.yf_rules.specs.declared.stands.Around.TheVariants.{Nothing}
+use Rattle.yf_rules.specs.declared.facts.stands.Around.{Around}
+use Rattle.yf_rules.specs.declared.facts.stands.Around.TheVariants.{Nothing}
 
 -- a node of which it is told
 pub record Told (c : ℕ → Option ℕ) (m : ℕ → Bool) (trees : List DocumentTree) (s : Stood) : Type 0 where

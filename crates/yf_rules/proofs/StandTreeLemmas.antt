@@ -5,8 +5,8 @@ use Rattle.std.proofs.lemmas.List.{append-nil, length-append}
 use Rattle.yf_events.specs.Event.{Placed, sequence_ends, mapping_ends, document_ends, stream_ends}
 use Rattle.yf_events.specs.Tree.{Node, scalar, alias, sequence, mapping, Items, no_items, item, Pairs, no_pairs, pair, DocumentTree, flat, flat_items, flat_pairs, flat_document, flat_stream, unplaced}
 use Rattle.yf_rules.specs.Standings.{Stood, after, beside, held, opened, outer, past, run, stood, stood_in, stood_in_documents, stood_in_items, stood_in_pairs}
-use Rattle.yf_rules.specs.declared.stands.Around.TheVariants.{Nothing}
-use Rattle.yf_rules.specs.declared.stands.Level.{Level}
+use Rattle.yf_rules.specs.declared.facts.stands.Around.TheVariants.{Nothing}
+use Rattle.yf_rules.specs.declared.facts.stands.Level.{Level}
 
 mutual
   run_node : (x : Node) (c : ℕ → Option ℕ) (m : ℕ → Bool) (i : ℕ) (st : List Level) (rest : List Placed)

@@ -6,7 +6,7 @@ use Rattle.yf_lines.specs.Lines.{IsForbiddenLine, Table}
 use Rattle.yf_rules.specs.BlankLines.{DirectiveOf, HasOffset, IsBlank, MarkerOf, ScalarLine}
 use Rattle.yf_rules.specs.Noted.{Tells}
 use Rattle.yf_rules.specs.Whites.{IsAlone, WhitesEnd}
-use Rattle.yf_rules.specs.declared.scalar_lines.Part.{Part}
+use Rattle.yf_rules.specs.declared.facts.scalar_lines.Part.{Part}
 
 -- the line of the index k is one of those from `first` on that begin before the offset `end`
 pub record InPart (ls : List Line) (first end k : ℕ) : Type 0 where

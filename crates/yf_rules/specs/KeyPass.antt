@@ -9,8 +9,8 @@ use Rattle.yf_events.specs.Event.{EventValue, Placed, stream_starts, stream_ends
 use Rattle.yf_events.specs.Tree.{Node, scalar, alias, sequence, mapping, Items, no_items, item, Pairs, no_pairs, pair, DocumentTree, flat, flat_document}
 use Rattle.yf_props.specs.Props.{name_value}
 use Rattle.yf_rules.specs.Nodes.{entry_place, key_place, place_or}
-use Rattle.yf_rules.specs.declared.repeated_keys.Key.{Key}
-use Rattle.yf_rules.specs.declared.repeated_keys.Level.{Level}
+use Rattle.yf_rules.specs.declared.rules.repeated_keys.Key.{Key}
+use Rattle.yf_rules.specs.declared.rules.repeated_keys.Level.{Level}
 
 -- the text of a scalar key and its resolved tag, as the list of tags has it
 abbrev pub KeyValue : Type 0

@@ -3,7 +3,7 @@ use Rattle.std.specs.Prelude.{◌≡◌, ℕ, List, get_or}
 use Rattle.yf_emit.specs.Forms.{no_form}
 use Rattle.yf_emit.specs.ImplicitKeys.{begins_implicit}
 use Rattle.yf_emit.specs.Keys.{block_keys}
-use Rattle.yf_emit.specs.declared.decide.Form.{Form}
+use Rattle.yf_emit.specs.declared.form.decide.Form.{Form}
 use Rattle.yf_emit.specs.declared.style.Style.{Style}
 use Rattle.yf_events.specs.Tree.{DocumentTree}
 use Rattle.yf_events.specs.declared.lists.Lists.{Lists}

@@ -5,10 +5,10 @@ use Rattle.yf_events.specs.Event.{EventValue, Placed, sequence_starts, mapping_s
 use Rattle.yf_rules.specs.Columns.{ColumnsTo}
 use Rattle.yf_rules.specs.Entries.{all_entries, column_at, entries_from, unmarked_at}
 use Rattle.yf_rules.specs.Standings.{after, next, opened, stand_in}
-use Rattle.yf_rules.specs.declared.stands.Around.TheVariants.{Unknown}
-use Rattle.yf_rules.specs.declared.stands.Level.{Level}
-use Rattle.yf_rules.specs.declared.stands.Pass.{Pass}
-use Rattle.yf_rules.specs.declared.stands.Stand.{Stand}
+use Rattle.yf_rules.specs.declared.facts.stands.Around.TheVariants.{Unknown}
+use Rattle.yf_rules.specs.declared.facts.stands.Level.{Level}
+use Rattle.yf_rules.specs.declared.facts.stands.Pass.{Pass}
+use Rattle.yf_rules.specs.declared.facts.stands.Stand.{Stand}
 
 -- before the event of index i: the columns of the entries of all block collections, and how many of these have begun
 pub record IsPass (t : List ℕ) (es : List Placed) (columns : List ℕ) (begun i : ℕ) : Type 0 where

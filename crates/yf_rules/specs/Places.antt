@@ -9,7 +9,7 @@ use Rattle.yf_chars.specs.Chain.{Many}
 use Rattle.yf_lines.specs.declared.line.Line.{Line}
 use Rattle.yf_lines.specs.declared.place.Place.{Place}
 use Rattle.yf_lines.specs.Lines.{Marks, PlaceOf, is_char}
-use Rattle.yf_rules.specs.declared.spot.Spot.{Spot}
+use Rattle.yf_rules.specs.declared.facts.spot.Spot.{Spot}
 
 -- the place of one of these offsets, at which a character begins or the text ends; an offset inside of a character has
 -- no place

@@ -11,7 +11,7 @@ use Rattle.yf_events.specs.declared.lists.Lists.{Lists}
 use Rattle.yf_lines.specs.declared.line.Line.{Line}
 use Rattle.yf_lines.specs.Lines.{Begun, Table}
 use Rattle.yf_props.specs.Props.{PropsValue}
-use Rattle.yf_rules.specs.declared.content_lines.Block.{Block}
+use Rattle.yf_rules.specs.declared.facts.content_lines.Block.{Block}
 
 -- the event of that index is a scalar with these parts
 pub record IsScalar (r : Lists) (i : ℕ) (props : PropsValue) (style : ScalarStyle) (text : List ℕ) (span : Span) : Type 0 where

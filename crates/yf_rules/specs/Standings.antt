@@ -6,10 +6,10 @@ use Rattle.std.specs.List.{Contains}
 use Rattle.yf_events.specs.Event.{EventValue, Placed, stream_starts, stream_ends, document_starts, document_ends, sequence_starts, sequence_ends, mapping_starts, mapping_ends, scalar_node, alias_node}
 use Rattle.yf_events.specs.Tree.{Node, scalar, alias, sequence, mapping, Items, no_items, item, Pairs, no_pairs, pair, DocumentTree, flat, flat_document}
 use Rattle.yf_rules.specs.Nodes.{Numbered, StandsIn, items_of, pairs_of, roots_from}
-use Rattle.yf_rules.specs.declared.stands.Around.{Around}
-use Rattle.yf_rules.specs.declared.stands.Around.TheVariants.{Nothing, Entries, Unknown}
-use Rattle.yf_rules.specs.declared.stands.Level.{Level}
-use Rattle.yf_rules.specs.declared.stands.Stand.{Stand}
+use Rattle.yf_rules.specs.declared.facts.stands.Around.{Around}
+use Rattle.yf_rules.specs.declared.facts.stands.Around.TheVariants.{Nothing, Entries, Unknown}
+use Rattle.yf_rules.specs.declared.facts.stands.Level.{Level}
+use Rattle.yf_rules.specs.declared.facts.stands.Stand.{Stand}
 
 -- what holds the nodes in a collection whose entries stand at that column
 abbrev pub held : Option ℕ → Around

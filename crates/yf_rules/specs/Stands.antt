@@ -1,8 +1,8 @@
 -- What holds a node, and where the node's entries or content are to stand for that.
 use Rattle.std.specs.Prelude.{ℕ, ◌+◌, ◌==◌, ◌&&◌, Bool, false, not, if◌then◌else◌, Option, Some, None}
 use Rattle.yf_emit.specs.declared.style.Style.{Style}
-use Rattle.yf_rules.specs.declared.stands.Around.{Around}
-use Rattle.yf_rules.specs.declared.stands.Around.TheVariants.{Nothing, Entries, Unknown}
+use Rattle.yf_rules.specs.declared.facts.stands.Around.{Around}
+use Rattle.yf_rules.specs.declared.facts.stands.Around.TheVariants.{Nothing, Entries, Unknown}
 
 -- the column of the entries of a block collection; the flag says whether it is a sequence that is the value of a key without `?`.
 -- `None` where none is wanted

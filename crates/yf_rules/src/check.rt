@@ -76,7 +76,8 @@ fn findings_of(
     style: &Style,
 ) -> Result<Vec<Finding>, Fault>
     ensures refused { IfErr result (λ fault. fault ≡ Fault.Memory) }
-    ensures findings { IfOk result (λ findings. RuleFindings (rule_number rule.now) (rule_id rule.now) (is_fixable rule.now) (faults rule.now) src.now reading.now style.now findings.items) }
+    ensures findings { IfOk result (λ findings. RuleFindings (rule_number rule.now) (rule_id rule.now) (is_fixable rule.now)
+        (faults rule.now) src.now reading.now style.now findings.items) }
 {
     let number = number_of(rule);
     let id = id_of(rule);
@@ -149,7 +150,9 @@ pub fn check(
     style: &Style,
 ) -> Result<Vec<Finding>, Fault>
     ensures refused { IfErr result (λ fault. fault ≡ Fault.Memory) }
-    ensures findings { IfOk result (λ findings. Checked (λ rule found. RuleFindings (rule_number rule) (rule_id rule) (is_fixable rule) (faults rule) src.now reading.now style.now found) rules.now findings.items) }
+    ensures findings { IfOk result (λ findings. Checked
+        (λ rule found. RuleFindings (rule_number rule) (rule_id rule) (is_fixable rule)
+        (faults rule) src.now reading.now style.now found) rules.now findings.items) }
 {
     let mut all = Vec::new(alloc);
     for rule in rules {

@@ -4,7 +4,7 @@ ghost use Rattle.std.specs.List.{Contains};
 ghost use Rattle.yf_lines.specs.declared.place.Place.{Place};
 ghost use Rattle.yf_rules.specs.Places.{Ascending, PlacesOf};
 
-use crate::places::known_places;
+use crate::facts::places::known_places;
 use std::alloc::{AllocError, Global};
 use yf_emit::style::Style;
 use yf_events::reading::Reading;

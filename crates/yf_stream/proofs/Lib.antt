@@ -1,36 +1,43 @@
+-- The lemmas, each group under the function or the theorem that it serves.
+
+-- a text has one derivation as a stream, and one reading (`Laws`)
+pub mod Forward
+pub mod NoPercent
+pub mod OneDirective
+pub mod StreamPath
+pub mod Stable
+pub mod OneStream
+pub mod OneReading
+-- where documents and nodes stand (`NodeLaws`, `PlaceLaws`)
+pub mod DirectiveOrder
+pub mod DocumentPlaces
+pub mod ReadingOrder
+pub mod ReadingTrees
+-- these laws hold
+pub mod LawsHold
+pub mod NodeLawsHold
+pub mod PlaceLawsHold
+-- the definitions by small texts
+pub mod ShownParts
+pub mod ShownPlain
+pub mod ShownWords
+pub mod ShownSpaced
+pub mod ShownNotes
+pub mod ShownMarkers
+pub mod ShownStreams
+pub mod ShownEmpty
+pub mod ShownItem
+pub mod ShownMarked
+pub mod ShownOneShape
+pub mod ShownWord
+pub mod ShownLaws
+-- for further theorems
 pub mod BreachLemmas
 pub mod CommentTexts
 pub mod DirectiveLaws
 pub mod DirectiveLineLemmas
-pub mod DirectiveOrder
 pub mod DirectiveWords
-pub mod DocumentPlaces
-pub mod Forward
-pub mod LawsHold
 pub mod MarkerLemmas
-pub mod NoPercent
-pub mod NodeLawsHold
-pub mod OneDirective
-pub mod OneReading
-pub mod OneStream
-pub mod PlaceLawsHold
 pub mod PrefixLemmas
-pub mod ReadingOrder
-pub mod ReadingTrees
 pub mod SameTags
-pub mod ShownEmpty
-pub mod ShownItem
-pub mod ShownLaws
-pub mod ShownMarked
-pub mod ShownMarkers
-pub mod ShownNotes
-pub mod ShownOneShape
-pub mod ShownParts
-pub mod ShownPlain
-pub mod ShownSpaced
-pub mod ShownStreams
-pub mod ShownWord
-pub mod ShownWords
-pub mod Stable
 pub mod StreamDocuments
-pub mod StreamPath

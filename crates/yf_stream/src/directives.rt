@@ -44,7 +44,8 @@ pub(crate) fn read_directives<'a>(
     comments: &mut Comments<'a>,
 ) -> Result<Result<DirectiveLines<'a>, usize>, AllocError>
     requires { IsCharBoundary text.now at }
-    ensures reads { IfOk result (λ r. MatchResult r (λ lines. DirectivesRead text.now at lines.end lines.directives comments.old comments.new) (λ place. DirectivesEnd text.now at place)) }
+    ensures reads { IfOk result (λ r. MatchResult r (λ lines.
+        DirectivesRead text.now at lines.end lines.directives comments.old comments.new) (λ place. DirectivesEnd text.now at place)) }
     ensures begin { IfOk result (λ r. IfOk r (λ lines. DirectivesAt text.now lines.directives)) }
     ensures place { IfOk result (λ r. MatchResult r (λ lines. Place text.now at lines.end) (λ place. Place text.now at place)) }
 {
@@ -71,7 +72,8 @@ fn read_directive<'a>(
     at: usize,
 ) -> Result<Option<DirectiveLine<'a>>, AllocError>
     requires { IsCharBoundary text.now at }
-    ensures reads { IfOk result (λ o. MatchOption o (NoDirective text.now at) (λ line. Chosen (IsDirective text.now at) line.end (record { directives = line.directive ∷ []; comments = line.comments }))) }
+    ensures reads { IfOk result (λ o. MatchOption o (NoDirective text.now at)
+        (λ line. Chosen (IsDirective text.now at) line.end (record { directives = line.directive ∷ []; comments = line.comments }))) }
     ensures place { IfOk result (λ o. IfSome o (λ line. Place text.now (at + 1) line.end)) }
 {
     if !stands(text, at, b'%') {
@@ -111,7 +113,8 @@ fn read_parameters<'a>(
 ) -> Result<Option<usize>, AllocError>
     requires boundary { IsCharBoundary text.now at }
     requires within { LineStart text.now at → ⊥ }
-    ensures reads { IfOk result (λ o. MatchOption o (NoWords text.now name.now at) (λ end. WordsRead text.now name.now at end words.old words.new)) }
+    ensures reads { IfOk result (λ o. MatchOption o (NoWords text.now name.now at)
+        (λ end. WordsRead text.now name.now at end words.old words.new)) }
     ensures place { IfOk result (λ o. IfSome o (λ end. Place text.now at end)) }
 {
     match name {
@@ -129,7 +132,8 @@ fn read_version<'a>(
 ) -> Result<Option<usize>, AllocError>
     requires boundary { IsCharBoundary text.now at }
     requires within { LineStart text.now at → ⊥ }
-    ensures reads { IfOk result (λ o. MatchOption o (Stuck (Parameters text.now (codes "YAML") at)) (λ end. WordsRead text.now (codes "YAML") at end words.old words.new)) }
+    ensures reads { IfOk result (λ o. MatchOption o (Stuck (Parameters text.now (codes "YAML") at))
+        (λ end. WordsRead text.now (codes "YAML") at end words.old words.new)) }
     ensures place { IfOk result (λ o. IfSome o (λ end. Place text.now at end)) }
 {
     let start = skip_whites(text, at);

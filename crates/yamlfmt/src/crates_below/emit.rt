@@ -2,13 +2,13 @@
 
 use std::alloc::Global;
 use std::test::Fail;
-use yf_emit::decide::implicit_key;
+use yf_emit::form::decide::implicit_key;
+use yf_emit::form::kept::kept_text;
 use yf_emit::format::format;
-use yf_emit::kept::kept_text;
 use yf_emit::normal::normal;
 use yf_emit::print::print;
 use yf_emit::style::Style;
-use yf_emit::wanted::wanted_style;
+use yf_emit::text::wanted::wanted_style;
 use yf_events::event::ScalarStyle;
 use yf_events::reading::Reading;
 use yf_lines::fault::Fault;

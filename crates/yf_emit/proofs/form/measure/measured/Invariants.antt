@@ -1,0 +1,13 @@
+use Rattle.std.proofs.Common.{map}
+use Rattle.std.specs.Prelude.{reverse}
+use Rattle.std.specs.List.Sorted.{IsNonDecreasingBy}
+use Rattle.yf_comments.specs.Comment.{comment_value}
+use Rattle.yf_comments.specs.declared.comment.Comment.{Comment}
+use Rattle.yf_emit.specs.Measuring.{setting}
+use Rattle.yf_emit.proofs.StepLemmas.{Runs, Texts}
+use Rattle.yf_emit.proofs.form.measure.measured.Given as goal
+
+abbrev pub invariant-loop-i : goal.invariant-loop-i
+invariant-loop-i l =
+    (IsNonDecreasingBy (λ (c : Comment). c.offset) l.comments → Runs l.text (setting l.style (map comment_value l.comments)) l.reading.events l.i l.list.items (reverse l.stack.items))
+    × Texts l.reading.events l.i

@@ -1,0 +1,9 @@
+use Rattle.std.proofs.lemmas.Result.{IfOk-weaker}
+use Rattle.std.specs.String.{string_bytes}
+use Rattle.yf_emit.proofs.LayoutHolds.{planned}
+use Rattle.yf_emit.proofs.print.layout.layout.Goals as goal
+
+pub returns : goal.returns
+returns c =
+    IfOk-weaker c.text_of.result _ _ (λ text h. planned c.args.reading.now c.args.style.now c.in_ok-plan.plan (string_bytes text) c.in_ok-plan.ensures h)
+    c.text_of.ensures

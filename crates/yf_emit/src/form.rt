@@ -1,0 +1,10 @@
+//! The form of each node of a reading, before anything is printed.
+
+pub(crate) mod collection;
+pub mod comments_before;
+pub mod decide;
+pub(crate) mod ended;
+pub mod kept;
+pub mod keys;
+pub mod measure;
+pub(crate) mod places;

@@ -1,0 +1,247 @@
+//! Which form the house style gives each node: one pass over the events, outer nodes before inner ones. Columns count
+//! from 0 here.
+ghost use Rattle.std.specs.Prelude.{◌<◌, ◌≡◌, get_or, length, reverse, IfOk, MatchResult};
+ghost use Rattle.std.specs.List.Sorted.{IsNonDecreasingBy};
+ghost use Rattle.yf_events.specs.Event.{event_value};
+ghost use Rattle.yf_emit.specs.Deciding as Deciding;
+ghost use Rattle.yf_emit.specs.Deciding.{given, state};
+ghost use Rattle.yf_emit.specs.Forms.{no_form, Decided};
+ghost use Rattle.yf_emit.specs.ImplicitKeys.{TellsImplicit};
+
+use crate::form::keys::is_leaf;
+use crate::form::measure::{Measure, Measures, measure_all};
+use crate::form::places::{Level, count_node, fits, next_place};
+use crate::style::Style;
+use std::alloc::{AllocError, Global};
+use std::marker::Model;
+use yf_events::event::Event;
+use yf_events::reading::Reading;
+use yf_lines::fault::Fault;
+use yf_lines::source_text::Src;
+
+/// The form of the node that an event begins.
+#[derive(Clone, Copy, Debug, PartialEq, Eq)]
+pub struct Form {
+    /// Whether it is a flow collection with entries that is written on one line.
+    pub is_kept: bool,
+    /// Whether it is a key of a block mapping that is written without `?`.
+    pub is_implicit: bool,
+    /// Of the value of such a key the comment, as an index, that ends the key's line, so that the value begins on the next
+    /// line; `None` where the value begins on the key's line.
+    pub key_comment: Option<usize>,
+    /// Of a block collection the column of its entries.
+    pub column: usize,
+}
+
+impl Form {
+    /// What an event is given that begins no node, or one inside of a collection that is written on one line.
+    pub const NONE: Form = Form {
+        is_kept: false,
+        is_implicit: false,
+        key_comment: None,
+        column: 0,
+    };
+}
+
+/// The forms of all events of a reading. In a contract it is the list of them.
+#[derive(Debug, Drop)]
+pub struct Forms {
+    list: Vec<Form>,
+}
+
+impl Model for Forms {
+    ghost use Rattle.std.specs.Prelude.{List};
+    ghost use Rattle.yf_emit.specs.declared.form.decide.Form.{Form};
+
+    ghost Value = { List Form };
+
+    ghost view = { λ f. f.list.items };
+}
+
+impl Forms {
+    /// The form of the event at an index, which is `Form::NONE` past the end.
+    pub fn at(&self, i: usize) -> Form
+        ensures { result ≡ get_or self.now i no_form }
+    {
+        match self.list.get(i) {
+            Some(form) => *form,
+            None => Form::NONE,
+        }
+    }
+
+    /// All of them, in order of the events.
+    pub fn as_slice(&self) -> &[Form]
+        ensures { result.now ≡ self.now }
+    {
+        self.list.as_slice()
+    }
+}
+
+/// Whether a node that the event at an index begins holds no node to look at.
+fn is_whole(measure: &Measure, i: usize, is_kept: bool) -> bool
+    ensures { result ≡ Deciding.is_whole i measure.now is_kept }
+{
+    if is_kept {
+        return true;
+    }
+    if is_leaf(measure.first_leaf, i) {
+        return true;
+    }
+    measure.last == i
+}
+
+/// Gives a node its form, and answers the index of the last event that needs no look: the node's last one, or of a block
+/// collection the first one.
+fn node(
+    list: &mut Vec<Form>,
+    stack: &mut Vec<Level>,
+    reading: &Reading,
+    event: &Event,
+    measure: &Measure,
+    style: &Style,
+    i: usize,
+    is_map: bool,
+) -> Result<usize, AllocError>
+    requires { i < length reading.now.events }
+    ensures { IfOk result (λ done. IsNonDecreasingBy (λ c. c.offset) reading.now.comments
+        → state list.new.items (reverse stack.new.items) done ≡ Deciding.node
+        (given style.now reading.now.comments reading.now.events) (event_value event.now) i measure.now is_map list.old.items
+        (reverse stack.old.items)) }
+{
+    let place = next_place(stack.as_slice(), reading, event, i, measure, style);
+    count_node(stack, reading, event, i, measure, style);
+    let is_kept = measure.can_be_kept && fits(place.column, measure.width, style);
+    list.push(Form {
+        is_kept,
+        is_implicit: place.is_implicit,
+        key_comment: place.key_comment,
+        column: place.entries,
+    })?;
+    if is_whole(measure, i, is_kept) {
+        return Ok(measure.last);
+    }
+    stack.push(Level {
+        is_map,
+        column: place.entries,
+        key: None,
+    })?;
+    Ok(i)
+}
+
+/// Goes past one event, and answers the index of the last one that needs no look.
+fn pass(
+    list: &mut Vec<Form>,
+    stack: &mut Vec<Level>,
+    reading: &Reading,
+    event: &Event,
+    measure: &Measure,
+    style: &Style,
+    i: usize,
+) -> Result<usize, AllocError>
+    requires { i < length reading.now.events }
+    ensures { IfOk result (λ done. IsNonDecreasingBy (λ c. c.offset) reading.now.comments
+        → state list.new.items (reverse stack.new.items) done ≡ Deciding.past
+        (given style.now reading.now.comments reading.now.events) (event_value event.now) i measure.now list.old.items
+        (reverse stack.old.items)) }
+{
+    match event {
+        Event::Scalar { .. } => node(list, stack, reading, event, measure, style, i, false),
+        Event::Alias { .. } => node(list, stack, reading, event, measure, style, i, false),
+        Event::SeqStart { .. } => node(list, stack, reading, event, measure, style, i, false),
+        Event::MapStart { .. } => node(list, stack, reading, event, measure, style, i, true),
+        Event::SeqEnd => {
+            list.push(Form::NONE)?;
+            let _ = stack.pop();
+            Ok(i)
+        }
+        Event::MapEnd => {
+            list.push(Form::NONE)?;
+            let _ = stack.pop();
+            Ok(i)
+        }
+        _ => {
+            list.push(Form::NONE)?;
+            Ok(i)
+        }
+    }
+}
+
+/// Goes past one event, which gets no look up to the index `done`, and answers that index from here on.
+fn advance(
+    list: &mut Vec<Form>,
+    stack: &mut Vec<Level>,
+    reading: &Reading,
+    event: &Event,
+    measures: &Measures,
+    style: &Style,
+    i: usize,
+    done: usize,
+) -> Result<usize, AllocError>
+    requires { i < length reading.now.events }
+    ensures { IfOk result (λ r. IsNonDecreasingBy (λ c. c.offset) reading.now.comments → length list.old.items ≡ i
+        → state list.new.items (reverse stack.new.items) r ≡ Deciding.next
+        (given style.now reading.now.comments reading.now.events) measures.now (event_value event.now)
+        (state list.old.items (reverse stack.old.items) done)) }
+{
+    if done < i {
+        return pass(list, stack, reading, event, &measures.at(i), style, i);
+    }
+    list.push(Form::NONE)?;
+    Ok(done)
+}
+
+/// Decides the forms of all nodes of a reading that was measured, in one pass.
+pub fn decide(
+    alloc: Global,
+    measures: &Measures,
+    reading: &Reading,
+    style: &Style,
+) -> Result<Forms, AllocError>
+    ensures { IfOk result (λ forms. Decided reading.now style.now measures.now forms) }
+{
+    let mut list = Vec::new(alloc);
+    let mut stack: Vec<Level> = Vec::new(alloc);
+    let mut done = 0;
+    for i in 0..reading.len() {
+        let event = reading.event(i);
+        done = advance(
+            &mut list, &mut stack, reading, &event, measures, style, i, done,
+        )?;
+    }
+    Ok(Forms { list })
+}
+
+fn implicit_within(
+    alloc: Global,
+    src: &Src,
+    reading: &Reading,
+    i: usize,
+    style: &Style,
+) -> Result<bool, AllocError>
+    ensures { IfOk result (λ answer. TellsImplicit src.now.text reading.now style.now i answer) }
+{
+    let measures = measure_all(alloc, src, reading, style)?;
+    let forms = decide(alloc, &measures, reading, style)?;
+    Ok(forms.at(i).is_implicit)
+}
+
+/// Whether the house style writes the key of a block mapping that the event at an index begins without `?`, in the layout
+/// of a reading of the text. Of an event that begins no key it is false.
+///
+/// # Errors
+///
+/// `Fault::Memory` where a growth of memory was refused.
+pub fn implicit_key(
+    alloc: Global,
+    src: &Src,
+    reading: &Reading,
+    i: usize,
+    style: &Style,
+) -> Result<bool, Fault>
+    ensures { MatchResult result (λ answer. TellsImplicit src.now.text reading.now style.now i answer) (λ fault. fault ≡ Fault.Memory) }
+{
+    match implicit_within(alloc, src, reading, i, style) {
+        Ok(is_implicit) => Ok(is_implicit),
+        Err(AllocError) => Err(Fault::Memory),
+    }
+}

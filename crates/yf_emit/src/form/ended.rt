@@ -1,0 +1,118 @@
+//! What is known of a node that has ended, and the nodes that end where they begin: scalars and aliases.
+ghost use Rattle.std.specs.Prelude.{◌≡◌, false};
+ghost use Rattle.std.specs.Str.{IsUtf8};
+ghost use Rattle.yf_emit.specs.Kept.{scalar_may_be_kept};
+ghost use Rattle.yf_emit.specs.Measures.{is_one_line_style, width_if};
+ghost use Rattle.yf_emit.specs.Measuring as Measuring;
+ghost use Rattle.yf_emit.specs.OneLine.{props_text};
+ghost use Rattle.yf_emit.specs.Wanted.{wanted};
+ghost use Rattle.yf_props.specs.Props.{props_value};
+
+use crate::form::measure::Measure;
+use crate::style::Style;
+use crate::text::wanted::wanted_of;
+use crate::text::width::{char_count, joined_width, props_width, scalar_width};
+use yf_events::event::{ScalarStyle, Span};
+use yf_lines::steady::is_steady;
+use yf_props::props::Props;
+
+/// A node that has ended, as the collection sees it that holds it: `inside` is its width where it may stand in kept text.
+#[derive(Clone, Copy)]
+pub(crate) struct Ended {
+    pub(crate) measure: Measure,
+    pub(crate) inside: Option<usize>,
+    pub(crate) is_alias: bool,
+}
+
+/// Whether a scalar may stand in kept text: a quoted one, or a plain one with characters that stays plain.
+fn may_be_inside(style: ScalarStyle, text: &str) -> bool
+    ensures { result ≡ scalar_may_be_kept style text.now }
+{
+    match style {
+        ScalarStyle::Plain => {
+            if text.is_empty() {
+                return false;
+            }
+            is_steady(text)
+        }
+        ScalarStyle::Single | ScalarStyle::Double => true,
+        ScalarStyle::Literal | ScalarStyle::Folded => false,
+    }
+}
+
+/// The node is a leaf where it has characters, and so a part of the text.
+fn leaf_if(span: Option<Span>, i: usize) -> Option<usize>
+    ensures { result ≡ Measuring.leaf_if span i }
+{
+    match span {
+        Some(_) => Some(i),
+        None => None,
+    }
+}
+
+/// A leaf that is a scalar or an alias, of that width.
+fn leaf(i: usize, width: Option<usize>, leaf: Option<usize>) -> Measure
+    ensures { result ≡ record { last = i; width = width; can_be_kept = false; first_leaf = leaf; last_leaf = leaf } }
+{
+    Measure {
+        last: i,
+        width,
+        can_be_kept: false,
+        first_leaf: leaf,
+        last_leaf: leaf,
+    }
+}
+
+/// How many characters a scalar has in the style of the house, with its properties; `None` where it is a block scalar.
+fn width_in_style(props: &Props, written: ScalarStyle, text: &str, style: &Style) -> Option<usize>
+    ensures width { result ≡ width_if (is_one_line_style (wanted written text.now style.now.quotes))
+        (Measuring.scalar_written style.now.quotes (props_value props.now) written text.now) }
+    ensures utf8 { (IsUtf8 (props_text (props_value props.now))) × (IsUtf8 text.now) }
+{
+    let before = props_width(props);
+    match scalar_width(wanted_of(written, text, style.quotes), text) {
+        Some(width) => Some(joined_width(before, width)),
+        None => None,
+    }
+}
+
+/// The scalar that the event at an index is.
+pub(crate) fn scalar(
+    i: usize,
+    span: Option<Span>,
+    props: &Props,
+    written: ScalarStyle,
+    text: &str,
+    style: &Style,
+) -> Ended
+    ensures ended { result ≡ Measuring.ended_scalar style.now.quotes i span (props_value props.now) written text.now }
+    ensures utf8 { (IsUtf8 (props_text (props_value props.now))) × (IsUtf8 text.now) }
+{
+    let width = width_in_style(props, written, text, style);
+    let measure = leaf(i, width, leaf_if(span, i));
+    if may_be_inside(written, text) {
+        return Ended {
+            measure,
+            inside: width,
+            is_alias: false,
+        };
+    }
+    Ended {
+        measure,
+        inside: None,
+        is_alias: false,
+    }
+}
+
+/// The alias that the event at an index is.
+pub(crate) fn alias(i: usize, name: &str) -> Ended
+    ensures ended { result ≡ Measuring.ended_alias i name.now }
+    ensures utf8 { IsUtf8 name.now }
+{
+    let width = Some(char_count(name).saturating_add(1));
+    Ended {
+        measure: leaf(i, width, Some(i)),
+        inside: width,
+        is_alias: true,
+    }
+}

@@ -1,0 +1,278 @@
+//! The text of a flow collection that is kept on one line.
+ghost use Rattle.std.specs.Prelude.{◌≡◌, [], ◌∷◌, ◌++◌, encode_utf8, false, option_map, reverse, IfErr, IfOk, OnOk};
+ghost use Rattle.std.specs.String.{string_bytes};
+ghost use Rattle.yf_props.specs.Props.{props_value};
+ghost use Rattle.yf_events.specs.Event.{event_value};
+ghost use Rattle.yf_emit.specs.Keys.{AddsKept};
+ghost use Rattle.yf_emit.specs.Measures.{IsKeptText, TellsKept};
+ghost use Rattle.yf_emit.specs.Normal.{setting_of};
+ghost use Rattle.yf_emit.specs.Textual.{CommentsAscend};
+ghost use Rattle.yf_emit.specs.OneLineRun as OneLineRun;
+ghost use Rattle.yf_emit.specs.OneLineRun.{added, behind_in, between, next_open, outside, run, separator_in};
+
+use crate::form::measure::{Measures, measure_all};
+use crate::style::Style;
+use crate::text::wanted::wanted_of;
+use crate::text::written::{push_props_before, push_scalar};
+use std::alloc::{AllocError, Global};
+use yf_events::event::Event;
+use yf_events::reading::Reading;
+use yf_lines::fault::Fault;
+use yf_lines::source_text::Src;
+use yf_props::props::Props;
+
+/// What comes next between two brackets.
+#[derive(Clone, Copy)]
+enum Expected {
+    FirstItem,
+    Item,
+    FirstKey,
+    Key,
+    Value,
+    /// The value of a key that is an alias.
+    ValueOfAlias,
+}
+
+/// What stands before a node: nothing, a comma, or the `:` of its key.
+fn separator(expected: Expected) -> &'static str
+    ensures { result.now ≡ OneLineRun.separator expected }
+{
+    match expected {
+        Expected::FirstItem | Expected::FirstKey => "",
+        Expected::Item | Expected::Key => ", ",
+        Expected::Value => ": ",
+        Expected::ValueOfAlias => " : ",
+    }
+}
+
+/// What comes next after a node.
+fn behind(is_alias: bool, expected: Expected) -> Expected
+    ensures { result ≡ OneLineRun.behind is_alias expected }
+{
+    match expected {
+        Expected::FirstItem | Expected::Item => Expected::Item,
+        Expected::FirstKey | Expected::Key => {
+            if is_alias {
+                return Expected::ValueOfAlias;
+            }
+            Expected::Value
+        }
+        Expected::Value | Expected::ValueOfAlias => Expected::Key,
+    }
+}
+
+/// Appends what stands before the next node, and goes past that node. The innermost open bracket comes last.
+fn before_node(
+    text: &mut String,
+    stack: &mut Vec<Expected>,
+    is_alias: bool,
+) -> Result<(), AllocError>
+    ensures adds { OnOk result (string_bytes text.new ≡ string_bytes text.old ++ separator_in (reverse stack.old.items)) }
+    ensures next { OnOk result (reverse stack.new.items ≡ behind_in is_alias (reverse stack.old.items)) }
+{
+    match stack.pop() {
+        Some(expected) => {
+            text.push_str(separator(expected))?;
+            stack.push(behind(is_alias, expected))?;
+            Ok(())
+        }
+        None => Ok(()),
+    }
+}
+
+/// Appends what stands before the text of a node that is no alias.
+fn before_text(
+    text: &mut String,
+    stack: &mut Vec<Expected>,
+    props: &Props,
+) -> Result<(), AllocError>
+    ensures adds { OnOk result (string_bytes text.new ≡ string_bytes text.old ++ OneLineRun.before_text (reverse stack.old.items)
+        (props_value props.now)) }
+    ensures next { OnOk result (reverse stack.new.items ≡ behind_in false (reverse stack.old.items)) }
+{
+    before_node(text, stack, false)?;
+    push_props_before(text, props)
+}
+
+/// Appends what stands before a collection's bracket. The properties of the outermost one are left out.
+fn before_bracket(
+    text: &mut String,
+    stack: &mut Vec<Expected>,
+    props: &Props,
+) -> Result<(), AllocError>
+    ensures adds { OnOk result (string_bytes text.new ≡ string_bytes text.old ++ OneLineRun.before_bracket (reverse stack.old.items)
+        (props_value props.now)) }
+    ensures next { OnOk result (reverse stack.new.items ≡ behind_in false (reverse stack.old.items)) }
+{
+    if stack.is_empty() {
+        return Ok(());
+    }
+    before_text(text, stack, props)
+}
+
+fn open_bracket(
+    text: &mut String,
+    stack: &mut Vec<Expected>,
+    bracket: char,
+    first: Expected,
+) -> Result<(), AllocError>
+    ensures adds { OnOk result (string_bytes text.new ≡ string_bytes text.old ++ encode_utf8 bracket) }
+    ensures next { OnOk result (reverse stack.new.items ≡ first ∷ reverse stack.old.items) }
+{
+    text.push(bracket)?;
+    stack.push(first)?;
+    Ok(())
+}
+
+fn close_bracket(
+    text: &mut String,
+    stack: &mut Vec<Expected>,
+    bracket: char,
+) -> Result<(), AllocError>
+    ensures adds { OnOk result (string_bytes text.new ≡ string_bytes text.old ++ encode_utf8 bracket) }
+    ensures next { OnOk result (reverse stack.new.items ≡ outside (reverse stack.old.items)) }
+{
+    let _ = stack.pop();
+    text.push(bracket)
+}
+
+/// Appends what one event adds.
+fn push_event(
+    text: &mut String,
+    stack: &mut Vec<Expected>,
+    event: &Event,
+    style: &Style,
+) -> Result<(), AllocError>
+    ensures adds { OnOk result (string_bytes text.new ≡ string_bytes text.old ++ added style.now.quotes (reverse stack.old.items)
+        (event_value event.now)) }
+    ensures next { OnOk result (reverse stack.new.items ≡ next_open (reverse stack.old.items) (event_value event.now)) }
+{
+    match event {
+        Event::Scalar {
+            props,
+            style: written,
+            text: content,
+        } => {
+            before_text(text, stack, props)?;
+            push_scalar(text, wanted_of(*written, content, style.quotes), content)
+        }
+        Event::Alias { name } => {
+            before_node(text, stack, true)?;
+            text.push('*')?;
+            text.push_str(name)
+        }
+        Event::SeqStart { props, .. } => {
+            before_bracket(text, stack, props)?;
+            open_bracket(text, stack, '[', Expected::FirstItem)
+        }
+        Event::MapStart { props, .. } => {
+            before_bracket(text, stack, props)?;
+            open_bracket(text, stack, '{', Expected::FirstKey)
+        }
+        Event::SeqEnd => close_bracket(text, stack, ']'),
+        Event::MapEnd => close_bracket(text, stack, '}'),
+        Event::StreamStart | Event::StreamEnd | Event::DocStart { .. } | Event::DocEnd { .. } => {
+            Ok(())
+        }
+    }
+}
+
+/// Appends what the events add from the one index to the other.
+fn push_between(
+    text: &mut String,
+    stack: &mut Vec<Expected>,
+    reading: &Reading,
+    first: usize,
+    last: usize,
+    style: &Style,
+) -> Result<(), AllocError>
+    ensures { OnOk result (string_bytes text.new ≡ string_bytes text.old ++ run style.now.quotes (reverse stack.old.items)
+        (between first last reading.now.events)) }
+{
+    for k in first..reading.len() {
+        if last < k {
+            break;
+        }
+        push_event(text, stack, &reading.event(k), style)?;
+    }
+    Ok(())
+}
+
+/// The text on one line, from bracket to bracket, of the flow collection that the event at an index begins. `None` where
+/// it cannot be kept, wherever it stands: where a comment stands between its brackets, or it holds an empty scalar or a
+/// plain one that does not stay plain. `None` too of an empty collection, and of an event that begins no flow collection.
+/// The measures are those of the reading.
+pub fn kept_text_of(
+    alloc: Global,
+    measures: &Measures,
+    reading: &Reading,
+    i: usize,
+    style: &Style,
+) -> Result<Option<String>, AllocError>
+    ensures { IfOk result (λ o. TellsKept reading.now.events style.now measures.now i (option_map string_bytes o)) }
+{
+    let measure = measures.at(i);
+    if !measure.can_be_kept {
+        return Ok(None);
+    }
+    let mut text = String::new(alloc);
+    push_kept(alloc, &mut text, reading, i, measure.last, style)?;
+    Ok(Some(text))
+}
+
+/// Appends, from bracket to bracket on one line, the flow collection whose events stand from the one index to the other.
+pub fn push_kept(
+    alloc: Global,
+    text: &mut String,
+    reading: &Reading,
+    first: usize,
+    last: usize,
+    style: &Style,
+) -> Result<(), AllocError>
+    ensures run { OnOk result (string_bytes text.new ≡ string_bytes text.old ++ run style.now.quotes []
+        (between first last reading.now.events)) }
+    ensures kept { OnOk result (AddsKept reading.now.events style.now first last (string_bytes text.old) (string_bytes text.new)) }
+{
+    let mut stack = Vec::new(alloc);
+    push_between(text, &mut stack, reading, first, last, style)?;
+    Ok(())
+}
+
+fn kept_within(
+    alloc: Global,
+    src: &Src,
+    reading: &Reading,
+    i: usize,
+    style: &Style,
+) -> Result<Option<String>, AllocError>
+    ensures { IfOk result (λ o. CommentsAscend reading.now
+        → IsKeptText src.now.text (setting_of reading.now style.now) reading.now.events i (option_map string_bytes o)) }
+{
+    let measures = measure_all(alloc, src, reading, style)?;
+    kept_text_of(alloc, &measures, reading, i, style)
+}
+
+/// The text on one line, from bracket to bracket, of the flow collection that the event at an index begins in a reading
+/// of the text: `[a, b]`, `{a: b}`, and a single pair as `[{a: b}]`. `None` where it cannot be kept, whatever the longest
+/// line may be: where a comment stands between its brackets, or it holds an empty scalar or a plain one that does not
+/// stay plain. `None` too of an empty collection, and of an event that begins no flow collection.
+///
+/// # Errors
+///
+/// `Fault::Memory` where a growth of memory was refused.
+pub fn kept_text(
+    alloc: Global,
+    src: &Src,
+    reading: &Reading,
+    i: usize,
+    style: &Style,
+) -> Result<Option<String>, Fault>
+    ensures text { IfOk result (λ o. CommentsAscend reading.now
+        → IsKeptText src.now.text (setting_of reading.now style.now) reading.now.events i (option_map string_bytes o)) }
+    ensures refused { IfErr result (λ fault. fault ≡ Fault.Memory) }
+{
+    match kept_within(alloc, src, reading, i, style) {
+        Ok(text) => Ok(text),
+        Err(AllocError) => Err(Fault::Memory),
+    }
+}

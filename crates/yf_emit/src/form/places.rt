@@ -1,0 +1,269 @@
+//! Where each node stands in the block collections that are open round it. Columns count from 0 here.
+ghost use Rattle.std.specs.Prelude.{◌<◌, ◌≡◌, ◌||◌, length, map, reverse};
+ghost use Rattle.std.specs.List.Sorted.{IsNonDecreasingBy};
+ghost use Rattle.yf_comments.specs.Comment.{comment_value};
+ghost use Rattle.yf_events.specs.Event.{event_value};
+ghost use Rattle.yf_emit.specs.Deciding as Deciding;
+ghost use Rattle.yf_emit.specs.Deciding.{given};
+
+use crate::form::comments_before::first_between;
+use crate::form::keys::{Key, is_implicit_key, is_leaf, key_of, leaf_start};
+use crate::form::measure::Measure;
+use crate::style::Style;
+use yf_comments::comment::Comment;
+use yf_events::event::Event;
+use yf_events::reading::Reading;
+
+/// A block collection whose end has not come yet.
+#[derive(Clone, Copy)]
+pub(crate) struct Level {
+    pub(crate) is_map: bool,
+    pub(crate) column: usize,
+    pub(crate) key: Option<Key>,
+}
+
+/// Where a node stands, and what it is there.
+#[derive(Clone, Copy)]
+pub(crate) struct Place {
+    /// The column at which it begins, its properties counted.
+    pub(crate) column: usize,
+    /// The column of its entries, if it is a block collection.
+    pub(crate) entries: usize,
+    pub(crate) is_implicit: bool,
+    pub(crate) key_comment: Option<usize>,
+}
+
+impl Place {
+    fn at(column: usize) -> Place
+        ensures { result ≡ Deciding.place_at column }
+    {
+        Place {
+            column,
+            entries: column,
+            is_implicit: false,
+            key_comment: None,
+        }
+    }
+}
+
+/// Whether a node of that width fits that begins at the column.
+pub(crate) fn fits(column: usize, width: Option<usize>, style: &Style) -> bool
+    ensures { result ≡ Deciding.has_room style.now column width }
+{
+    match width {
+        Some(width) => column.saturating_add(width) <= style.max_line,
+        None => false,
+    }
+}
+
+/// The first comment after the one byte offset and before the other.
+fn comment_between(comments: &[Comment], from: usize, to: usize) -> Option<usize>
+    ensures { IsNonDecreasingBy (λ c. c.offset) (map comment_value comments.now)
+        → result ≡ Deciding.comment_between (map comment_value comments.now) from (Some to) }
+{
+    first_between(comments, from.saturating_add(1), to)
+}
+
+/// The same, where there is something before which a comment may stand.
+fn comment_before(comments: &[Comment], from: usize, to: Option<usize>) -> Option<usize>
+    ensures { IsNonDecreasingBy (λ c. c.offset) (map comment_value comments.now)
+        → result ≡ Deciding.comment_between (map comment_value comments.now) from to }
+{
+    match to {
+        Some(to) => comment_between(comments, from, to),
+        None => None,
+    }
+}
+
+/// The comment that trails an implicit key, whose last leaf begins at that offset, before a value that begins on the next
+/// line if there is one.
+fn trailing_comment(reading: &Reading, start: usize, i: usize, measure: &Measure) -> Option<usize>
+    ensures { IsNonDecreasingBy (λ c. c.offset) reading.now.comments
+        → result ≡ Deciding.trailing_comment reading.now.comments reading.now.events start i measure.now }
+{
+    let to = leaf_start(reading, measure.first_leaf);
+    if is_leaf(measure.first_leaf, i) {
+        return comment_before(reading.comments(), start, to);
+    }
+    if measure.can_be_kept {
+        return comment_before(reading.comments(), start, to);
+    }
+    None
+}
+
+/// The column of the entries of an implicit key's value, if it is a block collection.
+fn value_entries(event: &Event, column: usize, style: &Style) -> usize
+    ensures { result ≡ Deciding.value_entries style.now (event_value event.now) column }
+{
+    if let Event::SeqStart { .. } = event {
+        if !style.seq_indent {
+            return column;
+        }
+    }
+    column.saturating_add(style.indent)
+}
+
+/// The comment, where it trails the key: where the value is a leaf, or fits on the next line.
+fn comment_if(
+    comment: usize,
+    i: usize,
+    measure: &Measure,
+    column: usize,
+    style: &Style,
+) -> Option<usize>
+    ensures { result ≡ Deciding.comment_if (Deciding.is_leaf_at i measure.now.first_leaf || Deciding.has_room style.now column measure.now.width) comment }
+{
+    if is_leaf(measure.first_leaf, i) {
+        return Some(comment);
+    }
+    if fits(column, measure.width, style) {
+        return Some(comment);
+    }
+    None
+}
+
+/// Where the value of an implicit key stands.
+fn value_place(
+    reading: &Reading,
+    event: &Event,
+    i: usize,
+    measure: &Measure,
+    key: &Key,
+    column: usize,
+    style: &Style,
+) -> Place
+    ensures { IsNonDecreasingBy (λ c. c.offset) reading.now.comments
+        → result ≡ Deciding.value_place (given style.now reading.now.comments reading.now.events)
+        (event_value event.now) i measure.now key.now column }
+{
+    let entries = value_entries(event, column, style);
+    match trailing_comment(reading, key.start, i, measure) {
+        Some(comment) => {
+            let next = column.saturating_add(style.indent);
+            Place {
+                column: next,
+                entries,
+                is_implicit: false,
+                key_comment: comment_if(comment, i, measure, next, style),
+            }
+        }
+        None => Place {
+            column: column.saturating_add(key.width).saturating_add(1),
+            entries,
+            is_implicit: false,
+            key_comment: None,
+        },
+    }
+}
+
+/// Where a key stands.
+fn key_place(column: usize, is_implicit: bool, style: &Style) -> Place
+    ensures { result ≡ Deciding.key_place style.now column is_implicit }
+{
+    let inner = column.saturating_add(style.indent);
+    Place {
+        column: if is_implicit { column } else { inner },
+        entries: inner,
+        is_implicit,
+        key_comment: None,
+    }
+}
+
+/// Where a key or a value stands.
+fn place_in_map(
+    reading: &Reading,
+    event: &Event,
+    i: usize,
+    measure: &Measure,
+    level: &Level,
+    style: &Style,
+) -> Place
+    ensures { IsNonDecreasingBy (λ c. c.offset) reading.now.comments
+        → result ≡ Deciding.place_in_map (given style.now reading.now.comments reading.now.events)
+        (event_value event.now) i measure.now level.now.column level.now.key }
+{
+    match level.key {
+        Some(key) => {
+            if key.is_implicit {
+                return value_place(reading, event, i, measure, &key, level.column, style);
+            }
+            Place::at(level.column.saturating_add(style.indent))
+        }
+        None => {
+            let is_implicit = is_implicit_key(measure, level.column, style);
+            key_place(level.column, is_implicit, style)
+        }
+    }
+}
+
+/// The key that waits for its value after a key or a value.
+fn key_behind(
+    reading: &Reading,
+    event: &Event,
+    i: usize,
+    measure: &Measure,
+    level: &Level,
+    style: &Style,
+) -> Option<Key>
+    requires { i < length reading.now.events }
+    ensures { result ≡ Deciding.key_behind (given style.now reading.now.comments reading.now.events)
+        (event_value event.now) i measure.now level.now.column level.now.key }
+{
+    match level.key {
+        Some(_) => None,
+        None => {
+            let is_implicit = is_implicit_key(measure, level.column, style);
+            Some(key_of(reading, event, i, measure, is_implicit))
+        }
+    }
+}
+
+/// Where the next node stands that holds no other.
+pub(crate) fn next_place(
+    stack: &[Level],
+    reading: &Reading,
+    event: &Event,
+    i: usize,
+    measure: &Measure,
+    style: &Style,
+) -> Place
+    ensures { IsNonDecreasingBy (λ c. c.offset) reading.now.comments
+        → result ≡ Deciding.next_place (given style.now reading.now.comments reading.now.events)
+        (event_value event.now) i measure.now (reverse stack.now) }
+{
+    let count = stack.len();
+    if count > 0 {
+        let level = stack[count - 1];
+        if level.is_map {
+            return place_in_map(reading, event, i, measure, &level, style);
+        }
+        return Place::at(level.column.saturating_add(style.indent));
+    }
+    Place::at(0)
+}
+
+/// Notes in the innermost open collection that a node is a key or a value.
+pub(crate) fn count_node(
+    stack: &mut Vec<Level>,
+    reading: &Reading,
+    event: &Event,
+    i: usize,
+    measure: &Measure,
+    style: &Style,
+)
+    requires { i < length reading.now.events }
+    ensures { reverse stack.new.items ≡ Deciding.next_stack (given style.now reading.now.comments reading.now.events)
+        (event_value event.now) i measure.now (reverse stack.old.items) }
+{
+    let count = stack.len();
+    if count > 0 {
+        let level = stack[count - 1];
+        if level.is_map {
+            stack[count - 1] = Level {
+                is_map: true,
+                column: level.column,
+                key: key_behind(reading, event, i, measure, &level, style),
+            };
+        }
+    }
+}

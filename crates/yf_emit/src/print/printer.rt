@@ -1,0 +1,383 @@
+//! The printer between two events of a normal reading, and what it prints round nodes: documents, entries, and the
+//! beginning of block collections. Columns count from 0 here.
+ghost use Rattle.std.specs.Prelude.{◌≡◌, ◌++◌, ◌∷◌, ◌==◌, map, not, reverse, slice_get, OnOk, IfOk};
+ghost use Rattle.std.specs.String.{string_bytes};
+ghost use Rattle.yf_props.specs.Props.{props_value};
+ghost use Rattle.yf_events.specs.Event.{view_value};
+ghost use Rattle.yf_emit.specs.Drafts.{draft};
+ghost use Rattle.yf_emit.specs.Printing as Printing;
+ghost use Rattle.yf_emit.specs.Printing.{level_of, levels_behind, marked, sign, space_text, work};
+ghost use Rattle.yf_emit.specs.Rows.{joined_words};
+
+use crate::form::decide::{Form, Forms};
+use crate::form::measure::Measures;
+use crate::print::output::Output;
+use crate::print::trails::Trails;
+use crate::style::Style;
+use crate::text::block::push_spaces;
+use crate::text::written::{has_props, push_props};
+use std::alloc::AllocError;
+use yf_events::directive::Directive;
+use yf_events::document::Doc;
+use yf_events::event::Entry;
+use yf_events::reading::Reading;
+use yf_props::props::Props;
+
+/// What is decided of a reading before it is printed.
+#[derive(Drop)]
+pub(crate) struct Plan {
+    pub(crate) measures: Measures,
+    pub(crate) forms: Forms,
+    pub(crate) trails: Trails,
+    pub(crate) style: Style,
+}
+
+/// What a block collection awaits.
+#[derive(Clone, Copy)]
+pub(crate) enum Awaited {
+    /// An item.
+    Item,
+    /// A key, or the end.
+    Key,
+    /// The value of a key that is written without `?`.
+    Value,
+    /// The value of a key that is written with `?`: the byte offset of its `:`, where it has one.
+    ExplicitValue(Option<usize>),
+}
+
+/// A block collection whose end has not come yet.
+#[derive(Clone, Copy)]
+pub(crate) struct Level {
+    /// The column of its entries.
+    column: usize,
+    awaited: Awaited,
+    /// Whether its first entry goes to the line that is being made.
+    is_inline: bool,
+}
+
+/// Where a node goes: the line that is being made holds what stands before it.
+#[derive(Clone, Copy)]
+pub(crate) enum Spot {
+    /// The root of a document, on a line of its own.
+    Root,
+    /// After the `-`, the `?` or the explicit `:` of an entry at that column.
+    Behind(usize),
+    /// A key without `?`.
+    Key,
+    /// After the `:` of a key without `?`, in an entry at that column.
+    Value(usize),
+}
+
+/// Appends a space where one is needed.
+fn push_space_if(out: &mut String, is_needed: bool) -> Result<(), AllocError>
+    ensures { OnOk result (string_bytes out.new ≡ string_bytes out.old ++ space_text is_needed) }
+{
+    if is_needed {
+        return out.push(' ');
+    }
+    Ok(())
+}
+
+/// Appends words with a space between two of them.
+fn push_words(out: &mut String, words: &[&str]) -> Result<(), AllocError>
+    ensures { OnOk result (string_bytes out.new ≡ string_bytes out.old ++ joined_words (map (λ word. word.now) words.now)) }
+{
+    let mut is_behind = false;
+    for word in words {
+        push_space_if(out, is_behind)?;
+        out.push_str(word)?;
+        is_behind = true;
+    }
+    Ok(())
+}
+
+/// Prints directives, each on a line of its own.
+fn push_directives(
+    output: &mut Output,
+    reading: &Reading,
+    plan: &Plan,
+    directives: &[Directive],
+) -> Result<(), AllocError>
+    ensures { OnOk result (draft output.new ≡ Printing.directive_lines (work reading.now plan.now) directives.now (draft output.old)) }
+{
+    for directive in directives {
+        output.line.push('%')?;
+        push_words(&mut output.line, directive.words.as_slice())?;
+        output.open_line(reading, &plan.trails, 0)?;
+    }
+    Ok(())
+}
+
+/// Prints the `...` and directives of a document that has directives.
+fn push_document_directives(
+    output: &mut Output,
+    reading: &Reading,
+    plan: &Plan,
+    is_first: bool,
+    directives: &[Directive],
+) -> Result<(), AllocError>
+    ensures { OnOk result (draft output.new ≡ Printing.directives (work reading.now plan.now) is_first directives.now (draft output.old)) }
+{
+    if directives.is_empty() {
+        return Ok(());
+    }
+    if !is_first {
+        output.line.push_str("...")?;
+        output.open_line(reading, &plan.trails, 0)?;
+    }
+    push_directives(output, reading, plan, directives)
+}
+
+/// Begins a document on a line that was begun: its directives, and not yet the `---`.
+fn begin_document(
+    output: &mut Output,
+    reading: &Reading,
+    plan: &Plan,
+    is_first: bool,
+    document: &Doc,
+) -> Result<(), AllocError>
+    ensures { OnOk result (draft output.new ≡ Printing.document_begun (work reading.now plan.now) is_first document.now
+        (draft output.old)) }
+{
+    output.meet(reading, document.start);
+    push_document_directives(
+        output,
+        reading,
+        plan,
+        is_first,
+        document.directives.as_slice(),
+    )
+}
+
+fn push_document_mark(output: &mut Output) -> Result<(), AllocError>
+    ensures { OnOk result (draft output.new ≡ marked (draft output.old)) }
+{
+    output.line.push_str("---")?;
+    output.forbid_blank();
+    Ok(())
+}
+
+/// Begins an entry, on a line of its own unless it is the first one of a collection that goes to the line.
+fn begin_entry(
+    output: &mut Output,
+    reading: &Reading,
+    plan: &Plan,
+    is_inline: bool,
+    column: usize,
+    entry: Option<Entry>,
+) -> Result<(), AllocError>
+    ensures { OnOk result (draft output.new ≡ Printing.entry_begun (work reading.now plan.now) is_inline column entry (draft output.old)) }
+{
+    if !is_inline {
+        output.open_line(reading, &plan.trails, column)?;
+    }
+    if let Some(entry) = entry {
+        if !is_inline {
+            output.set_blank_before(entry.blank_before);
+        }
+        output.meet(reading, entry.start);
+    }
+    Ok(())
+}
+
+/// Begins the value of a key with `?`, whose `:` stands at that byte offset.
+fn begin_explicit_value(
+    output: &mut Output,
+    reading: &Reading,
+    plan: &Plan,
+    column: usize,
+    colon: Option<usize>,
+) -> Result<(), AllocError>
+    ensures { OnOk result (draft output.new ≡ Printing.with_colon (work reading.now plan.now) column colon (draft output.old)) }
+{
+    output.open_line(reading, &plan.trails, column)?;
+    if let Some(offset) = colon {
+        output.meet(reading, offset);
+    }
+    output.line.push(':')
+}
+
+/// Prints what stands before the node that comes next in a block collection.
+fn push_sign(
+    output: &mut Output,
+    reading: &Reading,
+    plan: &Plan,
+    form: &Form,
+    entry: Option<Entry>,
+    level: &Level,
+) -> Result<(), AllocError>
+    ensures { OnOk result (draft output.new ≡ Printing.sign_in
+        (work reading.now plan.now) form.now entry level.now.is_inline level.now.column level.now.awaited (draft output.old)) }
+{
+    match level.awaited {
+        Awaited::Item => {
+            begin_entry(output, reading, plan, level.is_inline, level.column, entry)?;
+            output.line.push('-')
+        }
+        Awaited::Key => {
+            begin_entry(output, reading, plan, level.is_inline, level.column, entry)?;
+            if form.is_implicit {
+                return Ok(());
+            }
+            output.line.push('?')
+        }
+        Awaited::Value => Ok(()),
+        Awaited::ExplicitValue(colon) => {
+            begin_explicit_value(output, reading, plan, level.column, colon)
+        }
+    }
+}
+
+/// The byte offset of the `:` after a key.
+fn colon_of(entry: Option<Entry>) -> Option<usize>
+    ensures { result ≡ Printing.colon_of entry }
+{
+    match entry {
+        Some(entry) => entry.colon,
+        None => None,
+    }
+}
+
+/// Where the node goes that comes next in a block collection.
+fn spot_in(form: &Form, level: &Level) -> Spot
+    ensures { result ≡ Printing.spot_in form.now level.now.column level.now.awaited }
+{
+    match level.awaited {
+        Awaited::Key => {
+            if form.is_implicit {
+                return Spot::Key;
+            }
+            Spot::Behind(level.column)
+        }
+        Awaited::Value => Spot::Value(level.column),
+        Awaited::Item | Awaited::ExplicitValue(_) => Spot::Behind(level.column),
+    }
+}
+
+/// What a block collection awaits after the node that comes next.
+fn awaited_behind(form: &Form, entry: Option<Entry>, awaited: Awaited) -> Awaited
+    ensures { result ≡ Printing.awaited_behind form.now entry awaited }
+{
+    match awaited {
+        Awaited::Item => Awaited::Item,
+        Awaited::Key => {
+            if form.is_implicit {
+                return Awaited::Value;
+            }
+            Awaited::ExplicitValue(colon_of(entry))
+        }
+        Awaited::Value | Awaited::ExplicitValue(_) => Awaited::Key,
+    }
+}
+
+/// Prints what stands before the next node, and answers where the node goes.
+pub(crate) fn next_spot(
+    output: &mut Output,
+    levels: &mut Vec<Level>,
+    reading: &Reading,
+    plan: &Plan,
+    form: &Form,
+    entry: Option<Entry>,
+) -> Result<Spot, AllocError>
+    ensures spot { IfOk result (λ spot. spot ≡ Printing.spot form.now (reverse levels.old.items)) }
+    ensures printed { OnOk result (draft output.new ≡ sign (work reading.now plan.now) form.now entry (reverse levels.old.items)
+        (draft output.old)) }
+    ensures levels { OnOk result (reverse levels.new.items ≡ levels_behind form.now entry (reverse levels.old.items)) }
+{
+    match levels.pop() {
+        Some(level) => {
+            push_sign(output, reading, plan, form, entry, &level)?;
+            levels.push(Level {
+                column: level.column,
+                awaited: awaited_behind(form, entry, level.awaited),
+                is_inline: false,
+            })?;
+            Ok(spot_in(form, &level))
+        }
+        None => Ok(Spot::Root),
+    }
+}
+
+/// Prints what stands before the properties of a block collection, or before its entries where it has none.
+fn before_collection(
+    output: &mut Output,
+    reading: &Reading,
+    plan: &Plan,
+    has_props: bool,
+    spot: Spot,
+) -> Result<(), AllocError>
+    ensures { OnOk result (draft output.new ≡ Printing.before_collection (work reading.now plan.now) has_props spot (draft output.old)) }
+{
+    match spot {
+        Spot::Root => {
+            if has_props {
+                output.open_line(reading, &plan.trails, 0)?;
+                output.forbid_blank();
+            }
+            Ok(())
+        }
+        Spot::Behind(_) => {
+            push_spaces(&mut output.line, plan.style.indent.saturating_sub(1))?;
+            if has_props {
+                output.forbid_blank();
+            }
+            Ok(())
+        }
+        Spot::Key | Spot::Value(_) => {
+            if has_props {
+                output.line.push(' ')?;
+            }
+            output.forbid_blank();
+            Ok(())
+        }
+    }
+}
+
+/// Prints a block collection's properties, and begins it.
+pub(crate) fn begin_collection(
+    output: &mut Output,
+    levels: &mut Vec<Level>,
+    reading: &Reading,
+    plan: &Plan,
+    form: &Form,
+    spot: Spot,
+    props: &Props,
+    first: Awaited,
+) -> Result<(), AllocError>
+    ensures printed { OnOk result (draft output.new ≡ Printing.collection_begun (work reading.now plan.now)
+        (props_value props.now) spot (draft output.old)) }
+    ensures levels { OnOk result (reverse levels.new.items ≡ level_of form.now
+        (Printing.has_props (props_value props.now)) first spot ∷ reverse levels.old.items) }
+{
+    let with_props = has_props(props);
+    before_collection(output, reading, plan, with_props, spot)?;
+    push_props(&mut output.line, props)?;
+    levels.push(Level {
+        column: form.column,
+        awaited: first,
+        is_inline: !with_props && matches!(spot, Spot::Behind(_)),
+    })?;
+    Ok(())
+}
+
+/// Begins the next document, and answers how many have begun.
+pub(crate) fn next_document(
+    output: &mut Output,
+    reading: &Reading,
+    plan: &Plan,
+    documents: usize,
+) -> Result<usize, AllocError>
+    ensures printed { OnOk result (draft output.new ≡ Printing.document_printed (work reading.now plan.now) documents
+        (slice_get reading.now.documents documents) (draft output.old)) }
+    ensures documents { IfOk result (λ next. next ≡ Printing.documents_behind documents (slice_get reading.now.documents documents)) }
+{
+    output.open_line(reading, &plan.trails, 0)?;
+    let mut next = documents;
+    let list = reading.documents();
+    if documents < list.len() {
+        begin_document(output, reading, plan, documents == 0, &list[documents])?;
+        next = documents + 1;
+    }
+    push_document_mark(output)?;
+    Ok(next)
+}

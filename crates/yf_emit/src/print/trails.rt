@@ -1,0 +1,245 @@
+//! Which comments stand after the text of a line, at its end: they trail a leaf or a key.
+ghost use Rattle.std.specs.Prelude.{◌≡◌, ◌<◌, ◌≤◌, false, get_or, length, map, replicate, set, slice_get, true, IfOk, None};
+ghost use Rattle.yf_comments.specs.Comment.{comment_value};
+ghost use Rattle.yf_emit.specs.Trailing as Trailing;
+ghost use Rattle.yf_emit.specs.Trailing.{all_found, found, given, keys_taken, leaf_if, state, taken};
+ghost use Rattle.yf_emit.specs.TrailsOf.{FindsTrails};
+
+use crate::form::comments_before::first_behind;
+use crate::form::decide::{Form, Forms};
+use crate::form::measure::Measures;
+use std::alloc::{AllocError, Global};
+use yf_events::event::Span;
+use yf_events::reading::Reading;
+
+/// The comments of a reading that trail a leaf or a key.
+#[derive(Debug, Drop)]
+pub struct Trails {
+    /// For each event that begins a leaf, the index of the comment that trails it.
+    of_leaf: Vec<Option<usize>>,
+    /// For each comment, whether it trails a leaf or a key.
+    is_trailing: Vec<bool>,
+}
+
+impl Trails {
+    /// The index of the comment that trails the leaf that the event at an index begins.
+    pub fn of_leaf(&self, i: usize) -> Option<usize>
+        ensures { result ≡ get_or self.now.of_leaf.items i None }
+    {
+        match self.of_leaf.get(i) {
+            Some(comment) => *comment,
+            None => None,
+        }
+    }
+
+    /// Whether the comment at an index trails a leaf or a key.
+    pub fn is_trailing(&self, k: usize) -> bool
+        ensures { result ≡ get_or self.now.is_trailing.items k false }
+    {
+        match self.is_trailing.get(k) {
+            Some(is_trailing) => *is_trailing,
+            None => false,
+        }
+    }
+}
+
+/// A leaf after which the next comment may stand.
+#[derive(Clone, Copy)]
+pub(crate) struct Leaf {
+    event: usize,
+    /// The byte offset of its end.
+    end: usize,
+    /// The index of the first comment that begins after its start.
+    first: usize,
+}
+
+/// Notes that a comment trails.
+fn take(is_trailing: &mut Vec<bool>, k: usize)
+    ensures { is_trailing.new.items ≡ set is_trailing.old.items k true }
+{
+    if k < is_trailing.len() {
+        is_trailing[k] = true;
+    }
+}
+
+/// Notes that a comment, if there is one, trails a key.
+fn take_key(is_trailing: &mut Vec<bool>, comment: Option<usize>)
+    ensures { is_trailing.new.items ≡ taken is_trailing.old.items comment }
+{
+    if let Some(k) = comment {
+        take(is_trailing, k);
+    }
+}
+
+/// Notes the comment that trails the leaf that an event begins.
+fn note_leaf(of_leaf: &mut Vec<Option<usize>>, event: usize, k: usize)
+    ensures { of_leaf.new.items ≡ set of_leaf.old.items event (Some k) }
+{
+    if event < of_leaf.len() {
+        of_leaf[event] = Some(k);
+    }
+}
+
+/// Whether a comment that begins after the leaf's start, and before the next leaf, stands inside of the leaf or on the line
+/// on which it ends.
+fn is_at(reading: &Reading, end: usize, k: usize) -> bool
+    ensures { result ≡ Trailing.is_at reading.now end k }
+{
+    let comments = reading.comments();
+    if k < comments.len() {
+        if comments[k].offset < end {
+            return true;
+        }
+        return reading.on_leaf_line(k);
+    }
+    false
+}
+
+/// Whether the first comment after a leaf trails it, where the next leaf begins after the comments before `until`.
+fn trails_leaf(trails: &Trails, reading: &Reading, leaf: &Leaf, until: usize) -> bool
+    ensures { result ≡ Trailing.trails_leaf reading.now trails.now.is_trailing.items leaf.now until }
+{
+    if leaf.first < until {
+        if trails.is_trailing(leaf.first) {
+            return false;
+        }
+        return is_at(reading, leaf.end, leaf.first);
+    }
+    false
+}
+
+/// Gives the leaf the first of the comments from its start to the one of the index `until`, if that trails it.
+fn close(trails: &mut Trails, reading: &Reading, leaf: Option<Leaf>, until: usize)
+    ensures { found trails.new ≡ given reading.now leaf until (found trails.old) }
+{
+    if let Some(leaf) = leaf {
+        if trails_leaf(trails, reading, &leaf, until) {
+            take(&mut trails.is_trailing, leaf.first);
+            note_leaf(&mut trails.of_leaf, leaf.event, leaf.first);
+        }
+    }
+}
+
+/// The leaf that the event at an index begins, where it begins one; the comments before the index `from` begin before it.
+fn leaf_at(
+    reading: &Reading,
+    measures: &Measures,
+    i: usize,
+    span: Option<Span>,
+    from: usize,
+) -> Option<Leaf>
+    ensures { result ≡ leaf_if (Trailing.is_leaf measures.now i) reading.now.comments i from span }
+{
+    if measures.at(i).is_leaf(i) {
+        if let Some(span) = span {
+            return Some(Leaf {
+                event: i,
+                end: span.end,
+                first: first_behind(reading.comments(), from, span.start),
+            });
+        }
+    }
+    None
+}
+
+/// The index of the first comment after a leaf.
+fn first_of(leaf: Option<Leaf>) -> usize
+    ensures { result ≡ Trailing.first_of leaf }
+{
+    match leaf {
+        Some(leaf) => leaf.first,
+        None => 0,
+    }
+}
+
+/// Goes past one event, which begins a leaf with this place in the text, or none, and answers the last leaf.
+fn pass(
+    trails: &mut Trails,
+    reading: &Reading,
+    measures: &Measures,
+    i: usize,
+    span: Option<Span>,
+    last: Option<Leaf>,
+) -> Option<Leaf>
+    ensures { state (found trails.new) result ≡ Trailing.next reading.now measures.now i span (state (found trails.old) last) }
+{
+    match leaf_at(reading, measures, i, span, first_of(last)) {
+        Some(leaf) => {
+            close(trails, reading, last, leaf.first);
+            Some(leaf)
+        }
+        None => last,
+    }
+}
+
+/// How many comments there are.
+fn comment_count(reading: &Reading) -> usize
+    ensures { result ≡ length reading.now.comments }
+{
+    reading.comments().len()
+}
+
+/// So many comments of which none trails.
+fn none_trailing(alloc: Global, count: usize) -> Result<Vec<bool>, AllocError>
+    ensures { IfOk result (λ list. list.items ≡ replicate count false) }
+{
+    let mut list = Vec::new(alloc);
+    for _done in 0..count {
+        list.push(false)?;
+    }
+    Ok(list)
+}
+
+/// So many events whose leaves no comment trails.
+fn none_of_leaf(alloc: Global, count: usize) -> Result<Vec<Option<usize>>, AllocError>
+    ensures { IfOk result (λ list. list.items ≡ replicate count None) }
+{
+    let mut list = Vec::new(alloc);
+    for _done in 0..count {
+        list.push(None)?;
+    }
+    Ok(list)
+}
+
+/// Notes the comments that trail a key.
+fn take_keys(is_trailing: &mut Vec<bool>, forms: &[Form])
+    ensures { is_trailing.new.items ≡ keys_taken forms.now is_trailing.old.items }
+{
+    for form in forms {
+        take_key(is_trailing, form.key_comment);
+    }
+}
+
+/// No comment trails yet but those that end the line of a key.
+fn trails_of_keys(alloc: Global, reading: &Reading, forms: &Forms) -> Result<Trails, AllocError>
+    ensures { IfOk result (λ trails. found trails ≡ (Trailing.start reading.now forms.now).found) }
+{
+    let mut is_trailing = none_trailing(alloc, comment_count(reading))?;
+    take_keys(&mut is_trailing, forms.as_slice());
+    let of_leaf = none_of_leaf(alloc, reading.len())?;
+    Ok(Trails {
+        of_leaf,
+        is_trailing,
+    })
+}
+
+/// Finds the comments that trail: those that end a key's line, and for each leaf the first comment after its start and before
+/// the next leaf, where it stands inside of the leaf or on the line on which the leaf ends. Of a normal form, with its own measures
+/// and forms, these are the comments that trail in its layout.
+pub fn find_trails(
+    alloc: Global,
+    reading: &Reading,
+    measures: &Measures,
+    forms: &Forms,
+) -> Result<Trails, AllocError>
+    ensures found { IfOk result (λ trails. found trails ≡ all_found reading.now measures.now forms.now) }
+    ensures layout { IfOk result (λ trails. FindsTrails reading.now measures.now forms.now (found trails)) }
+{
+    let mut trails = trails_of_keys(alloc, reading, forms)?;
+    let mut last: Option<Leaf> = None;
+    for i in 0..reading.len() {
+        last = pass(&mut trails, reading, measures, i, reading.span(i), last);
+    }
+    close(&mut trails, reading, last, comment_count(reading));
+    Ok(trails)
+}

@@ -1,0 +1,17 @@
+use Rattle.yf_rules.specs.Entries.{unmarked_at}
+use Rattle.yf_rules.proofs.EntryLemmas.{unmarked_none, unmarked_there}
+use Rattle.yf_rules.proofs.PassLemmas.{key_passed}
+use Rattle.yf_rules.proofs.facts.stands.next_in.Goals as goal
+use Rattle.yf_rules.proofs.facts.stands.next_in.Goals.{in-Some-entry, in-None-entry}
+
+pub returns-after-entry-clause-level : goal.returns-after-entry-clause-level
+returns-after-entry-clause-level c =
+    let t = c.args.src.now.text in
+    let es = c.args.reading.now.events in
+    key_passed c.args.level.now (unmarked_at t es c.args.i) c.match-entry.level c.if-not-level.false c.in-None.is
+    (elim c.match-entry.branch [
+      | in-Some-entry w ↦
+          unmarked_there t w.text.result.now es c.args.i w.in-Some-entry.entry w.has_question_mark.result c.match-entry.level w.in-Some-entry.ensures w.text.ensures w.has_question_mark.ensures w.level-is
+      | in-None-entry w ↦
+          unmarked_none t t es c.args.i c.match-entry.level w.in-None-entry.ensures w.level-is
+    ])

@@ -1,0 +1,23 @@
+use Rattle.std.proofs.Common.{◌≤◌, ◌∙◌, ap, length, arith}
+use Rattle.yf_rules.specs.ByLine.{BeyondLimit}
+use Rattle.yf_rules.proofs.ExactLemmas.{none_yet, one_found, none_found, all_found_upto}
+use Rattle.yf_rules.proofs.RunLemmas.{beyond_within}
+use Rattle.yf_rules.proofs.rules.line_length.offsets.Goals as goal
+use Rattle.yf_rules.proofs.rules.line_length.offsets.Goals.{in-Some+in_ok-push-in-Some, in-None}
+
+pub loop-k-init : goal.loop-k-init
+loop-k-init c = none_yet _ c.new-offsets.result.items c.new-offsets.ensures.items
+
+pub loop-k-preserved : goal.loop-k-preserved
+loop-k-preserved c =
+    let P = BeyondLimit c.args.src.now c.args.style.now.max_line in
+    elim c.match-beyond.branch [
+      | in-Some+in_ok-push-in-Some w ↦
+          one_found P c.loop-k.k c.loop-k.offsets.items c.match-beyond.offsets.items w.in-Some.offset c.loop-k.invariant w.in-Some.ensures (ap (λ v. v.items) w.offsets-is ∙ w.in_ok-push-in-Some.ensures.items)
+      | in-None w ↦ none_found P c.loop-k.k c.loop-k.offsets.items c.match-beyond.offsets.items c.loop-k.invariant w.in-None.ensures (ap (λ v. v.items) w.offsets-is)
+    ]
+
+pub returns : goal.returns
+returns c =
+    let count : length c.args.src.now.lines ≤ c.loop-k.k = omega (arith, ap (λ w. length w.lines) c.lines.ensures, c.len-k-end.ensures.count) in
+    all_found_upto _ _ c.loop-k.k c.loop-k.offsets.items c.loop-k.invariant (λ k x l p. p) (λ k x p. (let h = beyond_within p in omega (arith, h, count), p))

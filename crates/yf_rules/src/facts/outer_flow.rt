@@ -1,0 +1,41 @@
+//! Which events stand in a flow collection, told in one pass over the events of a reading that was measured.
+ghost use Rattle.std.specs.Prelude.{◌≡◌, ◌<◌, ◌+◌, ℕ, List, Some, length, slice_get};
+ghost use Rattle.yf_emit.specs.Measures.{Measured};
+ghost use Rattle.yf_emit.specs.Normal.{Setting};
+ghost use Rattle.yf_events.specs.Event.{EventValue};
+ghost use Rattle.yf_events.specs.Reading.{events_of};
+ghost use Rattle.yf_events.specs.Tree.{DocumentTree, TreesOf};
+ghost use Rattle.yf_rules.specs.OuterFlow as OuterFlow;
+ghost use Rattle.yf_rules.specs.OuterFlow.{FlowsDone};
+
+use yf_emit::form::measure::Measures;
+use yf_events::event::Event;
+use yf_events::reading::Reading;
+
+/// Whether the event begins a flow collection.
+fn starts_flow(reading: &Reading, i: usize) -> bool
+    requires { i < length reading.now.events }
+    ensures { (e : EventValue) → slice_get (events_of reading.now) i ≡ Some e → result ≡ OuterFlow.starts_flow e }
+{
+    match reading.event(i) {
+        Event::SeqStart { flow, .. } => flow,
+        Event::MapStart { flow, .. } => flow,
+        _ => false,
+    }
+}
+
+/// Goes past the event at an index: `done` is the index of the last event of the flow collections before it, and so is what is
+/// answered of those up to it. It is 0 where there is none.
+pub fn past_flow(reading: &Reading, measures: &Measures, i: usize, done: usize) -> usize
+    requires { i < length reading.now.events }
+    ensures { (t : List ℕ) (c : Setting) (trees : List DocumentTree) → TreesOf reading.now trees
+        → Measured t c reading.now.events measures.now → FlowsDone reading.now.events i done → FlowsDone reading.now.events (i + 1) result }
+{
+    if i <= done {
+        return done;
+    }
+    if starts_flow(reading, i) {
+        return measures.at(i).last;
+    }
+    done
+}

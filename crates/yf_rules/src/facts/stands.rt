@@ -1,0 +1,262 @@
+//! In which block collection each node stands, and at which column its entries do. Columns count from 0 here. It is told in
+//! one pass over the events, and kept of the open collections alone.
+ghost use Rattle.std.specs.Prelude.{◌≡◌, ◌<◌, ◌+◌, ◌&&◌, Some, None, [], drop, get_or, length, reverse, slice_get, IfOk};
+ghost use Rattle.yf_events.specs.Event.{EventValue};
+ghost use Rattle.yf_events.specs.Reading.{events_of};
+ghost use Rattle.yf_rules.specs.Entries as Entries;
+ghost use Rattle.yf_rules.specs.Entries.{all_entries, entries_from, start_at, unmarked_at};
+ghost use Rattle.yf_rules.specs.Passing.{IsPass, Opens, Passes};
+ghost use Rattle.yf_rules.specs.Standings.{after, held, is_beside, past, stand_in};
+
+use crate::facts::places::columns_of;
+use crate::facts::whites::has_question_mark;
+use std::alloc::{AllocError, Global};
+use yf_events::event::Event;
+use yf_events::reading::Reading;
+use yf_lines::source_text::Src;
+
+/// What holds a node.
+#[derive(Clone, Copy, Debug)]
+pub enum Around {
+    /// Nothing: it is the root of a document.
+    Nothing,
+    /// A block collection whose entries stand at that column.
+    Entries(usize),
+    /// A flow collection, or a block collection whose first entry has no place.
+    Unknown,
+}
+
+/// Where the node stands that an event begins.
+#[derive(Clone, Copy, Debug)]
+pub struct Stand {
+    pub outer: Around,
+    /// Whether it is the value of a key that is written without `?`.
+    pub is_implicit_value: bool,
+    /// Of a block collection the column of its first entry.
+    pub column: Option<usize>,
+    /// Of a block collection the byte offset of its first entry.
+    pub first: usize,
+}
+
+impl Stand {
+    const NONE: Stand = Stand {
+        outer: Around::Unknown,
+        is_implicit_value: false,
+        column: None,
+        first: 0,
+    };
+}
+
+/// A collection whose end has not come yet.
+#[derive(Clone, Copy, Debug)]
+struct Level {
+    column: Option<usize>,
+    is_map: bool,
+    /// In a mapping, whether a value comes next, and whether its key is written without `?`.
+    key: Option<bool>,
+}
+
+/// The byte offset at which the entry begins that the event begins, where a character begins there or the text ends.
+fn entry_start(src: &Src, reading: &Reading, i: usize) -> Option<usize>
+    requires { i < length reading.now.events }
+    ensures { result ≡ start_at src.now.text (Entries.first_entry (drop i reading.now.events)) }
+{
+    match reading.entry(i) {
+        Some(entry) => {
+            if src.text().is_char_boundary(entry.start) {
+                return Some(entry.start);
+            }
+            None
+        }
+        None => None,
+    }
+}
+
+/// Whether the event begins a block collection.
+fn starts_block(reading: &Reading, i: usize) -> bool
+    requires { i < length reading.now.events }
+    ensures { (e : EventValue) → slice_get (events_of reading.now) i ≡ Some e → result ≡ Entries.starts_block e }
+{
+    match reading.event(i) {
+        Event::SeqStart { flow, .. } => !flow,
+        Event::MapStart { flow, .. } => !flow,
+        _ => false,
+    }
+}
+
+/// The byte offset of the first entry of the block collection that the event begins.
+fn first_entry(src: &Src, reading: &Reading, i: usize) -> Option<usize>
+    requires { i < length reading.now.events }
+    ensures { result ≡ entries_from src.now.text (drop i reading.now.events) }
+{
+    if starts_block(reading, i) {
+        let next = i.saturating_add(1);
+        if next < reading.len() {
+            return entry_start(src, reading, next);
+        }
+    }
+    None
+}
+
+/// The byte offsets of the first entries of all block collections, in order.
+fn first_entries(alloc: Global, src: &Src, reading: &Reading) -> Result<Vec<usize>, AllocError>
+    ensures { IfOk result (λ offsets. offsets.items ≡ all_entries src.now.text reading.now.events) }
+{
+    let mut offsets = Vec::new(alloc);
+    for i in 0..reading.len() {
+        if let Some(offset) = first_entry(src, reading, i) {
+            offsets.push(offset)?;
+        }
+    }
+    Ok(offsets)
+}
+
+/// Whether the next node is the value of a key without `?`; the level then waits for what comes after the node.
+fn next_in(level: &mut Level, src: &Src, reading: &Reading, i: usize) -> bool
+    requires { i < length reading.now.events }
+    ensures level { level.new ≡ past (unmarked_at src.now.text reading.now.events i) level.old }
+    ensures value { result ≡ (level.old.is_map && is_beside level.old.key) }
+{
+    if !level.is_map {
+        return false;
+    }
+    match level.key {
+        Some(is_implicit) => {
+            level.key = None;
+            is_implicit
+        }
+        None => {
+            level.key = Some(match reading.entry(i) {
+                Some(entry) => !has_question_mark(src.text(), entry),
+                None => false,
+            });
+            false
+        }
+    }
+}
+
+/// What holds the next node, in the innermost open collection.
+fn held_by(level: &Level) -> Around
+    ensures { result ≡ held level.now.column }
+{
+    match level.column {
+        Some(column) => Around::Entries(column),
+        None => Around::Unknown,
+    }
+}
+
+/// Where the next node stands, a block collection's own entries left out.
+fn next_stand(stack: &mut Vec<Level>, src: &Src, reading: &Reading, i: usize) -> Stand
+    requires { i < length reading.now.events }
+    ensures stack { reverse stack.new.items ≡ after (unmarked_at src.now.text reading.now.events i) (reverse stack.old.items) }
+    ensures stand { result ≡ stand_in (reverse stack.old.items) None 0 }
+{
+    match stack.last_mut() {
+        None => Stand {
+            outer: Around::Nothing,
+            is_implicit_value: false,
+            column: None,
+            first: 0,
+        },
+        Some(level) => {
+            let is_value = next_in(level, src, reading, i);
+            Stand {
+                outer: held_by(level),
+                is_implicit_value: is_value,
+                column: None,
+                first: 0,
+            }
+        }
+    }
+}
+
+/// A pass over the events of a reading, which tells where the node stands that each begins.
+#[derive(Debug, Drop)]
+pub struct Pass {
+    /// The columns of the first entries of all block collections, in order.
+    columns: Vec<usize>,
+    /// How many of them have begun.
+    begun: usize,
+    stack: Vec<Level>,
+}
+
+impl Pass {
+    /// A pass before the first event of a reading of the text.
+    pub fn new(alloc: Global, src: &Src, reading: &Reading) -> Result<Pass, AllocError>
+        ensures pass { IfOk result (λ pass. IsPass src.now.text reading.now.events pass.columns.items pass.begun 0) }
+        ensures stack { IfOk result (λ pass. reverse pass.stack.items ≡ []) }
+    {
+        let offsets = first_entries(alloc, src, reading)?;
+        Ok(Pass {
+            columns: columns_of(src, offsets),
+            begun: 0,
+            stack: Vec::new(alloc),
+        })
+    }
+
+    /// Goes past the event at an index, which is the next one: where the node stands that it begins.
+    pub fn next(&mut self, src: &Src, reading: &Reading, i: usize) -> Result<Stand, AllocError>
+        requires { i < length reading.now.events }
+        ensures { IfOk result (λ stand. (e : EventValue) → slice_get (events_of reading.now) i ≡ Some e
+            → Passes src.now.text reading.now.events i e self.old self.new stand) }
+    {
+        match reading.event(i) {
+            Event::Scalar { .. } | Event::Alias { .. } => {
+                Ok(next_stand(&mut self.stack, src, reading, i))
+            }
+            Event::SeqStart { .. } => self.open(src, reading, i, false),
+            Event::MapStart { .. } => self.open(src, reading, i, true),
+            Event::SeqEnd | Event::MapEnd => {
+                let _ = self.stack.pop();
+                Ok(Stand::NONE)
+            }
+            Event::StreamStart | Event::StreamEnd | Event::DocStart { .. } | Event::DocEnd { .. } =>
+                Ok(Stand::NONE),
+        }
+    }
+
+    /// Goes past the start of a collection.
+    fn open(
+        &mut self,
+        src: &Src,
+        reading: &Reading,
+        i: usize,
+        is_map: bool,
+    ) -> Result<Stand, AllocError>
+        requires { i < length reading.now.events }
+        ensures { IfOk result (λ stand. Opens src.now.text reading.now.events i is_map self.old self.new stand) }
+    {
+        let stand = next_stand(&mut self.stack, src, reading, i);
+        let first = first_entry(src, reading, i);
+        let column = match first {
+            Some(_) => Some(self.next_column()),
+            None => None,
+        };
+        self.stack.push(Level {
+            column,
+            is_map,
+            key: None,
+        })?;
+        Ok(Stand {
+            outer: stand.outer,
+            is_implicit_value: stand.is_implicit_value,
+            column,
+            first: first.unwrap_or(0),
+        })
+    }
+
+    /// The column of the first entry of the block collection that begins next.
+    fn next_column(&mut self) -> usize
+        ensures column { result ≡ get_or self.old.columns.items self.old.begun 0 }
+        ensures begun { self.old.begun < length self.old.columns.items → self.new.begun ≡ self.old.begun + 1 }
+        ensures columns { self.new.columns ≡ self.old.columns }
+        ensures stack { self.new.stack ≡ self.old.stack }
+    {
+        let k = self.begun;
+        self.begun = k.saturating_add(1);
+        if k < self.columns.len() {
+            return self.columns[k];
+        }
+        0
+    }
+}

@@ -1,0 +1,149 @@
+//! Rule 8, blank-lines.
+ghost use Rattle.std.specs.Prelude.{◌≡◌, ◌<◌, length, IfOk, MatchBool};
+ghost use Rattle.yf_events.specs.declared.lists.Lists.{Lists};
+ghost use Rattle.yf_lines.specs.Lines.{Table};
+ghost use Rattle.yf_rules.specs.BlankLines.{MisplacedBlank};
+ghost use Rattle.yf_rules.specs.BlankNotes.{AreNotes, Follows, LastLine, Precedes};
+ghost use Rattle.yf_rules.specs.Exact.{Answers};
+ghost use Rattle.yf_rules.specs.Sets.{blank_lines_at};
+
+use crate::facts::notes::{Notes, find_notes, flag};
+use crate::rule::{Rule, placed};
+use std::alloc::{AllocError, Global};
+use yf_emit::style::Style;
+use yf_events::reading::Reading;
+use yf_lines::fault::Fault;
+use yf_lines::place::Place;
+use yf_lines::source_text::Src;
+
+/// A blank line that is the first line, follows another one or a `---` alone on its line, stands directly before a document marker or a directive, or has only blank lines after it.
+#[derive(Clone, Copy, Debug)]
+pub struct BlankLines;
+
+impl Rule for BlankLines {
+    ghost use Rattle.std.specs.Prelude.{true, codes};
+    ghost use Rattle.yf_rules.specs.Sets.{blank_lines_at};
+
+    ghost rule_number = { λ _. 8 };
+
+    ghost rule_id = { λ _. codes "blank-lines" };
+
+    ghost is_fixable = { λ _. true };
+
+    ghost faults = { λ _ src reading style offsets. blank_lines_at src reading style offsets };
+
+    fn number(&self) -> usize {
+        8
+    }
+
+    fn id(&self) -> &'static str {
+        "blank-lines"
+    }
+
+    fn fixable(&self) -> bool {
+        true
+    }
+
+    fn find(
+        &self,
+        alloc: Global,
+        src: &Src,
+        reading: &Reading,
+        style: &Style,
+    ) -> Result<Vec<Place>, Fault> {
+        match offsets(alloc, src, reading, style) {
+            Ok(offsets) => placed(alloc, src, offsets.as_slice()),
+            Err(AllocError) => Err(Fault::Memory),
+        }
+    }
+}
+
+/// How many lines there are up to the last one that is not blank.
+fn last_line(blank: &[bool]) -> usize
+    ensures { LastLine blank.now result }
+{
+    let mut at = blank.len();
+    while at > 0 {
+        if !blank[at - 1] {
+            return at;
+        }
+        at -= 1;
+    }
+    at
+}
+
+/// Whether the line of that index follows one that no blank line may follow.
+fn follows(notes: &Notes, k: usize) -> bool
+    requires { k < length notes.now.blank.items }
+    ensures { (src : Table) (r : Lists) → AreNotes src r notes.now.blank.items notes.now.markers.items notes.now.directives.items
+        → MatchBool result (Follows src r k) (Follows src r k → ⊥) }
+{
+    if k == 0 {
+        return true;
+    }
+    if notes.blank[k - 1] {
+        return true;
+    }
+    flag(notes.markers.as_slice(), k - 1)
+}
+
+/// Whether the line of that index precedes one that no blank line may precede.
+fn precedes(src: &Src, notes: &Notes, k: usize) -> bool
+    requires { k < length src.now.lines }
+    ensures { (r : Lists) → AreNotes src.now r notes.now.blank.items notes.now.markers.items notes.now.directives.items
+        → MatchBool result (Precedes src.now r k) (Precedes src.now r k → ⊥) }
+{
+    let lines = src.lines();
+    let count = lines.len();
+    if k + 1 >= count {
+        return false;
+    }
+    if lines.is_forbidden(k + 1) {
+        return true;
+    }
+    flag(notes.directives.as_slice(), k + 1)
+}
+
+/// The start of the line of that index, if it is blank and at fault; from the line `last` on all are blank.
+fn misplaced(src: &Src, notes: &Notes, last: usize, k: usize) -> Option<usize>
+    requires line { k < length src.now.lines }
+    requires last { LastLine notes.now.blank.items last }
+    requires count { length notes.now.blank.items ≡ length src.now.lines }
+    ensures { (r : Lists) → AreNotes src.now r notes.now.blank.items notes.now.markers.items notes.now.directives.items
+        → Answers (MisplacedBlank src.now r k) result }
+{
+    if !notes.blank[k] {
+        return None;
+    }
+    let start = src.lines().line(k).start;
+    if k >= last {
+        return Some(start);
+    }
+    if follows(notes, k) {
+        return Some(start);
+    }
+    if precedes(src, notes, k) {
+        return Some(start);
+    }
+    None
+}
+
+fn offsets(
+    alloc: Global,
+    src: &Src,
+    reading: &Reading,
+    style: &Style,
+) -> Result<Vec<usize>, AllocError>
+    ensures { IfOk result (λ offsets. blank_lines_at src.now reading.now style.now offsets.items) }
+{
+    let notes = find_notes(alloc, src, reading)?;
+    let last = last_line(notes.blank.as_slice());
+    let mut offsets = Vec::new(alloc);
+    for k in 0..src.lines().len() {
+        match misplaced(src, &notes, last, k) {
+            Some(offset) => offsets.push(offset)?,
+            None => {}
+        }
+    }
+    Ok(offsets)
+}

@@ -1,0 +1,242 @@
+//! Rule 9, flow-layout.
+ghost use Rattle.std.specs.Prelude.{◌≡◌, ◌≢◌, ◌<◌, ℕ, true, false, List, Option, Some, length, slice_get, slice_range, IfOk, MatchBool};
+ghost use Rattle.yf_emit.specs.Keys.{NodeAt};
+ghost use Rattle.yf_emit.specs.Measures.{Measured};
+ghost use Rattle.yf_emit.specs.Normal.{Setting, setting_of};
+ghost use Rattle.yf_emit.specs.declared.style.Style.{Style};
+ghost use Rattle.yf_events.specs.Event.{EventValue, Placed};
+ghost use Rattle.yf_events.specs.Reading.{events_of, spans_of};
+ghost use Rattle.yf_events.specs.Tree.{DocumentTree, Node, TreesOf, is_filled_flow};
+ghost use Rattle.yf_events.specs.declared.event.Span.{Span};
+ghost use Rattle.yf_rules.specs.Exact.{Answers};
+ghost use Rattle.yf_rules.specs.Layouts.{Displaced, EndsBehind, IsDisplaced};
+ghost use Rattle.yf_rules.specs.OuterFlow as OuterFlow;
+ghost use Rattle.yf_rules.specs.OuterFlow.{FlowsDone, is_flow};
+ghost use Rattle.yf_rules.specs.Sets.{flow_layout_at};
+
+use crate::facts::outer_flow::past_flow;
+use crate::rule::{Rule, placed};
+use std::alloc::{AllocError, Global};
+use yf_emit::form::kept::kept_text_of;
+use yf_emit::form::measure::{Measures, measure_all};
+use yf_emit::style::Style;
+use yf_emit::text::content_start::content_start;
+use yf_events::event::{Event, Span};
+use yf_events::reading::Reading;
+use yf_lines::fault::Fault;
+use yf_lines::place::Place;
+use yf_lines::source_text::Src;
+
+/// The opening bracket of a flow collection, in no other one, that is not written as the house style writes it, or may not be kept there.
+#[derive(Clone, Copy, Debug)]
+pub struct FlowLayout;
+
+impl Rule for FlowLayout {
+    ghost use Rattle.std.specs.Prelude.{true, codes};
+    ghost use Rattle.yf_rules.specs.Sets.{flow_layout_at};
+
+    ghost rule_number = { λ _. 9 };
+
+    ghost rule_id = { λ _. codes "flow-layout" };
+
+    ghost is_fixable = { λ _. true };
+
+    ghost faults = { λ _ src reading style offsets. flow_layout_at src reading style offsets };
+
+    fn number(&self) -> usize {
+        9
+    }
+
+    fn id(&self) -> &'static str {
+        "flow-layout"
+    }
+
+    fn fixable(&self) -> bool {
+        true
+    }
+
+    fn find(
+        &self,
+        alloc: Global,
+        src: &Src,
+        reading: &Reading,
+        style: &Style,
+    ) -> Result<Vec<Place>, Fault> {
+        match offsets(alloc, src, reading, style) {
+            Ok(offsets) => placed(alloc, src, offsets.as_slice()),
+            Err(AllocError) => Err(Fault::Memory),
+        }
+    }
+}
+
+/// Whether that text is this part of the text, which ends with the text at the latest.
+fn is_text(text: &str, part: Span, other: &str) -> bool
+    ensures { MatchBool result (slice_range text.now part.start part.end ≡ other.now)
+        (slice_range text.now part.start part.end ≢ other.now) }
+{
+    let bytes = text.as_bytes();
+    let end = part.end.min(bytes.len());
+    if end < part.start {
+        return other.is_empty();
+    }
+    let written = &bytes[part.start..end];
+    if written == other.as_bytes() {
+        return true;
+    }
+    false
+}
+
+/// Whether the character that ends at the byte offset stands after the longest line that the style allows.
+fn ends_behind(src: &Src, end: usize, style: &Style) -> bool
+    ensures { MatchBool result (EndsBehind src.now style.now.max_line end) (EndsBehind src.now style.now.max_line end → ⊥) }
+{
+    let at = end.saturating_sub(1);
+    if src.text().is_char_boundary(at) {
+        if src.place(at).column > style.max_line {
+            return true;
+        }
+    }
+    false
+}
+
+/// The empty collection that the event begins, from bracket to bracket.
+fn empty_text(reading: &Reading, i: usize) -> &'static str
+    requires { i < length reading.now.events }
+    ensures { (e : EventValue) → slice_get (events_of reading.now) i ≡ Some e → result.now ≡ OuterFlow.empty_text e }
+{
+    match reading.event(i) {
+        Event::MapStart { .. } => "{}",
+        _ => "[]",
+    }
+}
+
+/// Whether the collection that the event begins is empty: its end is the next event.
+fn is_empty(measures: &Measures, i: usize) -> bool
+    ensures { (t : List ℕ) (c : Setting) (es : List Placed) (x : Node) → Measured t c es measures.now → NodeAt es i x
+        → is_flow x ≡ true → MatchBool result (is_filled_flow x ≡ false) (is_filled_flow x ≡ true) }
+{
+    if measures.at(i).last.saturating_sub(i) <= 1 {
+        return true;
+    }
+    false
+}
+
+/// Whether the flow collection, whose text from bracket to bracket is that part, is at fault.
+fn is_displaced(
+    alloc: Global,
+    src: &Src,
+    reading: &Reading,
+    measures: &Measures,
+    i: usize,
+    inside: Span,
+    style: &Style,
+) -> Result<bool, AllocError>
+    requires { i < length reading.now.events }
+    ensures { IfOk result (λ wrong. (x : Node) → Measured src.now.text
+        (setting_of reading.now style.now) reading.now.events measures.now → NodeAt reading.now.events i x → is_flow x ≡ true
+        → MatchBool wrong (IsDisplaced src.now (setting_of reading.now style.now) x inside)
+        (IsDisplaced src.now (setting_of reading.now style.now) x inside → ⊥)) }
+{
+    if is_empty(measures, i) {
+        if is_text(src.text(), inside, empty_text(reading, i)) {
+            return Ok(false);
+        }
+        return Ok(true);
+    }
+    match kept_text_of(alloc, measures, reading, i, style)? {
+        Some(text) => {
+            if is_text(src.text(), inside, text.as_str()) {
+                return Ok(ends_behind(src, inside.end, style));
+            }
+            Ok(true)
+        }
+        None => Ok(true),
+    }
+}
+
+/// From bracket to bracket the flow collection that the event begins.
+fn brackets(src: &Src, reading: &Reading, i: usize) -> Option<Span>
+    requires { i < length reading.now.events }
+    ensures { (e : EventValue) (span : Option Span) → slice_get (events_of reading.now) i ≡ Some e
+        → slice_get (spans_of reading.now) i ≡ Some span → result ≡ OuterFlow.brackets src.now.text e span }
+{
+    match reading.event(i) {
+        Event::SeqStart { flow: true, props } | Event::MapStart { flow: true, props } => {
+            match reading.span(i) {
+                Some(span) => Some(Span {
+                    start: content_start(src.text(), span, &props),
+                    end: span.end,
+                }),
+                None => None,
+            }
+        }
+        _ => None,
+    }
+}
+
+/// Whether the text has any flow collection.
+fn has_brackets(src: &Src, reading: &Reading) -> bool
+    ensures { result ≡ false → (house : Style) (i o : ℕ) → Displaced src.now reading.now house i o → ⊥ }
+{
+    for i in 0..reading.len() {
+        match brackets(src, reading, i) {
+            Some(_) => return true,
+            None => {}
+        }
+    }
+    false
+}
+
+/// The opening bracket of the flow collection that the event begins, if it is at fault; those that begin up to the index `done` stand in
+/// another one.
+fn displaced(
+    alloc: Global,
+    src: &Src,
+    reading: &Reading,
+    measures: &Measures,
+    i: usize,
+    done: usize,
+    style: &Style,
+) -> Result<Option<usize>, AllocError>
+    requires { i < length reading.now.events }
+    ensures { IfOk result (λ answer. (trees : List DocumentTree) → TreesOf reading.now trees
+        → Measured src.now.text (setting_of reading.now style.now) reading.now.events measures.now
+        → FlowsDone reading.now.events i done → Answers (Displaced src.now reading.now style.now i) answer) }
+{
+    if i <= done {
+        return Ok(None);
+    }
+    match brackets(src, reading, i) {
+        Some(inside) => {
+            if is_displaced(alloc, src, reading, measures, i, inside, style)? {
+                return Ok(Some(inside.start));
+            }
+            Ok(None)
+        }
+        None => Ok(None),
+    }
+}
+
+fn offsets(
+    alloc: Global,
+    src: &Src,
+    reading: &Reading,
+    style: &Style,
+) -> Result<Vec<usize>, AllocError>
+    ensures { IfOk result (λ offsets. flow_layout_at src.now reading.now style.now offsets.items) }
+{
+    let mut offsets = Vec::new(alloc);
+    if !has_brackets(src, reading) {
+        return Ok(offsets);
+    }
+    let measures = measure_all(alloc, src, reading, style)?;
+    let mut done = 0;
+    for i in 0..reading.len() {
+        match displaced(alloc, src, reading, &measures, i, done, style)? {
+            Some(offset) => offsets.push(offset)?,
+            None => {}
+        }
+        done = past_flow(reading, &measures, i, done);
+    }
+    Ok(offsets)
+}

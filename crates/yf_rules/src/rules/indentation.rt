@@ -1,0 +1,165 @@
+//! Rule 2, indentation.
+ghost use Rattle.std.specs.Prelude.{◌≡◌, ◌+◌, ◌<◌, ◌&&◌, Some, length};
+ghost use Rattle.yf_rules.specs.Stands.{is_other, wanted_column, wanted_indent};
+
+use crate::facts::bodies::{Body, body_at};
+use crate::facts::stands::{Around, Pass, Stand};
+use crate::rule::{Rule, placed};
+use std::alloc::{AllocError, Global};
+use yf_emit::style::Style;
+use yf_events::event::Event;
+use yf_events::reading::Reading;
+use yf_lines::fault::Fault;
+use yf_lines::place::Place;
+use yf_lines::source_text::Src;
+
+/// The first entry of a block collection that does not stand at the column of the house style, and the header of a block scalar whose content does not.
+#[derive(Clone, Copy, Debug)]
+pub struct Indentation;
+
+impl Rule for Indentation {
+    ghost use Rattle.std.specs.Prelude.{true, codes};
+    ghost use Rattle.yf_rules.specs.Sets.{indentation_at};
+
+    ghost rule_number = { λ _. 2 };
+
+    ghost rule_id = { λ _. codes "indentation" };
+
+    ghost is_fixable = { λ _. true };
+
+    ghost faults = { λ _ src reading style offsets. indentation_at src reading style offsets };
+
+    fn number(&self) -> usize {
+        2
+    }
+
+    fn id(&self) -> &'static str {
+        "indentation"
+    }
+
+    fn fixable(&self) -> bool {
+        true
+    }
+
+    fn find(
+        &self,
+        alloc: Global,
+        src: &Src,
+        reading: &Reading,
+        style: &Style,
+    ) -> Result<Vec<Place>, Fault> {
+        match offsets(alloc, src, reading, style) {
+            Ok(offsets) => placed(alloc, src, offsets.as_slice()),
+            Err(AllocError) => Err(Fault::Memory),
+        }
+    }
+}
+
+/// Whether the one column is not so many columns to the right of the other.
+fn is_off(column: usize, outer: usize, indent: usize) -> bool
+    ensures { result ≡ is_other column (Some (outer + indent)) }
+{
+    if column < outer {
+        return true;
+    }
+    if column - outer == indent {
+        return false;
+    }
+    true
+}
+
+/// Whether entries of a block collection at that column, from 0, are out of place: those of a root are to stand at column 0, others as far
+/// to the right of the entries around them as the style says, or at their column for a sequence after a key without `?`.
+fn is_misplaced(stand: Stand, column: usize, is_sequence: bool, style: &Style) -> bool
+    ensures { result ≡ is_other column (wanted_column style.now (is_sequence && stand.is_implicit_value) stand.outer) }
+{
+    match stand.outer {
+        Around::Nothing => column != 0,
+        Around::Entries(outer) => {
+            if is_sequence && stand.is_implicit_value && !style.seq_indent {
+                return column != outer;
+            }
+            is_off(column, outer, style.indent)
+        }
+        Around::Unknown => false,
+    }
+}
+
+/// The first entry of the block collection, if it stands at another column than it is to.
+fn misplaced_entry(stand: Stand, is_sequence: bool, style: &Style) -> Option<usize> {
+    match stand.column {
+        Some(column) => {
+            if is_misplaced(stand, column, is_sequence, style) {
+                return Some(stand.first);
+            }
+            None
+        }
+        None => None,
+    }
+}
+
+/// Whether the content of a block scalar with that indentation is out of place.
+fn is_misindented(stand: Stand, indent: usize, style: &Style) -> bool
+    ensures { result ≡ is_other indent (wanted_indent style.now stand.outer) }
+{
+    match stand.outer {
+        Around::Nothing => indent != style.indent,
+        Around::Entries(outer) => is_off(indent, outer, style.indent),
+        Around::Unknown => false,
+    }
+}
+
+/// The header of the block scalar, if its content is not indented as it is to be.
+fn misplaced_content(stand: Stand, body: Body, style: &Style) -> Option<usize> {
+    match body.indent {
+        Some(indent) => {
+            if is_misindented(stand, indent, style) {
+                return Some(body.start);
+            }
+            None
+        }
+        None => None,
+    }
+}
+
+fn misplaced(
+    reading: &Reading,
+    stand: Stand,
+    body: Option<Body>,
+    i: usize,
+    style: &Style,
+) -> Option<usize>
+    requires { i < length reading.now.events }
+{
+    match reading.event(i) {
+        Event::SeqStart { .. } => misplaced_entry(stand, true, style),
+        Event::MapStart { .. } => misplaced_entry(stand, false, style),
+        Event::Scalar { .. } => match body {
+            Some(body) => misplaced_content(stand, body, style),
+            None => None,
+        },
+        _ => None,
+    }
+}
+
+fn offsets(
+    alloc: Global,
+    src: &Src,
+    reading: &Reading,
+    style: &Style,
+) -> Result<Vec<usize>, AllocError> {
+    let mut pass = Pass::new(alloc, src, reading)?;
+    let mut offsets = Vec::new(alloc);
+    let mut line = 0;
+    for i in 0..reading.len() {
+        let stand = pass.next(src, reading, i)?;
+        let body = body_at(src, reading, i, line);
+        if let Some(body) = body {
+            line = body.first;
+        }
+        if let Some(offset) = misplaced(reading, stand, body, i, style) {
+            offsets.push(offset)?;
+        }
+    }
+    Ok(offsets)
+}
