@@ -1,4 +1,5 @@
 pub mod BegunLemmas
+pub mod CountLemmas
 pub mod EntryNotes
 pub mod Forward
 pub mod Frames
