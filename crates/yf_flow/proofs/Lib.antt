@@ -30,3 +30,4 @@ pub mod TiedValues
 -- for further theorems
 pub mod NodeEnds
 pub mod ReadersLemmas
+pub mod CountLemmas

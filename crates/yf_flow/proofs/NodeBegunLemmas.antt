@@ -228,6 +228,8 @@ begun_full {t} {n} {c} {i} {k} {depth} {limit} {b} p v q f = record {
   before = b;
   over = subst (λ w. NodeOver t n c i w b) (sym q) v;
   none = subst (λ w. Parses t 0 (AContent n c w) None) (sym q) (too_deep (is_sequence f.kind) (sequence_opening f.kind (code t k) f.bracket));
+  kind = f.kind;
+  bracket = subst (λ w. Opens f.kind (code t w)) (sym q) f.bracket;
   full = f.full;
 }
 

@@ -1,5 +1,5 @@
 -- What the public readers give, from the node that was read within the limit.
-use Rattle.std.proofs.Common.{◌≡◌, ℕ, ℤ, pos, Bool, false, List, [], ◌∷◌, Option, Some, None, Result, Ok, Err, refl, sym, subst}
+use Rattle.std.proofs.Common.{◌≡◌, ℕ, ◌<◌, ℤ, pos, Bool, false, List, [], ◌∷◌, Option, Some, None, Result, Ok, Err, refl, sym, subst}
 use Rattle.std.specs.Str.{IsUtf8, IsCharBoundary}
 use Rattle.yf_chars.specs.declared.context.Ctx.{Ctx}
 use Rattle.yf_chars.specs.Chain.{Stuck, Chosen}
@@ -9,15 +9,17 @@ use Rattle.yf_lines.specs.declared.fault.Fault.{Fault}
 use Rattle.yf_lines.specs.declared.fault.Fault.TheVariants.{TooDeep, EscapeValue}
 use Rattle.yf_lines.specs.declared.place.Place.{Place}
 use Rattle.yf_events.specs.declared.part.Part.{Part}
+use Rattle.yf_events.specs.declared.reading.TheConstants.{DEPTH}
 use Rattle.yf_grammar.specs.Grammar.{Production, FlowNode, NodeOf, Derives}
 use Rattle.yf_grammar.specs.Grammar.Derives.{flow_node}
 use Rattle.yf_grammar.specs.Meaning.{Meaning}
 use Rattle.yf_grammar.specs.Part.{DerivedPart, FlowNodePart, KeyPart, key_node}
 use Rattle.yf_grammar.specs.Parser.{ANode, Parses}
+use Rattle.yf_grammar.specs.Refusal.{ScanFault, for_memory, for_depth, NodeFault, as_scanned, for_escape}
 use Rattle.yf_grammar.proofs.Parts.{found_is_chosen, none_is_stuck}
 use Rattle.yf_flow.specs.NodeAnswers.{NodeFound}
-use Rattle.yf_flow.specs.NodeReaders.{NodeChosen, NodeScanned}
-use Rattle.yf_flow.specs.WithinLimit.{ScanStopped, no_memory, no_room, NodeStopped, as_scan, no_character, ReadsNodeWithin, ScansNodeWithin, FlowNodeWithin, KeyWithin}
+use Rattle.yf_flow.specs.Counted.{openers_from}
+use Rattle.yf_flow.specs.NodeReaders.{NodeChosen, NodeScanned, ReadsNode, ScansNode, ReadsFlowNode, ScansFlowNode, ReadsKey, ScansKey}
 use Rattle.yf_flow.specs.declared.flow.NodePart.{NodePart}
 use Rattle.yf_flow.specs.declared.flow.ScannedPart.{ScannedPart}
 use Rattle.yf_flow.proofs.NotedLemmas.{noted_noting}
@@ -27,15 +29,17 @@ module _ {t : List ℕ} {n : ℤ} {c : Ctx} {limit i : ℕ} where
   found_chosen {part} u b f =
       subst (λ z. Chosen (FlowNodePart t limit n c i) z part) (sym f.ends) (found_is_chosen u b f.parsed (noted_noting f.written.events) f.written.comments f.written.escapes)
 
-  pub stopped_deep : {place : Place} → IsUtf8 t → is_block c ≡ false → Parses t limit (ANode n c i) None → InText t place → ScanStopped t (FlowNodePart t limit n c i) (TooDeep place)
-  stopped_deep u b r p = no_room (none_is_stuck u b r) p
+pub too_deep_there : {t : List ℕ} {n : ℤ} {c : Ctx} {i : ℕ} {place : Place} → IsUtf8 t → is_block c ≡ false → Parses t DEPTH (ANode n c i) None × (DEPTH < openers_from t i) → InText t place
+    → ScanFault t (FlowNodePart t DEPTH n c i) i (TooDeep place)
+unfolding openers_from
+too_deep_there u b r p = for_depth (none_is_stuck u b r.0) r.1 p
 
-module _ {t : List ℕ} {P : ℕ → Part → Type 0} where
-  escape_stops : {j : ℕ} {part : Part} {place : Place} (es : List ℕ) → part.escapes ≡ es → IsFirstPlace t es (Some place) → Chosen P j part → NodeStopped t P (EscapeValue place)
+module _ {t : List ℕ} {P : ℕ → Part → Type 0} {i : ℕ} where
+  escape_stops : {j : ℕ} {part : Part} {place : Place} (es : List ℕ) → part.escapes ≡ es → IsFirstPlace t es (Some place) → Chosen P j part → NodeFault t P i (EscapeValue place)
   escape_stops [] e p d = absurd p
-  escape_stops (x ∷ xs) e p d = no_character d e p
+  escape_stops (x ∷ xs) e p d = for_escape d e p
 
-  pub scanned_stops : (node : ScannedPart) (place : Place) → node.escape ≡ Some place → NodeScanned t P node → NodeStopped t P (EscapeValue place)
+  pub scanned_stops : (node : ScannedPart) (place : Place) → node.escape ≡ Some place → NodeScanned t P node → NodeFault t P i (EscapeValue place)
   scanned_stops node place e s = escape_stops node.part.escapes refl (subst (λ o. IsFirstPlace t node.part.escapes o) e s.escape) s.chosen
 
 -- a node of an implicit key is a flow node with the indentation 0
@@ -64,30 +68,30 @@ module _ {P Q : ℕ → Part → Type 0} where
   stuck_alike : Alike P Q → Stuck P → Stuck Q
   stuck_alike a s = record { none = λ j x q. s.none j x (a.from j x q) }
 
-module _ {t : List ℕ} {P Q : ℕ → Part → Type 0} where
-  scan_stopped_alike : {fault : Fault} → Alike P Q → ScanStopped t P fault → ScanStopped t Q fault
-  scan_stopped_alike a no_memory = no_memory
-  scan_stopped_alike a (no_room s p) = no_room (stuck_alike a s) p
+module _ {t : List ℕ} {P Q : ℕ → Part → Type 0} {i : ℕ} where
+  scan_fault_alike : {fault : Fault} → Alike P Q → ScanFault t P i fault → ScanFault t Q i fault
+  scan_fault_alike a for_memory = for_memory
+  scan_fault_alike a (for_depth s l p) = for_depth (stuck_alike a s) l p
 
-  stopped_alike : {fault : Fault} → Alike P Q → NodeStopped t P fault → NodeStopped t Q fault
-  stopped_alike a (as_scan s) = as_scan (scan_stopped_alike a s)
-  stopped_alike a (no_character d e p) = no_character (chosen_alike a d) e p
+  fault_alike : {fault : Fault} → Alike P Q → NodeFault t P i fault → NodeFault t Q i fault
+  fault_alike a (as_scanned s) = as_scanned (scan_fault_alike a s)
+  fault_alike a (for_escape d e p) = for_escape (chosen_alike a d) e p
 
-scans_alike : (t : List ℕ) (P Q : ℕ → Part → Type 0) (r : Result (Option ScannedPart) Fault) → Alike P Q → ScansNodeWithin t P r → ScansNodeWithin t Q r
-scans_alike t P Q (Ok None) a s = stuck_alike a s
-scans_alike t P Q (Ok (Some node)) a s = record { chosen = chosen_alike a s.chosen; escape = s.escape; boundary = s.boundary }
-scans_alike t P Q (Err fault) a s = scan_stopped_alike a s
+scans_alike : (t : List ℕ) (P Q : ℕ → Part → Type 0) (i : ℕ) (r : Result (Option ScannedPart) Fault) → Alike P Q → ScansNode t P i r → ScansNode t Q i r
+scans_alike t P Q i (Ok None) a s = stuck_alike a s
+scans_alike t P Q i (Ok (Some node)) a s = record { chosen = chosen_alike a s.chosen; escape = s.escape; boundary = s.boundary }
+scans_alike t P Q i (Err fault) a s = scan_fault_alike a s
 
-reads_alike : (t : List ℕ) (P Q : ℕ → Part → Type 0) (r : Result (Option NodePart) Fault) → Alike P Q → ReadsNodeWithin t P r → ReadsNodeWithin t Q r
-reads_alike t P Q (Ok None) a s = stuck_alike a s
-reads_alike t P Q (Ok (Some node)) a s = record { chosen = chosen_alike a s.chosen; good = s.good; boundary = s.boundary }
-reads_alike t P Q (Err fault) a s = stopped_alike a s
+reads_alike : (t : List ℕ) (P Q : ℕ → Part → Type 0) (i : ℕ) (r : Result (Option NodePart) Fault) → Alike P Q → ReadsNode t P i r → ReadsNode t Q i r
+reads_alike t P Q i (Ok None) a s = stuck_alike a s
+reads_alike t P Q i (Ok (Some node)) a s = record { chosen = chosen_alike a s.chosen; good = s.good; boundary = s.boundary }
+reads_alike t P Q i (Err fault) a s = fault_alike a s
 
-keys_alike : (t : List ℕ) (c : Ctx) (i : ℕ) → Alike (FlowNodeWithin t (pos 0) c i) (KeyWithin t c i)
+keys_alike : (t : List ℕ) (c : Ctx) (i : ℕ) → Alike (FlowNodePart t DEPTH (pos 0) c i) (KeyPart t DEPTH c i)
 keys_alike t c i = record { to = λ j x d. flow_as_key d; from = λ j x d. key_as_flow d }
 
-pub scans_key : (t : List ℕ) (c : Ctx) (i : ℕ) (r : Result (Option ScannedPart) Fault) → ScansNodeWithin t (FlowNodeWithin t (pos 0) c i) r → ScansNodeWithin t (KeyWithin t c i) r
-scans_key t c i r s = scans_alike t (FlowNodeWithin t (pos 0) c i) (KeyWithin t c i) r (keys_alike t c i) s
+pub scans_key : (t : List ℕ) (c : Ctx) (i : ℕ) (r : Result (Option ScannedPart) Fault) → ScansFlowNode t (pos 0) c i r → ScansKey t c i r
+scans_key t c i r s = scans_alike t (FlowNodePart t DEPTH (pos 0) c i) (KeyPart t DEPTH c i) i r (keys_alike t c i) s
 
-pub reads_key : (t : List ℕ) (c : Ctx) (i : ℕ) (r : Result (Option NodePart) Fault) → ReadsNodeWithin t (FlowNodeWithin t (pos 0) c i) r → ReadsNodeWithin t (KeyWithin t c i) r
-reads_key t c i r s = reads_alike t (FlowNodeWithin t (pos 0) c i) (KeyWithin t c i) r (keys_alike t c i) s
+pub reads_key : (t : List ℕ) (c : Ctx) (i : ℕ) (r : Result (Option NodePart) Fault) → ReadsFlowNode t (pos 0) c i r → ReadsKey t c i r
+reads_key t c i r s = reads_alike t (FlowNodePart t DEPTH (pos 0) c i) (KeyPart t DEPTH c i) i r (keys_alike t c i) s

@@ -1,5 +1,6 @@
 pub mod Beginning
 pub mod Begun
+pub mod Counted
 pub mod Ends
 pub mod EntryBegun
 pub mod KeyThere
@@ -11,4 +12,3 @@ pub mod NodeRead
 pub mod NodeReaders
 pub mod Steps
 pub mod Tied
-pub mod WithinLimit

@@ -12,6 +12,7 @@ use Rattle.yf_grammar.specs.Meaning.{start_of, event_with}
 use Rattle.yf_grammar.specs.Parser.{Found, AContent, ANode, Parses}
 use Rattle.yf_grammar.specs.Awaits.{Before, Bare, Propertied, NodeOver}
 use Rattle.yf_flow.specs.declared.frame.Frame.{Frame}
+use Rattle.yf_flow.specs.declared.frame.Kind.{Kind}
 use Rattle.yf_flow.specs.declared.frame.Node.{Node}
 use Rattle.yf_flow.specs.declared.node.Begun.{Begun}
 use Rattle.yf_flow.specs.declared.node.Begun.TheVariants.{Leaf, Opened, Nothing, TooDeep}
@@ -80,6 +81,8 @@ pub record NodeFull (t : List ℕ) (n : ℤ) (c : Ctx) (i depth limit p : ℕ) :
   pub before : Before
   pub over : NodeOver t n c i p before
   pub none : Parses t 0 (AContent n c p) None
+  pub kind : Kind
+  pub bracket : Opens kind (code t p)
   pub full : limit ≤ depth
 
 abbrev pub NodeBegun : List ℕ → ℤ → Ctx → ℕ → ℕ → ℕ → Option Entry → Part → Part → Begun → Type 0

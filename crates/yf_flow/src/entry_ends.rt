@@ -1,9 +1,11 @@
 //! The steps after a node of a flow collection: what its end makes of it, the end of its entry, and the closing bracket.
 //! Each step leads on to a later place of the text, and none goes back.
-ghost use Rattle.std.specs.Prelude.{◌≡◌, ◌+◌, ◌-◌, ◌*◌, ◌<◌, ◌≤◌, length, reverse, IfOk};
+ghost use Rattle.std.specs.Prelude.{◌≡◌, ℕ, ◌+◌, ◌-◌, ◌*◌, ◌<◌, ◌≤◌, length, reverse, IfOk};
 ghost use Rattle.std.specs.List.{All};
 ghost use Rattle.std.specs.Str.{IsCharBoundary, IsUtf8};
+ghost use Rattle.yf_chars.specs.Text.{code};
 ghost use Rattle.yf_events.specs.Event.{new_event_value};
+ghost use Rattle.yf_flow.specs.Counted.{AllCounted, NodeCounted, StepCounted};
 ghost use Rattle.yf_flow.specs.Machine.{Indexed, Ready, left};
 ghost use Rattle.yf_grammar.specs.Parser.{PairKey};
 ghost use Rattle.yf_flow.specs.Steps.{Reached, Reading};
@@ -32,10 +34,8 @@ pub(crate) fn finish_node<'a>(
     requires boundary { IsCharBoundary scene.text.now node.end }
     requires top { Indexed scene.text.now (length part.old.events) top }
     requires below { All (Indexed scene.text.now (length part.old.events)) below.old.items }
-    ensures tied { (base : Base) → Reading scene.entry.text.now scene.entry.context scene.entry.limit base
-        → AtEnded scene.entry.text.now scene.entry.indentation scene.entry.context base (reverse below.old.items) top node part.old
-        → IfOk result (λ s. StepTied scene.entry.text.now scene.entry.indentation scene.entry.context base
-        (reverse below.new.items) s.top s.step part.new) }
+    ensures tied { (base : Base) → Reading scene.entry.text.now scene.entry.context scene.entry.limit base → AtEnded scene.entry.text.now scene.entry.indentation scene.entry.context base (reverse below.old.items) top node part.old → IfOk result (λ s. StepTied scene.entry.text.now scene.entry.indentation scene.entry.context base (reverse below.new.items) s.top s.step part.new) }
+    ensures counted { (total : ℕ) → NodeCounted scene.entry.text.now total node.deepest node.end below.old.items top → IfOk result (λ s. StepCounted scene.entry.text.now scene.entry.limit total below.new.items s.top s.step) }
     ensures ready { IfOk result (λ s. Ready scene.entry.text.now node.end (length part.new.events) below.new.items s) }
     ensures moves { IfOk result (λ s. left (length scene.entry.text.now) s.step ≤ 2 * (length scene.entry.text.now - node.end) + 1) }
     ensures escapes { IfOk result (λ _. part.new.escapes ≡ part.old.escapes) }
@@ -68,10 +68,8 @@ fn behind_item<'a>(
     requires boundary { IsCharBoundary scene.text.now node.end }
     requires top { Indexed scene.text.now (length part.old.events) top }
     requires below { All (Indexed scene.text.now (length part.old.events)) below.old.items }
-    ensures tied { (base : Base) → Reading scene.entry.text.now scene.entry.context scene.entry.limit base
-        → AtEnded scene.entry.text.now scene.entry.indentation scene.entry.context base (reverse below.old.items) top node part.old
-        → top.role ≡ Role.Item → IfOk result (λ s. StepTied scene.entry.text.now scene.entry.indentation scene.entry.context base
-        (reverse below.new.items) s.top s.step part.new) }
+    ensures tied { (base : Base) → Reading scene.entry.text.now scene.entry.context scene.entry.limit base → AtEnded scene.entry.text.now scene.entry.indentation scene.entry.context base (reverse below.old.items) top node part.old → top.role ≡ Role.Item → IfOk result (λ s. StepTied scene.entry.text.now scene.entry.indentation scene.entry.context base (reverse below.new.items) s.top s.step part.new) }
+    ensures counted { (total : ℕ) → NodeCounted scene.entry.text.now total node.deepest node.end below.old.items top → IfOk result (λ s. StepCounted scene.entry.text.now scene.entry.limit total below.new.items s.top s.step) }
     ensures ready { IfOk result (λ s. Ready scene.entry.text.now node.end (length part.new.events) below.new.items s) }
     ensures moves { IfOk result (λ s. left (length scene.entry.text.now) s.step ≤ 2 * (length scene.entry.text.now - node.end) + 1) }
     ensures escapes { IfOk result (λ _. part.new.escapes ≡ part.old.escapes) }
@@ -103,12 +101,8 @@ fn pair_of_key<'a>(
     requires boundary { IsCharBoundary scene.text.now (colon + 1) }
     requires top { Indexed scene.text.now (length part.old.events) top }
     requires below { All (Indexed scene.text.now (length part.old.events)) below.old.items }
-    ensures tied { (base : Base) → Reading scene.entry.text.now scene.entry.context scene.entry.limit base
-        → (a : AtEnded scene.entry.text.now scene.entry.indentation scene.entry.context base
-        (reverse below.old.items) top node part.old) → top.role ≡ Role.Item
-        → PairKey scene.entry.text.now scene.entry.context a.layer.start a.answer colon
-        → IfOk result (λ s. StepTied scene.entry.text.now scene.entry.indentation scene.entry.context base
-        (reverse below.new.items) s.top s.step part.new) }
+    ensures tied { (base : Base) → Reading scene.entry.text.now scene.entry.context scene.entry.limit base → (a : AtEnded scene.entry.text.now scene.entry.indentation scene.entry.context base (reverse below.old.items) top node part.old) → top.role ≡ Role.Item → PairKey scene.entry.text.now scene.entry.context a.layer.start a.answer colon → IfOk result (λ s. StepTied scene.entry.text.now scene.entry.indentation scene.entry.context base (reverse below.new.items) s.top s.step part.new) }
+    ensures counted { (total : ℕ) → node.end ≤ colon → code scene.entry.text.now colon ≡ 58 → NodeCounted scene.entry.text.now total node.deepest node.end below.old.items top → IfOk result (λ s. StepCounted scene.entry.text.now scene.entry.limit total below.new.items s.top s.step) }
     ensures ready { IfOk result (λ s. Ready scene.entry.text.now colon (length part.new.events) below.new.items s) }
     ensures moves { IfOk result (λ s. left (length scene.entry.text.now) s.step ≤ 2 * (length scene.entry.text.now - colon) + 1) }
     ensures escapes { IfOk result (λ _. part.new.escapes ≡ part.old.escapes) }
@@ -148,11 +142,8 @@ fn behind_key<'a>(
     requires boundary { IsCharBoundary scene.text.now node.end }
     requires top { Indexed scene.text.now (length part.old.events) top }
     requires below { All (Indexed scene.text.now (length part.old.events)) below.old.items }
-    ensures tied { (base : Base) → Reading scene.entry.text.now scene.entry.context scene.entry.limit base → (first : Frame)
-        → AtEnded scene.entry.text.now scene.entry.indentation scene.entry.context base
-        (reverse below.old.items) first node part.old → first.role ≡ Role.Key → Reached first node.deepest top
-        → IfOk result (λ s. StepTied scene.entry.text.now scene.entry.indentation scene.entry.context base
-        (reverse below.new.items) s.top s.step part.new) }
+    ensures tied { (base : Base) → Reading scene.entry.text.now scene.entry.context scene.entry.limit base → (first : Frame) → AtEnded scene.entry.text.now scene.entry.indentation scene.entry.context base (reverse below.old.items) first node part.old → first.role ≡ Role.Key → Reached first node.deepest top → IfOk result (λ s. StepTied scene.entry.text.now scene.entry.indentation scene.entry.context base (reverse below.new.items) s.top s.step part.new) }
+    ensures counted { (total : ℕ) → AllCounted scene.entry.text.now total node.end below.old.items top → IfOk result (λ s. StepCounted scene.entry.text.now scene.entry.limit total below.new.items s.top s.step) }
     ensures ready { IfOk result (λ s. Ready scene.entry.text.now node.end (length part.new.events) below.new.items s) }
     ensures moves { IfOk result (λ s. left (length scene.entry.text.now) s.step ≤ 2 * (length scene.entry.text.now - node.end) + 1) }
     ensures escapes { IfOk result (λ _. part.new.escapes ≡ part.old.escapes) }
@@ -180,11 +171,8 @@ pub(crate) fn end_entry<'a>(
     requires boundary { IsCharBoundary scene.text.now at }
     requires top { Indexed scene.text.now (length part.old.events) top }
     requires below { All (Indexed scene.text.now (length part.old.events)) below.old.items }
-    ensures tied { (base : Base) → IsUtf8 scene.entry.text.now
-        → AtEntryDone scene.entry.text.now scene.entry.indentation scene.entry.context base
-        (reverse below.old.items) top finish at part.old → IfOk result
-        (λ s. StepTied scene.entry.text.now scene.entry.indentation scene.entry.context base
-        (reverse below.new.items) s.top s.step part.new) }
+    ensures tied { (base : Base) → IsUtf8 scene.entry.text.now → AtEntryDone scene.entry.text.now scene.entry.indentation scene.entry.context base (reverse below.old.items) top finish at part.old → IfOk result (λ s. StepTied scene.entry.text.now scene.entry.indentation scene.entry.context base (reverse below.new.items) s.top s.step part.new) }
+    ensures counted { (total : ℕ) → AllCounted scene.entry.text.now total at below.old.items top → IfOk result (λ s. StepCounted scene.entry.text.now scene.entry.limit total below.new.items s.top s.step) }
     ensures ready { IfOk result (λ s. Ready scene.entry.text.now at (length part.new.events) below.new.items s) }
     ensures moves { IfOk result (λ s. left (length scene.entry.text.now) s.step ≤ 2 * (length scene.entry.text.now - at) + 1) }
     ensures escapes { IfOk result (λ _. part.new.escapes ≡ part.old.escapes) }
@@ -209,11 +197,8 @@ fn end_pair<'a>(
     requires top { Indexed scene.text.now (length part.old.events) top }
     requires below { All (Indexed scene.text.now (length part.old.events)) below.old.items }
     requires pair { top.kind ≡ Kind.Pair }
-    ensures tied { (base : Base) → IsUtf8 scene.entry.text.now
-        → AtEntryDone scene.entry.text.now scene.entry.indentation scene.entry.context base
-        (reverse below.old.items) top finish at part.old → IfOk result
-        (λ s. StepTied scene.entry.text.now scene.entry.indentation scene.entry.context base
-        (reverse below.new.items) s.top s.step part.new) }
+    ensures tied { (base : Base) → IsUtf8 scene.entry.text.now → AtEntryDone scene.entry.text.now scene.entry.indentation scene.entry.context base (reverse below.old.items) top finish at part.old → IfOk result (λ s. StepTied scene.entry.text.now scene.entry.indentation scene.entry.context base (reverse below.new.items) s.top s.step part.new) }
+    ensures counted { (total : ℕ) → AllCounted scene.entry.text.now total at below.old.items top → IfOk result (λ s. StepCounted scene.entry.text.now scene.entry.limit total below.new.items s.top s.step) }
     ensures ready { IfOk result (λ s. Ready scene.entry.text.now at (length part.new.events) below.new.items s) }
     ensures moves { IfOk result (λ s. left (length scene.entry.text.now) s.step ≤ 2 * (length scene.entry.text.now - at) + 1) }
     ensures escapes { IfOk result (λ _. part.new.escapes ≡ part.old.escapes) }
@@ -247,10 +232,8 @@ fn after_entry<'a>(
     requires boundary { IsCharBoundary scene.text.now at }
     requires top { Indexed scene.text.now (length part.old.events) top }
     requires below { All (Indexed scene.text.now (length part.old.events)) below.old.items }
-    ensures tied { (base : Base) → IsUtf8 scene.entry.text.now
-        → AtEntryEnd scene.entry.text.now scene.entry.indentation scene.entry.context base (reverse below.old.items) top at part.old
-        → IfOk result (λ s. StepTied scene.entry.text.now scene.entry.indentation scene.entry.context base
-        (reverse below.new.items) s.top s.step part.new) }
+    ensures tied { (base : Base) → IsUtf8 scene.entry.text.now → AtEntryEnd scene.entry.text.now scene.entry.indentation scene.entry.context base (reverse below.old.items) top at part.old → IfOk result (λ s. StepTied scene.entry.text.now scene.entry.indentation scene.entry.context base (reverse below.new.items) s.top s.step part.new) }
+    ensures counted { (total : ℕ) → AllCounted scene.entry.text.now total at below.old.items top → IfOk result (λ s. StepCounted scene.entry.text.now scene.entry.limit total below.new.items s.top s.step) }
     ensures ready { IfOk result (λ s. Ready scene.entry.text.now at (length part.new.events) below.new.items s) }
     ensures moves { IfOk result (λ s. left (length scene.entry.text.now) s.step ≤ 2 * (length scene.entry.text.now - at) + 1) }
     ensures escapes { IfOk result (λ _. part.new.escapes ≡ part.old.escapes) }
@@ -292,10 +275,8 @@ pub(crate) fn close<'a>(
     requires boundary { IsCharBoundary scene.text.now (at + 1) }
     requires top { top.event < length part.old.events }
     requires below { All (Indexed scene.text.now (length part.old.events)) below.old.items }
-    ensures tied { (base : Base) → AtClosing scene.entry.text.now scene.entry.indentation scene.entry.context base
-        (reverse below.old.items) top at part.old → IfOk result
-        (λ s. StepTied scene.entry.text.now scene.entry.indentation scene.entry.context base
-        (reverse below.new.items) s.top s.step part.new) }
+    ensures tied { (base : Base) → AtClosing scene.entry.text.now scene.entry.indentation scene.entry.context base (reverse below.old.items) top at part.old → IfOk result (λ s. StepTied scene.entry.text.now scene.entry.indentation scene.entry.context base (reverse below.new.items) s.top s.step part.new) }
+    ensures counted { (total : ℕ) → AllCounted scene.entry.text.now total at below.old.items top → IfOk result (λ s. StepCounted scene.entry.text.now scene.entry.limit total below.new.items s.top s.step) }
     ensures ready { IfOk result (λ s. Ready scene.entry.text.now at (length part.new.events) below.new.items s) }
     ensures moves { IfOk result (λ s. left (length scene.entry.text.now) s.step ≤ 2 * (length scene.entry.text.now - at) + 1) }
     ensures escapes { IfOk result (λ _. part.new.escapes ≡ part.old.escapes) }

@@ -5,7 +5,7 @@ ghost use Rattle.std.specs.Str.{IsCharBoundary};
 ghost use Rattle.yf_lines.specs.Basic.{is_block};
 ghost use Rattle.yf_lines.specs.FaultPlaces.{IsFirstPlace};
 ghost use Rattle.yf_flow.specs.Machine.{IsReadFault, IsScanFault, Place};
-ghost use Rattle.yf_flow.specs.WithinLimit.{FlowNodeWithin, KeyWithin, ReadsNodeWithin, ScansNodeWithin};
+ghost use Rattle.yf_flow.specs.NodeReaders.{ReadsFlowNode, ReadsKey, ScansFlowNode, ScansKey};
 
 use crate::nodes::{Outcome, read_node};
 use std::alloc::{AllocError, Global};
@@ -40,7 +40,7 @@ pub struct ScannedPart<'a> {
 ///
 /// # Errors
 ///
-/// `Fault::TooDeep` where no such node is derived there, and the nodes there open more than `DEPTH` collections at once;
+/// `Fault::TooDeep` where no such node is derived there, and more than `DEPTH` openers of collections stand from there on;
 /// `Fault::EscapeValue` at the first escape in the node that is no character; `Fault::Memory`.
 pub fn read_flow_node<'a>(
     alloc: Global,
@@ -52,7 +52,7 @@ pub fn read_flow_node<'a>(
     requires { IsCharBoundary src.now.text at }
     ensures place { MatchResult result (λ o. IfSome o (λ p. Place src.now.text (at + 1) p.end)) (IsReadFault src.now.text) }
     ensures escapes { IfOk result (λ o. IfSome o (λ p. p.part.escapes ≡ [])) }
-    ensures reads { is_block ctx ≡ false → ReadsNodeWithin src.now.text (FlowNodeWithin src.now.text n ctx at) result }
+    ensures reads { is_block ctx ≡ false → ReadsFlowNode src.now.text n ctx at result }
 {
     match scan_flow_node(alloc, src, at, n, ctx) {
         Ok(None) => Ok(None),
@@ -79,7 +79,7 @@ pub fn scan_flow_node<'a>(
     requires { IsCharBoundary src.now.text at }
     ensures place { MatchResult result (λ o. IfSome o (λ p. Place src.now.text (at + 1) p.end)) (IsScanFault src.now.text) }
     ensures escapes { IfOk result (λ o. IfSome o (λ p. IsFirstPlace src.now.text p.part.escapes p.escape)) }
-    ensures reads { is_block ctx ≡ false → ScansNodeWithin src.now.text (FlowNodeWithin src.now.text n ctx at) result }
+    ensures reads { is_block ctx ≡ false → ScansFlowNode src.now.text n ctx at result }
 {
     match read_node(alloc, src.text(), at, n, ctx, DEPTH) {
         Ok(Outcome::Found { part, end }) => {
@@ -123,7 +123,7 @@ pub fn read_implicit_key<'a>(
     requires { IsCharBoundary src.now.text at }
     ensures place { MatchResult result (λ o. IfSome o (λ p. Place src.now.text (at + 1) p.end)) (IsReadFault src.now.text) }
     ensures escapes { IfOk result (λ o. IfSome o (λ p. p.part.escapes ≡ [])) }
-    ensures reads { is_block ctx ≡ false → ReadsNodeWithin src.now.text (KeyWithin src.now.text ctx at) result }
+    ensures reads { is_block ctx ≡ false → ReadsKey src.now.text ctx at result }
 {
     read_flow_node(alloc, src, at, 0, ctx)
 }
@@ -142,7 +142,7 @@ pub fn scan_implicit_key<'a>(
     requires { IsCharBoundary src.now.text at }
     ensures place { MatchResult result (λ o. IfSome o (λ p. Place src.now.text (at + 1) p.end)) (IsScanFault src.now.text) }
     ensures escapes { IfOk result (λ o. IfSome o (λ p. IsFirstPlace src.now.text p.part.escapes p.escape)) }
-    ensures reads { is_block ctx ≡ false → ScansNodeWithin src.now.text (KeyWithin src.now.text ctx at) result }
+    ensures reads { is_block ctx ≡ false → ScansKey src.now.text ctx at result }
 {
     scan_flow_node(alloc, src, at, 0, ctx)
 }

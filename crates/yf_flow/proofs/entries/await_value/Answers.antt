@@ -5,6 +5,7 @@ use Rattle.yf_grammar.specs.Awaits.{is_entry_end}
 use Rattle.yf_flow.proofs.TiedClose.{failed_tied}
 use Rattle.yf_flow.proofs.TiedEnds.{gap_of}
 use Rattle.yf_flow.proofs.TiedValues.{separated_gap, unseparated_gap, value_done, value_after, value_beside, value_fails}
+use Rattle.yf_flow.proofs.CountLemmas.{moved, counted_as, failed_counted}
 use Rattle.yf_flow.proofs.entries.await_value.Goals as goal
 
 pub returns-then-entry_ends-clause-tied : goal.returns-then-entry_ends-clause-tied
@@ -34,3 +35,15 @@ returns-clause-tied c = λ base u a.
     let r = c.in_ok-gap.ensures in
     let g = unseparated_gap r.reads c.if-gap.false in
     failed_tied _ _ _ base _ _ _ _ c.failed.ensures (value_fails a c.if-json.false g.0 (ap (λ p. is_entry_end (code c.args.scene.text.now p)) (sym g.1) ∙ sym c.entry_ends.ensures ∙ c.if-entry_ends.false))
+
+pub returns-then-entry_ends-clause-counted : goal.returns-then-entry_ends-clause-counted
+returns-then-entry_ends-clause-counted c = λ total a. c.end_entry.ensures.counted total (moved _ c.in_ok-gap.ensures.place.order a)
+
+pub returns-then-gap-clause-counted : goal.returns-then-gap-clause-counted
+returns-then-gap-clause-counted c = λ total a. let v = c.with_value.ensures in counted_as _ v.depth v.deepest (moved _ c.in_ok-gap.ensures.place.order a)
+
+pub returns-then-json-clause-counted : goal.returns-then-json-clause-counted
+returns-then-json-clause-counted c = λ total a. let v = c.with_value-then-json.ensures in counted_as _ v.depth v.deepest (moved _ c.in_ok-gap.ensures.place.order a)
+
+pub returns-clause-counted : goal.returns-clause-counted
+returns-clause-counted c = λ total a. failed_counted _ _ total _ _ _ c.failed.ensures

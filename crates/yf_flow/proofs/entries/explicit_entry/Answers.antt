@@ -1,6 +1,7 @@
-use Rattle.std.proofs.Common.{refl, sym, ap, ◌∙◌, ◌++◌, ◌∷◌, []}
+use Rattle.std.proofs.Common.{refl, sym, ap, ◌∙◌, ◌++◌, ◌∷◌, [], arith, ◌+◌}
 use Rattle.yf_flow.specs.Beginning.{question_there}
 use Rattle.yf_flow.proofs.TiedSigns.{code_at, chosen_at, question_no_feed, rest_nothing, rest_value, rest_key}
+use Rattle.yf_flow.proofs.CountLemmas.{moved, question_passed}
 use Rattle.yf_flow.proofs.entries.explicit_entry.Goals as goal
 
 pub returns-in-None-clause-tied : goal.returns-in-None-clause-tied
@@ -27,3 +28,17 @@ returns-else-colon_stands-clause-tied c = λ base r cs b q a.
     let m = rw c.in-Some.is at c.in_ok-in_mapping.ensures.room in
     let s = rw c.in-Some.is at (c.in_ok-in_mapping.ensures.tied base r _ cs (question_there b q) a) in
     rest_key s (code_at c.args.scene.text.now m b) (chosen_at m q) (sym c.entry_ends.ensures ∙ c.if-entry_ends.false) c.if-colon_stands.ensures.cases
+
+pub returns-in-None-clause-counted : goal.returns-in-None-clause-counted
+returns-in-None-clause-counted c = λ total q l a. rw c.in-None.is at (c.in_ok-in_mapping.ensures.counted total c.args.top.entry c.args.at (question_passed _ _ a.utf8 q l) (omega (arith, l)) a)
+
+pub returns-then-entry_ends-clause-counted : goal.returns-then-entry_ends-clause-counted
+returns-then-entry_ends-clause-counted c = λ total q l a. c.end_entry.ensures.counted total (rw c.in-Some.is at (c.in_ok-in_mapping.ensures.counted total c.args.top.entry c.args.at (question_passed _ _ a.utf8 q l) (omega (arith, l)) a))
+
+pub returns-then-colon_stands-clause-counted : goal.returns-then-colon_stands-clause-counted
+returns-then-colon_stands-clause-counted c = λ total q l a.
+    let s = rw c.in-Some.is at (c.in_ok-in_mapping.ensures.counted total c.args.top.entry c.args.at (question_passed _ _ a.utf8 q l) (omega (arith, l)) a) in
+    c.keyless_value.ensures.counted total (moved (c.args.at + 1) (omega arith) s)
+
+pub returns-else-colon_stands-clause-counted : goal.returns-else-colon_stands-clause-counted
+returns-else-colon_stands-clause-counted c = λ total q l a. rw c.in-Some.is at (c.in_ok-in_mapping.ensures.counted total c.args.top.entry c.args.at (question_passed _ _ a.utf8 q l) (omega (arith, l)) a)

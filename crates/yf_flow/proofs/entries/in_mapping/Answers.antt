@@ -3,6 +3,7 @@ use Rattle.yf_events.specs.Event.{placed_value}
 use Rattle.yf_flow.proofs.Frames.{frames_pushed, pushed_longer}
 use Rattle.yf_flow.proofs.TiedClose.{popped}
 use Rattle.yf_flow.proofs.TiedFirst.{sign_no_feed, pair_full_fails, sign_in_mapping, sign_in_pair}
+use Rattle.yf_flow.proofs.CountLemmas.{moved, counted_more}
 use Rattle.yf_flow.proofs.entries.in_mapping.Goals as goal
 
 pub returns-then-top-scene-clause-tied : goal.returns-then-top-scene-clause-tied
@@ -22,3 +23,17 @@ returns-in_ok-push-in-Sequence-2-clause-below c =
     let q = c.requires.top in
     frames_pushed _ _ _ _ c.args.top c.in_ok-push-in-Sequence-2.ensures.ok (omega (arith, l)) c.requires.below
     (record { event = omega (arith, l, q.event); entry = omega (arith, l, q.entry); place = q.place })
+
+pub returns-then-top-scene-clause-counted : goal.returns-then-top-scene-clause-counted
+returns-then-top-scene-clause-counted c = λ total i j l o a. let d = a.innermost.depth in omega (arith, c.if-top-scene.true)
+
+pub returns-in-Mapping-clause-counted : goal.returns-in-Mapping-clause-counted
+returns-in-Mapping-clause-counted c = λ total i j l o a. moved _ o a
+
+pub returns-in-Pair-clause-counted : goal.returns-in-Pair-clause-counted
+returns-in-Pair-clause-counted c = λ total i j l o a. moved _ o a
+
+pub returns-in_ok-push-in-Sequence-2-clause-counted : goal.returns-in_ok-push-in-Sequence-2-clause-counted
+returns-in_ok-push-in-Sequence-2-clause-counted c = λ total i j l o a.
+    let d = a.innermost.depth in
+    counted_more _ j c.in_ok-push-in-Sequence-2.ensures.ok o (record { depth = omega arith; deepest = omega arith }) a

@@ -1,7 +1,8 @@
-use Rattle.std.proofs.Common.{sym, ◌∙◌, append-nil}
+use Rattle.std.proofs.Common.{sym, ◌∙◌, append-nil, arith}
 use Rattle.yf_flow.proofs.TiedEnds.{gap_of, place_awaited, place_closing}
 use Rattle.yf_flow.proofs.TiedFirst.{first_begun, first_node_at}
 use Rattle.yf_flow.proofs.TiedSigns.{code_at, chosen_at}
+use Rattle.yf_flow.proofs.CountLemmas.{moved, counted_as}
 use Rattle.yf_flow.proofs.entries.start_entry.Goals as goal
 
 pub returns-then-closes-clause-tied : goal.returns-then-closes-clause-tied
@@ -40,3 +41,26 @@ returns-clause-tied c = λ base r a.
     first_node_at
     (first_begun (place_awaited a g.1 p.events g.2 p.escapes) c.if-closes.ensures.cases q.events (s.same ∙ sym (append-nil _)) q.escapes c.with_entry-top.result v.kind v.event v.depth v.deepest v.entry v.role (v.index ∙ c.len.ensures))
     v.entry s.none c.if-colon_stands.ensures.cases
+
+pub returns-then-closes-clause-counted : goal.returns-then-closes-clause-counted
+returns-then-closes-clause-counted c = λ total a. c.close.ensures.counted total (moved _ c.in_ok-place.ensures.place.order a)
+
+pub returns-in-Some-clause-counted : goal.returns-in-Some-clause-counted
+returns-in-Some-clause-counted c = λ total a.
+    let p = c.in_ok-place.ensures in
+    let v = c.with_entry-top.ensures in
+    let q = c.in_ok-end.ensures in
+    let s = rw c.in-Some.is at q.reads in
+    let e = rw c.in-Some.is at q.place in
+    c.explicit_entry.ensures.counted total (code_at c.args.scene.text.now v.entry s.0) (omega (arith, v.entry, e.order))
+    (counted_as _ v.depth v.deepest (moved c.with_entry-top.result.entry (omega (arith, v.entry, p.place.order)) a))
+
+pub returns-then-colon_stands-clause-counted : goal.returns-then-colon_stands-clause-counted
+returns-then-colon_stands-clause-counted c = λ total a.
+    let v = c.with_entry-top.ensures in
+    c.lone_value.ensures.counted total c.if-colon_stands.ensures.cases.colon (counted_as _ v.depth v.deepest (moved _ c.in_ok-place.ensures.place.order a))
+
+pub returns-clause-counted : goal.returns-clause-counted
+returns-clause-counted c = λ total a.
+    let v = c.with_entry-top.ensures in
+    counted_as _ v.depth v.deepest (moved _ c.in_ok-place.ensures.place.order a)

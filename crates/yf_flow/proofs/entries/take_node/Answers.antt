@@ -3,6 +3,7 @@ use Rattle.yf_flow.proofs.Frames.{frames_pushed}
 use Rattle.yf_flow.proofs.TiedBegun.{missing_fails}
 use Rattle.yf_flow.proofs.TiedClose.{popped, failed_tied}
 use Rattle.yf_flow.proofs.TiedTaken.{taken_leaf, taken_opened, taken_full}
+use Rattle.yf_flow.proofs.CountLemmas.{moved, counted_more, leaf_counted, opened_counted, full_counted, failed_counted}
 use Rattle.yf_flow.proofs.entries.take_node.Goals as goal
 
 pub returns-in-Leaf-clause-tied : goal.returns-in-Leaf-clause-tied
@@ -26,3 +27,21 @@ returns-in-Nothing-clause-tied c = λ base r a. failed_tied _ _ _ base _ _ _ _ c
 
 pub returns-in-TooDeep-clause-tied : goal.returns-in-TooDeep-clause-tied
 returns-in-TooDeep-clause-tied c = λ base r a. taken_full r a (rw c.in-TooDeep.is at c.in_ok-node.ensures.exact)
+
+pub returns-in-Leaf-clause-counted : goal.returns-in-Leaf-clause-counted
+returns-in-Leaf-clause-counted c = λ total a.
+    let n = rw c.in-Leaf.is at c.in_ok-node.ensures.exact in
+    let b = rw c.in-Leaf.is at c.in_ok-node.ensures.begun in
+    record { collections = moved c.in-Leaf.node.end (omega (arith, b.0.order)) a; node = leaf_counted total (omega (arith, b.0.order)) a.innermost.depth n }
+
+pub returns-in_ok-push-in-Opened-clause-counted : goal.returns-in_ok-push-in-Opened-clause-counted
+returns-in_ok-push-in-Opened-clause-counted c = λ total a.
+    let n = rw c.in-Opened.is at c.in_ok-node.ensures.exact in
+    let b = rw c.in-Opened.is at c.in_ok-node.ensures.begun in
+    counted_more _ c.in-Opened.frame.entry c.in_ok-push-in-Opened.ensures.ok (omega (arith, b.0.order)) (opened_counted total a.utf8 a.innermost.depth n) a
+
+pub returns-in-Nothing-clause-counted : goal.returns-in-Nothing-clause-counted
+returns-in-Nothing-clause-counted c = λ total a. failed_counted _ _ total _ _ _ c.failed.ensures
+
+pub returns-in-TooDeep-clause-counted : goal.returns-in-TooDeep-clause-counted
+returns-in-TooDeep-clause-counted c = λ total a. full_counted total a.utf8 a.innermost.depth (rw c.in-TooDeep.is at c.in_ok-node.ensures.exact)

@@ -1,5 +1,7 @@
 use Rattle.yf_flow.proofs.TiedClose.{failed_tied}
 use Rattle.yf_flow.proofs.TiedEnds.{gap_of, entry_next, entry_closing, entry_fails}
+use Rattle.std.proofs.Common.{arith, ◌+◌}
+use Rattle.yf_flow.proofs.CountLemmas.{moved, failed_counted}
 use Rattle.yf_flow.proofs.entry_ends.after_entry.Goals as goal
 
 pub returns-then-stands-clause-tied : goal.returns-then-stands-clause-tied
@@ -16,3 +18,12 @@ pub returns-clause-tied : goal.returns-clause-tied
 returns-clause-tied c = λ base u a.
     let g = gap_of c.in_ok-place.ensures.reads in
     failed_tied _ _ _ base _ _ _ _ c.failed.ensures (entry_fails u a g.1 c.if-closes.ensures.cases c.if-stands.ensures.cases)
+
+pub returns-then-stands-clause-counted : goal.returns-then-stands-clause-counted
+returns-then-stands-clause-counted c = λ total a. moved (c.in_ok-place.field-0.end + 1) (omega (arith, c.in_ok-place.ensures.place.order)) a
+
+pub returns-then-closes-clause-counted : goal.returns-then-closes-clause-counted
+returns-then-closes-clause-counted c = λ total a. c.close.ensures.counted total (moved _ c.in_ok-place.ensures.place.order a)
+
+pub returns-clause-counted : goal.returns-clause-counted
+returns-clause-counted c = λ total a. failed_counted _ _ total _ _ _ c.failed.ensures

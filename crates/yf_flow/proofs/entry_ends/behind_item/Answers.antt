@@ -1,5 +1,6 @@
 use Rattle.yf_flow.proofs.TiedItems.{ended_key, ended_no_key, item_read_done, item_is_no_pair}
 use Rattle.yf_flow.proofs.TiedPairs.{done_entry}
+use Rattle.yf_flow.proofs.CountLemmas.{counted_reaching}
 use Rattle.yf_flow.proofs.entry_ends.behind_item.Goals as goal
 
 pub returns-then-is_pair_key-clause-tied : goal.returns-then-is_pair_key-clause-tied
@@ -11,3 +12,9 @@ returns-clause-tied c = λ base r a q.
     c.after_entry.ensures.tied base r.utf8
     (done_entry (item_read_done a q (ended_no_key a c.skip_whites-colon.ensures.whites.1 c.skip_whites-colon.ensures.all c.if-is_pair_key.ensures.cases) c.reaching.result v.kind v.event v.depth v.deepest)
     (item_is_no_pair a q c.reaching.result v.kind))
+
+pub returns-then-is_pair_key-clause-counted : goal.returns-then-is_pair_key-clause-counted
+returns-then-is_pair_key-clause-counted c = λ total a. c.pair_of_key.ensures.counted total c.skip_whites-colon.ensures.order c.if-is_pair_key.ensures.cases.colon.colon a
+
+pub returns-clause-counted : goal.returns-clause-counted
+returns-clause-counted c = λ total a. let v = c.reaching.ensures in c.after_entry.ensures.counted total (counted_reaching _ v.depth v.deepest a)

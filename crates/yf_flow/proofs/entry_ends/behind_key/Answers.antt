@@ -1,9 +1,10 @@
-use Rattle.std.proofs.Common.{ap, ◌∙◌, ◌++◌, ◌∷◌, []}
+use Rattle.std.proofs.Common.{ap, ◌∙◌, ◌++◌, ◌∷◌, [], arith, ◌+◌}
 use Rattle.yf_events.specs.Event.{placed_value}
 use Rattle.yf_events.specs.Edit.{edited, coloned}
 use Rattle.yf_flow.proofs.TiedEnds.{gap_of}
 use Rattle.yf_flow.proofs.TiedKeys.{key_value}
 use Rattle.yf_flow.proofs.TiedNodes.{key_read_done}
+use Rattle.yf_flow.proofs.CountLemmas.{moved}
 use Rattle.yf_flow.proofs.entry_ends.behind_key.Goals as goal
 
 pub returns-then-colon_stands-clause-tied : goal.returns-then-colon_stands-clause-tied
@@ -21,3 +22,9 @@ returns-clause-tied c = λ base r first a q re.
     (key_read_done a q g.1 c.if-colon_stands.ensures.cases
     (c.in_ok-push.ensures ∙ ap (λ w. w ++ placed_value c.empty_node.result ∷ []) p.events ∙ ap (λ w. c.args.part.now.events ++ w ∷ []) c.empty_node.ensures) g.2 p.escapes
     c.args.top re.kind re.event re.depth re.deepest)
+
+pub returns-then-colon_stands-clause-counted : goal.returns-then-colon_stands-clause-counted
+returns-then-colon_stands-clause-counted c = λ total a. c.await_value.ensures.counted total (moved (c.in_ok-place.field-0.end + 1) (omega (arith, c.in_ok-place.ensures.place.order)) a)
+
+pub returns-clause-counted : goal.returns-clause-counted
+returns-clause-counted c = λ total a. c.end_entry.ensures.counted total (moved _ c.in_ok-place.ensures.place.order a)

@@ -1,7 +1,8 @@
-use Rattle.std.proofs.Common.{refl, sym, true≢false, ap, ◌∙◌, None, ◌++◌, ◌∷◌, [], ◌+◌}
+use Rattle.std.proofs.Common.{refl, sym, true≢false, ap, ◌∙◌, None, ◌++◌, ◌∷◌, [], ◌+◌, arith}
 use Rattle.yf_events.specs.Edit.{edited, ended}
 use Rattle.yf_flow.specs.Begun.{entry_event}
 use Rattle.yf_flow.proofs.TiedClose.{close_into, close_base, popped, none_left}
+use Rattle.yf_flow.proofs.CountLemmas.{moved, counted_less}
 use Rattle.yf_flow.proofs.entry_ends.close.Goals as goal
 
 pub returns-in-Some-clause-tied : goal.returns-in-Some-clause-tied
@@ -16,3 +17,9 @@ returns-in-None-clause-tied c = λ base a.
     (c.in_ok-set_end.ensures.edited ∙ ap (λ w. edited (ended (c.args.at + 1)) c.args.top.event w)
     (c.in_ok-push.ensures ∙ ap (λ w. c.args.part.now.events ++ w ∷ []) (c.unplaced.ensures ∙ ap (λ v. entry_event v None) c.collection_end.ensures))) refl refl
     (none_left _ (λ l. true≢false (sym (c.in-None.ensures.variant.1 l))))
+
+pub returns-in-Some-clause-counted : goal.returns-in-Some-clause-counted
+returns-in-Some-clause-counted c = λ total a. counted_less c.in-Some.ensures.items (moved (c.args.at + 1) (omega arith) a)
+
+pub returns-in-None-clause-counted : goal.returns-in-None-clause-counted
+returns-in-None-clause-counted c = λ total a. let m = moved (c.args.at + 1) (omega arith) a in m.innermost.deepest

@@ -2,6 +2,7 @@ use Rattle.std.proofs.Common.{refl, sym, true≢false, ap, ◌∙◌, ◌++◌, 
 use Rattle.yf_events.specs.Edit.{edited, ended}
 use Rattle.yf_flow.proofs.TiedClose.{popped, none_left}
 use Rattle.yf_flow.proofs.TiedPairs.{done_pair, pair_below}
+use Rattle.yf_flow.proofs.CountLemmas.{counted_less, counted_reaching, failed_counted}
 use Rattle.yf_flow.proofs.entry_ends.end_pair.Goals as goal
 
 pub returns-in-Some-clause-tied : goal.returns-in-Some-clause-tied
@@ -13,3 +14,11 @@ returns-in-Some-clause-tied c = λ base u a.
 
 pub returns-in-None-clause-tied : goal.returns-in-None-clause-tied
 returns-in-None-clause-tied c = λ base u a. absurd (pair_below a c.requires.pair (none_left _ (λ l. true≢false (sym (c.in-None.ensures.variant.1 l)))))
+
+pub returns-in-Some-clause-counted : goal.returns-in-Some-clause-counted
+returns-in-Some-clause-counted c = λ total a.
+    let v = c.reaching.ensures in
+    c.after_entry.ensures.counted total (counted_reaching _ v.depth v.deepest (counted_less c.in-Some.ensures.items a))
+
+pub returns-in-None-clause-counted : goal.returns-in-None-clause-counted
+returns-in-None-clause-counted c = λ total a. failed_counted _ _ total _ _ _ c.failed.ensures

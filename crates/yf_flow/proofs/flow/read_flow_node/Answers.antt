@@ -1,5 +1,5 @@
 use Rattle.std.proofs.Common.{to_z-of_z}
-use Rattle.yf_flow.specs.WithinLimit.{as_scan}
+use Rattle.yf_grammar.specs.Refusal.{as_scanned}
 use Rattle.yf_flow.proofs.ReadersLemmas.{scanned_stops}
 use Rattle.yf_flow.proofs.flow.read_flow_node.Goals as goal
 
@@ -8,4 +8,4 @@ returns-in-Ok-Some-clause-reads c = λ b.
     scanned_stops c.in-Ok-Some.field-0-0 c.in-Some.place c.in-Some.is (rw (c.in-Ok-Some.field-0-is, to_z-of_z c.ranges.n) at (c.in-Ok-Some.ensures.reads b))
 
 pub returns-clause-reads : goal.returns-clause-reads
-returns-clause-reads c = λ b. as_scan (rw (to_z-of_z c.ranges.n) at (c.in-Err.ensures.reads b))
+returns-clause-reads c = λ b. as_scanned (rw (to_z-of_z c.ranges.n) at (c.in-Err.ensures.reads b))

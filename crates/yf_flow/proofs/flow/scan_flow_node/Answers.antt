@@ -1,7 +1,7 @@
 use Rattle.std.proofs.Common.{to_z-of_z}
 use Rattle.yf_grammar.proofs.Parts.{none_is_stuck}
-use Rattle.yf_flow.specs.WithinLimit.{no_memory}
-use Rattle.yf_flow.proofs.ReadersLemmas.{found_chosen, stopped_deep}
+use Rattle.yf_grammar.specs.Refusal.{for_memory}
+use Rattle.yf_flow.proofs.ReadersLemmas.{found_chosen, too_deep_there}
 use Rattle.yf_flow.proofs.flow.scan_flow_node.Goals as goal
 
 pub returns-in-Ok-Found-clause-reads : goal.returns-in-Ok-Found-clause-reads
@@ -16,8 +16,8 @@ returns-in-Ok-Nothing-clause-reads c = λ b.
 
 pub returns-in-Ok-TooDeep-clause-reads : goal.returns-in-Ok-TooDeep-clause-reads
 returns-in-Ok-TooDeep-clause-reads c = λ b.
-    stopped_deep (rw c.text.ensures at c.text.utf8) b (rw (c.text.ensures, to_z-of_z c.ranges.n, c.in-Ok-TooDeep.field-0-is) at (c.in-Ok-TooDeep.ensures.answers b))
+    too_deep_there (rw c.text.ensures at c.text.utf8) b (rw (c.text.ensures, to_z-of_z c.ranges.n, c.in-Ok-TooDeep.field-0-is) at (c.in-Ok-TooDeep.ensures.answers b))
     (c.in-Ok-TooDeep.offset, c.place.ensures.place)
 
 pub returns-in-Err-clause-reads : goal.returns-in-Err-clause-reads
-returns-in-Err-clause-reads c = λ b. no_memory
+returns-in-Err-clause-reads c = λ b. for_memory

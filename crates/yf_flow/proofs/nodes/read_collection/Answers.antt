@@ -19,6 +19,7 @@ steps-preserved-in_ok-state-in-Entry c =
       ready = ready_from _ p.0.order q.ready;
       escapes = escapes_same _ _ _ q.escapes v.escapes;
       tied = λ base r a. q.tied base r (rw c.in-Entry.is at (v.tied base r a));
+      counted = λ total a. q.counted total (rw c.in-Entry.is at (v.counted total a));
     }
 
 pub steps-preserved-in_ok-state-in-Node : goal.steps-preserved-in_ok-state-in-Node
@@ -30,6 +31,7 @@ steps-preserved-in_ok-state-in-Node c =
       ready = ready_from _ p.0.order q.ready;
       escapes = q.escapes;
       tied = λ base r a. q.tied base r (rw c.in-Node.is at (v.tied base r a));
+      counted = λ total a. q.counted total (rw c.in-Node.is at (v.counted total a));
     }
 
 pub steps-preserved : goal.steps-preserved
@@ -41,4 +43,14 @@ steps-preserved c =
       ready = ready_from _ p.0.order q.ready;
       escapes = escapes_same _ _ _ q.escapes v.escapes;
       tied = λ base r a. q.tied base r (rw c.in-Ended.is at (v.tied base r a));
+      counted = λ total a. q.counted total (rw c.in-Ended.is at (v.counted total a));
     }
+
+pub returns-in-Done-clause-counted : goal.returns-in-Done-clause-counted
+returns-in-Done-clause-counted c = λ total a. rw c.in-Done.is at (c.steps.invariant.counted total a)
+
+pub returns-in-TooDeep-clause-counted : goal.returns-in-TooDeep-clause-counted
+returns-in-TooDeep-clause-counted c = λ total a. rw c.in-TooDeep.is at (c.steps.invariant.counted total a)
+
+pub returns-in-Failed-clause-counted : goal.returns-in-Failed-clause-counted
+returns-in-Failed-clause-counted c = λ total a. tt
