@@ -1,5 +1,5 @@
 -- What the tie says has been written of a sequence of two lines `-`, after each of them and at its end.
-use Rattle.std.proofs.Common.{◌≡◌, ℕ, true, false, List, [], ◌∷◌, Some, None, refl}
+use Rattle.std.proofs.Common.{◌≡◌, ℕ, true, false, [], ◌∷◌, Some, None, refl}
 use Rattle.yf_props.specs.Props.{no_props}
 use Rattle.yf_events.specs.Event.{Placed, sequence_starts, sequence_ends, scalar_node}
 use Rattle.yf_events.specs.declared.event.ScalarStyle.TheVariants.{Plain}
