@@ -1,6 +1,6 @@
 -- Whether nodes and directives break a rule depends on what they are, and not on where they stand.
 use Rattle.std.proofs.Common.{◌≡◌, ℕ, suc, Bool, true, false, List, [], ◌∷◌, ◌++◌, length, map, Option, Some, None, refl, sym, ap, ◌∙◌, subst, arith, is_some, ◌||◌, not}
-use Rattle.yf_props.specs.Handles.{Declaration, TagText, is_declared}
+use Rattle.yf_props.specs.Handles.{Declaration, is_declared}
 use Rattle.yf_props.specs.Props.{PropsValue}
 use Rattle.yf_events.specs.Alike.{Alike, alike_scalars, alike_aliases, alike_sequences, alike_mappings, AlikeItems, alike_nothing, alike_item, AlikePairs, alike_no_pairs, alike_pair}
 use Rattle.yf_events.specs.Event.{EventValue, Placed, sequence_starts, sequence_ends, mapping_starts, mapping_ends}
@@ -9,7 +9,6 @@ use Rattle.yf_events.specs.declared.directive.Directive.{Directive}
 use Rattle.yf_stream.specs.ReadingOf.{EventTags, no_event, untagged, tagged}
 use Rattle.yf_stream.specs.Stream.{Document}
 use Rattle.yf_stream.specs.WellFormed.{alias_breaches, alias_of, breach_if, breaches, declaration_breaches, declaration_of, declarations, directive_breaches, document_breaches, escape_breaches, event_breaches, has_name, is_unknown, is_version_one, offset_or, props_of, start_or, version_breaches, version_of, with_declaration, with_name}
-use Rattle.yf_stream.specs.declared.breaches.Breach.{Breach}
 use Rattle.yf_stream.specs.declared.breaches.Kind.{Kind}
 use Rattle.yf_stream.specs.declared.breaches.Kind.TheVariants.{UnknownHandle, UnknownAlias, RepeatedDirective, BadVersion}
 

@@ -1,5 +1,5 @@
 -- Documents with the same nodes and directives have the same resolved tags, and notes leave events what they are.
-use Rattle.std.proofs.Common.{◌≡◌, ℕ, List, [], ◌∷◌, ◌++◌, Option, None, refl, sym, ap, ◌∙◌, subst}
+use Rattle.std.proofs.Common.{◌≡◌, ℕ, List, [], ◌∷◌, ◌++◌, Option, None, refl, ap, ◌∙◌, subst}
 use Rattle.yf_props.specs.Handles.{Declaration}
 use Rattle.yf_events.specs.Event.{Placed}
 use Rattle.yf_grammar.specs.Part.{Noting, no_event, without_entry, with_entry}

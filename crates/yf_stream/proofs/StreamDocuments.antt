@@ -1,5 +1,5 @@
 -- Each document of a stream is derived, and has no more collections open at once than the stream.
-use Rattle.std.proofs.Common.{ℕ, max, ◌≤◌, List, [], ◌∷◌, arith}
+use Rattle.std.proofs.Common.{ℕ, ◌≤◌, List, [], ◌∷◌, arith}
 use Rattle.yf_comments.specs.Comment.{CommentValue}
 use Rattle.yf_stream.specs.Stream.{AnyDocument, Document, Documents, Stream, StreamRest, with_comments, with_document}
 use Rattle.yf_stream.specs.Stream.AnyDocument.{explicit_document}
