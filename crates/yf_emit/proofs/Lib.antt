@@ -96,6 +96,7 @@ pub mod DocumentTrails
 pub mod TrailsHold
 pub mod NormalSame
 pub mod NestsRun
+pub mod LeavesRise
 pub mod NormalParts
 pub mod LayoutHolds
 pub mod WritingLemmas
