@@ -132,3 +132,4 @@ pub mod SeenTexts
 pub mod TrailsHold
 pub mod TreesRead
 pub mod WritingLemmas
+pub mod LeavesRise

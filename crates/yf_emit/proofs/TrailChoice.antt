@@ -7,7 +7,6 @@ use Rattle.std.proofs.lemmas.Bool.Decides.{nat_tests}
 use Rattle.yf_comments.specs.Comment.{CommentValue}
 use Rattle.yf_events.specs.declared.event.Span.{Span}
 use Rattle.yf_emit.specs.Drafts.{count_to}
-use Rattle.yf_emit.specs.InOrder.{rising}
 use Rattle.yf_emit.specs.Layout.{Remark, Source, first_comment, is_before, next_leaf}
 use Rattle.yf_emit.proofs.FeedLemmas.{ascend}
 
@@ -107,6 +106,10 @@ first_picked start next (c ∷ cs) (b ∷ bs) a n l = by (nat_lt c.offset start)
   by false e h = ap (λ w. if w && is_before c.offset next then Some (c, b) else rest next) (after start c.offset e apart.0) ∙ here next
 
 -- Leaves that begin one after the other.
+
+abbrev pub rising : List Span → Bool
+rising [] = true
+rising (s ∷ ss) = list_all (λ r. nat_lt s.start r.start) ss && rising ss
 
 abbrev pub start_of_first : List Span → Option ℕ
 start_of_first [] = None

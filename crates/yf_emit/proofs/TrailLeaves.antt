@@ -7,10 +7,9 @@ use Rattle.yf_emit.specs.Drafts.{behind_at, behind_if, count_to}
 use Rattle.yf_emit.specs.Layout.{Source, behind_two_spaces, first_comment, is_among, trailing_leaf}
 use Rattle.yf_emit.specs.Trailing.{is_at, is_at_end}
 use Rattle.yf_emit.specs.TrailsOf.{at_index}
-use Rattle.yf_emit.specs.InOrder.{rising}
 use Rattle.yf_emit.proofs.FeedLemmas.{ascend}
 use Rattle.yf_emit.proofs.LeafMarks.{Mark}
-use Rattle.yf_emit.proofs.TrailChoice.{first_counted, none_at}
+use Rattle.yf_emit.proofs.TrailChoice.{first_counted, none_at, rising}
 use Rattle.yf_emit.proofs.TrailRuns.{counted_within, end_of, found_of, less, spans}
 
 -- a comment and its note at an index

@@ -11,9 +11,8 @@ use Rattle.yf_events.specs.declared.lists.Lists.{Lists}
 use Rattle.yf_emit.specs.declared.print.trails.Leaf.{Leaf}
 use Rattle.yf_emit.specs.Drafts.{count_to}
 use Rattle.yf_emit.specs.Trailing.{Found, ended, given, given_if, is_at, state, trails_leaf}
-use Rattle.yf_emit.specs.InOrder.{rising}
 use Rattle.yf_emit.proofs.LeafMarks.{Mark, in_order, not_at, past_marks}
-use Rattle.yf_emit.proofs.TrailChoice.{start_of_first, until}
+use Rattle.yf_emit.proofs.TrailChoice.{rising, start_of_first, until}
 
 -- Counting on from one offset to a later one counts all before the later one.
 

@@ -13,10 +13,9 @@ use Rattle.yf_emit.specs.Layout.{Source, first_comment, is_among, trailing, trai
 use Rattle.yf_emit.specs.Rows.{Row}
 use Rattle.yf_emit.specs.Trailing.{Found, given, given_if, trails_leaf}
 use Rattle.yf_emit.specs.TrailsOf.{at_index}
-use Rattle.yf_emit.specs.InOrder.{rising}
 use Rattle.yf_emit.proofs.FeedLemmas.{ascend}
 use Rattle.yf_emit.proofs.LeafMarks.{Mark}
-use Rattle.yf_emit.proofs.TrailChoice.{none_at}
+use Rattle.yf_emit.proofs.TrailChoice.{none_at, rising}
 use Rattle.yf_emit.proofs.TrailLeaves.{KeyMarks, chosen_of}
 use Rattle.yf_emit.proofs.TrailOthers.{among_indices, among_rows, at_indices, has, strict}
 use Rattle.yf_emit.proofs.TrailRuns.{AgreeFrom, agree_behind, closed_all, end_of, found_of, leaf_in, spans, trails_alike}

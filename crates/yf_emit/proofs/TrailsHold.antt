@@ -20,7 +20,6 @@ use Rattle.yf_emit.specs.Normal.{Setting, setting_of}
 use Rattle.yf_emit.specs.Rows.{Row}
 use Rattle.yf_emit.specs.Trailing.{Found, all_found, ended, keys_taken, start, taken}
 use Rattle.yf_emit.specs.TrailsOf.{LayoutTrails, at_index}
-use Rattle.yf_emit.specs.InOrder.{rising}
 use Rattle.yf_emit.proofs.DocumentTrails.{leaves_of, stream_keys, stream_leaves}
 use Rattle.yf_emit.proofs.DocumentsPrinted.{AreNormal}
 use Rattle.yf_emit.proofs.FeedLemmas.{ascend}
@@ -28,7 +27,7 @@ use Rattle.yf_emit.proofs.KeyTrails.{indices_of, keys_on}
 use Rattle.yf_emit.proofs.LeafMarks.{Mark, event_marks, in_order, mark, marks_in_order, pass_marks}
 use Rattle.yf_emit.proofs.MarkSpans.{MarkedAt, Seen, marked_at, node_within, spans_append, stream_spans}
 use Rattle.yf_emit.proofs.RowLeaves.{leaves_on}
-use Rattle.yf_emit.proofs.TrailChoice.{none_at}
+use Rattle.yf_emit.proofs.TrailChoice.{none_at, rising}
 use Rattle.yf_emit.proofs.TrailLeaves.{KeyMarks, chosen_of}
 use Rattle.yf_emit.proofs.TrailOthers.{among_indices, at_indices, has, strict}
 use Rattle.yf_emit.proofs.TrailRuns.{AgreeFrom, closed_all, found_at, found_of, run_is, spans}

@@ -76,8 +76,12 @@ pub(crate) fn take_node<'a>(
     requires top { Awaiting scene.text.now (length part.old.events) top }
     requires below { All (Indexed scene.text.now (length part.old.events)) below.old.items }
     requires escapes { All (IsCharBoundary scene.text.now) part.old.escapes }
-    ensures tied { (base : Base) → Reading scene.entry.text.now scene.entry.context scene.entry.limit base → AtNode scene.entry.text.now scene.entry.indentation scene.entry.context base (reverse below.old.items) top at part.old → IfOk result (λ s. StepTied scene.entry.text.now scene.entry.indentation scene.entry.context base (reverse below.new.items) s.top s.step part.new) }
-    ensures counted { (total : ℕ) → AllCounted scene.entry.text.now total at below.old.items top → IfOk result (λ s. StepCounted scene.entry.text.now scene.entry.limit total below.new.items s.top s.step) }
+    ensures tied { (base : Base) → Reading scene.entry.text.now scene.entry.context scene.entry.limit base
+        → AtNode scene.entry.text.now scene.entry.indentation scene.entry.context base (reverse below.old.items) top at part.old
+        → IfOk result (λ s. StepTied scene.entry.text.now scene.entry.indentation scene.entry.context base
+        (reverse below.new.items) s.top s.step part.new) }
+    ensures counted { (total : ℕ) → AllCounted scene.entry.text.now total at below.old.items top
+        → IfOk result (λ s. StepCounted scene.entry.text.now scene.entry.limit total below.new.items s.top s.step) }
     ensures ready { IfOk result (λ s. Ready scene.entry.text.now at (length part.new.events) below.new.items s) }
     ensures moves { IfOk result (λ s. left (length scene.entry.text.now) s.step < 2 * (length scene.entry.text.now - at) + 1) }
     ensures escapes { IfOk result (λ _. All (IsCharBoundary scene.entry.text.now) part.new.escapes) }
@@ -116,8 +120,12 @@ pub(crate) fn start_entry<'a>(
     requires boundary { IsCharBoundary scene.text.now at }
     requires top { Awaiting scene.text.now (length part.old.events) top }
     requires below { All (Indexed scene.text.now (length part.old.events)) below.old.items }
-    ensures tied { (base : Base) → Reading scene.entry.text.now scene.entry.context scene.entry.limit base → AtEntry scene.entry.text.now scene.entry.indentation scene.entry.context base (reverse below.old.items) top at part.old → IfOk result (λ s. StepTied scene.entry.text.now scene.entry.indentation scene.entry.context base (reverse below.new.items) s.top s.step part.new) }
-    ensures counted { (total : ℕ) → AllCounted scene.entry.text.now total at below.old.items top → IfOk result (λ s. StepCounted scene.entry.text.now scene.entry.limit total below.new.items s.top s.step) }
+    ensures tied { (base : Base) → Reading scene.entry.text.now scene.entry.context scene.entry.limit base
+        → AtEntry scene.entry.text.now scene.entry.indentation scene.entry.context base (reverse below.old.items) top at part.old
+        → IfOk result (λ s. StepTied scene.entry.text.now scene.entry.indentation scene.entry.context base
+        (reverse below.new.items) s.top s.step part.new) }
+    ensures counted { (total : ℕ) → AllCounted scene.entry.text.now total at below.old.items top
+        → IfOk result (λ s. StepCounted scene.entry.text.now scene.entry.limit total below.new.items s.top s.step) }
     ensures ready { IfOk result (λ s. Ready scene.entry.text.now at (length part.new.events) below.new.items s) }
     ensures moves { IfOk result (λ s. left (length scene.entry.text.now) s.step ≤ 2 * (length scene.entry.text.now - at) + 1) }
     ensures escapes { IfOk result (λ _. part.new.escapes ≡ part.old.escapes) }
@@ -174,8 +182,15 @@ fn explicit_entry<'a>(
     requires boundary { IsCharBoundary scene.text.now at }
     requires top { Awaiting scene.text.now (length part.old.events) top }
     requires below { All (Indexed scene.text.now (length part.old.events)) below.old.items }
-    ensures tied { (base : Base) → Reading scene.entry.text.now scene.entry.context scene.entry.limit base → (cs : List CommentValue) → code scene.entry.text.now top.entry ≡ 63 → Chosen (Separate scene.entry.text.now scene.entry.indentation scene.entry.context (top.entry + 1)) at cs → AtFirst scene.entry.text.now scene.entry.indentation scene.entry.context base (reverse below.old.items) top cs part.old → IfOk result (λ s. StepTied scene.entry.text.now scene.entry.indentation scene.entry.context base (reverse below.new.items) s.top s.step part.new) }
-    ensures counted { (total : ℕ) → code scene.entry.text.now top.entry ≡ 63 → top.entry < at → AllCounted scene.entry.text.now total top.entry below.old.items top → IfOk result (λ s. StepCounted scene.entry.text.now scene.entry.limit total below.new.items s.top s.step) }
+    ensures tied { (base : Base) → Reading scene.entry.text.now scene.entry.context scene.entry.limit base
+        → (cs : List CommentValue) → code scene.entry.text.now top.entry ≡ 63
+        → Chosen (Separate scene.entry.text.now scene.entry.indentation scene.entry.context (top.entry + 1)) at cs
+        → AtFirst scene.entry.text.now scene.entry.indentation scene.entry.context base (reverse below.old.items) top cs part.old
+        → IfOk result (λ s. StepTied scene.entry.text.now scene.entry.indentation scene.entry.context base
+        (reverse below.new.items) s.top s.step part.new) }
+    ensures counted { (total : ℕ) → code scene.entry.text.now top.entry ≡ 63 → top.entry < at
+        → AllCounted scene.entry.text.now total top.entry below.old.items top
+        → IfOk result (λ s. StepCounted scene.entry.text.now scene.entry.limit total below.new.items s.top s.step) }
     ensures ready { IfOk result (λ s. Ready scene.entry.text.now at (length part.new.events) below.new.items s) }
     ensures moves { IfOk result (λ s. left (length scene.entry.text.now) s.step ≤ 2 * (length scene.entry.text.now - at) + 1) }
     ensures escapes { IfOk result (λ _. part.new.escapes ≡ part.old.escapes) }
@@ -215,8 +230,14 @@ fn lone_value<'a>(
     requires boundary { IsCharBoundary scene.text.now (colon + 1) }
     requires top { Awaiting scene.text.now (length part.old.events) top }
     requires below { All (Indexed scene.text.now (length part.old.events)) below.old.items }
-    ensures tied { (base : Base) → Reading scene.entry.text.now scene.entry.context scene.entry.limit base → ColonAt scene.entry.text.now false scene.entry.context colon → top.entry ≡ colon → AtFirst scene.entry.text.now scene.entry.indentation scene.entry.context base (reverse below.old.items) top [] part.old → IfOk result (λ s. StepTied scene.entry.text.now scene.entry.indentation scene.entry.context base (reverse below.new.items) s.top s.step part.new) }
-    ensures counted { (total : ℕ) → code scene.entry.text.now colon ≡ 58 → AllCounted scene.entry.text.now total colon below.old.items top → IfOk result (λ s. StepCounted scene.entry.text.now scene.entry.limit total below.new.items s.top s.step) }
+    ensures tied { (base : Base) → Reading scene.entry.text.now scene.entry.context scene.entry.limit base
+        → ColonAt scene.entry.text.now false scene.entry.context colon → top.entry ≡ colon
+        → AtFirst scene.entry.text.now scene.entry.indentation scene.entry.context base (reverse below.old.items) top [] part.old
+        → IfOk result (λ s. StepTied scene.entry.text.now scene.entry.indentation scene.entry.context base
+        (reverse below.new.items) s.top s.step part.new) }
+    ensures counted { (total : ℕ) → code scene.entry.text.now colon ≡ 58
+        → AllCounted scene.entry.text.now total colon below.old.items top
+        → IfOk result (λ s. StepCounted scene.entry.text.now scene.entry.limit total below.new.items s.top s.step) }
     ensures ready { IfOk result (λ s. Ready scene.entry.text.now colon (length part.new.events) below.new.items s) }
     ensures moves { IfOk result (λ s. left (length scene.entry.text.now) s.step ≤ 2 * (length scene.entry.text.now - colon) + 1) }
     ensures escapes { IfOk result (λ _. part.new.escapes ≡ part.old.escapes) }
@@ -242,8 +263,12 @@ fn keyless_value<'a>(
     requires boundary { IsCharBoundary scene.text.now (colon + 1) }
     requires top { Awaiting scene.text.now (length part.old.events) top }
     requires below { All (Indexed scene.text.now (length part.old.events)) below.old.items }
-    ensures tied { (base : Base) → Reading scene.entry.text.now scene.entry.context scene.entry.limit base → (cs : List CommentValue) → code scene.entry.text.now top.entry ≢ 10 → (a : AtSign scene.entry.text.now scene.entry.indentation scene.entry.context base (reverse below.old.items) top cs part.old) → AloneAwaited scene.entry.text.now scene.entry.indentation scene.entry.context a.layer cs colon → IfOk result (λ s. StepTied scene.entry.text.now scene.entry.indentation scene.entry.context base (reverse below.new.items) s.top s.step part.new) }
-    ensures counted { (total : ℕ) → AllCounted scene.entry.text.now total (colon + 1) below.old.items top → IfOk result (λ s. StepCounted scene.entry.text.now scene.entry.limit total below.new.items s.top s.step) }
+    ensures tied { (base : Base) → Reading scene.entry.text.now scene.entry.context scene.entry.limit base
+        → (cs : List CommentValue) → code scene.entry.text.now top.entry ≢ 10
+        → (a : AtSign scene.entry.text.now scene.entry.indentation scene.entry.context base
+        (reverse below.old.items) top cs part.old) → AloneAwaited scene.entry.text.now scene.entry.indentation scene.entry.context a.layer cs colon → IfOk result (λ s. StepTied scene.entry.text.now scene.entry.indentation scene.entry.context base (reverse below.new.items) s.top s.step part.new) }
+    ensures counted { (total : ℕ) → AllCounted scene.entry.text.now total (colon + 1) below.old.items top
+        → IfOk result (λ s. StepCounted scene.entry.text.now scene.entry.limit total below.new.items s.top s.step) }
     ensures ready { IfOk result (λ s. Ready scene.entry.text.now colon (length part.new.events) below.new.items s) }
     ensures moves { IfOk result (λ s. left (length scene.entry.text.now) s.step ≤ 2 * (length scene.entry.text.now - colon) + 1) }
     ensures escapes { IfOk result (λ _. part.new.escapes ≡ part.old.escapes) }
@@ -263,8 +288,14 @@ fn in_mapping<'a>(
 ) -> Result<Option<Frame>, AllocError>
     requires top { Awaiting scene.text.now (length part.old.events) top }
     requires below { All (Indexed scene.text.now (length part.old.events)) below.old.items }
-    ensures tied { (base : Base) → Reading scene.entry.text.now scene.entry.context scene.entry.limit base → (p : ℕ) → (cs : List CommentValue) → SignAt scene.entry.text.now scene.entry.indentation scene.entry.context top.entry cs p → AtFirst scene.entry.text.now scene.entry.indentation scene.entry.context base (reverse below.old.items) top cs part.old → IfOk result (λ o. MatchOption o (NoBase scene.entry.text.now scene.entry.indentation base) (λ f. AtSign scene.entry.text.now scene.entry.indentation scene.entry.context base (reverse below.new.items) f cs part.new)) }
-    ensures counted { (total i j : ℕ) → openers_from scene.entry.text.now j < openers_from scene.entry.text.now i → i ≤ j → AllCounted scene.entry.text.now total i below.old.items top → IfOk result (λ o. MatchOption o (scene.entry.limit < total) (AllCounted scene.entry.text.now total j below.new.items)) }
+    ensures tied { (base : Base) → Reading scene.entry.text.now scene.entry.context scene.entry.limit base → (p : ℕ)
+        → (cs : List CommentValue) → SignAt scene.entry.text.now scene.entry.indentation scene.entry.context top.entry cs p
+        → AtFirst scene.entry.text.now scene.entry.indentation scene.entry.context base (reverse below.old.items) top cs part.old
+        → IfOk result (λ o. MatchOption o (NoBase scene.entry.text.now scene.entry.indentation base)
+        (λ f. AtSign scene.entry.text.now scene.entry.indentation scene.entry.context base (reverse below.new.items) f cs part.new)) }
+    ensures counted { (total i j : ℕ) → openers_from scene.entry.text.now j < openers_from scene.entry.text.now i → i ≤ j
+        → AllCounted scene.entry.text.now total i below.old.items top
+        → IfOk result (λ o. MatchOption o (scene.entry.limit < total) (AllCounted scene.entry.text.now total j below.new.items)) }
     ensures below { IfOk result (λ _. All (Indexed scene.entry.text.now (length part.new.events)) below.new.items) }
     ensures top { IfOk result (λ o. IfSome o (λ f. Awaiting scene.entry.text.now (length part.new.events) f)) }
     ensures room { IfOk result (λ o. IfSome o (λ f. f.entry ≡ top.entry)) }
@@ -326,8 +357,13 @@ pub(crate) fn await_value<'a>(
     requires boundary { IsCharBoundary scene.text.now (colon + 1) }
     requires top { Indexed scene.text.now (length part.old.events) top }
     requires below { All (Indexed scene.text.now (length part.old.events)) below.old.items }
-    ensures tied { (base : Base) → IsUtf8 scene.entry.text.now → AtValue scene.entry.text.now scene.entry.indentation scene.entry.context base (reverse below.old.items) top json colon part.old → IfOk result (λ s. StepTied scene.entry.text.now scene.entry.indentation scene.entry.context base (reverse below.new.items) s.top s.step part.new) }
-    ensures counted { (total : ℕ) → AllCounted scene.entry.text.now total (colon + 1) below.old.items top → IfOk result (λ s. StepCounted scene.entry.text.now scene.entry.limit total below.new.items s.top s.step) }
+    ensures tied { (base : Base) → IsUtf8 scene.entry.text.now
+        → AtValue scene.entry.text.now scene.entry.indentation scene.entry.context base
+        (reverse below.old.items) top json colon part.old → IfOk result
+        (λ s. StepTied scene.entry.text.now scene.entry.indentation scene.entry.context base
+        (reverse below.new.items) s.top s.step part.new) }
+    ensures counted { (total : ℕ) → AllCounted scene.entry.text.now total (colon + 1) below.old.items top
+        → IfOk result (λ s. StepCounted scene.entry.text.now scene.entry.limit total below.new.items s.top s.step) }
     ensures ready { IfOk result (λ s. Ready scene.entry.text.now colon (length part.new.events) below.new.items s) }
     ensures moves { IfOk result (λ s. left (length scene.entry.text.now) s.step ≤ 2 * (length scene.entry.text.now - colon) + 1) }
     ensures escapes { IfOk result (λ _. part.new.escapes ≡ part.old.escapes) }

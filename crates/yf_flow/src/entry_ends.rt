@@ -34,8 +34,12 @@ pub(crate) fn finish_node<'a>(
     requires boundary { IsCharBoundary scene.text.now node.end }
     requires top { Indexed scene.text.now (length part.old.events) top }
     requires below { All (Indexed scene.text.now (length part.old.events)) below.old.items }
-    ensures tied { (base : Base) → Reading scene.entry.text.now scene.entry.context scene.entry.limit base → AtEnded scene.entry.text.now scene.entry.indentation scene.entry.context base (reverse below.old.items) top node part.old → IfOk result (λ s. StepTied scene.entry.text.now scene.entry.indentation scene.entry.context base (reverse below.new.items) s.top s.step part.new) }
-    ensures counted { (total : ℕ) → NodeCounted scene.entry.text.now total node.deepest node.end below.old.items top → IfOk result (λ s. StepCounted scene.entry.text.now scene.entry.limit total below.new.items s.top s.step) }
+    ensures tied { (base : Base) → Reading scene.entry.text.now scene.entry.context scene.entry.limit base
+        → AtEnded scene.entry.text.now scene.entry.indentation scene.entry.context base (reverse below.old.items) top node part.old
+        → IfOk result (λ s. StepTied scene.entry.text.now scene.entry.indentation scene.entry.context base
+        (reverse below.new.items) s.top s.step part.new) }
+    ensures counted { (total : ℕ) → NodeCounted scene.entry.text.now total node.deepest node.end below.old.items top
+        → IfOk result (λ s. StepCounted scene.entry.text.now scene.entry.limit total below.new.items s.top s.step) }
     ensures ready { IfOk result (λ s. Ready scene.entry.text.now node.end (length part.new.events) below.new.items s) }
     ensures moves { IfOk result (λ s. left (length scene.entry.text.now) s.step ≤ 2 * (length scene.entry.text.now - node.end) + 1) }
     ensures escapes { IfOk result (λ _. part.new.escapes ≡ part.old.escapes) }
@@ -68,8 +72,12 @@ fn behind_item<'a>(
     requires boundary { IsCharBoundary scene.text.now node.end }
     requires top { Indexed scene.text.now (length part.old.events) top }
     requires below { All (Indexed scene.text.now (length part.old.events)) below.old.items }
-    ensures tied { (base : Base) → Reading scene.entry.text.now scene.entry.context scene.entry.limit base → AtEnded scene.entry.text.now scene.entry.indentation scene.entry.context base (reverse below.old.items) top node part.old → top.role ≡ Role.Item → IfOk result (λ s. StepTied scene.entry.text.now scene.entry.indentation scene.entry.context base (reverse below.new.items) s.top s.step part.new) }
-    ensures counted { (total : ℕ) → NodeCounted scene.entry.text.now total node.deepest node.end below.old.items top → IfOk result (λ s. StepCounted scene.entry.text.now scene.entry.limit total below.new.items s.top s.step) }
+    ensures tied { (base : Base) → Reading scene.entry.text.now scene.entry.context scene.entry.limit base
+        → AtEnded scene.entry.text.now scene.entry.indentation scene.entry.context base (reverse below.old.items) top node part.old
+        → top.role ≡ Role.Item → IfOk result (λ s. StepTied scene.entry.text.now scene.entry.indentation scene.entry.context base
+        (reverse below.new.items) s.top s.step part.new) }
+    ensures counted { (total : ℕ) → NodeCounted scene.entry.text.now total node.deepest node.end below.old.items top
+        → IfOk result (λ s. StepCounted scene.entry.text.now scene.entry.limit total below.new.items s.top s.step) }
     ensures ready { IfOk result (λ s. Ready scene.entry.text.now node.end (length part.new.events) below.new.items s) }
     ensures moves { IfOk result (λ s. left (length scene.entry.text.now) s.step ≤ 2 * (length scene.entry.text.now - node.end) + 1) }
     ensures escapes { IfOk result (λ _. part.new.escapes ≡ part.old.escapes) }
@@ -101,8 +109,15 @@ fn pair_of_key<'a>(
     requires boundary { IsCharBoundary scene.text.now (colon + 1) }
     requires top { Indexed scene.text.now (length part.old.events) top }
     requires below { All (Indexed scene.text.now (length part.old.events)) below.old.items }
-    ensures tied { (base : Base) → Reading scene.entry.text.now scene.entry.context scene.entry.limit base → (a : AtEnded scene.entry.text.now scene.entry.indentation scene.entry.context base (reverse below.old.items) top node part.old) → top.role ≡ Role.Item → PairKey scene.entry.text.now scene.entry.context a.layer.start a.answer colon → IfOk result (λ s. StepTied scene.entry.text.now scene.entry.indentation scene.entry.context base (reverse below.new.items) s.top s.step part.new) }
-    ensures counted { (total : ℕ) → node.end ≤ colon → code scene.entry.text.now colon ≡ 58 → NodeCounted scene.entry.text.now total node.deepest node.end below.old.items top → IfOk result (λ s. StepCounted scene.entry.text.now scene.entry.limit total below.new.items s.top s.step) }
+    ensures tied { (base : Base) → Reading scene.entry.text.now scene.entry.context scene.entry.limit base
+        → (a : AtEnded scene.entry.text.now scene.entry.indentation scene.entry.context base
+        (reverse below.old.items) top node part.old) → top.role ≡ Role.Item
+        → PairKey scene.entry.text.now scene.entry.context a.layer.start a.answer colon
+        → IfOk result (λ s. StepTied scene.entry.text.now scene.entry.indentation scene.entry.context base
+        (reverse below.new.items) s.top s.step part.new) }
+    ensures counted { (total : ℕ) → node.end ≤ colon → code scene.entry.text.now colon ≡ 58
+        → NodeCounted scene.entry.text.now total node.deepest node.end below.old.items top
+        → IfOk result (λ s. StepCounted scene.entry.text.now scene.entry.limit total below.new.items s.top s.step) }
     ensures ready { IfOk result (λ s. Ready scene.entry.text.now colon (length part.new.events) below.new.items s) }
     ensures moves { IfOk result (λ s. left (length scene.entry.text.now) s.step ≤ 2 * (length scene.entry.text.now - colon) + 1) }
     ensures escapes { IfOk result (λ _. part.new.escapes ≡ part.old.escapes) }
@@ -142,8 +157,13 @@ fn behind_key<'a>(
     requires boundary { IsCharBoundary scene.text.now node.end }
     requires top { Indexed scene.text.now (length part.old.events) top }
     requires below { All (Indexed scene.text.now (length part.old.events)) below.old.items }
-    ensures tied { (base : Base) → Reading scene.entry.text.now scene.entry.context scene.entry.limit base → (first : Frame) → AtEnded scene.entry.text.now scene.entry.indentation scene.entry.context base (reverse below.old.items) first node part.old → first.role ≡ Role.Key → Reached first node.deepest top → IfOk result (λ s. StepTied scene.entry.text.now scene.entry.indentation scene.entry.context base (reverse below.new.items) s.top s.step part.new) }
-    ensures counted { (total : ℕ) → AllCounted scene.entry.text.now total node.end below.old.items top → IfOk result (λ s. StepCounted scene.entry.text.now scene.entry.limit total below.new.items s.top s.step) }
+    ensures tied { (base : Base) → Reading scene.entry.text.now scene.entry.context scene.entry.limit base → (first : Frame)
+        → AtEnded scene.entry.text.now scene.entry.indentation scene.entry.context base
+        (reverse below.old.items) first node part.old → first.role ≡ Role.Key → Reached first node.deepest top
+        → IfOk result (λ s. StepTied scene.entry.text.now scene.entry.indentation scene.entry.context base
+        (reverse below.new.items) s.top s.step part.new) }
+    ensures counted { (total : ℕ) → AllCounted scene.entry.text.now total node.end below.old.items top
+        → IfOk result (λ s. StepCounted scene.entry.text.now scene.entry.limit total below.new.items s.top s.step) }
     ensures ready { IfOk result (λ s. Ready scene.entry.text.now node.end (length part.new.events) below.new.items s) }
     ensures moves { IfOk result (λ s. left (length scene.entry.text.now) s.step ≤ 2 * (length scene.entry.text.now - node.end) + 1) }
     ensures escapes { IfOk result (λ _. part.new.escapes ≡ part.old.escapes) }
@@ -171,8 +191,13 @@ pub(crate) fn end_entry<'a>(
     requires boundary { IsCharBoundary scene.text.now at }
     requires top { Indexed scene.text.now (length part.old.events) top }
     requires below { All (Indexed scene.text.now (length part.old.events)) below.old.items }
-    ensures tied { (base : Base) → IsUtf8 scene.entry.text.now → AtEntryDone scene.entry.text.now scene.entry.indentation scene.entry.context base (reverse below.old.items) top finish at part.old → IfOk result (λ s. StepTied scene.entry.text.now scene.entry.indentation scene.entry.context base (reverse below.new.items) s.top s.step part.new) }
-    ensures counted { (total : ℕ) → AllCounted scene.entry.text.now total at below.old.items top → IfOk result (λ s. StepCounted scene.entry.text.now scene.entry.limit total below.new.items s.top s.step) }
+    ensures tied { (base : Base) → IsUtf8 scene.entry.text.now
+        → AtEntryDone scene.entry.text.now scene.entry.indentation scene.entry.context base
+        (reverse below.old.items) top finish at part.old → IfOk result
+        (λ s. StepTied scene.entry.text.now scene.entry.indentation scene.entry.context base
+        (reverse below.new.items) s.top s.step part.new) }
+    ensures counted { (total : ℕ) → AllCounted scene.entry.text.now total at below.old.items top
+        → IfOk result (λ s. StepCounted scene.entry.text.now scene.entry.limit total below.new.items s.top s.step) }
     ensures ready { IfOk result (λ s. Ready scene.entry.text.now at (length part.new.events) below.new.items s) }
     ensures moves { IfOk result (λ s. left (length scene.entry.text.now) s.step ≤ 2 * (length scene.entry.text.now - at) + 1) }
     ensures escapes { IfOk result (λ _. part.new.escapes ≡ part.old.escapes) }
@@ -197,8 +222,13 @@ fn end_pair<'a>(
     requires top { Indexed scene.text.now (length part.old.events) top }
     requires below { All (Indexed scene.text.now (length part.old.events)) below.old.items }
     requires pair { top.kind ≡ Kind.Pair }
-    ensures tied { (base : Base) → IsUtf8 scene.entry.text.now → AtEntryDone scene.entry.text.now scene.entry.indentation scene.entry.context base (reverse below.old.items) top finish at part.old → IfOk result (λ s. StepTied scene.entry.text.now scene.entry.indentation scene.entry.context base (reverse below.new.items) s.top s.step part.new) }
-    ensures counted { (total : ℕ) → AllCounted scene.entry.text.now total at below.old.items top → IfOk result (λ s. StepCounted scene.entry.text.now scene.entry.limit total below.new.items s.top s.step) }
+    ensures tied { (base : Base) → IsUtf8 scene.entry.text.now
+        → AtEntryDone scene.entry.text.now scene.entry.indentation scene.entry.context base
+        (reverse below.old.items) top finish at part.old → IfOk result
+        (λ s. StepTied scene.entry.text.now scene.entry.indentation scene.entry.context base
+        (reverse below.new.items) s.top s.step part.new) }
+    ensures counted { (total : ℕ) → AllCounted scene.entry.text.now total at below.old.items top
+        → IfOk result (λ s. StepCounted scene.entry.text.now scene.entry.limit total below.new.items s.top s.step) }
     ensures ready { IfOk result (λ s. Ready scene.entry.text.now at (length part.new.events) below.new.items s) }
     ensures moves { IfOk result (λ s. left (length scene.entry.text.now) s.step ≤ 2 * (length scene.entry.text.now - at) + 1) }
     ensures escapes { IfOk result (λ _. part.new.escapes ≡ part.old.escapes) }
@@ -232,8 +262,12 @@ fn after_entry<'a>(
     requires boundary { IsCharBoundary scene.text.now at }
     requires top { Indexed scene.text.now (length part.old.events) top }
     requires below { All (Indexed scene.text.now (length part.old.events)) below.old.items }
-    ensures tied { (base : Base) → IsUtf8 scene.entry.text.now → AtEntryEnd scene.entry.text.now scene.entry.indentation scene.entry.context base (reverse below.old.items) top at part.old → IfOk result (λ s. StepTied scene.entry.text.now scene.entry.indentation scene.entry.context base (reverse below.new.items) s.top s.step part.new) }
-    ensures counted { (total : ℕ) → AllCounted scene.entry.text.now total at below.old.items top → IfOk result (λ s. StepCounted scene.entry.text.now scene.entry.limit total below.new.items s.top s.step) }
+    ensures tied { (base : Base) → IsUtf8 scene.entry.text.now
+        → AtEntryEnd scene.entry.text.now scene.entry.indentation scene.entry.context base (reverse below.old.items) top at part.old
+        → IfOk result (λ s. StepTied scene.entry.text.now scene.entry.indentation scene.entry.context base
+        (reverse below.new.items) s.top s.step part.new) }
+    ensures counted { (total : ℕ) → AllCounted scene.entry.text.now total at below.old.items top
+        → IfOk result (λ s. StepCounted scene.entry.text.now scene.entry.limit total below.new.items s.top s.step) }
     ensures ready { IfOk result (λ s. Ready scene.entry.text.now at (length part.new.events) below.new.items s) }
     ensures moves { IfOk result (λ s. left (length scene.entry.text.now) s.step ≤ 2 * (length scene.entry.text.now - at) + 1) }
     ensures escapes { IfOk result (λ _. part.new.escapes ≡ part.old.escapes) }
@@ -275,8 +309,12 @@ pub(crate) fn close<'a>(
     requires boundary { IsCharBoundary scene.text.now (at + 1) }
     requires top { top.event < length part.old.events }
     requires below { All (Indexed scene.text.now (length part.old.events)) below.old.items }
-    ensures tied { (base : Base) → AtClosing scene.entry.text.now scene.entry.indentation scene.entry.context base (reverse below.old.items) top at part.old → IfOk result (λ s. StepTied scene.entry.text.now scene.entry.indentation scene.entry.context base (reverse below.new.items) s.top s.step part.new) }
-    ensures counted { (total : ℕ) → AllCounted scene.entry.text.now total at below.old.items top → IfOk result (λ s. StepCounted scene.entry.text.now scene.entry.limit total below.new.items s.top s.step) }
+    ensures tied { (base : Base) → AtClosing scene.entry.text.now scene.entry.indentation scene.entry.context base
+        (reverse below.old.items) top at part.old → IfOk result
+        (λ s. StepTied scene.entry.text.now scene.entry.indentation scene.entry.context base
+        (reverse below.new.items) s.top s.step part.new) }
+    ensures counted { (total : ℕ) → AllCounted scene.entry.text.now total at below.old.items top
+        → IfOk result (λ s. StepCounted scene.entry.text.now scene.entry.limit total below.new.items s.top s.step) }
     ensures ready { IfOk result (λ s. Ready scene.entry.text.now at (length part.new.events) below.new.items s) }
     ensures moves { IfOk result (λ s. left (length scene.entry.text.now) s.step ≤ 2 * (length scene.entry.text.now - at) + 1) }
     ensures escapes { IfOk result (λ _. part.new.escapes ≡ part.old.escapes) }

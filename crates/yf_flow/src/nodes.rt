@@ -135,7 +135,8 @@ fn end_node<'a>(
     requires begun { (m : ℕ) × BegunAt scene.text.now at m (length part.old.events) begun }
     requires escapes { All (IsCharBoundary scene.text.now) part.old.escapes }
     ensures ends { (base : Base) → BegunTied scene.entry.text.now scene.entry.indentation scene.entry.context scene.entry.limit base begun part.old → IfOk result (λ e. EndsAs scene.entry.text.now scene.entry.indentation base begun part.old part.new e) }
-    ensures counted { IsUtf8 scene.entry.text.now → (total : ℕ) → BegunCounted scene.entry.text.now scene.entry.limit total begun → IfOk result (λ e. EndCounted scene.entry.text.now scene.entry.limit total e) }
+    ensures counted { IsUtf8 scene.entry.text.now → (total : ℕ) → BegunCounted scene.entry.text.now scene.entry.limit total begun
+        → IfOk result (λ e. EndCounted scene.entry.text.now scene.entry.limit total e) }
     ensures found { IfOk result (λ e. EndingAt scene.entry.text.now (at + 1) e) }
     ensures escapes { IfOk result (λ _. All (IsCharBoundary scene.entry.text.now) part.new.escapes) }
 {
@@ -180,8 +181,11 @@ fn read_collection<'a>(
     requires boundary { IsCharBoundary scene.text.now frame.entry }
     requires top { Awaiting scene.text.now (length part.old.events) frame }
     requires escapes { All (IsCharBoundary scene.text.now) part.old.escapes }
-    ensures tied { (base : Base) → Reading scene.entry.text.now scene.entry.context scene.entry.limit base → AtEntry scene.entry.text.now scene.entry.indentation scene.entry.context base [] frame frame.entry part.old → IfOk result (λ e. EndTied scene.entry.text.now scene.entry.indentation base e part.new) }
-    ensures counted { (total : ℕ) → AllCounted scene.entry.text.now total frame.entry [] frame → IfOk result (λ e. EndCounted scene.entry.text.now scene.entry.limit total e) }
+    ensures tied { (base : Base) → Reading scene.entry.text.now scene.entry.context scene.entry.limit base
+        → AtEntry scene.entry.text.now scene.entry.indentation scene.entry.context base [] frame frame.entry part.old
+        → IfOk result (λ e. EndTied scene.entry.text.now scene.entry.indentation base e part.new) }
+    ensures counted { (total : ℕ) → AllCounted scene.entry.text.now total frame.entry [] frame
+        → IfOk result (λ e. EndCounted scene.entry.text.now scene.entry.limit total e) }
     ensures found { IfOk result (λ e. EndingAt scene.entry.text.now frame.entry e) }
     ensures escapes { IfOk result (λ _. All (IsCharBoundary scene.entry.text.now) part.new.escapes) }
 {
@@ -212,7 +216,11 @@ fn properties_alone<'a>(
     requires boundary { IsCharBoundary scene.text.now at }
     requires otherwise { OutcomeAt scene.text.now at otherwise }
     ensures place { IfOk result (λ o. OutcomeAt scene.entry.text.now at o) }
-    ensures answers { IsUtf8 scene.entry.text.now → is_block scene.entry.context ≡ false → NodeLost scene.entry.text.now scene.entry.limit scene.entry.indentation scene.entry.context at → (Parses scene.entry.text.now scene.entry.limit (ANode scene.entry.indentation scene.entry.context at) None → NodeAnswers scene.entry.text.now scene.entry.indentation scene.entry.context scene.entry.limit at otherwise.entry) → IfOk result (λ o. NodeAnswers scene.entry.text.now scene.entry.indentation scene.entry.context scene.entry.limit at o) }
+    ensures answers { IsUtf8 scene.entry.text.now → is_block scene.entry.context ≡ false
+        → NodeLost scene.entry.text.now scene.entry.limit scene.entry.indentation scene.entry.context at
+        → (Parses scene.entry.text.now scene.entry.limit (ANode scene.entry.indentation scene.entry.context at) None
+        → NodeAnswers scene.entry.text.now scene.entry.indentation scene.entry.context scene.entry.limit at otherwise.entry)
+        → IfOk result (λ o. NodeAnswers scene.entry.text.now scene.entry.indentation scene.entry.context scene.entry.limit at o) }
 {
     match read_properties(alloc, scene, at)? {
         None => Ok(otherwise),
