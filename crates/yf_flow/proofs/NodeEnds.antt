@@ -1,5 +1,5 @@
 -- How a node that was begun ends, and what it is where its content is not derived: its properties alone, or nothing.
-use Rattle.std.proofs.Common.{◌≡◌, ℕ, ℤ, Bool, true, false, List, [], ◌∷◌, ◌++◌, None, refl, sym, ap, ◌∙◌, subst, append-nil}
+use Rattle.std.proofs.Common.{◌≡◌, ℕ, ℤ, true, false, List, [], ◌∷◌, ◌++◌, None, refl, sym, ap, ◌∙◌, subst, append-nil}
 use Rattle.std.specs.Str.{IsUtf8}
 use Rattle.yf_chars.specs.declared.context.Ctx.{Ctx}
 use Rattle.yf_chars.specs.declared.context.Ctx.TheVariants.{FlowIn}
@@ -15,9 +15,9 @@ use Rattle.yf_events.specs.declared.event.ScalarStyle.TheVariants.{Plain}
 use Rattle.yf_events.specs.declared.part.Part.{Part}
 use Rattle.yf_grammar.specs.Grammar.Derives.{properties_alone}
 use Rattle.yf_grammar.specs.Meaning.{Meaning, ◌⊕◌, plain_event, from_to, behind, with_props, empty_node}
-use Rattle.yf_grammar.specs.Parser.{Found, ANode, AContent, Parses, found, lone_properties, only}
+use Rattle.yf_grammar.specs.Parser.{ANode, Parses, lone_properties, only}
 use Rattle.yf_grammar.specs.Parser.Parses.{content_read, properties_before_broken}
-use Rattle.yf_grammar.specs.Awaits.{NodeOver, bare_there, properties_there}
+use Rattle.yf_grammar.specs.Awaits.{bare_there, properties_there}
 use Rattle.yf_grammar.proofs.AwaitEntries.{read_as, found_is}
 use Rattle.yf_grammar.proofs.NodeExact.{lone_is}
 use Rattle.yf_grammar.proofs.ClearLemmas.{clear_properties}
@@ -25,7 +25,6 @@ use Rattle.yf_grammar.proofs.NodeExits.{content_no_properties}
 use Rattle.yf_grammar.proofs.PropertiesEnds.{properties_begin}
 use Rattle.yf_grammar.proofs.Ways.{chosen_one}
 use Rattle.yf_grammar.proofs.YamlNodes.{yaml_node_is_not_missed}
-use Rattle.yf_flow.specs.declared.frame.Frame.{Frame}
 use Rattle.yf_flow.specs.declared.frame.Node.{Node}
 use Rattle.yf_flow.specs.declared.nodes.Ending.{Ending}
 use Rattle.yf_flow.specs.declared.nodes.Ending.TheVariants.{End, Nothing as NoEnd, TooDeep as TooDeepThere}

@@ -1,10 +1,10 @@
 -- What the public readers give, from the node that was read within the limit.
 use Rattle.std.proofs.Common.{◌≡◌, ℕ, ◌<◌, ℤ, pos, Bool, false, List, [], ◌∷◌, Option, Some, None, Result, Ok, Err, refl, sym, subst}
-use Rattle.std.specs.Str.{IsUtf8, IsCharBoundary}
+use Rattle.std.specs.Str.{IsUtf8}
 use Rattle.yf_chars.specs.declared.context.Ctx.{Ctx}
 use Rattle.yf_chars.specs.Chain.{Stuck, Chosen}
 use Rattle.yf_lines.specs.Basic.{is_block}
-use Rattle.yf_lines.specs.FaultPlaces.{InText, IsPlaceOf, IsFirstPlace}
+use Rattle.yf_lines.specs.FaultPlaces.{InText, IsFirstPlace}
 use Rattle.yf_lines.specs.declared.fault.Fault.{Fault}
 use Rattle.yf_lines.specs.declared.fault.Fault.TheVariants.{TooDeep, EscapeValue}
 use Rattle.yf_lines.specs.declared.place.Place.{Place}
@@ -19,7 +19,7 @@ use Rattle.yf_grammar.specs.Refusal.{ScanFault, for_memory, for_depth, NodeFault
 use Rattle.yf_grammar.proofs.Parts.{found_is_chosen, none_is_stuck}
 use Rattle.yf_flow.specs.NodeAnswers.{NodeFound}
 use Rattle.yf_flow.specs.Counted.{openers_from}
-use Rattle.yf_flow.specs.NodeReaders.{NodeChosen, NodeScanned, ReadsNode, ScansNode, ReadsFlowNode, ScansFlowNode, ReadsKey, ScansKey}
+use Rattle.yf_flow.specs.NodeReaders.{NodeScanned, ReadsNode, ScansNode, ReadsFlowNode, ScansFlowNode, ReadsKey, ScansKey}
 use Rattle.yf_flow.specs.declared.flow.NodePart.{NodePart}
 use Rattle.yf_flow.specs.declared.flow.ScannedPart.{ScannedPart}
 use Rattle.yf_flow.proofs.NotedLemmas.{noted_noting}
