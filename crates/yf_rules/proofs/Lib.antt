@@ -20,6 +20,9 @@ pub mod StandTreeLemmas
 pub mod StandSetLemmas
 pub mod EntryLemmas
 pub mod PassLemmas
+pub mod NodePlaceLemmas
+pub mod FaultLemmas
+pub mod MisindentLemmas
 pub mod StyleLemmas
 pub mod NodeLemmas
 pub mod FlowLemmas
