@@ -42,7 +42,7 @@ content_same ls text behind f n g m a b =
     (same, a.spaces ∙ ap (λ (l : Line). l.indent - head_count 32 (drop (head_count 10 text) text)) line ∙ sym b.spaces)
 
 -- two numbers of lines begun at one offset are one, if there is a line after the second
-same_behind : (ls : List Line) (offset j k m : ℕ) (l : Line) → Begun ls offset j → Begun ls offset k → slice_get ls m ≡ Some l → k ≤ m → j ≡ k
+pub same_behind : (ls : List Line) (offset j k m : ℕ) (l : Line) → Begun ls offset j → Begun ls offset k → slice_get ls m ≡ Some l → k ≤ m → j ≡ k
 same_behind ls offset j k m l a b e h =
     ⊎_elim (λ (x : j < k). absurd (begun_same ls offset j k l m a b e (omega (arith, x, h)) x))
     (λ (x : k ≤ j). ⊎_elim (λ (y : k < j). absurd (begun_same ls offset k j l m b a e h y)) (λ (y : j ≤ k). omega (arith, x, y)) (cases_lt k j))

@@ -103,7 +103,7 @@ module _ (t : List ℕ) (es : List Placed) (i : ℕ) (os new all : List ℕ) (l 
 
 -- entries without `?`
 
-mark_test : (t : List ℕ) (o : ℕ) (b : Bool) → MatchBool b (HasQuestionMark t o) (HasQuestionMark t o → ⊥) → ((code t o == 63) && is_white_or_end (code t (o + 1))) ≡ b
+pub mark_test : (t : List ℕ) (o : ℕ) (b : Bool) → MatchBool b (HasQuestionMark t o) (HasQuestionMark t o → ⊥) → ((code t o == 63) && is_white_or_end (code t (o + 1))) ≡ b
 mark_test t o true h = both (code t o) (is_white_or_end (code t (o + 1))) h.sign h.white where
   both : (c : ℕ) (w : Bool) → c ≡ 63 → w ≡ true → ((c == 63) && w) ≡ true
   both c w e f = grind (arith, nat_tests)

@@ -44,3 +44,6 @@ pub mod EntryLemmas
 pub mod PassLemmas
 pub mod StandSetLemmas
 pub mod StandTreeLemmas
+pub mod NodePlaceLemmas
+pub mod FaultLemmas
+pub mod MisindentLemmas

@@ -1,5 +1,5 @@
--- Where the entries of block collections and the content of block scalars are to stand, in the trees of a reading. The code of the rule
--- indentation is held to its set by tests alone. An index counts events from 0.
+-- Where the entries of block collections and the content of block scalars are to stand, in the trees of a reading. An index counts events
+-- from 0.
 use Rattle.std.specs.Prelude.{◌≡◌, ◌≢◌, ℕ, ◌+◌, true, false, List, Option, Some, None}
 use Rattle.std.specs.List.{Contains}
 use Rattle.std.specs.Str.{IsCharBoundary}

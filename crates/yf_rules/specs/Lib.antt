@@ -18,6 +18,7 @@ pub mod Stands
 pub mod Standings
 pub mod Entries
 pub mod Passing
+pub mod IndentFaults
 pub mod Columns
 pub mod Indents
 pub mod MarkedKeys

@@ -13,6 +13,7 @@ use Rattle.yf_rules.specs.BlankLines.{MisplacedBlank}
 use Rattle.yf_rules.specs.ByLine.{BeyondLimit, TrailingBlank}
 use Rattle.yf_rules.specs.Documents.{NoMarkerLine}
 use Rattle.yf_rules.specs.Exact.{Exactly}
+use Rattle.yf_rules.specs.Indents.{Misindented}
 use Rattle.yf_rules.specs.Layouts.{Displaced, NeedlessMark}
 use Rattle.yf_rules.specs.Nodes.{RepeatedKey}
 use Rattle.yf_rules.specs.Scalars.{LooseMark}
@@ -36,16 +37,12 @@ first_return t (l ∷ ls) = if code t l.end == 13 then l.end ∷ [] else first_r
 abbrev pub line_breaks_at : Table → Lists → Style → List ℕ → Type 0
 line_breaks_at src reading style offsets = offsets ≡ first_return src.text src.lines
 
--- of indentation no set is told here: that its places lie in the text is all that its contract says. Its set (`Misindented`) is defined,
--- and the rule held to it by tests alone
-abbrev pub AnyOffsets : List ℕ → Type 0
-AnyOffsets offsets = Unit {0}
-
 abbrev pub trailing_blanks_at : Table → Lists → Style → List ℕ → Type 0
 trailing_blanks_at src reading style offsets = Exactly (TrailingBlank src reading) offsets
 
+-- of a reading with trees, which it has exactly where it is well placed
 abbrev pub indentation_at : Table → Lists → Style → List ℕ → Type 0
-indentation_at src reading style offsets = AnyOffsets offsets
+indentation_at src reading style offsets = (trees : List DocumentTree) → TreesOf reading trees → Exactly (Misindented src style trees) offsets
 
 abbrev pub quoting_at : Table → Lists → Style → List ℕ → Type 0
 quoting_at src reading style offsets = Exactly (Misquoted src.text reading style) offsets
@@ -70,7 +67,7 @@ comment_space_at src reading style offsets = Exactly (CloseComment src.text read
 abbrev pub line_length_at : Table → Lists → Style → List ℕ → Type 0
 line_length_at src reading style offsets = Exactly (BeyondLimit src style.max_line) offsets
 
--- of a reading with trees, which it has exactly where it is well placed
+-- of a reading with trees too
 abbrev pub repeated_keys_at : Table → Lists → Style → List ℕ → Type 0
 repeated_keys_at src reading style offsets = (trees : List DocumentTree) → TreesOf reading trees → Exactly (RepeatedKey reading trees) offsets
 

@@ -12,8 +12,8 @@ use yf_lines::fault::Fault;
 use yf_lines::place::Place;
 use yf_lines::source_text::Src;
 
-/// A rule of style. The places that it finds are those that `faults` says, of the text, its reading and the style; of the
-/// rules with `AnyOffsets` in `specs/Sets.antt` it says nothing of them yet.
+/// A rule of style. The places that it finds are those that `faults` says, of the text, its reading and the style: its set in
+/// `specs/Sets.antt`.
 pub trait Rule: Drop {
     ghost use Rattle.std.specs.Prelude.{ℕ, Bool, List};
     ghost use Rattle.yf_lines.specs.Lines.{Table};

@@ -1,5 +1,7 @@
 //! The lines of each scalar after the one on which it begins.
 ghost use Rattle.std.specs.Prelude.{◌<◌, ◌≤◌, length};
+ghost use Rattle.yf_rules.specs.Exact.{Answers};
+ghost use Rattle.yf_rules.specs.IndentFaults.{ContentAt, IsIndent, content_in};
 
 use crate::facts::begun::lines_begun;
 use crate::facts::content_lines::{content_of, is_block_style};
@@ -23,14 +25,15 @@ pub struct Body {
 /// The number of spaces before the content of a scalar with this text, if it is a block scalar that has any.
 fn content_indent(src: &Src, style: ScalarStyle, text: &str, behind: usize) -> Option<usize>
     requires { behind ≤ length src.now.lines }
+    ensures { IsIndent src.now.lines style text.now behind result }
 {
-    if is_block_style(style) {
-        return match content_of(src, text, behind) {
-            Some(content) => Some(content.indent),
-            None => None,
-        };
+    if !is_block_style(style) {
+        return None;
     }
-    None
+    match content_of(src, text, behind) {
+        Some(content) => Some(content.indent),
+        None => None,
+    }
 }
 
 /// The body of the scalar that the event at an index is; `None` of any other event and of an empty scalar. It is looked for from
@@ -38,6 +41,7 @@ fn content_indent(src: &Src, style: ScalarStyle, text: &str, behind: usize) -> O
 /// next one.
 pub fn body_at(src: &Src, reading: &Reading, i: usize, line: usize) -> Option<Body>
     requires { i < length reading.now.events }
+    ensures { Answers (ContentAt src.now reading.now i) (content_in result) }
 {
     match reading.event(i) {
         Event::Scalar { props, style, text } => match reading.span(i) {

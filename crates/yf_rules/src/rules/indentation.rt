@@ -1,5 +1,9 @@
 //! Rule 2, indentation.
-ghost use Rattle.std.specs.Prelude.{◌≡◌, ◌+◌, ◌<◌, ◌&&◌, Some, length};
+ghost use Rattle.std.specs.Prelude.{◌≡◌, ◌+◌, ◌<◌, ◌&&◌, Some, length, slice_get, IfOk};
+ghost use Rattle.yf_events.specs.Event.{EventValue};
+ghost use Rattle.yf_events.specs.Reading.{events_of};
+ghost use Rattle.yf_rules.specs.IndentFaults.{content_fault, content_in, entry_fault, fault_of};
+ghost use Rattle.yf_rules.specs.Sets.{indentation_at};
 ghost use Rattle.yf_rules.specs.Stands.{is_other, wanted_column, wanted_indent};
 
 use crate::facts::bodies::{Body, body_at};
@@ -86,7 +90,9 @@ fn is_misplaced(stand: Stand, column: usize, is_sequence: bool, style: &Style) -
 }
 
 /// The first entry of the block collection, if it stands at another column than it is to.
-fn misplaced_entry(stand: Stand, is_sequence: bool, style: &Style) -> Option<usize> {
+fn misplaced_entry(stand: Stand, is_sequence: bool, style: &Style) -> Option<usize>
+    ensures { result ≡ entry_fault stand.first stand.column (wanted_column style.now (is_sequence && stand.is_implicit_value) stand.outer) }
+{
     match stand.column {
         Some(column) => {
             if is_misplaced(stand, column, is_sequence, style) {
@@ -110,7 +116,9 @@ fn is_misindented(stand: Stand, indent: usize, style: &Style) -> bool
 }
 
 /// The header of the block scalar, if its content is not indented as it is to be.
-fn misplaced_content(stand: Stand, body: Body, style: &Style) -> Option<usize> {
+fn misplaced_content(stand: Stand, body: Body, style: &Style) -> Option<usize>
+    ensures { result ≡ content_fault (content_in (Some body)) (wanted_indent style.now stand.outer) }
+{
     match body.indent {
         Some(indent) => {
             if is_misindented(stand, indent, style) {
@@ -122,6 +130,7 @@ fn misplaced_content(stand: Stand, body: Body, style: &Style) -> Option<usize> {
     }
 }
 
+/// What is found of the event at an index, if it begins a node at fault: its body is that of a scalar.
 fn misplaced(
     reading: &Reading,
     stand: Stand,
@@ -130,6 +139,7 @@ fn misplaced(
     style: &Style,
 ) -> Option<usize>
     requires { i < length reading.now.events }
+    ensures { (e : EventValue) → slice_get (events_of reading.now) i ≡ Some e → result ≡ fault_of style.now e stand (content_in body) }
 {
     match reading.event(i) {
         Event::SeqStart { .. } => misplaced_entry(stand, true, style),
@@ -147,7 +157,9 @@ fn offsets(
     src: &Src,
     reading: &Reading,
     style: &Style,
-) -> Result<Vec<usize>, AllocError> {
+) -> Result<Vec<usize>, AllocError>
+    ensures { IfOk result (λ offsets. indentation_at src.now reading.now style.now offsets.items) }
+{
     let mut pass = Pass::new(alloc, src, reading)?;
     let mut offsets = Vec::new(alloc);
     let mut line = 0;

@@ -1,0 +1,183 @@
+-- Laws of what the rule indentation finds event by event.
+use Rattle.std.proofs.Common.{◌≡◌, ℕ, suc, ◌+◌, ◌<◌, ◌≤◌, ◌⊎◌, Bool, true, false, List, [], ◌∷◌, ◌++◌, Option, Some, None, append_assoc, drop, get_or, length, map, reverse, unwrap_or, refl, sym, subst, ap, ◌∙◌, ⊎_elim, arith, true≢false, add-one}
+use Rattle.std.specs.List.{Contains}
+use Rattle.std.specs.Option.{option_to_list}
+use Rattle.std.specs.Prelude.{slice_get}
+use Rattle.std.proofs.lemmas.List.{append-nil, drop_all}
+use Rattle.std.proofs.lemmas.List.Elements.{Contains-append_left, Contains-push, Contains-push_cases}
+use Rattle.std.proofs.lemmas.Option.{get_or_from_slice_get, slice_get_within}
+use Rattle.std.proofs.Math.Seq.{drop-cons}
+use Rattle.yf_emit.specs.ContentStart.{content_start}
+use Rattle.yf_emit.specs.declared.style.Style.{Style}
+use Rattle.yf_events.specs.Event.{EventValue, Placed, stream_starts, stream_ends, document_starts, document_ends, sequence_starts, sequence_ends, mapping_starts, mapping_ends, scalar_node, alias_node}
+use Rattle.yf_events.specs.Reading.{events_of, spans_of}
+use Rattle.yf_events.specs.declared.event.ScalarStyle.{ScalarStyle}
+use Rattle.yf_events.specs.declared.event.Span.{Span}
+use Rattle.yf_events.specs.declared.lists.Lists.{Lists}
+use Rattle.yf_lines.specs.Lines.{Begun, Table}
+use Rattle.yf_props.specs.Props.{PropsValue}
+use Rattle.yf_rules.specs.Entries.{column_at, entries_from, unmarked_at}
+use Rattle.yf_rules.specs.Exact.{Answers, Sole}
+use Rattle.yf_rules.specs.IndentFaults.{AtFault, ContentAt, FoundBy, IsIndent, Reached, at_fault, content_at, fault_of, if_content, no_block, no_line, of_line, standing_at}
+use Rattle.yf_rules.specs.Passing.{IsPass, Passes, stand_of}
+use Rattle.yf_rules.specs.Scalars.{BlockContent, IsScalar, is_block_style}
+use Rattle.yf_rules.specs.Standings.{Stood, begun, beside, next, outer, run, stood}
+use Rattle.yf_rules.specs.declared.stands.Level.{Level}
+use Rattle.yf_rules.specs.declared.stands.Pass.{Pass}
+use Rattle.yf_rules.specs.declared.stands.Stand.{Stand}
+use Rattle.yf_rules.proofs.BlockLemmas.{content_same, event_same, part_same, same_behind, scalar_same, style_same}
+use Rattle.yf_rules.proofs.KeySetLemmas.{nothing_in}
+
+-- what is told of the content of one scalar
+
+pub content_sole : {src : Table} {r : Lists} {i : ℕ} {x y : ℕ × ℕ} → ContentAt src r i x → ContentAt src r i y → x ≡ y
+content_sole {src} (content_at {props} {style} {text} {s} b f n h y g c) (content_at {props = p} {style = v} {text = x} {s = z} b' f' n' h' y' g' c') =
+    let q = scalar_same h' h in
+    let o : content_start src.text z p ≡ content_start src.text s props = ap (λ w. content_start src.text w p) q.span ∙ ap (content_start src.text s) q.props in
+    let k = subst (λ w. BlockContent src.lines w b' f' n') q.text c' in
+    let e : b ≡ b' = same_behind src.lines (content_start src.text s props) b b' f' c'.line g (subst (λ w. Begun src.lines w b') o g') c'.at (let a = c'.empty in omega (arith, a)) in
+    let w = content_same src.lines text b' f n f' n' (subst (λ m. BlockContent src.lines text m f n) e c) k in
+    ap (λ m. (content_start src.text s props, m)) w.1 ∙ ap (λ m. (m, n')) (sym o)
+
+module _ (src : Table) (r : Lists) (i : ℕ) where
+  pub no_scalar : (e : EventValue) → slice_get (events_of r) i ≡ Some e
+      → ((props : PropsValue) (style : ScalarStyle) (text : List ℕ) → e ≡ scalar_node props style text → ⊥) → (x : ℕ × ℕ) → ContentAt src r i x → ⊥
+  no_scalar e q n x (content_at {props} {style} {text} b f m h y g c) = n props style text (event_same (sym q ∙ h.event))
+
+  pub no_characters : slice_get (spans_of r) i ≡ Some None → (x : ℕ × ℕ) → ContentAt src r i x → ⊥
+  no_characters e x (content_at b f m h y g c) = nothing (part_same (sym h.part ∙ e)) where
+    nothing : {s : Span} → Some s ≡ None → ⊥
+    nothing e = cc
+
+  module _ (props : PropsValue) (style : ScalarStyle) (text : List ℕ) (s : Span) (is : IsScalar r i props style text s) where
+    pub no_block_scalar : is_block_style style ≡ false → (x : ℕ × ℕ) → ContentAt src r i x → ⊥
+    no_block_scalar e x (content_at b f m h y g c) = true≢false (sym y ∙ ap is_block_style (scalar_same h is).style ∙ e)
+
+    module _ (behind : ℕ) (b : Begun src.lines (content_start src.text s props) behind) where
+      pub no_content_line : ((first indent : ℕ) → BlockContent src.lines text behind first indent → ⊥) → (x : ℕ × ℕ) → ContentAt src r i x → ⊥
+      no_content_line f x (content_at {props = p} {s = z} b' f' n' h' y' g' c') =
+          let q = scalar_same h' is in
+          let o : content_start src.text z p ≡ content_start src.text s props = ap (λ w. content_start src.text w p) q.span ∙ ap (content_start src.text s) q.props in
+          let k = subst (λ w. BlockContent src.lines w b' f' n') q.text c' in
+          let e : behind ≡ b' = same_behind src.lines (content_start src.text s props) behind b' f' c'.line b (subst (λ w. Begun src.lines w b') o g') c'.at (let a = c'.empty in omega (arith, a)) in
+          f f' n' (subst (λ m. BlockContent src.lines text m f' n') (sym e) k)
+
+      pub content_answers : (start : ℕ) (indent : Option ℕ) → start ≡ content_start src.text s props → IsIndent src.lines style text behind indent
+          → Answers (ContentAt src r i) (if_content start indent)
+      content_answers start indent e (no_block h) = no_block_scalar h
+      content_answers start indent e (no_line h) = no_content_line h
+      content_answers start indent e (of_line {first} {indent = n} h c) =
+          subst (λ m. Answers (ContentAt src r i) (Some (m, n))) (sym e) (let k = content_at behind first n is h b c in record { holds = k; only = λ x w. content_sole w k })
+
+-- answers
+
+answers_same : {A : Type 0} (P : A → Type 0) (a b : Option A) → Answers P a → Answers P b → a ≡ b
+answers_same P None None h k = refl
+answers_same P None (Some y) h k = absurd (h y k.holds)
+answers_same P (Some x) None h k = absurd (k x h.holds)
+answers_same P (Some x) (Some y) h k = ap (λ z. Some z) (k.only x h.holds)
+
+some_same : {X : Type 0} {a b : X} → Some a ≡ Some b → a ≡ b
+some_same e = cc
+
+none_some : {X : Type 0} {a : X} → None ≡ Some a → ⊥
+none_some e = cc
+
+module _ (src : Table) (r : Lists) (house : Style) (columns : List ℕ) (s : Stood) (e : EventValue) (q : slice_get (events_of r) s.at ≡ Some e) where
+  its_fault : {o : ℕ} (content : Option (ℕ × ℕ)) → Answers (ContentAt src r s.at) content → AtFault src r house columns s o
+      → fault_of house e (standing_at src.text r columns s) content ≡ Some o
+  its_fault content a (at_fault {e = d} c p b f) =
+      ap (λ v. fault_of house v (standing_at src.text r columns s) content) (event_same (sym q ∙ p))
+      ∙ ap (λ v. fault_of house d (standing_at src.text r columns s) v) (answers_same (ContentAt src r s.at) content c a b) ∙ f
+
+  pub fault_answers : (content : Option (ℕ × ℕ)) (answer : Option ℕ) → Answers (ContentAt src r s.at) content
+      → answer ≡ fault_of house e (standing_at src.text r columns s) content → Answers (AtFault src r house columns s) answer
+  fault_answers content None a f = λ o h. none_some (f ∙ its_fault content a h)
+  fault_answers content (Some o) a f = record { holds = at_fault content q a (sym f); only = λ p h. some_same (sym (its_fault content a h) ∙ sym f) }
+
+-- one more node, and none
+
+module _ (P : Stood → ℕ → Type 0) (nodes : List Stood) (os new : List ℕ) (f : FoundBy P nodes os) where
+  pub node_found : (s : Stood) (answer : Option ℕ) → Answers (P s) answer → new ≡ os ++ option_to_list answer → FoundBy P (nodes ++ s ∷ []) new
+  node_found s None a e = subst (FoundBy P (nodes ++ s ∷ [])) (sym (e ∙ append-nil os)) (record {
+    only = λ o c. let w = f.only o c in (w.0, Contains-append_left nodes (s ∷ []) w.0 w.1, w.2);
+    all = λ x o c p. ⊎_elim (λ (h : Contains nodes x). f.all x o h p) (λ (h : s ≡ x). absurd (a o (subst (λ y. P y o) (sym h) p))) (Contains-push_cases nodes s x c);
+  })
+  node_found s (Some y) a e = subst (FoundBy P (nodes ++ s ∷ [])) (sym e) (record {
+    only = λ o c. ⊎_elim (λ (h : Contains os o). let w = f.only o h in (w.0, Contains-append_left nodes (s ∷ []) w.0 w.1, w.2))
+        (λ (h : y ≡ o). (s, Contains-push nodes s, subst (P s) h a.holds))
+        (Contains-push_cases os y o c);
+    all = λ x o c p. ⊎_elim (λ (h : Contains nodes x). Contains-append_left os (y ∷ []) o (f.all x o h p))
+        (λ (h : s ≡ x). subst (Contains (os ++ y ∷ [])) (sym (a.only o (subst (λ z. P z o) (sym h) p))) (Contains-push os y))
+        (Contains-push_cases nodes s x c);
+  })
+
+  pub no_node : (answer : Option ℕ) → answer ≡ None → new ≡ os ++ option_to_list answer → FoundBy P (nodes ++ []) new
+  no_node answer n e = subst (λ w. FoundBy P w new) (sym (append-nil nodes)) (subst (FoundBy P nodes) (sym (e ∙ ap (λ a. os ++ option_to_list a) n ∙ append-nil os)) f)
+
+pub none_found_yet : (P : Stood → ℕ → Type 0) (os : List ℕ) → os ≡ [] → FoundBy P [] os
+none_found_yet P os e = record { only = λ o c. absurd (nothing_in o (subst (λ w. Contains w o) e c)); all = λ s o c p. absurd (nothing_in s c) }
+
+-- what is found of one event
+module _ (src : Table) (r : Lists) (house : Style) (columns : List ℕ) (i : ℕ) (st : List Level) (content : Option (ℕ × ℕ)) (a : Answers (ContentAt src r i) content)
+    (nodes : List Stood) (os new : List ℕ) (f : FoundBy (AtFault src r house columns) nodes os) (answer : Option ℕ) (n : new ≡ os ++ option_to_list answer) where
+  pub event_found : (e : EventValue) → slice_get (events_of r) i ≡ Some e
+      → answer ≡ fault_of house e (stand_of e st (column_at src.text r.events columns i) (unwrap_or (entries_from src.text (drop i r.events)) 0)) content
+      → FoundBy (AtFault src r house columns) (nodes ++ begun e i st) new
+  event_found stream_starts q h = no_node (AtFault src r house columns) nodes os new f answer h n
+  event_found stream_ends q h = no_node (AtFault src r house columns) nodes os new f answer h n
+  event_found (document_starts marked) q h = no_node (AtFault src r house columns) nodes os new f answer h n
+  event_found (document_ends closed) q h = no_node (AtFault src r house columns) nodes os new f answer h n
+  event_found (sequence_starts flow props) q h = node_found (AtFault src r house columns) nodes os new f (stood i (outer st) (beside st)) answer
+      (fault_answers src r house columns (stood i (outer st) (beside st)) (sequence_starts flow props) q content answer a h) n
+  event_found sequence_ends q h = no_node (AtFault src r house columns) nodes os new f answer h n
+  event_found (mapping_starts flow props) q h = node_found (AtFault src r house columns) nodes os new f (stood i (outer st) (beside st)) answer
+      (fault_answers src r house columns (stood i (outer st) (beside st)) (mapping_starts flow props) q content answer a h) n
+  event_found mapping_ends q h = no_node (AtFault src r house columns) nodes os new f answer h n
+  event_found (scalar_node props style text) q h = node_found (AtFault src r house columns) nodes os new f (stood i (outer st) (beside st)) answer
+      (fault_answers src r house columns (stood i (outer st) (beside st)) (scalar_node props style text) q content answer a h) n
+  event_found (alias_node name) q h = node_found (AtFault src r house columns) nodes os new f (stood i (outer st) (beside st)) answer
+      (fault_answers src r house columns (stood i (outer st) (beside st)) (alias_node name) q content answer a h) n
+
+-- one event more
+
+pub first_reached : (src : Table) (r : Lists) (house : Style) (columns : List ℕ) (begun : ℕ) (st : List Level) (os : List ℕ) → IsPass src.text r.events columns begun 0 → st ≡ [] → os ≡ []
+    → Reached src r house columns begun 0 st os
+first_reached src r house columns begun st os p e q = record {
+  nodes = [];
+  pass = p;
+  left = ap (λ st. run (column_at src.text r.events columns) (unmarked_at src.text r.events) 0 st r.events) e;
+  found = none_found_yet (AtFault src r house columns) os q;
+}
+
+pub one_reached : (src : Table) (r : Lists) (house : Style) (i : ℕ) (old after : Pass) (stand : Stand) (os new : List ℕ) (content : Option (ℕ × ℕ)) (answer : Option ℕ) (x : Placed)
+    → slice_get r.events i ≡ Some x → slice_get (events_of r) i ≡ Some x.event
+    → Reached src r house old.columns.items old.begun i (reverse old.stack.items) os → Passes src.text r.events i x.event old after stand
+    → Answers (ContentAt src r i) content → answer ≡ fault_of house x.event stand content → new ≡ os ++ option_to_list answer
+    → Reached src r house after.columns.items after.begun (i + 1) (reverse after.stack.items) new
+one_reached src r house i old after stand os new content answer x at q m p a f n =
+    let es = r.events in
+    let cs = old.columns.items in
+    let g = p m.pass in
+    let c = column_at src.text es cs in
+    let u = unmarked_at src.text es in
+    let st = reverse old.stack.items in
+    let d : drop i es ≡ x ∷ drop (i + 1) es =
+    subst (λ k. drop i es ≡ get_or es i x ∷ drop k es) (sym (add-one i)) (drop-cons es i x (slice_get_within es i x at)) ∙ ap (λ m. m ∷ drop (i + 1) es) (get_or_from_slice_get es i x x at) in
+    let rest = run c u (i + 1) (next x.event (c i) (u i) st) (drop (i + 1) es) in
+    let left : (m.nodes ++ begun x.event i st) ++ rest ≡ run c u 0 [] es =
+    append_assoc m.nodes (begun x.event i st) rest ∙ ap (λ w. m.nodes ++ run c u i st w) (sym d) ∙ m.left in
+    let found = event_found src r house cs i st content a m.nodes os new m.found answer n x.event q (f ∙ ap (λ s. fault_of house x.event s content) g.tells) in
+    subst (λ cs. Reached src r house cs after.begun (i + 1) (reverse after.stack.items) new) (sym g.kept)
+    (subst (λ st. Reached src r house cs after.begun (i + 1) st new) (sym g.stack) (record {
+      nodes = m.nodes ++ begun x.event i st;
+      pass = subst (λ cs. IsPass src.text es cs after.begun (i + 1)) g.kept g.later;
+      left = left;
+      found = found;
+    }))
+
+-- after the last event
+pub all_reached : (src : Table) (r : Lists) (house : Style) (columns : List ℕ) (begun i : ℕ) (st : List Level) (os : List ℕ) → length r.events ≤ i
+    → (m : Reached src r house columns begun i st os) → m.nodes ≡ run (column_at src.text r.events columns) (unmarked_at src.text r.events) 0 [] r.events
+all_reached src r house columns begun i st os l m =
+    sym (append-nil m.nodes) ∙ ap (λ w. m.nodes ++ run (column_at src.text r.events columns) (unmarked_at src.text r.events) i st w) (sym (drop_all i r.events l)) ∙ m.left

@@ -1,0 +1,83 @@
+-- What the rule indentation finds event by event. An index counts events from 0.
+use Rattle.std.specs.Prelude.{◌≡◌, ℕ, ◌++◌, ◌&&◌, if◌then◌else◌, Bool, true, false, List, [], drop, slice_get, Option, Some, None}
+use Rattle.std.specs.List.{Contains}
+use Rattle.std.specs.Option.{unwrap_or}
+use Rattle.yf_emit.specs.ContentStart.{content_start}
+use Rattle.yf_emit.specs.declared.style.Style.{Style}
+use Rattle.yf_events.specs.Event.{EventValue, sequence_starts, mapping_starts, scalar_node}
+use Rattle.yf_events.specs.Reading.{events_of}
+use Rattle.yf_events.specs.declared.event.ScalarStyle.{ScalarStyle}
+use Rattle.yf_events.specs.declared.event.Span.{Span}
+use Rattle.yf_events.specs.declared.lists.Lists.{Lists}
+use Rattle.yf_lines.specs.Lines.{Begun, Table}
+use Rattle.yf_lines.specs.declared.line.Line.{Line}
+use Rattle.yf_props.specs.Props.{PropsValue}
+use Rattle.yf_rules.specs.Entries.{column_at, entries_from, unmarked_at}
+use Rattle.yf_rules.specs.Exact.{Answers}
+use Rattle.yf_rules.specs.Passing.{IsPass}
+use Rattle.yf_rules.specs.Scalars.{BlockContent, IsScalar, is_block_style}
+use Rattle.yf_rules.specs.Standings.{Stood, run}
+use Rattle.yf_rules.specs.Stands.{is_other, wanted_column, wanted_indent}
+use Rattle.yf_rules.specs.declared.bodies.Body.{Body}
+use Rattle.yf_rules.specs.declared.stands.Around.{Around}
+use Rattle.yf_rules.specs.declared.stands.Level.{Level}
+use Rattle.yf_rules.specs.declared.stands.Stand.{Stand}
+
+-- the event of index i is a block scalar with a content line: where its header begins, and by how many spaces its content is indented
+pub data ContentAt (src : Table) (r : Lists) (i : ℕ) : ℕ × ℕ → Type 0 where
+  content_at : {props : PropsValue} {style : ScalarStyle} {text : List ℕ} {s : Span} (behind first indent : ℕ) → IsScalar r i props style text s → is_block_style style ≡ true
+      → Begun src.lines (content_start src.text s props) behind → BlockContent src.lines text behind first indent
+      → ContentAt src r i (content_start src.text s props, indent)
+
+-- the indentation of the content of a scalar with this style and text, if it is a block scalar that has any
+pub data IsIndent (ls : List Line) (style : ScalarStyle) (text : List ℕ) (behind : ℕ) : Option ℕ → Type 0 where
+  no_block : is_block_style style ≡ false → IsIndent ls style text behind None
+  no_line : ((first indent : ℕ) → BlockContent ls text behind first indent → ⊥) → IsIndent ls style text behind None
+  of_line : {first indent : ℕ} → is_block_style style ≡ true → BlockContent ls text behind first indent → IsIndent ls style text behind (Some indent)
+
+-- the same as the code has it
+abbrev pub if_content : ℕ → Option ℕ → Option (ℕ × ℕ)
+if_content start None = None
+if_content start (Some indent) = Some (start, indent)
+
+abbrev pub content_in : Option Body → Option (ℕ × ℕ)
+content_in None = None
+content_in (Some body) = if_content body.start body.indent
+
+-- where entries are that stand at another column, and the header of content that is indented otherwise
+abbrev pub entry_fault : ℕ → Option ℕ → Option ℕ → Option ℕ
+entry_fault offset None wanted = None
+entry_fault offset (Some column) wanted = if is_other column wanted then Some offset else None
+
+abbrev pub content_fault : Option (ℕ × ℕ) → Option ℕ → Option ℕ
+content_fault None wanted = None
+content_fault (Some content) wanted = if is_other content.1 wanted then Some content.0 else None
+
+-- what is found of one event
+abbrev pub fault_of : Style → EventValue → Stand → Option (ℕ × ℕ) → Option ℕ
+fault_of house (sequence_starts flow props) s content = entry_fault s.first s.column (wanted_column house (true && s.is_implicit_value) s.outer)
+fault_of house (mapping_starts flow props) s content = entry_fault s.first s.column (wanted_column house (false && s.is_implicit_value) s.outer)
+fault_of house (scalar_node props style text) s content = content_fault content (wanted_indent house s.outer)
+fault_of house _ s content = None
+
+-- the same of a node of which it is told what holds it
+abbrev pub standing_at : List ℕ → Lists → List ℕ → Stood → Stand
+standing_at t r columns s =
+    record { outer = s.around; is_implicit_value = s.beside; column = column_at t r.events columns s.at; first = unwrap_or (entries_from t (drop s.at r.events)) 0 }
+
+pub data AtFault (src : Table) (r : Lists) (house : Style) (columns : List ℕ) (s : Stood) : ℕ → Type 0 where
+  at_fault : {e : EventValue} {o : ℕ} (content : Option (ℕ × ℕ)) → slice_get (events_of r) s.at ≡ Some e → Answers (ContentAt src r s.at) content
+      → fault_of house e (standing_at src.text r columns s) content ≡ Some o → AtFault src r house columns s o
+
+-- the offsets are those at fault of these nodes
+pub record FoundBy (P : Stood → ℕ → Type 0) (nodes : List Stood) (offsets : List ℕ) : Type 0 where
+  pub only : (o : ℕ) → Contains offsets o → (s : Stood) × Contains nodes s × P s o
+  pub all : (s : Stood) (o : ℕ) → Contains nodes s → P s o → Contains offsets o
+
+-- a pass over the events has come to the index i, with these open collections, and has found these offsets
+pub record Reached (src : Table) (r : Lists) (house : Style) (columns : List ℕ) (begun i : ℕ) (st : List Level) (offsets : List ℕ) : Type 0 where
+  pub nodes : List Stood
+  pub pass : IsPass src.text r.events columns begun i
+  pub left : nodes ++ run (column_at src.text r.events columns) (unmarked_at src.text r.events) i st (drop i r.events)
+      ≡ run (column_at src.text r.events columns) (unmarked_at src.text r.events) 0 [] r.events
+  pub found : FoundBy (AtFault src r house columns) nodes offsets
