@@ -119,6 +119,7 @@ pub mod FormatHolds
 pub mod FormatsRead
 pub mod KeyTrails
 pub mod LayoutHolds
+pub mod LeavesRise
 pub mod LineUtf8
 pub mod MarkSpans
 pub mod NestsRun
@@ -132,4 +133,3 @@ pub mod SeenTexts
 pub mod TrailsHold
 pub mod TreesRead
 pub mod WritingLemmas
-pub mod LeavesRise

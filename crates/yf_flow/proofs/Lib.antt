@@ -28,6 +28,6 @@ pub mod TiedSigns
 pub mod TiedTaken
 pub mod TiedValues
 -- for further theorems
+pub mod CountLemmas
 pub mod NodeEnds
 pub mod ReadersLemmas
-pub mod CountLemmas

@@ -22,9 +22,9 @@ use Rattle.yf_rules.specs.IndentFaults.{AtFault, ContentAt, FoundBy, IsIndent, R
 use Rattle.yf_rules.specs.Passing.{IsPass, Passes, stand_of}
 use Rattle.yf_rules.specs.Scalars.{BlockContent, IsScalar, is_block_style}
 use Rattle.yf_rules.specs.Standings.{Stood, begun, beside, next, outer, run, stood}
-use Rattle.yf_rules.specs.declared.stands.Level.{Level}
-use Rattle.yf_rules.specs.declared.stands.Pass.{Pass}
-use Rattle.yf_rules.specs.declared.stands.Stand.{Stand}
+use Rattle.yf_rules.specs.declared.facts.stands.Level.{Level}
+use Rattle.yf_rules.specs.declared.facts.stands.Pass.{Pass}
+use Rattle.yf_rules.specs.declared.facts.stands.Stand.{Stand}
 use Rattle.yf_rules.proofs.BlockLemmas.{content_same, event_same, part_same, same_behind, scalar_same, style_same}
 use Rattle.yf_rules.proofs.KeySetLemmas.{nothing_in}
 

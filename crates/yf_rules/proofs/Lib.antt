@@ -41,9 +41,9 @@ pub mod ShownMarks
 mod ShownKeys
 -- for further theorems
 pub mod EntryLemmas
+pub mod FaultLemmas
+pub mod MisindentLemmas
+pub mod NodePlaceLemmas
 pub mod PassLemmas
 pub mod StandSetLemmas
 pub mod StandTreeLemmas
-pub mod NodePlaceLemmas
-pub mod FaultLemmas
-pub mod MisindentLemmas

@@ -32,10 +32,10 @@ use Rattle.yf_rules.specs.Nodes.StandsIn.{is_root, is_inner}
 use Rattle.yf_rules.specs.QuestionMarks.{HasQuestionMark}
 use Rattle.yf_rules.specs.Standings.{IsHeld, Stood, as_its_key, as_its_value, by_nothing, by_sequence, held, run, stood, stood_in_documents}
 use Rattle.yf_rules.specs.Stands.{is_other, wanted_column, wanted_indent}
-use Rattle.yf_rules.specs.declared.stands.Around.{Around}
-use Rattle.yf_rules.specs.declared.stands.Around.TheVariants.{Nothing, Entries, Unknown}
-use Rattle.yf_rules.specs.declared.stands.Level.{Level}
-use Rattle.yf_rules.specs.declared.stands.Stand.{Stand}
+use Rattle.yf_rules.specs.declared.facts.stands.Around.{Around}
+use Rattle.yf_rules.specs.declared.facts.stands.Around.TheVariants.{Nothing, Entries, Unknown}
+use Rattle.yf_rules.specs.declared.facts.stands.Level.{Level}
+use Rattle.yf_rules.specs.declared.facts.stands.Stand.{Stand}
 use Rattle.yf_rules.proofs.BlockLemmas.{event_same, part_same}
 use Rattle.yf_rules.proofs.EntryLemmas.{boundary_true, column_there, mark_test, true_boundary}
 use Rattle.yf_rules.proofs.FaultLemmas.{all_reached, content_sole, no_scalar}

@@ -18,10 +18,10 @@ use Rattle.yf_rules.specs.Passing.{IsPass}
 use Rattle.yf_rules.specs.Scalars.{BlockContent, IsScalar, is_block_style}
 use Rattle.yf_rules.specs.Standings.{Stood, run}
 use Rattle.yf_rules.specs.Stands.{is_other, wanted_column, wanted_indent}
-use Rattle.yf_rules.specs.declared.bodies.Body.{Body}
-use Rattle.yf_rules.specs.declared.stands.Around.{Around}
-use Rattle.yf_rules.specs.declared.stands.Level.{Level}
-use Rattle.yf_rules.specs.declared.stands.Stand.{Stand}
+use Rattle.yf_rules.specs.declared.facts.bodies.Body.{Body}
+use Rattle.yf_rules.specs.declared.facts.stands.Around.{Around}
+use Rattle.yf_rules.specs.declared.facts.stands.Level.{Level}
+use Rattle.yf_rules.specs.declared.facts.stands.Stand.{Stand}
 
 -- the event of index i is a block scalar with a content line: where its header begins, and by how many spaces its content is indented
 pub data ContentAt (src : Table) (r : Lists) (i : ℕ) : ℕ × ℕ → Type 0 where

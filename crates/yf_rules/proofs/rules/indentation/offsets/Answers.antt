@@ -5,8 +5,8 @@ use Rattle.yf_rules.specs.IndentFaults.{content_in, fault_of}
 use Rattle.yf_rules.proofs.FaultLemmas.{first_reached, one_reached}
 use Rattle.yf_rules.proofs.KeyPassLemmas.{event_at}
 use Rattle.yf_rules.proofs.MisindentLemmas.{pass_done}
-use Rattle.yf_rules.proofs.indentation.offsets.Goals as goal
-use Rattle.yf_rules.proofs.indentation.offsets.Goals.{in-Some, in_default, in-Some-misplaced+in_ok-push, in_default-misplaced}
+use Rattle.yf_rules.proofs.rules.indentation.offsets.Goals as goal
+use Rattle.yf_rules.proofs.rules.indentation.offsets.Goals.{in-Some, in_default, in-Some-misplaced+in_ok-push, in_default-misplaced}
 
 pub loop-i-init : goal.loop-i-init
 loop-i-init c =

@@ -1,6 +1,6 @@
 use Rattle.std.proofs.Common.{sym, ◌∙◌}
 use Rattle.yf_rules.specs.IndentFaults.IsIndent.{no_block, no_line, of_line}
-use Rattle.yf_rules.proofs.bodies.content_indent.Goals as goal
+use Rattle.yf_rules.proofs.facts.bodies.content_indent.Goals as goal
 
 pub returns-then-not-is_block_style : goal.returns-then-not-is_block_style
 returns-then-not-is_block_style c = no_block (sym c.is_block_style.ensures ∙ c.if-not-is_block_style.true)

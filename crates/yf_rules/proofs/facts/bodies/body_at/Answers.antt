@@ -5,7 +5,7 @@ use Rattle.yf_rules.specs.Scalars.{IsScalar}
 use Rattle.yf_rules.proofs.BlockLemmas.{begun_there}
 use Rattle.yf_rules.proofs.FaultLemmas.{content_answers}
 use Rattle.yf_rules.proofs.MarkPassLemmas.{scalar_event}
-use Rattle.yf_rules.proofs.bodies.body_at.Goals as goal
+use Rattle.yf_rules.proofs.facts.bodies.body_at.Goals as goal
 
 pub returns-in-Some : goal.returns-in-Some
 returns-in-Some c =
