@@ -1,5 +1,5 @@
 -- Laws of what the rule indentation finds event by event.
-use Rattle.std.proofs.Common.{◌≡◌, ℕ, suc, ◌+◌, ◌<◌, ◌≤◌, ◌⊎◌, Bool, true, false, List, [], ◌∷◌, ◌++◌, Option, Some, None, append_assoc, drop, get_or, length, map, reverse, unwrap_or, refl, sym, subst, ap, ◌∙◌, ⊎_elim, arith, true≢false, add-one}
+use Rattle.std.proofs.Common.{◌≡◌, ℕ, ◌+◌, ◌≤◌, false, List, [], ◌∷◌, ◌++◌, Option, Some, None, append_assoc, drop, get_or, length, reverse, unwrap_or, refl, sym, subst, ap, ◌∙◌, ⊎_elim, arith, true≢false, add-one}
 use Rattle.std.specs.List.{Contains}
 use Rattle.std.specs.Option.{option_to_list}
 use Rattle.std.specs.Prelude.{slice_get}
@@ -17,7 +17,7 @@ use Rattle.yf_events.specs.declared.lists.Lists.{Lists}
 use Rattle.yf_lines.specs.Lines.{Begun, Table}
 use Rattle.yf_props.specs.Props.{PropsValue}
 use Rattle.yf_rules.specs.Entries.{column_at, entries_from, unmarked_at}
-use Rattle.yf_rules.specs.Exact.{Answers, Sole}
+use Rattle.yf_rules.specs.Exact.{Answers}
 use Rattle.yf_rules.specs.IndentFaults.{AtFault, ContentAt, FoundBy, IsIndent, Reached, at_fault, content_at, fault_of, if_content, no_block, no_line, of_line, standing_at}
 use Rattle.yf_rules.specs.Passing.{IsPass, Passes, stand_of}
 use Rattle.yf_rules.specs.Scalars.{BlockContent, IsScalar, is_block_style}
@@ -25,7 +25,7 @@ use Rattle.yf_rules.specs.Standings.{Stood, begun, beside, next, outer, run, sto
 use Rattle.yf_rules.specs.declared.facts.stands.Level.{Level}
 use Rattle.yf_rules.specs.declared.facts.stands.Pass.{Pass}
 use Rattle.yf_rules.specs.declared.facts.stands.Stand.{Stand}
-use Rattle.yf_rules.proofs.BlockLemmas.{content_same, event_same, part_same, same_behind, scalar_same, style_same}
+use Rattle.yf_rules.proofs.BlockLemmas.{content_same, event_same, part_same, same_behind, scalar_same}
 use Rattle.yf_rules.proofs.KeySetLemmas.{nothing_in}
 
 -- what is told of the content of one scalar

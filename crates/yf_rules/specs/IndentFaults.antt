@@ -1,5 +1,5 @@
 -- What the rule indentation finds event by event. An index counts events from 0.
-use Rattle.std.specs.Prelude.{◌≡◌, ℕ, ◌++◌, ◌&&◌, if◌then◌else◌, Bool, true, false, List, [], drop, slice_get, Option, Some, None}
+use Rattle.std.specs.Prelude.{◌≡◌, ℕ, ◌++◌, ◌&&◌, if◌then◌else◌, true, false, List, [], drop, slice_get, Option, Some, None}
 use Rattle.std.specs.List.{Contains}
 use Rattle.std.specs.Option.{unwrap_or}
 use Rattle.yf_emit.specs.ContentStart.{content_start}
@@ -19,7 +19,6 @@ use Rattle.yf_rules.specs.Scalars.{BlockContent, IsScalar, is_block_style}
 use Rattle.yf_rules.specs.Standings.{Stood, run}
 use Rattle.yf_rules.specs.Stands.{is_other, wanted_column, wanted_indent}
 use Rattle.yf_rules.specs.declared.facts.bodies.Body.{Body}
-use Rattle.yf_rules.specs.declared.facts.stands.Around.{Around}
 use Rattle.yf_rules.specs.declared.facts.stands.Level.{Level}
 use Rattle.yf_rules.specs.declared.facts.stands.Stand.{Stand}
 
