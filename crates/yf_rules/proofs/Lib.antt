@@ -42,6 +42,7 @@ mod ShownKeys
 -- for further theorems
 pub mod EntryLemmas
 pub mod FaultLemmas
+pub mod EntryColumns
 pub mod MisindentLemmas
 pub mod NodePlaceLemmas
 pub mod PassLemmas
