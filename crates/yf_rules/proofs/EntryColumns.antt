@@ -121,12 +121,12 @@ entries_begin src y start column e c =
     (subst (λ o. PlaceOf src.text o c.line (column + 1)) (sym b.start_is) c.place))
 
 -- the other way
-record Found (src : Table) (y : Node) (column start : ℕ) : Type 0 where
-  is_block : is_block_collection y ≡ true
-  starts : start_in src.text y ≡ Some start
-  boundary : IsCharBoundary src.text start
-  line : ℕ
-  place : PlaceOf src.text start line (column + 1)
+pub record Found (src : Table) (y : Node) (column start : ℕ) : Type 0 where
+  pub is_block : is_block_collection y ≡ true
+  pub starts : start_in src.text y ≡ Some start
+  pub boundary : IsCharBoundary src.text start
+  pub line : ℕ
+  pub place : PlaceOf src.text start line (column + 1)
 
 pub entries_found : {src : Table} {y : Node} {column start : ℕ} → EntriesAt src y column start → Found src y column start
 entries_found {src} {y} (at_first {first} {entry} {line} h g e b p) = record {
