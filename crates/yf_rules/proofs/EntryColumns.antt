@@ -1,47 +1,27 @@
 -- Where the entries of a node begin: the column that the pass of the rule indentation keeps of them.
-use Rattle.std.proofs.Common.{◌≡◌, ◌≢◌, ℕ, ◌+◌, ◌-◌, ◌<◌, ◌≤◌, Bool, true, false, not, List, [], ◌++◌, Option, Some, None, drop, get_or, length, unwrap_or, refl, sym, subst, ap, ◌∙◌, ⊎_elim, arith, true≢false}
-use Rattle.std.specs.List.{Contains}
-use Rattle.std.specs.Prelude.{◌==◌, ◌&&◌, if◌then◌else◌, slice_get}
+use Rattle.std.proofs.Common.{◌≡◌, ◌≢◌, ℕ, ◌+◌, ◌-◌, ◌<◌, Bool, true, false, not, List, ◌++◌, Option, Some, None, drop, get_or, length, refl, sym, subst, ap, ◌∙◌, ⊎_elim, arith, true≢false}
+use Rattle.std.specs.Prelude.{◌==◌, if◌then◌else◌}
 use Rattle.std.specs.Str.{IsCharBoundary}
-use Rattle.std.proofs.lemmas.Bool.{and_parts, cases_Bool}
+use Rattle.std.proofs.lemmas.Bool.{cases_Bool}
 use Rattle.std.proofs.lemmas.Bool.Decides.{nat_tests}
 use Rattle.std.proofs.lemmas.List.{length-map}
 use Rattle.std.proofs.lemmas.Option.{slice_get_within}
-use Rattle.yf_emit.specs.ContentStart.{content_start}
 use Rattle.yf_emit.specs.Keys.{NodeAt}
-use Rattle.yf_emit.specs.declared.style.Style.{Style}
 use Rattle.yf_emit.proofs.ValueLemmas.{event_of}
-use Rattle.yf_events.specs.Event.{Placed, scalar_node}
+use Rattle.yf_events.specs.Event.{Placed}
 use Rattle.yf_events.specs.Reading.{events_of}
-use Rattle.yf_events.specs.Tree.{Node, scalar, alias, sequence, mapping, no_items, item, no_pairs, pair, DocumentTree, TreesOf, flat, is_block_collection, is_sequence, standing}
+use Rattle.yf_events.specs.Tree.{Node, scalar, alias, sequence, mapping, no_items, item, no_pairs, pair, flat, is_block_collection, standing}
 use Rattle.yf_events.specs.declared.event.Entry.{Entry}
-use Rattle.yf_events.specs.declared.event.ScalarStyle.{ScalarStyle}
-use Rattle.yf_props.specs.Props.{PropsValue}
 use Rattle.yf_events.specs.declared.lists.Lists.{Lists}
 use Rattle.yf_lines.specs.Lines.{PlaceOf, Table}
 use Rattle.yf_lines.proofs.PlaceLemmas.{place_unique}
 use Rattle.yf_rules.specs.Columns.{ColumnsTo, IsColumn}
 use Rattle.yf_rules.specs.Entries.{all_entries, column_at, entries_from, first_entry, if_any, is_boundary, is_unmarked, start_at, unmarked_at}
-use Rattle.yf_rules.specs.Exact.{Answers, Exactly}
-use Rattle.yf_rules.specs.IndentFaults.{AtFault, ContentAt, FoundBy, Reached, at_fault, content_at, content_fault, entry_fault, fault_of, standing_at}
-use Rattle.yf_rules.specs.Indents.{EntriesAt, ImplicitValue, Misindented, WantedColumn, WantedIndent, WithoutMark, at_first, at_key, at_root, content, entries, first_in, further, in_entry, no_mark, of_root}
-use Rattle.yf_rules.specs.Nodes.{Holds, Numbered, StandsIn}
-use Rattle.yf_rules.specs.Nodes.Holds.{as_item, as_key, as_value}
-use Rattle.yf_rules.specs.Nodes.StandsIn.{is_inner}
-use Rattle.yf_rules.specs.Standings.{IsHeld, Stood, as_its_key, as_its_value, by_nothing, by_sequence, held, run, stood, stood_in_documents}
-use Rattle.yf_rules.specs.Stands.{is_other, wanted_column, wanted_indent}
-use Rattle.yf_rules.specs.declared.facts.stands.Around.{Around}
-use Rattle.yf_rules.specs.declared.facts.stands.Around.TheVariants.{Nothing}
-use Rattle.yf_rules.specs.declared.facts.stands.Level.{Level}
-use Rattle.yf_rules.specs.declared.facts.stands.Stand.{Stand}
-use Rattle.yf_rules.proofs.BlockLemmas.{event_same, part_same}
+use Rattle.yf_rules.specs.Indents.{EntriesAt, WithoutMark, at_first, first_in, no_mark}
+use Rattle.yf_rules.specs.Stands.{is_other}
 use Rattle.yf_rules.proofs.EntryLemmas.{boundary_true, column_there, mark_test, true_boundary}
-use Rattle.yf_rules.proofs.FaultLemmas.{all_reached, content_sole, no_scalar}
-use Rattle.yf_rules.proofs.FlowLemmas.{event_there, span_there}
+use Rattle.yf_rules.proofs.FlowLemmas.{event_there}
 use Rattle.yf_rules.proofs.NodeLemmas.{events_behind}
-use Rattle.yf_rules.proofs.NodePlaceLemmas.{node_there}
-use Rattle.yf_rules.proofs.StandSetLemmas.{all_told, held_stands, held_told, item_no_value, key_no_value, sole_key}
-use Rattle.yf_rules.proofs.StandTreeLemmas.{run_stream}
 
 pub some_same : {X : Type 0} {a b : X} → Some a ≡ Some b → a ≡ b
 some_same e = cc
