@@ -5,6 +5,8 @@ pub mod SettingsLemmas
 pub mod ProgramLemmas
 -- `parse_line`
 pub mod CommandLineLemmas
+-- `run_fmt`
+pub mod FormattedLemmas
 -- `run_check`
 pub mod FindingLemmas
 -- `report`
