@@ -37,10 +37,10 @@ same_head e = cc
 same_tail : {A : Type 0} {a b : A} {x y : List A} → a ∷ x ≡ b ∷ y → x ≡ y
 same_tail e = cc
 
-some_none : {A B : Type 0} {a : A} {x : List A} → a ∷ x ≡ [] → B
+pub some_none : {A B : Type 0} {a : A} {x : List A} → a ∷ x ≡ [] → B
 some_none {a = a} {x = x} e = let long : suc (length x) ≡ 0 = ap length e in absurd (omega arith)
 
-both_empty : {A : Type 0} (x y : List A) → x ++ y ≡ [] → (x ≡ []) × (y ≡ [])
+pub both_empty : {A : Type 0} (x y : List A) → x ++ y ≡ [] → (x ≡ []) × (y ≡ [])
 both_empty [] y e = (refl, e)
 both_empty (a ∷ x) y e = some_none e
 

@@ -17,6 +17,12 @@ pub mod ReadingTrees
 pub mod LawsHold
 pub mod NodeLawsHold
 pub mod PlaceLawsHold
+-- a well-formed text has a reading (`HasReading`)
+pub mod LinesExist
+pub mod NodeFinish
+pub mod RowsKnown
+pub mod BreachLemmas
+pub mod HasReading
 -- the definitions by small texts
 pub mod ShownParts
 pub mod ShownPlain
@@ -32,7 +38,6 @@ pub mod ShownOneShape
 pub mod ShownWord
 pub mod ShownLaws
 -- for further theorems
-pub mod BreachLemmas
 pub mod CommentTexts
 pub mod DirectiveLaws
 pub mod DirectiveLineLemmas
@@ -41,3 +46,6 @@ pub mod MarkerLemmas
 pub mod PrefixLemmas
 pub mod SameTags
 pub mod StreamDocuments
+-- what `read_stream` is to answer (`StreamReader`): a stream step by step, and notes on blank lines in later documents
+pub mod StreamSteps
+pub mod FloorLemmas

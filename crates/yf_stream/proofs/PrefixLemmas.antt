@@ -130,7 +130,7 @@ module _ {t : List ℕ} where
   part_rows (order_mark e) = chain_one (mark_row e)
   part_rows (prefix_comment c) = rows_prefix (lines_rows (chain_one c))
 
-  prefixes_rows : {i j : ℕ} {cs : List CommentValue} → Prefixes t i j cs → Chain (PrefixRow t) i j cs
+  pub prefixes_rows : {i j : ℕ} {cs : List CommentValue} → Prefixes t i j cs → Chain (PrefixRow t) i j cs
   prefixes_rows done = done
   prefixes_rows (step s c) = chain_append (part_rows s) (prefixes_rows c)
 
@@ -138,12 +138,12 @@ module _ {t : List ℕ} where
   row_part l (mark_row e) = order_mark e
   row_part l (line_row r) = prefix_comment (rest_line l r.rest)
 
-  row_next : {i j : ℕ} {cs : List CommentValue} → LineStart t i → PrefixRow t i j cs → LineOrEnd t j
+  pub row_next : {i j : ℕ} {cs : List CommentValue} → LineStart t i → PrefixRow t i j cs → LineOrEnd t j
   row_next l (mark_row e) = inl (after_mark l e)
   row_next l (line_row r) = rest_next r.rest
 
   -- they are what the reader passes
-  rows_parts : {i j : ℕ} {cs : List CommentValue} → LineOrEnd t i → Chain (PrefixRow t) i j cs → Prefixes t i j cs
+  pub rows_parts : {i j : ℕ} {cs : List CommentValue} → LineOrEnd t i → Chain (PrefixRow t) i j cs → Prefixes t i j cs
   rows_parts l done = done
   rows_parts {i} l (step r c) = ⊎_elim
       (λ (s : LineStart t i). step (row_part s r) (rows_parts (row_next s r) c))
@@ -154,7 +154,7 @@ module _ {t : List ℕ} where
       no_row_there e (mark_row m) = let n = end_code t i e in absurd (omega arith)
       no_row_there e (line_row q) = rest_at_end q.rest e q.later
 
-  still : {j : ℕ} → code t j ≢ 0xFEFF → Stuck (Row t j) → Stuck (PrefixRow t j)
+  pub still : {j : ℕ} → code t j ≢ 0xFEFF → Stuck (Row t j) → Stuck (PrefixRow t j)
   still {j} n s = record { none = λ k x r. go r } where
     go : {k : ℕ} {x : List CommentValue} → PrefixRow t j k x → ⊥
     go (mark_row e) = n e

@@ -3,7 +3,7 @@ use Rattle.std.proofs.Common.{◌≡◌, ℕ, suc, ◌≤◌, List, [], ◌∷�
 use Rattle.std.specs.Str.{IsUtf8}
 use Rattle.yf_events.specs.Event.{Placed, document_starts, document_ends, stream_starts, stream_ends}
 use Rattle.yf_events.specs.Alike.{Alike}
-use Rattle.yf_events.specs.Tree.{Node, DocumentTree, TreesOf, unplaced, flat, flat_document}
+use Rattle.yf_events.specs.Tree.{Node, DocumentTree, TreesOf, unplaced, flat, flat_document, flat_stream}
 use Rattle.yf_events.specs.declared.document.Doc.{Doc}
 use Rattle.yf_events.specs.declared.lists.Lists.{Lists}
 use Rattle.yf_grammar.specs.Meant.{Anywhere}
@@ -11,7 +11,7 @@ use Rattle.yf_grammar.specs.Part.{Noting, no_event}
 use Rattle.yf_grammar.proofs.NodePlaces.{NodeStands}
 use Rattle.yf_grammar.proofs.NotedNodes.{noted_node, noted_plain}
 use Rattle.yf_stream.specs.ReadingOf.{DocumentEvents, no_document, one_document, ReadingOf, doc_of}
-use Rattle.yf_stream.specs.Stream.{Document}
+use Rattle.yf_stream.specs.Stream.{Document, Documents, Stream}
 use Rattle.yf_stream.proofs.DirectiveOrder.{DirectivesStand}
 use Rattle.yf_stream.proofs.DocumentPlaces.{DocumentsStand, no_documents_stand, document_stands, stream_stands}
 
@@ -89,23 +89,41 @@ module _ {t : List ℕ} where
         noting = behind.noting;
       }
 
+-- the trees of the events of documents that are derived, with their notes filled in
+pub record EventTrees (t : List ℕ) (ds : List Document) (noted : List Placed) : Type 0 where
+  pub trees : List DocumentTree
+  pub events : noted ≡ flat_stream trees
+  pub documents : length (map doc_of ds) ≡ length trees
+  pub stand : TreesStand t 0 (map doc_of ds) trees
+  pub meant : TreesMeant ds trees
+
+count_map : (f : Document → Doc) (ds : List Document) → length (map f ds) ≡ length ds
+count_map f [] = refl
+count_map f (d ∷ ds) = ap suc (count_map f ds)
+
+pub trees_stand : {t : List ℕ} {h : ℕ} {x : Documents} {derived events : List Placed} {tags : List (Option (List ℕ))} → IsUtf8 t → Stream t h x
+    → DocumentEvents t x.documents derived tags → Noting t 0 (unplaced stream_starts ∷ (derived ++ (unplaced stream_ends ∷ []))) events
+    → EventTrees t x.documents events
+trees_stand {x = x} {events = events} u derived are noted =
+    let first = noted_plain refl noted in
+    let inner = noted_trees (stream_stands u derived) are first.noting in
+    let last = noted_plain refl inner.noting in
+    record {
+      trees = inner.trees;
+      events = enclosed events first.more inner.more last.more (flat_map flat_document inner.trees) (unplaced stream_starts) (unplaced stream_ends) first.is
+          inner.is last.is (nothing_noted last.noting);
+      documents = count_map doc_of x.documents ∙ inner.count;
+      stand = inner.stand;
+      meant = inner.meant;
+    }
+
 -- the trees of a reading
 pub reading_stands : {t : List ℕ} {r : Lists} → IsUtf8 t → (a : ReadingOf t r) → ReadingStands t a.derived.documents r
 reading_stands {t} {r} u a =
-    let first = noted_plain refl a.noted in
-    let inner = noted_trees (stream_stands u a.reads.shapes.derived) a.events first.noting in
-    let last = noted_plain refl inner.noting in
-    let counts : length r.documents ≡ length a.derived.documents = ap length a.documents ∙ count_map doc_of a.derived.documents in
+    let s = trees_stand u a.reads.shapes.derived a.events a.noted in
     record {
-      trees = inner.trees;
-      of_reading = record {
-        events = enclosed r.events first.more inner.more last.more (flat_map flat_document inner.trees) (unplaced stream_starts) (unplaced stream_ends) first.is
-            inner.is last.is (nothing_noted last.noting);
-        documents = counts ∙ inner.count;
-      };
-      stand = subst (λ z. TreesStand t 0 z inner.trees) (sym a.documents) inner.stand;
-      meant = inner.meant;
-    } where
-      count_map : (f : Document → Doc) (ds : List Document) → length (map f ds) ≡ length ds
-      count_map f [] = refl
-      count_map f (d ∷ ds) = ap suc (count_map f ds)
+      trees = s.trees;
+      of_reading = record { events = s.events; documents = ap length a.documents ∙ s.documents };
+      stand = subst (λ z. TreesStand t 0 z s.trees) (sym a.documents) s.stand;
+      meant = s.meant;
+    }

@@ -87,11 +87,11 @@ pub record PathFrom (t : List ℕ) (b : Bool) (h i : ℕ) (x : Documents) : Type
   pub is : x ≡ with_comments comments documents
 
 -- comments before documents
-comments_join : (cs ds : List CommentValue) (x : Documents) → with_comments cs (with_comments ds x) ≡ with_comments (cs ++ ds) x
+pub comments_join : (cs ds : List CommentValue) (x : Documents) → with_comments cs (with_comments ds x) ≡ with_comments (cs ++ ds) x
 unfolding with_comments
 comments_join cs ds x = ap (λ w. record x { comments = w }) (sym (append_assoc cs ds x.comments))
 
-no_comments : (x : Documents) → with_comments [] x ≡ x
+pub no_comments : (x : Documents) → with_comments [] x ≡ x
 unfolding with_comments
 no_comments x = refl
 
@@ -99,7 +99,7 @@ document_join : (cs es : List CommentValue) (d : Document) (x : Documents) → w
 unfolding with_comments with_document
 document_join cs es d x = ap (λ w. record { documents = d ∷ x.documents; comments = w }) (sym (append_assoc cs es x.comments))
 
-before_document : (cs ds : List CommentValue) (d : Document) (x : Documents) → with_comments cs (with_document ds d x) ≡ with_document (cs ++ ds) d x
+pub before_document : (cs ds : List CommentValue) (d : Document) (x : Documents) → with_comments cs (with_document ds d x) ≡ with_document (cs ++ ds) d x
 unfolding with_comments with_document
 before_document cs ds d x = ap (λ w. record { documents = d ∷ x.documents; comments = w }) (sym (append_assoc cs ds x.comments))
 

@@ -1,0 +1,124 @@
+-- Where the last node or indicator of a block node ends, the rest of its line and comment lines follow.
+use Rattle.std.proofs.Common.{◌≡◌, ℕ, ℤ, ◌⊎◌, inl, inr, ⊎_elim, List, length, refl, sym, subst}
+use Rattle.yf_chars.specs.Chain.{Chain}
+use Rattle.yf_chars.specs.Chain.Chain.{done, step}
+use Rattle.yf_lines.specs.Basic.{LineStart}
+use Rattle.yf_lines.specs.Basic.LineStart.{after_break}
+use Rattle.yf_lines.specs.Lines.{IsLine, LineEnd as LineStop, OneLine}
+use Rattle.yf_lines.specs.Lines.LineEnd.{at_break, at_end}
+use Rattle.yf_lines.specs.declared.line.Line.{Line}
+use Rattle.yf_lines.proofs.LineLemmas.{Made, line_made}
+use Rattle.yf_comments.specs.Comment.{CommentValue}
+use Rattle.yf_comments.specs.Comments.{BreakOrEnd, LineEnd}
+use Rattle.yf_comments.specs.Comments.BreakOrEnd.{by_end}
+use Rattle.yf_comments.specs.Comments.LineRest.{nothing}
+use Rattle.yf_comments.specs.Comments.LineEnd.{past_rest, from_start}
+use Rattle.yf_comments.proofs.LineEndLemmas.{rest_next}
+use Rattle.yf_block_scalar.specs.Header.{BlockHeader, HeaderValue}
+use Rattle.yf_block_scalar.specs.Header.BlockHeader.{block_header}
+use Rattle.yf_grammar.specs.BlockScalar.{BlockScalar, LinesBetween}
+use Rattle.yf_grammar.specs.BlockScalar.BlockScalar.{block_scalar}
+use Rattle.yf_grammar.specs.BlockScalar.LinesBetween.{counted}
+use Rattle.yf_grammar.specs.Meaning.{Meaning, ◌⊕◌, behind, noting, scalar, alias_to, empty_node, collection, with_props, entering}
+use Rattle.yf_grammar.specs.Grammar.{Production, FlowNode, NodeOf, JsonContent, Entries, Entry, Pair, Explicit, Implicit, ValueOf, KeyOf, BlockNode, BlockEntries, BlockEntry, BlockIndented, BlockValue, Derives}
+use Rattle.yf_grammar.specs.Grammar.Derives.{flow_node, an_alias, a_plain, a_plain_with, properties_alone, a_json, a_json_with, a_single, a_double, an_empty_collection, a_collection, last_entry, last_entry_with_comma, more_entries, a_node_entry, a_pair_entry, an_explicit_entry, an_implicit_entry, an_explicit_pair, a_keyed_pair, an_unkeyed_pair, explicit_with, explicit_without, key_alone, key_and_value, value_alone, empty_value, a_value, a_key, a_block_scalar, a_block_scalar_with, a_block_collection, a_block_collection_with, flow_in_block, a_last_entry, an_entry_before, a_dash_entry, an_explicit_entry_with, an_explicit_key_alone, a_keyed_entry, an_unkeyed_entry, a_block_value, an_empty_block_value, a_compact_collection, an_indented_node, nothing_indented}
+use Rattle.yf_grammar.proofs.BlockEnds.{LineOrEnd}
+
+-- the rest of a line and comment lines stand there
+pub record LineEndsAt (t : List ℕ) (i : ℕ) : Type 0 where
+  pub end : ℕ
+  pub comments : List CommentValue
+  pub line : LineEnd t i end comments
+
+abbrev pub FinishClaim : List ℕ → Production → ℕ → Meaning → Type 0
+FinishClaim t (FlowNode n c) j x = x.finish ≡ j
+FinishClaim t (NodeOf json n c) j x = x.finish ≡ j
+FinishClaim t (JsonContent n c) j x = x.finish ≡ j
+FinishClaim t (Entries s n c) j x = Unit {0}
+FinishClaim t (Entry s n c) j x = Unit {0}
+FinishClaim t (Pair n c) j x = Unit {0}
+FinishClaim t (Explicit n c s) j x = Unit {0}
+FinishClaim t (Implicit n c s) j x = Unit {0}
+FinishClaim t (ValueOf json n c) j x = Unit {0}
+FinishClaim t (KeyOf json c) j x = Unit {0}
+FinishClaim t (BlockNode n c) j x = LineEndsAt t x.finish
+FinishClaim t (BlockEntries s m) j x = LineEndsAt t x.finish
+FinishClaim t (BlockEntry s m) j x = LineEndsAt t x.finish
+FinishClaim t (BlockIndented m c) j x = LineEndsAt t x.finish
+FinishClaim t (BlockValue m) j x = LineEndsAt t x.finish
+
+module _ {t : List ℕ} where
+  pub line_there : {i j : ℕ} {cs : List CommentValue} → LineEnd t i j cs → LineEndsAt t i
+  line_there {j = j} {cs = cs} d = record { end = j; comments = cs; line = d }
+
+  nothing_left : {i : ℕ} → LineOrEnd t i → LineEndsAt t i
+  nothing_left {i} l = ⊎_elim (λ (s : LineStart t i). line_there (from_start s done)) (λ (e : i ≡ length t). line_there (past_rest (nothing (by_end e)) done)) l
+
+  stop_next : {h j : ℕ} → LineStop t h j → LineOrEnd t j
+  stop_next (at_break b) = inl (after_break b)
+  stop_next (at_end e) = inr e
+
+  line_next : {i j : ℕ} {ls : List Line} → OneLine t i j ls → LineOrEnd t j
+  line_next o = let m = line_made o in subst (λ k. LineOrEnd t k) m.next (stop_next m.made.ends)
+
+  lines_next : {i j : ℕ} {ls : List Line} → LineOrEnd t i → Chain (OneLine t) i j ls → LineOrEnd t j
+  lines_next l done = l
+  lines_next l (step s c) = lines_next (line_next s) c
+
+  counted_next : {c i j : ℕ} → LineOrEnd t i → LinesBetween t c i j → LineOrEnd t j
+  counted_next l (counted c e) = lines_next l c
+
+  header_next : {i j : ℕ} {h : HeaderValue} → BlockHeader t i j h → LineOrEnd t j
+  header_next (block_header s m r) = rest_next r
+
+  scalar_finish : {n : ℤ} {i j : ℕ} {x : Meaning} → BlockScalar t n i j x → LineEndsAt t x.finish
+  scalar_finish (block_scalar h b l) = nothing_left (counted_next (header_next h) l)
+
+  pub finish_ends : {h i j : ℕ} {p : Production} {x : Meaning} → Derives t h p i j x → FinishClaim t p j x
+  unfolding ◌⊕◌ behind noting scalar alias_to empty_node collection with_props entering
+  finish_ends (flow_node d) = finish_ends d
+  finish_ends (an_alias _ _) = refl
+  finish_ends (a_plain _) = refl
+  finish_ends (a_plain_with _ _ _) = refl
+  finish_ends (properties_alone _ _) = refl
+  finish_ends (a_json d) = finish_ends d
+  finish_ends (a_json_with _ _ d) = finish_ends d
+  finish_ends (a_single _) = refl
+  finish_ends (a_double _) = refl
+  finish_ends (an_empty_collection _ _ _ _ _) = refl
+  finish_ends (a_collection _ _ _ _ _ _) = refl
+  finish_ends (last_entry _ _) = tt
+  finish_ends (last_entry_with_comma _ _ _ _) = tt
+  finish_ends (more_entries _ _ _ _ _) = tt
+  finish_ends (a_node_entry _) = tt
+  finish_ends (a_pair_entry _) = tt
+  finish_ends (an_explicit_entry _ _ _) = tt
+  finish_ends (an_implicit_entry _) = tt
+  finish_ends (an_explicit_pair _ _ _) = tt
+  finish_ends (a_keyed_pair _ _) = tt
+  finish_ends (an_unkeyed_pair _) = tt
+  finish_ends (explicit_with _) = tt
+  finish_ends (explicit_without _) = tt
+  finish_ends (key_alone _) = tt
+  finish_ends (key_and_value _ _ _) = tt
+  finish_ends (value_alone _) = tt
+  finish_ends (empty_value _ _ _) = tt
+  finish_ends (a_value _ _ _ _ _) = tt
+  finish_ends (a_key _ _ _) = tt
+  finish_ends (a_block_scalar b s d) = scalar_finish d
+  finish_ends (a_block_scalar_with b s p q d) = scalar_finish d
+  finish_ends (a_block_collection b e s l d) = finish_ends d
+  finish_ends (a_block_collection_with b s p e q l d) = finish_ends d
+  finish_ends (flow_in_block b s d e) = let f = finish_ends d in subst (λ k. LineEndsAt t k) (sym f) (line_there e)
+  finish_ends (a_last_entry d) = finish_ends d
+  finish_ends (an_entry_before d s e) = finish_ends e
+  finish_ends (a_dash_entry a b d) = finish_ends d
+  finish_ends (an_explicit_entry_with a b d g e) = finish_ends e
+  finish_ends (an_explicit_key_alone a b d g) = finish_ends d
+  finish_ends (a_keyed_entry d e) = finish_ends e
+  finish_ends (an_unkeyed_entry d) = finish_ends d
+  finish_ends (a_block_value e d) = finish_ends d
+  finish_ends (an_empty_block_value e d) = line_there d
+  finish_ends (a_compact_collection b s d) = finish_ends d
+  finish_ends (an_indented_node d) = finish_ends d
+  finish_ends (nothing_indented b d) = line_there d
