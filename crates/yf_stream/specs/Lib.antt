@@ -1,6 +1,7 @@
 pub mod CommentLaws
 pub mod DirectiveReaders
 pub mod DocumentReaders
+pub mod EmptyDocument
 pub mod HasReading
 pub mod Laws
 pub mod NodeLaws

@@ -1,9 +1,10 @@
 //! The documents of a stream (YAML 1.2.2, section 9.1): what begins one, and what ends it. Offsets count bytes.
-ghost use Rattle.std.specs.Prelude.{◌≡◌, ◌+◌, ◌<◌, ◌≤◌, [], IfOk, IfSome};
+ghost use Rattle.std.specs.Prelude.{◌≡◌, ◌+◌, ◌<◌, ◌≤◌, [], true, false, IfOk, IfSome};
 ghost use Rattle.std.specs.List.{All};
 ghost use Rattle.std.specs.Str.{IsCharBoundary};
 ghost use Rattle.yf_events.specs.Event.{new_event_value};
 ghost use Rattle.yf_stream.specs.DocumentReaders.{IsMarker, Kept, PrefixRead, SuffixRead, closed, opened, with_event};
+ghost use Rattle.yf_stream.specs.EmptyDocument.{EmptyRead};
 ghost use Rattle.yf_stream.specs.RefusalPlaces.{DirectivesAt, DocumentsAt};
 ghost use Rattle.yf_stream.specs.Walk.{Place, NextAt};
 
@@ -343,6 +344,7 @@ fn empty_document<'a>(
     requires reached { IsCharBoundary text.now reached }
     requires escapes { All (IsCharBoundary text.now) parts.old.part.escapes }
     requires documents { DocumentsAt text.now parts.old.documents }
+    ensures reads { IfOk result (λ next. EmptyRead text.now at parts.old parts.new next) }
     ensures next { IfOk result (λ next. NextAt text.now at next) }
     ensures escapes { IfOk result (λ _. All (IsCharBoundary text.now) parts.new.part.escapes) }
     ensures documents { IfOk result (λ _. DocumentsAt text.now parts.new.documents) }
@@ -393,7 +395,10 @@ fn bare_document<'a>(
 // After a document's root node another document needs a `---`, or a `...` before it.
 fn behind_node(at: usize, floor: usize, reached: usize) -> Spot
     ensures at { result.at ≡ at }
+    ensures floor { result.floor ≡ floor }
     ensures reached { result.reached ≡ reached }
+    ensures bare { result.may_be_bare ≡ false }
+    ensures document { result.is_open ≡ true }
 {
     Spot {
         at,
