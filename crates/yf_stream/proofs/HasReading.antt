@@ -1,5 +1,5 @@
 -- A well-formed text has a reading: what `ReadingOf` adds to its derivation exists.
-use Rattle.std.proofs.Common.{◌≡◌, ℕ, suc, ◌+◌, Bool, true, false, List, [], ◌∷◌, ◌++◌, map, flat_map, length, Option, Some, None, is_none, refl, sym, ap, ◌∙◌, subst, arith, true≢false, ⊎_elim}
+use Rattle.std.proofs.Common.{◌≡◌, ℕ, ◌+◌, Bool, true, false, List, [], ◌∷◌, ◌++◌, map, flat_map, Option, Some, None, is_none, refl, sym, ◌∙◌, true≢false, ⊎_elim}
 use Rattle.std.proofs.lemmas.Bool.{cases_Bool}
 use Rattle.std.proofs.lemmas.Str.{IsUtf8-from_is_utf8, is_utf8-from_IsUtf8}
 use Rattle.std.specs.Str.{IsUtf8, is_utf8}
@@ -10,8 +10,8 @@ use Rattle.yf_props.specs.Handles.SuffixText.{as_decoded, as_written}
 use Rattle.yf_props.specs.Handles.TagText.{non_specific_text, shorthand_text, verbatim_text}
 use Rattle.yf_props.specs.Props.{TagValue}
 use Rattle.yf_props.specs.Props.TagValue.{IsVerbatim, IsShort, IsNonSpecific}
-use Rattle.yf_events.specs.Event.{Placed, document_ends, document_starts, stream_ends, stream_starts}
-use Rattle.yf_events.specs.Tree.{DocumentTree, TreesOf, leaves, unplaced}
+use Rattle.yf_events.specs.Event.{Placed, stream_ends, stream_starts}
+use Rattle.yf_events.specs.Tree.{leaves, unplaced}
 use Rattle.yf_events.specs.declared.event.Entry.{Entry}
 use Rattle.yf_events.specs.declared.lists.Lists.{Lists}
 use Rattle.yf_grammar.specs.Meaning.{Meaning, empty_node, noting}
@@ -20,14 +20,13 @@ use Rattle.yf_grammar.proofs.GapLemmas.{end_next}
 use Rattle.yf_stream.proofs.NodeFinish.{LineEndsAt, finish_ends, line_there}
 use Rattle.yf_grammar.proofs.SinceKnown.{note_since_known}
 use Rattle.yf_stream.specs.HasReading.{WellFormedTextsHaveReadings}
-use Rattle.yf_stream.specs.ReadingOf.{DocumentEvents, no_document, one_document, EventTags, no_event, tagged, untagged, NotedComments, no_comment, one_comment, ReadingOf, doc_of, floor_at, leaf_lines}
-use Rattle.yf_stream.specs.Stream.{AnyDocument, Document, Documents, ExplicitNode, document_of}
+use Rattle.yf_stream.specs.ReadingOf.{DocumentEvents, no_document, one_document, EventTags, no_event, tagged, untagged, NotedComments, no_comment, one_comment, doc_of, floor_at, leaf_lines}
+use Rattle.yf_stream.specs.Stream.{AnyDocument, Document, ExplicitNode, document_of}
 use Rattle.yf_stream.specs.Stream.AnyDocument.{bare_document, directive_document, explicit_document}
 use Rattle.yf_stream.specs.Stream.ExplicitNode.{marked_node, marked_nothing}
-use Rattle.yf_stream.specs.WellFormed.{Reads, alias_breaches, alias_of, breach_if, breaches, declarations, directive_breaches, document_breaches, event_breaches, is_unknown, offset_or, props_of, start_or, with_name}
+use Rattle.yf_stream.specs.WellFormed.{alias_breaches, alias_of, breach_if, breaches, declarations, directive_breaches, document_breaches, event_breaches, is_unknown, offset_or, props_of, start_or, with_name}
 use Rattle.yf_stream.specs.declared.breaches.Kind.TheVariants.{UnknownHandle}
 use Rattle.yf_stream.proofs.BreachLemmas.{both_empty, some_none}
-use Rattle.yf_stream.proofs.DocumentPlaces.{stream_stands}
 use Rattle.yf_stream.proofs.LinesExist.{lines_exist}
 use Rattle.yf_stream.proofs.ReadingTrees.{trees_stand}
 use Rattle.yf_stream.proofs.RowsKnown.{end_known}

@@ -49,4 +49,5 @@ pub mod StreamDocuments
 -- what `read_stream` is to answer (`StreamReader`): a stream step by step, and notes on blank lines in later documents
 pub mod StreamSteps
 pub mod PathLemmas
+pub mod PathsThrough
 pub mod FloorLemmas

@@ -1,15 +1,15 @@
 -- Where the last node or indicator of a block node ends, the rest of its line and comment lines follow.
-use Rattle.std.proofs.Common.{◌≡◌, ℕ, ℤ, ◌⊎◌, inl, inr, ⊎_elim, List, length, refl, sym, subst}
+use Rattle.std.proofs.Common.{◌≡◌, ℕ, ℤ, inl, inr, ⊎_elim, List, length, refl, sym, subst}
 use Rattle.yf_chars.specs.Chain.{Chain}
 use Rattle.yf_chars.specs.Chain.Chain.{done, step}
 use Rattle.yf_lines.specs.Basic.{LineStart}
 use Rattle.yf_lines.specs.Basic.LineStart.{after_break}
-use Rattle.yf_lines.specs.Lines.{IsLine, LineEnd as LineStop, OneLine}
+use Rattle.yf_lines.specs.Lines.{LineEnd as LineStop, OneLine}
 use Rattle.yf_lines.specs.Lines.LineEnd.{at_break, at_end}
 use Rattle.yf_lines.specs.declared.line.Line.{Line}
-use Rattle.yf_lines.proofs.LineLemmas.{Made, line_made}
+use Rattle.yf_lines.proofs.LineLemmas.{line_made}
 use Rattle.yf_comments.specs.Comment.{CommentValue}
-use Rattle.yf_comments.specs.Comments.{BreakOrEnd, LineEnd}
+use Rattle.yf_comments.specs.Comments.{LineEnd}
 use Rattle.yf_comments.specs.Comments.BreakOrEnd.{by_end}
 use Rattle.yf_comments.specs.Comments.LineRest.{nothing}
 use Rattle.yf_comments.specs.Comments.LineEnd.{past_rest, from_start}

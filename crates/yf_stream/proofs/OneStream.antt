@@ -115,7 +115,7 @@ module _ {t : List ℕ} where
   content_one (content_at {k = p} s n h) (content_at {k = q} r m g) =
       (many_unique t is_white (separate_whites s).1 (ns_not_white (code t p) n) (separate_whites r).1 (ns_not_white (code t q) m)).0
 
-  no_content : {k p : ℕ} (c : ℕ) → code t k ≡ c → is_white c ≡ false → is_ns_char c ≡ false → ContentAt t k p → ⊥
+  pub no_content : {k p : ℕ} (c : ℕ) → code t k ≡ c → is_white c ≡ false → is_ns_char c ≡ false → ContentAt t k p → ⊥
   no_content c e w n d = true≢false (sym (content_first d (ap is_white e ∙ w)) ∙ ap is_ns_char e ∙ n)
 
   lines_end : {b : Bool} {h k : ℕ} {x : Documents} → Path t b h k x → b ≡ false → LinesEnd t k
@@ -130,7 +130,7 @@ end_facts : (is_white no_char ≡ false) × (is_ns_char no_char ≡ false)
 unfolding is_ns_char is_nb_char is_printable is_between is_break_char is_white
 end_facts = (refl, refl)
 
-mark_facts : (is_white 0xFEFF ≡ false) × (is_ns_char 0xFEFF ≡ false)
+pub mark_facts : (is_white 0xFEFF ≡ false) × (is_ns_char 0xFEFF ≡ false)
 unfolding is_ns_char is_nb_char is_printable is_between is_break_char is_white
 mark_facts = (refl, refl)
 

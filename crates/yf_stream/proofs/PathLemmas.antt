@@ -1,6 +1,6 @@
 -- What can stand on a path of a stream at a place, by what stands in the text there. Where the reader of streams refuses, no path goes on.
-use Rattle.std.proofs.Common.{◌≡◌, ◌≢◌, ℕ, max, ◌+◌, ◌<◌, ◌≤◌, Bool, true, false, List, [], ◌∷◌, ◌++◌, length, refl, sym, ap, ◌∙◌, arith, true≢false}
-use Rattle.yf_chars.specs.Text.{code, next, no_char}
+use Rattle.std.proofs.Common.{◌≡◌, ◌≢◌, ℕ, max, ◌+◌, Bool, true, false, List, [], length, refl, sym, ◌∙◌, arith, true≢false}
+use Rattle.yf_chars.specs.Text.{code, next}
 use Rattle.yf_chars.specs.Chain.Chain.{done, step}
 use Rattle.yf_chars.specs.Chain.One.{one}
 use Rattle.yf_lines.specs.Basic.{Forbidden}
@@ -11,6 +11,7 @@ use Rattle.yf_plain.proofs.PlainLemmas.{ns_below}
 use Rattle.yf_grammar.specs.Meaning.{Meaning}
 use Rattle.yf_stream.specs.Stream.{ContentAt, Documents, document_of, only_comments, with_comments, with_document}
 use Rattle.yf_stream.specs.Stream.ContentAt.{content_at}
+use Rattle.yf_stream.proofs.OneStream.{mark_facts, no_content}
 use Rattle.yf_stream.proofs.StreamPath.{ExplicitTo, Path, Settled, end_code, path_bare, path_directives, path_ends, path_explicit, path_mark, path_suffix}
 
 -- the document that begins with a `---` there, and the path after it
@@ -32,6 +33,15 @@ pub record SuffixStep (t : List ℕ) (h k : ℕ) (x : Documents) : Type 0 where
   pub rest : Documents
   pub settled : Settled t (k + 3) end comments
   pub path : Path t true h end rest
+  pub is : x ≡ with_comments comments rest
+
+-- the comments after a byte order mark there, and the path after them
+pub record MarkStep (t : List ℕ) (b : Bool) (h k : ℕ) (x : Documents) : Type 0 where
+  pub end : ℕ
+  pub comments : List CommentValue
+  pub rest : Documents
+  pub settled : Settled t (next t k) end comments
+  pub path : Path t b h end rest
   pub is : x ≡ with_comments comments rest
 
 module _ {t : List ℕ} where
@@ -84,3 +94,12 @@ module _ {t : List ℕ} where
   path_at_dots f c (path_explicit q d y p) = absurd (omega arith)
   path_at_dots f c (path_directives b d e y p) = absurd (omega arith)
   path_at_dots f c (path_bare b g d a y p) = absurd (g f)
+
+  -- at a byte order mark it goes on behind it
+  pub path_at_mark : {b : Bool} {h k : ℕ} {x : Documents} → code t k ≡ 0xFEFF → Path t b h k x → MarkStep t b h k x
+  path_at_mark {k = k} c (path_ends q) = let n = end_code t k q in absurd (omega arith)
+  path_at_mark c (path_mark {l = l} {es = es} {x = x} m s p) = record { end = l; comments = es; rest = x; settled = s; path = p; is = refl }
+  path_at_mark c (path_suffix g d s p) = absurd (omega arith)
+  path_at_mark c (path_explicit q d y p) = absurd (omega arith)
+  path_at_mark c (path_directives b d e y p) = absurd (omega arith)
+  path_at_mark c (path_bare b g d a y p) = absurd (no_content 0xFEFF c mark_facts.0 mark_facts.1 a)

@@ -9,7 +9,7 @@ use Rattle.yf_chars.specs.Chain.Chain.{done, step}
 use Rattle.yf_chars.specs.Chain.One.{one}
 use Rattle.yf_chars.proofs.ChainLemmas.{stuck_unique}
 use Rattle.yf_chars.proofs.TextLemmas.{code-past, next_later, reads_real}
-use Rattle.yf_lines.specs.Basic.{Break, Forbidden, LineStart, is_marker}
+use Rattle.yf_lines.specs.Basic.{Break, LineStart, is_marker}
 use Rattle.yf_lines.specs.Basic.LineStart.{at_text, after_break, after_mark}
 use Rattle.yf_lines.specs.Basic.Break.{cr_lf, lone_cr, lone_lf}
 use Rattle.yf_lines.proofs.BasicLemmas.{no_break_here, no_break_inside}
