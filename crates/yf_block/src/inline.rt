@@ -6,7 +6,7 @@ ghost use Rattle.std.specs.Str.{IsCharBoundary, IsUtf8};
 ghost use Rattle.yf_chars.specs.Text.{code};
 ghost use Rattle.yf_flow.specs.Machine.{Place, EndingAt};
 ghost use Rattle.yf_block.specs.InlineAnswers.{EmptyKeyAt, InlineEnds, NoEmptyKey};
-ghost use Rattle.yf_block.specs.Machine.{Stepped, ProgressAt, HeldBefore, behind_held, MayBoundary, IsEndAt};
+ghost use Rattle.yf_block.specs.Machine.{Stepped, ProgressAt, HeldBefore, behind_held, MayBoundary};
 
 use crate::content::{Behind, Claim, Share};
 use crate::entry::{await_value, collection_start, entry_at};
