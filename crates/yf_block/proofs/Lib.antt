@@ -2,6 +2,10 @@
 
 -- what all functions rest on: ends and looks ahead
 pub mod Forward
+pub mod HeldLemmas
+pub mod InlineLemmas
+pub mod KeyEndLemmas
+pub mod KeyNodes
 pub mod LookLemmas
 pub mod EntryLineLemmas
 pub mod AwaitingLemmas

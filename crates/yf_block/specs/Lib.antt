@@ -3,6 +3,8 @@ pub mod BlockStepTied
 pub mod BlockTied
 pub mod Closing
 pub mod Fits
+pub mod HeldAnswers
+pub mod InlineAnswers
 pub mod Looks
 pub mod Machine
 pub mod NodeReaders

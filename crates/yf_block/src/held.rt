@@ -1,17 +1,26 @@
 //! The properties of nodes, line by line.
-ghost use Rattle.std.specs.Prelude.{◌≡◌, ◌+◌, IfOk, IfSome};
+ghost use Rattle.std.specs.Prelude.{◌≡◌, ℕ, pos, ◌+◌, IfOk, IfSome, MatchBool, MatchOption};
 ghost use Rattle.std.specs.Str.{IsCharBoundary};
+ghost use Rattle.yf_chars.specs.Chain.{Stuck};
+ghost use Rattle.yf_chars.specs.Text.{code};
 ghost use Rattle.yf_flow.specs.Machine.{Place};
+ghost use Rattle.yf_grammar.specs.BlockParser.{Ahead, Held as HeldValue};
+ghost use Rattle.yf_grammar.specs.Parser.{begins_properties};
+ghost use Rattle.yf_props.specs.Names as Names;
+ghost use Rattle.yf_props.specs.Props.{name_value, optional_tag_value};
+ghost use Rattle.yf_block.specs.BlockStepTied.{HeldTied};
+ghost use Rattle.yf_block.specs.HeldAnswers.{BothThere, HeldAhead, JoinedBehind, JoinedTo, LineProperties, NoPlaceBehind, PlaceBehind, held_lead, lead_at, line_held};
 
 use crate::leaf::read_properties;
 use crate::look::sign_stands;
 use std::alloc::{AllocError, Global};
+use yf_chars::context::Ctx;
 use yf_chars::text::stands;
 use yf_events::event::Entry;
 use yf_flow::node::Lead;
 use yf_lines::basic::skip_whites;
 use yf_props::properties::Properties;
-use yf_props::props::Props;
+use yf_props::props::{Props, Tag};
 
 /// Properties, from one byte offset to another.
 #[derive(Clone, Copy)]
@@ -24,7 +33,9 @@ pub(crate) struct Held<'a> {
 
 impl<'a> Held<'a> {
     /// What is known of a node with these properties.
-    pub(crate) fn lead(self, entry: Option<Entry>) -> Lead<'a> {
+    pub(crate) fn lead(self, entry: Option<Entry>) -> Lead<'a>
+        ensures { result ≡ held_lead self.entry entry }
+    {
         Lead {
             start: self.start,
             props: self.props,
@@ -35,7 +46,9 @@ impl<'a> Held<'a> {
 }
 
 /// What is known of a node at an offset, with properties or none.
-pub(crate) fn lead_of<'a>(at: usize, held: Option<Held<'a>>, entry: Option<Entry>) -> Lead<'a> {
+pub(crate) fn lead_of<'a>(at: usize, held: Option<Held<'a>>, entry: Option<Entry>) -> Lead<'a>
+    ensures { result ≡ lead_at at held.entry entry }
+{
     match held {
         Some(held) => held.lead(entry),
         None => Lead::bare(at, entry),
@@ -48,31 +61,36 @@ pub(crate) fn line_properties<'a>(
     text: &'a str,
     at: usize,
 ) -> Result<Option<Held<'a>>, AllocError>
-    ensures { IfOk result (λ o. IfSome o (λ h. Place text.now (at + 1) h.end)) }
+    ensures place { IfOk result (λ o. IfSome o (λ h. Place text.now (at + 1) h.end)) }
+    ensures reads { IfOk result (λ o. MatchOption o (Stuck (Names.Properties text.now (pos 0) Ctx.FlowKey at)) (LineProperties text.now at)) }
 {
-    if !property_stands(text, at) {
-        return Ok(None);
+    if property_stands(text, at) {
+        match read_properties(alloc, text, at)? {
+            Some(
+                Properties {
+                    props,
+                    tag_offset,
+                    comments: _,
+                    end,
+                },
+            ) => {
+                return Ok(Some(Held {
+                    start: at,
+                    props,
+                    tag_offset,
+                    end,
+                }));
+            }
+            None => return Ok(None),
+        }
     }
-    match read_properties(alloc, text, at)? {
-        Some(
-            Properties {
-                props,
-                tag_offset,
-                comments: _,
-                end,
-            },
-        ) => Ok(Some(Held {
-            start: at,
-            props,
-            tag_offset,
-            end,
-        })),
-        None => Ok(None),
-    }
+    Ok(None)
 }
 
 /// Whether the first character of an anchor or a tag stands there.
-pub(crate) fn property_stands(text: &str, at: usize) -> bool {
+pub(crate) fn property_stands(text: &str, at: usize) -> bool
+    ensures { result ≡ begins_properties (code text.now at) }
+{
     if stands(text, at, b'&') {
         return true;
     }
@@ -83,7 +101,8 @@ pub(crate) fn property_stands(text: &str, at: usize) -> bool {
 /// something else follows, or a property of a kind that they have.
 pub(crate) fn place_behind(text: &str, held: Held) -> Option<usize>
     requires { IsCharBoundary text.now held.end }
-    ensures { IfSome result (λ p. Place text.now held.entry.end p) }
+    ensures place { IfSome result (λ p. Place text.now held.entry.end p) }
+    ensures reads { MatchOption result (NoPlaceBehind text.now held.entry.end) (PlaceBehind text.now held.entry.end) }
 {
     let place = skip_whites(text, held.end);
     if place == held.end {
@@ -99,29 +118,58 @@ pub(crate) fn place_behind(text: &str, held: Held) -> Option<usize>
 
 /// Properties of one node that stand on several lines; `None` where two are of one kind.
 pub(crate) fn joined<'a>(outer: Held<'a>, inner: Held<'a>) -> Option<Held<'a>>
-    ensures { IfSome result (λ h. h.end ≡ inner.entry.end) }
+    ensures end { IfSome result (λ h. h.end ≡ inner.entry.end) }
+    ensures reads { (h : HeldValue) → (q : Names.PropertiesValue) → HeldTied h outer.entry → HeldTied (line_held q inner.entry.start inner.entry.end) inner.entry
+        → JoinedTo h q inner.entry.end result }
 {
-    let anchor = match (outer.props.anchor, inner.props.anchor) {
-        (Some(_), Some(_)) => return None,
-        (Some(name), None) => Some(name),
-        (None, name) => name,
-    };
-    let tag = match (outer.props.tag, inner.props.tag) {
-        (Some(_), Some(_)) => return None,
-        (Some(tag), None) => Some(tag),
-        (None, tag) => tag,
-    };
+    if names_clash(outer.props.anchor, inner.props.anchor) {
+        return None;
+    }
+    if tags_clash(outer.props.tag, inner.props.tag) {
+        return None;
+    }
     Some(Held {
         start: outer.start,
-        props: Props { anchor, tag },
+        props: Props {
+            anchor: outer.props.anchor.or(inner.props.anchor),
+            tag: outer.props.tag.or(inner.props.tag),
+        },
         tag_offset: outer.tag_offset.or(inner.tag_offset),
         end: inner.end,
     })
 }
 
+// Whether both are there.
+fn names_clash(outer: Option<&str>, inner: Option<&str>) -> bool
+    ensures { MatchBool result (BothThere (name_value outer.entry) (name_value inner.entry)) (BothThere (name_value outer.entry) (name_value inner.entry) → ⊥) }
+{
+    match outer {
+        Some(_) => match inner {
+            Some(_) => true,
+            None => false,
+        },
+        None => false,
+    }
+}
+
+fn tags_clash(outer: Option<Tag>, inner: Option<Tag>) -> bool
+    ensures { MatchBool result (BothThere (optional_tag_value outer.entry) (optional_tag_value inner.entry))
+        (BothThere (optional_tag_value outer.entry) (optional_tag_value inner.entry) → ⊥) }
+{
+    match outer {
+        Some(_) => match inner {
+            Some(_) => true,
+            None => false,
+        },
+        None => false,
+    }
+}
+
 /// The same where there need be none before.
 pub(crate) fn joined_behind<'a>(outer: Option<Held<'a>>, inner: Held<'a>) -> Option<Held<'a>>
-    ensures { IfSome result (λ h. h.end ≡ inner.entry.end) }
+    ensures end { IfSome result (λ h. h.end ≡ inner.entry.end) }
+    ensures reads { (a : Ahead) → (q : Names.PropertiesValue) → HeldAhead a outer.entry → HeldTied (line_held q inner.entry.start inner.entry.end) inner.entry
+        → JoinedBehind a q inner.entry.start inner.entry.end result }
 {
     match outer {
         Some(outer) => joined(outer, inner),

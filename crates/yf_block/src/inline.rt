@@ -1,10 +1,12 @@
 //! What stands on a line after properties, or where there are none: a flow node or an alias, which may be the first key of
 //! a mapping.
-ghost use Rattle.std.specs.Prelude.{◌≡◌, ◌+◌, ◌^◌, ◌≤◌, ◌≤ℤ◌, pos, IfOk};
+ghost use Rattle.std.specs.Prelude.{◌≡◌, ℕ, ℤ, ◌+◌, ◌^◌, ◌≤◌, ◌≤ℤ◌, pos, false, None, IfOk, IfSome, MatchOption};
 ghost use Rattle.std.specs.List.{All};
-ghost use Rattle.std.specs.Str.{IsCharBoundary};
+ghost use Rattle.std.specs.Str.{IsCharBoundary, IsUtf8};
+ghost use Rattle.yf_chars.specs.Text.{code};
 ghost use Rattle.yf_flow.specs.Machine.{Place, EndingAt};
-ghost use Rattle.yf_block.specs.Machine.{Stepped, ProgressAt, HeldBefore, behind_held, MayBoundary, IsEndAt};
+ghost use Rattle.yf_block.specs.InlineAnswers.{EmptyKeyAt, InlineEnds, NoEmptyKey};
+ghost use Rattle.yf_block.specs.Machine.{Stepped, ProgressAt, HeldBefore, behind_held, MayBoundary};
 
 use crate::content::{Behind, Claim, Share};
 use crate::entry::{await_value, collection_start, entry_at};
@@ -41,33 +43,61 @@ pub(crate) fn read_inline<'a>(
     requires boundary { IsCharBoundary scope.text.now at }
     requires held { HeldBefore scope.text.now at inner.now }
     requires escapes { All (IsCharBoundary scope.text.now) part.old.escapes }
+    ensures answers { IsUtf8 scope.entry.text.now → least ≤ 2 ^ 30 → (room : ℕ) → depth + room ≡ scope.entry.limit
+        → IfOk result (λ e. InlineEnds scope.entry.text.now room (pos least) at depth inner.now lead.now part.old part.new e) }
     ensures escapes { IfOk result (λ _. All (IsCharBoundary scope.entry.text.now) part.new.escapes) }
     ensures found { IfOk result (λ e. EndingAt scope.entry.text.now (behind_held at inner.now) e) }
 {
-    if let Some(held) = *inner {
-        if sign_stands(scope.text, at, b':') {
-            push_scalar(
-                alloc,
-                *lead,
-                ScalarStyle::Plain,
-                Text::Part(""),
-                held.end,
-                part,
-            )?;
-            return Ok(inline_end(held.end, depth));
+    match empty_key_end(scope.text, at, inner) {
+        Some(end) => {
+            push_scalar(alloc, *lead, ScalarStyle::Plain, Text::Part(""), end, part)?;
+            Ok(inline_end(end, depth))
+        }
+        None => read_flow(alloc, scope, least, at, inner, lead, depth, part),
+    }
+}
+
+// The offset after the properties that are an empty key, whose `:` stands there.
+fn empty_key_end(text: &str, at: usize, inner: &Option<Held>) -> Option<usize>
+    requires { HeldBefore text.now at inner.now }
+    ensures reads { MatchOption result (NoEmptyKey text.now at inner.now) (EmptyKeyAt text.now at inner.now) }
+    ensures place { IfSome result (λ p. Place text.now (behind_held at inner.now) p) }
+{
+    match *inner {
+        None => None,
+        Some(held) => {
+            if sign_stands(text, at, b':') {
+                return Some(held.end);
+            }
+            None
         }
     }
+}
+
+// An alias, which has no properties, or the content of a flow node.
+fn read_flow<'a>(
+    alloc: Global,
+    scope: Scope<'a>,
+    least: usize,
+    at: usize,
+    inner: &Option<Held<'a>>,
+    lead: &Lead<'a>,
+    depth: usize,
+    part: &mut Part<'a>,
+) -> Result<Ending, AllocError>
+    requires boundary { IsCharBoundary scope.text.now at }
+    requires held { HeldBefore scope.text.now at inner.now }
+    requires escapes { All (IsCharBoundary scope.text.now) part.old.escapes }
+    requires other { NoEmptyKey scope.text.now at inner.now }
+    ensures answers { IsUtf8 scope.entry.text.now → least ≤ 2 ^ 30 → (room : ℕ) → depth + room ≡ scope.entry.limit
+        → IfOk result (λ e. InlineEnds scope.entry.text.now room (pos least) at depth inner.now lead.now part.old part.new e) }
+    ensures escapes { IfOk result (λ _. All (IsCharBoundary scope.entry.text.now) part.new.escapes) }
+    ensures found { IfOk result (λ e. EndingAt scope.entry.text.now (behind_held at inner.now) e) }
+{
     if stands(scope.text, at, b'*') {
-        if let Some(_) = *inner {
-            return Ok(Ending::Nothing);
-        }
-        return match alias_node(scope.text, at) {
-            None => Ok(Ending::Nothing),
-            Some((name, end)) => {
-                part.events
-                    .push(lead.placed(alloc, NewEvent::Alias { name }, end))?;
-                Ok(inline_end(end, depth))
-            }
+        return match *inner {
+            Some(_) => Ok(Ending::Nothing),
+            None => read_alias(alloc, scope.text, at, lead, depth, part),
         };
     }
     let scene = Scene {
@@ -79,8 +109,31 @@ pub(crate) fn read_inline<'a>(
     read_content(alloc, scene, at, *lead, depth, part)
 }
 
+fn read_alias<'a>(
+    alloc: Global,
+    text: &'a str,
+    at: usize,
+    lead: &Lead<'a>,
+    depth: usize,
+    part: &mut Part<'a>,
+) -> Result<Ending, AllocError>
+    requires { code text.now at ≡ 42 }
+    ensures answers { (room : ℕ) → (n : ℤ) → IfOk result (λ e. InlineEnds text.now room n at depth None lead.now part.old part.new e) }
+    ensures escapes { IfOk result (λ _. part.new.escapes ≡ part.old.escapes) }
+    ensures found { IfOk result (λ e. EndingAt text.now (at + 1) e) }
+{
+    match alias_node(text, at) {
+        None => Ok(Ending::Nothing),
+        Some((name, end)) => {
+            part.events
+                .push(lead.placed(alloc, NewEvent::Alias { name }, end))?;
+            Ok(inline_end(end, depth))
+        }
+    }
+}
+
 fn inline_end(end: usize, depth: usize) -> Ending
-    ensures { IsEndAt end result }
+    ensures { result ≡ Ending.End (record { end = end; json = false; deepest = depth }) }
 {
     Ending::End(Node {
         end,
@@ -94,6 +147,7 @@ const WIDEST: usize = 1 << 30;
 
 /// The indentation of that many spaces as a number; past 2^30 it is 2^30.
 pub(crate) fn flow_indentation(least: usize) -> i32
+    ensures same { least ≤ 2 ^ 30 → result ≡ pos least }
     ensures upper { result ≤ℤ pos (2 ^ 30) }
     ensures lower { pos 0 ≤ℤ result }
 {

@@ -1,5 +1,9 @@
 //! The readers of line ends, properties and block scalars, as block nodes take them.
-ghost use Rattle.std.specs.Prelude.{◌≡◌, ◌+◌, ◌<◌, length, IfOk, IfSome};
+ghost use Rattle.std.specs.Prelude.{◌≡◌, pos, ◌+◌, ◌<◌, length, IfOk, IfSome, MatchOption};
+ghost use Rattle.yf_chars.specs.Chain.{Chosen, Stuck};
+ghost use Rattle.yf_comments.specs.Comments.{LineEnd};
+ghost use Rattle.yf_props.specs.Names as Names;
+ghost use Rattle.yf_props.specs.Properties.{properties_value};
 ghost use Rattle.std.specs.Str.{IsCharBoundary};
 ghost use Rattle.yf_lines.specs.Basic.{LineStart};
 ghost use Rattle.yf_flow.specs.Machine.{Place};
@@ -22,7 +26,8 @@ pub(crate) fn read_line_end<'a>(
     at: usize,
 ) -> Result<Option<Separation<'a>>, AllocError>
     requires { IsCharBoundary text.now at }
-    ensures { IfOk result (λ o. IfSome o (λ p. Place text.now at p.end)) }
+    ensures place { IfOk result (λ o. IfSome o (λ p. Place text.now at p.end)) }
+    ensures reads { IfOk result (λ o. MatchOption o (Stuck (LineEnd text.now at)) (λ p. Chosen (LineEnd text.now at) p.end p.comments)) }
 {
     match line_end(alloc, text, at)? {
         Some(separation) => Ok(Some(separation)),
@@ -36,7 +41,9 @@ pub(crate) fn read_properties<'a>(
     text: &'a str,
     at: usize,
 ) -> Result<Option<Properties<'a>>, AllocError>
-    ensures { IfOk result (λ o. IfSome o (λ p. Place text.now (at + 1) p.end)) }
+    ensures place { IfOk result (λ o. IfSome o (λ p. Place text.now (at + 1) p.end)) }
+    ensures reads { IfOk result (λ o. MatchOption o (Stuck (Names.Properties text.now (pos 0) Ctx.FlowKey at))
+        (λ p. Chosen (Names.Properties text.now (pos 0) Ctx.FlowKey at) p.end (properties_value p))) }
 {
     match node_properties(alloc, text, at, 0, Ctx::FlowKey)? {
         Some(properties) => Ok(Some(properties)),

@@ -4,9 +4,11 @@ ghost use Rattle.std.specs.Str.{IsCharBoundary};
 ghost use Rattle.yf_chars.specs.Text.{code};
 ghost use Rattle.yf_lines.specs.Basic.{Break};
 ghost use Rattle.yf_comments.specs.Comments.{Blank};
+ghost use Rattle.yf_flow.specs.Leaves.{KeyLine};
 ghost use Rattle.yf_flow.specs.Machine.{Place};
 ghost use Rattle.yf_grammar.specs.BlockParser.{DashAt, LineText, LinesEnd, SignAt};
 ghost use Rattle.yf_grammar.specs.Part.{NotedSince};
+ghost use Rattle.yf_block.specs.InlineAnswers.{KeyEnds};
 ghost use Rattle.yf_block.specs.Looks.{EntryPlace, LineEndsAt, NotWithinBreak};
 
 use yf_chars::classes::is_ns_char;
@@ -47,7 +49,8 @@ pub(crate) fn sign_stands(text: &str, at: usize, sign: u8) -> bool
 /// Whether the `:` after an implicit key stands there, on the line on which the key starts.
 pub(crate) fn key_ends(text: &str, start: usize, at: usize) -> bool
     requires { IsCharBoundary text.now start }
-    ensures { result ≡ true → IsCharBoundary text.now (at + 1) }
+    ensures boundary { result ≡ true → IsCharBoundary text.now (at + 1) }
+    ensures cases { MatchBool result (KeyEnds text.now start at) (KeyEnds text.now start at → ⊥) }
 {
     if sign_stands(text, at, b':') {
         if is_short_line(text, start, at) {
@@ -62,23 +65,25 @@ pub(crate) fn key_ends(text: &str, start: usize, at: usize) -> bool
 const SHORT: usize = 1024;
 
 // Whether the bytes between the offsets are all on one line, and no more than a short key has.
-fn is_short_line(text: &str, start: usize, end: usize) -> bool {
-    if end > text.len() {
-        return false;
-    }
+fn is_short_line(text: &str, start: usize, end: usize) -> bool
+    requires { IsCharBoundary text.now start }
+    ensures { result ≡ true → IsCharBoundary text.now end → KeyLine text.now start end }
+{
     if start > end {
         return false;
     }
     if end - start > SHORT {
         return false;
     }
-    for byte in &text.as_bytes()[start..end] {
-        if *byte == b'\n' {
+    let mut at = start;
+    'bytes: while at < end {
+        if stands(text, at, b'\n') {
             return false;
         }
-        if *byte == b'\r' {
+        if stands(text, at, b'\r') {
             return false;
         }
+        at += 1;
     }
     true
 }

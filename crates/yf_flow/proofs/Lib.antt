@@ -9,9 +9,12 @@ pub mod MachineLemmas
 pub mod Frames
 pub mod EntryNotes
 pub mod NotedLemmas
+pub mod NotedFloor
 -- `read_content`: what is found where a node is awaited
 pub mod BegunLemmas
 pub mod NodeBegunLemmas
+pub mod ContentEnds
+pub mod EntriesFrom
 -- `read_flow_node` and `read_implicit_key`: the stack and the recursive reader agree (`Tied`)
 pub mod TiedBase
 pub mod TiedBegun
@@ -21,6 +24,7 @@ pub mod TiedFails
 pub mod TiedFirst
 pub mod TiedItems
 pub mod TiedKeys
+pub mod TiedKept
 pub mod TiedNodes
 pub mod TiedPairKeys
 pub mod TiedPairs

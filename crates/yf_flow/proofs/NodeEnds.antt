@@ -1,5 +1,5 @@
 -- How a node that was begun ends, and what it is where its content is not derived: its properties alone, or nothing.
-use Rattle.std.proofs.Common.{◌≡◌, ℕ, ℤ, true, false, List, [], ◌∷◌, ◌++◌, None, refl, sym, ap, ◌∙◌, subst, append-nil}
+use Rattle.std.proofs.Common.{◌≡◌, ℕ, ℤ, true, false, List, [], ◌∷◌, ◌++◌, length, None, refl, sym, ap, ◌∙◌, subst, append-nil}
 use Rattle.std.specs.Str.{IsUtf8}
 use Rattle.yf_chars.specs.declared.context.Ctx.{Ctx}
 use Rattle.yf_chars.specs.declared.context.Ctx.TheVariants.{FlowIn}
@@ -41,12 +41,12 @@ use Rattle.yf_flow.specs.Tied.{Noted, no_events, event_before, entryless, Writte
 use Rattle.yf_flow.proofs.TiedBase.{base_of, base_awaits, base_read, base_lost, leaf_read, missing_lost, full_lost}
 
 -- nothing has been written to a new part
-pub nothing_written : {t : List ℕ} {part : Part} → part.events ≡ [] → part.comments ≡ [] → part.escapes ≡ [] → Written t (only [] 0) part
+pub nothing_written : {t : List ℕ} {part : Part} → part.events ≡ [] → part.comments ≡ [] → part.escapes ≡ [] → Written t 0 (only [] 0) part
 unfolding only
-nothing_written {t} {part} a b c = record { events = subst (λ z. Noted t [] z) (sym a) no_events; comments = b; escapes = c }
+nothing_written {t} {part} a b c = record { events = subst (λ z. Noted t 0 [] z) (sym a) no_events; comments = b; escapes = c }
 
 -- an outermost collection of which nothing is asked
-no_base : Base
+pub no_base : Base
 no_base = record { sequence = true; place = 0; context = FlowIn; limit = 0; total = 0; written = only [] 0; event = plain_event sequence_ends None }
 
 module _ {t : List ℕ} {n : ℤ} {c : Ctx} {i limit : ℕ} {mid new : Part} {w : Meaning} where
@@ -55,7 +55,7 @@ module _ {t : List ℕ} {n : ℤ} {c : Ctx} {i limit : ℕ} {mid new : Part} {w 
       subst (λ z. NodeEnds t n c limit i w new z) (sym a) (subst (λ z. NodeRead t limit n c i w node z) (sym b) r)
 
 module _ {t : List ℕ} {c d : Ctx} {w : Meaning} (n : ℤ) (i limit : ℕ) {old : Part} (mid new : Part) where
-  pub begun_ends : IsUtf8 t → InnerContext c d → Written t w old → (b : Begun) (e : Ending) → NodeBegun t n c i 0 limit None old mid b → ((base : Base) → BegunTied t n d limit base b mid → EndsAs t n base b mid new e)
+  pub begun_ends : IsUtf8 t → InnerContext c d → Written t (length w.events) w old → (b : Begun) (e : Ending) → NodeBegun t n c i 0 limit None old mid b → ((base : Base) → BegunTied t n d limit base b mid → EndsAs t n base b mid new e)
       → NodeEnds t n c limit i w new e
   begun_ends u q p (Leaf node) e l f = let r = f no_base tt in leaf_ends node e (leaf_read w p l) r.0 r.1
   begun_ends u q p (Opened f) e o g = go e (g (base_of w o) (reading, subst (λ z. AtEntry t n z (base_of w o) [] f f.entry mid) (sym q.is) (base_awaits w o p))) where
@@ -73,10 +73,18 @@ nothing_before : (x : Meaning) → only [] 0 ⊕ x ≡ x
 unfolding ◌⊕◌ only
 nothing_before x = refl
 
+none_before : {t : List ℕ} {x : Meaning} {part : Part} → Written t (length (only [] 0).events) x part → Written t 0 x part
+unfolding only
+none_before p = p
+
+pub nothing_kept : {t : List ℕ} {part : Part} → Written t 0 (only [] 0) part → Written t (length (only [] 0).events) (only [] 0) part
+unfolding only
+nothing_kept p = p
+
 module _ {t : List ℕ} {n : ℤ} {c : Ctx} {i limit : ℕ} where
   -- the node of a new part
   pub read_found : (node : Node) (part : Part) → NodeRead t limit n c i (only [] 0) node part → NodeFound t n c limit i part node.end
-  read_found node part r = record { answer = r.answer; parsed = r.parsed; ends = r.end; written = subst (λ z. Written t z part) (nothing_before r.answer.meaning) r.written }
+  read_found node part r = record { answer = r.answer; parsed = r.parsed; ends = r.end; written = subst (λ z. Written t 0 z part) (nothing_before r.answer.meaning) (none_before r.written) }
 
   -- without properties there is no node
   pub lost_none : Stuck (Properties t n c i) → NodeLost t limit n c i → Parses t limit (ANode n c i) None
@@ -97,10 +105,10 @@ abbrev lone_lead : TheProperties → ℕ → Lead
 lone_lead v i = record { start = i; props = v.props; tag_offset = v.tag_offset; entry = None }
 
 lone_written : {t : List ℕ} {part : Part} (v : TheProperties) (i g : ℕ) → part.events ≡ leaf_event (lone_lead v i) Plain [] g ∷ [] → part.comments ≡ v.comments → part.escapes ≡ []
-    → Written t (behind v.comments (with_props (props_value v.props) v.tag_offset i g (empty_node g))) part
+    → Written t 0 (behind v.comments (with_props (props_value v.props) v.tag_offset i g (empty_node g))) part
 unfolding behind with_props empty_node plain_event from_to
 lone_written {t} {part} v i g a b e = record {
-  events = subst (λ z. Noted t (leaf_event (lone_lead v i) Plain [] g ∷ []) z) (sym a) (event_before (record { no_lines = refl; note = entryless refl }) no_events);
+  events = subst (λ z. Noted t 0 (leaf_event (lone_lead v i) Plain [] g ∷ []) z) (sym a) (event_before (record { no_lines = refl; note = entryless refl }) no_events);
   comments = b ∙ sym (append-nil v.comments);
   escapes = e;
 }

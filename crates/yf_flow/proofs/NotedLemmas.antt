@@ -1,5 +1,5 @@
 -- Events with the notes of their entries filled in: what is done to both lists alike keeps them so.
-use Rattle.std.proofs.Common.{◌≡◌, ℕ, zero, suc, Bool, true, false, List, [], ◌∷◌, ◌++◌, length, take, drop, Some, MatchBool, refl, sym, ap, subst, arith, true≢false}
+use Rattle.std.proofs.Common.{◌≡◌, ℕ, zero, suc, Bool, true, false, List, [], ◌∷◌, ◌++◌, length, ◌≤◌, take, drop, Some, MatchBool, refl, sym, ap, subst, arith, true≢false}
 use Rattle.yf_comments.specs.Comments.{BlankBefore}
 use Rattle.yf_comments.specs.Comments.BlankBefore.{blank_line as line_before, past_gap as gap_before}
 use Rattle.yf_events.specs.Event.{EventValue, Placed, stream_starts, stream_ends, document_starts, document_ends, sequence_starts, sequence_ends, mapping_starts, mapping_ends, scalar_node, alias_node}
@@ -11,7 +11,7 @@ use Rattle.yf_grammar.specs.Part.NotedSince.{noted, not_noted}
 use Rattle.yf_grammar.specs.Part.Noting.{no_event, without_entry, with_entry}
 use Rattle.yf_grammar.proofs.SinceKnown.{since_before}
 use Rattle.yf_flow.specs.Begun.{is_lined}
-use Rattle.yf_flow.specs.Tied.{NoteOf, entryless, entry_noted, NotedEvent, Noted, no_events, event_before}
+use Rattle.yf_flow.specs.Tied.{NoteOf, entryless, entry_noted, NotedEvent, Noted, no_events, kept_before, event_before}
 
 -- where no block scalar stands before, a blank line is met or not
 since_zero : {t : List ℕ} {j : ℕ} → BlankBefore t j → BlankSince t 0 j
@@ -22,42 +22,67 @@ pub note_of : {t : List ℕ} {i : ℕ} (b : Bool) → MatchBool b (BlankBefore t
 note_of true b = noted (since_zero b)
 note_of false f = not_noted (λ s. f (since_before s))
 
-floor_zero : (e : Placed) (v : EventValue) → is_lined v ≡ false → floor_behind 0 e v ≡ 0
-floor_zero e stream_starts q = refl
-floor_zero e stream_ends q = refl
-floor_zero e (document_starts b) q = refl
-floor_zero e (document_ends b) q = refl
-floor_zero e (sequence_starts f p) q = refl
-floor_zero e sequence_ends q = refl
-floor_zero e (mapping_starts f p) q = refl
-floor_zero e mapping_ends q = refl
-floor_zero e (scalar_node p Plain x) q = refl
-floor_zero e (scalar_node p Single x) q = refl
-floor_zero e (scalar_node p Double x) q = refl
-floor_zero e (scalar_node p Literal x) q = absurd (true≢false q)
-floor_zero e (scalar_node p Folded x) q = absurd (true≢false q)
-floor_zero e (alias_node x) q = refl
+pub floor_same : (floor : ℕ) (e : Placed) (v : EventValue) → is_lined v ≡ false → floor_behind floor e v ≡ floor
+floor_same floor e stream_starts q = refl
+floor_same floor e stream_ends q = refl
+floor_same floor e (document_starts b) q = refl
+floor_same floor e (document_ends b) q = refl
+floor_same floor e (sequence_starts f p) q = refl
+floor_same floor e sequence_ends q = refl
+floor_same floor e (mapping_starts f p) q = refl
+floor_same floor e mapping_ends q = refl
+floor_same floor e (scalar_node p Plain x) q = refl
+floor_same floor e (scalar_node p Single x) q = refl
+floor_same floor e (scalar_node p Double x) q = refl
+floor_same floor e (scalar_node p Literal x) q = absurd (true≢false q)
+floor_same floor e (scalar_node p Folded x) q = absurd (true≢false q)
+floor_same floor e (alias_node x) q = refl
+
+-- what stands after the events that are kept
+pub record AfterKept (t : List ℕ) (x z y : List Placed) : Type 0 where
+  pub after : List Placed
+  pub is : y ≡ x ++ after
+  pub noted_after : Noted t 0 z after
 
 module _ {t : List ℕ} where
   noting_one : {e f : Placed} {x y : List Placed} → NoteOf t e f → Noting t (floor_behind 0 e e.event) x y → Noting t 0 (e ∷ x) (f ∷ y)
   noting_one (entryless q) r = without_entry q r
   noting_one (entry_noted entry q s) r = with_entry entry q s r
 
-  pub noted_noting : {x y : List Placed} → Noted t x y → Noting t 0 x y
+  pub noted_noting : {x y : List Placed} → Noted t 0 x y → Noting t 0 x y
   noted_noting no_events = no_event
   noted_noting (event_before {e = e} {x = x} {y = y} n r) =
-      noting_one n.note (subst (λ z. Noting t z x y) (sym (floor_zero e e.event n.no_lines)) (noted_noting r))
+      noting_one n.note (subst (λ z. Noting t z x y) (sym (floor_same 0 e e.event n.no_lines)) (noted_noting r))
 
-  pub noted_append : {x y z w : List Placed} → Noted t x y → Noted t z w → Noted t (x ++ z) (y ++ w)
+  pub noted_append : {kept : ℕ} {x y z w : List Placed} → Noted t kept x y → Noted t 0 z w → Noted t kept (x ++ z) (y ++ w)
   noted_append no_events r = r
+  noted_append (kept_before s) r = kept_before (noted_append s r)
   noted_append (event_before n s) r = event_before n (noted_append s r)
 
-  pub noted_more : {x y : List Placed} {e f : Placed} → Noted t x y → NotedEvent t e f → Noted t (x ++ e ∷ []) (y ++ f ∷ [])
+  pub noted_more : {kept : ℕ} {x y : List Placed} {e f : Placed} → Noted t kept x y → NotedEvent t e f → Noted t kept (x ++ e ∷ []) (y ++ f ∷ [])
   noted_more r n = noted_append r (event_before n no_events)
 
-  pub noted_length : {x y : List Placed} → Noted t x y → length x ≡ length y
+  pub noted_length : {kept : ℕ} {x y : List Placed} → Noted t kept x y → length x ≡ length y
   noted_length no_events = refl
+  noted_length (kept_before r) = ap suc (noted_length r)
   noted_length (event_before n r) = ap suc (noted_length r)
+
+  -- events that are kept, one more of them, and one that is noted as it is
+  pub all_kept : (x : List Placed) → Noted t (length x) x x
+  all_kept [] = no_events
+  all_kept (e ∷ x) = kept_before (all_kept x)
+
+  pub kept_more : (x y : List Placed) (e : Placed) → Noted t (length x) x y → Noted t (suc (length x)) (x ++ e ∷ []) (y ++ e ∷ [])
+  kept_more [] y e no_events = kept_before no_events
+  kept_more (a ∷ x) y e (kept_before r) = kept_before (kept_more x _ e r)
+
+  pub kept_noted : (x z y : List Placed) (e : Placed) → NotedEvent t e e → Noted t (suc (length x)) (x ++ e ∷ z) y → Noted t (length x) (x ++ e ∷ z) y
+  kept_noted [] z y e n (kept_before r) = event_before n r
+  kept_noted (a ∷ x) z y e n (kept_before r) = kept_before (kept_noted x z _ e n r)
+
+  pub kept_parts : (x z y : List Placed) → Noted t (length x) (x ++ z) y → AfterKept t x z y
+  kept_parts [] z y r = record { after = y; is = refl; noted_after = r }
+  kept_parts (a ∷ x) z y (kept_before r) = let k = kept_parts x z _ r in record { after = k.after; is = ap (λ w. a ∷ w) k.is; noted_after = k.noted_after }
 
   note_ended : {e f : Placed} (j : ℕ) → NoteOf t e f → NoteOf t (ended j e) (ended j f)
   note_ended j (entryless q) = entryless q
@@ -67,20 +92,27 @@ module _ {t : List ℕ} where
   note_coloned k (entryless q) = entryless (ap (with_colon k) q)
   note_coloned k (entry_noted entry q s) = entry_noted (record entry { colon = Some k }) (ap (with_colon k) q) s
 
-  pub noted_ended : {x y : List Placed} (j i : ℕ) → Noted t x y → Noted t (edited (ended j) i x) (edited (ended j) i y)
+  pub noted_ended : {kept : ℕ} {x y : List Placed} (j i : ℕ) → Noted t kept x y → Noted t kept (edited (ended j) i x) (edited (ended j) i y)
   noted_ended j i no_events = no_events
+  noted_ended j zero (kept_before r) = kept_before r
+  noted_ended j (suc i) (kept_before r) = kept_before (noted_ended j i r)
   noted_ended j zero (event_before n r) = event_before (record { no_lines = n.no_lines; note = note_ended j n.note }) r
   noted_ended j (suc i) (event_before n r) = event_before n (noted_ended j i r)
 
-  pub noted_coloned : {x y : List Placed} (k i : ℕ) → Noted t x y → Noted t (edited (coloned k) i x) (edited (coloned k) i y)
+  pub noted_coloned : {kept : ℕ} {x y : List Placed} (k i : ℕ) → Noted t kept x y → Noted t kept (edited (coloned k) i x) (edited (coloned k) i y)
   noted_coloned k i no_events = no_events
+  noted_coloned k zero (kept_before r) = kept_before r
+  noted_coloned k (suc i) (kept_before r) = kept_before (noted_coloned k i r)
   noted_coloned k zero (event_before n r) = event_before (record { no_lines = n.no_lines; note = note_coloned k n.note }) r
   noted_coloned k (suc i) (event_before n r) = event_before n (noted_coloned k i r)
 
-  pub noted_inserted : (x z : List Placed) {y : List Placed} {e f : Placed} → Noted t (x ++ z) y → NotedEvent t e f
-      → Noted t (x ++ e ∷ z) (take (length x) y ++ f ∷ drop (length x) y)
-  noted_inserted [] z r n = event_before n r
-  noted_inserted (a ∷ x) z (event_before m r) n = event_before m (noted_inserted x z r n)
+  pub noted_inserted : {kept : ℕ} (x z : List Placed) {y : List Placed} {e f : Placed} → kept ≤ length x → Noted t kept (x ++ z) y → NotedEvent t e f
+      → Noted t kept (x ++ e ∷ z) (take (length x) y ++ f ∷ drop (length x) y)
+  noted_inserted {kept} [] z {y} {e} {f} l r n =
+      let none : 0 ≡ kept = omega arith in
+      subst (λ k. Noted t k (e ∷ z) (f ∷ y)) none (event_before n (subst (λ k. Noted t k z y) (sym none) r))
+  noted_inserted (a ∷ x) z l (kept_before r) n = kept_before (noted_inserted x z (omega arith) r n)
+  noted_inserted (a ∷ x) z l (event_before m r) n = event_before m (noted_inserted x z (omega arith) r n)
 
 -- the event at an index
 pub edited_here : (f : Placed → Placed) (x : List Placed) (e : Placed) (z : List Placed) → edited f (length x) (x ++ e ∷ z) ≡ x ++ f e ∷ z

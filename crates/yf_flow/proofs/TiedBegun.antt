@@ -49,11 +49,11 @@ opened_kind Sequence x e = (refl, e)
 opened_kind Mapping x e = (refl, e)
 opened_kind Pair x e = absurd e
 
-pub opened_written : {t : List ℕ} {w : Meaning} {old new : Part} (cs : List CommentValue) (begin event : Placed) → Written t w old → NotedEvent t begin event → Added old new (event ∷ []) cs []
-    → Written t (entries_written (noting w cs) begin (only [] 0)) new
+pub opened_written : {t : List ℕ} {kept : ℕ} {w : Meaning} {old new : Part} (cs : List CommentValue) (begin event : Placed) → Written t kept w old → NotedEvent t begin event → Added old new (event ∷ []) cs []
+    → Written t kept (entries_written (noting w cs) begin (only [] 0)) new
 unfolding ◌⊕◌ noting only
-opened_written {t} {w} {old} {new} cs begin event p e a = record {
-  events = subst (λ z. Noted t z new.events) (sym (append-nil (w.events ++ begin ∷ []))) (subst (λ z. Noted t (w.events ++ begin ∷ []) z) (sym a.events) (noted_more p.events e));
+opened_written {t} {kept} {w} {old} {new} cs begin event p e a = record {
+  events = subst (λ z. Noted t kept z new.events) (sym (append-nil (w.events ++ begin ∷ []))) (subst (λ z. Noted t kept (w.events ++ begin ∷ []) z) (sym a.events) (noted_more p.events e));
   comments = a.comments ∙ ap (λ z. z ++ cs) p.comments ∙ sym (append-nil (w.comments ++ cs)) ∙ sym (append-nil ((w.comments ++ cs) ++ []));
   escapes = a.escapes ∙ append-nil old.escapes ∙ p.escapes ∙ sym (append-nil w.escapes) ∙ sym (append-nil (w.escapes ++ []));
 }
@@ -109,13 +109,13 @@ role_event Value s x e a b = record { events = a ∙ ap (λ z. record e { entry 
 role_event Item s x e a b = record { events = ap (λ z. first_entering (entry_from s) z) a; comments = refl; escapes = refl }
 role_event Key s x e a b = record { events = ap (λ z. first_entering (entry_from s) z) a; comments = refl; escapes = refl }
 
-pub leaf_written : {t : List ℕ} {w : Meaning} {old new : Part} {entry : Option Entry} (role : Role) (s : ℕ) (x : Meaning) (e : Placed) → RoleEvent role s x e → x.events ≡ e ∷ [] → Written t w old
+pub leaf_written : {t : List ℕ} {kept : ℕ} {w : Meaning} {old new : Part} {entry : Option Entry} (role : Role) (s : ℕ) (x : Meaning) (e : Placed) → RoleEvent role s x e → x.events ≡ e ∷ [] → Written t kept w old
     → is_lined e.event ≡ false → NoteOf t (record e { entry = entry_of role s }) (record e { entry = entry }) → Added old new (given entry x.events) x.comments x.escapes
-    → Written t (w ⊕ in_role role s x) new
+    → Written t kept (w ⊕ in_role role s x) new
 unfolding ◌⊕◌
-leaf_written {t} {w} {old} {new} {entry} role s x e r q p l note a = record {
-  events = subst (λ z. Noted t (w.events ++ z) new.events) (sym r.events)
-      (subst (λ z. Noted t (w.events ++ record e { entry = entry_of role s } ∷ []) z) (sym (a.events ∙ ap (λ z. old.events ++ given entry z) q))
+leaf_written {t} {kept} {w} {old} {new} {entry} role s x e r q p l note a = record {
+  events = subst (λ z. Noted t kept (w.events ++ z) new.events) (sym r.events)
+      (subst (λ z. Noted t kept (w.events ++ record e { entry = entry_of role s } ∷ []) z) (sym (a.events ∙ ap (λ z. old.events ++ given entry z) q))
       (noted_more p.events (record { no_lines = l; note = note })));
   comments = a.comments ∙ ap (λ z. z ++ x.comments) p.comments ∙ ap (λ z. w.comments ++ z) (sym r.comments);
   escapes = a.escapes ∙ ap (λ z. z ++ x.escapes) p.escapes ∙ ap (λ z. w.escapes ++ z) (sym r.escapes);

@@ -19,7 +19,7 @@ use Rattle.yf_flow.specs.declared.frame.Role.TheVariants.{Item, Key, Value}
 use Rattle.yf_flow.specs.declared.frame.Node.{Node}
 use Rattle.yf_flow.specs.Begun.{entry_event}
 use Rattle.yf_flow.specs.NodeBegun.{comments_before, opened_event}
-use Rattle.yf_flow.specs.Tied.{NotedEvent, entryless, Noted, Written, one, entry_of, in_role, ahead, entries_written, entry_written, kind_of, end_event, Framed, of_collection, of_pair, NodeIn, Base, Below, outermost, inside, AtClosing, AtEnded, AtDone, NoBase, StepTied}
+use Rattle.yf_flow.specs.Tied.{first_events, NotedEvent, entryless, Noted, Written, one, entry_of, in_role, ahead, entries_written, entry_written, kind_of, end_event, Framed, of_collection, of_pair, NodeIn, Base, Below, outermost, inside, AtClosing, AtEnded, AtDone, NoBase, StepTied}
 use Rattle.yf_flow.specs.declared.frame.Step.{Step}
 use Rattle.yf_flow.specs.declared.frame.Step.TheVariants.{Failed}
 use Rattle.yf_flow.proofs.NotedLemmas.{noted_more, noted_ended, edited_here}
@@ -78,12 +78,12 @@ closed_same w x m cs first last j s = record {
 }
 
 -- an event is added, and the end of the collection is noted
-pub ended_written : {t : List ℕ} {old new : Part} (w x : Meaning) (begin : Placed) (j : ℕ) (event : EventValue) → Written t (entries_written w begin x) old
+pub ended_written : {t : List ℕ} {kept : ℕ} {old new : Part} (w x : Meaning) (begin : Placed) (j : ℕ) (event : EventValue) → Written t kept (entries_written w begin x) old
     → NotedEvent t (plain_event event None) (entry_event event None)
     → new.events ≡ edited (ended j) (length w.events) (old.events ++ entry_event event None ∷ []) → new.comments ≡ old.comments → new.escapes ≡ old.escapes
-    → Written t (entries_written w (ended j begin) x ⊕ one (plain_event event None)) new
+    → Written t kept (entries_written w (ended j begin) x ⊕ one (plain_event event None)) new
 unfolding ◌⊕◌
-ended_written {t} {old} {new} w x begin j event p q a b c =
+ended_written {t} {kept} {old} {new} w x begin j event p q a b c =
     let last = plain_event event None in
     let whole = (w.events ++ begin ∷ []) ++ x.events ++ last ∷ [] in
     let e : whole ≡ w.events ++ begin ∷ (x.events ++ last ∷ []) = append_assoc (w.events ++ begin ∷ []) x.events (last ∷ []) ∙ append_assoc w.events (begin ∷ []) (x.events ++ last ∷ []) in
@@ -92,7 +92,7 @@ ended_written {t} {old} {new} w x begin j event p q a b c =
     ∙ sym (append_assoc w.events (ended j begin ∷ []) (x.events ++ last ∷ [])) ∙ sym (append_assoc (w.events ++ ended j begin ∷ []) x.events (last ∷ [])) in
     let r = noted_ended j (length w.events) (noted_more p.events q) in
     record {
-      events = subst (λ z. Noted t z new.events) f (subst (λ z. Noted t (edited (ended j) (length w.events) whole) z) (sym a) r);
+      events = subst (λ z. Noted t kept z new.events) f (subst (λ z. Noted t kept (edited (ended j) (length w.events) whole) z) (sym a) r);
       comments = b ∙ p.comments ∙ sym (append-nil ((w.comments ++ []) ++ x.comments));
       escapes = c ∙ p.escapes ∙ sym (append-nil ((w.escapes ++ []) ++ x.escapes));
     }
@@ -116,7 +116,7 @@ module _ {t : List ℕ} {n : ℤ} {d : Ctx} {base : Base} where
   pub closed_into : {frames rest : List Frame} {sequence : Bool} {i e l : ℕ} {c : Ctx} {w : Meaning} {begin : Placed} {outer : Frame} {part : Part} (node : Node) (h k : ℕ) (x : Meaning)
       → Below t n d base frames sequence i c e w begin → frames ≡ outer ∷ rest → e ≡ suc l → Parses t e (AContent n c i) (Some (ended_at sequence i h x k))
       → node.end ≡ k + 1 → node.json ≡ true → node.deepest + l ≡ base.total + h
-      → Written t (entries_written w (ended (k + 1) begin) x ⊕ one (plain_event (end_of sequence) None)) part → AtEnded t n d base rest outer node part
+      → Written t (first_events base) (entries_written w (ended (k + 1) begin) x ⊕ one (plain_event (end_of sequence) None)) part → AtEnded t n d base rest outer node part
   closed_into node h k x (outermost b) q y r a j v p = absurd (no_cons q)
   closed_into {rest = rest} {sequence = sequence} {i} {e} {l} {outer = outer} {part = part} node h k x (inside {frames = under} {rest = more} {i = i'} {h = h'} {s = s} {g = g} {p = place} {c = c'} {w = w'} {x = x'} {y = y'} {begin = begin'} {sequence = sequence'} {pair = pair} {role = role} {b = b} below entries stays aw framed ro fi ix ov al) q y r a j v p =
       let z = cons_parts (sym al ∙ q) in
@@ -139,7 +139,7 @@ module _ {t : List ℕ} {n : ℤ} {d : Ctx} {base : Base} where
         json = j;
         deepest = omega (arith, dep, y, v);
         finish = over_finish b sequence i (k + 1) x;
-        written = subst (λ o. Written t (entry_written w' begin' x' pair s (y' ⊕ in_role o s (over b (collection sequence true i (k + 1) x)))) part) (sym ro)
+        written = subst (λ o. Written t (first_events base) (entry_written w' begin' x' pair s (y' ⊕ in_role o s (over b (collection sequence true i (k + 1) x)))) part) (sym ro)
             (written_as (entry_more w' begin' x' pair s y' (in_role role s (over b (collection sequence true i (k + 1) x)))) written);
       })
 
@@ -147,7 +147,7 @@ module _ {t : List ℕ} {n : ℤ} {d : Ctx} {base : Base} where
   pub closed_base : {frames : List Frame} {sequence : Bool} {i e l : ℕ} {c : Ctx} {w : Meaning} {begin : Placed} {part : Part} (node : Node) (h k : ℕ) (x : Meaning)
       → Below t n d base frames sequence i c e w begin → frames ≡ [] → e ≡ suc l → Parses t e (AContent n c i) (Some (ended_at sequence i h x k))
       → node.end ≡ k + 1 → node.json ≡ true → node.deepest + l ≡ base.total + h
-      → Written t (entries_written w (ended (k + 1) begin) x ⊕ one (plain_event (end_of sequence) None)) part → AtDone t n base node part
+      → Written t (first_events base) (entries_written w (ended (k + 1) begin) x ⊕ one (plain_event (end_of sequence) None)) part → AtDone t n base node part
   closed_base {sequence = sequence} {i} {e} {c = c} {w = w} {begin = begin} {part = part} node h k x (outermost b) q y r a j v p = record {
     high = h;
     known = x;
@@ -158,9 +158,9 @@ module _ {t : List ℕ} {n : ℤ} {d : Ctx} {base : Base} where
     end = a;
     json = j;
     deepest = omega (arith, y, v, b.limit);
-    written = subst (λ z. Written t (entries_written base.written (ended (k + 1) base.event) x ⊕ one (plain_event (end_of z) None)) part) b.sequence_flag
-        (subst (λ z. Written t (entries_written base.written (ended (k + 1) z) x ⊕ one (plain_event (end_of sequence) None)) part) b.event
-        (subst (λ z. Written t (entries_written z (ended (k + 1) begin) x ⊕ one (plain_event (end_of sequence) None)) part) b.written p));
+    written = subst (λ z. Written t (first_events base) (entries_written base.written (ended (k + 1) base.event) x ⊕ one (plain_event (end_of z) None)) part) b.sequence_flag
+        (subst (λ z. Written t (first_events base) (entries_written base.written (ended (k + 1) z) x ⊕ one (plain_event (end_of sequence) None)) part) b.event
+        (subst (λ z. Written t (first_events base) (entries_written z (ended (k + 1) begin) x ⊕ one (plain_event (end_of sequence) None)) part) b.written p));
   }
   closed_base node h k x (inside below entries stays aw framed ro fi ix ov al) q y r a j v p = absurd (no_cons (sym q ∙ al))
 
@@ -176,7 +176,7 @@ ends_noted t false = record { no_lines = refl; note = entryless refl }
 
 -- the step
 module _ {t : List ℕ} {n : ℤ} {d : Ctx} {base : Base} {frames : List Frame} {top : Frame} {k : ℕ} {old new : Part} (a : AtClosing t n d base frames top k old) (x : new.events ≡ edited (ended (k + 1)) top.event (old.events ++ entry_event (end_event top.kind) None ∷ [])) (y : new.comments ≡ old.comments) (z : new.escapes ≡ old.escapes) where
-  closing_written : Written t (entries_written a.before (ended (k + 1) a.begin) a.known ⊕ one (plain_event (end_of a.sequence) None)) new
+  closing_written : Written t (first_events base) (entries_written a.before (ended (k + 1) a.begin) a.known ⊕ one (plain_event (end_of a.sequence) None)) new
   closing_written =
       ended_written a.before a.known a.begin (k + 1) (end_of a.sequence) a.written (ends_noted t a.sequence)
       (x ∙ ap (λ i. edited (ended (k + 1)) i (old.events ++ entry_event (end_event top.kind) None ∷ [])) a.frame.event

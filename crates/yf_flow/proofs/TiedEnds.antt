@@ -29,18 +29,18 @@ pub gap_of : {t : List ℕ} {n : ℤ} {c : Ctx} {i : ℕ} {old new : List Commen
 gap_of (gap_read s) = (s.comments, longest_gap s.chosen, s.added)
 gap_of {old = old} (gap_missing u) = ([], no_gap u.none, u.same ∙ sym (append-nil old))
 
-pub written_as : {t : List ℕ} {w v : Meaning} {part : Part} → w ≡ v → Written t w part → Written t v part
-written_as {t} {w} {v} {part} e p = subst (λ z. Written t z part) e p
+pub written_as : {t : List ℕ} {kept : ℕ} {w v : Meaning} {part : Part} → w ≡ v → Written t kept w part → Written t kept v part
+written_as {t} {kept} {w} {v} {part} e p = subst (λ z. Written t kept z part) e p
 
-pub written_same : {t : List ℕ} {w v : Meaning} {part : Part} → Same w v → Written t w part → Written t v part
-written_same {t} {w} {v} {part} e p = record { events = subst (λ z. Noted t z part.events) e.events p.events; comments = p.comments ∙ e.comments; escapes = p.escapes ∙ e.escapes }
+pub written_same : {t : List ℕ} {kept : ℕ} {w v : Meaning} {part : Part} → Same w v → Written t kept w part → Written t kept v part
+written_same {t} {kept} {w} {v} {part} e p = record { events = subst (λ z. Noted t kept z part.events) e.events p.events; comments = p.comments ∙ e.comments; escapes = p.escapes ∙ e.escapes }
 
 -- comments are added
-pub written_noting : {t : List ℕ} {w : Meaning} {old new : Part} (cs : List CommentValue) → new.events ≡ old.events → new.comments ≡ old.comments ++ cs → new.escapes ≡ old.escapes
-    → Written t w old → Written t (noting w cs) new
+pub written_noting : {t : List ℕ} {kept : ℕ} {w : Meaning} {old new : Part} (cs : List CommentValue) → new.events ≡ old.events → new.comments ≡ old.comments ++ cs → new.escapes ≡ old.escapes
+    → Written t kept w old → Written t kept (noting w cs) new
 unfolding noting
-written_noting {t} {w} {old} {new} cs a b c p = record {
-  events = subst (λ z. Noted t w.events z) (sym a) p.events;
+written_noting {t} {kept} {w} {old} {new} cs a b c p = record {
+  events = subst (λ z. Noted t kept w.events z) (sym a) p.events;
   comments = b ∙ ap (λ z. z ++ cs) p.comments;
   escapes = c ∙ p.escapes;
 }

@@ -71,11 +71,11 @@ noted_same : (e : Meaning) (cs : List CommentValue) → Same (noting e cs) (e �
 unfolding ◌⊕◌ noting only
 noted_same e cs = record { events = sym (append-nil e.events); comments = refl; escapes = sym (append-nil e.escapes) }
 
-pair_added : {t : List ℕ} {old new : Part} (e : Meaning) (cs : List CommentValue) (s : ℕ) (event : Placed) → Written t (noting e cs) old → NotedEvent t (pair_event s) event
-    → new.events ≡ old.events ++ event ∷ [] → new.comments ≡ old.comments → new.escapes ≡ old.escapes → Written t (e ⊕ ahead true s (noting (only [] 0) cs)) new
+pair_added : {t : List ℕ} {kept : ℕ} {old new : Part} (e : Meaning) (cs : List CommentValue) (s : ℕ) (event : Placed) → Written t kept (noting e cs) old → NotedEvent t (pair_event s) event
+    → new.events ≡ old.events ++ event ∷ [] → new.comments ≡ old.comments → new.escapes ≡ old.escapes → Written t kept (e ⊕ ahead true s (noting (only [] 0) cs)) new
 unfolding ◌⊕◌ noting only
-pair_added {t} {old} {new} e cs s event p q a b c = record {
-  events = subst (λ z. Noted t (e.events ++ pair_event s ∷ []) z) (sym a) (noted_more p.events q);
+pair_added {t} {kept} {old} {new} e cs s event p q a b c = record {
+  events = subst (λ z. Noted t kept (e.events ++ pair_event s ∷ []) z) (sym a) (noted_more p.events q);
   comments = b ∙ p.comments;
   escapes = c ∙ p.escapes ∙ sym (append-nil e.escapes);
 }
@@ -90,10 +90,10 @@ noted_events_length : (e : Meaning) (cs : List CommentValue) → length (noting 
 unfolding noting
 noted_events_length e cs = refl
 
-first_written : {t : List ℕ} {old : Part} (e : Meaning) → Written t (noting e []) old → Written t (e ⊕ only [] 0) old
+first_written : {t : List ℕ} {kept : ℕ} {old : Part} (e : Meaning) → Written t kept (noting e []) old → Written t kept (e ⊕ only [] 0) old
 unfolding ◌⊕◌ noting only
-first_written {t} {old} e p = record {
-  events = subst (λ z. Noted t z old.events) (sym (append-nil e.events)) p.events;
+first_written {t} {kept} {old} e p = record {
+  events = subst (λ z. Noted t kept z old.events) (sym (append-nil e.events)) p.events;
   comments = p.comments;
   escapes = p.escapes ∙ sym (append-nil e.escapes);
 }

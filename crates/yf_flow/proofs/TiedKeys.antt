@@ -12,21 +12,21 @@ use Rattle.yf_flow.specs.declared.frame.Frame.{Frame}
 use Rattle.yf_flow.specs.declared.frame.Node.{Node}
 use Rattle.yf_flow.specs.declared.frame.Role.TheVariants.{Key, Value}
 use Rattle.yf_flow.specs.Steps.{Reached}
-use Rattle.yf_flow.specs.Tied.{Noted, Written, in_role, entry_from, written_in, Base, AtEnded, AtValue}
+use Rattle.yf_flow.specs.Tied.{first_events, Noted, Written, in_role, entry_from, written_in, Base, AtEnded, AtValue}
 use Rattle.yf_flow.proofs.NotedLemmas.{noted_coloned}
 use Rattle.yf_flow.proofs.TiedEnds.{written_as}
 use Rattle.yf_flow.proofs.TiedClose.{entry_more}
 use Rattle.yf_flow.proofs.TiedNodes.{reaching_framed, key_read}
 use Rattle.yf_flow.proofs.TiedPairKeys.{colon_noted}
 
-pub key_coloned : {t : List ℕ} {old new : Part} (w x : Meaning) (s v m : ℕ) (cs : List CommentValue) → Written t (w ⊕ entering s None x) old → m ≡ length w.events
-    → new.events ≡ edited (coloned v) m old.events → new.comments ≡ old.comments ++ cs → new.escapes ≡ old.escapes → Written t (w ⊕ noting (entering s (Some v) x) cs) new
+pub key_coloned : {t : List ℕ} {kept : ℕ} {old new : Part} (w x : Meaning) (s v m : ℕ) (cs : List CommentValue) → Written t kept (w ⊕ entering s None x) old → m ≡ length w.events
+    → new.events ≡ edited (coloned v) m old.events → new.comments ≡ old.comments ++ cs → new.escapes ≡ old.escapes → Written t kept (w ⊕ noting (entering s (Some v) x) cs) new
 unfolding ◌⊕◌ entering noting
-key_coloned {t} {old} {new} w x s v m cs p e a b c =
-    let r : Noted t (w.events ++ first_entering (record (entry_from s) { colon = Some v }) x.events) (edited (coloned v) (length w.events) old.events) =
-    subst (λ z. Noted t z (edited (coloned v) (length w.events) old.events)) (colon_noted v s w.events x.events) (noted_coloned v (length w.events) p.events) in
+key_coloned {t} {kept} {old} {new} w x s v m cs p e a b c =
+    let r : Noted t kept (w.events ++ first_entering (record (entry_from s) { colon = Some v }) x.events) (edited (coloned v) (length w.events) old.events) =
+    subst (λ z. Noted t kept z (edited (coloned v) (length w.events) old.events)) (colon_noted v s w.events x.events) (noted_coloned v (length w.events) p.events) in
     record {
-      events = subst (λ z. Noted t (w.events ++ first_entering (record (entry_from s) { colon = Some v }) x.events) z) (sym (a ∙ ap (λ z. edited (coloned v) z old.events) e)) r;
+      events = subst (λ z. Noted t kept (w.events ++ first_entering (record (entry_from s) { colon = Some v }) x.events) z) (sym (a ∙ ap (λ z. edited (coloned v) z old.events) e)) r;
       comments = b ∙ ap (λ z. z ++ cs) p.comments ∙ append_assoc w.comments x.comments cs;
       escapes = c ∙ p.escapes;
     }
@@ -45,7 +45,7 @@ key_value {t} {n} {d} {base} {frames} {first} {o} {node} {k} {cs} {old} {new} a 
     let z = kr.nothing_open in
     let h : f.height ≡ max a.height f.height = omega arith in
     let body = a.read ⊕ noting (entering a.layer.start (Some k) f.meaning) cs in
-    let r : Written t (written_in a.layer (a.read ⊕ entering a.layer.start None f.meaning)) old = written_as (ap (λ r. written_in a.layer (a.read ⊕ in_role r a.layer.start f.meaning)) v) a.written in
+    let r : Written t (first_events base) (written_in a.layer (a.read ⊕ entering a.layer.start None f.meaning)) old = written_as (ap (λ r. written_in a.layer (a.read ⊕ in_role r a.layer.start f.meaning)) v) a.written in
     let more = entry_more a.layer.before a.layer.begin a.layer.known a.layer.pair a.layer.start a.read in
     subst (λ j. AtValue t n d base frames o j k new) (sym a.json) (record {
       layer = a.layer;

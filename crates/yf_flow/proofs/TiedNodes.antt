@@ -19,7 +19,7 @@ use Rattle.yf_flow.specs.declared.frame.Frame.{Frame}
 use Rattle.yf_flow.specs.declared.frame.Role.{Role}
 use Rattle.yf_flow.specs.declared.frame.Role.TheVariants.{Item, Key, Value}
 use Rattle.yf_flow.specs.declared.frame.Node.{Node}
-use Rattle.yf_flow.specs.Tied.{in_role, written_in, Written, Framed, of_collection, of_pair, NodeIn, item_in, key_in, value_in, Base, AtEnded, AtEntryDone}
+use Rattle.yf_flow.specs.Tied.{first_events, in_role, written_in, Written, Framed, of_collection, of_pair, NodeIn, item_in, key_in, value_in, Base, AtEnded, AtEntryDone}
 use Rattle.yf_flow.proofs.TiedEnds.{written_as}
 
 -- the frame of a collection with a node in it
@@ -110,7 +110,7 @@ key_read_done {t} {n} {d} {base} {node = node} {k} {cs} {old} {new} a v q b x y 
     let body = a.read ⊕ entering a.layer.start None f.meaning in
     let q1 : Gap t n d f.end k cs = subst (λ z. Gap t n d z k cs) a.end q in
     let b1 : ColonAt t f.json d k → ⊥ = subst (λ z. ColonAt t z d k → ⊥) a.json b in
-    let r : Written t (written_in a.layer body) old = written_as (ap (λ r. written_in a.layer (a.read ⊕ in_role r a.layer.start f.meaning)) v) a.written in
+    let r : Written t (first_events base) (written_in a.layer body) old = written_as (ap (λ r. written_in a.layer (a.read ⊕ in_role r a.layer.start f.meaning)) v) a.written in
     record {
       layer = a.layer;
       height = max a.height f.height;

@@ -1,5 +1,5 @@
 -- An item that is the key of a single pair: its event notes the `:`, and the event that begins the pair is put before it.
-use Rattle.std.proofs.Common.{◌≡◌, ◌≢◌, ℕ, suc, zero, max, ◌+◌, ◌<◌, ℤ, Bool, true, List, [], ◌∷◌, ◌++◌, length, take, drop, Some, None, refl, sym, ap, ◌∙◌, subst, arith, append-nil}
+use Rattle.std.proofs.Common.{◌≡◌, ◌≢◌, ℕ, suc, zero, max, ◌+◌, ◌<◌, ◌≤◌, ℤ, Bool, true, List, [], ◌∷◌, ◌++◌, length, take, drop, Some, None, refl, sym, ap, ◌∙◌, subst, arith, append-nil}
 use Rattle.yf_chars.specs.declared.context.Ctx.{Ctx}
 use Rattle.yf_chars.specs.Text.{code}
 use Rattle.yf_events.specs.Event.{Placed}
@@ -16,9 +16,10 @@ use Rattle.yf_flow.specs.declared.frame.Node.{Node}
 use Rattle.yf_flow.specs.declared.frame.Role.{Role}
 use Rattle.yf_flow.specs.declared.frame.Role.TheVariants.{Item, Value}
 use Rattle.yf_flow.specs.Steps.{Reading}
-use Rattle.yf_flow.specs.Tied.{NotedEvent, Noted, Written, in_role, pair_event, entry_from, entries_written, entry_written, written_in, Framed, of_collection, of_pair, NodeIn, item_in, key_in, value_in, Base, Below, AtEnded, AtValue}
+use Rattle.yf_flow.specs.Tied.{first_events, NotedEvent, Noted, Written, in_role, pair_event, entry_from, entries_written, entry_written, written_in, Framed, of_collection, of_pair, NodeIn, item_in, key_in, value_in, Base, Below, AtEnded, AtValue}
 use Rattle.yf_flow.proofs.NotedLemmas.{noted_coloned, noted_inserted}
 use Rattle.yf_flow.proofs.TiedEnds.{written_as}
+use Rattle.yf_flow.proofs.TiedKept.{entries_kept}
 use Rattle.yf_flow.proofs.TiedClose.{frame_depth}
 use Rattle.yf_flow.proofs.EntryNotes.{node_no_feed}
 use Rattle.yf_flow.proofs.TiedItems.{key_no_item, value_no_item}
@@ -38,22 +39,22 @@ unfolding entering
 coloned_events s v x = refl
 
 -- what an item adds
-pub item_written : {t : List ℕ} {old : Part} (w x : Meaning) (s : ℕ) → Written t (w ⊕ (only [] 0 ⊕ entering s None x)) old → Written t (w ⊕ entering s None x) old
+pub item_written : {t : List ℕ} {kept : ℕ} {old : Part} (w x : Meaning) (s : ℕ) → Written t kept (w ⊕ (only [] 0 ⊕ entering s None x)) old → Written t kept (w ⊕ entering s None x) old
 unfolding ◌⊕◌ only
 item_written w x s p = p
 
-pub pair_begun : {t : List ℕ} {old new : Part} (w x : Meaning) (s v m : ℕ) (event : Placed) → Written t (w ⊕ entering s None x) old → m ≡ length w.events
+pub pair_begun : {t : List ℕ} {kept : ℕ} {old new : Part} (w x : Meaning) (s v m : ℕ) (event : Placed) → kept ≤ length w.events → Written t kept (w ⊕ entering s None x) old → m ≡ length w.events
     → NotedEvent t (pair_event s) event → new.events ≡ take m (edited (coloned v) m old.events) ++ event ∷ drop m (edited (coloned v) m old.events) → new.comments ≡ old.comments → new.escapes ≡ old.escapes
-    → Written t (w ⊕ record (entering s (Some v) x) { events = pair_event s ∷ (entering s (Some v) x).events }) new
+    → Written t kept (w ⊕ record (entering s (Some v) x) { events = pair_event s ∷ (entering s (Some v) x).events }) new
 unfolding ◌⊕◌ entering
-pair_begun {t} {old} {new} w x s v m event p e q a b c =
-    let r : Noted t (w.events ++ first_entering (record (entry_from s) { colon = Some v }) x.events) (edited (coloned v) (length w.events) old.events) =
-    subst (λ z. Noted t z (edited (coloned v) (length w.events) old.events)) (colon_noted v s w.events x.events) (noted_coloned v (length w.events) p.events) in
-    let l = noted_inserted w.events (first_entering (record (entry_from s) { colon = Some v }) x.events) r q in
+pair_begun {t} {kept} {old} {new} w x s v m event le p e q a b c =
+    let r : Noted t kept (w.events ++ first_entering (record (entry_from s) { colon = Some v }) x.events) (edited (coloned v) (length w.events) old.events) =
+    subst (λ z. Noted t kept z (edited (coloned v) (length w.events) old.events)) (colon_noted v s w.events x.events) (noted_coloned v (length w.events) p.events) in
+    let l = noted_inserted w.events (first_entering (record (entry_from s) { colon = Some v }) x.events) le r q in
     let f : new.events ≡ take (length w.events) (edited (coloned v) (length w.events) old.events) ++ event ∷ drop (length w.events) (edited (coloned v) (length w.events) old.events) =
     a ∙ ap (λ z. take z (edited (coloned v) z old.events) ++ event ∷ drop z (edited (coloned v) z old.events)) e in
     record {
-      events = subst (λ z. Noted t (w.events ++ pair_event s ∷ first_entering (record (entry_from s) { colon = Some v }) x.events) z) (sym f) l;
+      events = subst (λ z. Noted t kept (w.events ++ pair_event s ∷ first_entering (record (entry_from s) { colon = Some v }) x.events) z) (sym f) l;
       comments = b ∙ p.comments;
       escapes = c ∙ p.escapes;
     }
@@ -89,7 +90,7 @@ record OnSequence (top o : Frame) (h m s : ℕ) : Type 0 where
 pair_value : {t : List ℕ} {n : ℤ} {d : Ctx} {base : Base} {frames under rest : List Frame} {role : Role} {sequence pair : Bool} {i e h g s p k v : ℕ} {c : Ctx} {w x y : Meaning} {begin : Placed} {top : Frame}
     {old new : Part} (f : Found) → NodeIn t n d s role sequence e pair p g y → role ≡ Item → Framed base.total sequence pair e h g (length w.events) k top rest
     → Below t n d base under sequence i c (suc (with_pair pair e)) w begin → EntriesAwaited t (with_pair pair e) sequence n c d i h x s → code t s ≢ closing sequence → frames ≡ rest ++ under
-    → Parses t e (ANode n d p) (Some f) → PairKey t d s f v → f.height < e → Written t (entry_written w begin x pair s (y ⊕ entering s None f.meaning)) old
+    → Parses t e (ANode n d p) (Some f) → PairKey t d s f v → f.height < e → Written t (first_events base) (entry_written w begin x pair s (y ⊕ entering s None f.meaning)) old
     → (o : Frame) → OnSequence top o f.height (length (entries_written w begin x).events) s
     → (event : Placed) → NotedEvent t (pair_event s) event → (m : ℕ) → m ≡ length (entry_written w begin x pair s y).events
     → new.events ≡ take m (edited (coloned v) m old.events) ++ event ∷ drop m (edited (coloned v) m old.events) → new.comments ≡ old.comments → new.escapes ≡ old.escapes
@@ -115,7 +116,7 @@ pair_value {t} {n} {d} {base} {frames} {under} {i = i} {e = suc e} {h = h} {s = 
       };
       value = value_after_item a f r key (omega arith);
       entry = on.entry;
-      written = pair_begun (entries_written w begin x) f.meaning s v m event (item_written (entries_written w begin x) f.meaning s wr) (me ∙ nothing_length w begin x) ne na nb nc;
+      written = pair_begun (entries_written w begin x) f.meaning s v m event (entries_kept be x) (item_written (entries_written w begin x) f.meaning s wr) (me ∙ nothing_length w begin x) ne na nb nc;
     }
 
 pub key_pair : {t : List ℕ} {n : ℤ} {d : Ctx} {base : Base} {frames : List Frame} {top : Frame} {node : Node} {old : Part} (a : AtEnded t n d base frames top node old) → top.role ≡ Item → {limit v : ℕ}

@@ -16,7 +16,7 @@ use Rattle.yf_flow.specs.declared.frame.Frame.{Frame}
 use Rattle.yf_flow.specs.declared.frame.Kind.{Kind}
 use Rattle.yf_flow.specs.declared.frame.Kind.TheVariants.{Pair}
 use Rattle.yf_flow.specs.Begun.{entry_event}
-use Rattle.yf_flow.specs.Tied.{Written, one, pair_event, entries_written, entry_written, kind_of, Framed, of_collection, of_pair, Base, Below, AtEntryEnd, AtEntryDone}
+use Rattle.yf_flow.specs.Tied.{first_events, Written, one, pair_event, entries_written, entry_written, kind_of, Framed, of_collection, of_pair, Base, Below, AtEntryEnd, AtEntryDone}
 use Rattle.yf_flow.proofs.TiedEnds.{written_as, written_same}
 use Rattle.yf_flow.proofs.TiedClose.{ended_written, closed_same, ends_noted, cons_parts, no_cons}
 
@@ -28,7 +28,7 @@ kind_no_pair false kind e q = cc
 wrapped_end : {t : List ℕ} {n : ℤ} {d : Ctx} {base : Base} {frames under rest : List Frame} {sequence pair : Bool} {i e h g s j k at : ℕ} {c : Ctx} {w x : Meaning} {begin : Placed} {cs : List CommentValue}
     {top : Frame} {part : Part} (z : Meaning) → Framed base.total sequence pair e h g (length w.events) k top rest → (top.kind ≡ Pair → ⊥)
     → Below t n d base under sequence i c (suc (with_pair pair e)) w begin → EntriesAwaited t (with_pair pair e) sequence n c d i h x s → code t s ≢ closing sequence
-    → IsEntry t (with_pair pair e) sequence n d s j (with_pair pair g) (wrapped pair s z) → Within t n d j at cs → Written t (entry_written w begin x pair s (noting z cs)) part
+    → IsEntry t (with_pair pair e) sequence n d s j (with_pair pair g) (wrapped pair s z) → Within t n d j at cs → Written t (first_events base) (entry_written w begin x pair s (noting z cs)) part
     → frames ≡ rest ++ under → AtEntryEnd t n d base frames top at part
 wrapped_end {t} {n} {d} {base} {frames} {under} {sequence = sequence} {i = i} {e} {h} {g} {s} {j} {c = c} {w = w} {x} {begin} {cs} z (of_collection f) q b en st ie wi wr fe = record {
   sequence = sequence;
@@ -69,14 +69,14 @@ pair_closed : (s j : ℕ) (z : Meaning) (cs : List CommentValue) → z.finish �
 unfolding noting entering collection plain_event from_to
 pair_closed s j z cs e = rw e record { events = refl; comments = refl; escapes = refl }
 
-pair_written : {t : List ℕ} {old new : Part} (w : Meaning) (begin : Placed) (x z : Meaning) (s j : ℕ) (cs : List CommentValue) → Written t (entry_written w begin x true s (noting z cs)) old
+pair_written : {t : List ℕ} {kept : ℕ} {old new : Part} (w : Meaning) (begin : Placed) (x z : Meaning) (s j : ℕ) (cs : List CommentValue) → Written t kept (entry_written w begin x true s (noting z cs)) old
     → z.finish ≡ j → new.events ≡ edited (ended j) (length (entries_written w begin x).events) (old.events ++ entry_event mapping_ends None ∷ []) → new.comments ≡ old.comments
-    → new.escapes ≡ old.escapes → Written t (entries_written w begin (x ⊕ noting (wrapped true s z) cs)) new
-pair_written {t} {old} {new} w begin x z s j cs p f a b c =
+    → new.escapes ≡ old.escapes → Written t kept (entries_written w begin (x ⊕ noting (wrapped true s z) cs)) new
+pair_written {t} {kept} {old} {new} w begin x z s j cs p f a b c =
     let all = entries_written w begin x in
     let y = noting z cs in
     let q = ended_written all y (pair_event s) j mapping_ends (written_same (pair_opened all s y) p) (ends_noted t false) a b c in
-    let r : Written t (entries_written (noting all []) (ended j (pair_event s)) y ⊕ one (plain_event mapping_ends None)) new =
+    let r : Written t kept (entries_written (noting all []) (ended j (pair_event s)) y ⊕ one (plain_event mapping_ends None)) new =
     written_as (ap (λ v. entries_written v (ended j (pair_event s)) y ⊕ one (plain_event mapping_ends None)) (sym (noting_nothing all))) q in
     written_as (sym (plus_assoc (w ⊕ one begin) x (noting (wrapped true s z) cs)))
     (written_same (closed_same all y (noting (wrapped true s z) cs) [] (ended j (pair_event s)) (plain_event mapping_ends None) j (pair_closed s j z cs f)) r)
@@ -85,7 +85,7 @@ pair_written {t} {old} {new} w begin x z s j cs p f a b c =
 wrapped_pair : {t : List ℕ} {n : ℤ} {d : Ctx} {base : Base} {frames under rest : List Frame} {sequence pair : Bool} {i e h g s j at : ℕ} {c : Ctx} {w x : Meaning} {begin : Placed}
     {cs : List CommentValue} {top : Frame} {old new : Part} (z : Meaning) (last : ℕ) → Framed base.total sequence pair e h g (length w.events) (length (entries_written w begin x).events) top rest → top.kind ≡ Pair
     → Below t n d base under sequence i c (suc (with_pair pair e)) w begin → EntriesAwaited t (with_pair pair e) sequence n c d i h x s → code t s ≢ closing sequence
-    → IsEntry t (with_pair pair e) sequence n d s j (with_pair pair g) (wrapped pair s z) → Within t n d j at cs → Written t (entry_written w begin x pair s (noting z cs)) old
+    → IsEntry t (with_pair pair e) sequence n d s j (with_pair pair g) (wrapped pair s z) → Within t n d j at cs → Written t (first_events base) (entry_written w begin x pair s (noting z cs)) old
     → frames ≡ rest ++ under → z.finish ≡ last → new.events ≡ edited (ended last) top.event (old.events ++ entry_event mapping_ends None ∷ []) → new.comments ≡ old.comments → new.escapes ≡ old.escapes
     → (outer : Frame) (others : List Frame) → frames ≡ outer ∷ others → (reached : Frame) → reached.kind ≡ outer.kind → reached.event ≡ outer.event → reached.depth ≡ outer.depth
     → reached.deepest ≡ max outer.deepest top.deepest → AtEntryEnd t n d base others reached at new

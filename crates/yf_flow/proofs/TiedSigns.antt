@@ -45,27 +45,27 @@ lone_noted {t} {s} e q = record {
 }
 
 -- an empty key, with its `:`
-pub keyless_written : {t : List ℕ} {w : Meaning} {old new : Part} (s v : ℕ) (e : Entry) → EntryNoted t s (Some v) e → new.events ≡ old.events ++ entry_event (scalar_node no_props Plain []) (Some e) ∷ []
-    → new.comments ≡ old.comments → new.escapes ≡ old.escapes → Written t w old → Written t (w ⊕ entering s (Some v) (empty_node v)) new
+pub keyless_written : {t : List ℕ} {kept : ℕ} {w : Meaning} {old new : Part} (s v : ℕ) (e : Entry) → EntryNoted t s (Some v) e → new.events ≡ old.events ++ entry_event (scalar_node no_props Plain []) (Some e) ∷ []
+    → new.comments ≡ old.comments → new.escapes ≡ old.escapes → Written t kept w old → Written t kept (w ⊕ entering s (Some v) (empty_node v)) new
 unfolding ◌⊕◌ entering empty_node plain_event
-keyless_written {t} {w} {old} {new} s v e q a b c p = record {
-  events = subst (λ z. Noted t (w.events ++ entry_event (scalar_node no_props Plain []) (Some (record (entry_from s) { colon = Some v })) ∷ []) z) (sym a) (noted_more p.events (empty_noted e q));
+keyless_written {t} {kept} {w} {old} {new} s v e q a b c p = record {
+  events = subst (λ z. Noted t kept (w.events ++ entry_event (scalar_node no_props Plain []) (Some (record (entry_from s) { colon = Some v })) ∷ []) z) (sym a) (noted_more p.events (empty_noted e q));
   comments = b ∙ p.comments ∙ sym (append-nil w.comments);
   escapes = c ∙ p.escapes ∙ sym (append-nil w.escapes);
 }
 
 -- an empty key without a value
-pub nothing_written : {t : List ℕ} {w : Meaning} {old new : Part} (mid : List Placed) (s v : ℕ) (e : Entry) → EntryNoted t s None e → mid ≡ old.events ++ entry_event (scalar_node no_props Plain []) (Some e) ∷ []
-    → new.events ≡ mid ++ entry_event (scalar_node no_props Plain []) None ∷ [] → new.comments ≡ old.comments → new.escapes ≡ old.escapes → Written t w old
-    → Written t (w ⊕ (entering s None (empty_node v) ⊕ empty_node v)) new
+pub nothing_written : {t : List ℕ} {kept : ℕ} {w : Meaning} {old new : Part} (mid : List Placed) (s v : ℕ) (e : Entry) → EntryNoted t s None e → mid ≡ old.events ++ entry_event (scalar_node no_props Plain []) (Some e) ∷ []
+    → new.events ≡ mid ++ entry_event (scalar_node no_props Plain []) None ∷ [] → new.comments ≡ old.comments → new.escapes ≡ old.escapes → Written t kept w old
+    → Written t kept (w ⊕ (entering s None (empty_node v) ⊕ empty_node v)) new
 unfolding ◌⊕◌ entering empty_node plain_event
-nothing_written {t} {w} {old} {new} mid s v e q a1 a2 b c p =
+nothing_written {t} {kept} {w} {old} {new} mid s v e q a1 a2 b c p =
     let first = entry_event (scalar_node no_props Plain []) (Some (entry_from s)) in
     let last = entry_event (scalar_node no_props Plain []) None in
-    let r : Noted t (w.events ++ first ∷ []) mid = subst (λ z. Noted t (w.events ++ first ∷ []) z) (sym a1) (noted_more p.events (lone_noted e q)) in
-    let l : Noted t ((w.events ++ first ∷ []) ++ last ∷ []) new.events = subst (λ z. Noted t ((w.events ++ first ∷ []) ++ last ∷ []) z) (sym a2) (noted_more r (record { no_lines = refl; note = entryless refl })) in
+    let r : Noted t kept (w.events ++ first ∷ []) mid = subst (λ z. Noted t kept (w.events ++ first ∷ []) z) (sym a1) (noted_more p.events (lone_noted e q)) in
+    let l : Noted t kept ((w.events ++ first ∷ []) ++ last ∷ []) new.events = subst (λ z. Noted t kept ((w.events ++ first ∷ []) ++ last ∷ []) z) (sym a2) (noted_more r (record { no_lines = refl; note = entryless refl })) in
     record {
-      events = subst (λ z. Noted t z new.events) (append_assoc w.events (first ∷ []) (last ∷ [])) l;
+      events = subst (λ z. Noted t kept z new.events) (append_assoc w.events (first ∷ []) (last ∷ [])) l;
       comments = b ∙ p.comments ∙ sym (append-nil w.comments);
       escapes = c ∙ p.escapes ∙ sym (append-nil w.escapes);
     }

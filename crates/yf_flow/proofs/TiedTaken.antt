@@ -16,7 +16,7 @@ use Rattle.yf_flow.specs.Tied.{NoteOf, NotedEvent, Base, AtEntry, AtNode, AtEnde
 use Rattle.yf_flow.proofs.EntryNotes.{begun_note, node_no_feed, over_no_feed}
 use Rattle.yf_flow.proofs.TiedBegun.{full_fails, opened_entry, leaf_ended}
 
-start_no_lines : (props : PropsValue) (sequence : Bool) → is_lined (event_with props (start_of sequence true)) ≡ false
+pub start_no_lines : (props : PropsValue) (sequence : Bool) → is_lined (event_with props (start_of sequence true)) ≡ false
 start_no_lines props true = refl
 start_no_lines props false = refl
 

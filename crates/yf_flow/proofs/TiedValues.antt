@@ -52,15 +52,15 @@ pub entry_noting : (l : InEntry) (y : Meaning) (cs : List CommentValue) → noti
 entry_noting l y cs =
     noting_last (entries_written l.before l.begin l.known) (ahead l.pair l.start y) cs ∙ ap (λ z. entries_written l.before l.begin l.known ⊕ z) (ahead_noting l.pair l.start y cs)
 
-pub written_kept : {t : List ℕ} {w : Meaning} {old new : Part} → new.events ≡ old.events → new.comments ≡ old.comments → new.escapes ≡ old.escapes → Written t w old → Written t w new
-written_kept {t} {w} {old} {new} a b c p = record { events = subst (λ z. Noted t w.events z) (sym a) p.events; comments = b ∙ p.comments; escapes = c ∙ p.escapes }
+pub written_kept : {t : List ℕ} {kept : ℕ} {w : Meaning} {old new : Part} → new.events ≡ old.events → new.comments ≡ old.comments → new.escapes ≡ old.escapes → Written t kept w old → Written t kept w new
+written_kept {t} {kept} {w} {old} {new} a b c p = record { events = subst (λ z. Noted t kept w.events z) (sym a) p.events; comments = b ∙ p.comments; escapes = c ∙ p.escapes }
 
 -- an empty node, and comments
-pub empty_written : {t : List ℕ} {w : Meaning} {old new : Part} (v : ℕ) (cs : List CommentValue) → new.events ≡ old.events ++ entry_event (scalar_node no_props Plain []) None ∷ []
-    → new.comments ≡ old.comments ++ cs → new.escapes ≡ old.escapes → Written t w old → Written t (w ⊕ noting (empty_node v) cs) new
+pub empty_written : {t : List ℕ} {kept : ℕ} {w : Meaning} {old new : Part} (v : ℕ) (cs : List CommentValue) → new.events ≡ old.events ++ entry_event (scalar_node no_props Plain []) None ∷ []
+    → new.comments ≡ old.comments ++ cs → new.escapes ≡ old.escapes → Written t kept w old → Written t kept (w ⊕ noting (empty_node v) cs) new
 unfolding ◌⊕◌ noting empty_node plain_event
-empty_written {t} {w} {old} {new} v cs a b c p = record {
-  events = subst (λ z. Noted t (w.events ++ entry_event (scalar_node no_props Plain []) None ∷ []) z) (sym a) (noted_more p.events (record { no_lines = refl; note = entryless refl }));
+empty_written {t} {kept} {w} {old} {new} v cs a b c p = record {
+  events = subst (λ z. Noted t kept (w.events ++ entry_event (scalar_node no_props Plain []) None ∷ []) z) (sym a) (noted_more p.events (record { no_lines = refl; note = entryless refl }));
   comments = b ∙ ap (λ z. z ++ cs) p.comments;
   escapes = c ∙ p.escapes ∙ sym (append-nil w.escapes);
 }

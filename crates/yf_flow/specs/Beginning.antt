@@ -15,7 +15,7 @@ use Rattle.yf_flow.specs.declared.frame.Frame.{Frame}
 use Rattle.yf_flow.specs.declared.frame.Role.TheVariants.{Key}
 use Rattle.yf_flow.specs.Leaves.{SeparatedTo}
 use Rattle.yf_flow.specs.Steps.{first_role}
-use Rattle.yf_flow.specs.Tied.{Written, entries_written, written_in, CollectionFrame, Base, Below, InEntry, EntryTied}
+use Rattle.yf_flow.specs.Tied.{Written, entries_written, written_in, CollectionFrame, Base, first_events, Below, InEntry, EntryTied}
 
 -- a `?` and its separation from the first offset on, or neither of them
 pub record Unquestioned (t : List ℕ) (n : ℤ) (d : Ctx) (s : ℕ) (old new : List CommentValue) : Type 0 where
@@ -47,7 +47,7 @@ pub record AtFirst (t : List ℕ) (n : ℤ) (d : Ctx) (base : Base) (frames : Li
   pub frame : CollectionFrame base.total limit high (length before.events) sequence top
   pub role : top.role ≡ first_role top.kind
   pub index : top.entry_event ≡ length part.events
-  pub written : Written t (noting (entries_written before begin known) cs) part
+  pub written : Written t (first_events base) (noting (entries_written before begin known) cs) part
 
 -- the same in the mapping that it belongs to, which in a sequence is a single pair
 pub record AtSign (t : List ℕ) (n : ℤ) (d : Ctx) (base : Base) (frames : List Frame) (top : Frame) (cs : List CommentValue) (part : Part) : Type 0 where
@@ -57,7 +57,7 @@ pub record AtSign (t : List ℕ) (n : ℤ) (d : Ctx) (base : Base) (frames : Lis
   pub entry : top.entry ≡ layer.start
   pub role : top.role ≡ Key
   pub index : top.entry_event ≡ length part.events
-  pub written : Written t (written_in layer (noting (only [] 0) cs)) part
+  pub written : Written t (first_events base) (written_in layer (noting (only [] 0) cs)) part
 
 -- what a value without a key is to its entry
 abbrev pub AloneAwaited : List ℕ → ℤ → Ctx → InEntry → List CommentValue → ℕ → Type 0

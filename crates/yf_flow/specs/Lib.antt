@@ -1,5 +1,6 @@
 pub mod Beginning
 pub mod Begun
+pub mod ContentAnswers
 pub mod Counted
 pub mod Ends
 pub mod EntryBegun

@@ -33,7 +33,7 @@ pub record NodeFound (t : List ℕ) (n : ℤ) (c : Ctx) (limit i : ℕ) (part : 
   pub answer : Found
   pub parsed : Parses t limit (ANode n c i) (Some answer)
   pub ends : end ≡ answer.end
-  pub written : Written t answer.meaning part
+  pub written : Written t 0 answer.meaning part
 
 abbrev pub NodeAnswers : List ℕ → ℤ → Ctx → ℕ → ℕ → Outcome → Type 0
 NodeAnswers t n c limit i (NodeThere part end) = NodeFound t n c limit i part end

@@ -1,5 +1,5 @@
 -- A node that has been read after what was written before it; and one whose content is not derived.
-use Rattle.std.specs.Prelude.{◌≡◌, ℕ, ℤ, List, Some, None}
+use Rattle.std.specs.Prelude.{◌≡◌, ℕ, ℤ, List, length, Some, None}
 use Rattle.yf_chars.specs.declared.context.Ctx.{Ctx}
 use Rattle.yf_events.specs.declared.part.Part.{Part}
 use Rattle.yf_grammar.specs.Meaning.{Meaning, ◌⊕◌}
@@ -13,7 +13,7 @@ pub record NodeRead (t : List ℕ) (limit : ℕ) (n : ℤ) (c : Ctx) (i : ℕ) (
   pub parsed : Parses t limit (ANode n c i) (Some answer)
   pub end : node.end ≡ answer.end
   pub json : node.json ≡ answer.json
-  pub written : Written t (before ⊕ answer.meaning) part
+  pub written : Written t (length before.events) (before ⊕ answer.meaning) part
 
 pub data NodeLost (t : List ℕ) (limit : ℕ) (n : ℤ) (c : Ctx) (i : ℕ) : Type 0 where
   no_node_there : Parses t limit (ANode n c i) None → NodeLost t limit n c i

@@ -35,9 +35,11 @@ pub record NotedEvent (t : List ℕ) (e f : Placed) : Type 0 where
   pub no_lines : is_lined e.event ≡ false
   pub note : NoteOf t e f
 
-pub data Noted (t : List ℕ) : List Placed → List Placed → Type 0 where
-  no_events : Noted t [] []
-  event_before : {e f : Placed} {x y : List Placed} → NotedEvent t e f → Noted t x y → Noted t (e ∷ x) (f ∷ y)
+-- events with the notes of their entries filled in, after so many that are kept as they are
+pub data Noted (t : List ℕ) : ℕ → List Placed → List Placed → Type 0 where
+  no_events : Noted t 0 [] []
+  kept_before : {kept : ℕ} {e : Placed} {x y : List Placed} → Noted t kept x y → Noted t (suc kept) (e ∷ x) (e ∷ y)
+  event_before : {e f : Placed} {x y : List Placed} → NotedEvent t e f → Noted t 0 x y → Noted t 0 (e ∷ x) (f ∷ y)
 
 -- an entry that begins at s, with its note
 pub record EntryNoted (t : List ℕ) (s : ℕ) (colon : Option ℕ) (entry : TheEntry.Entry) : Type 0 where
@@ -45,9 +47,9 @@ pub record EntryNoted (t : List ℕ) (s : ℕ) (colon : Option ℕ) (entry : The
   pub colon_there : entry.colon ≡ colon
   pub note : NotedSince t 0 s entry.blank_before
 
--- what has been written so far
-pub record Written (t : List ℕ) (w : Meaning) (part : Part) : Type 0 where
-  pub events : Noted t w.events part.events
+-- what has been written so far, after so many events that are kept as they are
+pub record Written (t : List ℕ) (kept : ℕ) (w : Meaning) (part : Part) : Type 0 where
+  pub events : Noted t kept w.events part.events
   pub comments : part.comments ≡ w.comments
   pub escapes : part.escapes ≡ w.escapes
 
@@ -123,6 +125,10 @@ pub record Base : Type 0 where
   pub written : Meaning
   pub event : Placed
 
+-- the events before the outermost collection and the one that begins it are kept as they are
+abbrev pub first_events : Base → ℕ
+first_events base = suc (length base.written.events)
+
 pub record IsBase (base : Base) (sequence : Bool) (i : ℕ) (c : Ctx) (e : ℕ) (w : Meaning) (begin : Placed) : Type 0 where
   pub sequence_flag : sequence ≡ base.sequence
   pub place : i ≡ base.place
@@ -160,7 +166,7 @@ pub record AtEntry (t : List ℕ) (n : ℤ) (d : Ctx) (base : Base) (frames : Li
   pub below : Below t n d base frames sequence place context (suc limit) before begin
   pub awaited : SeparationAwaited t limit sequence n context d place high known at
   pub frame : CollectionFrame base.total limit high (length before.events) sequence top
-  pub written : Written t (entries_written before begin known) part
+  pub written : Written t (first_events base) (entries_written before begin known) part
 
 -- the same once the separation has been read: an entry begins at k, or the bracket stands there
 pub record AtPlace (t : List ℕ) (n : ℤ) (d : Ctx) (base : Base) (frames : List Frame) (top : Frame) (k : ℕ) (part : Part) : Type 0 where
@@ -175,7 +181,7 @@ pub record AtPlace (t : List ℕ) (n : ℤ) (d : Ctx) (base : Base) (frames : Li
   pub below : Below t n d base frames sequence place context (suc limit) before begin
   pub entries : EntriesAwaited t limit sequence n context d place high known k
   pub frame : CollectionFrame base.total limit high (length before.events) sequence top
-  pub written : Written t (entries_written before begin known) part
+  pub written : Written t (first_events base) (entries_written before begin known) part
 
 -- the collection is closed by the bracket at k
 pub record AtClosing (t : List ℕ) (n : ℤ) (d : Ctx) (base : Base) (frames : List Frame) (top : Frame) (k : ℕ) (part : Part) : Type 0 where
@@ -190,7 +196,7 @@ pub record AtClosing (t : List ℕ) (n : ℤ) (d : Ctx) (base : Base) (frames : 
   pub below : Below t n d base frames sequence place context (suc limit) before begin
   pub parsed : Parses t (suc limit) (AContent n context place) (Some (ended_at sequence place high known k))
   pub frame : CollectionFrame base.total limit high (length before.events) sequence top
-  pub written : Written t (entries_written before begin known) part
+  pub written : Written t (first_events base) (entries_written before begin known) part
 
 -- an entry of the collection has been read, and perhaps the separation after it
 pub record AtEntryEnd (t : List ℕ) (n : ℤ) (d : Ctx) (base : Base) (frames : List Frame) (top : Frame) (at : ℕ) (part : Part) : Type 0 where
@@ -213,7 +219,7 @@ pub record AtEntryEnd (t : List ℕ) (n : ℤ) (d : Ctx) (base : Base) (frames :
   pub entry : IsEntry t limit sequence n d start end height meaning
   pub within : Within t n d end at comments
   pub frame : CollectionFrame base.total limit (max high height) (length before.events) sequence top
-  pub written : Written t (entries_written before begin (known ⊕ noting meaning comments)) part
+  pub written : Written t (first_events base) (entries_written before begin (known ⊕ noting meaning comments)) part
 
 -- what is known of the present entry and its collection
 pub record InEntry : Type 0 where
@@ -252,7 +258,7 @@ pub record AtEntryDone (t : List ℕ) (n : ℤ) (d : Ctx) (base : Base) (frames 
   pub entry : IsEntry t (with_pair layer.pair layer.limit) layer.sequence n d layer.start end (with_pair layer.pair height) (wrapped layer.pair layer.start meaning)
   pub finish : meaning.finish ≡ last
   pub within : Within t n d end at comments
-  pub written : Written t (written_in layer (noting meaning comments)) part
+  pub written : Written t (first_events base) (written_in layer (noting meaning comments)) part
 
 -- the value of the entry is awaited from its `:` on, after a key of that kind
 pub record AtValue (t : List ℕ) (n : ℤ) (d : Ctx) (base : Base) (frames : List Frame) (top : Frame) (json : Bool) (colon : ℕ) (part : Part) : Type 0 where
@@ -262,7 +268,7 @@ pub record AtValue (t : List ℕ) (n : ℤ) (d : Ctx) (base : Base) (frames : Li
   pub tied : EntryTied t n d base frames top height layer
   pub value : ValueAwaited t layer.limit layer.sequence n d layer.pair layer.start json height read colon
   pub entry : top.entry ≡ layer.start
-  pub written : Written t (written_in layer read) part
+  pub written : Written t (first_events base) (written_in layer read) part
 
 -- a node of the entry is awaited at p, or it has been read
 pub record AtNode (t : List ℕ) (n : ℤ) (d : Ctx) (base : Base) (frames : List Frame) (top : Frame) (p : ℕ) (part : Part) : Type 0 where
@@ -274,7 +280,7 @@ pub record AtNode (t : List ℕ) (n : ℤ) (d : Ctx) (base : Base) (frames : Lis
   pub entry : top.entry ≡ layer.start
   pub index : (top.role ≡ Value → ⊥) → top.entry_event ≡ length (written_in layer read).events
   pub begins : (top.role ≡ Value → ⊥) → code t p ≢ 10 → code t layer.start ≢ 10
-  pub written : Written t (written_in layer read) part
+  pub written : Written t (first_events base) (written_in layer read) part
 
 pub record AtEnded (t : List ℕ) (n : ℤ) (d : Ctx) (base : Base) (frames : List Frame) (top : Frame) (node : TheNode.Node) (part : Part) : Type 0 where
   pub layer : InEntry
@@ -291,7 +297,7 @@ pub record AtEnded (t : List ℕ) (n : ℤ) (d : Ctx) (base : Base) (frames : Li
   pub json : node.json ≡ answer.json
   pub deepest : node.deepest ≡ top.depth + answer.height
   pub finish : answer.meaning.finish ≡ answer.end
-  pub written : Written t (written_in layer (read ⊕ in_role top.role layer.start answer.meaning)) part
+  pub written : Written t (first_events base) (written_in layer (read ⊕ in_role top.role layer.start answer.meaning)) part
 
 -- the event that ends a collection
 unfoldable pub end_event : Kind → EventValue
@@ -308,7 +314,7 @@ pub record AtDone (t : List ℕ) (n : ℤ) (base : Base) (node : TheNode.Node) (
   pub end : node.end ≡ bracket + 1
   pub json : node.json ≡ true
   pub deepest : node.deepest + base.limit ≡ base.total + suc high
-  pub written : Written t (entries_written base.written (ended (bracket + 1) base.event) known ⊕ one (plain_event (end_of base.sequence) None)) part
+  pub written : Written t (first_events base) (entries_written base.written (ended (bracket + 1) base.event) known ⊕ one (plain_event (end_of base.sequence) None)) part
 
 -- none is derived there
 abbrev pub NoBase : List ℕ → ℤ → Base → Type 0

@@ -4,7 +4,8 @@ ghost use Rattle.std.specs.List.{All};
 ghost use Rattle.std.specs.Str.{IsCharBoundary, IsUtf8};
 ghost use Rattle.yf_lines.specs.Basic.{is_block};
 ghost use Rattle.yf_grammar.specs.Parser.{ANode, Parses};
-ghost use Rattle.yf_flow.specs.Counted.{AllCounted, BegunCounted, EndCounted};
+ghost use Rattle.yf_flow.specs.ContentAnswers.{ContentEnds};
+ghost use Rattle.yf_flow.specs.Counted.{AllCounted, BegunCounted, EndCounted, openers_from};
 ghost use Rattle.yf_flow.specs.Ends.{BegunTied, EndTied, EndsAs};
 ghost use Rattle.yf_flow.specs.Machine.{Awaiting, BegunAt, EndingAt, OutcomeAt};
 ghost use Rattle.yf_flow.specs.NodeAnswers.{InnerContext, NodeAnswers};
@@ -108,6 +109,10 @@ pub fn read_content<'a>(
 ) -> Result<Ending, AllocError>
     requires boundary { IsCharBoundary scene.text.now at }
     requires escapes { All (IsCharBoundary scene.text.now) part.old.escapes }
+    ensures answers { IsUtf8 scene.entry.text.now → is_block scene.entry.context ≡ false → (room : ℕ) → depth + room ≡ scene.entry.limit
+        → IfOk result (λ e. ContentEnds scene.entry.text.now scene.entry.indentation scene.entry.context room at depth lead.entry part.old part.new e) }
+    ensures counted { IsUtf8 scene.entry.text.now → (total : ℕ) → depth + openers_from scene.entry.text.now at ≤ total
+        → IfOk result (λ e. EndCounted scene.entry.text.now scene.entry.limit total e) }
     ensures found { IfOk result (λ e. EndingAt scene.entry.text.now (at + 1) e) }
     ensures escapes { IfOk result (λ _. All (IsCharBoundary scene.entry.text.now) part.new.escapes) }
 {

@@ -1,0 +1,13 @@
+use Rattle.std.proofs.Common.{◌∷◌, ◌++◌, [], refl, ap, ◌∙◌}
+use Rattle.yf_block.proofs.InlineLemmas.{alias_found, alias_none, alias_written}
+use Rattle.yf_block.proofs.inline.read_alias.Goals as goal
+
+pub returns-in-None-clause-answers : goal.returns-in-None-clause-answers
+returns-in-None-clause-answers c = λ room n. alias_none c.requires c.in-None.ensures.reads
+
+pub returns-in_ok-push-in-Some-clause-answers : goal.returns-in_ok-push-in-Some-clause-answers
+returns-in_ok-push-in-Some-clause-answers c = λ room n.
+    let name = c.in-Some.name.now in
+    let end = c.in-Some.end in
+    let e = c.in_ok-push-in-Some.ensures ∙ ap (λ w. c.args.part.now.events ++ w ∷ []) c.placed.ensures in
+    rw c.inline_end.ensures (alias_found name end c.in-Some.ensures.reads (alias_written name c.args.at end e refl refl))
