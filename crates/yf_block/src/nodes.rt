@@ -17,7 +17,7 @@ use yf_flow::node::Lead;
 use yf_lines::basic::is_line_start;
 
 /// A block node that was found.
-#[derive(Clone, Copy, Debug)]
+#[derive(Clone, Copy)]
 pub struct Found {
     /// The byte offset after it.
     pub end: usize,
@@ -29,7 +29,7 @@ pub struct Found {
 }
 
 /// What a reader of block nodes found.
-#[derive(Clone, Copy, Debug)]
+#[derive(Clone, Copy)]
 pub enum Outcome {
     Found(Found),
     /// No block node; the reading went wrong at the byte offset.

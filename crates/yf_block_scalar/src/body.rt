@@ -5,7 +5,7 @@ use yf_comments::comment::Comment;
 use yf_comments::comments::Comments;
 
 /// A block scalar as it is written.
-#[derive(Debug, Drop)]
+#[derive(Drop)]
 pub struct BlockText<'a> {
     pub header: Header,
     /// The comment after the header.

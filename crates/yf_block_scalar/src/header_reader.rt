@@ -15,7 +15,7 @@ use yf_chars::text::stands;
 use yf_comments::comment::Comment;
 
 /// A header that was read, with the comment after it and the byte offset of the line after it.
-#[derive(Debug, Drop)]
+#[derive(Drop)]
 pub struct HeaderLine<'a> {
     pub header: Header,
     pub comment: Option<Comment<'a>>,

@@ -6,7 +6,7 @@ use std::marker::Model;
 
 /// The lines of a block scalar without their indentation and breaks, from the first one after the header to the last
 /// content line; an empty line is empty. They are slices of the source. In a contract it is the list of their bytes.
-#[derive(Debug, Drop)]
+#[derive(Drop)]
 pub struct Lines<'a> {
     list: Vec<&'a str>,
 }

@@ -12,7 +12,7 @@ use crate::text::{peek, stands};
 /// An escape that stands in a text: the number that it writes, and the byte offset after it.
 ///
 /// The number need not be a character: half of a pair and numbers above U+10FFFF are given as they are.
-#[derive(Clone, Copy, Debug, PartialEq, Eq)]
+#[derive(Clone, Copy, PartialEq, Eq)]
 pub struct Escape {
     pub value: u32,
     pub end: usize,

@@ -7,14 +7,14 @@ use std::alloc::{AllocError, Global};
 use std::marker::Model;
 
 /// What was read: the comments in it, and the offset after it.
-#[derive(Debug, Drop)]
+#[derive(Drop)]
 pub struct Separation<'a> {
     pub comments: Comments<'a>,
     pub end: usize,
 }
 
 /// Comments in the order of the text. In a contract it is the list of what they are.
-#[derive(Debug, Drop)]
+#[derive(Drop)]
 pub struct Comments<'a> {
     list: Vec<Comment<'a>>,
 }

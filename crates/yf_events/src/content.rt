@@ -15,7 +15,7 @@ use yf_lines::steady::is_steady;
 use yf_props::resolved::ResolvedTag;
 
 /// What is known of a scalar's type.
-#[derive(Clone, Copy, Debug, PartialEq, Eq)]
+#[derive(Clone, Copy, PartialEq, Eq)]
 pub enum Kind<'r> {
     /// It has this resolved tag.
     Tagged(&'r ResolvedTag<'r>),
@@ -26,7 +26,7 @@ pub enum Kind<'r> {
 }
 
 /// One item of the content.
-#[derive(Clone, Copy, Debug, PartialEq, Eq)]
+#[derive(Clone, Copy, PartialEq, Eq)]
 pub enum ContentItem<'r> {
     /// A document begins.
     Document,
@@ -51,7 +51,7 @@ pub enum ContentItem<'r> {
 }
 
 /// One item of what stands before the documents.
-#[derive(Clone, Copy, Debug, PartialEq, Eq)]
+#[derive(Clone, Copy, PartialEq, Eq)]
 pub enum DirectiveItem<'r> {
     /// The directives of the next document follow.
     Document,
@@ -64,7 +64,7 @@ pub enum DirectiveItem<'r> {
 /// The content of a reading: its documents, each with the words of its directives and its tree. Of a node it keeps the
 /// kind, the anchor, the resolved tag, and the text, the name, the items or the pairs; of a scalar without a tag also
 /// whether it is plain and steady.
-#[derive(Debug, Drop, PartialEq, Eq)]
+#[derive(Drop, PartialEq, Eq)]
 pub struct Content<'r> {
     directives: Vec<DirectiveItem<'r>>,
     nodes: Vec<ContentItem<'r>>,

@@ -6,7 +6,7 @@ use std::alloc::{AllocError, Global};
 use std::marker::Model;
 
 /// A directive (l-directive, production 82).
-#[derive(Debug, Drop)]
+#[derive(Drop)]
 pub struct Directive<'a> {
     /// The byte offset of the `%`.
     pub offset: usize,
@@ -15,7 +15,7 @@ pub struct Directive<'a> {
 }
 
 /// Directives in order. In a contract it is the list of them.
-#[derive(Debug, Drop)]
+#[derive(Drop)]
 pub struct Directives<'a> {
     list: Vec<Directive<'a>>,
 }

@@ -6,7 +6,7 @@ use std::alloc::{AllocError, Global};
 use std::marker::Model;
 
 /// Where a document begins, and the directives before it.
-#[derive(Debug, Drop)]
+#[derive(Drop)]
 pub struct Doc<'a> {
     /// The byte offset of the `---`, or of the first character of content where none is written.
     pub start: usize,
@@ -14,7 +14,7 @@ pub struct Doc<'a> {
 }
 
 /// Documents in order. In a contract it is the list of them.
-#[derive(Debug, Drop)]
+#[derive(Drop)]
 pub struct Documents<'a> {
     list: Vec<Doc<'a>>,
 }

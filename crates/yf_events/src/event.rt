@@ -16,7 +16,7 @@ pub enum ScalarStyle {
 
 /// One event, as a list of them tells it. `explicit` says whether `---` or `...` is written, `flow` whether the collection
 /// is a flow collection (a single pair is one).
-#[derive(Clone, Copy, Debug)]
+#[derive(Clone, Copy)]
 pub enum Event<'r> {
     StreamStart,
     StreamEnd,
@@ -47,7 +47,7 @@ pub enum Event<'r> {
 }
 
 /// One event that is to be added to a list, with its text.
-#[derive(Debug, Drop)]
+#[derive(Drop)]
 pub enum NewEvent<'a> {
     StreamStart,
     StreamEnd,
@@ -85,7 +85,7 @@ pub struct Span {
 }
 
 /// An entry of a collection.
-#[derive(Clone, Copy, Debug, PartialEq, Eq)]
+#[derive(Clone, Copy, PartialEq, Eq)]
 pub struct Entry {
     /// The byte offset of its `-` or `?`, else of its item or key, else of the `:` of an empty key.
     pub start: usize,
@@ -96,7 +96,7 @@ pub struct Entry {
 }
 
 /// An event that is to be added to a list, with where it stands in the text.
-#[derive(Debug, Drop)]
+#[derive(Drop)]
 pub struct PlacedEvent<'a> {
     pub event: NewEvent<'a>,
     /// The text of the node with its properties, at the event that begins it. An empty node has none, and neither has
@@ -111,7 +111,7 @@ pub struct PlacedEvent<'a> {
 }
 
 /// The same of an event in a list, by value.
-#[derive(Clone, Copy, Debug)]
+#[derive(Clone, Copy)]
 pub struct View<'r> {
     pub event: Event<'r>,
     pub span: Option<Span>,

@@ -11,7 +11,7 @@ use std::marker::Model;
 use yf_props::props::Tag;
 
 /// Events in order. In a contract it is the list of what they are.
-#[derive(Debug, Drop)]
+#[derive(Drop)]
 pub struct Events<'a> {
     rows: Vec<PackedRow<'a>>,
     more: Vec<More<'a>>,

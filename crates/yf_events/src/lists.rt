@@ -12,7 +12,7 @@ use yf_comments::comment::Comment;
 use yf_props::resolved::ResolvedTag;
 
 /// What was read of a stream, in order of the text.
-#[derive(Debug, Drop)]
+#[derive(Drop)]
 pub struct Lists<'a> {
     /// All events of the stream.
     pub events: Events<'a>,

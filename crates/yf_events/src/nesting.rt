@@ -8,7 +8,7 @@ use crate::events::Events;
 use std::alloc::{AllocError, Global};
 
 /// What may come next.
-#[derive(Clone, Copy, Debug)]
+#[derive(Clone, Copy)]
 pub enum Awaited {
     /// The start of the stream.
     Stream,
@@ -29,7 +29,7 @@ pub enum Awaited {
 }
 
 /// What an event does to what is awaited.
-#[derive(Clone, Copy, Debug)]
+#[derive(Clone, Copy)]
 pub enum Move {
     /// It may not come here.
     Refuse,

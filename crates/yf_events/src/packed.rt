@@ -18,7 +18,7 @@ pub const NO_PROPS: Props<'static> = Props {
 };
 
 /// What kind of event it is.
-#[derive(Clone, Copy, Debug)]
+#[derive(Clone, Copy)]
 pub enum Shape {
     StreamStart,
     StreamEnd,
@@ -33,7 +33,7 @@ pub enum Shape {
 }
 
 /// Whether the event begins an entry, with a `:` or without, after a blank line or not.
-#[derive(Clone, Copy, Debug)]
+#[derive(Clone, Copy)]
 pub enum Begins {
     Nothing,
     Item,
@@ -43,7 +43,7 @@ pub enum Begins {
 }
 
 /// An event: its kind, its place, and its text or name where that is a slice of the source.
-#[derive(Clone, Copy, Debug)]
+#[derive(Clone, Copy)]
 pub struct PackedRow<'a> {
     pub shape: Shape,
     /// Whether it has a part of the text, from `start` to `end`.
@@ -60,7 +60,7 @@ pub struct PackedRow<'a> {
 }
 
 /// What most nodes lack.
-#[derive(Debug, Drop)]
+#[derive(Drop)]
 pub struct More<'a> {
     pub props: Props<'a>,
     pub tag_offset: Option<usize>,

@@ -12,7 +12,7 @@ use yf_lines::text::{OwnedText, Text};
 use yf_props::props::Props;
 
 /// An event without its place, taken apart.
-#[derive(Debug, Drop)]
+#[derive(Drop)]
 struct Taken<'a> {
     shape: Shape,
     props: Props<'a>,

@@ -5,7 +5,7 @@ use crate::events::Events;
 use crate::row::Row;
 
 /// One node: its events, the comments in it, and the byte offsets of the escapes in it that are no character.
-#[derive(Debug, Drop)]
+#[derive(Drop)]
 pub struct Part<'a> {
     pub events: Events<'a>,
     pub comments: Comments<'a>,

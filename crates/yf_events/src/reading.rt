@@ -17,7 +17,7 @@ pub const DEPTH: usize = 1024;
 
 /// What a stream of YAML says: its events, comments and documents, each with its place. The events are well nested,
 /// and at most `DEPTH` collections are open at once. In a contract it is the lists that it was made of.
-#[derive(Debug, Drop)]
+#[derive(Drop)]
 pub struct Reading<'a> {
     lists: Lists<'a>,
 }

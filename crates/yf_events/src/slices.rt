@@ -6,7 +6,7 @@ use std::marker::Model;
 
 /// Slices of the source, in order: the words of a directive, or the lines of a folded scalar. In a contract they are
 /// the list of their bytes.
-#[derive(Debug, Drop)]
+#[derive(Drop)]
 pub struct Slices<'a> {
     list: Vec<&'a str>,
 }

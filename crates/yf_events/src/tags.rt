@@ -8,7 +8,7 @@ use std::marker::Model;
 use yf_props::resolved::ResolvedTag;
 
 /// A resolved tag, with the index of the event that begins its node.
-#[derive(Debug, Drop)]
+#[derive(Drop)]
 pub struct TaggedEvent<'a> {
     event: usize,
     tag: ResolvedTag<'a>,
@@ -16,7 +16,7 @@ pub struct TaggedEvent<'a> {
 
 /// For each event the resolved tag of the node that it begins, where a tag is written (section 6.9.1). An event without
 /// a tag takes no memory. In a contract it is the list that has for each event its tag or none.
-#[derive(Debug, Drop)]
+#[derive(Drop)]
 pub struct Tags<'a> {
     count: usize,
     tagged: Vec<TaggedEvent<'a>>,

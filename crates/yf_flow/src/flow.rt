@@ -17,14 +17,14 @@ use yf_lines::place::Place as SourcePlace;
 use yf_lines::source_text::Src;
 
 /// A node that was read, and the byte offset after it.
-#[derive(Debug, Drop)]
+#[derive(Drop)]
 pub struct NodePart<'a> {
     pub part: Part<'a>,
     pub end: usize,
 }
 
 /// The same with the place of the first escape that is no character, in whose place the text has U+FFFD.
-#[derive(Debug, Drop)]
+#[derive(Drop)]
 pub struct ScannedPart<'a> {
     pub part: Part<'a>,
     pub escape: Option<SourcePlace>,

@@ -30,7 +30,7 @@ use yf_lines::text::Text;
 use yf_props::properties::Properties;
 
 /// What a reader of flow nodes found.
-#[derive(Debug, Drop)]
+#[derive(Drop)]
 pub(crate) enum Outcome<'a> {
     /// A node, and the byte offset after it.
     Found { part: Part<'a>, end: usize },

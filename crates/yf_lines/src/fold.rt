@@ -14,7 +14,7 @@ use crate::basic::{line_break, skip_spaces, skip_whites};
 /// A folded line break: the number of empty lines in it, and the byte offset of what stands after it.
 ///
 /// It means a space where no empty line stands in it, else a line feed for each of them.
-#[derive(Clone, Copy, Debug, PartialEq, Eq)]
+#[derive(Clone, Copy, PartialEq, Eq)]
 pub struct Fold {
     pub feeds: usize,
     pub end: usize,

@@ -8,7 +8,7 @@ use std::alloc::AllocError;
 use yf_chars::text::stands;
 
 /// What is kept of a line: the byte offset at which it begins, and with how many spaces it begins.
-#[derive(Clone, Copy, Debug)]
+#[derive(Clone, Copy)]
 pub struct LineRow {
     pub start: u32,
     pub indent: u32,

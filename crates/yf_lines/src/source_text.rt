@@ -10,7 +10,7 @@ use std::alloc::{AllocError, Global};
 use std::marker::Model;
 
 /// A text and the table of its lines. In a contract it is what its table is.
-#[derive(Debug, Drop)]
+#[derive(Drop)]
 pub struct Src<'a> {
     table: LineTable<'a>,
 }

@@ -16,7 +16,7 @@ use std::marker::Model;
 use yf_chars::text::{peek, stands};
 
 /// A text and all its lines. In a contract it is a record of the text's bytes and the list of the lines.
-#[derive(Debug, Drop)]
+#[derive(Drop)]
 pub struct LineTable<'a> {
     text: &'a str,
     rows: Vec<LineRow>,

@@ -32,7 +32,7 @@ impl OwnedText {
 }
 
 /// A text: a slice of the source, or a text of its own where what is meant is not what is written.
-#[derive(Debug, Drop)]
+#[derive(Drop)]
 pub enum Text<'a> {
     Part(&'a str),
     Owned(OwnedText),

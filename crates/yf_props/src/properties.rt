@@ -15,7 +15,7 @@ use yf_comments::comments::{Comments, Separation};
 use yf_comments::separation::separate;
 
 /// Properties that were read.
-#[derive(Debug, Drop)]
+#[derive(Drop)]
 pub struct Properties<'a> {
     pub props: Props<'a>,
     /// The byte offset of the tag's `!`, if there is a tag.

@@ -1,7 +1,7 @@
 //! The properties of a node, as they are written.
 
 /// The properties of a node (c-ns-properties, production 96), each of which may be missing.
-#[derive(Clone, Copy, Debug)]
+#[derive(Clone, Copy)]
 pub struct Props<'a> {
     /// The name after the `&`.
     pub anchor: Option<&'a str>,
@@ -9,7 +9,7 @@ pub struct Props<'a> {
 }
 
 /// A tag as it is written (c-ns-tag-property, production 97).
-#[derive(Clone, Copy, Debug)]
+#[derive(Clone, Copy)]
 pub enum Tag<'a> {
     /// `!<..>`: the text between `<` and `>`.
     Verbatim(&'a str),

@@ -12,7 +12,7 @@ use yf_lines::text::Text;
 /// What a tag stands for: a prefix, which is a slice of the source or the prefix of a default handle, and after it a
 /// suffix. However many tags have one prefix, it stands in memory once. In a contract it is the text that both make,
 /// and as that text it is compared.
-#[derive(Debug, Drop)]
+#[derive(Drop)]
 pub struct ResolvedTag<'a> {
     prefix: &'a str,
     suffix: Text<'a>,

@@ -93,7 +93,7 @@ pub fn scan_double<'a>(
 }
 
 /// A double-quoted scalar: its text with U+FFFD for each bad escape, the offsets of these, and the offset after the scalar.
-#[derive(Debug, Drop)]
+#[derive(Drop)]
 pub struct Double<'a> {
     pub text: Text<'a>,
     pub bad: Offsets,

@@ -5,7 +5,7 @@ use std::alloc::{AllocError, Global};
 use std::marker::Model;
 
 /// Byte offsets in order. In a contract it is the list of them.
-#[derive(Debug, Drop)]
+#[derive(Drop)]
 pub struct Offsets {
     list: Vec<usize>,
 }

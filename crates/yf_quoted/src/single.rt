@@ -51,7 +51,7 @@ pub fn read_single<'a>(
 }
 
 /// A single-quoted scalar: its text, and the offset after it.
-#[derive(Debug, Drop)]
+#[derive(Drop)]
 pub struct Single<'a> {
     pub text: Text<'a>,
     pub end: usize,

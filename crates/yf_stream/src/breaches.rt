@@ -21,7 +21,7 @@ use yf_props::props::{Props, Tag};
 use yf_props::resolved::ResolvedTag;
 
 /// What does not hold.
-#[derive(Clone, Copy, Debug, PartialEq, Eq)]
+#[derive(Clone, Copy, PartialEq, Eq)]
 pub(crate) enum Kind {
     UnknownHandle,
     UnknownAlias,
@@ -31,14 +31,14 @@ pub(crate) enum Kind {
 }
 
 /// The byte offset of a tag, an alias, a directive or an escape, and what does not hold of it.
-#[derive(Clone, Copy, Debug)]
+#[derive(Clone, Copy)]
 pub(crate) struct Breach {
     pub(crate) offset: usize,
     pub(crate) kind: Kind,
 }
 
 /// For each event the resolved tag of the node that it begins; and the first breach, if there is one.
-#[derive(Debug, Drop)]
+#[derive(Drop)]
 pub(crate) struct Resolved<'a> {
     pub(crate) tags: Tags<'a>,
     pub(crate) first: Option<Breach>,

@@ -21,14 +21,14 @@ use yf_lines::basic::skip_whites;
 use yf_props::tag::{tag_handle, tag_prefix};
 
 /// The directives of a document, and the offset of the first line after them and their comments.
-#[derive(Debug, Drop)]
+#[derive(Drop)]
 pub(crate) struct DirectiveLines<'a> {
     pub(crate) directives: Directives<'a>,
     pub(crate) end: usize,
 }
 
 // A directive, the comments after it, and the offset of the first line after them.
-#[derive(Debug, Drop)]
+#[derive(Drop)]
 struct DirectiveLine<'a> {
     directive: Directive<'a>,
     comments: Comments<'a>,

@@ -30,7 +30,7 @@ use yf_lines::text::Text;
 use yf_props::props::Props;
 
 /// What has been read of a stream so far, in order of the text.
-#[derive(Debug, Drop)]
+#[derive(Drop)]
 pub(crate) struct Parts<'a> {
     /// The events and comments of the stream, and its escapes that are no character.
     pub(crate) part: Part<'a>,

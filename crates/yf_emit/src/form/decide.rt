@@ -20,7 +20,7 @@ use yf_lines::fault::Fault;
 use yf_lines::source_text::Src;
 
 /// The form of the node that an event begins.
-#[derive(Clone, Copy, Debug, PartialEq, Eq)]
+#[derive(Clone, Copy, PartialEq, Eq)]
 pub struct Form {
     /// Whether it is a flow collection with entries that is written on one line.
     pub is_kept: bool,
@@ -44,7 +44,7 @@ impl Form {
 }
 
 /// The forms of all events of a reading. In a contract it is the list of them.
-#[derive(Debug, Drop)]
+#[derive(Drop)]
 pub struct Forms {
     list: Vec<Form>,
 }

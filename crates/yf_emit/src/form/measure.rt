@@ -20,7 +20,7 @@ use yf_events::reading::Reading;
 use yf_lines::source_text::Src;
 
 /// What one pass finds of the node that an event begins.
-#[derive(Clone, Copy, Debug, PartialEq, Eq)]
+#[derive(Clone, Copy, PartialEq, Eq)]
 pub struct Measure {
     /// The index of the event with which the node ends: its own, or that of the collection's end.
     pub last: usize,
@@ -57,7 +57,7 @@ impl Measure {
 }
 
 /// The measures of all events of a reading. In a contract it is the list of them.
-#[derive(Debug, Drop)]
+#[derive(Drop)]
 pub struct Measures {
     list: Vec<Measure>,
 }

@@ -13,7 +13,7 @@ use yf_events::event::Span;
 use yf_events::reading::Reading;
 
 /// The comments of a reading that trail a leaf or a key.
-#[derive(Debug, Drop)]
+#[derive(Drop)]
 pub struct Trails {
     /// For each event that begins a leaf, the index of the comment that trails it.
     of_leaf: Vec<Option<usize>>,

@@ -11,7 +11,7 @@ use yf_events::reading::Reading;
 use yf_lines::source_text::Src;
 
 /// The lines of a scalar after the one on which its content begins.
-#[derive(Clone, Copy, Debug)]
+#[derive(Clone, Copy)]
 pub struct Body {
     /// The byte offset at which the scalar begins after its properties: of a block scalar its header.
     pub start: usize,

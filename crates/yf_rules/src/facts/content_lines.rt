@@ -12,7 +12,7 @@ use yf_events::reading::Reading;
 use yf_lines::source_text::Src;
 
 /// Where the content of a block scalar begins.
-#[derive(Clone, Copy, Debug)]
+#[derive(Clone, Copy)]
 pub struct Content {
     /// The index of its first content line.
     pub first: usize,

@@ -17,7 +17,7 @@ use yf_lines::basic::skip_whites;
 use yf_lines::source_text::Src;
 
 /// What is known of each line, by its index.
-#[derive(Debug, Drop)]
+#[derive(Drop)]
 pub struct Notes {
     /// Whether it is a line of white space alone that is part of no scalar.
     pub blank: Vec<bool>,

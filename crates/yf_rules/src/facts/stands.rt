@@ -16,7 +16,7 @@ use yf_events::reading::Reading;
 use yf_lines::source_text::Src;
 
 /// What holds a node.
-#[derive(Clone, Copy, Debug)]
+#[derive(Clone, Copy)]
 pub enum Around {
     /// Nothing: it is the root of a document.
     Nothing,
@@ -27,7 +27,7 @@ pub enum Around {
 }
 
 /// Where the node stands that an event begins.
-#[derive(Clone, Copy, Debug)]
+#[derive(Clone, Copy)]
 pub struct Stand {
     pub outer: Around,
     /// Whether it is the value of a key that is written without `?`.
@@ -48,7 +48,7 @@ impl Stand {
 }
 
 /// A collection whose end has not come yet.
-#[derive(Clone, Copy, Debug)]
+#[derive(Clone, Copy)]
 struct Level {
     column: Option<usize>,
     is_map: bool,
@@ -171,7 +171,7 @@ fn next_stand(stack: &mut Vec<Level>, src: &Src, reading: &Reading, i: usize) ->
 }
 
 /// A pass over the events of a reading, which tells where the node stands that each begins.
-#[derive(Debug, Drop)]
+#[derive(Drop)]
 pub struct Pass {
     /// The columns of the first entries of all block collections, in order.
     columns: Vec<usize>,

@@ -17,7 +17,7 @@ use yf_lines::place::Place;
 use yf_lines::source_text::Src;
 
 /// A blank line that is the first line, follows another one or a `---` alone on its line, stands directly before a document marker or a directive, or has only blank lines after it.
-#[derive(Clone, Copy, Debug)]
+#[derive(Clone, Copy)]
 pub struct BlankLines;
 
 impl Rule for BlankLines {

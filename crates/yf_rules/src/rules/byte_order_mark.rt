@@ -18,7 +18,7 @@ use yf_lines::place::Place;
 use yf_lines::source_text::Src;
 
 /// Each byte order mark outside of scalars. Marks that stand together at the start of a line have one place.
-#[derive(Clone, Copy, Debug)]
+#[derive(Clone, Copy)]
 pub struct ByteOrderMark;
 
 impl Rule for ByteOrderMark {

@@ -16,7 +16,7 @@ use yf_lines::place::Place;
 use yf_lines::source_text::Src;
 
 /// The `#` of a comment that has a character other than white before it on its line and not exactly two spaces directly before it.
-#[derive(Clone, Copy, Debug)]
+#[derive(Clone, Copy)]
 pub struct CommentSpace;
 
 impl Rule for CommentSpace {

@@ -18,7 +18,7 @@ use yf_lines::place::Place;
 use yf_lines::source_text::Src;
 
 /// The first character of content of a document without `---`, and a `---` with more than white space after it on its line.
-#[derive(Clone, Copy, Debug)]
+#[derive(Clone, Copy)]
 pub struct DocumentStart;
 
 impl Rule for DocumentStart {

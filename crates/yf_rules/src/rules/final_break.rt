@@ -12,7 +12,7 @@ use yf_lines::place::Place;
 use yf_lines::source_text::Src;
 
 /// The end of a text that is not empty and does not end with a line break.
-#[derive(Clone, Copy, Debug)]
+#[derive(Clone, Copy)]
 pub struct FinalBreak;
 
 impl Rule for FinalBreak {

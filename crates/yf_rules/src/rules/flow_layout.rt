@@ -28,7 +28,7 @@ use yf_lines::place::Place;
 use yf_lines::source_text::Src;
 
 /// The opening bracket of a flow collection, in no other one, that is not written as the house style writes it, or may not be kept there.
-#[derive(Clone, Copy, Debug)]
+#[derive(Clone, Copy)]
 pub struct FlowLayout;
 
 impl Rule for FlowLayout {

@@ -18,7 +18,7 @@ use yf_lines::place::Place;
 use yf_lines::source_text::Src;
 
 /// The first entry of a block collection that does not stand at the column of the house style, and the header of a block scalar whose content does not.
-#[derive(Clone, Copy, Debug)]
+#[derive(Clone, Copy)]
 pub struct Indentation;
 
 impl Rule for Indentation {

@@ -22,7 +22,7 @@ use yf_lines::place::Place;
 use yf_lines::source_text::Src;
 
 /// The `?` of an entry of a block mapping whose key the house style writes without it.
-#[derive(Clone, Copy, Debug)]
+#[derive(Clone, Copy)]
 pub struct KeyMark;
 
 impl Rule for KeyMark {

@@ -13,7 +13,7 @@ use yf_lines::place::Place;
 use yf_lines::source_text::Src;
 
 /// The break of the first line whose break is not a line feed.
-#[derive(Clone, Copy, Debug)]
+#[derive(Clone, Copy)]
 pub struct LineBreaks;
 
 impl Rule for LineBreaks {

@@ -16,7 +16,7 @@ use yf_lines::place::Place;
 use yf_lines::source_text::Src;
 
 /// The column after the longest line that the style allows, of a line that is longer.
-#[derive(Clone, Copy, Debug)]
+#[derive(Clone, Copy)]
 pub struct LineLength;
 
 impl Rule for LineLength {

@@ -16,7 +16,7 @@ use yf_lines::place::Place;
 use yf_lines::source_text::Src;
 
 /// The first character of content of a scalar whose style is not the one that the house style gives it.
-#[derive(Clone, Copy, Debug)]
+#[derive(Clone, Copy)]
 pub struct Quoting;
 
 impl Rule for Quoting {

@@ -17,7 +17,7 @@ use yf_lines::source_text::Src;
 use yf_props::resolved::ResolvedTag;
 
 /// The first character of a scalar key whose text and resolved tag are those of an earlier scalar key of its mapping.
-#[derive(Clone, Copy, Debug)]
+#[derive(Clone, Copy)]
 pub struct RepeatedKeys;
 
 impl Rule for RepeatedKeys {
@@ -59,7 +59,7 @@ impl Rule for RepeatedKeys {
 }
 
 /// A scalar key: its text and its resolved tag.
-#[derive(Clone, Copy, Debug, PartialEq, Eq, PartialOrd, Ord)]
+#[derive(Clone, Copy, PartialEq, Eq, PartialOrd, Ord)]
 struct Key<'r> {
     text: &'r str,
     tag: Option<&'r ResolvedTag<'r>>,

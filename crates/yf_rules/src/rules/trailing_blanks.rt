@@ -15,7 +15,7 @@ use yf_lines::place::Place;
 use yf_lines::source_text::Src;
 
 /// The first of the white space that ends a line, unless it is a content line of a block scalar.
-#[derive(Clone, Copy, Debug)]
+#[derive(Clone, Copy)]
 pub struct TrailingBlanks;
 
 impl Rule for TrailingBlanks {
