@@ -1,5 +1,5 @@
 //! The readers of flow nodes and of implicit keys.
-ghost use Rattle.std.specs.Prelude.{◌≡◌, ◌+◌, [], false, IfOk, IfSome, MatchResult};
+ghost use Rattle.std.specs.Prelude.{◌≡◌, ◌+◌, [], false, true, IfOk, IfSome, MatchResult, Ok, None};
 ghost use Rattle.std.specs.List.{All};
 ghost use Rattle.std.specs.Str.{IsCharBoundary};
 ghost use Rattle.yf_lines.specs.Basic.{is_block};
@@ -15,6 +15,7 @@ use yf_events::reading::DEPTH;
 use yf_lines::fault::Fault;
 use yf_lines::place::Place as SourcePlace;
 use yf_lines::source_text::Src;
+use yf_quoted::gap::is_block;
 
 /// A node that was read, and the byte offset after it.
 #[derive(Drop)]
@@ -53,6 +54,7 @@ pub fn read_flow_node<'a>(
     ensures place { MatchResult result (λ o. IfSome o (λ p. Place src.now.text (at + 1) p.end)) (IsReadFault src.now.text) }
     ensures escapes { IfOk result (λ o. IfSome o (λ p. p.part.escapes ≡ [])) }
     ensures reads { is_block ctx ≡ false → ReadsFlowNode src.now.text n ctx at result }
+    ensures block { is_block ctx ≡ true → result ≡ Ok None }
 {
     match scan_flow_node(alloc, src, at, n, ctx) {
         Ok(None) => Ok(None),
@@ -80,7 +82,11 @@ pub fn scan_flow_node<'a>(
     ensures place { MatchResult result (λ o. IfSome o (λ p. Place src.now.text (at + 1) p.end)) (IsScanFault src.now.text) }
     ensures escapes { IfOk result (λ o. IfSome o (λ p. IsFirstPlace src.now.text p.part.escapes p.escape)) }
     ensures reads { is_block ctx ≡ false → ScansFlowNode src.now.text n ctx at result }
+    ensures block { is_block ctx ≡ true → result ≡ Ok None }
 {
+    if is_block(ctx) {
+        return Ok(None);
+    }
     match read_node(alloc, src.text(), at, n, ctx, DEPTH) {
         Ok(Outcome::Found { part, end }) => {
             let escape = first_escape(src, &part);
@@ -124,6 +130,7 @@ pub fn read_implicit_key<'a>(
     ensures place { MatchResult result (λ o. IfSome o (λ p. Place src.now.text (at + 1) p.end)) (IsReadFault src.now.text) }
     ensures escapes { IfOk result (λ o. IfSome o (λ p. p.part.escapes ≡ [])) }
     ensures reads { is_block ctx ≡ false → ReadsKey src.now.text ctx at result }
+    ensures block { is_block ctx ≡ true → result ≡ Ok None }
 {
     read_flow_node(alloc, src, at, 0, ctx)
 }
@@ -143,6 +150,7 @@ pub fn scan_implicit_key<'a>(
     ensures place { MatchResult result (λ o. IfSome o (λ p. Place src.now.text (at + 1) p.end)) (IsScanFault src.now.text) }
     ensures escapes { IfOk result (λ o. IfSome o (λ p. IsFirstPlace src.now.text p.part.escapes p.escape)) }
     ensures reads { is_block ctx ≡ false → ScansKey src.now.text ctx at result }
+    ensures block { is_block ctx ≡ true → result ≡ Ok None }
 {
     scan_flow_node(alloc, src, at, 0, ctx)
 }
