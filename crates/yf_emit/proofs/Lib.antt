@@ -119,6 +119,7 @@ pub mod FormatHolds
 pub mod FormatsRead
 pub mod KeyTrails
 pub mod LayoutHolds
+pub mod KeysBegin
 pub mod LeavesRise
 pub mod LineUtf8
 pub mod MarkSpans

@@ -23,12 +23,12 @@ use Rattle.yf_stream.proofs.ReadingTrees.{TreesStand, no_trees_stand, tree_stand
 use Rattle.yf_emit.specs.declared.style.Style.{Style}
 use Rattle.yf_emit.specs.Begins.{keys_begin_in_documents}
 use Rattle.yf_emit.specs.Forms.{documents_are_placed}
-use Rattle.yf_emit.specs.InOrder.{are_wide}
 use Rattle.yf_emit.specs.Normal.{Setting, normal_document, root_spot, settled, setting_of, styled}
 use Rattle.yf_emit.specs.NormalForm.{NormalForm}
 use Rattle.yf_emit.proofs.DocumentTrails.{leaves_of}
 use Rattle.yf_emit.proofs.DocumentsPrinted.{AreNormal, no_documents, one_more}
 use Rattle.yf_emit.proofs.FeedLemmas.{ascend}
+use Rattle.yf_emit.proofs.KeysBegin.{trees_begin}
 use Rattle.yf_emit.proofs.LeavesRise.{leaves_rise}
 use Rattle.yf_emit.proofs.NestsRun.{documents_nest, trees_nest}
 use Rattle.yf_emit.proofs.NormalSame.{SameNode, node_twice, settled_same, styled_same}
@@ -176,7 +176,7 @@ laid_in {m} {s} f =
     let apart : none_at_starts r.comments (leaves_of w.trees) ≡ true =
     trees_apart r.comments (λ i v. signs_apart t i r.comments v.no_hash (comments_of_readings_have_signs t r f.reads)) w.stand in
     record {
-      begin = normal_begin t c f.is.trees ∙ f.in_order.begin;
+      begin = normal_begin t c f.is.trees ∙ (ap keys_begin_in_documents (sym same) ∙ trees_begin w.stand);
       placing = record {
         of_reading = trees_of f;
         placed = normal_placed t c f.is.trees ∙ (ap documents_are_placed (sym same) ∙ trees_placed w.stand);
@@ -185,7 +185,7 @@ laid_in {m} {s} f =
         strict = ap strict comments ∙ sharp;
         noted = ap (λ (v : Lists). length v.on_leaf_line) f.is.is
             ∙ (ap length f.reads.notes ∙ (length-map r.comments _ ∙ sym (ap length comments)));
-        rises = ap rising (normal_leaves t c f.is.trees ∙ ap leaves_of (sym same)) ∙ leaves_rise w.stand (ap (λ ds. are_wide (leaves_of ds)) same ∙ f.in_order.wide);
+        rises = ap rising (normal_leaves t c f.is.trees ∙ ap leaves_of (sym same)) ∙ leaves_rise w.stand;
         apart = ap (λ cs. none_at_starts cs (leaves_of (trees_in f))) comments
             ∙ (ap (none_at_starts r.comments) (normal_leaves t c f.is.trees ∙ ap leaves_of (sym same)) ∙ apart);
       };
