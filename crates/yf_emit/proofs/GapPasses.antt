@@ -1,5 +1,5 @@
 -- White space, line breaks and comments that separate are passed as they are counted by bytes, up to a place that stands within no comment.
-use Rattle.std.proofs.Common.{◌≡◌, ◌≢◌, ℕ, ℤ, zero, suc, ◌+◌, ◌<◌, ◌≤◌, Bool, true, false, List, [], ◌∷◌, length, take, drop, get_or, min, sym, ap, ◌∙◌, subst, ⊎_elim, arith, true≢false}
+use Rattle.std.proofs.Common.{◌≡◌, ◌≢◌, ℕ, ℤ, zero, suc, ◌+◌, ◌-◌, ◌<◌, ◌≤◌, Bool, true, false, List, [], ◌∷◌, length, take, drop, get_or, min, refl, sym, ap, ◌∙◌, subst, ⊎_elim, arith, true≢false}
 use Rattle.std.proofs.lemmas.Bool.{cases_eq, cases_lt}
 use Rattle.std.proofs.lemmas.Bool.Decides.{nat_tests}
 use Rattle.std.specs.Str.{IsUtf8}
@@ -59,8 +59,8 @@ real c e = grind (arith, nat_tests)
 
 -- stop: the place up to which it goes
 module _ {t : List ℕ} (u : IsUtf8 t) (end stop : ℕ) (low : stop < end) (within : stop < length t) where
-  one_byte : {i : ℕ} {k d : Bool} → i < stop → ((bs : List ℕ) → gap_len k (get_or t i 0 ∷ bs) ≡ suc (gap_len d bs)) → Passes t end i k (i + 1) d
-  one_byte {i} {k} {d} l f = λ m q. gap_more t end i m k d (omega (arith, l, low, within)) q f
+  one_byte : (i : ℕ) (k d : Bool) → i < stop → ((bs : List ℕ) → gap_len k (get_or t i 0 ∷ bs) ≡ suc (gap_len d bs)) → Passes t end i k (i + 1) d
+  one_byte i k d l f = λ m q. gap_more t end i m k d (omega (arith, l, low, within)) q f
 
   byte_is : (i c : ℕ) → code t i ≡ c → c < 128 → get_or t i 0 ≡ c
   byte_is i c e l = (byte_from_code t i u (omega (arith, e, l))).1 ∙ e
@@ -69,8 +69,8 @@ module _ {t : List ℕ} (u : IsUtf8 t) (end stop : ℕ) (low : stop < end) (with
 
   white_pass : {i : ℕ} → is_white (code t i) ≡ true → i < stop → Passes t end i false (i + 1) false
   white_pass {i} e l = ⊎_elim
-      (λ (q : code t i ≡ 32). one_byte l (λ bs. gap_space false (get_or t i 0) bs refl (byte_is i 32 q (omega arith))))
-      (λ (q : code t i ≢ 32). one_byte l (λ bs. gap_tab false (get_or t i 0) bs refl (byte_is i 9 (white_tab (code t i) e q) (omega arith))))
+      (λ (q : code t i ≡ 32). one_byte i false false l (λ bs. gap_space false (get_or t i 0) bs refl (byte_is i 32 q (omega arith))))
+      (λ (q : code t i ≢ 32). one_byte i false false l (λ bs. gap_tab false (get_or t i 0) bs refl (byte_is i 9 (white_tab (code t i) e q) (omega arith))))
       (cases_eq (code t i) 32)
 
   whites_pass : {i j : ℕ} {x : List ℕ} → Many t is_white i j x → j ≤ stop → Passes t end i false j false
@@ -88,10 +88,10 @@ module _ {t : List ℕ} (u : IsUtf8 t) (end stop : ℕ) (low : stop < end) (with
   -- Breaks.
 
   return_pass : {i : ℕ} (k : Bool) → code t i ≡ 13 → i < stop → Passes t end i k (i + 1) false
-  return_pass {i} k e l = one_byte l (λ bs. gap_return k (get_or t i 0) bs (byte_is i 13 e (omega arith)))
+  return_pass {i} k e l = one_byte i k false l (λ bs. gap_return k (get_or t i 0) bs (byte_is i 13 e (omega arith)))
 
   feed_pass : {i : ℕ} (k : Bool) → code t i ≡ 10 → i < stop → Passes t end i k (i + 1) false
-  feed_pass {i} k e l = one_byte l (λ bs. gap_feed k (get_or t i 0) bs (byte_is i 10 e (omega arith)))
+  feed_pass {i} k e l = one_byte i k false l (λ bs. gap_feed k (get_or t i 0) bs (byte_is i 10 e (omega arith)))
 
   break_pass : {i j : ℕ} (k : Bool) → Break t i j → j ≤ stop → Passes t end i k j false
   break_pass k (cr_lf {i = i} a b) l =
@@ -116,17 +116,17 @@ module _ {t : List ℕ} (u : IsUtf8 t) (end stop : ℕ) (low : stop < end) (with
   bytes_pass (suc n) i j e l f =
       let high : 128 ≤ get_or t i 0 = subst (λ z. 128 ≤ get_or t z 0) (omega arith) (f 0 (omega arith)) in
       let here : Passes t end i true (i + 1) true =
-      one_byte (omega (arith, e, l)) (λ bs. gap_comment true (get_or t i 0) bs (λ q. absurd (omega (arith, q, high))) (λ q. absurd (omega (arith, q, high))) refl) in
+      one_byte i true true (omega (arith, e, l)) (λ bs. gap_comment true (get_or t i 0) bs (λ q. absurd (omega (arith, q, high))) (λ q. absurd (omega (arith, q, high))) refl) in
       let rest = bytes_pass n (i + 1) j (omega (arith, e)) l (λ k o. subst (λ z. 128 ≤ get_or t z 0) (omega arith) (f (suc k) (omega (arith, o)))) in
       λ m q. rest m (here m q)
 
-  char_pass : {i : ℕ} → is_nb_char (code t i) ≡ true → next t i ≤ stop → Passes t end i true (next t i) true
-  char_pass {i} e l = ⊎_elim
+  char_pass : (i : ℕ) → is_nb_char (code t i) ≡ true → next t i ≤ stop → Passes t end i true (next t i) true
+  char_pass i e l = ⊎_elim
       (λ (c : code t i < 128).
       let n = next_ascii t i c in
       let at : get_or t i 0 ≡ code t i = byte_is i (code t i) refl c in
       subst (λ z. Passes t end i true z true) (sym n)
-      (one_byte (omega (arith, n, l)) (λ bs. gap_comment true (get_or t i 0) bs (λ q. no_feed (code t i) e (sym at ∙ q)) (λ q. no_return (code t i) e (sym at ∙ q)) refl)))
+      (one_byte i true true (omega (arith, n, l)) (λ bs. gap_comment true (get_or t i 0) bs (λ q. no_feed (code t i) e (sym at ∙ q)) (λ q. no_return (code t i) e (sym at ∙ q)) refl)))
       (λ (c : 128 ≤ code t i).
       let r = reads_real t i u (real (code t i) e) in
       let later : i < next t i = r.later in
@@ -138,13 +138,13 @@ module _ {t : List ℕ} (u : IsUtf8 t) (end stop : ℕ) (low : stop < end) (with
   chars_pass done l = λ m q. q
   chars_pass {j = j} (step (one {i = i} e) c) l =
       let f : next t i ≤ j = chain_forward (one_functional t is_nb_char) c in
-      let here = char_pass e (omega (arith, f, l)) in
+      let here = char_pass i e (omega (arith, f, l)) in
       λ m q. chars_pass c l m (here m q)
 
   text_pass : {i j : ℕ} {x : List CommentValue} → CommentText t i j x → j ≤ stop → Passes t end i false j true
   text_pass (comment_text {i = i} {j = j} e c n) l =
       let f : i + 1 ≤ j = chain_forward (one_functional t is_nb_char) c in
-      let here : Passes t end i false (i + 1) true = one_byte (omega (arith, f, l)) (λ bs. gap_sign false (get_or t i 0) bs refl (byte_is i 35 e (omega arith))) in
+      let here : Passes t end i false (i + 1) true = one_byte i false true (omega (arith, f, l)) (λ bs. gap_sign false (get_or t i 0) bs refl (byte_is i 35 e (omega arith))) in
       λ m q. chars_pass c l m (here m q)
 
   text_after : {i j : ℕ} {x : List CommentValue} → CommentText t i j x → i ≤ j

@@ -19,11 +19,11 @@ pub data Steps : ℕ → List Span → ℕ → Type 0 where
   no_step : {i j : ℕ} → i ≤ j → Steps i [] j
   a_step : {i j : ℕ} {s : Span} {ss : List Span} → i ≤ s.start → s.start < s.end → Steps s.end ss j → Steps i (s ∷ ss) j
 
-steps_order : {i j : ℕ} {ss : List Span} → Steps i ss j → i ≤ j
+pub steps_order : {i j : ℕ} {ss : List Span} → Steps i ss j → i ≤ j
 steps_order (no_step l) = l
 steps_order (a_step l m a) = let n = steps_order a in omega (arith, l, m, n)
 
-steps_after : {h i j : ℕ} {ss : List Span} → h ≤ i → Steps i ss j → Steps h ss j
+pub steps_after : {h i j : ℕ} {ss : List Span} → h ≤ i → Steps i ss j → Steps h ss j
 steps_after l (no_step m) = no_step (omega (arith, l, m))
 steps_after l (a_step m n a) = a_step (omega (arith, l, m)) n a
 

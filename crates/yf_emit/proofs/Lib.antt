@@ -113,13 +113,17 @@ mod ShownLayouts
 -- for further theorems
 pub mod CalmRows
 pub mod CommentsFit
+pub mod ContentFound
 pub mod DirectivesFit
 pub mod DocumentTrails
 pub mod FormatHolds
+pub mod FormatTrails
 pub mod FormatsRead
+pub mod GapPasses
+pub mod HighBytes
 pub mod KeyTrails
-pub mod LayoutHolds
 pub mod KeysBegin
+pub mod LayoutHolds
 pub mod LeavesRise
 pub mod LineUtf8
 pub mod MarkSpans
@@ -131,6 +135,7 @@ pub mod NormalSame
 pub mod RowTrails
 pub mod SameContent
 pub mod SeenTexts
+pub mod StillHolds
 pub mod TrailsHold
 pub mod TreesRead
 pub mod WritingLemmas

@@ -31,7 +31,7 @@ use Rattle.yf_emit.proofs.FeedLemmas.{ascend}
 use Rattle.yf_emit.proofs.KeysBegin.{trees_begin}
 use Rattle.yf_emit.proofs.LeavesRise.{leaves_rise}
 use Rattle.yf_emit.proofs.NestsRun.{documents_nest, trees_nest}
-use Rattle.yf_emit.proofs.NormalSame.{SameNode, node_twice, settled_same, styled_same}
+use Rattle.yf_emit.proofs.NormalSame.{root_same}
 use Rattle.yf_emit.proofs.PrintedNodes.{nests}
 use Rattle.yf_emit.proofs.ReadingsOfTexts.{trees_placed}
 use Rattle.yf_emit.proofs.SettledTwice.{settled_twice}
@@ -123,10 +123,7 @@ module _ {t : List ℕ} (cs : List CommentValue) (apart : (i : ℕ) → Visible 
 
 -- The trees of a normal form.
 
-root_same : (t : List ℕ) (c : Setting) (d : DocumentTree) → SameNode (normal_document t c d).root d.root
-root_same t c d = node_twice (settled_same c (root_spot c.style) (styled t c d.root)) (styled_same t c d.root)
-
-normal_placed : (t : List ℕ) (c : Setting) (ds : List DocumentTree) → documents_are_placed (map (normal_document t c) ds) ≡ documents_are_placed ds
+pub normal_placed : (t : List ℕ) (c : Setting) (ds : List DocumentTree) → documents_are_placed (map (normal_document t c) ds) ≡ documents_are_placed ds
 normal_placed t c [] = refl
 normal_placed t c (d ∷ ds) = rw ((root_same t c d).placed, normal_placed t c ds) refl
 
@@ -134,7 +131,7 @@ normal_begin : (t : List ℕ) (c : Setting) (ds : List DocumentTree) → keys_be
 normal_begin t c [] = refl
 normal_begin t c (d ∷ ds) = rw ((root_same t c d).begins, normal_begin t c ds) refl
 
-normal_leaves : (t : List ℕ) (c : Setting) (ds : List DocumentTree) → leaves_of (map (normal_document t c) ds) ≡ leaves_of ds
+pub normal_leaves : (t : List ℕ) (c : Setting) (ds : List DocumentTree) → leaves_of (map (normal_document t c) ds) ≡ leaves_of ds
 normal_leaves t c [] = refl
 normal_leaves t c (d ∷ ds) = rw ((root_same t c d).leaves, normal_leaves t c ds) refl
 

@@ -1,5 +1,5 @@
--- The laws of what formatting gives, each with the plain sentence that it stands for. `proofs/FormatsRead.antt` and `proofs/SameContent.antt` prove
--- them. Each asks that at most one comment trails a row of the layout, which is to be proved of readings.
+-- The laws of what formatting gives, each with the plain sentence that it stands for. `proofs/FormatTrails.antt`, `proofs/FormatsRead.antt` and
+-- `proofs/SameContent.antt` prove them.
 use Rattle.std.specs.Prelude.{ℕ, List}
 use Rattle.std.specs.Str.{IsUtf8}
 use Rattle.yf_stream.specs.Stream.{Documents}
@@ -16,6 +16,10 @@ use Rattle.yf_emit.specs.Layout.{source_of}
 abbrev pub TrailsFitIn : {t : List ℕ} {s : Style} {u : List ℕ} → Formats t s u → Type 0
 TrailsFitIn {s = s} f = TrailsFit (source_of f.normal (rows_of f.normal s f.writes.trees)) (rows_of f.normal s f.writes.trees)
 
+-- One comment at most trails each row of what formatting gives.
+abbrev pub FormatsTrailOnce : Type 0
+FormatsTrailOnce = (t u : List ℕ) (s : Style) → IsUtf8 t → (f : Formats t s u) → TrailsFitIn f
+
 -- u is a text that means one thing within the limit of open collections and breaks no rule of streams, and its documents mean the trees of the
 -- normal form, with their directives.
 pub record WellFormed {t : List ℕ} {s : Style} {u : List ℕ} (f : Formats t s u) : Type 0 where
@@ -26,8 +30,8 @@ pub record WellFormed {t : List ℕ} {s : Style} {u : List ℕ} (f : Formats t s
 
 -- What formatting gives is a well-formed stream.
 abbrev pub FormatsAreWellFormed : Type 0
-FormatsAreWellFormed = (t u : List ℕ) (s : Style) → IsUtf8 t → (f : Formats t s u) → TrailsFitIn f → WellFormed f
+FormatsAreWellFormed = (t u : List ℕ) (s : Style) → IsUtf8 t → (f : Formats t s u) → WellFormed f
 
 -- And it has the same content.
 abbrev pub FormatsKeepContent : Type 0
-FormatsKeepContent = (t u : List ℕ) (s : Style) → IsUtf8 t → (f : Formats t s u) → TrailsFitIn f → HasSameContent t u
+FormatsKeepContent = (t u : List ℕ) (s : Style) → IsUtf8 t → Formats t s u → HasSameContent t u
