@@ -1,11 +1,8 @@
 -- At most one comment trails each row of the layout of the normal form of a text's reading.
 use Rattle.std.proofs.Common.{◌≡◌, ℕ, suc, true, List, [], ◌∷◌, map, length, refl, sym, ap, ◌∙◌, subst}
-use Rattle.std.specs.Str.{IsUtf8}
 use Rattle.yf_events.proofs.TreeLemmas.{trees_unique}
 use Rattle.yf_events.specs.Tree.{DocumentTree, TreesOf}
-use Rattle.yf_events.specs.declared.document.Doc.{Doc}
 use Rattle.yf_events.specs.declared.lists.Lists.{Lists}
-use Rattle.yf_stream.specs.ReadingOf.{ReadingOf}
 use Rattle.yf_stream.proofs.ReadingTrees.{TreesStand, reading_stands}
 use Rattle.yf_emit.specs.declared.style.Style.{Style}
 use Rattle.yf_emit.specs.Carried.{AreRemarks, TrailsFit}

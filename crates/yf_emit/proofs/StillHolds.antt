@@ -1,6 +1,6 @@
 -- In the normal form of trees that stand in a text no comment stands between the leaves of a flow collection on one line: they stand between its
 -- brackets, where the style of the house lets none stand.
-use Rattle.std.proofs.Common.{◌≡◌, ℕ, ◌<◌, ◌≤◌, Bool, true, false, true≢false, not, ◌&&◌, List, [], ◌∷◌, map, Option, Some, None, refl, sym, ap, ◌∙◌, subst, arith}
+use Rattle.std.proofs.Common.{◌≡◌, ℕ, ◌≤◌, Bool, true, false, true≢false, not, ◌&&◌, List, [], ◌∷◌, map, Option, None, refl, sym, ap, ◌∙◌, subst, arith}
 use Rattle.std.specs.Prelude.{◌||◌, nat_le, nat_lt, find, if◌then◌else◌}
 use Rattle.std.specs.List.{list_any}
 use Rattle.std.specs.Str.{IsUtf8}
@@ -9,7 +9,7 @@ use Rattle.yf_comments.specs.Comment.{CommentValue}
 use Rattle.yf_props.specs.Props.{PropsValue}
 use Rattle.yf_events.specs.declared.document.Doc.{Doc}
 use Rattle.yf_events.specs.declared.event.Span.{Span}
-use Rattle.yf_events.specs.Tree.{DocumentTree, Standing, Node, scalar, alias, sequence, mapping, Items, no_items, item, Pairs, no_pairs, pair, leaves, leaves_of_items, leaves_of_pairs, spans_of_leaf}
+use Rattle.yf_events.specs.Tree.{DocumentTree, Standing, Node, sequence, mapping, Items, item, Pairs, pair, leaves, leaves_of_items, leaves_of_pairs}
 use Rattle.yf_grammar.specs.Meaning.{from_to}
 use Rattle.yf_grammar.proofs.NodePlaces.{Opens, NodeStands, stands_nowhere, scalar_stands, alias_stands, sequence_stands, mapping_stands, ItemsStand, no_items_stand, item_stands, PairsStand, no_pairs_stand, pair_stands}
 use Rattle.yf_stream.proofs.ReadingTrees.{TreesStand, no_trees_stand, tree_stands}
@@ -18,7 +18,7 @@ use Rattle.yf_emit.specs.Kept.{has_comment, is_within, items_may_be_kept, may_be
 use Rattle.yf_emit.specs.Normal.{Setting, Spot, fits, inner_spot, key_spot, normal_document, root_spot, settled, settled_items, settled_pairs, styled, styled_items, styled_pairs, value_spot}
 use Rattle.yf_emit.specs.StillLeaves.{ItemsStill, KeptStill, PairsStill, Still, nothing_still, one_still, more_still, between}
 use Rattle.yf_emit.proofs.ContentFound.{content_found}
-use Rattle.yf_emit.proofs.LeavesRise.{Steps, no_step, a_step, items_steps, pairs_steps, steps_after, steps_order}
+use Rattle.yf_emit.proofs.LeavesRise.{Steps, a_step, items_steps, pairs_steps, steps_order}
 use Rattle.yf_emit.proofs.NodeTrails.{TreesKept, leaf_still}
 use Rattle.yf_emit.proofs.NormalSame.{root_same, styled_same}
 use Rattle.yf_emit.proofs.PlacedTrees.{node_placed}

@@ -1,8 +1,7 @@
 -- What a production means ends after it begins: its last node with characters, or its last sign.
-use Rattle.std.proofs.Common.{◌≡◌, ℕ, ℤ, ◌+◌, ◌<◌, ◌≤◌, Bool, true, false, List, refl, arith}
+use Rattle.std.proofs.Common.{◌≡◌, ℕ, ℤ, ◌+◌, ◌<◌, ◌≤◌, false, List, refl, arith}
 use Rattle.std.specs.Str.{IsUtf8}
 use Rattle.yf_lines.specs.Basic.{is_block}
-use Rattle.yf_comments.specs.Comment.{CommentValue}
 use Rattle.yf_props.proofs.SeparationEnds.{separate_forward}
 use Rattle.yf_grammar.specs.BlockScalar.{BlockScalar}
 use Rattle.yf_grammar.specs.BlockScalar.BlockScalar.{block_scalar}

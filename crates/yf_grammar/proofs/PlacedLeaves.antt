@@ -1,5 +1,5 @@
 -- Leaves stand where they are read, and their styles spell them.
-use Rattle.std.proofs.Common.{◌≡◌, ◌≢◌, ℕ, ℤ, ◌<◌, ◌≤◌, true, false, List, [], length, Option, None, refl, sym, ◌∙◌, arith, true≢false, length-append}
+use Rattle.std.proofs.Common.{◌≡◌, ◌≢◌, ℕ, ℤ, ◌<◌, true, false, List, [], length, Option, None, refl, sym, ◌∙◌, arith, true≢false, length-append}
 use Rattle.std.proofs.lemmas.Bool.Decides.{nat_tests}
 use Rattle.std.proofs.lemmas.List.{length-take, length-drop}
 use Rattle.std.proofs.lemmas.Str.{IsUtf8-nil, length-le-encodes}
