@@ -117,6 +117,7 @@ pub mod ContentFound
 pub mod DirectivesFit
 pub mod DocumentTrails
 pub mod FormatHolds
+pub mod FormatLawsHold
 pub mod FormatTrails
 pub mod FormatsRead
 pub mod GapPasses

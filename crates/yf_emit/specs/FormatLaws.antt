@@ -1,7 +1,9 @@
--- The laws of what formatting gives, each with the plain sentence that it stands for. `proofs/FormatTrails.antt`, `proofs/FormatsRead.antt` and
--- `proofs/SameContent.antt` prove them.
-use Rattle.std.specs.Prelude.{ℕ, List}
+-- The laws of what formatting gives, each with the plain sentence that it stands for. `proofs/FormatLawsHold.antt`, `proofs/FormatTrails.antt`,
+-- `proofs/FormatsRead.antt` and `proofs/SameContent.antt` prove them.
+use Rattle.std.specs.Prelude.{◌≡◌, ℕ, List}
 use Rattle.std.specs.Str.{IsUtf8}
+use Rattle.yf_events.specs.declared.lists.Lists.{Lists}
+use Rattle.yf_stream.specs.ReadingOf.{ReadingOf}
 use Rattle.yf_stream.specs.Stream.{Documents}
 use Rattle.yf_stream.specs.WellFormed.{Reads}
 use Rattle.yf_emit.specs.declared.style.Style.{Style}
@@ -9,8 +11,16 @@ use Rattle.yf_emit.specs.Carried.{TrailsFit}
 use Rattle.yf_emit.specs.Decorated.{rows_of}
 use Rattle.yf_emit.specs.FitDocuments.{DocumentsMeant}
 use Rattle.yf_emit.specs.Format.{Formats}
-use Rattle.yf_emit.specs.Laws.{HasSameContent}
+use Rattle.yf_emit.specs.Laws.{HasSameContent, IsAccepted}
 use Rattle.yf_emit.specs.Layout.{source_of}
+
+-- Formatting a text that has a reading gives a text.
+abbrev pub FormatsExist : Type 0
+FormatsExist = (t : List ℕ) (s : Style) (r : Lists) → ReadingOf t r → (u : List ℕ) × Formats t s u
+
+-- It gives one alone.
+abbrev pub FormatsAreOne : Type 0
+FormatsAreOne = (t u v : List ℕ) (s : Style) → Formats t s u → Formats t s v → u ≡ v
 
 -- one comment at most trails each row of the layout
 abbrev pub TrailsFitIn : {t : List ℕ} {s : Style} {u : List ℕ} → Formats t s u → Type 0
@@ -31,6 +41,10 @@ pub record WellFormed {t : List ℕ} {s : Style} {u : List ℕ} (f : Formats t s
 -- What formatting gives is a well-formed stream.
 abbrev pub FormatsAreWellFormed : Type 0
 FormatsAreWellFormed = (t u : List ℕ) (s : Style) → IsUtf8 t → (f : Formats t s u) → WellFormed f
+
+-- It is accepted: it has a reading.
+abbrev pub FormatsAreAccepted : Type 0
+FormatsAreAccepted = (t u : List ℕ) (s : Style) → IsUtf8 t → Formats t s u → IsAccepted u
 
 -- And it has the same content.
 abbrev pub FormatsKeepContent : Type 0
