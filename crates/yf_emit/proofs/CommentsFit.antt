@@ -1,6 +1,6 @@
 -- The comments of a reading are written as comments, without the white space that ends them.
-use Rattle.std.proofs.Common.{◌≡◌, ℕ, ◌+◌, ◌<◌, ◌≤◌, ◌/◌, ◌%◌, Bool, true, false, List, [], ◌∷◌, ◌++◌, refl, sym, ap, ◌∙◌, subst, arith, ⊎_elim, ltb}
-use Rattle.std.proofs.lemmas.Bool.{cases_lt, le-ltb}
+use Rattle.std.proofs.Common.{◌≡◌, ℕ, ◌<◌, ◌≤◌, Bool, true, false, List, [], ◌∷◌, ◌++◌, refl, sym, ap, ◌∙◌, subst, arith, ⊎_elim}
+use Rattle.std.proofs.lemmas.Bool.{cases_lt}
 use Rattle.std.proofs.lemmas.Bool.Decides.{nat_tests}
 use Rattle.std.proofs.lemmas.Str.{encode_ascii}
 use Rattle.std.specs.Prelude.{◌&&◌, if◌then◌else◌}
@@ -21,6 +21,7 @@ use Rattle.yf_stream.proofs.ReadingOrder.{reading_ascends}
 use Rattle.yf_emit.specs.Carried.{AreRemarks, no_remark, one_remark}
 use Rattle.yf_emit.specs.Layout.{trimmed}
 use Rattle.yf_emit.proofs.DirectivesFit.{all_nb}
+use Rattle.yf_emit.proofs.HighBytes.{AllHigh, all_high}
 
 -- Bytes of characters that are no ASCII are no white space.
 
@@ -33,28 +34,10 @@ unfolding is_white
 high_no_white b l = grind (arith, nat_tests)
 
 high_no_whites : (c : ℕ) → 128 ≤ c → NoWhites (encode c)
-unfolding encode
-high_no_whites c l = rw (le-ltb c 128 l) (go (ltb c 2048) (ltb c 65536)) where
-  two : NoWhites ((192 + c / 64) ∷ (128 + c % 64) ∷ [])
-  two = (high_no_white (192 + c / 64) (omega arith), (high_no_white (128 + c % 64) (omega arith), tt))
-
-  three : NoWhites ((224 + c / 4096) ∷ (128 + c / 64 % 64) ∷ (128 + c % 64) ∷ [])
-  three = (high_no_white (224 + c / 4096) (omega arith), (high_no_white (128 + c / 64 % 64) (omega arith), (high_no_white (128 + c % 64) (omega arith), tt)))
-
-  four : NoWhites ((240 + c / 262144) ∷ (128 + c / 4096 % 64) ∷ (128 + c / 64 % 64) ∷ (128 + c % 64) ∷ [])
-  four = (
-    high_no_white (240 + c / 262144) (omega arith),
-    (
-      high_no_white (128 + c / 4096 % 64) (omega arith),
-      (high_no_white (128 + c / 64 % 64) (omega arith), (high_no_white (128 + c % 64) (omega arith), tt)),
-    ),
-  )
-
-  go : (p q : Bool) → NoWhites (if p then (192 + c / 64) ∷ (128 + c % 64) ∷ [] else if q then (224 + c / 4096) ∷ (128 + c / 64 % 64) ∷ (128 + c % 64) ∷ []
-      else (240 + c / 262144) ∷ (128 + c / 4096 % 64) ∷ (128 + c / 64 % 64) ∷ (128 + c % 64) ∷ [])
-  go true q = two
-  go false true = three
-  go false false = four
+high_no_whites c l = go (encode c) (all_high c l) where
+  go : (xs : List ℕ) → AllHigh xs → NoWhites xs
+  go [] a = tt
+  go (x ∷ xs) a = (high_no_white x a.0, go xs a.1)
 
 -- Without the white space that ends it, a line's text is one.
 

@@ -14,6 +14,7 @@ use Rattle.yf_emit.specs.Rows.{Row, beginning_at, directive_row, document_rows, 
 use Rattle.yf_emit.proofs.DocumentsPrinted.{AreNormal, IsNormal, normal_parts}
 use Rattle.yf_emit.proofs.KeyTrails.{given, given_append, given_enclosed, keys_append, keys_on, node_given}
 use Rattle.yf_emit.proofs.RowLeaves.{leaves_on, node_leaves, on_append}
+use Rattle.yf_emit.proofs.StyledTwice.{House}
 
 -- rows without leaves, and of which no comment trails a key
 record Blank (xs : List Row) : Type 0 where
@@ -51,19 +52,27 @@ begins_blank is_first d =
 abbrev pub leaves_of : List DocumentTree → List Span
 leaves_of ds = flat_map (λ d. leaves d.root) ds
 
-pub stream_leaves : (c : Setting) (n : ℕ) (is_first : Bool) (xs : List Doc) (ds : List DocumentTree) → length xs ≡ length ds → documents_are_placed ds ≡ true → AreNormal c n ds
+-- roots in the style of the house
+abbrev pub InHouse : Setting → List DocumentTree → Type 0
+InHouse c [] = Unit {0}
+InHouse c (d ∷ ds) = House c d.root × InHouse c ds
+
+pub in_house : (c : Setting) (n : ℕ) (ds : List DocumentTree) → AreNormal c n ds → InHouse c ds
+in_house c n [] a = tt
+in_house c n (d ∷ ds) a = let parts = normal_parts a in (parts.0.house, in_house c n ds parts.1)
+
+pub stream_leaves : (c : Setting) (is_first : Bool) (xs : List Doc) (ds : List DocumentTree) → length xs ≡ length ds → documents_are_placed ds ≡ true → InHouse c ds
     → leaves_on (stream_rows c is_first xs ds) ≡ leaves_of ds
-stream_leaves c n is_first [] [] e h a = refl
-stream_leaves c n is_first [] (t ∷ ds) e h a = absurd (omega (arith, e))
-stream_leaves c n is_first (x ∷ xs) [] e h a = absurd (omega (arith, e))
-stream_leaves c n is_first (x ∷ xs) (t ∷ ds) e h a =
-    let parts = normal_parts a in
+stream_leaves c is_first [] [] e h a = refl
+stream_leaves c is_first [] (t ∷ ds) e h a = absurd (omega (arith, e))
+stream_leaves c is_first (x ∷ xs) [] e h a = absurd (omega (arith, e))
+stream_leaves c is_first (x ∷ xs) (t ∷ ds) e h a =
     let hs = and_parts (is_placed t.root) (documents_are_placed ds) h in
     on_append (document_rows c is_first x t) (stream_rows c false xs ds)
     ∙ (ap (λ w. w ++ leaves_on (stream_rows c false xs ds))
     (on_append (begins is_first x) (rows c (root_spot c.style) t.root)
-    ∙ (ap (λ w. w ++ leaves_on (rows c (root_spot c.style) t.root)) (begins_blank is_first x).leaves ∙ node_leaves c (root_spot c.style) t.root hs.0 parts.0.house))
-    ∙ ap (λ w. leaves t.root ++ w) (stream_leaves c n false xs ds (omega (arith, e)) hs.1 parts.1))
+    ∙ (ap (λ w. w ++ leaves_on (rows c (root_spot c.style) t.root)) (begins_blank is_first x).leaves ∙ node_leaves c (root_spot c.style) t.root hs.0 a.0))
+    ∙ ap (λ w. leaves t.root ++ w) (stream_leaves c false xs ds (omega (arith, e)) hs.1 a.1))
 
 abbrev forms_in : Setting → DocumentTree → List Form
 forms_in c d = document_forms [] (setting c.style []) c d

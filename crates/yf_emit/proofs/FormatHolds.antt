@@ -1,24 +1,21 @@
 -- What is printed of the normal form of a text's reading is what formatting the text gives.
-use Rattle.std.proofs.Common.{◌≡◌, ℕ, List, subst}
+use Rattle.std.proofs.Common.{ℕ, List}
 use Rattle.std.specs.Str.{IsUtf8}
 use Rattle.yf_events.specs.Nested.{IsStream}
 use Rattle.yf_events.specs.Reading.{events_of}
-use Rattle.yf_events.specs.Tree.{DocumentTree, TreesOf}
 use Rattle.yf_events.specs.declared.lists.Lists.{Lists}
 use Rattle.yf_events.specs.declared.reading.TheConstants.{DEPTH}
-use Rattle.yf_events.proofs.TreeLemmas.{trees_unique}
 use Rattle.yf_stream.specs.ReadingOf.{ReadingOf}
 use Rattle.yf_emit.specs.declared.style.Style.{Style}
 use Rattle.yf_emit.specs.Format.{Formats}
-use Rattle.yf_emit.specs.InOrder.{AreInOrder}
 use Rattle.yf_emit.specs.Normal.{Normal}
 use Rattle.yf_emit.specs.Printout.{IsPrinted}
 use Rattle.yf_emit.specs.Textual.{IsTextual}
 use Rattle.yf_emit.proofs.ReadingsOfTexts.{reading_is_textual}
 
 pub printed_formats : (t : List ℕ) (s : Style) (u : List ℕ) (r m : Lists) → IsStream DEPTH (events_of m) → (IsTextual r → Normal t r s m) → IsPrinted m s u
-    → IsUtf8 t → ReadingOf t r → (ds : List DocumentTree) → TreesOf r ds → AreInOrder ds → Formats t s u
-printed_formats t s u r m nested normal p g reads ds a o =
+    → IsUtf8 t → ReadingOf t r → Formats t s u
+printed_formats t s u r m nested normal p g reads =
     let n : Normal t r s m = normal (reading_is_textual g reads) in
     record {
       reading = r;
@@ -31,7 +28,6 @@ printed_formats t s u r m nested normal p g reads ds a o =
         reading = r;
         reads = reads;
         is = n;
-        in_order = subst AreInOrder (trees_unique r ds n.trees a n.of_reading) o;
         nested = nested;
       });
     }

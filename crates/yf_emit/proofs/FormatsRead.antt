@@ -1,5 +1,5 @@
 -- What a normal form is laid out as is a well-formed stream, within the limit of open collections, with the same nodes and directives.
-use Rattle.std.proofs.Common.{◌≡◌, ℕ, suc, max, ◌≤◌, Bool, true, false, List, [], ◌∷◌, map, length, refl, sym, ap, ◌∙◌, subst, arith}
+use Rattle.std.proofs.Common.{◌≡◌, ℕ, suc, max, ◌≤◌, Bool, true, false, List, ◌∷◌, map, refl, sym, ap, ◌∙◌, subst, arith}
 use Rattle.std.specs.Prelude.{◌&&◌, if◌then◌else◌}
 use Rattle.std.specs.Str.{IsUtf8}
 use Rattle.yf_lines.specs.declared.quotes.Quotes.{Quotes}
@@ -25,6 +25,7 @@ use Rattle.yf_emit.specs.LayoutLaws.{StreamMade, printed_comments}
 use Rattle.yf_emit.specs.Normal.{Setting, Spot, fits, settled, settled_items, settled_pairs, styled, styled_items, styled_pairs, inner_spot, key_spot, value_spot, root_spot, normal_document, setting_of}
 use Rattle.yf_emit.specs.Restyled.{Restyled, none_left, one_more, restyled_event}
 use Rattle.yf_emit.proofs.CommentsFit.{reading_remarks}
+use Rattle.yf_emit.proofs.FormatTrails.{formats_trail, normal_trees}
 use Rattle.yf_emit.proofs.LayoutLawsHold.{layouts_are_texts, layouts_are_derived}
 use Rattle.yf_emit.proofs.NormalRestyled.{root_restyled}
 use Rattle.yf_emit.proofs.TreesRead.{document_read, reading_fits, same_node}
@@ -142,32 +143,6 @@ documents_low {h = h} t c u (document_derived {h = g} a l more) (tree_meant {x =
 
 -- Streams.
 
-record NormalTrees (t : List ℕ) {s : Style} {u : List ℕ} (f : Formats t s u) : Type 0 where
-  trees : List DocumentTree
-  of_reading : TreesOf f.reading trees
-  same : f.writes.trees ≡ map (normal_document t (setting_of f.reading s)) trees
-  documents : f.normal.documents ≡ f.reading.documents
-  comments : f.normal.comments ≡ f.reading.comments
-
-count_map : {A B : Type 0} (g : A → B) (xs : List A) → length (map g xs) ≡ length xs
-count_map g [] = refl
-count_map g (x ∷ xs) = ap suc (count_map g xs)
-
-normal_trees : {t : List ℕ} {s : Style} {u : List ℕ} (f : Formats t s u) → NormalTrees t f
-normal_trees {t} {s} f =
-    let n = f.is_normal in
-    let g : DocumentTree → DocumentTree = normal_document t (setting_of f.reading s) in
-    let documents : f.normal.documents ≡ f.reading.documents = ap (λ (w : Lists). w.documents) n.is in
-    let of_normal : TreesOf f.normal (map g n.trees) =
-    record { events = ap (λ (w : Lists). w.events) n.is; documents = ap length documents ∙ (n.of_reading.documents ∙ sym (count_map g n.trees)) } in
-    record {
-      trees = n.trees;
-      of_reading = n.of_reading;
-      same = trees_unique f.normal f.writes.trees (map g n.trees) f.writes.of_reading of_normal;
-      documents = documents;
-      comments = ap (λ (w : Lists). w.comments) n.is;
-    }
-
 -- the trees of a reading, with what they mean
 reading_meant : {t : List ℕ} {r : Lists} {trees : List DocumentTree} → IsUtf8 t → (a : ReadingOf t r) → TreesOf r trees → TreesMeant a.derived.documents trees
 reading_meant {t} {r} {trees} u a of_reading =
@@ -190,7 +165,8 @@ same_in_documents {t} {u} {s} {es} utf8 f meant =
     (subst (λ ds. DocumentsMeant ds (map (normal_document t c) n.trees) es) documents (subst (λ xs. DocumentsMeant f.normal.documents xs es) n.same meant))
 
 pub formats_well : FormatsAreWellFormed
-formats_well t u s utf8 f trails =
+formats_well t u s utf8 f =
+    let trails = formats_trail t u s utf8 f in
     let n = normal_trees f in
     let c : Setting = setting_of f.reading s in
     let m : Lists = f.normal in

@@ -1,8 +1,8 @@
--- The leaves of trees that stand in a text begin one after the other, where each ends after it begins.
-use Rattle.std.proofs.Common.{◌≡◌, ℕ, ◌<◌, ◌≤◌, Bool, true, ◌&&◌, List, [], ◌∷◌, ◌++◌, length, Option, Some, None, refl, sym, ap, ◌∙◌, subst, arith}
+-- The leaves of trees that stand in a text begin one after the other.
+use Rattle.std.proofs.Common.{◌≡◌, ℕ, ◌<◌, ◌≤◌, true, List, [], ◌∷◌, ◌++◌, length, Option, refl, sym, subst, arith}
 use Rattle.std.specs.Prelude.{nat_lt}
 use Rattle.std.specs.List.{list_all}
-use Rattle.std.proofs.lemmas.Bool.{and_from, and_parts}
+use Rattle.std.proofs.lemmas.Bool.{and_from}
 use Rattle.std.proofs.lemmas.Bool.Decides.{nat_tests}
 use Rattle.yf_events.specs.Tree.{Node, Items, Pairs, DocumentTree, leaves, leaves_of_items, leaves_of_pairs, spans_of_leaf}
 use Rattle.yf_events.specs.declared.document.Doc.{Doc}
@@ -11,20 +11,19 @@ use Rattle.yf_grammar.specs.Meaning.{from_to}
 use Rattle.yf_grammar.proofs.NodePlaces.{ColonStands, no_colon, a_colon, NodeStands, stands_nowhere, scalar_stands, alias_stands, sequence_stands, mapping_stands, ItemsStand, no_items_stand, item_stands, PairsStand, no_pairs_stand, pair_stands}
 use Rattle.yf_stream.proofs.DirectiveOrder.{directives_order}
 use Rattle.yf_stream.proofs.ReadingTrees.{TreesStand, no_trees_stand, tree_stands}
-use Rattle.yf_emit.specs.InOrder.{are_wide}
 use Rattle.yf_emit.proofs.DocumentTrails.{leaves_of}
 use Rattle.yf_emit.proofs.TrailChoice.{rising}
 
 -- leaves between two places, each after the end of the one before it
-data Steps : ℕ → List Span → ℕ → Type 0 where
+pub data Steps : ℕ → List Span → ℕ → Type 0 where
   no_step : {i j : ℕ} → i ≤ j → Steps i [] j
   a_step : {i j : ℕ} {s : Span} {ss : List Span} → i ≤ s.start → s.start < s.end → Steps s.end ss j → Steps i (s ∷ ss) j
 
-steps_order : {i j : ℕ} {ss : List Span} → Steps i ss j → i ≤ j
+pub steps_order : {i j : ℕ} {ss : List Span} → Steps i ss j → i ≤ j
 steps_order (no_step l) = l
 steps_order (a_step l m a) = let n = steps_order a in omega (arith, l, m, n)
 
-steps_after : {h i j : ℕ} {ss : List Span} → h ≤ i → Steps i ss j → Steps h ss j
+pub steps_after : {h i j : ℕ} {ss : List Span} → h ≤ i → Steps i ss j → Steps h ss j
 steps_after l (no_step m) = no_step (omega (arith, l, m))
 steps_after l (a_step m n a) = a_step (omega (arith, l, m)) n a
 
@@ -41,9 +40,6 @@ steps_to l m (a_step n w a) = a_step (omega (arith, l, n)) w (steps_to (omega ar
 below : (a b : ℕ) → a < b → nat_lt a b ≡ true
 below a b l = grind (arith, nat_tests)
 
-less : (a b : ℕ) → nat_lt a b ≡ true → a < b
-less a b e = grind (arith, nat_tests)
-
 all_later : {n j : ℕ} {ss : List Span} (m : ℕ) → m < n → Steps n ss j → list_all (λ (r : Span). nat_lt m r.start) ss ≡ true
 all_later m l (no_step k) = refl
 all_later {ss = s ∷ ss} m l (a_step k w a) =
@@ -55,53 +51,35 @@ steps_rise {ss = s ∷ ss} (a_step l w a) = and_from _ _ (all_later s.start w a)
 
 -- The leaves of trees.
 
-wide_parts : (xs ys : List Span) → are_wide (xs ++ ys) ≡ true → (are_wide xs ≡ true) × (are_wide ys ≡ true)
-wide_parts [] ys h = (refl, h)
-wide_parts (x ∷ xs) ys h =
-    let parts = and_parts (nat_lt x.start x.end) (are_wide (xs ++ ys)) h in
-    let rest = wide_parts xs ys parts.1 in
-    (and_from _ _ parts.0 rest.0, rest.1)
-
-one_step : (i j a b : ℕ) → i ≤ a → b ≤ j → are_wide (record { start = a; end = b } ∷ []) ≡ true → Steps i (record { start = a; end = b } ∷ []) j
-one_step i j a b l m h = a_step l (less a b (and_parts (nat_lt a b) true h).0) (no_step m)
-
-leaf_steps : {i j : ℕ} (a b : ℕ) (o : Option Span) → o ≡ from_to a b → i ≤ a → b ≤ j → are_wide (spans_of_leaf o) ≡ true → Steps i (spans_of_leaf o) j
+leaf_steps : {i j : ℕ} (a b : ℕ) (o : Option Span) → o ≡ from_to a b → i ≤ a → a < b → b ≤ j → Steps i (spans_of_leaf o) j
 unfolding from_to
-leaf_steps {i} {j} a b o e l m = subst (λ w. are_wide (spans_of_leaf w) ≡ true → Steps i (spans_of_leaf w) j) (sym e) (one_step i j a b l m)
+leaf_steps {i} {j} a b o e l w m = subst (λ z. Steps i (spans_of_leaf z) j) (sym e) (a_step l w (no_step m))
 
 colon_order : {t : List ℕ} {i j : ℕ} {c : Option ℕ} → ColonStands t i j c → i ≤ j
 colon_order (no_colon l) = l
 colon_order (a_colon l e m) = omega (arith, l, m)
 
 mutual
-  node_steps : {t : List ℕ} {i j : ℕ} {x : Node} → NodeStands t i j x → are_wide (leaves x) ≡ true → Steps i (leaves x) j
-  node_steps {i = i} {j = j} (stands_nowhere m e) h = subst (λ w. Steps i (spans_of_leaf w) j) (sym e) (no_step m)
-  node_steps (scalar_stands {at = at} e b l m w s) h = leaf_steps _ _ at.span e b.order m h
-  node_steps (alias_stands {at = at} e b l m s) h = leaf_steps _ _ at.span e b.order m h
-  node_steps (sequence_stands {at = at} e b (no_items_stand l) m s) h = leaf_steps _ _ at.span e b.order m h
-  node_steps (sequence_stands e b (item_stands f q l a c) m s) h = steps_to b.order m (items_steps (item_stands f q l a c) h)
-  node_steps (mapping_stands {at = at} e b (no_pairs_stand l) m s) h = leaf_steps _ _ at.span e b.order m h
-  node_steps (mapping_stands e b (pair_stands f q l a c d g) m s) h = steps_to b.order m (pairs_steps (pair_stands f q l a c d g) h)
+  node_steps : {t : List ℕ} {i j : ℕ} {x : Node} → NodeStands t i j x → Steps i (leaves x) j
+  node_steps {i = i} {j = j} (stands_nowhere m e) = subst (λ w. Steps i (spans_of_leaf w) j) (sym e) (no_step m)
+  node_steps (scalar_stands {at = at} e b l m w s) = leaf_steps _ _ at.span e b.order l m
+  node_steps (alias_stands {at = at} e b l m s) = leaf_steps _ _ at.span e b.order l m
+  node_steps (sequence_stands {at = at} e b (no_items_stand l) m s) = leaf_steps _ _ at.span e b.order (omega (arith, b.inner, b.wide)) m
+  node_steps (sequence_stands e b (item_stands f q l a c) m s) = steps_to (omega (arith, b.order, b.inner)) m (items_steps (item_stands f q l a c))
+  node_steps (mapping_stands {at = at} e b (no_pairs_stand l) m s) = leaf_steps _ _ at.span e b.order (omega (arith, b.inner, b.wide)) m
+  node_steps (mapping_stands e b (pair_stands f q l a c d g) m s) = steps_to (omega (arith, b.order, b.inner)) m (pairs_steps (pair_stands f q l a c d g))
 
-  items_steps : {t : List ℕ} {i j : ℕ} {xs : Items} → ItemsStand t i j xs → are_wide (leaves_of_items xs) ≡ true → Steps i (leaves_of_items xs) j
-  items_steps (no_items_stand l) h = no_step l
-  items_steps (item_stands {x = x} {xs = xs} f q l a c) h =
-      let parts = wide_parts (leaves x) (leaves_of_items xs) h in steps_join (steps_after l.order (node_steps a parts.0)) (items_steps c parts.1)
+  pub items_steps : {t : List ℕ} {i j : ℕ} {xs : Items} → ItemsStand t i j xs → Steps i (leaves_of_items xs) j
+  items_steps (no_items_stand l) = no_step l
+  items_steps (item_stands f q l a c) = steps_join (steps_after l.order (node_steps a)) (items_steps c)
 
-  pairs_steps : {t : List ℕ} {i j : ℕ} {ps : Pairs} → PairsStand t i j ps → are_wide (leaves_of_pairs ps) ≡ true → Steps i (leaves_of_pairs ps) j
-  pairs_steps (no_pairs_stand l) h = no_step l
-  pairs_steps (pair_stands {k = k} {v = v} {ps = ps} f q l a c d g) h =
-      let first = wide_parts (leaves k) (leaves v ++ leaves_of_pairs ps) h in
-      let rest = wide_parts (leaves v) (leaves_of_pairs ps) first.1 in
-      steps_join (steps_after l.order (node_steps a first.0)) (steps_after (colon_order c) (steps_join (node_steps d rest.0) (pairs_steps g rest.1)))
+  pub pairs_steps : {t : List ℕ} {i j : ℕ} {ps : Pairs} → PairsStand t i j ps → Steps i (leaves_of_pairs ps) j
+  pairs_steps (no_pairs_stand l) = no_step l
+  pairs_steps (pair_stands f q l a c d g) = steps_join (steps_after l.order (node_steps a)) (steps_after (colon_order c) (steps_join (node_steps d) (pairs_steps g)))
 
-trees_steps : {t : List ℕ} {i : ℕ} {ds : List Doc} {trees : List DocumentTree} → TreesStand t i ds trees → are_wide (leaves_of trees) ≡ true
-    → Steps i (leaves_of trees) (length t)
-trees_steps (no_trees_stand l) h = no_step l
-trees_steps (tree_stands {tree = tree} {trees = trees} d a b) h =
-    let parts = wide_parts (leaves tree.root) (leaves_of trees) h in
-    steps_after (directives_order d) (steps_join (node_steps a parts.0) (trees_steps b parts.1))
+trees_steps : {t : List ℕ} {i : ℕ} {ds : List Doc} {trees : List DocumentTree} → TreesStand t i ds trees → Steps i (leaves_of trees) (length t)
+trees_steps (no_trees_stand l) = no_step l
+trees_steps (tree_stands d a b) = steps_after (directives_order d) (steps_join (node_steps a) (trees_steps b))
 
-pub leaves_rise : {t : List ℕ} {i : ℕ} {ds : List Doc} {trees : List DocumentTree} → TreesStand t i ds trees → are_wide (leaves_of trees) ≡ true
-    → rising (leaves_of trees) ≡ true
-leaves_rise a h = steps_rise (trees_steps a h)
+pub leaves_rise : {t : List ℕ} {i : ℕ} {ds : List Doc} {trees : List DocumentTree} → TreesStand t i ds trees → rising (leaves_of trees) ≡ true
+leaves_rise a = steps_rise (trees_steps a)

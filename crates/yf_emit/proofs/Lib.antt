@@ -113,11 +113,17 @@ mod ShownLayouts
 -- for further theorems
 pub mod CalmRows
 pub mod CommentsFit
+pub mod ContentFound
 pub mod DirectivesFit
 pub mod DocumentTrails
 pub mod FormatHolds
+pub mod FormatLawsHold
+pub mod FormatTrails
 pub mod FormatsRead
+pub mod GapPasses
+pub mod HighBytes
 pub mod KeyTrails
+pub mod KeysBegin
 pub mod LayoutHolds
 pub mod LeavesRise
 pub mod LineUtf8
@@ -130,6 +136,7 @@ pub mod NormalSame
 pub mod RowTrails
 pub mod SameContent
 pub mod SeenTexts
+pub mod StillHolds
 pub mod TrailsHold
 pub mod TreesRead
 pub mod WritingLemmas

@@ -47,10 +47,10 @@ colon_rises {i} {j} e q c = subst (λ z. Rises i (colon_offset z) j) (sym q) (of
 mutual
   pub node_rises : {t : List ℕ} {i j : ℕ} {x : Node} → NodeStands t i j x → Rises i (marks_in x) j
   node_rises {i = i} {j = j} (stands_nowhere m e) = subst (λ z. Rises i (around z []) j) (sym e) (no_place m)
-  node_rises (scalar_stands e b l m w s) = around_rises _ _ e b.order (no_place l) m
-  node_rises (alias_stands e b l m s) = around_rises _ _ e b.order (no_place l) m
-  node_rises (sequence_stands e b a m s) = around_rises _ _ e b.order (items_rise a) m
-  node_rises (mapping_stands e b a m s) = around_rises _ _ e b.order (pairs_rise a) m
+  node_rises (scalar_stands e b l m w s) = around_rises _ _ e b.order (no_place (omega (arith, l))) m
+  node_rises (alias_stands e b l m s) = around_rises _ _ e b.order (no_place (omega (arith, l))) m
+  node_rises (sequence_stands e b a m s) = around_rises _ _ e b.order (rises_after b.inner (items_rise a)) m
+  node_rises (mapping_stands e b a m s) = around_rises _ _ e b.order (rises_after b.inner (pairs_rise a)) m
 
   items_rise : {t : List ℕ} {i j : ℕ} {xs : Items} → ItemsStand t i j xs → Rises i (marks_in_items xs) j
   items_rise (no_items_stand m) = no_place m
@@ -59,7 +59,7 @@ mutual
   pairs_rise : {t : List ℕ} {i j : ℕ} {ps : Pairs} → PairsStand t i j ps → Rises i (marks_in_pairs ps) j
   pairs_rise (no_pairs_stand m) = no_place m
   pairs_rise (pair_stands e q l a c b d) =
-      rises_join (entry_rises e q l.order) (rises_join (node_rises a) (rises_join (colon_rises e q c) (rises_join (node_rises b) (pairs_rise d))))
+      rises_join (entry_rises e q.key l.order) (rises_join (node_rises a) (rises_join (colon_rises e q.key c) (rises_join (node_rises b) (pairs_rise d))))
 
 directives_rise : {i j : ℕ} {ds : List Directive} → DirectivesStand i ds j → Rises i (map (λ w. w.offset) ds) j
 directives_rise (no_directives_stand m) = no_place m

@@ -34,7 +34,7 @@ module _ (cs : List CommentValue) where
   keyless : {row : Row} {post : List Span} → Still cs row.leaves → row.key_comment ≡ None → Tidy cs row post
   keyless a e = record { still = a; key = λ d f. absurd cc }
 
-  leaf_still : (o : Option Span) → Still cs (spans_of_leaf o)
+  pub leaf_still : (o : Option Span) → Still cs (spans_of_leaf o)
   leaf_still None = nothing_still
   leaf_still (Some s) = one_still
 

@@ -23,15 +23,15 @@ use Rattle.yf_stream.proofs.ReadingTrees.{TreesStand, no_trees_stand, tree_stand
 use Rattle.yf_emit.specs.declared.style.Style.{Style}
 use Rattle.yf_emit.specs.Begins.{keys_begin_in_documents}
 use Rattle.yf_emit.specs.Forms.{documents_are_placed}
-use Rattle.yf_emit.specs.InOrder.{are_wide}
 use Rattle.yf_emit.specs.Normal.{Setting, normal_document, root_spot, settled, setting_of, styled}
 use Rattle.yf_emit.specs.NormalForm.{NormalForm}
 use Rattle.yf_emit.proofs.DocumentTrails.{leaves_of}
 use Rattle.yf_emit.proofs.DocumentsPrinted.{AreNormal, no_documents, one_more}
 use Rattle.yf_emit.proofs.FeedLemmas.{ascend}
+use Rattle.yf_emit.proofs.KeysBegin.{trees_begin}
 use Rattle.yf_emit.proofs.LeavesRise.{leaves_rise}
 use Rattle.yf_emit.proofs.NestsRun.{documents_nest, trees_nest}
-use Rattle.yf_emit.proofs.NormalSame.{SameNode, node_twice, settled_same, styled_same}
+use Rattle.yf_emit.proofs.NormalSame.{root_same}
 use Rattle.yf_emit.proofs.PrintedNodes.{nests}
 use Rattle.yf_emit.proofs.ReadingsOfTexts.{trees_placed}
 use Rattle.yf_emit.proofs.SettledTwice.{settled_twice}
@@ -123,10 +123,7 @@ module _ {t : List ℕ} (cs : List CommentValue) (apart : (i : ℕ) → Visible 
 
 -- The trees of a normal form.
 
-root_same : (t : List ℕ) (c : Setting) (d : DocumentTree) → SameNode (normal_document t c d).root d.root
-root_same t c d = node_twice (settled_same c (root_spot c.style) (styled t c d.root)) (styled_same t c d.root)
-
-normal_placed : (t : List ℕ) (c : Setting) (ds : List DocumentTree) → documents_are_placed (map (normal_document t c) ds) ≡ documents_are_placed ds
+pub normal_placed : (t : List ℕ) (c : Setting) (ds : List DocumentTree) → documents_are_placed (map (normal_document t c) ds) ≡ documents_are_placed ds
 normal_placed t c [] = refl
 normal_placed t c (d ∷ ds) = rw ((root_same t c d).placed, normal_placed t c ds) refl
 
@@ -134,7 +131,7 @@ normal_begin : (t : List ℕ) (c : Setting) (ds : List DocumentTree) → keys_be
 normal_begin t c [] = refl
 normal_begin t c (d ∷ ds) = rw ((root_same t c d).begins, normal_begin t c ds) refl
 
-normal_leaves : (t : List ℕ) (c : Setting) (ds : List DocumentTree) → leaves_of (map (normal_document t c) ds) ≡ leaves_of ds
+pub normal_leaves : (t : List ℕ) (c : Setting) (ds : List DocumentTree) → leaves_of (map (normal_document t c) ds) ≡ leaves_of ds
 normal_leaves t c [] = refl
 normal_leaves t c (d ∷ ds) = rw ((root_same t c d).leaves, normal_leaves t c ds) refl
 
@@ -176,7 +173,7 @@ laid_in {m} {s} f =
     let apart : none_at_starts r.comments (leaves_of w.trees) ≡ true =
     trees_apart r.comments (λ i v. signs_apart t i r.comments v.no_hash (comments_of_readings_have_signs t r f.reads)) w.stand in
     record {
-      begin = normal_begin t c f.is.trees ∙ f.in_order.begin;
+      begin = normal_begin t c f.is.trees ∙ (ap keys_begin_in_documents (sym same) ∙ trees_begin w.stand);
       placing = record {
         of_reading = trees_of f;
         placed = normal_placed t c f.is.trees ∙ (ap documents_are_placed (sym same) ∙ trees_placed w.stand);
@@ -185,7 +182,7 @@ laid_in {m} {s} f =
         strict = ap strict comments ∙ sharp;
         noted = ap (λ (v : Lists). length v.on_leaf_line) f.is.is
             ∙ (ap length f.reads.notes ∙ (length-map r.comments _ ∙ sym (ap length comments)));
-        rises = ap rising (normal_leaves t c f.is.trees ∙ ap leaves_of (sym same)) ∙ leaves_rise w.stand (ap (λ ds. are_wide (leaves_of ds)) same ∙ f.in_order.wide);
+        rises = ap rising (normal_leaves t c f.is.trees ∙ ap leaves_of (sym same)) ∙ leaves_rise w.stand;
         apart = ap (λ cs. none_at_starts cs (leaves_of (trees_in f))) comments
             ∙ (ap (none_at_starts r.comments) (normal_leaves t c f.is.trees ∙ ap leaves_of (sym same)) ∙ apart);
       };

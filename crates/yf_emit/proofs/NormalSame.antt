@@ -9,11 +9,11 @@ use Rattle.yf_quoted.specs.Written.{quotes_for}
 use Rattle.yf_events.specs.declared.event.ScalarStyle.{ScalarStyle}
 use Rattle.yf_events.specs.declared.event.ScalarStyle.TheVariants.{Plain, Single, Double, Literal, Folded}
 use Rattle.yf_events.specs.declared.event.Span.{Span}
-use Rattle.yf_events.specs.Tree.{Node, Standing, scalar, alias, sequence, mapping, Items, no_items, item, Pairs, no_pairs, pair, leaves, leaves_of_items, leaves_of_pairs, standing}
+use Rattle.yf_events.specs.Tree.{DocumentTree, Node, Standing, scalar, alias, sequence, mapping, Items, no_items, item, Pairs, no_pairs, pair, leaves, leaves_of_items, leaves_of_pairs, standing}
 use Rattle.yf_emit.specs.Begins.{keys_begin, keys_begin_in_items, keys_begin_in_pairs, no_entry}
 use Rattle.yf_emit.specs.Forms.{agree, is_empty_node, is_nothing, is_placed, items_are_placed, pairs_are_placed}
 use Rattle.yf_emit.specs.Kept.{may_be_kept}
-use Rattle.yf_emit.specs.Normal.{Setting, Spot, fits, inner_spot, key_spot, settled, settled_items, settled_pairs, styled, styled_items, styled_pairs, value_spot}
+use Rattle.yf_emit.specs.Normal.{Setting, Spot, fits, inner_spot, key_spot, normal_document, root_spot, settled, settled_items, settled_pairs, styled, styled_items, styled_pairs, value_spot}
 use Rattle.yf_emit.specs.Wanted.{has_block_content, lines_in, quoted_in, style_in, wanted}
 use Rattle.yf_emit.proofs.ValueLemmas.{nothing_steady}
 
@@ -36,7 +36,7 @@ pub record SamePairs (ps qs : Pairs) : Type 0 where
 node_as_is : (x : Node) → SameNode x x
 node_as_is x = record { placed = refl; begins = refl; leaves = refl; standing = refl }
 
-pub node_twice : {x y z : Node} → SameNode x y → SameNode y z → SameNode x z
+node_twice : {x y z : Node} → SameNode x y → SameNode y z → SameNode x z
 node_twice a b = record {
   placed = a.placed ∙ b.placed;
   begins = a.begins ∙ b.begins;
@@ -75,7 +75,7 @@ either false h k = k
 -- Settled nodes.
 
 mutual
-  pub settled_same : (c : Setting) (spot : Spot) (x : Node) → SameNode (settled c spot x) x
+  settled_same : (c : Setting) (spot : Spot) (x : Node) → SameNode (settled c spot x) x
   settled_same c spot (scalar at props style text lines) = node_as_is (scalar at props style text lines)
   settled_same c spot (alias at name) = node_as_is (alias at name)
   settled_same c spot (sequence at flow props no_items) = node_as_is (sequence at flow props no_items)
@@ -135,3 +135,8 @@ mutual
   styled_pairs_same : (t : List ℕ) (c : Setting) (ps : Pairs) → SamePairs (styled_pairs t c ps) ps
   styled_pairs_same t c no_pairs = record { placed = refl; begin = refl; leaves = refl }
   styled_pairs_same t c (pair k v ps) = same_pair (styled_same t c k) (styled_same t c v) (styled_pairs_same t c ps)
+
+-- Roots.
+
+pub root_same : (t : List ℕ) (c : Setting) (d : DocumentTree) → SameNode (normal_document t c d).root d.root
+root_same t c d = node_twice (settled_same c (root_spot c.style) (styled t c d.root)) (styled_same t c d.root)

@@ -108,9 +108,9 @@ content_same q m e f =
     ap (λ w. record { directives = w; nodes = said (values q.events) q.resolved }) e ∙ ap (λ w. record { directives = flat_map items_of_document m.documents; nodes = w }) f
 
 pub formats_content : FormatsKeepContent
-formats_content t u s utf8 f trails r q a b =
+formats_content t u s utf8 f r q a b =
     let m : Lists = f.normal in
-    let well = formats_well t u s utf8 f trails in
+    let well = formats_well t u s utf8 f in
     let shapes = b.reads.shapes in
     let derived : b.derived ≡ well.documents = well.reads.shapes.only shapes.height b.derived shapes.derived shapes.within in
     let meant : DocumentsMeant m.documents f.writes.trees b.derived.documents = subst (λ (w : Documents). DocumentsMeant m.documents f.writes.trees w.documents) (sym derived) well.meant in

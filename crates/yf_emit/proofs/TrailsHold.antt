@@ -20,7 +20,7 @@ use Rattle.yf_emit.specs.Normal.{Setting, setting_of}
 use Rattle.yf_emit.specs.Rows.{Row}
 use Rattle.yf_emit.specs.Trailing.{Found, all_found, ended, keys_taken, start, taken}
 use Rattle.yf_emit.specs.TrailsOf.{LayoutTrails, at_index}
-use Rattle.yf_emit.proofs.DocumentTrails.{leaves_of, stream_keys, stream_leaves}
+use Rattle.yf_emit.proofs.DocumentTrails.{in_house, leaves_of, stream_keys, stream_leaves}
 use Rattle.yf_emit.proofs.DocumentsPrinted.{AreNormal}
 use Rattle.yf_emit.proofs.FeedLemmas.{ascend}
 use Rattle.yf_emit.proofs.KeyTrails.{indices_of, keys_on}
@@ -109,7 +109,7 @@ tree_spans : {m : Lists} {s : Style} {n : ℕ} {ds : List DocumentTree} {ms : Li
 tree_spans {ds = ds} p = stream_spans (seen p) ds p.placing.of_reading.events p.placing.placed
 
 rows_leaves : {m : Lists} {s : Style} {n : ℕ} {ds : List DocumentTree} {ms : List Measure} {fs : List Form} → Passed m s n ds ms fs → (source m s ds).leaves ≡ leaves_of ds
-rows_leaves {m} {s} {n} {ds} p = stream_leaves (setting_of m s) n true m.documents ds p.placing.of_reading.documents p.placing.placed p.placing.normal
+rows_leaves {m} {s} {n} {ds} p = stream_leaves (setting_of m s) true m.documents ds p.placing.of_reading.documents p.placing.placed (in_house (setting_of m s) n ds p.placing.normal)
 
 spans_rise : {m : Lists} {s : Style} {n : ℕ} {ds : List DocumentTree} {ms : List Measure} {fs : List Form} → Passed m s n ds ms fs → rising (spans (marks_of m ms)) ≡ true
 spans_rise p = ap rising (tree_spans p) ∙ p.placing.rises

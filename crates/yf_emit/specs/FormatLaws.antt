@@ -1,7 +1,9 @@
--- The laws of what formatting gives, each with the plain sentence that it stands for. `proofs/FormatsRead.antt` and `proofs/SameContent.antt` prove
--- them. Each asks that at most one comment trails a row of the layout, which is to be proved of readings.
-use Rattle.std.specs.Prelude.{ℕ, List}
+-- The laws of what formatting gives, each with the plain sentence that it stands for. `proofs/FormatLawsHold.antt`, `proofs/FormatTrails.antt`,
+-- `proofs/FormatsRead.antt` and `proofs/SameContent.antt` prove them.
+use Rattle.std.specs.Prelude.{◌≡◌, ℕ, List}
 use Rattle.std.specs.Str.{IsUtf8}
+use Rattle.yf_events.specs.declared.lists.Lists.{Lists}
+use Rattle.yf_stream.specs.ReadingOf.{ReadingOf}
 use Rattle.yf_stream.specs.Stream.{Documents}
 use Rattle.yf_stream.specs.WellFormed.{Reads}
 use Rattle.yf_emit.specs.declared.style.Style.{Style}
@@ -9,12 +11,24 @@ use Rattle.yf_emit.specs.Carried.{TrailsFit}
 use Rattle.yf_emit.specs.Decorated.{rows_of}
 use Rattle.yf_emit.specs.FitDocuments.{DocumentsMeant}
 use Rattle.yf_emit.specs.Format.{Formats}
-use Rattle.yf_emit.specs.Laws.{HasSameContent}
+use Rattle.yf_emit.specs.Laws.{HasSameContent, IsAccepted}
 use Rattle.yf_emit.specs.Layout.{source_of}
+
+-- Formatting a text that has a reading gives a text.
+abbrev pub FormatsExist : Type 0
+FormatsExist = (t : List ℕ) (s : Style) (r : Lists) → ReadingOf t r → (u : List ℕ) × Formats t s u
+
+-- It gives one alone.
+abbrev pub FormatsAreOne : Type 0
+FormatsAreOne = (t u v : List ℕ) (s : Style) → Formats t s u → Formats t s v → u ≡ v
 
 -- one comment at most trails each row of the layout
 abbrev pub TrailsFitIn : {t : List ℕ} {s : Style} {u : List ℕ} → Formats t s u → Type 0
 TrailsFitIn {s = s} f = TrailsFit (source_of f.normal (rows_of f.normal s f.writes.trees)) (rows_of f.normal s f.writes.trees)
+
+-- One comment at most trails each row of what formatting gives.
+abbrev pub FormatsTrailOnce : Type 0
+FormatsTrailOnce = (t u : List ℕ) (s : Style) → IsUtf8 t → (f : Formats t s u) → TrailsFitIn f
 
 -- u is a text that means one thing within the limit of open collections and breaks no rule of streams, and its documents mean the trees of the
 -- normal form, with their directives.
@@ -26,8 +40,12 @@ pub record WellFormed {t : List ℕ} {s : Style} {u : List ℕ} (f : Formats t s
 
 -- What formatting gives is a well-formed stream.
 abbrev pub FormatsAreWellFormed : Type 0
-FormatsAreWellFormed = (t u : List ℕ) (s : Style) → IsUtf8 t → (f : Formats t s u) → TrailsFitIn f → WellFormed f
+FormatsAreWellFormed = (t u : List ℕ) (s : Style) → IsUtf8 t → (f : Formats t s u) → WellFormed f
+
+-- It is accepted: it has a reading.
+abbrev pub FormatsAreAccepted : Type 0
+FormatsAreAccepted = (t u : List ℕ) (s : Style) → IsUtf8 t → Formats t s u → IsAccepted u
 
 -- And it has the same content.
 abbrev pub FormatsKeepContent : Type 0
-FormatsKeepContent = (t u : List ℕ) (s : Style) → IsUtf8 t → (f : Formats t s u) → TrailsFitIn f → HasSameContent t u
+FormatsKeepContent = (t u : List ℕ) (s : Style) → IsUtf8 t → Formats t s u → HasSameContent t u

@@ -14,7 +14,6 @@ pub mod FormatLaws
 pub mod Formatted
 pub mod Forms
 pub mod ImplicitKeys
-pub mod InOrder
 pub mod Kept
 pub mod Keys
 pub mod Laws

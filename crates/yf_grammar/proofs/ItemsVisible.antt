@@ -41,7 +41,7 @@ mutual
       visible_join (entry_visible f q l.visible) (visible_join (node_visible a) (items_visible c))
   node_visible (mapping_stands e b (no_pairs_stand l) m s) = leaf_visible _ _ e b.visible
   node_visible (mapping_stands e b (pair_stands f q l a c d g) m s) =
-      visible_join (entry_visible f q l.visible) (visible_join (node_visible a) (visible_join (node_visible d) (pairs_visible g)))
+      visible_join (entry_visible f q.key l.visible) (visible_join (node_visible a) (visible_join (node_visible d) (pairs_visible g)))
 
   items_visible : {t : List ℕ} {i j : ℕ} {xs : Items} → ItemsStand t i j xs → AllVisible t (items_in_items xs)
   items_visible (no_items_stand l) = none_visible
@@ -50,4 +50,4 @@ mutual
   pairs_visible : {t : List ℕ} {i j : ℕ} {ps : Pairs} → PairsStand t i j ps → AllVisible t (items_in_pairs ps)
   pairs_visible (no_pairs_stand l) = none_visible
   pairs_visible (pair_stands f q l a c d g) =
-      visible_join (entry_visible f q l.visible) (visible_join (node_visible a) (visible_join (node_visible d) (pairs_visible g)))
+      visible_join (entry_visible f q.key l.visible) (visible_join (node_visible a) (visible_join (node_visible d) (pairs_visible g)))

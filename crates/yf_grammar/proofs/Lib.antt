@@ -108,6 +108,7 @@ pub mod DerivedNodes
 pub mod CommentOrder
 -- where the nodes of a reading stand (`NodeLaws` and `PlaceLaws` of yf_stream)
 pub mod MeantLemmas
+pub mod FinishLater
 pub mod NodePlaces
 pub mod PlacedLeaves
 pub mod PlacedNodes

@@ -1,7 +1,11 @@
--- The nodes of a tree stand in a text in order: each begins at a visible character, what is in it stands between its beginning and its end,
--- an entry begins before its node, and its `:` stands between key and value.
-use Rattle.std.proofs.Common.{◌≡◌, ◌≢◌, ℕ, ◌<◌, ◌≤◌, Bool, List, [], length, Option, Some, None, arith}
+-- The nodes of a tree stand in a text in order: each begins at a visible character and ends after it, what is in it stands between its content's
+-- beginning and its end, an entry begins before its node, its `:` stands between key and value, and no value begins an entry.
+use Rattle.std.proofs.Common.{◌≡◌, ◌≢◌, ℕ, ℤ, ◌<◌, ◌≤◌, Bool, true, List, [], length, Option, Some, None, arith}
 use Rattle.yf_chars.specs.Text.{code}
+use Rattle.yf_chars.specs.declared.context.Ctx.{Ctx}
+use Rattle.yf_comments.specs.Comment.{CommentValue}
+use Rattle.yf_comments.specs.Comments.{Separate}
+use Rattle.yf_props.specs.Names.{Properties, PropertiesValue}
 use Rattle.yf_props.specs.Props.{PropsValue, TagValue, no_props}
 use Rattle.yf_props.specs.Props.TagValue.{IsVerbatim, IsShort, IsNonSpecific}
 use Rattle.yf_events.specs.Event.{scalar_node, alias_node}
@@ -10,6 +14,7 @@ use Rattle.yf_events.specs.declared.event.ScalarStyle.{ScalarStyle}
 use Rattle.yf_events.specs.declared.event.ScalarStyle.TheVariants.{Plain}
 use Rattle.yf_events.specs.Tree.{Standing, Node, scalar as scalar_tree, alias as alias_tree, sequence, mapping, Items, no_items, item, Pairs, no_pairs, pair, standing}
 use Rattle.yf_grammar.specs.Meaning.{from_to}
+use Rattle.yf_grammar.specs.Parser.{begins_content}
 use Rattle.yf_grammar.specs.Spelled.{IsSpelled}
 use Rattle.yf_grammar.proofs.GapLemmas.{Visible}
 
@@ -35,6 +40,25 @@ pub record Begins (t : List ℕ) (i a : ℕ) : Type 0 where
   pub order : i ≤ a
   pub visible : Visible t a
 
+-- the content of a node with properties begins after them and what separates it from them, and with no sign of properties or comments
+pub data ContentFrom (t : List ℕ) : PropsValue → ℕ → ℕ → Type 0 where
+  content_alone : {a : ℕ} → ContentFrom t no_props a a
+  content_behind : {n : ℤ} {c : Ctx} {a g k : ℕ} {p : PropertiesValue} {cs : List CommentValue} → Properties t n c a g p → Separate t n c g k cs
+      → begins_content (code t k) ≡ true → ContentFrom t p.props a k
+
+-- a collection begins at a, its entries stand from k on, and it ends at b, after k; where it is a flow collection, k is where its content begins
+pub record Opens (t : List ℕ) (flow : Bool) (props : PropsValue) (i a k b : ℕ) : Type 0 where
+  pub order : i ≤ a
+  pub visible : Visible t a
+  pub inner : a ≤ k
+  pub wide : k < b
+  pub content : flow ≡ true → ContentFrom t props a k
+
+-- a key begins an entry, and its value begins none
+pub record Entered (k v : Node) (e : Entry) : Type 0 where
+  pub key : (standing k).entry ≡ Some e
+  pub value : (standing v).entry ≡ None
+
 -- a `:` that may be missing
 pub data ColonStands (t : List ℕ) : ℕ → ℕ → Option ℕ → Type 0 where
   no_colon : {i j : ℕ} → i ≤ j → ColonStands t i j None
@@ -44,14 +68,14 @@ mutual
   pub data NodeStands (t : List ℕ) : ℕ → ℕ → Node → Type 0 where
     stands_nowhere : {i j : ℕ} {at : Standing} → i ≤ j → at.span ≡ None → NodeStands t i j (scalar_tree at no_props Plain [] [])
     scalar_stands : {i a b j : ℕ} {at : Standing} {props : PropsValue} {style : ScalarStyle} {text : List ℕ} {lines : List (List ℕ)}
-        → at.span ≡ from_to a b → Begins t i a → a ≤ b → b ≤ j → HasCharacters props style text
+        → at.span ≡ from_to a b → Begins t i a → a < b → b ≤ j → HasCharacters props style text
         → IsSpelled (scalar_node props style text) lines → NodeStands t i j (scalar_tree at props style text lines)
-    alias_stands : {i a b j : ℕ} {at : Standing} {name : List ℕ} → at.span ≡ from_to a b → Begins t i a → a ≤ b → b ≤ j
+    alias_stands : {i a b j : ℕ} {at : Standing} {name : List ℕ} → at.span ≡ from_to a b → Begins t i a → a < b → b ≤ j
         → IsSpelled (alias_node name) [] → NodeStands t i j (alias_tree at name)
-    sequence_stands : {i a b j : ℕ} {at : Standing} {flow : Bool} {props : PropsValue} {xs : Items} → at.span ≡ from_to a b → Begins t i a
-        → ItemsStand t a b xs → b ≤ j → IsSpelled (scalar_node props Plain []) [] → NodeStands t i j (sequence at flow props xs)
-    mapping_stands : {i a b j : ℕ} {at : Standing} {flow : Bool} {props : PropsValue} {ps : Pairs} → at.span ≡ from_to a b → Begins t i a
-        → PairsStand t a b ps → b ≤ j → IsSpelled (scalar_node props Plain []) [] → NodeStands t i j (mapping at flow props ps)
+    sequence_stands : {i a k b j : ℕ} {at : Standing} {flow : Bool} {props : PropsValue} {xs : Items} → at.span ≡ from_to a b → Opens t flow props i a k b
+        → ItemsStand t k b xs → b ≤ j → IsSpelled (scalar_node props Plain []) [] → NodeStands t i j (sequence at flow props xs)
+    mapping_stands : {i a k b j : ℕ} {at : Standing} {flow : Bool} {props : PropsValue} {ps : Pairs} → at.span ≡ from_to a b → Opens t flow props i a k b
+        → PairsStand t k b ps → b ≤ j → IsSpelled (scalar_node props Plain []) [] → NodeStands t i j (mapping at flow props ps)
 
   pub data ItemsStand (t : List ℕ) : ℕ → ℕ → Items → Type 0 where
     no_items_stand : {i j : ℕ} → i ≤ j → ItemsStand t i j no_items
@@ -60,7 +84,7 @@ mutual
 
   pub data PairsStand (t : List ℕ) : ℕ → ℕ → Pairs → Type 0 where
     no_pairs_stand : {i j : ℕ} → i ≤ j → PairsStand t i j no_pairs
-    pair_stands : {i l m n j : ℕ} {k v : Node} {ps : Pairs} (e : Entry) → (standing k).entry ≡ Some e → Begins t i e.start
+    pair_stands : {i l m n j : ℕ} {k v : Node} {ps : Pairs} (e : Entry) → Entered k v e → Begins t i e.start
         → NodeStands t e.start l k → ColonStands t l m e.colon → NodeStands t m n v → PairsStand t n j ps → PairsStand t i j (pair k v ps)
 
 colon_order : {t : List ℕ} {i j : ℕ} {c : Option ℕ} → ColonStands t i j c → i ≤ j
@@ -73,12 +97,15 @@ module _ {t : List ℕ} where
   begins_after : {h i a : ℕ} → h ≤ i → Begins t i a → Begins t h a
   begins_after l b = record { order = omega (arith, b.order); visible = b.visible }
 
+  opens_after : {h i a k b : ℕ} {flow : Bool} {props : PropsValue} → h ≤ i → Opens t flow props i a k b → Opens t flow props h a k b
+  opens_after l o = record { order = omega (arith, o.order); visible = o.visible; inner = o.inner; wide = o.wide; content = o.content }
+
   pub node_after : {h i j : ℕ} {x : Node} → h ≤ i → NodeStands t i j x → NodeStands t h j x
   node_after l (stands_nowhere m e) = stands_nowhere (omega arith) e
   node_after l (scalar_stands e b m n w s) = scalar_stands e (begins_after l b) m n w s
   node_after l (alias_stands e b m n s) = alias_stands e (begins_after l b) m n s
-  node_after l (sequence_stands e b m n s) = sequence_stands e (begins_after l b) m n s
-  node_after l (mapping_stands e b m n s) = mapping_stands e (begins_after l b) m n s
+  node_after l (sequence_stands e b m n s) = sequence_stands e (opens_after l b) m n s
+  node_after l (mapping_stands e b m n s) = mapping_stands e (opens_after l b) m n s
 
   pub node_upto : {i j k : ℕ} {x : Node} → NodeStands t i j x → j ≤ k → NodeStands t i k x
   node_upto (stands_nowhere m e) l = stands_nowhere (omega arith) e
@@ -108,8 +135,8 @@ mutual
   node_order (stands_nowhere m e) = m
   node_order (scalar_stands e b m n w s) = omega (arith, b.order)
   node_order (alias_stands e b m n s) = omega (arith, b.order)
-  node_order (sequence_stands e b m n s) = let l = items_order m in omega (arith, b.order)
-  node_order (mapping_stands e b m n s) = let l = pairs_order m in omega (arith, b.order)
+  node_order (sequence_stands e b m n s) = let l = items_order m in omega (arith, b.order, b.inner)
+  node_order (mapping_stands e b m n s) = let l = pairs_order m in omega (arith, b.order, b.inner)
 
   pub items_order : {t : List ℕ} {i j : ℕ} {xs : Items} → ItemsStand t i j xs → i ≤ j
   items_order (no_items_stand m) = m

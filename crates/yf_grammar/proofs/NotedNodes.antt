@@ -22,6 +22,7 @@ record NotedFirst (t : List ℕ) (e : Placed) (rest ys : List Placed) : Type 0 w
   at : Standing
   span : at.span ≡ e.span
   entry : (f : Entry) → e.entry ≡ Some f → KeptEntry f at.entry
+  no_entry : e.entry ≡ None → at.entry ≡ None
   more : List Placed
   floor : ℕ
   is : ys ≡ placed at e.event e.folded ∷ more
@@ -39,6 +40,7 @@ pub record NotedNode (t : List ℕ) (i j : ℕ) (x : Node) (rest ys : List Place
   pub stands : NodeStands t i j node
   pub alike : Alike Anywhere x node
   pub entry : (f : Entry) → (standing x).entry ≡ Some f → KeptEntry f (standing node).entry
+  pub no_entry : (standing x).entry ≡ None → (standing node).entry ≡ None
   pub more : List Placed
   pub floor : ℕ
   pub is : ys ≡ flat node ++ more
@@ -74,6 +76,7 @@ module _ {t : List ℕ} where
     at = record { span = e.span; tag_offset = e.tag_offset; entry = e.entry };
     span = refl;
     entry = λ f p. absurd cc;
+    no_entry = λ p. p;
     more = _;
     floor = _;
     is = refl;
@@ -83,6 +86,7 @@ module _ {t : List ℕ} where
     at = record { span = e.span; tag_offset = e.tag_offset; entry = Some (record entry { blank_before = b }) };
     span = refl;
     entry = λ f p. record { blank = b; is = noted_same b entry f (same_entry entry f e.entry q p) };
+    no_entry = λ p. absurd cc;
     more = _;
     floor = _;
     is = refl;
@@ -115,13 +119,13 @@ mutual
       → NotedNode t i j x rest ys
   noted_node (stands_nowhere m q) n =
       let f = noted_first n in
-      record { node = scalar_tree f.at no_props Plain [] []; stands = stands_nowhere m (f.span ∙ q); alike = alike_scalars (spanned_as f.span); entry = f.entry; more = f.more; floor = f.floor; is = f.is; noting = f.noting }
+      record { node = scalar_tree f.at no_props Plain [] []; stands = stands_nowhere m (f.span ∙ q); alike = alike_scalars (spanned_as f.span); entry = f.entry; no_entry = f.no_entry; more = f.more; floor = f.floor; is = f.is; noting = f.noting }
   noted_node (scalar_stands {props = props} {style = style} {text = text} {lines = lines} q b l m w s) n =
       let f = noted_first n in
-      record { node = scalar_tree f.at props style text lines; stands = scalar_stands (f.span ∙ q) b l m w s; alike = alike_scalars (spanned_as f.span); entry = f.entry; more = f.more; floor = f.floor; is = f.is; noting = f.noting }
+      record { node = scalar_tree f.at props style text lines; stands = scalar_stands (f.span ∙ q) b l m w s; alike = alike_scalars (spanned_as f.span); entry = f.entry; no_entry = f.no_entry; more = f.more; floor = f.floor; is = f.is; noting = f.noting }
   noted_node (alias_stands {name = name} q b l m s) n =
       let f = noted_first n in
-      record { node = alias_tree f.at name; stands = alias_stands (f.span ∙ q) b l m s; alike = alike_aliases (spanned_as f.span); entry = f.entry; more = f.more; floor = f.floor; is = f.is; noting = f.noting }
+      record { node = alias_tree f.at name; stands = alias_stands (f.span ∙ q) b l m s; alike = alike_aliases (spanned_as f.span); entry = f.entry; no_entry = f.no_entry; more = f.more; floor = f.floor; is = f.is; noting = f.noting }
   noted_node {rest = rest} {ys = ys} (sequence_stands {flow = flow} {props = props} {xs = xs} q b a m s) n =
       let f = noted_first n in
       let inner = noted_items a (regrouped (flat_items xs) (unplaced sequence_ends ∷ []) rest f.noting) in
@@ -131,6 +135,7 @@ mutual
         stands = sequence_stands (f.span ∙ q) b inner.stand m s;
         alike = alike_sequences (spanned_as f.span) inner.alike;
         entry = f.entry;
+        no_entry = f.no_entry;
         more = last.more;
         floor = last.floor;
         is = enclosed ys f.more inner.more last.more (flat_items inner.items) (placed f.at (sequence_starts flow props) []) (unplaced sequence_ends) f.is inner.is last.is;
@@ -145,6 +150,7 @@ mutual
         stands = mapping_stands (f.span ∙ q) b inner.stand m s;
         alike = alike_mappings (spanned_as f.span) inner.alike;
         entry = f.entry;
+        no_entry = f.no_entry;
         more = last.more;
         floor = last.floor;
         is = enclosed ys f.more inner.more last.more (flat_pairs inner.pairs) (placed f.at (mapping_starts flow props) []) (unplaced mapping_ends) f.is inner.is last.is;
@@ -175,10 +181,10 @@ mutual
       let key = noted_node a (regrouped (flat k) (flat v ++ flat_pairs ps) rest n) in
       let value = noted_node b (regrouped (flat v) (flat_pairs ps) rest key.noting) in
       let others = noted_pairs d value.noting in
-      let entry = key.entry e q in
+      let entry = key.entry e q.key in
       record {
         pairs = pair key.node value.node others.pairs;
-        stand = pair_stands (record e { blank_before = entry.blank }) entry.is m key.stands c value.stands others.stand;
+        stand = pair_stands (record e { blank_before = entry.blank }) (record { key = entry.is; value = value.no_entry q.value }) m key.stands c value.stands others.stand;
         alike = alike_pair key.alike value.alike tt others.alike;
         more = others.more;
         floor = others.floor;

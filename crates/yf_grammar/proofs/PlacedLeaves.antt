@@ -1,5 +1,5 @@
 -- Leaves stand where they are read, and their styles spell them.
-use Rattle.std.proofs.Common.{◌≡◌, ◌≢◌, ℕ, ℤ, ◌<◌, ◌≤◌, true, false, List, [], length, Option, None, refl, sym, ◌∙◌, arith, true≢false, length-append}
+use Rattle.std.proofs.Common.{◌≡◌, ◌≢◌, ℕ, ℤ, ◌<◌, true, false, List, [], length, Option, None, refl, sym, ◌∙◌, arith, true≢false, length-append}
 use Rattle.std.proofs.lemmas.Bool.Decides.{nat_tests}
 use Rattle.std.proofs.lemmas.List.{length-take, length-drop}
 use Rattle.std.proofs.lemmas.Str.{IsUtf8-nil, length-le-encodes}
@@ -169,12 +169,13 @@ module _ {t : List ℕ} where
   -- A scalar, with properties from f to g or without; an alias.
 
   pub scalar_at : {h i j : ℕ} {p : Production} (style : ScalarStyle) (text escapes : List ℕ) → IsUtf8 t
-      → Derives t h p i j (scalar style text escapes i j) → Visible t i → i ≤ j → HasCharacters no_props style text
+      → Derives t h p i j (scalar style text escapes i j) → Visible t i → i < j → HasCharacters no_props style text
       → NodeAt t i j (scalar style text escapes i j)
   unfolding scalar plain_event from_to
   scalar_at {i = i} {j = j} style text escapes u d v l w = record {
     node = scalar_tree (record { span = from_to i j; tag_offset = None; entry = None }) no_props style text [];
     events = refl;
+    no_entry = refl;
     stands = scalar_stands refl (record { order = omega arith; visible = v }) l (omega arith) w (record {
       text = t;
       utf8 = u;
@@ -191,12 +192,13 @@ module _ {t : List ℕ} where
   }
 
   pub scalar_with : {h f j : ℕ} {p : Production} {props : PropsValue} (g i : ℕ) (style : ScalarStyle) (text escapes : List ℕ) (o : Option ℕ) (cs : List CommentValue)
-      → IsUtf8 t → Derives t h p f j (behind cs (with_props props o f g (scalar style text escapes i j))) → Visible t f → f ≤ j
+      → IsUtf8 t → Derives t h p f j (behind cs (with_props props o f g (scalar style text escapes i j))) → Visible t f → f < j
       → HasProps props → NodeAt t f j (behind cs (with_props props o f g (scalar style text escapes i j)))
   unfolding behind with_props scalar plain_event from_to
   scalar_with {f = f} {j = j} {props = props} g i style text escapes o cs u d v l w = record {
     node = scalar_tree (record { span = from_to f j; tag_offset = o; entry = None }) props style text [];
     events = refl;
+    no_entry = refl;
     stands = scalar_stands refl (record { order = omega arith; visible = v }) l (omega arith) (by_props w) (record {
       text = t;
       utf8 = u;
@@ -212,22 +214,24 @@ module _ {t : List ℕ} where
     ends = omega arith;
   }
 
-  pub properties_at : {n : ℤ} {c : Ctx} {i j : ℕ} {p : PropertiesValue} → IsUtf8 t → is_block c ≡ false → Properties t n c i j p → Visible t i → i ≤ j
+  pub properties_at : {n : ℤ} {c : Ctx} {i j : ℕ} {p : PropertiesValue} → IsUtf8 t → is_block c ≡ false → Properties t n c i j p → Visible t i → i < j
       → NodeAt t i j (behind p.comments (with_props p.props p.tag_offset i j (empty_node j)))
   unfolding behind with_props empty_node plain_event from_to
   properties_at {n} {c} {i} {j} {p} u b a v l = record {
     node = scalar_tree (record { span = from_to i j; tag_offset = p.tag_offset; entry = None }) p.props Plain [] [];
     events = refl;
+    no_entry = refl;
     stands = scalar_stands refl (record { order = omega arith; visible = v }) l (omega arith) (by_props (properties_written a)) (properties_spelled u b a);
     ends = omega arith;
   }
 
-  pub alias_at : {i j : ℕ} {name : List ℕ} (n : ℤ) (c : Ctx) → IsUtf8 t → is_block c ≡ false → Alias t i j name → Visible t i → i ≤ j
+  pub alias_at : {i j : ℕ} {name : List ℕ} (n : ℤ) (c : Ctx) → IsUtf8 t → is_block c ≡ false → Alias t i j name → Visible t i → i < j
       → NodeAt t i j (alias_to name i j)
   unfolding alias_to plain_event from_to
   alias_at {i = i} {j = j} {name = name} n c u b a v l = record {
     node = alias_tree (record { span = from_to i j; tag_offset = None; entry = None }) name;
     events = refl;
+    no_entry = refl;
     stands = alias_stands refl (record { order = omega arith; visible = v }) l (omega arith) (record {
       text = t;
       utf8 = u;

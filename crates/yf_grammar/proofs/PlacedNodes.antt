@@ -1,5 +1,5 @@
 -- The trees that the parts of a production mean make up the tree that it means, with their nodes in order.
-use Rattle.std.proofs.Common.{◌≡◌, ℕ, ◌≤◌, Bool, true, false, List, [], ◌∷◌, ◌++◌, Option, Some, None, refl, sym, ap, ◌∙◌, append_assoc, append-nil, arith}
+use Rattle.std.proofs.Common.{◌≡◌, ℕ, ◌<◌, ◌≤◌, Bool, true, false, List, [], ◌∷◌, ◌++◌, Option, Some, None, refl, sym, ap, ◌∙◌, append_assoc, append-nil, arith}
 use Rattle.yf_comments.specs.Comment.{CommentValue}
 use Rattle.yf_props.specs.Props.{PropsValue, no_props}
 use Rattle.yf_events.specs.Event.{scalar_node, sequence_starts, sequence_ends, mapping_starts, mapping_ends}
@@ -10,7 +10,7 @@ use Rattle.yf_grammar.specs.Meaning.{Meaning, ◌⊕◌, behind, noting, plain_e
 use Rattle.yf_grammar.specs.Spelled.{IsSpelled}
 use Rattle.yf_grammar.proofs.GapLemmas.{Visible}
 use Rattle.yf_grammar.proofs.MeantLemmas.{entered, entered_events}
-use Rattle.yf_grammar.proofs.NodePlaces.{Begins, ColonStands, NodeStands, stands_nowhere, scalar_stands, alias_stands, sequence_stands, mapping_stands, ItemsStand, no_items_stand, item_stands, PairsStand, no_pairs_stand, pair_stands, node_after, node_upto, items_after, items_upto, pairs_after, pairs_upto}
+use Rattle.yf_grammar.proofs.NodePlaces.{Begins, ColonStands, ContentFrom, content_alone, Entered, NodeStands, Opens, stands_nowhere, scalar_stands, alias_stands, sequence_stands, mapping_stands, ItemsStand, no_items_stand, item_stands, PairsStand, no_pairs_stand, pair_stands, node_after, node_upto, items_after, items_upto, pairs_after, pairs_upto}
 
 -- What a production means that begins at i and ends at j: a node, the items of a sequence, the pairs of a mapping, and one of them. They end
 -- where the meaning has its finish.
@@ -18,6 +18,7 @@ use Rattle.yf_grammar.proofs.NodePlaces.{Begins, ColonStands, NodeStands, stands
 pub record NodeAt (t : List ℕ) (i j : ℕ) (x : Meaning) : Type 0 where
   pub node : Node
   pub events : x.events ≡ flat node
+  pub no_entry : (standing node).entry ≡ None
   pub stands : NodeStands t i x.finish node
   pub ends : x.finish ≤ j
 
@@ -36,7 +37,7 @@ pub record PairAt (t : List ℕ) (i j : ℕ) (x : Meaning) : Type 0 where
   pub entry : Entry
   pub key_end : ℕ
   pub value_start : ℕ
-  pub begins : (standing key).entry ≡ Some entry
+  pub begins : Entered key value entry
   pub events : x.events ≡ flat key ++ flat value
   pub first : Begins t i entry.start
   pub key_stands : NodeStands t entry.start key_end key
@@ -75,21 +76,22 @@ module _ {t : List ℕ} where
   -- Nodes.
 
   pub node_wider : {h i j k : ℕ} {x : Meaning} → h ≤ i → NodeAt t i j x → j ≤ k → NodeAt t h k x
-  node_wider l a m = record { node = a.node; events = a.events; stands = node_after l a.stands; ends = omega (arith, a.ends) }
+  node_wider l a m = record { node = a.node; events = a.events; no_entry = a.no_entry; stands = node_after l a.stands; ends = omega (arith, a.ends) }
 
   pub node_behind : {i j : ℕ} {x : Meaning} (cs : List CommentValue) → NodeAt t i j x → NodeAt t i j (behind cs x)
   unfolding behind
-  node_behind cs a = record { node = a.node; events = a.events; stands = a.stands; ends = a.ends }
+  node_behind cs a = record { node = a.node; events = a.events; no_entry = a.no_entry; stands = a.stands; ends = a.ends }
 
   pub node_noting : {i j : ℕ} {x : Meaning} (cs : List CommentValue) → NodeAt t i j x → NodeAt t i j (noting x cs)
   unfolding noting
-  node_noting cs a = record { node = a.node; events = a.events; stands = a.stands; ends = a.ends }
+  node_noting cs a = record { node = a.node; events = a.events; no_entry = a.no_entry; stands = a.stands; ends = a.ends }
 
   pub nothing_at : {i j : ℕ} → i ≤ j → NodeAt t i j (empty_node i)
   unfolding empty_node plain_event
   nothing_at l = record {
     node = scalar_tree (record { span = None; tag_offset = None; entry = None }) no_props Plain [] [];
     events = refl;
+    no_entry = refl;
     stands = stands_nowhere (omega arith) refl;
     ends = l;
   }
@@ -128,7 +130,7 @@ module _ {t : List ℕ} where
         entry = entry;
         key_end = k;
         value_start = m;
-        begins = entered_standing entry a.node;
+        begins = record { key = entered_standing entry a.node; value = b.no_entry };
         events = ap (λ z. z ++ y.events) (ap (first_entering entry) a.events ∙ entered_events entry a.node) ∙ ap (λ z. flat (entered entry a.node) ++ z) b.events;
         first = record { order = omega arith; visible = v };
         key_stands = entered_stands entry (node_upto (node_after l a.stands) a.ends);
@@ -244,7 +246,7 @@ entries_none false cs l = some_pairs (record { pairs = no_pairs; events = refl; 
 
 -- up to the finish alone
 pub node_narrow : {t : List ℕ} {i j : ℕ} {x : Meaning} → NodeAt t i j x → NodeAt t i x.finish x
-node_narrow a = record { node = a.node; events = a.events; stands = a.stands; ends = omega arith }
+node_narrow a = record { node = a.node; events = a.events; no_entry = a.no_entry; stands = a.stands; ends = omega arith }
 
 pub pair_narrow : {t : List ℕ} {i j : ℕ} {x : Meaning} → PairAt t i j x → PairAt t i x.finish x
 pair_narrow a = record {
@@ -279,35 +281,43 @@ entries_wider (some_pairs a) l = some_pairs (record { pairs = a.pairs; events = 
 abbrev spanned : ℕ → ℕ → Option ℕ → Standing
 spanned a b o = record { span = from_to a b; tag_offset = o; entry = None }
 
+opened : {t : List ℕ} {i a k b : ℕ} {props : PropsValue} (flow : Bool) → Begins t i a → a ≤ k → k < b → (flow ≡ true → ContentFrom t props a k)
+    → Opens t flow props i a k b
+opened flow v m w c = record { order = v.order; visible = v.visible; inner = m; wide = w; content = c }
+
 pub collection_at : {t : List ℕ} {i k j a b : ℕ} {s : Bool} {x : Meaning} (flow : Bool) → IsSpelled (scalar_node no_props Plain []) []
-    → Begins t i a → a ≤ k → EntriesAt t s k b x → b ≤ j → NodeAt t i j (collection s flow a b x)
+    → Begins t i a → a ≤ k → a < b → EntriesAt t s k b x → b ≤ j → NodeAt t i j (collection s flow a b x)
 unfolding collection plain_event from_to
-collection_at {a = a} {b = b} flow p v m (some_items e) n = record {
+collection_at {t} {i} {k} {j} {a} {b} flow p v m w (some_items e) n = record {
   node = sequence (spanned a b None) flow no_props e.items;
   events = ap (λ z. placed (spanned a b None) (sequence_starts flow no_props) [] ∷ (z ++ (unplaced sequence_ends ∷ []))) e.events;
-  stands = sequence_stands refl v (items_upto (items_after m e.stands) e.ends) (omega arith) p;
+  no_entry = refl;
+  stands = sequence_stands refl (opened flow v (omega arith) w (λ q. content_alone)) (items_upto (items_after m e.stands) e.ends) (omega arith) p;
   ends = n;
 }
-collection_at {a = a} {b = b} flow p v m (some_pairs e) n = record {
+collection_at {t} {i} {k} {j} {a} {b} flow p v m w (some_pairs e) n = record {
   node = mapping (spanned a b None) flow no_props e.pairs;
   events = ap (λ z. placed (spanned a b None) (mapping_starts flow no_props) [] ∷ (z ++ (unplaced mapping_ends ∷ []))) e.events;
-  stands = mapping_stands refl v (pairs_upto (pairs_after m e.stands) e.ends) (omega arith) p;
+  no_entry = refl;
+  stands = mapping_stands refl (opened flow v (omega arith) w (λ q. content_alone)) (pairs_upto (pairs_after m e.stands) e.ends) (omega arith) p;
   ends = n;
 }
 
 pub collection_with : {t : List ℕ} {i k j f b : ℕ} {s : Bool} {x : Meaning} (flow : Bool) (props : PropsValue) (o : Option ℕ) (g a : ℕ)
-    → IsSpelled (scalar_node props Plain []) [] → Begins t i f → f ≤ k → EntriesAt t s k b x → b ≤ j
+    → IsSpelled (scalar_node props Plain []) [] → Begins t i f → f ≤ a → a < b → (flow ≡ true → ContentFrom t props f a) → a ≤ k → EntriesAt t s k b x → b ≤ j
     → NodeAt t i j (with_props props o f g (collection s flow a b x))
 unfolding collection plain_event from_to with_props
-collection_with {f = f} {b = b} flow props o g a p v m (some_items e) n = record {
+collection_with {f = f} {b = b} flow props o g a p v l w c m (some_items e) n = record {
   node = sequence (spanned f b o) flow props e.items;
   events = ap (λ z. placed (spanned f b o) (sequence_starts flow props) [] ∷ (z ++ (unplaced sequence_ends ∷ []))) e.events;
-  stands = sequence_stands refl v (items_upto (items_after m e.stands) e.ends) (omega arith) p;
+  no_entry = refl;
+  stands = sequence_stands refl (opened flow v l w c) (items_upto (items_after m e.stands) e.ends) (omega arith) p;
   ends = n;
 }
-collection_with {f = f} {b = b} flow props o g a p v m (some_pairs e) n = record {
+collection_with {f = f} {b = b} flow props o g a p v l w c m (some_pairs e) n = record {
   node = mapping (spanned f b o) flow props e.pairs;
   events = ap (λ z. placed (spanned f b o) (mapping_starts flow props) [] ∷ (z ++ (unplaced mapping_ends ∷ []))) e.events;
-  stands = mapping_stands refl v (pairs_upto (pairs_after m e.stands) e.ends) (omega arith) p;
+  no_entry = refl;
+  stands = mapping_stands refl (opened flow v l w c) (pairs_upto (pairs_after m e.stands) e.ends) (omega arith) p;
   ends = n;
 }

@@ -63,7 +63,7 @@ module _ {t : List ℕ} (u : IsUtf8 t) where
       let m = trail_forward b in
       omega arith
 
-  between_forward : {i j count : ℕ} → LinesBetween t count i j → i ≤ j
+  pub between_forward : {i j count : ℕ} → LinesBetween t count i j → i ≤ j
   between_forward (counted c l) = chain_forward (line_functional t) c
 
 -- What it begins with.
@@ -94,6 +94,7 @@ module _ {t : List ℕ} (u : IsUtf8 t) where
     node = scalar_tree (record { span = from_to k e; tag_offset = None; entry = None }) no_props (style_of h.header.folded)
         (content_of h.header b.lines b.tail b.open_end) (kept_lines h.header.folded b.lines);
     events = refl;
+    no_entry = refl;
     stands = scalar_stands refl (record { order = omega arith; visible = header_visible a })
         (let m = header_later a in let o = between_forward u l in omega arith) (omega arith) (by_style (block_style h.header.folded)) (record {
           text = t;
@@ -118,6 +119,7 @@ module _ {t : List ℕ} (u : IsUtf8 t) where
     node = scalar_tree (record { span = from_to f e; tag_offset = o; entry = None }) props (style_of h.header.folded)
         (content_of h.header b.lines b.tail b.open_end) (kept_lines h.header.folded b.lines);
     events = refl;
+    no_entry = refl;
     stands = scalar_stands refl (record { order = omega arith; visible = v })
         (let q = header_later a in let r = between_forward u l in omega arith) (omega arith) (by_props w) (record {
           text = t;

@@ -1,5 +1,5 @@
 -- Each node that is derived is a tree whose nodes stand in order in the text, and whose scalars are spelled there.
-use Rattle.std.proofs.Common.{◌≡◌, ℕ, ℤ, ◌+◌, ◌<◌, ◌≤◌, Bool, true, false, List, [], ◌++◌, Some, None, refl, ap, ◌∙◌, arith}
+use Rattle.std.proofs.Common.{◌≡◌, ℕ, ℤ, ◌+◌, ◌<◌, ◌≤◌, Bool, true, false, List, [], ◌++◌, Some, None, refl, sym, ap, ◌∙◌, true≢false, arith}
 use Rattle.std.specs.Prelude.{encode_utf8_all}
 use Rattle.std.specs.Str.{IsUtf8}
 use Rattle.yf_chars.specs.declared.context.Ctx.{Ctx}
@@ -15,9 +15,10 @@ use Rattle.yf_grammar.specs.Meaning.{Meaning, behind, collection, with_props, en
 use Rattle.yf_grammar.specs.Grammar.{Production, FlowNode, NodeOf, JsonContent, Entries, Entry, Pair, Explicit, Implicit, ValueOf, KeyOf, BlockNode, BlockEntries, BlockEntry, BlockIndented, BlockValue, Derives, opening}
 use Rattle.yf_grammar.specs.Grammar.Derives.{flow_node, an_alias, a_plain, a_plain_with, properties_alone, a_json, a_json_with, a_single, a_double, an_empty_collection, a_collection, last_entry, last_entry_with_comma, more_entries, a_node_entry, a_pair_entry, an_explicit_entry, an_implicit_entry, an_explicit_pair, a_keyed_pair, an_unkeyed_pair, explicit_with, explicit_without, key_alone, key_and_value, value_alone, empty_value, a_value, a_key, a_block_scalar, a_block_scalar_with, a_block_collection, a_block_collection_with, flow_in_block, a_last_entry, an_entry_before, a_dash_entry, an_explicit_entry_with, an_explicit_key_alone, a_keyed_entry, an_unkeyed_entry, a_block_value, an_empty_block_value, a_compact_collection, an_indented_node, nothing_indented}
 use Rattle.yf_grammar.proofs.BlockStarts.{block_starts, line_end_forward}
+use Rattle.yf_grammar.proofs.FinishLater.{finish_later}
 use Rattle.yf_grammar.proofs.FlowStarts.{flow_starts, in_flow_not_block, may_forward, value_forward, may_line_forward, opening_begins}
 use Rattle.yf_grammar.proofs.GapLemmas.{Visible}
-use Rattle.yf_grammar.proofs.NodePlaces.{Begins, no_colon, a_colon}
+use Rattle.yf_grammar.proofs.NodePlaces.{Begins, content_behind, no_colon, a_colon}
 use Rattle.yf_grammar.proofs.PlacedLeaves.{content_visible, properties_visible, plain_characters, single_plain, double_plain, properties_written, nothing_spelled, properties_spelled, block_properties_spelled, scalar_at, scalar_with, properties_at, alias_at}
 use Rattle.yf_grammar.proofs.PlacedNodes.{NodeAt, PairAt, EntryAt, an_item, a_pair, EntriesAt, node_wider, node_behind, node_noting, nothing_at, item_of, pair_of, pair_behind, last_of, more_of, entry_noting, entries_behind, entries_none, collection_at, collection_with, node_narrow, pair_narrow, pair_key_noting, entries_narrow, entries_end, entries_wider}
 use Rattle.yf_grammar.proofs.PlacedScalars.{scalar_visible, block_scalar_at, block_scalar_with}
@@ -67,15 +68,16 @@ module _ {t : List ℕ} where
 
 module _ {t : List ℕ} (u : IsUtf8 t) where
   -- flow collections, with properties or without
-  brackets_at : {i k j : ℕ} {n : ℤ} {c : Ctx} {s : Bool} {x : Meaning} → is_block c ≡ false → code t i ≡ opening s → i ≤ k → EntriesAt t s k j x
+  brackets_at : {i k j : ℕ} {n : ℤ} {c : Ctx} {s : Bool} {x : Meaning} → is_block c ≡ false → code t i ≡ opening s → i ≤ k → i ≤ j → EntriesAt t s k j x
       → ContentAt t n c i (j + 1) (collection s true i (j + 1) x)
-  brackets_at {i = i} {k = k} {s = s} b e l a = record {
-    alone = collection_at true nothing_spelled (here (opening_seen s e)) (omega arith) (entries_wider a (omega arith)) (omega arith);
+  brackets_at {i = i} {k = k} {s = s} b e l w a = record {
+    alone = collection_at true nothing_spelled (here (opening_seen s e)) l (omega arith) (entries_wider a (omega arith)) (omega arith);
     propertied = λ f g p cs q r.
         let m = properties_later q in
         let o = separate_forward r in
         node_behind (p.comments ++ cs)
-        (collection_with true p.props p.tag_offset g i (properties_spelled u b q) (here (seen_before q)) (omega arith) (entries_wider a (omega arith)) (omega arith));
+        (collection_with true p.props p.tag_offset g i (properties_spelled u b q) (here (seen_before q)) (omega arith) (omega arith)
+        (λ z. content_behind q r (ap begins_content e ∙ opening_begins s)) l (entries_wider a (omega arith)) (omega arith));
   }
 
   pub places : {h i j : ℕ} {p : Production} {x : Meaning} → Derives t h p i j x → PlacesClaim t p i j x
@@ -109,15 +111,15 @@ module _ {t : List ℕ} (u : IsUtf8 t) where
             let z = separate_forward r in
             scalar_with g i Double (encode_utf8_all (text_of x)) (bad_escapes x) p.tag_offset (p.comments ++ cs) u (a_json_with m r (a_double q)) (seen_before m) (omega arith) (properties_written m);
       }
-  places (an_empty_collection {i = i} {j = j} s {cs = cs} f e m g) = λ b. let l = may_forward m in brackets_at {k = i + 1} b e (omega arith) (entries_none s cs (omega arith))
-  places (a_collection s {c = c} {cs = cs} f e m d g) = λ b. let l = may_forward m in brackets_at b e (omega arith) (entries_behind cs (places d (in_flow_not_block c b)))
+  places (an_empty_collection {i = i} {j = j} s {cs = cs} f e m g) = λ b. let l = may_forward m in brackets_at {k = i + 1} b e (omega arith) (omega arith) (entries_none s cs (omega arith))
+  places (a_collection s {c = c} {cs = cs} f e m d g) = λ b. let l = may_forward m in let w = (flow_starts d (in_flow_not_block c b)).later in brackets_at b e (omega arith) (omega arith) (entries_behind cs (places d (in_flow_not_block c b)))
   places (last_entry {cs = cs} d m) = λ b. last_of (entry_noting cs (places d b)) (may_forward m)
   places (last_entry_with_comma {cs = cs} {ds = ds} d m e o) = λ b. let f = may_forward m in let g = may_forward o in last_of (entry_noting (cs ++ ds) (places d b)) (omega arith)
   places (more_entries {cs = cs} {ds = ds} d m e o r) = λ b. let f = may_forward m in let g = may_forward o in more_of (entry_noting (cs ++ ds) (places d b)) (omega arith) (places r b)
   places (a_node_entry d) = λ b. an_item (item_of (omega arith) (flow_starts d b).starts.visible (places d b))
   places (a_pair_entry d) = λ b.
       let a = places d b in
-      an_item (item_of (omega arith) (flow_starts d b).visible (collection_at true nothing_spelled (here (flow_starts d b).visible) (omega arith) (last_of (a_pair (pair_narrow a)) (omega arith)) a.ends))
+      an_item (item_of (omega arith) (flow_starts d b).visible (collection_at true nothing_spelled (here (flow_starts d b).visible) (omega arith) (finish_later u d b) (last_of (a_pair (pair_narrow a)) (omega arith)) a.ends))
   places (an_explicit_entry {cs = cs} e s d) = λ b. let l = separate_forward s in a_pair (pair_behind cs (places d b (omega arith) (flow_starts (an_explicit_entry e s d) b).visible))
   places (an_implicit_entry d) = λ b. a_pair (places d b (omega arith) (flow_starts d b).visible)
   places (an_explicit_pair {cs = cs} e s d) = λ b. let l = separate_forward s in pair_behind cs (places d b (omega arith) (flow_starts (an_explicit_pair e s d) b).visible)
@@ -149,7 +151,7 @@ module _ {t : List ℕ} (u : IsUtf8 t) where
       record {
         from = k + m;
         begins = record { order = omega arith; visible = v };
-        node = node_behind cs (collection_at false nothing_spelled (here v) (omega arith) (entries_narrow a) (entries_end a));
+        node = node_behind cs (collection_at false nothing_spelled (here v) (omega arith) (finish_later u d) (entries_narrow a) (entries_end a));
       }
   places (a_block_collection_with {f = f} {g = g} {k = k} {m = m} {cs = cs} {ds = ds} {p = p} b s q e r l d) =
       let x = properties_later q in
@@ -159,7 +161,8 @@ module _ {t : List ℕ} (u : IsUtf8 t) where
         from = f;
         begins = record { order = separate_forward s; visible = seen_before q };
         node = node_behind (cs ++ p.comments ++ ds)
-            (collection_with false p.props p.tag_offset g (k + m) (block_properties_spelled u b q) (here (seen_before q)) (omega arith) (entries_narrow a) (entries_end a));
+            (collection_with false p.props p.tag_offset g (k + m) (block_properties_spelled u b q) (here (seen_before q)) (omega arith) (finish_later u d)
+            (λ z. absurd (true≢false (sym z))) (omega arith) (entries_narrow a) (entries_end a));
       }
   places (flow_in_block {k = k} {cs = cs} {ds = ds} b s d e) = record {
     from = k;
@@ -179,6 +182,6 @@ module _ {t : List ℕ} (u : IsUtf8 t) where
   places (an_empty_block_value {cs = cs} e d) = node_noting cs (node_wider (omega arith) (nothing_at (line_end_forward d)) (omega arith))
   places (a_compact_collection {l = l} {i = i} b s d) =
       let a = places d in
-      collection_at false nothing_spelled (record { order = omega arith; visible = (block_starts d).visible }) (omega arith) (entries_narrow a) (entries_end a)
+      collection_at false nothing_spelled (record { order = omega arith; visible = (block_starts d).visible }) (omega arith) (finish_later u d) (entries_narrow a) (entries_end a)
   places (an_indented_node d) = let a = places d in node_wider a.begins.order a.node (omega arith)
   places (nothing_indented {cs = cs} b d) = node_noting cs (nothing_at (line_end_forward d))
