@@ -90,6 +90,8 @@ pub mod RowsUtf8
 pub mod GapsFit
 pub mod BlockTexts
 pub mod NodePlaces
+pub mod StepsStand
+pub mod LaidRows
 pub mod NodesMade
 pub mod ScalarsMade
 pub mod EntriesMade
