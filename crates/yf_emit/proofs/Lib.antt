@@ -119,6 +119,7 @@ pub mod DirectivesFit
 pub mod DocumentTrails
 pub mod FormatHolds
 pub mod FormatsRead
+pub mod FoundAgain
 pub mod KeyTrails
 pub mod LayoutHolds
 pub mod LeavesRise

@@ -92,7 +92,7 @@ more_starts : {u : List ℕ} {d : Document} {ds : List Document} {es : List Plac
     → ((more : List Placed) → leaf_starts (d.events ++ more) ≡ xs ++ leaf_starts more)
     → ((fs : List Placed) (others : List (Option (List ℕ))) → DocumentEvents u ds fs others → leaf_starts (fs ++ rest) ≡ ys ++ leaf_starts rest) → DocumentEvents u (d ∷ ds) es tags
     → leaf_starts (es ++ rest) ≡ (xs ++ ys) ++ leaf_starts rest
-more_starts xs ys rest f g (one_document {d = d} {x = x} {closed = closed} tagged end marked others) =
+more_starts xs ys rest f g (one_document {d = d} {x = x} {closed = closed} tags end marked others) =
     let last : Placed = unplaced (document_ends closed) in
     ap leaf_starts (append_assoc d.events (last ∷ x) rest) ∙ (f (last ∷ (x ++ rest)) ∙ (ap (λ z. xs ++ z) (g _ _ others) ∙ sym (append_assoc xs ys (leaf_starts rest))))
 
