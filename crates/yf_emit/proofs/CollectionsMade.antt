@@ -27,7 +27,7 @@ use Rattle.yf_emit.proofs.EntriesMade.{Begins, begins, EntriesMakes, lines_begin
 use Rattle.yf_emit.proofs.NodePlaces.{NodeAt, entries_at, propertied_at}
 use Rattle.yf_emit.proofs.NodesMade.{Stood, NodeMade, Claim, some_rows}
 use Rattle.yf_emit.proofs.RowEnds.{row_end, end_follows, first_deco, after_decos}
-use Rattle.yf_emit.proofs.StepsStand.{Laid, laid_after, laid_behind, laid_collection, laid_collection_with}
+use Rattle.yf_emit.proofs.StepsStand.{MeaningLaid, laid_after, laid_behind, laid_collection, laid_collection_with}
 
 -- Properties are written as they are spelled.
 
@@ -134,7 +134,7 @@ module _ {s : Style} {x : Node} {spot : Spot} {es : List Row} {sequence : Bool} 
         meant = meant_behind end.comments (meant offset q g (end.place + spot.entries) one.meaning.finish one.meaning one.meant);
         is = texts_behind end.comments (with_props p offset q g inner) ∙ (ap (λ z. z ++ texts (with_props p offset q g inner).comments) end.is
             ∙ ap (λ z. carried_texts (first ds) ++ z) (texts_with_props p offset q g inner ∙ (texts_collection sequence false (end.place + spot.entries) one.meaning.finish one.meaning ∙ one.is)));
-        laid = subst (λ z. Laid q one.place (behind end.comments (with_props p offset q g inner)) (leaf_steps z ++ (comment_steps (carried_texts (first ds)) ++ steps_in es (after ds)))) (sym none)
+        laid = subst (λ z. MeaningLaid q one.place (behind end.comments (with_props p offset q g inner)) (leaf_steps z ++ (comment_steps (carried_texts (first ds)) ++ steps_in es (after ds)))) (sym none)
             (laid_after (omega arith) (laid_behind end.comments (with_props p offset q g inner) (end_ascends end.end) end.is (omega arith)
             (laid_collection_with p offset q g sequence false (end.place + spot.entries) one.meaning.finish one.meaning one.laid)));
       }

@@ -36,7 +36,7 @@ use Rattle.yf_emit.proofs.LaidRows.{steps_append, laid_row}
 use Rattle.yf_emit.proofs.NodePlaces.{below_at}
 use Rattle.yf_emit.proofs.NodesMade.{Stood, Claim, no_row, some_rows}
 use Rattle.yf_emit.proofs.RowEnds.{row_end, first_deco, after_decos}
-use Rattle.yf_emit.proofs.StepsStand.{Stand, stand_after, stand_join, comments_stand, Laid, laid_after, laid_behind, laid_empty}
+use Rattle.yf_emit.proofs.StepsStand.{Stand, stand_after, stand_join, comments_stand, MeaningLaid, laid_after, laid_behind, laid_empty}
 
 -- The `---` and the node after it.
 
@@ -50,7 +50,7 @@ pub record ExplicitMade (t : List ℕ) (x : Node) (rs : List Row) (ds : List Dec
   pub start : LineStart t place
   pub meant : Meant x meaning
   pub is : texts meaning.comments ≡ comments_in rs ds
-  pub laid : Laid q place meaning (steps_in rs ds)
+  pub laid : MeaningLaid q place meaning (steps_in rs ds)
 
 same_number : (c : ℕ) → (c == c) ≡ true
 same_number c = grind (arith, nat_tests)
@@ -99,7 +99,7 @@ explicit_made {t} {s} {x} row ds r q none (no_row m) free u a k w =
       start = end.start;
       meant = meant_noting end.comments (m.meant (q + 3));
       is = texts_noting (empty_node (q + 3)) end.comments ∙ (ap (λ z. z ++ texts end.comments) (texts_empty (q + 3)) ∙ (end.is ∙ sym (append-nil (carried_texts (first ds)))));
-      laid = subst (λ z. Laid q end.place (noting (empty_node (q + 3)) end.comments) (leaf_steps z ++ (comment_steps (carried_texts (first ds)) ++ []))) (sym none)
+      laid = subst (λ z. MeaningLaid q end.place (noting (empty_node (q + 3)) end.comments) (leaf_steps z ++ (comment_steps (carried_texts (first ds)) ++ []))) (sym none)
           (laid_row (empty_node (q + 3)) end.comments [] (laid_empty (q + 3) (omega arith)) (end_ascends end.end) end.is);
     }
 explicit_made {t} {s} {x} row ds r q none (some_rows {r = y} {rs = ys} f g m) lines u a k w =
@@ -121,7 +121,7 @@ explicit_made {t} {s} {x} row ds r q none (some_rows {r = y} {rs = ys} f g m) li
       start = node.start;
       meant = meant_behind end.comments node.meant;
       is = texts_behind end.comments node.meaning ∙ (ap (λ z. z ++ texts node.meaning.comments) end.is ∙ ap (λ z. carried_texts (first ds) ++ z) node.is);
-      laid = subst (λ z. Laid q node.place (behind end.comments node.meaning) (leaf_steps z ++ (comment_steps (carried_texts (first ds)) ++ steps_in (y ∷ ys) (after ds)))) (sym none)
+      laid = subst (λ z. MeaningLaid q node.place (behind end.comments node.meaning) (leaf_steps z ++ (comment_steps (carried_texts (first ds)) ++ steps_in (y ∷ ys) (after ds)))) (sym none)
           (laid_after (omega arith) (laid_behind end.comments node.meaning (end_ascends end.end) end.is (omega arith) node.laid));
     }
 

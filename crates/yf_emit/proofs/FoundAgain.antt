@@ -1,10 +1,7 @@
 -- Each comment of a formatted text is found, in each reading of it, after as many leaves as it was printed after.
-use Rattle.std.proofs.Common.{◌≡◌, ◌≢◌, ℕ, suc, zero, ◌+◌, ◌<◌, ◌≤◌, Bool, true, false, List, [], ◌∷◌, ◌++◌, length, map, Option, Some, None, refl, sym, ap, ◌∙◌, subst, arith, cond, zero-add, add-zero, append-nil}
-use Rattle.std.specs.Prelude.{count_by, nat_lt, slice_index_or}
+use Rattle.std.proofs.Common.{◌≡◌, ◌≢◌, ℕ, suc, ◌+◌, ◌≤◌, Bool, true, false, List, [], ◌∷◌, ◌++◌, length, map, Option, Some, None, refl, sym, ap, ◌∙◌, subst, arith, zero-add, add-zero, append-nil}
 use Rattle.std.specs.List.{All}
 use Rattle.std.specs.Str.{IsUtf8}
-use Rattle.std.proofs.lemmas.Bool.Decides.{nat_tests}
-use Rattle.std.proofs.lemmas.List.Sums.{sum_by-cons}
 use Rattle.yf_chars.specs.Text.{code}
 use Rattle.yf_comments.specs.Comment.{CommentValue}
 use Rattle.yf_events.specs.Event.{EventValue, Placed, stream_starts, stream_ends, document_starts, document_ends, sequence_starts, sequence_ends, mapping_starts, mapping_ends, scalar_node, alias_node}
@@ -25,14 +22,11 @@ use Rattle.yf_emit.specs.Format.{Formats}
 use Rattle.yf_emit.specs.FormatLaws.{TrailsFitIn}
 use Rattle.yf_emit.specs.Steps.{Step, steps_of, told}
 use Rattle.yf_emit.proofs.FormatsRead.{formats_laid}
+use Rattle.yf_emit.proofs.StartsBefore.{Later, none_later, one_later, starts_before, none_before, one_before}
 use Rattle.yf_emit.proofs.StepsStand.{Stand, nothing_stands, leaf_stands, comment_stands}
 use Rattle.yf_emit.proofs.StreamsMade.{DocumentsLaid}
 
--- Leaves and comments before and after an offset.
-
-data Later : ℕ → List ℕ → Type 0 where
-  none_later : {o : ℕ} → Later o []
-  one_later : {o s : ℕ} {ss : List ℕ} → o ≤ s → Later o ss → Later o (s ∷ ss)
+-- Leaves and comments from an offset on.
 
 data LaterComments : ℕ → List CommentValue → Type 0 where
   none_from : {o : ℕ} → LaterComments o []
@@ -47,23 +41,6 @@ stand_from : {i j : ℕ} {ss : List ℕ} {cs : List CommentValue} {steps : List 
 stand_from o l (nothing_stands m) = none_from
 stand_from o l (leaf_stands m a) = stand_from o (omega (arith, l, m)) a
 stand_from o l (comment_stands m a) = one_from (omega (arith, l, m)) (stand_from o (omega (arith, l, m)) a)
-
-abbrev pub starts_before : List ℕ → ℕ → ℕ
-starts_before ss o = count_by (λ s. nat_lt s o) ss
-
-not_less : (s o : ℕ) → o ≤ s → nat_lt s o ≡ false
-not_less s o l = grind (arith, nat_tests)
-
-less : (s o : ℕ) → s < o → nat_lt s o ≡ true
-less s o l = grind (arith, nat_tests)
-
-none_before : {o : ℕ} {ss : List ℕ} → Later o ss → starts_before ss o ≡ 0
-none_before none_later = refl
-none_before {o = o} (one_later {s = s} {ss = ss} l a) =
-    sum_by-cons (λ w. cond (nat_lt w o) 1 0) s ss ∙ (ap (λ b. cond b 1 0 + starts_before ss o) (not_less s o l) ∙ (zero-add (starts_before ss o) ∙ none_before a))
-
-one_before : (s o : ℕ) (ss : List ℕ) → s < o → starts_before (s ∷ ss) o ≡ 1 + starts_before ss o
-one_before s o ss l = sum_by-cons (λ w. cond (nat_lt w o) 1 0) s ss ∙ ap (λ b. cond b 1 0 + starts_before ss o) (less s o l)
 
 -- each comment's text, and what is told of its offset
 abbrev pub told_by : (ℕ → ℕ) → List CommentValue → List (List ℕ × ℕ)

@@ -35,7 +35,7 @@ use Rattle.yf_emit.proofs.LaidRows.{leaves_apart, laid_row, laid_line}
 use Rattle.yf_emit.proofs.NodePlaces.{beside_at, below_at}
 use Rattle.yf_emit.proofs.NodesMade.{Stood, Claim, no_row, some_rows, MeansNothing}
 use Rattle.yf_emit.proofs.RowEnds.{row_end, first_deco, after_decos}
-use Rattle.yf_emit.proofs.StepsStand.{Laid, laid_after, laid_both, laid_behind, laid_empty, laid_entering}
+use Rattle.yf_emit.proofs.StepsStand.{MeaningLaid, laid_after, laid_both, laid_behind, laid_empty, laid_entering}
 
 -- the row of a key with its `:`, as it is before its value is known
 abbrev pub key_head : ℕ → List ℕ → List ℕ → List Span → Bool → Row
@@ -88,7 +88,7 @@ record ValueMade (t : List ℕ) (column : ℕ) (v : Node) (rs : List Row) (ds : 
   pub start : LineStart t place
   pub meant : Meant v meaning
   pub is : texts meaning.comments ≡ comments_in rs ds
-  pub laid : Laid i place meaning steps
+  pub laid : MeaningLaid i place meaning steps
 
 -- no value
 value_missing : {t : List ℕ} {v : Node} (column : ℕ) (row : Row) (ds : List Deco) (r : List ℕ) {i : ℕ} → MeansNothing v → code t i ≡ 58 → IsUtf8 t → AreDecos ds
@@ -231,7 +231,7 @@ module _ {s : Style} {k v : Node} {spot : Spot} {rs : List Row} (column : ℕ) (
           meant = record { key = entering q (Some key.place) (n.node.mean q); value = one.meaning; is = refl; meant_key = meant_entering q (Some key.place) (n.node.meant q); meant_value = one.meant };
           is = texts_both (entering q (Some key.place) (n.node.mean q)) one.meaning
               ∙ (ap (λ z. z ++ texts one.meaning.comments) (texts_entering q (Some key.place) (n.node.mean q) ∙ ap (λ z. texts z) (n.node.silent q)) ∙ one.is);
-          laid = subst (λ z. Laid q one.place (entering q (Some key.place) (n.node.mean q) ⊕ one.meaning) z) (sym (behind_steps column (written k ++ colon_behind k) items leaves blank o below rs ds))
+          laid = subst (λ z. MeaningLaid q one.place (entering q (Some key.place) (n.node.mean q) ⊕ one.meaning) z) (sym (behind_steps column (written k ++ colon_behind k) items leaves blank o below rs ds))
               (laid_both (entering q (Some key.place) (n.node.mean q)) one.meaning
               (laid_entering q (Some key.place) (n.node.mean q) (laid_line leaves (places u key.derived refl) (n.node.meant q) (n.node.silent q) count)) one.laid (omega arith));
         }
@@ -257,7 +257,7 @@ module _ {s : Style} {k v : Node} {spot : Spot} {rs : List Row} (column : ℕ) (
           meant = record { key = entering q (Some q) (empty_node q); value = one.meaning; is = refl; meant_key = meant_entering q (Some q) (n.meant q); meant_value = one.meant };
           is = texts_both (entering q (Some q) (empty_node q)) one.meaning
               ∙ (ap (λ z. z ++ texts one.meaning.comments) (texts_entering q (Some q) (empty_node q) ∙ texts_empty q) ∙ one.is);
-          laid = subst (λ z. Laid q one.place (entering q (Some q) (empty_node q) ⊕ one.meaning) z)
+          laid = subst (λ z. MeaningLaid q one.place (entering q (Some q) (empty_node q) ⊕ one.meaning) z)
               (ap (λ z. leaf_steps z ++ steps_behind o below rs ds) (sym none) ∙ sym (behind_steps column (58 ∷ []) items leaves blank o below rs ds))
               (laid_both {k = q} (entering q (Some q) (empty_node q)) one.meaning (laid_entering q (Some q) (empty_node q) (laid_empty q (omega arith))) one.laid (omega arith));
         }

@@ -15,7 +15,7 @@ use Rattle.yf_emit.specs.Decorated.{Deco, first, after, past}
 use Rattle.yf_emit.specs.Rows.{Row}
 use Rattle.yf_emit.specs.Steps.{Step, a_leaf, leaf_steps, comment_steps, steps_in}
 use Rattle.yf_emit.proofs.AlikeLemmas.{same_leaves}
-use Rattle.yf_emit.proofs.StepsStand.{Laid, laid_node, laid_noting}
+use Rattle.yf_emit.proofs.StepsStand.{MeaningLaid, laid_node, laid_noting}
 
 -- Rows one after the other.
 
@@ -33,10 +33,10 @@ leaves_apart xs ys r = ap (λ w. w ++ r) (map-append (λ (s : Span). a_leaf) xs 
 
 -- One row.
 
-pub laid_row : {t : List ℕ} {i k j : ℕ} (m : Meaning) (cs : List CommentValue) (ls : List Span) {xs : List (List ℕ)} → Laid i k m (leaf_steps ls) → Ascend t k cs j → texts cs ≡ xs
-    → Laid i j (noting m cs) (leaf_steps ls ++ (comment_steps xs ++ []))
+pub laid_row : {t : List ℕ} {i k j : ℕ} (m : Meaning) (cs : List CommentValue) (ls : List Span) {xs : List (List ℕ)} → MeaningLaid i k m (leaf_steps ls) → Ascend t k cs j → texts cs ≡ xs
+    → MeaningLaid i j (noting m cs) (leaf_steps ls ++ (comment_steps xs ++ []))
 laid_row {i = i} {j = j} m cs ls {xs = xs} a c e =
-    subst (λ w. Laid i j (noting m cs) (leaf_steps ls ++ w)) (sym (append-nil (comment_steps xs))) (laid_noting m cs a c e)
+    subst (λ w. MeaningLaid i j (noting m cs) (leaf_steps ls ++ w)) (sym (append-nil (comment_steps xs))) (laid_noting m cs a c e)
 
 as_many : (xs ys : List Span) → length xs ≡ length ys → leaf_steps xs ≡ leaf_steps ys
 as_many [] [] e = refl
@@ -47,7 +47,7 @@ as_many (x ∷ xs) (y ∷ ys) e = ap (λ w. a_leaf ∷ w) (as_many xs ys (same_t
   same_tail e = omega (arith, e)
 
 -- a node on one line, which stands between two places
-pub laid_line : {t : List ℕ} {i j : ℕ} {x : Node} {m : Meaning} (ls : List Span) → NodeAt t i j m → Meant x m → m.comments ≡ [] → length ls ≡ length (leaves x) → Laid i j m (leaf_steps ls)
+pub laid_line : {t : List ℕ} {i j : ℕ} {x : Node} {m : Meaning} (ls : List Span) → NodeAt t i j m → Meant x m → m.comments ≡ [] → length ls ≡ length (leaves x) → MeaningLaid i j m (leaf_steps ls)
 laid_line {i = i} {j = j} {m = m} ls a b silent count =
     let node : b.node ≡ a.node = (node_unique b.node a.node [] [] (append-nil (flat b.node) ∙ (sym b.events ∙ (a.events ∙ sym (append-nil (flat a.node)))))).0 in
-    subst (λ w. Laid i j m w) (as_many (leaves a.node) ls (sym (count ∙ (same_leaves b.alike ∙ ap (λ w. length (leaves w)) node)))) (laid_node a silent)
+    subst (λ w. MeaningLaid i j m w) (as_many (leaves a.node) ls (sym (count ∙ (same_leaves b.alike ∙ ap (λ w. length (leaves w)) node)))) (laid_node a silent)

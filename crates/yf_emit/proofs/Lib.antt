@@ -119,7 +119,9 @@ pub mod DirectivesFit
 pub mod DocumentTrails
 pub mod FormatHolds
 pub mod FormatsRead
+pub mod StartsBefore
 pub mod FoundAgain
+pub mod PrintedSteps
 pub mod KeyTrails
 pub mod LayoutHolds
 pub mod LeavesRise

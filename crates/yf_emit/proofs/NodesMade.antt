@@ -31,7 +31,7 @@ use Rattle.yf_emit.specs.Steps.{steps_in}
 use Rattle.yf_emit.proofs.LaidRows.{laid_row, laid_line}
 use Rattle.yf_emit.proofs.NodePlaces.{NodeAt, leaf_at, behind_sign_at}
 use Rattle.yf_emit.proofs.RowEnds.{row_end, end_follows, first_deco}
-use Rattle.yf_emit.proofs.StepsStand.{Laid, laid_after, laid_empty}
+use Rattle.yf_emit.proofs.StepsStand.{MeaningLaid, laid_after, laid_empty}
 
 -- where a node stands in its block: in a block context, its entries at a column at which they may stand, and the lines of a block scalar
 -- so many columns right of the indentation around it
@@ -51,7 +51,7 @@ pub record NodeMade (t : List ℕ) (n : ℤ) (c : Ctx) (m : ℕ) (x : Node) (rs 
   pub start : LineStart t place
   pub meant : Meant x meaning
   pub is : texts meaning.comments ≡ comments_in rs ds
-  pub laid : Laid q place meaning (steps_in rs ds)
+  pub laid : MeaningLaid q place meaning (steps_in rs ds)
 
 pub record Makes (s : Style) (x : Node) (spot : Spot) (rs : List Row) : Type 0 where
   pub made : {t : List ℕ} (n : ℤ) (c : Ctx) (ds : List Deco) (r : List ℕ) (q : ℕ) → IsUtf8 t → Stood s x n c spot → AreDecos ds → Calm rs ds r
@@ -109,7 +109,7 @@ pub record SignMade (t : List ℕ) (a : ℕ) (c : Ctx) (sign : ℕ) (x : Node) (
   pub start : LineStart t place
   pub meant : Meant x meaning
   pub is : texts meaning.comments ≡ comments_in rs ds
-  pub laid : Laid q place meaning (steps_in rs ds)
+  pub laid : MeaningLaid q place meaning (steps_in rs ds)
 
 end_code : {t : List ℕ} {q : ℕ} (xs : List (List ℕ)) (r : List ℕ) → IsUtf8 t → Rest t q (trails_then xs (10 ∷ r)) → (code t q ≡ 32) ⊎ (code t q ≡ 10)
 end_code [] r u s = inr (rest_ascii 10 u (omega arith) (λ e. absurd (omega arith)) s).0.char

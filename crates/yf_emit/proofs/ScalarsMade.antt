@@ -53,7 +53,7 @@ use Rattle.yf_emit.proofs.CollectionsMade.{same_props, some_props}
 use Rattle.yf_emit.proofs.NodePlaces.{apart_at, both_behind, block_no_key}
 use Rattle.yf_emit.proofs.NodesMade.{Stood, NodeMade, Claim, some_rows}
 use Rattle.yf_emit.proofs.RowEnds.{trails_at, first_deco}
-use Rattle.yf_emit.proofs.StepsStand.{Laid, laid_scalar, laid_scalar_with}
+use Rattle.yf_emit.proofs.StepsStand.{MeaningLaid, laid_scalar, laid_scalar_with}
 
 -- The bytes are those of yf_block_scalar.
 
@@ -290,7 +290,7 @@ module _ {s : Style} {at : Standing} {style : ScalarStyle} {text : List ℕ} {li
         start = subst (λ j. LineStart t j) (place_of_rest begun.rest node.rest) begun.start;
         meant = bare_meant s.indent q node.meaning placed_at f node.events node.escapes;
         is = node.is ∙ sym (append-nil (carried_texts (first ds)));
-        laid = subst (λ z. Laid q node.place node.meaning z) (scalar_steps row ds leaf) (laid_scalar q node.meaning.finish (omega arith) node.events (scalar_ascends node.derived) node.is);
+        laid = subst (λ z. MeaningLaid q node.place node.meaning z) (scalar_steps row ds leaf) (laid_scalar q node.meaning.finish (omega arith) node.events (scalar_ascends node.derived) node.is);
       }
     where
       above_zero : (n : ℤ) {k : ℕ} → k ≡ base n + s.indent → 0 < k
@@ -324,7 +324,7 @@ module _ {s : Style} {at : Standing} {style : ScalarStyle} {text : List ℕ} {li
         start = subst (λ j. LineStart t j) (place_of_rest begun.rest node.rest) begun.start;
         meant = props_meant s.indent i q g p o node.meaning placed_at f node.events node.escapes;
         is = texts_with_props p o q g node.meaning ∙ (node.is ∙ sym (append-nil (carried_texts (first ds))));
-        laid = subst (λ z. Laid q node.place (with_props p o q g node.meaning) z) (scalar_steps row ds leaf)
+        laid = subst (λ z. MeaningLaid q node.place (with_props p o q g node.meaning) z) (scalar_steps row ds leaf)
             (laid_scalar_with p o q g i node.meaning.finish node.meaning (omega arith) node.events (scalar_ascends node.derived) node.is);
       }
     where

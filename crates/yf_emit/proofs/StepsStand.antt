@@ -144,17 +144,17 @@ mutual
       ∙ starts_join (leaves k) (leaves v ++ leaves_of_pairs ps) (leaf_starts rest)))
 
 -- What a production means, whose leaves and comments stand between two places in the order of steps.
-pub record Laid (i j : ℕ) (m : Meaning) (steps : List Step) : Type 0 where
+pub record MeaningLaid (i j : ℕ) (m : Meaning) (steps : List Step) : Type 0 where
   pub starts : List ℕ
   pub begun : (rest : List Placed) → ends_next (m.events ++ rest) ≡ false
   pub are : (rest : List Placed) → leaf_starts (m.events ++ rest) ≡ starts ++ leaf_starts rest
   pub stand : Stand i starts m.comments steps j
 
 -- from before
-pub laid_after : {h i j : ℕ} {m : Meaning} {a : List Step} → h ≤ i → Laid i j m a → Laid h j m a
+pub laid_after : {h i j : ℕ} {m : Meaning} {a : List Step} → h ≤ i → MeaningLaid i j m a → MeaningLaid h j m a
 laid_after l x = record { starts = x.starts; begun = x.begun; are = x.are; stand = stand_after l x.stand }
 
-pub laid_both : {i k l j : ℕ} (m n : Meaning) {a b : List Step} → Laid i k m a → Laid l j n b → k ≤ l → Laid i j (m ⊕ n) (a ++ b)
+pub laid_both : {i k l j : ℕ} (m n : Meaning) {a b : List Step} → MeaningLaid i k m a → MeaningLaid l j n b → k ≤ l → MeaningLaid i j (m ⊕ n) (a ++ b)
 unfolding ◌⊕◌
 laid_both m n x y l = record {
   starts = x.starts ++ y.starts;
@@ -164,13 +164,13 @@ laid_both m n x y l = record {
   stand = stand_join x.stand (stand_after l y.stand);
 }
 
-pub laid_behind : {t : List ℕ} {i k l j : ℕ} (cs : List CommentValue) {xs : List (List ℕ)} (m : Meaning) {a : List Step} → Ascend t i cs k → texts cs ≡ xs → k ≤ l → Laid l j m a
-    → Laid i j (behind cs m) (comment_steps xs ++ a)
+pub laid_behind : {t : List ℕ} {i k l j : ℕ} (cs : List CommentValue) {xs : List (List ℕ)} (m : Meaning) {a : List Step} → Ascend t i cs k → texts cs ≡ xs → k ≤ l → MeaningLaid l j m a
+    → MeaningLaid i j (behind cs m) (comment_steps xs ++ a)
 unfolding behind
 laid_behind cs m c e l x = record { starts = x.starts; begun = x.begun; are = x.are; stand = stand_join (comments_stand c e) (stand_after l x.stand) }
 
-pub laid_noting : {t : List ℕ} {i k j : ℕ} (m : Meaning) (cs : List CommentValue) {xs : List (List ℕ)} {a : List Step} → Laid i k m a → Ascend t k cs j → texts cs ≡ xs
-    → Laid i j (noting m cs) (a ++ comment_steps xs)
+pub laid_noting : {t : List ℕ} {i k j : ℕ} (m : Meaning) (cs : List CommentValue) {xs : List (List ℕ)} {a : List Step} → MeaningLaid i k m a → Ascend t k cs j → texts cs ≡ xs
+    → MeaningLaid i j (noting m cs) (a ++ comment_steps xs)
 unfolding noting
 laid_noting {i = i} {j = j} m cs {xs = xs} {a = a} x c e = record {
   starts = x.starts;
@@ -187,7 +187,7 @@ entering_starts : (e : Entry) (es rest : List Placed) → leaf_starts (first_ent
 entering_starts e [] rest = refl
 entering_starts e (x ∷ es) rest = refl
 
-pub laid_entering : {i j : ℕ} (s : ℕ) (c : Option ℕ) (m : Meaning) {a : List Step} → Laid i j m a → Laid i j (entering s c m) a
+pub laid_entering : {i j : ℕ} (s : ℕ) (c : Option ℕ) (m : Meaning) {a : List Step} → MeaningLaid i j m a → MeaningLaid i j (entering s c m) a
 unfolding entering
 laid_entering s c m x =
     let e : Entry = record { start = s; colon = c; blank_before = false } in
@@ -198,7 +198,7 @@ laid_entering s c m x =
       stand = x.stand;
     }
 
-pub laid_collection : {i j : ℕ} (sequence flow : Bool) (p q : ℕ) (m : Meaning) {a : List Step} → Laid i j m a → Laid i j (collection sequence flow p q m) a
+pub laid_collection : {i j : ℕ} (sequence flow : Bool) (p q : ℕ) (m : Meaning) {a : List Step} → MeaningLaid i j m a → MeaningLaid i j (collection sequence flow p q m) a
 unfolding collection plain_event from_to
 laid_collection true flow p q m x = record {
   starts = x.starts;
@@ -213,8 +213,8 @@ laid_collection false flow p q m x = record {
   stand = x.stand;
 }
 
-pub laid_collection_with : {i j : ℕ} (props : PropsValue) (o : Option ℕ) (f g : ℕ) (sequence flow : Bool) (p q : ℕ) (m : Meaning) {a : List Step} → Laid i j m a
-    → Laid i j (with_props props o f g (collection sequence flow p q m)) a
+pub laid_collection_with : {i j : ℕ} (props : PropsValue) (o : Option ℕ) (f g : ℕ) (sequence flow : Bool) (p q : ℕ) (m : Meaning) {a : List Step} → MeaningLaid i j m a
+    → MeaningLaid i j (with_props props o f g (collection sequence flow p q m)) a
 unfolding collection plain_event from_to with_props
 laid_collection_with props o f g true flow p q m x = record {
   starts = x.starts;
@@ -229,12 +229,12 @@ laid_collection_with props o f g false flow p q m x = record {
   stand = x.stand;
 }
 
-pub laid_empty : {i j : ℕ} (k : ℕ) → i ≤ j → Laid i j (empty_node k) []
+pub laid_empty : {i j : ℕ} (k : ℕ) → i ≤ j → MeaningLaid i j (empty_node k) []
 unfolding empty_node plain_event
 laid_empty k l = record { starts = []; begun = λ rest. refl; are = λ rest. refl; stand = nothing_stands l }
 
 -- a node without comments
-pub laid_node : {t : List ℕ} {i j : ℕ} {m : Meaning} (a : NodeAt t i j m) → m.comments ≡ [] → Laid i j m (leaf_steps (leaves a.node))
+pub laid_node : {t : List ℕ} {i j : ℕ} {m : Meaning} (a : NodeAt t i j m) → m.comments ≡ [] → MeaningLaid i j m (leaf_steps (leaves a.node))
 laid_node {i = i} {j = j} {m = m} a silent = record {
   starts = starts_of (leaves a.node);
   begun = λ rest. ap (λ w. ends_next (w ++ rest)) a.events ∙ node_begun a.node rest;
@@ -245,7 +245,7 @@ laid_node {i = i} {j = j} {m = m} a silent = record {
 -- a scalar that begins before its comments
 pub laid_scalar : {t : List ℕ} {i j : ℕ} (q f : ℕ) {m : Meaning} {props : PropsValue} {style : ScalarStyle} {text : List ℕ} {lines : List (List ℕ)} {o : Option ℕ} {xs : List (List ℕ)} → i ≤ q
     → m.events ≡ record { event = scalar_node props style text; span = from_to q f; tag_offset = o; entry = None; folded = lines } ∷ [] → Ascend t q m.comments j → texts m.comments ≡ xs
-    → Laid i j m (a_leaf ∷ comment_steps xs)
+    → MeaningLaid i j m (a_leaf ∷ comment_steps xs)
 unfolding from_to
 laid_scalar q f l e a is = record {
   starts = q ∷ [];
@@ -256,7 +256,7 @@ laid_scalar q f l e a is = record {
 
 pub laid_scalar_with : {t : List ℕ} {j : ℕ} (p : PropsValue) (n : Option ℕ) (q g i f : ℕ) (m : Meaning) {style : ScalarStyle} {text : List ℕ} {lines : List (List ℕ)} {o : Option ℕ} {xs : List (List ℕ)} → q ≤ i
     → m.events ≡ record { event = scalar_node no_props style text; span = from_to i f; tag_offset = o; entry = None; folded = lines } ∷ [] → Ascend t i m.comments j → texts m.comments ≡ xs
-    → Laid q j (with_props p n q g m) (a_leaf ∷ comment_steps xs)
+    → MeaningLaid q j (with_props p n q g m) (a_leaf ∷ comment_steps xs)
 unfolding from_to with_props
 laid_scalar_with p n q g i f m l e a is = record {
   starts = q ∷ [];

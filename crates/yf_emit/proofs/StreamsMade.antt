@@ -38,7 +38,7 @@ use Rattle.yf_emit.proofs.DocumentsMade.{ExplicitMade, explicit_made, directives
 use Rattle.yf_emit.proofs.LaidRows.{steps_append}
 use Rattle.yf_emit.proofs.RowEnds.{row_end, first_deco, after_decos, past_decos, comments_append, calm_append}
 use Rattle.yf_emit.proofs.RowTexts.{row_texts}
-use Rattle.yf_emit.proofs.StepsStand.{Stand, nothing_stands, stand_after, stand_join, comments_stand, Laid, EventsLaid, events_behind}
+use Rattle.yf_emit.proofs.StepsStand.{Stand, nothing_stands, stand_after, stand_join, comments_stand, MeaningLaid, EventsLaid, events_behind}
 use Rattle.yf_emit.proofs.TreesMade.{node_claim}
 
 -- What is meant.
@@ -67,7 +67,7 @@ same_documents cs rest = refl
 
 -- What is laid out.
 
-laid_document : {i j : ℕ} {m : Meaning} {a : List Step} (s : ℕ) (dirs : List Directive) → Laid i j m a → EventsLaid i j (document_of s true dirs m).events m.comments a
+laid_document : {i j : ℕ} {m : Meaning} {a : List Step} (s : ℕ) (dirs : List Directive) → MeaningLaid i j m a → EventsLaid i j (document_of s true dirs m).events m.comments a
 unfolding document_of
 laid_document s dirs x = record { starts = x.starts; are = x.are; stand = x.stand }
 
