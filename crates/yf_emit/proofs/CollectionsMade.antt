@@ -14,6 +14,7 @@ use Rattle.yf_events.specs.Tree.{Node, is_sequence}
 use Rattle.yf_grammar.specs.Grammar.{least_column}
 use Rattle.yf_grammar.specs.Meaning.{Meaning, behind, collection, with_props}
 use Rattle.yf_grammar.specs.Meant.{Meant, tall}
+use Rattle.yf_grammar.proofs.CommentOrder.{end_ascends}
 use Rattle.yf_grammar.proofs.MeantLemmas.{meant_behind, texts_behind, texts_collection, texts_with_props}
 use Rattle.yf_emit.specs.declared.style.Style.{Style}
 use Rattle.yf_emit.specs.Carried.{AreDecos, carried_texts, Calm}
@@ -21,10 +22,12 @@ use Rattle.yf_emit.specs.Decorated.{Deco, first, after, end_then, lines_then, in
 use Rattle.yf_emit.specs.Normal.{Spot}
 use Rattle.yf_emit.specs.OneLine.{spaced, anchor_text, tag_text, props_text}
 use Rattle.yf_emit.specs.Rows.{Row, before_node, plain_row, props_row, is_empty_text, begins_below}
+use Rattle.yf_emit.specs.Steps.{leaf_steps, comment_steps, steps_in}
 use Rattle.yf_emit.proofs.EntriesMade.{Begins, begins, EntriesMakes, lines_begin}
 use Rattle.yf_emit.proofs.NodePlaces.{NodeAt, entries_at, propertied_at}
 use Rattle.yf_emit.proofs.NodesMade.{Stood, NodeMade, Claim, some_rows}
 use Rattle.yf_emit.proofs.RowEnds.{row_end, end_follows, first_deco, after_decos}
+use Rattle.yf_emit.proofs.StepsStand.{MeaningLaid, laid_after, laid_behind, laid_collection, laid_collection_with}
 
 -- Properties are written as they are spelled.
 
@@ -92,6 +95,7 @@ bare_claim {s} {x} {spot} {es} {sequence} {bound} {Q} below kind high meant e = 
         start = one.start;
         meant = meant q one.meaning.finish one.meaning one.meant;
         is = texts_collection sequence false q one.meaning.finish one.meaning ∙ one.is;
+        laid = laid_collection sequence false q one.meaning.finish one.meaning one.laid;
       }
 
   claim : {rs : List Row} → Begins spot.entries rs → EntriesMakes sequence spot.entries bound Q rs → Claim s x spot rs
@@ -103,9 +107,9 @@ module _ {s : Style} {x : Node} {spot : Spot} {es : List Row} {sequence : Bool} 
     (below : begins_below x ≡ false) (kind : is_sequence x ≡ sequence) (high : tall x ≡ suc bound)
     (meant : (o : Option ℕ) (f g i j : ℕ) (m : Meaning) → Q m → Meant x (with_props p o f g (collection sequence false i j m)))
     (e : EntriesMakes sequence spot.entries bound Q es) where
-  propertied_made : {t : List ℕ} (row : Row) → row.text ≡ props_bytes p → row.body ≡ [] → (n : ℤ) (c : Ctx) (ds : List Deco) (r : List ℕ) (q : ℕ) → IsUtf8 t → Stood s x n c spot
+  propertied_made : {t : List ℕ} (row : Row) → row.text ≡ props_bytes p → row.body ≡ [] → row.leaves ≡ [] → (n : ℤ) (c : Ctx) (ds : List Deco) (r : List ℕ) (q : ℕ) → IsUtf8 t → Stood s x n c spot
       → AreDecos ds → Calm (row ∷ es) ds r → Rest t q (inline_then (row ∷ es) ds r) → NodeMade t n c spot.entries x (row ∷ es) ds q r
-  propertied_made {t} row text body n c ds r q u stood a k w =
+  propertied_made {t} row text body none n c ds r q u stood a k w =
       let there : Rest t q (props_bytes p ++ end_then (first ds) [] (lines_then es (after ds) r)) =
       subst (λ l. Rest t q (props_bytes p ++ end_then (first ds) l (lines_then es (after ds) r))) body
       (subst (λ v. Rest t q (v ++ end_then (first ds) row.body (lines_then es (after ds) r))) text w) in
@@ -130,6 +134,9 @@ module _ {s : Style} {x : Node} {spot : Spot} {es : List Row} {sequence : Bool} 
         meant = meant_behind end.comments (meant offset q g (end.place + spot.entries) one.meaning.finish one.meaning one.meant);
         is = texts_behind end.comments (with_props p offset q g inner) ∙ (ap (λ z. z ++ texts (with_props p offset q g inner).comments) end.is
             ∙ ap (λ z. carried_texts (first ds) ++ z) (texts_with_props p offset q g inner ∙ (texts_collection sequence false (end.place + spot.entries) one.meaning.finish one.meaning ∙ one.is)));
+        laid = subst (λ z. MeaningLaid q one.place (behind end.comments (with_props p offset q g inner)) (leaf_steps z ++ (comment_steps (carried_texts (first ds)) ++ steps_in es (after ds)))) (sym none)
+            (laid_after (omega arith) (laid_behind end.comments (with_props p offset q g inner) (end_ascends end.end) end.is (omega arith)
+            (laid_collection_with p offset q g sequence false (end.place + spot.entries) one.meaning.finish one.meaning one.laid)));
       }
 
   propertied_row : (w : List ℕ) → w ≡ props_bytes p → is_empty_text w ≡ false → Claim s x spot (props_row spot.column w ++ es)
@@ -137,7 +144,7 @@ module _ {s : Style} {x : Node} {spot : Spot} {es : List Row} {sequence : Bool} 
   propertied_row (b ∷ w) text f =
       some_rows (λ z. refl) (λ z. absurd (true≢false (sym z ∙ below))) (record {
         made = λ {t} n c ds r q u stood a k v.
-            propertied_made (record (plain_row spot.column (b ∷ w)) { ending = before_node }) text refl n c ds r q u stood a k v;
+            propertied_made (record (plain_row spot.column (b ∷ w)) { ending = before_node }) text refl refl n c ds r q u stood a k v;
       })
 
   pub propertied_claim : Claim s x spot (props_row spot.column (props_text p) ++ es)

@@ -11,12 +11,14 @@ use Rattle.yf_lines.specs.Basic.{is_three, LineStart, Clear}
 use Rattle.yf_lines.specs.LineText.{IsLineText, Follows}
 use Rattle.yf_lines.specs.LineText.Follows.{byte_follows}
 use Rattle.yf_lines.proofs.RestLemmas.{Rest, rest_spaces, rest_text, line_nothing}
+use Rattle.yf_comments.specs.Comment.{CommentValue}
 use Rattle.yf_comments.proofs.GapLinesLemmas.{texts, texts_append}
 use Rattle.yf_events.specs.declared.directive.Directive.{Directive}
 use Rattle.yf_events.specs.Tree.{Node, is_sequence}
 use Rattle.yf_grammar.specs.Grammar.{Derives, BlockNode, least_column}
 use Rattle.yf_grammar.specs.Meaning.{Meaning, behind, noting, empty_node}
 use Rattle.yf_grammar.specs.Meant.{Meant, tall}
+use Rattle.yf_grammar.proofs.CommentOrder.{end_ascends}
 use Rattle.yf_grammar.proofs.FlowBack.{visible_at, visible_line}
 use Rattle.yf_grammar.proofs.MeantLemmas.{meant_behind, meant_noting, texts_behind, texts_noting, texts_empty}
 use Rattle.yf_stream.specs.Stream.{ExplicitNode, DirectiveLines, Directives}
@@ -28,10 +30,13 @@ use Rattle.yf_emit.specs.Decorated.{Deco, first, after, trails_then, end_then, l
 use Rattle.yf_emit.specs.FitDocuments.{is_apart, FitDirective, FitDirectives, fit_no_directives, fit_directive}
 use Rattle.yf_emit.specs.Normal.{root_spot}
 use Rattle.yf_emit.specs.Rows.{Row, directive_row, joined_words, begins_below}
+use Rattle.yf_emit.specs.Steps.{leaf_steps, comment_steps, steps_in}
 use Rattle.yf_emit.proofs.ClearRows.{AreRowTexts, rows_clear_after, place_of_rest}
+use Rattle.yf_emit.proofs.LaidRows.{steps_append, laid_row}
 use Rattle.yf_emit.proofs.NodePlaces.{below_at}
 use Rattle.yf_emit.proofs.NodesMade.{Stood, Claim, no_row, some_rows}
 use Rattle.yf_emit.proofs.RowEnds.{row_end, first_deco, after_decos}
+use Rattle.yf_emit.proofs.StepsStand.{Stand, stand_after, stand_join, comments_stand, MeaningLaid, laid_after, laid_behind, laid_empty}
 
 -- The `---` and the node after it.
 
@@ -45,6 +50,7 @@ pub record ExplicitMade (t : List ℕ) (x : Node) (rs : List Row) (ds : List Dec
   pub start : LineStart t place
   pub meant : Meant x meaning
   pub is : texts meaning.comments ≡ comments_in rs ds
+  pub laid : MeaningLaid q place meaning (steps_in rs ds)
 
 same_number : (c : ℕ) → (c == c) ≡ true
 same_number c = grind (arith, nat_tests)
@@ -78,9 +84,9 @@ not_beside : (b : Bool) → not b ≡ false → b ≡ true
 not_beside true e = refl
 not_beside false e = sym e
 
-pub explicit_made : {t : List ℕ} {s : Style} {x : Node} {rs : List Row} (row : Row) (ds : List Deco) (r : List ℕ) (q : ℕ) → Claim s x (root_spot s) rs → AreRowTexts rs → IsUtf8 t → AreDecos ds → Calm rs (after ds) r
+pub explicit_made : {t : List ℕ} {s : Style} {x : Node} {rs : List Row} (row : Row) (ds : List Deco) (r : List ℕ) (q : ℕ) → row.leaves ≡ [] → Claim s x (root_spot s) rs → AreRowTexts rs → IsUtf8 t → AreDecos ds → Calm rs (after ds) r
     → Rest t q (45 ∷ 45 ∷ 45 ∷ end_then (first ds) [] (lines_then rs (after ds) r)) → ExplicitMade t x (row ∷ rs) ds q r
-explicit_made {t} {s} {x} row ds r q (no_row m) free u a k w =
+explicit_made {t} {s} {x} row ds r q none (no_row m) free u a k w =
     let mark = three_at 45 u (omega arith) (omega arith) w in
     let end = row_end (first ds) r u (first_deco a) mark.1 in
     record {
@@ -93,8 +99,10 @@ explicit_made {t} {s} {x} row ds r q (no_row m) free u a k w =
       start = end.start;
       meant = meant_noting end.comments (m.meant (q + 3));
       is = texts_noting (empty_node (q + 3)) end.comments ∙ (ap (λ z. z ++ texts end.comments) (texts_empty (q + 3)) ∙ (end.is ∙ sym (append-nil (carried_texts (first ds)))));
+      laid = subst (λ z. MeaningLaid q end.place (noting (empty_node (q + 3)) end.comments) (leaf_steps z ++ (comment_steps (carried_texts (first ds)) ++ []))) (sym none)
+          (laid_row (empty_node (q + 3)) end.comments [] (laid_empty (q + 3) (omega arith)) (end_ascends end.end) end.is);
     }
-explicit_made {t} {s} {x} row ds r q (some_rows {r = y} {rs = ys} f g m) lines u a k w =
+explicit_made {t} {s} {x} row ds r q none (some_rows {r = y} {rs = ys} f g m) lines u a k w =
     let mark = three_at 45 u (omega arith) (omega arith) w in
     let end = row_end (first ds) (lines_then (y ∷ ys) (after ds) r) u (first_deco a) mark.1 in
     let spaces = rest_spaces y.column end.place u end.rest in
@@ -113,6 +121,8 @@ explicit_made {t} {s} {x} row ds r q (some_rows {r = y} {rs = ys} f g m) lines u
       start = node.start;
       meant = meant_behind end.comments node.meant;
       is = texts_behind end.comments node.meaning ∙ (ap (λ z. z ++ texts node.meaning.comments) end.is ∙ ap (λ z. carried_texts (first ds) ++ z) node.is);
+      laid = subst (λ z. MeaningLaid q node.place (behind end.comments node.meaning) (leaf_steps z ++ (comment_steps (carried_texts (first ds)) ++ steps_in (y ∷ ys) (after ds)))) (sym none)
+          (laid_after (omega arith) (laid_behind end.comments node.meaning (end_ascends end.end) end.is (omega arith) node.laid));
     }
 
 -- Directives.
@@ -124,6 +134,7 @@ pub record DirectivesMade (t : List ℕ) (dirs : List Directive) (rs : List Row)
   pub words : map (λ (e : Directive). e.words) meaning.directives ≡ map (λ (e : Directive). e.words) dirs
   pub rest : Rest t place r
   pub is : texts meaning.comments ≡ comments_in rs ds
+  pub stand : Stand q [] meaning.comments (steps_in rs ds) place
 
 percent_line : {w : List ℕ} → IsLineText w → IsLineText (37 ∷ w)
 percent_line a = visible_line 37 (omega arith) (omega arith) a
@@ -132,9 +143,15 @@ apart_follows : (xs : List (List ℕ)) (r : List ℕ) → Follows is_apart (trai
 apart_follows [] r = byte_follows (omega arith) refl
 apart_follows (x ∷ xs) r = byte_follows (omega arith) refl
 
-one_directive : {t : List ℕ} {d : Directive} (row : Row) (ds : List Deco) (r : List ℕ) (q : ℕ) → FitDirective d.words → IsUtf8 t → AreDecos ds
+row_stands : {i j : ℕ} {cs : List CommentValue} (row : Row) (ds : List Deco) → row.leaves ≡ [] → Stand i [] cs (comment_steps (carried_texts (first ds))) j
+    → Stand i [] cs (steps_in (row ∷ []) ds) j
+row_stands {i} {j} {cs} row ds none a =
+    subst (λ z. Stand i [] cs (leaf_steps z ++ (comment_steps (carried_texts (first ds)) ++ [])) j) (sym none)
+    (subst (λ z. Stand i [] cs z j) (sym (append-nil (comment_steps (carried_texts (first ds))))) a)
+
+one_directive : {t : List ℕ} {d : Directive} (row : Row) (ds : List Deco) (r : List ℕ) (q : ℕ) → row.leaves ≡ [] → FitDirective d.words → IsUtf8 t → AreDecos ds
     → Rest t q (37 ∷ (joined_words d.words ++ end_then (first ds) [] r)) → DirectivesMade t (d ∷ []) (row ∷ []) ds q r
-one_directive {t} {d} row ds r q fit u a w =
+one_directive {t} {d} row ds r q none fit u a w =
     let at = fit.made q (end_then (first ds) [] r) u (apart_follows (first ds).trails _) w in
     let sign = visible_at 37 u (omega arith) (omega arith) w in
     let text = rest_text (37 ∷ joined_words d.words) u (percent_line fit.line) w in
@@ -146,15 +163,16 @@ one_directive {t} {d} row ds r q fit u a w =
       words = ap (λ z. z ∷ []) at.are;
       rest = end.rest;
       is = end.is ∙ sym (append-nil (carried_texts (first ds)));
+      stand = row_stands row ds none (stand_after (omega arith) (comments_stand (end_ascends end.end) end.is));
     }
 
-pub directives_made : {t : List ℕ} {d : Directive} {dirs : List Directive} (row : Row) (ds : List Deco) (r : List ℕ) (q : ℕ) → FitDirective d.words → FitDirectives dirs → IsUtf8 t → AreDecos ds
+pub directives_made : {t : List ℕ} {d : Directive} {dirs : List Directive} (row : Row) (ds : List Deco) (r : List ℕ) (q : ℕ) → row.leaves ≡ [] → FitDirective d.words → FitDirectives dirs → IsUtf8 t → AreDecos ds
     → Rest t q (37 ∷ (joined_words d.words ++ end_then (first ds) [] (lines_then (map directive_row dirs) (after ds) r)))
     → DirectivesMade t (d ∷ dirs) (row ∷ map directive_row dirs) ds q r
-directives_made {d = d} row ds r q fit fit_no_directives u a w = one_directive {d = d} row ds r q fit u a w
-directives_made {t} {d = d} row ds r q fit (fit_directive {d = e} {ds = es} f fs) u a w =
-    let one = one_directive {d = d} row ds (lines_then (map directive_row (e ∷ es)) (after ds) r) q fit u a w in
-    let more = directives_made {d = e} {dirs = es} (directive_row e) (after ds) r one.place f fs u (after_decos a) one.rest in
+directives_made {d = d} row ds r q none fit fit_no_directives u a w = one_directive {d = d} row ds r q none fit u a w
+directives_made {t} {d = d} row ds r q none fit (fit_directive {d = e} {ds = es} f fs) u a w =
+    let one = one_directive {d = d} row ds (lines_then (map directive_row (e ∷ es)) (after ds) r) q none fit u a w in
+    let more = directives_made {d = e} {dirs = es} (directive_row e) (after ds) r one.place refl f fs u (after_decos a) one.rest in
     record {
       place = more.place;
       meaning = record { directives = one.meaning.directives ++ more.meaning.directives; comments = one.meaning.comments ++ more.meaning.comments };
@@ -164,4 +182,5 @@ directives_made {t} {d = d} row ds r q fit (fit_directive {d = e} {ds = es} f fs
       rest = more.rest;
       is = texts_append one.meaning.comments more.meaning.comments ∙ (ap (λ z. z ++ texts more.meaning.comments) (one.is ∙ append-nil (carried_texts (first ds)))
           ∙ ap (λ z. carried_texts (first ds) ++ z) more.is);
+      stand = subst (λ z. Stand q [] (one.meaning.comments ++ more.meaning.comments) z more.place) (sym (steps_append (row ∷ []) (map directive_row (e ∷ es)) ds)) (stand_join one.stand more.stand);
     }

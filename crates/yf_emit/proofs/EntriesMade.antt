@@ -18,9 +18,12 @@ use Rattle.yf_emit.specs.Carried.{AreDecos, comments_in, Calm}
 use Rattle.yf_emit.specs.Decorated.{Deco, past, lines_then, inline_then}
 use Rattle.yf_emit.specs.Normal.{Spot}
 use Rattle.yf_emit.specs.Rows.{Row, joined}
+use Rattle.yf_emit.specs.Steps.{steps_in}
 use Rattle.yf_emit.proofs.DecoratedLemmas.{inline_append}
+use Rattle.yf_emit.proofs.LaidRows.{steps_append}
 use Rattle.yf_emit.proofs.NodesMade.{Stood, Claim, no_row, some_rows, sign_row, sign_made}
 use Rattle.yf_emit.proofs.RowEnds.{past_decos, comments_append, calm_append}
+use Rattle.yf_emit.proofs.StepsStand.{MeaningLaid, laid_both, laid_entering}
 
 -- rows of which the first stands at that column
 pub data Begins (column : ℕ) : List Row → Type 0 where
@@ -37,6 +40,7 @@ pub record EntryMade (sequence : Bool) (column bound : ℕ) (P : Meaning → Typ
   pub start : LineStart t place
   pub meant : P meaning
   pub is : texts meaning.comments ≡ comments_in rs ds
+  pub laid : MeaningLaid q place meaning (steps_in rs ds)
 
 pub record EntryMakes (sequence : Bool) (column bound : ℕ) (P : Meaning → Type 0) (rs : List Row) : Type 0 where
   pub starts : Begins column rs
@@ -53,6 +57,7 @@ pub record EntriesMade (sequence : Bool) (column bound : ℕ) (P : Meaning → T
   pub start : LineStart t place
   pub meant : P meaning
   pub is : texts meaning.comments ≡ comments_in rs ds
+  pub laid : MeaningLaid q place meaning (steps_in rs ds)
 
 pub record EntriesMakes (sequence : Bool) (column bound : ℕ) (P : Meaning → Type 0) (rs : List Row) : Type 0 where
   pub starts : Begins column rs
@@ -95,6 +100,7 @@ entries_last {sequence} {column} {bound} {P} {Q} {rs} f e = subst (λ z. Entries
         start = one.start;
         meant = f one.meaning one.meant;
         is = one.is;
+        laid = one.laid;
       }
 
 pub entries_more : {sequence : Bool} {column bound least : ℕ} {P Q S : Meaning → Type 0} {rs ls : List Row} → ((m n : Meaning) → P m → Q n → S (m ⊕ n))
@@ -120,6 +126,7 @@ entries_more {sequence} {column} {bound} {least} {P} {Q} {S} {rs} {ls} f e o = r
         meant = f one.meaning more.meaning one.meant more.meant;
         is = texts_both one.meaning more.meaning ∙ (ap (λ z. z ++ texts more.meaning.comments) one.is
             ∙ (ap (λ z. comments_in rs ds ++ z) more.is ∙ sym (comments_append rs ls ds)));
+        laid = subst (λ z. MeaningLaid q more.place (one.meaning ⊕ more.meaning) z) (sym (steps_append rs ls ds)) (laid_both one.meaning more.meaning one.laid more.laid (omega arith));
       }
 
 -- An item after its `-`.
@@ -165,6 +172,7 @@ item_makes {s} {x} {spot} {rs} column items blank wide e stood k = record { star
         start = one.start;
         meant = meant_entering q None one.meant;
         is = texts_entering q None one.meaning ∙ one.is;
+        laid = laid_entering q None one.meaning one.laid;
       }
 
 -- A pair: the key's meaning and the value's.
@@ -226,4 +234,6 @@ explicit_makes {s} {k} {v} {at} {to} {rs} {ls} column items blank places wide e 
         is = texts_both (entering q (Some (one.place + column)) one.meaning) two.meaning
             ∙ (ap (λ z. z ++ texts two.meaning.comments) (texts_entering q (Some (one.place + column)) one.meaning ∙ one.is)
             ∙ (ap (λ z. comments_in keys ds ++ z) two.is ∙ sym (comments_append keys values ds)));
+        laid = subst (λ z. MeaningLaid q two.place (entering q (Some (one.place + column)) one.meaning ⊕ two.meaning) z) (sym (steps_append keys values ds))
+            (laid_both (entering q (Some (one.place + column)) one.meaning) two.meaning (laid_entering q (Some (one.place + column)) one.meaning one.laid) two.laid (omega arith));
       }

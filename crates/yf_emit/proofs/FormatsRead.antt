@@ -18,16 +18,19 @@ use Rattle.yf_stream.proofs.ReadingTrees.{TreesMeant, no_trees_meant, tree_meant
 use Rattle.yf_stream.proofs.StreamDocuments.{DocumentsDerived, no_documents_derived, document_derived, stream_derived}
 use Rattle.yf_emit.specs.declared.style.Style.{Style}
 use Rattle.yf_emit.specs.Carried.{AreRemarks}
+use Rattle.yf_emit.specs.Decorated.{first_gap, row_decos, rows_of}
 use Rattle.yf_emit.specs.FitDocuments.{FitDocuments, DocumentMeant, DocumentsMeant, no_documents_meant, document_meant, tall_documents}
 use Rattle.yf_emit.specs.Format.{Formats}
-use Rattle.yf_emit.specs.FormatLaws.{FormatsAreWellFormed}
+use Rattle.yf_emit.specs.FormatLaws.{WellFormed, FormatsAreWellFormed}
 use Rattle.yf_emit.specs.LayoutLaws.{StreamMade, printed_comments}
 use Rattle.yf_emit.specs.Normal.{Setting, Spot, fits, settled, settled_items, settled_pairs, styled, styled_items, styled_pairs, inner_spot, key_spot, value_spot, root_spot, normal_document, setting_of}
 use Rattle.yf_emit.specs.Restyled.{Restyled, none_left, one_more, restyled_event}
+use Rattle.yf_emit.specs.Steps.{steps_of}
 use Rattle.yf_emit.proofs.CommentsFit.{reading_remarks}
 use Rattle.yf_emit.proofs.FormatTrails.{formats_trail, normal_trees}
-use Rattle.yf_emit.proofs.LayoutLawsHold.{layouts_are_texts, layouts_are_derived}
+use Rattle.yf_emit.proofs.LayoutLawsHold.{layouts_are_texts, layouts_are_laid}
 use Rattle.yf_emit.proofs.NormalRestyled.{root_restyled}
+use Rattle.yf_emit.proofs.StreamsMade.{DocumentsLaid, StreamLaid}
 use Rattle.yf_emit.proofs.TreesRead.{document_read, reading_fits, same_node}
 
 -- Heights: styles and brackets change none.
@@ -164,8 +167,13 @@ same_in_documents {t} {u} {s} {es} utf8 f meant =
     documents_same t c (reading_meant utf8 f.reads n.of_reading)
     (subst (λ ds. DocumentsMeant ds (map (normal_document t c) n.trees) es) documents (subst (λ xs. DocumentsMeant f.normal.documents xs es) n.same meant))
 
-pub formats_well : FormatsAreWellFormed
-formats_well t u s utf8 f =
+-- what is derived of it has its leaves and comments in the order in which they were laid out
+pub record FormattedLaid {t : List ℕ} {s : Style} {u : List ℕ} (f : Formats t s u) : Type 0 where
+  pub well : WellFormed f
+  pub laid : DocumentsLaid 0 (length u) well.documents (steps_of f.normal (rows_of f.normal s f.writes.trees))
+
+pub formats_laid : (t u : List ℕ) (s : Style) → IsUtf8 t → (f : Formats t s u) → FormattedLaid f
+formats_laid t u s utf8 f =
     let trails = formats_trail t u s utf8 f in
     let n = normal_trees f in
     let c : Setting = setting_of f.reading s in
@@ -174,8 +182,9 @@ formats_well t u s utf8 f =
     let fit = formats_fit utf8 f in
     let remarks : AreRemarks m.comments = subst (λ cs. AreRemarks cs) (sym n.comments) (reading_remarks utf8 f.reads) in
     let text : IsUtf8 u = subst (λ w. IsUtf8 w) (sym f.writes.is) (layouts_are_texts m s trees fit remarks trails) in
-    let made : StreamMade u m.documents trees (printed_comments m s trees) =
-    subst (λ w. StreamMade w m.documents trees (printed_comments m s trees)) (sym f.writes.is) (layouts_are_derived m s trees fit remarks trails) in
+    let laid : StreamLaid u m.documents trees (first_gap m (rows_of m s trees)) (rows_of m s trees) (row_decos m (rows_of m s trees)) =
+    subst (λ w. StreamLaid w m.documents trees (first_gap m (rows_of m s trees)) (rows_of m s trees) (row_decos m (rows_of m s trees))) (sym f.writes.is) (layouts_are_laid m s trees fit remarks trails) in
+    let made : StreamMade u m.documents trees (printed_comments m s trees) = laid.made in
     let shapes = f.reads.reads.shapes in
     let derived = stream_derived shapes.derived in
     let meant = reading_meant utf8 f.reads n.of_reading in
@@ -184,11 +193,17 @@ formats_well t u s utf8 f =
     let limit : shapes.height ≤ DEPTH = shapes.within in
     let high : made.height ≤ tall_documents trees = made.low in
     record {
-      utf8 = text;
-      documents = made.documents;
-      reads = record {
-        shapes = derived_streams_are_shapes u made.height made.documents text made.derived (omega (arith, low, same, limit, high));
-        well_formed = documents_quiet (same_in_documents utf8 f made.meant) f.reads.reads.well_formed;
+      well = record {
+        utf8 = text;
+        documents = made.documents;
+        reads = record {
+          shapes = derived_streams_are_shapes u made.height made.documents text made.derived (omega (arith, low, same, limit, high));
+          well_formed = documents_quiet (same_in_documents utf8 f made.meant) f.reads.reads.well_formed;
+        };
+        meant = made.meant;
       };
-      meant = made.meant;
+      laid = laid.laid;
     }
+
+pub formats_well : FormatsAreWellFormed
+formats_well t u s utf8 f = (formats_laid t u s utf8 f).well

@@ -10,15 +10,17 @@ use Rattle.yf_lines.proofs.RestLemmas.{Rest, rest_spaces, rest_stands, rest_text
 use Rattle.yf_comments.specs.Comment.{CommentValue}
 use Rattle.yf_comments.proofs.GapLinesLemmas.{texts}
 use Rattle.yf_comments.proofs.SpaceLemmas.{space_in_line}
-use Rattle.yf_events.specs.Tree.{Node}
+use Rattle.yf_events.specs.Tree.{Node, leaves as leaves_of}
 use Rattle.yf_grammar.specs.Grammar.{Derives, BlockValue, KeyOf}
 use Rattle.yf_grammar.specs.Grammar.Derives.{a_keyed_entry, an_unkeyed_entry, a_block_value, an_empty_block_value}
 use Rattle.yf_grammar.specs.Back.{Back}
 use Rattle.yf_grammar.specs.Meaning.{Meaning, ◌⊕◌, behind, noting, empty_node, entering}
 use Rattle.yf_grammar.specs.Meant.{Meant, tall}
+use Rattle.yf_grammar.proofs.CommentOrder.{end_ascends}
 use Rattle.yf_grammar.proofs.FlowBack.{visible_at, colon_follows}
 use Rattle.yf_grammar.proofs.PairsBack.{key_back, key_apart_back}
 use Rattle.yf_grammar.proofs.MeantLemmas.{meant_behind, meant_noting, meant_entering, texts_behind, texts_noting, texts_entering, texts_both, texts_empty}
+use Rattle.yf_grammar.proofs.PlacesDerived.{places}
 use Rattle.yf_emit.specs.declared.style.Style.{Style}
 use Rattle.yf_emit.specs.Carried.{AreDecos, carried_texts, comments_in, Calm}
 use Rattle.yf_emit.specs.Decorated.{Deco, first, after, end_then, lines_then, inline_then}
@@ -27,10 +29,13 @@ use Rattle.yf_emit.specs.Normal.{Spot}
 use Rattle.yf_emit.specs.OneLine.{written, colon_behind}
 use Rattle.yf_emit.specs.Rows.{Row, anywhere, behind_key, begins_below}
 use Rattle.yf_events.specs.declared.event.Span.{Span}
+use Rattle.yf_emit.specs.Steps.{Step, leaf_steps, comment_steps, steps_in}
 use Rattle.yf_emit.proofs.EntriesMade.{Begins, begins, EntryMade, EntryMakes, PairMeant}
+use Rattle.yf_emit.proofs.LaidRows.{leaves_apart, laid_row, laid_line}
 use Rattle.yf_emit.proofs.NodePlaces.{beside_at, below_at}
 use Rattle.yf_emit.proofs.NodesMade.{Stood, Claim, no_row, some_rows, MeansNothing}
 use Rattle.yf_emit.proofs.RowEnds.{row_end, first_deco, after_decos}
+use Rattle.yf_emit.proofs.StepsStand.{MeaningLaid, laid_after, laid_both, laid_behind, laid_empty, laid_entering}
 
 -- the row of a key with its `:`, as it is before its value is known
 abbrev pub key_head : ℕ → List ℕ → List ℕ → List Span → Bool → Row
@@ -58,8 +63,22 @@ behind_begins column text items leaves blank None true rs = begins refl
 behind_begins column text items leaves blank None false [] = begins refl
 behind_begins column text items leaves blank None false (x ∷ xs) = begins refl
 
+-- the steps of what stands after the `:`
+abbrev steps_behind : Option CommentValue → Bool → List Row → List Deco → List Step
+steps_behind (Some c) below rs ds = comment_steps (carried_texts (first ds)) ++ steps_in rs (after ds)
+steps_behind None true rs ds = comment_steps (carried_texts (first ds)) ++ steps_in rs (after ds)
+steps_behind None false [] ds = comment_steps (carried_texts (first ds)) ++ []
+steps_behind None false (x ∷ xs) ds = steps_in (x ∷ xs) ds
+
+behind_steps : (column : ℕ) (text items : List ℕ) (leaves : List Span) (blank : Bool) (o : Option CommentValue) (below : Bool) (rs : List Row) (ds : List Deco)
+    → steps_in (behind_key (key_head column text items leaves blank) o below rs) ds ≡ leaf_steps leaves ++ steps_behind o below rs ds
+behind_steps column text items leaves blank (Some c) below rs ds = refl
+behind_steps column text items leaves blank None true rs ds = refl
+behind_steps column text items leaves blank None false [] ds = refl
+behind_steps column text items leaves blank None false (x ∷ xs) ds = leaves_apart leaves x.leaves (comment_steps (carried_texts (first ds)) ++ steps_in xs (after ds))
+
 -- the `:` at i and the value after it
-record ValueMade (t : List ℕ) (column : ℕ) (v : Node) (rs : List Row) (ds : List Deco) (i : ℕ) (r : List ℕ) : Type 0 where
+record ValueMade (t : List ℕ) (column : ℕ) (v : Node) (rs : List Row) (ds : List Deco) (i : ℕ) (r : List ℕ) (steps : List Step) : Type 0 where
   pub height : ℕ
   pub place : ℕ
   pub meaning : Meaning
@@ -69,10 +88,11 @@ record ValueMade (t : List ℕ) (column : ℕ) (v : Node) (rs : List Row) (ds : 
   pub start : LineStart t place
   pub meant : Meant v meaning
   pub is : texts meaning.comments ≡ comments_in rs ds
+  pub laid : MeaningLaid i place meaning steps
 
 -- no value
 value_missing : {t : List ℕ} {v : Node} (column : ℕ) (row : Row) (ds : List Deco) (r : List ℕ) {i : ℕ} → MeansNothing v → code t i ≡ 58 → IsUtf8 t → AreDecos ds
-    → Rest t (i + 1) (end_then (first ds) [] r) → ValueMade t column v (row ∷ []) ds i r
+    → Rest t (i + 1) (end_then (first ds) [] r) → ValueMade t column v (row ∷ []) ds i r (comment_steps (carried_texts (first ds)) ++ [])
 value_missing column row ds r {i} m colon u a w =
     let end = row_end (first ds) r u (first_deco a) w in
     record {
@@ -85,12 +105,14 @@ value_missing column row ds r {i} m colon u a w =
       start = end.start;
       meant = meant_noting end.comments (m.meant (i + 1));
       is = texts_noting (empty_node (i + 1)) end.comments ∙ (ap (λ z. z ++ texts end.comments) (texts_empty (i + 1)) ∙ (end.is ∙ sym (append-nil (carried_texts (first ds)))));
+      laid = laid_row (empty_node (i + 1)) end.comments [] (laid_empty (i + 1) (omega arith)) (end_ascends end.end) end.is;
     }
 
 -- a value on lines of its own
 value_below : {t : List ℕ} {s : Style} {v : Node} {spot : Spot} {rs : List Row} (column : ℕ) (row : Row) (ds : List Deco) (r : List ℕ) {i : ℕ} → Claim s v spot rs
     → (begins_below v ≡ false → column + 1 ≤ spot.column) → code t i ≡ 58 → IsUtf8 t → Stood s v (pos column) BlockOut spot → AreDecos ds → Calm rs (after ds) r
-    → Rest t (i + 1) (end_then (first ds) [] (lines_then rs (after ds) r)) → ValueMade t column v (row ∷ rs) ds i r
+    → Rest t (i + 1) (end_then (first ds) [] (lines_then rs (after ds) r))
+    → ValueMade t column v (row ∷ rs) ds i r (comment_steps (carried_texts (first ds)) ++ steps_in rs (after ds))
 value_below {spot = spot} column row ds r (no_row m) deep colon u stood a k w = value_missing column row ds r m colon u a w
 value_below {t} {s} {v} {spot} column row ds r {i} (some_rows {r = y} {rs = ys} f g m) deep colon u stood a k w =
     let end = row_end (first ds) (lines_then (y ∷ ys) (after ds) r) u (first_deco a) w in
@@ -107,6 +129,7 @@ value_below {t} {s} {v} {spot} column row ds r {i} (some_rows {r = y} {rs = ys} 
       start = node.start;
       meant = meant_behind end.comments node.meant;
       is = texts_behind end.comments node.meaning ∙ (ap (λ z. z ++ texts node.meaning.comments) end.is ∙ ap (λ z. carried_texts (first ds) ++ z) node.is);
+      laid = laid_after (omega arith) (laid_behind end.comments node.meaning (end_ascends end.end) end.is (omega arith) node.laid);
     }
   where
     turn : (b : Bool) → not b ≡ true → b ≡ false
@@ -126,7 +149,7 @@ value_below {t} {s} {v} {spot} column row ds r {i} (some_rows {r = y} {rs = ys} 
 value_made : {t : List ℕ} {s : Style} {v : Node} {spot : Spot} {rs : List Row} (column : ℕ) (text items : List ℕ) (leaves : List Span) (blank : Bool) (o : Option CommentValue) (below : Bool)
     (ds : List Deco) (r : List ℕ) (i : ℕ) → Claim s v spot rs → below ≡ begins_below v → (is_some o ≡ true → begins_below v ≡ false → column + 1 ≤ spot.column)
     → code t i ≡ 58 → IsUtf8 t → Stood s v (pos column) BlockOut spot → AreDecos ds → Calm (behind_key (key_head column text items leaves blank) o below rs) ds r
-    → Rest t (i + 1) (behind_then o below rs ds r) → ValueMade t column v (behind_key (key_head column text items leaves blank) o below rs) ds i r
+    → Rest t (i + 1) (behind_then o below rs ds r) → ValueMade t column v (behind_key (key_head column text items leaves blank) o below rs) ds i r (steps_behind o below rs ds)
 value_made column text items leaves blank (Some c) below ds r i v e deep colon u stood a k w = value_below column _ ds r v (deep refl) colon u stood a k.1 w
 value_made {v = v} {spot = spot} column text items leaves blank None true ds r i k e deep colon u stood a calm w =
     value_below column _ ds r k (λ f. absurd (true≢false (e ∙ f))) colon u stood a calm.1 w
@@ -144,6 +167,7 @@ value_made {t} {s} {v} {spot} column text items leaves blank None false ds r i (
       start = node.start;
       meant = node.meant;
       is = node.is;
+      laid = laid_after (omega arith) node.laid;
     }
 
 -- The key.
@@ -183,9 +207,9 @@ key_made {t} {k} q z text node colon_apart l u w =
 
 module _ {s : Style} {k v : Node} {spot : Spot} {rs : List Row} (column : ℕ) (items : List ℕ) (leaves : List Span) (blank : Bool) (o : Option CommentValue) (below : Bool)
     (value : Claim s v spot rs) (same : below ≡ begins_below v) (deep : is_some o ≡ true → begins_below v ≡ false → column + 1 ≤ spot.column) (stood : Stood s v (pos column) BlockOut spot) where
-  pub keyed_makes : KeyNode k → length (chars (written k)) ≤ 1023
+  pub keyed_makes : KeyNode k → length leaves ≡ length (leaves_of k) → length (chars (written k)) ≤ 1023
       → EntryMakes false column (max (tall k) (tall v)) (PairMeant k v) (behind_key (key_head column (written k ++ colon_behind k) items leaves blank) o below rs)
-  keyed_makes n l = record { starts = behind_begins column (written k ++ colon_behind k) items leaves blank o below rs; made = made } where
+  keyed_makes n count l = record { starts = behind_begins column (written k ++ colon_behind k) items leaves blank o below rs; made = made } where
     made : {t : List ℕ} (ds : List Deco) (r : List ℕ) (q : ℕ) → IsUtf8 t → AreDecos ds → Calm (behind_key (key_head column (written k ++ colon_behind k) items leaves blank) o below rs) ds r
         → Rest t q (inline_then (behind_key (key_head column (written k ++ colon_behind k) items leaves blank) o below rs) ds r)
         → EntryMade false column (max (tall k) (tall v)) (PairMeant k v) t (behind_key (key_head column (written k ++ colon_behind k) items leaves blank) o below rs) ds q r
@@ -207,11 +231,14 @@ module _ {s : Style} {k v : Node} {spot : Spot} {rs : List Row} (column : ℕ) (
           meant = record { key = entering q (Some key.place) (n.node.mean q); value = one.meaning; is = refl; meant_key = meant_entering q (Some key.place) (n.node.meant q); meant_value = one.meant };
           is = texts_both (entering q (Some key.place) (n.node.mean q)) one.meaning
               ∙ (ap (λ z. z ++ texts one.meaning.comments) (texts_entering q (Some key.place) (n.node.mean q) ∙ ap (λ z. texts z) (n.node.silent q)) ∙ one.is);
+          laid = subst (λ z. MeaningLaid q one.place (entering q (Some key.place) (n.node.mean q) ⊕ one.meaning) z) (sym (behind_steps column (written k ++ colon_behind k) items leaves blank o below rs ds))
+              (laid_both (entering q (Some key.place) (n.node.mean q)) one.meaning
+              (laid_entering q (Some key.place) (n.node.mean q) (laid_line leaves (places u key.derived refl) (n.node.meant q) (n.node.silent q) count)) one.laid (omega arith));
         }
 
   -- the key is an empty node
-  pub unkeyed_makes : MeansNothing k → EntryMakes false column (max (tall k) (tall v)) (PairMeant k v) (behind_key (key_head column (58 ∷ []) items leaves blank) o below rs)
-  unkeyed_makes n = record { starts = behind_begins column (58 ∷ []) items leaves blank o below rs; made = made } where
+  pub unkeyed_makes : MeansNothing k → leaves ≡ [] → EntryMakes false column (max (tall k) (tall v)) (PairMeant k v) (behind_key (key_head column (58 ∷ []) items leaves blank) o below rs)
+  unkeyed_makes n none = record { starts = behind_begins column (58 ∷ []) items leaves blank o below rs; made = made } where
     made : {t : List ℕ} (ds : List Deco) (r : List ℕ) (q : ℕ) → IsUtf8 t → AreDecos ds → Calm (behind_key (key_head column (58 ∷ []) items leaves blank) o below rs) ds r
         → Rest t q (inline_then (behind_key (key_head column (58 ∷ []) items leaves blank) o below rs) ds r)
         → EntryMade false column (max (tall k) (tall v)) (PairMeant k v) t (behind_key (key_head column (58 ∷ []) items leaves blank) o below rs) ds q r
@@ -230,4 +257,7 @@ module _ {s : Style} {k v : Node} {spot : Spot} {rs : List Row} (column : ℕ) (
           meant = record { key = entering q (Some q) (empty_node q); value = one.meaning; is = refl; meant_key = meant_entering q (Some q) (n.meant q); meant_value = one.meant };
           is = texts_both (entering q (Some q) (empty_node q)) one.meaning
               ∙ (ap (λ z. z ++ texts one.meaning.comments) (texts_entering q (Some q) (empty_node q) ∙ texts_empty q) ∙ one.is);
+          laid = subst (λ z. MeaningLaid q one.place (entering q (Some q) (empty_node q) ⊕ one.meaning) z)
+              (ap (λ z. leaf_steps z ++ steps_behind o below rs ds) (sym none) ∙ sym (behind_steps column (58 ∷ []) items leaves blank o below rs ds))
+              (laid_both {k = q} (entering q (Some q) (empty_node q)) one.meaning (laid_entering q (Some q) (empty_node q) (laid_empty q (omega arith))) one.laid (omega arith));
         }

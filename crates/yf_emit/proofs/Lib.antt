@@ -90,6 +90,8 @@ pub mod RowsUtf8
 pub mod GapsFit
 pub mod BlockTexts
 pub mod NodePlaces
+pub mod StepsStand
+pub mod LaidRows
 pub mod NodesMade
 pub mod ScalarsMade
 pub mod EntriesMade
@@ -122,6 +124,9 @@ pub mod FormatTrails
 pub mod FormatsRead
 pub mod GapPasses
 pub mod HighBytes
+pub mod StartsBefore
+pub mod FoundAgain
+pub mod PrintedSteps
 pub mod KeyTrails
 pub mod KeysBegin
 pub mod LayoutHolds

@@ -1,6 +1,6 @@
 -- What it means that the rows of a node, wherever they stand with what they carry, are derived as that node; leaves on one line, and nodes
 -- after a sign.
-use Rattle.std.proofs.Common.{◌≡◌, ℕ, ◌+◌, ◌-◌, ◌<◌, ◌≤◌, ℤ, pos, Bool, true, false, List, [], ◌∷◌, ◌++◌, replicate, refl, sym, ap, ◌∙◌, subst, arith, append_assoc, append-nil, ◌⊎◌, inl, inr}
+use Rattle.std.proofs.Common.{◌≡◌, ℕ, ◌+◌, ◌-◌, ◌<◌, ◌≤◌, ℤ, pos, Bool, true, false, List, [], ◌∷◌, ◌++◌, length, replicate, refl, sym, ap, ◌∙◌, subst, arith, append_assoc, append-nil, ◌⊎◌, inl, inr}
 use Rattle.std.specs.Prelude.{◌≤ℤ◌, ◌+ℤ◌, not, None}
 use Rattle.std.specs.Str.{IsUtf8}
 use Rattle.yf_chars.specs.declared.context.Ctx.{Ctx}
@@ -10,14 +10,16 @@ use Rattle.yf_lines.specs.Basic.{is_block, LineStart}
 use Rattle.yf_lines.proofs.RestLemmas.{Rest, rest_ascii, rest_spaces, rest_text}
 use Rattle.yf_comments.proofs.GapLinesLemmas.{texts}
 use Rattle.yf_block_scalar.specs.Body.{base}
-use Rattle.yf_events.specs.Tree.{Node, is_sequence}
+use Rattle.yf_events.specs.Tree.{Node, leaves, is_sequence}
 use Rattle.yf_grammar.specs.Grammar.{Derives, BlockIndented, least_column}
 use Rattle.yf_grammar.specs.Grammar.Derives.{flow_node, nothing_indented}
 use Rattle.yf_grammar.specs.Meaning.{Meaning, noting, empty_node}
 use Rattle.yf_grammar.specs.Meant.{Meant, tall}
+use Rattle.yf_grammar.proofs.CommentOrder.{end_ascends}
 use Rattle.yf_grammar.proofs.FlowBack.{visible_at}
 use Rattle.yf_grammar.proofs.LeafBack.{any_follow}
 use Rattle.yf_grammar.proofs.MeantLemmas.{meant_noting, texts_noting, texts_empty}
+use Rattle.yf_grammar.proofs.PlacesDerived.{places}
 use Rattle.yf_emit.specs.declared.style.Style.{Style}
 use Rattle.yf_emit.specs.Carried.{AreDecos, carried_texts, comments_in, Calm}
 use Rattle.yf_emit.specs.Decorated.{Deco, first, after, trails_then, end_then, lines_then, inline_then}
@@ -25,8 +27,11 @@ use Rattle.yf_emit.specs.Fits.{LineNode}
 use Rattle.yf_emit.specs.Normal.{Spot}
 use Rattle.yf_emit.specs.OneLine.{written}
 use Rattle.yf_emit.specs.Rows.{Row, anywhere, joined, begins_below}
+use Rattle.yf_emit.specs.Steps.{steps_in}
+use Rattle.yf_emit.proofs.LaidRows.{laid_row, laid_line}
 use Rattle.yf_emit.proofs.NodePlaces.{NodeAt, leaf_at, behind_sign_at}
 use Rattle.yf_emit.proofs.RowEnds.{row_end, end_follows, first_deco}
+use Rattle.yf_emit.proofs.StepsStand.{MeaningLaid, laid_after, laid_empty}
 
 -- where a node stands in its block: in a block context, its entries at a column at which they may stand, and the lines of a block scalar
 -- so many columns right of the indentation around it
@@ -46,6 +51,7 @@ pub record NodeMade (t : List ℕ) (n : ℤ) (c : Ctx) (m : ℕ) (x : Node) (rs 
   pub start : LineStart t place
   pub meant : Meant x meaning
   pub is : texts meaning.comments ≡ comments_in rs ds
+  pub laid : MeaningLaid q place meaning (steps_in rs ds)
 
 pub record Makes (s : Style) (x : Node) (spot : Spot) (rs : List Row) : Type 0 where
   pub made : {t : List ℕ} (n : ℤ) (c : Ctx) (ds : List Deco) (r : List ℕ) (q : ℕ) → IsUtf8 t → Stood s x n c spot → AreDecos ds → Calm rs ds r
@@ -63,9 +69,9 @@ pub data Claim (s : Style) (x : Node) (spot : Spot) : List Row → Type 0 where
 -- A leaf or a flow collection on one line.
 
 pub line_made : {t : List ℕ} {s : Style} {x : Node} {r : Row} (spot : Spot) (n : ℤ) (c : Ctx) (ds : List Deco) (z : List ℕ) (q : ℕ) → begins_below x ≡ false
-    → r.text ≡ written x → r.body ≡ [] → LineNode FlowOut x → IsUtf8 t → Stood s x n c spot → AreDecos ds → Rest t q (inline_then (r ∷ []) ds z)
+    → r.text ≡ written x → r.body ≡ [] → length r.leaves ≡ length (leaves x) → LineNode FlowOut x → IsUtf8 t → Stood s x n c spot → AreDecos ds → Rest t q (inline_then (r ∷ []) ds z)
     → NodeMade t n c spot.entries x (r ∷ []) ds q z
-line_made {t} {s} {x} {r} spot n c ds z q b text body node u stood a w =
+line_made {t} {s} {x} {r} spot n c ds z q b text body count node u stood a w =
     let there : Rest t q (written x ++ end_then (first ds) [] z) =
     subst (λ l. Rest t q (written x ++ end_then (first ds) l z)) body (subst (λ v. Rest t q (v ++ end_then (first ds) r.body z)) text w) in
     let derived = node.back.made (n +ℤ pos 1) q (end_then (first ds) [] z) u (any_follow node.colon (end_follows (first ds) [] z)) there in
@@ -82,6 +88,7 @@ line_made {t} {s} {x} {r} spot n c ds z q b text body node u stood a w =
       start = end.start;
       meant = meant_noting end.comments (node.meant q);
       is = texts_noting (node.mean q) end.comments ∙ (ap (λ k. texts k ++ texts end.comments) (node.silent q) ∙ (end.is ∙ sym (append-nil (carried_texts (first ds)))));
+      laid = laid_row (node.mean q) end.comments r.leaves (laid_line r.leaves (places u derived refl) (node.meant q) (node.silent q) count) (end_ascends end.end) end.is;
     }
 
 -- After a sign.
@@ -102,6 +109,7 @@ pub record SignMade (t : List ℕ) (a : ℕ) (c : Ctx) (sign : ℕ) (x : Node) (
   pub start : LineStart t place
   pub meant : Meant x meaning
   pub is : texts meaning.comments ≡ comments_in rs ds
+  pub laid : MeaningLaid q place meaning (steps_in rs ds)
 
 end_code : {t : List ℕ} {q : ℕ} (xs : List (List ℕ)) (r : List ℕ) → IsUtf8 t → Rest t q (trails_then xs (10 ∷ r)) → (code t q ≡ 32) ⊎ (code t q ≡ 10)
 end_code [] r u s = inr (rest_ascii 10 u (omega arith) (λ e. absurd (omega arith)) s).0.char
@@ -126,6 +134,7 @@ sign_made {t} {s} {x} {spot} a sign column items blank c ds r q low high wide (n
       start = end.start;
       meant = meant_noting end.comments (m.meant (q + 1));
       is = texts_noting (empty_node (q + 1)) end.comments ∙ (ap (λ z. z ++ texts end.comments) (texts_empty (q + 1)) ∙ (end.is ∙ sym (append-nil (carried_texts (first ds)))));
+      laid = laid_row (empty_node (q + 1)) end.comments [] (laid_empty (q + 1) (omega arith)) (end_ascends end.end) end.is;
     }
 sign_made {t} {s} {x} {spot} a sign column items blank c ds r q low high wide (some_rows {r = y} {rs = ys} f g m) e u stood k calm w =
     let n : ℕ = s.indent - 1 in
@@ -147,4 +156,5 @@ sign_made {t} {s} {x} {spot} a sign column items blank c ds r q low high wide (s
       start = node.start;
       meant = node.meant;
       is = node.is;
+      laid = laid_after (omega arith) node.laid;
     }

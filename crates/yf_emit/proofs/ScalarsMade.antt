@@ -24,12 +24,14 @@ use Rattle.yf_events.specs.Alike.{alike_scalars}
 use Rattle.yf_events.specs.Event.{scalar_node}
 use Rattle.yf_events.specs.declared.event.ScalarStyle.{ScalarStyle}
 use Rattle.yf_events.specs.declared.event.ScalarStyle.TheVariants.{Plain, Single, Double, Literal, Folded}
-use Rattle.yf_events.specs.Tree.{Standing, scalar}
+use Rattle.yf_events.specs.declared.event.Span.{Span}
+use Rattle.yf_events.specs.Tree.{Standing, scalar, spans_of_leaf}
 use Rattle.yf_grammar.specs.BlockScalar.{style_of}
 use Rattle.yf_grammar.specs.Grammar.{Derives, BlockNode}
 use Rattle.yf_grammar.specs.Grammar.Derives.{a_block_scalar, a_block_scalar_with}
 use Rattle.yf_grammar.specs.Meaning.{Meaning, behind, first_with, with_props, from_to}
 use Rattle.yf_grammar.specs.Meant.{Meant}
+use Rattle.yf_grammar.proofs.CommentOrder.{scalar_ascends}
 use Rattle.yf_grammar.proofs.FlowBack.{visible_line}
 use Rattle.yf_grammar.proofs.LeafBack.{behind_nothing, propertied}
 use Rattle.yf_grammar.proofs.MeantLemmas.{texts_with_props}
@@ -44,12 +46,14 @@ use Rattle.yf_emit.specs.Layout.{may_be_blank_behind}
 use Rattle.yf_emit.specs.Normal.{Setting, Spot}
 use Rattle.yf_emit.specs.OneLine.{spaced, props_text}
 use Rattle.yf_emit.specs.Rows.{Row, Ending, block_scalar, tail_ending, is_empty_text, rows}
+use Rattle.yf_emit.specs.Steps.{a_leaf, leaf_steps, comment_steps, steps_in}
 use Rattle.yf_emit.proofs.BlockTexts.{style_written, digit_written, sign_written, line_written}
 use Rattle.yf_emit.proofs.ClearRows.{unmarked_first, unmarked_nothing, line_indented, AreBodyTexts, no_body_text, body_text, place_of_rest}
 use Rattle.yf_emit.proofs.CollectionsMade.{same_props, some_props}
 use Rattle.yf_emit.proofs.NodePlaces.{apart_at, both_behind, block_no_key}
 use Rattle.yf_emit.proofs.NodesMade.{Stood, NodeMade, Claim, some_rows}
 use Rattle.yf_emit.proofs.RowEnds.{trails_at, first_deco}
+use Rattle.yf_emit.proofs.StepsStand.{MeaningLaid, laid_scalar, laid_scalar_with}
 
 -- The bytes are those of yf_block_scalar.
 
@@ -257,11 +261,19 @@ pub header_with : {p : PropsValue} (style : ScalarStyle) (indent : ℕ) (text : 
 header_with {p} style indent text k n =
     ap (λ z. spaced z (header_text style indent text)) (same_props k) ∙ spaced_some (props_bytes p) (header_text style indent text) (some_props k n) (header_some style indent text)
 
+one_leaf : (o : Option Span) → is_some o ≡ true → leaf_steps (spans_of_leaf o) ≡ a_leaf ∷ []
+one_leaf None e = absurd (true≢false (sym e))
+one_leaf (Some s) e = refl
+
+scalar_steps : (row : Row) (ds : List Deco) → leaf_steps row.leaves ≡ a_leaf ∷ [] → a_leaf ∷ comment_steps (carried_texts (first ds)) ≡ steps_in (row ∷ []) ds
+scalar_steps row ds e =
+    ap (λ z. a_leaf ∷ z) (sym (append-nil (comment_steps (carried_texts (first ds))))) ∙ ap (λ z. z ++ (comment_steps (carried_texts (first ds)) ++ [])) (sym e)
+
 module _ {s : Style} {at : Standing} {style : ScalarStyle} {text : List ℕ} {lines : List (List ℕ)} (placed_at : is_some at.span ≡ true) (f : FitScalar style text lines) where
   bare_made : {t : List ℕ} (row : Row) (spot : Spot) (n : ℤ) (c : Ctx) (ds : List Deco) (r : List ℕ) (q : ℕ) → row.text ≡ header_text style s.indent text → row.body ≡ block_lines style spot.lines text lines
-      → IsUtf8 t → Stood s (scalar at no_props style text lines) n c spot → AreDecos ds → CalmBody (block_lines style spot.lines text lines) spot.lines (tail_ending (is_kept_tail (final_feeds text))) (first ds).gap r
+      → leaf_steps row.leaves ≡ a_leaf ∷ [] → IsUtf8 t → Stood s (scalar at no_props style text lines) n c spot → AreDecos ds → CalmBody (block_lines style spot.lines text lines) spot.lines (tail_ending (is_kept_tail (final_feeds text))) (first ds).gap r
       → Rest t q (inline_then (row ∷ []) ds r) → NodeMade t n c spot.entries (scalar at no_props style text lines) (row ∷ []) ds q r
-  bare_made {t} row spot n c ds r q said body u stood a calm w =
+  bare_made {t} row spot n c ds r q said body leaf u stood a calm w =
       let there : Rest t q (header_text style s.indent text ++ end_then (first ds) (block_lines style spot.lines text lines) r) =
       subst (λ z. Rest t q (header_text style s.indent text ++ end_then (first ds) z r)) body (subst (λ z. Rest t q (z ++ end_then (first ds) row.body r)) said w) in
       let node = scalar_at s.indent n spot.lines (first ds) r q f s.indent_from s.indent_to stood.lines u (first_deco a) calm there in
@@ -278,16 +290,17 @@ module _ {s : Style} {at : Standing} {style : ScalarStyle} {text : List ℕ} {li
         start = subst (λ j. LineStart t j) (place_of_rest begun.rest node.rest) begun.start;
         meant = bare_meant s.indent q node.meaning placed_at f node.events node.escapes;
         is = node.is ∙ sym (append-nil (carried_texts (first ds)));
+        laid = subst (λ z. MeaningLaid q node.place node.meaning z) (scalar_steps row ds leaf) (laid_scalar q node.meaning.finish (omega arith) node.events (scalar_ascends node.derived) node.is);
       }
     where
       above_zero : (n : ℤ) {k : ℕ} → k ≡ base n + s.indent → 0 < k
       above_zero n e = let wide : 2 ≤ s.indent = s.indent_from in omega (arith, wide, e)
 
   props_made : {t : List ℕ} {p : PropsValue} (row : Row) (spot : Spot) (n : ℤ) (c : Ctx) (ds : List Deco) (r : List ℕ) (q : ℕ) → IsProps p → p ≢ no_props → row.text ≡ props_bytes p ++ (32 ∷ header_text style s.indent text)
-      → row.body ≡ block_lines style spot.lines text lines → IsUtf8 t → Stood s (scalar at p style text lines) n c spot → AreDecos ds
+      → row.body ≡ block_lines style spot.lines text lines → leaf_steps row.leaves ≡ a_leaf ∷ [] → IsUtf8 t → Stood s (scalar at p style text lines) n c spot → AreDecos ds
       → CalmBody (block_lines style spot.lines text lines) spot.lines (tail_ending (is_kept_tail (final_feeds text))) (first ds).gap r
       → Rest t q (inline_then (row ∷ []) ds r) → NodeMade t n c spot.entries (scalar at p style text lines) (row ∷ []) ds q r
-  props_made {t} {p} row spot n c ds r q props some said body u stood a calm w =
+  props_made {t} {p} row spot n c ds r q props some said body leaf u stood a calm w =
       let z : List ℕ = end_then (first ds) (block_lines style spot.lines text lines) r in
       let there : Rest t q (props_bytes p ++ (32 ∷ (header_text style s.indent text ++ z))) =
       subst (λ v. Rest t q v) (append_assoc (props_bytes p) (32 ∷ header_text style s.indent text) z)
@@ -311,6 +324,8 @@ module _ {s : Style} {at : Standing} {style : ScalarStyle} {text : List ℕ} {li
         start = subst (λ j. LineStart t j) (place_of_rest begun.rest node.rest) begun.start;
         meant = props_meant s.indent i q g p o node.meaning placed_at f node.events node.escapes;
         is = texts_with_props p o q g node.meaning ∙ (node.is ∙ sym (append-nil (carried_texts (first ds))));
+        laid = subst (λ z. MeaningLaid q node.place (with_props p o q g node.meaning) z) (scalar_steps row ds leaf)
+            (laid_scalar_with p o q g i node.meaning.finish node.meaning (omega arith) node.events (scalar_ascends node.derived) node.is);
       }
     where
       above_zero : (n : ℤ) {k : ℕ} → k ≡ base n + s.indent → 0 < k
@@ -318,11 +333,11 @@ module _ {s : Style} {at : Standing} {style : ScalarStyle} {text : List ℕ} {li
 
   block_claim : {p : PropsValue} (spot : Spot) → FitProps p → Claim s (scalar at p style text lines) spot (block_scalar s spot (scalar at p style text lines) p style text lines)
   block_claim spot no_fit_props =
-      some_rows (λ z. refl) (λ z. absurd (true≢false (sym z))) (record { made = λ {t} n c ds r q u stood a calm w. bare_made _ spot n c ds r q refl refl u stood a calm.0 w })
+      some_rows (λ z. refl) (λ z. absurd (true≢false (sym z))) (record { made = λ {t} n c ds r q u stood a calm w. bare_made _ spot n c ds r q refl refl (one_leaf at.span placed_at) u stood a calm.0 w })
   block_claim spot (some_fit_props {p = p} k n) =
       some_rows (λ z. refl) (λ z. absurd (true≢false (sym z))) (record {
         made = λ {t} m c ds r q u stood a calm w.
-            props_made _ spot m c ds r q k n (header_with style s.indent text k n) refl u stood a calm.0 w;
+            props_made _ spot m c ds r q k n (header_with style s.indent text k n) refl (one_leaf at.span placed_at) u stood a calm.0 w;
       })
 
 -- its rows, by its style

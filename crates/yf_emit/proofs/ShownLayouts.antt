@@ -51,6 +51,6 @@ shown_derived : (t : List ℕ) → IsUtf8 t → IsRemark (codes "# top") → IsR
     → StreamMade t (one_document 0) (root small_tree) (codes "# top" ∷ codes "# c" ∷ [])
 unfolding chars is_nb_char is_printable is_between is_break_char encode begins code
 shown_derived t u a b e =
-    layout_derived (record { style = house; comments = [] }) (remark 0 (codes "# top") ∷ []) small_decos (fit_document fit_no_directives small_fits fit_no_documents) u (a, tt)
+    (layout_derived (record { style = house; comments = [] }) (remark 0 (codes "# top") ∷ []) small_decos (fit_document fit_no_directives small_fits fit_no_documents) u (a, tt)
     (one_carried (record { trails = tt; gap = tt }) (one_carried (record { trails = b; gap = tt }) (one_carried (record { trails = tt; gap = tt }) (one_carried (record { trails = tt; gap = tt })
-    (one_carried (record { trails = tt; gap = tt }) nothing_carried))))) (tt, (tt, (tt, (tt, (tt, tt))))) e
+    (one_carried (record { trails = tt; gap = tt }) nothing_carried))))) (tt, (tt, (tt, (tt, (tt, tt))))) e).made

@@ -1,5 +1,5 @@
 -- A stream of documents from its rows.
-use Rattle.std.proofs.Common.{◌≡◌, ℕ, max, ◌<◌, ◌≤◌, Bool, true, false, List, [], ◌∷◌, ◌++◌, length, map, drop, refl, sym, ap, ◌∙◌, subst, arith, append_assoc, length-drop}
+use Rattle.std.proofs.Common.{◌≡◌, ℕ, max, ◌<◌, ◌≤◌, Bool, true, false, List, [], ◌∷◌, ◌++◌, length, map, drop, Option, refl, sym, ap, ◌∙◌, subst, arith, append_assoc, length-drop}
 use Rattle.std.specs.Str.{IsUtf8}
 use Rattle.yf_chars.specs.Chain.{Chain}
 use Rattle.yf_chars.specs.Chain.Chain.{done, step}
@@ -9,11 +9,16 @@ use Rattle.yf_comments.specs.Comment.{CommentValue}
 use Rattle.yf_comments.specs.Comments.{CommentLine}
 use Rattle.yf_comments.specs.GapLines.{AreGapLines, remarks_of}
 use Rattle.yf_comments.proofs.GapLinesLemmas.{texts, texts_append, gap_at}
+use Rattle.yf_comments.proofs.LineEndLemmas.{lines_rows}
+use Rattle.yf_events.specs.Event.{Placed, document_ends}
+use Rattle.yf_events.specs.Reading.{leaf_starts}
 use Rattle.yf_events.specs.declared.directive.Directive.{Directive}
 use Rattle.yf_events.specs.declared.document.Doc.{Doc}
-use Rattle.yf_events.specs.Tree.{DocumentTree}
+use Rattle.yf_events.specs.Tree.{DocumentTree, unplaced}
 use Rattle.yf_grammar.specs.Meaning.{Meaning}
 use Rattle.yf_grammar.specs.Meant.{Meant, tall}
+use Rattle.yf_grammar.proofs.CommentOrder.{end_ascends, rows_ascend}
+use Rattle.yf_stream.specs.ReadingOf.{DocumentEvents, no_document, one_document}
 use Rattle.yf_stream.specs.Stream.{Document, document_of, Documents, only_comments, with_document, with_comments, AnyDocument, Prefixes, StreamRest}
 use Rattle.yf_stream.specs.Stream.AnyDocument.{explicit_document, directive_document}
 use Rattle.yf_stream.specs.Stream.PrefixPart.{prefix_comment}
@@ -27,10 +32,13 @@ use Rattle.yf_emit.specs.Fits.{Fit}
 use Rattle.yf_emit.specs.LayoutLaws.{StreamMade}
 use Rattle.yf_emit.specs.Normal.{Setting, root_spot}
 use Rattle.yf_emit.specs.Rows.{Row, directive_row, start_row, end_rows, beginning_at, joined_words, rows, document_rows, stream_rows}
+use Rattle.yf_emit.specs.Steps.{Step, comment_steps, steps_in}
 use Rattle.yf_emit.proofs.DecoratedLemmas.{lines_append}
 use Rattle.yf_emit.proofs.DocumentsMade.{ExplicitMade, explicit_made, directives_made, three_at}
+use Rattle.yf_emit.proofs.LaidRows.{steps_append}
 use Rattle.yf_emit.proofs.RowEnds.{row_end, first_deco, after_decos, past_decos, comments_append, calm_append}
 use Rattle.yf_emit.proofs.RowTexts.{row_texts}
+use Rattle.yf_emit.proofs.StepsStand.{Stand, nothing_stands, stand_after, stand_join, comments_stand, MeaningLaid, EventsLaid, events_behind}
 use Rattle.yf_emit.proofs.TreesMade.{node_claim}
 
 -- What is meant.
@@ -57,6 +65,42 @@ same_documents : (cs : List CommentValue) (rest : Documents) → rest.documents 
 unfolding with_comments
 same_documents cs rest = refl
 
+-- What is laid out.
+
+laid_document : {i j : ℕ} {m : Meaning} {a : List Step} (s : ℕ) (dirs : List Directive) → MeaningLaid i j m a → EventsLaid i j (document_of s true dirs m).events m.comments a
+unfolding document_of
+laid_document s dirs x = record { starts = x.starts; are = x.are; stand = x.stand }
+
+-- documents, whose events are those of a reading
+pub record DocumentsLaid (i j : ℕ) (x : Documents) (steps : List Step) : Type 0 where
+  pub starts : List ℕ
+  pub are : {u : List ℕ} {es : List Placed} {tags : List (Option (List ℕ))} (rest : List Placed) → DocumentEvents u x.documents es tags → leaf_starts (es ++ rest) ≡ starts ++ leaf_starts rest
+  pub stand : Stand i starts x.comments steps j
+
+no_starts : {u : List ℕ} {es : List Placed} {tags : List (Option (List ℕ))} (rest : List Placed) → DocumentEvents u [] es tags → leaf_starts (es ++ rest) ≡ leaf_starts rest
+no_starts rest no_document = refl
+
+no_documents_laid : {i j : ℕ} → i ≤ j → DocumentsLaid i j (only_comments []) []
+no_documents_laid l = record { starts = []; are = λ rest d. no_starts rest d; stand = nothing_stands l }
+
+laid_with_comments : {i k j : ℕ} {x : Documents} {a b : List Step} (cs : List CommentValue) → Stand i [] cs a k → DocumentsLaid k j x b → DocumentsLaid i j (with_comments cs x) (a ++ b)
+unfolding with_comments
+laid_with_comments cs c x = record { starts = x.starts; are = x.are; stand = stand_join c x.stand }
+
+-- the events of one more document
+more_starts : {u : List ℕ} {d : Document} {ds : List Document} {es : List Placed} {tags : List (Option (List ℕ))} (xs ys : List ℕ) (rest : List Placed)
+    → ((more : List Placed) → leaf_starts (d.events ++ more) ≡ xs ++ leaf_starts more)
+    → ((fs : List Placed) (others : List (Option (List ℕ))) → DocumentEvents u ds fs others → leaf_starts (fs ++ rest) ≡ ys ++ leaf_starts rest) → DocumentEvents u (d ∷ ds) es tags
+    → leaf_starts (es ++ rest) ≡ (xs ++ ys) ++ leaf_starts rest
+more_starts xs ys rest f g (one_document {d = d} {x = x} {closed = closed} tags end marked others) =
+    let last : Placed = unplaced (document_ends closed) in
+    ap leaf_starts (append_assoc d.events (last ∷ x) rest) ∙ (f (last ∷ (x ++ rest)) ∙ (ap (λ z. xs ++ z) (g _ _ others) ∙ sym (append_assoc xs ys (leaf_starts rest))))
+
+documents_laid : {i k j : ℕ} (d : Document) {cs : List CommentValue} {rest : Documents} {a b : List Step} → EventsLaid i k d.events cs a → DocumentsLaid k j rest b
+    → DocumentsLaid i j (with_document cs d rest) (a ++ b)
+unfolding with_document
+documents_laid d x y = record { starts = x.starts ++ y.starts; are = λ rest e. more_starts x.starts y.starts rest x.are (λ fs others z. y.are rest z) e; stand = stand_join x.stand y.stand }
+
 -- Rows of directives, and of the node after them.
 
 pub record AnyMade (t : List ℕ) (d : Doc) (x : DocumentTree) (rs : List Row) (ds : List Deco) (q : ℕ) (r : List ℕ) : Type 0 where
@@ -69,6 +113,7 @@ pub record AnyMade (t : List ℕ) (d : Doc) (x : DocumentTree) (rs : List Row) (
   pub rest : Rest t place r
   pub meant : DocumentMeant d x document
   pub is : texts comments ≡ comments_in rs ds
+  pub laid : EventsLaid q place document.events comments (steps_in rs ds)
 
 abbrev root_rows : Setting → DocumentTree → List Row
 root_rows c x = rows c (root_spot c.style) x.root
@@ -76,23 +121,23 @@ root_rows c x = rows c (root_spot c.style) x.root
 root_deep : (c : Setting) → 0 < c.style.indent
 root_deep c = let wide : 2 ≤ c.style.indent = c.style.indent_from in omega (arith, wide)
 
-explicit_at : {t : List ℕ} (c : Setting) (x : DocumentTree) (row : Row) (ds : List Deco) (r : List ℕ) (q : ℕ) → Fit x.root → IsUtf8 t → AreDecos ds → Calm (root_rows c x) (after ds) r
+explicit_at : {t : List ℕ} (c : Setting) (x : DocumentTree) (row : Row) (ds : List Deco) (r : List ℕ) (q : ℕ) → row.leaves ≡ [] → Fit x.root → IsUtf8 t → AreDecos ds → Calm (root_rows c x) (after ds) r
     → Rest t q (45 ∷ 45 ∷ 45 ∷ end_then (first ds) [] (lines_then (root_rows c x) (after ds) r)) → ExplicitMade t x.root (row ∷ root_rows c x) ds q r
-explicit_at c x row ds r q fit u a k w = explicit_made row ds r q (node_claim c (root_spot c.style) fit) (row_texts c (root_spot c.style) (root_deep c) fit) u a k w
+explicit_at c x row ds r q none fit u a k w = explicit_made row ds r q none (node_claim c (root_spot c.style) fit) (row_texts c (root_spot c.style) (root_deep c) fit) u a k w
 
 -- where the first row is given, of any items
-directed : {t : List ℕ} (c : Setting) {d : Doc} (x : DocumentTree) {e : Directive} {es : List Directive} (row : Row) (ds : List Deco) (r : List ℕ) (q : ℕ) → d.directives ≡ e ∷ es
+directed : {t : List ℕ} (c : Setting) {d : Doc} (x : DocumentTree) {e : Directive} {es : List Directive} (row : Row) (ds : List Deco) (r : List ℕ) (q : ℕ) → row.leaves ≡ [] → d.directives ≡ e ∷ es
     → FitDirective e.words → FitDirectives es → Fit x.root → IsUtf8 t → AreDecos ds → Calm ((row ∷ map directive_row es) ++ (start_row ∷ root_rows c x)) ds r
     → Rest t q (37 ∷ (joined_words e.words ++ end_then (first ds) [] (lines_then (map directive_row es ++ (start_row ∷ root_rows c x)) (after ds) r)))
     → AnyMade t d x ((row ∷ map directive_row es) ++ (start_row ∷ root_rows c x)) ds q r
-directed {t} c {d} x {e} {es} row ds r q same f fs fit u a k w =
+directed {t} c {d} x {e} {es} row ds r q none same f fs fit u a k w =
     let tree : List Row = root_rows c x in
     let z : List ℕ = lines_then (start_row ∷ tree) (past (map directive_row es) (after ds)) r in
     let there : Rest t q (37 ∷ (joined_words e.words ++ end_then (first ds) [] (lines_then (map directive_row es) (after ds) z))) =
     subst (λ v. Rest t q (37 ∷ (joined_words e.words ++ end_then (first ds) [] v))) (lines_append (map directive_row es) (start_row ∷ tree) (after ds) r) w in
-    let one = directives_made {d = e} {dirs = es} row ds z q f fs u a there in
+    let one = directives_made {d = e} {dirs = es} row ds z q none f fs u a there in
     let ks = calm_append (row ∷ map directive_row es) (start_row ∷ tree) ds r k in
-    let node = explicit_at c x start_row (past (map directive_row es) (after ds)) r one.place fit u (past_decos (row ∷ map directive_row es) a) ks.1.1 one.rest in
+    let node = explicit_at c x start_row (past (map directive_row es) (after ds)) r one.place refl fit u (past_decos (row ∷ map directive_row es) a) ks.1.1 one.rest in
     record {
       height = node.height;
       place = node.place;
@@ -104,6 +149,8 @@ directed {t} c {d} x {e} {es} row ds r q same f fs fit u a k w =
       meant = meant_document one.place one.meaning.directives (one.words ∙ ap (λ z. map (λ (e : Directive). e.words) z) (sym same)) node.meant;
       is = texts_append one.meaning.comments node.meaning.comments ∙ (ap (λ z. z ++ texts node.meaning.comments) one.is
           ∙ (ap (λ z. comments_in (row ∷ map directive_row es) ds ++ z) node.is ∙ sym (comments_append (row ∷ map directive_row es) (start_row ∷ tree) ds)));
+      laid = subst (λ z. EventsLaid q node.place (document_of one.place true one.meaning.directives node.meaning).events (one.meaning.comments ++ node.meaning.comments) z)
+          (sym (steps_append (row ∷ map directive_row es) (start_row ∷ tree) ds)) (events_behind one.stand (laid_document one.place one.meaning.directives node.laid));
     }
 
 -- the rows of a document, by its directives
@@ -118,7 +165,7 @@ beside_tree row es tree = append_assoc (row ∷ map directive_row es) (start_row
 first_with : {t : List ℕ} (c : Setting) {d : Doc} (x : DocumentTree) (start : ℕ) (dirs : List Directive) (ds : List Deco) (r : List ℕ) (q : ℕ) → d.directives ≡ dirs → FitDirectives dirs → Fit x.root → IsUtf8 t → AreDecos ds
     → Calm (head_rows true start dirs ++ root_rows c x) ds r → Rest t q (lines_then (head_rows true start dirs ++ root_rows c x) ds r) → AnyMade t d x (head_rows true start dirs ++ root_rows c x) ds q r
 first_with {t} c {d} x start [] ds r q same f fit u a k w =
-    let node = explicit_at c x (record start_row { items = start ∷ [] }) ds r q fit u a k.1 w in
+    let node = explicit_at c x (record start_row { items = start ∷ [] }) ds r q refl fit u a k.1 w in
     record {
       height = node.height;
       place = node.place;
@@ -129,12 +176,13 @@ first_with {t} c {d} x start [] ds r q same f fit u a k w =
       rest = node.rest;
       meant = meant_document q [] (ap (λ z. map (λ (e : Directive). e.words) z) (sym same)) node.meant;
       is = node.is;
+      laid = laid_document q [] node.laid;
     }
 first_with {t} c {d} x start (e ∷ es) ds r q same (fit_directive f fs) fit u a k w =
     let row : Row = record (directive_row e) { items = start ∷ [] } in
     let shape = beside_tree row es (root_rows c x) in
     subst (λ z. AnyMade t d x z ds q r) (sym shape)
-    (directed c x {e = e} row ds r q same f fs fit u a (subst (λ z. Calm z ds r) shape k) (subst (λ z. Rest t q (lines_then z ds r)) shape w))
+    (directed c x {e = e} row ds r q refl same f fs fit u a (subst (λ z. Calm z ds r) shape k) (subst (λ z. Rest t q (lines_then z ds r)) shape w))
 
 -- Later documents, each with what stands after it.
 
@@ -148,11 +196,12 @@ record StepMade (t : List ℕ) (d : Doc) (x : DocumentTree) (rs : List Row) (ds 
   pub rest : Rest t place r
   pub meant : DocumentMeant d x document
   pub is : texts comments ≡ comments_in rs ds
+  pub laid : EventsLaid q place document.events comments (steps_in rs ds)
 
 step_with : {t : List ℕ} (c : Setting) {d : Doc} (x : DocumentTree) (start : ℕ) (dirs : List Directive) (ds : List Deco) (r : List ℕ) (q : ℕ) → d.directives ≡ dirs → FitDirectives dirs → Fit x.root → IsUtf8 t → AreDecos ds
     → Calm (head_rows false start dirs ++ root_rows c x) ds r → Rest t q (lines_then (head_rows false start dirs ++ root_rows c x) ds r) → StepMade t d x (head_rows false start dirs ++ root_rows c x) ds q r
 step_with {t} c {d} x start [] ds r q same f fit u a k w =
-    let node = explicit_at c x (record start_row { items = start ∷ [] }) ds r q fit u a k.1 w in
+    let node = explicit_at c x (record start_row { items = start ∷ [] }) ds r q refl fit u a k.1 w in
     record {
       height = node.height;
       place = node.place;
@@ -163,13 +212,14 @@ step_with {t} c {d} x start [] ds r q same f fit u a k w =
       rest = node.rest;
       meant = meant_document q [] (ap (λ z. map (λ (e : Directive). e.words) z) (sym same)) node.meant;
       is = node.is;
+      laid = laid_document q [] node.laid;
     }
 step_with {t} c {d} x start (e ∷ es) ds r q same (fit_directive f fs) fit u a k w =
     let row : Row = directive_row e in
     let shape = beside_tree row es (root_rows c x) in
     let mark = three_at 46 u (omega arith) (omega arith) w in
     let end = row_end (first ds) (lines_then (((row ∷ map directive_row es) ++ (start_row ∷ [])) ++ root_rows c x) (after ds) r) u (first_deco a) mark.1 in
-    let made = directed c {d = d} x {e = e} row (after ds) r end.place same f fs fit u (after_decos a) (subst (λ z. Calm z (after ds) r) shape k.1)
+    let made = directed c {d = d} x {e = e} row (after ds) r end.place refl same f fs fit u (after_decos a) (subst (λ z. Calm z (after ds) r) shape k.1)
     (subst (λ z. Rest t end.place (lines_then z (after ds) r)) shape end.rest) in
     record {
       height = made.height;
@@ -182,6 +232,8 @@ step_with {t} c {d} x start (e ∷ es) ds r q same (fit_directive f fs) fit u a 
       meant = made.meant;
       is = texts_append end.comments made.comments ∙ (ap (λ z. z ++ texts made.comments) end.is
           ∙ ap (λ z. carried_texts (first ds) ++ z) (made.is ∙ ap (λ z. comments_in z (after ds)) (sym shape)));
+      laid = events_behind (stand_after (omega arith) (comments_stand (end_ascends end.end) end.is))
+          (subst (λ z. EventsLaid end.place made.place made.document.events made.comments (steps_in z (after ds))) (sym shape) made.laid);
     }
 
 -- The rest of a stream.
@@ -193,6 +245,7 @@ pub record RestMade (t : List ℕ) (ds : List Doc) (xs : List DocumentTree) (rs 
   pub low : height ≤ tall_documents xs
   pub meant : DocumentsMeant ds xs documents.documents
   pub is : texts documents.comments ≡ comments_in rs decos
+  pub laid : DocumentsLaid q (length t) documents (steps_in rs decos)
 
 ended_at : {t : List ℕ} {q : ℕ} → Rest t q [] → q ≡ length t
 ended_at {t} {q} s =
@@ -208,6 +261,7 @@ rest_made {t} c fit_no_documents decos q u a k w = record {
   low = omega arith;
   meant = no_documents_meant;
   is = refl;
+  laid = no_documents_laid (let end : q ≡ length t = ended_at w in omega (arith, end));
 }
 rest_made {t} c (fit_document {d = d} {ds = ds} {x = x} {xs = xs} f fit more) decos q u a k w =
     let head : List Row = document_rows c false d x in
@@ -226,6 +280,7 @@ rest_made {t} c (fit_document {d = d} {ds = ds} {x = x} {xs = xs} f fit more) de
       meant = documents_with last.documents one.comments one.meant last.meant;
       is = texts_with_document one.comments one.document last.documents ∙ (ap (λ z. z ++ texts last.documents.comments) one.is
           ∙ (ap (λ z. comments_in head decos ++ z) last.is ∙ sym (comments_append head others decos)));
+      laid = subst (λ z. DocumentsLaid q (length t) (with_document one.comments one.document last.documents) z) (sym (steps_append head others decos)) (documents_laid one.document one.laid last.laid);
     }
 
 -- Whole streams.
@@ -234,19 +289,28 @@ prefixes_of : {t : List ℕ} {i j : ℕ} {cs : List CommentValue} → Chain (Com
 prefixes_of done = done
 prefixes_of (step a more) = step (prefix_comment a) (prefixes_of more)
 
+-- what is derived of the whole text, and its leaves and comments in the order of steps
+pub record StreamLaid (t : List ℕ) (ds : List Doc) (xs : List DocumentTree) (gap : List GapLine) (rs : List Row) (decos : List Deco) : Type 0 where
+  pub made : StreamMade t ds xs (remarks_of gap ++ comments_in rs decos)
+  pub laid : DocumentsLaid 0 (length t) made.documents (comment_steps (remarks_of gap) ++ steps_in rs decos)
+
 stream_made : {t : List ℕ} (c : Setting) {ds : List Doc} {xs : List DocumentTree} (gap : List GapLine) (decos : List Deco) → FitDocuments ds xs → IsUtf8 t → AreGapLines gap → AreDecos decos
     → Calm (stream_rows c true ds xs) decos [] → Rest t 0 (gap_then gap (lines_then (stream_rows c true ds xs) decos []))
-    → StreamMade t ds xs (remarks_of gap ++ comments_in (stream_rows c true ds xs) decos)
+    → StreamLaid t ds xs gap (stream_rows c true ds xs) decos
 stream_made {t} c gap decos fit_no_documents u g a k w =
     let at = gap_at gap [] u g at_text w in
     let rest : StreamRest t 0 at.place (only_comments []) = subst (λ p. StreamRest t 0 p (only_comments [])) (sym (ended_at at.rest)) stream_ended in
+    let end : at.place ≡ length t = ended_at at.rest in
     record {
-      height = 0;
-      documents = with_comments at.comments (only_comments []);
-      derived = without_document (prefixes_of at.lines) rest;
-      low = omega arith;
-      meant = subst (λ z. DocumentsMeant [] [] z) (same_documents at.comments (only_comments [])) no_documents_meant;
-      is = texts_with_comments at.comments (only_comments []) ∙ ap (λ z. z ++ []) at.is;
+      made = record {
+        height = 0;
+        documents = with_comments at.comments (only_comments []);
+        derived = without_document (prefixes_of at.lines) rest;
+        low = omega arith;
+        meant = subst (λ z. DocumentsMeant [] [] z) (same_documents at.comments (only_comments [])) no_documents_meant;
+        is = texts_with_comments at.comments (only_comments []) ∙ ap (λ z. z ++ []) at.is;
+      };
+      laid = laid_with_comments at.comments (comments_stand (rows_ascend (lines_rows at.lines)) at.is) (no_documents_laid (omega (arith, end)));
     }
 stream_made {t} c gap decos (fit_document {d = d} {ds = ds} {x = x} {xs = xs} f fit more) u g a k w =
     let head : List Row = document_rows c true d x in
@@ -259,20 +323,25 @@ stream_made {t} c gap decos (fit_document {d = d} {ds = ds} {x = x} {xs = xs} f 
     let low : one.height ≤ tall x.root = one.low in
     let high : last.height ≤ tall_documents xs = last.low in
     record {
-      height = max one.height last.height;
-      documents = with_document (at.comments ++ one.comments) one.document last.documents;
-      derived = begins_with_document (prefixes_of at.lines) one.derived last.derived;
-      low = omega (arith, low, high);
-      meant = documents_with last.documents (at.comments ++ one.comments) one.meant last.meant;
-      is = texts_with_document (at.comments ++ one.comments) one.document last.documents
-          ∙ (joined_texts at.comments one.comments last.documents.comments at.is one.is last.is ∙ ap (λ z. remarks_of gap ++ z) (sym (comments_append head others decos)));
+      made = record {
+        height = max one.height last.height;
+        documents = with_document (at.comments ++ one.comments) one.document last.documents;
+        derived = begins_with_document (prefixes_of at.lines) one.derived last.derived;
+        low = omega (arith, low, high);
+        meant = documents_with last.documents (at.comments ++ one.comments) one.meant last.meant;
+        is = texts_with_document (at.comments ++ one.comments) one.document last.documents
+            ∙ (joined_texts at.comments one.comments last.documents.comments at.is one.is last.is ∙ ap (λ z. remarks_of gap ++ z) (sym (comments_append head others decos)));
+      };
+      laid = subst (λ z. DocumentsLaid 0 (length t) (with_document (at.comments ++ one.comments) one.document last.documents) z)
+          (append_assoc (comment_steps (remarks_of gap)) (steps_in head decos) (steps_in others (past head decos)) ∙ ap (λ z. comment_steps (remarks_of gap) ++ z) (sym (steps_append head others decos)))
+          (documents_laid one.document (events_behind (comments_stand (rows_ascend (lines_rows at.lines)) at.is) one.laid) last.laid);
     }
   where
     joined_texts : (us vs ws : List CommentValue) {xs ys zs : List (List ℕ)} → texts us ≡ xs → texts vs ≡ ys → texts ws ≡ zs → texts (us ++ vs) ++ texts ws ≡ xs ++ (ys ++ zs)
     joined_texts us vs ws e f g = ap (λ z. z ++ texts ws) (texts_append us vs) ∙ (append_assoc (texts us) (texts vs) (texts ws) ∙ λ n. e n ++ (f n ++ g n))
 
--- what is laid out is derived again
+-- what is laid out is derived again, with its leaves and comments in the order in which they were laid out
 pub layout_derived : {t : List ℕ} (c : Setting) {ds : List Doc} {xs : List DocumentTree} (gap : List GapLine) (decos : List Deco) → FitDocuments ds xs → IsUtf8 t → AreGapLines gap → AreDecos decos
     → Calm (stream_rows c true ds xs) decos [] → t ≡ gap_then gap (lines_then (stream_rows c true ds xs) decos [])
-    → StreamMade t ds xs (remarks_of gap ++ comments_in (stream_rows c true ds xs) decos)
+    → StreamLaid t ds xs gap (stream_rows c true ds xs) decos
 layout_derived {t} c gap decos fit u g a k e = stream_made c gap decos fit u g a k (subst (λ z. Rest t 0 z) e (rest_start t u))

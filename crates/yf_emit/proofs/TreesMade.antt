@@ -1,5 +1,5 @@
 -- The rows of a tree whose one-line nodes read back, wherever they stand with what they carry, are derived as the block node.
-use Rattle.std.proofs.Common.{◌≡◌, ◌≢◌, ℕ, max, ◌+◌, ◌≤◌, pos, Bool, true, false, true≢false, List, [], ◌∷◌, ◌++◌, refl, sym, ap, ◌∙◌, subst, arith}
+use Rattle.std.proofs.Common.{◌≡◌, ◌≢◌, ℕ, max, ◌+◌, ◌≤◌, pos, Bool, true, false, true≢false, List, [], ◌∷◌, ◌++◌, Option, Some, None, refl, sym, ap, ◌∙◌, subst, arith}
 use Rattle.std.specs.Prelude.{not, is_some, ◌&&◌, nat_le, if◌then◌else◌, ◌≤ℤ◌, codes}
 use Rattle.std.proofs.lemmas.Bool.{and_parts}
 use Rattle.std.proofs.lemmas.Bool.Decides.{nat_tests}
@@ -8,7 +8,8 @@ use Rattle.yf_chars.specs.declared.context.Ctx.TheVariants.{FlowOut, BlockIn, Bl
 use Rattle.yf_props.specs.Props.{PropsValue}
 use Rattle.yf_events.specs.declared.event.ScalarStyle.{ScalarStyle}
 use Rattle.yf_events.specs.declared.event.ScalarStyle.TheVariants.{Plain, Single, Double, Literal, Folded}
-use Rattle.yf_events.specs.Tree.{Standing, Node, scalar, alias, sequence, mapping, Items, no_items, item, Pairs, no_pairs, pair, items_in, leaves, entry_start, standing, is_sequence}
+use Rattle.yf_events.specs.declared.event.Span.{Span}
+use Rattle.yf_events.specs.Tree.{Standing, Node, scalar, alias, sequence, mapping, Items, no_items, item, Pairs, no_pairs, pair, items_in, leaves, spans_of_leaf, entry_start, standing, is_sequence}
 use Rattle.yf_grammar.specs.Grammar.{least_column}
 use Rattle.yf_grammar.specs.Meaning.{Meaning}
 use Rattle.yf_grammar.specs.Meant.{Meant, ItemsMeant, PairsMeant, tall, tall_items, tall_pairs}
@@ -53,7 +54,7 @@ line_claim spot [] e some b node = absurd (some refl)
 line_claim {s} {x} spot (a ∷ w) e some b node =
     some_rows (λ z. refl) (λ z. absurd (true≢false (sym z ∙ b))) (record {
       made = λ {t} n c ds r q u stood k calm v.
-          line_made {r = record (plain_row spot.column (a ∷ w)) { items = items_in x; leaves = leaves x }} spot n c ds r q b e refl node u stood k v;
+          line_made {r = record (plain_row spot.column (a ∷ w)) { items = items_in x; leaves = leaves x }} spot n c ds r q b e refl refl node u stood k v;
     })
 
 -- Where values stand.
@@ -97,14 +98,18 @@ block_is_no_key c column at p text lines Double e = absurd (true≢false (sym e)
 block_is_no_key c column at p text lines Literal e = refl
 block_is_no_key c column at p text lines Folded e = refl
 
+no_leaf : (o : Option Span) → is_some o ≡ false → spans_of_leaf o ≡ []
+no_leaf None e = refl
+no_leaf (Some s) e = absurd (true≢false e)
+
 implicit_makes : (c : Setting) (column : ℕ) {k v : Node} → is_implicit c.style column k ≡ true → Fit k → Claim c.style v (value_of_implicit c column k v) (rows c (value_of_implicit c column k v) v)
     → EntryMakes false column (max (tall k) (tall v)) (PairMeant k v) (implicit_pair c column k v (rows c (value_of_implicit c column k v) v))
 implicit_makes c column {k} {v} e (fit_nothing {at = at} f) value =
     unkeyed_makes column (entry_start k ++ items_in k) (leaves k) (blank_before_entry (standing k).entry) (key_comment c.comments k v) (begins_below v) value refl
-    (λ z b. commented_column (is_some (key_comment c.comments k v)) column c.style.indent _ c.style.indent_from z) (value_stood c column k v) (record { meant = λ i. meant_nothing i f refl })
+    (λ z b. commented_column (is_some (key_comment c.comments k v)) column c.style.indent _ c.style.indent_from z) (value_stood c column k v) (record { meant = λ i. meant_nothing i f refl }) (no_leaf at.span f)
 implicit_makes c column {k} {v} e (fit_line inline some node key) value =
     keyed_makes column (entry_start k ++ items_in k) (leaves k) (blank_before_entry (standing k).entry) (key_comment c.comments k v) (begins_below v) value refl
-    (λ z b. commented_column (is_some (key_comment c.comments k v)) column c.style.indent _ c.style.indent_from z) (value_stood c column k v) key
+    (λ z b. commented_column (is_some (key_comment c.comments k v)) column c.style.indent _ c.style.indent_from z) (value_stood c column k v) key refl
     (within_limit (width (written k)) (and_parts (is_one_line_key c.style column k) (nat_le (width (written k)) 1023) e).1)
 implicit_makes c column {k} {v} e (fit_scalar {at = at} {p = p} {style = style} {text = text} {lines = lines} f g h) value =
     absurd (not_implicit c column k (block_is_no_key c column at p text lines style h.block) e)

@@ -36,6 +36,7 @@ pub mod Restyled
 pub mod RowShapes
 pub mod Rows
 pub mod SameComments
+pub mod Steps
 pub mod StillLeaves
 pub mod Textual
 pub mod Trailing

@@ -161,7 +161,7 @@ module _ {t : List ℕ} where
   body_ascends (detected {x = x} e d a b) = ascend_after (taken_forward a) (ascend_noted _ x (trail_ascends b))
   body_ascends (without_content {x = x} e c d b) = ascend_after (chain_forward (bare_functional t) c) (ascend_noted _ x (trail_ascends b))
 
-  scalar_ascends : {n : ℤ} {i j : ℕ} {x : Meaning} → BlockScalar t n i j x → Ascend t i x.comments j
+  pub scalar_ascends : {n : ℤ} {i j : ℕ} {x : Meaning} → BlockScalar t n i j x → Ascend t i x.comments j
   scalar_ascends (block_scalar h b l) = ascend_join (header_ascends h) (body_ascends b)
 
   -- of all productions
