@@ -20,6 +20,7 @@ pub mod Keys
 pub mod Laws
 pub mod LayoutLaws
 pub mod Layout
+pub mod LeafTrails
 pub mod Measures
 pub mod Measuring
 pub mod Normal
@@ -28,6 +29,7 @@ pub mod NormalForm
 pub mod OfText
 pub mod OneLine
 pub mod OneLineRun
+pub mod Packed
 pub mod Printed
 pub mod Printers
 pub mod Printing
