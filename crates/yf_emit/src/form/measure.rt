@@ -119,11 +119,13 @@ fn pass(
             text: content,
         } => {
             let node = scalar(i, span, props, *written, content, style);
-            end_node(list, stack, i, &node)
+            end_node(list, stack, i, &node)?;
+            Ok(())
         }
         Event::Alias { name } => {
             let node = alias(i, name);
-            end_node(list, stack, i, &node)
+            end_node(list, stack, i, &node)?;
+            Ok(())
         }
         Event::SeqStart { flow, props } => {
             stack.push(opened(text, comments, i, span, props, *flow, false))?;
