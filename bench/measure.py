@@ -1,20 +1,29 @@
 #!/usr/bin/env python3
-"""Measures yamlfmt on ordinary configuration text of 1 and 16 MB: processor seconds (user and system), their ratio, the peak of
-memory, and, where valgrind is installed, the instructions a byte on 300 KB.
+"""Measures yamlfmt on text of 1 and 16 MB: processor seconds (user and system), their ratio, the peak of memory, and, where
+valgrind is installed, the instructions a byte on 300 KB.
 
-Usage: bench/measure.py [PROGRAM]     (default: the program that ./yamlfmt builds; build it first)
+Usage: bench/measure.py [--dense | --real FOLDER..] [--program PROGRAM]     (default: the program that ./yamlfmt builds; build it first)
+
+The text is ordinary configuration that is made here; with --dense the line `- a: 1` again and again; with --real the files below the
+folders whose names end in .yaml or .yml, in an order that a fixed seed gives, joined by `---`. Of those are left out: copies, files
+that begin with a directive or a byte order mark, and what this program or fy-tool refuses.
 
 Peers are measured on the same files where they are installed: fy-tool's `--testsuite` output beside `events`, yamllint beside
-`check`, and beside `fmt` another yamlfmt, prettier and ruamel.yaml. Not part of rt ci.
+`check`, and beside `fmt` fy-tool's `--dump`, another yamlfmt, prettier and ruamel.yaml; a run is ended after LIMIT seconds, and all
+but fy-tool are left out with --dense. Not part of rt ci.
 """
+import argparse
 import importlib.util
 import os
+import random
 import re
+import resource
 import shutil
 import subprocess
 import sys
 import tempfile
 
+LIMIT = 400
 TOP = os.path.dirname(os.path.dirname(os.path.abspath(__file__)))
 
 ENTRY = '''service-%d:
@@ -42,14 +51,57 @@ def text_of(size):
         parts.append(entry)
         length += len(entry)
         i += 1
-    return ''.join(parts)
+    return ''.join(parts).encode()
+
+
+def dense_text(size):
+    return b'- a: 1\n' * (size // 7 + 1)
+
+
+def is_accepted(program, text):
+    """Whether this program and fy-tool accept the text, and it can stand after another one."""
+    readers = [[program, 'events']] + [words for words in [words_of('fy-tool', '--testsuite', '-')] if words]
+    quiet = {'stdout': subprocess.DEVNULL, 'stderr': subprocess.DEVNULL}
+    return text[:1] not in (b'%', b'\xef', b'\xfe', b'\xff') and all(
+        subprocess.run(words, input=text, **quiet).returncode == 0 for words in readers)
+
+
+def real_files(program, folders):
+    """The texts of the files below the folders, each once."""
+    paths = sorted({os.path.join(folder, name) for top in folders for folder, _, names in os.walk(top)
+                    for name in names if name.endswith(('.yaml', '.yml'))})
+    random.Random(0).shuffle(paths)
+    seen = set()
+    for path in paths:
+        with open(path, 'rb') as source:
+            text = source.read().rstrip(b'\n') + b'\n'
+        if text not in seen and is_accepted(program, text):
+            seen.add(text)
+            yield text
+
+
+def real_text(program, folders):
+    """As a function of the size: files below the folders, until the size is reached."""
+    parts, length = [], 0
+    for text in real_files(program, folders):
+        parts.append(text + b'---\n')
+        length += len(parts[-1])
+        if length >= 16 << 20:
+            break
+    whole = b''.join(parts)
+    print('%d files, %d bytes' % (len(parts), len(whole)))
+    return lambda size: whole[:whole.rfind(b'\n---\n', 0, size + 1) + 1]
 
 
 def run(words, path, good):
-    """Processor seconds, and the peak of resident memory in bytes."""
+    """Processor seconds, and the peak of resident memory in bytes; the seconds are None where there were too many."""
+    def limited():
+        resource.setrlimit(resource.RLIMIT_CPU, (LIMIT, LIMIT))
     with open(path, 'rb') as source:
-        child = subprocess.Popen(words, stdin=source, stdout=subprocess.DEVNULL)
+        child = subprocess.Popen(words, stdin=source, stdout=subprocess.DEVNULL, preexec_fn=limited)
         _, status, usage = os.wait4(child.pid, 0)
+    if usage.ru_utime + usage.ru_stime > LIMIT - 2:
+        return None, usage.ru_maxrss * 1024
     if os.waitstatus_to_exitcode(status) not in good:
         sys.exit('%s: status %d' % (' '.join(words), status))
     return usage.ru_utime + usage.ru_stime, usage.ru_maxrss * 1024
@@ -72,6 +124,9 @@ def measure(name, words, files, good=(0,)):
     seconds = []
     for path, size in files:
         best = run(words, path, good)
+        if best[0] is None:
+            print('%-24s %9d bytes  more than %d s' % (name, size, LIMIT))
+            return
         if best[0] < 10:
             best = min(best, run(words, path, good))
         seconds.append(best[0])
@@ -90,34 +145,48 @@ def words_of(name, *words):
     return [path, *words]
 
 
-def peers():
+def peers(is_dense):
     """Names of peers, their command lines from standard input to standard output, or None, and the statuses of a good run."""
     yield 'fy-tool --testsuite', words_of('fy-tool', '--testsuite', '-'), (0,)
+    if is_dense:
+        return
+    yield 'fy-tool --dump', words_of('fy-tool', '--dump', '-'), (0,)
     yield 'yamllint', words_of('yamllint', '-'), (0, 1)
     yield 'another yamlfmt', words_of('yamlfmt', '-in'), (0,)
     yield 'prettier', words_of('prettier', '--parser', 'yaml'), (0,)
     yield 'ruamel.yaml', [sys.executable, '-c', ROUND_TRIP] if importlib.util.find_spec('ruamel') else None, (0,)
 
 
-def written(folder, size):
+def written(folder, size, text):
     path = os.path.join(folder, '%d.yaml' % size)
-    with open(path, 'w') as out:
-        out.write(text_of(size))
+    with open(path, 'wb') as out:
+        out.write(text(size))
     return path
 
 
+def arguments():
+    parser = argparse.ArgumentParser(description=__doc__.split('\n\n')[0])
+    parser.add_argument('--dense', action='store_true')
+    parser.add_argument('--real', nargs='+', metavar='FOLDER')
+    parser.add_argument('--program', default=os.path.join(TOP, 'crates/yamlfmt/out/yamlfmt'))
+    return parser.parse_args()
+
+
 def main():
-    program = sys.argv[1] if len(sys.argv) > 1 else os.path.join(TOP, 'crates/yamlfmt/out/yamlfmt')
+    given = arguments()
+    program = given.program
     if not os.access(program, os.X_OK):
         sys.exit('there is no program %s: run ./yamlfmt once, which builds it' % program)
+    text = real_text(program, given.real) if given.real else dense_text if given.dense else text_of
     with tempfile.TemporaryDirectory() as folder:
-        files = [(path, os.path.getsize(path)) for path in (written(folder, megabytes << 20) for megabytes in (1, 16))]
+        files = [(path, os.path.getsize(path)) for path in (written(folder, megabytes << 20, text) for megabytes in (1, 16))]
         measure('yamlfmt events', [program, 'events'], files)
         measure('yamlfmt check', [program, 'check'], files, good=(0, 1))
         measure('yamlfmt fmt', [program, 'fmt'], files)
+        small = written(folder, 300_000, text)
         for verb in ('events', 'check', 'fmt'):
-            instructions('yamlfmt ' + verb, [program, verb], written(folder, 300_000))
-        for name, words, good in peers():
+            instructions('yamlfmt ' + verb, [program, verb], small)
+        for name, words, good in peers(given.dense):
             if words:
                 measure(name, words, files, good)
             else:

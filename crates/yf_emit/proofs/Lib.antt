@@ -59,6 +59,7 @@ pub mod DocumentsPrinted
 pub mod LayoutPrinted
 -- `find_trails`: the comments that trail are those of the layout
 pub mod TrailLemmas
+pub mod LeafTrailLemmas
 pub mod LeafMarks
 pub mod TrailChoice
 pub mod TrailRuns

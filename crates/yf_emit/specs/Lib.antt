@@ -19,6 +19,7 @@ pub mod Keys
 pub mod Laws
 pub mod LayoutLaws
 pub mod Layout
+pub mod LeafTrails
 pub mod Measures
 pub mod Measuring
 pub mod Normal
@@ -27,6 +28,7 @@ pub mod NormalForm
 pub mod OfText
 pub mod OneLine
 pub mod OneLineRun
+pub mod Packed
 pub mod Printed
 pub mod Printers
 pub mod Printing

@@ -18,7 +18,7 @@ pub record Found : Type 0 where
   pub trailing : List Bool
 
 abbrev pub found : Trails → Found
-found t = record { of_leaf = t.of_leaf.items; trailing = t.is_trailing.items }
+found t = record { of_leaf = t.of_leaf; trailing = t.is_trailing.items }
 
 -- those that trail a key
 

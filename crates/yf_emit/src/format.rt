@@ -4,23 +4,22 @@ ghost use Rattle.std.specs.String.{string_bytes};
 ghost use Rattle.yf_emit.specs.Formatted.{Formatted};
 ghost use Rattle.yf_stream.specs.Refusal.{IsStreamFault};
 
-use crate::normal::normal;
+use crate::normal::normal_of;
 use crate::print::layout::layout;
 use crate::style::Style;
 use std::alloc::{AllocError, Global};
 use yf_events::reading::Reading;
 use yf_lines::fault::Fault;
-use yf_lines::source_text::Src;
 use yf_stream::stream::read_stream;
 
 /// The text of a reading of the text in the house style.
-fn formatted(alloc: Global, src: &Src, reading: &Reading, style: &Style) -> Result<String, Fault>
-    ensures formatted { IfOk result (λ formatted. Formatted src.now.text style.now (string_bytes formatted)) }
+fn formatted(alloc: Global, text: &str, reading: &Reading, style: &Style) -> Result<String, Fault>
+    ensures formatted { IfOk result (λ formatted. Formatted text.now style.now (string_bytes formatted)) }
     ensures refused { IfErr result (λ fault. fault ≡ Fault.Memory) }
 {
-    let normal = normal(alloc, src, reading, style)?;
+    let normal = normal_of(alloc, text, reading, style)?;
     match layout(alloc, &normal, style) {
-        Ok(text) => Ok(text),
+        Ok(output) => Ok(output),
         Err(AllocError) => Err(Fault::Memory),
     }
 }
@@ -35,13 +34,9 @@ pub fn format(alloc: Global, text: &str, style: &Style) -> Result<String, Fault>
     ensures formatted { IfOk result (λ formatted. Formatted text.now style.now (string_bytes formatted)) }
     ensures refused { IfErr result (λ fault. IsStreamFault text.now fault) }
 {
-    let src = match Src::new(alloc, text) {
-        Ok(src) => src,
-        Err(AllocError) => return Err(Fault::Memory),
-    };
     let reading = read_stream(alloc, text)?;
-    match formatted(alloc, &src, &reading, style) {
-        Ok(text) => Ok(text),
+    match formatted(alloc, text, &reading, style) {
+        Ok(output) => Ok(output),
         Err(_) => Err(Fault::Memory),
     }
 }

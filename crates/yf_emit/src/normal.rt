@@ -12,8 +12,10 @@ ghost use Rattle.yf_emit.specs.Textual.{IsTextual};
 
 pub mod copies;
 
-use crate::form::decide::{Forms, decide};
-use crate::form::measure::{Measures, measure_all};
+use crate::form::decide::decide;
+use crate::form::forms::Forms;
+use crate::form::measure::measure_text;
+use crate::form::measures::Measures;
 use crate::normal::copies::{
     copied_comments, copied_documents, copied_notes, copied_offsets, copied_slices,
 };
@@ -119,16 +121,16 @@ fn normal_events<'a>(
 /// The lists of the normal form.
 fn normal_lists<'a>(
     alloc: Global,
-    src: &Src,
+    text: &str,
     reading: &'a Reading<'a>,
     style: &Style,
 ) -> Result<Lists<'a>, AllocError>
     ensures restyled { IfOk result (λ normal. IsRestyled style.now.quotes reading.now normal) }
-    ensures is_normal { IfOk result (λ normal. IsTextual reading.now → Normal src.now.text reading.now style.now normal) }
+    ensures is_normal { IfOk result (λ normal. IsTextual reading.now → Normal text.now reading.now style.now normal) }
     ensures fit { IfOk result Fits }
     ensures nested { IfOk result (λ normal. IsStream DEPTH (events_of normal)) }
 {
-    let measures = measure_all(alloc, src, reading, style)?;
+    let measures = measure_text(alloc, text, reading, style)?;
     let forms = decide(alloc, &measures, reading, style)?;
     let lists = reading.lists();
     Ok(Lists {
@@ -139,6 +141,30 @@ fn normal_lists<'a>(
         documents: copied_documents(alloc, lists.documents.as_slice())?,
         escapes: copied_offsets(alloc, lists.escapes.as_slice())?,
     })
+}
+
+/// The normal form of a reading of the text.
+pub(crate) fn normal_of<'a>(
+    alloc: Global,
+    text: &str,
+    reading: &'a Reading<'a>,
+    style: &Style,
+) -> Result<Reading<'a>, Fault>
+    ensures restyled { IfOk result (λ normal. IsRestyled style.now.quotes reading.now normal) }
+    ensures is_normal { IfOk result (λ normal. IsTextual reading.now → Normal text.now reading.now style.now normal) }
+    ensures content { IfOk result (λ normal. content_of normal ≡ content_of reading.now) }
+    ensures nested { IfOk result (λ normal. IsStream DEPTH (events_of normal)) }
+    ensures refused { IfErr result (λ fault. fault ≡ Fault.Memory) }
+{
+    let lists = match normal_lists(alloc, text, reading, style) {
+        Ok(lists) => lists,
+        Err(AllocError) => return Err(Fault::Memory),
+    };
+    match Reading::build(alloc, lists) {
+        Ok(Some(normal)) => Ok(normal),
+        Ok(None) => unreachable!(),
+        Err(_) => Err(Fault::Memory),
+    }
 }
 
 /// The normal form of a reading of the text: each scalar has the style of `wanted_style`, and each collection stands between
@@ -160,13 +186,5 @@ pub fn normal<'a>(
     ensures nested { IfOk result (λ normal. IsStream DEPTH (events_of normal)) }
     ensures refused { IfErr result (λ fault. fault ≡ Fault.Memory) }
 {
-    let lists = match normal_lists(alloc, src, reading, style) {
-        Ok(lists) => lists,
-        Err(AllocError) => return Err(Fault::Memory),
-    };
-    match Reading::build(alloc, lists) {
-        Ok(Some(normal)) => Ok(normal),
-        Ok(None) => unreachable!(),
-        Err(_) => Err(Fault::Memory),
-    }
+    normal_of(alloc, src.text(), reading, style)
 }

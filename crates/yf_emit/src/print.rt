@@ -3,6 +3,7 @@ ghost use Rattle.std.specs.Prelude.{IfErr, OnOk};
 ghost use Rattle.yf_emit.specs.Printed.{RefusedPrint, WroteMade};
 
 pub mod layout;
+pub(crate) mod leaf_trails;
 pub(crate) mod leaves;
 pub mod output;
 pub(crate) mod printer;

@@ -8,12 +8,13 @@ ghost use Rattle.yf_emit.specs.Deciding.{given, state};
 ghost use Rattle.yf_emit.specs.Forms.{no_form, Decided};
 ghost use Rattle.yf_emit.specs.ImplicitKeys.{TellsImplicit};
 
+use crate::form::forms::Forms;
 use crate::form::keys::is_leaf;
-use crate::form::measure::{Measure, Measures, measure_all};
+use crate::form::measure::{Measure, measure_all};
+use crate::form::measures::Measures;
 use crate::form::places::{Level, count_node, fits, next_place};
 use crate::style::Style;
 use std::alloc::{AllocError, Global};
-use std::marker::Model;
 use yf_events::event::Event;
 use yf_events::reading::Reading;
 use yf_lines::fault::Fault;
@@ -43,40 +44,6 @@ impl Form {
     };
 }
 
-/// The forms of all events of a reading. In a contract it is the list of them.
-#[derive(Drop)]
-pub struct Forms {
-    list: Vec<Form>,
-}
-
-impl Model for Forms {
-    ghost use Rattle.std.specs.Prelude.{List};
-    ghost use Rattle.yf_emit.specs.declared.form.decide.Form.{Form};
-
-    ghost Value = { List Form };
-
-    ghost view = { λ f. f.list.items };
-}
-
-impl Forms {
-    /// The form of the event at an index, which is `Form::NONE` past the end.
-    pub fn at(&self, i: usize) -> Form
-        ensures { result ≡ get_or self.now i no_form }
-    {
-        match self.list.get(i) {
-            Some(form) => *form,
-            None => Form::NONE,
-        }
-    }
-
-    /// All of them, in order of the events.
-    pub fn as_slice(&self) -> &[Form]
-        ensures { result.now ≡ self.now }
-    {
-        self.list.as_slice()
-    }
-}
-
 /// Whether a node that the event at an index begins holds no node to look at.
 fn is_whole(measure: &Measure, i: usize, is_kept: bool) -> bool
     ensures { result ≡ Deciding.is_whole i measure.now is_kept }
@@ -93,7 +60,7 @@ fn is_whole(measure: &Measure, i: usize, is_kept: bool) -> bool
 /// Gives a node its form, and answers the index of the last event that needs no look: the node's last one, or of a block
 /// collection the first one.
 fn node(
-    list: &mut Vec<Form>,
+    list: &mut Forms,
     stack: &mut Vec<Level>,
     reading: &Reading,
     event: &Event,
@@ -104,8 +71,8 @@ fn node(
 ) -> Result<usize, AllocError>
     requires { i < length reading.now.events }
     ensures { IfOk result (λ done. IsNonDecreasingBy (λ c. c.offset) reading.now.comments
-        → state list.new.items (reverse stack.new.items) done ≡ Deciding.node
-        (given style.now reading.now.comments reading.now.events) (event_value event.now) i measure.now is_map list.old.items
+        → state list.new (reverse stack.new.items) done ≡ Deciding.node
+        (given style.now reading.now.comments reading.now.events) (event_value event.now) i measure.now is_map list.old
         (reverse stack.old.items)) }
 {
     let place = next_place(stack.as_slice(), reading, event, i, measure, style);
@@ -130,7 +97,7 @@ fn node(
 
 /// Goes past one event, and answers the index of the last one that needs no look.
 fn pass(
-    list: &mut Vec<Form>,
+    list: &mut Forms,
     stack: &mut Vec<Level>,
     reading: &Reading,
     event: &Event,
@@ -140,8 +107,8 @@ fn pass(
 ) -> Result<usize, AllocError>
     requires { i < length reading.now.events }
     ensures { IfOk result (λ done. IsNonDecreasingBy (λ c. c.offset) reading.now.comments
-        → state list.new.items (reverse stack.new.items) done ≡ Deciding.past
-        (given style.now reading.now.comments reading.now.events) (event_value event.now) i measure.now list.old.items
+        → state list.new (reverse stack.new.items) done ≡ Deciding.past
+        (given style.now reading.now.comments reading.now.events) (event_value event.now) i measure.now list.old
         (reverse stack.old.items)) }
 {
     match event {
@@ -168,7 +135,7 @@ fn pass(
 
 /// Goes past one event, which gets no look up to the index `done`, and answers that index from here on.
 fn advance(
-    list: &mut Vec<Form>,
+    list: &mut Forms,
     stack: &mut Vec<Level>,
     reading: &Reading,
     event: &Event,
@@ -178,10 +145,10 @@ fn advance(
     done: usize,
 ) -> Result<usize, AllocError>
     requires { i < length reading.now.events }
-    ensures { IfOk result (λ r. IsNonDecreasingBy (λ c. c.offset) reading.now.comments → length list.old.items ≡ i
-        → state list.new.items (reverse stack.new.items) r ≡ Deciding.next
+    ensures { IfOk result (λ r. IsNonDecreasingBy (λ c. c.offset) reading.now.comments → length list.old ≡ i
+        → state list.new (reverse stack.new.items) r ≡ Deciding.next
         (given style.now reading.now.comments reading.now.events) measures.now (event_value event.now)
-        (state list.old.items (reverse stack.old.items) done)) }
+        (state list.old (reverse stack.old.items) done)) }
 {
     if done < i {
         return pass(list, stack, reading, event, &measures.at(i), style, i);
@@ -199,7 +166,7 @@ pub fn decide(
 ) -> Result<Forms, AllocError>
     ensures { IfOk result (λ forms. Decided reading.now style.now measures.now forms) }
 {
-    let mut list = Vec::new(alloc);
+    let mut list = Forms::new(alloc);
     let mut stack: Vec<Level> = Vec::new(alloc);
     let mut done = 0;
     for i in 0..reading.len() {
@@ -208,7 +175,7 @@ pub fn decide(
             &mut list, &mut stack, reading, &event, measures, style, i, done,
         )?;
     }
-    Ok(Forms { list })
+    Ok(list)
 }
 
 fn implicit_within(

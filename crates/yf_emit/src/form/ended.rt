@@ -4,8 +4,9 @@ ghost use Rattle.std.specs.Str.{IsUtf8};
 ghost use Rattle.yf_emit.specs.Kept.{scalar_may_be_kept};
 ghost use Rattle.yf_emit.specs.Measures.{is_one_line_style, width_if};
 ghost use Rattle.yf_emit.specs.Measuring as Measuring;
-ghost use Rattle.yf_emit.specs.OneLine.{props_text};
-ghost use Rattle.yf_emit.specs.Wanted.{wanted};
+ghost use Rattle.yf_emit.specs.OneLine.{props_text, scalar_text, spaced};
+ghost use Rattle.yf_emit.specs.Wanted as Wanted;
+ghost use Rattle.yf_lines.specs.declared.quotes.Quotes.{Quotes};
 ghost use Rattle.yf_props.specs.Props.{props_value};
 
 use crate::form::measure::Measure;
@@ -13,7 +14,6 @@ use crate::style::Style;
 use crate::text::wanted::wanted_of;
 use crate::text::width::{char_count, joined_width, props_width, scalar_width};
 use yf_events::event::{ScalarStyle, Span};
-use yf_lines::steady::is_steady;
 use yf_props::props::Props;
 
 /// A node that has ended, as the collection sees it that holds it: `inside` is its width where it may stand in kept text.
@@ -24,16 +24,17 @@ pub(crate) struct Ended {
     pub(crate) is_alias: bool,
 }
 
-/// Whether a scalar may stand in kept text: a quoted one, or a plain one with characters that stays plain.
-fn may_be_inside(style: ScalarStyle, text: &str) -> bool
-    ensures { result ≡ scalar_may_be_kept style text.now }
+/// Whether a scalar that is to have the style `wanted` may stand in kept text: a quoted one, or a plain one with characters
+/// that stays plain.
+fn may_be_inside(written: ScalarStyle, wanted: ScalarStyle, text: &str) -> bool
+    ensures { (quotes : Quotes) → wanted ≡ Wanted.wanted written text.now quotes → result ≡ scalar_may_be_kept written text.now }
 {
-    match style {
+    match written {
         ScalarStyle::Plain => {
             if text.is_empty() {
                 return false;
             }
-            is_steady(text)
+            matches!(wanted, ScalarStyle::Plain)
         }
         ScalarStyle::Single | ScalarStyle::Double => true,
         ScalarStyle::Literal | ScalarStyle::Folded => false,
@@ -63,14 +64,13 @@ fn leaf(i: usize, width: Option<usize>, leaf: Option<usize>) -> Measure
     }
 }
 
-/// How many characters a scalar has in the style of the house, with its properties; `None` where it is a block scalar.
-fn width_in_style(props: &Props, written: ScalarStyle, text: &str, style: &Style) -> Option<usize>
-    ensures width { result ≡ width_if (is_one_line_style (wanted written text.now style.now.quotes))
-        (Measuring.scalar_written style.now.quotes (props_value props.now) written text.now) }
+/// How many characters a scalar has in a style, with its properties; `None` where it is a block scalar.
+fn width_in_style(props: &Props, style: ScalarStyle, text: &str) -> Option<usize>
+    ensures width { result ≡ width_if (is_one_line_style style) (spaced (props_text (props_value props.now)) (scalar_text style text.now)) }
     ensures utf8 { (IsUtf8 (props_text (props_value props.now))) × (IsUtf8 text.now) }
 {
     let before = props_width(props);
-    match scalar_width(wanted_of(written, text, style.quotes), text) {
+    match scalar_width(style, text) {
         Some(width) => Some(joined_width(before, width)),
         None => None,
     }
@@ -88,9 +88,10 @@ pub(crate) fn scalar(
     ensures ended { result ≡ Measuring.ended_scalar style.now.quotes i span (props_value props.now) written text.now }
     ensures utf8 { (IsUtf8 (props_text (props_value props.now))) × (IsUtf8 text.now) }
 {
-    let width = width_in_style(props, written, text, style);
+    let wanted = wanted_of(written, text, style.quotes);
+    let width = width_in_style(props, wanted, text);
     let measure = leaf(i, width, leaf_if(span, i));
-    if may_be_inside(written, text) {
+    if may_be_inside(written, wanted, text) {
         return Ended {
             measure,
             inside: width,

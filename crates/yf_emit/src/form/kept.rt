@@ -10,7 +10,8 @@ ghost use Rattle.yf_emit.specs.Textual.{CommentsAscend};
 ghost use Rattle.yf_emit.specs.OneLineRun as OneLineRun;
 ghost use Rattle.yf_emit.specs.OneLineRun.{added, behind_in, between, next_open, outside, run, separator_in};
 
-use crate::form::measure::{Measures, measure_all};
+use crate::form::measure::measure_all;
+use crate::form::measures::Measures;
 use crate::style::Style;
 use crate::text::wanted::wanted_of;
 use crate::text::written::{push_props_before, push_scalar};

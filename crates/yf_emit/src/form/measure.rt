@@ -1,19 +1,19 @@
 //! How wide each node is where it is written on one line: one pass over the events, inner nodes before outer ones.
-ghost use Rattle.std.specs.Prelude.{◌≡◌, [], get_or, map, reverse, set, true, IfOk};
+ghost use Rattle.std.specs.Prelude.{◌≡◌, [], map, reverse, true, IfOk};
 ghost use Rattle.std.specs.List.Sorted.{IsNonDecreasingBy};
 ghost use Rattle.yf_comments.specs.Comment.{comment_value};
 ghost use Rattle.yf_events.specs.Event.{event_value};
 ghost use Rattle.yf_emit.specs.Deciding.{is_leaf_at};
-ghost use Rattle.yf_emit.specs.Measures.{no_measure, Measured};
+ghost use Rattle.yf_emit.specs.Measures.{Measured};
 ghost use Rattle.yf_emit.specs.Measuring as Measuring;
 ghost use Rattle.yf_emit.specs.Measuring.{found, has_text, setting};
 ghost use Rattle.yf_emit.specs.Normal.{setting_of};
 
 use crate::form::collection::{Open, closed, opened, with_node};
 use crate::form::ended::{Ended, alias, scalar};
+use crate::form::measures::Measures;
 use crate::style::Style;
 use std::alloc::{AllocError, Global};
-use std::marker::Model;
 use yf_comments::comment::Comment;
 use yf_events::event::{Event, Span};
 use yf_events::reading::Reading;
@@ -56,33 +56,6 @@ impl Measure {
     }
 }
 
-/// The measures of all events of a reading. In a contract it is the list of them.
-#[derive(Drop)]
-pub struct Measures {
-    list: Vec<Measure>,
-}
-
-impl Model for Measures {
-    ghost use Rattle.std.specs.Prelude.{List};
-    ghost use Rattle.yf_emit.specs.declared.form.measure.Measure.{Measure};
-
-    ghost Value = { List Measure };
-
-    ghost view = { λ m. m.list.items };
-}
-
-impl Measures {
-    /// The measure of the event at an index, which is `Measure::NONE` past the end.
-    pub fn at(&self, i: usize) -> Measure
-        ensures { result ≡ get_or self.now i no_measure }
-    {
-        match self.list.get(i) {
-            Some(measure) => *measure,
-            None => Measure::NONE,
-        }
-    }
-}
-
 /// Hands a node that has ended to the collection that holds it.
 fn hand(stack: &mut Vec<Open>, node: &Ended)
     ensures { reverse stack.new.items ≡ Measuring.handed node.now (reverse stack.old.items) }
@@ -94,36 +67,37 @@ fn hand(stack: &mut Vec<Open>, node: &Ended)
     }
 }
 
-/// Notes the measure of a node that has ended.
-fn note(list: &mut Vec<Measure>, i: usize, node: &Ended)
-    ensures { list.new.items ≡ set list.old.items i node.now.measure }
-{
-    if i < list.len() {
-        list[i] = node.measure;
-    }
-}
-
 /// Notes a node that has ended, in the list and in the collection that holds it.
-fn end_node(list: &mut Vec<Measure>, stack: &mut Vec<Open>, i: usize, node: &Ended)
-    ensures { found list.new.items (reverse stack.new.items) ≡ Measuring.noted i node.now (found list.old.items (reverse stack.old.items)) }
+fn end_node(
+    list: &mut Measures,
+    stack: &mut Vec<Open>,
+    i: usize,
+    node: &Ended,
+) -> Result<(), AllocError>
+    ensures { IfOk result (λ _. found list.new (reverse stack.new.items) ≡ Measuring.noted i node.now
+        (found list.old (reverse stack.old.items))) }
 {
-    note(list, i, node);
+    list.set(i, &node.measure)?;
     hand(stack, node);
+    Ok(())
 }
 
 /// Ends the innermost collection.
-fn close(list: &mut Vec<Measure>, stack: &mut Vec<Open>, i: usize)
-    ensures { found list.new.items (reverse stack.new.items) ≡ Measuring.popped i list.old.items (reverse stack.old.items) }
+fn close(list: &mut Measures, stack: &mut Vec<Open>, i: usize) -> Result<(), AllocError>
+    ensures { IfOk result (λ _. found list.new (reverse stack.new.items) ≡ Measuring.popped i list.old (reverse stack.old.items)) }
 {
-    if let Some(collection) = stack.pop() {
-        let node = closed(collection, i);
-        end_node(list, stack, collection.start, &node);
+    match stack.pop() {
+        Some(collection) => {
+            let node = closed(collection, i);
+            end_node(list, stack, collection.start, &node)
+        }
+        None => Ok(()),
     }
 }
 
 /// Goes past one event, whose place in the list is there already.
 fn pass(
-    list: &mut Vec<Measure>,
+    list: &mut Measures,
     stack: &mut Vec<Open>,
     text: &str,
     comments: &[Comment],
@@ -133,9 +107,9 @@ fn pass(
     i: usize,
 ) -> Result<(), AllocError>
     ensures passed { IfOk result (λ _. IsNonDecreasingBy (λ c. c.offset) comments.now
-        → found list.new.items (reverse stack.new.items) ≡ Measuring.passed text.now
+        → found list.new (reverse stack.new.items) ≡ Measuring.passed text.now
         (setting style.now (map comment_value comments.now)) i span (event_value event.now)
-        (found list.old.items (reverse stack.old.items))) }
+        (found list.old (reverse stack.old.items))) }
     ensures utf8 { IfOk result (λ _. has_text (event_value event.now) ≡ true) }
 {
     match event {
@@ -145,12 +119,12 @@ fn pass(
             text: content,
         } => {
             let node = scalar(i, span, props, *written, content, style);
-            end_node(list, stack, i, &node);
+            end_node(list, stack, i, &node)?;
             Ok(())
         }
         Event::Alias { name } => {
             let node = alias(i, name);
-            end_node(list, stack, i, &node);
+            end_node(list, stack, i, &node)?;
             Ok(())
         }
         Event::SeqStart { flow, props } => {
@@ -161,14 +135,8 @@ fn pass(
             stack.push(opened(text, comments, i, span, props, *flow, true))?;
             Ok(())
         }
-        Event::SeqEnd => {
-            close(list, stack, i);
-            Ok(())
-        }
-        Event::MapEnd => {
-            close(list, stack, i);
-            Ok(())
-        }
+        Event::SeqEnd => close(list, stack, i),
+        Event::MapEnd => close(list, stack, i),
         Event::StreamStart => Ok(()),
         Event::StreamEnd => Ok(()),
         Event::DocStart { .. } => Ok(()),
@@ -187,10 +155,10 @@ fn measured(
     ensures { IfOk result (λ m. IsNonDecreasingBy (λ c. c.offset) comments.now
         → Measured text.now (setting style.now (map comment_value comments.now)) reading.now.events m) }
 {
-    let mut list = Vec::new(alloc);
+    let mut list = Measures::new(alloc);
     let mut stack: Vec<Open> = Vec::new(alloc);
     for i in 0..reading.len() {
-        list.push(Measure::NONE)?;
+        list.push_none()?;
         pass(
             &mut list,
             &mut stack,
@@ -202,10 +170,24 @@ fn measured(
             i,
         )?;
     }
-    Ok(Measures { list })
+    Ok(list)
 }
 
 /// Measures all nodes of a reading of the text, in one pass.
+pub(crate) fn measure_text(
+    alloc: Global,
+    text: &str,
+    reading: &Reading,
+    style: &Style,
+) -> Result<Measures, AllocError>
+    ensures { IfOk result (λ m. IsNonDecreasingBy (λ c. c.offset) reading.now.comments
+        → Measured text.now (setting_of reading.now style.now) reading.now.events m) }
+{
+    let measures = measured(alloc, text, reading.comments(), reading, style)?;
+    Ok(measures)
+}
+
+/// The same of a text with its table of lines.
 pub fn measure_all(
     alloc: Global,
     src: &Src,
@@ -215,8 +197,7 @@ pub fn measure_all(
     ensures { IfOk result (λ m. IsNonDecreasingBy (λ c. c.offset) reading.now.comments
         → Measured src.now.text (setting_of reading.now style.now) reading.now.events m) }
 {
-    let measures = measured(alloc, src.text(), reading.comments(), reading, style)?;
-    Ok(measures)
+    measure_text(alloc, src.text(), reading, style)
 }
 
 /// Measures all nodes of a normal reading, in one pass: no comment stands between the brackets of its flow collections, so

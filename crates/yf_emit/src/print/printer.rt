@@ -9,8 +9,9 @@ ghost use Rattle.yf_emit.specs.Printing as Printing;
 ghost use Rattle.yf_emit.specs.Printing.{level_of, levels_behind, marked, sign, space_text, work};
 ghost use Rattle.yf_emit.specs.Rows.{joined_words};
 
-use crate::form::decide::{Form, Forms};
-use crate::form::measure::Measures;
+use crate::form::decide::Form;
+use crate::form::forms::Forms;
+use crate::form::measures::Measures;
 use crate::print::output::Output;
 use crate::print::trails::Trails;
 use crate::style::Style;

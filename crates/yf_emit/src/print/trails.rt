@@ -6,8 +6,9 @@ ghost use Rattle.yf_emit.specs.Trailing.{all_found, found, given, keys_taken, le
 ghost use Rattle.yf_emit.specs.TrailsOf.{FindsTrails};
 
 use crate::form::comments_before::first_behind;
-use crate::form::decide::{Form, Forms};
-use crate::form::measure::Measures;
+use crate::form::forms::Forms;
+use crate::form::measures::Measures;
+use crate::print::leaf_trails::LeafTrails;
 use std::alloc::{AllocError, Global};
 use yf_events::event::Span;
 use yf_events::reading::Reading;
@@ -16,7 +17,7 @@ use yf_events::reading::Reading;
 #[derive(Drop)]
 pub struct Trails {
     /// For each event that begins a leaf, the index of the comment that trails it.
-    of_leaf: Vec<Option<usize>>,
+    of_leaf: LeafTrails,
     /// For each comment, whether it trails a leaf or a key.
     is_trailing: Vec<bool>,
 }
@@ -24,12 +25,9 @@ pub struct Trails {
 impl Trails {
     /// The index of the comment that trails the leaf that the event at an index begins.
     pub fn of_leaf(&self, i: usize) -> Option<usize>
-        ensures { result ≡ get_or self.now.of_leaf.items i None }
+        ensures { result ≡ get_or self.now.of_leaf i None }
     {
-        match self.of_leaf.get(i) {
-            Some(comment) => *comment,
-            None => None,
-        }
+        self.of_leaf.at(i)
     }
 
     /// Whether the comment at an index trails a leaf or a key.
@@ -71,15 +69,6 @@ fn take_key(is_trailing: &mut Vec<bool>, comment: Option<usize>)
     }
 }
 
-/// Notes the comment that trails the leaf that an event begins.
-fn note_leaf(of_leaf: &mut Vec<Option<usize>>, event: usize, k: usize)
-    ensures { of_leaf.new.items ≡ set of_leaf.old.items event (Some k) }
-{
-    if event < of_leaf.len() {
-        of_leaf[event] = Some(k);
-    }
-}
-
 /// Whether a comment that begins after the leaf's start, and before the next leaf, stands inside of the leaf or on the line
 /// on which it ends.
 fn is_at(reading: &Reading, end: usize, k: usize) -> bool
@@ -109,15 +98,21 @@ fn trails_leaf(trails: &Trails, reading: &Reading, leaf: &Leaf, until: usize) ->
 }
 
 /// Gives the leaf the first of the comments from its start to the one of the index `until`, if that trails it.
-fn close(trails: &mut Trails, reading: &Reading, leaf: Option<Leaf>, until: usize)
-    ensures { found trails.new ≡ given reading.now leaf until (found trails.old) }
+fn close(
+    trails: &mut Trails,
+    reading: &Reading,
+    leaf: Option<Leaf>,
+    until: usize,
+) -> Result<(), AllocError>
+    ensures { IfOk result (λ _. found trails.new ≡ given reading.now leaf until (found trails.old)) }
 {
     if let Some(leaf) = leaf {
         if trails_leaf(trails, reading, &leaf, until) {
             take(&mut trails.is_trailing, leaf.first);
-            note_leaf(&mut trails.of_leaf, leaf.event, leaf.first);
+            trails.of_leaf.set(leaf.event, leaf.first)?;
         }
     }
+    Ok(())
 }
 
 /// The leaf that the event at an index begins, where it begins one; the comments before the index `from` begin before it.
@@ -160,15 +155,16 @@ fn pass(
     i: usize,
     span: Option<Span>,
     last: Option<Leaf>,
-) -> Option<Leaf>
-    ensures { state (found trails.new) result ≡ Trailing.next reading.now measures.now i span (state (found trails.old) last) }
+) -> Result<Option<Leaf>, AllocError>
+    ensures { IfOk result (λ next. state (found trails.new) next ≡ Trailing.next reading.now measures.now i span
+        (state (found trails.old) last)) }
 {
     match leaf_at(reading, measures, i, span, first_of(last)) {
         Some(leaf) => {
-            close(trails, reading, last, leaf.first);
-            Some(leaf)
+            close(trails, reading, last, leaf.first)?;
+            Ok(Some(leaf))
         }
-        None => last,
+        None => Ok(last),
     }
 }
 
@@ -190,23 +186,12 @@ fn none_trailing(alloc: Global, count: usize) -> Result<Vec<bool>, AllocError>
     Ok(list)
 }
 
-/// So many events whose leaves no comment trails.
-fn none_of_leaf(alloc: Global, count: usize) -> Result<Vec<Option<usize>>, AllocError>
-    ensures { IfOk result (λ list. list.items ≡ replicate count None) }
-{
-    let mut list = Vec::new(alloc);
-    for _done in 0..count {
-        list.push(None)?;
-    }
-    Ok(list)
-}
-
 /// Notes the comments that trail a key.
-fn take_keys(is_trailing: &mut Vec<bool>, forms: &[Form])
+fn take_keys(is_trailing: &mut Vec<bool>, forms: &Forms)
     ensures { is_trailing.new.items ≡ keys_taken forms.now is_trailing.old.items }
 {
-    for form in forms {
-        take_key(is_trailing, form.key_comment);
+    for i in 0..forms.len() {
+        take_key(is_trailing, forms.at(i).key_comment);
     }
 }
 
@@ -215,8 +200,8 @@ fn trails_of_keys(alloc: Global, reading: &Reading, forms: &Forms) -> Result<Tra
     ensures { IfOk result (λ trails. found trails ≡ (Trailing.start reading.now forms.now).found) }
 {
     let mut is_trailing = none_trailing(alloc, comment_count(reading))?;
-    take_keys(&mut is_trailing, forms.as_slice());
-    let of_leaf = none_of_leaf(alloc, reading.len())?;
+    take_keys(&mut is_trailing, forms);
+    let of_leaf = LeafTrails::none(alloc, reading.len())?;
     Ok(Trails {
         of_leaf,
         is_trailing,
@@ -238,8 +223,8 @@ pub fn find_trails(
     let mut trails = trails_of_keys(alloc, reading, forms)?;
     let mut last: Option<Leaf> = None;
     for i in 0..reading.len() {
-        last = pass(&mut trails, reading, measures, i, reading.span(i), last);
+        last = pass(&mut trails, reading, measures, i, reading.span(i), last)?;
     }
-    close(&mut trails, reading, last, comment_count(reading));
+    close(&mut trails, reading, last, comment_count(reading))?;
     Ok(trails)
 }

@@ -12,11 +12,21 @@ ghost use Rattle.yf_quoted.specs.Written.{double_bytes, single_bytes, twice};
 use yf_events::event::ScalarStyle;
 use yf_props::props::{Props, Tag};
 
+/// How many bytes a text has.
+fn byte_count(text: &str) -> usize
+    ensures { result ≡ length text.now }
+{
+    text.len()
+}
+
 /// How many characters a text has.
 pub fn char_count(text: &str) -> usize
     ensures count { result ≡ up_to_greatest (width text.now) }
     ensures utf8 { IsUtf8 text.now }
 {
+    if text.is_ascii() {
+        return byte_count(text);
+    }
     text.chars().count()
 }
 

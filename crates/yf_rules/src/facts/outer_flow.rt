@@ -8,7 +8,7 @@ ghost use Rattle.yf_events.specs.Tree.{DocumentTree, TreesOf};
 ghost use Rattle.yf_rules.specs.OuterFlow as OuterFlow;
 ghost use Rattle.yf_rules.specs.OuterFlow.{FlowsDone};
 
-use yf_emit::form::measure::Measures;
+use yf_emit::form::measures::Measures;
 use yf_events::event::Event;
 use yf_events::reading::Reading;
 

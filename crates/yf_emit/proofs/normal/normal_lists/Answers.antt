@@ -42,5 +42,5 @@ returns-clause-nested c = still_stream DEPTH (is_restyled c) c.lists-lists.ensur
 pub returns-clause-is_normal : goal.returns-clause-is_normal
 returns-clause-is_normal c w =
     let m = c.in_ok-measures.ensures w.comments in
-    normal_reading c.args.src.now.text c.args.reading.now _ c.args.style.now c.in_ok-measures.measures c.in_ok-forms.forms w.trees w.of_reading m
-    (c.in_ok-forms.ensures.are w.comments c.args.src.now.text _ w.trees w.of_reading w.placed m) (events_are c) (is_restyled c).rest
+    normal_reading c.args.text.now c.args.reading.now _ c.args.style.now c.in_ok-measures.measures c.in_ok-forms.forms w.trees w.of_reading m
+    (c.in_ok-forms.ensures.are w.comments c.args.text.now _ w.trees w.of_reading w.placed m) (events_are c) (is_restyled c).rest

@@ -7,9 +7,9 @@ use Rattle.yf_emit.proofs.form.decide.decide.Goals as goal
 
 pub loop-i-preserved : goal.loop-i-preserved
 loop-i-preserved c = record {
-  long = λ s. steps_long (given c.args.style.now c.args.reading.now.comments c.args.reading.now.events) c.args.measures.now (event_value c.event-event.result) c.loop-i.list.items c.advance.new.list.items (reverse c.loop-i.stack.items)
+  long = λ s. steps_long (given c.args.style.now c.args.reading.now.comments c.args.reading.now.events) c.args.measures.now (event_value c.event-event.result) c.loop-i.list c.advance.new.list (reverse c.loop-i.stack.items)
       (reverse c.advance.new.stack.items) c.loop-i.done c.in_ok-done.done c.loop-i.i (c.loop-i.invariant.long s) (c.in_ok-done.ensures s (c.loop-i.invariant.long s));
-  runs = λ s. steps_on (given c.args.style.now c.args.reading.now.comments c.args.reading.now.events) c.args.measures.now c.args.reading.now.events c.loop-i.i (event_value c.event-event.result) c.loop-i.list.items c.advance.new.list.items
+  runs = λ s. steps_on (given c.args.style.now c.args.reading.now.comments c.args.reading.now.events) c.args.measures.now c.args.reading.now.events c.loop-i.i (event_value c.event-event.result) c.loop-i.list c.advance.new.list
       (reverse c.loop-i.stack.items) (reverse c.advance.new.stack.items) c.loop-i.done c.in_ok-done.done (pass (given c.args.style.now c.args.reading.now.comments c.args.reading.now.events) c.args.measures.now c.args.reading.now.events (state [] [] 0)) c.event-event.ensures (c.loop-i.invariant.runs s)
       (c.in_ok-done.ensures s (c.loop-i.invariant.long s));
 }
@@ -18,7 +18,7 @@ pub returns : goal.returns
 returns c = record {
   are = λ s t m ds trees placed measured.
       at_end (given c.args.style.now c.args.reading.now.comments c.args.reading.now.events) c.args.measures.now c.args.reading.now.events c.loop-i.i
-      c.loop-i.list.items (reverse c.loop-i.stack.items) c.loop-i.done
+      c.loop-i.list (reverse c.loop-i.stack.items) c.loop-i.done
       (pass (given c.args.style.now c.args.reading.now.comments c.args.reading.now.events) c.args.measures.now c.args.reading.now.events (state [] [] 0))
       (omega arith) (c.loop-i.invariant.runs s)
       ∙ decides c.args.reading.now c.args.style.now c.args.measures.now t m ds trees placed measured;

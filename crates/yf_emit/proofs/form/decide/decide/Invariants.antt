@@ -6,8 +6,8 @@ use Rattle.yf_emit.proofs.form.decide.decide.Given as goal
 
 abbrev pub invariant-loop-i : goal.invariant-loop-i
 invariant-loop-i l = record {
-  long : IsNonDecreasingBy (λ c. c.offset) l.reading.comments → length l.list.items ≡ l.i;
+  long : IsNonDecreasingBy (λ c. c.offset) l.reading.comments → length l.list ≡ l.i;
   runs : IsNonDecreasingBy (λ c. c.offset) l.reading.comments
-      → pass (given l.style l.reading.comments l.reading.events) l.measures (drop l.i l.reading.events) (state l.list.items (reverse l.stack.items) l.done)
+      → pass (given l.style l.reading.comments l.reading.events) l.measures (drop l.i l.reading.events) (state l.list (reverse l.stack.items) l.done)
       ≡ pass (given l.style l.reading.comments l.reading.events) l.measures l.reading.events (state [] [] 0);
 }

@@ -1,15 +1,14 @@
-use Rattle.std.proofs.Common.{◌∙◌, ap, sym}
+use Rattle.std.proofs.Common.{sym}
 use Rattle.yf_props.specs.Props.{props_value}
-use Rattle.yf_emit.specs.Measures.{is_one_line_style, scalar_width}
+use Rattle.yf_emit.specs.Measures.{is_one_line_style}
 use Rattle.yf_emit.specs.OneLine.{props_text, scalar_text}
-use Rattle.yf_emit.specs.Wanted.{wanted}
 use Rattle.yf_emit.proofs.StepLemmas.{styled_wide}
 use Rattle.yf_emit.proofs.TreeTexts.{scalar_utf8}
 use Rattle.yf_emit.proofs.form.ended.width_in_style.Goals as goal
 
 pub returns-in-Some-clause-width : goal.returns-in-Some-clause-width
 returns-in-Some-clause-width c =
-    let style = wanted c.args.written c.args.text.now c.args.style.now.quotes in
+    let style = c.args.style in
     styled_wide (props_text (props_value c.args.props.now)) (scalar_text style c.args.text.now) (is_one_line_style style) c.props_width-before.result c.in-Some.width
     c.joined_width.result c.props_width-before.ensures.utf8 (scalar_utf8 style c.args.text.now c.in-Some.ensures.utf8) c.props_width-before.ensures.width
-    (sym (c.in-Some.ensures.width ∙ ap (λ s. scalar_width s c.args.text.now) c.wanted_of.ensures)) c.joined_width.ensures
+    (sym c.in-Some.ensures.width) c.joined_width.ensures

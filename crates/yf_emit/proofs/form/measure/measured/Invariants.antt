@@ -9,5 +9,5 @@ use Rattle.yf_emit.proofs.form.measure.measured.Given as goal
 
 abbrev pub invariant-loop-i : goal.invariant-loop-i
 invariant-loop-i l =
-    (IsNonDecreasingBy (λ (c : Comment). c.offset) l.comments → Runs l.text (setting l.style (map comment_value l.comments)) l.reading.events l.i l.list.items (reverse l.stack.items))
+    (IsNonDecreasingBy (λ (c : Comment). c.offset) l.comments → Runs l.text (setting l.style (map comment_value l.comments)) l.reading.events l.i l.list (reverse l.stack.items))
     × Texts l.reading.events l.i

@@ -6,13 +6,13 @@ use Rattle.yf_emit.proofs.print.trails.find_trails.Goals as goal
 
 pub loop-i-preserved : goal.loop-i-preserved
 loop-i-preserved c =
-    passed_on c.args.reading.now c.args.measures.now c.loop-i.i c.args.reading.now.events c.span.result _ _ _ c.span.ensures c.pass-last.ensures
+    passed_on c.args.reading.now c.args.measures.now c.loop-i.i c.args.reading.now.events c.span.result _ _ _ c.span.ensures c.in_ok-last.ensures
     c.loop-i.invariant
 
-found_is : (c : goal.After-close) → found c.close.new.trails ≡ all_found c.args.reading.now c.args.measures.now c.args.forms.now
+found_is : (c : goal.In_ok-close) → found c.close.new.trails ≡ all_found c.args.reading.now c.args.measures.now c.args.forms.now
 found_is c =
     let past : length c.args.reading.now.events ≤ c.loop-i.i = omega arith in
-    c.close.ensures
+    c.in_ok-close.ensures
     ∙ (ap (λ n. given c.args.reading.now c.loop-i.last n (found c.loop-i.trails)) c.comment_count.ensures
     ∙ ap (ended c.args.reading.now)
     (passed_end c.args.reading.now c.args.measures.now c.loop-i.i c.args.reading.now.events (state (found c.loop-i.trails) c.loop-i.last) _ past c.loop-i.invariant))

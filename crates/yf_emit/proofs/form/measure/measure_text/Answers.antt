@@ -4,10 +4,10 @@ use Rattle.yf_comments.specs.Comment.{CommentValue}
 use Rattle.yf_emit.specs.Measures.{Measured}
 use Rattle.yf_emit.specs.Measuring.{setting}
 use Rattle.yf_emit.proofs.OffsetLemmas.{same_order}
-use Rattle.yf_emit.proofs.form.measure.measure_all.Goals as goal
+use Rattle.yf_emit.proofs.form.measure.measure_text.Goals as goal
 
 pub returns : goal.returns
 returns c = λ s.
     let sorted = same_order c.comments.result.now (subst (λ w. IsNonDecreasingBy (λ (d : CommentValue). d.offset) w) (sym c.comments.ensures) s) in
-    subst (λ w. Measured w (setting c.args.style.now c.args.reading.now.comments) c.args.reading.now.events c.in_ok-measures.measures) c.text.ensures
-    (subst (λ w. Measured c.text.result.now (setting c.args.style.now w) c.args.reading.now.events c.in_ok-measures.measures) c.comments.ensures (c.in_ok-measures.ensures sorted))
+    subst (λ w. Measured c.args.text.now (setting c.args.style.now w) c.args.reading.now.events c.in_ok-measures.measures) c.comments.ensures
+    (c.in_ok-measures.ensures sorted)
