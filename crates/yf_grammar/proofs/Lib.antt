@@ -116,6 +116,18 @@ pub mod PlacesDerived
 pub mod EventsStand
 pub mod ItemsVisible
 pub mod NotedNodes
+-- a node of a text is one of the prefix that ends with it, and is read there again (`read_block_node` of yf_block)
+pub mod FrontTexts
+pub mod FrontLines
+pub mod FrontComments
+pub mod FrontNames
+pub mod FrontPlain
+pub mod FrontQuoted
+pub mod FrontBodies
+pub mod FrontNodes
+pub mod FrontEnds
+pub mod FrontNotes
+pub mod FrontWhole
 -- what is written is read again (the laws of layouts of yf_emit)
 pub mod LeafBack
 pub mod FlowBack
