@@ -1,11 +1,13 @@
 -- A block node of a text is one of the prefix of the text that ends with it, with the same part; and there the reader of whole nodes finds it.
 -- So a reader that has found the last place at which a node may end may read the prefix up to that place alone.
 use Rattle.std.proofs.Common.{◌≡◌, ℕ, ◌≤◌, ℤ, true, false, List, [], length, take, Option, Some, None, sym, ap, ◌∙◌, subst, arith}
-use Rattle.std.proofs.lemmas.List.{take_all}
-use Rattle.std.specs.Str.{IsUtf8}
+use Rattle.std.proofs.lemmas.List.{take_all, length-take-le}
+use Rattle.std.proofs.lemmas.Str as S
+use Rattle.std.specs.Str.{IsCharBoundary, IsUtf8}
 use Rattle.yf_chars.specs.declared.context.Ctx.{Ctx}
 use Rattle.yf_chars.specs.Chain.{Chosen}
 use Rattle.yf_lines.specs.Basic.{is_block, Clear}
+use Rattle.yf_lines.proofs.LineLemmas.{break_boundary}
 use Rattle.yf_comments.proofs.LineEndLemmas.{row_stuck_end}
 use Rattle.yf_events.specs.Event.{Placed}
 use Rattle.yf_events.specs.declared.part.Part.{Part}
@@ -31,6 +33,10 @@ some_is x y e = cc
 
 none_is_some : {A : Type 0} {x : A} → None ≡ Some x → ⊥
 none_is_some e = cc
+
+closed_boundary : {t : List ℕ} {k : ℕ} → IsUtf8 t → Closed t k → IsCharBoundary t k
+closed_boundary u (at_break b) = break_boundary u b
+closed_boundary {t} u (at_text e) = subst (λ j. IsCharBoundary t j) (sym e) (S.IsCharBoundary-end t)
 
 -- a text and its prefix: the same text, or one that ends with a break of the text
 data Cut (t s : List ℕ) (k : ℕ) : Type 0 where
@@ -111,6 +117,16 @@ module _ {t : List ℕ} (u : IsUtf8 t) {e i : ℕ} {n : ℤ} {c : Ctx} {f : Foun
       let d = halt_is_node u block wide r in
       let b = derived_begun d.derived (omega arith) in
       last_halt_is_chosen u block wide r (cut_noting_back (cut u (derived_closed u d.derived)) p.events b.begun) p.comments p.escapes
+
+  -- The text may be cut there.
+  pub front_boundary : IsCharBoundary t f.end
+  front_boundary = let d = halt_is_node u block wide r in closed_boundary u (derived_closed u d.derived)
+
+  pub front_utf8 : IsUtf8 (take f.end t)
+  front_utf8 = S.IsUtf8-take t f.end u front_boundary
+
+  pub front_length : length (take f.end t) ≡ f.end
+  front_length = length-take-le f.end t front_boundary.0
 
   -- So whatever that reader finds in the prefix is the longest part of the text, with one meaning, and it finds a node there.
   pub front_reads : {g : Found} {part : Part} → Whole (take f.end t) e (Awaited false n c Nothing i) (Some g) → Fills (take f.end t) g.meaning part
