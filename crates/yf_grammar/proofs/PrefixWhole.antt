@@ -21,12 +21,12 @@ use Rattle.yf_grammar.specs.Part.{Noting, BlockNodePart}
 use Rattle.yf_grammar.proofs.BlockStatements.{node_at_end}
 use Rattle.yf_grammar.proofs.DerivedNodes.{halt_is_node, last_halt_is_chosen}
 use Rattle.yf_grammar.proofs.SoundSteps.{Width}
-use Rattle.yf_grammar.proofs.FrontTexts.{alike_back, front, front_end}
-use Rattle.yf_grammar.proofs.FrontLines.{clear_there}
-use Rattle.yf_grammar.proofs.FrontComments.{FrontText}
-use Rattle.yf_grammar.proofs.FrontEnds.{Closed, at_break, at_text, derived_closed}
-use Rattle.yf_grammar.proofs.FrontNodes.{derives_in_front}
-use Rattle.yf_grammar.proofs.FrontNotes.{Begun, derived_begun, noting_there}
+use Rattle.yf_grammar.proofs.PrefixTexts.{alike_back, prefix, prefix_end}
+use Rattle.yf_grammar.proofs.PrefixLines.{clear_there}
+use Rattle.yf_grammar.proofs.PrefixComments.{PrefixText}
+use Rattle.yf_grammar.proofs.PrefixEnds.{Closed, at_break, at_text, derived_closed}
+use Rattle.yf_grammar.proofs.PrefixNodes.{derives_in_prefix}
+use Rattle.yf_grammar.proofs.PrefixNotes.{Begun, derived_begun, noting_there}
 
 some_is : {A : Type 0} (x y : A) → Some x ≡ Some y → x ≡ y
 some_is x y e = cc
@@ -40,11 +40,11 @@ closed_boundary {t} u (at_text e) = subst (λ j. IsCharBoundary t j) (sym e) (S.
 
 -- a text and its prefix: the same text, or one that ends with a break of the text
 data Cut (t s : List ℕ) (k : ℕ) : Type 0 where
-  cut_at_break : FrontText t s k → Cut t s k
+  cut_at_break : PrefixText t s k → Cut t s k
   cut_at_end : s ≡ t → k ≡ length t → Cut t s k
 
 cut : {t : List ℕ} {k : ℕ} → IsUtf8 t → Closed t k → Cut t (take k t) k
-cut u (at_break b) = cut_at_break (record { alike = front u b; closed = front_end u b })
+cut u (at_break b) = cut_at_break (record { alike = prefix u b; closed = prefix_end u b })
 cut {t} {k} u (at_text e) = cut_at_end (take_all k t (omega arith)) e
 
 module _ {t s : List ℕ} {k : ℕ} where
@@ -57,7 +57,7 @@ module _ {t s : List ℕ} {k : ℕ} where
   cut_utf8 u (cut_at_end e l) = subst (λ w. IsUtf8 w) (sym e) u
 
   cut_derives : {h i j : ℕ} {p : Production} {x : Meaning} → Cut t s k → Derives t h p i j x → j ≤ k → Derives s h p i j x
-  cut_derives (cut_at_break f) d l = derives_in_front f d l
+  cut_derives (cut_at_break f) d l = derives_in_prefix f d l
   cut_derives {h} {i} {j} {p} {x} (cut_at_end e q) d l = subst (λ w. Derives w h p i j x) (sym e) d
 
   cut_clear : {i j : ℕ} → Cut t s k → Clear t i j → j ≤ k → Clear s i j
@@ -75,16 +75,16 @@ module _ {t s : List ℕ} {k : ℕ} where
 
 module _ {t : List ℕ} (u : IsUtf8 t) where
   -- what is derived up to a place is derived in the prefix up to a break's end at it or after it
-  pub derived_in_front : {h i j k : ℕ} {p : Production} {x : Meaning} → Closed t k → j ≤ k → Derives t h p i j x → Derives (take k t) h p i j x
-  derived_in_front c l d = cut_derives (cut u c) d l
+  pub derived_in_prefix : {h i j k : ℕ} {p : Production} {x : Meaning} → Closed t k → j ≤ k → Derives t h p i j x → Derives (take k t) h p i j x
+  derived_in_prefix c l d = cut_derives (cut u c) d l
 
   -- a block node is one of the prefix that ends with it
-  pub node_in_front : {h i j : ℕ} {n : ℤ} {c : Ctx} {x : Meaning} → Derives t h (BlockNode n c) i j x → Derives (take j t) h (BlockNode n c) i j x
-  node_in_front d = derived_in_front (derived_closed u d) (omega arith) d
+  pub node_in_prefix : {h i j : ℕ} {n : ℤ} {c : Ctx} {x : Meaning} → Derives t h (BlockNode n c) i j x → Derives (take j t) h (BlockNode n c) i j x
+  node_in_prefix d = derived_in_prefix (derived_closed u d) (omega arith) d
 
   -- and with the notes of its entries it is the same part
-  pub part_in_front : {limit i j : ℕ} {n : ℤ} {c : Ctx} {part : Part} → BlockNodePart t limit n c i j part → BlockNodePart (take j t) limit n c i j part
-  part_in_front {j = j} d =
+  pub part_in_prefix : {limit i j : ℕ} {n : ℤ} {c : Ctx} {part : Part} → BlockNodePart t limit n c i j part → BlockNodePart (take j t) limit n c i j part
+  part_in_prefix {j = j} d =
       let z = cut u (derived_closed u d.derived) in
       let l : j ≤ j = omega arith in
       record {
@@ -108,35 +108,35 @@ module _ {t : List ℕ} (u : IsUtf8 t) where
 
 module _ {t : List ℕ} (u : IsUtf8 t) {e i : ℕ} {n : ℤ} {c : Ctx} {f : Found} (block : is_block c ≡ true) (wide : Width n) (r : Halts t e [] (Awaited false n c Nothing i) (Some f)) where
   -- What the last halt leaves of a node, the reader of whole nodes finds in the prefix that ends there.
-  pub front_is_whole : {o : Option Found} → Whole (take f.end t) e (Awaited false n c Nothing i) o → o ≡ found f.end f.height false f.meaning
-  front_is_whole w = let d = halt_is_node u block wide r in node_is_whole u d.derived d.within d.clear w
+  pub prefix_is_whole : {o : Option Found} → Whole (take f.end t) e (Awaited false n c Nothing i) o → o ≡ found f.end f.height false f.meaning
+  prefix_is_whole w = let d = halt_is_node u block wide r in node_is_whole u d.derived d.within d.clear w
 
   -- and the part that is made of it in the prefix is the longest part of the text
-  pub front_is_chosen : {part : Part} → Fills (take f.end t) f.meaning part → Chosen (BlockNodePart t e n c i) f.end part
-  front_is_chosen p =
+  pub prefix_is_chosen : {part : Part} → Fills (take f.end t) f.meaning part → Chosen (BlockNodePart t e n c i) f.end part
+  prefix_is_chosen p =
       let d = halt_is_node u block wide r in
       let b = derived_begun d.derived (omega arith) in
       last_halt_is_chosen u block wide r (cut_noting_back (cut u (derived_closed u d.derived)) p.events b.begun) p.comments p.escapes
 
   -- The text may be cut there.
-  pub front_boundary : IsCharBoundary t f.end
-  front_boundary = let d = halt_is_node u block wide r in closed_boundary u (derived_closed u d.derived)
+  pub prefix_boundary : IsCharBoundary t f.end
+  prefix_boundary = let d = halt_is_node u block wide r in closed_boundary u (derived_closed u d.derived)
 
-  pub front_utf8 : IsUtf8 (take f.end t)
-  front_utf8 = S.IsUtf8-take t f.end u front_boundary
+  pub prefix_utf8 : IsUtf8 (take f.end t)
+  prefix_utf8 = S.IsUtf8-take t f.end u prefix_boundary
 
-  pub front_length : length (take f.end t) ≡ f.end
-  front_length = length-take-le f.end t front_boundary.0
+  pub prefix_length : length (take f.end t) ≡ f.end
+  prefix_length = length-take-le f.end t prefix_boundary.0
 
   -- So whatever that reader finds in the prefix is the longest part of the text, with one meaning, and it finds a node there.
-  pub front_reads : {g : Found} {part : Part} → Whole (take f.end t) e (Awaited false n c Nothing i) (Some g) → Fills (take f.end t) g.meaning part
+  pub prefix_reads : {g : Found} {part : Part} → Whole (take f.end t) e (Awaited false n c Nothing i) (Some g) → Fills (take f.end t) g.meaning part
       → Chosen (BlockNodePart t e n c i) g.end part
   unfolding found
-  front_reads {g} {part} w p =
+  prefix_reads {g} {part} w p =
       let again : Found = record { end = f.end; height = f.height; json = false; meaning = f.meaning } in
-      let same : g ≡ again = some_is g again (front_is_whole w) in
-      subst (λ z. Chosen (BlockNodePart t e n c i) z.end part) (sym same) (front_is_chosen (subst (λ z. Fills (take f.end t) z.meaning part) same p))
+      let same : g ≡ again = some_is g again (prefix_is_whole w) in
+      subst (λ z. Chosen (BlockNodePart t e n c i) z.end part) (sym same) (prefix_is_chosen (subst (λ z. Fills (take f.end t) z.meaning part) same p))
 
-  pub front_reads_some : Whole (take f.end t) e (Awaited false n c Nothing i) None → ⊥
+  pub prefix_reads_some : Whole (take f.end t) e (Awaited false n c Nothing i) None → ⊥
   unfolding found
-  front_reads_some w = none_is_some (front_is_whole w)
+  prefix_reads_some w = none_is_some (prefix_is_whole w)

@@ -17,10 +17,10 @@ use Rattle.yf_grammar.specs.Grammar.{Production, FlowNode, NodeOf, JsonContent, 
 use Rattle.yf_grammar.specs.Grammar.Derives.{flow_node, an_alias, a_plain, a_plain_with, properties_alone, a_json, a_json_with, a_single, a_double, an_empty_collection, a_collection, last_entry, last_entry_with_comma, more_entries, a_node_entry, a_pair_entry, an_explicit_entry, an_implicit_entry, an_explicit_pair, a_keyed_pair, an_unkeyed_pair, explicit_with, explicit_without, key_alone, key_and_value, value_alone, empty_value, a_value, a_key, a_block_scalar, a_block_scalar_with, a_block_collection, a_block_collection_with, flow_in_block, a_last_entry, an_entry_before, a_dash_entry, an_explicit_entry_with, an_explicit_key_alone, a_keyed_entry, an_unkeyed_entry, a_block_value, an_empty_block_value, a_compact_collection, an_indented_node, nothing_indented}
 use Rattle.yf_grammar.specs.Part.{BlankSince, blank_line, past_gap, NotedSince, noted, not_noted, Noting, no_event, without_entry, with_entry}
 use Rattle.yf_grammar.proofs.FlowStarts.{may_forward, may_line_forward}
-use Rattle.yf_grammar.proofs.FrontTexts.{Alike, alike_back, alike_next}
-use Rattle.yf_grammar.proofs.FrontLines.{passes_there, break_there}
-use Rattle.yf_grammar.proofs.FrontComments.{blank_alike}
-use Rattle.yf_grammar.proofs.FrontNodes.{derived_order}
+use Rattle.yf_grammar.proofs.PrefixTexts.{Alike, alike_back, alike_next}
+use Rattle.yf_grammar.proofs.PrefixLines.{passes_there, break_there}
+use Rattle.yf_grammar.proofs.PrefixComments.{blank_alike}
+use Rattle.yf_grammar.proofs.PrefixNodes.{derived_order}
 
 -- no entry begins after the place
 pub data Begun (k : ℕ) : List Placed → Type 0 where

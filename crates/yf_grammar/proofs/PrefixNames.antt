@@ -13,9 +13,9 @@ use Rattle.yf_props.specs.Props.{TagValue}
 use Rattle.yf_props.proofs.NameOrder.{anchor_forward}
 use Rattle.yf_props.proofs.SeparationEnds.{separate_forward}
 use Rattle.yf_props.proofs.TagLemmas.{tag_later}
-use Rattle.yf_grammar.proofs.FrontTexts.{alike_back, alike_next, alike_slice}
-use Rattle.yf_grammar.proofs.FrontLines.{Carried, chain_there, one_carried, passes_there, stands_there}
-use Rattle.yf_grammar.proofs.FrontComments.{FrontText, separate_in_front}
+use Rattle.yf_grammar.proofs.PrefixTexts.{alike_back, alike_next, alike_slice}
+use Rattle.yf_grammar.proofs.PrefixLines.{Carried, chain_there, one_carried, passes_there, stands_there}
+use Rattle.yf_grammar.proofs.PrefixComments.{PrefixText, separate_in_prefix}
 
 no_hex_digit : is_hex_digit no_char ≡ false
 unfolding is_hex_digit is_digit is_between
@@ -29,7 +29,7 @@ no_tag_char : is_tag_char no_char ≡ false
 unfolding is_tag_char is_uri_char is_word_char is_digit is_between is_flow_indicator
 no_tag_char = refl
 
-module _ {t s : List ℕ} {k : ℕ} (f : FrontText t s k) where
+module _ {t s : List ℕ} {k : ℕ} (f : PrefixText t s k) where
   -- no character stands in the prefix at the place or after it
   pub inside : (p : ℕ → Bool) → p no_char ≡ false → (i : ℕ) → p (code s i) ≡ true → i < k
   inside p n i e = ⊎_elim
@@ -90,47 +90,47 @@ module _ {t s : List ℕ} {k : ℕ} (f : FrontText t s k) where
     all = record { none = λ h x o. r.all.none h x (spelled_back p n o) };
   }
 
-  anchor_in_front : {i j : ℕ} {x : List ℕ} → Anchor t i j x → j ≤ k → Anchor s i j x
-  anchor_in_front (ampersand_name {i = i} {j = j} e r) l =
+  anchor_in_prefix : {i j : ℕ} {x : List ℕ} → Anchor t i j x → j ≤ k → Anchor s i j x
+  anchor_in_prefix (ampersand_name {i = i} {j = j} e r) l =
       let g = r.some in
       rw (alike_slice f.alike (i + 1) j l) (ampersand_name (stands_there f.alike i (omega arith) e) (one_run is_anchor_char no_anchor_char r l))
 
-  pub alias_in_front : {i j : ℕ} {x : List ℕ} → Alias t i j x → j ≤ k → Alias s i j x
-  alias_in_front (asterisk_name {i = i} {j = j} e r) l =
+  pub alias_in_prefix : {i j : ℕ} {x : List ℕ} → Alias t i j x → j ≤ k → Alias s i j x
+  alias_in_prefix (asterisk_name {i = i} {j = j} e r) l =
       let g = r.some in
       rw (alike_slice f.alike (i + 1) j l) (asterisk_name (stands_there f.alike i (omega arith) e) (one_run is_anchor_char no_anchor_char r l))
 
-  handle_in_front : {i j : ℕ} → Handle t i j → j ≤ k → Handle s i j
-  handle_in_front (primary_handle {i = i} e) l = primary_handle (stands_there f.alike i (omega arith) e)
-  handle_in_front (secondary_handle {i = i} e d) l = secondary_handle (stands_there f.alike i (omega arith) e) (stands_there f.alike (i + 1) (omega arith) d)
-  handle_in_front (named_handle {i = i} {j = j} e r d) l =
+  handle_in_prefix : {i j : ℕ} → Handle t i j → j ≤ k → Handle s i j
+  handle_in_prefix (primary_handle {i = i} e) l = primary_handle (stands_there f.alike i (omega arith) e)
+  handle_in_prefix (secondary_handle {i = i} e d) l = secondary_handle (stands_there f.alike i (omega arith) e) (stands_there f.alike (i + 1) (omega arith) d)
+  handle_in_prefix (named_handle {i = i} {j = j} e r d) l =
       let g = r.some in
       named_handle (stands_there f.alike i (omega arith) e) (one_run is_word_char no_word_char r (omega arith)) (stands_there f.alike j (omega arith) d)
 
-  verbatim_in_front : {i j : ℕ} {x : List ℕ} → VerbatimTag t i j x → j ≤ k → VerbatimTag s i j x
-  verbatim_in_front (in_brackets {i = i} {j = j} e d r c) l =
+  verbatim_in_prefix : {i j : ℕ} {x : List ℕ} → VerbatimTag t i j x → j ≤ k → VerbatimTag s i j x
+  verbatim_in_prefix (in_brackets {i = i} {j = j} e d r c) l =
       let g = r.some in
       rw (alike_slice f.alike (i + 2) j (omega arith))
       (in_brackets (stands_there f.alike i (omega arith) e) (stands_there f.alike (i + 1) (omega arith) d) (spelled_run is_uri_char no_uri_char r (omega arith)) (stands_there f.alike j (omega arith) c))
 
-  shorthand_in_front : {i j : ℕ} {x : TagValue} → ShorthandTag t i j x → j ≤ k → ShorthandTag s i j x
-  shorthand_in_front (handle_suffix {i = i} {h = h} {j = j} d r) l =
+  shorthand_in_prefix : {i j : ℕ} {x : TagValue} → ShorthandTag t i j x → j ≤ k → ShorthandTag s i j x
+  shorthand_in_prefix (handle_suffix {i = i} {h = h} {j = j} d r) l =
       let g = r.some in
       rw (alike_slice f.alike i h (omega arith), alike_slice f.alike h j l)
-      (handle_suffix (handle_in_front d (omega arith)) (spelled_run is_tag_char no_tag_char r l))
+      (handle_suffix (handle_in_prefix d (omega arith)) (spelled_run is_tag_char no_tag_char r l))
 
-  tag_in_front : {i j : ℕ} {x : TagValue} → TagProperty t i j x → j ≤ k → TagProperty s i j x
-  tag_in_front (verbatim_tag d) l = verbatim_tag (verbatim_in_front d l)
-  tag_in_front (shorthand_tag d) l = shorthand_tag (shorthand_in_front d l)
-  tag_in_front (non_specific_tag {i = i} e n) l =
+  tag_in_prefix : {i j : ℕ} {x : TagValue} → TagProperty t i j x → j ≤ k → TagProperty s i j x
+  tag_in_prefix (verbatim_tag d) l = verbatim_tag (verbatim_in_prefix d l)
+  tag_in_prefix (shorthand_tag d) l = shorthand_tag (shorthand_in_prefix d l)
+  tag_in_prefix (non_specific_tag {i = i} e n) l =
       non_specific_tag (stands_there f.alike i (omega arith) e) (record { none = λ h x o. n.none h x (spelled_back is_tag_char no_tag_char o) })
 
-  pub properties_in_front : {n : ℤ} {c : Ctx} {i j : ℕ} {p : PropertiesValue} → Properties t n c i j p → j ≤ k → Properties s n c i j p
-  properties_in_front (by_tag d) l = by_tag (tag_in_front d l)
-  properties_in_front (by_anchor d) l = by_anchor (anchor_in_front d l)
-  properties_in_front (tag_first d e g) l =
+  pub properties_in_prefix : {n : ℤ} {c : Ctx} {i j : ℕ} {p : PropertiesValue} → Properties t n c i j p → j ≤ k → Properties s n c i j p
+  properties_in_prefix (by_tag d) l = by_tag (tag_in_prefix d l)
+  properties_in_prefix (by_anchor d) l = by_anchor (anchor_in_prefix d l)
+  properties_in_prefix (tag_first d e g) l =
       let m = separate_forward e in let h = anchor_forward g in
-      tag_first (tag_in_front d (omega arith)) (separate_in_front f e (omega arith)) (anchor_in_front g l)
-  properties_in_front (anchor_first d e g) l =
+      tag_first (tag_in_prefix d (omega arith)) (separate_in_prefix f e (omega arith)) (anchor_in_prefix g l)
+  properties_in_prefix (anchor_first d e g) l =
       let m = separate_forward e in let h = tag_later g in
-      anchor_first (anchor_in_front d (omega arith)) (separate_in_front f e (omega arith)) (tag_in_front g l)
+      anchor_first (anchor_in_prefix d (omega arith)) (separate_in_prefix f e (omega arith)) (tag_in_prefix g l)

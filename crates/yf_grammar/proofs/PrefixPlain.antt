@@ -8,8 +8,8 @@ use Rattle.yf_chars.proofs.TextLemmas.{next_later}
 use Rattle.yf_plain.specs.Plain.{is_plain_first, is_plain_char, PlainItem, set_off, PlainLine, one_line, PlainNext, next_line, PlainText, as_key, as_lines}
 use Rattle.yf_plain.proofs.PlainLemmas.{plain_is_ns, first_is_ns, ns_lf, ns_cr}
 use Rattle.yf_grammar.proofs.Forward.{items_forward, nexts_forward}
-use Rattle.yf_grammar.proofs.FrontTexts.{Alike, goes_on, alike_next, alike_before}
-use Rattle.yf_grammar.proofs.FrontLines.{Carried, chain_there, fold_carried, run_order, run_there}
+use Rattle.yf_grammar.proofs.PrefixTexts.{Alike, goes_on, alike_next, alike_before}
+use Rattle.yf_grammar.proofs.PrefixLines.{Carried, chain_there, fold_carried, run_order, run_there}
 
 module _ {t s : List ℕ} {k : ℕ} (a : Alike t s k) where
   -- a character that is visible is not the last one

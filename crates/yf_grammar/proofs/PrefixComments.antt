@@ -20,8 +20,8 @@ use Rattle.yf_comments.proofs.BlankLemmas.{white_lf, white_cr}
 use Rattle.yf_comments.proofs.LineOrder.{line_end_forward, rest_forward}
 use Rattle.yf_comments.proofs.RowLemmas.{break_or_end_forward}
 use Rattle.yf_comments.proofs.LineEndLemmas.{line_end_rows, rows_line_end, line_end_chosen}
-use Rattle.yf_grammar.proofs.FrontTexts.{Alike, FeedOrReturn, alike_back, alike_next, alike_slice}
-use Rattle.yf_grammar.proofs.FrontLines.{Carried, chain_order, chain_there, passes_there, stands_there, run_there, run_order, break_there, start_there, in_line_there, prefix_there, prefix_order}
+use Rattle.yf_grammar.proofs.PrefixTexts.{Alike, FeedOrReturn, alike_back, alike_next, alike_slice}
+use Rattle.yf_grammar.proofs.PrefixLines.{Carried, chain_order, chain_there, passes_there, stands_there, run_there, run_order, break_there, start_there, in_line_there, prefix_there, prefix_order}
 
 end_within : {t : List ℕ} {i j : ℕ} → BreakOrEnd t i j → j ≤ length t
 end_within (by_break b) = break_within b
@@ -136,21 +136,21 @@ module _ {t s : List ℕ} {k : ℕ} (a : Alike t s k) where
     go (comment d c (by_end e)) f l = let w = a.within in absurd (no_comment_last c (omega arith))
 
 -- a text and its prefix that ends at the place
-pub record FrontText (t s : List ℕ) (k : ℕ) : Type 0 where
+pub record PrefixText (t s : List ℕ) (k : ℕ) : Type 0 where
   pub alike : Alike t s k
   pub closed : length s ≡ k
 
-module _ {t s : List ℕ} {k : ℕ} (f : FrontText t s k) where
-  end_in_front : {i j : ℕ} → BreakOrEnd t i j → j ≤ k → BreakOrEnd s i j
-  end_in_front (by_break b) l = by_break (break_there f.alike b l)
-  end_in_front (by_end e) l = let w = f.alike.within in let c = f.closed in by_end (omega arith)
+module _ {t s : List ℕ} {k : ℕ} (f : PrefixText t s k) where
+  end_in_prefix : {i j : ℕ} → BreakOrEnd t i j → j ≤ k → BreakOrEnd s i j
+  end_in_prefix (by_break b) l = by_break (break_there f.alike b l)
+  end_in_prefix (by_end e) l = let w = f.alike.within in let c = f.closed in by_end (omega arith)
 
-  pub rest_in_front : {i j : ℕ} {x : List CommentValue} → LineRest t i j x → j ≤ k → LineRest s i j x
-  rest_in_front (nothing e) l = nothing (end_in_front e l)
-  rest_in_front (whites d e) l = let h = break_or_end_forward e in whites (in_line_there f.alike d (omega arith)) (end_in_front e l)
-  rest_in_front (comment d c e) l =
+  pub rest_in_prefix : {i j : ℕ} {x : List CommentValue} → LineRest t i j x → j ≤ k → LineRest s i j x
+  rest_in_prefix (nothing e) l = nothing (end_in_prefix e l)
+  rest_in_prefix (whites d e) l = let h = break_or_end_forward e in whites (in_line_there f.alike d (omega arith)) (end_in_prefix e l)
+  rest_in_prefix (comment d c e) l =
       let h = break_or_end_forward e in let m = comment_order f.alike c in
-      comment (in_line_there f.alike d (omega arith)) (comment_there f.alike c (omega arith)) (end_in_front e l)
+      comment (in_line_there f.alike d (omega arith)) (comment_there f.alike c (omega arith)) (end_in_prefix e l)
 
   lines_carried : Carried k (CommentLine t) (CommentLine s)
   lines_carried = record { order = λ i j x d. order d; there = λ i j x d l. there d l } where
@@ -159,18 +159,18 @@ module _ {t s : List ℕ} {k : ℕ} (f : FrontText t s k) where
     order (comment_line d c e) = rest_forward (comment d c e)
 
     there : {i j : ℕ} {x : List CommentValue} → CommentLine t i j x → j ≤ k → CommentLine s i j x
-    there (whites_line d e) l = let h = break_or_end_forward e in whites_line (in_line_there f.alike d (omega arith)) (end_in_front e l)
+    there (whites_line d e) l = let h = break_or_end_forward e in whites_line (in_line_there f.alike d (omega arith)) (end_in_prefix e l)
     there (comment_line d c e) l =
         let h = break_or_end_forward e in let m = comment_order f.alike c in
-        comment_line (in_line_there f.alike d (omega arith)) (comment_there f.alike c (omega arith)) (end_in_front e l)
+        comment_line (in_line_there f.alike d (omega arith)) (comment_there f.alike c (omega arith)) (end_in_prefix e l)
 
-  pub line_end_in_front : {i j : ℕ} {x : List CommentValue} → LineEnd t i j x → j ≤ k → LineEnd s i j x
-  line_end_in_front (past_rest r c) l = let h = chain_order lines_carried c in past_rest (rest_in_front r (omega arith)) (chain_there lines_carried c l)
-  line_end_in_front (from_start d c) l = let h = chain_order lines_carried c in from_start (start_there f.alike d (omega arith)) (chain_there lines_carried c l)
+  pub line_end_in_prefix : {i j : ℕ} {x : List CommentValue} → LineEnd t i j x → j ≤ k → LineEnd s i j x
+  line_end_in_prefix (past_rest r c) l = let h = chain_order lines_carried c in past_rest (rest_in_prefix r (omega arith)) (chain_there lines_carried c l)
+  line_end_in_prefix (from_start d c) l = let h = chain_order lines_carried c in from_start (start_there f.alike d (omega arith)) (chain_there lines_carried c l)
 
   -- the longest end of a line is the longest in the prefix
-  pub line_end_chosen_in_front : {i j : ℕ} {x : List CommentValue} → Chosen (LineEnd t i) j x → j ≤ k → Chosen (LineEnd s i) j x
-  line_end_chosen_in_front {i} {j} {x} c l = line_end_chosen (line_end_in_front c.derived l) (record { none = λ h y r. more h y r }) where
+  pub line_end_chosen_in_prefix : {i j : ℕ} {x : List CommentValue} → Chosen (LineEnd t i) j x → j ≤ k → Chosen (LineEnd s i) j x
+  line_end_chosen_in_prefix {i} {j} {x} c l = line_end_chosen (line_end_in_prefix c.derived l) (record { none = λ h y r. more h y r }) where
     more : (h : ℕ) (y : List CommentValue) → Row s j h y → ⊥
     more h y r =
         let w = rest_within r.rest in
@@ -181,10 +181,10 @@ module _ {t s : List ℕ} {k : ℕ} (f : FrontText t s k) where
         let long = c.longest h (x ++ y) (rows_line_end (chain_more (line_end_rows c.derived) back) (omega arith)) in
         absurd (omega arith)
 
-  separate_lines_in_front : {n : ℤ} {i j : ℕ} {x : List CommentValue} → SeparateLines t n i j x → j ≤ k → SeparateLines s n i j x
-  separate_lines_in_front (in_line d) l = in_line (in_line_there f.alike d l)
-  separate_lines_in_front (over_lines e p) l = let h = prefix_order p in over_lines (line_end_in_front e (omega arith)) (prefix_there f.alike p l)
+  separate_lines_in_prefix : {n : ℤ} {i j : ℕ} {x : List CommentValue} → SeparateLines t n i j x → j ≤ k → SeparateLines s n i j x
+  separate_lines_in_prefix (in_line d) l = in_line (in_line_there f.alike d l)
+  separate_lines_in_prefix (over_lines e p) l = let h = prefix_order p in over_lines (line_end_in_prefix e (omega arith)) (prefix_there f.alike p l)
 
-  pub separate_in_front : {n : ℤ} {c : Ctx} {i j : ℕ} {x : List CommentValue} → Separate t n c i j x → j ≤ k → Separate s n c i j x
-  separate_in_front (in_key b d) l = in_key b (in_line_there f.alike d l)
-  separate_in_front (in_node b d) l = in_node b (separate_lines_in_front d l)
+  pub separate_in_prefix : {n : ℤ} {c : Ctx} {i j : ℕ} {x : List CommentValue} → Separate t n c i j x → j ≤ k → Separate s n c i j x
+  separate_in_prefix (in_key b d) l = in_key b (in_line_there f.alike d l)
+  separate_in_prefix (in_node b d) l = in_node b (separate_lines_in_prefix d l)

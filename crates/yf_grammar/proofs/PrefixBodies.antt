@@ -21,9 +21,9 @@ use Rattle.yf_block_scalar.specs.Header.{Style, literal_sign, folded_sign, Digit
 use Rattle.yf_block_scalar.specs.Body.{least, SpaceLine, Bare, bare, largest, by_break, by_text, Content, content, Line, empty_line, content_line, Lines, no_content, up_to, Tail, Taken, Other, MarkerLine, marker_here, past_mark, Indented, Detected, Shallow, missing, left_of, forbidden, is_gap_tail, first_noted, Trail, comments, no_comment, BodyValue, Body, indicated, detected, without_content}
 use Rattle.yf_block_scalar.proofs.UniqueLemmas.{line_functional, lines_chain, taken_unique}
 use Rattle.yf_block_scalar.proofs.ScalarOrder.{marks_forward}
-use Rattle.yf_grammar.proofs.FrontTexts.{Alike, alike_back, alike_next, alike_slice}
-use Rattle.yf_grammar.proofs.FrontLines.{Carried, chain_order, chain_there, passes_there, stands_there, not_there, run_there, break_there, spaces_there, marker_there, no_marker_there}
-use Rattle.yf_grammar.proofs.FrontComments.{FrontText, no_nb_run, rest_in_front, line_end_chosen_in_front}
+use Rattle.yf_grammar.proofs.PrefixTexts.{Alike, alike_back, alike_next, alike_slice}
+use Rattle.yf_grammar.proofs.PrefixLines.{Carried, chain_order, chain_there, passes_there, stands_there, not_there, run_there, break_there, spaces_there, marker_there, no_marker_there}
+use Rattle.yf_grammar.proofs.PrefixComments.{PrefixText, no_nb_run, rest_in_prefix, line_end_chosen_in_prefix}
 
 -- what stands in one of two texts that are alike
 module _ {t s : List ℕ} {k : ℕ} (a : Alike t s k) where
@@ -132,20 +132,20 @@ module _ {t s : List ℕ} {k : ℕ} (a : Alike t s k) where
       past_mark (stands_there a i l e) (subst (λ j. MarkerLine s j) (alike_next a i l) (marker_line_there d (mark_inside i l e)))
 
 -- the same of what is not there
-module _ {t s : List ℕ} {k : ℕ} (f : FrontText t s k) where
-  other_in_front : {i : ℕ} → Other t i → i < k → Other s i
-  other_in_front {i} d l = record {
+module _ {t s : List ℕ} {k : ℕ} (f : PrefixText t s k) where
+  other_in_prefix : {i : ℕ} → Other t i → i < k → Other s i
+  other_in_prefix {i} d l = record {
     inside = not_there f.alike i l d.inside;
     no_space = not_there f.alike i l d.no_space;
     no_break = record { none = λ j b. let w = break_within b in let c = f.closed in d.no_break.none j (break_there (alike_back f.alike) b (omega arith)) };
   }
 
-  indented_in_front : {n : ℤ} {i m : ℕ} → Indented t n i m → i < k → Indented s n i m
-  indented_in_front d l =
+  indented_in_prefix : {n : ℤ} {i m : ℕ} → Indented t n i m → i < k → Indented s n i m
+  indented_in_prefix d l =
       let g = spaces_inside f.alike d.spaces l in
       record {
         spaces = spaces_there f.alike d.spaces (omega arith);
-        other = other_in_front d.other g;
+        other = other_in_prefix d.other g;
         deep = d.deep;
         clear = λ q. d.clear (marker_line_there (alike_back f.alike) q l);
       }
@@ -154,11 +154,11 @@ module _ {t s : List ℕ} {k : ℕ} (f : FrontText t s k) where
   nothing_at_end : (c m i : ℕ) → c < 0x110000 → k ≤ i → code s (i + m) ≡ c → ⊥
   nothing_at_end c m i l g e = let z = f.closed in let p = code-past s (i + m) (omega arith) in absurd (omega arith)
 
-  shallow_in_front : {n : ℤ} {i : ℕ} → Shallow t n i → i ≤ k → Shallow s n i
-  shallow_in_front {n} {i} d l = ⊎_elim (λ (g : i < k). go d g) (λ (g : k ≤ i). let c = f.closed in missing 0 (record { each = λ m h. absurd (omega arith) }) (omega arith)) (cases_lt i k) where
+  shallow_in_prefix : {n : ℤ} {i : ℕ} → Shallow t n i → i ≤ k → Shallow s n i
+  shallow_in_prefix {n} {i} d l = ⊎_elim (λ (g : i < k). go d g) (λ (g : k ≤ i). let c = f.closed in missing 0 (record { each = λ m h. absurd (omega arith) }) (omega arith)) (cases_lt i k) where
     go : Shallow t n i → i < k → Shallow s n i
     go (missing m d e) g = let w = f.alike.within in let h = spaces_inside f.alike d g in absurd (omega arith)
-    go (left_of m d o h) g = let w = spaces_inside f.alike d g in left_of m (spaces_there f.alike d (omega arith)) (other_in_front o w) h
+    go (left_of m d o h) g = let w = spaces_inside f.alike d g in left_of m (spaces_there f.alike d (omega arith)) (other_in_prefix o w) h
     go (forbidden d) g = forbidden (marker_line_there f.alike d g)
 
   line_within : {c i j : ℕ} {x : List (List ℕ)} → Line s c i j x → j ≤ length s
@@ -169,16 +169,16 @@ module _ {t s : List ℕ} {k : ℕ} (f : FrontText t s k) where
   line_back : {c i j : ℕ} {x : List (List ℕ)} → Line s c i j x → Line t c i j x
   line_back {c} {i} {j} {x} d = let w = line_within d in let z = f.closed in (line_carried (alike_back f.alike) c).there i j x d (omega arith)
 
-  tail_in_front : {c i j count : ℕ} → Tail t c i j count → j ≤ k → Tail s c i j count
-  tail_in_front d l = record { widths = d.widths; lines = chain_there (bare_carried f.alike) d.lines l; within = d.within; counts = d.counts }
+  tail_in_prefix : {c i j count : ℕ} → Tail t c i j count → j ≤ k → Tail s c i j count
+  tail_in_prefix d l = record { widths = d.widths; lines = chain_there (bare_carried f.alike) d.lines l; within = d.within; counts = d.counts }
 
-  taken_in_front : {c i j count : ℕ} {ls : List (List ℕ)} {o : Bool} → Taken t c i ls o count j → j ≤ k → Taken s c i ls o count j
-  taken_in_front d l =
+  taken_in_prefix : {c i j count : ℕ} {ls : List (List ℕ)} {o : Bool} → Taken t c i ls o count j → j ≤ k → Taken s c i ls o count j
+  taken_in_prefix d l =
       let g = chain_order (bare_carried f.alike) d.tail.lines in
       record {
         end = d.end;
         lines = lines_there f.alike d.lines (omega arith);
-        tail = tail_in_front d.tail l;
+        tail = tail_in_prefix d.tail l;
         most = record { none = λ h x q. d.most.none h x (line_back q) };
       }
 
@@ -198,15 +198,15 @@ module _ {t s : List ℕ} {k : ℕ} (f : FrontText t s k) where
   no_trail : (c i : ℕ) → k ≤ i → Trail s c i i []
   no_trail c i g = no_comment (λ m h d e. nothing_at_end 35 m i (omega arith) g e)
 
-  trail_in_front : {c i j : ℕ} {x : List CommentValue} → Trail t c i j x → j ≤ k → Trail s c i j x
-  trail_in_front {c} {i} {j} {x} d l = ⊎_elim
+  trail_in_prefix : {c i j : ℕ} {x : List CommentValue} → Trail t c i j x → j ≤ k → Trail s c i j x
+  trail_in_prefix {c} {i} {j} {x} d l = ⊎_elim
       (λ (g : i < k). go d g l)
       (λ (g : k ≤ i). let w = trail_at_end d g l in subst (λ h. Trail s c i h x) w.0 (subst (λ y. Trail s c i i y) (sym w.1) (no_trail c i g)))
       (cases_lt i k) where
         go : {i j : ℕ} {x : List CommentValue} → Trail t c i j x → i < k → j ≤ k → Trail s c i j x
         go (comments {i = i} m l d e q) g h =
             let w = spaces_inside f.alike d g in
-            comments m l (spaces_there f.alike d (omega arith)) (stands_there f.alike (i + m) w e) (line_end_chosen_in_front f q h)
+            comments m l (spaces_there f.alike d (omega arith)) (stands_there f.alike (i + m) w e) (line_end_chosen_in_prefix f q h)
         go (no_comment {i = i} n) g h = no_comment (λ m l d e.
             ⊎_elim
             (λ (w : i + m < k). n m l (spaces_there (alike_back f.alike) d (omega arith)) (stands_there (alike_back f.alike) (i + m) w e))
@@ -234,12 +234,12 @@ module _ {t : List ℕ} {n : ℤ} {i c p count : ℕ} {ls : List (List ℕ)} {o 
     most = subst (λ h. Stuck (Line t c h)) same a.most;
   }
 
-module _ {t s : List ℕ} {k : ℕ} (f : FrontText t s k) where
+module _ {t s : List ℕ} {k : ℕ} (f : PrefixText t s k) where
   -- a scalar whose first line of content is not in the prefix has no content there
-  without_in_front : {n : ℤ} {h : Header} {i p j c count : ℕ} {ls : List (List ℕ)} {o : Bool} {x : List CommentValue} → h.digit ≡ None → (d : Detected t n i c)
+  without_in_prefix : {n : ℤ} {h : Header} {i p j c count : ℕ} {ls : List (List ℕ)} {o : Bool} {x : List CommentValue} → h.digit ≡ None → (d : Detected t n i c)
       → Taken t c i ls o count p → Trail t c p j x → j ≤ k → k ≤ d.at
       → Body s n h i j (record { lines = ls; open_end = o; tail = count; comments = first_noted (is_gap_tail h.chomp count) x })
-  without_in_front {n} {h} {i} {p} {j} {c} {count} {ls} {o} {x} e d a b l g =
+  without_in_prefix {n} {h} {i} {p} {j} {c} {count} {ls} {o} {x} e d a b l g =
       let first = detected_first d a in
       let w = trail_order f b in
       let one = taken_unique a (bare_taken d a (omega arith)) in
@@ -255,9 +255,9 @@ module _ {t s : List ℕ} {k : ℕ} (f : FrontText t s k) where
         shallow_end : {i : ℕ} → i ≡ k → Shallow s n i
         shallow_end e = let z = f.closed in missing 0 (record { each = λ m h. absurd (omega arith) }) (omega arith)
 
-  pub body_in_front : {n : ℤ} {h : Header} {i j : ℕ} {v : BodyValue} → Body t n h i j v → j ≤ k → Body s n h i j v
-  body_in_front (indicated e a b) l = let w = trail_order f b in indicated e (taken_in_front f a (omega arith)) (trail_in_front f b l)
-  body_in_front (detected {i = i} {k = c} e d a b) l =
+  pub body_in_prefix : {n : ℤ} {h : Header} {i j : ℕ} {v : BodyValue} → Body t n h i j v → j ≤ k → Body s n h i j v
+  body_in_prefix (indicated e a b) l = let w = trail_order f b in indicated e (taken_in_prefix f a (omega arith)) (trail_in_prefix f b l)
+  body_in_prefix (detected {i = i} {k = c} e d a b) l =
       let w = trail_order f b in
       ⊎_elim
       (λ (g : d.at < k). detected e (record {
@@ -265,15 +265,15 @@ module _ {t s : List ℕ} {k : ℕ} (f : FrontText t s k) where
         widths = d.widths;
         before = chain_there (bare_carried f.alike) d.before (omega arith);
         within = d.within;
-        first = indented_in_front f d.first g;
-      }) (taken_in_front f a (omega arith)) (trail_in_front f b l))
-      (λ (g : k ≤ d.at). without_in_front e d a b l g)
+        first = indented_in_prefix f d.first g;
+      }) (taken_in_prefix f a (omega arith)) (trail_in_prefix f b l))
+      (λ (g : k ≤ d.at). without_in_prefix e d a b l g)
       (cases_lt d.at k)
-  body_in_front (without_content e c d b) l =
+  body_in_prefix (without_content e c d b) l =
       let w = trail_order f b in
-      without_content e (chain_there (bare_carried f.alike) c (omega arith)) (shallow_in_front f d (omega arith)) (trail_in_front f b l)
+      without_content e (chain_there (bare_carried f.alike) c (omega arith)) (shallow_in_prefix f d (omega arith)) (trail_in_prefix f b l)
 
-  pub header_in_front : {i j : ℕ} {v : HeaderValue} → BlockHeader t i j v → j ≤ k → BlockHeader s i j v
-  header_in_front (block_header d m r) l =
+  pub header_in_prefix : {i j : ℕ} {v : HeaderValue} → BlockHeader t i j v → j ≤ k → BlockHeader s i j v
+  header_in_prefix (block_header d m r) l =
       let g = rest_forward r in let h = marks_forward m in
-      block_header (style_there f.alike d (omega arith)) (indicators_there f.alike m (omega arith)) (rest_in_front f r l)
+      block_header (style_there f.alike d (omega arith)) (indicators_there f.alike m (omega arith)) (rest_in_prefix f r l)

@@ -87,54 +87,54 @@ module _ {t s : List ℕ} {k : ℕ} (a : Alike t s k) where
 
 -- what stands in a text stands in its prefix
 module _ (t : List ℕ) (k : ℕ) (u : IsUtf8 t) (b : IsCharBoundary t k) where
-  front_utf8 : IsUtf8 (take k t)
-  front_utf8 = S.IsUtf8-take t k u b
+  prefix_utf8 : IsUtf8 (take k t)
+  prefix_utf8 = S.IsUtf8-take t k u b
 
-  front_length : length (take k t) ≡ k
-  front_length = length-take-le k t b.0
+  prefix_length : length (take k t) ≡ k
+  prefix_length = length-take-le k t b.0
 
-  begins_in_front : (i : ℕ) → i < k → begins (take k t) i ≡ begins t i
+  begins_in_prefix : (i : ℕ) → i < k → begins (take k t) i ≡ begins t i
   unfolding begins
-  begins_in_front i l =
-      let n = front_length in
+  begins_in_prefix i l =
+      let n = prefix_length in
       let w = b.0 in
       rw (get_or-take k t i 0 l, lt-ltb i (length (take k t)) (omega arith), lt-ltb i (length t) (omega arith)) refl
 
-  code_in_front : (i : ℕ) → i < k → code t i ≡ code (take k t) i
-  code_in_front i l = ⊎_elim
+  code_in_prefix : (i : ℕ) → i < k → code t i ≡ code (take k t) i
+  code_in_prefix i l = ⊎_elim
       (λ (e : begins (take k t) i ≡ true).
-      let cut = drop_there (take k t) i front_utf8 e in
-      let n = front_length in
+      let cut = drop_there (take k t) i prefix_utf8 e in
+      let n = prefix_length in
       let all : drop i t ≡ drop i (take k t) ++ drop k t =
       ap (drop i) (sym (take-append-drop k t)) ∙ drop-append-le i (take k t) (drop k t) (omega arith) in
       let is : drop i t ≡ encode (code (take k t) i) ++ (cut.0 ++ drop k t) =
       all ∙ ap (λ w. w ++ drop k t) cut.1 ∙ append_assoc (encode (code (take k t) i)) cut.0 (drop k t) in
-      let there : begins t i ≡ true = sym (begins_in_front i l) ∙ e in
+      let there : begins t i ≡ true = sym (begins_in_prefix i l) ∙ e in
       (reads_char t i (code (take k t) i) (cut.0 ++ drop k t) u (boundary_from_begins t i there) (omega (arith, b.0)) is).char)
       (λ (e : begins (take k t) i ≡ false).
-      code-nowhere t i (sym (begins_in_front i l) ∙ e) ∙ sym (code-nowhere (take k t) i e))
+      code-nowhere t i (sym (begins_in_prefix i l) ∙ e) ∙ sym (code-nowhere (take k t) i e))
       (cases_Bool (begins (take k t) i))
 
   last_before : {i : ℕ} → Break t i k → FeedOrReturn (code t (k - 1))
   last_before d = ⊎_elim (λ (e : code t (k - 1) ≡ 10). inl e) (λ (e : (code t (k - 1) ≡ 13) × (code t k ≢ 10)). inr e.0) (break_end d)
 
-  front_alike : {i : ℕ} → Break t i k → Alike t (take k t) k
-  front_alike {i} d = let n = front_length in let f = break_forward d in record {
+  prefix_alike : {i : ℕ} → Break t i k → Alike t (take k t) k
+  prefix_alike {i} d = let n = prefix_length in let f = break_forward d in record {
     utf8 = u;
-    utf8_there = front_utf8;
+    utf8_there = prefix_utf8;
     within = b.0;
     within_there = omega arith;
     later = omega arith;
     bytes = sym (take-take k k t (omega arith));
-    codes = λ i l. code_in_front i l;
+    codes = λ i l. code_in_prefix i l;
     last = last_before d;
     apart = λ e. ⊎_elim (λ (q : code t (k - 1) ≡ 10). absurd (omega arith)) (λ (q : (code t (k - 1) ≡ 13) × (code t k ≢ 10)). q.1) (break_end d);
     apart_there = λ e q. let past = code-past (take k t) k (omega arith) in absurd (omega arith);
   }
 
 -- a text and its prefix up to the end of a break
-pub front : {t : List ℕ} {i j : ℕ} → IsUtf8 t → Break t i j → Alike t (take j t) j
-front {t} {i} {j} u d = front_alike t j u (break_boundary u d) d
+pub prefix : {t : List ℕ} {i j : ℕ} → IsUtf8 t → Break t i j → Alike t (take j t) j
+prefix {t} {i} {j} u d = prefix_alike t j u (break_boundary u d) d
 
-pub front_end : {t : List ℕ} {i j : ℕ} → IsUtf8 t → Break t i j → length (take j t) ≡ j
-front_end {t} {i} {j} u d = front_length t j u (break_boundary u d)
+pub prefix_end : {t : List ℕ} {i j : ℕ} → IsUtf8 t → Break t i j → length (take j t) ≡ j
+prefix_end {t} {i} {j} u d = prefix_length t j u (break_boundary u d)

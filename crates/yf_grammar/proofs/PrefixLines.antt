@@ -11,7 +11,7 @@ use Rattle.yf_chars.proofs.TextLemmas.{next_later}
 use Rattle.yf_lines.specs.Basic.{Break, cr_lf, lone_cr, lone_lf, LineStart, at_text, after_break, after_mark, Spaces, Indent, exactly, IndentLess, fewer, SeparateInLine, by_whites, at_start, FlowPrefix, indented, set_off, LinePrefix, in_block, in_flow, Empty, prefixed, shorter, Folded, trimmed, as_space, FlowFolded, at_break, past_whites, is_three, is_marker, Forbidden, Clear}
 use Rattle.yf_lines.proofs.BasicLemmas.{break_forward}
 use Rattle.yf_grammar.proofs.Forward.{in_line_forward}
-use Rattle.yf_grammar.proofs.FrontTexts.{Alike, alike_back, alike_next, goes_on_at}
+use Rattle.yf_grammar.proofs.PrefixTexts.{Alike, alike_back, alike_next, goes_on_at}
 
 -- a step never leads back, and one up to the place is one in the other text
 pub record Carried {A : Type 0} (k : ℕ) (S R : ℕ → ℕ → List A → Type 0) : Type 0 where
