@@ -117,6 +117,18 @@ pub mod PlacesDerived
 pub mod EventsStand
 pub mod ItemsVisible
 pub mod NotedNodes
+-- a node of a text is one of the prefix that ends with it, and is read there again (`read_block_node` of yf_block)
+pub mod PrefixTexts
+pub mod PrefixLines
+pub mod PrefixComments
+pub mod PrefixNames
+pub mod PrefixPlain
+pub mod PrefixQuoted
+pub mod PrefixBodies
+pub mod PrefixNodes
+pub mod PrefixEnds
+pub mod PrefixNotes
+pub mod PrefixWhole
 -- what is written is read again (the laws of layouts of yf_emit)
 pub mod LeafBack
 pub mod FlowBack

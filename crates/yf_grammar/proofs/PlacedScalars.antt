@@ -54,7 +54,7 @@ module _ {t : List ℕ} (u : IsUtf8 t) where
       → LinesBetween t (reach c (length ls) count) i e → e ≤ p
   taken_reached {count = count} c a d = reached count c (taken_lines u a) (taken_all u a) refl (lines_forward (blanks_one a.tail.lines)) d
 
-  body_reached : {n : ℤ} {h : Header} {i j e : ℕ} {b : BodyValue} → Body t n h i j b → LinesBetween t (reach h.chomp (length b.lines) b.tail) i e → e ≤ j
+  pub body_reached : {n : ℤ} {h : Header} {i j e : ℕ} {b : BodyValue} → Body t n h i j b → LinesBetween t (reach h.chomp (length b.lines) b.tail) i e → e ≤ j
   body_reached {h = h} (indicated q a b) d = let l = taken_reached h.chomp a d in let m = trail_forward b in omega arith
   body_reached {h = h} (detected q w a b) d = let l = taken_reached h.chomp a d in let m = trail_forward b in omega arith
   body_reached {h = h} {i = i} (without_content {widths = widths} q c w b) d =
