@@ -125,12 +125,12 @@ reading_told {t} {j} {q} {steps} u a laid =
     sym (noted_told (λ o. 0 + starts_before (leaf_starts q.events) o) a.comments)
     ∙ (ap (λ ss. told_by (λ o. 0 + starts_before ss o) a.derived.comments) same ∙ counted) in
     sym (without_zero q.comments) ∙ bare where
-  without_zero : (cs : List CommentValue) → told_by (λ o. 0 + starts_before (leaf_starts q.events) o) cs
-      ≡ told_by (leaves_before q) cs
-  without_zero [] = refl
-  without_zero (c ∷ cs) =
-      ap (λ z. (c.text, z) ∷ told_by (λ o. 0 + starts_before (leaf_starts q.events) o) cs) (zero-add (leaves_before q c.offset))
-      ∙ ap (λ z. (c.text, leaves_before q c.offset) ∷ z) (without_zero cs)
+      without_zero : (cs : List CommentValue) → told_by (λ o. 0 + starts_before (leaf_starts q.events) o) cs
+          ≡ told_by (leaves_before q) cs
+      without_zero [] = refl
+      without_zero (c ∷ cs) =
+          ap (λ z. (c.text, z) ∷ told_by (λ o. 0 + starts_before (leaf_starts q.events) o) cs) (zero-add (leaves_before q c.offset))
+          ∙ ap (λ z. (c.text, leaves_before q c.offset) ∷ z) (without_zero cs)
 
 -- of what formatting gives
 pub found_again : (t u : List ℕ) (s : Style) (q : Lists) → IsUtf8 t → (f : Formats t s u) → ReadingOf u q

@@ -45,9 +45,9 @@ remarks_then : (before : Ending) (column : ℕ) (cs : List CommentValue) (b : Bo
 remarks_then before column cs b =
     remarks_append (remarks_behind before column cs) (blank_if b) ∙ (ap (λ w. remarks_of (remarks_behind before column cs) ++ w) (none b)
     ∙ (append-nil (remarks_of (remarks_behind before column cs)) ∙ remarks_are before column cs)) where
-  none : (b : Bool) → remarks_of (blank_if b) ≡ []
-  none true = refl
-  none false = refl
+      none : (b : Bool) → remarks_of (blank_if b) ≡ []
+      none true = refl
+      none false = refl
 
 comments_apart : (xs ys : List (List ℕ)) (r : List Step) → comment_steps (xs ++ ys) ++ r ≡ comment_steps xs ++ (comment_steps ys ++ r)
 comments_apart xs ys r = ap (λ w. w ++ r) (map-append (λ (x : List ℕ). a_comment x) xs ys) ∙ append_assoc (comment_steps xs) (comment_steps ys) r
@@ -136,7 +136,7 @@ cuts_told {c} {own} {left} (row_cut {row = row} {rows = rows} ahead more split b
     let trails : List CommentValue = trailing c row in
     let all : starts_of (row.leaves ++ leaves_on rows) ≡ ss ++ rs = map-append (λ (s : Span). s.start) row.leaves (leaves_on rows) in
     let inner : told n (leaf_steps row.leaves ++ (comment_steps (trimmed_texts trails) ++ printed_steps c (comments_left row (filter own left)) rows))
-        ≡ trimmed_by (λ o. m + starts_before rs o) (trails ++ more) =
+    ≡ trimmed_by (λ o. m + starts_before rs o) (trails ++ more) =
     told_leaves n row.leaves (comment_steps (trimmed_texts trails) ++ printed_steps c (comments_left row (filter own left)) rows)
     ∙ (ap (λ k. told k (comment_steps (trimmed_texts trails) ++ printed_steps c (comments_left row (filter own left)) rows)) (ap (λ k. n + k) (sym (count row.leaves)))
     ∙ (told_comments m (trimmed_texts trails) (printed_steps c (comments_left row (filter own left)) rows)
@@ -150,6 +150,6 @@ cuts_told {c} {own} {left} (row_cut {row = row} {rows = rows} ahead more split b
     ∙ (sym (trimmed_append (λ o. n + starts_before (ss ++ rs) o) ahead (trails ++ more))
     ∙ (ap (trimmed_by (λ o. n + starts_before (ss ++ rs) o)) (sym split)
     ∙ ap (λ w. trimmed_by (λ o. n + starts_before w o) left) (sym all)))))) where
-  count : (ls : List Span) → length (starts_of ls) ≡ length ls
-  count [] = refl
-  count (l ∷ ls) = ap suc (count ls)
+      count : (ls : List Span) → length (starts_of ls) ≡ length ls
+      count [] = refl
+      count (l ∷ ls) = ap suc (count ls)

@@ -76,10 +76,10 @@ mutual
   node_stand {i = i} {j = j} (stands_nowhere m e) = subst (λ w. Stand i (starts_of (spans_of_leaf w)) [] (leaf_steps (spans_of_leaf w)) j) (sym e) (nothing_stands m)
   node_stand (scalar_stands {at = at} e b l m w s) = leaf_stand _ _ at.span e b.order (omega (arith, l, m))
   node_stand (alias_stands {at = at} e b l m s) = leaf_stand _ _ at.span e b.order (omega (arith, l, m))
-  node_stand (sequence_stands {at = at} e b (no_items_stand l) m s) = leaf_stand _ _ at.span e b.order (omega (arith, l, m))
-  node_stand (sequence_stands e b (item_stands f q l a c) m s) = stand_after b.order (stand_upto (items_stand (item_stands f q l a c)) m)
-  node_stand (mapping_stands {at = at} e b (no_pairs_stand l) m s) = leaf_stand _ _ at.span e b.order (omega (arith, l, m))
-  node_stand (mapping_stands e b (pair_stands f q l a c d g) m s) = stand_after b.order (stand_upto (pairs_stand (pair_stands f q l a c d g)) m)
+  node_stand (sequence_stands {at = at} e b (no_items_stand l) m s) = leaf_stand _ _ at.span e b.order (let n = b.inner in omega (arith, l, m, n))
+  node_stand (sequence_stands e b (item_stands f q l a c) m s) = stand_after (let o = b.order in let n = b.inner in omega (arith, o, n)) (stand_upto (items_stand (item_stands f q l a c)) m)
+  node_stand (mapping_stands {at = at} e b (no_pairs_stand l) m s) = leaf_stand _ _ at.span e b.order (let n = b.inner in omega (arith, l, m, n))
+  node_stand (mapping_stands e b (pair_stands f q l a c d g) m s) = stand_after (let o = b.order in let n = b.inner in omega (arith, o, n)) (stand_upto (pairs_stand (pair_stands f q l a c d g)) m)
 
   items_stand : {t : List ℕ} {i j : ℕ} {xs : Items} → ItemsStand t i j xs → Stand i (starts_of (leaves_of_items xs)) [] (leaf_steps (leaves_of_items xs)) j
   items_stand (no_items_stand l) = nothing_stands l

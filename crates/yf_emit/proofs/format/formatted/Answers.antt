@@ -6,13 +6,13 @@ use Rattle.yf_emit.proofs.format.formatted.Goals as goal
 pub returns-in-Ok-clause-formatted : goal.returns-in-Ok-clause-formatted
 returns-in-Ok-clause-formatted c = record {
   reading = c.args.reading.now;
-  normal = c.in_ok-normal_of.normal;
-  nested = c.in_ok-normal_of.ensures.nested;
-  restyled = c.in_ok-normal_of.ensures.restyled;
-  is_normal = c.in_ok-normal_of.ensures.is_normal;
-  same = c.in_ok-normal_of.ensures.content;
+  normal = c.in_ok-normal.normal;
+  nested = c.in_ok-normal.ensures.nested;
+  restyled = c.in_ok-normal.ensures.restyled;
+  is_normal = c.in_ok-normal.ensures.is_normal;
+  same = c.in_ok-normal.ensures.content;
   is = c.in-Ok.ensures;
-  formats = printed_formats c.args.text.now c.args.style.now (string_bytes c.in-Ok.output) c.args.reading.now c.in_ok-normal_of.normal
-      c.in_ok-normal_of.ensures.nested c.in_ok-normal_of.ensures.is_normal c.in-Ok.ensures;
+  formats = printed_formats c.args.text.now c.args.style.now (string_bytes c.in-Ok.output) c.args.reading.now c.in_ok-normal.normal
+      c.in_ok-normal.ensures.nested c.in_ok-normal.ensures.is_normal c.in-Ok.ensures;
   utf8 = IsUtf8-string_bytes c.in-Ok.output;
 }
