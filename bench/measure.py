@@ -95,10 +95,9 @@ def real_text(program, folders):
 
 def run(words, path, good):
     """Processor seconds, and the peak of resident memory in bytes; the seconds are None where there were too many."""
-    def limited():
-        resource.setrlimit(resource.RLIMIT_CPU, (LIMIT, LIMIT))
     with open(path, 'rb') as source:
-        child = subprocess.Popen(words, stdin=source, stdout=subprocess.DEVNULL, preexec_fn=limited)
+        child = subprocess.Popen(words, stdin=source, stdout=subprocess.DEVNULL)
+        resource.prlimit(child.pid, resource.RLIMIT_CPU, (LIMIT, LIMIT))
         _, status, usage = os.wait4(child.pid, 0)
     if usage.ru_utime + usage.ru_stime > LIMIT - 2:
         return None, usage.ru_maxrss * 1024
@@ -157,11 +156,25 @@ def peers(is_dense):
     yield 'ruamel.yaml', [sys.executable, '-c', ROUND_TRIP] if importlib.util.find_spec('ruamel') else None, (0,)
 
 
-def written(folder, size, text):
-    path = os.path.join(folder, '%d.yaml' % size)
-    with open(path, 'wb') as out:
-        out.write(text(size))
-    return path
+SIZES = 300_000, 1 << 20, 16 << 20
+
+
+def write_texts(given, folder):
+    text = real_text(given.program, given.real) if given.real else dense_text if given.dense else text_of
+    for size in SIZES:
+        with open(os.path.join(folder, '%d.yaml' % size), 'wb') as out:
+            out.write(text(size))
+
+
+def written(given, folder):
+    """The paths of the texts. They are made in a process of its own: the memory of this one counts for each that it starts."""
+    child = os.fork()
+    if child == 0:
+        write_texts(given, folder)
+        sys.stdout.flush()
+        os._exit(0)
+    os.waitpid(child, 0)
+    return [os.path.join(folder, '%d.yaml' % size) for size in SIZES]
 
 
 def arguments():
@@ -177,13 +190,12 @@ def main():
     program = given.program
     if not os.access(program, os.X_OK):
         sys.exit('there is no program %s: run ./yamlfmt once, which builds it' % program)
-    text = real_text(program, given.real) if given.real else dense_text if given.dense else text_of
     with tempfile.TemporaryDirectory() as folder:
-        files = [(path, os.path.getsize(path)) for path in (written(folder, megabytes << 20, text) for megabytes in (1, 16))]
+        small, *paths = written(given, folder)
+        files = [(path, os.path.getsize(path)) for path in paths]
         measure('yamlfmt events', [program, 'events'], files)
         measure('yamlfmt check', [program, 'check'], files, good=(0, 1))
         measure('yamlfmt fmt', [program, 'fmt'], files)
-        small = written(folder, 300_000, text)
         for verb in ('events', 'check', 'fmt'):
             instructions('yamlfmt ' + verb, [program, verb], small)
         for name, words, good in peers(given.dense):
