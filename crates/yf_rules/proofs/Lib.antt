@@ -20,7 +20,7 @@ pub mod TrailingLemmas
 pub mod StyleLemmas
 -- document-start
 pub mod DocumentLemmas
--- final-break and line-breaks
+-- line-breaks
 pub mod BreakLemmas
 -- byte-order-mark
 pub mod MarkPassLemmas

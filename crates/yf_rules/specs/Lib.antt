@@ -24,4 +24,6 @@ pub mod Indents
 pub mod MarkedKeys
 pub mod Layouts
 pub mod Sets
+pub mod Definition
+pub mod Rules
 pub mod Check

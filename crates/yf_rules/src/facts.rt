@@ -3,6 +3,7 @@
 pub mod begun;
 pub mod bodies;
 pub mod content_lines;
+pub mod found;
 pub mod notes;
 pub mod outer_flow;
 pub mod places;

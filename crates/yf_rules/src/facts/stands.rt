@@ -8,6 +8,7 @@ ghost use Rattle.yf_rules.specs.Entries.{all_entries, entries_from, start_at, un
 ghost use Rattle.yf_rules.specs.Passing.{IsPass, Opens, Passes};
 ghost use Rattle.yf_rules.specs.Standings.{after, held, is_beside, past, stand_in};
 
+use crate::facts::found::push_found;
 use crate::facts::places::columns_of;
 use crate::facts::whites::has_question_mark;
 use std::alloc::{AllocError, Global};
@@ -104,9 +105,7 @@ fn first_entries(alloc: Global, src: &Src, reading: &Reading) -> Result<Vec<usiz
 {
     let mut offsets = Vec::new(alloc);
     for i in 0..reading.len() {
-        if let Some(offset) = first_entry(src, reading, i) {
-            offsets.push(offset)?;
-        }
+        push_found(&mut offsets, first_entry(src, reading, i))?;
     }
     Ok(offsets)
 }

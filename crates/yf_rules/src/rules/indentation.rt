@@ -1,61 +1,40 @@
 //! Rule 2, indentation.
-ghost use Rattle.std.specs.Prelude.{◌≡◌, ◌+◌, ◌<◌, ◌&&◌, Some, length, slice_get, IfOk};
+ghost use Rattle.std.specs.Prelude.{◌≡◌, ◌+◌, ◌<◌, ◌&&◌, Some, length, slice_get};
 ghost use Rattle.yf_events.specs.Event.{EventValue};
 ghost use Rattle.yf_events.specs.Reading.{events_of};
 ghost use Rattle.yf_rules.specs.IndentFaults.{content_fault, content_in, entry_fault, fault_of};
-ghost use Rattle.yf_rules.specs.Sets.{indentation_at};
+ghost use Rattle.yf_rules.specs.Rules.{indentation};
 ghost use Rattle.yf_rules.specs.Stands.{is_other, wanted_column, wanted_indent};
 
 use crate::facts::bodies::{Body, body_at};
 use crate::facts::stands::{Around, Pass, Stand};
-use crate::rule::{Rule, placed};
-use std::alloc::{AllocError, Global};
-use yf_emit::style::Style;
+use crate::rule::{About, Global, Offsets, Reading, Rule, Src, Style, push_found};
 use yf_events::event::Event;
-use yf_events::reading::Reading;
-use yf_lines::fault::Fault;
-use yf_lines::place::Place;
-use yf_lines::source_text::Src;
 
 /// The first entry of a block collection that does not stand at the column of the house style, and the header of a block scalar whose content does not.
 #[derive(Clone, Copy)]
 pub struct Indentation;
 
 impl Rule for Indentation {
-    ghost use Rattle.std.specs.Prelude.{true, codes};
-    ghost use Rattle.yf_rules.specs.Sets.{indentation_at};
+    ghost definition = { λ _. indentation };
 
-    ghost rule_number = { λ _. 2 };
-
-    ghost rule_id = { λ _. codes "indentation" };
-
-    ghost is_fixable = { λ _. true };
-
-    ghost faults = { λ _ src reading style offsets. indentation_at src reading style offsets };
-
-    fn number(&self) -> usize {
-        2
+    fn about(&self) -> About {
+        About::fixable(2, "indentation")
     }
 
-    fn id(&self) -> &'static str {
-        "indentation"
-    }
-
-    fn fixable(&self) -> bool {
-        true
-    }
-
-    fn find(
-        &self,
-        alloc: Global,
-        src: &Src,
-        reading: &Reading,
-        style: &Style,
-    ) -> Result<Vec<Place>, Fault> {
-        match offsets(alloc, src, reading, style) {
-            Ok(offsets) => placed(alloc, src, offsets.as_slice()),
-            Err(AllocError) => Err(Fault::Memory),
+    fn offsets(&self, alloc: Global, src: &Src, reading: &Reading, style: &Style) -> Offsets {
+        let mut pass = Pass::new(alloc, src, reading)?;
+        let mut offsets = Vec::new(alloc);
+        let mut line = 0;
+        for i in 0..reading.len() {
+            let stand = pass.next(src, reading, i)?;
+            let body = body_at(src, reading, i, line);
+            if let Some(body) = body {
+                line = body.first;
+            }
+            push_found(&mut offsets, misplaced(reading, stand, body, i, style))?;
         }
+        Ok(offsets)
     }
 }
 
@@ -150,28 +129,4 @@ fn misplaced(
         },
         _ => None,
     }
-}
-
-fn offsets(
-    alloc: Global,
-    src: &Src,
-    reading: &Reading,
-    style: &Style,
-) -> Result<Vec<usize>, AllocError>
-    ensures { IfOk result (λ offsets. indentation_at src.now reading.now style.now offsets.items) }
-{
-    let mut pass = Pass::new(alloc, src, reading)?;
-    let mut offsets = Vec::new(alloc);
-    let mut line = 0;
-    for i in 0..reading.len() {
-        let stand = pass.next(src, reading, i)?;
-        let body = body_at(src, reading, i, line);
-        if let Some(body) = body {
-            line = body.first;
-        }
-        if let Some(offset) = misplaced(reading, stand, body, i, style) {
-            offsets.push(offset)?;
-        }
-    }
-    Ok(offsets)
 }

@@ -3,17 +3,11 @@ ghost use Rattle.std.specs.Prelude.{◌≡◌, ◌<◌, ◌∷◌, ◌&&◌, Lis
 ghost use Rattle.yf_events.specs.Event.{EventValue, Placed};
 ghost use Rattle.yf_events.specs.Reading.{events_of};
 ghost use Rattle.yf_rules.specs.KeyPass.{AreLevels, IsLevel, Opened, after, event_place, has_key, is_repeat, key_value, new_level, next, past_key, repeats_in, takes_key, without_first};
-ghost use Rattle.yf_rules.specs.Sets.{repeated_keys_at};
+ghost use Rattle.yf_rules.specs.Rules.{repeated_keys};
 
-use crate::rule::{Rule, placed};
-use std::alloc::{AllocError, Global};
+use crate::rule::{About, AllocError, Global, Offsets, Reading, Rule, Src, Style};
 use std::collections::BTreeSet;
-use yf_emit::style::Style;
 use yf_events::event::Event;
-use yf_events::reading::Reading;
-use yf_lines::fault::Fault;
-use yf_lines::place::Place;
-use yf_lines::source_text::Src;
 use yf_props::resolved::ResolvedTag;
 
 /// The first character of a scalar key whose text and resolved tag are those of an earlier scalar key of its mapping.
@@ -21,40 +15,21 @@ use yf_props::resolved::ResolvedTag;
 pub struct RepeatedKeys;
 
 impl Rule for RepeatedKeys {
-    ghost use Rattle.std.specs.Prelude.{false, codes};
-    ghost use Rattle.yf_rules.specs.Sets.{repeated_keys_at};
+    ghost definition = { λ _. repeated_keys };
 
-    ghost rule_number = { λ _. 12 };
-
-    ghost rule_id = { λ _. codes "repeated-keys" };
-
-    ghost is_fixable = { λ _. false };
-
-    ghost faults = { λ _ src reading style offsets. repeated_keys_at src reading style offsets };
-
-    fn number(&self) -> usize {
-        12
+    fn about(&self) -> About {
+        About::unfixable(12, "repeated-keys")
     }
 
-    fn id(&self) -> &'static str {
-        "repeated-keys"
-    }
-
-    fn fixable(&self) -> bool {
-        false
-    }
-
-    fn find(
-        &self,
-        alloc: Global,
-        src: &Src,
-        reading: &Reading,
-        style: &Style,
-    ) -> Result<Vec<Place>, Fault> {
-        match offsets(alloc, src, reading, style) {
-            Ok(offsets) => placed(alloc, src, offsets.as_slice()),
-            Err(AllocError) => Err(Fault::Memory),
+    fn offsets(&self, alloc: Global, src: &Src, reading: &Reading, style: &Style) -> Offsets {
+        let mut stack = Vec::new(alloc);
+        let mut offsets = Vec::new(alloc);
+        for i in 0..reading.len() {
+            if pass(alloc, &mut stack, &*reading, i)? {
+                offsets.push(key_offset(reading, i))?;
+            }
         }
+        Ok(offsets)
     }
 }
 
@@ -203,22 +178,4 @@ fn key_offset(reading: &Reading, i: usize) -> usize
         },
         None => 0,
     }
-}
-
-fn offsets(
-    alloc: Global,
-    src: &Src,
-    reading: &Reading,
-    style: &Style,
-) -> Result<Vec<usize>, AllocError>
-    ensures { IfOk result (λ offsets. repeated_keys_at src.now reading.now style.now offsets.items) }
-{
-    let mut stack = Vec::new(alloc);
-    let mut offsets = Vec::new(alloc);
-    for i in 0..reading.len() {
-        if pass(alloc, &mut stack, &*reading, i)? {
-            offsets.push(key_offset(reading, i))?;
-        }
-    }
-    Ok(offsets)
 }
