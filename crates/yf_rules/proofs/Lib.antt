@@ -14,6 +14,7 @@ pub mod ColumnLemmas
 pub mod NodeLemmas
 pub mod FlowLemmas
 pub mod BlockLemmas
+pub mod ScalarLemmas
 -- trailing-blanks
 pub mod TrailingLemmas
 -- quoting

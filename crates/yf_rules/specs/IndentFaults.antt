@@ -1,5 +1,5 @@
 -- What the rule indentation finds event by event. An index counts events from 0.
-use Rattle.std.specs.Prelude.{◌≡◌, ℕ, ◌++◌, ◌&&◌, if◌then◌else◌, true, false, List, [], drop, slice_get, Option, Some, None}
+use Rattle.std.specs.Prelude.{◌≡◌, ℕ, ◌++◌, ◌&&◌, if◌then◌else◌, true, List, [], drop, slice_get, Option, Some, None}
 use Rattle.std.specs.List.{Contains}
 use Rattle.std.specs.Option.{unwrap_or}
 use Rattle.yf_emit.specs.ContentStart.{content_start}
@@ -18,7 +18,8 @@ use Rattle.yf_rules.specs.Passing.{IsPass}
 use Rattle.yf_rules.specs.Scalars.{BlockContent, IsScalar, is_block_style}
 use Rattle.yf_rules.specs.Standings.{Stood, run}
 use Rattle.yf_rules.specs.Stands.{is_other, wanted_column, wanted_indent}
-use Rattle.yf_rules.specs.declared.facts.bodies.Body.{Body}
+use Rattle.yf_rules.specs.declared.facts.scalars.ContentStart.{ContentStart}
+use Rattle.yf_rules.specs.declared.facts.scalars.ScalarLines.{ScalarLines}
 use Rattle.yf_rules.specs.declared.facts.stands.Level.{Level}
 use Rattle.yf_rules.specs.declared.facts.stands.Stand.{Stand}
 
@@ -28,20 +29,14 @@ pub data ContentAt (src : Table) (r : Lists) (i : ℕ) : ℕ × ℕ → Type 0 w
       → Begun src.lines (content_start src.text s props) behind → BlockContent src.lines text behind first indent
       → ContentAt src r i (content_start src.text s props, indent)
 
--- the indentation of the content of a scalar with this style and text, if it is a block scalar that has any
-pub data IsIndent (ls : List Line) (style : ScalarStyle) (text : List ℕ) (behind : ℕ) : Option ℕ → Type 0 where
-  no_block : is_block_style style ≡ false → IsIndent ls style text behind None
-  no_line : ((first indent : ℕ) → BlockContent ls text behind first indent → ⊥) → IsIndent ls style text behind None
-  of_line : {first indent : ℕ} → is_block_style style ≡ true → BlockContent ls text behind first indent → IsIndent ls style text behind (Some indent)
-
 -- the same as the code has it
-abbrev pub if_content : ℕ → Option ℕ → Option (ℕ × ℕ)
+abbrev pub if_content : ℕ → Option ContentStart → Option (ℕ × ℕ)
 if_content start None = None
-if_content start (Some indent) = Some (start, indent)
+if_content start (Some content) = Some (start, content.indent)
 
-abbrev pub content_in : Option Body → Option (ℕ × ℕ)
+abbrev pub content_in : Option ScalarLines → Option (ℕ × ℕ)
 content_in None = None
-content_in (Some body) = if_content body.start body.indent
+content_in (Some lines) = if_content lines.start lines.content
 
 -- where entries are that stand at another column, and the header of content that is indented otherwise
 abbrev pub entry_fault : ℕ → Option ℕ → Option ℕ → Option ℕ

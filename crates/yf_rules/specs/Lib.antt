@@ -14,6 +14,7 @@ pub mod KeyPass
 pub mod Laws
 pub mod OuterFlow
 pub mod QuestionMarks
+pub mod ScalarLines
 pub mod Stands
 pub mod Standings
 pub mod Entries

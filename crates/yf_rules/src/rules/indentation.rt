@@ -6,7 +6,7 @@ ghost use Rattle.yf_rules.specs.IndentFaults.{content_fault, content_in, entry_f
 ghost use Rattle.yf_rules.specs.Rules.{indentation};
 ghost use Rattle.yf_rules.specs.Stands.{is_other, wanted_column, wanted_indent};
 
-use crate::facts::bodies::{Body, body_at};
+use crate::facts::scalars::{ScalarLines, scalar_lines_at};
 use crate::facts::stands::{Around, Pass, Stand};
 use crate::rule::{About, Global, Offsets, Reading, Rule, Src, Style, push_found};
 use yf_events::event::Event;
@@ -28,11 +28,11 @@ impl Rule for Indentation {
         let mut line = 0;
         for i in 0..reading.len() {
             let stand = pass.next(src, reading, i)?;
-            let body = body_at(src, reading, i, line);
-            if let Some(body) = body {
-                line = body.first;
+            let scalar = scalar_lines_at(src, reading, i, line);
+            if let Some(lines) = scalar {
+                line = lines.first;
             }
-            push_found(&mut offsets, misplaced(reading, stand, body, i, style))?;
+            push_found(&mut offsets, misplaced(reading, stand, scalar, i, style))?;
         }
         Ok(offsets)
     }
@@ -95,13 +95,13 @@ fn is_misindented(stand: Stand, indent: usize, style: &Style) -> bool
 }
 
 /// The header of the block scalar, if its content is not indented as it is to be.
-fn misplaced_content(stand: Stand, body: Body, style: &Style) -> Option<usize>
-    ensures { result ≡ content_fault (content_in (Some body)) (wanted_indent style.now stand.outer) }
+fn misplaced_content(stand: Stand, lines: ScalarLines, style: &Style) -> Option<usize>
+    ensures { result ≡ content_fault (content_in (Some lines)) (wanted_indent style.now stand.outer) }
 {
-    match body.indent {
-        Some(indent) => {
-            if is_misindented(stand, indent, style) {
-                return Some(body.start);
+    match lines.content {
+        Some(content) => {
+            if is_misindented(stand, content.indent, style) {
+                return Some(lines.start);
             }
             None
         }
@@ -109,22 +109,22 @@ fn misplaced_content(stand: Stand, body: Body, style: &Style) -> Option<usize>
     }
 }
 
-/// What is found of the event at an index, if it begins a node at fault: its body is that of a scalar.
+/// What is found of the event at an index, if it begins a node at fault: a scalar has those lines.
 fn misplaced(
     reading: &Reading,
     stand: Stand,
-    body: Option<Body>,
+    lines: Option<ScalarLines>,
     i: usize,
     style: &Style,
 ) -> Option<usize>
     requires { i < length reading.now.events }
-    ensures { (e : EventValue) → slice_get (events_of reading.now) i ≡ Some e → result ≡ fault_of style.now e stand (content_in body) }
+    ensures { (e : EventValue) → slice_get (events_of reading.now) i ≡ Some e → result ≡ fault_of style.now e stand (content_in lines) }
 {
     match reading.event(i) {
         Event::SeqStart { .. } => misplaced_entry(stand, true, style),
         Event::MapStart { .. } => misplaced_entry(stand, false, style),
-        Event::Scalar { .. } => match body {
-            Some(body) => misplaced_content(stand, body, style),
+        Event::Scalar { .. } => match lines {
+            Some(lines) => misplaced_content(stand, lines, style),
             None => None,
         },
         _ => None,

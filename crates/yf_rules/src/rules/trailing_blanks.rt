@@ -4,7 +4,7 @@ ghost use Rattle.yf_rules.specs.ByLine.{BlankEnd};
 ghost use Rattle.yf_rules.specs.Exact.{Answers};
 ghost use Rattle.yf_rules.specs.Rules.{trailing_blanks};
 
-use crate::facts::content_lines::content_lines;
+use crate::facts::noted_lines::content_lines;
 use crate::facts::whites::whites_before;
 use crate::rule::{About, Global, Offsets, Reading, Rule, Src, Style, push_found};
 

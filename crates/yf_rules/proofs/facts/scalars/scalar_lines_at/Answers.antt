@@ -3,9 +3,9 @@ use Rattle.yf_emit.specs.ContentStart.{content_start}
 use Rattle.yf_props.specs.Props.{props_value}
 use Rattle.yf_rules.specs.Scalars.{IsScalar}
 use Rattle.yf_rules.proofs.BlockLemmas.{begun_there}
-use Rattle.yf_rules.proofs.FaultLemmas.{content_answers}
 use Rattle.yf_rules.proofs.MarkPassLemmas.{scalar_event}
-use Rattle.yf_rules.proofs.facts.bodies.body_at.Goals as goal
+use Rattle.yf_rules.proofs.ScalarLemmas.{lines_told}
+use Rattle.yf_rules.proofs.facts.scalars.scalar_lines_at.Goals as goal
 
 pub returns-in-Some : goal.returns-in-Some
 returns-in-Some c =
@@ -17,7 +17,7 @@ returns-in-Some c =
       event = scalar_event r c.args.i c.event.result w.props w.style w.text c.event.ensures w.is;
       part = c.in-Some.ensures;
     } in
-    content_answers v r c.args.i p w.style w.text.now c.in-Some.span is c.lines_begun-first.result
+    lines_told v r c.args.i p w.style w.text.now c.in-Some.span is c.lines_begun-first.result
     (begun_there v c.text.result.now c.in-Some.span p c.content_start-start.result c.lines_begun-first.result c.text.ensures c.content_start-start.ensures c.lines_begun-first.ensures.begun)
-    c.content_start-start.result c.content_indent.result
-    (c.content_start-start.ensures ∙ ap (λ t. content_start t c.in-Some.span p) c.text.ensures) c.content_indent.ensures
+    c.content_start-start.result c.block_content.result
+    (c.content_start-start.ensures ∙ ap (λ t. content_start t c.in-Some.span p) c.text.ensures) c.block_content.ensures

@@ -1,6 +1,6 @@
 use Rattle.std.proofs.Common.{◌≡◌, ◌≤◌, ◌+◌, ◌-◌, drop, length}
 use Rattle.yf_rules.specs.Scalars.{head_count}
-use Rattle.yf_rules.proofs.facts.content_lines.count_from.Given as goal
+use Rattle.yf_rules.proofs.facts.scalars.count_from.Given as goal
 
 abbrev pub invariant-loop-at : goal.invariant-loop-at
 invariant-loop-at l = record {
