@@ -25,7 +25,7 @@ use Rattle.yf_rules.specs.ScalarLines.IsContent.{no_block, no_line, of_line}
 use Rattle.yf_rules.specs.Scalars.{BlockContent, IsScalar, is_block_style}
 use Rattle.yf_rules.specs.Standings.{Stood, begun, beside, next, outer, run, stood}
 use Rattle.yf_rules.specs.declared.facts.scalars.ContentStart.{ContentStart}
-use Rattle.yf_rules.specs.declared.facts.stands.Level.{Level}
+use Rattle.yf_rules.specs.declared.facts.stands.OpenCollection.{OpenCollection}
 use Rattle.yf_rules.specs.declared.facts.stands.Pass.{Pass}
 use Rattle.yf_rules.specs.declared.facts.stands.Stand.{Stand}
 use Rattle.yf_rules.proofs.BlockLemmas.{content_same, event_same, part_same, same_behind, scalar_same}
@@ -117,7 +117,7 @@ pub none_found_yet : (P : Stood → ℕ → Type 0) (os : List ℕ) → os ≡ [
 none_found_yet P os e = record { only = λ o c. absurd (nothing_in o (subst (λ w. Contains w o) e c)); all = λ s o c p. absurd (nothing_in s c) }
 
 -- what is found of one event
-module _ (src : Table) (r : Lists) (house : Style) (columns : List ℕ) (i : ℕ) (st : List Level) (content : Option (ℕ × ℕ)) (a : Answers (ContentAt src r i) content)
+module _ (src : Table) (r : Lists) (house : Style) (columns : List ℕ) (i : ℕ) (st : List OpenCollection) (content : Option (ℕ × ℕ)) (a : Answers (ContentAt src r i) content)
     (nodes : List Stood) (os new : List ℕ) (f : FoundBy (AtFault src r house columns) nodes os) (answer : Option ℕ) (n : new ≡ os ++ option_to_list answer) where
   pub event_found : (e : EventValue) → slice_get (events_of r) i ≡ Some e
       → answer ≡ fault_of house e (stand_of e st (column_at src.text r.events columns i) (unwrap_or (entries_from src.text (drop i r.events)) 0)) content
@@ -139,7 +139,7 @@ module _ (src : Table) (r : Lists) (house : Style) (columns : List ℕ) (i : ℕ
 
 -- one event more
 
-pub first_reached : (src : Table) (r : Lists) (house : Style) (columns : List ℕ) (begun : ℕ) (st : List Level) (os : List ℕ) → IsPass src.text r.events columns begun 0 → st ≡ [] → os ≡ []
+pub first_reached : (src : Table) (r : Lists) (house : Style) (columns : List ℕ) (begun : ℕ) (st : List OpenCollection) (os : List ℕ) → IsPass src.text r.events columns begun 0 → st ≡ [] → os ≡ []
     → Reached src r house columns begun 0 st os
 first_reached src r house columns begun st os p e q = record {
   nodes = [];
@@ -175,7 +175,7 @@ one_reached src r house i old after stand os new content answer x at q m p a f n
     }))
 
 -- after the last event
-pub all_reached : (src : Table) (r : Lists) (house : Style) (columns : List ℕ) (begun i : ℕ) (st : List Level) (os : List ℕ) → length r.events ≤ i
+pub all_reached : (src : Table) (r : Lists) (house : Style) (columns : List ℕ) (begun i : ℕ) (st : List OpenCollection) (os : List ℕ) → length r.events ≤ i
     → (m : Reached src r house columns begun i st os) → m.nodes ≡ run (column_at src.text r.events columns) (unmarked_at src.text r.events) 0 [] r.events
 all_reached src r house columns begun i st os l m =
     sym (append-nil m.nodes) ∙ ap (λ w. m.nodes ++ run (column_at src.text r.events columns) (unmarked_at src.text r.events) i st w) (sym (drop_all i r.events l)) ∙ m.left

@@ -4,7 +4,7 @@
 pub mod CheckLemmas
 pub mod FoundLemmas
 pub mod PlacesLemmas
-pub mod SpotLemmas
+pub mod CursorLemmas
 -- what is known of texts and readings, for several rules
 pub mod ExactLemmas
 pub mod BegunLemmas

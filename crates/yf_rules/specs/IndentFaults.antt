@@ -20,7 +20,7 @@ use Rattle.yf_rules.specs.Standings.{Stood, run}
 use Rattle.yf_rules.specs.Stands.{is_other, wanted_column, wanted_indent}
 use Rattle.yf_rules.specs.declared.facts.scalars.ContentStart.{ContentStart}
 use Rattle.yf_rules.specs.declared.facts.scalars.ScalarLines.{ScalarLines}
-use Rattle.yf_rules.specs.declared.facts.stands.Level.{Level}
+use Rattle.yf_rules.specs.declared.facts.stands.OpenCollection.{OpenCollection}
 use Rattle.yf_rules.specs.declared.facts.stands.Stand.{Stand}
 
 -- the event of index i is a block scalar with a content line: where its header begins, and by how many spaces its content is indented
@@ -69,7 +69,7 @@ pub record FoundBy (P : Stood → ℕ → Type 0) (nodes : List Stood) (offsets 
   pub all : (s : Stood) (o : ℕ) → Contains nodes s → P s o → Contains offsets o
 
 -- a pass over the events has come to the index i, with these open collections, and has found these offsets
-pub record Reached (src : Table) (r : Lists) (house : Style) (columns : List ℕ) (begun i : ℕ) (st : List Level) (offsets : List ℕ) : Type 0 where
+pub record Reached (src : Table) (r : Lists) (house : Style) (columns : List ℕ) (begun i : ℕ) (st : List OpenCollection) (offsets : List ℕ) : Type 0 where
   pub nodes : List Stood
   pub pass : IsPass src.text r.events columns begun i
   pub left : nodes ++ run (column_at src.text r.events columns) (unmarked_at src.text r.events) i st (drop i r.events)

@@ -1,7 +1,7 @@
 use Rattle.std.proofs.Common.{◌<◌, ◌∙◌, ◌++◌, [], ap, length, reverse, subst, sym, arith}
 use Rattle.std.specs.Prelude.{slice_get}
-use Rattle.yf_rules.specs.KeyPass.{AreLevels, event_place, next, run}
-use Rattle.yf_rules.specs.KeyPass.AreLevels.{no_levels}
+use Rattle.yf_rules.specs.KeyPass.{AreCollections, event_place, next, run}
+use Rattle.yf_rules.specs.KeyPass.AreCollections.{no_collections}
 use Rattle.yf_rules.proofs.KeyPassLemmas.{event_at, hit_found, no_hit_found, pass_done, pass_step}
 use Rattle.yf_rules.proofs.rules.repeated_keys.RepeatedKeysRule.offsets.Goals as goal
 use Rattle.yf_rules.proofs.rules.repeated_keys.RepeatedKeysRule.offsets.Goals.{then-branch+in_ok-push, else-branch}
@@ -9,7 +9,7 @@ use Rattle.yf_rules.proofs.rules.repeated_keys.RepeatedKeysRule.offsets.Goals.{t
 pub loop-i-init : goal.loop-i-init
 loop-i-init c =
     let r = c.args.reading.now in
-    ([], subst (λ xs. AreLevels (reverse xs) []) (sym c.new-stack.ensures.items) no_levels, ap (λ os. os ++ run r.resolved 0 [] r.events) c.new-offsets.ensures.items)
+    ([], subst (λ xs. AreCollections (reverse xs) []) (sym c.new-stack.ensures.items) no_collections, ap (λ os. os ++ run r.resolved 0 [] r.events) c.new-offsets.ensures.items)
 
 pub loop-i-preserved : goal.loop-i-preserved
 loop-i-preserved c =

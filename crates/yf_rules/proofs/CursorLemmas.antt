@@ -1,4 +1,4 @@
--- Laws of the spots of a pass over a text.
+-- Laws of the cursors of a pass over a text.
 use Rattle.std.proofs.Common.{◌≡◌, ℕ, ◌+◌, ◌<◌, ◌≤◌, List, [], ◌++◌, Bool, length, sym, subst, refl, arith, length-append, Some}
 use Rattle.std.specs.Prelude.{IfSome, slice_get}
 use Rattle.std.specs.Str.{IsCharBoundary}
@@ -12,19 +12,19 @@ use Rattle.yf_lines.specs.Lines.{AreLines, Marks, PlaceOf, ColumnOf, is_char}
 use Rattle.yf_lines.specs.Lines.ColumnOf.{among_marks, behind_marks}
 use Rattle.yf_lines.specs.Lines.Holds.{inside}
 use Rattle.yf_lines.specs.Lines.PlaceOf.{in_line}
-use Rattle.yf_rules.specs.declared.facts.spot.Spot.{Spot}
-use Rattle.yf_rules.specs.Places.{Reached, IsSpot}
+use Rattle.yf_rules.specs.declared.facts.cursor.Cursor.{Cursor}
+use Rattle.yf_rules.specs.Places.{Reached, IsCursor}
 
--- what a spot says in its line
-pub reached_in : (t : List ℕ) (ls : List Line) (s : Spot) (l : Line) → IsSpot t ls s → slice_get ls s.line ≡ Some l → Reached t l.start s.at s.column
+-- what a cursor says in its line
+pub reached_in : (t : List ℕ) (ls : List Line) (s : Cursor) (l : Line) → IsCursor t ls s → slice_get ls s.line ≡ Some l → Reached t l.start s.at s.column
 reached_in t ls s l h e = subst (λ o. IfSome o (λ (m : Line). Reached t m.start s.at s.column)) e h.reached
 
-pub spot_of : (t : List ℕ) (ls : List Line) (s : Spot) (l : Line) → slice_get ls s.line ≡ Some l → Reached t l.start s.at s.column → IsSpot t ls s
-spot_of t ls s l e r = record { reached = subst (λ o. IfSome o (λ (m : Line). Reached t m.start s.at s.column)) (sym e) r }
+pub cursor_of : (t : List ℕ) (ls : List Line) (s : Cursor) (l : Line) → slice_get ls s.line ≡ Some l → Reached t l.start s.at s.column → IsCursor t ls s
+cursor_of t ls s l e r = record { reached = subst (λ o. IfSome o (λ (m : Line). Reached t m.start s.at s.column)) (sym e) r }
 
 -- after the last line nothing is said
-pub no_spot : (t : List ℕ) (ls : List Line) (s : Spot) → length ls ≤ s.line → IsSpot t ls s
-no_spot t ls s h = record { reached = subst (λ o. IfSome o (λ (m : Line). Reached t m.start s.at s.column)) (sym (slice_get_past ls s.line h)) tt }
+pub no_cursor : (t : List ℕ) (ls : List Line) (s : Cursor) → length ls ≤ s.line → IsCursor t ls s
+no_cursor t ls s h = record { reached = subst (λ o. IfSome o (λ (m : Line). Reached t m.start s.at s.column)) (sym (slice_get_past ls s.line h)) tt }
 
 -- after the marks of a line stands column 1
 pub reached_first : (t : List ℕ) (start at : ℕ) → Marks t start at → IsCharBoundary t at → Reached t start at 1
@@ -55,7 +55,7 @@ pub many_none : {t : List ℕ} {p : ℕ → Bool} {i j : ℕ} {x : List ℕ} →
 many_none done e = refl
 many_none (step (one h) rest) e = let none : ⊥ = omega (arith, e) in absurd none
 
--- an offset before a spot in column 1 is one of the marks of the line
+-- an offset before a cursor in column 1 is one of the marks of the line
 pub place_among : (t : List ℕ) (ls : List Line) (l : Line) (k number at column offset : ℕ) → AreLines t ls → slice_get ls k ≡ Some l
     → number ≡ k + 1 → l.start ≤ offset → offset < l.next → Reached t l.start at column → column ≡ 1 → offset < at → PlaceOf t offset number 1
 place_among t ls l k number at column offset a e n o w r first before =

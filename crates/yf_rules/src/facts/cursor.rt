@@ -5,7 +5,7 @@ use yf_lines::place::Place;
 /// How far a pass over the text has come: in the line of that index, from 0, at a byte offset after the line's byte order
 /// marks, whose column is known.
 #[derive(Clone, Copy)]
-pub struct Spot {
+pub struct Cursor {
     pub line: usize,
     pub at: usize,
     pub column: usize,
@@ -13,7 +13,7 @@ pub struct Spot {
 
 /// A place, and how far the pass has come with it.
 #[derive(Clone, Copy)]
-pub struct Step {
+pub struct Located {
     pub place: Place,
-    pub spot: Spot,
+    pub cursor: Cursor,
 }
