@@ -20,7 +20,7 @@ fn about_of(rule: &Box<dyn Rule>) -> About
 
 /// The findings at these places of the rule that is known by that.
 fn findings_at(alloc: Global, about: About, places: &[Place]) -> Result<Vec<Finding>, AllocError>
-    ensures { IfOk result (λ findings. findings.items ≡ map (finding_at about.number about.id.entry about.fixable) places.now) }
+    ensures { IfOk result (λ findings. findings.items ≡ map (finding_at about.number about.id about.fixable) places.now) }
 {
     places
         .iter()

@@ -105,7 +105,7 @@ fn ascend(places: &mut Vec<Place>)
 }
 
 /// The places of the byte offsets that a rule found, in ascending order and each once, unless memory was refused.
-pub fn placed(alloc: Global, src: &Src, offsets: &[usize]) -> Result<Vec<Place>, Fault>
+fn placed(alloc: Global, src: &Src, offsets: &[usize]) -> Result<Vec<Place>, Fault>
     ensures refused { IfErr result (λ fault. fault ≡ Fault.Memory) }
     ensures ascending { IfOk result (λ places. Ascending places.items) }
     ensures places { IfOk result (λ places. PlacesOf src.now.text offsets.now places.items) }

@@ -6,6 +6,7 @@ ghost use Rattle.yf_lines.specs.Lines.{Marks, PlaceOf, is_char};
 ghost use Rattle.yf_rules.specs.Columns.{ColumnsTo, IsColumn};
 ghost use Rattle.yf_rules.specs.Places.{IsCursor, PlacesOf};
 
+use crate::facts::begun::lines_begun;
 use crate::facts::cursor::{Cursor, Located};
 use std::alloc::{AllocError, Global};
 use yf_chars::text::peek;
@@ -27,25 +28,6 @@ pub fn skip_marks(text: &str, at: usize) -> usize
     end
 }
 
-/// The index of the line that holds the byte offset: the one of that index, or one after it.
-pub fn line_from(src: &Src, line: usize, offset: usize) -> usize
-    ensures { length src.now.lines ≤ line → result ≡ line }
-{
-    let lines = src.lines();
-    let count = lines.len();
-    let mut at = line;
-    while at < count {
-        if at + 1 == count {
-            return at;
-        }
-        if lines.line(at + 1).start > offset {
-            return at;
-        }
-        at += 1;
-    }
-    at
-}
-
 /// The cursor after the marks of the line of that index.
 fn line_cursor(src: &Src, line: usize) -> Cursor
     ensures { IsCursor src.now.text src.now.lines result }
@@ -64,12 +46,12 @@ fn line_cursor(src: &Src, line: usize) -> Cursor
     }
 }
 
-/// The cursor in the line that holds the byte offset, where that is not before the line of the first cursor.
+/// The cursor in the line that holds the byte offset. The line is looked for from that of the first cursor on.
 fn forward(src: &Src, cursor: Cursor, offset: usize) -> Cursor
     requires { IsCursor src.now.text src.now.lines cursor }
     ensures { IsCursor src.now.text src.now.lines result }
 {
-    let line = line_from(src, cursor.line, offset);
+    let line = lines_begun(src, cursor.line.saturating_add(1), offset).saturating_sub(1);
     if line == cursor.line {
         return cursor;
     }
