@@ -1,8 +1,13 @@
 -- Laws of the lines of a scalar as the code has them.
 use Rattle.std.proofs.Common.{◌≡◌, ℕ, ◌+◌, ◌<◌, ◌≤◌, false, true, List, Option, Some, None, MatchOption, refl, sym, subst, ap, ◌∙◌, ⊎_elim, arith}
+use Rattle.std.specs.Borrow.{Bor}
 use Rattle.std.specs.Prelude.{slice_get}
 use Rattle.std.proofs.lemmas.Bool.{cases_lt}
 use Rattle.yf_emit.specs.ContentStart.{content_start}
+use Rattle.yf_events.specs.Event.{event_value, scalar_node}
+use Rattle.yf_events.specs.Reading.{events_of, spans_of}
+use Rattle.yf_events.specs.declared.event.Event.{Event}
+use Rattle.yf_events.specs.declared.event.Event.TheVariants.{StreamStart, StreamEnd, DocStart, DocEnd, SeqStart, SeqEnd, MapStart, MapEnd, Scalar, Alias}
 use Rattle.yf_events.specs.declared.event.ScalarStyle.{ScalarStyle}
 use Rattle.yf_events.specs.declared.event.Span.{Span}
 use Rattle.yf_events.specs.declared.lists.Lists.{Lists}
@@ -10,6 +15,7 @@ use Rattle.yf_lines.specs.declared.line.Line.{Line}
 use Rattle.yf_lines.specs.Lines.{AreLines, Begun, Table}
 use Rattle.yf_lines.proofs.TableLemmas.{some_same}
 use Rattle.yf_props.specs.Props.{PropsValue}
+use Rattle.yf_props.specs.declared.props.Props.{Props}
 use Rattle.yf_rules.specs.BlankLines.{ScalarLine}
 use Rattle.yf_rules.specs.BlankLines.ScalarLine.{of_scalar}
 use Rattle.yf_rules.specs.Exact.{Answers}
@@ -26,7 +32,7 @@ use Rattle.yf_rules.specs.declared.facts.scalars.ContentStart.{ContentStart}
 use Rattle.yf_rules.specs.declared.facts.scalars.ScalarLines.{ScalarLines}
 use Rattle.yf_rules.proofs.BegunLemmas.{starts_order}
 use Rattle.yf_rules.proofs.BlankLemmas.{part_lines}
-use Rattle.yf_rules.proofs.BlockLemmas.{block_content, no_content, no_block_line}
+use Rattle.yf_rules.proofs.BlockLemmas.{block_content, event_same, no_block_line, no_content, part_same}
 use Rattle.yf_rules.proofs.FaultLemmas.{content_answers}
 
 -- what the code answers of one scalar
@@ -42,6 +48,29 @@ pub lines_told : (src : Table) (r : Lists) (i : ℕ) (props : PropsValue) (style
     → LinesOfScalar src r i (Some (record { start = start; first = first; end = s.end; content = content }))
 lines_told src r i props style text s is first b start content e c =
     subst (λ o. LinesOfScalar src r i (Some (record { start = o; first = first; end = s.end; content = content }))) (sym e) (has_lines is b c)
+
+-- what it answers where there is none
+no_node : (e : Event) → ((props : Props) (style : ScalarStyle) (text : Bor (List ℕ)) → e ≡ Scalar props style text → ⊥) → {p : PropsValue} {v : ScalarStyle} {x : List ℕ}
+    → event_value e ≡ scalar_node p v x → ⊥
+no_node StreamStart n h = cc
+no_node StreamEnd n h = cc
+no_node (DocStart marked) n h = cc
+no_node (DocEnd closed) n h = cc
+no_node (SeqStart flow props) n h = cc
+no_node SeqEnd n h = cc
+no_node (MapStart flow props) n h = cc
+no_node MapEnd n h = cc
+no_node (Scalar props style text) n h = n props style text refl
+no_node (Alias name) n h = cc
+
+pub no_scalar_lines : (src : Table) (r : Lists) (i : ℕ) (e : Event) → slice_get (events_of r) i ≡ Some (event_value e)
+    → ((props : Props) (style : ScalarStyle) (text : Bor (List ℕ)) → e ≡ Scalar props style text → ⊥) → LinesOfScalar src r i None
+no_scalar_lines src r i e q n = has_none (λ props style text s is. no_node e n (event_same (sym q ∙ is.event)))
+
+pub no_text_lines : (src : Table) (r : Lists) (i : ℕ) → slice_get (spans_of r) i ≡ Some None → LinesOfScalar src r i None
+no_text_lines src r i e = has_none (λ props style text s is. nothing (part_same (sym is.part ∙ e))) where
+  nothing : {s : Span} → Some s ≡ None → ⊥
+  nothing e = cc
 
 -- of it, where the content of a block scalar begins
 none_answered : {src : Table} {r : Lists} {i : ℕ} {x : ℕ × ℕ} → ((props : PropsValue) (style : ScalarStyle) (text : List ℕ) (s : Span) → IsScalar r i props style text s → ⊥)

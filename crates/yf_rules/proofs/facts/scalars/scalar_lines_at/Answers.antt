@@ -4,7 +4,7 @@ use Rattle.yf_props.specs.Props.{props_value}
 use Rattle.yf_rules.specs.Scalars.{IsScalar}
 use Rattle.yf_rules.proofs.BlockLemmas.{begun_there}
 use Rattle.yf_rules.proofs.MarkPassLemmas.{scalar_event}
-use Rattle.yf_rules.proofs.ScalarLemmas.{lines_told}
+use Rattle.yf_rules.proofs.ScalarLemmas.{lines_told, no_scalar_lines, no_text_lines}
 use Rattle.yf_rules.proofs.facts.scalars.scalar_lines_at.Goals as goal
 
 pub returns-in-Some : goal.returns-in-Some
@@ -21,3 +21,9 @@ returns-in-Some c =
     (begun_there v c.text.result.now c.in-Some.span p c.content_start-start.result c.lines_begun-first.result c.text.ensures c.content_start-start.ensures c.lines_begun-first.ensures.begun)
     c.content_start-start.result c.block_content.result
     (c.content_start-start.ensures ∙ ap (λ t. content_start t c.in-Some.span p) c.text.ensures) c.block_content.ensures
+
+pub returns-in-None : goal.returns-in-None
+returns-in-None c = no_text_lines c.args.src.now c.args.reading.now c.args.i c.in-None.ensures
+
+pub returns-in_default : goal.returns-in_default
+returns-in_default c = no_scalar_lines c.args.src.now c.args.reading.now c.args.i c.event.result c.event.ensures c.in_default.not-Scalar
