@@ -13,7 +13,6 @@ ghost use Rattle.yf_block.specs.Looks.{EntryPlace, LineEndsAt, NotWithinBreak};
 
 use yf_chars::classes::is_ns_char;
 use yf_chars::text::{peek, stands};
-use yf_comments::comments::Comments;
 use yf_flow::look::is_key_line;
 use yf_lines::basic::{
     break_ends, is_forbidden_at, line_break, mark_ends, mark_stands, skip_spaces, skip_whites,
@@ -229,15 +228,4 @@ pub(crate) fn skip_lines(text: &str, at: usize, count: usize) -> usize
         }
     }
     place
-}
-
-/// How many of the comments stand before an offset, where all but the last one do.
-pub(crate) fn comments_before(comments: &Comments, at: usize) -> usize {
-    let count = comments.len();
-    if count > 0 {
-        if comments.at(count - 1).offset >= at {
-            return count - 1;
-        }
-    }
-    count
 }
