@@ -3,6 +3,7 @@ ghost use Rattle.std.specs.Prelude.{◌≡◌, ◌++◌, true, map, IfErr, IfOk}
 ghost use Rattle.std.specs.List.Sorted.{IsSortedByKey};
 ghost use Rattle.std.specs.Ordering.{is_lt};
 ghost use Rattle.yf_rules.specs.Check.{Checked, RuleFindings, SortedFrom, finding_at, key_cmp, sort_key};
+ghost use Rattle.yf_rules.specs.Places.{FoundAt};
 
 use crate::finding::Finding;
 use crate::rule::{About, AllocError, Global, Reading, Rule, Src, Style};
@@ -16,6 +17,21 @@ fn about_of(rule: &Box<dyn Rule>) -> About
     ensures fixable { result.fixable ≡ (definition rule.now).fixable }
 {
     rule.about()
+}
+
+/// The places that a rule finds.
+fn places_by(
+    alloc: Global,
+    rule: &Box<dyn Rule>,
+    src: &Src,
+    reading: &Reading,
+    style: &Style,
+) -> Result<Vec<Place>, Fault>
+    ensures refused { IfErr result (λ fault. fault ≡ Fault.Memory) }
+    ensures found { IfOk result (λ places. FoundAt src.now.text
+        ((definition rule.now).faults src.now reading.now style.now) places.items) }
+{
+    rule.find(alloc, src, reading, style)
 }
 
 /// The findings at these places of the rule that is known by that.
@@ -45,7 +61,7 @@ fn findings_of(
     ensures findings { IfOk result (λ findings. RuleFindings (definition rule.now) src.now reading.now style.now findings.items) }
 {
     let about = about_of(rule);
-    let places = rule.find(alloc, src, reading, style)?;
+    let places = places_by(alloc, rule, src, reading, style)?;
     match findings_at(alloc, about, places.as_slice()) {
         Ok(findings) => Ok(findings),
         Err(AllocError) => Err(Fault::Memory),
