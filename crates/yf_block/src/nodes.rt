@@ -244,7 +244,7 @@ fn conclude<'a>(
                 }));
             }
             before.cut(part);
-            match read_front(alloc, scope, root, end, part)? {
+            match read_prefix(alloc, scope, root, end, part)? {
                 Some(floor) => Ok(Outcome::Found(Found {
                     end,
                     reached,
@@ -280,7 +280,7 @@ fn ends_whole(stop: Stop, end: usize) -> bool {
 
 // Reads the node once more, in the text up to the last place at which all open nodes may end, and adds it to the part: it
 // ends there. The answer is the offset after its last block scalar, or 0; `None` where it did not end there.
-fn read_front<'a>(
+fn read_prefix<'a>(
     alloc: Global,
     scope: Scope<'a>,
     root: Root,
@@ -294,7 +294,7 @@ fn read_front<'a>(
     ensures floor { IfOk result (λ o. MayBoundary scope.entry.text.now o) }
     ensures escapes { IfOk result (λ _. All (IsCharBoundary scope.entry.text.now) part.new.escapes) }
 {
-    let front = Scope {
+    let prefix = Scope {
         text: &scope.text[..end],
         limit: scope.limit,
     };
@@ -303,7 +303,7 @@ fn read_front<'a>(
         comments: Comments::new(alloc),
         escapes: Row::new(alloc),
     };
-    let stopped = run_from(alloc, front, root, &mut read)?;
+    let stopped = run_from(alloc, prefix, root, &mut read)?;
     if !ends_whole(stopped.stop, end) {
         return Ok(None);
     }
