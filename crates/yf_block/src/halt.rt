@@ -2,6 +2,7 @@
 ghost use Rattle.std.specs.Prelude.{◌≡◌, ℕ, MatchBool, reverse, take};
 ghost use Rattle.std.specs.Str.{IsCharBoundary};
 ghost use Rattle.yf_block.specs.Awaiting.{AwaitedColon, AwaitsAt};
+ghost use Rattle.yf_block.specs.NotedHalts.{ColonsCounted, EmptyNoted, IsOutermost, NodeNoted, ShorterNoted};
 ghost use Rattle.yf_block.specs.Looks.{NotWithinBreak};
 ghost use Rattle.yf_block.specs.Machine.{MayBoundary, ProgressAt};
 
@@ -37,7 +38,10 @@ impl Counts {
 }
 
 // Whether a node that is awaited may be empty: the outermost one has properties at least.
-fn may_be_empty(progress: &Progress, frames: &Frames) -> bool {
+fn may_be_empty(progress: &Progress, frames: &Frames) -> bool
+    ensures { MatchBool result (IsOutermost progress.now.wanted.outer (reverse frames.now.items) → ⊥)
+        (IsOutermost progress.now.wanted.outer (reverse frames.now.items)) }
+{
     if progress.wanted.outer.is_some() {
         return true;
     }
@@ -91,7 +95,12 @@ fn awaits_colon_at(frames: &Frames, column: usize) -> bool
 pub(crate) fn note_empty(text: &str, at: usize, progress: &mut Progress, frames: &Frames)
     requires place { IsCharBoundary text.now at }
     requires progress { ProgressAt text.now progress.old }
-    ensures { ProgressAt text.now progress.new }
+    ensures progress { ProgressAt text.now progress.new }
+    ensures others { progress.new ≡ record progress.old { halt = progress.new.halt } }
+    ensures outermost { IsOutermost progress.old.wanted.outer (reverse frames.now.items) → progress.new.halt ≡ progress.old.halt }
+    ensures noted { (IsOutermost progress.old.wanted.outer (reverse frames.now.items) → ⊥) → NotWithinBreak text.now at
+        → ColonsCounted progress.old.colons (reverse frames.now.items)
+        → EmptyNoted text.now progress.old.from at (reverse frames.now.items) progress.old.halt progress.new.halt }
 {
     if !may_be_empty(progress, frames) {
         return;
@@ -118,7 +127,10 @@ pub(crate) fn note_node(
     requires place { IsCharBoundary text.now at }
     requires plain { MayBoundary text.now plain }
     requires progress { ProgressAt text.now progress.old }
-    ensures { ProgressAt text.now progress.new }
+    ensures progress { ProgressAt text.now progress.new }
+    ensures others { progress.new ≡ record progress.old { halt = progress.new.halt } }
+    ensures noted { NotWithinBreak text.now at → ColonsCounted progress.old.colons (reverse frames.now.items)
+        → NodeNoted text.now plain from at (reverse frames.now.items) progress.old.halt progress.new.halt }
 {
     if value_follows(text, at, progress.colons, frames) {
         match last_line_start(text, from, at) {
@@ -135,7 +147,9 @@ pub(crate) fn note_node(
 pub(crate) fn note_shorter(text: &str, plain: Option<usize>, end: usize, progress: &mut Progress)
     requires plain { MayBoundary text.now plain }
     requires progress { ProgressAt text.now progress.old }
-    ensures { ProgressAt text.now progress.new }
+    ensures progress { ProgressAt text.now progress.new }
+    ensures others { progress.new ≡ record progress.old { halt = progress.new.halt } }
+    ensures noted { ShorterNoted text.now end progress.old.halt plain progress.new.halt }
 {
     if let Some(start) = plain {
         if let Some(line) = last_line_start(text, start, end) {

@@ -9,6 +9,7 @@ ghost use Rattle.yf_flow.specs.Machine.{Place};
 ghost use Rattle.yf_grammar.specs.BlockParser.{DashAt, LineText, LinesEnd, SignAt};
 ghost use Rattle.yf_grammar.specs.Part.{NotedSince};
 ghost use Rattle.yf_block.specs.InlineAnswers.{KeyEnds};
+ghost use Rattle.yf_block.specs.LastStarts.{LastStartIs};
 ghost use Rattle.yf_block.specs.Looks.{EntryPlace, LineEndsAt, NotWithinBreak};
 
 use yf_chars::classes::is_ns_char;
@@ -187,7 +188,8 @@ fn break_start(text: &str, at: usize) -> usize
 /// The last place after a line break that begins at the first offset or after it, before the other offset.
 pub(crate) fn last_line_start(text: &str, from: usize, end: usize) -> Option<usize>
     requires { IsCharBoundary text.now from }
-    ensures { IfSome result (λ p. IsCharBoundary text.now p) }
+    ensures boundary { IfSome result (λ p. IsCharBoundary text.now p) }
+    ensures last { LastStartIs text.now from end result }
 {
     let mut at = from;
     let mut found = None;
