@@ -39,9 +39,9 @@ pub fn run<R: Source, W: Sink, E: Sink>(
     writer: &mut W,
     error_stream: &mut E,
 ) -> u8
-    ensures { Ran (λ src reading findings. Checked (λ rule found. RuleFindings (rule_number rule) (rule_id rule) (is_fixable rule)
-        (faults rule) src reading style.now found) rules.now findings) style.now command.now.verb result (R.remaining reader.old)
-        (R.has_failed reader.old) (R.has_failed reader.new)
+    ensures { Ran (λ src reading findings. Checked
+        (λ rule found. RuleFindings (definition rule) src reading style.now found) rules.now findings)
+        style.now command.now.verb result (R.remaining reader.old) (R.has_failed reader.old) (R.has_failed reader.new)
         (W.contents writer.old) (W.contents writer.new) (W.has_failed writer.old) (W.has_failed writer.new)
         (E.contents error_stream.old) (E.contents error_stream.new) (E.has_failed error_stream.old) (E.has_failed error_stream.new) }
 {

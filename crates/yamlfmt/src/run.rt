@@ -68,13 +68,11 @@ pub fn run_check<R: Source, W: Sink>(
     style: &Style,
 ) -> Result<bool, Fault>
     ensures findings { IfOk result (λ any. Told (λ src reading findings. Checked
-        (λ rule found. RuleFindings (rule_number rule) (rule_id rule) (is_fixable rule)
-        (faults rule) src reading style.now found) rules.now findings)
+        (λ rule found. RuleFindings (definition rule) src reading style.now found) rules.now findings)
         (R.remaining reader.old) (W.contents writer.old) (W.contents writer.new) (W.has_failed writer.old) (W.has_failed writer.new) any) }
     ensures reader { OnOk result (R.has_failed reader.new ≡ R.has_failed reader.old) }
     ensures refusals { IfErr result (λ fault. RefusedCheck
-        (λ src reading findings. Checked (λ rule found. RuleFindings (rule_number rule) (rule_id rule) (is_fixable rule)
-        (faults rule) src reading style.now found) rules.now findings)
+        (λ src reading findings. Checked (λ rule found. RuleFindings (definition rule) src reading style.now found) rules.now findings)
         (R.remaining reader.old) (R.has_failed reader.old) (R.has_failed reader.new)
         (W.contents writer.old) (W.contents writer.new) (W.has_failed writer.old) (W.has_failed writer.new) fault) }
 {
@@ -98,8 +96,7 @@ fn findings_in(
     style: &Style,
 ) -> Result<Vec<Finding>, Fault>
     ensures found { IfOk result (λ findings. FoundIn (λ src reading findings. Checked
-        (λ rule found. RuleFindings (rule_number rule) (rule_id rule) (is_fixable rule)
-        (faults rule) src reading style.now found) rules.now findings)
+        (λ rule found. RuleFindings (definition rule) src reading style.now found) rules.now findings)
         text.now findings.items) }
     ensures refused { IfErr result (λ fault. IsStreamFault text.now fault) }
 {

@@ -10,6 +10,9 @@ pub mod LookLemmas
 pub mod EntryLineLemmas
 pub mod AwaitingLemmas
 pub mod FitLemmas
+pub mod LastStartLemmas
+pub mod NotedLemmas
+pub mod PrefixLemmas
 -- `read_block_node`: the stack and the recursive reader agree (`BlockTied`)
 pub mod TiedFrames
 pub mod TiedFits

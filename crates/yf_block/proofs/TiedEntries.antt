@@ -25,10 +25,10 @@ deep_no_colon {m = m} {at} d c = let e = (line_unique d.line (colon_line c)).0 i
 
 module _ {t : List ℕ} {d : ℕ} {root : BlockTask} {before : Part} {at : ℕ} {frames : List Frame} {f : Frame} {progress : Progress} {old : Part}
     (a : AtTop t d root before frames at f progress old) where
-  pub top_breaks : DeepLine t at f → AtFailed t d root
+  pub top_breaks : DeepLine t at f → AtFailed t d root progress
   top_breaks l =
       let v = tied_deeper a.frame l in
-      record { halt = a.halt; broken = deeper_breaks (entry_was_read a.node (λ e c. deep_no_colon v c)) v }
+      record { halt = a.halt; broken = deeper_breaks (entry_was_read a.node (λ e c. deep_no_colon v c)) v; halted = a.stack.halted }
 
   -- the entry ends with its node, or with an empty value
   abbrev next_layer : Layer

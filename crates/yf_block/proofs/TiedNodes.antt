@@ -48,10 +48,10 @@ entry_same e s k a b = ap (λ (z : ℕ). record { start = z; colon = e.colon; bl
 -- a node is awaited in the innermost collection, whose frame is on the stack
 module _ {t : List ℕ} {d : ℕ} {root : BlockTask} {before part : Part} {old new : Progress} {e p : ℕ} {l : Layer} {ls : List Layer} {h : Option Found} where
   node_there : {frames stack : List Frame} {top : Frame} (b : Bool) (c : Ctx) (entry : Option TheEntry.Entry) → NodeAt t d root (l ∷ ls) e [] (Awaited b (pos l.column) c (Indicator p) p) h → AllWithin l.column ls
-      → l.column < p → FrameTied (length before.events) l ls top → StackTied (length before.events) ls frames old → stack ≡ top ∷ frames → new.colons ≡ length (asked (l ∷ ls))
+      → l.column < p → FrameTied (length before.events) l ls top → StackTied (length before.events) ls frames old h → stack ≡ top ∷ frames → new.colons ≡ length (asked (l ∷ ls)) → new.halt ≡ old.halt
       → EntryTied t new.floor (stage_entry l.stage) entry → new.wanted ≡ wanted_after l.column b (is_out c) entry → new.last ≡ p → ReadTied t before (all_written (l ∷ ls)) new part
       → AtNode t d root before stack p new part
-  node_there {stack = stack} {top} b c entry n o s u k q m y w i r = record {
+  node_there {stack = stack} {top} b c entry n o s u k q m x y w i r = record {
     layers = l ∷ ls;
     room = e;
     comments = [];
@@ -68,6 +68,7 @@ module _ {t : List ℕ} {d : ℕ} {root : BlockTask} {before part : Part} {old n
       order = one_deepens o k.order;
       frames_tied = subst (λ z. FramesTied (length before.events) z (l ∷ ls)) (sym q) (frame_tied u k.frames_tied);
       colons = m;
+      halted = x ∙ k.halted;
     };
     read = read_as r (nothing_more (all_written (l ∷ ls)));
   }
@@ -88,21 +89,21 @@ module _ {t : List ℕ} {d : ℕ} {root : BlockTask} {before old : Part} {frames
   floor_blank k l = a.read.floor_line (let w = within_from_code t at k in omega (arith, w, l))
 
   pub item_awaited : {stack : List Frame} {new : Progress} {b : Bool} → DashAt t at → f.kind ≡ Sequence → f.awaits_colon ≡ false → stack ≡ f ∷ frames → NotedSince t progress.floor at b
-      → new.wanted ≡ wanted_after f.column true false (Some (record { start = at; colon = None; blank_before = b })) → new.last ≡ at + 1 → new.floor ≡ progress.floor → new.colons ≡ progress.colons
+      → new.wanted ≡ wanted_after f.column true false (Some (record { start = at; colon = None; blank_before = b })) → new.last ≡ at + 1 → new.floor ≡ progress.floor → new.colons ≡ progress.colons → new.halt ≡ progress.halt
       → AtNode t d root before stack (at + 1) new old
-  item_awaited {new = new} {b} y k z s n w i o c =
+  item_awaited {new = new} {b} y k z s n w i o c h =
       node_there true BlockIn (Some (record { start = at; colon = None; blank_before = b })) (item_begins a.entry (entry_sequence k) y) a.order (let l = a.shallow in omega (arith, l))
       (record { collection = record { kind = a.collection.kind; column = a.collection.column; event = a.collection.event }; awaits = z; entry = λ q. absurd (true≢false (sym q)) })
-      a.stack s (c ∙ a.stack.colons) (entry_begins (subst (λ v. NotedSince t v at b) (sym o) n)) (wanted_column new w) i
+      a.stack s (c ∙ a.stack.colons) h (entry_begins (subst (λ v. NotedSince t v at b) (sym o) n)) (wanted_column new w) i
       (read_moved (read_as a.read (nothing_more (entries_written a.layer a.layers))) o)
 
   pub key_awaited : {stack : List Frame} {new : Progress} {b : Bool} {n : ℕ} → SignAt t 63 at → f.kind ≡ Mapping → n ≡ length old.events → stack ≡ record f { awaits_colon = true; entry_event = n } ∷ frames
       → NotedSince t progress.floor at b → new.wanted ≡ wanted_after f.column true true (Some (record { start = at; colon = None; blank_before = b })) → new.last ≡ at + 1 → new.floor ≡ progress.floor
-      → new.colons ≡ progress.colons + 1 → AtNode t d root before stack (at + 1) new old
-  key_awaited {new = new} {b} {n} y k j s z w i o c =
+      → new.colons ≡ progress.colons + 1 → new.halt ≡ progress.halt → AtNode t d root before stack (at + 1) new old
+  key_awaited {new = new} {b} {n} y k j s z w i o c h =
       node_there true BlockOut (Some (record { start = at; colon = None; blank_before = b })) (key_begins a.entry (entry_mapping k) y) a.order (let l = a.shallow in omega (arith, l))
       (record { collection = record { kind = a.collection.kind; column = a.collection.column; event = a.collection.event }; awaits = refl; entry = λ q. j ∙ count_read a.read })
-      a.stack s (let m = a.stack.colons in omega (arith, m, c)) (entry_begins (subst (λ v. NotedSince t v at b) (sym o) z)) (wanted_column new w) i
+      a.stack s (let m = a.stack.colons in omega (arith, m, c)) h (entry_begins (subst (λ v. NotedSince t v at b) (sym o) z)) (wanted_column new w) i
       (read_moved (read_as a.read (nothing_more (entries_written a.layer a.layers))) o)
 
   -- how many `:` are awaited, so that one more can be counted
@@ -132,13 +133,13 @@ module _ {t : List ℕ} {d : ℕ} {root : BlockTask} {before old : Part} {frames
 
   pub lone_awaited : {stack : List Frame} {new : Progress} {part : Part} {b : Bool} → SignAt t 58 at → f.kind ≡ Mapping → stack ≡ record f { awaits_colon = false } ∷ frames → NotedSince t progress.floor at b
       → part.events ≡ old.events ++ entry_event (scalar_node no_props Plain []) (Some (record { start = at; colon = Some at; blank_before = b })) ∷ [] → part.comments ≡ old.comments
-      → part.escapes ≡ old.escapes → new.wanted ≡ wanted_after f.column false true None → new.last ≡ at + 1 → new.floor ≡ progress.floor → new.colons ≡ progress.colons
+      → part.escapes ≡ old.escapes → new.wanted ≡ wanted_after f.column false true None → new.last ≡ at + 1 → new.floor ≡ progress.floor → new.colons ≡ progress.colons → new.halt ≡ progress.halt
       → AtNode t d root before stack (at + 1) new part
-  lone_awaited {new = new} {b = b} y k s n x1 x2 x3 w i o c =
+  lone_awaited {new = new} {b = b} y k s n x1 x2 x3 w i o c h =
       let r = lone_same at (entries_written a.layer a.layers) in
       node_there false BlockOut None (lone_value_begins a.entry (entry_mapping k) y) a.order (let l = a.shallow in omega (arith, l))
       (record { collection = record { kind = a.collection.kind; column = a.collection.column; event = a.collection.event }; awaits = refl; entry = λ q. absurd (true≢false (sym q)) })
-      a.stack s (c ∙ a.stack.colons) no_entry (wanted_column new w) i
+      a.stack s (c ∙ a.stack.colons) h no_entry (wanted_column new w) i
       (read_moved (read_events a.read _ _ (lone_noting b n) (lone_floor progress.floor) x1 x2 x3 r.events r.comments r.escapes) o)
 
 -- the event at the end is not there
@@ -212,8 +213,8 @@ key_same w m i = record {
 module _ {t : List ℕ} {d : ℕ} {root : BlockTask} {before old : Part} {frames : List Frame} {f : Frame} {at : ℕ} {progress : Progress} (a : AtTop t d root before frames at f progress old) where
   pub value_awaited : {stack : List Frame} {new : Progress} {part : Part} {p : ℕ} → f.awaits_colon ≡ true → PairLine t at f p → SignAt t 58 p → part.events ≡ edited (coloned p) f.entry_event old.events
       → part.comments ≡ old.comments → part.escapes ≡ old.escapes → stack ≡ record f { awaits_colon = false } ∷ frames → new.wanted ≡ wanted_after f.column true true None → new.last ≡ p + 1
-      → new.floor ≡ progress.floor → new.colons ≡ progress.colons → AtNode t d root before stack (p + 1) new part
-  value_awaited {stack} {new} {part} {p} q g v x y z s w o j c =
+      → new.floor ≡ progress.floor → new.colons ≡ progress.colons → new.halt ≡ progress.halt → AtNode t d root before stack (p + 1) new part
+  value_awaited {stack} {new} {part} {p} q g v x y z s w o j c h =
       let l = a.layer in
       let k = a.frame.collection.column in
       let u = g.stands in
@@ -231,5 +232,5 @@ module _ {t : List ℕ} {d : ℕ} {root : BlockTask} {before old : Part} {frames
       (key_same (entries_written l a.layers) a.answer.meaning (place_of l.stage)) in
       node_there {l = layer p} true BlockOut None node a.order (omega (arith, place))
       (record { collection = record { kind = a.frame.collection.kind; column = k; event = a.frame.collection.event }; awaits = refl; entry = λ b. absurd (true≢false (sym b)) })
-      a.stack s (c ∙ a.stack.colons) no_entry (w ∙ ap (λ (b : ℕ). wanted_after b true true None) k) o
+      a.stack s (c ∙ a.stack.colons) h no_entry (w ∙ ap (λ (b : ℕ). wanted_after b true true None) k) o
       (read_moved (coloned_read (entries_written l a.layers) a.answer.meaning (place_of l.stage) p read f.entry_event (a.frame.entry asked_here) x y z) j)

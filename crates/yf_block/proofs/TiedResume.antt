@@ -7,7 +7,7 @@ use Rattle.yf_grammar.specs.Parser.{only}
 use Rattle.yf_grammar.specs.BlockParser.{LineText, BlockTask}
 use Rattle.yf_grammar.specs.BlockStack.{Layer, asks, asked, column_if}
 use Rattle.yf_grammar.specs.BlockStates.{NodeRead, Deepening, one_deepens}
-use Rattle.yf_grammar.proofs.BlockResume.{entry_was_read, collection_ends, root_was_read}
+use Rattle.yf_grammar.proofs.BlockResume.{entry_was_read, collection_ends, root_was_read, root_halts}
 use Rattle.yf_block.specs.declared.frame.Frame.{Frame}
 use Rattle.yf_block.specs.declared.frame.Progress.{Progress}
 use Rattle.yf_block.specs.Looks.{EntryPlace, NotWithinBreak}
@@ -35,8 +35,8 @@ count_asked false w ws n m e q = omega (arith, e, q)
 module _ {t : List ℕ} {d : ℕ} {root : BlockTask} {before part : Part} {at : ℕ} where
   -- the frame of the innermost collection
   pub top_of : {frames rest : List Frame} {f : Frame} {old new : Progress} → AtResume t d root before frames at old part → frames ≡ f ∷ rest
-      → new.colons ≡ old.colons - colons_if f.awaits_colon → new.last ≡ old.last → new.floor ≡ old.floor → AtTop t d root before rest at f new part
-  top_of {frames} {rest} {f} {old} {new} a e c l o = go frames a.layers a.stack.frames_tied a.stack.order a.node a.stack.colons a.read e where
+      → new.colons ≡ old.colons - colons_if f.awaits_colon → new.last ≡ old.last → new.floor ≡ old.floor → new.halt ≡ old.halt → AtTop t d root before rest at f new part
+  top_of {frames} {rest} {f} {old} {new} a e c l o h = go frames a.layers a.stack.frames_tied a.stack.order a.node a.stack.colons a.read e where
     go : (fs : List Frame) (ls : List Layer) → FramesTied (length before.events) fs ls → Deepening ls → NodeRead t d root ls a.room a.answer at a.halt → old.colons ≡ length (asked ls)
         → ReadTied t before (all_written ls ⊕ begins (layers_entry ls) a.answer.meaning) old part → fs ≡ f ∷ rest → AtTop t d root before rest at f new part
     go [] [] no_frames s n k r q = absurd (no_cons q)
@@ -60,6 +60,7 @@ module _ {t : List ℕ} {d : ℕ} {root : BlockTask} {before part : Part} {at : 
             order = s;
             frames_tied = subst (λ g. FramesTied (length before.events) g ls) z.1 v;
             colons = count_asked (asks layer.stage) layer.column (asked ls) old.colons new.colons k (c ∙ ap (λ b. old.colons - colons_if b) u'.awaits);
+            halted = h ∙ a.stack.halted;
           };
           read = read_moved r o;
         }
@@ -83,11 +84,19 @@ module _ {t : List ℕ} {d : ℕ} {root : BlockTask} {before part : Part} {at : 
       }
 
   -- all have ended
-  pub all_ended : {frames : List Frame} {progress : Progress} → AtResume t d root before frames at progress part → frames ≡ [] → AtDone t d root before at part
+  pub all_ended : {frames : List Frame} {progress : Progress} → AtResume t d root before frames at progress part → frames ≡ [] → AtDone t d root before at progress part
   all_ended {frames} {progress} a e = go frames a.layers a.stack.frames_tied a.node a.read e where
     go : (fs : List Frame) (ls : List Layer) → FramesTied (length before.events) fs ls → NodeRead t d root ls a.room a.answer at a.halt
-        → ReadTied t before (all_written ls ⊕ begins (layers_entry ls) a.answer.meaning) progress part → fs ≡ [] → AtDone t d root before at part
+        → ReadTied t before (all_written ls ⊕ begins (layers_entry ls) a.answer.meaning) progress part → fs ≡ [] → AtDone t d root before at progress part
     go [] (layer ∷ ls) u n r q = elim u [ ]
     go (g ∷ fs) [] u n r q = elim u [ ]
-    go [] [] no_frames n r q = record { answer = a.answer; whole = root_was_read n; end = n.end; written = written_first r.written }
+    go [] [] no_frames n r q = record {
+      answer = a.answer;
+      halt = a.halt;
+      whole = root_was_read n;
+      halts = root_halts n;
+      end = n.end;
+      halted = a.stack.halted;
+      written = written_first r.written;
+    }
     go (g ∷ fs) (layer ∷ ls) (frame_tied u v) n r q = absurd (no_cons (sym q))

@@ -1,6 +1,6 @@
 -- What holds between two steps of the reader of block nodes: its stack and what it has written are tied to what the recursive reader has read.
--- Not told here is what the last place at which all may end has to do with the last halt.
-use Rattle.std.specs.Prelude.{◌≡◌, ℕ, ◌≤◌, ℤ, pos, ◌+ℤ◌, Bool, true, false, List, ◌∷◌, ◌++◌, length, Option, Some, None, ◌⊎◌}
+-- The last place at which all may end is where the last halt ends.
+use Rattle.std.specs.Prelude.{◌≡◌, ℕ, ◌≤◌, ℤ, pos, ◌+ℤ◌, Bool, true, false, List, [], ◌∷◌, ◌++◌, length, Option, Some, None, ◌⊎◌}
 use Rattle.yf_chars.specs.declared.context.Ctx.{Ctx}
 use Rattle.yf_chars.specs.declared.context.Ctx.TheVariants.{BlockOut}
 use Rattle.yf_chars.specs.Chain.{Chosen}
@@ -11,6 +11,7 @@ use Rattle.yf_events.specs.declared.part.Part.{Part}
 use Rattle.yf_grammar.specs.Meaning.{◌⊕◌}
 use Rattle.yf_grammar.specs.Parser.{Found, only}
 use Rattle.yf_grammar.specs.BlockParser.{Ahead, Nothing, Indicator, Props, Held as HeldValue, SignAt, Origin, BlockTask, Awaited, Below, Whole}
+use Rattle.yf_grammar.specs.Halts.{Halts}
 use Rattle.yf_grammar.specs.BlockStack.{Layer}
 use Rattle.yf_grammar.specs.BlockStates.{NodeAt, NodeRead, EntryAt, Broken, AllWithin}
 use Rattle.yf_block.specs.declared.frame.Frame.{Frame}
@@ -23,7 +24,7 @@ use Rattle.yf_block.specs.declared.resume.Next.{Next}
 use Rattle.yf_block.specs.declared.resume.Fit.TheVariants.{Behind}
 use Rattle.yf_block.specs.Fits.{FitsLine}
 use Rattle.yf_block.specs.Looks.{NotWithinBreak}
-use Rattle.yf_block.specs.BlockTied.{stage_entry, layers_entry, begins, ahead_comments, all_written, entries_written, Written, ReadTied, CollectionTied, FrameTied, StackTied, EntryTied}
+use Rattle.yf_block.specs.BlockTied.{stage_entry, layers_entry, begins, ahead_comments, all_written, entries_written, Written, ReadTied, CollectionTied, FrameTied, StackTied, halt_end, EntryTied}
 
 -- properties on hold, and what stands ahead of the node that is awaited
 pub record HeldTied (h : HeldValue) (held : Held) : Type 0 where
@@ -61,7 +62,7 @@ pub record AtNode (t : List ℕ) (d : ℕ) (root : BlockTask) (before : Part) (f
   pub wanted : WantedTied t progress.floor layers indentation context ahead progress.wanted
   pub shallow : progress.wanted.compact ≡ true → progress.wanted.least ≤ p
   pub last : progress.last ≡ p
-  pub stack : StackTied (length before.events) layers frames progress
+  pub stack : StackTied (length before.events) layers frames progress halt
   pub read : ReadTied t before (all_written layers ⊕ only (comments ++ ahead_comments ahead) 0) progress part
 
 -- a node is awaited at the start of a line, the end of the line before it and its comment lines having been read
@@ -80,7 +81,7 @@ pub record AtLine (t : List ℕ) (d : ℕ) (root : BlockTask) (before : Part) (f
   pub not_first : progress.first ≡ false → progress.from ≡ p → p ≡ length t
   pub wanted : WantedTied t progress.floor layers indentation context ahead progress.wanted
   pub last : (i : ℕ) → ahead ≡ Indicator i → progress.last ≡ i
-  pub stack : StackTied (length before.events) layers frames progress
+  pub stack : StackTied (length before.events) layers frames progress halt
   pub read : ReadTied t before (all_written layers ⊕ only (comments ++ (ahead_comments ahead ++ told)) 0) progress part
 
 -- a node has been read whole
@@ -92,7 +93,7 @@ pub record AtResume (t : List ℕ) (d : ℕ) (root : BlockTask) (before : Part) 
   pub node : NodeRead t d root layers room answer p halt
   pub outside : NotWithinBreak t p
   pub last : progress.last ≡ answer.meaning.finish
-  pub stack : StackTied (length before.events) layers frames progress
+  pub stack : StackTied (length before.events) layers frames progress halt
   pub read : ReadTied t before (all_written layers ⊕ begins (layers_entry layers) answer.meaning) progress part
 
 -- the same, where the frame of the innermost collection is no longer on the stack
@@ -107,7 +108,7 @@ pub record AtTop (t : List ℕ) (d : ℕ) (root : BlockTask) (before : Part) (fr
   pub order : AllWithin layer.column layers
   pub frame : FrameTied (length before.events) layer layers top
   pub last : progress.last ≡ answer.meaning.finish
-  pub stack : StackTied (length before.events) layers frames progress
+  pub stack : StackTied (length before.events) layers frames progress halt
   pub read : ReadTied t before (all_written (layer ∷ layers) ⊕ begins (stage_entry layer.stage) answer.meaning) progress part
 
 -- and the line that begins there does not end that collection
@@ -127,7 +128,7 @@ pub record AtEntry (t : List ℕ) (d : ℕ) (root : BlockTask) (before : Part) (
   pub order : AllWithin layer.column layers
   pub shallow : layer.column ≤ p
   pub collection : CollectionTied (length before.events) layer layers frame
-  pub stack : StackTied (length before.events) layers frames progress
+  pub stack : StackTied (length before.events) layers frames progress halt
   pub read : ReadTied t before (entries_written layer layers) progress part
 
 -- the recursive reader has come to an entry of a mapping with an implicit key
@@ -144,24 +145,28 @@ pub record KeyBegins (t : List ℕ) (d : ℕ) (root : BlockTask) : Type 0 where
   pub no_colon : SignAt t 58 place → ⊥
 
 -- the outermost node has been read whole; or there is none, and its last halt is what is left
-pub record AtDone (t : List ℕ) (d : ℕ) (root : BlockTask) (before : Part) (p : ℕ) (part : Part) : Type 0 where
+pub record AtDone (t : List ℕ) (d : ℕ) (root : BlockTask) (before : Part) (p : ℕ) (progress : Progress) (part : Part) : Type 0 where
   pub answer : Found
+  pub halt : Option Found
   pub whole : Whole t d root (Some answer)
+  pub halts : Halts t d [] root halt
   pub end : answer.end ≡ p
+  pub halted : progress.halt ≡ halt_end halt
   pub written : Written t before answer.meaning part
 
-pub record AtFailed (t : List ℕ) (d : ℕ) (root : BlockTask) : Type 0 where
+pub record AtFailed (t : List ℕ) (d : ℕ) (root : BlockTask) (progress : Progress) : Type 0 where
   pub halt : Option Found
   pub broken : Broken t d root halt
+  pub halted : progress.halt ≡ halt_end halt
 
 -- what comes next
 abbrev pub BlockTied : List ℕ → ℕ → BlockTask → Part → List Frame → Step → Progress → Part → Type 0
 BlockTied t d root before frames (Node p) progress part = AtNode t d root before frames p progress part
 BlockTied t d root before frames (Line p) progress part = AtLine t d root before frames p progress part
 BlockTied t d root before frames (Resume p) progress part = AtResume t d root before frames p progress part
-BlockTied t d root before frames (Done p) progress part = AtDone t d root before p part
-BlockTied t d root before frames (Failed p) progress part = AtFailed t d root
-BlockTied t d root before frames (TooDeep p) progress part = AtFailed t d root
+BlockTied t d root before frames (Done p) progress part = AtDone t d root before p progress part
+BlockTied t d root before frames (Failed p) progress part = AtFailed t d root progress
+BlockTied t d root before frames (TooDeep p) progress part = AtFailed t d root progress
 
 -- what comes next, or an implicit key, of which nothing is told yet
 abbrev pub KeyOrTied : List ℕ → ℕ → BlockTask → Part → List Frame → Step → Progress → Part → Type 0

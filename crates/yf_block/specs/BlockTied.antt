@@ -9,7 +9,7 @@ use Rattle.yf_events.specs.declared.event.Entry as TheEntry
 use Rattle.yf_events.specs.declared.part.Part.{Part}
 use Rattle.yf_grammar.specs.Meaning.{Meaning, ◌⊕◌, noting, start_of, event_with, entering, empty_node}
 use Rattle.yf_grammar.specs.Part.{Noting, NotedSince, floor_behind}
-use Rattle.yf_grammar.specs.Parser.{only}
+use Rattle.yf_grammar.specs.Parser.{Found, only}
 use Rattle.yf_grammar.specs.BlockParser.{Ahead, Props}
 use Rattle.yf_grammar.specs.BlockStack.{Layer, Stage, AtItem, AtKey, AtLoneValue, AtValue, asks, asked}
 use Rattle.yf_grammar.specs.BlockStates.{Deepening}
@@ -131,11 +131,17 @@ abbrev pub colons_if : Bool → ℕ
 colons_if true = 1
 colons_if false = 0
 
--- the open collections
-pub record StackTied (m : ℕ) (ls : List Layer) (frames : List Frame) (progress : Progress) : Type 0 where
+-- where what is left of a broken node ends
+abbrev pub halt_end : Option Found → Option ℕ
+halt_end None = None
+halt_end (Some f) = Some f.end
+
+-- the open collections, and the last place at which all of them may end
+pub record StackTied (m : ℕ) (ls : List Layer) (frames : List Frame) (progress : Progress) (halt : Option Found) : Type 0 where
   pub order : Deepening ls
   pub frames_tied : FramesTied m frames ls
   pub colons : progress.colons ≡ length (asked ls)
+  pub halted : progress.halt ≡ halt_end halt
 
 -- the entry that the awaited node begins, with its note
 pub data EntryTied (t : List ℕ) (floor : ℕ) : Option ℕ → Option TheEntry.Entry → Type 0 where

@@ -5,6 +5,8 @@ pub mod Closing
 pub mod Fits
 pub mod HeldAnswers
 pub mod InlineAnswers
+pub mod LastStarts
 pub mod Looks
 pub mod Machine
 pub mod NodeReaders
+pub mod NotedHalts

@@ -8,29 +8,24 @@ use Rattle.yf_flow.specs.declared.nodes.Ending.TheVariants.{End}
 use Rattle.yf_block.specs.declared.frame.Progress.{Progress}
 use Rattle.yf_block.specs.declared.frame.Step.{Step}
 use Rattle.yf_block.specs.declared.frame.Step.TheVariants.{Node, Line, Resume, Done, Failed, TooDeep}
-use Rattle.yf_block.specs.declared.halt.Halt.{Halt}
 use Rattle.yf_block.specs.declared.held.Held.{Held}
-use Rattle.yf_block.specs.declared.halt.Plain.{Plain}
 use Rattle.yf_block.specs.declared.resume.Fit.{Fit}
 use Rattle.yf_block.specs.declared.resume.Fit.TheVariants.{Item, Entry as EntryAt, Deeper, Behind}
 use Rattle.yf_block.specs.declared.nodes.Outcome.{Outcome}
 use Rattle.yf_block.specs.declared.nodes.Outcome.TheVariants.{Found, Nothing as NoNode, TooDeep as TooDeepHere}
+use Rattle.yf_block.specs.declared.nodes.Stopped.{Stopped}
 use Rattle.yf_block.specs.declared.nodes.Stop.{Stop}
 use Rattle.yf_block.specs.declared.nodes.Stop.TheVariants.{Done as DoneAt, Failed as FailedAt, TooDeep as TooDeepAt}
 
--- a place at which all open nodes may end
-pub record HaltAt (t : List ℕ) (h : Halt) : Type 0 where
-  pub end : IsCharBoundary t h.end
-  pub floor : IsCharBoundary t h.floor
-
-abbrev pub MayHalt : List ℕ → Option Halt → Type 0
-MayHalt t None = Unit {0}
-MayHalt t (Some h) = HaltAt t h
+-- a place, if there is one, between characters
+abbrev pub MayBoundary : List ℕ → Option ℕ → Type 0
+MayBoundary t None = Unit {0}
+MayBoundary t (Some p) = IsCharBoundary t p
 
 pub record ProgressAt (t : List ℕ) (p : Progress) : Type 0 where
   pub floor : IsCharBoundary t p.floor
   pub from : IsCharBoundary t p.from
-  pub halt : MayHalt t p.halt
+  pub halt : MayBoundary t p.halt
 
 -- a step from an offset on
 abbrev pub StepReady : List ℕ → ℕ → Step → Type 0
@@ -71,6 +66,11 @@ StopAt t (DoneAt p) = IsCharBoundary t p
 StopAt t (FailedAt p) = IsCharBoundary t p
 StopAt t (TooDeepAt p) = IsCharBoundary t p
 
+pub record StoppedAt (t : List ℕ) (r : Stopped) : Type 0 where
+  pub stop : StopAt t r.stop
+  pub halt : MayBoundary t r.halt
+  pub floor : IsCharBoundary t r.floor
+
 abbrev pub OutcomeAt : List ℕ → ℕ → Outcome → Type 0
 OutcomeAt t at (Found f) = Place t (at + 1) f.end × IsCharBoundary t f.reached × IsCharBoundary t f.floor
 OutcomeAt t at (NoNode p) = IsCharBoundary t p
@@ -79,11 +79,6 @@ OutcomeAt t at (TooDeepHere p) = IsCharBoundary t p
 abbrev pub HeldBefore : List ℕ → ℕ → Option Held → Type 0
 HeldBefore t at None = Unit {0}
 HeldBefore t at (Some held) = IsCharBoundary t held.end × (held.end ≤ at)
-
--- the characters of a plain scalar begin between characters
-abbrev pub MayBoundary : List ℕ → Option Plain → Type 0
-MayBoundary t None = Unit {0}
-MayBoundary t (Some plain) = IsCharBoundary t plain.at
 
 abbrev pub IsEndAt : ℕ → Ending → Type 0
 IsEndAt p (End node) = node.end ≡ p

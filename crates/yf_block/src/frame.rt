@@ -1,10 +1,8 @@
 //! The open collections of a block node, and the steps of its reader.
 
-use crate::halt::Halt;
 use crate::held::Held;
 use smallvec::SmallVec;
 use yf_events::event::Entry;
-use yf_flow::node::Lead;
 
 /// What is read: the text, and how many collections may be open at once.
 #[derive(Clone, Copy)]
@@ -84,10 +82,8 @@ pub(crate) struct Progress<'a> {
     pub(crate) from: usize,
     /// Whether nothing was read yet before a line, so that no indentation is asked of a node without entries.
     pub(crate) first: bool,
-    /// The last place at which all open nodes may end.
-    pub(crate) halt: Option<Halt>,
-    /// What is known of the node that is owed there.
-    pub(crate) owed: Lead<'a>,
+    /// The byte offset of the last place at which all open nodes may end.
+    pub(crate) halt: Option<usize>,
 }
 
 impl Frame {

@@ -1,15 +1,14 @@
 //! The last place at which all open nodes may end: what the reader falls back on where the text goes wrong later.
-ghost use Rattle.std.specs.Prelude.{◌≡◌, ℕ, IfSome, MatchBool, reverse, take};
+ghost use Rattle.std.specs.Prelude.{◌≡◌, ℕ, MatchBool, reverse, take};
 ghost use Rattle.std.specs.Str.{IsCharBoundary};
 ghost use Rattle.yf_block.specs.Awaiting.{AwaitedColon, AwaitsAt};
+ghost use Rattle.yf_block.specs.NotedHalts.{ColonsCounted, EmptyNoted, IsOutermost, NodeNoted, ShorterNoted};
 ghost use Rattle.yf_block.specs.Looks.{NotWithinBreak};
-ghost use Rattle.yf_block.specs.Machine.{ProgressAt, MayBoundary};
+ghost use Rattle.yf_block.specs.Machine.{MayBoundary, ProgressAt};
 
 use crate::frame::{Frames, Progress};
-use crate::held::lead_of;
-use crate::look::{comments_before, entry_place, last_line_start, sign_stands};
+use crate::look::{entry_place, last_line_start, sign_stands};
 use yf_events::part::Part;
-use yf_flow::node::Lead;
 
 /// How much of a part has been read.
 #[derive(Clone, Copy)]
@@ -38,74 +37,15 @@ impl Counts {
     }
 }
 
-/// A plain scalar that has been read.
-#[derive(Clone, Copy)]
-pub(crate) struct Plain {
-    /// The fewest spaces of the indentation of its lines.
-    pub(crate) least: usize,
-    /// The byte offset of its first character, after its properties, and the one after it.
-    pub(crate) at: usize,
-    pub(crate) end: usize,
-    /// The index of its event.
-    pub(crate) event: usize,
-}
-
-/// The node that is still to be added to a part.
-#[derive(Clone, Copy)]
-pub(crate) enum Owed {
-    Nothing,
-    /// An empty node without properties.
-    Empty,
-    /// An empty node with properties, which end at the byte offset.
-    Propertied(usize),
-    /// A plain scalar without its last line.
-    Shorter(Plain),
-}
-
-/// A place at which all open nodes may end.
-#[derive(Clone, Copy)]
-pub(crate) struct Halt {
-    /// The byte offset at which they end.
-    pub(crate) end: usize,
-    pub(crate) counts: Counts,
-    /// The byte offset after the last node with characters, or the last indicator.
-    pub(crate) last: usize,
-    /// The byte offset after the last block scalar; 0 where there is none.
-    pub(crate) floor: usize,
-    pub(crate) owed: Owed,
-}
-
-// Notes that all open nodes may end at the offset.
-fn note<'a>(end: usize, owed: Owed, progress: &mut Progress<'a>, part: &Part<'a>)
-    ensures floor { progress.new.floor ≡ progress.old.floor }
-    ensures from { progress.new.from ≡ progress.old.from }
-    ensures halt { IfSome progress.new.halt (λ h. (h.end ≡ end) × (h.floor ≡ progress.old.floor)) }
+// Whether a node that is awaited may be empty: the outermost one has properties at least.
+fn may_be_empty(progress: &Progress, frames: &Frames) -> bool
+    ensures { MatchBool result (IsOutermost progress.now.wanted.outer (reverse frames.now.items) → ⊥)
+        (IsOutermost progress.now.wanted.outer (reverse frames.now.items)) }
 {
-    let counts = Counts {
-        comments: comments_before(&part.comments, end),
-        ..Counts::of(part)
-    };
-    progress.halt = Some(Halt {
-        end,
-        counts,
-        last: progress.last,
-        floor: progress.floor,
-        owed,
-    });
-}
-
-// Notes that all open nodes may end at the offset, where the awaited node is empty, or has its properties alone.
-fn note_awaited<'a>(end: usize, progress: &mut Progress<'a>, part: &Part<'a>)
-    ensures floor { progress.new.floor ≡ progress.old.floor }
-    ensures from { progress.new.from ≡ progress.old.from }
-    ensures halt { IfSome progress.new.halt (λ h. (h.end ≡ end) × (h.floor ≡ progress.old.floor)) }
-{
-    let owed = match progress.wanted.outer {
-        None => Owed::Empty,
-        Some(held) => Owed::Propertied(held.end),
-    };
-    progress.owed = lead_of(end, progress.wanted.outer, progress.wanted.entry);
-    note(end, owed, progress, part);
+    if progress.wanted.outer.is_some() {
+        return true;
+    }
+    frames.len() > 0
 }
 
 // Whether the line at the offset has the `:` of an entry with a `?` that is open: the value of that entry may not be taken
@@ -152,71 +92,68 @@ fn awaits_colon_at(frames: &Frames, column: usize) -> bool
 }
 
 /// Notes that the node that is awaited at a line may be empty, or have its properties alone.
-pub(crate) fn note_empty<'a>(
-    text: &str,
-    at: usize,
-    progress: &mut Progress<'a>,
-    frames: &Frames,
-    part: &Part<'a>,
-)
+pub(crate) fn note_empty(text: &str, at: usize, progress: &mut Progress, frames: &Frames)
     requires place { IsCharBoundary text.now at }
     requires progress { ProgressAt text.now progress.old }
-    ensures { ProgressAt text.now progress.new }
+    ensures progress { ProgressAt text.now progress.new }
+    ensures others { progress.new ≡ record progress.old { halt = progress.new.halt } }
+    ensures outermost { IsOutermost progress.old.wanted.outer (reverse frames.now.items) → progress.new.halt ≡ progress.old.halt }
+    ensures noted { (IsOutermost progress.old.wanted.outer (reverse frames.now.items) → ⊥) → NotWithinBreak text.now at
+        → ColonsCounted progress.old.colons (reverse frames.now.items)
+        → EmptyNoted text.now progress.old.from at (reverse frames.now.items) progress.old.halt progress.new.halt }
 {
+    if !may_be_empty(progress, frames) {
+        return;
+    }
     if value_follows(text, at, progress.colons, frames) {
         if let Some(end) = last_line_start(text, progress.from, at) {
-            note_awaited(end, progress, part);
+            progress.halt = Some(end);
         }
         return;
     }
-    note_awaited(at, progress, part);
+    progress.halt = Some(at);
 }
 
-/// Notes that all may end at the line after a node, which ends at `from`. Of a plain scalar it is known where it stands, and
-/// what was known of it before.
-pub(crate) fn note_node<'a>(
+/// Notes that all may end at the line after a node, which ends at `from`. Of a plain scalar it is known where it begins.
+pub(crate) fn note_node(
     text: &str,
+    plain: Option<usize>,
     from: usize,
     at: usize,
-    plain: Option<Plain>,
-    lead: &Lead<'a>,
-    progress: &mut Progress<'a>,
+    progress: &mut Progress,
     frames: &Frames,
-    part: &Part<'a>,
 )
     requires from { IsCharBoundary text.now from }
     requires place { IsCharBoundary text.now at }
     requires plain { MayBoundary text.now plain }
     requires progress { ProgressAt text.now progress.old }
-    ensures { ProgressAt text.now progress.new }
+    ensures progress { ProgressAt text.now progress.new }
+    ensures others { progress.new ≡ record progress.old { halt = progress.new.halt } }
+    ensures noted { NotWithinBreak text.now at → ColonsCounted progress.old.colons (reverse frames.now.items)
+        → NodeNoted text.now plain from at (reverse frames.now.items) progress.old.halt progress.new.halt }
 {
     if value_follows(text, at, progress.colons, frames) {
         match last_line_start(text, from, at) {
-            Some(end) => note(end, Owed::Nothing, progress, part),
-            None => note_shorter(text, plain, lead, progress, part),
+            Some(end) => progress.halt = Some(end),
+            None => note_shorter(text, plain, from, progress),
         }
         return;
     }
-    note(at, Owed::Nothing, progress, part);
+    progress.halt = Some(at);
 }
 
-/// Notes that all may end before the last line of a plain scalar, if it has several.
+/// Notes that all may end before the last line of a plain scalar, if it has several. It is known where it begins and ends.
 #[inline(never)]
-pub(crate) fn note_shorter<'a>(
-    text: &str,
-    plain: Option<Plain>,
-    lead: &Lead<'a>,
-    progress: &mut Progress<'a>,
-    part: &Part<'a>,
-)
+pub(crate) fn note_shorter(text: &str, plain: Option<usize>, end: usize, progress: &mut Progress)
     requires plain { MayBoundary text.now plain }
     requires progress { ProgressAt text.now progress.old }
-    ensures { ProgressAt text.now progress.new }
+    ensures progress { ProgressAt text.now progress.new }
+    ensures others { progress.new ≡ record progress.old { halt = progress.new.halt } }
+    ensures noted { ShorterNoted text.now end progress.old.halt plain progress.new.halt }
 {
-    if let Some(plain) = plain {
-        if let Some(end) = last_line_start(text, plain.at, plain.end) {
-            progress.owed = *lead;
-            note(end, Owed::Shorter(plain), progress, part);
+    if let Some(start) = plain {
+        if let Some(line) = last_line_start(text, start, end) {
+            progress.halt = Some(line);
         }
     }
 }

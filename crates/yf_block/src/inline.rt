@@ -11,7 +11,7 @@ ghost use Rattle.yf_block.specs.Machine.{Stepped, ProgressAt, HeldBefore, behind
 use crate::content::{Behind, Claim, Share};
 use crate::entry::{await_value, collection_start, entry_at};
 use crate::frame::{Frame, Frames, Kind, Progress, Scope, Step, Wanted};
-use crate::halt::{Plain, note_node, note_shorter};
+use crate::halt::{note_node, note_shorter};
 use crate::held::{Held, lead_of};
 use crate::leaf::read_line_end;
 use crate::look::{key_ends, sign_stands};
@@ -202,35 +202,19 @@ pub(crate) fn finish_inline<'a>(
     match claim.share {
         Share::Apart => Ok(Step::Failed(spot.at)),
         Share::Nothing | Share::Joined => {
-            let plain = Plain {
-                least: progress.wanted.least,
-                at: behind.at,
-                end: node.end,
-                event: claim.before.events,
-            };
-            let plain = if node.json { None } else { Some(plain) };
+            let plain = if node.json { None } else { Some(behind.at) };
             progress.last = node.end;
-            end_inline(
-                alloc,
-                text,
-                node.end,
-                plain,
-                &claim.lead,
-                progress,
-                frames,
-                part,
-            )
+            end_inline(alloc, text, plain, node.end, progress, frames, part)
         }
     }
 }
 
-// The end of the line after a flow node that is no key.
+// The end of the line after a flow node that is no key. Of a plain scalar it is known where it begins.
 fn end_inline<'a>(
     alloc: Global,
     text: &'a str,
+    plain: Option<usize>,
     at: usize,
-    plain: Option<Plain>,
-    lead: &Lead<'a>,
     progress: &mut Progress<'a>,
     frames: &Frames,
     part: &mut Part<'a>,
@@ -244,11 +228,11 @@ fn end_inline<'a>(
     match read_line_end(alloc, text, at)? {
         Some(Separation { comments, end }) => {
             part.comments.append(comments)?;
-            note_node(text, at, end, plain, lead, progress, frames, part);
+            note_node(text, plain, at, end, progress, frames);
             Ok(Step::Resume(end))
         }
         None => {
-            note_shorter(text, plain, lead, progress, part);
+            note_shorter(text, plain, at, progress);
             Ok(Step::Failed(skip_whites(text, at)))
         }
     }

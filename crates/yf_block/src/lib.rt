@@ -5,7 +5,6 @@
 pub mod block;
 pub(crate) mod content;
 pub(crate) mod entry;
-pub(crate) mod finish;
 pub(crate) mod frame;
 pub(crate) mod halt;
 pub(crate) mod held;

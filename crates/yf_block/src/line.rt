@@ -127,7 +127,7 @@ pub(crate) fn take_line<'a>(
     ensures escapes { IfOk result (λ _. All (IsCharBoundary scope.entry.text.now) part.new.escapes) }
 {
     let text = scope.text;
-    note_empty(text, at, progress, frames, part);
+    note_empty(text, at, progress, frames);
     if node_ends(text, at) {
         return end_empty(alloc, at, progress, part);
     }

@@ -9,11 +9,11 @@ ghost use Rattle.yf_flow.specs.Machine.{Place};
 ghost use Rattle.yf_grammar.specs.BlockParser.{DashAt, LineText, LinesEnd, SignAt};
 ghost use Rattle.yf_grammar.specs.Part.{NotedSince};
 ghost use Rattle.yf_block.specs.InlineAnswers.{KeyEnds};
+ghost use Rattle.yf_block.specs.LastStarts.{LastStartIs};
 ghost use Rattle.yf_block.specs.Looks.{EntryPlace, LineEndsAt, NotWithinBreak};
 
 use yf_chars::classes::is_ns_char;
 use yf_chars::text::{peek, stands};
-use yf_comments::comments::Comments;
 use yf_flow::look::is_key_line;
 use yf_lines::basic::{
     break_ends, is_forbidden_at, line_break, mark_ends, mark_stands, skip_spaces, skip_whites,
@@ -188,7 +188,8 @@ fn break_start(text: &str, at: usize) -> usize
 /// The last place after a line break that begins at the first offset or after it, before the other offset.
 pub(crate) fn last_line_start(text: &str, from: usize, end: usize) -> Option<usize>
     requires { IsCharBoundary text.now from }
-    ensures { IfSome result (λ p. IsCharBoundary text.now p) }
+    ensures boundary { IfSome result (λ p. IsCharBoundary text.now p) }
+    ensures last { LastStartIs text.now from end result }
 {
     let mut at = from;
     let mut found = None;
@@ -229,15 +230,4 @@ pub(crate) fn skip_lines(text: &str, at: usize, count: usize) -> usize
         }
     }
     place
-}
-
-/// How many of the comments stand before an offset, where all but the last one do.
-pub(crate) fn comments_before(comments: &Comments, at: usize) -> usize {
-    let count = comments.len();
-    if count > 0 {
-        if comments.at(count - 1).offset >= at {
-            return count - 1;
-        }
-    }
-    count
 }

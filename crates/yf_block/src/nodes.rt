@@ -1,19 +1,20 @@
 //! The reader of block nodes: one forward pass, with a stack of the open collections.
-ghost use Rattle.std.specs.Prelude.{◌≡◌, ◌<◌, true, IfOk};
+ghost use Rattle.std.specs.Prelude.{◌≡◌, ◌<◌, ◌≤◌, [], true, IfOk, IfSome};
 ghost use Rattle.std.specs.List.{All};
 ghost use Rattle.std.specs.Str.{IsCharBoundary};
-ghost use Rattle.yf_block.specs.Machine.{HaltAt, ProgressAt, StepReady, StopAt, OutcomeAt};
+ghost use Rattle.yf_block.specs.Machine.{MayBoundary, ProgressAt, StoppedAt, StepReady, StopAt, OutcomeAt};
 
-use crate::finish::cut_back;
 use crate::frame::{Frames, Progress, Scope, Step, Wanted};
-use crate::halt::{Counts, Halt, Owed};
+use crate::halt::Counts;
 use crate::line::{first_line, take_line, take_node};
 use crate::resume::resume;
 use smallvec::SmallVec;
 use std::alloc::{AllocError, Global};
 use yf_chars::context::Ctx;
+use yf_events::comments::Comments;
+use yf_events::events::Events;
 use yf_events::part::Part;
-use yf_flow::node::Lead;
+use yf_events::row::Row;
 use yf_lines::basic::is_line_start;
 
 /// A block node that was found.
@@ -48,6 +49,27 @@ enum Stop {
     TooDeep(usize),
 }
 
+// The node that is to be read.
+#[derive(Clone, Copy)]
+struct Root {
+    // Where it is read from.
+    at: usize,
+    // The fewest spaces of its indentation, n + 1.
+    least: usize,
+    // Whether its context is block-out.
+    out: bool,
+}
+
+// What is left of a run of the reader that stopped.
+#[derive(Clone, Copy)]
+struct Stopped {
+    stop: Stop,
+    // The byte offset of the last place at which all open nodes might end.
+    halt: Option<usize>,
+    // The byte offset after the last block scalar; 0 where there is none.
+    floor: usize,
+}
+
 /// Reads the longest block node (s-l+block-node(n,c), production 196) from a byte offset on in which no more collections are
 /// open at once than the limit. `n` is the indentation of the collection around it, from -1. Its events, comments and
 /// escapes are added to the part; where there is none, the part is cut back to what was there before.
@@ -75,10 +97,14 @@ pub fn block_node_in<'a>(
         None => Ok(Outcome::Nothing { reached: at }),
         Some(out) => {
             let before = Counts::of(part);
-            let mut progress = no_progress(text, at, least_of(n), out);
-            let step = begin(alloc, text, at, &mut progress, part)?;
-            let stop = run(alloc, Scope { text, limit }, step, &mut progress, part)?;
-            conclude(alloc, text, at, stop, before, &progress, part)
+            let scope = Scope { text, limit };
+            let root = Root {
+                at,
+                least: least_of(n),
+                out,
+            };
+            let stopped = run_from(alloc, scope, root, part)?;
+            conclude(alloc, scope, root, stopped, before, part)
         }
     }
 }
@@ -115,8 +141,29 @@ fn no_progress<'a>(_text: &str, at: usize, least: usize, out: bool) -> Progress<
         from: 0,
         first: false,
         halt: None,
-        owed: Lead::bare(at, None),
     }
+}
+
+// Reads a node from its first line on.
+fn run_from<'a>(
+    alloc: Global,
+    scope: Scope<'a>,
+    root: Root,
+    part: &mut Part<'a>,
+) -> Result<Stopped, AllocError>
+    requires boundary { IsCharBoundary scope.text.now root.at }
+    requires escapes { All (IsCharBoundary scope.text.now) part.old.escapes }
+    ensures stopped { IfOk result (λ r. StoppedAt scope.entry.text.now r) }
+    ensures escapes { IfOk result (λ _. All (IsCharBoundary scope.entry.text.now) part.new.escapes) }
+{
+    let mut progress = no_progress(scope.text, root.at, root.least, root.out);
+    let step = begin(alloc, scope.text, root.at, &mut progress, part)?;
+    let stop = run(alloc, scope, step, &mut progress, part)?;
+    Ok(Stopped {
+        stop,
+        halt: progress.halt,
+        floor: progress.floor,
+    })
 }
 
 // The first step: at the start of a line, or within one.
@@ -171,45 +218,59 @@ fn run<'a>(
 // What was found, once the reader stopped; so much had been read before it began.
 fn conclude<'a>(
     alloc: Global,
-    text: &'a str,
-    at: usize,
-    stop: Stop,
+    scope: Scope<'a>,
+    root: Root,
+    stopped: Stopped,
     before: Counts,
-    progress: &Progress<'a>,
     part: &mut Part<'a>,
 ) -> Result<Outcome, AllocError>
-    requires progress { ProgressAt text.now progress.now }
-    requires stop { StopAt text.now stop }
-    requires escapes { All (IsCharBoundary text.now) part.old.escapes }
-    ensures place { IfOk result (λ o. OutcomeAt text.now at o) }
-    ensures escapes { IfOk result (λ _. All (IsCharBoundary text.now) part.new.escapes) }
+    requires boundary { IsCharBoundary scope.text.now root.at }
+    requires stopped { StoppedAt scope.text.now stopped }
+    requires escapes { All (IsCharBoundary scope.text.now) part.old.escapes }
+    ensures place { IfOk result (λ o. OutcomeAt scope.entry.text.now root.at o) }
+    ensures escapes { IfOk result (λ _. All (IsCharBoundary scope.entry.text.now) part.new.escapes) }
 {
-    match progress.halt {
-        Some(halt) if is_node(at, before.events, &halt) => {
-            if !ends_whole(stop, halt.end) {
-                cut_back(alloc, text, before.events, &halt, &progress.owed, part)?;
+    let reached = match stopped.stop {
+        Stop::Done(place) | Stop::Failed(place) | Stop::TooDeep(place) => place,
+    };
+    match stopped.halt {
+        Some(end) if is_node(root.at, end) => {
+            if ends_whole(stopped.stop, end) {
+                let floor = stopped.floor;
+                return Ok(Outcome::Found(Found {
+                    end,
+                    reached,
+                    floor,
+                }));
             }
-            let reached = match stop {
-                Stop::Done(place) | Stop::Failed(place) | Stop::TooDeep(place) => place,
-            };
-            Ok(Outcome::Found(Found {
-                end: halt.end,
-                reached,
-                floor: halt.floor,
-            }))
+            before.cut(part);
+            match read_prefix(alloc, scope, root, end, part)? {
+                Some(floor) => Ok(Outcome::Found(Found {
+                    end,
+                    reached,
+                    floor,
+                })),
+                None => Ok(Outcome::Nothing { reached }),
+            }
         }
         _ => {
             before.cut(part);
-            match stop {
-                Stop::Done(reached) | Stop::Failed(reached) => Ok(Outcome::Nothing { reached }),
+            match stopped.stop {
+                Stop::Done(_) | Stop::Failed(_) => Ok(Outcome::Nothing { reached }),
                 Stop::TooDeep(place) => Ok(Outcome::TooDeep(place)),
             }
         }
     }
 }
 
-// Whether the outermost node was read up to the last place at which all open nodes may end, so that its events are
-// complete.
+// Whether a halt keeps a node that has a character: no block node is empty.
+fn is_node(at: usize, halt: usize) -> bool
+    ensures { result ≡ true → at < halt }
+{
+    at < halt
+}
+
+// Whether the outermost node was read whole, and ends at the offset.
 fn ends_whole(stop: Stop, end: usize) -> bool {
     match stop {
         Stop::Done(place) => place == end,
@@ -217,15 +278,42 @@ fn ends_whole(stop: Stop, end: usize) -> bool {
     }
 }
 
-// Whether a halt keeps a node that has a character, after so many events: no block node is empty.
-fn is_node(at: usize, events: usize, halt: &Halt) -> bool
-    ensures { result ≡ true → at < halt.now.end }
+// Reads the node once more, in the text up to the last place at which all open nodes may end, and adds it to the part: it
+// ends there. The answer is the offset after its last block scalar, or 0; `None` where it did not end there.
+fn read_prefix<'a>(
+    alloc: Global,
+    scope: Scope<'a>,
+    root: Root,
+    end: usize,
+    part: &mut Part<'a>,
+) -> Result<Option<usize>, AllocError>
+    requires boundary { IsCharBoundary scope.text.now root.at }
+    requires end { IsCharBoundary scope.text.now end }
+    requires order { root.at ≤ end }
+    requires escapes { All (IsCharBoundary scope.text.now) part.old.escapes }
+    ensures floor { IfOk result (λ o. MayBoundary scope.entry.text.now o) }
+    ensures escapes { IfOk result (λ _. All (IsCharBoundary scope.entry.text.now) part.new.escapes) }
 {
-    if halt.end <= at {
-        return false;
+    let prefix = Scope {
+        text: &scope.text[..end],
+        limit: scope.limit,
+    };
+    let mut read = Part {
+        events: Events::new(alloc),
+        comments: Comments::new(alloc),
+        escapes: Row::new(alloc),
+    };
+    let stopped = run_from(alloc, prefix, root, &mut read)?;
+    if !ends_whole(stopped.stop, end) {
+        return Ok(None);
     }
-    match halt.owed {
-        Owed::Empty => halt.counts.events > events,
-        _ => true,
-    }
+    let Part {
+        events,
+        comments,
+        escapes,
+    } = read;
+    part.events.append(events)?;
+    part.comments.append(comments)?;
+    part.escapes.append(escapes)?;
+    Ok(Some(stopped.floor))
 }

@@ -83,7 +83,7 @@ fn end_collections<'a>(
     ensures escapes { IfOk result (λ _. part.new.escapes ≡ part.old.escapes) }
     ensures tied { (d : ℕ) → (root : BlockTask) → (before : Part)
         → AtResume text.now d root before (reverse frames.old.items) at progress.old part.old
-        → IfOk result (λ o. MatchOption o (AtDone text.now d root before at part.new)
+        → IfOk result (λ o. MatchOption o (AtDone text.now d root before at progress.new part.new)
         (λ n. AtFit text.now d root before (reverse frames.new.items) at n progress.new part.new)) }
 {
     let place = entry_place(text, at);

@@ -84,7 +84,7 @@ fn take_body<'a>(
     part.comments.append(comments)?;
     progress.last = finish;
     progress.floor = finish;
-    note_node(text, next, next, None, lead, progress, frames, part);
+    note_node(text, None, next, next, progress, frames);
     Ok(Step::Resume(next))
 }
 

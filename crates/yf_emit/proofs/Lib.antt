@@ -120,6 +120,7 @@ pub mod ContentFound
 pub mod DirectivesFit
 pub mod DocumentTrails
 pub mod FormatHolds
+pub mod FormatKeeps
 pub mod FormatLawsHold
 pub mod FormatTrails
 pub mod FormatsRead

@@ -1,5 +1,5 @@
--- What is to be proved of the formatter, each law with the plain sentence that it stands for. The contracts name none of them yet. The first, of
--- readings, is proved by `proofs/ReadingsOfTexts.antt`.
+-- What is to be proved of the formatter, each law with the plain sentence that it stands for. The first, of readings, is proved by
+-- `proofs/ReadingsOfTexts.antt`; what is proved of what formatting gives is in `FormatKept`, which the clause of `format` names.
 use Rattle.std.specs.Prelude.{◌≡◌, ℕ, List, Bool, Option, Result, MatchResult}
 use Rattle.std.specs.Str.{IsUtf8}
 use Rattle.yf_lines.specs.Output.{Wrote, Broke}

@@ -11,6 +11,7 @@ pub mod Decorated
 pub mod Drafts
 pub mod Format
 pub mod FormatLaws
+pub mod FormatKept
 pub mod Formatted
 pub mod Forms
 pub mod ImplicitKeys

@@ -23,13 +23,14 @@ use Rattle.yf_rules.specs.BlankLines.MarkerOf.{has_marker}
 use Rattle.yf_rules.specs.BlankLines.MisplacedBlank.{misplaced}
 use Rattle.yf_rules.specs.BlankLines.ScalarLine.{of_scalar}
 use Rattle.yf_rules.specs.BlankLines.WrongPlace.{is_first, after_blank, after_marker, before_marker, before_directive, at_text_end}
-use Rattle.yf_rules.specs.BlankNotes.{AreNotes, BlankUnless, Follows, InPart, LastLine, MarkerThere, Precedes}
+use Rattle.yf_rules.specs.BlankNotes.{AreNotes, BlankUnless, Follows, LastLine, MarkerThere, Precedes}
 use Rattle.yf_rules.specs.BlankNotes.BlankUnless.{is_white}
 use Rattle.yf_rules.specs.BlankNotes.Follows.{no_line, blank, marker}
 use Rattle.yf_rules.specs.BlankNotes.Precedes.{marker_next, directive_next}
 use Rattle.yf_rules.specs.Documents.{markers_in}
 use Rattle.yf_rules.specs.Exact.{Sole}
 use Rattle.yf_rules.specs.Noted.{Noted, NotedBy, Tells}
+use Rattle.yf_rules.specs.ScalarLines.{InRange}
 use Rattle.yf_rules.specs.Scalars.{IsScalar}
 use Rattle.yf_rules.specs.Whites.{WhitesEnd}
 use Rattle.yf_rules.proofs.BegunLemmas.{starts_order}
@@ -39,7 +40,7 @@ use Rattle.yf_rules.proofs.NotedLemmas.{sole_noted, none_noted}
 -- the lines of a scalar are told by where its content begins and where it ends
 module _ (src : Table) (r : Lists) (i : ℕ) (props : PropsValue) (style : ScalarStyle) (text : List ℕ) (s : Span) (first : ℕ)
     (is : IsScalar r i props style text s) (begun : Begun src.lines (content_start src.text s props) first) where
-  within_part : {k : ℕ} → ScalarLine src r k i → InPart src.lines first s.end k
+  within_part : {k : ℕ} → ScalarLine src r k i → InRange src.lines (record { first = first; end = s.end; indent = None }) k
   within_part {k} (of_scalar {props = p} {s = z} {l = l} h e m n) =
       let q = scalar_same h is in
       let m' : content_start src.text s props < l.start =
@@ -49,27 +50,15 @@ module _ (src : Table) (r : Lists) (i : ℕ) (props : PropsValue) (style : Scala
         at = e;
         from = ⊎_elim (λ (x : k < first). absurd (let o = begun.before k l e x in omega (arith, o, m'))) (λ (x : first ≤ k). x) (cases_lt k first);
         to = subst (λ (w : Span). l.start < w.end) q.span n;
+        longer = tt;
       }
 
-  pub part_lines : (k : ℕ) → (ScalarLine src r k i → InPart src.lines first s.end k) × (InPart src.lines first s.end k → ScalarLine src r k i)
+  pub part_lines : (k : ℕ) → (ScalarLine src r k i → InRange src.lines (record { first = first; end = s.end; indent = None }) k) × (InRange src.lines (record { first = first; end = s.end; indent = None }) k → ScalarLine src r k i)
   part_lines k = (λ h. within_part h, λ p. of_scalar is p.at (begun.behind k p.line p.at p.from) p.to)
 
 pub scalar_line_event : {src : Table} {r : Lists} {k i : ℕ} → ScalarLine src r k i → i < length r.events
 scalar_line_event {r = r} {i = i} (of_scalar {props} {style} {text} h e m n) =
     let w = slice_get_within (events_of r) i (scalar_node props style text) h.event in omega (arith, w, length-map r.events (λ e. e.event))
-
-pub in_part : (ls : List Line) (first end k : ℕ) (l : Line) → slice_get ls k ≡ Some l → first ≤ k → l.start < end → InPart ls first end k
-in_part ls first end k l e f s = record { line = l; at = e; from = f; to = s }
-
-pub past_part : (t : List ℕ) (ls : List Line) (first end k : ℕ) (l : Line) → AreLines t ls → slice_get ls k ≡ Some l → end ≤ l.start
-    → (m : ℕ) → InPart ls first end m → m < k
-past_part t ls first end k l a e h m b =
-    ⊎_elim (λ (x : m < k). x)
-    (λ (x : k ≤ m). absurd (let o = starts_order t ls k m l b.line a e b.at x in let s = b.to in omega (arith, o, s, h)))
-    (cases_lt m k)
-
-pub part_within : (ls : List Line) (first end k : ℕ) → InPart ls first end k → k < length ls
-part_within ls first end k p = slice_get_within ls k p.line p.at
 
 -- the line that holds an offset
 pub offset_within : {src : Table} {offset k : ℕ} → HasOffset src offset k → k < length src.lines

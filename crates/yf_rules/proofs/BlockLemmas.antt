@@ -79,8 +79,8 @@ scalar_same a b =
     record { props = props_same e; style = style_same e; text = text_same e; span = span_same (part_same (sym a.part ∙ b.part)) }
 
 module _ (src : Table) (r : Lists) (i : ℕ) (props : PropsValue) (style : ScalarStyle) (text : List ℕ) (s : Span) (is : IsScalar r i props style text s) where
-  pub no_block : is_block_style style ≡ false → (k : ℕ) → ContentLine src r k i → ⊥
-  no_block e k (of_block b f n h y g c l) = true≢false (sym y ∙ ap is_block_style (scalar_same h is).style ∙ e)
+  pub no_block_line : is_block_style style ≡ false → (k : ℕ) → ContentLine src r k i → ⊥
+  no_block_line e k (of_block b f n h y g c l) = true≢false (sym y ∙ ap is_block_style (scalar_same h is).style ∙ e)
 
   module _ (behind : ℕ) (begun : Begun src.lines (content_start src.text s props) behind) where
     -- a content line that something else tells stands in the content told from here
@@ -104,28 +104,6 @@ module _ (src : Table) (r : Lists) (i : ℕ) (props : PropsValue) (style : Scala
           subst (λ m. InBlock src.lines first m s.end k) e.1 (subst (λ m. InBlock src.lines m w.1 s.end k) e.0 w.3),
       λ l. of_block behind first indent is y begun c l,
     )
-
--- without a part of the text there is no content line
-pub no_part : (src : Table) (r : Lists) (i k : ℕ) → slice_get (spans_of r) i ≡ Some None → ContentLine src r k i → ⊥
-no_part src r i k e (of_block {s = s} b f n h y g c l) = nothing (part_same (sym h.part ∙ e)) where
-  nothing : {x : Span} → Some x ≡ None → ⊥
-  nothing e = cc
-
--- the lines of a block
-pub in_block : (ls : List Line) (first indent end k : ℕ) (l : Line) → slice_get ls k ≡ Some l → first ≤ k → l.start < end → indent < l.end - l.start → InBlock ls first indent end k
-in_block ls first indent end k l e f s m = record { line = l; at = e; from = f; to = s; longer = omega (arith, m) }
-
-pub too_few : (ls : List Line) (first indent end k : ℕ) (l : Line) → slice_get ls k ≡ Some l → l.end - l.start ≤ indent → InBlock ls first indent end k → ⊥
-too_few ls first indent end k l e m b =
-    let q : b.line ≡ l = some_same (sym b.at ∙ e) in
-    let s = ap (λ (w : Line). w.start) q in let n = ap (λ (w : Line). w.end) q in let h = b.longer in omega (arith, s, n, h, m)
-
-pub past_end : (t : List ℕ) (ls : List Line) (first indent end k : ℕ) (l : Line) → AreLines t ls → slice_get ls k ≡ Some l → end ≤ l.start
-    → (m : ℕ) → InBlock ls first indent end m → m < k
-past_end t ls first indent end k l a e h m b =
-    ⊎_elim (λ (x : m < k). x)
-    (λ (x : k ≤ m). absurd (let o = starts_order t ls k m l b.line a e b.at x in let s = b.to in omega (arith, o, s, h)))
-    (cases_lt m k)
 
 -- where no line is left after the empty ones, and where the text has line feeds alone
 pub past_lines : (ls : List Line) (text bs : List ℕ) (behind feeds n : ℕ) → bs ≡ text → feeds ≡ head_count 10 bs → n ≡ length ls → n - behind ≤ feeds → behind ≤ length ls

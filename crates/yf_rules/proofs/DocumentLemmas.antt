@@ -14,7 +14,7 @@ use Rattle.yf_events.specs.declared.lists.Lists.{Lists}
 use Rattle.yf_rules.specs.Documents.{IsUnmarked, NoMarkerLine, markers_in}
 use Rattle.yf_rules.specs.Documents.IsUnmarked.{without_marker, not_alone}
 use Rattle.yf_rules.specs.Documents.NoMarkerLine.{of_document}
-use Rattle.yf_rules.specs.Exact.{Sole}
+use Rattle.yf_rules.specs.Exact.{Answers, Sole}
 use Rattle.yf_lines.proofs.BasicLemmas.{white_below}
 use Rattle.yf_chars.specs.Chain.{Many}
 use Rattle.yf_chars.specs.Chain.Chain.{done, step}
@@ -149,14 +149,12 @@ pub event_count : (r : Lists) → length (events_of r) ≡ length r.events
 event_count r = length-map r.events (λ e. e.event)
 
 -- the same of the documents as the code has them
-pub document_read : (t u : List ℕ) (r : Lists) (ds : List Doc) (ms : List Bool) (k : ℕ) (d : Doc) (m : Bool) (o : ℕ) → u ≡ t → ds ≡ r.documents → ms ≡ markers_in (events_of r)
-    → k < length ds → k < length ms → m ≡ get_or ms k m → Sole (IsUnmarked u m (get_or ds k d).start) o → Sole (NoMarkerLine t r k) o
-document_read t u r ds ms k d m o e f g h l q s =
-    document_found t r k o (get_or ds k d) m (subst (λ v. slice_get v k ≡ Some (get_or ds k d)) f (slice_get-get_or ds k d h))
-    (subst (λ v. slice_get v k ≡ Some m) g (slice_get_read ms (length ms) k m refl l q)) (subst (λ v. Sole (IsUnmarked v m (get_or ds k d).start) o) e s)
-
-pub document_unread : (t u : List ℕ) (r : Lists) (ds : List Doc) (ms : List Bool) (k : ℕ) (d : Doc) (m : Bool) → u ≡ t → ds ≡ r.documents → ms ≡ markers_in (events_of r)
-    → k < length ds → k < length ms → m ≡ get_or ms k m → ((o : ℕ) → IsUnmarked u m (get_or ds k d).start o → ⊥) → (o : ℕ) → NoMarkerLine t r k o → ⊥
-document_unread t u r ds ms k d m e f g h l q s =
+pub document_answered : (t u : List ℕ) (r : Lists) (ds : List Doc) (ms : List Bool) (k : ℕ) (d : Doc) (m : Bool) (answer : Option ℕ) → u ≡ t → ds ≡ r.documents
+    → ms ≡ markers_in (events_of r) → k < length ds → k < length ms → m ≡ get_or ms k m → Answers (IsUnmarked u m (get_or ds k d).start) answer
+    → Answers (NoMarkerLine t r k) answer
+document_answered t u r ds ms k d m None e f g h l q s =
     document_none t r k (get_or ds k d) m (subst (λ v. slice_get v k ≡ Some (get_or ds k d)) f (slice_get-get_or ds k d h))
     (subst (λ v. slice_get v k ≡ Some m) g (slice_get_read ms (length ms) k m refl l q)) (subst (λ v. (o : ℕ) → IsUnmarked v m (get_or ds k d).start o → ⊥) e s)
+document_answered t u r ds ms k d m (Some o) e f g h l q s =
+    document_found t r k o (get_or ds k d) m (subst (λ v. slice_get v k ≡ Some (get_or ds k d)) f (slice_get-get_or ds k d h))
+    (subst (λ v. slice_get v k ≡ Some m) g (slice_get_read ms (length ms) k m refl l q)) (subst (λ v. Sole (IsUnmarked v m (get_or ds k d).start) o) e s)

@@ -1,10 +1,11 @@
 -- Laws of what the events of a reading tell of entries.
 use Rattle.std.proofs.Common.{◌≡◌, ℕ, zero, suc, ◌+◌, ◌-◌, ◌<◌, ◌≤◌, Bool, true, false, not, List, [], ◌∷◌, ◌++◌, Option, Some, None, drop, get_or, length, map, refl, sym, ap, subst, ◌∙◌, ⊎_elim, arith, add-one}
 use Rattle.std.specs.Prelude.{◌==◌, ◌&&◌, ◌||◌, nat_le, nat_lt, slice_get, slice_index, if◌then◌else◌, MatchBool}
+use Rattle.std.specs.Option.{option_to_list}
 use Rattle.std.specs.Str.{IsCharBoundary}
 use Rattle.std.proofs.lemmas.Bool.{and_parts, cases_Bool}
 use Rattle.std.proofs.lemmas.Bool.Decides.{nat_tests}
-use Rattle.std.proofs.lemmas.List.{drop_all, get_or-append-add, length-append}
+use Rattle.std.proofs.lemmas.List.{append-nil, drop_all, get_or-append-add, length-append}
 use Rattle.yf_chars.specs.Class.{is_white_or_end}
 use Rattle.yf_chars.specs.Text.{code}
 use Rattle.yf_events.specs.Event.{EventValue, Placed}
@@ -92,14 +93,18 @@ pub all_from : (t : List ℕ) (es : List Placed) (i : ℕ) (o : Option ℕ) → 
 all_from t es i o l e = all_more t es i l ∙ ap (λ p. and_those p (all_entries t (drop (suc i) es))) (sym e) ∙ ap (λ k. and_those o (all_entries t (drop k es))) (sym (add-one i))
 
 module _ (t : List ℕ) (es : List Placed) (i : ℕ) (os new all : List ℕ) (l : i < length es) (inv : os ++ all_entries t (drop i es) ≡ all) where
-  pub one_listed : (o : ℕ) → Some o ≡ entries_from t (drop i es) → new ≡ os ++ o ∷ [] → new ++ all_entries t (drop (i + 1) es) ≡ all
+  one_listed : (o : ℕ) → Some o ≡ entries_from t (drop i es) → new ≡ os ++ o ∷ [] → new ++ all_entries t (drop (i + 1) es) ≡ all
   one_listed o e q = ap (λ w. w ++ all_entries t (drop (i + 1) es)) q ∙ one_before os o (all_entries t (drop (i + 1) es)) ∙ ap (λ w. os ++ w) (sym (all_from t es i (Some o) l e)) ∙ inv where
     one_before : (xs : List ℕ) (x : ℕ) (ys : List ℕ) → (xs ++ x ∷ []) ++ ys ≡ xs ++ (x ∷ ys)
     one_before [] x ys = refl
     one_before (y ∷ xs) x ys = ap (λ w. y ∷ w) (one_before xs x ys)
 
-  pub none_listed : None ≡ entries_from t (drop i es) → new ≡ os → new ++ all_entries t (drop (i + 1) es) ≡ all
+  none_listed : None ≡ entries_from t (drop i es) → new ≡ os → new ++ all_entries t (drop (i + 1) es) ≡ all
   none_listed e q = ap (λ w. w ++ all_entries t (drop (i + 1) es)) q ∙ ap (λ w. os ++ w) (sym (all_from t es i None l e)) ∙ inv
+
+  pub entry_listed : (answer : Option ℕ) → answer ≡ entries_from t (drop i es) → new ≡ os ++ option_to_list answer → new ++ all_entries t (drop (i + 1) es) ≡ all
+  entry_listed None e q = none_listed e (q ∙ append-nil os)
+  entry_listed (Some o) e q = one_listed o e q
 
 -- entries without `?`
 

@@ -1,9 +1,11 @@
 -- Laws of lists that hold exactly what is meant, as a pass finds it.
-use Rattle.std.proofs.Common.{◌≡◌, ℕ, ◌+◌, ◌<◌, ◌≤◌, List, [], ◌∷◌, ◌++◌, sym, subst, ⊎_elim, arith}
+use Rattle.std.proofs.Common.{◌≡◌, ℕ, ◌+◌, ◌<◌, ◌≤◌, List, [], ◌∷◌, ◌++◌, Option, Some, None, sym, subst, ◌∙◌, ⊎_elim, arith}
 use Rattle.std.specs.List.{Contains}
+use Rattle.std.specs.Option.{option_to_list}
 use Rattle.std.proofs.lemmas.Bool.{cases_lt}
+use Rattle.std.proofs.lemmas.List.{append-nil}
 use Rattle.std.proofs.lemmas.List.Elements.{Contains-push, Contains-push_cases, Contains-append_left}
-use Rattle.yf_rules.specs.Exact.{Exactly, UpTo, Sole}
+use Rattle.yf_rules.specs.Exact.{Answers, Exactly, UpTo, Sole}
 
 -- nothing is found before the first step
 pub none_yet : {A : Type 0} (P : ℕ → A → Type 0) (xs : List A) → xs ≡ [] → UpTo P 0 xs
@@ -32,6 +34,12 @@ none_found P n xs ys u s e = subst (UpTo P (n + 1)) (sym e) (record {
       (λ (h : n ≤ k). absurd (s y (subst (λ m. P m y) (omega (arith, h, l)) p)))
       (cases_lt k n);
 })
+
+-- a step, with its answer or without one
+pub answer_found : {A : Type 0} (P : ℕ → A → Type 0) (n : ℕ) (xs ys : List A) (answer : Option A) → UpTo P n xs → Answers (P n) answer
+    → ys ≡ xs ++ option_to_list answer → UpTo P (n + 1) ys
+answer_found P n xs ys None u s e = none_found P n xs ys u s (e ∙ append-nil xs)
+answer_found P n xs ys (Some x) u s e = one_found P n xs ys x u s e
 
 -- a pass over all indices at which something can be meant
 pub all_found_upto : {A : Type 0} (P Q : ℕ → A → Type 0) (n : ℕ) (xs : List A) → UpTo P n xs → ((k : ℕ) (x : A) → k < n → P k x → Q k x)

@@ -18,11 +18,14 @@ use Rattle.yf_lines.specs.Lines.{Begun, Table}
 use Rattle.yf_props.specs.Props.{PropsValue}
 use Rattle.yf_rules.specs.Entries.{column_at, entries_from, unmarked_at}
 use Rattle.yf_rules.specs.Exact.{Answers}
-use Rattle.yf_rules.specs.IndentFaults.{AtFault, ContentAt, FoundBy, IsIndent, Reached, at_fault, content_at, fault_of, if_content, no_block, no_line, of_line, standing_at}
+use Rattle.yf_rules.specs.IndentFaults.{AtFault, ContentAt, FoundBy, Reached, at_fault, content_at, fault_of, if_content, standing_at}
 use Rattle.yf_rules.specs.Passing.{IsPass, Passes, stand_of}
+use Rattle.yf_rules.specs.ScalarLines.{IsContent}
+use Rattle.yf_rules.specs.ScalarLines.IsContent.{no_block, no_line, of_line}
 use Rattle.yf_rules.specs.Scalars.{BlockContent, IsScalar, is_block_style}
 use Rattle.yf_rules.specs.Standings.{Stood, begun, beside, next, outer, run, stood}
-use Rattle.yf_rules.specs.declared.facts.stands.Level.{Level}
+use Rattle.yf_rules.specs.declared.facts.scalars.ContentStart.{ContentStart}
+use Rattle.yf_rules.specs.declared.facts.stands.OpenCollection.{OpenCollection}
 use Rattle.yf_rules.specs.declared.facts.stands.Pass.{Pass}
 use Rattle.yf_rules.specs.declared.facts.stands.Stand.{Stand}
 use Rattle.yf_rules.proofs.BlockLemmas.{content_same, event_same, part_same, same_behind, scalar_same}
@@ -44,11 +47,6 @@ module _ (src : Table) (r : Lists) (i : ℕ) where
       → ((props : PropsValue) (style : ScalarStyle) (text : List ℕ) → e ≡ scalar_node props style text → ⊥) → (x : ℕ × ℕ) → ContentAt src r i x → ⊥
   no_scalar e q n x (content_at {props} {style} {text} b f m h y g c) = n props style text (event_same (sym q ∙ h.event))
 
-  pub no_characters : slice_get (spans_of r) i ≡ Some None → (x : ℕ × ℕ) → ContentAt src r i x → ⊥
-  no_characters e x (content_at b f m h y g c) = nothing (part_same (sym h.part ∙ e)) where
-    nothing : {s : Span} → Some s ≡ None → ⊥
-    nothing e = cc
-
   module _ (props : PropsValue) (style : ScalarStyle) (text : List ℕ) (s : Span) (is : IsScalar r i props style text s) where
     pub no_block_scalar : is_block_style style ≡ false → (x : ℕ × ℕ) → ContentAt src r i x → ⊥
     no_block_scalar e x (content_at b f m h y g c) = true≢false (sym y ∙ ap is_block_style (scalar_same h is).style ∙ e)
@@ -62,12 +60,12 @@ module _ (src : Table) (r : Lists) (i : ℕ) where
           let e : behind ≡ b' = same_behind src.lines (content_start src.text s props) behind b' f' c'.line b (subst (λ w. Begun src.lines w b') o g') c'.at (let a = c'.empty in omega (arith, a)) in
           f f' n' (subst (λ m. BlockContent src.lines text m f' n') (sym e) k)
 
-      pub content_answers : (start : ℕ) (indent : Option ℕ) → start ≡ content_start src.text s props → IsIndent src.lines style text behind indent
-          → Answers (ContentAt src r i) (if_content start indent)
-      content_answers start indent e (no_block h) = no_block_scalar h
-      content_answers start indent e (no_line h) = no_content_line h
-      content_answers start indent e (of_line {first} {indent = n} h c) =
-          subst (λ m. Answers (ContentAt src r i) (Some (m, n))) (sym e) (let k = content_at behind first n is h b c in record { holds = k; only = λ x w. content_sole w k })
+      pub content_answers : (start : ℕ) (content : Option ContentStart) → start ≡ content_start src.text s props → IsContent src.lines style text behind content
+          → Answers (ContentAt src r i) (if_content start content)
+      content_answers start None e (no_block h) = no_block_scalar h
+      content_answers start None e (no_line h) = no_content_line h
+      content_answers start (Some x) e (of_line h c) =
+          subst (λ m. Answers (ContentAt src r i) (Some (m, x.indent))) (sym e) (let k = content_at behind x.first x.indent is h b c in record { holds = k; only = λ y w. content_sole w k })
 
 -- answers
 
@@ -119,7 +117,7 @@ pub none_found_yet : (P : Stood → ℕ → Type 0) (os : List ℕ) → os ≡ [
 none_found_yet P os e = record { only = λ o c. absurd (nothing_in o (subst (λ w. Contains w o) e c)); all = λ s o c p. absurd (nothing_in s c) }
 
 -- what is found of one event
-module _ (src : Table) (r : Lists) (house : Style) (columns : List ℕ) (i : ℕ) (st : List Level) (content : Option (ℕ × ℕ)) (a : Answers (ContentAt src r i) content)
+module _ (src : Table) (r : Lists) (house : Style) (columns : List ℕ) (i : ℕ) (st : List OpenCollection) (content : Option (ℕ × ℕ)) (a : Answers (ContentAt src r i) content)
     (nodes : List Stood) (os new : List ℕ) (f : FoundBy (AtFault src r house columns) nodes os) (answer : Option ℕ) (n : new ≡ os ++ option_to_list answer) where
   pub event_found : (e : EventValue) → slice_get (events_of r) i ≡ Some e
       → answer ≡ fault_of house e (stand_of e st (column_at src.text r.events columns i) (unwrap_or (entries_from src.text (drop i r.events)) 0)) content
@@ -141,7 +139,7 @@ module _ (src : Table) (r : Lists) (house : Style) (columns : List ℕ) (i : ℕ
 
 -- one event more
 
-pub first_reached : (src : Table) (r : Lists) (house : Style) (columns : List ℕ) (begun : ℕ) (st : List Level) (os : List ℕ) → IsPass src.text r.events columns begun 0 → st ≡ [] → os ≡ []
+pub first_reached : (src : Table) (r : Lists) (house : Style) (columns : List ℕ) (begun : ℕ) (st : List OpenCollection) (os : List ℕ) → IsPass src.text r.events columns begun 0 → st ≡ [] → os ≡ []
     → Reached src r house columns begun 0 st os
 first_reached src r house columns begun st os p e q = record {
   nodes = [];
@@ -177,7 +175,7 @@ one_reached src r house i old after stand os new content answer x at q m p a f n
     }))
 
 -- after the last event
-pub all_reached : (src : Table) (r : Lists) (house : Style) (columns : List ℕ) (begun i : ℕ) (st : List Level) (os : List ℕ) → length r.events ≤ i
+pub all_reached : (src : Table) (r : Lists) (house : Style) (columns : List ℕ) (begun i : ℕ) (st : List OpenCollection) (os : List ℕ) → length r.events ≤ i
     → (m : Reached src r house columns begun i st os) → m.nodes ≡ run (column_at src.text r.events columns) (unmarked_at src.text r.events) 0 [] r.events
 all_reached src r house columns begun i st os l m =
     sym (append-nil m.nodes) ∙ ap (λ w. m.nodes ++ run (column_at src.text r.events columns) (unmarked_at src.text r.events) i st w) (sym (drop_all i r.events l)) ∙ m.left

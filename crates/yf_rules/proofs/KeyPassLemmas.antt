@@ -9,65 +9,65 @@ use Rattle.yf_events.specs.Reading.{events_of}
 use Rattle.yf_events.specs.Tree.{DocumentTree, TreesOf}
 use Rattle.yf_events.specs.declared.lists.Lists.{Lists}
 use Rattle.yf_rules.specs.Exact.{Exactly}
-use Rattle.yf_rules.specs.KeyPass.{AreLevels, IsLevel, KeyValue, Opened, after, event_place, has_key, is_repeat, new_level, next, offset_if, past_key, repeats_in, run, takes_key, without_first}
-use Rattle.yf_rules.specs.KeyPass.AreLevels.{no_levels, one_level}
+use Rattle.yf_rules.specs.KeyPass.{AreCollections, IsCollection, KeyValue, Opened, after, event_place, has_key, is_repeat, new_collection, next, offset_if, past_key, repeats_in, run, takes_key, without_first}
+use Rattle.yf_rules.specs.KeyPass.AreCollections.{no_collections, one_collection}
 use Rattle.yf_rules.specs.Nodes.{RepeatedKey}
-use Rattle.yf_rules.specs.declared.rules.repeated_keys.Level.{Level}
+use Rattle.yf_rules.specs.declared.rules.repeated_keys.KeyedCollection.{KeyedCollection}
 use Rattle.yf_rules.proofs.KeySetLemmas.{exactly_repeated}
 use Rattle.yf_rules.proofs.KeyTreeLemmas.{run_stream}
 
--- the innermost level
-record First (a : Level) (more : List Level) (st : List Opened) : Type 0 where
+-- the innermost collection
+record First (a : KeyedCollection) (more : List KeyedCollection) (st : List Opened) : Type 0 where
   l : Opened
   ls : List Opened
   is : st ≡ l ∷ ls
-  level : IsLevel a l
-  levels : AreLevels more ls
+  collection : IsCollection a l
+  collections : AreCollections more ls
 
-head_same : {a b : Level} {xs ys : List Level} → a ∷ xs ≡ b ∷ ys → a ≡ b
+head_same : {a b : KeyedCollection} {xs ys : List KeyedCollection} → a ∷ xs ≡ b ∷ ys → a ≡ b
 head_same e = cc
 
-tail_same : {a b : Level} {xs ys : List Level} → a ∷ xs ≡ b ∷ ys → xs ≡ ys
+tail_same : {a b : KeyedCollection} {xs ys : List KeyedCollection} → a ∷ xs ≡ b ∷ ys → xs ≡ ys
 tail_same e = cc
 
-nil_cons : {b : Level} {ys : List Level} → [] ≡ b ∷ ys → ⊥
+nil_cons : {b : KeyedCollection} {ys : List KeyedCollection} → [] ≡ b ∷ ys → ⊥
 nil_cons e = cc
 
-first_level : {xs : List Level} {st : List Opened} (a : Level) (more : List Level) → xs ≡ a ∷ more → AreLevels xs st → First a more st
-first_level a more e no_levels = absurd (nil_cons e)
-first_level a more e (one_level {l = l} {ls = ls} p q) = record {
+first_collection : {xs : List KeyedCollection} {st : List Opened} (a : KeyedCollection) (more : List KeyedCollection) → xs ≡ a ∷ more → AreCollections xs st → First a more st
+first_collection a more e no_collections = absurd (nil_cons e)
+first_collection a more e (one_collection {l = l} {ls = ls} p q) = record {
   l = l;
   ls = ls;
   is = refl;
-  level = subst (λ x. IsLevel x l) (head_same e) p;
-  levels = subst (λ xs. AreLevels xs ls) (tail_same e) q;
+  collection = subst (λ x. IsCollection x l) (head_same e) p;
+  collections = subst (λ xs. AreCollections xs ls) (tail_same e) q;
 }
 
-reverse_push : (xs : List Level) (x : Level) → reverse (xs ++ x ∷ []) ≡ x ∷ reverse xs
+reverse_push : (xs : List KeyedCollection) (x : KeyedCollection) → reverse (xs ++ x ∷ []) ≡ x ∷ reverse xs
 reverse_push xs x = reverse-append xs (x ∷ [])
 
-module _ (old rest new : List Level) (a b : Level) (p : old ≡ rest ++ a ∷ []) (q : new ≡ rest ++ b ∷ []) where
-  pub node_passed : (w : Option KeyValue) → ((l : Opened) → IsLevel a l → IsLevel b (past_key w l)) → (st : List Opened) → AreLevels (reverse old) st
-      → AreLevels (reverse new) (after w st)
+module _ (old rest new : List KeyedCollection) (a b : KeyedCollection) (p : old ≡ rest ++ a ∷ []) (q : new ≡ rest ++ b ∷ []) where
+  pub node_passed : (w : Option KeyValue) → ((l : Opened) → IsCollection a l → IsCollection b (past_key w l)) → (st : List Opened) → AreCollections (reverse old) st
+      → AreCollections (reverse new) (after w st)
   node_passed w g st h =
-      let f = first_level a (reverse rest) (ap reverse p ∙ reverse_push rest a) h in
-      subst (λ s. AreLevels (reverse new) (after w s)) (sym f.is)
-      (subst (λ xs. AreLevels xs (past_key w f.l ∷ f.ls)) (sym (ap reverse q ∙ reverse_push rest b)) (one_level (g f.l f.level) f.levels))
+      let f = first_collection a (reverse rest) (ap reverse p ∙ reverse_push rest a) h in
+      subst (λ s. AreCollections (reverse new) (after w s)) (sym f.is)
+      (subst (λ xs. AreCollections xs (past_key w f.l ∷ f.ls)) (sym (ap reverse q ∙ reverse_push rest b)) (one_collection (g f.l f.collection) f.collections))
 
-  pub scalar_passed : (w : KeyValue) (hit : Bool) → ((l : Opened) → IsLevel a l → IsLevel b (past_key (Some w) l) × (hit ≡ (takes_key l && has_key w l.keys)))
-      → (st : List Opened) → AreLevels (reverse old) st → AreLevels (reverse new) (after (Some w) st) × (hit ≡ repeats_in w st)
+  pub scalar_passed : (w : KeyValue) (hit : Bool) → ((l : Opened) → IsCollection a l → IsCollection b (past_key (Some w) l) × (hit ≡ (takes_key l && has_key w l.keys)))
+      → (st : List Opened) → AreCollections (reverse old) st → AreCollections (reverse new) (after (Some w) st) × (hit ≡ repeats_in w st)
   scalar_passed w hit g st h =
-      let f = first_level a (reverse rest) (ap reverse p ∙ reverse_push rest a) h in
-      (node_passed (Some w) (λ l k. (g l k).0) st h, (g f.l f.level).1 ∙ ap (λ s. repeats_in w s) (sym f.is))
+      let f = first_collection a (reverse rest) (ap reverse p ∙ reverse_push rest a) h in
+      (node_passed (Some w) (λ l k. (g l k).0) st h, (g f.l f.collection).1 ∙ ap (λ s. repeats_in w s) (sym f.is))
 
-pub end_passed : (old rest : List Level) (a : Level) → old ≡ rest ++ a ∷ [] → (st : List Opened) → AreLevels (reverse old) st → AreLevels (reverse rest) (without_first st)
+pub end_passed : (old rest : List KeyedCollection) (a : KeyedCollection) → old ≡ rest ++ a ∷ [] → (st : List Opened) → AreCollections (reverse old) st → AreCollections (reverse rest) (without_first st)
 end_passed old rest a p st h =
-    let f = first_level a (reverse rest) (ap reverse p ∙ reverse_push rest a) h in
-    subst (λ s. AreLevels (reverse rest) (without_first s)) (sym f.is) f.levels
+    let f = first_collection a (reverse rest) (ap reverse p ∙ reverse_push rest a) h in
+    subst (λ s. AreCollections (reverse rest) (without_first s)) (sym f.is) f.collections
 
-pub start_passed : (mid new : List Level) (a : Level) (is_map : Bool) (st : List Opened) → new ≡ mid ++ a ∷ [] → IsLevel a (new_level is_map) → AreLevels (reverse mid) st
-    → AreLevels (reverse new) (new_level is_map ∷ st)
-start_passed mid new a is_map st q i h = subst (λ xs. AreLevels xs (new_level is_map ∷ st)) (sym (ap reverse q ∙ reverse_push mid a)) (one_level i h)
+pub start_passed : (mid new : List KeyedCollection) (a : KeyedCollection) (is_map : Bool) (st : List Opened) → new ≡ mid ++ a ∷ [] → IsCollection a (new_collection is_map) → AreCollections (reverse mid) st
+    → AreCollections (reverse new) (new_collection is_map ∷ st)
+start_passed mid new a is_map st q i h = subst (λ xs. AreCollections xs (new_collection is_map ∷ st)) (sym (ap reverse q ∙ reverse_push mid a)) (one_collection i h)
 
 -- one event more
 pub event_at : (r : Lists) (i : ℕ) → i < length r.events → (x : Placed) × (slice_get r.events i ≡ Some x) × (slice_get (events_of r) i ≡ Some x.event)

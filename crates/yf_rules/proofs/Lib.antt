@@ -4,7 +4,7 @@
 pub mod CheckLemmas
 pub mod FoundLemmas
 pub mod PlacesLemmas
-pub mod SpotLemmas
+pub mod CursorLemmas
 -- what is known of texts and readings, for several rules
 pub mod ExactLemmas
 pub mod BegunLemmas
@@ -14,13 +14,14 @@ pub mod ColumnLemmas
 pub mod NodeLemmas
 pub mod FlowLemmas
 pub mod BlockLemmas
+pub mod ScalarLemmas
 -- trailing-blanks
 pub mod TrailingLemmas
 -- quoting
 pub mod StyleLemmas
 -- document-start
 pub mod DocumentLemmas
--- final-break and line-breaks
+-- line-breaks
 pub mod BreakLemmas
 -- byte-order-mark
 pub mod MarkPassLemmas

@@ -135,11 +135,15 @@ module _ (t : List ℕ) (r : Lists) (spans : List Span) (count reach k : ℕ) (s
   beyond_all : {o : ℕ} → LooseMark t r k o → IsBeyond t reach k o
   beyond_all (in_no_scalar e f) = is_beyond e (out_of_cover f)
 
-  pub mark_found : (o : ℕ) → Sole (IsBeyond t reach k) o → Sole (LooseMark t r k) o
+  mark_found : (o : ℕ) → Sole (IsBeyond t reach k) o → Sole (LooseMark t r k) o
   mark_found o a = record { holds = loose a.holds; only = λ x h. a.only x (beyond_all h) }
 
-  pub mark_not_found : ((o : ℕ) → IsBeyond t reach k o → ⊥) → (o : ℕ) → LooseMark t r k o → ⊥
+  mark_not_found : ((o : ℕ) → IsBeyond t reach k o → ⊥) → (o : ℕ) → LooseMark t r k o → ⊥
   mark_not_found f o h = f o (beyond_all h)
+
+  pub mark_answered : (answer : Option ℕ) → Answers (IsBeyond t reach k) answer → Answers (LooseMark t r k) answer
+  mark_answered None f = mark_not_found f
+  mark_answered (Some o) s = mark_found o s
 
 pub sole_mark : (t : List ℕ) (reach k : ℕ) → code t k ≡ 0xFEFF → reach ≤ k → Sole (IsBeyond t reach k) k
 sole_mark t reach k e l = record { holds = is_beyond e l; only = λ o h. there h } where

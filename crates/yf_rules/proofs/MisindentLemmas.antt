@@ -25,7 +25,7 @@ use Rattle.yf_rules.specs.Standings.{IsHeld, Stood, as_its_key, as_its_value, by
 use Rattle.yf_rules.specs.Stands.{is_other, wanted_column, wanted_indent}
 use Rattle.yf_rules.specs.declared.facts.stands.Around.{Around}
 use Rattle.yf_rules.specs.declared.facts.stands.Around.TheVariants.{Nothing}
-use Rattle.yf_rules.specs.declared.facts.stands.Level.{Level}
+use Rattle.yf_rules.specs.declared.facts.stands.OpenCollection.{OpenCollection}
 use Rattle.yf_rules.specs.declared.facts.stands.Stand.{Stand}
 use Rattle.yf_rules.proofs.BlockLemmas.{event_same, part_same}
 use Rattle.yf_rules.proofs.EntryColumns.{some_same, none_some, entries_found, column_found, found_column, unmarked_found, not_true, unmarked_key, key_unmarked, other, other_wanted}
@@ -282,7 +282,7 @@ module _ (src : Table) (r : Lists) (house : Style) (columns : List ℕ) (is : Co
   }
 
 -- what the whole pass finds
-pub pass_done : (src : Table) (r : Lists) (house : Style) (columns : List ℕ) (begun i : ℕ) (st : List Level) (os : List ℕ) → length r.events ≤ i
+pub pass_done : (src : Table) (r : Lists) (house : Style) (columns : List ℕ) (begun i : ℕ) (st : List OpenCollection) (os : List ℕ) → length r.events ≤ i
     → Reached src r house columns begun i st os → (trees : List DocumentTree) → TreesOf r trees → Exactly (Misindented src house trees) os
 pass_done src r house columns begun i st os l m trees t =
     exactly_misindented src r house columns m.pass.columns_are trees t os

@@ -7,32 +7,32 @@ use Rattle.yf_events.specs.Event.{EventValue, Placed}
 use Rattle.yf_rules.specs.Entries.{all_entries, column_at, entries_from, if_any, starts_block, unmarked_at}
 use Rattle.yf_rules.specs.Passing.{IsPass, Passes, stand_of}
 use Rattle.yf_rules.specs.Standings.{after, beside, held, is_beside, next, opened, outer, past, stand_in, turned}
-use Rattle.yf_rules.specs.declared.facts.stands.Level.{Level}
+use Rattle.yf_rules.specs.declared.facts.stands.OpenCollection.{OpenCollection}
 use Rattle.yf_rules.specs.declared.facts.stands.Pass.{Pass}
 use Rattle.yf_rules.specs.declared.facts.stands.Stand.{Stand}
 use Rattle.yf_rules.proofs.EntryLemmas.{all_from, in_none}
 
 -- a mapping before a key
-pub key_passed : (l : Level) (m b : Bool) → l.is_map ≡ true → l.key ≡ None → b ≡ m
-    → ◌≡◌ {A = Level} (record { column = l.column; is_map = l.is_map; key = Some b }) (past m l)
+pub key_passed : (l : OpenCollection) (m b : Bool) → l.is_map ≡ true → l.key ≡ None → b ≡ m
+    → ◌≡◌ {A = OpenCollection} (record { column = l.column; is_map = l.is_map; key = Some b }) (past m l)
 key_passed l m b e f g = ap (λ (k : Option Bool). record { column = l.column; is_map = l.is_map; key = k })
     (sym (ap (λ x. if x then turned m l.key else l.key) e ∙ ap (turned m) f ∙ ap Some (sym g)))
 
 -- the innermost open collection
 
-last_of : (xs : List Level) (l : Level) → 0 < length xs → l ≡ get_or xs (length xs - 1) l → xs ≡ take (length xs - 1) xs ++ l ∷ []
+last_of : (xs : List OpenCollection) (l : OpenCollection) → 0 < length xs → l ≡ get_or xs (length xs - 1) l → xs ≡ take (length xs - 1) xs ++ l ∷ []
 last_of xs l h e =
     let k = length xs - 1 in
     let d : drop k xs ≡ l ∷ [] = drop-cons xs k l (omega (arith, h)) ∙ ap (λ x. x ∷ drop (suc k) xs) (sym e)
     ∙ ap (λ w. l ∷ w) (drop_all (suc k) xs (omega (arith, h))) in
     sym (take-append-drop k xs) ∙ ap (λ w. take k xs ++ w) d
 
-module _ (xs : List Level) (n : ℕ) (l : Level) (c : length xs ≡ n) (h : 0 < n) (e : l ≡ get_or xs (n - 1) l) where
+module _ (xs : List OpenCollection) (n : ℕ) (l : OpenCollection) (c : length xs ≡ n) (h : 0 < n) (e : l ≡ get_or xs (n - 1) l) where
   first : reverse xs ≡ l ∷ reverse (take (n - 1) xs)
   first = subst (λ n. l ≡ get_or xs (n - 1) l → reverse xs ≡ l ∷ reverse (take (n - 1) xs)) c
       (λ q. ap reverse (last_of xs l (omega (arith, c, h)) q) ∙ reverse-append (take (length xs - 1) xs) (l ∷ [])) e
 
-  pub one_passed : (m : Bool) (new : Level) → new ≡ past m l → reverse (set xs (n - 1) new) ≡ after m (reverse xs)
+  pub one_passed : (m : Bool) (new : OpenCollection) → new ≡ past m l → reverse (set xs (n - 1) new) ≡ after m (reverse xs)
   one_passed m new f =
       let p = take (n - 1) xs in
       let w : xs ≡ p ++ l ∷ [] = subst (λ n. l ≡ get_or xs (n - 1) l → xs ≡ take (n - 1) xs ++ l ∷ []) c (λ q. last_of xs l (omega (arith, c, h)) q) e in
@@ -96,7 +96,7 @@ opened_by t es i old new stand v e q f p = subst (λ e. Passes t es i e old new 
   some_same e = cc
 
 -- without the innermost open collection
-pub rest_reversed : (xs : List Level) → reverse (take (length xs - 1) xs) ≡ drop 1 (reverse xs)
+pub rest_reversed : (xs : List OpenCollection) → reverse (take (length xs - 1) xs) ≡ drop 1 (reverse xs)
 rest_reversed [] = refl
 rest_reversed (x ∷ ys) =
     let xs = x ∷ ys in
@@ -109,10 +109,10 @@ rest_reversed (x ∷ ys) =
 abbrev with_entries : Option ℕ → ℕ → Stand → Stand
 with_entries c f x = record { outer = x.outer; is_implicit_value = x.is_implicit_value; column = c; first = f }
 
-pub stand_begun : (s : Stand) (st : List Level) (c d : Option ℕ) (f g : ℕ) → s ≡ stand_in st None 0 → c ≡ d → f ≡ g
+pub stand_begun : (s : Stand) (st : List OpenCollection) (c d : Option ℕ) (f g : ℕ) → s ≡ stand_in st None 0 → c ≡ d → f ≡ g
     → ◌≡◌ {A = Stand} (record { outer = s.outer; is_implicit_value = s.is_implicit_value; column = c; first = f }) (stand_in st d g)
 stand_begun s st c d f g e h k = ap (with_entries c f) e
     ∙ ap (λ c. stand_in st c f) h ∙ ap (λ f. stand_in st d f) k
 
-pub stack_begun : (mid new st : List Level) (a : Level) (is_map : Bool) (c : Option ℕ) → new ≡ mid ++ a ∷ [] → a ≡ opened is_map c → reverse mid ≡ st → reverse new ≡ opened is_map c ∷ st
+pub stack_begun : (mid new st : List OpenCollection) (a : OpenCollection) (is_map : Bool) (c : Option ℕ) → new ≡ mid ++ a ∷ [] → a ≡ opened is_map c → reverse mid ≡ st → reverse new ≡ opened is_map c ∷ st
 stack_begun mid new st a is_map c q e f = ap reverse q ∙ reverse-append mid (a ∷ []) ∙ ap (λ x. x ∷ reverse mid) e ∙ ap (λ w. opened is_map c ∷ w) f

@@ -6,10 +6,10 @@ use Rattle.yf_events.specs.Event.{Placed, sequence_ends, mapping_ends, document_
 use Rattle.yf_events.specs.Tree.{Node, scalar, alias, sequence, mapping, Items, no_items, item, Pairs, no_pairs, pair, DocumentTree, flat, flat_items, flat_pairs, flat_document, flat_stream, unplaced}
 use Rattle.yf_rules.specs.Standings.{Stood, after, beside, held, opened, outer, past, run, stood, stood_in, stood_in_documents, stood_in_items, stood_in_pairs}
 use Rattle.yf_rules.specs.declared.facts.stands.Around.TheVariants.{Nothing}
-use Rattle.yf_rules.specs.declared.facts.stands.Level.{Level}
+use Rattle.yf_rules.specs.declared.facts.stands.OpenCollection.{OpenCollection}
 
 mutual
-  run_node : (x : Node) (c : ℕ → Option ℕ) (m : ℕ → Bool) (i : ℕ) (st : List Level) (rest : List Placed)
+  run_node : (x : Node) (c : ℕ → Option ℕ) (m : ℕ → Bool) (i : ℕ) (st : List OpenCollection) (rest : List Placed)
       → run c m i st (flat x ++ rest) ≡ stood_in c m i (outer st) (beside st) x ++ run c m (i + length (flat x)) (after (m i) st) rest
   run_node (scalar at props style text lines) c m i st rest = refl
   run_node (alias at name) c m i st rest = refl
@@ -32,7 +32,7 @@ mutual
       let l = length-append (flat_pairs pairs) (end ∷ []) in omega (arith, l) in
       a ∙ ap (λ ys. here ∷ ys) b ∙ ap (λ k. here ∷ (stood_in_pairs c m (i + 1) (held (c i)) pairs ++ run c m k (after (m i) st) rest)) n
 
-  run_items : (xs : Items) (c : ℕ → Option ℕ) (m : ℕ → Bool) (i : ℕ) (o : Option ℕ) (st : List Level) (rest : List Placed)
+  run_items : (xs : Items) (c : ℕ → Option ℕ) (m : ℕ → Bool) (i : ℕ) (o : Option ℕ) (st : List OpenCollection) (rest : List Placed)
       → run c m i (opened false o ∷ st) (flat_items xs ++ rest) ≡ stood_in_items c m i (held o) xs ++ run c m (i + length (flat_items xs)) (opened false o ∷ st) rest
   run_items no_items c m i o st rest = ap (λ k. run c m k (opened false o ∷ st) rest) (let z : i ≡ i + 0 = omega arith in z)
   run_items (item x xs) c m i o st rest =
@@ -46,7 +46,7 @@ mutual
       let e : j + length (flat_items xs) ≡ i + length (flat x ++ flat_items xs) = let l = length-append (flat x) (flat_items xs) in omega (arith, l) in
       a ∙ n ∙ h ∙ g ∙ ap (λ k. (X ++ stood_in_items c m j (held o) xs) ++ run c m k s rest) e
 
-  run_pairs : (ps : Pairs) (c : ℕ → Option ℕ) (m : ℕ → Bool) (i : ℕ) (o : Option ℕ) (st : List Level) (rest : List Placed)
+  run_pairs : (ps : Pairs) (c : ℕ → Option ℕ) (m : ℕ → Bool) (i : ℕ) (o : Option ℕ) (st : List OpenCollection) (rest : List Placed)
       → run c m i (opened true o ∷ st) (flat_pairs ps ++ rest) ≡ stood_in_pairs c m i (held o) ps ++ run c m (i + length (flat_pairs ps)) (opened true o ∷ st) rest
   run_pairs no_pairs c m i o st rest = ap (λ k. run c m k (opened true o ∷ st) rest) (let z : i ≡ i + 0 = omega arith in z)
   run_pairs (pair k v ps) c m i o st rest =

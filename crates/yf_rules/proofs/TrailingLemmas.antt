@@ -1,5 +1,5 @@
 -- Laws of the white space at the ends of lines.
-use Rattle.std.proofs.Common.{◌≡◌, ℕ, ◌<◌, ◌≤◌, Bool, true, false, List, Some, length, get_or, refl, sym, subst, ◌∙◌, ⊎_elim, arith, true≢false}
+use Rattle.std.proofs.Common.{◌≡◌, ℕ, ◌<◌, ◌≤◌, Bool, true, false, List, Option, Some, None, length, get_or, refl, sym, subst, ◌∙◌, ⊎_elim, arith, true≢false}
 use Rattle.std.specs.Prelude.{slice_get}
 use Rattle.std.proofs.lemmas.Bool.{cases_Bool}
 use Rattle.std.proofs.lemmas.List.{length-map}
@@ -13,7 +13,7 @@ use Rattle.yf_lines.proofs.TableLemmas.{some_same}
 use Rattle.yf_rules.specs.ByLine.{BlankEnd, TrailingBlank}
 use Rattle.yf_rules.specs.ByLine.BlankEnd.{at_line_end}
 use Rattle.yf_rules.specs.ByLine.TrailingBlank.{trailing}
-use Rattle.yf_rules.specs.Exact.{Sole}
+use Rattle.yf_rules.specs.Exact.{Answers, Sole}
 use Rattle.yf_rules.specs.Noted.{NotedBy}
 use Rattle.yf_rules.specs.Scalars.{ContentLine}
 use Rattle.yf_rules.specs.Scalars.ContentLine.{of_block}
@@ -54,13 +54,17 @@ module _ (src : Table) (r : Lists) (list : List Bool) (k : ℕ) (b : Bool) (insi
       ⊎_elim (λ (e : b ≡ true). absurd (let w = notes.only k (sym flag ∙ e) in n w.0 w.2))
       (λ (e : b ≡ false). subst (λ c. BlankEnd src k c o) (sym e) h) (cases_Bool b)
 
-  pub trailing_found : (o : ℕ) → Sole (BlankEnd src k b) o → Sole (TrailingBlank src r k) o
+  trailing_found : (o : ℕ) → Sole (BlankEnd src k b) o → Sole (TrailingBlank src r k) o
   trailing_found o s =
       let e : b ≡ false = not_of_content s.holds in
       record { holds = trailing (subst (λ c. BlankEnd src k c o) e s.holds) (no_line e); only = λ x t. s.only x (blank_of t) }
 
-  pub trailing_none : ((o : ℕ) → BlankEnd src k b o → ⊥) → (o : ℕ) → TrailingBlank src r k o → ⊥
+  trailing_none : ((o : ℕ) → BlankEnd src k b o → ⊥) → (o : ℕ) → TrailingBlank src r k o → ⊥
   trailing_none f o t = f o (blank_of t)
+
+  pub trailing_answered : (answer : Option ℕ) → Answers (BlankEnd src k b) answer → Answers (TrailingBlank src r k) answer
+  trailing_answered None f = trailing_none f
+  trailing_answered (Some o) s = trailing_found o s
 
 pub trailing_line : {src : Table} {r : Lists} {k o : ℕ} → TrailingBlank src r k o → k < length src.lines
 trailing_line {src} {r} {k} (trailing (at_line_end {l} e w h) n) = slice_get_within src.lines k l e

@@ -1,24 +1,11 @@
 -- What a pass over the lines notes to tell which blank lines are at fault. An index counts lines from 0.
-use Rattle.std.specs.Prelude.{◌≡◌, ℕ, ◌+◌, ◌<◌, ◌≤◌, ◌⊎◌, Bool, true, false, List, length, get_or, slice_get, Option, Some, MatchOption}
+use Rattle.std.specs.Prelude.{◌≡◌, ℕ, ◌+◌, ◌<◌, ◌≤◌, ◌⊎◌, Bool, true, false, List, length, get_or, slice_get, Some}
 use Rattle.yf_events.specs.declared.lists.Lists.{Lists}
 use Rattle.yf_lines.specs.declared.line.Line.{Line}
 use Rattle.yf_lines.specs.Lines.{IsForbiddenLine, Table}
-use Rattle.yf_rules.specs.BlankLines.{DirectiveOf, HasOffset, IsBlank, MarkerOf, ScalarLine}
+use Rattle.yf_rules.specs.BlankLines.{DirectiveOf, HasOffset, IsBlank, MarkerOf}
 use Rattle.yf_rules.specs.Noted.{Tells}
 use Rattle.yf_rules.specs.Whites.{IsAlone, WhitesEnd}
-use Rattle.yf_rules.specs.declared.facts.scalar_lines.Part.{Part}
-
--- the line of the index k is one of those from `first` on that begin before the offset `end`
-pub record InPart (ls : List Line) (first end k : ℕ) : Type 0 where
-  pub line : Line
-  pub at : slice_get ls k ≡ Some line
-  pub from : first ≤ k
-  pub to : line.start < end
-
--- what is answered of the event of index i: its lines after the first, if it is a scalar with a part of the text
-abbrev pub IsPart : Table → Lists → ℕ → Option Part → Type 0
-IsPart src r i answer = (k : ℕ) → MatchOption answer (ScalarLine src r k i → ⊥)
-    (λ p. (ScalarLine src r k i → InPart src.lines p.first p.end k) × (InPart src.lines p.first p.end k → ScalarLine src r k i))
 
 -- a `---` at the offset `start`, if it is written and white space alone follow, is on that line
 pub record MarkerThere (src : Table) (marked : Bool) (start k : ℕ) : Type 0 where

@@ -9,6 +9,7 @@ use Rattle.yf_lines.specs.Lines.{Table}
 use Rattle.yf_events.specs.declared.lists.Lists.{Lists}
 use Rattle.yf_emit.specs.declared.style.Style.{Style}
 use Rattle.yf_rules.specs.declared.finding.Finding.{Finding}
+use Rattle.yf_rules.specs.Definition.{RuleDefinition}
 use Rattle.yf_rules.specs.Places.{FoundAt}
 
 -- the finding at a place
@@ -21,10 +22,10 @@ pub data FindingsOf (rule_number : ℕ) (rule_id : List ℕ) (is_fixable : Bool)
       → fixable ≡ is_fixable → Finds places → findings ≡ map (finding_at number id fixable) places
       → FindingsOf rule_number rule_id is_fixable Finds findings
 
--- the same of a rule with this set, in a text with this reading under this style
-abbrev pub RuleFindings : ℕ → List ℕ → Bool → (Table → Lists → Style → List ℕ → Type 0) → Table → Lists → Style → List Finding → Type 0
-RuleFindings number id fixable faults src reading style findings =
-    FindingsOf number id fixable (FoundAt src.text (faults src reading style)) findings
+-- the same of a rule with this definition, in a text with this reading under this style
+abbrev pub RuleFindings : RuleDefinition → Table → Lists → Style → List Finding → Type 0
+RuleFindings rule src reading style findings =
+    FindingsOf rule.number rule.id rule.fixable (FoundAt src.text (rule.faults src reading style)) findings
 
 -- the findings of the rules, once for each, one rule after the other; R tells those of one rule
 pub data InOrder {B : Type 0} (R : B → List Finding → Type 0) : List B → List Finding → Type 0 where

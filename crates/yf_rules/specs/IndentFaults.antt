@@ -18,8 +18,9 @@ use Rattle.yf_rules.specs.Passing.{IsPass}
 use Rattle.yf_rules.specs.Scalars.{BlockContent, IsScalar, is_block_style}
 use Rattle.yf_rules.specs.Standings.{Stood, run}
 use Rattle.yf_rules.specs.Stands.{is_other, wanted_column, wanted_indent}
-use Rattle.yf_rules.specs.declared.facts.bodies.Body.{Body}
-use Rattle.yf_rules.specs.declared.facts.stands.Level.{Level}
+use Rattle.yf_rules.specs.declared.facts.scalars.ContentStart.{ContentStart}
+use Rattle.yf_rules.specs.declared.facts.scalars.ScalarLines.{ScalarLines}
+use Rattle.yf_rules.specs.declared.facts.stands.OpenCollection.{OpenCollection}
 use Rattle.yf_rules.specs.declared.facts.stands.Stand.{Stand}
 
 -- the event of index i is a block scalar with a content line: where its header begins, and by how many spaces its content is indented
@@ -28,20 +29,14 @@ pub data ContentAt (src : Table) (r : Lists) (i : ℕ) : ℕ × ℕ → Type 0 w
       → Begun src.lines (content_start src.text s props) behind → BlockContent src.lines text behind first indent
       → ContentAt src r i (content_start src.text s props, indent)
 
--- the indentation of the content of a scalar with this style and text, if it is a block scalar that has any
-pub data IsIndent (ls : List Line) (style : ScalarStyle) (text : List ℕ) (behind : ℕ) : Option ℕ → Type 0 where
-  no_block : is_block_style style ≡ false → IsIndent ls style text behind None
-  no_line : ((first indent : ℕ) → BlockContent ls text behind first indent → ⊥) → IsIndent ls style text behind None
-  of_line : {first indent : ℕ} → is_block_style style ≡ true → BlockContent ls text behind first indent → IsIndent ls style text behind (Some indent)
-
 -- the same as the code has it
-abbrev pub if_content : ℕ → Option ℕ → Option (ℕ × ℕ)
+abbrev pub if_content : ℕ → Option ContentStart → Option (ℕ × ℕ)
 if_content start None = None
-if_content start (Some indent) = Some (start, indent)
+if_content start (Some content) = Some (start, content.indent)
 
-abbrev pub content_in : Option Body → Option (ℕ × ℕ)
+abbrev pub content_in : Option ScalarLines → Option (ℕ × ℕ)
 content_in None = None
-content_in (Some body) = if_content body.start body.indent
+content_in (Some lines) = if_content lines.start lines.content
 
 -- where entries are that stand at another column, and the header of content that is indented otherwise
 abbrev pub entry_fault : ℕ → Option ℕ → Option ℕ → Option ℕ
@@ -74,7 +69,7 @@ pub record FoundBy (P : Stood → ℕ → Type 0) (nodes : List Stood) (offsets 
   pub all : (s : Stood) (o : ℕ) → Contains nodes s → P s o → Contains offsets o
 
 -- a pass over the events has come to the index i, with these open collections, and has found these offsets
-pub record Reached (src : Table) (r : Lists) (house : Style) (columns : List ℕ) (begun i : ℕ) (st : List Level) (offsets : List ℕ) : Type 0 where
+pub record Reached (src : Table) (r : Lists) (house : Style) (columns : List ℕ) (begun i : ℕ) (st : List OpenCollection) (offsets : List ℕ) : Type 0 where
   pub nodes : List Stood
   pub pass : IsPass src.text r.events columns begun i
   pub left : nodes ++ run (column_at src.text r.events columns) (unmarked_at src.text r.events) i st (drop i r.events)

@@ -10,7 +10,7 @@ use Rattle.yf_events.specs.Tree.{Node, scalar, alias, sequence, mapping, Items, 
 use Rattle.yf_props.specs.Props.{name_value}
 use Rattle.yf_rules.specs.Nodes.{entry_place, key_place, place_or}
 use Rattle.yf_rules.specs.declared.rules.repeated_keys.Key.{Key}
-use Rattle.yf_rules.specs.declared.rules.repeated_keys.Level.{Level}
+use Rattle.yf_rules.specs.declared.rules.repeated_keys.KeyedCollection.{KeyedCollection}
 
 -- the text of a scalar key and its resolved tag, as the list of tags has it
 abbrev pub KeyValue : Type 0
@@ -43,8 +43,8 @@ add_key (Some w) ks = w ∷ ks
 abbrev pub past_key : Option KeyValue → Opened → Opened
 past_key w l = record { is_map = l.is_map; at_value = not l.at_value; keys = if takes_key l then add_key w l.keys else l.keys }
 
-abbrev pub new_level : Bool → Opened
-new_level is_map = record { is_map = is_map; at_value = false; keys = [] }
+abbrev pub new_collection : Bool → Opened
+new_collection is_map = record { is_map = is_map; at_value = false; keys = [] }
 
 -- the open collections after a node, the innermost first
 abbrev pub after : Option KeyValue → List Opened → List Opened
@@ -66,9 +66,9 @@ next stream_starts tag st = st
 next stream_ends tag st = st
 next (document_starts marked) tag st = st
 next (document_ends closed) tag st = st
-next (sequence_starts flow props) tag st = new_level false ∷ after None st
+next (sequence_starts flow props) tag st = new_collection false ∷ after None st
 next sequence_ends tag st = without_first st
-next (mapping_starts flow props) tag st = new_level true ∷ after None st
+next (mapping_starts flow props) tag st = new_collection true ∷ after None st
 next mapping_ends tag st = without_first st
 next (scalar_node props style text) tag st = after (Some (text, tag)) st
 next (alias_node name) tag st = after None st
@@ -134,11 +134,11 @@ key_value k = (k.text.now, Some (name_value k.tag))
 abbrev pub key_cmp : Key → Key → Ordering
 key_cmp a b = ordering_then (slice_cmp nat_cmp a.text.now b.text.now) (option_cmp (λ x y. slice_cmp nat_cmp x.now y.now) a.tag b.tag)
 
-pub record IsLevel (level : Level) (l : Opened) : Type 0 where
-  pub same_kind : level.is_map ≡ l.is_map
-  pub same_turn : level.at_value ≡ l.at_value
-  pub same_keys : (k : Key) → contains key_cmp level.keys k ≡ has_key (key_value k) l.keys
+pub record IsCollection (collection : KeyedCollection) (l : Opened) : Type 0 where
+  pub same_kind : collection.is_map ≡ l.is_map
+  pub same_turn : collection.at_value ≡ l.at_value
+  pub same_keys : (k : Key) → contains key_cmp collection.keys k ≡ has_key (key_value k) l.keys
 
-pub data AreLevels : List Level → List Opened → Type 0 where
-  no_levels : AreLevels [] []
-  one_level : {level : Level} {l : Opened} {levels : List Level} {ls : List Opened} → IsLevel level l → AreLevels levels ls → AreLevels (level ∷ levels) (l ∷ ls)
+pub data AreCollections : List KeyedCollection → List Opened → Type 0 where
+  no_collections : AreCollections [] []
+  one_collection : {collection : KeyedCollection} {l : Opened} {collections : List KeyedCollection} {ls : List Opened} → IsCollection collection l → AreCollections collections ls → AreCollections (collection ∷ collections) (l ∷ ls)

@@ -14,6 +14,7 @@ pub mod KeyPass
 pub mod Laws
 pub mod OuterFlow
 pub mod QuestionMarks
+pub mod ScalarLines
 pub mod Stands
 pub mod Standings
 pub mod Entries
@@ -24,4 +25,6 @@ pub mod Indents
 pub mod MarkedKeys
 pub mod Layouts
 pub mod Sets
+pub mod Definition
+pub mod Rules
 pub mod Check

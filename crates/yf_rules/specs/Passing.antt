@@ -6,7 +6,7 @@ use Rattle.yf_rules.specs.Columns.{ColumnsTo}
 use Rattle.yf_rules.specs.Entries.{all_entries, column_at, entries_from, unmarked_at}
 use Rattle.yf_rules.specs.Standings.{after, next, opened, stand_in}
 use Rattle.yf_rules.specs.declared.facts.stands.Around.TheVariants.{Unknown}
-use Rattle.yf_rules.specs.declared.facts.stands.Level.{Level}
+use Rattle.yf_rules.specs.declared.facts.stands.OpenCollection.{OpenCollection}
 use Rattle.yf_rules.specs.declared.facts.stands.Pass.{Pass}
 use Rattle.yf_rules.specs.declared.facts.stands.Stand.{Stand}
 
@@ -16,7 +16,7 @@ pub record IsPass (t : List ℕ) (es : List Placed) (columns : List ℕ) (begun 
   pub begun_are : begun + length (all_entries t (drop i es)) ≡ length (all_entries t es)
 
 -- what is told of an event with these open collections before it
-abbrev pub stand_of : EventValue → List Level → Option ℕ → ℕ → Stand
+abbrev pub stand_of : EventValue → List OpenCollection → Option ℕ → ℕ → Stand
 stand_of (sequence_starts flow props) st column first = stand_in st column first
 stand_of (mapping_starts flow props) st column first = stand_in st column first
 stand_of (scalar_node props style text) st column first = stand_in st None 0
@@ -24,7 +24,7 @@ stand_of (alias_node name) st column first = stand_in st None 0
 stand_of _ st column first = record { outer = Unknown; is_implicit_value = false; column = None; first = 0 }
 
 -- the event of index i is passed: afterwards these collections are open, and this is told
-pub record Goes (t : List ℕ) (es : List Placed) (i : ℕ) (st : List Level) (told : Stand) (old new : Pass) (stand : Stand) : Type 0 where
+pub record Goes (t : List ℕ) (es : List Placed) (i : ℕ) (st : List OpenCollection) (told : Stand) (old new : Pass) (stand : Stand) : Type 0 where
   pub stack : reverse new.stack.items ≡ st
   pub tells : stand ≡ told
   pub kept : new.columns.items ≡ old.columns.items

@@ -9,7 +9,7 @@ use Rattle.yf_chars.specs.Chain.{Many}
 use Rattle.yf_lines.specs.declared.line.Line.{Line}
 use Rattle.yf_lines.specs.declared.place.Place.{Place}
 use Rattle.yf_lines.specs.Lines.{Marks, PlaceOf, is_char}
-use Rattle.yf_rules.specs.declared.facts.spot.Spot.{Spot}
+use Rattle.yf_rules.specs.declared.facts.cursor.Cursor.{Cursor}
 
 -- the place of one of these offsets, at which a character begins or the text ends; an offset inside of a character has
 -- no place
@@ -46,6 +46,6 @@ pub record Reached (t : List ℕ) (start at column : ℕ) : Type 0 where
   pub boundary : IsCharBoundary t at
   pub room : column ≤ at + 1
 
--- the spot is reached in the line of its index, if there is such a line
-pub record IsSpot (t : List ℕ) (ls : List Line) (s : Spot) : Type 0 where
+-- the cursor is reached in the line of its index, if there is such a line
+pub record IsCursor (t : List ℕ) (ls : List Line) (s : Cursor) : Type 0 where
   pub reached : IfSome (slice_get ls s.line) (λ l. Reached t l.start s.at s.column)

@@ -1,5 +1,5 @@
 -- The scalars of a reading in the text: which part is theirs, and which lines.
-use Rattle.std.specs.Prelude.{◌≡◌, ℕ, suc, ◌+◌, ◌-◌, ◌<◌, ◌≤◌, ◌==◌, if◌then◌else◌, Bool, true, false, List, [], ◌∷◌, length, drop, slice_get, Option, Some, MatchOption}
+use Rattle.std.specs.Prelude.{◌≡◌, ℕ, suc, ◌+◌, ◌-◌, ◌<◌, ◌≤◌, ◌==◌, if◌then◌else◌, Bool, true, false, List, [], ◌∷◌, length, drop, slice_get, Some}
 use Rattle.yf_chars.specs.Text.{code}
 use Rattle.yf_emit.specs.ContentStart.{content_start}
 use Rattle.yf_events.specs.Event.{scalar_node}
@@ -11,7 +11,6 @@ use Rattle.yf_events.specs.declared.lists.Lists.{Lists}
 use Rattle.yf_lines.specs.declared.line.Line.{Line}
 use Rattle.yf_lines.specs.Lines.{Begun, Table}
 use Rattle.yf_props.specs.Props.{PropsValue}
-use Rattle.yf_rules.specs.declared.facts.content_lines.Block.{Block}
 
 -- the event of that index is a scalar with these parts
 pub record IsScalar (r : Lists) (i : ℕ) (props : PropsValue) (style : ScalarStyle) (text : List ℕ) (span : Span) : Type 0 where
@@ -70,11 +69,6 @@ pub data ContentLine (src : Table) (r : Lists) (k i : ℕ) : Type 0 where
       → IsScalar r i props style text s → is_block_style style ≡ true
       → Begun src.lines (content_start src.text s props) behind → BlockContent src.lines text behind first indent
       → InBlock src.lines first indent s.end k → ContentLine src r k i
-
--- what is answered of the event of index i: its content lines, if it is a block scalar that has any
-abbrev pub IsBlock : Table → Lists → ℕ → Option Block → Type 0
-IsBlock src r i answer = (k : ℕ) → MatchOption answer (ContentLine src r k i → ⊥)
-    (λ b. (ContentLine src r k i → InBlock src.lines b.first b.indent b.end k) × (InBlock src.lines b.first b.indent b.end k → ContentLine src r k i))
 
 -- the last of k lines begins at the offset or before it
 pub record BegunTo (ls : List Line) (offset k : ℕ) : Type 0 where

@@ -8,7 +8,7 @@ use Rattle.yf_events.specs.Tree.{Node, scalar, alias, sequence, mapping, Items, 
 use Rattle.yf_rules.specs.Nodes.{Numbered, StandsIn, items_of, pairs_of, roots_from}
 use Rattle.yf_rules.specs.declared.facts.stands.Around.{Around}
 use Rattle.yf_rules.specs.declared.facts.stands.Around.TheVariants.{Nothing, Entries, Unknown}
-use Rattle.yf_rules.specs.declared.facts.stands.Level.{Level}
+use Rattle.yf_rules.specs.declared.facts.stands.OpenCollection.{OpenCollection}
 use Rattle.yf_rules.specs.declared.facts.stands.Stand.{Stand}
 
 -- what holds the nodes in a collection whose entries stand at that column
@@ -22,7 +22,7 @@ turned m None = Some m
 turned m (Some n) = None
 
 -- a collection after a node in it
-abbrev pub past : Bool → Level → Level
+abbrev pub past : Bool → OpenCollection → OpenCollection
 past m l = record { column = l.column; is_map = l.is_map; key = if l.is_map then turned m l.key else l.key }
 
 -- a value comes next, of a key without `?`
@@ -30,25 +30,25 @@ abbrev pub is_beside : Option Bool → Bool
 is_beside None = false
 is_beside (Some m) = m
 
-abbrev pub opened : Bool → Option ℕ → Level
+abbrev pub opened : Bool → Option ℕ → OpenCollection
 opened is_map column = record { column = column; is_map = is_map; key = None }
 
 -- the open collections after a node, the innermost first
-abbrev pub after : Bool → List Level → List Level
+abbrev pub after : Bool → List OpenCollection → List OpenCollection
 after m [] = []
 after m (l ∷ st) = past m l ∷ st
 
 -- what holds the next node, and whether that is the value of a key without `?`
-abbrev pub outer : List Level → Around
+abbrev pub outer : List OpenCollection → Around
 outer [] = Nothing
 outer (l ∷ st) = held l.column
 
-abbrev pub beside : List Level → Bool
+abbrev pub beside : List OpenCollection → Bool
 beside [] = false
 beside (l ∷ st) = l.is_map && is_beside l.key
 
 -- one event
-abbrev pub next : EventValue → Option ℕ → Bool → List Level → List Level
+abbrev pub next : EventValue → Option ℕ → Bool → List OpenCollection → List OpenCollection
 next stream_starts c m st = st
 next stream_ends c m st = st
 next (document_starts marked) c m st = st
@@ -61,7 +61,7 @@ next (scalar_node props style text) c m st = after m st
 next (alias_node name) c m st = after m st
 
 -- what the code tells of the next node, which is a block collection with those entries, or none
-abbrev pub stand_in : List Level → Option ℕ → ℕ → Stand
+abbrev pub stand_in : List OpenCollection → Option ℕ → ℕ → Stand
 stand_in st column first = record { outer = outer st; is_implicit_value = beside st; column = column; first = first }
 
 -- a node with the index of the event that begins it: what holds it, and whether it is the value of a key without `?`
@@ -73,7 +73,7 @@ pub record Stood : Type 0 where
 abbrev pub stood : ℕ → Around → Bool → Stood
 stood i a b = record { at = i; around = a; beside = b }
 
-abbrev pub begun : EventValue → ℕ → List Level → List Stood
+abbrev pub begun : EventValue → ℕ → List OpenCollection → List Stood
 begun stream_starts i st = []
 begun stream_ends i st = []
 begun (document_starts marked) i st = []
@@ -86,7 +86,7 @@ begun (scalar_node props style text) i st = stood i (outer st) (beside st) ∷ [
 begun (alias_node name) i st = stood i (outer st) (beside st) ∷ []
 
 -- from the event of index i on
-abbrev pub run : (ℕ → Option ℕ) → (ℕ → Bool) → ℕ → List Level → List Placed → List Stood
+abbrev pub run : (ℕ → Option ℕ) → (ℕ → Bool) → ℕ → List OpenCollection → List Placed → List Stood
 run c m i st [] = []
 run c m i st (e ∷ es) = begun e.event i st ++ run c m (i + 1) (next e.event (c i) (m i) st) es
 

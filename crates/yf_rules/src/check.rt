@@ -6,30 +6,17 @@ ghost use Rattle.yf_rules.specs.Check.{Checked, RuleFindings, SortedFrom, findin
 ghost use Rattle.yf_rules.specs.Places.{FoundAt};
 
 use crate::finding::Finding;
-use crate::rule::Rule;
-use std::alloc::{AllocError, Global};
-use yf_emit::style::Style;
-use yf_events::reading::Reading;
+use crate::rule::{About, AllocError, Global, Reading, Rule, Src, Style};
 use yf_lines::fault::Fault;
 use yf_lines::place::Place;
-use yf_lines::source_text::Src;
 
-fn number_of(rule: &Box<dyn Rule>) -> usize
-    ensures { result ≡ rule_number rule.now }
+/// What a rule is known by.
+fn about_of(rule: &Box<dyn Rule>) -> About
+    ensures number { result.number ≡ (definition rule.now).number }
+    ensures id { result.id.now ≡ (definition rule.now).id }
+    ensures fixable { result.fixable ≡ (definition rule.now).fixable }
 {
-    rule.number()
-}
-
-fn id_of(rule: &Box<dyn Rule>) -> &'static str
-    ensures { result.now ≡ rule_id rule.now }
-{
-    rule.id()
-}
-
-fn fixable_of(rule: &Box<dyn Rule>) -> bool
-    ensures { result ≡ is_fixable rule.now }
-{
-    rule.fixable()
+    rule.about()
 }
 
 /// The places that a rule finds.
@@ -41,28 +28,23 @@ fn places_by(
     style: &Style,
 ) -> Result<Vec<Place>, Fault>
     ensures refused { IfErr result (λ fault. fault ≡ Fault.Memory) }
-    ensures found { IfOk result (λ places. FoundAt src.now.text (faults rule.now src.now reading.now style.now) places.items) }
+    ensures found { IfOk result (λ places. FoundAt src.now.text
+        ((definition rule.now).faults src.now reading.now style.now) places.items) }
 {
     rule.find(alloc, src, reading, style)
 }
 
-/// The findings of a rule at these places.
-fn findings_at(
-    alloc: Global,
-    number: usize,
-    id: &'static str,
-    fixable: bool,
-    places: &[Place],
-) -> Result<Vec<Finding>, AllocError>
-    ensures { IfOk result (λ findings. findings.items ≡ map (finding_at number id.entry fixable) places.now) }
+/// The findings at these places of the rule that is known by that.
+fn findings_at(alloc: Global, about: About, places: &[Place]) -> Result<Vec<Finding>, AllocError>
+    ensures { IfOk result (λ findings. findings.items ≡ map (finding_at about.number about.id about.fixable) places.now) }
 {
     places
         .iter()
         .map(|place| Finding {
             place: *place,
-            number,
-            id,
-            fixable,
+            number: about.number,
+            id: about.id,
+            fixable: about.fixable,
         })
         .collect(alloc)
 }
@@ -76,14 +58,11 @@ fn findings_of(
     style: &Style,
 ) -> Result<Vec<Finding>, Fault>
     ensures refused { IfErr result (λ fault. fault ≡ Fault.Memory) }
-    ensures findings { IfOk result (λ findings. RuleFindings (rule_number rule.now) (rule_id rule.now) (is_fixable rule.now)
-        (faults rule.now) src.now reading.now style.now findings.items) }
+    ensures findings { IfOk result (λ findings. RuleFindings (definition rule.now) src.now reading.now style.now findings.items) }
 {
-    let number = number_of(rule);
-    let id = id_of(rule);
-    let fixable = fixable_of(rule);
+    let about = about_of(rule);
     let places = places_by(alloc, rule, src, reading, style)?;
-    match findings_at(alloc, number, id, fixable, places.as_slice()) {
+    match findings_at(alloc, about, places.as_slice()) {
         Ok(findings) => Ok(findings),
         Err(AllocError) => Err(Fault::Memory),
     }
@@ -151,8 +130,7 @@ pub fn check(
 ) -> Result<Vec<Finding>, Fault>
     ensures refused { IfErr result (λ fault. fault ≡ Fault.Memory) }
     ensures findings { IfOk result (λ findings. Checked
-        (λ rule found. RuleFindings (rule_number rule) (rule_id rule) (is_fixable rule)
-        (faults rule) src.now reading.now style.now found) rules.now findings.items) }
+        (λ rule found. RuleFindings (definition rule) src.now reading.now style.now found) rules.now findings.items) }
 {
     let mut all = Vec::new(alloc);
     for rule in rules {

@@ -1,45 +1,74 @@
 //! What a rule is.
-ghost use Rattle.std.specs.Prelude.{◌≡◌, IfErr, IfOk};
+ghost use Rattle.std.specs.Prelude.{◌≡◌, true, false, IfErr, IfOk};
 ghost use Rattle.std.specs.List.{Contains};
 ghost use Rattle.yf_lines.specs.declared.place.Place.{Place};
 ghost use Rattle.yf_rules.specs.Places.{Ascending, PlacesOf};
 
+pub use crate::facts::found::{listed, push_found};
 use crate::facts::places::known_places;
-use std::alloc::{AllocError, Global};
-use yf_emit::style::Style;
-use yf_events::reading::Reading;
+pub use std::alloc::{AllocError, Global};
+pub use yf_emit::style::Style;
+pub use yf_events::reading::Reading;
 use yf_lines::fault::Fault;
 use yf_lines::place::Place;
-use yf_lines::source_text::Src;
+pub use yf_lines::source_text::Src;
 
-/// A rule of style. The places that it finds are those that `faults` says, of the text, its reading and the style: its set in
-/// `specs/Sets.antt`.
+/// What a rule is known by.
+#[derive(Clone, Copy)]
+pub struct About {
+    /// Its number, by which findings at one place are sorted.
+    pub number: usize,
+    /// Its name in what is printed.
+    pub id: &'static str,
+    /// Whether the house style fixes what it finds.
+    pub fixable: bool,
+}
+
+impl About {
+    /// Of a rule whose findings the house style fixes.
+    pub fn fixable(number: usize, id: &'static str) -> About
+        ensures number { result.number ≡ number }
+        ensures id { result.id.now ≡ id.now }
+        ensures fixable { result.fixable ≡ true }
+    {
+        About {
+            number,
+            id,
+            fixable: true,
+        }
+    }
+
+    /// Of a rule whose findings it leaves.
+    pub fn unfixable(number: usize, id: &'static str) -> About
+        ensures number { result.number ≡ number }
+        ensures id { result.id.now ≡ id.now }
+        ensures fixable { result.fixable ≡ false }
+    {
+        let mut about = About::fixable(number, id);
+        about.fixable = false;
+        about
+    }
+}
+
+/// The byte offsets at fault, in any order, unless memory was refused.
+pub type Offsets = Result<Vec<usize>, AllocError>;
+
+/// A rule of style. What it is says its definition, one of `specs/Rules.antt`.
 pub trait Rule: Drop {
-    ghost use Rattle.std.specs.Prelude.{ℕ, Bool, List};
-    ghost use Rattle.yf_lines.specs.Lines.{Table};
-    ghost use Rattle.yf_events.specs.declared.lists.Lists.{Lists};
-    ghost use Rattle.yf_emit.specs.declared.style.Style.{Style};
+    ghost use Rattle.yf_rules.specs.Definition.{RuleDefinition};
     ghost use Rattle.yf_rules.specs.Places.{Ascending, FoundAt};
 
-    ghost rule_number: { Self → ℕ };
+    ghost definition: { Self → RuleDefinition };
 
-    ghost rule_id: { Self → List ℕ };
+    /// What it is known by.
+    fn about(&self) -> About
+        ensures number { result.number ≡ (definition self.now).number }
+        ensures id { result.id.now ≡ (definition self.now).id }
+        ensures fixable { result.fixable ≡ (definition self.now).fixable };
 
-    ghost is_fixable: { Self → Bool };
-
-    ghost faults: { Self → Table → Lists → Style → List ℕ → Type 0 };
-
-    /// Its number, by which findings at one place are sorted.
-    fn number(&self) -> usize
-        ensures { result ≡ rule_number self.now };
-
-    /// Its name in what is printed.
-    fn id(&self) -> &'static str
-        ensures { result.now ≡ rule_id self.now };
-
-    /// Whether the house style fixes what it finds.
-    fn fixable(&self) -> bool
-        ensures { result ≡ is_fixable self.now };
+    /// The byte offsets at fault in a text with this reading.
+    fn offsets(&self, alloc: Global, src: &Src, reading: &Reading, style: &Style) -> Offsets
+        ensures { IfOk result (λ offsets. (definition self.now).faults src.now reading.now style.now offsets.items) };
 
     /// The places at fault in a text with this reading, in ascending order by line and column, each once.
     ///
@@ -55,7 +84,14 @@ pub trait Rule: Drop {
     ) -> Result<Vec<Place>, Fault>
         ensures refused { IfErr result (λ fault. fault ≡ Fault.Memory) }
         ensures ascending { IfOk result (λ places. Ascending places.items) }
-        ensures found { IfOk result (λ places. FoundAt src.now.text (faults self.now src.now reading.now style.now) places.items) };
+        ensures found { IfOk result (λ places. FoundAt src.now.text
+            ((definition self.now).faults src.now reading.now style.now) places.items) }
+    {
+        match self.offsets(alloc, src, reading, style) {
+            Ok(offsets) => placed(alloc, src, offsets.as_slice()),
+            Err(AllocError) => Err(Fault::Memory),
+        }
+    }
 }
 
 /// Sorts places by line and column, and leaves each once.
@@ -69,7 +105,7 @@ fn ascend(places: &mut Vec<Place>)
 }
 
 /// The places of the byte offsets that a rule found, in ascending order and each once, unless memory was refused.
-pub fn placed(alloc: Global, src: &Src, offsets: &[usize]) -> Result<Vec<Place>, Fault>
+fn placed(alloc: Global, src: &Src, offsets: &[usize]) -> Result<Vec<Place>, Fault>
     ensures refused { IfErr result (λ fault. fault ≡ Fault.Memory) }
     ensures ascending { IfOk result (λ places. Ascending places.items) }
     ensures places { IfOk result (λ places. PlacesOf src.now.text offsets.now places.items) }

@@ -6,7 +6,7 @@ ghost use Rattle.yf_rules.specs.Noted.{Noted, Tells};
 ghost use Rattle.yf_rules.specs.Whites.{IsAlone};
 
 use crate::facts::begun::lines_begun;
-use crate::facts::scalar_lines::scalar_lines;
+use crate::facts::noted_lines::scalar_lines;
 use crate::facts::whites::is_white_line;
 use crate::rules::document_start::markers;
 use std::alloc::{AllocError, Global};

@@ -4,9 +4,10 @@ ghost use Rattle.std.specs.Str.{IsCharBoundary};
 ghost use Rattle.yf_chars.specs.Chain.{Many};
 ghost use Rattle.yf_lines.specs.Lines.{Marks, PlaceOf, is_char};
 ghost use Rattle.yf_rules.specs.Columns.{ColumnsTo, IsColumn};
-ghost use Rattle.yf_rules.specs.Places.{IsSpot, PlacesOf};
+ghost use Rattle.yf_rules.specs.Places.{IsCursor, PlacesOf};
 
-use crate::facts::spot::{Spot, Step};
+use crate::facts::begun::lines_begun;
+use crate::facts::cursor::{Cursor, Located};
 use std::alloc::{AllocError, Global};
 use yf_chars::text::peek;
 use yf_lines::basic::mark_stands;
@@ -27,53 +28,34 @@ pub fn skip_marks(text: &str, at: usize) -> usize
     end
 }
 
-/// The index of the line that holds the byte offset: the one of that index, or one after it.
-pub fn line_from(src: &Src, line: usize, offset: usize) -> usize
-    ensures { length src.now.lines ≤ line → result ≡ line }
-{
-    let lines = src.lines();
-    let count = lines.len();
-    let mut at = line;
-    while at < count {
-        if at + 1 == count {
-            return at;
-        }
-        if lines.line(at + 1).start > offset {
-            return at;
-        }
-        at += 1;
-    }
-    at
-}
-
-/// The spot after the marks of the line of that index.
-fn line_spot(src: &Src, line: usize) -> Spot
-    ensures { IsSpot src.now.text src.now.lines result }
+/// The cursor after the marks of the line of that index.
+fn line_cursor(src: &Src, line: usize) -> Cursor
+    ensures { IsCursor src.now.text src.now.lines result }
 {
     if line < src.lines().len() {
-        return Spot {
+        return Cursor {
             line,
             at: skip_marks(src.text(), src.lines().line(line).start),
             column: 1,
         };
     }
-    Spot {
+    Cursor {
         line,
         at: 0,
         column: 1,
     }
 }
 
-/// The spot in the line that holds the byte offset, where that is not before the line of the first spot.
-fn forward(src: &Src, spot: Spot, offset: usize) -> Spot
-    requires { IsSpot src.now.text src.now.lines spot }
-    ensures { IsSpot src.now.text src.now.lines result }
+/// The cursor in the line that holds the byte offset. The line is looked for from that of the first cursor on.
+fn forward(src: &Src, cursor: Cursor, offset: usize) -> Cursor
+    requires { IsCursor src.now.text src.now.lines cursor }
+    ensures { IsCursor src.now.text src.now.lines result }
 {
-    let line = line_from(src, spot.line, offset);
-    if line == spot.line {
-        return spot;
+    let line = lines_begun(src, cursor.line.saturating_add(1), offset).saturating_sub(1);
+    if line == cursor.line {
+        return cursor;
     }
-    line_spot(src, line)
+    line_cursor(src, line)
 }
 
 /// The column of the byte offset, from that of an earlier one in its line on.
@@ -99,90 +81,90 @@ fn column_from(text: &str, from: usize, column: usize, offset: usize) -> usize
     reached
 }
 
-/// The place of a byte offset, from a spot before it on.
-fn place_from(src: &Src, from: Spot, offset: usize) -> Step
+/// The place of a byte offset, from a cursor before it on.
+fn place_from(src: &Src, from: Cursor, offset: usize) -> Located
     requires boundary { IsCharBoundary src.now.text offset }
-    requires spot { IsSpot src.now.text src.now.lines from }
+    requires cursor { IsCursor src.now.text src.now.lines from }
     ensures place { PlaceOf src.now.text offset result.place.line result.place.column }
-    ensures spot { IsSpot src.now.text src.now.lines result.spot }
+    ensures cursor { IsCursor src.now.text src.now.lines result.cursor }
 {
-    let spot = forward(src, from, offset);
-    if spot.line < src.lines().len() {
-        let line = src.lines().line(spot.line);
+    let cursor = forward(src, from, offset);
+    if cursor.line < src.lines().len() {
+        let line = src.lines().line(cursor.line);
         if line.start <= offset {
             if offset < line.next {
-                if spot.at <= offset {
-                    return place_in_line(src, spot, spot.line + 1, offset);
+                if cursor.at <= offset {
+                    return place_in_line(src, cursor, cursor.line + 1, offset);
                 }
-                if spot.column == 1 {
-                    return place_at_mark(src, spot, spot.line + 1, offset);
+                if cursor.column == 1 {
+                    return place_at_mark(src, cursor, cursor.line + 1, offset);
                 }
             }
         }
     }
-    Step {
+    Located {
         place: src.place(offset),
-        spot,
+        cursor,
     }
 }
 
-/// The place of a byte offset after a spot in its line, which has that number.
-fn place_in_line(src: &Src, spot: Spot, number: usize, offset: usize) -> Step
+/// The place of a byte offset after a cursor in its line, which has that number.
+fn place_in_line(src: &Src, cursor: Cursor, number: usize, offset: usize) -> Located
     requires boundary { IsCharBoundary src.now.text offset }
-    requires spot { IsSpot src.now.text src.now.lines spot }
-    requires line { spot.line < length src.now.lines }
-    requires number { number ≡ spot.line + 1 }
-    requires within { IfSome (slice_get src.now.lines spot.line) (λ l. (l.start ≤ offset) × (offset < l.next)) }
-    requires order { spot.at ≤ offset }
+    requires cursor { IsCursor src.now.text src.now.lines cursor }
+    requires line { cursor.line < length src.now.lines }
+    requires number { number ≡ cursor.line + 1 }
+    requires within { IfSome (slice_get src.now.lines cursor.line) (λ l. (l.start ≤ offset) × (offset < l.next)) }
+    requires order { cursor.at ≤ offset }
     ensures place { PlaceOf src.now.text offset result.place.line result.place.column }
-    ensures spot { IsSpot src.now.text src.now.lines result.spot }
+    ensures cursor { IsCursor src.now.text src.now.lines result.cursor }
 {
-    let line = src.lines().line(spot.line);
-    let column = column_from(src.text(), spot.at, spot.column, offset);
-    Step {
+    let line = src.lines().line(cursor.line);
+    let column = column_from(src.text(), cursor.at, cursor.column, offset);
+    Located {
         place: Place {
             line: number,
             column,
         },
-        spot: Spot {
-            line: spot.line,
+        cursor: Cursor {
+            line: cursor.line,
             at: offset,
             column,
         },
     }
 }
 
-/// The place of a byte offset among the marks of a line with that number, whose spot is the one after them.
-fn place_at_mark(src: &Src, spot: Spot, number: usize, offset: usize) -> Step
-    requires spot { IsSpot src.now.text src.now.lines spot }
-    requires line { spot.line < length src.now.lines }
-    requires number { number ≡ spot.line + 1 }
-    requires within { IfSome (slice_get src.now.lines spot.line) (λ l. (l.start ≤ offset) × (offset < l.next)) }
-    requires order { offset < spot.at }
-    requires first { spot.column ≡ 1 }
+/// The place of a byte offset among the marks of a line with that number, whose cursor is the one after them.
+fn place_at_mark(src: &Src, cursor: Cursor, number: usize, offset: usize) -> Located
+    requires cursor { IsCursor src.now.text src.now.lines cursor }
+    requires line { cursor.line < length src.now.lines }
+    requires number { number ≡ cursor.line + 1 }
+    requires within { IfSome (slice_get src.now.lines cursor.line) (λ l. (l.start ≤ offset) × (offset < l.next)) }
+    requires order { offset < cursor.at }
+    requires first { cursor.column ≡ 1 }
     ensures place { PlaceOf src.now.text offset result.place.line result.place.column }
-    ensures spot { result.spot ≡ spot }
+    ensures cursor { result.cursor ≡ cursor }
 {
-    let _line = src.lines().line(spot.line);
-    Step {
+    let _line = src.lines().line(cursor.line);
+    Located {
         place: Place {
             line: number,
             column: 1,
         },
-        spot,
+        cursor,
     }
 }
 
-/// The column, from 0, of a byte offset, from a spot before it on, and the spot that the next pass begins with. An offset within a character
+/// The column, from 0, of a byte offset, from a cursor before it on, and the cursor that the next pass begins with. An offset within a character
 /// has 0.
-fn column_after(src: &Src, from: Spot, offset: usize) -> (usize, Spot)
-    requires { IsSpot src.now.text src.now.lines from }
+fn column_after(src: &Src, from: Cursor, offset: usize) -> (usize, Cursor)
+    requires { IsCursor src.now.text src.now.lines from }
     ensures column { IsCharBoundary src.now.text offset → IsColumn src.now.text offset result.0 }
-    ensures spot { IsSpot src.now.text src.now.lines result.1 }
+    ensures cursor { IsCursor src.now.text src.now.lines result.1 }
 {
     if src.text().is_char_boundary(offset) {
-        let step = place_from(src, from, offset);
-        return (step.place.column.saturating_sub(1), step.spot);
+        let located = place_from(src, from, offset);
+        return (located.place.column.saturating_sub(1), located.cursor);
     }
     (0, from)
 }
@@ -192,11 +174,11 @@ fn column_after(src: &Src, from: Spot, offset: usize) -> (usize, Spot)
 pub fn columns_of(src: &Src, mut offsets: Vec<usize>) -> Vec<usize>
     ensures { ColumnsTo src.now.text offsets.items result.items (length offsets.items) }
 {
-    let mut spot = line_spot(src, 0);
+    let mut cursor = line_cursor(src, 0);
     for k in 0..offsets.len() {
-        let (column, next) = column_after(src, spot, offsets[k]);
+        let (column, next) = column_after(src, cursor, offsets[k]);
         offsets[k] = column;
-        spot = next;
+        cursor = next;
     }
     offsets
 }
@@ -206,12 +188,12 @@ pub fn known_places(alloc: Global, src: &Src, offsets: &[usize]) -> Result<Vec<P
     ensures { IfOk result (λ places. PlacesOf src.now.text offsets.now places.items) }
 {
     let mut places = Vec::new(alloc);
-    let mut spot = line_spot(src, 0);
+    let mut cursor = line_cursor(src, 0);
     for offset in offsets {
         if src.text().is_char_boundary(*offset) {
-            let step = place_from(src, spot, *offset);
-            spot = step.spot;
-            places.push(step.place)?;
+            let located = place_from(src, cursor, *offset);
+            cursor = located.cursor;
+            places.push(located.place)?;
         }
     }
     Ok(places)

@@ -8,6 +8,7 @@ ghost use Rattle.yf_rules.specs.Entries.{all_entries, entries_from, start_at, un
 ghost use Rattle.yf_rules.specs.Passing.{IsPass, Opens, Passes};
 ghost use Rattle.yf_rules.specs.Standings.{after, held, is_beside, past, stand_in};
 
+use crate::facts::found::push_found;
 use crate::facts::places::columns_of;
 use crate::facts::whites::has_question_mark;
 use std::alloc::{AllocError, Global};
@@ -49,7 +50,7 @@ impl Stand {
 
 /// A collection whose end has not come yet.
 #[derive(Clone, Copy)]
-struct Level {
+struct OpenCollection {
     column: Option<usize>,
     is_map: bool,
     /// In a mapping, whether a value comes next, and whether its key is written without `?`.
@@ -104,29 +105,27 @@ fn first_entries(alloc: Global, src: &Src, reading: &Reading) -> Result<Vec<usiz
 {
     let mut offsets = Vec::new(alloc);
     for i in 0..reading.len() {
-        if let Some(offset) = first_entry(src, reading, i) {
-            offsets.push(offset)?;
-        }
+        push_found(&mut offsets, first_entry(src, reading, i))?;
     }
     Ok(offsets)
 }
 
-/// Whether the next node is the value of a key without `?`; the level then waits for what comes after the node.
-fn next_in(level: &mut Level, src: &Src, reading: &Reading, i: usize) -> bool
+/// Whether the next node is the value of a key without `?`; the collection then waits for what comes after the node.
+fn next_in(collection: &mut OpenCollection, src: &Src, reading: &Reading, i: usize) -> bool
     requires { i < length reading.now.events }
-    ensures level { level.new ≡ past (unmarked_at src.now.text reading.now.events i) level.old }
-    ensures value { result ≡ (level.old.is_map && is_beside level.old.key) }
+    ensures collection { collection.new ≡ past (unmarked_at src.now.text reading.now.events i) collection.old }
+    ensures value { result ≡ (collection.old.is_map && is_beside collection.old.key) }
 {
-    if !level.is_map {
+    if !collection.is_map {
         return false;
     }
-    match level.key {
+    match collection.key {
         Some(is_implicit) => {
-            level.key = None;
+            collection.key = None;
             is_implicit
         }
         None => {
-            level.key = Some(match reading.entry(i) {
+            collection.key = Some(match reading.entry(i) {
                 Some(entry) => !has_question_mark(src.text(), entry),
                 None => false,
             });
@@ -136,17 +135,17 @@ fn next_in(level: &mut Level, src: &Src, reading: &Reading, i: usize) -> bool
 }
 
 /// What holds the next node, in the innermost open collection.
-fn held_by(level: &Level) -> Around
-    ensures { result ≡ held level.now.column }
+fn held_by(collection: &OpenCollection) -> Around
+    ensures { result ≡ held collection.now.column }
 {
-    match level.column {
+    match collection.column {
         Some(column) => Around::Entries(column),
         None => Around::Unknown,
     }
 }
 
 /// Where the next node stands, a block collection's own entries left out.
-fn next_stand(stack: &mut Vec<Level>, src: &Src, reading: &Reading, i: usize) -> Stand
+fn next_stand(stack: &mut Vec<OpenCollection>, src: &Src, reading: &Reading, i: usize) -> Stand
     requires { i < length reading.now.events }
     ensures stack { reverse stack.new.items ≡ after (unmarked_at src.now.text reading.now.events i) (reverse stack.old.items) }
     ensures stand { result ≡ stand_in (reverse stack.old.items) None 0 }
@@ -158,10 +157,10 @@ fn next_stand(stack: &mut Vec<Level>, src: &Src, reading: &Reading, i: usize) ->
             column: None,
             first: 0,
         },
-        Some(level) => {
-            let is_value = next_in(level, src, reading, i);
+        Some(collection) => {
+            let is_value = next_in(collection, src, reading, i);
             Stand {
-                outer: held_by(level),
+                outer: held_by(collection),
                 is_implicit_value: is_value,
                 column: None,
                 first: 0,
@@ -177,7 +176,7 @@ pub struct Pass {
     columns: Vec<usize>,
     /// How many of them have begun.
     begun: usize,
-    stack: Vec<Level>,
+    stack: Vec<OpenCollection>,
 }
 
 impl Pass {
@@ -232,7 +231,7 @@ impl Pass {
             Some(_) => Some(self.next_column()),
             None => None,
         };
-        self.stack.push(Level {
+        self.stack.push(OpenCollection {
             column,
             is_map,
             key: None,

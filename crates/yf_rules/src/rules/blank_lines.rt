@@ -1,60 +1,34 @@
 //! Rule 8, blank-lines.
-ghost use Rattle.std.specs.Prelude.{◌≡◌, ◌<◌, length, IfOk, MatchBool};
+ghost use Rattle.std.specs.Prelude.{◌≡◌, ◌<◌, length, MatchBool};
 ghost use Rattle.yf_events.specs.declared.lists.Lists.{Lists};
 ghost use Rattle.yf_lines.specs.Lines.{Table};
 ghost use Rattle.yf_rules.specs.BlankLines.{MisplacedBlank};
 ghost use Rattle.yf_rules.specs.BlankNotes.{AreNotes, Follows, LastLine, Precedes};
 ghost use Rattle.yf_rules.specs.Exact.{Answers};
-ghost use Rattle.yf_rules.specs.Sets.{blank_lines_at};
+ghost use Rattle.yf_rules.specs.Rules.{blank_lines};
 
 use crate::facts::notes::{Notes, find_notes, flag};
-use crate::rule::{Rule, placed};
-use std::alloc::{AllocError, Global};
-use yf_emit::style::Style;
-use yf_events::reading::Reading;
-use yf_lines::fault::Fault;
-use yf_lines::place::Place;
-use yf_lines::source_text::Src;
+use crate::rule::{About, Global, Offsets, Reading, Rule, Src, Style, push_found};
 
 /// A blank line that is the first line, follows another one or a `---` alone on its line, stands directly before a document marker or a directive, or has only blank lines after it.
 #[derive(Clone, Copy)]
 pub struct BlankLines;
 
 impl Rule for BlankLines {
-    ghost use Rattle.std.specs.Prelude.{true, codes};
-    ghost use Rattle.yf_rules.specs.Sets.{blank_lines_at};
+    ghost definition = { λ _. blank_lines };
 
-    ghost rule_number = { λ _. 8 };
-
-    ghost rule_id = { λ _. codes "blank-lines" };
-
-    ghost is_fixable = { λ _. true };
-
-    ghost faults = { λ _ src reading style offsets. blank_lines_at src reading style offsets };
-
-    fn number(&self) -> usize {
-        8
+    fn about(&self) -> About {
+        About::fixable(8, "blank-lines")
     }
 
-    fn id(&self) -> &'static str {
-        "blank-lines"
-    }
-
-    fn fixable(&self) -> bool {
-        true
-    }
-
-    fn find(
-        &self,
-        alloc: Global,
-        src: &Src,
-        reading: &Reading,
-        style: &Style,
-    ) -> Result<Vec<Place>, Fault> {
-        match offsets(alloc, src, reading, style) {
-            Ok(offsets) => placed(alloc, src, offsets.as_slice()),
-            Err(AllocError) => Err(Fault::Memory),
+    fn offsets(&self, alloc: Global, src: &Src, reading: &Reading, style: &Style) -> Offsets {
+        let notes = find_notes(alloc, src, reading)?;
+        let last = last_line(notes.blank.as_slice());
+        let mut offsets = Vec::new(alloc);
+        for k in 0..src.lines().len() {
+            push_found(&mut offsets, misplaced(src, &notes, last, k))?;
         }
+        Ok(offsets)
     }
 }
 
@@ -126,24 +100,4 @@ fn misplaced(src: &Src, notes: &Notes, last: usize, k: usize) -> Option<usize>
         return Some(start);
     }
     None
-}
-
-fn offsets(
-    alloc: Global,
-    src: &Src,
-    reading: &Reading,
-    style: &Style,
-) -> Result<Vec<usize>, AllocError>
-    ensures { IfOk result (λ offsets. blank_lines_at src.now reading.now style.now offsets.items) }
-{
-    let notes = find_notes(alloc, src, reading)?;
-    let last = last_line(notes.blank.as_slice());
-    let mut offsets = Vec::new(alloc);
-    for k in 0..src.lines().len() {
-        match misplaced(src, &notes, last, k) {
-            Some(offset) => offsets.push(offset)?,
-            None => {}
-        }
-    }
-    Ok(offsets)
 }

@@ -4,58 +4,37 @@ ghost use Rattle.std.specs.List.Sorted.{IsNonDecreasingBy};
 ghost use Rattle.yf_chars.specs.Text.{code};
 ghost use Rattle.yf_rules.specs.Cover.{AllBegin, Covers, IsBeyond, NoneBegins};
 ghost use Rattle.yf_rules.specs.Exact.{Answers, Exactly};
+ghost use Rattle.yf_rules.specs.Rules.{byte_order_mark};
 ghost use Rattle.yf_rules.specs.Scalars.{ScalarSpan};
-ghost use Rattle.yf_rules.specs.Sets.{byte_order_mark_at};
 
-use crate::rule::{Rule, placed};
-use std::alloc::{AllocError, Global};
-use yf_emit::style::Style;
+use crate::rule::{About, AllocError, Global, Offsets, Reading, Rule, Src, Style, push_found};
 use yf_events::event::{Event, Span};
-use yf_events::reading::Reading;
 use yf_lines::basic::mark_stands;
-use yf_lines::fault::Fault;
-use yf_lines::place::Place;
-use yf_lines::source_text::Src;
 
 /// Each byte order mark outside of scalars. Marks that stand together at the start of a line have one place.
 #[derive(Clone, Copy)]
 pub struct ByteOrderMark;
 
 impl Rule for ByteOrderMark {
-    ghost use Rattle.std.specs.Prelude.{true, codes};
-    ghost use Rattle.yf_rules.specs.Sets.{byte_order_mark_at};
+    ghost definition = { λ _. byte_order_mark };
 
-    ghost rule_number = { λ _. 7 };
-
-    ghost rule_id = { λ _. codes "byte-order-mark" };
-
-    ghost is_fixable = { λ _. true };
-
-    ghost faults = { λ _ src reading style offsets. byte_order_mark_at src reading style offsets };
-
-    fn number(&self) -> usize {
-        7
+    fn about(&self) -> About {
+        About::fixable(7, "byte-order-mark")
     }
 
-    fn id(&self) -> &'static str {
-        "byte-order-mark"
-    }
-
-    fn fixable(&self) -> bool {
-        true
-    }
-
-    fn find(
-        &self,
-        alloc: Global,
-        src: &Src,
-        reading: &Reading,
-        style: &Style,
-    ) -> Result<Vec<Place>, Fault> {
-        match offsets(alloc, src, reading, style) {
-            Ok(offsets) => placed(alloc, src, offsets.as_slice()),
-            Err(AllocError) => Err(Fault::Memory),
+    fn offsets(&self, alloc: Global, src: &Src, reading: &Reading, style: &Style) -> Offsets {
+        let text = src.text();
+        let mut offsets = Vec::new(alloc);
+        if !has_first_byte(text) {
+            return Ok(offsets);
         }
+        let spans = sorted_spans(alloc, reading)?;
+        let mut cover = Cover { count: 0, reach: 0 };
+        for i in 0..text.len() {
+            cover = cover_to(spans.as_slice(), cover, i);
+            push_found(&mut offsets, loose_mark(text, cover.reach, i))?;
+        }
+        Ok(offsets)
     }
 }
 
@@ -76,10 +55,7 @@ fn scalar_spans(alloc: Global, reading: &Reading) -> Result<Vec<Span>, AllocErro
 {
     let mut spans = Vec::new(alloc);
     for i in 0..reading.len() {
-        match scalar_span(reading, i) {
-            Some(span) => spans.push(span)?,
-            None => {}
-        }
+        push_found(&mut spans, scalar_span(reading, i))?;
     }
     Ok(spans)
 }
@@ -139,29 +115,4 @@ fn has_first_byte(text: &str) -> bool
     ensures { MatchBool result (Unit {0}) ((k : ℕ) → code text.now k ≢ 0xFEFF) }
 {
     text.as_bytes().contains(&0xEF)
-}
-
-fn offsets(
-    alloc: Global,
-    src: &Src,
-    reading: &Reading,
-    style: &Style,
-) -> Result<Vec<usize>, AllocError>
-    ensures { IfOk result (λ offsets. byte_order_mark_at src.now reading.now style.now offsets.items) }
-{
-    let text = src.text();
-    let mut offsets = Vec::new(alloc);
-    if !has_first_byte(text) {
-        return Ok(offsets);
-    }
-    let spans = sorted_spans(alloc, reading)?;
-    let mut cover = Cover { count: 0, reach: 0 };
-    for i in 0..text.len() {
-        cover = cover_to(spans.as_slice(), cover, i);
-        match loose_mark(text, cover.reach, i) {
-            Some(offset) => offsets.push(offset)?,
-            None => {}
-        }
-    }
-    Ok(offsets)
 }

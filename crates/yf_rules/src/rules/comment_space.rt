@@ -1,59 +1,31 @@
 //! Rule 10, comment-space.
-ghost use Rattle.std.specs.Prelude.{◌<◌, length, IfOk, MatchBool};
+ghost use Rattle.std.specs.Prelude.{◌<◌, length, MatchBool};
 ghost use Rattle.yf_rules.specs.Exact.{Answers};
-ghost use Rattle.yf_rules.specs.Sets.{comment_space_at};
+ghost use Rattle.yf_rules.specs.Rules.{comment_space};
 ghost use Rattle.yf_rules.specs.Whites.{CloseComment, IsClose, TwoSpaces};
 
 use crate::facts::whites::whites_before;
-use crate::rule::{Rule, placed};
-use std::alloc::{AllocError, Global};
+use crate::rule::{About, Global, Offsets, Reading, Rule, Src, Style, push_found};
 use yf_chars::text::stands;
-use yf_emit::style::Style;
-use yf_events::reading::Reading;
 use yf_lines::basic::is_line_start;
-use yf_lines::fault::Fault;
-use yf_lines::place::Place;
-use yf_lines::source_text::Src;
 
 /// The `#` of a comment that has a character other than white before it on its line and not exactly two spaces directly before it.
 #[derive(Clone, Copy)]
 pub struct CommentSpace;
 
 impl Rule for CommentSpace {
-    ghost use Rattle.std.specs.Prelude.{true, codes};
-    ghost use Rattle.yf_rules.specs.Sets.{comment_space_at};
+    ghost definition = { λ _. comment_space };
 
-    ghost rule_number = { λ _. 10 };
-
-    ghost rule_id = { λ _. codes "comment-space" };
-
-    ghost is_fixable = { λ _. true };
-
-    ghost faults = { λ _ src reading style offsets. comment_space_at src reading style offsets };
-
-    fn number(&self) -> usize {
-        10
+    fn about(&self) -> About {
+        About::fixable(10, "comment-space")
     }
 
-    fn id(&self) -> &'static str {
-        "comment-space"
-    }
-
-    fn fixable(&self) -> bool {
-        true
-    }
-
-    fn find(
-        &self,
-        alloc: Global,
-        src: &Src,
-        reading: &Reading,
-        style: &Style,
-    ) -> Result<Vec<Place>, Fault> {
-        match offsets(alloc, src, reading, style) {
-            Ok(offsets) => placed(alloc, src, offsets.as_slice()),
-            Err(AllocError) => Err(Fault::Memory),
+    fn offsets(&self, alloc: Global, src: &Src, reading: &Reading, style: &Style) -> Offsets {
+        let mut offsets = Vec::new(alloc);
+        for k in 0..reading.comments().len() {
+            push_found(&mut offsets, close(src, reading, k))?;
         }
+        Ok(offsets)
     }
 }
 
@@ -97,22 +69,4 @@ fn close(src: &Src, reading: &Reading, k: usize) -> Option<usize>
         return Some(offset);
     }
     None
-}
-
-fn offsets(
-    alloc: Global,
-    src: &Src,
-    reading: &Reading,
-    style: &Style,
-) -> Result<Vec<usize>, AllocError>
-    ensures { IfOk result (λ offsets. comment_space_at src.now reading.now style.now offsets.items) }
-{
-    let mut offsets = Vec::new(alloc);
-    for k in 0..reading.comments().len() {
-        match close(src, reading, k) {
-            Some(offset) => offsets.push(offset)?,
-            None => {}
-        }
-    }
-    Ok(offsets)
 }

@@ -12,61 +12,42 @@ ghost use Rattle.yf_rules.specs.Exact.{Answers};
 ghost use Rattle.yf_rules.specs.Layouts.{Displaced, EndsBehind, IsDisplaced};
 ghost use Rattle.yf_rules.specs.OuterFlow as OuterFlow;
 ghost use Rattle.yf_rules.specs.OuterFlow.{FlowsDone, is_flow};
-ghost use Rattle.yf_rules.specs.Sets.{flow_layout_at};
+ghost use Rattle.yf_rules.specs.Rules.{flow_layout};
 
 use crate::facts::outer_flow::past_flow;
-use crate::rule::{Rule, placed};
-use std::alloc::{AllocError, Global};
+use crate::rule::{About, AllocError, Global, Offsets, Reading, Rule, Src, Style, push_found};
 use yf_emit::form::kept::kept_text_of;
 use yf_emit::form::measure::measure_all;
 use yf_emit::form::measures::Measures;
-use yf_emit::style::Style;
 use yf_emit::text::content_start::content_start;
 use yf_events::event::{Event, Span};
-use yf_events::reading::Reading;
-use yf_lines::fault::Fault;
-use yf_lines::place::Place;
-use yf_lines::source_text::Src;
 
 /// The opening bracket of a flow collection, in no other one, that is not written as the house style writes it, or may not be kept there.
 #[derive(Clone, Copy)]
 pub struct FlowLayout;
 
 impl Rule for FlowLayout {
-    ghost use Rattle.std.specs.Prelude.{true, codes};
-    ghost use Rattle.yf_rules.specs.Sets.{flow_layout_at};
+    ghost definition = { λ _. flow_layout };
 
-    ghost rule_number = { λ _. 9 };
-
-    ghost rule_id = { λ _. codes "flow-layout" };
-
-    ghost is_fixable = { λ _. true };
-
-    ghost faults = { λ _ src reading style offsets. flow_layout_at src reading style offsets };
-
-    fn number(&self) -> usize {
-        9
+    fn about(&self) -> About {
+        About::fixable(9, "flow-layout")
     }
 
-    fn id(&self) -> &'static str {
-        "flow-layout"
-    }
-
-    fn fixable(&self) -> bool {
-        true
-    }
-
-    fn find(
-        &self,
-        alloc: Global,
-        src: &Src,
-        reading: &Reading,
-        style: &Style,
-    ) -> Result<Vec<Place>, Fault> {
-        match offsets(alloc, src, reading, style) {
-            Ok(offsets) => placed(alloc, src, offsets.as_slice()),
-            Err(AllocError) => Err(Fault::Memory),
+    fn offsets(&self, alloc: Global, src: &Src, reading: &Reading, style: &Style) -> Offsets {
+        if !has_brackets(src, reading) {
+            return Ok(Vec::new(alloc));
         }
+        let measures = measure_all(alloc, src, reading, style)?;
+        let mut offsets = Vec::new(alloc);
+        let mut done = 0;
+        for i in 0..reading.len() {
+            push_found(
+                &mut offsets,
+                displaced(alloc, src, reading, &measures, i, done, style)?,
+            )?;
+            done = past_flow(reading, &measures, i, done);
+        }
+        Ok(offsets)
     }
 }
 
@@ -216,28 +197,4 @@ fn displaced(
         }
         None => Ok(None),
     }
-}
-
-fn offsets(
-    alloc: Global,
-    src: &Src,
-    reading: &Reading,
-    style: &Style,
-) -> Result<Vec<usize>, AllocError>
-    ensures { IfOk result (λ offsets. flow_layout_at src.now reading.now style.now offsets.items) }
-{
-    let mut offsets = Vec::new(alloc);
-    if !has_brackets(src, reading) {
-        return Ok(offsets);
-    }
-    let measures = measure_all(alloc, src, reading, style)?;
-    let mut done = 0;
-    for i in 0..reading.len() {
-        match displaced(alloc, src, reading, &measures, i, done, style)? {
-            Some(offset) => offsets.push(offset)?,
-            None => {}
-        }
-        done = past_flow(reading, &measures, i, done);
-    }
-    Ok(offsets)
 }

@@ -1,61 +1,40 @@
 //! Rule 2, indentation.
-ghost use Rattle.std.specs.Prelude.{◌≡◌, ◌+◌, ◌<◌, ◌&&◌, Some, length, slice_get, IfOk};
+ghost use Rattle.std.specs.Prelude.{◌≡◌, ◌+◌, ◌<◌, ◌&&◌, Some, length, slice_get};
 ghost use Rattle.yf_events.specs.Event.{EventValue};
 ghost use Rattle.yf_events.specs.Reading.{events_of};
 ghost use Rattle.yf_rules.specs.IndentFaults.{content_fault, content_in, entry_fault, fault_of};
-ghost use Rattle.yf_rules.specs.Sets.{indentation_at};
+ghost use Rattle.yf_rules.specs.Rules.{indentation};
 ghost use Rattle.yf_rules.specs.Stands.{is_other, wanted_column, wanted_indent};
 
-use crate::facts::bodies::{Body, body_at};
+use crate::facts::scalars::{ScalarLines, scalar_lines_at};
 use crate::facts::stands::{Around, Pass, Stand};
-use crate::rule::{Rule, placed};
-use std::alloc::{AllocError, Global};
-use yf_emit::style::Style;
+use crate::rule::{About, Global, Offsets, Reading, Rule, Src, Style, push_found};
 use yf_events::event::Event;
-use yf_events::reading::Reading;
-use yf_lines::fault::Fault;
-use yf_lines::place::Place;
-use yf_lines::source_text::Src;
 
 /// The first entry of a block collection that does not stand at the column of the house style, and the header of a block scalar whose content does not.
 #[derive(Clone, Copy)]
 pub struct Indentation;
 
 impl Rule for Indentation {
-    ghost use Rattle.std.specs.Prelude.{true, codes};
-    ghost use Rattle.yf_rules.specs.Sets.{indentation_at};
+    ghost definition = { λ _. indentation };
 
-    ghost rule_number = { λ _. 2 };
-
-    ghost rule_id = { λ _. codes "indentation" };
-
-    ghost is_fixable = { λ _. true };
-
-    ghost faults = { λ _ src reading style offsets. indentation_at src reading style offsets };
-
-    fn number(&self) -> usize {
-        2
+    fn about(&self) -> About {
+        About::fixable(2, "indentation")
     }
 
-    fn id(&self) -> &'static str {
-        "indentation"
-    }
-
-    fn fixable(&self) -> bool {
-        true
-    }
-
-    fn find(
-        &self,
-        alloc: Global,
-        src: &Src,
-        reading: &Reading,
-        style: &Style,
-    ) -> Result<Vec<Place>, Fault> {
-        match offsets(alloc, src, reading, style) {
-            Ok(offsets) => placed(alloc, src, offsets.as_slice()),
-            Err(AllocError) => Err(Fault::Memory),
+    fn offsets(&self, alloc: Global, src: &Src, reading: &Reading, style: &Style) -> Offsets {
+        let mut pass = Pass::new(alloc, src, reading)?;
+        let mut offsets = Vec::new(alloc);
+        let mut line = 0;
+        for i in 0..reading.len() {
+            let stand = pass.next(src, reading, i)?;
+            let scalar = scalar_lines_at(src, reading, i, line);
+            if let Some(lines) = scalar {
+                line = lines.first;
+            }
+            push_found(&mut offsets, misplaced(reading, stand, scalar, i, style))?;
         }
+        Ok(offsets)
     }
 }
 
@@ -116,13 +95,13 @@ fn is_misindented(stand: Stand, indent: usize, style: &Style) -> bool
 }
 
 /// The header of the block scalar, if its content is not indented as it is to be.
-fn misplaced_content(stand: Stand, body: Body, style: &Style) -> Option<usize>
-    ensures { result ≡ content_fault (content_in (Some body)) (wanted_indent style.now stand.outer) }
+fn misplaced_content(stand: Stand, lines: ScalarLines, style: &Style) -> Option<usize>
+    ensures { result ≡ content_fault (content_in (Some lines)) (wanted_indent style.now stand.outer) }
 {
-    match body.indent {
-        Some(indent) => {
-            if is_misindented(stand, indent, style) {
-                return Some(body.start);
+    match lines.content {
+        Some(content) => {
+            if is_misindented(stand, content.indent, style) {
+                return Some(lines.start);
             }
             None
         }
@@ -130,48 +109,24 @@ fn misplaced_content(stand: Stand, body: Body, style: &Style) -> Option<usize>
     }
 }
 
-/// What is found of the event at an index, if it begins a node at fault: its body is that of a scalar.
+/// What is found of the event at an index, if it begins a node at fault: a scalar has those lines.
 fn misplaced(
     reading: &Reading,
     stand: Stand,
-    body: Option<Body>,
+    lines: Option<ScalarLines>,
     i: usize,
     style: &Style,
 ) -> Option<usize>
     requires { i < length reading.now.events }
-    ensures { (e : EventValue) → slice_get (events_of reading.now) i ≡ Some e → result ≡ fault_of style.now e stand (content_in body) }
+    ensures { (e : EventValue) → slice_get (events_of reading.now) i ≡ Some e → result ≡ fault_of style.now e stand (content_in lines) }
 {
     match reading.event(i) {
         Event::SeqStart { .. } => misplaced_entry(stand, true, style),
         Event::MapStart { .. } => misplaced_entry(stand, false, style),
-        Event::Scalar { .. } => match body {
-            Some(body) => misplaced_content(stand, body, style),
+        Event::Scalar { .. } => match lines {
+            Some(lines) => misplaced_content(stand, lines, style),
             None => None,
         },
         _ => None,
     }
-}
-
-fn offsets(
-    alloc: Global,
-    src: &Src,
-    reading: &Reading,
-    style: &Style,
-) -> Result<Vec<usize>, AllocError>
-    ensures { IfOk result (λ offsets. indentation_at src.now reading.now style.now offsets.items) }
-{
-    let mut pass = Pass::new(alloc, src, reading)?;
-    let mut offsets = Vec::new(alloc);
-    let mut line = 0;
-    for i in 0..reading.len() {
-        let stand = pass.next(src, reading, i)?;
-        let body = body_at(src, reading, i, line);
-        if let Some(body) = body {
-            line = body.first;
-        }
-        if let Some(offset) = misplaced(reading, stand, body, i, style) {
-            offsets.push(offset)?;
-        }
-    }
-    Ok(offsets)
 }

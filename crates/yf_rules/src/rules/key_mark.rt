@@ -1,5 +1,5 @@
 //! Rule 13, key-mark.
-ghost use Rattle.std.specs.Prelude.{◌≡◌, ◌<◌, ℕ, false, List, length, IfOk};
+ghost use Rattle.std.specs.Prelude.{◌≡◌, ◌<◌, ℕ, false, List, length};
 ghost use Rattle.yf_emit.specs.declared.style.Style.{Style};
 ghost use Rattle.yf_events.specs.Tree.{DocumentTree};
 ghost use Rattle.yf_rules.specs.Exact.{Answers};
@@ -7,60 +7,39 @@ ghost use Rattle.yf_rules.specs.Layouts.{NeedlessMark};
 ghost use Rattle.yf_rules.specs.MarkedKeys.{TellsKeys};
 ghost use Rattle.yf_rules.specs.QuestionMarks.{IsMarked};
 ghost use Rattle.yf_rules.specs.OuterFlow.{FlowsDone};
-ghost use Rattle.yf_rules.specs.Sets.{key_mark_at};
+ghost use Rattle.yf_rules.specs.Rules.{key_mark};
 
 use crate::facts::outer_flow::past_flow;
 use crate::facts::whites::has_question_mark;
-use crate::rule::{Rule, placed};
-use std::alloc::{AllocError, Global};
+use crate::rule::{About, Global, Offsets, Reading, Rule, Src, Style, push_found};
 use yf_emit::form::decide::decide;
 use yf_emit::form::forms::Forms;
 use yf_emit::form::measure::measure_all;
-use yf_emit::style::Style;
-use yf_events::reading::Reading;
-use yf_lines::fault::Fault;
-use yf_lines::place::Place;
-use yf_lines::source_text::Src;
 
 /// The `?` of an entry of a block mapping whose key the house style writes without it.
 #[derive(Clone, Copy)]
 pub struct KeyMark;
 
 impl Rule for KeyMark {
-    ghost use Rattle.std.specs.Prelude.{true, codes};
-    ghost use Rattle.yf_rules.specs.Sets.{key_mark_at};
+    ghost definition = { λ _. key_mark };
 
-    ghost rule_number = { λ _. 13 };
-
-    ghost rule_id = { λ _. codes "key-mark" };
-
-    ghost is_fixable = { λ _. true };
-
-    ghost faults = { λ _ src reading style offsets. key_mark_at src reading style offsets };
-
-    fn number(&self) -> usize {
-        13
+    fn about(&self) -> About {
+        About::fixable(13, "key-mark")
     }
 
-    fn id(&self) -> &'static str {
-        "key-mark"
-    }
-
-    fn fixable(&self) -> bool {
-        true
-    }
-
-    fn find(
-        &self,
-        alloc: Global,
-        src: &Src,
-        reading: &Reading,
-        style: &Style,
-    ) -> Result<Vec<Place>, Fault> {
-        match offsets(alloc, src, reading, style) {
-            Ok(offsets) => placed(alloc, src, offsets.as_slice()),
-            Err(AllocError) => Err(Fault::Memory),
+    fn offsets(&self, alloc: Global, src: &Src, reading: &Reading, style: &Style) -> Offsets {
+        if !has_marks(src, reading) {
+            return Ok(Vec::new(alloc));
         }
+        let measures = measure_all(alloc, src, reading, style)?;
+        let forms = decide(alloc, &measures, reading, style)?;
+        let mut offsets = Vec::new(alloc);
+        let mut done = 0;
+        for i in 0..reading.len() {
+            push_found(&mut offsets, needless(src, reading, &forms, i, done))?;
+            done = past_flow(reading, &measures, i, done);
+        }
+        Ok(offsets)
     }
 }
 
@@ -106,29 +85,4 @@ fn needless(src: &Src, reading: &Reading, forms: &Forms, i: usize, done: usize) 
         return mark_of(src, reading, i);
     }
     None
-}
-
-fn offsets(
-    alloc: Global,
-    src: &Src,
-    reading: &Reading,
-    style: &Style,
-) -> Result<Vec<usize>, AllocError>
-    ensures { IfOk result (λ offsets. key_mark_at src.now reading.now style.now offsets.items) }
-{
-    let mut offsets = Vec::new(alloc);
-    if !has_marks(src, reading) {
-        return Ok(offsets);
-    }
-    let measures = measure_all(alloc, src, reading, style)?;
-    let forms = decide(alloc, &measures, reading, style)?;
-    let mut done = 0;
-    for i in 0..reading.len() {
-        match needless(src, reading, &forms, i, done) {
-            Some(offset) => offsets.push(offset)?,
-            None => {}
-        }
-        done = past_flow(reading, &measures, i, done);
-    }
-    Ok(offsets)
 }

@@ -1,59 +1,31 @@
 //! Rule 11, line-length.
-ghost use Rattle.std.specs.Prelude.{◌<◌, ◌≤◌, length, IfOk};
+ghost use Rattle.std.specs.Prelude.{◌<◌, ◌≤◌, length};
 ghost use Rattle.std.specs.Str.{IsCharBoundary};
 ghost use Rattle.yf_rules.specs.ByLine.{BeyondLimit, IsBehind};
 ghost use Rattle.yf_rules.specs.Exact.{Answers};
-ghost use Rattle.yf_rules.specs.Sets.{line_length_at};
+ghost use Rattle.yf_rules.specs.Rules.{line_length};
 
 use crate::facts::places::skip_marks;
-use crate::rule::{Rule, placed};
-use std::alloc::{AllocError, Global};
+use crate::rule::{About, Global, Offsets, Reading, Rule, Src, Style, push_found};
 use yf_chars::text::peek;
-use yf_emit::style::Style;
-use yf_events::reading::Reading;
-use yf_lines::fault::Fault;
-use yf_lines::place::Place;
-use yf_lines::source_text::Src;
 
 /// The column after the longest line that the style allows, of a line that is longer.
 #[derive(Clone, Copy)]
 pub struct LineLength;
 
 impl Rule for LineLength {
-    ghost use Rattle.std.specs.Prelude.{false, codes};
-    ghost use Rattle.yf_rules.specs.Sets.{line_length_at};
+    ghost definition = { λ _. line_length };
 
-    ghost rule_number = { λ _. 11 };
-
-    ghost rule_id = { λ _. codes "line-length" };
-
-    ghost is_fixable = { λ _. false };
-
-    ghost faults = { λ _ src reading style offsets. line_length_at src reading style offsets };
-
-    fn number(&self) -> usize {
-        11
+    fn about(&self) -> About {
+        About::unfixable(11, "line-length")
     }
 
-    fn id(&self) -> &'static str {
-        "line-length"
-    }
-
-    fn fixable(&self) -> bool {
-        false
-    }
-
-    fn find(
-        &self,
-        alloc: Global,
-        src: &Src,
-        reading: &Reading,
-        style: &Style,
-    ) -> Result<Vec<Place>, Fault> {
-        match offsets(alloc, src, reading, style) {
-            Ok(offsets) => placed(alloc, src, offsets.as_slice()),
-            Err(AllocError) => Err(Fault::Memory),
+    fn offsets(&self, alloc: Global, src: &Src, reading: &Reading, style: &Style) -> Offsets {
+        let mut offsets = Vec::new(alloc);
+        for k in 0..src.lines().len() {
+            push_found(&mut offsets, beyond(src, k, style.max_line))?;
         }
+        Ok(offsets)
     }
 }
 
@@ -93,22 +65,4 @@ fn beyond(src: &Src, k: usize, max_line: usize) -> Option<usize>
     let line = src.lines().line(k);
     let start = skip_marks(src.text(), line.start);
     behind_chars(src.text(), start, line.end, max_line)
-}
-
-fn offsets(
-    alloc: Global,
-    src: &Src,
-    reading: &Reading,
-    style: &Style,
-) -> Result<Vec<usize>, AllocError>
-    ensures { IfOk result (λ offsets. line_length_at src.now reading.now style.now offsets.items) }
-{
-    let mut offsets = Vec::new(alloc);
-    for k in 0..src.lines().len() {
-        match beyond(src, k, style.max_line) {
-            Some(offset) => offsets.push(offset)?,
-            None => {}
-        }
-    }
-    Ok(offsets)
 }

@@ -2,18 +2,12 @@
 ghost use Rattle.std.specs.Prelude.{◌≡◌, ◌<◌, ◌∷◌, ◌&&◌, List, Some, None, length, reverse, slice_get, IfOk};
 ghost use Rattle.yf_events.specs.Event.{EventValue, Placed};
 ghost use Rattle.yf_events.specs.Reading.{events_of};
-ghost use Rattle.yf_rules.specs.KeyPass.{AreLevels, IsLevel, Opened, after, event_place, has_key, is_repeat, key_value, new_level, next, past_key, repeats_in, takes_key, without_first};
-ghost use Rattle.yf_rules.specs.Sets.{repeated_keys_at};
+ghost use Rattle.yf_rules.specs.KeyPass.{AreCollections, IsCollection, Opened, after, event_place, has_key, is_repeat, key_value, new_collection, next, past_key, repeats_in, takes_key, without_first};
+ghost use Rattle.yf_rules.specs.Rules.{repeated_keys};
 
-use crate::rule::{Rule, placed};
-use std::alloc::{AllocError, Global};
+use crate::rule::{About, AllocError, Global, Offsets, Reading, Rule, Src, Style};
 use std::collections::BTreeSet;
-use yf_emit::style::Style;
 use yf_events::event::Event;
-use yf_events::reading::Reading;
-use yf_lines::fault::Fault;
-use yf_lines::place::Place;
-use yf_lines::source_text::Src;
 use yf_props::resolved::ResolvedTag;
 
 /// The first character of a scalar key whose text and resolved tag are those of an earlier scalar key of its mapping.
@@ -21,40 +15,21 @@ use yf_props::resolved::ResolvedTag;
 pub struct RepeatedKeys;
 
 impl Rule for RepeatedKeys {
-    ghost use Rattle.std.specs.Prelude.{false, codes};
-    ghost use Rattle.yf_rules.specs.Sets.{repeated_keys_at};
+    ghost definition = { λ _. repeated_keys };
 
-    ghost rule_number = { λ _. 12 };
-
-    ghost rule_id = { λ _. codes "repeated-keys" };
-
-    ghost is_fixable = { λ _. false };
-
-    ghost faults = { λ _ src reading style offsets. repeated_keys_at src reading style offsets };
-
-    fn number(&self) -> usize {
-        12
+    fn about(&self) -> About {
+        About::unfixable(12, "repeated-keys")
     }
 
-    fn id(&self) -> &'static str {
-        "repeated-keys"
-    }
-
-    fn fixable(&self) -> bool {
-        false
-    }
-
-    fn find(
-        &self,
-        alloc: Global,
-        src: &Src,
-        reading: &Reading,
-        style: &Style,
-    ) -> Result<Vec<Place>, Fault> {
-        match offsets(alloc, src, reading, style) {
-            Ok(offsets) => placed(alloc, src, offsets.as_slice()),
-            Err(AllocError) => Err(Fault::Memory),
+    fn offsets(&self, alloc: Global, src: &Src, reading: &Reading, style: &Style) -> Offsets {
+        let mut stack = Vec::new(alloc);
+        let mut offsets = Vec::new(alloc);
+        for i in 0..reading.len() {
+            if pass(alloc, &mut stack, &*reading, i)? {
+                offsets.push(key_offset(reading, i))?;
+            }
         }
+        Ok(offsets)
     }
 }
 
@@ -67,7 +42,7 @@ struct Key<'r> {
 
 /// A collection whose end has not come yet.
 #[derive(Drop)]
-struct Level<'r> {
+struct KeyedCollection<'r> {
     is_map: bool,
     /// Whether a value comes next.
     at_value: bool,
@@ -76,49 +51,55 @@ struct Level<'r> {
 }
 
 /// A collection after a node in it that is no scalar.
-fn past<'r>(level: Level<'r>) -> Level<'r>
-    ensures { (l : Opened) → IsLevel level.entry l → IsLevel result (past_key None l) }
+fn past<'r>(collection: KeyedCollection<'r>) -> KeyedCollection<'r>
+    ensures { (l : Opened) → IsCollection collection.entry l → IsCollection result (past_key None l) }
 {
-    let mut past = level;
+    let mut past = collection;
     past.at_value = !past.at_value;
     past
 }
 
 /// A collection after a scalar in it, and whether the scalar is a key that the collection has already.
-fn past_scalar<'r>(mut level: Level<'r>, scalar: Key<'r>) -> Result<(Level<'r>, bool), AllocError>
-    ensures { IfOk result (λ p. (l : Opened) → IsLevel level.entry l → IsLevel p.0 (past_key (Some (key_value scalar.entry)) l)
+fn past_scalar<'r>(
+    mut collection: KeyedCollection<'r>,
+    scalar: Key<'r>,
+) -> Result<(KeyedCollection<'r>, bool), AllocError>
+    ensures { IfOk result (λ p. (l : Opened) → IsCollection collection.entry l → IsCollection p.0 (past_key (Some (key_value scalar.entry)) l)
         × (p.1 ≡ (takes_key l && has_key (key_value scalar.entry) l.keys))) }
 {
-    let takes_key = level.is_map && !level.at_value;
-    level.at_value = !level.at_value;
+    let takes_key = collection.is_map && !collection.at_value;
+    collection.at_value = !collection.at_value;
     if takes_key {
-        let is_new = level.keys.insert(scalar)?;
-        return Ok((level, !is_new));
+        let is_new = collection.keys.insert(scalar)?;
+        return Ok((collection, !is_new));
     }
-    Ok((level, false))
+    Ok((collection, false))
 }
 
 /// Goes past a node that is no scalar, in the innermost collection that is open.
-fn pass_node(stack: &mut Vec<Level>) -> Result<(), AllocError>
-    ensures { IfOk result (λ _. (st : List Opened) → AreLevels (reverse stack.old.items) st
-        → AreLevels (reverse stack.new.items) (after None st)) }
+fn pass_node(stack: &mut Vec<KeyedCollection>) -> Result<(), AllocError>
+    ensures { IfOk result (λ _. (st : List Opened) → AreCollections (reverse stack.old.items) st
+        → AreCollections (reverse stack.new.items) (after None st)) }
 {
     match stack.pop() {
-        Some(level) => stack.push(past(level))?,
+        Some(collection) => stack.push(past(collection))?,
         None => {}
     }
     Ok(())
 }
 
 /// Goes past a scalar: whether it is a key that its mapping has already.
-fn pass_scalar<'r>(stack: &mut Vec<Level<'r>>, scalar: Key<'r>) -> Result<bool, AllocError>
-    ensures { IfOk result (λ hit. (st : List Opened) → AreLevels (reverse stack.old.items) st
-        → AreLevels (reverse stack.new.items) (after (Some (key_value scalar.entry)) st) × (hit ≡ repeats_in (key_value scalar.entry) st)) }
+fn pass_scalar<'r>(
+    stack: &mut Vec<KeyedCollection<'r>>,
+    scalar: Key<'r>,
+) -> Result<bool, AllocError>
+    ensures { IfOk result (λ hit. (st : List Opened) → AreCollections (reverse stack.old.items) st
+        → AreCollections (reverse stack.new.items) (after (Some (key_value scalar.entry)) st) × (hit ≡ repeats_in (key_value scalar.entry) st)) }
 {
     match stack.pop() {
-        Some(level) => {
-            let (level, is_known) = past_scalar(level, scalar)?;
-            stack.push(level)?;
+        Some(collection) => {
+            let (collection, is_known) = past_scalar(collection, scalar)?;
+            stack.push(collection)?;
             Ok(is_known)
         }
         None => Ok(false),
@@ -126,12 +107,16 @@ fn pass_scalar<'r>(stack: &mut Vec<Level<'r>>, scalar: Key<'r>) -> Result<bool, 
 }
 
 /// Goes past the start of a collection.
-fn pass_start(alloc: Global, stack: &mut Vec<Level>, is_map: bool) -> Result<(), AllocError>
-    ensures { IfOk result (λ _. (st : List Opened) → AreLevels (reverse stack.old.items) st
-        → AreLevels (reverse stack.new.items) (new_level is_map ∷ after None st)) }
+fn pass_start(
+    alloc: Global,
+    stack: &mut Vec<KeyedCollection>,
+    is_map: bool,
+) -> Result<(), AllocError>
+    ensures { IfOk result (λ _. (st : List Opened) → AreCollections (reverse stack.old.items) st
+        → AreCollections (reverse stack.new.items) (new_collection is_map ∷ after None st)) }
 {
     pass_node(stack)?;
-    stack.push(Level {
+    stack.push(KeyedCollection {
         is_map,
         at_value: false,
         keys: BTreeSet::new(alloc),
@@ -140,8 +125,8 @@ fn pass_start(alloc: Global, stack: &mut Vec<Level>, is_map: bool) -> Result<(),
 }
 
 /// Goes past the end of a collection.
-fn pass_end(stack: &mut Vec<Level>)
-    ensures { (st : List Opened) → AreLevels (reverse stack.old.items) st → AreLevels (reverse stack.new.items) (without_first st) }
+fn pass_end(stack: &mut Vec<KeyedCollection>)
+    ensures { (st : List Opened) → AreCollections (reverse stack.old.items) st → AreCollections (reverse stack.new.items) (without_first st) }
 {
     match stack.pop() {
         Some(_) => return,
@@ -152,13 +137,13 @@ fn pass_end(stack: &mut Vec<Level>)
 /// Goes past one event: whether it is a scalar key that its mapping has already.
 fn pass<'r>(
     alloc: Global,
-    stack: &mut Vec<Level<'r>>,
+    stack: &mut Vec<KeyedCollection<'r>>,
     reading: &'r Reading<'r>,
     i: usize,
 ) -> Result<bool, AllocError>
     requires { i < length reading.now.events }
     ensures { IfOk result (λ hit. (st : List Opened) (e : EventValue) → slice_get (events_of reading.now) i ≡ Some e
-        → AreLevels (reverse stack.old.items) st → AreLevels (reverse stack.new.items)
+        → AreCollections (reverse stack.old.items) st → AreCollections (reverse stack.new.items)
         (next e (slice_get reading.now.resolved i) st) × (hit ≡ is_repeat e (slice_get reading.now.resolved i) st)) }
 {
     match reading.event(i) {
@@ -203,22 +188,4 @@ fn key_offset(reading: &Reading, i: usize) -> usize
         },
         None => 0,
     }
-}
-
-fn offsets(
-    alloc: Global,
-    src: &Src,
-    reading: &Reading,
-    style: &Style,
-) -> Result<Vec<usize>, AllocError>
-    ensures { IfOk result (λ offsets. repeated_keys_at src.now reading.now style.now offsets.items) }
-{
-    let mut stack = Vec::new(alloc);
-    let mut offsets = Vec::new(alloc);
-    for i in 0..reading.len() {
-        if pass(alloc, &mut stack, &*reading, i)? {
-            offsets.push(key_offset(reading, i))?;
-        }
-    }
-    Ok(offsets)
 }

@@ -1,58 +1,31 @@
 //! Rule 1, trailing-blanks.
-ghost use Rattle.std.specs.Prelude.{◌<◌, length, IfOk};
+ghost use Rattle.std.specs.Prelude.{◌<◌, length};
 ghost use Rattle.yf_rules.specs.ByLine.{BlankEnd};
 ghost use Rattle.yf_rules.specs.Exact.{Answers};
-ghost use Rattle.yf_rules.specs.Sets.{trailing_blanks_at};
+ghost use Rattle.yf_rules.specs.Rules.{trailing_blanks};
 
-use crate::facts::content_lines::content_lines;
+use crate::facts::noted_lines::content_lines;
 use crate::facts::whites::whites_before;
-use crate::rule::{Rule, placed};
-use std::alloc::{AllocError, Global};
-use yf_emit::style::Style;
-use yf_events::reading::Reading;
-use yf_lines::fault::Fault;
-use yf_lines::place::Place;
-use yf_lines::source_text::Src;
+use crate::rule::{About, Global, Offsets, Reading, Rule, Src, Style, push_found};
 
 /// The first of the white space that ends a line, unless it is a content line of a block scalar.
 #[derive(Clone, Copy)]
 pub struct TrailingBlanks;
 
 impl Rule for TrailingBlanks {
-    ghost use Rattle.std.specs.Prelude.{true, codes};
-    ghost use Rattle.yf_rules.specs.Sets.{trailing_blanks_at};
+    ghost definition = { λ _. trailing_blanks };
 
-    ghost rule_number = { λ _. 1 };
-
-    ghost rule_id = { λ _. codes "trailing-blanks" };
-
-    ghost is_fixable = { λ _. true };
-
-    ghost faults = { λ _ src reading style offsets. trailing_blanks_at src reading style offsets };
-
-    fn number(&self) -> usize {
-        1
+    fn about(&self) -> About {
+        About::fixable(1, "trailing-blanks")
     }
 
-    fn id(&self) -> &'static str {
-        "trailing-blanks"
-    }
-
-    fn fixable(&self) -> bool {
-        true
-    }
-
-    fn find(
-        &self,
-        alloc: Global,
-        src: &Src,
-        reading: &Reading,
-        style: &Style,
-    ) -> Result<Vec<Place>, Fault> {
-        match offsets(alloc, src, reading, style) {
-            Ok(offsets) => placed(alloc, src, offsets.as_slice()),
-            Err(AllocError) => Err(Fault::Memory),
+    fn offsets(&self, alloc: Global, src: &Src, reading: &Reading, style: &Style) -> Offsets {
+        let content = content_lines(alloc, src, reading)?;
+        let mut offsets = Vec::new(alloc);
+        for k in 0..content.len() {
+            push_found(&mut offsets, blank_end(src, k, content[k]))?;
         }
+        Ok(offsets)
     }
 }
 
@@ -70,23 +43,4 @@ fn blank_end(src: &Src, k: usize, is_content: bool) -> Option<usize>
         return Some(at);
     }
     None
-}
-
-fn offsets(
-    alloc: Global,
-    src: &Src,
-    reading: &Reading,
-    style: &Style,
-) -> Result<Vec<usize>, AllocError>
-    ensures { IfOk result (λ offsets. trailing_blanks_at src.now reading.now style.now offsets.items) }
-{
-    let content = content_lines(alloc, src, reading)?;
-    let mut offsets = Vec::new(alloc);
-    for k in 0..content.len() {
-        match blank_end(src, k, content[k]) {
-            Some(offset) => offsets.push(offset)?,
-            None => {}
-        }
-    }
-    Ok(offsets)
 }

@@ -20,7 +20,7 @@ returns-then-sign_stands-clause-tied c = λ d root before r k a.
     let count : c.saturating_add-progress.result ≡ c.args.progress.now.colons + 1 = omega (arith, room, r, c.saturating_add-progress.ensures) in
     inl (node_tied _ v.step (key_awaited a y k c.len.ensures (popped _ _ _ c.in_ok-push.ensures.ok) n
     (v.wanted (omega (arith, l, m)) ∙ ap (λ x. wanted_after c.args.frame.column true true (Some x)) (entry_same c.entry_at-entry.result c.args.at None e.start e.colon))
-    v.last v.floor (v.colons ∙ count)))
+    v.last v.floor (v.colons ∙ count) v.halt))
 
 pub returns-then-sign_stands-2-clause-tied : goal.returns-then-sign_stands-2-clause-tied
 returns-then-sign_stands-2-clause-tied c = λ d root before r k a.
@@ -33,4 +33,4 @@ returns-then-sign_stands-2-clause-tied c = λ d root before r k a.
     inl (node_tied _ v.step (lone_awaited a y k (popped _ _ _ c.in_ok-push-2.ensures.ok) n
     (c.in_ok-push-3.ensures ∙ ap (λ x. c.args.part.now.events ++ x ∷ []) (c.empty_node.ensures
     ∙ ap (λ (x : ℕ). entry_event (scalar_node no_props Plain []) (Some (record { start = x; colon = Some c.args.at; blank_before = c.entry_at-entry.result.blank_before }))) e.start)) refl refl
-    (v.wanted (omega (arith, l, m))) v.last v.floor v.colons))
+    (v.wanted (omega (arith, l, m))) v.last v.floor v.colons v.halt))

@@ -13,4 +13,4 @@ returns-clause-tied c = λ d root before part y k z a.
     let m = a.collection.column in
     inl (node_tied _ v.step (item_awaited a y k z (popped _ _ _ c.in_ok-push.ensures.ok) n
     (v.wanted (omega (arith, l, m)) ∙ ap (λ x. wanted_after c.args.frame.column true false (Some x)) (entry_same c.entry_at-entry.result c.args.at None e.start e.colon))
-    v.last v.floor v.colons))
+    v.last v.floor v.colons v.halt))

@@ -9,7 +9,7 @@ frames-preserved c = record {
   escapes = c.in_ok-end_collection-in-Behind.ensures.escapes ∙ c.frames.invariant.escapes;
   tied = λ d root before a.
       let r = c.frames.invariant.tied d root before a in
-      let top = top_of r (popped _ _ _ c.in-Some.ensures.items) c.colons_without-progress.ensures refl refl in
+      let top = top_of r (popped _ _ _ c.in-Some.ensures.items) c.colons_without-progress.ensures refl refl refl in
       let line = rw c.in-Behind.is at (c.fit_of-fit.ensures.line (place_tied _ r.outside c.entry_place-place.ensures.entry)) in
       one_ended top line c.in_ok-end_collection-in-Behind.ensures.events c.in_ok-end_collection-in-Behind.ensures.comments c.in_ok-end_collection-in-Behind.ensures.escapes;
 }
@@ -18,7 +18,7 @@ pub returns-in_default-fit-clause-tied : goal.returns-in_default-fit-clause-tied
 returns-in_default-fit-clause-tied c = λ d root before a.
     let r = c.frames.invariant.tied d root before a in
     record {
-      top = top_of r (popped _ _ _ c.in-Some.ensures.items) c.colons_without-progress.ensures refl refl;
+      top = top_of r (popped _ _ _ c.in-Some.ensures.items) c.colons_without-progress.ensures refl refl refl;
       line = c.fit_of-fit.ensures.line (place_tied _ r.outside c.entry_place-place.ensures.entry);
       goes_on = c.in_default-fit.not-Behind;
     }

@@ -3,7 +3,5 @@ use Rattle.yf_rules.specs.Check.{InOrder, RuleFindings}
 use Rattle.yf_rules.proofs.check.check.Given as goal
 
 abbrev pub invariant-loop-rule : goal.invariant-loop-rule
-invariant-loop-rule g l = InOrder
-    (λ b found. RuleFindings ((goal.Rule-dyn g (b.vtable, b.value)).rule_number b.value) ((goal.Rule-dyn g (b.vtable, b.value)).rule_id b.value)
-    ((goal.Rule-dyn g (b.vtable, b.value)).is_fixable b.value) ((goal.Rule-dyn g (b.vtable, b.value)).faults b.value) l.src l.reading l.style found)
-    (take l.rule-index l.rules) l.all.items
+invariant-loop-rule g l =
+    InOrder (λ b found. RuleFindings ((goal.Rule-dyn g (b.vtable, b.value)).definition b.value) l.src l.reading l.style found) (take l.rule-index l.rules) l.all.items

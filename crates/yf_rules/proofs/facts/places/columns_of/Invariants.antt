@@ -1,9 +1,9 @@
 use Rattle.yf_rules.specs.Columns.{ColumnsTo}
-use Rattle.yf_rules.specs.Places.{IsSpot}
+use Rattle.yf_rules.specs.Places.{IsCursor}
 use Rattle.yf_rules.proofs.facts.places.columns_of.Given as goal
 
 abbrev pub invariant-loop-k : goal.invariant-loop-k
 invariant-loop-k l = record {
-  spot : IsSpot l.src.text l.src.lines l.spot;
+  cursor : IsCursor l.src.text l.src.lines l.cursor;
   columns : ColumnsTo l.src.text l.fn.offsets.items l.offsets.items l.k;
 }

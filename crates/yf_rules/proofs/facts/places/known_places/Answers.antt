@@ -1,6 +1,6 @@
 use Rattle.std.proofs.Common.{◌<◌, subst, sym, ap, ◌∙◌, length, get_or, take, arith, ◌+◌, refl, true≢false}
 use Rattle.std.specs.Str.{IsCharBoundary}
-use Rattle.yf_rules.specs.Places.{IsSpot, PlacesOf}
+use Rattle.yf_rules.specs.Places.{IsCursor, PlacesOf}
 use Rattle.yf_rules.proofs.PlacesLemmas.{no_places, places_more, places_passed}
 use Rattle.yf_rules.proofs.facts.places.known_places.Goals as goal
 use Rattle.yf_rules.proofs.facts.places.known_places.Goals.{then-is_char_boundary+in_ok-push, else-is_char_boundary}
@@ -8,7 +8,7 @@ use Rattle.yf_rules.proofs.facts.places.known_places.Goals.{then-is_char_boundar
 pub loop-offset-init : goal.loop-offset-init
 loop-offset-init c = record {
   places = no_places c.args.src.now.text c.new-places.result.items c.new-places.ensures.items;
-  spot = c.line_spot-spot.ensures;
+  cursor = c.line_cursor-cursor.ensures;
 }
 
 pub loop-offset-preserved : goal.loop-offset-preserved
@@ -23,14 +23,14 @@ loop-offset-preserved c =
           let b : IsCharBoundary t (get_or os i 0) = subst (λ x. IsCharBoundary x (get_or os i 0)) c.text.ensures (w.if-is_char_boundary.ensures.test.0 refl) in
           let e = ap (λ v. v.items) w.places-is ∙ w.in_ok-push.ensures.items in
           record {
-            places = places_more t os i c.loop-offset.places.items c.if-is_char_boundary.places.items w.place_from-step.result.place lt before b w.place_from-step.ensures.place e;
-            spot = subst (λ s. IsSpot t c.args.src.now.lines s) (sym w.spot-is) w.place_from-step.ensures.spot;
+            places = places_more t os i c.loop-offset.places.items c.if-is_char_boundary.places.items w.place_from-located.result.place lt before b w.place_from-located.ensures.place e;
+            cursor = subst (λ s. IsCursor t c.args.src.now.lines s) (sym w.cursor-is) w.place_from-located.ensures.cursor;
           }
       | else-is_char_boundary w ↦
           let n : IsCharBoundary t (get_or os i 0) → ⊥ = λ b. true≢false (sym (w.if-is_char_boundary.ensures.test.1 (subst (λ x. IsCharBoundary x (get_or os i 0)) (sym c.text.ensures) b))) in
           let e = ap (λ v. v.items) w.places-is in
           record {
             places = subst (λ ps. PlacesOf t (take (i + 1) os) ps) (sym e) (places_passed t os i c.loop-offset.places.items lt before n);
-            spot = subst (λ s. IsSpot t c.args.src.now.lines s) (sym w.spot-is) c.loop-offset.invariant.spot;
+            cursor = subst (λ s. IsCursor t c.args.src.now.lines s) (sym w.cursor-is) c.loop-offset.invariant.cursor;
           }
     ]

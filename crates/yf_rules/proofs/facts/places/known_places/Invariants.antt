@@ -1,9 +1,9 @@
 use Rattle.std.proofs.Common.{take}
-use Rattle.yf_rules.specs.Places.{IsSpot, PlacesOf}
+use Rattle.yf_rules.specs.Places.{IsCursor, PlacesOf}
 use Rattle.yf_rules.proofs.facts.places.known_places.Given as goal
 
 abbrev pub invariant-loop-offset : goal.invariant-loop-offset
 invariant-loop-offset l = record {
   places : PlacesOf l.src.text (take l.offset-index l.offsets) l.places.items;
-  spot : IsSpot l.src.text l.src.lines l.spot;
+  cursor : IsCursor l.src.text l.src.lines l.cursor;
 }

@@ -1,27 +1,13 @@
-use Rattle.std.proofs.Common.{◌≡◌, ◌<◌, ◌≤◌, ◌∙◌, ◌++◌, ap, sym, length, arith}
-use Rattle.std.proofs.lemmas.List.{append-nil}
-use Rattle.std.specs.Option.{option_to_list}
+use Rattle.std.proofs.Common.{◌<◌, ◌≤◌, length, arith}
 use Rattle.yf_events.specs.Reading.{events_of}
 use Rattle.yf_rules.proofs.DocumentLemmas.{event_count, marker_step, markers_done}
 use Rattle.yf_rules.proofs.rules.document_start.markers.Goals as goal
-use Rattle.yf_rules.proofs.rules.document_start.markers.Goals.{in-Some+in_ok-push-in-Some, in-None}
 
 pub loop-i-preserved : goal.loop-i-preserved
 loop-i-preserved c =
     let es = events_of c.args.reading.now in
-    let ms = c.loop-i.markers.items in
-    let new = c.match-marker_at.markers.items in
     let l : c.loop-i.i < length es = omega (arith, event_count c.args.reading.now, c.len-i-end.ensures) in
-    elim c.match-marker_at.branch [
-      | in-Some+in_ok-push-in-Some w ↦
-          let e : new ≡ ms ++ option_to_list c.marker_at.result =
-          ap (λ v. v.items) w.markers-is ∙ w.in_ok-push-in-Some.ensures.items ∙ ap (λ o. ms ++ option_to_list o) (sym w.in-Some.is) in
-          marker_step es c.loop-i.i ms new c.marker_at.result l c.loop-i.invariant c.marker_at.ensures e
-      | in-None w ↦
-          let e : new ≡ ms ++ option_to_list c.marker_at.result =
-          ap (λ v. v.items) w.markers-is ∙ sym (append-nil ms) ∙ ap (λ o. ms ++ option_to_list o) (sym w.in-None.is) in
-          marker_step es c.loop-i.i ms new c.marker_at.result l c.loop-i.invariant c.marker_at.ensures e
-    ]
+    marker_step es c.loop-i.i _ _ c.marker_at.result l c.loop-i.invariant c.marker_at.ensures c.in_ok-push_found.ensures
 
 pub returns : goal.returns
 returns c =

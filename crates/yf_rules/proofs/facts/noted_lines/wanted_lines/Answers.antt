@@ -1,0 +1,36 @@
+use Rattle.std.proofs.Common.{◌≡◌, ℕ, ◌+◌, ◌∙◌, ap, subst, length, false, arith}
+use Rattle.std.proofs.lemmas.List.{length-replicate}
+use Rattle.yf_rules.specs.Noted.{NotedBy}
+use Rattle.yf_rules.specs.ScalarLines.{InSome, WantedLine, wanted_range}
+use Rattle.yf_rules.proofs.NotedLemmas.{none_noted_by, one_noted_by}
+use Rattle.yf_rules.proofs.ScalarLemmas.{wanted_told}
+use Rattle.yf_rules.proofs.facts.noted_lines.wanted_lines.Goals as goal
+
+pub loop-i-init : goal.loop-i-init
+loop-i-init c =
+    let e = c.in_ok-list.ensures.items_if_clones_equal (λ y q. q) in
+    record {
+      len = ap length e ∙ length-replicate c.len.result false ∙ c.len.ensures.count ∙ ap (λ w. length w.lines) c.lines.ensures;
+      noted = none_noted_by c.len.result c.in_ok-list.list.items _ e;
+    }
+
+pub loop-i-preserved : goal.loop-i-preserved
+loop-i-preserved c =
+    let v = c.args.src.now in
+    let r = c.args.reading.now in
+    let i = c.loop-i.i in
+    let wanted = c.args.wanted in
+    let scalar = c.scalar_lines_at-scalar.result in
+    let told : (k : ℕ) → (WantedLine wanted v r k i → InSome v.lines c.range_of.result k) × (InSome v.lines c.range_of.result k → WantedLine wanted v r k i) =
+    rw c.range_of.ensures (wanted_told wanted v r i scalar c.scalar_lines_at-scalar.ensures) in
+    record {
+      len = c.note.ensures.len ∙ c.loop-i.invariant.len;
+      noted = one_noted_by c.loop-i.list.items _ i (λ (i : ℕ) (k : ℕ). WantedLine wanted v r k i) (InSome v.lines c.range_of.result) told c.note.ensures c.loop-i.invariant.noted;
+    }
+
+pub returns : goal.returns
+returns c = (
+  c.loop-i.invariant.len,
+  subst (λ n. NotedBy c.loop-i.list.items n (λ (i : ℕ) (k : ℕ). WantedLine c.args.wanted c.args.src.now c.args.reading.now k i))
+      (let b = c.loop-i.auto.i-end in let z : c.loop-i.i ≡ length c.args.reading.now.events = omega (arith, b, c.len-i-end.ensures, c.loop-i-test.false) in z) c.loop-i.invariant.noted,
+)

@@ -1,0 +1,7 @@
+use Rattle.yf_rules.proofs.FoundLemmas.{all_found}
+use Rattle.yf_rules.proofs.rule.Rule.find.Goals as goal
+
+pub returns-in-Ok-clause-found : goal.returns-in-Ok-clause-found
+returns-in-Ok-clause-found g c =
+    all_found c.args.src.now.text ((g.Self.Rule.definition c.args.self.now).faults c.args.src.now c.args.reading.now c.args.style.now) c.in-Ok.offsets.items
+    c.as_slice.result.now (λ v. v.items) c.placed.result c.in-Ok.ensures c.as_slice.ensures.value c.placed.ensures.places
