@@ -33,7 +33,6 @@ use Rattle.yf_rules.specs.Noted.{Noted, NotedBy, Tells}
 use Rattle.yf_rules.specs.ScalarLines.{InRange}
 use Rattle.yf_rules.specs.Scalars.{IsScalar}
 use Rattle.yf_rules.specs.Whites.{WhitesEnd}
-use Rattle.yf_rules.proofs.BegunLemmas.{starts_order}
 use Rattle.yf_rules.proofs.BlockLemmas.{scalar_same}
 use Rattle.yf_rules.proofs.NotedLemmas.{sole_noted, none_noted}
 

@@ -1,5 +1,5 @@
 -- Laws of the content lines of block scalars.
-use Rattle.std.proofs.Common.{◌≡◌, ℕ, suc, ◌+◌, ◌-◌, ◌<◌, ◌≤◌, true, false, List, ◌∷◌, Option, Some, None, length, drop, get_or, refl, sym, subst, ap, ◌∙◌, ⊎_elim, arith, true≢false, add-one}
+use Rattle.std.proofs.Common.{◌≡◌, ℕ, suc, ◌+◌, ◌-◌, ◌<◌, ◌≤◌, true, false, List, ◌∷◌, Option, Some, length, drop, get_or, refl, sym, subst, ap, ◌∙◌, ⊎_elim, arith, true≢false, add-one}
 use Rattle.std.specs.Prelude.{slice_get}
 use Rattle.std.proofs.lemmas.Bool.{cases_lt, eq-eqb, ne_eqb}
 use Rattle.std.proofs.lemmas.List.{drop_all}
@@ -7,17 +7,16 @@ use Rattle.std.proofs.lemmas.Option.{slice_get_within}
 use Rattle.std.proofs.Math.Seq.{drop-cons}
 use Rattle.yf_emit.specs.ContentStart.{content_start}
 use Rattle.yf_events.specs.Event.{EventValue, scalar_node}
-use Rattle.yf_events.specs.Reading.{spans_of}
 use Rattle.yf_events.specs.declared.event.ScalarStyle.{ScalarStyle}
 use Rattle.yf_events.specs.declared.event.Span.{Span}
 use Rattle.yf_events.specs.declared.lists.Lists.{Lists}
 use Rattle.yf_lines.specs.declared.line.Line.{Line}
-use Rattle.yf_lines.specs.Lines.{AreLines, Begun, Table}
+use Rattle.yf_lines.specs.Lines.{Begun, Table}
 use Rattle.yf_lines.proofs.TableLemmas.{some_same}
 use Rattle.yf_props.specs.Props.{PropsValue}
 use Rattle.yf_rules.specs.Scalars.{IsScalar, BlockContent, InBlock, ContentLine, head_count, is_block_style}
 use Rattle.yf_rules.specs.Scalars.ContentLine.{of_block}
-use Rattle.yf_rules.proofs.BegunLemmas.{begun_same, starts_order}
+use Rattle.yf_rules.proofs.BegunLemmas.{begun_same}
 
 -- how many of one byte stand from an index on
 pub head_here : (b : ℕ) (bs : List ℕ) (i : ℕ) (m : ℕ) → i < length bs → get_or bs i 0 ≡ b → m + head_count b (drop i bs) ≡ m + 1 + head_count b (drop (i + 1) bs)

@@ -10,7 +10,7 @@ use Rattle.std.proofs.Math.Seq.{drop-cons}
 use Rattle.yf_emit.specs.ContentStart.{content_start}
 use Rattle.yf_emit.specs.declared.style.Style.{Style}
 use Rattle.yf_events.specs.Event.{EventValue, Placed, stream_starts, stream_ends, document_starts, document_ends, sequence_starts, sequence_ends, mapping_starts, mapping_ends, scalar_node, alias_node}
-use Rattle.yf_events.specs.Reading.{events_of, spans_of}
+use Rattle.yf_events.specs.Reading.{events_of}
 use Rattle.yf_events.specs.declared.event.ScalarStyle.{ScalarStyle}
 use Rattle.yf_events.specs.declared.event.Span.{Span}
 use Rattle.yf_events.specs.declared.lists.Lists.{Lists}
@@ -28,7 +28,7 @@ use Rattle.yf_rules.specs.declared.facts.scalars.ContentStart.{ContentStart}
 use Rattle.yf_rules.specs.declared.facts.stands.OpenCollection.{OpenCollection}
 use Rattle.yf_rules.specs.declared.facts.stands.Pass.{Pass}
 use Rattle.yf_rules.specs.declared.facts.stands.Stand.{Stand}
-use Rattle.yf_rules.proofs.BlockLemmas.{content_same, event_same, part_same, same_behind, scalar_same}
+use Rattle.yf_rules.proofs.BlockLemmas.{content_same, event_same, same_behind, scalar_same}
 use Rattle.yf_rules.proofs.KeySetLemmas.{nothing_in}
 
 -- what is told of the content of one scalar

@@ -10,7 +10,6 @@ use Rattle.yf_events.specs.declared.event.ScalarStyle.{ScalarStyle}
 use Rattle.yf_events.specs.declared.event.Span.{Span}
 use Rattle.yf_events.specs.declared.lists.Lists.{Lists}
 use Rattle.yf_lines.specs.Lines.{Begun, Table}
-use Rattle.yf_lines.specs.declared.line.Line.{Line}
 use Rattle.yf_props.specs.Props.{PropsValue}
 use Rattle.yf_rules.specs.Entries.{column_at, entries_from, unmarked_at}
 use Rattle.yf_rules.specs.Exact.{Answers}

@@ -1,7 +1,7 @@
-use Rattle.std.proofs.Common.{◌≡◌, ℕ, ◌+◌, ◌∙◌, ap, subst, length, false, arith}
+use Rattle.std.proofs.Common.{◌≡◌, ℕ, ◌∙◌, ap, subst, length, false, arith}
 use Rattle.std.proofs.lemmas.List.{length-replicate}
 use Rattle.yf_rules.specs.Noted.{NotedBy}
-use Rattle.yf_rules.specs.ScalarLines.{InSome, WantedLine, wanted_range}
+use Rattle.yf_rules.specs.ScalarLines.{InSome, WantedLine}
 use Rattle.yf_rules.proofs.NotedLemmas.{none_noted_by, one_noted_by}
 use Rattle.yf_rules.proofs.ScalarLemmas.{wanted_told}
 use Rattle.yf_rules.proofs.facts.noted_lines.wanted_lines.Goals as goal
