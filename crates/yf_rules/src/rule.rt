@@ -66,6 +66,27 @@ pub trait Rule: Drop {
         ensures id { result.id.now ≡ (definition self.now).id }
         ensures fixable { result.fixable ≡ (definition self.now).fixable };
 
+    /// Its number, by which findings at one place are sorted.
+    fn number(&self) -> usize
+        ensures { result ≡ (definition self.now).number }
+    {
+        self.about().number
+    }
+
+    /// Its name in what is printed.
+    fn id(&self) -> &'static str
+        ensures { result.now ≡ (definition self.now).id }
+    {
+        self.about().id
+    }
+
+    /// Whether the house style fixes what it finds.
+    fn fixable(&self) -> bool
+        ensures { result ≡ (definition self.now).fixable }
+    {
+        self.about().fixable
+    }
+
     /// The byte offsets at fault in a text with this reading.
     fn offsets(&self, alloc: Global, src: &Src, reading: &Reading, style: &Style) -> Offsets
         ensures { IfOk result (λ offsets. (definition self.now).faults src.now reading.now style.now offsets.items) };
