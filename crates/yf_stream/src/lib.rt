@@ -2,6 +2,7 @@
 #![tactic(auto)]
 
 mod anchors;
+mod between;
 mod breaches;
 mod directives;
 mod documents;

@@ -7,8 +7,9 @@ ghost use Rattle.yf_lines.specs.FaultPlaces.{InText};
 ghost use Rattle.yf_stream.specs.Refusal.{IsStreamFault};
 ghost use Rattle.yf_stream.specs.RefusalPlaces.{DocumentsAt, RefusalAt};
 
+use crate::between::skip_prefix;
 use crate::breaches::{Breach, Kind, Resolved, resolve};
-use crate::documents::{Next, Parts, Spot, read_next, skip_prefix};
+use crate::documents::{Next, Parts, Spot, read_next};
 use crate::leaf_lines::on_leaf_lines;
 use std::alloc::{AllocError, Global};
 use yf_events::event::NewEvent;
