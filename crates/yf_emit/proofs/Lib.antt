@@ -151,3 +151,6 @@ pub mod StillHolds
 pub mod TrailsHold
 pub mod TreesRead
 pub mod WritingLemmas
+pub mod FixedNodes
+pub mod FixedRows
+pub mod FixedFormats
