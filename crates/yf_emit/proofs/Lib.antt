@@ -154,3 +154,5 @@ pub mod WritingLemmas
 pub mod FixedNodes
 pub mod FixedRows
 pub mod FixedFormats
+pub mod PlacedRows
+pub mod FoundNodes
