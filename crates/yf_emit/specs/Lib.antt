@@ -46,3 +46,5 @@ pub mod Textual
 pub mod Trailing
 pub mod TrailsOf
 pub mod Wanted
+pub mod Undisturbed
+pub mod FoundTrees
