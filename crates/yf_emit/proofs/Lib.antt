@@ -133,6 +133,13 @@ pub mod CommentsCut
 pub mod CommentsTold
 pub mod TrailFirst
 pub mod RowFlow
+pub mod ItemsOrder
+pub mod QuietTrees
+pub mod RowsFit
+pub mod QuietRows
+pub mod UprightRows
+pub mod SourceStands
+pub mod LeavesTold
 pub mod KeyTrails
 pub mod KeysBegin
 pub mod LayoutHolds

@@ -53,12 +53,12 @@ sub_below (sub_take s) = one_earlier (omega arith) (below_more (omega arith) (su
 sub_below (sub_skip s) = below_more (omega arith) (sub_below s)
 
 -- one of them
-sub_one_below : {i : ℕ} {is : List ℕ} → Sub (i ∷ []) is → i ≤ greatest is
+pub sub_one_below : {i : ℕ} {is : List ℕ} → Sub (i ∷ []) is → i ≤ greatest is
 sub_one_below s = go (sub_below s) where
   go : {i n : ℕ} → AllBelow (n + 1) (i ∷ []) → i ≤ n
   go (one_earlier l a) = omega (arith, l)
 
-sub_one_from : {n i : ℕ} {is : List ℕ} → Sub (i ∷ []) is → AllFrom n is → n ≤ i
+pub sub_one_from : {n i : ℕ} {is : List ℕ} → Sub (i ∷ []) is → AllFrom n is → n ≤ i
 sub_one_from s a = go (sub_from s a) where
   go : {n i : ℕ} → AllFrom n (i ∷ []) → n ≤ i
   go (one_later l b) = l
