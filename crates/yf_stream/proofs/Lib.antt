@@ -38,6 +38,19 @@ pub mod ShownOneShape
 pub mod ShownWord
 pub mod ShownLaws
 -- for further theorems
+pub mod NameSets
+pub mod DeclaredLemmas
+pub mod FirstLemmas
+pub mod PassLemmas
+pub mod PassSteps
+pub mod BreachPlaces
+pub mod DeclaringLemmas
+pub mod LeafLemmas
+pub mod LeafTrees
+pub mod EventsInOrder
+pub mod CommentLines
+pub mod PassDocuments
+pub mod ReadingMade
 pub mod CommentTexts
 pub mod DirectiveLaws
 pub mod DirectiveLineLemmas

@@ -1,10 +1,13 @@
 pub mod CommentLaws
+pub mod FewHandles
 pub mod DirectiveReaders
 pub mod DocumentReaders
 pub mod EmptyDocument
 pub mod HasReading
 pub mod Laws
+pub mod LeafPass
 pub mod NodeLaws
+pub mod NotedLists
 pub mod PlaceLaws
 pub mod ReaderLaws
 pub mod ReadingOf
@@ -12,5 +15,7 @@ pub mod Refusal
 pub mod RefusalPlaces
 pub mod Stream
 pub mod StreamReader
+pub mod TagPass
 pub mod Walk
 pub mod WellFormed
+pub mod WrittenParts

@@ -2,9 +2,12 @@
 #![tactic(auto)]
 
 mod anchors;
+mod between;
 mod breaches;
+mod declarations;
 mod directives;
 mod documents;
 mod leaf_lines;
 mod prefixes;
+mod resolve;
 pub mod stream;

@@ -3,13 +3,17 @@ ghost use Rattle.std.specs.Prelude.{◌≡◌, ◌+◌, ◌-◌, ◌<◌, ◌≤
 ghost use Rattle.std.specs.List.{All};
 ghost use Rattle.std.specs.Str.{IsCharBoundary};
 ghost use Rattle.yf_events.specs.Reading.{Fits};
-ghost use Rattle.yf_lines.specs.FaultPlaces.{InText};
+ghost use Rattle.yf_lines.specs.FaultPlaces.{InText, IsPlaceOf};
+ghost use Rattle.yf_stream.specs.NotedLists.{FaultAt, NotedOr};
 ghost use Rattle.yf_stream.specs.Refusal.{IsStreamFault};
 ghost use Rattle.yf_stream.specs.RefusalPlaces.{DocumentsAt, RefusalAt};
+ghost use Rattle.yf_stream.specs.StreamReader as StreamReader;
 
-use crate::breaches::{Breach, Kind, Resolved, resolve};
-use crate::documents::{Next, Parts, Spot, read_next, skip_prefix};
+use crate::between::skip_prefix;
+use crate::breaches::{Breach, Kind};
+use crate::documents::{Next, Parts, Spot, read_next};
 use crate::leaf_lines::on_leaf_lines;
+use crate::resolve::{Resolved, resolve};
 use std::alloc::{AllocError, Global};
 use yf_events::event::NewEvent;
 use yf_events::lists::Lists;
@@ -55,7 +59,8 @@ pub fn read_stream<'a>(alloc: Global, text: &'a str) -> Result<Reading<'a>, Faul
 // The fault with its place.
 fn fault_at(alloc: Global, text: &str, refusal: Refusal) -> Fault
     requires { RefusalAt text.now refusal }
-    ensures { IsStreamFault text.now result }
+    ensures stream { IsStreamFault text.now result }
+    ensures told { FaultAt text.now refusal result }
 {
     let Ok(table) = LineTable::build(alloc, text) else {
         return Fault::Memory;
@@ -68,30 +73,28 @@ fn fault_at(alloc: Global, text: &str, refusal: Refusal) -> Fault
         Refusal::TooDeep(offset) => Fault::TooDeep {
             place: table.place(offset),
         },
-        Refusal::Breach(Breach { offset, kind }) => match kind {
-            Kind::UnknownHandle => Fault::UnknownHandle {
-                place: place_of(&table, text, offset),
-            },
-            Kind::UnknownAlias => Fault::UnknownAlias {
-                place: place_of(&table, text, offset),
-            },
-            Kind::RepeatedDirective => Fault::RepeatedDirective {
-                place: table.place(offset),
-            },
-            Kind::BadVersion => Fault::BadVersion {
-                place: table.place(offset),
-            },
-            Kind::EscapeValue => Fault::EscapeValue {
-                place: table.place(offset),
-            },
-        },
+        Refusal::Breach(breach) => fault_of(breach, place_of(&table, text, breach.offset)),
     }
 }
 
-// The place of a tag or an alias. Its offset stands between characters; that is not proved, so it is tested.
+// The fault that tells of a breach.
+fn fault_of(breach: Breach, place: Place) -> Fault
+    ensures { result ≡ StreamReader.fault_of breach.kind place }
+{
+    match breach.kind {
+        Kind::UnknownHandle => Fault::UnknownHandle { place },
+        Kind::UnknownAlias => Fault::UnknownAlias { place },
+        Kind::RepeatedDirective => Fault::RepeatedDirective { place },
+        Kind::BadVersion => Fault::BadVersion { place },
+        Kind::EscapeValue => Fault::EscapeValue { place },
+    }
+}
+
+// The place of a breach. Its offset stands between characters; of a tag and an alias that is not proved, so it is tested.
 fn place_of(table: &LineTable, text: &str, offset: usize) -> Place
     requires { table.now.text ≡ text.now }
-    ensures { InText text.now result }
+    ensures within { InText text.now result }
+    ensures place { IsCharBoundary text.now offset → IsPlaceOf text.now offset result }
 {
     if text.is_char_boundary(offset) {
         return table.place(offset);
@@ -118,7 +121,8 @@ fn noted_lists<'a>(
 ) -> Result<Result<Lists<'a>, Refusal>, AllocError>
     requires escapes { All (IsCharBoundary text.now) parts.part.escapes }
     requires documents { DocumentsAt text.now parts.documents }
-    ensures { IfOk result (λ r. MatchResult r (λ lists. Fits lists) (λ refusal. RefusalAt text.now refusal)) }
+    ensures noted { IfOk result (λ r. NotedOr text.now parts.entry r) }
+    ensures refusal { IfOk result (λ r. MatchResult r (λ lists. Fits lists) (λ refusal. RefusalAt text.now refusal)) }
 {
     let Parts {
         part: Part {
@@ -128,9 +132,10 @@ fn noted_lists<'a>(
         },
         documents,
     } = parts;
-    let Resolved { tags, first } = resolve(alloc, text, &events, &documents, &escapes)?;
-    if let Some(breach) = first {
-        return Ok(Err(Refusal::Breach(breach)));
+    let Resolved { tags, first } = resolve(alloc, &events, &documents, &escapes)?;
+    match first {
+        Some(breach) => return Ok(Err(Refusal::Breach(breach))),
+        None => {}
     }
     let on_leaf_line = on_leaf_lines(alloc, text, &events, &comments)?;
     Ok(Ok(Lists {

@@ -3,7 +3,7 @@ use Rattle.std.specs.Str.{IsCharBoundary}
 use Rattle.yf_chars.proofs.TextLemmas.{next-mark, reads_real, within_from_code}
 use Rattle.yf_stream.proofs.Forward.{line_end_forward}
 use Rattle.yf_stream.proofs.PrefixLemmas.{no_row, prefix_begins, prefix_lines, prefix_mark, prefix_settled}
-use Rattle.yf_stream.proofs.documents.skip_prefix.Goals as goal
+use Rattle.yf_stream.proofs.between.skip_prefix.Goals as goal
 
 pub lines-init : goal.lines-init
 lines-init c = record { read = prefix_begins _ _; place = record { boundary = c.requires; order = omega arith }; escapes = refl; documents = refl }

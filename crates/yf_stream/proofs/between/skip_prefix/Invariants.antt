@@ -1,7 +1,7 @@
 use Rattle.std.proofs.Common.{◌≡◌, ◌-◌, length}
 use Rattle.yf_stream.specs.DocumentReaders.{PrefixUpto}
 use Rattle.yf_stream.specs.Walk.{Place}
-use Rattle.yf_stream.proofs.documents.skip_prefix.Given as goal
+use Rattle.yf_stream.proofs.between.skip_prefix.Given as goal
 
 abbrev pub invariant-lines : goal.invariant-lines
 invariant-lines l = record {
