@@ -1,16 +1,17 @@
 -- Where the content of a node was derived to begin is where it is found by the bytes of its properties and of what separates it from them.
-use Rattle.std.proofs.Common.{◌≡◌, ◌≢◌, ℕ, ℤ, ◌+◌, ◌-◌, ◌<◌, ◌≤◌, Bool, true, false, List, length, drop, get_or, Some, refl, sym, ap, ◌∙◌, arith}
+use Rattle.std.proofs.Common.{◌≡◌, ◌≢◌, ℕ, ℤ, ◌+◌, ◌-◌, ◌<◌, ◌≤◌, Bool, true, false, List, length, drop, get_or, Some, refl, sym, ap, ◌∙◌, subst, ⊎_elim, arith}
 use Rattle.std.specs.Prelude.{◌==◌, if◌then◌else◌, slice_range}
 use Rattle.std.specs.Str.{IsUtf8}
-use Rattle.std.proofs.lemmas.Bool.{ne_eqb}
+use Rattle.std.proofs.lemmas.Bool.{cases_lt, ne_eqb}
 use Rattle.std.proofs.lemmas.Bool.Decides.{nat_tests}
 use Rattle.std.proofs.lemmas.List.{length-drop, length-take}
 use Rattle.yf_chars.specs.declared.context.Ctx.{Ctx}
+use Rattle.yf_chars.specs.Class.{is_between, is_break_char, is_nb_char, is_ns_char, is_printable, is_white}
 use Rattle.yf_chars.specs.Text.{code}
-use Rattle.yf_chars.proofs.TextLemmas.{byte_from_code, within_from_code}
+use Rattle.yf_chars.proofs.TextLemmas.{byte_from_code, reads_real}
 use Rattle.yf_comments.specs.Comment.{CommentValue}
 use Rattle.yf_comments.specs.Comments.{Separate}
-use Rattle.yf_props.specs.Names.{Anchor, Handle, TagProperty}
+use Rattle.yf_props.specs.Names.{Anchor, Handle, Properties, PropertiesValue, TagProperty}
 use Rattle.yf_props.specs.Names.Anchor.{ampersand_name}
 use Rattle.yf_props.specs.Names.Handle.{named_handle, primary_handle, secondary_handle}
 use Rattle.yf_props.specs.Names.Properties.{anchor_first, by_anchor, by_tag, tag_first}
@@ -19,59 +20,54 @@ use Rattle.yf_props.specs.Names.TagProperty.{non_specific_tag, shorthand_tag, ve
 use Rattle.yf_props.specs.Names.VerbatimTag.{in_brackets}
 use Rattle.yf_props.specs.Props.{PropsValue, TagValue, no_props}
 use Rattle.yf_props.proofs.SeparationEnds.{separate_forward}
-use Rattle.yf_grammar.specs.Parser.{begins_content}
+use Rattle.yf_grammar.specs.Parser.{begins_content, begins_properties}
+use Rattle.yf_grammar.proofs.GapLemmas.{Visible}
 use Rattle.yf_grammar.proofs.NodePlaces.{ContentFrom, content_alone, content_behind}
+use Rattle.yf_grammar.proofs.PlacedLeaves.{content_visible, properties_visible}
+use Rattle.yf_emit.specs.ContentLaws.{ContentStartsAreFound}
 use Rattle.yf_emit.specs.ContentStart.{anchor_len, content_start, past_gap, past_second, property_len, tag_len, written_len}
 use Rattle.yf_emit.proofs.GapLemmas.{gap_none, gap_over, past_gap_is}
 use Rattle.yf_emit.proofs.GapPasses.{gap_left, separate_pass}
+use Rattle.yf_emit.proofs.HighBytes.{high_there}
 
--- A character with which no gap goes on.
+-- A byte with which no gap goes on.
 
-record Stops (c : ℕ) : Type 0 where
-  low : c < 128
-  no_feed : c ≢ 10
-  no_return : c ≢ 13
-  no_space : c ≢ 32
-  no_tab : c ≢ 9
-  no_sign : c ≢ 35
+record Stops (t : List ℕ) (k : ℕ) : Type 0 where
+  within : k < length t
+  above : 32 < get_or t k 0
+  no_sign : get_or t k 0 ≢ 35
 
-content_below : (c : ℕ) → begins_content c ≡ true → 33 < c
-unfolding begins_content
-content_below c e = grind (arith, nat_tests)
+ns_above : (c : ℕ) → is_ns_char c ≡ true → 32 < c
+unfolding is_ns_char is_nb_char is_printable is_between is_break_char is_white
+ns_above c e = grind (arith, nat_tests)
 
-content_low : (c : ℕ) → begins_content c ≡ true → c < 128
-unfolding begins_content
-content_low c e = grind (arith, nat_tests)
+ns_real : (c : ℕ) → is_ns_char c ≡ true → c < 0x110000
+unfolding is_ns_char is_nb_char is_printable is_between is_break_char is_white
+ns_real c e = grind (arith, nat_tests)
 
-content_no_sign : (c : ℕ) → begins_content c ≡ true → c ≢ 35
-unfolding begins_content
-content_no_sign c e q = grind (arith, nat_tests)
+visible_stops : {t : List ℕ} (k : ℕ) → IsUtf8 t → Visible t k → Stops t k
+visible_stops {t} k u v = ⊎_elim
+    (λ (l : code t k < 128).
+    let byte = byte_from_code t k u l in
+    let above = ns_above (code t k) v.ns in
+    record { within = byte.0; above = (let same = byte.1 in omega (arith, same, above)); no_sign = λ q. v.no_hash (sym byte.1 ∙ q) })
+    (λ (l : 128 ≤ code t k).
+    let r = reads_real t k u (ns_real (code t k) v.ns) in
+    let high : 128 ≤ get_or t k 0 = subst (λ z. 128 ≤ get_or t z 0) (omega arith) (high_there r l 0 (let later = r.later in omega (arith, later))) in
+    record { within = (let later = r.later in let end = r.within in omega (arith, later, end)); above = omega (arith, high); no_sign = λ q. absurd (omega (arith, high, q)) })
+    (cases_lt (code t k) 128)
 
 content_no_anchor : (c : ℕ) → begins_content c ≡ true → c ≢ 38
 unfolding begins_content
 content_no_anchor c e q = grind (arith, nat_tests)
 
-content_stops : (c : ℕ) → begins_content c ≡ true → Stops c
-content_stops c e =
-    let l = content_below c e in
-    record {
-      low = content_low c e;
-      no_feed = λ q. absurd (omega (arith, l, q));
-      no_return = λ q. absurd (omega (arith, l, q));
-      no_space = λ q. absurd (omega (arith, l, q));
-      no_tab = λ q. absurd (omega (arith, l, q));
-      no_sign = content_no_sign c e;
-    }
+content_no_tag : (c : ℕ) → begins_content c ≡ true → c ≢ 33
+unfolding begins_content
+content_no_tag c e q = grind (arith, nat_tests)
 
-sign_stops : (c d : ℕ) → c ≡ d → d < 128 → 32 < d → d ≢ 35 → Stops c
-sign_stops c d e l m n = record {
-  low = omega (arith, e, l);
-  no_feed = λ q. absurd (omega (arith, e, m, q));
-  no_return = λ q. absurd (omega (arith, e, m, q));
-  no_space = λ q. absurd (omega (arith, e, m, q));
-  no_tab = λ q. absurd (omega (arith, e, m, q));
-  no_sign = λ q. n (sym e ∙ q);
-}
+signs_begin : (begins_properties 38 ≡ true) × (begins_properties 33 ≡ true)
+unfolding begins_properties
+signs_begin = (refl, refl)
 
 -- How many bytes a property has.
 
@@ -122,12 +118,10 @@ property_is : (t : List ℕ) (i j : ℕ) (props : PropsValue) → (i + written_l
 unfolding property_len
 property_is t i j props w l = let same = w.0 in let later = w.1 in omega (arith, same, later, l)
 
-no_property : (t : List ℕ) (i : ℕ) (props : PropsValue) → begins_content (code t i) ≡ true → property_len t i props ≡ 0
+no_property : (t : List ℕ) (i : ℕ) (props : PropsValue) → code t i ≢ 38 → code t i ≢ 33 → property_len t i props ≡ 0
 unfolding property_len
-no_property t i props e =
-    let low = content_below (code t i) e in
-    let none : written_len (code t i) props ≡ 0 =
-    rw (ne_eqb (code t i) 38 (content_no_anchor (code t i) e), ne_eqb (code t i) 33 (λ q. absurd (omega (arith, low, q)))) refl in
+no_property t i props e f =
+    let none : written_len (code t i) props ≡ 0 = rw (ne_eqb (code t i) 38 e, ne_eqb (code t i) 33 f) refl in
     omega (arith, none)
 
 nothing_written : (t : List ℕ) (i : ℕ) → property_len t i no_props ≡ 0
@@ -162,50 +156,65 @@ unfolding past_second
 behind_second t h b g k props e l p = rw (ne_eqb (property_len t h props) 0 (λ q. absurd (omega (arith, e, l, q)))) (ap (λ z. past_gap t z b) e ∙ p)
 
 module _ {t : List ℕ} (u : IsUtf8 t) where
-  gap_to : {n : ℤ} {c : Ctx} {g k : ℕ} {cs : List CommentValue} (b : ℕ) → Separate t n c g k cs → Stops (code t k) → k < b → past_gap t g b ≡ k
+  gap_to : {n : ℤ} {c : Ctx} {g k : ℕ} {cs : List CommentValue} (b : ℕ) → Separate t n c g k cs → Stops t k → k < b → past_gap t g b ≡ k
   gap_to {g = g} {k = k} b s stops l =
-      let byte = byte_from_code t k u stops.low in
-      let within = byte.0 in
+      let within = stops.within in
+      let above = stops.above in
       let m : ℕ = g + gap_left t b g false in
       let here : m ≡ k + gap_left t b k false = separate_pass u b k l within s (omega arith) m refl in
       let none : (bs : List ℕ) → _ =
-      λ (bs : List ℕ). gap_none false (get_or t k 0) bs (λ q. stops.no_feed (sym byte.1 ∙ q)) (λ q. stops.no_return (sym byte.1 ∙ q)) refl
-      (λ q. stops.no_space (sym byte.1 ∙ q)) (λ q. stops.no_tab (sym byte.1 ∙ q)) (λ q. stops.no_sign (sym byte.1 ∙ q)) in
+      λ (bs : List ℕ). gap_none false (get_or t k 0) bs (λ q. absurd (omega (arith, above, q))) (λ q. absurd (omega (arith, above, q))) refl
+      (λ q. absurd (omega (arith, above, q))) (λ q. absurd (omega (arith, above, q))) stops.no_sign in
       sym (past_gap_is t g b k (sym (gap_over t b k m false (omega (arith, l, within)) here none)))
+
+  sign_stops : (i : ℕ) (d : ℕ) → code t i ≡ d → begins_properties d ≡ true → Stops t i
+  sign_stops i d e f = visible_stops i u (properties_visible (ap begins_properties e ∙ f))
+
+  -- behind one property and behind two
+  behind_properties : {n : ℤ} {c : Ctx} {a g k : ℕ} {p : PropertiesValue} {cs : List CommentValue} (b : ℕ) → Properties t n c a g p → Separate t n c g k cs → Visible t k
+      → code t k ≢ 38 → code t k ≢ 33 → k < b → content_start t (record { start = a; end = b }) p.props ≡ k
+  behind_properties {a = a} {g = g} {k = k} {p = p} b (by_tag x) s v e f l =
+      let stops = visible_stops k u v in
+      let within = stops.within in
+      let d = separate_forward s in
+      let size = tag_written p.props x refl (omega (arith, within, d)) in
+      behind_first t a b g k p.props (property_is t a g p.props size (omega (arith, within, d))) size.1 (gap_to b s stops l)
+      ∙ second_none t k b p.props (no_property t k p.props e f)
+  behind_properties {a = a} {g = g} {k = k} {p = p} b (by_anchor x) s v e f l =
+      let stops = visible_stops k u v in
+      let within = stops.within in
+      let d = separate_forward s in
+      let size = anchor_written p.props x refl (omega (arith, within, d)) in
+      behind_first t a b g k p.props (property_is t a g p.props size (omega (arith, within, d))) size.1 (gap_to b s stops l)
+      ∙ second_none t k b p.props (no_property t k p.props e f)
+  behind_properties {a = a} {g = g} {k = k} {p = p} b (tag_first {h = h} {k = o} x r y) s v e f l =
+      let stops = visible_stops k u v in
+      let within = stops.within in
+      let d = separate_forward s in
+      let m = separate_forward r in
+      let last = anchor_written p.props y refl (omega (arith, within, d)) in
+      let later = last.1 in
+      let first = tag_written p.props x refl (omega (arith, within, d, m, later)) in
+      behind_first t a b h o p.props (property_is t a h p.props first (omega (arith, within, d, m, later))) first.1
+      (gap_to b r (sign_stops o 38 (anchor_sign y) signs_begin.0) (omega (arith, l, d, later)))
+      ∙ behind_second t o b g k p.props (property_is t o g p.props last (omega (arith, within, d))) last.1 (gap_to b s stops l)
+  behind_properties {a = a} {g = g} {k = k} {p = p} b (anchor_first {h = h} {k = o} x r y) s v e f l =
+      let stops = visible_stops k u v in
+      let within = stops.within in
+      let d = separate_forward s in
+      let m = separate_forward r in
+      let last = tag_written p.props y refl (omega (arith, within, d)) in
+      let later = last.1 in
+      let first = anchor_written p.props x refl (omega (arith, within, d, m, later)) in
+      let sign = (tag_size y (omega (arith, within, d))).sign in
+      behind_first t a b h o p.props (property_is t a h p.props first (omega (arith, within, d, m, later))) first.1
+      (gap_to b r (sign_stops o 33 sign signs_begin.1) (omega (arith, l, d, later)))
+      ∙ behind_second t o b g k p.props (property_is t o g p.props last (omega (arith, within, d))) last.1 (gap_to b s stops l)
 
   -- the place where content begins is the one that is found
   pub content_found : {a k : ℕ} {props : PropsValue} (b : ℕ) → ContentFrom t props a k → k < b → content_start t (record { start = a; end = b }) props ≡ k
   content_found {a = a} b content_alone l = behind_none t a b no_props (nothing_written t a)
-  content_found {a = a} {k = k} b (content_behind {g = g} {p = p} (by_tag x) s e) l =
-      let within = within_from_code t k (let low = content_low (code t k) e in omega (arith, low)) in
-      let f = separate_forward s in
-      let size = tag_written p.props x refl (omega (arith, within, f)) in
-      behind_first t a b g k p.props (property_is t a g p.props size (omega (arith, within, f))) size.1 (gap_to b s (content_stops (code t k) e) l)
-      ∙ second_none t k b p.props (no_property t k p.props e)
-  content_found {a = a} {k = k} b (content_behind {g = g} {p = p} (by_anchor x) s e) l =
-      let within = within_from_code t k (let low = content_low (code t k) e in omega (arith, low)) in
-      let f = separate_forward s in
-      let size = anchor_written p.props x refl (omega (arith, within, f)) in
-      behind_first t a b g k p.props (property_is t a g p.props size (omega (arith, within, f))) size.1 (gap_to b s (content_stops (code t k) e) l)
-      ∙ second_none t k b p.props (no_property t k p.props e)
-  content_found {a = a} {k = k} b (content_behind {g = g} {p = p} (tag_first {h = h} {k = o} x r y) s e) l =
-      let within = within_from_code t k (let low = content_low (code t k) e in omega (arith, low)) in
-      let f = separate_forward s in
-      let d = separate_forward r in
-      let last = anchor_written p.props y refl (omega (arith, within, f)) in
-      let later = last.1 in
-      let first = tag_written p.props x refl (omega (arith, within, f, d, later)) in
-      behind_first t a b h o p.props (property_is t a h p.props first (omega (arith, within, f, d, later))) first.1
-      (gap_to b r (sign_stops (code t o) 38 (anchor_sign y) (omega arith) (omega arith) (λ q. absurd (omega (arith, q)))) (omega (arith, l, f, later)))
-      ∙ behind_second t o b g k p.props (property_is t o g p.props last (omega (arith, within, f))) last.1 (gap_to b s (content_stops (code t k) e) l)
-  content_found {a = a} {k = k} b (content_behind {g = g} {p = p} (anchor_first {h = h} {k = o} x r y) s e) l =
-      let within = within_from_code t k (let low = content_low (code t k) e in omega (arith, low)) in
-      let f = separate_forward s in
-      let d = separate_forward r in
-      let last = tag_written p.props y refl (omega (arith, within, f)) in
-      let later = last.1 in
-      let first = anchor_written p.props x refl (omega (arith, within, f, d, later)) in
-      let sign = (tag_size y (omega (arith, within, f))).sign in
-      behind_first t a b h o p.props (property_is t a h p.props first (omega (arith, within, f, d, later))) first.1
-      (gap_to b r (sign_stops (code t o) 33 sign (omega arith) (omega arith) (λ q. absurd (omega (arith, q)))) (omega (arith, l, f, later)))
-      ∙ behind_second t o b g k p.props (property_is t o g p.props last (omega (arith, within, f))) last.1 (gap_to b s (content_stops (code t k) e) l)
+  content_found {k = k} b (content_behind p s e) l = behind_properties b p s (content_visible e) (content_no_anchor (code t k) e) (content_no_tag (code t k) e) l
+
+pub content_starts_are_found : ContentStartsAreFound
+content_starts_are_found t n c a g k b p cs u props s v h e f l = behind_properties u b props s (record { ns = v; no_hash = h }) e f l

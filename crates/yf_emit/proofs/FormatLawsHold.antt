@@ -1,11 +1,10 @@
 -- Formatting a text that has a reading gives one text, which has a reading.
-use Rattle.std.proofs.Common.{◌≡◌, List, ℕ, map, length, refl, sym, ◌∙◌, subst}
+use Rattle.std.proofs.Common.{◌≡◌, List, map, refl, sym, ◌∙◌, subst}
 use Rattle.std.proofs.lemmas.List.{length-map}
 use Rattle.yf_events.specs.Tree.{DocumentTree, flat_stream}
 use Rattle.yf_events.specs.declared.lists.Lists.{Lists}
 use Rattle.yf_stream.proofs.HasReading.{well_formed_texts_have_readings}
 use Rattle.yf_stream.proofs.LawsHold.{readings_are_one}
-use Rattle.yf_emit.specs.declared.style.Style.{Style}
 use Rattle.yf_emit.specs.FormatLaws.{FormatsAreAccepted, FormatsAreOne, FormatsExist}
 use Rattle.yf_emit.specs.Layout.{Writes}
 use Rattle.yf_emit.specs.Normal.{Normal, normal_document, setting_of}

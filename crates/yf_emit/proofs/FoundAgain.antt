@@ -13,7 +13,6 @@ use Rattle.yf_grammar.specs.Part.{Noting, no_event, without_entry, with_entry}
 use Rattle.yf_grammar.proofs.CommentOrder.{Ascend, no_more, one_more}
 use Rattle.yf_stream.specs.NodeLaws.{IsVisibleAt}
 use Rattle.yf_stream.specs.ReadingOf.{NotedComments, no_comment, one_comment, ReadingOf}
-use Rattle.yf_stream.specs.Stream.{Documents}
 use Rattle.yf_stream.proofs.NodeLawsHold.{nodes_of_readings_begin_visibly}
 use Rattle.yf_stream.proofs.ReadingOrder.{stream_ascends}
 use Rattle.yf_emit.specs.declared.style.Style.{Style}
@@ -21,7 +20,7 @@ use Rattle.yf_emit.specs.Decorated.{rows_of}
 use Rattle.yf_emit.specs.Format.{Formats}
 use Rattle.yf_emit.specs.Steps.{Step, steps_of, told}
 use Rattle.yf_emit.proofs.FormatsRead.{formats_laid}
-use Rattle.yf_emit.proofs.StartsBefore.{Later, none_later, one_later, starts_before, none_before, one_before}
+use Rattle.yf_emit.proofs.StartsBefore.{AllFrom, none_later, one_later, starts_before, none_before, one_before}
 use Rattle.yf_emit.proofs.StepsStand.{Stand, nothing_stands, leaf_stands, comment_stands}
 use Rattle.yf_emit.proofs.StreamsMade.{DocumentsLaid}
 
@@ -31,7 +30,7 @@ data LaterComments : ℕ → List CommentValue → Type 0 where
   none_from : {o : ℕ} → LaterComments o []
   one_from : {o : ℕ} {c : CommentValue} {cs : List CommentValue} → o ≤ c.offset → LaterComments o cs → LaterComments o (c ∷ cs)
 
-stand_later : {i j : ℕ} {ss : List ℕ} {cs : List CommentValue} {steps : List Step} (o : ℕ) → o ≤ i → Stand i ss cs steps j → Later o ss
+stand_later : {i j : ℕ} {ss : List ℕ} {cs : List CommentValue} {steps : List Step} (o : ℕ) → o ≤ i → Stand i ss cs steps j → AllFrom o ss
 stand_later o l (nothing_stands m) = none_later
 stand_later o l (leaf_stands m a) = one_later (omega (arith, l, m)) (stand_later o (omega (arith, l, m)) a)
 stand_later o l (comment_stands m a) = stand_later o (omega (arith, l, m)) a

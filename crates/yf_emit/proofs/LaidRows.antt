@@ -1,5 +1,5 @@
 -- Steps of rows with what they carry, and what is laid out on one row.
-use Rattle.std.proofs.Common.{◌≡◌, ℕ, suc, List, [], ◌∷◌, ◌++◌, length, Option, Some, None, refl, sym, ap, ◌∙◌, subst, arith, append_assoc, append-nil}
+use Rattle.std.proofs.Common.{◌≡◌, ℕ, suc, List, [], ◌∷◌, ◌++◌, length, refl, sym, ap, ◌∙◌, subst, arith, append_assoc, append-nil}
 use Rattle.std.proofs.lemmas.List.{map-append}
 use Rattle.yf_comments.specs.Comment.{CommentValue}
 use Rattle.yf_comments.proofs.GapLinesLemmas.{texts}

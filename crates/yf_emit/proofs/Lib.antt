@@ -129,6 +129,10 @@ pub mod HighBytes
 pub mod StartsBefore
 pub mod FoundAgain
 pub mod PrintedSteps
+pub mod CommentsCut
+pub mod CommentsTold
+pub mod TrailFirst
+pub mod RowFlow
 pub mod KeyTrails
 pub mod KeysBegin
 pub mod LayoutHolds

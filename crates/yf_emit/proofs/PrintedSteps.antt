@@ -1,7 +1,7 @@
 -- What is told of the comments that a layout prints, where each row cuts those that are left into the ones before it, those that trail it,
 -- and the rest.
-use Rattle.std.proofs.Common.{◌≡◌, ℕ, suc, ◌+◌, ◌<◌, ◌≤◌, Bool, true, false, List, [], ◌∷◌, ◌++◌, length, map, refl, sym, ap, ◌∙◌, subst, arith, add-zero, append_assoc, append-nil}
-use Rattle.std.specs.Prelude.{not, ◌&&◌, filter}
+use Rattle.std.proofs.Common.{◌≡◌, ℕ, suc, ◌+◌, Bool, true, false, List, [], ◌∷◌, ◌++◌, length, map, refl, sym, ap, ◌∙◌, subst, arith, add-zero, append_assoc, append-nil}
+use Rattle.std.specs.Prelude.{◌&&◌, filter}
 use Rattle.std.proofs.lemmas.List.{map-append}
 use Rattle.yf_comments.specs.Comment.{CommentValue}
 use Rattle.yf_comments.specs.GapLines.{GapLine, remarks_of}
@@ -9,9 +9,9 @@ use Rattle.yf_events.specs.declared.event.Span.{Span}
 use Rattle.yf_emit.specs.Decorated.{blank_if, comments_left, decos_of, ending_behind, gap_of, remarks_behind}
 use Rattle.yf_emit.specs.Layout.{Source, may_be_blank_behind, precedes_item, trailing, trimmed}
 use Rattle.yf_emit.specs.Rows.{Row, Ending, anywhere}
-use Rattle.yf_emit.specs.Steps.{Step, a_leaf, a_comment, comment_steps, leaf_steps, steps_in, told}
+use Rattle.yf_emit.specs.Steps.{Step, a_comment, comment_steps, leaf_steps, steps_in, told}
 use Rattle.yf_emit.proofs.RowLeaves.{leaves_on}
-use Rattle.yf_emit.proofs.StartsBefore.{Later, Earlier, starts_before, none_before, all_before}
+use Rattle.yf_emit.proofs.StartsBefore.{AllFrom, AllBelow, starts_before, none_before, all_before}
 use Rattle.yf_emit.proofs.StepsStand.{starts_of}
 
 abbrev pub trimmed_texts : List CommentValue → List (List ℕ)
@@ -86,11 +86,11 @@ told_leaves n (l ∷ ls) rest =
 -- each of these comments stands before these places, or after them
 pub data AllLater : List CommentValue → List ℕ → Type 0 where
   no_later : {ss : List ℕ} → AllLater [] ss
-  more_later : {d : CommentValue} {ds : List CommentValue} {ss : List ℕ} → Later d.offset ss → AllLater ds ss → AllLater (d ∷ ds) ss
+  more_later : {d : CommentValue} {ds : List CommentValue} {ss : List ℕ} → AllFrom d.offset ss → AllLater ds ss → AllLater (d ∷ ds) ss
 
 pub data AllEarlier : List CommentValue → List ℕ → Type 0 where
   no_earlier : {ss : List ℕ} → AllEarlier [] ss
-  more_earlier : {d : CommentValue} {ds : List CommentValue} {ss : List ℕ} → Earlier d.offset ss → AllEarlier ds ss → AllEarlier (d ∷ ds) ss
+  more_earlier : {d : CommentValue} {ds : List CommentValue} {ss : List ℕ} → AllBelow d.offset ss → AllEarlier ds ss → AllEarlier (d ∷ ds) ss
 
 later_told : {ds : List CommentValue} {ss : List ℕ} (n : ℕ) → AllLater ds ss → each_at n (trimmed_texts ds) ≡ trimmed_by (λ o. n + starts_before ss o) ds
 later_told n no_later = refl

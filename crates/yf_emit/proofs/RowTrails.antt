@@ -66,7 +66,7 @@ pub record Tidy (cs : List CommentValue) (row : Row) (post : List Span) : Type 0
   pub still : Still cs row.leaves
   pub key : (d : CommentValue) → row.key_comment ≡ Some d → IsRemark (trimmed d.text) × KeyLast cs d row.leaves post
 
-abbrev trail_of : Source → Span → List CommentValue
+abbrev pub trail_of : Source → Span → List CommentValue
 trail_of c s = trailing_leaf c s (first_comment c s)
 
 abbrev texts_of : List CommentValue → List (List ℕ)
@@ -80,7 +80,7 @@ module _ (c : Source) (cs : List CommentValue) (bs : List Bool) (remarks : c.rem
       ap (λ w. find (λ (q : Remark). nat_lt s.start q.0.offset && is_before q.0.offset (next_leaf c.leaves s.start)) w) remarks
       ∙ ap (λ o. find (λ (q : Remark). nat_lt s.start q.0.offset && is_before q.0.offset o) (zip cs bs)) next
 
-  silent : (pre : List Span) (s r : Span) (ys : List Span) → c.leaves ≡ pre ++ (s ∷ r ∷ ys) → find (between s.start r.start) cs ≡ None → trail_of c s ≡ []
+  pub silent : (pre : List Span) (s r : Span) (ys : List Span) → c.leaves ≡ pre ++ (s ∷ r ∷ ys) → find (between s.start r.start) cs ≡ None → trail_of c s ≡ []
   silent pre s r ys e n = ap (trailing_leaf c s) (first_before pre s r ys e ∙ noted_none (between s.start r.start) cs bs n)
 
   one_trail : (s : Span) → AreRemarks cs → AreTrails (texts_of (trail_of c s ++ []))

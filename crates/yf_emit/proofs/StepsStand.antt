@@ -57,6 +57,9 @@ comments_stand {i = i} {j = j} {cs = cs} a e = subst (λ w. Stand i [] cs (comme
 abbrev pub starts_of : List Span → List ℕ
 starts_of ss = map (λ (s : Span). s.start) ss
 
+pub starts_append : (xs ys : List Span) → starts_of (xs ++ ys) ≡ starts_of xs ++ starts_of ys
+starts_append xs ys = map-append (λ (s : Span). s.start) xs ys
+
 leaves_join : {i k j : ℕ} (xs ys : List Span) → Stand i (starts_of xs) [] (leaf_steps xs) k → Stand k (starts_of ys) [] (leaf_steps ys) j
     → Stand i (starts_of (xs ++ ys)) [] (leaf_steps (xs ++ ys)) j
 leaves_join {i} {k} {j} xs ys a b =

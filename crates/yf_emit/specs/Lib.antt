@@ -2,6 +2,7 @@ pub mod Begins
 pub mod BlockLines
 pub mod BlockValues
 pub mod Carried
+pub mod ContentLaws
 pub mod ContentStart
 pub mod Deciding
 pub mod FitDocuments

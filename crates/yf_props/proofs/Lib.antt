@@ -5,6 +5,7 @@ pub mod NameLemmas
 pub mod NameOrder
 -- tags: `tag_handle`, `tag_prefix` and the tag of a node
 pub mod TagLemmas
+pub mod LongestTags
 pub mod SolidLemmas
 -- `node_properties` and `read_props`
 pub mod PropertiesLemmas

@@ -99,7 +99,8 @@ fn skip_chars(s: &str, at: usize, class: Chars) -> usize
 /// Reads the handle of a TAG directive (c-tag-handle, production 89), as long as its characters go, and gives the byte offset
 /// after it.
 pub fn tag_handle(s: &str, at: usize) -> Option<usize>
-    ensures reads { IfSome result (λ j. Handle s.now at j) }
+    ensures reads { MatchOption result ((j : ℕ) → Handle s.now at j → ⊥) (λ j. Handle s.now at j) }
+    ensures longest { IfSome result (λ j. (k : ℕ) → Handle s.now at k → k ≤ j) }
     ensures boundary { IfSome result (λ j. IsCharBoundary s.now j) }
     ensures order { IfSome result (λ j. at < j) }
 {
@@ -117,7 +118,7 @@ pub fn tag_handle(s: &str, at: usize) -> Option<usize>
 /// offset after it.
 pub fn tag_prefix(s: &str, at: usize) -> Option<usize>
     requires { IsCharBoundary s.now at }
-    ensures reads { MatchOption result (Stuck (TagPrefix s.now at)) (λ j. (x : List ℕ) × TagPrefix s.now at j x) }
+    ensures reads { MatchOption result (Stuck (TagPrefix s.now at)) (λ j. (x : List ℕ) × Chosen (TagPrefix s.now at) j x) }
     ensures boundary { IfSome result (λ j. IsCharBoundary s.now j) }
     ensures order { IfSome result (λ j. at < j) }
 {

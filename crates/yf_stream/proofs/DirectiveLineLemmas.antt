@@ -1,5 +1,5 @@
 -- Directives, as a reader finds them: each up to the end of its line, with all comment lines after it.
-use Rattle.std.proofs.Common.{◌≡◌, ◌≢◌, ℕ, ◌+◌, ◌≤◌, List, [], ◌∷◌, ◌++◌, slice_range, codes, false, refl, sym, ap, ◌∙◌, subst, arith, append_assoc, append-nil}
+use Rattle.std.proofs.Common.{◌≡◌, ◌≢◌, ℕ, ◌+◌, ◌≤◌, List, [], ◌∷◌, ◌++◌, slice_range, false, refl, sym, ap, ◌∙◌, subst, arith, append_assoc, append-nil}
 use Rattle.std.proofs.lemmas.List.Elements.{All-append, All-cons, All-nil}
 use Rattle.std.proofs.lemmas.Bool.{true_from_ne_false}
 use Rattle.std.specs.List.{All}
@@ -17,12 +17,13 @@ use Rattle.yf_grammar.proofs.BlankRuns.{Behind}
 use Rattle.yf_props.specs.Names.{Run}
 use Rattle.yf_props.proofs.NameLemmas.{run_unique}
 use Rattle.yf_events.specs.declared.directive.Directive.{Directive}
-use Rattle.yf_stream.specs.DirectiveReaders.{DirectivesEnd, DirectivesUpto, IsDirective, LongestDirectives, no_directives, one_directive, NoDirective, NoWords, WordsRead}
+use Rattle.yf_stream.specs.DirectiveReaders.{DirectivesEnd, DirectivesUpto, IsDirective, LongestDirectives, no_directives, one_directive, WordsRead}
 use Rattle.yf_stream.specs.RefusalPlaces.{DirectivesAt}
 use Rattle.yf_stream.specs.Stream.{Directives, Parameters, ReservedParameter}
 use Rattle.yf_stream.specs.Stream.Parameters.{version_parameter, tag_parameters, reserved_parameters}
 use Rattle.yf_stream.proofs.DirectiveWords.{no_run}
-use Rattle.yf_stream.proofs.OneDirective.{no_end_before, parameters_one, reserved_functional, run_behind, version_one, words_behind}
+use Rattle.yf_stream.proofs.OneDirective.{no_end_before, parameters_one, reserved_functional, run_behind, version_one, words_behind, yaml_no_tag}
+use Rattle.yf_stream.proofs.OneTag.{tag_end}
 
 module _ {t : List ℕ} (u : IsUtf8 t) where
   -- of words that end before the end of a line none are left
@@ -37,16 +38,17 @@ module _ {t : List ℕ} (u : IsUtf8 t) where
     go (goes_on z r q) = let f = chain_forward (reserved_functional u) r in omega arith
     go (falls_short z r q) = stays (words_behind u d h) e r
 
-  parameters_end : {name : List ℕ} {i j k n : ℕ} {x y : List (List ℕ)} {b : List CommentValue} → Behind t i → name ≢ codes "TAG" → Chosen (Parameters t name i) j x
+  parameters_end : {name : List ℕ} {i j k n : ℕ} {x y : List (List ℕ)} {b : List CommentValue} → Behind t i → Chosen (Parameters t name i) j x
       → Parameters t name i k y → LineEnd t k n b → k ≡ j
-  parameters_end {name} {i} {j} {k} {n} {x} {y} {b} h f c p e = go c.derived p (c.longest k y p) where
+  parameters_end {name} {i} {j} {k} {n} {x} {y} {b} h c p e = go c.derived p (c.longest k y p) where
     go : {x y : List (List ℕ)} → Parameters t name i j x → Parameters t name i k y → k ≤ j → k ≡ j
     go (version_parameter q s a v z) (version_parameter r o d w g) l = (version_one u o d g s a z).1
     go (version_parameter q s a v z) (reserved_parameters r o d) l = absurd (r q)
+    go (version_parameter q s a v z) (tag_parameters r o d w g) l = absurd (yaml_no_tag (sym q ∙ r))
     go (reserved_parameters q o d) (version_parameter r s a v z) l = absurd (q r)
     go (reserved_parameters q o d) (reserved_parameters r s g) l = words_end h d g l e
-    go (tag_parameters q s a v z) r l = absurd (f q)
-    go q (tag_parameters r s a v z) l = absurd (f r)
+    go (reserved_parameters q o d) (tag_parameters r s a v z) l = absurd (o r)
+    go (tag_parameters q s a v z) r l = tag_end u q (tag_parameters q s a v z) r l e
 
   name_behind : {i k : ℕ} → Run (One t is_ns_char) i k → Behind t k
   name_behind r = run_behind u (λ c q. q) r.chain r.some
@@ -58,17 +60,15 @@ module _ {t : List ℕ} (u : IsUtf8 t) where
     parameters_there : {j : ℕ} {x : Directives} (d : IsDirective t i j x) → Parameters t (slice_range t (i + 1) k) k d.words_end d.words
     parameters_there d = subst (λ z. Parameters t (slice_range t (i + 1) z) z d.words_end d.words) (same_name d) d.parameters
 
-    name_there : {j : ℕ} {x : Directives} (d : IsDirective t i j x) → slice_range t (i + 1) d.name_end ≢ codes "TAG" → slice_range t (i + 1) k ≢ codes "TAG"
-    name_there d n = λ q. n (ap (λ z. slice_range t (i + 1) z) (same_name d) ∙ q)
+    pub no_parameters : Stuck (Parameters t (slice_range t (i + 1) k) k) → Stuck (IsDirective t i)
+    no_parameters n = record { none = λ j x d. n.none d.words_end d.words (parameters_there d) }
 
-    pub no_parameters : NoWords t (slice_range t (i + 1) k) k → NoDirective t i
-    no_parameters n = record { none = λ j x d f. (n.none (name_there d f)).none d.words_end d.words (parameters_there d) }
-
-    pub no_line_end : {l : ℕ} {name : List ℕ} {a b : List (List ℕ)} → name ≡ slice_range t (i + 1) k → WordsRead t name k l a b → Stuck (LineEnd t l) → NoDirective t i
+    pub no_line_end : {l : ℕ} {name : List ℕ} {a b : List (List ℕ)} → name ≡ slice_range t (i + 1) k → WordsRead t name k l a b → Stuck (LineEnd t l)
+        → Stuck (IsDirective t i)
     no_line_end {name} n v s = record {
-      none = λ j x d f.
+      none = λ j x d.
           let p : Parameters t name k d.words_end d.words = subst (λ z. Parameters t z k d.words_end d.words) (sym n) (parameters_there d) in
-          let same = parameters_end (name_behind r) (λ q. name_there d f (sym n ∙ q)) (v.longest (λ q. name_there d f (sym n ∙ q))) p d.ends in
+          let same = parameters_end (name_behind r) v.read p d.ends in
           s.none j x.comments (subst (λ z. LineEnd t z j x.comments) same d.ends);
     }
 
@@ -96,15 +96,15 @@ module _ {t : List ℕ} (u : IsUtf8 t) where
       → name ≡ slice_range t (i + 1) k → a ≡ [] → b ≡ a ++ name ∷ [] → WordsRead t name k l b w → Chosen (LineEnd t l) j cs
       → Chosen (IsDirective t i) j (record { directives = record { offset = i; words = w } ∷ []; comments = cs })
   directive_read {i} {k} {l} {j} {name} {a} {b} {w} {cs} e r n f g v c =
-      let p : Parameters t (slice_range t (i + 1) k) k l v.words = subst (λ z. Parameters t z k l v.words) n v.derived in
+      let p : Parameters t (slice_range t (i + 1) k) k l v.words = subst (λ z. Parameters t z k l v.words) n v.read.derived in
       let same : slice_range t (i + 1) k ∷ v.words ≡ w = sym (v.list ∙ ap (λ z. z ++ v.words) (g ∙ ap (λ z. z ++ name ∷ []) f) ∙ ap (λ z. z ∷ v.words) n) in
       subst (λ z. Chosen (IsDirective t i) j (record { directives = record { offset = i; words = z } ∷ []; comments = cs })) same (directive_chosen e r p c)
 
-  pub no_name : {i : ℕ} → is_ns_char (code t (i + 1)) ≡ false → NoDirective t i
-  no_name f = record { none = λ j x d n. no_run u is_ns_char f d.name }
+  pub no_name : {i : ℕ} → is_ns_char (code t (i + 1)) ≡ false → Stuck (IsDirective t i)
+  no_name f = record { none = λ j x d. no_run u is_ns_char f d.name }
 
-pub no_percent : {t : List ℕ} {i : ℕ} → code t i ≢ 37 → NoDirective t i
-no_percent f = record { none = λ j x d n. f d.percent }
+pub no_percent : {t : List ℕ} {i : ℕ} → code t i ≢ 37 → Stuck (IsDirective t i)
+no_percent f = record { none = λ j x d. f d.percent }
 
 -- one more directive
 pub directives_more : {t : List ℕ} {i k j : ℕ} {ds : List Directive} {cs : List CommentValue} {x : Directives} → LongestDirectives t i k ds cs → Chosen (IsDirective t k) j x
@@ -128,7 +128,7 @@ directives_read {t} {i} {j = j} {a = a} {x = x} r d e f = record {
   list = f ∙ ap (λ z. z ++ x) r.list ∙ append_assoc a r.comments x;
 }
 
-pub directives_end : {t : List ℕ} {i p : ℕ} {ds : List Directive} {a b : List CommentValue} → DirectivesUpto t i p ds a b → code t p ≡ 37 → NoDirective t p → DirectivesEnd t i p
+pub directives_end : {t : List ℕ} {i p : ℕ} {ds : List Directive} {a b : List CommentValue} → DirectivesUpto t i p ds a b → code t p ≡ 37 → Stuck (IsDirective t p) → DirectivesEnd t i p
 directives_end {ds = ds} r e n = record { before = record { directives = ds; comments = r.comments }; longest = r.longest; percent = e; none = n }
 
 -- each directive begins between characters

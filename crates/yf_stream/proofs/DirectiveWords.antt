@@ -9,7 +9,7 @@ use Rattle.yf_lines.specs.Basic.{LineStart, SeparateInLine}
 use Rattle.yf_comments.proofs.RowLemmas.{no_separation, separate_whites}
 use Rattle.yf_props.specs.Names.{Run}
 use Rattle.yf_props.proofs.NameLemmas.{run_unique}
-use Rattle.yf_stream.specs.DirectiveReaders.{NoWords, ReservedRead, WordsRead}
+use Rattle.yf_stream.specs.DirectiveReaders.{ReservedRead, WordsRead}
 use Rattle.yf_stream.specs.Stream.{Parameters, ReservedParameter}
 use Rattle.yf_stream.specs.Stream.Parameters.{version_parameter, tag_parameters, reserved_parameters}
 use Rattle.yf_stream.specs.Stream.ReservedParameter.{reserved_parameter}
@@ -26,7 +26,7 @@ none_visible c e = ap is_ns_char e
 
 module _ {t : List ℕ} where
   -- white space up to a character that is none
-  same_start : {i k l : ℕ} {w : List ℕ} → Many t is_white i k w → is_white (code t k) ≡ false → SeparateInLine t i l → is_white (code t l) ≡ false → l ≡ k
+  pub same_start : {i k l : ℕ} {w : List ℕ} → Many t is_white i k w → is_white (code t k) ≡ false → SeparateInLine t i l → is_white (code t l) ≡ false → l ≡ k
   same_start m e s f = (many_unique t is_white (separate_whites s).1 f m e).0
 
 -- what the parameter of a YAML directive is
@@ -132,9 +132,9 @@ two_words a {x = x} e f g h = word_after a (x ∷ []) (one_word a e f) g h
 
 -- what the readers of parameters answer
 pub reserved_read : {t name : List ℕ} {i j : ℕ} {a b : List (List ℕ)} → IsUtf8 t → name ≢ codes "YAML" → name ≢ codes "TAG" → ReservedRead t i j a b → WordsRead t name i j a b
-reserved_read u f g r = let chosen = words_chosen u f g r.read in record { words = r.words; derived = chosen.derived; longest = λ n. chosen; list = r.list }
+reserved_read u f g r = record { words = r.words; read = words_chosen u f g r.read; list = r.list }
 
 pub may_reserved : {t name : List ℕ} (i : ℕ) (a b : List (List ℕ)) → IsUtf8 t → name ≢ codes "YAML" → name ≢ codes "TAG" → (o : Option ℕ)
-    → MatchOption o ⊥ (λ j. ReservedRead t i j a b) → MatchOption o (NoWords t name i) (λ j. WordsRead t name i j a b)
+    → MatchOption o ⊥ (λ j. ReservedRead t i j a b) → MatchOption o (Stuck (Parameters t name i)) (λ j. WordsRead t name i j a b)
 may_reserved i a b u f g None r = absurd r
 may_reserved i a b u f g (Some j) r = reserved_read u f g r

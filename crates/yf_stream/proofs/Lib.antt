@@ -4,6 +4,7 @@
 pub mod Forward
 pub mod NoPercent
 pub mod OneDirective
+pub mod OneTag
 pub mod StreamPath
 pub mod Stable
 pub mod OneStream

@@ -74,18 +74,18 @@ module _ {t : List ℕ} (u : IsUtf8 t) where
   run_behind f done l = absurd (omega arith)
   run_behind f (step (one {i = i} e) c) l = many_behind f c (behind_next i (f (code t i) e))
 
-  spelled_behind : {p : ℕ → Bool} {i j : ℕ} {x : List ℕ} → ((c : ℕ) → p c ≡ true → Solid c) → Spelled t p i j x → Behind t j
+  pub spelled_behind : {p : ℕ → Bool} {i j : ℕ} {x : List ℕ} → ((c : ℕ) → p c ≡ true → Solid c) → Spelled t p i j x → Behind t j
   spelled_behind f (as_itself {i = i} e) = behind_next i (ns_of (f (code t i) e))
   spelled_behind f (as_escape {i = i} a b d) =
       let s = hex_solid (code t (i + 2)) d in
       let e : i + 2 + 1 ≡ i + 3 = omega arith in
       subst (λ w. Behind t w) e (behind_byte (i + 2) u refl (omega (arith, s.high)) (ns_of s))
 
-  chain_behind : {p : ℕ → Bool} {i j : ℕ} {x : List ℕ} → ((c : ℕ) → p c ≡ true → Solid c) → Chain (Spelled t p) i j x → Behind t i → Behind t j
+  pub chain_behind : {p : ℕ → Bool} {i j : ℕ} {x : List ℕ} → ((c : ℕ) → p c ≡ true → Solid c) → Chain (Spelled t p) i j x → Behind t i → Behind t j
   chain_behind f done b = b
   chain_behind f (step s c) b = chain_behind f c (spelled_behind f s)
 
-  spelled_ns : {p : ℕ → Bool} {i j : ℕ} {x : List ℕ} → ((c : ℕ) → p c ≡ true → Solid c) → Spelled t p i j x → is_ns_char (code t i) ≡ true
+  pub spelled_ns : {p : ℕ → Bool} {i j : ℕ} {x : List ℕ} → ((c : ℕ) → p c ≡ true → Solid c) → Spelled t p i j x → is_ns_char (code t i) ≡ true
   spelled_ns f (as_itself {i = i} e) = ns_of (f (code t i) e)
   spelled_ns f (as_escape {i = i} a b d) = solid_ns (code t i) (omega arith) (omega arith)
 
@@ -96,31 +96,38 @@ module _ {t : List ℕ} (u : IsUtf8 t) where
   pub no_ns_white : (i : ℕ) → is_ns_char (code t i) ≡ true → is_white (code t i) ≡ false
   no_ns_white i e = ns_not_white (code t i) e
 
-  byte_no_white : (i : ℕ) {b : ℕ} → code t i ≡ b → 33 ≤ b → b < 127 → is_white (code t i) ≡ false
+  pub byte_no_white : (i : ℕ) {b : ℕ} → code t i ≡ b → 33 ≤ b → b < 127 → is_white (code t i) ≡ false
   byte_no_white i e l h = no_ns_white i (solid_ns (code t i) (omega arith) (omega arith))
 
+  -- behind a !, and behind a character of a tag
+  pub mark_behind : (i : ℕ) → code t i ≡ 33 → Behind t (i + 1)
+  mark_behind i e = behind_byte i u e (omega arith) (solid_ns 33 (omega arith) (omega arith))
+
+  pub tag_behind : {i j : ℕ} {x : List ℕ} → TagChar t i j x → Behind t j
+  tag_behind s = spelled_behind tag_solid s
+
   -- a handle before white space
-  handle_behind : {i h : ℕ} → Handle t i h → Behind t h
+  pub handle_behind : {i h : ℕ} → Handle t i h → Behind t h
   handle_behind (primary_handle {i = i} a) = behind_byte i u a (omega arith) (solid_ns 33 (omega arith) (omega arith))
   handle_behind (secondary_handle {i = i} a b) =
       let e : i + 1 + 1 ≡ i + 2 = omega arith in
       subst (λ w. Behind t w) e (behind_byte (i + 1) u b (omega arith) (solid_ns 33 (omega arith) (omega arith)))
   handle_behind (named_handle {j = j} a r b) = behind_byte j u b (omega arith) (solid_ns 33 (omega arith) (omega arith))
 
-  white_after : {h p : ℕ} → Behind t h → SeparateInLine t h p → is_white (code t h) ≡ true
+  pub white_after : {h p : ℕ} → Behind t h → SeparateInLine t h p → is_white (code t h) ≡ true
   white_after b (by_whites m l) = run_first m l
   white_after b (at_start s) = absurd (no_start_behind u b s)
 
   not_both : (i : ℕ) → is_white (code t i) ≡ true → is_white (code t i) ≡ false → ⊥
   not_both i e f = true≢false (sym e ∙ f)
 
-  word_white : {i j : ℕ} → Run (One t is_word_char) i j → is_white (code t i) ≡ false
+  pub word_white : {i j : ℕ} → Run (One t is_word_char) i j → is_white (code t i) ≡ false
   word_white {i} r = no_ns_white i (ns_of (word_solid (code t i) (run_first r.chain r.some)))
 
-  word_mark : {i j : ℕ} → Run (One t is_word_char) i j → code t i ≡ 33 → ⊥
+  pub word_mark : {i j : ℕ} → Run (One t is_word_char) i j → code t i ≡ 33 → ⊥
   word_mark {i} r e = true≢false (sym (run_first r.chain r.some) ∙ ap is_word_char e ∙ mark_word)
 
-  handle_one : {i h g : ℕ} → Handle t i h → is_white (code t h) ≡ true → Handle t i g → is_white (code t g) ≡ true → h ≡ g
+  pub handle_one : {i h g : ℕ} → Handle t i h → is_white (code t h) ≡ true → Handle t i g → is_white (code t g) ≡ true → h ≡ g
   handle_one (primary_handle a) v (primary_handle b) w = refl
   handle_one {i} (primary_handle a) v (secondary_handle b c) w = absurd (not_both (i + 1) v (byte_no_white (i + 1) c (omega arith) (omega arith)))
   handle_one {i} (primary_handle a) v (named_handle b r c) w = absurd (not_both (i + 1) v (word_white r))
@@ -142,11 +149,11 @@ module _ {t : List ℕ} (u : IsUtf8 t) where
     go (goes_on z r q) = stays (chain_behind uri_solid c h) r d
     go (falls_short z r q) = sym (stays (chain_behind uri_solid e h) r f)
 
-  prefix_ns : {i j : ℕ} {x : List ℕ} → TagPrefix t i j x → is_ns_char (code t i) ≡ true
+  pub prefix_ns : {i j : ℕ} {x : List ℕ} → TagPrefix t i j x → is_ns_char (code t i) ≡ true
   prefix_ns (local_prefix {i = i} e c) = solid_ns (code t i) (omega arith) (omega arith)
   prefix_ns (global_prefix s c) = spelled_ns tag_solid s
 
-  no_tag_at_mark : {i j : ℕ} {x : List ℕ} → code t i ≡ 33 → TagChar t i j x → ⊥
+  pub no_tag_at_mark : {i j : ℕ} {x : List ℕ} → code t i ≡ 33 → TagChar t i j x → ⊥
   no_tag_at_mark {i} {j} {x} e s = (spelled_stuck t is_tag_char percent_tag i (ap is_tag_char e ∙ mark_no_tag) (λ q. absurd (omega arith))).none j x s
 
   prefix_one : {i j k m n : ℕ} {x y : List ℕ} {a b : List CommentValue} → TagPrefix t i j x → LineEnd t j m a → TagPrefix t i k y → LineEnd t k n b → j ≡ k

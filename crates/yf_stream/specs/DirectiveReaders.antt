@@ -1,5 +1,5 @@
 -- What the readers of directives answer: parameters as long as they go, and directives with all comment lines after them.
-use Rattle.std.specs.Prelude.{◌≡◌, ◌≢◌, ℕ, ◌+◌, List, [], ◌∷◌, ◌++◌, codes, slice_range}
+use Rattle.std.specs.Prelude.{◌≡◌, ◌≢◌, ℕ, ◌+◌, List, [], ◌∷◌, ◌++◌, slice_range}
 use Rattle.yf_chars.specs.Text.{code}
 use Rattle.yf_chars.specs.Class.{is_ns_char}
 use Rattle.yf_chars.specs.Chain.{Chain, Chosen, One, Stuck}
@@ -16,16 +16,11 @@ pub record ReservedRead (t : List ℕ) (i j : ℕ) (a b : List (List ℕ)) : Typ
   pub read : Chosen (Chain (ReservedParameter t) i) j words
   pub list : b ≡ a ++ words
 
--- the parameters of a directive with that name have been read up to a place; those of a TAG directive may go on
+-- the parameters of a directive with that name have been read up to a place, as long as they go
 pub record WordsRead (t name : List ℕ) (i j : ℕ) (a b : List (List ℕ)) : Type 0 where
   pub words : List (List ℕ)
-  pub derived : Parameters t name i j words
-  pub longest : name ≢ codes "TAG" → Chosen (Parameters t name i) j words
+  pub read : Chosen (Parameters t name i) j words
   pub list : b ≡ a ++ words
-
--- the directive with that name has no parameters there, if it is no TAG directive
-pub record NoWords (t name : List ℕ) (i : ℕ) : Type 0 where
-  pub none : name ≢ codes "TAG" → Stuck (Parameters t name i)
 
 -- l-directive, once, with the comment lines after it
 pub record IsDirective (t : List ℕ) (i j : ℕ) (x : Directives) : Type 0 where
@@ -37,10 +32,6 @@ pub record IsDirective (t : List ℕ) (i j : ℕ) (x : Directives) : Type 0 wher
   pub parameters : Parameters t (slice_range t (i + 1) name_end) name_end words_end words
   pub ends : LineEnd t words_end j x.comments
   pub is : x.directives ≡ record { offset = i; words = slice_range t (i + 1) name_end ∷ words } ∷ []
-
--- no directive stands there, but perhaps one with the name TAG
-pub record NoDirective (t : List ℕ) (i : ℕ) : Type 0 where
-  pub none : (j : ℕ) (x : Directives) (d : IsDirective t i j x) → slice_range t (i + 1) d.name_end ≢ codes "TAG" → ⊥
 
 -- directives in order, each with all comment lines after it
 pub data LongestDirectives (t : List ℕ) : ℕ → ℕ → List Directive → List CommentValue → Type 0 where
@@ -64,4 +55,4 @@ pub record DirectivesEnd (t : List ℕ) (i p : ℕ) : Type 0 where
   pub before : Directives
   pub longest : LongestDirectives t i p before.directives before.comments
   pub percent : code t p ≡ 37
-  pub none : NoDirective t p
+  pub none : Stuck (IsDirective t p)

@@ -5,7 +5,7 @@ ghost use Rattle.yf_chars.specs.Chain.{Chosen, Many, Stuck};
 ghost use Rattle.yf_chars.specs.Class.{is_digit, is_ns_char};
 ghost use Rattle.yf_chars.specs.Text.{code};
 ghost use Rattle.yf_lines.specs.Basic.{LineStart};
-ghost use Rattle.yf_stream.specs.DirectiveReaders.{DirectivesEnd, DirectivesRead, IsDirective, NoDirective, NoWords, ReservedRead, WordsRead};
+ghost use Rattle.yf_stream.specs.DirectiveReaders.{DirectivesEnd, DirectivesRead, IsDirective, ReservedRead, WordsRead};
 ghost use Rattle.yf_stream.specs.RefusalPlaces.{DirectivesAt};
 ghost use Rattle.yf_stream.specs.Stream.{Parameters};
 ghost use Rattle.yf_stream.specs.Walk.{Place};
@@ -72,7 +72,7 @@ fn read_directive<'a>(
     at: usize,
 ) -> Result<Option<DirectiveLine<'a>>, AllocError>
     requires { IsCharBoundary text.now at }
-    ensures reads { IfOk result (λ o. MatchOption o (NoDirective text.now at)
+    ensures reads { IfOk result (λ o. MatchOption o (Stuck (IsDirective text.now at))
         (λ line. Chosen (IsDirective text.now at) line.end (record { directives = line.directive ∷ []; comments = line.comments }))) }
     ensures place { IfOk result (λ o. IfSome o (λ line. Place text.now (at + 1) line.end)) }
 {
@@ -113,7 +113,7 @@ fn read_parameters<'a>(
 ) -> Result<Option<usize>, AllocError>
     requires boundary { IsCharBoundary text.now at }
     requires within { LineStart text.now at → ⊥ }
-    ensures reads { IfOk result (λ o. MatchOption o (NoWords text.now name.now at)
+    ensures reads { IfOk result (λ o. MatchOption o (Stuck (Parameters text.now name.now at))
         (λ end. WordsRead text.now name.now at end words.old words.new)) }
     ensures place { IfOk result (λ o. IfSome o (λ end. Place text.now at end)) }
 {
@@ -163,7 +163,8 @@ fn read_tag_parameters<'a>(
 ) -> Result<Option<usize>, AllocError>
     requires boundary { IsCharBoundary text.now at }
     requires within { LineStart text.now at → ⊥ }
-    ensures reads { IfOk result (λ o. IfSome o (λ end. WordsRead text.now (codes "TAG") at end words.old words.new)) }
+    ensures reads { IfOk result (λ o. MatchOption o (Stuck (Parameters text.now (codes "TAG") at))
+        (λ end. WordsRead text.now (codes "TAG") at end words.old words.new)) }
     ensures place { IfOk result (λ o. IfSome o (λ end. Place text.now at end)) }
 {
     let start = skip_whites(text, at);

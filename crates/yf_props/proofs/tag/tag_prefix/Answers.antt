@@ -1,13 +1,12 @@
-use Rattle.yf_props.specs.Names.{local_prefix, global_prefix}
+use Rattle.yf_props.proofs.LongestTags.{global_chosen, local_chosen}
 use Rattle.yf_props.proofs.tag.tag_prefix.Goals as goal
 
 pub returns-then-stands-clause-reads : goal.returns-then-stands-clause-reads
 returns-then-stands-clause-reads c =
-    let m = c.skip_chars.ensures.chars in
-    (_, local_prefix c.if-stands.ensures.cases.char m.1)
+    let m = c.skip_chars.ensures.chars in (_, local_chosen c.if-stands.ensures.cases.char m.1 c.skip_chars.ensures.all)
 
 pub returns-in-Some-clause-reads : goal.returns-in-Some-clause-reads
 returns-in-Some-clause-reads c =
     let h = c.in-Some.ensures.reads in
     let m = c.skip_chars-in-Some.ensures.chars in
-    (_, global_prefix h.1 m.1)
+    (_, global_chosen c.if-stands.ensures.cases h.1 m.1 c.skip_chars-in-Some.ensures.all)

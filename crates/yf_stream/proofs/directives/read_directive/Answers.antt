@@ -3,10 +3,14 @@ use Rattle.yf_chars.specs.Class.{is_ns_char}
 use Rattle.yf_chars.specs.Text.{code}
 use Rattle.yf_props.proofs.NameLemmas.{run_of}
 use Rattle.yf_grammar.proofs.BlankRuns.{no_start_behind}
-use Rattle.yf_stream.specs.DirectiveReaders.{NoWords}
-use Rattle.yf_stream.proofs.DirectiveLineLemmas.{directive_read, no_line_end, no_name, no_parameters}
+use Rattle.yf_chars.specs.Chain.{Stuck}
+use Rattle.yf_stream.specs.Stream.{Parameters}
+use Rattle.yf_stream.proofs.DirectiveLineLemmas.{directive_read, no_line_end, no_name, no_parameters, no_percent}
 use Rattle.yf_stream.proofs.OneDirective.{run_behind}
 use Rattle.yf_stream.proofs.directives.read_directive.Goals as goal
+
+pub returns-then-not-stands-clause-reads : goal.returns-then-not-stands-clause-reads
+returns-then-not-stands-clause-reads c = no_percent c.if-not-stands.ensures.cases
 
 pub returns-then-name_end-at-clause-reads : goal.returns-then-name_end-at-clause-reads
 returns-then-name_end-at-clause-reads c =
@@ -42,4 +46,4 @@ returns-clause-reads c =
     let more : c.args.at + 1 < c.skip_ns_chars-name_end.result = omega (arith, c.skip_ns_chars-name_end.ensures.place.order, c.if-name_end-at.false) in
     let run = run_of t is_ns_char c.skip_ns_chars-name_end.ensures.chars.1 more c.skip_ns_chars-name_end.ensures.all in
     let none = rw c.in-None.is at c.in_ok-end.ensures.reads in
-    no_parameters c.utf8.text c.if-not-stands.ensures.cases.char run (subst (λ z. NoWords t z c.skip_ns_chars-name_end.result) c.range-name.ensures.value none)
+    no_parameters c.utf8.text c.if-not-stands.ensures.cases.char run (subst (λ z. Stuck (Parameters t z c.skip_ns_chars-name_end.result)) c.range-name.ensures.value none)

@@ -37,4 +37,4 @@ returns-clause-reads c =
     let minor = run_of t is_digit c.skip_digits-end.ensures.chars.1 (omega (arith, c.skip_digits-end.ensures.place.order, c.if-end-dot.false)) c.skip_digits-end.ensures.all in
     let separate = by_whites whites (omega (arith, c.skip_whites-start.ensures.order, c.if-start-at.false)) in
     let chosen = version_chosen c.utf8.text whites c.skip_whites-start.ensures.all major separate c.if-not-stands.ensures.cases.char minor in
-    record { words = _; derived = chosen.derived; longest = λ n. chosen; list = one_word _ c.in_ok-push.ensures c.range.ensures.value }
+    record { words = _; read = chosen; list = one_word _ c.in_ok-push.ensures c.range.ensures.value }
