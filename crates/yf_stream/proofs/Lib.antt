@@ -64,4 +64,8 @@ pub mod StreamDocuments
 pub mod StreamSteps
 pub mod PathLemmas
 pub mod PathsThrough
+pub mod BareStarts
+pub mod NodePast
+pub mod NodeSteps
+pub mod StreamUpto
 pub mod FloorLemmas

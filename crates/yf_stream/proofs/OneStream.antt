@@ -50,7 +50,7 @@ noting_nothing : (x : Meaning) → noting x [] ≡ x
 unfolding noting
 noting_nothing x = ap (λ w. record x { comments = w }) (append-nil x.comments)
 
-alone_nothing : (k : ℕ) (ds : List CommentValue) → alone Nothing k ds ≡ None
+pub alone_nothing : (k : ℕ) (ds : List CommentValue) → alone Nothing k ds ≡ None
 unfolding alone
 alone_nothing k ds = refl
 
@@ -85,7 +85,7 @@ module _ {t : List ℕ} where
       record { ends = v.0; meaning = n ∙ ap (λ w. noting w es) q.1 ∙ ap (noting b) v.1 ∙ sym p }
 
   -- nothing is found where comment lines are followed by what ends all nodes
-  line_stuck : {q k m p j l : ℕ} {cs es : List CommentValue} {ds : List CommentValue} → LineEnd t q j cs → Settled t j l es → LinesEnd t l → LineEnd t q k ds → LineText t k m p → ⊥
+  pub line_stuck : {q k m p j l : ℕ} {cs es : List CommentValue} {ds : List CommentValue} → LineEnd t q j cs → Settled t j l es → LinesEnd t l → LineEnd t q k ds → LineText t k m p → ⊥
   line_stuck {l = l} d s e f w =
       let r = stuck_unique row_functional (chain_append (line_end_rows d) s.rows) s.last (line_end_rows f) (line_still w) in
       w.goes_on (subst (λ z. LinesEnd t z) r.0 e)
@@ -118,12 +118,12 @@ module _ {t : List ℕ} where
   pub no_content : {k p : ℕ} (c : ℕ) → code t k ≡ c → is_white c ≡ false → is_ns_char c ≡ false → ContentAt t k p → ⊥
   no_content c e w n d = true≢false (sym (content_first d (ap is_white e ∙ w)) ∙ ap is_ns_char e ∙ n)
 
-  lines_end : {b : Bool} {h k : ℕ} {x : Documents} → Path t b h k x → b ≡ false → LinesEnd t k
+  pub lines_end : {b : Bool} {h k : ℕ} {x : Documents} → Path t b h k x → b ≡ false → LinesEnd t k
   lines_end (path_ends e) f = text_ends e
   lines_end (path_mark e s p) f = mark_stands e
   lines_end (path_suffix m c s p) f = marker_stands m
   lines_end (path_explicit m c n p) f = marker_stands m
-  lines_end (path_directives q c d n p) f = absurd (true≢false (sym q ∙ f))
+  lines_end (path_directives q c d n p m) f = absurd (true≢false (sym q ∙ f))
   lines_end (path_bare q m c d n p) f = absurd (true≢false (sym q ∙ f))
 
 end_facts : (is_white no_char ≡ false) × (is_ns_char no_char ≡ false)
@@ -147,7 +147,7 @@ module _ {t : List ℕ} (u : IsUtf8 t) {e : ℕ} where
     go false (takes_lines q) = all_of_it (record { is = q ∙ ap (found l h false) (sym n.is) })
     go true (leaves_lines q) = but_lines (record { is = q }) n.settled n.is
 
-  node_one : {h g p l m : ℕ} {x y : Meaning} → NodeTo t h p l x → LinesEnd t l → h ≤ e → NodeTo t g p m y → LinesEnd t m → g ≤ e → Same l m x y
+  pub node_one : {h g p l m : ℕ} {x y : Meaning} → NodeTo t h p l x → LinesEnd t l → h ≤ e → NodeTo t g p m y → LinesEnd t m → g ≤ e → Same l m x y
   node_one {p = p} a z v b w r = solid (then (whole_answered u e (pos 0 -ℤ pos 1) BlockIn Nothing p)
       (λ o. sure (known_one a.settled.last b.settled.last (known_of a z v o.read) (known_of b w r o.read))))
 
@@ -175,8 +175,8 @@ module _ {t : List ℕ} (u : IsUtf8 t) {e : ℕ} where
       let a = explicit_one n (lines_end p refl) (omega arith) o (lines_end q refl) (omega arith) in
       ap (λ z. with_document z.comments (document_of k true [] z) rest) a.meaning
       ∙ ap (with_document y.comments (document_of k true [] y)) (path_one p (subst (λ z. Path t false j z other) (sym a.ends) q) (omega arith) (omega arith))
-  path_one (path_directives {h = h} {g = g} {p = k} {ds = ds} {cs = cs} {x = x} {rest = rest} z c d n p)
-      (path_directives {h = i} {g = j} {p = l} {l = m} {ds = es} {cs = fs} {x = y} {rest = other} r f s o q) v w =
+  path_one (path_directives {h = h} {g = g} {p = k} {ds = ds} {cs = cs} {x = x} {rest = rest} z c d n p m0)
+      (path_directives {h = i} {g = j} {p = l} {l = m} {ds = es} {cs = fs} {x = y} {rest = other} r f s o q m1) v w =
       let a = directives_one u d s in
       let o' : ExplicitTo t i k m y = subst (λ z. ExplicitTo t i z m y) (sym a.0) o in
       let b = explicit_one n (lines_end p refl) (omega arith) o' (lines_end q refl) (omega arith) in
@@ -194,23 +194,23 @@ module _ {t : List ℕ} (u : IsUtf8 t) {e : ℕ} where
   path_one {k = k} (path_ends f) (path_mark g s1 p1) v w = let c = end_code t k f in absurd (omega arith)
   path_one {k = k} (path_ends f) (path_suffix m1 g s1 p1) v w = let c = end_code t k f in absurd (omega arith)
   path_one {k = k} (path_ends f) (path_explicit m1 g n1 p1) v w = let c = end_code t k f in absurd (omega arith)
-  path_one {k = k} (path_ends f) (path_directives z1 g d1 n1 p1) v w = let c = end_code t k f in absurd (omega arith)
+  path_one {k = k} (path_ends f) (path_directives z1 g d1 n1 p1 m0) v w = let c = end_code t k f in absurd (omega arith)
   path_one {k = k} (path_mark f s p) (path_ends g) v w = let c = end_code t k g in absurd (omega arith)
   path_one {k = k} (path_mark f s p) (path_suffix m1 g s1 p1) v w = absurd (omega arith)
   path_one {k = k} (path_mark f s p) (path_explicit m1 g n1 p1) v w = absurd (omega arith)
-  path_one {k = k} (path_mark f s p) (path_directives z1 g d1 n1 p1) v w = absurd (omega arith)
+  path_one {k = k} (path_mark f s p) (path_directives z1 g d1 n1 p1 m0) v w = absurd (omega arith)
   path_one {k = k} (path_suffix m f s p) (path_ends g) v w = let c = end_code t k g in absurd (omega arith)
   path_one {k = k} (path_suffix m f s p) (path_mark g s1 p1) v w = absurd (omega arith)
   path_one {k = k} (path_suffix m f s p) (path_explicit m1 g n1 p1) v w = absurd (omega arith)
-  path_one {k = k} (path_suffix m f s p) (path_directives z1 g d1 n1 p1) v w = absurd (omega arith)
+  path_one {k = k} (path_suffix m f s p) (path_directives z1 g d1 n1 p1 m0) v w = absurd (omega arith)
   path_one {k = k} (path_explicit m f n p) (path_ends g) v w = let c = end_code t k g in absurd (omega arith)
   path_one {k = k} (path_explicit m f n p) (path_mark g s1 p1) v w = absurd (omega arith)
   path_one {k = k} (path_explicit m f n p) (path_suffix m1 g s1 p1) v w = absurd (omega arith)
-  path_one {k = k} (path_explicit m f n p) (path_directives z1 g d1 n1 p1) v w = absurd (omega arith)
-  path_one {k = k} (path_directives z f d n p) (path_ends g) v w = let c = end_code t k g in absurd (omega arith)
-  path_one {k = k} (path_directives z f d n p) (path_mark g s1 p1) v w = absurd (omega arith)
-  path_one {k = k} (path_directives z f d n p) (path_suffix m1 g s1 p1) v w = absurd (omega arith)
-  path_one {k = k} (path_directives z f d n p) (path_explicit m1 g n1 p1) v w = absurd (omega arith)
+  path_one {k = k} (path_explicit m f n p) (path_directives z1 g d1 n1 p1 m0) v w = absurd (omega arith)
+  path_one {k = k} (path_directives z f d n p m0) (path_ends g) v w = let c = end_code t k g in absurd (omega arith)
+  path_one {k = k} (path_directives z f d n p m0) (path_mark g s1 p1) v w = absurd (omega arith)
+  path_one {k = k} (path_directives z f d n p m0) (path_suffix m1 g s1 p1) v w = absurd (omega arith)
+  path_one {k = k} (path_directives z f d n p m0) (path_explicit m1 g n1 p1) v w = absurd (omega arith)
   path_one {k = k} (path_ends f) (path_bare z2 m2 c2 d2 n2 p2) v w = absurd (no_content no_char (end_code t k f) end_facts.0 end_facts.1 d2)
   path_one {k = k} (path_bare z2 m2 c2 d2 n2 p2) (path_ends f) v w = absurd (no_content no_char (end_code t k f) end_facts.0 end_facts.1 d2)
   path_one {k = k} (path_mark f s p) (path_bare z2 m2 c2 d2 n2 p2) v w = absurd (no_content 0xFEFF f mark_facts.0 mark_facts.1 d2)
@@ -219,8 +219,8 @@ module _ {t : List ℕ} (u : IsUtf8 t) {e : ℕ} where
   path_one {k = k} (path_bare z2 m2 c2 d2 n2 p2) (path_suffix m f s p) v w = absurd (m2 m)
   path_one {k = k} (path_explicit m f n p) (path_bare z2 m2 c2 d2 n2 p2) v w = absurd (m2 m)
   path_one {k = k} (path_bare z2 m2 c2 d2 n2 p2) (path_explicit m f n p) v w = absurd (m2 m)
-  path_one {k = k} (path_directives z f d n p) (path_bare z2 m2 c2 d2 n2 p2) v w = absurd (c2 f)
-  path_one {k = k} (path_bare z2 m2 c2 d2 n2 p2) (path_directives z f d n p) v w = absurd (c2 f)
+  path_one {k = k} (path_directives z f d n p m0) (path_bare z2 m2 c2 d2 n2 p2) v w = absurd (c2 f)
+  path_one {k = k} (path_bare z2 m2 c2 d2 n2 p2) (path_directives z f d n p m0) v w = absurd (c2 f)
 
 -- two derivations of a text within a limit are one stream
 pub one_stream : {t : List ℕ} {e h g : ℕ} {x y : Documents} → IsUtf8 t → Stream t h x → h ≤ e → Stream t g y → g ≤ e → y ≡ x

@@ -92,10 +92,12 @@ fn ends_on_line(text: &str, leaf_end: Option<usize>, comment: &Comment) -> bool
 {
     match leaf_end {
         Some(end) => {
-            if end <= line_start(text, comment.offset) {
-                return false;
+            let start = line_start(text, comment.offset);
+            let next = next_line(text, comment.offset.saturating_add(comment.text.len()));
+            if start < end {
+                return end <= next;
             }
-            end <= next_line(text, comment.offset.saturating_add(comment.text.len()))
+            false
         }
         None => false,
     }
