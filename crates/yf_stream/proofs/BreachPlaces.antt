@@ -61,17 +61,17 @@ module _ (t : List ℕ) where
   later_at [] a = a
   later_at (d ∷ docs) a = All-tail (λ (d : Doc). DirectivesAt t d.directives) d docs a
 
-  either_at : {x y : List Breach} (b : Bool) → All (λ (b : Breach). KindAt t b.offset b.kind) x → All (λ (b : Breach). KindAt t b.offset b.kind) y
+  either_at : (x y : List Breach) (b : Bool) → All (λ (b : Breach). KindAt t b.offset b.kind) x → All (λ (b : Breach). KindAt t b.offset b.kind) y
       → All (λ (b : Breach). KindAt t b.offset b.kind) (if b then x else y)
-  either_at true p q = p
-  either_at false p q = q
+  either_at x y true p q = p
+  either_at x y false p q = q
 
   pass_at : (docs : List Doc) (ds : List Declaration) (names : List (List ℕ)) (es : List Placed) → DocumentsAt t docs
       → All (λ (b : Breach). KindAt t b.offset b.kind) (pass_breaches docs ds names es)
   pass_at docs ds names [] a = All-nil (λ (b : Breach). KindAt t b.offset b.kind)
   pass_at docs ds names (e ∷ es) a =
-      either_at {x = directive_breaches false [] (next_directives docs) ++ pass_breaches (later_documents docs) (declarations [] (next_directives docs)) [] es}
-      {y = own_breaches ds names e ++ pass_breaches docs ds (with_name (props_of e.event).anchor names) es} (starts_document e.event)
+      either_at (directive_breaches false [] (next_directives docs) ++ pass_breaches (later_documents docs) (declarations [] (next_directives docs)) [] es)
+      (own_breaches ds names e ++ pass_breaches docs ds (with_name (props_of e.event).anchor names) es) (starts_document e.event)
       (both_at (directive_breaches false [] (next_directives docs)) _ (directives_are_at false [] (next_directives docs) (next_at docs a))
       (pass_at (later_documents docs) (declarations [] (next_directives docs)) [] es (later_at docs a)))
       (both_at (own_breaches ds names e) _ (own_at ds names e) (pass_at docs ds (with_name (props_of e.event).anchor names) es a))
@@ -82,9 +82,9 @@ module _ (t : List ℕ) where
       All-cons (λ (b : Breach). KindAt t b.offset b.kind) (record { offset = x; kind = EscapeValue }) (escape_breaches xs) (All-head (IsCharBoundary t) x xs a)
       (escapes_at xs (All-tail (IsCharBoundary t) x xs a))
 
-  pub first_at : {docs : List Doc} {es : List Placed} {escapes : List ℕ} {b : Breach} → DocumentsAt t docs → All (IsCharBoundary t) escapes
+  pub first_at : (docs : List Doc) (es : List Placed) (escapes : List ℕ) {b : Breach} → DocumentsAt t docs → All (IsCharBoundary t) escapes
       → IsFirst (stream_breaches docs es escapes) b → KindAt t b.offset b.kind
-  first_at {docs} {es} {escapes} {b} d e f =
+  first_at docs es escapes {b} d e f =
       All-contains (λ (b : Breach). KindAt t b.offset b.kind) (stream_breaches docs es escapes) b
       (both_at (escape_breaches escapes) (pass_breaches docs [] [] es) (escapes_at escapes e) (pass_at docs [] [] es d)) f.among
 

@@ -89,7 +89,7 @@ module _ {t : List ℕ} where
 
   next_there : {a b i o m n : ℕ} → LineEnd t a b → Unbroken t i a → i ≤ o → o < a → o ≤ m → Unbroken t o m → NextLine t m n → n ≡ b
   next_there (at_break k) w l p r u x = next_at_break k r p u x (part_of l (omega arith) w)
-  next_there {n = n} (at_end e) w l p r u x = next_at_end r x (subst (λ z. Unbroken t _ z) e (part_of l (omega arith) w)) ∙ sym e
+  next_there {o = o} {n = n} (at_end e) w l p r u x = next_at_end r x (subst (λ z. Unbroken t o z) e (part_of l (omega arith) w)) ∙ sym e
 
 -- tests
 module _ (end o : ℕ) where
@@ -195,18 +195,18 @@ stops_at_end es i offset l = subst (λ z. StopsAt offset z) (sym (drop_of_length
 none_left_before : {i : ℕ} {es : List Placed} (found : Option ℕ) (o : ℕ) → o ≤ i → BeginInOrder i es → last_end found o (leaf_spans es) ≡ found
 none_left_before found o l no_events = refl
 none_left_before found o l (no_place {e = e} {es = es} n b) =
-    ap (λ z. last_end found o (span_in (begins_leaf e.event es) z ++ leaf_spans es)) n ∙ go (begins_leaf e.event es) where
-  go : (b : Bool) → last_end found o (span_in b None ++ leaf_spans es) ≡ found
-  go true = none_left_before found o l b
-  go false = none_left_before found o l b
+    ap (λ z. last_end found o (span_in (begins_leaf e.event es) z ++ leaf_spans es)) n ∙ go (begins_leaf e.event es) (none_left_before found o l b) where
+  go : (c : Bool) → last_end found o (leaf_spans es) ≡ found → last_end found o (span_in c None ++ leaf_spans es) ≡ found
+  go true p = p
+  go false p = p
 none_left_before found o l (begins {e = e} {es = es} s n m b) =
-    ap (λ z. last_end found o (span_in (begins_leaf e.event es) z ++ leaf_spans es)) n ∙ go (begins_leaf e.event es) where
+    ap (λ z. last_end found o (span_in (begins_leaf e.event es) z ++ leaf_spans es)) n ∙ go (begins_leaf e.event es) (none_left_before found o (omega arith) b) where
   later : nat_lt s.start o ≡ false
   later = grind (arith, nat_tests)
 
-  go : (c : Bool) → last_end found o (span_in c (Some s) ++ leaf_spans es) ≡ found
-  go true = ap (λ z. last_end (if z then Some s.end else found) o (leaf_spans es)) later ∙ none_left_before found o (omega arith) b
-  go false = none_left_before found o (omega arith) b
+  go : (c : Bool) → last_end found o (leaf_spans es) ≡ found → last_end found o (span_in c (Some s) ++ leaf_spans es) ≡ found
+  go true p = ap (λ z. last_end (if z then Some s.end else found) o (leaf_spans es)) later ∙ p
+  go false p = p
 
 pub sooner : {i j : ℕ} {es : List Placed} → i ≤ j → BeginInOrder j es → BeginInOrder i es
 sooner l no_events = no_events
@@ -254,15 +254,15 @@ pub noted_on : {t : List ℕ} {es : List Placed} {cs : List CommentValue} {i j :
     → NotedSoFar t es cs i found notes → slice_get cs (length notes) ≡ Some c
     → ((o : ℕ) → c.offset ≤ o → last_end found o (leaf_spans (drop i es)) ≡ last_end more o (leaf_spans (drop j es))) → StopsAt c.offset (drop j es)
     → ((ls : List Line) → AreLines t ls → StandsInLine t c → b ≡ end_on_line ls more c.offset) → all ≡ notes ++ b ∷ [] → NotedSoFar t es cs j more all
-noted_on {t} {es} {cs} {i} {j} {found} {more} {notes} {all} {c} {b} p f step stop note e = record {
-  within = let w = slice_get_within cs (length notes) c f in omega arith;
+noted_on {t} {es} {cs} {i} {j} {found} {more} {notes} {all} {c} {b} p f past stop note e = record {
+  within = let w = slice_get_within cs (length notes) c f in omega (arith, w, count);
   offset = c.offset;
   last = λ o. let n = next o in subst (λ z. CommentsInOrder c.offset (drop z cs)) (sym count) n.rest;
-  passed = λ o k l. let n = next o in p.passed o k (let m = n.later in omega arith) ∙ step k l;
+  passed = λ o k l. let n = next o in p.passed o k (let m = n.later in omega arith) ∙ past k l;
   noted = λ ls a s.
       let n = next s.comments in
       let value : last_end None c.offset (leaf_spans es) ≡ more =
-      p.passed s.comments c.offset n.later ∙ step c.offset (omega arith) ∙ none_from more c.offset stop (dropped j s.events) in
+      p.passed s.comments c.offset n.later ∙ past c.offset (omega arith) ∙ none_from more c.offset stop (dropped j s.events) in
       let stands : StandsInLine t c =
       subst (λ z. StandsInLine t z) (get_or_from_slice_get cs (length notes) c c f) (s.texts (length notes) c (slice_get_within cs (length notes) c f)) in
       let own : b ≡ end_on_line ls (last_end None c.offset (leaf_spans es)) c.offset = note ls a stands ∙ ap (λ z. end_on_line ls z c.offset) (sym value) in
@@ -295,3 +295,18 @@ all_noted {es = es} {cs = cs} {notes = notes} p l ls a s =
 pub next_line_at_end : {t : List ℕ} {i j m n : ℕ} → NoBreakFrom t i j → m ≡ length t → m ≤ j → n ≡ length t → NextLine t i n
 next_line_at_end {t} {i} b e l f =
     subst (λ z. NextLine t i z) (sym f) (at_text_end (record { none = λ h k p q c. b.none h k p (omega arith) c }))
+
+-- whether an end stands on the line of a comment, by the place where the line begins
+pub ends_behind_start : {t : List ℕ} {ls : List Line} {c : CommentValue} {s m n : ℕ} (end : ℕ) {o : Option ℕ} → o ≡ Some end → AreLines t ls → StandsInLine t c → BeginsLine t c.offset s
+    → c.offset ≤ m → m ≤ c.offset + length c.text → NextLine t m n → s < end → nat_le end n ≡ end_on_line ls o c.offset
+ends_behind_start {ls = ls} {c} {s} {m} {n} end e a d p l k x q =
+    sym (ap (λ z. end_on_line ls z c.offset) e ∙ on_line_found end a d p l k x ∙ ap (λ z. z && nat_le end n) (lt_test s end q)) where
+  lt_test : (i j : ℕ) → i < j → nat_lt i j ≡ true
+  lt_test i j l = grind (arith, nat_tests)
+
+pub ends_before_start : {t : List ℕ} {ls : List Line} {c : CommentValue} {s m n : ℕ} (end : ℕ) {o : Option ℕ} → o ≡ Some end → AreLines t ls → StandsInLine t c → BeginsLine t c.offset s
+    → c.offset ≤ m → m ≤ c.offset + length c.text → NextLine t m n → end ≤ s → false ≡ end_on_line ls o c.offset
+ends_before_start {ls = ls} {c} {s} {m} {n} end e a d p l k x q =
+    sym (ap (λ z. end_on_line ls z c.offset) e ∙ on_line_found end a d p l k x ∙ ap (λ z. z && nat_le end n) (lt_test s end q)) where
+  lt_test : (i j : ℕ) → j ≤ i → nat_lt i j ≡ false
+  lt_test i j l = grind (arith, nat_tests)

@@ -89,10 +89,11 @@ trees_spans {trees = trees} o =
 -- the end of the last leaf
 end_of_last : (found : Option Span) (o : ℕ) (ss : List Span) → last_end (option_map (λ (s : Span). s.end) found) o ss ≡ option_map (λ (s : Span). s.end) (last_leaf found o ss)
 end_of_last found o [] = refl
-end_of_last found o (s ∷ ss) = go (nat_lt s.start o) where
-  go : (b : Bool) → last_end (if b then Some s.end else option_map (λ (s : Span). s.end) found) o ss ≡ option_map (λ (s : Span). s.end) (last_leaf (if b then Some s else found) o ss)
-  go true = end_of_last (Some s) o ss
-  go false = end_of_last found o ss
+end_of_last found o (s ∷ ss) = go (nat_lt s.start o) (end_of_last (Some s) o ss) (end_of_last found o ss) where
+  go : (b : Bool) → last_end (Some s.end) o ss ≡ option_map (λ (s : Span). s.end) (last_leaf (Some s) o ss)
+      → last_end (option_map (λ (s : Span). s.end) found) o ss ≡ option_map (λ (s : Span). s.end) (last_leaf found o ss) → last_end (if b then Some s.end else option_map (λ (s : Span). s.end) found) o ss ≡ option_map (λ (s : Span). s.end) (last_leaf (if b then Some s else found) o ss)
+  go true p q = p
+  go false p q = q
 
 by_end : (ls : List Line) (leaf : Option Span) (o : ℕ) → end_on_line ls (option_map (λ (s : Span). s.end) leaf) o ≡ on_line_of ls leaf o
 by_end ls None o = refl

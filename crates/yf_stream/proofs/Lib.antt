@@ -44,6 +44,8 @@ pub mod DeclaredLemmas
 pub mod FirstLemmas
 pub mod PassLemmas
 pub mod PassSteps
+pub mod TagPlaces
+pub mod BreachBoundaries
 pub mod BreachPlaces
 pub mod DeclaringLemmas
 pub mod LeafLemmas
@@ -52,6 +54,7 @@ pub mod EventsInOrder
 pub mod CommentLines
 pub mod PassDocuments
 pub mod ReadingMade
+pub mod MadeReadings
 pub mod CommentTexts
 pub mod DirectiveLaws
 pub mod DirectiveLineLemmas

@@ -18,6 +18,7 @@ use Rattle.yf_grammar.specs.Laws.{Fills}
 use Rattle.yf_grammar.specs.Meaning.{Meaning, noting}
 use Rattle.yf_grammar.specs.Parser.{Found, found}
 use Rattle.yf_grammar.specs.Part.{BlockNodePart}
+use Rattle.yf_grammar.proofs.BlockClaims.{IsFound}
 use Rattle.yf_grammar.proofs.BlockExtended.{by_scalar}
 use Rattle.yf_grammar.proofs.DocumentNodes.{DocumentFound, takes_lines, leaves_lines, document_node}
 use Rattle.yf_grammar.proofs.HaltsAnswered.{halts_answered}
@@ -26,9 +27,14 @@ use Rattle.yf_grammar.proofs.LawsHold.{no_block_node_is_missed, whole_nodes_are_
 use Rattle.yf_grammar.proofs.WholeAnswered.{whole_answered}
 use Rattle.yf_stream.specs.Stream.{RootNode}
 use Rattle.yf_stream.proofs.HasReading.{noting_exists}
-use Rattle.yf_stream.proofs.OneStream.{Same, alone_nothing, line_stuck, node_one}
+use Rattle.yf_stream.proofs.OneStream.{Known, Same, all_of_it, alone_nothing, but_lines, known_of, known_some, line_stuck, node_one, settled_still}
 use Rattle.yf_stream.proofs.Stable.{stable_nat}
 use Rattle.yf_stream.proofs.StreamPath.{NodeTo, Settled}
+
+-- where what is found ends
+abbrev end_of : Found → Option Found → ℕ
+end_of d None = d.end
+end_of d (Some f) = f.end
 
 -- the longest part there, before the comment lines after it
 pub record PastNode (t : List ℕ) (h p l j : ℕ) (x : Meaning) (part : Part) : Type 0 where
@@ -47,9 +53,9 @@ same_end {j = j} {k = k} {x = x} {y = y} a b =
 
 -- what a reader finds whole is the longest part
 module _ {t : List ℕ} (u : IsUtf8 t) {e p j : ℕ} {part : Part} (chosen : Chosen (BlockNodePart t e (pos 0 -ℤ pos 1) BlockIn p) j part) where
-  found_end : {o : Option Found} {k h : ℕ} {y : Meaning} → Whole t e (Awaited false (pos 0 -ℤ pos 1) BlockIn Nothing p) o → o ≡ found k h false y → j ≡ k
+  found_end : {o : Option Found} {k : ℕ} (h : ℕ) (y : Meaning) → Whole t e (Awaited false (pos 0 -ℤ pos 1) BlockIn Nothing p) o → o ≡ found k h false y → j ≡ k
   unfolding found
-  found_end {o} {k} {h} {y} r q =
+  found_end {o} {k} h y r q =
       let w = subst (λ z. Whole t e (Awaited false (pos 0 -ℤ pos 1) BlockIn Nothing p) z) q r in
       let n = noting_exists u 0 y.events in
       same_end chosen (whole_nodes_are_chosen t e p (pos 0 -ℤ pos 1) BlockIn (record { end = k; height = h; json = false; meaning = y })
@@ -64,13 +70,13 @@ module _ {t : List ℕ} (u : IsUtf8 t) {e p j : ℕ} {part : Part} (chosen : Cho
         ([], record { rows = subst (λ w. Chain (Row t) j w []) q (done {i = j}); last = n.settled.last })
       where
         all_of : {o : Option Found} → DocumentFound h n.end l n.comments n.meaning o false → Whole t e (Awaited false (pos 0 -ℤ pos 1) BlockIn Nothing p) o → j ≡ l
-        all_of (takes_lines q) r = found_end r q
+        all_of (takes_lines q) r = found_end h (noting n.meaning n.comments) r q
     ends_as true f =
         let q : j ≡ n.end = stable_nat.same j n.end (then (whole_answered u e (pos 0 -ℤ pos 1) BlockIn Nothing p) (λ o. sure (but_rows (f o.outcome o.read) o.read))) in
         (n.comments, subst (λ w. Settled t w l n.comments) (sym q) n.settled)
       where
         but_rows : {o : Option Found} → DocumentFound h n.end l n.comments n.meaning o true → Whole t e (Awaited false (pos 0 -ℤ pos 1) BlockIn Nothing p) o → j ≡ n.end
-        but_rows (leaves_lines q) r = found_end r q
+        but_rows (leaves_lines q) r = found_end h n.meaning r q
 
     pub node_settles : (cs : List CommentValue) × Settled t j l cs
     node_settles = ends_as (by_scalar n.node.derived) (λ o r. document_node u n.node.derived within n.node.clear n.settled.rows n.settled.last ends r)
@@ -122,3 +128,21 @@ module _ {t : List ℕ} where
   no_node_over {e} {p} {j} {part = part} u f s z d =
       (halts_answered u e (pos 0 -ℤ pos 1) BlockIn Nothing p).held
       (λ o. (no_block_node_is_missed t e p (pos 0 -ℤ pos 1) BlockIn u (subst (λ w. Halts t e [] (Awaited false (pos 0 -ℤ pos 1) BlockIn Nothing p) w) (halts_none o.read f s z) o.read)).none j part d)
+
+-- where the reader finds no node, or one after which neither comment lines nor what ends all nodes stand, there is none in a stream
+module _ {t : List ℕ} (u : IsUtf8 t) {e h p l : ℕ} {x : Meaning} (n : NodeTo t h p l x) (ends : LinesEnd t l) (within : h ≤ e) where
+  pub no_node_unread : {o : Option Found} → Whole t e (Awaited false (pos 0 -ℤ pos 1) BlockIn Nothing p) o → o ≡ None → ⊥
+  no_node_unread r q = known_some (known_of u n ends within r) q
+
+  pub no_node_left : (o : Option Found) {f : Found} → Whole t e (Awaited false (pos 0 -ℤ pos 1) BlockIn Nothing p) o → o ≡ Some f → (LinesEnd t f.end → ⊥) → Stuck (Row t f.end) → ⊥
+  no_node_left o {f} r q none s = go (known_of u n ends within r) where
+    at_end : {k g : ℕ} {y : Meaning} → IsFound o k g y → f.end ≡ k
+    unfolding found
+    at_end i = ap (end_of f) (sym q ∙ i.is)
+
+    go : Known t h l x o → ⊥
+    go (all_of_it i) = none (subst (λ z. LinesEnd t z) (sym (at_end i)) ends)
+    go (but_lines {j = j} {es = es} i d m) =
+        let same = at_end i in
+        let still = settled_still s (subst (λ z. Settled t z l es) (sym same) d) in
+        none (subst (λ z. LinesEnd t z) still.0 ends)

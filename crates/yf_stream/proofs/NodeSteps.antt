@@ -56,8 +56,13 @@ pub record BareAt (t : List ℕ) (p : ℕ) : Type 0 where
   pub first_within : first ≤ DEPTH
   pub others_within : others ≤ DEPTH
 
+-- directives, and a document from its `---` on
+data DirectivesStep (t : List ℕ) (h k : ℕ) : Type 0 where
+  directives_step : {first others p l : ℕ} {ds : List Directive} {cs : List CommentValue} {x : Meaning} {rest : Documents} → DirectivesTo t k p ds cs
+      → ExplicitTo t first p l x → Path t false others l rest → Forbidden t p → max first others ≡ h → DirectivesStep t h k
+
 module _ {t : List ℕ} where
-  marked_of : {h g k p l : ℕ} {x : Meaning} {rest : Documents} → max h g ≤ DEPTH → Forbidden t p → code t p ≡ 45 → ExplicitTo t h p l x → Path t false g l rest → MarkedAt t p
+  marked_of : {h g p l : ℕ} {x : Meaning} {rest : Documents} → max h g ≤ DEPTH → Forbidden t p → code t p ≡ 45 → ExplicitTo t h p l x → Path t false g l rest → MarkedAt t p
   marked_of {h} {g} {l = l} {x = x} {rest = rest} w f c n p = record {
     first = h;
     others = g;
@@ -92,11 +97,6 @@ module _ {t : List ℕ} where
         };
   }
 
-  -- directives, and a document from its `---` on
-  data DirectivesStep (t : List ℕ) (h k : ℕ) : Type 0 where
-    directives_step : {first others p l : ℕ} {ds : List Directive} {cs : List CommentValue} {x : Meaning} {rest : Documents} → DirectivesTo t k p ds cs
-        → ExplicitTo t first p l x → Path t false others l rest → Forbidden t p → max first others ≡ h → DirectivesStep t h k
-
   at_percent : {b : Bool} {h k : ℕ} {x : Documents} → code t k ≡ 37 → Path t b h k x → DirectivesStep t h k
   at_percent {k = k} c (path_ends q) = let n = end_code t k q in absurd (omega arith)
   at_percent c (path_mark m s p) = absurd (omega arith)
@@ -109,15 +109,15 @@ module _ {t : List ℕ} where
   to_dash (last_to a e) = e
   to_dash (more_to a e r) = to_dash r
 
-  marked_step : {h k j : ℕ} → ({p : ℕ} {ds : List Directive} {cs : List CommentValue} → DirectivesTo t k p ds cs → p ≡ j) → h ≤ DEPTH → DirectivesStep t h k → MarkedAt t j
-  marked_step f w (directives_step d y p m e) = subst (λ z. MarkedAt t z) (f d) (marked_of (omega (arith, e, w)) m (to_dash d) y p)
+  marked_step : {h k j : ℕ} → ((p : ℕ) (ds : List Directive) (cs : List CommentValue) → DirectivesTo t k p ds cs → p ≡ j) → h ≤ DEPTH → DirectivesStep t h k → MarkedAt t j
+  marked_step f w (directives_step {p = q} {ds = ds} {cs = cs} d y p m e) = subst (λ z. MarkedAt t z) (f q ds cs d) (marked_of (omega (arith, e, w)) m (to_dash d) y p)
 
   pub marked_behind_directives : {b : Bool} {k j : ℕ} {ds : List Directive} {ca cb : List CommentValue} → IsUtf8 t → code t k ≡ 37 → DirectivesRead t k j ds ca cb → PathsThrough t b k
       → MarkedThrough t j
   marked_behind_directives u c r p = record {
     path = λ h x d l.
         let a = settled_here (percent_still c) (p.path h x d l) in
-        marked_step (λ e. (same u r.last r.upto.longest e).place) a.within (at_percent c a.path);
+        marked_step (λ q ds cs e. (same u r.last r.upto.longest e).place) a.within (at_percent c a.path);
   }
 
   -- at a % with which no directive begins they do not end
@@ -138,13 +138,13 @@ module _ {t : List ℕ} where
       let o = line_one u a (line_of c).1 in
       no_end u f s r (subst (λ z. DirectivesTo t z l ds es) o.0 more)
 
-  nowhere : {h k : ℕ} → ({p : ℕ} {ds : List Directive} {cs : List CommentValue} → DirectivesTo t k p ds cs → ⊥) → DirectivesStep t h k → ⊥
-  nowhere f (directives_step d y p m e) = f d
+  nowhere : {h k : ℕ} → ((p : ℕ) (ds : List Directive) (cs : List CommentValue) → DirectivesTo t k p ds cs → ⊥) → DirectivesStep t h k → ⊥
+  nowhere f (directives_step {p = q} {ds = ds} {cs = cs} d y p m e) = f q ds cs d
 
   pub no_directives_there : {b : Bool} {k j : ℕ} → IsUtf8 t → code t k ≡ 37 → DirectivesEnd t k j → PathsThrough t b k → NoStream t
   no_directives_there u c e p h x d l =
       let a = settled_here (percent_still c) (p.path h x d l) in
-      nowhere (λ r. no_end u e.percent e.none e.longest r) (at_percent c a.path)
+      nowhere (λ q ds cs r. no_end u e.percent e.none e.longest r) (at_percent c a.path)
 
   -- after directives stands a `---`
   pub no_marker_there : {p : ℕ} → (Forbidden t p → code t p ≡ 45 → ⊥) → MarkedThrough t p → NoStream t

@@ -60,13 +60,13 @@ pub record Same (l m : ℕ) (x y : Meaning) : Type 0 where
   pub meaning : x ≡ y
 
 -- what a reader finds of a node: all up to the place, or the node without the comment lines after it
-data Known (t : List ℕ) (h l : ℕ) (x : Meaning) (o : Option Found) : Type 0 where
+pub data Known (t : List ℕ) (h l : ℕ) (x : Meaning) (o : Option Found) : Type 0 where
   all_of_it : IsFound o l h x → Known t h l x o
   but_lines : {j : ℕ} {y : Meaning} {es : List CommentValue} → IsFound o j h y → Settled t j l es → x ≡ noting y es → Known t h l x o
 
 module _ {t : List ℕ} where
   -- comment lines, from a place at which none begins
-  settled_still : {j l : ℕ} {es : List CommentValue} → Stuck (Row t j) → Settled t j l es → (l ≡ j) × (es ≡ [])
+  pub settled_still : {j l : ℕ} {es : List CommentValue} → Stuck (Row t j) → Settled t j l es → (l ≡ j) × (es ≡ [])
   settled_still {j} s d = let r = settled_one d (record { rows = done {i = j}; last = s }) in (r.0, r.1)
 
   known_one : {h g l m : ℕ} {x y : Meaning} {o : Option Found} → Stuck (Row t l) → Stuck (Row t m) → Known t h l x o → Known t g m y o → Same l m x y
@@ -101,7 +101,7 @@ module _ {t : List ℕ} where
   whole_none {j = j} {cs = cs} (BlockParser.awaited_inline d m l w g r) f s z = absurd (d.none j cs f)
   whole_none (BlockParser.awaited_missed d w) f s z = refl
 
-  known_some : {h l : ℕ} {x : Meaning} {o : Option Found} → Known t h l x o → o ≡ None → ⊥
+  pub known_some : {h l : ℕ} {x : Meaning} {o : Option Found} → Known t h l x o → o ≡ None → ⊥
   known_some (all_of_it e) f = not_none e f
   known_some (but_lines e d n) f = not_none e f
 
@@ -141,7 +141,7 @@ solid {l} {m} {x} {y} s = record {
 }
 
 module _ {t : List ℕ} (u : IsUtf8 t) {e : ℕ} where
-  known_of : {h p l : ℕ} {x : Meaning} {o : Option Found} → NodeTo t h p l x → LinesEnd t l → h ≤ e → Whole t e (Awaited false (pos 0 -ℤ pos 1) BlockIn Nothing p) o → Known t h l x o
+  pub known_of : {h p l : ℕ} {x : Meaning} {o : Option Found} → NodeTo t h p l x → LinesEnd t l → h ≤ e → Whole t e (Awaited false (pos 0 -ℤ pos 1) BlockIn Nothing p) o → Known t h l x o
   known_of {h} {l = l} {x} {o} n z w r = go (by_scalar n.node.derived) (document_node u n.node.derived w n.node.clear n.settled.rows n.settled.last z r) where
     go : (b : Bool) → DocumentFound h n.end l n.comments n.meaning o b → Known t h l x o
     go false (takes_lines q) = all_of_it (record { is = q ∙ ap (found l h false) (sym n.is) })

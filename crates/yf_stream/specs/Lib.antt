@@ -6,6 +6,7 @@ pub mod EmptyDocument
 pub mod HasReading
 pub mod Laws
 pub mod LeafPass
+pub mod MadeReadings
 pub mod NodeLaws
 pub mod NotedLists
 pub mod PlaceLaws

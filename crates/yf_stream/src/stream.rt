@@ -4,6 +4,7 @@ ghost use Rattle.std.specs.List.{All};
 ghost use Rattle.std.specs.Str.{IsCharBoundary};
 ghost use Rattle.yf_events.specs.Reading.{Fits};
 ghost use Rattle.yf_lines.specs.FaultPlaces.{InText, IsPlaceOf};
+ghost use Rattle.yf_stream.specs.MadeReadings.{MadeOr, MadeReading, NoBreach};
 ghost use Rattle.yf_stream.specs.NotedLists.{FaultAt, NotedOr};
 ghost use Rattle.yf_stream.specs.Refusal.{IsStreamFault};
 ghost use Rattle.yf_stream.specs.RefusalPlaces.{DocumentsAt, RefusalAt};
@@ -44,12 +45,14 @@ enum Refusal {
 /// Proved of this is that the faults are of these kinds, each but `Memory` with a place in the text, and that the reading is
 /// well nested; the rest is tested.
 pub fn read_stream<'a>(alloc: Global, text: &'a str) -> Result<Reading<'a>, Fault>
-    ensures { IfErr result (λ fault. IsStreamFault text.now fault) }
+    ensures faults { IfErr result (λ fault. IsStreamFault text.now fault) }
+    ensures made { MadeReading text.now result }
 {
     match read_lists(alloc, text) {
-        Ok(Ok(lists)) => match Reading::build(alloc, lists)? {
-            Some(reading) => Ok(reading),
-            None => Err(fault_at(alloc, text, Refusal::TooDeep(0))),
+        Ok(Ok(lists)) => match Reading::build(alloc, lists) {
+            Ok(Some(reading)) => Ok(reading),
+            Ok(None) => Err(fault_at(alloc, text, Refusal::TooDeep(0))),
+            Err(_) => Err(Fault::Memory),
         },
         Ok(Err(refusal)) => Err(fault_at(alloc, text, refusal)),
         Err(AllocError) => Err(Fault::Memory),
@@ -104,7 +107,8 @@ fn place_of(table: &LineTable, text: &str, offset: usize) -> Place
 
 // The lists of the stream's reading, or why there is none.
 fn read_lists<'a>(alloc: Global, text: &'a str) -> Result<Result<Lists<'a>, Refusal>, AllocError>
-    ensures { IfOk result (λ r. MatchResult r (λ lists. Fits lists) (λ refusal. RefusalAt text.now refusal)) }
+    ensures made { IfOk result (λ r. MadeOr text.now r) }
+    ensures refusal { IfOk result (λ r. MatchResult r (λ lists. Fits lists) (λ refusal. RefusalAt text.now refusal)) }
 {
     let mut parts = Parts::new(alloc);
     if let Some(refusal) = read_documents(alloc, text, &mut parts)? {
@@ -157,6 +161,7 @@ fn read_documents<'a>(
     requires escapes { All (IsCharBoundary text.now) parts.old.part.escapes }
     requires documents { DocumentsAt text.now parts.old.documents }
     ensures refusal { IfOk result (λ o. IfSome o (λ refusal. RefusalAt text.now refusal)) }
+    ensures underived { IfOk result (λ o. IfSome o (λ refusal. NoBreach refusal)) }
     ensures escapes { IfOk result (λ _. All (IsCharBoundary text.now) parts.new.part.escapes) }
     ensures documents { IfOk result (λ _. DocumentsAt text.now parts.new.documents) }
 {

@@ -1,4 +1,4 @@
-use Rattle.std.proofs.Common.{◌≡◌, sym, ap, ◌∙◌, subst, arith}
+use Rattle.std.proofs.Common.{◌≡◌, [], sym, ap, ◌∙◌, subst, arith}
 use Rattle.yf_stream.specs.TagPass.{FirstOf, PassTags, stream_breaches}
 use Rattle.yf_stream.specs.WellFormed.{escape_breaches}
 use Rattle.yf_stream.proofs.FirstLemmas.{finds_as}
@@ -19,7 +19,7 @@ documents-preserved c =
     let docs = c.as_slice-documents.result.now in
     record {
       resolving = resolving_document i.resolving (omega (arith, c.len.ensures, c.documents-test.true)) c.in_ok-push.ensures
-          (next_document docs c.documents.begun c.get.result c.get.ensures) c.in_ok-at-2.ensures.resolves c.in_ok-at-2.ensures.next;
+          (next_document docs c.documents.begun c.get.result c.get.ensures.lookup) c.in_ok-at-2.ensures.resolves c.in_ok-at-2.ensures.next;
       later = omega (arith, c.in_ok-at-2.ensures.end.0);
       within = c.in_ok-at-2.ensures.end.1;
     }
@@ -32,4 +32,4 @@ returns-clause-first c =
 pub returns-clause-tags : goal.returns-clause-tags
 returns-clause-tags c =
     let ends = resolving_ends c.documents.invariant.resolving (omega (arith, c.len.ensures, c.documents-test.false)) in
-    λ n. subst (λ z. PassTags z _ c.args.events.now c.documents.resolved.tags) c.as_slice-documents.ensures (ends.1 n)
+    λ n. subst (λ z. PassTags z [] c.args.events.now c.documents.resolved.tags) c.as_slice-documents.ensures (ends.1 n)
