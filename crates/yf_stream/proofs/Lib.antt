@@ -71,4 +71,5 @@ pub mod BareStarts
 pub mod NodePast
 pub mod NodeSteps
 pub mod StreamUpto
+pub mod NextSteps
 pub mod FloorLemmas

@@ -121,7 +121,7 @@ module _ {t : List ℕ} where
   pub lines_end : {b : Bool} {h k : ℕ} {x : Documents} → Path t b h k x → b ≡ false → LinesEnd t k
   lines_end (path_ends e) f = text_ends e
   lines_end (path_mark e s p) f = mark_stands e
-  lines_end (path_suffix m c s p) f = marker_stands m
+  lines_end (path_suffix m c s p ln) f = marker_stands m
   lines_end (path_explicit m c n p) f = marker_stands m
   lines_end (path_directives q c d n p m) f = absurd (true≢false (sym q ∙ f))
   lines_end (path_bare q m c d n p) f = absurd (true≢false (sym q ∙ f))
@@ -168,7 +168,7 @@ module _ {t : List ℕ} (u : IsUtf8 t) {e : ℕ} where
   path_one {b} (path_mark {es = es} {x = x} c s p) (path_mark {h = g} {es = fs} {x = y} f r q) v w =
       let a = settled_one s r in
       ap (λ i. with_comments i x) a.1 ∙ ap (with_comments fs) (path_one p (subst (λ i. Path t b g i y) (sym a.0) q) v w)
-  path_one (path_suffix {es = es} {x = x} n c s p) (path_suffix {h = g} {es = fs} {x = y} m f r q) v w =
+  path_one (path_suffix {es = es} {x = x} n c s p ln) (path_suffix {h = g} {es = fs} {x = y} m f r q lo) v w =
       let a = settled_one s r in
       ap (λ i. with_comments i x) a.1 ∙ ap (with_comments fs) (path_one p (subst (λ i. Path t true g i y) (sym a.0) q) v w)
   path_one {k = k} (path_explicit {h = h} {g = g} {x = x} {rest = rest} m c n p) (path_explicit {h = i} {g = j} {x = y} {rest = other} r f o q) v w =
@@ -192,31 +192,31 @@ module _ {t : List ℕ} (u : IsUtf8 t) {e : ℕ} where
       ∙ ap (λ z. with_document z.comments (document_of l false [] z) rest) b.meaning
       ∙ ap (with_document y.comments (document_of l false [] y)) (path_one p (subst (λ z. Path t false j z other) (sym b.ends) q) (omega arith) (omega arith))
   path_one {k = k} (path_ends f) (path_mark g s1 p1) v w = let c = end_code t k f in absurd (omega arith)
-  path_one {k = k} (path_ends f) (path_suffix m1 g s1 p1) v w = let c = end_code t k f in absurd (omega arith)
+  path_one {k = k} (path_ends f) (path_suffix m1 g s1 p1 ln) v w = let c = end_code t k f in absurd (omega arith)
   path_one {k = k} (path_ends f) (path_explicit m1 g n1 p1) v w = let c = end_code t k f in absurd (omega arith)
   path_one {k = k} (path_ends f) (path_directives z1 g d1 n1 p1 m0) v w = let c = end_code t k f in absurd (omega arith)
   path_one {k = k} (path_mark f s p) (path_ends g) v w = let c = end_code t k g in absurd (omega arith)
-  path_one {k = k} (path_mark f s p) (path_suffix m1 g s1 p1) v w = absurd (omega arith)
+  path_one {k = k} (path_mark f s p) (path_suffix m1 g s1 p1 ln) v w = absurd (omega arith)
   path_one {k = k} (path_mark f s p) (path_explicit m1 g n1 p1) v w = absurd (omega arith)
   path_one {k = k} (path_mark f s p) (path_directives z1 g d1 n1 p1 m0) v w = absurd (omega arith)
-  path_one {k = k} (path_suffix m f s p) (path_ends g) v w = let c = end_code t k g in absurd (omega arith)
-  path_one {k = k} (path_suffix m f s p) (path_mark g s1 p1) v w = absurd (omega arith)
-  path_one {k = k} (path_suffix m f s p) (path_explicit m1 g n1 p1) v w = absurd (omega arith)
-  path_one {k = k} (path_suffix m f s p) (path_directives z1 g d1 n1 p1 m0) v w = absurd (omega arith)
+  path_one {k = k} (path_suffix m f s p ln) (path_ends g) v w = let c = end_code t k g in absurd (omega arith)
+  path_one {k = k} (path_suffix m f s p ln) (path_mark g s1 p1) v w = absurd (omega arith)
+  path_one {k = k} (path_suffix m f s p ln) (path_explicit m1 g n1 p1) v w = absurd (omega arith)
+  path_one {k = k} (path_suffix m f s p ln) (path_directives z1 g d1 n1 p1 m0) v w = absurd (omega arith)
   path_one {k = k} (path_explicit m f n p) (path_ends g) v w = let c = end_code t k g in absurd (omega arith)
   path_one {k = k} (path_explicit m f n p) (path_mark g s1 p1) v w = absurd (omega arith)
-  path_one {k = k} (path_explicit m f n p) (path_suffix m1 g s1 p1) v w = absurd (omega arith)
+  path_one {k = k} (path_explicit m f n p) (path_suffix m1 g s1 p1 ln) v w = absurd (omega arith)
   path_one {k = k} (path_explicit m f n p) (path_directives z1 g d1 n1 p1 m0) v w = absurd (omega arith)
   path_one {k = k} (path_directives z f d n p m0) (path_ends g) v w = let c = end_code t k g in absurd (omega arith)
   path_one {k = k} (path_directives z f d n p m0) (path_mark g s1 p1) v w = absurd (omega arith)
-  path_one {k = k} (path_directives z f d n p m0) (path_suffix m1 g s1 p1) v w = absurd (omega arith)
+  path_one {k = k} (path_directives z f d n p m0) (path_suffix m1 g s1 p1 ln) v w = absurd (omega arith)
   path_one {k = k} (path_directives z f d n p m0) (path_explicit m1 g n1 p1) v w = absurd (omega arith)
   path_one {k = k} (path_ends f) (path_bare z2 m2 c2 d2 n2 p2) v w = absurd (no_content no_char (end_code t k f) end_facts.0 end_facts.1 d2)
   path_one {k = k} (path_bare z2 m2 c2 d2 n2 p2) (path_ends f) v w = absurd (no_content no_char (end_code t k f) end_facts.0 end_facts.1 d2)
   path_one {k = k} (path_mark f s p) (path_bare z2 m2 c2 d2 n2 p2) v w = absurd (no_content 0xFEFF f mark_facts.0 mark_facts.1 d2)
   path_one {k = k} (path_bare z2 m2 c2 d2 n2 p2) (path_mark f s p) v w = absurd (no_content 0xFEFF f mark_facts.0 mark_facts.1 d2)
-  path_one {k = k} (path_suffix m f s p) (path_bare z2 m2 c2 d2 n2 p2) v w = absurd (m2 m)
-  path_one {k = k} (path_bare z2 m2 c2 d2 n2 p2) (path_suffix m f s p) v w = absurd (m2 m)
+  path_one {k = k} (path_suffix m f s p ln) (path_bare z2 m2 c2 d2 n2 p2) v w = absurd (m2 m)
+  path_one {k = k} (path_bare z2 m2 c2 d2 n2 p2) (path_suffix m f s p ln) v w = absurd (m2 m)
   path_one {k = k} (path_explicit m f n p) (path_bare z2 m2 c2 d2 n2 p2) v w = absurd (m2 m)
   path_one {k = k} (path_bare z2 m2 c2 d2 n2 p2) (path_explicit m f n p) v w = absurd (m2 m)
   path_one {k = k} (path_directives z f d n p m0) (path_bare z2 m2 c2 d2 n2 p2) v w = absurd (c2 f)

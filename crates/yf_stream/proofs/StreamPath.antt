@@ -68,8 +68,8 @@ pub data Path (t : List ℕ) : Bool → ℕ → ℕ → Documents → Type 0 whe
   path_ends : {b : Bool} {k : ℕ} → k ≡ length t → Path t b 0 k (only_comments [])
   path_mark : {b : Bool} {h k l : ℕ} {es : List CommentValue} {x : Documents} → code t k ≡ 0xFEFF → Settled t (next t k) l es → Path t b h l x
       → Path t b h k (with_comments es x)
-  path_suffix : {b : Bool} {h k l : ℕ} {es : List CommentValue} {x : Documents} → Forbidden t k → code t k ≡ 46 → Settled t (k + 3) l es → Path t true h l x
-      → Path t b h k (with_comments es x)
+  path_suffix : {b : Bool} {h k j l : ℕ} {cs es : List CommentValue} {x : Documents} → Forbidden t k → code t k ≡ 46 → Settled t (k + 3) l es → Path t true h l x
+      → LineEnd t (k + 3) j cs → Path t b h k (with_comments es x)
   path_explicit : {b : Bool} {h g k l : ℕ} {x : Meaning} {rest : Documents} → Forbidden t k → code t k ≡ 45 → ExplicitTo t h k l x → Path t false g l rest
       → Path t b (max h g) k (with_document x.comments (document_of k true [] x) rest)
   path_directives : {b : Bool} {h g k p l : ℕ} {ds : List Directive} {cs : List CommentValue} {x : Meaning} {rest : Documents} → b ≡ true → code t k ≡ 37
@@ -255,7 +255,7 @@ module _ {t : List ℕ} (u : IsUtf8 t) where
   suffix_from {cs = cs} l e d p =
       let m = suffix_marker l e d in
       changed (sym (ap (with_comments cs) p.is ∙ comments_join cs p.comments p.documents))
-      (from_here (dot_still m.1) (path_suffix m.0 m.1 (settled_more (line_end_rows d) p.settled) p.path))
+      (from_here (dot_still m.1) (path_suffix m.0 m.1 (settled_more (line_end_rows d) p.settled) p.path d))
 
   suffixes_from : {b : Bool} {h i k : ℕ} {cs : List CommentValue} {x : Documents} → LineOrEnd t i → Suffixes t i k cs → PathFrom t true h k x → PathFrom t b h i (with_comments cs x)
   suffixes_from l (last_suffix e d) p = suffix_from l e d p

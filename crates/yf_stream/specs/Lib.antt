@@ -2,6 +2,7 @@ pub mod CommentLaws
 pub mod FewHandles
 pub mod DirectiveReaders
 pub mod DocumentReaders
+pub mod DocumentSteps
 pub mod EmptyDocument
 pub mod HasReading
 pub mod Laws
