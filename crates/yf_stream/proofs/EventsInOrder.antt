@@ -24,9 +24,9 @@ mutual
   node_in_order (scalar_stands e b m n w s) r = begins _ e b.order (sooner (omega arith) r)
   node_in_order (alias_stands e b m n s) r = begins _ e b.order (sooner (omega arith) r)
   node_in_order {rest = rest} (sequence_stands {xs = xs} e b m n s) r =
-      begins _ e b.order (moved (append_assoc (flat_items xs) (unplaced sequence_ends ∷ []) rest) (items_in_order m (no_place refl (sooner n r))))
+      begins _ e b.order (sooner b.inner (moved (append_assoc (flat_items xs) (unplaced sequence_ends ∷ []) rest) (items_in_order m (no_place refl (sooner n r)))))
   node_in_order {rest = rest} (mapping_stands {ps = ps} e b m n s) r =
-      begins _ e b.order (moved (append_assoc (flat_pairs ps) (unplaced mapping_ends ∷ []) rest) (pairs_in_order m (no_place refl (sooner n r))))
+      begins _ e b.order (sooner b.inner (moved (append_assoc (flat_pairs ps) (unplaced mapping_ends ∷ []) rest) (pairs_in_order m (no_place refl (sooner n r)))))
 
   items_in_order : {t : List ℕ} {i j : ℕ} {xs : Items} {rest : List Placed} → ItemsStand t i j xs → BeginInOrder j rest → BeginInOrder i (flat_items xs ++ rest)
   items_in_order (no_items_stand l) r = sooner l r

@@ -15,19 +15,19 @@ use Rattle.yf_stream.proofs.ReadingMade.{first_breach, reading_made}
 pub made_of : {t : List ℕ} {p : Parts} {r : Lists} → IsUtf8 t → Noted t p r → MadeOf t r
 made_of {p = p} u n = record { parts = p; noted = n; reading = λ x s w. reading_made u s w n }
 
-refusal_in : {t : List ℕ} {p : Parts} (refusal : Refusal) → IsUtf8 t → IsFirstBreach p refusal → RefusalIn t refusal
-refusal_in {p = p} (Refusals.Breach b) u f = record { parts = p; first = f; told = λ x s w. first_breach u s w f }
-refusal_in (Refusals.Syntax offset) u f = tt
-refusal_in (Refusals.TooDeep offset) u f = tt
+refusal_in : {t : List ℕ} (p : Parts) (refusal : Refusal) → IsUtf8 t → IsFirstBreach p refusal → RefusalIn t refusal
+refusal_in p (Refusals.Breach b) u f = record { parts = p; first = f; told = λ x s w. first_breach u s w f }
+refusal_in p (Refusals.Syntax offset) u f = tt
+refusal_in p (Refusals.TooDeep offset) u f = tt
 
-pub made_or : {t : List ℕ} {p : Parts} (r : Result Lists Refusal) → IsUtf8 t → NotedOr t p r → MadeOr t r
-made_or (Ok lists) u n = made_of u n
-made_or (Err refusal) u f = refusal_in refusal u f
+pub made_or : {t : List ℕ} (p : Parts) (r : Result Lists Refusal) → IsUtf8 t → NotedOr t p r → MadeOr t r
+made_or p (Ok lists) u n = made_of u n
+made_or p (Err refusal) u f = refusal_in p refusal u f
 
-pub not_derived : {t : List ℕ} (refusal : Refusal) → NoBreach refusal → RefusalIn t refusal
-not_derived (Refusals.Breach b) n = absurd n
-not_derived (Refusals.Syntax offset) n = tt
-not_derived (Refusals.TooDeep offset) n = tt
+pub not_derived : (t : List ℕ) (refusal : Refusal) → NoBreach refusal → RefusalIn t refusal
+not_derived t (Refusals.Breach b) n = absurd n
+not_derived t (Refusals.Syntax offset) n = tt
+not_derived t (Refusals.TooDeep offset) n = tt
 
 pub refused_memory : {t : List ℕ} {fault : Fault} → fault ≡ Memory → RefusedIn t fault
 refused_memory {t} e = subst (λ z. RefusedIn t z) (sym e) (refused_in (Refusals.TooDeep 0) tt for_memory)
