@@ -50,13 +50,13 @@ abbrev StartsAt : List ℕ → List Placed → Type 0
 StartsAt t [] = Unit {0}
 StartsAt t (e ∷ es) = StartAt t e.span × StartsAt t es
 
-module _ {t : List ℕ} where
+module _ (t : List ℕ) where
   start_of_none : {o : Option Span} → o ≡ None → StartAt t o
   start_of_none e = subst (λ z. StartAt t z) (sym e) tt
 
-  start_of_some : {o : Option Span} {a b : ℕ} → o ≡ from_to a b → code t a < no_char → StartAt t o
+  start_of_some : {o : Option Span} (a b : ℕ) → o ≡ from_to a b → code t a < no_char → StartAt t o
   unfolding from_to
-  start_of_some e l = subst (λ z. StartAt t z) (sym e) l
+  start_of_some a b e l = subst (λ z. StartAt t z) (sym e) l
 
   starts_join : (xs ys : List Placed) → StartsAt t xs → StartsAt t ys → StartsAt t (xs ++ ys)
   starts_join [] ys a b = b
@@ -65,10 +65,10 @@ module _ {t : List ℕ} where
   mutual
     node_starts : {i j : ℕ} {x : Node} → NodeStands t i j x → StartsAt t (flat x)
     node_starts (stands_nowhere l e) = (start_of_none e, tt)
-    node_starts (scalar_stands {a = a} e b m n w s) = (start_of_some e (ns_below (code t a) b.visible.ns), tt)
-    node_starts (alias_stands {a = a} e b m n s) = (start_of_some e (ns_below (code t a) b.visible.ns), tt)
-    node_starts (sequence_stands {a = a} {xs = xs} e b m n s) = (start_of_some e (ns_below (code t a) b.visible.ns), starts_join (flat_items xs) _ (items_start m) (tt, tt))
-    node_starts (mapping_stands {a = a} {ps = ps} e b m n s) = (start_of_some e (ns_below (code t a) b.visible.ns), starts_join (flat_pairs ps) _ (pairs_start m) (tt, tt))
+    node_starts (scalar_stands {a = a} {b = z} e b m n w s) = (start_of_some a z e (ns_below (code t a) b.visible.ns), tt)
+    node_starts (alias_stands {a = a} {b = z} e b m n s) = (start_of_some a z e (ns_below (code t a) b.visible.ns), tt)
+    node_starts (sequence_stands {a = a} {b = z} {xs = xs} e b m n s) = (start_of_some a z e (ns_below (code t a) b.visible.ns), starts_join (flat_items xs) _ (items_start m) (tt, tt))
+    node_starts (mapping_stands {a = a} {b = z} {ps = ps} e b m n s) = (start_of_some a z e (ns_below (code t a) b.visible.ns), starts_join (flat_pairs ps) _ (pairs_start m) (tt, tt))
 
     items_start : {i j : ℕ} {xs : Items} → ItemsStand t i j xs → StartsAt t (flat_items xs)
     items_start (no_items_stand l) = tt
@@ -81,21 +81,21 @@ module _ {t : List ℕ} where
   -- tags of documents
   explicit_offsets : {h i j : ℕ} {x : Meaning} → ExplicitNode t h i j x → OffsetsAt t x.events
   unfolding noting empty_node plain_event
-  explicit_offsets (marked_node e n) = offsets_at n.derived
+  explicit_offsets (marked_node e n) = offsets_at t n.derived
   explicit_offsets (marked_nothing e d) = (tt, tt)
 
   document_offsets : {h i j : ℕ} {d : Document} {cs : List CommentValue} → AnyDocument t h i j d cs → OffsetsAt t d.events
   unfolding document_of
-  document_offsets (bare_document n c) = offsets_at n.derived
+  document_offsets (bare_document n c) = offsets_at t n.derived
   document_offsets (explicit_document e) = explicit_offsets e
   document_offsets (directive_document d e) = explicit_offsets e
 
 -- the offsets of breaches are between characters
 module _ {t : List ℕ} (u : IsUtf8 t) where
   boundary_at : (i : ℕ) → code t i < no_char → IsCharBoundary t i
+  unfolding code
   boundary_at i l = go (begins t i) refl where
     go : (b : Bool) → begins t i ≡ b → IsCharBoundary t i
-    unfolding code
     go true e = boundary_from_begins t i e
     go false e = let f : code t i ≡ no_char = rw e refl in absurd (omega arith)
 
@@ -158,11 +158,11 @@ module _ {t : List ℕ} (u : IsUtf8 t) where
   documents_told (document_stands {d = x} {ds = xs} a more) (document_derived y w rest) d e =
       let docs = map doc_of xs in
       let others = flat_map (λ (d : Document). d.escapes) xs in
-      let starts = subst (λ z. StartsAt t z) (sym a.events) (node_starts a.stands) in
+      let starts = subst (λ z. StartsAt t z) (sym a.events) (node_starts t a.stands) in
       both_told (document_breaches x) (breaches xs)
       (both_told (directive_breaches false [] x.directives) _ (directives_told false [] x.directives (All-head (λ (d : Doc). DirectivesAt t d.directives) (doc_of x) docs d))
       (both_told (event_breaches (declarations [] x.directives) [] x.events) (escape_breaches x.escapes)
-      (events_told (declarations [] x.directives) [] x.events starts (document_offsets y))
+      (events_told (declarations [] x.directives) [] x.events starts (document_offsets t y))
       (escapes_told x.escapes (first_all (IsCharBoundary t) x.escapes others e))))
       (documents_told more rest (All-tail (λ (d : Doc). DirectivesAt t d.directives) (doc_of x) docs d) (second_all (IsCharBoundary t) x.escapes others e))
 

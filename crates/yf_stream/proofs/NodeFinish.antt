@@ -72,13 +72,13 @@ module _ {t : List ℕ} where
   line_there {j = j} {cs = cs} d = record { end = j; comments = cs; line = d }
 
   pub rows_there : {i j : ℕ} {cs : List CommentValue} → LineEnd t i j cs → LineRows t i j
-  rows_there {j = j} d = record { ends = line_there d; more = []; rows = done {i = j} }
+  rows_there {j = j} {cs = cs} d = record { ends = record { end = j; comments = cs; line = d }; more = []; rows = done {i = j} }
 
   nothing_left : {i : ℕ} → LineOrEnd t i → LineEnd t i i []
   nothing_left {i} l = ⊎_elim (λ (s : LineStart t i). from_start s done) (λ (e : i ≡ length t). past_rest (nothing (by_end e)) done) l
 
   rows_from : {i j : ℕ} {cs : List CommentValue} → LineOrEnd t i → Chain (Row t) i j cs → LineRows t i j
-  rows_from {cs = cs} l c = record { ends = line_there (nothing_left l); more = cs; rows = c }
+  rows_from {i} {cs = cs} l c = record { ends = record { end = i; comments = []; line = nothing_left l }; more = cs; rows = c }
 
   stop_next : {h j : ℕ} → LineStop t h j → LineOrEnd t j
   stop_next (at_break b) = inl (after_break b)

@@ -36,6 +36,10 @@ abbrev end_of : Found → Option Found → ℕ
 end_of d None = d.end
 end_of d (Some f) = f.end
 
+found_ends_at : {o : Option Found} {f : Found} {k g : ℕ} {y : Meaning} → o ≡ Some f → IsFound o k g y → f.end ≡ k
+unfolding found
+found_ends_at {f = f} q i = ap (end_of f) (sym q ∙ i.is)
+
 -- the longest part there, before the comment lines after it
 pub record PastNode (t : List ℕ) (h p l j : ℕ) (x : Meaning) (part : Part) : Type 0 where
   pub meaning : Meaning
@@ -136,13 +140,9 @@ module _ {t : List ℕ} (u : IsUtf8 t) {e h p l : ℕ} {x : Meaning} (n : NodeTo
 
   pub no_node_left : (o : Option Found) {f : Found} → Whole t e (Awaited false (pos 0 -ℤ pos 1) BlockIn Nothing p) o → o ≡ Some f → (LinesEnd t f.end → ⊥) → Stuck (Row t f.end) → ⊥
   no_node_left o {f} r q none s = go (known_of u n ends within r) where
-    at_end : {k g : ℕ} {y : Meaning} → IsFound o k g y → f.end ≡ k
-    unfolding found
-    at_end i = ap (end_of f) (sym q ∙ i.is)
-
     go : Known t h l x o → ⊥
-    go (all_of_it i) = none (subst (λ z. LinesEnd t z) (sym (at_end i)) ends)
+    go (all_of_it i) = none (subst (λ z. LinesEnd t z) (sym (found_ends_at q i)) ends)
     go (but_lines {j = j} {es = es} i d m) =
-        let same = at_end i in
+        let same = found_ends_at q i in
         let still = settled_still s (subst (λ z. Settled t z l es) (sym same) d) in
         none (subst (λ z. LinesEnd t z) still.0 ends)

@@ -114,10 +114,10 @@ module _ {t : List ℕ} (u : IsUtf8 t) where
     through = paths_past_dots r f e d p.through;
   }
 
-  past_one : {b : Bool} {g k j : ℕ} {cs : List CommentValue} {d : Document} {x : Documents} → g ≤ DEPTH
+  past_one : {b : Bool} {g k j : ℕ} (cs : List CommentValue) (d : Document) {x : Documents} → g ≤ DEPTH
       → ((h : ℕ) (y : Documents) → StreamFrom t false h j y → StreamFrom t b (max g h) k (with_document cs d y)) → LineOrEnd t j → PathsThrough t false j → ReadUpto t b k x
       → ReadUpto t false j (followed x (one_document cs d))
-  past_one {g = g} {cs = cs} {d = d} {x = x} w f l q p = record {
+  past_one {g = g} cs d {x = x} w f l q p = record {
     height = max p.height g;
     within = omega (arith, p.within);
     starts = l;
@@ -129,11 +129,11 @@ module _ {t : List ℕ} (u : IsUtf8 t) where
 
   pub past_marked_document : {b : Bool} {g k j : ℕ} {m : Meaning} {x : Documents} → g ≤ DEPTH → ExplicitNode t g k j m → PathsThrough t false j → ReadUpto t b k x
       → ReadUpto t false j (followed x (one_document m.comments (document_of k true [] m)))
-  past_marked_document w e q p = past_one w (λ h y s. from_explicit e s) (explicit_next u e) q p
+  past_marked_document {k = k} {m = m} w e q p = past_one m.comments (document_of k true [] m) w (λ h y s. from_explicit e s) (explicit_next u e) q p
 
   pub past_document : {g k j : ℕ} {cs : List CommentValue} {d : Document} {x : Documents} → g ≤ DEPTH → AnyDocument t g k j d cs → PathsThrough t false j → ReadUpto t true k x
       → ReadUpto t false j (followed x (one_document cs d))
-  past_document w a q p = past_one w (λ h y s. from_document a s) (document_next u a) q p
+  past_document {cs = cs} {d = d} w a q p = past_one cs d w (λ h y s. from_document a s) (document_next u a) q p
 
   pub reading_ends : {b : Bool} {k : ℕ} {x : Documents} → k ≡ length t → ReadUpto t b k x → Shapes t x
   reading_ends {b} {k} {x} e p =

@@ -25,17 +25,17 @@ abbrev pub OffsetsAt : List ℕ → List Placed → Type 0
 OffsetsAt t [] = Unit {0}
 OffsetsAt t (e ∷ es) = OffsetAt t e.tag_offset × OffsetsAt t es
 
-module _ {t : List ℕ} where
-  sign_at : {i : ℕ} → code t i ≡ 33 → code t i < no_char
-  sign_at e = omega arith
+module _ (t : List ℕ) where
+  sign_at : (i : ℕ) → code t i ≡ 33 → code t i < no_char
+  sign_at i e = omega arith
 
   handle_at : {i j : ℕ} → Handle t i j → code t i < no_char
-  handle_at (primary_handle e) = sign_at e
-  handle_at (secondary_handle e f) = sign_at e
-  handle_at (named_handle e r f) = sign_at e
+  handle_at (primary_handle {i = i} e) = sign_at i e
+  handle_at (secondary_handle {i = i} e f) = sign_at i e
+  handle_at (named_handle {i = i} e r f) = sign_at i e
 
   verbatim_at : {i j : ℕ} {x : List ℕ} → VerbatimTag t i j x → code t i < no_char
-  verbatim_at (in_brackets e f r g) = sign_at e
+  verbatim_at (in_brackets {i = i} e f r g) = sign_at i e
 
   shorthand_at : {i j : ℕ} {x : TagValue} → ShorthandTag t i j x → code t i < no_char
   shorthand_at (handle_suffix h r) = handle_at h
@@ -43,7 +43,7 @@ module _ {t : List ℕ} where
   tag_at : {i j : ℕ} {x : TagValue} → TagProperty t i j x → code t i < no_char
   tag_at (verbatim_tag d) = verbatim_at d
   tag_at (shorthand_tag d) = shorthand_at d
-  tag_at (non_specific_tag e s) = sign_at e
+  tag_at (non_specific_tag {i = i} e s) = sign_at i e
 
   props_at : {n : ℤ} {c : Ctx} {i j : ℕ} {p : PropertiesValue} → Properties t n c i j p → OffsetAt t p.tag_offset
   props_at (by_tag d) = tag_at d
@@ -55,9 +55,9 @@ module _ {t : List ℕ} where
   both_at [] ys a b = b
   both_at (x ∷ xs) ys a b = (a.0, both_at xs ys a.1 b)
 
-  first_at : (es : List Placed) (p : PropsValue) (o : Option ℕ) {i j : ℕ} → OffsetAt t o → OffsetsAt t es → OffsetsAt t (first_with p o i j es)
-  first_at [] p o a b = tt
-  first_at (e ∷ es) p o a b = (a, b.1)
+  first_at : (es : List Placed) (p : PropsValue) (o : Option ℕ) (i j : ℕ) → OffsetAt t o → OffsetsAt t es → OffsetsAt t (first_with p o i j es)
+  first_at [] p o i j a b = tt
+  first_at (e ∷ es) p o i j a b = (a, b.1)
 
   entered_at : (es : List Placed) (e : Entry) → OffsetsAt t es → OffsetsAt t (first_entering e es)
   entered_at [] e a = tt
@@ -77,7 +77,7 @@ module _ {t : List ℕ} where
 
   propertied_at : (p : PropertiesValue) (i j : ℕ) (x : Meaning) → OffsetAt t p.tag_offset → OffsetsAt t x.events → OffsetsAt t (with_props p.props p.tag_offset i j x).events
   unfolding with_props
-  propertied_at p i j x a b = first_at x.events p.props p.tag_offset a b
+  propertied_at p i j x a b = first_at x.events p.props p.tag_offset i j a b
 
   nothing_at : (i : ℕ) → OffsetsAt t (empty_node i).events
   unfolding empty_node plain_event
