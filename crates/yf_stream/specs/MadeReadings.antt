@@ -1,6 +1,7 @@
 -- What the reader of streams answers, by the parts that it has read: the lists that are made of them, or the first breach in them. Where they are
 -- those of the one shape of the text, the lists are its reading, and the breach is the first one in it.
 use Rattle.std.specs.Prelude.{ℕ, List, Result, MatchResult}
+use Rattle.std.specs.Str.{IsCharBoundary}
 use Rattle.yf_lines.specs.declared.fault.Fault.{Fault}
 use Rattle.yf_events.specs.declared.lists.Lists.{Lists}
 use Rattle.yf_stream.specs.NotedLists.{FaultAt, Noted}
@@ -20,11 +21,12 @@ pub record MadeOf (t : List ℕ) (r : Lists) : Type 0 where
   pub noted : Noted t parts r
   pub reading : (x : Documents) → Shapes t x → Written t x parts → TheReading t r
 
--- the first breach in parts
+-- the first breach in parts, between characters where they are those of the text
 pub record BreachIn (t : List ℕ) (b : Breach) : Type 0 where
   pub parts : Parts
   pub first : IsFirst (stream_breaches parts.documents parts.part.events parts.part.escapes) b
   pub told : (x : Documents) → Shapes t x → Written t x parts → IsFirst (breaches x.documents) b
+  pub place : (x : Documents) → Shapes t x → Written t x parts → IsCharBoundary t b.offset
 
 abbrev pub RefusalIn : List ℕ → Refusal → Type 0
 RefusalIn t (Refusals.Breach b) = BreachIn t b

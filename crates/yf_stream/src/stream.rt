@@ -42,8 +42,10 @@ enum Refusal {
 /// handle in a document (`RepeatedDirective`), another major version than 1 (`BadVersion`), an escape that is no character
 /// (`EscapeValue`). `Fault::Memory` may come in the place of each answer, where a growth of memory was refused.
 ///
-/// Proved of this is that the faults are of these kinds, each but `Memory` with a place in the text, and that the reading is
-/// well nested; the rest is tested.
+/// Proved of this is that the faults are of these kinds, each but `Memory` with a place in the text, that the reading is well
+/// nested, and that it is made of parts in which nothing is breached, with the tags that they stand for and the notes which
+/// comments stand on the lines of leaves; a breach is the first one in such parts. Where the parts are those of the one shape
+/// of the text, that is its reading, and its first breach. That they are is tested.
 pub fn read_stream<'a>(alloc: Global, text: &'a str) -> Result<Reading<'a>, Fault>
     ensures faults { IfErr result (λ fault. IsStreamFault text.now fault) }
     ensures made { MadeReading text.now result }
@@ -93,7 +95,8 @@ fn fault_of(breach: Breach, place: Place) -> Fault
     }
 }
 
-// The place of a breach. Its offset stands between characters; of a tag and an alias that is not proved, so it is tested.
+// The place of a breach. Its offset stands between characters; where the parts are not known to be those of the text, a tag's or an
+// alias's is not known to, so it is asked.
 fn place_of(table: &LineTable, text: &str, offset: usize) -> Place
     requires { table.now.text ≡ text.now }
     ensures within { InText text.now result }

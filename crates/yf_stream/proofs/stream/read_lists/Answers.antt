@@ -8,4 +8,4 @@ pub returns-in-Some-clause-made : goal.returns-in-Some-clause-made
 returns-in-Some-clause-made c = not_derived c.args.text.now c.in-Some.refusal (subst (λ z. IfSome z (λ refusal. NoBreach refusal)) c.in-Some.is c.in_ok-refusal.ensures.underived)
 
 pub returns-clause-made : goal.returns-clause-made
-returns-clause-made c = IfOk-weaker _ _ _ (λ r n. made_or _ r c.utf8.text n) c.noted_lists.ensures.noted
+returns-clause-made c = IfOk-weaker _ _ _ (λ r n. made_or _ r c.utf8.text c.in_ok-refusal.ensures.documents c.in_ok-refusal.ensures.escapes n) c.noted_lists.ensures.noted
