@@ -19,6 +19,7 @@ moved {i} e b = subst (λ z. BeginInOrder i z) (sym e) b
 
 mutual
   unfolding from_to
+
   node_in_order : {t : List ℕ} {i j : ℕ} {x : Node} {rest : List Placed} → NodeStands t i j x → BeginInOrder j rest → BeginInOrder i (flat x ++ rest)
   node_in_order (stands_nowhere l e) r = no_place e (sooner l r)
   node_in_order (scalar_stands e b m n w s) r = begins _ e b.order (sooner (omega arith) r)

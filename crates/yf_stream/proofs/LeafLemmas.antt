@@ -196,17 +196,17 @@ none_left_before : {i : ℕ} {es : List Placed} (found : Option ℕ) (o : ℕ) �
 none_left_before found o l no_events = refl
 none_left_before found o l (no_place {e = e} {es = es} n b) =
     ap (λ z. last_end found o (span_in (begins_leaf e.event es) z ++ leaf_spans es)) n ∙ go (begins_leaf e.event es) (none_left_before found o l b) where
-  go : (c : Bool) → last_end found o (leaf_spans es) ≡ found → last_end found o (span_in c None ++ leaf_spans es) ≡ found
-  go true p = p
-  go false p = p
+      go : (c : Bool) → last_end found o (leaf_spans es) ≡ found → last_end found o (span_in c None ++ leaf_spans es) ≡ found
+      go true p = p
+      go false p = p
 none_left_before found o l (begins {e = e} {es = es} s n m b) =
     ap (λ z. last_end found o (span_in (begins_leaf e.event es) z ++ leaf_spans es)) n ∙ go (begins_leaf e.event es) (none_left_before found o (omega arith) b) where
-  later : nat_lt s.start o ≡ false
-  later = grind (arith, nat_tests)
+      later : nat_lt s.start o ≡ false
+      later = grind (arith, nat_tests)
 
-  go : (c : Bool) → last_end found o (leaf_spans es) ≡ found → last_end found o (span_in c (Some s) ++ leaf_spans es) ≡ found
-  go true p = ap (λ z. last_end (if z then Some s.end else found) o (leaf_spans es)) later ∙ p
-  go false p = p
+      go : (c : Bool) → last_end found o (leaf_spans es) ≡ found → last_end found o (span_in c (Some s) ++ leaf_spans es) ≡ found
+      go true p = ap (λ z. last_end (if z then Some s.end else found) o (leaf_spans es)) later ∙ p
+      go false p = p
 
 pub sooner : {i j : ℕ} {es : List Placed} → i ≤ j → BeginInOrder j es → BeginInOrder i es
 sooner l no_events = no_events
@@ -301,12 +301,12 @@ pub ends_behind_start : {t : List ℕ} {ls : List Line} {c : CommentValue} {s m 
     → c.offset ≤ m → m ≤ c.offset + length c.text → NextLine t m n → s < end → nat_le end n ≡ end_on_line ls o c.offset
 ends_behind_start {ls = ls} {c} {s} {m} {n} end e a d p l k x q =
     sym (ap (λ z. end_on_line ls z c.offset) e ∙ on_line_found end a d p l k x ∙ ap (λ z. z && nat_le end n) (lt_test s end q)) where
-  lt_test : (i j : ℕ) → i < j → nat_lt i j ≡ true
-  lt_test i j l = grind (arith, nat_tests)
+      lt_test : (i j : ℕ) → i < j → nat_lt i j ≡ true
+      lt_test i j l = grind (arith, nat_tests)
 
 pub ends_before_start : {t : List ℕ} {ls : List Line} {c : CommentValue} {s m n : ℕ} (end : ℕ) {o : Option ℕ} → o ≡ Some end → AreLines t ls → StandsInLine t c → BeginsLine t c.offset s
     → c.offset ≤ m → m ≤ c.offset + length c.text → NextLine t m n → end ≤ s → false ≡ end_on_line ls o c.offset
 ends_before_start {ls = ls} {c} {s} {m} {n} end e a d p l k x q =
     sym (ap (λ z. end_on_line ls z c.offset) e ∙ on_line_found end a d p l k x ∙ ap (λ z. z && nat_le end n) (lt_test s end q)) where
-  lt_test : (i j : ℕ) → j ≤ i → nat_lt i j ≡ false
-  lt_test i j l = grind (arith, nat_tests)
+      lt_test : (i j : ℕ) → j ≤ i → nat_lt i j ≡ false
+      lt_test i j l = grind (arith, nat_tests)

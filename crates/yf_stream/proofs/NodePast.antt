@@ -63,8 +63,8 @@ module _ {t : List ℕ} (u : IsUtf8 t) {e p j : ℕ} {part : Part} (chosen : Cho
       let w = subst (λ z. Whole t e (Awaited false (pos 0 -ℤ pos 1) BlockIn Nothing p) z) q r in
       let n = noting_exists u 0 y.events in
       same_end chosen (whole_nodes_are_chosen t e p (pos 0 -ℤ pos 1) BlockIn (record { end = k; height = h; json = false; meaning = y })
-        (record { events = n.0; comments = y.comments; escapes = y.escapes }) u refl (omega (arith, ints)) w
-        (record { events = n.1; comments = refl; escapes = refl }))
+      (record { events = n.0; comments = y.comments; escapes = y.escapes }) u refl (omega (arith, ints)) w
+      (record { events = n.1; comments = refl; escapes = refl }))
 
   module _ {h l : ℕ} {x : Meaning} (n : NodeTo t h p l x) (ends : LinesEnd t l) (within : h ≤ e) where
     ends_as : (b : Bool) → ((o : Option Found) → Whole t e (Awaited false (pos 0 -ℤ pos 1) BlockIn Nothing p) o → DocumentFound h n.end l n.comments n.meaning o b)

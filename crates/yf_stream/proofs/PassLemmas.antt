@@ -127,15 +127,15 @@ pub at_document : (docs : List Doc) (ds : List Declaration) (names : List (List 
     ≡ directive_breaches false [] (next_directives docs) ++ pass_breaches (later_documents docs) (declarations [] (next_directives docs)) [] es
 at_document docs ds names e es s =
     ap (λ z. if z
-      then directive_breaches false [] (next_directives docs) ++ pass_breaches (later_documents docs) (declarations [] (next_directives docs)) [] es
-      else own_breaches ds names e ++ pass_breaches docs ds (with_name (props_of e.event).anchor names) es) s
+    then directive_breaches false [] (next_directives docs) ++ pass_breaches (later_documents docs) (declarations [] (next_directives docs)) [] es
+    else own_breaches ds names e ++ pass_breaches docs ds (with_name (props_of e.event).anchor names) es) s
 
 pub at_event : (docs : List Doc) (ds : List Declaration) (names : List (List ℕ)) (e : Placed) (es : List Placed) → starts_document e.event ≡ false
     → pass_breaches docs ds names (e ∷ es) ≡ own_breaches ds names e ++ pass_breaches docs ds (with_name (props_of e.event).anchor names) es
 at_event docs ds names e es s =
     ap (λ z. if z
-      then directive_breaches false [] (next_directives docs) ++ pass_breaches (later_documents docs) (declarations [] (next_directives docs)) [] es
-      else own_breaches ds names e ++ pass_breaches docs ds (with_name (props_of e.event).anchor names) es) s
+    then directive_breaches false [] (next_directives docs) ++ pass_breaches (later_documents docs) (declarations [] (next_directives docs)) [] es
+    else own_breaches ds names e ++ pass_breaches docs ds (with_name (props_of e.event).anchor names) es) s
 
 -- where a document starts, nothing matters of the one before
 pub breaches_anew : (docs : List Doc) (ds : List Declaration) (names : List (List ℕ)) (es : List Placed) → StartsDocument es

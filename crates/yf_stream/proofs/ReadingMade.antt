@@ -93,9 +93,9 @@ module _ {t : List ℕ} (u : IsUtf8 t) {x : Documents} (s : Shapes t x) {p : Par
     lines_noted ls trees a o =
         let wanted = leaf_lines ls (flat_map (λ (d : DocumentTree). leaves d.root) trees) r.comments in
         let same_leaves : (ms : List Line) (others : List DocumentTree) → AreLines t ms → TreesOf r others
-            → wanted ≡ leaf_lines ms (flat_map (λ (d : DocumentTree). leaves d.root) others) r.comments =
+        → wanted ≡ leaf_lines ms (flat_map (λ (d : DocumentTree). leaves d.root) others) r.comments =
         λ ms others b q. ap (λ z. leaf_lines z (flat_map (λ (d : DocumentTree). leaves d.root) trees) r.comments) (lines_unique t ls ms a b)
-            ∙ ap (λ z. leaf_lines ms (flat_map (λ (d : DocumentTree). leaves d.root) z) r.comments) (trees_unique r trees others o q) in
+        ∙ ap (λ z. leaf_lines ms (flat_map (λ (d : DocumentTree). leaves d.root) z) r.comments) (trees_unique r trees others o q) in
         let order = stand_in_order u (reading_with wanted same_leaves) in
         let here = subst (λ z. StandInOrder t z p.part.comments) n.events (subst (λ z. StandInOrder t r.events z) n.comments order) in
         n.notes ls a here

@@ -57,8 +57,8 @@ abbrev pub pass_breaches : List Doc → List Declaration → List (List ℕ) →
 pass_breaches docs ds names [] = []
 pass_breaches docs ds names (e ∷ es) =
     if starts_document e.event
-      then directive_breaches false [] (next_directives docs) ++ pass_breaches (later_documents docs) (declarations [] (next_directives docs)) [] es
-      else own_breaches ds names e ++ pass_breaches docs ds (with_name (props_of e.event).anchor names) es
+    then directive_breaches false [] (next_directives docs) ++ pass_breaches (later_documents docs) (declarations [] (next_directives docs)) [] es
+    else own_breaches ds names e ++ pass_breaches docs ds (with_name (props_of e.event).anchor names) es
 
 -- all breaches of a stream, by its lists
 abbrev pub stream_breaches : List Doc → List Placed → List ℕ → List Breach

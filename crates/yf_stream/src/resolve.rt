@@ -48,13 +48,7 @@ pub(crate) fn resolve<'a>(
     let mut begun = 0;
     'documents: while at < events.len() {
         resolved.tags.push(None)?;
-        at = resolve_events(
-            alloc,
-            events,
-            at + 1,
-            documents.get(begun),
-            &mut resolved,
-        )?;
+        at = resolve_events(alloc, events, at + 1, documents.get(begun), &mut resolved)?;
         begun += 1;
     }
     Ok(resolved)

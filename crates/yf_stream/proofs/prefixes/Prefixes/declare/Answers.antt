@@ -73,5 +73,5 @@ invariant_of-self-2 c =
     let put = btree_map_updates_str h.now c.self.inside.all c.insert.new.self (Some c.args.prefix) c.in-Ok.ensures.updates in
     let taken = btree_map_updates_str h.now c.insert.new.self c.remove.new.self None c.remove.ensures.updates in
     let count = counted_less es more less c.in-Ok.field-0 c.remove.result c.in-Ok.ensures.len (ap is_some c.in-Ok.ensures.old ∙ sym c.contains_key.ensures ∙ c.if-contains_key.false)
-        c.remove.ensures.len (ap is_some c.remove.ensures.value ∙ found_again es more h c.args.prefix put) in
+    c.remove.ensures.len (ap is_some c.remove.ensures.value ∙ found_again es more h c.args.prefix put) in
     subst (λ z. FewOf z (map declaration less)) (sym c.in-Err-declare.ensures.refused.1) (few_same c.self.invariant (taken_out es more less h c.args.prefix none put taken) count)
