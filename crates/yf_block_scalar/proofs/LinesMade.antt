@@ -51,7 +51,7 @@ unbroken_char {t} {i} {c} {j} u r e = record {
       (λ (n : i ≢ h). ap is_break_char (code_inside u r (omega arith) m) ∙ no_break_end) (cases_eq i h);
 }
 
-unbroken_nb : {t : List ℕ} {i j : ℕ} {x : List ℕ} → IsUtf8 t → Many t is_nb_char i j x → Unbroken t i j
+pub unbroken_nb : {t : List ℕ} {i j : ℕ} {x : List ℕ} → IsUtf8 t → Many t is_nb_char i j x → Unbroken t i j
 unbroken_nb {i = i} u done = unbroken_here i
 unbroken_nb {t} u (step (one {i = i} e) m) = unbroken_join (unbroken_char u (reads_real t i u (nb_below (code t i) e)) (nb_no_break (code t i) e)) (unbroken_nb u m)
 

@@ -15,10 +15,10 @@ use Rattle.yf_stream.proofs.Forward.{line_end_forward}
 use Rattle.yf_stream.proofs.OneDirective.{DirectivesTo, LineTo, directives_begin, last_to, line_one, lines_to, more_to}
 
 -- the same directives, up to the same place
-record Same (k j : ℕ) (es ds : List Directive) (fs cs : List CommentValue) : Type 0 where
-  place : k ≡ j
-  directives : es ≡ ds
-  comments : fs ≡ cs
+pub record Same (k j : ℕ) (es ds : List Directive) (fs cs : List CommentValue) : Type 0 where
+  pub place : k ≡ j
+  pub directives : es ≡ ds
+  pub comments : fs ≡ cs
 
 module _ {t : List ℕ} where
   -- all comment lines after a directive are its own
@@ -42,7 +42,7 @@ module _ {t : List ℕ} where
         absurd (omega arith);
   }
 
-  line_of : {i k : ℕ} {x : Directives} → Chosen (IsDirective t i) k x → (d : Directive) × LineTo t i k d x.comments × (x.directives ≡ d ∷ [])
+  pub line_of : {i k : ℕ} {x : Directives} → Chosen (IsDirective t i) k x → (d : Directive) × LineTo t i k d x.comments × (x.directives ≡ d ∷ [])
   line_of {i} c =
       let d = c.derived in (
         record { offset = i; words = slice_range t (i + 1) d.name_end ∷ d.words },
@@ -67,7 +67,7 @@ module _ {t : List ℕ} (u : IsUtf8 t) where
   ends_there e no_directives = record { place = refl; directives = refl; comments = refl }
   ends_there e (one_directive c r) = let p = c.derived.percent in absurd (omega arith)
 
-  same : {i j k : ℕ} {ds es : List Directive} {cs fs : List CommentValue} → code t j ≢ 37 → LongestDirectives t i j ds cs → DirectivesTo t i k es fs → Same k j es ds fs cs
+  pub same : {i j k : ℕ} {ds es : List Directive} {cs fs : List CommentValue} → code t j ≢ 37 → LongestDirectives t i j ds cs → DirectivesTo t i k es fs → Same k j es ds fs cs
   same n no_directives d = absurd (n (directives_begin d))
   same {j = j} n (one_directive {k = m} {x = x} {ds = ds} {cs = cs} c r) (last_to {l = k} {d = d} {cs = fs} a e) =
       let l = line_of c in

@@ -17,7 +17,7 @@ use Rattle.yf_events.specs.declared.lists.Lists.{Lists}
 use Rattle.yf_grammar.specs.Meaning.{Meaning, empty_node, noting}
 use Rattle.yf_grammar.specs.Part.{Noting, no_event as none_noted, with_entry, without_entry, floor_behind}
 use Rattle.yf_grammar.proofs.GapLemmas.{end_next}
-use Rattle.yf_stream.proofs.NodeFinish.{LineEndsAt, finish_ends, line_there}
+use Rattle.yf_stream.proofs.NodeFinish.{LineRows, finish_ends, rows_there}
 use Rattle.yf_grammar.proofs.SinceKnown.{note_since_known}
 use Rattle.yf_stream.specs.HasReading.{WellFormedTextsHaveReadings}
 use Rattle.yf_stream.specs.ReadingOf.{DocumentEvents, no_document, one_document, EventTags, no_event, tagged, untagged, NotedComments, no_comment, one_comment, doc_of, floor_at, leaf_lines}
@@ -76,17 +76,18 @@ tags_exist ds names (x ∷ es) e =
 -- The ends of documents.
 
 module _ {t : List ℕ} where
-  nothing_finish : (i : ℕ) {j : ℕ} {cs : List CommentValue} → LineEnd t (i + 3) j cs → LineEndsAt t (noting (empty_node (i + 3)) cs).finish
+  nothing_finish : (i : ℕ) {j : ℕ} {cs : List CommentValue} → LineEnd t (i + 3) j cs → LineRows t (noting (empty_node (i + 3)) cs).finish j
   unfolding noting empty_node
-  nothing_finish i d = line_there d
+  nothing_finish i d = rows_there d
 
-  explicit_finish : {h i j : ℕ} {x : Meaning} → ExplicitNode t h i j x → LineEndsAt t x.finish
-  explicit_finish (marked_node e n) = finish_ends n.derived
+module _ {t : List ℕ} (u : IsUtf8 t) where
+  pub explicit_finish : {h i j : ℕ} {x : Meaning} → ExplicitNode t h i j x → LineRows t x.finish j
+  explicit_finish (marked_node e n) = finish_ends u n.derived
   explicit_finish (marked_nothing {i = i} e d) = nothing_finish i d
 
-  document_finish : {h i j : ℕ} {d : Document} {cs : List CommentValue} → AnyDocument t h i j d cs → LineEndsAt t d.finish
+  pub document_finish : {h i j : ℕ} {d : Document} {cs : List CommentValue} → AnyDocument t h i j d cs → LineRows t d.finish j
   unfolding document_of
-  document_finish (bare_document n c) = finish_ends n.derived
+  document_finish (bare_document n c) = finish_ends u n.derived
   document_finish (explicit_document e) = explicit_finish e
   document_finish (directive_document d e) = explicit_finish e
 
@@ -105,7 +106,7 @@ module _ {t : List ℕ} (u : IsUtf8 t) where
       let second = both_empty (event_breaches (declarations [] d.directives) [] d.events) _ first.1 in
       let tags = tags_exist (declarations [] d.directives) [] d.events second.0 in
       let rest = events_exist more both.1 in
-      let finish = document_finish a in
+      let finish = (document_finish u a).ends in
       let closed = end_known u finish.end (end_next finish.line) in
       record { events = _; tags = _; are = one_document tags.1 finish.line closed.1 rest.are }
 
@@ -115,7 +116,7 @@ module _ {t : List ℕ} (u : IsUtf8 t) where
   noting_with floor e es ys None is rest = (e ∷ ys, without_entry is rest)
   noting_with floor e es ys (Some entry) is rest = let n = note_since_known t floor entry.start u in (_, with_entry entry is n.1 rest)
 
-  noting_exists : (floor : ℕ) (es : List Placed) → (ys : List Placed) × Noting t floor es ys
+  pub noting_exists : (floor : ℕ) (es : List Placed) → (ys : List Placed) × Noting t floor es ys
   noting_exists floor [] = ([], none_noted)
   noting_exists floor (e ∷ es) =
       let rest = noting_exists (floor_behind floor e e.event) es in noting_with floor e es rest.0 e.entry refl rest.1

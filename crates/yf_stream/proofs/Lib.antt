@@ -39,6 +39,22 @@ pub mod ShownOneShape
 pub mod ShownWord
 pub mod ShownLaws
 -- for further theorems
+pub mod NameSets
+pub mod DeclaredLemmas
+pub mod FirstLemmas
+pub mod PassLemmas
+pub mod PassSteps
+pub mod TagPlaces
+pub mod BreachBoundaries
+pub mod BreachPlaces
+pub mod DeclaringLemmas
+pub mod LeafLemmas
+pub mod LeafTrees
+pub mod EventsInOrder
+pub mod CommentLines
+pub mod PassDocuments
+pub mod ReadingMade
+pub mod MadeReadings
 pub mod CommentTexts
 pub mod DirectiveLaws
 pub mod DirectiveLineLemmas
@@ -51,4 +67,9 @@ pub mod StreamDocuments
 pub mod StreamSteps
 pub mod PathLemmas
 pub mod PathsThrough
+pub mod BareStarts
+pub mod NodePast
+pub mod NodeSteps
+pub mod StreamUpto
+pub mod NextSteps
 pub mod FloorLemmas

@@ -50,7 +50,7 @@ noting_nothing : (x : Meaning) → noting x [] ≡ x
 unfolding noting
 noting_nothing x = ap (λ w. record x { comments = w }) (append-nil x.comments)
 
-alone_nothing : (k : ℕ) (ds : List CommentValue) → alone Nothing k ds ≡ None
+pub alone_nothing : (k : ℕ) (ds : List CommentValue) → alone Nothing k ds ≡ None
 unfolding alone
 alone_nothing k ds = refl
 
@@ -60,13 +60,13 @@ pub record Same (l m : ℕ) (x y : Meaning) : Type 0 where
   pub meaning : x ≡ y
 
 -- what a reader finds of a node: all up to the place, or the node without the comment lines after it
-data Known (t : List ℕ) (h l : ℕ) (x : Meaning) (o : Option Found) : Type 0 where
+pub data Known (t : List ℕ) (h l : ℕ) (x : Meaning) (o : Option Found) : Type 0 where
   all_of_it : IsFound o l h x → Known t h l x o
   but_lines : {j : ℕ} {y : Meaning} {es : List CommentValue} → IsFound o j h y → Settled t j l es → x ≡ noting y es → Known t h l x o
 
 module _ {t : List ℕ} where
   -- comment lines, from a place at which none begins
-  settled_still : {j l : ℕ} {es : List CommentValue} → Stuck (Row t j) → Settled t j l es → (l ≡ j) × (es ≡ [])
+  pub settled_still : {j l : ℕ} {es : List CommentValue} → Stuck (Row t j) → Settled t j l es → (l ≡ j) × (es ≡ [])
   settled_still {j} s d = let r = settled_one d (record { rows = done {i = j}; last = s }) in (r.0, r.1)
 
   known_one : {h g l m : ℕ} {x y : Meaning} {o : Option Found} → Stuck (Row t l) → Stuck (Row t m) → Known t h l x o → Known t g m y o → Same l m x y
@@ -85,7 +85,7 @@ module _ {t : List ℕ} where
       record { ends = v.0; meaning = n ∙ ap (λ w. noting w es) q.1 ∙ ap (noting b) v.1 ∙ sym p }
 
   -- nothing is found where comment lines are followed by what ends all nodes
-  line_stuck : {q k m p j l : ℕ} {cs es : List CommentValue} {ds : List CommentValue} → LineEnd t q j cs → Settled t j l es → LinesEnd t l → LineEnd t q k ds → LineText t k m p → ⊥
+  pub line_stuck : {q k m p j l : ℕ} {cs es : List CommentValue} {ds : List CommentValue} → LineEnd t q j cs → Settled t j l es → LinesEnd t l → LineEnd t q k ds → LineText t k m p → ⊥
   line_stuck {l = l} d s e f w =
       let r = stuck_unique row_functional (chain_append (line_end_rows d) s.rows) s.last (line_end_rows f) (line_still w) in
       w.goes_on (subst (λ z. LinesEnd t z) r.0 e)
@@ -101,7 +101,7 @@ module _ {t : List ℕ} where
   whole_none {j = j} {cs = cs} (BlockParser.awaited_inline d m l w g r) f s z = absurd (d.none j cs f)
   whole_none (BlockParser.awaited_missed d w) f s z = refl
 
-  known_some : {h l : ℕ} {x : Meaning} {o : Option Found} → Known t h l x o → o ≡ None → ⊥
+  pub known_some : {h l : ℕ} {x : Meaning} {o : Option Found} → Known t h l x o → o ≡ None → ⊥
   known_some (all_of_it e) f = not_none e f
   known_some (but_lines e d n) f = not_none e f
 
@@ -118,12 +118,12 @@ module _ {t : List ℕ} where
   pub no_content : {k p : ℕ} (c : ℕ) → code t k ≡ c → is_white c ≡ false → is_ns_char c ≡ false → ContentAt t k p → ⊥
   no_content c e w n d = true≢false (sym (content_first d (ap is_white e ∙ w)) ∙ ap is_ns_char e ∙ n)
 
-  lines_end : {b : Bool} {h k : ℕ} {x : Documents} → Path t b h k x → b ≡ false → LinesEnd t k
+  pub lines_end : {b : Bool} {h k : ℕ} {x : Documents} → Path t b h k x → b ≡ false → LinesEnd t k
   lines_end (path_ends e) f = text_ends e
   lines_end (path_mark e s p) f = mark_stands e
-  lines_end (path_suffix m c s p) f = marker_stands m
+  lines_end (path_suffix m c s p ln) f = marker_stands m
   lines_end (path_explicit m c n p) f = marker_stands m
-  lines_end (path_directives q c d n p) f = absurd (true≢false (sym q ∙ f))
+  lines_end (path_directives q c d n p m) f = absurd (true≢false (sym q ∙ f))
   lines_end (path_bare q m c d n p) f = absurd (true≢false (sym q ∙ f))
 
 end_facts : (is_white no_char ≡ false) × (is_ns_char no_char ≡ false)
@@ -141,13 +141,13 @@ solid {l} {m} {x} {y} s = record {
 }
 
 module _ {t : List ℕ} (u : IsUtf8 t) {e : ℕ} where
-  known_of : {h p l : ℕ} {x : Meaning} {o : Option Found} → NodeTo t h p l x → LinesEnd t l → h ≤ e → Whole t e (Awaited false (pos 0 -ℤ pos 1) BlockIn Nothing p) o → Known t h l x o
+  pub known_of : {h p l : ℕ} {x : Meaning} {o : Option Found} → NodeTo t h p l x → LinesEnd t l → h ≤ e → Whole t e (Awaited false (pos 0 -ℤ pos 1) BlockIn Nothing p) o → Known t h l x o
   known_of {h} {l = l} {x} {o} n z w r = go (by_scalar n.node.derived) (document_node u n.node.derived w n.node.clear n.settled.rows n.settled.last z r) where
     go : (b : Bool) → DocumentFound h n.end l n.comments n.meaning o b → Known t h l x o
     go false (takes_lines q) = all_of_it (record { is = q ∙ ap (found l h false) (sym n.is) })
     go true (leaves_lines q) = but_lines (record { is = q }) n.settled n.is
 
-  node_one : {h g p l m : ℕ} {x y : Meaning} → NodeTo t h p l x → LinesEnd t l → h ≤ e → NodeTo t g p m y → LinesEnd t m → g ≤ e → Same l m x y
+  pub node_one : {h g p l m : ℕ} {x y : Meaning} → NodeTo t h p l x → LinesEnd t l → h ≤ e → NodeTo t g p m y → LinesEnd t m → g ≤ e → Same l m x y
   node_one {p = p} a z v b w r = solid (then (whole_answered u e (pos 0 -ℤ pos 1) BlockIn Nothing p)
       (λ o. sure (known_one a.settled.last b.settled.last (known_of a z v o.read) (known_of b w r o.read))))
 
@@ -168,15 +168,15 @@ module _ {t : List ℕ} (u : IsUtf8 t) {e : ℕ} where
   path_one {b} (path_mark {es = es} {x = x} c s p) (path_mark {h = g} {es = fs} {x = y} f r q) v w =
       let a = settled_one s r in
       ap (λ i. with_comments i x) a.1 ∙ ap (with_comments fs) (path_one p (subst (λ i. Path t b g i y) (sym a.0) q) v w)
-  path_one (path_suffix {es = es} {x = x} n c s p) (path_suffix {h = g} {es = fs} {x = y} m f r q) v w =
+  path_one (path_suffix {es = es} {x = x} n c s p ln) (path_suffix {h = g} {es = fs} {x = y} m f r q lo) v w =
       let a = settled_one s r in
       ap (λ i. with_comments i x) a.1 ∙ ap (with_comments fs) (path_one p (subst (λ i. Path t true g i y) (sym a.0) q) v w)
   path_one {k = k} (path_explicit {h = h} {g = g} {x = x} {rest = rest} m c n p) (path_explicit {h = i} {g = j} {x = y} {rest = other} r f o q) v w =
       let a = explicit_one n (lines_end p refl) (omega arith) o (lines_end q refl) (omega arith) in
       ap (λ z. with_document z.comments (document_of k true [] z) rest) a.meaning
       ∙ ap (with_document y.comments (document_of k true [] y)) (path_one p (subst (λ z. Path t false j z other) (sym a.ends) q) (omega arith) (omega arith))
-  path_one (path_directives {h = h} {g = g} {p = k} {ds = ds} {cs = cs} {x = x} {rest = rest} z c d n p)
-      (path_directives {h = i} {g = j} {p = l} {l = m} {ds = es} {cs = fs} {x = y} {rest = other} r f s o q) v w =
+  path_one (path_directives {h = h} {g = g} {p = k} {ds = ds} {cs = cs} {x = x} {rest = rest} z c d n p m0)
+      (path_directives {h = i} {g = j} {p = l} {l = m} {ds = es} {cs = fs} {x = y} {rest = other} r f s o q m1) v w =
       let a = directives_one u d s in
       let o' : ExplicitTo t i k m y = subst (λ z. ExplicitTo t i z m y) (sym a.0) o in
       let b = explicit_one n (lines_end p refl) (omega arith) o' (lines_end q refl) (omega arith) in
@@ -192,35 +192,35 @@ module _ {t : List ℕ} (u : IsUtf8 t) {e : ℕ} where
       ∙ ap (λ z. with_document z.comments (document_of l false [] z) rest) b.meaning
       ∙ ap (with_document y.comments (document_of l false [] y)) (path_one p (subst (λ z. Path t false j z other) (sym b.ends) q) (omega arith) (omega arith))
   path_one {k = k} (path_ends f) (path_mark g s1 p1) v w = let c = end_code t k f in absurd (omega arith)
-  path_one {k = k} (path_ends f) (path_suffix m1 g s1 p1) v w = let c = end_code t k f in absurd (omega arith)
+  path_one {k = k} (path_ends f) (path_suffix m1 g s1 p1 ln) v w = let c = end_code t k f in absurd (omega arith)
   path_one {k = k} (path_ends f) (path_explicit m1 g n1 p1) v w = let c = end_code t k f in absurd (omega arith)
-  path_one {k = k} (path_ends f) (path_directives z1 g d1 n1 p1) v w = let c = end_code t k f in absurd (omega arith)
+  path_one {k = k} (path_ends f) (path_directives z1 g d1 n1 p1 m0) v w = let c = end_code t k f in absurd (omega arith)
   path_one {k = k} (path_mark f s p) (path_ends g) v w = let c = end_code t k g in absurd (omega arith)
-  path_one {k = k} (path_mark f s p) (path_suffix m1 g s1 p1) v w = absurd (omega arith)
+  path_one {k = k} (path_mark f s p) (path_suffix m1 g s1 p1 ln) v w = absurd (omega arith)
   path_one {k = k} (path_mark f s p) (path_explicit m1 g n1 p1) v w = absurd (omega arith)
-  path_one {k = k} (path_mark f s p) (path_directives z1 g d1 n1 p1) v w = absurd (omega arith)
-  path_one {k = k} (path_suffix m f s p) (path_ends g) v w = let c = end_code t k g in absurd (omega arith)
-  path_one {k = k} (path_suffix m f s p) (path_mark g s1 p1) v w = absurd (omega arith)
-  path_one {k = k} (path_suffix m f s p) (path_explicit m1 g n1 p1) v w = absurd (omega arith)
-  path_one {k = k} (path_suffix m f s p) (path_directives z1 g d1 n1 p1) v w = absurd (omega arith)
+  path_one {k = k} (path_mark f s p) (path_directives z1 g d1 n1 p1 m0) v w = absurd (omega arith)
+  path_one {k = k} (path_suffix m f s p ln) (path_ends g) v w = let c = end_code t k g in absurd (omega arith)
+  path_one {k = k} (path_suffix m f s p ln) (path_mark g s1 p1) v w = absurd (omega arith)
+  path_one {k = k} (path_suffix m f s p ln) (path_explicit m1 g n1 p1) v w = absurd (omega arith)
+  path_one {k = k} (path_suffix m f s p ln) (path_directives z1 g d1 n1 p1 m0) v w = absurd (omega arith)
   path_one {k = k} (path_explicit m f n p) (path_ends g) v w = let c = end_code t k g in absurd (omega arith)
   path_one {k = k} (path_explicit m f n p) (path_mark g s1 p1) v w = absurd (omega arith)
-  path_one {k = k} (path_explicit m f n p) (path_suffix m1 g s1 p1) v w = absurd (omega arith)
-  path_one {k = k} (path_explicit m f n p) (path_directives z1 g d1 n1 p1) v w = absurd (omega arith)
-  path_one {k = k} (path_directives z f d n p) (path_ends g) v w = let c = end_code t k g in absurd (omega arith)
-  path_one {k = k} (path_directives z f d n p) (path_mark g s1 p1) v w = absurd (omega arith)
-  path_one {k = k} (path_directives z f d n p) (path_suffix m1 g s1 p1) v w = absurd (omega arith)
-  path_one {k = k} (path_directives z f d n p) (path_explicit m1 g n1 p1) v w = absurd (omega arith)
+  path_one {k = k} (path_explicit m f n p) (path_suffix m1 g s1 p1 ln) v w = absurd (omega arith)
+  path_one {k = k} (path_explicit m f n p) (path_directives z1 g d1 n1 p1 m0) v w = absurd (omega arith)
+  path_one {k = k} (path_directives z f d n p m0) (path_ends g) v w = let c = end_code t k g in absurd (omega arith)
+  path_one {k = k} (path_directives z f d n p m0) (path_mark g s1 p1) v w = absurd (omega arith)
+  path_one {k = k} (path_directives z f d n p m0) (path_suffix m1 g s1 p1 ln) v w = absurd (omega arith)
+  path_one {k = k} (path_directives z f d n p m0) (path_explicit m1 g n1 p1) v w = absurd (omega arith)
   path_one {k = k} (path_ends f) (path_bare z2 m2 c2 d2 n2 p2) v w = absurd (no_content no_char (end_code t k f) end_facts.0 end_facts.1 d2)
   path_one {k = k} (path_bare z2 m2 c2 d2 n2 p2) (path_ends f) v w = absurd (no_content no_char (end_code t k f) end_facts.0 end_facts.1 d2)
   path_one {k = k} (path_mark f s p) (path_bare z2 m2 c2 d2 n2 p2) v w = absurd (no_content 0xFEFF f mark_facts.0 mark_facts.1 d2)
   path_one {k = k} (path_bare z2 m2 c2 d2 n2 p2) (path_mark f s p) v w = absurd (no_content 0xFEFF f mark_facts.0 mark_facts.1 d2)
-  path_one {k = k} (path_suffix m f s p) (path_bare z2 m2 c2 d2 n2 p2) v w = absurd (m2 m)
-  path_one {k = k} (path_bare z2 m2 c2 d2 n2 p2) (path_suffix m f s p) v w = absurd (m2 m)
+  path_one {k = k} (path_suffix m f s p ln) (path_bare z2 m2 c2 d2 n2 p2) v w = absurd (m2 m)
+  path_one {k = k} (path_bare z2 m2 c2 d2 n2 p2) (path_suffix m f s p ln) v w = absurd (m2 m)
   path_one {k = k} (path_explicit m f n p) (path_bare z2 m2 c2 d2 n2 p2) v w = absurd (m2 m)
   path_one {k = k} (path_bare z2 m2 c2 d2 n2 p2) (path_explicit m f n p) v w = absurd (m2 m)
-  path_one {k = k} (path_directives z f d n p) (path_bare z2 m2 c2 d2 n2 p2) v w = absurd (c2 f)
-  path_one {k = k} (path_bare z2 m2 c2 d2 n2 p2) (path_directives z f d n p) v w = absurd (c2 f)
+  path_one {k = k} (path_directives z f d n p m0) (path_bare z2 m2 c2 d2 n2 p2) v w = absurd (c2 f)
+  path_one {k = k} (path_bare z2 m2 c2 d2 n2 p2) (path_directives z f d n p m0) v w = absurd (c2 f)
 
 -- two derivations of a text within a limit are one stream
 pub one_stream : {t : List ℕ} {e h g : ℕ} {x y : Documents} → IsUtf8 t → Stream t h x → h ≤ e → Stream t g y → g ≤ e → y ≡ x

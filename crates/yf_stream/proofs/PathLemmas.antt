@@ -54,25 +54,25 @@ module _ {t : List ℕ} where
   pub path_at_end : {b : Bool} {h k : ℕ} {x : Documents} → k ≡ length t → Path t b h k x → (h ≡ 0) × (x ≡ only_comments [])
   path_at_end e (path_ends q) = (refl, refl)
   path_at_end {k = k} e (path_mark m s p) = let n = end_code t k e in absurd (omega arith)
-  path_at_end {k = k} e (path_suffix f c s p) = let n = end_code t k e in absurd (omega arith)
+  path_at_end {k = k} e (path_suffix f c s p ln) = let n = end_code t k e in absurd (omega arith)
   path_at_end {k = k} e (path_explicit f c y p) = let n = end_code t k e in absurd (omega arith)
-  path_at_end {k = k} e (path_directives b c d y p) = let n = end_code t k e in absurd (omega arith)
+  path_at_end {k = k} e (path_directives b c d y p m) = let n = end_code t k e in absurd (omega arith)
   path_at_end e (path_bare b f c a n p) = absurd (content_not_at_end e a)
 
   -- before a further document without `---`, where the one before has no `...`, there is no path
   pub no_path : {b : Bool} {h k : ℕ} {x : Documents} → b ≡ false → k ≢ length t → code t k ≢ 0xFEFF → (Forbidden t k → ⊥) → Path t b h k x → ⊥
   no_path e n m f (path_ends q) = n q
   no_path e n m f (path_mark c s p) = m c
-  no_path e n m f (path_suffix g c s p) = f g
+  no_path e n m f (path_suffix g c s p ln) = f g
   no_path e n m f (path_explicit g c y p) = f g
-  no_path e n m f (path_directives b c d y p) = true≢false (sym b ∙ e)
+  no_path e n m f (path_directives b c d y p q) = true≢false (sym b ∙ e)
   no_path e n m f (path_bare b g c a y p) = true≢false (sym b ∙ e)
 
   -- at a `---` a path goes on with its document, at a `...` behind its lines
   pub path_at_dash : {b : Bool} {h k : ℕ} {x : Documents} → Forbidden t k → code t k ≡ 45 → Path t b h k x → ExplicitStep t h k x
   path_at_dash {k = k} f c (path_ends q) = let n = end_code t k q in absurd (omega arith)
   path_at_dash f c (path_mark m s p) = absurd (omega arith)
-  path_at_dash f c (path_suffix g d s p) = absurd (omega arith)
+  path_at_dash f c (path_suffix g d s p ln) = absurd (omega arith)
   path_at_dash f c (path_explicit {h = h} {g = g} {l = l} {x = x} {rest = rest} q d y p) = record {
     first = h;
     others = g;
@@ -84,22 +84,22 @@ module _ {t : List ℕ} where
     height = refl;
     is = refl;
   }
-  path_at_dash f c (path_directives b d e y p) = absurd (omega arith)
+  path_at_dash f c (path_directives b d e y p m) = absurd (omega arith)
   path_at_dash f c (path_bare b g d a y p) = absurd (g f)
 
   pub path_at_dots : {b : Bool} {h k : ℕ} {x : Documents} → Forbidden t k → code t k ≡ 46 → Path t b h k x → SuffixStep t h k x
   path_at_dots {k = k} f c (path_ends q) = let n = end_code t k q in absurd (omega arith)
   path_at_dots f c (path_mark m s p) = absurd (omega arith)
-  path_at_dots f c (path_suffix {l = l} {es = es} {x = x} g d s p) = record { end = l; comments = es; rest = x; settled = s; path = p; is = refl }
+  path_at_dots f c (path_suffix {l = l} {es = es} {x = x} g d s p ln) = record { end = l; comments = es; rest = x; settled = s; path = p; is = refl }
   path_at_dots f c (path_explicit q d y p) = absurd (omega arith)
-  path_at_dots f c (path_directives b d e y p) = absurd (omega arith)
+  path_at_dots f c (path_directives b d e y p m) = absurd (omega arith)
   path_at_dots f c (path_bare b g d a y p) = absurd (g f)
 
   -- at a byte order mark it goes on behind it
   pub path_at_mark : {b : Bool} {h k : ℕ} {x : Documents} → code t k ≡ 0xFEFF → Path t b h k x → MarkStep t b h k x
   path_at_mark {k = k} c (path_ends q) = let n = end_code t k q in absurd (omega arith)
   path_at_mark c (path_mark {l = l} {es = es} {x = x} m s p) = record { end = l; comments = es; rest = x; settled = s; path = p; is = refl }
-  path_at_mark c (path_suffix g d s p) = absurd (omega arith)
+  path_at_mark c (path_suffix g d s p ln) = absurd (omega arith)
   path_at_mark c (path_explicit q d y p) = absurd (omega arith)
-  path_at_mark c (path_directives b d e y p) = absurd (omega arith)
+  path_at_mark c (path_directives b d e y p m) = absurd (omega arith)
   path_at_mark c (path_bare b g d a y p) = absurd (no_content 0xFEFF c mark_facts.0 mark_facts.1 a)

@@ -34,7 +34,7 @@ pub record PathsThrough (t : List ℕ) (b : Bool) (k : ℕ) : Type 0 where
   pub path : (h : ℕ) (x : Documents) → Stream t h x → h ≤ DEPTH → PathBehind t b k
 
 module _ {t : List ℕ} where
-  stays : {k j : ℕ} {x : List CommentValue} → Stuck (Row t k) → Chain (Row t) k j x → k ≡ j
+  pub stays : {k j : ℕ} {x : List CommentValue} → Stuck (Row t k) → Chain (Row t) k j x → k ≡ j
   stays s done = refl
   stays s (step {h = h} {x = x} r c) = absurd (s.none h x r)
 
@@ -61,7 +61,7 @@ module _ {t : List ℕ} where
   past_prefix_rows done p = p
   past_prefix_rows (step r c) p = past_prefix_rows c (past_prefix_row r p)
 
-  past_rows : {b : Bool} {i j : ℕ} {x : List CommentValue} → Chain (Row t) i j x → PathBehind t b i → PathBehind t b j
+  pub past_rows : {b : Bool} {i j : ℕ} {x : List CommentValue} → Chain (Row t) i j x → PathBehind t b i → PathBehind t b j
   past_rows done p = p
   past_rows (step r c) p = past_rows c (past_row r p.settled.rows p.settled.last p.goes)
 

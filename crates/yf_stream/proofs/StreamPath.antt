@@ -32,9 +32,10 @@ use Rattle.yf_grammar.proofs.BlankRuns.{behind_byte, no_start_behind}
 use Rattle.yf_grammar.proofs.BlockEnds.{LineOrEnd, block_ends}
 use Rattle.yf_grammar.proofs.BlockStarts.{block_starts}
 use Rattle.yf_grammar.proofs.GapLemmas.{end_next, rows_next, visible_solid}
-use Rattle.yf_stream.specs.Stream.{AnyDocument, ContentAt, Document, Documents, ExplicitNode, PrefixPart, Prefixes, RootNode, Stream, StreamRest, Suffixes, document_of, only_comments, with_comments, with_document}
+use Rattle.yf_stream.specs.Stream.{AnyDocument, ContentAt, DirectiveLines, Directives, Document, Documents, ExplicitNode, PrefixPart, Prefixes, RootNode, Stream, StreamRest, Suffixes, document_of, only_comments, with_comments, with_document}
 use Rattle.yf_stream.specs.Stream.AnyDocument.{bare_document, directive_document, explicit_document}
 use Rattle.yf_stream.specs.Stream.ContentAt.{content_at}
+use Rattle.yf_stream.specs.Stream.DirectiveLines.{last_directive, more_directives}
 use Rattle.yf_stream.specs.Stream.ExplicitNode.{marked_node, marked_nothing}
 use Rattle.yf_stream.specs.Stream.PrefixPart.{order_mark, prefix_comment}
 use Rattle.yf_stream.specs.Stream.Stream.{begins_with_document, without_document}
@@ -67,12 +68,12 @@ pub data Path (t : List ℕ) : Bool → ℕ → ℕ → Documents → Type 0 whe
   path_ends : {b : Bool} {k : ℕ} → k ≡ length t → Path t b 0 k (only_comments [])
   path_mark : {b : Bool} {h k l : ℕ} {es : List CommentValue} {x : Documents} → code t k ≡ 0xFEFF → Settled t (next t k) l es → Path t b h l x
       → Path t b h k (with_comments es x)
-  path_suffix : {b : Bool} {h k l : ℕ} {es : List CommentValue} {x : Documents} → Forbidden t k → code t k ≡ 46 → Settled t (k + 3) l es → Path t true h l x
-      → Path t b h k (with_comments es x)
+  path_suffix : {b : Bool} {h k j l : ℕ} {cs es : List CommentValue} {x : Documents} → Forbidden t k → code t k ≡ 46 → Settled t (k + 3) l es → Path t true h l x
+      → LineEnd t (k + 3) j cs → Path t b h k (with_comments es x)
   path_explicit : {b : Bool} {h g k l : ℕ} {x : Meaning} {rest : Documents} → Forbidden t k → code t k ≡ 45 → ExplicitTo t h k l x → Path t false g l rest
       → Path t b (max h g) k (with_document x.comments (document_of k true [] x) rest)
   path_directives : {b : Bool} {h g k p l : ℕ} {ds : List Directive} {cs : List CommentValue} {x : Meaning} {rest : Documents} → b ≡ true → code t k ≡ 37
-      → DirectivesTo t k p ds cs → ExplicitTo t h p l x → Path t false g l rest
+      → DirectivesTo t k p ds cs → ExplicitTo t h p l x → Path t false g l rest → Forbidden t p
       → Path t b (max h g) k (with_document (cs ++ x.comments) (document_of p true ds x) rest)
   path_bare : {b : Bool} {h g k p l : ℕ} {x : Meaning} {rest : Documents} → b ≡ true → (Forbidden t k → ⊥) → code t k ≢ 37 → ContentAt t k p → NodeTo t h k l x
       → Path t false g l rest → Path t b (max h g) k (with_document x.comments (document_of p false [] x) rest)
@@ -145,7 +146,7 @@ module _ {t : List ℕ} where
   pub settled_one : {i l m : ℕ} {es fs : List CommentValue} → Settled t i l es → Settled t i m fs → (l ≡ m) × (es ≡ fs)
   settled_one a b = stuck_unique row_functional a.rows a.last b.rows b.last
 
-  settled_more : {i j l : ℕ} {cs es : List CommentValue} → Chain (Row t) i j cs → Settled t j l es → Settled t i l (cs ++ es)
+  pub settled_more : {i j l : ℕ} {cs es : List CommentValue} → Chain (Row t) i j cs → Settled t j l es → Settled t i l (cs ++ es)
   settled_more c s = record { rows = chain_append c s.rows; last = s.last }
 
   mark_no_end : {k j : ℕ} → code t k ≡ 0xFEFF → BreakOrEnd t k j → ⊥
@@ -206,11 +207,11 @@ module _ {t : List ℕ} (u : IsUtf8 t) where
       (record { start = line_of l (omega arith); marker = marker_of_dots t k n e ∙ line_end_white (no_start_after k 46 e (omega arith) signs_visible.1) d }, c)
 
   -- where the parts end
-  explicit_next : {h k j : ℕ} {x : Meaning} → ExplicitNode t h k j x → LineOrEnd t j
+  pub explicit_next : {h k j : ℕ} {x : Meaning} → ExplicitNode t h k j x → LineOrEnd t j
   explicit_next (marked_node e n) = block_ends n.derived
   explicit_next (marked_nothing e d) = end_next d
 
-  document_next : {h k j : ℕ} {d : Document} {cs : List CommentValue} → AnyDocument t h k j d cs → LineOrEnd t j
+  pub document_next : {h k j : ℕ} {d : Document} {cs : List CommentValue} → AnyDocument t h k j d cs → LineOrEnd t j
   document_next (bare_document n c) = block_ends n.derived
   document_next (explicit_document e) = explicit_next e
   document_next (directive_document ds e) = explicit_next e
@@ -219,7 +220,7 @@ module _ {t : List ℕ} (u : IsUtf8 t) where
   part_next l (order_mark e) = inl (after_mark (line_of l (omega arith)) e)
   part_next l (prefix_comment c) = rows_next l (lines_rows (chain_one c))
 
-  parts_next : {i k : ℕ} {cs : List CommentValue} → LineOrEnd t i → Prefixes t i k cs → LineOrEnd t k
+  pub parts_next : {i k : ℕ} {cs : List CommentValue} → LineOrEnd t i → Prefixes t i k cs → LineOrEnd t k
   parts_next l done = l
   parts_next l (step s c) = parts_next (part_next l s) c
 
@@ -254,7 +255,7 @@ module _ {t : List ℕ} (u : IsUtf8 t) where
   suffix_from {cs = cs} l e d p =
       let m = suffix_marker l e d in
       changed (sym (ap (with_comments cs) p.is ∙ comments_join cs p.comments p.documents))
-      (from_here (dot_still m.1) (path_suffix m.0 m.1 (settled_more (line_end_rows d) p.settled) p.path))
+      (from_here (dot_still m.1) (path_suffix m.0 m.1 (settled_more (line_end_rows d) p.settled) p.path d))
 
   suffixes_from : {b : Bool} {h i k : ℕ} {cs : List CommentValue} {x : Documents} → LineOrEnd t i → Suffixes t i k cs → PathFrom t true h k x → PathFrom t b h i (with_comments cs x)
   suffixes_from l (last_suffix e d) p = suffix_from l e d p
@@ -295,13 +296,18 @@ module _ {t : List ℕ} (u : IsUtf8 t) where
       changed (with_later [] q.comments p false [] x rest q.documents q.is)
       (from_here (content_still c) (path_bare refl (λ f. n.clear.none k (omega arith) l f) (λ e. no_percent_node e n.derived) c y q.path))
 
+  directives_next : {i k : ℕ} {x : Directives} → DirectiveLines t i k x → LineOrEnd t k
+  directives_next (last_directive e r p d) = end_next d
+  directives_next (more_directives a b) = directives_next b
+
   document_from : {h g k j : ℕ} {d : Document} {cs : List CommentValue} {rest : Documents} → LineOrEnd t k → AnyDocument t h k j d cs → PathFrom t false g j rest
       → PathFrom t true (max h g) k (with_document cs d rest)
   document_from l (bare_document n c) p = bare_from n c p
   document_from l (explicit_document e) p = explicit_from l e p
   document_from {rest = rest} l (directive_document {k = k} {ds = ds} {x = x} d e) p =
       changed (with_later ds.comments p.comments k true ds.directives x rest p.documents p.is)
-      (from_here (percent_still (lines_begin d)) (path_directives refl (lines_begin d) (lines_to d (explicit_dash e)) (explicit_to e p.settled) p.path))
+      (from_here (percent_still (lines_begin d))
+      (path_directives refl (lines_begin d) (lines_to d (explicit_dash e)) (explicit_to e p.settled) p.path (explicit_marker (directives_next d) e).0))
 
   -- what follows after a document
   comments_thrice : (cs ds es : List CommentValue) (d : Document) (x : Documents) → with_comments cs (with_comments ds (with_document es d x)) ≡ with_document (cs ++ (ds ++ es)) d x

@@ -1,10 +1,15 @@
 pub mod CommentLaws
+pub mod FewHandles
 pub mod DirectiveReaders
 pub mod DocumentReaders
+pub mod DocumentSteps
 pub mod EmptyDocument
 pub mod HasReading
 pub mod Laws
+pub mod LeafPass
+pub mod MadeReadings
 pub mod NodeLaws
+pub mod NotedLists
 pub mod PlaceLaws
 pub mod ReaderLaws
 pub mod ReadingOf
@@ -12,5 +17,7 @@ pub mod Refusal
 pub mod RefusalPlaces
 pub mod Stream
 pub mod StreamReader
+pub mod TagPass
 pub mod Walk
 pub mod WellFormed
+pub mod WrittenParts

@@ -1,9 +1,15 @@
 //! Which comments stand on the line on which a leaf ends. A leaf is a scalar, an alias or an empty collection.
-ghost use Rattle.std.specs.Prelude.{◌≡◌, length, IfOk};
+ghost use Rattle.std.specs.Prelude.{◌≡◌, ℕ, ◌<◌, ◌≤◌, List, None, Some, drop, length, map, if◌then◌else◌, IfOk};
+ghost use Rattle.yf_comments.specs.Comment.{comment_value};
+ghost use Rattle.yf_events.specs.Reading.{first_begins_leaf};
+ghost use Rattle.yf_lines.specs.Lines.{AreLines};
+ghost use Rattle.yf_lines.specs.declared.line.Line.{Line};
+ghost use Rattle.yf_stream.specs.LeafPass.{BeginsLine, NextLine, StandInOrder, StandsInLine, StopsAt, end_on_line, last_end, leaf_spans};
 
 use std::alloc::{AllocError, Global};
 use yf_comments::comment::Comment;
 use yf_comments::comments::Comments;
+use yf_events::event::Span;
 use yf_events::events::Events;
 use yf_events::leaves::begins_leaf;
 use yf_events::row::Row;
@@ -23,7 +29,9 @@ pub(crate) fn on_leaf_lines(
     events: &Events,
     comments: &Comments,
 ) -> Result<Row<bool>, AllocError>
-    ensures { IfOk result (λ notes. length notes ≡ length comments.now) }
+    ensures count { IfOk result (λ notes. length notes ≡ length comments.now) }
+    ensures notes { IfOk result (λ notes. (ls : List Line) → AreLines text.now ls → StandInOrder text.now events.now comments.now
+        → notes ≡ map (λ c. end_on_line ls (last_end None c.offset (leaf_spans events.now)) c.offset) comments.now) }
 {
     let mut notes = Row::new(alloc);
     let mut seen = Seen {
@@ -39,7 +47,11 @@ pub(crate) fn on_leaf_lines(
 }
 
 // Goes on to the last leaf that begins before the offset.
-fn leaves_before(events: &Events, offset: usize, seen: Seen) -> Seen {
+fn leaves_before(events: &Events, offset: usize, seen: Seen) -> Seen
+    ensures passed { (o : ℕ) → offset ≤ o → last_end seen.leaf_end o (leaf_spans (drop seen.events events.now))
+        ≡ last_end result.leaf_end o (leaf_spans (drop result.events events.now)) }
+    ensures stops { StopsAt offset (drop result.events events.now) }
+{
     let mut at = seen.events;
     let mut leaf_end = seen.leaf_end;
     'events: while at < events.len() {
@@ -50,9 +62,9 @@ fn leaves_before(events: &Events, offset: usize, seen: Seen) -> Seen {
                     leaf_end,
                 };
             }
-            if begins_leaf(events, at) {
-                leaf_end = Some(span.end);
-            }
+            leaf_end = later_end(events, at, span, leaf_end);
+            at += 1;
+            continue;
         }
         at += 1;
     }
@@ -62,30 +74,59 @@ fn leaves_before(events: &Events, offset: usize, seen: Seen) -> Seen {
     }
 }
 
+// Where the last leaf ends, after one more event with a place.
+fn later_end(events: &Events, i: usize, span: Span, leaf_end: Option<usize>) -> Option<usize>
+    requires { i < length events.now }
+    ensures { result ≡ (if first_begins_leaf (drop i events.now) then Some span.end else leaf_end) }
+{
+    if begins_leaf(events, i) {
+        return Some(span.end);
+    }
+    leaf_end
+}
+
 // Whether the last character before the end stands on the comment's line.
-fn ends_on_line(text: &str, leaf_end: Option<usize>, comment: &Comment) -> bool {
+fn ends_on_line(text: &str, leaf_end: Option<usize>, comment: &Comment) -> bool
+    ensures { (ls : List Line) → AreLines text.now ls → StandsInLine text.now (comment_value comment.now)
+        → result ≡ end_on_line ls leaf_end comment.now.offset }
+{
     match leaf_end {
         Some(end) => {
-            if end <= line_start(text, comment.offset) {
-                return false;
+            let start = line_start(text, comment.offset);
+            let next = next_line(text, comment.offset.saturating_add(comment.text.len()));
+            if start < end {
+                return end <= next;
             }
-            match line_break(text, comment.offset.saturating_add(comment.text.len())) {
-                Some(next) => end <= next,
-                None => true,
-            }
+            false
         }
         None => false,
     }
 }
 
 // The start of the line on which the offset stands.
-fn line_start(text: &str, at: usize) -> usize {
+fn line_start(text: &str, at: usize) -> usize
+    ensures { BeginsLine text.now at result }
+{
     let mut start = at;
-    while start > 0 {
+    'chars: while start > 0 {
         if break_ends(text, start) {
             return start;
         }
         start -= 1;
     }
     0
+}
+
+// The start of the line after the offset, or the end of the text.
+fn next_line(text: &str, at: usize) -> usize
+    ensures { NextLine text.now at result }
+{
+    let mut end = at;
+    'chars: while end < text.len() {
+        if let Some(next) = line_break(text, end) {
+            return next;
+        }
+        end += 1;
+    }
+    text.len()
 }

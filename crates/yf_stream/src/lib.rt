@@ -4,8 +4,10 @@
 mod anchors;
 mod between;
 mod breaches;
+mod declarations;
 mod directives;
 mod documents;
 mod leaf_lines;
 mod prefixes;
+mod resolve;
 pub mod stream;

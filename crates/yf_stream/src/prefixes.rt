@@ -1,7 +1,13 @@
 //! The tag handles that are declared in a document.
+ghost use Rattle.std.specs.Prelude.{◌≡◌, ◌⊎◌, [], ◌∷◌, not, Some, IfOk, IfErr};
+ghost use Rattle.yf_props.specs.Handles.{TagText, UnknownHandleOf, is_declared};
+ghost use Rattle.yf_props.specs.Props.{tag_value};
+ghost use Rattle.yf_stream.specs.TagPass.{SameDeclarations};
+ghost use Rattle.yf_stream.specs.WellFormed.{with_declaration};
 
 use std::alloc::{AllocError, Global};
 use std::collections::BTreeMap;
+use std::marker::Model;
 use yf_lines::fault::Fault;
 use yf_lines::place::Place;
 use yf_props::handles::Handles;
@@ -12,15 +18,30 @@ use yf_props::resolved::ResolvedTag;
 const FEW: usize = 64;
 
 /// The tag handles that are declared in a document. The first of them are found by their hashes, as most documents have few,
-/// and the others in order, since names may be chosen so that their hashes are alike.
+/// and the others in order, since names may be chosen so that their hashes are alike. In a contract it is a list of the
+/// declarations, each a handle and its prefix.
 #[derive(Drop)]
 pub(crate) struct Prefixes<'a> {
     few: Handles<'a>,
     all: BTreeMap<&'a str, &'a str>,
 }
 
+impl<'a> Model for Prefixes<'a> {
+    ghost use Rattle.std.specs.Prelude.{List, map};
+    ghost use Rattle.yf_props.specs.Handles.{Declaration, declaration};
+    ghost use Rattle.yf_stream.specs.FewHandles.{FewOf};
+
+    ghost Value = { List Declaration };
+
+    ghost view = { λ p. map declaration p.all.entries };
+
+    ghost invariant = { λ p. FewOf p.few (map declaration p.all.entries) };
+}
+
 impl<'a> Prefixes<'a> {
-    pub(crate) fn new(alloc: Global) -> Prefixes<'a> {
+    pub(crate) fn new(alloc: Global) -> Prefixes<'a>
+        ensures { result ≡ [] }
+    {
         Prefixes {
             few: Handles::new(alloc),
             all: BTreeMap::new(alloc),
@@ -28,19 +49,26 @@ impl<'a> Prefixes<'a> {
     }
 
     /// Declares a handle's prefix, and answers whether it was not declared before; where it was, its prefix stays.
-    pub(crate) fn declare(&mut self, handle: &'a str, prefix: &'a str) -> Result<bool, AllocError> {
+    pub(crate) fn declare(&mut self, handle: &'a str, prefix: &'a str) -> Result<bool, AllocError>
+        ensures fresh { IfOk result (λ fresh. fresh ≡ not (is_declared self.old handle.entry.now)) }
+        ensures declared { IfOk result (λ _. SameDeclarations self.new (with_declaration self.old (Some (handle.entry.now, prefix.entry.now)))) }
+    {
         if self.all.contains_key(&handle) {
             return Ok(false);
         }
-        if self.all.len() < FEW {
-            if self.few.declare(handle, prefix).is_err() {
-                return Err(AllocError);
-            }
-        }
         match self.all.insert(handle, prefix) {
-            Ok(_) => Ok(true),
-            Err(_) => Err(AllocError),
+            Ok(_) => {}
+            Err(_) => return Err(AllocError),
         }
+        if self.all.len() > FEW {
+            return Ok(true);
+        }
+        match self.few.declare(handle, prefix) {
+            Ok(_) => return Ok(true),
+            Err(_) => {}
+        }
+        let _ = self.all.remove(&handle);
+        Err(AllocError)
     }
 
     /// What a tag stands for, or why it has no meaning, as `Handles::resolve` tells it.
@@ -49,21 +77,39 @@ impl<'a> Prefixes<'a> {
         alloc: Global,
         tag: &Tag<'a>,
         place: Place,
-    ) -> Result<ResolvedTag<'a>, Fault> {
-        if self.all.len() > FEW {
-            if let Tag::Short { handle, .. } = *tag {
+    ) -> Result<ResolvedTag<'a>, Fault>
+        ensures text { IfOk result (λ text. TagText self.now (tag_value tag.now) text) }
+        ensures refused { IfErr result (λ fault. (fault ≡ Fault.Memory)
+            ⊎ ((fault ≡ Fault.UnknownHandle place) × UnknownHandleOf self.now (tag_value tag.now))) }
+    {
+        if let Tag::Short { handle, .. } = *tag {
+            if self.all.len() > FEW {
                 if let Some(prefix) = self.all.get(&handle) {
-                    return alone(alloc, handle, *prefix)?.resolve(alloc, tag, place);
+                    return resolve_alone(alloc, handle, *prefix, tag, place);
                 }
+                return self.few.resolve(alloc, tag, place);
             }
+            return self.few.resolve(alloc, tag, place);
         }
         self.few.resolve(alloc, tag, place)
     }
 }
 
-// One handle.
-fn alone<'a>(alloc: Global, handle: &'a str, prefix: &'a str) -> Result<Handles<'a>, Fault> {
+// What a tag stands for where one handle is declared.
+fn resolve_alone<'a>(
+    alloc: Global,
+    handle: &'a str,
+    prefix: &'a str,
+    tag: &Tag<'a>,
+    place: Place,
+) -> Result<ResolvedTag<'a>, Fault>
+    ensures text { IfOk result (λ text. TagText ((handle.entry.now, prefix.entry.now) ∷ []) (tag_value tag.now) text) }
+    ensures refused { IfErr result (λ fault. (fault ≡ Fault.Memory)
+        ⊎ ((fault ≡ Fault.UnknownHandle place) × UnknownHandleOf ((handle.entry.now, prefix.entry.now) ∷ []) (tag_value tag.now))) }
+{
     let mut handles = Handles::new(alloc);
-    let _ = handles.declare(handle, prefix)?;
-    Ok(handles)
+    match handles.declare(handle, prefix) {
+        Ok(_) => handles.resolve(alloc, tag, place),
+        Err(_) => Err(Fault::Memory),
+    }
 }

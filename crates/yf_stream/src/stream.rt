@@ -3,14 +3,18 @@ ghost use Rattle.std.specs.Prelude.{◌≡◌, ◌+◌, ◌-◌, ◌<◌, ◌≤
 ghost use Rattle.std.specs.List.{All};
 ghost use Rattle.std.specs.Str.{IsCharBoundary};
 ghost use Rattle.yf_events.specs.Reading.{Fits};
-ghost use Rattle.yf_lines.specs.FaultPlaces.{InText};
+ghost use Rattle.yf_lines.specs.FaultPlaces.{InText, IsPlaceOf};
+ghost use Rattle.yf_stream.specs.MadeReadings.{MadeOr, MadeReading, NoBreach};
+ghost use Rattle.yf_stream.specs.NotedLists.{FaultAt, NotedOr};
 ghost use Rattle.yf_stream.specs.Refusal.{IsStreamFault};
 ghost use Rattle.yf_stream.specs.RefusalPlaces.{DocumentsAt, RefusalAt};
+ghost use Rattle.yf_stream.specs.StreamReader as StreamReader;
 
 use crate::between::skip_prefix;
-use crate::breaches::{Breach, Kind, Resolved, resolve};
+use crate::breaches::{Breach, Kind};
 use crate::documents::{Next, Parts, Spot, read_next};
 use crate::leaf_lines::on_leaf_lines;
+use crate::resolve::{Resolved, resolve};
 use std::alloc::{AllocError, Global};
 use yf_events::event::NewEvent;
 use yf_events::lists::Lists;
@@ -38,15 +42,19 @@ enum Refusal {
 /// handle in a document (`RepeatedDirective`), another major version than 1 (`BadVersion`), an escape that is no character
 /// (`EscapeValue`). `Fault::Memory` may come in the place of each answer, where a growth of memory was refused.
 ///
-/// Proved of this is that the faults are of these kinds, each but `Memory` with a place in the text, and that the reading is
-/// well nested; the rest is tested.
+/// Proved of this is that the faults are of these kinds, each but `Memory` with a place in the text, that the reading is well
+/// nested, and that it is made of parts in which nothing is breached, with the tags that they stand for and the notes which
+/// comments stand on the lines of leaves; a breach is the first one in such parts. Where the parts are those of the one shape
+/// of the text, that is its reading, and its first breach. That they are is tested.
 pub fn read_stream<'a>(alloc: Global, text: &'a str) -> Result<Reading<'a>, Fault>
-    ensures { IfErr result (λ fault. IsStreamFault text.now fault) }
+    ensures faults { IfErr result (λ fault. IsStreamFault text.now fault) }
+    ensures made { MadeReading text.now result }
 {
     match read_lists(alloc, text) {
-        Ok(Ok(lists)) => match Reading::build(alloc, lists)? {
-            Some(reading) => Ok(reading),
-            None => Err(fault_at(alloc, text, Refusal::TooDeep(0))),
+        Ok(Ok(lists)) => match Reading::build(alloc, lists) {
+            Ok(Some(reading)) => Ok(reading),
+            Ok(None) => Err(fault_at(alloc, text, Refusal::TooDeep(0))),
+            Err(_) => Err(Fault::Memory),
         },
         Ok(Err(refusal)) => Err(fault_at(alloc, text, refusal)),
         Err(AllocError) => Err(Fault::Memory),
@@ -56,7 +64,8 @@ pub fn read_stream<'a>(alloc: Global, text: &'a str) -> Result<Reading<'a>, Faul
 // The fault with its place.
 fn fault_at(alloc: Global, text: &str, refusal: Refusal) -> Fault
     requires { RefusalAt text.now refusal }
-    ensures { IsStreamFault text.now result }
+    ensures stream { IsStreamFault text.now result }
+    ensures told { FaultAt text.now refusal result }
 {
     let Ok(table) = LineTable::build(alloc, text) else {
         return Fault::Memory;
@@ -69,30 +78,29 @@ fn fault_at(alloc: Global, text: &str, refusal: Refusal) -> Fault
         Refusal::TooDeep(offset) => Fault::TooDeep {
             place: table.place(offset),
         },
-        Refusal::Breach(Breach { offset, kind }) => match kind {
-            Kind::UnknownHandle => Fault::UnknownHandle {
-                place: place_of(&table, text, offset),
-            },
-            Kind::UnknownAlias => Fault::UnknownAlias {
-                place: place_of(&table, text, offset),
-            },
-            Kind::RepeatedDirective => Fault::RepeatedDirective {
-                place: table.place(offset),
-            },
-            Kind::BadVersion => Fault::BadVersion {
-                place: table.place(offset),
-            },
-            Kind::EscapeValue => Fault::EscapeValue {
-                place: table.place(offset),
-            },
-        },
+        Refusal::Breach(breach) => fault_of(breach, place_of(&table, text, breach.offset)),
     }
 }
 
-// The place of a tag or an alias. Its offset stands between characters; that is not proved, so it is tested.
+// The fault that tells of a breach.
+fn fault_of(breach: Breach, place: Place) -> Fault
+    ensures { result ≡ StreamReader.fault_of breach.kind place }
+{
+    match breach.kind {
+        Kind::UnknownHandle => Fault::UnknownHandle { place },
+        Kind::UnknownAlias => Fault::UnknownAlias { place },
+        Kind::RepeatedDirective => Fault::RepeatedDirective { place },
+        Kind::BadVersion => Fault::BadVersion { place },
+        Kind::EscapeValue => Fault::EscapeValue { place },
+    }
+}
+
+// The place of a breach. Its offset stands between characters; where the parts are not known to be those of the text, a tag's or an
+// alias's is not known to, so it is asked.
 fn place_of(table: &LineTable, text: &str, offset: usize) -> Place
     requires { table.now.text ≡ text.now }
-    ensures { InText text.now result }
+    ensures within { InText text.now result }
+    ensures place { IsCharBoundary text.now offset → IsPlaceOf text.now offset result }
 {
     if text.is_char_boundary(offset) {
         return table.place(offset);
@@ -102,7 +110,8 @@ fn place_of(table: &LineTable, text: &str, offset: usize) -> Place
 
 // The lists of the stream's reading, or why there is none.
 fn read_lists<'a>(alloc: Global, text: &'a str) -> Result<Result<Lists<'a>, Refusal>, AllocError>
-    ensures { IfOk result (λ r. MatchResult r (λ lists. Fits lists) (λ refusal. RefusalAt text.now refusal)) }
+    ensures made { IfOk result (λ r. MadeOr text.now r) }
+    ensures refusal { IfOk result (λ r. MatchResult r (λ lists. Fits lists) (λ refusal. RefusalAt text.now refusal)) }
 {
     let mut parts = Parts::new(alloc);
     if let Some(refusal) = read_documents(alloc, text, &mut parts)? {
@@ -119,7 +128,8 @@ fn noted_lists<'a>(
 ) -> Result<Result<Lists<'a>, Refusal>, AllocError>
     requires escapes { All (IsCharBoundary text.now) parts.part.escapes }
     requires documents { DocumentsAt text.now parts.documents }
-    ensures { IfOk result (λ r. MatchResult r (λ lists. Fits lists) (λ refusal. RefusalAt text.now refusal)) }
+    ensures noted { IfOk result (λ r. NotedOr text.now parts.entry r) }
+    ensures refusal { IfOk result (λ r. MatchResult r (λ lists. Fits lists) (λ refusal. RefusalAt text.now refusal)) }
 {
     let Parts {
         part: Part {
@@ -129,9 +139,10 @@ fn noted_lists<'a>(
         },
         documents,
     } = parts;
-    let Resolved { tags, first } = resolve(alloc, text, &events, &documents, &escapes)?;
-    if let Some(breach) = first {
-        return Ok(Err(Refusal::Breach(breach)));
+    let Resolved { tags, first } = resolve(alloc, &events, &documents, &escapes)?;
+    match first {
+        Some(breach) => return Ok(Err(Refusal::Breach(breach))),
+        None => {}
     }
     let on_leaf_line = on_leaf_lines(alloc, text, &events, &comments)?;
     Ok(Ok(Lists {
@@ -153,6 +164,7 @@ fn read_documents<'a>(
     requires escapes { All (IsCharBoundary text.now) parts.old.part.escapes }
     requires documents { DocumentsAt text.now parts.old.documents }
     ensures refusal { IfOk result (λ o. IfSome o (λ refusal. RefusalAt text.now refusal)) }
+    ensures underived { IfOk result (λ o. IfSome o (λ refusal. NoBreach refusal)) }
     ensures escapes { IfOk result (λ _. All (IsCharBoundary text.now) parts.new.part.escapes) }
     ensures documents { IfOk result (λ _. DocumentsAt text.now parts.new.documents) }
 {

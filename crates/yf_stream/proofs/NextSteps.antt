@@ -1,0 +1,150 @@
+-- The loop of the reader of streams: what has been read goes on with the next document or `...`, and where the reader refuses, no stream is derived
+-- within the limit of open collections.
+use Rattle.std.proofs.Common.{◌≡◌, ◌≢◌, ℕ, ◌+◌, ◌<◌, ◌-ℤ◌, pos, Bool, true, false, ◌≤◌, List, [], ◌++◌, length, sym, subst, arith, ⊎_elim, append-nil}
+use Rattle.std.specs.Str.{IsUtf8}
+use Rattle.yf_chars.specs.declared.context.Ctx.TheVariants.{BlockIn}
+use Rattle.yf_chars.specs.Text.{code}
+use Rattle.yf_chars.specs.Chain.{Chosen}
+use Rattle.yf_lines.specs.Basic.{Forbidden, LineStart}
+use Rattle.yf_comments.specs.Comment.{CommentValue}
+use Rattle.yf_events.specs.declared.directive.Directive.{Directive}
+use Rattle.yf_events.specs.declared.part.Part.{Part}
+use Rattle.yf_events.specs.declared.reading.TheConstants.{DEPTH}
+use Rattle.yf_grammar.specs.Meaning.{Meaning, empty_node, noting}
+use Rattle.yf_grammar.specs.Part.{BlockNodePart}
+use Rattle.yf_grammar.specs.Refusal.{openers}
+use Rattle.yf_grammar.proofs.BlockEnds.{LineOrEnd}
+use Rattle.yf_stream.specs.DirectiveReaders.{IsDirective, LongestDirectives, no_directives, one_directive}
+use Rattle.yf_stream.specs.DocumentReaders.{PrefixRead, SuffixEnds}
+use Rattle.yf_stream.specs.DocumentSteps.{BareRead, MarkedRead, NextRead, after_directives, at_dashes, at_dots, bare_read, no_bare_read, no_dashes, no_directive, no_node_read, node_read, not_bare, nothing_read, too_deep_bare, too_deep_read, without_dashes}
+use Rattle.yf_stream.specs.Stream.{DirectiveLines, Directives, Documents, ExplicitNode, RootNode}
+use Rattle.yf_stream.specs.Stream.AnyDocument.{bare_document, directive_document}
+use Rattle.yf_stream.specs.Stream.DirectiveLines.{last_directive, more_directives}
+use Rattle.yf_stream.specs.Stream.ExplicitNode.{marked_node, marked_nothing}
+use Rattle.yf_stream.specs.StreamReader.{NoStream}
+use Rattle.yf_stream.specs.declared.documents.Next.TheVariants.{Go, Syntax, TooDeep}
+use Rattle.yf_stream.specs.declared.documents.Parts.{Parts}
+use Rattle.yf_stream.specs.declared.documents.Spot.{Spot}
+use Rattle.yf_stream.proofs.BareStarts.{bare_start}
+use Rattle.yf_stream.proofs.NodeSteps.{MarkedThrough, marked_at_dash, marked_behind_directives, no_bare_document, no_directives_there, no_line_behind_dots, no_marked_document, no_marker_there, past_bare, past_marked, past_nothing}
+use Rattle.yf_stream.proofs.PathsThrough.{PathsThrough, no_second_bare}
+use Rattle.yf_stream.proofs.StreamUpto.{ReadUpto, past_document, past_dots, past_marked_document, three_dashes}
+
+-- what has been read goes on
+pub record GoesOn (t : List ℕ) (after : Spot) : Type 0 where
+  pub documents : Documents
+  pub read : ReadUpto t after.may_be_bare after.at documents
+
+module _ {t : List ℕ} where
+  -- directives that were read are derived
+  one_line : {i k : ℕ} {x : Directives} → IsDirective t i k x → DirectiveLines t i k x
+  one_line {i} {k} {x} d =
+      subst (λ w. DirectiveLines t i k (record { directives = w; comments = x.comments })) (sym d.is) (last_directive d.percent d.name d.parameters d.ends)
+
+  lines_from : {i k j : ℕ} {x : Directives} {ds : List Directive} {cs : List CommentValue} → DirectiveLines t i k x → LongestDirectives t k j ds cs
+      → DirectiveLines t i j (record { directives = x.directives ++ ds; comments = x.comments ++ cs })
+  lines_from {i} {k} {x = x} d no_directives =
+      subst (λ w. DirectiveLines t i k (record { directives = w; comments = x.comments ++ [] })) (sym (append-nil x.directives))
+      (subst (λ w. DirectiveLines t i k (record { directives = x.directives; comments = w })) (sym (append-nil x.comments)) d)
+  lines_from d (one_directive c r) = more_directives d (lines_from (one_line c.derived) r)
+
+  lines_read : {i j : ℕ} {ds : List Directive} {cs : List CommentValue} → LongestDirectives t i j ds cs → code t i ≡ 37 → code t j ≢ 37
+      → DirectiveLines t i j (record { directives = ds; comments = cs })
+  lines_read no_directives e n = absurd (n e)
+  lines_read (one_directive c r) e n = lines_from (one_line c.derived) r
+
+  root_of : {k j : ℕ} {part : Part} (c : Chosen (BlockNodePart t DEPTH (pos 0 -ℤ pos 1) BlockIn k) j part) → RootNode t c.derived.height k j c.derived.meaning
+  root_of c = record { derived = c.derived.derived; clear = c.derived.clear }
+
+  line_at : {k : ℕ} → LineOrEnd t k → k ≢ length t → LineStart t k
+  line_at l n = ⊎_elim (λ s. s) (λ e. absurd (n e)) l
+
+  goes : (after : Spot) {x : Documents} → after.may_be_bare ≡ false → ReadUpto t false after.at x → GoesOn t after
+  goes after {x} e r = record { documents = x; read = subst (λ b. ReadUpto t b after.at x) (sym e) r }
+
+  goes_bare : (after : Spot) {x : Documents} → after.may_be_bare ≡ true → ReadUpto t true after.at x → GoesOn t after
+  goes_bare after {x} e r = record { documents = x; read = subst (λ b. ReadUpto t b after.at x) (sym e) r }
+
+-- a document from its `---` on, and the paths after it
+record MarkedDocument (t : List ℕ) (p : ℕ) (after : Spot) : Type 0 where
+  height : ℕ
+  meaning : Meaning
+  node : ExplicitNode t height p after.at meaning
+  within : height ≤ DEPTH
+  through : PathsThrough t false after.at
+  bare : after.may_be_bare ≡ false
+
+module _ {t : List ℕ} (u : IsUtf8 t) where
+  marked_document : {p : ℕ} {ds : List Directive} {a b : Parts} {after : Spot} → Forbidden t p → code t p ≡ 45 → MarkedRead t p ds a b (Go after) → MarkedThrough t p
+      → MarkedDocument t p after
+  marked_document {p} f e (node_read n) m = record {
+    height = n.chosen.derived.height;
+    meaning = n.chosen.derived.meaning;
+    node = marked_node (three_dashes t p f e) (root_of n.chosen);
+    within = n.chosen.derived.within;
+    through = past_marked u n.chosen m;
+    bare = n.bare;
+  }
+  marked_document {p} f e (nothing_read n) m = record {
+    height = 0;
+    meaning = noting (empty_node (p + 3)) n.ends.comments;
+    node = marked_nothing (three_dashes t p f e) n.ends.line.derived;
+    within = omega arith;
+    through = past_nothing u n.ends.line n.last m;
+    bare = n.ends.bare;
+  }
+
+  no_marked : {p place : ℕ} {ds : List Directive} {a b : Parts} → MarkedRead t p ds a b (Syntax place) → MarkedThrough t p → NoStream t
+  no_marked (no_node_read s n) m = no_marked_document u n s m
+
+  marked_too_deep : {p place : ℕ} {ds : List Directive} {a b : Parts} → MarkedRead t p ds a b (TooDeep place) → MarkedThrough t p → NoStream t × (DEPTH < openers t)
+  marked_too_deep (too_deep_read s n o) m = (no_marked_document u n s m, o)
+
+  -- what is known of the place of the next document
+  module _ {i : ℕ} (spot : Spot) {c d : List CommentValue} (pre : PrefixRead t i spot.at c d) (some : spot.at ≢ length t) {x : Documents} (r : ReadUpto t spot.may_be_bare spot.at x) where
+    begin_bare : spot.may_be_bare ≡ true → ReadUpto t true spot.at x
+    begin_bare e = subst (λ b. ReadUpto t b spot.at x) e r
+
+    suffix_on : {a b : Parts} {after : Spot} → Forbidden t spot.at → code t spot.at ≡ 46 → SuffixEnds t spot a b after → GoesOn t after
+    suffix_on {after = after} f e s = goes_bare after s.bare (past_dots u pre.no_row f e s.line.derived r)
+
+    bare_on : {a b : Parts} {after : Spot} → (Forbidden t spot.at → ⊥) → spot.may_be_bare ≡ true → code t spot.at ≢ 37 → BareRead t spot.at a b (Go after) → GoesOn t after
+    bare_on {after = after} f q e (bare_read m w n) =
+        let y = n.chosen in
+        goes after n.bare
+        (past_document u y.derived.within (bare_document (root_of y) (bare_start (line_at r.starts some) pre.no_row m w y.derived.derived))
+        (past_bare u pre.no_row some pre.no_mark f e y r.through) (begin_bare q))
+
+    pub reading_goes_on : {a b : Parts} {after : Spot} → NextRead t spot a b (Go after) → GoesOn t after
+    reading_goes_on (at_dots f e s) = suffix_on f e s
+    reading_goes_on {after = after} (at_dashes f e m) =
+        let y = marked_document f e m (marked_at_dash pre.no_row f e r.through) in
+        goes after y.bare (past_marked_document u y.within y.node y.through r)
+    reading_goes_on {after = after} (after_directives q e d f g m) =
+        let y = marked_document f g m (marked_behind_directives u e d r.through) in
+        goes after y.bare (past_document u y.within (directive_document (lines_read d.upto.longest e d.last) y.node) y.through (begin_bare q))
+    reading_goes_on (without_dashes f q e m) = bare_on f q e m
+
+    no_bare_there : {place : ℕ} {a b : Parts} → (Forbidden t spot.at → ⊥) → code t spot.at ≢ 37 → BareRead t spot.at a b (Syntax place) → NoStream t
+    no_bare_there f e (no_bare_read n) = no_bare_document u pre.no_row some pre.no_mark f e n r.through
+
+    bare_too_deep : {place : ℕ} {a b : Parts} → (Forbidden t spot.at → ⊥) → code t spot.at ≢ 37 → BareRead t spot.at a b (TooDeep place) → NoStream t × (DEPTH < openers t)
+    bare_too_deep f e (too_deep_bare n o) = (no_bare_document u pre.no_row some pre.no_mark f e n r.through, o)
+
+    through_as : {b : Bool} → spot.may_be_bare ≡ b → PathsThrough t b spot.at
+    through_as e = subst (λ b. PathsThrough t b spot.at) e r.through
+
+    pub no_stream_read : {place : ℕ} {a b : Parts} → NextRead t spot a b (Syntax place) → NoStream t
+    no_stream_read (at_dots f e s) = no_line_behind_dots pre.no_row f e s r.through
+    no_stream_read (at_dashes f e m) = no_marked m (marked_at_dash pre.no_row f e r.through)
+    no_stream_read (not_bare f q) = no_second_bare pre some f (through_as q)
+    no_stream_read (after_directives q e d f g m) = no_marked m (marked_behind_directives u e d r.through)
+    no_stream_read (no_dashes e d n) = no_marker_there n (marked_behind_directives u e d r.through)
+    no_stream_read (no_directive e d) = no_directives_there u e d r.through
+    no_stream_read (without_dashes f q e m) = no_bare_there f e m
+
+    pub too_deep_there : {place : ℕ} {a b : Parts} → NextRead t spot a b (TooDeep place) → NoStream t × (DEPTH < openers t)
+    too_deep_there (at_dots f e s) = absurd s
+    too_deep_there (at_dashes f e m) = marked_too_deep m (marked_at_dash pre.no_row f e r.through)
+    too_deep_there (after_directives q e d f g m) = marked_too_deep m (marked_behind_directives u e d r.through)
+    too_deep_there (without_dashes f q e m) = bare_too_deep f e m

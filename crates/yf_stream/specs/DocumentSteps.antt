@@ -1,0 +1,86 @@
+-- What the reader of a stream answers of the next document, or of a `...`: what the parts have more and where it goes on, or that no stream is
+-- derived.
+use Rattle.std.specs.Prelude.{◌≡◌, ◌≢◌, ℕ, ◌+◌, ◌<◌, pos, ◌-ℤ◌, true, false, List, [], ◌++◌, Some, None}
+use Rattle.yf_chars.specs.declared.context.Ctx.TheVariants.{BlockIn}
+use Rattle.yf_chars.specs.Text.{code}
+use Rattle.yf_chars.specs.Class.{is_white}
+use Rattle.yf_chars.specs.Chain.{Chosen, Many, Stuck}
+use Rattle.yf_lines.specs.Basic.{Forbidden}
+use Rattle.yf_comments.specs.Comment.{CommentValue}
+use Rattle.yf_comments.specs.Comments.{LineEnd, Row}
+use Rattle.yf_events.specs.declared.directive.Directive.{Directive}
+use Rattle.yf_events.specs.declared.part.Part.{Part}
+use Rattle.yf_events.specs.declared.reading.TheConstants.{DEPTH}
+use Rattle.yf_grammar.specs.BlockParser.{Awaited, LinesEnd, Nothing, Whole}
+use Rattle.yf_grammar.specs.Parser.{Found}
+use Rattle.yf_grammar.specs.Part.{BlockNodePart}
+use Rattle.yf_grammar.specs.Refusal.{openers}
+use Rattle.yf_stream.specs.DirectiveReaders.{DirectivesEnd, DirectivesRead}
+use Rattle.yf_stream.specs.DocumentReaders.{SuffixRead, closed, opened}
+use Rattle.yf_stream.specs.EmptyDocument.{EmptyEnds}
+use Rattle.yf_stream.specs.declared.documents.Next.{Next}
+use Rattle.yf_stream.specs.declared.documents.Next.TheVariants.{Go, Syntax, TooDeep}
+use Rattle.yf_stream.specs.declared.documents.Parts.{Parts}
+use Rattle.yf_stream.specs.declared.documents.Spot.{Spot}
+
+-- no node of a stream's document stands there: none is derived, none is found, or one after which the stream does not go on
+pub data NoNode (t : List ℕ) (at : ℕ) : Type 0 where
+  none_derived : Stuck (BlockNodePart t DEPTH (pos 0 -ℤ pos 1) BlockIn at) → NoNode t at
+  none_found : Whole t DEPTH (Awaited false (pos 0 -ℤ pos 1) BlockIn Nothing at) None → NoNode t at
+  line_left : {f : Found} → Whole t DEPTH (Awaited false (pos 0 -ℤ pos 1) BlockIn Nothing at) (Some f) → (LinesEnd t f.end → ⊥) → Stuck (Row t f.end) → NoNode t at
+
+-- a part after what the parts had
+abbrev pub grown : Part → Parts → Parts
+grown part p = record p {
+  part = record {
+    events = p.part.events ++ part.events;
+    comments = p.part.comments ++ part.comments;
+    escapes = p.part.escapes ++ part.escapes;
+  };
+}
+
+-- a document's node has been read: the longest one there
+pub record NodeEnds (t : List ℕ) (at : ℕ) (a b : Parts) (after : Spot) : Type 0 where
+  pub part : Part
+  pub chosen : Chosen (BlockNodePart t DEPTH (pos 0 -ℤ pos 1) BlockIn at) after.at part
+  pub bare : after.may_be_bare ≡ false
+  pub document : after.is_open ≡ true
+  pub parts : b ≡ grown part a
+
+-- after a `---` the line ends, and after it and its comment lines stands what ends all nodes; or that is not so
+pub record NothingEnds (t : List ℕ) (at : ℕ) (a b : Parts) (after : Spot) : Type 0 where
+  pub ends : EmptyEnds t at a b after
+  pub last : LinesEnd t after.at
+
+pub record SomethingBegins (t : List ℕ) (at : ℕ) : Type 0 where
+  pub none : (j : ℕ) (cs : List CommentValue) → Chosen (LineEnd t at) j cs → LinesEnd t j → ⊥
+
+-- a document from its `---` on, with these directives
+pub data MarkedRead (t : List ℕ) (at : ℕ) (ds : List Directive) (a b : Parts) : Next → Type 0 where
+  node_read : {after : Spot} → NodeEnds t (at + 3) (opened at true ds a) b after → MarkedRead t at ds a b (Go after)
+  nothing_read : {after : Spot} → NothingEnds t (at + 3) (opened at true ds a) b after → MarkedRead t at ds a b (Go after)
+  no_node_read : {place : ℕ} → SomethingBegins t (at + 3) → NoNode t (at + 3) → MarkedRead t at ds a b (Syntax place)
+  too_deep_read : {place : ℕ} → SomethingBegins t (at + 3) → NoNode t (at + 3) → DEPTH < openers t → MarkedRead t at ds a b (TooDeep place)
+
+-- a document without `---`, which begins after white space
+pub data BareRead (t : List ℕ) (at : ℕ) (a b : Parts) : Next → Type 0 where
+  bare_read : {start : ℕ} {w : List ℕ} {after : Spot} → Many t is_white at start w → is_white (code t start) ≡ false
+      → NodeEnds t at (opened start false [] a) b after → BareRead t at a b (Go after)
+  no_bare_read : {place : ℕ} → NoNode t at → BareRead t at a b (Syntax place)
+  too_deep_bare : {place : ℕ} → NoNode t at → DEPTH < openers t → BareRead t at a b (TooDeep place)
+
+-- with other comments
+abbrev pub with_comments_read : List CommentValue → Parts → Parts
+with_comments_read cs p = record p { part = record p.part { comments = cs } }
+
+-- what begins at a spot where no comment line and no byte order mark does
+pub data NextRead (t : List ℕ) (spot : Spot) (a b : Parts) : Next → Type 0 where
+  at_dots : {next : Next} → Forbidden t spot.at → code t spot.at ≡ 46 → SuffixRead t spot a b next → NextRead t spot a b next
+  at_dashes : {next : Next} → Forbidden t spot.at → code t spot.at ≡ 45 → MarkedRead t spot.at [] (closed false spot.is_open a) b next → NextRead t spot a b next
+  not_bare : {place : ℕ} → (Forbidden t spot.at → ⊥) → spot.may_be_bare ≡ false → NextRead t spot a b (Syntax place)
+  after_directives : {next : Next} {p : ℕ} {ds : List Directive} {cs : List CommentValue} → spot.may_be_bare ≡ true → code t spot.at ≡ 37
+      → DirectivesRead t spot.at p ds a.part.comments cs → Forbidden t p → code t p ≡ 45 → MarkedRead t p ds (with_comments_read cs a) b next → NextRead t spot a b next
+  no_dashes : {place p : ℕ} {ds : List Directive} {ca cb : List CommentValue} → code t spot.at ≡ 37 → DirectivesRead t spot.at p ds ca cb
+      → (Forbidden t p → code t p ≡ 45 → ⊥) → NextRead t spot a b (Syntax place)
+  no_directive : {place p : ℕ} → code t spot.at ≡ 37 → DirectivesEnd t spot.at p → NextRead t spot a b (Syntax place)
+  without_dashes : {next : Next} → (Forbidden t spot.at → ⊥) → spot.may_be_bare ≡ true → code t spot.at ≢ 37 → BareRead t spot.at a b next → NextRead t spot a b next
