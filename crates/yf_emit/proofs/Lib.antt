@@ -136,10 +136,16 @@ pub mod RowFlow
 pub mod ItemsOrder
 pub mod QuietTrees
 pub mod RowsFit
+pub mod QuietNodes
 pub mod QuietRows
 pub mod UprightRows
 pub mod SourceStands
 pub mod LeavesTold
+pub mod NoStarts
+pub mod DocumentsBegun
+pub mod DocumentsFlow
+pub mod DocumentsFound
+pub mod SameComments
 pub mod KeyTrails
 pub mod KeysBegin
 pub mod LayoutHolds

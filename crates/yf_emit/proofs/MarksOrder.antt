@@ -68,7 +68,7 @@ directives_rise (directive_stands m a) = a_place m (directives_rise a)
 pub trees_rise : {t : List ℕ} {i : ℕ} {ds : List Doc} {trees : List DocumentTree} → TreesStand t i ds trees
     → Rises i (marks_in_documents ds trees) (length t)
 trees_rise (no_trees_stand m) = no_place m
-trees_rise (tree_stands d a b) = rises_join (directives_rise d) (a_place (omega arith) (rises_join (node_rises a) (trees_rise b)))
+trees_rise (tree_stands d a b z) = rises_join (directives_rise d) (a_place (omega arith) (rises_join (node_rises a) (trees_rise b)))
 
 -- in terms of indices
 

@@ -39,7 +39,7 @@ use Rattle.yf_emit.proofs.PrintedSteps.{trimmed_by}
 use Rattle.yf_emit.proofs.QuietRows.{node_flows}
 use Rattle.yf_emit.proofs.QuietTrees.{free_at, node_sits}
 use Rattle.yf_emit.proofs.ReadingsOfTexts.{trees_placed}
-use Rattle.yf_emit.proofs.RowFlow.{Upright, rows_flow}
+use Rattle.yf_emit.proofs.RowFlow.{Upright, rows_flow, starts_are, starts_on}
 use Rattle.yf_emit.proofs.RowLeaves.{leaves_on}
 use Rattle.yf_emit.proofs.RowTrails.{TidyRows}
 use Rattle.yf_emit.proofs.RowsFit.{none_fits, no_key, RowsFit, no_rows_fit, row_fits, fit_append}
@@ -81,7 +81,7 @@ module _ {t : List ℕ} (u : IsUtf8 t) (c : Setting) (sign : (d : CommentValue) 
   stream_flows : {i : ℕ} {ds : List Doc} {trees : List DocumentTree} (is_first : Bool) → TreesStand t i ds trees
       → Rises i (items_on (stream_rows c is_first ds (map (normal_document t c) trees))) (length t) × RowsFit c.comments (stream_rows c is_first ds (map (normal_document t c) trees))
   stream_flows is_first (no_trees_stand l) = (no_place l, no_rows_fit)
-  stream_flows {i} is_first (tree_stands {j = j} {d = d} {ds = ds} {tree = tree} {trees = trees} a b more) =
+  stream_flows {i} is_first (tree_stands {j = j} {d = d} {ds = ds} {tree = tree} {trees = trees} a b more z) =
       let head : List Row = head_rows is_first d in
       let root : List Row = rows c (root_spot c.style) (normal_document t c tree).root in
       let others : List Row = stream_rows c false ds (map (normal_document t c) trees) in
@@ -95,7 +95,7 @@ module _ {t : List ℕ} (u : IsUtf8 t) (c : Setting) (sign : (d : CommentValue) 
 
 trees_unsigned : {t : List ℕ} {i : ℕ} {ds : List Doc} {trees : List DocumentTree} → TreesStand t i ds trees → Unsigned t (starts_of (leaves_of trees))
 trees_unsigned (no_trees_stand l) = no_start
-trees_unsigned (tree_stands {tree = tree} {trees = trees} a b more) = unsigned_join (leaves tree.root) (leaves_of trees) (node_unsigned b) (trees_unsigned more)
+trees_unsigned (tree_stands {tree = tree} {trees = trees} a b more z) = unsigned_join (leaves tree.root) (leaves_of trees) (node_unsigned b) (trees_unsigned more)
 
 -- Comments with their notes.
 
@@ -166,5 +166,5 @@ source_told t s r trees u a of_reading =
     let w = source_stands t s r trees u a of_reading in
     let m : Lists = normal_of t s r trees in
     let all : List Row = normal_rows t s r trees in
-    let starts : starts_of (leaves_on all) ≡ leaf_starts r.events = ap starts_of w.leaves_are ∙ (sym (stream_starts_are trees) ∙ ap leaf_starts (sym of_reading.events)) in
-    comments_told m all w.noted w.order (rows_flow (source_of m all) r.comments w.sign w.unsigned w.upright) ∙ ap (λ ss. trimmed_by (starts_before ss) r.comments) starts
+    let starts : starts_on all ≡ leaf_starts r.events = starts_are all ∙ (ap starts_of w.leaves_are ∙ (sym (stream_starts_are trees) ∙ ap leaf_starts (sym of_reading.events))) in
+    comments_told m all (starts_on all) w.noted w.order (rows_flow (source_of m all) r.comments w.sign w.unsigned w.upright) ∙ ap (λ ss. trimmed_by (starts_before ss) r.comments) starts

@@ -127,5 +127,5 @@ module _ {t : List ℕ} (u : IsUtf8 t) (c : Setting) where
   -- of the documents of a stream
   pub trees_kept : {i : ℕ} {ds : List Doc} {trees : List DocumentTree} → TreesStand t i ds trees → TreesKept c (map (normal_document t c) trees)
   trees_kept (no_trees_stand l) = tt
-  trees_kept (tree_stands {tree = tree} d a b) =
+  trees_kept (tree_stands {tree = tree} d a b z) =
       (((root_same t c tree).placed ∙ node_placed a, (normal_house t c (root_spot c.style) tree.root, node_still (root_spot c.style) a)), trees_kept b)

@@ -1,11 +1,12 @@
 -- Rows that fit the comments, and whose items rise, are upright: of each it is known which comment trails it.
-use Rattle.std.proofs.Common.{◌≡◌, ◌≢◌, ℕ, max, ◌+◌, ◌<◌, ◌≤◌, Bool, true, ◌&&◌, List, [], ◌∷◌, ◌++◌, flat_map, Some, None, refl, sym, ap, ◌∙◌, subst, arith, append_assoc, append-nil, inl, inr, ⊎_elim, ◌⊎◌}
-use Rattle.std.specs.Prelude.{find, nat_lt, option_to_list, zip}
+use Rattle.std.proofs.Common.{◌≡◌, ◌≢◌, ℕ, max, ◌+◌, ◌<◌, ◌≤◌, Bool, true, false, ◌&&◌, List, [], ◌∷◌, ◌++◌, flat_map, Option, Some, None, refl, sym, ap, ◌∙◌, subst, arith, append_assoc, append-nil, inl, inr, ⊎_elim, ◌⊎◌}
+use Rattle.std.specs.Prelude.{find, nat_lt, option_to_list, zip, if◌then◌else◌}
 use Rattle.std.specs.List.{list_all}
 use Rattle.std.proofs.lemmas.Bool.{and_from, and_parts, cases_lt}
 use Rattle.std.proofs.lemmas.Bool.Decides.{nat_tests}
 use Rattle.yf_comments.specs.Comment.{CommentValue}
 use Rattle.yf_events.specs.declared.event.Span.{Span}
+use Rattle.yf_stream.specs.ReadingOf.{last_leaf}
 use Rattle.yf_emit.specs.Layout.{Source, is_among, is_before, trailing}
 use Rattle.yf_emit.specs.Rows.{Row}
 use Rattle.yf_emit.specs.StillLeaves.{Still, between}
@@ -13,7 +14,7 @@ use Rattle.yf_emit.proofs.CommentsCut.{In, Upward}
 use Rattle.yf_emit.proofs.ItemsOrder.{items_on, sub_join, sub_twice, rises_greatest}
 use Rattle.yf_emit.proofs.MarksOrder.{Rises, rises_after, rises_order}
 use Rattle.yf_emit.proofs.QuietTrees.{Free}
-use Rattle.yf_emit.proofs.RowFlow.{Sub, sub_none, sub_take, sub_skip, sub_from, sub_one_from, greatest, leaf_next, RowTrail, untrailed, trailed_after, Upright, no_upright, an_upright}
+use Rattle.yf_emit.proofs.RowFlow.{Sub, sub_none, sub_take, sub_skip, sub_from, sub_one_from, greatest, leaf_next, Has, has_first, has_rest, at_leaf, before_leaf, RowTrail, untrailed, trailed_after, Upright, no_upright, an_upright}
 use Rattle.yf_emit.proofs.RowLeaves.{leaves_on}
 use Rattle.yf_emit.proofs.RowTrails.{KeyLast, TidyRows, among_behind, keys_of, leaves_silent, trail_of}
 use Rattle.yf_emit.proofs.RowsFit.{LineFits, no_key, a_key, RowsFit, no_rows_fit, row_fits, RisesApart, rises_apart, rises_from}
@@ -43,6 +44,10 @@ last_begins : (ls : List Span) (s : Span) → Sub (s.start ∷ []) (starts_of (l
 last_begins [] s = sub_take sub_none
 last_begins (l ∷ ls) s = sub_skip (last_begins ls s)
 
+last_has : (ls : List Span) (s : Span) → Has s (ls ++ (s ∷ []))
+last_has [] s = has_first
+last_has (l ∷ ls) s = has_rest (last_has ls s)
+
 -- Leaves after a comment.
 
 less : (m n : ℕ) → nat_lt m n ≡ true → m < n
@@ -63,6 +68,19 @@ leaves_later o [] e r = none_later
 leaves_later o (s ∷ ss) e r =
     let l : o < s.start = less o s.start e in
     one_later (omega (arith, l)) (later_all (o + 1) s.start ss (omega (arith, l)) (and_parts (list_all (λ (x : Span). nat_lt s.start x.start) ss) (rising ss) r).0)
+
+not_below : (m n : ℕ) → n ≤ m → nat_lt m n ≡ false
+not_below m n l = grind (arith, nat_tests)
+
+-- the last leaf that begins before a comment
+stays : (s : Span) (o : ℕ) (post : List Span) → AllFrom (o + 1) (starts_of post) → last_leaf (Some s) o post ≡ Some s
+stays s o [] a = refl
+stays s o (p ∷ post) (one_later l a) =
+    ap (λ b. last_leaf (if b then Some p else Some s) o post) (not_below p.start o (omega (arith, l))) ∙ stays s o post a
+
+last_is : (pre : List Span) (s : Span) (post : List Span) (o : ℕ) → s.start < o → AllFrom (o + 1) (starts_of post) → (found : Option Span) → last_leaf found o (pre ++ (s ∷ post)) ≡ Some s
+last_is [] s post o l a found = ap (λ b. last_leaf (if b then Some s else found) o post) (below s.start o l) ∙ stays s o post a
+last_is (p ∷ pre) s post o l a found = last_is pre s post o l a (if nat_lt p.start o then Some p else found)
 
 -- no comment that is named stands in between
 not_between : (a e d : ℕ) (s : ℕ) → e < s → d < e → ((nat_lt a d && nat_lt d s) ≡ true → e ≤ d) → d ≤ a
@@ -95,21 +113,24 @@ module _ (c : Source) (cs : List CommentValue) (bs : List Bool) (remarks : c.rem
     trails_are : trailing c row ≡ flat_map (trail_of c) row.leaves
     trails_are = ap (λ o. option_to_list o ++ flat_map (trail_of c) row.leaves) q
 
-    by : (ls : List Span) (s : Span) {w : List CommentValue} → row.leaves ≡ ls ++ (s ∷ []) → trailing c row ≡ w → LeafTrail c cs s (leaves_on rows) w → RowTrail c cs row rows
-    by ls s g h nothing_trails = untrailed h
-    by ls s g h (it_trails {e = d} a k) =
+    by : (ls : List Span) (s : Span) {w : List CommentValue} → row.leaves ≡ ls ++ (s ∷ []) → c.leaves ≡ (pre ++ ls) ++ (s ∷ leaves_on rows) → trailing c row ≡ w → LeafTrail c cs s (leaves_on rows) w → RowTrail c cs row rows
+    by ls s g apart h nothing_trails = untrailed h
+    by ls s g apart h (it_trails r n test a k) =
+        let d : CommentValue = r.0 in
         let here : Sub (s.start ∷ []) (starts_of row.leaves) = subst (λ w. Sub (s.start ∷ []) (starts_of w)) (sym g) (last_begins ls s) in
         let rest : rising (leaves_on rows) ≡ true = rising_behind row.leaves (leaves_on rows) (rising_behind pre (row.leaves ++ leaves_on rows) (subst (λ w. rising w ≡ true) e up)) in
+        let later : AllFrom (d.offset + 1) (starts_of (leaves_on rows)) = leaves_later d.offset (leaves_on rows) a.before rest in
         trailed_after d s.start h a.among (sub_twice here f.among) a.after
-        (λ x i l. let low : x.offset ≤ s.start = a.first x i l in let apart : x.offset ≢ s.start = of_source pre row.leaves (leaves_on rows) e here x i in omega (arith, low, apart))
-        (beyond row d s.start f a.among here a.after) (leaves_later d.offset (leaves_on rows) a.before rest) (inl here) (inl k)
+        (λ x i l. let low : x.offset ≤ s.start = a.first x i l in let other : x.offset ≢ s.start = of_source pre row.leaves (leaves_on rows) e here x i in omega (arith, low, other))
+        (beyond row d s.start f a.among here a.after) later (inl here) (inl k)
+        (at_leaf s r (subst (λ w. Has s w) (sym g) (last_has ls s)) (ap (last_leaf None d.offset) apart ∙ last_is (pre ++ ls) s (leaves_on rows) d.offset a.after later None) n refl test)
 
     go : (ls : List Span) → row.leaves ≡ ls → EndsIn ls → RowTrail c cs row rows
     go [] g ends_in_none = untrailed (trails_are ∙ ap (flat_map (trail_of c)) g)
     go all g (ends_in ls s) =
         let there : c.leaves ≡ pre ++ ((ls ++ (s ∷ [])) ++ leaves_on rows) = e ∙ ap (λ w. pre ++ (w ++ leaves_on rows)) g in
         let apart : c.leaves ≡ (pre ++ ls) ++ (s ∷ leaves_on rows) = there ∙ (ap (λ w. pre ++ w) (append_assoc ls (s ∷ []) (leaves_on rows)) ∙ sym (append_assoc pre ls (s ∷ leaves_on rows))) in
-        by ls s g (trails_are ∙ (ap (flat_map (trail_of c)) g ∙ last_trails c cs bs remarks up order pre ls s (leaves_on rows) there (subst (λ w. Still cs w) g still)))
+        by ls s g apart (trails_are ∙ (ap (flat_map (trail_of c)) g ∙ last_trails c cs bs remarks up order pre ls s (leaves_on rows) there (subst (λ w. Still cs w) g still)))
         (leaf_trail c cs bs remarks up order (pre ++ ls) s (leaves_on rows) apart)
 
   -- and of one whose key one trails
@@ -131,6 +152,7 @@ module _ (c : Source) (cs : List CommentValue) (bs : List Bool) (remarks : c.rem
       (leaves_later e.offset (leaves_on (next ∷ rows)) there rest)
       (⊎_elim (λ (z : Sub (a ∷ []) (starts_of row.leaves)). inl z) (λ (z : (row.leaves ≡ []) × (greatest row.items ≤ a)). inr (z.0, among)) at)
       (inr (leaf_next s.start (subst (λ z. Sub (s.start ∷ []) (starts_of z)) (sym first) (sub_take sub_none))))
+      (before_leaf next rows refl s (subst (λ z. Has s z) (sym first) has_first) before)
 
   with_trail : {it n : ℕ} (row : Row) (rows : List Row) → LineFits cs row.items (starts_of row.leaves) → RowsFit cs rows → (r : RisesApart it n row.items (items_on rows)) → RowTrail c cs row rows
       → Upright c cs (max it (greatest row.items)) rows → Upright c cs it (row ∷ rows)
