@@ -7,7 +7,7 @@ use Rattle.yf_events.specs.Tree.{Node}
 use Rattle.yf_grammar.specs.Meaning.{Meaning}
 use Rattle.yf_stream.specs.Stream.{Document, document_of, Documents, with_document, with_comments}
 use Rattle.yf_stream.proofs.ReadingOrder.{explicit_ascends}
-use Rattle.yf_emit.specs.Beginnings.{begins_behind, document_begins, steps_with}
+use Rattle.yf_emit.specs.Beginnings.{begins_behind, documents_begin, steps_with}
 use Rattle.yf_emit.specs.Carried.{carried_texts, comments_in}
 use Rattle.yf_emit.specs.Decorated.{Deco, first, after}
 use Rattle.yf_emit.specs.Rows.{Row, at_document_start}
@@ -34,10 +34,10 @@ unfolding with_document
 documents_begun cs d x c a = stand_join c a
 
 pub explicit_begun : {t : List ℕ} {x : Node} {rs : List Row} {q : ℕ} {r : List ℕ} (row : Row) (ds : List Deco) → row.ending ≡ at_document_start → NoStarts rs → (m : ExplicitMade t x (row ∷ rs) ds q r)
-    → Stand q (q ∷ []) m.meaning.comments (steps_with document_begins (row ∷ rs) ds) m.place
+    → Stand q (q ∷ []) m.meaning.comments (steps_with documents_begin (row ∷ rs) ds) m.place
 explicit_begun {rs = rs} {q = q} row ds e none m =
-    let same : steps_with document_begins (row ∷ rs) ds ≡ a_leaf ∷ comment_steps (comments_in (row ∷ rs) ds) =
-    ap (λ w. begins_behind w ++ (comment_steps (carried_texts (first ds)) ++ steps_with document_begins rs (after ds))) e
+    let same : steps_with documents_begin (row ∷ rs) ds ≡ a_leaf ∷ comment_steps (comments_in (row ∷ rs) ds) =
+    ap (λ w. begins_behind w ++ (comment_steps (carried_texts (first ds)) ++ steps_with documents_begin rs (after ds))) e
     ∙ ap (λ w. a_leaf ∷ w) (ap (λ w. comment_steps (carried_texts (first ds)) ++ w) (quiet_steps none (after ds))
     ∙ sym (map-append (λ (w : List ℕ). a_comment w) (carried_texts (first ds)) (comments_in rs (after ds)))) in
     subst (λ w. Stand q (q ∷ []) m.meaning.comments w m.place) (sym same) (leaf_stands (omega arith) (comments_stand (explicit_ascends m.node) m.is))

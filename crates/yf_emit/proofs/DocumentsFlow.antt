@@ -26,7 +26,7 @@ use Rattle.yf_stream.specs.ReadingOf.{is_on_line, last_leaf, leaf_lines, on_line
 use Rattle.yf_stream.proofs.BrokenEnds.{Broken, at_break, at_text_end}
 use Rattle.yf_stream.proofs.DirectiveOrder.{directives_order}
 use Rattle.yf_stream.proofs.ReadingTrees.{TreesStand, no_trees_stand, tree_stands}
-use Rattle.yf_emit.specs.Beginnings.{document_begins}
+use Rattle.yf_emit.specs.Beginnings.{documents_begin}
 use Rattle.yf_emit.specs.Layout.{Remark, Source, first_comment, is_before, next_leaf, trailing}
 use Rattle.yf_emit.specs.Normal.{Setting, normal_document, root_spot}
 use Rattle.yf_emit.specs.Rows.{Row, beginning_at, directive_row, end_rows, rows, start_row, stream_rows}
@@ -165,7 +165,7 @@ module _ {t : List ℕ} (lines : List Line) (are_lines : AreLines t lines) (c : 
 
   -- The rows of a document's node, before those of further documents.
   root_flow : (j : ℕ) → Broken t j → {rest : List ℕ} → AllFrom j rest → (xs ys : List Row) → Bare ys → {it i : ℕ} → Upright c cs it (xs ++ ys) → NoStarts xs → it ≤ j → Rises i (items_on xs) j
-      → ((s : Span) → Has s (leaves_on xs) → (s.start ≤ j) × (s.end ≤ j)) → ((n : ℕ) → n ≤ j → Upright c cs n ys → Flowing document_begins c cs n ys rest) → Flowing document_begins c cs it (xs ++ ys) rest
+      → ((s : Span) → Has s (leaves_on xs) → (s.start ≤ j) × (s.end ≤ j)) → ((n : ℕ) → n ≤ j → Upright c cs n ys → Flowing documents_begin c cs n ys rest) → Flowing documents_begin c cs it (xs ++ ys) rest
   root_flow j z from [] ys bare {it} up none l r ends k = k it l up
   root_flow j z from (x ∷ xs) ys bare {it} (an_upright first later fits trail more) (no_start_on e none) l r ends k =
       let parts = rises_apart x.items (items_on xs) r in
@@ -182,8 +182,8 @@ module _ {t : List ℕ} (lines : List Line) (are_lines : AreLines t lines) (c : 
   untrailed_row d i = elim i [ ]
 
   directive_flow : (start : ℕ) → Free cs start → {rest : List ℕ} → AllFrom start rest → (dirs : List Directive) (ys : List Row) {it : ℕ} → Upright c cs it ((map directive_row dirs ++ (start_row ∷ [])) ++ ys)
-      → it ≤ start → start ≤ it → ((n : ℕ) → n ≤ start → Upright c cs n ys → Flowing document_begins c cs n ys rest)
-      → Flowing document_begins c cs it ((map directive_row dirs ++ (start_row ∷ [])) ++ ys) (start ∷ rest)
+      → it ≤ start → start ≤ it → ((n : ℕ) → n ≤ start → Upright c cs n ys → Flowing documents_begin c cs n ys rest)
+      → Flowing documents_begin c cs it ((map directive_row dirs ++ (start_row ∷ [])) ++ ys) (start ∷ rest)
   directive_flow start free from [] ys {it} (an_upright first later fits trail more) l m k =
       a_flow 0 (start ∷ []) refl (λ d. precedes_greatest [] d.offset)
       (record { still = λ d i n. absurd (omega (arith, n)); behind = λ d i n. let apart : d.offset ≢ start = free d i in one_earlier (omega (arith, n, m, apart)) none_earlier })
@@ -195,7 +195,7 @@ module _ {t : List ℕ} (lines : List Line) (are_lines : AreLines t lines) (c : 
 
   -- where the first of them is the `---`
   start_flow : (start : ℕ) → Free cs start → {rest : List ℕ} → AllFrom start rest → (ys : List Row) {it : ℕ} → Upright c cs it (record start_row { items = start ∷ [] } ∷ ys) → it ≤ start
-      → ((n : ℕ) → n ≤ start → Upright c cs n ys → Flowing document_begins c cs n ys rest) → Flowing document_begins c cs it (record start_row { items = start ∷ [] } ∷ ys) (start ∷ rest)
+      → ((n : ℕ) → n ≤ start → Upright c cs n ys → Flowing documents_begin c cs n ys rest) → Flowing documents_begin c cs it (record start_row { items = start ∷ [] } ∷ ys) (start ∷ rest)
   start_flow start free from ys {it} (an_upright first later fits trail more) l k =
       a_flow (greatest (start ∷ [])) (start ∷ []) refl (λ d. precedes_greatest (start ∷ []) d.offset)
       (record {
@@ -206,8 +206,8 @@ module _ {t : List ℕ} (lines : List Line) (are_lines : AreLines t lines) (c : 
 
   head_flow : (is_first : Bool) (start : ℕ) (dirs : List Directive) → Free cs start → {rest : List ℕ} → AllFrom start rest → (ys : List Row) {it : ℕ}
       → Upright c cs it (beginning_at start (end_rows is_first dirs ++ (map directive_row dirs ++ (start_row ∷ []))) ++ ys) → it ≤ start
-      → ((n : ℕ) → n ≤ start → Upright c cs n ys → Flowing document_begins c cs n ys rest)
-      → Flowing document_begins c cs it (beginning_at start (end_rows is_first dirs ++ (map directive_row dirs ++ (start_row ∷ []))) ++ ys) (start ∷ rest)
+      → ((n : ℕ) → n ≤ start → Upright c cs n ys → Flowing documents_begin c cs n ys rest)
+      → Flowing documents_begin c cs it (beginning_at start (end_rows is_first dirs ++ (map directive_row dirs ++ (start_row ∷ []))) ++ ys) (start ∷ rest)
   head_flow true start [] free from ys up l k = start_flow start free from ys up l k
   head_flow false start [] free from ys up l k = start_flow start free from ys up l k
   head_flow true start (e ∷ dirs) free from ys {it} (an_upright first later fits trail more) l k =
@@ -236,7 +236,7 @@ module _ {t : List ℕ} (lines : List Line) (are_lines : AreLines t lines) (c : 
       (sym (append_assoc (head_rows is_first d) (rows st (root_spot st.style) x.root) (stream_rows st false ds xs)) ∙ e)
 
   pub stream_flow : IsUtf8 t → (st : Setting) → st.comments ≡ cs → {i : ℕ} {ds : List Doc} {trees : List DocumentTree} (is_first : Bool) {it : ℕ} → it ≤ i → TreesStand t i ds trees
-      → Upright c cs it (stream_rows st is_first ds (map (normal_document t st) trees)) → Flowing document_begins c cs it (stream_rows st is_first ds (map (normal_document t st) trees)) (map (λ d. d.start) ds)
+      → Upright c cs it (stream_rows st is_first ds (map (normal_document t st) trees)) → Flowing documents_begin c cs it (stream_rows st is_first ds (map (normal_document t st) trees)) (map (λ d. d.start) ds)
   stream_flow u st same is_first l (no_trees_stand m) no_upright = no_flow
   stream_flow u st same is_first {it} l (tree_stands {j = j} {d = d} {ds = ds} {tree = tree} {trees = trees} a b more z) up =
       let head : List Row = head_rows is_first d in
@@ -252,7 +252,7 @@ module _ {t : List ℕ} (lines : List Line) (are_lines : AreLines t lines) (c : 
       let within = node_order b in
       let from : AllFrom j starts = starts_from more in
       let grouped : (head ++ root) ++ others ≡ head ++ (root ++ others) = append_assoc head root others in
-      subst (λ w. Flowing document_begins c cs it w (d.start ∷ starts)) (sym grouped)
+      subst (λ w. Flowing documents_begin c cs it w (d.start ∷ starts)) (sym grouped)
       (head_flow is_first d.start d.directives (free_at u cs sign z.start) (later_from within from) (root ++ others) (subst (λ w. Upright c cs it w) grouped up) (omega (arith, l, before))
       (λ n m upright. root_flow j z.end from root others (stream_bare st false ds (map (normal_document t st) trees)) upright (rows_none st (root_spot st.style) (normal_document t st tree).root)
       (omega (arith, m, within)) (node.rises (root_spot st.style)) (λ s h. steps_has (node_steps b) (subst (λ w. Has s w) leaves_are h))

@@ -14,7 +14,7 @@ use Rattle.yf_stream.specs.Stream.{Document, Documents}
 use Rattle.yf_stream.proofs.ReadingOrder.{stream_ascends}
 use Rattle.yf_stream.proofs.ReadingTrees.{TreesStand, no_trees_stand, tree_stands, reading_stands}
 use Rattle.yf_emit.specs.declared.style.Style.{Style}
-use Rattle.yf_emit.specs.Beginnings.{document_begins, steps_with}
+use Rattle.yf_emit.specs.Beginnings.{documents_begin, steps_with}
 use Rattle.yf_emit.specs.Decorated.{first_gap, row_decos, rows_of}
 use Rattle.yf_emit.specs.Format.{Formats}
 use Rattle.yf_emit.specs.Rows.{Row}
@@ -26,7 +26,7 @@ use Rattle.yf_emit.proofs.StepsStand.{Stand}
 
 -- the comments of a layout and the documents that begin in it, as steps
 abbrev pub document_steps : Lists → List Row → List Step
-document_steps m rows = comment_steps (remarks_of (first_gap m rows)) ++ steps_with document_begins rows (row_decos m rows)
+document_steps m rows = comment_steps (remarks_of (first_gap m rows)) ++ steps_with documents_begin rows (row_decos m rows)
 
 abbrev pub document_starts : List Doc → List ℕ
 document_starts ds = map (λ d. d.start) ds

@@ -18,7 +18,7 @@ use Rattle.yf_stream.proofs.LawsHold.{derived_streams_are_shapes}
 use Rattle.yf_stream.proofs.ReadingTrees.{TreesMeant, no_trees_meant, tree_meant, reading_stands}
 use Rattle.yf_stream.proofs.StreamDocuments.{DocumentsDerived, no_documents_derived, document_derived, stream_derived}
 use Rattle.yf_emit.specs.declared.style.Style.{Style}
-use Rattle.yf_emit.specs.Beginnings.{document_begins, steps_with}
+use Rattle.yf_emit.specs.Beginnings.{documents_begin, steps_with}
 use Rattle.yf_emit.specs.Carried.{AreRemarks}
 use Rattle.yf_emit.specs.Decorated.{first_gap, row_decos, rows_of}
 use Rattle.yf_emit.specs.FitDocuments.{FitDocuments, DocumentMeant, DocumentsMeant, no_documents_meant, document_meant, tall_documents}
@@ -176,7 +176,7 @@ pub record FormattedLaid {t : List ℕ} {s : Style} {u : List ℕ} (f : Formats 
   pub laid : DocumentsLaid 0 (length u) well.documents (steps_of f.normal (rows_of f.normal s f.writes.trees))
   pub begun : Stand 0 (map (λ (d : Document). d.start) well.documents.documents) well.documents.comments
       (comment_steps (remarks_of (first_gap f.normal (rows_of f.normal s f.writes.trees)))
-      ++ steps_with document_begins (rows_of f.normal s f.writes.trees) (row_decos f.normal (rows_of f.normal s f.writes.trees))) (length u)
+      ++ steps_with documents_begin (rows_of f.normal s f.writes.trees) (row_decos f.normal (rows_of f.normal s f.writes.trees))) (length u)
 
 pub formats_laid : (t u : List ℕ) (s : Style) → IsUtf8 t → (f : Formats t s u) → FormattedLaid f
 formats_laid t u s utf8 f =

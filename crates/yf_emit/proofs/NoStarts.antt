@@ -6,7 +6,7 @@ use Rattle.yf_comments.specs.Comment.{CommentValue}
 use Rattle.yf_events.specs.Tree.{Node, scalar, alias, sequence, mapping, Items, no_items, item, Pairs, no_pairs, pair}
 use Rattle.yf_events.specs.declared.directive.Directive.{Directive}
 use Rattle.yf_events.specs.declared.event.ScalarStyle.TheVariants.{Plain, Single, Double, Literal, Folded}
-use Rattle.yf_emit.specs.Beginnings.{begins_behind, document_begins, steps_with}
+use Rattle.yf_emit.specs.Beginnings.{begins_behind, documents_begin, steps_with}
 use Rattle.yf_emit.specs.BlockLines.{final_feeds, is_kept_tail}
 use Rattle.yf_emit.specs.Carried.{carried_texts, comments_in}
 use Rattle.yf_emit.specs.Decorated.{Deco, after, first, past}
@@ -17,13 +17,13 @@ use Rattle.yf_emit.specs.Steps.{Step, a_comment, comment_steps}
 
 pub data NoStarts : List Row → Type 0 where
   no_starts : NoStarts []
-  no_start_on : {row : Row} {rows : List Row} → document_begins row ≡ [] → NoStarts rows → NoStarts (row ∷ rows)
+  no_start_on : {row : Row} {rows : List Row} → documents_begin row ≡ [] → NoStarts rows → NoStarts (row ∷ rows)
 
 pub starts_none : {xs ys : List Row} → NoStarts xs → NoStarts ys → NoStarts (xs ++ ys)
 starts_none no_starts b = b
 starts_none (no_start_on e a) b = no_start_on e (starts_none a b)
 
-joined_none : (head : Row) (n : ℕ) (xs : List Row) → document_begins head ≡ [] → NoStarts xs → NoStarts (joined head n xs)
+joined_none : (head : Row) (n : ℕ) (xs : List Row) → documents_begin head ≡ [] → NoStarts xs → NoStarts (joined head n xs)
 joined_none head n [] e a = no_start_on e no_starts
 joined_none head n (x ∷ xs) e (no_start_on f a) = no_start_on f a
 
@@ -80,10 +80,10 @@ directives_none (e ∷ es) = no_start_on refl (directives_none es)
 
 -- Their steps.
 
-pub quiet_steps : {xs : List Row} → NoStarts xs → (ds : List Deco) → steps_with document_begins xs ds ≡ comment_steps (comments_in xs ds)
+pub quiet_steps : {xs : List Row} → NoStarts xs → (ds : List Deco) → steps_with documents_begin xs ds ≡ comment_steps (comments_in xs ds)
 quiet_steps no_starts ds = refl
 quiet_steps (no_start_on {row = x} {rows = xs} e a) ds =
-    ap (λ w. w ++ (comment_steps (carried_texts (first ds)) ++ steps_with document_begins xs (after ds))) e
+    ap (λ w. w ++ (comment_steps (carried_texts (first ds)) ++ steps_with documents_begin xs (after ds))) e
     ∙ (ap (λ w. comment_steps (carried_texts (first ds)) ++ w) (quiet_steps a (after ds)) ∙ sym (map-append (λ (x : List ℕ). a_comment x) (carried_texts (first ds)) (comments_in xs (after ds))))
 
 pub with_append : (f : Row → List Step) (xs ys : List Row) (ds : List Deco) → steps_with f (xs ++ ys) ds ≡ steps_with f xs ds ++ steps_with f ys (past xs ds)

@@ -12,7 +12,7 @@ use Rattle.yf_events.specs.declared.lists.Lists.{Lists}
 use Rattle.yf_stream.proofs.LawsHold.{readings_are_one}
 use Rattle.yf_stream.specs.ReadingOf.{ReadingOf, leaf_lines}
 use Rattle.yf_emit.specs.declared.style.Style.{Style}
-use Rattle.yf_emit.specs.Beginnings.{document_begins}
+use Rattle.yf_emit.specs.Beginnings.{documents_begin}
 use Rattle.yf_emit.specs.Decorated.{rows_of}
 use Rattle.yf_emit.specs.Format.{Formats}
 use Rattle.yf_emit.specs.FormatLaws.{FormatsKeepComments}
@@ -48,7 +48,7 @@ documents_of_source t s r trees u a of_reading =
     let same : leaves_of a.trees ≡ leaves_on all = ap leaves_of (trees_unique r a.trees trees a.of_reading of_reading) ∙ sym w.leaves_are in
     let notes : r.on_leaf_line ≡ leaf_lines a.lines (leaves_on all) r.comments = a.notes ∙ ap (λ ls. leaf_lines a.lines ls r.comments) same in
     let flow = stream_flow a.lines a.are_lines c r.comments (ap (zip r.comments) notes) w.sign u (setting_of r s) refl true (omega arith) w.stand w.upright in
-    counts_told document_begins m all (document_starts r.documents) w.noted w.order flow
+    counts_told documents_begin m all (document_starts r.documents) w.noted w.order flow
     ∙ trimmed_alike (starts_before (document_starts r.documents)) (documents_before r) r.comments (λ o. sym (documents_are r.documents o))
 
 documents_told : (t u : List ℕ) (s : Style) (q : Lists) → IsUtf8 t → (f : Formats t s u) → ReadingOf u q

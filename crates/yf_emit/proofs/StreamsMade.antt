@@ -26,7 +26,7 @@ use Rattle.yf_stream.specs.Stream.Stream.{begins_with_document, without_document
 use Rattle.yf_stream.specs.Stream.StreamRest.{stream_ended, past_suffixes_and_document, past_explicit}
 use Rattle.yf_stream.specs.Stream.Suffixes.{last_suffix}
 use Rattle.yf_stream.proofs.ReadingOrder.{directives_ascend}
-use Rattle.yf_emit.specs.Beginnings.{document_begins, steps_with}
+use Rattle.yf_emit.specs.Beginnings.{documents_begin, steps_with}
 use Rattle.yf_emit.specs.Carried.{AreDecos, carried_texts, comments_in, Calm}
 use Rattle.yf_emit.specs.Decorated.{GapLine, gap_then, Deco, first, after, past, end_then, lines_then}
 use Rattle.yf_emit.specs.FitDocuments.{FitDirective, FitDirectives, fit_directive, FitDocuments, fit_no_documents, fit_document, DocumentMeant, DocumentsMeant, no_documents_meant, document_meant, tall_documents}
@@ -118,7 +118,7 @@ pub record AnyMade (t : List ℕ) (d : Doc) (x : DocumentTree) (rs : List Row) (
   pub meant : DocumentMeant d x document
   pub is : texts comments ≡ comments_in rs ds
   pub laid : EventsLaid q place document.events comments (steps_in rs ds)
-  pub begun : Stand q (document.start ∷ []) comments (steps_with document_begins rs ds) place
+  pub begun : Stand q (document.start ∷ []) comments (steps_with documents_begin rs ds) place
 
 abbrev root_rows : Setting → DocumentTree → List Row
 root_rows c x = rows c (root_spot c.style) x.root
@@ -131,7 +131,7 @@ explicit_at : {t : List ℕ} (c : Setting) (x : DocumentTree) (row : Row) (ds : 
 explicit_at c x row ds r q none fit u a k w = explicit_made row ds r q none (node_claim c (root_spot c.style) fit) (row_texts c (root_spot c.style) (root_deep c) fit) u a k w
 
 -- where the first row is given, of any items
-directed : {t : List ℕ} (c : Setting) {d : Doc} (x : DocumentTree) {e : Directive} {es : List Directive} (row : Row) (ds : List Deco) (r : List ℕ) (q : ℕ) → row.leaves ≡ [] → document_begins row ≡ [] → d.directives ≡ e ∷ es
+directed : {t : List ℕ} (c : Setting) {d : Doc} (x : DocumentTree) {e : Directive} {es : List Directive} (row : Row) (ds : List Deco) (r : List ℕ) (q : ℕ) → row.leaves ≡ [] → documents_begin row ≡ [] → d.directives ≡ e ∷ es
     → FitDirective e.words → FitDirectives es → Fit x.root → IsUtf8 t → AreDecos ds → Calm ((row ∷ map directive_row es) ++ (start_row ∷ root_rows c x)) ds r
     → Rest t q (37 ∷ (joined_words e.words ++ end_then (first ds) [] (lines_then (map directive_row es ++ (start_row ∷ root_rows c x)) (after ds) r)))
     → AnyMade t d x ((row ∷ map directive_row es) ++ (start_row ∷ root_rows c x)) ds q r
@@ -157,7 +157,7 @@ directed {t} c {d} x {e} {es} row ds r q none plain same f fs fit u a k w =
       laid = subst (λ z. EventsLaid q node.place (document_of one.place true one.meaning.directives node.meaning).events (one.meaning.comments ++ node.meaning.comments) z)
           (sym (steps_append (row ∷ map directive_row es) (start_row ∷ tree) ds)) (events_behind one.stand (laid_document one.place one.meaning.directives node.laid));
       begun = document_begun one.place one.meaning.directives node.meaning
-          (subst (λ z. Stand q (one.place ∷ []) (one.meaning.comments ++ node.meaning.comments) z node.place) (sym (with_append document_begins (row ∷ map directive_row es) (start_row ∷ tree) ds))
+          (subst (λ z. Stand q (one.place ∷ []) (one.meaning.comments ++ node.meaning.comments) z node.place) (sym (with_append documents_begin (row ∷ map directive_row es) (start_row ∷ tree) ds))
           (stand_join (subst (λ z. Stand q [] one.meaning.comments z one.place) (sym (quiet_steps (no_start_on {row = row} plain (directives_none es)) ds)) (comments_stand (directives_ascend one.lines) one.is))
           (explicit_begun start_row (past (map directive_row es) (after ds)) refl (rows_none c (root_spot c.style) x.root) node)));
     }
@@ -207,7 +207,7 @@ record StepMade (t : List ℕ) (d : Doc) (x : DocumentTree) (rs : List Row) (ds 
   pub meant : DocumentMeant d x document
   pub is : texts comments ≡ comments_in rs ds
   pub laid : EventsLaid q place document.events comments (steps_in rs ds)
-  pub begun : Stand q (document.start ∷ []) comments (steps_with document_begins rs ds) place
+  pub begun : Stand q (document.start ∷ []) comments (steps_with documents_begin rs ds) place
 
 step_with : {t : List ℕ} (c : Setting) {d : Doc} (x : DocumentTree) (start : ℕ) (dirs : List Directive) (ds : List Deco) (r : List ℕ) (q : ℕ) → d.directives ≡ dirs → FitDirectives dirs → Fit x.root → IsUtf8 t → AreDecos ds
     → Calm (head_rows false start dirs ++ root_rows c x) ds r → Rest t q (lines_then (head_rows false start dirs ++ root_rows c x) ds r) → StepMade t d x (head_rows false start dirs ++ root_rows c x) ds q r
@@ -247,7 +247,7 @@ step_with {t} c {d} x start (e ∷ es) ds r q same (fit_directive f fs) fit u a 
       laid = events_behind (stand_after (omega arith) (comments_stand (end_ascends end.end) end.is))
           (subst (λ z. EventsLaid end.place made.place made.document.events made.comments (steps_in z (after ds))) (sym shape) made.laid);
       begun = stand_join (stand_after (omega arith) (comments_stand (end_ascends end.end) end.is))
-          (subst (λ z. Stand end.place (made.document.start ∷ []) made.comments (steps_with document_begins z (after ds)) made.place) (sym shape) made.begun);
+          (subst (λ z. Stand end.place (made.document.start ∷ []) made.comments (steps_with documents_begin z (after ds)) made.place) (sym shape) made.begun);
     }
 
 -- The rest of a stream.
@@ -260,7 +260,7 @@ pub record RestMade (t : List ℕ) (ds : List Doc) (xs : List DocumentTree) (rs 
   pub meant : DocumentsMeant ds xs documents.documents
   pub is : texts documents.comments ≡ comments_in rs decos
   pub laid : DocumentsLaid q (length t) documents (steps_in rs decos)
-  pub begun : Stand q (starts_in documents) documents.comments (steps_with document_begins rs decos) (length t)
+  pub begun : Stand q (starts_in documents) documents.comments (steps_with documents_begin rs decos) (length t)
 
 ended_at : {t : List ℕ} {q : ℕ} → Rest t q [] → q ≡ length t
 ended_at {t} {q} s =
@@ -298,7 +298,7 @@ rest_made {t} c (fit_document {d = d} {ds = ds} {x = x} {xs = xs} f fit more) de
           ∙ (ap (λ z. comments_in head decos ++ z) last.is ∙ sym (comments_append head others decos)));
       laid = subst (λ z. DocumentsLaid q (length t) (with_document one.comments one.document last.documents) z) (sym (steps_append head others decos)) (documents_laid one.document one.laid last.laid);
       begun = subst (λ z. Stand q (starts_in (with_document one.comments one.document last.documents)) (with_document one.comments one.document last.documents).comments z (length t))
-          (sym (with_append document_begins head others decos)) (documents_begun one.comments one.document last.documents one.begun last.begun);
+          (sym (with_append documents_begin head others decos)) (documents_begun one.comments one.document last.documents one.begun last.begun);
     }
 
 -- Whole streams.
@@ -311,7 +311,7 @@ prefixes_of (step a more) = step (prefix_comment a) (prefixes_of more)
 pub record StreamLaid (t : List ℕ) (ds : List Doc) (xs : List DocumentTree) (gap : List GapLine) (rs : List Row) (decos : List Deco) : Type 0 where
   pub made : StreamMade t ds xs (remarks_of gap ++ comments_in rs decos)
   pub laid : DocumentsLaid 0 (length t) made.documents (comment_steps (remarks_of gap) ++ steps_in rs decos)
-  pub begun : Stand 0 (starts_in made.documents) made.documents.comments (comment_steps (remarks_of gap) ++ steps_with document_begins rs decos) (length t)
+  pub begun : Stand 0 (starts_in made.documents) made.documents.comments (comment_steps (remarks_of gap) ++ steps_with documents_begin rs decos) (length t)
 
 stream_made : {t : List ℕ} (c : Setting) {ds : List Doc} {xs : List DocumentTree} (gap : List GapLine) (decos : List Deco) → FitDocuments ds xs → IsUtf8 t → AreGapLines gap → AreDecos decos
     → Calm (stream_rows c true ds xs) decos [] → Rest t 0 (gap_then gap (lines_then (stream_rows c true ds xs) decos []))
@@ -356,8 +356,8 @@ stream_made {t} c gap decos (fit_document {d = d} {ds = ds} {x = x} {xs = xs} f 
           (append_assoc (comment_steps (remarks_of gap)) (steps_in head decos) (steps_in others (past head decos)) ∙ ap (λ z. comment_steps (remarks_of gap) ++ z) (sym (steps_append head others decos)))
           (documents_laid one.document (events_behind (comments_stand (rows_ascend (lines_rows at.lines)) at.is) one.laid) last.laid);
       begun = subst (λ z. Stand 0 (starts_in (with_document (at.comments ++ one.comments) one.document last.documents)) (with_document (at.comments ++ one.comments) one.document last.documents).comments z (length t))
-          (append_assoc (comment_steps (remarks_of gap)) (steps_with document_begins head decos) (steps_with document_begins others (past head decos))
-          ∙ ap (λ z. comment_steps (remarks_of gap) ++ z) (sym (with_append document_begins head others decos)))
+          (append_assoc (comment_steps (remarks_of gap)) (steps_with documents_begin head decos) (steps_with documents_begin others (past head decos))
+          ∙ ap (λ z. comment_steps (remarks_of gap) ++ z) (sym (with_append documents_begin head others decos)))
           (documents_begun (at.comments ++ one.comments) one.document last.documents (stand_join (comments_stand (rows_ascend (lines_rows at.lines)) at.is) one.begun) last.begun);
     }
   where

@@ -20,5 +20,5 @@ begins_behind at_kept_tail = []
 begins_behind before_node = []
 begins_behind anywhere = []
 
-abbrev pub document_begins : Row → List Step
-document_begins row = begins_behind row.ending
+abbrev pub documents_begin : Row → List Step
+documents_begin row = begins_behind row.ending
