@@ -1,5 +1,5 @@
 -- What a normal form is laid out as is a well-formed stream, within the limit of open collections, with the same nodes and directives.
-use Rattle.std.proofs.Common.{◌≡◌, ℕ, suc, max, ◌≤◌, Bool, true, false, List, ◌∷◌, map, refl, sym, ap, ◌∙◌, subst, arith, length}
+use Rattle.std.proofs.Common.{◌≡◌, ℕ, suc, max, ◌≤◌, Bool, true, false, List, [], ◌∷◌, map, refl, sym, ap, ◌∙◌, subst, arith, length}
 use Rattle.std.specs.Prelude.{◌&&◌, if◌then◌else◌}
 use Rattle.std.specs.Str.{IsUtf8}
 use Rattle.yf_lines.specs.declared.quotes.Quotes.{Quotes}
@@ -30,7 +30,8 @@ use Rattle.yf_emit.proofs.CommentsFit.{reading_remarks}
 use Rattle.yf_emit.proofs.FormatTrails.{formats_trail, normal_trees}
 use Rattle.yf_emit.proofs.LayoutLawsHold.{layouts_are_texts, layouts_are_laid}
 use Rattle.yf_emit.proofs.NormalRestyled.{root_restyled}
-use Rattle.yf_emit.proofs.StreamsMade.{DocumentsLaid, StreamLaid}
+use Rattle.yf_emit.proofs.HeldLemmas.{EventsHeld}
+use Rattle.yf_emit.proofs.StreamsMade.{DocumentsLaid, StreamLaid, all_events}
 use Rattle.yf_emit.proofs.TreesRead.{document_read, reading_fits, same_node}
 
 -- Heights: styles and brackets change none.
@@ -151,7 +152,7 @@ reading_meant : {t : List ℕ} {r : Lists} {trees : List DocumentTree} → IsUtf
 reading_meant {t} {r} {trees} u a of_reading =
     let w = reading_stands u a in subst (λ xs. TreesMeant a.derived.documents xs) (trees_unique r w.trees trees w.of_reading of_reading) w.meant
 
-formats_fit : {t u : List ℕ} {s : Style} → IsUtf8 t → (f : Formats t s u) → FitDocuments f.normal.documents f.writes.trees
+pub formats_fit : {t u : List ℕ} {s : Style} → IsUtf8 t → (f : Formats t s u) → FitDocuments f.normal.documents f.writes.trees
 formats_fit {t} {u} {s} utf8 f =
     let n = normal_trees f in
     subst (λ xs. FitDocuments f.normal.documents xs) (sym n.same)
@@ -171,6 +172,7 @@ same_in_documents {t} {u} {s} {es} utf8 f meant =
 pub record FormattedLaid {t : List ℕ} {s : Style} {u : List ℕ} (f : Formats t s u) : Type 0 where
   pub well : WellFormed f
   pub laid : DocumentsLaid 0 (length u) well.documents (steps_of f.normal (rows_of f.normal s f.writes.trees))
+  pub held : EventsHeld u (all_events well.documents.documents) well.documents.comments (rows_of f.normal s f.writes.trees) (row_decos f.normal (rows_of f.normal s f.writes.trees)) []
 
 pub formats_laid : (t u : List ℕ) (s : Style) → IsUtf8 t → (f : Formats t s u) → FormattedLaid f
 formats_laid t u s utf8 f =
@@ -203,6 +205,7 @@ formats_laid t u s utf8 f =
         meant = made.meant;
       };
       laid = laid.laid;
+      held = laid.held;
     }
 
 pub formats_well : FormatsAreWellFormed

@@ -94,6 +94,7 @@ pub mod NodePlaces
 pub mod StepsStand
 pub mod LaidRows
 pub mod NodesMade
+pub mod ScalarStands
 pub mod ScalarsMade
 pub mod EntriesMade
 pub mod KeysMade
@@ -151,3 +152,16 @@ pub mod StillHolds
 pub mod TrailsHold
 pub mod TreesRead
 pub mod WritingLemmas
+-- the lines of what formatting gives, which the rules of style look at
+pub mod LaidLines
+pub mod FormattedLines
+pub mod RowKinds
+pub mod WellSet
+pub mod HeldLemmas
+pub mod ScalarHeld
+pub mod DirectiveEnds
+pub mod FormattedHeld
+pub mod TidyTexts
+pub mod LinedRows
+pub mod GapSpread
+pub mod LeadRows

@@ -52,3 +52,4 @@ pub mod StreamSteps
 pub mod PathLemmas
 pub mod PathsThrough
 pub mod FloorLemmas
+pub mod DocumentMarkers
