@@ -94,6 +94,7 @@ pub mod NodePlaces
 pub mod StepsStand
 pub mod LaidRows
 pub mod NodesMade
+pub mod ScalarStands
 pub mod ScalarsMade
 pub mod EntriesMade
 pub mod KeysMade
@@ -169,3 +170,16 @@ pub mod FixedRows
 pub mod FixedFormats
 pub mod PlacedRows
 pub mod FoundNodes
+-- the lines of what formatting gives, which the rules of style look at
+pub mod LaidLines
+pub mod FormattedLines
+pub mod RowKinds
+pub mod WellSet
+pub mod HeldLemmas
+pub mod ScalarHeld
+pub mod DirectiveEnds
+pub mod FormattedHeld
+pub mod TidyTexts
+pub mod LinedRows
+pub mod GapSpread
+pub mod LeadRows

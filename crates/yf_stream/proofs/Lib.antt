@@ -74,3 +74,4 @@ pub mod NodeSteps
 pub mod StreamUpto
 pub mod NextSteps
 pub mod FloorLemmas
+pub mod DocumentMarkers
