@@ -10,6 +10,7 @@ pub mod LookLemmas
 pub mod EntryLineLemmas
 pub mod AwaitingLemmas
 pub mod FitLemmas
+pub mod ClaimLemmas
 pub mod LastStartLemmas
 pub mod NotedLemmas
 pub mod PrefixLemmas
@@ -19,8 +20,13 @@ pub mod TiedFits
 -- for further theorems
 pub mod NotingLemmas
 pub mod TiedClosing
+pub mod TiedColumns
 pub mod TiedEntries
+pub mod TiedKeys
+pub mod TiedLeads
+pub mod TiedLines
 pub mod TiedNodes
+pub mod TiedOpenings
 pub mod TiedReads
 pub mod TiedResume
 pub mod TiedResumed

@@ -53,6 +53,7 @@ module _ {t : List ℕ} {d : ℕ} {root : BlockTask} {before part : Part} {at : 
           halt = a.halt;
           node = n;
           outside = a.outside;
+          past = let b = a.past in omega (arith, b, o);
           order = w;
           frame = u';
           last = l ∙ a.last;
@@ -78,6 +79,7 @@ module _ {t : List ℕ} {d : ℕ} {root : BlockTask} {before part : Part} {at : 
         halt = a.halt;
         node = collection_ends (entry_was_read a.node n.no_colon) n.no_entry;
         outside = a.outside;
+        past = a.past;
         last = closed_finish a.layer a.layers a.answer f a.frame a.read a.last x y z;
         stack = a.stack;
         read = closed_read a.layer a.layers a.answer f a.frame a.read a.last x y z;

@@ -1,11 +1,17 @@
 pub mod Awaiting
 pub mod BlockStepTied
 pub mod BlockTied
+pub mod ClaimsTied
 pub mod Closing
+pub mod ColumnsTied
 pub mod Fits
 pub mod HeldAnswers
 pub mod InlineAnswers
+pub mod InlineTied
+pub mod KeyAwaited
+pub mod KeyTexts
 pub mod LastStarts
+pub mod LineTied
 pub mod Looks
 pub mod Machine
 pub mod NodeReaders

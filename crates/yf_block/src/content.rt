@@ -1,8 +1,15 @@
 //! What a node has on one line: the sign of an entry, properties, a block scalar, or a flow node.
-ghost use Rattle.std.specs.Prelude.{◌+◌, IfOk};
+ghost use Rattle.std.specs.Prelude.{◌≡◌, ◌+◌, Some, IfOk, MatchBool, ◌⊎◌};
 ghost use Rattle.std.specs.List.{All};
 ghost use Rattle.std.specs.Str.{IsCharBoundary};
 ghost use Rattle.yf_flow.specs.Machine.{Place};
+ghost use Rattle.yf_chars.specs.Text.{code};
+ghost use Rattle.yf_grammar.specs.BlockParser.{Ahead};
+ghost use Rattle.yf_block.specs.declared.held.Held.{Held as HeldProperties};
+ghost use Rattle.yf_block.specs.BlockStepTied.{AheadTied};
+ghost use Rattle.yf_block.specs.ClaimsTied.{ShareTied};
+ghost use Rattle.yf_block.specs.HeldAnswers.{Holds, LineProperties, held_lead, lead_at};
+ghost use Rattle.yf_block.specs.InlineTied.{EntrySignAt};
 ghost use Rattle.yf_block.specs.Machine.{Stepped, ProgressAt, HeldTo};
 
 use crate::entry::open_mapping;
@@ -95,7 +102,9 @@ pub(crate) fn take_content<'a>(
 }
 
 // Whether an entry begins there with its `?` or its `:`.
-fn entry_sign_stands(text: &str, at: usize) -> bool {
+fn entry_sign_stands(text: &str, at: usize) -> bool
+    ensures { MatchBool result (EntrySignAt text.now at) (EntrySignAt text.now at → ⊥) }
+{
     if sign_stands(text, at, b'?') {
         return true;
     }
@@ -196,7 +205,9 @@ fn take_behind<'a>(
 }
 
 // Whether the header of a block scalar begins there.
-fn block_scalar_stands(text: &str, at: usize) -> bool {
+fn block_scalar_stands(text: &str, at: usize) -> bool
+    ensures { MatchBool result ((code text.now at ≡ 124) ⊎ (code text.now at ≡ 62)) ((code text.now at ≡ 124) ⊎ (code text.now at ≡ 62) → ⊥) }
+{
     if stands(text, at, b'|') {
         return true;
     }
@@ -204,12 +215,11 @@ fn block_scalar_stands(text: &str, at: usize) -> bool {
 }
 
 // What is known of the node after the properties of a line, as long as it is not known whether it is a key.
-fn claim_of<'a>(
-    text: &str,
-    behind: &Behind<'a>,
-    wanted: &Wanted<'a>,
-    part: &Part<'a>,
-) -> Claim<'a> {
+fn claim_of<'a>(text: &str, behind: &Behind<'a>, wanted: &Wanted<'a>, part: &Part<'a>) -> Claim<'a>
+    ensures { (a : Ahead) → AheadTied a wanted.now.outer
+        → ((h : HeldProperties) → behind.now.inner ≡ Some h → LineProperties text.now behind.now.spot.at h)
+        → ShareTied text.now behind.now.spot.at behind.now.at a behind.now.inner wanted.now.entry result.lead result.share }
+{
     match wanted.outer {
         None => Claim {
             lead: lead_of(behind.spot.at, behind.inner, wanted.entry),
@@ -228,21 +238,45 @@ fn shared_claim<'a>(
     outer: Held<'a>,
     entry: Option<Entry>,
     before: Counts,
-) -> Claim<'a> {
-    let whole = match behind.inner {
-        None => Some(outer),
-        Some(inner) => joined(outer, inner),
-    };
-    match whole {
-        Some(held) if !stands(text, behind.at, b'*') => Claim {
-            lead: held.lead(entry),
-            share: Share::Joined,
-            before,
+) -> Claim<'a>
+    ensures { (a : Ahead) → Holds a outer.entry
+        → ((h : HeldProperties) → behind.now.inner ≡ Some h → LineProperties text.now behind.now.spot.at h)
+        → ShareTied text.now behind.now.spot.at behind.now.at a behind.now.inner entry result.lead result.share }
+{
+    if stands(text, behind.at, b'*') {
+        return apart_claim(behind, entry, before);
+    }
+    match behind.inner {
+        None => joined_claim(outer, entry, before),
+        Some(inner) => match joined(outer, inner) {
+            None => apart_claim(behind, entry, before),
+            Some(held) => joined_claim(held, entry, before),
         },
-        _ => Claim {
-            lead: lead_of(behind.spot.at, behind.inner, entry),
-            share: Share::Apart,
-            before,
-        },
+    }
+}
+
+// Of a node that has all properties, if it is no key.
+fn joined_claim<'a>(held: Held<'a>, entry: Option<Entry>, before: Counts) -> Claim<'a>
+    ensures lead { result.lead ≡ held_lead held.entry entry }
+    ensures share { result.share ≡ Share.Joined }
+    ensures before { result.before ≡ before }
+{
+    Claim {
+        lead: held.lead(entry),
+        share: Share::Joined,
+        before,
+    }
+}
+
+// Of a node that has those of its line alone.
+fn apart_claim<'a>(behind: &Behind<'a>, entry: Option<Entry>, before: Counts) -> Claim<'a>
+    ensures lead { result.lead ≡ lead_at behind.now.spot.at behind.now.inner entry }
+    ensures share { result.share ≡ Share.Apart }
+    ensures before { result.before ≡ before }
+{
+    Claim {
+        lead: lead_of(behind.spot.at, behind.inner, entry),
+        share: Share::Apart,
+        before,
     }
 }

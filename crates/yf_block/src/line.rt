@@ -1,13 +1,17 @@
 //! Nodes where they are awaited: after an indicator, or at the start of a line (s-l+block-node, production 196).
-ghost use Rattle.std.specs.Prelude.{◌≡◌, ◌≤◌, IfOk};
+ghost use Rattle.std.specs.Prelude.{◌≡◌, ◌≤◌, ℕ, IfOk, List};
 ghost use Rattle.std.specs.List.{All};
 ghost use Rattle.std.specs.Str.{IsCharBoundary};
 ghost use Rattle.yf_flow.specs.Machine.{Place};
+ghost use Rattle.yf_block.specs.BlockStepTied.{BlockTied};
+ghost use Rattle.yf_block.specs.ColumnsTied.{CompactTied, SequenceTied};
+ghost use Rattle.yf_block.specs.LineTied.{AtBelow, EndedTied};
 ghost use Rattle.yf_block.specs.Machine.{Stepped, ProgressAt};
+ghost use Rattle.yf_grammar.specs.BlockParser.{BlockTask};
 
 use crate::content::{Spot, take_content};
 use crate::entry::open_sequence;
-use crate::frame::{Frames, Progress, Scope, Step, Wanted};
+use crate::frame::{Frame, Frames, Progress, Scope, Step, Wanted};
 use crate::halt::note_empty;
 use crate::leaf::read_line_end;
 use crate::look::{dash_stands, line_ends, node_ends};
@@ -29,14 +33,19 @@ pub(crate) fn first_line<'a>(
 ) -> Result<Step, AllocError>
     requires boundary { IsCharBoundary text.now at }
     requires progress { ProgressAt text.now progress.old }
+    ensures tied { (d : ℕ) → (root : BlockTask) → (before : Part) → (frames : List Frame)
+        → AtBelow text.now d root before frames at progress.old part.old
+        → IfOk result (λ s. BlockTied text.now d root before frames s progress.new part.new) }
     ensures stepped { IfOk result (λ s. Stepped text.now at 2 progress.new s) }
     ensures escapes { IfOk result (λ _. part.new.escapes ≡ part.old.escapes) }
 {
-    let step = end_line(alloc, text, at, progress, part)?;
-    if let Step::Line(line) = step {
-        progress.first = line == at;
+    match end_line(alloc, text, at, progress, part)? {
+        Step::Line(line) => {
+            progress.first = line == at;
+            Ok(Step::Line(line))
+        }
+        other => Ok(other),
     }
-    Ok(step)
 }
 
 /// Reads the end of a line, and the comment lines after it, where a node is awaited that may have properties.
@@ -49,6 +58,9 @@ pub(crate) fn end_line<'a>(
 ) -> Result<Step, AllocError>
     requires boundary { IsCharBoundary text.now at }
     requires progress { ProgressAt text.now progress.old }
+    ensures tied { (d : ℕ) → (root : BlockTask) → (before : Part) → (frames : List Frame)
+        → AtBelow text.now d root before frames at progress.old part.old
+        → IfOk result (λ s. EndedTied text.now d root before frames at s progress.new part.new) }
     ensures stepped { IfOk result (λ s. Stepped text.now at 2 progress.new s) }
     ensures escapes { IfOk result (λ _. part.new.escapes ≡ part.old.escapes) }
 {
@@ -101,6 +113,7 @@ pub(crate) fn take_node<'a>(
 fn compact_column(text: &str, at: usize, place: usize, wanted: &Wanted) -> Option<usize>
     requires boundary { IsCharBoundary text.now at }
     requires order { at ≤ place }
+    ensures { CompactTied text.now wanted.now at place result }
 {
     if !wanted.compact {
         return None;
@@ -142,12 +155,17 @@ pub(crate) fn take_line<'a>(
 }
 
 // Whether a sequence of that column may be the node that is awaited.
-fn may_hold_sequence(wanted: &Wanted, width: usize) -> bool {
+fn may_hold_sequence(wanted: &Wanted, width: usize) -> bool
+    ensures { SequenceTied wanted.now width result }
+{
     if width >= wanted.least {
         return true;
     }
-    if wanted.out {
-        return width.saturating_add(1) >= wanted.least;
+    if !wanted.out {
+        return false;
+    }
+    if width.saturating_add(1) >= wanted.least {
+        return true;
     }
     false
 }

@@ -4,7 +4,7 @@ ghost use Rattle.std.specs.List.{All};
 ghost use Rattle.std.specs.Str.{IsCharBoundary};
 ghost use Rattle.yf_events.specs.Edit.{edited, ended};
 ghost use Rattle.yf_grammar.specs.BlockParser.{BlockTask};
-ghost use Rattle.yf_block.specs.BlockStepTied.{AtResume, AtDone, AtFit, AtTop, KeyOrTied};
+ghost use Rattle.yf_block.specs.BlockStepTied.{AtResume, AtDone, AtFit, AtTop, BlockTied};
 ghost use Rattle.yf_block.specs.BlockTied.{colons_if};
 ghost use Rattle.yf_block.specs.Closing.{closing};
 ghost use Rattle.yf_block.specs.Fits.{FitsLine, PairLine, PlaceTied};
@@ -50,9 +50,9 @@ pub(crate) fn resume<'a>(
     requires boundary { IsCharBoundary scope.text.now at }
     requires progress { ProgressAt scope.text.now progress.old }
     requires escapes { All (IsCharBoundary scope.text.now) part.old.escapes }
-    ensures tied { (d : ℕ) → (root : BlockTask) → (before : Part) → d < 2 ^ 64
+    ensures tied { (d : ℕ) → (root : BlockTask) → (before : Part) → d < 2 ^ 64 → d ≡ scope.entry.limit
         → AtResume scope.entry.text.now d root before (reverse frames.old.items) at progress.old part.old
-        → IfOk result (λ s. KeyOrTied scope.entry.text.now d root before (reverse frames.new.items) s progress.new part.new) }
+        → IfOk result (λ s. BlockTied scope.entry.text.now d root before (reverse frames.new.items) s progress.new part.new) }
     ensures stepped { IfOk result (λ s. Stepped scope.entry.text.now at 0 progress.new s) }
     ensures escapes { IfOk result (λ _. All (IsCharBoundary scope.entry.text.now) part.new.escapes) }
 {
@@ -150,10 +150,10 @@ fn next_entry<'a>(
     requires boundary { IsCharBoundary scope.text.now at }
     requires progress { ProgressAt scope.text.now progress.old }
     requires escapes { All (IsCharBoundary scope.text.now) part.old.escapes }
-    ensures tied { (line : ℕ) → (d : ℕ) → (root : BlockTask) → (before : Part) → d < 2 ^ 64
+    ensures tied { (line : ℕ) → (d : ℕ) → (root : BlockTask) → (before : Part) → d < 2 ^ 64 → d ≡ scope.entry.limit
         → PairLine scope.entry.text.now line frame at → AtTop scope.entry.text.now d root before
         (reverse frames.old.items) line frame progress.old part.old
-        → IfOk result (λ s. KeyOrTied scope.entry.text.now d root before (reverse frames.new.items) s progress.new part.new) }
+        → IfOk result (λ s. BlockTied scope.entry.text.now d root before (reverse frames.new.items) s progress.new part.new) }
     ensures stepped { IfOk result (λ s. Stepped scope.entry.text.now at 0 progress.new s) }
     ensures escapes { IfOk result (λ _. All (IsCharBoundary scope.entry.text.now) part.new.escapes) }
 {
