@@ -19,9 +19,15 @@ pub mod TiedFrames
 pub mod TiedFits
 -- for further theorems
 pub mod NotingLemmas
+pub mod HashNodes
+pub mod LineHalts
+pub mod TiedAlone
 pub mod TiedClosing
 pub mod TiedColumns
 pub mod TiedEntries
+pub mod TiedFailed
+pub mod TiedIndented
+pub mod TiedInner
 pub mod TiedKeys
 pub mod TiedLeads
 pub mod TiedLines
@@ -30,4 +36,5 @@ pub mod TiedOpenings
 pub mod TiedReads
 pub mod TiedResume
 pub mod TiedResumed
+pub mod TiedRoot
 mod TiedShown
