@@ -62,7 +62,7 @@ module _ {t : List ℕ} {d : ℕ} {root : BlockTask} {before : Part} {at : ℕ} 
   pub top_breaks : DeepLine t at f → AtFailed t d root progress
   top_breaks l =
       let v = tied_deeper a.frame l in
-      record { halt = a.halt; broken = deeper_breaks (entry_was_read a.node (λ e c. deep_no_colon v c)) v; halted = a.stack.halted }
+      record { halt = a.halt; halts = (deeper_breaks (entry_was_read a.node (λ e c. deep_no_colon v c)) v).halted; halted = a.stack.halted }
 
   -- the entry ends with its node, or with an empty value
   abbrev next_layer : Layer

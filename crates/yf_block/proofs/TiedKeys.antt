@@ -110,9 +110,9 @@ module _ {t : List ℕ} {d : ℕ} {root : BlockTask} {before old : Part} {frames
       record {
         halt = a.halt;
         halted = a.stack.halted;
-        broken = entry_breaks entry
+        halts = (entry_breaks entry
             (subst (λ b. Whole t a.room (Item b a.layer.column Later p) None) (sym mapping) (no_key no_question no_colon s'))
-            (subst (λ b. Halts t a.room (asked a.layers) (Item b a.layer.column Later p) None) (sym mapping) (halts_no_key no_question no_colon s'));
+            (subst (λ b. Halts t a.room (asked a.layers) (Item b a.layer.column Later p) None) (sym mapping) (halts_no_key no_question no_colon s'))).halted;
       }
 
   module _ {depth : ℕ} {entry_of : Option TheEntry.Entry} {mid : Part} {node : Node} (n : NodeThere t a.room (pos least) p depth entry_of old mid node) where

@@ -67,6 +67,7 @@ module _ {t : List ℕ} {d : ℕ} {root : BlockTask} {before : Part} {frames : L
     halt = a.halt;
     node = a.node p told l;
     line = l;
+    started = a.started;
     from = refl;
     not_first = refl;
     wanted = record {
@@ -76,6 +77,7 @@ module _ {t : List ℕ} {d : ℕ} {root : BlockTask} {before : Part} {frames : L
       entry = a.wanted.entry;
       within = a.wanted.within;
       nested = a.wanted.nested;
+      rooted = a.wanted.rooted;
       narrow = a.wanted.narrow;
     };
     last = a.last;
@@ -97,6 +99,7 @@ module _ {t : List ℕ} {d : ℕ} {root : BlockTask} {before : Part} {frames : L
     halt = a.halt;
     node = subst (λ (k : ℕ). NodeAt t d root a.layers a.room a.comments (Below a.indentation a.context a.ahead k) a.halt) (sym a.from) a.node;
     line = subst (λ (k : ℕ). Chosen (LineEnd t k) p a.told) (sym a.from) a.line;
+    started = λ s. a.started (subst (λ (k : ℕ). LineStart t k) a.from s);
     first = λ f. absurd (true≢false (sym f ∙ a.not_first));
     not_first = λ f e. still_at_end n a.line.derived w (sym a.from ∙ e);
     wanted = a.wanted;
@@ -119,6 +122,7 @@ module _ {t : List ℕ} {d : ℕ} {root : BlockTask} {before : Part} {frames : L
     halt = a.halt;
     node = subst (λ (k : ℕ). NodeAt t d root a.layers a.room a.comments (Below a.indentation a.context a.ahead k) a.halt) (sym a.from) a.node;
     line = subst (λ (k : ℕ). Chosen (LineEnd t k) p a.told) (sym a.from) a.line;
+    started = λ s. a.started (subst (λ (k : ℕ). LineStart t k) a.from s);
     first = λ e. a.from ∙ sym (f e);
     not_first = λ e h. absurd (g e (sym h ∙ a.from));
     wanted = record {
@@ -128,6 +132,7 @@ module _ {t : List ℕ} {d : ℕ} {root : BlockTask} {before : Part} {frames : L
       entry = a.wanted.entry;
       within = a.wanted.within;
       nested = a.wanted.nested;
+      rooted = a.wanted.rooted;
       narrow = a.wanted.narrow;
     };
     past = let f = a.from in let s = a.past in omega (arith, f, s);

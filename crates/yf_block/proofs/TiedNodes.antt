@@ -80,6 +80,9 @@ all_within (one_within a r) l = one_within (omega arith) (all_within r l)
 no_indicator : {i : ℕ} → Indicator i ≡ Nothing → ⊥
 no_indicator e = cc
 
+no_layers : {l : Layer} {ls : List Layer} → l ∷ ls ≡ [] → ⊥
+no_layers e = cc
+
 -- a node is awaited in the innermost collection, whose frame is on the stack
 module _ {t : List ℕ} {d : ℕ} {root : BlockTask} {before part : Part} {old new : Progress} {e p : ℕ} {l : Layer} {ls : List Layer} {h : Option Found} where
   pub node_there : {frames stack : List Frame} {top : Frame} (b : Bool) (c : Ctx) (entry : Option TheEntry.Entry) → NodeAt t d root (l ∷ ls) e [] (Awaited b (pos l.column) c (Indicator p) p) h → AllWithin l.column ls
@@ -103,6 +106,7 @@ module _ {t : List ℕ} {d : ℕ} {root : BlockTask} {before part : Part} {old n
           entry = y;
           within = λ v j. let j' : l.column ≤ v = omega (arith, ints, j) in one_within j' (all_within o j');
           nested = λ e. absurd (no_indicator e);
+          rooted = λ i e q. no_layers q;
           narrow = let a = z.within in let b = r.text.size in omega (arith, a, b, s);
         });
     shallow = λ v. let least : new.wanted.least ≡ l.column + 1 = ap (λ v. v.least) w in (omega (arith, least), omega (arith, least, s));

@@ -14,7 +14,7 @@ use Rattle.yf_grammar.specs.Parser.{Found, only}
 use Rattle.yf_grammar.specs.BlockParser.{Ahead, Nothing, Indicator, Props, Held as HeldValue, SignAt, Origin, First, BlockTask, Awaited, Below, Whole}
 use Rattle.yf_grammar.specs.Halts.{Halts}
 use Rattle.yf_grammar.specs.BlockStack.{Layer}
-use Rattle.yf_grammar.specs.BlockStates.{NodeAt, NodeRead, EntryAt, Broken, AllWithin}
+use Rattle.yf_grammar.specs.BlockStates.{NodeAt, NodeRead, EntryAt, AllWithin}
 use Rattle.yf_block.specs.declared.frame.Frame.{Frame}
 use Rattle.yf_block.specs.declared.frame.Progress.{Progress}
 use Rattle.yf_block.specs.declared.frame.Step.{Step}
@@ -52,6 +52,7 @@ pub record WantedTied (t : List ℕ) (floor : ℕ) (ls : List Layer) (n : ℤ) (
   pub entry : EntryTied t floor (layers_entry ls) wanted.entry
   pub within : (m : ℕ) → n ≤ℤ pos m → AllWithin m ls
   pub nested : a ≡ Nothing → ls ≡ []
+  pub rooted : (i : ℕ) → a ≡ Indicator i → ls ≡ [] → ⊥
   pub narrow : wanted.least ≤ 2 ^ 30
 
 -- a node is awaited after an indicator, which ends there
@@ -84,6 +85,7 @@ pub record AtLine (t : List ℕ) (d : ℕ) (root : BlockTask) (before : Part) (f
   pub halt : Option Found
   pub node : NodeAt t d root layers room comments (Below indentation context ahead progress.from) halt
   pub line : Chosen (LineEnd t progress.from) p told
+  pub started : LineStart t progress.from → ahead ≡ Nothing
   pub first : progress.first ≡ true → progress.from ≡ p
   pub not_first : progress.first ≡ false → progress.from ≡ p → p ≡ length t
   pub past : progress.floor ≤ progress.from
@@ -155,9 +157,10 @@ pub record AtDone (t : List ℕ) (d : ℕ) (root : BlockTask) (before : Part) (p
   pub halted : progress.halt ≡ halt_end halt
   pub written : Written t before answer.meaning part
 
+-- the text goes wrong, or nothing is left to read but a comment that no break ends
 pub record AtFailed (t : List ℕ) (d : ℕ) (root : BlockTask) (progress : Progress) : Type 0 where
   pub halt : Option Found
-  pub broken : Broken t d root halt
+  pub halts : Halts t d [] root halt
   pub halted : progress.halt ≡ halt_end halt
 
 -- what comes next

@@ -11,8 +11,10 @@ pub mod InlineTied
 pub mod KeyAwaited
 pub mod KeyTexts
 pub mod LastStarts
+pub mod LineStepTied
 pub mod LineTied
 pub mod Looks
 pub mod Machine
 pub mod NodeReaders
 pub mod NotedHalts
+pub mod RootTied

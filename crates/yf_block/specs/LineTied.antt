@@ -2,12 +2,13 @@
 use Rattle.std.specs.Prelude.{◌≡◌, ℕ, ◌≤◌, ℤ, false, List, ◌++◌, length, Option}
 use Rattle.yf_chars.specs.declared.context.Ctx.{Ctx}
 use Rattle.yf_chars.specs.Chain.{Stuck, Chosen}
+use Rattle.yf_lines.specs.Basic.{LineStart}
 use Rattle.yf_comments.specs.Comment.{CommentValue}
 use Rattle.yf_comments.specs.Comments.{LineEnd}
 use Rattle.yf_events.specs.declared.part.Part.{Part}
 use Rattle.yf_grammar.specs.Meaning.{◌⊕◌}
 use Rattle.yf_grammar.specs.Parser.{Found, only}
-use Rattle.yf_grammar.specs.BlockParser.{Ahead, Indicator, BlockTask, Below}
+use Rattle.yf_grammar.specs.BlockParser.{Ahead, Nothing, Indicator, BlockTask, Below}
 use Rattle.yf_grammar.specs.BlockStack.{Layer}
 use Rattle.yf_grammar.specs.BlockStates.{NodeAt}
 use Rattle.yf_block.specs.declared.frame.Frame.{Frame}
@@ -28,6 +29,7 @@ pub record AtBelow (t : List ℕ) (d : ℕ) (root : BlockTask) (before : Part) (
   pub halt : Option Found
   pub node : (k : ℕ) (ds : List CommentValue) → Chosen (LineEnd t p) k ds → NodeAt t d root layers room comments (Below indentation context ahead p) halt
   pub unended : Stuck (LineEnd t p) → AtFailed t d root progress
+  pub started : LineStart t p → ahead ≡ Nothing
   pub wanted : WantedTied t progress.floor layers indentation context ahead progress.wanted
   pub last : (i : ℕ) → ahead ≡ Indicator i → progress.last ≡ i
   pub past : progress.floor ≤ p
@@ -46,6 +48,7 @@ pub record AtNewLine (t : List ℕ) (d : ℕ) (root : BlockTask) (before : Part)
   pub halt : Option Found
   pub node : NodeAt t d root layers room comments (Below indentation context ahead at) halt
   pub line : Chosen (LineEnd t at) p told
+  pub started : LineStart t at → ahead ≡ Nothing
   pub from : progress.from ≡ at
   pub not_first : progress.first ≡ false
   pub wanted : WantedTied t progress.floor layers indentation context ahead progress.wanted
