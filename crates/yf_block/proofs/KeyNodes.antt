@@ -36,7 +36,7 @@ use Rattle.yf_block.specs.InlineAnswers.{KeyEnds, InlineLost, content_lost, alia
 no_nothing : {X : Type 0} {x : X} → Some x ≡ None → ⊥
 no_nothing q = cc
 
-plain_else : (c : ℕ) → begins_alias c ≡ false → begins_properties c ≡ false → begins_content c ≡ false → begins_plain c ≡ true
+pub plain_else : (c : ℕ) → begins_alias c ≡ false → begins_properties c ≡ false → begins_content c ≡ false → begins_plain c ≡ true
 unfolding begins_plain
 plain_else c a b d = rw (a, b, d) refl
 
@@ -47,7 +47,7 @@ content_node {t} {k = k} a b (plain_there c p) = plain_read (plain_else (code t 
 content_node {t} {k = k} a b (plain_missing c p) = plain_missed (plain_else (code t k) a b c) p
 
 -- a `:` of an entry begins no content
-colon_bare : (c : ℕ) → c ≡ 58 → begins_content c ≡ false
+pub colon_bare : (c : ℕ) → c ≡ 58 → begins_content c ≡ false
 colon_bare c e = sym (nothing_begins (λ q. omega (arith, e, q)) (λ q. omega (arith, e, q)) (λ q. omega (arith, e, q)) (λ q. omega (arith, e, q)))
 
 colon_white : (c : ℕ) → c ≡ 58 → is_white c ≡ false
@@ -71,7 +71,7 @@ unfolding begins_alias begins_content
 alias_bare c e = grind (arith, nat_tests)
 
 module _ {t : List ℕ} where
-  sign_no_plain : {n : ℤ} {k : ℕ} → SignAt t 58 k → Stuck (Plain t n FlowOut k)
+  pub sign_no_plain : {n : ℤ} {k : ℕ} → SignAt t 58 k → Stuck (Plain t n FlowOut k)
   sign_no_plain {k = k} s = record {
     none = λ j x p. true≢false (sym ((flow_starts (a_plain p.text) refl).colon s.sign_stands) ∙ safe_out (code t (k + 1)) ∙ end_not_ns (code t (k + 1)) s.behind);
   }

@@ -17,6 +17,11 @@ pub mod PrefixLemmas
 -- `read_block_node`: the stack and the recursive reader agree (`BlockTied`)
 pub mod TiedFrames
 pub mod TiedFits
+-- the steps on a line
+pub mod ContentNodes
+pub mod ContentFails
+pub mod ContentKeys
+pub mod ContentLeaves
 -- for further theorems
 pub mod NotingLemmas
 pub mod TiedClosing

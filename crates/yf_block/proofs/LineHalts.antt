@@ -110,7 +110,7 @@ rounds_end (l ∷ ls) f = rounds_end ls _ ∙ entry_end l.stage f
 
 -- the last line of those that begin from a place on
 module _ {t : List ℕ} {i k p : ℕ} where
-  last_line_of : LastStart t i k p → LastLine t i k p
+  pub last_line_of : LastStart t i k p → LastLine t i k p
   last_line_of l = record {
     from = l.begins;
     ends = l.ended;
@@ -122,7 +122,7 @@ module _ {t : List ℕ} {i k p : ℕ} where
         (cases_lt h k);
   }
 
-no_last_line : {t : List ℕ} {i k : ℕ} → NoStart t i k → (j : ℕ) → LastLine t i k j → ⊥
+pub no_last_line : {t : List ℕ} {i k : ℕ} → NoStart t i k → (j : ℕ) → LastLine t i k j → ⊥
 no_last_line n j l = n l.from j l.first l.ends l.inside
 
 -- where all may end, up to a line's end from i on at k

@@ -4,6 +4,7 @@ pub mod BlockTied
 pub mod ClaimsTied
 pub mod Closing
 pub mod ColumnsTied
+pub mod ContentTied
 pub mod Fits
 pub mod HeldAnswers
 pub mod InlineAnswers

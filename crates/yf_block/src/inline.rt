@@ -1,11 +1,16 @@
 //! What stands on a line after properties, or where there are none: a flow node or an alias, which may be the first key of
 //! a mapping.
-ghost use Rattle.std.specs.Prelude.{◌≡◌, ℕ, ℤ, ◌+◌, ◌^◌, ◌≤◌, ◌≤ℤ◌, pos, false, None, IfOk, IfSome, MatchOption};
+ghost use Rattle.std.specs.Prelude.{◌≡◌, ℕ, ℤ, ◌+◌, ◌^◌, ◌≤◌, ◌≤ℤ◌, pos, false, List, ◌∷◌, ◌++◌, length, reverse, Some, None, IfOk, IfSome, MatchOption};
 ghost use Rattle.std.specs.List.{All};
 ghost use Rattle.std.specs.Str.{IsCharBoundary, IsUtf8};
 ghost use Rattle.yf_chars.specs.Text.{code};
+ghost use Rattle.yf_events.specs.Event.{Placed, placed_value};
+ghost use Rattle.yf_grammar.specs.BlockParser.{BlockTask};
 ghost use Rattle.yf_flow.specs.Machine.{Place, EndingAt};
+ghost use Rattle.yf_block.specs.BlockStepTied.{BlockTied};
+ghost use Rattle.yf_block.specs.ContentTied.{AtInline, KeyOrLost, KeyRead, LeafEnding};
 ghost use Rattle.yf_block.specs.InlineAnswers.{EmptyKeyAt, InlineEnds, NoEmptyKey};
+ghost use Rattle.yf_block.specs.InlineTied.{started};
 ghost use Rattle.yf_block.specs.Machine.{Stepped, ProgressAt, HeldBefore, behind_held, MayBoundary};
 
 use crate::content::{Behind, Claim, Share};
@@ -171,6 +176,9 @@ pub(crate) fn finish_inline<'a>(
     requires held { HeldBefore scope.text.now behind.now.at behind.now.inner }
     requires progress { ProgressAt scope.text.now progress.old }
     requires escapes { All (IsCharBoundary scope.text.now) part.old.escapes }
+    ensures tied { (d : ℕ) → (root : BlockTask) → (before : Part) → (depth : ℕ) → (earlier : Part) → d ≡ scope.entry.limit
+        → AtInline scope.entry.text.now d root before (reverse frames.old.items) depth behind.now claim.now node progress.old earlier part.old
+        → IfOk result (λ s. BlockTied scope.entry.text.now d root before (reverse frames.new.items) s progress.new part.new) }
     ensures stepped { IfOk result (λ s. Stepped scope.entry.text.now (behind.now.spot.at) 0 progress.new s) }
     ensures escapes { IfOk result (λ _. All (IsCharBoundary scope.entry.text.now) part.new.escapes) }
 {
@@ -222,6 +230,9 @@ fn end_inline<'a>(
     requires boundary { IsCharBoundary text.now at }
     requires plain { MayBoundary text.now plain }
     requires progress { ProgressAt text.now progress.old }
+    ensures tied { (d : ℕ) → (root : BlockTask) → (before : Part)
+        → LeafEnding text.now d root before (reverse frames.now.items) plain at progress.old part.old
+        → IfOk result (λ s. BlockTied text.now d root before (reverse frames.now.items) s progress.new part.new) }
     ensures stepped { IfOk result (λ s. Stepped text.now at 1 progress.new s) }
     ensures escapes { IfOk result (λ _. part.new.escapes ≡ part.old.escapes) }
 {
@@ -253,14 +264,17 @@ fn begin_mapping<'a>(
     requires place { IsCharBoundary scope.text.now behind.now.at }
     requires held { HeldBefore scope.text.now behind.now.at behind.now.inner }
     requires escapes { All (IsCharBoundary scope.text.now) part.old.escapes }
+    ensures key { (earlier : Part) → (room : ℕ) → IsUtf8 scope.entry.text.now → wanted.now.least ≤ 2 ^ 30 → depth + room ≡ scope.entry.limit
+        → KeyRead scope.entry.text.now room (pos wanted.now.least) depth behind.now claim.now wanted.now earlier part.old
+        → IfOk result (λ _. KeyOrLost scope.entry.text.now room (pos wanted.now.least) depth behind.now entry
+        (started Kind.Mapping behind.now.spot.at wanted.now) earlier part.new) }
     ensures escapes { IfOk result (λ _. All (IsCharBoundary scope.entry.text.now) part.new.escapes) }
 {
     let start = collection_start(alloc, Kind::Mapping, behind.spot.at, wanted);
     match claim.share {
         Share::Nothing | Share::Apart => put_before(claim.before.events, start, entry, part),
         Share::Joined => {
-            part.events.truncate(claim.before.events);
-            part.escapes.truncate(claim.before.escapes);
+            claim.before.cut(part);
             part.events.push(start)?;
             let lead = lead_of(behind.spot.at, behind.inner, Some(entry));
             let _ = read_inline(
@@ -285,6 +299,9 @@ fn put_before<'a>(
     entry: Entry,
     part: &mut Part<'a>,
 ) -> Result<(), AllocError>
+    ensures events { (earlier : List Placed) → (first : Placed) → (others : List Placed) → event ≡ length earlier → part.old.events ≡ earlier ++ first ∷ others
+        → IfOk result (λ _. part.new.events ≡ earlier ++ placed_value start.entry ∷ record first { entry = Some entry } ∷ others) }
+    ensures comments { IfOk result (λ _. part.new.comments ≡ part.old.comments) }
     ensures escapes { IfOk result (λ _. part.new.escapes ≡ part.old.escapes) }
 {
     if event < part.events.len() {
