@@ -24,9 +24,15 @@ pub mod ContentKeys
 pub mod ContentLeaves
 -- for further theorems
 pub mod NotingLemmas
+pub mod HashNodes
+pub mod LineHalts
+pub mod TiedAlone
 pub mod TiedClosing
 pub mod TiedColumns
 pub mod TiedEntries
+pub mod TiedFailed
+pub mod TiedIndented
+pub mod TiedInner
 pub mod TiedKeys
 pub mod TiedLeads
 pub mod TiedLines
@@ -35,4 +41,5 @@ pub mod TiedOpenings
 pub mod TiedReads
 pub mod TiedResume
 pub mod TiedResumed
+pub mod TiedRoot
 mod TiedShown
