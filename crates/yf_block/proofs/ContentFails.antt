@@ -32,7 +32,7 @@ use Rattle.yf_block.specs.declared.frame.Frame.{Frame}
 use Rattle.yf_block.specs.declared.frame.Progress.{Progress}
 use Rattle.yf_block.specs.declared.held.Held.{Held}
 use Rattle.yf_block.specs.BlockTied.{halt_end}
-use Rattle.yf_block.specs.BlockStepTied.{AtFailed}
+use Rattle.yf_block.specs.BlockStepTied.{none_found, AtFailed}
 use Rattle.yf_block.specs.ClaimsTied.{OfOther, two_alike, before_alias, OthersBefore}
 use Rattle.yf_block.specs.ContentTied.{TextBehind, text_alone, text_held, ScalarSignAt}
 use Rattle.yf_block.specs.HeldAnswers.{LineProperties, PlaceBehind, NoPlaceBehind, other_beside, property_behind}
@@ -44,7 +44,7 @@ use Rattle.yf_block.proofs.KeyNodes.{content_node, keyless_nowhere}
 use Rattle.yf_block.proofs.TiedOpenings.{node_missing}
 
 pub failed_of : {t : List ℕ} {d : ℕ} {root : BlockTask} {h : Option Found} {progress : Progress} → Broken t d root h → progress.halt ≡ halt_end h → AtFailed t d root progress
-failed_of {h = h} b e = record { halt = h; halts = b.halted; halted = e }
+failed_of {h = h} b e = record { halt = h; unfinished = none_found b.whole; halts = b.halted; halted = e }
 
 -- only a `|` or a `>` begins a block scalar
 bar_of_style : {t : List ℕ} {i j : ℕ} {f : Bool} → Style t i j f → ScalarSignAt t i

@@ -117,13 +117,13 @@ module _ {t : List ℕ} {p at : ℕ} {a : Ahead} {inner : Option Held} {entry : 
 
 -- the node after what stands ahead of it, as it was written
 module _ {x : Meaning} where
-  headed_comments : (z : Ahead) → (headed z x).comments ≡ ahead_comments z ++ x.comments
+  pub headed_comments : (z : Ahead) → (headed z x).comments ≡ ahead_comments z ++ x.comments
   unfolding headed behind with_props
   headed_comments Nothing = refl
   headed_comments (Indicator i) = refl
   headed_comments (Props h) = refl
 
-  headed_escapes : (z : Ahead) → (headed z x).escapes ≡ x.escapes
+  pub headed_escapes : (z : Ahead) → (headed z x).escapes ≡ x.escapes
   unfolding headed behind with_props
   headed_escapes Nothing = refl
   headed_escapes (Indicator i) = refl
@@ -156,17 +156,17 @@ headed_by (Props h) q n = ap (λ y. first_with h.value.props h.value.tag_offset 
 no_entry_there : {f : TheEntry.Entry} → None ≡ Some f → ⊥
 no_entry_there e = cc
 
-begins_same : (o : Option ℕ) {x y : Meaning} → x.events ≡ y.events → (begins o x).events ≡ (begins o y).events
+pub begins_same : (o : Option ℕ) {x y : Meaning} → x.events ≡ y.events → (begins o x).events ≡ (begins o y).events
 unfolding entering
 begins_same None q = q
 begins_same (Some i) q = ap (λ z. (entering i None (record { events = z; comments = []; escapes = []; finish = 0 })).events) q
 
-begun_comments : (o : Option ℕ) (x : Meaning) → (begins o x).comments ≡ x.comments
+pub begun_comments : (o : Option ℕ) (x : Meaning) → (begins o x).comments ≡ x.comments
 unfolding entering
 begun_comments None x = refl
 begun_comments (Some i) x = refl
 
-begun_escapes : (o : Option ℕ) (x : Meaning) → (begins o x).escapes ≡ x.escapes
+pub begun_escapes : (o : Option ℕ) (x : Meaning) → (begins o x).escapes ≡ x.escapes
 unfolding entering
 begun_escapes None x = refl
 begun_escapes (Some i) x = refl

@@ -112,7 +112,7 @@ module _ {t : List ℕ} (u : IsUtf8 t) {p : ℕ} {held : Held} (l : LineProperti
 
     module _ {at : ℕ} (b : PlaceBehind t held.end at) where
       -- the place is further on, unless an empty key stands there
-      behind_later : (SignAt t 58 at → ⊥) → held.end < at
+      pub behind_later : (SignAt t 58 at → ⊥) → held.end < at
       behind_later n = ⊎_elim
           (λ (o : held.end < at). o)
           (λ (o : at ≤ held.end). let v = whites_forward b.run in let same : at ≡ held.end = omega arith in absurd (n (b.beside same)))

@@ -22,6 +22,8 @@ pub mod ContentNodes
 pub mod ContentFails
 pub mod ContentKeys
 pub mod ContentLeaves
+pub mod ContentEnds
+pub mod LeafEnds
 -- for further theorems
 pub mod NotingLemmas
 pub mod HashNodes

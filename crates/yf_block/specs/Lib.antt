@@ -18,4 +18,5 @@ pub mod Looks
 pub mod Machine
 pub mod NodeReaders
 pub mod NotedHalts
+pub mod ScratchSpec
 pub mod RootTied
