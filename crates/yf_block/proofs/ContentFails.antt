@@ -24,15 +24,14 @@ use Rattle.yf_grammar.specs.BlockParser.Whole.{properties_leaf, properties_alone
 use Rattle.yf_grammar.specs.Halts.{Halts}
 use Rattle.yf_grammar.specs.Halts.Halts.{halts_properties_leaf, halts_properties_missed, halts_properties_apart, halts_properties_apart_below, halts_leaf}
 use Rattle.yf_grammar.specs.BlockStack.{Layer, asked}
-use Rattle.yf_grammar.specs.BlockStates.{NodeAt, Broken}
+use Rattle.yf_grammar.specs.BlockStates.{NodeAt}
 use Rattle.yf_grammar.proofs.BlockScalars.{is_bar_sign, no_flow_node}
 use Rattle.yf_grammar.proofs.Forward.{whites_forward}
 use Rattle.yf_flow.specs.declared.node.Lead.{Lead}
 use Rattle.yf_block.specs.declared.frame.Frame.{Frame}
 use Rattle.yf_block.specs.declared.frame.Progress.{Progress}
 use Rattle.yf_block.specs.declared.held.Held.{Held}
-use Rattle.yf_block.specs.BlockTied.{halt_end}
-use Rattle.yf_block.specs.BlockStepTied.{none_found, AtFailed}
+use Rattle.yf_block.specs.BlockStepTied.{AtFailed}
 use Rattle.yf_block.specs.ClaimsTied.{OfOther, two_alike, before_alias, OthersBefore}
 use Rattle.yf_block.specs.ContentTied.{TextBehind, text_alone, text_held, ScalarSignAt}
 use Rattle.yf_block.specs.HeldAnswers.{LineProperties, PlaceBehind, NoPlaceBehind, other_beside, property_behind}
@@ -41,10 +40,8 @@ use Rattle.yf_block.specs.InlineAnswers as Answers
 use Rattle.yf_block.specs.InlineTied.{AtStart}
 use Rattle.yf_block.proofs.ContentNodes.{no_key_here, lost_keyless, Whose, of_one, of_two, whose, joined_props, NoLeaf, leaf_refuses, leaf_lost}
 use Rattle.yf_block.proofs.KeyNodes.{content_node, keyless_nowhere}
+use Rattle.yf_block.proofs.TiedFailed.{broken_fails}
 use Rattle.yf_block.proofs.TiedOpenings.{node_missing}
-
-pub failed_of : {t : List ℕ} {d : ℕ} {root : BlockTask} {h : Option Found} {progress : Progress} → Broken t d root h → progress.halt ≡ halt_end h → AtFailed t d root progress
-failed_of {h = h} b e = record { halt = h; unfinished = none_found b.whole; halts = b.halted; halted = e }
 
 -- only a `|` or a `>` begins a block scalar
 bar_of_style : {t : List ℕ} {i j : ℕ} {f : Bool} → Style t i j f → ScalarSignAt t i
@@ -74,10 +71,10 @@ Leads a (Some held) z = (h : HeldValue) × (z ≡ Props h)
 
 module _ {t : List ℕ} {d : ℕ} {root : BlockTask} {before part : Part} {frames : List Frame} {cols : Columns} {p : ℕ} {progress : Progress}
     (a : AtStart t d root before frames cols p progress part) (s : NoSign t cols p) where
-  missing : Whole t a.room (Inline a.indentation a.context cols a.ahead p) None → Halts t a.room (asked a.layers) (Inline a.indentation a.context cols a.ahead p) None → AtFailed t d root progress
-  missing w u = failed_of (node_missing a.node w u) a.stack.halted
+  pub missing : Whole t a.room (Inline a.indentation a.context cols a.ahead p) None → Halts t a.room (asked a.layers) (Inline a.indentation a.context cols a.ahead p) None → AtFailed t d root progress
+  missing w u = broken_fails (node_missing a.node w u) a.stack.halted
 
-  leaf_of : {g k : ℕ} {q : PropertiesValue} {w : List ℕ} → NoKeyAt t a.room a.indentation cols p → Chosen (Properties t (pos 0) FlowKey p) g q → Stuck (LineEnd t g) → Many t is_white g k w
+  pub leaf_of : {g k : ℕ} {q : PropertiesValue} {w : List ℕ} → NoKeyAt t a.room a.indentation cols p → Chosen (Properties t (pos 0) FlowKey p) g q → Stuck (LineEnd t g) → Many t is_white g k w
       → is_white (code t k) ≡ false → ((z : Ahead) → (h : HeldValue) × (z ≡ Props h) → NoLeaf t a.room (asked a.layers) a.indentation z k) → AtFailed t d root progress
   leaf_of {g} {k} {q} n c l m f leaf = ⊎_elim
       (λ (o : g < k). of_whose o (whose a.ahead q p g))

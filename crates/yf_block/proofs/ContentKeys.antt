@@ -40,7 +40,7 @@ use Rattle.yf_block.specs.BlockTied.{entries_written, floor_after, ReadTied, no_
 use Rattle.yf_block.specs.BlockStepTied.{AtNode, AtFailed}
 use Rattle.yf_block.specs.InlineAnswers.{KeyEnds}
 use Rattle.yf_block.specs.InlineTied.{AtStart, started}
-use Rattle.yf_block.proofs.ContentFails.{failed_of}
+use Rattle.yf_block.proofs.TiedFailed.{broken_fails}
 use Rattle.yf_block.proofs.KeyNodes.{key_before}
 use Rattle.yf_block.proofs.TiedLeads.{WrittenAs, rest_from, floor_others, read_added, NodeThere}
 use Rattle.yf_block.proofs.TiedNodes.{node_there, after_colon}
@@ -130,7 +130,7 @@ module _ {t : List ℕ} {d : ℕ} {root : BlockTask} {before old : Part} {frames
     too_many_open q m e o f =
         let r = room_there a in
         let y = n.deepest in
-        failed_of (key_full q a.room a.node node_parsed (is_key m e) (full r y f)) a.stack.halted where
+        broken_fails (key_full q a.room a.node node_parsed (is_key m e) (full r y f)) a.stack.halted where
       full : length frames + a.room ≡ d → node.deepest ≡ depth + n.answer.height → (node.deepest < d → depth < d → ⊥) → a.room ≤ n.answer.height
       full r y f = ⊎_elim
           (λ (l : n.answer.height < a.room). absurd (f (omega (arith, r, y, o, l)) (omega (arith, r, o, l))))

@@ -20,7 +20,7 @@ use Rattle.yf_events.specs.declared.part.Part.{Part}
 use Rattle.yf_grammar.specs.Meaning.{Meaning, ◌⊕◌, behind, plain_event, from_to, event_with, with_props, first_with, entering}
 use Rattle.yf_grammar.specs.Parser.{Found, found, ANode, AContent, Parses, OnOneLine, only, begins_alias, begins_properties, begins_content, begins_plain}
 use Rattle.yf_grammar.specs.Parser.Parses.{alias_read, alias_missed, plain_read, plain_missed, content_read, properties_missed, properties_content, properties_plain, properties_end, properties_before_broken, properties_before_other}
-use Rattle.yf_grammar.specs.Parser.Parses as Parsing
+use Rattle.yf_grammar.specs.Parser as Parsing
 use Rattle.yf_grammar.specs.BlockParser.{SignAt, Ahead, Nothing, Indicator, Props, Held as HeldValue, headed, both, Joins, first_held, more_held, Columns, NoSign, NoKeyAt, MayLeaf, BlockTask, Inline, Leaf}
 use Rattle.yf_grammar.specs.BlockStack.{Layer, asked}
 use Rattle.yf_grammar.specs.BlockStates.{NodeAt}
@@ -66,7 +66,7 @@ module _ {t : List ℕ} {d : ℕ} {root : BlockTask} {before part : Part} {frame
       node_through a.node (held_leaf_awaits s n m.chosen q b.run (f h refl) b.no_white j) (held_leaf_halts s n m.chosen q b.run (f h refl) b.no_white j)
 
 -- on its line no comment is told of
-joined_comments : {a z : Ahead} {q : PropertiesValue} {p g : ℕ} → Joins a q p g z → q.comments ≡ [] → ahead_comments z ≡ ahead_comments a
+pub joined_comments : {a z : Ahead} {q : PropertiesValue} {p g : ℕ} → Joins a q p g z → q.comments ≡ [] → ahead_comments z ≡ ahead_comments a
 unfolding both
 joined_comments {a} (first_held f) e = e ∙ bare a f where
   bare : (x : Ahead) → ((h : HeldValue) → x ≡ Props h → ⊥) → [] ≡ ahead_comments x

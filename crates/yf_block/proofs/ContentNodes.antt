@@ -18,7 +18,7 @@ use Rattle.yf_events.specs.declared.event.ScalarStyle.TheVariants.{Plain as Plai
 use Rattle.yf_grammar.specs.Meaning.{Meaning, event_with, scalar}
 use Rattle.yf_grammar.specs.Parser.{Found, ANode, Parses, begins_alias, begins_properties, begins_content, begins_plain}
 use Rattle.yf_grammar.specs.Parser.Parses.{plain_read, plain_missed, content_read, alias_missed, properties_missed, properties_content, properties_plain, properties_end, properties_before_broken, properties_before_other}
-use Rattle.yf_grammar.specs.Parser.Parses as Parsing
+use Rattle.yf_grammar.specs.Parser as Parsing
 use Rattle.yf_grammar.specs.BlockScalar.{BlockScalar}
 use Rattle.yf_grammar.specs.BlockScalar.BlockScalar.{block_scalar}
 use Rattle.yf_grammar.specs.BlockParser.{Ahead, Nothing, Indicator, Props, Held as HeldValue, Joins, first_held, more_held, Clash, Apart, both, Columns, NoKeyAt, unfit_node, NoKey, key_missed, Keyless, node_unfit, properties_end_line, MayLeaf, Leaf, Whole}

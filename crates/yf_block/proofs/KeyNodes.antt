@@ -83,7 +83,7 @@ module _ {t : List ℕ} where
   property_no_text {k = k} a = record { none = λ j x p. plain_no_properties (code t k) (plain_begins p.text) a }
 
   -- properties alone are no key, unless a `:` stands behind them
-  lone_no_key : {g k : ℕ} {w : List ℕ} (q : PropertiesValue) (p : ℕ) → Many t is_white g k w → is_white (code t k) ≡ false → (SignAt t 58 k → ⊥) → NoKey t p (lone_properties q p g)
+  pub lone_no_key : {g k : ℕ} {w : List ℕ} (q : PropertiesValue) (p : ℕ) → Many t is_white g k w → is_white (code t k) ≡ false → (SignAt t 58 k → ⊥) → NoKey t p (lone_properties q p g)
   lone_no_key {g} {k} q p m f n = subst (λ o. NoKey t p o) (sym (lone_is q p g ∙ found_is g 0 false (behind q.comments (with_props q.props q.tag_offset p g (empty_node g)))))
       (key_unfit (λ h b. let same = (many_unique t is_white b.run (colon_white (code t h) b.colon.sign_stands) m f).0 in n (subst (λ z. SignAt t 58 z) same b.colon)))
 
@@ -94,7 +94,7 @@ module _ {t : List ℕ} (u : IsUtf8 t) {p : ℕ} {held : Held} (l : LineProperti
 
   module _ (s : Stuck (LineEnd t held.end)) where
     -- properties alone, before white space or beside what stands there
-    lone_behind : {e k : ℕ} {n : ℤ} {w : List ℕ} → Many t is_white held.end k w → is_white (code t k) ≡ false → begins_content (code t k) ≡ false → Stuck (Plain t n FlowOut k)
+    pub lone_behind : {e k : ℕ} {n : ℤ} {w : List ℕ} → Many t is_white held.end k w → is_white (code t k) ≡ false → begins_content (code t k) ≡ false → Stuck (Plain t n FlowOut k)
         → Parses t e (ANode n FlowOut p) (lone_properties l.value p held.end)
     lone_behind {k = k} m f b r = ⊎_elim
         (λ (o : held.end < k). line_other u l.chosen s m o f b r)

@@ -37,7 +37,7 @@ use Rattle.yf_block.specs.BlockStepTied.{AtResume, AtFailed}
 use Rattle.yf_block.specs.ContentTied.{PlainIs, plain_known, other_known, AtLeaf}
 use Rattle.yf_block.specs.LastStarts.{LastStart, NoStart}
 use Rattle.yf_block.specs.NotedHalts.{NodeNoted, node_noted, node_before, node_shorter, ShorterNoted, shorter_noted, one_line, no_plain}
-use Rattle.yf_block.proofs.ContentFails.{failed_of}
+use Rattle.yf_block.proofs.TiedFailed.{broken_fails}
 use Rattle.yf_block.proofs.ContentLeaves.{headed_finish, headed_comments, headed_escapes, begins_same, begun_comments, begun_escapes}
 use Rattle.yf_block.proofs.LineHalts.{outside_end, rounds_end, last_line_of, no_last_line, may_end_at, may_end_before, may_end_nowhere}
 use Rattle.yf_block.proofs.TiedLeads.{read_added}
@@ -60,7 +60,7 @@ same_plain e = cc
 no_known : {x : ℕ} → None ≡ Some x → ⊥
 no_known e = cc
 
-leaf_made : (a : Ahead) (j h : ℕ) (x : Meaning) (ds : List CommentValue) → leaf_found a j h x ds ≡ Some (record { end = j; height = h; json = false; meaning = headed a (noting x ds) })
+pub leaf_made : (a : Ahead) (j h : ℕ) (x : Meaning) (ds : List CommentValue) → leaf_found a j h x ds ≡ Some (record { end = j; height = h; json = false; meaning = headed a (noting x ds) })
 leaf_made a j h x ds = leaf_is a j h x ds ∙ found_is j h false (headed a (noting x ds))
 
 plain_made : (a : Ahead) (j : ℕ) (x : Meaning) → with_plain a j x ≡ Some (record { end = j; height = 0; json = false; meaning = headed a x })
@@ -103,7 +103,7 @@ module _ {t : List ℕ} (u : IsUtf8 t) {e : ℕ} {ws : List ℕ} {n : ℤ} {a : 
   leaf_before (other_known b q) d no_plain = record { outcome = None; halted = halts_content_unended s m b r d; noted = refl }
 
 -- the outermost node's last halt ends where it is noted
-noted_round : (ls : List Layer) (cs : List CommentValue) (h o : Option Found) {old new : Option ℕ} → old ≡ halt_end h → new ≡ noted_end old o → new ≡ halt_end (made_or (λ g. rounds ls (as_behind cs g)) h o)
+pub noted_round : (ls : List Layer) (cs : List CommentValue) (h o : Option Found) {old new : Option ℕ} → old ≡ halt_end h → new ≡ noted_end old o → new ≡ halt_end (made_or (λ g. rounds ls (as_behind cs g)) h o)
 unfolding made_or
 noted_round ls cs h None e q = q ∙ e
 noted_round ls cs h (Some f) e q = q ∙ ap (λ (k : ℕ). Some k) (sym (rounds_end ls (as_behind cs f)))
@@ -127,11 +127,11 @@ behind_escapes : (cs : List CommentValue) (x : Meaning) → (behind cs x).escape
 unfolding behind
 behind_escapes cs x = refl
 
-noting_comments : (x : Meaning) (ds : List CommentValue) → (noting x ds).comments ≡ x.comments ++ ds
+pub noting_comments : (x : Meaning) (ds : List CommentValue) → (noting x ds).comments ≡ x.comments ++ ds
 unfolding noting
 noting_comments x ds = refl
 
-noting_escapes : (x : Meaning) (ds : List CommentValue) → (noting x ds).escapes ≡ x.escapes
+pub noting_escapes : (x : Meaning) (ds : List CommentValue) → (noting x ds).escapes ≡ x.escapes
 unfolding noting
 noting_escapes x ds = refl
 
@@ -235,4 +235,4 @@ module _ {t : List ℕ} {d : ℕ} {root : BlockTask} {before old : Part} {frames
       let e' : Stuck (LineEnd t l.answer.end) = subst (λ (z : ℕ). Stuck (LineEnd t z)) (sym l.end) e in
       let stuck : Stuck (MayEnd t (asked l.layers) l.answer.end) = record { none = λ j x m. e'.none j x m.line } in
       let h = leaf_before utf8 l.no_scalar l.may l.parsed known stuck (subst (λ (z : ℕ). ShorterNoted t z progress.halt plain new.halt) (sym l.end) r) in
-      failed_of (node_breaks l.node (leaf_unended l.no_scalar l.may l.parsed e') h.halted) (noted_round l.layers l.comments l.halt h.outcome l.stack.halted h.noted)
+      broken_fails (node_breaks l.node (leaf_unended l.no_scalar l.may l.parsed e') h.halted) (noted_round l.layers l.comments l.halt h.outcome l.stack.halted h.noted)

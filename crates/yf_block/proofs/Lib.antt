@@ -22,8 +22,11 @@ pub mod ContentNodes
 pub mod ContentFails
 pub mod ContentKeys
 pub mod ContentLeaves
+pub mod ContentLines
 pub mod ContentEnds
 pub mod LeafEnds
+pub mod ScalarLines
+pub mod TiedScalar
 -- for further theorems
 pub mod NotingLemmas
 pub mod HashNodes

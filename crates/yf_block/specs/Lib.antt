@@ -18,5 +18,6 @@ pub mod Looks
 pub mod Machine
 pub mod NodeReaders
 pub mod NotedHalts
+pub mod ScalarTied
 pub mod ScratchSpec
 pub mod RootTied
