@@ -55,31 +55,43 @@ no_plain_place e = cc
 plain_place : {p q : ℕ} → Some p ≡ Some q → q ≡ p
 plain_place e = cc
 
+failed_still : {t : List ℕ} {d : ℕ} {root : BlockTask} {progress after : Progress} → AtFailed t d root progress → after.halt ≡ progress.halt → AtFailed t d root after
+failed_still f e = record { halt = f.halt; unfinished = f.unfinished; halts = f.halts; halted = e ∙ f.halted }
+
 -- a `:` is no alias and no node
 colon_no_alias : (c : ℕ) → c ≡ 58 → begins_alias c ≡ false
 unfolding begins_alias
 colon_no_alias c e = rw e refl
 
-module _ {t : List ℕ} (u : IsUtf8 t) {at end : ℕ} {n : ℤ} {e : ℕ} {f : Found} {json : Bool} {plain : Option ℕ} (yes : json ≡ true → plain ≡ None) (no : json ≡ false → plain ≡ Some at) where
+module _ {t : List ℕ} {p : ℕ} where
+  stuck_behind : {j : Option Held} {y : Held} {k end : ℕ} → TextBehind t p j k → j ≡ Some y → end ≡ y.end → Stuck (LineEnd t end)
+  stuck_behind (text_alone q) z e = absurd (no_none (sym z))
+  stuck_behind (text_held {held = h} l q b) z e = subst (λ (i : ℕ). Stuck (LineEnd t i)) (ap (λ (g : Held). g.end) (same_held z) ∙ sym e) q
+
+  end_before : {j : Option Held} {y : Held} {k : ℕ} → TextBehind t p j k → j ≡ Some y → y.end ≤ k
+  end_before (text_alone q) z = absurd (no_none (sym z))
+  end_before (text_held {held = h} l q b) z = let f = whites_forward b.run in let e = ap (λ (g : Held). g.end) (same_held z) in omega (arith, f, e)
+
+module _ {t : List ℕ} {at end : ℕ} {f : Found} {json : Bool} {plain : Option ℕ} (as_json : json ≡ true → plain ≡ None) (as_plain : json ≡ false → plain ≡ Some at) where
   known_kind : json ≡ f.json → end ≡ f.end → NodeKind t at f → PlainIs t at end plain
-  known_kind j k (plain_kind b v) = plain_known b (no (j ∙ v))
-  known_kind j k (json_kind b v) = other_known b (λ q x. absurd (no_plain_place (sym (yes (j ∙ v)) ∙ x)))
+  known_kind j k (plain_kind b v) = plain_known b (as_plain (j ∙ v))
+  known_kind j k (json_kind b v) = other_known b (λ q x. absurd (no_plain_place (sym (as_json (j ∙ v)) ∙ x)))
   known_kind j k (alias_kind b o) = other_known b (λ q x. ⊎_elim
-      (λ (v : json ≡ true). absurd (no_plain_place (sym (yes v) ∙ x)))
-      (λ (v : json ≡ false). subst (λ (z : ℕ). NoStart t z end) (sym (plain_place (sym (no v) ∙ x))) (subst (λ (z : ℕ). NoStart t at z) (sym k) (no_start_inside o)))
+      (λ (v : json ≡ true). absurd (no_plain_place (sym (as_json v) ∙ x)))
+      (λ (v : json ≡ false). subst (λ (z : ℕ). NoStart t z end) (sym (plain_place (sym (as_plain v) ∙ x))) (subst (λ (z : ℕ). NoStart t at z) (sym k) (no_start_inside o)))
       (cases_Bool json))
 
 module _ {t : List ℕ} {d : ℕ} {root : BlockTask} {before old : Part} {frames : List Frame} {cols : Columns} {p : ℕ} {progress : Progress}
     (a : AtStart t d root before frames cols p progress old) (s : NoSign t cols p) {inner : Option Held} {at : ℕ} (x : TextBehind t p inner at) (bars : ScalarSignAt t at → ⊥) (k : NoKeyAt t a.room a.indentation cols p)
-    {lead : Lead} (v : LeafAhead t p at a.ahead inner progress.wanted.entry lead) {plain : Option ℕ} {after : Progress} where
+    {lead : Lead} (v : LeafAhead t p at a.ahead inner progress.wanted.entry lead) where
   utf8 : IsUtf8 t
   utf8 = a.read.text.utf8
 
-  leaf_here : {depth : ℕ} {f : Found} {node : Node} {new : Part} → Parses t a.room (ANode (a.indentation +ℤ pos 1) FlowOut at) (Some f) → begins_properties (code t at) ≡ false
-      → ({h : HeldValue} → v.ahead ≡ Props h → begins_alias (code t at) ≡ false) → ((held : Held) → inner ≡ Some held → held.end < at) → NodeIs depth f node → WrittenWith t lead f.meaning (from_to at node.end) node.end old new
+  leaf_here : {plain : Option ℕ} {after : Progress} {depth : ℕ} {f : Found} {node : Node} {new : Part} → Parses t a.room (ANode (a.indentation +ℤ pos 1) FlowOut at) (Some f) → begins_properties (code t at) ≡ false
+      → ((h : HeldValue) → v.ahead ≡ Props h → begins_alias (code t at) ≡ false) → ((held : Held) → inner ≡ Some held → held.end < at) → NodeIs depth f node → WrittenWith t lead f.meaning (from_to at node.end) node.end old new
       → (node.json ≡ true → plain ≡ None) → (node.json ≡ false → plain ≡ Some at) → after.last ≡ node.end → after.floor ≡ progress.floor → after.colons ≡ progress.colons → after.halt ≡ progress.halt
       → AtLeaf t d root before frames plain node.end after new
-  leaf_here {f = f} {node} r b c o i w yes no last fl co ha =
+  leaf_here {f = f} {node} r b c o i w as_json as_plain last fl co ha =
       let starts = flow_starts (found_is_derived refl r).0 refl in
       let order = behind_order x in
       let later = starts.starts.later in
@@ -96,10 +108,10 @@ module _ {t : List ℕ} {d : ℕ} {root : BlockTask} {before old : Part} {frames
         halt = a.halt;
         node = leaf_task a s x k v.joined o;
         no_scalar = no_scalar bars;
-        may = record { no_props = b; no_alias = λ {h} e. c {h} e };
+        may = record { no_props = b; no_alias = λ {h} e. c h e };
         parsed = r;
         end = sym i.end;
-        known = known_kind utf8 yes no i.json i.end (node_kind utf8 refl b r refl);
+        known = known_kind as_json as_plain i.json i.end (node_kind utf8 refl b r refl);
         last = last ∙ i.end ∙ sym i.finish;
         past = omega (arith, past, order, later, end, fl);
         stack = record { order = a.stack.order; frames_tied = a.stack.frames_tied; colons = co ∙ a.stack.colons; halted = ha ∙ a.stack.halted };
@@ -107,51 +119,40 @@ module _ {t : List ℕ} {d : ℕ} {root : BlockTask} {before old : Part} {frames
             (subst (λ z. EntryTied t progress.floor (layers_entry a.layers) z) (sym v.entry_is) a.wanted.entry) v.tied (behind_comments v.joined) w) fl;
       }
 
-  failed_still : AtFailed t d root progress → after.halt ≡ progress.halt → AtFailed t d root after
-  failed_still f e = record { halt = f.halt; unfinished = f.unfinished; halts = f.halts; halted = e ∙ f.halted }
-
   -- no node stands at the `:` behind an empty key
   empty_fails : {y : Held} → inner ≡ Some y → SignAt t 58 at → AtFailed t d root progress
   empty_fails q c =
       leaf_fails a s x k (λ z l. leaf_lost (other_no_scalar c.sign_stands (λ e. omega (arith, e)) (λ e. omega (arith, e)))
       (λ m. content_node (colon_no_alias (code t at) c.sign_stands) m.no_props (plain_missing (colon_bare (code t at) c.sign_stands) (sign_no_plain c))))
 
-  -- what was read, where it is no key
-  module _ {depth : ℕ} {node : Node} {new : Part} (yes : node.json ≡ true → plain ≡ None) (no : node.json ≡ false → plain ≡ Some at) (last : after.last ≡ node.end) (fl : after.floor ≡ progress.floor)
-      (co : after.colons ≡ progress.colons) (ha : after.halt ≡ progress.halt) where
-    indented : {o : Option Found} → Parses t a.room (ANode (pos progress.wanted.least) FlowOut at) o → Parses t a.room (ANode (a.indentation +ℤ pos 1) FlowOut at) o
-    indented {o} r = subst (λ i. Parses t a.room (ANode i FlowOut at) o) a.wanted.least r
+  indented : {o : Option Found} → Parses t a.room (ANode (pos progress.wanted.least) FlowOut at) o → Parses t a.room (ANode (a.indentation +ℤ pos 1) FlowOut at) o
+  indented {o} r = subst (λ i. Parses t a.room (ANode i FlowOut at) o) a.wanted.least r
 
+  -- what was read, where it is no key
+  module _ {plain : Option ℕ} {after : Progress} {depth : ℕ} {node : Node} {new : Part} (as_json : node.json ≡ true → plain ≡ None) (as_plain : node.json ≡ false → plain ≡ Some at) (last : after.last ≡ node.end) (fl : after.floor ≡ progress.floor)
+      (co : after.colons ≡ progress.colons) (ha : after.halt ≡ progress.halt) where
     go_read : {f : Found} → Answers.NoEmptyKey t at inner → begins_alias (code t at) ≡ false → ContentAt t a.room (pos progress.wanted.least) FlowOut at (Some f) → NodeIs depth f node
         → WrittenWith t lead f.meaning (from_to at node.end) node.end old new → AtLeaf t d root before frames plain node.end after new
     go_read {f} e y r i w =
         let props = bare x r in
-        leaf_here (indented (content_node y props r)) props (λ {h} q. y) (later x e) i w yes no last fl co ha where
-      bare : {j : Option Held} → TextBehind t p j at → ContentAt t a.room (pos progress.wanted.least) FlowOut at (Some f) → begins_properties (code t at) ≡ false
+        leaf_here (indented (content_node y props r)) props (λ h q. y) (later x e) i w as_json as_plain last fl co ha where
+      bare : {j : Option Held} {k : ℕ} → TextBehind t p j k → ContentAt t a.room (pos progress.wanted.least) FlowOut k (Some f) → begins_properties (code t k) ≡ false
       bare (text_alone q) r = bare_content r refl
       bare (text_held l q b) r = b.no_property
 
-      later : {j : Option Held} → TextBehind t p j at → Answers.NoEmptyKey t at j → (held : Held) → j ≡ Some held → held.end < at
+      later : {j : Option Held} {k : ℕ} → TextBehind t p j k → Answers.NoEmptyKey t k j → (held : Held) → j ≡ Some held → held.end < k
       later (text_alone q) e held z = absurd (no_none (sym z))
-      later (text_held {held = h} l q b) e held z = subst (λ (g : Held). g.end < at) (same_held z) (behind_later utf8 l q b (e h refl))
+      later (text_held {held = h} {at = k} l q b) e held z = subst (λ (g : Held). g.end < k) (same_held z) (behind_later utf8 l q b (e h refl))
 
     go_alias : {f : Found} → inner ≡ None → Parses t a.room (ANode (pos progress.wanted.least) FlowOut at) (Some f) → NodeIs depth f node → WrittenWith t lead f.meaning (from_to at node.end) node.end old new
         → AtLeaf t d root before frames plain node.end after new
-    go_alias q r i w = leaf_here (indented r) (bare x q) (λ {h} z. v.no_alias (sym (alone_ahead (subst (λ j. BehindLine t p a.ahead j v.ahead) q v.joined)) ∙ z)) (λ held z. absurd (no_none (sym z ∙ q))) i w yes no last fl co ha where
-      bare : {j : Option Held} → TextBehind t p j at → j ≡ None → begins_properties (code t at) ≡ false
-      bare (text_alone y) z = ⊎_elim
-          (λ (b : begins_properties (code t at) ≡ true). absurd (none_some (outcome_is_one (properties_missed b (none_spread y)) r)))
-          (λ (b : begins_properties (code t at) ≡ false). b)
-          (cases_Bool (begins_properties (code t at)))
-      bare (text_held l y b) z = b.no_property
-
-    stuck_behind : {j : Option Held} {y : Held} → TextBehind t p j at → j ≡ Some y → node.end ≡ y.end → Stuck (LineEnd t node.end)
-    stuck_behind (text_alone q) z e = absurd (no_none (sym z))
-    stuck_behind (text_held {held = h} l q b) z e = subst (λ (i : ℕ). Stuck (LineEnd t i)) (ap (λ (g : Held). g.end) (same_held z) ∙ sym e) q
-
-    end_before : {j : Option Held} {y : Held} → TextBehind t p j at → j ≡ Some y → y.end ≤ at
-    end_before (text_alone q) z = absurd (no_none (sym z))
-    end_before (text_held {held = h} l q b) z = let f = whites_forward b.run in let e = ap (λ (g : Held). g.end) (same_held z) in omega (arith, f, e)
+    go_alias q r i w = leaf_here (indented r) (bare x q r) (λ h z. v.no_alias (sym (alone_ahead (subst (λ j. BehindLine t p a.ahead j v.ahead) q v.joined)) ∙ z)) (λ held z. absurd (no_none (sym z ∙ q))) i w as_json as_plain last fl co ha where
+      bare : {j : Option Held} {k : ℕ} {g : Found} → TextBehind t p j k → j ≡ None → Parses t a.room (ANode (pos progress.wanted.least) FlowOut k) (Some g) → begins_properties (code t k) ≡ false
+      bare {k = k} (text_alone y) z r = ⊎_elim
+          (λ (b : begins_properties (code t k) ≡ true). absurd (none_some (outcome_is_one (properties_missed b (none_spread y)) r)))
+          (λ (b : begins_properties (code t k) ≡ false). b)
+          (cases_Bool (begins_properties (code t k)))
+      bare (text_held l y b) z r = b.no_property
 
     pub leaf_ending : InlineRead t a.room (pos progress.wanted.least) at depth inner lead old new node → LeafEnding t d root before frames plain node.end after new
     leaf_ending (Answers.content_read e y r i w) = leaf_ends (go_read e y r i w)
@@ -159,5 +160,5 @@ module _ {t : List ℕ} {d : ℕ} {root : BlockTask} {before old : Part} {frames
     leaf_ending (Answers.empty_key_read e j g w) =
         let order = end_before x e.is in
         let end = e.ends in
-        line_goes_on (stuck_behind x e.is e.ends) (λ q z. subst (λ (i : ℕ). NoStart t i node.end) (sym (plain_place (sym (no j) ∙ z))) (no_start_late (omega (arith, order, end))))
+        line_goes_on (stuck_behind x e.is e.ends) (λ q z. subst (λ (i : ℕ). NoStart t i node.end) (sym (plain_place (sym (as_plain j) ∙ z))) (no_start_late (omega (arith, order, end))))
         (failed_still (empty_fails e.is e.colon) ha)

@@ -103,7 +103,9 @@ module _ {t : List ℕ} {d : ℕ} {root : BlockTask} {before part : Part} {frame
   lost_leaf : {inner : Option Held} {at : ℕ} (z : Ahead) → InlineLost t a.room (a.indentation +ℤ pos 1) at inner → (ScalarSignAt t at → ⊥) → Leads a.ahead inner z → NoLeaf t a.room (asked a.layers) a.indentation z at
   lost_leaf z (Answers.content_lost k y r) n l = leaf_lost (no_scalar n) (λ m. content_node y m.no_props r)
   lost_leaf z (Answers.alias_lost q r) n l = leaf_lost (no_scalar n) (λ m. r)
-  lost_leaf z (Answers.alias_behind k refl y) n l = leaf_refuses (no_scalar n) (λ m. true≢false (sym y ∙ m.no_alias l.1))
+  lost_leaf z (Answers.alias_behind {properties = h} k q y) n l =
+      let props : (g : HeldValue) × (z ≡ Props g) = subst (λ j. Leads a.ahead j z) q l in
+      leaf_refuses (no_scalar n) (λ m. true≢false (sym y ∙ m.no_alias props.1))
 
   -- nothing that was read is a node
   pub inline_fails : {inner : Option Held} {at : ℕ} → TextBehind t p inner at → InlineLost t a.room (pos progress.wanted.least) at inner → (ScalarSignAt t at → ⊥) → AtFailed t d root progress
@@ -115,14 +117,14 @@ module _ {t : List ℕ} {d : ℕ} {root : BlockTask} {before part : Part} {frame
   pub apart_fails : {inner : Option Held} {at : ℕ} {entry : Option TheEntry.Entry} {lead : Lead} → TextBehind t p inner at → NoKeyAt t a.room a.indentation cols p → OthersBefore t p at a.ahead inner entry lead
       → AtFailed t d root progress
   apart_fails {inner} {at} x n o = go x o.other where
-    of_alias : code t at ≡ 42 → (z : Ahead) → (h : HeldValue) × (z ≡ Props h) → NoLeaf t a.room (asked a.layers) a.indentation z at
-    of_alias c z l = leaf_refuses (other_no_scalar c (λ e. omega (arith, e)) (λ e. omega (arith, e))) (λ m. true≢false (sym (alias_is (code t at) c) ∙ m.no_alias l.1))
+    of_alias : {k : ℕ} → code t k ≡ 42 → (z : Ahead) → (h : HeldValue) × (z ≡ Props h) → NoLeaf t a.room (asked a.layers) a.indentation z k
+    of_alias {k} c z l = leaf_refuses (other_no_scalar c (λ e. omega (arith, e)) (λ e. omega (arith, e))) (λ m. true≢false (sym (alias_is (code t k) c) ∙ m.no_alias l.1))
 
-    alias_fails : {i : Option Held} → TextBehind t p i at → code t at ≡ 42 → AtFailed t d root progress
+    alias_fails : {i : Option Held} {k : ℕ} → TextBehind t p i k → code t k ≡ 42 → AtFailed t d root progress
     alias_fails (text_alone q) c = leaf_fails (text_alone q) n (λ z l. of_alias c z (o.before, l ∙ o.is))
     alias_fails (text_held l q b) c = leaf_fails (text_held l q b) n (λ z l. of_alias c z l)
 
-    go : {i : Option Held} → TextBehind t p i at → OfOther t p at a.ahead i → AtFailed t d root progress
+    go : {i : Option Held} {k : ℕ} → TextBehind t p i k → OfOther t p k a.ahead i → AtFailed t d root progress
     go y (before_alias c) = alias_fails y c
     go (text_held l q b) (two_alike m r) = missing (properties_apart s n m.chosen (subst (λ (z : ℕ). Stuck (LineEnd t z)) refl q) r) (halts_properties_apart s n m.chosen q r)
 

@@ -96,10 +96,10 @@ module _ {t : List ℕ} {d : ℕ} {root : BlockTask} {before old : Part} {frames
     no_colon : SignAt t 58 p → ⊥
     no_colon y = s.no_colon q y
 
-    module _ {f : Found} {k : ℕ} where
-      undashed : {r : ℕ} → Parses t r (ANode (a.indentation +ℤ pos 1) FlowOut p) (Some f) → DashAt t p → ⊥
-      undashed w y = node_no_dash refl (found_is_derived refl w).0 y
+    undashed : {r : ℕ} {f : Found} → Parses t r (ANode (a.indentation +ℤ pos 1) FlowOut p) (Some f) → DashAt t p → ⊥
+    undashed w y = node_no_dash refl (found_is_derived refl w).0 y
 
+    module _ {f : Found} {k : ℕ} where
       -- no further collection may be opened, or the key opens too many
       key_full : (r : ℕ) → NodeAt t d root a.layers r a.comments (Inline a.indentation a.context cols a.ahead p) a.halt → Parses t r (ANode (a.indentation +ℤ pos 1) FlowOut p) (Some f) → KeyBefore t p f k
           → r ≤ f.height → Broken t d root a.halt
@@ -140,8 +140,8 @@ module _ {t : List ℕ} {d : ℕ} {root : BlockTask} {before old : Part} {frames
     -- the line goes on otherwise behind it
     pub no_key_there : {column : Option ℕ} {v : ℕ} {w : List ℕ} → cols.mapping ≡ column → Many t is_white node.end v w → is_white (code t v) ≡ false → ((m : ℕ) → column ≡ Some m → KeyEnds t p v → ⊥)
         → NoKeyAt t a.room a.indentation cols p
-    no_key_there {None} q m f k = no_column q
-    no_key_there {Some x} {v} {w} q m f k = unfit_node node_parsed (key_unfit (λ h b.
+    no_key_there {column = None} q m f k = no_column q
+    no_key_there {column = Some x} {v} {w} q m f k = unfit_node node_parsed (key_unfit (λ h b.
         let whites = subst (λ (j : ℕ). Many t is_white j v w) n.end m in
         let same = (many_unique t is_white b.run (sign_no_white b.colon) whites f).0 in
         k x refl (subst (λ (z : ℕ). KeyEnds t p z) same (record { colon = b.colon; line = record { line = b.line; short = b.short } }))))

@@ -4,7 +4,7 @@ use Rattle.std.proofs.lemmas.Bool.{cases_Bool, cases_lt}
 use Rattle.std.proofs.lemmas.Bool.Decides.{nat_tests}
 use Rattle.std.specs.Str.{IsUtf8}
 use Rattle.yf_chars.specs.declared.context.Ctx.{Ctx}
-use Rattle.yf_chars.specs.declared.context.Ctx.TheVariants.{FlowOut}
+use Rattle.yf_chars.specs.declared.context.Ctx.TheVariants.{FlowOut, FlowKey}
 use Rattle.yf_chars.specs.Text.{code}
 use Rattle.yf_chars.specs.Chain.{Stuck}
 use Rattle.yf_lines.specs.Basic.{Break, is_block}
@@ -12,7 +12,8 @@ use Rattle.yf_lines.proofs.BasicLemmas.{break_forward}
 use Rattle.yf_lines.proofs.LineLemmas.{break_breaks}
 use Rattle.yf_comments.specs.Comment.{CommentValue}
 use Rattle.yf_comments.specs.Comments.{LineEnd}
-use Rattle.yf_props.specs.Names.{PropertiesValue}
+use Rattle.yf_props.specs.Names.{Alias, PropertiesValue}
+use Rattle.yf_grammar.specs.Grammar.Derives.{an_alias}
 use Rattle.yf_props.specs.Props.{PropsValue, no_props, props_value}
 use Rattle.yf_events.specs.Event.{EventValue, Placed}
 use Rattle.yf_events.specs.declared.event.Entry as TheEntry
@@ -30,7 +31,7 @@ use Rattle.yf_grammar.proofs.BlockStepNodes.{held_leaf_awaits, held_leaf_halts, 
 use Rattle.yf_grammar.proofs.FlowStarts.{flow_starts}
 use Rattle.yf_grammar.proofs.Forward.{whites_forward}
 use Rattle.yf_grammar.proofs.GapLemmas.{Visible}
-use Rattle.yf_grammar.proofs.KeyLines.{alias_line}
+use Rattle.yf_grammar.proofs.KeyLines.{key_line}
 use Rattle.yf_grammar.proofs.NodeExits.{alias_begins, alias_no_plain, alias_no_content, alias_no_properties, plain_no_content, plain_no_properties, content_no_properties, some_found, none_some}
 use Rattle.yf_grammar.proofs.NodeExact.{plain_is}
 use Rattle.yf_grammar.proofs.Outcome.{outcome_is_one}
@@ -116,7 +117,7 @@ module _ {t : List ℕ} {p at : ℕ} {a : Ahead} {inner : Option Held} {entry : 
   }
 
 -- the node after what stands ahead of it, as it was written
-module _ {x : Meaning} where
+module _ (x : Meaning) where
   pub headed_comments : (z : Ahead) → (headed z x).comments ≡ ahead_comments z ++ x.comments
   unfolding headed behind with_props
   headed_comments Nothing = refl
@@ -146,20 +147,20 @@ known_is {lead} {z} {at} event end l =
     ∙ ap (λ y. known_by lead.start y (ahead_tag z) event end) (sym l.props)
     ∙ ap (λ y. known_by lead.start (props_value lead.props) y event end) (sym l.tag)
 
-headed_by : (z : Ahead) {x : Meaning} {at end : ℕ} {event : EventValue} {others : List Placed} → x.events ≡ plain_event event (from_to at end) ∷ others → event_with no_props event ≡ event
+headed_by : (z : Ahead) (x : Meaning) (at end : ℕ) {event : EventValue} {others : List Placed} → x.events ≡ plain_event event (from_to at end) ∷ others → event_with no_props event ≡ event
     → (headed z x).events ≡ known_by (ahead_start z at) (ahead_props z) (ahead_tag z) event end ∷ others
 unfolding headed behind with_props plain_event from_to
-headed_by Nothing {at = at} {end = end} {others = others} q n = q ∙ ap (λ y. record { event = y; span = Some (record { start = at; end = end }); tag_offset = None; entry = None; folded = [] } ∷ others) (sym n)
-headed_by (Indicator i) {at = at} {end = end} {others = others} q n = q ∙ ap (λ y. record { event = y; span = Some (record { start = at; end = end }); tag_offset = None; entry = None; folded = [] } ∷ others) (sym n)
-headed_by (Props h) q n = ap (λ y. first_with h.value.props h.value.tag_offset h.start h.end y) q
+headed_by Nothing x at end {others = others} q n = q ∙ ap (λ y. record { event = y; span = Some (record { start = at; end = end }); tag_offset = None; entry = None; folded = [] } ∷ others) (sym n)
+headed_by (Indicator i) x at end {others = others} q n = q ∙ ap (λ y. record { event = y; span = Some (record { start = at; end = end }); tag_offset = None; entry = None; folded = [] } ∷ others) (sym n)
+headed_by (Props h) x at end q n = ap (λ y. first_with h.value.props h.value.tag_offset h.start h.end y) q
 
 no_entry_there : {f : TheEntry.Entry} → None ≡ Some f → ⊥
 no_entry_there e = cc
 
-pub begins_same : (o : Option ℕ) {x y : Meaning} → x.events ≡ y.events → (begins o x).events ≡ (begins o y).events
+pub begins_same : (o : Option ℕ) (x y : Meaning) → x.events ≡ y.events → (begins o x).events ≡ (begins o y).events
 unfolding entering
-begins_same None q = q
-begins_same (Some i) q = ap (λ z. (entering i None (record { events = z; comments = []; escapes = []; finish = 0 })).events) q
+begins_same None x y q = q
+begins_same (Some i) x y q = ap (λ z. (entering i None (record { events = z; comments = []; escapes = []; finish = 0 })).events) q
 
 pub begun_comments : (o : Option ℕ) (x : Meaning) → (begins o x).comments ≡ x.comments
 unfolding entering
@@ -179,20 +180,23 @@ leaf_same : (w : Meaning) (o : Option ℕ) (cs ac : List CommentValue) (z : Ahea
     → Same ((w ⊕ only (cs ++ ac) 0) ⊕ begins o (events_of (headed z x) x)) (w ⊕ begins o (behind cs (headed z x)))
 unfolding ◌⊕◌ only behind events_of
 leaf_same w o cs ac z x e = record {
-  events = ap (λ y. y ++ (begins o (events_of (headed z x) x)).events) (append-nil w.events) ∙ ap (λ y. w.events ++ y) (begins_same o refl);
+  events = ap (λ y. y ++ (begins o (events_of (headed z x) x)).events) (append-nil w.events) ∙ ap (λ y. w.events ++ y) (begins_same o (events_of (headed z x) x) (behind cs (headed z x)) refl);
   comments = ap (λ y. (w.comments ++ (cs ++ ac)) ++ y) (begun_comments o (events_of (headed z x) x)) ∙ append_assoc w.comments (cs ++ ac) x.comments ∙ ap (λ y. w.comments ++ y) (append_assoc cs ac x.comments)
-      ∙ ap (λ y. w.comments ++ (cs ++ (y ++ x.comments))) (sym e) ∙ ap (λ y. w.comments ++ (cs ++ y)) (sym (headed_comments z)) ∙ ap (λ y. w.comments ++ y) (sym (begun_comments o (behind cs (headed z x))));
-  escapes = ap (λ y. y ++ (begins o (events_of (headed z x) x)).escapes) (append-nil w.escapes) ∙ ap (λ y. w.escapes ++ y) (begun_escapes o (events_of (headed z x) x) ∙ sym (headed_escapes z) ∙ sym (begun_escapes o (behind cs (headed z x))));
+      ∙ ap (λ y. w.comments ++ (cs ++ (y ++ x.comments))) (sym e) ∙ ap (λ y. w.comments ++ (cs ++ y)) (sym (headed_comments x z)) ∙ ap (λ y. w.comments ++ y) (sym (begun_comments o (behind cs (headed z x))));
+  escapes = ap (λ y. y ++ (begins o (events_of (headed z x) x)).escapes) (append-nil w.escapes) ∙ ap (λ y. w.escapes ++ y) (begun_escapes o (events_of (headed z x) x) ∙ sym (headed_escapes x z) ∙ sym (begun_escapes o (behind cs (headed z x))));
 }
 
-module _ {t : List ℕ} {before : Part} {w : Meaning} {progress : Progress} {old : Part} {cs ac : List CommentValue} (r : ReadTied t before (w ⊕ only (cs ++ ac) 0) progress old) where
+module _ {t : List ℕ} {before : Part} (w : Meaning) {progress : Progress} {old : Part} (cs : List CommentValue) {ac : List CommentValue} (r : ReadTied t before (w ⊕ only (cs ++ ac) 0) progress old) where
   pub leaf_added : {at end : ℕ} {o : Option ℕ} {lead : Lead} {z : Ahead} {x : Meaning} {new : Part} → progress.floor ≤ at → Visible t at → EntriesFrom (at + 1) x.events → EntryTied t progress.floor o lead.entry → LeadTied z at lead
       → ahead_comments z ≡ ac → WrittenWith t lead x (from_to at end) end old new → ReadTied t before (w ⊕ begins o (behind cs (headed z x))) progress new
   unfolding events_of
   leaf_added {at} {end} {o} {lead} {z} {x} l v f n a c b =
-      let events = headed_by z b.events b.no_properties ∙ ap (λ y. y ∷ b.others) (known_is b.event end a) in
+      let events = headed_by z x at end b.events b.no_properties ∙ ap (λ y. y ∷ b.others) (known_is b.event end a) in
       let from : EntriesFrom (at + 1) (headed z x).events = subst (λ y. EntriesFrom (at + 1) y) (sym events) (one_from (λ g q. absurd (no_entry_there q)) (rest_from f b.events)) in
       read_as (node_added r {x = events_of (headed z x) x} l v from n (written_as b (events_of (headed z x) x) events refl refl)) (leaf_same w o cs ac z x c)
+
+alias_line : {t : List ℕ} {i j : ℕ} {x : List ℕ} → IsUtf8 t → Alias t i j x → OnOneLine t i j
+alias_line u a = key_line u (an_alias {n = pos 0} {c = FlowKey} refl a) refl
 
 -- a flow node is plain, or like those of JSON, or an alias on one line
 pub data NodeKind (t : List ℕ) (i : ℕ) (f : Found) : Type 0 where

@@ -54,7 +54,7 @@ data Dull : ℕ → Type 0 where
   end_dull : Dull no_char
 
 -- no node begins with it
-module _ {t : List ℕ} {p : ℕ} where
+module _ (t : List ℕ) (p : ℕ) where
   dull_first : {c : ℕ} → Dull c → code t p ≡ c → is_plain_first t FlowOut p ≡ false
   unfolding is_plain_first is_sign is_indicator is_flow_indicator is_ns_char is_nb_char is_printable is_between is_break_char is_white
   dull_first hash_dull h = rw h refl
@@ -123,18 +123,18 @@ module _ {t : List ℕ} {d : ℕ} {root : BlockTask} {before part : Part} {frame
   module _ {place : ℕ} (e : EndsBehind t held.end place) where
     ended_key : Stuck (LineEnd t held.end) → NoKeyAt t a.room a.indentation cols p
     ended_key q =
-        let u = dull_of e.ends in
+        let u = dull_of t place e.ends in
         let no = dull_other u.1.0 in
-        let stuck = λ (n : ℤ). no_plain {n = n} (no_front (dull_first u.1.0 u.1.1)) in
+        let stuck = λ (n : ℤ). no_plain {n = n} (no_front (dull_first t place u.1.0 u.1.1)) in
         no_key_held l q (node_unfit (lone_behind utf8 l q e.run e.no_white (ap begins_content u.1.1 ∙ dull_content u.1.0) (stuck (a.indentation +ℤ pos 1)))
         (lone_no_key l.value p e.run e.no_white (λ y. no.0 (sym u.1.1 ∙ y.sign_stands))))
 
     -- it should end there, and does not
     pub unended_fails : Stuck (LineEnd t held.end) → AtFailed t d root progress
     unended_fails q =
-        let u = dull_of e.ends in
+        let u = dull_of t place e.ends in
         let no = dull_other u.1.0 in
-        let stuck = λ (n : ℤ). no_plain {n = n} (no_front (dull_first u.1.0 u.1.1)) in
+        let stuck = λ (n : ℤ). no_plain {n = n} (no_front (dull_first t place u.1.0 u.1.1)) in
         leaf_of a s (ended_key q) l.chosen q e.run e.no_white
         (λ z h. leaf_lost (other_no_scalar u.1.1 no.1.0 no.1.1) (λ m. plain_missed (ap begins_plain u.1.1 ∙ dull_plain u.1.0) (stuck (a.indentation +ℤ pos 1))))
 

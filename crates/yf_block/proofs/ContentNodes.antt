@@ -45,7 +45,7 @@ use Rattle.yf_block.proofs.TiedLeads.{NodeThere, bare_there, held_there}
 
 -- what was written with something known of it can be written with something else
 module _ {t : List ℕ} {lead : Lead} {x : Meaning} {span : Option Span} {end : ℕ} {old new : Part} (other : Lead) (w : WrittenWith t lead x span end old new) where
-  other_part : Part
+  abbrev other_part : Part
   other_part = record {
     events = old.events ++ (lead_event other (event_with (props_value other.props) w.event) end ∷ w.noted_others);
     comments = old.comments ++ x.comments;
@@ -70,12 +70,12 @@ module _ {t : List ℕ} {e at depth : ℕ} {n : ℤ} {held : Option Held} {lead 
   inline_other (Answers.alias_read q r i w) = (other_part other w, Answers.alias_read q r i (other_written other w))
   inline_other (Answers.empty_key_read k j d w) = (other_part other w, Answers.empty_key_read k j d (other_written other w))
 
-module _ {t : List ℕ} (u : IsUtf8 t) {e p : ℕ} {n : ℤ} {held : Option Held} {at : ℕ} where
-  pub node_here : {depth : ℕ} {lead : Lead} {old new : Part} {node : Node} → TextBehind t p held at → InlineRead t e n at depth held lead old new node → (mid : Part) × NodeThere t e n p depth None old mid node
+module _ {t : List ℕ} (u : IsUtf8 t) {e p : ℕ} {n : ℤ} where
+  pub node_here : {held : Option Held} {at depth : ℕ} {lead : Lead} {old new : Part} {node : Node} → TextBehind t p held at → InlineRead t e n at depth held lead old new node → (mid : Part) × NodeThere t e n p depth None old mid node
   node_here (text_alone s) r = let o = inline_other (bare_lead p None) r in (o.0, bare_there o.1)
   node_here (text_held {held = h} l s b) r = let o = inline_other (held_lead h None) r in (o.0, held_there u l s b o.1)
 
-  pub lost_keyless : TextBehind t p held at → InlineLost t e n at held → Keyless t e n p
+  pub lost_keyless : {held : Option Held} {at : ℕ} → TextBehind t p held at → InlineLost t e n at held → Keyless t e n p
   lost_keyless (text_alone s) i = keyless_plain s i
   lost_keyless (text_held l s b) i = keyless_behind u l s b i
 

@@ -32,7 +32,7 @@ use Rattle.yf_grammar.proofs.Sound.{found_is_derived}
 use Rattle.yf_block.specs.declared.frame.Frame.{Frame}
 use Rattle.yf_block.specs.declared.frame.Progress.{Progress}
 use Rattle.yf_block.specs.Awaiting.{AwaitedColon}
-use Rattle.yf_block.specs.BlockTied.{layers_entry, begins, all_written, ReadTied, halt_end}
+use Rattle.yf_block.specs.BlockTied.{layers_entry, begins, ahead_comments, all_written, ReadTied, halt_end}
 use Rattle.yf_block.specs.BlockStepTied.{AtResume, AtFailed}
 use Rattle.yf_block.specs.ContentTied.{PlainIs, plain_known, other_known, AtLeaf}
 use Rattle.yf_block.specs.LastStarts.{LastStart, NoStart}
@@ -109,11 +109,11 @@ noted_round ls cs h None e q = q ∙ e
 noted_round ls cs h (Some f) e q = q ∙ ap (λ (k : ℕ). Some k) (sym (rounds_end ls (as_behind cs f)))
 
 -- what is read with the comments behind it
-noted_events : {x : Meaning} (z : Ahead) (ds : List CommentValue) → (headed z (noting x ds)).events ≡ (headed z x).events
+noted_events : (x : Meaning) (z : Ahead) (ds : List CommentValue) → (headed z (noting x ds)).events ≡ (headed z x).events
 unfolding headed noting behind with_props
-noted_events Nothing ds = refl
-noted_events (Indicator i) ds = refl
-noted_events (Props h) ds = refl
+noted_events x Nothing ds = refl
+noted_events x (Indicator i) ds = refl
+noted_events x (Props h) ds = refl
 
 behind_events : (cs : List CommentValue) (x : Meaning) → (behind cs x).events ≡ x.events
 unfolding behind
@@ -146,13 +146,13 @@ behind_finish cs x = refl
 -- the comments of a leaf behind it
 told_comments : (o : Option ℕ) (cs : List CommentValue) (z : Ahead) (x : Meaning) (ds : List CommentValue) → (begins o (behind cs (headed z x))).comments ++ ds ≡ (begins o (behind cs (headed z (noting x ds)))).comments
 told_comments o cs z x ds =
-    ap (λ y. y ++ ds) (begun_comments o (behind cs (headed z x)) ∙ behind_comments cs (headed z x) ∙ ap (λ y. cs ++ y) (headed_comments z))
-    ∙ append_assoc cs _ ds ∙ ap (λ y. cs ++ y) (append_assoc _ x.comments ds ∙ ap (λ y. _ ++ y) (sym (noting_comments x ds)) ∙ sym (headed_comments z))
+    ap (λ y. y ++ ds) (begun_comments o (behind cs (headed z x)) ∙ behind_comments cs (headed z x) ∙ ap (λ y. cs ++ y) (headed_comments x z))
+    ∙ append_assoc cs (ahead_comments z ++ x.comments) ds ∙ ap (λ y. cs ++ y) (append_assoc (ahead_comments z) x.comments ds ∙ ap (λ y. ahead_comments z ++ y) (sym (noting_comments x ds)) ∙ sym (headed_comments (noting x ds) z))
     ∙ sym (begun_comments o (behind cs (headed z (noting x ds))) ∙ behind_comments cs (headed z (noting x ds)))
 
 told_escapes : (o : Option ℕ) (cs : List CommentValue) (z : Ahead) (x : Meaning) (ds : List CommentValue) → (begins o (behind cs (headed z x))).escapes ≡ (begins o (behind cs (headed z (noting x ds)))).escapes
 told_escapes o cs z x ds =
-    begun_escapes o (behind cs (headed z x)) ∙ behind_escapes cs (headed z x) ∙ headed_escapes z ∙ sym (noting_escapes x ds) ∙ sym (headed_escapes z)
+    begun_escapes o (behind cs (headed z x)) ∙ behind_escapes cs (headed z x) ∙ headed_escapes x z ∙ sym (noting_escapes x ds) ∙ sym (headed_escapes (noting x ds) z)
     ∙ sym (begun_escapes o (behind cs (headed z (noting x ds))) ∙ behind_escapes cs (headed z (noting x ds)))
 
 told_same : (w : Meaning) (o : Option ℕ) (cs : List CommentValue) (z : Ahead) (x : Meaning) (ds : List CommentValue)
@@ -160,16 +160,16 @@ told_same : (w : Meaning) (o : Option ℕ) (cs : List CommentValue) (z : Ahead) 
 unfolding ◌⊕◌ only
 told_same w o cs z x ds = record {
   events = append-nil (w.events ++ (begins o (behind cs (headed z x))).events)
-      ∙ ap (λ y. w.events ++ y) (begins_same o (behind_events cs (headed z x) ∙ sym (noted_events z ds) ∙ sym (behind_events cs (headed z (noting x ds)))));
+      ∙ ap (λ y. w.events ++ y) (begins_same o (behind cs (headed z x)) (behind cs (headed z (noting x ds))) (behind_events cs (headed z x) ∙ sym (noted_events x z ds) ∙ sym (behind_events cs (headed z (noting x ds)))));
   comments = append_assoc w.comments (begins o (behind cs (headed z x))).comments ds ∙ ap (λ y. w.comments ++ y) (told_comments o cs z x ds);
   escapes = append-nil (w.escapes ++ (begins o (behind cs (headed z x))).escapes) ∙ ap (λ y. w.escapes ++ y) (told_escapes o cs z x ds);
 }
 
-module _ {t : List ℕ} {before old new : Part} {progress : Progress} {w : Meaning} {o : Option ℕ} {cs : List CommentValue} {z : Ahead} {x : Meaning}
+module _ {t : List ℕ} {before old new : Part} {progress : Progress} (w : Meaning) (o : Option ℕ) (cs : List CommentValue) (z : Ahead) (x : Meaning) (ds : List CommentValue)
     (r : ReadTied t before (w ⊕ begins o (behind cs (headed z x))) progress old) where
-  pub leaf_told : {ds : List CommentValue} → new.events ≡ old.events → new.comments ≡ old.comments ++ ds → new.escapes ≡ old.escapes → ReadTied t before (w ⊕ begins o (behind cs (headed z (noting x ds)))) progress new
+  pub leaf_told : new.events ≡ old.events → new.comments ≡ old.comments ++ ds → new.escapes ≡ old.escapes → ReadTied t before (w ⊕ begins o (behind cs (headed z (noting x ds)))) progress new
   unfolding only
-  leaf_told {ds} a b c =
+  leaf_told a b c =
       read_as (read_added r {new = new} {fs = []} {cs = ds} {bad = []} (only ds 0) no_event refl
       (record { events = a ∙ sym (append-nil old.events); comments = b; escapes = c ∙ sym (append-nil old.escapes) }) refl refl) (told_same w o cs z x ds)
 
@@ -180,7 +180,7 @@ module _ {t : List ℕ} {d : ℕ} {root : BlockTask} {before old : Part} {frames
   inside : LineStart t p → ⊥
   inside = λ s. no_start_behind utf8 (node_behind utf8 (found_is_derived refl l.parsed).0) (subst (λ (z : ℕ). LineStart t z) (sym l.end) s)
 
-  task : BlockTask
+  abbrev task : BlockTask
   task = Leaf l.indentation l.ahead l.place
 
   known : PlainIs t l.place l.answer.end plain
@@ -219,14 +219,14 @@ module _ {t : List ℕ} {d : ℕ} {root : BlockTask} {before old : Part} {frames
         node = node_was_read l.node whole h.halted;
         outside = outside_end utf8 e.derived;
         past = omega (arith, past, far, fl);
-        last = i ∙ l.last ∙ sym (noting_finish l.answer.meaning ds) ∙ sym (headed_finish l.ahead) ∙ sym (behind_finish l.comments (headed l.ahead (noting l.answer.meaning ds)));
+        last = i ∙ l.last ∙ sym (noting_finish l.answer.meaning ds) ∙ sym (headed_finish (noting l.answer.meaning ds) l.ahead) ∙ sym (behind_finish l.comments (headed l.ahead (noting l.answer.meaning ds)));
         stack = record {
           order = l.stack.order;
           frames_tied = l.stack.frames_tied;
           colons = y ∙ l.stack.colons;
           halted = noted_round l.layers l.comments l.halt h.outcome l.stack.halted h.noted;
         };
-        read = read_moved (leaf_told l.read a b c) fl;
+        read = read_moved (leaf_told (all_written l.layers) (layers_entry l.layers) l.comments l.ahead l.answer.meaning ds l.read a b c) fl;
       }
 
   -- the line goes on, and all breaks

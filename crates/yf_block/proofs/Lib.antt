@@ -23,10 +23,12 @@ pub mod ContentFails
 pub mod ContentKeys
 pub mod ContentLeaves
 pub mod ContentLines
+pub mod ContentMappings
 pub mod ContentEnds
 pub mod LeafEnds
 pub mod ScalarLines
 pub mod TiedScalar
+pub mod ContentSteps
 -- for further theorems
 pub mod NotingLemmas
 pub mod HashNodes

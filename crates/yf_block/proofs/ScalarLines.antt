@@ -62,7 +62,8 @@ body_between u {h = h} (indicated q a b) w = let all = taken_all u a in reaching
 body_between u {h = h} (detected q d a b) w = let all = taken_all u a in reaching h.chomp (taken_lines u a) all (lines_last all.chain w)
 body_between {t} u {h = h} {i = i} (without_content {widths = widths} q c d b) w =
     let none : LinesTo t i i 0 = record { lines = []; chain = done; counts = refl } in
-    let all = blanks_one c in
+    let blanks = blanks_one c in
+    let all : LinesTo t i _ (0 + length widths) = record { lines = blanks.lines; chain = blanks.chain; counts = let e = blanks.counts in omega (arith, e) } in
     reaching h.chomp none all (lines_last all.chain w)
 
 -- where lines end, a line begins or the text ends
@@ -91,8 +92,8 @@ none_there : is_break_char no_char ≡ false
 unfolding is_break_char
 none_there = refl
 
-past_quiet : {t : List ℕ} {i : ℕ} → length t ≤ i → is_break_char (code t i) ≡ false
-past_quiet {t} {i} l = ap is_break_char (code-past t i l) ∙ none_there
+past_quiet : (t : List ℕ) (i : ℕ) → length t ≤ i → is_break_char (code t i) ≡ false
+past_quiet t i l = ap is_break_char (code-past t i l) ∙ none_there
 
 -- the walk: within a line, over its break, and at the end of the text
 pub walk_begins : {t : List ℕ} {count at e : ℕ} → LinesBetween t count at e → LinesLeft t count at e
@@ -133,22 +134,22 @@ module _ {t : List ℕ} {left place e : ℕ} (w : LinesLeft t left place e) (som
   -- where no break begins, no character of one stands
   quiet : Nowhere (Break t place) → is_break_char (code t place) ≡ false
   quiet n = go w.rest w.line where
-    ended : {l : Line} {h k : ℕ} → LineEnd t h k → Unbroken t l.start h → Unbroken t l.start place → l.start ≤ place → is_break_char (code t place) ≡ false
-    ended {h = h} (at_break {j = k} d) v u o = ⊎_elim
+    ended : (l : Line) {h k : ℕ} → LineEnd t h k → Unbroken t l.start h → Unbroken t l.start place → l.start ≤ place → is_break_char (code t place) ≡ false
+    ended l {h = h} (at_break {j = k} d) v u o = ⊎_elim
         (λ (x : h < place). absurd (true≢false (sym (break_breaks d) ∙ u.none h v.order x)))
         (λ (x : place ≤ h). ⊎_elim
         (λ (y : place < h). v.none place o y)
         (λ (y : h ≤ place). let same : h ≡ place = omega (arith, x, y) in absurd (n.none k (subst (λ (z : ℕ). Break t z k) same d)))
         (cases_lt place h))
         (cases_lt h place)
-    ended {h = h} (at_end x) v u o = ⊎_elim
+    ended l {h = h} (at_end x) v u o = ⊎_elim
         (λ (y : place < h). v.none place o y)
-        (λ (y : h ≤ place). past_quiet (omega (arith, x, y)))
+        (λ (y : h ≤ place). past_quiet t place (omega (arith, x, y)))
         (cases_lt place h)
 
     go : {i : ℕ} → LinesBetween t left i e → Unbroken t i place → is_break_char (code t place) ≡ false
     go (counted done q) u = absurd (omega (arith, q, some))
-    go (counted (step (one_line {l = l} s) c) q) u = ended {l = l} s.ends s.unbroken u u.order
+    go (counted (step (one_line {l = l} s) c) q) u = ended l s.ends s.unbroken u u.order
 
   pub walk_within : {c next : ℕ} → IsUtf8 t → Reads t place c next → Nowhere (Break t place) → LinesLeft t left next e
   walk_within {c} {next} u r n = record {

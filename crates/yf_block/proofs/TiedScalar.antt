@@ -33,10 +33,10 @@ use Rattle.yf_grammar.proofs.PlainEnds.{plain_leaps}
 use Rattle.yf_chars.specs.declared.context.Ctx.TheVariants.{FlowOut}
 use Rattle.yf_grammar.specs.BlockSteps.{made_or, as_behind}
 use Rattle.yf_grammar.specs.BlockStack.{Layer, rounds, asked}
-use Rattle.yf_grammar.proofs.BlockHalts.{scalar_chosen as part_chosen}
 use Rattle.yf_grammar.proofs.BlockNodeSteps.{node_was_read, node_breaks}
 use Rattle.yf_grammar.proofs.BlockScalars.{is_bar_sign, sign_no_first}
 use Rattle.yf_grammar.proofs.OneScalars.{scalar_one, scalar_chosen}
+use Rattle.yf_flow.specs.declared.node.Lead.{Lead}
 use Rattle.yf_block.specs.declared.frame.Frame.{Frame}
 use Rattle.yf_block.specs.declared.frame.Progress.{Progress}
 use Rattle.yf_block.specs.Awaiting.{AwaitedColon}
@@ -105,20 +105,20 @@ unfolding from_to
 scalar_floor floor event props true text start e q = ap (λ s. end_or floor s) q
 scalar_floor floor event props false text start e q = ap (λ s. end_or floor s) q
 
-begun_floor : (floor : ℕ) (o : Option ℕ) (start : ℕ) (props : PropsValue) (tag : Option ℕ) (h : Header) (b : BodyValue) (e : ℕ) {x : Meaning} → x.events ≡ scalar_by start props tag None h b e ∷ []
+begun_floor : (floor : ℕ) (o : Option ℕ) (start : ℕ) (props : PropsValue) (tag : Option ℕ) (h : Header) (b : BodyValue) (e : ℕ) (x : Meaning) → x.events ≡ scalar_by start props tag None h b e ∷ []
     → floor_after floor (begins o x).events ≡ e
 unfolding entering
-begun_floor floor None start props tag h b e q = ap (λ z. floor_after floor z) q ∙ scalar_floor floor (scalar_by start props tag None h b e) props h.folded (content_of h b.lines b.tail b.open_end) start e refl
-begun_floor floor (Some i) start props tag h b e q =
+begun_floor floor None start props tag h b e x q = ap (λ z. floor_after floor z) q ∙ scalar_floor floor (scalar_by start props tag None h b e) props h.folded (content_of h b.lines b.tail b.open_end) start e refl
+begun_floor floor (Some i) start props tag h b e x q =
     let entry = Some (record { start = i; colon = None; blank_before = false }) in
     ap (λ z. floor_after floor (entering i None (record { events = z; comments = []; escapes = []; finish = 0 })).events) q
     ∙ scalar_floor floor (scalar_by start props tag entry h b e) props h.folded (content_of h b.lines b.tail b.open_end) start e refl
 
-scalar_noting : {t : List ℕ} {floor : ℕ} {o : Option ℕ} {entry : Option TheEntry.Entry} (start : ℕ) (props : PropsValue) (tag : Option ℕ) (h : Header) (b : BodyValue) (e : ℕ) {x : Meaning} → EntryTied t floor o entry
+scalar_noting : {t : List ℕ} {floor : ℕ} {o : Option ℕ} {entry : Option TheEntry.Entry} (start : ℕ) (props : PropsValue) (tag : Option ℕ) (h : Header) (b : BodyValue) (e : ℕ) (x : Meaning) → EntryTied t floor o entry
     → x.events ≡ scalar_by start props tag None h b e ∷ [] → Noting t floor (begins o x).events (scalar_by start props tag entry h b e ∷ [])
 unfolding entering
-scalar_noting {t} {floor} start props tag h b e no_entry q = subst (λ z. Noting t floor z (scalar_by start props tag None h b e ∷ [])) (sym q) (without_entry refl no_event)
-scalar_noting {t} {floor} start props tag h b e (entry_begins {i = i} {b = k} n) q =
+scalar_noting {t} {floor} start props tag h b e x no_entry q = subst (λ z. Noting t floor z (scalar_by start props tag None h b e ∷ [])) (sym q) (without_entry refl no_event)
+scalar_noting {t} {floor} start props tag h b e x (entry_begins {i = i} {b = k} n) q =
     subst (λ z. Noting t floor (entering i None (record { events = z; comments = []; escapes = []; finish = 0 })).events (scalar_by start props tag (Some (record { start = i; colon = None; blank_before = k })) h b e ∷ [])) (sym q)
     (with_entry (record { start = i; colon = None; blank_before = false }) refl n no_event)
 
@@ -147,20 +147,24 @@ scalar_lists : (w : Meaning) (o : Option ℕ) (cs : List CommentValue) (z : Ahea
     (w ⊕ begins o (behind cs (headed z (noting (scalar_as i e h b) []))))
 unfolding ◌⊕◌ behind
 scalar_lists w o cs z i e h b = record {
-  events = ap (λ y. w.events ++ y) (begins_same o refl);
+  events = ap (λ y. w.events ++ y) (begins_same o (headed z (noting (scalar_as i e h b) [])) (behind cs (headed z (noting (scalar_as i e h b) []))) refl);
   comments = append_assoc w.comments (cs ++ ahead_comments z) (h.comments ++ b.comments)
       ∙ ap (λ y. w.comments ++ y) (append_assoc cs (ahead_comments z) (h.comments ++ b.comments)
       ∙ ap (λ y. cs ++ (ahead_comments z ++ y)) (sym (append-nil (h.comments ++ b.comments)) ∙ sym (noting_comments (scalar_as i e h b) []))
-      ∙ ap (λ y. cs ++ y) (sym (headed_comments z)) ∙ sym (begun_comments o (behind cs (headed z (noting (scalar_as i e h b) [])))));
-  escapes = sym (append-nil w.escapes) ∙ ap (λ y. w.escapes ++ y) (sym (begun_escapes o (behind cs (headed z (noting (scalar_as i e h b) []))) ∙ headed_escapes z ∙ noting_escapes (scalar_as i e h b) []));
+      ∙ ap (λ y. cs ++ y) (sym (headed_comments (noting (scalar_as i e h b) []) z)) ∙ sym (begun_comments o (behind cs (headed z (noting (scalar_as i e h b) [])))));
+  escapes = sym (append-nil w.escapes) ∙ ap (λ y. w.escapes ++ y) (sym (begun_escapes o (behind cs (headed z (noting (scalar_as i e h b) []))) ∙ headed_escapes (noting (scalar_as i e h b) []) z ∙ noting_escapes (scalar_as i e h b) []));
 }
+
+-- all may end behind it
+part_chosen : {t : List ℕ} {n : ℤ} {i k : ℕ} {ws : List ℕ} {x : Meaning} → Chosen (BlockScalar t n i) k x → Allowed t k ws → Chosen (ScalarPart t n ws i) k x
+part_chosen d a = record { derived = record { scalar = d.derived; allowed = a }; longest = λ j x m. d.longest j x m.scalar; only = λ x m. d.only x m.scalar }
 
 module _ {t : List ℕ} {d : ℕ} {root : BlockTask} {before old : Part} {frames : List Frame} {lead : Lead} {at : ℕ} {block : BlockText} {progress : Progress}
     (a : AtBody t d root before frames lead at block progress old) (inside : at ≤ length t) where
   utf8 : IsUtf8 t
   utf8 = a.scalar.read.text.utf8
 
-  to : Reaching t a.head.header.chomp (length block.lines) block.tail at (length t)
+  pub to : Reaching t a.head.header.chomp (length block.lines) block.tail at (length t)
   to = body_between utf8 a.lines.derived inside
 
   -- where it ends
@@ -175,7 +179,7 @@ module _ {t : List ℕ} {d : ℕ} {root : BlockTask} {before old : Part} {frames
 
   scalar_halt : {new : Option ℕ} → NodeNoted t None block.next block.next frames progress.halt new
       → HaltNoted t a.scalar.room (asked a.scalar.layers) (Leaf a.scalar.indentation a.scalar.ahead a.place) progress.halt new
-  scalar_halt n = go n where
+  scalar_halt n = go n refl where
     stuck : AwaitedColon t block.next frames → Stuck (ScalarPart t a.scalar.indentation (asked a.scalar.layers) a.place)
     stuck c = record {
       none = λ k y m.
@@ -225,8 +229,8 @@ module _ {t : List ℕ} {d : ℕ} {root : BlockTask} {before old : Part} {frames
       let lists = scalar_lists w o cs z a.place to.end a.head v in
       let noted : Noting t progress.floor es (scalar_event lead block finish ∷ []) =
       subst (λ y. Noting t progress.floor es (y ∷ [])) (scalar_written q)
-      (scalar_noting (ahead_start z a.place) (ahead_props z) (ahead_tag z) a.head.header v to.end a.scalar.entry events) in
-      let floor : new.floor ≡ floor_after progress.floor es = fl ∙ q ∙ sym (begun_floor progress.floor o (ahead_start z a.place) (ahead_props z) (ahead_tag z) a.head.header v to.end events) in
+      (scalar_noting (ahead_start z a.place) (ahead_props z) (ahead_tag z) a.head.header v to.end (headed z (noting x [])) a.scalar.entry events) in
+      let floor : new.floor ≡ floor_after progress.floor es = fl ∙ q ∙ sym (begun_floor progress.floor o (ahead_start z a.place) (ahead_props z) (ahead_tag z) a.head.header v to.end (headed z (noting x [])) events) in
       read_floor a.scalar.read es (scalar_event lead block finish ∷ []) (a.head.comments ++ block.comments) noted floor
       (λ l. subst (λ (k : ℕ). Blank t k) (sym fl) (scalar_blank q (omega (arith, l, fl))))
       (x1 ∙ ap (λ y. y ++ scalar_event lead block finish ∷ []) a.events)
@@ -251,7 +255,7 @@ module _ {t : List ℕ} {d : ℕ} {root : BlockTask} {before old : Part} {frames
         node = node_was_read a.scalar.node (subst (λ o. Whole t a.scalar.room (Leaf a.scalar.indentation z a.place) o) (leaf_made z block.next 0 x []) (scalar_read chosen)) h.halted;
         outside = body_outside utf8 a.header.derived a.lines.derived;
         past = omega (arith, reached, fl, q);
-        last = i ∙ q ∙ sym (noting_finish x []) ∙ sym (headed_finish z) ∙ sym (behind_finish a.scalar.comments (headed z (noting x [])));
+        last = i ∙ q ∙ sym (noting_finish x []) ∙ sym (headed_finish (noting x []) z) ∙ sym (behind_finish a.scalar.comments (headed z (noting x [])));
         stack = record {
           order = a.scalar.stack.order;
           frames_tied = a.scalar.stack.frames_tied;
@@ -261,11 +265,11 @@ module _ {t : List ℕ} {d : ℕ} {root : BlockTask} {before old : Part} {frames
         read = scalar_text q x1 x2 x3 fl;
       }
 
-bar_is : (c : ℕ) → (c ≡ 124) ⊎ (c ≡ 62) → is_bar_sign c ≡ true
+pub bar_is : (c : ℕ) → (c ≡ 124) ⊎ (c ≡ 62) → is_bar_sign c ≡ true
 unfolding is_bar_sign
 bar_is c s = ⊎_elim (λ (e : c ≡ 124). rw e refl) (λ (e : c ≡ 62). rw e refl) s
 
-bar_plain : (c : ℕ) → (c ≡ 124) ⊎ (c ≡ 62) → begins_plain c ≡ true
+pub bar_plain : (c : ℕ) → (c ≡ 124) ⊎ (c ≡ 62) → begins_plain c ≡ true
 unfolding begins_plain begins_alias begins_properties begins_content
 bar_plain c s = ⊎_elim (λ (e : c ≡ 124). rw e refl) (λ (e : c ≡ 62). rw e refl) s
 

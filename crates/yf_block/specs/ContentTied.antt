@@ -31,7 +31,7 @@ use Rattle.yf_block.specs.BlockTied.{layers_entry, begins, ahead_props, ahead_ta
 use Rattle.yf_block.specs.BlockStepTied.{AtFailed}
 use Rattle.yf_block.specs.ClaimsTied.{ShareTied}
 use Rattle.yf_block.specs.HeldAnswers.{LineProperties, PlaceBehind, lead_at}
-use Rattle.yf_block.specs.InlineAnswers.{InlineRead, InlineLost}
+use Rattle.yf_block.specs.InlineAnswers.{InlineRead, InlineLost, KeyEnds}
 use Rattle.yf_block.specs.InlineTied.{AtStart}
 use Rattle.yf_block.specs.LastStarts.{NoStart}
 use Rattle.yf_block.specs.Looks.{LineEndsAt}
@@ -79,6 +79,17 @@ pub record AtInline (t : List ℕ) (d : ℕ) (root : BlockTask) (before : Part) 
   pub depth_is : depth ≡ length frames
   pub read : InlineRead t there.content.start.room (pos progress.wanted.least) b.at depth b.inner claim.lead earlier now node
   pub no_scalar : ScalarSignAt t b.at → ⊥
+
+-- it is the first key of a mapping at that column, with its `:` at the other place, and its collections may be open
+pub record AtFirstKey (t : List ℕ) (d : ℕ) (root : BlockTask) (before : Part) (frames : List Frame) (depth : ℕ) (b : Behind) (claim : Claim) (column colon : ℕ) (progress : Progress) (earlier now : Part) : Type 0 where
+  pub node : Node
+  pub inline : AtInline t d root before frames depth b claim node progress earlier now
+  pub column_is : b.spot.column ≡ Some column
+  pub whites : List ℕ
+  pub run : Many t is_white node.end colon whites
+  pub ends : KeyEnds t b.spot.at colon
+  pub within : node.deepest < d
+  pub open_there : depth < d
 
 -- what is known of a node is what stands ahead of it, if its text begins at the place
 pub record LeadTied (a : Ahead) (p : ℕ) (lead : Lead) : Type 0 where

@@ -1,5 +1,5 @@
 //! What a node has on one line: the sign of an entry, properties, a block scalar, or a flow node.
-ghost use Rattle.std.specs.Prelude.{◌≡◌, ◌+◌, ◌^◌, ◌<◌, ℕ, List, Some, IfOk, MatchBool, reverse};
+ghost use Rattle.std.specs.Prelude.{◌≡◌, ◌+◌, ◌^◌, ◌<◌, ℕ, List, Some, IfOk, MatchBool, MatchOption, reverse};
 ghost use Rattle.std.specs.List.{All};
 ghost use Rattle.std.specs.Str.{IsCharBoundary};
 ghost use Rattle.yf_flow.specs.Machine.{Place};
@@ -16,9 +16,9 @@ use crate::entry::open_mapping;
 use crate::frame::{Frame, Frames, Progress, Scope, Step, Wanted};
 use crate::halt::Counts;
 use crate::held::{
-    Held, joined, joined_behind, lead_of, line_properties, place_behind, property_stands,
+    Held, joined, joined_behind, lead_of, line_properties, place_behind,
 };
-use crate::inline::{finish_inline, read_inline};
+use crate::inline::{finish_inline, is_apart, read_inline};
 use crate::leaf::read_line_end;
 use crate::line::end_line;
 use crate::look::{line_ends, sign_stands};
@@ -88,22 +88,36 @@ pub(crate) fn take_content<'a>(
     ensures stepped { IfOk result (λ s. Stepped scope.entry.text.now (spot.at) 0 progress.new s) }
     ensures escapes { IfOk result (λ _. All (IsCharBoundary scope.entry.text.now) part.new.escapes) }
 {
-    if let Some(column) = spot.column {
-        if entry_sign_stands(scope.text, spot.at) {
-            return open_mapping(alloc, scope, spot.at, column, progress, frames, part);
-        }
+    match signed_column(scope.text, spot) {
+        Some(column) => open_mapping(alloc, scope, spot.at, column, progress, frames, part),
+        None => match line_properties(alloc, scope.text, spot.at)? {
+            Some(inner) => take_propertied(alloc, scope, inner, spot, progress, frames, part),
+            None => {
+                let behind = Behind {
+                    at: spot.at,
+                    inner: None,
+                    spot,
+                };
+                take_behind(alloc, scope, &behind, progress, frames, part)
+            }
+        },
     }
-    if property_stands(scope.text, spot.at) {
-        if let Some(inner) = line_properties(alloc, scope.text, spot.at)? {
-            return take_propertied(alloc, scope, inner, spot, progress, frames, part);
+}
+
+// The column of a mapping whose first entry begins there with its `?` or its `:`.
+fn signed_column(text: &str, spot: Spot) -> Option<usize>
+    ensures { MatchOption result ((m : ℕ) → spot.column ≡ Some m → EntrySignAt text.now (spot.at) → ⊥)
+        (λ m. (spot.column ≡ Some m) × EntrySignAt text.now (spot.at)) }
+{
+    match spot.column {
+        Some(column) => {
+            if entry_sign_stands(text, spot.at) {
+                return Some(column);
+            }
+            None
         }
+        None => None,
     }
-    let behind = Behind {
-        at: spot.at,
-        inner: None,
-        spot,
-    };
-    take_behind(alloc, scope, &behind, progress, frames, part)
 }
 
 // Whether an entry begins there with its `?` or its `:`.
@@ -209,19 +223,19 @@ fn take_behind<'a>(
     let claim = claim_of(scope.text, behind, &progress.wanted, part);
     let least = progress.wanted.least;
     if block_scalar_stands(scope.text, behind.at) {
-        return match claim.share {
-            Share::Apart => Ok(Step::Failed(behind.spot.at)),
-            Share::Nothing | Share::Joined => take_block_scalar(
-                alloc,
-                scope,
-                behind.at,
-                &claim.lead,
-                least,
-                progress,
-                frames,
-                part,
-            ),
-        };
+        if is_apart(claim.share) {
+            return Ok(Step::Failed(behind.spot.at));
+        }
+        return take_block_scalar(
+            alloc,
+            scope,
+            behind.at,
+            &claim.lead,
+            least,
+            progress,
+            frames,
+            part,
+        );
     }
     match read_inline(
         alloc,
