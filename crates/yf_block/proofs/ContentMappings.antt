@@ -1,13 +1,14 @@
 -- The first key of a mapping, once more: it is written behind the event that begins the mapping, which has the properties of lines before.
-use Rattle.std.proofs.Common.{◌≡◌, ℕ, ℤ, pos, ◌+ℤ◌, ◌+◌, ◌<◌, ◌≤◌, Bool, true, false, List, [], ◌∷◌, ◌++◌, length, take, Option, Some, None, refl, sym, ap, ◌∙◌, subst, arith, append_assoc}
-use Rattle.std.proofs.Math.Seq.{take-append_seam}
+use Rattle.std.proofs.Common.{◌≡◌, ℕ, zero, suc, ℤ, pos, ◌+ℤ◌, ◌+◌, ◌<◌, ◌≤◌, Bool, true, false, List, [], ◌∷◌, ◌++◌, length, take, drop, Option, Some, None, refl, sym, ap, ◌∙◌, subst, arith, append_assoc}
+use Rattle.std.proofs.Math.Seq.{take-append_seam, drop-append_seam}
+use Rattle.std.proofs.lemmas.List.{length-append}
 use Rattle.std.specs.Str.{IsUtf8}
 use Rattle.yf_chars.specs.declared.context.Ctx.TheVariants.{FlowOut}
 use Rattle.yf_chars.specs.Text.{code}
 use Rattle.yf_chars.specs.Class.{is_white}
 use Rattle.yf_chars.specs.Chain.{Many}
 use Rattle.yf_props.specs.Props.{props_value}
-use Rattle.yf_events.specs.Event.{Placed}
+use Rattle.yf_events.specs.Event.{Placed, with_entry}
 use Rattle.yf_events.specs.declared.event.Entry as TheEntry
 use Rattle.yf_events.specs.declared.event.Span.{Span}
 use Rattle.yf_events.specs.declared.part.Part.{Part}
@@ -185,3 +186,27 @@ module _ {t : List ℕ} {d : ℕ} {root : BlockTask} {before old : Part} {frames
       let within = a.within in
       let height : n.1.answer.height ≡ m.answer.height = ap (λ (f : Found). f.height) same in
       key_awaits start x.content.signless (x.content.column_is ∙ a.column_is) a.inline.depth_is m kb s (omega (arith, deep, within, height)) k.events k.comments k.escapes z y i fl c h
+
+-- an event becomes an entry, and another one is put before it
+entry_length : (xs : List Placed) (i : ℕ) (entry : TheEntry.Entry) → length (with_entry xs i entry) ≡ length xs
+entry_length [] i entry = refl
+entry_length (x ∷ xs) zero entry = refl
+entry_length (x ∷ xs) (suc i) entry = ap suc (entry_length xs i entry)
+
+pub entry_within : (xs : List Placed) (i : ℕ) (entry : TheEntry.Entry) → i < length xs → i ≤ length (with_entry xs i entry)
+entry_within xs i entry l = let e = entry_length xs i entry in omega (arith, e, l)
+
+entry_at_seam : (xs : List Placed) (x : Placed) (ys : List Placed) (entry : TheEntry.Entry) → with_entry (xs ++ x ∷ ys) (length xs) entry ≡ xs ++ record x { entry = Some entry } ∷ ys
+entry_at_seam [] x ys entry = refl
+entry_at_seam (y ∷ xs) x ys entry = ap (λ z. y ∷ z) (entry_at_seam xs x ys entry)
+
+pub put_there : {old : List Placed} {event : ℕ} (start : Placed) (entry : TheEntry.Entry) (xs : List Placed) (x : Placed) (ys : List Placed) → event ≡ length xs → old ≡ xs ++ x ∷ ys
+    → take event (with_entry old event entry) ++ start ∷ drop event (with_entry old event entry) ≡ xs ++ start ∷ record x { entry = Some entry } ∷ ys
+put_there {old} {event} start entry xs x ys e q =
+    let now = ap (λ z. with_entry z event entry) q ∙ ap (λ (k : ℕ). with_entry (xs ++ x ∷ ys) k entry) e ∙ entry_at_seam xs x ys entry in
+    let rest = record x { entry = Some entry } ∷ ys in
+    ap (λ z. take event z ++ start ∷ drop event z) now ∙ ap (λ (k : ℕ). take k (xs ++ rest) ++ start ∷ drop k (xs ++ rest)) e
+    ∙ ap (λ z. z ++ start ∷ drop (length xs) (xs ++ rest)) (take-append_seam xs rest) ∙ ap (λ z. xs ++ start ∷ z) (drop-append_seam xs rest)
+
+pub none_there : {old : List Placed} {event : ℕ} (xs : List Placed) (x : Placed) (ys : List Placed) → event ≡ length xs → old ≡ xs ++ x ∷ ys → length old ≤ event → ⊥
+none_there {old} xs x ys e q l = let n = ap (λ z. length z) q ∙ length-append xs (x ∷ ys) in omega (arith, n, e, l)

@@ -177,6 +177,9 @@ module _ {t : List ℕ} {d : ℕ} {root : BlockTask} {before old : Part} {frames
   chosen : Chosen (BlockScalar t a.scalar.indentation a.place) block.next (scalar_as a.place to.end a.head (body_value block))
   chosen = scalar_chosen utf8 (block_scalar a.header.derived a.lines.derived to.between)
 
+  pub scalar_outside : NotWithinBreak t block.next
+  scalar_outside = body_outside utf8 a.header.derived a.lines.derived
+
   scalar_halt : {new : Option ℕ} → NodeNoted t None block.next block.next frames progress.halt new
       → HaltNoted t a.scalar.room (asked a.scalar.layers) (Leaf a.scalar.indentation a.scalar.ahead a.place) progress.halt new
   scalar_halt n = go n refl where

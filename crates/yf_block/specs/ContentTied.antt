@@ -54,7 +54,6 @@ pub record EndsBehind (t : List ℕ) (g place : ℕ) : Type 0 where
   pub run : Many t is_white g place whites
   pub no_white : is_white (code t place) ≡ false
   pub comment : Bool
-  pub after_white : comment ≡ true → g < place
   pub ends : LineEndsAt t comment place
 
 pub record AtBehind (t : List ℕ) (d : ℕ) (root : BlockTask) (before : Part) (frames : List Frame) (b : Behind) (progress : Progress) (part : Part) : Type 0 where

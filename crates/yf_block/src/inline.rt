@@ -384,8 +384,10 @@ fn put_before<'a>(
 {
     if event < part.events.len() {
         part.events.set_entry(event, entry)?;
+        part.events.insert(event, start)?;
+        return Ok(());
     }
-    if event <= part.events.len() {
+    if event == part.events.len() {
         part.events.insert(event, start)?;
     }
     Ok(())

@@ -1,7 +1,8 @@
 //! Block scalars as nodes (YAML 1.2.2, section 8.1).
-ghost use Rattle.std.specs.Prelude.{◌≡◌, ℕ, ◌+◌, ◌^◌, ◌<◌, length, reverse, IfOk};
+ghost use Rattle.std.specs.Prelude.{◌≡◌, ℕ, ◌+◌, ◌^◌, ◌<◌, ◌++◌, length, reverse, IfOk};
 ghost use Rattle.std.specs.Str.{IsCharBoundary};
 ghost use Rattle.yf_lines.specs.Basic.{LineStart};
+ghost use Rattle.yf_comments.specs.Comment.{row_comments};
 ghost use Rattle.yf_events.specs.Event.{placed_value};
 ghost use Rattle.yf_grammar.specs.BlockParser.{BlockTask};
 ghost use Rattle.yf_grammar.specs.BlockScalar.{kept_lines as kept_of, reach as reach_of};
@@ -20,6 +21,7 @@ use yf_block_scalar::content::content;
 use yf_block_scalar::header::Chomp;
 use yf_block_scalar::header_reader::HeaderLine;
 use yf_block_scalar::lines::Lines;
+use yf_comments::comment::Comment;
 use yf_events::event::{NewEvent, PlacedEvent, ScalarStyle, Span};
 use yf_events::part::Part;
 use yf_events::slices::Slices;
@@ -54,9 +56,7 @@ pub(crate) fn take_block_scalar<'a>(
                 end,
             },
         ) => {
-            if let Some(comment) = comment {
-                part.comments.push(comment)?;
-            }
+            push_comment(comment, part)?;
             match read_lines(alloc, scope.text, end, least, header)? {
                 None => Ok(Step::Failed(end)),
                 Some(block) => take_body(
@@ -65,6 +65,19 @@ pub(crate) fn take_block_scalar<'a>(
             }
         }
     }
+}
+
+// Adds the comment after a header.
+fn push_comment<'a>(comment: Option<Comment<'a>>, part: &mut Part<'a>) -> Result<(), AllocError>
+    ensures events { IfOk result (λ _. part.new.events ≡ part.old.events) }
+    ensures comments { IfOk result (λ _. part.new.comments ≡ part.old.comments ++ row_comments comment.entry) }
+    ensures escapes { IfOk result (λ _. part.new.escapes ≡ part.old.escapes) }
+{
+    match comment {
+        Some(comment) => part.comments.push(comment)?,
+        None => {}
+    }
+    Ok(())
 }
 
 // Adds a block scalar whose lines have been read from an offset on.
@@ -153,10 +166,11 @@ fn kept_lines<'a>(
     ensures { IfOk result (λ s. s ≡ kept_of folded lines.now) }
 {
     let mut kept = Slices::new(alloc);
-    if folded {
-        for line in lines.as_slice() {
-            kept.push(line)?;
-        }
+    if !folded {
+        return Ok(kept);
+    }
+    for line in lines.as_slice() {
+        kept.push(line)?;
     }
     Ok(kept)
 }
