@@ -17,6 +17,18 @@ pub mod PrefixLemmas
 -- `read_block_node`: the stack and the recursive reader agree (`BlockTied`)
 pub mod TiedFrames
 pub mod TiedFits
+-- the steps on a line
+pub mod ContentNodes
+pub mod ContentFails
+pub mod ContentKeys
+pub mod ContentLeaves
+pub mod ContentLines
+pub mod ContentMappings
+pub mod ContentEnds
+pub mod LeafEnds
+pub mod ScalarLines
+pub mod TiedScalar
+pub mod ContentSteps
 -- for further theorems
 pub mod NotingLemmas
 pub mod HashNodes

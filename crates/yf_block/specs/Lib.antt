@@ -4,6 +4,7 @@ pub mod BlockTied
 pub mod ClaimsTied
 pub mod Closing
 pub mod ColumnsTied
+pub mod ContentTied
 pub mod Fits
 pub mod HeldAnswers
 pub mod InlineAnswers
@@ -17,4 +18,6 @@ pub mod Looks
 pub mod Machine
 pub mod NodeReaders
 pub mod NotedHalts
+pub mod ScalarTied
+pub mod ScratchSpec
 pub mod RootTied
