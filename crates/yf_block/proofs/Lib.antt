@@ -17,7 +17,9 @@ pub mod PrefixLemmas
 -- `read_block_node`: the stack and the recursive reader agree (`BlockTied`)
 pub mod TiedFrames
 pub mod TiedFits
+pub mod CountedSteps
 -- for further theorems
+pub mod NodesGiven
 pub mod NotingLemmas
 pub mod TiedClosing
 pub mod TiedColumns

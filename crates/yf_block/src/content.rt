@@ -82,6 +82,8 @@ pub(crate) fn take_content<'a>(
     requires escapes { All (IsCharBoundary scope.text.now) part.old.escapes }
     ensures stepped { IfOk result (λ s. Stepped scope.entry.text.now (spot.at) 0 progress.new s) }
     ensures escapes { IfOk result (λ _. All (IsCharBoundary scope.entry.text.now) part.new.escapes) }
+    ensures counted { IsUtf8 scope.entry.text.now → (total : ℕ) → length frames.old.items + openers_from scope.entry.text.now (spot.at) ≤ total
+        → IfOk result (λ s. StepCounted scope.entry.text.now scope.entry.limit total (length frames.new.items) s) }
 {
     if let Some(column) = spot.column {
         if entry_sign_stands(scope.text, spot.at) {
@@ -128,6 +130,8 @@ fn take_propertied<'a>(
     requires escapes { All (IsCharBoundary scope.text.now) part.old.escapes }
     ensures stepped { IfOk result (λ s. Stepped scope.entry.text.now (spot.at) 0 progress.new s) }
     ensures escapes { IfOk result (λ _. All (IsCharBoundary scope.entry.text.now) part.new.escapes) }
+    ensures counted { IsUtf8 scope.entry.text.now → (total : ℕ) → length frames.old.items + openers_from scope.entry.text.now (spot.at) ≤ total
+        → IfOk result (λ s. StepCounted scope.entry.text.now scope.entry.limit total (length frames.new.items) s) }
 {
     let place = skip_whites(scope.text, inner.end);
     if line_ends(scope.text, place, place > inner.end) {
@@ -168,6 +172,8 @@ fn take_behind<'a>(
     requires escapes { All (IsCharBoundary scope.text.now) part.old.escapes }
     ensures stepped { IfOk result (λ s. Stepped scope.entry.text.now (behind.now.spot.at) 0 progress.new s) }
     ensures escapes { IfOk result (λ _. All (IsCharBoundary scope.entry.text.now) part.new.escapes) }
+    ensures counted { IsUtf8 scope.entry.text.now → (total : ℕ) → length frames.old.items + openers_from scope.entry.text.now (behind.now.spot.at) ≤ total
+        → IfOk result (λ s. StepCounted scope.entry.text.now scope.entry.limit total (length frames.new.items) s) }
 {
     let claim = claim_of(scope.text, behind, &progress.wanted, part);
     let least = progress.wanted.least;

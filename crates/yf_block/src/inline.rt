@@ -47,6 +47,8 @@ pub(crate) fn read_inline<'a>(
         → IfOk result (λ e. InlineEnds scope.entry.text.now room (pos least) at depth inner.now lead.now part.old part.new e) }
     ensures escapes { IfOk result (λ _. All (IsCharBoundary scope.entry.text.now) part.new.escapes) }
     ensures found { IfOk result (λ e. EndingAt scope.entry.text.now (behind_held at inner.now) e) }
+    ensures counted { IsUtf8 scope.entry.text.now → (total : ℕ) → depth + openers_from scope.entry.text.now at ≤ total
+        → IfOk result (λ e. EndCounted scope.entry.text.now scope.entry.limit total e) }
 {
     match empty_key_end(scope.text, at, inner) {
         Some(end) => {
@@ -93,6 +95,8 @@ fn read_flow<'a>(
         → IfOk result (λ e. InlineEnds scope.entry.text.now room (pos least) at depth inner.now lead.now part.old part.new e) }
     ensures escapes { IfOk result (λ _. All (IsCharBoundary scope.entry.text.now) part.new.escapes) }
     ensures found { IfOk result (λ e. EndingAt scope.entry.text.now (behind_held at inner.now) e) }
+    ensures counted { IsUtf8 scope.entry.text.now → (total : ℕ) → depth + openers_from scope.entry.text.now at ≤ total
+        → IfOk result (λ e. EndCounted scope.entry.text.now scope.entry.limit total e) }
 {
     if stands(scope.text, at, b'*') {
         return match *inner {
@@ -121,6 +125,7 @@ fn read_alias<'a>(
     ensures answers { (room : ℕ) → (n : ℤ) → IfOk result (λ e. InlineEnds text.now room n at depth None lead.now part.old part.new e) }
     ensures escapes { IfOk result (λ _. part.new.escapes ≡ part.old.escapes) }
     ensures found { IfOk result (λ e. EndingAt text.now (at + 1) e) }
+    ensures counted { (limit : ℕ) → (total : ℕ) → depth + openers_from text.now at ≤ total → IfOk result (λ e. EndCounted text.now limit total e) }
 {
     match alias_node(text, at) {
         None => Ok(Ending::Nothing),
@@ -173,6 +178,8 @@ pub(crate) fn finish_inline<'a>(
     requires escapes { All (IsCharBoundary scope.text.now) part.old.escapes }
     ensures stepped { IfOk result (λ s. Stepped scope.entry.text.now (behind.now.spot.at) 0 progress.new s) }
     ensures escapes { IfOk result (λ _. All (IsCharBoundary scope.entry.text.now) part.new.escapes) }
+    ensures counted { IsUtf8 scope.entry.text.now → (total : ℕ) → node.deepest + openers_from scope.entry.text.now node.end ≤ total → length frames.old.items + openers_from scope.entry.text.now (behind.now.spot.at) ≤ total
+        → IfOk result (λ s. StepCounted scope.entry.text.now scope.entry.limit total (length frames.new.items) s) }
 {
     let text = scope.text;
     let spot = behind.spot;
@@ -224,6 +231,7 @@ fn end_inline<'a>(
     requires progress { ProgressAt text.now progress.old }
     ensures stepped { IfOk result (λ s. Stepped text.now at 1 progress.new s) }
     ensures escapes { IfOk result (λ _. part.new.escapes ≡ part.old.escapes) }
+    ensures counted { (limit : ℕ) → (total : ℕ) → (count : ℕ) → count + openers_from text.now at ≤ total → IfOk result (λ s. StepCounted text.now limit total count s) }
 {
     match read_line_end(alloc, text, at)? {
         Some(Separation { comments, end }) => {

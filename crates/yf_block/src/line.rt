@@ -38,6 +38,7 @@ pub(crate) fn first_line<'a>(
         → IfOk result (λ s. BlockTied text.now d root before frames s progress.new part.new) }
     ensures stepped { IfOk result (λ s. Stepped text.now at 2 progress.new s) }
     ensures escapes { IfOk result (λ _. part.new.escapes ≡ part.old.escapes) }
+    ensures counted { (limit : ℕ) → (total : ℕ) → (count : ℕ) → count + openers_from text.now at ≤ total → IfOk result (λ s. StepCounted text.now limit total count s) }
 {
     match end_line(alloc, text, at, progress, part)? {
         Step::Line(line) => {
@@ -63,6 +64,7 @@ pub(crate) fn end_line<'a>(
         → IfOk result (λ s. EndedTied text.now d root before frames at s progress.new part.new) }
     ensures stepped { IfOk result (λ s. Stepped text.now at 2 progress.new s) }
     ensures escapes { IfOk result (λ _. part.new.escapes ≡ part.old.escapes) }
+    ensures counted { (limit : ℕ) → (total : ℕ) → (count : ℕ) → count + openers_from text.now at ≤ total → IfOk result (λ s. StepCounted text.now limit total count s) }
 {
     match read_line_end(alloc, text, at)? {
         Some(Separation { comments, end }) => {
@@ -89,6 +91,8 @@ pub(crate) fn take_node<'a>(
     requires escapes { All (IsCharBoundary scope.text.now) part.old.escapes }
     ensures stepped { IfOk result (λ s. Stepped scope.entry.text.now at 2 progress.new s) }
     ensures escapes { IfOk result (λ _. All (IsCharBoundary scope.entry.text.now) part.new.escapes) }
+    ensures counted { IsUtf8 scope.entry.text.now → (total : ℕ) → length frames.old.items + openers_from scope.entry.text.now at ≤ total
+        → IfOk result (λ s. StepCounted scope.entry.text.now scope.entry.limit total (length frames.new.items) s) }
 {
     let text = scope.text;
     let place = skip_whites(text, at);
@@ -138,6 +142,8 @@ pub(crate) fn take_line<'a>(
     requires escapes { All (IsCharBoundary scope.text.now) part.old.escapes }
     ensures stepped { IfOk result (λ s. Stepped scope.entry.text.now at 1 progress.new s) }
     ensures escapes { IfOk result (λ _. All (IsCharBoundary scope.entry.text.now) part.new.escapes) }
+    ensures counted { IsUtf8 scope.entry.text.now → (total : ℕ) → length frames.old.items + openers_from scope.entry.text.now at ≤ total
+        → IfOk result (λ s. StepCounted scope.entry.text.now scope.entry.limit total (length frames.new.items) s) }
 {
     let text = scope.text;
     note_empty(text, at, progress, frames);
@@ -186,6 +192,8 @@ fn take_indented<'a>(
     requires escapes { All (IsCharBoundary scope.text.now) part.old.escapes }
     ensures stepped { IfOk result (λ s. Stepped scope.entry.text.now at 1 progress.new s) }
     ensures escapes { IfOk result (λ _. All (IsCharBoundary scope.entry.text.now) part.new.escapes) }
+    ensures counted { IsUtf8 scope.entry.text.now → (total : ℕ) → length frames.old.items + openers_from scope.entry.text.now at ≤ total
+        → IfOk result (λ s. StepCounted scope.entry.text.now scope.entry.limit total (length frames.new.items) s) }
 {
     let width = start - at;
     let indented = width >= progress.wanted.least;

@@ -36,6 +36,8 @@ pub(crate) fn take_block_scalar<'a>(
     requires progress { ProgressAt scope.text.now progress.old }
     ensures stepped { IfOk result (λ s. Stepped scope.entry.text.now at 0 progress.new s) }
     ensures escapes { IfOk result (λ _. part.new.escapes ≡ part.old.escapes) }
+    ensures counted { (limit : ℕ) → (total : ℕ) → (count : ℕ) → count + openers_from scope.entry.text.now at ≤ total
+        → IfOk result (λ s. StepCounted scope.entry.text.now limit total count s) }
 {
     match read_header(scope.text, at) {
         None => Ok(Step::Failed(at)),
@@ -75,6 +77,7 @@ fn take_body<'a>(
     requires progress { ProgressAt text.now progress.old }
     ensures stepped { IfOk result (λ s. Stepped text.now at 1 progress.new s) }
     ensures escapes { IfOk result (λ _. part.new.escapes ≡ part.old.escapes) }
+    ensures counted { (limit : ℕ) → (total : ℕ) → (count : ℕ) → count + openers_from text.now at ≤ total → IfOk result (λ s. StepCounted text.now limit total count s) }
 {
     let finish = skip_lines(text, at, reach(&block));
     let next = block.next;
