@@ -21,9 +21,15 @@ pub mod CountedSteps
 -- for further theorems
 pub mod NodesGiven
 pub mod NotingLemmas
+pub mod HashNodes
+pub mod LineHalts
+pub mod TiedAlone
 pub mod TiedClosing
 pub mod TiedColumns
 pub mod TiedEntries
+pub mod TiedFailed
+pub mod TiedIndented
+pub mod TiedInner
 pub mod TiedKeys
 pub mod TiedLeads
 pub mod TiedLines
@@ -32,4 +38,5 @@ pub mod TiedOpenings
 pub mod TiedReads
 pub mod TiedResume
 pub mod TiedResumed
+pub mod TiedRoot
 mod TiedShown

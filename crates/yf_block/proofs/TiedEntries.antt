@@ -26,6 +26,7 @@ use Rattle.yf_block.specs.Closing.{value_missing}
 use Rattle.yf_block.specs.BlockTied.{stage_entry, layers_entry, begins, stage_written, entry_at, begun_event, all_written, entries_written, ReadTied}
 use Rattle.yf_block.specs.BlockStepTied.{AtTop, AtEntry, AtFailed}
 use Rattle.yf_block.proofs.TiedClosing.{asks_mapping, stage_events, stage_comments, stage_escapes, noting_value, floor_value}
+use Rattle.yf_block.proofs.TiedFailed.{broken_fails}
 use Rattle.yf_block.proofs.TiedFits.{is_sequence_of, tied_deeper, tied_item, tied_pair}
 use Rattle.yf_block.proofs.TiedReads.{joined_lists, read_events}
 
@@ -62,7 +63,7 @@ module _ {t : List ℕ} {d : ℕ} {root : BlockTask} {before : Part} {at : ℕ} 
   pub top_breaks : DeepLine t at f → AtFailed t d root progress
   top_breaks l =
       let v = tied_deeper a.frame l in
-      record { halt = a.halt; halts = (deeper_breaks (entry_was_read a.node (λ e c. deep_no_colon v c)) v).halted; halted = a.stack.halted }
+      broken_fails (deeper_breaks (entry_was_read a.node (λ e c. deep_no_colon v c)) v) a.stack.halted
 
   -- the entry ends with its node, or with an empty value
   abbrev next_layer : Layer

@@ -42,6 +42,7 @@ use Rattle.yf_block.specs.KeyTexts.{KeyTextAt, text_bare, text_behind, text_nowh
 use Rattle.yf_block.specs.BlockTied.{entries_written, EntryTied, no_entry, entry_begins, wanted_after}
 use Rattle.yf_block.specs.BlockStepTied.{AtNode, AtEntry, AtFailed}
 use Rattle.yf_block.proofs.KeyNodes.{keyless_line, keyless_nowhere, keyless_behind, keyless_bare, key_before, keyless_unended}
+use Rattle.yf_block.proofs.TiedFailed.{broken_fails}
 use Rattle.yf_block.proofs.TiedFits.{is_mapping_of}
 use Rattle.yf_block.proofs.TiedLeads.{no_held, no_none, same_held, NodeThere, bare_there, held_there, node_added}
 use Rattle.yf_block.proofs.TiedNodes.{node_there, after_colon, coloned_read}
@@ -107,13 +108,9 @@ module _ {t : List ℕ} {d : ℕ} {root : BlockTask} {before old : Part} {frames
   pub key_breaks : Keyless t a.room (pos least) p → AtFailed t d root progress
   key_breaks s =
       let s' : Keyless t a.room (pos a.layer.column +ℤ pos 1) p = subst (λ n. Keyless t a.room n p) indent s in
-      record {
-        halt = a.halt;
-        halted = a.stack.halted;
-        halts = (entry_breaks entry
-            (subst (λ b. Whole t a.room (Item b a.layer.column Later p) None) (sym mapping) (no_key no_question no_colon s'))
-            (subst (λ b. Halts t a.room (asked a.layers) (Item b a.layer.column Later p) None) (sym mapping) (halts_no_key no_question no_colon s'))).halted;
-      }
+      broken_fails (entry_breaks entry
+      (subst (λ b. Whole t a.room (Item b a.layer.column Later p) None) (sym mapping) (no_key no_question no_colon s'))
+      (subst (λ b. Halts t a.room (asked a.layers) (Item b a.layer.column Later p) None) (sym mapping) (halts_no_key no_question no_colon s'))) a.stack.halted
 
   module _ {depth : ℕ} {entry_of : Option TheEntry.Entry} {mid : Part} {node : Node} (n : NodeThere t a.room (pos least) p depth entry_of old mid node) where
     -- it has no `:`

@@ -50,17 +50,17 @@ pub record WrittenAs (t : List ℕ) (entry : Option TheEntry.Entry) (x : Meaning
   pub added : Added old new (record first { entry = entry } ∷ noted_others) x.comments x.escapes
 
 -- the events of a meaning that begins an entry
-begins_events : (o : Option ℕ) (x : Meaning) {e : Placed} {es : List Placed} → x.events ≡ e ∷ es → (begins o x).events ≡ (begins o (record { events = e ∷ es; comments = []; escapes = []; finish = 0 })).events
+pub begins_events : (o : Option ℕ) (x : Meaning) {e : Placed} {es : List Placed} → x.events ≡ e ∷ es → (begins o x).events ≡ (begins o (record { events = e ∷ es; comments = []; escapes = []; finish = 0 })).events
 unfolding entering
 begins_events None x q = q
 begins_events (Some i) x q = ap (λ z. (entering i None (record { events = z; comments = []; escapes = []; finish = 0 })).events) q
 
-begins_comments : (o : Option ℕ) (x : Meaning) → (begins o x).comments ≡ x.comments
+pub begins_comments : (o : Option ℕ) (x : Meaning) → (begins o x).comments ≡ x.comments
 unfolding entering
 begins_comments None x = refl
 begins_comments (Some i) x = refl
 
-begins_escapes : (o : Option ℕ) (x : Meaning) → (begins o x).escapes ≡ x.escapes
+pub begins_escapes : (o : Option ℕ) (x : Meaning) → (begins o x).escapes ≡ x.escapes
 unfolding entering
 begins_escapes None x = refl
 begins_escapes (Some i) x = refl
@@ -70,7 +70,7 @@ entry_kept e q = ap (λ z. record e { entry = z }) (sym q)
 
 -- the floor is not moved by an event of a flow node, whether it begins an entry or not
 module _ {t : List ℕ} where
-  first_noted : {floor : ℕ} {o : Option ℕ} {entry : Option TheEntry.Entry} (e : Placed) (es fs : List Placed) → EntryTied t floor o entry → e.entry ≡ None → is_lined e.event ≡ false
+  pub first_noted : {floor : ℕ} {o : Option ℕ} {entry : Option TheEntry.Entry} (e : Placed) (es fs : List Placed) → EntryTied t floor o entry → e.entry ≡ None → is_lined e.event ≡ false
       → Noting t floor es fs → Noting t floor (begins o (record { events = e ∷ es; comments = []; escapes = []; finish = 0 })).events (record e { entry = entry } ∷ fs)
   unfolding entering
   first_noted {floor} e es fs no_entry q l n =
@@ -89,7 +89,7 @@ floor_others : {t : List ℕ} (floor : ℕ) {xs ys : List Placed} → Noted t 0 
 floor_others floor no_events = refl
 floor_others floor (event_before {e = e} {x = x} n r) = ap (λ z. floor_after z x) (floor_same floor e e.event n.no_lines) ∙ floor_others floor r
 
-first_floor : (floor : ℕ) (o : Option ℕ) (e : Placed) (es : List Placed) → is_lined e.event ≡ false
+pub first_floor : (floor : ℕ) (o : Option ℕ) (e : Placed) (es : List Placed) → is_lined e.event ≡ false
     → floor_after floor (begins o (record { events = e ∷ es; comments = []; escapes = []; finish = 0 })).events ≡ floor_after floor es
 unfolding entering
 first_floor floor None e es l = ap (λ z. floor_after z es) (floor_same floor e e.event l)

@@ -83,6 +83,9 @@ no_indicator e = cc
 no_layers : {l : Layer} {ls : List Layer} → l ∷ ls ≡ [] → ⊥
 no_layers e = cc
 
+same_indicator : {i j : ℕ} → Indicator i ≡ Indicator j → i ≡ j
+same_indicator e = cc
+
 -- a node is awaited in the innermost collection, whose frame is on the stack
 module _ {t : List ℕ} {d : ℕ} {root : BlockTask} {before part : Part} {old new : Progress} {e p : ℕ} {l : Layer} {ls : List Layer} {h : Option Found} where
   pub node_there : {frames stack : List Frame} {top : Frame} (b : Bool) (c : Ctx) (entry : Option TheEntry.Entry) → NodeAt t d root (l ∷ ls) e [] (Awaited b (pos l.column) c (Indicator p) p) h → AllWithin l.column ls
@@ -112,7 +115,7 @@ module _ {t : List ℕ} {d : ℕ} {root : BlockTask} {before part : Part} {old n
     shallow = λ v. let least : new.wanted.least ≡ l.column + 1 = ap (λ v. v.least) w in (omega (arith, least), omega (arith, least, s));
     inside = z.inside;
     past = g;
-    last = i;
+    last = λ j e. i ∙ same_indicator e;
     stack = record {
       order = one_deepens o k.order;
       frames_tied = subst (λ z. FramesTied (length before.events) z (l ∷ ls)) (sym q) (frame_tied u k.frames_tied);

@@ -31,6 +31,7 @@ use Rattle.yf_block.specs.HeldAnswers.{held_lead, lead_at}
 use Rattle.yf_block.specs.BlockTied.{kind_of, layers_entry, ahead_comments, ahead_props, ahead_start, ahead_tag, entry_at, begun_event, all_written, entries_written, ReadTied, FramesTied, no_frames, frame_tied, EntryTied, no_entry, entry_begins}
 use Rattle.yf_block.specs.BlockStepTied.{AheadTied, nothing_held, none_held, props_held, AtEntry, AtFailed}
 use Rattle.yf_block.specs.InlineTied.{AtStart, EntrySignAt, is_sequence, started}
+use Rattle.yf_block.proofs.TiedFailed.{broken_fails}
 use Rattle.yf_block.proofs.TiedReads.{count_read, read_events}
 
 pub frames_count : {m : ℕ} {fs : List Frame} {ls : List Layer} → FramesTied m fs ls → length fs ≡ length ls
@@ -164,10 +165,10 @@ module _ {t : List ℕ} {d : ℕ} {root : BlockTask} {before old : Part} {frames
     colon_opens q s = mapping_opens q (λ y. sign_no_dash y s.sign_stands (λ w. omega (arith, w))) (inr s) (λ e. by_colon s)
 
   pub sequence_full : {m : ℕ} → cols.sequence ≡ Some m → DashAt t p → d ≤ length frames → AtFailed t d root progress
-  sequence_full q y l = record { halt = a.halt; halts = (node_missing (full_node l) (sequence_too_deep q y) (halts_sequence_too_deep q y)).halted; halted = a.stack.halted }
+  sequence_full q y l = broken_fails (node_missing (full_node l) (sequence_too_deep q y) (halts_sequence_too_deep q y)) a.stack.halted
 
   mapping_full : {m : ℕ} → cols.mapping ≡ Some m → (DashAt t p → ⊥) → MappingAt t 0 a.indentation p → d ≤ length frames → AtFailed t d root progress
-  mapping_full q y b l = record { halt = a.halt; halts = (node_missing (full_node l) (mapping_too_deep y q b) (halts_mapping_too_deep y q b)).halted; halted = a.stack.halted }
+  mapping_full q y b l = broken_fails (node_missing (full_node l) (mapping_too_deep y q b) (halts_mapping_too_deep y q b)) a.stack.halted
 
   question_full : {m : ℕ} → cols.mapping ≡ Some m → SignAt t 63 p → d ≤ length frames → AtFailed t d root progress
   question_full q s = mapping_full q (λ y. sign_no_dash y s.sign_stands (λ w. omega (arith, w))) (by_question s)

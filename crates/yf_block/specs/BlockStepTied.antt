@@ -69,7 +69,7 @@ pub record AtNode (t : List ℕ) (d : ℕ) (root : BlockTask) (before : Part) (f
   pub shallow : progress.wanted.compact ≡ true → (0 < progress.wanted.least) × (progress.wanted.least ≤ p)
   pub inside : LineStart t p → ⊥
   pub past : progress.floor ≤ p
-  pub last : progress.last ≡ p
+  pub last : (i : ℕ) → ahead ≡ Indicator i → progress.last ≡ i
   pub stack : StackTied (length before.events) layers frames progress halt
   pub read : ReadTied t before (all_written layers ⊕ only (comments ++ ahead_comments ahead) 0) progress part
 
@@ -157,9 +157,14 @@ pub record AtDone (t : List ℕ) (d : ℕ) (root : BlockTask) (before : Part) (p
   pub halted : progress.halt ≡ halt_end halt
   pub written : Written t before answer.meaning part
 
--- the text goes wrong, or nothing is left to read but a comment that no break ends
+-- nothing is found, or what is found leaves something of the text: a comment that no break ends
+pub data Unfinished (t : List ℕ) (d : ℕ) (root : BlockTask) : Type 0 where
+  none_found : Whole t d root None → Unfinished t d root
+  text_left : {f : Found} → Whole t d root (Some f) → f.end < length t → Unfinished t d root
+
 pub record AtFailed (t : List ℕ) (d : ℕ) (root : BlockTask) (progress : Progress) : Type 0 where
   pub halt : Option Found
+  pub unfinished : Unfinished t d root
   pub halts : Halts t d [] root halt
   pub halted : progress.halt ≡ halt_end halt
 

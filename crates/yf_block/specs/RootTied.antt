@@ -16,3 +16,4 @@ pub record AtRoot (t : List ℕ) (n : ℤ) (c : Ctx) (at : ℕ) (progress : Prog
   pub last : progress.last ≡ at
   pub floor : progress.floor ≡ 0
   pub colons : progress.colons ≡ 0
+  pub halt : progress.halt ≡ None

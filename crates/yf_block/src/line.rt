@@ -1,10 +1,11 @@
 //! Nodes where they are awaited: after an indicator, or at the start of a line (s-l+block-node, production 196).
-ghost use Rattle.std.specs.Prelude.{◌≡◌, ◌≤◌, ℕ, IfOk, List};
+ghost use Rattle.std.specs.Prelude.{◌≡◌, ◌^◌, ◌<◌, ◌≤◌, ℕ, IfOk, List, reverse};
 ghost use Rattle.std.specs.List.{All};
 ghost use Rattle.std.specs.Str.{IsCharBoundary};
 ghost use Rattle.yf_flow.specs.Machine.{Place};
-ghost use Rattle.yf_block.specs.BlockStepTied.{BlockTied};
+ghost use Rattle.yf_block.specs.BlockStepTied.{AtNode, AtLine, BlockTied};
 ghost use Rattle.yf_block.specs.ColumnsTied.{CompactTied, SequenceTied};
+ghost use Rattle.yf_block.specs.LineStepTied.{AtEmpty, AtIndented};
 ghost use Rattle.yf_block.specs.LineTied.{AtBelow, EndedTied};
 ghost use Rattle.yf_block.specs.Machine.{Stepped, ProgressAt};
 ghost use Rattle.yf_grammar.specs.BlockParser.{BlockTask};
@@ -16,6 +17,7 @@ use crate::halt::note_empty;
 use crate::leaf::read_line_end;
 use crate::look::{dash_stands, line_ends, node_ends};
 use std::alloc::{AllocError, Global};
+use yf_chars::text::stands;
 use yf_comments::comments::Separation;
 use yf_events::event::ScalarStyle;
 use yf_events::part::Part;
@@ -89,6 +91,9 @@ pub(crate) fn take_node<'a>(
     requires boundary { IsCharBoundary scope.text.now at }
     requires progress { ProgressAt scope.text.now progress.old }
     requires escapes { All (IsCharBoundary scope.text.now) part.old.escapes }
+    ensures tied { (d : ℕ) → (root : BlockTask) → (before : Part) → d < 2 ^ 64 → d ≡ scope.entry.limit
+        → AtNode scope.entry.text.now d root before (reverse frames.old.items) at progress.old part.old
+        → IfOk result (λ s. BlockTied scope.entry.text.now d root before (reverse frames.new.items) s progress.new part.new) }
     ensures stepped { IfOk result (λ s. Stepped scope.entry.text.now at 2 progress.new s) }
     ensures escapes { IfOk result (λ _. All (IsCharBoundary scope.entry.text.now) part.new.escapes) }
     ensures counted { IsUtf8 scope.entry.text.now → (total : ℕ) → length frames.old.items + openers_from scope.entry.text.now at ≤ total
@@ -140,6 +145,9 @@ pub(crate) fn take_line<'a>(
     requires boundary { IsCharBoundary scope.text.now at }
     requires progress { ProgressAt scope.text.now progress.old }
     requires escapes { All (IsCharBoundary scope.text.now) part.old.escapes }
+    ensures tied { (d : ℕ) → (root : BlockTask) → (before : Part) → d < 2 ^ 64 → d ≡ scope.entry.limit
+        → AtLine scope.entry.text.now d root before (reverse frames.old.items) at progress.old part.old
+        → IfOk result (λ s. BlockTied scope.entry.text.now d root before (reverse frames.new.items) s progress.new part.new) }
     ensures stepped { IfOk result (λ s. Stepped scope.entry.text.now at 1 progress.new s) }
     ensures escapes { IfOk result (λ _. All (IsCharBoundary scope.entry.text.now) part.new.escapes) }
     ensures counted { IsUtf8 scope.entry.text.now → (total : ℕ) → length frames.old.items + openers_from scope.entry.text.now at ≤ total
@@ -148,7 +156,7 @@ pub(crate) fn take_line<'a>(
     let text = scope.text;
     note_empty(text, at, progress, frames);
     if node_ends(text, at) {
-        return end_empty(alloc, at, progress, part);
+        return end_empty(alloc, text, at, progress, frames, part);
     }
     let start = skip_spaces(text, at);
     let width = start - at;
@@ -190,6 +198,9 @@ fn take_indented<'a>(
     requires place { Place scope.text.now at start }
     requires progress { ProgressAt scope.text.now progress.old }
     requires escapes { All (IsCharBoundary scope.text.now) part.old.escapes }
+    ensures tied { (d : ℕ) → (root : BlockTask) → (before : Part) → d < 2 ^ 64 → d ≡ scope.entry.limit
+        → AtIndented scope.entry.text.now d root before (reverse frames.old.items) at start progress.old part.old
+        → IfOk result (λ s. BlockTied scope.entry.text.now d root before (reverse frames.new.items) s progress.new part.new) }
     ensures stepped { IfOk result (λ s. Stepped scope.entry.text.now at 1 progress.new s) }
     ensures escapes { IfOk result (λ _. All (IsCharBoundary scope.entry.text.now) part.new.escapes) }
     ensures counted { IsUtf8 scope.entry.text.now → (total : ℕ) → length frames.old.items + openers_from scope.entry.text.now at ≤ total
@@ -199,12 +210,15 @@ fn take_indented<'a>(
     let indented = width >= progress.wanted.least;
     if !indented {
         if !progress.first {
-            return end_empty(alloc, at, progress, part);
+            return end_empty(alloc, scope.text, at, progress, frames, part);
         }
     }
     let place = skip_whites(scope.text, start);
     if place == scope.text.len() {
-        return end_empty(alloc, at, progress, part);
+        return end_empty(alloc, scope.text, at, progress, frames, part);
+    }
+    if stands(scope.text, place, b'#') {
+        return Ok(Step::Failed(place));
     }
     let column = if indented && place == start {
         Some(width)
@@ -215,17 +229,20 @@ fn take_indented<'a>(
     take_content(alloc, scope, spot, progress, frames, part)
 }
 
-// The node that is awaited at a line is empty, or has its properties alone.
+// The node that is awaited at a line is empty, or has its properties alone. The outermost one may not be empty.
 fn end_empty<'a>(
     alloc: Global,
+    _text: &str,
     at: usize,
     progress: &mut Progress<'a>,
+    frames: &Frames,
     part: &mut Part<'a>,
 ) -> Result<Step, AllocError>
-    ensures floor { IfOk result (λ _. progress.new.floor ≡ progress.old.floor) }
-    ensures from { IfOk result (λ _. progress.new.from ≡ progress.old.from) }
-    ensures halt { IfOk result (λ _. progress.new.halt ≡ progress.old.halt) }
-    ensures step { IfOk result (λ s. s ≡ Step.Resume at) }
+    requires boundary { IsCharBoundary _text.now at }
+    requires progress { ProgressAt _text.now progress.old }
+    ensures tied { (d : ℕ) → (root : BlockTask) → (before : Part) → AtEmpty _text.now d root before (reverse frames.now.items) at progress.old part.old
+        → IfOk result (λ s. BlockTied _text.now d root before (reverse frames.now.items) s progress.new part.new) }
+    ensures stepped { IfOk result (λ s. Stepped _text.now at 1 progress.new s) }
     ensures escapes { IfOk result (λ _. part.new.escapes ≡ part.old.escapes) }
 {
     match progress.wanted.outer {
@@ -241,7 +258,12 @@ fn end_empty<'a>(
             )?;
             progress.last = held.end;
         }
-        None => part.events.push(empty_node(alloc, progress.wanted.entry))?,
+        None => {
+            if frames.len() == 0 {
+                return Ok(Step::Failed(at));
+            }
+            part.events.push(empty_node(alloc, progress.wanted.entry))?;
+        }
     }
     Ok(Step::Resume(at))
 }

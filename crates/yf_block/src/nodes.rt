@@ -1,7 +1,11 @@
 //! The reader of block nodes: one forward pass, with a stack of the open collections.
-ghost use Rattle.std.specs.Prelude.{◌≡◌, ◌<◌, ◌≤◌, [], true, IfOk, IfSome};
+ghost use Rattle.std.specs.Prelude.{◌≡◌, ℕ, ℤ, pos, ◌+ℤ◌, ◌^◌, ◌<◌, ◌≤◌, [], true, false, IfOk, IfSome};
 ghost use Rattle.std.specs.List.{All};
 ghost use Rattle.std.specs.Str.{IsCharBoundary};
+ghost use Rattle.yf_grammar.specs.BlockParser.{Nothing, Awaited};
+ghost use Rattle.yf_block.specs.BlockStepTied.{BlockTied, is_out};
+ghost use Rattle.yf_block.specs.BlockTied.{TextTied};
+ghost use Rattle.yf_block.specs.RootTied.{AtRoot};
 ghost use Rattle.yf_block.specs.Machine.{MayBoundary, ProgressAt, StoppedAt, StepReady, StopAt, OutcomeAt};
 
 use crate::frame::{Frames, Progress, Scope, Step, Wanted};
@@ -134,7 +138,8 @@ fn least_of(n: i32) -> usize
 
 // Nothing has been read yet of the text, which is read from an offset on.
 fn no_progress<'a>(_text: &str, at: usize, least: usize, out: bool) -> Progress<'a>
-    ensures { ProgressAt _text.now result }
+    ensures progress { ProgressAt _text.now result }
+    ensures root { (n : ℤ) → (c : Ctx) → TextTied _text.now → pos least ≡ n +ℤ pos 1 → least ≤ 2 ^ 30 → out ≡ is_out c → AtRoot _text.now n c at result }
 {
     Progress {
         last: at,
@@ -189,6 +194,8 @@ fn begin<'a>(
 ) -> Result<Step, AllocError>
     requires boundary { IsCharBoundary text.now at }
     requires progress { ProgressAt text.now progress.old }
+    ensures tied { (n : ℤ) → (c : Ctx) → (d : ℕ) → AtRoot text.now n c at progress.old
+        → IfOk result (λ s. BlockTied text.now d (Awaited false n c Nothing at) part.old [] s progress.new part.new) }
     ensures progress { IfOk result (λ _. ProgressAt text.now progress.new) }
     ensures ready { IfOk result (λ s. StepReady text.now at s) }
     ensures escapes { IfOk result (λ _. part.new.escapes ≡ part.old.escapes) }
