@@ -21,6 +21,7 @@ pub mod CountedSteps
 -- for further theorems
 pub mod NodesGiven
 pub mod NotingLemmas
+pub mod RunLemmas
 pub mod HashNodes
 pub mod LineHalts
 pub mod TiedAlone

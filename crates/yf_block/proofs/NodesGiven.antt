@@ -15,7 +15,7 @@ use Rattle.yf_grammar.specs.Halts.{Halts}
 use Rattle.yf_grammar.proofs.LawsHold.{whole_nodes_are_chosen, no_block_node_is_missed}
 use Rattle.yf_grammar.proofs.PrefixWhole.{prefix_is_whole, prefix_reads, prefix_reads_some, prefix_boundary, prefix_utf8, prefix_length}
 use Rattle.yf_grammar.proofs.SoundSteps.{Width}
-use Rattle.yf_grammar.proofs.WholeLast.{last_moves}
+use Rattle.yf_grammar.proofs.WholeLast.{whole_ends_last, last_moves, whole_moves}
 use Rattle.yf_flow.specs.Begun.{Added}
 use Rattle.yf_block.specs.declared.nodes.Stop.{Stop}
 use Rattle.yf_block.specs.declared.nodes.Stop.TheVariants.{Done, Failed, TooDeep}
@@ -23,7 +23,7 @@ use Rattle.yf_block.specs.declared.nodes.Stopped.{Stopped}
 use Rattle.yf_block.specs.BlockTied.{floor_after, Written, halt_end, TextTied}
 use Rattle.yf_block.specs.BlockStepTied.{Unfinished, none_found, text_left}
 use Rattle.yf_block.specs.NodeGiven.{NodeGiven}
-use Rattle.yf_block.specs.RunTied.{RunDone, RunBroken, StopGives, RunTied, ReadRoot}
+use Rattle.yf_block.specs.RunTied.{RunDone, RunBroken, StopGives, RunTied, HaltAt}
 
 -- notes change no floor
 floor_noted : {t : List ℕ} {floor f : ℕ} {x y : List Placed} → Noting t floor x y → floor_after f x ≡ floor_after f y
@@ -31,17 +31,14 @@ floor_noted no_event = refl
 floor_noted (without_entry q r) = floor_noted r
 floor_noted (with_entry entry q s r) = floor_noted r
 
+some_same : {x y : ℕ} → Some x ≡ Some y → x ≡ y
+some_same e = cc
+
 -- the last halt of a run, however it stopped
 pub record RunHalts (t : List ℕ) (d : ℕ) (root : BlockTask) (r : Stopped) : Type 0 where
   pub halt : Option Found
   pub halts : Halts t d [] root halt
   pub halted : r.halt ≡ halt_end halt
-
--- and where there is one
-pub record HaltAt (t : List ℕ) (d : ℕ) (root : BlockTask) (end : ℕ) : Type 0 where
-  pub found : Found
-  pub halts : Halts t d [] root (Some found)
-  pub ends : found.end ≡ end
 
 module _ {t : List ℕ} {d : ℕ} {root : BlockTask} {before part : Part} {r : Stopped} where
   halts_in : (s : Stop) → StopGives t d root before s r part → RunHalts t d root r
@@ -90,6 +87,30 @@ module _ {t : List ℕ} {d at : ℕ} {n : ℤ} {c : Ctx} (u : IsUtf8 t) (block :
 
   pub halt_moves : {end : ℕ} → HaltAt t d (Awaited false n c Nothing at) end → at < end
   halt_moves {end} h = subst (λ z. at < z) h.ends (last_moves u block wide h.halts)
+
+  -- a run that ended without the node's end went wrong
+  done_ends : {before part : Part} {p : ℕ} {r : Stopped} → RunDone t d (Awaited false n c Nothing at) before p r part → r.halt ≡ Some p
+  done_ends a = let l = whole_ends_last u block wide a.whole a.halts in a.halted ∙ ap (λ z. halt_end z) l.is ∙ ap (λ (z : ℕ). Some z) (l.end ∙ a.end)
+
+  pub run_unfinished : {before part : Part} {end : ℕ} {r : Stopped} → RunTied t d (Awaited false n c Nothing at) before r part → r.halt ≡ Some end → (r.stop ≡ Done end → ⊥)
+      → Unfinished t d (Awaited false n c Nothing at)
+  run_unfinished {before} {part} {end} {r} a e m = go r.stop a m where
+    go : (s : Stop) → StopGives t d (Awaited false n c Nothing at) before s r part → (s ≡ Done end → ⊥) → Unfinished t d (Awaited false n c Nothing at)
+    go (Done p) b m = absurd (m (ap (λ z. Done z) (some_same (sym (done_ends b) ∙ e))))
+    go (Failed p) b m = b.unfinished
+    go (TooDeep p) b m = b.unfinished
+
+  pub run_unended : {before part : Part} {r : Stopped} → RunTied t d (Awaited false n c Nothing at) before r part → ((end : ℕ) → r.halt ≡ Some end → end ≤ at)
+      → Unfinished t d (Awaited false n c Nothing at)
+  run_unended {before} {part} {r} a m = go r.stop a where
+    go : (s : Stop) → StopGives t d (Awaited false n c Nothing at) before s r part → Unfinished t d (Awaited false n c Nothing at)
+    go (Done p) b =
+        let l = m p (done_ends b) in
+        let k = whole_moves u block wide b.whole in
+        let e = b.end in
+        absurd (omega arith)
+    go (Failed p) b = b.unfinished
+    go (TooDeep p) b = b.unfinished
 
   -- a halt that no node has
   pub unmoved_given : {r : Stopped} → RunHalts t d (Awaited false n c Nothing at) r → ((end : ℕ) → r.halt ≡ Some end → end ≤ at) → Stuck (BlockNodePart t d n c at)
@@ -157,3 +178,20 @@ given_after {old = old} e f g x y z q = record {
   };
   floor_is = q.floor_is;
 }
+
+-- the same over a part that is cut back to nothing
+pub given_over : {t : List ℕ} {limit : ℕ} {n : ℤ} {c : Ctx} {at end floor : ℕ} {old start new : Part} → old.events ≡ start.events → old.comments ≡ start.comments → old.escapes ≡ start.escapes
+    → NodeGiven t limit n c at end floor old new → NodeGiven t limit n c at end floor start new
+given_over e f g q = record {
+  node = q.node;
+  chosen = q.chosen;
+  added = record {
+    events = q.added.events ∙ ap (λ w. w ++ q.node.events) e;
+    comments = q.added.comments ∙ ap (λ w. w ++ q.node.comments) f;
+    escapes = q.added.escapes ∙ ap (λ w. w ++ q.node.escapes) g;
+  };
+  floor_is = q.floor_is;
+}
+
+pub cut_to_nothing : {A : Type 0} (k : ℕ) (xs ys zs : List A) → k ≡ length ys → ys ≡ [] → zs ≡ take k xs → zs ≡ ys
+cut_to_nothing k xs ys zs e f g = g ∙ ap (λ (z : ℕ). take z xs) (e ∙ ap (λ z. length z) f) ∙ sym f

@@ -1,5 +1,5 @@
 -- What a run of the reader of block nodes gives, from its first step until it stops, in terms of the recursive reader.
-use Rattle.std.specs.Prelude.{◌≡◌, ℕ, ◌<◌, ◌≤◌, ◌^◌, ℤ, pos, ◌+ℤ◌, true, List, [], take, Option, Some}
+use Rattle.std.specs.Prelude.{◌≡◌, ℕ, ◌<◌, ◌≤◌, ◌^◌, ℤ, pos, ◌+ℤ◌, true, List, [], length, Option, Some}
 use Rattle.yf_chars.specs.declared.context.Ctx.{Ctx}
 use Rattle.yf_lines.specs.Basic.{is_block}
 use Rattle.yf_events.specs.declared.part.Part.{Part}
@@ -59,8 +59,14 @@ pub record ReadRoot (t : List ℕ) (root : Root) (n : ℤ) (c : Ctx) : Type 0 wh
   pub narrow : root.least ≤ 2 ^ 30
   pub out : root.out ≡ is_out c
 
--- so many lists of a part are those of an earlier one
-pub record CutTo (before : Counts) (start part : Part) : Type 0 where
-  pub events : take before.events part.events ≡ start.events
-  pub comments : take before.comments part.comments ≡ start.comments
-  pub escapes : take before.escapes part.escapes ≡ start.escapes
+-- how much a part has
+pub record CountsOf (before : Counts) (part : Part) : Type 0 where
+  pub events : before.events ≡ length part.events
+  pub comments : before.comments ≡ length part.comments
+  pub escapes : before.escapes ≡ length part.escapes
+
+-- the last place at which all open nodes may end
+pub record HaltAt (t : List ℕ) (d : ℕ) (root : BlockTask) (end : ℕ) : Type 0 where
+  pub found : Found
+  pub halts : Halts t d [] root (Some found)
+  pub ends : found.end ≡ end

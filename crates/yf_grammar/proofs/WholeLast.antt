@@ -1,5 +1,5 @@
 -- What the reader of whole nodes finds ends at its last halt, and a node that is found has a character.
-use Rattle.std.proofs.Common.{◌≡◌, ℕ, ◌<◌, ℤ, true, ⊎_elim, List, [], Option, Some, None, refl, arith}
+use Rattle.std.proofs.Common.{◌≡◌, ℕ, ◌<◌, ℤ, true, false, ⊎_elim, List, [], Option, Some, None, refl, arith}
 use Rattle.std.specs.Str.{IsUtf8}
 use Rattle.yf_chars.specs.declared.context.Ctx.{Ctx}
 use Rattle.yf_lines.specs.Basic.{is_block}
@@ -10,7 +10,7 @@ use Rattle.yf_grammar.specs.Halts.{none_open, Halts}
 use Rattle.yf_grammar.proofs.BlockHalts.{whole_halts}
 use Rattle.yf_grammar.proofs.BlockStarts.{block_starts}
 use Rattle.yf_grammar.proofs.BlockStatements.{longest_part, no_part, plain_is_whole}
-use Rattle.yf_grammar.proofs.DerivedNodes.{halt_is_node}
+use Rattle.yf_grammar.proofs.DerivedNodes.{whole_is_node, halt_is_node}
 use Rattle.yf_grammar.proofs.SoundSteps.{Width}
 
 -- the last halt is at the end of what was found
@@ -27,9 +27,9 @@ module _ {t : List ℕ} (u : IsUtf8 t) {e i : ℕ} {n : ℤ} {c : Ctx} (block : 
       let y = halt_is_node u block wide b in
       ⊎_elim
       (λ (l : f.end < g.end). ⊎_elim
-        (λ (m : g.end < f.end). absurd (omega arith))
-        (λ (m : (g.end ≡ f.end) × (g.meaning ≡ f.meaning)). let k = m.0 in omega arith)
-        (longest_part u y.derived y.within y.clear a))
+      (λ (m : g.end < f.end). absurd (omega arith))
+      (λ (m : (g.end ≡ f.end) × (g.meaning ≡ f.meaning)). let k = m.0 in omega arith)
+      (longest_part u y.derived y.within y.clear a))
       (λ (l : (f.end ≡ g.end) × (f.meaning ≡ g.meaning)). l.0)
       (longest_part u x.derived x.within x.clear b)
 
@@ -40,3 +40,6 @@ module _ {t : List ℕ} (u : IsUtf8 t) {e i : ℕ} {n : ℤ} {c : Ctx} (block : 
   -- a node that may end has a character
   pub last_moves : {f : Found} → Halts t e [] (Awaited false n c Nothing i) (Some f) → i < f.end
   last_moves r = block_starts (halt_is_node u block wide r).derived
+
+  pub whole_moves : {g : Found} → Whole t e (Awaited false n c Nothing i) (Some g) → i < g.end
+  whole_moves w = block_starts (whole_is_node u block wide w).derived
