@@ -1,11 +1,17 @@
 -- The openers that stand ahead while block collections are read.
-use Rattle.std.proofs.Common.{◌≡◌, ℕ, suc, ◌+◌, ◌<◌, ◌≤◌, List, inl, inr, arith}
+use Rattle.std.proofs.Common.{◌≡◌, ℕ, suc, ◌+◌, ◌<◌, ◌≤◌, List, [], ◌∷◌, ◌++◌, length, Option, Some, None, inl, inr, sym, ap, subst, arith}
+use Rattle.std.proofs.lemmas.List.{length-append}
 use Rattle.std.specs.Str.{IsUtf8}
 use Rattle.yf_grammar.specs.BlockParser.{DashAt, SignAt}
 use Rattle.yf_flow.specs.Counted.{openers_from}
 use Rattle.yf_flow.proofs.CountLemmas.{openers_later, dash_opens, question_opens, colon_opens}
-use Rattle.yf_block.specs.Counted.{EntryCounted}
+use Rattle.yf_block.specs.declared.frame.Frame.{Frame}
+use Rattle.yf_block.specs.declared.frame.Step.{Step}
+use Rattle.yf_block.specs.declared.frame.Step.TheVariants.{Node}
+use Rattle.yf_block.specs.declared.held.Held.{Held}
+use Rattle.yf_block.specs.Counted.{StepCounted, EntryCounted}
 use Rattle.yf_block.specs.InlineTied.{EntrySignAt}
+use Rattle.yf_block.specs.Machine.{HeldTo, HeldBefore, behind_held}
 
 module _ {t : List ℕ} (count total : ℕ) where
   -- further on
@@ -39,3 +45,23 @@ module _ {t : List ℕ} (count total : ℕ) where
 
   pub first_counted : (i : ℕ) → EntrySignAt t i → count + openers_from t i ≤ total → EntryCounted t total count i
   first_counted i s q = record { signed = λ _. q; keyed = λ n. absurd (n s) }
+-- the step that comes next
+module _ {t : List ℕ} {limit total p : ℕ} {s : Step} where
+  pub node_counted : {count : ℕ} → s ≡ Node p → count + openers_from t p ≤ total → StepCounted t limit total count s
+  node_counted {count} e q = subst (λ z. StepCounted t limit total count z) (sym e) q
+
+  pub pushed_counted : {new old : List Frame} {f : Frame} → s ≡ Node p → new ≡ old ++ f ∷ [] → length old + 1 + openers_from t p ≤ total → StepCounted t limit total (length new) s
+  pushed_counted {new} {old} {f} e k q = subst (λ z. StepCounted t limit total (length new) z) (sym e) (let n = length-append old (f ∷ []) in let m = ap (λ z. length z) k in omega arith)
+
+-- in a collection whose frame is on the stack
+pub within_counted : {t : List ℕ} {total i j : ℕ} {new old : List Frame} {f : Frame} → new ≡ old ++ f ∷ [] → j ≡ i → length old + 1 + openers_from t i ≤ total → length new + openers_from t j ≤ total
+within_counted {t} {total} {i} {j} {new} {old} {f} k e q = subst (λ (z : ℕ). length new + openers_from t z ≤ total) (sym e) (let n = length-append old (f ∷ []) in let m = ap (λ z. length z) k in omega arith)
+
+-- what stands behind properties stands after their start
+pub held_later : {t : List ℕ} {start at : ℕ} (inner : Option Held) → HeldTo t start at inner → start < behind_held at inner
+held_later None e = omega arith
+held_later (Some h) q = let l = q.0.order in omega arith
+
+pub held_below : {t : List ℕ} {start at : ℕ} (inner : Option Held) → HeldBefore t at inner → start < behind_held at inner → start ≤ at
+held_below None b l = omega arith
+held_below (Some h) b l = let k = b.1 in omega arith

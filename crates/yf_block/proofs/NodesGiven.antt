@@ -81,6 +81,9 @@ module _ {t : List ℕ} {d at : ℕ} {n : ℤ} {c : Ctx} (u : IsUtf8 t) (block :
         floor_is = a.floor ∙ floor_noted w.noting;
       }
 
+  pub whole_given : {before part : Part} {p : ℕ} {r : Stopped} → r.stop ≡ Done p → RunTied t d (Awaited false n c Nothing at) before r part → NodeGiven t d n c at p r.floor before part
+  whole_given {before} {part} {p} {r} e a = done_given (subst (λ z. StopGives t d (Awaited false n c Nothing at) before z r part) e a)
+
   -- no node may end anywhere
   pub none_given : Halts t d [] (Awaited false n c Nothing at) None → Stuck (BlockNodePart t d n c at)
   none_given h = no_block_node_is_missed t d at n c u h
@@ -153,16 +156,21 @@ module _ {t : List ℕ} {d at : ℕ} {n : ℤ} {c : Ctx} (u : IsUtf8 t) (block :
     stops_there (Failed p) a = absurd (unbroken_there a.unfinished)
     stops_there (TooDeep p) a = absurd (unbroken_there a.unfinished)
 
-  module _ {end : ℕ} (h : HaltAt t d (Awaited false n c Nothing at) end) where
-    pub prefix_text : length t ≤ 2 ^ 30 → TextTied (take end t)
-    prefix_text l = subst (λ z. TextTied (take z t)) h.ends (text_there h.halts l)
+  -- a text that is this prefix
+  module _ {end : ℕ} {s : List ℕ} (h : HaltAt t d (Awaited false n c Nothing at) end) (same : s ≡ take end t) where
+    pub prefix_text : length t ≤ 2 ^ 30 → TextTied s
+    prefix_text l = subst (λ z. TextTied z) (sym same) (subst (λ z. TextTied (take z t)) h.ends (text_there h.halts l))
 
     -- a run over it reads all of it
-    pub prefix_stops : {start read : Part} {run : Stopped} → RunTied (take end t) d (Awaited false n c Nothing at) start run read → run.stop ≡ Done end
-    prefix_stops {start} {read} {run} a = subst (λ z. StopGives (take z t) d (Awaited false n c Nothing at) start run.stop run read → run.stop ≡ Done z) h.ends (stops_there h.halts run.stop) a
+    pub prefix_stops : {start read : Part} {run : Stopped} → RunTied s d (Awaited false n c Nothing at) start run read → run.stop ≡ Done end
+    prefix_stops {start} {read} {run} a =
+        subst (λ z. StopGives (take z t) d (Awaited false n c Nothing at) start run.stop run read → run.stop ≡ Done z) h.ends (stops_there h.halts run.stop)
+        (subst (λ z. StopGives z d (Awaited false n c Nothing at) start run.stop run read) same a)
 
-    pub prefix_given : {start read : Part} {run : Stopped} → RunDone (take end t) d (Awaited false n c Nothing at) start end run read → NodeGiven t d n c at end run.floor start read
-    prefix_given {start} {read} {run} a = subst (λ z. RunDone (take z t) d (Awaited false n c Nothing at) start z run read → NodeGiven t d n c at z run.floor start read) h.ends (given_there h.halts) a
+    pub prefix_given : {start read : Part} {run : Stopped} → run.stop ≡ Done end → RunTied s d (Awaited false n c Nothing at) start run read → NodeGiven t d n c at end run.floor start read
+    prefix_given {start} {read} {run} e a =
+        subst (λ z. RunDone (take z t) d (Awaited false n c Nothing at) start z run read → NodeGiven t d n c at z run.floor start read) h.ends (given_there h.halts)
+        (subst (λ z. RunDone z d (Awaited false n c Nothing at) start end run read) same (subst (λ z. StopGives s d (Awaited false n c Nothing at) start z run read) e a))
 
 -- the same after another part
 pub given_after : {t : List ℕ} {limit : ℕ} {n : ℤ} {c : Ctx} {at end floor : ℕ} {start read old new : Part} → start.events ≡ [] → start.comments ≡ [] → start.escapes ≡ []

@@ -8,6 +8,8 @@ use Rattle.yf_grammar.specs.BlockParser.{BlockTask, Whole}
 use Rattle.yf_grammar.specs.Halts.{Halts}
 use Rattle.yf_block.specs.declared.frame.Progress.{Progress}
 use Rattle.yf_block.specs.declared.halt.Counts.{Counts}
+use Rattle.yf_block.specs.declared.nodes.Outcome.{Outcome}
+use Rattle.yf_block.specs.declared.nodes.Outcome.TheVariants.{Nothing as NoNode, TooDeep as TooDeepHere}
 use Rattle.yf_block.specs.declared.nodes.Root.{Root}
 use Rattle.yf_block.specs.declared.nodes.Stop.{Stop}
 use Rattle.yf_block.specs.declared.nodes.Stop.TheVariants.{Done, Failed, TooDeep}
@@ -24,6 +26,12 @@ abbrev pub StopCounted : ℕ → ℕ → Stop → Type 0
 StopCounted limit total (Done p) = Unit {0}
 StopCounted limit total (Failed p) = Unit {0}
 StopCounted limit total (TooDeep p) = limit < total
+
+-- what is told where no node ends
+abbrev pub StopsAs : Stop → Outcome → Type 0
+StopsAs (Done p) o = o ≡ NoNode p
+StopsAs (Failed p) o = o ≡ NoNode p
+StopsAs (TooDeep p) o = o ≡ TooDeepHere p
 
 -- the outermost node has been read, and ends there
 pub record RunDone (t : List ℕ) (d : ℕ) (root : BlockTask) (before : Part) (p : ℕ) (r : Stopped) (part : Part) : Type 0 where

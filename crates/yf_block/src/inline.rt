@@ -1,12 +1,14 @@
 //! What stands on a line after properties, or where there are none: a flow node or an alias, which may be the first key of
 //! a mapping.
-ghost use Rattle.std.specs.Prelude.{◌≡◌, ℕ, ℤ, ◌+◌, ◌^◌, ◌≤◌, ◌≤ℤ◌, pos, false, None, IfOk, IfSome, MatchOption};
+ghost use Rattle.std.specs.Prelude.{◌≡◌, ℕ, ℤ, ◌+◌, ◌^◌, ◌≤◌, ◌≤ℤ◌, pos, false, None, IfOk, IfSome, MatchOption, length};
 ghost use Rattle.std.specs.List.{All};
 ghost use Rattle.std.specs.Str.{IsCharBoundary, IsUtf8};
 ghost use Rattle.yf_chars.specs.Text.{code};
 ghost use Rattle.yf_flow.specs.Machine.{Place, EndingAt};
 ghost use Rattle.yf_block.specs.InlineAnswers.{EmptyKeyAt, InlineEnds, NoEmptyKey};
 ghost use Rattle.yf_block.specs.Machine.{Stepped, ProgressAt, HeldBefore, behind_held, MayBoundary};
+ghost use Rattle.yf_flow.specs.Counted.{EndCounted, openers_from};
+ghost use Rattle.yf_block.specs.Counted.{StepCounted};
 
 use crate::content::{Behind, Claim, Share};
 use crate::entry::{await_value, collection_start, entry_at};

@@ -1,7 +1,7 @@
 //! Nodes where they are awaited: after an indicator, or at the start of a line (s-l+block-node, production 196).
-ghost use Rattle.std.specs.Prelude.{◌≡◌, ◌^◌, ◌<◌, ◌≤◌, ℕ, IfOk, List, reverse};
+ghost use Rattle.std.specs.Prelude.{◌≡◌, ◌^◌, ◌<◌, ◌≤◌, ℕ, IfOk, List, reverse, ◌+◌, length};
 ghost use Rattle.std.specs.List.{All};
-ghost use Rattle.std.specs.Str.{IsCharBoundary};
+ghost use Rattle.std.specs.Str.{IsCharBoundary, IsUtf8};
 ghost use Rattle.yf_flow.specs.Machine.{Place};
 ghost use Rattle.yf_block.specs.BlockStepTied.{AtNode, AtLine, BlockTied};
 ghost use Rattle.yf_block.specs.ColumnsTied.{CompactTied, SequenceTied};
@@ -9,6 +9,8 @@ ghost use Rattle.yf_block.specs.LineStepTied.{AtEmpty, AtIndented};
 ghost use Rattle.yf_block.specs.LineTied.{AtBelow, EndedTied};
 ghost use Rattle.yf_block.specs.Machine.{Stepped, ProgressAt};
 ghost use Rattle.yf_grammar.specs.BlockParser.{BlockTask};
+ghost use Rattle.yf_flow.specs.Counted.{openers_from};
+ghost use Rattle.yf_block.specs.Counted.{StepCounted};
 
 use crate::content::{Spot, take_content};
 use crate::entry::open_sequence;

@@ -1,12 +1,17 @@
 //! The reader of block nodes: one forward pass, with a stack of the open collections.
-ghost use Rattle.std.specs.Prelude.{◌≡◌, ℕ, ℤ, pos, ◌+ℤ◌, ◌^◌, ◌<◌, ◌≤◌, [], true, false, IfOk, IfSome};
+ghost use Rattle.std.specs.Prelude.{◌≡◌, ℕ, ℤ, pos, ◌+ℤ◌, ◌^◌, ◌<◌, ◌≤◌, [], true, false, IfOk, IfSome, ◌+◌, length, MatchBool, MatchOption, Some, None};
 ghost use Rattle.std.specs.List.{All};
-ghost use Rattle.std.specs.Str.{IsCharBoundary};
-ghost use Rattle.yf_grammar.specs.BlockParser.{Nothing, Awaited};
+ghost use Rattle.std.specs.Str.{IsCharBoundary, IsUtf8};
+ghost use Rattle.yf_grammar.specs.BlockParser.{Nothing, Awaited, BlockTask};
 ghost use Rattle.yf_block.specs.BlockStepTied.{BlockTied, is_out};
 ghost use Rattle.yf_block.specs.BlockTied.{TextTied};
 ghost use Rattle.yf_block.specs.RootTied.{AtRoot};
 ghost use Rattle.yf_block.specs.Machine.{MayBoundary, ProgressAt, StoppedAt, StepReady, StopAt, OutcomeAt};
+ghost use Rattle.yf_lines.specs.Basic.{is_block};
+ghost use Rattle.yf_flow.specs.Counted.{openers_from};
+ghost use Rattle.yf_block.specs.Counted.{StepCounted};
+ghost use Rattle.yf_block.specs.NodeGiven.{Indentation, OutcomeTied, PrefixGiven};
+ghost use Rattle.yf_block.specs.RunTied.{CountsOf, HaltAt, ReadRoot, RunTied, StopCounted, StopTied, StopsAs};
 
 use crate::frame::{Frames, Progress, Scope, Step, Wanted};
 use crate::halt::Counts;
@@ -167,7 +172,7 @@ fn run_from<'a>(
 ) -> Result<Stopped, AllocError>
     requires boundary { IsCharBoundary scope.text.now root.at }
     requires escapes { All (IsCharBoundary scope.text.now) part.old.escapes }
-    ensures tied { (n : ℤ) → (c : Ctx) → ReadRoot scope.entry.text.now root n c
+    ensures tied { (n : ℤ) → (c : Ctx) → scope.entry.limit < 2 ^ 64 → ReadRoot scope.entry.text.now root n c
         → IfOk result (λ r. RunTied scope.entry.text.now scope.entry.limit (Awaited false n c Nothing root.at) part.old r part.new) }
     ensures stopped { IfOk result (λ r. StoppedAt scope.entry.text.now r) }
     ensures escapes { IfOk result (λ _. All (IsCharBoundary scope.entry.text.now) part.new.escapes) }
@@ -253,9 +258,9 @@ fn conclude<'a>(
     requires boundary { IsCharBoundary scope.text.now root.at }
     requires stopped { StoppedAt scope.text.now stopped }
     requires escapes { All (IsCharBoundary scope.text.now) part.old.escapes }
-    ensures tied { (n : ℤ) → (c : Ctx) → (start : Part) → ReadRoot scope.entry.text.now root n c
+    ensures tied { (n : ℤ) → (c : Ctx) → (start : Part) → scope.entry.limit < 2 ^ 64 → ReadRoot scope.entry.text.now root n c
         → RunTied scope.entry.text.now scope.entry.limit (Awaited false n c Nothing root.at) start stopped part.old
-        → StopCounted scope.entry.limit (openers_from scope.entry.text.now root.at) stopped.stop → before ≡ counts_of start
+        → StopCounted scope.entry.limit (openers_from scope.entry.text.now root.at) stopped.stop → CountsOf before start
         → IfOk result (λ o. OutcomeTied scope.entry.text.now scope.entry.limit n c root.at start o part.new) }
     ensures place { IfOk result (λ o. OutcomeAt scope.entry.text.now root.at o) }
     ensures escapes { IfOk result (λ _. All (IsCharBoundary scope.entry.text.now) part.new.escapes) }
@@ -287,11 +292,19 @@ fn conclude<'a>(
         }
         None => {
             before.cut(part);
-            match stopped.stop {
-                Stop::Done(_) | Stop::Failed(_) => Ok(Outcome::Nothing { reached }),
-                Stop::TooDeep(place) => Ok(Outcome::TooDeep(place)),
-            }
+            Ok(none_from(stopped.stop))
         }
+    }
+}
+
+// Where no node ends: the text goes wrong, or the limit is passed.
+fn none_from(stop: Stop) -> Outcome
+    ensures { StopsAs stop result }
+{
+    match stop {
+        Stop::Done(reached) => Outcome::Nothing { reached },
+        Stop::Failed(reached) => Outcome::Nothing { reached },
+        Stop::TooDeep(place) => Outcome::TooDeep(place),
     }
 }
 
@@ -333,7 +346,7 @@ fn read_prefix<'a>(
     requires end { IsCharBoundary scope.text.now end }
     requires order { root.at ≤ end }
     requires escapes { All (IsCharBoundary scope.text.now) part.old.escapes }
-    ensures tied { (n : ℤ) → (c : Ctx) → ReadRoot scope.entry.text.now root n c
+    ensures tied { (n : ℤ) → (c : Ctx) → scope.entry.limit < 2 ^ 64 → ReadRoot scope.entry.text.now root n c
         → HaltAt scope.entry.text.now scope.entry.limit (Awaited false n c Nothing root.at) end
         → IfOk result (λ o. PrefixGiven scope.entry.text.now scope.entry.limit n c root.at end part.old o part.new) }
     ensures floor { IfOk result (λ o. MayBoundary scope.entry.text.now o) }

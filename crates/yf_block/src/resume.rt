@@ -1,7 +1,7 @@
 //! After a node, at the start of a line: the next entry of an open collection, or the end of collections.
-ghost use Rattle.std.specs.Prelude.{◌≡◌, ℕ, ◌-◌, ◌^◌, ◌<◌, ◌++◌, IfOk, IfSome, MatchOption, reverse};
+ghost use Rattle.std.specs.Prelude.{◌≡◌, ℕ, ◌-◌, ◌^◌, ◌<◌, ◌++◌, IfOk, IfSome, MatchOption, reverse, ◌+◌, ◌≤◌, length};
 ghost use Rattle.std.specs.List.{All};
-ghost use Rattle.std.specs.Str.{IsCharBoundary};
+ghost use Rattle.std.specs.Str.{IsCharBoundary, IsUtf8};
 ghost use Rattle.yf_events.specs.Edit.{edited, ended};
 ghost use Rattle.yf_grammar.specs.BlockParser.{BlockTask};
 ghost use Rattle.yf_block.specs.BlockStepTied.{AtResume, AtDone, AtFit, AtTop, BlockTied};
@@ -9,6 +9,8 @@ ghost use Rattle.yf_block.specs.BlockTied.{colons_if};
 ghost use Rattle.yf_block.specs.Closing.{closing};
 ghost use Rattle.yf_block.specs.Fits.{FitsLine, PairLine, PlaceTied};
 ghost use Rattle.yf_block.specs.Machine.{Stepped, ProgressAt, MayPlace, FitsAt};
+ghost use Rattle.yf_flow.specs.Counted.{openers_from};
+ghost use Rattle.yf_block.specs.Counted.{StepCounted};
 
 use crate::entry::{take_entry, take_explicit_value, take_item};
 use crate::frame::{Frame, Frames, Kind, Progress, Scope, Step};

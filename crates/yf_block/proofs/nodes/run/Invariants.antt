@@ -13,9 +13,9 @@ invariant-steps l = record {
   progress : ProgressAt l.scope.text.now l.progress;
   ready : StepReady l.scope.text.now 0 l.step;
   escapes : All (IsCharBoundary l.scope.text.now) l.part.escapes;
-  tied : (d : ℕ) (root : BlockTask) (before : Part) → d < 2 ^ 64 → d ≡ l.scope.limit → BlockTied l.scope.text.now d root before [] l.first l.initial.progress l.initial.part
+  tied : (d : ℕ) (root : BlockTask) (before : Part) → d < 2 ^ 64 → d ≡ l.scope.limit → BlockTied l.scope.text.now d root before [] l.fn.first l.initial.progress l.initial.part
       → BlockTied l.scope.text.now d root before (reverse l.frames.items) l.step l.progress l.part;
-  counted : IsUtf8 l.scope.text.now → (total : ℕ) → StepCounted l.scope.text.now l.scope.limit total 0 l.first
+  counted : IsUtf8 l.scope.text.now → (total : ℕ) → StepCounted l.scope.text.now l.scope.limit total 0 l.fn.first
       → StepCounted l.scope.text.now l.scope.limit total (length l.frames.items) l.step;
 }
 
