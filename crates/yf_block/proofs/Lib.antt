@@ -18,6 +18,18 @@ pub mod PrefixLemmas
 pub mod TiedFrames
 pub mod TiedFits
 pub mod CountedSteps
+-- the steps on a line
+pub mod ContentNodes
+pub mod ContentFails
+pub mod ContentKeys
+pub mod ContentLeaves
+pub mod ContentLines
+pub mod ContentMappings
+pub mod ContentEnds
+pub mod LeafEnds
+pub mod ScalarLines
+pub mod TiedScalar
+pub mod ContentSteps
 -- for further theorems
 pub mod NodesGiven
 pub mod NotingLemmas

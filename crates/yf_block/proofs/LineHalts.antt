@@ -40,16 +40,16 @@ use Rattle.yf_block.proofs.TiedFrames.{allowed_there, refused_there}
 
 -- where a line's end, or the end of the text, is passed, no break is parted
 module _ {t : List ℕ} where
-  break_outside : {i j : ℕ} → Break t i j → NotWithinBreak t j
+  pub break_outside : {i j : ℕ} → Break t i j → NotWithinBreak t j
   break_outside (cr_lf {i = i} a b) = record { apart = λ x y. let same : i + 2 - 1 ≡ i + 1 = omega arith in let z = sym (ap (code t) same) ∙ y in omega (arith, b, z) }
   break_outside (lone_cr a b) = record { apart = λ x y. b x }
   break_outside (lone_lf {i = i} a b) = record { apart = λ x y. let same : i + 1 - 1 ≡ i = omega arith in let z = sym (ap (code t) same) ∙ y in omega (arith, a, z) }
 
-  ended_outside : {i j : ℕ} → BreakOrEnd t i j → NotWithinBreak t j
+  pub ended_outside : {i j : ℕ} → BreakOrEnd t i j → NotWithinBreak t j
   ended_outside (by_break b) = break_outside b
   ended_outside (by_end {i = i} e) = record { apart = λ x y. let z = code-past t i (omega (arith, e)) in omega (arith, x, z) }
 
-  rest_outside : {i j : ℕ} {x : List CommentValue} → LineRest t i j x → NotWithinBreak t j
+  pub rest_outside : {i j : ℕ} {x : List CommentValue} → LineRest t i j x → NotWithinBreak t j
   rest_outside (nothing e) = ended_outside e
   rest_outside (whites s e) = ended_outside e
   rest_outside (comment s d e) = ended_outside e
@@ -110,7 +110,7 @@ rounds_end (l ∷ ls) f = rounds_end ls (collection_made l (entry_made l.stage f
 
 -- the last line of those that begin from a place on
 module _ {t : List ℕ} {i k p : ℕ} where
-  last_line_of : LastStart t i k p → LastLine t i k p
+  pub last_line_of : LastStart t i k p → LastLine t i k p
   last_line_of l = record {
     from = l.begins;
     ends = l.ended;
@@ -122,7 +122,7 @@ module _ {t : List ℕ} {i k p : ℕ} where
         (cases_lt h k);
   }
 
-no_last_line : {t : List ℕ} {i k : ℕ} → NoStart t i k → (j : ℕ) → LastLine t i k j → ⊥
+pub no_last_line : {t : List ℕ} {i k : ℕ} → NoStart t i k → (j : ℕ) → LastLine t i k j → ⊥
 no_last_line n j l = n l.from j l.first l.ends l.inside
 
 -- where all may end, up to a line's end from i on at k

@@ -63,7 +63,7 @@ some_of t p (Some g) m h q = subst (λ z. LineProperties t p z) (same_held q) m
 
 -- where none are read on the line, none are read over lines
 module _ {t : List ℕ} {p : ℕ} (s : Stuck (Properties t (pos 0) FlowKey p)) where
-  none_spread : {n : ℤ} → Stuck (Properties t n FlowOut p)
+  pub none_spread : {n : ℤ} → Stuck (Properties t n FlowOut p)
   none_spread {n} = record { none = λ g q d. go (spread FlowOut refl d) } where
     go : {g : ℕ} {q : PropertiesValue} → Spread t n p g q → ⊥
     go {g} {q} (on_one_line d) = s.none g q d

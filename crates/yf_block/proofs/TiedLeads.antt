@@ -79,13 +79,13 @@ module _ {t : List ℕ} where
       let first : Placed = record e { entry = Some (record { start = i; colon = None; blank_before = false }) } in
       with_entry {e = first} (record { start = i; colon = None; blank_before = false }) refl s (subst (λ z. Noting t z es fs) (sym (floor_same floor first e.event l)) n)
 
-rest_from : {i : ℕ} {e : Placed} {es zs : List Placed} → EntriesFrom i zs → zs ≡ e ∷ es → EntriesFrom i es
+pub rest_from : {i : ℕ} {e : Placed} {es zs : List Placed} → EntriesFrom i zs → zs ≡ e ∷ es → EntriesFrom i es
 rest_from {i} {e} {es} f q = go (subst (λ z. EntriesFrom i z) q f) where
   go : EntriesFrom i (e ∷ es) → EntriesFrom i es
   go (one_from g r) = r
 
 -- events of flow nodes move no floor
-floor_others : {t : List ℕ} (floor : ℕ) {xs ys : List Placed} → Noted t 0 xs ys → floor_after floor xs ≡ floor
+pub floor_others : {t : List ℕ} (floor : ℕ) {xs ys : List Placed} → Noted t 0 xs ys → floor_after floor xs ≡ floor
 floor_others floor no_events = refl
 floor_others floor (event_before {e = e} {x = x} n r) = ap (λ z. floor_after z x) (floor_same floor e e.event n.no_lines) ∙ floor_others floor r
 
@@ -130,12 +130,12 @@ module _ {t : List ℕ} {before : Part} {w : Meaning} {progress : Progress} {old
       read_added (begins o x) noting still a.added (begins_comments o x) (begins_escapes o x)
 
 -- the event of a node before which so much is known
-abbrev known_event : Lead → EventValue → ℕ → Placed
+abbrev pub known_event : Lead → EventValue → ℕ → Placed
 known_event lead event j = lead_event (record lead { entry = None }) (event_with (props_value lead.props) event) j
 
 module _ {t : List ℕ} {lead : Lead} {x : Meaning} {end : ℕ} {old new : Part} where
   -- what was written with what is known is the meaning y, if its first event is
-  written_as : {span : Option Span} (w : WrittenWith t lead x span end old new) (y : Meaning) → y.events ≡ known_event lead w.event end ∷ w.others → y.comments ≡ x.comments → y.escapes ≡ x.escapes
+  pub written_as : {span : Option Span} (w : WrittenWith t lead x span end old new) (y : Meaning) → y.events ≡ known_event lead w.event end ∷ w.others → y.comments ≡ x.comments → y.escapes ≡ x.escapes
       → WrittenAs t lead.entry y old new
   written_as w y e c b = record {
     first = known_event lead w.event end;
@@ -210,7 +210,7 @@ some_none : {f : Found} → Some f ≡ None → ⊥
 some_none e = cc
 
 -- where properties are not derived none begins content
-bare_content : {t : List ℕ} {e p : ℕ} {n : ℤ} {o : Option Found} {f : Found} → ContentAt t e n FlowOut p o → o ≡ Some f → begins_properties (code t p) ≡ false
+pub bare_content : {t : List ℕ} {e p : ℕ} {n : ℤ} {o : Option Found} {f : Found} → ContentAt t e n FlowOut p o → o ≡ Some f → begins_properties (code t p) ≡ false
 bare_content {t} {p = p} (content_there b z) q = ⊎_elim (λ (y : begins_properties (code t p) ≡ true). absurd (content_no_properties (code t p) b y)) (λ (y : begins_properties (code t p) ≡ false). y) (cases_Bool (begins_properties (code t p)))
 bare_content {t} {p = p} (plain_there b z) q = ⊎_elim (λ (y : begins_properties (code t p) ≡ true). absurd (plain_no_properties (code t p) (plain_begins z.derived.text) y)) (λ (y : begins_properties (code t p) ≡ false). y)
     (cases_Bool (begins_properties (code t p)))

@@ -83,7 +83,7 @@ module _ {t : List ℕ} {d : ℕ} {root : BlockTask} {before old : Part} {frames
   written_events w e = ap (λ z. z ++ e ∷ []) (append-nil w) ∙ sym (append-nil (w ++ e ∷ []))
 
   -- what has been written then
-  opened_read : (s : Bool) (m : ℕ) {new : Part} → new.events ≡ old.events ++ started (kind_of s) p progress.wanted ∷ [] → new.comments ≡ old.comments → new.escapes ≡ old.escapes
+  pub opened_read : (s : Bool) (m : ℕ) {new : Part} → new.events ≡ old.events ++ started (kind_of s) p progress.wanted ∷ [] → new.comments ≡ old.comments → new.escapes ≡ old.escapes
       → ReadTied t before (entries_written (new_layer s m a.ahead a.comments p) a.layers) progress new
   unfolding ◌⊕◌ noting only
   opened_read s m x y z =
@@ -95,7 +95,7 @@ module _ {t : List ℕ} {d : ℕ} {root : BlockTask} {before old : Part} {frames
       (written_events w.events e) (sym (append-nil ((w.comments ++ (a.comments ++ ahead_comments a.ahead)) ++ []) ∙ append-nil (w.comments ++ (a.comments ++ ahead_comments a.ahead))))
       (sym (append-nil (w.escapes ++ [])))
 
-  opened_count : length old.events ≡ length before.events + length (all_written a.layers).events
+  pub opened_count : length old.events ≡ length before.events + length (all_written a.layers).events
   unfolding ◌⊕◌ only
   opened_count = count_read a.read ∙ ap (λ z. length before.events + length z) (append-nil (all_written a.layers).events)
 
@@ -129,7 +129,7 @@ module _ {t : List ℕ} {d : ℕ} {root : BlockTask} {before old : Part} {frames
   sign_no_feed g q = ⊎_elim (λ (s : SignAt t 63 p). let w = s.sign_stands in omega (arith, w, q)) (λ (s : SignAt t 58 p). let w = s.sign_stands in omega (arith, w, q)) g
 
   -- how many collections may be opened
-  room_there : length frames + a.room ≡ d
+  pub room_there : length frames + a.room ≡ d
   room_there = let n = frames_count a.stack.frames_tied in let r = room_left a.node.around in omega (arith, n, r)
 
   opened_node : length frames < d → NodeAt t d root a.layers (suc (a.room - 1)) a.comments (Inline a.indentation a.context cols a.ahead p) a.halt

@@ -5,6 +5,7 @@ pub mod ClaimsTied
 pub mod Closing
 pub mod ColumnsTied
 pub mod Counted
+pub mod ContentTied
 pub mod Fits
 pub mod HeldAnswers
 pub mod InlineAnswers
@@ -19,5 +20,7 @@ pub mod Machine
 pub mod NodeGiven
 pub mod NodeReaders
 pub mod NotedHalts
+pub mod ScalarTied
+pub mod ScratchSpec
 pub mod RootTied
 pub mod RunTied

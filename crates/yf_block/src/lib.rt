@@ -15,3 +15,4 @@ pub mod look;
 pub mod nodes;
 pub(crate) mod resume;
 pub(crate) mod scalar;
+mod scratch;
