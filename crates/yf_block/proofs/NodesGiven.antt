@@ -1,5 +1,5 @@
 -- What the reader of block nodes answers, from what a run of it gives.
-use Rattle.std.proofs.Common.{◌≡◌, ℕ, ◌+◌, ◌<◌, ◌≤◌, ◌^◌, ℤ, pos, ◌+ℤ◌, ◌≤ℤ◌, true, false, List, [], ◌++◌, length, take, Option, Some, None, refl, sym, ap, ◌∙◌, subst, arith}
+use Rattle.std.proofs.Common.{◌≡◌, ℕ, ◌+◌, ◌<◌, ◌≤◌, ◌^◌, ℤ, pos, ◌+ℤ◌, ◌≤ℤ◌, true, false, List, [], ◌++◌, length, take, Option, Some, None, refl, sym, ap, ◌∙◌, subst, true≢false, arith}
 use Rattle.std.proofs.lemmas.Int.{ints}
 use Rattle.std.specs.Str.{IsCharBoundary, IsUtf8}
 use Rattle.yf_chars.specs.declared.context.Ctx.{Ctx}
@@ -10,19 +10,20 @@ use Rattle.yf_events.specs.declared.part.Part.{Part}
 use Rattle.yf_grammar.specs.Laws.{Fills}
 use Rattle.yf_grammar.specs.Parser.{Found, found}
 use Rattle.yf_grammar.specs.Part.{Noting, no_event, without_entry, with_entry, floor_behind, BlockNodePart}
-use Rattle.yf_grammar.specs.BlockParser.{Nothing, BlockTask, Awaited, Whole}
+use Rattle.yf_grammar.specs.BlockParser.{text_ends, Nothing, BlockTask, Awaited, Whole}
 use Rattle.yf_grammar.specs.Halts.{Halts}
 use Rattle.yf_grammar.proofs.LawsHold.{whole_nodes_are_chosen, no_block_node_is_missed}
 use Rattle.yf_grammar.proofs.PrefixWhole.{prefix_is_whole, prefix_reads, prefix_reads_some, prefix_boundary, prefix_utf8, prefix_length}
 use Rattle.yf_grammar.proofs.SoundSteps.{Width}
 use Rattle.yf_grammar.proofs.WholeLast.{whole_ends_last, last_moves, whole_moves}
 use Rattle.yf_flow.specs.Begun.{Added}
+use Rattle.yf_block.specs.declared.nodes.Found.{Found as FoundNode}
 use Rattle.yf_block.specs.declared.nodes.Stop.{Stop}
 use Rattle.yf_block.specs.declared.nodes.Stop.TheVariants.{Done, Failed, TooDeep}
 use Rattle.yf_block.specs.declared.nodes.Stopped.{Stopped}
 use Rattle.yf_block.specs.BlockTied.{floor_after, Written, halt_end, TextTied}
-use Rattle.yf_block.specs.BlockStepTied.{Unfinished, none_found, text_left}
-use Rattle.yf_block.specs.NodeGiven.{NodeGiven}
+use Rattle.yf_block.specs.BlockStepTied.{Unfinished, none_found, line_left}
+use Rattle.yf_block.specs.NodeGiven.{NodeGiven, FoundTied}
 use Rattle.yf_block.specs.RunTied.{RunDone, RunBroken, StopGives, RunTied, HaltAt}
 
 -- notes change no floor
@@ -149,7 +150,7 @@ module _ {t : List ℕ} {d at : ℕ} {n : ℤ} {c : Ctx} (u : IsUtf8 t) (block :
 
     unbroken_there : Unfinished (take f.end t) d (Awaited false n c Nothing at) → ⊥
     unbroken_there (none_found w) = prefix_reads_some u block wide r w
-    unbroken_there (text_left w l) = let e = whole_there w in let k = prefix_length u block wide r in omega arith
+    unbroken_there (line_left w l s) = l (text_ends (whole_there w ∙ sym (prefix_length u block wide r)))
 
     stops_there : {start read : Part} {run : Stopped} (s : Stop) → StopGives (take f.end t) d (Awaited false n c Nothing at) start s run read → s ≡ Done f.end
     stops_there (Done p) a = ap (λ z. Done z) (sym a.end ∙ whole_there a.whole)
@@ -203,3 +204,13 @@ given_over e f g q = record {
 
 pub cut_to_nothing : {A : Type 0} (k : ℕ) (xs ys zs : List A) → k ≡ length ys → ys ≡ [] → zs ≡ take k xs → zs ≡ ys
 cut_to_nothing k xs ys zs e f g = g ∙ ap (λ (z : ℕ). take z xs) (e ∙ ap (λ z. length z) f) ∙ sym f
+
+-- what the reader answers where it found a node, and the prefix up to it was read again
+pub found_again : {t : List ℕ} {d at : ℕ} {n : ℤ} {c : Ctx} {start cut part : Part} {f : FoundNode} → f.whole ≡ false → Unfinished t d (Awaited false n c Nothing at)
+    → (start.events ≡ [] → cut.events ≡ start.events) → (start.comments ≡ [] → cut.comments ≡ start.comments) → (start.escapes ≡ [] → cut.escapes ≡ start.escapes)
+    → NodeGiven t d n c at f.end f.floor cut part → FoundTied t d n c at start f part
+found_again e z a b g q = record {
+  whole = λ w. absurd (true≢false (sym w ∙ e));
+  broken = λ w. z;
+  alone = λ x y w. given_over (a x) (b y) (g w) q;
+}

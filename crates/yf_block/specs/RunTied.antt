@@ -1,5 +1,5 @@
 -- What a run of the reader of block nodes gives, from its first step until it stops, in terms of the recursive reader.
-use Rattle.std.specs.Prelude.{◌≡◌, ℕ, ◌<◌, ◌≤◌, ◌^◌, ℤ, pos, ◌+ℤ◌, true, List, [], length, Option, Some}
+use Rattle.std.specs.Prelude.{◌≡◌, ℕ, ◌<◌, ◌≤◌, ◌^◌, ℤ, pos, ◌+ℤ◌, true, List, [], Option, Some}
 use Rattle.yf_chars.specs.declared.context.Ctx.{Ctx}
 use Rattle.yf_lines.specs.Basic.{is_block}
 use Rattle.yf_events.specs.declared.part.Part.{Part}
@@ -7,7 +7,6 @@ use Rattle.yf_grammar.specs.Parser.{Found}
 use Rattle.yf_grammar.specs.BlockParser.{BlockTask, Whole}
 use Rattle.yf_grammar.specs.Halts.{Halts}
 use Rattle.yf_block.specs.declared.frame.Progress.{Progress}
-use Rattle.yf_block.specs.declared.halt.Counts.{Counts}
 use Rattle.yf_block.specs.declared.nodes.Outcome.{Outcome}
 use Rattle.yf_block.specs.declared.nodes.Outcome.TheVariants.{Nothing as NoNode, TooDeep as TooDeepHere}
 use Rattle.yf_block.specs.declared.nodes.Root.{Root}
@@ -66,12 +65,6 @@ pub record ReadRoot (t : List ℕ) (root : Root) (n : ℤ) (c : Ctx) : Type 0 wh
   pub least : pos root.least ≡ n +ℤ pos 1
   pub narrow : root.least ≤ 2 ^ 30
   pub out : root.out ≡ is_out c
-
--- how much a part has
-pub record CountsOf (before : Counts) (part : Part) : Type 0 where
-  pub events : before.events ≡ length part.events
-  pub comments : before.comments ≡ length part.comments
-  pub escapes : before.escapes ≡ length part.escapes
 
 -- the last place at which all open nodes may end
 pub record HaltAt (t : List ℕ) (d : ℕ) (root : BlockTask) (end : ℕ) : Type 0 where

@@ -11,7 +11,8 @@ ghost use Rattle.yf_lines.specs.Basic.{is_block};
 ghost use Rattle.yf_flow.specs.Counted.{openers_from};
 ghost use Rattle.yf_block.specs.Counted.{StepCounted};
 ghost use Rattle.yf_block.specs.NodeGiven.{Indentation, OutcomeTied, PrefixGiven};
-ghost use Rattle.yf_block.specs.RunTied.{CountsOf, HaltAt, ReadRoot, RunTied, StopCounted, StopTied, StopsAs};
+ghost use Rattle.yf_block.specs.ContentTied.{CountsOf};
+ghost use Rattle.yf_block.specs.RunTied.{HaltAt, ReadRoot, RunTied, StopCounted, StopTied, StopsAs};
 
 use crate::frame::{Frames, Progress, Scope, Step, Wanted};
 use crate::halt::Counts;
@@ -260,7 +261,7 @@ fn conclude<'a>(
     requires escapes { All (IsCharBoundary scope.text.now) part.old.escapes }
     ensures tied { (n : ℤ) → (c : Ctx) → (start : Part) → scope.entry.limit < 2 ^ 64 → ReadRoot scope.entry.text.now root n c
         → RunTied scope.entry.text.now scope.entry.limit (Awaited false n c Nothing root.at) start stopped part.old
-        → StopCounted scope.entry.limit (openers_from scope.entry.text.now root.at) stopped.stop → CountsOf before start
+        → StopCounted scope.entry.limit (openers_from scope.entry.text.now root.at) stopped.stop → CountsOf start before
         → IfOk result (λ o. OutcomeTied scope.entry.text.now scope.entry.limit n c root.at start o part.new) }
     ensures place { IfOk result (λ o. OutcomeAt scope.entry.text.now root.at o) }
     ensures escapes { IfOk result (λ _. All (IsCharBoundary scope.entry.text.now) part.new.escapes) }
