@@ -1,8 +1,11 @@
 //! The readers of block nodes over a text with its lines.
-ghost use Rattle.std.specs.Prelude.{◌≡◌, ◌+◌, [], IfOk, IfSome, MatchResult};
+ghost use Rattle.std.specs.Prelude.{◌≡◌, ◌+◌, [], IfOk, IfSome, MatchResult, true, false, ◌^◌, ◌≤◌, length, Ok, None};
 ghost use Rattle.std.specs.Str.{IsCharBoundary};
 ghost use Rattle.yf_lines.specs.FaultPlaces.{IsFirstPlace};
 ghost use Rattle.yf_flow.specs.Machine.{Place, IsReadFault, IsScanFault};
+ghost use Rattle.yf_lines.specs.Basic.{is_block};
+ghost use Rattle.yf_block.specs.NodeGiven.{Indentation};
+ghost use Rattle.yf_block.specs.NodeReaders.{ReadsBlockNode, ScansBlockNode};
 
 use crate::nodes::{Found, Outcome, block_node_in};
 use std::alloc::{AllocError, Global};
@@ -36,6 +39,8 @@ pub fn read_block_node<'a>(
     requires { IsCharBoundary src.now.text at }
     ensures place { MatchResult result (λ o. IfSome o (λ p. Place src.now.text (at + 1) p.end)) (IsReadFault src.now.text) }
     ensures escapes { IfOk result (λ o. IfSome o (λ p. p.part.escapes ≡ [])) }
+    ensures reads { is_block ctx ≡ true → Indentation n → length src.now.text ≤ 2 ^ 30 → ReadsBlockNode src.now.text n ctx at result }
+    ensures other { is_block ctx ≡ false → result ≡ Ok None }
 {
     match scan_block_node(alloc, src, at, n, ctx) {
         Ok(None) => Ok(None),
@@ -76,6 +81,8 @@ pub fn scan_block_node<'a>(
     requires { IsCharBoundary src.now.text at }
     ensures place { MatchResult result (λ o. IfSome o (λ p. Place src.now.text (at + 1) p.end)) (IsScanFault src.now.text) }
     ensures escapes { IfOk result (λ o. IfSome o (λ p. IsFirstPlace src.now.text p.part.escapes p.escape)) }
+    ensures reads { is_block ctx ≡ true → Indentation n → length src.now.text ≤ 2 ^ 30 → ScansBlockNode src.now.text n ctx at result }
+    ensures other { is_block ctx ≡ false → result ≡ Ok None }
 {
     let mut part = new_part(alloc);
     match block_node_in(alloc, src.text(), at, n, ctx, DEPTH, &mut part) {
@@ -85,6 +92,7 @@ pub fn scan_block_node<'a>(
                     end,
                     reached: _,
                     floor: _,
+                    whole: _,
                 },
             ),
         ) => {
@@ -100,7 +108,9 @@ pub fn scan_block_node<'a>(
 }
 
 fn new_part<'a>(alloc: Global) -> Part<'a>
-    ensures { result.escapes ≡ [] }
+    ensures events { result.events ≡ [] }
+    ensures comments { result.comments ≡ [] }
+    ensures escapes { result.escapes ≡ [] }
 {
     Part {
         events: Events::new(alloc),

@@ -1,7 +1,7 @@
 //! What a node has on one line: the sign of an entry, properties, a block scalar, or a flow node.
-ghost use Rattle.std.specs.Prelude.{◌≡◌, ◌+◌, ◌^◌, ◌<◌, ℕ, List, Some, IfOk, MatchBool, MatchOption, reverse};
+ghost use Rattle.std.specs.Prelude.{◌≡◌, ◌+◌, Some, IfOk, MatchBool, ◌⊎◌, ℕ, ◌≤◌, length, ◌^◌, ◌<◌, List, MatchOption, reverse};
 ghost use Rattle.std.specs.List.{All};
-ghost use Rattle.std.specs.Str.{IsCharBoundary};
+ghost use Rattle.std.specs.Str.{IsCharBoundary, IsUtf8};
 ghost use Rattle.yf_flow.specs.Machine.{Place};
 ghost use Rattle.yf_grammar.specs.BlockParser.{Ahead, BlockTask, Columns, DashAt};
 ghost use Rattle.yf_block.specs.declared.held.Held.{Held as HeldProperties};
@@ -11,6 +11,8 @@ ghost use Rattle.yf_block.specs.ContentTied.{AtBehind, AtContent, CountsOf, Ends
 ghost use Rattle.yf_block.specs.HeldAnswers.{Holds, LineProperties, held_lead, lead_at};
 ghost use Rattle.yf_block.specs.InlineTied.{AtStart, EntrySignAt};
 ghost use Rattle.yf_block.specs.Machine.{Stepped, ProgressAt, HeldTo};
+ghost use Rattle.yf_flow.specs.Counted.{openers_from};
+ghost use Rattle.yf_block.specs.Counted.{StepCounted};
 
 use crate::entry::open_mapping;
 use crate::frame::{Frame, Frames, Progress, Scope, Step, Wanted};
@@ -87,6 +89,8 @@ pub(crate) fn take_content<'a>(
         → IfOk result (λ s. BlockTied scope.entry.text.now d root before (reverse frames.new.items) s progress.new part.new) }
     ensures stepped { IfOk result (λ s. Stepped scope.entry.text.now (spot.at) 0 progress.new s) }
     ensures escapes { IfOk result (λ _. All (IsCharBoundary scope.entry.text.now) part.new.escapes) }
+    ensures counted { IsUtf8 scope.entry.text.now → (total : ℕ) → length frames.old.items + openers_from scope.entry.text.now (spot.at) ≤ total
+        → IfOk result (λ s. StepCounted scope.entry.text.now scope.entry.limit total (length frames.new.items) s) }
 {
     match signed_column(scope.text, spot) {
         Some(column) => open_mapping(alloc, scope, spot.at, column, progress, frames, part),
@@ -150,6 +154,8 @@ fn take_propertied<'a>(
         → IfOk result (λ s. BlockTied scope.entry.text.now d root before (reverse frames.new.items) s progress.new part.new) }
     ensures stepped { IfOk result (λ s. Stepped scope.entry.text.now (spot.at) 0 progress.new s) }
     ensures escapes { IfOk result (λ _. All (IsCharBoundary scope.entry.text.now) part.new.escapes) }
+    ensures counted { IsUtf8 scope.entry.text.now → (total : ℕ) → length frames.old.items + openers_from scope.entry.text.now (spot.at) ≤ total
+        → IfOk result (λ s. StepCounted scope.entry.text.now scope.entry.limit total (length frames.new.items) s) }
 {
     let place = skip_whites(scope.text, inner.end);
     if line_ends(scope.text, place, place > inner.end) {
@@ -219,6 +225,8 @@ fn take_behind<'a>(
         → IfOk result (λ s. BlockTied scope.entry.text.now d root before (reverse frames.new.items) s progress.new part.new) }
     ensures stepped { IfOk result (λ s. Stepped scope.entry.text.now (behind.now.spot.at) 0 progress.new s) }
     ensures escapes { IfOk result (λ _. All (IsCharBoundary scope.entry.text.now) part.new.escapes) }
+    ensures counted { IsUtf8 scope.entry.text.now → (total : ℕ) → length frames.old.items + openers_from scope.entry.text.now (behind.now.spot.at) ≤ total
+        → IfOk result (λ s. StepCounted scope.entry.text.now scope.entry.limit total (length frames.new.items) s) }
 {
     let claim = claim_of(scope.text, behind, &progress.wanted, part);
     let least = progress.wanted.least;
