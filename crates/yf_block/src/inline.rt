@@ -285,12 +285,7 @@ fn take_first_key<'a>(
     ensures escapes { IfOk result (λ _. All (IsCharBoundary scope.entry.text.now) part.new.escapes) }
 {
     let frame = Frame::new(Kind::Mapping, column, claim.before.events);
-    let entry = entry_at(
-        scope.text,
-        progress.floor,
-        behind.spot.at,
-        Some(colon),
-    );
+    let entry = entry_at(scope.text, progress.floor, behind.spot.at, Some(colon));
     begin_mapping(
         alloc,
         scope,
