@@ -1,5 +1,5 @@
 -- The last place of a line's end, with comment lines, at which all open nodes may end, as it is noted; and the line that begins there.
-use Rattle.std.proofs.Common.{◌≡◌, ℕ, suc, ◌+◌, ◌-◌, ◌<◌, ◌≤◌, Bool, true, false, ⊎_elim, List, [], ◌∷◌, length, Option, Some, None, refl, sym, ap, ◌∙◌, subst, arith}
+use Rattle.std.proofs.Common.{◌≡◌, ℕ, suc, ◌+◌, ◌-◌, ◌<◌, ◌≤◌, Bool, true, false, ⊎_elim, List, [], ◌∷◌, length, Option, Some, None, refl, sym, ap, ◌∙◌, subst, arith, true≢false}
 use Rattle.std.proofs.lemmas.Bool.{cases_lt}
 use Rattle.std.specs.Str.{IsUtf8}
 use Rattle.yf_chars.specs.Text.{code, next, no_char}
@@ -23,7 +23,7 @@ use Rattle.yf_comments.proofs.RowLemmas.{row_functional}
 use Rattle.yf_grammar.specs.Grammar.{ColonLine}
 use Rattle.yf_grammar.specs.Halts.{Allowed, MayEnd}
 use Rattle.yf_grammar.specs.Parser.{Found}
-use Rattle.yf_grammar.specs.BlockStack.{Layer, asks, rounds, asked, column_if}
+use Rattle.yf_grammar.specs.BlockStack.{Layer, asks, entry_made, collection_made, rounds, asked, column_if}
 use Rattle.yf_grammar.specs.BlockStates.{Deepening}
 use Rattle.yf_grammar.proofs.BlockHalts.{may_end_chosen}
 use Rattle.yf_grammar.proofs.BlockResume.{entry_end}
@@ -93,7 +93,7 @@ module _ {t : List ℕ} where
 -- the columns that are counted
 counted_if : (b : Bool) (w : ℕ) (ws : List ℕ) → length (column_if b w ws) ≡ 0 → (b ≡ true → ⊥) × (length ws ≡ 0)
 counted_if true w ws e = absurd (omega (arith, e))
-counted_if false w ws e = (λ q. cc, e)
+counted_if false w ws e = ((λ q. true≢false (sym q)), e)
 
 awaits_counted : {n m : ℕ} {fs : List Frame} {ls : List Layer} → FramesTied n fs ls → length (asked ls) ≡ 0 → AwaitsAt m fs → ⊥
 awaits_counted no_frames e a = elim a [ ]
@@ -106,7 +106,7 @@ colons_counted s = λ e m a. awaits_counted s.frames_tied (sym s.colons ∙ e) a
 -- a node and what is made of it end at one place
 pub rounds_end : (ls : List Layer) (f : Found) → (rounds ls f).end ≡ f.end
 rounds_end [] f = refl
-rounds_end (l ∷ ls) f = rounds_end ls _ ∙ entry_end l.stage f
+rounds_end (l ∷ ls) f = rounds_end ls (collection_made l (entry_made l.stage f)) ∙ entry_end l.stage f
 
 -- the last line of those that begin from a place on
 module _ {t : List ℕ} {i k p : ℕ} where

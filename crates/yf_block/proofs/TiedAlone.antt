@@ -1,10 +1,11 @@
 -- At the start of a line a node is awaited: where what stands ahead of it may be alone, as it is noted, and what is read where it is.
-use Rattle.std.proofs.Common.{◌≡◌, ℕ, ℤ, ◌+◌, ◌<◌, ◌≤◌, false, List, [], ◌∷◌, ◌++◌, length, Option, Some, None, refl, sym, ap, ◌∙◌, subst, arith, append-nil}
+use Rattle.std.proofs.Common.{◌≡◌, ℕ, ℤ, ◌+◌, ◌<◌, ◌≤◌, false, List, [], ◌∷◌, ◌++◌, length, Option, Some, None, refl, sym, ap, ◌∙◌, subst, arith, append-nil, reverse}
+use Rattle.std.proofs.lemmas.List.{length-reverse}
 use Rattle.yf_chars.specs.declared.context.Ctx.{Ctx}
 use Rattle.yf_chars.specs.Chain.{Stuck, Chosen}
 use Rattle.yf_lines.specs.Basic.{LineStart}
 use Rattle.yf_comments.specs.Comment.{CommentValue}
-use Rattle.yf_comments.specs.Comments.{LineEnd}
+use Rattle.yf_comments.specs.Comments.{LineEnd, Row}
 use Rattle.yf_comments.proofs.LineOrder.{line_end_forward}
 use Rattle.yf_props.specs.Props.{no_props, props_value}
 use Rattle.yf_events.specs.Event.{Placed, scalar_node}
@@ -15,7 +16,7 @@ use Rattle.yf_grammar.specs.Meaning.{Meaning, ◌⊕◌, behind, noting, plain_e
 use Rattle.yf_grammar.specs.Part.{Noting}
 use Rattle.yf_grammar.specs.Part.Noting.{no_event}
 use Rattle.yf_grammar.specs.Parser.{Found, found, only}
-use Rattle.yf_grammar.specs.BlockParser.{Ahead, Nothing, Indicator, Props, Held as HeldValue, NoNode, LineText, headed, alone, BlockTask, Below, Whole}
+use Rattle.yf_grammar.specs.BlockParser.{Ahead, Nothing, Indicator, Props, Held as HeldValue, LinesEnd, NoNode, LineText, headed, alone, BlockTask, Below, Whole}
 use Rattle.yf_grammar.specs.BlockParser.Whole.{below_alone}
 use Rattle.yf_grammar.specs.Halts.{Alone, alone_to, alone_nowhere, MayEnd, none_open, Halts}
 use Rattle.yf_grammar.specs.Halts.Halts.{halts_alone}
@@ -35,8 +36,8 @@ use Rattle.yf_block.specs.LineStepTied.{halt_with, AtAlone, AtEmpty}
 use Rattle.yf_block.specs.Looks.{NotWithinBreak}
 use Rattle.yf_block.specs.NotedHalts.{ColonsCounted, IsOutermost, EmptyNoted, empty_noted, empty_before, empty_nowhere}
 use Rattle.yf_block.specs.BlockTied.{floor_after, layers_entry, begins, ahead_comments, all_written, ReadTied, FramesTied, no_frames, frame_tied, halt_end, EntryTied}
-use Rattle.yf_block.specs.BlockStepTied.{HeldTied, AheadTied, nothing_held, none_held, props_held, AtLine, AtResume, text_left, AtFailed}
-use Rattle.yf_block.proofs.LineHalts.{outside_end, colons_counted, rounds_end, may_end_at, may_end_before, may_end_nowhere}
+use Rattle.yf_block.specs.BlockStepTied.{HeldTied, AheadTied, nothing_held, none_held, props_held, AtLine, AtResume, line_left, AtFailed}
+use Rattle.yf_block.proofs.LineHalts.{outside_end, chosen_still, colons_counted, rounds_end, may_end_at, may_end_before, may_end_nowhere}
 use Rattle.yf_block.proofs.TiedFailed.{broken_fails}
 use Rattle.yf_block.proofs.TiedLeads.{first_noted, first_floor, begins_events, begins_comments, begins_escapes}
 use Rattle.yf_block.proofs.TiedReads.{read_events, read_moved}
@@ -171,12 +172,12 @@ module _ {t : List ℕ} {d : ℕ} {root : BlockTask} {before : Part} {frames : L
       (λ b. with_noted e (noted_alone b (n (λ y. b (outermost_bare y)) outside_line (colons_counted a.stack))))
 
 -- a node of one event is added to what was read, with the comments that were read before
-module _ {t : List ℕ} {before : Part} {w : Meaning} {cs : List CommentValue} {progress : Progress} {old : Part} (r : ReadTied t before (w ⊕ only cs 0) progress old) where
-  pub one_added : {o : Option ℕ} {entry : Option TheEntry.Entry} {m : Meaning} {new : Part} (e : Placed) → EntryTied t progress.floor o entry → m.events ≡ e ∷ [] → e.entry ≡ None → is_lined e.event ≡ false
+module _ {t : List ℕ} {before : Part} (w : Meaning) {cs : List CommentValue} {progress : Progress} {old : Part} (r : ReadTied t before (w ⊕ only cs 0) progress old) where
+  pub one_added : {o : Option ℕ} {entry : Option TheEntry.Entry} (m : Meaning) {new : Part} (e : Placed) → EntryTied t progress.floor o entry → m.events ≡ e ∷ [] → e.entry ≡ None → is_lined e.event ≡ false
       → m.comments ≡ cs → m.escapes ≡ [] → new.events ≡ old.events ++ record e { entry = entry } ∷ [] → new.comments ≡ old.comments → new.escapes ≡ old.escapes
       → ReadTied t before (w ⊕ begins o m) progress new
   unfolding ◌⊕◌ only
-  one_added {o} {entry} {m} e tied q b l c s x y z =
+  one_added {o} {entry} m e tied q b l c s x y z =
       let here = begins_events o m q in
       read_events r (begins o m).events (record e { entry = entry } ∷ [])
       (subst (λ v. Noting t progress.floor v (record e { entry = entry } ∷ [])) (sym here) (first_noted e [] [] tied b l no_event))
@@ -216,8 +217,8 @@ module _ {t : List ℕ} {d : ℕ} {root : BlockTask} {before : Part} {frames : L
       broken_fails (node_breaks a.node w halts) a.stack.halted
 
   -- where no line stands there, all collections end with it
-  pub wanting_line : p < length t → ((m q : ℕ) → LineText t p m q → ⊥) → AtFailed t d root old
-  wanting_line l n = go a.ahead refl where
+  pub wanting_line : (LinesEnd t p → ⊥) → ((m q : ℕ) → LineText t p m q → ⊥) → AtFailed t d root old
+  wanting_line g n = go a.ahead refl where
     ended : (a.ahead ≡ Nothing → ⊥) → AtFailed t d root old
     ended b =
         let r = node_read (alone_there a.ahead p a.told b) in
@@ -225,7 +226,7 @@ module _ {t : List ℕ} {d : ℕ} {root : BlockTask} {before : Part} {frames : L
         let root_read = collections_end (want_ends n a.layers) all in
         record {
           halt = halt_with a.layers a.comments a.halt a.last_alone;
-          unfinished = text_left (root_was_read root_read) (let e = root_read.end in omega (arith, e, l));
+          unfinished = line_left (root_was_read root_read) (λ y. g (subst (λ (k : ℕ). LinesEnd t k) root_read.end y)) (subst (λ (k : ℕ). Stuck (Row t k)) (sym root_read.end) (chosen_still a.line));
           halts = root_halts root_read;
           halted = a.stack.halted;
         }
@@ -250,7 +251,7 @@ module _ {t : List ℕ} {d : ℕ} {root : BlockTask} {before : Part} {frames : L
     past = let v = a.past in let w = line_end_forward a.line.derived in omega (arith, v, w, o);
     last = l;
     stack = record { order = a.stack.order; frames_tied = a.stack.frames_tied; colons = c ∙ a.stack.colons; halted = h ∙ a.stack.halted };
-    read = read_moved (one_added a.read {m = (as_behind a.comments f.answer).meaning} e a.wanted.entry q b i (ap (λ v. a.comments ++ v) k) s x y z) o;
+    read = read_moved (one_added (all_written a.layers) a.read (as_behind a.comments f.answer).meaning e a.wanted.entry q b i (ap (λ v. a.comments ++ v) k) s x y z) o;
   }
 
   pub indicator_resumes : {i : ℕ} {new : Progress} {part' : Part} → a.ahead ≡ Indicator i → new ≡ old
@@ -262,7 +263,7 @@ module _ {t : List ℕ} {d : ℕ} {root : BlockTask} {before : Part} {frames : L
         is = ap (λ v. alone v p a.told) e;
         end = refl;
       } in
-      resumes f (entry_event (scalar_node no_props Plain []) None) (ap (λ v. v.halt) n) (ap (λ v. v.floor) n) (ap (λ v. v.colons) n) (ap (λ v. v.last) n ∙ a.last i e) refl refl refl
+      resumes f (entry_event (scalar_node no_props Plain []) None) (ap (λ (v : Progress). v.halt) n) (ap (λ (v : Progress). v.floor) n) (ap (λ (v : Progress). v.colons) n) (ap (λ (v : Progress). v.last) n ∙ a.last i e) refl refl refl
       (ap (λ v. ahead_comments v ++ a.told) (sym e)) refl x y z
 
   pub props_resume : {h : HeldValue} {held : Held} {new : Progress} {part' : Part} → a.ahead ≡ Props h → HeldTied h held → new ≡ record old { last = held.end }
@@ -275,6 +276,50 @@ module _ {t : List ℕ} {d : ℕ} {root : BlockTask} {before : Part} {frames : L
         end = refl;
       } in
       let known : Placed = record { event = scalar_node h.value.props Plain []; span = Some (record { start = h.start; end = h.end }); tag_offset = h.value.tag_offset; entry = None; folded = [] } in
-      resumes f known (ap (λ v. v.halt) n) (ap (λ v. v.floor) n) (ap (λ v. v.colons) n) (ap (λ v. v.last) n ∙ v.end) refl refl refl
+      resumes f known (ap (λ (v : Progress). v.halt) n) (ap (λ (v : Progress). v.floor) n) (ap (λ (v : Progress). v.colons) n) (ap (λ (v : Progress). v.last) n ∙ v.end) refl refl refl
       (ap (λ q. q ++ a.told) (append-nil h.value.comments) ∙ ap (λ v. ahead_comments v ++ a.told) (sym e)) refl
       (x ∙ ap (λ q. part.events ++ q ∷ []) (held_event old.wanted.entry v)) y z
+
+pub none_there : (xs : List Frame) → length xs ≡ 0 → reverse xs ≡ []
+none_there [] e = refl
+none_there (x ∷ xs) e = absurd (omega (arith, e))
+
+pub some_there : (xs : List Frame) → reverse xs ≡ [] → length xs ≡ 0
+some_there xs q = sym (length-reverse xs) ∙ ap (λ z. length z) q
+
+-- the properties that stand ahead, or the indicator
+pub record HeldIs (a : Ahead) (held : Held) : Type 0 where
+  pub value : HeldValue
+  pub is : a ≡ Props value
+  pub tied : HeldTied value held
+
+pub held_is : {a : Ahead} {o : Option Held} {held : Held} → AheadTied a o → o ≡ Some held → HeldIs a held
+held_is nothing_held e = absurd (cc)
+held_is none_held e = absurd (cc)
+held_is (props_held {h = h} {held = g} t) e = record { value = h; is = refl; tied = subst (λ z. HeldTied h z) (same_held e) t } where
+  same_held : {x y : Held} → Some x ≡ Some y → x ≡ y
+  same_held q = cc
+
+pub record IndicatorIs (a : Ahead) : Type 0 where
+  pub at : ℕ
+  pub is : a ≡ Indicator at
+
+pub indicator_is : {a : Ahead} {o : Option Held} → AheadTied a o → o ≡ None → (a ≡ Nothing → ⊥) → IndicatorIs a
+indicator_is nothing_held e n = absurd (n refl)
+indicator_is (none_held {i = i}) e n = record { at = i; is = refl }
+indicator_is (props_held h) e n = absurd (cc)
+
+module _ {t : List ℕ} {d : ℕ} {root : BlockTask} {before : Part} {frames : List Frame} {p : ℕ} {old : Progress} {part : Part} (e : AtEmpty t d root before frames p old part) where
+  pub empty_fails : old.wanted.outer ≡ None → frames ≡ [] → AtFailed t d root old
+  empty_fails o f = root_fails e.at e.none (outer_unheld e.at.wanted.outer o (λ i q. e.at.wanted.rooted i q (no_layers_there e.at.stack.frames_tied f)))
+
+  pub empty_resumes : {part' : Part} → old.wanted.outer ≡ None → (frames ≡ [] → ⊥) → part'.events ≡ part.events ++ entry_event (scalar_node no_props Plain []) old.wanted.entry ∷ []
+      → part'.comments ≡ part.comments → part'.escapes ≡ part.escapes → AtResume t d root before frames p old part'
+  empty_resumes o f x y z =
+      let i = indicator_is e.at.wanted.outer o (λ q. f (no_frames_there e.at.stack.frames_tied (e.at.wanted.nested q))) in
+      indicator_resumes e.at e.none i.is refl x y z
+
+  pub held_resumes : {held : Held} {new : Progress} {part' : Part} → old.wanted.outer ≡ Some held → new ≡ record old { last = held.end }
+      → part'.events ≡ part.events ++ leaf_event (held_lead held old.wanted.entry) Plain [] held.end ∷ [] → part'.comments ≡ part.comments → part'.escapes ≡ part.escapes
+      → AtResume t d root before frames p new part'
+  held_resumes o n x y z = let h = held_is e.at.wanted.outer o in props_resume e.at e.none h.is h.tied n x y z

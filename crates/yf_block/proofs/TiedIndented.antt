@@ -35,7 +35,7 @@ use Rattle.yf_block.specs.declared.held.Held.{Held}
 use Rattle.yf_block.specs.BlockTied.{ahead_comments, all_written, ReadTied}
 use Rattle.yf_block.specs.BlockStepTied.{HeldTied, AheadTied, nothing_held, none_held, props_held, WantedTied}
 use Rattle.yf_block.specs.InlineTied.{AtStart, ColumnTied}
-use Rattle.yf_block.specs.LineStepTied.{AtAlone, AtEmpty, AtIndented}
+use Rattle.yf_block.specs.LineStepTied.{halt_with, AtAlone, AtEmpty, AtIndented}
 use Rattle.yf_block.proofs.LineHalts.{chosen_still}
 use Rattle.yf_block.proofs.TiedReads.{read_as}
 
@@ -85,29 +85,29 @@ column_decided k m p least c = ⊎_elim
     (λ (e : p ≢ k + m). (None, column_not (λ a b. e a)))
     (cases_eq p (k + m))
 
-deep_or_not : {least m : ℕ} {n : ℤ} → pos least ≡ n +ℤ pos 1 → ((n +ℤ pos 1) ≤ℤ pos m) ⊎ ((n +ℤ pos 1) ≤ℤ pos m → ⊥)
-deep_or_not {least} {m} {n} e = ⊎_elim
+deep_or_not : {least m : ℕ} (n : ℤ) → pos least ≡ n +ℤ pos 1 → ((n +ℤ pos 1) ≤ℤ pos m) ⊎ ((n +ℤ pos 1) ≤ℤ pos m → ⊥)
+deep_or_not {least} {m} n e = ⊎_elim
     (λ (l : m < least). inr (λ q. omega (arith, ints, e, l, q)))
     (λ (l : least ≤ m). inl (let l' : pos least ≤ℤ pos m = omega (arith, ints, l) in subst (λ z. z ≤ℤ pos m) e l'))
     (cases_lt m least)
 
-above_or_not : {least m : ℕ} {n : ℤ} → pos least ≡ n +ℤ pos 1 → (n ≤ℤ pos m) ⊎ (n ≤ℤ pos m → ⊥)
-above_or_not {least} {m} {n} e = ⊎_elim
+above_or_not : {least m : ℕ} (n : ℤ) → pos least ≡ n +ℤ pos 1 → (n ≤ℤ pos m) ⊎ (n ≤ℤ pos m → ⊥)
+above_or_not {least} {m} n e = ⊎_elim
     (λ (l : m + 1 < least). inr (λ q. omega (arith, ints, e, l, q)))
     (λ (l : least ≤ m + 1). inl (omega (arith, ints, e, l)))
     (cases_lt (m + 1) least)
 
-least_or_not : {least m : ℕ} {n : ℤ} (c : Ctx) → pos least ≡ n +ℤ pos 1 → (least_column true n c ≤ℤ pos m) ⊎ (least_column true n c ≤ℤ pos m → ⊥)
-least_or_not BlockOut e = above_or_not e
-least_or_not BlockIn e = deep_or_not e
-least_or_not FlowOut e = deep_or_not e
-least_or_not FlowIn e = deep_or_not e
-least_or_not BlockKey e = deep_or_not e
-least_or_not FlowKey e = deep_or_not e
+least_or_not : {least m : ℕ} (n : ℤ) (c : Ctx) → pos least ≡ n +ℤ pos 1 → (least_column true n c ≤ℤ pos m) ⊎ (least_column true n c ≤ℤ pos m → ⊥)
+least_or_not n BlockOut e = above_or_not n e
+least_or_not n BlockIn e = deep_or_not n e
+least_or_not n FlowOut e = deep_or_not n e
+least_or_not n FlowIn e = deep_or_not n e
+least_or_not n BlockKey e = deep_or_not n e
+least_or_not n FlowKey e = deep_or_not n e
 
 module _ {t : List ℕ} {d : ℕ} {root : BlockTask} {before : Part} {frames : List Frame} {p : ℕ} {progress : Progress} {part : Part} (a : AtAlone t d root before frames p progress part) where
-  column_tied : {s : Bool} {m q : ℕ} {o : Option ℕ} → p + m ≤ q → ColumnIf p m q (least_column s a.indentation a.context) o → ColumnTied a.layers q o
-  column_tied {s} {m} {q} l c = record {
+  column_tied : (s : Bool) {m q : ℕ} {o : Option ℕ} → p + m ≤ q → ColumnIf p m q (least_column s a.indentation a.context) o → ColumnTied a.layers q o
+  column_tied s {m} {q} l c = record {
     shallow = λ x e. let r = (column_is c e).is in omega (arith, r, l);
     within = λ x e. let r = column_is c e in subst (λ (z : ℕ). AllWithin z a.layers) (sym r.is) (a.wanted.within m (least_above s a.indentation a.context m r.deep));
   }
@@ -124,7 +124,7 @@ module _ {t : List ℕ} {d : ℕ} {root : BlockTask} {before : Part} {frames : L
         indentation = a.indentation;
         context = a.context;
         ahead = past a.ahead a.told;
-        halt = _;
+        halt = halt_with a.layers a.comments a.halt a.last_alone;
         node = node_on_line a.node a.line x b y a.alone;
         wanted = record {
           least = a.wanted.least;
@@ -136,8 +136,8 @@ module _ {t : List ℕ} {d : ℕ} {root : BlockTask} {before : Part} {frames : L
           rooted = λ i e. a.wanted.rooted i (past_indicator a.ahead a.told e);
           narrow = a.wanted.narrow;
         };
-        sequence = column_tied {s = true} far y.sequence;
-        mapping = column_tied {s = false} far y.mapping;
+        sequence = column_tied true far y.sequence;
+        mapping = column_tied false far y.mapping;
         no_white = x.content.no_white;
         past = let v = a.past in let w = line_end_forward a.line.derived in omega (arith, v, w, far);
         stack = a.stack;
@@ -160,7 +160,7 @@ module _ {t : List ℕ} where
   first_of {k} {s} {m} {q} {p} {w} l y z r n x =
       let e = column_of l y z x in
       let here : k + m ≡ s = omega (arith, e, l) in
-      (many_unique t is_white (subst (λ (i : ℕ). Many t is_white i p w) (sym here) r) n x.run x.content.no_white).0
+      sym (many_unique t is_white (subst (λ (i : ℕ). Many t is_white i p w) (sym here) r) n x.run x.content.no_white).0
 
 module _ {t : List ℕ} {d : ℕ} {root : BlockTask} {before : Part} {frames : List Frame} {p start : ℕ} {progress : Progress} {part : Part} (i : AtIndented t d root before frames p start progress part) where
   abbrev a : AtAlone t d root before frames p progress part
@@ -223,8 +223,8 @@ module _ {t : List ℕ} {d : ℕ} {root : BlockTask} {before : Part} {frames : L
     pub begins_first : progress.first ≡ true → Begins t a.indentation a.context progress.from p (start - p) place
     begins_first f = line_first (sym (a.first f))
 
-    sequence_column : (o : Option ℕ) × ColumnIf p (start - p) place (least_column true a.indentation a.context) o
-    sequence_column = column_decided p (start - p) place _ (least_or_not a.context a.wanted.least)
+    pub sequence_column : (o : Option ℕ) × ColumnIf p (start - p) place (least_column true a.indentation a.context) o
+    sequence_column = column_decided p (start - p) place _ (least_or_not a.indentation a.context a.wanted.least)
 
     -- the columns
     pub columns_there : {column : Option ℕ} → ColumnIf p (start - p) place (least_column false a.indentation a.context) column
@@ -258,5 +258,5 @@ module _ {t : List ℕ} {d : ℕ} {root : BlockTask} {before : Part} {frames : L
         run = subst (λ (k : ℕ). Many t is_white k start []) (sym here) done;
         content = visible_content v;
       } in
-      let m = column_decided p (start - p) start _ (deep_or_not a.wanted.least) in
+      let m = column_decided p (start - p) start _ (deep_or_not a.indentation a.wanted.least) in
       (record { sequence = Some (start - p); mapping = m.0 }, refl, begins_there a x (line_dashed h (sym here) l) (record { sequence = column_there (sym here) l; mapping = m.1 }))

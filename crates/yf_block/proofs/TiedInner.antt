@@ -166,3 +166,10 @@ module _ {t : List ℕ} {d : ℕ} {root : BlockTask} {before : Part} {frames : L
         stack = a.stack;
         read = a.read;
       }
+
+-- what ends a line ends it behind white space too
+pub ends_anyway : {t : List ℕ} {b : Bool} {p : ℕ} → LineEndsAt t false p → LineEndsAt t b p
+ends_anyway (text_stops e) = text_stops e
+ends_anyway (feed_stands e) = feed_stands e
+ends_anyway (return_stands e) = return_stands e
+ends_anyway (hash_stands c e) = absurd (true≢false (sym c))

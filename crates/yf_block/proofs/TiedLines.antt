@@ -1,5 +1,5 @@
 -- The end of a line where a node is awaited: what is read of it, and the line after it.
-use Rattle.std.proofs.Common.{◌≡◌, ℕ, ◌+◌, ◌<◌, ◌≤◌, Bool, true, false, List, [], ◌∷◌, ◌++◌, length, Option, refl, sym, ap, ◌∙◌, subst, arith, append_assoc, append-nil, ⊎_elim, true≢false}
+use Rattle.std.proofs.Common.{◌≡◌, ℕ, ◌+◌, ◌<◌, ◌≤◌, Bool, true, false, List, [], ◌∷◌, ◌++◌, length, Option, Result, Ok, Err, IfOk, refl, sym, ap, ◌∙◌, subst, arith, append_assoc, append-nil, ⊎_elim, true≢false}
 use Rattle.std.proofs.lemmas.Bool.{cases_lt}
 use Rattle.yf_chars.specs.Chain.{Chosen}
 use Rattle.yf_chars.proofs.ChainLemmas.{chain_forward}
@@ -22,6 +22,7 @@ use Rattle.yf_block.specs.declared.frame.Step.{Step}
 use Rattle.yf_block.specs.declared.frame.Step.TheVariants.{Node, Line, Resume, Done, Failed, TooDeep}
 use Rattle.yf_block.specs.BlockTied.{ahead_comments, all_written, ReadTied}
 use Rattle.yf_block.specs.BlockStepTied.{AtLine, BlockTied}
+use Rattle.yf_block.specs.Machine.{Stepped}
 use Rattle.yf_block.specs.LineTied.{AtBelow, AtNewLine, EndedTied}
 use Rattle.yf_block.proofs.TiedLeads.{read_added}
 use Rattle.yf_block.proofs.TiedReads.{read_as, read_moved}
@@ -150,3 +151,18 @@ module _ (t : List ℕ) (d : ℕ) (root : BlockTask) (before : Part) (frames : L
   ended_other (Done p) e n = absurd e
   ended_other (Failed p) e n = e
   ended_other (TooDeep p) e n = absurd e
+
+-- what the reader of a line's end gives, is what comes next
+module _ (t : List ℕ) (d : ℕ) (root : BlockTask) (before : Part) (frames : List Frame) (at : ℕ) (progress : Progress) (part : Part) (inside : LineStart t at → ⊥) where
+  step_ended : (s : Step) → EndedTied t d root before frames at s progress part → Stepped t at 2 progress s → BlockTied t d root before frames s progress part
+  step_ended (Node p) e s = absurd e
+  step_ended (Line p) e s = new_line e inside s.ready.boundary.0
+  step_ended (Resume p) e s = absurd e
+  step_ended (Done p) e s = absurd e
+  step_ended (Failed p) e s = e
+  step_ended (TooDeep p) e s = absurd e
+
+  pub ended_line : {E : Type 0} (r : Result Step E) → IfOk r (λ s. EndedTied t d root before frames at s progress part) → IfOk r (λ s. Stepped t at 2 progress s)
+      → IfOk r (λ s. BlockTied t d root before frames s progress part)
+  ended_line (Ok s) e y = step_ended s e y
+  ended_line (Err x) e y = tt

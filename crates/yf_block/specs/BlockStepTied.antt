@@ -3,15 +3,15 @@
 use Rattle.std.specs.Prelude.{◌≡◌, ℕ, ◌^◌, ◌<◌, ◌≤◌, ℤ, pos, ◌+ℤ◌, ◌≤ℤ◌, Bool, true, false, List, [], ◌∷◌, ◌++◌, length, Option, Some, None, ◌⊎◌}
 use Rattle.yf_chars.specs.declared.context.Ctx.{Ctx}
 use Rattle.yf_chars.specs.declared.context.Ctx.TheVariants.{BlockOut}
-use Rattle.yf_chars.specs.Chain.{Chosen}
+use Rattle.yf_chars.specs.Chain.{Stuck, Chosen}
 use Rattle.yf_lines.specs.Basic.{LineStart}
 use Rattle.yf_comments.specs.Comment.{CommentValue}
-use Rattle.yf_comments.specs.Comments.{LineEnd}
+use Rattle.yf_comments.specs.Comments.{LineEnd, Row}
 use Rattle.yf_props.specs.Props.{props_value}
 use Rattle.yf_events.specs.declared.part.Part.{Part}
 use Rattle.yf_grammar.specs.Meaning.{◌⊕◌}
 use Rattle.yf_grammar.specs.Parser.{Found, only}
-use Rattle.yf_grammar.specs.BlockParser.{Ahead, Nothing, Indicator, Props, Held as HeldValue, SignAt, Origin, First, BlockTask, Awaited, Below, Whole}
+use Rattle.yf_grammar.specs.BlockParser.{LinesEnd, Ahead, Nothing, Indicator, Props, Held as HeldValue, SignAt, Origin, First, BlockTask, Awaited, Below, Whole}
 use Rattle.yf_grammar.specs.Halts.{Halts}
 use Rattle.yf_grammar.specs.BlockStack.{Layer}
 use Rattle.yf_grammar.specs.BlockStates.{NodeAt, NodeRead, EntryAt, AllWithin}
@@ -157,10 +157,10 @@ pub record AtDone (t : List ℕ) (d : ℕ) (root : BlockTask) (before : Part) (p
   pub halted : progress.halt ≡ halt_end halt
   pub written : Written t before answer.meaning part
 
--- nothing is found, or what is found leaves something of the text: a comment that no break ends
+-- nothing is found, or what is found leaves a line of the text that is none of comments: a comment that no break ends
 pub data Unfinished (t : List ℕ) (d : ℕ) (root : BlockTask) : Type 0 where
   none_found : Whole t d root None → Unfinished t d root
-  text_left : {f : Found} → Whole t d root (Some f) → f.end < length t → Unfinished t d root
+  line_left : {f : Found} → Whole t d root (Some f) → (LinesEnd t f.end → ⊥) → Stuck (Row t f.end) → Unfinished t d root
 
 pub record AtFailed (t : List ℕ) (d : ℕ) (root : BlockTask) (progress : Progress) : Type 0 where
   pub halt : Option Found
