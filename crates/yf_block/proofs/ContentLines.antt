@@ -111,14 +111,14 @@ ahead_held none_held = λ h e. no_props_sign e
 ahead_held (props_held {h = h} w) = record { value = h; is = refl; tied = w }
 
 -- the line ended, and the next one begins
-pub below_ended : {t : List ℕ} {d : ℕ} {root : BlockTask} {before part : Part} {frames : List Frame} {at : ℕ} {progress : Progress} (s : Step) → (LineStart t at → ⊥) → StepReady t at s
-    → EndedTied t d root before frames at s progress part → BlockTied t d root before frames s progress part
-below_ended (Node p) n r e = absurd e
-below_ended (Line p) n r e = new_line e n r.boundary.0
-below_ended (Resume p) n r e = absurd e
-below_ended (Done p) n r e = absurd e
-below_ended (Failed p) n r e = e
-below_ended (TooDeep p) n r e = absurd e
+module _ (t : List ℕ) (d : ℕ) (root : BlockTask) (before part : Part) (frames : List Frame) (at : ℕ) (progress : Progress) where
+  pub below_ended : (s : Step) → (LineStart t at → ⊥) → StepReady t at s → EndedTied t d root before frames at s progress part → BlockTied t d root before frames s progress part
+  below_ended (Node p) n r e = absurd e
+  below_ended (Line p) n r e = new_line e n r.boundary.0
+  below_ended (Resume p) n r e = absurd e
+  below_ended (Done p) n r e = absurd e
+  below_ended (Failed p) n r e = e
+  below_ended (TooDeep p) n r e = absurd e
 
 module _ {t : List ℕ} {d : ℕ} {root : BlockTask} {before part : Part} {frames : List Frame} {cols : Columns} {p : ℕ} {progress : Progress}
     (a : AtStart t d root before frames cols p progress part) (s : NoSign t cols p) {held : Held} (l : LineProperties t p held) where

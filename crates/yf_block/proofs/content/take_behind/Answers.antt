@@ -8,13 +8,13 @@ pub returns-then-is_apart-clause-tied : goal.returns-then-is_apart-clause-tied
 returns-then-is_apart-clause-tied c = λ d root before r a.
     let s = a.content.start in
     let share = c.claim_of-claim.ensures.share s.ahead s.wanted.outer (text_properties a.text) in
-    scalar_apart a c.args.progress.now.wanted.entry c.claim_of-claim.result.lead c.claim_of-claim.result.share share c.if-is_apart.ensures.cases c.if-block_scalar_stands.ensures.cases
+    scalar_apart a c.args.progress.now.wanted.entry c.claim_of-claim.result.lead c.claim_of-claim.result.share share c.if-is_apart.ensures c.if-block_scalar_stands.ensures
 
 pub returns-then-block_scalar_stands-clause-tied : goal.returns-then-block_scalar_stands-clause-tied
 returns-then-block_scalar_stands-clause-tied c = λ d root before r a.
     let s = a.content.start in
     let share = c.claim_of-claim.ensures.share s.ahead s.wanted.outer (text_properties a.text) in
-    c.take_block_scalar.ensures.tied d root before (scalar_there a c.claim_of-claim.result.share share c.if-is_apart.ensures.cases c.if-block_scalar_stands.ensures.cases)
+    c.take_block_scalar.ensures.tied d root before (scalar_there a c.claim_of-claim.result.share share c.if-is_apart.ensures c.if-block_scalar_stands.ensures)
 
 pub returns-in-End-clause-tied : goal.returns-in-End-clause-tied
 returns-in-End-clause-tied c = λ d root before r a.
@@ -30,7 +30,7 @@ returns-in-End-clause-tied c = λ d root before r a.
       counts = c.claim_of-claim.ensures.counts;
       depth_is = depth;
       read = rw c.in-End.is at (c.in_ok-node.ensures.answers s.read.text.utf8 s.wanted.narrow s.room there);
-      no_scalar = c.if-block_scalar_stands.ensures.cases;
+      no_scalar = c.if-block_scalar_stands.ensures;
     })
 
 pub returns-in-Nothing-clause-tied : goal.returns-in-Nothing-clause-tied
@@ -39,7 +39,7 @@ returns-in-Nothing-clause-tied c = λ d root before r a.
     let n = length-reverse c.args.frames.now.items in
     let o = room_there s in
     let there : c.len.result + s.room ≡ c.args.scope.limit = omega (arith, n, o, r, c.len.ensures.value) in
-    nothing_read a (rw c.in-Nothing.is at (c.in_ok-node.ensures.answers s.read.text.utf8 s.wanted.narrow s.room there)) c.if-block_scalar_stands.ensures.cases
+    nothing_read a (rw c.in-Nothing.is at (c.in_ok-node.ensures.answers s.read.text.utf8 s.wanted.narrow s.room there)) c.if-block_scalar_stands.ensures
 
 pub returns-in-TooDeep-clause-tied : goal.returns-in-TooDeep-clause-tied
 returns-in-TooDeep-clause-tied c = λ d root before r a.
@@ -47,4 +47,4 @@ returns-in-TooDeep-clause-tied c = λ d root before r a.
     let n = length-reverse c.args.frames.now.items in
     let o = room_there s in
     let there : c.len.result + s.room ≡ c.args.scope.limit = omega (arith, n, o, r, c.len.ensures.value) in
-    nothing_read a (rw c.in-TooDeep.is at (c.in_ok-node.ensures.answers s.read.text.utf8 s.wanted.narrow s.room there)) c.if-block_scalar_stands.ensures.cases
+    nothing_read a (rw c.in-TooDeep.is at (c.in_ok-node.ensures.answers s.read.text.utf8 s.wanted.narrow s.room there)) c.if-block_scalar_stands.ensures

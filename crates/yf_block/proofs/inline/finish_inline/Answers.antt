@@ -20,9 +20,9 @@ returns-else-max-scope-clause-tied c = λ d root before depth earlier r a.
 
 pub returns-then-is_apart-clause-tied : goal.returns-then-is_apart-clause-tied
 returns-then-is_apart-clause-tied c = λ d root before depth earlier r a.
-    leaf_apart a c.skip_whites-colon.ensures.whites.1 c.skip_whites-colon.ensures.all c.in-None.ensures.key c.if-is_apart.ensures.cases
+    leaf_apart a c.skip_whites-colon.ensures.whites.1 c.skip_whites-colon.ensures.all c.in-None.ensures.key c.if-is_apart.ensures
 
 pub returns-else-is_apart-clause-tied : goal.returns-else-is_apart-clause-tied
 returns-else-is_apart-clause-tied c = λ d root before depth earlier r a.
     c.end_inline.ensures.tied d root before
-    (leaf_there a c.skip_whites-colon.ensures.whites.1 c.skip_whites-colon.ensures.all c.in-None.ensures.key c.if-is_apart.ensures.cases c.plain_place-plain.ensures.other c.plain_place-plain.ensures.plain refl refl refl refl)
+    (leaf_there a c.skip_whites-colon.ensures.whites.1 c.skip_whites-colon.ensures.all c.in-None.ensures.key c.if-is_apart.ensures c.plain_place-plain.ensures.other c.plain_place-plain.ensures.plain refl refl refl refl)
