@@ -25,7 +25,7 @@ use Rattle.yf_flow.proofs.EntriesFrom.{outcome_from}
 use Rattle.yf_block.specs.declared.frame.Frame.{Frame}
 use Rattle.yf_block.specs.declared.frame.Progress.{Progress}
 use Rattle.yf_block.specs.declared.held.Held.{Held}
-use Rattle.yf_block.specs.BlockTied.{layers_entry, EntryTied, StackTied, halt_end}
+use Rattle.yf_block.specs.BlockTied.{layers_entry, all_written, EntryTied}
 use Rattle.yf_block.specs.BlockStepTied.{AtFailed}
 use Rattle.yf_block.specs.ClaimsTied.{BehindLine, none_more}
 use Rattle.yf_block.specs.ContentTied.{TextBehind, text_alone, text_held, ScalarSignAt, PlainIs, plain_known, other_known, AtLeaf, LeafEnding, leaf_ends, line_goes_on}
@@ -115,7 +115,7 @@ module _ {t : List ℕ} {d : ℕ} {root : BlockTask} {before old : Part} {frames
         last = last ∙ i.end ∙ sym i.finish;
         past = omega (arith, past, order, later, end, fl);
         stack = record { order = a.stack.order; frames_tied = a.stack.frames_tied; colons = co ∙ a.stack.colons; halted = ha ∙ a.stack.halted };
-        read = read_moved (leaf_added a.read (omega (arith, past, order)) starts.starts.visible (outcome_from r refl)
+        read = read_moved (leaf_added (all_written a.layers) a.comments a.read (omega (arith, past, order)) starts.starts.visible (outcome_from r refl)
             (subst (λ z. EntryTied t progress.floor (layers_entry a.layers) z) (sym v.entry_is) a.wanted.entry) v.tied (behind_comments v.joined) w) fl;
       }
 

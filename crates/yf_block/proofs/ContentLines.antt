@@ -34,11 +34,15 @@ use Rattle.yf_block.specs.declared.frame.Frame.{Frame}
 use Rattle.yf_block.specs.declared.frame.Progress.{Progress}
 use Rattle.yf_block.specs.declared.held.Held.{Held}
 use Rattle.yf_block.specs.BlockTied.{ahead_comments, all_written, ReadTied}
-use Rattle.yf_block.specs.BlockStepTied.{AheadTied, AtFailed, props_held}
+use Rattle.yf_block.specs.BlockStepTied.{AheadTied, nothing_held, none_held, props_held, AtFailed, BlockTied}
 use Rattle.yf_block.specs.ContentTied.{EndsBehind}
-use Rattle.yf_block.specs.HeldAnswers.{LineProperties, NoPlaceBehind, JoinedAhead}
+use Rattle.yf_block.specs.HeldAnswers.{LineProperties, NoPlaceBehind, HeldAhead, JoinedAhead}
 use Rattle.yf_block.specs.InlineTied.{AtStart}
-use Rattle.yf_block.specs.LineTied.{AtBelow}
+use Rattle.yf_block.specs.LineTied.{AtBelow, EndedTied}
+use Rattle.yf_block.specs.Machine.{StepReady}
+use Rattle.yf_block.specs.declared.frame.Step.{Step}
+use Rattle.yf_block.specs.declared.frame.Step.TheVariants.{Node, Line, Resume, Done, Failed, TooDeep}
+use Rattle.yf_block.proofs.TiedLines.{new_line}
 use Rattle.yf_block.specs.Looks.{LineEndsAt, text_stops, feed_stands, return_stands, hash_stands}
 use Rattle.yf_block.proofs.ContentFails.{missing, leaf_of, nowhere_fails, other_no_scalar}
 use Rattle.yf_block.proofs.ContentLeaves.{joined_comments}
@@ -94,13 +98,38 @@ joined_held e f = cc
 joined_no_sign : {z : Ahead} {h : HeldValue} {i : ℕ} → z ≡ Props h → z ≡ Indicator i → ⊥
 joined_no_sign e f = cc
 
+no_props_nothing : {h : HeldValue} → Nothing ≡ Props h → ⊥
+no_props_nothing e = cc
+
+no_props_sign : {i : ℕ} {h : HeldValue} → Indicator i ≡ Props h → ⊥
+no_props_sign e = cc
+
+-- what stands ahead, as the properties of a line are joined with it
+pub ahead_held : {a : Ahead} {outer : Option Held} → AheadTied a outer → HeldAhead a outer
+ahead_held nothing_held = λ h e. no_props_nothing e
+ahead_held none_held = λ h e. no_props_sign e
+ahead_held (props_held {h = h} w) = record { value = h; is = refl; tied = w }
+
+-- the line ended, and the next one begins
+module _ (t : List ℕ) (d : ℕ) (root : BlockTask) (before part : Part) (frames : List Frame) (at : ℕ) (progress : Progress) where
+  pub below_ended : (s : Step) → (LineStart t at → ⊥) → StepReady t at s → EndedTied t d root before frames at s progress part → BlockTied t d root before frames s progress part
+  below_ended (Node p) n r e = absurd e
+  below_ended (Line p) n r e = new_line e n r.boundary.0
+  below_ended (Resume p) n r e = absurd e
+  below_ended (Done p) n r e = absurd e
+  below_ended (Failed p) n r e = e
+  below_ended (TooDeep p) n r e = absurd e
+
 module _ {t : List ℕ} {d : ℕ} {root : BlockTask} {before part : Part} {frames : List Frame} {cols : Columns} {p : ℕ} {progress : Progress}
     (a : AtStart t d root before frames cols p progress part) (s : NoSign t cols p) {held : Held} (l : LineProperties t p held) where
   utf8 : IsUtf8 t
   utf8 = a.read.text.utf8
 
-  inside : LineStart t held.end → ⊥
+  pub inside : LineStart t held.end → ⊥
   inside = properties_no_start utf8 l.chosen.derived
+
+  pub joined_here : {outer : Held} → JoinedAhead a.ahead l.value held.start held.end outer → JoinedAhead a.ahead l.value p held.end outer
+  joined_here {outer} j = subst (λ (k : ℕ). JoinedAhead a.ahead l.value k held.end outer) l.tied.start j
 
   -- the line goes on
   pub line_goes_on_behind : {place : ℕ} {w : List ℕ} {b : Bool} → Many t is_white held.end place w → is_white (code t place) ≡ false → (held.end < place → b ≡ true) → (LineEndsAt t b place → ⊥) → Stuck (LineEnd t held.end)

@@ -1,12 +1,14 @@
 -- The first key of a mapping, once more: it is written behind the event that begins the mapping, which has the properties of lines before.
-use Rattle.std.proofs.Common.{◌≡◌, ℕ, zero, suc, ℤ, pos, ◌+ℤ◌, ◌+◌, ◌<◌, ◌≤◌, Bool, true, false, List, [], ◌∷◌, ◌++◌, length, take, drop, Option, Some, None, refl, sym, ap, ◌∙◌, subst, arith, append_assoc}
+use Rattle.std.proofs.Common.{◌≡◌, ℕ, zero, suc, ℤ, pos, ◌+ℤ◌, ◌+◌, ◌<◌, ◌≤◌, Bool, true, false, List, [], ◌∷◌, ◌++◌, length, take, drop, Option, Some, None, refl, sym, ap, ◌∙◌, subst, arith, append_assoc, true≢false}
 use Rattle.std.proofs.Math.Seq.{take-append_seam, drop-append_seam}
 use Rattle.std.proofs.lemmas.List.{length-append}
 use Rattle.std.specs.Str.{IsUtf8}
 use Rattle.yf_chars.specs.declared.context.Ctx.TheVariants.{FlowOut}
 use Rattle.yf_chars.specs.Text.{code}
-use Rattle.yf_chars.specs.Class.{is_white}
+use Rattle.yf_chars.specs.Class.{is_white, is_ns_char, is_nb_char, is_printable, is_between, is_break_char}
 use Rattle.yf_chars.specs.Chain.{Many}
+use Rattle.yf_chars.proofs.TextLemmas.{within_from_code}
+use Rattle.yf_plain.proofs.PlainLemmas.{ns_below}
 use Rattle.yf_props.specs.Props.{props_value}
 use Rattle.yf_events.specs.Event.{Placed, with_entry}
 use Rattle.yf_events.specs.declared.event.Entry as TheEntry
@@ -18,8 +20,11 @@ use Rattle.yf_grammar.specs.Meaning.{Meaning, event_with}
 use Rattle.yf_grammar.specs.Part.{NotedSince}
 use Rattle.yf_grammar.specs.Parser.{Found, ANode, Parses}
 use Rattle.yf_grammar.specs.BlockParser.{Ahead, Columns, NoSign, KeyBefore, NoKey, key_missed, key_unfit, Keyless, node_unfit, properties_end_line, BlockTask}
+use Rattle.yf_grammar.proofs.FlowStarts.{flow_starts}
+use Rattle.yf_grammar.proofs.GapLemmas.{Visible}
 use Rattle.yf_grammar.proofs.NodeExits.{none_some}
 use Rattle.yf_grammar.proofs.Outcome.{outcome_is_one}
+use Rattle.yf_grammar.proofs.Sound.{found_is_derived}
 use Rattle.yf_grammar.proofs.Ways.{chosen_one}
 use Rattle.yf_flow.specs.Begun.{Added, lead_event}
 use Rattle.yf_flow.specs.ContentAnswers.{WrittenWith}
@@ -48,6 +53,10 @@ use Rattle.yf_block.specs.InlineTied.{AtStart, started}
 use Rattle.yf_block.proofs.ContentKeys.{same_found, is_key, key_awaits}
 use Rattle.yf_block.proofs.ContentNodes.{node_here, lost_keyless}
 use Rattle.yf_block.proofs.TiedLeads.{NodeThere, bare_there, held_there}
+
+feed_no_ns : is_ns_char 10 ≡ false
+unfolding is_ns_char is_nb_char is_printable is_between is_break_char is_white
+feed_no_ns = refl
 
 -- a node begins an entry
 with_entry_of : (p : ℕ) (inner : Option Held) (a b : Option TheEntry.Entry) {lead : Lead} → lead ≡ lead_at p inner a → record lead { entry = b } ≡ lead_at p inner b
@@ -186,6 +195,16 @@ module _ {t : List ℕ} {d : ℕ} {root : BlockTask} {before old : Part} {frames
       let within = a.within in
       let height : n.1.answer.height ≡ m.answer.height = ap (λ (f : Found). f.height) same in
       key_awaits start x.content.signless (x.content.column_is ∙ a.column_is) a.inline.depth_is m kb s (omega (arith, deep, within, height)) k.events k.comments k.escapes z y i fl c h
+
+  visible : Visible t b.spot.at
+  visible = (flow_starts (found_is_derived refl (node_here utf8 a.inline.there.text a.inline.read).1.parsed).0 refl).starts.visible
+
+  -- no break begins there, and the text does not end
+  pub key_no_feed : code t b.spot.at ≡ 10 → ⊥
+  key_no_feed e = true≢false (sym visible.ns ∙ ap is_ns_char e ∙ feed_no_ns)
+
+  pub key_within : b.spot.at < length t
+  key_within = within_from_code t b.spot.at (ns_below (code t b.spot.at) visible.ns)
 
 -- an event becomes an entry, and another one is put before it
 entry_length : (xs : List Placed) (i : ℕ) (entry : TheEntry.Entry) → length (with_entry xs i entry) ≡ length xs

@@ -34,12 +34,13 @@ use Rattle.yf_block.specs.declared.frame.Progress.{Progress}
 use Rattle.yf_block.specs.Awaiting.{AwaitedColon}
 use Rattle.yf_block.specs.BlockTied.{layers_entry, begins, ahead_comments, all_written, ReadTied, halt_end}
 use Rattle.yf_block.specs.BlockStepTied.{AtResume, AtFailed}
-use Rattle.yf_block.specs.ContentTied.{PlainIs, plain_known, other_known, AtLeaf}
+use Rattle.yf_block.specs.ContentTied.{PlainIs, plain_known, other_known, AtLeaf, LeafEnding, leaf_ends, line_goes_on}
 use Rattle.yf_block.specs.LastStarts.{LastStart, NoStart}
-use Rattle.yf_block.specs.NotedHalts.{NodeNoted, node_noted, node_before, node_shorter, ShorterNoted, shorter_noted, one_line, no_plain}
+use Rattle.yf_block.specs.Looks.{NotWithinBreak}
+use Rattle.yf_block.specs.NotedHalts.{ColonsCounted, NodeNoted, node_noted, node_before, node_shorter, ShorterNoted, shorter_noted, one_line, no_plain}
 use Rattle.yf_block.proofs.TiedFailed.{broken_fails}
 use Rattle.yf_block.proofs.ContentLeaves.{headed_finish, headed_comments, headed_escapes, begins_same, begun_comments, begun_escapes}
-use Rattle.yf_block.proofs.LineHalts.{outside_end, rounds_end, last_line_of, no_last_line, may_end_at, may_end_before, may_end_nowhere}
+use Rattle.yf_block.proofs.LineHalts.{colons_counted, outside_end, rounds_end, last_line_of, no_last_line, may_end_at, may_end_before, may_end_nowhere}
 use Rattle.yf_block.proofs.TiedLeads.{read_added}
 use Rattle.yf_block.proofs.TiedReads.{read_as, read_moved}
 
@@ -236,3 +237,20 @@ module _ {t : List ℕ} {d : ℕ} {root : BlockTask} {before old : Part} {frames
       let stuck : Stuck (MayEnd t (asked l.layers) l.answer.end) = record { none = λ j x m. e'.none j x m.line } in
       let h = leaf_before utf8 l.no_scalar l.may l.parsed known stuck (subst (λ (z : ℕ). ShorterNoted t z progress.halt plain new.halt) (sym l.end) r) in
       broken_fails (node_breaks l.node (leaf_unended l.no_scalar l.may l.parsed e') h.halted) (noted_round l.layers l.comments l.halt h.outcome l.stack.halted h.noted)
+
+-- where no line begins within a node, nothing is noted of it
+still_noted : {t : List ℕ} {p : ℕ} {old plain new : Option ℕ} → ((q : ℕ) → plain ≡ Some q → NoStart t q p) → ShorterNoted t p old plain new → new ≡ old
+still_noted n (shorter_noted {start = i} {p = k} l) = absurd (n i refl l.begins k l.later l.ended l.earlier)
+still_noted n (one_line l) = refl
+still_noted n no_plain = refl
+
+module _ {t : List ℕ} {d : ℕ} {root : BlockTask} {before old : Part} {frames : List Frame} {plain : Option ℕ} {p : ℕ} {progress : Progress} where
+  pub leaf_finishes : {k : ℕ} {ds : List CommentValue} {new : Progress} {part : Part} → LeafEnding t d root before frames plain p progress old → Chosen (LineEnd t p) k ds
+      → (NotWithinBreak t k → ColonsCounted progress.colons frames → NodeNoted t plain p k frames progress.halt new.halt) → part.events ≡ old.events → part.comments ≡ old.comments ++ ds → part.escapes ≡ old.escapes
+      → new.last ≡ progress.last → new.floor ≡ progress.floor → new.colons ≡ progress.colons → AtResume t d root before frames k new part
+  leaf_finishes (leaf_ends l) e n a b c i fl y = leaf_was_read l e (n (outside_end l.read.text.utf8 e.derived) (colons_counted l.stack)) a b c i fl y
+  leaf_finishes {k = k} {ds = ds} (line_goes_on s q f) e n a b c i fl y = absurd (s.none k ds e.derived)
+
+  pub leaf_stops : {new : Progress} → LeafEnding t d root before frames plain p progress old → Stuck (LineEnd t p) → ShorterNoted t p progress.halt plain new.halt → AtFailed t d root new
+  leaf_stops (leaf_ends l) e r = leaf_breaks l e r
+  leaf_stops (line_goes_on s q f) e r = record { halt = f.halt; unfinished = f.unfinished; halts = f.halts; halted = still_noted q r ∙ f.halted }

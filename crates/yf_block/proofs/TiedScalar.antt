@@ -99,6 +99,16 @@ known_scalar {z} {i} {lead} entry h b e l =
     ∙ ap (λ y. scalar_by lead.start y (ahead_tag z) entry h b e) (sym l.props)
     ∙ ap (λ y. scalar_by lead.start (props_value lead.props) y entry h b e) (sym l.tag)
 
+-- it is written so
+pub scalar_placed : (lead : Lead) (block : BlockText) (finish : ℕ) {style : ScalarStyle} {text : List ℕ} {folded : List (List ℕ)} → style ≡ style_of block.header.folded
+    → text ≡ content_of block.header block.lines block.tail block.open_end → folded ≡ kept_lines block.header.folded block.lines
+    → record { event = scalar_node (props_value lead.props) style text; span = Some (record { start = lead.start; end = finish }); tag_offset = lead.tag_offset; entry = lead.entry; folded = folded } ≡ scalar_event lead block finish
+unfolding from_to
+scalar_placed lead block finish {style} {text} {folded} a b c =
+    ap (λ z. record { event = scalar_node (props_value lead.props) z text; span = Some (record { start = lead.start; end = finish }); tag_offset = lead.tag_offset; entry = lead.entry; folded = folded }) a
+    ∙ ap (λ z. record { event = scalar_node (props_value lead.props) (style_of block.header.folded) z; span = Some (record { start = lead.start; end = finish }); tag_offset = lead.tag_offset; entry = lead.entry; folded = folded }) b
+    ∙ ap (λ z. record { event = scalar_node (props_value lead.props) (style_of block.header.folded) (content_of block.header block.lines block.tail block.open_end); span = Some (record { start = lead.start; end = finish }); tag_offset = lead.tag_offset; entry = lead.entry; folded = z }) c
+
 -- the floor is where it ends
 scalar_floor : (floor : ℕ) (event : Placed) (props : PropsValue) (folded : Bool) (text : List ℕ) (start e : ℕ) → event.span ≡ from_to start e → floor_behind floor event (scalar_node props (style_of folded) text) ≡ e
 unfolding from_to

@@ -199,7 +199,8 @@ fn end_propertied<'a>(
         }
         Some(outer) => {
             progress.wanted.outer = Some(outer);
-            end_line(alloc, text, inner.end, progress, part)
+            let step = end_line(alloc, text, inner.end, progress, part)?;
+            Ok(step)
         }
     }
 }

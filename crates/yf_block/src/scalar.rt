@@ -5,7 +5,7 @@ ghost use Rattle.yf_lines.specs.Basic.{LineStart};
 ghost use Rattle.yf_comments.specs.Comment.{row_comments};
 ghost use Rattle.yf_events.specs.Event.{placed_value};
 ghost use Rattle.yf_grammar.specs.BlockParser.{BlockTask};
-ghost use Rattle.yf_grammar.specs.BlockScalar.{kept_lines as kept_of, reach as reach_of};
+ghost use Rattle.yf_grammar.specs.BlockScalar.{kept_lines as kept_of, reach as reach_of, style_of as style_by};
 ghost use Rattle.yf_flow.specs.Machine.{Place};
 ghost use Rattle.yf_block.specs.BlockStepTied.{BlockTied};
 ghost use Rattle.yf_block.specs.Machine.{Stepped, ProgressAt};
@@ -140,11 +140,7 @@ fn placed_scalar<'a>(
         Ok(text) => Text::Owned(OwnedText::new(text)),
         Err(_refused) => return Err(AllocError),
     };
-    let style = if block.header.folded {
-        ScalarStyle::Folded
-    } else {
-        ScalarStyle::Literal
-    };
+    let style = style_of(block.header.folded);
     let folded = kept_lines(alloc, block.header.folded, &block.lines)?;
     Ok(PlacedEvent {
         event: NewEvent::Scalar {
@@ -160,6 +156,15 @@ fn placed_scalar<'a>(
         entry: lead.entry,
         folded,
     })
+}
+
+fn style_of(folded: bool) -> ScalarStyle
+    ensures { result ≡ style_by folded }
+{
+    if folded {
+        return ScalarStyle::Folded;
+    }
+    ScalarStyle::Literal
 }
 
 // The lines that are kept of a folded scalar.

@@ -1,3 +1,5 @@
+use Rattle.std.proofs.Common.{◌≡◌, ℕ, subst, arith}
+use Rattle.yf_block.specs.ScalarTied.{LinesLeft}
 use Rattle.yf_block.proofs.ScalarLines.{walk_begins, walk_over, walk_line, walk_within, walk_past}
 use Rattle.yf_block.proofs.look.skip_lines.Goals as goal
 
@@ -12,3 +14,8 @@ characters-preserved c = record { place = c.in-Some-peek.ensures.boundary; lines
 
 pub returns-in-None-peek-clause-lines : goal.returns-in-None-peek-clause-lines
 returns-in-None-peek-clause-lines c = λ e b. walk_past (c.characters.invariant.lines e b) c.characters-test.true c.in-None-peek.ensures.1
+
+pub returns-clause-lines : goal.returns-clause-lines
+returns-clause-lines c = λ e b.
+    let none : c.characters.left ≡ 0 = omega (arith, c.characters-test.false) in
+    walk_over (subst (λ (n : ℕ). LinesLeft c.args.text.now n c.characters.place e) none (c.characters.invariant.lines e b))
