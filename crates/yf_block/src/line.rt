@@ -246,6 +246,7 @@ fn end_empty<'a>(
         → IfOk result (λ s. BlockTied _text.now d root before (reverse frames.now.items) s progress.new part.new) }
     ensures stepped { IfOk result (λ s. Stepped _text.now at 1 progress.new s) }
     ensures escapes { IfOk result (λ _. part.new.escapes ≡ part.old.escapes) }
+    ensures counted { (limit : ℕ) → (total : ℕ) → (count : ℕ) → count + openers_from _text.now at ≤ total → IfOk result (λ s. StepCounted _text.now limit total count s) }
 {
     match progress.wanted.outer {
         Some(held) => {

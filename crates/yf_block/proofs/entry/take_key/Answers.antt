@@ -75,3 +75,5 @@ returns-then-key_ends-clause-counted c = λ u total q.
 pub returns-in-TooDeep-clause-counted : goal.returns-in-TooDeep-clause-counted
 returns-in-TooDeep-clause-counted c = λ u total q.
     rw c.in-TooDeep.is at (c.in_ok-node-in-At.ensures.counted u total c.args.entry.start ? (omega (arith, q, c.len.ensures.value)))
+
+

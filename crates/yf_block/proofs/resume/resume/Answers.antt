@@ -33,3 +33,5 @@ returns-in-Item-clause-counted c = λ u total q.
 
 pub returns-in-Entry-clause-counted : goal.returns-in-Entry-clause-counted
 returns-in-Entry-clause-counted c = λ u total q. ?
+
+
