@@ -45,6 +45,7 @@ module _ {t : List ℕ} (count total : ℕ) where
 
   pub first_counted : (i : ℕ) → EntrySignAt t i → count + openers_from t i ≤ total → EntryCounted t total count i
   first_counted i s q = record { signed = λ _. q; keyed = λ n. absurd (n s) }
+
 -- the step that comes next
 module _ {t : List ℕ} {limit total p : ℕ} {s : Step} where
   pub node_counted : {count : ℕ} → s ≡ Node p → count + openers_from t p ≤ total → StepCounted t limit total count s

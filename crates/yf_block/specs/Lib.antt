@@ -21,6 +21,5 @@ pub mod NodeGiven
 pub mod NodeReaders
 pub mod NotedHalts
 pub mod ScalarTied
-pub mod ScratchSpec
 pub mod RootTied
 pub mod RunTied

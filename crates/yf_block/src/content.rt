@@ -17,9 +17,7 @@ ghost use Rattle.yf_block.specs.Counted.{StepCounted};
 use crate::entry::open_mapping;
 use crate::frame::{Frame, Frames, Progress, Scope, Step, Wanted};
 use crate::halt::Counts;
-use crate::held::{
-    Held, joined, joined_behind, lead_of, line_properties, place_behind,
-};
+use crate::held::{Held, joined, joined_behind, lead_of, line_properties, place_behind};
 use crate::inline::{finish_inline, is_apart, read_inline};
 use crate::leaf::read_line_end;
 use crate::line::end_line;

@@ -288,12 +288,7 @@ fn take_first_key<'a>(
         → IfOk result (λ s. StepCounted scope.entry.text.now scope.entry.limit total (length frames.new.items) s) }
 {
     let frame = Frame::new(Kind::Mapping, column, claim.before.events);
-    let entry = entry_at(
-        scope.text,
-        progress.floor,
-        behind.spot.at,
-        Some(colon),
-    );
+    let entry = entry_at(scope.text, progress.floor, behind.spot.at, Some(colon));
     begin_mapping(
         alloc,
         scope,

@@ -163,11 +163,7 @@ fn placed_scalar<'a>(
 }
 
 // The lines that are kept of a folded scalar.
-fn kept_lines<'a>(
-    alloc: Global,
-    folded: bool,
-    lines: &Lines<'a>,
-) -> Result<Slices<'a>, AllocError>
+fn kept_lines<'a>(alloc: Global, folded: bool, lines: &Lines<'a>) -> Result<Slices<'a>, AllocError>
     ensures { IfOk result (λ s. s ≡ kept_of folded lines.now) }
 {
     let mut kept = Slices::new(alloc);
