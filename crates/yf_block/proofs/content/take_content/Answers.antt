@@ -20,5 +20,5 @@ returns-in-Some-clause-counted c = λ u total q. c.open_mapping.ensures.counted 
 pub returns-in-Some-2-clause-counted : goal.returns-in-Some-2-clause-counted
 returns-in-Some-2-clause-counted c = λ u total q. c.take_propertied.ensures.counted u total q
 
-pub returns-in-None-clause-counted : goal.returns-in-None-clause-counted
-returns-in-None-clause-counted c = λ u total q. c.take_behind.ensures.counted u total q
+pub returns-in-None-2-clause-counted : goal.returns-in-None-2-clause-counted
+returns-in-None-2-clause-counted c = λ u total q. c.take_behind.ensures.counted u total q

@@ -1,4 +1,4 @@
-use Rattle.std.proofs.Common.{arith}
+use Rattle.std.proofs.Common.{arith, length}
 use Rattle.yf_block.proofs.content.take_propertied.Goals as goal
 
 pub returns-then-line_ends-clause-counted : goal.returns-then-line_ends-clause-counted
