@@ -1,5 +1,5 @@
 -- The openers that stand ahead while block collections are read.
-use Rattle.std.proofs.Common.{◌≡◌, ℕ, suc, ◌+◌, ◌<◌, ◌≤◌, List, [], ◌∷◌, ◌++◌, length, Option, Some, None, inl, inr, sym, ap, subst, arith}
+use Rattle.std.proofs.Common.{◌≡◌, ℕ, suc, max, ◌+◌, ◌<◌, ◌≤◌, List, [], ◌∷◌, ◌++◌, length, Option, Some, None, inl, inr, sym, ap, subst, arith}
 use Rattle.std.proofs.lemmas.List.{length-append}
 use Rattle.std.specs.Str.{IsUtf8}
 use Rattle.yf_grammar.specs.BlockParser.{DashAt, SignAt}
@@ -66,3 +66,23 @@ held_later (Some h) q = let l = q.0.order in omega arith
 pub held_below : {t : List ℕ} {start at : ℕ} (inner : Option Held) → HeldBefore t at inner → start < behind_held at inner → start ≤ at
 held_below None b l = omega arith
 held_below (Some h) b l = let k = b.1 in omega arith
+
+pub held_after : {t : List ℕ} {start at : ℕ} (inner : Option Held) → HeldTo t start at inner → start ≤ at
+held_after None e = omega arith
+held_after (Some h) q = let l = q.0.order in let k = q.1 in omega arith
+
+-- where a collection has been taken off the stack
+pub popped_counted : {t : List ℕ} (total few many i j : ℕ) → few < many → i ≤ j → many + openers_from t i ≤ total → few + 1 + openers_from t j ≤ total
+popped_counted {t} total few many i j k l q = let o = openers_later t i j l in omega arith
+
+pub fewer_left : {all rest : List Frame} {f : Frame} (n : ℕ) → all ≡ rest ++ f ∷ [] → length all ≤ n → length rest < n
+fewer_left {all} {rest} {f} n e l = let k = length-append rest (f ∷ []) in let m = ap (λ z. length z) e in omega arith
+
+-- a key before its `:`, where no further collection may be opened
+pub key_full : {t : List ℕ} (limit total count deepest i j k : ℕ) → IsUtf8 t → SignAt t 58 k → i ≤ k → j ≤ k → deepest + openers_from t j ≤ total → count + openers_from t i ≤ total
+    → limit ≤ max deepest count → limit < total
+key_full {t} limit total count deepest i j k u s l m z q f =
+    let a = openers_later t i k l in
+    let b = openers_later t j k m in
+    let o = colon_opens k u s.sign_stands in
+    omega arith

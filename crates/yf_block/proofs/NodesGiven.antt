@@ -5,25 +5,32 @@ use Rattle.std.specs.Str.{IsCharBoundary, IsUtf8}
 use Rattle.yf_chars.specs.declared.context.Ctx.{Ctx}
 use Rattle.yf_chars.specs.Chain.{Stuck, Chosen}
 use Rattle.yf_lines.specs.Basic.{is_block}
+use Rattle.yf_lines.specs.FaultPlaces.{InText}
+use Rattle.yf_lines.specs.declared.fault.Fault.TheVariants.{TooDeep as TooDeepFault}
+use Rattle.yf_lines.specs.declared.place.Place.{Place}
 use Rattle.yf_events.specs.Event.{Placed}
 use Rattle.yf_events.specs.declared.part.Part.{Part}
+use Rattle.yf_events.specs.declared.reading.TheConstants.{DEPTH}
 use Rattle.yf_grammar.specs.Laws.{Fills}
 use Rattle.yf_grammar.specs.Parser.{Found, found}
 use Rattle.yf_grammar.specs.Part.{Noting, no_event, without_entry, with_entry, floor_behind, BlockNodePart}
 use Rattle.yf_grammar.specs.BlockParser.{text_ends, Nothing, BlockTask, Awaited, Whole}
 use Rattle.yf_grammar.specs.Halts.{Halts}
+use Rattle.yf_grammar.specs.Refusal.{ScanFault, for_depth}
+use Rattle.yf_grammar.proofs.Parts.{part_one}
 use Rattle.yf_grammar.proofs.LawsHold.{whole_nodes_are_chosen, no_block_node_is_missed}
 use Rattle.yf_grammar.proofs.PrefixWhole.{prefix_is_whole, prefix_reads, prefix_reads_some, prefix_boundary, prefix_utf8, prefix_length}
 use Rattle.yf_grammar.proofs.SoundSteps.{Width}
 use Rattle.yf_grammar.proofs.WholeLast.{whole_ends_last, last_moves, whole_moves}
 use Rattle.yf_flow.specs.Begun.{Added}
+use Rattle.yf_flow.specs.Counted.{openers_from}
 use Rattle.yf_block.specs.declared.nodes.Found.{Found as FoundNode}
 use Rattle.yf_block.specs.declared.nodes.Stop.{Stop}
 use Rattle.yf_block.specs.declared.nodes.Stop.TheVariants.{Done, Failed, TooDeep}
 use Rattle.yf_block.specs.declared.nodes.Stopped.{Stopped}
 use Rattle.yf_block.specs.BlockTied.{floor_after, Written, halt_end, TextTied}
 use Rattle.yf_block.specs.BlockStepTied.{Unfinished, none_found, line_left}
-use Rattle.yf_block.specs.NodeGiven.{NodeGiven, FoundTied}
+use Rattle.yf_block.specs.NodeGiven.{NodeGiven, FoundTied, NoneTied}
 use Rattle.yf_block.specs.RunTied.{RunDone, RunBroken, StopGives, RunTied, HaltAt}
 
 -- notes change no floor
@@ -214,3 +221,17 @@ found_again e z a b g q = record {
   broken = λ w. z;
   alone = λ x y w. given_over (a x) (b y) (g w) q;
 }
+
+-- a part that had nothing before is the node
+pub node_alone : {t : List ℕ} {limit : ℕ} {n : ℤ} {c : Ctx} {at end floor : ℕ} {start part : Part} → start.events ≡ [] → start.comments ≡ [] → start.escapes ≡ []
+    → NodeGiven t limit n c at end floor start part → Chosen (BlockNodePart t limit n c at) end part
+node_alone {t} {limit} {n} {c} {at} {end} {start = start} {part = part} e f g q =
+    let x = q.added.events ∙ ap (λ w. w ++ q.node.events) e in
+    let y = q.added.comments ∙ ap (λ w. w ++ q.node.comments) f in
+    let z = q.added.escapes ∙ ap (λ w. w ++ q.node.escapes) g in
+    subst (λ w. Chosen (BlockNodePart t limit n c at) end w) (sym (part_one part q.node x y z)) q.chosen
+
+pub too_deep_given : {t : List ℕ} {n : ℤ} {c : Ctx} {at : ℕ} {place : Place} → NoneTied t DEPTH n c at × (DEPTH < openers_from t at) → InText t place
+    → ScanFault t (BlockNodePart t DEPTH n c at) at (TooDeepFault place)
+unfolding openers_from
+too_deep_given q p = for_depth q.0.none q.1 p

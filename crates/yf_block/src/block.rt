@@ -44,24 +44,10 @@ pub fn read_block_node<'a>(
 {
     match scan_block_node(alloc, src, at, n, ctx) {
         Ok(None) => Ok(None),
-        Ok(
-            Some(
-                ScannedPart {
-                    part,
-                    escape: None,
-                    end,
-                },
-            ),
-        ) => Ok(Some(NodePart { part, end })),
-        Ok(
-            Some(
-                ScannedPart {
-                    part: _,
-                    escape: Some(place),
-                    end: _,
-                },
-            ),
-        ) => Err(Fault::EscapeValue { place }),
+        Ok(Some(ScannedPart { part, escape, end })) => match escape {
+            None => Ok(Some(NodePart { part, end })),
+            Some(place) => Err(Fault::EscapeValue { place }),
+        },
         Err(fault) => Err(fault),
     }
 }

@@ -191,6 +191,7 @@ fn end_propertied<'a>(
         → IfOk result (λ s. BlockTied text.now d root before frames s progress.new part.new) }
     ensures stepped { IfOk result (λ s. Stepped text.now (spot.at) 0 progress.new s) }
     ensures escapes { IfOk result (λ _. part.new.escapes ≡ part.old.escapes) }
+    ensures counted { (limit : ℕ) → (total : ℕ) → (count : ℕ) → count + openers_from text.now (spot.at) ≤ total → IfOk result (λ s. StepCounted text.now limit total count s) }
 {
     match joined_behind(progress.wanted.outer, inner) {
         None => {

@@ -188,6 +188,7 @@ pub(crate) fn take_line<'a>(
 fn sequence_begins(text: &str, at: usize, wanted: &Wanted, width: usize) -> bool
     ensures boundary { result ≡ true → IsCharBoundary text.now (at + 1) }
     ensures dash { SequenceBegins text.now at wanted.now width result }
+    ensures stands { result ≡ true → DashAt text.now at }
 {
     if dash_stands(text, at) {
         return may_hold_sequence(wanted, width);
@@ -286,6 +287,7 @@ fn end_empty<'a>(
         → IfOk result (λ s. BlockTied _text.now d root before (reverse frames.now.items) s progress.new part.new) }
     ensures stepped { IfOk result (λ s. Stepped _text.now at 1 progress.new s) }
     ensures escapes { IfOk result (λ _. part.new.escapes ≡ part.old.escapes) }
+    ensures counted { (limit : ℕ) → (total : ℕ) → (count : ℕ) → count + openers_from _text.now at ≤ total → IfOk result (λ s. StepCounted _text.now limit total count s) }
 {
     match progress.wanted.outer {
         Some(held) => {

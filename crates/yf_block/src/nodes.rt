@@ -1,5 +1,5 @@
 //! The reader of block nodes: one forward pass, with a stack of the open collections.
-ghost use Rattle.std.specs.Prelude.{◌≡◌, ℕ, ℤ, pos, ◌+ℤ◌, ◌^◌, ◌<◌, ◌≤◌, [], true, false, IfOk, IfSome, ◌+◌, length, MatchBool, MatchOption, Some, None};
+ghost use Rattle.std.specs.Prelude.{◌≡◌, ℕ, ℤ, pos, ◌+ℤ◌, ◌^◌, ◌<◌, ◌≤◌, [], true, false, IfOk, IfSome, ◌+◌, length, MatchBool, MatchOption, Some, None, Ok};
 ghost use Rattle.std.specs.List.{All};
 ghost use Rattle.std.specs.Str.{IsCharBoundary, IsUtf8};
 ghost use Rattle.yf_grammar.specs.BlockParser.{Nothing, Awaited, BlockTask};
@@ -104,7 +104,7 @@ pub fn block_node_in<'a>(
     requires escapes { All (IsCharBoundary text.now) part.old.escapes }
     ensures tied { is_block ctx ≡ true → Indentation n → length text.now ≤ 2 ^ 30
         → IfOk result (λ o. OutcomeTied text.now limit n ctx at part.old o part.new) }
-    ensures other { is_block ctx ≡ false → IfOk result (λ o. o ≡ Outcome.Nothing at) }
+    ensures other { is_block ctx ≡ false → result ≡ Ok (Outcome.Nothing at) }
     ensures place { IfOk result (λ o. OutcomeAt text.now at o) }
     ensures escapes { IfOk result (λ _. All (IsCharBoundary text.now) part.new.escapes) }
 {

@@ -1,4 +1,4 @@
-use Rattle.std.proofs.Common.{◌≡◌, ℕ, ◌+◌, pos, true, false, Some, None, refl, sym, ap, ◌∙◌, subst, arith}
+use Rattle.std.proofs.Common.{◌≡◌, ℕ, ◌+◌, pos, true, false, Some, None, refl, sym, ap, ◌∙◌, subst, arith, length, ◌≤◌}
 use Rattle.yf_events.specs.Edit.{edited, coloned}
 use Rattle.yf_block.specs.BlockTied.{wanted_after}
 use Rattle.yf_block.proofs.TiedKeys.{none_of, some_of, key_narrow, key_room, key_there, key_lost, key_nowhere, key_unended, key_column, key_ended}
@@ -74,4 +74,7 @@ returns-then-key_ends-clause-counted c = λ u total q.
 
 pub returns-in-TooDeep-clause-counted : goal.returns-in-TooDeep-clause-counted
 returns-in-TooDeep-clause-counted c = λ u total q.
-    rw c.in-TooDeep.is at (c.in_ok-node-in-At.ensures.counted u total c.args.entry.start ? (omega (arith, q, c.len.ensures.value)))
+    let p = rw c.in-At.is at c.in_ok-place.ensures.place in
+    rw c.in-TooDeep.is at (c.in_ok-node-in-At.ensures.counted u total c.args.entry.start (omega (arith, p.2)) (omega (arith, q, c.len.ensures.value)))
+
+

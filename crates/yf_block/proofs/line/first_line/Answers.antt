@@ -14,3 +14,6 @@ returns-in_default c = record {
   escapes = c.in_ok-other.ensures.escapes;
   counted = c.in_ok-other.ensures.counted;
 }
+
+pub returns-in-Line-clause-counted : goal.returns-in-Line-clause-counted
+returns-in-Line-clause-counted c = λ limit total count q. rw c.in-Line.is at (c.in_ok-other.ensures.counted limit total count q)

@@ -1,6 +1,7 @@
-use Rattle.std.proofs.Common.{reverse}
+use Rattle.std.proofs.Common.{reverse, length}
 use Rattle.yf_block.proofs.TiedAlone.{line_noted}
 use Rattle.yf_block.proofs.TiedIndented.{dash_begins}
+use Rattle.yf_block.proofs.CountedSteps.{later}
 use Rattle.yf_block.proofs.line.take_line.Goals as goal
 
 pub returns-then-node_ends-clause-tied : goal.returns-then-node_ends-clause-tied
@@ -31,3 +32,12 @@ returns-clause-tied c = λ d root before s r a.
       no_space = w.all;
       undashed = rw c.if-sequence_begins.false at (c.sequence_begins.ensures.dash x.indentation x.context x.wanted.least x.wanted.out);
     })
+
+pub returns-then-node_ends-clause-counted : goal.returns-then-node_ends-clause-counted
+returns-then-node_ends-clause-counted c = λ u total q. c.end_empty.ensures.counted c.args.scope.limit total (length c.args.frames.now.items) q
+
+pub returns-then-sequence_begins-clause-counted : goal.returns-then-sequence_begins-clause-counted
+returns-then-sequence_begins-clause-counted c = λ u total q. c.open_sequence.ensures.counted u total (c.sequence_begins.ensures.stands c.if-sequence_begins.true) (later (length c.args.frames.now.items) total c.args.at c.skip_spaces-start.result c.skip_spaces-start.ensures.order q)
+
+pub returns-clause-counted : goal.returns-clause-counted
+returns-clause-counted c = λ u total q. c.take_indented.ensures.counted u total q

@@ -1,4 +1,4 @@
-use Rattle.std.proofs.Common.{◌++◌, ◌∷◌, [], sym, ap, ◌∙◌, refl, append-nil, true≢false, arith}
+use Rattle.std.proofs.Common.{◌++◌, ◌∷◌, [], sym, ap, ◌∙◌, refl, append-nil, true≢false, arith, length, ◌+◌}
 use Rattle.yf_block.specs.Closing.{value_missing}
 use Rattle.yf_block.proofs.TiedEntries.{pair_follows_top}
 use Rattle.yf_block.proofs.CountedSteps.{later, later_counted}
