@@ -23,7 +23,8 @@ use yf_lines::source_text::Src;
 /// place, and the offset after it. `n` is the indentation of the collection around it, from -1.
 ///
 /// The node is the longest that stands there: where the text goes wrong later, it ends at the last place at which all open
-/// nodes may end. `None` where no block node begins there in that context.
+/// nodes may end. `None` where no block node begins there in that context. In other contexts than block-out and block-in
+/// there is none. Texts are of 1 GiB at most, and no column of such a text is 2^30 or more.
 ///
 /// # Errors
 ///
