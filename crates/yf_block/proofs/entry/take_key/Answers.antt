@@ -76,5 +76,3 @@ pub returns-in-TooDeep-clause-counted : goal.returns-in-TooDeep-clause-counted
 returns-in-TooDeep-clause-counted c = λ u total q.
     let p = rw c.in-At.is at c.in_ok-place.ensures.place in
     rw c.in-TooDeep.is at (c.in_ok-node-in-At.ensures.counted u total c.args.entry.start (omega (arith, p.2)) (omega (arith, q, c.len.ensures.value)))
-
-

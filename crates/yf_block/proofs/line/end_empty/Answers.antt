@@ -1,4 +1,4 @@
-use Rattle.std.proofs.Common.{ℕ, reverse, length, refl, sym, ap, ◌∙◌, arith}
+use Rattle.std.proofs.Common.{[], ◌∷◌, ◌++◌, ℕ, reverse, length, refl, sym, ap, ◌∙◌, arith}
 use Rattle.std.proofs.lemmas.List.{length-reverse}
 use Rattle.yf_events.specs.Event.{Placed}
 use Rattle.yf_block.specs.declared.frame.Frame.{Frame}
