@@ -136,13 +136,13 @@ module _ {t : List ℕ} {d : ℕ} {root : BlockTask} {before old : Part} {frames
     go_read {f} e y r i w =
         let props = bare x r in
         leaf_here (indented (content_node y props r)) props (λ h q. y) (later x e) i w as_json as_plain last fl co ha where
-      bare : {j : Option Held} {k : ℕ} → TextBehind t p j k → ContentAt t a.room (pos progress.wanted.least) FlowOut k (Some f) → begins_properties (code t k) ≡ false
-      bare (text_alone q) r = bare_content r refl
-      bare (text_held l q b) r = b.no_property
+          bare : {j : Option Held} {k : ℕ} → TextBehind t p j k → ContentAt t a.room (pos progress.wanted.least) FlowOut k (Some f) → begins_properties (code t k) ≡ false
+          bare (text_alone q) r = bare_content r refl
+          bare (text_held l q b) r = b.no_property
 
-      later : {j : Option Held} {k : ℕ} → TextBehind t p j k → Answers.NoEmptyKey t k j → (held : Held) → j ≡ Some held → held.end < k
-      later (text_alone q) e held z = absurd (no_none (sym z))
-      later (text_held {held = h} {at = k} l q b) e held z = subst (λ (g : Held). g.end < k) (same_held z) (behind_later utf8 l q b (e h refl))
+          later : {j : Option Held} {k : ℕ} → TextBehind t p j k → Answers.NoEmptyKey t k j → (held : Held) → j ≡ Some held → held.end < k
+          later (text_alone q) e held z = absurd (no_none (sym z))
+          later (text_held {held = h} {at = k} l q b) e held z = subst (λ (g : Held). g.end < k) (same_held z) (behind_later utf8 l q b (e h refl))
 
     go_alias : {f : Found} → inner ≡ None → Parses t a.room (ANode (pos progress.wanted.least) FlowOut at) (Some f) → NodeIs depth f node → WrittenWith t lead f.meaning (from_to at node.end) node.end old new
         → AtLeaf t d root before frames plain node.end after new

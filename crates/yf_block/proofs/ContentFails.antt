@@ -84,9 +84,9 @@ module _ {t : List ℕ} {d : ℕ} {root : BlockTask} {before part : Part} {frame
       let f' = subst (λ (z : ℕ). is_white (code t z) ≡ false) same f in
       missing (properties_alone_missed s n c l f') (halts_properties_missed s n c l f'))
       (cases_lt g k) where
-    of_whose : g < k → Whose a.ahead q p g → AtFailed t d root progress
-    of_whose o (of_one {z = z} j) = let r = leaf z (joined_props j) in missing (properties_leaf s n c l m o f j r.whole) (halts_properties_leaf s n c l m o f j r.halted)
-    of_whose o (of_two x) = missing (properties_apart s n c l x) (halts_properties_apart s n c l x)
+        of_whose : g < k → Whose a.ahead q p g → AtFailed t d root progress
+        of_whose o (of_one {z = z} j) = let r = leaf z (joined_props j) in missing (properties_leaf s n c l m o f j r.whole) (halts_properties_leaf s n c l m o f j r.halted)
+        of_whose o (of_two x) = missing (properties_apart s n c l x) (halts_properties_apart s n c l x)
 
   -- no leaf stands behind the properties
   pub leaf_fails : {inner : Option Held} {at : ℕ} → TextBehind t p inner at → NoKeyAt t a.room a.indentation cols p

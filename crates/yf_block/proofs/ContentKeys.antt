@@ -131,11 +131,11 @@ module _ {t : List ℕ} {d : ℕ} {root : BlockTask} {before old : Part} {frames
         let r = room_there a in
         let y = n.deepest in
         broken_fails (key_full q a.room a.node node_parsed (is_key m e) (full r y f)) a.stack.halted where
-      full : length frames + a.room ≡ d → node.deepest ≡ depth + n.answer.height → (node.deepest < d → depth < d → ⊥) → a.room ≤ n.answer.height
-      full r y f = ⊎_elim
-          (λ (l : n.answer.height < a.room). absurd (f (omega (arith, r, y, o, l)) (omega (arith, r, o, l))))
-          (λ (l : a.room ≤ n.answer.height). l)
-          (cases_lt n.answer.height a.room)
+          full : length frames + a.room ≡ d → node.deepest ≡ depth + n.answer.height → (node.deepest < d → depth < d → ⊥) → a.room ≤ n.answer.height
+          full r y f = ⊎_elim
+              (λ (l : n.answer.height < a.room). absurd (f (omega (arith, r, y, o, l)) (omega (arith, r, o, l))))
+              (λ (l : a.room ≤ n.answer.height). l)
+              (cases_lt n.answer.height a.room)
 
     -- the line goes on otherwise behind it
     pub no_key_there : {column : Option ℕ} {v : ℕ} {w : List ℕ} → cols.mapping ≡ column → Many t is_white node.end v w → is_white (code t v) ≡ false → ((m : ℕ) → column ≡ Some m → KeyEnds t p v → ⊥)

@@ -141,9 +141,9 @@ module _ {t : List ℕ} {d : ℕ} {root : BlockTask} {before part : Part} {frame
       let f' = subst (λ (z : ℕ). is_white (code t z) ≡ false) same f in
       line_end_stuck inside (stuck_alone (λ h c. no_separation f' inside c) (record { none = λ j e. no_end (subst (λ (z : ℕ). BreakOrEnd t z j) (sym same) e) })))
       (cases_lt held.end place) where
-    no_end : {j : ℕ} → BreakOrEnd t place j → ⊥
-    no_end (by_break b) = ⊎_elim (λ c. n (return_stands c)) (λ c. n (feed_stands c)) (break_char b)
-    no_end (by_end c) = n (text_stops c)
+        no_end : {j : ℕ} → BreakOrEnd t place j → ⊥
+        no_end (by_break b) = ⊎_elim (λ c. n (return_stands c)) (λ c. n (feed_stands c)) (break_char b)
+        no_end (by_end c) = n (text_stops c)
 
   -- nothing may stand there
   pub nowhere_behind_fails : Stuck (LineEnd t held.end) → NoPlaceBehind t held.end → AtFailed t d root progress

@@ -171,7 +171,7 @@ module _ {t : List ℕ} {e : ℕ} {ws : List ℕ} {n : ℤ} {a : Ahead} {p : ℕ
       (λ (c : begins_alias (code t p) ≡ false). let m : MayLeaf t a p = record { no_props = b; no_alias = λ {h} q. c } in leaf_misses m (f m))
       (cases_Bool (begins_alias (code t p))))
       (cases_Bool (begins_properties (code t p))) where
-    of_alias : (z : Ahead) → z ≡ a → begins_properties (code t p) ≡ false → begins_alias (code t p) ≡ true → NoLeaf t e ws n a p
-    of_alias Nothing q b c = let m : MayLeaf t a p = record { no_props = b; no_alias = λ {h} x. absurd (no_props_nothing (q ∙ x)) } in leaf_misses m (f m)
-    of_alias (Indicator i) q b c = let m : MayLeaf t a p = record { no_props = b; no_alias = λ {h} x. absurd (no_props_sign (q ∙ x)) } in leaf_misses m (f m)
-    of_alias (Props h) q b c = leaf_refuses (λ m. true≢false (sym c ∙ m.no_alias (sym q)))
+        of_alias : (z : Ahead) → z ≡ a → begins_properties (code t p) ≡ false → begins_alias (code t p) ≡ true → NoLeaf t e ws n a p
+        of_alias Nothing q b c = let m : MayLeaf t a p = record { no_props = b; no_alias = λ {h} x. absurd (no_props_nothing (q ∙ x)) } in leaf_misses m (f m)
+        of_alias (Indicator i) q b c = let m : MayLeaf t a p = record { no_props = b; no_alias = λ {h} x. absurd (no_props_sign (q ∙ x)) } in leaf_misses m (f m)
+        of_alias (Props h) q b c = leaf_refuses (λ m. true≢false (sym c ∙ m.no_alias (sym q)))

@@ -122,9 +122,9 @@ module _ {t : List ℕ} {d : ℕ} {root : BlockTask} {before part : Part} {frame
         stack = start.stack;
         read = subst (λ z. ReadTied t before (all_written start.layers ⊕ only (start.comments ++ z) 0) progress part) (sym (behind_comments v.joined)) start.read;
       } where
-    later : {j : Option Held} {k : ℕ} → TextBehind t b.spot.at j k → ScalarSignAt t k → (held : Held) → j ≡ Some held → held.end < k
-    later (text_alone q) w held z = absurd (no_none (sym z))
-    later (text_held {held = h} {at = m} l q k) w held z = subst (λ (g : Held). g.end < m) (same_held z) (behind_later utf8 l q k (λ c. bar_no_colon w c))
+        later : {j : Option Held} {k : ℕ} → TextBehind t b.spot.at j k → ScalarSignAt t k → (held : Held) → j ≡ Some held → held.end < k
+        later (text_alone q) w held z = absurd (no_none (sym z))
+        later (text_held {held = h} {at = m} l q k) w held z = subst (λ (g : Held). g.end < m) (same_held z) (behind_later utf8 l q k (λ c. bar_no_colon w c))
 
   -- no node was read
   pub nothing_read : InlineLost t start.room (pos progress.wanted.least) b.at b.inner → (ScalarSignAt t b.at → ⊥) → AtFailed t d root progress

@@ -17,6 +17,7 @@ pub mod PrefixLemmas
 -- `read_block_node`: the stack and the recursive reader agree (`BlockTied`)
 pub mod TiedFrames
 pub mod TiedFits
+pub mod CountedSteps
 -- the steps on a line
 pub mod ContentNodes
 pub mod ContentFails
@@ -30,7 +31,9 @@ pub mod ScalarLines
 pub mod TiedScalar
 pub mod ContentSteps
 -- for further theorems
+pub mod NodesGiven
 pub mod NotingLemmas
+pub mod RunLemmas
 pub mod HashNodes
 pub mod LineHalts
 pub mod TiedAlone

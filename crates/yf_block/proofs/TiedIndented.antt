@@ -1,5 +1,5 @@
 -- A node that is awaited at the start of a line begins on that line: its first character, and the columns at which it may be a collection.
-use Rattle.std.proofs.Common.{◌≡◌, ◌≢◌, ℕ, ◌+◌, ◌-◌, ◌<◌, ◌≤◌, ℤ, pos, ◌+ℤ◌, ◌≤ℤ◌, true, false, List, [], ◌++◌, length, Option, Some, None, refl, sym, ap, ◌∙◌, subst, arith, append_assoc, append-nil, Bool, ◌⊎◌, inl, inr, ⊎_elim}
+use Rattle.std.proofs.Common.{◌≡◌, ◌≢◌, ℕ, ◌+◌, ◌-◌, ◌<◌, ◌≤◌, ℤ, pos, ◌+ℤ◌, ◌≤ℤ◌, true, false, List, [], ◌++◌, length, Option, Some, None, MatchOption, refl, sym, ap, ◌∙◌, subst, arith, append_assoc, append-nil, Bool, ◌⊎◌, inl, inr, ⊎_elim}
 use Rattle.std.proofs.lemmas.Bool.{cases_lt, cases_eq}
 use Rattle.std.proofs.lemmas.Int.{ints}
 use Rattle.yf_chars.specs.declared.context.Ctx.{Ctx}
@@ -260,3 +260,20 @@ module _ {t : List ℕ} {d : ℕ} {root : BlockTask} {before : Part} {frames : L
       } in
       let m = column_decided p (start - p) start _ (deep_or_not a.indentation a.wanted.least) in
       (record { sequence = Some (start - p); mapping = m.0 }, refl, begins_there a x (line_dashed h (sym here) l) (record { sequence = column_there (sym here) l; mapping = m.1 }))
+
+-- it begins at that character
+module _ {t : List ℕ} {d : ℕ} {root : BlockTask} {before : Part} {frames : List Frame} {p start : ℕ} {progress : Progress} {part : Part} (i : AtIndented t d root before frames p start progress part)
+    {place : ℕ} {w : List ℕ} (run : Many t is_white start place w) (no_white : is_white (code t place) ≡ false) where
+  line_begins : (progress.wanted.least ≤ start - p) ⊎ (progress.first ≡ true) → Begins t i.at.indentation i.at.context progress.from p (start - p) place
+  line_begins b = ⊎_elim (λ (l : progress.wanted.least ≤ start - p). begins_deep i run no_white l) (λ (f : progress.first ≡ true). begins_first i run no_white f) b
+
+  mapping_column : (column : Option ℕ) → MatchOption column (place ≡ start → progress.wanted.least ≤ start - p → ⊥) (λ m. (m ≡ start - p) × (place ≡ start) × (progress.wanted.least ≤ start - p))
+      → ColumnIf p (start - p) place (least_column false i.at.indentation i.at.context) column
+  mapping_column None n = column_none i run no_white n
+  mapping_column (Some m) y =
+      subst (λ (z : ℕ). ColumnIf p (start - p) place (least_column false i.at.indentation i.at.context) (Some z)) (sym y.0) (column_deep i run no_white y.2 y.1)
+
+  pub line_starts : place ≢ length t → code t place ≢ 35 → (progress.wanted.least ≤ start - p) ⊎ (progress.first ≡ true) → (column : Option ℕ)
+      → MatchOption column (place ≡ start → progress.wanted.least ≤ start - p → ⊥) (λ m. (m ≡ start - p) × (place ≡ start) × (progress.wanted.least ≤ start - p))
+      → AtStart t d root before frames (record { sequence = (sequence_column i run no_white).0; mapping = column }) place progress part
+  line_starts n h b column m = begins_there i.at (line_there i run no_white n h) (line_begins b) (columns_there i run no_white (mapping_column column m))

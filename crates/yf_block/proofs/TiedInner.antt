@@ -173,3 +173,9 @@ ends_anyway (text_stops e) = text_stops e
 ends_anyway (feed_stands e) = feed_stands e
 ends_anyway (return_stands e) = return_stands e
 ends_anyway (hash_stands c e) = absurd (true≢false (sym c))
+
+pub later_than : {a b : ℕ} → a ≤ b → (b ≡ a → ⊥) → a < b
+later_than {a} {b} l n = ⊎_elim (λ (m : a < b). m) (λ (m : b ≤ a). absurd (n (omega (arith, l, m)))) (cases_lt a b)
+
+pub no_end_behind : {t : List ℕ} {b : Bool} {p : ℕ} → (LineEndsAt t b p → ⊥) → b ≡ true → LineEndsAt t true p → ⊥
+no_end_behind {t} {b} {p} n e y = n (subst (λ z. LineEndsAt t z p) (sym e) y)

@@ -25,7 +25,7 @@ use Rattle.yf_block.specs.declared.resume.Next.{Next}
 use Rattle.yf_block.specs.declared.resume.Fit.TheVariants.{Behind}
 use Rattle.yf_block.specs.Fits.{FitsLine}
 use Rattle.yf_block.specs.Looks.{NotWithinBreak}
-use Rattle.yf_block.specs.BlockTied.{stage_entry, layers_entry, begins, ahead_comments, all_written, entries_written, Written, ReadTied, CollectionTied, FrameTied, StackTied, halt_end, EntryTied}
+use Rattle.yf_block.specs.BlockTied.{stage_entry, layers_entry, begins, ahead_comments, all_written, entries_written, ReadTied, CollectionTied, FrameTied, StackTied, halt_end, EntryTied}
 
 -- properties on hold, and what stands ahead of the node that is awaited
 pub record HeldTied (h : HeldValue) (held : Held) : Type 0 where
@@ -155,7 +155,7 @@ pub record AtDone (t : List ℕ) (d : ℕ) (root : BlockTask) (before : Part) (p
   pub halts : Halts t d [] root halt
   pub end : answer.end ≡ p
   pub halted : progress.halt ≡ halt_end halt
-  pub written : Written t before answer.meaning part
+  pub read : ReadTied t before answer.meaning progress part
 
 -- nothing is found, or what is found leaves a line of the text that is none of comments: a comment that no break ends
 pub data Unfinished (t : List ℕ) (d : ℕ) (root : BlockTask) : Type 0 where

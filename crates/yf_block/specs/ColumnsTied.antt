@@ -4,7 +4,7 @@ use Rattle.yf_chars.specs.declared.context.Ctx.{Ctx}
 use Rattle.yf_chars.specs.Text.{code}
 use Rattle.yf_chars.specs.Class.{is_white}
 use Rattle.yf_grammar.specs.Grammar.{least_column}
-use Rattle.yf_grammar.specs.BlockParser.{Columns, Compact}
+use Rattle.yf_grammar.specs.BlockParser.{DashAt, Columns, Compact}
 use Rattle.yf_block.specs.declared.frame.Wanted.{Wanted}
 use Rattle.yf_block.specs.BlockStepTied.{is_out}
 
@@ -20,3 +20,8 @@ CompactTied t wanted at place column = (n : ℤ) → pos wanted.least ≡ n +ℤ
 abbrev pub SequenceTied : Wanted → ℕ → Bool → Type 0
 SequenceTied wanted width result = (n : ℤ) → (c : Ctx) → pos wanted.least ≡ n +ℤ pos 1 → wanted.out ≡ is_out c
     → MatchBool result (least_column true n c ≤ℤ pos width) (least_column true n c ≤ℤ pos width → ⊥)
+
+-- whether one stands there
+abbrev pub SequenceBegins : List ℕ → ℕ → Wanted → ℕ → Bool → Type 0
+SequenceBegins t at wanted width result = (n : ℤ) → (c : Ctx) → pos wanted.least ≡ n +ℤ pos 1 → wanted.out ≡ is_out c
+    → MatchBool result (DashAt t at × (least_column true n c ≤ℤ pos width)) (DashAt t at → least_column true n c ≤ℤ pos width → ⊥)

@@ -4,6 +4,7 @@ pub mod BlockTied
 pub mod ClaimsTied
 pub mod Closing
 pub mod ColumnsTied
+pub mod Counted
 pub mod ContentTied
 pub mod Fits
 pub mod HeldAnswers
@@ -16,8 +17,9 @@ pub mod LineStepTied
 pub mod LineTied
 pub mod Looks
 pub mod Machine
+pub mod NodeGiven
 pub mod NodeReaders
 pub mod NotedHalts
 pub mod ScalarTied
-pub mod ScratchSpec
 pub mod RootTied
+pub mod RunTied

@@ -1,7 +1,7 @@
 //! What a node has on one line: the sign of an entry, properties, a block scalar, or a flow node.
-ghost use Rattle.std.specs.Prelude.{◌≡◌, ◌+◌, ◌^◌, ◌<◌, ℕ, List, Some, IfOk, MatchBool, MatchOption, reverse};
+ghost use Rattle.std.specs.Prelude.{◌≡◌, ◌+◌, Some, IfOk, MatchBool, ◌⊎◌, ℕ, ◌≤◌, length, ◌^◌, ◌<◌, List, MatchOption, reverse};
 ghost use Rattle.std.specs.List.{All};
-ghost use Rattle.std.specs.Str.{IsCharBoundary};
+ghost use Rattle.std.specs.Str.{IsCharBoundary, IsUtf8};
 ghost use Rattle.yf_flow.specs.Machine.{Place};
 ghost use Rattle.yf_grammar.specs.BlockParser.{Ahead, BlockTask, Columns, DashAt};
 ghost use Rattle.yf_block.specs.declared.held.Held.{Held as HeldProperties};
@@ -11,13 +11,13 @@ ghost use Rattle.yf_block.specs.ContentTied.{AtBehind, AtContent, CountsOf, Ends
 ghost use Rattle.yf_block.specs.HeldAnswers.{Holds, LineProperties, held_lead, lead_at};
 ghost use Rattle.yf_block.specs.InlineTied.{AtStart, EntrySignAt};
 ghost use Rattle.yf_block.specs.Machine.{Stepped, ProgressAt, HeldTo};
+ghost use Rattle.yf_flow.specs.Counted.{openers_from};
+ghost use Rattle.yf_block.specs.Counted.{StepCounted};
 
 use crate::entry::open_mapping;
 use crate::frame::{Frame, Frames, Progress, Scope, Step, Wanted};
 use crate::halt::Counts;
-use crate::held::{
-    Held, joined, joined_behind, lead_of, line_properties, place_behind,
-};
+use crate::held::{Held, joined, joined_behind, lead_of, line_properties, place_behind};
 use crate::inline::{finish_inline, is_apart, read_inline};
 use crate::leaf::read_line_end;
 use crate::line::end_line;
@@ -87,6 +87,8 @@ pub(crate) fn take_content<'a>(
         → IfOk result (λ s. BlockTied scope.entry.text.now d root before (reverse frames.new.items) s progress.new part.new) }
     ensures stepped { IfOk result (λ s. Stepped scope.entry.text.now (spot.at) 0 progress.new s) }
     ensures escapes { IfOk result (λ _. All (IsCharBoundary scope.entry.text.now) part.new.escapes) }
+    ensures counted { IsUtf8 scope.entry.text.now → (total : ℕ) → length frames.old.items + openers_from scope.entry.text.now (spot.at) ≤ total
+        → IfOk result (λ s. StepCounted scope.entry.text.now scope.entry.limit total (length frames.new.items) s) }
 {
     match signed_column(scope.text, spot) {
         Some(column) => open_mapping(alloc, scope, spot.at, column, progress, frames, part),
@@ -150,6 +152,8 @@ fn take_propertied<'a>(
         → IfOk result (λ s. BlockTied scope.entry.text.now d root before (reverse frames.new.items) s progress.new part.new) }
     ensures stepped { IfOk result (λ s. Stepped scope.entry.text.now (spot.at) 0 progress.new s) }
     ensures escapes { IfOk result (λ _. All (IsCharBoundary scope.entry.text.now) part.new.escapes) }
+    ensures counted { IsUtf8 scope.entry.text.now → (total : ℕ) → length frames.old.items + openers_from scope.entry.text.now (spot.at) ≤ total
+        → IfOk result (λ s. StepCounted scope.entry.text.now scope.entry.limit total (length frames.new.items) s) }
 {
     let place = skip_whites(scope.text, inner.end);
     if line_ends(scope.text, place, place > inner.end) {
@@ -187,6 +191,7 @@ fn end_propertied<'a>(
         → IfOk result (λ s. BlockTied text.now d root before frames s progress.new part.new) }
     ensures stepped { IfOk result (λ s. Stepped text.now (spot.at) 0 progress.new s) }
     ensures escapes { IfOk result (λ _. part.new.escapes ≡ part.old.escapes) }
+    ensures counted { (limit : ℕ) → (total : ℕ) → (count : ℕ) → count + openers_from text.now (spot.at) ≤ total → IfOk result (λ s. StepCounted text.now limit total count s) }
 {
     match joined_behind(progress.wanted.outer, inner) {
         None => {
@@ -220,6 +225,8 @@ fn take_behind<'a>(
         → IfOk result (λ s. BlockTied scope.entry.text.now d root before (reverse frames.new.items) s progress.new part.new) }
     ensures stepped { IfOk result (λ s. Stepped scope.entry.text.now (behind.now.spot.at) 0 progress.new s) }
     ensures escapes { IfOk result (λ _. All (IsCharBoundary scope.entry.text.now) part.new.escapes) }
+    ensures counted { IsUtf8 scope.entry.text.now → (total : ℕ) → length frames.old.items + openers_from scope.entry.text.now (behind.now.spot.at) ≤ total
+        → IfOk result (λ s. StepCounted scope.entry.text.now scope.entry.limit total (length frames.new.items) s) }
 {
     let claim = claim_of(scope.text, behind, &progress.wanted, part);
     let least = progress.wanted.least;

@@ -1,7 +1,7 @@
 //! Block collections and their entries (YAML 1.2.2, section 8.2).
-ghost use Rattle.std.specs.Prelude.{◌≡◌, ◌≢◌, ℕ, ◌+◌, ◌-◌, ◌^◌, ◌<◌, ◌≤◌, true, false, List, Some, None, IfOk, IfSome, reverse};
+ghost use Rattle.std.specs.Prelude.{◌≡◌, ◌≢◌, ℕ, ◌+◌, ◌-◌, ◌^◌, ◌<◌, ◌≤◌, true, false, List, Some, None, IfOk, IfSome, reverse, length};
 ghost use Rattle.std.specs.List.{All};
-ghost use Rattle.std.specs.Str.{IsCharBoundary};
+ghost use Rattle.std.specs.Str.{IsCharBoundary, IsUtf8};
 ghost use Rattle.yf_chars.specs.Text.{code};
 ghost use Rattle.yf_comments.specs.Comments.{Blank};
 ghost use Rattle.yf_events.specs.Event.{placed_value};
@@ -15,6 +15,8 @@ ghost use Rattle.yf_block.specs.InlineTied.{AtStart, EntrySignAt, started};
 ghost use Rattle.yf_block.specs.KeyAwaited.{KeyAwaited};
 ghost use Rattle.yf_block.specs.KeyTexts.{KeyTextAt, KeyTextPlace};
 ghost use Rattle.yf_block.specs.Machine.{Stepped, ProgressAt};
+ghost use Rattle.yf_flow.specs.Counted.{openers_from};
+ghost use Rattle.yf_block.specs.Counted.{EntryCounted, StepCounted};
 
 use crate::frame::{Frame, Frames, Kind, Progress, Scope, Step, Wanted};
 use crate::held::{Held, lead_of, line_properties, place_behind};
@@ -92,6 +94,8 @@ pub(crate) fn open_sequence<'a>(
         → IfOk result (λ s. BlockTied scope.entry.text.now d root before (reverse frames.new.items) s progress.new part.new) }
     ensures stepped { IfOk result (λ s. Stepped scope.entry.text.now at 0 progress.new s) }
     ensures escapes { IfOk result (λ _. part.new.escapes ≡ part.old.escapes) }
+    ensures counted { IsUtf8 scope.entry.text.now → (total : ℕ) → DashAt scope.entry.text.now at → length frames.old.items + openers_from scope.entry.text.now at ≤ total
+        → IfOk result (λ s. StepCounted scope.entry.text.now scope.entry.limit total (length frames.new.items) s) }
 {
     let frame = Frame::new(Kind::Sequence, column, part.events.len());
     if frames.len() >= scope.limit {
@@ -116,6 +120,8 @@ pub(crate) fn take_item<'a>(
         → frame.awaits_colon ≡ false → AtEntry text.now d root before (reverse frames.old.items) frame at progress.old part
         → IfOk result (λ s. BlockTied text.now d root before (reverse frames.new.items) s progress.new part) }
     ensures stepped { IfOk result (λ s. Stepped text.now at 0 progress.new s) }
+    ensures counted { (limit : ℕ) → (total : ℕ) → length frames.old.items + 1 + openers_from text.now (at + 1) ≤ total
+        → IfOk result (λ s. StepCounted text.now limit total (length frames.new.items) s) }
 {
     frames.push(frame)?;
     let entry = entry_at(text, progress.floor, at, None);
@@ -184,6 +190,8 @@ pub(crate) fn take_explicit_value<'a>(
     ensures halt { IfOk result (λ _. progress.new.halt ≡ progress.old.halt) }
     ensures step { IfOk result (λ s. s ≡ Step.Node (colon + 1)) }
     ensures escapes { IfOk result (λ _. part.new.escapes ≡ part.old.escapes) }
+    ensures counted { (limit : ℕ) → (total : ℕ) → length frames.old.items + 1 + openers_from _text.now (colon + 1) ≤ total
+        → IfOk result (λ s. StepCounted _text.now limit total (length frames.new.items) s) }
 {
     part.events.set_colon(frame.entry_event, colon)?;
     frames.push(Frame {
@@ -212,6 +220,8 @@ pub(crate) fn open_mapping<'a>(
         → IfOk result (λ s. BlockTied scope.entry.text.now d root before (reverse frames.new.items) s progress.new part.new) }
     ensures stepped { IfOk result (λ s. Stepped scope.entry.text.now at 0 progress.new s) }
     ensures escapes { IfOk result (λ _. All (IsCharBoundary scope.entry.text.now) part.new.escapes) }
+    ensures counted { IsUtf8 scope.entry.text.now → (total : ℕ) → EntrySignAt scope.entry.text.now at → length frames.old.items + openers_from scope.entry.text.now at ≤ total
+        → IfOk result (λ s. StepCounted scope.entry.text.now scope.entry.limit total (length frames.new.items) s) }
 {
     let frame = Frame::new(Kind::Mapping, column, part.events.len());
     if frames.len() >= scope.limit {
@@ -240,6 +250,8 @@ pub(crate) fn take_entry<'a>(
         → IfOk result (λ s. BlockTied scope.entry.text.now d root before (reverse frames.new.items) s progress.new part.new) }
     ensures stepped { IfOk result (λ s. Stepped scope.entry.text.now at 0 progress.new s) }
     ensures escapes { IfOk result (λ _. All (IsCharBoundary scope.entry.text.now) part.new.escapes) }
+    ensures counted { IsUtf8 scope.entry.text.now → (total : ℕ) → EntryCounted scope.entry.text.now total (length frames.old.items) at
+        → IfOk result (λ s. StepCounted scope.entry.text.now scope.entry.limit total (length frames.new.items) s) }
 {
     let entry = entry_at(scope.text, progress.floor, at, None);
     if sign_stands(scope.text, at, b'?') {
@@ -284,6 +296,8 @@ fn take_key<'a>(
         → IfOk result (λ s. BlockTied scope.entry.text.now d root before (reverse frames.new.items) s progress.new part.new) }
     ensures stepped { IfOk result (λ s. Stepped scope.entry.text.now (entry.start) 0 progress.new s) }
     ensures escapes { IfOk result (λ _. All (IsCharBoundary scope.entry.text.now) part.new.escapes) }
+    ensures counted { IsUtf8 scope.entry.text.now → (total : ℕ) → length frames.old.items + openers_from scope.entry.text.now (entry.start) ≤ total
+        → IfOk result (λ s. StepCounted scope.entry.text.now scope.entry.limit total (length frames.new.items) s) }
 {
     let start = entry.start;
     let inner = line_properties(alloc, scope.text, start)?;

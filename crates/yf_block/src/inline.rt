@@ -1,6 +1,6 @@
 //! What stands on a line after properties, or where there are none: a flow node or an alias, which may be the first key of
 //! a mapping.
-ghost use Rattle.std.specs.Prelude.{◌≡◌, ℕ, ℤ, ◌+◌, ◌^◌, ◌≤◌, ◌≤ℤ◌, pos, true, false, List, ◌∷◌, ◌++◌, length, reverse, Some, None, IfOk, IfSome, MatchBool, MatchOption};
+ghost use Rattle.std.specs.Prelude.{◌≡◌, ℕ, ℤ, ◌+◌, ◌^◌, ◌<◌, ◌≤◌, ◌≤ℤ◌, pos, false, None, IfOk, IfSome, MatchOption, length, true, List, ◌∷◌, ◌++◌, reverse, Some, MatchBool};
 ghost use Rattle.std.specs.List.{All};
 ghost use Rattle.std.specs.Str.{IsCharBoundary, IsUtf8};
 ghost use Rattle.yf_chars.specs.Text.{code};
@@ -12,6 +12,8 @@ ghost use Rattle.yf_block.specs.ContentTied.{AtFirstKey, AtInline, KeyOrLost, Ke
 ghost use Rattle.yf_block.specs.InlineAnswers.{EmptyKeyAt, InlineEnds, KeyEnds, NoEmptyKey};
 ghost use Rattle.yf_block.specs.InlineTied.{started};
 ghost use Rattle.yf_block.specs.Machine.{Stepped, ProgressAt, HeldBefore, behind_held, MayBoundary};
+ghost use Rattle.yf_flow.specs.Counted.{EndCounted, openers_from};
+ghost use Rattle.yf_block.specs.Counted.{StepCounted};
 
 use crate::content::{Behind, Claim, Share, Spot};
 use crate::entry::{await_value, collection_start, entry_at};
@@ -52,6 +54,8 @@ pub(crate) fn read_inline<'a>(
         → IfOk result (λ e. InlineEnds scope.entry.text.now room (pos least) at depth inner.now lead.now part.old part.new e) }
     ensures escapes { IfOk result (λ _. All (IsCharBoundary scope.entry.text.now) part.new.escapes) }
     ensures found { IfOk result (λ e. EndingAt scope.entry.text.now (behind_held at inner.now) e) }
+    ensures counted { IsUtf8 scope.entry.text.now → (total : ℕ) → (start : ℕ) → start < behind_held at inner.now
+        → depth + openers_from scope.entry.text.now start ≤ total → IfOk result (λ e. EndCounted scope.entry.text.now scope.entry.limit total e) }
 {
     match empty_key_end(scope.text, at, inner) {
         Some(end) => {
@@ -98,6 +102,8 @@ fn read_flow<'a>(
         → IfOk result (λ e. InlineEnds scope.entry.text.now room (pos least) at depth inner.now lead.now part.old part.new e) }
     ensures escapes { IfOk result (λ _. All (IsCharBoundary scope.entry.text.now) part.new.escapes) }
     ensures found { IfOk result (λ e. EndingAt scope.entry.text.now (behind_held at inner.now) e) }
+    ensures counted { IsUtf8 scope.entry.text.now → (total : ℕ) → depth + openers_from scope.entry.text.now at ≤ total
+        → IfOk result (λ e. EndCounted scope.entry.text.now scope.entry.limit total e) }
 {
     if stands(scope.text, at, b'*') {
         return match *inner {
@@ -126,6 +132,7 @@ fn read_alias<'a>(
     ensures answers { (room : ℕ) → (n : ℤ) → IfOk result (λ e. InlineEnds text.now room n at depth None lead.now part.old part.new e) }
     ensures escapes { IfOk result (λ _. part.new.escapes ≡ part.old.escapes) }
     ensures found { IfOk result (λ e. EndingAt text.now (at + 1) e) }
+    ensures counted { (limit : ℕ) → (total : ℕ) → depth + openers_from text.now at ≤ total → IfOk result (λ e. EndCounted text.now limit total e) }
 {
     match alias_node(text, at) {
         None => Ok(Ending::Nothing),
@@ -181,6 +188,9 @@ pub(crate) fn finish_inline<'a>(
         → IfOk result (λ s. BlockTied scope.entry.text.now d root before (reverse frames.new.items) s progress.new part.new) }
     ensures stepped { IfOk result (λ s. Stepped scope.entry.text.now (behind.now.spot.at) 0 progress.new s) }
     ensures escapes { IfOk result (λ _. All (IsCharBoundary scope.entry.text.now) part.new.escapes) }
+    ensures counted { IsUtf8 scope.entry.text.now → (total : ℕ) → node.deepest + openers_from scope.entry.text.now node.end ≤ total
+        → length frames.old.items + openers_from scope.entry.text.now (behind.now.spot.at) ≤ total
+        → IfOk result (λ s. StepCounted scope.entry.text.now scope.entry.limit total (length frames.new.items) s) }
 {
     let colon = skip_whites(scope.text, node.end);
     match keyed_column(scope.text, behind.spot, colon) {
@@ -274,14 +284,11 @@ fn take_first_key<'a>(
         → IfOk result (λ s. BlockTied scope.entry.text.now d root before (reverse frames.new.items) s progress.new part.new) }
     ensures stepped { IfOk result (λ s. Stepped scope.entry.text.now (behind.now.spot.at) 0 progress.new s) }
     ensures escapes { IfOk result (λ _. All (IsCharBoundary scope.entry.text.now) part.new.escapes) }
+    ensures counted { (total : ℕ) → length frames.old.items + 1 + openers_from scope.entry.text.now (colon + 1) ≤ total
+        → IfOk result (λ s. StepCounted scope.entry.text.now scope.entry.limit total (length frames.new.items) s) }
 {
     let frame = Frame::new(Kind::Mapping, column, claim.before.events);
-    let entry = entry_at(
-        scope.text,
-        progress.floor,
-        behind.spot.at,
-        Some(colon),
-    );
+    let entry = entry_at(scope.text, progress.floor, behind.spot.at, Some(colon));
     begin_mapping(
         alloc,
         scope,
@@ -314,6 +321,7 @@ fn end_inline<'a>(
         → IfOk result (λ s. BlockTied text.now d root before (reverse frames.now.items) s progress.new part.new) }
     ensures stepped { IfOk result (λ s. Stepped text.now at 1 progress.new s) }
     ensures escapes { IfOk result (λ _. part.new.escapes ≡ part.old.escapes) }
+    ensures counted { (limit : ℕ) → (total : ℕ) → (count : ℕ) → count + openers_from text.now at ≤ total → IfOk result (λ s. StepCounted text.now limit total count s) }
 {
     match read_line_end(alloc, text, at)? {
         Some(Separation { comments, end }) => {

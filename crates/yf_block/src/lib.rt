@@ -15,4 +15,3 @@ pub mod look;
 pub mod nodes;
 pub(crate) mod resume;
 pub(crate) mod scalar;
-mod scratch;

@@ -1,14 +1,16 @@
 //! Nodes where they are awaited: after an indicator, or at the start of a line (s-l+block-node, production 196).
-ghost use Rattle.std.specs.Prelude.{◌≡◌, ◌^◌, ◌<◌, ◌≤◌, ℕ, IfOk, List, reverse};
+ghost use Rattle.std.specs.Prelude.{◌≡◌, ◌^◌, ◌<◌, ◌≤◌, ℕ, IfOk, IfSome, List, reverse, ◌+◌, length, Some, true, false, ◌⊎◌, MatchBool, MatchOption};
 ghost use Rattle.std.specs.List.{All};
-ghost use Rattle.std.specs.Str.{IsCharBoundary};
+ghost use Rattle.std.specs.Str.{IsCharBoundary, IsUtf8};
 ghost use Rattle.yf_flow.specs.Machine.{Place};
 ghost use Rattle.yf_block.specs.BlockStepTied.{AtNode, AtLine, BlockTied};
-ghost use Rattle.yf_block.specs.ColumnsTied.{CompactTied, SequenceTied};
+ghost use Rattle.yf_block.specs.ColumnsTied.{CompactTied, SequenceBegins, SequenceTied};
 ghost use Rattle.yf_block.specs.LineStepTied.{AtEmpty, AtIndented};
 ghost use Rattle.yf_block.specs.LineTied.{AtBelow, EndedTied};
 ghost use Rattle.yf_block.specs.Machine.{Stepped, ProgressAt};
-ghost use Rattle.yf_grammar.specs.BlockParser.{BlockTask};
+ghost use Rattle.yf_grammar.specs.BlockParser.{BlockTask, DashAt};
+ghost use Rattle.yf_flow.specs.Counted.{openers_from};
+ghost use Rattle.yf_block.specs.Counted.{StepCounted};
 
 use crate::content::{Spot, take_content};
 use crate::entry::open_sequence;
@@ -40,6 +42,7 @@ pub(crate) fn first_line<'a>(
         → IfOk result (λ s. BlockTied text.now d root before frames s progress.new part.new) }
     ensures stepped { IfOk result (λ s. Stepped text.now at 2 progress.new s) }
     ensures escapes { IfOk result (λ _. part.new.escapes ≡ part.old.escapes) }
+    ensures counted { (limit : ℕ) → (total : ℕ) → (count : ℕ) → count + openers_from text.now at ≤ total → IfOk result (λ s. StepCounted text.now limit total count s) }
 {
     match end_line(alloc, text, at, progress, part)? {
         Step::Line(line) => {
@@ -65,6 +68,7 @@ pub(crate) fn end_line<'a>(
         → IfOk result (λ s. EndedTied text.now d root before frames at s progress.new part.new) }
     ensures stepped { IfOk result (λ s. Stepped text.now at 2 progress.new s) }
     ensures escapes { IfOk result (λ _. part.new.escapes ≡ part.old.escapes) }
+    ensures counted { (limit : ℕ) → (total : ℕ) → (count : ℕ) → count + openers_from text.now at ≤ total → IfOk result (λ s. StepCounted text.now limit total count s) }
 {
     match read_line_end(alloc, text, at)? {
         Some(Separation { comments, end }) => {
@@ -94,6 +98,8 @@ pub(crate) fn take_node<'a>(
         → IfOk result (λ s. BlockTied scope.entry.text.now d root before (reverse frames.new.items) s progress.new part.new) }
     ensures stepped { IfOk result (λ s. Stepped scope.entry.text.now at 2 progress.new s) }
     ensures escapes { IfOk result (λ _. All (IsCharBoundary scope.entry.text.now) part.new.escapes) }
+    ensures counted { IsUtf8 scope.entry.text.now → (total : ℕ) → length frames.old.items + openers_from scope.entry.text.now at ≤ total
+        → IfOk result (λ s. StepCounted scope.entry.text.now scope.entry.limit total (length frames.new.items) s) }
 {
     let text = scope.text;
     let place = skip_whites(text, at);
@@ -104,13 +110,29 @@ pub(crate) fn take_node<'a>(
         return Ok(Step::Failed(place));
     }
     let column = compact_column(text, at, place, &progress.wanted);
-    if let Some(column) = column {
-        if dash_stands(text, place) {
-            return open_sequence(alloc, scope, place, column, progress, frames, part);
+    match dashed_column(text, place, column) {
+        Some(dashed) => open_sequence(alloc, scope, place, dashed, progress, frames, part),
+        None => {
+            let spot = Spot { at: place, column };
+            take_content(alloc, scope, spot, progress, frames, part)
         }
     }
-    let spot = Spot { at: place, column };
-    take_content(alloc, scope, spot, progress, frames, part)
+}
+
+// The column of a sequence whose `-` stands at the place, where a collection may begin at a column.
+fn dashed_column(text: &str, at: usize, column: Option<usize>) -> Option<usize>
+    ensures boundary { IfSome result (λ _. IsCharBoundary text.now (at + 1)) }
+    ensures dash { MatchOption result ((m : ℕ) → column ≡ Some m → DashAt text.now at → ⊥) (λ m. (column ≡ Some m) × DashAt text.now at) }
+{
+    match column {
+        None => None,
+        Some(column) => {
+            if dash_stands(text, at) {
+                return Some(column);
+            }
+            None
+        }
+    }
 }
 
 // The column of a collection that may begin on the line of an indicator, which ends at the offset: spaces alone stand
@@ -146,6 +168,8 @@ pub(crate) fn take_line<'a>(
         → IfOk result (λ s. BlockTied scope.entry.text.now d root before (reverse frames.new.items) s progress.new part.new) }
     ensures stepped { IfOk result (λ s. Stepped scope.entry.text.now at 1 progress.new s) }
     ensures escapes { IfOk result (λ _. All (IsCharBoundary scope.entry.text.now) part.new.escapes) }
+    ensures counted { IsUtf8 scope.entry.text.now → (total : ℕ) → length frames.old.items + openers_from scope.entry.text.now at ≤ total
+        → IfOk result (λ s. StepCounted scope.entry.text.now scope.entry.limit total (length frames.new.items) s) }
 {
     let text = scope.text;
     note_empty(text, at, progress, frames);
@@ -154,12 +178,22 @@ pub(crate) fn take_line<'a>(
     }
     let start = skip_spaces(text, at);
     let width = start - at;
-    if dash_stands(text, start) {
-        if may_hold_sequence(&progress.wanted, width) {
-            return open_sequence(alloc, scope, start, width, progress, frames, part);
-        }
+    if sequence_begins(text, start, &progress.wanted, width) {
+        return open_sequence(alloc, scope, start, width, progress, frames, part);
     }
     take_indented(alloc, scope, at, start, progress, frames, part)
+}
+
+// Whether the `-` of a sequence of that column stands there, which may be the node that is awaited.
+fn sequence_begins(text: &str, at: usize, wanted: &Wanted, width: usize) -> bool
+    ensures boundary { result ≡ true → IsCharBoundary text.now (at + 1) }
+    ensures dash { SequenceBegins text.now at wanted.now width result }
+    ensures stands { result ≡ true → DashAt text.now at }
+{
+    if dash_stands(text, at) {
+        return may_hold_sequence(wanted, width);
+    }
+    false
 }
 
 // Whether a sequence of that column may be the node that is awaited.
@@ -197,13 +231,12 @@ fn take_indented<'a>(
         → IfOk result (λ s. BlockTied scope.entry.text.now d root before (reverse frames.new.items) s progress.new part.new) }
     ensures stepped { IfOk result (λ s. Stepped scope.entry.text.now at 1 progress.new s) }
     ensures escapes { IfOk result (λ _. All (IsCharBoundary scope.entry.text.now) part.new.escapes) }
+    ensures counted { IsUtf8 scope.entry.text.now → (total : ℕ) → length frames.old.items + openers_from scope.entry.text.now at ≤ total
+        → IfOk result (λ s. StepCounted scope.entry.text.now scope.entry.limit total (length frames.new.items) s) }
 {
     let width = start - at;
-    let indented = width >= progress.wanted.least;
-    if !indented {
-        if !progress.first {
-            return end_empty(alloc, scope.text, at, progress, frames, part);
-        }
+    if !may_begin(progress, width) {
+        return end_empty(alloc, scope.text, at, progress, frames, part);
     }
     let place = skip_whites(scope.text, start);
     if place == scope.text.len() {
@@ -212,13 +245,31 @@ fn take_indented<'a>(
     if stands(scope.text, place, b'#') {
         return Ok(Step::Failed(place));
     }
-    let column = if indented && place == start {
-        Some(width)
-    } else {
-        None
-    };
+    let column = line_column(progress.wanted.least, width, start, place);
     let spot = Spot { at: place, column };
     take_content(alloc, scope, spot, progress, frames, part)
+}
+
+// Whether a line is indented as it must be; nothing is asked of the first one.
+fn may_begin(progress: &Progress, width: usize) -> bool
+    ensures { MatchBool result ((progress.now.wanted.least ≤ width) ⊎ (progress.now.first ≡ true)) ((width < progress.now.wanted.least) × (progress.now.first ≡ false)) }
+{
+    if width >= progress.wanted.least {
+        return true;
+    }
+    progress.first
+}
+
+// The column of a mapping that may begin at the first character of a line, which has so many spaces up to an offset.
+fn line_column(least: usize, width: usize, start: usize, place: usize) -> Option<usize>
+    ensures { MatchOption result (place ≡ start → least ≤ width → ⊥) (λ m. (m ≡ width) × (place ≡ start) × (least ≤ width)) }
+{
+    if place == start {
+        if width >= least {
+            return Some(width);
+        }
+    }
+    None
 }
 
 // The node that is awaited at a line is empty, or has its properties alone. The outermost one may not be empty.
@@ -236,6 +287,7 @@ fn end_empty<'a>(
         → IfOk result (λ s. BlockTied _text.now d root before (reverse frames.now.items) s progress.new part.new) }
     ensures stepped { IfOk result (λ s. Stepped _text.now at 1 progress.new s) }
     ensures escapes { IfOk result (λ _. part.new.escapes ≡ part.old.escapes) }
+    ensures counted { (limit : ℕ) → (total : ℕ) → (count : ℕ) → count + openers_from _text.now at ≤ total → IfOk result (λ s. StepCounted _text.now limit total count s) }
 {
     match progress.wanted.outer {
         Some(held) => {

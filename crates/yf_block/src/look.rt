@@ -109,7 +109,7 @@ pub(crate) fn line_ends(text: &str, at: usize, behind_white: bool) -> bool
 }
 
 /// Whether no line of a node begins there: at the end of the text, a byte order mark or a document marker.
-pub(crate) fn node_ends(text: &str, at: usize) -> bool
+pub fn node_ends(text: &str, at: usize) -> bool
     ensures { MatchBool result (LinesEnd text.now at) (LinesEnd text.now at → ⊥) }
 {
     if at == text.len() {

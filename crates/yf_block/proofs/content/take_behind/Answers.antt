@@ -2,6 +2,7 @@ use Rattle.std.proofs.Common.{◌≡◌, ℕ, ◌+◌, reverse, length, sym, ◌
 use Rattle.std.proofs.lemmas.List.{length-reverse}
 use Rattle.yf_block.proofs.ContentSteps.{text_properties, scalar_apart, scalar_there, nothing_read}
 use Rattle.yf_block.proofs.TiedOpenings.{room_there}
+use Rattle.yf_block.proofs.CountedSteps.{later, held_later, held_after}
 use Rattle.yf_block.proofs.content.take_behind.Goals as goal
 
 pub returns-then-is_apart-clause-tied : goal.returns-then-is_apart-clause-tied
@@ -48,3 +49,15 @@ returns-in-TooDeep-clause-tied c = λ d root before r a.
     let o = room_there s in
     let there : c.len.result + s.room ≡ c.args.scope.limit = omega (arith, n, o, r, c.len.ensures.value) in
     nothing_read a (rw c.in-TooDeep.is at (c.in_ok-node.ensures.answers s.read.text.utf8 s.wanted.narrow s.room there)) c.if-block_scalar_stands.ensures
+
+pub returns-then-block_scalar_stands-clause-counted : goal.returns-then-block_scalar_stands-clause-counted
+returns-then-block_scalar_stands-clause-counted c = λ u total q.
+    c.take_block_scalar.ensures.counted c.args.scope.limit total (length c.args.frames.now.items) (later (length c.args.frames.now.items) total c.args.behind.now.spot.at c.args.behind.now.at (held_after c.args.behind.now.inner c.requires.held) q)
+
+pub returns-in-End-clause-counted : goal.returns-in-End-clause-counted
+returns-in-End-clause-counted c = λ u total q.
+    c.finish_inline.ensures.counted u total (rw c.in-End.is at (c.in_ok-node.ensures.counted u total c.args.behind.now.spot.at (held_later c.args.behind.now.inner c.requires.held) (omega (arith, q, c.len.ensures.value)))) q
+
+pub returns-in-TooDeep-clause-counted : goal.returns-in-TooDeep-clause-counted
+returns-in-TooDeep-clause-counted c = λ u total q.
+    rw c.in-TooDeep.is at (c.in_ok-node.ensures.counted u total c.args.behind.now.spot.at (held_later c.args.behind.now.inner c.requires.held) (omega (arith, q, c.len.ensures.value)))

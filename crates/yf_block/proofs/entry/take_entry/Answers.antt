@@ -1,4 +1,4 @@
-use Rattle.std.proofs.Common.{◌≡◌, ℕ, ◌+◌, true, Some, None, reverse, ◌++◌, ◌∷◌, [], sym, ap, ◌∙◌, subst, arith, refl}
+use Rattle.std.proofs.Common.{◌≡◌, ℕ, ◌+◌, true, Some, None, reverse, ◌++◌, ◌∷◌, [], sym, ap, ◌∙◌, subst, arith, refl, length, inl, inr, ⊎_elim}
 use Rattle.yf_props.specs.Props.{no_props}
 use Rattle.yf_events.specs.Event.{scalar_node}
 use Rattle.yf_events.specs.declared.event.ScalarStyle.TheVariants.{Plain}
@@ -9,6 +9,7 @@ use Rattle.yf_grammar.specs.BlockParser.{SignAt}
 use Rattle.yf_block.specs.BlockStepTied.{AtEntry}
 use Rattle.yf_block.specs.BlockTied.{wanted_after}
 use Rattle.yf_block.proofs.TiedNodes.{node_tied, entry_same, floor_blank, colons_below, key_awaited, lone_awaited}
+use Rattle.yf_block.proofs.CountedSteps.{pushed_counted, sign_passed, within_counted}
 use Rattle.yf_block.proofs.entry.take_entry.Goals as goal
 
 pub returns-then-sign_stands-clause-tied : goal.returns-then-sign_stands-clause-tied
@@ -53,3 +54,18 @@ returns-clause-tied c = λ d root before j r k a.
       no_question = λ s. c.if-sign_stands.ensures.cases (subst (λ (z : ℕ). SignAt c.args.scope.text.now 63 z) e.start s);
       no_colon = λ s. c.if-sign_stands-2.ensures.cases (subst (λ (z : ℕ). SignAt c.args.scope.text.now 58 z) e.start s);
     })
+
+pub returns-then-sign_stands-clause-counted : goal.returns-then-sign_stands-clause-counted
+returns-then-sign_stands-clause-counted c = λ u total q.
+    let y = c.if-sign_stands.ensures.cases in
+    pushed_counted c.await_node.ensures.step c.in_ok-push.ensures.ok (sign_passed (length c.args.frames.now.items) total c.args.at u (inl y) (q.signed (inl y)))
+
+pub returns-then-sign_stands-2-clause-counted : goal.returns-then-sign_stands-2-clause-counted
+returns-then-sign_stands-2-clause-counted c = λ u total q.
+    let y = c.if-sign_stands-2.ensures.cases in
+    pushed_counted c.await_value.ensures.step c.in_ok-push-2.ensures.ok (sign_passed (length c.args.frames.now.items) total c.args.at u (inr y) (q.signed (inr y)))
+
+pub returns-clause-counted : goal.returns-clause-counted
+returns-clause-counted c = λ u total q.
+    let k = q.keyed (⊎_elim c.if-sign_stands.ensures.cases c.if-sign_stands-2.ensures.cases) in
+    c.take_key.ensures.counted u total (within_counted c.in_ok-push-2.ensures.ok c.entry_at-entry.ensures.start k)

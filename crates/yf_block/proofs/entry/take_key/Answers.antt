@@ -1,8 +1,9 @@
-use Rattle.std.proofs.Common.{◌≡◌, ℕ, ◌+◌, pos, true, false, Some, None, refl, sym, ap, ◌∙◌, subst, arith}
+use Rattle.std.proofs.Common.{◌≡◌, ℕ, ◌+◌, pos, true, false, Some, None, refl, sym, ap, ◌∙◌, subst, arith, length, ◌≤◌}
 use Rattle.yf_events.specs.Edit.{edited, coloned}
 use Rattle.yf_block.specs.BlockTied.{wanted_after}
 use Rattle.yf_block.proofs.TiedKeys.{none_of, some_of, key_narrow, key_room, key_there, key_lost, key_nowhere, key_unended, key_column, key_ended}
 use Rattle.yf_block.proofs.TiedNodes.{node_tied, entry_same}
+use Rattle.yf_block.proofs.CountedSteps.{node_counted, later}
 use Rattle.yf_block.proofs.entry.take_key.Goals as goal
 
 pub returns-in-Nowhere-clause-tied : goal.returns-in-Nowhere-clause-tied
@@ -65,3 +66,15 @@ returns-then-key_ends-clause-tied c = λ d root before outer frame r q.
     (ap (λ z. Some z) (entry_same c.args.entry c.args.entry.start None refl q.no_colon_yet)) q.stack
     (c.in_ok-set_colon-in-End.ensures.edited ∙ ap (λ (z : ℕ). edited (coloned c.skip_whites-colon.result) z c.read_inline.new.part.events) c.len-event.ensures) refl refl
     (v.wanted (omega (arith, here, q.column_there)) ∙ ap (λ (z : ℕ). wanted_after z false true None) q.column_there) v.last v.floor v.colons v.halt)
+
+pub returns-then-key_ends-clause-counted : goal.returns-then-key_ends-clause-counted
+returns-then-key_ends-clause-counted c = λ u total q.
+    let l : c.args.entry.start ≤ c.skip_whites-colon.result + 1 = omega arith in
+    node_counted c.await_value.ensures.step (later (length c.args.frames.now.items) total c.args.entry.start _ l q)
+
+pub returns-in-TooDeep-clause-counted : goal.returns-in-TooDeep-clause-counted
+returns-in-TooDeep-clause-counted c = λ u total q.
+    let p = rw c.in-At.is at c.in_ok-place.ensures.place in
+    rw c.in-TooDeep.is at (c.in_ok-node-in-At.ensures.counted u total c.args.entry.start (omega (arith, p.2)) (omega (arith, q, c.len.ensures.value)))
+
+

@@ -1,6 +1,7 @@
 use Rattle.std.proofs.Common.{refl, ap}
 use Rattle.yf_block.specs.declared.frame.Progress.{Progress}
 use Rattle.yf_block.proofs.LeafEnds.{leaf_finishes, leaf_stops}
+use Rattle.yf_block.proofs.CountedSteps.{later}
 use Rattle.yf_block.proofs.inline.end_inline.Goals as goal
 
 pub returns-in_ok-append-in-Some-clause-tied : goal.returns-in_ok-append-in-Some-clause-tied
@@ -10,3 +11,8 @@ returns-in_ok-append-in-Some-clause-tied c = λ d root before l.
 
 pub returns-in-None-clause-tied : goal.returns-in-None-clause-tied
 returns-in-None-clause-tied c = λ d root before l. leaf_stops l (rw c.in-None.is at c.in_ok-comments.ensures.reads) c.note_shorter.ensures.noted
+
+pub returns-in_ok-append-in-Some-clause-counted : goal.returns-in_ok-append-in-Some-clause-counted
+returns-in_ok-append-in-Some-clause-counted c = λ limit total count q.
+    let p = rw c.in-Some.is at c.in_ok-comments.ensures.place in
+    later count total c.args.at c.in-Some.end p.order q

@@ -7,6 +7,7 @@ use Rattle.yf_block.specs.ContentTied.{AtFirstKey}
 use Rattle.yf_block.proofs.ContentMappings.{key_reads, key_no_feed, key_within, first_key_awaits}
 use Rattle.yf_block.proofs.TiedNodes.{node_tied, entry_same}
 use Rattle.yf_block.proofs.TiedOpenings.{room_there}
+use Rattle.yf_block.proofs.CountedSteps.{pushed_counted}
 use Rattle.yf_block.proofs.inline.take_first_key.Goals as goal
 
 pub returns-clause-tied : goal.returns-clause-tied
@@ -29,3 +30,6 @@ returns-clause-tied c = λ d root before depth earlier r a.
     (popped _ _ _ c.in_ok-push.ensures.ok ∙ ap (λ (f : Frame). f ∷ reverse c.args.frames.now.items) (c.new-frame.ensures
     ∙ ap (λ (x : ℕ). record { kind = Mapping; column = c.args.column; event = x; entry_event = x; awaits_colon = false }) k.inline.counts.events))
     (v.wanted (omega (arith, shallow, order))) v.last v.floor v.colons v.halt)
+
+pub returns-clause-counted : goal.returns-clause-counted
+returns-clause-counted c = λ total q. pushed_counted c.await_value.ensures.step c.in_ok-push.ensures.ok q

@@ -12,4 +12,8 @@ returns-in_default c = record {
   tied = λ d root before frames a. ended_other c.args.text.now d root before frames c.args.at c.end_line.new.progress c.end_line.new.part c.in_ok-other.other (c.in_ok-other.ensures.tied d root before frames a) c.in_default.not-Line;
   stepped = c.in_ok-other.ensures.stepped;
   escapes = c.in_ok-other.ensures.escapes;
+  counted = c.in_ok-other.ensures.counted;
 }
+
+pub returns-in-Line-clause-counted : goal.returns-in-Line-clause-counted
+returns-in-Line-clause-counted c = λ limit total count q. rw c.in-Line.is at (c.in_ok-other.ensures.counted limit total count q)

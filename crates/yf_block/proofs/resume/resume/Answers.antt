@@ -1,5 +1,7 @@
 use Rattle.yf_block.proofs.TiedEntries.{top_breaks, item_follows_top, no_item_awaits}
 use Rattle.yf_block.proofs.TiedResumed.{fit_line}
+use Rattle.std.proofs.Common.{arith, ◌+◌, length}
+use Rattle.yf_block.proofs.CountedSteps.{later, popped_counted}
 use Rattle.yf_block.proofs.resume.resume.Goals as goal
 
 pub returns-in-Item-clause-tied : goal.returns-in-Item-clause-tied
@@ -23,3 +25,17 @@ pub returns-in-Behind-clause-tied : goal.returns-in-Behind-clause-tied
 returns-in-Behind-clause-tied c = λ d root before j r a.
     let f = rw c.in-Some.is at (c.in_ok-end_collections.ensures.tied d root before a) in
     absurd (f.goes_on c.in-Behind.is)
+
+pub returns-in-Item-clause-counted : goal.returns-in-Item-clause-counted
+returns-in-Item-clause-counted c = λ u total q.
+    let few = rw c.in-Some.is at c.in_ok-end_collections.ensures.fewer in
+    let p = rw c.in-Item.is at (rw c.in-Some.is at c.in_ok-end_collections.ensures.places) in
+    c.take_item.ensures.counted c.args.scope.limit total (popped_counted total (length c.end_collections.new.frames.items) (length c.args.frames.now.items) c.args.at (c.in-Item.start + 1) few (omega (arith, p.0.order)) q)
+
+pub returns-in-Entry-clause-counted : goal.returns-in-Entry-clause-counted
+returns-in-Entry-clause-counted c = λ u total q.
+    let few = rw c.in-Some.is at c.in_ok-end_collections.ensures.fewer in
+    let p = rw c.in-Entry.is at (rw c.in-Some.is at c.in_ok-end_collections.ensures.places) in
+    c.next_entry.ensures.counted u total (popped_counted total (length c.end_collections.new.frames.items) (length c.args.frames.now.items) c.args.at c.in-Entry.start few (omega (arith, p.order)) q)
+
+

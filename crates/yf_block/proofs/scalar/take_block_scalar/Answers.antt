@@ -1,5 +1,6 @@
-use Rattle.std.proofs.Common.{refl}
+use Rattle.std.proofs.Common.{refl, ◌≤◌, arith}
 use Rattle.yf_block.proofs.TiedScalar.{scalar_missing, no_header, no_body}
+use Rattle.yf_block.proofs.CountedSteps.{later}
 use Rattle.yf_block.proofs.scalar.take_block_scalar.Goals as goal
 
 pub returns-in-None-clause-tied : goal.returns-in-None-clause-tied
@@ -25,3 +26,8 @@ returns-in-Some-2-clause-tied c = λ d root before a.
       comments = c.in_ok-push_comment-in-Some.ensures.comments;
       escapes = c.in_ok-push_comment-in-Some.ensures.escapes;
     })
+
+pub returns-in-Some-2-clause-counted : goal.returns-in-Some-2-clause-counted
+returns-in-Some-2-clause-counted c = λ limit total count q.
+    let l : c.args.at ≤ c.in-Some.end = omega arith in
+    c.take_body.ensures.counted limit total count (later count total c.args.at c.in-Some.end l q)

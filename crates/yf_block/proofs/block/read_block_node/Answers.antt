@@ -1,0 +1,11 @@
+use Rattle.std.proofs.Common.{to_z-of_z}
+use Rattle.yf_grammar.specs.Refusal.{as_scanned}
+use Rattle.yf_flow.proofs.ReadersLemmas.{scanned_stops}
+use Rattle.yf_block.proofs.block.read_block_node.Goals as goal
+
+pub returns-in-Ok-Some-clause-reads : goal.returns-in-Ok-Some-clause-reads
+returns-in-Ok-Some-clause-reads c = λ b i l.
+    scanned_stops c.in-Ok-Some.field-0-0 c.in-Some.place c.in-Some.is (rw (c.in-Ok-Some.field-0-is, to_z-of_z c.ranges.n) at (c.in-Ok-Some.ensures.reads b i l))
+
+pub returns-clause-reads : goal.returns-clause-reads
+returns-clause-reads c = λ b i l. as_scanned (rw (to_z-of_z c.ranges.n) at (c.in-Err.ensures.reads b i l))
