@@ -1,5 +1,5 @@
 //! The readers of line ends, properties and block scalars, as block nodes take them.
-ghost use Rattle.std.specs.Prelude.{◌≡◌, ℤ, pos, ◌+ℤ◌, ◌+◌, ◌^◌, ◌<◌, ◌≤◌, length, IfOk, IfSome, MatchOption};
+ghost use Rattle.std.specs.Prelude.{◌≡◌, ℤ, pos, ◌+ℤ◌, ◌+◌, ◌^◌, ◌<◌, ◌≤◌, ◌≤ℤ◌, length, IfOk, IfSome, MatchOption};
 ghost use Rattle.yf_chars.specs.Chain.{Chosen, Stuck};
 ghost use Rattle.yf_comments.specs.Comments.{LineEnd};
 ghost use Rattle.yf_props.specs.Names as Names;
@@ -80,8 +80,16 @@ pub(crate) fn read_lines<'a>(
     ensures reads { least ≤ 2 ^ 30 → (n : ℤ) → pos least ≡ n +ℤ pos 1 → IfOk result (λ o. MatchOption o (Stuck (Body text.now n header at))
         (λ b. (b.header ≡ header) × Chosen (Body text.now n header at) b.next (body_value b))) }
 {
-    match block_body(alloc, text, at, flow_indentation(least) - 1, header)? {
+    match block_body(alloc, text, at, outer_indentation(least), header)? {
         Some(block) => Ok(Some(block)),
         None => Ok(None),
     }
+}
+
+// The indentation of the collection around a node whose lines are indented by that many spaces at least.
+fn outer_indentation(least: usize) -> i32
+    ensures same { least ≤ 2 ^ 30 → pos least ≡ result +ℤ pos 1 }
+    ensures upper { result ≤ℤ pos (2 ^ 30) }
+{
+    flow_indentation(least) - 1
 }
