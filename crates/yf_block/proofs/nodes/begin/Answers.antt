@@ -1,5 +1,5 @@
 use Rattle.yf_block.proofs.TiedRoot.{root_line, root_node}
-use Rattle.std.proofs.Common.{arith}
+use Rattle.std.proofs.Common.{[], arith}
 use Rattle.yf_flow.specs.Counted.{openers_from}
 use Rattle.yf_block.proofs.nodes.begin.Goals as goal
 
