@@ -13,7 +13,7 @@ use Rattle.yf_block.specs.Counted.{StepCounted, EntryCounted}
 use Rattle.yf_block.specs.InlineTied.{EntrySignAt}
 use Rattle.yf_block.specs.Machine.{HeldTo, HeldBefore, behind_held}
 
-module _ {t : List ℕ} (count total : ℕ) where
+module _ (t : List ℕ) (count total : ℕ) where
   -- further on
   pub later : (i j : ℕ) → i ≤ j → count + openers_from t i ≤ total → count + openers_from t j ≤ total
   later i j l q = let o = openers_later t i j l in omega arith
@@ -47,41 +47,42 @@ module _ {t : List ℕ} (count total : ℕ) where
   first_counted i s q = record { signed = λ _. q; keyed = λ n. absurd (n s) }
 
 -- the step that comes next
-module _ {t : List ℕ} {limit total p : ℕ} {s : Step} where
-  pub node_counted : {count : ℕ} → s ≡ Node p → count + openers_from t p ≤ total → StepCounted t limit total count s
-  node_counted {count} e q = subst (λ z. StepCounted t limit total count z) (sym e) q
+pub node_counted : (t : List ℕ) (limit total p count : ℕ) (s : Step) → s ≡ Node p → count + openers_from t p ≤ total → StepCounted t limit total count s
+node_counted t limit total p count s e q = subst (λ z. StepCounted t limit total count z) (sym e) q
 
-  pub pushed_counted : {new old : List Frame} {f : Frame} → s ≡ Node p → new ≡ old ++ f ∷ [] → length old + 1 + openers_from t p ≤ total → StepCounted t limit total (length new) s
-  pushed_counted {new} {old} {f} e k q = subst (λ z. StepCounted t limit total (length new) z) (sym e) (let n = length-append old (f ∷ []) in let m = ap (λ z. length z) k in omega arith)
+pub pushed_counted : (t : List ℕ) (limit total p : ℕ) (s : Step) (new old : List Frame) (f : Frame) → s ≡ Node p → new ≡ old ++ f ∷ [] → length old + 1 + openers_from t p ≤ total
+    → StepCounted t limit total (length new) s
+pushed_counted t limit total p s new old f e k q =
+    subst (λ z. StepCounted t limit total (length new) z) (sym e) (let n = length-append old (f ∷ []) in let m = ap (λ z. length z) k in omega arith)
 
 -- in a collection whose frame is on the stack
-pub within_counted : {t : List ℕ} {total i j : ℕ} {new old : List Frame} {f : Frame} → new ≡ old ++ f ∷ [] → j ≡ i → length old + 1 + openers_from t i ≤ total → length new + openers_from t j ≤ total
-within_counted {t} {total} {i} {j} {new} {old} {f} k e q = subst (λ (z : ℕ). length new + openers_from t z ≤ total) (sym e) (let n = length-append old (f ∷ []) in let m = ap (λ z. length z) k in omega arith)
+pub within_counted : (t : List ℕ) (total i j : ℕ) (new old : List Frame) (f : Frame) → new ≡ old ++ f ∷ [] → j ≡ i → length old + 1 + openers_from t i ≤ total → length new + openers_from t j ≤ total
+within_counted t total i j new old f k e q = subst (λ (z : ℕ). length new + openers_from t z ≤ total) (sym e) (let n = length-append old (f ∷ []) in let m = ap (λ z. length z) k in omega arith)
 
 -- what stands behind properties stands after their start
-pub held_later : {t : List ℕ} {start at : ℕ} (inner : Option Held) → HeldTo t start at inner → start < behind_held at inner
-held_later None e = omega arith
-held_later (Some h) q = let l = q.0.order in omega arith
+pub held_later : (t : List ℕ) (start at : ℕ) (inner : Option Held) → HeldTo t start at inner → start < behind_held at inner
+held_later t start at None e = omega arith
+held_later t start at (Some h) q = let l = q.0.order in omega arith
 
-pub held_below : {t : List ℕ} {start at : ℕ} (inner : Option Held) → HeldBefore t at inner → start < behind_held at inner → start ≤ at
-held_below None b l = omega arith
-held_below (Some h) b l = let k = b.1 in omega arith
+pub held_below : (t : List ℕ) (start at : ℕ) (inner : Option Held) → HeldBefore t at inner → start < behind_held at inner → start ≤ at
+held_below t start at None b l = omega arith
+held_below t start at (Some h) b l = let k = b.1 in omega arith
 
-pub held_after : {t : List ℕ} {start at : ℕ} (inner : Option Held) → HeldTo t start at inner → start ≤ at
-held_after None e = omega arith
-held_after (Some h) q = let l = q.0.order in let k = q.1 in omega arith
+pub held_after : (t : List ℕ) (start at : ℕ) (inner : Option Held) → HeldTo t start at inner → start ≤ at
+held_after t start at None e = omega arith
+held_after t start at (Some h) q = let l = q.0.order in let k = q.1 in omega arith
 
 -- where a collection has been taken off the stack
-pub popped_counted : {t : List ℕ} (total few many i j : ℕ) → few < many → i ≤ j → many + openers_from t i ≤ total → few + 1 + openers_from t j ≤ total
-popped_counted {t} total few many i j k l q = let o = openers_later t i j l in omega arith
+pub popped_counted : (t : List ℕ) (total few many i j : ℕ) → few < many → i ≤ j → many + openers_from t i ≤ total → few + 1 + openers_from t j ≤ total
+popped_counted t total few many i j k l q = let o = openers_later t i j l in omega arith
 
-pub fewer_left : {all rest : List Frame} {f : Frame} (n : ℕ) → all ≡ rest ++ f ∷ [] → length all ≤ n → length rest < n
-fewer_left {all} {rest} {f} n e l = let k = length-append rest (f ∷ []) in let m = ap (λ z. length z) e in omega arith
+pub fewer_left : (all rest : List Frame) (f : Frame) (n : ℕ) → all ≡ rest ++ f ∷ [] → length all ≤ n → length rest < n
+fewer_left all rest f n e l = let k = length-append rest (f ∷ []) in let m = ap (λ z. length z) e in omega arith
 
 -- a key before its `:`, where no further collection may be opened
-pub key_full : {t : List ℕ} (limit total count deepest i j k : ℕ) → IsUtf8 t → SignAt t 58 k → i ≤ k → j ≤ k → deepest + openers_from t j ≤ total → count + openers_from t i ≤ total
+pub key_full : (t : List ℕ) (limit total count deepest i j k : ℕ) → IsUtf8 t → SignAt t 58 k → i ≤ k → j ≤ k → deepest + openers_from t j ≤ total → count + openers_from t i ≤ total
     → limit ≤ max deepest count → limit < total
-key_full {t} limit total count deepest i j k u s l m z q f =
+key_full t limit total count deepest i j k u s l m z q f =
     let a = openers_later t i k l in
     let b = openers_later t j k m in
     let o = colon_opens k u s.sign_stands in

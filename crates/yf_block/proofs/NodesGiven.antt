@@ -34,10 +34,10 @@ use Rattle.yf_block.specs.NodeGiven.{NodeGiven, FoundTied, NoneTied}
 use Rattle.yf_block.specs.RunTied.{RunDone, RunBroken, StopGives, RunTied, HaltAt}
 
 -- notes change no floor
-floor_noted : {t : List ℕ} {floor f : ℕ} {x y : List Placed} → Noting t floor x y → floor_after f x ≡ floor_after f y
-floor_noted no_event = refl
-floor_noted (without_entry q r) = floor_noted r
-floor_noted (with_entry entry q s r) = floor_noted r
+floor_noted : {t : List ℕ} {floor : ℕ} {x y : List Placed} (f : ℕ) → Noting t floor x y → floor_after f x ≡ floor_after f y
+floor_noted f no_event = refl
+floor_noted f (without_entry {e = e} q r) = floor_noted (floor_behind f e e.event) r
+floor_noted f (with_entry {e = e} entry q s r) = floor_noted (floor_behind f e e.event) r
 
 some_same : {x y : ℕ} → Some x ≡ Some y → x ≡ y
 some_same e = cc
@@ -48,14 +48,14 @@ pub record RunHalts (t : List ℕ) (d : ℕ) (root : BlockTask) (r : Stopped) : 
   pub halts : Halts t d [] root halt
   pub halted : r.halt ≡ halt_end halt
 
-module _ {t : List ℕ} {d : ℕ} {root : BlockTask} {before part : Part} {r : Stopped} where
-  halts_in : (s : Stop) → StopGives t d root before s r part → RunHalts t d root r
-  halts_in (Done p) a = record { halt = a.halt; halts = a.halts; halted = a.halted }
-  halts_in (Failed p) a = record { halt = a.halt; halts = a.halts; halted = a.halted }
-  halts_in (TooDeep p) a = record { halt = a.halt; halts = a.halts; halted = a.halted }
+module _ {t : List ℕ} {d : ℕ} {root : BlockTask} {r : Stopped} where
+  halts_in : (before part : Part) (s : Stop) → StopGives t d root before s r part → RunHalts t d root r
+  halts_in before part (Done p) a = record { halt = a.halt; halts = a.halts; halted = a.halted }
+  halts_in before part (Failed p) a = record { halt = a.halt; halts = a.halts; halted = a.halted }
+  halts_in before part (TooDeep p) a = record { halt = a.halt; halts = a.halts; halted = a.halted }
 
-  pub run_halts : RunTied t d root before r part → RunHalts t d root r
-  run_halts a = halts_in r.stop a
+  pub run_halts : {before part : Part} → RunTied t d root before r part → RunHalts t d root r
+  run_halts {before} {part} a = halts_in before part r.stop a.gives
 
   pub halt_at : {end : ℕ} → RunHalts t d root r → r.halt ≡ Some end → HaltAt t d root end
   halt_at {end} h e = go h.halt h.halts (sym h.halted ∙ e) where
@@ -63,19 +63,13 @@ module _ {t : List ℕ} {d : ℕ} {root : BlockTask} {before part : Part} {r : S
     go None x q = absurd cc
     go (Some f) x q = record { found = f; halts = x; ends = cc }
 
-  pub no_halt : RunHalts t d root r → r.halt ≡ None → Halts t d [] root None
-  no_halt h e = go h.halt h.halts (sym h.halted ∙ e) where
-    go : (o : Option Found) → Halts t d [] root o → halt_end o ≡ None → Halts t d [] root None
-    go None x q = x
-    go (Some f) x q = absurd cc
+wide_of : {n : ℤ} (least : ℕ) → pos least ≡ n +ℤ pos 1 → Width n
+wide_of least is = record { width = least; is = sym is }
+
+not_below : {n : ℤ} (least : ℕ) → pos least ≡ n +ℤ pos 1 → pos 0 ≤ℤ (n +ℤ pos 1)
+not_below least is = omega (arith, ints, is)
 
 module _ {t : List ℕ} {d at : ℕ} {n : ℤ} {c : Ctx} (u : IsUtf8 t) (block : is_block c ≡ true) (least : ℕ) (is : pos least ≡ n +ℤ pos 1) where
-  wide : Width n
-  wide = record { width = least; is = sym is }
-
-  not_below : pos 0 ≤ℤ (n +ℤ pos 1)
-  not_below = omega (arith, ints, is)
-
   -- the node was read whole
   pub done_given : {before part : Part} {p : ℕ} {r : Stopped} → RunDone t d (Awaited false n c Nothing at) before p r part → NodeGiven t d n c at p r.floor before part
   done_given {before} {part} {p} {r} a =
@@ -84,28 +78,28 @@ module _ {t : List ℕ} {d at : ℕ} {n : ℤ} {c : Ctx} (u : IsUtf8 t) (block :
       let fills : Fills t a.answer.meaning own = record { events = w.noting; comments = refl; escapes = refl } in
       record {
         node = own;
-        chosen = subst (λ z. Chosen (BlockNodePart t d n c at) z own) a.end (whole_nodes_are_chosen t d at n c a.answer own u block not_below a.whole fills);
+        chosen = subst (λ z. Chosen (BlockNodePart t d n c at) z own) a.end (whole_nodes_are_chosen t d at n c a.answer own u block (not_below least is) a.whole fills);
         added = record { events = w.added.events; comments = w.added.comments; escapes = w.added.escapes };
-        floor_is = a.floor ∙ floor_noted w.noting;
+        floor_is = a.floor ∙ floor_noted 0 w.noting;
       }
 
   pub whole_given : {before part : Part} {p : ℕ} {r : Stopped} → r.stop ≡ Done p → RunTied t d (Awaited false n c Nothing at) before r part → NodeGiven t d n c at p r.floor before part
-  whole_given {before} {part} {p} {r} e a = done_given (subst (λ z. StopGives t d (Awaited false n c Nothing at) before z r part) e a)
+  whole_given {before} {part} {p} {r} e a = done_given (subst (λ z. StopGives t d (Awaited false n c Nothing at) before z r part) e a.gives)
 
   -- no node may end anywhere
   pub none_given : Halts t d [] (Awaited false n c Nothing at) None → Stuck (BlockNodePart t d n c at)
   none_given h = no_block_node_is_missed t d at n c u h
 
   pub halt_moves : {end : ℕ} → HaltAt t d (Awaited false n c Nothing at) end → at < end
-  halt_moves {end} h = subst (λ z. at < z) h.ends (last_moves u block wide h.halts)
+  halt_moves {end} h = subst (λ z. at < z) h.ends (last_moves u block (wide_of least is) h.halts)
 
   -- a run that ended without the node's end went wrong
   done_ends : {before part : Part} {p : ℕ} {r : Stopped} → RunDone t d (Awaited false n c Nothing at) before p r part → r.halt ≡ Some p
-  done_ends a = let l = whole_ends_last u block wide a.whole a.halts in a.halted ∙ ap (λ z. halt_end z) l.is ∙ ap (λ (z : ℕ). Some z) (l.end ∙ a.end)
+  done_ends a = let l = whole_ends_last u block (wide_of least is) a.whole a.halts in a.halted ∙ ap (λ z. halt_end z) l.is ∙ ap (λ (z : ℕ). Some z) (l.end ∙ a.end)
 
   pub run_unfinished : {before part : Part} {end : ℕ} {r : Stopped} → RunTied t d (Awaited false n c Nothing at) before r part → r.halt ≡ Some end → (r.stop ≡ Done end → ⊥)
       → Unfinished t d (Awaited false n c Nothing at)
-  run_unfinished {before} {part} {end} {r} a e m = go r.stop a m where
+  run_unfinished {before} {part} {end} {r} a e m = go r.stop a.gives m where
     go : (s : Stop) → StopGives t d (Awaited false n c Nothing at) before s r part → (s ≡ Done end → ⊥) → Unfinished t d (Awaited false n c Nothing at)
     go (Done p) b m = absurd (m (ap (λ z. Done z) (some_same (sym (done_ends b) ∙ e))))
     go (Failed p) b m = b.unfinished
@@ -113,11 +107,11 @@ module _ {t : List ℕ} {d at : ℕ} {n : ℤ} {c : Ctx} (u : IsUtf8 t) (block :
 
   pub run_unended : {before part : Part} {r : Stopped} → RunTied t d (Awaited false n c Nothing at) before r part → ((end : ℕ) → r.halt ≡ Some end → end ≤ at)
       → Unfinished t d (Awaited false n c Nothing at)
-  run_unended {before} {part} {r} a m = go r.stop a where
+  run_unended {before} {part} {r} a m = go r.stop a.gives where
     go : (s : Stop) → StopGives t d (Awaited false n c Nothing at) before s r part → Unfinished t d (Awaited false n c Nothing at)
     go (Done p) b =
         let l = m p (done_ends b) in
-        let k = whole_moves u block wide b.whole in
+        let k = whole_moves u block (wide_of least is) b.whole in
         let e = b.end in
         absurd (omega arith)
     go (Failed p) b = b.unfinished
@@ -128,16 +122,16 @@ module _ {t : List ℕ} {d at : ℕ} {n : ℤ} {c : Ctx} (u : IsUtf8 t) (block :
   unmoved_given {r} h m = go h.halt h.halts h.halted where
     go : (o : Option Found) → Halts t d [] (Awaited false n c Nothing at) o → r.halt ≡ halt_end o → Stuck (BlockNodePart t d n c at)
     go None x q = none_given x
-    go (Some f) x q = let l = last_moves u block wide x in let k = m f.end q in absurd (omega arith)
+    go (Some f) x q = let l = last_moves u block (wide_of least is) x in let k = m f.end q in absurd (omega arith)
 
   -- the prefix of the text that ends with the last halt
   module _ {f : Found} (r : Halts t d [] (Awaited false n c Nothing at) (Some f)) where
     text_there : length t ≤ 2 ^ 30 → TextTied (take f.end t)
     text_there l =
-        let e = prefix_length u block wide r in
-        let b = prefix_boundary u block wide r in
+        let e = prefix_length u block (wide_of least is) r in
+        let b = prefix_boundary u block (wide_of least is) r in
         let k = b.0 in
-        record { utf8 = prefix_utf8 u block wide r; size = omega arith }
+        record { utf8 = prefix_utf8 u block (wide_of least is) r; size = omega arith }
 
     given_there : {start read : Part} {run : Stopped} → RunDone (take f.end t) d (Awaited false n c Nothing at) start f.end run read → NodeGiven t d n c at f.end run.floor start read
     given_there {start} {read} {run} a =
@@ -146,23 +140,23 @@ module _ {t : List ℕ} {d at : ℕ} {n : ℤ} {c : Ctx} (u : IsUtf8 t) (block :
         let fills : Fills (take f.end t) a.answer.meaning own = record { events = w.noting; comments = refl; escapes = refl } in
         record {
           node = own;
-          chosen = subst (λ z. Chosen (BlockNodePart t d n c at) z own) a.end (prefix_reads u block wide r a.whole fills);
+          chosen = subst (λ z. Chosen (BlockNodePart t d n c at) z own) a.end (prefix_reads u block (wide_of least is) r a.whole fills);
           added = record { events = w.added.events; comments = w.added.comments; escapes = w.added.escapes };
-          floor_is = a.floor ∙ floor_noted w.noting;
+          floor_is = a.floor ∙ floor_noted 0 w.noting;
         }
 
     whole_there : {g : Found} → Whole (take f.end t) d (Awaited false n c Nothing at) (Some g) → g.end ≡ f.end
     unfolding found
-    whole_there w = let e = prefix_is_whole u block wide r w in cc
+    whole_there w = let e = prefix_is_whole u block (wide_of least is) r w in cc
 
     unbroken_there : Unfinished (take f.end t) d (Awaited false n c Nothing at) → ⊥
-    unbroken_there (none_found w) = prefix_reads_some u block wide r w
-    unbroken_there (line_left w l s) = l (text_ends (whole_there w ∙ sym (prefix_length u block wide r)))
+    unbroken_there (none_found w) = prefix_reads_some u block (wide_of least is) r w
+    unbroken_there (line_left w l s) = l (text_ends (whole_there w ∙ sym (prefix_length u block (wide_of least is) r)))
 
-    stops_there : {start read : Part} {run : Stopped} (s : Stop) → StopGives (take f.end t) d (Awaited false n c Nothing at) start s run read → s ≡ Done f.end
-    stops_there (Done p) a = ap (λ z. Done z) (sym a.end ∙ whole_there a.whole)
-    stops_there (Failed p) a = absurd (unbroken_there a.unfinished)
-    stops_there (TooDeep p) a = absurd (unbroken_there a.unfinished)
+    stops_there : (start read : Part) (run : Stopped) (s : Stop) → StopGives (take f.end t) d (Awaited false n c Nothing at) start s run read → s ≡ Done f.end
+    stops_there start read run (Done p) a = ap (λ z. Done z) (sym a.end ∙ whole_there a.whole)
+    stops_there start read run (Failed p) a = absurd (unbroken_there a.unfinished)
+    stops_there start read run (TooDeep p) a = absurd (unbroken_there a.unfinished)
 
   -- a text that is this prefix
   module _ {end : ℕ} {s : List ℕ} (h : HaltAt t d (Awaited false n c Nothing at) end) (same : s ≡ take end t) where
@@ -172,13 +166,13 @@ module _ {t : List ℕ} {d at : ℕ} {n : ℤ} {c : Ctx} (u : IsUtf8 t) (block :
     -- a run over it reads all of it
     pub prefix_stops : {start read : Part} {run : Stopped} → RunTied s d (Awaited false n c Nothing at) start run read → run.stop ≡ Done end
     prefix_stops {start} {read} {run} a =
-        subst (λ z. StopGives (take z t) d (Awaited false n c Nothing at) start run.stop run read → run.stop ≡ Done z) h.ends (stops_there h.halts run.stop)
-        (subst (λ z. StopGives z d (Awaited false n c Nothing at) start run.stop run read) same a)
+        subst (λ z. StopGives (take z t) d (Awaited false n c Nothing at) start run.stop run read → run.stop ≡ Done z) h.ends (stops_there h.halts start read run run.stop)
+        (subst (λ z. StopGives z d (Awaited false n c Nothing at) start run.stop run read) same a.gives)
 
     pub prefix_given : {start read : Part} {run : Stopped} → run.stop ≡ Done end → RunTied s d (Awaited false n c Nothing at) start run read → NodeGiven t d n c at end run.floor start read
     prefix_given {start} {read} {run} e a =
         subst (λ z. RunDone (take z t) d (Awaited false n c Nothing at) start z run read → NodeGiven t d n c at z run.floor start read) h.ends (given_there h.halts)
-        (subst (λ z. RunDone z d (Awaited false n c Nothing at) start end run read) same (subst (λ z. StopGives s d (Awaited false n c Nothing at) start z run read) e a))
+        (subst (λ z. RunDone z d (Awaited false n c Nothing at) start end run read) same (subst (λ z. StopGives s d (Awaited false n c Nothing at) start z run read) e a.gives))
 
 -- the same after another part
 pub given_after : {t : List ℕ} {limit : ℕ} {n : ℤ} {c : Ctx} {at end floor : ℕ} {start read old new : Part} → start.events ≡ [] → start.comments ≡ [] → start.escapes ≡ []

@@ -13,7 +13,7 @@ use Rattle.yf_block.specs.Machine.{StopAt, OutcomeAt}
 use Rattle.yf_block.specs.NodeGiven.{NoneTied, OutcomeTied}
 use Rattle.yf_block.specs.RunTied.{StopTied, StopCounted, StopGives, StopsAs}
 
-module _ {before part : Part} {progress : Progress} {r : Stopped} (t : List ℕ) (d : ℕ) (root : BlockTask) where
+module _ (t : List ℕ) (d : ℕ) (root : BlockTask) (before part : Part) (progress : Progress) (r : Stopped) where
   pub stop_gives : (s : Stop) → r.halt ≡ progress.halt → r.floor ≡ progress.floor → StopTied t d root before s progress part → StopGives t d root before s r part
   stop_gives (Done p) e f a = record {
     answer = a.answer;
@@ -29,13 +29,13 @@ module _ {before part : Part} {progress : Progress} {r : Stopped} (t : List ℕ)
   stop_gives (TooDeep p) e f a = record { halt = a.halt; unfinished = a.unfinished; halts = a.halts; halted = e ∙ a.halted }
 
 -- what is told where no node ends, and the boundary of its place
-pub none_outcome : {t : List ℕ} {limit : ℕ} {n : ℤ} {c : Ctx} {at : ℕ} {before part : Part} (s : Stop) (o : Outcome) → StopsAs s o → NoneTied t limit n c at
+pub none_outcome : {t : List ℕ} {limit : ℕ} {n : ℤ} {c : Ctx} {at : ℕ} (before part : Part) (s : Stop) (o : Outcome) → StopsAs s o → NoneTied t limit n c at
     → StopCounted limit (openers_from t at) s → OutcomeTied t limit n c at before o part
-none_outcome {t} {limit} {n} {c} {at} {before} {part} (Done p) o e a q = subst (λ z. OutcomeTied t limit n c at before z part) (sym e) a
-none_outcome {t} {limit} {n} {c} {at} {before} {part} (Failed p) o e a q = subst (λ z. OutcomeTied t limit n c at before z part) (sym e) a
-none_outcome {t} {limit} {n} {c} {at} {before} {part} (TooDeep p) o e a q = subst (λ z. OutcomeTied t limit n c at before z part) (sym e) (a, q)
+none_outcome {t} {limit} {n} {c} {at} before part (Done p) o e a q = subst (λ z. OutcomeTied t limit n c at before z part) (sym e) a
+none_outcome {t} {limit} {n} {c} {at} before part (Failed p) o e a q = subst (λ z. OutcomeTied t limit n c at before z part) (sym e) a
+none_outcome {t} {limit} {n} {c} {at} before part (TooDeep p) o e a q = subst (λ z. OutcomeTied t limit n c at before z part) (sym e) (a, q)
 
-pub none_place : {t : List ℕ} {at : ℕ} (s : Stop) (o : Outcome) → StopsAs s o → StopAt t s → OutcomeAt t at o
-none_place {t} {at} (Done p) o e a = subst (λ z. OutcomeAt t at z) (sym e) a
-none_place {t} {at} (Failed p) o e a = subst (λ z. OutcomeAt t at z) (sym e) a
-none_place {t} {at} (TooDeep p) o e a = subst (λ z. OutcomeAt t at z) (sym e) a
+pub none_place : (t : List ℕ) (at : ℕ) (s : Stop) (o : Outcome) → StopsAs s o → StopAt t s → OutcomeAt t at o
+none_place t at (Done p) o e a = subst (λ z. OutcomeAt t at z) (sym e) a
+none_place t at (Failed p) o e a = subst (λ z. OutcomeAt t at z) (sym e) a
+none_place t at (TooDeep p) o e a = subst (λ z. OutcomeAt t at z) (sym e) a

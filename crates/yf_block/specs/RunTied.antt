@@ -55,8 +55,8 @@ StopGives t d root before (Done p) r part = RunDone t d root before p r part
 StopGives t d root before (Failed p) r part = RunBroken t d root r
 StopGives t d root before (TooDeep p) r part = RunBroken t d root r
 
-abbrev pub RunTied : List ℕ → ℕ → BlockTask → Part → Stopped → Part → Type 0
-RunTied t d root before r part = StopGives t d root before r.stop r part
+pub record RunTied (t : List ℕ) (d : ℕ) (root : BlockTask) (before : Part) (r : Stopped) (part : Part) : Type 0 where
+  pub gives : StopGives t d root before r.stop r part
 
 -- what is read: a node in an indentation and a context of block nodes
 pub record ReadRoot (t : List ℕ) (root : Root) (n : ℤ) (c : Ctx) : Type 0 where

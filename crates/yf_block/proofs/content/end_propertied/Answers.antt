@@ -16,4 +16,4 @@ returns-in_ok-step-in-Some-clause-tied c = λ place d root before frames e l a.
     (c.in_ok-step-in-Some.ensures.tied d root before frames (joined_below a.start a.signless l e (joined_here a.start a.signless l joined) refl))
 
 pub returns-in-Some-clause-counted : goal.returns-in-Some-clause-counted
-returns-in-Some-clause-counted c = λ limit total count q. let p = c.requires.inner.order in c.end_line.ensures.counted limit total count (later count total c.args.spot.at c.args.inner.end (omega arith) q)
+returns-in-Some-clause-counted c = λ limit total count q. let p = c.requires.inner.order in c.end_line.ensures.counted limit total count (later _ count total c.args.spot.at c.args.inner.end (omega arith) q)

@@ -21,7 +21,7 @@ returns-clause-tied c = λ d root before cols r q y a.
     (c.in_ok-push.ensures ∙ ap (λ z. c.args.part.now.events ++ z ∷ []) c.collection_start-start.ensures) refl refl)
 
 pub returns-then-len-scope-clause-counted : goal.returns-then-len-scope-clause-counted
-returns-then-len-scope-clause-counted c = λ u total y q. dash_full (length c.args.frames.now.items) total c.args.scope.limit c.args.at u y (omega (arith, c.len-2.ensures.value, c.if-len-scope.true)) q
+returns-then-len-scope-clause-counted c = λ u total y q. dash_full _ (length c.args.frames.now.items) total c.args.scope.limit c.args.at u y (omega (arith, c.len-2.ensures.value, c.if-len-scope.true)) q
 
 pub returns-clause-counted : goal.returns-clause-counted
-returns-clause-counted c = λ u total y q. c.take_item.ensures.counted c.args.scope.limit total (dash_passed (length c.args.frames.now.items) total c.args.at u y q)
+returns-clause-counted c = λ u total y q. c.take_item.ensures.counted c.args.scope.limit total (dash_passed _ (length c.args.frames.now.items) total c.args.at u y q)

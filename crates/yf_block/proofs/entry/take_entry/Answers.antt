@@ -58,14 +58,14 @@ returns-clause-tied c = λ d root before j r k a.
 pub returns-then-sign_stands-clause-counted : goal.returns-then-sign_stands-clause-counted
 returns-then-sign_stands-clause-counted c = λ u total q.
     let y = c.if-sign_stands.ensures.cases in
-    pushed_counted c.await_node.ensures.step c.in_ok-push.ensures.ok (sign_passed (length c.args.frames.now.items) total c.args.at u (inl y) (q.signed (inl y)))
+    pushed_counted c.args.scope.text.now c.args.scope.limit total _ _ _ _ _ c.await_node.ensures.step c.in_ok-push.ensures.ok (sign_passed _ (length c.args.frames.now.items) total c.args.at u (inl y) (q.signed (inl y)))
 
 pub returns-then-sign_stands-2-clause-counted : goal.returns-then-sign_stands-2-clause-counted
 returns-then-sign_stands-2-clause-counted c = λ u total q.
     let y = c.if-sign_stands-2.ensures.cases in
-    pushed_counted c.await_value.ensures.step c.in_ok-push-2.ensures.ok (sign_passed (length c.args.frames.now.items) total c.args.at u (inr y) (q.signed (inr y)))
+    pushed_counted c.args.scope.text.now c.args.scope.limit total _ _ _ _ _ c.await_value.ensures.step c.in_ok-push-2.ensures.ok (sign_passed _ (length c.args.frames.now.items) total c.args.at u (inr y) (q.signed (inr y)))
 
 pub returns-clause-counted : goal.returns-clause-counted
 returns-clause-counted c = λ u total q.
     let k = q.keyed (⊎_elim c.if-sign_stands.ensures.cases c.if-sign_stands-2.ensures.cases) in
-    c.take_key.ensures.counted u total (within_counted c.in_ok-push-2.ensures.ok c.entry_at-entry.ensures.start k)
+    c.take_key.ensures.counted u total (within_counted c.args.scope.text.now total _ _ _ _ _ c.in_ok-push-2.ensures.ok c.entry_at-entry.ensures.start k)

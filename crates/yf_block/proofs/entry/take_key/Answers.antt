@@ -69,8 +69,10 @@ returns-then-key_ends-clause-tied c = λ d root before outer frame r q.
 
 pub returns-then-key_ends-clause-counted : goal.returns-then-key_ends-clause-counted
 returns-then-key_ends-clause-counted c = λ u total q.
-    let l : c.args.entry.start ≤ c.skip_whites-colon.result + 1 = omega arith in
-    node_counted c.await_value.ensures.step (later (length c.args.frames.now.items) total c.args.entry.start _ l q)
+    let p = rw c.in-At.is at c.in_ok-place.ensures.place in
+    let f = rw c.in-End.is at c.in_ok-node-in-At.ensures.found in
+    let l : c.args.entry.start ≤ c.skip_whites-colon.result + 1 = omega (arith, p.2, f.order, c.skip_whites-colon.ensures.order) in
+    node_counted c.args.scope.text.now c.args.scope.limit total _ _ _ c.await_value.ensures.step (later _ (length c.args.frames.now.items) total c.args.entry.start _ l q)
 
 pub returns-in-TooDeep-clause-counted : goal.returns-in-TooDeep-clause-counted
 returns-in-TooDeep-clause-counted c = λ u total q.

@@ -15,4 +15,4 @@ returns-in-None-clause-tied c = λ d root before l. leaf_stops l (rw c.in-None.i
 pub returns-in_ok-append-in-Some-clause-counted : goal.returns-in_ok-append-in-Some-clause-counted
 returns-in_ok-append-in-Some-clause-counted c = λ limit total count q.
     let p = rw c.in-Some.is at c.in_ok-comments.ensures.place in
-    later count total c.args.at c.in-Some.end p.order q
+    later _ count total c.args.at _ p.order q

@@ -16,4 +16,4 @@ returns-in_ok-push-in-Some-clause-answers c = λ room n.
 pub returns-in_ok-push-in-Some-clause-counted : goal.returns-in_ok-push-in-Some-clause-counted
 returns-in_ok-push-in-Some-clause-counted c = λ limit total q.
     let k : c.args.at ≤ c.in-Some.end = omega arith in
-    rw c.inline_end.ensures (later c.args.depth total c.args.at c.in-Some.end k q)
+    rw c.inline_end.ensures (later _ c.args.depth total c.args.at c.in-Some.end k q)

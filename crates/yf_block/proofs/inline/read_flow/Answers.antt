@@ -17,4 +17,4 @@ returns-clause-answers c = λ u l room r.
     IfOk-weaker _ _ _ (λ e f. content_ends room (pos c.args.least) c.args.depth c.args.lead.now c.args.part.now c.read_content.new.part e c.requires.other c.if-stands.ensures.cases f) e
 
 pub returns-in-None-clause-counted : goal.returns-in-None-clause-counted
-returns-in-None-clause-counted c = λ u total q. rw c.in-None.is (c.read_alias.ensures.counted c.args.scope.limit total q)
+returns-in-None-clause-counted c = λ u total q. c.read_alias.ensures.counted c.args.scope.limit total q

@@ -12,7 +12,7 @@ returns-in_ok-push_scalar-in-Some-clause-answers c = λ u l room r.
 pub returns-in_ok-push_scalar-in-Some-clause-counted : goal.returns-in_ok-push_scalar-in-Some-clause-counted
 returns-in_ok-push_scalar-in-Some-clause-counted c = λ u total start l q.
     let k : start ≤ c.in-Some.end = omega (arith, l, c.in-Some.ensures.place.order) in
-    rw c.inline_end.ensures (later c.args.depth total start c.in-Some.end k q)
+    rw c.inline_end.ensures (later _ c.args.depth total start c.in-Some.end k q)
 
 pub returns-in-None-clause-counted : goal.returns-in-None-clause-counted
-returns-in-None-clause-counted c = λ u total start l q. c.read_flow.ensures.counted u total (later c.args.depth total start c.args.at (held_below c.args.inner.now c.requires.held l) q)
+returns-in-None-clause-counted c = λ u total start l q. c.read_flow.ensures.counted u total (later _ c.args.depth total start c.args.at (held_below _ _ _ c.args.inner.now c.requires.held l) q)

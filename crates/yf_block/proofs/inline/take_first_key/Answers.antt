@@ -32,4 +32,4 @@ returns-clause-tied c = λ d root before depth earlier r a.
     (v.wanted (omega (arith, shallow, order))) v.last v.floor v.colons v.halt)
 
 pub returns-clause-counted : goal.returns-clause-counted
-returns-clause-counted c = λ total q. pushed_counted c.await_value.ensures.step c.in_ok-push.ensures.ok q
+returns-clause-counted c = λ total q. pushed_counted c.args.scope.text.now c.args.scope.limit total _ _ _ _ _ c.await_value.ensures.step c.in_ok-push.ensures.ok q

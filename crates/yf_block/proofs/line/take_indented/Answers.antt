@@ -34,4 +34,4 @@ pub returns-then-place-scope-clause-counted : goal.returns-then-place-scope-clau
 returns-then-place-scope-clause-counted c = λ u total q. c.end_empty-2.ensures.counted c.args.scope.limit total (length c.args.frames.now.items) q
 
 pub returns-clause-counted : goal.returns-clause-counted
-returns-clause-counted c = λ u total q. let l : c.args.at ≤ c.skip_whites-place.result = omega (arith, c.requires.place.order, c.skip_whites-place.ensures.order) in c.take_content.ensures.counted u total (later (length c.args.frames.now.items) total c.args.at c.skip_whites-place.result l q)
+returns-clause-counted c = λ u total q. let l : c.args.at ≤ c.skip_whites-place.result = omega (arith, c.requires.place.order, c.skip_whites-place.ensures.order) in c.take_content.ensures.counted u total (later _ (length c.args.frames.now.items) total c.args.at c.skip_whites-place.result l q)

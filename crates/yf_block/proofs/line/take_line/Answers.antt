@@ -37,7 +37,7 @@ pub returns-then-node_ends-clause-counted : goal.returns-then-node_ends-clause-c
 returns-then-node_ends-clause-counted c = λ u total q. c.end_empty.ensures.counted c.args.scope.limit total (length c.args.frames.now.items) q
 
 pub returns-then-sequence_begins-clause-counted : goal.returns-then-sequence_begins-clause-counted
-returns-then-sequence_begins-clause-counted c = λ u total q. c.open_sequence.ensures.counted u total (c.sequence_begins.ensures.stands c.if-sequence_begins.true) (later (length c.args.frames.now.items) total c.args.at c.skip_spaces-start.result c.skip_spaces-start.ensures.order q)
+returns-then-sequence_begins-clause-counted c = λ u total q. c.open_sequence.ensures.counted u total (c.sequence_begins.ensures.stands c.if-sequence_begins.true) (later _ (length c.args.frames.now.items) total c.args.at c.skip_spaces-start.result c.skip_spaces-start.ensures.order q)
 
 pub returns-clause-counted : goal.returns-clause-counted
 returns-clause-counted c = λ u total q. c.take_indented.ensures.counted u total q

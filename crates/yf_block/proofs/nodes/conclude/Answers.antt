@@ -20,21 +20,21 @@ returns-in-Some-2-clause-tied c = λ n ctx start j r run count before.
     (λ x. cut_to_nothing c.args.before.events c.args.part.now.events start.events c.cut.new.part.events before.events x c.cut.ensures.events)
     (λ x. cut_to_nothing c.args.before.comments c.args.part.now.comments start.comments c.cut.new.part.comments before.comments x c.cut.ensures.comments)
     (λ x. cut_to_nothing c.args.before.escapes c.args.part.now.escapes start.escapes c.cut.new.part.escapes before.escapes x c.cut.ensures.escapes)
-    (rw c.in-Some-2.is at (c.in-Some-2.ensures.tied n ctx j r h))
+    (rw c.in-Some-2.is at (c.in_ok-floor-in-Some.ensures.tied n ctx j r h))
 
 pub returns-in-None-2-clause-tied : goal.returns-in-None-2-clause-tied
 returns-in-None-2-clause-tied c = λ n ctx start j r run count before.
     let h = halt_at (run_halts run) c.in-Some.ensures.0 in
-    absurd (rw c.in-None-2.is at (c.in-None-2.ensures.tied n ctx j r h))
+    absurd (rw c.in-None-2.is at (c.in_ok-floor-in-Some.ensures.tied n ctx j r h))
 
 pub returns-in-None-clause-tied : goal.returns-in-None-clause-tied
 returns-in-None-clause-tied c = λ n ctx start j r run count before.
-    none_outcome c.args.stopped.stop _ c.none_from.ensures
+    none_outcome start _ c.args.stopped.stop _ c.none_from.ensures
     (record { none = unmoved_given r.text.utf8 r.block c.args.root.least r.least (run_halts run) c.in-None.ensures; broken = run_unended r.text.utf8 r.block c.args.root.least r.least run c.in-None.ensures })
     count
 
 pub returns-in-None-clause-place : goal.returns-in-None-clause-place
-returns-in-None-clause-place c = none_place c.args.stopped.stop _ c.none_from.ensures c.requires.stopped.stop
+returns-in-None-clause-place c = none_place c.args.scope.text.now c.args.root.at c.args.stopped.stop _ c.none_from.ensures c.requires.stopped.stop
 
 pub returns-in-None-clause-escapes : goal.returns-in-None-clause-escapes
-returns-in-None-clause-escapes c = All-same (IsCharBoundary c.args.scope.text.now) _ _ c.cut.ensures.escapes (All-take (IsCharBoundary c.args.scope.text.now) c.args.before.escapes c.args.part.now.escapes c.requires.escapes)
+returns-in-None-clause-escapes c = All-same (IsCharBoundary c.args.scope.text.now) _ _ c.cut-in-None.ensures.escapes (All-take (IsCharBoundary c.args.scope.text.now) c.args.before.escapes c.args.part.now.escapes c.requires.escapes)

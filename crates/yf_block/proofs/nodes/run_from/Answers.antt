@@ -9,7 +9,7 @@ returns-clause-tied c = λ n ctx j r.
     let root = Awaited false n ctx Nothing c.args.root.at in
     let a = c.no_progress-progress.ensures.root n ctx r.text r.least r.narrow r.out in
     let b = c.in_ok-step.ensures.tied n ctx c.args.scope.limit a in
-    stop_gives c.args.scope.text.now c.args.scope.limit root c.in_ok-stop.stop refl refl (c.in_ok-stop.ensures.tied c.args.scope.limit root c.args.part.now j refl b)
+    record { gives = stop_gives c.args.scope.text.now c.args.scope.limit root c.args.part.now _ _ _ c.in_ok-stop.stop refl refl (c.in_ok-stop.ensures.tied c.args.scope.limit root c.args.part.now j refl b) }
 
 pub returns-clause-counted : goal.returns-clause-counted
 returns-clause-counted c = λ u. c.in_ok-stop.ensures.counted u (openers_from c.args.scope.text.now c.args.root.at) (c.in_ok-step.ensures.counted c.args.scope.limit)

@@ -20,10 +20,10 @@ returns-clause-tied c = λ line d root before j r g a.
     (pair_follows_top a c.requires.boundary.0 g (λ q s. true≢false (sym q ∙ c.if-frame.false)) (sym (append-nil c.args.part.now.events) ∙ ap (λ v. c.args.part.now.events ++ value_missing v) (sym c.if-frame.false)) refl refl)
 
 pub returns-then-sign_stands-clause-counted : goal.returns-then-sign_stands-clause-counted
-returns-then-sign_stands-clause-counted c = λ u total q. c.take_explicit_value.ensures.counted c.args.scope.limit total (later (length c.args.frames.now.items + 1) total c.args.at (c.args.at + 1) (omega arith) q)
+returns-then-sign_stands-clause-counted c = λ u total q. c.take_explicit_value.ensures.counted c.args.scope.limit total (later _ (length c.args.frames.now.items + 1) total c.args.at (c.args.at + 1) (omega arith) q)
 
 pub returns-then-frame-clause-counted : goal.returns-then-frame-clause-counted
-returns-then-frame-clause-counted c = λ u total q. c.take_entry.ensures.counted u total (later_counted (length c.args.frames.now.items) total c.args.at q)
+returns-then-frame-clause-counted c = λ u total q. c.take_entry.ensures.counted u total (later_counted _ (length c.args.frames.now.items) total c.args.at q)
 
 pub returns-clause-counted : goal.returns-clause-counted
-returns-clause-counted c = λ u total q. c.take_entry-2.ensures.counted u total (later_counted (length c.args.frames.now.items) total c.args.at q)
+returns-clause-counted c = λ u total q. c.take_entry-2.ensures.counted u total (later_counted _ (length c.args.frames.now.items) total c.args.at q)

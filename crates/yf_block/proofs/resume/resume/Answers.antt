@@ -30,10 +30,12 @@ pub returns-in-Item-clause-counted : goal.returns-in-Item-clause-counted
 returns-in-Item-clause-counted c = λ u total q.
     let few = rw c.in-Some.is at c.in_ok-end_collections.ensures.fewer in
     let p = rw c.in-Item.is at (rw c.in-Some.is at c.in_ok-end_collections.ensures.places) in
-    c.take_item.ensures.counted c.args.scope.limit total (popped_counted total (length c.end_collections.new.frames.items) (length c.args.frames.now.items) c.args.at (c.in-Item.start + 1) few (omega (arith, p.0.order)) q)
+    c.take_item.ensures.counted c.args.scope.limit total (popped_counted _ total (length c.end_collections.new.frames.items) (length c.args.frames.now.items) c.args.at (c.in-Item.start + 1) few (omega (arith, p.0.order)) q)
 
 pub returns-in-Entry-clause-counted : goal.returns-in-Entry-clause-counted
 returns-in-Entry-clause-counted c = λ u total q.
     let few = rw c.in-Some.is at c.in_ok-end_collections.ensures.fewer in
     let p = rw c.in-Entry.is at (rw c.in-Some.is at c.in_ok-end_collections.ensures.places) in
-    c.next_entry.ensures.counted u total (popped_counted total (length c.end_collections.new.frames.items) (length c.args.frames.now.items) c.args.at c.in-Entry.start few (omega (arith, p.order)) q)
+    c.next_entry.ensures.counted u total (popped_counted _ total (length c.end_collections.new.frames.items) (length c.args.frames.now.items) c.args.at c.in-Entry.start few (omega (arith, p.order)) q)
+
+

@@ -16,4 +16,4 @@ returns-clause-tied c = λ d root before a.
     (ap (λ (p : Progress). p.last) c.note_node.ensures.others) (ap (λ (p : Progress). p.floor) c.note_node.ensures.others) (ap (λ (p : Progress). p.colons) c.note_node.ensures.others)
 
 pub returns-clause-counted : goal.returns-clause-counted
-returns-clause-counted c = λ limit total count q. later count total c.args.at c.args.block.next c.requires.next.order q
+returns-clause-counted c = λ limit total count q. later _ count total c.args.at c.args.block.next c.requires.next.order q
