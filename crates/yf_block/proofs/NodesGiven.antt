@@ -66,8 +66,8 @@ module _ {t : List ℕ} {d : ℕ} {root : BlockTask} {r : Stopped} where
 wide_of : {n : ℤ} (least : ℕ) → pos least ≡ n +ℤ pos 1 → Width n
 wide_of least is = record { width = least; is = sym is }
 
-not_below : {n : ℤ} (least : ℕ) → pos least ≡ n +ℤ pos 1 → pos 0 ≤ℤ (n +ℤ pos 1)
-not_below least is = omega (arith, ints, is)
+not_below : (n : ℤ) (least : ℕ) → pos least ≡ n +ℤ pos 1 → pos 0 ≤ℤ (n +ℤ pos 1)
+not_below n least is = omega (arith, ints, is)
 
 module _ {t : List ℕ} {d at : ℕ} {n : ℤ} {c : Ctx} (u : IsUtf8 t) (block : is_block c ≡ true) (least : ℕ) (is : pos least ≡ n +ℤ pos 1) where
   -- the node was read whole
@@ -78,7 +78,7 @@ module _ {t : List ℕ} {d at : ℕ} {n : ℤ} {c : Ctx} (u : IsUtf8 t) (block :
       let fills : Fills t a.answer.meaning own = record { events = w.noting; comments = refl; escapes = refl } in
       record {
         node = own;
-        chosen = subst (λ z. Chosen (BlockNodePart t d n c at) z own) a.end (whole_nodes_are_chosen t d at n c a.answer own u block (not_below least is) a.whole fills);
+        chosen = subst (λ z. Chosen (BlockNodePart t d n c at) z own) a.end (whole_nodes_are_chosen t d at n c a.answer own u block (not_below n least is) a.whole fills);
         added = record { events = w.added.events; comments = w.added.comments; escapes = w.added.escapes };
         floor_is = a.floor ∙ floor_noted 0 w.noting;
       }

@@ -1,15 +1,17 @@
 -- A run of the reader of block nodes, from what holds where it stops.
-use Rattle.std.proofs.Common.{◌≡◌, ℕ, ℤ, List, sym, ◌∙◌, subst}
+use Rattle.std.proofs.Common.{◌≡◌, ℕ, ℤ, List, sym, ◌∙◌, subst, arith}
 use Rattle.yf_chars.specs.declared.context.Ctx.{Ctx}
 use Rattle.yf_events.specs.declared.part.Part.{Part}
 use Rattle.yf_grammar.specs.BlockParser.{BlockTask}
 use Rattle.yf_block.specs.declared.frame.Progress.{Progress}
+use Rattle.yf_block.specs.declared.frame.Step.{Step}
+use Rattle.yf_block.specs.declared.frame.Step.TheVariants.{Node, Line, Resume, Done as DoneStep, Failed as FailedStep, TooDeep as TooDeepStep}
 use Rattle.yf_block.specs.declared.nodes.Stop.{Stop}
 use Rattle.yf_block.specs.declared.nodes.Stop.TheVariants.{Done, Failed, TooDeep}
 use Rattle.yf_block.specs.declared.nodes.Stopped.{Stopped}
 use Rattle.yf_flow.specs.Counted.{openers_from}
 use Rattle.yf_block.specs.declared.nodes.Outcome.{Outcome}
-use Rattle.yf_block.specs.Machine.{StopAt, OutcomeAt}
+use Rattle.yf_block.specs.Machine.{StepReady, StopAt, OutcomeAt}
 use Rattle.yf_block.specs.NodeGiven.{NoneTied, OutcomeTied}
 use Rattle.yf_block.specs.RunTied.{StopTied, StopCounted, StopGives, StopsAs}
 
@@ -39,3 +41,12 @@ pub none_place : (t : List ℕ) (at : ℕ) (s : Stop) (o : Outcome) → StopsAs 
 none_place t at (Done p) o e a = subst (λ z. OutcomeAt t at z) (sym e) a
 none_place t at (Failed p) o e a = subst (λ z. OutcomeAt t at z) (sym e) a
 none_place t at (TooDeep p) o e a = subst (λ z. OutcomeAt t at z) (sym e) a
+
+-- a step from an offset on is one from the start on
+pub ready_anywhere : (t : List ℕ) (at : ℕ) (s : Step) → StepReady t at s → StepReady t 0 s
+ready_anywhere t at (Node p) r = record { boundary = r.boundary; order = omega arith }
+ready_anywhere t at (Line p) r = record { boundary = r.boundary; order = omega arith }
+ready_anywhere t at (Resume p) r = record { boundary = r.boundary; order = omega arith }
+ready_anywhere t at (DoneStep p) r = r
+ready_anywhere t at (FailedStep p) r = r
+ready_anywhere t at (TooDeepStep p) r = r
