@@ -12,7 +12,7 @@ returns-then-not-may_begin-clause-tied c = λ d root before s r i.
 pub returns-then-place-scope-clause-tied : goal.returns-then-place-scope-clause-tied
 returns-then-place-scope-clause-tied c = λ d root before s r i.
     let w = c.skip_whites-place.ensures in
-    c.end_empty-2.ensures.tied d root before (record { at = i.at; none = record { none = λ m q x b. text_over i w.whites.1 w.all c.if-place-scope.true m q x } })
+    c.end_empty-then-place-scope.ensures.tied d root before (record { at = i.at; none = record { none = λ m q x b. text_over i w.whites.1 w.all c.if-place-scope.true m q x } })
 
 pub returns-then-stands-clause-tied : goal.returns-then-stands-clause-tied
 returns-then-stands-clause-tied c = λ d root before s r i.
@@ -31,7 +31,7 @@ pub returns-then-not-may_begin-clause-counted : goal.returns-then-not-may_begin-
 returns-then-not-may_begin-clause-counted c = λ u total q. c.end_empty.ensures.counted c.args.scope.limit total (length c.args.frames.now.items) q
 
 pub returns-then-place-scope-clause-counted : goal.returns-then-place-scope-clause-counted
-returns-then-place-scope-clause-counted c = λ u total q. c.end_empty-2.ensures.counted c.args.scope.limit total (length c.args.frames.now.items) q
+returns-then-place-scope-clause-counted c = λ u total q. c.end_empty-then-place-scope.ensures.counted c.args.scope.limit total (length c.args.frames.now.items) q
 
 pub returns-clause-counted : goal.returns-clause-counted
 returns-clause-counted c = λ u total q. let l : c.args.at ≤ c.skip_whites-place.result = omega (arith, c.requires.place.order, c.skip_whites-place.ensures.order) in c.take_content.ensures.counted u total (later _ (length c.args.frames.now.items) total c.args.at c.skip_whites-place.result l q)
