@@ -15,5 +15,7 @@ returns-in_ok-step-in-Some-clause-tied c = λ place d root before frames e l a.
     below_ended c.args.text.now d root before c.end_line.new.part frames c.args.inner.end c.end_line.new.progress c.in_ok-step-in-Some.step (inside a.start a.signless l) c.in_ok-step-in-Some.ensures.stepped.ready
     (c.in_ok-step-in-Some.ensures.tied d root before frames (joined_below a.start a.signless l e (joined_here a.start a.signless l joined) refl))
 
-pub returns-in-Some-clause-counted : goal.returns-in-Some-clause-counted
-returns-in-Some-clause-counted c = λ limit total count q. let p = c.requires.inner.order in c.end_line.ensures.counted limit total count (later _ count total c.args.spot.at c.args.inner.end (omega arith) q)
+pub returns-in_ok-step-in-Some-clause-counted : goal.returns-in_ok-step-in-Some-clause-counted
+returns-in_ok-step-in-Some-clause-counted c = λ limit total count q.
+    let p = c.requires.inner.order in
+    c.in_ok-step-in-Some.ensures.counted limit total count (later c.args.text.now count total c.args.spot.at c.args.inner.end (omega (arith, p)) q)

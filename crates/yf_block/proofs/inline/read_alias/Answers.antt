@@ -1,6 +1,7 @@
 use Rattle.std.proofs.Common.{◌∷◌, ◌++◌, [], refl, ap, ◌∙◌, ◌≤◌, arith}
 use Rattle.yf_block.proofs.InlineLemmas.{alias_found, alias_none, alias_written}
 use Rattle.yf_block.proofs.CountedSteps.{later}
+use Rattle.yf_props.proofs.NameOrder.{alias_forward}
 use Rattle.yf_block.proofs.inline.read_alias.Goals as goal
 
 pub returns-in-None-clause-answers : goal.returns-in-None-clause-answers
@@ -15,5 +16,6 @@ returns-in_ok-push-in-Some-clause-answers c = λ room n.
 
 pub returns-in_ok-push-in-Some-clause-counted : goal.returns-in_ok-push-in-Some-clause-counted
 returns-in_ok-push-in-Some-clause-counted c = λ limit total q.
-    let k : c.args.at ≤ c.in-Some.end = omega arith in
+    let f = alias_forward c.in-Some.ensures.reads.derived in
+    let k : c.args.at ≤ c.in-Some.end = omega (arith, f) in
     rw c.inline_end.ensures (later _ c.args.depth total c.args.at c.in-Some.end k q)

@@ -29,5 +29,5 @@ returns-in-Some-2-clause-tied c = λ d root before a.
 
 pub returns-in-Some-2-clause-counted : goal.returns-in-Some-2-clause-counted
 returns-in-Some-2-clause-counted c = λ limit total count q.
-    let l : c.args.at ≤ c.in-Some.end = omega arith in
-    c.take_body.ensures.counted limit total count (later _ count total c.args.at c.in-Some.end l q)
+    let p = c.in-Some.ensures.place.order in
+    c.take_body.ensures.counted limit total count (later c.args.scope.text.now count total c.args.at c.in-Some.field-0.end (omega (arith, p)) q)
