@@ -10,7 +10,7 @@ none_first t (e ∷ es) p = absurd p
 
 pub returns-in-Ok-None-clause-reads : goal.returns-in-Ok-None-clause-reads
 returns-in-Ok-None-clause-reads c = λ b i l.
-    let f = rw (to_z-of_z c.ranges.n) at c.in-Ok-None.ensures.reads in
+    let f = rw (c.in-Ok-None.field-0-is, to_z-of_z c.ranges.n) at c.in-Ok-None.ensures.reads in
     f b i l
 
 pub returns-in-None-clause-reads : goal.returns-in-None-clause-reads

@@ -1,4 +1,5 @@
 use Rattle.std.proofs.Common.{◌≡◌, ℕ, pos, ◌≤◌, sym, ap, ◌∙◌, subst, true≢false, to_z-of_z}
+use Rattle.yf_block.specs.RunTied.{ReadRoot}
 use Rattle.yf_block.proofs.nodes.block_node_in.Goals as goal
 
 pub returns-in-None-clause-tied : goal.returns-in-None-clause-tied
@@ -14,7 +15,7 @@ pub returns-in_ok-stopped-in-Some-clause-tied : goal.returns-in_ok-stopped-in-So
 returns-in_ok-stopped-in-Some-clause-tied c = λ b i l.
     let least = rw (to_z-of_z c.ranges.n) at c.least_of.ensures in
     let e : c.least_of.result ≡ i.least = least i.least i.is in
-    let root = record {
+    let root : ReadRoot c.args.text.now (record { at = c.args.at; least = c.least_of.result; out = c.in-Some.out }) c.args.n c.args.ctx = record {
       text = record { utf8 = c.utf8.text; size = l };
       block = b;
       least = ap (λ (z : ℕ). pos z) e ∙ i.is;
