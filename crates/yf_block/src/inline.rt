@@ -1,5 +1,4 @@
-//! What stands on a line after properties, or where there are none: a flow node or an alias, which may be the first key of
-//! a mapping.
+//! What stands on a line after properties, or where there are none: a flow node or an alias, perhaps a mapping's first key.
 ghost use Rattle.std.specs.Prelude.{◌≡◌, ℕ, ℤ, ◌+◌, ◌^◌, ◌<◌, ◌≤◌, ◌≤ℤ◌, pos, false, None, IfOk, IfSome, MatchOption, length, true, List, ◌∷◌, ◌++◌, reverse, Some, MatchBool};
 ghost use Rattle.std.specs.List.{All};
 ghost use Rattle.std.specs.Str.{IsCharBoundary, IsUtf8};
@@ -35,8 +34,7 @@ use yf_lines::basic::skip_whites;
 use yf_lines::text::Text;
 use yf_props::alias::alias_node;
 
-/// Reads what stands after properties, or where there are none: nothing before a `:`, an alias, or the content of a flow
-/// node outside of brackets. `depth` collections are open.
+/// Reads what stands there: nothing before a `:`, an alias, or the content of a flow node. `depth` collections are open.
 pub(crate) fn read_inline<'a>(
     alloc: Global,
     scope: Scope<'a>,
@@ -336,8 +334,7 @@ fn end_inline<'a>(
     }
 }
 
-// Puts the beginning of a mapping, the awaited node, before its first key, which has been read. The properties of lines
-// before are the mapping's; where the key was read with them, it is read again without.
+// Puts a mapping's beginning before its first key. Properties of lines before are its own: a key read with them is read again.
 fn begin_mapping<'a>(
     alloc: Global,
     scope: Scope<'a>,

@@ -37,5 +37,3 @@ returns-in-Entry-clause-counted c = λ u total q.
     let few = rw c.in-Some.is at c.in_ok-end_collections.ensures.fewer in
     let p = rw c.in-Entry.is at (rw c.in-Some.is at c.in_ok-end_collections.ensures.places) in
     c.next_entry.ensures.counted u total (popped_counted _ total (length c.end_collections.new.frames.items) (length c.args.frames.now.items) c.args.at c.in-Entry.start few (omega (arith, p.order)) q)
-
-
