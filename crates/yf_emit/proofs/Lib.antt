@@ -162,6 +162,7 @@ pub mod ScalarHeld
 pub mod DirectiveEnds
 pub mod FormattedHeld
 pub mod TidyTexts
+pub mod LineSorts
 pub mod LinedRows
 pub mod GapSpread
 pub mod LeadRows

@@ -53,3 +53,4 @@ pub mod PathLemmas
 pub mod PathsThrough
 pub mod FloorLemmas
 pub mod DocumentMarkers
+pub mod DirectivesStand
