@@ -15,7 +15,7 @@ use Rattle.yf_emit.specs.Format.{Formats}
 use Rattle.yf_emit.specs.declared.style.Style.{Style}
 use Rattle.yf_emit.proofs.FormatsRead.{formats_laid}
 use Rattle.yf_emit.proofs.HeldLemmas.{BodiesHeld, EventsHeld, Holds, bodies_more, here, holds_left, there}
-use Rattle.yf_emit.proofs.StreamsMade.{all_events}
+use Rattle.yf_emit.proofs.DocumentsHeld.{all_events}
 use Rattle.yf_emit.proofs.WellSet.{AllSet, WellSet}
 
 -- Comments.

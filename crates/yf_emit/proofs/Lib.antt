@@ -101,6 +101,7 @@ pub mod KeysMade
 pub mod CollectionsMade
 pub mod TreesMade
 pub mod DocumentsMade
+pub mod DocumentsHeld
 pub mod StreamsMade
 pub mod LayoutLawsHold
 -- trees that are alike up to places are laid out alike (a second run changes nothing)
@@ -134,6 +135,19 @@ pub mod CommentsCut
 pub mod CommentsTold
 pub mod TrailFirst
 pub mod RowFlow
+pub mod ItemsOrder
+pub mod QuietTrees
+pub mod RowsFit
+pub mod QuietNodes
+pub mod QuietRows
+pub mod UprightRows
+pub mod SourceStands
+pub mod LeavesTold
+pub mod NoStarts
+pub mod DocumentsBegun
+pub mod DocumentsFlow
+pub mod DocumentsFound
+pub mod SameComments
 pub mod KeyTrails
 pub mod KeysBegin
 pub mod LayoutHolds
