@@ -1,5 +1,5 @@
 -- What a normal form is laid out as is a well-formed stream, within the limit of open collections, with the same nodes and directives.
-use Rattle.std.proofs.Common.{◌≡◌, ℕ, suc, max, ◌≤◌, Bool, true, false, List, [], ◌∷◌, ◌++◌, map, refl, sym, ap, ◌∙◌, subst, arith, length}
+use Rattle.std.proofs.Common.{◌≡◌, ℕ, suc, max, ◌≤◌, Bool, true, false, List, [], ◌∷◌, map, refl, sym, ap, ◌∙◌, subst, arith, length, ◌++◌}
 use Rattle.std.specs.Prelude.{◌&&◌, if◌then◌else◌}
 use Rattle.std.specs.Str.{IsUtf8}
 use Rattle.yf_lines.specs.declared.quotes.Quotes.{Quotes}
@@ -32,9 +32,10 @@ use Rattle.yf_emit.proofs.CommentsFit.{reading_remarks}
 use Rattle.yf_emit.proofs.FormatTrails.{formats_trail, normal_trees}
 use Rattle.yf_emit.proofs.LayoutLawsHold.{layouts_are_texts, layouts_are_laid}
 use Rattle.yf_emit.proofs.NormalRestyled.{root_restyled}
-use Rattle.yf_emit.proofs.StepsStand.{Stand}
+use Rattle.yf_emit.proofs.DocumentsHeld.{all_events}
 use Rattle.yf_emit.proofs.HeldLemmas.{EventsHeld}
-use Rattle.yf_emit.proofs.StreamsMade.{DocumentsLaid, StreamLaid, all_events}
+use Rattle.yf_emit.proofs.StepsStand.{Stand}
+use Rattle.yf_emit.proofs.StreamsMade.{DocumentsLaid, StreamLaid}
 use Rattle.yf_emit.proofs.TreesRead.{document_read, reading_fits, same_node}
 
 -- Heights: styles and brackets change none.
@@ -175,10 +176,10 @@ same_in_documents {t} {u} {s} {es} utf8 f meant =
 pub record FormattedLaid {t : List ℕ} {s : Style} {u : List ℕ} (f : Formats t s u) : Type 0 where
   pub well : WellFormed f
   pub laid : DocumentsLaid 0 (length u) well.documents (steps_of f.normal (rows_of f.normal s f.writes.trees))
+  pub held : EventsHeld u (all_events well.documents.documents) well.documents.comments (rows_of f.normal s f.writes.trees) (row_decos f.normal (rows_of f.normal s f.writes.trees)) []
   pub begun : Stand 0 (map (λ (d : Document). d.start) well.documents.documents) well.documents.comments
       (comment_steps (remarks_of (first_gap f.normal (rows_of f.normal s f.writes.trees)))
       ++ steps_with documents_begin (rows_of f.normal s f.writes.trees) (row_decos f.normal (rows_of f.normal s f.writes.trees))) (length u)
-  pub held : EventsHeld u (all_events well.documents.documents) well.documents.comments (rows_of f.normal s f.writes.trees) (row_decos f.normal (rows_of f.normal s f.writes.trees)) []
 
 pub formats_laid : (t u : List ℕ) (s : Style) → IsUtf8 t → (f : Formats t s u) → FormattedLaid f
 formats_laid t u s utf8 f =
@@ -211,8 +212,8 @@ formats_laid t u s utf8 f =
         meant = made.meant;
       };
       laid = laid.laid;
-      begun = laid.begun;
       held = laid.held;
+      begun = laid.begun;
     }
 
 pub formats_well : FormatsAreWellFormed

@@ -101,6 +101,7 @@ pub mod KeysMade
 pub mod CollectionsMade
 pub mod TreesMade
 pub mod DocumentsMade
+pub mod DocumentsHeld
 pub mod StreamsMade
 pub mod LayoutLawsHold
 -- trees that are alike up to places are laid out alike (a second run changes nothing)
@@ -180,6 +181,7 @@ pub mod ScalarHeld
 pub mod DirectiveEnds
 pub mod FormattedHeld
 pub mod TidyTexts
+pub mod LineSorts
 pub mod LinedRows
 pub mod GapSpread
 pub mod LeadRows

@@ -58,3 +58,4 @@ pub mod MendedScalars
 pub mod MendedContents
 pub mod MendedSorts
 pub mod MendedBlanks
+pub mod MendedSpaces

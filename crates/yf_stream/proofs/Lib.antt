@@ -75,3 +75,4 @@ pub mod StreamUpto
 pub mod NextSteps
 pub mod FloorLemmas
 pub mod DocumentMarkers
+pub mod DirectivesStand
