@@ -1,7 +1,6 @@
 -- Each breach of a stream's documents stands between characters: the places of its nodes and of their tags are those of characters, and those of its
 -- directives and escapes are known of the parts that were read.
-use Rattle.std.proofs.Common.{◌≡◌, ℕ, suc, ◌<◌, Bool, true, false, ◌||◌, not, List, [], ◌∷◌, ◌++◌, map, flat_map, Option, Some, None, refl, sym, ap, ◌∙◌, subst, is_some, arith}
-use Rattle.std.proofs.lemmas.Bool.{cases_Bool}
+use Rattle.std.proofs.Common.{◌≡◌, ℕ, ◌<◌, Bool, true, false, ◌||◌, not, List, [], ◌∷◌, ◌++◌, map, flat_map, Option, Some, None, refl, sym, subst, is_some, arith}
 use Rattle.std.proofs.lemmas.List.Elements.{All-append, All-cons, All-contains, All-head, All-nil, All-tail}
 use Rattle.std.proofs.lemmas.Str.{IsCharBoundary-start}
 use Rattle.std.specs.List.{All}
@@ -29,7 +28,7 @@ use Rattle.yf_stream.specs.declared.breaches.Breach.{Breach}
 use Rattle.yf_stream.specs.declared.breaches.Kind.{Kind}
 use Rattle.yf_stream.specs.declared.breaches.Kind.TheVariants.{BadVersion, EscapeValue, RepeatedDirective, UnknownAlias, UnknownHandle}
 use Rattle.yf_stream.specs.declared.documents.Parts.{Parts}
-use Rattle.yf_stream.proofs.DocumentPlaces.{DocumentAt, DocumentsStand, document_stands, no_documents_stand, stream_stands}
+use Rattle.yf_stream.proofs.DocumentPlaces.{DocumentsStand, document_stands, no_documents_stand, stream_stands}
 use Rattle.yf_stream.proofs.StreamDocuments.{DocumentsDerived, document_derived, no_documents_derived, stream_derived}
 use Rattle.yf_stream.proofs.TagPlaces.{OffsetAt, OffsetsAt, offsets_at}
 

@@ -1,6 +1,6 @@
 -- The nodes of a reading begin in the order of the text.
-use Rattle.std.proofs.Common.{◌≡◌, ℕ, ◌+◌, ◌≤◌, List, [], ◌∷◌, ◌++◌, flat_map, Option, refl, sym, subst, arith, append_assoc}
-use Rattle.yf_events.specs.Event.{Placed, document_ends, document_starts, mapping_ends, sequence_ends, stream_ends, stream_starts}
+use Rattle.std.proofs.Common.{◌≡◌, ℕ, ◌≤◌, List, [], ◌∷◌, ◌++◌, flat_map, Option, refl, sym, subst, arith, append_assoc}
+use Rattle.yf_events.specs.Event.{Placed, document_ends, mapping_ends, sequence_ends}
 use Rattle.yf_events.specs.Tree.{DocumentTree, flat, flat_document, flat_items, flat_pairs, flat_stream, unplaced, Items, Node, Pairs}
 use Rattle.yf_events.specs.declared.document.Doc.{Doc}
 use Rattle.yf_grammar.specs.Meaning.{from_to}

@@ -2,9 +2,8 @@
 use Rattle.std.proofs.Common.{◌≡◌, ℕ, ◌<◌, ◌≤◌, Bool, true, false, List, [], ◌∷◌, ◌++◌, ◌+◌, take, length, get_or, Option, Some, None, refl, sym, ap, ◌∙◌, subst, arith, append_assoc, append-nil}
 use Rattle.std.proofs.lemmas.List.Elements.{All-cons, All-nil, All-push, All-weaker, Contains-append_left, Contains-push}
 use Rattle.std.proofs.lemmas.List.{take_all, take_more}
-use Rattle.std.specs.List.{All, Contains}
 use Rattle.yf_stream.specs.TagPass.{Finds, FirstOf}
-use Rattle.yf_stream.specs.WellFormed.{IsFirst, Precedes, breach_if, earlier_place, escape_breaches, rank, same_place}
+use Rattle.yf_stream.specs.WellFormed.{IsFirst, Precedes, breach_if, earlier_place, escape_breaches, same_place}
 use Rattle.yf_stream.specs.declared.breaches.Breach.{Breach}
 use Rattle.yf_stream.specs.declared.breaches.Kind.{Kind}
 use Rattle.yf_stream.specs.declared.breaches.Kind.TheVariants.{EscapeValue}

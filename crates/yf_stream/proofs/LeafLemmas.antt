@@ -9,7 +9,7 @@ use Rattle.yf_chars.specs.Chain.{Chain}
 use Rattle.yf_chars.specs.Chain.Chain.{done, step}
 use Rattle.yf_chars.specs.Class.{is_break_char}
 use Rattle.yf_chars.specs.Text.{code}
-use Rattle.yf_chars.proofs.TextLemmas.{code-past, within_from_code}
+use Rattle.yf_chars.proofs.TextLemmas.{within_from_code}
 use Rattle.yf_lines.specs.Basic.{Break}
 use Rattle.yf_lines.specs.Basic.Break.{cr_lf, lone_cr, lone_lf}
 use Rattle.yf_lines.specs.Lines.{AreLines, IsLine, LineEnd, OneLine, Unbroken, at_break, at_end, one_line}
@@ -20,7 +20,7 @@ use Rattle.yf_comments.specs.Comment.{CommentValue}
 use Rattle.yf_events.specs.Event.{Placed}
 use Rattle.yf_events.specs.Reading.{begins_leaf, first_begins_leaf}
 use Rattle.yf_events.specs.declared.event.Span.{Span}
-use Rattle.yf_stream.specs.LeafPass.{BeginInOrder, BeginsLine, CommentsInOrder, NextLine, NoBreakFrom, StandInOrder, StandsInLine, StopsAt, at_text_end, begins, behind_break, comment_stands, end_on_line, last_end, leaf_spans, no_comments, no_events, no_place, none_left, span_in, stops}
+use Rattle.yf_stream.specs.LeafPass.{BeginInOrder, BeginsLine, CommentsInOrder, NextLine, NoBreakFrom, StandInOrder, StandsInLine, StopsAt, at_text_end, begins, behind_break, comment_stands, end_on_line, last_end, leaf_spans, no_events, no_place, none_left, span_in, stops}
 use Rattle.yf_stream.specs.ReadingOf.{is_on_line}
 use Rattle.yf_stream.proofs.PassLemmas.{at_index}
 

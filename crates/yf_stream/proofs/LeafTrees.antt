@@ -2,8 +2,8 @@
 use Rattle.std.proofs.Common.{◌≡◌, ℕ, Bool, true, false, nat_lt, if◌then◌else◌, List, [], ◌∷◌, ◌++◌, map, flat_map, Option, Some, None, refl, sym, ap, ◌∙◌, append_assoc, append-nil, option_map}
 use Rattle.yf_lines.specs.declared.line.Line.{Line}
 use Rattle.yf_comments.specs.Comment.{CommentValue}
-use Rattle.yf_events.specs.Event.{Placed, document_ends, document_starts, mapping_ends, sequence_ends, stream_ends, stream_starts}
-use Rattle.yf_events.specs.Reading.{begins_leaf, ends_next}
+use Rattle.yf_events.specs.Event.{Placed, document_ends, mapping_ends, sequence_ends, stream_ends}
+use Rattle.yf_events.specs.Reading.{ends_next}
 use Rattle.yf_events.specs.Tree.{DocumentTree, Items, Node, Pairs, TreesOf, alias, flat, flat_document, flat_items, flat_pairs, item, leaves, leaves_of_items, leaves_of_pairs, mapping, no_items, no_pairs, pair, scalar, sequence, spans_of_leaf, unplaced}
 use Rattle.yf_events.specs.declared.event.Span.{Span}
 use Rattle.yf_events.specs.declared.lists.Lists.{Lists}

@@ -1,13 +1,12 @@
 -- The loop of the reader of streams: what has been read goes on with the next document or `...`, and where the reader refuses, no stream is derived
 -- within the limit of open collections.
-use Rattle.std.proofs.Common.{◌≡◌, ◌≢◌, ℕ, ◌+◌, ◌<◌, ◌-ℤ◌, pos, Bool, true, false, ◌≤◌, List, [], ◌∷◌, ◌++◌, length, refl, sym, subst, arith, ⊎_elim, append-nil}
+use Rattle.std.proofs.Common.{◌≡◌, ◌≢◌, ℕ, ◌+◌, ◌<◌, ◌-ℤ◌, pos, Bool, true, false, ◌≤◌, List, [], ◌++◌, length, sym, subst, arith, ⊎_elim, append-nil}
 use Rattle.std.specs.Str.{IsUtf8}
 use Rattle.yf_chars.specs.declared.context.Ctx.TheVariants.{BlockIn}
 use Rattle.yf_chars.specs.Text.{code}
-use Rattle.yf_chars.specs.Chain.{Chosen, Stuck}
+use Rattle.yf_chars.specs.Chain.{Chosen}
 use Rattle.yf_lines.specs.Basic.{Forbidden, LineStart}
 use Rattle.yf_comments.specs.Comment.{CommentValue}
-use Rattle.yf_comments.specs.Comments.{Row}
 use Rattle.yf_events.specs.declared.directive.Directive.{Directive}
 use Rattle.yf_events.specs.declared.part.Part.{Part}
 use Rattle.yf_events.specs.declared.reading.TheConstants.{DEPTH}
@@ -15,22 +14,20 @@ use Rattle.yf_grammar.specs.Meaning.{Meaning, empty_node, noting}
 use Rattle.yf_grammar.specs.Part.{BlockNodePart}
 use Rattle.yf_grammar.specs.Refusal.{openers}
 use Rattle.yf_grammar.proofs.BlockEnds.{LineOrEnd}
-use Rattle.yf_stream.specs.DirectiveReaders.{DirectivesRead, IsDirective, LongestDirectives, no_directives, one_directive}
+use Rattle.yf_stream.specs.DirectiveReaders.{IsDirective, LongestDirectives, no_directives, one_directive}
 use Rattle.yf_stream.specs.DocumentReaders.{PrefixRead, SuffixEnds}
-use Rattle.yf_stream.specs.DocumentSteps.{BareRead, MarkedRead, NextRead, NodeEnds, NothingEnds, after_directives, at_dashes, at_dots, bare_read, no_bare_read, no_dashes, no_directive, no_node_read, node_read, not_bare, nothing_read, too_deep_bare, too_deep_read, without_dashes}
-use Rattle.yf_stream.specs.Stream.{AnyDocument, DirectiveLines, Directives, Documents, ExplicitNode, RootNode, only_comments}
+use Rattle.yf_stream.specs.DocumentSteps.{BareRead, MarkedRead, NextRead, after_directives, at_dashes, at_dots, bare_read, no_bare_read, no_dashes, no_directive, no_node_read, node_read, not_bare, nothing_read, too_deep_bare, too_deep_read, without_dashes}
+use Rattle.yf_stream.specs.Stream.{DirectiveLines, Directives, Documents, ExplicitNode, RootNode}
 use Rattle.yf_stream.specs.Stream.AnyDocument.{bare_document, directive_document}
 use Rattle.yf_stream.specs.Stream.DirectiveLines.{last_directive, more_directives}
 use Rattle.yf_stream.specs.Stream.ExplicitNode.{marked_node, marked_nothing}
 use Rattle.yf_stream.specs.StreamReader.{NoStream}
-use Rattle.yf_stream.specs.declared.documents.Next.{Next}
 use Rattle.yf_stream.specs.declared.documents.Next.TheVariants.{Go, Syntax, TooDeep}
 use Rattle.yf_stream.specs.declared.documents.Parts.{Parts}
 use Rattle.yf_stream.specs.declared.documents.Spot.{Spot}
 use Rattle.yf_stream.proofs.BareStarts.{bare_start}
 use Rattle.yf_stream.proofs.NodeSteps.{MarkedThrough, marked_at_dash, marked_behind_directives, no_bare_document, no_directives_there, no_line_behind_dots, no_marked_document, no_marker_there, past_bare, past_marked, past_nothing}
 use Rattle.yf_stream.proofs.PathsThrough.{PathsThrough, no_second_bare}
-use Rattle.yf_stream.proofs.StreamPath.{end_code}
 use Rattle.yf_stream.proofs.StreamUpto.{ReadUpto, past_document, past_dots, past_marked_document, three_dashes}
 
 -- what has been read goes on

@@ -1,6 +1,6 @@
 -- The reader of streams goes on after a document's node, as far as the longest node there goes. Each stream that is derived has a path there too:
 -- its node is that one, with or without the comment lines after it.
-use Rattle.std.proofs.Common.{◌≡◌, ℕ, ◌+◌, ◌-ℤ◌, ◌+ℤ◌, ◌≤ℤ◌, ℤ, pos, ◌≤◌, Bool, true, false, List, [], Option, Some, None, refl, sym, ap, ◌∙◌, subst, arith}
+use Rattle.std.proofs.Common.{◌≡◌, ℕ, ◌-ℤ◌, ℤ, pos, ◌≤◌, Bool, true, false, List, [], Option, Some, None, refl, sym, ap, ◌∙◌, subst, arith}
 use Rattle.std.proofs.lemmas.Int.{ints}
 use Rattle.std.specs.Str.{IsUtf8}
 use Rattle.yf_chars.specs.declared.context.Ctx.{Ctx}
@@ -10,8 +10,7 @@ use Rattle.yf_chars.specs.Chain.Chain.{done}
 use Rattle.yf_comments.specs.Comment.{CommentValue}
 use Rattle.yf_comments.specs.Comments.{LineEnd, Row}
 use Rattle.yf_events.specs.declared.part.Part.{Part}
-use Rattle.yf_grammar.specs.BlockParser.{LinesEnd, LineText, Nothing, Awaited, Below, Whole, alone}
-use Rattle.yf_grammar.specs.Grammar.{BlockNode, Derives}
+use Rattle.yf_grammar.specs.BlockParser.{LinesEnd, Nothing, Awaited, Below, Whole}
 use Rattle.yf_grammar.specs.Halts.{Alone, Halts, alone_nowhere, alone_to}
 use Rattle.yf_grammar.specs.Halts as Halting
 use Rattle.yf_grammar.specs.Laws.{Fills}
@@ -22,12 +21,12 @@ use Rattle.yf_grammar.proofs.BlockClaims.{IsFound}
 use Rattle.yf_grammar.proofs.BlockExtended.{by_scalar}
 use Rattle.yf_grammar.proofs.DocumentNodes.{DocumentFound, takes_lines, leaves_lines, document_node}
 use Rattle.yf_grammar.proofs.HaltsAnswered.{halts_answered}
-use Rattle.yf_grammar.proofs.Irrefutable.{Irrefutable, sure, then}
+use Rattle.yf_grammar.proofs.Irrefutable.{sure, then}
 use Rattle.yf_grammar.proofs.LawsHold.{no_block_node_is_missed, whole_nodes_are_chosen}
 use Rattle.yf_grammar.proofs.WholeAnswered.{whole_answered}
 use Rattle.yf_stream.specs.Stream.{RootNode}
 use Rattle.yf_stream.proofs.HasReading.{noting_exists}
-use Rattle.yf_stream.proofs.OneStream.{Known, Same, all_of_it, alone_nothing, but_lines, known_of, known_some, line_stuck, node_one, settled_still}
+use Rattle.yf_stream.proofs.OneStream.{Known, all_of_it, alone_nothing, but_lines, known_of, known_some, line_stuck, node_one, settled_still}
 use Rattle.yf_stream.proofs.Stable.{stable_nat}
 use Rattle.yf_stream.proofs.StreamPath.{NodeTo, Settled}
 

@@ -1,6 +1,6 @@
 -- Past a document, or past the `---` of one, the paths of the streams go on from where the reader does; and where the reader of a document refuses,
 -- no stream is derived within the limit of open collections.
-use Rattle.std.proofs.Common.{◌≡◌, ◌≢◌, ℕ, max, ◌+◌, ◌-ℤ◌, pos, ◌≤◌, Bool, true, false, List, [], ◌∷◌, ◌++◌, length, Option, Some, None, refl, sym, ap, append-nil, ◌∙◌, subst, arith}
+use Rattle.std.proofs.Common.{◌≡◌, ◌≢◌, ℕ, max, ◌+◌, ◌-ℤ◌, pos, ◌≤◌, Bool, false, List, [], ◌∷◌, ◌++◌, length, Some, refl, sym, ap, append-nil, ◌∙◌, subst, arith}
 use Rattle.std.specs.Str.{IsUtf8}
 use Rattle.yf_chars.specs.declared.context.Ctx.TheVariants.{BlockIn}
 use Rattle.yf_chars.specs.Text.{code}
@@ -20,15 +20,15 @@ use Rattle.yf_grammar.specs.Meaning.{Meaning}
 use Rattle.yf_grammar.specs.Part.{BlockNodePart}
 use Rattle.yf_stream.specs.DirectiveReaders.{DirectivesEnd, DirectivesRead, IsDirective, LongestDirectives, no_directives, one_directive}
 use Rattle.yf_stream.specs.DocumentSteps.{NoNode, SomethingBegins, line_left, none_derived, none_found}
-use Rattle.yf_stream.specs.Stream.{Directives, Documents, Stream, document_of, with_document}
+use Rattle.yf_stream.specs.Stream.{Documents, Stream}
 use Rattle.yf_stream.specs.StreamReader.{NoStream}
 use Rattle.yf_stream.proofs.DirectiveLaws.{line_of, same}
 use Rattle.yf_stream.proofs.Forward.{line_end_forward}
 use Rattle.yf_stream.proofs.NodePast.{no_node_left, no_node_over, no_node_to, no_node_unread, node_settles}
-use Rattle.yf_stream.proofs.OneDirective.{DirectivesTo, directives_begin, last_to, line_one, more_to, percent_still}
+use Rattle.yf_stream.proofs.OneDirective.{DirectivesTo, last_to, line_one, more_to, percent_still}
 use Rattle.yf_stream.proofs.OneStream.{lines_end}
 use Rattle.yf_stream.proofs.PathLemmas.{path_at_dash}
-use Rattle.yf_stream.proofs.PathsThrough.{PathAt, PathBehind, PathsThrough, past_rows, settled_here}
+use Rattle.yf_stream.proofs.PathsThrough.{PathsThrough, past_rows, settled_here}
 use Rattle.yf_stream.proofs.StreamPath.{ExplicitTo, NodeTo, Path, Settled, end_code, node_to, nothing_to, path_bare, path_directives, path_ends, path_explicit, path_mark, path_suffix, settled_more}
 
 -- a document from its `---` on, and a path after it

@@ -1,22 +1,20 @@
 -- A pass over the events of documents that are derived finds their breaches, and their tags.
-use Rattle.std.proofs.Common.{◌≡◌, ℕ, Bool, true, false, ◌⊎◌, inl, inr, ⊎_elim, List, [], ◌∷◌, ◌++◌, map, flat_map, length, Option, Some, None, refl, sym, ap, ◌∙◌, subst, arith, true≢false, append_assoc, if◌then◌else◌}
+use Rattle.std.proofs.Common.{◌≡◌, ℕ, Bool, true, false, ⊎_elim, List, [], ◌∷◌, ◌++◌, map, flat_map, Option, Some, None, refl, sym, ap, ◌∙◌, subst, arith, true≢false, append_assoc, if◌then◌else◌}
 use Rattle.std.proofs.lemmas.List.Elements.{All-contains, Contains-append_cases, Contains-append_left, Contains-append_right, Contains-get_or}
-use Rattle.std.specs.List.{All, Contains}
+use Rattle.std.specs.List.{Contains}
 use Rattle.yf_props.specs.Handles.{Declaration}
 use Rattle.yf_props.specs.Props.{TagValue}
 use Rattle.yf_events.specs.Event.{Placed, document_ends, document_starts, stream_ends, stream_starts}
 use Rattle.yf_events.specs.Tree.{Items, Node, Pairs, alias, flat, flat_items, flat_pairs, item, mapping, no_items, no_pairs, pair, scalar, sequence, unplaced}
-use Rattle.yf_events.specs.declared.directive.Directive.{Directive}
 use Rattle.yf_events.specs.declared.document.Doc.{Doc}
 use Rattle.yf_grammar.specs.Part.{Noting, no_event as none_noted, with_entry, without_entry}
 use Rattle.yf_stream.specs.ReadingOf.{DocumentEvents, EventTags, doc_of, no_document, no_event, one_document, tagged, untagged}
 use Rattle.yf_stream.specs.Stream.{Document}
 use Rattle.yf_stream.specs.TagPass.{FirstOf, PassTags, TagOf, document_begins, event_follows, later_documents, next_directives, no_event_left, own_breaches, pass_breaches, starts_document, stream_breaches}
-use Rattle.yf_stream.specs.WellFormed.{IsFirst, Precedes, alias_breaches, alias_of, breach_if, breaches, declarations, directive_breaches, document_breaches, escape_breaches, event_breaches, is_unknown, offset_or, props_of, start_or, with_name}
+use Rattle.yf_stream.specs.WellFormed.{Precedes, alias_breaches, alias_of, breach_if, breaches, declarations, directive_breaches, escape_breaches, event_breaches, is_unknown, offset_or, props_of, start_or, with_name}
 use Rattle.yf_stream.specs.WrittenParts.{DocumentsWritten, document_written, nothing_written}
 use Rattle.yf_stream.specs.declared.breaches.Breach.{Breach}
 use Rattle.yf_stream.specs.declared.breaches.Kind.TheVariants.{UnknownHandle}
-use Rattle.yf_stream.proofs.BreachLemmas.{some_none}
 use Rattle.yf_stream.proofs.FirstLemmas.{escapes_join}
 use Rattle.yf_stream.proofs.PassLemmas.{at_document, at_event}
 

@@ -1,6 +1,6 @@
 -- A pass over the events of a stream: what it finds depends on the names and declarations alone that are found, and not on their order; and what
 -- it has found after one event more.
-use Rattle.std.proofs.Common.{◌≡◌, ℕ, zero, suc, ◌+◌, ◌<◌, ◌≤◌, Bool, true, false, ◌||◌, not, List, [], ◌∷◌, ◌++◌, drop, length, slice_get, Option, Some, None, refl, sym, ap, ◌∙◌, subst, arith, true≢false, append_assoc, append-nil, is_none, is_some, if◌then◌else◌, add-one, get_or}
+use Rattle.std.proofs.Common.{◌≡◌, ℕ, zero, suc, ◌+◌, ◌<◌, ◌≤◌, Bool, true, false, ◌||◌, not, List, [], ◌∷◌, ◌++◌, drop, length, slice_get, Option, Some, None, refl, sym, ap, ◌∙◌, subst, true≢false, append_assoc, append-nil, is_none, is_some, if◌then◌else◌, add-one, get_or}
 use Rattle.std.proofs.Math.ListN.{drop_of_length-le}
 use Rattle.std.proofs.lemmas.Option.{slice_get-get_or}
 use Rattle.std.specs.Str.{bytes_eq}
@@ -12,11 +12,11 @@ use Rattle.yf_events.specs.Tree.{unplaced}
 use Rattle.yf_events.specs.declared.directive.Directive.{Directive}
 use Rattle.yf_events.specs.declared.document.Doc.{Doc}
 use Rattle.yf_stream.specs.TagPass.{FirstOf, Finds, PassTags, Resolves, SameDeclarations, SameNames, StartsDocument, TagOf, document_begins, event_follows, later_documents, next_directives, no_event_left, own_breaches, pass_breaches, starts_document, stream_breaches}
-use Rattle.yf_stream.specs.WellFormed.{alias_breaches, alias_of, breach_if, declaration_breaches, declaration_of, declarations, directive_breaches, escape_breaches, has_name, is_unknown, offset_or, props_of, start_or, version_breaches, version_of, with_declaration, with_name}
+use Rattle.yf_stream.specs.WellFormed.{alias_breaches, alias_of, breach_if, declaration_breaches, declaration_of, declarations, directive_breaches, escape_breaches, is_unknown, offset_or, props_of, start_or, version_breaches, version_of, with_declaration, with_name}
 use Rattle.yf_stream.specs.declared.breaches.Breach.{Breach}
 use Rattle.yf_stream.specs.declared.breaches.Kind.TheVariants.{RepeatedDirective, UnknownAlias, UnknownHandle}
 use Rattle.yf_stream.proofs.BreachLemmas.{both_empty, some_none}
-use Rattle.yf_stream.proofs.DeclaredLemmas.{Declares, declares_last, not_declared, same_declared, with_new, with_old}
+use Rattle.yf_stream.proofs.DeclaredLemmas.{declares_last, not_declared, same_declared, with_new, with_old}
 use Rattle.yf_stream.proofs.FirstLemmas.{finds_then, found_nothing}
 
 -- Names in another order.

@@ -1,6 +1,6 @@
 -- Where the parts that were read are those of the one stream of a text, the lists that are made of them are its reading, and the first breach in
 -- them is the text's.
-use Rattle.std.proofs.Common.{◌≡◌, ℕ, Bool, List, [], ◌∷◌, ◌++◌, map, flat_map, length, None, Some, refl, sym, ap, ◌∙◌, subst}
+use Rattle.std.proofs.Common.{◌≡◌, ℕ, Bool, List, [], ◌∷◌, ◌++◌, map, flat_map, length, None, Some, sym, ap, ◌∙◌, subst}
 use Rattle.std.specs.Str.{IsUtf8}
 use Rattle.yf_lines.specs.FaultPlaces.{IsPlaceOf}
 use Rattle.yf_lines.specs.Lines.{AreLines}
@@ -19,7 +19,7 @@ use Rattle.yf_stream.specs.NotedLists.{Noted}
 use Rattle.yf_stream.specs.ReadingOf.{NotedComments, ReadingOf, leaf_lines}
 use Rattle.yf_stream.specs.Stream.{Document, Documents}
 use Rattle.yf_stream.specs.StreamReader.{StreamFault, TheReading, breached, fault_of}
-use Rattle.yf_stream.specs.TagPass.{FirstOf, PassTags, stream_breaches}
+use Rattle.yf_stream.specs.TagPass.{PassTags, stream_breaches}
 use Rattle.yf_stream.specs.WellFormed.{IsFirst, Shapes, breaches}
 use Rattle.yf_stream.specs.WrittenParts.{Written}
 use Rattle.yf_stream.specs.declared.breaches.Breach.{Breach}

@@ -1,5 +1,5 @@
 -- The handles of a document that are found by their hashes, and all of them.
-use Rattle.std.specs.Prelude.{◌≡◌, ℕ, ◌≤◌, List, length, Option, None}
+use Rattle.std.specs.Prelude.{◌≡◌, ℕ, ◌≤◌, List, length, None}
 use Rattle.yf_props.specs.Handles.{Declaration, declared_prefix}
 
 -- no others than all are found, and the same as long as there are no more than 64

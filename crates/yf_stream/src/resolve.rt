@@ -154,7 +154,8 @@ fn resolve_tag<'a>(
     handles: &Prefixes<'a>,
     first: &mut Option<Breach>,
 ) -> Result<Option<ResolvedTag<'a>>, AllocError>
-    ensures tag { IfOk result (λ r. is_unknown handles.now (optional_tag_value tag.entry) ≡ false → TagOf handles.now (optional_tag_value tag.entry) r) }
+    ensures tag { IfOk result (λ r. is_unknown handles.now (optional_tag_value tag.entry) ≡ false
+        → TagOf handles.now (optional_tag_value tag.entry) r) }
     ensures found { IfOk result (λ _. Finds first.old first.new
         (breach_if (is_unknown handles.now (optional_tag_value tag.entry)) Kind.UnknownHandle (offset_or 0 offset))) }
 {

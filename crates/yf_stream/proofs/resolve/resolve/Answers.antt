@@ -1,4 +1,4 @@
-use Rattle.std.proofs.Common.{◌≡◌, [], sym, ap, ◌∙◌, subst, arith}
+use Rattle.std.proofs.Common.{[], ap, subst, arith}
 use Rattle.yf_stream.specs.TagPass.{FirstOf, PassTags, stream_breaches}
 use Rattle.yf_stream.specs.WellFormed.{escape_breaches}
 use Rattle.yf_stream.proofs.FirstLemmas.{finds_as}

@@ -1,7 +1,7 @@
-use Rattle.std.proofs.Common.{◌≡◌, ◌+◌, ◌≤◌, ◌<◌, true, false, not, is_some, length, map, refl, sym, ap, ◌∙◌, subst, arith, Some, None}
+use Rattle.std.proofs.Common.{not, is_some, map, sym, ap, ◌∙◌, subst, arith, Some, None}
 use Rattle.std.proofs.lemmas.List.{length-map}
 use Rattle.std.proofs.lemmas.Map.Text.{btree_map_updates_str}
-use Rattle.yf_props.specs.Handles.{declaration, declared_prefix, is_declared}
+use Rattle.yf_props.specs.Handles.{declaration, is_declared}
 use Rattle.yf_stream.specs.FewHandles.{FewOf}
 use Rattle.yf_stream.specs.TagPass.{SameDeclarations}
 use Rattle.yf_stream.proofs.DeclaredLemmas.{counted_less, counted_more, declares_by_order, few_declared, few_kept, few_more, few_same, found_again, is_declared_by_order, newly_declared, not_declared, same_itself, taken_out, with_old}

@@ -1,4 +1,4 @@
-use Rattle.std.proofs.Common.{◌≡◌, length, map, sym, ap, ◌∙◌, arith, None, inl, inr, ⊎_elim, option_copied}
+use Rattle.std.proofs.Common.{◌≡◌, map, sym, ap, ◌∙◌, arith, None, inl, inr, ⊎_elim}
 use Rattle.std.proofs.lemmas.List.{length-map}
 use Rattle.std.proofs.lemmas.Result.{IfOk-weaker, IfErr-weaker}
 use Rattle.yf_props.specs.Handles.{UnknownHandleOf, declaration, declared_prefix, prefix_of}
