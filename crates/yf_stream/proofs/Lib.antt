@@ -72,4 +72,6 @@ pub mod NodePast
 pub mod NodeSteps
 pub mod StreamUpto
 pub mod NextSteps
+pub mod DocumentAnswers
 pub mod FloorLemmas
+pub mod NotingLemmas

@@ -267,9 +267,9 @@ fn empty_end<'a>(
     ensures order { IfOk result (λ o. IfSome o (λ p. at ≤ p.end)) }
 {
     match line_end(alloc, text, at)? {
-        Some(separation) => {
-            if node_ends(text, separation.end) {
-                return Ok(Some(separation));
+        Some(Separation { comments, end }) => {
+            if node_ends(text, end) {
+                return Ok(Some(Separation { comments, end }));
             }
             Ok(None)
         }

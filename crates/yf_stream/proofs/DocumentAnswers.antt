@@ -1,0 +1,112 @@
+-- What the readers of documents answer, by what the reader of block nodes does.
+use Rattle.std.proofs.Common.{◌≡◌, ℕ, ◌+◌, ◌<◌, ◌≤◌, ◌-ℤ◌, pos, Bool, true, false, cond, List, [], ◌∷◌, ◌++◌, drop, take, refl, sym, ap, ◌∙◌, subst, arith}
+use Rattle.std.proofs.lemmas.List.Sums.{sum_by-take-drop}
+use Rattle.std.specs.List.{sum_by}
+use Rattle.yf_chars.specs.declared.context.Ctx.TheVariants.{BlockIn}
+use Rattle.yf_chars.specs.Text.{code}
+use Rattle.yf_chars.specs.Class.{is_white}
+use Rattle.yf_chars.specs.Chain.{Chosen, Many, Stuck}
+use Rattle.yf_comments.specs.Comment.{CommentValue}
+use Rattle.yf_comments.specs.Comments.{LineEnd}
+use Rattle.yf_events.specs.declared.directive.Directive.{Directive}
+use Rattle.yf_events.specs.declared.part.Part.{Part}
+use Rattle.yf_events.specs.declared.reading.TheConstants.{DEPTH}
+use Rattle.yf_flow.specs.Counted.{openers_from}
+use Rattle.yf_grammar.specs.BlockParser.{Awaited, LinesEnd, Nothing}
+use Rattle.yf_grammar.specs.Part.{BlockNodePart}
+use Rattle.yf_grammar.specs.Refusal.{is_opener, openers}
+use Rattle.yf_block.specs.BlockStepTied.{Unfinished, line_left as line_is_left, none_found as none_is_found}
+use Rattle.yf_block.specs.NodeGiven.{FoundTied, NoneTied}
+use Rattle.yf_block.specs.declared.nodes.Found.{Found as FoundNode}
+use Rattle.yf_stream.specs.DocumentReaders.{opened}
+use Rattle.yf_stream.specs.DocumentSteps.{BareRead, EmptyAdded, EmptyTo, FoundRead, FoundTo, MarkedRead, NoNode, NodeEnds, NothingAt, SomethingBegins, bare_read, grown, line_left, no_bare_read, no_node_read, node_read, none_derived, none_found, nothing_read, too_deep_bare, too_deep_read}
+use Rattle.yf_stream.specs.declared.documents.Next.{Next}
+use Rattle.yf_stream.specs.declared.documents.Next.TheVariants.{Go, Syntax, TooDeep}
+use Rattle.yf_stream.specs.declared.documents.Parts.{Parts}
+use Rattle.yf_stream.specs.declared.documents.Spot.{Spot}
+
+grown_by : {a b : Parts} {part : Part} → b.part.events ≡ a.part.events ++ part.events → b.part.comments ≡ a.part.comments ++ part.comments
+    → b.part.escapes ≡ a.part.escapes ++ part.escapes → b.documents ≡ a.documents → b ≡ grown part a
+grown_by {a} {b} {part} e c s d =
+    ap (λ z. record { part = record { events = z; comments = b.part.comments; escapes = b.part.escapes }; documents = b.documents }) e
+    ∙ ap (λ z. record { part = record { events = a.part.events ++ part.events; comments = z; escapes = b.part.escapes }; documents = b.documents }) c
+    ∙ ap (λ z. record { part = record { events = a.part.events ++ part.events; comments = a.part.comments ++ part.comments; escapes = z }; documents = b.documents }) s
+    ∙ ap (λ z. record { part = record { events = a.part.events ++ part.events; comments = a.part.comments ++ part.comments; escapes = a.part.escapes ++ part.escapes }; documents = z }) d
+
+no_node_of : {t : List ℕ} {at : ℕ} → Unfinished t DEPTH (Awaited false (pos 0 -ℤ pos 1) BlockIn Nothing at) → NoNode t at
+no_node_of (none_is_found r) = none_found r
+no_node_of (line_is_left r o s) = line_left r o s
+
+module _ {t : List ℕ} where
+  node_ends : {at : ℕ} {a b : Parts} {f : FoundNode} {after : Spot} → FoundTied t DEPTH (pos 0 -ℤ pos 1) BlockIn at a.part f b.part → b.documents ≡ a.documents → FoundTo f after
+      → NodeEnds t at a b after
+  node_ends {at} x d e =
+      let g = x.whole e.whole in
+      record {
+        part = g.node;
+        chosen = subst (λ z. Chosen (BlockNodePart t DEPTH (pos 0 -ℤ pos 1) BlockIn at) z g.node) (sym e.at) g.chosen;
+        bare = e.bare;
+        document = e.document;
+        parts = grown_by g.added.events g.added.comments g.added.escapes d;
+      }
+
+  pub marked_found : {at : ℕ} {ds : List Directive} {old a b : Parts} {f : FoundNode} (next : Next) → SomethingBegins t (at + 3)
+      → FoundTied t DEPTH (pos 0 -ℤ pos 1) BlockIn (at + 3) a.part f b.part → b.documents ≡ a.documents → a ≡ opened at true ds old → FoundRead f next → MarkedRead t at ds old b next
+  marked_found {at} {b = b} (Go after) s x d o e = node_read (subst (λ z. NodeEnds t (at + 3) z b after) o (node_ends x d e))
+  marked_found (Syntax place) s x d o e = no_node_read s (no_node_of (x.broken e.0))
+  marked_found (TooDeep place) s x d o e = absurd e
+
+  pub marked_none : {at place : ℕ} {ds : List Directive} {old b : Parts} → SomethingBegins t (at + 3) → NoneTied t DEPTH (pos 0 -ℤ pos 1) BlockIn (at + 3) → MarkedRead t at ds old b (Syntax place)
+  marked_none s n = no_node_read s (none_derived n.none)
+
+  fewer_openers : (i : ℕ) → openers_from t i ≤ openers t
+  unfolding openers_from
+  fewer_openers i =
+      let all : sum_by (λ c. cond (is_opener c) 1 0) (take i t) + openers (drop i t) ≡ openers t = sum_by-take-drop (λ c. cond (is_opener c) 1 0) t i in omega arith
+
+  pub marked_deep : {at place : ℕ} {ds : List Directive} {old b : Parts} → SomethingBegins t (at + 3) → NoneTied t DEPTH (pos 0 -ℤ pos 1) BlockIn (at + 3) → DEPTH < openers_from t (at + 3)
+      → MarkedRead t at ds old b (TooDeep place)
+  marked_deep {at} s n l = let m = fewer_openers (at + 3) in too_deep_read s (none_derived n.none) (omega arith)
+
+  pub marked_nothing : {at end : ℕ} {cs : List CommentValue} {ds : List Directive} {old a b : Parts} (next : Next) → NothingAt t (at + 3) end cs → a ≡ opened at true ds old
+      → EmptyAdded end cs a b next → MarkedRead t at ds old b next
+  marked_nothing {at} {end} {cs} {ds} {old} {a} {b} (Go after) n o e =
+      let e' : EmptyTo end cs (opened at true ds old) b after = subst (λ z. EmptyTo end cs z b after) o e in
+      nothing_read (record {
+        ends = record {
+          comments = cs;
+          line = subst (λ z. Chosen (LineEnd t (at + 3)) z cs) (sym e'.at) n.line;
+          bare = e'.bare;
+          document = e'.document;
+          floor = e'.floor;
+          parts = e'.parts;
+        };
+        last = subst (λ z. LinesEnd t z) (sym e'.at) n.last;
+      })
+  marked_nothing (Syntax place) n o e = absurd e
+  marked_nothing (TooDeep place) n o e = absurd e
+
+  pub bare_found : {at start : ℕ} {w : List ℕ} {old a b : Parts} {f : FoundNode} (next : Next) → Many t is_white at start w → is_white (code t start) ≡ false
+      → FoundTied t DEPTH (pos 0 -ℤ pos 1) BlockIn at a.part f b.part → b.documents ≡ a.documents → a ≡ opened start false [] old → FoundRead f next → BareRead t at old b next
+  bare_found {at} {b = b} (Go after) m w x d o e = bare_read m w (subst (λ z. NodeEnds t at z b after) o (node_ends x d e))
+  bare_found (Syntax place) m w x d o e = no_bare_read (no_node_of (x.broken e.0))
+  bare_found (TooDeep place) m w x d o e = absurd e
+
+  pub bare_none : {at place : ℕ} {old b : Parts} → NoneTied t DEPTH (pos 0 -ℤ pos 1) BlockIn at → BareRead t at old b (Syntax place)
+  bare_none n = no_bare_read (none_derived n.none)
+
+  pub bare_deep : {at place : ℕ} {old b : Parts} → NoneTied t DEPTH (pos 0 -ℤ pos 1) BlockIn at → DEPTH < openers_from t at → BareRead t at old b (TooDeep place)
+  bare_deep {at} n l = let m = fewer_openers at in too_deep_bare (none_derived n.none) (omega arith)
+
+  -- the end of a line after a `---`
+  pub something_left : {at j : ℕ} {cs : List CommentValue} → Chosen (LineEnd t at) j cs → (LinesEnd t j → ⊥) → SomethingBegins t at
+  something_left {j = j} {cs = cs} c n = record {
+    none = λ k ds d z.
+        let l = c.longest k ds d.derived in
+        let m = d.longest j cs c.derived in
+        let e : k ≡ j = omega arith in
+        n (subst (λ w. LinesEnd t w) e z);
+  }
+
+  pub something_there : {at : ℕ} → Stuck (LineEnd t at) → SomethingBegins t at
+  something_there s = record { none = λ k ds d z. s.none k ds d.derived }
