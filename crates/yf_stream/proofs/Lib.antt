@@ -75,3 +75,4 @@ pub mod NextSteps
 pub mod DocumentAnswers
 pub mod FloorLemmas
 pub mod NotingLemmas
+pub mod NestedNodes

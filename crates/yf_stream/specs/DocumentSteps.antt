@@ -69,6 +69,7 @@ pub record EmptyTo (end : ℕ) (cs : List CommentValue) (a b : Parts) (after : S
   pub bare : after.may_be_bare ≡ false
   pub document : after.is_open ≡ true
   pub floor : after.floor ≡ 0
+  pub reached : after.reached ≡ end
   pub parts : b ≡ with_event (commented cs a) (scalar_node no_props Plain [])
 
 abbrev pub EmptyAdded : ℕ → List CommentValue → Parts → Parts → Next → Type 0
