@@ -1,5 +1,5 @@
 -- What the readers of documents answer, by what the reader of block nodes does.
-use Rattle.std.proofs.Common.{◌≡◌, ℕ, ◌+◌, ◌<◌, ◌≤◌, ◌-ℤ◌, pos, Bool, true, false, cond, Result, Ok, IfOk, List, [], ◌∷◌, ◌++◌, drop, take, refl, sym, ap, ◌∙◌, subst, arith}
+use Rattle.std.proofs.Common.{◌≡◌, ℕ, ◌+◌, ◌<◌, ◌≤◌, ◌-ℤ◌, pos, Bool, true, false, not, true≢false, cond, Result, Ok, IfOk, List, [], ◌∷◌, ◌++◌, drop, take, refl, sym, ap, ◌∙◌, subst, arith}
 use Rattle.std.proofs.lemmas.List.Elements.{All-nil, All-push}
 use Rattle.std.proofs.lemmas.List.Sums.{sum_by-take-drop}
 use Rattle.std.specs.List.{sum_by}
@@ -122,9 +122,9 @@ module _ (t : List ℕ) where
 pub root_indentation : Indentation (pos 0 -ℤ pos 1)
 root_indentation = record { least = 0; is = refl; narrow = omega arith }
 
-pub outcome_of : {t : List ℕ} {at : ℕ} {before part : Part} {r : Result Outcome AllocError} {o p : Outcome}
+pub outcome_of : (t : List ℕ) (at : ℕ) (before part : Part) {r : Result Outcome AllocError} {o p : Outcome}
     → IfOk r (λ w. OutcomeTied t DEPTH (pos 0 -ℤ pos 1) BlockIn at before w part) → r ≡ Ok o → o ≡ p → OutcomeTied t DEPTH (pos 0 -ℤ pos 1) BlockIn at before p part
-outcome_of {t} {at} {before} {part} i e f =
+outcome_of t at before part i e f =
     subst (λ w. OutcomeTied t DEPTH (pos 0 -ℤ pos 1) BlockIn at before w part) f
     (subst (λ z. IfOk z (λ w. OutcomeTied t DEPTH (pos 0 -ℤ pos 1) BlockIn at before w part)) e i)
 
@@ -143,3 +143,11 @@ empty_next t at cs a b (Go after) k l e =
     (record { boundary = subst (λ z. IsCharBoundary t z) (sym e.at) k; order = omega (arith, e.at) }, subst (λ z. IsCharBoundary t z) (sym e.reached) k)
 empty_next t at cs a b (Syntax place) k l e = absurd e
 empty_next t at cs a b (TooDeep place) k l e = absurd e
+
+pub turned_false : (b : Bool) → not b ≡ true → b ≡ false
+turned_false true e = absurd (true≢false (sym e))
+turned_false false e = refl
+
+pub turned_true : (b : Bool) → not b ≡ false → b ≡ true
+turned_true true e = refl
+turned_true false e = absurd (true≢false e)

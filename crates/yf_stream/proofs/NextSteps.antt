@@ -17,7 +17,7 @@ use Rattle.yf_grammar.proofs.BlockEnds.{LineOrEnd}
 use Rattle.yf_stream.specs.DirectiveReaders.{IsDirective, LongestDirectives, no_directives, one_directive}
 use Rattle.yf_stream.specs.DocumentReaders.{PrefixRead, SuffixEnds}
 use Rattle.yf_stream.specs.DocumentSteps.{BareRead, MarkedRead, NextRead, after_directives, at_dashes, at_dots, bare_read, no_bare_read, no_dashes, no_directive, no_node_read, node_read, not_bare, nothing_read, too_deep_bare, too_deep_read, without_dashes}
-use Rattle.yf_stream.specs.Stream.{DirectiveLines, Directives, Documents, ExplicitNode, RootNode}
+use Rattle.yf_stream.specs.Stream.{DirectiveLines, Directives, Documents, ExplicitNode, RootNode, only_comments}
 use Rattle.yf_stream.specs.Stream.AnyDocument.{bare_document, directive_document}
 use Rattle.yf_stream.specs.Stream.DirectiveLines.{last_directive, more_directives}
 use Rattle.yf_stream.specs.Stream.ExplicitNode.{marked_node, marked_nothing}
@@ -28,7 +28,7 @@ use Rattle.yf_stream.specs.declared.documents.Spot.{Spot}
 use Rattle.yf_stream.proofs.BareStarts.{bare_start}
 use Rattle.yf_stream.proofs.NodeSteps.{MarkedThrough, marked_at_dash, marked_behind_directives, no_bare_document, no_directives_there, no_line_behind_dots, no_marked_document, no_marker_there, past_bare, past_marked, past_nothing}
 use Rattle.yf_stream.proofs.PathsThrough.{PathsThrough, no_second_bare}
-use Rattle.yf_stream.proofs.StreamUpto.{ReadUpto, past_document, past_dots, past_marked_document, three_dashes}
+use Rattle.yf_stream.proofs.StreamUpto.{ReadUpto, followed, past_document, past_dots, past_marked_document, past_prefix, three_dashes}
 
 -- what has been read goes on
 pub record GoesOn (t : List ℕ) (after : Spot) : Type 0 where
@@ -148,3 +148,12 @@ module _ {t : List ℕ} (u : IsUtf8 t) where
     too_deep_there (at_dashes f e m) = marked_too_deep m (marked_at_dash pre.no_row f e r.through)
     too_deep_there (after_directives q e d f g m) = marked_too_deep m (marked_behind_directives u e d r.through)
     too_deep_there (without_dashes f q e m) = bare_too_deep f e m
+
+-- the same from a spot before comment lines and byte order marks on
+pub spot_on : {t : List ℕ} {c d : List CommentValue} (spot s : Spot) → IsUtf8 t → s ≡ record spot { at = s.at } → PrefixRead t spot.at s.at c d → GoesOn t spot → GoesOn t s
+spot_on {t} spot s u e r g =
+    let y = past_prefix u r g.read in
+    record {
+      documents = followed g.documents (only_comments r.upto.comments);
+      read = subst (λ b. ReadUpto t b s.at (followed g.documents (only_comments r.upto.comments))) (sym (ap (λ z. z.may_be_bare) e)) y;
+    }

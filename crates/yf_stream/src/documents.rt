@@ -1,10 +1,11 @@
 //! The documents of a stream (YAML 1.2.2, section 9.1): what begins one, and what ends it. Offsets count bytes.
-ghost use Rattle.std.specs.Prelude.{◌≡◌, ◌+◌, ◌<◌, ◌≤◌, ◌^◌, [], true, false, length, IfOk, IfSome, MatchOption};
+ghost use Rattle.std.specs.Prelude.{◌≡◌, ◌+◌, ◌<◌, ◌≤◌, ◌^◌, [], true, false, length, IfOk, IfSome, MatchBool, MatchOption};
 ghost use Rattle.std.specs.List.{All};
 ghost use Rattle.std.specs.Str.{IsCharBoundary};
 ghost use Rattle.yf_events.specs.Event.{new_event_value};
 ghost use Rattle.yf_stream.specs.DocumentReaders.{IsMarker, closed, opened, with_event};
 ghost use Rattle.yf_chars.specs.Text.{code};
+ghost use Rattle.yf_lines.specs.Basic.{Forbidden};
 ghost use Rattle.yf_stream.specs.DocumentSteps.{BareRead, EmptyAdded, FoundRead, MarkedRead, NextRead, NothingAt, SomethingBegins};
 ghost use Rattle.yf_stream.specs.RefusalPlaces.{DirectivesAt, DocumentsAt};
 ghost use Rattle.yf_stream.specs.Walk.{NextAt};
@@ -190,6 +191,21 @@ fn marker_at(text: &str, at: usize) -> Option<Marker>
     None
 }
 
+// Whether a `---` stands at the start of a line that begins at the offset.
+fn has_dashes(text: &str, at: usize) -> bool
+    requires { IsCharBoundary text.now at }
+    ensures marker { MatchBool result (Forbidden text.now at × (code text.now at ≡ 45)) (Forbidden text.now at → code text.now at ≡ 45 → ⊥) }
+    ensures boundary { result ≡ true → IsCharBoundary text.now (at + 3) }
+{
+    if is_forbidden_at(text, at) {
+        if stands(text, at + 2, b'-') {
+            return true;
+        }
+        return false;
+    }
+    false
+}
+
 // Reads directives and the document after them (l-directive-document, production 209).
 fn directive_document<'a>(
     alloc: Global,
@@ -209,7 +225,7 @@ fn directive_document<'a>(
 {
     match read_directives(alloc, text, spot.at, &mut parts.part.comments)? {
         Ok(DirectiveLines { directives, end }) => {
-            if let Some(Marker::DocumentStart) = marker_at(text, end) {
+            if has_dashes(text, end) {
                 return explicit_document(alloc, text, end, directives, parts);
             }
             Ok(Next::Syntax(end))

@@ -1,9 +1,10 @@
 //! The reader of whole streams.
-ghost use Rattle.std.specs.Prelude.{◌≡◌, ◌+◌, ◌-◌, ◌<◌, ◌≤◌, length, IfErr, IfOk, IfSome, MatchResult};
+ghost use Rattle.std.specs.Prelude.{◌≡◌, ◌+◌, ◌-◌, ◌<◌, ◌≤◌, ◌^◌, length, IfErr, IfOk, IfSome, MatchResult};
 ghost use Rattle.std.specs.List.{All};
 ghost use Rattle.std.specs.Str.{IsCharBoundary};
 ghost use Rattle.yf_events.specs.Reading.{Fits};
 ghost use Rattle.yf_lines.specs.FaultPlaces.{InText, IsPlaceOf};
+ghost use Rattle.yf_stream.specs.DerivedStreams.{ShapeOr};
 ghost use Rattle.yf_stream.specs.MadeReadings.{MadeOr, MadeReading, NoBreach};
 ghost use Rattle.yf_stream.specs.NotedLists.{FaultAt, NotedOr};
 ghost use Rattle.yf_stream.specs.Refusal.{IsStreamFault};
@@ -165,6 +166,7 @@ fn read_documents<'a>(
     requires documents { DocumentsAt text.now parts.old.documents }
     ensures refusal { IfOk result (λ o. IfSome o (λ refusal. RefusalAt text.now refusal)) }
     ensures underived { IfOk result (λ o. IfSome o (λ refusal. NoBreach refusal)) }
+    ensures derived { length text.now ≤ 2 ^ 30 → IfOk result (λ o. ShapeOr text.now o) }
     ensures escapes { IfOk result (λ _. All (IsCharBoundary text.now) parts.new.part.escapes) }
     ensures documents { IfOk result (λ _. DocumentsAt text.now parts.new.documents) }
 {

@@ -1,4 +1,4 @@
-use Rattle.std.proofs.Common.{◌≡◌, MatchOption, IfSome, ◌+◌, ◌≤◌, refl, sym, subst}
+use Rattle.std.proofs.Common.{◌≡◌, true, MatchOption, IfSome, ◌+◌, ◌≤◌, refl, sym, subst}
 use Rattle.std.proofs.lemmas.Result.{IfOk-weaker}
 use Rattle.std.specs.Str.{IsCharBoundary}
 use Rattle.yf_stream.specs.DocumentSteps.{NothingAt, SomethingBegins}
@@ -22,7 +22,7 @@ returns-in-Some-clause-next c =
 pub returns-in-Some-clause-documents : goal.returns-in-Some-clause-documents
 returns-in-Some-clause-documents c =
     let here = documents_opened c.args.text.now c.args.parts.now c.args.at true c.args.directives c.in_ok-open.ensures.parts c.requires.documents c.requires.directives in
-    IfOk-weaker (λ _. c.empty_document.new.parts.documents ≡ c.open.new.self.documents) (λ _. DocumentsAt c.args.text.now c.empty_document.new.parts.documents) c.empty_document.result
+    IfOk-weaker c.empty_document.result (λ _. c.empty_document.new.parts.documents ≡ c.open.new.self.documents) (λ _. DocumentsAt c.args.text.now c.empty_document.new.parts.documents)
     (λ _ e. subst (DocumentsAt c.args.text.now) (sym e) here) c.empty_document.ensures.documents
 
 pub returns-in-Found-clause-reads : goal.returns-in-Found-clause-reads
@@ -30,7 +30,7 @@ returns-in-Found-clause-reads c = λ l.
     let t = c.args.text.now in
     let i = c.args.at + 3 in
     let s = subst (λ z. MatchOption z (SomethingBegins t i) (λ p. NothingAt t i p.end p.comments)) c.in_default.is c.in_ok-comments.ensures.reads in
-    marked_found t c.behind_found.result s (outcome_of (c.block_node_in.ensures.tied refl root_indentation l) c.in_ok-found.was c.in-Found.is) refl c.in_ok-open.ensures.parts
+    marked_found t c.behind_found.result s (outcome_of c.args.text.now (c.args.at + 3) c.open.new.self.part c.block_node_in.new.part (c.block_node_in.ensures.tied refl root_indentation l) c.in_ok-found.was c.in-Found.is) refl c.in_ok-open.ensures.parts
     c.behind_found.ensures
 
 pub returns-in-Found-clause-documents : goal.returns-in-Found-clause-documents
@@ -41,7 +41,7 @@ returns-in-Nothing-clause-reads c = λ l.
     let t = c.args.text.now in
     let i = c.args.at + 3 in
     let s = subst (λ z. MatchOption z (SomethingBegins t i) (λ p. NothingAt t i p.end p.comments)) c.in_default.is c.in_ok-comments.ensures.reads in
-    marked_none t s (outcome_of (c.block_node_in.ensures.tied refl root_indentation l) c.in_ok-found.was c.in-Nothing.is)
+    marked_none t s (outcome_of c.args.text.now (c.args.at + 3) c.open.new.self.part c.block_node_in.new.part (c.block_node_in.ensures.tied refl root_indentation l) c.in_ok-found.was c.in-Nothing.is)
 
 pub returns-in-Nothing-clause-documents : goal.returns-in-Nothing-clause-documents
 returns-in-Nothing-clause-documents c = documents_opened c.args.text.now c.args.parts.now c.args.at true c.args.directives c.in_ok-open.ensures.parts c.requires.documents c.requires.directives
@@ -51,7 +51,7 @@ returns-in-TooDeep-clause-reads c = λ l.
     let t = c.args.text.now in
     let i = c.args.at + 3 in
     let s = subst (λ z. MatchOption z (SomethingBegins t i) (λ p. NothingAt t i p.end p.comments)) c.in_default.is c.in_ok-comments.ensures.reads in
-    let o = outcome_of (c.block_node_in.ensures.tied refl root_indentation l) c.in_ok-found.was c.in-TooDeep.is in
+    let o = outcome_of c.args.text.now (c.args.at + 3) c.open.new.self.part c.block_node_in.new.part (c.block_node_in.ensures.tied refl root_indentation l) c.in_ok-found.was c.in-TooDeep.is in
     marked_deep t s o.0 o.1
 
 pub returns-in-TooDeep-clause-documents : goal.returns-in-TooDeep-clause-documents
