@@ -1,7 +1,8 @@
 -- The loop of the reader of streams: what has been read goes on with the next document or `...`, and where the reader refuses, no stream is derived
 -- within the limit of open collections.
-use Rattle.std.proofs.Common.{◌≡◌, ◌≢◌, ℕ, ◌+◌, ◌<◌, ◌-ℤ◌, pos, Bool, true, false, ◌≤◌, List, [], ◌++◌, length, sym, subst, arith, ⊎_elim, append-nil}
+use Rattle.std.proofs.Common.{ap, Result, Ok, IfOk, ◌≡◌, ◌≢◌, ℕ, ◌+◌, ◌<◌, ◌-ℤ◌, pos, Bool, true, false, ◌≤◌, List, [], ◌++◌, length, sym, subst, arith, ⊎_elim, append-nil}
 use Rattle.std.specs.Str.{IsUtf8}
+use Rattle.std.specs.declared.alloc.AllocError.{AllocError}
 use Rattle.yf_chars.specs.declared.context.Ctx.TheVariants.{BlockIn}
 use Rattle.yf_chars.specs.Text.{code}
 use Rattle.yf_chars.specs.Chain.{Chosen}
@@ -22,6 +23,7 @@ use Rattle.yf_stream.specs.Stream.AnyDocument.{bare_document, directive_document
 use Rattle.yf_stream.specs.Stream.DirectiveLines.{last_directive, more_directives}
 use Rattle.yf_stream.specs.Stream.ExplicitNode.{marked_node, marked_nothing}
 use Rattle.yf_stream.specs.StreamReader.{NoStream}
+use Rattle.yf_stream.specs.declared.documents.Next.{Next}
 use Rattle.yf_stream.specs.declared.documents.Next.TheVariants.{Go, Syntax, TooDeep}
 use Rattle.yf_stream.specs.declared.documents.Parts.{Parts}
 use Rattle.yf_stream.specs.declared.documents.Spot.{Spot}
@@ -157,3 +159,6 @@ spot_on {t} spot s u e r g =
       documents = followed g.documents (only_comments r.upto.comments);
       read = subst (λ b. ReadUpto t b s.at (followed g.documents (only_comments r.upto.comments))) (sym (ap (λ z. z.may_be_bare) e)) y;
     }
+
+pub next_of : (t : List ℕ) (s : Spot) (a b : Parts) {r : Result Next AllocError} {o p : Next} → IfOk r (λ next. NextRead t s a b next) → r ≡ Ok o → o ≡ p → NextRead t s a b p
+next_of t s a b i e f = subst (λ w. NextRead t s a b w) f (subst (λ z. IfOk z (λ next. NextRead t s a b next)) e i)
