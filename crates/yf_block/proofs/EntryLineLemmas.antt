@@ -18,7 +18,7 @@ use Rattle.yf_grammar.specs.BlockParser.{LinesEnd, LineText}
 use Rattle.yf_grammar.proofs.BlockClaims.{line_whites}
 use Rattle.yf_block.specs.Looks.{LineEndsAt, text_stops, feed_stands, return_stands, hash_stands, EntryPlace, NotWithinBreak}
 
-no_end_here : {t : List ℕ} {p j : ℕ} → (LineEndsAt t true p → ⊥) → BreakOrEnd t p j → ⊥
+pub no_end_here : {t : List ℕ} {p j : ℕ} → (LineEndsAt t true p → ⊥) → BreakOrEnd t p j → ⊥
 no_end_here n (by_break b) = ⊎_elim (λ e. n (return_stands e)) (λ e. n (feed_stands e)) (break_char b)
 no_end_here n (by_end e) = n (text_stops e)
 
@@ -42,7 +42,7 @@ entry_line {t} {w} {at} {s} {p} g l y z m f n =
     }
 
 -- the last of white characters
-last_white : {t w : List ℕ} {i j : ℕ} → Many t is_white i j w → i < j → is_white (code t (j - 1)) ≡ true
+pub last_white : {t w : List ℕ} {i j : ℕ} → Many t is_white i j w → i < j → is_white (code t (j - 1)) ≡ true
 last_white done l = absurd (omega arith)
 last_white {t} {j = j} (step {i = i} (one e) r) l =
     let n = next_ascii t i (white_below (code t i) e) in

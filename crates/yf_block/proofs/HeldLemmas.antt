@@ -51,16 +51,16 @@ pub line_found : {t : List ℕ} {p : ℕ} (v : TheProperties) → Chosen (Proper
 line_found v d = record { value = properties_value v; chosen = d; tied = record { start = refl; end = refl; tag = refl; props = refl }; no_comments = key_bare d.derived }
 
 -- two of one kind
-name_there : {h : HeldValue} {q : PropertiesValue} {a b : Option (List ℕ)} → BothThere a b → h.value.props.anchor ≡ a → q.props.anchor ≡ b → Clash h q
+pub name_there : {h : HeldValue} {q : PropertiesValue} {a b : Option (List ℕ)} → BothThere a b → h.value.props.anchor ≡ a → q.props.anchor ≡ b → Clash h q
 name_there both_there x y = anchors_clash x y
 
-tag_there : {h : HeldValue} {q : PropertiesValue} {a b : Option TagValue} → BothThere a b → h.value.props.tag ≡ a → q.props.tag ≡ b → Clash h q
+pub tag_there : {h : HeldValue} {q : PropertiesValue} {a b : Option TagValue} → BothThere a b → h.value.props.tag ≡ a → q.props.tag ≡ b → Clash h q
 tag_there both_there x y = tags_clash x y
 
 both_are : {A : Type 0} {x y : Option A} {a b : A} → x ≡ Some a → y ≡ Some b → BothThere x y
 both_are e f = rw (e, f) both_there
 
-no_clash : {h : HeldValue} {q : PropertiesValue} → (BothThere h.value.props.anchor q.props.anchor → ⊥) → (BothThere h.value.props.tag q.props.tag → ⊥) → Clash h q → ⊥
+pub no_clash : {h : HeldValue} {q : PropertiesValue} → (BothThere h.value.props.anchor q.props.anchor → ⊥) → (BothThere h.value.props.tag q.props.tag → ⊥) → Clash h q → ⊥
 no_clash f g (anchors_clash a b) = f (both_are a b)
 no_clash f g (tags_clash a b) = g (both_are a b)
 

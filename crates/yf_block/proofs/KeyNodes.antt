@@ -36,7 +36,7 @@ use Rattle.yf_block.specs.InlineAnswers.{KeyEnds, InlineLost, content_lost, alia
 no_nothing : {X : Type 0} {x : X} → Some x ≡ None → ⊥
 no_nothing q = cc
 
-plain_else : (c : ℕ) → begins_alias c ≡ false → begins_properties c ≡ false → begins_content c ≡ false → begins_plain c ≡ true
+pub plain_else : (c : ℕ) → begins_alias c ≡ false → begins_properties c ≡ false → begins_content c ≡ false → begins_plain c ≡ true
 unfolding begins_plain
 plain_else c a b d = rw (a, b, d) refl
 
@@ -47,7 +47,7 @@ content_node {t} {k = k} a b (plain_there c p) = plain_read (plain_else (code t 
 content_node {t} {k = k} a b (plain_missing c p) = plain_missed (plain_else (code t k) a b c) p
 
 -- a `:` of an entry begins no content
-colon_bare : (c : ℕ) → c ≡ 58 → begins_content c ≡ false
+pub colon_bare : (c : ℕ) → c ≡ 58 → begins_content c ≡ false
 colon_bare c e = sym (nothing_begins (λ q. omega (arith, e, q)) (λ q. omega (arith, e, q)) (λ q. omega (arith, e, q)) (λ q. omega (arith, e, q)))
 
 colon_white : (c : ℕ) → c ≡ 58 → is_white c ≡ false
@@ -71,7 +71,7 @@ unfolding begins_alias begins_content
 alias_bare c e = grind (arith, nat_tests)
 
 module _ {t : List ℕ} where
-  sign_no_plain : {n : ℤ} {k : ℕ} → SignAt t 58 k → Stuck (Plain t n FlowOut k)
+  pub sign_no_plain : {n : ℤ} {k : ℕ} → SignAt t 58 k → Stuck (Plain t n FlowOut k)
   sign_no_plain {k = k} s = record {
     none = λ j x p. true≢false (sym ((flow_starts (a_plain p.text) refl).colon s.sign_stands) ∙ safe_out (code t (k + 1)) ∙ end_not_ns (code t (k + 1)) s.behind);
   }
@@ -83,7 +83,7 @@ module _ {t : List ℕ} where
   property_no_text {k = k} a = record { none = λ j x p. plain_no_properties (code t k) (plain_begins p.text) a }
 
   -- properties alone are no key, unless a `:` stands behind them
-  lone_no_key : {g k : ℕ} {w : List ℕ} (q : PropertiesValue) (p : ℕ) → Many t is_white g k w → is_white (code t k) ≡ false → (SignAt t 58 k → ⊥) → NoKey t p (lone_properties q p g)
+  pub lone_no_key : {g k : ℕ} {w : List ℕ} (q : PropertiesValue) (p : ℕ) → Many t is_white g k w → is_white (code t k) ≡ false → (SignAt t 58 k → ⊥) → NoKey t p (lone_properties q p g)
   lone_no_key {g} {k} q p m f n = subst (λ o. NoKey t p o) (sym (lone_is q p g ∙ found_is g 0 false (behind q.comments (with_props q.props q.tag_offset p g (empty_node g)))))
       (key_unfit (λ h b. let same = (many_unique t is_white b.run (colon_white (code t h) b.colon.sign_stands) m f).0 in n (subst (λ z. SignAt t 58 z) same b.colon)))
 
@@ -94,7 +94,7 @@ module _ {t : List ℕ} (u : IsUtf8 t) {p : ℕ} {held : Held} (l : LineProperti
 
   module _ (s : Stuck (LineEnd t held.end)) where
     -- properties alone, before white space or beside what stands there
-    lone_behind : {e k : ℕ} {n : ℤ} {w : List ℕ} → Many t is_white held.end k w → is_white (code t k) ≡ false → begins_content (code t k) ≡ false → Stuck (Plain t n FlowOut k)
+    pub lone_behind : {e k : ℕ} {n : ℤ} {w : List ℕ} → Many t is_white held.end k w → is_white (code t k) ≡ false → begins_content (code t k) ≡ false → Stuck (Plain t n FlowOut k)
         → Parses t e (ANode n FlowOut p) (lone_properties l.value p held.end)
     lone_behind {k = k} m f b r = ⊎_elim
         (λ (o : held.end < k). line_other u l.chosen s m o f b r)
@@ -112,7 +112,7 @@ module _ {t : List ℕ} (u : IsUtf8 t) {p : ℕ} {held : Held} (l : LineProperti
 
     module _ {at : ℕ} (b : PlaceBehind t held.end at) where
       -- the place is further on, unless an empty key stands there
-      behind_later : (SignAt t 58 at → ⊥) → held.end < at
+      pub behind_later : (SignAt t 58 at → ⊥) → held.end < at
       behind_later n = ⊎_elim
           (λ (o : held.end < at). o)
           (λ (o : at ≤ held.end). let v = whites_forward b.run in let same : at ≡ held.end = omega arith in absurd (n (b.beside same)))

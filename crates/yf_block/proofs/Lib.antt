@@ -10,18 +10,46 @@ pub mod LookLemmas
 pub mod EntryLineLemmas
 pub mod AwaitingLemmas
 pub mod FitLemmas
+pub mod ClaimLemmas
 pub mod LastStartLemmas
 pub mod NotedLemmas
 pub mod PrefixLemmas
 -- `read_block_node`: the stack and the recursive reader agree (`BlockTied`)
 pub mod TiedFrames
 pub mod TiedFits
+pub mod CountedSteps
+-- the steps on a line
+pub mod ContentNodes
+pub mod ContentFails
+pub mod ContentKeys
+pub mod ContentLeaves
+pub mod ContentLines
+pub mod ContentMappings
+pub mod ContentEnds
+pub mod LeafEnds
+pub mod ScalarLines
+pub mod TiedScalar
+pub mod ContentSteps
 -- for further theorems
+pub mod NodesGiven
 pub mod NotingLemmas
+pub mod RunLemmas
+pub mod HashNodes
+pub mod LineHalts
+pub mod TiedAlone
 pub mod TiedClosing
+pub mod TiedColumns
 pub mod TiedEntries
+pub mod TiedFailed
+pub mod TiedIndented
+pub mod TiedInner
+pub mod TiedKeys
+pub mod TiedLeads
+pub mod TiedLines
 pub mod TiedNodes
+pub mod TiedOpenings
 pub mod TiedReads
 pub mod TiedResume
 pub mod TiedResumed
+pub mod TiedRoot
 mod TiedShown

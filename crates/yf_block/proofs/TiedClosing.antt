@@ -225,6 +225,7 @@ module _ {t : List ℕ} {before old new : Part} {progress : Progress} (l : Layer
 
   pub closed_read : ReadTied t before (all_written ls ⊕ outer) progress new
   closed_read = record {
+    text = r.text;
     floor = ended_floor;
     floor_line = r.floor_line;
     written = record {

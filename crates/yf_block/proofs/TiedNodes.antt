@@ -1,13 +1,14 @@
 -- A node is awaited after the indicator of an entry: after `-`, `?`, a `:` without a key, and the `:` after the key of a `?`.
 use Rattle.std.proofs.Common.{◌≡◌, ℕ, suc, ◌+◌, ◌<◌, ◌≤◌, pos, Bool, true, false, List, [], ◌∷◌, ◌++◌, length, Option, Some, None, refl, sym, ap, ◌∙◌, subst, arith, append-nil, true≢false}
 use Rattle.std.proofs.lemmas.Int.{ints}
+use Rattle.std.specs.Str.{IsUtf8}
 use Rattle.yf_chars.specs.declared.context.Ctx.{Ctx}
 use Rattle.yf_chars.specs.declared.context.Ctx.TheVariants.{BlockOut, BlockIn}
 use Rattle.yf_chars.specs.Text.{code, no_char}
 use Rattle.yf_chars.proofs.TextLemmas.{within_from_code}
 use Rattle.yf_comments.specs.Comments.{Blank}
-use Rattle.yf_chars.specs.Class.{is_white_or_end}
-use Rattle.yf_lines.specs.Basic.{Spaces}
+use Rattle.yf_chars.specs.Class.{is_ns_char, is_nb_char, is_printable, is_between, is_break_char, is_white, is_white_or_end}
+use Rattle.yf_lines.specs.Basic.{LineStart, Spaces}
 use Rattle.yf_props.specs.Props.{no_props}
 use Rattle.yf_events.specs.Event.{Placed, scalar_node}
 use Rattle.yf_events.specs.Edit.{edited, coloned}
@@ -19,9 +20,10 @@ use Rattle.yf_grammar.specs.Meaning.{Meaning, ◌⊕◌, entering, first_enterin
 use Rattle.yf_grammar.specs.Part.{Noting, NotedSince}
 use Rattle.yf_grammar.specs.Part.Noting.{no_event, with_entry}
 use Rattle.yf_grammar.specs.Parser.{Found, only}
-use Rattle.yf_grammar.specs.BlockParser.{DashAt, SignAt, Indicator, BlockTask, Awaited}
+use Rattle.yf_grammar.specs.BlockParser.{DashAt, SignAt, Nothing, Indicator, BlockTask, Awaited}
 use Rattle.yf_grammar.specs.BlockStack.{Layer, Stage, AtItem, AtKey, AtLoneValue, AtValue, asks, asked, column_if}
-use Rattle.yf_grammar.specs.BlockStates.{NodeAt, AllWithin, one_deepens, at_stage, place_of}
+use Rattle.yf_grammar.specs.BlockStates.{NodeAt, AllWithin, none_within, one_within, one_deepens, at_stage, place_of}
+use Rattle.yf_grammar.proofs.BlankRuns.{behind_byte, no_start_behind}
 use Rattle.yf_grammar.proofs.BlockEntryBegins.{item_begins, key_begins, lone_value_begins, value_follows}
 use Rattle.yf_grammar.proofs.BlockStackSteps.{room_left}
 use Rattle.yf_grammar.proofs.ParserLemmas.{Same}
@@ -45,13 +47,52 @@ node_tied {t} {d} {root} {before} {part} {frames} {progress = progress} s e n = 
 pub entry_same : (e : TheEntry.Entry) (s : ℕ) (k : Option ℕ) → e.start ≡ s → e.colon ≡ k → e ≡ record { start = s; colon = k; blank_before = e.blank_before }
 entry_same e s k a b = ap (λ (z : ℕ). record { start = z; colon = e.colon; blank_before = e.blank_before }) a ∙ ap (λ z. record { start = s; colon = z; blank_before = e.blank_before }) b
 
+signs_ns : (is_ns_char 45 ≡ true) × (is_ns_char 63 ≡ true) × (is_ns_char 58 ≡ true)
+unfolding is_ns_char is_nb_char is_printable is_between is_break_char is_white
+signs_ns = (refl, refl, refl)
+
+-- after an indicator, within a line of the text
+pub record AfterSign (t : List ℕ) (p : ℕ) : Type 0 where
+  pub inside : LineStart t p → ⊥
+  pub within : p ≤ length t
+
+module _ {t : List ℕ} (i : ℕ) (u : IsUtf8 t) where
+  after_char : {c : ℕ} → code t i ≡ c → c < 128 → is_ns_char c ≡ true → AfterSign t (i + 1)
+  after_char {c} e l n = record {
+    inside = λ s. no_start_behind u (behind_byte i u e l n) s;
+    within = let w = within_from_code t i (omega (arith, e, l)) in omega (arith, w);
+  }
+
+  pub after_dash : code t i ≡ 45 → AfterSign t (i + 1)
+  after_dash e = after_char e (omega arith) signs_ns.0
+
+  pub after_question : code t i ≡ 63 → AfterSign t (i + 1)
+  after_question e = after_char e (omega arith) signs_ns.1
+
+  pub after_colon : code t i ≡ 58 → AfterSign t (i + 1)
+  after_colon e = after_char e (omega arith) signs_ns.2
+
+-- of collections that none is deeper than one, none is than a deeper column
+pub all_within : {m k : ℕ} {ls : List Layer} → AllWithin m ls → m ≤ k → AllWithin k ls
+all_within none_within l = none_within
+all_within (one_within a r) l = one_within (omega arith) (all_within r l)
+
+no_indicator : {i : ℕ} → Indicator i ≡ Nothing → ⊥
+no_indicator e = cc
+
+no_layers : {l : Layer} {ls : List Layer} → l ∷ ls ≡ [] → ⊥
+no_layers e = cc
+
+same_indicator : {i j : ℕ} → Indicator i ≡ Indicator j → i ≡ j
+same_indicator e = cc
+
 -- a node is awaited in the innermost collection, whose frame is on the stack
 module _ {t : List ℕ} {d : ℕ} {root : BlockTask} {before part : Part} {old new : Progress} {e p : ℕ} {l : Layer} {ls : List Layer} {h : Option Found} where
-  node_there : {frames stack : List Frame} {top : Frame} (b : Bool) (c : Ctx) (entry : Option TheEntry.Entry) → NodeAt t d root (l ∷ ls) e [] (Awaited b (pos l.column) c (Indicator p) p) h → AllWithin l.column ls
-      → l.column < p → FrameTied (length before.events) l ls top → StackTied (length before.events) ls frames old h → stack ≡ top ∷ frames → new.colons ≡ length (asked (l ∷ ls)) → new.halt ≡ old.halt
+  pub node_there : {frames stack : List Frame} {top : Frame} (b : Bool) (c : Ctx) (entry : Option TheEntry.Entry) → NodeAt t d root (l ∷ ls) e [] (Awaited b (pos l.column) c (Indicator p) p) h → AllWithin l.column ls
+      → l.column < p → new.floor ≤ p → AfterSign t p → FrameTied (length before.events) l ls top → StackTied (length before.events) ls frames old h → stack ≡ top ∷ frames → new.colons ≡ length (asked (l ∷ ls)) → new.halt ≡ old.halt
       → EntryTied t new.floor (stage_entry l.stage) entry → new.wanted ≡ wanted_after l.column b (is_out c) entry → new.last ≡ p → ReadTied t before (all_written (l ∷ ls)) new part
       → AtNode t d root before stack p new part
-  node_there {stack = stack} {top} b c entry n o s u k q m x y w i r = record {
+  node_there {stack = stack} {top} b c entry n o s g z u k q m x y w i r = record {
     layers = l ∷ ls;
     room = e;
     comments = [];
@@ -61,9 +102,20 @@ module _ {t : List ℕ} {d : ℕ} {root : BlockTask} {before part : Part} {old n
     halt = h;
     node = subst (λ z. NodeAt t d root (l ∷ ls) e [] (Awaited z (pos l.column) c (Indicator p) p) h) (sym (ap (λ z. z.compact) w)) n;
     wanted = subst (λ z. WantedTied t new.floor (l ∷ ls) (pos l.column) c (Indicator p) z) (sym w)
-        (record { least = omega (arith, ints); out = refl; outer = none_held; entry = y });
-    shallow = λ z. let least : new.wanted.least ≡ l.column + 1 = ap (λ v. v.least) w in omega (arith, least, s);
-    last = i;
+        (record {
+          least = omega (arith, ints);
+          out = refl;
+          outer = none_held;
+          entry = y;
+          within = λ v j. let j' : l.column ≤ v = omega (arith, ints, j) in one_within j' (all_within o j');
+          nested = λ e. absurd (no_indicator e);
+          rooted = λ i e q. no_layers q;
+          narrow = let a = z.within in let b = r.text.size in omega (arith, a, b, s);
+        });
+    shallow = λ v. let least : new.wanted.least ≡ l.column + 1 = ap (λ v. v.least) w in (omega (arith, least), omega (arith, least, s));
+    inside = z.inside;
+    past = g;
+    last = λ j e. i ∙ same_indicator e;
     stack = record {
       order = one_deepens o k.order;
       frames_tied = subst (λ z. FramesTied (length before.events) z (l ∷ ls)) (sym q) (frame_tied u k.frames_tied);
@@ -92,7 +144,7 @@ module _ {t : List ℕ} {d : ℕ} {root : BlockTask} {before old : Part} {frames
       → new.wanted ≡ wanted_after f.column true false (Some (record { start = at; colon = None; blank_before = b })) → new.last ≡ at + 1 → new.floor ≡ progress.floor → new.colons ≡ progress.colons → new.halt ≡ progress.halt
       → AtNode t d root before stack (at + 1) new old
   item_awaited {new = new} {b} y k z s n w i o c h =
-      node_there true BlockIn (Some (record { start = at; colon = None; blank_before = b })) (item_begins a.entry (entry_sequence k) y) a.order (let l = a.shallow in omega (arith, l))
+      node_there true BlockIn (Some (record { start = at; colon = None; blank_before = b })) (item_begins a.entry (entry_sequence k) y) a.order (let l = a.shallow in omega (arith, l)) (let g = a.past in omega (arith, g, o)) (after_dash at a.read.text.utf8 y.dash)
       (record { collection = record { kind = a.collection.kind; column = a.collection.column; event = a.collection.event }; awaits = z; entry = λ q. absurd (true≢false (sym q)) })
       a.stack s (c ∙ a.stack.colons) h (entry_begins (subst (λ v. NotedSince t v at b) (sym o) n)) (wanted_column new w) i
       (read_moved (read_as a.read (nothing_more (entries_written a.layer a.layers))) o)
@@ -101,7 +153,7 @@ module _ {t : List ℕ} {d : ℕ} {root : BlockTask} {before old : Part} {frames
       → NotedSince t progress.floor at b → new.wanted ≡ wanted_after f.column true true (Some (record { start = at; colon = None; blank_before = b })) → new.last ≡ at + 1 → new.floor ≡ progress.floor
       → new.colons ≡ progress.colons + 1 → new.halt ≡ progress.halt → AtNode t d root before stack (at + 1) new old
   key_awaited {new = new} {b} {n} y k j s z w i o c h =
-      node_there true BlockOut (Some (record { start = at; colon = None; blank_before = b })) (key_begins a.entry (entry_mapping k) y) a.order (let l = a.shallow in omega (arith, l))
+      node_there true BlockOut (Some (record { start = at; colon = None; blank_before = b })) (key_begins a.entry (entry_mapping k) y) a.order (let l = a.shallow in omega (arith, l)) (let g = a.past in omega (arith, g, o)) (after_question at a.read.text.utf8 y.sign_stands)
       (record { collection = record { kind = a.collection.kind; column = a.collection.column; event = a.collection.event }; awaits = refl; entry = λ q. j ∙ count_read a.read })
       a.stack s (let m = a.stack.colons in omega (arith, m, c)) h (entry_begins (subst (λ v. NotedSince t v at b) (sym o) z)) (wanted_column new w) i
       (read_moved (read_as a.read (nothing_more (entries_written a.layer a.layers))) o)
@@ -137,7 +189,7 @@ module _ {t : List ℕ} {d : ℕ} {root : BlockTask} {before old : Part} {frames
       → AtNode t d root before stack (at + 1) new part
   lone_awaited {new = new} {b = b} y k s n x1 x2 x3 w i o c h =
       let r = lone_same at (entries_written a.layer a.layers) in
-      node_there false BlockOut None (lone_value_begins a.entry (entry_mapping k) y) a.order (let l = a.shallow in omega (arith, l))
+      node_there false BlockOut None (lone_value_begins a.entry (entry_mapping k) y) a.order (let l = a.shallow in omega (arith, l)) (let g = a.past in omega (arith, g, o)) (after_colon at a.read.text.utf8 y.sign_stands)
       (record { collection = record { kind = a.collection.kind; column = a.collection.column; event = a.collection.event }; awaits = refl; entry = λ q. absurd (true≢false (sym q)) })
       a.stack s (c ∙ a.stack.colons) h no_entry (wanted_column new w) i
       (read_moved (read_events a.read _ _ (lone_noting b n) (lone_floor progress.floor) x1 x2 x3 r.events r.comments r.escapes) o)
@@ -186,8 +238,9 @@ module _ {t : List ℕ} {before old part : Part} {progress : Progress} (w m : Me
   unfolding ◌⊕◌ entering
   coloned_escapes = refl
 
-  coloned_read : ReadTied t before (w ⊕ entering i (Some p) m) progress part
+  pub coloned_read : ReadTied t before (w ⊕ entering i (Some p) m) progress part
   coloned_read = record {
+    text = r.text;
     floor = coloned_floor;
     floor_line = r.floor_line;
     written = record {
@@ -230,7 +283,7 @@ module _ {t : List ℕ} {d : ℕ} {root : BlockTask} {before old : Part} {frames
       let read = read_as
       (subst (λ b. ReadTied t before ((entries_written l a.layers ⊕ stage_written b) ⊕ begins (stage_entry b) a.answer.meaning) progress old) (is_key l.stage asked_here) a.read)
       (key_same (entries_written l a.layers) a.answer.meaning (place_of l.stage)) in
-      node_there {l = layer p} true BlockOut None node a.order (omega (arith, place))
+      node_there {l = layer p} true BlockOut None node a.order (omega (arith, place)) (let g = a.past in omega (arith, g, j, place)) (after_colon p a.read.text.utf8 v.sign_stands)
       (record { collection = record { kind = a.frame.collection.kind; column = k; event = a.frame.collection.event }; awaits = refl; entry = λ b. absurd (true≢false (sym b)) })
       a.stack s (c ∙ a.stack.colons) h no_entry (w ∙ ap (λ (b : ℕ). wanted_after b true true None) k) o
       (read_moved (coloned_read (entries_written l a.layers) a.answer.meaning (place_of l.stage) p read f.entry_event (a.frame.entry asked_here) x y z) j)

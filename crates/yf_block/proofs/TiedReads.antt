@@ -25,6 +25,7 @@ same_then a b = record { events = a.events ∙ b.events; comments = a.comments �
 module _ {t : List ℕ} {before : Part} {x : Meaning} {progress : Progress} {old : Part} (r : ReadTied t before x progress old) where
   pub read_as : {y : Meaning} → Same x y → ReadTied t before y progress old
   read_as e = record {
+    text = r.text;
     floor = r.floor ∙ ap (λ z. floor_after 0 z) e.events;
     floor_line = r.floor_line;
     written = record {
@@ -41,6 +42,7 @@ module _ {t : List ℕ} {before : Part} {x : Meaning} {progress : Progress} {old
   -- what was read is not told of by other fields of the state
   pub read_moved : {new : Progress} → new.floor ≡ progress.floor → ReadTied t before x new old
   read_moved e = record {
+    text = r.text;
     floor = e ∙ r.floor;
     floor_line = λ l. subst (λ f. Blank t f) (sym e) (r.floor_line (subst (λ f. f < length t) e l));
     written = r.written;
@@ -53,6 +55,7 @@ module _ {t : List ℕ} {before : Part} {x : Meaning} {progress : Progress} {old
   pub read_events : {new : Part} (es fs : List Placed) → Noting t progress.floor es fs → floor_after progress.floor es ≡ progress.floor → new.events ≡ old.events ++ fs → new.comments ≡ old.comments
       → new.escapes ≡ old.escapes → {y : Meaning} → x.events ++ es ≡ y.events → x.comments ≡ y.comments → x.escapes ≡ y.escapes → ReadTied t before y progress new
   read_events es fs n k a b c {y} p q s = record {
+    text = r.text;
     floor = sym k ∙ ap (λ (f : ℕ). floor_after f es) r.floor ∙ sym (floor_more 0 x.events es) ∙ ap (λ z. floor_after 0 z) p;
     floor_line = r.floor_line;
     written = record {

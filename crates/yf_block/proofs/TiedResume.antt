@@ -13,7 +13,7 @@ use Rattle.yf_block.specs.declared.frame.Progress.{Progress}
 use Rattle.yf_block.specs.Looks.{EntryPlace, NotWithinBreak}
 use Rattle.yf_block.specs.Fits.{PlaceTied, EndLine}
 use Rattle.yf_block.specs.Closing.{closing}
-use Rattle.yf_block.specs.BlockTied.{layers_entry, begins, all_written, ReadTied, frame_tied, no_frames, FramesTied, colons_if, FrameTied, Written}
+use Rattle.yf_block.specs.BlockTied.{layers_entry, begins, all_written, ReadTied, frame_tied, no_frames, FramesTied, colons_if, FrameTied}
 use Rattle.yf_block.specs.BlockStepTied.{AtResume, AtTop, AtDone}
 use Rattle.yf_flow.proofs.TiedClose.{cons_parts, no_cons}
 use Rattle.yf_block.proofs.TiedClosing.{asks_mapping, closed_read, closed_finish}
@@ -24,9 +24,14 @@ pub place_tied : {t : List ℕ} {at : ℕ} (o : Option ℕ) → NotWithinBreak t
 place_tied None b e = e b
 place_tied (Some p) b e = e
 
-written_first : {t : List ℕ} {before part : Part} {x : Meaning} → Written t before (only [] 0 ⊕ x) part → Written t before x part
+read_first : {t : List ℕ} {before part : Part} {x : Meaning} {progress : Progress} → ReadTied t before (only [] 0 ⊕ x) progress part → ReadTied t before x progress part
 unfolding only ◌⊕◌
-written_first w = record { events = w.events; noting = w.noting; added = w.added }
+read_first r = record {
+  text = r.text;
+  floor = r.floor;
+  floor_line = r.floor_line;
+  written = record { events = r.written.events; noting = r.written.noting; added = r.written.added };
+}
 
 count_asked : (b : Bool) (w : ℕ) (ws : List ℕ) (n m : ℕ) → n ≡ length (column_if b w ws) → m ≡ n - colons_if b → m ≡ length ws
 count_asked true w ws n m e q = omega (arith, e, q)
@@ -53,6 +58,7 @@ module _ {t : List ℕ} {d : ℕ} {root : BlockTask} {before part : Part} {at : 
           halt = a.halt;
           node = n;
           outside = a.outside;
+          past = let b = a.past in omega (arith, b, o);
           order = w;
           frame = u';
           last = l ∙ a.last;
@@ -78,6 +84,7 @@ module _ {t : List ℕ} {d : ℕ} {root : BlockTask} {before part : Part} {at : 
         halt = a.halt;
         node = collection_ends (entry_was_read a.node n.no_colon) n.no_entry;
         outside = a.outside;
+        past = a.past;
         last = closed_finish a.layer a.layers a.answer f a.frame a.read a.last x y z;
         stack = a.stack;
         read = closed_read a.layer a.layers a.answer f a.frame a.read a.last x y z;
@@ -97,6 +104,6 @@ module _ {t : List ℕ} {d : ℕ} {root : BlockTask} {before part : Part} {at : 
       halts = root_halts n;
       end = n.end;
       halted = a.stack.halted;
-      written = written_first r.written;
+      read = read_first r;
     }
     go (g ∷ fs) (layer ∷ ls) (frame_tied u v) n r q = absurd (no_cons (sym q))

@@ -1,19 +1,20 @@
 -- What holds between two steps of the reader of block nodes: its stack and what it has written are tied to what the recursive reader has read.
 -- The last place at which all may end is where the last halt ends.
-use Rattle.std.specs.Prelude.{◌≡◌, ℕ, ◌≤◌, ℤ, pos, ◌+ℤ◌, Bool, true, false, List, [], ◌∷◌, ◌++◌, length, Option, Some, None, ◌⊎◌}
+use Rattle.std.specs.Prelude.{◌≡◌, ℕ, ◌^◌, ◌<◌, ◌≤◌, ℤ, pos, ◌+ℤ◌, ◌≤ℤ◌, Bool, true, false, List, [], ◌∷◌, ◌++◌, length, Option, Some, None, ◌⊎◌}
 use Rattle.yf_chars.specs.declared.context.Ctx.{Ctx}
 use Rattle.yf_chars.specs.declared.context.Ctx.TheVariants.{BlockOut}
-use Rattle.yf_chars.specs.Chain.{Chosen}
+use Rattle.yf_chars.specs.Chain.{Stuck, Chosen}
+use Rattle.yf_lines.specs.Basic.{LineStart}
 use Rattle.yf_comments.specs.Comment.{CommentValue}
-use Rattle.yf_comments.specs.Comments.{LineEnd}
+use Rattle.yf_comments.specs.Comments.{LineEnd, Row}
 use Rattle.yf_props.specs.Props.{props_value}
 use Rattle.yf_events.specs.declared.part.Part.{Part}
 use Rattle.yf_grammar.specs.Meaning.{◌⊕◌}
 use Rattle.yf_grammar.specs.Parser.{Found, only}
-use Rattle.yf_grammar.specs.BlockParser.{Ahead, Nothing, Indicator, Props, Held as HeldValue, SignAt, Origin, BlockTask, Awaited, Below, Whole}
+use Rattle.yf_grammar.specs.BlockParser.{LinesEnd, Ahead, Nothing, Indicator, Props, Held as HeldValue, SignAt, Origin, First, BlockTask, Awaited, Below, Whole}
 use Rattle.yf_grammar.specs.Halts.{Halts}
 use Rattle.yf_grammar.specs.BlockStack.{Layer}
-use Rattle.yf_grammar.specs.BlockStates.{NodeAt, NodeRead, EntryAt, Broken, AllWithin}
+use Rattle.yf_grammar.specs.BlockStates.{NodeAt, NodeRead, EntryAt, AllWithin}
 use Rattle.yf_block.specs.declared.frame.Frame.{Frame}
 use Rattle.yf_block.specs.declared.frame.Progress.{Progress}
 use Rattle.yf_block.specs.declared.frame.Step.{Step}
@@ -24,7 +25,7 @@ use Rattle.yf_block.specs.declared.resume.Next.{Next}
 use Rattle.yf_block.specs.declared.resume.Fit.TheVariants.{Behind}
 use Rattle.yf_block.specs.Fits.{FitsLine}
 use Rattle.yf_block.specs.Looks.{NotWithinBreak}
-use Rattle.yf_block.specs.BlockTied.{stage_entry, layers_entry, begins, ahead_comments, all_written, entries_written, Written, ReadTied, CollectionTied, FrameTied, StackTied, halt_end, EntryTied}
+use Rattle.yf_block.specs.BlockTied.{stage_entry, layers_entry, begins, ahead_comments, all_written, entries_written, ReadTied, CollectionTied, FrameTied, StackTied, halt_end, EntryTied}
 
 -- properties on hold, and what stands ahead of the node that is awaited
 pub record HeldTied (h : HeldValue) (held : Held) : Type 0 where
@@ -42,12 +43,17 @@ abbrev pub is_out : Ctx → Bool
 is_out BlockOut = true
 is_out _ = false
 
--- the node that is awaited, in the indentation n and the context c, with what stands ahead of it
+-- the node that is awaited, in the indentation n and the context c, with what stands ahead of it; no collection round it is deeper, and
+-- within one it may always be empty
 pub record WantedTied (t : List ℕ) (floor : ℕ) (ls : List Layer) (n : ℤ) (c : Ctx) (a : Ahead) (wanted : Wanted) : Type 0 where
   pub least : pos wanted.least ≡ n +ℤ pos 1
   pub out : wanted.out ≡ is_out c
   pub outer : AheadTied a wanted.outer
   pub entry : EntryTied t floor (layers_entry ls) wanted.entry
+  pub within : (m : ℕ) → n ≤ℤ pos m → AllWithin m ls
+  pub nested : a ≡ Nothing → ls ≡ []
+  pub rooted : (i : ℕ) → a ≡ Indicator i → ls ≡ [] → ⊥
+  pub narrow : wanted.least ≤ 2 ^ 30
 
 -- a node is awaited after an indicator, which ends there
 pub record AtNode (t : List ℕ) (d : ℕ) (root : BlockTask) (before : Part) (frames : List Frame) (p : ℕ) (progress : Progress) (part : Part) : Type 0 where
@@ -60,8 +66,10 @@ pub record AtNode (t : List ℕ) (d : ℕ) (root : BlockTask) (before : Part) (f
   pub halt : Option Found
   pub node : NodeAt t d root layers room comments (Awaited progress.wanted.compact indentation context ahead p) halt
   pub wanted : WantedTied t progress.floor layers indentation context ahead progress.wanted
-  pub shallow : progress.wanted.compact ≡ true → progress.wanted.least ≤ p
-  pub last : progress.last ≡ p
+  pub shallow : progress.wanted.compact ≡ true → (0 < progress.wanted.least) × (progress.wanted.least ≤ p)
+  pub inside : LineStart t p → ⊥
+  pub past : progress.floor ≤ p
+  pub last : (i : ℕ) → ahead ≡ Indicator i → progress.last ≡ i
   pub stack : StackTied (length before.events) layers frames progress halt
   pub read : ReadTied t before (all_written layers ⊕ only (comments ++ ahead_comments ahead) 0) progress part
 
@@ -77,8 +85,10 @@ pub record AtLine (t : List ℕ) (d : ℕ) (root : BlockTask) (before : Part) (f
   pub halt : Option Found
   pub node : NodeAt t d root layers room comments (Below indentation context ahead progress.from) halt
   pub line : Chosen (LineEnd t progress.from) p told
+  pub started : LineStart t progress.from → ahead ≡ Nothing
   pub first : progress.first ≡ true → progress.from ≡ p
   pub not_first : progress.first ≡ false → progress.from ≡ p → p ≡ length t
+  pub past : progress.floor ≤ progress.from
   pub wanted : WantedTied t progress.floor layers indentation context ahead progress.wanted
   pub last : (i : ℕ) → ahead ≡ Indicator i → progress.last ≡ i
   pub stack : StackTied (length before.events) layers frames progress halt
@@ -92,6 +102,7 @@ pub record AtResume (t : List ℕ) (d : ℕ) (root : BlockTask) (before : Part) 
   pub halt : Option Found
   pub node : NodeRead t d root layers room answer p halt
   pub outside : NotWithinBreak t p
+  pub past : progress.floor ≤ p
   pub last : progress.last ≡ answer.meaning.finish
   pub stack : StackTied (length before.events) layers frames progress halt
   pub read : ReadTied t before (all_written layers ⊕ begins (layers_entry layers) answer.meaning) progress part
@@ -105,6 +116,7 @@ pub record AtTop (t : List ℕ) (d : ℕ) (root : BlockTask) (before : Part) (fr
   pub halt : Option Found
   pub node : NodeRead t d root (layer ∷ layers) room answer p halt
   pub outside : NotWithinBreak t p
+  pub past : progress.floor ≤ p
   pub order : AllWithin layer.column layers
   pub frame : FrameTied (length before.events) layer layers top
   pub last : progress.last ≡ answer.meaning.finish
@@ -117,7 +129,7 @@ pub record AtFit (t : List ℕ) (d : ℕ) (root : BlockTask) (before : Part) (fr
   pub line : FitsLine t p next.frame next.fit
   pub goes_on : next.fit ≡ Behind → ⊥
 
--- an entry of a collection begins there, whose frame is not on the stack
+-- an entry of a collection begins there, whose frame is not on the stack; the first one of a mapping with a `?` or a `:`
 pub record AtEntry (t : List ℕ) (d : ℕ) (root : BlockTask) (before : Part) (frames : List Frame) (frame : Frame) (p : ℕ) (progress : Progress) (part : Part) : Type 0 where
   pub layer : Layer
   pub layers : List Layer
@@ -127,22 +139,13 @@ pub record AtEntry (t : List ℕ) (d : ℕ) (root : BlockTask) (before : Part) (
   pub entry : EntryAt t d root layer layers room origin p halt
   pub order : AllWithin layer.column layers
   pub shallow : layer.column ≤ p
+  pub there : p < length t
+  pub outside : NotWithinBreak t p
+  pub past : progress.floor ≤ p
+  pub signed : (n : ℤ) → origin ≡ First n → layer.sequence ≡ false → SignAt t 63 p ⊎ SignAt t 58 p
   pub collection : CollectionTied (length before.events) layer layers frame
   pub stack : StackTied (length before.events) layers frames progress halt
   pub read : ReadTied t before (entries_written layer layers) progress part
-
--- the recursive reader has come to an entry of a mapping with an implicit key
-pub record KeyBegins (t : List ℕ) (d : ℕ) (root : BlockTask) : Type 0 where
-  pub layer : Layer
-  pub layers : List Layer
-  pub room : ℕ
-  pub origin : Origin
-  pub place : ℕ
-  pub halt : Option Found
-  pub entry : EntryAt t d root layer layers room origin place halt
-  pub mapping : layer.sequence ≡ false
-  pub no_question : SignAt t 63 place → ⊥
-  pub no_colon : SignAt t 58 place → ⊥
 
 -- the outermost node has been read whole; or there is none, and its last halt is what is left
 pub record AtDone (t : List ℕ) (d : ℕ) (root : BlockTask) (before : Part) (p : ℕ) (progress : Progress) (part : Part) : Type 0 where
@@ -152,11 +155,17 @@ pub record AtDone (t : List ℕ) (d : ℕ) (root : BlockTask) (before : Part) (p
   pub halts : Halts t d [] root halt
   pub end : answer.end ≡ p
   pub halted : progress.halt ≡ halt_end halt
-  pub written : Written t before answer.meaning part
+  pub read : ReadTied t before answer.meaning progress part
+
+-- nothing is found, or what is found leaves a line of the text that is none of comments: a comment that no break ends
+pub data Unfinished (t : List ℕ) (d : ℕ) (root : BlockTask) : Type 0 where
+  none_found : Whole t d root None → Unfinished t d root
+  line_left : {f : Found} → Whole t d root (Some f) → (LinesEnd t f.end → ⊥) → Stuck (Row t f.end) → Unfinished t d root
 
 pub record AtFailed (t : List ℕ) (d : ℕ) (root : BlockTask) (progress : Progress) : Type 0 where
   pub halt : Option Found
-  pub broken : Broken t d root halt
+  pub unfinished : Unfinished t d root
+  pub halts : Halts t d [] root halt
   pub halted : progress.halt ≡ halt_end halt
 
 -- what comes next
@@ -167,7 +176,3 @@ BlockTied t d root before frames (Resume p) progress part = AtResume t d root be
 BlockTied t d root before frames (Done p) progress part = AtDone t d root before p progress part
 BlockTied t d root before frames (Failed p) progress part = AtFailed t d root progress
 BlockTied t d root before frames (TooDeep p) progress part = AtFailed t d root progress
-
--- what comes next, or an implicit key, of which nothing is told yet
-abbrev pub KeyOrTied : List ℕ → ℕ → BlockTask → Part → List Frame → Step → Progress → Part → Type 0
-KeyOrTied t d root before frames s progress part = BlockTied t d root before frames s progress part ⊎ KeyBegins t d root

@@ -1,6 +1,7 @@
 -- What ties the reader's stack to the recursive reader of block nodes: of each frame the collection that it stands for, and the flat
 -- lists of events, comments and escapes that have been written so far, after those of the part to which they are added.
-use Rattle.std.specs.Prelude.{◌≡◌, ℕ, ◌+◌, ◌<◌, Bool, true, false, List, [], ◌∷◌, ◌++◌, length, Option, Some, None}
+use Rattle.std.specs.Prelude.{◌≡◌, ℕ, ◌+◌, ◌^◌, ◌<◌, ◌≤◌, Bool, true, false, List, [], ◌∷◌, ◌++◌, length, Option, Some, None}
+use Rattle.std.specs.Str.{IsUtf8}
 use Rattle.yf_comments.specs.Comment.{CommentValue}
 use Rattle.yf_comments.specs.Comments.{Blank}
 use Rattle.yf_props.specs.Props.{PropsValue, no_props}
@@ -104,8 +105,14 @@ abbrev pub floor_after : ℕ → List Placed → ℕ
 floor_after floor [] = floor
 floor_after floor (e ∷ es) = floor_after (floor_behind floor e e.event) es
 
+-- a text as the program reads them: of 1 GiB at most
+pub record TextTied (t : List ℕ) : Type 0 where
+  pub utf8 : IsUtf8 t
+  pub size : length t ≤ 2 ^ 30
+
 -- so much has been read; the last block scalar ends where a line begins, or at the end of the text
 pub record ReadTied (t : List ℕ) (before : Part) (x : Meaning) (progress : Progress) (part : Part) : Type 0 where
+  pub text : TextTied t
   pub floor : progress.floor ≡ floor_after 0 x.events
   pub floor_line : progress.floor < length t → Blank t progress.floor
   pub written : Written t before x part

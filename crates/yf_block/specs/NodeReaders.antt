@@ -1,4 +1,4 @@
--- What the readers of block nodes are to answer, as those of flow nodes do. The contracts promise less of it today.
+-- What the readers of block nodes answer in the two block contexts, as those of flow nodes do in theirs.
 use Rattle.std.specs.Prelude.{ℕ, ℤ, List, Option, Result}
 use Rattle.yf_chars.specs.declared.context.Ctx.{Ctx}
 use Rattle.yf_lines.specs.declared.fault.Fault.{Fault}

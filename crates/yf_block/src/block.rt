@@ -1,8 +1,11 @@
 //! The readers of block nodes over a text with its lines.
-ghost use Rattle.std.specs.Prelude.{◌≡◌, ◌+◌, [], IfOk, IfSome, MatchResult};
+ghost use Rattle.std.specs.Prelude.{◌≡◌, ◌+◌, [], IfOk, IfSome, MatchResult, true, false, ◌^◌, ◌≤◌, length, Ok, None};
 ghost use Rattle.std.specs.Str.{IsCharBoundary};
 ghost use Rattle.yf_lines.specs.FaultPlaces.{IsFirstPlace};
 ghost use Rattle.yf_flow.specs.Machine.{Place, IsReadFault, IsScanFault};
+ghost use Rattle.yf_lines.specs.Basic.{is_block};
+ghost use Rattle.yf_block.specs.NodeGiven.{Indentation};
+ghost use Rattle.yf_block.specs.NodeReaders.{ReadsBlockNode, ScansBlockNode};
 
 use crate::nodes::{Found, Outcome, block_node_in};
 use std::alloc::{AllocError, Global};
@@ -20,7 +23,8 @@ use yf_lines::source_text::Src;
 /// place, and the offset after it. `n` is the indentation of the collection around it, from -1.
 ///
 /// The node is the longest that stands there: where the text goes wrong later, it ends at the last place at which all open
-/// nodes may end. `None` where no block node begins there in that context.
+/// nodes may end. `None` where no block node begins there in that context. In other contexts than block-out and block-in
+/// there is none. Texts are of 1 GiB at most, and no column of such a text is 2^30 or more.
 ///
 /// # Errors
 ///
@@ -36,27 +40,15 @@ pub fn read_block_node<'a>(
     requires { IsCharBoundary src.now.text at }
     ensures place { MatchResult result (λ o. IfSome o (λ p. Place src.now.text (at + 1) p.end)) (IsReadFault src.now.text) }
     ensures escapes { IfOk result (λ o. IfSome o (λ p. p.part.escapes ≡ [])) }
+    ensures reads { is_block ctx ≡ true → Indentation n → length src.now.text ≤ 2 ^ 30 → ReadsBlockNode src.now.text n ctx at result }
+    ensures other { is_block ctx ≡ false → result ≡ Ok None }
 {
     match scan_block_node(alloc, src, at, n, ctx) {
         Ok(None) => Ok(None),
-        Ok(
-            Some(
-                ScannedPart {
-                    part,
-                    escape: None,
-                    end,
-                },
-            ),
-        ) => Ok(Some(NodePart { part, end })),
-        Ok(
-            Some(
-                ScannedPart {
-                    part: _,
-                    escape: Some(place),
-                    end: _,
-                },
-            ),
-        ) => Err(Fault::EscapeValue { place }),
+        Ok(Some(ScannedPart { part, escape, end })) => match escape {
+            None => Ok(Some(NodePart { part, end })),
+            Some(place) => Err(Fault::EscapeValue { place }),
+        },
         Err(fault) => Err(fault),
     }
 }
@@ -76,6 +68,8 @@ pub fn scan_block_node<'a>(
     requires { IsCharBoundary src.now.text at }
     ensures place { MatchResult result (λ o. IfSome o (λ p. Place src.now.text (at + 1) p.end)) (IsScanFault src.now.text) }
     ensures escapes { IfOk result (λ o. IfSome o (λ p. IsFirstPlace src.now.text p.part.escapes p.escape)) }
+    ensures reads { is_block ctx ≡ true → Indentation n → length src.now.text ≤ 2 ^ 30 → ScansBlockNode src.now.text n ctx at result }
+    ensures other { is_block ctx ≡ false → result ≡ Ok None }
 {
     let mut part = new_part(alloc);
     match block_node_in(alloc, src.text(), at, n, ctx, DEPTH, &mut part) {
@@ -85,6 +79,7 @@ pub fn scan_block_node<'a>(
                     end,
                     reached: _,
                     floor: _,
+                    whole: _,
                 },
             ),
         ) => {
@@ -100,7 +95,9 @@ pub fn scan_block_node<'a>(
 }
 
 fn new_part<'a>(alloc: Global) -> Part<'a>
-    ensures { result.escapes ≡ [] }
+    ensures events { result.events ≡ [] }
+    ensures comments { result.comments ≡ [] }
+    ensures escapes { result.escapes ≡ [] }
 {
     Part {
         events: Events::new(alloc),

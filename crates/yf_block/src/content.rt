@@ -1,17 +1,25 @@
 //! What a node has on one line: the sign of an entry, properties, a block scalar, or a flow node.
-ghost use Rattle.std.specs.Prelude.{◌+◌, IfOk};
+ghost use Rattle.std.specs.Prelude.{◌≡◌, ◌+◌, Some, IfOk, MatchBool, ◌⊎◌, ℕ, ◌≤◌, length, ◌^◌, ◌<◌, List, MatchOption, reverse};
 ghost use Rattle.std.specs.List.{All};
-ghost use Rattle.std.specs.Str.{IsCharBoundary};
+ghost use Rattle.std.specs.Str.{IsCharBoundary, IsUtf8};
 ghost use Rattle.yf_flow.specs.Machine.{Place};
+ghost use Rattle.yf_grammar.specs.BlockParser.{Ahead, BlockTask, Columns, DashAt};
+ghost use Rattle.yf_block.specs.declared.held.Held.{Held as HeldProperties};
+ghost use Rattle.yf_block.specs.BlockStepTied.{AheadTied, BlockTied};
+ghost use Rattle.yf_block.specs.ClaimsTied.{ShareTied};
+ghost use Rattle.yf_block.specs.ContentTied.{AtBehind, AtContent, CountsOf, EndsBehind, ScalarSignAt};
+ghost use Rattle.yf_block.specs.HeldAnswers.{Holds, LineProperties, held_lead, lead_at};
+ghost use Rattle.yf_block.specs.InlineTied.{AtStart, EntrySignAt};
 ghost use Rattle.yf_block.specs.Machine.{Stepped, ProgressAt, HeldTo};
+ghost use Rattle.yf_flow.specs.Counted.{openers_from};
+ghost use Rattle.yf_block.specs.Counted.{StepCounted};
 
 use crate::entry::open_mapping;
-use crate::frame::{Frames, Progress, Scope, Step, Wanted};
+use crate::frame::{Frame, Frames, Progress, Scope, Step, Wanted};
 use crate::halt::Counts;
-use crate::held::{
-    Held, joined, joined_behind, lead_of, line_properties, place_behind, property_stands,
-};
-use crate::inline::{finish_inline, read_inline};
+use crate::held::{Held, joined, joined_behind, lead_of, line_properties, place_behind};
+use crate::inline::{finish_inline, is_apart, read_inline};
+use crate::leaf::read_line_end;
 use crate::line::end_line;
 use crate::look::{line_ends, sign_stands};
 use crate::scalar::take_block_scalar;
@@ -73,29 +81,51 @@ pub(crate) fn take_content<'a>(
     requires boundary { IsCharBoundary scope.text.now spot.at }
     requires progress { ProgressAt scope.text.now progress.old }
     requires escapes { All (IsCharBoundary scope.text.now) part.old.escapes }
+    ensures tied { (d : ℕ) → (root : BlockTask) → (before : Part) → (cols : Columns) → d < 2 ^ 64 → d ≡ scope.entry.limit → cols.mapping ≡ spot.column
+        → ((m : ℕ) → cols.sequence ≡ Some m → DashAt scope.entry.text.now (spot.at) → ⊥)
+        → AtStart scope.entry.text.now d root before (reverse frames.old.items) cols (spot.at) progress.old part.old
+        → IfOk result (λ s. BlockTied scope.entry.text.now d root before (reverse frames.new.items) s progress.new part.new) }
     ensures stepped { IfOk result (λ s. Stepped scope.entry.text.now (spot.at) 0 progress.new s) }
     ensures escapes { IfOk result (λ _. All (IsCharBoundary scope.entry.text.now) part.new.escapes) }
+    ensures counted { IsUtf8 scope.entry.text.now → (total : ℕ) → length frames.old.items + openers_from scope.entry.text.now (spot.at) ≤ total
+        → IfOk result (λ s. StepCounted scope.entry.text.now scope.entry.limit total (length frames.new.items) s) }
 {
-    if let Some(column) = spot.column {
-        if entry_sign_stands(scope.text, spot.at) {
-            return open_mapping(alloc, scope, spot.at, column, progress, frames, part);
-        }
+    match signed_column(scope.text, spot) {
+        Some(column) => open_mapping(alloc, scope, spot.at, column, progress, frames, part),
+        None => match line_properties(alloc, scope.text, spot.at)? {
+            Some(inner) => take_propertied(alloc, scope, inner, spot, progress, frames, part),
+            None => {
+                let behind = Behind {
+                    at: spot.at,
+                    inner: None,
+                    spot,
+                };
+                take_behind(alloc, scope, &behind, progress, frames, part)
+            }
+        },
     }
-    if property_stands(scope.text, spot.at) {
-        if let Some(inner) = line_properties(alloc, scope.text, spot.at)? {
-            return take_propertied(alloc, scope, inner, spot, progress, frames, part);
+}
+
+// The column of a mapping whose first entry begins there with its `?` or its `:`.
+fn signed_column(text: &str, spot: Spot) -> Option<usize>
+    ensures { MatchOption result ((m : ℕ) → spot.column ≡ Some m → EntrySignAt text.now (spot.at) → ⊥)
+        (λ m. (spot.column ≡ Some m) × EntrySignAt text.now (spot.at)) }
+{
+    match spot.column {
+        Some(column) => {
+            if entry_sign_stands(text, spot.at) {
+                return Some(column);
+            }
+            None
         }
+        None => None,
     }
-    let behind = Behind {
-        at: spot.at,
-        inner: None,
-        spot,
-    };
-    take_behind(alloc, scope, &behind, progress, frames, part)
 }
 
 // Whether an entry begins there with its `?` or its `:`.
-fn entry_sign_stands(text: &str, at: usize) -> bool {
+fn entry_sign_stands(text: &str, at: usize) -> bool
+    ensures { MatchBool result (EntrySignAt text.now at) (EntrySignAt text.now at → ⊥) }
+{
     if sign_stands(text, at, b'?') {
         return true;
     }
@@ -117,18 +147,17 @@ fn take_propertied<'a>(
     requires inner { Place scope.text.now (spot.at + 1) inner.end }
     requires progress { ProgressAt scope.text.now progress.old }
     requires escapes { All (IsCharBoundary scope.text.now) part.old.escapes }
+    ensures tied { (d : ℕ) → (root : BlockTask) → (before : Part) → d ≡ scope.entry.limit → LineProperties scope.entry.text.now (spot.at) inner.entry
+        → AtContent scope.entry.text.now d root before (reverse frames.old.items) (spot.at) spot.column progress.old part.old
+        → IfOk result (λ s. BlockTied scope.entry.text.now d root before (reverse frames.new.items) s progress.new part.new) }
     ensures stepped { IfOk result (λ s. Stepped scope.entry.text.now (spot.at) 0 progress.new s) }
     ensures escapes { IfOk result (λ _. All (IsCharBoundary scope.entry.text.now) part.new.escapes) }
+    ensures counted { IsUtf8 scope.entry.text.now → (total : ℕ) → length frames.old.items + openers_from scope.entry.text.now (spot.at) ≤ total
+        → IfOk result (λ s. StepCounted scope.entry.text.now scope.entry.limit total (length frames.new.items) s) }
 {
     let place = skip_whites(scope.text, inner.end);
     if line_ends(scope.text, place, place > inner.end) {
-        return match joined_behind(progress.wanted.outer, inner) {
-            None => Ok(Step::Failed(spot.at)),
-            Some(outer) => {
-                progress.wanted.outer = Some(outer);
-                end_line(alloc, scope.text, inner.end, progress, part)
-            }
-        };
+        return end_propertied(alloc, scope.text, inner, spot, progress, part);
     }
     match place_behind(scope.text, inner) {
         None => Ok(Step::Failed(place)),
@@ -139,6 +168,40 @@ fn take_propertied<'a>(
                 spot,
             };
             take_behind(alloc, scope, &behind, progress, frames, part)
+        }
+    }
+}
+
+// The line ends after the properties of a node, which stands on a later line.
+#[inline(never)]
+fn end_propertied<'a>(
+    alloc: Global,
+    text: &'a str,
+    inner: Held<'a>,
+    spot: Spot,
+    progress: &mut Progress<'a>,
+    part: &mut Part<'a>,
+) -> Result<Step, AllocError>
+    requires boundary { IsCharBoundary text.now spot.at }
+    requires inner { Place text.now (spot.at + 1) inner.end }
+    requires progress { ProgressAt text.now progress.old }
+    ensures tied { (place : ℕ) → (d : ℕ) → (root : BlockTask) → (before : Part) → (frames : List Frame)
+        → EndsBehind text.now inner.entry.end place → LineProperties text.now (spot.at) inner.entry
+        → AtContent text.now d root before frames (spot.at) spot.column progress.old part.old
+        → IfOk result (λ s. BlockTied text.now d root before frames s progress.new part.new) }
+    ensures stepped { IfOk result (λ s. Stepped text.now (spot.at) 0 progress.new s) }
+    ensures escapes { IfOk result (λ _. part.new.escapes ≡ part.old.escapes) }
+    ensures counted { (limit : ℕ) → (total : ℕ) → (count : ℕ) → count + openers_from text.now (spot.at) ≤ total → IfOk result (λ s. StepCounted text.now limit total count s) }
+{
+    match joined_behind(progress.wanted.outer, inner) {
+        None => {
+            let _ended = read_line_end(alloc, text, inner.end)?;
+            Ok(Step::Failed(spot.at))
+        }
+        Some(outer) => {
+            progress.wanted.outer = Some(outer);
+            let step = end_line(alloc, text, inner.end, progress, part)?;
+            Ok(step)
         }
     }
 }
@@ -157,25 +220,30 @@ fn take_behind<'a>(
     requires held { HeldTo scope.text.now behind.now.spot.at behind.now.at behind.now.inner }
     requires progress { ProgressAt scope.text.now progress.old }
     requires escapes { All (IsCharBoundary scope.text.now) part.old.escapes }
+    ensures tied { (d : ℕ) → (root : BlockTask) → (before : Part) → d ≡ scope.entry.limit
+        → AtBehind scope.entry.text.now d root before (reverse frames.old.items) behind.now progress.old part.old
+        → IfOk result (λ s. BlockTied scope.entry.text.now d root before (reverse frames.new.items) s progress.new part.new) }
     ensures stepped { IfOk result (λ s. Stepped scope.entry.text.now (behind.now.spot.at) 0 progress.new s) }
     ensures escapes { IfOk result (λ _. All (IsCharBoundary scope.entry.text.now) part.new.escapes) }
+    ensures counted { IsUtf8 scope.entry.text.now → (total : ℕ) → length frames.old.items + openers_from scope.entry.text.now (behind.now.spot.at) ≤ total
+        → IfOk result (λ s. StepCounted scope.entry.text.now scope.entry.limit total (length frames.new.items) s) }
 {
     let claim = claim_of(scope.text, behind, &progress.wanted, part);
     let least = progress.wanted.least;
     if block_scalar_stands(scope.text, behind.at) {
-        return match claim.share {
-            Share::Apart => Ok(Step::Failed(behind.spot.at)),
-            Share::Nothing | Share::Joined => take_block_scalar(
-                alloc,
-                scope,
-                behind.at,
-                &claim.lead,
-                least,
-                progress,
-                frames,
-                part,
-            ),
-        };
+        if is_apart(claim.share) {
+            return Ok(Step::Failed(behind.spot.at));
+        }
+        return take_block_scalar(
+            alloc,
+            scope,
+            behind.at,
+            &claim.lead,
+            least,
+            progress,
+            frames,
+            part,
+        );
     }
     match read_inline(
         alloc,
@@ -196,7 +264,9 @@ fn take_behind<'a>(
 }
 
 // Whether the header of a block scalar begins there.
-fn block_scalar_stands(text: &str, at: usize) -> bool {
+fn block_scalar_stands(text: &str, at: usize) -> bool
+    ensures { MatchBool result (ScalarSignAt text.now at) (ScalarSignAt text.now at → ⊥) }
+{
     if stands(text, at, b'|') {
         return true;
     }
@@ -204,12 +274,12 @@ fn block_scalar_stands(text: &str, at: usize) -> bool {
 }
 
 // What is known of the node after the properties of a line, as long as it is not known whether it is a key.
-fn claim_of<'a>(
-    text: &str,
-    behind: &Behind<'a>,
-    wanted: &Wanted<'a>,
-    part: &Part<'a>,
-) -> Claim<'a> {
+fn claim_of<'a>(text: &str, behind: &Behind<'a>, wanted: &Wanted<'a>, part: &Part<'a>) -> Claim<'a>
+    ensures counts { CountsOf part.now result.before }
+    ensures share { (a : Ahead) → AheadTied a wanted.now.outer
+        → ((h : HeldProperties) → behind.now.inner ≡ Some h → LineProperties text.now behind.now.spot.at h)
+        → ShareTied text.now behind.now.spot.at behind.now.at a behind.now.inner wanted.now.entry result.lead result.share }
+{
     match wanted.outer {
         None => Claim {
             lead: lead_of(behind.spot.at, behind.inner, wanted.entry),
@@ -228,21 +298,46 @@ fn shared_claim<'a>(
     outer: Held<'a>,
     entry: Option<Entry>,
     before: Counts,
-) -> Claim<'a> {
-    let whole = match behind.inner {
-        None => Some(outer),
-        Some(inner) => joined(outer, inner),
-    };
-    match whole {
-        Some(held) if !stands(text, behind.at, b'*') => Claim {
-            lead: held.lead(entry),
-            share: Share::Joined,
-            before,
+) -> Claim<'a>
+    ensures before { result.before ≡ before }
+    ensures share { (a : Ahead) → Holds a outer.entry
+        → ((h : HeldProperties) → behind.now.inner ≡ Some h → LineProperties text.now behind.now.spot.at h)
+        → ShareTied text.now behind.now.spot.at behind.now.at a behind.now.inner entry result.lead result.share }
+{
+    if stands(text, behind.at, b'*') {
+        return apart_claim(behind, entry, before);
+    }
+    match behind.inner {
+        None => joined_claim(outer, entry, before),
+        Some(inner) => match joined(outer, inner) {
+            None => apart_claim(behind, entry, before),
+            Some(held) => joined_claim(held, entry, before),
         },
-        _ => Claim {
-            lead: lead_of(behind.spot.at, behind.inner, entry),
-            share: Share::Apart,
-            before,
-        },
+    }
+}
+
+// Of a node that has all properties, if it is no key.
+fn joined_claim<'a>(held: Held<'a>, entry: Option<Entry>, before: Counts) -> Claim<'a>
+    ensures lead { result.lead ≡ held_lead held.entry entry }
+    ensures share { result.share ≡ Share.Joined }
+    ensures before { result.before ≡ before }
+{
+    Claim {
+        lead: held.lead(entry),
+        share: Share::Joined,
+        before,
+    }
+}
+
+// Of a node that has those of its line alone.
+fn apart_claim<'a>(behind: &Behind<'a>, entry: Option<Entry>, before: Counts) -> Claim<'a>
+    ensures lead { result.lead ≡ lead_at behind.now.spot.at behind.now.inner entry }
+    ensures share { result.share ≡ Share.Apart }
+    ensures before { result.before ≡ before }
+{
+    Claim {
+        lead: lead_of(behind.spot.at, behind.inner, entry),
+        share: Share::Apart,
+        before,
     }
 }

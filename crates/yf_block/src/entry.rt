@@ -1,19 +1,27 @@
 //! Block collections and their entries (YAML 1.2.2, section 8.2).
-ghost use Rattle.std.specs.Prelude.{◌≡◌, ◌≢◌, ℕ, ◌+◌, ◌-◌, ◌^◌, ◌<◌, ◌≤◌, true, false, IfOk, reverse};
+ghost use Rattle.std.specs.Prelude.{◌≡◌, ◌≢◌, ℕ, ◌+◌, ◌-◌, ◌^◌, ◌<◌, ◌≤◌, true, false, List, Some, None, IfOk, IfSome, reverse, length};
 ghost use Rattle.std.specs.List.{All};
-ghost use Rattle.std.specs.Str.{IsCharBoundary};
+ghost use Rattle.std.specs.Str.{IsCharBoundary, IsUtf8};
 ghost use Rattle.yf_chars.specs.Text.{code};
 ghost use Rattle.yf_comments.specs.Comments.{Blank};
-ghost use Rattle.yf_grammar.specs.BlockParser.{BlockTask, DashAt, SignAt};
+ghost use Rattle.yf_events.specs.Event.{placed_value};
+ghost use Rattle.yf_grammar.specs.BlockParser.{BlockTask, Columns, DashAt, SignAt};
 ghost use Rattle.yf_grammar.specs.Part.{NotedSince};
-ghost use Rattle.yf_block.specs.BlockStepTied.{AtEntry, AtTop, BlockTied, KeyOrTied};
+ghost use Rattle.yf_flow.specs.Machine.{Place};
+ghost use Rattle.yf_block.specs.BlockStepTied.{AtEntry, AtTop, BlockTied};
 ghost use Rattle.yf_block.specs.BlockTied.{wanted_after};
 ghost use Rattle.yf_block.specs.Fits.{PairLine};
+ghost use Rattle.yf_block.specs.InlineTied.{AtStart, EntrySignAt, started};
+ghost use Rattle.yf_block.specs.KeyAwaited.{KeyAwaited};
+ghost use Rattle.yf_block.specs.KeyTexts.{KeyTextAt, KeyTextPlace};
 ghost use Rattle.yf_block.specs.Machine.{Stepped, ProgressAt};
+ghost use Rattle.yf_flow.specs.Counted.{openers_from};
+ghost use Rattle.yf_block.specs.Counted.{EntryCounted, StepCounted};
 
 use crate::frame::{Frame, Frames, Kind, Progress, Scope, Step, Wanted};
-use crate::held::{lead_of, line_properties, place_behind};
+use crate::held::{Held, lead_of, line_properties, place_behind};
 use crate::inline::read_inline;
+use crate::leaf::read_line_end;
 use crate::look::{is_blank_after, key_ends, sign_stands};
 use std::alloc::{AllocError, Global};
 use yf_events::event::{Entry, NewEvent, PlacedEvent};
@@ -21,6 +29,14 @@ use yf_events::part::Part;
 use yf_flow::node::empty_node;
 use yf_flow::nodes::Ending;
 use yf_lines::basic::skip_whites;
+
+// Where the text of an implicit key begins.
+#[derive(Clone, Copy)]
+enum KeyText {
+    At(usize),
+    // None begins after its properties; reading went wrong at the offset.
+    Nowhere(usize),
+}
 
 /// The entry that begins at an offset.
 pub(crate) fn entry_at(text: &str, floor: usize, start: usize, colon: Option<usize>) -> Entry
@@ -42,7 +58,9 @@ pub(crate) fn collection_start<'a>(
     kind: Kind,
     at: usize,
     wanted: &Wanted<'a>,
-) -> PlacedEvent<'a> {
+) -> PlacedEvent<'a>
+    ensures { placed_value result ≡ started kind at wanted.now }
+{
     let lead = lead_of(at, wanted.outer, wanted.entry);
     let event = match kind {
         Kind::Sequence => NewEvent::SeqStart {
@@ -71,8 +89,13 @@ pub(crate) fn open_sequence<'a>(
     requires boundary { IsCharBoundary scope.text.now at }
     requires behind { IsCharBoundary scope.text.now (at + 1) }
     requires progress { ProgressAt scope.text.now progress.old }
+    ensures tied { (d : ℕ) → (root : BlockTask) → (before : Part) → (cols : Columns) → d ≡ scope.entry.limit → cols.sequence ≡ Some column
+        → DashAt scope.entry.text.now at → AtStart scope.entry.text.now d root before (reverse frames.old.items) cols at progress.old part.old
+        → IfOk result (λ s. BlockTied scope.entry.text.now d root before (reverse frames.new.items) s progress.new part.new) }
     ensures stepped { IfOk result (λ s. Stepped scope.entry.text.now at 0 progress.new s) }
     ensures escapes { IfOk result (λ _. part.new.escapes ≡ part.old.escapes) }
+    ensures counted { IsUtf8 scope.entry.text.now → (total : ℕ) → DashAt scope.entry.text.now at → length frames.old.items + openers_from scope.entry.text.now at ≤ total
+        → IfOk result (λ s. StepCounted scope.entry.text.now scope.entry.limit total (length frames.new.items) s) }
 {
     let frame = Frame::new(Kind::Sequence, column, part.events.len());
     if frames.len() >= scope.limit {
@@ -95,8 +118,10 @@ pub(crate) fn take_item<'a>(
     requires progress { ProgressAt text.now progress.old }
     ensures tied { (d : ℕ) → (root : BlockTask) → (before : Part) → (part : Part) → DashAt text.now at → frame.kind ≡ Kind.Sequence
         → frame.awaits_colon ≡ false → AtEntry text.now d root before (reverse frames.old.items) frame at progress.old part
-        → IfOk result (λ s. KeyOrTied text.now d root before (reverse frames.new.items) s progress.new part) }
+        → IfOk result (λ s. BlockTied text.now d root before (reverse frames.new.items) s progress.new part) }
     ensures stepped { IfOk result (λ s. Stepped text.now at 0 progress.new s) }
+    ensures counted { (limit : ℕ) → (total : ℕ) → length frames.old.items + 1 + openers_from text.now (at + 1) ≤ total
+        → IfOk result (λ s. StepCounted text.now limit total (length frames.new.items) s) }
 {
     frames.push(frame)?;
     let entry = entry_at(text, progress.floor, at, None);
@@ -165,6 +190,8 @@ pub(crate) fn take_explicit_value<'a>(
     ensures halt { IfOk result (λ _. progress.new.halt ≡ progress.old.halt) }
     ensures step { IfOk result (λ s. s ≡ Step.Node (colon + 1)) }
     ensures escapes { IfOk result (λ _. part.new.escapes ≡ part.old.escapes) }
+    ensures counted { (limit : ℕ) → (total : ℕ) → length frames.old.items + 1 + openers_from _text.now (colon + 1) ≤ total
+        → IfOk result (λ s. StepCounted _text.now limit total (length frames.new.items) s) }
 {
     part.events.set_colon(frame.entry_event, colon)?;
     frames.push(Frame {
@@ -188,8 +215,13 @@ pub(crate) fn open_mapping<'a>(
     requires boundary { IsCharBoundary scope.text.now at }
     requires progress { ProgressAt scope.text.now progress.old }
     requires escapes { All (IsCharBoundary scope.text.now) part.old.escapes }
+    ensures tied { (d : ℕ) → (root : BlockTask) → (before : Part) → (cols : Columns) → d < 2 ^ 64 → d ≡ scope.entry.limit → cols.mapping ≡ Some column
+        → EntrySignAt scope.entry.text.now at → AtStart scope.entry.text.now d root before (reverse frames.old.items) cols at progress.old part.old
+        → IfOk result (λ s. BlockTied scope.entry.text.now d root before (reverse frames.new.items) s progress.new part.new) }
     ensures stepped { IfOk result (λ s. Stepped scope.entry.text.now at 0 progress.new s) }
     ensures escapes { IfOk result (λ _. All (IsCharBoundary scope.entry.text.now) part.new.escapes) }
+    ensures counted { IsUtf8 scope.entry.text.now → (total : ℕ) → EntrySignAt scope.entry.text.now at → length frames.old.items + openers_from scope.entry.text.now at ≤ total
+        → IfOk result (λ s. StepCounted scope.entry.text.now scope.entry.limit total (length frames.new.items) s) }
 {
     let frame = Frame::new(Kind::Mapping, column, part.events.len());
     if frames.len() >= scope.limit {
@@ -213,11 +245,13 @@ pub(crate) fn take_entry<'a>(
     requires boundary { IsCharBoundary scope.text.now at }
     requires progress { ProgressAt scope.text.now progress.old }
     requires escapes { All (IsCharBoundary scope.text.now) part.old.escapes }
-    ensures tied { (d : ℕ) → (root : BlockTask) → (before : Part) → d < 2 ^ 64 → frame.kind ≡ Kind.Mapping
+    ensures tied { (d : ℕ) → (root : BlockTask) → (before : Part) → d < 2 ^ 64 → d ≡ scope.entry.limit → frame.kind ≡ Kind.Mapping
         → AtEntry scope.entry.text.now d root before (reverse frames.old.items) frame at progress.old part.old
-        → IfOk result (λ s. KeyOrTied scope.entry.text.now d root before (reverse frames.new.items) s progress.new part.new) }
+        → IfOk result (λ s. BlockTied scope.entry.text.now d root before (reverse frames.new.items) s progress.new part.new) }
     ensures stepped { IfOk result (λ s. Stepped scope.entry.text.now at 0 progress.new s) }
     ensures escapes { IfOk result (λ _. All (IsCharBoundary scope.entry.text.now) part.new.escapes) }
+    ensures counted { IsUtf8 scope.entry.text.now → (total : ℕ) → EntryCounted scope.entry.text.now total (length frames.old.items) at
+        → IfOk result (λ s. StepCounted scope.entry.text.now scope.entry.limit total (length frames.new.items) s) }
 {
     let entry = entry_at(scope.text, progress.floor, at, None);
     if sign_stands(scope.text, at, b'?') {
@@ -257,18 +291,19 @@ fn take_key<'a>(
     requires boundary { IsCharBoundary scope.text.now entry.start }
     requires progress { ProgressAt scope.text.now progress.old }
     requires escapes { All (IsCharBoundary scope.text.now) part.old.escapes }
+    ensures tied { (d : ℕ) → (root : BlockTask) → (before : Part) → (outer : List Frame) → (frame : Frame) → d ≡ scope.entry.limit
+        → KeyAwaited scope.entry.text.now d root before outer frame (reverse frames.old.items) column entry progress.old part.old
+        → IfOk result (λ s. BlockTied scope.entry.text.now d root before (reverse frames.new.items) s progress.new part.new) }
     ensures stepped { IfOk result (λ s. Stepped scope.entry.text.now (entry.start) 0 progress.new s) }
     ensures escapes { IfOk result (λ _. All (IsCharBoundary scope.entry.text.now) part.new.escapes) }
+    ensures counted { IsUtf8 scope.entry.text.now → (total : ℕ) → length frames.old.items + openers_from scope.entry.text.now (entry.start) ≤ total
+        → IfOk result (λ s. StepCounted scope.entry.text.now scope.entry.limit total (length frames.new.items) s) }
 {
     let start = entry.start;
     let inner = line_properties(alloc, scope.text, start)?;
-    let place = match inner {
-        None => Some(start),
-        Some(held) => place_behind(scope.text, held),
-    };
-    match place {
-        None => Ok(Step::Failed(start)),
-        Some(at) => {
+    match key_text(alloc, scope.text, start, &inner)? {
+        KeyText::Nowhere(place) => Ok(Step::Failed(place)),
+        KeyText::At(at) => {
             let event = part.events.len();
             let lead = lead_of(start, inner, Some(entry));
             let least = column.saturating_add(1);
@@ -283,6 +318,33 @@ fn take_key<'a>(
                 }
                 Ending::Nothing => Ok(Step::Failed(at)),
                 Ending::TooDeep(deep) => Ok(Step::TooDeep(deep)),
+            }
+        }
+    }
+}
+
+// Where the text of a key stands after its properties, whose line goes on.
+fn key_text<'a>(
+    alloc: Global,
+    text: &'a str,
+    start: usize,
+    inner: &Option<Held<'a>>,
+) -> Result<KeyText, AllocError>
+    requires start { IsCharBoundary text.now start }
+    requires held { IfSome inner.now (λ h. Place text.now (start + 1) h.end) }
+    ensures place { IfOk result (λ k. KeyTextPlace text.now start inner.now k) }
+    ensures reads { IfOk result (λ k. KeyTextAt text.now start inner.now k) }
+{
+    match *inner {
+        None => Ok(KeyText::At(start)),
+        Some(held) => {
+            let ended = read_line_end(alloc, text, held.end)?;
+            match place_behind(text, held) {
+                None => Ok(KeyText::Nowhere(start)),
+                Some(at) => match ended {
+                    Some(_) => Ok(KeyText::Nowhere(at)),
+                    None => Ok(KeyText::At(at)),
+                },
             }
         }
     }

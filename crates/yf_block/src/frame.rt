@@ -1,4 +1,5 @@
 //! The open collections of a block node, and the steps of its reader.
+ghost use Rattle.std.specs.Prelude.{◌≡◌, false};
 
 use crate::held::Held;
 use smallvec::SmallVec;
@@ -88,7 +89,9 @@ pub(crate) struct Progress<'a> {
 
 impl Frame {
     /// A collection whose entries stand at a column, and which begins with the event at an index.
-    pub(crate) fn new(kind: Kind, column: usize, event: usize) -> Frame {
+    pub(crate) fn new(kind: Kind, column: usize, event: usize) -> Frame
+        ensures { result ≡ record { kind = kind; column = column; event = event; entry_event = event; awaits_colon = false } }
+    {
         Frame {
             kind,
             column,

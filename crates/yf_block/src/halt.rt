@@ -1,5 +1,5 @@
 //! The last place at which all open nodes may end: what the reader falls back on where the text goes wrong later.
-ghost use Rattle.std.specs.Prelude.{◌≡◌, ℕ, MatchBool, reverse, take};
+ghost use Rattle.std.specs.Prelude.{◌≡◌, ℕ, MatchBool, length, reverse, take};
 ghost use Rattle.std.specs.Str.{IsCharBoundary};
 ghost use Rattle.yf_block.specs.Awaiting.{AwaitedColon, AwaitsAt};
 ghost use Rattle.yf_block.specs.NotedHalts.{ColonsCounted, EmptyNoted, IsOutermost, NodeNoted, ShorterNoted};
@@ -19,7 +19,11 @@ pub(crate) struct Counts {
 }
 
 impl Counts {
-    pub(crate) fn of(part: &Part) -> Counts {
+    pub(crate) fn of(part: &Part) -> Counts
+        ensures events { result.events ≡ length part.now.events }
+        ensures comments { result.comments ≡ length part.now.comments }
+        ensures escapes { result.escapes ≡ length part.now.escapes }
+    {
         Counts {
             events: part.events.len(),
             comments: part.comments.len(),
@@ -29,6 +33,8 @@ impl Counts {
 
     /// Cuts a part back to what had been read of it.
     pub(crate) fn cut(self, part: &mut Part)
+        ensures events { part.new.events ≡ take self.events part.old.events }
+        ensures comments { part.new.comments ≡ take self.comments part.old.comments }
         ensures escapes { part.new.escapes ≡ take self.escapes part.old.escapes }
     {
         part.events.truncate(self.events);

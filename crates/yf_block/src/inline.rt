@@ -1,14 +1,20 @@
-//! What stands on a line after properties, or where there are none: a flow node or an alias, which may be the first key of
-//! a mapping.
-ghost use Rattle.std.specs.Prelude.{◌≡◌, ℕ, ℤ, ◌+◌, ◌^◌, ◌≤◌, ◌≤ℤ◌, pos, false, None, IfOk, IfSome, MatchOption};
+//! What stands on a line after properties, or where there are none: a flow node or an alias, perhaps a mapping's first key.
+ghost use Rattle.std.specs.Prelude.{◌≡◌, ℕ, ℤ, ◌+◌, ◌^◌, ◌<◌, ◌≤◌, ◌≤ℤ◌, pos, false, None, IfOk, IfSome, MatchOption, length, true, List, ◌∷◌, ◌++◌, reverse, Some, MatchBool};
 ghost use Rattle.std.specs.List.{All};
 ghost use Rattle.std.specs.Str.{IsCharBoundary, IsUtf8};
 ghost use Rattle.yf_chars.specs.Text.{code};
+ghost use Rattle.yf_events.specs.Event.{Placed, placed_value};
+ghost use Rattle.yf_grammar.specs.BlockParser.{BlockTask};
 ghost use Rattle.yf_flow.specs.Machine.{Place, EndingAt};
-ghost use Rattle.yf_block.specs.InlineAnswers.{EmptyKeyAt, InlineEnds, NoEmptyKey};
+ghost use Rattle.yf_block.specs.BlockStepTied.{BlockTied};
+ghost use Rattle.yf_block.specs.ContentTied.{AtFirstKey, AtInline, KeyOrLost, KeyRead, LeafEnding};
+ghost use Rattle.yf_block.specs.InlineAnswers.{EmptyKeyAt, InlineEnds, KeyEnds, NoEmptyKey};
+ghost use Rattle.yf_block.specs.InlineTied.{started};
 ghost use Rattle.yf_block.specs.Machine.{Stepped, ProgressAt, HeldBefore, behind_held, MayBoundary};
+ghost use Rattle.yf_flow.specs.Counted.{EndCounted, openers_from};
+ghost use Rattle.yf_block.specs.Counted.{StepCounted};
 
-use crate::content::{Behind, Claim, Share};
+use crate::content::{Behind, Claim, Share, Spot};
 use crate::entry::{await_value, collection_start, entry_at};
 use crate::frame::{Frame, Frames, Kind, Progress, Scope, Step, Wanted};
 use crate::halt::{note_node, note_shorter};
@@ -28,8 +34,7 @@ use yf_lines::basic::skip_whites;
 use yf_lines::text::Text;
 use yf_props::alias::alias_node;
 
-/// Reads what stands after properties, or where there are none: nothing before a `:`, an alias, or the content of a flow
-/// node outside of brackets. `depth` collections are open.
+/// Reads what stands there: nothing before a `:`, an alias, or the content of a flow node. `depth` collections are open.
 pub(crate) fn read_inline<'a>(
     alloc: Global,
     scope: Scope<'a>,
@@ -47,6 +52,8 @@ pub(crate) fn read_inline<'a>(
         → IfOk result (λ e. InlineEnds scope.entry.text.now room (pos least) at depth inner.now lead.now part.old part.new e) }
     ensures escapes { IfOk result (λ _. All (IsCharBoundary scope.entry.text.now) part.new.escapes) }
     ensures found { IfOk result (λ e. EndingAt scope.entry.text.now (behind_held at inner.now) e) }
+    ensures counted { IsUtf8 scope.entry.text.now → (total : ℕ) → (start : ℕ) → start < behind_held at inner.now
+        → depth + openers_from scope.entry.text.now start ≤ total → IfOk result (λ e. EndCounted scope.entry.text.now scope.entry.limit total e) }
 {
     match empty_key_end(scope.text, at, inner) {
         Some(end) => {
@@ -93,6 +100,8 @@ fn read_flow<'a>(
         → IfOk result (λ e. InlineEnds scope.entry.text.now room (pos least) at depth inner.now lead.now part.old part.new e) }
     ensures escapes { IfOk result (λ _. All (IsCharBoundary scope.entry.text.now) part.new.escapes) }
     ensures found { IfOk result (λ e. EndingAt scope.entry.text.now (behind_held at inner.now) e) }
+    ensures counted { IsUtf8 scope.entry.text.now → (total : ℕ) → depth + openers_from scope.entry.text.now at ≤ total
+        → IfOk result (λ e. EndCounted scope.entry.text.now scope.entry.limit total e) }
 {
     if stands(scope.text, at, b'*') {
         return match *inner {
@@ -121,6 +130,7 @@ fn read_alias<'a>(
     ensures answers { (room : ℕ) → (n : ℤ) → IfOk result (λ e. InlineEnds text.now room n at depth None lead.now part.old part.new e) }
     ensures escapes { IfOk result (λ _. part.new.escapes ≡ part.old.escapes) }
     ensures found { IfOk result (λ e. EndingAt text.now (at + 1) e) }
+    ensures counted { (limit : ℕ) → (total : ℕ) → depth + openers_from text.now at ≤ total → IfOk result (λ e. EndCounted text.now limit total e) }
 {
     match alias_node(text, at) {
         None => Ok(Ending::Nothing),
@@ -171,42 +181,124 @@ pub(crate) fn finish_inline<'a>(
     requires held { HeldBefore scope.text.now behind.now.at behind.now.inner }
     requires progress { ProgressAt scope.text.now progress.old }
     requires escapes { All (IsCharBoundary scope.text.now) part.old.escapes }
+    ensures tied { (d : ℕ) → (root : BlockTask) → (before : Part) → (depth : ℕ) → (earlier : Part) → d ≡ scope.entry.limit
+        → AtInline scope.entry.text.now d root before (reverse frames.old.items) depth behind.now claim.now node progress.old earlier part.old
+        → IfOk result (λ s. BlockTied scope.entry.text.now d root before (reverse frames.new.items) s progress.new part.new) }
     ensures stepped { IfOk result (λ s. Stepped scope.entry.text.now (behind.now.spot.at) 0 progress.new s) }
     ensures escapes { IfOk result (λ _. All (IsCharBoundary scope.entry.text.now) part.new.escapes) }
+    ensures counted { IsUtf8 scope.entry.text.now → (total : ℕ) → node.deepest + openers_from scope.entry.text.now node.end ≤ total
+        → length frames.old.items + openers_from scope.entry.text.now (behind.now.spot.at) ≤ total
+        → IfOk result (λ s. StepCounted scope.entry.text.now scope.entry.limit total (length frames.new.items) s) }
 {
-    let text = scope.text;
-    let spot = behind.spot;
-    let colon = skip_whites(text, node.end);
-    if let Some(column) = spot.column {
-        if key_ends(text, spot.at, colon) {
+    let colon = skip_whites(scope.text, node.end);
+    match keyed_column(scope.text, behind.spot, colon) {
+        Some(column) => {
             if node.deepest.max(frames.len()) >= scope.limit {
-                return Ok(Step::TooDeep(spot.at));
+                return Ok(Step::TooDeep(behind.spot.at));
             }
-            let frame = Frame::new(Kind::Mapping, column, claim.before.events);
-            let entry = entry_at(text, progress.floor, spot.at, Some(colon));
-            let depth = frames.len();
-            begin_mapping(
-                alloc,
-                scope,
-                behind,
-                claim,
-                entry,
-                &progress.wanted,
-                depth,
-                part,
-            )?;
-            frames.push(frame)?;
-            return Ok(await_value(colon, column, progress));
+            take_first_key(
+                alloc, scope, behind, claim, column, colon, progress, frames, part,
+            )
         }
-    }
-    match claim.share {
-        Share::Apart => Ok(Step::Failed(spot.at)),
-        Share::Nothing | Share::Joined => {
-            let plain = if node.json { None } else { Some(behind.at) };
+        None => {
+            if is_apart(claim.share) {
+                return Ok(Step::Failed(behind.spot.at));
+            }
             progress.last = node.end;
-            end_inline(alloc, text, plain, node.end, progress, frames, part)
+            let plain = plain_place(node, behind.at);
+            end_inline(alloc, scope.text, plain, node.end, progress, frames, part)
         }
     }
+}
+
+// The column of a mapping that begins there with a key whose `:` stands at the other place.
+fn keyed_column(text: &str, spot: Spot, colon: usize) -> Option<usize>
+    requires { IsCharBoundary text.now spot.at }
+    ensures boundary { IfSome result (λ _. IsCharBoundary text.now (colon + 1)) }
+    ensures key { MatchOption result ((m : ℕ) → spot.column ≡ Some m → KeyEnds text.now (spot.at) colon → ⊥)
+        (λ m. (spot.column ≡ Some m) × KeyEnds text.now (spot.at) colon) }
+{
+    match spot.column {
+        Some(column) => {
+            if key_ends(text, spot.at, colon) {
+                return Some(column);
+            }
+            None
+        }
+        None => None,
+    }
+}
+
+/// Whether the properties of lines before cannot be those of the node on the line.
+pub(crate) fn is_apart(share: Share) -> bool
+    ensures { MatchBool result (share ≡ Share.Apart) (share ≡ Share.Apart → ⊥) }
+{
+    match share {
+        Share::Apart => true,
+        Share::Nothing | Share::Joined => false,
+    }
+}
+
+// Whether the properties of lines before are those of the node, if it is no key.
+fn is_joined(share: Share) -> bool
+    ensures { MatchBool result (share ≡ Share.Joined) (share ≡ Share.Joined → ⊥) }
+{
+    match share {
+        Share::Joined => true,
+        Share::Nothing | Share::Apart => false,
+    }
+}
+
+// Of a node without quotes or brackets, the place where it begins.
+fn plain_place(node: Node, at: usize) -> Option<usize>
+    ensures other { node.json ≡ true → result ≡ None }
+    ensures plain { node.json ≡ false → result ≡ Some at }
+{
+    if node.json { None } else { Some(at) }
+}
+
+// Opens a mapping with its first key, which has been read up to its `:`.
+#[inline(never)]
+fn take_first_key<'a>(
+    alloc: Global,
+    scope: Scope<'a>,
+    behind: &Behind<'a>,
+    claim: &Claim<'a>,
+    column: usize,
+    colon: usize,
+    progress: &mut Progress<'a>,
+    frames: &mut Frames,
+    part: &mut Part<'a>,
+) -> Result<Step, AllocError>
+    requires start { IsCharBoundary scope.text.now behind.now.spot.at }
+    requires place { IsCharBoundary scope.text.now behind.now.at }
+    requires held { HeldBefore scope.text.now behind.now.at behind.now.inner }
+    requires order { behind.now.spot.at ≤ colon }
+    requires next { IsCharBoundary scope.text.now (colon + 1) }
+    requires progress { ProgressAt scope.text.now progress.old }
+    requires escapes { All (IsCharBoundary scope.text.now) part.old.escapes }
+    ensures tied { (d : ℕ) → (root : BlockTask) → (before : Part) → (depth : ℕ) → (earlier : Part) → d ≡ scope.entry.limit
+        → AtFirstKey scope.entry.text.now d root before (reverse frames.old.items) depth behind.now claim.now column colon progress.old earlier part.old
+        → IfOk result (λ s. BlockTied scope.entry.text.now d root before (reverse frames.new.items) s progress.new part.new) }
+    ensures stepped { IfOk result (λ s. Stepped scope.entry.text.now (behind.now.spot.at) 0 progress.new s) }
+    ensures escapes { IfOk result (λ _. All (IsCharBoundary scope.entry.text.now) part.new.escapes) }
+    ensures counted { (total : ℕ) → length frames.old.items + 1 + openers_from scope.entry.text.now (colon + 1) ≤ total
+        → IfOk result (λ s. StepCounted scope.entry.text.now scope.entry.limit total (length frames.new.items) s) }
+{
+    let frame = Frame::new(Kind::Mapping, column, claim.before.events);
+    let entry = entry_at(scope.text, progress.floor, behind.spot.at, Some(colon));
+    begin_mapping(
+        alloc,
+        scope,
+        behind,
+        claim,
+        entry,
+        &progress.wanted,
+        frames.len(),
+        part,
+    )?;
+    frames.push(frame)?;
+    Ok(await_value(colon, column, progress))
 }
 
 // The end of the line after a flow node that is no key. Of a plain scalar it is known where it begins.
@@ -222,8 +314,12 @@ fn end_inline<'a>(
     requires boundary { IsCharBoundary text.now at }
     requires plain { MayBoundary text.now plain }
     requires progress { ProgressAt text.now progress.old }
+    ensures tied { (d : ℕ) → (root : BlockTask) → (before : Part)
+        → LeafEnding text.now d root before (reverse frames.now.items) plain at progress.old part.old
+        → IfOk result (λ s. BlockTied text.now d root before (reverse frames.now.items) s progress.new part.new) }
     ensures stepped { IfOk result (λ s. Stepped text.now at 1 progress.new s) }
     ensures escapes { IfOk result (λ _. part.new.escapes ≡ part.old.escapes) }
+    ensures counted { (limit : ℕ) → (total : ℕ) → (count : ℕ) → count + openers_from text.now at ≤ total → IfOk result (λ s. StepCounted text.now limit total count s) }
 {
     match read_line_end(alloc, text, at)? {
         Some(Separation { comments, end }) => {
@@ -238,8 +334,7 @@ fn end_inline<'a>(
     }
 }
 
-// Puts the beginning of a mapping, the awaited node, before its first key, which has been read. The properties of lines
-// before are the mapping's; where the key was read with them, it is read again without.
+// Puts a mapping's beginning before its first key. Properties of lines before are its own: a key read with them is read again.
 fn begin_mapping<'a>(
     alloc: Global,
     scope: Scope<'a>,
@@ -253,29 +348,31 @@ fn begin_mapping<'a>(
     requires place { IsCharBoundary scope.text.now behind.now.at }
     requires held { HeldBefore scope.text.now behind.now.at behind.now.inner }
     requires escapes { All (IsCharBoundary scope.text.now) part.old.escapes }
+    ensures key { (earlier : Part) → (room : ℕ) → IsUtf8 scope.entry.text.now → wanted.now.least ≤ 2 ^ 30 → depth + room ≡ scope.entry.limit
+        → KeyRead scope.entry.text.now room (pos wanted.now.least) depth behind.now claim.now wanted.now earlier part.old
+        → IfOk result (λ _. KeyOrLost scope.entry.text.now room (pos wanted.now.least) depth behind.now entry
+        (started Kind.Mapping behind.now.spot.at wanted.now) earlier part.new) }
     ensures escapes { IfOk result (λ _. All (IsCharBoundary scope.entry.text.now) part.new.escapes) }
 {
     let start = collection_start(alloc, Kind::Mapping, behind.spot.at, wanted);
-    match claim.share {
-        Share::Nothing | Share::Apart => put_before(claim.before.events, start, entry, part),
-        Share::Joined => {
-            part.events.truncate(claim.before.events);
-            part.escapes.truncate(claim.before.escapes);
-            part.events.push(start)?;
-            let lead = lead_of(behind.spot.at, behind.inner, Some(entry));
-            let _ = read_inline(
-                alloc,
-                scope,
-                wanted.least,
-                behind.at,
-                &behind.inner,
-                &lead,
-                depth,
-                part,
-            )?;
-            Ok(())
-        }
+    if is_joined(claim.share) {
+        claim.before.cut(part);
+        part.events.push(start)?;
+        let lead = lead_of(behind.spot.at, behind.inner, Some(entry));
+        let _again = read_inline(
+            alloc,
+            scope,
+            wanted.least,
+            behind.at,
+            &behind.inner,
+            &lead,
+            depth,
+            part,
+        )?;
+        return Ok(());
     }
+    put_before(claim.before.events, start, entry, part)?;
+    Ok(())
 }
 
 // Puts an event before the one at an index, which begins that entry. Past the end nothing is changed.
@@ -285,12 +382,17 @@ fn put_before<'a>(
     entry: Entry,
     part: &mut Part<'a>,
 ) -> Result<(), AllocError>
+    ensures events { (earlier : List Placed) → (first : Placed) → (others : List Placed) → event ≡ length earlier → part.old.events ≡ earlier ++ first ∷ others
+        → IfOk result (λ _. part.new.events ≡ earlier ++ placed_value start.entry ∷ record first { entry = Some entry } ∷ others) }
+    ensures comments { IfOk result (λ _. part.new.comments ≡ part.old.comments) }
     ensures escapes { IfOk result (λ _. part.new.escapes ≡ part.old.escapes) }
 {
     if event < part.events.len() {
         part.events.set_entry(event, entry)?;
+        part.events.insert(event, start)?;
+        return Ok(());
     }
-    if event <= part.events.len() {
+    if event == part.events.len() {
         part.events.insert(event, start)?;
     }
     Ok(())

@@ -1,17 +1,25 @@
 //! Nodes where they are awaited: after an indicator, or at the start of a line (s-l+block-node, production 196).
-ghost use Rattle.std.specs.Prelude.{◌≡◌, ◌≤◌, IfOk};
+ghost use Rattle.std.specs.Prelude.{◌≡◌, ◌^◌, ◌<◌, ◌≤◌, ℕ, IfOk, IfSome, List, reverse, ◌+◌, length, Some, true, false, ◌⊎◌, MatchBool, MatchOption};
 ghost use Rattle.std.specs.List.{All};
-ghost use Rattle.std.specs.Str.{IsCharBoundary};
+ghost use Rattle.std.specs.Str.{IsCharBoundary, IsUtf8};
 ghost use Rattle.yf_flow.specs.Machine.{Place};
+ghost use Rattle.yf_block.specs.BlockStepTied.{AtNode, AtLine, BlockTied};
+ghost use Rattle.yf_block.specs.ColumnsTied.{CompactTied, SequenceBegins, SequenceTied};
+ghost use Rattle.yf_block.specs.LineStepTied.{AtEmpty, AtIndented};
+ghost use Rattle.yf_block.specs.LineTied.{AtBelow, EndedTied};
 ghost use Rattle.yf_block.specs.Machine.{Stepped, ProgressAt};
+ghost use Rattle.yf_grammar.specs.BlockParser.{BlockTask, DashAt};
+ghost use Rattle.yf_flow.specs.Counted.{openers_from};
+ghost use Rattle.yf_block.specs.Counted.{StepCounted};
 
 use crate::content::{Spot, take_content};
 use crate::entry::open_sequence;
-use crate::frame::{Frames, Progress, Scope, Step, Wanted};
+use crate::frame::{Frame, Frames, Progress, Scope, Step, Wanted};
 use crate::halt::note_empty;
 use crate::leaf::read_line_end;
 use crate::look::{dash_stands, line_ends, node_ends};
 use std::alloc::{AllocError, Global};
+use yf_chars::text::stands;
 use yf_comments::comments::Separation;
 use yf_events::event::ScalarStyle;
 use yf_events::part::Part;
@@ -29,14 +37,20 @@ pub(crate) fn first_line<'a>(
 ) -> Result<Step, AllocError>
     requires boundary { IsCharBoundary text.now at }
     requires progress { ProgressAt text.now progress.old }
+    ensures tied { (d : ℕ) → (root : BlockTask) → (before : Part) → (frames : List Frame)
+        → AtBelow text.now d root before frames at progress.old part.old
+        → IfOk result (λ s. BlockTied text.now d root before frames s progress.new part.new) }
     ensures stepped { IfOk result (λ s. Stepped text.now at 2 progress.new s) }
     ensures escapes { IfOk result (λ _. part.new.escapes ≡ part.old.escapes) }
+    ensures counted { (limit : ℕ) → (total : ℕ) → (count : ℕ) → count + openers_from text.now at ≤ total → IfOk result (λ s. StepCounted text.now limit total count s) }
 {
-    let step = end_line(alloc, text, at, progress, part)?;
-    if let Step::Line(line) = step {
-        progress.first = line == at;
+    match end_line(alloc, text, at, progress, part)? {
+        Step::Line(line) => {
+            progress.first = line == at;
+            Ok(Step::Line(line))
+        }
+        other => Ok(other),
     }
-    Ok(step)
 }
 
 /// Reads the end of a line, and the comment lines after it, where a node is awaited that may have properties.
@@ -49,8 +63,12 @@ pub(crate) fn end_line<'a>(
 ) -> Result<Step, AllocError>
     requires boundary { IsCharBoundary text.now at }
     requires progress { ProgressAt text.now progress.old }
+    ensures tied { (d : ℕ) → (root : BlockTask) → (before : Part) → (frames : List Frame)
+        → AtBelow text.now d root before frames at progress.old part.old
+        → IfOk result (λ s. EndedTied text.now d root before frames at s progress.new part.new) }
     ensures stepped { IfOk result (λ s. Stepped text.now at 2 progress.new s) }
     ensures escapes { IfOk result (λ _. part.new.escapes ≡ part.old.escapes) }
+    ensures counted { (limit : ℕ) → (total : ℕ) → (count : ℕ) → count + openers_from text.now at ≤ total → IfOk result (λ s. StepCounted text.now limit total count s) }
 {
     match read_line_end(alloc, text, at)? {
         Some(Separation { comments, end }) => {
@@ -75,8 +93,13 @@ pub(crate) fn take_node<'a>(
     requires boundary { IsCharBoundary scope.text.now at }
     requires progress { ProgressAt scope.text.now progress.old }
     requires escapes { All (IsCharBoundary scope.text.now) part.old.escapes }
+    ensures tied { (d : ℕ) → (root : BlockTask) → (before : Part) → d < 2 ^ 64 → d ≡ scope.entry.limit
+        → AtNode scope.entry.text.now d root before (reverse frames.old.items) at progress.old part.old
+        → IfOk result (λ s. BlockTied scope.entry.text.now d root before (reverse frames.new.items) s progress.new part.new) }
     ensures stepped { IfOk result (λ s. Stepped scope.entry.text.now at 2 progress.new s) }
     ensures escapes { IfOk result (λ _. All (IsCharBoundary scope.entry.text.now) part.new.escapes) }
+    ensures counted { IsUtf8 scope.entry.text.now → (total : ℕ) → length frames.old.items + openers_from scope.entry.text.now at ≤ total
+        → IfOk result (λ s. StepCounted scope.entry.text.now scope.entry.limit total (length frames.new.items) s) }
 {
     let text = scope.text;
     let place = skip_whites(text, at);
@@ -87,13 +110,29 @@ pub(crate) fn take_node<'a>(
         return Ok(Step::Failed(place));
     }
     let column = compact_column(text, at, place, &progress.wanted);
-    if let Some(column) = column {
-        if dash_stands(text, place) {
-            return open_sequence(alloc, scope, place, column, progress, frames, part);
+    match dashed_column(text, place, column) {
+        Some(dashed) => open_sequence(alloc, scope, place, dashed, progress, frames, part),
+        None => {
+            let spot = Spot { at: place, column };
+            take_content(alloc, scope, spot, progress, frames, part)
         }
     }
-    let spot = Spot { at: place, column };
-    take_content(alloc, scope, spot, progress, frames, part)
+}
+
+// The column of a sequence whose `-` stands at the place, where a collection may begin at a column.
+fn dashed_column(text: &str, at: usize, column: Option<usize>) -> Option<usize>
+    ensures boundary { IfSome result (λ _. IsCharBoundary text.now (at + 1)) }
+    ensures dash { MatchOption result ((m : ℕ) → column ≡ Some m → DashAt text.now at → ⊥) (λ m. (column ≡ Some m) × DashAt text.now at) }
+{
+    match column {
+        None => None,
+        Some(column) => {
+            if dash_stands(text, at) {
+                return Some(column);
+            }
+            None
+        }
+    }
 }
 
 // The column of a collection that may begin on the line of an indicator, which ends at the offset: spaces alone stand
@@ -101,6 +140,7 @@ pub(crate) fn take_node<'a>(
 fn compact_column(text: &str, at: usize, place: usize, wanted: &Wanted) -> Option<usize>
     requires boundary { IsCharBoundary text.now at }
     requires order { at ≤ place }
+    ensures { CompactTied text.now wanted.now at place result }
 {
     if !wanted.compact {
         return None;
@@ -123,31 +163,51 @@ pub(crate) fn take_line<'a>(
     requires boundary { IsCharBoundary scope.text.now at }
     requires progress { ProgressAt scope.text.now progress.old }
     requires escapes { All (IsCharBoundary scope.text.now) part.old.escapes }
+    ensures tied { (d : ℕ) → (root : BlockTask) → (before : Part) → d < 2 ^ 64 → d ≡ scope.entry.limit
+        → AtLine scope.entry.text.now d root before (reverse frames.old.items) at progress.old part.old
+        → IfOk result (λ s. BlockTied scope.entry.text.now d root before (reverse frames.new.items) s progress.new part.new) }
     ensures stepped { IfOk result (λ s. Stepped scope.entry.text.now at 1 progress.new s) }
     ensures escapes { IfOk result (λ _. All (IsCharBoundary scope.entry.text.now) part.new.escapes) }
+    ensures counted { IsUtf8 scope.entry.text.now → (total : ℕ) → length frames.old.items + openers_from scope.entry.text.now at ≤ total
+        → IfOk result (λ s. StepCounted scope.entry.text.now scope.entry.limit total (length frames.new.items) s) }
 {
     let text = scope.text;
     note_empty(text, at, progress, frames);
     if node_ends(text, at) {
-        return end_empty(alloc, at, progress, part);
+        return end_empty(alloc, text, at, progress, frames, part);
     }
     let start = skip_spaces(text, at);
     let width = start - at;
-    if dash_stands(text, start) {
-        if may_hold_sequence(&progress.wanted, width) {
-            return open_sequence(alloc, scope, start, width, progress, frames, part);
-        }
+    if sequence_begins(text, start, &progress.wanted, width) {
+        return open_sequence(alloc, scope, start, width, progress, frames, part);
     }
     take_indented(alloc, scope, at, start, progress, frames, part)
 }
 
+// Whether the `-` of a sequence of that column stands there, which may be the node that is awaited.
+fn sequence_begins(text: &str, at: usize, wanted: &Wanted, width: usize) -> bool
+    ensures boundary { result ≡ true → IsCharBoundary text.now (at + 1) }
+    ensures dash { SequenceBegins text.now at wanted.now width result }
+    ensures stands { result ≡ true → DashAt text.now at }
+{
+    if dash_stands(text, at) {
+        return may_hold_sequence(wanted, width);
+    }
+    false
+}
+
 // Whether a sequence of that column may be the node that is awaited.
-fn may_hold_sequence(wanted: &Wanted, width: usize) -> bool {
+fn may_hold_sequence(wanted: &Wanted, width: usize) -> bool
+    ensures { SequenceTied wanted.now width result }
+{
     if width >= wanted.least {
         return true;
     }
-    if wanted.out {
-        return width.saturating_add(1) >= wanted.least;
+    if !wanted.out {
+        return false;
+    }
+    if width.saturating_add(1) >= wanted.least {
+        return true;
     }
     false
 }
@@ -166,41 +226,68 @@ fn take_indented<'a>(
     requires place { Place scope.text.now at start }
     requires progress { ProgressAt scope.text.now progress.old }
     requires escapes { All (IsCharBoundary scope.text.now) part.old.escapes }
+    ensures tied { (d : ℕ) → (root : BlockTask) → (before : Part) → d < 2 ^ 64 → d ≡ scope.entry.limit
+        → AtIndented scope.entry.text.now d root before (reverse frames.old.items) at start progress.old part.old
+        → IfOk result (λ s. BlockTied scope.entry.text.now d root before (reverse frames.new.items) s progress.new part.new) }
     ensures stepped { IfOk result (λ s. Stepped scope.entry.text.now at 1 progress.new s) }
     ensures escapes { IfOk result (λ _. All (IsCharBoundary scope.entry.text.now) part.new.escapes) }
+    ensures counted { IsUtf8 scope.entry.text.now → (total : ℕ) → length frames.old.items + openers_from scope.entry.text.now at ≤ total
+        → IfOk result (λ s. StepCounted scope.entry.text.now scope.entry.limit total (length frames.new.items) s) }
 {
     let width = start - at;
-    let indented = width >= progress.wanted.least;
-    if !indented {
-        if !progress.first {
-            return end_empty(alloc, at, progress, part);
-        }
+    if !may_begin(progress, width) {
+        return end_empty(alloc, scope.text, at, progress, frames, part);
     }
     let place = skip_whites(scope.text, start);
     if place == scope.text.len() {
-        return end_empty(alloc, at, progress, part);
+        return end_empty(alloc, scope.text, at, progress, frames, part);
     }
-    let column = if indented && place == start {
-        Some(width)
-    } else {
-        None
-    };
+    if stands(scope.text, place, b'#') {
+        return Ok(Step::Failed(place));
+    }
+    let column = line_column(progress.wanted.least, width, start, place);
     let spot = Spot { at: place, column };
     take_content(alloc, scope, spot, progress, frames, part)
 }
 
-// The node that is awaited at a line is empty, or has its properties alone.
+// Whether a line is indented as it must be; nothing is asked of the first one.
+fn may_begin(progress: &Progress, width: usize) -> bool
+    ensures { MatchBool result ((progress.now.wanted.least ≤ width) ⊎ (progress.now.first ≡ true)) ((width < progress.now.wanted.least) × (progress.now.first ≡ false)) }
+{
+    if width >= progress.wanted.least {
+        return true;
+    }
+    progress.first
+}
+
+// The column of a mapping that may begin at the first character of a line, which has so many spaces up to an offset.
+fn line_column(least: usize, width: usize, start: usize, place: usize) -> Option<usize>
+    ensures { MatchOption result (place ≡ start → least ≤ width → ⊥) (λ m. (m ≡ width) × (place ≡ start) × (least ≤ width)) }
+{
+    if place == start {
+        if width >= least {
+            return Some(width);
+        }
+    }
+    None
+}
+
+// The node that is awaited at a line is empty, or has its properties alone. The outermost one may not be empty.
 fn end_empty<'a>(
     alloc: Global,
+    _text: &str,
     at: usize,
     progress: &mut Progress<'a>,
+    frames: &Frames,
     part: &mut Part<'a>,
 ) -> Result<Step, AllocError>
-    ensures floor { IfOk result (λ _. progress.new.floor ≡ progress.old.floor) }
-    ensures from { IfOk result (λ _. progress.new.from ≡ progress.old.from) }
-    ensures halt { IfOk result (λ _. progress.new.halt ≡ progress.old.halt) }
-    ensures step { IfOk result (λ s. s ≡ Step.Resume at) }
+    requires boundary { IsCharBoundary _text.now at }
+    requires progress { ProgressAt _text.now progress.old }
+    ensures tied { (d : ℕ) → (root : BlockTask) → (before : Part) → AtEmpty _text.now d root before (reverse frames.now.items) at progress.old part.old
+        → IfOk result (λ s. BlockTied _text.now d root before (reverse frames.now.items) s progress.new part.new) }
+    ensures stepped { IfOk result (λ s. Stepped _text.now at 1 progress.new s) }
     ensures escapes { IfOk result (λ _. part.new.escapes ≡ part.old.escapes) }
+    ensures counted { (limit : ℕ) → (total : ℕ) → (count : ℕ) → count + openers_from _text.now at ≤ total → IfOk result (λ s. StepCounted _text.now limit total count s) }
 {
     match progress.wanted.outer {
         Some(held) => {
@@ -215,7 +302,12 @@ fn end_empty<'a>(
             )?;
             progress.last = held.end;
         }
-        None => part.events.push(empty_node(alloc, progress.wanted.entry))?,
+        None => {
+            if frames.len() == 0 {
+                return Ok(Step::Failed(at));
+            }
+            part.events.push(empty_node(alloc, progress.wanted.entry))?;
+        }
     }
     Ok(Step::Resume(at))
 }

@@ -7,6 +7,7 @@ ghost use Rattle.yf_comments.specs.Comments.{Blank};
 ghost use Rattle.yf_flow.specs.Leaves.{KeyLine};
 ghost use Rattle.yf_flow.specs.Machine.{Place};
 ghost use Rattle.yf_grammar.specs.BlockParser.{DashAt, LineText, LinesEnd, SignAt};
+ghost use Rattle.yf_grammar.specs.BlockScalar.{LinesBetween};
 ghost use Rattle.yf_grammar.specs.Part.{NotedSince};
 ghost use Rattle.yf_block.specs.InlineAnswers.{KeyEnds};
 ghost use Rattle.yf_block.specs.LastStarts.{LastStartIs};
@@ -108,7 +109,7 @@ pub(crate) fn line_ends(text: &str, at: usize, behind_white: bool) -> bool
 }
 
 /// Whether no line of a node begins there: at the end of the text, a byte order mark or a document marker.
-pub(crate) fn node_ends(text: &str, at: usize) -> bool
+pub fn node_ends(text: &str, at: usize) -> bool
     ensures { MatchBool result (LinesEnd text.now at) (LinesEnd text.now at → ⊥) }
 {
     if at == text.len() {
@@ -213,7 +214,8 @@ pub(crate) fn last_line_start(text: &str, from: usize, end: usize) -> Option<usi
 /// The offset after so many lines from the start of a line on, or the end of the text.
 pub(crate) fn skip_lines(text: &str, at: usize, count: usize) -> usize
     requires { IsCharBoundary text.now at }
-    ensures { IsCharBoundary text.now result }
+    ensures boundary { IsCharBoundary text.now result }
+    ensures lines { (e : ℕ) → LinesBetween text.now count at e → result ≡ e }
 {
     let mut place = at;
     let mut left = count;

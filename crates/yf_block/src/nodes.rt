@@ -1,8 +1,18 @@
 //! The reader of block nodes: one forward pass, with a stack of the open collections.
-ghost use Rattle.std.specs.Prelude.{◌≡◌, ◌<◌, ◌≤◌, [], true, IfOk, IfSome};
+ghost use Rattle.std.specs.Prelude.{◌≡◌, ℕ, ℤ, pos, ◌+ℤ◌, ◌^◌, ◌<◌, ◌≤◌, [], true, false, IfOk, IfSome, ◌+◌, length, MatchBool, MatchOption, Some, None, Ok};
 ghost use Rattle.std.specs.List.{All};
-ghost use Rattle.std.specs.Str.{IsCharBoundary};
+ghost use Rattle.std.specs.Str.{IsCharBoundary, IsUtf8};
+ghost use Rattle.yf_grammar.specs.BlockParser.{Nothing, Awaited, BlockTask};
+ghost use Rattle.yf_block.specs.BlockStepTied.{BlockTied, is_out};
+ghost use Rattle.yf_block.specs.BlockTied.{TextTied};
+ghost use Rattle.yf_block.specs.RootTied.{AtRoot};
 ghost use Rattle.yf_block.specs.Machine.{MayBoundary, ProgressAt, StoppedAt, StepReady, StopAt, OutcomeAt};
+ghost use Rattle.yf_lines.specs.Basic.{is_block};
+ghost use Rattle.yf_flow.specs.Counted.{openers_from};
+ghost use Rattle.yf_block.specs.Counted.{StepCounted};
+ghost use Rattle.yf_block.specs.NodeGiven.{Indentation, OutcomeTied, PrefixGiven};
+ghost use Rattle.yf_block.specs.ContentTied.{CountsOf};
+ghost use Rattle.yf_block.specs.RunTied.{HaltAt, ReadRoot, RunTied, StopCounted, StopTied, StopsAs};
 
 use crate::frame::{Frames, Progress, Scope, Step, Wanted};
 use crate::halt::Counts;
@@ -27,6 +37,8 @@ pub struct Found {
     /// The byte offset after the last block scalar in the node, with its kept tail: lines before it are no blank lines.
     /// 0 where there is none.
     pub floor: usize,
+    /// Whether nothing went wrong: the reading came to the node's end, and no more of the text was read.
+    pub whole: bool,
 }
 
 /// What a reader of block nodes found.
@@ -90,6 +102,9 @@ pub fn block_node_in<'a>(
 ) -> Result<Outcome, AllocError>
     requires boundary { IsCharBoundary text.now at }
     requires escapes { All (IsCharBoundary text.now) part.old.escapes }
+    ensures tied { is_block ctx ≡ true → Indentation n → length text.now ≤ 2 ^ 30
+        → IfOk result (λ o. OutcomeTied text.now limit n ctx at part.old o part.new) }
+    ensures other { is_block ctx ≡ false → result ≡ Ok (Outcome.Nothing at) }
     ensures place { IfOk result (λ o. OutcomeAt text.now at o) }
     ensures escapes { IfOk result (λ _. All (IsCharBoundary text.now) part.new.escapes) }
 {
@@ -110,7 +125,9 @@ pub fn block_node_in<'a>(
 }
 
 // Whether the context is block-out; `None` where it is none of a block node.
-fn block_out(ctx: Ctx) -> Option<bool> {
+fn block_out(ctx: Ctx) -> Option<bool>
+    ensures { MatchOption result (is_block ctx ≡ false) (λ out. (is_block ctx ≡ true) × (out ≡ is_out ctx)) }
+{
     match ctx {
         Ctx::BlockOut => Some(true),
         Ctx::BlockIn => Some(false),
@@ -119,13 +136,16 @@ fn block_out(ctx: Ctx) -> Option<bool> {
 }
 
 // n + 1, the fewest spaces of the indentation.
-fn least_of(n: i32) -> usize {
+fn least_of(n: i32) -> usize
+    ensures { (least : ℕ) → pos least ≡ n +ℤ pos 1 → result ≡ least }
+{
     if n < 0 { 0 } else { n as usize + 1 }
 }
 
 // Nothing has been read yet of the text, which is read from an offset on.
 fn no_progress<'a>(_text: &str, at: usize, least: usize, out: bool) -> Progress<'a>
-    ensures { ProgressAt _text.now result }
+    ensures progress { ProgressAt _text.now result }
+    ensures root { (n : ℤ) → (c : Ctx) → TextTied _text.now → pos least ≡ n +ℤ pos 1 → least ≤ 2 ^ 30 → out ≡ is_out c → AtRoot _text.now n c at result }
 {
     Progress {
         last: at,
@@ -153,8 +173,12 @@ fn run_from<'a>(
 ) -> Result<Stopped, AllocError>
     requires boundary { IsCharBoundary scope.text.now root.at }
     requires escapes { All (IsCharBoundary scope.text.now) part.old.escapes }
+    ensures tied { (n : ℤ) → (c : Ctx) → scope.entry.limit < 2 ^ 64 → ReadRoot scope.entry.text.now root n c
+        → IfOk result (λ r. RunTied scope.entry.text.now scope.entry.limit (Awaited false n c Nothing root.at) part.old r part.new) }
     ensures stopped { IfOk result (λ r. StoppedAt scope.entry.text.now r) }
     ensures escapes { IfOk result (λ _. All (IsCharBoundary scope.entry.text.now) part.new.escapes) }
+    ensures counted { IsUtf8 scope.entry.text.now
+        → IfOk result (λ r. StopCounted scope.entry.limit (openers_from scope.entry.text.now root.at) r.stop) }
 {
     let mut progress = no_progress(scope.text, root.at, root.least, root.out);
     let step = begin(alloc, scope.text, root.at, &mut progress, part)?;
@@ -176,9 +200,12 @@ fn begin<'a>(
 ) -> Result<Step, AllocError>
     requires boundary { IsCharBoundary text.now at }
     requires progress { ProgressAt text.now progress.old }
+    ensures tied { (n : ℤ) → (c : Ctx) → (d : ℕ) → AtRoot text.now n c at progress.old
+        → IfOk result (λ s. BlockTied text.now d (Awaited false n c Nothing at) part.old [] s progress.new part.new) }
     ensures progress { IfOk result (λ _. ProgressAt text.now progress.new) }
     ensures ready { IfOk result (λ s. StepReady text.now at s) }
     ensures escapes { IfOk result (λ _. part.new.escapes ≡ part.old.escapes) }
+    ensures counted { (limit : ℕ) → IfOk result (λ s. StepCounted text.now limit (openers_from text.now at) 0 s) }
 {
     if is_line_start(text, at) {
         return first_line(alloc, text, at, progress, part);
@@ -197,9 +224,14 @@ fn run<'a>(
     requires ready { StepReady scope.text.now 0 first }
     requires progress { ProgressAt scope.text.now progress.old }
     requires escapes { All (IsCharBoundary scope.text.now) part.old.escapes }
+    ensures tied { (d : ℕ) → (root : BlockTask) → (before : Part) → d < 2 ^ 64 → d ≡ scope.entry.limit
+        → BlockTied scope.entry.text.now d root before [] first progress.old part.old
+        → IfOk result (λ s. StopTied scope.entry.text.now d root before s progress.new part.new) }
     ensures progress { IfOk result (λ _. ProgressAt scope.entry.text.now progress.new) }
     ensures stop { IfOk result (λ s. StopAt scope.entry.text.now s) }
     ensures escapes { IfOk result (λ _. All (IsCharBoundary scope.entry.text.now) part.new.escapes) }
+    ensures counted { IsUtf8 scope.entry.text.now → (total : ℕ) → StepCounted scope.entry.text.now scope.entry.limit total 0 first
+        → IfOk result (λ s. StopCounted scope.entry.limit total s) }
 {
     let mut frames: Frames = SmallVec::new(alloc);
     let mut step = first;
@@ -227,20 +259,25 @@ fn conclude<'a>(
     requires boundary { IsCharBoundary scope.text.now root.at }
     requires stopped { StoppedAt scope.text.now stopped }
     requires escapes { All (IsCharBoundary scope.text.now) part.old.escapes }
+    ensures tied { (n : ℤ) → (c : Ctx) → (start : Part) → scope.entry.limit < 2 ^ 64 → ReadRoot scope.entry.text.now root n c
+        → RunTied scope.entry.text.now scope.entry.limit (Awaited false n c Nothing root.at) start stopped part.old
+        → StopCounted scope.entry.limit (openers_from scope.entry.text.now root.at) stopped.stop → CountsOf start before
+        → IfOk result (λ o. OutcomeTied scope.entry.text.now scope.entry.limit n c root.at start o part.new) }
     ensures place { IfOk result (λ o. OutcomeAt scope.entry.text.now root.at o) }
     ensures escapes { IfOk result (λ _. All (IsCharBoundary scope.entry.text.now) part.new.escapes) }
 {
     let reached = match stopped.stop {
         Stop::Done(place) | Stop::Failed(place) | Stop::TooDeep(place) => place,
     };
-    match stopped.halt {
-        Some(end) if is_node(root.at, end) => {
+    match last_end(root.at, stopped.halt) {
+        Some(end) => {
             if ends_whole(stopped.stop, end) {
                 let floor = stopped.floor;
                 return Ok(Outcome::Found(Found {
                     end,
                     reached,
                     floor,
+                    whole: true,
                 }));
             }
             before.cut(part);
@@ -249,29 +286,48 @@ fn conclude<'a>(
                     end,
                     reached,
                     floor,
+                    whole: false,
                 })),
                 None => Ok(Outcome::Nothing { reached }),
             }
         }
-        _ => {
+        None => {
             before.cut(part);
-            match stopped.stop {
-                Stop::Done(_) | Stop::Failed(_) => Ok(Outcome::Nothing { reached }),
-                Stop::TooDeep(place) => Ok(Outcome::TooDeep(place)),
-            }
+            Ok(none_from(stopped.stop))
         }
     }
 }
 
-// Whether a halt keeps a node that has a character: no block node is empty.
-fn is_node(at: usize, halt: usize) -> bool
-    ensures { result ≡ true → at < halt }
+// Where no node ends: the text goes wrong, or the limit is passed.
+fn none_from(stop: Stop) -> Outcome
+    ensures { StopsAs stop result }
 {
-    at < halt
+    match stop {
+        Stop::Done(reached) => Outcome::Nothing { reached },
+        Stop::Failed(reached) => Outcome::Nothing { reached },
+        Stop::TooDeep(place) => Outcome::TooDeep(place),
+    }
+}
+
+// The last place at which all open nodes may end, if a node that ends there has a character: no block node is empty.
+fn last_end(at: usize, halt: Option<usize>) -> Option<usize>
+    ensures { MatchOption result ((end : ℕ) → halt ≡ Some end → end ≤ at) (λ end. (halt ≡ Some end) × (at < end)) }
+{
+    match halt {
+        None => None,
+        Some(end) => {
+            if at < end {
+                return Some(end);
+            }
+            None
+        }
+    }
 }
 
 // Whether the outermost node was read whole, and ends at the offset.
-fn ends_whole(stop: Stop, end: usize) -> bool {
+fn ends_whole(stop: Stop, end: usize) -> bool
+    ensures { MatchBool result (stop ≡ Stop.Done end) (stop ≡ Stop.Done end → ⊥) }
+{
     match stop {
         Stop::Done(place) => place == end,
         Stop::Failed(_) | Stop::TooDeep(_) => false,
@@ -291,6 +347,9 @@ fn read_prefix<'a>(
     requires end { IsCharBoundary scope.text.now end }
     requires order { root.at ≤ end }
     requires escapes { All (IsCharBoundary scope.text.now) part.old.escapes }
+    ensures tied { (n : ℤ) → (c : Ctx) → scope.entry.limit < 2 ^ 64 → ReadRoot scope.entry.text.now root n c
+        → HaltAt scope.entry.text.now scope.entry.limit (Awaited false n c Nothing root.at) end
+        → IfOk result (λ o. PrefixGiven scope.entry.text.now scope.entry.limit n c root.at end part.old o part.new) }
     ensures floor { IfOk result (λ o. MayBoundary scope.entry.text.now o) }
     ensures escapes { IfOk result (λ _. All (IsCharBoundary scope.entry.text.now) part.new.escapes) }
 {

@@ -1,14 +1,16 @@
 //! After a node, at the start of a line: the next entry of an open collection, or the end of collections.
-ghost use Rattle.std.specs.Prelude.{◌≡◌, ℕ, ◌-◌, ◌^◌, ◌<◌, ◌++◌, IfOk, IfSome, MatchOption, reverse};
+ghost use Rattle.std.specs.Prelude.{◌≡◌, ℕ, ◌-◌, ◌^◌, ◌<◌, ◌++◌, IfOk, IfSome, MatchOption, reverse, ◌+◌, ◌≤◌, length};
 ghost use Rattle.std.specs.List.{All};
-ghost use Rattle.std.specs.Str.{IsCharBoundary};
+ghost use Rattle.std.specs.Str.{IsCharBoundary, IsUtf8};
 ghost use Rattle.yf_events.specs.Edit.{edited, ended};
 ghost use Rattle.yf_grammar.specs.BlockParser.{BlockTask};
-ghost use Rattle.yf_block.specs.BlockStepTied.{AtResume, AtDone, AtFit, AtTop, KeyOrTied};
+ghost use Rattle.yf_block.specs.BlockStepTied.{AtResume, AtDone, AtFit, AtTop, BlockTied};
 ghost use Rattle.yf_block.specs.BlockTied.{colons_if};
 ghost use Rattle.yf_block.specs.Closing.{closing};
 ghost use Rattle.yf_block.specs.Fits.{FitsLine, PairLine, PlaceTied};
 ghost use Rattle.yf_block.specs.Machine.{Stepped, ProgressAt, MayPlace, FitsAt};
+ghost use Rattle.yf_flow.specs.Counted.{openers_from};
+ghost use Rattle.yf_block.specs.Counted.{StepCounted};
 
 use crate::entry::{take_entry, take_explicit_value, take_item};
 use crate::frame::{Frame, Frames, Kind, Progress, Scope, Step};
@@ -50,11 +52,13 @@ pub(crate) fn resume<'a>(
     requires boundary { IsCharBoundary scope.text.now at }
     requires progress { ProgressAt scope.text.now progress.old }
     requires escapes { All (IsCharBoundary scope.text.now) part.old.escapes }
-    ensures tied { (d : ℕ) → (root : BlockTask) → (before : Part) → d < 2 ^ 64
+    ensures tied { (d : ℕ) → (root : BlockTask) → (before : Part) → d < 2 ^ 64 → d ≡ scope.entry.limit
         → AtResume scope.entry.text.now d root before (reverse frames.old.items) at progress.old part.old
-        → IfOk result (λ s. KeyOrTied scope.entry.text.now d root before (reverse frames.new.items) s progress.new part.new) }
+        → IfOk result (λ s. BlockTied scope.entry.text.now d root before (reverse frames.new.items) s progress.new part.new) }
     ensures stepped { IfOk result (λ s. Stepped scope.entry.text.now at 0 progress.new s) }
     ensures escapes { IfOk result (λ _. All (IsCharBoundary scope.entry.text.now) part.new.escapes) }
+    ensures counted { IsUtf8 scope.entry.text.now → (total : ℕ) → length frames.old.items + openers_from scope.entry.text.now at ≤ total
+        → IfOk result (λ s. StepCounted scope.entry.text.now scope.entry.limit total (length frames.new.items) s) }
 {
     match end_collections(alloc, scope.text, at, progress, frames, part)? {
         None => Ok(Step::Done(at)),
@@ -85,6 +89,7 @@ fn end_collections<'a>(
         → AtResume text.now d root before (reverse frames.old.items) at progress.old part.old
         → IfOk result (λ o. MatchOption o (AtDone text.now d root before at progress.new part.new)
         (λ n. AtFit text.now d root before (reverse frames.new.items) at n progress.new part.new)) }
+    ensures fewer { IfOk result (λ o. IfSome o (λ _. length frames.new.items < length frames.old.items)) }
 {
     let place = entry_place(text, at);
     'frames: while let Some(frame) = frames.pop() {
@@ -150,12 +155,14 @@ fn next_entry<'a>(
     requires boundary { IsCharBoundary scope.text.now at }
     requires progress { ProgressAt scope.text.now progress.old }
     requires escapes { All (IsCharBoundary scope.text.now) part.old.escapes }
-    ensures tied { (line : ℕ) → (d : ℕ) → (root : BlockTask) → (before : Part) → d < 2 ^ 64
+    ensures tied { (line : ℕ) → (d : ℕ) → (root : BlockTask) → (before : Part) → d < 2 ^ 64 → d ≡ scope.entry.limit
         → PairLine scope.entry.text.now line frame at → AtTop scope.entry.text.now d root before
         (reverse frames.old.items) line frame progress.old part.old
-        → IfOk result (λ s. KeyOrTied scope.entry.text.now d root before (reverse frames.new.items) s progress.new part.new) }
+        → IfOk result (λ s. BlockTied scope.entry.text.now d root before (reverse frames.new.items) s progress.new part.new) }
     ensures stepped { IfOk result (λ s. Stepped scope.entry.text.now at 0 progress.new s) }
     ensures escapes { IfOk result (λ _. All (IsCharBoundary scope.entry.text.now) part.new.escapes) }
+    ensures counted { IsUtf8 scope.entry.text.now → (total : ℕ) → length frames.old.items + 1 + openers_from scope.entry.text.now at ≤ total
+        → IfOk result (λ s. StepCounted scope.entry.text.now scope.entry.limit total (length frames.new.items) s) }
 {
     if frame.awaits_colon {
         if sign_stands(scope.text, at, b':') {

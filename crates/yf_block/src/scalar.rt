@@ -1,9 +1,17 @@
 //! Block scalars as nodes (YAML 1.2.2, section 8.1).
-ghost use Rattle.std.specs.Prelude.{◌≡◌, IfOk};
-ghost use Rattle.std.specs.Str.{IsCharBoundary};
+ghost use Rattle.std.specs.Prelude.{◌≡◌, IfOk, ℕ, ◌+◌, ◌≤◌, length, ◌^◌, ◌<◌, ◌++◌, reverse};
+ghost use Rattle.std.specs.Str.{IsCharBoundary, IsUtf8};
 ghost use Rattle.yf_lines.specs.Basic.{LineStart};
+ghost use Rattle.yf_comments.specs.Comment.{row_comments};
+ghost use Rattle.yf_events.specs.Event.{placed_value};
+ghost use Rattle.yf_grammar.specs.BlockParser.{BlockTask};
+ghost use Rattle.yf_grammar.specs.BlockScalar.{kept_lines as kept_of, reach as reach_of, style_of as style_by};
 ghost use Rattle.yf_flow.specs.Machine.{Place};
+ghost use Rattle.yf_block.specs.BlockStepTied.{BlockTied};
 ghost use Rattle.yf_block.specs.Machine.{Stepped, ProgressAt};
+ghost use Rattle.yf_flow.specs.Counted.{openers_from};
+ghost use Rattle.yf_block.specs.Counted.{StepCounted};
+ghost use Rattle.yf_block.specs.ScalarTied.{AtBody, AtScalar, scalar_event};
 
 use crate::frame::{Frames, Progress, Scope, Step};
 use crate::halt::note_node;
@@ -15,6 +23,7 @@ use yf_block_scalar::content::content;
 use yf_block_scalar::header::Chomp;
 use yf_block_scalar::header_reader::HeaderLine;
 use yf_block_scalar::lines::Lines;
+use yf_comments::comment::Comment;
 use yf_events::event::{NewEvent, PlacedEvent, ScalarStyle, Span};
 use yf_events::part::Part;
 use yf_events::slices::Slices;
@@ -34,8 +43,13 @@ pub(crate) fn take_block_scalar<'a>(
 ) -> Result<Step, AllocError>
     requires boundary { IsCharBoundary scope.text.now at }
     requires progress { ProgressAt scope.text.now progress.old }
+    ensures tied { (d : ℕ) → (root : BlockTask) → (before : Part)
+        → AtScalar scope.entry.text.now d root before (reverse frames.now.items) lead.now least at progress.old part.old
+        → IfOk result (λ s. BlockTied scope.entry.text.now d root before (reverse frames.now.items) s progress.new part.new) }
     ensures stepped { IfOk result (λ s. Stepped scope.entry.text.now at 0 progress.new s) }
     ensures escapes { IfOk result (λ _. part.new.escapes ≡ part.old.escapes) }
+    ensures counted { (limit : ℕ) → (total : ℕ) → (count : ℕ) → count + openers_from scope.entry.text.now at ≤ total
+        → IfOk result (λ s. StepCounted scope.entry.text.now limit total count s) }
 {
     match read_header(scope.text, at) {
         None => Ok(Step::Failed(at)),
@@ -46,9 +60,7 @@ pub(crate) fn take_block_scalar<'a>(
                 end,
             },
         ) => {
-            if let Some(comment) = comment {
-                part.comments.push(comment)?;
-            }
+            push_comment(comment, part)?;
             match read_lines(alloc, scope.text, end, least, header)? {
                 None => Ok(Step::Failed(end)),
                 Some(block) => take_body(
@@ -57,6 +69,19 @@ pub(crate) fn take_block_scalar<'a>(
             }
         }
     }
+}
+
+// Adds the comment after a header.
+fn push_comment<'a>(comment: Option<Comment<'a>>, part: &mut Part<'a>) -> Result<(), AllocError>
+    ensures events { IfOk result (λ _. part.new.events ≡ part.old.events) }
+    ensures comments { IfOk result (λ _. part.new.comments ≡ part.old.comments ++ row_comments comment.entry) }
+    ensures escapes { IfOk result (λ _. part.new.escapes ≡ part.old.escapes) }
+{
+    match comment {
+        Some(comment) => part.comments.push(comment)?,
+        None => {}
+    }
+    Ok(())
 }
 
 // Adds a block scalar whose lines have been read from an offset on.
@@ -73,8 +98,12 @@ fn take_body<'a>(
     requires boundary { IsCharBoundary text.now at }
     requires next { Place text.now at block.next }
     requires progress { ProgressAt text.now progress.old }
+    ensures tied { (d : ℕ) → (root : BlockTask) → (before : Part)
+        → AtBody text.now d root before (reverse frames.now.items) lead.now at block.entry progress.old part.old
+        → IfOk result (λ s. BlockTied text.now d root before (reverse frames.now.items) s progress.new part.new) }
     ensures stepped { IfOk result (λ s. Stepped text.now at 1 progress.new s) }
     ensures escapes { IfOk result (λ _. part.new.escapes ≡ part.old.escapes) }
+    ensures counted { (limit : ℕ) → (total : ℕ) → (count : ℕ) → count + openers_from text.now at ≤ total → IfOk result (λ s. StepCounted text.now limit total count s) }
 {
     let finish = skip_lines(text, at, reach(&block));
     let next = block.next;
@@ -89,7 +118,9 @@ fn take_body<'a>(
 }
 
 // How many lines after its header a scalar reaches: to its last content line, or through its kept tail.
-fn reach(block: &BlockText) -> usize {
+fn reach(block: &BlockText) -> usize
+    ensures { length block.now.lines + block.now.tail < 2 ^ 64 → result ≡ reach_of block.now.header.chomp (length block.now.lines) block.now.tail }
+{
     match block.header.chomp {
         Chomp::Strip | Chomp::Clip => block.lines.len(),
         Chomp::Keep => block.lines.len().saturating_add(block.tail),
@@ -102,16 +133,14 @@ fn placed_scalar<'a>(
     lead: &Lead<'a>,
     block: &BlockText<'a>,
     finish: usize,
-) -> Result<PlacedEvent<'a>, AllocError> {
+) -> Result<PlacedEvent<'a>, AllocError>
+    ensures { IfOk result (λ e. placed_value e ≡ scalar_event lead.now block.now finish) }
+{
     let text = match content(alloc, block) {
         Ok(text) => Text::Owned(OwnedText::new(text)),
         Err(_refused) => return Err(AllocError),
     };
-    let style = if block.header.folded {
-        ScalarStyle::Folded
-    } else {
-        ScalarStyle::Literal
-    };
+    let style = style_of(block.header.folded);
     let folded = kept_lines(alloc, block.header.folded, &block.lines)?;
     Ok(PlacedEvent {
         event: NewEvent::Scalar {
@@ -129,17 +158,25 @@ fn placed_scalar<'a>(
     })
 }
 
-// The lines that are kept of a folded scalar.
-fn kept_lines<'a>(
-    alloc: Global,
-    folded: bool,
-    lines: &Lines<'a>,
-) -> Result<Slices<'a>, AllocError> {
-    let mut kept = Slices::new(alloc);
+fn style_of(folded: bool) -> ScalarStyle
+    ensures { result ≡ style_by folded }
+{
     if folded {
-        for line in lines.as_slice() {
-            kept.push(line)?;
-        }
+        return ScalarStyle::Folded;
+    }
+    ScalarStyle::Literal
+}
+
+// The lines that are kept of a folded scalar.
+fn kept_lines<'a>(alloc: Global, folded: bool, lines: &Lines<'a>) -> Result<Slices<'a>, AllocError>
+    ensures { IfOk result (λ s. s ≡ kept_of folded lines.now) }
+{
+    let mut kept = Slices::new(alloc);
+    if !folded {
+        return Ok(kept);
+    }
+    for line in lines.as_slice() {
+        kept.push(line)?;
     }
     Ok(kept)
 }

@@ -58,6 +58,9 @@ opener_at {t} i x u l e c =
     let b = byte_from_code t i u (omega (arith, c)) in
     opener_byte t i b.0 (ap is_opener (b.1 ∙ c) ∙ e)
 
+pub dash_opens : {t : List ℕ} (i : ℕ) → IsUtf8 t → code t i ≡ 45 → openers_from t i ≡ suc (openers_from t (i + 1))
+dash_opens i u c = opener_at i 45 u (omega arith) refl c
+
 pub question_opens : {t : List ℕ} (i : ℕ) → IsUtf8 t → code t i ≡ 63 → openers_from t i ≡ suc (openers_from t (i + 1))
 question_opens i u c = opener_at i 63 u (omega arith) refl c
 

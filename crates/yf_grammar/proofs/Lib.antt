@@ -129,6 +129,7 @@ pub mod PrefixNodes
 pub mod PrefixEnds
 pub mod PrefixNotes
 pub mod PrefixWhole
+pub mod WholeLast
 -- what is written is read again (the laws of layouts of yf_emit)
 pub mod LeafBack
 pub mod FlowBack

@@ -233,11 +233,12 @@ fn keeps_places(rt: HostRuntime) -> Result<(), Fail> {
                 end,
                 reached,
                 floor,
+                whole,
             },
         ) => {
             let found = places(rt.alloc(), &part.events)?;
             assert!(rt; found.as_slice() == PLACES.as_slice());
-            assert!(rt; end == 27 && reached == 39 && floor == 14);
+            assert!(rt; end == 27 && reached == 39 && floor == 14 && !whole);
         }
         _ => assert!(rt; false),
     }

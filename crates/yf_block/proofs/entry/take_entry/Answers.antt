@@ -1,15 +1,19 @@
-use Rattle.std.proofs.Common.{◌≡◌, ℕ, ◌+◌, true, Some, None, ◌++◌, ◌∷◌, [], inl, ap, ◌∙◌, arith, refl}
+use Rattle.std.proofs.Common.{◌≡◌, ℕ, ◌+◌, true, Some, None, reverse, ◌++◌, ◌∷◌, [], sym, ap, ◌∙◌, subst, arith, refl, length, inl, inr, ⊎_elim}
 use Rattle.yf_props.specs.Props.{no_props}
 use Rattle.yf_events.specs.Event.{scalar_node}
 use Rattle.yf_events.specs.declared.event.ScalarStyle.TheVariants.{Plain}
 use Rattle.yf_flow.specs.Begun.{entry_event}
 use Rattle.yf_flow.proofs.TiedClose.{popped}
+use Rattle.yf_grammar.specs.Part.{NotedSince}
+use Rattle.yf_grammar.specs.BlockParser.{SignAt}
+use Rattle.yf_block.specs.BlockStepTied.{AtEntry}
 use Rattle.yf_block.specs.BlockTied.{wanted_after}
 use Rattle.yf_block.proofs.TiedNodes.{node_tied, entry_same, floor_blank, colons_below, key_awaited, lone_awaited}
+use Rattle.yf_block.proofs.CountedSteps.{pushed_counted, sign_passed, within_counted}
 use Rattle.yf_block.proofs.entry.take_entry.Goals as goal
 
 pub returns-then-sign_stands-clause-tied : goal.returns-then-sign_stands-clause-tied
-returns-then-sign_stands-clause-tied c = λ d root before r k a.
+returns-then-sign_stands-clause-tied c = λ d root before j r k a.
     let y = c.if-sign_stands.ensures.cases in
     let e = c.entry_at-entry.ensures in
     let n = e.note (λ q. omega (arith, q, y.sign_stands)) (floor_blank a (omega (arith, y.sign_stands))) in
@@ -17,20 +21,51 @@ returns-then-sign_stands-clause-tied c = λ d root before r k a.
     let l = a.shallow in
     let m = a.collection.column in
     let room = colons_below a in
-    let count : c.saturating_add-progress.result ≡ c.args.progress.now.colons + 1 = omega (arith, room, r, c.saturating_add-progress.ensures) in
-    inl (node_tied _ v.step (key_awaited a y k c.len.ensures (popped _ _ _ c.in_ok-push.ensures.ok) n
+    let count : c.saturating_add-progress.result ≡ c.args.progress.now.colons + 1 = omega (arith, room, j, c.saturating_add-progress.ensures) in
+    node_tied _ v.step (key_awaited a y k c.len.ensures (popped _ _ _ c.in_ok-push.ensures.ok) n
     (v.wanted (omega (arith, l, m)) ∙ ap (λ x. wanted_after c.args.frame.column true true (Some x)) (entry_same c.entry_at-entry.result c.args.at None e.start e.colon))
-    v.last v.floor (v.colons ∙ count) v.halt))
+    v.last v.floor (v.colons ∙ count) v.halt)
 
 pub returns-then-sign_stands-2-clause-tied : goal.returns-then-sign_stands-2-clause-tied
-returns-then-sign_stands-2-clause-tied c = λ d root before r k a.
+returns-then-sign_stands-2-clause-tied c = λ d root before j r k a.
     let y = c.if-sign_stands-2.ensures.cases in
     let e = c.entry_at-entry.ensures in
     let n = e.note (λ q. omega (arith, q, y.sign_stands)) (floor_blank a (omega (arith, y.sign_stands))) in
     let v = c.await_value.ensures in
     let l = a.shallow in
     let m = a.collection.column in
-    inl (node_tied _ v.step (lone_awaited a y k (popped _ _ _ c.in_ok-push-2.ensures.ok) n
+    node_tied _ v.step (lone_awaited a y k (popped _ _ _ c.in_ok-push-2.ensures.ok) n
     (c.in_ok-push-3.ensures ∙ ap (λ x. c.args.part.now.events ++ x ∷ []) (c.empty_node.ensures
     ∙ ap (λ (x : ℕ). entry_event (scalar_node no_props Plain []) (Some (record { start = x; colon = Some c.args.at; blank_before = c.entry_at-entry.result.blank_before }))) e.start)) refl refl
-    (v.wanted (omega (arith, l, m))) v.last v.floor v.colons v.halt))
+    (v.wanted (omega (arith, l, m))) v.last v.floor v.colons v.halt)
+
+pub returns-clause-tied : goal.returns-clause-tied
+returns-clause-tied c = λ d root before j r k a.
+    let e = c.entry_at-entry.ensures in
+    let there = a.there in
+    let n = e.note a.outside.apart (λ l. a.read.floor_line (omega (arith, there, l))) in
+    c.take_key.ensures.tied d root before (reverse c.args.frames.now.items) c.args.frame r (record {
+      at = subst (λ (z : ℕ). AtEntry c.args.scope.text.now d root before (reverse c.args.frames.now.items) c.args.frame z c.args.progress.now c.args.part.now) (sym e.start) a;
+      mapping = k;
+      stack = popped _ _ _ c.in_ok-push-2.ensures.ok;
+      column_there = refl;
+      note = subst (λ (z : ℕ). NotedSince c.args.scope.text.now c.args.progress.now.floor z c.entry_at-entry.result.blank_before) (sym e.start) n;
+      no_colon_yet = e.colon;
+      no_question = λ s. c.if-sign_stands.ensures.cases (subst (λ (z : ℕ). SignAt c.args.scope.text.now 63 z) e.start s);
+      no_colon = λ s. c.if-sign_stands-2.ensures.cases (subst (λ (z : ℕ). SignAt c.args.scope.text.now 58 z) e.start s);
+    })
+
+pub returns-then-sign_stands-clause-counted : goal.returns-then-sign_stands-clause-counted
+returns-then-sign_stands-clause-counted c = λ u total q.
+    let y = c.if-sign_stands.ensures.cases in
+    pushed_counted c.args.scope.text.now c.args.scope.limit total _ _ _ _ _ c.await_node.ensures.step c.in_ok-push.ensures.ok (sign_passed _ (length c.args.frames.now.items) total c.args.at u (inl y) (q.signed (inl y)))
+
+pub returns-then-sign_stands-2-clause-counted : goal.returns-then-sign_stands-2-clause-counted
+returns-then-sign_stands-2-clause-counted c = λ u total q.
+    let y = c.if-sign_stands-2.ensures.cases in
+    pushed_counted c.args.scope.text.now c.args.scope.limit total _ _ _ _ _ c.await_value.ensures.step c.in_ok-push-2.ensures.ok (sign_passed _ (length c.args.frames.now.items) total c.args.at u (inr y) (q.signed (inr y)))
+
+pub returns-clause-counted : goal.returns-clause-counted
+returns-clause-counted c = λ u total q.
+    let k = q.keyed (⊎_elim c.if-sign_stands.ensures.cases c.if-sign_stands-2.ensures.cases) in
+    c.take_key.ensures.counted u total (within_counted c.args.scope.text.now total _ _ _ _ _ c.in_ok-push-2.ensures.ok c.entry_at-entry.ensures.start k)

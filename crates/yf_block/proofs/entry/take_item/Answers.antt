@@ -1,4 +1,4 @@
-use Rattle.std.proofs.Common.{true, false, Some, None, inl, ap, ◌∙◌, arith}
+use Rattle.std.proofs.Common.{true, false, Some, None, ap, ◌∙◌, arith}
 use Rattle.yf_flow.proofs.TiedClose.{popped}
 use Rattle.yf_block.specs.BlockTied.{wanted_after}
 use Rattle.yf_block.proofs.TiedNodes.{node_tied, entry_same, floor_blank, item_awaited}
@@ -11,6 +11,6 @@ returns-clause-tied c = λ d root before part y k z a.
     let v = c.await_node.ensures in
     let l = a.shallow in
     let m = a.collection.column in
-    inl (node_tied _ v.step (item_awaited a y k z (popped _ _ _ c.in_ok-push.ensures.ok) n
+    node_tied _ v.step (item_awaited a y k z (popped _ _ _ c.in_ok-push.ensures.ok) n
     (v.wanted (omega (arith, l, m)) ∙ ap (λ x. wanted_after c.args.frame.column true false (Some x)) (entry_same c.entry_at-entry.result c.args.at None e.start e.colon))
-    v.last v.floor v.colons v.halt))
+    v.last v.floor v.colons v.halt)

@@ -1,5 +1,7 @@
-use Rattle.std.proofs.Common.{◌∷◌, ◌++◌, [], refl, ap, ◌∙◌}
+use Rattle.std.proofs.Common.{◌∷◌, ◌++◌, [], refl, ap, ◌∙◌, ◌≤◌, arith}
 use Rattle.yf_block.proofs.InlineLemmas.{alias_found, alias_none, alias_written}
+use Rattle.yf_props.proofs.NameOrder.{alias_forward}
+use Rattle.yf_block.proofs.CountedSteps.{later}
 use Rattle.yf_block.proofs.inline.read_alias.Goals as goal
 
 pub returns-in-None-clause-answers : goal.returns-in-None-clause-answers
@@ -11,3 +13,9 @@ returns-in_ok-push-in-Some-clause-answers c = λ room n.
     let end = c.in-Some.end in
     let e = c.in_ok-push-in-Some.ensures ∙ ap (λ w. c.args.part.now.events ++ w ∷ []) c.placed.ensures in
     rw c.inline_end.ensures (alias_found name end c.in-Some.ensures.reads (alias_written name c.args.at end e refl refl))
+
+pub returns-in_ok-push-in-Some-clause-counted : goal.returns-in_ok-push-in-Some-clause-counted
+returns-in_ok-push-in-Some-clause-counted c = λ limit total q.
+    let f = alias_forward c.in-Some.ensures.reads.derived in
+    let k : c.args.at ≤ c.in-Some.end = omega (arith, f) in
+    rw c.inline_end.ensures (later c.args.text.now c.args.depth total c.args.at c.in-Some.end k q)

@@ -15,3 +15,6 @@ returns-clause-answers c = λ u l room r.
     let fits : SFits w32 c.flow_indentation.result = search rules in
     let e = rw (to_z-of_z fits, c.flow_indentation.ensures.same l) at (c.read_content.ensures.answers u refl room r) in
     IfOk-weaker _ _ _ (λ e f. content_ends room (pos c.args.least) c.args.depth c.args.lead.now c.args.part.now c.read_content.new.part e c.requires.other c.if-stands.ensures.cases f) e
+
+pub returns-in-None-clause-counted : goal.returns-in-None-clause-counted
+returns-in-None-clause-counted c = λ u total q. c.read_alias.ensures.counted c.args.scope.limit total q

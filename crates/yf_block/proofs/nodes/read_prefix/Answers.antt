@@ -1,6 +1,23 @@
-use Rattle.yf_block.proofs.PrefixLemmas.{uncut_boundaries}
+use Rattle.std.proofs.Common.{◌∙◌}
+use Rattle.yf_block.proofs.NodesGiven.{prefix_text, prefix_stops, prefix_given, given_after}
+use Rattle.yf_block.proofs.PrefixLemmas.{prefix_of, uncut_boundaries}
 use Rattle.yf_block.proofs.nodes.read_prefix.Goals as goal
 
 pub returns-clause-escapes : goal.returns-clause-escapes
 returns-clause-escapes c =
     uncut_boundaries _ _ c.args.end _ _ _ c.requires.end c.range.ensures.value c.in_ok-append-3.ensures c.requires.escapes c.in_ok-stopped.ensures.escapes
+
+pub returns-then-not-ends_whole-clause-tied : goal.returns-then-not-ends_whole-clause-tied
+returns-then-not-ends_whole-clause-tied c = λ n ctx j r h.
+    let same = c.range.ensures.value ∙ prefix_of c.args.scope.text.now c.args.end in
+    let text = prefix_text r.text.utf8 r.block c.args.root.least r.least h same r.text.size in
+    let run = c.in_ok-stopped.ensures.tied n ctx j (record { text = text; block = r.block; least = r.least; narrow = r.narrow; out = r.out }) in
+    absurd (c.if-not-ends_whole.ensures (prefix_stops r.text.utf8 r.block c.args.root.least r.least h same run))
+
+pub returns-clause-tied : goal.returns-clause-tied
+returns-clause-tied c = λ n ctx j r h.
+    let same = c.range.ensures.value ∙ prefix_of c.args.scope.text.now c.args.end in
+    let text = prefix_text r.text.utf8 r.block c.args.root.least r.least h same r.text.size in
+    let run = c.in_ok-stopped.ensures.tied n ctx j (record { text = text; block = r.block; least = r.least; narrow = r.narrow; out = r.out }) in
+    given_after c.new.ensures c.new-2.ensures c.new-3.ensures c.in_ok-append.ensures c.in_ok-append-2.ensures c.in_ok-append-3.ensures
+    (prefix_given r.text.utf8 r.block c.args.root.least r.least h same c.if-not-ends_whole.ensures run)

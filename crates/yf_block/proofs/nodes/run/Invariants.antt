@@ -1,6 +1,10 @@
-use Rattle.std.proofs.Common.{length}
+use Rattle.std.proofs.Common.{◌≡◌, ◌^◌, ◌<◌, ℕ, [], length, reverse}
 use Rattle.std.specs.List.{All}
-use Rattle.std.specs.Str.{IsCharBoundary}
+use Rattle.std.specs.Str.{IsCharBoundary, IsUtf8}
+use Rattle.yf_events.specs.declared.part.Part.{Part}
+use Rattle.yf_grammar.specs.BlockParser.{BlockTask}
+use Rattle.yf_block.specs.BlockStepTied.{BlockTied}
+use Rattle.yf_block.specs.Counted.{StepCounted}
 use Rattle.yf_block.specs.Machine.{ProgressAt, StepReady, left}
 use Rattle.yf_block.proofs.nodes.run.Given as goal
 
@@ -9,6 +13,10 @@ invariant-steps l = record {
   progress : ProgressAt l.scope.text.now l.progress;
   ready : StepReady l.scope.text.now 0 l.step;
   escapes : All (IsCharBoundary l.scope.text.now) l.part.escapes;
+  tied : (d : ℕ) (root : BlockTask) (before : Part) → d < 2 ^ 64 → d ≡ l.scope.limit → BlockTied l.scope.text.now d root before [] l.fn.first l.initial.progress l.initial.part
+      → BlockTied l.scope.text.now d root before (reverse l.frames.items) l.step l.progress l.part;
+  counted : IsUtf8 l.scope.text.now → (total : ℕ) → StepCounted l.scope.text.now l.scope.limit total 0 l.fn.first
+      → StepCounted l.scope.text.now l.scope.limit total (length l.frames.items) l.step;
 }
 
 abbrev pub decreases-steps : goal.decreases-steps

@@ -1,5 +1,6 @@
-use Rattle.std.proofs.Common.{refl, sym, ◌∙◌, true≢false}
+use Rattle.std.proofs.Common.{length, refl, sym, ◌∙◌, true≢false, arith}
 use Rattle.yf_flow.proofs.TiedClose.{popped, none_left}
+use Rattle.yf_block.proofs.CountedSteps.{fewer_left}
 use Rattle.yf_block.proofs.TiedResume.{place_tied, top_of, one_ended, all_ended}
 use Rattle.yf_block.proofs.resume.end_collections.Goals as goal
 
@@ -7,6 +8,7 @@ pub frames-preserved : goal.frames-preserved
 frames-preserved c = record {
   progress = let p = c.frames.invariant.progress in record { floor = p.floor; from = p.from; halt = p.halt };
   escapes = c.in_ok-end_collection-in-Behind.ensures.escapes ∙ c.frames.invariant.escapes;
+  fewer = let l = fewer_left _ _ _ (length c.args.frames.now.items) c.in-Some.ensures.items c.frames.invariant.fewer in omega (arith, l);
   tied = λ d root before a.
       let r = c.frames.invariant.tied d root before a in
       let top = top_of r (popped _ _ _ c.in-Some.ensures.items) c.colons_without-progress.ensures refl refl refl in
@@ -25,3 +27,6 @@ returns-in_default-fit-clause-tied c = λ d root before a.
 
 pub returns-clause-tied : goal.returns-clause-tied
 returns-clause-tied c = λ d root before a. all_ended (c.frames.invariant.tied d root before a) (none_left _ (λ l. true≢false (sym (c.in_default.ensures.variant.1 l))))
+
+pub returns-in_default-fit-clause-fewer : goal.returns-in_default-fit-clause-fewer
+returns-in_default-fit-clause-fewer c = fewer_left _ _ _ (length c.args.frames.now.items) c.in-Some.ensures.items c.frames.invariant.fewer

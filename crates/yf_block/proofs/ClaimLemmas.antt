@@ -1,0 +1,74 @@
+-- Whose the properties of lines before are: those of the node on the line, or those of a mapping that begins there.
+use Rattle.std.proofs.Common.{◌≡◌, ◌≢◌, ℕ, List, Option, Some, None, refl, sym, subst}
+use Rattle.yf_chars.specs.Text.{code}
+use Rattle.yf_events.specs.declared.event.Entry as TheEntry
+use Rattle.yf_grammar.specs.BlockParser.{Ahead, Nothing, Indicator, Props, Held as HeldValue, Clash, more_held, both}
+use Rattle.yf_flow.specs.declared.node.Lead.{Lead}
+use Rattle.yf_block.specs.declared.content.Share.{Share}
+use Rattle.yf_block.specs.declared.content.Share.TheVariants.{Nothing as NoShare, Joined, Apart as ApartShare}
+use Rattle.yf_block.specs.declared.held.Held.{Held}
+use Rattle.yf_block.specs.BlockStepTied.{HeldTied, AheadTied, nothing_held, none_held, props_held}
+use Rattle.yf_block.specs.ClaimsTied.{none_more, more_there, two_alike, before_alias, OthersBefore, ShareTied}
+use Rattle.yf_block.specs.HeldAnswers.{line_held, LineProperties, BothHeld, Holds, held_lead, lead_at}
+use Rattle.yf_block.proofs.TiedLeads.{no_held, no_none, same_held}
+
+-- properties on hold are those that stand ahead
+pub held_ahead : {a : Ahead} {outer : Option Held} {held : Held} → AheadTied a outer → outer ≡ Some held → Holds a held
+held_ahead nothing_held q = absurd (no_held q)
+held_ahead none_held q = absurd (no_held q)
+held_ahead (props_held {h = h} t) q = record { value = h; is = refl; tied = subst (λ z. HeldTied h z) (same_held q) t }
+
+no_props_nothing : {h : HeldValue} → Nothing ≡ Props h → ⊥
+no_props_nothing e = cc
+
+no_props_sign : {i : ℕ} {h : HeldValue} → Indicator i ≡ Props h → ⊥
+no_props_sign e = cc
+
+pub none_ahead : {a : Ahead} {outer : Option Held} → AheadTied a outer → outer ≡ None → (h : HeldValue) → a ≡ Props h → ⊥
+none_ahead nothing_held q h e = no_props_nothing e
+none_ahead none_held q h e = no_props_sign e
+none_ahead (props_held t) q h e = no_none q
+
+-- properties of a line as they are joined with those before
+pub line_tied : {t : List ℕ} {p : ℕ} {held : Held} (l : LineProperties t p held) → HeldTied (line_held l.value held.start held.end) held
+line_tied {held = held} l = subst (λ (z : ℕ). HeldTied (line_held l.value z held.end) held) (sym l.tied.start) l.tied
+
+module _ (t : List ℕ) (p at : ℕ) {a : Ahead} {outer : Held} (w : Holds a outer) (entry : Option TheEntry.Entry) where
+  pub share_alias : (inner : Option Held) {lead : Lead} {share : Share} → code t at ≡ 42 → lead ≡ lead_at p inner entry → share ≡ ApartShare → ShareTied t p at a inner entry lead share
+  share_alias inner {lead} c e s = subst (λ z. ShareTied t p at a inner entry lead z) (sym s) (record { before = w.value; is = w.is; other = before_alias c; lead_is = e })
+
+  share_outer : {lead : Lead} {share : Share} → code t at ≢ 42 → lead ≡ held_lead outer entry → share ≡ Joined → ShareTied t p at a None entry lead share
+  share_outer {lead} c e s = subst (λ z. ShareTied t p at a None entry lead z) (sym s) (record { ahead = a; held = outer; joined = none_more; holds = w; lead_is = e; no_alias = c })
+
+  share_both : {held both_held : Held} {lead : Lead} {share : Share} (l : LineProperties t p held) → BothHeld w.value l.value held.end both_held → code t at ≢ 42 → lead ≡ held_lead both_held entry
+      → share ≡ Joined → ShareTied t p at a (Some held) entry lead share
+  share_both {held} {both_held} {lead} l b c e s = subst (λ z. ShareTied t p at a (Some held) entry lead z) (sym s) (record {
+    ahead = both w.value l.value held.end;
+    held = both_held;
+    joined = more_there l (more_held w.is b.apart);
+    holds = record { value = b.value; is = b.is; tied = b.tied };
+    lead_is = e;
+    no_alias = c;
+  })
+
+  share_apart : {held : Held} {lead : Lead} {share : Share} (l : LineProperties t p held) → Clash w.value l.value → lead ≡ lead_at p (Some held) entry → share ≡ ApartShare
+      → ShareTied t p at a (Some held) entry lead share
+  share_apart {held} {lead} l c e s =
+      subst (λ z. ShareTied t p at a (Some held) entry lead z) (sym s) (record { before = w.value; is = w.is; other = two_alike l (record { held = w.value; is = w.is; clash = c }); lead_is = e })
+
+  -- the same of a node that has perhaps properties on its line
+  module _ (inner : Option Held) {lead : Lead} {share : Share} where
+    pub share_of_outer : inner ≡ None → code t at ≢ 42 → lead ≡ held_lead outer entry → share ≡ Joined → ShareTied t p at a inner entry lead share
+    share_of_outer q c e s = subst (λ z. ShareTied t p at a z entry lead share) (sym q) (share_outer c e s)
+
+    pub share_of_both : {held both_held : Held} → inner ≡ Some held → (l : LineProperties t p held) → BothHeld w.value l.value held.end both_held → code t at ≢ 42 → lead ≡ held_lead both_held entry → share ≡ Joined
+        → ShareTied t p at a inner entry lead share
+    share_of_both q l b c e s = subst (λ z. ShareTied t p at a z entry lead share) (sym q) (share_both l b c e s)
+
+    pub share_of_apart : {held : Held} → inner ≡ Some held → (l : LineProperties t p held) → Clash w.value l.value → lead ≡ lead_at p inner entry → share ≡ ApartShare → ShareTied t p at a inner entry lead share
+    share_of_apart q l c e s =
+        subst (λ z. ShareTied t p at a z entry lead share) (sym q) (share_apart l c (subst (λ z. lead ≡ lead_at p z entry) q e) s)
+
+pub share_none : (t : List ℕ) (p at : ℕ) (inner : Option Held) (entry : Option TheEntry.Entry) {a : Ahead} {outer : Option Held} {lead : Lead} → AheadTied a outer → outer ≡ None → lead ≡ lead_at p inner entry
+    → ShareTied t p at a inner entry lead NoShare
+share_none t p at inner entry q n e = record { none = none_ahead q n; lead_is = e }

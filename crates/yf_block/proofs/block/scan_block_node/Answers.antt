@@ -1,0 +1,28 @@
+use Rattle.std.proofs.Common.{refl, to_z-of_z}
+use Rattle.yf_grammar.specs.Refusal.{for_memory}
+use Rattle.yf_block.proofs.NodesGiven.{node_alone, too_deep_given}
+use Rattle.yf_block.proofs.block.scan_block_node.Goals as goal
+
+pub returns-in-Ok-Found-clause-reads : goal.returns-in-Ok-Found-clause-reads
+returns-in-Ok-Found-clause-reads c = λ b i l.
+    let f = rw (c.text.ensures, to_z-of_z c.ranges.n, c.in-Ok-Found.field-0-is) at c.in-Ok-Found.ensures.tied in
+    let place = rw (c.text.ensures, c.in-Ok-Found.field-0-is) at c.in-Ok-Found.ensures.place in
+    let new = c.new_part-part.ensures in
+    record {
+      chosen = node_alone new.events new.comments new.escapes ((f b i l).alone new.events new.comments new.escapes);
+      escape = c.first_escape-escape.ensures;
+      boundary = place.0.boundary;
+    }
+
+pub returns-in-Ok-Nothing-clause-reads : goal.returns-in-Ok-Nothing-clause-reads
+returns-in-Ok-Nothing-clause-reads c = λ b i l.
+    let f = rw (c.text.ensures, to_z-of_z c.ranges.n, c.in-Ok-Nothing.field-0-is) at c.in-Ok-Nothing.ensures.tied in
+    (f b i l).none
+
+pub returns-in-Ok-TooDeep-clause-reads : goal.returns-in-Ok-TooDeep-clause-reads
+returns-in-Ok-TooDeep-clause-reads c = λ b i l.
+    let f = rw (c.text.ensures, to_z-of_z c.ranges.n, c.in-Ok-TooDeep.field-0-is) at c.in-Ok-TooDeep.ensures.tied in
+    too_deep_given (f b i l) (c.in-Ok-TooDeep.offset, c.place.ensures.place)
+
+pub returns-clause-reads : goal.returns-clause-reads
+returns-clause-reads c = λ b i l. for_memory

@@ -1,0 +1,13 @@
+use Rattle.std.proofs.Common.{◌≤◌, length, take, drop, ◌++◌, ◌∷◌, sym, ap, ◌∙◌, subst, arith}
+use Rattle.yf_events.specs.Event.{placed_value}
+use Rattle.yf_block.proofs.ContentMappings.{entry_within, put_there}
+use Rattle.yf_block.proofs.inline.put_before.Goals as goal
+
+pub insert-requires : goal.insert-requires
+insert-requires c =
+    subst (λ z. c.args.event ≤ length z) (sym c.in_ok-set_entry.ensures) (entry_within c.args.part.now.events c.args.event c.args.entry (omega (arith, c.if-event-len.true, c.len.ensures)))
+
+pub returns-then-event-len-clause-events : goal.returns-then-event-len-clause-events
+returns-then-event-len-clause-events c = λ xs x ys e q.
+    c.in_ok-insert.ensures ∙ ap (λ z. take c.args.event z ++ placed_value c.args.start ∷ drop c.args.event z) c.in_ok-set_entry.ensures
+    ∙ put_there (placed_value c.args.start) c.args.entry xs x ys e q

@@ -1,0 +1,148 @@
+-- A node on its line where no collection begins with a sign: before its properties, behind them, and once a flow node has been read.
+use Rattle.std.specs.Prelude.{◌≡◌, ℕ, ◌<◌, ◌≤◌, ℤ, pos, ◌+ℤ◌, Bool, true, false, List, [], ◌∷◌, ◌++◌, length, Option, Some, None, ◌⊎◌}
+use Rattle.yf_chars.specs.declared.context.Ctx.TheVariants.{FlowOut, FlowKey}
+use Rattle.yf_chars.specs.Text.{code}
+use Rattle.yf_chars.specs.Class.{is_white}
+use Rattle.yf_chars.specs.Chain.{Stuck, Many}
+use Rattle.yf_comments.specs.Comment.{CommentValue}
+use Rattle.yf_comments.specs.Comments.{LineEnd}
+use Rattle.yf_props.specs.Names.{Properties}
+use Rattle.yf_props.specs.Props.{props_value}
+use Rattle.yf_events.specs.Event.{Placed}
+use Rattle.yf_events.specs.declared.event.Entry as TheEntry
+use Rattle.yf_events.specs.declared.part.Part.{Part}
+use Rattle.yf_grammar.specs.BlockParser.{Ahead, NoSign, Columns, BlockTask, MayLeaf, Leaf, headed}
+use Rattle.yf_grammar.specs.BlockScalar.{BlockScalar}
+use Rattle.yf_grammar.specs.BlockStack.{Layer}
+use Rattle.yf_grammar.specs.BlockStates.{NodeAt}
+use Rattle.yf_grammar.specs.Meaning.{◌⊕◌, behind}
+use Rattle.yf_grammar.specs.Parser.{Found, ANode, Parses, begins_plain}
+use Rattle.yf_flow.specs.declared.frame.Node.{Node}
+use Rattle.yf_flow.specs.declared.node.Lead.{Lead}
+use Rattle.yf_block.specs.declared.content.Behind.{Behind}
+use Rattle.yf_block.specs.declared.content.Claim.{Claim}
+use Rattle.yf_block.specs.declared.content.Share.TheVariants.{Joined}
+use Rattle.yf_block.specs.declared.frame.Frame.{Frame}
+use Rattle.yf_block.specs.declared.frame.Progress.{Progress}
+use Rattle.yf_block.specs.declared.frame.Wanted.{Wanted}
+use Rattle.yf_block.specs.declared.halt.Counts.{Counts}
+use Rattle.yf_block.specs.declared.held.Held.{Held}
+use Rattle.yf_block.specs.BlockTied.{layers_entry, begins, ahead_props, ahead_tag, ahead_start, all_written, ReadTied, StackTied}
+use Rattle.yf_block.specs.BlockStepTied.{AtFailed}
+use Rattle.yf_block.specs.ClaimsTied.{ShareTied}
+use Rattle.yf_block.specs.HeldAnswers.{LineProperties, PlaceBehind, lead_at}
+use Rattle.yf_block.specs.InlineAnswers.{InlineRead, InlineLost, KeyEnds}
+use Rattle.yf_block.specs.InlineTied.{AtStart}
+use Rattle.yf_block.specs.LastStarts.{NoStart}
+use Rattle.yf_block.specs.Looks.{LineEndsAt}
+
+-- no collection begins there with a sign, but a mapping may begin at the column
+pub record AtContent (t : List ℕ) (d : ℕ) (root : BlockTask) (before : Part) (frames : List Frame) (p : ℕ) (column : Option ℕ) (progress : Progress) (part : Part) : Type 0 where
+  pub cols : Columns
+  pub start : AtStart t d root before frames cols p progress part
+  pub column_is : cols.mapping ≡ column
+  pub signless : NoSign t cols p
+
+-- properties on the line, or none, and where the text of the node stands behind them
+pub data TextBehind (t : List ℕ) (p : ℕ) : Option Held → ℕ → Type 0 where
+  text_alone : Stuck (Properties t (pos 0) FlowKey p) → TextBehind t p None p
+  text_held : {held : Held} {at : ℕ} → LineProperties t p held → Stuck (LineEnd t held.end) → PlaceBehind t held.end at → TextBehind t p (Some held) at
+
+-- behind white space the line ends, or a comment stands there
+pub record EndsBehind (t : List ℕ) (g place : ℕ) : Type 0 where
+  pub whites : List ℕ
+  pub run : Many t is_white g place whites
+  pub no_white : is_white (code t place) ≡ false
+  pub comment : Bool
+  pub ends : LineEndsAt t comment place
+
+pub record AtBehind (t : List ℕ) (d : ℕ) (root : BlockTask) (before : Part) (frames : List Frame) (b : Behind) (progress : Progress) (part : Part) : Type 0 where
+  pub content : AtContent t d root before frames b.spot.at b.spot.column progress part
+  pub text : TextBehind t b.spot.at b.inner b.at
+
+-- so much a part has
+pub record CountsOf (part : Part) (counts : Counts) : Type 0 where
+  pub events : counts.events ≡ length part.events
+  pub comments : counts.comments ≡ length part.comments
+  pub escapes : counts.escapes ≡ length part.escapes
+
+-- the header of a block scalar
+abbrev pub ScalarSignAt : List ℕ → ℕ → Type 0
+ScalarSignAt t p = (code t p ≡ 124) ⊎ (code t p ≡ 62)
+
+-- a flow node, or an empty key, was read behind the properties, with what was known of it, after what the earlier part had
+pub record AtInline (t : List ℕ) (d : ℕ) (root : BlockTask) (before : Part) (frames : List Frame) (depth : ℕ) (b : Behind) (claim : Claim) (node : Node) (progress : Progress) (earlier now : Part) : Type 0 where
+  pub there : AtBehind t d root before frames b progress earlier
+  pub share : ShareTied t b.spot.at b.at there.content.start.ahead b.inner progress.wanted.entry claim.lead claim.share
+  pub counts : CountsOf earlier claim.before
+  pub depth_is : depth ≡ length frames
+  pub read : InlineRead t there.content.start.room (pos progress.wanted.least) b.at depth b.inner claim.lead earlier now node
+  pub no_scalar : ScalarSignAt t b.at → ⊥
+
+-- it is the first key of a mapping at that column, with its `:` at the other place, and its collections may be open
+pub record AtFirstKey (t : List ℕ) (d : ℕ) (root : BlockTask) (before : Part) (frames : List Frame) (depth : ℕ) (b : Behind) (claim : Claim) (column colon : ℕ) (progress : Progress) (earlier now : Part) : Type 0 where
+  pub node : Node
+  pub inline : AtInline t d root before frames depth b claim node progress earlier now
+  pub column_is : b.spot.column ≡ Some column
+  pub whites : List ℕ
+  pub run : Many t is_white node.end colon whites
+  pub ends : KeyEnds t b.spot.at colon
+  pub within : node.deepest < d
+  pub open_there : depth < d
+
+-- what is known of a node is what stands ahead of it, if its text begins at the place
+pub record LeadTied (a : Ahead) (p : ℕ) (lead : Lead) : Type 0 where
+  pub start : lead.start ≡ ahead_start a p
+  pub props : props_value lead.props ≡ ahead_props a
+  pub tag : lead.tag_offset ≡ ahead_tag a
+
+-- where it is known of a node that it begins at a place, it is a plain scalar; or an alias, within which no line ends
+pub data PlainIs (t : List ℕ) (place end : ℕ) (plain : Option ℕ) : Type 0 where
+  plain_known : begins_plain (code t place) ≡ true → plain ≡ Some place → PlainIs t place end plain
+  other_known : begins_plain (code t place) ≡ false → ((q : ℕ) → plain ≡ Some q → NoStart t q end) → PlainIs t place end plain
+
+-- a flow node without properties of its own was read, which ends at the offset and may be what is awaited if the line ends behind it
+pub record AtLeaf (t : List ℕ) (d : ℕ) (root : BlockTask) (before : Part) (frames : List Frame) (plain : Option ℕ) (p : ℕ) (progress : Progress) (part : Part) : Type 0 where
+  pub layers : List Layer
+  pub room : ℕ
+  pub comments : List CommentValue
+  pub indentation : ℤ
+  pub ahead : Ahead
+  pub place : ℕ
+  pub answer : Found
+  pub halt : Option Found
+  pub node : NodeAt t d root layers room comments (Leaf indentation ahead place) halt
+  pub no_scalar : Stuck (BlockScalar t indentation place)
+  pub may : MayLeaf t ahead place
+  pub parsed : Parses t room (ANode (indentation +ℤ pos 1) FlowOut place) (Some answer)
+  pub end : answer.end ≡ p
+  pub known : PlainIs t place p plain
+  pub last : progress.last ≡ answer.meaning.finish
+  pub past : progress.floor ≤ p
+  pub stack : StackTied (length before.events) layers frames progress halt
+  pub read : ReadTied t before (all_written layers ⊕ begins (layers_entry layers) (behind comments (headed ahead answer.meaning))) progress part
+
+-- a leaf, or an empty key that is none, behind which the line goes on
+pub data LeafEnding (t : List ℕ) (d : ℕ) (root : BlockTask) (before : Part) (frames : List Frame) (plain : Option ℕ) (p : ℕ) (progress : Progress) (part : Part) : Type 0 where
+  leaf_ends : AtLeaf t d root before frames plain p progress part → LeafEnding t d root before frames plain p progress part
+  line_goes_on : Stuck (LineEnd t p) → ((q : ℕ) → plain ≡ Some q → NoStart t q p) → AtFailed t d root progress → LeafEnding t d root before frames plain p progress part
+
+-- the key of a mapping that begins there is read, after the event that begins the mapping
+pub record KeyAgain (t : List ℕ) (room : ℕ) (n : ℤ) (depth : ℕ) (b : Behind) (entry : TheEntry.Entry) (start : Placed) (earlier new : Part) : Type 0 where
+  pub opened : Part
+  pub node : Node
+  pub events : opened.events ≡ earlier.events ++ start ∷ []
+  pub comments : opened.comments ≡ earlier.comments
+  pub escapes : opened.escapes ≡ earlier.escapes
+  pub read : InlineRead t room n b.at depth b.inner (lead_at b.spot.at b.inner (Some entry)) opened new node
+
+pub data KeyOrLost (t : List ℕ) (room : ℕ) (n : ℤ) (depth : ℕ) (b : Behind) (entry : TheEntry.Entry) (start : Placed) (earlier new : Part) : Type 0 where
+  key_again : KeyAgain t room n depth b entry start earlier new → KeyOrLost t room n depth b entry start earlier new
+  key_lost : InlineLost t room n b.at b.inner → KeyOrLost t room n depth b entry start earlier new
+
+-- it was read after what the earlier part had, with what is known of the node on its line, unless all properties are those of a node
+pub record KeyRead (t : List ℕ) (room : ℕ) (n : ℤ) (depth : ℕ) (b : Behind) (claim : Claim) (wanted : Wanted) (earlier old : Part) : Type 0 where
+  pub node : Node
+  pub counts : CountsOf earlier claim.before
+  pub lead_is : (claim.share ≡ Joined → ⊥) → claim.lead ≡ lead_at b.spot.at b.inner wanted.entry
+  pub read : InlineRead t room n b.at depth b.inner claim.lead earlier old node

@@ -1,0 +1,58 @@
+-- A node that is awaited on a line: its first character stands at the place. And what is written where a collection begins there.
+use Rattle.std.specs.Prelude.{◌≡◌, ℕ, ◌≤◌, ℤ, Bool, true, false, List, ◌++◌, length, Option, Some, None, ◌⊎◌}
+use Rattle.yf_chars.specs.declared.context.Ctx.{Ctx}
+use Rattle.yf_chars.specs.Text.{code}
+use Rattle.yf_chars.specs.Class.{is_white}
+use Rattle.yf_comments.specs.Comment.{CommentValue}
+use Rattle.yf_props.specs.Props.{props_value}
+use Rattle.yf_events.specs.Event.{Placed}
+use Rattle.yf_events.specs.declared.part.Part.{Part}
+use Rattle.yf_grammar.specs.Meaning.{◌⊕◌, start_of, event_with}
+use Rattle.yf_grammar.specs.Parser.{Found, only}
+use Rattle.yf_grammar.specs.BlockParser.{Ahead, SignAt, Columns, BlockTask, Inline}
+use Rattle.yf_grammar.specs.BlockStack.{Layer}
+use Rattle.yf_grammar.specs.BlockStates.{NodeAt, AllWithin}
+use Rattle.yf_flow.specs.Begun.{lead_event}
+use Rattle.yf_block.specs.declared.frame.Frame.{Frame}
+use Rattle.yf_block.specs.declared.frame.Kind.{Kind}
+use Rattle.yf_block.specs.declared.frame.Kind.TheVariants.{Sequence, Mapping}
+use Rattle.yf_block.specs.declared.frame.Progress.{Progress}
+use Rattle.yf_block.specs.declared.frame.Wanted.{Wanted}
+use Rattle.yf_block.specs.HeldAnswers.{lead_at}
+use Rattle.yf_block.specs.BlockTied.{ahead_comments, all_written, ReadTied, StackTied}
+use Rattle.yf_block.specs.BlockStepTied.{WantedTied}
+
+-- a collection may begin there at a column
+pub record ColumnTied (ls : List Layer) (p : ℕ) (column : Option ℕ) : Type 0 where
+  pub shallow : (m : ℕ) → column ≡ Some m → m ≤ p
+  pub within : (m : ℕ) → column ≡ Some m → AllWithin m ls
+
+pub record AtStart (t : List ℕ) (d : ℕ) (root : BlockTask) (before : Part) (frames : List Frame) (cols : Columns) (p : ℕ) (progress : Progress) (part : Part) : Type 0 where
+  pub layers : List Layer
+  pub room : ℕ
+  pub comments : List CommentValue
+  pub indentation : ℤ
+  pub context : Ctx
+  pub ahead : Ahead
+  pub halt : Option Found
+  pub node : NodeAt t d root layers room comments (Inline indentation context cols ahead p) halt
+  pub wanted : WantedTied t progress.floor layers indentation context ahead progress.wanted
+  pub sequence : ColumnTied layers p cols.sequence
+  pub mapping : ColumnTied layers p cols.mapping
+  pub no_white : is_white (code t p) ≡ false
+  pub past : progress.floor ≤ p
+  pub stack : StackTied (length before.events) layers frames progress halt
+  pub read : ReadTied t before (all_written layers ⊕ only (comments ++ ahead_comments ahead) 0) progress part
+
+-- the event that begins a collection there
+abbrev pub is_sequence : Kind → Bool
+is_sequence Sequence = true
+is_sequence Mapping = false
+
+abbrev pub started : Kind → ℕ → Wanted → Placed
+started kind at wanted =
+    lead_event (lead_at at wanted.outer wanted.entry) (event_with (props_value (lead_at at wanted.outer wanted.entry).props) (start_of (is_sequence kind) false)) at
+
+-- the `?` or the `:` of an entry stands there
+abbrev pub EntrySignAt : List ℕ → ℕ → Type 0
+EntrySignAt t p = SignAt t 63 p ⊎ SignAt t 58 p

@@ -1,0 +1,73 @@
+-- What a run of the reader of block nodes gives, from its first step until it stops, in terms of the recursive reader.
+use Rattle.std.specs.Prelude.{◌≡◌, ℕ, ◌<◌, ◌≤◌, ◌^◌, ℤ, pos, ◌+ℤ◌, true, List, [], Option, Some}
+use Rattle.yf_chars.specs.declared.context.Ctx.{Ctx}
+use Rattle.yf_lines.specs.Basic.{is_block}
+use Rattle.yf_events.specs.declared.part.Part.{Part}
+use Rattle.yf_grammar.specs.Parser.{Found}
+use Rattle.yf_grammar.specs.BlockParser.{BlockTask, Whole}
+use Rattle.yf_grammar.specs.Halts.{Halts}
+use Rattle.yf_block.specs.declared.frame.Progress.{Progress}
+use Rattle.yf_block.specs.declared.nodes.Outcome.{Outcome}
+use Rattle.yf_block.specs.declared.nodes.Outcome.TheVariants.{Nothing as NoNode, TooDeep as TooDeepHere}
+use Rattle.yf_block.specs.declared.nodes.Root.{Root}
+use Rattle.yf_block.specs.declared.nodes.Stop.{Stop}
+use Rattle.yf_block.specs.declared.nodes.Stop.TheVariants.{Done, Failed, TooDeep}
+use Rattle.yf_block.specs.declared.nodes.Stopped.{Stopped}
+use Rattle.yf_block.specs.BlockTied.{floor_after, Written, halt_end, TextTied}
+use Rattle.yf_block.specs.BlockStepTied.{is_out, Unfinished, AtDone, AtFailed}
+
+abbrev pub StopTied : List ℕ → ℕ → BlockTask → Part → Stop → Progress → Part → Type 0
+StopTied t d root before (Done p) progress part = AtDone t d root before p progress part
+StopTied t d root before (Failed p) progress part = AtFailed t d root progress
+StopTied t d root before (TooDeep p) progress part = AtFailed t d root progress
+
+abbrev pub StopCounted : ℕ → ℕ → Stop → Type 0
+StopCounted limit total (Done p) = Unit {0}
+StopCounted limit total (Failed p) = Unit {0}
+StopCounted limit total (TooDeep p) = limit < total
+
+-- what is told where no node ends
+abbrev pub StopsAs : Stop → Outcome → Type 0
+StopsAs (Done p) o = o ≡ NoNode p
+StopsAs (Failed p) o = o ≡ NoNode p
+StopsAs (TooDeep p) o = o ≡ TooDeepHere p
+
+-- the outermost node has been read, and ends there
+pub record RunDone (t : List ℕ) (d : ℕ) (root : BlockTask) (before : Part) (p : ℕ) (r : Stopped) (part : Part) : Type 0 where
+  pub answer : Found
+  pub halt : Option Found
+  pub whole : Whole t d root (Some answer)
+  pub halts : Halts t d [] root halt
+  pub end : answer.end ≡ p
+  pub halted : r.halt ≡ halt_end halt
+  pub floor : r.floor ≡ floor_after 0 answer.meaning.events
+  pub written : Written t before answer.meaning part
+
+-- the text goes wrong
+pub record RunBroken (t : List ℕ) (d : ℕ) (root : BlockTask) (r : Stopped) : Type 0 where
+  pub halt : Option Found
+  pub unfinished : Unfinished t d root
+  pub halts : Halts t d [] root halt
+  pub halted : r.halt ≡ halt_end halt
+
+abbrev pub StopGives : List ℕ → ℕ → BlockTask → Part → Stop → Stopped → Part → Type 0
+StopGives t d root before (Done p) r part = RunDone t d root before p r part
+StopGives t d root before (Failed p) r part = RunBroken t d root r
+StopGives t d root before (TooDeep p) r part = RunBroken t d root r
+
+pub record RunTied (t : List ℕ) (d : ℕ) (root : BlockTask) (before : Part) (r : Stopped) (part : Part) : Type 0 where
+  pub gives : StopGives t d root before r.stop r part
+
+-- what is read: a node in an indentation and a context of block nodes
+pub record ReadRoot (t : List ℕ) (root : Root) (n : ℤ) (c : Ctx) : Type 0 where
+  pub text : TextTied t
+  pub block : is_block c ≡ true
+  pub least : pos root.least ≡ n +ℤ pos 1
+  pub narrow : root.least ≤ 2 ^ 30
+  pub out : root.out ≡ is_out c
+
+-- the last place at which all open nodes may end
+pub record HaltAt (t : List ℕ) (d : ℕ) (root : BlockTask) (end : ℕ) : Type 0 where
+  pub found : Found
+  pub halts : Halts t d [] root (Some found)
+  pub ends : found.end ≡ end
