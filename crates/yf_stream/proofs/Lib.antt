@@ -55,6 +55,7 @@ pub mod CommentLines
 pub mod PassDocuments
 pub mod ReadingMade
 pub mod MadeReadings
+pub mod DerivedFaults
 pub mod CommentTexts
 pub mod DirectiveLaws
 pub mod DirectiveLineLemmas

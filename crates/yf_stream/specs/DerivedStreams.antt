@@ -1,5 +1,8 @@
 -- What the reader of all documents answers: the one shape of the text, or that it has none.
-use Rattle.std.specs.Prelude.{ℕ, ◌<◌, List, Option, MatchOption}
+use Rattle.std.specs.Prelude.{ℕ, ◌<◌, List, Option, Result, MatchOption, MatchResult}
+use Rattle.yf_lines.specs.declared.fault.Fault.{Fault}
+use Rattle.yf_lines.specs.declared.fault.Fault.TheVariants as Faults
+use Rattle.yf_events.specs.declared.lists.Lists.{Lists}
 use Rattle.yf_events.specs.declared.reading.TheConstants.{DEPTH}
 use Rattle.yf_grammar.specs.Refusal.{openers}
 use Rattle.yf_stream.specs.Stream.{Documents}
@@ -21,3 +24,22 @@ NotDerived t (Refusals.Breach b) = ⊥
 
 abbrev pub ShapeOr : List ℕ → Option Refusal → Type 0
 ShapeOr t o = MatchOption o (HasShape t) (NotDerived t)
+
+-- a breach is told of only where a stream is derived, and lists are given only there
+abbrev pub RefusalDerived : List ℕ → Refusal → Type 0
+RefusalDerived t (Refusals.Breach b) = HasShape t
+RefusalDerived t (Refusals.Syntax offset) = NoStream t
+RefusalDerived t (Refusals.TooDeep offset) = NoStream t × (DEPTH < openers t)
+
+abbrev pub ListsDerived : List ℕ → Result Lists Refusal → Type 0
+ListsDerived t r = MatchResult r (λ lists. HasShape t) (RefusalDerived t)
+
+-- so are the faults: the text is refused as no stream, or as too deep, only where none is derived, and for other causes but memory only where one is
+abbrev pub FaultDerived : List ℕ → Fault → Type 0
+FaultDerived t Faults.Memory = Unit {0}
+FaultDerived t (Faults.Syntax place what) = NoStream t
+FaultDerived t (Faults.TooDeep place) = NoStream t × (DEPTH < openers t)
+FaultDerived t _ = HasShape t
+
+abbrev pub StreamDerived : List ℕ → Result Lists Fault → Type 0
+StreamDerived t r = MatchResult r (λ lists. HasShape t) (FaultDerived t)
