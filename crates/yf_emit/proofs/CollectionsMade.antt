@@ -15,6 +15,7 @@ use Rattle.yf_grammar.specs.Grammar.{least_column}
 use Rattle.yf_grammar.specs.Meaning.{Meaning, behind, collection, with_props}
 use Rattle.yf_grammar.specs.Meant.{Meant, tall}
 use Rattle.yf_grammar.proofs.CommentOrder.{end_ascends}
+use Rattle.yf_grammar.proofs.NodesBehind.{properties_behind}
 use Rattle.yf_grammar.proofs.MeantLemmas.{meant_behind, texts_behind, texts_collection, texts_with_props}
 use Rattle.yf_emit.specs.declared.style.Style.{Style}
 use Rattle.yf_emit.specs.Carried.{AreDecos, carried_texts, Calm}
@@ -24,6 +25,7 @@ use Rattle.yf_emit.specs.OneLine.{spaced, anchor_text, tag_text, props_text}
 use Rattle.yf_emit.specs.Rows.{Row, before_node, plain_row, props_row, is_empty_text, begins_below}
 use Rattle.yf_emit.specs.Steps.{leaf_steps, comment_steps, steps_in}
 use Rattle.yf_emit.proofs.EntriesMade.{Begins, begins, EntriesMakes, lines_begin}
+use Rattle.yf_emit.proofs.HeldLemmas.{held_behind, held_collection, held_collection_with, row_ended}
 use Rattle.yf_emit.proofs.NodePlaces.{NodeAt, entries_at, propertied_at}
 use Rattle.yf_emit.proofs.NodesMade.{Stood, NodeMade, Claim, some_rows}
 use Rattle.yf_emit.proofs.RowEnds.{row_end, end_follows, first_deco, after_decos}
@@ -82,7 +84,7 @@ pub bare_claim : {s : Style} {x : Node} {spot : Spot} {es : List Row} {sequence 
 bare_claim {s} {x} {spot} {es} {sequence} {bound} {Q} below kind high meant e = claim e.starts e where
   made : {rs : List Row} → EntriesMakes sequence spot.entries bound Q rs → {t : List ℕ} (n : ℤ) (c : Ctx) (ds : List Deco) (r : List ℕ) (q : ℕ) → IsUtf8 t → Stood s x n c spot → AreDecos ds
       → Calm rs ds r → Rest t q (inline_then rs ds r) → NodeMade t n c spot.entries x rs ds q r
-  made e {t} n c ds r q u stood a k w =
+  made {rs} e {t} n c ds r q u stood a k w =
       let one = e.made ds r q u a k w in
       let low : one.height ≤ bound = one.low in
       record {
@@ -96,6 +98,7 @@ bare_claim {s} {x} {spot} {es} {sequence} {bound} {Q} below kind high meant e = 
         meant = meant q one.meaning.finish one.meaning one.meant;
         is = texts_collection sequence false q one.meaning.finish one.meaning ∙ one.is;
         laid = laid_collection sequence false q one.meaning.finish one.meaning one.laid;
+        held = held_collection sequence false q one.meaning.finish one.meaning rs ds r one.held;
       }
 
   claim : {rs : List Row} → Begins spot.entries rs → EntriesMakes sequence spot.entries bound Q rs → Claim s x spot rs
@@ -137,6 +140,9 @@ module _ {s : Style} {x : Node} {spot : Spot} {es : List Row} {sequence : Bool} 
         laid = subst (λ z. MeaningLaid q one.place (behind end.comments (with_props p offset q g inner)) (leaf_steps z ++ (comment_steps (carried_texts (first ds)) ++ steps_in es (after ds)))) (sym none)
             (laid_after (omega arith) (laid_behind end.comments (with_props p offset q g inner) (end_ascends end.end) end.is (omega arith)
             (laid_collection_with p offset q g sequence false (end.place + spot.entries) one.meaning.finish one.meaning one.laid)));
+        held = held_behind end.comments (with_props p offset q g inner) row es ds r body
+            (row_ended (first ds) (lines_then es (after ds) r) u (properties_behind u properties) (first_deco a) after_props.rest end.end)
+            (held_collection_with p offset q g sequence false (end.place + spot.entries) one.meaning.finish one.meaning es (after ds) r one.held);
       }
 
   propertied_row : (w : List ℕ) → w ≡ props_bytes p → is_empty_text w ≡ false → Claim s x spot (props_row spot.column w ++ es)

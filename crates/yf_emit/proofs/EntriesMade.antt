@@ -20,6 +20,7 @@ use Rattle.yf_emit.specs.Normal.{Spot}
 use Rattle.yf_emit.specs.Rows.{Row, joined}
 use Rattle.yf_emit.specs.Steps.{steps_in}
 use Rattle.yf_emit.proofs.DecoratedLemmas.{inline_append}
+use Rattle.yf_emit.proofs.HeldLemmas.{Held, held_both, held_entering}
 use Rattle.yf_emit.proofs.LaidRows.{steps_append}
 use Rattle.yf_emit.proofs.NodesMade.{Stood, Claim, no_row, some_rows, sign_row, sign_made}
 use Rattle.yf_emit.proofs.RowEnds.{past_decos, comments_append, calm_append}
@@ -41,6 +42,7 @@ pub record EntryMade (sequence : Bool) (column bound : ℕ) (P : Meaning → Typ
   pub meant : P meaning
   pub is : texts meaning.comments ≡ comments_in rs ds
   pub laid : MeaningLaid q place meaning (steps_in rs ds)
+  pub held : Held t meaning rs ds r
 
 pub record EntryMakes (sequence : Bool) (column bound : ℕ) (P : Meaning → Type 0) (rs : List Row) : Type 0 where
   pub starts : Begins column rs
@@ -58,6 +60,7 @@ pub record EntriesMade (sequence : Bool) (column bound : ℕ) (P : Meaning → T
   pub meant : P meaning
   pub is : texts meaning.comments ≡ comments_in rs ds
   pub laid : MeaningLaid q place meaning (steps_in rs ds)
+  pub held : Held t meaning rs ds r
 
 pub record EntriesMakes (sequence : Bool) (column bound : ℕ) (P : Meaning → Type 0) (rs : List Row) : Type 0 where
   pub starts : Begins column rs
@@ -101,6 +104,7 @@ entries_last {sequence} {column} {bound} {P} {Q} {rs} f e = subst (λ z. Entries
         meant = f one.meaning one.meant;
         is = one.is;
         laid = one.laid;
+        held = one.held;
       }
 
 pub entries_more : {sequence : Bool} {column bound least : ℕ} {P Q S : Meaning → Type 0} {rs ls : List Row} → ((m n : Meaning) → P m → Q n → S (m ⊕ n))
@@ -127,6 +131,7 @@ entries_more {sequence} {column} {bound} {least} {P} {Q} {S} {rs} {ls} f e o = r
         is = texts_both one.meaning more.meaning ∙ (ap (λ z. z ++ texts more.meaning.comments) one.is
             ∙ (ap (λ z. comments_in rs ds ++ z) more.is ∙ sym (comments_append rs ls ds)));
         laid = subst (λ z. MeaningLaid q more.place (one.meaning ⊕ more.meaning) z) (sym (steps_append rs ls ds)) (laid_both one.meaning more.meaning one.laid more.laid (omega arith));
+        held = held_both one.meaning more.meaning rs ls ds r one.held more.held;
       }
 
 -- An item after its `-`.
@@ -173,6 +178,7 @@ item_makes {s} {x} {spot} {rs} column items blank wide e stood k = record { star
         meant = meant_entering q None one.meant;
         is = texts_entering q None one.meaning ∙ one.is;
         laid = laid_entering q None one.meaning one.laid;
+        held = held_entering q None one.meaning (joined (sign_row column 45 items blank) (s.indent - 1) rs) ds r one.held;
       }
 
 -- A pair: the key's meaning and the value's.
@@ -236,4 +242,6 @@ explicit_makes {s} {k} {v} {at} {to} {rs} {ls} column items blank places wide e 
             ∙ (ap (λ z. comments_in keys ds ++ z) two.is ∙ sym (comments_append keys values ds)));
         laid = subst (λ z. MeaningLaid q two.place (entering q (Some (one.place + column)) one.meaning ⊕ two.meaning) z) (sym (steps_append keys values ds))
             (laid_both (entering q (Some (one.place + column)) one.meaning) two.meaning (laid_entering q (Some (one.place + column)) one.meaning one.laid) two.laid (omega arith));
+        held = held_both (entering q (Some (one.place + column)) one.meaning) two.meaning keys values ds r
+            (held_entering q (Some (one.place + column)) one.meaning keys ds (lines_then values (past keys ds) r) one.held) two.held;
       }

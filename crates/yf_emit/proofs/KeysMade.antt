@@ -16,6 +16,7 @@ use Rattle.yf_grammar.specs.Grammar.Derives.{a_keyed_entry, an_unkeyed_entry, a_
 use Rattle.yf_grammar.specs.Back.{Back}
 use Rattle.yf_grammar.specs.Meaning.{Meaning, ◌⊕◌, behind, noting, empty_node, entering}
 use Rattle.yf_grammar.specs.Meant.{Meant, tall}
+use Rattle.yf_grammar.proofs.BlankRuns.{Behind, behind_byte}
 use Rattle.yf_grammar.proofs.CommentOrder.{end_ascends}
 use Rattle.yf_grammar.proofs.FlowBack.{visible_at, colon_follows}
 use Rattle.yf_grammar.proofs.PairsBack.{key_back, key_apart_back}
@@ -31,10 +32,12 @@ use Rattle.yf_emit.specs.Rows.{Row, anywhere, behind_key, begins_below}
 use Rattle.yf_events.specs.declared.event.Span.{Span}
 use Rattle.yf_emit.specs.Steps.{Step, leaf_steps, comment_steps, steps_in}
 use Rattle.yf_emit.proofs.EntriesMade.{Begins, begins, EntryMade, EntryMakes, PairMeant}
+use Rattle.yf_emit.proofs.HeldLemmas.{Held, empty_silent, entering_silent, held_after, held_behind, held_joined, held_line, row_ended}
 use Rattle.yf_emit.proofs.LaidRows.{leaves_apart, laid_row, laid_line}
 use Rattle.yf_emit.proofs.NodePlaces.{beside_at, below_at}
 use Rattle.yf_emit.proofs.NodesMade.{Stood, Claim, no_row, some_rows, MeansNothing}
 use Rattle.yf_emit.proofs.RowEnds.{row_end, first_deco, after_decos}
+use Rattle.yf_emit.proofs.SeenTexts.{ascii_ns}
 use Rattle.yf_emit.proofs.StepsStand.{MeaningLaid, laid_after, laid_both, laid_behind, laid_empty, laid_entering}
 
 -- the row of a key with its `:`, as it is before its value is known
@@ -89,11 +92,16 @@ record ValueMade (t : List ℕ) (column : ℕ) (v : Node) (rs : List Row) (ds : 
   pub meant : Meant v meaning
   pub is : texts meaning.comments ≡ comments_in rs ds
   pub laid : MeaningLaid i place meaning steps
+  pub held : Held t meaning rs ds r
+
+-- the `:` before it
+colon_seen : {t : List ℕ} (i : ℕ) → IsUtf8 t → code t i ≡ 58 → Behind t (i + 1)
+colon_seen i u e = behind_byte i u e (omega arith) (ascii_ns 58 (omega arith) (omega arith))
 
 -- no value
-value_missing : {t : List ℕ} {v : Node} (column : ℕ) (row : Row) (ds : List Deco) (r : List ℕ) {i : ℕ} → MeansNothing v → code t i ≡ 58 → IsUtf8 t → AreDecos ds
+value_missing : {t : List ℕ} {v : Node} (column : ℕ) (row : Row) (ds : List Deco) (r : List ℕ) {i : ℕ} → row.body ≡ [] → MeansNothing v → code t i ≡ 58 → IsUtf8 t → AreDecos ds
     → Rest t (i + 1) (end_then (first ds) [] r) → ValueMade t column v (row ∷ []) ds i r (comment_steps (carried_texts (first ds)) ++ [])
-value_missing column row ds r {i} m colon u a w =
+value_missing column row ds r {i} bare m colon u a w =
     let end = row_end (first ds) r u (first_deco a) w in
     record {
       height = 0;
@@ -106,15 +114,16 @@ value_missing column row ds r {i} m colon u a w =
       meant = meant_noting end.comments (m.meant (i + 1));
       is = texts_noting (empty_node (i + 1)) end.comments ∙ (ap (λ z. z ++ texts end.comments) (texts_empty (i + 1)) ∙ (end.is ∙ sym (append-nil (carried_texts (first ds)))));
       laid = laid_row (empty_node (i + 1)) end.comments [] (laid_empty (i + 1) (omega arith)) (end_ascends end.end) end.is;
+      held = held_line (empty_node (i + 1)) end.comments row ds r bare (empty_silent (i + 1)) (row_ended (first ds) r u (colon_seen i u colon) (first_deco a) w end.end);
     }
 
 -- a value on lines of its own
-value_below : {t : List ℕ} {s : Style} {v : Node} {spot : Spot} {rs : List Row} (column : ℕ) (row : Row) (ds : List Deco) (r : List ℕ) {i : ℕ} → Claim s v spot rs
+value_below : {t : List ℕ} {s : Style} {v : Node} {spot : Spot} {rs : List Row} (column : ℕ) (row : Row) (ds : List Deco) (r : List ℕ) {i : ℕ} → row.body ≡ [] → Claim s v spot rs
     → (begins_below v ≡ false → column + 1 ≤ spot.column) → code t i ≡ 58 → IsUtf8 t → Stood s v (pos column) BlockOut spot → AreDecos ds → Calm rs (after ds) r
     → Rest t (i + 1) (end_then (first ds) [] (lines_then rs (after ds) r))
     → ValueMade t column v (row ∷ rs) ds i r (comment_steps (carried_texts (first ds)) ++ steps_in rs (after ds))
-value_below {spot = spot} column row ds r (no_row m) deep colon u stood a k w = value_missing column row ds r m colon u a w
-value_below {t} {s} {v} {spot} column row ds r {i} (some_rows {r = y} {rs = ys} f g m) deep colon u stood a k w =
+value_below {spot = spot} column row ds r bare (no_row m) deep colon u stood a k w = value_missing column row ds r bare m colon u a w
+value_below {t} {s} {v} {spot} column row ds r {i} bare (some_rows {r = y} {rs = ys} f g m) deep colon u stood a k w =
     let end = row_end (first ds) (lines_then (y ∷ ys) (after ds) r) u (first_deco a) w in
     let there = rest_spaces y.column end.place u end.rest in
     let node = m.made (pos column) BlockOut (after ds) r (end.place + y.column) u stood (after_decos a) k there.1 in
@@ -130,6 +139,7 @@ value_below {t} {s} {v} {spot} column row ds r {i} (some_rows {r = y} {rs = ys} 
       meant = meant_behind end.comments node.meant;
       is = texts_behind end.comments node.meaning ∙ (ap (λ z. z ++ texts node.meaning.comments) end.is ∙ ap (λ z. carried_texts (first ds) ++ z) node.is);
       laid = laid_after (omega arith) (laid_behind end.comments node.meaning (end_ascends end.end) end.is (omega arith) node.laid);
+      held = held_behind end.comments node.meaning row (y ∷ ys) ds r bare (row_ended (first ds) (lines_then (y ∷ ys) (after ds) r) u (colon_seen i u colon) (first_deco a) w end.end) node.held;
     }
   where
     turn : (b : Bool) → not b ≡ true → b ≡ false
@@ -150,10 +160,10 @@ value_made : {t : List ℕ} {s : Style} {v : Node} {spot : Spot} {rs : List Row}
     (ds : List Deco) (r : List ℕ) (i : ℕ) → Claim s v spot rs → below ≡ begins_below v → (is_some o ≡ true → begins_below v ≡ false → column + 1 ≤ spot.column)
     → code t i ≡ 58 → IsUtf8 t → Stood s v (pos column) BlockOut spot → AreDecos ds → Calm (behind_key (key_head column text items leaves blank) o below rs) ds r
     → Rest t (i + 1) (behind_then o below rs ds r) → ValueMade t column v (behind_key (key_head column text items leaves blank) o below rs) ds i r (steps_behind o below rs ds)
-value_made column text items leaves blank (Some c) below ds r i v e deep colon u stood a k w = value_below column _ ds r v (deep refl) colon u stood a k.1 w
+value_made column text items leaves blank (Some c) below ds r i v e deep colon u stood a k w = value_below column _ ds r refl v (deep refl) colon u stood a k.1 w
 value_made {v = v} {spot = spot} column text items leaves blank None true ds r i k e deep colon u stood a calm w =
-    value_below column _ ds r k (λ f. absurd (true≢false (e ∙ f))) colon u stood a calm.1 w
-value_made column text items leaves blank None false ds r i (no_row m) e deep colon u stood a calm w = value_missing column _ ds r m colon u a w
+    value_below column _ ds r refl k (λ f. absurd (true≢false (e ∙ f))) colon u stood a calm.1 w
+value_made column text items leaves blank None false ds r i (no_row m) e deep colon u stood a calm w = value_missing column _ ds r refl m colon u a w
 value_made {t} {s} {v} {spot} column text items leaves blank None false ds r i (some_rows {r = y} {rs = ys} f g m) e deep colon u stood a calm w =
     let space = visible_at 32 u (omega arith) (omega arith) w in
     let node = m.made (pos column) BlockOut ds r (i + 1 + 1) u stood a calm space.1 in
@@ -168,6 +178,7 @@ value_made {t} {s} {v} {spot} column text items leaves blank None false ds r i (
       meant = node.meant;
       is = node.is;
       laid = laid_after (omega arith) node.laid;
+      held = held_joined (key_head column text items leaves blank) 1 y ys ds r node.held;
     }
 
 -- The key.
@@ -234,6 +245,8 @@ module _ {s : Style} {k v : Node} {spot : Spot} {rs : List Row} (column : ℕ) (
           laid = subst (λ z. MeaningLaid q one.place (entering q (Some key.place) (n.node.mean q) ⊕ one.meaning) z) (sym (behind_steps column (written k ++ colon_behind k) items leaves blank o below rs ds))
               (laid_both (entering q (Some key.place) (n.node.mean q)) one.meaning
               (laid_entering q (Some key.place) (n.node.mean q) (laid_line leaves (places u key.derived refl) (n.node.meant q) (n.node.silent q) count)) one.laid (omega arith));
+          held = held_after (entering q (Some key.place) (n.node.mean q)) one.meaning (behind_key (key_head column (written k ++ colon_behind k) items leaves blank) o below rs) ds r
+              (entering_silent q (Some key.place) (n.node.mean q) (n.node.silent q)) one.held;
         }
 
   -- the key is an empty node
@@ -260,4 +273,6 @@ module _ {s : Style} {k v : Node} {spot : Spot} {rs : List Row} (column : ℕ) (
           laid = subst (λ z. MeaningLaid q one.place (entering q (Some q) (empty_node q) ⊕ one.meaning) z)
               (ap (λ z. leaf_steps z ++ steps_behind o below rs ds) (sym none) ∙ sym (behind_steps column (58 ∷ []) items leaves blank o below rs ds))
               (laid_both {k = q} (entering q (Some q) (empty_node q)) one.meaning (laid_entering q (Some q) (empty_node q) (laid_empty q (omega arith))) one.laid (omega arith));
+          held = held_after (entering q (Some q) (empty_node q)) one.meaning (behind_key (key_head column (58 ∷ []) items leaves blank) o below rs) ds r
+              (entering_silent q (Some q) (empty_node q) (empty_silent q)) one.held;
         }

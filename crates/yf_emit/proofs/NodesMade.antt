@@ -15,10 +15,12 @@ use Rattle.yf_grammar.specs.Grammar.{Derives, BlockIndented, least_column}
 use Rattle.yf_grammar.specs.Grammar.Derives.{flow_node, nothing_indented}
 use Rattle.yf_grammar.specs.Meaning.{Meaning, noting, empty_node}
 use Rattle.yf_grammar.specs.Meant.{Meant, tall}
+use Rattle.yf_grammar.proofs.BlankRuns.{behind_byte}
 use Rattle.yf_grammar.proofs.CommentOrder.{end_ascends}
 use Rattle.yf_grammar.proofs.FlowBack.{visible_at}
 use Rattle.yf_grammar.proofs.LeafBack.{any_follow}
 use Rattle.yf_grammar.proofs.MeantLemmas.{meant_noting, texts_noting, texts_empty}
+use Rattle.yf_grammar.proofs.NodesBehind.{node_behind}
 use Rattle.yf_grammar.proofs.PlacesDerived.{places}
 use Rattle.yf_emit.specs.declared.style.Style.{Style}
 use Rattle.yf_emit.specs.Carried.{AreDecos, carried_texts, comments_in, Calm}
@@ -28,9 +30,11 @@ use Rattle.yf_emit.specs.Normal.{Spot}
 use Rattle.yf_emit.specs.OneLine.{written}
 use Rattle.yf_emit.specs.Rows.{Row, anywhere, joined, begins_below}
 use Rattle.yf_emit.specs.Steps.{steps_in}
+use Rattle.yf_emit.proofs.HeldLemmas.{Held, empty_silent, held_joined, held_line, row_ended}
 use Rattle.yf_emit.proofs.LaidRows.{laid_row, laid_line}
 use Rattle.yf_emit.proofs.NodePlaces.{NodeAt, leaf_at, behind_sign_at}
 use Rattle.yf_emit.proofs.RowEnds.{row_end, end_follows, first_deco}
+use Rattle.yf_emit.proofs.SeenTexts.{ascii_ns}
 use Rattle.yf_emit.proofs.StepsStand.{MeaningLaid, laid_after, laid_empty}
 
 -- where a node stands in its block: in a block context, its entries at a column at which they may stand, and the lines of a block scalar
@@ -52,6 +56,7 @@ pub record NodeMade (t : List ℕ) (n : ℤ) (c : Ctx) (m : ℕ) (x : Node) (rs 
   pub meant : Meant x meaning
   pub is : texts meaning.comments ≡ comments_in rs ds
   pub laid : MeaningLaid q place meaning (steps_in rs ds)
+  pub held : Held t meaning rs ds r
 
 pub record Makes (s : Style) (x : Node) (spot : Spot) (rs : List Row) : Type 0 where
   pub made : {t : List ℕ} (n : ℤ) (c : Ctx) (ds : List Deco) (r : List ℕ) (q : ℕ) → IsUtf8 t → Stood s x n c spot → AreDecos ds → Calm rs ds r
@@ -89,6 +94,7 @@ line_made {t} {s} {x} {r} spot n c ds z q b text body count node u stood a w =
       meant = meant_noting end.comments (node.meant q);
       is = texts_noting (node.mean q) end.comments ∙ (ap (λ k. texts k ++ texts end.comments) (node.silent q) ∙ (end.is ∙ sym (append-nil (carried_texts (first ds)))));
       laid = laid_row (node.mean q) end.comments r.leaves (laid_line r.leaves (places u derived refl) (node.meant q) (node.silent q) count) (end_ascends end.end) end.is;
+      held = held_line (node.mean q) end.comments r ds z body (node.silent q) (row_ended (first ds) z u (node_behind u derived) (first_deco a) behind_text.rest end.end);
     }
 
 -- After a sign.
@@ -110,17 +116,18 @@ pub record SignMade (t : List ℕ) (a : ℕ) (c : Ctx) (sign : ℕ) (x : Node) (
   pub meant : Meant x meaning
   pub is : texts meaning.comments ≡ comments_in rs ds
   pub laid : MeaningLaid q place meaning (steps_in rs ds)
+  pub held : Held t meaning rs ds r
 
 end_code : {t : List ℕ} {q : ℕ} (xs : List (List ℕ)) (r : List ℕ) → IsUtf8 t → Rest t q (trails_then xs (10 ∷ r)) → (code t q ≡ 32) ⊎ (code t q ≡ 10)
 end_code [] r u s = inr (rest_ascii 10 u (omega arith) (λ e. absurd (omega arith)) s).0.char
 end_code (x ∷ xs) r u s = inl (rest_ascii 32 u (omega arith) (λ e. absurd (omega arith)) s).0.char
 
 pub sign_made : {t : List ℕ} {s : Style} {x : Node} {spot : Spot} {rs : List Row} (a sign : ℕ) (column : ℕ) (items : List ℕ) (blank : Bool) (c : Ctx) (ds : List Deco) (r : List ℕ) (q : ℕ)
-    → 32 ≤ sign → sign < 127 → 2 ≤ s.indent → Claim s x spot rs → spot.entries ≡ a + s.indent → IsUtf8 t → Stood s x (pos a) c spot → AreDecos ds
+    → 33 ≤ sign → sign < 127 → 2 ≤ s.indent → Claim s x spot rs → spot.entries ≡ a + s.indent → IsUtf8 t → Stood s x (pos a) c spot → AreDecos ds
     → Calm (joined (sign_row column sign items blank) (s.indent - 1) rs) ds r → Rest t q (inline_then (joined (sign_row column sign items blank) (s.indent - 1) rs) ds r)
     → SignMade t a c sign x (joined (sign_row column sign items blank) (s.indent - 1) rs) ds q r
 sign_made {t} {s} {x} {spot} a sign column items blank c ds r q low high wide (no_row m) e u stood k calm w =
-    let at = visible_at sign u low high w in
+    let at = visible_at sign u (omega (arith, low)) high w in
     let end = row_end (first ds) r u (first_deco k) at.1 in
     record {
       height = 0;
@@ -135,12 +142,14 @@ sign_made {t} {s} {x} {spot} a sign column items blank c ds r q low high wide (n
       meant = meant_noting end.comments (m.meant (q + 1));
       is = texts_noting (empty_node (q + 1)) end.comments ∙ (ap (λ z. z ++ texts end.comments) (texts_empty (q + 1)) ∙ (end.is ∙ sym (append-nil (carried_texts (first ds)))));
       laid = laid_row (empty_node (q + 1)) end.comments [] (laid_empty (q + 1) (omega arith)) (end_ascends end.end) end.is;
+      held = held_line (empty_node (q + 1)) end.comments (sign_row column sign items blank) ds r refl (empty_silent (q + 1))
+          (row_ended (first ds) r u (behind_byte q u at.0 (omega arith) (ascii_ns sign low high)) (first_deco k) at.1 end.end);
     }
 sign_made {t} {s} {x} {spot} a sign column items blank c ds r q low high wide (some_rows {r = y} {rs = ys} f g m) e u stood k calm w =
     let n : ℕ = s.indent - 1 in
     let same : (replicate n 32 ++ y.text) ++ end_then (first ds) y.body (lines_then ys (after ds) r) ≡ replicate n 32 ++ inline_then (y ∷ ys) ds r =
     append_assoc (replicate n 32) y.text (end_then (first ds) y.body (lines_then ys (after ds) r)) in
-    let at = visible_at sign u low high (subst (λ v. Rest t q (sign ∷ v)) same w) in
+    let at = visible_at sign u (omega (arith, low)) high (subst (λ v. Rest t q (sign ∷ v)) same w) in
     let spaces = rest_spaces n (q + 1) u at.1 in
     let node = m.made (pos a) c ds r (q + 1 + n) u stood k calm spaces.1 in
     let zero_more : q + 1 + 0 ≡ q + 1 = omega arith in
@@ -157,4 +166,5 @@ sign_made {t} {s} {x} {spot} a sign column items blank c ds r q low high wide (s
       meant = node.meant;
       is = node.is;
       laid = laid_after (omega arith) node.laid;
+      held = held_joined (sign_row column sign items blank) n y ys ds r node.held;
     }

@@ -1,5 +1,5 @@
 -- A stream of documents from its rows.
-use Rattle.std.proofs.Common.{◌≡◌, ℕ, max, ◌<◌, ◌≤◌, Bool, true, false, List, [], ◌∷◌, ◌++◌, length, map, drop, Option, refl, sym, ap, ◌∙◌, subst, arith, append_assoc, length-drop}
+use Rattle.std.proofs.Common.{◌≡◌, ℕ, max, ◌<◌, ◌≤◌, Bool, true, false, List, [], ◌∷◌, ◌++◌, length, map, flat_map, inl, codes, drop, Option, refl, sym, ap, ◌∙◌, subst, arith, append_assoc, length-drop}
 use Rattle.std.specs.Str.{IsUtf8}
 use Rattle.yf_chars.specs.Chain.{Chain}
 use Rattle.yf_chars.specs.Chain.Chain.{done, step}
@@ -25,21 +25,27 @@ use Rattle.yf_stream.specs.Stream.PrefixPart.{prefix_comment}
 use Rattle.yf_stream.specs.Stream.Stream.{begins_with_document, without_document}
 use Rattle.yf_stream.specs.Stream.StreamRest.{stream_ended, past_suffixes_and_document, past_explicit}
 use Rattle.yf_stream.specs.Stream.Suffixes.{last_suffix}
+use Rattle.yf_stream.proofs.ReadingOrder.{directives_ascend}
+use Rattle.yf_emit.specs.Beginnings.{documents_begin, steps_with}
 use Rattle.yf_emit.specs.Carried.{AreDecos, carried_texts, comments_in, Calm}
 use Rattle.yf_emit.specs.Decorated.{GapLine, gap_then, Deco, first, after, past, end_then, lines_then}
 use Rattle.yf_emit.specs.FitDocuments.{FitDirective, FitDirectives, fit_directive, FitDocuments, fit_no_documents, fit_document, DocumentMeant, DocumentsMeant, no_documents_meant, document_meant, tall_documents}
 use Rattle.yf_emit.specs.Fits.{Fit}
 use Rattle.yf_emit.specs.LayoutLaws.{StreamMade}
 use Rattle.yf_emit.specs.Normal.{Setting, root_spot}
-use Rattle.yf_emit.specs.Rows.{Row, directive_row, start_row, end_rows, beginning_at, joined_words, rows, document_rows, stream_rows}
+use Rattle.yf_emit.specs.Rows.{Row, plain_row, directive_row, start_row, end_rows, beginning_at, joined_words, rows, document_rows, stream_rows}
 use Rattle.yf_emit.specs.Steps.{Step, comment_steps, steps_in}
 use Rattle.yf_emit.proofs.DecoratedLemmas.{lines_append}
-use Rattle.yf_emit.proofs.DocumentsMade.{ExplicitMade, explicit_made, directives_made, three_at}
+use Rattle.yf_emit.proofs.DocumentsBegun.{comments_begun, document_begun, documents_begun, explicit_begun, starts_in}
+use Rattle.yf_emit.proofs.DocumentsMade.{ExplicitMade, explicit_made, directives_made, three_at, three_behind}
+use Rattle.yf_emit.proofs.HeldLemmas.{BodiesHeld, EventsHeld, bare_row, bodies_append, bodies_more, holds_left, holds_right, row_ended}
 use Rattle.yf_emit.proofs.LaidRows.{steps_append}
+use Rattle.yf_emit.proofs.NoStarts.{no_start_on, directives_none, quiet_steps, rows_none, with_append}
 use Rattle.yf_emit.proofs.RowEnds.{row_end, first_deco, after_decos, past_decos, comments_append, calm_append}
 use Rattle.yf_emit.proofs.RowTexts.{row_texts}
 use Rattle.yf_emit.proofs.StepsStand.{Stand, nothing_stands, stand_after, stand_join, comments_stand, MeaningLaid, EventsLaid, events_behind}
 use Rattle.yf_emit.proofs.TreesMade.{node_claim}
+use Rattle.yf_emit.proofs.WellSet.{AllSet, lines_set, set_append}
 
 -- What is meant.
 
@@ -101,6 +107,31 @@ documents_laid : {i k j : ℕ} (d : Document) {cs : List CommentValue} {rest : D
 unfolding with_document
 documents_laid d x y = record { starts = x.starts ++ y.starts; are = λ rest e. more_starts x.starts y.starts rest x.are (λ fs others z. y.are rest z) e; stand = stand_join x.stand y.stand }
 
+-- What is held.
+
+held_events : (t : List ℕ) (m : Meaning) (rs : List Row) (ds : List Deco) (r : List ℕ) (s : ℕ) (dirs : List Directive) → BodiesHeld t m.events rs ds r → BodiesHeld t (document_of s true dirs m).events rs ds r
+unfolding document_of
+held_events t m rs ds r s dirs a = a
+
+-- the events of all documents
+abbrev pub all_events : List Document → List Placed
+all_events ds = flat_map (λ (d : Document). d.events) ds
+
+comments_set : (t : List ℕ) (cs : List CommentValue) → AllSet t cs → AllSet t (with_comments cs (only_comments [])).comments
+unfolding with_comments
+comments_set t cs a = set_append t cs [] a tt
+
+documents_held : {t : List ℕ} (cs : List CommentValue) (d : Document) (rest : Documents) (xs ys : List Row) (ds : List Deco) → EventsHeld t d.events cs xs ds (lines_then ys (past xs ds) [])
+    → EventsHeld t (all_events rest.documents) rest.comments ys (past xs ds) []
+    → EventsHeld t (all_events (with_document cs d rest).documents) (with_document cs d rest).comments (xs ++ ys) ds []
+unfolding with_document
+documents_held {t} cs d rest xs ys ds a b = record {
+  comments = set_append t cs rest.comments a.comments b.comments;
+  bodies = bodies_append t (d.events ++ all_events rest.documents) xs ys ds []
+      (bodies_more t d.events (d.events ++ all_events rest.documents) xs ds (lines_then ys (past xs ds) []) (λ event part h. holds_left (all_events rest.documents) h) a.bodies)
+      (bodies_more t (all_events rest.documents) (d.events ++ all_events rest.documents) ys (past xs ds) [] (λ event part h. holds_right d.events h) b.bodies);
+}
+
 -- Rows of directives, and of the node after them.
 
 pub record AnyMade (t : List ℕ) (d : Doc) (x : DocumentTree) (rs : List Row) (ds : List Deco) (q : ℕ) (r : List ℕ) : Type 0 where
@@ -114,6 +145,8 @@ pub record AnyMade (t : List ℕ) (d : Doc) (x : DocumentTree) (rs : List Row) (
   pub meant : DocumentMeant d x document
   pub is : texts comments ≡ comments_in rs ds
   pub laid : EventsLaid q place document.events comments (steps_in rs ds)
+  pub begun : Stand q (document.start ∷ []) comments (steps_with documents_begin rs ds) place
+  pub held : EventsHeld t document.events comments rs ds r
 
 abbrev root_rows : Setting → DocumentTree → List Row
 root_rows c x = rows c (root_spot c.style) x.root
@@ -121,23 +154,23 @@ root_rows c x = rows c (root_spot c.style) x.root
 root_deep : (c : Setting) → 0 < c.style.indent
 root_deep c = let wide : 2 ≤ c.style.indent = c.style.indent_from in omega (arith, wide)
 
-explicit_at : {t : List ℕ} (c : Setting) (x : DocumentTree) (row : Row) (ds : List Deco) (r : List ℕ) (q : ℕ) → row.leaves ≡ [] → Fit x.root → IsUtf8 t → AreDecos ds → Calm (root_rows c x) (after ds) r
+explicit_at : {t : List ℕ} (c : Setting) (x : DocumentTree) (row : Row) (ds : List Deco) (r : List ℕ) (q : ℕ) → row.leaves ≡ [] → row.body ≡ [] → Fit x.root → IsUtf8 t → AreDecos ds → Calm (root_rows c x) (after ds) r
     → Rest t q (45 ∷ 45 ∷ 45 ∷ end_then (first ds) [] (lines_then (root_rows c x) (after ds) r)) → ExplicitMade t x.root (row ∷ root_rows c x) ds q r
-explicit_at c x row ds r q none fit u a k w = explicit_made row ds r q none (node_claim c (root_spot c.style) fit) (row_texts c (root_spot c.style) (root_deep c) fit) u a k w
+explicit_at c x row ds r q none bare fit u a k w = explicit_made row ds r q none bare (node_claim c (root_spot c.style) fit) (row_texts c (root_spot c.style) (root_deep c) fit) u a k w
 
 -- where the first row is given, of any items
-directed : {t : List ℕ} (c : Setting) {d : Doc} (x : DocumentTree) {e : Directive} {es : List Directive} (row : Row) (ds : List Deco) (r : List ℕ) (q : ℕ) → row.leaves ≡ [] → d.directives ≡ e ∷ es
+directed : {t : List ℕ} (c : Setting) {d : Doc} (x : DocumentTree) {e : Directive} {es : List Directive} (row : Row) (ds : List Deco) (r : List ℕ) (q : ℕ) → row.leaves ≡ [] → row.body ≡ [] → documents_begin row ≡ [] → d.directives ≡ e ∷ es
     → FitDirective e.words → FitDirectives es → Fit x.root → IsUtf8 t → AreDecos ds → Calm ((row ∷ map directive_row es) ++ (start_row ∷ root_rows c x)) ds r
     → Rest t q (37 ∷ (joined_words e.words ++ end_then (first ds) [] (lines_then (map directive_row es ++ (start_row ∷ root_rows c x)) (after ds) r)))
     → AnyMade t d x ((row ∷ map directive_row es) ++ (start_row ∷ root_rows c x)) ds q r
-directed {t} c {d} x {e} {es} row ds r q none same f fs fit u a k w =
+directed {t} c {d} x {e} {es} row ds r q none bare plain same f fs fit u a k w =
     let tree : List Row = root_rows c x in
     let z : List ℕ = lines_then (start_row ∷ tree) (past (map directive_row es) (after ds)) r in
     let there : Rest t q (37 ∷ (joined_words e.words ++ end_then (first ds) [] (lines_then (map directive_row es) (after ds) z))) =
     subst (λ v. Rest t q (37 ∷ (joined_words e.words ++ end_then (first ds) [] v))) (lines_append (map directive_row es) (start_row ∷ tree) (after ds) r) w in
-    let one = directives_made {d = e} {dirs = es} row ds z q none f fs u a there in
+    let one = directives_made {d = e} {dirs = es} row ds z q none bare f fs u a there in
     let ks = calm_append (row ∷ map directive_row es) (start_row ∷ tree) ds r k in
-    let node = explicit_at c x start_row (past (map directive_row es) (after ds)) r one.place refl fit u (past_decos (row ∷ map directive_row es) a) ks.1.1 one.rest in
+    let node = explicit_at c x start_row (past (map directive_row es) (after ds)) r one.place refl refl fit u (past_decos (row ∷ map directive_row es) a) ks.1.1 one.rest in
     record {
       height = node.height;
       place = node.place;
@@ -151,6 +184,14 @@ directed {t} c {d} x {e} {es} row ds r q none same f fs fit u a k w =
           ∙ (ap (λ z. comments_in (row ∷ map directive_row es) ds ++ z) node.is ∙ sym (comments_append (row ∷ map directive_row es) (start_row ∷ tree) ds)));
       laid = subst (λ z. EventsLaid q node.place (document_of one.place true one.meaning.directives node.meaning).events (one.meaning.comments ++ node.meaning.comments) z)
           (sym (steps_append (row ∷ map directive_row es) (start_row ∷ tree) ds)) (events_behind one.stand (laid_document one.place one.meaning.directives node.laid));
+      begun = document_begun one.place one.meaning.directives node.meaning
+          (subst (λ z. Stand q (one.place ∷ []) (one.meaning.comments ++ node.meaning.comments) z node.place) (sym (with_append documents_begin (row ∷ map directive_row es) (start_row ∷ tree) ds))
+          (stand_join (subst (λ z. Stand q [] one.meaning.comments z one.place) (sym (quiet_steps (no_start_on {row = row} plain (directives_none es)) ds)) (comments_stand (directives_ascend one.lines) one.is))
+          (explicit_begun start_row (past (map directive_row es) (after ds)) refl (rows_none c (root_spot c.style) x.root) node)));
+      held = record {
+        comments = set_append t one.meaning.comments node.meaning.comments (one.held node.meaning.events).comments node.held.comments;
+        bodies = held_events t node.meaning ((row ∷ map directive_row es) ++ (start_row ∷ tree)) ds r one.place one.meaning.directives (bodies_append t node.meaning.events (row ∷ map directive_row es) (start_row ∷ tree) ds r (one.held node.meaning.events).bodies node.held.bodies);
+      };
     }
 
 -- the rows of a document, by its directives
@@ -165,7 +206,7 @@ beside_tree row es tree = append_assoc (row ∷ map directive_row es) (start_row
 first_with : {t : List ℕ} (c : Setting) {d : Doc} (x : DocumentTree) (start : ℕ) (dirs : List Directive) (ds : List Deco) (r : List ℕ) (q : ℕ) → d.directives ≡ dirs → FitDirectives dirs → Fit x.root → IsUtf8 t → AreDecos ds
     → Calm (head_rows true start dirs ++ root_rows c x) ds r → Rest t q (lines_then (head_rows true start dirs ++ root_rows c x) ds r) → AnyMade t d x (head_rows true start dirs ++ root_rows c x) ds q r
 first_with {t} c {d} x start [] ds r q same f fit u a k w =
-    let node = explicit_at c x (record start_row { items = start ∷ [] }) ds r q refl fit u a k.1 w in
+    let node = explicit_at c x (record start_row { items = start ∷ [] }) ds r q refl refl fit u a k.1 w in
     record {
       height = node.height;
       place = node.place;
@@ -177,12 +218,14 @@ first_with {t} c {d} x start [] ds r q same f fit u a k w =
       meant = meant_document q [] (ap (λ z. map (λ (e : Directive). e.words) z) (sym same)) node.meant;
       is = node.is;
       laid = laid_document q [] node.laid;
+      begun = document_begun q [] node.meaning (explicit_begun (record start_row { items = start ∷ [] }) ds refl (rows_none c (root_spot c.style) x.root) node);
+      held = record { comments = node.held.comments; bodies = held_events t node.meaning (record start_row { items = start ∷ [] } ∷ root_rows c x) ds r q [] node.held.bodies };
     }
 first_with {t} c {d} x start (e ∷ es) ds r q same (fit_directive f fs) fit u a k w =
     let row : Row = record (directive_row e) { items = start ∷ [] } in
     let shape = beside_tree row es (root_rows c x) in
     subst (λ z. AnyMade t d x z ds q r) (sym shape)
-    (directed c x {e = e} row ds r q refl same f fs fit u a (subst (λ z. Calm z ds r) shape k) (subst (λ z. Rest t q (lines_then z ds r)) shape w))
+    (directed c x {e = e} row ds r q refl refl refl same f fs fit u a (subst (λ z. Calm z ds r) shape k) (subst (λ z. Rest t q (lines_then z ds r)) shape w))
 
 -- Later documents, each with what stands after it.
 
@@ -197,11 +240,13 @@ record StepMade (t : List ℕ) (d : Doc) (x : DocumentTree) (rs : List Row) (ds 
   pub meant : DocumentMeant d x document
   pub is : texts comments ≡ comments_in rs ds
   pub laid : EventsLaid q place document.events comments (steps_in rs ds)
+  pub begun : Stand q (document.start ∷ []) comments (steps_with documents_begin rs ds) place
+  pub held : EventsHeld t document.events comments rs ds r
 
 step_with : {t : List ℕ} (c : Setting) {d : Doc} (x : DocumentTree) (start : ℕ) (dirs : List Directive) (ds : List Deco) (r : List ℕ) (q : ℕ) → d.directives ≡ dirs → FitDirectives dirs → Fit x.root → IsUtf8 t → AreDecos ds
     → Calm (head_rows false start dirs ++ root_rows c x) ds r → Rest t q (lines_then (head_rows false start dirs ++ root_rows c x) ds r) → StepMade t d x (head_rows false start dirs ++ root_rows c x) ds q r
 step_with {t} c {d} x start [] ds r q same f fit u a k w =
-    let node = explicit_at c x (record start_row { items = start ∷ [] }) ds r q refl fit u a k.1 w in
+    let node = explicit_at c x (record start_row { items = start ∷ [] }) ds r q refl refl fit u a k.1 w in
     record {
       height = node.height;
       place = node.place;
@@ -213,13 +258,17 @@ step_with {t} c {d} x start [] ds r q same f fit u a k w =
       meant = meant_document q [] (ap (λ z. map (λ (e : Directive). e.words) z) (sym same)) node.meant;
       is = node.is;
       laid = laid_document q [] node.laid;
+      begun = document_begun q [] node.meaning (explicit_begun (record start_row { items = start ∷ [] }) ds refl (rows_none c (root_spot c.style) x.root) node);
+      held = record { comments = node.held.comments; bodies = held_events t node.meaning (record start_row { items = start ∷ [] } ∷ root_rows c x) ds r q [] node.held.bodies };
     }
 step_with {t} c {d} x start (e ∷ es) ds r q same (fit_directive f fs) fit u a k w =
     let row : Row = directive_row e in
     let shape = beside_tree row es (root_rows c x) in
     let mark = three_at 46 u (omega arith) (omega arith) w in
-    let end = row_end (first ds) (lines_then (((row ∷ map directive_row es) ++ (start_row ∷ [])) ++ root_rows c x) (after ds) r) u (first_deco a) mark.1 in
-    let made = directed c {d = d} x {e = e} row (after ds) r end.place refl same f fs fit u (after_decos a) (subst (λ z. Calm z (after ds) r) shape k.1)
+    let rest : List ℕ = lines_then (((row ∷ map directive_row es) ++ (start_row ∷ [])) ++ root_rows c x) (after ds) r in
+    let end = row_end (first ds) rest u (first_deco a) mark.1 in
+    let ended = row_ended (first ds) rest u (three_behind 46 u (omega arith) (omega arith) w) (first_deco a) mark.1 end.end in
+    let made = directed c {d = d} x {e = e} row (after ds) r end.place refl refl refl same f fs fit u (after_decos a) (subst (λ z. Calm z (after ds) r) shape k.1)
     (subst (λ z. Rest t end.place (lines_then z (after ds) r)) shape end.rest) in
     record {
       height = made.height;
@@ -234,6 +283,12 @@ step_with {t} c {d} x start (e ∷ es) ds r q same (fit_directive f fs) fit u a 
           ∙ ap (λ z. carried_texts (first ds) ++ z) (made.is ∙ ap (λ z. comments_in z (after ds)) (sym shape)));
       laid = events_behind (stand_after (omega arith) (comments_stand (end_ascends end.end) end.is))
           (subst (λ z. EventsLaid end.place made.place made.document.events made.comments (steps_in z (after ds))) (sym shape) made.laid);
+      begun = stand_join (stand_after (omega arith) (comments_stand (end_ascends end.end) end.is))
+          (subst (λ z. Stand end.place (made.document.start ∷ []) made.comments (steps_with documents_begin z (after ds)) made.place) (sym shape) made.begun);
+      held = record {
+        comments = set_append t end.comments made.comments ended.comments made.held.comments;
+        bodies = (bare_row t made.document.events (record (plain_row 0 (codes "...")) { items = start ∷ [] }) (first ds) rest refl ended.seen, subst (λ z. BodiesHeld t made.document.events z (after ds) r) (sym shape) made.held.bodies);
+      };
     }
 
 -- The rest of a stream.
@@ -246,6 +301,8 @@ pub record RestMade (t : List ℕ) (ds : List Doc) (xs : List DocumentTree) (rs 
   pub meant : DocumentsMeant ds xs documents.documents
   pub is : texts documents.comments ≡ comments_in rs decos
   pub laid : DocumentsLaid q (length t) documents (steps_in rs decos)
+  pub begun : Stand q (starts_in documents) documents.comments (steps_with documents_begin rs decos) (length t)
+  pub held : EventsHeld t (all_events documents.documents) documents.comments rs decos []
 
 ended_at : {t : List ℕ} {q : ℕ} → Rest t q [] → q ≡ length t
 ended_at {t} {q} s =
@@ -262,6 +319,8 @@ rest_made {t} c fit_no_documents decos q u a k w = record {
   meant = no_documents_meant;
   is = refl;
   laid = no_documents_laid (let end : q ≡ length t = ended_at w in omega (arith, end));
+  begun = nothing_stands (let end : q ≡ length t = ended_at w in omega (arith, end));
+  held = record { comments = tt; bodies = tt };
 }
 rest_made {t} c (fit_document {d = d} {ds = ds} {x = x} {xs = xs} f fit more) decos q u a k w =
     let head : List Row = document_rows c false d x in
@@ -281,6 +340,9 @@ rest_made {t} c (fit_document {d = d} {ds = ds} {x = x} {xs = xs} f fit more) de
       is = texts_with_document one.comments one.document last.documents ∙ (ap (λ z. z ++ texts last.documents.comments) one.is
           ∙ (ap (λ z. comments_in head decos ++ z) last.is ∙ sym (comments_append head others decos)));
       laid = subst (λ z. DocumentsLaid q (length t) (with_document one.comments one.document last.documents) z) (sym (steps_append head others decos)) (documents_laid one.document one.laid last.laid);
+      begun = subst (λ z. Stand q (starts_in (with_document one.comments one.document last.documents)) (with_document one.comments one.document last.documents).comments z (length t))
+          (sym (with_append documents_begin head others decos)) (documents_begun one.comments one.document last.documents one.begun last.begun);
+      held = documents_held one.comments one.document last.documents head others decos one.held last.held;
     }
 
 -- Whole streams.
@@ -293,6 +355,8 @@ prefixes_of (step a more) = step (prefix_comment a) (prefixes_of more)
 pub record StreamLaid (t : List ℕ) (ds : List Doc) (xs : List DocumentTree) (gap : List GapLine) (rs : List Row) (decos : List Deco) : Type 0 where
   pub made : StreamMade t ds xs (remarks_of gap ++ comments_in rs decos)
   pub laid : DocumentsLaid 0 (length t) made.documents (comment_steps (remarks_of gap) ++ steps_in rs decos)
+  pub begun : Stand 0 (starts_in made.documents) made.documents.comments (comment_steps (remarks_of gap) ++ steps_with documents_begin rs decos) (length t)
+  pub held : EventsHeld t (all_events made.documents.documents) made.documents.comments rs decos []
 
 stream_made : {t : List ℕ} (c : Setting) {ds : List Doc} {xs : List DocumentTree} (gap : List GapLine) (decos : List Deco) → FitDocuments ds xs → IsUtf8 t → AreGapLines gap → AreDecos decos
     → Calm (stream_rows c true ds xs) decos [] → Rest t 0 (gap_then gap (lines_then (stream_rows c true ds xs) decos []))
@@ -311,6 +375,8 @@ stream_made {t} c gap decos fit_no_documents u g a k w =
         is = texts_with_comments at.comments (only_comments []) ∙ ap (λ z. z ++ []) at.is;
       };
       laid = laid_with_comments at.comments (comments_stand (rows_ascend (lines_rows at.lines)) at.is) (no_documents_laid (omega (arith, end)));
+      begun = comments_begun at.comments (only_comments []) (comments_stand (rows_ascend (lines_rows at.lines)) at.is) (nothing_stands (omega (arith, end)));
+      held = record { comments = comments_set t at.comments (lines_set (inl at_text) at.lines); bodies = tt };
     }
 stream_made {t} c gap decos (fit_document {d = d} {ds = ds} {x = x} {xs = xs} f fit more) u g a k w =
     let head : List Row = document_rows c true d x in
@@ -335,6 +401,12 @@ stream_made {t} c gap decos (fit_document {d = d} {ds = ds} {x = x} {xs = xs} f 
       laid = subst (λ z. DocumentsLaid 0 (length t) (with_document (at.comments ++ one.comments) one.document last.documents) z)
           (append_assoc (comment_steps (remarks_of gap)) (steps_in head decos) (steps_in others (past head decos)) ∙ ap (λ z. comment_steps (remarks_of gap) ++ z) (sym (steps_append head others decos)))
           (documents_laid one.document (events_behind (comments_stand (rows_ascend (lines_rows at.lines)) at.is) one.laid) last.laid);
+      begun = subst (λ z. Stand 0 (starts_in (with_document (at.comments ++ one.comments) one.document last.documents)) (with_document (at.comments ++ one.comments) one.document last.documents).comments z (length t))
+          (append_assoc (comment_steps (remarks_of gap)) (steps_with documents_begin head decos) (steps_with documents_begin others (past head decos))
+          ∙ ap (λ z. comment_steps (remarks_of gap) ++ z) (sym (with_append documents_begin head others decos)))
+          (documents_begun (at.comments ++ one.comments) one.document last.documents (stand_join (comments_stand (rows_ascend (lines_rows at.lines)) at.is) one.begun) last.begun);
+      held = documents_held (at.comments ++ one.comments) one.document last.documents head others decos
+          (record { comments = set_append t at.comments one.comments (lines_set (inl at_text) at.lines) one.held.comments; bodies = one.held.bodies }) last.held;
     }
   where
     joined_texts : (us vs ws : List CommentValue) {xs ys zs : List (List ℕ)} → texts us ≡ xs → texts vs ≡ ys → texts ws ≡ zs → texts (us ++ vs) ++ texts ws ≡ xs ++ (ys ++ zs)

@@ -1,3 +1,4 @@
+pub mod Beginnings
 pub mod Begins
 pub mod BlockLines
 pub mod BlockValues
@@ -46,3 +47,5 @@ pub mod Textual
 pub mod Trailing
 pub mod TrailsOf
 pub mod Wanted
+pub mod Undisturbed
+pub mod FoundTrees

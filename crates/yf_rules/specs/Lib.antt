@@ -28,3 +28,4 @@ pub mod Sets
 pub mod Definition
 pub mod Rules
 pub mod Check
+pub mod Mended

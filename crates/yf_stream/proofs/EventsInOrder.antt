@@ -44,7 +44,7 @@ mutual
 documents_in_order : {t : List ℕ} {i : ℕ} {ds : List Doc} {trees : List DocumentTree} {rest : List Placed} → TreesStand t i ds trees → ((j : ℕ) → BeginInOrder j rest)
     → BeginInOrder i (flat_map flat_document trees ++ rest)
 documents_in_order {i = i} (no_trees_stand l) r = r i
-documents_in_order {rest = rest} (tree_stands {tree = tree} {trees = trees} d n more) r =
+documents_in_order {rest = rest} (tree_stands {tree = tree} {trees = trees} d n more z) r =
     let end = unplaced (document_ends tree.closed) ∷ [] in
     let others = flat_map flat_document trees ++ rest in
     moved (append_assoc (flat_document tree) (flat_map flat_document trees) rest)

@@ -11,6 +11,7 @@ pub mod OneStream
 pub mod OneReading
 -- where documents and nodes stand (`NodeLaws`, `PlaceLaws`)
 pub mod DirectiveOrder
+pub mod BrokenEnds
 pub mod DocumentPlaces
 pub mod ReadingOrder
 pub mod ReadingTrees
@@ -77,3 +78,4 @@ pub mod DocumentAnswers
 pub mod FloorLemmas
 pub mod NotingLemmas
 pub mod NestedNodes
+pub mod DocumentMarkers
