@@ -75,6 +75,7 @@ pub mod NodeSteps
 pub mod StreamUpto
 pub mod NextSteps
 pub mod DocumentAnswers
+pub mod PartsUpto
 pub mod FloorLemmas
 pub mod NotingLemmas
 pub mod NestedNodes

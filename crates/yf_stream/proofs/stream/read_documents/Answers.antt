@@ -28,24 +28,25 @@ documents-preserved c =
       escapes = c.in_ok-next.ensures.escapes;
       documents = c.in_ok-next.ensures.documents;
       derived = λ l.
-          let g = spot_on c.documents.spot c.in_ok-spot.spot c.utf8.text c.in_ok-spot.ensures.spot c.in_ok-spot.ensures.reads (c.documents.invariant.derived l) in
-          reading_goes_on c.utf8.text c.in_ok-spot.spot c.in_ok-spot.ensures.reads c.if-spot-text.false g.read
-          (next_of t c.in_ok-spot.spot c.skip_prefix.new.parts c.read_next.new.parts (c.read_next.ensures.reads l) c.in_ok-next.was c.in-Go.is);
+          let g = spot_on c.documents.spot c.in_ok-spot.spot c.utf8.text c.in_ok-spot.ensures.spot c.in_ok-spot.ensures.reads (c.documents.invariant.derived l).read in
+          let n = reading_goes_on c.utf8.text c.in_ok-spot.spot c.in_ok-spot.ensures.reads c.if-spot-text.false g
+              (next_of t c.in_ok-spot.spot c.skip_prefix.new.parts c.read_next.new.parts (c.read_next.ensures.reads l) c.in_ok-next.was c.in-Go.is) in
+          record { documents = n.documents; read = n.read };
     }
 
 pub returns-then-spot-text-clause-derived : goal.returns-then-spot-text-clause-derived
 returns-then-spot-text-clause-derived c = λ l.
-    let g = spot_on c.documents.spot c.in_ok-spot.spot c.utf8.text c.in_ok-spot.ensures.spot c.in_ok-spot.ensures.reads (c.documents.invariant.derived l) in
-    record { documents = g.documents; shapes = reading_ends c.utf8.text c.if-spot-text.true g.read }
+    let g = spot_on c.documents.spot c.in_ok-spot.spot c.utf8.text c.in_ok-spot.ensures.spot c.in_ok-spot.ensures.reads (c.documents.invariant.derived l).read in
+    record { documents = _; shapes = reading_ends c.utf8.text c.if-spot-text.true g }
 
 pub returns-in-Syntax-clause-derived : goal.returns-in-Syntax-clause-derived
 returns-in-Syntax-clause-derived c = λ l.
-    let g = spot_on c.documents.spot c.in_ok-spot.spot c.utf8.text c.in_ok-spot.ensures.spot c.in_ok-spot.ensures.reads (c.documents.invariant.derived l) in
-    no_stream_read c.utf8.text c.in_ok-spot.spot c.in_ok-spot.ensures.reads c.if-spot-text.false g.read
+    let g = spot_on c.documents.spot c.in_ok-spot.spot c.utf8.text c.in_ok-spot.ensures.spot c.in_ok-spot.ensures.reads (c.documents.invariant.derived l).read in
+    no_stream_read c.utf8.text c.in_ok-spot.spot c.in_ok-spot.ensures.reads c.if-spot-text.false g
     (next_of c.args.text.now c.in_ok-spot.spot c.skip_prefix.new.parts c.read_next.new.parts (c.read_next.ensures.reads l) c.in_ok-next.was c.in-Syntax.is)
 
 pub returns-in-TooDeep-clause-derived : goal.returns-in-TooDeep-clause-derived
 returns-in-TooDeep-clause-derived c = λ l.
-    let g = spot_on c.documents.spot c.in_ok-spot.spot c.utf8.text c.in_ok-spot.ensures.spot c.in_ok-spot.ensures.reads (c.documents.invariant.derived l) in
-    too_deep_there c.utf8.text c.in_ok-spot.spot c.in_ok-spot.ensures.reads c.if-spot-text.false g.read
+    let g = spot_on c.documents.spot c.in_ok-spot.spot c.utf8.text c.in_ok-spot.ensures.spot c.in_ok-spot.ensures.reads (c.documents.invariant.derived l).read in
+    too_deep_there c.utf8.text c.in_ok-spot.spot c.in_ok-spot.ensures.reads c.if-spot-text.false g
     (next_of c.args.text.now c.in_ok-spot.spot c.skip_prefix.new.parts c.read_next.new.parts (c.read_next.ensures.reads l) c.in_ok-next.was c.in-TooDeep.is)

@@ -2,7 +2,7 @@ use Rattle.std.proofs.Common.{◌-◌, ◌≤◌, ◌^◌, length}
 use Rattle.std.specs.List.{All}
 use Rattle.std.specs.Str.{IsCharBoundary}
 use Rattle.yf_stream.specs.RefusalPlaces.{DocumentsAt}
-use Rattle.yf_stream.proofs.NextSteps.{GoesOn}
+use Rattle.yf_stream.proofs.PartsUpto.{ReadSoFar}
 use Rattle.yf_stream.proofs.stream.read_documents.Given as goal
 
 abbrev pub invariant-documents : goal.invariant-documents
@@ -11,7 +11,7 @@ invariant-documents l = record {
   reached : IsCharBoundary l.text l.spot.reached;
   escapes : All (IsCharBoundary l.text) l.parts.part.escapes;
   documents : DocumentsAt l.text l.parts.documents;
-  derived : length l.text ≤ 2 ^ 30 → GoesOn l.text l.spot;
+  derived : length l.text ≤ 2 ^ 30 → ReadSoFar l.text l.spot l.parts;
 }
 
 abbrev pub decreases-documents : goal.decreases-documents
