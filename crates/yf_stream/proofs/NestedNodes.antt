@@ -1,8 +1,8 @@
 -- The events of a node that is derived are well nested, with no more collections open at once than its height.
 use Rattle.std.proofs.Common.{◌≡◌, ℕ, suc, zero, max, ◌+◌, ◌≤◌, ℤ, Bool, true, false, List, [], ◌∷◌, ◌++◌, map, Option, Some, None, refl, sym, ap, ◌∙◌, subst, arith, append_assoc, append-nil}
 use Rattle.yf_props.specs.Names.{PropertiesValue}
-use Rattle.yf_props.specs.Props.{PropsValue}
-use Rattle.yf_events.specs.Event.{EventValue, Placed}
+use Rattle.yf_props.specs.Props.{PropsValue, no_props}
+use Rattle.yf_events.specs.Event.{EventValue, Placed, mapping_ends, mapping_starts, sequence_ends, sequence_starts}
 use Rattle.yf_events.specs.Nested.{Nested, Shape, a_mapping, a_scalar, a_sequence, an_alias, many_nodes, many_pairs, more_nodes, more_pairs, no_nodes, no_pairs, one_node}
 use Rattle.yf_events.specs.declared.event.Entry.{Entry}
 use Rattle.yf_grammar.specs.BlockScalar.{BlockScalar}
@@ -100,16 +100,18 @@ module _ {d : ℕ} where
 
 round_of : {d : ℕ} (s f : Bool) (i j : ℕ) (x : Meaning) → Nested (entries_shape s) d (kinds x.events) → Nested one_node (suc d) (kinds (collection s f i j x).events)
 unfolding collection plain_event
-round_of {d} true f i j x n = subst (λ z. Nested one_node (suc d) (_ ∷ z)) (sym (kinds_join x.events _)) (a_sequence n)
-round_of {d} false f i j x n = subst (λ z. Nested one_node (suc d) (_ ∷ z)) (sym (kinds_join x.events _)) (a_mapping n)
+round_of {d} true f i j x n =
+    subst (λ z. Nested one_node (suc d) (sequence_starts f no_props ∷ z)) (sym (kinds_join x.events (plain_event sequence_ends None ∷ []))) (a_sequence n)
+round_of {d} false f i j x n =
+    subst (λ z. Nested one_node (suc d) (mapping_starts f no_props ∷ z)) (sym (kinds_join x.events (plain_event mapping_ends None ∷ []))) (a_mapping n)
 
 scalar_nests : {t : List ℕ} {n : ℤ} {i j : ℕ} {x : Meaning} (d : ℕ) → BlockScalar t n i j x → Nested one_node d (kinds x.events)
 scalar_nests d (block_scalar h b l) = a_scalar
 
 -- one collection more
-under : {h : ℕ} (d : ℕ) {P : ℕ → Type 0} → suc h ≤ d → ((k : ℕ) → h ≤ k → P (suc k)) → P d
-under zero l f = absurd (omega arith)
-under (suc k) l f = f k (omega arith)
+under : {h : ℕ} (P : ℕ → Type 0) (d : ℕ) → suc h ≤ d → ((k : ℕ) → h ≤ k → P (suc k)) → P d
+under P zero l f = absurd (omega arith)
+under P (suc k) l f = f k (omega arith)
 
 pub nests : {t : List ℕ} {h i j : ℕ} {p : Production} {x : Meaning} (d : ℕ) → h ≤ d → Derives t h p i j x → Nests d p x
 unfolding behind noting scalar alias_to plain_event
@@ -124,20 +126,20 @@ nests d l (a_single r) = a_scalar
 nests d l (a_double r) = a_scalar
 nests d l (an_empty_collection {i = i} {j = j} s {cs = cs} b e m f) =
     let x : Meaning = record { events = []; comments = cs; escapes = []; finish = j } in
-    under d {P = λ k. Nested one_node k (kinds (collection s true i (j + 1) x).events)} l (λ k o. round_of s true i (j + 1) x (none_of s))
+    under (λ k. Nested one_node k (kinds (collection s true i (j + 1) x).events)) d l (λ k o. round_of s true i (j + 1) x (none_of s))
   where
     none_of : {k : ℕ} (s : Bool) → Nested (entries_shape s) k []
     none_of true = no_nodes
     none_of false = no_pairs
 nests d l (a_collection {i = i} {j = j} s {cs = cs} {x = x} b e m r f) =
-    under d {P = λ k. Nested one_node k (kinds (collection s true i (j + 1) (behind cs x)).events)} l (λ k o. round_of s true i (j + 1) (behind cs x) (nests k o r))
+    under (λ k. Nested one_node k (kinds (collection s true i (j + 1) (behind cs x)).events)) d l (λ k o. round_of s true i (j + 1) (behind cs x) (nests k o r))
 nests d l (last_entry {sequence = s} {x = x} r m) = one_of s (kinds x.events) (nests d l r)
 nests d l (last_entry_with_comma {sequence = s} {x = x} r m e n) = one_of s (kinds x.events) (nests d l r)
 nests d l (more_entries {sequence = s} {cs = cs} {ds = ds} {x = x} {y = y} r m e n q) = more_of s (noting x (cs ++ ds)) y (nests d (omega arith) r) (nests d (omega arith) q)
 nests d l (a_node_entry {i = i} {x = x} r) = entered i None x (nests d l r)
 nests d l (a_pair_entry {i = i} {x = x} r) =
     entered i None (collection false true i x.finish x)
-    (under d {P = λ k. Nested one_node k (kinds (collection false true i x.finish x).events)} l (λ k o. round_of false true i x.finish x (one_of false (kinds x.events) (nests k o r))))
+    (under (λ k. Nested one_node k (kinds (collection false true i x.finish x).events)) d l (λ k o. round_of false true i x.finish x (one_of false (kinds x.events) (nests k o r))))
 nests d l (an_explicit_entry e s r) = nests d l r
 nests d l (an_implicit_entry r) = nests d l r
 nests d l (an_explicit_pair e s r) = nests d l r
@@ -155,10 +157,10 @@ nests d l (a_key r m o) = nests d l r
 nests d l (a_block_scalar b s r) = scalar_nests d r
 nests d l (a_block_scalar_with {f = f} {g = g} {p = p} {x = x} b s q v r) = propertied p f g x (scalar_nests d r)
 nests d l (a_block_collection {k = k} {m = m} {sequence = s} {x = x} b e v o r) =
-    under d {P = λ z. Nested one_node z (kinds (collection s false (k + m) x.finish x).events)} l (λ z w. round_of s false (k + m) x.finish x (nests z w r))
+    under (λ z. Nested one_node z (kinds (collection s false (k + m) x.finish x).events)) d l (λ z w. round_of s false (k + m) x.finish x (nests z w r))
 nests d l (a_block_collection_with {f = f} {g = g} {k = k} {m = m} {sequence = s} {p = p} {x = x} b v q e w o r) =
     propertied p f g (collection s false (k + m) x.finish x)
-    (under d {P = λ z. Nested one_node z (kinds (collection s false (k + m) x.finish x).events)} l (λ z w. round_of s false (k + m) x.finish x (nests z w r)))
+    (under (λ z. Nested one_node z (kinds (collection s false (k + m) x.finish x).events)) d l (λ z w. round_of s false (k + m) x.finish x (nests z w r)))
 nests d l (flow_in_block b s r e) = nests d l r
 nests d l (a_last_entry {sequence = s} {x = x} r) = one_of s (kinds x.events) (nests d l r)
 nests d l (an_entry_before {sequence = s} {x = x} {y = y} r v e) = more_of s x y (nests d (omega arith) r) (nests d (omega arith) e)
@@ -171,6 +173,6 @@ nests d l (an_unkeyed_entry {i = i} {x = x} r) = pair_of (entering i (Some i) (e
 nests d l (a_block_value e r) = nests d l r
 nests d l (an_empty_block_value {i = i} e r) = nothing (i + 1)
 nests d l (a_compact_collection {l = k} {i = i} {sequence = s} {x = x} b v r) =
-    under d {P = λ z. Nested one_node z (kinds (collection s false (i + k) x.finish x).events)} l (λ z w. round_of s false (i + k) x.finish x (nests z w r))
+    under (λ z. Nested one_node z (kinds (collection s false (i + k) x.finish x).events)) d l (λ z w. round_of s false (i + k) x.finish x (nests z w r))
 nests d l (an_indented_node r) = nests d l r
 nests d l (nothing_indented {i = i} b r) = nothing i

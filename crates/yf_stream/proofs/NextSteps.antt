@@ -15,7 +15,7 @@ use Rattle.yf_grammar.specs.Meaning.{Meaning, empty_node, noting}
 use Rattle.yf_grammar.specs.Part.{BlockNodePart}
 use Rattle.yf_grammar.specs.Refusal.{openers}
 use Rattle.yf_grammar.proofs.BlockEnds.{LineOrEnd}
-use Rattle.yf_stream.specs.DirectiveReaders.{IsDirective, LongestDirectives, no_directives, one_directive}
+use Rattle.yf_stream.specs.DirectiveReaders.{DirectivesRead, IsDirective, LongestDirectives, no_directives, one_directive}
 use Rattle.yf_stream.specs.DocumentReaders.{PrefixRead, SuffixEnds, closed, opened}
 use Rattle.yf_stream.specs.DocumentSteps.{BareRead, MarkedRead, NextRead, NodeEnds, NothingEnds, after_directives, at_dashes, at_dots, bare_read, no_bare_read, no_dashes, no_directive, no_node_read, node_read, not_bare, nothing_read, too_deep_bare, too_deep_read, with_comments_read, without_dashes}
 use Rattle.yf_stream.specs.Stream.{ContentAt, DirectiveLines, Directives, Documents, ExplicitNode, RootNode, document_of, only_comments}
@@ -192,3 +192,8 @@ spot_on {t} {x = x} spot s u e r g =
 
 pub next_of : (t : List ℕ) (s : Spot) (a b : Parts) {r : Result Next AllocError} {o p : Next} → IfOk r (λ next. NextRead t s a b next) → r ≡ Ok o → o ≡ p → NextRead t s a b p
 next_of t s a b i e f = subst (λ w. NextRead t s a b w) f (subst (λ z. IfOk z (λ next. NextRead t s a b next)) e i)
+
+-- what has been read up to a spot
+pub record ReadSoFar (t : List ℕ) (spot : Spot) (p : Parts) : Type 0 where
+  pub documents : Documents
+  pub read : ReadUpto t spot.may_be_bare spot.at documents

@@ -85,8 +85,8 @@ entries_join : (p : ℕ) (xs ys : List Placed) → EntriesAfter p xs → Entries
 entries_join p [] ys a b = b
 entries_join p (x ∷ xs) ys a b = (a.0, entries_join p xs ys a.1 b)
 
-none_after : {p : ℕ} {o : Option Entry} → o ≡ None → EntryAfter p o
-none_after {p} e = subst (λ z. EntryAfter p z) (sym e) tt
+none_after : (p : ℕ) {o : Option Entry} → o ≡ None → EntryAfter p o
+none_after p e = subst (λ z. EntryAfter p z) (sym e) tt
 
 some_after : {p : ℕ} {o : Option Entry} (e : Entry) → o ≡ Some e → p < e.start → EntryAfter p o
 some_after {p} e q l = subst (λ z. EntryAfter p z) (sym q) l
@@ -115,5 +115,5 @@ module _ {t : List ℕ} (p : ℕ) where
     pairs_entries l (pair_stands {k = k} {v = v} {ps = ps} e q m a c b d) =
         let s : p < e.start = omega (arith, m.order) in
         entries_join p (flat k) _ (node_entries s a (some_after e q.key s))
-        (entries_join p (flat v) (flat_pairs ps) (node_entries (omega (arith, node_order a, colon_order c)) b (none_after q.value))
+        (entries_join p (flat v) (flat_pairs ps) (node_entries (omega (arith, node_order a, colon_order c)) b (none_after p q.value))
         (pairs_entries (omega (arith, node_order a, colon_order c, node_order b)) d))
