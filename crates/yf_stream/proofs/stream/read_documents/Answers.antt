@@ -30,7 +30,7 @@ documents-preserved c =
       derived = λ l.
           let g = spot_on c.documents.spot c.in_ok-spot.spot c.utf8.text c.in_ok-spot.ensures.spot c.in_ok-spot.ensures.reads (c.documents.invariant.derived l).read in
           let n = reading_goes_on c.utf8.text c.in_ok-spot.spot c.in_ok-spot.ensures.reads c.if-spot-text.false g
-              (next_of t c.in_ok-spot.spot c.skip_prefix.new.parts c.read_next.new.parts (c.read_next.ensures.reads l) c.in_ok-next.was c.in-Go.is) in
+          (next_of t c.in_ok-spot.spot c.skip_prefix.new.parts c.read_next.new.parts (c.read_next.ensures.reads l) c.in_ok-next.was c.in-Go.is) in
           record { documents = n.documents; read = n.read };
     }
 
