@@ -180,3 +180,5 @@ pub mod LineSorts
 pub mod LinedRows
 pub mod GapSpread
 pub mod LeadRows
+pub mod SetNodes
+pub mod FlowEvents

@@ -59,3 +59,4 @@ pub mod MendedContents
 pub mod MendedSorts
 pub mod MendedBlanks
 pub mod MendedSpaces
+pub mod MendedIndents
