@@ -60,3 +60,4 @@ pub mod MendedSorts
 pub mod MendedBlanks
 pub mod MendedSpaces
 pub mod MendedIndents
+pub mod MendedMarks

@@ -12,7 +12,7 @@ use Rattle.yf_events.specs.Tree.{Node, scalar, alias, sequence, mapping, Items, 
 use Rattle.yf_emit.specs.ContentStart.{content_start}
 use Rattle.yf_emit.specs.Fits.{is_block_style as is_block}
 use Rattle.yf_emit.specs.declared.style.Style.{Style}
-use Rattle.yf_emit.proofs.SetNodes.{Blockless, BlocklessItems, BlocklessPairs, EntryOn, SetDocuments, no_set_documents, set_document, SetItems, no_set_items, set_item, SetNode, set_line, set_scalar, set_sequence, set_mapping, SetPairs, no_set_pairs, set_pair, SetValue, beside, inside, Unquestioned}
+use Rattle.yf_emit.proofs.SetNodes.{Blockless, BlocklessItems, BlocklessPairs, EntryOn, SetDocuments, no_set_documents, set_document, SetItems, no_set_items, set_item, SetNode, set_line, set_scalar, set_sequence, set_mapping, SetPairs, no_set_pairs, set_pair, SetValue, beside, inside, Unquestioned, value_set as value_here}
 use Rattle.yf_rules.specs.Indents.{EntriesAt, ImplicitValue, Misindented, WantedColumn, WantedIndent, WithoutMark}
 use Rattle.yf_rules.specs.Indents.EntriesAt.{at_first}
 use Rattle.yf_rules.specs.Indents.Misindented.{entries, content}
@@ -117,7 +117,7 @@ module _ (src : Table) (s : Style) (trees : List DocumentTree) (Content : ℕ �
 
   key_set : {m : ℕ} (i : ℕ) (ps : Pairs) (k v : Numbered) → SetPairs src.text s Content m ps → Contains (pairs_from i ps) (k, v) → SetAt (m + s.indent) (m + s.indent) k.1
   key_set i no_pairs k v no_set_pairs q = absurd (nothing_in (k, v) q)
-  key_set {m} i (pair x y ps) k v (set_pair a b more) q =
+  key_set {m} i (pair x y ps) k v (set_pair free marked a b more) q =
       let j = i + length (flat x) in
       ⊎_elim (λ (e : ◌≡◌ {A = NumberedPair} ((i, x), (j, y)) (k, v)). subst (λ z. SetAt (m + s.indent) (m + s.indent) z) (ap (λ (p : NumberedPair). p.0.1) e) a)
       (λ (l : Contains (pairs_from (j + length (flat y)) ps) (k, v)). key_set (j + length (flat y)) ps k v more l)
@@ -125,10 +125,10 @@ module _ (src : Table) (s : Style) (trees : List DocumentTree) (Content : ℕ �
 
   value_set : {m : ℕ} (i : ℕ) (ps : Pairs) (k v : Numbered) → SetPairs src.text s Content m ps → Contains (pairs_from i ps) (k, v) → SetValue src.text s Content m k.1 v.1
   value_set i no_pairs k v no_set_pairs q = absurd (nothing_in (k, v) q)
-  value_set {m} i (pair x y ps) k v (set_pair a b more) q =
+  value_set {m} i (pair x y ps) k v (set_pair free marked a b more) q =
       let j = i + length (flat x) in
       ⊎_elim (λ (e : ◌≡◌ {A = NumberedPair} ((i, x), (j, y)) (k, v)).
-      subst (λ z. SetValue src.text s Content m k.1 z) (ap (λ (p : NumberedPair). p.1.1) e) (subst (λ z. SetValue src.text s Content m z y) (ap (λ (p : NumberedPair). p.0.1) e) b))
+      subst (λ z. SetValue src.text s Content m k.1 z) (ap (λ (p : NumberedPair). p.1.1) e) (subst (λ z. SetValue src.text s Content m z y) (ap (λ (p : NumberedPair). p.0.1) e) (value_here free marked b)))
       (λ (l : Contains (pairs_from (j + length (flat y)) ps) (k, v)). value_set (j + length (flat y)) ps k v more l)
       (head_or_later ((i, x), (j, y)) (pairs_from (j + length (flat y)) ps) (k, v) q)
 
