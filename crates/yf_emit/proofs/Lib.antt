@@ -185,3 +185,5 @@ pub mod LineSorts
 pub mod LinedRows
 pub mod GapSpread
 pub mod LeadRows
+pub mod SetNodes
+pub mod FlowEvents

@@ -59,3 +59,5 @@ pub mod MendedContents
 pub mod MendedSorts
 pub mod MendedBlanks
 pub mod MendedSpaces
+pub mod MendedIndents
+pub mod MendedMarks
