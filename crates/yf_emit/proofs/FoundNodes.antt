@@ -186,6 +186,28 @@ rows_entered e (sequence_behind f g h i a) = sequence_behind f g h i a
 rows_entered e (mapping_rows f a) = mapping_rows f a
 rows_entered e (mapping_behind f g h i a) = mapping_behind f g h i a
 
+-- an empty node
+
+abbrev pub bare_node : Node
+bare_node = scalar (record { span = None; tag_offset = None; entry = None }) no_props Plain [] []
+
+pub bare_events : (i : ℕ) → (empty_node i).events ≡ flat bare_node
+unfolding empty_node plain_event
+bare_events i = refl
+
+pub bare_escapes : (i : ℕ) → (empty_node i).escapes ≡ []
+unfolding empty_node
+bare_escapes i = refl
+
+pub bare_comments : (i : ℕ) → (empty_node i).comments ≡ []
+unfolding empty_node
+bare_comments i = refl
+
+pub bare_alike : {x : Node} (i : ℕ) → Meant x (empty_node i) → Alike Anywhere x bare_node
+bare_alike {x} i a =
+    let same : a.node ≡ bare_node = (node_unique a.node bare_node [] [] (append-nil (flat a.node) ∙ (sym a.events ∙ bare_events i))).0 in
+    subst (λ z. Alike Anywhere x z) same a.alike
+
 abbrev pub entry_at : ℕ → Option ℕ → Entry
 entry_at q colon = record { start = q; colon = colon; blank_before = false }
 
@@ -198,13 +220,8 @@ module _ {t : List ℕ} {s : Style} {m : ℕ} where
   unfolding noting
   found_noting cs a = record { node = a.node; alike = a.alike; events = a.events; escapes = a.escapes; rows = a.rows }
 
-  -- an empty node
   pub found_nothing : {x : Node} (i : ℕ) → Meant x (empty_node i) → FoundNode t s m x (empty_node i) []
-  unfolding empty_node plain_event
-  found_nothing i a =
-      let bare : Node = scalar (record { span = None; tag_offset = None; entry = None }) no_props Plain [] [] in
-      let same : a.node ≡ bare = (node_unique a.node bare [] [] (append-nil (flat a.node) ∙ (sym a.events))).0 in
-      record { node = bare; alike = subst (λ z. Alike Anywhere _ z) same a.alike; events = refl; escapes = a.escapes; rows = no_rows refl }
+  found_nothing i a = record { node = bare_node; alike = bare_alike i a; events = bare_events i; escapes = bare_escapes i; rows = no_rows refl }
 
   pub found_entering : {x : Node} {meaning : Meaning} {ps : List PlacedRow} (q : ℕ) (colon : Option ℕ) → FoundNode t s m x meaning ps → FoundNode t s m x (entering q colon meaning) ps
   unfolding entering

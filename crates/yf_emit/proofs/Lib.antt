@@ -156,3 +156,4 @@ pub mod FixedRows
 pub mod FixedFormats
 pub mod PlacedRows
 pub mod FoundNodes
+pub mod FoundLines
