@@ -76,7 +76,7 @@ pub record EntriesMakes (sequence : Bool) (column bound : ℕ) (P : List ℕ →
 pub lines_begin : {column : ℕ} {rs : List Row} (ds : List Deco) (r : List ℕ) → Begins column rs → lines_then rs ds r ≡ replicate column 32 ++ inline_then rs ds r
 lines_begin ds r (begins {r = x} {rs = xs} e) = ap (λ k. replicate k 32 ++ inline_then (x ∷ xs) ds r) e
 
-append_begins : {column : ℕ} {rs : List Row} (more : List Row) → Begins column rs → Begins column (rs ++ more)
+pub append_begins : {column : ℕ} {rs : List Row} (more : List Row) → Begins column rs → Begins column (rs ++ more)
 append_begins more (begins e) = begins e
 
 inline_more : {column : ℕ} {rs : List Row} (more : List Row) (ds : List Deco) (r : List ℕ) → Begins column rs
@@ -96,7 +96,7 @@ pub comments_entering : (i : ℕ) (c : Option ℕ) (x : Meaning) → (entering i
 unfolding entering
 comments_entering i c x = refl
 
-rows_in_more : {t : List ℕ} {column : ℕ} {rs ls : List Row} {ps qs : List PlacedRow} {ds : List Deco} {i k j : ℕ} {cs es : List CommentValue} {r : List ℕ} → Begins column ls
+pub rows_in_more : {t : List ℕ} {column : ℕ} {rs ls : List Row} {ps qs : List PlacedRow} {ds : List Deco} {i k j : ℕ} {cs es : List CommentValue} {r : List ℕ} → Begins column ls
     → RowsIn t rs ps ds i cs k (lines_then ls (past rs ds) r) → RowsIn t ls qs (past rs ds) (k + column) es j r → RowsIn t (rs ++ ls) (ps ++ qs) ds i (cs ++ es) j r
 rows_in_more {t} {rs = rs} {qs = qs} {ds = ds} {k = k} {j = j} {es = es} {r = r} (begins {r = y} {rs = ys} e) a b =
     rows_in_append a (subst (λ z. RowsIn t (y ∷ ys) qs (past rs ds) (k + z) es j r) (sym e) b)

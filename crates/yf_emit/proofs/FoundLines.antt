@@ -7,7 +7,6 @@ use Rattle.yf_comments.specs.Comment.{CommentValue}
 use Rattle.yf_comments.proofs.GapLinesLemmas.{texts}
 use Rattle.yf_props.specs.Props.{PropsValue}
 use Rattle.yf_events.specs.Alike.{Alike, alike_scalars, alike_aliases, alike_sequences, alike_mappings, AlikeItems, alike_nothing, alike_item, AlikePairs, alike_no_pairs, alike_pair}
-use Rattle.yf_events.specs.declared.event.Entry.{Entry}
 use Rattle.yf_events.specs.declared.event.ScalarStyle.{ScalarStyle}
 use Rattle.yf_events.specs.declared.event.ScalarStyle.TheVariants.{Plain, Single, Double, Literal, Folded}
 use Rattle.yf_events.specs.declared.event.Span.{Span}
@@ -102,24 +101,6 @@ mutual
       leaves_both (leaves k) (leaves v ++ leaves_of_pairs ps) (inside_wider o (omega (arith, two, three, four)) (leaves_inside a))
       (leaves_both (leaves v) (leaves_of_pairs ps) (inside_wider (omega (arith, o, one, two)) four (leaves_inside d)) (inside_wider (omega (arith, o, one, two, three)) (omega arith) (pairs_leaves g)))
 
--- a row with items is found with some
-
-none_of : (a b : Option Span) → is_some a ≡ is_some b → starts_of (spans_of_leaf b) ≡ [] → starts_of (spans_of_leaf a) ≡ []
-none_of None b e f = refl
-none_of (Some s) None e f = absurd cc
-none_of (Some s) (Some r) e f = absurd cc
-
-entry_some : {o : Option Entry} {e : Entry} (xs : List ℕ) → o ≡ Some e → starts_of_entry o ++ xs ≡ [] → ⊥
-entry_some {o} {e} xs q h = let z : starts_of_entry (Some e) ++ xs ≡ [] = ap (λ w. starts_of_entry w ++ xs) (sym q) ∙ h in absurd cc
-
-pub no_items_on : {t : List ℕ} {i j : ℕ} {K : Node → Node → Node → Node → Type 0} {x y : Node} → Alike K x y → NodeStands t i j y → items_in y ≡ [] → items_in x ≡ []
-no_items_on (alike_scalars {at = at} {bt = bt} e) st h = none_of at.span bt.span e h
-no_items_on (alike_aliases {at = at} {bt = bt} e) st h = none_of at.span bt.span e h
-no_items_on (alike_sequences {at = at} {bt = bt} e alike_nothing) st h = none_of at.span bt.span e h
-no_items_on (alike_sequences e (alike_item a more)) (sequence_stands p b (item_stands f q l c d) m s) h = absurd (entry_some _ q h)
-no_items_on (alike_mappings {at = at} {bt = bt} e alike_no_pairs) st h = none_of at.span bt.span e h
-no_items_on (alike_mappings e (alike_pair a b k more)) (mapping_stands p o (pair_stands f q l c d g w) m s) h = absurd (entry_some _ q.key h)
-
 pub same_inline : {K : Node → Node → Node → Node → Type 0} {x y : Node} → Alike K x y → is_inline x ≡ is_inline y
 same_inline (alike_scalars {at = at} {bt = bt} {props = props} {style = style} {text = text} {lines = lines} e) = by style where
   by : (style : ScalarStyle) → is_inline (scalar at props style text lines) ≡ is_inline (scalar bt props style text lines)
@@ -150,9 +131,9 @@ placed_node {x = x} a b =
     subst (λ z. Alike Anywhere x z) same b.alike
 
 pub line_found : {t : List ℕ} {x : Node} {row : Row} {place q : ℕ} {cs : List CommentValue} {z : List ℕ} {mean : Meaning} (s : Style) (m : ℕ) (ds : List Deco) → is_inline x ≡ true → written x ≢ []
-    → row.text ≡ written x → row.items ≡ items_in x → is_some row.key_comment ≡ false → NodeAt t q (q + length (written x)) mean → Meant x mean → mean.comments ≡ []
+    → row.text ≡ written x → is_some row.key_comment ≡ false → NodeAt t q (q + length (written x)) mean → Meant x mean → mean.comments ≡ []
     → Ascend t (q + length (written x)) cs place → texts cs ≡ carried_texts (first ds) → LineStart t place → Rest t place z → LineFound t s m x (noting mean cs) row ds q place z
-line_found {t} {x} {row} {place} {q} {cs} {z} {mean} s m ds inline some text items key a b silent up is start w =
+line_found {t} {x} {row} {place} {q} {cs} {z} {mean} s m ds inline some text key a b silent up is start w =
     let alike : Alike Anywhere x a.node = placed_node a b in
     let stands : NodeStands t q (q + length (written x)) a.node = node_upto a.stands a.ends in
     let width : length (written x) ≡ length row.text = ap length (sym text) in
@@ -175,6 +156,5 @@ line_found {t} {x} {row} {place} {q} {cs} {z} {mean} s m ds inline some text ite
         items = items_inside here;
         leaves = leaves_inside here;
         commented = key;
-        some = λ e. items ∙ no_items_on alike here e;
       }) (record { ascend = subst (λ k. Ascend t (q + k) cs place) width up; is = is; start = start }) w);
     }

@@ -117,7 +117,6 @@ head_stands h = record {
   items = h.items_stand;
   leaves = h.leaves_stand;
   commented = h.commented;
-  some = λ z. absurd cc;
 }
 
 -- the head of rows that are joined to a key

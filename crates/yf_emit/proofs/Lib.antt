@@ -157,3 +157,4 @@ pub mod FixedFormats
 pub mod PlacedRows
 pub mod FoundNodes
 pub mod FoundLines
+pub mod FoundStreams

@@ -11,7 +11,7 @@ use Rattle.yf_lines.proofs.RestLemmas.{Rest, rest_ascii, rest_spaces, rest_text}
 use Rattle.yf_comments.specs.Comment.{CommentValue}
 use Rattle.yf_comments.proofs.GapLinesLemmas.{texts}
 use Rattle.yf_block_scalar.specs.Body.{base}
-use Rattle.yf_events.specs.Tree.{Node, leaves, items_in, is_sequence}
+use Rattle.yf_events.specs.Tree.{Node, leaves, is_sequence}
 use Rattle.yf_grammar.specs.Grammar.{Derives, BlockIndented, least_column}
 use Rattle.yf_grammar.specs.Grammar.Derives.{flow_node, nothing_indented}
 use Rattle.yf_grammar.specs.Meaning.{Meaning, noting, empty_node}
@@ -75,16 +75,16 @@ pub data Claim (s : Style) (x : Node) (spot : Spot) : List Row → Type 0 where
 -- A leaf or a flow collection on one line.
 
 pub line_made : {t : List ℕ} {s : Style} {x : Node} {r : Row} (spot : Spot) (n : ℤ) (c : Ctx) (ds : List Deco) (z : List ℕ) (q : ℕ) → begins_below x ≡ false
-    → is_inline x ≡ true → written x ≢ [] → r.items ≡ items_in x → is_some r.key_comment ≡ false → r.text ≡ written x → r.body ≡ [] → length r.leaves ≡ length (leaves x) → LineNode FlowOut x → IsUtf8 t → Stood s x n c spot → AreDecos ds → Rest t q (inline_then (r ∷ []) ds z)
+    → is_inline x ≡ true → written x ≢ [] → is_some r.key_comment ≡ false → r.text ≡ written x → r.body ≡ [] → length r.leaves ≡ length (leaves x) → LineNode FlowOut x → IsUtf8 t → Stood s x n c spot → AreDecos ds → Rest t q (inline_then (r ∷ []) ds z)
     → NodeMade t s n c spot.entries x (r ∷ []) ds q z
-line_made {t} {s} {x} {r} spot n c ds z q b inline some items key text body count node u stood a w =
+line_made {t} {s} {x} {r} spot n c ds z q b inline some key text body count node u stood a w =
     let there : Rest t q (written x ++ end_then (first ds) [] z) =
     subst (λ l. Rest t q (written x ++ end_then (first ds) l z)) body (subst (λ v. Rest t q (v ++ end_then (first ds) r.body z)) text w) in
     let derived = node.back.made (n +ℤ pos 1) q (end_then (first ds) [] z) u (any_follow node.colon (end_follows (first ds) [] z)) there in
     let behind_text = rest_text (written x) u node.back.line there in
     let end = row_end (first ds) z u (first_deco a) behind_text.rest in
     let at = leaf_at {c = c} spot.entries stood.block (flow_node derived) end.end in
-    let found = line_found {row = r} s spot.entries ds inline some text items key (places u derived refl) (node.meant q) (node.silent q) (end_ascends end.end) end.is end.start end.rest in
+    let found = line_found {row = r} s spot.entries ds inline some text key (places u derived refl) (node.meant q) (node.silent q) (end_ascends end.end) end.is end.start end.rest in
     record {
       height = node.height;
       place = end.place;
@@ -182,7 +182,6 @@ sign_made {t} {s} {x} {spot} a sign column items blank c ds r q low high wide (n
             items = one_inside (omega arith) (omega arith) none_inside;
             leaves = none_inside;
             commented = refl;
-            some = λ z. absurd cc;
           }) (record { ascend = end_ascends end.end; is = end.is; start = end.start }) end.rest);
       is = texts_noting (empty_node (q + 1)) end.comments ∙ (ap (λ z. z ++ texts end.comments) (texts_empty (q + 1)) ∙ (end.is ∙ sym (append-nil (carried_texts (first ds)))));
       laid = laid_row (empty_node (q + 1)) end.comments [] (laid_empty (q + 1) (omega arith)) (end_ascends end.end) end.is;
