@@ -17,10 +17,9 @@ use Rattle.yf_grammar.specs.Meaning.{Meaning, behind, collection, with_props}
 use Rattle.yf_grammar.specs.Meant.{tall}
 use Rattle.yf_grammar.proofs.CommentOrder.{Ascend, end_ascends}
 use Rattle.yf_grammar.proofs.MeantLemmas.{texts_behind, texts_collection, texts_with_props}
-use Rattle.yf_emit.specs.declared.style.Style.{Style}
 use Rattle.yf_emit.specs.Carried.{AreDecos, carried_texts, Calm}
 use Rattle.yf_emit.specs.Decorated.{Deco, first, after, end_then, lines_then, inline_then}
-use Rattle.yf_emit.specs.Normal.{Spot}
+use Rattle.yf_emit.specs.Normal.{Setting, Spot}
 use Rattle.yf_emit.specs.OneLine.{spaced, anchor_text, tag_text, props_text}
 use Rattle.yf_emit.specs.Rows.{Row, before_node, plain_row, props_row, is_empty_text, begins_below}
 use Rattle.yf_emit.specs.Steps.{leaf_steps, comment_steps, steps_in}
@@ -99,7 +98,7 @@ row_before_rows {t} {ps = ps} {ds = ds} {k = k} {j = j} {cs = cs} {r = r} (begin
 
 -- A collection without properties.
 
-pub bare_claim : {s : Style} {x : Node} {spot : Spot} {es : List Row} {sequence : Bool} {bound : ℕ} {Q : List ℕ → Meaning → List PlacedRow → Type 0} → begins_below x ≡ true → is_sequence x ≡ sequence → tall x ≡ suc bound
+pub bare_claim : {s : Setting} {x : Node} {spot : Spot} {es : List Row} {sequence : Bool} {bound : ℕ} {Q : List ℕ → Meaning → List PlacedRow → Type 0} → begins_below x ≡ true → is_sequence x ≡ sequence → tall x ≡ suc bound
     → ((t : List ℕ) (i j : ℕ) (m : Meaning) (ps : List PlacedRow) → Q t m ps → FoundNode t s spot.entries x (collection sequence false i j m) ps) → EntriesMakes sequence spot.entries bound Q es → Claim s x spot es
 bare_claim {s} {x} {spot} {es} {sequence} {bound} {Q} below kind high meant e = claim e.starts e where
   made : {rs : List Row} → EntriesMakes sequence spot.entries bound Q rs → {t : List ℕ} (n : ℤ) (c : Ctx) (ds : List Deco) (r : List ℕ) (q : ℕ) → IsUtf8 t → Stood s x n c spot → AreDecos ds
@@ -127,7 +126,7 @@ bare_claim {s} {x} {spot} {es} {sequence} {bound} {Q} below kind high meant e = 
 
 -- With properties on a line of their own.
 
-module _ {s : Style} {x : Node} {spot : Spot} {es : List Row} {sequence : Bool} {bound : ℕ} {Q : List ℕ → Meaning → List PlacedRow → Type 0} {p : PropsValue} (props : IsProps p) (some : p ≢ no_props)
+module _ {s : Setting} {x : Node} {spot : Spot} {es : List Row} {sequence : Bool} {bound : ℕ} {Q : List ℕ → Meaning → List PlacedRow → Type 0} {p : PropsValue} (props : IsProps p) (some : p ≢ no_props)
     (below : begins_below x ≡ false) (kind : is_sequence x ≡ sequence) (high : tall x ≡ suc bound)
     (meant : (t : List ℕ) (o : Option ℕ) (f g i j : ℕ) (m : Meaning) (h : PlacedRow) (ps : List PlacedRow) → h.items ≡ [] → h.leaves ≡ [] → h.commented ≡ false → Q t m ps
     → FoundNode t s spot.entries x (with_props p o f g (collection sequence false i j m)) (h ∷ ps))

@@ -24,11 +24,10 @@ use Rattle.yf_grammar.proofs.MeantLemmas.{texts_behind, texts_noting, texts_empt
 use Rattle.yf_stream.specs.Stream.{ExplicitNode, DirectiveLines, Directives}
 use Rattle.yf_stream.specs.Stream.ExplicitNode.{marked_node, marked_nothing}
 use Rattle.yf_stream.specs.Stream.DirectiveLines.{last_directive, more_directives}
-use Rattle.yf_emit.specs.declared.style.Style.{Style}
 use Rattle.yf_emit.specs.Carried.{AreDecos, carried_texts, comments_in, Calm}
 use Rattle.yf_emit.specs.Decorated.{Deco, first, after, trails_then, end_then, lines_then}
 use Rattle.yf_emit.specs.FitDocuments.{is_apart, FitDirective, FitDirectives, fit_no_directives, fit_directive}
-use Rattle.yf_emit.specs.Normal.{root_spot}
+use Rattle.yf_emit.specs.Normal.{Setting, root_spot}
 use Rattle.yf_emit.specs.Rows.{Row, directive_row, joined_words, begins_below}
 use Rattle.yf_emit.specs.Steps.{leaf_steps, comment_steps, steps_in}
 use Rattle.yf_emit.proofs.ClearRows.{AreRowTexts, rows_clear_after, place_of_rest}
@@ -43,7 +42,7 @@ use Rattle.yf_emit.proofs.StepsStand.{Stand, stand_after, stand_join, comments_s
 
 -- The `---` and the node after it.
 
-pub record ExplicitMade (t : List ℕ) (s : Style) (x : Node) (rs : List Row) (ds : List Deco) (q : ℕ) (r : List ℕ) : Type 0 where
+pub record ExplicitMade (t : List ℕ) (s : Setting) (x : Node) (rs : List Row) (ds : List Deco) (q : ℕ) (r : List ℕ) : Type 0 where
   pub height : ℕ
   pub place : ℕ
   pub meaning : Meaning
@@ -98,14 +97,14 @@ root_least : (sequence : Bool) → least_column sequence (pos 0 -ℤ pos 1) Bloc
 root_least true = omega (arith, ints)
 root_least false = omega (arith, ints)
 
-pub root_stood : (s : Style) (x : Node) → Stood s x (pos 0 -ℤ pos 1) BlockIn (root_spot s)
+pub root_stood : (s : Setting) (x : Node) → Stood s x (pos 0 -ℤ pos 1) BlockIn (root_spot s.style)
 root_stood s x = record { block = refl; least = root_least (is_sequence x); lines = omega arith }
 
 not_beside : (b : Bool) → not b ≡ false → b ≡ true
 not_beside true e = refl
 not_beside false e = sym e
 
-pub explicit_made : {t : List ℕ} {s : Style} {x : Node} {rs : List Row} (row : Row) (ds : List Deco) (r : List ℕ) (q : ℕ) → row.leaves ≡ [] → length row.text ≡ 3 → is_some row.key_comment ≡ false → Claim s x (root_spot s) rs → AreRowTexts rs → IsUtf8 t → AreDecos ds → Calm rs (after ds) r
+pub explicit_made : {t : List ℕ} {s : Setting} {x : Node} {rs : List Row} (row : Row) (ds : List Deco) (r : List ℕ) (q : ℕ) → row.leaves ≡ [] → length row.text ≡ 3 → is_some row.key_comment ≡ false → Claim s x (root_spot s.style) rs → AreRowTexts rs → IsUtf8 t → AreDecos ds → Calm rs (after ds) r
     → Rest t q (45 ∷ 45 ∷ 45 ∷ end_then (first ds) [] (lines_then rs (after ds) r)) → ExplicitMade t s x (row ∷ rs) ds q r
 explicit_made {t} {s} {x} row ds r q none width key (no_row m) free u a k w =
     let mark = three_at 45 u (omega arith) (omega arith) w in

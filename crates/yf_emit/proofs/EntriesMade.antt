@@ -14,10 +14,9 @@ use Rattle.yf_grammar.specs.Grammar.Derives.{a_last_entry, an_entry_before, a_da
 use Rattle.yf_grammar.specs.Meaning.{Meaning, ◌⊕◌, entering}
 use Rattle.yf_grammar.specs.Meant.{tall}
 use Rattle.yf_grammar.proofs.MeantLemmas.{texts_entering, texts_both}
-use Rattle.yf_emit.specs.declared.style.Style.{Style}
 use Rattle.yf_emit.specs.Carried.{AreDecos, comments_in, Calm}
 use Rattle.yf_emit.specs.Decorated.{Deco, past, lines_then, inline_then}
-use Rattle.yf_emit.specs.Normal.{Spot, is_implicit}
+use Rattle.yf_emit.specs.Normal.{Setting, Spot, is_implicit}
 use Rattle.yf_emit.specs.Rows.{Row, joined}
 use Rattle.yf_emit.specs.Steps.{steps_in}
 use Rattle.yf_emit.proofs.DecoratedLemmas.{inline_append}
@@ -83,7 +82,7 @@ inline_more : {column : ℕ} {rs : List Row} (more : List Row) (ds : List Deco) 
     → inline_then (rs ++ more) ds r ≡ inline_then rs ds (lines_then more (past rs ds) r)
 inline_more more ds r (begins {r = x} {rs = xs} e) = inline_append x xs more ds r
 
-pub sign_begins : {s : Style} {x : Node} {spot : Spot} {rs : List Row} (column sign : ℕ) (items : List ℕ) (blank : Bool) (n : ℕ) → Claim s x spot rs
+pub sign_begins : {s : Setting} {x : Node} {spot : Spot} {rs : List Row} (column sign : ℕ) (items : List ℕ) (blank : Bool) (n : ℕ) → Claim s x spot rs
     → Begins column (joined (sign_row column sign items blank) n rs)
 sign_begins column sign items blank n (no_row m) = begins refl
 sign_begins column sign items blank n (some_rows f g m) = begins refl
@@ -177,13 +176,13 @@ no_ns t i e = ⊎_elim (λ (z : code t i ≡ 32). ap is_ns_char z ∙ space_no_n
 ends_white : (t : List ℕ) (i : ℕ) → (code t i ≡ 32) ⊎ (code t i ≡ 10) → is_white_or_end (code t i) ≡ true
 ends_white t i e = ⊎_elim (λ (z : code t i ≡ 32). ap is_white_or_end z ∙ space_ends) (λ (z : code t i ≡ 10). ap is_white_or_end z ∙ feed_ends) e
 
-pub item_makes : {s : Style} {x : Node} {spot : Spot} {rs : List Row} (column : ℕ) (items : List ℕ) (blank : Bool) → 2 ≤ s.indent → spot.entries ≡ column + s.indent
+pub item_makes : {s : Setting} {x : Node} {spot : Spot} {rs : List Row} (column : ℕ) (items : List ℕ) (blank : Bool) → 2 ≤ s.style.indent → spot.entries ≡ column + s.style.indent
     → Stood s x (pos column) BlockIn spot → Claim s x spot rs
-    → EntryMakes true column (tall x) (λ t m ps. FoundItem t s column x m ps) (joined (sign_row column 45 items blank) (s.indent - 1) rs)
-item_makes {s} {x} {spot} {rs} column items blank wide e stood k = record { starts = sign_begins column 45 items blank (s.indent - 1) k; made = made } where
-  made : {t : List ℕ} (ds : List Deco) (r : List ℕ) (q : ℕ) → IsUtf8 t → AreDecos ds → Calm (joined (sign_row column 45 items blank) (s.indent - 1) rs) ds r
-      → Rest t q (inline_then (joined (sign_row column 45 items blank) (s.indent - 1) rs) ds r)
-      → EntryMade true column (tall x) (λ t m ps. FoundItem t s column x m ps) t (joined (sign_row column 45 items blank) (s.indent - 1) rs) ds q r
+    → EntryMakes true column (tall x) (λ t m ps. FoundItem t s column x m ps) (joined (sign_row column 45 items blank) (s.style.indent - 1) rs)
+item_makes {s} {x} {spot} {rs} column items blank wide e stood k = record { starts = sign_begins column 45 items blank (s.style.indent - 1) k; made = made } where
+  made : {t : List ℕ} (ds : List Deco) (r : List ℕ) (q : ℕ) → IsUtf8 t → AreDecos ds → Calm (joined (sign_row column 45 items blank) (s.style.indent - 1) rs) ds r
+      → Rest t q (inline_then (joined (sign_row column 45 items blank) (s.style.indent - 1) rs) ds r)
+      → EntryMade true column (tall x) (λ t m ps. FoundItem t s column x m ps) t (joined (sign_row column 45 items blank) (s.style.indent - 1) rs) ds q r
   made {t} ds r q u a calm w =
       let one = sign_made column 45 column items blank BlockIn ds r q (omega arith) (omega arith) wide k e u stood a calm w in
       record {
@@ -196,33 +195,33 @@ item_makes {s} {x} {spot} {rs} column items blank wide e stood k = record { star
         start = one.start;
         found_rows = one.found_rows;
         meant = found_item q one.meant one.signed;
-        placed = subst (λ z. RowsIn t (joined (sign_row column 45 items blank) (s.indent - 1) rs) one.found_rows ds q z one.place r) (sym (comments_entering q None one.meaning)) one.placed;
+        placed = subst (λ z. RowsIn t (joined (sign_row column 45 items blank) (s.style.indent - 1) rs) one.found_rows ds q z one.place r) (sym (comments_entering q None one.meaning)) one.placed;
         is = texts_entering q None one.meaning ∙ one.is;
         laid = laid_entering q None one.meaning one.laid;
       }
 
 -- A pair after its `?`, with the value after a `:` on a line of its own.
-pub explicit_makes : {s : Style} {k v : Node} {at to : Spot} {rs ls : List Row} (column : ℕ) (items : List ℕ) (blank : Bool) (places : List ℕ) → is_implicit s column k ≡ false → 2 ≤ s.indent
-    → at.entries ≡ column + s.indent → to.entries ≡ column + s.indent → Stood s k (pos column) BlockOut at → Stood s v (pos column) BlockOut to → Claim s k at rs → Claim s v to ls
+pub explicit_makes : {s : Setting} {k v : Node} {at to : Spot} {rs ls : List Row} (column : ℕ) (items : List ℕ) (blank : Bool) (places : List ℕ) → is_implicit s.style column k ≡ false → 2 ≤ s.style.indent
+    → at.entries ≡ column + s.style.indent → to.entries ≡ column + s.style.indent → Stood s k (pos column) BlockOut at → Stood s v (pos column) BlockOut to → Claim s k at rs → Claim s v to ls
     → EntryMakes false column (max (tall k) (tall v)) (λ t m ps. FoundPair t s column k v m ps)
-    (joined (sign_row column 63 items blank) (s.indent - 1) rs ++ joined (sign_row column 58 places false) (s.indent - 1) ls)
+    (joined (sign_row column 63 items blank) (s.style.indent - 1) rs ++ joined (sign_row column 58 places false) (s.style.indent - 1) ls)
 explicit_makes {s} {k} {v} {at} {to} {rs} {ls} column items blank places marked wide e f stood stands a b = record {
-  starts = append_begins values (sign_begins column 63 items blank (s.indent - 1) a);
+  starts = append_begins values (sign_begins column 63 items blank (s.style.indent - 1) a);
   made = made;
 } where
   keys : List Row
-  keys = joined (sign_row column 63 items blank) (s.indent - 1) rs
+  keys = joined (sign_row column 63 items blank) (s.style.indent - 1) rs
 
   values : List Row
-  values = joined (sign_row column 58 places false) (s.indent - 1) ls
+  values = joined (sign_row column 58 places false) (s.style.indent - 1) ls
 
   made : {t : List ℕ} (ds : List Deco) (r : List ℕ) (q : ℕ) → IsUtf8 t → AreDecos ds → Calm (keys ++ values) ds r → Rest t q (inline_then (keys ++ values) ds r)
       → EntryMade false column (max (tall k) (tall v)) (λ t m ps. FoundPair t s column k v m ps) t (keys ++ values) ds q r
   made {t} ds r q u ok calm w =
       let ks = calm_append keys values ds r calm in
       let one = sign_made column 63 column items blank BlockOut ds (lines_then values (past keys ds) r) q (omega arith) (omega arith) wide a e u stood ok ks.0
-      (subst (λ z. Rest t q z) (inline_more values ds r (sign_begins column 63 items blank (s.indent - 1) a)) w) in
-      let there = rest_spaces column one.place u (subst (λ z. Rest t one.place z) (lines_begin (past keys ds) r (sign_begins column 58 places false (s.indent - 1) b)) one.rest) in
+      (subst (λ z. Rest t q z) (inline_more values ds r (sign_begins column 63 items blank (s.style.indent - 1) a)) w) in
+      let there = rest_spaces column one.place u (subst (λ z. Rest t one.place z) (lines_begin (past keys ds) r (sign_begins column 58 places false (s.style.indent - 1) b)) one.rest) in
       let two = sign_made column 58 column places false BlockOut (past keys ds) r (one.place + column) (omega arith) (omega arith) wide b f u stands (past_decos keys ok) ks.1 there.1 in
       let colon : ColonLine t column one.place = record { indent = there.0; colon = two.stands; behind = ends_white t (one.place + column + 1) two.behind } in
       let low : one.height ≤ tall k = one.low in
@@ -239,7 +238,7 @@ explicit_makes {s} {k} {v} {at} {to} {rs} {ls} column items blank places marked 
         meant = found_explicit q (one.place + column) marked one.meant one.signed two.meant two.signed;
         placed = subst (λ z. RowsIn t (keys ++ values) (one.found_rows ++ two.found_rows) ds q z two.place r)
             (sym (comments_both (entering q (Some (one.place + column)) one.meaning) two.meaning ∙ ap (λ z. z ++ two.meaning.comments) (comments_entering q (Some (one.place + column)) one.meaning)))
-            (rows_in_more (sign_begins column 58 places false (s.indent - 1) b) one.placed two.placed);
+            (rows_in_more (sign_begins column 58 places false (s.style.indent - 1) b) one.placed two.placed);
         is = texts_both (entering q (Some (one.place + column)) one.meaning) two.meaning
             ∙ (ap (λ z. z ++ texts two.meaning.comments) (texts_entering q (Some (one.place + column)) one.meaning ∙ one.is)
             ∙ (ap (λ z. comments_in keys ds ++ z) two.is ∙ sym (comments_append keys values ds)));

@@ -17,7 +17,7 @@ use Rattle.yf_grammar.specs.Meant.{Anywhere, Meant}
 use Rattle.yf_grammar.proofs.CommentOrder.{Ascend}
 use Rattle.yf_grammar.proofs.NodePlaces.{ColonStands, no_colon, a_colon, NodeStands, stands_nowhere, scalar_stands, alias_stands, sequence_stands, mapping_stands, ItemsStand, no_items_stand, item_stands, PairsStand, no_pairs_stand, pair_stands, node_order, items_order, pairs_order, node_upto}
 use Rattle.yf_grammar.proofs.PlacedNodes.{NodeAt}
-use Rattle.yf_emit.specs.declared.style.Style.{Style}
+use Rattle.yf_emit.specs.Normal.{Setting}
 use Rattle.yf_emit.specs.Carried.{carried_texts}
 use Rattle.yf_emit.specs.Decorated.{Deco, first}
 use Rattle.yf_emit.specs.Fits.{is_inline}
@@ -119,7 +119,7 @@ pub comments_noting : (x : Meaning) (cs : List CommentValue) → (noting x cs).c
 unfolding noting
 comments_noting x cs = refl
 
-pub record LineFound (t : List ℕ) (s : Style) (m : ℕ) (x : Node) (meaning : Meaning) (row : Row) (ds : List Deco) (q place : ℕ) (z : List ℕ) : Type 0 where
+pub record LineFound (t : List ℕ) (s : Setting) (m : ℕ) (x : Node) (meaning : Meaning) (row : Row) (ds : List Deco) (q place : ℕ) (z : List ℕ) : Type 0 where
   pub found_rows : List PlacedRow
   pub meant : FoundNode t s m x meaning found_rows
   pub placed : RowsIn t (row ∷ []) found_rows ds q meaning.comments place z
@@ -130,7 +130,7 @@ placed_node {x = x} a b =
     let same : b.node ≡ a.node = (node_unique b.node a.node [] [] (append-nil (flat b.node) ∙ (sym b.events ∙ (a.events ∙ sym (append-nil (flat a.node)))))).0 in
     subst (λ z. Alike Anywhere x z) same b.alike
 
-pub line_found : {t : List ℕ} {x : Node} {row : Row} {place q : ℕ} {cs : List CommentValue} {z : List ℕ} {mean : Meaning} (s : Style) (m : ℕ) (ds : List Deco) → is_inline x ≡ true → written x ≢ []
+pub line_found : {t : List ℕ} {x : Node} {row : Row} {place q : ℕ} {cs : List CommentValue} {z : List ℕ} {mean : Meaning} (s : Setting) (m : ℕ) (ds : List Deco) → is_inline x ≡ true → written x ≢ []
     → row.text ≡ written x → is_some row.key_comment ≡ false → NodeAt t q (q + length (written x)) mean → Meant x mean → mean.comments ≡ []
     → Ascend t (q + length (written x)) cs place → texts cs ≡ carried_texts (first ds) → LineStart t place → Rest t place z → LineFound t s m x (noting mean cs) row ds q place z
 line_found {t} {x} {row} {place} {q} {cs} {z} {mean} s m ds inline some text key a b silent up is start w =

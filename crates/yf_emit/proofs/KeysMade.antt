@@ -22,11 +22,10 @@ use Rattle.yf_grammar.proofs.PairsBack.{key_back, key_apart_back}
 use Rattle.yf_grammar.proofs.MeantLemmas.{texts_behind, texts_noting, texts_entering, texts_both, texts_empty}
 use Rattle.yf_grammar.proofs.NodePlaces.{NodeStands, stands_nowhere, node_order, node_upto}
 use Rattle.yf_grammar.proofs.PlacesDerived.{places}
-use Rattle.yf_emit.specs.declared.style.Style.{Style}
 use Rattle.yf_emit.specs.Carried.{AreDecos, carried_texts, comments_in, Calm}
 use Rattle.yf_emit.specs.Decorated.{Deco, first, after, end_then, lines_then, inline_then}
 use Rattle.yf_emit.specs.Fits.{LineNode, KeyNode, ColonFits, colon_at_once, colon_apart}
-use Rattle.yf_emit.specs.Normal.{Spot, is_implicit, value_entries}
+use Rattle.yf_emit.specs.Normal.{Setting, Spot, is_implicit, key_comment, value_entries}
 use Rattle.yf_emit.specs.OneLine.{written, colon_behind}
 use Rattle.yf_emit.specs.Rows.{Row, Ending, anywhere, before_node, behind_key, begins_below, joined}
 use Rattle.yf_events.specs.declared.event.Span.{Span}
@@ -82,7 +81,7 @@ behind_steps column text items leaves blank None false [] ds = refl
 behind_steps column text items leaves blank None false (x ∷ xs) ds = leaves_apart leaves x.leaves (comment_steps (carried_texts (first ds)) ++ steps_in xs (after ds))
 
 -- the `:` at i and the value after it
-record ValueMade (t : List ℕ) (s : Style) (m column : ℕ) (v : Node) (rs : List Row) (ds : List Deco) (q : ℕ) (items : List ℕ) (leaves : List Span) (b below : Bool) (i : ℕ) (r : List ℕ) (steps : List Step) : Type 0 where
+record ValueMade (t : List ℕ) (s : Setting) (m column : ℕ) (v : Node) (rs : List Row) (ds : List Deco) (q : ℕ) (items : List ℕ) (leaves : List Span) (b below : Bool) (i : ℕ) (r : List ℕ) (steps : List Step) : Type 0 where
   pub height : ℕ
   pub place : ℕ
   pub meaning : Meaning
@@ -155,7 +154,7 @@ unfolding behind
 comments_behind cs x = refl
 
 -- no value
-value_missing : {t : List ℕ} {v : Node} {q a : ℕ} {items : List ℕ} {ls : List Span} {b below : Bool} (s : Style) (n column : ℕ) (row : Row) (ds : List Deco) (r : List ℕ) {i : ℕ} → Head row q i a items ls b
+value_missing : {t : List ℕ} {v : Node} {q a : ℕ} {items : List ℕ} {ls : List Span} {b below : Bool} (s : Setting) (n column : ℕ) (row : Row) (ds : List Deco) (r : List ℕ) {i : ℕ} → Head row q i a items ls b
     → ((h : PlacedRow) → h.items ≡ a ∷ items → h.leaves ≡ ls → h.commented ≡ b → KeyRows (a ∷ items) ls b below [] (h ∷ [])) → MeansNothing v → code t i ≡ 58 → IsUtf8 t → AreDecos ds
     → Rest t (i + 1) (end_then (first ds) [] r) → ValueMade t s n column v (row ∷ []) ds q (a ∷ items) ls b below i r (comment_steps (carried_texts (first ds)) ++ [])
 value_missing {t} {q = q} {a = h} {items = items} {ls = ls} {b = b} s n column row ds r {i} head keyed m colon u a w =
@@ -180,7 +179,7 @@ value_missing {t} {q = q} {a = h} {items = items} {ls = ls} {b = b} s n column r
     }
 
 -- a value on lines of its own
-value_below : {t : List ℕ} {s : Style} {v : Node} {spot : Spot} {rs : List Row} {q a : ℕ} {items : List ℕ} {ls : List Span} {b below : Bool} (column : ℕ) (row : Row) (ds : List Deco) (r : List ℕ) {i : ℕ} → Head row q i a items ls b
+value_below : {t : List ℕ} {s : Setting} {v : Node} {spot : Spot} {rs : List Row} {q a : ℕ} {items : List ℕ} {ls : List Span} {b below : Bool} (column : ℕ) (row : Row) (ds : List Deco) (r : List ℕ) {i : ℕ} → Head row q i a items ls b
     → ((ps : List PlacedRow) (h : PlacedRow) → h.items ≡ a ∷ items → h.leaves ≡ ls → h.commented ≡ b → KeyRows (a ∷ items) ls b below ps (h ∷ ps)) → Claim s v spot rs
     → (begins_below v ≡ false → column + 1 ≤ spot.column) → code t i ≡ 58 → IsUtf8 t → Stood s v (pos column) BlockOut spot → AreDecos ds → Calm rs (after ds) r
     → Rest t (i + 1) (end_then (first ds) [] (lines_then rs (after ds) r))
@@ -234,7 +233,7 @@ head_of : {column q i a : ℕ} {text items found : List ℕ} {leaves ls : List S
     → Head (record (key_head column text items leaves blank) { key_comment = o; ending = ending }) q i a found ls (is_some o)
 head_of o h = record { width = h.width; items_stand = h.items_stand; leaves_stand = h.leaves_stand; commented = refl }
 
-value_made : {t : List ℕ} {s : Style} {v : Node} {spot : Spot} {rs : List Row} {q a : ℕ} {found : List ℕ} {ls : List Span} (column : ℕ) (text items : List ℕ) (leaves : List Span) (blank : Bool) (o : Option CommentValue) (below : Bool)
+value_made : {t : List ℕ} {s : Setting} {v : Node} {spot : Spot} {rs : List Row} {q a : ℕ} {found : List ℕ} {ls : List Span} (column : ℕ) (text items : List ℕ) (leaves : List Span) (blank : Bool) (o : Option CommentValue) (below : Bool)
     (ds : List Deco) (r : List ℕ) (i : ℕ) → AnyHead column text items leaves blank q i a found ls → Claim s v spot rs → below ≡ begins_below v → (is_some o ≡ true → begins_below v ≡ false → column + 1 ≤ spot.column)
     → code t i ≡ 58 → IsUtf8 t → Stood s v (pos column) BlockOut spot → AreDecos ds → Calm (behind_key (key_head column text items leaves blank) o below rs) ds r
     → Rest t (i + 1) (behind_then o below rs ds r)
@@ -303,9 +302,9 @@ key_made {t} {k} q z text node colon_apart l u w =
 
 -- A pair with an implicit key.
 
-module _ {s : Style} {k v : Node} {spot : Spot} {rs : List Row} (column : ℕ) (items : List ℕ) (leaves : List Span) (blank : Bool) (o : Option CommentValue) (below : Bool)
+module _ {s : Setting} {k v : Node} {spot : Spot} {rs : List Row} (column : ℕ) (items : List ℕ) (leaves : List Span) (blank : Bool) (o : Option CommentValue) (below : Bool)
     (value : Claim s v spot rs) (same : below ≡ begins_below v) (deep : is_some o ≡ true → begins_below v ≡ false → column + 1 ≤ spot.column) (stood : Stood s v (pos column) BlockOut spot)
-    (entries : spot.entries ≡ value_entries s column v) (implicit : is_implicit s column k ≡ true) where
+    (entries : spot.entries ≡ value_entries s.style column v) (implicit : is_implicit s.style column k ≡ true) (flag : is_some o ≡ is_some (key_comment s.comments k v)) where
   pub keyed_makes : KeyNode k → length leaves ≡ length (leaves_of k) → length (chars (written k)) ≤ 1023
       → EntryMakes false column (max (tall k) (tall v)) (λ t m ps. FoundPair t s column k v m ps) (behind_key (key_head column (written k ++ colon_behind k) items leaves blank) o below rs)
   keyed_makes n count l = record { starts = behind_begins column (written k ++ colon_behind k) items leaves blank o below rs; made = made } where
@@ -334,7 +333,7 @@ module _ {s : Style} {k v : Node} {spot : Spot} {rs : List Row} (column : ℕ) (
           rest = one.rest;
           start = one.start;
           found_rows = one.found_rows;
-          meant = found_implicit (n.node.mean q) q key.place found (is_some o) implicit (placed_node at (n.node.meant q)) at.events (n.node.meant q).escapes stands one.head
+          meant = found_implicit (n.node.mean q) q key.place found (is_some o) flag implicit (placed_node at (n.node.meant q)) at.events (n.node.meant q).escapes stands one.head
               (subst (λ z. FoundNode t s z v one.meaning one.inner) entries one.meant) (subst (λ z. KeyRows (q ∷ items_in found) (leaves_of found) (is_some o) z one.inner one.found_rows) same one.keyed);
           placed = subst (λ z. RowsIn t (behind_key (key_head column (written k ++ colon_behind k) items leaves blank) o below rs) one.found_rows ds q z one.place r)
               (sym (comments_both (entering q (Some key.place) (n.node.mean q)) one.meaning
@@ -366,7 +365,7 @@ module _ {s : Style} {k v : Node} {spot : Spot} {rs : List Row} (column : ℕ) (
           rest = one.rest;
           start = one.start;
           found_rows = one.found_rows;
-          meant = found_implicit (empty_node q) q q bare_node (is_some o) implicit (bare_alike q (n.meant q)) (bare_events q) (bare_escapes q) (stands_nowhere (omega arith) refl) one.head
+          meant = found_implicit (empty_node q) q q bare_node (is_some o) flag implicit (bare_alike q (n.meant q)) (bare_events q) (bare_escapes q) (stands_nowhere (omega arith) refl) one.head
               (subst (λ z. FoundNode t s z v one.meaning one.inner) entries one.meant) (subst (λ z. KeyRows (q ∷ []) [] (is_some o) z one.inner one.found_rows) same one.keyed);
           placed = subst (λ z. RowsIn t (behind_key (key_head column (58 ∷ []) items leaves blank) o below rs) one.found_rows ds q z one.place r)
               (sym (comments_both (entering q (Some q) (empty_node q)) one.meaning ∙ ap (λ z. z ++ one.meaning.comments) (comments_entering q (Some q) (empty_node q) ∙ bare_comments q))) one.placed;

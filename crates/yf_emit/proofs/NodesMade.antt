@@ -21,11 +21,10 @@ use Rattle.yf_grammar.proofs.FlowBack.{visible_at}
 use Rattle.yf_grammar.proofs.LeafBack.{any_follow}
 use Rattle.yf_grammar.proofs.MeantLemmas.{texts_noting, texts_empty}
 use Rattle.yf_grammar.proofs.PlacesDerived.{places}
-use Rattle.yf_emit.specs.declared.style.Style.{Style}
 use Rattle.yf_emit.specs.Carried.{AreDecos, carried_texts, comments_in, Calm}
 use Rattle.yf_emit.specs.Decorated.{Deco, first, after, trails_then, end_then, lines_then, inline_then}
 use Rattle.yf_emit.specs.Fits.{LineNode, is_inline}
-use Rattle.yf_emit.specs.Normal.{Spot}
+use Rattle.yf_emit.specs.Normal.{Setting, Spot}
 use Rattle.yf_emit.specs.OneLine.{written}
 use Rattle.yf_emit.specs.Rows.{Row, anywhere, joined, begins_below}
 use Rattle.yf_emit.specs.Steps.{steps_in}
@@ -39,13 +38,13 @@ use Rattle.yf_emit.proofs.StepsStand.{MeaningLaid, laid_after, laid_empty}
 
 -- where a node stands in its block: in a block context, its entries at a column at which they may stand, and the lines of a block scalar
 -- so many columns right of the indentation around it
-pub record Stood (s : Style) (x : Node) (n : ℤ) (c : Ctx) (spot : Spot) : Type 0 where
+pub record Stood (s : Setting) (x : Node) (n : ℤ) (c : Ctx) (spot : Spot) : Type 0 where
   pub block : is_block c ≡ true
   pub least : least_column (is_sequence x) n c ≤ℤ pos spot.entries
-  pub lines : spot.lines ≡ base n + s.indent
+  pub lines : spot.lines ≡ base n + s.style.indent
 
 -- the node whose first row's text stands at q, up to the row that r begins with
-pub record NodeMade (t : List ℕ) (s : Style) (n : ℤ) (c : Ctx) (m : ℕ) (x : Node) (rs : List Row) (ds : List Deco) (q : ℕ) (r : List ℕ) : Type 0 where
+pub record NodeMade (t : List ℕ) (s : Setting) (n : ℤ) (c : Ctx) (m : ℕ) (x : Node) (rs : List Row) (ds : List Deco) (q : ℕ) (r : List ℕ) : Type 0 where
   pub height : ℕ
   pub place : ℕ
   pub meaning : Meaning
@@ -59,7 +58,7 @@ pub record NodeMade (t : List ℕ) (s : Style) (n : ℤ) (c : Ctx) (m : ℕ) (x 
   pub laid : MeaningLaid q place meaning (steps_in rs ds)
   pub placed : RowsIn t rs found_rows ds q meaning.comments place r
 
-pub record Makes (s : Style) (x : Node) (spot : Spot) (rs : List Row) : Type 0 where
+pub record Makes (s : Setting) (x : Node) (spot : Spot) (rs : List Row) : Type 0 where
   pub made : {t : List ℕ} (n : ℤ) (c : Ctx) (ds : List Deco) (r : List ℕ) (q : ℕ) → IsUtf8 t → Stood s x n c spot → AreDecos ds → Calm rs ds r
       → Rest t q (inline_then rs ds r) → NodeMade t s n c spot.entries x rs ds q r
 
@@ -67,14 +66,14 @@ pub record Makes (s : Style) (x : Node) (spot : Spot) (rs : List Row) : Type 0 w
 pub record MeansNothing (x : Node) : Type 0 where
   pub meant : (i : ℕ) → Meant x (empty_node i)
 
-pub data Claim (s : Style) (x : Node) (spot : Spot) : List Row → Type 0 where
+pub data Claim (s : Setting) (x : Node) (spot : Spot) : List Row → Type 0 where
   no_row : MeansNothing x → Claim s x spot []
   some_rows : {r : Row} {rs : List Row} → (begins_below x ≡ false → r.column ≡ spot.column) → (begins_below x ≡ true → r.column ≡ spot.entries)
       → Makes s x spot (r ∷ rs) → Claim s x spot (r ∷ rs)
 
 -- A leaf or a flow collection on one line.
 
-pub line_made : {t : List ℕ} {s : Style} {x : Node} {r : Row} (spot : Spot) (n : ℤ) (c : Ctx) (ds : List Deco) (z : List ℕ) (q : ℕ) → begins_below x ≡ false
+pub line_made : {t : List ℕ} {s : Setting} {x : Node} {r : Row} (spot : Spot) (n : ℤ) (c : Ctx) (ds : List Deco) (z : List ℕ) (q : ℕ) → begins_below x ≡ false
     → is_inline x ≡ true → written x ≢ [] → is_some r.key_comment ≡ false → r.text ≡ written x → r.body ≡ [] → length r.leaves ≡ length (leaves x) → LineNode FlowOut x → IsUtf8 t → Stood s x n c spot → AreDecos ds → Rest t q (inline_then (r ∷ []) ds z)
     → NodeMade t s n c spot.entries x (r ∷ []) ds q z
 line_made {t} {s} {x} {r} spot n c ds z q b inline some key text body count node u stood a w =
@@ -106,7 +105,7 @@ abbrev pub sign_row : ℕ → ℕ → List ℕ → Bool → Row
 sign_row column sign items blank =
     record { column = column; text = sign ∷ []; items = items; leaves = []; key_comment = None; blank_before = blank; ending = anywhere; body = []; lines = 0 }
 
-pub record SignMade (t : List ℕ) (s : Style) (a : ℕ) (c : Ctx) (sign : ℕ) (x : Node) (rs : List Row) (ds : List Deco) (q : ℕ) (r : List ℕ) : Type 0 where
+pub record SignMade (t : List ℕ) (s : Setting) (a : ℕ) (c : Ctx) (sign : ℕ) (x : Node) (rs : List Row) (ds : List Deco) (q : ℕ) (r : List ℕ) : Type 0 where
   pub height : ℕ
   pub place : ℕ
   pub meaning : Meaning
@@ -117,7 +116,7 @@ pub record SignMade (t : List ℕ) (s : Style) (a : ℕ) (c : Ctx) (sign : ℕ) 
   pub rest : Rest t place r
   pub start : LineStart t place
   pub inner : List PlacedRow
-  pub meant : FoundNode t s (a + s.indent) x meaning inner
+  pub meant : FoundNode t s (a + s.style.indent) x meaning inner
   pub is : texts meaning.comments ≡ comments_in rs ds
   pub laid : MeaningLaid q place meaning (steps_in rs ds)
   pub found_rows : List PlacedRow
@@ -152,10 +151,10 @@ rows_behind sign column items blank n q e (row_before {p = p} {ps = ps} at end w
   placed = rows_joined (sign_row column sign items blank) n q q [] [] e (one_inside (omega arith) (omega (arith, e)) none_inside) none_inside (row_before at end w more);
 }
 
-pub sign_made : {t : List ℕ} {s : Style} {x : Node} {spot : Spot} {rs : List Row} (a sign : ℕ) (column : ℕ) (items : List ℕ) (blank : Bool) (c : Ctx) (ds : List Deco) (r : List ℕ) (q : ℕ)
-    → 32 ≤ sign → sign < 127 → 2 ≤ s.indent → Claim s x spot rs → spot.entries ≡ a + s.indent → IsUtf8 t → Stood s x (pos a) c spot → AreDecos ds
-    → Calm (joined (sign_row column sign items blank) (s.indent - 1) rs) ds r → Rest t q (inline_then (joined (sign_row column sign items blank) (s.indent - 1) rs) ds r)
-    → SignMade t s a c sign x (joined (sign_row column sign items blank) (s.indent - 1) rs) ds q r
+pub sign_made : {t : List ℕ} {s : Setting} {x : Node} {spot : Spot} {rs : List Row} (a sign : ℕ) (column : ℕ) (items : List ℕ) (blank : Bool) (c : Ctx) (ds : List Deco) (r : List ℕ) (q : ℕ)
+    → 32 ≤ sign → sign < 127 → 2 ≤ s.style.indent → Claim s x spot rs → spot.entries ≡ a + s.style.indent → IsUtf8 t → Stood s x (pos a) c spot → AreDecos ds
+    → Calm (joined (sign_row column sign items blank) (s.style.indent - 1) rs) ds r → Rest t q (inline_then (joined (sign_row column sign items blank) (s.style.indent - 1) rs) ds r)
+    → SignMade t s a c sign x (joined (sign_row column sign items blank) (s.style.indent - 1) rs) ds q r
 sign_made {t} {s} {x} {spot} a sign column items blank c ds r q low high wide (no_row m) e u stood k calm w =
     let at = visible_at sign u low high w in
     let end = row_end (first ds) r u (first_deco k) at.1 in
@@ -187,7 +186,7 @@ sign_made {t} {s} {x} {spot} a sign column items blank c ds r q low high wide (n
       laid = laid_row (empty_node (q + 1)) end.comments [] (laid_empty (q + 1) (omega arith)) (end_ascends end.end) end.is;
     }
 sign_made {t} {s} {x} {spot} a sign column items blank c ds r q low high wide (some_rows {r = y} {rs = ys} f g m) e u stood k calm w =
-    let n : ℕ = s.indent - 1 in
+    let n : ℕ = s.style.indent - 1 in
     let same : (replicate n 32 ++ y.text) ++ end_then (first ds) y.body (lines_then ys (after ds) r) ≡ replicate n 32 ++ inline_then (y ∷ ys) ds r =
     append_assoc (replicate n 32) y.text (end_then (first ds) y.body (lines_then ys (after ds) r)) in
     let at = visible_at sign u low high (subst (λ v. Rest t q (sign ∷ v)) same w) in

@@ -29,7 +29,6 @@ use Rattle.yf_stream.specs.Stream.Suffixes.{last_suffix}
 use Rattle.yf_emit.specs.Carried.{AreDecos, carried_texts, comments_in, Calm}
 use Rattle.yf_emit.specs.Decorated.{GapLine, gap_then, Deco, first, after, past, end_then, lines_then}
 use Rattle.yf_emit.specs.FitDocuments.{FitDirective, FitDirectives, fit_directive, FitDocuments, fit_no_documents, fit_document, DocumentMeant, DocumentsMeant, no_documents_meant, document_meant, tall_documents}
-use Rattle.yf_emit.specs.declared.style.Style.{Style}
 use Rattle.yf_emit.specs.Fits.{Fit}
 use Rattle.yf_emit.specs.LayoutLaws.{StreamMade}
 use Rattle.yf_emit.specs.Normal.{Setting, root_spot}
@@ -108,7 +107,7 @@ documents_laid d x y = record { starts = x.starts ++ y.starts; are = λ rest e. 
 
 -- Rows of directives, and of the node after them.
 
-pub record AnyMade (t : List ℕ) (s : Style) (d : Doc) (x : DocumentTree) (rs : List Row) (ds : List Deco) (q : ℕ) (r : List ℕ) : Type 0 where
+pub record AnyMade (t : List ℕ) (s : Setting) (d : Doc) (x : DocumentTree) (rs : List Row) (ds : List Deco) (q : ℕ) (r : List ℕ) : Type 0 where
   pub height : ℕ
   pub place : ℕ
   pub document : Document
@@ -130,14 +129,14 @@ root_deep : (c : Setting) → 0 < c.style.indent
 root_deep c = let wide : 2 ≤ c.style.indent = c.style.indent_from in omega (arith, wide)
 
 explicit_at : {t : List ℕ} (c : Setting) (x : DocumentTree) (row : Row) (ds : List Deco) (r : List ℕ) (q : ℕ) → row.leaves ≡ [] → length row.text ≡ 3 → is_some row.key_comment ≡ false → Fit x.root → IsUtf8 t → AreDecos ds → Calm (root_rows c x) (after ds) r
-    → Rest t q (45 ∷ 45 ∷ 45 ∷ end_then (first ds) [] (lines_then (root_rows c x) (after ds) r)) → ExplicitMade t c.style x.root (row ∷ root_rows c x) ds q r
+    → Rest t q (45 ∷ 45 ∷ 45 ∷ end_then (first ds) [] (lines_then (root_rows c x) (after ds) r)) → ExplicitMade t c x.root (row ∷ root_rows c x) ds q r
 explicit_at c x row ds r q none width key fit u a k w = explicit_made row ds r q none width key (node_claim c (root_spot c.style) fit) (row_texts c (root_spot c.style) (root_deep c) fit) u a k w
 
 -- where the first row is given, of any items
 directed : {t : List ℕ} (c : Setting) {d : Doc} (x : DocumentTree) {e : Directive} {es : List Directive} (row : Row) (ds : List Deco) (r : List ℕ) (q : ℕ) → row.leaves ≡ [] → row.text ≡ 37 ∷ joined_words e.words → is_some row.key_comment ≡ false → d.directives ≡ e ∷ es
     → FitDirective e.words → FitDirectives es → Fit x.root → IsUtf8 t → AreDecos ds → Calm ((row ∷ map directive_row es) ++ (start_row ∷ root_rows c x)) ds r
     → Rest t q (37 ∷ (joined_words e.words ++ end_then (first ds) [] (lines_then (map directive_row es ++ (start_row ∷ root_rows c x)) (after ds) r)))
-    → AnyMade t c.style d x ((row ∷ map directive_row es) ++ (start_row ∷ root_rows c x)) ds q r
+    → AnyMade t c d x ((row ∷ map directive_row es) ++ (start_row ∷ root_rows c x)) ds q r
 directed {t} c {d} x {e} {es} row ds r q none said key same f fs fit u a k w =
     let tree : List Row = root_rows c x in
     let z : List ℕ = lines_then (start_row ∷ tree) (past (map directive_row es) (after ds)) r in
@@ -174,7 +173,7 @@ beside_tree row es tree = append_assoc (row ∷ map directive_row es) (start_row
 -- The first document of a stream.
 
 first_with : {t : List ℕ} (c : Setting) {d : Doc} (x : DocumentTree) (start : ℕ) (dirs : List Directive) (ds : List Deco) (r : List ℕ) (q : ℕ) → d.directives ≡ dirs → FitDirectives dirs → Fit x.root → IsUtf8 t → AreDecos ds
-    → Calm (head_rows true start dirs ++ root_rows c x) ds r → Rest t q (lines_then (head_rows true start dirs ++ root_rows c x) ds r) → AnyMade t c.style d x (head_rows true start dirs ++ root_rows c x) ds q r
+    → Calm (head_rows true start dirs ++ root_rows c x) ds r → Rest t q (lines_then (head_rows true start dirs ++ root_rows c x) ds r) → AnyMade t c d x (head_rows true start dirs ++ root_rows c x) ds q r
 first_with {t} c {d} x start [] ds r q same f fit u a k w =
     let node = explicit_at c x (record start_row { items = start ∷ [] }) ds r q refl refl refl fit u a k.1 w in
     record {
@@ -195,12 +194,12 @@ first_with {t} c {d} x start [] ds r q same f fit u a k w =
 first_with {t} c {d} x start (e ∷ es) ds r q same (fit_directive f fs) fit u a k w =
     let row : Row = record (directive_row e) { items = start ∷ [] } in
     let shape = beside_tree row es (root_rows c x) in
-    subst (λ z. AnyMade t c.style d x z ds q r) (sym shape)
+    subst (λ z. AnyMade t c d x z ds q r) (sym shape)
     (directed c x {e = e} row ds r q refl refl refl same f fs fit u a (subst (λ z. Calm z ds r) shape k) (subst (λ z. Rest t q (lines_then z ds r)) shape w))
 
 -- Later documents, each with what stands after it.
 
-record StepMade (t : List ℕ) (s : Style) (d : Doc) (x : DocumentTree) (rs : List Row) (ds : List Deco) (q : ℕ) (r : List ℕ) : Type 0 where
+record StepMade (t : List ℕ) (s : Setting) (d : Doc) (x : DocumentTree) (rs : List Row) (ds : List Deco) (q : ℕ) (r : List ℕ) : Type 0 where
   pub height : ℕ
   pub place : ℕ
   pub document : Document
@@ -216,7 +215,7 @@ record StepMade (t : List ℕ) (s : Style) (d : Doc) (x : DocumentTree) (rs : Li
   pub placed : RowsIn t rs found_rows ds q comments place r
 
 step_with : {t : List ℕ} (c : Setting) {d : Doc} (x : DocumentTree) (start : ℕ) (dirs : List Directive) (ds : List Deco) (r : List ℕ) (q : ℕ) → d.directives ≡ dirs → FitDirectives dirs → Fit x.root → IsUtf8 t → AreDecos ds
-    → Calm (head_rows false start dirs ++ root_rows c x) ds r → Rest t q (lines_then (head_rows false start dirs ++ root_rows c x) ds r) → StepMade t c.style d x (head_rows false start dirs ++ root_rows c x) ds q r
+    → Calm (head_rows false start dirs ++ root_rows c x) ds r → Rest t q (lines_then (head_rows false start dirs ++ root_rows c x) ds r) → StepMade t c d x (head_rows false start dirs ++ root_rows c x) ds q r
 step_with {t} c {d} x start [] ds r q same f fit u a k w =
     let node = explicit_at c x (record start_row { items = start ∷ [] }) ds r q refl refl refl fit u a k.1 w in
     record {
@@ -273,7 +272,7 @@ step_with {t} c {d} x start (e ∷ es) ds r q same (fit_directive f fs) fit u a 
 
 -- The rest of a stream.
 
-pub record RestMade (t : List ℕ) (s : Style) (ds : List Doc) (xs : List DocumentTree) (rs : List Row) (decos : List Deco) (q : ℕ) : Type 0 where
+pub record RestMade (t : List ℕ) (s : Setting) (ds : List Doc) (xs : List DocumentTree) (rs : List Row) (decos : List Deco) (q : ℕ) : Type 0 where
   pub height : ℕ
   pub documents : Documents
   pub derived : StreamRest t height q documents
@@ -291,7 +290,7 @@ ended_at {t} {q} s =
     omega (arith, none, length-drop q t, s.boundary.0)
 
 rest_made : {t : List ℕ} (c : Setting) {ds : List Doc} {xs : List DocumentTree} → FitDocuments ds xs → (decos : List Deco) (q : ℕ) → IsUtf8 t → AreDecos decos → Calm (stream_rows c false ds xs) decos []
-    → Rest t q (lines_then (stream_rows c false ds xs) decos []) → RestMade t c.style ds xs (stream_rows c false ds xs) decos q
+    → Rest t q (lines_then (stream_rows c false ds xs) decos []) → RestMade t c ds xs (stream_rows c false ds xs) decos q
 rest_made {t} c fit_no_documents decos q u a k w = record {
   height = 0;
   documents = only_comments [];
@@ -335,7 +334,7 @@ prefixes_of done = done
 prefixes_of (step a more) = step (prefix_comment a) (prefixes_of more)
 
 -- what is derived of the whole text, and its leaves and comments in the order of steps
-pub record StreamLaid (t : List ℕ) (s : Style) (ds : List Doc) (xs : List DocumentTree) (gap : List GapLine) (rs : List Row) (decos : List Deco) : Type 0 where
+pub record StreamLaid (t : List ℕ) (s : Setting) (ds : List Doc) (xs : List DocumentTree) (gap : List GapLine) (rs : List Row) (decos : List Deco) : Type 0 where
   pub made : StreamMade t ds xs (remarks_of gap ++ comments_in rs decos)
   pub laid : DocumentsLaid 0 (length t) made.documents (comment_steps (remarks_of gap) ++ steps_in rs decos)
   pub line : ℕ
@@ -349,7 +348,7 @@ pub record StreamLaid (t : List ℕ) (s : Style) (ds : List Doc) (xs : List Docu
 
 stream_made : {t : List ℕ} (c : Setting) {ds : List Doc} {xs : List DocumentTree} (gap : List GapLine) (decos : List Deco) → FitDocuments ds xs → IsUtf8 t → AreGapLines gap → AreDecos decos
     → Calm (stream_rows c true ds xs) decos [] → Rest t 0 (gap_then gap (lines_then (stream_rows c true ds xs) decos []))
-    → StreamLaid t c.style ds xs gap (stream_rows c true ds xs) decos
+    → StreamLaid t c ds xs gap (stream_rows c true ds xs) decos
 stream_made {t} c gap decos fit_no_documents u g a k w =
     let at = gap_at gap [] u g at_text w in
     let rest : StreamRest t 0 at.place (only_comments []) = subst (λ p. StreamRest t 0 p (only_comments [])) (sym (ended_at at.rest)) stream_ended in
@@ -370,7 +369,7 @@ stream_made {t} c gap decos fit_no_documents u g a k w =
       ascend = rows_ascend (lines_rows at.lines);
       are = comments_with_comments at.comments;
       found_rows = [];
-      found = subst (λ z. FoundDocuments t c.style [] z []) (sym (documents_with_comments at.comments)) no_documents_found;
+      found = subst (λ z. FoundDocuments t c [] z []) (sym (documents_with_comments at.comments)) no_documents_found;
       placed = no_stream;
     }
 stream_made {t} c gap decos (fit_document {d = d} {ds = ds} {x = x} {xs = xs} f fit more) u g a k w =
@@ -412,5 +411,5 @@ stream_made {t} c gap decos (fit_document {d = d} {ds = ds} {x = x} {xs = xs} f 
 -- what is laid out is derived again, with its leaves and comments in the order in which they were laid out
 pub layout_derived : {t : List ℕ} (c : Setting) {ds : List Doc} {xs : List DocumentTree} (gap : List GapLine) (decos : List Deco) → FitDocuments ds xs → IsUtf8 t → AreGapLines gap → AreDecos decos
     → Calm (stream_rows c true ds xs) decos [] → t ≡ gap_then gap (lines_then (stream_rows c true ds xs) decos [])
-    → StreamLaid t c.style ds xs gap (stream_rows c true ds xs) decos
+    → StreamLaid t c ds xs gap (stream_rows c true ds xs) decos
 layout_derived {t} c gap decos fit u g a k e = stream_made c gap decos fit u g a k (subst (λ z. Rest t 0 z) e (rest_start t u))
