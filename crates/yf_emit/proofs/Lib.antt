@@ -164,3 +164,10 @@ pub mod StillHolds
 pub mod TrailsHold
 pub mod TreesRead
 pub mod WritingLemmas
+pub mod FixedNodes
+pub mod FixedRows
+pub mod FixedFormats
+pub mod PlacedRows
+pub mod FoundNodes
+pub mod FoundLines
+pub mod FoundStreams

@@ -47,3 +47,5 @@ pub mod Textual
 pub mod Trailing
 pub mod TrailsOf
 pub mod Wanted
+pub mod Undisturbed
+pub mod FoundTrees

@@ -1,0 +1,252 @@
+-- A node that differs from one of a normal form by places alone is in the style of the house, and settled, as it is.
+use Rattle.std.proofs.Common.{◌≡◌, ℕ, Bool, true, false, not, ◌&&◌, List, [], ◌∷◌, Option, Some, None, refl, sym, ap, ◌∙◌, true≢false}
+use Rattle.std.specs.Prelude.{is_some, if◌then◌else◌}
+use Rattle.yf_comments.specs.Comment.{CommentValue}
+use Rattle.yf_props.specs.Props.{PropsValue}
+use Rattle.yf_events.specs.Alike.{Alike, alike_scalars, alike_aliases, alike_sequences, alike_mappings, AlikeItems, alike_nothing, alike_item, AlikePairs, alike_no_pairs, alike_pair}
+use Rattle.yf_events.specs.declared.event.Span.{Span}
+use Rattle.yf_events.specs.Tree.{Standing, Node, scalar, alias, sequence, mapping, Items, no_items, item, Pairs, no_pairs, pair}
+use Rattle.yf_emit.specs.declared.style.Style.{Style}
+use Rattle.yf_emit.specs.Kept.{has_comment, items_may_be_kept, may_be_kept, pairs_may_be_kept}
+use Rattle.yf_emit.specs.Normal.{Setting, Spot, fits, inner_spot, key_spot, settled, settled_items, settled_pairs, styled, styled_items, styled_pairs, value_spot}
+use Rattle.yf_emit.specs.Undisturbed.{Undisturbed, undisturbed_sequence, undisturbed_mapping, UndisturbedItems, undisturbed_end, undisturbed_item, UndisturbedPairs, undisturbed_last, undisturbed_pair}
+use Rattle.yf_emit.proofs.AlikeLemmas.{Agrees, same_fit, same_key_spot, same_value_spot, setting}
+use Rattle.yf_emit.proofs.StyledTwice.{House}
+
+-- Parts of nodes.
+
+abbrev restood : Standing → Node → Node
+restood bt (scalar at props style text lines) = scalar bt props style text lines
+restood bt (alias at name) = alias bt name
+restood bt (sequence at flow props xs) = sequence bt flow props xs
+restood bt (mapping at flow props ps) = mapping bt flow props ps
+
+abbrev flow_of : Node → Bool
+flow_of (scalar at props style text lines) = false
+flow_of (alias at name) = false
+flow_of (sequence at flow props xs) = flow
+flow_of (mapping at flow props ps) = flow
+
+abbrev items_of : Node → Items
+items_of (scalar at props style text lines) = no_items
+items_of (alias at name) = no_items
+items_of (sequence at flow props xs) = xs
+items_of (mapping at flow props ps) = no_items
+
+abbrev pairs_of : Node → Pairs
+pairs_of (scalar at props style text lines) = no_pairs
+pairs_of (alias at name) = no_pairs
+pairs_of (sequence at flow props xs) = no_pairs
+pairs_of (mapping at flow props ps) = ps
+
+abbrev first_item : Node → Items → Node
+first_item other no_items = other
+first_item other (item x xs) = x
+
+abbrev more_items : Items → Items
+more_items no_items = no_items
+more_items (item x xs) = xs
+
+abbrev first_key : Node → Pairs → Node
+first_key other no_pairs = other
+first_key other (pair k v ps) = k
+
+abbrev first_value : Node → Pairs → Node
+first_value other no_pairs = other
+first_value other (pair k v ps) = v
+
+abbrev more_pairs : Pairs → Pairs
+more_pairs no_pairs = no_pairs
+more_pairs (pair k v ps) = ps
+
+-- Tests.
+
+four : (a b c d : Bool) → a ≡ true → b ≡ false → c ≡ true → d ≡ true → (a && not b && c && d) ≡ true
+four a b c d e f g h = rw (e, f, g, h) refl
+
+five : (a b c d e : Bool) → a ≡ true → b ≡ false → c ≡ true → d ≡ true → e ≡ true → (a && not b && c && d && e) ≡ true
+five a b c d e f g h i j = rw (f, g, h, i, j) refl
+
+of_four : (a b c d : Bool) → (a && not b && c && d) ≡ true → (a ≡ true) × (c ≡ true) × (d ≡ true)
+of_four true false true true e = (refl, refl, refl)
+of_four true false true false e = absurd (true≢false (sym e))
+of_four true false false d e = absurd (true≢false (sym e))
+of_four true true c d e = absurd (true≢false (sym e))
+of_four false b c d e = absurd (true≢false (sym e))
+
+of_five : (a b c d e : Bool) → (a && not b && c && d && e) ≡ true → (a ≡ true) × (c ≡ true) × (d ≡ true) × (e ≡ true)
+of_five true false true true true e = (refl, refl, refl, refl)
+of_five true false true true false e = absurd (true≢false (sym e))
+of_five true false true false f e = absurd (true≢false (sym e))
+of_five true false false d f e = absurd (true≢false (sym e))
+of_five true true c d f e = absurd (true≢false (sym e))
+of_five false b c d f e = absurd (true≢false (sym e))
+
+of_two : (a b : Bool) → (a && b) ≡ true → (a ≡ true) × (b ≡ true)
+of_two true true e = (refl, refl)
+of_two true false e = absurd (true≢false (sym e))
+of_two false b e = absurd (true≢false (sym e))
+
+of_three : (a b c : Bool) → (a && b && c) ≡ true → (a ≡ true) × (b ≡ true) × (c ≡ true)
+of_three true true true e = (refl, refl, refl)
+of_three true true false e = absurd (true≢false (sym e))
+of_three true false c e = absurd (true≢false (sym e))
+of_three false b c e = absurd (true≢false (sym e))
+
+-- What may be kept wherever it stands may be kept where no comment stands within it.
+
+mutual
+  pub kept_alike : {K : Node → Node → Node → Node → Type 0} {x y : Node} (u : List ℕ) (cs : List CommentValue) → Alike K x y → may_be_kept [] [] x ≡ true → Undisturbed u cs y
+      → may_be_kept u cs y ≡ true
+  kept_alike u cs (alike_scalars e) k f = k
+  kept_alike u cs (alike_aliases e) k f = refl
+  kept_alike u cs (alike_sequences e alike_nothing) k f = refl
+  kept_alike u cs (alike_sequences {at = at} {flow = flow} {props = props} e (alike_item {x = x} {xs = xs} a more)) k (undisturbed_sequence n (undisturbed_item f fs)) =
+      let parts = of_four flow (has_comment [] [] at.span props) (may_be_kept [] [] x) (items_may_be_kept [] [] xs) k in
+      four _ _ _ _ parts.0 (n parts.0) (kept_alike u cs a parts.1 f) (items_kept_alike u cs more parts.2 fs)
+  kept_alike u cs (alike_mappings e alike_no_pairs) k f = refl
+  kept_alike u cs (alike_mappings {at = at} {flow = flow} {props = props} e (alike_pair {k = k} {v = v} {ps = ps} a b g more)) h (undisturbed_mapping n (undisturbed_pair f o fs)) =
+      let parts = of_five flow (has_comment [] [] at.span props) (may_be_kept [] [] k) (may_be_kept [] [] v) (pairs_may_be_kept [] [] ps) h in
+      five _ _ _ _ _ parts.0 (n parts.0) (kept_alike u cs a parts.1 f) (kept_alike u cs b parts.2 o) (pairs_kept_alike u cs more parts.3 fs)
+
+  items_kept_alike : {K : Node → Node → Node → Node → Type 0} {xs ys : Items} (u : List ℕ) (cs : List CommentValue) → AlikeItems K xs ys → items_may_be_kept [] [] xs ≡ true
+      → UndisturbedItems u cs ys → items_may_be_kept u cs ys ≡ true
+  items_kept_alike u cs alike_nothing k f = refl
+  items_kept_alike u cs (alike_item {x = x} {xs = xs} a more) k (undisturbed_item f fs) =
+      let parts = of_two (may_be_kept [] [] x) (items_may_be_kept [] [] xs) k in
+      rw (kept_alike u cs a parts.0 f, items_kept_alike u cs more parts.1 fs) refl
+
+  pairs_kept_alike : {K : Node → Node → Node → Node → Type 0} {ps qs : Pairs} (u : List ℕ) (cs : List CommentValue) → AlikePairs K ps qs → pairs_may_be_kept [] [] ps ≡ true
+      → UndisturbedPairs u cs qs → pairs_may_be_kept u cs qs ≡ true
+  pairs_kept_alike u cs alike_no_pairs k f = refl
+  pairs_kept_alike u cs (alike_pair {k = k} {v = v} {ps = ps} a b g more) h (undisturbed_pair f o fs) =
+      let parts = of_three (may_be_kept [] [] k) (may_be_kept [] [] v) (pairs_may_be_kept [] [] ps) h in
+      rw (kept_alike u cs a parts.0 f, kept_alike u cs b parts.1 o, pairs_kept_alike u cs more parts.2 fs) refl
+
+-- a collection with the flag of the one that it is alike to
+sequence_flag : {K : Node → Node → Node → Node → Type 0} (at bt : Standing) (props : PropsValue) {xs ys : Items} (u : List ℕ) (cs : List CommentValue) (flow : Bool)
+    → is_some at.span ≡ is_some bt.span → AlikeItems K xs ys → may_be_kept [] [] (sequence at flow props xs) ≡ flow → Undisturbed u cs (sequence bt flow props ys)
+    → may_be_kept u cs (sequence bt flow props ys) ≡ flow
+sequence_flag {K} at bt props {xs = xs} {ys = ys} u cs true e a k f =
+    kept_alike {K = K} {x = sequence at true props xs} {y = sequence bt true props ys} u cs (alike_sequences e a) k f
+sequence_flag at bt props u cs false e alike_nothing k f = absurd (true≢false k)
+sequence_flag at bt props u cs false e (alike_item a more) k f = refl
+
+mapping_flag : {K : Node → Node → Node → Node → Type 0} (at bt : Standing) (props : PropsValue) {ps qs : Pairs} (u : List ℕ) (cs : List CommentValue) (flow : Bool)
+    → is_some at.span ≡ is_some bt.span → AlikePairs K ps qs → may_be_kept [] [] (mapping at flow props ps) ≡ flow → Undisturbed u cs (mapping bt flow props qs)
+    → may_be_kept u cs (mapping bt flow props qs) ≡ flow
+mapping_flag {K} at bt props {ps = ps} {qs = qs} u cs true e a k f =
+    kept_alike {K = K} {x = mapping at true props ps} {y = mapping bt true props qs} u cs (alike_mappings e a) k f
+mapping_flag at bt props u cs false e alike_no_pairs k f = absurd (true≢false k)
+mapping_flag at bt props u cs false e (alike_pair a b g more) k f = refl
+
+mutual
+  pub styled_alike : {K : Node → Node → Node → Node → Type 0} {x y : Node} (u : List ℕ) (c : Setting) → Alike K x y → House c x → Undisturbed u c.comments y → styled u c y ≡ y
+  styled_alike u c (alike_scalars {bt = bt} e) h f = ap (restood bt) h
+  styled_alike u c (alike_aliases e) h f = refl
+  styled_alike {K} u c (alike_sequences {at = at} {bt = bt} {flow = flow} {props = props} {xs = xs} {ys = ys} e a) h (undisturbed_sequence n fs) =
+      let flag : may_be_kept u c.comments (sequence bt flow props ys) ≡ flow =
+      sequence_flag {K = K} at bt props {xs = xs} u c.comments flow e a (ap flow_of h) (undisturbed_sequence n fs) in
+      ap (λ b. sequence bt b props (styled_items u c ys)) flag ∙ ap (λ w. sequence bt flow props w) (styled_items_alike u c a (ap items_of h) fs)
+  styled_alike {K} u c (alike_mappings {at = at} {bt = bt} {flow = flow} {props = props} {ps = ps} {qs = qs} e a) h (undisturbed_mapping n fs) =
+      let flag : may_be_kept u c.comments (mapping bt flow props qs) ≡ flow =
+      mapping_flag {K = K} at bt props {ps = ps} u c.comments flow e a (ap flow_of h) (undisturbed_mapping n fs) in
+      ap (λ b. mapping bt b props (styled_pairs u c qs)) flag ∙ ap (λ w. mapping bt flow props w) (styled_pairs_alike u c a (ap pairs_of h) fs)
+
+  styled_items_alike : {K : Node → Node → Node → Node → Type 0} {xs ys : Items} (u : List ℕ) (c : Setting) → AlikeItems K xs ys → styled_items [] (setting c.style []) xs ≡ xs
+      → UndisturbedItems u c.comments ys → styled_items u c ys ≡ ys
+  styled_items_alike u c alike_nothing h f = refl
+  styled_items_alike u c (alike_item {x = x} {y = y} {ys = ys} a more) h (undisturbed_item f fs) =
+      ap (λ w. item w (styled_items u c ys)) (styled_alike u c a (ap (first_item x) h) f) ∙ ap (λ w. item y w) (styled_items_alike u c more (ap more_items h) fs)
+
+  styled_pairs_alike : {K : Node → Node → Node → Node → Type 0} {ps qs : Pairs} (u : List ℕ) (c : Setting) → AlikePairs K ps qs → styled_pairs [] (setting c.style []) ps ≡ ps
+      → UndisturbedPairs u c.comments qs → styled_pairs u c qs ≡ qs
+  styled_pairs_alike u c alike_no_pairs h f = refl
+  styled_pairs_alike u c (alike_pair {k = k} {l = l} {v = v} {w = w} {qs = qs} a b g more) h (undisturbed_pair f o fs) =
+      ap (λ z. pair z (styled u c w) (styled_pairs u c qs)) (styled_alike u c a (ap (first_key k) h) f)
+      ∙ (ap (λ z. pair l z (styled_pairs u c qs)) (styled_alike u c b (ap (first_value v) h) o) ∙ ap (λ z. pair l w z) (styled_pairs_alike u c more (ap more_pairs h) fs))
+
+-- Which flow collections are kept depends on what is written alone, and on which keys a comment trails.
+
+mutual
+  pub settled_alike : {K : Node → Node → Node → Node → Type 0} {x y : Node} {cs ds : List CommentValue} (s : Style) (g : Agrees K s cs ds) (spot : Spot) → Alike K x y
+      → settled (setting s cs) spot x ≡ x → settled (setting s ds) spot y ≡ y
+  settled_alike s g spot (alike_scalars e) h = refl
+  settled_alike s g spot (alike_aliases e) h = refl
+  settled_alike s g spot (alike_sequences e alike_nothing) h = refl
+  settled_alike {K} {cs = cs} {ds = ds} s g spot (alike_sequences {at = at} {bt = bt} {flow = flow} {props = props} e (alike_item {x = x} {y = y} {xs = xs} {ys = ys} a more)) h =
+      go (λ z. settled_alike s g (inner_spot s spot.entries) a z) (λ z. settled_items_alike s g spot.entries more z) (flow && fits s spot.column Y) refl where
+        X : Node
+        X = sequence at flow props (item x xs)
+
+        Y : Node
+        Y = sequence bt flow props (item y ys)
+
+        W : Node
+        W = sequence at false props (item (settled (setting s cs) (inner_spot s spot.entries) x) (settled_items (setting s cs) spot.entries xs))
+
+        Z : Node
+        Z = sequence bt false props (item (settled (setting s ds) (inner_spot s spot.entries) y) (settled_items (setting s ds) spot.entries ys))
+
+        same : fits s spot.column X ≡ fits s spot.column Y
+        same = same_fit {K = K} {x = X} {y = Y} s spot.column (alike_sequences e (alike_item a more))
+
+        go : (settled (setting s cs) (inner_spot s spot.entries) x ≡ x → settled (setting s ds) (inner_spot s spot.entries) y ≡ y)
+            → (settled_items (setting s cs) spot.entries xs ≡ xs → settled_items (setting s ds) spot.entries ys ≡ ys)
+            → (b : Bool) → (flow && fits s spot.column Y) ≡ b → (if flow && fits s spot.column Y then Y else Z) ≡ Y
+        go one all true q = ap (λ b. if b then Y else Z) q
+        go one all false q =
+            let block : W ≡ X = ap (λ b. if b then X else W) (sym q) ∙ (ap (λ b. if flow && b then X else W) (sym same) ∙ h) in
+            let head : settled (setting s ds) (inner_spot s spot.entries) y ≡ y = one (ap (λ w. first_item x (items_of w)) block) in
+            let rest : settled_items (setting s ds) spot.entries ys ≡ ys = all (ap (λ w. more_items (items_of w)) block) in
+            ap (λ b. if b then Y else Z) q ∙ (ap (λ b. sequence bt b props (item (settled (setting s ds) (inner_spot s spot.entries) y) (settled_items (setting s ds) spot.entries ys))) (ap flow_of block)
+            ∙ (ap (λ w. sequence bt flow props (item w (settled_items (setting s ds) spot.entries ys))) head ∙ ap (λ w. sequence bt flow props (item y w)) rest))
+  settled_alike s g spot (alike_mappings e alike_no_pairs) h = refl
+  settled_alike {K} {cs = cs} {ds = ds} s g spot (alike_mappings {at = at} {bt = bt} {flow = flow} {props = props} e (alike_pair {k = k} {l = l} {v = v} {w = w} {ps = ps} {qs = qs} a b o more)) h =
+      go (λ z. settled_pairs_alike s g spot.entries (alike_pair a b o more) z) (flow && fits s spot.column Y) refl where
+        c : Setting
+        c = setting s cs
+
+        d : Setting
+        d = setting s ds
+
+        X : Node
+        X = mapping at flow props (pair k v ps)
+
+        Y : Node
+        Y = mapping bt flow props (pair l w qs)
+
+        W : Pairs
+        W = pair (settled c (key_spot s spot.entries k) k) (settled c (value_spot c spot.entries k v) v) (settled_pairs c spot.entries ps)
+
+        Z : Pairs
+        Z = pair (settled d (key_spot s spot.entries l) l) (settled d (value_spot d spot.entries l w) w) (settled_pairs d spot.entries qs)
+
+        same : fits s spot.column X ≡ fits s spot.column Y
+        same = same_fit {K = K} {x = X} {y = Y} s spot.column (alike_mappings e (alike_pair a b o more))
+
+        go : (W ≡ pair k v ps → Z ≡ pair l w qs) → (n : Bool) → (flow && fits s spot.column Y) ≡ n → (if flow && fits s spot.column Y then Y else mapping bt false props Z) ≡ Y
+        go all true q = ap (λ n. if n then Y else mapping bt false props Z) q
+        go all false q =
+            let block : mapping at false props W ≡ X =
+            ap (λ n. if n then X else mapping at false props W) (sym q) ∙ (ap (λ n. if flow && n then X else mapping at false props W) (sym same) ∙ h) in
+            let inside : Z ≡ pair l w qs = all (ap pairs_of block) in
+            ap (λ n. if n then Y else mapping bt false props Z) q ∙ (ap (λ n. mapping bt n props Z) (ap flow_of block) ∙ ap (λ z. mapping bt flow props z) inside)
+
+  settled_items_alike : {K : Node → Node → Node → Node → Type 0} {xs ys : Items} {cs ds : List CommentValue} (s : Style) (g : Agrees K s cs ds) (column : ℕ) → AlikeItems K xs ys
+      → settled_items (setting s cs) column xs ≡ xs → settled_items (setting s ds) column ys ≡ ys
+  settled_items_alike s g column alike_nothing h = refl
+  settled_items_alike {ds = ds} s g column (alike_item {x = x} {y = y} {ys = ys} a more) h =
+      ap (λ z. item z (settled_items (setting s ds) column ys)) (settled_alike s g (inner_spot s column) a (ap (first_item x) h))
+      ∙ ap (λ z. item y z) (settled_items_alike s g column more (ap more_items h))
+
+  settled_pairs_alike : {K : Node → Node → Node → Node → Type 0} {ps qs : Pairs} {cs ds : List CommentValue} (s : Style) (g : Agrees K s cs ds) (column : ℕ) → AlikePairs K ps qs
+      → settled_pairs (setting s cs) column ps ≡ ps → settled_pairs (setting s ds) column qs ≡ qs
+  settled_pairs_alike s g column alike_no_pairs h = refl
+  settled_pairs_alike {cs = cs} {ds = ds} s g column (alike_pair {k = k} {l = l} {v = v} {w = w} {qs = qs} a b o more) h =
+      let key : settled (setting s ds) (key_spot s column l) l ≡ l =
+      ap (λ z. settled (setting s ds) z l) (sym (same_key_spot s column a)) ∙ settled_alike s g (key_spot s column k) a (ap (first_key k) h) in
+      let value : settled (setting s ds) (value_spot (setting s ds) column l w) w ≡ w =
+      ap (λ z. settled (setting s ds) z w) (sym (same_value_spot s column a b (g k v l w o))) ∙ settled_alike s g (value_spot (setting s cs) column k v) b (ap (first_value v) h) in
+      ap (λ z. pair z (settled (setting s ds) (value_spot (setting s ds) column l w) w) (settled_pairs (setting s ds) column qs)) key
+      ∙ (ap (λ z. pair l z (settled_pairs (setting s ds) column qs)) value ∙ ap (λ z. pair l w z) (settled_pairs_alike s g column more (ap more_pairs h)))
