@@ -183,3 +183,5 @@ pub mod TidyTexts
 pub mod LinedRows
 pub mod GapSpread
 pub mod LeadRows
+pub mod FoundLines
+pub mod FoundStreams
