@@ -158,3 +158,5 @@ pub mod PlacedRows
 pub mod FoundNodes
 pub mod FoundLines
 pub mod FoundStreams
+pub mod QuietRows
+pub mod FixedBlocks

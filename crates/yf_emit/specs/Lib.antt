@@ -48,3 +48,4 @@ pub mod TrailsOf
 pub mod Wanted
 pub mod Undisturbed
 pub mod FoundTrees
+pub mod AlikeBlocks
