@@ -159,4 +159,5 @@ pub mod FoundNodes
 pub mod FoundLines
 pub mod FoundStreams
 pub mod QuietRows
+pub mod FoundAgree
 pub mod FixedBlocks
