@@ -34,7 +34,7 @@ leaf_inside : {i j : ℕ} (a b : ℕ) (o : Option Span) → o ≡ from_to a b �
 unfolding from_to
 leaf_inside {i} {j} a b o e l m = subst (λ w. Inside i j (starts_of (spans_of_leaf w))) (sym e) (one_inside l m none_inside)
 
-colon_order : {t : List ℕ} {i j : ℕ} {c : Option ℕ} → ColonStands t i j c → i ≤ j
+pub colon_order : {t : List ℕ} {i j : ℕ} {c : Option ℕ} → ColonStands t i j c → i ≤ j
 colon_order (no_colon l) = l
 colon_order (a_colon l e m) = omega (arith, l, m)
 

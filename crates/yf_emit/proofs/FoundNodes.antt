@@ -1,5 +1,5 @@
 -- A node that is found where rows were laid out: it differs from the one that was by places alone, and its parts stand on those rows.
-use Rattle.std.proofs.Common.{◌≡◌, ◌≢◌, ℕ, ◌+◌, ◌≤◌, Bool, true, false, List, [], ◌∷◌, ◌++◌, map, Option, Some, None, refl, sym, ap, ◌∙◌, subst, arith, append_assoc, append-nil}
+use Rattle.std.proofs.Common.{◌≡◌, ◌≢◌, ℕ, ◌+◌, ◌<◌, ◌≤◌, Bool, true, false, List, [], ◌∷◌, ◌++◌, map, Option, Some, None, refl, sym, ap, ◌∙◌, subst, arith, append_assoc, append-nil}
 use Rattle.std.specs.Prelude.{is_some, not, ◌&&◌, if◌then◌else◌}
 use Rattle.yf_comments.specs.Comment.{CommentValue}
 use Rattle.yf_props.specs.Props.{PropsValue, no_props}
@@ -9,18 +9,18 @@ use Rattle.yf_events.specs.declared.event.Entry.{Entry}
 use Rattle.yf_events.specs.declared.event.ScalarStyle.{ScalarStyle}
 use Rattle.yf_events.specs.declared.event.ScalarStyle.TheVariants.{Plain, Single, Double, Literal, Folded}
 use Rattle.yf_events.specs.declared.event.Span.{Span}
-use Rattle.yf_events.specs.Tree.{Standing, Node, scalar, alias, sequence, mapping, Items, no_items, item, Pairs, no_pairs, pair, flat, flat_items, flat_pairs, leaves, items_in, entry_start, starts_of_entry, standing, spans_of_leaf, placed, unplaced}
+use Rattle.yf_events.specs.Tree.{Standing, Node, scalar, alias, sequence, mapping, Items, no_items, item, Pairs, no_pairs, pair, flat, flat_items, flat_pairs, leaves, items_in, entry_start, starts_of_entry, standing, spans_of_leaf, is_block_collection, placed, unplaced}
 use Rattle.yf_grammar.specs.Meaning.{Meaning, ◌⊕◌, behind, noting, plain_event, from_to, empty_node, collection, with_props, first_entering, entering}
 use Rattle.yf_grammar.specs.Meant.{Anywhere, Meant}
 use Rattle.yf_grammar.proofs.MeantLemmas.{entered, entered_events}
 use Rattle.yf_events.proofs.TreeLemmas.{node_unique}
 use Rattle.yf_grammar.proofs.NodePlaces.{NodeStands, stands_nowhere, scalar_stands, alias_stands, sequence_stands, mapping_stands}
 use Rattle.yf_emit.specs.Fits.{is_block_style, is_inline}
-use Rattle.yf_emit.specs.Normal.{Setting, is_implicit, key_comment, value_entries}
+use Rattle.yf_emit.specs.Normal.{Setting, entry_or, is_implicit, key_comment, value_entries}
 use Rattle.yf_emit.specs.OneLine.{written, props_text}
 use Rattle.yf_emit.specs.Rows.{begins_below, colon_offset, is_empty_text}
-use Rattle.yf_emit.proofs.AlikeLemmas.{same_below, same_implicit, same_sequence}
-use Rattle.yf_emit.proofs.PlacedRows.{PlacedRow}
+use Rattle.yf_emit.proofs.AlikeLemmas.{same_below, same_block, same_implicit, same_sequence}
+use Rattle.yf_emit.proofs.PlacedRows.{Inside, PlacedRow}
 
 -- a row that a sign begins, with these items, and the rows of what stands behind it
 pub data SignRows (items : List ℕ) : List PlacedRow → List PlacedRow → Type 0 where
@@ -43,10 +43,10 @@ pub data HeadAt (q e : ℕ) : List PlacedRow → Type 0 where
 
 -- the key stands on the first of these rows
 pub data KeyOn (t : List ℕ) (k : Node) : List PlacedRow → Type 0 where
-  key_on : {a b : ℕ} {h : PlacedRow} {hs : List PlacedRow} → NodeStands t a b k → h.from ≤ a → b ≤ h.upto → KeyOn t k (h ∷ hs)
+  key_on : {a b : ℕ} {h : PlacedRow} {hs : List PlacedRow} → NodeStands t a b k → h.from ≤ a → b < h.upto → entry_or 0 (standing k).entry ≡ h.from → KeyOn t k (h ∷ hs)
 
-pub key_at : {t : List ℕ} {k : Node} {q e : ℕ} {hs : List PlacedRow} → NodeStands t q e k → HeadAt q e hs → KeyOn t k hs
-key_at n (head_at f l) = key_on n (omega (arith, f)) l
+pub key_at : {t : List ℕ} {k : Node} {q e : ℕ} {hs : List PlacedRow} → NodeStands t q e k → entry_or 0 (standing k).entry ≡ q → HeadAt q (e + 1) hs → KeyOn t k hs
+key_at n g (head_at f l) = key_on n (omega (arith, f)) (omega (arith, l)) (g ∙ sym f)
 
 -- The rows of a node whose entries stand at a column.
 mutual
@@ -55,14 +55,16 @@ mutual
     line_rows : {m a b : ℕ} {x y : Node} {p : PlacedRow} → is_inline y ≡ true → written y ≢ [] → p.items ≡ items_in y → p.leaves ≡ leaves y → p.commented ≡ false
         → NodeStands t a b y → p.from ≤ a → b ≤ p.upto → NodeRows t s m x y (p ∷ [])
     scalar_rows : {m : ℕ} {x : Node} {at : Standing} {props : PropsValue} {style : ScalarStyle} {text : List ℕ} {lines : List (List ℕ)} {p : PlacedRow} → is_block_style style ≡ true
-        → p.items ≡ map (λ s. s.start) (spans_of_leaf at.span) → p.leaves ≡ spans_of_leaf at.span → p.commented ≡ false → NodeRows t s m x (scalar at props style text lines) (p ∷ [])
-    sequence_rows : {m : ℕ} {at bt : Standing} {props : PropsValue} {xs ys : Items} {ps : List PlacedRow} → is_empty_text (props_text props) ≡ true → ItemsRows t s m xs ys ps
+        → Inside p.from p.upto (map (λ s. s.start) (spans_of_leaf at.span)) → p.items ≡ map (λ s. s.start) (spans_of_leaf at.span) → p.leaves ≡ spans_of_leaf at.span → p.commented ≡ false → NodeRows t s m x (scalar at props style text lines) (p ∷ [])
+    sequence_rows : {m : ℕ} {at bt : Standing} {props : PropsValue} {xs ys : Items} {ps : List PlacedRow} → is_block_collection (sequence bt false props ys) ≡ true → is_empty_text (props_text props) ≡ true → ItemsRows t s m xs ys ps
         → NodeRows t s m (sequence at false props xs) (sequence bt false props ys) ps
-    sequence_behind : {m : ℕ} {at bt : Standing} {props : PropsValue} {xs ys : Items} {p : PlacedRow} {ps : List PlacedRow} → is_empty_text (props_text props) ≡ false → p.items ≡ [] → p.leaves ≡ []
+    sequence_behind : {m : ℕ} {at bt : Standing} {props : PropsValue} {xs ys : Items} {p : PlacedRow} {ps : List PlacedRow} → is_block_collection (sequence bt false props ys) ≡ true
+        → is_empty_text (props_text props) ≡ false → p.items ≡ [] → p.leaves ≡ []
         → p.commented ≡ false → ItemsRows t s m xs ys ps → NodeRows t s m (sequence at false props xs) (sequence bt false props ys) (p ∷ ps)
-    mapping_rows : {m : ℕ} {at bt : Standing} {props : PropsValue} {xs ys : Pairs} {ps : List PlacedRow} → is_empty_text (props_text props) ≡ true → PairsRows t s m xs ys ps
+    mapping_rows : {m : ℕ} {at bt : Standing} {props : PropsValue} {xs ys : Pairs} {ps : List PlacedRow} → is_block_collection (mapping bt false props ys) ≡ true → is_empty_text (props_text props) ≡ true → PairsRows t s m xs ys ps
         → NodeRows t s m (mapping at false props xs) (mapping bt false props ys) ps
-    mapping_behind : {m : ℕ} {at bt : Standing} {props : PropsValue} {xs ys : Pairs} {p : PlacedRow} {ps : List PlacedRow} → is_empty_text (props_text props) ≡ false → p.items ≡ [] → p.leaves ≡ []
+    mapping_behind : {m : ℕ} {at bt : Standing} {props : PropsValue} {xs ys : Pairs} {p : PlacedRow} {ps : List PlacedRow} → is_block_collection (mapping bt false props ys) ≡ true
+        → is_empty_text (props_text props) ≡ false → p.items ≡ [] → p.leaves ≡ []
         → p.commented ≡ false → PairsRows t s m xs ys ps → NodeRows t s m (mapping at false props xs) (mapping bt false props ys) (p ∷ ps)
 
   pub data ItemsRows (t : List ℕ) (s : Setting) : ℕ → Items → Items → List PlacedRow → Type 0 where
@@ -176,15 +178,23 @@ entry_entered e (alias at name) = refl
 entry_entered e (sequence at flow props xs) = refl
 entry_entered e (mapping at flow props ps) = refl
 
+block_entered : (e : Entry) (y : Node) → is_block_collection y ≡ true → is_block_collection (entered e y) ≡ true
+block_entered e (scalar at props style text lines) f = f
+block_entered e (alias at name) f = f
+block_entered e (sequence at flow props no_items) f = f
+block_entered e (sequence at flow props (item x xs)) f = f
+block_entered e (mapping at flow props no_pairs) f = f
+block_entered e (mapping at flow props (pair k v ps)) f = f
+
 pub rows_entered : {t : List ℕ} {s : Setting} {m : ℕ} {x y : Node} {ps : List PlacedRow} (e : Entry) → NodeRows t s m x y ps → NodeRows t s m x (entered e y) ps
 rows_entered e (no_rows q) = no_rows q
 rows_entered e (line_rows {y = y} f n g h i st j k) =
     line_rows (inline_entered e y f) (λ z. n (sym (written_entered e y) ∙ z)) (g ∙ sym (items_entered e y)) (h ∙ sym (leaves_entered e y)) i (stands_entered e st) j k
-rows_entered e (scalar_rows f g h i) = scalar_rows f g h i
-rows_entered e (sequence_rows f a) = sequence_rows f a
-rows_entered e (sequence_behind f g h i a) = sequence_behind f g h i a
-rows_entered e (mapping_rows f a) = mapping_rows f a
-rows_entered e (mapping_behind f g h i a) = mapping_behind f g h i a
+rows_entered e (scalar_rows f n g h i) = scalar_rows f n g h i
+rows_entered e (sequence_rows {bt = bt} {props = props} {ys = ys} b f a) = sequence_rows (block_entered e (sequence bt false props ys) b) f a
+rows_entered e (sequence_behind {bt = bt} {props = props} {ys = ys} b f g h i a) = sequence_behind (block_entered e (sequence bt false props ys) b) f g h i a
+rows_entered e (mapping_rows {bt = bt} {props = props} {ys = ys} b f a) = mapping_rows (block_entered e (mapping bt false props ys) b) f a
+rows_entered e (mapping_behind {bt = bt} {props = props} {ys = ys} b f g h i a) = mapping_behind (block_entered e (mapping bt false props ys) b) f g h i a
 
 -- an empty node
 
@@ -308,7 +318,7 @@ module _ {t : List ℕ} {s : Setting} {m : ℕ} where
 
   -- an implicit key, which begins at q and whose `:` stands at colon, and its value
   pub found_implicit : {k v : Node} {two : Meaning} {ps hs : List PlacedRow} (one : Meaning) (q colon : ℕ) (key : Node) (b : Bool) → b ≡ is_some (key_comment s.comments k v) → is_implicit s.style m k ≡ true → Alike Anywhere k key → one.events ≡ flat key → one.escapes ≡ []
-      → NodeStands t q (colon + 1) key → HeadAt q (colon + 1) hs → FoundNode t s (value_entries s.style m v) v two ps → KeyRows (q ∷ items_in key) (leaves key) b (begins_below v) ps hs
+      → NodeStands t q colon key → HeadAt q (colon + 1) hs → FoundNode t s (value_entries s.style m v) v two ps → KeyRows (q ∷ items_in key) (leaves key) b (begins_below v) ps hs
       → FoundPair t s m k v (entering q (Some colon) one ⊕ two) hs
   unfolding entering ◌⊕◌
   found_implicit {k} {v} {two} {ps} {hs} one q colon key b flag e a events escapes st head value rows =
@@ -327,7 +337,7 @@ module _ {t : List ℕ} {s : Setting} {m : ℕ} where
         alike_value = value.alike;
         events = ap (λ z. z ++ two.events) (ap (first_entering entry) events ∙ entered_events entry key) ∙ ap (λ z. flat (entered entry key) ++ z) value.events;
         escapes = ap (λ z. z ++ two.escapes) escapes ∙ value.escapes;
-        rows = implicit_rows b flag (sym (same_implicit s.style m alike) ∙ e) (key_at (stands_entered entry st) head)
+        rows = implicit_rows b flag (sym (same_implicit s.style m alike) ∙ e) (key_at (stands_entered entry st) (ap (λ o. entry_or 0 o) (entry_entered entry key)) head)
             (subst (λ z. NodeRows t s z v value.node ps) (ap (λ z. if z && not s.style.seq_indent then m else m + s.style.indent) (same_sequence value.alike)) value.rows) moved;
       }
 
@@ -337,48 +347,48 @@ abbrev spanned : ℕ → ℕ → Option ℕ → Standing
 spanned i j o = record { span = from_to i j; tag_offset = o; entry = None }
 
 module _ {t : List ℕ} {s : Setting} {m : ℕ} where
-  pub found_sequence : {at : Standing} {xs : Items} {meaning : Meaning} {ps : List PlacedRow} (i j : ℕ) → is_some at.span ≡ true → FoundItems t s m xs meaning ps
+  pub found_sequence : {at : Standing} {xs : Items} {meaning : Meaning} {ps : List PlacedRow} (i j : ℕ) → is_some at.span ≡ true → is_block_collection (sequence at false no_props xs) ≡ true → FoundItems t s m xs meaning ps
       → FoundNode t s m (sequence at false no_props xs) (collection true false i j meaning) ps
   unfolding collection plain_event from_to
-  found_sequence i j e a = record {
+  found_sequence {at = at} {xs = xs} i j e n a = record {
     node = sequence (spanned i j None) false no_props a.items;
     alike = alike_sequences e a.alike;
     events = ap (λ z. placed (spanned i j None) (sequence_starts false no_props) [] ∷ (z ++ (unplaced sequence_ends ∷ []))) a.events;
     escapes = a.escapes;
-    rows = sequence_rows refl a.rows;
+    rows = sequence_rows (sym (same_block {K = Anywhere} {x = sequence at false no_props xs} {y = sequence (spanned i j None) false no_props a.items} (alike_sequences e a.alike)) ∙ n) refl a.rows;
   }
 
-  pub found_mapping : {at : Standing} {xs : Pairs} {meaning : Meaning} {ps : List PlacedRow} (i j : ℕ) → is_some at.span ≡ true → FoundPairs t s m xs meaning ps
+  pub found_mapping : {at : Standing} {xs : Pairs} {meaning : Meaning} {ps : List PlacedRow} (i j : ℕ) → is_some at.span ≡ true → is_block_collection (mapping at false no_props xs) ≡ true → FoundPairs t s m xs meaning ps
       → FoundNode t s m (mapping at false no_props xs) (collection false false i j meaning) ps
   unfolding collection plain_event from_to
-  found_mapping i j e a = record {
+  found_mapping {at = at} {xs = xs} i j e n a = record {
     node = mapping (spanned i j None) false no_props a.pairs;
     alike = alike_mappings e a.alike;
     events = ap (λ z. placed (spanned i j None) (mapping_starts false no_props) [] ∷ (z ++ (unplaced mapping_ends ∷ []))) a.events;
     escapes = a.escapes;
-    rows = mapping_rows refl a.rows;
+    rows = mapping_rows (sym (same_block {K = Anywhere} {x = mapping at false no_props xs} {y = mapping (spanned i j None) false no_props a.pairs} (alike_mappings e a.alike)) ∙ n) refl a.rows;
   }
 
   pub found_sequence_with : {at : Standing} {xs : Items} {meaning : Meaning} {h : PlacedRow} {ps : List PlacedRow} (p : PropsValue) (o : Option ℕ) (f g i j : ℕ) → is_some at.span ≡ true
-      → is_empty_text (props_text p) ≡ false → h.items ≡ [] → h.leaves ≡ [] → h.commented ≡ false → FoundItems t s m xs meaning ps
+      → is_block_collection (sequence at false p xs) ≡ true → is_empty_text (props_text p) ≡ false → h.items ≡ [] → h.leaves ≡ [] → h.commented ≡ false → FoundItems t s m xs meaning ps
       → FoundNode t s m (sequence at false p xs) (with_props p o f g (collection true false i j meaning)) (h ∷ ps)
   unfolding collection plain_event from_to with_props
-  found_sequence_with p o f g i j e n k l c a = record {
+  found_sequence_with {at = at} {xs = xs} p o f g i j e b n k l c a = record {
     node = sequence (spanned f j o) false p a.items;
     alike = alike_sequences e a.alike;
     events = ap (λ z. placed (spanned f j o) (sequence_starts false p) [] ∷ (z ++ (unplaced sequence_ends ∷ []))) a.events;
     escapes = a.escapes;
-    rows = sequence_behind n k l c a.rows;
+    rows = sequence_behind (sym (same_block {K = Anywhere} {x = sequence at false p xs} {y = sequence (spanned f j o) false p a.items} (alike_sequences e a.alike)) ∙ b) n k l c a.rows;
   }
 
   pub found_mapping_with : {at : Standing} {xs : Pairs} {meaning : Meaning} {h : PlacedRow} {ps : List PlacedRow} (p : PropsValue) (o : Option ℕ) (f g i j : ℕ) → is_some at.span ≡ true
-      → is_empty_text (props_text p) ≡ false → h.items ≡ [] → h.leaves ≡ [] → h.commented ≡ false → FoundPairs t s m xs meaning ps
+      → is_block_collection (mapping at false p xs) ≡ true → is_empty_text (props_text p) ≡ false → h.items ≡ [] → h.leaves ≡ [] → h.commented ≡ false → FoundPairs t s m xs meaning ps
       → FoundNode t s m (mapping at false p xs) (with_props p o f g (collection false false i j meaning)) (h ∷ ps)
   unfolding collection plain_event from_to with_props
-  found_mapping_with p o f g i j e n k l c a = record {
+  found_mapping_with {at = at} {xs = xs} p o f g i j e b n k l c a = record {
     node = mapping (spanned f j o) false p a.pairs;
     alike = alike_mappings e a.alike;
     events = ap (λ z. placed (spanned f j o) (mapping_starts false p) [] ∷ (z ++ (unplaced mapping_ends ∷ []))) a.events;
     escapes = a.escapes;
-    rows = mapping_behind n k l c a.rows;
+    rows = mapping_behind (sym (same_block {K = Anywhere} {x = mapping at false p xs} {y = mapping (spanned f j o) false p a.pairs} (alike_mappings e a.alike)) ∙ b) n k l c a.rows;
   }

@@ -344,7 +344,7 @@ module _ {s : Setting} {k v : Node} {spot : Spot} {rs : List Row} (column : ℕ)
           rest = one.rest;
           start = one.start;
           found_rows = one.found_rows;
-          meant = found_implicit (n.node.mean q) q key.place found (is_some o) flag implicit (placed_node at (n.node.meant q)) at.events (n.node.meant q).escapes stands one.head
+          meant = found_implicit (n.node.mean q) q key.place found (is_some o) flag implicit (placed_node at (n.node.meant q)) at.events (n.node.meant q).escapes (node_upto at.stands at.ends) one.head
               (subst (λ z. FoundNode t s z v one.meaning one.inner) entries one.meant) (subst (λ z. KeyRows (q ∷ items_in found) (leaves_of found) (is_some o) z one.inner one.found_rows) same one.keyed);
           placed = subst (λ z. RowsIn t (behind_key (key_head column (written k ++ colon_behind k) items leaves blank) o below rs) one.found_rows ds q z one.place r)
               (sym (comments_both (entering q (Some key.place) (n.node.mean q)) one.meaning

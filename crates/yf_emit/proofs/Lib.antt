@@ -185,3 +185,6 @@ pub mod GapSpread
 pub mod LeadRows
 pub mod FoundLines
 pub mod FoundStreams
+pub mod FoundQuiet
+pub mod FoundAgree
+pub mod FixedBlocks

@@ -255,7 +255,7 @@ bare_found : {t : List ℕ} {at : Standing} {style : ScalarStyle} {text : List �
     → FoundNode t s column (scalar at no_props style text lines) m (leaf_row i m.finish ∷ [])
 unfolding from_to
 bare_found {style = style} {text = text} {lines = lines} s column indent i m e f events escapes = record {
-  rows = scalar_rows f.block refl refl refl;
+  rows = scalar_rows f.block (one_inside (omega arith) (omega arith) none_inside) refl refl refl;
   node = scalar (record { span = from_to i m.finish; tag_offset = None; entry = None }) no_props style text lines;
   alike = alike_scalars e;
   events = events ∙ λ z. record {
@@ -273,7 +273,7 @@ props_found : {t : List ℕ} {at : Standing} {style : ScalarStyle} {text : List 
     → FoundNode t s column (scalar at p style text lines) (with_props p o q g m) (leaf_row q m.finish ∷ [])
 unfolding from_to with_props
 props_found {style = style} {text = text} {lines = lines} s column indent i q g p o m e f events escapes = record {
-  rows = scalar_rows f.block refl refl refl;
+  rows = scalar_rows f.block (one_inside (omega arith) (omega arith) none_inside) refl refl refl;
   node = scalar (record { span = from_to q m.finish; tag_offset = o; entry = None }) p style text lines;
   alike = alike_scalars e;
   events = ap (λ es. first_with p o q g es) events ∙ λ z. record {

@@ -163,18 +163,18 @@ mutual
   node_everywhere c (fit_sequence {at = at} {p = p} {x = x} {xs = xs} e props f fs) = record { claim = λ spot. sequence_claim spot props (items_everywhere c spot.entries (node_everywhere c f) fs) } where
     sequence_claim : (spot : Spot) {p : PropsValue} → FitProps p → EntriesMakes true spot.entries (tall_items (item x xs)) (λ t m ps. FoundItems t c spot.entries (item x xs) m ps) (rows_of_items c spot.entries (item x xs))
         → Claim c (sequence at false p (item x xs)) spot (props_row spot.column (props_text p) ++ rows_of_items c spot.entries (item x xs))
-    sequence_claim spot no_fit_props made = bare_claim refl refl refl (λ t i j m ps a. found_sequence i j e a) made
+    sequence_claim spot no_fit_props made = bare_claim refl refl refl (λ t i j m ps a. found_sequence i j e refl a) made
     sequence_claim spot (some_fit_props {p = p} k n) made =
         propertied_claim k n (ap is_empty_text (same_props k) ∙ some_props k n) refl refl
-        (λ t o f g i j m h ps y z w a. found_sequence_with p o f g i j e (ap is_empty_text (same_props k) ∙ some_props k n) y z w a) made
+        (λ t o f g i j m h ps y z w a. found_sequence_with p o f g i j e refl (ap is_empty_text (same_props k) ∙ some_props k n) y z w a) made
   node_everywhere c (fit_mapping {at = at} {p = p} {k = k} {v = v} {ps = ps} e props f g fs) =
       record { claim = λ spot. mapping_claim spot props (pairs_everywhere c spot.entries f (node_everywhere c f) (node_everywhere c g) fs) } where
         mapping_claim : (spot : Spot) {p : PropsValue} → FitProps p → EntriesMakes false spot.entries (tall_pairs (pair k v ps)) (λ t m qs. FoundPairs t c spot.entries (pair k v ps) m qs) (rows_of_pairs c spot.entries (pair k v ps))
             → Claim c (mapping at false p (pair k v ps)) spot (props_row spot.column (props_text p) ++ rows_of_pairs c spot.entries (pair k v ps))
-        mapping_claim spot no_fit_props made = bare_claim refl refl refl (λ t i j m qs a. found_mapping i j e a) made
+        mapping_claim spot no_fit_props made = bare_claim refl refl refl (λ t i j m qs a. found_mapping i j e refl a) made
         mapping_claim spot (some_fit_props {p = p} k n) made =
             propertied_claim k n (ap is_empty_text (same_props k) ∙ some_props k n) refl refl
-            (λ t o f g i j m h qs y z w a. found_mapping_with p o f g i j e (ap is_empty_text (same_props k) ∙ some_props k n) y z w a) made
+            (λ t o f g i j m h qs y z w a. found_mapping_with p o f g i j e refl (ap is_empty_text (same_props k) ∙ some_props k n) y z w a) made
 
   items_everywhere : (c : Setting) (column : ℕ) {x : Node} {xs : Items} → Everywhere c x → FitItems xs
       → EntriesMakes true column (tall_items (item x xs)) (λ t m ps. FoundItems t c column (item x xs) m ps) (rows_of_items c column (item x xs))
