@@ -13,7 +13,8 @@ use Rattle.yf_emit.specs.Layout.{layout}
 use Rattle.yf_emit.specs.Normal.{Normal, Setting, normal_document, root_spot, setting_of, settled, styled}
 use Rattle.yf_emit.proofs.AlikeLemmas.{setting}
 use Rattle.yf_emit.proofs.DecoratedLemmas.{layout_then}
-use Rattle.yf_emit.proofs.FixedNodes.{settled_alike, styled_alike}
+use Rattle.yf_emit.proofs.FixedBlocks.{blocks_alike, settled_blocks}
+use Rattle.yf_emit.proofs.FixedNodes.{styled_alike}
 use Rattle.yf_emit.proofs.FixedRows.{found_rows, same_lines}
 use Rattle.yf_emit.proofs.FormatTrails.{normal_trees}
 use Rattle.yf_emit.proofs.SettledTwice.{settled_twice}
@@ -37,7 +38,7 @@ documents_fixed {s} {cs} {es} {u} t (z ∷ read) e (one_found {x = x} {y = y} {x
     ap (λ (w : DocumentTree). settled c (root_spot s) w.root) here ∙ (settled_twice c (root_spot s) (root_spot s) (styled t c z.root) (record { entries = refl; column = λ q. refl })
     ∙ sym (ap (λ (w : DocumentTree). w.root) here)) in
     let root : settled d (root_spot s) (styled u d y.root) ≡ y.root =
-    ap (λ w. settled d (root_spot s) w) (styled_alike u d a house f) ∙ settled_alike s (λ k v l w z. z) (root_spot s) a settles in
+    ap (λ w. settled d (root_spot s) w) (styled_alike u d (blocks_alike a) house f) ∙ settled_blocks s (root_spot s) a settles in
     ap (λ w. record y { root = w } ∷ map (normal_document u d) ys) root ∙ ap (λ w. y ∷ w) (documents_fixed t read rest more) where
       head_or : DocumentTree → List DocumentTree → DocumentTree
       head_or other [] = other

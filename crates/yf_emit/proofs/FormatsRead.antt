@@ -191,8 +191,8 @@ formats_laid t u s utf8 f =
     let fit = formats_fit utf8 f in
     let remarks : AreRemarks m.comments = subst (λ cs. AreRemarks cs) (sym n.comments) (reading_remarks utf8 f.reads) in
     let text : IsUtf8 u = subst (λ w. IsUtf8 w) (sym f.writes.is) (layouts_are_texts m s trees fit remarks trails) in
-    let laid : StreamLaid u m.documents trees (first_gap m (rows_of m s trees)) (rows_of m s trees) (row_decos m (rows_of m s trees)) =
-    subst (λ w. StreamLaid w m.documents trees (first_gap m (rows_of m s trees)) (rows_of m s trees) (row_decos m (rows_of m s trees))) (sym f.writes.is) (layouts_are_laid m s trees fit remarks trails) in
+    let laid : StreamLaid u (setting_of m s) m.documents trees (first_gap m (rows_of m s trees)) (rows_of m s trees) (row_decos m (rows_of m s trees)) =
+    subst (λ w. StreamLaid w (setting_of m s) m.documents trees (first_gap m (rows_of m s trees)) (rows_of m s trees) (row_decos m (rows_of m s trees))) (sym f.writes.is) (layouts_are_laid m s trees fit remarks trails) in
     let made : StreamMade u m.documents trees (printed_comments m s trees) = laid.made in
     let shapes = f.reads.reads.shapes in
     let derived = stream_derived shapes.derived in

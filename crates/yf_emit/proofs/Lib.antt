@@ -187,3 +187,8 @@ pub mod GapSpread
 pub mod LeadRows
 pub mod SetNodes
 pub mod FlowEvents
+pub mod FoundLines
+pub mod FoundStreams
+pub mod FoundQuiet
+pub mod FoundAgree
+pub mod FixedBlocks

@@ -49,3 +49,4 @@ pub mod TrailsOf
 pub mod Wanted
 pub mod Undisturbed
 pub mod FoundTrees
+pub mod AlikeBlocks
