@@ -30,7 +30,8 @@ use Rattle.yf_emit.proofs.CommentsFit.{reading_remarks}
 use Rattle.yf_emit.proofs.FormatTrails.{formats_trail, normal_trees}
 use Rattle.yf_emit.proofs.LayoutLawsHold.{layouts_are_texts, layouts_are_laid}
 use Rattle.yf_emit.proofs.NormalRestyled.{root_restyled}
-use Rattle.yf_emit.proofs.StreamsMade.{DocumentsLaid, StreamLaid}
+use Rattle.yf_emit.proofs.StreamParts.{DocumentsLaid}
+use Rattle.yf_emit.proofs.StreamsMade.{StreamLaid}
 use Rattle.yf_emit.proofs.TreesRead.{document_read, reading_fits, same_node}
 
 -- Heights: styles and brackets change none.

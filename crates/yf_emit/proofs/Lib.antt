@@ -100,6 +100,7 @@ pub mod KeysMade
 pub mod CollectionsMade
 pub mod TreesMade
 pub mod DocumentsMade
+pub mod StreamParts
 pub mod StreamsMade
 pub mod LayoutLawsHold
 -- trees that are alike up to places are laid out alike (a second run changes nothing)
@@ -160,4 +161,5 @@ pub mod FoundLines
 pub mod FoundStreams
 pub mod QuietRows
 pub mod FoundAgree
+pub mod FoundKeys
 pub mod FixedBlocks
