@@ -162,4 +162,8 @@ pub mod FoundStreams
 pub mod QuietRows
 pub mod FoundAgree
 pub mod FoundKeys
+pub mod BareNodes
+pub mod BareTrees
+pub mod FoundTexts
 pub mod FixedBlocks
+pub mod FixedLawsHold

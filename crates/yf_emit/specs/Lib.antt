@@ -49,3 +49,4 @@ pub mod Wanted
 pub mod Undisturbed
 pub mod FoundTrees
 pub mod AlikeBlocks
+pub mod FixedLaws
