@@ -149,13 +149,13 @@ linked_right (x ∷ xs) ys (linked_row f a) = linked_right xs ys a
 
 -- Notes on comments leave them where they stand.
 
-quiet_noted : {t : List ℕ} {es : List Placed} {x y : List CommentValue} {p : PlacedRow} → NotedComments t es x y → Quiet x p → Quiet y p
-quiet_noted no_comment each_none = each_none
-quiet_noted (one_comment m a) (each_more e b) = each_more e (quiet_noted a b)
+quiet_noted : {t : List ℕ} {es : List Placed} {x y : List CommentValue} (p : PlacedRow) → NotedComments t es x y → Quiet x p → Quiet y p
+quiet_noted p no_comment each_none = each_none
+quiet_noted p (one_comment m a) (each_more e b) = each_more e (quiet_noted p a b)
 
 pub quiet_offsets : {t : List ℕ} {es : List Placed} {x y : List CommentValue} {ps : List PlacedRow} → NotedComments t es x y → AllQuiet x ps → AllQuiet y ps
 quiet_offsets n quiet_none = quiet_none
-quiet_offsets n (quiet_row {p = p} q a) = quiet_row (quiet_noted {p = p} n q) (quiet_offsets n a)
+quiet_offsets n (quiet_row {p = p} q a) = quiet_row (quiet_noted p n q) (quiet_offsets n a)
 
 record InNoted (d : CommentValue) (y : List CommentValue) : Type 0 where
   other : CommentValue
