@@ -102,6 +102,7 @@ pub mod CollectionsMade
 pub mod TreesMade
 pub mod DocumentsMade
 pub mod DocumentsHeld
+pub mod StreamParts
 pub mod StreamsMade
 pub mod LayoutLawsHold
 -- trees that are alike up to places are laid out alike (a second run changes nothing)
@@ -191,4 +192,9 @@ pub mod FoundLines
 pub mod FoundStreams
 pub mod FoundQuiet
 pub mod FoundAgree
+pub mod FoundKeys
+pub mod BareNodes
+pub mod BareTrees
+pub mod FoundTexts
 pub mod FixedBlocks
+pub mod FixedLawsHold
