@@ -9,7 +9,6 @@ use Rattle.yf_emit.specs.declared.style.Style.{Style}
 use Rattle.yf_emit.specs.Decorated.{decorated, first_gap, gap_then, lines_then, row_decos, rows_of}
 use Rattle.yf_emit.specs.Format.{Formats}
 use Rattle.yf_emit.specs.FoundTrees.{FoundSame, FoundTrees, none_found, one_found}
-use Rattle.yf_emit.specs.Layout.{layout}
 use Rattle.yf_emit.specs.Normal.{Normal, Setting, normal_document, root_spot, setting_of, settled, styled}
 use Rattle.yf_emit.proofs.AlikeLemmas.{setting}
 use Rattle.yf_emit.proofs.DecoratedLemmas.{layout_then}

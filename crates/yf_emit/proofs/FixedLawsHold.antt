@@ -1,15 +1,13 @@
 -- The reading of what formatting gives is in normal form.
-use Rattle.std.proofs.Common.{◌≡◌, ℕ, ◌+◌, ◌<◌, ◌≤◌, List, [], ◌∷◌, ◌++◌, length, map, flat_map, Option, refl, sym, ap, ◌∙◌, subst, arith, append-nil}
-use Rattle.std.specs.Str.{IsUtf8}
+use Rattle.std.proofs.Common.{◌≡◌, ℕ, ◌+◌, ◌<◌, List, [], ◌∷◌, ◌++◌, length, map, sym, ap, ◌∙◌, subst, append-nil}
 use Rattle.std.proofs.lemmas.List.{length-map}
 use Rattle.yf_comments.specs.Comment.{CommentValue}
-use Rattle.yf_events.specs.Event.{Placed, stream_starts, stream_ends}
-use Rattle.yf_events.specs.Tree.{DocumentTree, flat_document, flat_stream, unplaced}
+use Rattle.yf_events.specs.Event.{stream_starts, stream_ends}
+use Rattle.yf_events.specs.Tree.{DocumentTree, flat_stream, unplaced}
 use Rattle.yf_events.specs.declared.lists.Lists.{Lists}
-use Rattle.yf_stream.specs.ReadingOf.{NotedComments, no_comment, one_comment, ReadingOf, doc_of}
-use Rattle.yf_stream.specs.Stream.{Document, Documents}
-use Rattle.yf_emit.specs.declared.style.Style.{Style}
-use Rattle.yf_emit.specs.Decorated.{Deco, row_decos, rows_of}
+use Rattle.yf_stream.specs.ReadingOf.{doc_of}
+use Rattle.yf_stream.specs.Stream.{Documents}
+use Rattle.yf_emit.specs.Decorated.{Deco, rows_of}
 use Rattle.yf_emit.specs.FitDocuments.{DocumentsMeant}
 use Rattle.yf_emit.specs.FixedLaws.{FormatsAreNormal}
 use Rattle.yf_emit.specs.FoundTrees.{FoundTrees}
@@ -17,12 +15,12 @@ use Rattle.yf_emit.specs.Normal.{Setting, normal_document, setting_of}
 use Rattle.yf_emit.specs.Rows.{Row}
 use Rattle.yf_emit.proofs.BareNodes.{bare_tree, bared, noting_bare}
 use Rattle.yf_emit.proofs.BareTrees.{trees_bare}
-use Rattle.yf_emit.proofs.CommentsCut.{Each, each_none, each_more}
+use Rattle.yf_emit.proofs.CommentsCut.{Each, each_none}
 use Rattle.yf_emit.proofs.FixedFormats.{found_normal}
 use Rattle.yf_emit.proofs.FormatTrails.{normal_trees}
 use Rattle.yf_emit.proofs.FormatsRead.{formats_laid}
 use Rattle.yf_emit.proofs.FoundStreams.{StreamIn, no_stream, stream_in, FoundDocuments}
-use Rattle.yf_emit.proofs.FoundTexts.{RootsFound, Settled, normal_settled, roots_found, trees_found}
+use Rattle.yf_emit.proofs.FoundTexts.{Settled, normal_settled, roots_found, trees_found}
 use Rattle.yf_emit.proofs.PlacedRows.{PlacedRow}
 use Rattle.yf_emit.proofs.FoundQuiet.{AllQuiet, quiet_none, ascend_under, Carries, decos_carry, Linked, linked_none, quiet_offsets, linked_offsets, rows_linked, rows_quiet}
 

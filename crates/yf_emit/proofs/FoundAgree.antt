@@ -1,29 +1,23 @@
 -- Nodes that are found on quiet rows: no comment stands within a flow collection, and a comment trails a key exactly where one trailed it.
-use Rattle.std.proofs.Common.{◌≡◌, ◌≢◌, ℕ, ◌+◌, ◌<◌, ◌≤◌, Bool, true, false, not, ◌&&◌, ◌||◌, List, [], ◌∷◌, ◌++◌, length, Option, Some, None, refl, sym, ap, ◌∙◌, subst, arith, ◌⊎◌, inl, inr, ⊎_elim, true≢false}
+use Rattle.std.proofs.Common.{◌≡◌, ◌≢◌, ℕ, ◌+◌, ◌<◌, ◌≤◌, Bool, true, false, ◌&&◌, ◌||◌, List, [], ◌∷◌, Option, Some, None, refl, sym, ap, ◌∙◌, arith, ◌⊎◌, inl, inr, ⊎_elim, true≢false}
 use Rattle.std.specs.Prelude.{is_some, ◌==◌, nat_lt, nat_le, find, if◌then◌else◌}
 use Rattle.std.specs.List.{list_any}
-use Rattle.std.proofs.lemmas.Bool.{and_parts}
 use Rattle.std.proofs.lemmas.Bool.Decides.{nat_tests}
 use Rattle.yf_comments.specs.Comment.{CommentValue}
 use Rattle.yf_props.specs.Props.{PropsValue}
-use Rattle.yf_events.specs.Alike.{Alike, alike_scalars, alike_aliases, alike_sequences, alike_mappings, AlikeItems, alike_nothing, alike_item, AlikePairs, alike_no_pairs, alike_pair}
 use Rattle.yf_events.specs.declared.event.Span.{Span}
-use Rattle.yf_events.specs.Tree.{Standing, Node, scalar, alias, sequence, mapping, Items, no_items, item, Pairs, no_pairs, pair, leaves, is_text, is_filled_flow, is_block_collection, standing}
+use Rattle.yf_events.specs.Tree.{Node, scalar, alias, sequence, mapping, Items, no_items, item, Pairs, no_pairs, pair, leaves, is_text, is_filled_flow, is_block_collection}
 use Rattle.yf_grammar.specs.Meaning.{from_to}
-use Rattle.yf_grammar.specs.Meant.{Anywhere}
 use Rattle.yf_grammar.proofs.NodePlaces.{NodeStands, stands_nowhere, scalar_stands, alias_stands, sequence_stands, mapping_stands, ItemsStand, no_items_stand, item_stands, PairsStand, no_pairs_stand, pair_stands, node_order, items_order, pairs_order}
 use Rattle.yf_emit.specs.ContentStart.{content_start, past_gap, past_second, property_len}
-use Rattle.yf_emit.specs.Fits.{is_inline}
 use Rattle.yf_emit.specs.Kept.{has_comment, is_within}
-use Rattle.yf_emit.specs.Normal.{Setting, Spot, first_between, key_comment, key_start, last_start}
-use Rattle.yf_emit.specs.Rows.{begins_below}
+use Rattle.yf_emit.specs.Normal.{Setting, key_start, last_start}
 use Rattle.yf_emit.specs.Undisturbed.{Undisturbed, undisturbed_scalar, undisturbed_alias, undisturbed_sequence, undisturbed_mapping, UndisturbedItems, undisturbed_end, undisturbed_item, UndisturbedPairs, undisturbed_last, undisturbed_pair}
-use Rattle.yf_emit.proofs.AlikeLemmas.{same_filled_flow, same_leaves, same_text}
 use Rattle.yf_emit.proofs.CommentsCut.{In, in_first, in_rest, Each, each_none, each_more, each_map}
 use Rattle.yf_emit.proofs.FoundLines.{colon_order, leaves_inside}
 use Rattle.yf_emit.proofs.FoundNodes.{SignRows, sign_alone, sign_joined, KeyRows, key_commented, key_above, key_alone, key_joined, KeyOn, key_on, NodeRows, no_rows, line_rows, scalar_rows, sequence_rows, sequence_behind, mapping_rows, mapping_behind, ItemsRows, no_item_rows, item_rows, PairRows, explicit_rows, implicit_rows, PairsRows, no_pair_rows, pair_rows}
-use Rattle.yf_emit.proofs.PlacedRows.{Inside, none_inside, one_inside, inside_wider, PlacedRow}
-use Rattle.yf_emit.proofs.FoundQuiet.{Quiet, AllQuiet, quiet_none, quiet_row, TrailsTo, trails_nothing, trails_to, Linked, linked_none, linked_row, quiet_left, quiet_right, linked_left, linked_right}
+use Rattle.yf_emit.proofs.PlacedRows.{Inside, one_inside, inside_wider, PlacedRow}
+use Rattle.yf_emit.proofs.FoundQuiet.{Quiet, AllQuiet, quiet_none, quiet_row, TrailsTo, trails_nothing, trails_to, Linked, linked_none, linked_row, quiet_left, quiet_right}
 use Rattle.yf_emit.proofs.StepsStand.{starts_of}
 
 -- Rows of parts.

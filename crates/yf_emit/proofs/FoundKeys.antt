@@ -1,12 +1,11 @@
 -- Of nodes that are found on quiet rows a comment trails a key exactly where one trailed the key that was laid out.
-use Rattle.std.proofs.Common.{◌≡◌, ◌≢◌, ℕ, ◌+◌, ◌<◌, ◌≤◌, Bool, true, false, not, ◌&&◌, ◌||◌, List, [], ◌∷◌, length, Option, Some, None, refl, sym, ap, ◌∙◌, subst, arith, true≢false}
+use Rattle.std.proofs.Common.{◌≡◌, ◌≢◌, ℕ, ◌+◌, ◌≤◌, Bool, true, false, not, ◌&&◌, ◌||◌, List, [], ◌∷◌, length, None, refl, sym, ap, ◌∙◌, arith, true≢false}
 use Rattle.std.specs.Prelude.{is_some, nat_lt, nat_le, find, if◌then◌else◌}
 use Rattle.std.proofs.lemmas.Bool.{and_parts}
 use Rattle.std.proofs.lemmas.Bool.Decides.{nat_tests}
 use Rattle.yf_comments.specs.Comment.{CommentValue}
 use Rattle.yf_props.specs.Props.{PropsValue}
-use Rattle.yf_events.specs.Alike.{Alike, alike_scalars, alike_aliases, alike_sequences, alike_mappings, AlikeItems, alike_nothing, alike_item, AlikePairs, alike_no_pairs, alike_pair}
-use Rattle.yf_events.specs.declared.event.ScalarStyle.{ScalarStyle}
+use Rattle.yf_events.specs.Alike.{Alike, alike_scalars, alike_sequences, alike_mappings, AlikeItems, alike_nothing, alike_item, AlikePairs, alike_no_pairs, alike_pair}
 use Rattle.yf_events.specs.declared.event.ScalarStyle.TheVariants.{Plain, Single, Double, Literal, Folded}
 use Rattle.yf_events.specs.declared.event.Span.{Span}
 use Rattle.yf_events.specs.Tree.{Node, Standing, scalar, alias, sequence, mapping, Items, no_items, item, Pairs, no_pairs, pair, leaves, is_text, is_filled_flow, is_block_collection, props_of}
@@ -14,15 +13,14 @@ use Rattle.yf_grammar.specs.Meant.{Anywhere}
 use Rattle.yf_emit.specs.declared.style.Style.{Style}
 use Rattle.yf_emit.specs.AlikeBlocks.{AlikeBlocks, alike_lines, alike_block_sequences, alike_block_mappings, AlikeBlockItems, no_block_items, block_item, AlikeBlockPairs, no_block_pairs, block_pair}
 use Rattle.yf_emit.specs.Fits.{is_inline}
-use Rattle.yf_emit.specs.Normal.{Setting, Spot, first_between, fits, inner_spot, is_implicit, is_one_line_key, key_comment, key_spot, key_start, settled, settled_items, settled_pairs, value_entries, value_of_implicit, value_spot}
+use Rattle.yf_emit.specs.Normal.{Setting, Spot, first_between, fits, inner_spot, is_implicit, key_comment, key_spot, key_start, settled, settled_items, settled_pairs, value_entries, value_of_implicit, value_spot}
 use Rattle.yf_emit.specs.OneLine.{props_text, width, written}
-use Rattle.yf_emit.specs.RowShapes.{KeysAgree}
 use Rattle.yf_emit.specs.Rows.{begins_below, is_empty_text}
 use Rattle.yf_emit.proofs.AlikeLemmas.{same_block, same_filled_flow, same_implicit, same_leaves, same_sequence, same_text}
 use Rattle.yf_emit.proofs.FixedNodes.{first_item, first_key, first_value, flow_of, items_of, more_items, more_pairs, pairs_of}
 use Rattle.yf_emit.proofs.FoundAgree.{OnRow, on_row, key_between, key_linked, key_quiet, no_value, none_found, sign_linked, sign_quiet, some_found, value_row}
 use Rattle.yf_emit.proofs.FoundNodes.{KeyRows, key_commented, key_above, key_alone, key_joined, KeyOn, NodeRows, no_rows, line_rows, scalar_rows, sequence_rows, sequence_behind, mapping_rows, mapping_behind, ItemsRows, no_item_rows, item_rows, PairRows, explicit_rows, implicit_rows, PairsRows, no_pair_rows, pair_rows}
-use Rattle.yf_emit.proofs.PlacedRows.{Inside, none_inside, one_inside, PlacedRow}
+use Rattle.yf_emit.proofs.PlacedRows.{Inside, one_inside, PlacedRow}
 use Rattle.yf_emit.proofs.FoundQuiet.{AllQuiet, quiet_row, TrailsTo, trails_to, Linked, linked_row, quiet_left, quiet_right, linked_left, linked_right}
 use Rattle.yf_emit.proofs.StepsStand.{starts_of}
 

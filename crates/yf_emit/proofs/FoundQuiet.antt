@@ -1,6 +1,6 @@
 -- No comment of a text stands between where a row that was laid out begins and where what stands on it has begun; and the comment that trails a key
 -- stands between it and the next row.
-use Rattle.std.proofs.Common.{◌≡◌, ◌≢◌, ℕ, ◌+◌, ◌<◌, ◌≤◌, Bool, true, false, List, [], ◌∷◌, ◌++◌, map, flat_map, Option, Some, None, refl, sym, ap, ◌∙◌, subst, arith, append_assoc, ◌⊎◌, inl, inr, true≢false}
+use Rattle.std.proofs.Common.{◌≡◌, ◌≢◌, ℕ, ◌+◌, ◌<◌, ◌≤◌, true, false, List, [], ◌∷◌, ◌++◌, map, flat_map, Option, Some, None, refl, sym, ap, ◌∙◌, subst, arith, append_assoc, ◌⊎◌, inl, inr, true≢false}
 use Rattle.std.specs.Prelude.{is_some, option_to_list}
 use Rattle.yf_comments.specs.Comment.{CommentValue}
 use Rattle.yf_comments.proofs.GapLinesLemmas.{texts}
@@ -13,7 +13,7 @@ use Rattle.yf_emit.specs.Decorated.{Deco, first, after, comments_left, decos_of}
 use Rattle.yf_emit.specs.Layout.{Source, first_comment, trailing_leaf, trimmed}
 use Rattle.yf_emit.specs.Rows.{Row}
 use Rattle.yf_emit.proofs.CommentsCut.{In, in_first, in_rest, in_after, in_before, Each, each_none, each_more, each_map, each_join, Under, Over}
-use Rattle.yf_emit.proofs.PlacedRows.{PlacedRow, AtRow, EndsRow, RowsIn, last_row, row_before}
+use Rattle.yf_emit.proofs.PlacedRows.{PlacedRow, RowsIn, last_row, row_before}
 
 -- before or after an offset
 

@@ -1,27 +1,22 @@
 -- The trees of each reading of what formatting gives are found as they were laid out.
-use Rattle.std.proofs.Common.{◌≡◌, ℕ, ◌+◌, ◌≤◌, List, [], ◌∷◌, ◌++◌, length, map, flat_map, Option, refl, sym, ap, ◌∙◌, subst, arith, append_assoc, append-nil}
-use Rattle.std.specs.Str.{IsUtf8}
-use Rattle.std.proofs.lemmas.List.{length-map}
+use Rattle.std.proofs.Common.{◌≡◌, ℕ, ◌+◌, List, [], ◌∷◌, ◌++◌, length, map, flat_map, Option, refl, sym, ap, ◌∙◌, subst, arith, append_assoc}
 use Rattle.yf_comments.specs.Comment.{CommentValue}
 use Rattle.yf_events.specs.Alike.{Alike}
-use Rattle.yf_events.specs.Event.{Placed, document_starts, document_ends, stream_starts, stream_ends}
-use Rattle.yf_events.specs.Tree.{Node, DocumentTree, TreesOf, flat, flat_document, flat_stream, unplaced}
-use Rattle.yf_events.specs.declared.directive.Directive.{Directive}
+use Rattle.yf_events.specs.Event.{Placed, document_starts, document_ends}
+use Rattle.yf_events.specs.Tree.{Node, DocumentTree, flat, flat_document, unplaced}
 use Rattle.yf_events.specs.declared.document.Doc.{Doc}
-use Rattle.yf_events.specs.declared.lists.Lists.{Lists}
 use Rattle.yf_grammar.specs.Meant.{Anywhere}
-use Rattle.yf_stream.specs.ReadingOf.{DocumentEvents, no_document, one_document, ReadingOf, doc_of}
-use Rattle.yf_stream.specs.Stream.{Document, Documents}
-use Rattle.yf_emit.specs.declared.style.Style.{Style}
+use Rattle.yf_stream.specs.ReadingOf.{DocumentEvents, no_document, one_document, doc_of}
+use Rattle.yf_stream.specs.Stream.{Document}
 use Rattle.yf_emit.specs.FitDocuments.{DocumentsMeant, no_documents_meant, document_meant}
 use Rattle.yf_emit.specs.FoundTrees.{FoundTrees, none_found, one_found}
-use Rattle.yf_emit.specs.Normal.{Setting, normal_document, root_spot, settled, setting_of, styled}
-use Rattle.yf_emit.proofs.BareNodes.{bare, bare_tree, bared}
+use Rattle.yf_emit.specs.Normal.{Setting, normal_document, root_spot, settled, styled}
+use Rattle.yf_emit.proofs.BareNodes.{bare, bare_tree}
 use Rattle.yf_emit.proofs.BareTrees.{blocks_renoted, undisturbed_renoted}
 use Rattle.yf_emit.proofs.FoundAgree.{rows_undisturbed}
 use Rattle.yf_emit.proofs.FoundKeys.{blocks_found}
 use Rattle.yf_emit.proofs.FoundNodes.{NodeRows}
-use Rattle.yf_emit.proofs.FoundStreams.{FoundDocument, FoundDocuments, no_documents_found, document_found}
+use Rattle.yf_emit.proofs.FoundStreams.{FoundDocuments, no_documents_found, document_found}
 use Rattle.yf_emit.proofs.PlacedRows.{PlacedRow}
 use Rattle.yf_emit.proofs.FoundQuiet.{AllQuiet, Linked, quiet_left, quiet_right, linked_left, linked_right}
 use Rattle.yf_emit.proofs.SettledTwice.{settled_twice}

@@ -196,5 +196,6 @@ pub mod FoundKeys
 pub mod BareNodes
 pub mod BareTrees
 pub mod FoundTexts
+pub mod FoundMarks
 pub mod FixedBlocks
 pub mod FixedLawsHold
