@@ -76,6 +76,7 @@ pub mod StreamUpto
 pub mod NextSteps
 pub mod DocumentAnswers
 pub mod PartsUpto
+pub mod PartsSteps
 pub mod FloorLemmas
 pub mod NotingLemmas
 pub mod NestedNodes

@@ -42,8 +42,8 @@ pub data StepTo (t : List ℕ) (spot : Spot) (x : Documents) (a b : Parts) (afte
   dots_to : (s : SuffixEnds t spot a b after) → Forbidden t spot.at → code t spot.at ≡ 46 → StepTo t spot x a b after (followed x (only_comments s.comments))
   dashes_to : {y : Meaning} → Forbidden t spot.at → code t spot.at ≡ 45 → NodeDone t (spot.at + 3) (opened spot.at true [] (closed false spot.is_open a)) b after y
       → StepTo t spot x a b after (followed x (one_document y.comments (document_of spot.at true [] y)))
-  directives_to : {p : ℕ} {ds : List Directive} {cs : List CommentValue} {y : Meaning} → spot.may_be_bare ≡ true → (r : DirectivesRead t spot.at p ds a.part.comments cs)
-      → Forbidden t p → code t p ≡ 45 → NodeDone t (p + 3) (opened p true ds (with_comments_read cs a)) b after y
+  directives_to : {p : ℕ} {ds : List Directive} {cs : List CommentValue} {y : Meaning} → spot.may_be_bare ≡ true → code t spot.at ≡ 37
+      → (r : DirectivesRead t spot.at p ds a.part.comments cs) → Forbidden t p → code t p ≡ 45 → NodeDone t (p + 3) (opened p true ds (with_comments_read cs a)) b after y
       → StepTo t spot x a b after (followed x (one_document (r.upto.comments ++ y.comments) (document_of p true ds y)))
   bare_to : {start : ℕ} {y : Meaning} → spot.may_be_bare ≡ true → ContentAt t spot.at start → NodeDone t spot.at (opened start false [] a) b after y
       → StepTo t spot x a b after (followed x (one_document y.comments (document_of start false [] y)))
@@ -67,7 +67,7 @@ module _ {t : List ℕ} where
       (subst (λ w. DirectiveLines t i k (record { directives = x.directives; comments = w })) (sym (append-nil x.comments)) d)
   lines_from d (one_directive c r) = more_directives d (lines_from (one_line c.derived) r)
 
-  lines_read : {i j : ℕ} {ds : List Directive} {cs : List CommentValue} → LongestDirectives t i j ds cs → code t i ≡ 37 → code t j ≢ 37
+  pub lines_read : {i j : ℕ} {ds : List Directive} {cs : List CommentValue} → LongestDirectives t i j ds cs → code t i ≡ 37 → code t j ≢ 37
       → DirectiveLines t i j (record { directives = ds; comments = cs })
   lines_read no_directives e n = absurd (n e)
   lines_read (one_directive c r) e n = lines_from (one_line c.derived) r
@@ -156,7 +156,7 @@ module _ {t : List ℕ} (u : IsUtf8 t) where
         record {
           documents = followed x (one_document (d.upto.comments ++ y.meaning.comments) (document_of p true ds y.meaning));
           read = as_flag after y.bare (past_document u y.within (directive_document (lines_read d.upto.longest e d.last) y.node) y.through (begin_bare q));
-          step = directives_to q d f g y.is_done;
+          step = directives_to q e d f g y.is_done;
         }
     reading_goes_on (without_dashes f q e m) = bare_on f q e m
 
