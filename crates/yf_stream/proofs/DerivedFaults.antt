@@ -27,8 +27,8 @@ not_derived_refusal t (Refusals.Breach b) n = absurd n
 not_derived_refusal t (Refusals.Syntax offset) n = n
 not_derived_refusal t (Refusals.TooDeep offset) n = n
 
-pub shape_of : (t : List ℕ) {r : Result (Option Refusal) AllocError} {o p : Option Refusal} → IfOk r (λ o. ShapeOr t o) → r ≡ Ok o → o ≡ p → ShapeOr t p
-shape_of t i e f = subst (λ w. ShapeOr t w) f (subst (λ z. IfOk z (λ o. ShapeOr t o)) e i)
+pub shape_of : (t : List ℕ) (q : Parts) {r : Result (Option Refusal) AllocError} {o p : Option Refusal} → IfOk r (λ o. ShapeOr t q o) → r ≡ Ok o → o ≡ p → ShapeOr t q p
+shape_of t q i e f = subst (λ w. ShapeOr t q w) f (subst (λ z. IfOk z (λ o. ShapeOr t q o)) e i)
 
 pub lists_of : (t : List ℕ) {r : Result (Result Lists Refusal) AllocError} {o p : Result Lists Refusal} → IfOk r (λ o. ListsDerived t o) → r ≡ Ok o → o ≡ p → ListsDerived t p
 lists_of t i e f = subst (λ w. ListsDerived t w) f (subst (λ z. IfOk z (λ o. ListsDerived t o)) e i)

@@ -192,8 +192,3 @@ spot_on {t} {x = x} spot s u e r g =
 
 pub next_of : (t : List ℕ) (s : Spot) (a b : Parts) {r : Result Next AllocError} {o p : Next} → IfOk r (λ next. NextRead t s a b next) → r ≡ Ok o → o ≡ p → NextRead t s a b p
 next_of t s a b i e f = subst (λ w. NextRead t s a b w) f (subst (λ z. IfOk z (λ next. NextRead t s a b next)) e i)
-
--- what has been read up to a spot
-pub record ReadSoFar (t : List ℕ) (spot : Spot) (p : Parts) : Type 0 where
-  pub documents : Documents
-  pub read : ReadUpto t spot.may_be_bare spot.at documents

@@ -85,7 +85,7 @@ entries_join : (p : ℕ) (xs ys : List Placed) → EntriesAfter p xs → Entries
 entries_join p [] ys a b = b
 entries_join p (x ∷ xs) ys a b = (a.0, entries_join p xs ys a.1 b)
 
-none_after : (p : ℕ) {o : Option Entry} → o ≡ None → EntryAfter p o
+pub none_after : (p : ℕ) {o : Option Entry} → o ≡ None → EntryAfter p o
 none_after p e = subst (λ z. EntryAfter p z) (sym e) tt
 
 some_after : {p : ℕ} {o : Option Entry} (e : Entry) → o ≡ Some e → p < e.start → EntryAfter p o

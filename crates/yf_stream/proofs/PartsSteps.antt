@@ -20,11 +20,12 @@ use Rattle.yf_grammar.specs.Part.{Noting, end_or, floor_behind, no_event as none
 use Rattle.yf_grammar.proofs.NodePlaces.{ColonStands, ItemsStand, NodeStands, PairsStand, a_colon, alias_stands, item_stands, items_order, mapping_stands, no_colon, no_items_stand, no_pairs_stand, node_order, pair_stands, pairs_order, scalar_stands, sequence_stands, stands_nowhere}
 use Rattle.yf_grammar.proofs.PlacedNodes.{NodeAt, node_noting, node_wider, nothing_at}
 use Rattle.yf_grammar.proofs.PlacesDerived.{places}
+use Rattle.yf_stream.specs.DerivedParts.{EventsWritten, no_parts}
 use Rattle.yf_stream.specs.DocumentReaders.{closed, opened, with_event}
 use Rattle.yf_stream.specs.DocumentSteps.{with_comments_read}
 use Rattle.yf_stream.specs.ReadingOf.{doc_of}
-use Rattle.yf_stream.specs.Stream.{Document, Documents, document_of}
-use Rattle.yf_stream.specs.WrittenParts.{DocumentsWritten}
+use Rattle.yf_stream.specs.Stream.{Document, Documents, document_of, only_comments}
+use Rattle.yf_stream.specs.WrittenParts.{DocumentsWritten, nothing_written}
 use Rattle.yf_stream.specs.declared.documents.Parts.{Parts}
 use Rattle.yf_stream.specs.declared.documents.Spot.{Spot}
 use Rattle.yf_stream.proofs.DirectiveOrder.{directives_order, directives_stand}
@@ -35,7 +36,7 @@ use Rattle.yf_stream.proofs.NotingLemmas.{EntriesAfter, floor_join, floor_of, no
 use Rattle.yf_stream.proofs.PartsUpto.{BareSpot, ClosedParts, EventsRead, EventsUpto, Guard, all_closed, guarded, last_open, mark_there, no_floor, no_mark_there, no_more, parts_closed}
 use Rattle.yf_stream.proofs.PrefixLemmas.{rows_prefix}
 use Rattle.yf_stream.proofs.StreamPath.{end_code}
-use Rattle.yf_stream.proofs.StreamUpto.{followed, one_document}
+use Rattle.yf_stream.proofs.StreamUpto.{ReadUpto, followed, one_document}
 
 -- the parts of the text that events have end at a place or before it
 abbrev SpanWithin : ℕ → Option Span → Type 0
@@ -246,3 +247,40 @@ module _ {t : List ℕ} (u : IsUtf8 t) {spot : Spot} {x : Documents} {a : Parts}
   events_go_on m n (bare_to {y = y} q c d) =
       let s = r.bare q in
       document_more u x y.comments (still_closed s.no_document) s.guard (omega arith) (omega arith) (node_parts u d)
+
+-- what has been read up to a spot, and the parts of it
+pub record ReadSoFar (t : List ℕ) (spot : Spot) (p : Parts) : Type 0 where
+  pub documents : Documents
+  pub read : ReadUpto t spot.may_be_bare spot.at documents
+  pub parts : EventsRead t spot documents p
+
+-- before anything has been read, but the start of the stream
+pub events_begin : {t : List ℕ} {a b : Parts} (spot : Spot) → spot.at ≡ 0 → spot.is_open ≡ false → a ≡ no_parts → b ≡ with_event a stream_starts
+    → EventsRead t spot (only_comments []) b
+events_begin {t} spot k o e f =
+    let all = f ∙ ap (λ z. with_event z stream_starts) e in
+    record {
+      derived = [];
+      so_far = subst (λ z. EventsUpto t z spot.at [] []) (sym o) (all_closed nothing_written);
+      noted = subst (λ z. Noting t 0 (unplaced stream_starts ∷ []) z) (sym (ap (λ z. z.part.events) all)) (without_entry refl none_noted);
+      floor = omega arith;
+      bare = λ q. record { no_document = o; guard = no_floor refl };
+      documents = ap (λ z. z.documents) all;
+      escapes = ap (λ z. z.part.escapes) all;
+    }
+
+-- at the end of the text
+pub events_end : {t : List ℕ} {spot : Spot} {x : Documents} {a b c : Parts} → spot.at ≡ length t → code t spot.at ≢ 0xFEFF → Stuck (Row t spot.at) → EventsRead t spot x a
+    → b ≡ closed false spot.is_open a → c ≡ with_event b stream_ends → EventsWritten t x c
+events_end {t} {spot} {x} {a} {b} {c} k m n r e f =
+    let none = end_code t spot.at k in
+    let p = parts_closed false (λ j cs l q. no_mark_there m n (λ g h. absurd (omega arith)) q) r in
+    let all = f ∙ ap (λ z. with_event z stream_ends) e in
+    record {
+      derived = p.derived;
+      written = p.written;
+      events = subst (λ z. Noting t 0 (unplaced stream_starts ∷ (p.derived ++ (unplaced stream_ends ∷ []))) z) (sym (ap (λ z. z.part.events) all))
+          (noting_join p.noted (without_entry refl none_noted));
+      documents = ap (λ z. z.documents) all ∙ p.documents;
+      escapes = ap (λ z. z.part.escapes) all ∙ p.escapes;
+    }

@@ -110,7 +110,7 @@ module _ {t : List ℕ} where
 same_flag : (spot s : Spot) → s ≡ record spot { at = s.at } → (s.is_open ≡ spot.is_open) × (s.may_be_bare ≡ spot.may_be_bare)
 same_flag spot s e = (ap (λ z. z.is_open) e, ap (λ z. z.may_be_bare) e)
 
-no_more : (x : Documents) (cs : List CommentValue) → (followed x (only_comments cs)).documents ≡ x.documents
+pub no_more : (x : Documents) (cs : List CommentValue) → (followed x (only_comments cs)).documents ≡ x.documents
 unfolding followed
 no_more x cs = append-nil x.documents
 

@@ -71,7 +71,7 @@ kept_last {a = a} {b = b} items i l k =
 
 module _ {t : List ℕ} where
   -- rows and marks
-  rows_prefix : {i j : ℕ} {cs : List CommentValue} → Chain (Row t) i j cs → Chain (PrefixRow t) i j cs
+  pub rows_prefix : {i j : ℕ} {cs : List CommentValue} → Chain (Row t) i j cs → Chain (PrefixRow t) i j cs
   rows_prefix done = done
   rows_prefix (step r c) = step (line_row r) (rows_prefix c)
 

@@ -5,9 +5,11 @@ use Rattle.yf_lines.specs.declared.fault.Fault.TheVariants as Faults
 use Rattle.yf_events.specs.declared.lists.Lists.{Lists}
 use Rattle.yf_events.specs.declared.reading.TheConstants.{DEPTH}
 use Rattle.yf_grammar.specs.Refusal.{openers}
+use Rattle.yf_stream.specs.DerivedParts.{EventsWritten}
 use Rattle.yf_stream.specs.Stream.{Documents}
 use Rattle.yf_stream.specs.StreamReader.{NoStream}
 use Rattle.yf_stream.specs.WellFormed.{Shapes}
+use Rattle.yf_stream.specs.declared.documents.Parts.{Parts}
 use Rattle.yf_stream.specs.declared.stream.Refusal.{Refusal}
 use Rattle.yf_stream.specs.declared.stream.Refusal.TheVariants as Refusals
 
@@ -22,8 +24,13 @@ NotDerived t (Refusals.Syntax offset) = NoStream t
 NotDerived t (Refusals.TooDeep offset) = NoStream t × (DEPTH < openers t)
 NotDerived t (Refusals.Breach b) = ⊥
 
-abbrev pub ShapeOr : List ℕ → Option Refusal → Type 0
-ShapeOr t o = MatchOption o (HasShape t) (NotDerived t)
+-- the one shape, with the parts of it
+pub record ShapeRead (t : List ℕ) (p : Parts) : Type 0 where
+  pub shape : HasShape t
+  pub parts : EventsWritten t shape.documents p
+
+abbrev pub ShapeOr : List ℕ → Parts → Option Refusal → Type 0
+ShapeOr t p o = MatchOption o (ShapeRead t p) (NotDerived t)
 
 -- a breach is told of only where a stream is derived, and lists are given only there
 abbrev pub RefusalDerived : List ℕ → Refusal → Type 0

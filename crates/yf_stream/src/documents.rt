@@ -8,6 +8,7 @@ ghost use Rattle.yf_chars.specs.Text.{code};
 ghost use Rattle.yf_lines.specs.Basic.{Forbidden};
 ghost use Rattle.yf_stream.specs.DocumentSteps.{BareRead, EmptyAdded, FoundRead, MarkedRead, NextRead, NothingAt, SomethingBegins};
 ghost use Rattle.yf_stream.specs.RefusalPlaces.{DirectivesAt, DocumentsAt};
+ghost use Rattle.yf_stream.specs.DerivedParts.{no_parts};
 ghost use Rattle.yf_stream.specs.Walk.{NextAt};
 
 use crate::between::read_suffix;
@@ -75,6 +76,7 @@ enum Marker {
 
 impl<'a> Parts<'a> {
     pub(crate) fn new(alloc: Global) -> Parts<'a>
+        ensures nothing { result ≡ no_parts }
         ensures escapes { result.part.escapes ≡ [] }
         ensures documents { result.documents ≡ [] }
     {

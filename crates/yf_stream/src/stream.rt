@@ -4,6 +4,7 @@ ghost use Rattle.std.specs.List.{All};
 ghost use Rattle.std.specs.Str.{IsCharBoundary};
 ghost use Rattle.yf_events.specs.Reading.{Fits};
 ghost use Rattle.yf_lines.specs.FaultPlaces.{InText, IsPlaceOf};
+ghost use Rattle.yf_stream.specs.DerivedParts.{no_parts};
 ghost use Rattle.yf_stream.specs.DerivedStreams.{ListsDerived, ShapeOr, StreamDerived};
 ghost use Rattle.yf_stream.specs.MadeReadings.{MadeOr, MadeReading, NoBreach};
 ghost use Rattle.yf_stream.specs.NotedLists.{FaultAt, NotedOr};
@@ -166,11 +167,10 @@ fn read_documents<'a>(
     text: &'a str,
     parts: &mut Parts<'a>,
 ) -> Result<Option<Refusal>, AllocError>
-    requires escapes { All (IsCharBoundary text.now) parts.old.part.escapes }
-    requires documents { DocumentsAt text.now parts.old.documents }
+    requires nothing { parts.old ≡ no_parts }
     ensures refusal { IfOk result (λ o. IfSome o (λ refusal. RefusalAt text.now refusal)) }
     ensures underived { IfOk result (λ o. IfSome o (λ refusal. NoBreach refusal)) }
-    ensures derived { length text.now ≤ 2 ^ 30 → IfOk result (λ o. ShapeOr text.now o) }
+    ensures derived { length text.now ≤ 2 ^ 30 → IfOk result (λ o. ShapeOr text.now parts.new o) }
     ensures escapes { IfOk result (λ _. All (IsCharBoundary text.now) parts.new.part.escapes) }
     ensures documents { IfOk result (λ _. DocumentsAt text.now parts.new.documents) }
 {

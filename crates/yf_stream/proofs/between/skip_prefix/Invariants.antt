@@ -9,6 +9,7 @@ invariant-lines l = record {
   place : Place l.text l.spot.at l.at;
   escapes : l.parts.part.escapes ≡ l.initial.parts.part.escapes;
   documents : l.parts.documents ≡ l.initial.parts.documents;
+  events : l.parts.part.events ≡ l.initial.parts.part.events;
 }
 
 abbrev pub decreases-lines : goal.decreases-lines
