@@ -1,5 +1,5 @@
 -- What the readers of documents answer, by what the reader of block nodes does.
-use Rattle.std.proofs.Common.{◌≡◌, ℕ, ◌+◌, ◌<◌, ◌≤◌, ◌-ℤ◌, pos, Bool, true, false, not, true≢false, cond, Result, Ok, IfOk, List, [], ◌∷◌, ◌++◌, drop, take, refl, sym, ap, ◌∙◌, subst, arith}
+use Rattle.std.proofs.Common.{◌≡◌, ℕ, ◌+◌, ◌<◌, ◌≤◌, ◌-ℤ◌, pos, Bool, true, false, not, true≢false, cond, Result, Ok, IfOk, List, [], ◌++◌, drop, take, refl, sym, ap, ◌∙◌, subst, arith}
 use Rattle.std.proofs.lemmas.List.Elements.{All-nil, All-push}
 use Rattle.std.proofs.lemmas.List.Sums.{sum_by-take-drop}
 use Rattle.std.specs.List.{sum_by}

@@ -1,5 +1,5 @@
 -- The events of a node that is derived are well nested, with no more collections open at once than its height.
-use Rattle.std.proofs.Common.{◌≡◌, ℕ, suc, zero, max, ◌+◌, ◌≤◌, ℤ, Bool, true, false, List, [], ◌∷◌, ◌++◌, map, Option, Some, None, refl, sym, ap, ◌∙◌, subst, arith, append_assoc, append-nil}
+use Rattle.std.proofs.Common.{◌≡◌, ℕ, suc, zero, ◌+◌, ◌≤◌, ℤ, Bool, true, false, List, [], ◌∷◌, ◌++◌, map, Option, Some, None, refl, sym, ap, ◌∙◌, subst, arith, append_assoc, append-nil}
 use Rattle.yf_props.specs.Names.{PropertiesValue}
 use Rattle.yf_props.specs.Props.{PropsValue, no_props}
 use Rattle.yf_events.specs.Event.{EventValue, Placed, mapping_ends, mapping_starts, sequence_ends, sequence_starts}
@@ -9,7 +9,7 @@ use Rattle.yf_grammar.specs.BlockScalar.{BlockScalar}
 use Rattle.yf_grammar.specs.BlockScalar.BlockScalar.{block_scalar}
 use Rattle.yf_grammar.specs.Grammar.{Production, FlowNode, NodeOf, JsonContent, Entries, Entry as EntryOf, Pair, Explicit, Implicit, ValueOf, KeyOf, BlockNode, BlockEntries, BlockEntry, BlockIndented, BlockValue, Derives}
 use Rattle.yf_grammar.specs.Grammar.Derives.{flow_node, an_alias as alias_there, a_plain, a_plain_with, properties_alone, a_json, a_json_with, a_single, a_double, an_empty_collection, a_collection, last_entry, last_entry_with_comma, more_entries, a_node_entry, a_pair_entry, an_explicit_entry, an_implicit_entry, an_explicit_pair, a_keyed_pair, an_unkeyed_pair, explicit_with, explicit_without, key_alone, key_and_value, value_alone, empty_value, a_value, a_key, a_block_scalar, a_block_scalar_with, a_block_collection, a_block_collection_with, flow_in_block, a_last_entry, an_entry_before, a_dash_entry, an_explicit_entry_with, an_explicit_key_alone, a_keyed_entry, an_unkeyed_entry, a_block_value, an_empty_block_value, a_compact_collection, an_indented_node, nothing_indented}
-use Rattle.yf_grammar.specs.Meaning.{Meaning, ◌⊕◌, alias_to, behind, collection, empty_node, end_of, entering, event_with, first_entering, first_with, noting, plain_event, scalar, start_of, with_props}
+use Rattle.yf_grammar.specs.Meaning.{Meaning, ◌⊕◌, alias_to, behind, collection, empty_node, entering, event_with, first_entering, first_with, noting, plain_event, scalar, with_props}
 
 abbrev pub kinds : List Placed → List EventValue
 kinds es = map (λ (e : Placed). e.event) es

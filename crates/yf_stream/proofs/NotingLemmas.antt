@@ -1,16 +1,15 @@
 -- The notes of blank lines before the entries of events: of events one after the other, and with another floor before a visible character.
-use Rattle.std.proofs.Common.{◌≡◌, ℕ, ◌<◌, ◌≤◌, Bool, true, false, ◌⊎◌, inl, inr, ⊎_elim, List, [], ◌∷◌, ◌++◌, Option, Some, None, refl, sym, subst, arith}
+use Rattle.std.proofs.Common.{◌≡◌, ℕ, ◌<◌, ◌≤◌, Bool, false, ◌⊎◌, inl, ⊎_elim, List, [], ◌∷◌, ◌++◌, Option, Some, None, refl, sym, subst, arith}
 use Rattle.std.specs.Str.{IsUtf8}
 use Rattle.yf_chars.specs.Text.{code, no_char}
 use Rattle.yf_comments.specs.Comments.{is_gap}
 use Rattle.yf_props.specs.Props.{PropsValue}
 use Rattle.yf_events.specs.Event.{EventValue, Placed, alias_node, document_ends, document_starts, mapping_ends, mapping_starts, scalar_node, sequence_ends, sequence_starts, stream_ends, stream_starts}
-use Rattle.yf_events.specs.Tree.{Items, Node, Pairs, flat, flat_items, flat_pairs, placed, standing, unplaced}
+use Rattle.yf_events.specs.Tree.{Items, Node, Pairs, flat, flat_items, flat_pairs, standing}
 use Rattle.yf_events.specs.declared.event.Entry.{Entry}
 use Rattle.yf_events.specs.declared.event.ScalarStyle.{ScalarStyle}
 use Rattle.yf_events.specs.declared.event.ScalarStyle.TheVariants.{Double, Folded, Literal, Plain, Single}
 use Rattle.yf_events.specs.declared.event.Span.{Span}
-use Rattle.yf_grammar.specs.Meaning.{from_to}
 use Rattle.yf_grammar.specs.Part.{Noting, NotedSince, end_or, floor_behind, no_event, with_entry, without_entry}
 use Rattle.yf_grammar.proofs.NodePlaces.{ItemsStand, ColonStands, NodeStands, PairsStand, a_colon, alias_stands, item_stands, mapping_stands, no_colon, no_items_stand, no_pairs_stand, node_order, pair_stands, scalar_stands, sequence_stands, stands_nowhere}
 use Rattle.yf_stream.proofs.FloorLemmas.{note_over}

@@ -196,7 +196,8 @@ fn marker_at(text: &str, at: usize) -> Option<Marker>
 // Whether a `---` stands at the start of a line that begins at the offset.
 fn has_dashes(text: &str, at: usize) -> bool
     requires { IsCharBoundary text.now at }
-    ensures marker { MatchBool result (Forbidden text.now at × (code text.now at ≡ 45)) (Forbidden text.now at → code text.now at ≡ 45 → ⊥) }
+    ensures marker { MatchBool result (Forbidden text.now at × (code text.now at ≡ 45))
+        (Forbidden text.now at → code text.now at ≡ 45 → ⊥) }
     ensures boundary { result ≡ true → IsCharBoundary text.now (at + 3) }
 {
     if is_forbidden_at(text, at) {

@@ -1,5 +1,5 @@
 use Rattle.std.proofs.Common.{refl, subst}
-use Rattle.yf_stream.specs.MadeReadings.{MadeOf, MadeOr, refused_in}
+use Rattle.yf_stream.specs.MadeReadings.{MadeOr, refused_in}
 use Rattle.yf_stream.proofs.DerivedFaults.{fault_derived, lists_of}
 use Rattle.yf_stream.proofs.MadeReadings.{refused_memory}
 use Rattle.yf_stream.proofs.stream.read_stream.Goals as goal
