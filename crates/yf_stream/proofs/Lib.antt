@@ -77,6 +77,7 @@ pub mod NextSteps
 pub mod DocumentAnswers
 pub mod PartsUpto
 pub mod PartsSteps
+pub mod FloorsAt
 pub mod FloorLemmas
 pub mod NotingLemmas
 pub mod NestedNodes

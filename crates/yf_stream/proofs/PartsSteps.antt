@@ -39,11 +39,11 @@ use Rattle.yf_stream.proofs.StreamPath.{end_code}
 use Rattle.yf_stream.proofs.StreamUpto.{ReadUpto, followed, one_document}
 
 -- the parts of the text that events have end at a place or before it
-abbrev SpanWithin : ℕ → Option Span → Type 0
+abbrev pub SpanWithin : ℕ → Option Span → Type 0
 SpanWithin m None = Unit {0}
 SpanWithin m (Some s) = s.end ≤ m
 
-abbrev EndsWithin : ℕ → List Placed → Type 0
+abbrev pub EndsWithin : ℕ → List Placed → Type 0
 EndsWithin m [] = Unit {0}
 EndsWithin m (e ∷ es) = SpanWithin m e.span × EndsWithin m es
 
@@ -59,7 +59,7 @@ module _ (m : ℕ) where
   style_within f e q Literal x l w = end_within f e.span l w
   style_within f e q Folded x l w = end_within f e.span l w
 
-  event_within : (f : ℕ) (e : Placed) (v : EventValue) → f ≤ m → SpanWithin m e.span → floor_behind f e v ≤ m
+  pub event_within : (f : ℕ) (e : Placed) (v : EventValue) → f ≤ m → SpanWithin m e.span → floor_behind f e v ≤ m
   event_within f e stream_starts l w = l
   event_within f e stream_ends l w = l
   event_within f e (document_starts b) l w = l
@@ -71,7 +71,7 @@ module _ (m : ℕ) where
   event_within f e (scalar_node q s x) l w = style_within f e q s x l w
   event_within f e (alias_node x) l w = l
 
-  floor_within : (f : ℕ) (es : List Placed) → f ≤ m → EndsWithin m es → floor_of f es ≤ m
+  pub floor_within : (f : ℕ) (es : List Placed) → f ≤ m → EndsWithin m es → floor_of f es ≤ m
   floor_within f [] l w = l
   floor_within f (e ∷ es) l w = floor_within (floor_behind f e e.event) es (event_within f e e.event l w.0) w.1
 
@@ -92,7 +92,7 @@ colon_order (a_colon l e m) = omega arith
 
 module _ {t : List ℕ} (m : ℕ) where
   mutual
-    node_within : {i j : ℕ} {x : Node} → j ≤ m → NodeStands t i j x → EndsWithin m (flat x)
+    pub node_within : {i j : ℕ} {x : Node} → j ≤ m → NodeStands t i j x → EndsWithin m (flat x)
     node_within l (stands_nowhere k e) = (none_within m e, tt)
     node_within l (scalar_stands {a = a} {b = z} e b k n w s) = (some_within m a z e (omega arith), tt)
     node_within l (alias_stands {a = a} {b = z} e b k n s) = (some_within m a z e (omega arith), tt)
@@ -214,9 +214,6 @@ written_of e (all_closed w) = w
 written_of e (last_open d w l c) = absurd (true≢false e)
 
 module _ {t : List ℕ} (u : IsUtf8 t) {spot : Spot} {x : Documents} {a : Parts} (r : EventsRead t spot x a) where
-  still_closed : spot.is_open ≡ false → ClosedParts t spot.at x.documents a
-  still_closed e = record { derived = r.derived; written = written_of e r.so_far; noted = r.noted; floor = r.floor; documents = r.documents; escapes = r.escapes }
-
   with_other_comments : (cs : List CommentValue) → spot.is_open ≡ false → ClosedParts t spot.at x.documents (with_comments_read cs a)
   with_other_comments cs e = record { derived = r.derived; written = written_of e r.so_far; noted = r.noted; floor = r.floor; documents = r.documents; escapes = r.escapes }
 
@@ -242,11 +239,19 @@ module _ {t : List ℕ} (u : IsUtf8 t) {spot : Spot} {x : Documents} {a : Parts}
   events_go_on m n (directives_to {p = p} {cs = cs} {y = y} q h d f e done) =
       let c = with_other_comments cs (r.bare q).no_document in
       let order = directives_order (directives_stand (lines_read d.upto.longest h d.last)) in
-      let g : Guard t (floor_of 0 c.derived) (p + 1) = guarded p (omega arith) (ap is_gap e ∙ signs_solid.0) (omega (arith, r.floor)) (omega arith) in
+      let g : Guard t (floor_of 0 c.derived) (p + 1) = guarded p (omega arith) (ap is_gap e ∙ signs_solid.0) (omega (arith, c.floor)) (omega arith) in
       document_more u x (d.upto.comments ++ y.comments) c g (omega arith) (omega arith) (node_parts u done)
   events_go_on m n (bare_to {y = y} q c d) =
       let s = r.bare q in
-      document_more u x y.comments (still_closed s.no_document) s.guard (omega arith) (omega arith) (node_parts u d)
+      let parts : ClosedParts t spot.at x.documents a = record {
+        derived = r.derived;
+        written = written_of s.no_document r.so_far;
+        noted = r.noted;
+        floor = r.floor;
+        documents = r.documents;
+        escapes = r.escapes;
+      } in
+      document_more u x y.comments parts s.guard (omega arith) (omega arith) (node_parts u d)
 
 -- what has been read up to a spot, and the parts of it
 pub record ReadSoFar (t : List ℕ) (spot : Spot) (p : Parts) : Type 0 where

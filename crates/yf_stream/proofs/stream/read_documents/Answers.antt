@@ -19,9 +19,9 @@ documents-init c =
     record {
       place = IsCharBoundary-start t c.utf8.text;
       reached = IsCharBoundary-start t c.utf8.text;
-      escapes = subst (All (IsCharBoundary t)) (sym (c.in_ok-push_unplaced.ensures.escapes ∙ ap (λ z. z.part.escapes) c.requires)) (All-nil (IsCharBoundary t));
-      documents = subst (DocumentsAt t) (sym (c.in_ok-push_unplaced.ensures.documents ∙ ap (λ z. z.documents) c.requires)) (All-nil (λ (d : Doc). DirectivesAt t d.directives));
-      derived = λ l. record { documents = only_comments []; read = reading_begins c.utf8.text; parts = events_begin _ refl refl c.requires c.in_ok-push_unplaced.ensures.parts };
+      escapes = subst (All (IsCharBoundary t)) (sym (c.in_ok-push_unplaced.ensures.escapes ∙ ap (λ z. z.part.escapes) c.requires.nothing)) (All-nil (IsCharBoundary t));
+      documents = subst (DocumentsAt t) (sym (c.in_ok-push_unplaced.ensures.documents ∙ ap (λ z. z.documents) c.requires.nothing)) (All-nil (λ (d : Doc). DirectivesAt t d.directives));
+      derived = λ l. record { documents = only_comments []; read = reading_begins c.utf8.text; parts = events_begin _ refl refl c.requires.nothing c.in_ok-push_unplaced.ensures.parts };
     }
 
 pub documents-preserved : goal.documents-preserved
