@@ -75,6 +75,8 @@ pub mod NodeSteps
 pub mod StreamUpto
 pub mod NextSteps
 pub mod DocumentAnswers
+pub mod CommentNotes
+pub mod FloorWalk
 pub mod PartsUpto
 pub mod PartsSteps
 pub mod FloorsAt

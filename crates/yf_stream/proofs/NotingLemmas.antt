@@ -12,12 +12,8 @@ use Rattle.yf_events.specs.declared.event.ScalarStyle.TheVariants.{Double, Folde
 use Rattle.yf_events.specs.declared.event.Span.{Span}
 use Rattle.yf_grammar.specs.Part.{Noting, NotedSince, end_or, floor_behind, no_event, with_entry, without_entry}
 use Rattle.yf_grammar.proofs.NodePlaces.{ItemsStand, ColonStands, NodeStands, PairsStand, a_colon, alias_stands, item_stands, mapping_stands, no_colon, no_items_stand, no_pairs_stand, node_order, pair_stands, scalar_stands, sequence_stands, stands_nowhere}
+pub use Rattle.yf_block.specs.BlockTied.{floor_after as floor_of}
 use Rattle.yf_stream.proofs.FloorLemmas.{note_over}
-
--- the end of the last block scalar of some events
-abbrev pub floor_of : ℕ → List Placed → ℕ
-floor_of floor [] = floor
-floor_of floor (e ∷ es) = floor_of (floor_behind floor e e.event) es
 
 pub noting_join : {t : List ℕ} {f : ℕ} {xs ys zs ws : List Placed} → Noting t f xs ys → Noting t (floor_of f xs) zs ws → Noting t f (xs ++ zs) (ys ++ ws)
 noting_join no_event n = n

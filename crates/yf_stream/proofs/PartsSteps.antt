@@ -28,12 +28,13 @@ use Rattle.yf_stream.specs.Stream.{Document, Documents, document_of, only_commen
 use Rattle.yf_stream.specs.WrittenParts.{DocumentsWritten, nothing_written}
 use Rattle.yf_stream.specs.declared.documents.Parts.{Parts}
 use Rattle.yf_stream.specs.declared.documents.Spot.{Spot}
+use Rattle.yf_stream.proofs.CommentNotes.{Guard, guarded, no_floor}
 use Rattle.yf_stream.proofs.DirectiveOrder.{directives_order, directives_stand}
 use Rattle.yf_stream.proofs.Forward.{line_end_forward}
 use Rattle.yf_stream.proofs.NextSteps.{NodeDone, StepTo, bare_to, dashes_to, directives_to, dots_to, lines_read, node_done, nothing_done}
 use Rattle.yf_stream.proofs.NodeFinish.{LineRows, finish_ends, rows_there}
 use Rattle.yf_stream.proofs.NotingLemmas.{EntriesAfter, floor_join, floor_of, node_entries, none_after, noting_join, noting_over}
-use Rattle.yf_stream.proofs.PartsUpto.{BareSpot, ClosedParts, EventsRead, EventsUpto, Guard, all_closed, guarded, last_open, mark_there, no_floor, no_mark_there, no_more, parts_closed}
+use Rattle.yf_stream.proofs.PartsUpto.{BareSpot, ClosedParts, EventsRead, EventsUpto, all_closed, last_open, mark_there, no_mark_there, no_more, parts_closed}
 use Rattle.yf_stream.proofs.PrefixLemmas.{rows_prefix}
 use Rattle.yf_stream.proofs.StreamPath.{end_code}
 use Rattle.yf_stream.proofs.StreamUpto.{ReadUpto, followed, one_document}

@@ -18,6 +18,7 @@ use Rattle.yf_stream.specs.Stream.EndIsMarked.{marked_end, unmarked_end}
 use Rattle.yf_stream.specs.WrittenParts.{DocumentsWritten, document_written, nothing_written}
 use Rattle.yf_stream.specs.declared.documents.Parts.{Parts}
 use Rattle.yf_stream.specs.declared.documents.Spot.{Spot}
+use Rattle.yf_stream.proofs.CommentNotes.{Guard, guard_later}
 use Rattle.yf_stream.proofs.NotingLemmas.{floor_join, floor_of, noting_join}
 use Rattle.yf_stream.proofs.OneDirective.{dot_still}
 use Rattle.yf_stream.proofs.PrefixLemmas.{prefix_functional, prefixes_rows, rows_parts, still}
@@ -28,11 +29,6 @@ pub data EventsUpto (t : List ℕ) : Bool → ℕ → List Document → List Pla
   all_closed : {k : ℕ} {ds : List Document} {x : List Placed} → DocumentsWritten t ds x → EventsUpto t false k ds x
   last_open : {k j : ℕ} {ds : List Document} (d : Document) {x : List Placed} {cs more : List CommentValue} → DocumentsWritten t ds x → LineEnd t d.finish j cs
       → Chain (PrefixRow t) j k more → EventsUpto t true k (ds ++ d ∷ []) (x ++ (unplaced (document_starts d.marked) ∷ d.events))
-
--- a floor before which nothing of the next node may stand: there is none, or a visible character stands between
-pub data Guard (t : List ℕ) (f i : ℕ) : Type 0 where
-  no_floor : f ≡ 0 → Guard t f i
-  guarded : (p : ℕ) → code t p < no_char → is_gap (code t p) ≡ false → f ≤ p → p < i → Guard t f i
 
 -- where a document may begin without `---`
 pub record BareSpot (t : List ℕ) (spot : Spot) (f : ℕ) : Type 0 where
@@ -113,10 +109,6 @@ module _ {t : List ℕ} where
   rows_after : {o : Bool} {k l : ℕ} {ds : List Document} {es : List Placed} {cs : List CommentValue} → EventsUpto t o k ds es → Chain (PrefixRow t) k l cs → EventsUpto t o l ds es
   rows_after (all_closed w) c = all_closed w
   rows_after (last_open x w l d) c = last_open x w l (chain_append d c)
-
-  guard_later : {f i j : ℕ} → i ≤ j → Guard t f i → Guard t f j
-  guard_later l (no_floor e) = no_floor e
-  guard_later l (guarded p r s o m) = guarded p r s o (omega arith)
 
   pub events_past_prefix : {spot s : Spot} {x : Documents} {a b : Parts} {c d : List CommentValue} → s ≡ record spot { at = s.at } → (r : PrefixRead t spot.at s.at c d)
       → b.part.events ≡ a.part.events → b.documents ≡ a.documents → b.part.escapes ≡ a.part.escapes → EventsRead t spot x a

@@ -75,6 +75,7 @@ pub record SuffixEnds (t : List ℕ) (spot : Spot) (a b : Parts) (after : Spot) 
   pub line : Chosen (LineEnd t (spot.at + 3)) after.at comments
   pub bare : after.may_be_bare ≡ true
   pub no_document : after.is_open ≡ false
+  pub floor : after.floor ≡ 0
   pub parts : b ≡ commented comments (closed true spot.is_open a)
 
 -- what comes after the three dots at a spot: the next spot, or no line ends there
