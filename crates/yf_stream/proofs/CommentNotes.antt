@@ -39,9 +39,9 @@ module _ {X : Type 0} {P : X → Type 0} where
   each_join no_element b = b
   each_join (one_element p a) b = one_element p (each_join a b)
 
-  pub each_left : {ys : List X} (xs : List X) → Each P (xs ++ ys) → Each P xs
-  each_left [] e = no_element
-  each_left (x ∷ xs) (one_element p e) = one_element p (each_left xs e)
+  pub each_left : (xs ys : List X) → Each P (xs ++ ys) → Each P xs
+  each_left [] ys e = no_element
+  each_left (x ∷ xs) ys (one_element p e) = one_element p (each_left xs ys e)
 
   pub each_weaker : {Q : X → Type 0} {xs : List X} → ((x : X) → P x → Q x) → Each P xs → Each Q xs
   each_weaker f no_element = no_element

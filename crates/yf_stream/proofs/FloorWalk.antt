@@ -83,7 +83,7 @@ kept_event props f p (scalar_node q Literal x) = refl
 kept_event props f p (scalar_node q Folded x) = refl
 kept_event props f p (alias_node x) = refl
 
-span_with : (a b : ℕ) {s : Span} {o : Option Span} → o ≡ Some s → span_since a b o ≡ Some (record { start = a; end = s.end })
+pub span_with : (a b : ℕ) {s : Span} {o : Option Span} → o ≡ Some s → span_since a b o ≡ Some (record { start = a; end = s.end })
 unfolding from_to
 span_with a b {s} {o} e = ap (λ z. span_since a b z) e
 

@@ -77,6 +77,11 @@ pub mod NextSteps
 pub mod DocumentAnswers
 pub mod CommentNotes
 pub mod FloorWalk
+pub mod ScalarNotes
+pub mod NodeNotes
+pub mod BlockNotes
+pub mod DerivedNotes
+pub mod CommentsUpto
 pub mod PartsUpto
 pub mod PartsSteps
 pub mod FloorsAt

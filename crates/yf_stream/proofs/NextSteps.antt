@@ -120,7 +120,7 @@ module _ {t : List ℕ} (u : IsUtf8 t) where
   marked_too_deep (too_deep_read s n o) m = (no_marked_document u n s m, o)
 
   -- what is known of the place of the next document
-  module _ {i : ℕ} (spot : Spot) {c d : List CommentValue} (pre : PrefixRead t i spot.at c d) (some : spot.at ≢ length t) {x : Documents} (r : ReadUpto t spot.may_be_bare spot.at x) where
+  module _ {f i : ℕ} (spot : Spot) {c d : List CommentValue} (pre : PrefixRead t f i spot.at c d) (some : spot.at ≢ length t) {x : Documents} (r : ReadUpto t spot.may_be_bare spot.at x) where
     begin_bare : spot.may_be_bare ≡ true → ReadUpto t true spot.at x
     begin_bare e = subst (λ b. ReadUpto t b spot.at x) e r
 
@@ -185,7 +185,7 @@ module _ {t : List ℕ} (u : IsUtf8 t) where
     too_deep_there (without_dashes f q e m) = bare_too_deep f e m
 
 -- the same from a spot before comment lines and byte order marks on
-pub spot_on : {t : List ℕ} {c d : List CommentValue} {x : Documents} (spot s : Spot) → IsUtf8 t → s ≡ record spot { at = s.at } → (r : PrefixRead t spot.at s.at c d)
+pub spot_on : {t : List ℕ} {c d : List CommentValue} {x : Documents} (spot s : Spot) → IsUtf8 t → s ≡ record spot { at = s.at } → (r : PrefixRead t spot.floor spot.at s.at c d)
     → ReadUpto t spot.may_be_bare spot.at x → ReadUpto t s.may_be_bare s.at (followed x (only_comments r.upto.comments))
 spot_on {t} {x = x} spot s u e r g =
     subst (λ b. ReadUpto t b s.at (followed x (only_comments r.upto.comments))) (sym (ap (λ z. z.may_be_bare) e)) (past_prefix u r g)

@@ -110,7 +110,7 @@ module _ {t : List ℕ} where
   rows_after (all_closed w) c = all_closed w
   rows_after (last_open x w l d) c = last_open x w l (chain_append d c)
 
-  pub events_past_prefix : {spot s : Spot} {x : Documents} {a b : Parts} {c d : List CommentValue} → s ≡ record spot { at = s.at } → (r : PrefixRead t spot.at s.at c d)
+  pub events_past_prefix : {spot s : Spot} {x : Documents} {a b : Parts} {c d : List CommentValue} → s ≡ record spot { at = s.at } → (r : PrefixRead t spot.floor spot.at s.at c d)
       → b.part.events ≡ a.part.events → b.documents ≡ a.documents → b.part.escapes ≡ a.part.escapes → EventsRead t spot x a
       → EventsRead t s (followed x (only_comments r.upto.comments)) b
   events_past_prefix {spot} {s} {x} {a} {b} e r same docs escapes p =

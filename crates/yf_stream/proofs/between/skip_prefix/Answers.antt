@@ -6,7 +6,7 @@ use Rattle.yf_stream.proofs.PrefixLemmas.{no_row, prefix_begins, prefix_lines, p
 use Rattle.yf_stream.proofs.between.skip_prefix.Goals as goal
 
 pub lines-init : goal.lines-init
-lines-init c = record { read = prefix_begins _ _; place = record { boundary = c.requires; order = omega arith }; escapes = refl; documents = refl; events = refl }
+lines-init c = record { read = prefix_begins _ _ _; place = record { boundary = c.requires; order = omega arith }; escapes = refl; documents = refl; events = refl }
 
 pub lines-smaller-then-mark_stands : goal.lines-smaller-then-mark_stands
 lines-smaller-then-mark_stands c =
