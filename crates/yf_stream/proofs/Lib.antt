@@ -81,7 +81,9 @@ pub mod ScalarNotes
 pub mod NodeNotes
 pub mod BlockNotes
 pub mod DerivedNotes
+pub mod FloorsBlank
 pub mod CommentsUpto
+pub mod CommentsSteps
 pub mod PartsUpto
 pub mod PartsSteps
 pub mod FloorsAt
