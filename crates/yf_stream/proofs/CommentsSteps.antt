@@ -26,7 +26,7 @@ use Rattle.yf_stream.proofs.CommentNotes.{Each, Guard, Told, each_join, each_wea
 use Rattle.yf_stream.proofs.CommentsUpto.{CommentsRead, Noted, Silent, Since, floor_top, noted_node, noted_silent, noted_told, past_floor, same_floor, silent_floor, told_within}
 use Rattle.yf_stream.proofs.DerivedNotes.{derived_notes}
 use Rattle.yf_stream.proofs.DirectiveOrder.{directives_order, directives_stand, parameters_forward}
-use Rattle.yf_stream.proofs.FloorWalk.{FloorIn, floor_kept, floor_set}
+use Rattle.yf_stream.proofs.FloorWalk.{FloorIn, end_same, floor_kept, floor_set}
 use Rattle.yf_stream.proofs.FloorsAt.{floor_sets, noting_floor, noting_last}
 use Rattle.yf_stream.proofs.FloorsBlank.{floors_blank}
 use Rattle.yf_stream.proofs.NextSteps.{NodeDone, StepTo, bare_to, dashes_to, directives_to, dots_to, lines_read, node_done, nothing_done}
@@ -88,7 +88,7 @@ module _ {t : List ℕ} (u : IsUtf8 t) where
         comments = ap (λ z. z.part.comments) n.ends.parts;
         order = line_end_forward d;
         floors = one_element (floor_kept (λ f p. refl)) no_element;
-        notes = λ f g. each_weaker (λ c o. record { note = since_guarded u g o.after o.note }) (line_told d);
+        notes = λ f g. each_weaker (λ c o. record { note = subst (λ z. NotedSince t z c.offset c.blank_before) (sym (end_same c.offset f)) (since_guarded u g o.after o.note) }) (line_told d);
         within = told_within (line_told d);
         floor = n.ends.floor;
         blank = λ l. blank_start n.ends.floor;
@@ -122,18 +122,18 @@ signs_solid : (is_gap 45 ≡ false) × (is_gap 46 ≡ false)
 unfolding is_gap is_white is_break_char
 signs_solid = (refl, refl)
 
+closed_floor : (b o : Bool) (a : Parts) → floor_of 0 (closed b o a).part.events ≡ floor_of 0 a.part.events
+closed_floor b true a = floor_join 0 a.part.events (unplaced (document_ends b) ∷ []) ∙ silent_floor (floor_of 0 a.part.events) (silent_end b)
+closed_floor b false a = refl
+
+opened_floor : (start : ℕ) (b : Bool) (ds : List Directive) (a : Parts) → floor_of 0 (opened start b ds a).part.events ≡ floor_of 0 a.part.events
+opened_floor start b ds a = floor_join 0 a.part.events (unplaced (document_starts b) ∷ []) ∙ silent_floor (floor_of 0 a.part.events) (silent_start b)
+
 module _ {t : List ℕ} where
   noted_closed : {k : ℕ} {cs : List CommentValue} (b o : Bool) (a : Parts) → Noted t k a.part.events cs a.part.comments
       → Noted t k (closed b o a).part.events cs (closed b o a).part.comments
   noted_closed b true a n = noted_silent n (silent_end b)
   noted_closed b false a n = n
-
-  closed_floor : (b o : Bool) (a : Parts) → floor_of 0 (closed b o a).part.events ≡ floor_of 0 a.part.events
-  closed_floor b true a = floor_join 0 a.part.events (unplaced (document_ends b) ∷ []) ∙ silent_floor (floor_of 0 a.part.events) (silent_end b)
-  closed_floor b false a = refl
-
-  opened_floor : (start : ℕ) (b : Bool) (ds : List Directive) (a : Parts) → floor_of 0 (opened start b ds a).part.events ≡ floor_of 0 a.part.events
-  opened_floor start b ds a = floor_join 0 a.part.events (unplaced (document_starts b) ∷ []) ∙ silent_floor (floor_of 0 a.part.events) (silent_start b)
 
   -- comments of directives
   directives_told : {i j : ℕ} {x : Directives} → DirectiveLines t i j x → Each (Told t i j) x.comments
