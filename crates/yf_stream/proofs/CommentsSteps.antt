@@ -2,9 +2,10 @@
 use Rattle.std.proofs.Common.{◌≡◌, ◌≢◌, ℕ, ◌+◌, ◌<◌, ◌≤◌, Bool, true, false, inl, inr, ⊎_elim, List, [], ◌∷◌, ◌++◌, length, refl, sym, ap, ◌∙◌, subst, arith, append_assoc, append-nil, true≢false}
 use Rattle.std.specs.Str.{IsUtf8}
 use Rattle.yf_chars.specs.Text.{code, no_char}
+use Rattle.yf_chars.specs.Chain.{Stuck}
 use Rattle.yf_chars.specs.Class.{is_break_char, is_white}
 use Rattle.yf_comments.specs.Comment.{CommentValue}
-use Rattle.yf_comments.specs.Comments.{Blank, is_gap}
+use Rattle.yf_comments.specs.Comments.{Blank, Row, is_gap}
 use Rattle.yf_comments.specs.Comments.Blank.{text_begins}
 use Rattle.yf_comments.proofs.LineOrder.{line_end_forward}
 use Rattle.yf_events.specs.Event.{Placed, document_ends, document_starts, scalar_node, stream_ends, stream_starts}
@@ -16,10 +17,12 @@ use Rattle.yf_grammar.specs.Meaning.{Meaning, empty_node, noting, plain_event}
 use Rattle.yf_grammar.specs.Part.{NotedSince, Noting, no_event, with_entry, without_entry}
 use Rattle.yf_grammar.proofs.CommentOrder.{derived_ascends}
 use Rattle.yf_grammar.proofs.PrefixNodes.{derived_order}
+use Rattle.yf_stream.specs.DerivedParts.{no_parts}
 use Rattle.yf_stream.specs.DocumentReaders.{closed, opened, with_event}
 use Rattle.yf_stream.specs.ReadingOf.{NotedComments, floor_at, no_comment, one_comment}
 use Rattle.yf_stream.specs.Stream.{DirectiveLines, Directives, Documents, document_of, only_comments}
 use Rattle.yf_stream.specs.Stream.DirectiveLines.{last_directive, more_directives}
+use Rattle.yf_stream.specs.WrittenParts.{Written}
 use Rattle.yf_stream.specs.declared.documents.Parts.{Parts}
 use Rattle.yf_stream.specs.declared.documents.Spot.{Spot}
 use Rattle.yf_stream.proofs.CommentNotes.{Each, Guard, Told, each_join, each_weaker, guard_later, guarded, line_told, no_element, no_floor, one_element, since_guarded, told_wider}
@@ -32,7 +35,9 @@ use Rattle.yf_stream.proofs.FloorsBlank.{floors_blank}
 use Rattle.yf_stream.proofs.NextSteps.{NodeDone, StepTo, bare_to, dashes_to, directives_to, dots_to, lines_read, node_done, nothing_done}
 use Rattle.yf_stream.proofs.NodeNotes.{NoteOver, Within, within_of}
 use Rattle.yf_stream.proofs.NotingLemmas.{floor_join, floor_of}
-use Rattle.yf_stream.proofs.StreamUpto.{followed, one_document}
+use Rattle.yf_stream.proofs.PartsSteps.{events_end}
+use Rattle.yf_stream.proofs.PartsUpto.{EventsRead}
+use Rattle.yf_stream.proofs.StreamUpto.{ReadUpto, followed, one_document}
 
 -- notes of entries leave where floors stand what they are
 noting_floors : {t : List ℕ} {f i j : ℕ} {xs ys : List Placed} → Noting t f xs ys → Each (FloorIn i j) xs → Each (FloorIn i j) ys
@@ -189,9 +194,15 @@ module _ {t : List ℕ} (u : IsUtf8 t) {spot : Spot} {x : Documents} {a : Parts}
       let g = subst (λ z. Guard t z spot.at) (sym (opened_floor start false [] a)) (r.bare q) in
       document_noted u x.comments _ (noted_silent r.comments (silent_start false)) (omega arith) g refl (node_noted u d)
 
--- before anything has been read, but the start of the stream
-pub comments_begin : {t : List ℕ} {b : Parts} (spot : Spot) → spot.floor ≡ 0 → b.part.events ≡ unplaced stream_starts ∷ [] → b.part.comments ≡ [] → CommentsRead t spot (only_comments []) b
-comments_begin {t} {b} spot k e f = record {
+-- what has been read up to a spot, and the parts of it
+pub record ReadSoFar (t : List ℕ) (spot : Spot) (p : Parts) : Type 0 where
+  pub documents : Documents
+  pub read : ReadUpto t spot.may_be_bare spot.at documents
+  pub parts : EventsRead t spot documents p
+  pub comments : CommentsRead t spot documents p
+
+begins_empty : {t : List ℕ} {b : Parts} (spot : Spot) → spot.floor ≡ 0 → b.part.events ≡ unplaced stream_starts ∷ [] → b.part.comments ≡ [] → CommentsRead t spot (only_comments []) b
+begins_empty {t} {b} spot k e f = record {
   comments = subst (λ z. Noted t spot.at z [] b.part.comments) (sym e) (subst (λ z. Noted t spot.at (unplaced stream_starts ∷ []) [] z) (sym f)
       (record { noted = no_comment; within = no_element; floors = one_element (floor_kept (λ f p. refl)) no_element }));
   since = past_floor k (no_floor (ap (λ z. floor_of 0 z) e));
@@ -199,10 +210,22 @@ comments_begin {t} {b} spot k e f = record {
   bare = λ q. no_floor (ap (λ z. floor_of 0 z) e);
 }
 
+-- before anything has been read, but the start of the stream
+pub comments_begin : {t : List ℕ} {a b : Parts} (spot : Spot) → spot.floor ≡ 0 → a ≡ no_parts → b ≡ with_event a stream_starts → CommentsRead t spot (only_comments []) b
+comments_begin spot k e f =
+    let all = f ∙ ap (λ z. with_event z stream_starts) e in begins_empty spot k (ap (λ z. z.part.events) all) (ap (λ z. z.part.comments) all)
+
 -- at the end of the text
-pub comments_end : {t : List ℕ} {spot : Spot} {x : Documents} {a b c : Parts} → CommentsRead t spot x a → b ≡ closed false spot.is_open a → c ≡ with_event b stream_ends
+comments_end : {t : List ℕ} {spot : Spot} {x : Documents} {a b c : Parts} → CommentsRead t spot x a → b ≡ closed false spot.is_open a → c ≡ with_event b stream_ends
     → NotedComments t c.part.events x.comments c.part.comments
 comments_end {t} {spot} {x} {a} {b} {c} r e f =
     let all = f ∙ ap (λ z. with_event z stream_ends) e in
     let n = noted_silent (noted_closed false spot.is_open a r.comments) (one_element (record { kept = λ f p. refl }) no_element) in
     subst (λ z. NotedComments t z.part.events x.comments z.part.comments) (sym all) n.noted
+
+-- all parts of a stream
+pub stream_written : {t : List ℕ} {spot : Spot} {x : Documents} {a b c : Parts} → spot.at ≡ length t → code t spot.at ≢ 0xFEFF → Stuck (Row t spot.at) → EventsRead t spot x a
+    → CommentsRead t spot x a → b ≡ closed false spot.is_open a → c ≡ with_event b stream_ends → Written t x c
+stream_written k m n r s e f =
+    let w = events_end k m n r e f in
+    record { derived = w.derived; written = w.written; events = w.events; comments = comments_end s e f; documents = w.documents; escapes = w.escapes }

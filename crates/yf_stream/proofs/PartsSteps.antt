@@ -20,12 +20,12 @@ use Rattle.yf_grammar.specs.Part.{Noting, end_or, floor_behind, no_event as none
 use Rattle.yf_grammar.proofs.NodePlaces.{ColonStands, ItemsStand, NodeStands, PairsStand, a_colon, alias_stands, item_stands, items_order, mapping_stands, no_colon, no_items_stand, no_pairs_stand, node_order, pair_stands, pairs_order, scalar_stands, sequence_stands, stands_nowhere}
 use Rattle.yf_grammar.proofs.PlacedNodes.{NodeAt, node_noting, node_wider, nothing_at}
 use Rattle.yf_grammar.proofs.PlacesDerived.{places}
-use Rattle.yf_stream.specs.DerivedParts.{EventsWritten, no_parts}
+use Rattle.yf_stream.specs.DerivedParts.{no_parts}
 use Rattle.yf_stream.specs.DocumentReaders.{closed, opened, with_event}
 use Rattle.yf_stream.specs.DocumentSteps.{with_comments_read}
 use Rattle.yf_stream.specs.ReadingOf.{doc_of}
 use Rattle.yf_stream.specs.Stream.{Document, Documents, document_of, only_comments}
-use Rattle.yf_stream.specs.WrittenParts.{DocumentsWritten, nothing_written}
+use Rattle.yf_stream.specs.WrittenParts.{DocumentsWritten, Written, nothing_written}
 use Rattle.yf_stream.specs.declared.documents.Parts.{Parts}
 use Rattle.yf_stream.specs.declared.documents.Spot.{Spot}
 use Rattle.yf_stream.proofs.CommentNotes.{Guard, guarded, no_floor}
@@ -34,7 +34,7 @@ use Rattle.yf_stream.proofs.Forward.{line_end_forward}
 use Rattle.yf_stream.proofs.NextSteps.{NodeDone, StepTo, bare_to, dashes_to, directives_to, dots_to, lines_read, node_done, nothing_done}
 use Rattle.yf_stream.proofs.NodeFinish.{LineRows, finish_ends, rows_there}
 use Rattle.yf_stream.proofs.NotingLemmas.{EntriesAfter, floor_join, floor_of, node_entries, none_after, noting_join, noting_over}
-use Rattle.yf_stream.proofs.PartsUpto.{BareSpot, ClosedParts, EventsRead, EventsUpto, all_closed, last_open, mark_there, no_mark_there, no_more, parts_closed}
+use Rattle.yf_stream.proofs.PartsUpto.{BareSpot, ClosedParts, EventsRead, EventsUpto, EventsWritten, all_closed, last_open, mark_there, no_mark_there, no_more, parts_closed}
 use Rattle.yf_stream.proofs.PrefixLemmas.{rows_prefix}
 use Rattle.yf_stream.proofs.StreamPath.{end_code}
 use Rattle.yf_stream.proofs.StreamUpto.{ReadUpto, followed, one_document}
@@ -253,12 +253,6 @@ module _ {t : List ℕ} (u : IsUtf8 t) {spot : Spot} {x : Documents} {a : Parts}
         escapes = r.escapes;
       } in
       document_more u x y.comments parts s.guard (omega arith) (omega arith) (node_parts u d)
-
--- what has been read up to a spot, and the parts of it
-pub record ReadSoFar (t : List ℕ) (spot : Spot) (p : Parts) : Type 0 where
-  pub documents : Documents
-  pub read : ReadUpto t spot.may_be_bare spot.at documents
-  pub parts : EventsRead t spot documents p
 
 -- before anything has been read, but the start of the stream
 pub events_begin : {t : List ℕ} {a b : Parts} (spot : Spot) → spot.at ≡ 0 → spot.is_open ≡ false → a ≡ no_parts → b ≡ with_event a stream_starts

@@ -6,7 +6,7 @@ use Rattle.yf_chars.proofs.ChainLemmas.{chain_append, chain_forward, stuck_uniqu
 use Rattle.yf_lines.specs.Basic.{Forbidden}
 use Rattle.yf_comments.specs.Comment.{CommentValue}
 use Rattle.yf_comments.specs.Comments.{LineEnd, Row, is_gap}
-use Rattle.yf_events.specs.Event.{Placed, document_ends, document_starts, stream_starts}
+use Rattle.yf_events.specs.Event.{Placed, document_ends, document_starts, stream_ends, stream_starts}
 use Rattle.yf_events.specs.Tree.{unplaced}
 use Rattle.yf_grammar.specs.Part.{Noting, no_event as none_noted, without_entry}
 use Rattle.yf_grammar.proofs.BlockEnds.{LineOrEnd}
@@ -41,6 +41,14 @@ pub record EventsRead (t : List ℕ) (spot : Spot) (x : Documents) (p : Parts) :
   pub noted : Noting t 0 (unplaced stream_starts ∷ derived) p.part.events
   pub floor : floor_of 0 derived ≤ spot.at
   pub bare : spot.may_be_bare ≡ true → BareSpot t spot (floor_of 0 derived)
+  pub documents : p.documents ≡ map doc_of x.documents
+  pub escapes : p.part.escapes ≡ flat_map (λ (d : Document). d.escapes) x.documents
+
+-- the parts of the stream x, but for its comments
+pub record EventsWritten (t : List ℕ) (x : Documents) (p : Parts) : Type 0 where
+  pub derived : List Placed
+  pub written : DocumentsWritten t x.documents derived
+  pub events : Noting t 0 (unplaced stream_starts ∷ (derived ++ (unplaced stream_ends ∷ []))) p.part.events
   pub documents : p.documents ≡ map doc_of x.documents
   pub escapes : p.part.escapes ≡ flat_map (λ (d : Document). d.escapes) x.documents
 
