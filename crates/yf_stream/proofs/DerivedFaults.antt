@@ -1,15 +1,18 @@
 -- Refusals and their faults: what has been read of a stream is its reading, or tells why it has none.
-use Rattle.std.proofs.Common.{◌≡◌, ℕ, List, Option, Result, Ok, Err, IfOk, sym, subst}
+use Rattle.std.proofs.Common.{◌≡◌, ℕ, List, Option, Some, Result, Ok, Err, IfOk, MatchOption, sym, subst}
 use Rattle.std.specs.List.{All}
 use Rattle.std.specs.Str.{IsCharBoundary, IsUtf8}
 use Rattle.std.specs.declared.alloc.AllocError.{AllocError}
 use Rattle.yf_lines.specs.declared.fault.Fault.{Fault}
+use Rattle.yf_events.specs.Nested.{IsStream}
+use Rattle.yf_events.specs.Reading.{events_of}
 use Rattle.yf_events.specs.declared.lists.Lists.{Lists}
+use Rattle.yf_events.specs.declared.reading.TheConstants.{DEPTH}
 use Rattle.yf_stream.specs.DerivedStreams.{ListsDerived, NotDerived, RefusalDerived, ShapeOr, ShapeRead}
 use Rattle.yf_stream.specs.NotedLists.{FaultAt, IsFirstBreach, NotedOr, breached as told_at, for_memory, no_stream as no_stream_at, too_deep as too_deep_at}
 use Rattle.yf_stream.specs.Refusal.{IsStreamFault}
 use Rattle.yf_stream.specs.RefusalPlaces.{DocumentsAt}
-use Rattle.yf_stream.specs.StreamReader.{StreamFault, breached, for_memory as memory_refused, no_stream, too_deep}
+use Rattle.yf_stream.specs.StreamReader.{StreamFault, TheReading, breached, for_memory as memory_refused, no_stream, too_deep}
 use Rattle.yf_stream.specs.declared.documents.Parts.{Parts}
 use Rattle.yf_stream.specs.declared.stream.Refusal.{Refusal}
 use Rattle.yf_stream.specs.declared.stream.Refusal.TheVariants as Refusals
@@ -45,3 +48,10 @@ fault_derived for_memory i d = memory_refused
 fault_derived (no_stream_at p) i d = no_stream d i
 fault_derived (too_deep_at p) i d = too_deep d.0 d.1 i
 fault_derived (told_at f e) i d = breached d.shapes d.first (f d.place) e
+
+-- a reading that is made of lists
+pub is_built : {t : List ℕ} {lists r : Lists} {o : Option Lists} → MatchOption o (IsStream DEPTH (events_of lists) → ⊥) (λ r. (r ≡ lists) × IsStream DEPTH (events_of r)) → o ≡ Some r
+    → TheReading t lists → TheReading t r
+is_built {t} {lists} b e l =
+    let c = subst (λ z. MatchOption z (IsStream DEPTH (events_of lists) → ⊥) (λ r. (r ≡ lists) × IsStream DEPTH (events_of r))) e b in
+    subst (λ z. TheReading t z) (sym c.0) l

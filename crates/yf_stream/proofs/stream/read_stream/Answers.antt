@@ -1,12 +1,13 @@
 use Rattle.std.proofs.Common.{refl, subst}
 use Rattle.yf_stream.specs.MadeReadings.{MadeOr, refused_in}
 use Rattle.yf_stream.specs.StreamReader.{for_memory}
-use Rattle.yf_stream.proofs.DerivedFaults.{fault_derived, lists_of}
+use Rattle.yf_stream.proofs.DerivedFaults.{fault_derived, is_built, lists_of}
 use Rattle.yf_stream.proofs.MadeReadings.{refused_memory}
 use Rattle.yf_stream.proofs.stream.read_stream.Goals as goal
 
 pub returns-in-Ok-Some-clause-reads : goal.returns-in-Ok-Some-clause-reads
-returns-in-Ok-Some-clause-reads c = λ l. lists_of c.args.text.now (c.read_lists.ensures.reads l) c.in-Ok-Ok.is c.in-Ok-Ok.field-0-is
+returns-in-Ok-Some-clause-reads c = λ l.
+    is_built c.in-Ok-Some.ensures c.in-Ok-Some.field-0-is (lists_of c.args.text.now (c.read_lists.ensures.reads l) c.in-Ok-Ok.is c.in-Ok-Ok.field-0-is)
 
 pub returns-in-Ok-None-clause-made : goal.returns-in-Ok-None-clause-made
 returns-in-Ok-None-clause-made c = refused_memory refl
