@@ -8,7 +8,7 @@ use Rattle.yf_block.specs.declared.content.Share.{Share}
 use Rattle.yf_block.specs.declared.content.Share.TheVariants.{Nothing as NoShare, Joined, Apart as ApartShare}
 use Rattle.yf_block.specs.declared.held.Held.{Held}
 use Rattle.yf_block.specs.BlockStepTied.{HeldTied, AheadTied, nothing_held, none_held, props_held}
-use Rattle.yf_block.specs.ClaimsTied.{none_more, more_there, two_alike, before_alias, OthersBefore, ShareTied}
+use Rattle.yf_block.specs.ClaimsTied.{none_more, more_there, two_alike, before_alias, ShareTied}
 use Rattle.yf_block.specs.HeldAnswers.{line_held, LineProperties, BothHeld, Holds, held_lead, lead_at}
 use Rattle.yf_block.proofs.TiedLeads.{no_held, no_none, same_held}
 

@@ -1,5 +1,5 @@
 -- A flow node on its line that is no key: the leaf that it is, whose line is to end; or an empty key behind which the line goes on.
-use Rattle.std.proofs.Common.{◌≡◌, ℕ, ℤ, pos, ◌+ℤ◌, ◌+◌, ◌<◌, ◌≤◌, Bool, true, false, List, [], ◌++◌, length, Option, Some, None, refl, sym, ap, ◌∙◌, subst, arith, ⊎_elim, true≢false}
+use Rattle.std.proofs.Common.{◌≡◌, ℕ, pos, ◌+ℤ◌, ◌<◌, ◌≤◌, Bool, true, false, List, Option, Some, None, refl, sym, ap, ◌∙◌, subst, arith, ⊎_elim}
 use Rattle.std.proofs.lemmas.Bool.{cases_Bool}
 use Rattle.std.specs.Str.{IsUtf8}
 use Rattle.yf_chars.specs.declared.context.Ctx.TheVariants.{FlowOut}
@@ -7,10 +7,10 @@ use Rattle.yf_chars.specs.Text.{code}
 use Rattle.yf_chars.specs.Chain.{Stuck}
 use Rattle.yf_comments.specs.Comments.{LineEnd}
 use Rattle.yf_events.specs.declared.part.Part.{Part}
-use Rattle.yf_grammar.specs.Meaning.{Meaning, from_to}
+use Rattle.yf_grammar.specs.Meaning.{from_to}
 use Rattle.yf_grammar.specs.Parser.{Found, ANode, Parses, begins_alias, begins_properties}
 use Rattle.yf_grammar.specs.Parser.Parses.{properties_missed}
-use Rattle.yf_grammar.specs.BlockParser.{SignAt, Ahead, Held as HeldValue, Props, Columns, NoSign, NoKeyAt, MayLeaf, BlockTask, Leaf}
+use Rattle.yf_grammar.specs.BlockParser.{SignAt, Ahead, Held as HeldValue, Props, Columns, NoSign, NoKeyAt, BlockTask}
 use Rattle.yf_grammar.proofs.FlowStarts.{flow_starts}
 use Rattle.yf_grammar.proofs.Forward.{whites_forward}
 use Rattle.yf_grammar.proofs.NodeExits.{none_some}

@@ -1,13 +1,12 @@
 -- No node is found on a line: nothing that may be a leaf stands behind its properties, or the properties do not go together.
-use Rattle.std.proofs.Common.{◌≡◌, ◌≢◌, ℕ, ℤ, pos, ◌+ℤ◌, ◌+◌, ◌<◌, ◌≤◌, Bool, true, false, List, [], Option, Some, None, refl, sym, ap, ◌∙◌, subst, arith, ◌⊎◌, inl, inr, ⊎_elim, true≢false}
-use Rattle.std.proofs.lemmas.Bool.{cases_Bool, cases_lt}
+use Rattle.std.proofs.Common.{◌≡◌, ◌≢◌, ℕ, ℤ, pos, ◌+ℤ◌, ◌<◌, ◌≤◌, Bool, true, false, List, Option, Some, None, refl, sym, ◌∙◌, subst, arith, inl, inr, ⊎_elim, true≢false}
+use Rattle.std.proofs.lemmas.Bool.{cases_lt}
 use Rattle.std.proofs.lemmas.Bool.Decides.{nat_tests}
 use Rattle.std.specs.Str.{IsUtf8}
-use Rattle.yf_chars.specs.declared.context.Ctx.TheVariants.{FlowOut, FlowKey}
+use Rattle.yf_chars.specs.declared.context.Ctx.TheVariants.{FlowKey}
 use Rattle.yf_chars.specs.Text.{code}
 use Rattle.yf_chars.specs.Class.{is_white}
 use Rattle.yf_chars.specs.Chain.{Stuck, Chosen, Many}
-use Rattle.yf_comments.specs.Comment.{CommentValue}
 use Rattle.yf_comments.specs.Comments.{LineEnd}
 use Rattle.yf_props.specs.Names.{Properties, PropertiesValue}
 use Rattle.yf_events.specs.declared.event.Entry as TheEntry
@@ -16,16 +15,14 @@ use Rattle.yf_block_scalar.specs.Header.BlockHeader.{block_header}
 use Rattle.yf_block_scalar.specs.Header.{Style}
 use Rattle.yf_block_scalar.specs.Header.Style.{literal_sign, folded_sign}
 use Rattle.yf_grammar.specs.Meaning.{Meaning}
-use Rattle.yf_grammar.specs.Parser.{Found, ANode, Parses, begins_alias, begins_properties, begins_content}
+use Rattle.yf_grammar.specs.Parser.{begins_alias, begins_properties}
 use Rattle.yf_grammar.specs.BlockScalar.{BlockScalar}
 use Rattle.yf_grammar.specs.BlockScalar.BlockScalar.{block_scalar}
-use Rattle.yf_grammar.specs.BlockParser.{SignAt, Ahead, Props, Held as HeldValue, Joins, Apart, Columns, NoSign, NoKeyAt, no_column, KeyBefore, MayLeaf, BlockTask, Inline, Leaf, Whole}
-use Rattle.yf_grammar.specs.BlockParser.Whole.{properties_leaf, properties_alone_missed, properties_apart, properties_apart_below, leaf_there}
+use Rattle.yf_grammar.specs.BlockParser.{Ahead, Props, Held as HeldValue, Columns, NoSign, NoKeyAt, BlockTask, Inline, Whole}
+use Rattle.yf_grammar.specs.BlockParser.Whole.{properties_leaf, properties_alone_missed, properties_apart, leaf_there}
 use Rattle.yf_grammar.specs.Halts.{Halts}
-use Rattle.yf_grammar.specs.Halts.Halts.{halts_properties_leaf, halts_properties_missed, halts_properties_apart, halts_properties_apart_below, halts_leaf}
-use Rattle.yf_grammar.specs.BlockStack.{Layer, asked}
-use Rattle.yf_grammar.specs.BlockStates.{NodeAt}
-use Rattle.yf_grammar.proofs.BlockScalars.{is_bar_sign, no_flow_node}
+use Rattle.yf_grammar.specs.Halts.Halts.{halts_properties_leaf, halts_properties_missed, halts_properties_apart, halts_leaf}
+use Rattle.yf_grammar.specs.BlockStack.{asked}
 use Rattle.yf_grammar.proofs.Forward.{whites_forward}
 use Rattle.yf_flow.specs.declared.node.Lead.{Lead}
 use Rattle.yf_block.specs.declared.frame.Frame.{Frame}
@@ -34,12 +31,12 @@ use Rattle.yf_block.specs.declared.held.Held.{Held}
 use Rattle.yf_block.specs.BlockStepTied.{AtFailed}
 use Rattle.yf_block.specs.ClaimsTied.{OfOther, two_alike, before_alias, OthersBefore}
 use Rattle.yf_block.specs.ContentTied.{TextBehind, text_alone, text_held, ScalarSignAt}
-use Rattle.yf_block.specs.HeldAnswers.{LineProperties, PlaceBehind, NoPlaceBehind, other_beside, property_behind}
+use Rattle.yf_block.specs.HeldAnswers.{LineProperties, NoPlaceBehind, other_beside, property_behind}
 use Rattle.yf_block.specs.InlineAnswers.{InlineLost}
 use Rattle.yf_block.specs.InlineAnswers as Answers
 use Rattle.yf_block.specs.InlineTied.{AtStart}
 use Rattle.yf_block.proofs.ContentNodes.{no_key_here, lost_keyless, Whose, of_one, of_two, whose, joined_props, NoLeaf, leaf_refuses, leaf_lost}
-use Rattle.yf_block.proofs.KeyNodes.{content_node, keyless_nowhere}
+use Rattle.yf_block.proofs.KeyNodes.{content_node}
 use Rattle.yf_block.proofs.TiedFailed.{broken_fails}
 use Rattle.yf_block.proofs.TiedOpenings.{node_missing}
 

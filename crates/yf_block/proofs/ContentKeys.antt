@@ -1,14 +1,11 @@
 -- A mapping begins on a line with its first key: its value is awaited, or too many collections would be open.
-use Rattle.std.proofs.Common.{◌≡◌, ◌≢◌, ℕ, suc, zero, ℤ, pos, ◌+ℤ◌, ◌+◌, ◌-◌, ◌<◌, ◌≤◌, Bool, true, false, List, [], ◌∷◌, ◌++◌, length, Option, Some, None, refl, sym, ap, ◌∙◌, subst, arith, true≢false, ⊎_elim}
+use Rattle.std.proofs.Common.{◌≡◌, ℕ, suc, zero, pos, ◌+ℤ◌, ◌+◌, ◌-◌, ◌<◌, ◌≤◌, Bool, true, false, List, [], ◌∷◌, ◌++◌, length, Option, Some, None, refl, sym, ap, ◌∙◌, subst, arith, true≢false, ⊎_elim}
 use Rattle.std.proofs.lemmas.Bool.{cases_lt}
-use Rattle.std.proofs.lemmas.Int.{ints}
-use Rattle.std.specs.Str.{IsUtf8}
 use Rattle.yf_chars.specs.declared.context.Ctx.TheVariants.{BlockOut, FlowOut}
 use Rattle.yf_chars.specs.Text.{code}
 use Rattle.yf_chars.specs.Class.{is_white}
 use Rattle.yf_chars.specs.Chain.{Many}
 use Rattle.yf_chars.proofs.ChainLemmas.{many_unique}
-use Rattle.yf_comments.specs.Comment.{CommentValue}
 use Rattle.yf_events.specs.Event.{Placed}
 use Rattle.yf_events.specs.declared.event.Entry as TheEntry
 use Rattle.yf_events.specs.declared.part.Part.{Part}
@@ -16,10 +13,10 @@ use Rattle.yf_grammar.specs.Meaning.{Meaning, ◌⊕◌, entering}
 use Rattle.yf_grammar.specs.Part.{Noting, NotedSince}
 use Rattle.yf_grammar.specs.Part.Noting.{with_entry}
 use Rattle.yf_grammar.specs.Parser.{Found, ANode, Parses}
-use Rattle.yf_grammar.specs.BlockParser.{DashAt, SignAt, Columns, NoSign, NoKeyAt, no_column, unfit_node, key_unfit, KeyBefore, MappingAt, by_key, First, BlockTask, Awaited, Indicator, Inline}
+use Rattle.yf_grammar.specs.BlockParser.{DashAt, SignAt, Columns, NoSign, NoKeyAt, no_column, unfit_node, key_unfit, KeyBefore, by_key, BlockTask, Awaited, Indicator, Inline}
 use Rattle.yf_grammar.specs.BlockParser.Whole.{mapping_too_deep, key_too_deep}
 use Rattle.yf_grammar.specs.Halts.Halts.{halts_mapping_too_deep, halts_key_too_deep}
-use Rattle.yf_grammar.specs.BlockStack.{Layer, AtValue, asked}
+use Rattle.yf_grammar.specs.BlockStack.{AtValue}
 use Rattle.yf_grammar.specs.BlockStates.{NodeAt, Broken, at_stage, new_layer}
 use Rattle.yf_grammar.proofs.BlockEntryBegins.{value_begins, entry_breaks}
 use Rattle.yf_grammar.proofs.BlockNodeSteps.{mapping_begins}
@@ -27,7 +24,6 @@ use Rattle.yf_grammar.proofs.BlockStarts.{node_no_dash}
 use Rattle.yf_grammar.proofs.FlowStarts.{flow_starts}
 use Rattle.yf_grammar.proofs.Forward.{whites_forward}
 use Rattle.yf_grammar.proofs.GapLemmas.{Visible}
-use Rattle.yf_grammar.proofs.Outcome.{outcome_is_one}
 use Rattle.yf_grammar.proofs.Sound.{found_is_derived}
 use Rattle.yf_flow.proofs.EntriesFrom.{EntriesFrom, outcome_from}
 use Rattle.yf_flow.proofs.NotedFloor.{noting_later}
@@ -36,7 +32,7 @@ use Rattle.yf_flow.specs.declared.frame.Node.{Node}
 use Rattle.yf_block.specs.declared.frame.Frame.{Frame}
 use Rattle.yf_block.specs.declared.frame.Kind.TheVariants.{Mapping}
 use Rattle.yf_block.specs.declared.frame.Progress.{Progress}
-use Rattle.yf_block.specs.BlockTied.{entries_written, floor_after, ReadTied, no_entry, wanted_after}
+use Rattle.yf_block.specs.BlockTied.{floor_after, ReadTied, no_entry, wanted_after}
 use Rattle.yf_block.specs.BlockStepTied.{AtNode, AtFailed}
 use Rattle.yf_block.specs.InlineAnswers.{KeyEnds}
 use Rattle.yf_block.specs.InlineTied.{AtStart, started}

@@ -1,17 +1,15 @@
 -- A flow node that is no key, as a leaf: it has the properties that stand ahead of it, and it was written with them.
-use Rattle.std.proofs.Common.{◌≡◌, ◌≢◌, ℕ, ℤ, pos, ◌+ℤ◌, ◌+◌, ◌<◌, ◌≤◌, Bool, true, false, List, [], ◌∷◌, ◌++◌, length, Option, Some, None, refl, sym, ap, ◌∙◌, subst, arith, append_assoc, append-nil, ⊎_elim, true≢false}
-use Rattle.std.proofs.lemmas.Bool.{cases_Bool, cases_lt}
+use Rattle.std.proofs.Common.{◌≡◌, ◌≢◌, ℕ, ℤ, pos, ◌+◌, ◌<◌, ◌≤◌, true, false, List, [], ◌∷◌, ◌++◌, Option, Some, None, refl, sym, ap, ◌∙◌, subst, arith, append_assoc, append-nil, ⊎_elim, true≢false}
+use Rattle.std.proofs.lemmas.Bool.{cases_Bool}
 use Rattle.std.proofs.lemmas.Bool.Decides.{nat_tests}
 use Rattle.std.specs.Str.{IsUtf8}
 use Rattle.yf_chars.specs.declared.context.Ctx.{Ctx}
-use Rattle.yf_chars.specs.declared.context.Ctx.TheVariants.{FlowOut, FlowKey}
+use Rattle.yf_chars.specs.declared.context.Ctx.TheVariants.{FlowKey}
 use Rattle.yf_chars.specs.Text.{code}
-use Rattle.yf_chars.specs.Chain.{Stuck}
-use Rattle.yf_lines.specs.Basic.{Break, is_block}
+use Rattle.yf_lines.specs.Basic.{is_block}
 use Rattle.yf_lines.proofs.BasicLemmas.{break_forward}
 use Rattle.yf_lines.proofs.LineLemmas.{break_breaks}
 use Rattle.yf_comments.specs.Comment.{CommentValue}
-use Rattle.yf_comments.specs.Comments.{LineEnd}
 use Rattle.yf_props.specs.Names.{Alias, PropertiesValue}
 use Rattle.yf_grammar.specs.Grammar.Derives.{an_alias}
 use Rattle.yf_props.specs.Props.{PropsValue, no_props, props_value}
@@ -22,39 +20,32 @@ use Rattle.yf_grammar.specs.Meaning.{Meaning, ◌⊕◌, behind, plain_event, fr
 use Rattle.yf_grammar.specs.Parser.{Found, found, ANode, AContent, Parses, OnOneLine, only, begins_alias, begins_properties, begins_content, begins_plain}
 use Rattle.yf_grammar.specs.Parser.Parses.{alias_read, alias_missed, plain_read, plain_missed, content_read, properties_missed, properties_content, properties_plain, properties_end, properties_before_broken, properties_before_other}
 use Rattle.yf_grammar.specs.Parser as Parsing
-use Rattle.yf_grammar.specs.BlockParser.{SignAt, Ahead, Nothing, Indicator, Props, Held as HeldValue, headed, both, Joins, first_held, more_held, Columns, NoSign, NoKeyAt, MayLeaf, BlockTask, Inline, Leaf}
-use Rattle.yf_grammar.specs.BlockStack.{Layer, asked}
+use Rattle.yf_grammar.specs.BlockParser.{Ahead, Nothing, Indicator, Props, Held as HeldValue, headed, both, Joins, first_held, more_held, Columns, NoSign, NoKeyAt, BlockTask, Leaf}
 use Rattle.yf_grammar.specs.BlockStates.{NodeAt}
-use Rattle.yf_grammar.proofs.AwaitEntries.{found_is}
 use Rattle.yf_grammar.proofs.BlockNodeSteps.{node_through}
 use Rattle.yf_grammar.proofs.BlockStepNodes.{held_leaf_awaits, held_leaf_halts, leaf_awaits, leaf_halts}
-use Rattle.yf_grammar.proofs.FlowStarts.{flow_starts}
-use Rattle.yf_grammar.proofs.Forward.{whites_forward}
 use Rattle.yf_grammar.proofs.GapLemmas.{Visible}
 use Rattle.yf_grammar.proofs.KeyLines.{key_line}
-use Rattle.yf_grammar.proofs.NodeExits.{alias_begins, alias_no_plain, alias_no_content, alias_no_properties, plain_no_content, plain_no_properties, content_no_properties, some_found, none_some}
+use Rattle.yf_grammar.proofs.NodeExits.{alias_begins, alias_no_plain, plain_no_content, some_found, none_some}
 use Rattle.yf_grammar.proofs.NodeExact.{plain_is}
-use Rattle.yf_grammar.proofs.Outcome.{outcome_is_one}
 use Rattle.yf_grammar.proofs.ParserLemmas.{Same}
 use Rattle.yf_grammar.proofs.PropertiesEnds.{properties_begin}
-use Rattle.yf_grammar.proofs.Sound.{sound, found_is_derived}
-use Rattle.yf_flow.specs.Begun.{bare_lead, lead_event}
+use Rattle.yf_grammar.proofs.Sound.{sound}
+use Rattle.yf_flow.specs.Begun.{bare_lead}
 use Rattle.yf_flow.specs.ContentAnswers.{WrittenWith}
 use Rattle.yf_flow.specs.declared.node.Lead.{Lead}
-use Rattle.yf_flow.proofs.EntriesFrom.{EntriesFrom, one_from, outcome_from}
+use Rattle.yf_flow.proofs.EntriesFrom.{EntriesFrom, one_from}
 use Rattle.yf_block.specs.declared.frame.Frame.{Frame}
 use Rattle.yf_block.specs.declared.frame.Progress.{Progress}
 use Rattle.yf_block.specs.declared.held.Held.{Held}
-use Rattle.yf_block.specs.declared.content.Share.{Share}
-use Rattle.yf_block.specs.BlockTied.{begins, ahead_comments, ahead_props, ahead_start, ahead_tag, all_written, ReadTied, EntryTied}
+use Rattle.yf_block.specs.BlockTied.{begins, ahead_comments, ahead_props, ahead_start, ahead_tag, ReadTied, EntryTied}
 use Rattle.yf_block.specs.BlockStepTied.{HeldTied}
 use Rattle.yf_block.specs.ClaimsTied.{BehindLine, none_more, more_there, AllOfNode, NoneBefore}
 use Rattle.yf_block.specs.ContentTied.{TextBehind, text_alone, text_held, LeadTied}
-use Rattle.yf_block.specs.HeldAnswers.{LineProperties, Holds, held_lead, lead_at}
+use Rattle.yf_block.specs.HeldAnswers.{held_lead, lead_at}
 use Rattle.yf_block.specs.InlineTied.{AtStart}
 use Rattle.yf_block.specs.LastStarts.{NoStart}
-use Rattle.yf_block.proofs.TiedKeys.{none_spread}
-use Rattle.yf_block.proofs.TiedLeads.{WrittenAs, known_event, written_as, rest_from, node_added}
+use Rattle.yf_block.proofs.TiedLeads.{known_event, written_as, rest_from, node_added}
 use Rattle.yf_block.proofs.TiedReads.{read_as}
 
 -- the text of the node is a leaf

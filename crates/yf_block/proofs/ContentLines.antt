@@ -1,5 +1,5 @@
 -- The line behind the properties of a node: it ends, and the node stands on a later one, or it goes on; or it should end and does not.
-use Rattle.std.proofs.Common.{◌≡◌, ℕ, ℤ, pos, ◌+ℤ◌, ◌+◌, ◌<◌, ◌≤◌, Bool, true, false, List, [], ◌++◌, length, Option, Some, None, MatchOption, refl, sym, ap, ◌∙◌, subst, arith, ⊎_elim}
+use Rattle.std.proofs.Common.{◌≡◌, ℕ, ℤ, pos, ◌+ℤ◌, ◌<◌, ◌≤◌, Bool, true, false, List, ◌++◌, Option, Some, None, MatchOption, refl, sym, ap, ◌∙◌, subst, arith, ⊎_elim}
 use Rattle.std.proofs.lemmas.Bool.{cases_lt}
 use Rattle.std.specs.Str.{IsUtf8}
 use Rattle.yf_chars.specs.declared.context.Ctx.TheVariants.{FlowOut}
@@ -14,15 +14,14 @@ use Rattle.yf_comments.specs.Comments.{LineEnd, BreakOrEnd}
 use Rattle.yf_comments.specs.Comments.BreakOrEnd.{by_break, by_end}
 use Rattle.yf_comments.proofs.LineEndLemmas.{line_end_stuck}
 use Rattle.yf_comments.proofs.RowLemmas.{stuck_at_solid, stuck_alone, no_separation}
-use Rattle.yf_plain.specs.Plain.{Plain, is_plain_first, is_sign}
+use Rattle.yf_plain.specs.Plain.{is_plain_first, is_sign}
 use Rattle.yf_plain.proofs.PlainLemmas.{no_front}
 use Rattle.yf_plain.proofs.LineLemmas.{no_plain}
-use Rattle.yf_props.specs.Names.{PropertiesValue}
 use Rattle.yf_events.specs.declared.part.Part.{Part}
 use Rattle.yf_grammar.specs.Meaning.{◌⊕◌}
-use Rattle.yf_grammar.specs.Parser.{ANode, only, Parses, begins_alias, begins_properties, begins_content, begins_plain}
+use Rattle.yf_grammar.specs.Parser.{only, begins_alias, begins_properties, begins_content, begins_plain}
 use Rattle.yf_grammar.specs.Parser.Parses.{plain_missed}
-use Rattle.yf_grammar.specs.BlockParser.{SignAt, Ahead, Nothing, Indicator, Props, Held as HeldValue, Joins, Apart, Columns, NoSign, NoKeyAt, Keyless, node_unfit, BlockTask, Below}
+use Rattle.yf_grammar.specs.BlockParser.{Ahead, Nothing, Indicator, Props, Held as HeldValue, Apart, Columns, NoSign, NoKeyAt, node_unfit, BlockTask}
 use Rattle.yf_grammar.specs.BlockParser.Whole.{properties_apart, properties_apart_below}
 use Rattle.yf_grammar.specs.Halts.Halts.{halts_properties_apart, halts_properties_apart_below}
 use Rattle.yf_grammar.proofs.BlockNodeSteps.{node_through}
@@ -33,7 +32,7 @@ use Rattle.yf_grammar.proofs.Forward.{whites_forward}
 use Rattle.yf_block.specs.declared.frame.Frame.{Frame}
 use Rattle.yf_block.specs.declared.frame.Progress.{Progress}
 use Rattle.yf_block.specs.declared.held.Held.{Held}
-use Rattle.yf_block.specs.BlockTied.{ahead_comments, all_written, ReadTied}
+use Rattle.yf_block.specs.BlockTied.{all_written, ReadTied}
 use Rattle.yf_block.specs.BlockStepTied.{AheadTied, nothing_held, none_held, props_held, AtFailed, BlockTied}
 use Rattle.yf_block.specs.ContentTied.{EndsBehind}
 use Rattle.yf_block.specs.HeldAnswers.{LineProperties, NoPlaceBehind, HeldAhead, JoinedAhead}

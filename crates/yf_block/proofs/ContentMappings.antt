@@ -1,32 +1,30 @@
 -- The first key of a mapping, once more: it is written behind the event that begins the mapping, which has the properties of lines before.
-use Rattle.std.proofs.Common.{◌≡◌, ℕ, zero, suc, ℤ, pos, ◌+ℤ◌, ◌+◌, ◌<◌, ◌≤◌, Bool, true, false, List, [], ◌∷◌, ◌++◌, length, take, drop, Option, Some, None, refl, sym, ap, ◌∙◌, subst, arith, append_assoc, true≢false}
+use Rattle.std.proofs.Common.{◌≡◌, ℕ, zero, suc, ℤ, pos, ◌+◌, ◌<◌, ◌≤◌, Bool, true, false, List, [], ◌∷◌, ◌++◌, length, take, drop, Option, Some, None, refl, sym, ap, ◌∙◌, subst, arith, append_assoc, true≢false}
 use Rattle.std.proofs.Math.Seq.{take-append_seam, drop-append_seam}
 use Rattle.std.proofs.lemmas.List.{length-append}
 use Rattle.std.specs.Str.{IsUtf8}
 use Rattle.yf_chars.specs.declared.context.Ctx.TheVariants.{FlowOut}
 use Rattle.yf_chars.specs.Text.{code}
 use Rattle.yf_chars.specs.Class.{is_white, is_ns_char, is_nb_char, is_printable, is_between, is_break_char}
-use Rattle.yf_chars.specs.Chain.{Many}
 use Rattle.yf_chars.proofs.TextLemmas.{within_from_code}
 use Rattle.yf_plain.proofs.PlainLemmas.{ns_below}
-use Rattle.yf_props.specs.Props.{props_value}
 use Rattle.yf_events.specs.Event.{Placed, with_entry}
 use Rattle.yf_events.specs.declared.event.Entry as TheEntry
 use Rattle.yf_events.specs.declared.event.Span.{Span}
 use Rattle.yf_events.specs.declared.part.Part.{Part}
 use Rattle.yf_comments.specs.Comment.{CommentValue}
 use Rattle.yf_comments.specs.Comments.{LineEnd}
-use Rattle.yf_grammar.specs.Meaning.{Meaning, event_with}
+use Rattle.yf_grammar.specs.Meaning.{Meaning}
 use Rattle.yf_grammar.specs.Part.{NotedSince}
 use Rattle.yf_grammar.specs.Parser.{Found, ANode, Parses}
-use Rattle.yf_grammar.specs.BlockParser.{Ahead, Columns, NoSign, KeyBefore, NoKey, key_missed, key_unfit, Keyless, node_unfit, properties_end_line, BlockTask}
+use Rattle.yf_grammar.specs.BlockParser.{Ahead, KeyBefore, NoKey, key_missed, key_unfit, Keyless, node_unfit, properties_end_line, BlockTask}
 use Rattle.yf_grammar.proofs.FlowStarts.{flow_starts}
 use Rattle.yf_grammar.proofs.GapLemmas.{Visible}
 use Rattle.yf_grammar.proofs.NodeExits.{none_some}
 use Rattle.yf_grammar.proofs.Outcome.{outcome_is_one}
 use Rattle.yf_grammar.proofs.Sound.{found_is_derived}
 use Rattle.yf_grammar.proofs.Ways.{chosen_one}
-use Rattle.yf_flow.specs.Begun.{Added, lead_event}
+use Rattle.yf_flow.specs.Begun.{Added}
 use Rattle.yf_flow.specs.ContentAnswers.{WrittenWith}
 use Rattle.yf_flow.specs.declared.frame.Node.{Node}
 use Rattle.yf_flow.specs.declared.node.Lead.{Lead}
@@ -41,11 +39,10 @@ use Rattle.yf_block.specs.declared.frame.Frame.{Frame}
 use Rattle.yf_block.specs.declared.frame.Kind.TheVariants.{Mapping}
 use Rattle.yf_block.specs.declared.frame.Progress.{Progress}
 use Rattle.yf_block.specs.declared.frame.Wanted.{Wanted}
-use Rattle.yf_block.specs.declared.halt.Counts.{Counts}
 use Rattle.yf_block.specs.declared.held.Held.{Held}
 use Rattle.yf_block.specs.BlockTied.{wanted_after}
 use Rattle.yf_block.specs.BlockStepTied.{AtNode}
-use Rattle.yf_block.specs.ContentTied.{TextBehind, text_alone, text_held, CountsOf, AtFirstKey, KeyAgain, KeyOrLost, key_again, key_lost, KeyRead}
+use Rattle.yf_block.specs.ContentTied.{TextBehind, text_alone, text_held, AtFirstKey, KeyOrLost, key_again, key_lost, KeyRead}
 use Rattle.yf_block.specs.HeldAnswers.{lead_at}
 use Rattle.yf_block.specs.InlineAnswers.{InlineRead, InlineLost, InlineEnds}
 use Rattle.yf_block.specs.InlineAnswers as Answers

@@ -1,13 +1,11 @@
 -- The node on a line from its properties on: found, whatever was known of it before; or why no key and no leaf is found.
-use Rattle.std.proofs.Common.{◌≡◌, ℕ, ℤ, pos, ◌+ℤ◌, ◌+◌, ◌<◌, ◌≤◌, Bool, true, false, List, [], ◌∷◌, ◌++◌, Option, Some, None, refl, sym, ap, ◌∙◌, subst, arith, ◌⊎◌, inl, inr, ⊎_elim, true≢false, encode_utf8_all}
-use Rattle.std.proofs.lemmas.Bool.{cases_Bool, cases_lt}
+use Rattle.std.proofs.Common.{◌≡◌, ℕ, ℤ, pos, ◌+ℤ◌, true, false, List, [], ◌∷◌, ◌++◌, Option, Some, None, refl, sym, ◌∙◌, subst, ◌⊎◌, inl, inr, ⊎_elim, true≢false, encode_utf8_all}
+use Rattle.std.proofs.lemmas.Bool.{cases_Bool}
 use Rattle.std.specs.Str.{IsUtf8}
 use Rattle.yf_chars.specs.declared.context.Ctx.{Ctx}
 use Rattle.yf_chars.specs.declared.context.Ctx.TheVariants.{FlowOut, FlowKey}
 use Rattle.yf_chars.specs.Text.{code}
-use Rattle.yf_chars.specs.Class.{is_white}
-use Rattle.yf_chars.specs.Chain.{Stuck, Chosen, Many}
-use Rattle.yf_comments.specs.Comment.{CommentValue}
+use Rattle.yf_chars.specs.Chain.{Stuck}
 use Rattle.yf_comments.specs.Comments.{LineEnd}
 use Rattle.yf_plain.specs.Plain.{Plain}
 use Rattle.yf_props.specs.Names.{Properties, PropertiesValue}
@@ -20,8 +18,7 @@ use Rattle.yf_grammar.specs.Parser.{Found, ANode, Parses, begins_alias, begins_p
 use Rattle.yf_grammar.specs.Parser.Parses.{plain_read, plain_missed, content_read, alias_missed, properties_missed, properties_content, properties_plain, properties_end, properties_before_broken, properties_before_other}
 use Rattle.yf_grammar.specs.Parser as Parsing
 use Rattle.yf_grammar.specs.BlockScalar.{BlockScalar}
-use Rattle.yf_grammar.specs.BlockScalar.BlockScalar.{block_scalar}
-use Rattle.yf_grammar.specs.BlockParser.{Ahead, Nothing, Indicator, Props, Held as HeldValue, Joins, first_held, more_held, Clash, Apart, both, Columns, NoKeyAt, unfit_node, NoKey, key_missed, Keyless, node_unfit, properties_end_line, MayLeaf, Leaf, Whole}
+use Rattle.yf_grammar.specs.BlockParser.{Ahead, Nothing, Indicator, Props, Held as HeldValue, Joins, first_held, more_held, Apart, both, Columns, NoKeyAt, unfit_node, Keyless, node_unfit, properties_end_line, MayLeaf, Leaf, Whole}
 use Rattle.yf_grammar.specs.BlockParser.Whole.{leaf_missed, leaf_refused}
 use Rattle.yf_grammar.specs.Halts.{PlainPart, plain_part, Halts}
 use Rattle.yf_grammar.specs.Halts.Halts.{halts_plain_missed, halts_content_missed, halts_refused}

@@ -1,14 +1,12 @@
 -- The steps of the reader on a line, as their functions take them.
-use Rattle.std.proofs.Common.{◌≡◌, ℕ, ℤ, pos, ◌+ℤ◌, ◌+◌, ◌<◌, ◌≤◌, Bool, true, false, List, [], ◌∷◌, ◌++◌, length, Option, Some, None, MatchOption, refl, sym, ap, ◌∙◌, subst, arith, ◌⊎◌, inl, inr, ⊎_elim}
+use Rattle.std.proofs.Common.{◌≡◌, ℕ, ℤ, pos, ◌<◌, true, false, List, ◌++◌, Option, Some, None, refl, sym, ◌∙◌, subst, arith, ◌⊎◌, inl, inr, ⊎_elim}
 use Rattle.std.specs.Str.{IsUtf8}
-use Rattle.yf_chars.specs.declared.context.Ctx.TheVariants.{FlowOut, FlowKey}
+use Rattle.yf_chars.specs.declared.context.Ctx.TheVariants.{FlowOut}
 use Rattle.yf_chars.specs.Text.{code}
 use Rattle.yf_chars.specs.Class.{is_white}
-use Rattle.yf_chars.specs.Chain.{Stuck, Many}
-use Rattle.yf_plain.specs.Plain.{Plain}
+use Rattle.yf_chars.specs.Chain.{Many}
 use Rattle.yf_plain.proofs.PlainLemmas.{no_front}
 use Rattle.yf_plain.proofs.LineLemmas.{no_plain}
-use Rattle.yf_props.specs.Names.{Properties}
 use Rattle.yf_events.specs.declared.event.Entry as TheEntry
 use Rattle.yf_events.specs.declared.part.Part.{Part}
 use Rattle.yf_grammar.specs.Meaning.{◌⊕◌}
@@ -25,10 +23,10 @@ use Rattle.yf_block.specs.declared.content.Share.TheVariants.{Nothing as NoShare
 use Rattle.yf_block.specs.declared.frame.Frame.{Frame}
 use Rattle.yf_block.specs.declared.frame.Progress.{Progress}
 use Rattle.yf_block.specs.declared.held.Held.{Held}
-use Rattle.yf_block.specs.BlockTied.{layers_entry, ahead_comments, all_written, ReadTied, EntryTied}
+use Rattle.yf_block.specs.BlockTied.{layers_entry, all_written, ReadTied, EntryTied}
 use Rattle.yf_block.specs.BlockStepTied.{AtFailed}
 use Rattle.yf_block.specs.ClaimsTied.{OthersBefore, ShareTied}
-use Rattle.yf_block.specs.ContentTied.{AtContent, TextBehind, text_alone, text_held, AtBehind, AtInline, AtFirstKey, ScalarSignAt, LeafEnding}
+use Rattle.yf_block.specs.ContentTied.{TextBehind, text_alone, text_held, AtBehind, AtInline, AtFirstKey, ScalarSignAt, LeafEnding}
 use Rattle.yf_block.specs.HeldAnswers.{LineProperties}
 use Rattle.yf_block.specs.InlineAnswers.{KeyEnds, InlineLost}
 use Rattle.yf_block.specs.InlineAnswers as Answers
@@ -41,7 +39,7 @@ use Rattle.yf_block.proofs.ContentLeaves.{leaf_task, behind_comments, LeafAhead,
 use Rattle.yf_block.proofs.ContentNodes.{node_here, lost_keyless, no_key_here}
 use Rattle.yf_block.proofs.KeyNodes.{behind_later}
 use Rattle.yf_block.proofs.TiedLeads.{no_none, same_held}
-use Rattle.yf_block.proofs.TiedScalar.{bar_is, bar_plain}
+use Rattle.yf_block.proofs.TiedScalar.{bar_is}
 
 -- properties on the line
 pub text_properties : {t : List ℕ} {p at : ℕ} {inner : Option Held} → TextBehind t p inner at → (h : Held) → inner ≡ Some h → LineProperties t p h

@@ -1,8 +1,8 @@
 -- No node begins with the sign of a comment.
-use Rattle.std.proofs.Common.{◌≡◌, ℕ, ◌+◌, ◌==◌, ℤ, pos, ◌+ℤ◌, true, false, List, [], Option, None, refl, ap, ◌∙◌}
+use Rattle.std.proofs.Common.{◌≡◌, ℕ, ◌==◌, ℤ, true, false, List, None, refl, ap, ◌∙◌}
 use Rattle.std.specs.Str.{IsUtf8}
 use Rattle.yf_chars.specs.declared.context.Ctx.{Ctx}
-use Rattle.yf_chars.specs.declared.context.Ctx.TheVariants.{FlowOut, FlowKey}
+use Rattle.yf_chars.specs.declared.context.Ctx.TheVariants.{FlowOut}
 use Rattle.yf_chars.specs.Text.{code}
 use Rattle.yf_chars.specs.Class.{is_indicator, is_flow_indicator, is_ns_char, is_nb_char, is_printable, is_between, is_break_char, is_white}
 use Rattle.yf_chars.specs.Chain.{Stuck}
@@ -12,7 +12,7 @@ use Rattle.yf_plain.proofs.LineLemmas.{no_plain}
 use Rattle.yf_grammar.specs.BlockScalar.{BlockScalar}
 use Rattle.yf_grammar.specs.Parser.{Parses, ANode, begins_alias, begins_properties, begins_content, begins_plain}
 use Rattle.yf_grammar.specs.Parser.Parses.{plain_missed}
-use Rattle.yf_grammar.specs.BlockParser.{Columns, Ahead, NoSign, NoKeyAt, unfit_node, key_missed, MayLeaf, Inline, Leaf, Whole}
+use Rattle.yf_grammar.specs.BlockParser.{Columns, Ahead, NoSign, unfit_node, key_missed, MayLeaf, Inline, Whole}
 use Rattle.yf_grammar.specs.BlockParser.Whole.{leaf_there, leaf_missed}
 use Rattle.yf_grammar.specs.Halts.{Halts}
 use Rattle.yf_grammar.specs.Halts.Halts.{halts_leaf, halts_plain_missed}

@@ -1,5 +1,5 @@
 -- The end of the line behind a leaf: the leaf is read whole, or all breaks; and the last place at which all may end, as it is noted.
-use Rattle.std.proofs.Common.{◌≡◌, ℕ, ℤ, pos, ◌+ℤ◌, ◌<◌, ◌≤◌, true, false, List, [], ◌++◌, length, Option, Some, None, refl, sym, ap, ◌∙◌, subst, arith, append_assoc, append-nil, true≢false, encode_utf8_all}
+use Rattle.std.proofs.Common.{◌≡◌, ℕ, ℤ, pos, ◌+ℤ◌, true, false, List, [], ◌++◌, Option, Some, None, refl, sym, ap, ◌∙◌, subst, arith, append_assoc, append-nil}
 use Rattle.std.specs.Str.{IsUtf8}
 use Rattle.yf_chars.specs.declared.context.Ctx.TheVariants.{FlowOut}
 use Rattle.yf_chars.specs.Text.{code}
@@ -8,11 +8,10 @@ use Rattle.yf_lines.specs.Basic.{LineStart}
 use Rattle.yf_comments.specs.Comment.{CommentValue}
 use Rattle.yf_comments.specs.Comments.{LineEnd}
 use Rattle.yf_events.specs.declared.part.Part.{Part}
-use Rattle.yf_events.specs.declared.event.ScalarStyle.TheVariants.{Plain as PlainStyle}
 use Rattle.yf_grammar.specs.BlockScalar.{BlockScalar}
-use Rattle.yf_grammar.specs.Meaning.{Meaning, ◌⊕◌, behind, noting, scalar, entering, with_props}
+use Rattle.yf_grammar.specs.Meaning.{Meaning, ◌⊕◌, behind, noting, with_props}
 use Rattle.yf_grammar.specs.Part.Noting.{no_event}
-use Rattle.yf_grammar.specs.Parser.{Found, found, ANode, Parses, only, begins_plain}
+use Rattle.yf_grammar.specs.Parser.{Found, ANode, Parses, only, begins_plain}
 use Rattle.yf_grammar.specs.BlockParser.{Ahead, Nothing, Indicator, Props, headed, MayLeaf, BlockTask, Leaf, leaf_found, Whole}
 use Rattle.yf_grammar.specs.BlockParser.Whole.{leaf_read, leaf_unended}
 use Rattle.yf_grammar.specs.Halts.{MayEnd, PlainPart, with_plain, Halts}
@@ -21,7 +20,7 @@ use Rattle.yf_grammar.specs.BlockSteps.{made_or, as_behind}
 use Rattle.yf_grammar.specs.BlockStack.{Layer, rounds, asked}
 use Rattle.yf_grammar.proofs.AwaitEntries.{found_is}
 use Rattle.yf_grammar.proofs.BlankRuns.{no_start_behind}
-use Rattle.yf_grammar.proofs.BlockHalts.{PlainRead, plain_was_read}
+use Rattle.yf_grammar.proofs.BlockHalts.{plain_was_read}
 use Rattle.yf_grammar.proofs.BlockNodeSteps.{node_was_read, node_breaks}
 use Rattle.yf_grammar.proofs.BlockStarts.{line_end_forward}
 use Rattle.yf_grammar.proofs.NodesBehind.{node_behind}
@@ -31,7 +30,6 @@ use Rattle.yf_grammar.proofs.PlainCut.{whole_plain, plain_without_last, plain_on
 use Rattle.yf_grammar.proofs.Sound.{found_is_derived}
 use Rattle.yf_block.specs.declared.frame.Frame.{Frame}
 use Rattle.yf_block.specs.declared.frame.Progress.{Progress}
-use Rattle.yf_block.specs.Awaiting.{AwaitedColon}
 use Rattle.yf_block.specs.BlockTied.{layers_entry, begins, ahead_comments, all_written, ReadTied, halt_end}
 use Rattle.yf_block.specs.BlockStepTied.{AtResume, AtFailed}
 use Rattle.yf_block.specs.ContentTied.{PlainIs, plain_known, other_known, AtLeaf, LeafEnding, leaf_ends, line_goes_on}

@@ -1,8 +1,8 @@
 -- The last place of a line's end, with comment lines, at which all open nodes may end, as it is noted; and the line that begins there.
-use Rattle.std.proofs.Common.{◌≡◌, ℕ, suc, ◌+◌, ◌-◌, ◌<◌, ◌≤◌, Bool, true, false, ⊎_elim, List, [], ◌∷◌, length, Option, Some, None, refl, sym, ap, ◌∙◌, subst, arith, true≢false}
+use Rattle.std.proofs.Common.{◌≡◌, ℕ, ◌+◌, ◌-◌, ◌<◌, ◌≤◌, Bool, true, false, ⊎_elim, List, [], ◌∷◌, length, Option, refl, sym, ap, ◌∙◌, arith, true≢false}
 use Rattle.std.proofs.lemmas.Bool.{cases_lt}
 use Rattle.std.specs.Str.{IsUtf8}
-use Rattle.yf_chars.specs.Text.{code, next, no_char}
+use Rattle.yf_chars.specs.Text.{code, next}
 use Rattle.yf_chars.specs.Chain.{Chain, Stuck, Chosen}
 use Rattle.yf_chars.specs.Chain.Chain.{done, step}
 use Rattle.yf_chars.proofs.ChainLemmas.{chain_more, chain_forward}
@@ -20,7 +20,6 @@ use Rattle.yf_comments.specs.Comments.LineEnd.{past_rest, from_start}
 use Rattle.yf_comments.proofs.BlankLemmas.{same_place}
 use Rattle.yf_comments.proofs.LineEndLemmas.{line_end_rows, rows_line_end}
 use Rattle.yf_comments.proofs.RowLemmas.{row_functional}
-use Rattle.yf_grammar.specs.Grammar.{ColonLine}
 use Rattle.yf_grammar.specs.Halts.{Allowed, MayEnd}
 use Rattle.yf_grammar.specs.Parser.{Found}
 use Rattle.yf_grammar.specs.BlockStack.{Layer, asks, entry_made, collection_made, rounds, asked, column_if}

@@ -1,7 +1,7 @@
 -- What the reader of block nodes answers, from what a run of it gives.
-use Rattle.std.proofs.Common.{◌≡◌, ℕ, ◌+◌, ◌<◌, ◌≤◌, ◌^◌, ℤ, pos, ◌+ℤ◌, ◌≤ℤ◌, true, false, List, [], ◌++◌, length, take, Option, Some, None, refl, sym, ap, ◌∙◌, subst, true≢false, arith}
+use Rattle.std.proofs.Common.{◌≡◌, ℕ, ◌<◌, ◌≤◌, ◌^◌, ℤ, pos, ◌+ℤ◌, ◌≤ℤ◌, true, false, List, [], ◌++◌, length, take, Option, Some, None, refl, sym, ap, ◌∙◌, subst, true≢false, arith}
 use Rattle.std.proofs.lemmas.Int.{ints}
-use Rattle.std.specs.Str.{IsCharBoundary, IsUtf8}
+use Rattle.std.specs.Str.{IsUtf8}
 use Rattle.yf_chars.specs.declared.context.Ctx.{Ctx}
 use Rattle.yf_chars.specs.Chain.{Stuck, Chosen}
 use Rattle.yf_lines.specs.Basic.{is_block}
@@ -22,16 +22,15 @@ use Rattle.yf_grammar.proofs.LawsHold.{whole_nodes_are_chosen, no_block_node_is_
 use Rattle.yf_grammar.proofs.PrefixWhole.{prefix_is_whole, prefix_reads, prefix_reads_some, prefix_boundary, prefix_utf8, prefix_length}
 use Rattle.yf_grammar.proofs.SoundSteps.{Width}
 use Rattle.yf_grammar.proofs.WholeLast.{whole_ends_last, last_moves, whole_moves}
-use Rattle.yf_flow.specs.Begun.{Added}
 use Rattle.yf_flow.specs.Counted.{openers_from}
 use Rattle.yf_block.specs.declared.nodes.Found.{Found as FoundNode}
 use Rattle.yf_block.specs.declared.nodes.Stop.{Stop}
 use Rattle.yf_block.specs.declared.nodes.Stop.TheVariants.{Done, Failed, TooDeep}
 use Rattle.yf_block.specs.declared.nodes.Stopped.{Stopped}
-use Rattle.yf_block.specs.BlockTied.{floor_after, Written, halt_end, TextTied}
+use Rattle.yf_block.specs.BlockTied.{floor_after, halt_end, TextTied}
 use Rattle.yf_block.specs.BlockStepTied.{Unfinished, none_found, line_left}
 use Rattle.yf_block.specs.NodeGiven.{NodeGiven, FoundTied, NoneTied}
-use Rattle.yf_block.specs.RunTied.{RunDone, RunBroken, StopGives, RunTied, HaltAt}
+use Rattle.yf_block.specs.RunTied.{RunDone, StopGives, RunTied, HaltAt}
 
 -- notes change no floor
 floor_noted : {t : List ℕ} {floor : ℕ} {x y : List Placed} (f : ℕ) → Noting t floor x y → floor_after f x ≡ floor_after f y

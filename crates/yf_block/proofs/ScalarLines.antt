@@ -1,5 +1,5 @@
 -- The lines of a block scalar: how far they reach, and a walk over them.
-use Rattle.std.proofs.Common.{◌≡◌, ◌≢◌, ℕ, ℤ, suc, ◌+◌, ◌-◌, ◌<◌, ◌≤◌, Bool, true, false, List, [], ◌∷◌, ◌++◌, Option, length, refl, sym, ap, ◌∙◌, subst, arith, ⊎_elim, true≢false}
+use Rattle.std.proofs.Common.{◌≡◌, ℕ, ℤ, ◌+◌, ◌-◌, ◌<◌, ◌≤◌, true, false, List, [], Option, length, refl, sym, ap, ◌∙◌, subst, arith, ⊎_elim, true≢false}
 use Rattle.std.proofs.lemmas.Bool.{cases_lt}
 use Rattle.std.specs.Str.{IsUtf8}
 use Rattle.yf_chars.specs.Chain.{Chain, Chosen, Nowhere}
@@ -10,7 +10,7 @@ use Rattle.yf_chars.proofs.TextLemmas.{code-past}
 use Rattle.yf_lines.specs.Basic.{Break}
 use Rattle.yf_lines.specs.Lines.{Unbroken, LineEnd, at_break, at_end, IsLine, OneLine, one_line}
 use Rattle.yf_lines.specs.declared.line.Line.{Line}
-use Rattle.yf_lines.proofs.BasicLemmas.{break_char, break_forward, break_unique}
+use Rattle.yf_lines.proofs.BasicLemmas.{break_char, break_unique}
 use Rattle.yf_lines.proofs.ClearLemmas.{code_inside}
 use Rattle.yf_lines.proofs.LineLemmas.{break_breaks, end_within}
 use Rattle.yf_comments.specs.Comment.{CommentValue}

@@ -1,13 +1,11 @@
 -- At the start of a line a node is awaited: where what stands ahead of it may be alone, as it is noted, and what is read where it is.
-use Rattle.std.proofs.Common.{◌≡◌, ℕ, ℤ, ◌+◌, ◌<◌, ◌≤◌, false, List, [], ◌∷◌, ◌++◌, length, Option, Some, None, refl, sym, ap, ◌∙◌, subst, arith, append-nil, reverse}
+use Rattle.std.proofs.Common.{◌≡◌, ℕ, false, List, [], ◌∷◌, ◌++◌, length, Option, Some, None, refl, sym, ap, ◌∙◌, subst, arith, append-nil, reverse}
 use Rattle.std.proofs.lemmas.List.{length-reverse}
-use Rattle.yf_chars.specs.declared.context.Ctx.{Ctx}
 use Rattle.yf_chars.specs.Chain.{Stuck, Chosen}
-use Rattle.yf_lines.specs.Basic.{LineStart}
 use Rattle.yf_comments.specs.Comment.{CommentValue}
-use Rattle.yf_comments.specs.Comments.{LineEnd, Row}
+use Rattle.yf_comments.specs.Comments.{Row}
 use Rattle.yf_comments.proofs.LineOrder.{line_end_forward}
-use Rattle.yf_props.specs.Props.{no_props, props_value}
+use Rattle.yf_props.specs.Props.{no_props}
 use Rattle.yf_events.specs.Event.{Placed, scalar_node}
 use Rattle.yf_events.specs.declared.event.Entry as TheEntry
 use Rattle.yf_events.specs.declared.event.ScalarStyle.TheVariants.{Plain}
@@ -21,8 +19,8 @@ use Rattle.yf_grammar.specs.BlockParser.Whole.{below_alone}
 use Rattle.yf_grammar.specs.Halts.{Alone, alone_to, alone_nowhere, MayEnd, none_open, Halts}
 use Rattle.yf_grammar.specs.Halts.Halts.{halts_alone}
 use Rattle.yf_grammar.specs.BlockSteps.{made_or, as_behind}
-use Rattle.yf_grammar.specs.BlockStack.{Layer, rounds, asked}
-use Rattle.yf_grammar.specs.BlockStates.{NodeRead, NodeAt}
+use Rattle.yf_grammar.specs.BlockStack.{Layer, asked}
+use Rattle.yf_grammar.specs.BlockStates.{NodeRead}
 use Rattle.yf_grammar.proofs.BlockHalts.{may_end_chosen}
 use Rattle.yf_grammar.proofs.BlockDedents.{want_ends, collections_end}
 use Rattle.yf_grammar.proofs.BlockNodeSteps.{node_was_read, node_breaks}
@@ -35,7 +33,7 @@ use Rattle.yf_block.specs.HeldAnswers.{held_lead}
 use Rattle.yf_block.specs.LineStepTied.{halt_with, AtAlone, AtEmpty}
 use Rattle.yf_block.specs.Looks.{NotWithinBreak}
 use Rattle.yf_block.specs.NotedHalts.{ColonsCounted, IsOutermost, EmptyNoted, empty_noted, empty_before, empty_nowhere}
-use Rattle.yf_block.specs.BlockTied.{floor_after, layers_entry, begins, ahead_comments, all_written, ReadTied, FramesTied, no_frames, frame_tied, halt_end, EntryTied}
+use Rattle.yf_block.specs.BlockTied.{floor_after, begins, ahead_comments, all_written, ReadTied, FramesTied, no_frames, frame_tied, halt_end, EntryTied}
 use Rattle.yf_block.specs.BlockStepTied.{HeldTied, AheadTied, nothing_held, none_held, props_held, AtLine, AtResume, line_left, AtFailed}
 use Rattle.yf_block.proofs.LineHalts.{outside_end, chosen_still, colons_counted, rounds_end, may_end_at, may_end_before, may_end_nowhere}
 use Rattle.yf_block.proofs.TiedFailed.{broken_fails}

@@ -1,5 +1,5 @@
 -- A node that is awaited at the start of a line begins on that line: its first character, and the columns at which it may be a collection.
-use Rattle.std.proofs.Common.{◌≡◌, ◌≢◌, ℕ, ◌+◌, ◌-◌, ◌<◌, ◌≤◌, ℤ, pos, ◌+ℤ◌, ◌≤ℤ◌, true, false, List, [], ◌++◌, length, Option, Some, None, MatchOption, refl, sym, ap, ◌∙◌, subst, arith, append_assoc, append-nil, Bool, ◌⊎◌, inl, inr, ⊎_elim}
+use Rattle.std.proofs.Common.{◌≡◌, ◌≢◌, ℕ, ◌+◌, ◌-◌, ◌<◌, ◌≤◌, ℤ, pos, ◌+ℤ◌, ◌≤ℤ◌, true, false, List, [], ◌++◌, length, Option, Some, None, MatchOption, refl, sym, ap, ◌∙◌, subst, arith, append-nil, Bool, ◌⊎◌, inl, inr, ⊎_elim}
 use Rattle.std.proofs.lemmas.Bool.{cases_lt, cases_eq}
 use Rattle.std.proofs.lemmas.Int.{ints}
 use Rattle.yf_chars.specs.declared.context.Ctx.{Ctx}
@@ -9,11 +9,11 @@ use Rattle.yf_chars.specs.Class.{is_white}
 use Rattle.yf_chars.specs.Chain.{Many}
 use Rattle.yf_chars.specs.Chain.Chain.{done}
 use Rattle.yf_chars.proofs.ChainLemmas.{many_unique, chain_append, chain_forward, one_functional}
-use Rattle.yf_lines.specs.Basic.{Break, Spaces, SeparateInLine}
+use Rattle.yf_lines.specs.Basic.{Break, Spaces}
 use Rattle.yf_lines.specs.Basic.SeparateInLine.{by_whites}
 use Rattle.yf_lines.proofs.BasicLemmas.{break_forward}
 use Rattle.yf_comments.specs.Comment.{CommentValue}
-use Rattle.yf_comments.specs.Comments.{BreakOrEnd, Row}
+use Rattle.yf_comments.specs.Comments.{BreakOrEnd}
 use Rattle.yf_comments.specs.Comments.BreakOrEnd.{by_break, by_end}
 use Rattle.yf_comments.specs.Comments.LineRest.{nothing, whites}
 use Rattle.yf_comments.proofs.LineOrder.{line_end_forward}
@@ -22,20 +22,19 @@ use Rattle.yf_events.specs.declared.part.Part.{Part}
 use Rattle.yf_grammar.specs.Grammar.{least_column}
 use Rattle.yf_grammar.specs.Meaning.{◌⊕◌}
 use Rattle.yf_grammar.specs.Parser.{only}
-use Rattle.yf_grammar.specs.BlockParser.{DashAt, LinesEnd, text_ends, Content, LineText, Columns, ColumnIf, column_there, column_not, LineColumns, Begins, line_indented, line_first, line_dashed, NoNode, Ahead, Nothing, Indicator, Props, past, with_comments, BlockTask}
+use Rattle.yf_grammar.specs.BlockParser.{DashAt, LinesEnd, text_ends, LineText, Columns, ColumnIf, column_there, column_not, LineColumns, Begins, line_indented, line_first, line_dashed, NoNode, Ahead, Nothing, Indicator, Props, past, with_comments, BlockTask}
 use Rattle.yf_grammar.specs.BlockStack.{Layer}
 use Rattle.yf_grammar.specs.BlockStates.{AllWithin, told_before}
-use Rattle.yf_grammar.proofs.BlockClaims.{least_above, line_forward, dash_visible, visible_white, visible_content}
+use Rattle.yf_grammar.proofs.BlockClaims.{least_above, line_forward, dash_visible, visible_content}
 use Rattle.yf_grammar.proofs.BlockNodeSteps.{node_on_line}
 use Rattle.yf_grammar.proofs.ParserLemmas.{Same}
 use Rattle.yf_block.specs.declared.frame.Frame.{Frame}
 use Rattle.yf_block.specs.declared.frame.Progress.{Progress}
-use Rattle.yf_block.specs.declared.frame.Wanted.{Wanted}
 use Rattle.yf_block.specs.declared.held.Held.{Held}
-use Rattle.yf_block.specs.BlockTied.{ahead_comments, all_written, ReadTied}
-use Rattle.yf_block.specs.BlockStepTied.{HeldTied, AheadTied, nothing_held, none_held, props_held, WantedTied}
+use Rattle.yf_block.specs.BlockTied.{ahead_comments, all_written}
+use Rattle.yf_block.specs.BlockStepTied.{AheadTied, nothing_held, none_held, props_held}
 use Rattle.yf_block.specs.InlineTied.{AtStart, ColumnTied}
-use Rattle.yf_block.specs.LineStepTied.{halt_with, AtAlone, AtEmpty, AtIndented}
+use Rattle.yf_block.specs.LineStepTied.{halt_with, AtAlone, AtIndented}
 use Rattle.yf_block.proofs.LineHalts.{chosen_still}
 use Rattle.yf_block.proofs.TiedReads.{read_as}
 

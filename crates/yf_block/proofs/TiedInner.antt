@@ -1,12 +1,12 @@
 -- A node that is awaited after an indicator: the line ends there, or white space stands before the node, or nothing does.
-use Rattle.std.proofs.Common.{◌≡◌, ◌≢◌, ℕ, zero, suc, ◌+◌, ◌-◌, ◌<◌, ◌≤◌, ℤ, pos, ◌+ℤ◌, ◌≤ℤ◌, Bool, true, false, List, [], length, Option, Some, None, refl, sym, ap, ◌∙◌, subst, arith, true≢false, ◌⊎◌, inl, inr, ⊎_elim}
+use Rattle.std.proofs.Common.{◌≡◌, ◌≢◌, ℕ, zero, suc, ◌+◌, ◌-◌, ◌<◌, ◌≤◌, ℤ, pos, ◌≤ℤ◌, Bool, true, false, List, Option, Some, refl, sym, subst, arith, true≢false, ◌⊎◌, inl, inr, ⊎_elim}
 use Rattle.std.proofs.lemmas.Bool.{cases_lt, cases_eq, cases_Bool}
 use Rattle.std.proofs.lemmas.Int.{ints}
 use Rattle.yf_chars.specs.Text.{code}
 use Rattle.yf_chars.specs.Class.{is_white}
 use Rattle.yf_chars.specs.Chain.{Stuck, Many}
 use Rattle.yf_chars.specs.Chain.Chain.{done}
-use Rattle.yf_lines.specs.Basic.{LineStart, Spaces, SeparateInLine}
+use Rattle.yf_lines.specs.Basic.{Spaces}
 use Rattle.yf_lines.specs.Basic.SeparateInLine.{by_whites}
 use Rattle.yf_lines.specs.Basic.Break.{cr_lf, lone_cr, lone_lf}
 use Rattle.yf_lines.proofs.BasicLemmas.{break_char, white_cases}
@@ -17,13 +17,10 @@ use Rattle.yf_comments.specs.Comments.LineRest.{whites}
 use Rattle.yf_comments.proofs.LineEndLemmas.{line_end_stuck}
 use Rattle.yf_comments.proofs.RowLemmas.{stuck_at_solid, stuck_alone, no_separation}
 use Rattle.yf_events.specs.declared.part.Part.{Part}
-use Rattle.yf_grammar.specs.BlockParser.{Columns, Compact, compact_columns, no_columns, Nothing, DashAt, BlockTask, Awaited, Whole}
+use Rattle.yf_grammar.specs.BlockParser.{Columns, Compact, compact_columns, no_columns, BlockTask}
 use Rattle.yf_grammar.specs.BlockParser.Whole.{awaited_inline, awaited_missed}
-use Rattle.yf_grammar.specs.Halts.{Halts}
 use Rattle.yf_grammar.specs.Halts.Halts.{halts_inline, halts_missed}
-use Rattle.yf_grammar.specs.BlockStack.{Layer, asked}
-use Rattle.yf_grammar.specs.BlockStates.{AllWithin}
-use Rattle.yf_grammar.proofs.BlockNodeSteps.{node_through, node_breaks}
+use Rattle.yf_grammar.proofs.BlockNodeSteps.{node_through}
 use Rattle.yf_grammar.proofs.BlockStepNodes.{below_awaits, below_halts, inline_awaits, inline_halts}
 use Rattle.yf_block.specs.declared.frame.Frame.{Frame}
 use Rattle.yf_block.specs.declared.frame.Progress.{Progress}

@@ -1,5 +1,5 @@
 -- An implicit key of a mapping that is open: its value is awaited after its `:`; or no key begins there, and all breaks.
-use Rattle.std.proofs.Common.{◌≡◌, ℕ, suc, ◌+◌, ◌^◌, ◌≤◌, ℤ, pos, ◌+ℤ◌, Bool, true, false, List, [], ◌∷◌, length, reverse, Option, Some, None, MatchOption, refl, sym, ap, ◌∙◌, subst, arith, ⊎_elim, true≢false}
+use Rattle.std.proofs.Common.{◌≡◌, ℕ, suc, ◌+◌, ◌^◌, ◌≤◌, ℤ, pos, ◌+ℤ◌, Bool, true, false, List, ◌∷◌, length, reverse, Option, Some, None, MatchOption, refl, sym, ap, ◌∙◌, subst, arith, ⊎_elim, true≢false}
 use Rattle.std.proofs.lemmas.Bool.{cases_Bool}
 use Rattle.std.proofs.lemmas.Int.{ints}
 use Rattle.std.proofs.lemmas.List.{length-reverse}
@@ -14,7 +14,7 @@ use Rattle.yf_events.specs.Edit.{edited, coloned}
 use Rattle.yf_events.specs.declared.event.Entry as TheEntry
 use Rattle.yf_events.specs.declared.part.Part.{Part}
 use Rattle.yf_grammar.specs.Part.{NotedSince}
-use Rattle.yf_grammar.specs.Parser.{Found, ANode, Parses, begins_properties}
+use Rattle.yf_grammar.specs.Parser.{ANode, Parses, begins_properties}
 use Rattle.yf_grammar.specs.Parser.Parses.{properties_missed}
 use Rattle.yf_grammar.specs.BlockParser.{SignAt, Origin, Later, First, key_missed, Keyless, node_unfit, BlockTask, Item, Whole}
 use Rattle.yf_grammar.specs.BlockParser.Whole.{no_key}
@@ -30,7 +30,6 @@ use Rattle.yf_grammar.proofs.PropertiesLines.{Spread, on_one_line, on_two_lines,
 use Rattle.yf_grammar.proofs.Sound.{found_is_derived}
 use Rattle.yf_flow.specs.declared.frame.Node.{Node}
 use Rattle.yf_flow.proofs.EntriesFrom.{outcome_from}
-use Rattle.yf_block.specs.declared.entry.KeyText.{KeyText}
 use Rattle.yf_block.specs.declared.entry.KeyText.TheVariants.{At, Nowhere}
 use Rattle.yf_block.specs.declared.frame.Frame.{Frame}
 use Rattle.yf_block.specs.declared.frame.Kind.TheVariants.{Mapping}

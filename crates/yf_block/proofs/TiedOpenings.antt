@@ -11,7 +11,7 @@ use Rattle.yf_grammar.specs.Meaning.{◌⊕◌, noting, start_of, event_with}
 use Rattle.yf_grammar.specs.Part.{Noting, floor_behind}
 use Rattle.yf_grammar.specs.Part.Noting.{no_event, without_entry, with_entry}
 use Rattle.yf_grammar.specs.Parser.{Found, only}
-use Rattle.yf_grammar.specs.BlockParser.{DashAt, SignAt, Ahead, Nothing, Indicator, Props, Columns, First, MappingAt, by_question, by_colon, BlockTask, Inline, Whole}
+use Rattle.yf_grammar.specs.BlockParser.{DashAt, SignAt, Ahead, Nothing, Indicator, Columns, First, MappingAt, by_question, by_colon, BlockTask, Inline, Whole}
 use Rattle.yf_grammar.specs.BlockParser.Whole.{sequence_too_deep, mapping_too_deep}
 use Rattle.yf_grammar.specs.Halts.{Halts}
 use Rattle.yf_grammar.specs.Halts.Halts.{halts_sequence_too_deep, halts_mapping_too_deep}

@@ -1,10 +1,8 @@
 -- A block scalar where a node is awaited on a line: it is read whole, with its event; or none stands there, and all breaks.
 use Rattle.std.proofs.Common.{◌≡◌, ℕ, ℤ, pos, ◌+ℤ◌, ◌+◌, ◌^◌, ◌<◌, ◌≤◌, Bool, true, false, List, [], ◌∷◌, ◌++◌, length, Option, Some, None, refl, sym, ap, ◌∙◌, subst, arith, append_assoc, append-nil, ◌⊎◌, ⊎_elim, true≢false}
-use Rattle.std.proofs.lemmas.Bool.{cases_lt}
 use Rattle.std.specs.Str.{IsUtf8}
 use Rattle.yf_chars.specs.Chain.{Stuck, Chosen}
 use Rattle.yf_chars.specs.Text.{code}
-use Rattle.yf_lines.specs.Basic.{Break}
 use Rattle.yf_lines.proofs.BasicLemmas.{break_forward}
 use Rattle.yf_comments.specs.Comment.{CommentValue}
 use Rattle.yf_comments.specs.Comments.{Blank}
@@ -18,7 +16,7 @@ use Rattle.yf_block_scalar.specs.Content.{content_of}
 use Rattle.yf_block_scalar.specs.Header.{BlockHeader, HeaderValue}
 use Rattle.yf_block_scalar.specs.declared.body.BlockText.{BlockText}
 use Rattle.yf_block_scalar.specs.declared.header.Header.{Header}
-use Rattle.yf_grammar.specs.BlockParser.{Ahead, Nothing, Indicator, Props, headed, BlockTask, Leaf, leaf_found, Whole}
+use Rattle.yf_grammar.specs.BlockParser.{Ahead, Nothing, Indicator, Props, headed, BlockTask, Leaf, Whole}
 use Rattle.yf_grammar.specs.BlockParser.Whole.{scalar_read}
 use Rattle.yf_grammar.specs.BlockScalar.{BlockScalar, LinesBetween, style_of, kept_lines, reach}
 use Rattle.yf_grammar.specs.BlockScalar.BlockScalar.{block_scalar}
@@ -32,24 +30,23 @@ use Rattle.yf_grammar.specs.Parser.Parses.{plain_missed}
 use Rattle.yf_grammar.proofs.PlainEnds.{plain_leaps}
 use Rattle.yf_chars.specs.declared.context.Ctx.TheVariants.{FlowOut}
 use Rattle.yf_grammar.specs.BlockSteps.{made_or, as_behind}
-use Rattle.yf_grammar.specs.BlockStack.{Layer, rounds, asked}
-use Rattle.yf_grammar.proofs.BlockNodeSteps.{node_was_read, node_breaks}
+use Rattle.yf_grammar.specs.BlockStack.{rounds, asked}
+use Rattle.yf_grammar.proofs.BlockNodeSteps.{node_was_read}
 use Rattle.yf_grammar.proofs.BlockScalars.{is_bar_sign, sign_no_first}
 use Rattle.yf_grammar.proofs.OneScalars.{scalar_one, scalar_chosen}
 use Rattle.yf_flow.specs.declared.node.Lead.{Lead}
 use Rattle.yf_block.specs.declared.frame.Frame.{Frame}
 use Rattle.yf_block.specs.declared.frame.Progress.{Progress}
 use Rattle.yf_block.specs.Awaiting.{AwaitedColon}
-use Rattle.yf_block.specs.BlockTied.{layers_entry, begins, ahead_comments, ahead_props, ahead_start, ahead_tag, all_written, ReadTied, EntryTied, no_entry, entry_begins, floor_after, halt_end}
+use Rattle.yf_block.specs.BlockTied.{layers_entry, begins, ahead_comments, ahead_props, ahead_start, ahead_tag, all_written, ReadTied, EntryTied, no_entry, entry_begins, floor_after}
 use Rattle.yf_block.specs.BlockStepTied.{AtResume, AtFailed}
 use Rattle.yf_block.specs.ContentTied.{LeadTied}
 use Rattle.yf_block.specs.Looks.{NotWithinBreak}
-use Rattle.yf_block.specs.LastStarts.{LastStart, NoStart}
 use Rattle.yf_block.specs.NotedHalts.{NodeNoted, node_noted, node_before, node_shorter, ShorterNoted, shorter_noted, one_line, no_plain}
 use Rattle.yf_block.specs.ScalarTied.{AtScalar, AtBody, scalar_event}
 use Rattle.yf_block.proofs.TiedFailed.{broken_fails}
 use Rattle.yf_block.proofs.ContentLeaves.{headed_comments, headed_escapes, headed_finish, begins_same, begun_comments, begun_escapes}
-use Rattle.yf_block.proofs.ContentNodes.{NoLeaf, leaf_lost}
+use Rattle.yf_block.proofs.ContentNodes.{leaf_lost}
 use Rattle.yf_block.proofs.LeafEnds.{HaltNoted, leaf_made, noted_round, behind_finish, noting_comments, noting_escapes, noting_finish}
 use Rattle.yf_block.proofs.NotingLemmas.{floor_more, noting_more}
 use Rattle.yf_block.proofs.ScalarLines.{Reaching, body_between, between_blank, header_blank, body_outside, header_is_longest}

@@ -1,8 +1,7 @@
 -- To which node the properties of lines before belong: what is known of the node on the line before its text, as long as it is not known
 -- whether it is a key.
-use Rattle.std.specs.Prelude.{◌≡◌, ◌≢◌, ℕ, List, Option, Some, None, ◌⊎◌}
+use Rattle.std.specs.Prelude.{◌≡◌, ◌≢◌, ℕ, List, Option, Some, None}
 use Rattle.yf_chars.specs.Text.{code}
-use Rattle.yf_props.specs.Names.{PropertiesValue}
 use Rattle.yf_events.specs.declared.event.Entry as TheEntry
 use Rattle.yf_grammar.specs.BlockParser.{Ahead, Props, Held as HeldValue, Joins, Apart}
 use Rattle.yf_flow.specs.declared.node.Lead.{Lead}

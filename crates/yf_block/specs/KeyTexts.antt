@@ -1,5 +1,5 @@
 -- Where the text of an implicit key stands after its properties.
-use Rattle.std.specs.Prelude.{◌≡◌, ℕ, ◌+◌, ◌≤◌, List, Option, Some, None}
+use Rattle.std.specs.Prelude.{ℕ, ◌+◌, ◌≤◌, List, Option, Some, None}
 use Rattle.std.specs.Str.{IsCharBoundary}
 use Rattle.yf_chars.specs.Chain.{Stuck}
 use Rattle.yf_comments.specs.Comment.{CommentValue}

@@ -1,5 +1,5 @@
 -- A node that is awaited at the start of a line, once it is noted that all may end before it: it is empty, or it begins on that line.
-use Rattle.std.specs.Prelude.{◌≡◌, ◌≢◌, ℕ, ◌+◌, ◌-◌, ◌≤◌, ℤ, pos, ◌≤ℤ◌, true, false, List, ◌++◌, length, Option}
+use Rattle.std.specs.Prelude.{◌≡◌, ◌≢◌, ℕ, ◌-◌, ◌≤◌, ℤ, pos, ◌≤ℤ◌, true, false, List, ◌++◌, length, Option}
 use Rattle.yf_chars.specs.declared.context.Ctx.{Ctx}
 use Rattle.yf_chars.specs.Text.{code}
 use Rattle.yf_chars.specs.Signs.{SPACE}

@@ -1,6 +1,6 @@
 -- What the reader of block nodes answers: the longest block node within the limit of open collections, written after what a part had; or
 -- that none is derived there.
-use Rattle.std.specs.Prelude.{◌≡◌, ℕ, ◌+◌, ◌<◌, ◌^◌, ◌≤◌, ℤ, pos, ◌+ℤ◌, true, false, List, [], Option, Some, None}
+use Rattle.std.specs.Prelude.{◌≡◌, ℕ, ◌<◌, ◌^◌, ◌≤◌, ℤ, pos, ◌+ℤ◌, true, false, List, [], Option, Some, None}
 use Rattle.yf_chars.specs.declared.context.Ctx.{Ctx}
 use Rattle.yf_chars.specs.Chain.{Stuck, Chosen}
 use Rattle.yf_events.specs.declared.part.Part.{Part}

@@ -228,10 +228,10 @@ same_value_spot {cs = cs} {ds = ds} {k = k} {l = l} {v = v} {w = w} s column a b
 
 -- Rows.
 
-abbrev shapes : List Row → List RowShape
+abbrev pub shapes : List Row → List RowShape
 shapes xs = map (λ x. shape_of x) xs
 
-both_shapes : (a b c d : List Row) → shapes a ≡ shapes c → shapes b ≡ shapes d → shapes (a ++ b) ≡ shapes (c ++ d)
+pub both_shapes : (a b c d : List Row) → shapes a ≡ shapes c → shapes b ≡ shapes d → shapes (a ++ b) ≡ shapes (c ++ d)
 both_shapes a b c d e f =
     map-append (λ x. shape_of x) a b ∙ (ap (λ z. z ++ shapes b) e ∙ (ap (λ z. shapes c ++ z) f ∙ sym (map-append (λ x. shape_of x) c d)))
 
@@ -248,7 +248,7 @@ joined_shape head n (r ∷ rs) =
       lines = r.lines;
     } ∷ shapes rs) (length-append head.leaves r.leaves)
 
-same_joined : (h g : Row) (n : ℕ) (xs ys : List Row) → shape_of h ≡ shape_of g → shapes xs ≡ shapes ys → shapes (joined h n xs) ≡ shapes (joined g n ys)
+pub same_joined : (h g : Row) (n : ℕ) (xs ys : List Row) → shape_of h ≡ shape_of g → shapes xs ≡ shapes ys → shapes (joined h n xs) ≡ shapes (joined g n ys)
 same_joined h g n xs ys e f =
     joined_shape h n xs ∙ (ap (λ z. joined_shapes z n (shapes xs)) e ∙ (ap (λ z. joined_shapes (shape_of g) n z) f ∙ sym (joined_shape g n ys)))
 
@@ -277,7 +277,7 @@ unfolding text_shape
 same_one_row column x y [] e = refl
 same_one_row column x y (b ∷ text) e = ap (λ z. text_shape column (b ∷ text) z ∷ []) e
 
-same_row : {K : Node → Node → Node → Node → Type 0} {x y : Node} (spot : Spot) → Alike K x y → shapes (one_line spot x) ≡ shapes (one_line spot y)
+pub same_row : {K : Node → Node → Node → Node → Type 0} {x y : Node} (spot : Spot) → Alike K x y → shapes (one_line spot x) ≡ shapes (one_line spot y)
 same_row {x = x} {y = y} spot a =
     same_one_row spot.column x y (written x) (same_leaves a) ∙ ap (λ z. shapes (one_line_row spot.column y z)) (same_written a)
 
@@ -301,7 +301,7 @@ same_block_scalar s spot x y props style text lines e =
       lines = spot.lines;
     } ∷ []) e
 
-same_scalar : {K : Node → Node → Node → Node → Type 0} {at bt : Standing} {props : PropsValue} {text : List ℕ} {lines : List (List ℕ)} (s : Style) (spot : Spot)
+pub same_scalar : {K : Node → Node → Node → Node → Type 0} {at bt : Standing} {props : PropsValue} {text : List ℕ} {lines : List (List ℕ)} (s : Style) (spot : Spot)
     (style : ScalarStyle) → Alike K (scalar at props style text lines) (scalar bt props style text lines)
     → shapes (scalar_rows s spot (scalar at props style text lines) props style text lines) ≡ shapes (scalar_rows s spot (scalar bt props style text lines) props style text lines)
 same_scalar s spot Plain a = same_row spot a
@@ -312,7 +312,7 @@ same_scalar {at = at} {bt = bt} {props = props} {text = text} {lines = lines} s 
 same_scalar {at = at} {bt = bt} {props = props} {text = text} {lines = lines} s spot Folded a =
     same_block_scalar s spot (scalar at props Folded text lines) (scalar bt props Folded text lines) props Folded text lines (same_leaves a)
 
-same_pair_rows : {K : Node → Node → Node → Node → Type 0} {cs ds : List CommentValue} {k l v w : Node} (s : Style) (column : ℕ) (kr lr vr wr : List Row)
+pub same_pair_rows : {K : Node → Node → Node → Node → Type 0} {cs ds : List CommentValue} {k l v w : Node} (s : Style) (column : ℕ) (kr lr vr wr : List Row)
     → Alike K k l → Alike K v w → KeysAgree s cs ds k v l w → shapes kr ≡ shapes lr → shapes vr ≡ shapes wr
     → shapes (pair_rows (setting s cs) column k v kr vr) ≡ shapes (pair_rows (setting s ds) column l w lr wr)
 same_pair_rows {cs = cs} {ds = ds} {k = k} {l = l} {v = v} {w = w} s column kr lr vr wr a b g e f = by_form (is_implicit s column k) refl where

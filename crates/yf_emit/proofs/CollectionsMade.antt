@@ -1,9 +1,10 @@
 -- Block collections, with properties or without, from the rows of their entries.
 use Rattle.std.proofs.Common.{◌≡◌, ◌≢◌, ℕ, suc, ◌+◌, ◌≤◌, ℤ, pos, Bool, true, false, true≢false, List, [], ◌∷◌, ◌++◌, length, Option, Some, None, refl, sym, ap, ◌∙◌, subst, arith}
-use Rattle.std.specs.Prelude.{not, ◌≤ℤ◌, ◌+ℤ◌}
+use Rattle.std.specs.Prelude.{is_some, not, ◌≤ℤ◌, ◌+ℤ◌}
 use Rattle.std.specs.Str.{IsUtf8}
 use Rattle.yf_chars.specs.declared.context.Ctx.{Ctx}
 use Rattle.yf_lines.proofs.RestLemmas.{Rest, rest_spaces, rest_stands, rest_text}
+use Rattle.yf_comments.specs.Comment.{CommentValue}
 use Rattle.yf_comments.proofs.GapLinesLemmas.{texts}
 use Rattle.yf_props.specs.Props.{PropsValue, TagValue, no_props}
 use Rattle.yf_props.specs.Props.TagValue.{IsVerbatim, IsShort, IsNonSpecific}
@@ -13,21 +14,22 @@ use Rattle.yf_props.proofs.PropsLines.{props_line_text}
 use Rattle.yf_events.specs.Tree.{Node, is_sequence}
 use Rattle.yf_grammar.specs.Grammar.{least_column}
 use Rattle.yf_grammar.specs.Meaning.{Meaning, behind, collection, with_props}
-use Rattle.yf_grammar.specs.Meant.{Meant, tall}
-use Rattle.yf_grammar.proofs.CommentOrder.{end_ascends}
+use Rattle.yf_grammar.specs.Meant.{tall}
+use Rattle.yf_grammar.proofs.CommentOrder.{Ascend, end_ascends}
 use Rattle.yf_grammar.proofs.NodesBehind.{properties_behind}
-use Rattle.yf_grammar.proofs.MeantLemmas.{meant_behind, texts_behind, texts_collection, texts_with_props}
-use Rattle.yf_emit.specs.declared.style.Style.{Style}
+use Rattle.yf_grammar.proofs.MeantLemmas.{texts_behind, texts_collection, texts_with_props}
 use Rattle.yf_emit.specs.Carried.{AreDecos, carried_texts, Calm}
 use Rattle.yf_emit.specs.Decorated.{Deco, first, after, end_then, lines_then, inline_then}
-use Rattle.yf_emit.specs.Normal.{Spot}
+use Rattle.yf_emit.specs.Normal.{Setting, Spot}
 use Rattle.yf_emit.specs.OneLine.{spaced, anchor_text, tag_text, props_text}
 use Rattle.yf_emit.specs.Rows.{Row, before_node, plain_row, props_row, is_empty_text, begins_below}
 use Rattle.yf_emit.specs.Steps.{leaf_steps, comment_steps, steps_in}
 use Rattle.yf_emit.proofs.EntriesMade.{Begins, begins, EntriesMakes, lines_begin}
 use Rattle.yf_emit.proofs.HeldLemmas.{held_behind, held_collection, held_collection_with, row_ended}
+use Rattle.yf_emit.proofs.FoundNodes.{FoundNode, found_behind}
 use Rattle.yf_emit.proofs.NodePlaces.{NodeAt, entries_at, propertied_at}
 use Rattle.yf_emit.proofs.NodesMade.{Stood, NodeMade, Claim, some_rows}
+use Rattle.yf_emit.proofs.PlacedRows.{none_inside, PlacedRow, AtRow, EndsRow, RowsIn, row_before}
 use Rattle.yf_emit.proofs.RowEnds.{row_end, end_follows, first_deco, after_decos}
 use Rattle.yf_emit.proofs.StepsStand.{MeaningLaid, laid_after, laid_behind, laid_collection, laid_collection_with}
 
@@ -77,13 +79,32 @@ some_props {p} k n = go p.anchor p.tag refl refl (λ v e. k.tag v e) where
   go (Some name) None e f k = refl
   go (Some name) (Some v) e f k = refl
 
+-- Comments.
+
+pub comments_collection : (s f : Bool) (i j : ℕ) (x : Meaning) → (collection s f i j x).comments ≡ x.comments
+unfolding collection
+comments_collection s f i j x = refl
+
+pub comments_with_props : (p : PropsValue) (o : Option ℕ) (i j : ℕ) (x : Meaning) → (with_props p o i j x).comments ≡ x.comments
+unfolding with_props
+comments_with_props p o i j x = refl
+
+pub comments_behind : (cs : List CommentValue) (x : Meaning) → (behind cs x).comments ≡ cs ++ x.comments
+unfolding behind
+comments_behind cs x = refl
+
+row_before_rows : {t : List ℕ} {column : ℕ} {row : Row} {rs : List Row} {p : PlacedRow} {ps : List PlacedRow} {ds : List Deco} {i k j : ℕ} {own cs : List CommentValue} {r : List ℕ} → Begins column rs → AtRow row i p
+    → EndsRow t (first ds) p.upto own k → Rest t k (lines_then rs (after ds) r) → RowsIn t rs ps (after ds) (k + column) cs j r → RowsIn t (row ∷ rs) (p ∷ ps) ds i (own ++ cs) j r
+row_before_rows {t} {ps = ps} {ds = ds} {k = k} {j = j} {cs = cs} {r = r} (begins {r = y} {rs = ys} e) at end w a =
+    row_before at end w (subst (λ z. RowsIn t (y ∷ ys) ps (after ds) (k + z) cs j r) (sym e) a)
+
 -- A collection without properties.
 
-pub bare_claim : {s : Style} {x : Node} {spot : Spot} {es : List Row} {sequence : Bool} {bound : ℕ} {Q : Meaning → Type 0} → begins_below x ≡ true → is_sequence x ≡ sequence → tall x ≡ suc bound
-    → ((i j : ℕ) (m : Meaning) → Q m → Meant x (collection sequence false i j m)) → EntriesMakes sequence spot.entries bound Q es → Claim s x spot es
+pub bare_claim : {s : Setting} {x : Node} {spot : Spot} {es : List Row} {sequence : Bool} {bound : ℕ} {Q : List ℕ → Meaning → List PlacedRow → Type 0} → begins_below x ≡ true → is_sequence x ≡ sequence → tall x ≡ suc bound
+    → ((t : List ℕ) (i j : ℕ) (m : Meaning) (ps : List PlacedRow) → Q t m ps → FoundNode t s spot.entries x (collection sequence false i j m) ps) → EntriesMakes sequence spot.entries bound Q es → Claim s x spot es
 bare_claim {s} {x} {spot} {es} {sequence} {bound} {Q} below kind high meant e = claim e.starts e where
   made : {rs : List Row} → EntriesMakes sequence spot.entries bound Q rs → {t : List ℕ} (n : ℤ) (c : Ctx) (ds : List Deco) (r : List ℕ) (q : ℕ) → IsUtf8 t → Stood s x n c spot → AreDecos ds
-      → Calm rs ds r → Rest t q (inline_then rs ds r) → NodeMade t n c spot.entries x rs ds q r
+      → Calm rs ds r → Rest t q (inline_then rs ds r) → NodeMade t s n c spot.entries x rs ds q r
   made {rs} e {t} n c ds r q u stood a k w =
       let one = e.made ds r q u a k w in
       let low : one.height ≤ bound = one.low in
@@ -95,7 +116,9 @@ bare_claim {s} {x} {spot} {es} {sequence} {bound} {Q} below kind high meant e = 
         low = omega (arith, low, high);
         rest = one.rest;
         start = one.start;
-        meant = meant q one.meaning.finish one.meaning one.meant;
+        found_rows = one.found_rows;
+        meant = meant t q one.meaning.finish one.meaning one.found_rows one.meant;
+        placed = subst (λ z. RowsIn t rs one.found_rows ds q z one.place r) (sym (comments_collection sequence false q one.meaning.finish one.meaning)) one.placed;
         is = texts_collection sequence false q one.meaning.finish one.meaning ∙ one.is;
         laid = laid_collection sequence false q one.meaning.finish one.meaning one.laid;
         held = held_collection sequence false q one.meaning.finish one.meaning rs ds r one.held;
@@ -106,13 +129,14 @@ bare_claim {s} {x} {spot} {es} {sequence} {bound} {Q} below kind high meant e = 
 
 -- With properties on a line of their own.
 
-module _ {s : Style} {x : Node} {spot : Spot} {es : List Row} {sequence : Bool} {bound : ℕ} {Q : Meaning → Type 0} {p : PropsValue} (props : IsProps p) (some : p ≢ no_props)
+module _ {s : Setting} {x : Node} {spot : Spot} {es : List Row} {sequence : Bool} {bound : ℕ} {Q : List ℕ → Meaning → List PlacedRow → Type 0} {p : PropsValue} (props : IsProps p) (some : p ≢ no_props)
     (below : begins_below x ≡ false) (kind : is_sequence x ≡ sequence) (high : tall x ≡ suc bound)
-    (meant : (o : Option ℕ) (f g i j : ℕ) (m : Meaning) → Q m → Meant x (with_props p o f g (collection sequence false i j m)))
+    (meant : (t : List ℕ) (o : Option ℕ) (f g i j : ℕ) (m : Meaning) (h : PlacedRow) (ps : List PlacedRow) → h.items ≡ [] → h.leaves ≡ [] → h.commented ≡ false → Q t m ps
+    → FoundNode t s spot.entries x (with_props p o f g (collection sequence false i j m)) (h ∷ ps))
     (e : EntriesMakes sequence spot.entries bound Q es) where
-  propertied_made : {t : List ℕ} (row : Row) → row.text ≡ props_bytes p → row.body ≡ [] → row.leaves ≡ [] → (n : ℤ) (c : Ctx) (ds : List Deco) (r : List ℕ) (q : ℕ) → IsUtf8 t → Stood s x n c spot
-      → AreDecos ds → Calm (row ∷ es) ds r → Rest t q (inline_then (row ∷ es) ds r) → NodeMade t n c spot.entries x (row ∷ es) ds q r
-  propertied_made {t} row text body none n c ds r q u stood a k w =
+  propertied_made : {t : List ℕ} (row : Row) → row.text ≡ props_bytes p → row.body ≡ [] → row.leaves ≡ [] → is_some row.key_comment ≡ false → (n : ℤ) (c : Ctx) (ds : List Deco) (r : List ℕ) (q : ℕ) → IsUtf8 t → Stood s x n c spot
+      → AreDecos ds → Calm (row ∷ es) ds r → Rest t q (inline_then (row ∷ es) ds r) → NodeMade t s n c spot.entries x (row ∷ es) ds q r
+  propertied_made {t} row text body none key n c ds r q u stood a k w =
       let there : Rest t q (props_bytes p ++ end_then (first ds) [] (lines_then es (after ds) r)) =
       subst (λ l. Rest t q (props_bytes p ++ end_then (first ds) l (lines_then es (after ds) r))) body
       (subst (λ v. Rest t q (v ++ end_then (first ds) row.body (lines_then es (after ds) r))) text w) in
@@ -125,6 +149,10 @@ module _ {s : Style} {x : Node} {spot : Spot} {es : List Row} {sequence : Bool} 
       let offset : Option ℕ = tag_offset_at q p.anchor p.tag in
       let g : ℕ = q + length (props_bytes p) in
       let inner : Meaning = collection sequence false (end.place + spot.entries) one.meaning.finish one.meaning in
+      let width : length (props_bytes p) ≡ length row.text = ap length (sym text) in
+      let h : PlacedRow = record { items = []; leaves = []; commented = false; from = q; upto = q + length row.text } in
+      let found : FoundNode t s spot.entries x (with_props p offset q g inner) (h ∷ one.found_rows) =
+      meant t offset q g (end.place + spot.entries) one.meaning.finish one.meaning h one.found_rows refl refl refl one.meant in
       let at = propertied_at {c = c} {p = p} stood.block properties end.end spaces.0 (subst (λ b. least_column b n c ≤ℤ pos spot.entries) kind stood.least) one.derived in
       record {
         height = suc one.height;
@@ -134,7 +162,19 @@ module _ {s : Style} {x : Node} {spot : Spot} {es : List Row} {sequence : Bool} 
         low = omega (arith, low, high);
         rest = one.rest;
         start = one.start;
-        meant = meant_behind end.comments (meant offset q g (end.place + spot.entries) one.meaning.finish one.meaning one.meant);
+        found_rows = h ∷ one.found_rows;
+        meant = found_behind end.comments found;
+        placed = subst (λ z. RowsIn t (row ∷ es) (h ∷ one.found_rows) ds q z one.place r)
+            (sym (comments_behind end.comments (with_props p offset q g inner) ∙ ap (λ z. end.comments ++ z) (comments_with_props p offset q g inner
+            ∙ comments_collection sequence false (end.place + spot.entries) one.meaning.finish one.meaning)))
+            (row_before_rows e.starts (record {
+              from = refl;
+              order = omega arith;
+              size = λ z. refl;
+              items = none_inside;
+              leaves = none_inside;
+              commented = key;
+            }) (record { ascend = subst (λ z. Ascend t (q + z) end.comments end.place) width (end_ascends end.end); is = end.is; start = end.start }) end.rest one.placed);
         is = texts_behind end.comments (with_props p offset q g inner) ∙ (ap (λ z. z ++ texts (with_props p offset q g inner).comments) end.is
             ∙ ap (λ z. carried_texts (first ds) ++ z) (texts_with_props p offset q g inner ∙ (texts_collection sequence false (end.place + spot.entries) one.meaning.finish one.meaning ∙ one.is)));
         laid = subst (λ z. MeaningLaid q one.place (behind end.comments (with_props p offset q g inner)) (leaf_steps z ++ (comment_steps (carried_texts (first ds)) ++ steps_in es (after ds)))) (sym none)
@@ -150,7 +190,7 @@ module _ {s : Style} {x : Node} {spot : Spot} {es : List Row} {sequence : Bool} 
   propertied_row (b ∷ w) text f =
       some_rows (λ z. refl) (λ z. absurd (true≢false (sym z ∙ below))) (record {
         made = λ {t} n c ds r q u stood a k v.
-            propertied_made (record (plain_row spot.column (b ∷ w)) { ending = before_node }) text refl refl n c ds r q u stood a k v;
+            propertied_made (record (plain_row spot.column (b ∷ w)) { ending = before_node }) text refl refl refl n c ds r q u stood a k v;
       })
 
   pub propertied_claim : Claim s x spot (props_row spot.column (props_text p) ++ es)

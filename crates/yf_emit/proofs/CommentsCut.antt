@@ -20,11 +20,11 @@ pub data In (d : CommentValue) : List CommentValue → Type 0 where
   in_first : {cs : List CommentValue} → In d (d ∷ cs)
   in_rest : {c : CommentValue} {cs : List CommentValue} → In d cs → In d (c ∷ cs)
 
-in_after : {d : CommentValue} {cs : List CommentValue} (done : List CommentValue) → In d cs → In d (done ++ cs)
+pub in_after : {d : CommentValue} {cs : List CommentValue} (done : List CommentValue) → In d cs → In d (done ++ cs)
 in_after [] a = a
 in_after (c ∷ done) a = in_rest (in_after done a)
 
-in_before : {d : CommentValue} {cs : List CommentValue} (more : List CommentValue) → In d cs → In d (cs ++ more)
+pub in_before : {d : CommentValue} {cs : List CommentValue} (more : List CommentValue) → In d cs → In d (cs ++ more)
 in_before more in_first = in_first
 in_before more (in_rest a) = in_rest (in_before more a)
 
@@ -33,11 +33,11 @@ pub data Each (P : CommentValue → Type 0) : List CommentValue → Type 0 where
   each_none : Each P []
   each_more : {d : CommentValue} {ds : List CommentValue} → P d → Each P ds → Each P (d ∷ ds)
 
-each_map : {P Q : CommentValue → Type 0} {ds : List CommentValue} → ((d : CommentValue) → In d ds → P d → Q d) → Each P ds → Each Q ds
+pub each_map : {P Q : CommentValue → Type 0} {ds : List CommentValue} → ((d : CommentValue) → In d ds → P d → Q d) → Each P ds → Each Q ds
 each_map f each_none = each_none
 each_map f (each_more {d = d} p a) = each_more (f d in_first p) (each_map (λ e i. f e (in_rest i)) a)
 
-each_join : {P : CommentValue → Type 0} {xs ys : List CommentValue} → Each P xs → Each P ys → Each P (xs ++ ys)
+pub each_join : {P : CommentValue → Type 0} {xs ys : List CommentValue} → Each P xs → Each P ys → Each P (xs ++ ys)
 each_join each_none b = b
 each_join (each_more p a) b = each_more p (each_join a b)
 

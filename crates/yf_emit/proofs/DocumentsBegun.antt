@@ -10,6 +10,7 @@ use Rattle.yf_stream.proofs.ReadingOrder.{explicit_ascends}
 use Rattle.yf_emit.specs.Beginnings.{begins_behind, documents_begin, steps_with}
 use Rattle.yf_emit.specs.Carried.{carried_texts, comments_in}
 use Rattle.yf_emit.specs.Decorated.{Deco, first, after}
+use Rattle.yf_emit.specs.Normal.{Setting}
 use Rattle.yf_emit.specs.Rows.{Row, at_document_start}
 use Rattle.yf_emit.specs.Steps.{Step, a_comment, a_leaf, comment_steps}
 use Rattle.yf_emit.proofs.DocumentsMade.{ExplicitMade}
@@ -33,7 +34,7 @@ pub documents_begun : {i k j : ℕ} {a b : List Step} (cs : List CommentValue) (
 unfolding with_document
 documents_begun cs d x c a = stand_join c a
 
-pub explicit_begun : {t : List ℕ} {x : Node} {rs : List Row} {q : ℕ} {r : List ℕ} (row : Row) (ds : List Deco) → row.ending ≡ at_document_start → NoStarts rs → (m : ExplicitMade t x (row ∷ rs) ds q r)
+pub explicit_begun : {t : List ℕ} {c : Setting} {x : Node} {rs : List Row} {q : ℕ} {r : List ℕ} (row : Row) (ds : List Deco) → row.ending ≡ at_document_start → NoStarts rs → (m : ExplicitMade t c x (row ∷ rs) ds q r)
     → Stand q (q ∷ []) m.meaning.comments (steps_with documents_begin (row ∷ rs) ds) m.place
 explicit_begun {rs = rs} {q = q} row ds e none m =
     let same : steps_with documents_begin (row ∷ rs) ds ≡ a_leaf ∷ comment_steps (comments_in (row ∷ rs) ds) =

@@ -1,6 +1,6 @@
 -- A document from its rows: its directives, its `---` and its node.
-use Rattle.std.proofs.Common.{◌≡◌, ℕ, ◌+◌, ◌<◌, ◌≤◌, pos, Bool, true, false, List, [], ◌∷◌, ◌++◌, map, slice_range, refl, sym, ap, ◌∙◌, subst, arith, append-nil}
-use Rattle.std.specs.Prelude.{◌-ℤ◌, ◌≤ℤ◌, ◌&&◌, ◌==◌, not}
+use Rattle.std.proofs.Common.{◌≡◌, ℕ, ◌+◌, ◌<◌, ◌≤◌, pos, Bool, true, false, List, [], ◌∷◌, ◌++◌, length, map, slice_range, refl, sym, ap, ◌∙◌, subst, arith, append-nil}
+use Rattle.std.specs.Prelude.{is_some, ◌-ℤ◌, ◌≤ℤ◌, ◌&&◌, ◌==◌, not}
 use Rattle.std.specs.Str.{IsUtf8}
 use Rattle.std.proofs.lemmas.Bool.Decides.{nat_tests}
 use Rattle.std.proofs.lemmas.Int.{ints}
@@ -18,19 +18,18 @@ use Rattle.yf_events.specs.declared.directive.Directive.{Directive}
 use Rattle.yf_events.specs.Tree.{Node, is_sequence}
 use Rattle.yf_grammar.specs.Grammar.{Derives, BlockNode, least_column}
 use Rattle.yf_grammar.specs.Meaning.{Meaning, behind, noting, empty_node}
-use Rattle.yf_grammar.specs.Meant.{Meant, tall}
+use Rattle.yf_grammar.specs.Meant.{tall}
 use Rattle.yf_grammar.proofs.BlankRuns.{Behind, behind_byte}
-use Rattle.yf_grammar.proofs.CommentOrder.{end_ascends}
+use Rattle.yf_grammar.proofs.CommentOrder.{Ascend, end_ascends}
 use Rattle.yf_grammar.proofs.FlowBack.{visible_at, visible_line}
-use Rattle.yf_grammar.proofs.MeantLemmas.{meant_behind, meant_noting, texts_behind, texts_noting, texts_empty}
+use Rattle.yf_grammar.proofs.MeantLemmas.{texts_behind, texts_noting, texts_empty}
 use Rattle.yf_stream.specs.Stream.{ExplicitNode, DirectiveLines, Directives}
 use Rattle.yf_stream.specs.Stream.ExplicitNode.{marked_node, marked_nothing}
 use Rattle.yf_stream.specs.Stream.DirectiveLines.{last_directive, more_directives}
-use Rattle.yf_emit.specs.declared.style.Style.{Style}
 use Rattle.yf_emit.specs.Carried.{AreDecos, carried_texts, comments_in, Calm}
 use Rattle.yf_emit.specs.Decorated.{Deco, first, after, trails_then, end_then, lines_then}
 use Rattle.yf_emit.specs.FitDocuments.{is_apart, FitDirective, FitDirectives, fit_no_directives, fit_directive}
-use Rattle.yf_emit.specs.Normal.{root_spot}
+use Rattle.yf_emit.specs.Normal.{Setting, root_spot}
 use Rattle.yf_emit.specs.Rows.{Row, directive_row, joined_words, begins_below}
 use Rattle.yf_emit.specs.Steps.{leaf_steps, comment_steps, steps_in}
 use Rattle.yf_emit.proofs.ClearRows.{AreRowTexts, rows_clear_after, place_of_rest}
@@ -38,15 +37,18 @@ use Rattle.yf_emit.proofs.DirectiveEnds.{directive_seen}
 use Rattle.yf_emit.proofs.HeldLemmas.{EventsHeld, Held, bare_row, empty_silent, held_behind, held_line, row_ended}
 use Rattle.yf_emit.proofs.SeenTexts.{ascii_ns}
 use Rattle.yf_emit.proofs.WellSet.{set_append}
+use Rattle.yf_emit.proofs.CollectionsMade.{comments_behind}
+use Rattle.yf_emit.proofs.FoundNodes.{FoundNode, found_behind, found_noting, found_nothing}
 use Rattle.yf_emit.proofs.LaidRows.{steps_append, laid_row}
 use Rattle.yf_emit.proofs.NodePlaces.{below_at}
-use Rattle.yf_emit.proofs.NodesMade.{Stood, Claim, no_row, some_rows}
+use Rattle.yf_emit.proofs.NodesMade.{Stood, Claim, no_row, some_rows, noting_nothing}
+use Rattle.yf_emit.proofs.PlacedRows.{none_inside, one_inside, PlacedRow, AtRow, RowsIn, last_row, row_before, rows_in_append}
 use Rattle.yf_emit.proofs.RowEnds.{row_end, first_deco, after_decos}
 use Rattle.yf_emit.proofs.StepsStand.{Stand, stand_after, stand_join, comments_stand, MeaningLaid, laid_after, laid_behind, laid_empty}
 
 -- The `---` and the node after it.
 
-pub record ExplicitMade (t : List ℕ) (x : Node) (rs : List Row) (ds : List Deco) (q : ℕ) (r : List ℕ) : Type 0 where
+pub record ExplicitMade (t : List ℕ) (s : Setting) (x : Node) (rs : List Row) (ds : List Deco) (q : ℕ) (r : List ℕ) : Type 0 where
   pub height : ℕ
   pub place : ℕ
   pub meaning : Meaning
@@ -54,10 +56,28 @@ pub record ExplicitMade (t : List ℕ) (x : Node) (rs : List Row) (ds : List Dec
   pub low : height ≤ tall x
   pub rest : Rest t place r
   pub start : LineStart t place
-  pub meant : Meant x meaning
+  pub head : PlacedRow
+  pub starts : head.items ≡ q ∷ []
+  pub inner : List PlacedRow
+  pub meant : FoundNode t s 0 x meaning inner
+  pub placed : RowsIn t rs (head ∷ inner) ds q meaning.comments place r
   pub is : texts meaning.comments ≡ comments_in rs ds
   pub laid : MeaningLaid q place meaning (steps_in rs ds)
   pub held : Held t meaning rs ds r
+
+-- the row of a `---`
+abbrev mark_row : ℕ → PlacedRow
+mark_row q = record { items = q ∷ []; leaves = []; commented = false; from = q; upto = q + 3 }
+
+mark_stands : {row : Row} (q : ℕ) → length row.text ≡ 3 → is_some row.key_comment ≡ false → AtRow row q (mark_row q)
+mark_stands q width key = record {
+  from = refl;
+  order = omega arith;
+  size = λ z. omega (arith, width);
+  items = one_inside (omega arith) (omega arith) none_inside;
+  leaves = none_inside;
+  commented = key;
+}
 
 same_number : (c : ℕ) → (c == c) ≡ true
 same_number c = grind (arith, nat_tests)
@@ -92,16 +112,16 @@ root_least : (sequence : Bool) → least_column sequence (pos 0 -ℤ pos 1) Bloc
 root_least true = omega (arith, ints)
 root_least false = omega (arith, ints)
 
-pub root_stood : (s : Style) (x : Node) → Stood s x (pos 0 -ℤ pos 1) BlockIn (root_spot s)
+pub root_stood : (s : Setting) (x : Node) → Stood s x (pos 0 -ℤ pos 1) BlockIn (root_spot s.style)
 root_stood s x = record { block = refl; least = root_least (is_sequence x); lines = omega arith }
 
 not_beside : (b : Bool) → not b ≡ false → b ≡ true
 not_beside true e = refl
 not_beside false e = sym e
 
-pub explicit_made : {t : List ℕ} {s : Style} {x : Node} {rs : List Row} (row : Row) (ds : List Deco) (r : List ℕ) (q : ℕ) → row.leaves ≡ [] → row.body ≡ [] → Claim s x (root_spot s) rs → AreRowTexts rs → IsUtf8 t → AreDecos ds → Calm rs (after ds) r
-    → Rest t q (45 ∷ 45 ∷ 45 ∷ end_then (first ds) [] (lines_then rs (after ds) r)) → ExplicitMade t x (row ∷ rs) ds q r
-explicit_made {t} {s} {x} row ds r q none bare (no_row m) free u a k w =
+pub explicit_made : {t : List ℕ} {s : Setting} {x : Node} {rs : List Row} (row : Row) (ds : List Deco) (r : List ℕ) (q : ℕ) → row.leaves ≡ [] → row.body ≡ [] → length row.text ≡ 3 → is_some row.key_comment ≡ false → Claim s x (root_spot s.style) rs → AreRowTexts rs → IsUtf8 t → AreDecos ds → Calm rs (after ds) r
+    → Rest t q (45 ∷ 45 ∷ 45 ∷ end_then (first ds) [] (lines_then rs (after ds) r)) → ExplicitMade t s x (row ∷ rs) ds q r
+explicit_made {t} {s} {x} row ds r q none bare width key (no_row m) free u a k w =
     let mark = three_at 45 u (omega arith) (omega arith) w in
     let end = row_end (first ds) r u (first_deco a) mark.1 in
     record {
@@ -112,13 +132,18 @@ explicit_made {t} {s} {x} row ds r q none bare (no_row m) free u a k w =
       low = omega arith;
       rest = end.rest;
       start = end.start;
-      meant = meant_noting end.comments (m.meant (q + 3));
+      head = mark_row q;
+      starts = refl;
+      inner = [];
+      meant = found_noting end.comments (found_nothing (q + 3) (m.meant (q + 3)));
+      placed = subst (λ v. RowsIn t (row ∷ []) (mark_row q ∷ []) ds q v end.place r) (sym (noting_nothing (q + 3) end.comments))
+          (last_row (mark_stands q width key) (record { ascend = end_ascends end.end; is = end.is; start = end.start }) end.rest);
       is = texts_noting (empty_node (q + 3)) end.comments ∙ (ap (λ z. z ++ texts end.comments) (texts_empty (q + 3)) ∙ (end.is ∙ sym (append-nil (carried_texts (first ds)))));
       laid = subst (λ z. MeaningLaid q end.place (noting (empty_node (q + 3)) end.comments) (leaf_steps z ++ (comment_steps (carried_texts (first ds)) ++ []))) (sym none)
           (laid_row (empty_node (q + 3)) end.comments [] (laid_empty (q + 3) (omega arith)) (end_ascends end.end) end.is);
       held = held_line (empty_node (q + 3)) end.comments row ds r bare (empty_silent (q + 3)) (row_ended (first ds) r u (three_behind 45 u (omega arith) (omega arith) w) (first_deco a) mark.1 end.end);
     }
-explicit_made {t} {s} {x} row ds r q none bare (some_rows {r = y} {rs = ys} f g m) lines u a k w =
+explicit_made {t} {s} {x} row ds r q none bare width key (some_rows {r = y} {rs = ys} f g m) lines u a k w =
     let mark = three_at 45 u (omega arith) (omega arith) w in
     let end = row_end (first ds) (lines_then (y ∷ ys) (after ds) r) u (first_deco a) mark.1 in
     let spaces = rest_spaces y.column end.place u end.rest in
@@ -135,7 +160,12 @@ explicit_made {t} {s} {x} row ds r q none bare (some_rows {r = y} {rs = ys} f g 
       low = node.low;
       rest = node.rest;
       start = node.start;
-      meant = meant_behind end.comments node.meant;
+      head = mark_row q;
+      starts = refl;
+      inner = node.found_rows;
+      meant = found_behind end.comments node.meant;
+      placed = subst (λ v. RowsIn t (row ∷ y ∷ ys) (mark_row q ∷ node.found_rows) ds q v node.place r) (sym (comments_behind end.comments node.meaning))
+          (row_before (mark_stands q width key) (record { ascend = end_ascends end.end; is = end.is; start = end.start }) end.rest node.placed);
       is = texts_behind end.comments node.meaning ∙ (ap (λ z. z ++ texts node.meaning.comments) end.is ∙ ap (λ z. carried_texts (first ds) ++ z) node.is);
       laid = subst (λ z. MeaningLaid q node.place (behind end.comments node.meaning) (leaf_steps z ++ (comment_steps (carried_texts (first ds)) ++ steps_in (y ∷ ys) (after ds)))) (sym none)
           (laid_after (omega arith) (laid_behind end.comments node.meaning (end_ascends end.end) end.is (omega arith) node.laid));
@@ -154,6 +184,8 @@ pub record DirectivesMade (t : List ℕ) (dirs : List Directive) (rs : List Row)
   pub is : texts meaning.comments ≡ comments_in rs ds
   pub stand : Stand q [] meaning.comments (steps_in rs ds) place
   pub held : (es : List Placed) → EventsHeld t es meaning.comments rs ds r
+  pub found_rows : List PlacedRow
+  pub placed : RowsIn t rs found_rows ds q meaning.comments place r
 
 percent_line : {w : List ℕ} → IsLineText w → IsLineText (37 ∷ w)
 percent_line a = visible_line 37 (omega arith) (omega arith) a
@@ -168,9 +200,9 @@ row_stands {i} {j} {cs} row ds none a =
     subst (λ z. Stand i [] cs (leaf_steps z ++ (comment_steps (carried_texts (first ds)) ++ [])) j) (sym none)
     (subst (λ z. Stand i [] cs z j) (sym (append-nil (comment_steps (carried_texts (first ds))))) a)
 
-one_directive : {t : List ℕ} {d : Directive} (row : Row) (ds : List Deco) (r : List ℕ) (q : ℕ) → row.leaves ≡ [] → row.body ≡ [] → FitDirective d.words → IsUtf8 t → AreDecos ds
+one_directive : {t : List ℕ} {d : Directive} (row : Row) (ds : List Deco) (r : List ℕ) (q : ℕ) → row.leaves ≡ [] → row.body ≡ [] → row.text ≡ 37 ∷ joined_words d.words → is_some row.key_comment ≡ false → FitDirective d.words → IsUtf8 t → AreDecos ds
     → Rest t q (37 ∷ (joined_words d.words ++ end_then (first ds) [] r)) → DirectivesMade t (d ∷ []) (row ∷ []) ds q r
-one_directive {t} {d} row ds r q none bare fit u a w =
+one_directive {t} {d} row ds r q none bare said key fit u a w =
     let at = fit.made q (end_then (first ds) [] r) u (apart_follows (first ds).trails _) w in
     let sign = visible_at 37 u (omega arith) (omega arith) w in
     let text = rest_text (37 ∷ joined_words d.words) u (percent_line fit.line) w in
@@ -182,17 +214,26 @@ one_directive {t} {d} row ds r q none bare fit u a w =
       words = ap (λ z. z ∷ []) at.are;
       rest = end.rest;
       is = end.is ∙ sym (append-nil (carried_texts (first ds)));
+      found_rows = record { items = []; leaves = []; commented = false; from = q; upto = q + length row.text } ∷ [];
+      placed = last_row (record {
+        from = refl;
+        order = omega arith;
+        size = λ z. refl;
+        items = none_inside;
+        leaves = none_inside;
+        commented = key;
+      }) (record { ascend = subst (λ v. Ascend t (q + length v) end.comments end.place) (sym said) (end_ascends end.end); is = end.is; start = end.start }) end.rest;
       stand = row_stands row ds none (stand_after (omega arith) (comments_stand (end_ascends end.end) end.is));
       held = λ es. let ended = row_ended (first ds) r u (directive_seen u at) (first_deco a) text.rest end.end in record { comments = ended.comments; bodies = (bare_row t es row (first ds) r bare ended.seen, tt) };
     }
 
-pub directives_made : {t : List ℕ} {d : Directive} {dirs : List Directive} (row : Row) (ds : List Deco) (r : List ℕ) (q : ℕ) → row.leaves ≡ [] → row.body ≡ [] → FitDirective d.words → FitDirectives dirs → IsUtf8 t → AreDecos ds
+pub directives_made : {t : List ℕ} {d : Directive} {dirs : List Directive} (row : Row) (ds : List Deco) (r : List ℕ) (q : ℕ) → row.leaves ≡ [] → row.body ≡ [] → row.text ≡ 37 ∷ joined_words d.words → is_some row.key_comment ≡ false → FitDirective d.words → FitDirectives dirs → IsUtf8 t → AreDecos ds
     → Rest t q (37 ∷ (joined_words d.words ++ end_then (first ds) [] (lines_then (map directive_row dirs) (after ds) r)))
     → DirectivesMade t (d ∷ dirs) (row ∷ map directive_row dirs) ds q r
-directives_made {d = d} row ds r q none bare fit fit_no_directives u a w = one_directive {d = d} row ds r q none bare fit u a w
-directives_made {t} {d = d} row ds r q none bare fit (fit_directive {d = e} {ds = es} f fs) u a w =
-    let one = one_directive {d = d} row ds (lines_then (map directive_row (e ∷ es)) (after ds) r) q none bare fit u a w in
-    let more = directives_made {d = e} {dirs = es} (directive_row e) (after ds) r one.place refl refl f fs u (after_decos a) one.rest in
+directives_made {d = d} row ds r q none bare said key fit fit_no_directives u a w = one_directive {d = d} row ds r q none bare said key fit u a w
+directives_made {t} {d = d} row ds r q none bare said key fit (fit_directive {d = e} {ds = es} f fs) u a w =
+    let one = one_directive {d = d} row ds (lines_then (map directive_row (e ∷ es)) (after ds) r) q none bare said key fit u a w in
+    let more = directives_made {d = e} {dirs = es} (directive_row e) (after ds) r one.place refl refl refl refl f fs u (after_decos a) one.rest in
     record {
       place = more.place;
       meaning = record { directives = one.meaning.directives ++ more.meaning.directives; comments = one.meaning.comments ++ more.meaning.comments };
@@ -202,6 +243,8 @@ directives_made {t} {d = d} row ds r q none bare fit (fit_directive {d = e} {ds 
       rest = more.rest;
       is = texts_append one.meaning.comments more.meaning.comments ∙ (ap (λ z. z ++ texts more.meaning.comments) (one.is ∙ append-nil (carried_texts (first ds)))
           ∙ ap (λ z. carried_texts (first ds) ++ z) more.is);
+      found_rows = one.found_rows ++ more.found_rows;
+      placed = rows_in_append one.placed (subst (λ z. RowsIn t (map directive_row (e ∷ es)) more.found_rows (after ds) z more.meaning.comments more.place r) (omega arith) more.placed);
       stand = subst (λ z. Stand q [] (one.meaning.comments ++ more.meaning.comments) z more.place) (sym (steps_append (row ∷ []) (map directive_row (e ∷ es)) ds)) (stand_join one.stand more.stand);
       held = λ ps. record {
         comments = set_append t one.meaning.comments more.meaning.comments (one.held ps).comments (more.held ps).comments;

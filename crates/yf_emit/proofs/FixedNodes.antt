@@ -1,4 +1,4 @@
--- A node that differs from one of a normal form by places alone is in the style of the house, and settled, as it is.
+-- A node that differs from one of a normal form by places alone is in the style of the house as it is.
 use Rattle.std.proofs.Common.{◌≡◌, ℕ, Bool, true, false, not, ◌&&◌, List, [], ◌∷◌, Option, Some, None, refl, sym, ap, ◌∙◌, true≢false}
 use Rattle.std.specs.Prelude.{is_some, if◌then◌else◌}
 use Rattle.yf_comments.specs.Comment.{CommentValue}
@@ -8,9 +8,9 @@ use Rattle.yf_events.specs.declared.event.Span.{Span}
 use Rattle.yf_events.specs.Tree.{Standing, Node, scalar, alias, sequence, mapping, Items, no_items, item, Pairs, no_pairs, pair}
 use Rattle.yf_emit.specs.declared.style.Style.{Style}
 use Rattle.yf_emit.specs.Kept.{has_comment, items_may_be_kept, may_be_kept, pairs_may_be_kept}
-use Rattle.yf_emit.specs.Normal.{Setting, Spot, fits, inner_spot, key_spot, settled, settled_items, settled_pairs, styled, styled_items, styled_pairs, value_spot}
+use Rattle.yf_emit.specs.Normal.{Setting, styled, styled_items, styled_pairs}
 use Rattle.yf_emit.specs.Undisturbed.{Undisturbed, undisturbed_sequence, undisturbed_mapping, UndisturbedItems, undisturbed_end, undisturbed_item, UndisturbedPairs, undisturbed_last, undisturbed_pair}
-use Rattle.yf_emit.proofs.AlikeLemmas.{Agrees, same_fit, same_key_spot, same_value_spot, setting}
+use Rattle.yf_emit.proofs.AlikeLemmas.{setting}
 use Rattle.yf_emit.proofs.StyledTwice.{House}
 
 -- Parts of nodes.
@@ -21,41 +21,41 @@ restood bt (alias at name) = alias bt name
 restood bt (sequence at flow props xs) = sequence bt flow props xs
 restood bt (mapping at flow props ps) = mapping bt flow props ps
 
-abbrev flow_of : Node → Bool
+abbrev pub flow_of : Node → Bool
 flow_of (scalar at props style text lines) = false
 flow_of (alias at name) = false
 flow_of (sequence at flow props xs) = flow
 flow_of (mapping at flow props ps) = flow
 
-abbrev items_of : Node → Items
+abbrev pub items_of : Node → Items
 items_of (scalar at props style text lines) = no_items
 items_of (alias at name) = no_items
 items_of (sequence at flow props xs) = xs
 items_of (mapping at flow props ps) = no_items
 
-abbrev pairs_of : Node → Pairs
+abbrev pub pairs_of : Node → Pairs
 pairs_of (scalar at props style text lines) = no_pairs
 pairs_of (alias at name) = no_pairs
 pairs_of (sequence at flow props xs) = no_pairs
 pairs_of (mapping at flow props ps) = ps
 
-abbrev first_item : Node → Items → Node
+abbrev pub first_item : Node → Items → Node
 first_item other no_items = other
 first_item other (item x xs) = x
 
-abbrev more_items : Items → Items
+abbrev pub more_items : Items → Items
 more_items no_items = no_items
 more_items (item x xs) = xs
 
-abbrev first_key : Node → Pairs → Node
+abbrev pub first_key : Node → Pairs → Node
 first_key other no_pairs = other
 first_key other (pair k v ps) = k
 
-abbrev first_value : Node → Pairs → Node
+abbrev pub first_value : Node → Pairs → Node
 first_value other no_pairs = other
 first_value other (pair k v ps) = v
 
-abbrev more_pairs : Pairs → Pairs
+abbrev pub more_pairs : Pairs → Pairs
 more_pairs no_pairs = no_pairs
 more_pairs (pair k v ps) = ps
 
@@ -165,88 +165,3 @@ mutual
   styled_pairs_alike u c (alike_pair {k = k} {l = l} {v = v} {w = w} {qs = qs} a b g more) h (undisturbed_pair f o fs) =
       ap (λ z. pair z (styled u c w) (styled_pairs u c qs)) (styled_alike u c a (ap (first_key k) h) f)
       ∙ (ap (λ z. pair l z (styled_pairs u c qs)) (styled_alike u c b (ap (first_value v) h) o) ∙ ap (λ z. pair l w z) (styled_pairs_alike u c more (ap more_pairs h) fs))
-
--- Which flow collections are kept depends on what is written alone, and on which keys a comment trails.
-
-mutual
-  pub settled_alike : {K : Node → Node → Node → Node → Type 0} {x y : Node} {cs ds : List CommentValue} (s : Style) (g : Agrees K s cs ds) (spot : Spot) → Alike K x y
-      → settled (setting s cs) spot x ≡ x → settled (setting s ds) spot y ≡ y
-  settled_alike s g spot (alike_scalars e) h = refl
-  settled_alike s g spot (alike_aliases e) h = refl
-  settled_alike s g spot (alike_sequences e alike_nothing) h = refl
-  settled_alike {K} {cs = cs} {ds = ds} s g spot (alike_sequences {at = at} {bt = bt} {flow = flow} {props = props} e (alike_item {x = x} {y = y} {xs = xs} {ys = ys} a more)) h =
-      go (λ z. settled_alike s g (inner_spot s spot.entries) a z) (λ z. settled_items_alike s g spot.entries more z) (flow && fits s spot.column Y) refl where
-        X : Node
-        X = sequence at flow props (item x xs)
-
-        Y : Node
-        Y = sequence bt flow props (item y ys)
-
-        W : Node
-        W = sequence at false props (item (settled (setting s cs) (inner_spot s spot.entries) x) (settled_items (setting s cs) spot.entries xs))
-
-        Z : Node
-        Z = sequence bt false props (item (settled (setting s ds) (inner_spot s spot.entries) y) (settled_items (setting s ds) spot.entries ys))
-
-        same : fits s spot.column X ≡ fits s spot.column Y
-        same = same_fit {K = K} {x = X} {y = Y} s spot.column (alike_sequences e (alike_item a more))
-
-        go : (settled (setting s cs) (inner_spot s spot.entries) x ≡ x → settled (setting s ds) (inner_spot s spot.entries) y ≡ y)
-            → (settled_items (setting s cs) spot.entries xs ≡ xs → settled_items (setting s ds) spot.entries ys ≡ ys)
-            → (b : Bool) → (flow && fits s spot.column Y) ≡ b → (if flow && fits s spot.column Y then Y else Z) ≡ Y
-        go one all true q = ap (λ b. if b then Y else Z) q
-        go one all false q =
-            let block : W ≡ X = ap (λ b. if b then X else W) (sym q) ∙ (ap (λ b. if flow && b then X else W) (sym same) ∙ h) in
-            let head : settled (setting s ds) (inner_spot s spot.entries) y ≡ y = one (ap (λ w. first_item x (items_of w)) block) in
-            let rest : settled_items (setting s ds) spot.entries ys ≡ ys = all (ap (λ w. more_items (items_of w)) block) in
-            ap (λ b. if b then Y else Z) q ∙ (ap (λ b. sequence bt b props (item (settled (setting s ds) (inner_spot s spot.entries) y) (settled_items (setting s ds) spot.entries ys))) (ap flow_of block)
-            ∙ (ap (λ w. sequence bt flow props (item w (settled_items (setting s ds) spot.entries ys))) head ∙ ap (λ w. sequence bt flow props (item y w)) rest))
-  settled_alike s g spot (alike_mappings e alike_no_pairs) h = refl
-  settled_alike {K} {cs = cs} {ds = ds} s g spot (alike_mappings {at = at} {bt = bt} {flow = flow} {props = props} e (alike_pair {k = k} {l = l} {v = v} {w = w} {ps = ps} {qs = qs} a b o more)) h =
-      go (λ z. settled_pairs_alike s g spot.entries (alike_pair a b o more) z) (flow && fits s spot.column Y) refl where
-        c : Setting
-        c = setting s cs
-
-        d : Setting
-        d = setting s ds
-
-        X : Node
-        X = mapping at flow props (pair k v ps)
-
-        Y : Node
-        Y = mapping bt flow props (pair l w qs)
-
-        W : Pairs
-        W = pair (settled c (key_spot s spot.entries k) k) (settled c (value_spot c spot.entries k v) v) (settled_pairs c spot.entries ps)
-
-        Z : Pairs
-        Z = pair (settled d (key_spot s spot.entries l) l) (settled d (value_spot d spot.entries l w) w) (settled_pairs d spot.entries qs)
-
-        same : fits s spot.column X ≡ fits s spot.column Y
-        same = same_fit {K = K} {x = X} {y = Y} s spot.column (alike_mappings e (alike_pair a b o more))
-
-        go : (W ≡ pair k v ps → Z ≡ pair l w qs) → (n : Bool) → (flow && fits s spot.column Y) ≡ n → (if flow && fits s spot.column Y then Y else mapping bt false props Z) ≡ Y
-        go all true q = ap (λ n. if n then Y else mapping bt false props Z) q
-        go all false q =
-            let block : mapping at false props W ≡ X =
-            ap (λ n. if n then X else mapping at false props W) (sym q) ∙ (ap (λ n. if flow && n then X else mapping at false props W) (sym same) ∙ h) in
-            let inside : Z ≡ pair l w qs = all (ap pairs_of block) in
-            ap (λ n. if n then Y else mapping bt false props Z) q ∙ (ap (λ n. mapping bt n props Z) (ap flow_of block) ∙ ap (λ z. mapping bt flow props z) inside)
-
-  settled_items_alike : {K : Node → Node → Node → Node → Type 0} {xs ys : Items} {cs ds : List CommentValue} (s : Style) (g : Agrees K s cs ds) (column : ℕ) → AlikeItems K xs ys
-      → settled_items (setting s cs) column xs ≡ xs → settled_items (setting s ds) column ys ≡ ys
-  settled_items_alike s g column alike_nothing h = refl
-  settled_items_alike {ds = ds} s g column (alike_item {x = x} {y = y} {ys = ys} a more) h =
-      ap (λ z. item z (settled_items (setting s ds) column ys)) (settled_alike s g (inner_spot s column) a (ap (first_item x) h))
-      ∙ ap (λ z. item y z) (settled_items_alike s g column more (ap more_items h))
-
-  settled_pairs_alike : {K : Node → Node → Node → Node → Type 0} {ps qs : Pairs} {cs ds : List CommentValue} (s : Style) (g : Agrees K s cs ds) (column : ℕ) → AlikePairs K ps qs
-      → settled_pairs (setting s cs) column ps ≡ ps → settled_pairs (setting s ds) column qs ≡ qs
-  settled_pairs_alike s g column alike_no_pairs h = refl
-  settled_pairs_alike {cs = cs} {ds = ds} s g column (alike_pair {k = k} {l = l} {v = v} {w = w} {qs = qs} a b o more) h =
-      let key : settled (setting s ds) (key_spot s column l) l ≡ l =
-      ap (λ z. settled (setting s ds) z l) (sym (same_key_spot s column a)) ∙ settled_alike s g (key_spot s column k) a (ap (first_key k) h) in
-      let value : settled (setting s ds) (value_spot (setting s ds) column l w) w ≡ w =
-      ap (λ z. settled (setting s ds) z w) (sym (same_value_spot s column a b (g k v l w o))) ∙ settled_alike s g (value_spot (setting s cs) column k v) b (ap (first_value v) h) in
-      ap (λ z. pair z (settled (setting s ds) (value_spot (setting s ds) column l w) w) (settled_pairs (setting s ds) column qs)) key
-      ∙ (ap (λ z. pair l z (settled_pairs (setting s ds) column qs)) value ∙ ap (λ z. pair l w z) (settled_pairs_alike s g column more (ap more_pairs h)))

@@ -1,7 +1,6 @@
 -- What is laid out of rows is the same for rows of the same shape, with the same after each; and the rows of documents that are found in a layout
 -- have the shapes of those that were laid out.
 use Rattle.std.proofs.Common.{◌≡◌, ℕ, Bool, true, false, List, [], ◌∷◌, ◌++◌, map, replicate, refl, sym, ap, ◌∙◌}
-use Rattle.std.proofs.lemmas.List.{map-append}
 use Rattle.yf_comments.specs.Comment.{CommentValue}
 use Rattle.yf_events.specs.Tree.{DocumentTree}
 use Rattle.yf_events.specs.declared.directive.Directive.{Directive}
@@ -12,10 +11,8 @@ use Rattle.yf_emit.specs.FoundTrees.{FoundTrees, none_found, one_found, words_of
 use Rattle.yf_emit.specs.Normal.{root_spot}
 use Rattle.yf_emit.specs.RowShapes.{RowShape, shape_of}
 use Rattle.yf_emit.specs.Rows.{Row, beginning_at, directive_row, document_rows, end_rows, joined_words, plain_row, rows, start_row, stream_rows}
-use Rattle.yf_emit.proofs.AlikeLemmas.{same_rows, setting}
-
-abbrev pub shapes : List Row → List RowShape
-shapes xs = map (λ x. shape_of x) xs
+use Rattle.yf_emit.proofs.AlikeLemmas.{both_shapes, setting, shapes}
+use Rattle.yf_emit.proofs.FixedBlocks.{same_block_rows}
 
 shapes_then : List RowShape → List Deco → List ℕ → List ℕ
 shapes_then [] ds r = r
@@ -28,10 +25,6 @@ by_shapes (x ∷ xs) ds r = ap (λ z. replicate x.column 32 ++ (x.text ++ end_th
 
 pub same_lines : (xs ys : List Row) (ds : List Deco) (r : List ℕ) → shapes xs ≡ shapes ys → lines_then xs ds r ≡ lines_then ys ds r
 same_lines xs ys ds r e = by_shapes xs ds r ∙ (ap (λ z. shapes_then z ds r) e ∙ sym (by_shapes ys ds r))
-
-both : (a b c d : List Row) → shapes a ≡ shapes c → shapes b ≡ shapes d → shapes (a ++ b) ≡ shapes (c ++ d)
-both a b c d e f =
-    map-append (λ x. shape_of x) a b ∙ (ap (λ z. z ++ shapes b) e ∙ (ap (λ z. shapes c ++ z) f ∙ sym (map-append (λ x. shape_of x) c d)))
 
 -- Documents.
 
@@ -62,16 +55,16 @@ head_shaped is_first start other ds es e =
     let ends : shapes (end_rows is_first ds) ≡ shapes (end_rows is_first es) = ends_shaped is_first ds ∙ (ap (end_shapes is_first) e ∙ sym (ends_shaped is_first es)) in
     let words : shapes (map directive_row ds) ≡ shapes (map directive_row es) = directive_shapes ds ∙ (ap (map words_row) e ∙ sym (directive_shapes es)) in
     beginning_shaped start (end_rows is_first ds ++ (map directive_row ds ++ (start_row ∷ [])))
-    ∙ (both (end_rows is_first ds) (map directive_row ds ++ (start_row ∷ [])) (end_rows is_first es) (map directive_row es ++ (start_row ∷ [])) ends
-    (both (map directive_row ds) (start_row ∷ []) (map directive_row es) (start_row ∷ []) words refl)
+    ∙ (both_shapes (end_rows is_first ds) (map directive_row ds ++ (start_row ∷ [])) (end_rows is_first es) (map directive_row es ++ (start_row ∷ [])) ends
+    (both_shapes (map directive_row ds) (start_row ∷ []) (map directive_row es) (start_row ∷ []) words refl)
     ∙ sym (beginning_shaped other (end_rows is_first es ++ (map directive_row es ++ (start_row ∷ [])))))
 
 pub found_rows : {s : Style} {cs es : List CommentValue} {u : List ℕ} {ds fs : List Doc} {xs ys : List DocumentTree} (is_first : Bool) → FoundTrees s cs u es ds xs fs ys
     → shapes (stream_rows (setting s cs) is_first ds xs) ≡ shapes (stream_rows (setting s es) is_first fs ys)
 found_rows is_first none_found = refl
 found_rows {s} {cs} {es} is_first (one_found {d = d} {e = e} {ds = ds} {fs = fs} {x = x} {y = y} {xs = xs} {ys = ys} w a f more) =
-    both (document_rows (setting s cs) is_first d x) (stream_rows (setting s cs) false ds xs) (document_rows (setting s es) is_first e y) (stream_rows (setting s es) false fs ys)
-    (both (beginning_at d.start (end_rows is_first d.directives ++ (map directive_row d.directives ++ (start_row ∷ [])))) (rows (setting s cs) (root_spot s) x.root)
+    both_shapes (document_rows (setting s cs) is_first d x) (stream_rows (setting s cs) false ds xs) (document_rows (setting s es) is_first e y) (stream_rows (setting s es) false fs ys)
+    (both_shapes (beginning_at d.start (end_rows is_first d.directives ++ (map directive_row d.directives ++ (start_row ∷ [])))) (rows (setting s cs) (root_spot s) x.root)
     (beginning_at e.start (end_rows is_first e.directives ++ (map directive_row e.directives ++ (start_row ∷ [])))) (rows (setting s es) (root_spot s) y.root)
-    (head_shaped is_first d.start e.start d.directives e.directives w) (same_rows s (λ k v l w z. z) (root_spot s) a))
+    (head_shaped is_first d.start e.start d.directives e.directives w) (same_block_rows s (root_spot s) a))
     (found_rows false more)

@@ -14,13 +14,12 @@ use Rattle.yf_grammar.specs.Meaning.{Meaning, ◌⊕◌, collection, entering, w
 use Rattle.yf_grammar.specs.Meant.{Meant, ItemsMeant, PairsMeant, tall, tall_items, tall_pairs}
 use Rattle.yf_grammar.proofs.FlowBack.{empty_json_back, collection_json_back, last_back, more_back, item_back}
 use Rattle.yf_grammar.proofs.LeafBack.{json_back, json_props_back}
-use Rattle.yf_grammar.proofs.MeantLemmas.{meant_entering, last_item_meant, more_items_meant, sequence_meant, mapping_meant, sequence_with_meant, mapping_with_meant}
+use Rattle.yf_grammar.proofs.MeantLemmas.{meant_entering, last_pair_meant, more_pairs_meant, last_item_meant, more_items_meant, sequence_meant, mapping_meant, sequence_with_meant, mapping_with_meant}
 use Rattle.yf_grammar.proofs.PairsBack.{pair_back, pair_apart_back}
 use Rattle.yf_emit.specs.FitFlows.{FitFlow, flow_leaf, flow_no_items, flow_no_pairs, flow_sequence, flow_mapping, FitFlowItems, flow_last_item, flow_item, FitFlowPairs, flow_last_pair, flow_pair}
 use Rattle.yf_emit.specs.Fits.{FitProps, no_fit_props, some_fit_props, ColonFits, colon_at_once, colon_apart, InlineNode}
 use Rattle.yf_emit.specs.OneLine.{spaced, props_text, written, bare, more_items, more_pairs, colon_behind}
 use Rattle.yf_emit.proofs.ClearRows.{unmarked_first}
-use Rattle.yf_emit.proofs.EntriesMade.{PairMeant, last_of_pairs, more_of_pairs}
 use Rattle.yf_emit.proofs.LeafFits.{props_before, unmarked_with, no_comments_with, line_node}
 
 -- Comments: there are none.
@@ -85,6 +84,21 @@ another_item {c} {x} {y} {ys} n o =
       meant = λ q. more_items_meant (meant_entering q None (n.node.meant q)) (o.meant (q + length (written x) + 2));
       silent = λ q. silent_both (entering q None (n.node.mean q)) (o.mean (q + length (written x) + 2)) (silent_entering q None (n.node.mean q) (n.node.silent q)) (o.silent (q + length (written x) + 2));
     }
+
+-- A pair: the key's meaning and the value's.
+
+record PairMeant (k v : Node) (m : Meaning) : Type 0 where
+  pub key : Meaning
+  pub value : Meaning
+  pub is : m ≡ key ⊕ value
+  pub meant_key : Meant k key
+  pub meant_value : Meant v value
+
+last_of_pairs : {k v : Node} (m : Meaning) → PairMeant k v m → PairsMeant (pair k v no_pairs) m
+last_of_pairs {k} {v} m p = subst (λ z. PairsMeant (pair k v no_pairs) z) (sym p.is) (last_pair_meant p.meant_key p.meant_value)
+
+more_of_pairs : {k v : Node} {ps : Pairs} (m n : Meaning) → PairMeant k v m → PairsMeant ps n → PairsMeant (pair k v ps) (m ⊕ n)
+more_of_pairs {k} {v} {ps} m n p o = subst (λ z. PairsMeant (pair k v ps) (z ⊕ n)) (sym p.is) (more_pairs_meant p.meant_key p.meant_value o)
 
 record PairNode (c : Ctx) (k v : Node) : Type 0 where
   pub text : List ℕ

@@ -1,5 +1,5 @@
 -- A node that is found where rows were laid out: it differs from the one that was by places alone, and its parts stand on those rows.
-use Rattle.std.proofs.Common.{◌≡◌, ◌≢◌, ℕ, ◌+◌, ◌≤◌, Bool, true, false, List, [], ◌∷◌, ◌++◌, map, Option, Some, None, refl, sym, ap, ◌∙◌, subst, arith, append_assoc, append-nil}
+use Rattle.std.proofs.Common.{◌≡◌, ◌≢◌, ℕ, ◌+◌, ◌<◌, ◌≤◌, Bool, true, false, List, [], ◌∷◌, ◌++◌, map, Option, Some, None, refl, sym, ap, ◌∙◌, subst, arith, append_assoc, append-nil}
 use Rattle.std.specs.Prelude.{is_some, not, ◌&&◌, if◌then◌else◌}
 use Rattle.yf_comments.specs.Comment.{CommentValue}
 use Rattle.yf_props.specs.Props.{PropsValue, no_props}
@@ -9,19 +9,18 @@ use Rattle.yf_events.specs.declared.event.Entry.{Entry}
 use Rattle.yf_events.specs.declared.event.ScalarStyle.{ScalarStyle}
 use Rattle.yf_events.specs.declared.event.ScalarStyle.TheVariants.{Plain, Single, Double, Literal, Folded}
 use Rattle.yf_events.specs.declared.event.Span.{Span}
-use Rattle.yf_events.specs.Tree.{Standing, Node, scalar, alias, sequence, mapping, Items, no_items, item, Pairs, no_pairs, pair, flat, flat_items, flat_pairs, leaves, items_in, entry_start, starts_of_entry, standing, spans_of_leaf, placed, unplaced}
+use Rattle.yf_events.specs.Tree.{Standing, Node, scalar, alias, sequence, mapping, Items, no_items, item, Pairs, no_pairs, pair, flat, flat_items, flat_pairs, leaves, items_in, entry_start, starts_of_entry, standing, spans_of_leaf, is_block_collection, placed, unplaced}
 use Rattle.yf_grammar.specs.Meaning.{Meaning, ◌⊕◌, behind, noting, plain_event, from_to, empty_node, collection, with_props, first_entering, entering}
 use Rattle.yf_grammar.specs.Meant.{Anywhere, Meant}
 use Rattle.yf_grammar.proofs.MeantLemmas.{entered, entered_events}
 use Rattle.yf_events.proofs.TreeLemmas.{node_unique}
 use Rattle.yf_grammar.proofs.NodePlaces.{NodeStands, stands_nowhere, scalar_stands, alias_stands, sequence_stands, mapping_stands}
-use Rattle.yf_emit.specs.declared.style.Style.{Style}
 use Rattle.yf_emit.specs.Fits.{is_block_style, is_inline}
-use Rattle.yf_emit.specs.Normal.{is_implicit, value_entries}
+use Rattle.yf_emit.specs.Normal.{Setting, entry_or, is_implicit, key_comment, value_entries}
 use Rattle.yf_emit.specs.OneLine.{written, props_text}
 use Rattle.yf_emit.specs.Rows.{begins_below, colon_offset, is_empty_text}
-use Rattle.yf_emit.proofs.AlikeLemmas.{same_below, same_implicit, same_sequence}
-use Rattle.yf_emit.proofs.PlacedRows.{PlacedRow}
+use Rattle.yf_emit.proofs.AlikeLemmas.{same_below, same_block, same_implicit, same_sequence}
+use Rattle.yf_emit.proofs.PlacedRows.{Inside, PlacedRow}
 
 -- a row that a sign begins, with these items, and the rows of what stands behind it
 pub data SignRows (items : List ℕ) : List PlacedRow → List PlacedRow → Type 0 where
@@ -44,81 +43,84 @@ pub data HeadAt (q e : ℕ) : List PlacedRow → Type 0 where
 
 -- the key stands on the first of these rows
 pub data KeyOn (t : List ℕ) (k : Node) : List PlacedRow → Type 0 where
-  key_on : {a b : ℕ} {h : PlacedRow} {hs : List PlacedRow} → NodeStands t a b k → h.from ≤ a → b ≤ h.upto → KeyOn t k (h ∷ hs)
+  key_on : {a b : ℕ} {h : PlacedRow} {hs : List PlacedRow} → NodeStands t a b k → h.from ≤ a → b < h.upto → entry_or 0 (standing k).entry ≡ h.from → KeyOn t k (h ∷ hs)
 
-pub key_at : {t : List ℕ} {k : Node} {q e : ℕ} {hs : List PlacedRow} → NodeStands t q e k → HeadAt q e hs → KeyOn t k hs
-key_at n (head_at f l) = key_on n (omega (arith, f)) l
+pub key_at : {t : List ℕ} {k : Node} {q e : ℕ} {hs : List PlacedRow} → NodeStands t q e k → entry_or 0 (standing k).entry ≡ q → HeadAt q (e + 1) hs → KeyOn t k hs
+key_at n g (head_at f l) = key_on n (omega (arith, f)) (omega (arith, l)) (g ∙ sym f)
 
 -- The rows of a node whose entries stand at a column.
 mutual
-  pub data NodeRows (t : List ℕ) (s : Style) : ℕ → Node → List PlacedRow → Type 0 where
-    no_rows : {m : ℕ} {at : Standing} {lines : List (List ℕ)} → at.span ≡ None → NodeRows t s m (scalar at no_props Plain [] lines) []
-    line_rows : {m a b : ℕ} {y : Node} {p : PlacedRow} → is_inline y ≡ true → written y ≢ [] → p.items ≡ items_in y → p.leaves ≡ leaves y → p.commented ≡ false
-        → NodeStands t a b y → p.from ≤ a → b ≤ p.upto → NodeRows t s m y (p ∷ [])
-    scalar_rows : {m : ℕ} {at : Standing} {props : PropsValue} {style : ScalarStyle} {text : List ℕ} {lines : List (List ℕ)} {p : PlacedRow} → is_block_style style ≡ true
-        → p.items ≡ map (λ s. s.start) (spans_of_leaf at.span) → p.leaves ≡ spans_of_leaf at.span → p.commented ≡ false → NodeRows t s m (scalar at props style text lines) (p ∷ [])
-    sequence_rows : {m : ℕ} {at : Standing} {props : PropsValue} {xs : Items} {ps : List PlacedRow} → is_empty_text (props_text props) ≡ true → ItemsRows t s m xs ps
-        → NodeRows t s m (sequence at false props xs) ps
-    sequence_behind : {m : ℕ} {at : Standing} {props : PropsValue} {xs : Items} {p : PlacedRow} {ps : List PlacedRow} → is_empty_text (props_text props) ≡ false → p.items ≡ [] → p.leaves ≡ []
-        → p.commented ≡ false → ItemsRows t s m xs ps → NodeRows t s m (sequence at false props xs) (p ∷ ps)
-    mapping_rows : {m : ℕ} {at : Standing} {props : PropsValue} {xs : Pairs} {ps : List PlacedRow} → is_empty_text (props_text props) ≡ true → PairsRows t s m xs ps
-        → NodeRows t s m (mapping at false props xs) ps
-    mapping_behind : {m : ℕ} {at : Standing} {props : PropsValue} {xs : Pairs} {p : PlacedRow} {ps : List PlacedRow} → is_empty_text (props_text props) ≡ false → p.items ≡ [] → p.leaves ≡ []
-        → p.commented ≡ false → PairsRows t s m xs ps → NodeRows t s m (mapping at false props xs) (p ∷ ps)
+  pub data NodeRows (t : List ℕ) (s : Setting) : ℕ → Node → Node → List PlacedRow → Type 0 where
+    no_rows : {m : ℕ} {x : Node} {at : Standing} {lines : List (List ℕ)} → at.span ≡ None → NodeRows t s m x (scalar at no_props Plain [] lines) []
+    line_rows : {m a b : ℕ} {x y : Node} {p : PlacedRow} → is_inline y ≡ true → written y ≢ [] → p.items ≡ items_in y → p.leaves ≡ leaves y → p.commented ≡ false
+        → NodeStands t a b y → p.from ≤ a → b ≤ p.upto → NodeRows t s m x y (p ∷ [])
+    scalar_rows : {m : ℕ} {x : Node} {at : Standing} {props : PropsValue} {style : ScalarStyle} {text : List ℕ} {lines : List (List ℕ)} {p : PlacedRow} → is_block_style style ≡ true
+        → Inside p.from p.upto (map (λ s. s.start) (spans_of_leaf at.span)) → p.items ≡ map (λ s. s.start) (spans_of_leaf at.span) → p.leaves ≡ spans_of_leaf at.span → p.commented ≡ false → NodeRows t s m x (scalar at props style text lines) (p ∷ [])
+    sequence_rows : {m : ℕ} {at bt : Standing} {props : PropsValue} {xs ys : Items} {ps : List PlacedRow} → is_block_collection (sequence bt false props ys) ≡ true → is_empty_text (props_text props) ≡ true → ItemsRows t s m xs ys ps
+        → NodeRows t s m (sequence at false props xs) (sequence bt false props ys) ps
+    sequence_behind : {m : ℕ} {at bt : Standing} {props : PropsValue} {xs ys : Items} {p : PlacedRow} {ps : List PlacedRow} → is_block_collection (sequence bt false props ys) ≡ true
+        → is_empty_text (props_text props) ≡ false → p.items ≡ [] → p.leaves ≡ []
+        → p.commented ≡ false → ItemsRows t s m xs ys ps → NodeRows t s m (sequence at false props xs) (sequence bt false props ys) (p ∷ ps)
+    mapping_rows : {m : ℕ} {at bt : Standing} {props : PropsValue} {xs ys : Pairs} {ps : List PlacedRow} → is_block_collection (mapping bt false props ys) ≡ true → is_empty_text (props_text props) ≡ true → PairsRows t s m xs ys ps
+        → NodeRows t s m (mapping at false props xs) (mapping bt false props ys) ps
+    mapping_behind : {m : ℕ} {at bt : Standing} {props : PropsValue} {xs ys : Pairs} {p : PlacedRow} {ps : List PlacedRow} → is_block_collection (mapping bt false props ys) ≡ true
+        → is_empty_text (props_text props) ≡ false → p.items ≡ [] → p.leaves ≡ []
+        → p.commented ≡ false → PairsRows t s m xs ys ps → NodeRows t s m (mapping at false props xs) (mapping bt false props ys) (p ∷ ps)
 
-  pub data ItemsRows (t : List ℕ) (s : Style) : ℕ → Items → List PlacedRow → Type 0 where
-    no_item_rows : {m : ℕ} → ItemsRows t s m no_items []
-    item_rows : {m : ℕ} {x : Node} {xs : Items} {ps hs qs : List PlacedRow} → NodeRows t s (m + s.indent) x ps → SignRows (entry_start x) ps hs → ItemsRows t s m xs qs
-        → ItemsRows t s m (item x xs) (hs ++ qs)
+  pub data ItemsRows (t : List ℕ) (s : Setting) : ℕ → Items → Items → List PlacedRow → Type 0 where
+    no_item_rows : {m : ℕ} → ItemsRows t s m no_items no_items []
+    item_rows : {m : ℕ} {x y : Node} {xs ys : Items} {ps hs qs : List PlacedRow} → NodeRows t s (m + s.style.indent) x y ps → SignRows (entry_start y) ps hs → ItemsRows t s m xs ys qs
+        → ItemsRows t s m (item x xs) (item y ys) (hs ++ qs)
 
-  pub data PairRows (t : List ℕ) (s : Style) : ℕ → Node → Node → List PlacedRow → Type 0 where
-    explicit_rows : {m : ℕ} {k v : Node} {ps hs qs gs : List PlacedRow} → is_implicit s m k ≡ false → NodeRows t s (m + s.indent) k ps → SignRows (entry_start k) ps hs
-        → NodeRows t s (m + s.indent) v qs → SignRows (colon_offset (standing k).entry) qs gs → PairRows t s m k v (hs ++ gs)
-    implicit_rows : {m : ℕ} {k v : Node} {ps hs : List PlacedRow} (b : Bool) → is_implicit s m k ≡ true → KeyOn t k hs → NodeRows t s (value_entries s m v) v ps
-        → KeyRows (entry_start k ++ items_in k) (leaves k) b (begins_below v) ps hs → PairRows t s m k v hs
+  -- a key k with its value v that are found as l and w
+  pub data PairRows (t : List ℕ) (s : Setting) : ℕ → Node → Node → Node → Node → List PlacedRow → Type 0 where
+    explicit_rows : {m : ℕ} {k v l w : Node} {ps hs qs gs : List PlacedRow} → is_implicit s.style m l ≡ false → NodeRows t s (m + s.style.indent) k l ps → SignRows (entry_start l) ps hs
+        → NodeRows t s (m + s.style.indent) v w qs → SignRows (colon_offset (standing l).entry) qs gs → PairRows t s m k v l w (hs ++ gs)
+    implicit_rows : {m : ℕ} {k v l w : Node} {ps hs : List PlacedRow} (b : Bool) → b ≡ is_some (key_comment s.comments k v) → is_implicit s.style m l ≡ true → KeyOn t l hs
+        → NodeRows t s (value_entries s.style m w) v w ps → KeyRows (entry_start l ++ items_in l) (leaves l) b (begins_below w) ps hs → PairRows t s m k v l w hs
 
-  pub data PairsRows (t : List ℕ) (s : Style) : ℕ → Pairs → List PlacedRow → Type 0 where
-    no_pair_rows : {m : ℕ} → PairsRows t s m no_pairs []
-    pair_rows : {m : ℕ} {k v : Node} {xs : Pairs} {hs rs : List PlacedRow} → PairRows t s m k v hs → PairsRows t s m xs rs → PairsRows t s m (pair k v xs) (hs ++ rs)
+  pub data PairsRows (t : List ℕ) (s : Setting) : ℕ → Pairs → Pairs → List PlacedRow → Type 0 where
+    no_pair_rows : {m : ℕ} → PairsRows t s m no_pairs no_pairs []
+    pair_rows : {m : ℕ} {k v l w : Node} {xs ys : Pairs} {hs rs : List PlacedRow} → PairRows t s m k v l w hs → PairsRows t s m xs ys rs → PairsRows t s m (pair k v xs) (pair l w ys) (hs ++ rs)
 
 -- What a production means: the node that is found, on these rows.
 
-pub record FoundNode (t : List ℕ) (s : Style) (m : ℕ) (x : Node) (meaning : Meaning) (ps : List PlacedRow) : Type 0 where
+pub record FoundNode (t : List ℕ) (s : Setting) (m : ℕ) (x : Node) (meaning : Meaning) (ps : List PlacedRow) : Type 0 where
   pub node : Node
   pub alike : Alike Anywhere x node
   pub events : meaning.events ≡ flat node
   pub escapes : meaning.escapes ≡ []
-  pub rows : NodeRows t s m node ps
+  pub rows : NodeRows t s m x node ps
 
-pub record FoundItem (t : List ℕ) (s : Style) (m : ℕ) (x : Node) (meaning : Meaning) (hs : List PlacedRow) : Type 0 where
+pub record FoundItem (t : List ℕ) (s : Setting) (m : ℕ) (x : Node) (meaning : Meaning) (hs : List PlacedRow) : Type 0 where
   pub inner : List PlacedRow
-  pub found : FoundNode t s (m + s.indent) x meaning inner
+  pub found : FoundNode t s (m + s.style.indent) x meaning inner
   pub sign : SignRows (entry_start found.node) inner hs
 
-pub record FoundItems (t : List ℕ) (s : Style) (m : ℕ) (xs : Items) (meaning : Meaning) (ps : List PlacedRow) : Type 0 where
+pub record FoundItems (t : List ℕ) (s : Setting) (m : ℕ) (xs : Items) (meaning : Meaning) (ps : List PlacedRow) : Type 0 where
   pub items : Items
   pub alike : AlikeItems Anywhere xs items
   pub events : meaning.events ≡ flat_items items
   pub escapes : meaning.escapes ≡ []
-  pub rows : ItemsRows t s m items ps
+  pub rows : ItemsRows t s m xs items ps
 
-pub record FoundPair (t : List ℕ) (s : Style) (m : ℕ) (k v : Node) (meaning : Meaning) (ps : List PlacedRow) : Type 0 where
+pub record FoundPair (t : List ℕ) (s : Setting) (m : ℕ) (k v : Node) (meaning : Meaning) (ps : List PlacedRow) : Type 0 where
   pub key : Node
   pub value : Node
   pub alike_key : Alike Anywhere k key
   pub alike_value : Alike Anywhere v value
   pub events : meaning.events ≡ flat key ++ flat value
   pub escapes : meaning.escapes ≡ []
-  pub rows : PairRows t s m key value ps
+  pub rows : PairRows t s m k v key value ps
 
-pub record FoundPairs (t : List ℕ) (s : Style) (m : ℕ) (xs : Pairs) (meaning : Meaning) (ps : List PlacedRow) : Type 0 where
+pub record FoundPairs (t : List ℕ) (s : Setting) (m : ℕ) (xs : Pairs) (meaning : Meaning) (ps : List PlacedRow) : Type 0 where
   pub pairs : Pairs
   pub alike : AlikePairs Anywhere xs pairs
   pub events : meaning.events ≡ flat_pairs pairs
   pub escapes : meaning.escapes ≡ []
-  pub rows : PairsRows t s m pairs ps
+  pub rows : PairsRows t s m xs pairs ps
 
-pub meant_of : {t : List ℕ} {s : Style} {m : ℕ} {x : Node} {meaning : Meaning} {ps : List PlacedRow} → FoundNode t s m x meaning ps → Meant x meaning
+pub meant_of : {t : List ℕ} {s : Setting} {m : ℕ} {x : Node} {meaning : Meaning} {ps : List PlacedRow} → FoundNode t s m x meaning ps → Meant x meaning
 meant_of a = record { node = a.node; alike = a.alike; events = a.events; escapes = a.escapes }
 
 -- Entries.
@@ -176,20 +178,50 @@ entry_entered e (alias at name) = refl
 entry_entered e (sequence at flow props xs) = refl
 entry_entered e (mapping at flow props ps) = refl
 
-pub rows_entered : {t : List ℕ} {s : Style} {m : ℕ} {y : Node} {ps : List PlacedRow} (e : Entry) → NodeRows t s m y ps → NodeRows t s m (entered e y) ps
+block_entered : (e : Entry) (y : Node) → is_block_collection y ≡ true → is_block_collection (entered e y) ≡ true
+block_entered e (scalar at props style text lines) f = f
+block_entered e (alias at name) f = f
+block_entered e (sequence at flow props no_items) f = f
+block_entered e (sequence at flow props (item x xs)) f = f
+block_entered e (mapping at flow props no_pairs) f = f
+block_entered e (mapping at flow props (pair k v ps)) f = f
+
+pub rows_entered : {t : List ℕ} {s : Setting} {m : ℕ} {x y : Node} {ps : List PlacedRow} (e : Entry) → NodeRows t s m x y ps → NodeRows t s m x (entered e y) ps
 rows_entered e (no_rows q) = no_rows q
 rows_entered e (line_rows {y = y} f n g h i st j k) =
     line_rows (inline_entered e y f) (λ z. n (sym (written_entered e y) ∙ z)) (g ∙ sym (items_entered e y)) (h ∙ sym (leaves_entered e y)) i (stands_entered e st) j k
-rows_entered e (scalar_rows f g h i) = scalar_rows f g h i
-rows_entered e (sequence_rows f a) = sequence_rows f a
-rows_entered e (sequence_behind f g h i a) = sequence_behind f g h i a
-rows_entered e (mapping_rows f a) = mapping_rows f a
-rows_entered e (mapping_behind f g h i a) = mapping_behind f g h i a
+rows_entered e (scalar_rows f n g h i) = scalar_rows f n g h i
+rows_entered e (sequence_rows {bt = bt} {props = props} {ys = ys} b f a) = sequence_rows (block_entered e (sequence bt false props ys) b) f a
+rows_entered e (sequence_behind {bt = bt} {props = props} {ys = ys} b f g h i a) = sequence_behind (block_entered e (sequence bt false props ys) b) f g h i a
+rows_entered e (mapping_rows {bt = bt} {props = props} {ys = ys} b f a) = mapping_rows (block_entered e (mapping bt false props ys) b) f a
+rows_entered e (mapping_behind {bt = bt} {props = props} {ys = ys} b f g h i a) = mapping_behind (block_entered e (mapping bt false props ys) b) f g h i a
+
+-- an empty node
+
+abbrev pub bare_node : Node
+bare_node = scalar (record { span = None; tag_offset = None; entry = None }) no_props Plain [] []
+
+pub bare_events : (i : ℕ) → (empty_node i).events ≡ flat bare_node
+unfolding empty_node plain_event
+bare_events i = refl
+
+pub bare_escapes : (i : ℕ) → (empty_node i).escapes ≡ []
+unfolding empty_node
+bare_escapes i = refl
+
+pub bare_comments : (i : ℕ) → (empty_node i).comments ≡ []
+unfolding empty_node
+bare_comments i = refl
+
+pub bare_alike : {x : Node} (i : ℕ) → Meant x (empty_node i) → Alike Anywhere x bare_node
+bare_alike {x} i a =
+    let same : a.node ≡ bare_node = (node_unique a.node bare_node [] [] (append-nil (flat a.node) ∙ (sym a.events ∙ bare_events i))).0 in
+    subst (λ z. Alike Anywhere x z) same a.alike
 
 abbrev pub entry_at : ℕ → Option ℕ → Entry
 entry_at q colon = record { start = q; colon = colon; blank_before = false }
 
-module _ {t : List ℕ} {s : Style} {m : ℕ} where
+module _ {t : List ℕ} {s : Setting} {m : ℕ} where
   pub found_behind : {x : Node} {meaning : Meaning} {ps : List PlacedRow} (cs : List CommentValue) → FoundNode t s m x meaning ps → FoundNode t s m x (behind cs meaning) ps
   unfolding behind
   found_behind cs a = record { node = a.node; alike = a.alike; events = a.events; escapes = a.escapes; rows = a.rows }
@@ -198,13 +230,8 @@ module _ {t : List ℕ} {s : Style} {m : ℕ} where
   unfolding noting
   found_noting cs a = record { node = a.node; alike = a.alike; events = a.events; escapes = a.escapes; rows = a.rows }
 
-  -- an empty node
   pub found_nothing : {x : Node} (i : ℕ) → Meant x (empty_node i) → FoundNode t s m x (empty_node i) []
-  unfolding empty_node plain_event
-  found_nothing i a =
-      let bare : Node = scalar (record { span = None; tag_offset = None; entry = None }) no_props Plain [] [] in
-      let same : a.node ≡ bare = (node_unique a.node bare [] [] (append-nil (flat a.node) ∙ (sym a.events))).0 in
-      record { node = bare; alike = subst (λ z. Alike Anywhere _ z) same a.alike; events = refl; escapes = a.escapes; rows = no_rows refl }
+  found_nothing i a = record { node = bare_node; alike = bare_alike i a; events = bare_events i; escapes = bare_escapes i; rows = no_rows refl }
 
   pub found_entering : {x : Node} {meaning : Meaning} {ps : List PlacedRow} (q : ℕ) (colon : Option ℕ) → FoundNode t s m x meaning ps → FoundNode t s m x (entering q colon meaning) ps
   unfolding entering
@@ -217,7 +244,7 @@ module _ {t : List ℕ} {s : Style} {m : ℕ} where
   }
 
   -- an item behind its sign, which stands at q
-  pub found_item : {x : Node} {meaning : Meaning} {ps hs : List PlacedRow} (q : ℕ) → FoundNode t s (m + s.indent) x meaning ps → SignRows (q ∷ []) ps hs → FoundItem t s m x (entering q None meaning) hs
+  pub found_item : {x : Node} {meaning : Meaning} {ps hs : List PlacedRow} (q : ℕ) → FoundNode t s (m + s.style.indent) x meaning ps → SignRows (q ∷ []) ps hs → FoundItem t s m x (entering q None meaning) hs
   unfolding entering
   found_item {ps = ps} {hs = hs} q a b = record {
     inner = ps;
@@ -272,8 +299,8 @@ module _ {t : List ℕ} {s : Style} {m : ℕ} where
   }
 
   -- a pair whose key stands behind a `?` at q, and its value behind a `:` at colon
-  pub found_explicit : {k v : Node} {one two : Meaning} {ps hs qs gs : List PlacedRow} (q colon : ℕ) → is_implicit s m k ≡ false → FoundNode t s (m + s.indent) k one ps → SignRows (q ∷ []) ps hs
-      → FoundNode t s (m + s.indent) v two qs → SignRows (colon ∷ []) qs gs → FoundPair t s m k v (entering q (Some colon) one ⊕ two) (hs ++ gs)
+  pub found_explicit : {k v : Node} {one two : Meaning} {ps hs qs gs : List PlacedRow} (q colon : ℕ) → is_implicit s.style m k ≡ false → FoundNode t s (m + s.style.indent) k one ps → SignRows (q ∷ []) ps hs
+      → FoundNode t s (m + s.style.indent) v two qs → SignRows (colon ∷ []) qs gs → FoundPair t s m k v (entering q (Some colon) one ⊕ two) (hs ++ gs)
   unfolding entering ◌⊕◌
   found_explicit {k} {v} {one} {two} {ps} {hs} {qs} {gs} q colon e a f b g =
       let entry : Entry = entry_at q (Some colon) in
@@ -285,16 +312,16 @@ module _ {t : List ℕ} {s : Style} {m : ℕ} where
         alike_value = b.alike;
         events = ap (λ z. z ++ two.events) (ap (first_entering entry) a.events ∙ entered_events entry a.node) ∙ ap (λ z. flat (entered entry a.node) ++ z) b.events;
         escapes = ap (λ z. z ++ two.escapes) a.escapes ∙ b.escapes;
-        rows = explicit_rows (sym (same_implicit s m alike) ∙ e) (rows_entered entry a.rows) (subst (λ o. SignRows (starts_of_entry o) ps hs) (sym (entry_entered entry a.node)) f)
+        rows = explicit_rows (sym (same_implicit s.style m alike) ∙ e) (rows_entered entry a.rows) (subst (λ o. SignRows (starts_of_entry o) ps hs) (sym (entry_entered entry a.node)) f)
             b.rows (subst (λ o. SignRows (colon_offset o) qs gs) (sym (entry_entered entry a.node)) g);
       }
 
   -- an implicit key, which begins at q and whose `:` stands at colon, and its value
-  pub found_implicit : {k v : Node} {two : Meaning} {ps hs : List PlacedRow} (one : Meaning) (q colon : ℕ) (key : Node) (b : Bool) → is_implicit s m k ≡ true → Alike Anywhere k key → one.events ≡ flat key → one.escapes ≡ []
-      → NodeStands t q (colon + 1) key → HeadAt q (colon + 1) hs → FoundNode t s (value_entries s m v) v two ps → KeyRows (q ∷ items_in key) (leaves key) b (begins_below v) ps hs
+  pub found_implicit : {k v : Node} {two : Meaning} {ps hs : List PlacedRow} (one : Meaning) (q colon : ℕ) (key : Node) (b : Bool) → b ≡ is_some (key_comment s.comments k v) → is_implicit s.style m k ≡ true → Alike Anywhere k key → one.events ≡ flat key → one.escapes ≡ []
+      → NodeStands t q colon key → HeadAt q (colon + 1) hs → FoundNode t s (value_entries s.style m v) v two ps → KeyRows (q ∷ items_in key) (leaves key) b (begins_below v) ps hs
       → FoundPair t s m k v (entering q (Some colon) one ⊕ two) hs
   unfolding entering ◌⊕◌
-  found_implicit {k} {v} {two} {ps} {hs} one q colon key b e a events escapes st head value rows =
+  found_implicit {k} {v} {two} {ps} {hs} one q colon key b flag e a events escapes st head value rows =
       let entry : Entry = entry_at q (Some colon) in
       let alike : Alike Anywhere k (entered entry key) = alike_entered entry a in
       let items : q ∷ items_in key ≡ entry_start (entered entry key) ++ items_in (entered entry key) =
@@ -310,8 +337,8 @@ module _ {t : List ℕ} {s : Style} {m : ℕ} where
         alike_value = value.alike;
         events = ap (λ z. z ++ two.events) (ap (first_entering entry) events ∙ entered_events entry key) ∙ ap (λ z. flat (entered entry key) ++ z) value.events;
         escapes = ap (λ z. z ++ two.escapes) escapes ∙ value.escapes;
-        rows = implicit_rows b (sym (same_implicit s m alike) ∙ e) (key_at (stands_entered entry st) head)
-            (subst (λ z. NodeRows t s z value.node ps) (ap (λ z. if z && not s.seq_indent then m else m + s.indent) (same_sequence value.alike)) value.rows) moved;
+        rows = implicit_rows b flag (sym (same_implicit s.style m alike) ∙ e) (key_at (stands_entered entry st) (ap (λ o. entry_or 0 o) (entry_entered entry key)) head)
+            (subst (λ z. NodeRows t s z v value.node ps) (ap (λ z. if z && not s.style.seq_indent then m else m + s.style.indent) (same_sequence value.alike)) value.rows) moved;
       }
 
 -- Collections.
@@ -319,49 +346,49 @@ module _ {t : List ℕ} {s : Style} {m : ℕ} where
 abbrev spanned : ℕ → ℕ → Option ℕ → Standing
 spanned i j o = record { span = from_to i j; tag_offset = o; entry = None }
 
-module _ {t : List ℕ} {s : Style} {m : ℕ} where
-  pub found_sequence : {at : Standing} {xs : Items} {meaning : Meaning} {ps : List PlacedRow} (i j : ℕ) → is_some at.span ≡ true → FoundItems t s m xs meaning ps
+module _ {t : List ℕ} {s : Setting} {m : ℕ} where
+  pub found_sequence : {at : Standing} {xs : Items} {meaning : Meaning} {ps : List PlacedRow} (i j : ℕ) → is_some at.span ≡ true → is_block_collection (sequence at false no_props xs) ≡ true → FoundItems t s m xs meaning ps
       → FoundNode t s m (sequence at false no_props xs) (collection true false i j meaning) ps
   unfolding collection plain_event from_to
-  found_sequence i j e a = record {
+  found_sequence {at = at} {xs = xs} i j e n a = record {
     node = sequence (spanned i j None) false no_props a.items;
     alike = alike_sequences e a.alike;
     events = ap (λ z. placed (spanned i j None) (sequence_starts false no_props) [] ∷ (z ++ (unplaced sequence_ends ∷ []))) a.events;
     escapes = a.escapes;
-    rows = sequence_rows refl a.rows;
+    rows = sequence_rows (sym (same_block {K = Anywhere} {x = sequence at false no_props xs} {y = sequence (spanned i j None) false no_props a.items} (alike_sequences e a.alike)) ∙ n) refl a.rows;
   }
 
-  pub found_mapping : {at : Standing} {xs : Pairs} {meaning : Meaning} {ps : List PlacedRow} (i j : ℕ) → is_some at.span ≡ true → FoundPairs t s m xs meaning ps
+  pub found_mapping : {at : Standing} {xs : Pairs} {meaning : Meaning} {ps : List PlacedRow} (i j : ℕ) → is_some at.span ≡ true → is_block_collection (mapping at false no_props xs) ≡ true → FoundPairs t s m xs meaning ps
       → FoundNode t s m (mapping at false no_props xs) (collection false false i j meaning) ps
   unfolding collection plain_event from_to
-  found_mapping i j e a = record {
+  found_mapping {at = at} {xs = xs} i j e n a = record {
     node = mapping (spanned i j None) false no_props a.pairs;
     alike = alike_mappings e a.alike;
     events = ap (λ z. placed (spanned i j None) (mapping_starts false no_props) [] ∷ (z ++ (unplaced mapping_ends ∷ []))) a.events;
     escapes = a.escapes;
-    rows = mapping_rows refl a.rows;
+    rows = mapping_rows (sym (same_block {K = Anywhere} {x = mapping at false no_props xs} {y = mapping (spanned i j None) false no_props a.pairs} (alike_mappings e a.alike)) ∙ n) refl a.rows;
   }
 
   pub found_sequence_with : {at : Standing} {xs : Items} {meaning : Meaning} {h : PlacedRow} {ps : List PlacedRow} (p : PropsValue) (o : Option ℕ) (f g i j : ℕ) → is_some at.span ≡ true
-      → is_empty_text (props_text p) ≡ false → h.items ≡ [] → h.leaves ≡ [] → h.commented ≡ false → FoundItems t s m xs meaning ps
+      → is_block_collection (sequence at false p xs) ≡ true → is_empty_text (props_text p) ≡ false → h.items ≡ [] → h.leaves ≡ [] → h.commented ≡ false → FoundItems t s m xs meaning ps
       → FoundNode t s m (sequence at false p xs) (with_props p o f g (collection true false i j meaning)) (h ∷ ps)
   unfolding collection plain_event from_to with_props
-  found_sequence_with p o f g i j e n k l c a = record {
+  found_sequence_with {at = at} {xs = xs} p o f g i j e b n k l c a = record {
     node = sequence (spanned f j o) false p a.items;
     alike = alike_sequences e a.alike;
     events = ap (λ z. placed (spanned f j o) (sequence_starts false p) [] ∷ (z ++ (unplaced sequence_ends ∷ []))) a.events;
     escapes = a.escapes;
-    rows = sequence_behind n k l c a.rows;
+    rows = sequence_behind (sym (same_block {K = Anywhere} {x = sequence at false p xs} {y = sequence (spanned f j o) false p a.items} (alike_sequences e a.alike)) ∙ b) n k l c a.rows;
   }
 
   pub found_mapping_with : {at : Standing} {xs : Pairs} {meaning : Meaning} {h : PlacedRow} {ps : List PlacedRow} (p : PropsValue) (o : Option ℕ) (f g i j : ℕ) → is_some at.span ≡ true
-      → is_empty_text (props_text p) ≡ false → h.items ≡ [] → h.leaves ≡ [] → h.commented ≡ false → FoundPairs t s m xs meaning ps
+      → is_block_collection (mapping at false p xs) ≡ true → is_empty_text (props_text p) ≡ false → h.items ≡ [] → h.leaves ≡ [] → h.commented ≡ false → FoundPairs t s m xs meaning ps
       → FoundNode t s m (mapping at false p xs) (with_props p o f g (collection false false i j meaning)) (h ∷ ps)
   unfolding collection plain_event from_to with_props
-  found_mapping_with p o f g i j e n k l c a = record {
+  found_mapping_with {at = at} {xs = xs} p o f g i j e b n k l c a = record {
     node = mapping (spanned f j o) false p a.pairs;
     alike = alike_mappings e a.alike;
     events = ap (λ z. placed (spanned f j o) (mapping_starts false p) [] ∷ (z ++ (unplaced mapping_ends ∷ []))) a.events;
     escapes = a.escapes;
-    rows = mapping_behind n k l c a.rows;
+    rows = mapping_behind (sym (same_block {K = Anywhere} {x = mapping at false p xs} {y = mapping (spanned f j o) false p a.pairs} (alike_mappings e a.alike)) ∙ b) n k l c a.rows;
   }

@@ -24,7 +24,7 @@ layouts_are_texts m s trees fit remarks trails =
 -- what is laid out is derived again, with its leaves and comments in the order in which they were laid out
 pub layouts_are_laid : (m : Lists) (s : Style) (trees : List DocumentTree) → FitDocuments m.documents trees → AreRemarks m.comments
     → TrailsFit (source_of m (rows_of m s trees)) (rows_of m s trees)
-    → StreamLaid (layout m s trees) m.documents trees (first_gap m (rows_of m s trees)) (rows_of m s trees) (row_decos m (rows_of m s trees))
+    → StreamLaid (layout m s trees) (setting_of m s) m.documents trees (first_gap m (rows_of m s trees)) (rows_of m s trees) (row_decos m (rows_of m s trees))
 layouts_are_laid m s trees fit remarks trails =
     let fits = all_fit m (rows_of m s trees) trails remarks in
     layout_derived (setting_of m s) (first_gap m (rows_of m s trees)) (row_decos m (rows_of m s trees)) fit (layouts_are_texts m s trees fit remarks trails) fits.0 fits.1

@@ -101,6 +101,8 @@ pub mod KeysMade
 pub mod CollectionsMade
 pub mod TreesMade
 pub mod DocumentsMade
+pub mod DocumentsHeld
+pub mod StreamParts
 pub mod StreamsMade
 pub mod LayoutLawsHold
 -- trees that are alike up to places are laid out alike (a second run changes nothing)
@@ -180,6 +182,19 @@ pub mod ScalarHeld
 pub mod DirectiveEnds
 pub mod FormattedHeld
 pub mod TidyTexts
+pub mod LineSorts
 pub mod LinedRows
 pub mod GapSpread
 pub mod LeadRows
+pub mod SetNodes
+pub mod FlowEvents
+pub mod FoundLines
+pub mod FoundStreams
+pub mod FoundQuiet
+pub mod FoundAgree
+pub mod FoundKeys
+pub mod BareNodes
+pub mod BareTrees
+pub mod FoundTexts
+pub mod FixedBlocks
+pub mod FixedLawsHold

@@ -1,13 +1,14 @@
 -- What it means that the rows of a node, wherever they stand with what they carry, are derived as that node; leaves on one line, and nodes
 -- after a sign.
-use Rattle.std.proofs.Common.{◌≡◌, ℕ, ◌+◌, ◌-◌, ◌<◌, ◌≤◌, ℤ, pos, Bool, true, false, List, [], ◌∷◌, ◌++◌, length, replicate, refl, sym, ap, ◌∙◌, subst, arith, append_assoc, append-nil, ◌⊎◌, inl, inr}
-use Rattle.std.specs.Prelude.{◌≤ℤ◌, ◌+ℤ◌, not, None}
+use Rattle.std.proofs.Common.{◌≡◌, ◌≢◌, ℕ, ◌+◌, ◌-◌, ◌<◌, ◌≤◌, ℤ, pos, Bool, true, false, List, [], ◌∷◌, ◌++◌, length, replicate, refl, sym, ap, ◌∙◌, subst, arith, append_assoc, append-nil, ◌⊎◌, inl, inr}
+use Rattle.std.specs.Prelude.{◌≤ℤ◌, ◌+ℤ◌, not, is_some, None}
 use Rattle.std.specs.Str.{IsUtf8}
 use Rattle.yf_chars.specs.declared.context.Ctx.{Ctx}
 use Rattle.yf_chars.specs.declared.context.Ctx.TheVariants.{FlowOut}
 use Rattle.yf_chars.specs.Text.{code}
 use Rattle.yf_lines.specs.Basic.{is_block, LineStart}
 use Rattle.yf_lines.proofs.RestLemmas.{Rest, rest_ascii, rest_spaces, rest_text}
+use Rattle.yf_comments.specs.Comment.{CommentValue}
 use Rattle.yf_comments.proofs.GapLinesLemmas.{texts}
 use Rattle.yf_block_scalar.specs.Body.{base}
 use Rattle.yf_events.specs.Tree.{Node, leaves, is_sequence}
@@ -19,33 +20,35 @@ use Rattle.yf_grammar.proofs.BlankRuns.{behind_byte}
 use Rattle.yf_grammar.proofs.CommentOrder.{end_ascends}
 use Rattle.yf_grammar.proofs.FlowBack.{visible_at}
 use Rattle.yf_grammar.proofs.LeafBack.{any_follow}
-use Rattle.yf_grammar.proofs.MeantLemmas.{meant_noting, texts_noting, texts_empty}
+use Rattle.yf_grammar.proofs.MeantLemmas.{texts_noting, texts_empty}
 use Rattle.yf_grammar.proofs.NodesBehind.{node_behind}
 use Rattle.yf_grammar.proofs.PlacesDerived.{places}
-use Rattle.yf_emit.specs.declared.style.Style.{Style}
 use Rattle.yf_emit.specs.Carried.{AreDecos, carried_texts, comments_in, Calm}
 use Rattle.yf_emit.specs.Decorated.{Deco, first, after, trails_then, end_then, lines_then, inline_then}
-use Rattle.yf_emit.specs.Fits.{LineNode}
-use Rattle.yf_emit.specs.Normal.{Spot}
+use Rattle.yf_emit.specs.Fits.{LineNode, is_inline}
+use Rattle.yf_emit.specs.Normal.{Setting, Spot}
 use Rattle.yf_emit.specs.OneLine.{written}
 use Rattle.yf_emit.specs.Rows.{Row, anywhere, joined, begins_below}
 use Rattle.yf_emit.specs.Steps.{steps_in}
 use Rattle.yf_emit.proofs.HeldLemmas.{Held, empty_silent, held_joined, held_line, row_ended}
+use Rattle.yf_emit.proofs.FoundLines.{line_found}
+use Rattle.yf_emit.proofs.FoundNodes.{FoundNode, SignRows, sign_alone, sign_joined, found_noting, found_nothing}
 use Rattle.yf_emit.proofs.LaidRows.{laid_row, laid_line}
 use Rattle.yf_emit.proofs.NodePlaces.{NodeAt, leaf_at, behind_sign_at}
+use Rattle.yf_emit.proofs.PlacedRows.{Inside, none_inside, one_inside, PlacedRow, RowsIn, last_row, row_before, joined_placed, rows_joined}
 use Rattle.yf_emit.proofs.RowEnds.{row_end, end_follows, first_deco}
 use Rattle.yf_emit.proofs.SeenTexts.{ascii_ns}
 use Rattle.yf_emit.proofs.StepsStand.{MeaningLaid, laid_after, laid_empty}
 
 -- where a node stands in its block: in a block context, its entries at a column at which they may stand, and the lines of a block scalar
 -- so many columns right of the indentation around it
-pub record Stood (s : Style) (x : Node) (n : ℤ) (c : Ctx) (spot : Spot) : Type 0 where
+pub record Stood (s : Setting) (x : Node) (n : ℤ) (c : Ctx) (spot : Spot) : Type 0 where
   pub block : is_block c ≡ true
   pub least : least_column (is_sequence x) n c ≤ℤ pos spot.entries
-  pub lines : spot.lines ≡ base n + s.indent
+  pub lines : spot.lines ≡ base n + s.style.indent
 
 -- the node whose first row's text stands at q, up to the row that r begins with
-pub record NodeMade (t : List ℕ) (n : ℤ) (c : Ctx) (m : ℕ) (x : Node) (rs : List Row) (ds : List Deco) (q : ℕ) (r : List ℕ) : Type 0 where
+pub record NodeMade (t : List ℕ) (s : Setting) (n : ℤ) (c : Ctx) (m : ℕ) (x : Node) (rs : List Row) (ds : List Deco) (q : ℕ) (r : List ℕ) : Type 0 where
   pub height : ℕ
   pub place : ℕ
   pub meaning : Meaning
@@ -53,36 +56,39 @@ pub record NodeMade (t : List ℕ) (n : ℤ) (c : Ctx) (m : ℕ) (x : Node) (rs 
   pub low : height ≤ tall x
   pub rest : Rest t place r
   pub start : LineStart t place
-  pub meant : Meant x meaning
+  pub found_rows : List PlacedRow
+  pub meant : FoundNode t s m x meaning found_rows
   pub is : texts meaning.comments ≡ comments_in rs ds
   pub laid : MeaningLaid q place meaning (steps_in rs ds)
   pub held : Held t meaning rs ds r
+  pub placed : RowsIn t rs found_rows ds q meaning.comments place r
 
-pub record Makes (s : Style) (x : Node) (spot : Spot) (rs : List Row) : Type 0 where
+pub record Makes (s : Setting) (x : Node) (spot : Spot) (rs : List Row) : Type 0 where
   pub made : {t : List ℕ} (n : ℤ) (c : Ctx) (ds : List Deco) (r : List ℕ) (q : ℕ) → IsUtf8 t → Stood s x n c spot → AreDecos ds → Calm rs ds r
-      → Rest t q (inline_then rs ds r) → NodeMade t n c spot.entries x rs ds q r
+      → Rest t q (inline_then rs ds r) → NodeMade t s n c spot.entries x rs ds q r
 
 -- what is shown of a node and its rows: it has none and means nothing, or they are derived as the node
 pub record MeansNothing (x : Node) : Type 0 where
   pub meant : (i : ℕ) → Meant x (empty_node i)
 
-pub data Claim (s : Style) (x : Node) (spot : Spot) : List Row → Type 0 where
+pub data Claim (s : Setting) (x : Node) (spot : Spot) : List Row → Type 0 where
   no_row : MeansNothing x → Claim s x spot []
   some_rows : {r : Row} {rs : List Row} → (begins_below x ≡ false → r.column ≡ spot.column) → (begins_below x ≡ true → r.column ≡ spot.entries)
       → Makes s x spot (r ∷ rs) → Claim s x spot (r ∷ rs)
 
 -- A leaf or a flow collection on one line.
 
-pub line_made : {t : List ℕ} {s : Style} {x : Node} {r : Row} (spot : Spot) (n : ℤ) (c : Ctx) (ds : List Deco) (z : List ℕ) (q : ℕ) → begins_below x ≡ false
-    → r.text ≡ written x → r.body ≡ [] → length r.leaves ≡ length (leaves x) → LineNode FlowOut x → IsUtf8 t → Stood s x n c spot → AreDecos ds → Rest t q (inline_then (r ∷ []) ds z)
-    → NodeMade t n c spot.entries x (r ∷ []) ds q z
-line_made {t} {s} {x} {r} spot n c ds z q b text body count node u stood a w =
+pub line_made : {t : List ℕ} {s : Setting} {x : Node} {r : Row} (spot : Spot) (n : ℤ) (c : Ctx) (ds : List Deco) (z : List ℕ) (q : ℕ) → begins_below x ≡ false
+    → is_inline x ≡ true → written x ≢ [] → is_some r.key_comment ≡ false → r.text ≡ written x → r.body ≡ [] → length r.leaves ≡ length (leaves x) → LineNode FlowOut x → IsUtf8 t → Stood s x n c spot → AreDecos ds → Rest t q (inline_then (r ∷ []) ds z)
+    → NodeMade t s n c spot.entries x (r ∷ []) ds q z
+line_made {t} {s} {x} {r} spot n c ds z q b inline some key text body count node u stood a w =
     let there : Rest t q (written x ++ end_then (first ds) [] z) =
     subst (λ l. Rest t q (written x ++ end_then (first ds) l z)) body (subst (λ v. Rest t q (v ++ end_then (first ds) r.body z)) text w) in
     let derived = node.back.made (n +ℤ pos 1) q (end_then (first ds) [] z) u (any_follow node.colon (end_follows (first ds) [] z)) there in
     let behind_text = rest_text (written x) u node.back.line there in
     let end = row_end (first ds) z u (first_deco a) behind_text.rest in
     let at = leaf_at {c = c} spot.entries stood.block (flow_node derived) end.end in
+    let found = line_found {row = r} s spot.entries ds inline some text key (places u derived refl) (node.meant q) (node.silent q) (end_ascends end.end) end.is end.start end.rest in
     record {
       height = node.height;
       place = end.place;
@@ -91,7 +97,9 @@ line_made {t} {s} {x} {r} spot n c ds z q b text body count node u stood a w =
       low = node.low;
       rest = end.rest;
       start = end.start;
-      meant = meant_noting end.comments (node.meant q);
+      found_rows = found.found_rows;
+      meant = found.meant;
+      placed = found.placed;
       is = texts_noting (node.mean q) end.comments ∙ (ap (λ k. texts k ++ texts end.comments) (node.silent q) ∙ (end.is ∙ sym (append-nil (carried_texts (first ds)))));
       laid = laid_row (node.mean q) end.comments r.leaves (laid_line r.leaves (places u derived refl) (node.meant q) (node.silent q) count) (end_ascends end.end) end.is;
       held = held_line (node.mean q) end.comments r ds z body (node.silent q) (row_ended (first ds) z u (node_behind u derived) (first_deco a) behind_text.rest end.end);
@@ -103,7 +111,7 @@ abbrev pub sign_row : ℕ → ℕ → List ℕ → Bool → Row
 sign_row column sign items blank =
     record { column = column; text = sign ∷ []; items = items; leaves = []; key_comment = None; blank_before = blank; ending = anywhere; body = []; lines = 0 }
 
-pub record SignMade (t : List ℕ) (a : ℕ) (c : Ctx) (sign : ℕ) (x : Node) (rs : List Row) (ds : List Deco) (q : ℕ) (r : List ℕ) : Type 0 where
+pub record SignMade (t : List ℕ) (s : Setting) (a : ℕ) (c : Ctx) (sign : ℕ) (x : Node) (rs : List Row) (ds : List Deco) (q : ℕ) (r : List ℕ) : Type 0 where
   pub height : ℕ
   pub place : ℕ
   pub meaning : Meaning
@@ -113,22 +121,51 @@ pub record SignMade (t : List ℕ) (a : ℕ) (c : Ctx) (sign : ℕ) (x : Node) (
   pub low : height ≤ tall x
   pub rest : Rest t place r
   pub start : LineStart t place
-  pub meant : Meant x meaning
+  pub inner : List PlacedRow
+  pub meant : FoundNode t s (a + s.style.indent) x meaning inner
   pub is : texts meaning.comments ≡ comments_in rs ds
   pub laid : MeaningLaid q place meaning (steps_in rs ds)
   pub held : Held t meaning rs ds r
+  pub found_rows : List PlacedRow
+  pub signed : SignRows (q ∷ []) inner found_rows
+  pub placed : RowsIn t rs found_rows ds q meaning.comments place r
 
 end_code : {t : List ℕ} {q : ℕ} (xs : List (List ℕ)) (r : List ℕ) → IsUtf8 t → Rest t q (trails_then xs (10 ∷ r)) → (code t q ≡ 32) ⊎ (code t q ≡ 10)
 end_code [] r u s = inr (rest_ascii 10 u (omega arith) (λ e. absurd (omega arith)) s).0.char
 end_code (x ∷ xs) r u s = inl (rest_ascii 32 u (omega arith) (λ e. absurd (omega arith)) s).0.char
 
-pub sign_made : {t : List ℕ} {s : Style} {x : Node} {spot : Spot} {rs : List Row} (a sign : ℕ) (column : ℕ) (items : List ℕ) (blank : Bool) (c : Ctx) (ds : List Deco) (r : List ℕ) (q : ℕ)
-    → 33 ≤ sign → sign < 127 → 2 ≤ s.indent → Claim s x spot rs → spot.entries ≡ a + s.indent → IsUtf8 t → Stood s x (pos a) c spot → AreDecos ds
-    → Calm (joined (sign_row column sign items blank) (s.indent - 1) rs) ds r → Rest t q (inline_then (joined (sign_row column sign items blank) (s.indent - 1) rs) ds r)
-    → SignMade t a c sign x (joined (sign_row column sign items blank) (s.indent - 1) rs) ds q r
+-- an empty node has no comments of its own
+pub noting_nothing : (k : ℕ) (cs : List CommentValue) → (noting (empty_node k) cs).comments ≡ cs
+unfolding noting empty_node
+noting_nothing k cs = refl
+
+-- the rows of a node behind a sign at q
+record Behind (t : List ℕ) (rs : List Row) (inner : List PlacedRow) (ds : List Deco) (q : ℕ) (cs : List CommentValue) (place : ℕ) (r : List ℕ) : Type 0 where
+  found_rows : List PlacedRow
+  signed : SignRows (q ∷ []) inner found_rows
+  placed : RowsIn t rs found_rows ds q cs place r
+
+rows_behind : {t : List ℕ} {y : Row} {ys : List Row} {ps : List PlacedRow} {ds : List Deco} {i place : ℕ} {cs : List CommentValue} {r : List ℕ} (sign column : ℕ) (items : List ℕ) (blank : Bool) (n q : ℕ)
+    → i ≡ q + 1 + n → RowsIn t (y ∷ ys) ps ds i cs place r → Behind t (joined (sign_row column sign items blank) n (y ∷ ys)) ps ds q cs place r
+rows_behind sign column items blank n q e (last_row {p = p} at end w) = record {
+  found_rows = joined_placed (q ∷ []) [] q p ∷ [];
+  signed = sign_joined refl refl refl (let f = at.from in omega (arith, e, f)) refl;
+  placed = rows_joined (sign_row column sign items blank) n q q [] [] e (one_inside (omega arith) (omega (arith, e)) none_inside) none_inside (last_row at end w);
+}
+rows_behind sign column items blank n q e (row_before {p = p} {ps = ps} at end w more) = record {
+  found_rows = joined_placed (q ∷ []) [] q p ∷ ps;
+  signed = sign_joined refl refl refl (let f = at.from in omega (arith, e, f)) refl;
+  placed = rows_joined (sign_row column sign items blank) n q q [] [] e (one_inside (omega arith) (omega (arith, e)) none_inside) none_inside (row_before at end w more);
+}
+
+pub sign_made : {t : List ℕ} {s : Setting} {x : Node} {spot : Spot} {rs : List Row} (a sign : ℕ) (column : ℕ) (items : List ℕ) (blank : Bool) (c : Ctx) (ds : List Deco) (r : List ℕ) (q : ℕ)
+    → 33 ≤ sign → sign < 127 → 2 ≤ s.style.indent → Claim s x spot rs → spot.entries ≡ a + s.style.indent → IsUtf8 t → Stood s x (pos a) c spot → AreDecos ds
+    → Calm (joined (sign_row column sign items blank) (s.style.indent - 1) rs) ds r → Rest t q (inline_then (joined (sign_row column sign items blank) (s.style.indent - 1) rs) ds r)
+    → SignMade t s a c sign x (joined (sign_row column sign items blank) (s.style.indent - 1) rs) ds q r
 sign_made {t} {s} {x} {spot} a sign column items blank c ds r q low high wide (no_row m) e u stood k calm w =
     let at = visible_at sign u (omega (arith, low)) high w in
     let end = row_end (first ds) r u (first_deco k) at.1 in
+    let row : PlacedRow = record { items = q ∷ []; leaves = []; commented = false; from = q; upto = q + 1 } in
     record {
       height = 0;
       place = end.place;
@@ -139,20 +176,33 @@ sign_made {t} {s} {x} {spot} a sign column items blank c ds r q low high wide (n
       low = omega arith;
       rest = end.rest;
       start = end.start;
-      meant = meant_noting end.comments (m.meant (q + 1));
+      inner = [];
+      meant = found_noting end.comments (found_nothing (q + 1) (m.meant (q + 1)));
+      found_rows = row ∷ [];
+      signed = sign_alone refl refl refl;
+      placed = subst (λ v. RowsIn t (sign_row column sign items blank ∷ []) (row ∷ []) ds q v end.place r) (sym (noting_nothing (q + 1) end.comments))
+          (last_row (record {
+            from = refl;
+            order = omega arith;
+            size = λ z. refl;
+            items = one_inside (omega arith) (omega arith) none_inside;
+            leaves = none_inside;
+            commented = refl;
+          }) (record { ascend = end_ascends end.end; is = end.is; start = end.start }) end.rest);
       is = texts_noting (empty_node (q + 1)) end.comments ∙ (ap (λ z. z ++ texts end.comments) (texts_empty (q + 1)) ∙ (end.is ∙ sym (append-nil (carried_texts (first ds)))));
       laid = laid_row (empty_node (q + 1)) end.comments [] (laid_empty (q + 1) (omega arith)) (end_ascends end.end) end.is;
       held = held_line (empty_node (q + 1)) end.comments (sign_row column sign items blank) ds r refl (empty_silent (q + 1))
           (row_ended (first ds) r u (behind_byte q u at.0 (omega arith) (ascii_ns sign low high)) (first_deco k) at.1 end.end);
     }
 sign_made {t} {s} {x} {spot} a sign column items blank c ds r q low high wide (some_rows {r = y} {rs = ys} f g m) e u stood k calm w =
-    let n : ℕ = s.indent - 1 in
+    let n : ℕ = s.style.indent - 1 in
     let same : (replicate n 32 ++ y.text) ++ end_then (first ds) y.body (lines_then ys (after ds) r) ≡ replicate n 32 ++ inline_then (y ∷ ys) ds r =
     append_assoc (replicate n 32) y.text (end_then (first ds) y.body (lines_then ys (after ds) r)) in
     let at = visible_at sign u (omega (arith, low)) high (subst (λ v. Rest t q (sign ∷ v)) same w) in
     let spaces = rest_spaces n (q + 1) u at.1 in
     let node = m.made (pos a) c ds r (q + 1 + n) u stood k calm spaces.1 in
     let zero_more : q + 1 + 0 ≡ q + 1 = omega arith in
+    let behind_it = rows_behind sign column items blank n q refl node.placed in
     record {
       height = node.height;
       place = node.place;
@@ -163,7 +213,11 @@ sign_made {t} {s} {x} {spot} a sign column items blank c ds r q low high wide (s
       low = node.low;
       rest = node.rest;
       start = node.start;
-      meant = node.meant;
+      inner = node.found_rows;
+      meant = subst (λ z. FoundNode t s z x node.meaning node.found_rows) e node.meant;
+      found_rows = behind_it.found_rows;
+      signed = behind_it.signed;
+      placed = behind_it.placed;
       is = node.is;
       laid = laid_after (omega arith) node.laid;
       held = held_joined (sign_row column sign items blank) n y ys ds r node.held;

@@ -43,7 +43,6 @@ pub record AtRow (x : Row) (i : ℕ) (p : PlacedRow) : Type 0 where
   pub items : Inside i p.upto p.items
   pub leaves : Inside i p.upto (starts_of p.leaves)
   pub commented : is_some x.key_comment ≡ p.commented
-  pub some : p.items ≡ [] → x.items ≡ []
 
 -- the comments after a row, up to the next line that is none
 pub record EndsRow (t : List ℕ) (d : Deco) (upto : ℕ) (own : List CommentValue) (place : ℕ) : Type 0 where
@@ -106,7 +105,6 @@ at_joined {y} {p} {i} head ys n q a items leaves e f g at x xs same =
       items = inside_join (inside_wider (omega arith) at.order f) (inside_wider (omega (arith, e)) (omega arith) at.items);
       leaves = subst (λ z. Inside q p.upto z) (sym (starts_append leaves p.leaves)) (inside_join (inside_wider (omega arith) at.order g) (inside_wider (omega (arith, e)) (omega arith) at.leaves));
       commented = at.commented;
-      some = λ z. absurd cc;
     }) where
       first_row : Row → List Row → Row
       first_row other [] = other

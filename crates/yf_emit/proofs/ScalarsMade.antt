@@ -29,13 +29,11 @@ use Rattle.yf_events.specs.Tree.{Standing, scalar, spans_of_leaf}
 use Rattle.yf_grammar.specs.Grammar.{Derives, BlockNode}
 use Rattle.yf_grammar.specs.Grammar.Derives.{a_block_scalar, a_block_scalar_with}
 use Rattle.yf_grammar.specs.Meaning.{Meaning, behind, first_with, with_props, from_to}
-use Rattle.yf_grammar.specs.Meant.{Meant}
-use Rattle.yf_grammar.proofs.CommentOrder.{scalar_ascends}
+use Rattle.yf_grammar.proofs.CommentOrder.{ascend_after, scalar_ascends}
 use Rattle.yf_grammar.proofs.FlowBack.{visible_line}
 use Rattle.yf_grammar.proofs.LeafBack.{behind_nothing, propertied}
 use Rattle.yf_grammar.proofs.MeantLemmas.{texts_with_props}
-use Rattle.yf_grammar.proofs.ScalarPlaced.{scalar_event}
-use Rattle.yf_emit.specs.declared.style.Style.{Style}
+use Rattle.yf_grammar.proofs.ScalarPlaced.{ScalarNode, scalar_event, scalar_placed}
 use Rattle.yf_emit.specs.BlockLines.{begins_with_space, block_lines, chomping_sign, content_lines, digit_text, final_feeds, header_text, is_kept_tail, line_at, style_sign}
 use Rattle.yf_emit.specs.BlockValues.{is_folded, chomp_of, digit_of, header_of}
 use Rattle.yf_emit.specs.Carried.{AreTrails, IsDeco, AreDecos, carried_texts, CalmBody}
@@ -50,8 +48,11 @@ use Rattle.yf_emit.proofs.BlockTexts.{style_written, digit_written, sign_written
 use Rattle.yf_emit.proofs.ClearRows.{unmarked_first, unmarked_nothing, line_indented, AreBodyTexts, no_body_text, body_text, place_of_rest}
 use Rattle.yf_emit.proofs.CollectionsMade.{same_props, some_props}
 use Rattle.yf_emit.proofs.HeldLemmas.{held_scalar}
+use Rattle.yf_emit.proofs.CollectionsMade.{comments_with_props, same_props, some_props}
+use Rattle.yf_emit.proofs.FoundNodes.{FoundNode, scalar_rows}
 use Rattle.yf_emit.proofs.NodePlaces.{apart_at, both_behind, block_no_key}
 use Rattle.yf_emit.proofs.NodesMade.{Stood, NodeMade, Claim, some_rows}
+use Rattle.yf_emit.proofs.PlacedRows.{none_inside, one_inside, PlacedRow, AtRow, RowsIn, last_row}
 use Rattle.yf_emit.proofs.RowEnds.{trails_at, first_deco}
 use Rattle.yf_emit.proofs.ScalarHeld.{AllSigns, behind_signs, signs_append, ScalarReached, passed_header, scalar_comments, scalar_reached}
 use Rattle.yf_emit.proofs.ScalarStands.{ScalarMade, style_back, bare_scalar, props_scalar}
@@ -244,11 +245,17 @@ scalar_at {t} {style} {text} {lines} indent n column d r q f wide near e u a cal
       seen = record { at = q + length header; behind = behind_signs header (end_then d body r) q u signs some w; rest = text_end.rest };
     }
 
+-- its row, on which it begins at q
+abbrev leaf_row : ℕ → ℕ → PlacedRow
+leaf_row q finish = record { items = q ∷ []; leaves = record { start = q; end = finish } ∷ []; commented = false; from = q; upto = q }
+
 -- its event
-bare_meant : {at : Standing} {style : ScalarStyle} {text : List ℕ} {lines : List (List ℕ)} (indent i : ℕ) (m : Meaning) → is_some at.span ≡ true → FitScalar style text lines
-    → m.events ≡ scalar_event (header_of style indent text) (content_lines style text lines) (final_feeds text - 1) i m.finish ∷ [] → m.escapes ≡ [] → Meant (scalar at no_props style text lines) m
+bare_found : {t : List ℕ} {at : Standing} {style : ScalarStyle} {text : List ℕ} {lines : List (List ℕ)} (s : Setting) (column indent i : ℕ) (m : Meaning) → is_some at.span ≡ true → FitScalar style text lines
+    → m.events ≡ scalar_event (header_of style indent text) (content_lines style text lines) (final_feeds text - 1) i m.finish ∷ [] → m.escapes ≡ []
+    → FoundNode t s column (scalar at no_props style text lines) m (leaf_row i m.finish ∷ [])
 unfolding from_to
-bare_meant {style = style} {text = text} {lines = lines} indent i m e f events escapes = record {
+bare_found {style = style} {text = text} {lines = lines} s column indent i m e f events escapes = record {
+  rows = scalar_rows f.block (one_inside (omega arith) (omega arith) none_inside) refl refl refl;
   node = scalar (record { span = from_to i m.finish; tag_offset = None; entry = None }) no_props style text lines;
   alike = alike_scalars e;
   events = events ∙ λ z. record {
@@ -261,10 +268,12 @@ bare_meant {style = style} {text = text} {lines = lines} indent i m e f events e
   escapes = escapes;
 }
 
-props_meant : {at : Standing} {style : ScalarStyle} {text : List ℕ} {lines : List (List ℕ)} (indent i q g : ℕ) (p : PropsValue) (o : Option ℕ) (m : Meaning) → is_some at.span ≡ true → FitScalar style text lines
-    → m.events ≡ scalar_event (header_of style indent text) (content_lines style text lines) (final_feeds text - 1) i m.finish ∷ [] → m.escapes ≡ [] → Meant (scalar at p style text lines) (with_props p o q g m)
+props_found : {t : List ℕ} {at : Standing} {style : ScalarStyle} {text : List ℕ} {lines : List (List ℕ)} (s : Setting) (column indent i q g : ℕ) (p : PropsValue) (o : Option ℕ) (m : Meaning) → is_some at.span ≡ true
+    → FitScalar style text lines → m.events ≡ scalar_event (header_of style indent text) (content_lines style text lines) (final_feeds text - 1) i m.finish ∷ [] → m.escapes ≡ []
+    → FoundNode t s column (scalar at p style text lines) (with_props p o q g m) (leaf_row q m.finish ∷ [])
 unfolding from_to with_props
-props_meant {style = style} {text = text} {lines = lines} indent i q g p o m e f events escapes = record {
+props_found {style = style} {text = text} {lines = lines} s column indent i q g p o m e f events escapes = record {
+  rows = scalar_rows f.block (one_inside (omega arith) (omega arith) none_inside) refl refl refl;
   node = scalar (record { span = from_to q m.finish; tag_offset = o; entry = None }) p style text lines;
   alike = alike_scalars e;
   events = ap (λ es. first_with p o q g es) events ∙ λ z. record {
@@ -289,6 +298,21 @@ spaced_some [] y e f = absurd (true≢false e)
 spaced_some (b ∷ x) [] e f = absurd (true≢false f)
 spaced_some (b ∷ x) (c ∷ y) e f = refl
 
+-- the lines are some
+body_some : (column n : ℕ) (ls : List (List ℕ)) → EndsWithContent ls → map (line_at column) (ls ++ replicate n []) ≡ [] → ⊥
+body_some column n [] last e = last
+body_some column n (x ∷ ls) last e = absurd cc
+
+leaf_stands : {row : Row} {q : ℕ} (finish : ℕ) → (row.body ≡ [] → ⊥) → is_some row.key_comment ≡ false → AtRow row q (leaf_row q finish)
+leaf_stands finish some key = record {
+  from = refl;
+  order = omega arith;
+  size = λ z. absurd (some z);
+  items = one_inside (omega arith) (omega arith) none_inside;
+  leaves = one_inside (omega arith) (omega arith) none_inside;
+  commented = key;
+}
+
 -- with properties
 pub header_with : {p : PropsValue} (style : ScalarStyle) (indent : ℕ) (text : List ℕ) → IsProps p → p ≢ no_props → spaced (props_text p) (header_text style indent text) ≡ props_bytes p ++ (32 ∷ header_text style indent text)
 header_with {p} style indent text k n =
@@ -306,17 +330,16 @@ scalar_steps : (row : Row) (ds : List Deco) → leaf_steps row.leaves ≡ a_leaf
 scalar_steps row ds e =
     ap (λ z. a_leaf ∷ z) (sym (append-nil (comment_steps (carried_texts (first ds))))) ∙ ap (λ z. z ++ (comment_steps (carried_texts (first ds)) ++ [])) (sym e)
 
-module _ {s : Style} {at : Standing} {style : ScalarStyle} {text : List ℕ} {lines : List (List ℕ)} (placed_at : is_some at.span ≡ true) (f : FitScalar style text lines) where
-  bare_made : {t : List ℕ} (row : Row) (spot : Spot) (n : ℤ) (c : Ctx) (ds : List Deco) (r : List ℕ) (q : ℕ) → row.text ≡ header_text style s.indent text → row.body ≡ block_lines style spot.lines text lines
-      → row.lines ≡ spot.lines
-      → leaf_steps row.leaves ≡ a_leaf ∷ [] → IsUtf8 t → Stood s (scalar at no_props style text lines) n c spot → AreDecos ds → CalmBody (block_lines style spot.lines text lines) spot.lines (tail_ending (is_kept_tail (final_feeds text))) (first ds).gap r
-      → Rest t q (inline_then (row ∷ []) ds r) → NodeMade t n c spot.entries (scalar at no_props style text lines) (row ∷ []) ds q r
-  bare_made {t} row spot n c ds r q said body said_lines leaf u stood a calm w =
-      let there : Rest t q (header_text style s.indent text ++ end_then (first ds) (block_lines style spot.lines text lines) r) =
-      subst (λ z. Rest t q (header_text style s.indent text ++ end_then (first ds) z r)) body (subst (λ z. Rest t q (z ++ end_then (first ds) row.body r)) said w) in
-      let made = scalar_at s.indent n spot.lines (first ds) r q f s.indent_from s.indent_to stood.lines u (first_deco a) calm there in
+module _ {s : Setting} {at : Standing} {style : ScalarStyle} {text : List ℕ} {lines : List (List ℕ)} (placed_at : is_some at.span ≡ true) (f : FitScalar style text lines) where
+  bare_made : {t : List ℕ} (row : Row) (spot : Spot) (n : ℤ) (c : Ctx) (ds : List Deco) (r : List ℕ) (q : ℕ) → row.text ≡ header_text style s.style.indent text → row.body ≡ block_lines style spot.lines text lines
+      → row.lines ≡ spot.lines → leaf_steps row.leaves ≡ a_leaf ∷ [] → is_some row.key_comment ≡ false → IsUtf8 t → Stood s (scalar at no_props style text lines) n c spot → AreDecos ds → CalmBody (block_lines style spot.lines text lines) spot.lines (tail_ending (is_kept_tail (final_feeds text))) (first ds).gap r
+      → Rest t q (inline_then (row ∷ []) ds r) → NodeMade t s n c spot.entries (scalar at no_props style text lines) (row ∷ []) ds q r
+  bare_made {t} row spot n c ds r q said body said_lines leaf key u stood a calm w =
+      let there : Rest t q (header_text style s.style.indent text ++ end_then (first ds) (block_lines style spot.lines text lines) r) =
+      subst (λ z. Rest t q (header_text style s.style.indent text ++ end_then (first ds) z r)) body (subst (λ z. Rest t q (z ++ end_then (first ds) row.body r)) said w) in
+      let made = scalar_at s.style.indent n spot.lines (first ds) r q f s.style.indent_from s.style.indent_to stood.lines u (first_deco a) calm there in
       let node = made.reached.node in
-      let text_end = rest_text (header_text style s.indent text) u (header_line style s.indent text s.indent_to) there in
+      let text_end = rest_text (header_text style s.style.indent text) u (header_line style s.style.indent text s.style.indent_to) there in
       let deep : 0 < spot.lines = above_zero n stood.lines in
       let begun = end_start (first ds) r u (first_deco a) (body_texts spot.lines (final_feeds text - 1) (content_lines style text lines) deep f.texts) text_end.rest in
       record {
@@ -327,29 +350,32 @@ module _ {s : Style} {at : Standing} {style : ScalarStyle} {text : List ℕ} {li
         low = omega arith;
         rest = node.rest;
         start = subst (λ j. LineStart t j) (place_of_rest begun.rest node.rest) begun.start;
-        meant = bare_meant s.indent q node.meaning placed_at f node.events node.escapes;
+        found_rows = leaf_row q node.meaning.finish ∷ [];
+        meant = bare_found s spot.entries s.style.indent q node.meaning placed_at f node.events node.escapes;
+        placed = last_row (leaf_stands node.meaning.finish (λ z. body_some spot.lines (final_feeds text - 1) (content_lines style text lines) f.last (sym body ∙ z)) key)
+            (record { ascend = scalar_ascends node.derived; is = node.is; start = subst (λ j. LineStart t j) (place_of_rest begun.rest node.rest) begun.start }) node.rest;
         is = node.is ∙ sym (append-nil (carried_texts (first ds)));
         laid = subst (λ z. MeaningLaid q node.place node.meaning z) (scalar_steps row ds leaf) (laid_scalar q node.meaning.finish (omega arith) node.events (scalar_ascends node.derived) node.is);
-        held = held_scalar node.meaning row ds r spot.lines (block_lines style spot.lines text lines) body said_lines made.comments made.seen (bare_scalar s.indent spot.lines u f made);
+        held = held_scalar node.meaning row ds r spot.lines (block_lines style spot.lines text lines) body said_lines made.comments made.seen (bare_scalar s.style.indent spot.lines u f made);
       }
     where
-      above_zero : (n : ℤ) {k : ℕ} → k ≡ base n + s.indent → 0 < k
-      above_zero n e = let wide : 2 ≤ s.indent = s.indent_from in omega (arith, wide, e)
+      above_zero : (n : ℤ) {k : ℕ} → k ≡ base n + s.style.indent → 0 < k
+      above_zero n e = let wide : 2 ≤ s.style.indent = s.style.indent_from in omega (arith, wide, e)
 
-  props_made : {t : List ℕ} {p : PropsValue} (row : Row) (spot : Spot) (n : ℤ) (c : Ctx) (ds : List Deco) (r : List ℕ) (q : ℕ) → IsProps p → p ≢ no_props → row.text ≡ props_bytes p ++ (32 ∷ header_text style s.indent text)
-      → row.body ≡ block_lines style spot.lines text lines → row.lines ≡ spot.lines → leaf_steps row.leaves ≡ a_leaf ∷ [] → IsUtf8 t → Stood s (scalar at p style text lines) n c spot → AreDecos ds
+  props_made : {t : List ℕ} {p : PropsValue} (row : Row) (spot : Spot) (n : ℤ) (c : Ctx) (ds : List Deco) (r : List ℕ) (q : ℕ) → IsProps p → p ≢ no_props → row.text ≡ props_bytes p ++ (32 ∷ header_text style s.style.indent text)
+      → row.body ≡ block_lines style spot.lines text lines → row.lines ≡ spot.lines → leaf_steps row.leaves ≡ a_leaf ∷ [] → is_some row.key_comment ≡ false → IsUtf8 t → Stood s (scalar at p style text lines) n c spot → AreDecos ds
       → CalmBody (block_lines style spot.lines text lines) spot.lines (tail_ending (is_kept_tail (final_feeds text))) (first ds).gap r
-      → Rest t q (inline_then (row ∷ []) ds r) → NodeMade t n c spot.entries (scalar at p style text lines) (row ∷ []) ds q r
-  props_made {t} {p} row spot n c ds r q props some said body said_lines leaf u stood a calm w =
+      → Rest t q (inline_then (row ∷ []) ds r) → NodeMade t s n c spot.entries (scalar at p style text lines) (row ∷ []) ds q r
+  props_made {t} {p} row spot n c ds r q props some said body said_lines leaf key u stood a calm w =
       let z : List ℕ = end_then (first ds) (block_lines style spot.lines text lines) r in
-      let there : Rest t q (props_bytes p ++ (32 ∷ (header_text style s.indent text ++ z))) =
-      subst (λ v. Rest t q v) (append_assoc (props_bytes p) (32 ∷ header_text style s.indent text) z)
-      (subst (λ v. Rest t q ((props_bytes p ++ (32 ∷ header_text style s.indent text)) ++ end_then (first ds) v r)) body (subst (λ v. Rest t q (v ++ end_then (first ds) row.body r)) said w)) in
-      let before = propertied (n +ℤ pos 1) c (header_text style s.indent text ++ z) u props some there in
+      let there : Rest t q (props_bytes p ++ (32 ∷ (header_text style s.style.indent text ++ z))) =
+      subst (λ v. Rest t q v) (append_assoc (props_bytes p) (32 ∷ header_text style s.style.indent text) z)
+      (subst (λ v. Rest t q ((props_bytes p ++ (32 ∷ header_text style s.style.indent text)) ++ end_then (first ds) v r)) body (subst (λ v. Rest t q (v ++ end_then (first ds) row.body r)) said w)) in
+      let before = propertied (n +ℤ pos 1) c (header_text style s.style.indent text ++ z) u props some there in
       let i : ℕ = q + length (props_bytes p) + 1 in
-      let made = scalar_at s.indent n spot.lines (first ds) r i f s.indent_from s.indent_to stood.lines u (first_deco a) calm before.rest in
+      let made = scalar_at s.style.indent n spot.lines (first ds) r i f s.style.indent_from s.style.indent_to stood.lines u (first_deco a) calm before.rest in
       let node = made.reached.node in
-      let text_end = rest_text (header_text style s.indent text) u (header_line style s.indent text s.indent_to) before.rest in
+      let text_end = rest_text (header_text style s.style.indent text) u (header_line style s.style.indent text s.style.indent_to) before.rest in
       let deep : 0 < spot.lines = above_zero n stood.lines in
       let begun = end_start (first ds) r u (first_deco a) (body_texts spot.lines (final_feeds text - 1) (content_lines style text lines) deep f.texts) text_end.rest in
       let o : Option ℕ = tag_offset_at q p.anchor p.tag in
@@ -363,24 +389,28 @@ module _ {s : Style} {at : Standing} {style : ScalarStyle} {text : List ℕ} {li
         low = omega arith;
         rest = node.rest;
         start = subst (λ j. LineStart t j) (place_of_rest begun.rest node.rest) begun.start;
-        meant = props_meant s.indent i q g p o node.meaning placed_at f node.events node.escapes;
+        found_rows = leaf_row q node.meaning.finish ∷ [];
+        meant = props_found s spot.entries s.style.indent i q g p o node.meaning placed_at f node.events node.escapes;
+        placed = subst (λ v. RowsIn t (row ∷ []) (leaf_row q node.meaning.finish ∷ []) ds q v node.place r) (sym (comments_with_props p o q g node.meaning))
+            (last_row (leaf_stands node.meaning.finish (λ v. body_some spot.lines (final_feeds text - 1) (content_lines style text lines) f.last (sym body ∙ v)) key)
+            (record { ascend = ascend_after (omega arith) (scalar_ascends node.derived); is = node.is; start = subst (λ j. LineStart t j) (place_of_rest begun.rest node.rest) begun.start }) node.rest);
         is = texts_with_props p o q g node.meaning ∙ (node.is ∙ sym (append-nil (carried_texts (first ds))));
         laid = subst (λ z. MeaningLaid q node.place (with_props p o q g node.meaning) z) (scalar_steps row ds leaf)
             (laid_scalar_with p o q g i node.meaning.finish node.meaning (omega arith) node.events (scalar_ascends node.derived) node.is);
         held = held_scalar (with_props p o q g node.meaning) row ds r spot.lines (block_lines style spot.lines text lines) body said_lines (props_set t p o q g node.meaning made.comments) made.seen
-            (props_scalar s.indent spot.lines u f made q g p o (n +ℤ pos 1) c before.properties before.separate);
+            (props_scalar s.style.indent spot.lines u f made q g p o (n +ℤ pos 1) c before.properties before.separate);
       }
     where
-      above_zero : (n : ℤ) {k : ℕ} → k ≡ base n + s.indent → 0 < k
-      above_zero n e = let wide : 2 ≤ s.indent = s.indent_from in omega (arith, wide, e)
+      above_zero : (n : ℤ) {k : ℕ} → k ≡ base n + s.style.indent → 0 < k
+      above_zero n e = let wide : 2 ≤ s.style.indent = s.style.indent_from in omega (arith, wide, e)
 
-  block_claim : {p : PropsValue} (spot : Spot) → FitProps p → Claim s (scalar at p style text lines) spot (block_scalar s spot (scalar at p style text lines) p style text lines)
+  block_claim : {p : PropsValue} (spot : Spot) → FitProps p → Claim s (scalar at p style text lines) spot (block_scalar s.style spot (scalar at p style text lines) p style text lines)
   block_claim spot no_fit_props =
-      some_rows (λ z. refl) (λ z. absurd (true≢false (sym z))) (record { made = λ {t} n c ds r q u stood a calm w. bare_made _ spot n c ds r q refl refl refl (one_leaf at.span placed_at) u stood a calm.0 w })
+      some_rows (λ z. refl) (λ z. absurd (true≢false (sym z))) (record { made = λ {t} n c ds r q u stood a calm w. bare_made _ spot n c ds r q refl refl refl (one_leaf at.span placed_at) refl u stood a calm.0 w })
   block_claim spot (some_fit_props {p = p} k n) =
       some_rows (λ z. refl) (λ z. absurd (true≢false (sym z))) (record {
         made = λ {t} m c ds r q u stood a calm w.
-            props_made _ spot m c ds r q k n (header_with style s.indent text k n) refl refl (one_leaf at.span placed_at) u stood a calm.0 w;
+            props_made _ spot m c ds r q k n (header_with style s.style.indent text k n) refl refl (one_leaf at.span placed_at) refl u stood a calm.0 w;
       })
 
 -- its rows, by its style
@@ -393,6 +423,6 @@ scalar_rows_are c spot at p text lines Literal e = refl
 scalar_rows_are c spot at p text lines Folded e = refl
 
 pub scalar_claim : (c : Setting) (spot : Spot) {at : Standing} {p : PropsValue} {style : ScalarStyle} {text : List ℕ} {lines : List (List ℕ)} → is_some at.span ≡ true → FitProps p → FitScalar style text lines
-    → Claim c.style (scalar at p style text lines) spot (rows c spot (scalar at p style text lines))
+    → Claim c (scalar at p style text lines) spot (rows c spot (scalar at p style text lines))
 scalar_claim c spot {at} {p} {style} {text} {lines} e k f =
-    subst (λ rs. Claim c.style (scalar at p style text lines) spot rs) (sym (scalar_rows_are c spot at p text lines style f.block)) (block_claim e f spot k)
+    subst (λ rs. Claim c (scalar at p style text lines) spot rs) (sym (scalar_rows_are c spot at p text lines style f.block)) (block_claim e f spot k)

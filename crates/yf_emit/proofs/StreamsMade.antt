@@ -1,5 +1,6 @@
 -- A stream of documents from its rows.
-use Rattle.std.proofs.Common.{◌≡◌, ℕ, max, ◌<◌, ◌≤◌, Bool, true, false, List, [], ◌∷◌, ◌++◌, length, map, flat_map, inl, codes, drop, Option, refl, sym, ap, ◌∙◌, subst, arith, append_assoc, length-drop}
+use Rattle.std.proofs.Common.{◌≡◌, ℕ, ◌+◌, max, ◌<◌, ◌≤◌, Bool, true, false, List, [], ◌∷◌, ◌++◌, length, map, flat_map, inl, codes, drop, Option, refl, sym, ap, ◌∙◌, subst, arith, append_assoc, length-drop}
+use Rattle.std.specs.Prelude.{is_some}
 use Rattle.std.specs.Str.{IsUtf8}
 use Rattle.yf_chars.specs.Chain.{Chain}
 use Rattle.yf_chars.specs.Chain.Chain.{done, step}
@@ -10,15 +11,11 @@ use Rattle.yf_comments.specs.Comments.{CommentLine}
 use Rattle.yf_comments.specs.GapLines.{AreGapLines, remarks_of}
 use Rattle.yf_comments.proofs.GapLinesLemmas.{texts, texts_append, gap_at}
 use Rattle.yf_comments.proofs.LineEndLemmas.{lines_rows}
-use Rattle.yf_events.specs.Event.{Placed, document_ends}
-use Rattle.yf_events.specs.Reading.{leaf_starts}
 use Rattle.yf_events.specs.declared.directive.Directive.{Directive}
 use Rattle.yf_events.specs.declared.document.Doc.{Doc}
-use Rattle.yf_events.specs.Tree.{DocumentTree, unplaced}
-use Rattle.yf_grammar.specs.Meaning.{Meaning}
-use Rattle.yf_grammar.specs.Meant.{Meant, tall}
-use Rattle.yf_grammar.proofs.CommentOrder.{end_ascends, rows_ascend}
-use Rattle.yf_stream.specs.ReadingOf.{DocumentEvents, no_document, one_document}
+use Rattle.yf_events.specs.Tree.{DocumentTree}
+use Rattle.yf_grammar.specs.Meant.{tall}
+use Rattle.yf_grammar.proofs.CommentOrder.{Ascend, end_ascends, rows_ascend}
 use Rattle.yf_stream.specs.Stream.{Document, document_of, Documents, only_comments, with_document, with_comments, AnyDocument, Prefixes, StreamRest}
 use Rattle.yf_stream.specs.Stream.AnyDocument.{explicit_document, directive_document}
 use Rattle.yf_stream.specs.Stream.PrefixPart.{prefix_comment}
@@ -29,7 +26,7 @@ use Rattle.yf_stream.proofs.ReadingOrder.{directives_ascend}
 use Rattle.yf_emit.specs.Beginnings.{documents_begin, steps_with}
 use Rattle.yf_emit.specs.Carried.{AreDecos, carried_texts, comments_in, Calm}
 use Rattle.yf_emit.specs.Decorated.{GapLine, gap_then, Deco, first, after, past, end_then, lines_then}
-use Rattle.yf_emit.specs.FitDocuments.{FitDirective, FitDirectives, fit_directive, FitDocuments, fit_no_documents, fit_document, DocumentMeant, DocumentsMeant, no_documents_meant, document_meant, tall_documents}
+use Rattle.yf_emit.specs.FitDocuments.{FitDirective, FitDirectives, fit_directive, FitDocuments, fit_no_documents, fit_document, DocumentMeant, DocumentsMeant, no_documents_meant, tall_documents}
 use Rattle.yf_emit.specs.Fits.{Fit}
 use Rattle.yf_emit.specs.LayoutLaws.{StreamMade}
 use Rattle.yf_emit.specs.Normal.{Setting, root_spot}
@@ -37,104 +34,24 @@ use Rattle.yf_emit.specs.Rows.{Row, plain_row, directive_row, start_row, end_row
 use Rattle.yf_emit.specs.Steps.{Step, comment_steps, steps_in}
 use Rattle.yf_emit.proofs.DecoratedLemmas.{lines_append}
 use Rattle.yf_emit.proofs.DocumentsBegun.{comments_begun, document_begun, documents_begun, explicit_begun, starts_in}
+use Rattle.yf_emit.proofs.DocumentsHeld.{all_events, comments_set, documents_held, held_events}
 use Rattle.yf_emit.proofs.DocumentsMade.{ExplicitMade, explicit_made, directives_made, three_at, three_behind}
+use Rattle.yf_emit.proofs.FoundNodes.{meant_of}
+use Rattle.yf_emit.proofs.FoundStreams.{FoundDocument, FoundDocuments, no_documents_found, found_document, StreamIn, no_stream, document_begins, stream_more, comments_with_document, comments_with_comments, documents_with_comments, found_with}
 use Rattle.yf_emit.proofs.HeldLemmas.{BodiesHeld, EventsHeld, bare_row, bodies_append, bodies_more, holds_left, holds_right, row_ended}
 use Rattle.yf_emit.proofs.LaidRows.{steps_append}
 use Rattle.yf_emit.proofs.NoStarts.{no_start_on, directives_none, quiet_steps, rows_none, with_append}
+use Rattle.yf_emit.proofs.PlacedRows.{none_inside, PlacedRow, RowsIn, row_before, rows_in_append}
 use Rattle.yf_emit.proofs.RowEnds.{row_end, first_deco, after_decos, past_decos, comments_append, calm_append}
 use Rattle.yf_emit.proofs.RowTexts.{row_texts}
-use Rattle.yf_emit.proofs.StepsStand.{Stand, nothing_stands, stand_after, stand_join, comments_stand, MeaningLaid, EventsLaid, events_behind}
+use Rattle.yf_emit.proofs.StepsStand.{Stand, nothing_stands, stand_after, stand_join, comments_stand, EventsLaid, events_behind}
 use Rattle.yf_emit.proofs.TreesMade.{node_claim}
 use Rattle.yf_emit.proofs.WellSet.{AllSet, lines_set, set_append}
-
--- What is meant.
-
-meant_document : {d : Doc} {x : DocumentTree} {m : Meaning} (i : ℕ) (dirs : List Directive) → map (λ (e : Directive). e.words) dirs ≡ map (λ (e : Directive). e.words) d.directives
-    → Meant x.root m → DocumentMeant d x (document_of i true dirs m)
-unfolding document_of
-meant_document i dirs e a = record { marked = refl; words = e; node = a.node; alike = a.alike; events = a.events; escapes = a.escapes }
-
-texts_with_document : (cs : List CommentValue) (d : Document) (rest : Documents) → texts (with_document cs d rest).comments ≡ texts cs ++ texts rest.comments
-unfolding with_document
-texts_with_document cs d rest = texts_append cs rest.comments
-
-documents_with : {d : Doc} {ds : List Doc} {x : DocumentTree} {xs : List DocumentTree} {m : Document} (rest : Documents) (cs : List CommentValue) → DocumentMeant d x m → DocumentsMeant ds xs rest.documents
-    → DocumentsMeant (d ∷ ds) (x ∷ xs) (with_document cs m rest).documents
-unfolding with_document
-documents_with rest cs a b = document_meant a b
-
-texts_with_comments : (cs : List CommentValue) (rest : Documents) → texts (with_comments cs rest).comments ≡ texts cs ++ texts rest.comments
-unfolding with_comments
-texts_with_comments cs rest = texts_append cs rest.comments
-
-same_documents : (cs : List CommentValue) (rest : Documents) → rest.documents ≡ (with_comments cs rest).documents
-unfolding with_comments
-same_documents cs rest = refl
-
--- What is laid out.
-
-laid_document : {i j : ℕ} {m : Meaning} {a : List Step} (s : ℕ) (dirs : List Directive) → MeaningLaid i j m a → EventsLaid i j (document_of s true dirs m).events m.comments a
-unfolding document_of
-laid_document s dirs x = record { starts = x.starts; are = x.are; stand = x.stand }
-
--- documents, whose events are those of a reading
-pub record DocumentsLaid (i j : ℕ) (x : Documents) (steps : List Step) : Type 0 where
-  pub starts : List ℕ
-  pub are : {u : List ℕ} {es : List Placed} {tags : List (Option (List ℕ))} (rest : List Placed) → DocumentEvents u x.documents es tags → leaf_starts (es ++ rest) ≡ starts ++ leaf_starts rest
-  pub stand : Stand i starts x.comments steps j
-
-no_starts : {u : List ℕ} {es : List Placed} {tags : List (Option (List ℕ))} (rest : List Placed) → DocumentEvents u [] es tags → leaf_starts (es ++ rest) ≡ leaf_starts rest
-no_starts rest no_document = refl
-
-no_documents_laid : {i j : ℕ} → i ≤ j → DocumentsLaid i j (only_comments []) []
-no_documents_laid l = record { starts = []; are = λ rest d. no_starts rest d; stand = nothing_stands l }
-
-laid_with_comments : {i k j : ℕ} {x : Documents} {a b : List Step} (cs : List CommentValue) → Stand i [] cs a k → DocumentsLaid k j x b → DocumentsLaid i j (with_comments cs x) (a ++ b)
-unfolding with_comments
-laid_with_comments cs c x = record { starts = x.starts; are = x.are; stand = stand_join c x.stand }
-
--- the events of one more document
-more_starts : {u : List ℕ} {d : Document} {ds : List Document} {es : List Placed} {tags : List (Option (List ℕ))} (xs ys : List ℕ) (rest : List Placed)
-    → ((more : List Placed) → leaf_starts (d.events ++ more) ≡ xs ++ leaf_starts more)
-    → ((fs : List Placed) (others : List (Option (List ℕ))) → DocumentEvents u ds fs others → leaf_starts (fs ++ rest) ≡ ys ++ leaf_starts rest) → DocumentEvents u (d ∷ ds) es tags
-    → leaf_starts (es ++ rest) ≡ (xs ++ ys) ++ leaf_starts rest
-more_starts xs ys rest f g (one_document {d = d} {x = x} {closed = closed} tags end marked others) =
-    let last : Placed = unplaced (document_ends closed) in
-    ap leaf_starts (append_assoc d.events (last ∷ x) rest) ∙ (f (last ∷ (x ++ rest)) ∙ (ap (λ z. xs ++ z) (g _ _ others) ∙ sym (append_assoc xs ys (leaf_starts rest))))
-
-documents_laid : {i k j : ℕ} (d : Document) {cs : List CommentValue} {rest : Documents} {a b : List Step} → EventsLaid i k d.events cs a → DocumentsLaid k j rest b
-    → DocumentsLaid i j (with_document cs d rest) (a ++ b)
-unfolding with_document
-documents_laid d x y = record { starts = x.starts ++ y.starts; are = λ rest e. more_starts x.starts y.starts rest x.are (λ fs others z. y.are rest z) e; stand = stand_join x.stand y.stand }
-
--- What is held.
-
-held_events : (t : List ℕ) (m : Meaning) (rs : List Row) (ds : List Deco) (r : List ℕ) (s : ℕ) (dirs : List Directive) → BodiesHeld t m.events rs ds r → BodiesHeld t (document_of s true dirs m).events rs ds r
-unfolding document_of
-held_events t m rs ds r s dirs a = a
-
--- the events of all documents
-abbrev pub all_events : List Document → List Placed
-all_events ds = flat_map (λ (d : Document). d.events) ds
-
-comments_set : (t : List ℕ) (cs : List CommentValue) → AllSet t cs → AllSet t (with_comments cs (only_comments [])).comments
-unfolding with_comments
-comments_set t cs a = set_append t cs [] a tt
-
-documents_held : {t : List ℕ} (cs : List CommentValue) (d : Document) (rest : Documents) (xs ys : List Row) (ds : List Deco) → EventsHeld t d.events cs xs ds (lines_then ys (past xs ds) [])
-    → EventsHeld t (all_events rest.documents) rest.comments ys (past xs ds) []
-    → EventsHeld t (all_events (with_document cs d rest).documents) (with_document cs d rest).comments (xs ++ ys) ds []
-unfolding with_document
-documents_held {t} cs d rest xs ys ds a b = record {
-  comments = set_append t cs rest.comments a.comments b.comments;
-  bodies = bodies_append t (d.events ++ all_events rest.documents) xs ys ds []
-      (bodies_more t d.events (d.events ++ all_events rest.documents) xs ds (lines_then ys (past xs ds) []) (λ event part h. holds_left (all_events rest.documents) h) a.bodies)
-      (bodies_more t (all_events rest.documents) (d.events ++ all_events rest.documents) ys (past xs ds) [] (λ event part h. holds_right d.events h) b.bodies);
-}
+use Rattle.yf_emit.proofs.StreamParts.{meant_document, texts_with_document, documents_with, texts_with_comments, same_documents, laid_document, DocumentsLaid, no_documents_laid, laid_with_comments, documents_laid}
 
 -- Rows of directives, and of the node after them.
 
-pub record AnyMade (t : List ℕ) (d : Doc) (x : DocumentTree) (rs : List Row) (ds : List Deco) (q : ℕ) (r : List ℕ) : Type 0 where
+pub record AnyMade (t : List ℕ) (s : Setting) (d : Doc) (x : DocumentTree) (rs : List Row) (ds : List Deco) (q : ℕ) (r : List ℕ) : Type 0 where
   pub height : ℕ
   pub place : ℕ
   pub document : Document
@@ -145,6 +62,9 @@ pub record AnyMade (t : List ℕ) (d : Doc) (x : DocumentTree) (rs : List Row) (
   pub meant : DocumentMeant d x document
   pub is : texts comments ≡ comments_in rs ds
   pub laid : EventsLaid q place document.events comments (steps_in rs ds)
+  pub found_rows : List PlacedRow
+  pub found : FoundDocument t s x document found_rows
+  pub placed : RowsIn t rs found_rows ds q comments place r
   pub begun : Stand q (document.start ∷ []) comments (steps_with documents_begin rs ds) place
   pub held : EventsHeld t document.events comments rs ds r
 
@@ -154,23 +74,23 @@ root_rows c x = rows c (root_spot c.style) x.root
 root_deep : (c : Setting) → 0 < c.style.indent
 root_deep c = let wide : 2 ≤ c.style.indent = c.style.indent_from in omega (arith, wide)
 
-explicit_at : {t : List ℕ} (c : Setting) (x : DocumentTree) (row : Row) (ds : List Deco) (r : List ℕ) (q : ℕ) → row.leaves ≡ [] → row.body ≡ [] → Fit x.root → IsUtf8 t → AreDecos ds → Calm (root_rows c x) (after ds) r
-    → Rest t q (45 ∷ 45 ∷ 45 ∷ end_then (first ds) [] (lines_then (root_rows c x) (after ds) r)) → ExplicitMade t x.root (row ∷ root_rows c x) ds q r
-explicit_at c x row ds r q none bare fit u a k w = explicit_made row ds r q none bare (node_claim c (root_spot c.style) fit) (row_texts c (root_spot c.style) (root_deep c) fit) u a k w
+explicit_at : {t : List ℕ} (c : Setting) (x : DocumentTree) (row : Row) (ds : List Deco) (r : List ℕ) (q : ℕ) → row.leaves ≡ [] → row.body ≡ [] → length row.text ≡ 3 → is_some row.key_comment ≡ false → Fit x.root → IsUtf8 t → AreDecos ds → Calm (root_rows c x) (after ds) r
+    → Rest t q (45 ∷ 45 ∷ 45 ∷ end_then (first ds) [] (lines_then (root_rows c x) (after ds) r)) → ExplicitMade t c x.root (row ∷ root_rows c x) ds q r
+explicit_at c x row ds r q none bare width key fit u a k w = explicit_made row ds r q none bare width key (node_claim c (root_spot c.style) fit) (row_texts c (root_spot c.style) (root_deep c) fit) u a k w
 
 -- where the first row is given, of any items
-directed : {t : List ℕ} (c : Setting) {d : Doc} (x : DocumentTree) {e : Directive} {es : List Directive} (row : Row) (ds : List Deco) (r : List ℕ) (q : ℕ) → row.leaves ≡ [] → row.body ≡ [] → documents_begin row ≡ [] → d.directives ≡ e ∷ es
+directed : {t : List ℕ} (c : Setting) {d : Doc} (x : DocumentTree) {e : Directive} {es : List Directive} (row : Row) (ds : List Deco) (r : List ℕ) (q : ℕ) → row.leaves ≡ [] → row.body ≡ [] → row.text ≡ 37 ∷ joined_words e.words → is_some row.key_comment ≡ false → documents_begin row ≡ [] → d.directives ≡ e ∷ es
     → FitDirective e.words → FitDirectives es → Fit x.root → IsUtf8 t → AreDecos ds → Calm ((row ∷ map directive_row es) ++ (start_row ∷ root_rows c x)) ds r
     → Rest t q (37 ∷ (joined_words e.words ++ end_then (first ds) [] (lines_then (map directive_row es ++ (start_row ∷ root_rows c x)) (after ds) r)))
-    → AnyMade t d x ((row ∷ map directive_row es) ++ (start_row ∷ root_rows c x)) ds q r
-directed {t} c {d} x {e} {es} row ds r q none bare plain same f fs fit u a k w =
+    → AnyMade t c d x ((row ∷ map directive_row es) ++ (start_row ∷ root_rows c x)) ds q r
+directed {t} c {d} x {e} {es} row ds r q none bare said key plain same f fs fit u a k w =
     let tree : List Row = root_rows c x in
     let z : List ℕ = lines_then (start_row ∷ tree) (past (map directive_row es) (after ds)) r in
     let there : Rest t q (37 ∷ (joined_words e.words ++ end_then (first ds) [] (lines_then (map directive_row es) (after ds) z))) =
     subst (λ v. Rest t q (37 ∷ (joined_words e.words ++ end_then (first ds) [] v))) (lines_append (map directive_row es) (start_row ∷ tree) (after ds) r) w in
-    let one = directives_made {d = e} {dirs = es} row ds z q none bare f fs u a there in
+    let one = directives_made {d = e} {dirs = es} row ds z q none bare said key f fs u a there in
     let ks = calm_append (row ∷ map directive_row es) (start_row ∷ tree) ds r k in
-    let node = explicit_at c x start_row (past (map directive_row es) (after ds)) r one.place refl refl fit u (past_decos (row ∷ map directive_row es) a) ks.1.1 one.rest in
+    let node = explicit_at c x start_row (past (map directive_row es) (after ds)) r one.place refl refl refl refl fit u (past_decos (row ∷ map directive_row es) a) ks.1.1 one.rest in
     record {
       height = node.height;
       place = node.place;
@@ -179,11 +99,14 @@ directed {t} c {d} x {e} {es} row ds r q none bare plain same f fs fit u a k w =
       derived = directive_document one.lines node.node;
       low = node.low;
       rest = node.rest;
-      meant = meant_document one.place one.meaning.directives (one.words ∙ ap (λ z. map (λ (e : Directive). e.words) z) (sym same)) node.meant;
+      meant = meant_document one.place one.meaning.directives (one.words ∙ ap (λ z. map (λ (e : Directive). e.words) z) (sym same)) (meant_of node.meant);
       is = texts_append one.meaning.comments node.meaning.comments ∙ (ap (λ z. z ++ texts node.meaning.comments) one.is
           ∙ (ap (λ z. comments_in (row ∷ map directive_row es) ds ++ z) node.is ∙ sym (comments_append (row ∷ map directive_row es) (start_row ∷ tree) ds)));
       laid = subst (λ z. EventsLaid q node.place (document_of one.place true one.meaning.directives node.meaning).events (one.meaning.comments ++ node.meaning.comments) z)
           (sym (steps_append (row ∷ map directive_row es) (start_row ∷ tree) ds)) (events_behind one.stand (laid_document one.place one.meaning.directives node.laid));
+      found_rows = one.found_rows ++ (node.head ∷ node.inner);
+      found = found_document one.place one.meaning.directives (one.found_rows ++ (node.head ∷ [])) node.meant (sym (append_assoc one.found_rows (node.head ∷ []) node.inner));
+      placed = rows_in_append one.placed (subst (λ z. RowsIn t (start_row ∷ tree) (node.head ∷ node.inner) (past (row ∷ map directive_row es) ds) z node.meaning.comments node.place r) (omega arith) node.placed);
       begun = document_begun one.place one.meaning.directives node.meaning
           (subst (λ z. Stand q (one.place ∷ []) (one.meaning.comments ++ node.meaning.comments) z node.place) (sym (with_append documents_begin (row ∷ map directive_row es) (start_row ∷ tree) ds))
           (stand_join (subst (λ z. Stand q [] one.meaning.comments z one.place) (sym (quiet_steps (no_start_on {row = row} plain (directives_none es)) ds)) (comments_stand (directives_ascend one.lines) one.is))
@@ -204,9 +127,9 @@ beside_tree row es tree = append_assoc (row ∷ map directive_row es) (start_row
 -- The first document of a stream.
 
 first_with : {t : List ℕ} (c : Setting) {d : Doc} (x : DocumentTree) (start : ℕ) (dirs : List Directive) (ds : List Deco) (r : List ℕ) (q : ℕ) → d.directives ≡ dirs → FitDirectives dirs → Fit x.root → IsUtf8 t → AreDecos ds
-    → Calm (head_rows true start dirs ++ root_rows c x) ds r → Rest t q (lines_then (head_rows true start dirs ++ root_rows c x) ds r) → AnyMade t d x (head_rows true start dirs ++ root_rows c x) ds q r
+    → Calm (head_rows true start dirs ++ root_rows c x) ds r → Rest t q (lines_then (head_rows true start dirs ++ root_rows c x) ds r) → AnyMade t c d x (head_rows true start dirs ++ root_rows c x) ds q r
 first_with {t} c {d} x start [] ds r q same f fit u a k w =
-    let node = explicit_at c x (record start_row { items = start ∷ [] }) ds r q refl refl fit u a k.1 w in
+    let node = explicit_at c x (record start_row { items = start ∷ [] }) ds r q refl refl refl refl fit u a k.1 w in
     record {
       height = node.height;
       place = node.place;
@@ -215,21 +138,24 @@ first_with {t} c {d} x start [] ds r q same f fit u a k w =
       derived = explicit_document node.node;
       low = node.low;
       rest = node.rest;
-      meant = meant_document q [] (ap (λ z. map (λ (e : Directive). e.words) z) (sym same)) node.meant;
+      meant = meant_document q [] (ap (λ z. map (λ (e : Directive). e.words) z) (sym same)) (meant_of node.meant);
       is = node.is;
       laid = laid_document q [] node.laid;
+      found_rows = node.head ∷ node.inner;
+      found = found_document q [] (node.head ∷ []) node.meant refl;
+      placed = node.placed;
       begun = document_begun q [] node.meaning (explicit_begun (record start_row { items = start ∷ [] }) ds refl (rows_none c (root_spot c.style) x.root) node);
       held = record { comments = node.held.comments; bodies = held_events t node.meaning (record start_row { items = start ∷ [] } ∷ root_rows c x) ds r q [] node.held.bodies };
     }
 first_with {t} c {d} x start (e ∷ es) ds r q same (fit_directive f fs) fit u a k w =
     let row : Row = record (directive_row e) { items = start ∷ [] } in
     let shape = beside_tree row es (root_rows c x) in
-    subst (λ z. AnyMade t d x z ds q r) (sym shape)
-    (directed c x {e = e} row ds r q refl refl refl same f fs fit u a (subst (λ z. Calm z ds r) shape k) (subst (λ z. Rest t q (lines_then z ds r)) shape w))
+    subst (λ z. AnyMade t c d x z ds q r) (sym shape)
+    (directed c x {e = e} row ds r q refl refl refl refl refl same f fs fit u a (subst (λ z. Calm z ds r) shape k) (subst (λ z. Rest t q (lines_then z ds r)) shape w))
 
 -- Later documents, each with what stands after it.
 
-record StepMade (t : List ℕ) (d : Doc) (x : DocumentTree) (rs : List Row) (ds : List Deco) (q : ℕ) (r : List ℕ) : Type 0 where
+record StepMade (t : List ℕ) (s : Setting) (d : Doc) (x : DocumentTree) (rs : List Row) (ds : List Deco) (q : ℕ) (r : List ℕ) : Type 0 where
   pub height : ℕ
   pub place : ℕ
   pub document : Document
@@ -240,13 +166,16 @@ record StepMade (t : List ℕ) (d : Doc) (x : DocumentTree) (rs : List Row) (ds 
   pub meant : DocumentMeant d x document
   pub is : texts comments ≡ comments_in rs ds
   pub laid : EventsLaid q place document.events comments (steps_in rs ds)
+  pub found_rows : List PlacedRow
+  pub found : FoundDocument t s x document found_rows
+  pub placed : RowsIn t rs found_rows ds q comments place r
   pub begun : Stand q (document.start ∷ []) comments (steps_with documents_begin rs ds) place
   pub held : EventsHeld t document.events comments rs ds r
 
 step_with : {t : List ℕ} (c : Setting) {d : Doc} (x : DocumentTree) (start : ℕ) (dirs : List Directive) (ds : List Deco) (r : List ℕ) (q : ℕ) → d.directives ≡ dirs → FitDirectives dirs → Fit x.root → IsUtf8 t → AreDecos ds
-    → Calm (head_rows false start dirs ++ root_rows c x) ds r → Rest t q (lines_then (head_rows false start dirs ++ root_rows c x) ds r) → StepMade t d x (head_rows false start dirs ++ root_rows c x) ds q r
+    → Calm (head_rows false start dirs ++ root_rows c x) ds r → Rest t q (lines_then (head_rows false start dirs ++ root_rows c x) ds r) → StepMade t c d x (head_rows false start dirs ++ root_rows c x) ds q r
 step_with {t} c {d} x start [] ds r q same f fit u a k w =
-    let node = explicit_at c x (record start_row { items = start ∷ [] }) ds r q refl refl fit u a k.1 w in
+    let node = explicit_at c x (record start_row { items = start ∷ [] }) ds r q refl refl refl refl fit u a k.1 w in
     record {
       height = node.height;
       place = node.place;
@@ -255,9 +184,12 @@ step_with {t} c {d} x start [] ds r q same f fit u a k w =
       join = λ g rest s. past_explicit node.node s;
       low = node.low;
       rest = node.rest;
-      meant = meant_document q [] (ap (λ z. map (λ (e : Directive). e.words) z) (sym same)) node.meant;
+      meant = meant_document q [] (ap (λ z. map (λ (e : Directive). e.words) z) (sym same)) (meant_of node.meant);
       is = node.is;
       laid = laid_document q [] node.laid;
+      found_rows = node.head ∷ node.inner;
+      found = found_document q [] (node.head ∷ []) node.meant refl;
+      placed = node.placed;
       begun = document_begun q [] node.meaning (explicit_begun (record start_row { items = start ∷ [] }) ds refl (rows_none c (root_spot c.style) x.root) node);
       held = record { comments = node.held.comments; bodies = held_events t node.meaning (record start_row { items = start ∷ [] } ∷ root_rows c x) ds r q [] node.held.bodies };
     }
@@ -268,8 +200,9 @@ step_with {t} c {d} x start (e ∷ es) ds r q same (fit_directive f fs) fit u a 
     let rest : List ℕ = lines_then (((row ∷ map directive_row es) ++ (start_row ∷ [])) ++ root_rows c x) (after ds) r in
     let end = row_end (first ds) rest u (first_deco a) mark.1 in
     let ended = row_ended (first ds) rest u (three_behind 46 u (omega arith) (omega arith) w) (first_deco a) mark.1 end.end in
-    let made = directed c {d = d} x {e = e} row (after ds) r end.place refl refl refl same f fs fit u (after_decos a) (subst (λ z. Calm z (after ds) r) shape k.1)
+    let made = directed c {d = d} x {e = e} row (after ds) r end.place refl refl refl refl refl same f fs fit u (after_decos a) (subst (λ z. Calm z (after ds) r) shape k.1)
     (subst (λ z. Rest t end.place (lines_then z (after ds) r)) shape end.rest) in
+    let dots : PlacedRow = record { items = []; leaves = []; commented = false; from = q; upto = q + 3 } in
     record {
       height = made.height;
       place = made.place;
@@ -283,6 +216,20 @@ step_with {t} c {d} x start (e ∷ es) ds r q same (fit_directive f fs) fit u a 
           ∙ ap (λ z. carried_texts (first ds) ++ z) (made.is ∙ ap (λ z. comments_in z (after ds)) (sym shape)));
       laid = events_behind (stand_after (omega arith) (comments_stand (end_ascends end.end) end.is))
           (subst (λ z. EventsLaid end.place made.place made.document.events made.comments (steps_in z (after ds))) (sym shape) made.laid);
+      found_rows = dots ∷ made.found_rows;
+      found = record {
+        node = made.found.node;
+        alike = made.found.alike;
+        events = made.found.events;
+        heads = dots ∷ made.found.heads;
+        inner = made.found.inner;
+        are = ap (λ z. dots ∷ z) made.found.are;
+        rows = made.found.rows;
+      };
+      placed = row_before (record { from = refl; order = omega arith; size = λ z. refl; items = none_inside; leaves = none_inside; commented = refl })
+          (record { ascend = end_ascends end.end; is = end.is; start = end.start }) end.rest
+          (subst (λ z. RowsIn t z made.found_rows (after ds) (end.place + 0) made.comments made.place r) (sym shape)
+          (subst (λ z. RowsIn t ((row ∷ map directive_row es) ++ (start_row ∷ root_rows c x)) made.found_rows (after ds) z made.comments made.place r) (omega arith) made.placed));
       begun = stand_join (stand_after (omega arith) (comments_stand (end_ascends end.end) end.is))
           (subst (λ z. Stand end.place (made.document.start ∷ []) made.comments (steps_with documents_begin z (after ds)) made.place) (sym shape) made.begun);
       held = record {
@@ -293,7 +240,7 @@ step_with {t} c {d} x start (e ∷ es) ds r q same (fit_directive f fs) fit u a 
 
 -- The rest of a stream.
 
-pub record RestMade (t : List ℕ) (ds : List Doc) (xs : List DocumentTree) (rs : List Row) (decos : List Deco) (q : ℕ) : Type 0 where
+pub record RestMade (t : List ℕ) (s : Setting) (ds : List Doc) (xs : List DocumentTree) (rs : List Row) (decos : List Deco) (q : ℕ) : Type 0 where
   pub height : ℕ
   pub documents : Documents
   pub derived : StreamRest t height q documents
@@ -301,6 +248,9 @@ pub record RestMade (t : List ℕ) (ds : List Doc) (xs : List DocumentTree) (rs 
   pub meant : DocumentsMeant ds xs documents.documents
   pub is : texts documents.comments ≡ comments_in rs decos
   pub laid : DocumentsLaid q (length t) documents (steps_in rs decos)
+  pub found_rows : List PlacedRow
+  pub found : FoundDocuments t s xs documents.documents found_rows
+  pub placed : StreamIn t rs found_rows decos q documents.comments
   pub begun : Stand q (starts_in documents) documents.comments (steps_with documents_begin rs decos) (length t)
   pub held : EventsHeld t (all_events documents.documents) documents.comments rs decos []
 
@@ -310,7 +260,7 @@ ended_at {t} {q} s =
     omega (arith, none, length-drop q t, s.boundary.0)
 
 rest_made : {t : List ℕ} (c : Setting) {ds : List Doc} {xs : List DocumentTree} → FitDocuments ds xs → (decos : List Deco) (q : ℕ) → IsUtf8 t → AreDecos decos → Calm (stream_rows c false ds xs) decos []
-    → Rest t q (lines_then (stream_rows c false ds xs) decos []) → RestMade t ds xs (stream_rows c false ds xs) decos q
+    → Rest t q (lines_then (stream_rows c false ds xs) decos []) → RestMade t c ds xs (stream_rows c false ds xs) decos q
 rest_made {t} c fit_no_documents decos q u a k w = record {
   height = 0;
   documents = only_comments [];
@@ -319,6 +269,9 @@ rest_made {t} c fit_no_documents decos q u a k w = record {
   meant = no_documents_meant;
   is = refl;
   laid = no_documents_laid (let end : q ≡ length t = ended_at w in omega (arith, end));
+  found_rows = [];
+  found = no_documents_found;
+  placed = no_stream;
   begun = nothing_stands (let end : q ≡ length t = ended_at w in omega (arith, end));
   held = record { comments = tt; bodies = tt };
 }
@@ -340,6 +293,10 @@ rest_made {t} c (fit_document {d = d} {ds = ds} {x = x} {xs = xs} f fit more) de
       is = texts_with_document one.comments one.document last.documents ∙ (ap (λ z. z ++ texts last.documents.comments) one.is
           ∙ (ap (λ z. comments_in head decos ++ z) last.is ∙ sym (comments_append head others decos)));
       laid = subst (λ z. DocumentsLaid q (length t) (with_document one.comments one.document last.documents) z) (sym (steps_append head others decos)) (documents_laid one.document one.laid last.laid);
+      found_rows = one.found_rows ++ last.found_rows;
+      found = found_with one.comments last.documents one.found last.found;
+      placed = subst (λ z. StreamIn t (head ++ others) (one.found_rows ++ last.found_rows) decos q z) (sym (comments_with_document one.comments one.document last.documents))
+          (stream_more (document_begins false d.start d.directives (root_rows c x)) one.placed (λ e. ended_at (subst (λ z. Rest t one.place (lines_then z (past head decos) [])) e one.rest)) last.placed);
       begun = subst (λ z. Stand q (starts_in (with_document one.comments one.document last.documents)) (with_document one.comments one.document last.documents).comments z (length t))
           (sym (with_append documents_begin head others decos)) (documents_begun one.comments one.document last.documents one.begun last.begun);
       held = documents_held one.comments one.document last.documents head others decos one.held last.held;
@@ -352,15 +309,23 @@ prefixes_of done = done
 prefixes_of (step a more) = step (prefix_comment a) (prefixes_of more)
 
 -- what is derived of the whole text, and its leaves and comments in the order of steps
-pub record StreamLaid (t : List ℕ) (ds : List Doc) (xs : List DocumentTree) (gap : List GapLine) (rs : List Row) (decos : List Deco) : Type 0 where
+pub record StreamLaid (t : List ℕ) (s : Setting) (ds : List Doc) (xs : List DocumentTree) (gap : List GapLine) (rs : List Row) (decos : List Deco) : Type 0 where
   pub made : StreamMade t ds xs (remarks_of gap ++ comments_in rs decos)
   pub laid : DocumentsLaid 0 (length t) made.documents (comment_steps (remarks_of gap) ++ steps_in rs decos)
+  pub line : ℕ
+  pub firsts : List CommentValue
+  pub others : List CommentValue
+  pub ascend : Ascend t 0 firsts line
+  pub are : made.documents.comments ≡ firsts ++ others
+  pub found_rows : List PlacedRow
+  pub found : FoundDocuments t s xs made.documents.documents found_rows
+  pub placed : StreamIn t rs found_rows decos line others
   pub begun : Stand 0 (starts_in made.documents) made.documents.comments (comment_steps (remarks_of gap) ++ steps_with documents_begin rs decos) (length t)
   pub held : EventsHeld t (all_events made.documents.documents) made.documents.comments rs decos []
 
 stream_made : {t : List ℕ} (c : Setting) {ds : List Doc} {xs : List DocumentTree} (gap : List GapLine) (decos : List Deco) → FitDocuments ds xs → IsUtf8 t → AreGapLines gap → AreDecos decos
     → Calm (stream_rows c true ds xs) decos [] → Rest t 0 (gap_then gap (lines_then (stream_rows c true ds xs) decos []))
-    → StreamLaid t ds xs gap (stream_rows c true ds xs) decos
+    → StreamLaid t c ds xs gap (stream_rows c true ds xs) decos
 stream_made {t} c gap decos fit_no_documents u g a k w =
     let at = gap_at gap [] u g at_text w in
     let rest : StreamRest t 0 at.place (only_comments []) = subst (λ p. StreamRest t 0 p (only_comments [])) (sym (ended_at at.rest)) stream_ended in
@@ -375,6 +340,14 @@ stream_made {t} c gap decos fit_no_documents u g a k w =
         is = texts_with_comments at.comments (only_comments []) ∙ ap (λ z. z ++ []) at.is;
       };
       laid = laid_with_comments at.comments (comments_stand (rows_ascend (lines_rows at.lines)) at.is) (no_documents_laid (omega (arith, end)));
+      line = at.place;
+      firsts = at.comments;
+      others = [];
+      ascend = rows_ascend (lines_rows at.lines);
+      are = comments_with_comments at.comments;
+      found_rows = [];
+      found = subst (λ z. FoundDocuments t c [] z []) (sym (documents_with_comments at.comments)) no_documents_found;
+      placed = no_stream;
       begun = comments_begun at.comments (only_comments []) (comments_stand (rows_ascend (lines_rows at.lines)) at.is) (nothing_stands (omega (arith, end)));
       held = record { comments = comments_set t at.comments (lines_set (inl at_text) at.lines); bodies = tt };
     }
@@ -401,6 +374,14 @@ stream_made {t} c gap decos (fit_document {d = d} {ds = ds} {x = x} {xs = xs} f 
       laid = subst (λ z. DocumentsLaid 0 (length t) (with_document (at.comments ++ one.comments) one.document last.documents) z)
           (append_assoc (comment_steps (remarks_of gap)) (steps_in head decos) (steps_in others (past head decos)) ∙ ap (λ z. comment_steps (remarks_of gap) ++ z) (sym (steps_append head others decos)))
           (documents_laid one.document (events_behind (comments_stand (rows_ascend (lines_rows at.lines)) at.is) one.laid) last.laid);
+      line = at.place;
+      firsts = at.comments;
+      others = one.comments ++ last.documents.comments;
+      ascend = rows_ascend (lines_rows at.lines);
+      are = comments_with_document (at.comments ++ one.comments) one.document last.documents ∙ append_assoc at.comments one.comments last.documents.comments;
+      found_rows = one.found_rows ++ last.found_rows;
+      found = found_with (at.comments ++ one.comments) last.documents one.found last.found;
+      placed = stream_more (document_begins true d.start d.directives (root_rows c x)) one.placed (λ e. ended_at (subst (λ z. Rest t one.place (lines_then z (past head decos) [])) e one.rest)) last.placed;
       begun = subst (λ z. Stand 0 (starts_in (with_document (at.comments ++ one.comments) one.document last.documents)) (with_document (at.comments ++ one.comments) one.document last.documents).comments z (length t))
           (append_assoc (comment_steps (remarks_of gap)) (steps_with documents_begin head decos) (steps_with documents_begin others (past head decos))
           ∙ ap (λ z. comment_steps (remarks_of gap) ++ z) (sym (with_append documents_begin head others decos)))
@@ -415,5 +396,5 @@ stream_made {t} c gap decos (fit_document {d = d} {ds = ds} {x = x} {xs = xs} f 
 -- what is laid out is derived again, with its leaves and comments in the order in which they were laid out
 pub layout_derived : {t : List ℕ} (c : Setting) {ds : List Doc} {xs : List DocumentTree} (gap : List GapLine) (decos : List Deco) → FitDocuments ds xs → IsUtf8 t → AreGapLines gap → AreDecos decos
     → Calm (stream_rows c true ds xs) decos [] → t ≡ gap_then gap (lines_then (stream_rows c true ds xs) decos [])
-    → StreamLaid t ds xs gap (stream_rows c true ds xs) decos
+    → StreamLaid t c ds xs gap (stream_rows c true ds xs) decos
 layout_derived {t} c gap decos fit u g a k e = stream_made c gap decos fit u g a k (subst (λ z. Rest t 0 z) e (rest_start t u))

@@ -12,16 +12,17 @@ use Rattle.yf_events.specs.declared.event.Span.{Span}
 use Rattle.yf_events.specs.Tree.{Standing, Node, scalar, alias, sequence, mapping, Items, no_items, item, Pairs, no_pairs, pair, items_in, leaves, spans_of_leaf, entry_start, standing, is_sequence}
 use Rattle.yf_grammar.specs.Grammar.{least_column}
 use Rattle.yf_grammar.specs.Meaning.{Meaning}
-use Rattle.yf_grammar.specs.Meant.{Meant, ItemsMeant, PairsMeant, tall, tall_items, tall_pairs}
-use Rattle.yf_grammar.proofs.MeantLemmas.{meant_nothing, last_item_meant, more_items_meant, sequence_meant, mapping_meant, sequence_with_meant, mapping_with_meant}
-use Rattle.yf_emit.specs.declared.style.Style.{Style}
+use Rattle.yf_grammar.specs.Meant.{tall, tall_items, tall_pairs}
+use Rattle.yf_grammar.proofs.MeantLemmas.{meant_nothing}
 use Rattle.yf_emit.specs.Fits.{LineNode, is_inline, is_block_style, FitProps, no_fit_props, some_fit_props, Fit, fit_nothing, fit_line, fit_scalar, fit_sequence, fit_mapping, FitItems, fit_no_items, fit_item, FitPairs, fit_no_pairs, fit_pair}
 use Rattle.yf_emit.specs.Normal.{Setting, Spot, inner_spot, key_spot, value_of_implicit, value_spot, is_implicit, is_one_line_key, key_comment}
 use Rattle.yf_emit.specs.OneLine.{written, width, props_text}
 use Rattle.yf_emit.specs.Rows.{Row, plain_row, one_line, one_line_row, props_row, behind_sign, entry_row, colon_offset, blank_before_entry, begins_below, is_empty_text, implicit_pair, explicit_pair, pair_rows, rows, rows_of_items, rows_of_pairs}
 use Rattle.yf_emit.proofs.CollectionsMade.{same_props, some_props, bare_claim, propertied_claim}
-use Rattle.yf_emit.proofs.EntriesMade.{EntryMakes, EntriesMakes, entries_last, entries_more, item_makes, explicit_makes, PairMeant, last_of_pairs, more_of_pairs}
+use Rattle.yf_emit.proofs.EntriesMade.{EntryMakes, EntriesMakes, entries_last, entries_more, item_makes, explicit_makes}
+use Rattle.yf_emit.proofs.FoundNodes.{FoundItem, FoundItems, FoundPair, FoundPairs, found_last_item, found_more_items, found_last_pair, found_more_pairs, found_sequence, found_mapping, found_sequence_with, found_mapping_with}
 use Rattle.yf_emit.proofs.KeysMade.{keyed_makes, unkeyed_makes}
+use Rattle.yf_emit.proofs.PlacedRows.{PlacedRow}
 use Rattle.yf_emit.proofs.ScalarsMade.{scalar_claim}
 use Rattle.yf_emit.proofs.NodesMade.{Stood, Claim, no_row, some_rows, line_made}
 
@@ -49,12 +50,12 @@ inline_beside (mapping at true props no_pairs) e = refl
 inline_beside (mapping at true props (pair k v ps)) e = refl
 inline_beside (mapping at false props pairs) e = absurd (true≢false (sym e))
 
-line_claim : {s : Style} {x : Node} (spot : Spot) (w : List ℕ) → w ≡ written x → w ≢ [] → begins_below x ≡ false → LineNode FlowOut x → Claim s x spot (one_line_row spot.column x w)
-line_claim spot [] e some b node = absurd (some refl)
-line_claim {s} {x} spot (a ∷ w) e some b node =
+line_claim : {s : Setting} {x : Node} (spot : Spot) (w : List ℕ) → w ≡ written x → w ≢ [] → begins_below x ≡ false → is_inline x ≡ true → LineNode FlowOut x → Claim s x spot (one_line_row spot.column x w)
+line_claim spot [] e some b inline node = absurd (some refl)
+line_claim {s} {x} spot (a ∷ w) e some b inline node =
     some_rows (λ z. refl) (λ z. absurd (true≢false (sym z ∙ b))) (record {
       made = λ {t} n c ds r q u stood k calm v.
-          line_made {r = record (plain_row spot.column (a ∷ w)) { items = items_in x; leaves = leaves x }} spot n c ds r q b e refl refl node u stood k v;
+          line_made {r = record (plain_row spot.column (a ∷ w)) { items = items_in x; leaves = leaves x }} spot n c ds r q b inline (λ z. some (e ∙ z)) refl e refl refl node u stood k v;
     })
 
 -- Where values stand.
@@ -71,7 +72,7 @@ least_inner : (sequence : Bool) (column indent : ℕ) → 2 ≤ indent → (leas
 least_inner true column indent wide = (pos_at_most (column + 1) (column + indent) (omega arith), pos_at_most column (column + indent) (omega arith))
 least_inner false column indent wide = (pos_at_most (column + 1) (column + indent) (omega arith), pos_at_most (column + 1) (column + indent) (omega arith))
 
-value_stood : (c : Setting) (column : ℕ) (k v : Node) → Stood c.style v (pos column) BlockOut (value_of_implicit c column k v)
+value_stood : (c : Setting) (column : ℕ) (k v : Node) → Stood c v (pos column) BlockOut (value_of_implicit c column k v)
 value_stood c column k v = record { block = refl; least = least_value (is_sequence v) c.style.seq_indent column c.style.indent c.style.indent_from; lines = refl }
 
 commented_column : (b : Bool) (column indent n : ℕ) → 2 ≤ indent → b ≡ true → column + 1 ≤ (if b then column + indent else n)
@@ -80,7 +81,7 @@ commented_column false column indent n wide e = absurd (true≢false (sym e))
 
 -- What is claimed of a node wherever it stands.
 pub record Everywhere (c : Setting) (x : Node) : Type 0 where
-  pub claim : (spot : Spot) → Claim c.style x spot (rows c spot x)
+  pub claim : (spot : Spot) → Claim c x spot (rows c spot x)
 
 -- Pairs.
 
@@ -102,25 +103,25 @@ no_leaf : (o : Option Span) → is_some o ≡ false → spans_of_leaf o ≡ []
 no_leaf None e = refl
 no_leaf (Some s) e = absurd (true≢false e)
 
-implicit_makes : (c : Setting) (column : ℕ) {k v : Node} → is_implicit c.style column k ≡ true → Fit k → Claim c.style v (value_of_implicit c column k v) (rows c (value_of_implicit c column k v) v)
-    → EntryMakes false column (max (tall k) (tall v)) (PairMeant k v) (implicit_pair c column k v (rows c (value_of_implicit c column k v) v))
+implicit_makes : (c : Setting) (column : ℕ) {k v : Node} → is_implicit c.style column k ≡ true → Fit k → Claim c v (value_of_implicit c column k v) (rows c (value_of_implicit c column k v) v)
+    → EntryMakes false column (max (tall k) (tall v)) (λ t m ps. FoundPair t c column k v m ps) (implicit_pair c column k v (rows c (value_of_implicit c column k v) v))
 implicit_makes c column {k} {v} e (fit_nothing {at = at} f) value =
     unkeyed_makes column (entry_start k ++ items_in k) (leaves k) (blank_before_entry (standing k).entry) (key_comment c.comments k v) (begins_below v) value refl
-    (λ z b. commented_column (is_some (key_comment c.comments k v)) column c.style.indent _ c.style.indent_from z) (value_stood c column k v) (record { meant = λ i. meant_nothing i f refl }) (no_leaf at.span f)
+    (λ z b. commented_column (is_some (key_comment c.comments k v)) column c.style.indent _ c.style.indent_from z) (value_stood c column k v) refl e refl (record { meant = λ i. meant_nothing i f refl }) (no_leaf at.span f)
 implicit_makes c column {k} {v} e (fit_line inline some node key) value =
     keyed_makes column (entry_start k ++ items_in k) (leaves k) (blank_before_entry (standing k).entry) (key_comment c.comments k v) (begins_below v) value refl
-    (λ z b. commented_column (is_some (key_comment c.comments k v)) column c.style.indent _ c.style.indent_from z) (value_stood c column k v) key refl
+    (λ z b. commented_column (is_some (key_comment c.comments k v)) column c.style.indent _ c.style.indent_from z) (value_stood c column k v) refl e refl key refl
     (within_limit (width (written k)) (and_parts (is_one_line_key c.style column k) (nat_le (width (written k)) 1023) e).1)
 implicit_makes c column {k} {v} e (fit_scalar {at = at} {p = p} {style = style} {text = text} {lines = lines} f g h) value =
     absurd (not_implicit c column k (block_is_no_key c column at p text lines style h.block) e)
 implicit_makes c column {k} {v} e (fit_sequence f p g gs) value = absurd (not_implicit c column k refl e)
 implicit_makes c column {k} {v} e (fit_mapping f p g h gs) value = absurd (not_implicit c column k refl e)
 
-question_makes : (c : Setting) (column : ℕ) {k v : Node} {at : Spot} → at.entries ≡ column + c.style.indent → at.lines ≡ column + c.style.indent → Claim c.style k at (rows c at k)
-    → Claim c.style v (inner_spot c.style column) (rows c (inner_spot c.style column) v)
-    → EntryMakes false column (max (tall k) (tall v)) (PairMeant k v) (explicit_pair c.style column k (rows c at k) (rows c (inner_spot c.style column) v))
-question_makes c column {k} {v} {at} e f a b =
-    explicit_makes column (entry_start k) (blank_before_entry (standing k).entry) (colon_offset (standing k).entry) c.style.indent_from e refl
+question_makes : (c : Setting) (column : ℕ) {k v : Node} {at : Spot} → is_implicit c.style column k ≡ false → at.entries ≡ column + c.style.indent → at.lines ≡ column + c.style.indent → Claim c k at (rows c at k)
+    → Claim c v (inner_spot c.style column) (rows c (inner_spot c.style column) v)
+    → EntryMakes false column (max (tall k) (tall v)) (λ t m ps. FoundPair t c column k v m ps) (explicit_pair c.style column k (rows c at k) (rows c (inner_spot c.style column) v))
+question_makes c column {k} {v} {at} marked e f a b =
+    explicit_makes column (entry_start k) (blank_before_entry (standing k).entry) (colon_offset (standing k).entry) marked c.style.indent_from e refl
     (record { block = refl; least = subst (λ z. least_column (is_sequence k) (pos column) BlockOut ≤ℤ pos z) (sym e) (least_inner (is_sequence k) column c.style.indent c.style.indent_from).1; lines = f })
     (record { block = refl; least = (least_inner (is_sequence v) column c.style.indent c.style.indent_from).1; lines = refl }) a b
 
@@ -131,22 +132,22 @@ either_pair b c column k v =
     else explicit_pair c.style column k (rows c (key_spot c.style column k) k) (rows c (if b then value_of_implicit c column k v else inner_spot c.style column) v)
 
 pair_makes : (c : Setting) (column : ℕ) {k v : Node} → Fit k → Everywhere c k → Everywhere c v
-    → EntryMakes false column (max (tall k) (tall v)) (PairMeant k v) (pair_rows c column k v (rows c (key_spot c.style column k) k) (rows c (value_spot c column k v) v))
+    → EntryMakes false column (max (tall k) (tall v)) (λ t m ps. FoundPair t c column k v m ps) (pair_rows c column k v (rows c (key_spot c.style column k) k) (rows c (value_spot c column k v) v))
 pair_makes c column {k} {v} fit key value = go (is_implicit c.style column k) refl where
-  go : (b : Bool) → is_implicit c.style column k ≡ b → EntryMakes false column (max (tall k) (tall v)) (PairMeant k v) (either_pair (is_implicit c.style column k) c column k v)
-  go true e = subst (λ b. EntryMakes false column (max (tall k) (tall v)) (PairMeant k v) (either_pair b c column k v)) (sym e)
+  go : (b : Bool) → is_implicit c.style column k ≡ b → EntryMakes false column (max (tall k) (tall v)) (λ t m ps. FoundPair t c column k v m ps) (either_pair (is_implicit c.style column k) c column k v)
+  go true e = subst (λ b. EntryMakes false column (max (tall k) (tall v)) (λ t m ps. FoundPair t c column k v m ps) (either_pair b c column k v)) (sym e)
       (implicit_makes c column e fit (value.claim (value_of_implicit c column k v)))
-  go false e = subst (λ b. EntryMakes false column (max (tall k) (tall v)) (PairMeant k v) (either_pair b c column k v)) (sym e)
-      (question_makes c column refl refl (key.claim (key_spot c.style column k)) (value.claim (inner_spot c.style column)))
+  go false e = subst (λ b. EntryMakes false column (max (tall k) (tall v)) (λ t m ps. FoundPair t c column k v m ps) (either_pair b c column k v)) (sym e)
+      (question_makes c column e refl refl (key.claim (key_spot c.style column k)) (value.claim (inner_spot c.style column)))
 
 dash_makes : (c : Setting) (column : ℕ) {x : Node} → Everywhere c x
-    → EntryMakes true column (tall x) (Meant x) (behind_sign c.style (entry_row column (codes "-") x) (rows c (inner_spot c.style column) x))
+    → EntryMakes true column (tall x) (λ t m ps. FoundItem t c column x m ps) (behind_sign c.style (entry_row column (codes "-") x) (rows c (inner_spot c.style column) x))
 dash_makes c column {x} f =
     item_makes column (entry_start x) (blank_before_entry (standing x).entry) c.style.indent_from refl
     (record { block = refl; least = (least_inner (is_sequence x) column c.style.indent c.style.indent_from).0; lines = refl }) (f.claim (inner_spot c.style column))
 
 -- a bound of one entry, and of others after it
-bound_last : {sequence : Bool} {column a b : ℕ} {P : Meaning → Type 0} {rs : List Row} → a ≡ b → EntriesMakes sequence column a P rs → EntriesMakes sequence column b P rs
+bound_last : {sequence : Bool} {column a b : ℕ} {P : List ℕ → Meaning → List PlacedRow → Type 0} {rs : List Row} → a ≡ b → EntriesMakes sequence column a P rs → EntriesMakes sequence column b P rs
 bound_last {sequence} {column} {P = P} {rs = rs} e = subst (λ n. EntriesMakes sequence column n P rs) e
 
 -- Trees.
@@ -156,34 +157,36 @@ mutual
   node_everywhere c (fit_nothing {at = at} e) = record { claim = λ spot. no_row (record { meant = λ i. meant_nothing i e refl }) }
   node_everywhere c {x} (fit_line inline some node key) = record {
     claim = λ spot.
-        subst (λ rs. Claim c.style x spot rs) (sym (inline_rows c spot x inline)) (line_claim spot (written x) refl some (inline_beside x inline) node);
+        subst (λ rs. Claim c x spot rs) (sym (inline_rows c spot x inline)) (line_claim spot (written x) refl some (inline_beside x inline) inline node);
   }
   node_everywhere c (fit_scalar e props f) = record { claim = λ spot. scalar_claim c spot e props f }
   node_everywhere c (fit_sequence {at = at} {p = p} {x = x} {xs = xs} e props f fs) = record { claim = λ spot. sequence_claim spot props (items_everywhere c spot.entries (node_everywhere c f) fs) } where
-    sequence_claim : (spot : Spot) {p : PropsValue} → FitProps p → EntriesMakes true spot.entries (tall_items (item x xs)) (ItemsMeant (item x xs)) (rows_of_items c spot.entries (item x xs))
-        → Claim c.style (sequence at false p (item x xs)) spot (props_row spot.column (props_text p) ++ rows_of_items c spot.entries (item x xs))
-    sequence_claim spot no_fit_props made = bare_claim refl refl refl (λ i j m a. sequence_meant false i j e a) made
+    sequence_claim : (spot : Spot) {p : PropsValue} → FitProps p → EntriesMakes true spot.entries (tall_items (item x xs)) (λ t m ps. FoundItems t c spot.entries (item x xs) m ps) (rows_of_items c spot.entries (item x xs))
+        → Claim c (sequence at false p (item x xs)) spot (props_row spot.column (props_text p) ++ rows_of_items c spot.entries (item x xs))
+    sequence_claim spot no_fit_props made = bare_claim refl refl refl (λ t i j m ps a. found_sequence i j e refl a) made
     sequence_claim spot (some_fit_props {p = p} k n) made =
-        propertied_claim k n (ap is_empty_text (same_props k) ∙ some_props k n) refl refl (λ o f g i j m a. sequence_with_meant false p o f g i j e a) made
+        propertied_claim k n (ap is_empty_text (same_props k) ∙ some_props k n) refl refl
+        (λ t o f g i j m h ps y z w a. found_sequence_with p o f g i j e refl (ap is_empty_text (same_props k) ∙ some_props k n) y z w a) made
   node_everywhere c (fit_mapping {at = at} {p = p} {k = k} {v = v} {ps = ps} e props f g fs) =
       record { claim = λ spot. mapping_claim spot props (pairs_everywhere c spot.entries f (node_everywhere c f) (node_everywhere c g) fs) } where
-        mapping_claim : (spot : Spot) {p : PropsValue} → FitProps p → EntriesMakes false spot.entries (tall_pairs (pair k v ps)) (PairsMeant (pair k v ps)) (rows_of_pairs c spot.entries (pair k v ps))
-            → Claim c.style (mapping at false p (pair k v ps)) spot (props_row spot.column (props_text p) ++ rows_of_pairs c spot.entries (pair k v ps))
-        mapping_claim spot no_fit_props made = bare_claim refl refl refl (λ i j m a. mapping_meant false i j e a) made
+        mapping_claim : (spot : Spot) {p : PropsValue} → FitProps p → EntriesMakes false spot.entries (tall_pairs (pair k v ps)) (λ t m qs. FoundPairs t c spot.entries (pair k v ps) m qs) (rows_of_pairs c spot.entries (pair k v ps))
+            → Claim c (mapping at false p (pair k v ps)) spot (props_row spot.column (props_text p) ++ rows_of_pairs c spot.entries (pair k v ps))
+        mapping_claim spot no_fit_props made = bare_claim refl refl refl (λ t i j m qs a. found_mapping i j e refl a) made
         mapping_claim spot (some_fit_props {p = p} k n) made =
-            propertied_claim k n (ap is_empty_text (same_props k) ∙ some_props k n) refl refl (λ o f g i j m a. mapping_with_meant false p o f g i j e a) made
+            propertied_claim k n (ap is_empty_text (same_props k) ∙ some_props k n) refl refl
+            (λ t o f g i j m h qs y z w a. found_mapping_with p o f g i j e refl (ap is_empty_text (same_props k) ∙ some_props k n) y z w a) made
 
   items_everywhere : (c : Setting) (column : ℕ) {x : Node} {xs : Items} → Everywhere c x → FitItems xs
-      → EntriesMakes true column (tall_items (item x xs)) (ItemsMeant (item x xs)) (rows_of_items c column (item x xs))
-  items_everywhere c column {x} f fit_no_items = bound_last (omega arith) (entries_last (λ m a. last_item_meant a) (dash_makes c column f))
-  items_everywhere c column f (fit_item g gs) = entries_more (λ m n a b. more_items_meant a b) (dash_makes c column f) (items_everywhere c column (node_everywhere c g) gs)
+      → EntriesMakes true column (tall_items (item x xs)) (λ t m ps. FoundItems t c column (item x xs) m ps) (rows_of_items c column (item x xs))
+  items_everywhere c column {x} f fit_no_items = bound_last (omega arith) (entries_last (λ t m ps a. found_last_item a) (dash_makes c column f))
+  items_everywhere c column f (fit_item g gs) = entries_more (λ t m n ps qs a b. found_more_items a b) (dash_makes c column f) (items_everywhere c column (node_everywhere c g) gs)
 
   pairs_everywhere : (c : Setting) (column : ℕ) {k v : Node} {ps : Pairs} → Fit k → Everywhere c k → Everywhere c v → FitPairs ps
-      → EntriesMakes false column (tall_pairs (pair k v ps)) (PairsMeant (pair k v ps)) (rows_of_pairs c column (pair k v ps))
-  pairs_everywhere c column {k} {v} fit f g fit_no_pairs = bound_last (omega arith) (entries_last last_of_pairs (pair_makes c column fit f g))
+      → EntriesMakes false column (tall_pairs (pair k v ps)) (λ t m qs. FoundPairs t c column (pair k v ps) m qs) (rows_of_pairs c column (pair k v ps))
+  pairs_everywhere c column {k} {v} fit f g fit_no_pairs = bound_last (omega arith) (entries_last (λ t m qs a. found_last_pair a) (pair_makes c column fit f g))
   pairs_everywhere c column fit f g (fit_pair a b fs) =
-      entries_more more_of_pairs (pair_makes c column fit f g) (pairs_everywhere c column a (node_everywhere c a) (node_everywhere c b) fs)
+      entries_more (λ t m n hs qs a b. found_more_pairs a b) (pair_makes c column fit f g) (pairs_everywhere c column a (node_everywhere c a) (node_everywhere c b) fs)
 
 -- the rows of a node are derived as the node, wherever they stand
-pub node_claim : (c : Setting) (spot : Spot) {x : Node} → Fit x → Claim c.style x spot (rows c spot x)
+pub node_claim : (c : Setting) (spot : Spot) {x : Node} → Fit x → Claim c x spot (rows c spot x)
 node_claim c spot f = (node_everywhere c f).claim spot

@@ -2,14 +2,13 @@
 -- alone, a comment trails a key in both or in neither, and no comment stands within a flow collection.
 use Rattle.std.specs.Prelude.{◌≡◌, ℕ, List, [], ◌∷◌, map}
 use Rattle.yf_comments.specs.Comment.{CommentValue}
-use Rattle.yf_events.specs.Alike.{Alike}
 use Rattle.yf_events.specs.Tree.{DocumentTree, TreesOf}
 use Rattle.yf_events.specs.declared.directive.Directive.{Directive}
 use Rattle.yf_events.specs.declared.document.Doc.{Doc}
 use Rattle.yf_events.specs.declared.lists.Lists.{Lists}
 use Rattle.yf_emit.specs.declared.style.Style.{Style}
+use Rattle.yf_emit.specs.AlikeBlocks.{AlikeBlocks}
 use Rattle.yf_emit.specs.Decorated.{first_gap, row_decos, rows_of}
-use Rattle.yf_emit.specs.RowShapes.{KeysAgree}
 use Rattle.yf_emit.specs.Undisturbed.{Undisturbed}
 
 abbrev pub words_of : List Directive → List (List (List ℕ))
@@ -19,7 +18,7 @@ words_of ds = map (λ (e : Directive). e.words) ds
 pub data FoundTrees (s : Style) (cs : List CommentValue) (u : List ℕ) (es : List CommentValue) : List Doc → List DocumentTree → List Doc → List DocumentTree → Type 0 where
   none_found : FoundTrees s cs u es [] [] [] []
   one_found : {d e : Doc} {ds fs : List Doc} {x y : DocumentTree} {xs ys : List DocumentTree} → words_of d.directives ≡ words_of e.directives
-      → Alike (KeysAgree s cs es) x.root y.root → Undisturbed u es y.root → FoundTrees s cs u es ds xs fs ys → FoundTrees s cs u es (d ∷ ds) (x ∷ xs) (e ∷ fs) (y ∷ ys)
+      → AlikeBlocks s cs es x.root y.root → Undisturbed u es y.root → FoundTrees s cs u es ds xs fs ys → FoundTrees s cs u es (d ∷ ds) (x ∷ xs) (e ∷ fs) (y ∷ ys)
 
 -- a normal reading m with its trees, and what is found in the text u that it is laid out as: each row carries what it carried
 pub record FoundSame (m : Lists) (s : Style) (trees : List DocumentTree) (u : List ℕ) (q : Lists) (found : List DocumentTree) : Type 0 where

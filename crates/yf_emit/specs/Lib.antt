@@ -49,3 +49,5 @@ pub mod TrailsOf
 pub mod Wanted
 pub mod Undisturbed
 pub mod FoundTrees
+pub mod AlikeBlocks
+pub mod FixedLaws

@@ -58,3 +58,6 @@ pub mod MendedScalars
 pub mod MendedContents
 pub mod MendedSorts
 pub mod MendedBlanks
+pub mod MendedSpaces
+pub mod MendedIndents
+pub mod MendedMarks

@@ -91,3 +91,4 @@ pub mod FloorLemmas
 pub mod NotingLemmas
 pub mod NestedNodes
 pub mod DocumentMarkers
+pub mod DirectivesStand

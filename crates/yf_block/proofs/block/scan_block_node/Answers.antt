@@ -1,4 +1,4 @@
-use Rattle.std.proofs.Common.{refl, to_z-of_z}
+use Rattle.std.proofs.Common.{to_z-of_z}
 use Rattle.yf_grammar.specs.Refusal.{for_memory}
 use Rattle.yf_block.proofs.NodesGiven.{node_alone, too_deep_given}
 use Rattle.yf_block.proofs.block.scan_block_node.Goals as goal

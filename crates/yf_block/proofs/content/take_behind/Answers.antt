@@ -1,4 +1,4 @@
-use Rattle.std.proofs.Common.{◌≡◌, ℕ, ◌+◌, reverse, length, sym, ◌∙◌, arith}
+use Rattle.std.proofs.Common.{◌≡◌, ◌+◌, reverse, length, arith}
 use Rattle.std.proofs.lemmas.List.{length-reverse}
 use Rattle.yf_block.proofs.ContentSteps.{text_properties, scalar_apart, scalar_there, nothing_read}
 use Rattle.yf_block.proofs.TiedOpenings.{room_there}

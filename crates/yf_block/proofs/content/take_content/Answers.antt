@@ -1,4 +1,4 @@
-use Rattle.std.proofs.Common.{◌∙◌, sym}
+use Rattle.std.proofs.Common.{◌∙◌}
 use Rattle.yf_block.specs.ContentTied.{text_alone}
 use Rattle.yf_block.proofs.ContentSteps.{signless_there}
 use Rattle.yf_block.proofs.content.take_content.Goals as goal

@@ -1,7 +1,7 @@
 use Rattle.std.proofs.lemmas.Bool.{lt-ltb}
 use Rattle.yf_block.specs.ContentTied.{text_held}
 use Rattle.yf_block.proofs.ContentLines.{line_goes_on_behind, nowhere_behind_fails}
-use Rattle.std.proofs.Common.{arith, length}
+use Rattle.std.proofs.Common.{length}
 use Rattle.yf_block.proofs.content.take_propertied.Goals as goal
 
 pub returns-then-line_ends-clause-tied : goal.returns-then-line_ends-clause-tied

@@ -1,4 +1,3 @@
-use Rattle.std.proofs.Common.{Some, None}
 use Rattle.yf_block.specs.KeyTexts.{text_bare, text_behind, text_ended}
 use Rattle.yf_block.proofs.TiedKeys.{nowhere_behind}
 use Rattle.yf_block.proofs.entry.key_text.Goals as goal

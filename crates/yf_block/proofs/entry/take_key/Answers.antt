@@ -1,4 +1,4 @@
-use Rattle.std.proofs.Common.{◌≡◌, ℕ, ◌+◌, pos, true, false, Some, None, refl, sym, ap, ◌∙◌, subst, arith, length, ◌≤◌}
+use Rattle.std.proofs.Common.{◌≡◌, ℕ, ◌+◌, true, false, Some, None, refl, ap, ◌∙◌, arith, length, ◌≤◌}
 use Rattle.yf_events.specs.Edit.{edited, coloned}
 use Rattle.yf_block.specs.BlockTied.{wanted_after}
 use Rattle.yf_block.proofs.TiedKeys.{none_of, some_of, key_narrow, key_room, key_there, key_lost, key_nowhere, key_unended, key_column, key_ended}

@@ -1,5 +1,5 @@
 use Rattle.yf_events.specs.Event.{placed_value}
-use Rattle.std.proofs.Common.{take, ◌++◌, ◌∷◌, [], Some, ◌∙◌, ap, refl}
+use Rattle.std.proofs.Common.{take, ◌++◌, ◌∷◌, [], Some, ◌∙◌, ap}
 use Rattle.yf_block.proofs.ContentMappings.{put_again, read_again}
 use Rattle.yf_block.proofs.inline.begin_mapping.Goals as goal
 

@@ -1,4 +1,4 @@
-use Rattle.std.proofs.Common.{◌≡◌, ℕ, ◌<◌, length, reverse, max, refl, arith, ◌≤◌}
+use Rattle.std.proofs.Common.{length, refl, arith, ◌≤◌}
 use Rattle.std.proofs.lemmas.List.{length-reverse}
 use Rattle.yf_block.proofs.ContentSteps.{key_too_many, leaf_apart, leaf_there, first_key_there}
 use Rattle.yf_block.proofs.CountedSteps.{later, colon_passed, key_full}

@@ -1,8 +1,5 @@
-use Rattle.std.proofs.Common.{[], ◌∷◌, ◌++◌, ℕ, reverse, length, refl, sym, ap, ◌∙◌, arith}
-use Rattle.std.proofs.lemmas.List.{length-reverse}
+use Rattle.std.proofs.Common.{[], ◌∷◌, ◌++◌, refl, sym, ap, ◌∙◌}
 use Rattle.yf_events.specs.Event.{Placed}
-use Rattle.yf_block.specs.declared.frame.Frame.{Frame}
-use Rattle.yf_block.specs.declared.held.Held.{Held}
 use Rattle.yf_flow.specs.declared.node.Lead.{Lead}
 use Rattle.yf_events.specs.declared.event.ScalarStyle.TheVariants.{Plain}
 use Rattle.yf_flow.specs.Begun.{leaf_event}

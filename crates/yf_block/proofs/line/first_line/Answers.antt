@@ -1,4 +1,4 @@
-use Rattle.std.proofs.Common.{refl, sym}
+use Rattle.std.proofs.Common.{refl}
 use Rattle.std.proofs.lemmas.Bool.{eqb-true, eqb-false}
 use Rattle.yf_block.proofs.TiedLines.{first_new_line, ended_other}
 use Rattle.yf_block.proofs.line.first_line.Goals as goal

@@ -1,4 +1,4 @@
-use Rattle.std.proofs.Common.{refl, reverse, length, arith, ◌≤◌}
+use Rattle.std.proofs.Common.{refl, length, arith, ◌≤◌}
 use Rattle.yf_block.proofs.TiedAlone.{wanting_line}
 use Rattle.yf_block.proofs.TiedIndented.{less_deep, text_over, comment_there, line_starts, sequence_column, no_dash_there}
 use Rattle.yf_block.proofs.CountedSteps.{later}

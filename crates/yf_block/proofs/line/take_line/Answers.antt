@@ -1,4 +1,4 @@
-use Rattle.std.proofs.Common.{reverse, length}
+use Rattle.std.proofs.Common.{length}
 use Rattle.yf_block.proofs.TiedAlone.{line_noted}
 use Rattle.yf_block.proofs.TiedIndented.{dash_begins}
 use Rattle.yf_block.proofs.CountedSteps.{later}

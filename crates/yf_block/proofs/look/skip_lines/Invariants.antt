@@ -1,4 +1,4 @@
-use Rattle.std.proofs.Common.{◌≡◌, ℕ, ◌-◌, length}
+use Rattle.std.proofs.Common.{ℕ, ◌-◌, length}
 use Rattle.std.specs.Str.{IsCharBoundary}
 use Rattle.yf_grammar.specs.BlockScalar.{LinesBetween}
 use Rattle.yf_block.specs.ScalarTied.{LinesLeft}

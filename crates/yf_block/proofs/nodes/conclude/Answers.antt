@@ -1,4 +1,4 @@
-use Rattle.std.proofs.Common.{true, sym, refl, true≢false}
+use Rattle.std.proofs.Common.{refl, true≢false}
 use Rattle.std.proofs.lemmas.List.Elements.{All-take, All-same}
 use Rattle.std.specs.Str.{IsCharBoundary}
 use Rattle.yf_block.proofs.NodesGiven.{run_halts, halt_at, whole_given, run_unfinished, run_unended, unmoved_given, found_again, cut_to_nothing}

@@ -1,7 +1,7 @@
 use Rattle.yf_block.proofs.TiedEntries.{top_breaks, item_follows_top, no_item_awaits}
 use Rattle.yf_block.proofs.TiedResumed.{fit_line}
 use Rattle.std.proofs.Common.{arith, ◌+◌, length}
-use Rattle.yf_block.proofs.CountedSteps.{later, popped_counted}
+use Rattle.yf_block.proofs.CountedSteps.{popped_counted}
 use Rattle.yf_block.proofs.resume.resume.Goals as goal
 
 pub returns-in-Item-clause-tied : goal.returns-in-Item-clause-tied

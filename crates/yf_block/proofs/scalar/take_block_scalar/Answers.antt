@@ -1,4 +1,4 @@
-use Rattle.std.proofs.Common.{refl, ◌≤◌, arith}
+use Rattle.std.proofs.Common.{refl, arith}
 use Rattle.yf_block.proofs.TiedScalar.{scalar_missing, no_header, no_body}
 use Rattle.yf_block.proofs.CountedSteps.{later}
 use Rattle.yf_block.proofs.scalar.take_block_scalar.Goals as goal

@@ -1,0 +1,160 @@
+-- A node on one line is found on its row.
+use Rattle.std.proofs.Common.{◌≡◌, ◌≢◌, ℕ, ◌+◌, ◌≤◌, Bool, true, false, List, [], ◌∷◌, ◌++◌, length, map, Option, Some, None, refl, sym, ap, ◌∙◌, subst, arith, append-nil}
+use Rattle.std.specs.Prelude.{is_some}
+use Rattle.yf_lines.specs.Basic.{LineStart}
+use Rattle.yf_lines.specs.Rest.{Rest}
+use Rattle.yf_comments.specs.Comment.{CommentValue}
+use Rattle.yf_comments.proofs.GapLinesLemmas.{texts}
+use Rattle.yf_props.specs.Props.{PropsValue}
+use Rattle.yf_events.specs.Alike.{Alike, alike_scalars, alike_aliases, alike_sequences, alike_mappings, AlikeItems, alike_nothing, alike_item, AlikePairs, alike_no_pairs, alike_pair}
+use Rattle.yf_events.specs.declared.event.ScalarStyle.{ScalarStyle}
+use Rattle.yf_events.specs.declared.event.ScalarStyle.TheVariants.{Plain, Single, Double, Literal, Folded}
+use Rattle.yf_events.specs.declared.event.Span.{Span}
+use Rattle.yf_events.specs.Tree.{Standing, Node, scalar, alias, sequence, mapping, Items, no_items, item, Pairs, no_pairs, pair, flat, leaves, leaves_of_items, leaves_of_pairs, items_in, items_in_items, items_in_pairs, starts_of_entry, standing, spans_of_leaf}
+use Rattle.yf_events.proofs.TreeLemmas.{node_unique}
+use Rattle.yf_grammar.specs.Meaning.{Meaning, noting, from_to}
+use Rattle.yf_grammar.specs.Meant.{Anywhere, Meant}
+use Rattle.yf_grammar.proofs.CommentOrder.{Ascend}
+use Rattle.yf_grammar.proofs.NodePlaces.{ColonStands, no_colon, a_colon, NodeStands, stands_nowhere, scalar_stands, alias_stands, sequence_stands, mapping_stands, ItemsStand, no_items_stand, item_stands, PairsStand, no_pairs_stand, pair_stands, node_order, items_order, pairs_order, node_upto}
+use Rattle.yf_grammar.proofs.PlacedNodes.{NodeAt}
+use Rattle.yf_emit.specs.Normal.{Setting}
+use Rattle.yf_emit.specs.Carried.{carried_texts}
+use Rattle.yf_emit.specs.Decorated.{Deco, first}
+use Rattle.yf_emit.specs.Fits.{is_inline}
+use Rattle.yf_emit.specs.OneLine.{written}
+use Rattle.yf_emit.specs.Rows.{Row}
+use Rattle.yf_emit.proofs.AlikeLemmas.{same_written}
+use Rattle.yf_emit.proofs.FoundNodes.{FoundNode, line_rows, found_noting}
+use Rattle.yf_emit.proofs.PlacedRows.{Inside, none_inside, one_inside, inside_join, inside_wider, PlacedRow, RowsIn, last_row}
+use Rattle.yf_emit.proofs.StepsStand.{starts_of, starts_append}
+
+-- What stands on one line between two places.
+
+leaf_inside : {i j : ℕ} (a b : ℕ) (o : Option Span) → o ≡ from_to a b → i ≤ a → a ≤ j → Inside i j (starts_of (spans_of_leaf o))
+unfolding from_to
+leaf_inside {i} {j} a b o e l m = subst (λ w. Inside i j (starts_of (spans_of_leaf w))) (sym e) (one_inside l m none_inside)
+
+pub colon_order : {t : List ℕ} {i j : ℕ} {c : Option ℕ} → ColonStands t i j c → i ≤ j
+colon_order (no_colon l) = l
+colon_order (a_colon l e m) = omega (arith, l, m)
+
+mutual
+  pub items_inside : {t : List ℕ} {i j : ℕ} {x : Node} → NodeStands t i j x → Inside i j (items_in x)
+  items_inside {i = i} {j = j} (stands_nowhere m e) = subst (λ w. Inside i j (starts_of (spans_of_leaf w))) (sym e) none_inside
+  items_inside (scalar_stands {at = at} e b l m w s) = leaf_inside _ _ at.span e b.order (omega (arith, l, m))
+  items_inside (alias_stands {at = at} e b l m s) = leaf_inside _ _ at.span e b.order (omega (arith, l, m))
+  items_inside (sequence_stands {at = at} e b (no_items_stand l) m s) = let n = b.inner in leaf_inside _ _ at.span e b.order (omega (arith, l, m, n))
+  items_inside (sequence_stands e b (item_stands f q l a c) m s) = let o = b.order in let n = b.inner in inside_wider (omega (arith, o, n)) m (list_inside (item_stands f q l a c))
+  items_inside (mapping_stands {at = at} e b (no_pairs_stand l) m s) = let n = b.inner in leaf_inside _ _ at.span e b.order (omega (arith, l, m, n))
+  items_inside (mapping_stands e b (pair_stands f q l a c d g) m s) = let o = b.order in let n = b.inner in inside_wider (omega (arith, o, n)) m (pairs_inside (pair_stands f q l a c d g))
+
+  list_inside : {t : List ℕ} {i j : ℕ} {xs : Items} → ItemsStand t i j xs → Inside i j (items_in_items xs)
+  list_inside (no_items_stand l) = none_inside
+  list_inside {i = i} {j = j} (item_stands {k = k} f q l a c) =
+      let o = l.order in
+      let m : f.start ≤ k = node_order a in
+      let n : k ≤ j = items_order c in
+      inside_join (subst (λ w. Inside i j (starts_of_entry w)) (sym q) (one_inside o (omega (arith, m, n)) none_inside))
+      (inside_join (inside_wider o n (items_inside a)) (inside_wider (omega (arith, o, m)) (omega arith) (list_inside c)))
+
+  pairs_inside : {t : List ℕ} {i j : ℕ} {ps : Pairs} → PairsStand t i j ps → Inside i j (items_in_pairs ps)
+  pairs_inside (no_pairs_stand l) = none_inside
+  pairs_inside {i = i} {j = j} (pair_stands {l = h} {m = m} {n = n} f q l a c d g) =
+      let o = l.order in
+      let one : f.start ≤ h = node_order a in
+      let two : h ≤ m = colon_order c in
+      let three : m ≤ n = node_order d in
+      let four : n ≤ j = pairs_order g in
+      inside_join (subst (λ w. Inside i j (starts_of_entry w)) (sym q.key) (one_inside o (omega (arith, one, two, three, four)) none_inside))
+      (inside_join (inside_wider o (omega (arith, two, three, four)) (items_inside a))
+      (inside_join (inside_wider (omega (arith, o, one, two)) four (items_inside d)) (inside_wider (omega (arith, o, one, two, three)) (omega arith) (pairs_inside g))))
+
+leaves_both : {i j : ℕ} (xs ys : List Span) → Inside i j (starts_of xs) → Inside i j (starts_of ys) → Inside i j (starts_of (xs ++ ys))
+leaves_both {i} {j} xs ys a b = subst (λ w. Inside i j w) (sym (starts_append xs ys)) (inside_join a b)
+
+mutual
+  pub leaves_inside : {t : List ℕ} {i j : ℕ} {x : Node} → NodeStands t i j x → Inside i j (starts_of (leaves x))
+  leaves_inside {i = i} {j = j} (stands_nowhere m e) = subst (λ w. Inside i j (starts_of (spans_of_leaf w))) (sym e) none_inside
+  leaves_inside (scalar_stands {at = at} e b l m w s) = leaf_inside _ _ at.span e b.order (omega (arith, l, m))
+  leaves_inside (alias_stands {at = at} e b l m s) = leaf_inside _ _ at.span e b.order (omega (arith, l, m))
+  leaves_inside (sequence_stands {at = at} e b (no_items_stand l) m s) = let n = b.inner in leaf_inside _ _ at.span e b.order (omega (arith, l, m, n))
+  leaves_inside (sequence_stands e b (item_stands f q l a c) m s) = let o = b.order in let n = b.inner in inside_wider (omega (arith, o, n)) m (list_leaves (item_stands f q l a c))
+  leaves_inside (mapping_stands {at = at} e b (no_pairs_stand l) m s) = let n = b.inner in leaf_inside _ _ at.span e b.order (omega (arith, l, m, n))
+  leaves_inside (mapping_stands e b (pair_stands f q l a c d g) m s) = let o = b.order in let n = b.inner in inside_wider (omega (arith, o, n)) m (pairs_leaves (pair_stands f q l a c d g))
+
+  list_leaves : {t : List ℕ} {i j : ℕ} {xs : Items} → ItemsStand t i j xs → Inside i j (starts_of (leaves_of_items xs))
+  list_leaves (no_items_stand l) = none_inside
+  list_leaves {i = i} {j = j} (item_stands {k = k} {x = x} {xs = xs} f q l a c) =
+      let o = l.order in
+      let m : f.start ≤ k = node_order a in
+      let n : k ≤ j = items_order c in
+      leaves_both (leaves x) (leaves_of_items xs) (inside_wider o n (leaves_inside a)) (inside_wider (omega (arith, o, m)) (omega arith) (list_leaves c))
+
+  pairs_leaves : {t : List ℕ} {i j : ℕ} {ps : Pairs} → PairsStand t i j ps → Inside i j (starts_of (leaves_of_pairs ps))
+  pairs_leaves (no_pairs_stand l) = none_inside
+  pairs_leaves {i = i} {j = j} (pair_stands {l = h} {m = m} {n = n} {k = k} {v = v} {ps = ps} f q l a c d g) =
+      let o = l.order in
+      let one : f.start ≤ h = node_order a in
+      let two : h ≤ m = colon_order c in
+      let three : m ≤ n = node_order d in
+      let four : n ≤ j = pairs_order g in
+      leaves_both (leaves k) (leaves v ++ leaves_of_pairs ps) (inside_wider o (omega (arith, two, three, four)) (leaves_inside a))
+      (leaves_both (leaves v) (leaves_of_pairs ps) (inside_wider (omega (arith, o, one, two)) four (leaves_inside d)) (inside_wider (omega (arith, o, one, two, three)) (omega arith) (pairs_leaves g)))
+
+pub same_inline : {K : Node → Node → Node → Node → Type 0} {x y : Node} → Alike K x y → is_inline x ≡ is_inline y
+same_inline (alike_scalars {at = at} {bt = bt} {props = props} {style = style} {text = text} {lines = lines} e) = by style where
+  by : (style : ScalarStyle) → is_inline (scalar at props style text lines) ≡ is_inline (scalar bt props style text lines)
+  by Plain = refl
+  by Single = refl
+  by Double = refl
+  by Literal = refl
+  by Folded = refl
+same_inline (alike_aliases e) = refl
+same_inline (alike_sequences e a) = refl
+same_inline (alike_mappings e a) = refl
+
+-- The node on its row.
+
+pub comments_noting : (x : Meaning) (cs : List CommentValue) → (noting x cs).comments ≡ x.comments ++ cs
+unfolding noting
+comments_noting x cs = refl
+
+pub record LineFound (t : List ℕ) (s : Setting) (m : ℕ) (x : Node) (meaning : Meaning) (row : Row) (ds : List Deco) (q place : ℕ) (z : List ℕ) : Type 0 where
+  pub found_rows : List PlacedRow
+  pub meant : FoundNode t s m x meaning found_rows
+  pub placed : RowsIn t (row ∷ []) found_rows ds q meaning.comments place z
+
+-- the node that a production means is the one that is placed
+pub placed_node : {t : List ℕ} {i j : ℕ} {x : Node} {mean : Meaning} (a : NodeAt t i j mean) → Meant x mean → Alike Anywhere x a.node
+placed_node {x = x} a b =
+    let same : b.node ≡ a.node = (node_unique b.node a.node [] [] (append-nil (flat b.node) ∙ (sym b.events ∙ (a.events ∙ sym (append-nil (flat a.node)))))).0 in
+    subst (λ z. Alike Anywhere x z) same b.alike
+
+pub line_found : {t : List ℕ} {x : Node} {row : Row} {place q : ℕ} {cs : List CommentValue} {z : List ℕ} {mean : Meaning} (s : Setting) (m : ℕ) (ds : List Deco) → is_inline x ≡ true → written x ≢ []
+    → row.text ≡ written x → is_some row.key_comment ≡ false → NodeAt t q (q + length (written x)) mean → Meant x mean → mean.comments ≡ []
+    → Ascend t (q + length (written x)) cs place → texts cs ≡ carried_texts (first ds) → LineStart t place → Rest t place z → LineFound t s m x (noting mean cs) row ds q place z
+line_found {t} {x} {row} {place} {q} {cs} {z} {mean} s m ds inline some text key a b silent up is start w =
+    let alike : Alike Anywhere x a.node = placed_node a b in
+    let stands : NodeStands t q (q + length (written x)) a.node = node_upto a.stands a.ends in
+    let width : length (written x) ≡ length row.text = ap length (sym text) in
+    let here : NodeStands t q (q + length row.text) a.node = subst (λ k. NodeStands t q (q + k) a.node) width stands in
+    let p : PlacedRow = record { items = items_in a.node; leaves = leaves a.node; commented = false; from = q; upto = q + length row.text } in
+    let same : (noting mean cs).comments ≡ cs = comments_noting mean cs ∙ ap (λ w. w ++ cs) silent in
+    record {
+      found_rows = p ∷ [];
+      meant = found_noting cs (record {
+        node = a.node;
+        alike = alike;
+        events = a.events;
+        escapes = b.escapes;
+        rows = line_rows (sym (same_inline alike) ∙ inline) (λ e. some (same_written alike ∙ e)) refl refl refl here (omega arith) (omega arith);
+      });
+      placed = subst (λ v. RowsIn t (row ∷ []) (p ∷ []) ds q v place z) (sym same) (last_row (record {
+        from = refl;
+        order = omega arith;
+        size = λ e. refl;
+        items = items_inside here;
+        leaves = leaves_inside here;
+        commented = key;
+      }) (record { ascend = subst (λ k. Ascend t (q + k) cs place) width up; is = is; start = start }) w);
+    }
