@@ -54,6 +54,7 @@ module _ (t : List ℕ) where
         chosen = subst (λ z. Chosen (BlockNodePart t DEPTH (pos 0 -ℤ pos 1) BlockIn at) z g.node) (sym e.at) g.chosen;
         bare = e.bare;
         document = e.document;
+        floor = e.floor ∙ g.floor_is;
         parts = grown_by a g.node g.added.events g.added.comments g.added.escapes d;
       }
 

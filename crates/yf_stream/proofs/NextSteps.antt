@@ -42,8 +42,8 @@ pub data StepTo (t : List ℕ) (spot : Spot) (x : Documents) (a b : Parts) (afte
   dots_to : (s : SuffixEnds t spot a b after) → Forbidden t spot.at → code t spot.at ≡ 46 → StepTo t spot x a b after (followed x (only_comments s.comments))
   dashes_to : {y : Meaning} → Forbidden t spot.at → code t spot.at ≡ 45 → NodeDone t (spot.at + 3) (opened spot.at true [] (closed false spot.is_open a)) b after y
       → StepTo t spot x a b after (followed x (one_document y.comments (document_of spot.at true [] y)))
-  directives_to : {p : ℕ} {ds : List Directive} {cs : List CommentValue} {y : Meaning} → spot.may_be_bare ≡ true → (r : DirectivesRead t spot.at p ds a.part.comments cs)
-      → Forbidden t p → code t p ≡ 45 → NodeDone t (p + 3) (opened p true ds (with_comments_read cs a)) b after y
+  directives_to : {p : ℕ} {ds : List Directive} {cs : List CommentValue} {y : Meaning} → spot.may_be_bare ≡ true → code t spot.at ≡ 37
+      → (r : DirectivesRead t spot.at p ds a.part.comments cs) → Forbidden t p → code t p ≡ 45 → NodeDone t (p + 3) (opened p true ds (with_comments_read cs a)) b after y
       → StepTo t spot x a b after (followed x (one_document (r.upto.comments ++ y.comments) (document_of p true ds y)))
   bare_to : {start : ℕ} {y : Meaning} → spot.may_be_bare ≡ true → ContentAt t spot.at start → NodeDone t spot.at (opened start false [] a) b after y
       → StepTo t spot x a b after (followed x (one_document y.comments (document_of start false [] y)))
@@ -67,7 +67,7 @@ module _ {t : List ℕ} where
       (subst (λ w. DirectiveLines t i k (record { directives = x.directives; comments = w })) (sym (append-nil x.comments)) d)
   lines_from d (one_directive c r) = more_directives d (lines_from (one_line c.derived) r)
 
-  lines_read : {i j : ℕ} {ds : List Directive} {cs : List CommentValue} → LongestDirectives t i j ds cs → code t i ≡ 37 → code t j ≢ 37
+  pub lines_read : {i j : ℕ} {ds : List Directive} {cs : List CommentValue} → LongestDirectives t i j ds cs → code t i ≡ 37 → code t j ≢ 37
       → DirectiveLines t i j (record { directives = ds; comments = cs })
   lines_read no_directives e n = absurd (n e)
   lines_read (one_directive c r) e n = lines_from (one_line c.derived) r
@@ -120,7 +120,7 @@ module _ {t : List ℕ} (u : IsUtf8 t) where
   marked_too_deep (too_deep_read s n o) m = (no_marked_document u n s m, o)
 
   -- what is known of the place of the next document
-  module _ {i : ℕ} (spot : Spot) {c d : List CommentValue} (pre : PrefixRead t i spot.at c d) (some : spot.at ≢ length t) {x : Documents} (r : ReadUpto t spot.may_be_bare spot.at x) where
+  module _ {f i : ℕ} (spot : Spot) {c d : List CommentValue} (pre : PrefixRead t f i spot.at c d) (some : spot.at ≢ length t) {x : Documents} (r : ReadUpto t spot.may_be_bare spot.at x) where
     begin_bare : spot.may_be_bare ≡ true → ReadUpto t true spot.at x
     begin_bare e = subst (λ b. ReadUpto t b spot.at x) e r
 
@@ -156,7 +156,7 @@ module _ {t : List ℕ} (u : IsUtf8 t) where
         record {
           documents = followed x (one_document (d.upto.comments ++ y.meaning.comments) (document_of p true ds y.meaning));
           read = as_flag after y.bare (past_document u y.within (directive_document (lines_read d.upto.longest e d.last) y.node) y.through (begin_bare q));
-          step = directives_to q d f g y.is_done;
+          step = directives_to q e d f g y.is_done;
         }
     reading_goes_on (without_dashes f q e m) = bare_on f q e m
 
@@ -185,15 +185,10 @@ module _ {t : List ℕ} (u : IsUtf8 t) where
     too_deep_there (without_dashes f q e m) = bare_too_deep f e m
 
 -- the same from a spot before comment lines and byte order marks on
-pub spot_on : {t : List ℕ} {c d : List CommentValue} {x : Documents} (spot s : Spot) → IsUtf8 t → s ≡ record spot { at = s.at } → (r : PrefixRead t spot.at s.at c d)
+pub spot_on : {t : List ℕ} {c d : List CommentValue} {x : Documents} (spot s : Spot) → IsUtf8 t → s ≡ record spot { at = s.at } → (r : PrefixRead t spot.floor spot.at s.at c d)
     → ReadUpto t spot.may_be_bare spot.at x → ReadUpto t s.may_be_bare s.at (followed x (only_comments r.upto.comments))
 spot_on {t} {x = x} spot s u e r g =
     subst (λ b. ReadUpto t b s.at (followed x (only_comments r.upto.comments))) (sym (ap (λ z. z.may_be_bare) e)) (past_prefix u r g)
 
 pub next_of : (t : List ℕ) (s : Spot) (a b : Parts) {r : Result Next AllocError} {o p : Next} → IfOk r (λ next. NextRead t s a b next) → r ≡ Ok o → o ≡ p → NextRead t s a b p
 next_of t s a b i e f = subst (λ w. NextRead t s a b w) f (subst (λ z. IfOk z (λ next. NextRead t s a b next)) e i)
-
--- what has been read up to a spot
-pub record ReadSoFar (t : List ℕ) (spot : Spot) (p : Parts) : Type 0 where
-  pub documents : Documents
-  pub read : ReadUpto t spot.may_be_bare spot.at documents

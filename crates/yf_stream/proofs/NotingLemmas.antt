@@ -12,12 +12,8 @@ use Rattle.yf_events.specs.declared.event.ScalarStyle.TheVariants.{Double, Folde
 use Rattle.yf_events.specs.declared.event.Span.{Span}
 use Rattle.yf_grammar.specs.Part.{Noting, NotedSince, end_or, floor_behind, no_event, with_entry, without_entry}
 use Rattle.yf_grammar.proofs.NodePlaces.{ItemsStand, ColonStands, NodeStands, PairsStand, a_colon, alias_stands, item_stands, mapping_stands, no_colon, no_items_stand, no_pairs_stand, node_order, pair_stands, scalar_stands, sequence_stands, stands_nowhere}
+pub use Rattle.yf_block.specs.BlockTied.{floor_after as floor_of}
 use Rattle.yf_stream.proofs.FloorLemmas.{note_over}
-
--- the end of the last block scalar of some events
-abbrev pub floor_of : ℕ → List Placed → ℕ
-floor_of floor [] = floor
-floor_of floor (e ∷ es) = floor_of (floor_behind floor e e.event) es
 
 pub noting_join : {t : List ℕ} {f : ℕ} {xs ys zs ws : List Placed} → Noting t f xs ys → Noting t (floor_of f xs) zs ws → Noting t f (xs ++ zs) (ys ++ ws)
 noting_join no_event n = n
@@ -84,7 +80,7 @@ entries_join : (p : ℕ) (xs ys : List Placed) → EntriesAfter p xs → Entries
 entries_join p [] ys a b = b
 entries_join p (x ∷ xs) ys a b = (a.0, entries_join p xs ys a.1 b)
 
-none_after : (p : ℕ) {o : Option Entry} → o ≡ None → EntryAfter p o
+pub none_after : (p : ℕ) {o : Option Entry} → o ≡ None → EntryAfter p o
 none_after p e = subst (λ z. EntryAfter p z) (sym e) tt
 
 some_after : {p : ℕ} {o : Option Entry} (e : Entry) → o ≡ Some e → p < e.start → EntryAfter p o

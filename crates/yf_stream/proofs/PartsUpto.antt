@@ -6,7 +6,7 @@ use Rattle.yf_chars.proofs.ChainLemmas.{chain_append, chain_forward, stuck_uniqu
 use Rattle.yf_lines.specs.Basic.{Forbidden}
 use Rattle.yf_comments.specs.Comment.{CommentValue}
 use Rattle.yf_comments.specs.Comments.{LineEnd, Row, is_gap}
-use Rattle.yf_events.specs.Event.{Placed, document_ends, document_starts, stream_starts}
+use Rattle.yf_events.specs.Event.{Placed, document_ends, document_starts, stream_ends, stream_starts}
 use Rattle.yf_events.specs.Tree.{unplaced}
 use Rattle.yf_grammar.specs.Part.{Noting, no_event as none_noted, without_entry}
 use Rattle.yf_grammar.proofs.BlockEnds.{LineOrEnd}
@@ -18,6 +18,7 @@ use Rattle.yf_stream.specs.Stream.EndIsMarked.{marked_end, unmarked_end}
 use Rattle.yf_stream.specs.WrittenParts.{DocumentsWritten, document_written, nothing_written}
 use Rattle.yf_stream.specs.declared.documents.Parts.{Parts}
 use Rattle.yf_stream.specs.declared.documents.Spot.{Spot}
+use Rattle.yf_stream.proofs.CommentNotes.{Guard, guard_later}
 use Rattle.yf_stream.proofs.NotingLemmas.{floor_join, floor_of, noting_join}
 use Rattle.yf_stream.proofs.OneDirective.{dot_still}
 use Rattle.yf_stream.proofs.PrefixLemmas.{prefix_functional, prefixes_rows, rows_parts, still}
@@ -28,11 +29,6 @@ pub data EventsUpto (t : List ℕ) : Bool → ℕ → List Document → List Pla
   all_closed : {k : ℕ} {ds : List Document} {x : List Placed} → DocumentsWritten t ds x → EventsUpto t false k ds x
   last_open : {k j : ℕ} {ds : List Document} (d : Document) {x : List Placed} {cs more : List CommentValue} → DocumentsWritten t ds x → LineEnd t d.finish j cs
       → Chain (PrefixRow t) j k more → EventsUpto t true k (ds ++ d ∷ []) (x ++ (unplaced (document_starts d.marked) ∷ d.events))
-
--- a floor before which nothing of the next node may stand: there is none, or a visible character stands between
-pub data Guard (t : List ℕ) (f i : ℕ) : Type 0 where
-  no_floor : f ≡ 0 → Guard t f i
-  guarded : (p : ℕ) → code t p < no_char → is_gap (code t p) ≡ false → f ≤ p → p < i → Guard t f i
 
 -- where a document may begin without `---`
 pub record BareSpot (t : List ℕ) (spot : Spot) (f : ℕ) : Type 0 where
@@ -45,6 +41,14 @@ pub record EventsRead (t : List ℕ) (spot : Spot) (x : Documents) (p : Parts) :
   pub noted : Noting t 0 (unplaced stream_starts ∷ derived) p.part.events
   pub floor : floor_of 0 derived ≤ spot.at
   pub bare : spot.may_be_bare ≡ true → BareSpot t spot (floor_of 0 derived)
+  pub documents : p.documents ≡ map doc_of x.documents
+  pub escapes : p.part.escapes ≡ flat_map (λ (d : Document). d.escapes) x.documents
+
+-- the parts of the stream x, but for its comments
+pub record EventsWritten (t : List ℕ) (x : Documents) (p : Parts) : Type 0 where
+  pub derived : List Placed
+  pub written : DocumentsWritten t x.documents derived
+  pub events : Noting t 0 (unplaced stream_starts ∷ (derived ++ (unplaced stream_ends ∷ []))) p.part.events
   pub documents : p.documents ≡ map doc_of x.documents
   pub escapes : p.part.escapes ≡ flat_map (λ (d : Document). d.escapes) x.documents
 
@@ -105,7 +109,7 @@ module _ {t : List ℕ} where
 same_flag : (spot s : Spot) → s ≡ record spot { at = s.at } → (s.is_open ≡ spot.is_open) × (s.may_be_bare ≡ spot.may_be_bare)
 same_flag spot s e = (ap (λ z. z.is_open) e, ap (λ z. z.may_be_bare) e)
 
-no_more : (x : Documents) (cs : List CommentValue) → (followed x (only_comments cs)).documents ≡ x.documents
+pub no_more : (x : Documents) (cs : List CommentValue) → (followed x (only_comments cs)).documents ≡ x.documents
 unfolding followed
 no_more x cs = append-nil x.documents
 
@@ -114,11 +118,7 @@ module _ {t : List ℕ} where
   rows_after (all_closed w) c = all_closed w
   rows_after (last_open x w l d) c = last_open x w l (chain_append d c)
 
-  guard_later : {f i j : ℕ} → i ≤ j → Guard t f i → Guard t f j
-  guard_later l (no_floor e) = no_floor e
-  guard_later l (guarded p r s o m) = guarded p r s o (omega arith)
-
-  pub events_past_prefix : {spot s : Spot} {x : Documents} {a b : Parts} {c d : List CommentValue} → s ≡ record spot { at = s.at } → (r : PrefixRead t spot.at s.at c d)
+  pub events_past_prefix : {spot s : Spot} {x : Documents} {a b : Parts} {c d : List CommentValue} → s ≡ record spot { at = s.at } → (r : PrefixRead t spot.floor spot.at s.at c d)
       → b.part.events ≡ a.part.events → b.documents ≡ a.documents → b.part.escapes ≡ a.part.escapes → EventsRead t spot x a
       → EventsRead t s (followed x (only_comments r.upto.comments)) b
   events_past_prefix {spot} {s} {x} {a} {b} e r same docs escapes p =

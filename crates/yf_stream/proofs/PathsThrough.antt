@@ -73,7 +73,7 @@ module _ {t : List ℕ} where
         record { place = p.place; comments = p.comments; settled = p.settled; goes = record { height = h; documents = p.documents; path = p.path; within = l } };
   }
 
-  pub paths_past_prefix : {b : Bool} {i j : ℕ} {c d : List CommentValue} → PrefixRead t i j c d → PathsThrough t b i → PathsThrough t b j
+  pub paths_past_prefix : {b : Bool} {f i j : ℕ} {c d : List CommentValue} → PrefixRead t f i j c d → PathsThrough t b i → PathsThrough t b j
   paths_past_prefix r p = record { path = λ h x d l. past_prefix_rows r.upto.rows (p.path h x d l) }
 
   -- after the line of a `...`
@@ -91,5 +91,5 @@ module _ {t : List ℕ} where
   no_stream_from s n p h x d l = n (settled_here s (p.path h x d l))
 
   -- so it is where the reader stops since a document without `---` would follow another one
-  pub no_second_bare : {i k : ℕ} {c d : List CommentValue} → PrefixRead t i k c d → k ≢ length t → (Forbidden t k → ⊥) → PathsThrough t false k → NoStream t
+  pub no_second_bare : {f i k : ℕ} {c d : List CommentValue} → PrefixRead t f i k c d → k ≢ length t → (Forbidden t k → ⊥) → PathsThrough t false k → NoStream t
   no_second_bare r n f p = no_stream_from r.no_row (λ a. no_path refl n r.no_mark f a.path) p

@@ -15,25 +15,26 @@ use Rattle.yf_comments.specs.Comments.{LineEnd, Row}
 use Rattle.yf_comments.proofs.LineEndLemmas.{line_end_rows, lines_rows, rest_line, rest_next, rows_line_end}
 use Rattle.yf_comments.proofs.RowLemmas.{rest_at_end, row_functional}
 use Rattle.yf_grammar.proofs.BlockEnds.{LineOrEnd}
-use Rattle.yf_stream.specs.DocumentReaders.{Kept, PrefixRead, PrefixRow, PrefixUpto, Renoted, mark_row, line_row, none_renoted, one_renoted}
+use Rattle.yf_stream.specs.DocumentReaders.{FloorNote, Kept, PrefixRead, PrefixRow, PrefixUpto, Renoted, mark_row, line_row, none_renoted, one_renoted}
 use Rattle.yf_stream.specs.Stream.{PrefixPart, Prefixes}
 use Rattle.yf_stream.specs.Stream.PrefixPart.{order_mark, prefix_comment}
 use Rattle.yf_stream.specs.ReaderLaws.{PrefixesAreRead}
 use Rattle.yf_stream.proofs.StreamPath.{end_code, mark_still}
 
 -- comments that are kept
-renoted_more : {cs ns : List CommentValue} (c : CommentValue) (b : Bool) → Renoted cs ns → Renoted (cs ++ c ∷ []) (ns ++ record c { blank_before = b } ∷ [])
-renoted_more c b none_renoted = one_renoted b none_renoted
-renoted_more c b (one_renoted a r) = one_renoted a (renoted_more c b r)
+renoted_more : {t : List ℕ} {f : ℕ} {cs ns : List CommentValue} (c : CommentValue) (b : Bool) → FloorNote t f c.offset b → Renoted t f cs ns
+    → Renoted t f (cs ++ c ∷ []) (ns ++ record c { blank_before = b } ∷ [])
+renoted_more c b n none_renoted = one_renoted b n none_renoted
+renoted_more c b n (one_renoted a m r) = one_renoted a m (renoted_more c b n r)
 
-renoted_join : {cs ds ms ns : List CommentValue} → Renoted cs ms → Renoted ds ns → Renoted (cs ++ ds) (ms ++ ns)
+renoted_join : {t : List ℕ} {f : ℕ} {cs ds ms ns : List CommentValue} → Renoted t f cs ms → Renoted t f ds ns → Renoted t f (cs ++ ds) (ms ++ ns)
 renoted_join none_renoted r = r
-renoted_join (one_renoted a l) r = one_renoted a (renoted_join l r)
+renoted_join (one_renoted a m l) r = one_renoted a m (renoted_join l r)
 
-pub kept_none : (a : List CommentValue) → Kept [] a a
-kept_none a = record { noted = []; renoted = none_renoted; list = sym (append-nil a) }
+pub kept_none : (t : List ℕ) (f : ℕ) (a : List CommentValue) → Kept t f [] a a
+kept_none t f a = record { noted = []; renoted = none_renoted; list = sym (append-nil a) }
 
-pub kept_join : {cs ds a b c : List CommentValue} → Kept cs a b → Kept ds b c → Kept (cs ++ ds) a c
+pub kept_join : {t : List ℕ} {f : ℕ} {cs ds a b c : List CommentValue} → Kept t f cs a b → Kept t f ds b c → Kept t f (cs ++ ds) a c
 kept_join {a = a} k l = record {
   noted = k.noted ++ l.noted;
   renoted = renoted_join k.renoted l.renoted;
@@ -41,37 +42,37 @@ kept_join {a = a} k l = record {
 }
 
 -- of all comments some have been kept, and the others are left
-pub record KeptUpto (all a b left : List CommentValue) : Type 0 where
+pub record KeptUpto (t : List ℕ) (f : ℕ) (all a b left : List CommentValue) : Type 0 where
   pub some : List CommentValue
-  pub kept : Kept some a b
+  pub kept : Kept t f some a b
   pub list : some ++ left ≡ all
 
-pub kept_first : (all a : List CommentValue) → KeptUpto all a a all
-kept_first all a = record { some = []; kept = kept_none a; list = refl }
+pub kept_first : (t : List ℕ) (f : ℕ) (all a : List CommentValue) → KeptUpto t f all a a all
+kept_first t f all a = record { some = []; kept = kept_none t f a; list = refl }
 
-pub kept_next : {all a b c : List CommentValue} (items : List Comment) (i : ℕ) (d : Comment) (n : Bool) → i < length items
-    → KeptUpto all a b (map comment_value (drop i items)) → c ≡ b ++ record (comment_value (slice_index_or items i d)) { blank_before = n } ∷ []
-    → KeptUpto all a c (map comment_value (drop (i + 1) items))
-kept_next {a = a} items i d n l k e =
+pub kept_next : {t : List ℕ} {f : ℕ} {all a b c : List CommentValue} (items : List Comment) (i : ℕ) (d : Comment) (n : Bool) → i < length items
+    → FloorNote t f (comment_value (slice_index_or items i d)).offset n → KeptUpto t f all a b (map comment_value (drop i items)) → c ≡ b ++ record (comment_value (slice_index_or items i d)) { blank_before = n } ∷ []
+    → KeptUpto t f all a c (map comment_value (drop (i + 1) items))
+kept_next {a = a} items i d n l m k e =
     let x = comment_value (slice_index_or items i d) in
     let left = map comment_value (drop (i + 1) items) in
     record {
       some = k.some ++ x ∷ [];
       kept = record {
         noted = k.kept.noted ++ record x { blank_before = n } ∷ [];
-        renoted = renoted_more x n k.kept.renoted;
+        renoted = renoted_more x n m k.kept.renoted;
         list = e ∙ ap (λ z. z ++ record x { blank_before = n } ∷ []) k.kept.list ∙ append_assoc a k.kept.noted (record x { blank_before = n } ∷ []);
       };
       list = append_assoc k.some (x ∷ []) left ∙ ap (λ z. k.some ++ map comment_value z) (sym (drop_more items i d l)) ∙ k.list;
     }
 
-pub kept_last : {all a b : List CommentValue} (items : List Comment) (i : ℕ) → length items ≤ i → KeptUpto all a b (map comment_value (drop i items)) → Kept all a b
-kept_last {a = a} {b = b} items i l k =
-    subst (λ z. Kept z a b) (sym (append-nil k.some) ∙ ap (λ z. k.some ++ map comment_value z) (sym (drop_all i items l)) ∙ k.list) k.kept
+pub kept_last : {t : List ℕ} {f : ℕ} {all a b : List CommentValue} (items : List Comment) (i : ℕ) → length items ≤ i → KeptUpto t f all a b (map comment_value (drop i items)) → Kept t f all a b
+kept_last {t} {f} {a = a} {b = b} items i l k =
+    subst (λ z. Kept t f z a b) (sym (append-nil k.some) ∙ ap (λ z. k.some ++ map comment_value z) (sym (drop_all i items l)) ∙ k.list) k.kept
 
 module _ {t : List ℕ} where
   -- rows and marks
-  rows_prefix : {i j : ℕ} {cs : List CommentValue} → Chain (Row t) i j cs → Chain (PrefixRow t) i j cs
+  pub rows_prefix : {i j : ℕ} {cs : List CommentValue} → Chain (Row t) i j cs → Chain (PrefixRow t) i j cs
   rows_prefix done = done
   rows_prefix (step r c) = step (line_row r) (rows_prefix c)
 
@@ -101,26 +102,26 @@ module _ {t : List ℕ} where
   no_row s = record { none = λ j y r. s.none j y (rows_line_end (chain_one r) r.later) }
 
   -- the steps of the reader
-  pub prefix_begins : (i : ℕ) (a : List CommentValue) → PrefixUpto t i i a a
-  prefix_begins i a = record { comments = []; rows = done; kept = kept_none a }
+  pub prefix_begins : (f i : ℕ) (a : List CommentValue) → PrefixUpto t f i i a a
+  prefix_begins f i a = record { comments = []; rows = done; kept = kept_none t f a }
 
-  pub prefix_mark : {i j k : ℕ} {a b : List CommentValue} → PrefixUpto t i j a b → code t j ≡ 0xFEFF → k ≡ next t j → PrefixUpto t i k a b
-  prefix_mark {i} {j} {k} {a} {b} p e n = record {
+  pub prefix_mark : {f i j k : ℕ} {a b : List CommentValue} → PrefixUpto t f i j a b → code t j ≡ 0xFEFF → k ≡ next t j → PrefixUpto t f i k a b
+  prefix_mark {f} {i} {j} {k} {a} {b} p e n = record {
     comments = p.comments;
     rows = subst (λ z. Chain (PrefixRow t) i k z) (append-nil p.comments) (chain_more p.rows (subst (λ z. PrefixRow t j z []) (sym n) (mark_row e)));
     kept = p.kept;
   }
 
-  pub prefix_lines : {i j k : ℕ} {a b c cs : List CommentValue} → PrefixUpto t i j a b → Chosen (LineEnd t j) k cs → Kept cs b c → PrefixUpto t i k a c
+  pub prefix_lines : {f i j k : ℕ} {a b c cs : List CommentValue} → PrefixUpto t f i j a b → Chosen (LineEnd t j) k cs → Kept t f cs b c → PrefixUpto t f i k a c
   prefix_lines {cs = cs} p d k = record {
     comments = p.comments ++ cs;
     rows = chain_append p.rows (rows_prefix (line_end_rows d.derived));
     kept = kept_join p.kept k;
   }
 
-  pub prefix_settled : {i j k : ℕ} {a b c cs : List CommentValue} → PrefixUpto t i j a b → code t j ≢ 0xFEFF → Chosen (LineEnd t j) k cs → Kept cs b c → k ≡ j → PrefixRead t i j a c
-  prefix_settled {i} {j} {a = a} {c = c} {cs = cs} p n d k e = record {
-    upto = subst (λ z. PrefixUpto t i z a c) e (prefix_lines p d k);
+  pub prefix_settled : {f i j k : ℕ} {a b c cs : List CommentValue} → PrefixUpto t f i j a b → code t j ≢ 0xFEFF → Chosen (LineEnd t j) k cs → Kept t f cs b c → k ≡ j → PrefixRead t f i j a c
+  prefix_settled {f} {i} {j} {a = a} {c = c} {cs = cs} p n d k e = record {
+    upto = subst (λ z. PrefixUpto t f i z a c) e (prefix_lines p d k);
     no_mark = n;
     no_row = still_row (subst (λ z. Chosen (LineEnd t j) z cs) e d);
   }
@@ -161,7 +162,7 @@ module _ {t : List ℕ} where
     go {k} {x} (line_row r) = s.none k x r
 
 pub prefixes_are_read : PrefixesAreRead
-prefixes_are_read t i j a b l p =
+prefixes_are_read t f i j a b l p =
     let c = chain_chosen prefix_functional p.upto.rows (still p.no_mark p.no_row) in
     record {
       derived = rows_parts l p.upto.rows;

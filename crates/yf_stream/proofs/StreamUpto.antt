@@ -92,7 +92,7 @@ module _ {t : List ℕ} (u : IsUtf8 t) where
     through = paths_begin u;
   }
 
-  pub past_prefix : {b : Bool} {i j : ℕ} {c d : List CommentValue} {x : Documents} (r : PrefixRead t i j c d) → ReadUpto t b i x
+  pub past_prefix : {b : Bool} {f i j : ℕ} {c d : List CommentValue} {x : Documents} (r : PrefixRead t f i j c d) → ReadUpto t b i x
       → ReadUpto t b j (followed x (only_comments r.upto.comments))
   past_prefix {b} {x = x} r p =
       let parts = rows_parts p.starts r.upto.rows in

@@ -1,14 +1,15 @@
 -- What the readers of a stream answer of what stands between its documents: the marker of a line, the lines before a document, and the
 -- line of a `...`.
-use Rattle.std.specs.Prelude.{◌≡◌, ◌≢◌, ℕ, ◌+◌, Bool, true, false, List, [], ◌∷◌, ◌++◌, Option, Some, None}
+use Rattle.std.specs.Prelude.{◌≡◌, ◌≢◌, ℕ, ◌+◌, ◌-◌, ◌<◌, Bool, true, false, List, [], ◌∷◌, ◌++◌, Option, Some, None}
 use Rattle.yf_chars.specs.Text.{code, next}
 use Rattle.yf_chars.specs.Chain.{Chain, Chosen, Stuck}
 use Rattle.yf_lines.specs.Basic.{Forbidden}
 use Rattle.yf_comments.specs.Comment.{CommentValue}
-use Rattle.yf_comments.specs.Comments.{LineEnd, Row}
+use Rattle.yf_comments.specs.Comments.{Blank, LineEnd, Row}
 use Rattle.yf_events.specs.declared.directive.Directive.{Directive}
 use Rattle.yf_events.specs.Event.{EventValue, document_starts, document_ends}
 use Rattle.yf_events.specs.Tree.{unplaced}
+use Rattle.yf_grammar.specs.Part.{NotedSince}
 use Rattle.yf_stream.specs.declared.documents.Marker.{Marker}
 use Rattle.yf_stream.specs.declared.documents.Marker.TheVariants.{DocumentStart, DocumentEnd}
 use Rattle.yf_stream.specs.declared.documents.Next.{Next}
@@ -27,26 +28,31 @@ pub data PrefixRow (t : List ℕ) : ℕ → ℕ → List CommentValue → Type 0
   mark_row : {i : ℕ} → code t i ≡ 0xFEFF → PrefixRow t i (next t i) []
   line_row : {i j : ℕ} {cs : List CommentValue} → Row t i j cs → PrefixRow t i j cs
 
+-- the note of blank lines before an offset, as it is found from a floor on
+pub record FloorNote (t : List ℕ) (floor at : ℕ) (b : Bool) : Type 0 where
+  pub since : (code t at ≡ 10 → code t (at - 1) ≢ 13) → (floor < at → Blank t floor) → NotedSince t floor at b
+
 -- the same comments, but for their notes of blank lines
-pub data Renoted : List CommentValue → List CommentValue → Type 0 where
-  none_renoted : Renoted [] []
-  one_renoted : {c : CommentValue} {cs ns : List CommentValue} (b : Bool) → Renoted cs ns → Renoted (c ∷ cs) (record c { blank_before = b } ∷ ns)
+pub data Renoted (t : List ℕ) (floor : ℕ) : List CommentValue → List CommentValue → Type 0 where
+  none_renoted : Renoted t floor [] []
+  one_renoted : {c : CommentValue} {cs ns : List CommentValue} (b : Bool) → FloorNote t floor c.offset b → Renoted t floor cs ns
+      → Renoted t floor (c ∷ cs) (record c { blank_before = b } ∷ ns)
 
 -- comments have been added to a list, but for their notes
-pub record Kept (cs a b : List CommentValue) : Type 0 where
+pub record Kept (t : List ℕ) (floor : ℕ) (cs a b : List CommentValue) : Type 0 where
   pub noted : List CommentValue
-  pub renoted : Renoted cs noted
+  pub renoted : Renoted t floor cs noted
   pub list : b ≡ a ++ noted
 
 -- byte order marks and lines have been passed up to a place, and their comments added to a list
-pub record PrefixUpto (t : List ℕ) (i j : ℕ) (a b : List CommentValue) : Type 0 where
+pub record PrefixUpto (t : List ℕ) (floor i j : ℕ) (a b : List CommentValue) : Type 0 where
   pub comments : List CommentValue
   pub rows : Chain (PrefixRow t) i j comments
-  pub kept : Kept comments a b
+  pub kept : Kept t floor comments a b
 
 -- all of them: neither begins at the place
-pub record PrefixRead (t : List ℕ) (i j : ℕ) (a b : List CommentValue) : Type 0 where
-  pub upto : PrefixUpto t i j a b
+pub record PrefixRead (t : List ℕ) (floor i j : ℕ) (a b : List CommentValue) : Type 0 where
+  pub upto : PrefixUpto t floor i j a b
   pub no_mark : code t j ≢ 0xFEFF
   pub no_row : Stuck (Row t j)
 
@@ -75,6 +81,7 @@ pub record SuffixEnds (t : List ℕ) (spot : Spot) (a b : Parts) (after : Spot) 
   pub line : Chosen (LineEnd t (spot.at + 3)) after.at comments
   pub bare : after.may_be_bare ≡ true
   pub no_document : after.is_open ≡ false
+  pub floor : after.floor ≡ 0
   pub parts : b ≡ commented comments (closed true spot.is_open a)
 
 -- what comes after the three dots at a spot: the next spot, or no line ends there

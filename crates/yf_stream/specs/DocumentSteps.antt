@@ -19,6 +19,7 @@ use Rattle.yf_stream.specs.DirectiveReaders.{DirectivesEnd, DirectivesRead}
 use Rattle.yf_events.specs.Event.{scalar_node}
 use Rattle.yf_events.specs.declared.event.ScalarStyle.TheVariants.{Plain}
 use Rattle.yf_props.specs.Props.{no_props}
+use Rattle.yf_block.specs.BlockTied.{floor_after}
 use Rattle.yf_block.specs.declared.nodes.Found.{Found as FoundNode}
 use Rattle.yf_stream.specs.DocumentReaders.{SuffixRead, closed, commented, opened, with_event}
 use Rattle.yf_stream.specs.EmptyDocument.{EmptyEnds}
@@ -49,6 +50,7 @@ pub record NodeEnds (t : List ℕ) (at : ℕ) (a b : Parts) (after : Spot) : Typ
   pub chosen : Chosen (BlockNodePart t DEPTH (pos 0 -ℤ pos 1) BlockIn at) after.at part
   pub bare : after.may_be_bare ≡ false
   pub document : after.is_open ≡ true
+  pub floor : after.floor ≡ floor_after 0 part.events
   pub parts : b ≡ grown part a
 
 -- after a `---` the line ends, and after it and its comment lines stands what ends all nodes; or that is not so

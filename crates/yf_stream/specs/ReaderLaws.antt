@@ -13,7 +13,7 @@ use Rattle.yf_stream.specs.Stream.{DirectiveLines, Directives, Prefixes}
 
 -- What is passed before a document, from the start of a line or at the end of the text, is the longest run of document prefixes from there.
 abbrev pub PrefixesAreRead : Type 0
-PrefixesAreRead = (t : List ℕ) (i j : ℕ) (a b : List CommentValue) → LineStart t i ⊎ (i ≡ length t) → (p : PrefixRead t i j a b)
+PrefixesAreRead = (t : List ℕ) (f i j : ℕ) (a b : List CommentValue) → LineStart t i ⊎ (i ≡ length t) → (p : PrefixRead t f i j a b)
     → Chosen (Prefixes t i) j p.upto.comments
 
 -- Where a `---` follows directives that are derived, they are those that are read, up to the `---`, with the same comments.

@@ -23,9 +23,10 @@ pub(crate) fn skip_prefix<'a>(
     parts: &mut Parts<'a>,
 ) -> Result<Spot, AllocError>
     requires { IsCharBoundary text.now spot.at }
-    ensures reads { IfOk result (λ s. PrefixRead text.now spot.at s.at parts.old.part.comments parts.new.part.comments) }
+    ensures reads { IfOk result (λ s. PrefixRead text.now spot.floor spot.at s.at parts.old.part.comments parts.new.part.comments) }
     ensures spot { IfOk result (λ s. s ≡ record spot { at = s.at }) }
     ensures place { IfOk result (λ s. Place text.now spot.at s.at) }
+    ensures events { IfOk result (λ _. parts.new.part.events ≡ parts.old.part.events) }
     ensures escapes { IfOk result (λ _. parts.new.part.escapes ≡ parts.old.part.escapes) }
     ensures documents { IfOk result (λ _. parts.new.documents ≡ parts.old.documents) }
 {
@@ -55,7 +56,8 @@ fn keep_comments<'a>(
     comments: &Comments<'a>,
     parts: &mut Parts<'a>,
 ) -> Result<(), AllocError>
-    ensures kept { IfOk result (λ _. Kept comments.now parts.old.part.comments parts.new.part.comments) }
+    ensures kept { IfOk result (λ _. Kept text.now floor comments.now parts.old.part.comments parts.new.part.comments) }
+    ensures events { IfOk result (λ _. parts.new.part.events ≡ parts.old.part.events) }
     ensures escapes { IfOk result (λ _. parts.new.part.escapes ≡ parts.old.part.escapes) }
     ensures documents { IfOk result (λ _. parts.new.documents ≡ parts.old.documents) }
 {

@@ -8,6 +8,7 @@ ghost use Rattle.yf_chars.specs.Text.{code};
 ghost use Rattle.yf_lines.specs.Basic.{Forbidden};
 ghost use Rattle.yf_stream.specs.DocumentSteps.{BareRead, EmptyAdded, FoundRead, MarkedRead, NextRead, NothingAt, SomethingBegins};
 ghost use Rattle.yf_stream.specs.RefusalPlaces.{DirectivesAt, DocumentsAt};
+ghost use Rattle.yf_stream.specs.DerivedParts.{no_parts};
 ghost use Rattle.yf_stream.specs.Walk.{NextAt};
 
 use crate::between::read_suffix;
@@ -75,6 +76,7 @@ enum Marker {
 
 impl<'a> Parts<'a> {
     pub(crate) fn new(alloc: Global) -> Parts<'a>
+        ensures nothing { result ≡ no_parts }
         ensures escapes { result.part.escapes ≡ [] }
         ensures documents { result.documents ≡ [] }
     {
@@ -194,7 +196,8 @@ fn marker_at(text: &str, at: usize) -> Option<Marker>
 // Whether a `---` stands at the start of a line that begins at the offset.
 fn has_dashes(text: &str, at: usize) -> bool
     requires { IsCharBoundary text.now at }
-    ensures marker { MatchBool result (Forbidden text.now at × (code text.now at ≡ 45)) (Forbidden text.now at → code text.now at ≡ 45 → ⊥) }
+    ensures marker { MatchBool result (Forbidden text.now at × (code text.now at ≡ 45))
+        (Forbidden text.now at → code text.now at ≡ 45 → ⊥) }
     ensures boundary { result ≡ true → IsCharBoundary text.now (at + 3) }
 {
     if is_forbidden_at(text, at) {

@@ -51,7 +51,8 @@ impl<'a> Prefixes<'a> {
     /// Declares a handle's prefix, and answers whether it was not declared before; where it was, its prefix stays.
     pub(crate) fn declare(&mut self, handle: &'a str, prefix: &'a str) -> Result<bool, AllocError>
         ensures fresh { IfOk result (λ fresh. fresh ≡ not (is_declared self.old handle.entry.now)) }
-        ensures declared { IfOk result (λ _. SameDeclarations self.new (with_declaration self.old (Some (handle.entry.now, prefix.entry.now)))) }
+        ensures declared { IfOk result (λ _. SameDeclarations self.new
+            (with_declaration self.old (Some (handle.entry.now, prefix.entry.now)))) }
     {
         if self.all.contains_key(&handle) {
             return Ok(false);

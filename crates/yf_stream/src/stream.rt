@@ -4,7 +4,8 @@ ghost use Rattle.std.specs.List.{All};
 ghost use Rattle.std.specs.Str.{IsCharBoundary};
 ghost use Rattle.yf_events.specs.Reading.{Fits};
 ghost use Rattle.yf_lines.specs.FaultPlaces.{InText, IsPlaceOf};
-ghost use Rattle.yf_stream.specs.DerivedStreams.{ListsDerived, ShapeOr, StreamDerived};
+ghost use Rattle.yf_stream.specs.DerivedParts.{no_parts};
+ghost use Rattle.yf_stream.specs.DerivedStreams.{ListsDerived, ShapeOr};
 ghost use Rattle.yf_stream.specs.MadeReadings.{MadeOr, MadeReading, NoBreach};
 ghost use Rattle.yf_stream.specs.NotedLists.{FaultAt, NotedOr};
 ghost use Rattle.yf_stream.specs.Refusal.{IsStreamFault};
@@ -51,7 +52,7 @@ enum Refusal {
 pub fn read_stream<'a>(alloc: Global, text: &'a str) -> Result<Reading<'a>, Fault>
     ensures faults { IfErr result (λ fault. IsStreamFault text.now fault) }
     ensures made { MadeReading text.now result }
-    ensures derived { length text.now ≤ 2 ^ 30 → StreamDerived text.now result }
+    ensures reads { length text.now ≤ 2 ^ 30 → StreamReader.ReadsStream text.now result }
 {
     match read_lists(alloc, text) {
         Ok(Ok(lists)) => match Reading::build(alloc, lists) {
@@ -115,7 +116,7 @@ fn place_of(table: &LineTable, text: &str, offset: usize) -> Place
 // The lists of the stream's reading, or why there is none.
 fn read_lists<'a>(alloc: Global, text: &'a str) -> Result<Result<Lists<'a>, Refusal>, AllocError>
     ensures made { IfOk result (λ r. MadeOr text.now r) }
-    ensures derived { length text.now ≤ 2 ^ 30 → IfOk result (λ r. ListsDerived text.now r) }
+    ensures reads { length text.now ≤ 2 ^ 30 → IfOk result (λ r. ListsDerived text.now r) }
     ensures refusal { IfOk result (λ r. MatchResult r (λ lists. Fits lists) (λ refusal. RefusalAt text.now refusal)) }
 {
     let mut parts = Parts::new(alloc);
@@ -166,11 +167,10 @@ fn read_documents<'a>(
     text: &'a str,
     parts: &mut Parts<'a>,
 ) -> Result<Option<Refusal>, AllocError>
-    requires escapes { All (IsCharBoundary text.now) parts.old.part.escapes }
-    requires documents { DocumentsAt text.now parts.old.documents }
+    requires nothing { parts.old ≡ no_parts }
     ensures refusal { IfOk result (λ o. IfSome o (λ refusal. RefusalAt text.now refusal)) }
     ensures underived { IfOk result (λ o. IfSome o (λ refusal. NoBreach refusal)) }
-    ensures derived { length text.now ≤ 2 ^ 30 → IfOk result (λ o. ShapeOr text.now o) }
+    ensures derived { length text.now ≤ 2 ^ 30 → IfOk result (λ o. ShapeOr text.now parts.new o) }
     ensures escapes { IfOk result (λ _. All (IsCharBoundary text.now) parts.new.part.escapes) }
     ensures documents { IfOk result (λ _. DocumentsAt text.now parts.new.documents) }
 {

@@ -5,7 +5,8 @@ use Rattle.yf_stream.proofs.between.keep_comments.Given as goal
 
 abbrev pub invariant-loop-comment : goal.invariant-loop-comment
 invariant-loop-comment l = record {
-  kept : KeptUpto l.comments l.initial.parts.part.comments l.parts.part.comments (map comment_value (drop l.comment-index l.comment-items));
+  kept : KeptUpto l.text l.floor l.comments l.initial.parts.part.comments l.parts.part.comments (map comment_value (drop l.comment-index l.comment-items));
   escapes : l.parts.part.escapes ≡ l.initial.parts.part.escapes;
   documents : l.parts.documents ≡ l.initial.parts.documents;
+  events : l.parts.part.events ≡ l.initial.parts.part.events;
 }

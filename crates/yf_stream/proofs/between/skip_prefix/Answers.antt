@@ -6,7 +6,7 @@ use Rattle.yf_stream.proofs.PrefixLemmas.{no_row, prefix_begins, prefix_lines, p
 use Rattle.yf_stream.proofs.between.skip_prefix.Goals as goal
 
 pub lines-init : goal.lines-init
-lines-init c = record { read = prefix_begins _ _; place = record { boundary = c.requires; order = omega arith }; escapes = refl; documents = refl }
+lines-init c = record { read = prefix_begins _ _ _; place = record { boundary = c.requires; order = omega arith }; escapes = refl; documents = refl; events = refl }
 
 pub lines-smaller-then-mark_stands : goal.lines-smaller-then-mark_stands
 lines-smaller-then-mark_stands c =
@@ -25,6 +25,7 @@ lines-preserved-then-mark_stands c =
       place = record { boundary = subst (IsCharBoundary t) end reads.boundary; order = omega (arith, c.lines.invariant.place.order) };
       escapes = c.lines.invariant.escapes;
       documents = c.lines.invariant.documents;
+      events = c.lines.invariant.events;
     }
 
 pub returns-then-end-at-clause-reads : goal.returns-then-end-at-clause-reads
@@ -41,6 +42,7 @@ lines-preserved c =
       place = record { boundary = rw c.in-Some.is at c.in_ok-comments.ensures.boundary; order = omega (arith, c.lines.invariant.place.order, forward) };
       escapes = c.in_ok-keep_comments-in-Some.ensures.escapes ∙ c.lines.invariant.escapes;
       documents = c.in_ok-keep_comments-in-Some.ensures.documents ∙ c.lines.invariant.documents;
+      events = c.in_ok-keep_comments-in-Some.ensures.events ∙ c.lines.invariant.events;
     }
 
 pub returns-in-None-clause-reads : goal.returns-in-None-clause-reads

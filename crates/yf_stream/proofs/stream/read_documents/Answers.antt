@@ -1,22 +1,30 @@
-use Rattle.std.proofs.Common.{[], ◌+◌, sym, subst}
+use Rattle.std.proofs.Common.{[], ◌+◌, ◌∙◌, refl, sym, ap, subst}
+use Rattle.std.proofs.lemmas.List.Elements.{All-nil}
 use Rattle.std.proofs.lemmas.Str.{IsCharBoundary-start}
 use Rattle.std.specs.List.{All}
 use Rattle.std.specs.Str.{IsCharBoundary}
-use Rattle.yf_stream.specs.RefusalPlaces.{DocumentsAt}
+use Rattle.yf_events.specs.declared.document.Doc.{Doc}
+use Rattle.yf_stream.specs.RefusalPlaces.{DirectivesAt, DocumentsAt}
 use Rattle.yf_stream.specs.Stream.{only_comments}
 use Rattle.yf_stream.specs.Walk.{NextAt}
 use Rattle.yf_stream.proofs.NextSteps.{next_of, no_stream_read, reading_goes_on, spot_on, too_deep_there}
+use Rattle.yf_stream.proofs.CommentsSteps.{comments_begin, comments_go_on, stream_written}
+use Rattle.yf_stream.proofs.CommentsUpto.{comments_past_prefix}
+use Rattle.yf_stream.proofs.PartsSteps.{events_begin, events_go_on}
+use Rattle.yf_stream.proofs.PartsUpto.{events_past_prefix}
 use Rattle.yf_stream.proofs.StreamUpto.{reading_begins, reading_ends}
 use Rattle.yf_stream.proofs.stream.read_documents.Goals as goal
 
 pub documents-init : goal.documents-init
-documents-init c = record {
-  place = IsCharBoundary-start c.args.text.now c.utf8.text;
-  reached = IsCharBoundary-start c.args.text.now c.utf8.text;
-  escapes = subst (All (IsCharBoundary c.args.text.now)) (sym c.in_ok-push_unplaced.ensures.escapes) c.requires.escapes;
-  documents = subst (DocumentsAt c.args.text.now) (sym c.in_ok-push_unplaced.ensures.documents) c.requires.documents;
-  derived = λ l. record { documents = only_comments []; read = reading_begins c.utf8.text };
-}
+documents-init c =
+    let t = c.args.text.now in
+    record {
+      place = IsCharBoundary-start t c.utf8.text;
+      reached = IsCharBoundary-start t c.utf8.text;
+      escapes = subst (All (IsCharBoundary t)) (sym (c.in_ok-push_unplaced.ensures.escapes ∙ ap (λ z. z.part.escapes) c.requires.nothing)) (All-nil (IsCharBoundary t));
+      documents = subst (DocumentsAt t) (sym (c.in_ok-push_unplaced.ensures.documents ∙ ap (λ z. z.documents) c.requires.nothing)) (All-nil (λ (d : Doc). DirectivesAt t d.directives));
+      derived = λ l. record { documents = only_comments []; read = reading_begins c.utf8.text; parts = events_begin _ refl refl c.requires.nothing c.in_ok-push_unplaced.ensures.parts; comments = comments_begin _ refl c.requires.nothing c.in_ok-push_unplaced.ensures.parts };
+    }
 
 pub documents-preserved : goal.documents-preserved
 documents-preserved c =
@@ -28,16 +36,28 @@ documents-preserved c =
       escapes = c.in_ok-next.ensures.escapes;
       documents = c.in_ok-next.ensures.documents;
       derived = λ l.
-          let g = spot_on c.documents.spot c.in_ok-spot.spot c.utf8.text c.in_ok-spot.ensures.spot c.in_ok-spot.ensures.reads (c.documents.invariant.derived l).read in
-          let n = reading_goes_on c.utf8.text c.in_ok-spot.spot c.in_ok-spot.ensures.reads c.if-spot-text.false g
-          (next_of t c.in_ok-spot.spot c.skip_prefix.new.parts c.read_next.new.parts (c.read_next.ensures.reads l) c.in_ok-next.was c.in-Go.is) in
-          record { documents = n.documents; read = n.read };
+          let i = c.documents.invariant.derived l in
+          let pre = c.in_ok-spot.ensures.reads in
+          let g = spot_on c.documents.spot c.in_ok-spot.spot c.utf8.text c.in_ok-spot.ensures.spot pre i.read in
+          let e = events_past_prefix c.in_ok-spot.ensures.spot pre c.in_ok-spot.ensures.events c.in_ok-spot.ensures.documents c.in_ok-spot.ensures.escapes i.parts in
+          let k = comments_past_prefix c.utf8.text c.in_ok-spot.ensures.spot pre c.in_ok-spot.ensures.events i.comments in
+          let n = reading_goes_on c.utf8.text c.in_ok-spot.spot pre c.if-spot-text.false g
+              (next_of t c.in_ok-spot.spot c.skip_prefix.new.parts c.read_next.new.parts (c.read_next.ensures.reads l) c.in_ok-next.was c.in-Go.is) in
+          record { documents = n.documents; read = n.read; parts = events_go_on c.utf8.text e pre.no_mark pre.no_row n.step; comments = comments_go_on c.utf8.text k n.step };
     }
 
 pub returns-then-spot-text-clause-derived : goal.returns-then-spot-text-clause-derived
 returns-then-spot-text-clause-derived c = λ l.
-    let g = spot_on c.documents.spot c.in_ok-spot.spot c.utf8.text c.in_ok-spot.ensures.spot c.in_ok-spot.ensures.reads (c.documents.invariant.derived l).read in
-    record { documents = _; shapes = reading_ends c.utf8.text c.if-spot-text.true g }
+    let i = c.documents.invariant.derived l in
+    let pre = c.in_ok-spot.ensures.reads in
+    let g = spot_on c.documents.spot c.in_ok-spot.spot c.utf8.text c.in_ok-spot.ensures.spot pre i.read in
+    let e = events_past_prefix c.in_ok-spot.ensures.spot pre c.in_ok-spot.ensures.events c.in_ok-spot.ensures.documents c.in_ok-spot.ensures.escapes i.parts in
+    let k = comments_past_prefix c.utf8.text c.in_ok-spot.ensures.spot pre c.in_ok-spot.ensures.events i.comments in
+    record {
+      documents = _;
+      shapes = reading_ends c.utf8.text c.if-spot-text.true g;
+      parts = stream_written c.if-spot-text.true pre.no_mark pre.no_row e k c.in_ok-close.ensures.parts c.in_ok-push_unplaced-2.ensures.parts;
+    }
 
 pub returns-in-Syntax-clause-derived : goal.returns-in-Syntax-clause-derived
 returns-in-Syntax-clause-derived c = λ l.

@@ -2,7 +2,7 @@ use Rattle.std.proofs.Common.{◌-◌, ◌≤◌, ◌^◌, length}
 use Rattle.std.specs.List.{All}
 use Rattle.std.specs.Str.{IsCharBoundary}
 use Rattle.yf_stream.specs.RefusalPlaces.{DocumentsAt}
-use Rattle.yf_stream.proofs.NextSteps.{ReadSoFar}
+use Rattle.yf_stream.proofs.CommentsSteps.{ReadSoFar}
 use Rattle.yf_stream.proofs.stream.read_documents.Given as goal
 
 abbrev pub invariant-documents : goal.invariant-documents
