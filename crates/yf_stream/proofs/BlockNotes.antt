@@ -1,19 +1,19 @@
 -- Each comment of a block node carries whether a blank line stands before it, seen from the floor that the block scalars before it set: the induction.
-use Rattle.std.proofs.Common.{◌≡◌, ◌≢◌, ℕ, ℤ, ◌+◌, ◌<◌, ◌≤◌, Bool, true, false, List, [], ◌∷◌, ◌++◌, length, Option, Some, None, refl, sym, ap, ◌∙◌, subst, arith}
+use Rattle.std.proofs.Common.{◌≡◌, ◌≢◌, ℕ, ℤ, ◌+◌, ◌<◌, ◌≤◌, Bool, true, false, List, [], length, Some, None, refl, sym, ap, ◌∙◌, subst, arith}
 use Rattle.std.specs.Str.{IsUtf8}
 use Rattle.yf_chars.specs.Text.{code, no_char}
-use Rattle.yf_chars.specs.Class.{is_ns_char, is_white, is_break_char}
+use Rattle.yf_chars.specs.Class.{is_white, is_break_char}
 use Rattle.yf_chars.proofs.ChainLemmas.{chain_forward}
 use Rattle.yf_comments.specs.Comment.{CommentValue}
 use Rattle.yf_comments.specs.Comments.{is_gap, BreakOrEnd, by_break, by_end, LineRest}
 use Rattle.yf_comments.specs.Comments.LineRest.{nothing, whites, comment}
 use Rattle.yf_comments.proofs.LineOrder.{line_end_forward}
 use Rattle.yf_block_scalar.specs.declared.header.Header.{Header}
-use Rattle.yf_block_scalar.specs.Header.{BlockHeader, HeaderValue, Style}
+use Rattle.yf_block_scalar.specs.Header.{BlockHeader, HeaderValue}
 use Rattle.yf_block_scalar.specs.Header.BlockHeader.{block_header}
 use Rattle.yf_block_scalar.specs.Header.Style.{literal_sign, folded_sign}
 use Rattle.yf_block_scalar.specs.Content.{content_of}
-use Rattle.yf_block_scalar.specs.Body.{Content, Lines, Taken, Trail, Body, BodyValue}
+use Rattle.yf_block_scalar.specs.Body.{Content, Lines, Trail, Body, BodyValue}
 use Rattle.yf_block_scalar.specs.Body.Content.{content}
 use Rattle.yf_block_scalar.specs.Body.Ends.{by_break as line_by_break, by_text as line_by_text}
 use Rattle.yf_block_scalar.specs.Body.Lines.{no_content, up_to}
@@ -32,11 +32,11 @@ use Rattle.yf_grammar.specs.Part.{NotedSince, floor_behind, end_or}
 use Rattle.yf_grammar.proofs.BlockStarts.{header_later}
 use Rattle.yf_grammar.proofs.CommentOrder.{scalar_ascends}
 use Rattle.yf_grammar.proofs.PrefixEnds.{Closed, at_break, at_text}
-use Rattle.yf_stream.specs.ReadingOf.{end_before, floor_at}
+use Rattle.yf_stream.specs.ReadingOf.{end_before}
 use Rattle.yf_stream.proofs.CommentNotes.{Each, no_element, one_element, each_join, each_left, each_weaker, each_both, Told, guarded, since_guarded, rest_told}
-use Rattle.yf_stream.proofs.FloorWalk.{FloorIn, floor_set, end_later, end_taken}
-use Rattle.yf_stream.proofs.NodeNotes.{Within, within_of, NoteOver, EntryNotes}
-use Rattle.yf_stream.proofs.ScalarNotes.{TailEnd, tail_end, AfterEnd, trail_notes}
+use Rattle.yf_stream.proofs.FloorWalk.{floor_set, end_later, end_taken}
+use Rattle.yf_stream.proofs.NodeNotes.{within_of, EntryNotes}
+use Rattle.yf_stream.proofs.ScalarNotes.{tail_end, AfterEnd, trail_notes}
 
 -- the line after a header, and after the lines of a scalar, begins after a break, or the text ends
 module _ {t : List ℕ} where

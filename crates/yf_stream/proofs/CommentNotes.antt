@@ -1,5 +1,5 @@
 -- Comments of line ends, separations and properties: each stands within them, and carries its note, whatever floor lies before them.
-use Rattle.std.proofs.Common.{◌≡◌, ℕ, ℤ, ◌+◌, ◌<◌, ◌≤◌, Bool, true, false, List, [], ◌∷◌, ◌++◌, refl, sym, subst, arith}
+use Rattle.std.proofs.Common.{◌≡◌, ℕ, ℤ, ◌<◌, ◌≤◌, Bool, true, false, List, [], ◌∷◌, ◌++◌, sym, subst, arith}
 use Rattle.std.specs.Str.{IsUtf8}
 use Rattle.yf_chars.specs.declared.context.Ctx.{Ctx}
 use Rattle.yf_chars.specs.Chain.{Chain}
@@ -18,7 +18,6 @@ use Rattle.yf_comments.specs.Comments.Separate.{in_key, in_node}
 use Rattle.yf_comments.specs.Comments.SeparateLines.{in_line, over_lines}
 use Rattle.yf_comments.proofs.RowLemmas.{break_or_end_forward}
 use Rattle.yf_comments.proofs.LineEndLemmas.{line_end_rows}
-use Rattle.yf_comments.proofs.LineOrder.{line_end_forward}
 use Rattle.yf_comments.proofs.SeparateLemmas.{prefix_whites}
 use Rattle.yf_grammar.specs.Grammar.{MaySeparate, ValueSeparate}
 use Rattle.yf_grammar.specs.Grammar.MaySeparate.{unseparated, separated}

@@ -1,7 +1,7 @@
 -- The notes of comments after one step more of the reader of streams.
-use Rattle.std.proofs.Common.{◌≡◌, ◌≢◌, ℕ, ◌+◌, ◌<◌, ◌≤◌, Bool, true, false, inl, inr, ⊎_elim, List, [], ◌∷◌, ◌++◌, length, refl, sym, ap, ◌∙◌, subst, arith, append_assoc, append-nil, true≢false}
+use Rattle.std.proofs.Common.{◌≡◌, ◌≢◌, ℕ, ◌+◌, ◌<◌, ◌≤◌, Bool, true, false, ⊎_elim, List, [], ◌∷◌, ◌++◌, length, refl, sym, ap, ◌∙◌, subst, arith, append_assoc, true≢false}
 use Rattle.std.specs.Str.{IsUtf8}
-use Rattle.yf_chars.specs.Text.{code, no_char}
+use Rattle.yf_chars.specs.Text.{code}
 use Rattle.yf_chars.specs.Chain.{Stuck}
 use Rattle.yf_chars.specs.Class.{is_break_char, is_white}
 use Rattle.yf_comments.specs.Comment.{CommentValue}
@@ -19,8 +19,8 @@ use Rattle.yf_grammar.proofs.CommentOrder.{derived_ascends}
 use Rattle.yf_grammar.proofs.PrefixNodes.{derived_order}
 use Rattle.yf_stream.specs.DerivedParts.{no_parts}
 use Rattle.yf_stream.specs.DocumentReaders.{closed, opened, with_event}
-use Rattle.yf_stream.specs.ReadingOf.{NotedComments, floor_at, no_comment, one_comment}
-use Rattle.yf_stream.specs.Stream.{DirectiveLines, Directives, Documents, document_of, only_comments}
+use Rattle.yf_stream.specs.ReadingOf.{NotedComments, no_comment}
+use Rattle.yf_stream.specs.Stream.{DirectiveLines, Directives, Documents, only_comments}
 use Rattle.yf_stream.specs.Stream.DirectiveLines.{last_directive, more_directives}
 use Rattle.yf_stream.specs.WrittenParts.{Written}
 use Rattle.yf_stream.specs.declared.documents.Parts.{Parts}
@@ -37,7 +37,7 @@ use Rattle.yf_stream.proofs.NodeNotes.{NoteOver, Within, within_of}
 use Rattle.yf_stream.proofs.NotingLemmas.{floor_join, floor_of}
 use Rattle.yf_stream.proofs.PartsSteps.{events_end}
 use Rattle.yf_stream.proofs.PartsUpto.{EventsRead}
-use Rattle.yf_stream.proofs.StreamUpto.{ReadUpto, followed, one_document}
+use Rattle.yf_stream.proofs.StreamUpto.{ReadUpto, followed}
 
 -- notes of entries leave where floors stand what they are
 noting_floors : {t : List ℕ} {f i j : ℕ} {xs ys : List Placed} → Noting t f xs ys → Each (FloorIn i j) xs → Each (FloorIn i j) ys
@@ -155,7 +155,6 @@ module _ {t : List ℕ} (u : IsUtf8 t) {spot : Spot} {x : Documents} {a : Parts}
   top : floor_of 0 a.part.events ≤ spot.at
   top = floor_top 0 (omega arith) r.comments.floors
 
-
   pub comments_go_on : {b : Parts} {after : Spot} {y : Documents} → StepTo t spot x a b after y → CommentsRead t after y b
   unfolding followed
   comments_go_on {b} {after} (dots_to s f e) =
@@ -186,7 +185,7 @@ module _ {t : List ℕ} (u : IsUtf8 t) {spot : Spot} {x : Documents} {a : Parts}
       let n = noted_told u (omega arith) order (r.bare q) r.comments (directives_told lines) in
       let m = noted_silent n (silent_start true) in
       let g : Guard t (floor_of 0 (a.part.events ++ unplaced (document_starts true) ∷ [])) (p + 3) =
-        subst (λ z. Guard t z (p + 3)) (sym (opened_floor p true ds a)) (guard_later (omega arith) (r.bare q)) in
+      subst (λ z. Guard t z (p + 3)) (sym (opened_floor p true ds a)) (guard_later (omega arith) (r.bare q)) in
       document_noted u (x.comments ++ d.upto.comments) _
       (subst (λ z. Noted t p (a.part.events ++ unplaced (document_starts true) ∷ []) (x.comments ++ d.upto.comments) z) (sym d.upto.list) m)
       (omega arith) g (sym (append_assoc x.comments d.upto.comments y.comments)) (node_noted u done)

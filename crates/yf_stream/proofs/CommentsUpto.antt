@@ -1,19 +1,16 @@
 -- What the reader of streams has read so far of comments: each carries its note of blank lines, with the floor that the events before it set.
-use Rattle.std.proofs.Common.{◌≡◌, ◌≢◌, ℕ, ◌+◌, ◌-◌, ◌<◌, ◌≤◌, Bool, true, false, ◌⊎◌, inl, inr, ⊎_elim, List, [], ◌∷◌, ◌++◌, length, refl, sym, ap, ◌∙◌, subst, arith, append_assoc, append-nil, true≢false}
+use Rattle.std.proofs.Common.{◌≡◌, ℕ, ◌<◌, ◌≤◌, Bool, true, List, ◌++◌, length, refl, sym, ap, ◌∙◌, subst, arith}
 use Rattle.std.specs.Str.{IsUtf8}
-use Rattle.yf_chars.specs.Text.{code, next, no_char}
+use Rattle.yf_chars.specs.Text.{code}
 use Rattle.yf_chars.specs.Chain.{Chain}
 use Rattle.yf_chars.specs.Chain.Chain.{done, step}
 use Rattle.yf_chars.proofs.ChainLemmas.{chain_forward}
 use Rattle.yf_chars.proofs.TextLemmas.{next_later, within_from_code}
 use Rattle.yf_comments.specs.Comment.{CommentValue}
-use Rattle.yf_comments.specs.Comments.{Blank, LineEnd, is_gap}
-use Rattle.yf_comments.specs.Comments.Blank.{text_begins}
-use Rattle.yf_events.specs.Event.{Placed, document_ends, document_starts, stream_ends, stream_starts}
-use Rattle.yf_events.specs.Tree.{unplaced}
-use Rattle.yf_events.specs.declared.directive.Directive.{Directive}
-use Rattle.yf_grammar.specs.Part.{NotedSince, Noting, end_or, floor_behind, no_event, with_entry, without_entry}
-use Rattle.yf_stream.specs.DocumentReaders.{FloorNote, PrefixRead, PrefixRow, Renoted, closed, line_row, mark_row, none_renoted, one_renoted, opened, with_event}
+use Rattle.yf_comments.specs.Comments.{Blank}
+use Rattle.yf_events.specs.Event.{Placed}
+use Rattle.yf_grammar.specs.Part.{NotedSince, end_or, floor_behind}
+use Rattle.yf_stream.specs.DocumentReaders.{FloorNote, PrefixRead, PrefixRow, Renoted, line_row, mark_row, none_renoted, one_renoted}
 use Rattle.yf_stream.specs.ReadingOf.{NotedComments, floor_at, no_comment, one_comment}
 use Rattle.yf_stream.specs.Stream.{Documents, only_comments}
 use Rattle.yf_stream.specs.declared.documents.Parts.{Parts}
@@ -22,7 +19,7 @@ use Rattle.yf_stream.proofs.CommentNotes.{Each, Guard, Told, each_join, each_wea
 use Rattle.yf_stream.proofs.FloorWalk.{FloorIn, floor_early, floor_kept, floor_set, floor_wider, floor_join as floor_at_join}
 use Rattle.yf_stream.proofs.FloorsAt.{floor_late}
 use Rattle.yf_stream.proofs.NodeNotes.{NoteOver, Within}
-use Rattle.yf_stream.proofs.NotingLemmas.{floor_join, floor_of}
+use Rattle.yf_stream.proofs.NotingLemmas.{floor_of}
 use Rattle.yf_stream.proofs.PrefixLemmas.{prefix_functional}
 use Rattle.yf_stream.proofs.StreamUpto.{followed}
 
@@ -68,7 +65,7 @@ module _ {t : List ℕ} where
   notes_stay {es = es} {zs = zs} (one_element {x = c} w r) f (one_comment {b = b} s n) =
       let before = w.before in
       let same : floor_at c.offset 0 (es ++ zs) ≡ floor_at c.offset 0 es =
-        floor_at_join c.offset 0 es zs ∙ floor_early c.offset (floor_at c.offset 0 es) (omega arith) f in
+      floor_at_join c.offset 0 es zs ∙ floor_early c.offset (floor_at c.offset 0 es) (omega arith) f in
       one_comment (subst (λ z. NotedSince t z c.offset b) (sym same) s) (notes_stay r f n)
 
   -- the notes of comments after all events
@@ -94,7 +91,7 @@ module _ {t : List ℕ} where
   notes_in {es = es} {zs = zs} l f (one_element {x = c} w r) (one_element n m) =
       let after = w.after in
       let same : floor_at c.offset 0 (es ++ zs) ≡ floor_at c.offset (floor_of 0 es) zs =
-        floor_at_join c.offset 0 es zs ∙ ap (λ z. floor_at c.offset z zs) (floor_late c.offset 0 (omega arith) (omega arith) f) in
+      floor_at_join c.offset 0 es zs ∙ ap (λ z. floor_at c.offset z zs) (floor_late c.offset 0 (omega arith) (omega arith) f) in
       one_comment (subst (λ z. NotedSince t z c.offset c.blank_before) (sym same) n.note) (notes_in l f r m)
 
   -- steps

@@ -1,7 +1,7 @@
 -- Each comment of a block node carries whether a blank line stands before it, seen from the floor that the block scalars before it set: the induction.
-use Rattle.std.proofs.Common.{◌≡◌, ◌≢◌, ℕ, ℤ, ◌+◌, ◌<◌, ◌≤◌, Bool, true, false, List, [], ◌∷◌, ◌++◌, Option, Some, None, refl, sym, ap, ◌∙◌, subst, true≢false, not, ◌&&◌, ◌||◌, ◌==◌, arith}
+use Rattle.std.proofs.Common.{◌≡◌, ◌≢◌, ℕ, ℤ, ◌+◌, ◌≤◌, Bool, true, false, List, [], Option, Some, None, refl, sym, ap, ◌∙◌, true≢false, not, ◌&&◌, ◌||◌, ◌==◌, arith}
 use Rattle.std.specs.Str.{IsUtf8}
-use Rattle.yf_chars.specs.Text.{code, no_char}
+use Rattle.yf_chars.specs.Text.{code}
 use Rattle.yf_chars.specs.Class.{is_ns_char, is_nb_char, is_printable, is_white, is_break_char}
 use Rattle.yf_chars.specs.Signs.{BYTE_ORDER_MARK}
 use Rattle.yf_comments.specs.Comment.{CommentValue}
@@ -12,11 +12,10 @@ use Rattle.yf_comments.proofs.LineOrder.{line_end_forward}
 use Rattle.yf_plain.proofs.PlainLemmas.{ns_below}
 use Rattle.yf_props.proofs.SeparationEnds.{separate_forward}
 use Rattle.yf_props.specs.Props.{PropsValue}
-use Rattle.yf_events.specs.Event.{Placed}
 use Rattle.yf_events.specs.declared.event.Entry.{Entry as PlacedEntry}
-use Rattle.yf_grammar.specs.Grammar.{Production, FlowNode, NodeOf, JsonContent, Entries, Entry, Pair, Explicit, Implicit, ValueOf, KeyOf, BlockNode, BlockEntries, BlockEntry, BlockIndented, BlockValue, Derives}
+use Rattle.yf_grammar.specs.Grammar.{Production, BlockNode, Derives}
 use Rattle.yf_grammar.specs.Grammar.Derives.{flow_node, an_alias, a_plain, a_plain_with, properties_alone, a_json, a_json_with, a_single, a_double, an_empty_collection, a_collection, last_entry, last_entry_with_comma, more_entries, a_node_entry, a_pair_entry, an_explicit_entry, an_implicit_entry, an_explicit_pair, a_keyed_pair, an_unkeyed_pair, explicit_with, explicit_without, key_alone, key_and_value, value_alone, empty_value, a_value, a_key, a_block_scalar, a_block_scalar_with, a_block_collection, a_block_collection_with, flow_in_block, a_last_entry, an_entry_before, a_dash_entry, an_explicit_entry_with, an_explicit_key_alone, a_keyed_entry, an_unkeyed_entry, a_block_value, an_empty_block_value, a_compact_collection, an_indented_node, nothing_indented}
-use Rattle.yf_grammar.specs.Meaning.{Meaning, ◌⊕◌, behind, noting, scalar, alias_to, empty_node, collection, with_props, entering, plain_event, from_to, start_of, end_of, first_with, first_entering}
+use Rattle.yf_grammar.specs.Meaning.{Meaning, ◌⊕◌, behind, noting, empty_node, collection, with_props, entering, plain_event, from_to, start_of, first_with, first_entering}
 use Rattle.yf_grammar.specs.Part.{NotedSince}
 use Rattle.yf_grammar.proofs.BlockStarts.{block_starts}
 use Rattle.yf_grammar.proofs.CommentOrder.{derived_ascends}
@@ -24,9 +23,9 @@ use Rattle.yf_grammar.proofs.GapLemmas.{Visible}
 use Rattle.yf_grammar.proofs.PrefixNodes.{derived_order}
 use Rattle.yf_grammar.proofs.PropertiesEnds.{properties_later}
 use Rattle.yf_stream.specs.ReadingOf.{floor_at}
-use Rattle.yf_stream.proofs.CommentNotes.{Each, no_element, one_element, each_join, each_weaker, each_both, Told, told_wider, Guard, no_floor, guarded, guard_later, guard_order, since_guarded, told_since, rows_told, line_told, separate_told, may_told, value_told}
-use Rattle.yf_stream.proofs.FloorWalk.{FloorIn, floor_kept, floor_wider, floor_early, floor_upto, with_floors, with_floor, entering_floors, entering_floor}
-use Rattle.yf_stream.proofs.NodeNotes.{Within, within_of, Plainly, NoteOver, Unlined, FlowNotes, EntryNotes, NodeNotes, NotesClaim, plainly, start_kept, end_kept, flow_behind, flow_noting, flow_join, flow_entering, flow_with, flow_collection, flow_empty, flow_alias, flow_plain, flow_single, flow_double, properties_told, notes_as, notes_early, notes_join, unlined_floor, unlined_floors, notes_flow, collection_floor}
+use Rattle.yf_stream.proofs.CommentNotes.{Each, no_element, one_element, each_join, each_weaker, Told, told_wider, Guard, guarded, guard_order, told_since, rows_told, line_told, separate_told, may_told, value_told}
+use Rattle.yf_stream.proofs.FloorWalk.{floor_kept, floor_wider, floor_upto, with_floors, with_floor, entering_floors, entering_floor}
+use Rattle.yf_stream.proofs.NodeNotes.{Within, within_of, Unlined, FlowNotes, EntryNotes, NodeNotes, NotesClaim, plainly, start_kept, end_kept, flow_behind, flow_noting, flow_join, flow_entering, flow_with, flow_collection, flow_empty, flow_alias, flow_plain, flow_single, flow_double, properties_told, notes_as, notes_early, notes_join, unlined_floors, notes_flow, collection_floor}
 use Rattle.yf_stream.proofs.BlockNotes.{scalar_notes}
 
 solid_dash : is_gap 45 ≡ false

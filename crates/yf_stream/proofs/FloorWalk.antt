@@ -1,17 +1,15 @@
 -- The floor that some events set for a place: none of those that end after it, and else the last one.
-use Rattle.std.proofs.Common.{◌≡◌, ℕ, ◌<◌, ◌≤◌, Bool, true, false, cond, ⊎_elim, nat_le, List, [], ◌∷◌, ◌++◌, Option, Some, None, refl, sym, ap, ◌∙◌, subst, arith}
-use Rattle.std.proofs.lemmas.Bool.{cases_Bool}
+use Rattle.std.proofs.Common.{◌≡◌, ℕ, ◌<◌, ◌≤◌, Bool, true, false, cond, nat_le, List, [], ◌∷◌, ◌++◌, Option, Some, refl, sym, ap, ◌∙◌, subst, arith}
 use Rattle.std.proofs.lemmas.Bool.Decides.{nat_tests}
 use Rattle.yf_props.specs.Props.{PropsValue}
 use Rattle.yf_events.specs.Event.{EventValue, Placed, stream_starts, stream_ends, document_starts, document_ends, sequence_starts, sequence_ends, mapping_starts, mapping_ends, scalar_node, alias_node}
 use Rattle.yf_events.specs.declared.event.Entry.{Entry}
-use Rattle.yf_events.specs.declared.event.ScalarStyle.{ScalarStyle}
 use Rattle.yf_events.specs.declared.event.ScalarStyle.TheVariants.{Plain, Single, Double, Literal, Folded}
 use Rattle.yf_events.specs.declared.event.Span.{Span}
 use Rattle.yf_grammar.specs.Meaning.{event_with, first_with, first_entering, span_since, from_to}
 use Rattle.yf_grammar.specs.Part.{floor_behind, end_or}
 use Rattle.yf_stream.specs.ReadingOf.{end_before, floor_at}
-use Rattle.yf_stream.proofs.CommentNotes.{Each, no_element, one_element, each_join, each_weaker}
+use Rattle.yf_stream.proofs.CommentNotes.{Each, no_element, one_element}
 
 -- an event that sets no floor; one that ends a block scalar after a place and up to another
 pub data FloorIn (i j : ℕ) (e : Placed) : Type 0 where

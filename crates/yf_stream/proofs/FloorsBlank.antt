@@ -1,5 +1,5 @@
 -- The floor that a block node's last block scalar sets is the start of a line, or the end of the text.
-use Rattle.std.proofs.Common.{◌≡◌, ℕ, ℤ, ◌+◌, ◌<◌, ◌≤◌, Bool, true, false, List, [], ◌∷◌, ◌++◌, length, Option, Some, None, refl, sym, ap, ◌∙◌, subst, arith}
+use Rattle.std.proofs.Common.{◌≡◌, ℕ, ℤ, ◌+◌, ◌<◌, Bool, false, List, length, Option, Some, refl, sym, ap, ◌∙◌, subst, arith}
 use Rattle.std.specs.Str.{IsUtf8}
 use Rattle.yf_chars.specs.declared.context.Ctx.{Ctx}
 use Rattle.yf_chars.specs.Chain.{Chain}
@@ -15,14 +15,13 @@ use Rattle.yf_block_scalar.specs.Header.{BlockHeader, HeaderValue}
 use Rattle.yf_block_scalar.specs.Header.BlockHeader.{block_header}
 use Rattle.yf_props.specs.Props.{PropsValue}
 use Rattle.yf_events.specs.Event.{Placed}
-use Rattle.yf_events.specs.declared.event.Entry.{Entry as PlacedEntry}
 use Rattle.yf_events.specs.declared.event.Span.{Span}
 use Rattle.yf_grammar.specs.BlockScalar.{BlockScalar, LinesBetween}
 use Rattle.yf_grammar.specs.BlockScalar.BlockScalar.{block_scalar}
 use Rattle.yf_grammar.specs.BlockScalar.LinesBetween.{counted}
 use Rattle.yf_grammar.specs.Grammar.{Production, FlowNode, NodeOf, JsonContent, Entries, Entry, Pair, Explicit, Implicit, ValueOf, KeyOf, BlockNode, BlockEntries, BlockEntry, BlockIndented, BlockValue, Derives}
 use Rattle.yf_grammar.specs.Grammar.Derives.{flow_node, an_alias, a_plain, a_plain_with, properties_alone, a_json, a_json_with, a_single, a_double, an_empty_collection, a_collection, last_entry, last_entry_with_comma, more_entries, a_node_entry, a_pair_entry, an_explicit_entry, an_implicit_entry, an_explicit_pair, a_keyed_pair, an_unkeyed_pair, explicit_with, explicit_without, key_alone, key_and_value, value_alone, empty_value, a_value, a_key, a_block_scalar, a_block_scalar_with, a_block_collection, a_block_collection_with, flow_in_block, a_last_entry, an_entry_before, a_dash_entry, an_explicit_entry_with, an_explicit_key_alone, a_keyed_entry, an_unkeyed_entry, a_block_value, an_empty_block_value, a_compact_collection, an_indented_node, nothing_indented}
-use Rattle.yf_grammar.specs.Meaning.{Meaning, ◌⊕◌, behind, noting, empty_node, collection, with_props, entering, plain_event, from_to, event_with, span_since, first_with, first_entering}
+use Rattle.yf_grammar.specs.Meaning.{Meaning, ◌⊕◌, behind, noting, empty_node, collection, with_props, entering, plain_event, from_to, first_with, first_entering}
 use Rattle.yf_grammar.specs.Part.{floor_behind, end_or}
 use Rattle.yf_grammar.proofs.PrefixEnds.{Closed, at_break, at_text}
 use Rattle.yf_block.specs.BlockTied.{floor_after as floor_of}

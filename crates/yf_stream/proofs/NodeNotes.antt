@@ -1,13 +1,9 @@
 -- Each comment of a block node carries whether a blank line stands before it, seen from the floor that the node's block scalars before it set.
-use Rattle.std.proofs.Common.{◌≡◌, ◌≢◌, ℕ, ℤ, ◌+◌, ◌<◌, ◌≤◌, Bool, true, false, List, [], ◌∷◌, ◌++◌, Option, Some, None, encode_utf8_all, refl, sym, ap, ◌∙◌, subst, arith}
+use Rattle.std.proofs.Common.{◌≡◌, ℕ, ℤ, ◌<◌, ◌≤◌, Bool, true, false, List, [], ◌∷◌, ◌++◌, Option, None, refl, sym, ap, ◌∙◌, subst, arith}
 use Rattle.std.specs.Str.{IsUtf8}
 use Rattle.yf_chars.specs.declared.context.Ctx.{Ctx}
-use Rattle.yf_chars.specs.Text.{code, no_char}
-use Rattle.yf_chars.specs.Class.{is_ns_char, is_white}
+use Rattle.yf_chars.specs.Text.{code}
 use Rattle.yf_comments.specs.Comment.{CommentValue}
-use Rattle.yf_comments.specs.Comments.{is_gap}
-use Rattle.yf_comments.proofs.LineOrder.{line_end_forward}
-use Rattle.yf_props.proofs.SeparationEnds.{separate_forward}
 use Rattle.yf_props.proofs.NameLemmas.{anchor_parts}
 use Rattle.yf_props.proofs.TagLemmas.{tag_later}
 use Rattle.yf_props.specs.Names.{Properties, PropertiesValue}
@@ -15,20 +11,13 @@ use Rattle.yf_props.specs.Names.Properties.{by_tag, by_anchor, tag_first, anchor
 use Rattle.yf_props.specs.Props.{PropsValue}
 use Rattle.yf_events.specs.Event.{Placed}
 use Rattle.yf_events.specs.declared.event.ScalarStyle.TheVariants.{Plain, Single, Double}
-use Rattle.yf_events.specs.declared.event.Span.{Span}
-use Rattle.yf_grammar.specs.Grammar.{Production, FlowNode, NodeOf, JsonContent, Entries, Entry, Pair, Explicit, Implicit, ValueOf, KeyOf, BlockNode, BlockEntries, BlockEntry, BlockIndented, BlockValue, Derives}
-use Rattle.yf_grammar.specs.Grammar.Derives.{flow_node, an_alias, a_plain, a_plain_with, properties_alone, a_json, a_json_with, a_single, a_double, an_empty_collection, a_collection, last_entry, last_entry_with_comma, more_entries, a_node_entry, a_pair_entry, an_explicit_entry, an_implicit_entry, an_explicit_pair, a_keyed_pair, an_unkeyed_pair, explicit_with, explicit_without, key_alone, key_and_value, value_alone, empty_value, a_value, a_key, a_block_scalar, a_block_scalar_with, a_block_collection, a_block_collection_with, flow_in_block, a_last_entry, an_entry_before, a_dash_entry, an_explicit_entry_with, an_explicit_key_alone, a_keyed_entry, an_unkeyed_entry, a_block_value, an_empty_block_value, a_compact_collection, an_indented_node, nothing_indented}
+use Rattle.yf_grammar.specs.Grammar.{Production, FlowNode, NodeOf, JsonContent, Entries, Entry, Pair, Explicit, Implicit, ValueOf, KeyOf, BlockNode, BlockEntries, BlockEntry, BlockIndented, BlockValue}
 use Rattle.yf_grammar.specs.Meaning.{Meaning, ◌⊕◌, behind, noting, scalar, alias_to, empty_node, collection, with_props, entering, plain_event, start_of, end_of, first_with, first_entering}
 use Rattle.yf_grammar.specs.Part.{NotedSince, floor_behind}
-use Rattle.yf_grammar.proofs.BlockStarts.{block_starts}
-use Rattle.yf_grammar.proofs.CommentOrder.{Ascend, no_more, one_more, ascend_order, derived_ascends}
-use Rattle.yf_grammar.proofs.GapLemmas.{Visible}
-use Rattle.yf_grammar.proofs.PrefixNodes.{derived_order}
-use Rattle.yf_grammar.proofs.PropertiesEnds.{properties_later}
+use Rattle.yf_grammar.proofs.CommentOrder.{Ascend, no_more, one_more, ascend_order}
 use Rattle.yf_stream.specs.ReadingOf.{end_before, floor_at}
-use Rattle.yf_stream.proofs.CommentNotes.{Each, no_element, one_element, each_join, each_weaker, each_both, Told, told_wider, Guard, no_floor, guarded, guard_later, guard_order, since_guarded, line_told, separate_told, may_told, value_told}
-use Rattle.yf_stream.proofs.FloorLemmas.{note_over}
-use Rattle.yf_stream.proofs.FloorWalk.{FloorIn, floor_kept, floor_set, floor_wider, floor_early, floor_upto, floor_join, end_same, kept_event, with_floors, with_floor, entering_floors, entering_floor}
+use Rattle.yf_stream.proofs.CommentNotes.{Each, no_element, one_element, each_join, each_weaker, each_both, Told, told_wider, Guard, since_guarded, separate_told}
+use Rattle.yf_stream.proofs.FloorWalk.{FloorIn, floor_kept, floor_early, floor_join, end_same, kept_event}
 
 -- a comment within two places
 pub record Within (t : List ℕ) (i j : ℕ) (c : CommentValue) : Type 0 where

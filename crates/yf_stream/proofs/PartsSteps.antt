@@ -1,31 +1,29 @@
 -- What the parts hold after one step more of the reader of streams.
-use Rattle.std.proofs.Common.{◌≡◌, ◌≢◌, ℕ, ◌+◌, ◌<◌, ◌≤◌, Bool, true, false, inl, inr, List, [], ◌∷◌, ◌++◌, length, map, flat_map, Option, Some, None, refl, sym, ap, ◌∙◌, subst, arith, append_assoc, append-nil, true≢false}
+use Rattle.std.proofs.Common.{◌≡◌, ◌≢◌, ℕ, ◌+◌, ◌≤◌, Bool, true, false, inr, List, [], ◌∷◌, ◌++◌, length, map, flat_map, Option, Some, None, refl, sym, ap, ◌∙◌, subst, arith, append_assoc, append-nil, true≢false}
 use Rattle.std.specs.Str.{IsUtf8}
-use Rattle.yf_chars.specs.Text.{code, no_char}
+use Rattle.yf_chars.specs.Text.{code}
 use Rattle.yf_chars.specs.Class.{is_break_char, is_white}
-use Rattle.yf_chars.specs.Chain.{Chain, Stuck}
-use Rattle.yf_lines.specs.Basic.{Forbidden}
+use Rattle.yf_chars.specs.Chain.{Stuck}
 use Rattle.yf_comments.specs.Comment.{CommentValue}
 use Rattle.yf_comments.specs.Comments.{Row, is_gap}
 use Rattle.yf_props.specs.Props.{PropsValue, no_props}
 use Rattle.yf_events.specs.Event.{EventValue, Placed, alias_node, document_ends, document_starts, mapping_ends, mapping_starts, scalar_node, sequence_ends, sequence_starts, stream_ends, stream_starts}
 use Rattle.yf_events.specs.Tree.{Items, Node, Pairs, flat, flat_items, flat_pairs, unplaced}
 use Rattle.yf_events.specs.declared.directive.Directive.{Directive}
-use Rattle.yf_events.specs.declared.document.Doc.{Doc}
 use Rattle.yf_events.specs.declared.event.ScalarStyle.{ScalarStyle}
 use Rattle.yf_events.specs.declared.event.ScalarStyle.TheVariants.{Double, Folded, Literal, Plain, Single}
 use Rattle.yf_events.specs.declared.event.Span.{Span}
 use Rattle.yf_grammar.specs.Meaning.{Meaning, empty_node, from_to, noting, plain_event}
 use Rattle.yf_grammar.specs.Part.{Noting, end_or, floor_behind, no_event as none_noted, without_entry}
 use Rattle.yf_grammar.proofs.NodePlaces.{ColonStands, ItemsStand, NodeStands, PairsStand, a_colon, alias_stands, item_stands, items_order, mapping_stands, no_colon, no_items_stand, no_pairs_stand, node_order, pair_stands, pairs_order, scalar_stands, sequence_stands, stands_nowhere}
-use Rattle.yf_grammar.proofs.PlacedNodes.{NodeAt, node_noting, node_wider, nothing_at}
+use Rattle.yf_grammar.proofs.PlacedNodes.{NodeAt, node_noting, nothing_at}
 use Rattle.yf_grammar.proofs.PlacesDerived.{places}
 use Rattle.yf_stream.specs.DerivedParts.{no_parts}
 use Rattle.yf_stream.specs.DocumentReaders.{closed, opened, with_event}
 use Rattle.yf_stream.specs.DocumentSteps.{with_comments_read}
 use Rattle.yf_stream.specs.ReadingOf.{doc_of}
 use Rattle.yf_stream.specs.Stream.{Document, Documents, document_of, only_comments}
-use Rattle.yf_stream.specs.WrittenParts.{DocumentsWritten, Written, nothing_written}
+use Rattle.yf_stream.specs.WrittenParts.{DocumentsWritten, nothing_written}
 use Rattle.yf_stream.specs.declared.documents.Parts.{Parts}
 use Rattle.yf_stream.specs.declared.documents.Spot.{Spot}
 use Rattle.yf_stream.proofs.CommentNotes.{Guard, guarded, no_floor}
@@ -34,10 +32,10 @@ use Rattle.yf_stream.proofs.Forward.{line_end_forward}
 use Rattle.yf_stream.proofs.NextSteps.{NodeDone, StepTo, bare_to, dashes_to, directives_to, dots_to, lines_read, node_done, nothing_done}
 use Rattle.yf_stream.proofs.NodeFinish.{LineRows, finish_ends, rows_there}
 use Rattle.yf_stream.proofs.NotingLemmas.{EntriesAfter, floor_join, floor_of, node_entries, none_after, noting_join, noting_over}
-use Rattle.yf_stream.proofs.PartsUpto.{BareSpot, ClosedParts, EventsRead, EventsUpto, EventsWritten, all_closed, last_open, mark_there, no_mark_there, no_more, parts_closed}
+use Rattle.yf_stream.proofs.PartsUpto.{ClosedParts, EventsRead, EventsUpto, EventsWritten, all_closed, last_open, mark_there, no_mark_there, no_more, parts_closed}
 use Rattle.yf_stream.proofs.PrefixLemmas.{rows_prefix}
 use Rattle.yf_stream.proofs.StreamPath.{end_code}
-use Rattle.yf_stream.proofs.StreamUpto.{ReadUpto, followed, one_document}
+use Rattle.yf_stream.proofs.StreamUpto.{followed, one_document}
 
 -- the parts of the text that events have end at a place or before it
 abbrev pub SpanWithin : ℕ → Option Span → Type 0

@@ -1,11 +1,11 @@
 -- What the reader of streams has read so far, and what its parts hold of it: the events with their notes, the documents and the escapes.
-use Rattle.std.proofs.Common.{◌≡◌, ◌≢◌, ℕ, ◌<◌, ◌≤◌, Bool, true, false, List, [], ◌∷◌, ◌++◌, map, flat_map, refl, sym, ap, ◌∙◌, subst, arith, append_assoc, append-nil}
-use Rattle.yf_chars.specs.Text.{code, no_char}
+use Rattle.std.proofs.Common.{◌≡◌, ◌≢◌, ℕ, ◌≤◌, Bool, true, false, List, [], ◌∷◌, ◌++◌, map, flat_map, refl, sym, ap, ◌∙◌, subst, arith, append_assoc, append-nil}
+use Rattle.yf_chars.specs.Text.{code}
 use Rattle.yf_chars.specs.Chain.{Chain, Stuck}
 use Rattle.yf_chars.proofs.ChainLemmas.{chain_append, chain_forward, stuck_unique}
 use Rattle.yf_lines.specs.Basic.{Forbidden}
 use Rattle.yf_comments.specs.Comment.{CommentValue}
-use Rattle.yf_comments.specs.Comments.{LineEnd, Row, is_gap}
+use Rattle.yf_comments.specs.Comments.{LineEnd, Row}
 use Rattle.yf_events.specs.Event.{Placed, document_ends, document_starts, stream_ends, stream_starts}
 use Rattle.yf_events.specs.Tree.{unplaced}
 use Rattle.yf_grammar.specs.Part.{Noting, no_event as none_noted, without_entry}

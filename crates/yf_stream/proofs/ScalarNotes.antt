@@ -1,19 +1,19 @@
 -- The comments of a block scalar: its header's before its lines, and those after it, which carry whether a blank line stands between.
-use Rattle.std.proofs.Common.{◌≡◌, ◌≢◌, ℕ, suc, ℤ, ◌+◌, ◌-◌, ◌<◌, ◌≤◌, Bool, true, false, nat_lt, ⊎_elim, List, [], ◌∷◌, ◌++◌, length, Some, None, refl, sym, ap, ◌∙◌, subst, arith}
+use Rattle.std.proofs.Common.{◌≡◌, ℕ, ◌+◌, ◌-◌, ◌<◌, ◌≤◌, Bool, true, false, nat_lt, ⊎_elim, List, ◌++◌, length, refl, sym, ap, ◌∙◌, subst, arith}
 use Rattle.std.proofs.lemmas.Bool.Decides.{nat_tests}
 use Rattle.std.specs.Str.{IsUtf8}
 use Rattle.yf_chars.specs.Chain.{Chain, Many, one}
 use Rattle.yf_chars.specs.Chain.Chain.{done, step}
 use Rattle.yf_chars.specs.Class.{is_nb_char, is_white, is_break_char}
-use Rattle.yf_chars.specs.Text.{code, next, no_char}
+use Rattle.yf_chars.specs.Text.{code, no_char}
 use Rattle.yf_chars.proofs.ChainLemmas.{chain_forward, one_functional, many_unique}
 use Rattle.yf_chars.proofs.TextLemmas.{next_later, code-end}
-use Rattle.yf_lines.specs.Basic.{Break, LineStart, SeparateInLine, by_whites, at_start, Spaces}
+use Rattle.yf_lines.specs.Basic.{SeparateInLine, by_whites, at_start, Spaces}
 use Rattle.yf_lines.proofs.BasicLemmas.{break_forward, break_char}
 use Rattle.yf_lines.proofs.LineLemmas.{break_within}
 use Rattle.yf_comments.specs.Comment.{CommentValue}
 use Rattle.yf_comments.specs.Comments.{is_gap, Blank, BreakOrEnd, by_break, by_end, CommentText, LineRest, Row}
-use Rattle.yf_comments.specs.Comments.Blank.{text_begins, break_ends, white_ends}
+use Rattle.yf_comments.specs.Comments.Blank.{break_ends, white_ends}
 use Rattle.yf_comments.specs.Comments.CommentText.{comment_text}
 use Rattle.yf_comments.specs.Comments.LineRest.{nothing, whites, comment}
 use Rattle.yf_comments.proofs.BlankLemmas.{gap_of_white}
@@ -33,7 +33,7 @@ use Rattle.yf_grammar.specs.Part.BlankSince.{blank_line, past_gap}
 use Rattle.yf_grammar.specs.Part.NotedSince.{noted, not_noted}
 use Rattle.yf_grammar.proofs.OneScalars.{lines_one}
 use Rattle.yf_grammar.proofs.PrefixEnds.{Closed, at_break, at_text}
-use Rattle.yf_stream.proofs.CommentNotes.{Each, no_element, one_element, each_weaker, Told, Guard, guarded, told_since, rows_told, rows_order}
+use Rattle.yf_stream.proofs.CommentNotes.{Each, no_element, one_element, each_weaker, Told, guarded, told_since, rows_told}
 
 hash_solid : is_gap 35 ≡ false
 unfolding is_gap is_white is_break_char

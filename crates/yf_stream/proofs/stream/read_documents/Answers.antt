@@ -42,7 +42,7 @@ documents-preserved c =
           let e = events_past_prefix c.in_ok-spot.ensures.spot pre c.in_ok-spot.ensures.events c.in_ok-spot.ensures.documents c.in_ok-spot.ensures.escapes i.parts in
           let k = comments_past_prefix c.utf8.text c.in_ok-spot.ensures.spot pre c.in_ok-spot.ensures.events i.comments in
           let n = reading_goes_on c.utf8.text c.in_ok-spot.spot pre c.if-spot-text.false g
-              (next_of t c.in_ok-spot.spot c.skip_prefix.new.parts c.read_next.new.parts (c.read_next.ensures.reads l) c.in_ok-next.was c.in-Go.is) in
+          (next_of t c.in_ok-spot.spot c.skip_prefix.new.parts c.read_next.new.parts (c.read_next.ensures.reads l) c.in_ok-next.was c.in-Go.is) in
           record { documents = n.documents; read = n.read; parts = events_go_on c.utf8.text e pre.no_mark pre.no_row n.step; comments = comments_go_on c.utf8.text k n.step };
     }
 
