@@ -1,5 +1,4 @@
--- What the runs do, by what their reader gave, as far as it is proved. A text and a reading are named in one record, but of the reading
--- is said nothing that ties it to the text, and of a formatted text nothing that ties it to either: `Laws` says what is to be proved.
+-- What the runs do, by what their reader gave: of the text that was read they use its reading, and there is no other.
 use Rattle.std.specs.Prelude.{◌≡◌, ℕ, List, [], ◌∷◌, Bool, true, false, Option, IfSome, codes, decimal}
 use Rattle.std.specs.List.{concat, flat_map}
 use Rattle.std.specs.Str.{IsUtf8, IsValidUpTo}
@@ -13,9 +12,11 @@ use Rattle.yf_events.specs.Nested.{IsStream}
 use Rattle.yf_events.specs.Notation.{notation_of}
 use Rattle.yf_events.specs.Reading.{events_of}
 use Rattle.yf_emit.specs.declared.style.Style.{Style}
+use Rattle.yf_emit.specs.FormatKept.{FormatKept}
 use Rattle.yf_emit.specs.Formatted.{Formatted}
 use Rattle.yf_rules.specs.declared.finding.Finding.{Finding}
 use Rattle.yf_stream.specs.Refusal.{IsStreamFault}
+use Rattle.yf_stream.specs.StreamReader.{StreamFault, TheReading}
 use Rattle.yamlfmt.specs.declared.run.TheConstants.{INPUT_LIMIT}
 use Rattle.yamlfmt.specs.Input.{ReadRefusal}
 
@@ -23,14 +24,14 @@ use Rattle.yamlfmt.specs.Input.{ReadRefusal}
 abbrev pub Gave : Option (List ℕ) → List ℕ → Type 0
 Gave known bytes = IfSome known (λ all. bytes ≡ all)
 
--- a text was read, and the notation of a reading was written, whose events are a well nested stream. That it is the reading of the text
--- is not said
+-- a text was read, and the notation of its reading was written, whose events are a well nested stream
 pub record Printed (known old new : Option (List ℕ)) (before after : Bool) : Type 0 where
   pub text : List ℕ
   pub reading : Lists
   pub gave : Gave known text
   pub utf8 : IsUtf8 text
   pub nested : IsStream DEPTH (events_of reading)
+  pub reads : TheReading text reading
   pub wrote : Wrote old new before after (notation_of reading)
 
 -- the same, but the writer failed, and a prefix of what was to be written was written
@@ -40,6 +41,7 @@ pub record BrokeOff (known old new : Option (List ℕ)) (after : Bool) : Type 0 
   pub gave : Gave known text
   pub utf8 : IsUtf8 text
   pub nested : IsStream DEPTH (events_of reading)
+  pub reads : TheReading text reading
   pub broke : Broke old new after (notation_of reading)
 
 -- the bytes are no text, and their longest prefix that is one ends at the offset
@@ -49,13 +51,14 @@ pub record GaveNoText (known : Option (List ℕ)) (offset : ℕ) : Type 0 where
   pub none : ¬ IsUtf8 bytes
   pub front : IsValidUpTo bytes offset
 
--- a text was read, and the fault is one of the reader of streams, with a place in the text. That the text is no stream, or breaches what
--- the fault tells, is not said
+-- a text was read, and the fault is one of the reader of streams, with a place in the text: the text is no stream, or breaches what the
+-- fault tells
 pub record GaveNoStream (known : Option (List ℕ)) (fault : Fault) : Type 0 where
   pub text : List ℕ
   pub gave : Gave known text
   pub utf8 : IsUtf8 text
   pub is : IsStreamFault text fault
+  pub why : StreamFault text fault
 
 -- nothing was written
 pub record Untouched (old new : Option (List ℕ)) (before after : Bool) : Type 0 where
@@ -77,8 +80,8 @@ abbrev pub has_any : List Finding → Bool
 has_any [] = false
 has_any (f ∷ rest) = true
 
--- a text was read, its lines are these, and in a reading whose events are a well nested stream the rules find this; C tells what the rules
--- find. That it is the reading of the text is not said
+-- a text was read, its lines are these, and in its reading, whose events are a well nested stream, the rules find this; C tells what the
+-- rules find
 pub record Found (C : Table → Lists → List Finding → Type 0) (known : Option (List ℕ)) (findings : List Finding) : Type 0 where
   pub src : Table
   pub reading : Lists
@@ -86,6 +89,7 @@ pub record Found (C : Table → Lists → List Finding → Type 0) (known : Opti
   pub utf8 : IsUtf8 src.text
   pub lines : AreLines src.text src.lines
   pub nested : IsStream DEPTH (events_of reading)
+  pub reads : TheReading src.text reading
   pub checked : C src reading findings
 
 -- a line was written for each finding, and the answer is whether there is one
@@ -101,12 +105,13 @@ pub record BrokeOffLines (C : Table → Lists → List Finding → Type 0) (know
   pub found : Found C known findings
   pub broke : Broke old new after (findings_text findings)
 
--- a text was read, and what is given for it is what `Formatted` says: the print of a normal form, of which reading is not said
+-- a text was read, and what is given for it is its formatting, of which the laws hold that `FormatKept` names
 pub record Rendered (style : Style) (known : Option (List ℕ)) (formatted : List ℕ) : Type 0 where
   pub text : List ℕ
   pub gave : Gave known text
   pub utf8 : IsUtf8 text
   pub is : Formatted text style formatted
+  pub kept : FormatKept text style formatted
 
 -- the same, and what is given was written, once and with nothing beside it
 pub record Restyled (style : Style) (known old new : Option (List ℕ)) (before after : Bool) : Type 0 where

@@ -1,9 +1,9 @@
-//! The runs of the program, over any reader and any writer. Of readings and formatted texts their contracts say what `Run` of the
-//! specs says, which ties neither to the text that was read.
-ghost use Rattle.std.specs.Prelude.{◌≡◌, string_bytes, IfErr, IfOk, OnOk};
+//! The runs of the program, over any reader and any writer. Their contracts are told in `Run` of the specs.
+ghost use Rattle.std.specs.Prelude.{◌≡◌, ◌≤◌, ◌^◌, length, string_bytes, IfErr, IfOk, OnOk};
 ghost use Rattle.yf_lines.specs.Output.{Writes};
 ghost use Rattle.yf_rules.specs.Check.{Checked, RuleFindings};
 ghost use Rattle.yf_stream.specs.Refusal.{IsStreamFault};
+ghost use Rattle.yf_stream.specs.StreamReader.{StreamFault};
 ghost use Rattle.yamlfmt.specs.Findings.{FoundIn};
 ghost use Rattle.yamlfmt.specs.Run.{Printed, Refused, RefusedCheck, RefusedFmt, RefusedText, Rendered, Restyled, Told};
 ghost use Rattle.yamlfmt.specs.Run.{finding_line, findings_text, has_any};
@@ -33,7 +33,7 @@ pub const INPUT_LIMIT: usize = 1_073_741_824;
 /// has been written, after any other fault nothing. Refused are: more than `INPUT_LIMIT` bytes or a read that fails
 /// (`ReadFailed`), bytes that are no text (`NotUtf8`), a text that `read_stream` refuses, and a write that fails or takes
 /// nothing (`WriteFailed`). `Memory` may come in the place of each answer but `ReadFailed`, where a growth of memory was
-/// refused. That the events are those of the text is tested, and not proved.
+/// refused.
 pub fn run_events<R: Source, W: Sink>(
     alloc: Global,
     reader: &mut R,
@@ -55,8 +55,7 @@ pub fn run_events<R: Source, W: Sink>(
 }
 
 /// Reads all there is, and writes a line for each finding of the rules, in the order of their places: line and column, the
-/// rule's name, and ` (fixable)` where the house style fixes it. The answer is whether there is a finding. That the findings
-/// are those of the text's reading is tested, and not proved.
+/// rule's name, and ` (fixable)` where the house style fixes it. The answer is whether there is a finding.
 ///
 /// Refused is what `run_events` refuses, and nothing has then been written but, after `Fault::WriteFailed`, a prefix of the
 /// lines.
@@ -99,6 +98,7 @@ fn findings_in(
         (λ rule found. RuleFindings (definition rule) src reading style.now found) rules.now findings)
         text.now findings.items) }
     ensures refused { IfErr result (λ fault. IsStreamFault text.now fault) }
+    ensures refuses { length text.now ≤ 2 ^ 30 → IfErr result (StreamFault text.now) }
 {
     let src = match Src::new(alloc, text) {
         Ok(src) => src,
@@ -137,8 +137,7 @@ fn write_finding<W: Sink>(finding: &Finding, writer: &mut W) -> Result<(), Fault
     write_texts(writer, &[line, ":", column, " ", finding.id, fixable, "\n"])
 }
 
-/// Reads all there is, and writes it in the house style. Proved of what is written is what `Formatted` says: it is what is
-/// printed of the normal form of a reading; that the reading is the text's is not said.
+/// Reads all there is, and writes it in the house style: what `format` gives of the text, once and nothing else.
 ///
 /// Refused is what `run_events` refuses, and nothing has then been written but, after `Fault::WriteFailed`, a prefix of the
 /// text.

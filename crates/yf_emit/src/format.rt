@@ -1,8 +1,12 @@
 //! Formatting a text.
-ghost use Rattle.std.specs.Prelude.{◌≡◌, IfErr, IfOk};
+ghost use Rattle.std.specs.Prelude.{◌≡◌, ◌≤◌, ◌^◌, length, IfErr, IfOk};
+ghost use Rattle.std.specs.Str.{IsUtf8};
 ghost use Rattle.std.specs.String.{string_bytes};
+ghost use Rattle.yf_emit.specs.FormatKept.{FormatKept};
 ghost use Rattle.yf_emit.specs.Formatted.{Formatted};
+ghost use Rattle.yf_stream.specs.ReadingOf.{ReadingOf};
 ghost use Rattle.yf_stream.specs.Refusal.{IsStreamFault};
+ghost use Rattle.yf_stream.specs.StreamReader.{StreamFault};
 
 use crate::normal::normal_of;
 use crate::print::layout::layout;
@@ -15,6 +19,8 @@ use yf_stream::stream::read_stream;
 /// The text of a reading of the text in the house style.
 fn formatted(alloc: Global, text: &str, reading: &Reading, style: &Style) -> Result<String, Fault>
     ensures formatted { IfOk result (λ formatted. Formatted text.now style.now (string_bytes formatted)) }
+    ensures keeps { IsUtf8 text.now → ReadingOf text.now reading.now
+        → IfOk result (λ formatted. FormatKept text.now style.now (string_bytes formatted)) }
     ensures refused { IfErr result (λ fault. fault ≡ Fault.Memory) }
 {
     let normal = normal_of(alloc, text, reading, style)?;
@@ -24,15 +30,17 @@ fn formatted(alloc: Global, text: &str, reading: &Reading, style: &Style) -> Res
     }
 }
 
-/// The stream of the text in the house style. What is proved of it is what `Formatted` says: it is the layout of the normal form of a
-/// reading, where that is the text's.
+/// The stream of the text in the house style: the layout of the normal form of the text's reading, and nothing else is that. It is
+/// accepted, and has the same content and the same comments at the same places (`FormatKept`, of texts of 1 GiB at most).
 ///
 /// # Errors
 ///
 /// Those of `read_stream`.
 pub fn format(alloc: Global, text: &str, style: &Style) -> Result<String, Fault>
     ensures formatted { IfOk result (λ formatted. Formatted text.now style.now (string_bytes formatted)) }
+    ensures keeps { length text.now ≤ 2 ^ 30 → IfOk result (λ formatted. FormatKept text.now style.now (string_bytes formatted)) }
     ensures refused { IfErr result (λ fault. IsStreamFault text.now fault) }
+    ensures refuses { length text.now ≤ 2 ^ 30 → IfErr result (StreamFault text.now) }
 {
     let reading = read_stream(alloc, text)?;
     match formatted(alloc, text, &reading, style) {

@@ -44,11 +44,9 @@ enum Refusal {
 /// handle in a document (`RepeatedDirective`), another major version than 1 (`BadVersion`), an escape that is no character
 /// (`EscapeValue`). `Fault::Memory` may come in the place of each answer, where a growth of memory was refused.
 ///
-/// Proved of this is that the faults are of these kinds, each but `Memory` with a place in the text, that the reading is well
-/// nested, and that it is made of parts in which nothing is breached, with the tags that they stand for and the notes which
-/// comments stand on the lines of leaves; a breach is the first one in such parts. Where the parts are those of the one shape
-/// of the text, that is its reading, and its first breach. That they are is tested. Of texts of 1 GiB at most it is proved besides
-/// that `Syntax` and `TooDeep` come only where the text is no stream within the limit, and readings and breaches only where it is one.
+/// Of texts of 1 GiB at most this is the contract: a reading is the text's and its only one, and a fault comes only for its cause. Of longer texts
+/// it says that the faults are of these kinds, each but `Memory` with a place in the text, and that a reading is made of parts in which nothing is
+/// breached.
 pub fn read_stream<'a>(alloc: Global, text: &'a str) -> Result<Reading<'a>, Fault>
     ensures faults { IfErr result (λ fault. IsStreamFault text.now fault) }
     ensures made { MadeReading text.now result }

@@ -1,4 +1,7 @@
-use Rattle.std.proofs.lemmas.Result.{IfOk-weaker}
+use Rattle.std.proofs.Common.{◌≡◌, sym, subst}
+use Rattle.std.proofs.lemmas.Result.{IfErr-weaker, IfOk-weaker}
+use Rattle.yf_lines.specs.declared.fault.Fault.TheVariants.{Memory}
+use Rattle.yf_stream.specs.StreamReader.{StreamFault, for_memory}
 use Rattle.yamlfmt.proofs.FindingLemmas.{found_text, nested_same}
 use Rattle.yamlfmt.proofs.run.findings_in.Goals as goal
 
@@ -6,5 +9,11 @@ pub returns-clause-found : goal.returns-clause-found
 returns-clause-found g c =
     IfOk-weaker c.check.result _ _
     (λ findings checked. found_text c.in-Ok.src c.in_ok-stream.stream c.in-Ok.ensures.text c.in-Ok.ensures.lines
-    (nested_same c.stream.view_is c.stream.invariant.stream) checked)
+    (nested_same c.stream.view_is c.stream.invariant.stream) c.in_ok-stream.ensures.reads checked)
     c.check.ensures.findings
+
+pub returns-in-Err-clause-refuses : goal.returns-in-Err-clause-refuses
+returns-in-Err-clause-refuses g c = λ short. for_memory
+
+pub returns-clause-refuses : goal.returns-clause-refuses
+returns-clause-refuses g c = λ short. IfErr-weaker c.check.result _ _ (λ fault same. subst (StreamFault c.args.text.now) (sym same) for_memory) c.check.ensures.refused

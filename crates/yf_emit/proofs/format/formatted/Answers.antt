@@ -18,3 +18,8 @@ returns-in-Ok-clause-formatted c = record {
       c.in-Ok.ensures utf8 reads);
   utf8 = IsUtf8-string_bytes c.in-Ok.output;
 }
+
+pub returns-in-Ok-clause-keeps : goal.returns-in-Ok-clause-keeps
+returns-in-Ok-clause-keeps c = λ utf8 reads. format_keeps c.args.text.now c.args.style.now (string_bytes c.in-Ok.output) utf8
+    (printed_formats c.args.text.now c.args.style.now (string_bytes c.in-Ok.output) c.args.reading.now c.in_ok-normal.normal c.in_ok-normal.ensures.nested
+    c.in_ok-normal.ensures.is_normal c.in-Ok.ensures utf8 reads)
