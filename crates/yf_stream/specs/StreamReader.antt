@@ -1,5 +1,4 @@
--- What the reader of streams is to answer. The contract promises less of it today: a well nested reading, and faults of these kinds
--- with places in the text.
+-- What the reader of streams answers.
 use Rattle.std.specs.Prelude.{◌≡◌, ℕ, ◌<◌, ◌≤◌, List, Result, MatchResult}
 use Rattle.yf_lines.specs.FaultPlaces.{InText, IsPlaceOf}
 use Rattle.yf_lines.specs.declared.fault.Fault.{Fault}
