@@ -1,5 +1,5 @@
--- What is to be proved of the runs, each law with the plain sentence that it stands for. The contracts name none of them yet: of readings and
--- formatted texts they say what `Run` says.
+-- The laws of the runs, each with the plain sentence that it stands for. What `Run` says, which the contracts name, holds those of the runs that print
+-- events and findings, and that of the run that formats but for a second run.
 -- (known: what the reader had; old, new, before, after: what the writer holds, and the note that it has failed)
 use Rattle.std.specs.Prelude.{◌≡◌, ℕ, List, Bool, Option}
 use Rattle.std.specs.Str.{IsUtf8}
