@@ -34,6 +34,7 @@ use Rattle.yf_emit.proofs.LayoutLawsHold.{layouts_are_texts, layouts_are_laid}
 use Rattle.yf_emit.proofs.NormalRestyled.{root_restyled}
 use Rattle.yf_emit.proofs.StepsStand.{Stand}
 use Rattle.yf_emit.proofs.HeldLemmas.{EventsHeld}
+use Rattle.yf_emit.proofs.SetStreams.{SetAll}
 use Rattle.yf_emit.proofs.StreamsMade.{DocumentsLaid, StreamLaid, all_events}
 use Rattle.yf_emit.proofs.TreesRead.{document_read, reading_fits, same_node}
 
@@ -179,6 +180,7 @@ pub record FormattedLaid {t : List ℕ} {s : Style} {u : List ℕ} (f : Formats 
       (comment_steps (remarks_of (first_gap f.normal (rows_of f.normal s f.writes.trees)))
       ++ steps_with documents_begin (rows_of f.normal s f.writes.trees) (row_decos f.normal (rows_of f.normal s f.writes.trees))) (length u)
   pub held : EventsHeld u (all_events well.documents.documents) well.documents.comments (rows_of f.normal s f.writes.trees) (row_decos f.normal (rows_of f.normal s f.writes.trees)) []
+  pub set : SetAll u s well.documents.documents
 
 pub formats_laid : (t u : List ℕ) (s : Style) → IsUtf8 t → (f : Formats t s u) → FormattedLaid f
 formats_laid t u s utf8 f =
@@ -213,6 +215,7 @@ formats_laid t u s utf8 f =
       laid = laid.laid;
       begun = laid.begun;
       held = laid.held;
+      set = laid.set;
     }
 
 pub formats_well : FormatsAreWellFormed

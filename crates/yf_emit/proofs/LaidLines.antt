@@ -134,7 +134,7 @@ before_text_end {t} {q} x r s =
     omega (arith, some, length-drop q t, length-append x (10 ∷ r))
 
 -- the line that begins with a text
-line_is : {t : List ℕ} (l : Line) (x r : List ℕ) → IsUtf8 t → IsLineText x → IsLine t l → Rest t l.start (x ++ (10 ∷ r)) → (a : LineIs t l x) × (a.behind ≡ r)
+pub line_is : {t : List ℕ} (l : Line) (x r : List ℕ) → IsUtf8 t → IsLineText x → IsLine t l → Rest t l.start (x ++ (10 ∷ r)) → (a : LineIs t l x) × (a.behind ≡ r)
 line_is {t} l x r u a m s =
     let at = rest_text x u a s in
     let end = rest_break u at.rest in

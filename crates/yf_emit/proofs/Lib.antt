@@ -176,9 +176,14 @@ pub mod FormattedLines
 pub mod RowKinds
 pub mod WellSet
 pub mod HeldLemmas
+-- where the entries of what is laid out stand
+pub mod SetNodes
+pub mod SetMeant
+pub mod SetStreams
 pub mod ScalarHeld
 pub mod DirectiveEnds
 pub mod FormattedHeld
+pub mod FormattedSet
 pub mod TidyTexts
 pub mod LinedRows
 pub mod GapSpread

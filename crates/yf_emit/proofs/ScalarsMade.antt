@@ -42,12 +42,13 @@ use Rattle.yf_emit.specs.Fits.{FitScalar, FitProps, no_fit_props, some_fit_props
 use Rattle.yf_emit.specs.Layout.{may_be_blank_behind}
 use Rattle.yf_emit.specs.Normal.{Setting, Spot}
 use Rattle.yf_emit.specs.OneLine.{spaced, props_text}
-use Rattle.yf_emit.specs.Rows.{Row, Ending, block_scalar, tail_ending, is_empty_text, rows}
+use Rattle.yf_emit.specs.Rows.{begins_below, Row, Ending, block_scalar, tail_ending, is_empty_text, rows}
 use Rattle.yf_emit.specs.Steps.{a_leaf, leaf_steps, comment_steps, steps_in}
 use Rattle.yf_emit.proofs.BlockTexts.{style_written, digit_written, sign_written, line_written}
 use Rattle.yf_emit.proofs.ClearRows.{unmarked_first, unmarked_nothing, line_indented, AreBodyTexts, no_body_text, body_text, place_of_rest}
 use Rattle.yf_emit.proofs.CollectionsMade.{same_props, some_props}
 use Rattle.yf_emit.proofs.HeldLemmas.{held_scalar}
+use Rattle.yf_emit.proofs.SetMeant.{SetMeant, set_block}
 use Rattle.yf_emit.proofs.CollectionsMade.{comments_with_props, same_props, some_props}
 use Rattle.yf_emit.proofs.FoundNodes.{FoundNode, scalar_rows}
 use Rattle.yf_emit.proofs.NodePlaces.{apart_at, both_behind, block_no_key}
@@ -356,6 +357,9 @@ module _ {s : Setting} {at : Standing} {style : ScalarStyle} {text : List ℕ} {
             (record { ascend = scalar_ascends node.derived; is = node.is; start = subst (λ j. LineStart t j) (place_of_rest begun.rest node.rest) begun.start }) node.rest;
         is = node.is ∙ sym (append-nil (carried_texts (first ds)));
         laid = subst (λ z. MeaningLaid q node.place node.meaning z) (scalar_steps row ds leaf) (laid_scalar q node.meaning.finish (omega arith) node.events (scalar_ascends node.derived) node.is);
+        set = let found = bare_found {t = t} {at = at} s spot.entries s.style.indent q node.meaning placed_at f node.events node.escapes in
+            subst (λ k. SetMeant t s.style spot.entries k (begins_below (scalar at no_props style text lines)) q node.meaning) stood.lines
+            (set_block (block_lines style spot.lines text lines) (gap_then (first ds).gap r) found.alike found.events f.block deep (bare_scalar s.style.indent spot.lines u f made));
         held = held_scalar node.meaning row ds r spot.lines (block_lines style spot.lines text lines) body said_lines made.comments made.seen (bare_scalar s.style.indent spot.lines u f made);
       }
     where
@@ -397,6 +401,9 @@ module _ {s : Setting} {at : Standing} {style : ScalarStyle} {text : List ℕ} {
         is = texts_with_props p o q g node.meaning ∙ (node.is ∙ sym (append-nil (carried_texts (first ds))));
         laid = subst (λ z. MeaningLaid q node.place (with_props p o q g node.meaning) z) (scalar_steps row ds leaf)
             (laid_scalar_with p o q g i node.meaning.finish node.meaning (omega arith) node.events (scalar_ascends node.derived) node.is);
+        set = let found = props_found {t = t} {at = at} s spot.entries s.style.indent i q g p o node.meaning placed_at f node.events node.escapes in
+            subst (λ k. SetMeant t s.style spot.entries k (begins_below (scalar at p style text lines)) q (with_props p o q g node.meaning)) stood.lines
+            (set_block (block_lines style spot.lines text lines) (gap_then (first ds).gap r) found.alike found.events f.block deep (props_scalar s.style.indent spot.lines u f made q g p o (n +ℤ pos 1) c before.properties before.separate));
         held = held_scalar (with_props p o q g node.meaning) row ds r spot.lines (block_lines style spot.lines text lines) body said_lines (props_set t p o q g node.meaning made.comments) made.seen
             (props_scalar s.style.indent spot.lines u f made q g p o (n +ℤ pos 1) c before.properties before.separate);
       }

@@ -47,6 +47,8 @@ use Rattle.yf_emit.proofs.NoStarts.{no_start_on, directives_none, quiet_steps, r
 use Rattle.yf_emit.proofs.PlacedRows.{none_inside, PlacedRow, RowsIn, row_before, rows_in_append}
 use Rattle.yf_emit.proofs.RowEnds.{row_end, first_deco, after_decos, past_decos, comments_append, calm_append}
 use Rattle.yf_emit.proofs.RowTexts.{row_texts}
+use Rattle.yf_emit.proofs.SetMeant.{SetDone}
+use Rattle.yf_emit.proofs.SetStreams.{SetAll, none_set, some_set, document_set, documents_set}
 use Rattle.yf_emit.proofs.StepsStand.{Stand, nothing_stands, stand_after, stand_join, comments_stand, MeaningLaid, EventsLaid, events_behind}
 use Rattle.yf_emit.proofs.TreesMade.{node_claim}
 use Rattle.yf_emit.proofs.WellSet.{AllSet, lines_set, set_append}
@@ -154,6 +156,7 @@ pub record AnyMade (t : List ℕ) (s : Setting) (d : Doc) (x : DocumentTree) (rs
   pub placed : RowsIn t rs found_rows ds q comments place r
   pub begun : Stand q (document.start ∷ []) comments (steps_with documents_begin rs ds) place
   pub held : EventsHeld t document.events comments rs ds r
+  pub set : SetDone t s.style 0 s.style.indent document.events
 
 abbrev root_rows : Setting → DocumentTree → List Row
 root_rows c x = rows c (root_spot c.style) x.root
@@ -198,6 +201,7 @@ directed {t} c {d} x {e} {es} row ds r q none bare said key plain same f fs fit 
           (subst (λ z. Stand q (one.place ∷ []) (one.meaning.comments ++ node.meaning.comments) z node.place) (sym (with_append documents_begin (row ∷ map directive_row es) (start_row ∷ tree) ds))
           (stand_join (subst (λ z. Stand q [] one.meaning.comments z one.place) (sym (quiet_steps (no_start_on {row = row} plain (directives_none es)) ds)) (comments_stand (directives_ascend one.lines) one.is))
           (explicit_begun start_row (past (map directive_row es) (after ds)) refl (rows_none c (root_spot c.style) x.root) node)));
+      set = document_set one.place one.meaning.directives node.meaning node.set;
       held = record {
         comments = set_append t one.meaning.comments node.meaning.comments (one.held node.meaning.events).comments node.held.comments;
         bodies = held_events t node.meaning ((row ∷ map directive_row es) ++ (start_row ∷ tree)) ds r one.place one.meaning.directives (bodies_append t node.meaning.events (row ∷ map directive_row es) (start_row ∷ tree) ds r (one.held node.meaning.events).bodies node.held.bodies);
@@ -232,6 +236,7 @@ first_with {t} c {d} x start [] ds r q same f fit u a k w =
       found = found_document q [] (node.head ∷ []) node.meant refl;
       placed = node.placed;
       begun = document_begun q [] node.meaning (explicit_begun (record start_row { items = start ∷ [] }) ds refl (rows_none c (root_spot c.style) x.root) node);
+      set = document_set q [] node.meaning node.set;
       held = record { comments = node.held.comments; bodies = held_events t node.meaning (record start_row { items = start ∷ [] } ∷ root_rows c x) ds r q [] node.held.bodies };
     }
 first_with {t} c {d} x start (e ∷ es) ds r q same (fit_directive f fs) fit u a k w =
@@ -258,6 +263,7 @@ record StepMade (t : List ℕ) (s : Setting) (d : Doc) (x : DocumentTree) (rs : 
   pub placed : RowsIn t rs found_rows ds q comments place r
   pub begun : Stand q (document.start ∷ []) comments (steps_with documents_begin rs ds) place
   pub held : EventsHeld t document.events comments rs ds r
+  pub set : SetDone t s.style 0 s.style.indent document.events
 
 step_with : {t : List ℕ} (c : Setting) {d : Doc} (x : DocumentTree) (start : ℕ) (dirs : List Directive) (ds : List Deco) (r : List ℕ) (q : ℕ) → d.directives ≡ dirs → FitDirectives dirs → Fit x.root → IsUtf8 t → AreDecos ds
     → Calm (head_rows false start dirs ++ root_rows c x) ds r → Rest t q (lines_then (head_rows false start dirs ++ root_rows c x) ds r) → StepMade t c d x (head_rows false start dirs ++ root_rows c x) ds q r
@@ -278,6 +284,7 @@ step_with {t} c {d} x start [] ds r q same f fit u a k w =
       found = found_document q [] (node.head ∷ []) node.meant refl;
       placed = node.placed;
       begun = document_begun q [] node.meaning (explicit_begun (record start_row { items = start ∷ [] }) ds refl (rows_none c (root_spot c.style) x.root) node);
+      set = document_set q [] node.meaning node.set;
       held = record { comments = node.held.comments; bodies = held_events t node.meaning (record start_row { items = start ∷ [] } ∷ root_rows c x) ds r q [] node.held.bodies };
     }
 step_with {t} c {d} x start (e ∷ es) ds r q same (fit_directive f fs) fit u a k w =
@@ -319,6 +326,7 @@ step_with {t} c {d} x start (e ∷ es) ds r q same (fit_directive f fs) fit u a 
           (subst (λ z. RowsIn t ((row ∷ map directive_row es) ++ (start_row ∷ root_rows c x)) made.found_rows (after ds) z made.comments made.place r) (omega arith) made.placed));
       begun = stand_join (stand_after (omega arith) (comments_stand (end_ascends end.end) end.is))
           (subst (λ z. Stand end.place (made.document.start ∷ []) made.comments (steps_with documents_begin z (after ds)) made.place) (sym shape) made.begun);
+      set = made.set;
       held = record {
         comments = set_append t end.comments made.comments ended.comments made.held.comments;
         bodies = (bare_row t made.document.events (record (plain_row 0 (codes "...")) { items = start ∷ [] }) (first ds) rest refl ended.seen, subst (λ z. BodiesHeld t made.document.events z (after ds) r) (sym shape) made.held.bodies);
@@ -340,6 +348,7 @@ pub record RestMade (t : List ℕ) (s : Setting) (ds : List Doc) (xs : List Docu
   pub placed : StreamIn t rs found_rows decos q documents.comments
   pub begun : Stand q (starts_in documents) documents.comments (steps_with documents_begin rs decos) (length t)
   pub held : EventsHeld t (all_events documents.documents) documents.comments rs decos []
+  pub set : SetAll t s.style documents.documents
 
 ended_at : {t : List ℕ} {q : ℕ} → Rest t q [] → q ≡ length t
 ended_at {t} {q} s =
@@ -360,6 +369,7 @@ rest_made {t} c fit_no_documents decos q u a k w = record {
   found = no_documents_found;
   placed = no_stream;
   begun = nothing_stands (let end : q ≡ length t = ended_at w in omega (arith, end));
+  set = none_set;
   held = record { comments = tt; bodies = tt };
 }
 rest_made {t} c (fit_document {d = d} {ds = ds} {x = x} {xs = xs} f fit more) decos q u a k w =
@@ -386,6 +396,7 @@ rest_made {t} c (fit_document {d = d} {ds = ds} {x = x} {xs = xs} f fit more) de
           (stream_more (document_begins false d.start d.directives (root_rows c x)) one.placed (λ e. ended_at (subst (λ z. Rest t one.place (lines_then z (past head decos) [])) e one.rest)) last.placed);
       begun = subst (λ z. Stand q (starts_in (with_document one.comments one.document last.documents)) (with_document one.comments one.document last.documents).comments z (length t))
           (sym (with_append documents_begin head others decos)) (documents_begun one.comments one.document last.documents one.begun last.begun);
+      set = documents_set one.comments one.document last.documents one.set last.set;
       held = documents_held one.comments one.document last.documents head others decos one.held last.held;
     }
 
@@ -409,6 +420,7 @@ pub record StreamLaid (t : List ℕ) (s : Setting) (ds : List Doc) (xs : List Do
   pub placed : StreamIn t rs found_rows decos line others
   pub begun : Stand 0 (starts_in made.documents) made.documents.comments (comment_steps (remarks_of gap) ++ steps_with documents_begin rs decos) (length t)
   pub held : EventsHeld t (all_events made.documents.documents) made.documents.comments rs decos []
+  pub set : SetAll t s.style made.documents.documents
 
 stream_made : {t : List ℕ} (c : Setting) {ds : List Doc} {xs : List DocumentTree} (gap : List GapLine) (decos : List Deco) → FitDocuments ds xs → IsUtf8 t → AreGapLines gap → AreDecos decos
     → Calm (stream_rows c true ds xs) decos [] → Rest t 0 (gap_then gap (lines_then (stream_rows c true ds xs) decos []))
@@ -436,6 +448,7 @@ stream_made {t} c gap decos fit_no_documents u g a k w =
       found = subst (λ z. FoundDocuments t c [] z []) (sym (documents_with_comments at.comments)) no_documents_found;
       placed = no_stream;
       begun = comments_begun at.comments (only_comments []) (comments_stand (rows_ascend (lines_rows at.lines)) at.is) (nothing_stands (omega (arith, end)));
+      set = subst (λ z. SetAll t c.style z) (sym (documents_with_comments at.comments)) none_set;
       held = record { comments = comments_set t at.comments (lines_set (inl at_text) at.lines); bodies = tt };
     }
 stream_made {t} c gap decos (fit_document {d = d} {ds = ds} {x = x} {xs = xs} f fit more) u g a k w =
@@ -473,6 +486,7 @@ stream_made {t} c gap decos (fit_document {d = d} {ds = ds} {x = x} {xs = xs} f 
           (append_assoc (comment_steps (remarks_of gap)) (steps_with documents_begin head decos) (steps_with documents_begin others (past head decos))
           ∙ ap (λ z. comment_steps (remarks_of gap) ++ z) (sym (with_append documents_begin head others decos)))
           (documents_begun (at.comments ++ one.comments) one.document last.documents (stand_join (comments_stand (rows_ascend (lines_rows at.lines)) at.is) one.begun) last.begun);
+      set = documents_set (at.comments ++ one.comments) one.document last.documents one.set last.set;
       held = documents_held (at.comments ++ one.comments) one.document last.documents head others decos
           (record { comments = set_append t at.comments one.comments (lines_set (inl at_text) at.lines) one.held.comments; bodies = one.held.bodies }) last.held;
     }

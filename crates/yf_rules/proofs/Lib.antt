@@ -58,3 +58,5 @@ pub mod MendedScalars
 pub mod MendedContents
 pub mod MendedSorts
 pub mod MendedBlanks
+pub mod MendedColumns
+pub mod MendedIndents
