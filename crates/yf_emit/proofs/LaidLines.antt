@@ -128,7 +128,7 @@ at_text_end {t} {q} s =
     let none : length (drop q t) ≡ 0 = ap length s.bytes in
     omega (arith, none, length-drop q t, s.boundary.0)
 
-before_text_end : {t : List ℕ} {q : ℕ} (x r : List ℕ) → Rest t q (x ++ (10 ∷ r)) → q < length t
+pub before_text_end : {t : List ℕ} {q : ℕ} (x r : List ℕ) → Rest t q (x ++ (10 ∷ r)) → q < length t
 before_text_end {t} {q} x r s =
     let some : length (drop q t) ≡ length (x ++ (10 ∷ r)) = ap length s.bytes in
     omega (arith, some, length-drop q t, length-append x (10 ∷ r))

@@ -59,4 +59,5 @@ pub mod MendedContents
 pub mod MendedSorts
 pub mod MendedBlanks
 pub mod MendedColumns
+pub mod MendedScalarIndents
 pub mod MendedIndents

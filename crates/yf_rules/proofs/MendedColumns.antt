@@ -29,8 +29,8 @@ use Rattle.yf_emit.proofs.SetNodes.{ColumnAt}
 ascii_next : {t : List ℕ} (i : ℕ) → IsUtf8 t → code t i < 128 → next t i ≡ i + 1
 ascii_next {t} i u l = let b = byte_from_code t i u l in (reads_ascii t i u b.0 (let e = b.1 in omega (arith, e, l))).end
 
-char_boundary : {t : List ℕ} (i : ℕ) → code t i < no_char → IsCharBoundary t i
-char_boundary {t} i l =
+pub char_boundary : (t : List ℕ) (i : ℕ) → code t i < no_char → IsCharBoundary t i
+char_boundary t i l =
     ⊎_elim (λ (e : begins t i ≡ true). boundary_from_begins t i e) (λ (e : begins t i ≡ false). absurd (let n : code t i ≡ no_char = code-nowhere t i e in omega (arith, n, l))) (cases_Bool (begins t i))
 
 ascii_many : {t : List ℕ} {i o : ℕ} {x : List ℕ} (m : ℕ) → IsUtf8 t → Many t is_char i o x → o ≡ i + m → ((k : ℕ) → k < m → code t (i + k) < 127) → length x ≡ m
@@ -44,6 +44,11 @@ ascii_many {t} {i = i} {o = o} m u (step {y = y} (one p) c) e f =
     let there : next t i ≡ i + 1 = ascii_next i u (omega (arith, here)) in
     let more = ascii_many (m - 1) u c (omega (arith, e, there, some)) (λ k l. let same : i + (k + 1) ≡ next t i + k = omega (arith, there) in subst (λ h. code t h < 127) same (f (k + 1) (omega (arith, l)))) in
     omega (arith, more, some)
+
+-- characters behind marks begin where those end, or later
+chars_past : {t : List ℕ} {s j a e : ℕ} {y x : List ℕ} → IsUtf8 t → code t j ≢ 0xFEFF → s ≤ j → Many t is_mark s a y → a ≤ e → Many t is_char j e x → a ≤ j
+chars_past u n l run m done = m
+chars_past {t} {j = j} u n l run m (step (one p) more) = marks_stop j u (char_boundary t j (ltb-true (code t j) no_char p)) n l run
 
 -- Lines.
 
@@ -80,29 +85,28 @@ module _ {t : List ℕ} (u : IsUtf8 t) {m o : ℕ} (a : ColumnAt t m o) where
       ⊎_elim (λ (some : 0 < m).
       let zero_more : a.line + 0 ≡ a.line = omega arith in
       let here : code t a.line < 127 = subst (λ k. code t k < 127) zero_more (a.most 0 some) in
-      let far : j ≤ a.line = marks_stop a.line u (char_boundary a.line (omega (arith, here))) (λ e. omega (arith, here, e)) l marks.run in
-      both far (later c))
+      let far : j ≤ a.line = marks_stop a.line u (char_boundary t a.line (omega (arith, here))) (λ e. omega (arith, here, e)) l marks.run in
+      both far (chars_past u no_mark_at (marks_order t s j marks) run upto c))
       (λ (none : m ≤ 0).
       let is = a.is in
       let far = chain_forward (one_functional t is_char) c in
-      both (omega (arith, is, far, none)) (later c))
+      both (omega (arith, is, far, none)) (chars_past u no_mark_at (marks_order t s j marks) run upto c))
       (cases_lt 0 m) where
     both : j ≤ a.line → a.line ≤ j → a.line ≡ j
     both f g = omega (arith, f, g)
 
+    upto : a.line ≤ o
+    upto = let is = a.is in omega (arith, is)
+
     no_mark_at : code t j ≢ 0xFEFF
     no_mark_at e = true≢false (sym (code_mark t j e) ∙ marks.stops)
-
-    later : {x : List ℕ} → Many t is_char j o x → a.line ≤ j
-    later done = let is = a.is in omega (arith, is)
-    later (step (one p) more) = marks_stop j u (char_boundary j (ltb-true (code t j) no_char p)) no_mark_at (marks_order t s j marks) run
 
   column_in : {s c : ℕ} {y : List ℕ} → s ≤ a.line → Many t is_mark s a.line y → ColumnOf t s o c → c ≡ m + 1
   column_in {s} {y = y} l run (among_marks {j = j} marks n) =
       ⊎_elim (λ (some : 0 < m).
       let zero_more : a.line + 0 ≡ a.line = omega arith in
       let here : code t a.line < 127 = subst (λ k. code t k < 127) zero_more (a.most 0 some) in
-      let far : j ≤ a.line = marks_stop a.line u (char_boundary a.line (omega (arith, here))) (λ e. omega (arith, here, e)) l marks.run in
+      let far : j ≤ a.line = marks_stop a.line u (char_boundary t a.line (omega (arith, here))) (λ e. omega (arith, here, e)) l marks.run in
       let is = a.is in
       absurd (omega (arith, far, is, n)))
       (λ (none : m ≤ 0). omega (arith, none))
