@@ -9,7 +9,6 @@ use Rattle.yf_emit.specs.declared.style.Style.{Style}
 use Rattle.yf_emit.specs.Decorated.{decorated, first_gap, gap_then, lines_then, row_decos, rows_of}
 use Rattle.yf_emit.specs.Format.{Formats}
 use Rattle.yf_emit.specs.FoundTrees.{FoundSame, FoundTrees, none_found, one_found}
-use Rattle.yf_emit.specs.Layout.{layout}
 use Rattle.yf_emit.specs.Normal.{Normal, Setting, normal_document, root_spot, setting_of, settled, styled}
 use Rattle.yf_emit.proofs.AlikeLemmas.{setting}
 use Rattle.yf_emit.proofs.DecoratedLemmas.{layout_then}
@@ -48,12 +47,18 @@ documents_fixed {s} {cs} {es} {u} t (z ∷ read) e (one_found {x = x} {y = y} {x
       rest_of [] = []
       rest_of (w ∷ ws) = ws
 
+-- where the same trees are found the reading is its own normal form
+pub found_normal : {t u : List ℕ} {s : Style} (f : Formats t s u) (q : Lists) (found : List DocumentTree) → TreesOf q found
+    → FoundTrees s f.normal.comments u q.comments f.normal.documents f.writes.trees q.documents found → Normal u q s q
+found_normal {t} {u} {s} f q found of_reading alike =
+    let n = normal_trees f in
+    let roots : map (normal_document u (setting_of q s)) found ≡ found = documents_fixed t n.trees (n.same ∙ ap (λ cs. map (normal_document t (setting s cs)) n.trees) (sym n.comments)) alike in
+    record { trees = found; of_reading = of_reading; is = ap (λ z. record q { events = z }) of_reading.events ∙ ap (λ z. record q { events = flat_stream z }) (sym roots) }
+
 pub found_fixed : {t u : List ℕ} {s : Style} (f : Formats t s u) (q : Lists) (found : List DocumentTree) → ReadingOf u q → FoundSame f.normal s f.writes.trees u q found → Formats u s u
-found_fixed {t} {u} {s} f q found a same =
+found_fixed {s = s} f q found a same =
     let m : Lists = f.normal in
     let trees : List DocumentTree = f.writes.trees in
-    let n = normal_trees f in
-    let roots : map (normal_document u (setting_of q s)) found ≡ found = documents_fixed t n.trees (n.same ∙ ap (λ cs. map (normal_document t (setting s cs)) n.trees) (sym n.comments)) same.alike in
     let shaped = found_rows true same.alike in
     let lines : decorated m (rows_of m s trees) ≡ decorated q (rows_of q s found) =
     ap (λ z. gap_then z (lines_then (rows_of m s trees) (row_decos m (rows_of m s trees)) [])) (sym same.gap)
@@ -63,12 +68,6 @@ found_fixed {t} {u} {s} f q found a same =
       reading = q;
       normal = q;
       reads = a;
-      is_normal = record {
-        trees = found;
-        of_reading = same.of_reading;
-        is = record_of q same.of_reading.events ∙ ap (λ z. record q { events = flat_stream z }) (sym roots);
-      };
+      is_normal = found_normal f q found same.of_reading same.alike;
       writes = record { trees = found; of_reading = same.of_reading; is = f.writes.is ∙ (layout_then m s trees ∙ (lines ∙ sym (layout_then q s found))) };
-    } where
-      record_of : (q : Lists) → q.events ≡ flat_stream found → q ≡ record q { events = flat_stream found }
-      record_of q e = ap (λ z. record q { events = z }) e
+    }

@@ -1,15 +1,13 @@
 -- A node that differs from one of a normal form by places alone is in the style of the house as it is.
-use Rattle.std.proofs.Common.{◌≡◌, ℕ, Bool, true, false, not, ◌&&◌, List, [], ◌∷◌, Option, Some, None, refl, sym, ap, ◌∙◌, true≢false}
-use Rattle.std.specs.Prelude.{is_some, if◌then◌else◌}
+use Rattle.std.proofs.Common.{◌≡◌, ℕ, Bool, true, false, not, ◌&&◌, List, [], refl, sym, ap, ◌∙◌, true≢false}
+use Rattle.std.specs.Prelude.{is_some}
 use Rattle.yf_comments.specs.Comment.{CommentValue}
 use Rattle.yf_props.specs.Props.{PropsValue}
 use Rattle.yf_events.specs.Alike.{Alike, alike_scalars, alike_aliases, alike_sequences, alike_mappings, AlikeItems, alike_nothing, alike_item, AlikePairs, alike_no_pairs, alike_pair}
-use Rattle.yf_events.specs.declared.event.Span.{Span}
 use Rattle.yf_events.specs.Tree.{Standing, Node, scalar, alias, sequence, mapping, Items, no_items, item, Pairs, no_pairs, pair}
-use Rattle.yf_emit.specs.declared.style.Style.{Style}
 use Rattle.yf_emit.specs.Kept.{has_comment, items_may_be_kept, may_be_kept, pairs_may_be_kept}
 use Rattle.yf_emit.specs.Normal.{Setting, styled, styled_items, styled_pairs}
-use Rattle.yf_emit.specs.Undisturbed.{Undisturbed, undisturbed_sequence, undisturbed_mapping, UndisturbedItems, undisturbed_end, undisturbed_item, UndisturbedPairs, undisturbed_last, undisturbed_pair}
+use Rattle.yf_emit.specs.Undisturbed.{Undisturbed, undisturbed_sequence, undisturbed_mapping, UndisturbedItems, undisturbed_item, UndisturbedPairs, undisturbed_pair}
 use Rattle.yf_emit.proofs.AlikeLemmas.{setting}
 use Rattle.yf_emit.proofs.StyledTwice.{House}
 

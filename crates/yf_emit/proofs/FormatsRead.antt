@@ -3,6 +3,7 @@ use Rattle.std.proofs.Common.{◌≡◌, ℕ, suc, max, ◌≤◌, Bool, true, f
 use Rattle.std.specs.Prelude.{◌&&◌, if◌then◌else◌}
 use Rattle.std.specs.Str.{IsUtf8}
 use Rattle.yf_lines.specs.declared.quotes.Quotes.{Quotes}
+use Rattle.yf_comments.specs.Comment.{CommentValue}
 use Rattle.yf_comments.specs.GapLines.{remarks_of}
 use Rattle.yf_events.proofs.TreeLemmas.{trees_unique}
 use Rattle.yf_events.specs.Alike.{Alike, alike_scalars, alike_aliases, alike_sequences, alike_mappings, AlikeItems, alike_nothing, alike_item, AlikePairs, alike_no_pairs, alike_pair}
@@ -10,6 +11,7 @@ use Rattle.yf_events.specs.Event.{EventValue, Placed, stream_starts, stream_ends
 use Rattle.yf_events.specs.declared.lists.Lists.{Lists}
 use Rattle.yf_events.specs.declared.reading.TheConstants.{DEPTH}
 use Rattle.yf_events.specs.Tree.{Node, scalar, alias, sequence, mapping, Items, no_items, item, Pairs, no_pairs, pair, DocumentTree, TreesOf, flat}
+use Rattle.yf_grammar.proofs.CommentOrder.{Ascend}
 use Rattle.yf_grammar.specs.Meant.{Anywhere, tall, tall_items, tall_pairs}
 use Rattle.yf_stream.specs.ReadingOf.{ReadingOf, doc_of}
 use Rattle.yf_stream.specs.Stream.{Document}
@@ -29,13 +31,16 @@ use Rattle.yf_emit.specs.Normal.{Setting, Spot, fits, settled, settled_items, se
 use Rattle.yf_emit.specs.Restyled.{Restyled, none_left, one_more, restyled_event}
 use Rattle.yf_emit.specs.Steps.{comment_steps, steps_of}
 use Rattle.yf_emit.proofs.CommentsFit.{reading_remarks}
+use Rattle.yf_emit.proofs.FoundStreams.{FoundDocuments, StreamIn}
 use Rattle.yf_emit.proofs.FormatTrails.{formats_trail, normal_trees}
 use Rattle.yf_emit.proofs.LayoutLawsHold.{layouts_are_texts, layouts_are_laid}
 use Rattle.yf_emit.proofs.NormalRestyled.{root_restyled}
 use Rattle.yf_emit.proofs.StepsStand.{Stand}
 use Rattle.yf_emit.proofs.HeldLemmas.{EventsHeld}
 use Rattle.yf_emit.proofs.SetStreams.{SetAll}
-use Rattle.yf_emit.proofs.StreamsMade.{DocumentsLaid, StreamLaid, all_events}
+use Rattle.yf_emit.proofs.PlacedRows.{PlacedRow}
+use Rattle.yf_emit.proofs.StreamParts.{DocumentsLaid}
+use Rattle.yf_emit.proofs.StreamsMade.{StreamLaid, all_events}
 use Rattle.yf_emit.proofs.TreesRead.{document_read, reading_fits, same_node}
 
 -- Heights: styles and brackets change none.
@@ -181,6 +186,14 @@ pub record FormattedLaid {t : List ℕ} {s : Style} {u : List ℕ} (f : Formats 
       ++ steps_with documents_begin (rows_of f.normal s f.writes.trees) (row_decos f.normal (rows_of f.normal s f.writes.trees))) (length u)
   pub held : EventsHeld u (all_events well.documents.documents) well.documents.comments (rows_of f.normal s f.writes.trees) (row_decos f.normal (rows_of f.normal s f.writes.trees)) []
   pub set : SetAll u s well.documents.documents
+  pub line : ℕ
+  pub firsts : List CommentValue
+  pub others : List CommentValue
+  pub ascend : Ascend u 0 firsts line
+  pub are : well.documents.comments ≡ firsts ++ others
+  pub found_rows : List PlacedRow
+  pub found : FoundDocuments u (setting_of f.normal s) f.writes.trees well.documents.documents found_rows
+  pub placed : StreamIn u (rows_of f.normal s f.writes.trees) found_rows (row_decos f.normal (rows_of f.normal s f.writes.trees)) line others
 
 pub formats_laid : (t u : List ℕ) (s : Style) → IsUtf8 t → (f : Formats t s u) → FormattedLaid f
 formats_laid t u s utf8 f =
@@ -216,6 +229,14 @@ formats_laid t u s utf8 f =
       begun = laid.begun;
       held = laid.held;
       set = laid.set;
+      line = laid.line;
+      firsts = laid.firsts;
+      others = laid.others;
+      ascend = laid.ascend;
+      are = laid.are;
+      found_rows = laid.found_rows;
+      found = laid.found;
+      placed = laid.placed;
     }
 
 pub formats_well : FormatsAreWellFormed

@@ -22,7 +22,7 @@ use Rattle.yf_emit.specs.Steps.{Step, steps_of, told}
 use Rattle.yf_emit.proofs.FormatsRead.{formats_laid}
 use Rattle.yf_emit.proofs.StartsBefore.{AllFrom, none_later, one_later, starts_before, none_before, one_before}
 use Rattle.yf_emit.proofs.StepsStand.{Stand, nothing_stands, leaf_stands, comment_stands}
-use Rattle.yf_emit.proofs.StreamsMade.{DocumentsLaid}
+use Rattle.yf_emit.proofs.StreamParts.{DocumentsLaid}
 
 -- Leaves and comments from an offset on.
 

@@ -1,29 +1,23 @@
 -- Nodes that are found on quiet rows: no comment stands within a flow collection, and a comment trails a key exactly where one trailed it.
-use Rattle.std.proofs.Common.{◌≡◌, ◌≢◌, ℕ, ◌+◌, ◌<◌, ◌≤◌, Bool, true, false, not, ◌&&◌, ◌||◌, List, [], ◌∷◌, ◌++◌, length, Option, Some, None, refl, sym, ap, ◌∙◌, subst, arith, ◌⊎◌, inl, inr, ⊎_elim, true≢false}
+use Rattle.std.proofs.Common.{◌≡◌, ◌≢◌, ℕ, ◌+◌, ◌<◌, ◌≤◌, Bool, true, false, ◌&&◌, ◌||◌, List, [], ◌∷◌, Option, Some, None, refl, sym, ap, ◌∙◌, arith, ◌⊎◌, inl, inr, ⊎_elim, true≢false}
 use Rattle.std.specs.Prelude.{is_some, ◌==◌, nat_lt, nat_le, find, if◌then◌else◌}
 use Rattle.std.specs.List.{list_any}
-use Rattle.std.proofs.lemmas.Bool.{and_parts}
 use Rattle.std.proofs.lemmas.Bool.Decides.{nat_tests}
 use Rattle.yf_comments.specs.Comment.{CommentValue}
 use Rattle.yf_props.specs.Props.{PropsValue}
-use Rattle.yf_events.specs.Alike.{Alike, alike_scalars, alike_aliases, alike_sequences, alike_mappings, AlikeItems, alike_nothing, alike_item, AlikePairs, alike_no_pairs, alike_pair}
 use Rattle.yf_events.specs.declared.event.Span.{Span}
-use Rattle.yf_events.specs.Tree.{Standing, Node, scalar, alias, sequence, mapping, Items, no_items, item, Pairs, no_pairs, pair, leaves, is_text, is_filled_flow, is_block_collection, standing}
+use Rattle.yf_events.specs.Tree.{Node, scalar, alias, sequence, mapping, Items, no_items, item, Pairs, no_pairs, pair, leaves, is_text, is_filled_flow, is_block_collection}
 use Rattle.yf_grammar.specs.Meaning.{from_to}
-use Rattle.yf_grammar.specs.Meant.{Anywhere}
 use Rattle.yf_grammar.proofs.NodePlaces.{NodeStands, stands_nowhere, scalar_stands, alias_stands, sequence_stands, mapping_stands, ItemsStand, no_items_stand, item_stands, PairsStand, no_pairs_stand, pair_stands, node_order, items_order, pairs_order}
 use Rattle.yf_emit.specs.ContentStart.{content_start, past_gap, past_second, property_len}
-use Rattle.yf_emit.specs.Fits.{is_inline}
 use Rattle.yf_emit.specs.Kept.{has_comment, is_within}
-use Rattle.yf_emit.specs.Normal.{Setting, Spot, first_between, key_comment, key_start, last_start}
-use Rattle.yf_emit.specs.Rows.{begins_below}
+use Rattle.yf_emit.specs.Normal.{Setting, key_start, last_start}
 use Rattle.yf_emit.specs.Undisturbed.{Undisturbed, undisturbed_scalar, undisturbed_alias, undisturbed_sequence, undisturbed_mapping, UndisturbedItems, undisturbed_end, undisturbed_item, UndisturbedPairs, undisturbed_last, undisturbed_pair}
-use Rattle.yf_emit.proofs.AlikeLemmas.{same_filled_flow, same_leaves, same_text}
 use Rattle.yf_emit.proofs.CommentsCut.{In, in_first, in_rest, Each, each_none, each_more, each_map}
 use Rattle.yf_emit.proofs.FoundLines.{colon_order, leaves_inside}
 use Rattle.yf_emit.proofs.FoundNodes.{SignRows, sign_alone, sign_joined, KeyRows, key_commented, key_above, key_alone, key_joined, KeyOn, key_on, NodeRows, no_rows, line_rows, scalar_rows, sequence_rows, sequence_behind, mapping_rows, mapping_behind, ItemsRows, no_item_rows, item_rows, PairRows, explicit_rows, implicit_rows, PairsRows, no_pair_rows, pair_rows}
-use Rattle.yf_emit.proofs.PlacedRows.{Inside, none_inside, one_inside, inside_wider, PlacedRow}
-use Rattle.yf_emit.proofs.FoundQuiet.{Quiet, AllQuiet, quiet_none, quiet_row, TrailsTo, trails_nothing, trails_to, Linked, linked_none, linked_row, quiet_left, quiet_right, linked_left, linked_right}
+use Rattle.yf_emit.proofs.PlacedRows.{Inside, one_inside, inside_wider, PlacedRow}
+use Rattle.yf_emit.proofs.FoundQuiet.{Quiet, AllQuiet, quiet_none, quiet_row, TrailsTo, trails_nothing, trails_to, Linked, linked_none, linked_row, quiet_left, quiet_right}
 use Rattle.yf_emit.proofs.StepsStand.{starts_of}
 
 -- Rows of parts.
@@ -35,21 +29,21 @@ trails_inner : {cs : List CommentValue} {ps : List PlacedRow} (h p : PlacedRow) 
 trails_inner h p e trails_nothing = trails_nothing
 trails_inner h p e (trails_to d i l m) = trails_to d i (omega (arith, e, l)) m
 
-sign_quiet : {cs : List CommentValue} {items : List ℕ} {ps hs : List PlacedRow} → SignRows items ps hs → AllQuiet cs hs → AllQuiet cs ps
+pub sign_quiet : {cs : List CommentValue} {items : List ℕ} {ps hs : List PlacedRow} → SignRows items ps hs → AllQuiet cs hs → AllQuiet cs ps
 sign_quiet (sign_alone e f g) a = quiet_none
 sign_quiet (sign_joined {h = h} {p = p} e f g l m) (quiet_row q a) = quiet_row (quiet_inner h p l m q) a
 
-sign_linked : {cs : List CommentValue} {items : List ℕ} {ps hs : List PlacedRow} → SignRows items ps hs → Linked cs hs → Linked cs ps
+pub sign_linked : {cs : List CommentValue} {items : List ℕ} {ps hs : List PlacedRow} → SignRows items ps hs → Linked cs hs → Linked cs ps
 sign_linked (sign_alone e f g) a = linked_none
 sign_linked (sign_joined {h = h} {p = p} e f g l m) (linked_row q a) = linked_row (λ z. trails_inner h p m (q (g ∙ z))) a
 
-key_quiet : {cs : List CommentValue} {items : List ℕ} {ls : List Span} {b below : Bool} {ps hs : List PlacedRow} → KeyRows items ls b below ps hs → AllQuiet cs hs → AllQuiet cs ps
+pub key_quiet : {cs : List CommentValue} {items : List ℕ} {ls : List Span} {b below : Bool} {ps hs : List PlacedRow} → KeyRows items ls b below ps hs → AllQuiet cs hs → AllQuiet cs ps
 key_quiet (key_commented e f g) (quiet_row q a) = a
 key_quiet (key_above e f g) (quiet_row q a) = a
 key_quiet (key_alone e f g) (quiet_row q a) = a
 key_quiet (key_joined {h = h} {p = p} e f g l m) (quiet_row q a) = quiet_row (quiet_inner h p l m q) a
 
-key_linked : {cs : List CommentValue} {items : List ℕ} {ls : List Span} {b below : Bool} {ps hs : List PlacedRow} → KeyRows items ls b below ps hs → Linked cs hs → Linked cs ps
+pub key_linked : {cs : List CommentValue} {items : List ℕ} {ls : List Span} {b below : Bool} {ps hs : List PlacedRow} → KeyRows items ls b below ps hs → Linked cs hs → Linked cs ps
 key_linked (key_commented e f g) (linked_row q a) = a
 key_linked (key_above e f g) (linked_row q a) = a
 key_linked (key_alone e f g) (linked_row q a) = a
@@ -169,7 +163,7 @@ later_last : {i j : ℕ} (other : ℕ) (ss : List Span) → i ≤ other → othe
 later_last other [] l m a = (l, m)
 later_last other (s ∷ ss) l m (one_inside n o a) = later_last s.start ss n o a
 
-key_between : {t : List ℕ} {k : Node} {h : PlacedRow} {hs : List PlacedRow} → KeyOn t k (h ∷ hs) → (h.from ≤ key_start k) × (key_start k < h.upto)
+pub key_between : {t : List ℕ} {k : Node} {h : PlacedRow} {hs : List PlacedRow} → KeyOn t k (h ∷ hs) → (h.from ≤ key_start k) × (key_start k < h.upto)
 key_between {k = k} {h = h} (key_on {a = a} {b = b} st l m e) =
     let o = node_order st in
     let w = later_last {i = h.from} {j = b} _ (leaves k) (omega (arith, e)) (omega (arith, e, l, o)) (inside_wider l (omega arith) (leaves_inside st)) in
@@ -179,7 +173,7 @@ apart : (from to o i j : ℕ) → i ≤ from → to ≤ j → (o < i) ⊎ (j ≤
 apart from to o i j l m (inl z) = grind (arith, nat_tests)
 apart from to o i j l m (inr z) = grind (arith, nat_tests)
 
-none_found : (from to i j : ℕ) {cs : List CommentValue} → i ≤ from → to ≤ j → NoneIn cs i j → find (λ (c : CommentValue). nat_lt from c.offset && nat_lt c.offset to) cs ≡ None
+pub none_found : (from to i j : ℕ) {cs : List CommentValue} → i ≤ from → to ≤ j → NoneIn cs i j → find (λ (c : CommentValue). nat_lt from c.offset && nat_lt c.offset to) cs ≡ None
 none_found from to i j l m each_none = refl
 none_found from to i j l m (each_more {d = d} {ds = ds} n a) =
     ap (λ b. if b then Some d else find (λ (c : CommentValue). nat_lt from c.offset && nat_lt c.offset to) ds) (apart from to d.offset i j l m n) ∙ none_found from to i j l m a
@@ -187,7 +181,7 @@ none_found from to i j l m (each_more {d = d} {ds = ds} n a) =
 met : (from to o : ℕ) → from < o → o < to → (nat_lt from o && nat_lt o to) ≡ true
 met from to o l m = grind (arith, nat_tests)
 
-some_found : (from to : ℕ) {d : CommentValue} {cs : List CommentValue} → In d cs → from < d.offset → d.offset < to
+pub some_found : (from to : ℕ) {d : CommentValue} {cs : List CommentValue} → In d cs → from < d.offset → d.offset < to
     → is_some (find (λ (c : CommentValue). nat_lt from c.offset && nat_lt c.offset to) cs) ≡ true
 some_found from to {d} (in_first {cs = cs}) l m =
     ap (λ b. is_some (if b then Some d else find (λ (c : CommentValue). nat_lt from c.offset && nat_lt c.offset to) cs)) (met from to d.offset l m)
@@ -198,10 +192,10 @@ some_found from to (in_rest {c = c} {cs = cs} i) l m = by (nat_lt from c.offset 
   by false e = e
 
 -- where the first leaf of a value begins, that is written on the row
-data OnRow (w : Node) : List PlacedRow → Type 0 where
+pub data OnRow (w : Node) : List PlacedRow → Type 0 where
   on_row : {p : PlacedRow} → Inside p.from p.upto (starts_of (leaves w)) → OnRow w (p ∷ [])
 
-no_value : (w : Node) → is_block_collection w ≡ true → (is_text w || is_filled_flow w) ≡ true → ⊥
+pub no_value : (w : Node) → is_block_collection w ≡ true → (is_text w || is_filled_flow w) ≡ true → ⊥
 no_value (scalar at props style text lines) e f = true≢false (sym e)
 no_value (alias at name) e f = true≢false (sym e)
 no_value (sequence at flow props no_items) e f = true≢false (sym e)
@@ -211,7 +205,7 @@ no_value (mapping at flow props no_pairs) e f = true≢false (sym e)
 no_value (mapping at true props (pair k v ps)) e f = true≢false (sym e)
 no_value (mapping at false props (pair k v ps)) e f = true≢false (sym f)
 
-value_row : {t : List ℕ} {c : Setting} {m : ℕ} {v w : Node} {ps : List PlacedRow} → NodeRows t c m v w ps → (is_text w || is_filled_flow w) ≡ true → OnRow w ps
+pub value_row : {t : List ℕ} {c : Setting} {m : ℕ} {v w : Node} {ps : List PlacedRow} → NodeRows t c m v w ps → (is_text w || is_filled_flow w) ≡ true → OnRow w ps
 value_row (no_rows e) f = absurd (true≢false (sym f ∙ ap (λ o. is_some o || false) e))
 value_row (line_rows {p = p} e n f g h st l m) q = on_row (inside_wider l m (leaves_inside st))
 value_row (scalar_rows e n f g h) q = on_row n

@@ -1,17 +1,19 @@
 -- No comment of a text stands between where a row that was laid out begins and where what stands on it has begun; and the comment that trails a key
 -- stands between it and the next row.
-use Rattle.std.proofs.Common.{◌≡◌, ◌≢◌, ℕ, ◌+◌, ◌<◌, ◌≤◌, Bool, true, false, List, [], ◌∷◌, ◌++◌, map, flat_map, Option, Some, None, refl, sym, ap, ◌∙◌, subst, arith, append_assoc, ◌⊎◌, inl, inr, true≢false}
+use Rattle.std.proofs.Common.{◌≡◌, ◌≢◌, ℕ, ◌+◌, ◌<◌, ◌≤◌, true, false, List, [], ◌∷◌, ◌++◌, map, flat_map, Option, Some, None, refl, sym, ap, ◌∙◌, subst, arith, append_assoc, ◌⊎◌, inl, inr, true≢false}
 use Rattle.std.specs.Prelude.{is_some, option_to_list}
 use Rattle.yf_comments.specs.Comment.{CommentValue}
 use Rattle.yf_comments.proofs.GapLinesLemmas.{texts}
 use Rattle.yf_comments.specs.GapLines.{remarks_of}
 use Rattle.yf_grammar.proofs.CommentOrder.{Ascend, no_more, one_more, ascend_order}
+use Rattle.yf_events.specs.Event.{Placed}
+use Rattle.yf_stream.specs.ReadingOf.{NotedComments, no_comment, one_comment}
 use Rattle.yf_emit.specs.Carried.{carried_texts}
 use Rattle.yf_emit.specs.Decorated.{Deco, first, after, comments_left, decos_of}
 use Rattle.yf_emit.specs.Layout.{Source, first_comment, trailing_leaf, trimmed}
 use Rattle.yf_emit.specs.Rows.{Row}
 use Rattle.yf_emit.proofs.CommentsCut.{In, in_first, in_rest, in_after, in_before, Each, each_none, each_more, each_map, each_join, Under, Over}
-use Rattle.yf_emit.proofs.PlacedRows.{PlacedRow, AtRow, EndsRow, RowsIn, last_row, row_before}
+use Rattle.yf_emit.proofs.PlacedRows.{PlacedRow, RowsIn, last_row, row_before}
 
 -- before or after an offset
 
@@ -19,7 +21,7 @@ ascend_over : {t : List ℕ} {i j : ℕ} {cs : List CommentValue} (h : ℕ) → 
 ascend_over h l (no_more m) = each_none
 ascend_over h l (one_more m s a) = each_more (omega (arith, l, m)) (ascend_over h (omega (arith, l, m)) a)
 
-ascend_under : {t : List ℕ} {i j : ℕ} {cs : List CommentValue} → Ascend t i cs j → Under j cs
+pub ascend_under : {t : List ℕ} {i j : ℕ} {cs : List CommentValue} → Ascend t i cs j → Under j cs
 ascend_under (no_more m) = each_none
 ascend_under (one_more m s a) = each_more (let o = ascend_order a in omega (arith, o)) (ascend_under a)
 
@@ -144,3 +146,31 @@ linked_left (x ∷ xs) ys (linked_row f a) = linked_row (λ e. trails_left xs ys
 pub linked_right : {cs : List CommentValue} (xs ys : List PlacedRow) → Linked cs (xs ++ ys) → Linked cs ys
 linked_right [] ys a = a
 linked_right (x ∷ xs) ys (linked_row f a) = linked_right xs ys a
+
+-- Notes on comments leave them where they stand.
+
+quiet_noted : {t : List ℕ} {es : List Placed} {x y : List CommentValue} (p : PlacedRow) → NotedComments t es x y → Quiet x p → Quiet y p
+quiet_noted p no_comment each_none = each_none
+quiet_noted p (one_comment m a) (each_more e b) = each_more e (quiet_noted p a b)
+
+pub quiet_offsets : {t : List ℕ} {es : List Placed} {x y : List CommentValue} {ps : List PlacedRow} → NotedComments t es x y → AllQuiet x ps → AllQuiet y ps
+quiet_offsets n quiet_none = quiet_none
+quiet_offsets n (quiet_row {p = p} q a) = quiet_row (quiet_noted p n q) (quiet_offsets n a)
+
+record InNoted (d : CommentValue) (y : List CommentValue) : Type 0 where
+  other : CommentValue
+  is_in : In other y
+  same : other.offset ≡ d.offset
+
+in_noted : {t : List ℕ} {es : List Placed} {x y : List CommentValue} {d : CommentValue} → NotedComments t es x y → In d x → InNoted d y
+in_noted no_comment i = elim i [ ]
+in_noted (one_comment m a) in_first = record { other = _; is_in = in_first; same = refl }
+in_noted (one_comment m a) (in_rest i) = let w = in_noted a i in record { other = w.other; is_in = in_rest w.is_in; same = w.same }
+
+trails_offsets : {t : List ℕ} {es : List Placed} {x y : List CommentValue} {p : PlacedRow} {ps : List PlacedRow} → NotedComments t es x y → TrailsTo x p ps → TrailsTo y p ps
+trails_offsets n trails_nothing = trails_nothing
+trails_offsets n (trails_to d i l m) = let w = in_noted n i in let e = w.same in trails_to w.other w.is_in (omega (arith, l, e)) (omega (arith, m, e))
+
+pub linked_offsets : {t : List ℕ} {es : List Placed} {x y : List CommentValue} {ps : List PlacedRow} → NotedComments t es x y → Linked x ps → Linked y ps
+linked_offsets n linked_none = linked_none
+linked_offsets n (linked_row f a) = linked_row (λ e. trails_offsets n (f e)) (linked_offsets n a)

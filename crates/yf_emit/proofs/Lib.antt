@@ -101,6 +101,7 @@ pub mod KeysMade
 pub mod CollectionsMade
 pub mod TreesMade
 pub mod DocumentsMade
+pub mod StreamParts
 pub mod StreamsMade
 pub mod LayoutLawsHold
 -- trees that are alike up to places are laid out alike (a second run changes nothing)
@@ -192,4 +193,10 @@ pub mod FoundLines
 pub mod FoundStreams
 pub mod FoundQuiet
 pub mod FoundAgree
+pub mod FoundKeys
+pub mod BareNodes
+pub mod BareTrees
+pub mod FoundTexts
+pub mod FoundMarks
 pub mod FixedBlocks
+pub mod FixedLawsHold

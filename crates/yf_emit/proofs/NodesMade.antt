@@ -36,7 +36,7 @@ use Rattle.yf_emit.proofs.FoundLines.{line_found}
 use Rattle.yf_emit.proofs.FoundNodes.{FoundNode, SignRows, sign_alone, sign_joined, found_noting, found_nothing}
 use Rattle.yf_emit.proofs.LaidRows.{laid_row, laid_line}
 use Rattle.yf_emit.proofs.NodePlaces.{NodeAt, leaf_at, behind_sign_at}
-use Rattle.yf_emit.proofs.PlacedRows.{Inside, none_inside, one_inside, PlacedRow, RowsIn, last_row, row_before, joined_placed, rows_joined}
+use Rattle.yf_emit.proofs.PlacedRows.{none_inside, one_inside, PlacedRow, RowsIn, last_row, row_before, joined_placed, rows_joined}
 use Rattle.yf_emit.proofs.RowEnds.{row_end, end_follows, first_deco}
 use Rattle.yf_emit.proofs.SeenTexts.{ascii_ns}
 use Rattle.yf_emit.proofs.SetMeant.{column_more, SetMeant, SetSigned, set_flow, set_noting, signed_of, signed_empty}

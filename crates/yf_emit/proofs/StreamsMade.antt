@@ -11,15 +11,11 @@ use Rattle.yf_comments.specs.Comments.{CommentLine}
 use Rattle.yf_comments.specs.GapLines.{AreGapLines, remarks_of}
 use Rattle.yf_comments.proofs.GapLinesLemmas.{texts, texts_append, gap_at}
 use Rattle.yf_comments.proofs.LineEndLemmas.{lines_rows}
-use Rattle.yf_events.specs.Event.{Placed, document_ends}
-use Rattle.yf_events.specs.Reading.{leaf_starts}
 use Rattle.yf_events.specs.declared.directive.Directive.{Directive}
 use Rattle.yf_events.specs.declared.document.Doc.{Doc}
-use Rattle.yf_events.specs.Tree.{DocumentTree, unplaced}
-use Rattle.yf_grammar.specs.Meaning.{Meaning}
-use Rattle.yf_grammar.specs.Meant.{Meant, tall}
+use Rattle.yf_events.specs.Tree.{DocumentTree}
+use Rattle.yf_grammar.specs.Meant.{tall}
 use Rattle.yf_grammar.proofs.CommentOrder.{Ascend, end_ascends, rows_ascend}
-use Rattle.yf_stream.specs.ReadingOf.{DocumentEvents, no_document, one_document}
 use Rattle.yf_stream.specs.Stream.{Document, document_of, Documents, only_comments, with_document, with_comments, AnyDocument, Prefixes, StreamRest}
 use Rattle.yf_stream.specs.Stream.AnyDocument.{explicit_document, directive_document}
 use Rattle.yf_stream.specs.Stream.PrefixPart.{prefix_comment}
@@ -30,7 +26,7 @@ use Rattle.yf_stream.proofs.ReadingOrder.{directives_ascend}
 use Rattle.yf_emit.specs.Beginnings.{documents_begin, steps_with}
 use Rattle.yf_emit.specs.Carried.{AreDecos, carried_texts, comments_in, Calm}
 use Rattle.yf_emit.specs.Decorated.{GapLine, gap_then, Deco, first, after, past, end_then, lines_then}
-use Rattle.yf_emit.specs.FitDocuments.{FitDirective, FitDirectives, fit_directive, FitDocuments, fit_no_documents, fit_document, DocumentMeant, DocumentsMeant, no_documents_meant, document_meant, tall_documents}
+use Rattle.yf_emit.specs.FitDocuments.{FitDirective, FitDirectives, fit_directive, FitDocuments, fit_no_documents, fit_document, DocumentMeant, DocumentsMeant, no_documents_meant, tall_documents}
 use Rattle.yf_emit.specs.Fits.{Fit}
 use Rattle.yf_emit.specs.LayoutLaws.{StreamMade}
 use Rattle.yf_emit.specs.Normal.{Setting, root_spot}
@@ -49,69 +45,10 @@ use Rattle.yf_emit.proofs.RowEnds.{row_end, first_deco, after_decos, past_decos,
 use Rattle.yf_emit.proofs.RowTexts.{row_texts}
 use Rattle.yf_emit.proofs.SetMeant.{SetDone}
 use Rattle.yf_emit.proofs.SetStreams.{SetAll, none_set, some_set, document_set, documents_set}
-use Rattle.yf_emit.proofs.StepsStand.{Stand, nothing_stands, stand_after, stand_join, comments_stand, MeaningLaid, EventsLaid, events_behind}
+use Rattle.yf_emit.proofs.StepsStand.{Stand, nothing_stands, stand_after, stand_join, comments_stand, EventsLaid, events_behind}
 use Rattle.yf_emit.proofs.TreesMade.{node_claim}
+use Rattle.yf_emit.proofs.StreamParts.{meant_document, texts_with_document, documents_with, texts_with_comments, same_documents, laid_document, DocumentsLaid, no_documents_laid, laid_with_comments, documents_laid}
 use Rattle.yf_emit.proofs.WellSet.{AllSet, lines_set, set_append}
-
--- What is meant.
-
-meant_document : {d : Doc} {x : DocumentTree} {m : Meaning} (i : ℕ) (dirs : List Directive) → map (λ (e : Directive). e.words) dirs ≡ map (λ (e : Directive). e.words) d.directives
-    → Meant x.root m → DocumentMeant d x (document_of i true dirs m)
-unfolding document_of
-meant_document i dirs e a = record { marked = refl; words = e; node = a.node; alike = a.alike; events = a.events; escapes = a.escapes }
-
-texts_with_document : (cs : List CommentValue) (d : Document) (rest : Documents) → texts (with_document cs d rest).comments ≡ texts cs ++ texts rest.comments
-unfolding with_document
-texts_with_document cs d rest = texts_append cs rest.comments
-
-documents_with : {d : Doc} {ds : List Doc} {x : DocumentTree} {xs : List DocumentTree} {m : Document} (rest : Documents) (cs : List CommentValue) → DocumentMeant d x m → DocumentsMeant ds xs rest.documents
-    → DocumentsMeant (d ∷ ds) (x ∷ xs) (with_document cs m rest).documents
-unfolding with_document
-documents_with rest cs a b = document_meant a b
-
-texts_with_comments : (cs : List CommentValue) (rest : Documents) → texts (with_comments cs rest).comments ≡ texts cs ++ texts rest.comments
-unfolding with_comments
-texts_with_comments cs rest = texts_append cs rest.comments
-
-same_documents : (cs : List CommentValue) (rest : Documents) → rest.documents ≡ (with_comments cs rest).documents
-unfolding with_comments
-same_documents cs rest = refl
-
--- What is laid out.
-
-laid_document : {i j : ℕ} {m : Meaning} {a : List Step} (s : ℕ) (dirs : List Directive) → MeaningLaid i j m a → EventsLaid i j (document_of s true dirs m).events m.comments a
-unfolding document_of
-laid_document s dirs x = record { starts = x.starts; are = x.are; stand = x.stand }
-
--- documents, whose events are those of a reading
-pub record DocumentsLaid (i j : ℕ) (x : Documents) (steps : List Step) : Type 0 where
-  pub starts : List ℕ
-  pub are : {u : List ℕ} {es : List Placed} {tags : List (Option (List ℕ))} (rest : List Placed) → DocumentEvents u x.documents es tags → leaf_starts (es ++ rest) ≡ starts ++ leaf_starts rest
-  pub stand : Stand i starts x.comments steps j
-
-no_starts : {u : List ℕ} {es : List Placed} {tags : List (Option (List ℕ))} (rest : List Placed) → DocumentEvents u [] es tags → leaf_starts (es ++ rest) ≡ leaf_starts rest
-no_starts rest no_document = refl
-
-no_documents_laid : {i j : ℕ} → i ≤ j → DocumentsLaid i j (only_comments []) []
-no_documents_laid l = record { starts = []; are = λ rest d. no_starts rest d; stand = nothing_stands l }
-
-laid_with_comments : {i k j : ℕ} {x : Documents} {a b : List Step} (cs : List CommentValue) → Stand i [] cs a k → DocumentsLaid k j x b → DocumentsLaid i j (with_comments cs x) (a ++ b)
-unfolding with_comments
-laid_with_comments cs c x = record { starts = x.starts; are = x.are; stand = stand_join c x.stand }
-
--- the events of one more document
-more_starts : {u : List ℕ} {d : Document} {ds : List Document} {es : List Placed} {tags : List (Option (List ℕ))} (xs ys : List ℕ) (rest : List Placed)
-    → ((more : List Placed) → leaf_starts (d.events ++ more) ≡ xs ++ leaf_starts more)
-    → ((fs : List Placed) (others : List (Option (List ℕ))) → DocumentEvents u ds fs others → leaf_starts (fs ++ rest) ≡ ys ++ leaf_starts rest) → DocumentEvents u (d ∷ ds) es tags
-    → leaf_starts (es ++ rest) ≡ (xs ++ ys) ++ leaf_starts rest
-more_starts xs ys rest f g (one_document {d = d} {x = x} {closed = closed} tags end marked others) =
-    let last : Placed = unplaced (document_ends closed) in
-    ap leaf_starts (append_assoc d.events (last ∷ x) rest) ∙ (f (last ∷ (x ++ rest)) ∙ (ap (λ z. xs ++ z) (g _ _ others) ∙ sym (append_assoc xs ys (leaf_starts rest))))
-
-documents_laid : {i k j : ℕ} (d : Document) {cs : List CommentValue} {rest : Documents} {a b : List Step} → EventsLaid i k d.events cs a → DocumentsLaid k j rest b
-    → DocumentsLaid i j (with_document cs d rest) (a ++ b)
-unfolding with_document
-documents_laid d x y = record { starts = x.starts ++ y.starts; are = λ rest e. more_starts x.starts y.starts rest x.are (λ fs others z. y.are rest z) e; stand = stand_join x.stand y.stand }
 
 -- What is held.
 

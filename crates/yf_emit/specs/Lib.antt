@@ -50,3 +50,4 @@ pub mod Wanted
 pub mod Undisturbed
 pub mod FoundTrees
 pub mod AlikeBlocks
+pub mod FixedLaws

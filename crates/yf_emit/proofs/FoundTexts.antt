@@ -1,0 +1,81 @@
+-- The trees of each reading of what formatting gives are found as they were laid out.
+use Rattle.std.proofs.Common.{◌≡◌, ℕ, ◌+◌, List, [], ◌∷◌, ◌++◌, length, map, flat_map, Option, refl, sym, ap, ◌∙◌, subst, arith, append_assoc}
+use Rattle.yf_comments.specs.Comment.{CommentValue}
+use Rattle.yf_events.specs.Alike.{Alike}
+use Rattle.yf_events.specs.Event.{Placed, document_starts, document_ends}
+use Rattle.yf_events.specs.Tree.{Node, DocumentTree, flat, flat_document, unplaced}
+use Rattle.yf_events.specs.declared.document.Doc.{Doc}
+use Rattle.yf_grammar.specs.Meant.{Anywhere}
+use Rattle.yf_stream.specs.ReadingOf.{DocumentEvents, no_document, one_document, doc_of}
+use Rattle.yf_stream.specs.Stream.{Document}
+use Rattle.yf_emit.specs.FitDocuments.{DocumentsMeant, no_documents_meant, document_meant}
+use Rattle.yf_emit.specs.FoundTrees.{FoundTrees, none_found, one_found}
+use Rattle.yf_emit.specs.Normal.{Setting, normal_document, root_spot, settled, styled}
+use Rattle.yf_emit.proofs.BareNodes.{bare, bare_tree}
+use Rattle.yf_emit.proofs.BareTrees.{blocks_renoted, undisturbed_renoted}
+use Rattle.yf_emit.proofs.FoundAgree.{rows_undisturbed}
+use Rattle.yf_emit.proofs.FoundKeys.{blocks_found}
+use Rattle.yf_emit.proofs.FoundNodes.{NodeRows}
+use Rattle.yf_emit.proofs.FoundStreams.{FoundDocuments, no_documents_found, document_found}
+use Rattle.yf_emit.proofs.PlacedRows.{PlacedRow}
+use Rattle.yf_emit.proofs.FoundQuiet.{AllQuiet, Linked, quiet_left, quiet_right, linked_left, linked_right}
+use Rattle.yf_emit.proofs.SettledTwice.{settled_twice}
+
+-- the trees of documents that are found, with the markers of their events
+pub data FoundRoots (t : List ℕ) (c : Setting) : List DocumentTree → List DocumentTree → List PlacedRow → Type 0 where
+  no_roots : FoundRoots t c [] [] []
+  one_root : {x z : DocumentTree} {xs zs : List DocumentTree} {inner qs : List PlacedRow} (heads : List PlacedRow) → Alike Anywhere x.root z.root → NodeRows t c 0 x.root z.root inner → FoundRoots t c xs zs qs
+      → FoundRoots t c (x ∷ xs) (z ∷ zs) ((heads ++ inner) ++ qs)
+
+pub record RootsFound (t : List ℕ) (c : Setting) (xs : List DocumentTree) (es : List Placed) (ps : List PlacedRow) (n : ℕ) : Type 0 where
+  pub trees : List DocumentTree
+  pub events : es ≡ flat_map flat_document trees
+  pub count : n ≡ length trees
+  pub roots : FoundRoots t c xs trees ps
+
+pub roots_found : {u t : List ℕ} {c : Setting} {xs : List DocumentTree} {ms : List Document} {ps : List PlacedRow} {es : List Placed} {tags : List (Option (List ℕ))} → FoundDocuments t c xs ms ps → DocumentEvents u ms es tags
+    → RootsFound t c xs es ps (length ms)
+roots_found no_documents_found no_document = record { trees = []; events = refl; count = refl; roots = no_roots }
+roots_found {t = t} {c = c} (document_found {x = x} {xs = xs} {ms = ms} {qs = qs} a more) (one_document {d = d} {x = rest} {closed = closed} tags end marked others) =
+    let w = roots_found more others in
+    let z : DocumentTree = record { marked = d.marked; closed = closed; root = a.node } in
+    let last : List Placed = unplaced (document_ends closed) ∷ [] in
+    record {
+      trees = z ∷ w.trees;
+      events = ap (λ v. unplaced (document_starts d.marked) ∷ (v ++ (unplaced (document_ends closed) ∷ rest))) a.events
+          ∙ (ap (λ v. unplaced (document_starts d.marked) ∷ (flat a.node ++ (unplaced (document_ends closed) ∷ v))) w.events
+          ∙ ap (λ v. unplaced (document_starts d.marked) ∷ v) (sym (append_assoc (flat a.node) last (flat_map flat_document w.trees))));
+      count = let n = w.count in omega (arith, n);
+      roots = subst (λ v. FoundRoots t c (x ∷ xs) (z ∷ w.trees) (v ++ qs)) (sym a.are) (one_root a.heads a.alike a.rows w.roots);
+    }
+
+-- each root is settled
+pub data Settled (c : Setting) : List DocumentTree → Type 0 where
+  none_settled : Settled c []
+  one_settled : {x : DocumentTree} {xs : List DocumentTree} → settled c (root_spot c.style) x.root ≡ x.root → Settled c xs → Settled c (x ∷ xs)
+
+pub normal_settled : (t : List ℕ) (c : Setting) (read : List DocumentTree) → Settled c (map (normal_document t c) read)
+normal_settled t c [] = none_settled
+normal_settled t c (z ∷ read) =
+    one_settled (settled_twice c (root_spot c.style) (root_spot c.style) (styled t c z.root) (record { entries = refl; column = λ q. refl })) (normal_settled t c read)
+
+abbrev first_root : DocumentTree → List DocumentTree → Node
+first_root other [] = other.root
+first_root other (w ∷ ws) = w.root
+
+abbrev other_trees : List DocumentTree → List DocumentTree
+other_trees [] = []
+other_trees (w ∷ ws) = ws
+
+pub trees_found : {u : List ℕ} {c : Setting} {cs : List CommentValue} {ds : List Doc} {xs zs : List DocumentTree} {ms : List Document} {ps : List PlacedRow} (ys : List DocumentTree) → DocumentsMeant ds xs ms → FoundRoots u c xs zs ps
+    → map bare_tree zs ≡ map bare_tree ys → Settled c xs → AllQuiet cs ps → Linked cs ps → FoundTrees c.style c.comments u cs ds xs (map doc_of ms) ys
+trees_found [] no_documents_meant no_roots e h q l = none_found
+trees_found (y ∷ ys) no_documents_meant no_roots e h q l = absurd cc
+trees_found [] (document_meant a more) (one_root heads b r others) e h q l = absurd cc
+trees_found {u} {c} {cs} (y ∷ ys) (document_meant a more) (one_root {z = z} {zs = zs} {inner = inner} {qs = qs} heads b r others) e (one_settled h hs) q l =
+    let root : bare z.root ≡ bare y.root = ap (first_root (bare_tree z)) e in
+    let rest : map bare_tree zs ≡ map bare_tree ys = ap other_trees e in
+    let quiet = quiet_right heads inner (quiet_left (heads ++ inner) qs q) in
+    let linked = linked_right heads inner (linked_left (heads ++ inner) qs l) in
+    one_found (sym a.words) (blocks_renoted y.root root (blocks_found (root_spot c.style) refl h b r quiet linked)) (undisturbed_renoted y.root root (rows_undisturbed r quiet))
+    (trees_found ys more others rest hs (quiet_right (heads ++ inner) qs q) (linked_right (heads ++ inner) qs l))
