@@ -18,7 +18,7 @@ use crate::entry::open_mapping;
 use crate::frame::{Frame, Frames, Progress, Scope, Step, Wanted};
 use crate::halt::Counts;
 use crate::held::{Held, joined, joined_behind, lead_of, line_properties, place_behind};
-use crate::inline::{finish_inline, is_apart, read_inline};
+use crate::inline::{finish_inline, read_inline};
 use crate::leaf::read_line_end;
 use crate::line::end_line;
 use crate::look::{line_ends, sign_stands};
@@ -69,6 +69,16 @@ pub(crate) struct Claim<'a> {
     pub(crate) before: Counts,
 }
 
+/// Whether the properties of lines before cannot be those of the node on the line.
+pub(crate) fn is_apart(share: Share) -> bool
+    ensures { MatchBool result (share ≡ Share.Apart) (share ≡ Share.Apart → ⊥) }
+{
+    match share {
+        Share::Apart => true,
+        Share::Nothing | Share::Joined => false,
+    }
+}
+
 /// Begins the content of a node at a place of a line.
 pub(crate) fn take_content<'a>(
     alloc: Global,
@@ -81,13 +91,15 @@ pub(crate) fn take_content<'a>(
     requires boundary { IsCharBoundary scope.text.now spot.at }
     requires progress { ProgressAt scope.text.now progress.old }
     requires escapes { All (IsCharBoundary scope.text.now) part.old.escapes }
-    ensures tied { (d : ℕ) → (root : BlockTask) → (before : Part) → (cols : Columns) → d < 2 ^ 64 → d ≡ scope.entry.limit → cols.mapping ≡ spot.column
+    ensures tied { (d : ℕ) → (root : BlockTask) → (before : Part) → (cols : Columns) → d < 2 ^ 64 → d ≡ scope.entry.limit
+        → cols.mapping ≡ spot.column
         → ((m : ℕ) → cols.sequence ≡ Some m → DashAt scope.entry.text.now (spot.at) → ⊥)
         → AtStart scope.entry.text.now d root before (reverse frames.old.items) cols (spot.at) progress.old part.old
         → IfOk result (λ s. BlockTied scope.entry.text.now d root before (reverse frames.new.items) s progress.new part.new) }
     ensures stepped { IfOk result (λ s. Stepped scope.entry.text.now (spot.at) 0 progress.new s) }
     ensures escapes { IfOk result (λ _. All (IsCharBoundary scope.entry.text.now) part.new.escapes) }
-    ensures counted { IsUtf8 scope.entry.text.now → (total : ℕ) → length frames.old.items + openers_from scope.entry.text.now (spot.at) ≤ total
+    ensures counted { IsUtf8 scope.entry.text.now → (total : ℕ)
+        → length frames.old.items + openers_from scope.entry.text.now (spot.at) ≤ total
         → IfOk result (λ s. StepCounted scope.entry.text.now scope.entry.limit total (length frames.new.items) s) }
 {
     match signed_column(scope.text, spot) {
@@ -147,12 +159,14 @@ fn take_propertied<'a>(
     requires inner { Place scope.text.now (spot.at + 1) inner.end }
     requires progress { ProgressAt scope.text.now progress.old }
     requires escapes { All (IsCharBoundary scope.text.now) part.old.escapes }
-    ensures tied { (d : ℕ) → (root : BlockTask) → (before : Part) → d ≡ scope.entry.limit → LineProperties scope.entry.text.now (spot.at) inner.entry
+    ensures tied { (d : ℕ) → (root : BlockTask) → (before : Part) → d ≡ scope.entry.limit
+        → LineProperties scope.entry.text.now (spot.at) inner.entry
         → AtContent scope.entry.text.now d root before (reverse frames.old.items) (spot.at) spot.column progress.old part.old
         → IfOk result (λ s. BlockTied scope.entry.text.now d root before (reverse frames.new.items) s progress.new part.new) }
     ensures stepped { IfOk result (λ s. Stepped scope.entry.text.now (spot.at) 0 progress.new s) }
     ensures escapes { IfOk result (λ _. All (IsCharBoundary scope.entry.text.now) part.new.escapes) }
-    ensures counted { IsUtf8 scope.entry.text.now → (total : ℕ) → length frames.old.items + openers_from scope.entry.text.now (spot.at) ≤ total
+    ensures counted { IsUtf8 scope.entry.text.now → (total : ℕ)
+        → length frames.old.items + openers_from scope.entry.text.now (spot.at) ≤ total
         → IfOk result (λ s. StepCounted scope.entry.text.now scope.entry.limit total (length frames.new.items) s) }
 {
     let place = skip_whites(scope.text, inner.end);
@@ -191,7 +205,8 @@ fn end_propertied<'a>(
         → IfOk result (λ s. BlockTied text.now d root before frames s progress.new part.new) }
     ensures stepped { IfOk result (λ s. Stepped text.now (spot.at) 0 progress.new s) }
     ensures escapes { IfOk result (λ _. part.new.escapes ≡ part.old.escapes) }
-    ensures counted { (limit : ℕ) → (total : ℕ) → (count : ℕ) → count + openers_from text.now (spot.at) ≤ total → IfOk result (λ s. StepCounted text.now limit total count s) }
+    ensures counted { (limit : ℕ) → (total : ℕ) → (count : ℕ) → count + openers_from text.now (spot.at) ≤ total
+        → IfOk result (λ s. StepCounted text.now limit total count s) }
 {
     match joined_behind(progress.wanted.outer, inner) {
         None => {
@@ -225,7 +240,8 @@ fn take_behind<'a>(
         → IfOk result (λ s. BlockTied scope.entry.text.now d root before (reverse frames.new.items) s progress.new part.new) }
     ensures stepped { IfOk result (λ s. Stepped scope.entry.text.now (behind.now.spot.at) 0 progress.new s) }
     ensures escapes { IfOk result (λ _. All (IsCharBoundary scope.entry.text.now) part.new.escapes) }
-    ensures counted { IsUtf8 scope.entry.text.now → (total : ℕ) → length frames.old.items + openers_from scope.entry.text.now (behind.now.spot.at) ≤ total
+    ensures counted { IsUtf8 scope.entry.text.now → (total : ℕ)
+        → length frames.old.items + openers_from scope.entry.text.now (behind.now.spot.at) ≤ total
         → IfOk result (λ s. StepCounted scope.entry.text.now scope.entry.limit total (length frames.new.items) s) }
 {
     let claim = claim_of(scope.text, behind, &progress.wanted, part);

@@ -90,11 +90,13 @@ pub(crate) fn open_sequence<'a>(
     requires behind { IsCharBoundary scope.text.now (at + 1) }
     requires progress { ProgressAt scope.text.now progress.old }
     ensures tied { (d : ℕ) → (root : BlockTask) → (before : Part) → (cols : Columns) → d ≡ scope.entry.limit → cols.sequence ≡ Some column
-        → DashAt scope.entry.text.now at → AtStart scope.entry.text.now d root before (reverse frames.old.items) cols at progress.old part.old
+        → DashAt scope.entry.text.now at → AtStart scope.entry.text.now d root before
+        (reverse frames.old.items) cols at progress.old part.old
         → IfOk result (λ s. BlockTied scope.entry.text.now d root before (reverse frames.new.items) s progress.new part.new) }
     ensures stepped { IfOk result (λ s. Stepped scope.entry.text.now at 0 progress.new s) }
     ensures escapes { IfOk result (λ _. part.new.escapes ≡ part.old.escapes) }
-    ensures counted { IsUtf8 scope.entry.text.now → (total : ℕ) → DashAt scope.entry.text.now at → length frames.old.items + openers_from scope.entry.text.now at ≤ total
+    ensures counted { IsUtf8 scope.entry.text.now → (total : ℕ) → DashAt scope.entry.text.now at
+        → length frames.old.items + openers_from scope.entry.text.now at ≤ total
         → IfOk result (λ s. StepCounted scope.entry.text.now scope.entry.limit total (length frames.new.items) s) }
 {
     let frame = Frame::new(Kind::Sequence, column, part.events.len());
@@ -215,12 +217,15 @@ pub(crate) fn open_mapping<'a>(
     requires boundary { IsCharBoundary scope.text.now at }
     requires progress { ProgressAt scope.text.now progress.old }
     requires escapes { All (IsCharBoundary scope.text.now) part.old.escapes }
-    ensures tied { (d : ℕ) → (root : BlockTask) → (before : Part) → (cols : Columns) → d < 2 ^ 64 → d ≡ scope.entry.limit → cols.mapping ≡ Some column
-        → EntrySignAt scope.entry.text.now at → AtStart scope.entry.text.now d root before (reverse frames.old.items) cols at progress.old part.old
+    ensures tied { (d : ℕ) → (root : BlockTask) → (before : Part) → (cols : Columns) → d < 2 ^ 64 → d ≡ scope.entry.limit
+        → cols.mapping ≡ Some column
+        → EntrySignAt scope.entry.text.now at → AtStart scope.entry.text.now d root before
+        (reverse frames.old.items) cols at progress.old part.old
         → IfOk result (λ s. BlockTied scope.entry.text.now d root before (reverse frames.new.items) s progress.new part.new) }
     ensures stepped { IfOk result (λ s. Stepped scope.entry.text.now at 0 progress.new s) }
     ensures escapes { IfOk result (λ _. All (IsCharBoundary scope.entry.text.now) part.new.escapes) }
-    ensures counted { IsUtf8 scope.entry.text.now → (total : ℕ) → EntrySignAt scope.entry.text.now at → length frames.old.items + openers_from scope.entry.text.now at ≤ total
+    ensures counted { IsUtf8 scope.entry.text.now → (total : ℕ) → EntrySignAt scope.entry.text.now at
+        → length frames.old.items + openers_from scope.entry.text.now at ≤ total
         → IfOk result (λ s. StepCounted scope.entry.text.now scope.entry.limit total (length frames.new.items) s) }
 {
     let frame = Frame::new(Kind::Mapping, column, part.events.len());
@@ -296,7 +301,8 @@ fn take_key<'a>(
         → IfOk result (λ s. BlockTied scope.entry.text.now d root before (reverse frames.new.items) s progress.new part.new) }
     ensures stepped { IfOk result (λ s. Stepped scope.entry.text.now (entry.start) 0 progress.new s) }
     ensures escapes { IfOk result (λ _. All (IsCharBoundary scope.entry.text.now) part.new.escapes) }
-    ensures counted { IsUtf8 scope.entry.text.now → (total : ℕ) → length frames.old.items + openers_from scope.entry.text.now (entry.start) ≤ total
+    ensures counted { IsUtf8 scope.entry.text.now → (total : ℕ)
+        → length frames.old.items + openers_from scope.entry.text.now (entry.start) ≤ total
         → IfOk result (λ s. StepCounted scope.entry.text.now scope.entry.limit total (length frames.new.items) s) }
 {
     let start = entry.start;

@@ -119,7 +119,8 @@ pub(crate) fn place_behind(text: &str, held: Held) -> Option<usize>
 /// Properties of one node that stand on several lines; `None` where two are of one kind.
 pub(crate) fn joined<'a>(outer: Held<'a>, inner: Held<'a>) -> Option<Held<'a>>
     ensures end { IfSome result (λ h. h.end ≡ inner.entry.end) }
-    ensures reads { (h : HeldValue) → (q : Names.PropertiesValue) → HeldTied h outer.entry → HeldTied (line_held q inner.entry.start inner.entry.end) inner.entry
+    ensures reads { (h : HeldValue) → (q : Names.PropertiesValue) → HeldTied h outer.entry
+        → HeldTied (line_held q inner.entry.start inner.entry.end) inner.entry
         → JoinedTo h q inner.entry.end result }
 {
     if names_clash(outer.props.anchor, inner.props.anchor) {
@@ -141,7 +142,8 @@ pub(crate) fn joined<'a>(outer: Held<'a>, inner: Held<'a>) -> Option<Held<'a>>
 
 // Whether both are there.
 fn names_clash(outer: Option<&str>, inner: Option<&str>) -> bool
-    ensures { MatchBool result (BothThere (name_value outer.entry) (name_value inner.entry)) (BothThere (name_value outer.entry) (name_value inner.entry) → ⊥) }
+    ensures { MatchBool result (BothThere (name_value outer.entry) (name_value inner.entry))
+        (BothThere (name_value outer.entry) (name_value inner.entry) → ⊥) }
 {
     match outer {
         Some(_) => match inner {
@@ -168,7 +170,8 @@ fn tags_clash(outer: Option<Tag>, inner: Option<Tag>) -> bool
 /// The same where there need be none before.
 pub(crate) fn joined_behind<'a>(outer: Option<Held<'a>>, inner: Held<'a>) -> Option<Held<'a>>
     ensures end { IfSome result (λ h. h.end ≡ inner.entry.end) }
-    ensures reads { (a : Ahead) → (q : Names.PropertiesValue) → HeldAhead a outer.entry → HeldTied (line_held q inner.entry.start inner.entry.end) inner.entry
+    ensures reads { (a : Ahead) → (q : Names.PropertiesValue) → HeldAhead a outer.entry
+        → HeldTied (line_held q inner.entry.start inner.entry.end) inner.entry
         → JoinedBehind a q inner.entry.start inner.entry.end result }
 {
     match outer {

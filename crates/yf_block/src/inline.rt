@@ -14,7 +14,7 @@ ghost use Rattle.yf_block.specs.Machine.{Stepped, ProgressAt, HeldBefore, behind
 ghost use Rattle.yf_flow.specs.Counted.{EndCounted, openers_from};
 ghost use Rattle.yf_block.specs.Counted.{StepCounted};
 
-use crate::content::{Behind, Claim, Share, Spot};
+use crate::content::{Behind, Claim, Share, Spot, is_apart};
 use crate::entry::{await_value, collection_start, entry_at};
 use crate::frame::{Frame, Frames, Kind, Progress, Scope, Step, Wanted};
 use crate::halt::{note_node, note_shorter};
@@ -53,7 +53,8 @@ pub(crate) fn read_inline<'a>(
     ensures escapes { IfOk result (λ _. All (IsCharBoundary scope.entry.text.now) part.new.escapes) }
     ensures found { IfOk result (λ e. EndingAt scope.entry.text.now (behind_held at inner.now) e) }
     ensures counted { IsUtf8 scope.entry.text.now → (total : ℕ) → (start : ℕ) → start < behind_held at inner.now
-        → depth + openers_from scope.entry.text.now start ≤ total → IfOk result (λ e. EndCounted scope.entry.text.now scope.entry.limit total e) }
+        → depth + openers_from scope.entry.text.now start ≤ total
+        → IfOk result (λ e. EndCounted scope.entry.text.now scope.entry.limit total e) }
 {
     match empty_key_end(scope.text, at, inner) {
         Some(end) => {
@@ -130,7 +131,8 @@ fn read_alias<'a>(
     ensures answers { (room : ℕ) → (n : ℤ) → IfOk result (λ e. InlineEnds text.now room n at depth None lead.now part.old part.new e) }
     ensures escapes { IfOk result (λ _. part.new.escapes ≡ part.old.escapes) }
     ensures found { IfOk result (λ e. EndingAt text.now (at + 1) e) }
-    ensures counted { (limit : ℕ) → (total : ℕ) → depth + openers_from text.now at ≤ total → IfOk result (λ e. EndCounted text.now limit total e) }
+    ensures counted { (limit : ℕ) → (total : ℕ) → depth + openers_from text.now at ≤ total
+        → IfOk result (λ e. EndCounted text.now limit total e) }
 {
     match alias_node(text, at) {
         None => Ok(Ending::Nothing),
@@ -229,16 +231,6 @@ fn keyed_column(text: &str, spot: Spot, colon: usize) -> Option<usize>
     }
 }
 
-/// Whether the properties of lines before cannot be those of the node on the line.
-pub(crate) fn is_apart(share: Share) -> bool
-    ensures { MatchBool result (share ≡ Share.Apart) (share ≡ Share.Apart → ⊥) }
-{
-    match share {
-        Share::Apart => true,
-        Share::Nothing | Share::Joined => false,
-    }
-}
-
 // Whether the properties of lines before are those of the node, if it is no key.
 fn is_joined(share: Share) -> bool
     ensures { MatchBool result (share ≡ Share.Joined) (share ≡ Share.Joined → ⊥) }
@@ -319,7 +311,8 @@ fn end_inline<'a>(
         → IfOk result (λ s. BlockTied text.now d root before (reverse frames.now.items) s progress.new part.new) }
     ensures stepped { IfOk result (λ s. Stepped text.now at 1 progress.new s) }
     ensures escapes { IfOk result (λ _. part.new.escapes ≡ part.old.escapes) }
-    ensures counted { (limit : ℕ) → (total : ℕ) → (count : ℕ) → count + openers_from text.now at ≤ total → IfOk result (λ s. StepCounted text.now limit total count s) }
+    ensures counted { (limit : ℕ) → (total : ℕ) → (count : ℕ) → count + openers_from text.now at ≤ total
+        → IfOk result (λ s. StepCounted text.now limit total count s) }
 {
     match read_line_end(alloc, text, at)? {
         Some(Separation { comments, end }) => {
@@ -382,7 +375,8 @@ fn put_before<'a>(
     entry: Entry,
     part: &mut Part<'a>,
 ) -> Result<(), AllocError>
-    ensures events { (earlier : List Placed) → (first : Placed) → (others : List Placed) → event ≡ length earlier → part.old.events ≡ earlier ++ first ∷ others
+    ensures events { (earlier : List Placed) → (first : Placed) → (others : List Placed) → event ≡ length earlier
+        → part.old.events ≡ earlier ++ first ∷ others
         → IfOk result (λ _. part.new.events ≡ earlier ++ placed_value start.entry ∷ record first { entry = Some entry } ∷ others) }
     ensures comments { IfOk result (λ _. part.new.comments ≡ part.old.comments) }
     ensures escapes { IfOk result (λ _. part.new.escapes ≡ part.old.escapes) }

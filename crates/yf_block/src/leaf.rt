@@ -56,7 +56,8 @@ pub(crate) fn read_properties<'a>(
 /// Reads the header of a block scalar (c-b-block-header, production 162). After it a line begins, or the text ends.
 pub(crate) fn read_header<'a>(text: &'a str, at: usize) -> Option<HeaderLine<'a>>
     ensures place { IfSome result (λ h. Place text.now (at + 1) h.end) }
-    ensures reads { MatchOption result (Stuck (BlockHeader text.now at)) (λ r. Chosen (BlockHeader text.now at) r.end (header_value r.header r.comment)) }
+    ensures reads { MatchOption result (Stuck (BlockHeader text.now at))
+        (λ r. Chosen (BlockHeader text.now at) r.end (header_value r.header r.comment)) }
     ensures starts { IfSome result (λ h. h.end < length text.now → LineStart text.now h.end) }
 {
     match block_header(text, at) {

@@ -42,7 +42,8 @@ pub(crate) fn first_line<'a>(
         → IfOk result (λ s. BlockTied text.now d root before frames s progress.new part.new) }
     ensures stepped { IfOk result (λ s. Stepped text.now at 2 progress.new s) }
     ensures escapes { IfOk result (λ _. part.new.escapes ≡ part.old.escapes) }
-    ensures counted { (limit : ℕ) → (total : ℕ) → (count : ℕ) → count + openers_from text.now at ≤ total → IfOk result (λ s. StepCounted text.now limit total count s) }
+    ensures counted { (limit : ℕ) → (total : ℕ) → (count : ℕ) → count + openers_from text.now at ≤ total
+        → IfOk result (λ s. StepCounted text.now limit total count s) }
 {
     match end_line(alloc, text, at, progress, part)? {
         Step::Line(line) => {
@@ -68,7 +69,8 @@ pub(crate) fn end_line<'a>(
         → IfOk result (λ s. EndedTied text.now d root before frames at s progress.new part.new) }
     ensures stepped { IfOk result (λ s. Stepped text.now at 2 progress.new s) }
     ensures escapes { IfOk result (λ _. part.new.escapes ≡ part.old.escapes) }
-    ensures counted { (limit : ℕ) → (total : ℕ) → (count : ℕ) → count + openers_from text.now at ≤ total → IfOk result (λ s. StepCounted text.now limit total count s) }
+    ensures counted { (limit : ℕ) → (total : ℕ) → (count : ℕ) → count + openers_from text.now at ≤ total
+        → IfOk result (λ s. StepCounted text.now limit total count s) }
 {
     match read_line_end(alloc, text, at)? {
         Some(Separation { comments, end }) => {
@@ -252,7 +254,8 @@ fn take_indented<'a>(
 
 // Whether a line is indented as it must be; nothing is asked of the first one.
 fn may_begin(progress: &Progress, width: usize) -> bool
-    ensures { MatchBool result ((progress.now.wanted.least ≤ width) ⊎ (progress.now.first ≡ true)) ((width < progress.now.wanted.least) × (progress.now.first ≡ false)) }
+    ensures { MatchBool result ((progress.now.wanted.least ≤ width) ⊎ (progress.now.first ≡ true))
+        ((width < progress.now.wanted.least) × (progress.now.first ≡ false)) }
 {
     if width >= progress.wanted.least {
         return true;
@@ -283,11 +286,13 @@ fn end_empty<'a>(
 ) -> Result<Step, AllocError>
     requires boundary { IsCharBoundary _text.now at }
     requires progress { ProgressAt _text.now progress.old }
-    ensures tied { (d : ℕ) → (root : BlockTask) → (before : Part) → AtEmpty _text.now d root before (reverse frames.now.items) at progress.old part.old
+    ensures tied { (d : ℕ) → (root : BlockTask) → (before : Part)
+        → AtEmpty _text.now d root before (reverse frames.now.items) at progress.old part.old
         → IfOk result (λ s. BlockTied _text.now d root before (reverse frames.now.items) s progress.new part.new) }
     ensures stepped { IfOk result (λ s. Stepped _text.now at 1 progress.new s) }
     ensures escapes { IfOk result (λ _. part.new.escapes ≡ part.old.escapes) }
-    ensures counted { (limit : ℕ) → (total : ℕ) → (count : ℕ) → count + openers_from _text.now at ≤ total → IfOk result (λ s. StepCounted _text.now limit total count s) }
+    ensures counted { (limit : ℕ) → (total : ℕ) → (count : ℕ) → count + openers_from _text.now at ≤ total
+        → IfOk result (λ s. StepCounted _text.now limit total count s) }
 {
     match progress.wanted.outer {
         Some(held) => {

@@ -145,7 +145,8 @@ fn least_of(n: i32) -> usize
 // Nothing has been read yet of the text, which is read from an offset on.
 fn no_progress<'a>(_text: &str, at: usize, least: usize, out: bool) -> Progress<'a>
     ensures progress { ProgressAt _text.now result }
-    ensures root { (n : ℤ) → (c : Ctx) → TextTied _text.now → pos least ≡ n +ℤ pos 1 → least ≤ 2 ^ 30 → out ≡ is_out c → AtRoot _text.now n c at result }
+    ensures root { (n : ℤ) → (c : Ctx) → TextTied _text.now → pos least ≡ n +ℤ pos 1 → least ≤ 2 ^ 30 → out ≡ is_out c
+        → AtRoot _text.now n c at result }
 {
     Progress {
         last: at,

@@ -103,7 +103,8 @@ fn take_body<'a>(
         → IfOk result (λ s. BlockTied text.now d root before (reverse frames.now.items) s progress.new part.new) }
     ensures stepped { IfOk result (λ s. Stepped text.now at 1 progress.new s) }
     ensures escapes { IfOk result (λ _. part.new.escapes ≡ part.old.escapes) }
-    ensures counted { (limit : ℕ) → (total : ℕ) → (count : ℕ) → count + openers_from text.now at ≤ total → IfOk result (λ s. StepCounted text.now limit total count s) }
+    ensures counted { (limit : ℕ) → (total : ℕ) → (count : ℕ) → count + openers_from text.now at ≤ total
+        → IfOk result (λ s. StepCounted text.now limit total count s) }
 {
     let finish = skip_lines(text, at, reach(&block));
     let next = block.next;
@@ -119,7 +120,8 @@ fn take_body<'a>(
 
 // How many lines after its header a scalar reaches: to its last content line, or through its kept tail.
 fn reach(block: &BlockText) -> usize
-    ensures { length block.now.lines + block.now.tail < 2 ^ 64 → result ≡ reach_of block.now.header.chomp (length block.now.lines) block.now.tail }
+    ensures { length block.now.lines + block.now.tail < 2 ^ 64
+        → result ≡ reach_of block.now.header.chomp (length block.now.lines) block.now.tail }
 {
     match block.header.chomp {
         Chomp::Strip | Chomp::Clip => block.lines.len(),

@@ -1,15 +1,15 @@
 -- A directive ends with a visible character.
-use Rattle.std.proofs.Common.{◌≡◌, ◌≢◌, ℕ, ◌+◌, ◌<◌, ◌≤◌, Bool, true, false, List, [], ◌∷◌, refl, subst, arith}
+use Rattle.std.proofs.Common.{◌≡◌, ℕ, ◌+◌, ◌<◌, ◌≤◌, Bool, true, List, refl, subst, arith}
 use Rattle.std.proofs.lemmas.Bool.Decides.{nat_tests}
 use Rattle.std.specs.Str.{IsUtf8}
 use Rattle.yf_chars.specs.Chain.{Chain, One}
 use Rattle.yf_chars.specs.Chain.Chain.{done, step}
 use Rattle.yf_chars.specs.Chain.One.{one}
-use Rattle.yf_chars.specs.Class.{is_between, is_digit, is_ns_char, is_tag_char, is_uri_char}
+use Rattle.yf_chars.specs.Class.{is_between, is_digit, is_ns_char}
 use Rattle.yf_chars.specs.Text.{code, next}
 use Rattle.yf_chars.proofs.TextLemmas.{reads_real}
 use Rattle.yf_plain.proofs.PlainLemmas.{ns_below}
-use Rattle.yf_props.specs.Names.{Run, Spelled, TagPrefix, UriChar}
+use Rattle.yf_props.specs.Names.{Spelled, TagPrefix, UriChar}
 use Rattle.yf_props.specs.Names.Spelled.{as_itself, as_escape}
 use Rattle.yf_props.specs.Names.TagPrefix.{local_prefix, global_prefix}
 use Rattle.yf_props.proofs.SeparationEnds.{Solid}

@@ -21,7 +21,7 @@ use Rattle.yf_emit.specs.Rows.{Row, joined}
 use Rattle.yf_emit.specs.Steps.{steps_in}
 use Rattle.yf_emit.proofs.DecoratedLemmas.{inline_append}
 use Rattle.yf_emit.proofs.HeldLemmas.{Held, held_both, held_entering}
-use Rattle.yf_emit.proofs.FoundNodes.{FoundItem, FoundPair, found_item, found_explicit}
+use Rattle.yf_emit.proofs.FoundNodes.{FoundItem, FoundPair, found_item, found_explicit, meant_of}
 use Rattle.yf_emit.proofs.LaidRows.{steps_append}
 use Rattle.yf_emit.proofs.NodesMade.{Stood, Claim, no_row, some_rows, sign_row, sign_made}
 use Rattle.yf_emit.proofs.PlacedRows.{PlacedRow, RowsIn, rows_in_append}
@@ -256,7 +256,7 @@ explicit_makes {s} {k} {v} {at} {to} {rs} {ls} column items blank places marked 
             ∙ (ap (λ z. comments_in keys ds ++ z) two.is ∙ sym (comments_append keys values ds)));
         laid = subst (λ z. MeaningLaid q two.place (entering q (Some (one.place + column)) one.meaning ⊕ two.meaning) z) (sym (steps_append keys values ds))
             (laid_both (entering q (Some (one.place + column)) one.meaning) two.meaning (laid_entering q (Some (one.place + column)) one.meaning one.laid) two.laid (omega arith));
-        set = set_explicit column q (one.place + column) (one.place + column) one.meaning two.meaning one.stands (ends_white t (q + 1) one.behind) one.set (column_start one.start there.0) two.set;
+        set = set_explicit column q (one.place + column) (one.place + column) one.meaning two.meaning (meant_of one.meant) marked one.stands (ends_white t (q + 1) one.behind) one.set (column_start one.start there.0) two.set;
         held = held_both (entering q (Some (one.place + column)) one.meaning) two.meaning keys values ds r
             (held_entering q (Some (one.place + column)) one.meaning keys ds (lines_then values (past keys ds) r) one.held) two.held;
       }

@@ -35,12 +35,13 @@ use Rattle.yf_emit.proofs.FoundStreams.{FoundDocuments, StreamIn}
 use Rattle.yf_emit.proofs.FormatTrails.{formats_trail, normal_trees}
 use Rattle.yf_emit.proofs.LayoutLawsHold.{layouts_are_texts, layouts_are_laid}
 use Rattle.yf_emit.proofs.NormalRestyled.{root_restyled}
+use Rattle.yf_emit.proofs.DocumentsHeld.{all_events}
 use Rattle.yf_emit.proofs.StepsStand.{Stand}
 use Rattle.yf_emit.proofs.HeldLemmas.{EventsHeld}
 use Rattle.yf_emit.proofs.SetStreams.{SetAll}
 use Rattle.yf_emit.proofs.PlacedRows.{PlacedRow}
 use Rattle.yf_emit.proofs.StreamParts.{DocumentsLaid}
-use Rattle.yf_emit.proofs.StreamsMade.{StreamLaid, all_events}
+use Rattle.yf_emit.proofs.StreamsMade.{StreamLaid}
 use Rattle.yf_emit.proofs.TreesRead.{document_read, reading_fits, same_node}
 
 -- Heights: styles and brackets change none.

@@ -1,9 +1,9 @@
 -- What the readings of a formatted text hold of its rows.
-use Rattle.std.proofs.Common.{◌≡◌, ℕ, zero, suc, List, [], ◌∷◌, ◌++◌, map, flat_map, Option, Some, None, refl, sym, ap, ◌∙◌, subst}
+use Rattle.std.proofs.Common.{◌≡◌, ℕ, zero, suc, List, [], ◌∷◌, ◌++◌, Option, Some, sym, subst}
 use Rattle.std.specs.Prelude.{slice_get}
 use Rattle.std.specs.Str.{IsUtf8}
 use Rattle.yf_comments.specs.Comment.{CommentValue}
-use Rattle.yf_events.specs.Event.{EventValue, Placed, document_starts, document_ends, stream_starts, stream_ends}
+use Rattle.yf_events.specs.Event.{EventValue, Placed, stream_ends}
 use Rattle.yf_events.specs.Tree.{unplaced}
 use Rattle.yf_events.specs.declared.event.Span.{Span}
 use Rattle.yf_events.specs.declared.lists.Lists.{Lists}
@@ -14,8 +14,8 @@ use Rattle.yf_emit.specs.Decorated.{row_decos, rows_of}
 use Rattle.yf_emit.specs.Format.{Formats}
 use Rattle.yf_emit.specs.declared.style.Style.{Style}
 use Rattle.yf_emit.proofs.FormatsRead.{formats_laid}
-use Rattle.yf_emit.proofs.HeldLemmas.{BodiesHeld, EventsHeld, Holds, bodies_more, here, holds_left, holds_right, there}
-use Rattle.yf_emit.proofs.StreamsMade.{all_events}
+use Rattle.yf_emit.proofs.HeldLemmas.{BodiesHeld, EventsHeld, Holds, bodies_more, here, holds_left, there}
+use Rattle.yf_emit.proofs.DocumentsHeld.{all_events}
 use Rattle.yf_emit.proofs.WellSet.{AllSet, WellSet}
 
 -- Comments.

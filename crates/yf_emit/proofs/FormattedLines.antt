@@ -1,5 +1,5 @@
 -- The lines of what formatting gives are those of its rows, with what they carry.
-use Rattle.std.proofs.Common.{◌≡◌, ℕ, true, List, [], ◌∷◌, ◌++◌, replicate, sym, ◌∙◌, subst}
+use Rattle.std.proofs.Common.{◌≡◌, ℕ, true, List, [], ◌∷◌, ◌++◌, sym, ◌∙◌, subst}
 use Rattle.std.specs.Str.{IsUtf8}
 use Rattle.yf_lines.specs.declared.line.Line.{Line}
 use Rattle.yf_lines.specs.Lines.{AreLines as LinesOf}
@@ -7,11 +7,10 @@ use Rattle.yf_lines.proofs.RestLemmas.{Rest, rest_start}
 use Rattle.yf_lines.proofs.TableLemmas.{follow}
 use Rattle.yf_comments.specs.GapLines.{GapLine, blank, remark, AreGapLines}
 use Rattle.yf_emit.specs.declared.style.Style.{Style}
-use Rattle.yf_emit.specs.Carried.{AreRemarks, IsDeco, AreDecos}
+use Rattle.yf_emit.specs.Carried.{AreRemarks, AreDecos}
 use Rattle.yf_emit.specs.Decorated.{Deco, body_then, first, after, first_gap, row_decos, rows_of}
 use Rattle.yf_emit.specs.FitDocuments.{FitDocuments}
 use Rattle.yf_emit.specs.Format.{Formats}
-use Rattle.yf_emit.specs.Layout.{source_of}
 use Rattle.yf_emit.specs.Normal.{setting_of}
 use Rattle.yf_emit.specs.Rows.{Row}
 use Rattle.yf_emit.proofs.ClearRows.{line_indented, remark_line, trails_line}
@@ -20,7 +19,7 @@ use Rattle.yf_emit.proofs.DecoratedLemmas.{layout_then}
 use Rattle.yf_emit.proofs.FormatTrails.{formats_trail, normal_trees}
 use Rattle.yf_emit.proofs.FormatsRead.{formats_fit, formats_well}
 use Rattle.yf_emit.proofs.GapsFit.{all_fit}
-use Rattle.yf_emit.proofs.LaidLines.{gap_lines, own_line, row_lines, laid_lines, layout_is, LinesAre, lines_are}
+use Rattle.yf_emit.proofs.LaidLines.{gap_lines, row_lines, laid_lines, layout_is, LinesAre, lines_are}
 use Rattle.yf_emit.proofs.RowEnds.{first_deco, after_decos}
 use Rattle.yf_emit.proofs.RowsUtf8.{AreLines, no_line, line_more, RowLines, no_rows, row_more, stream_lines}
 use Rattle.yf_lines.proofs.RestLemmas.{line_nothing, line_append}

@@ -3,13 +3,15 @@ use Rattle.std.proofs.Common.{◌≡◌, ℕ, suc, ◌+◌, Bool, true, false, L
 use Rattle.std.specs.Str.{IsUtf8}
 use Rattle.yf_chars.specs.Class.{is_white_or_end}
 use Rattle.yf_chars.specs.Text.{code}
+use Rattle.std.specs.Prelude.{is_some, not, ◌&&◌, if◌then◌else◌}
+use Rattle.yf_events.specs.Alike.{Alike, alike_scalars, alike_aliases, alike_sequences, alike_mappings, AlikeItems, alike_nothing, alike_item, AlikePairs, alike_no_pairs, alike_pair}
 use Rattle.yf_events.specs.Event.{Placed, document_starts, document_ends, stream_starts, stream_ends, scalar_node}
 use Rattle.yf_events.specs.Tree.{Node, scalar, alias, sequence, mapping, Items, no_items, item, Pairs, no_pairs, pair, DocumentTree, TreesOf, unplaced, flat, flat_document, flat_stream, is_block_collection, is_sequence, standing}
 use Rattle.yf_events.specs.declared.document.Doc.{Doc}
 use Rattle.yf_events.specs.declared.event.Entry.{Entry}
 use Rattle.yf_events.specs.declared.lists.Lists.{Lists}
+use Rattle.yf_grammar.specs.Meant.{Anywhere}
 use Rattle.yf_grammar.specs.Part.{Noting, no_event}
-use Rattle.yf_grammar.proofs.FlowEvents.{Blockless, BlocklessItems, BlocklessPairs}
 use Rattle.yf_grammar.proofs.KeptNodes.{SameEntry, no_entry, same_entry, Kept, kept_scalar, kept_alias, kept_sequence, kept_mapping, KeptItems, kept_no_items, kept_item, KeptPairs, kept_no_pairs, kept_pair, kept_standing, kept_node}
 use Rattle.yf_grammar.proofs.NotedNodes.{noted_plain}
 use Rattle.yf_stream.specs.ReadingOf.{DocumentEvents, no_document, one_document, ReadingOf, doc_of}
@@ -17,10 +19,12 @@ use Rattle.yf_stream.specs.Stream.{Document, Documents}
 use Rattle.yf_emit.specs.Decorated.{body_then}
 use Rattle.yf_emit.specs.Format.{Formats}
 use Rattle.yf_emit.specs.declared.style.Style.{Style}
+use Rattle.yf_emit.specs.Normal.{is_implicit, value_entries}
+use Rattle.yf_emit.proofs.AlikeLemmas.{same_implicit, same_sequence}
 use Rattle.yf_emit.proofs.FormatsRead.{formats_laid}
 use Rattle.yf_emit.proofs.HeldLemmas.{ScalarAt}
 use Rattle.yf_emit.proofs.SetMeant.{BlockAt, block_at, SetAt, SetDone}
-use Rattle.yf_emit.proofs.SetNodes.{ColumnAt, EntryOn, SetDocuments, no_set_documents, set_document, SetItems, no_set_items, set_item, SetNode, set_line, set_scalar, set_sequence, set_mapping, SetPairs, no_set_pairs, set_pair, SetValue, beside, inside, Unquestioned}
+use Rattle.yf_emit.proofs.SetNodes.{Blockless, BlocklessItems, BlocklessPairs, ColumnAt, entries_behind, EntryOn, Questioned, SetDocuments, no_set_documents, set_document, SetItems, no_set_items, set_item, SetNode, set_line, set_scalar, set_sequence, set_mapping, SetPairs, no_set_pairs, set_pair, Unquestioned}
 use Rattle.yf_emit.proofs.SetStreams.{SetAll, none_set, some_set}
 
 -- Kept nodes.
@@ -43,19 +47,24 @@ mutual
   kept_line_pairs kept_no_pairs b = tt
   kept_line_pairs (kept_pair a c more) b = (kept_line a b.0, (kept_line c b.1.0, kept_line_pairs more b.1.1))
 
-same_block : {x y : Node} → Kept x y → is_block_collection x ≡ is_block_collection y
-same_block (kept_scalar s) = refl
-same_block (kept_alias s) = refl
-same_block (kept_sequence s kept_no_items) = refl
-same_block (kept_sequence s (kept_item a more)) = refl
-same_block (kept_mapping s kept_no_pairs) = refl
-same_block (kept_mapping s (kept_pair a c more)) = refl
+mutual
+  kept_alike : {x y : Node} → Kept x y → Alike Anywhere x y
+  kept_alike (kept_scalar s) = alike_scalars (ap (λ o. is_some o) s.span)
+  kept_alike (kept_alias s) = alike_aliases (ap (λ o. is_some o) s.span)
+  kept_alike (kept_sequence s a) = alike_sequences (ap (λ o. is_some o) s.span) (kept_alike_items a)
+  kept_alike (kept_mapping s a) = alike_mappings (ap (λ o. is_some o) s.span) (kept_alike_pairs a)
 
-same_kind : {x y : Node} → Kept x y → is_sequence x ≡ is_sequence y
-same_kind (kept_scalar s) = refl
-same_kind (kept_alias s) = refl
-same_kind (kept_sequence s a) = refl
-same_kind (kept_mapping s a) = refl
+  kept_alike_items : {xs ys : Items} → KeptItems xs ys → AlikeItems Anywhere xs ys
+  kept_alike_items kept_no_items = alike_nothing
+  kept_alike_items (kept_item a more) = alike_item (kept_alike a) (kept_alike_items more)
+
+  kept_alike_pairs : {ps qs : Pairs} → KeptPairs ps qs → AlikePairs Anywhere ps qs
+  kept_alike_pairs kept_no_pairs = alike_no_pairs
+  kept_alike_pairs (kept_pair a b more) = alike_pair (kept_alike a) (kept_alike b) tt (kept_alike_pairs more)
+
+behind_same : {k l v w : Node} (s : Style) (m : ℕ) → Kept k l → Kept v w → entries_behind s m k v ≡ entries_behind s m l w
+behind_same {l = l} {v = v} s m k a =
+    ap (λ b. if b then value_entries s m v else m + s.indent) (same_implicit s m (kept_alike k)) ∙ ap (λ b. if is_implicit s m l then (if b && not s.seq_indent then m else m + s.indent) else m + s.indent) (same_sequence (kept_alike a))
 
 module _ {t : List ℕ} where
   on_kept : {m : ℕ} {x y : Node} → Kept x y → EntryOn t m x → EntryOn t m y
@@ -76,14 +85,14 @@ module _ {t : List ℕ} where
         let start : o.entry.start ≡ e.start = ap (λ (w : Entry). w.start) one in
         record { entry = record e { blank_before = b }; is = g; none = λ c d. o.none (ap (code t) start ∙ c) (ap (λ i. is_white_or_end (code t (i + 1))) start ∙ d) }
 
-  kept_back : {x y : Node} → Kept x y → Unquestioned t y → Unquestioned t x
-  kept_back {x} {y} k o = go (kept_standing k).entry where
-    go : SameEntry (standing x).entry (standing y).entry → Unquestioned t x
-    go (no_entry e f) = let no : None ≡ Some o.entry = sym f ∙ o.is in absurd cc
+  questioned_kept : {x y : Node} → Kept x y → Questioned t x → Questioned t y
+  questioned_kept {x} {y} k o = go (kept_standing k).entry where
+    go : SameEntry (standing x).entry (standing y).entry → Questioned t y
+    go (no_entry e f) = let no : None ≡ Some o.entry = sym e ∙ o.is in absurd cc
     go (same_entry e b f g) =
-        let one : record e { blank_before = b } ≡ o.entry = some_one (sym g ∙ o.is) in
-        let start : e.start ≡ o.entry.start = ap (λ (w : Entry). w.start) one in
-        record { entry = e; is = f; none = λ c d. o.none (ap (code t) (sym start) ∙ c) (ap (λ i. is_white_or_end (code t (i + 1))) (sym start) ∙ d) }
+        let one : o.entry ≡ e = some_one (sym o.is ∙ f) in
+        let start : e.start ≡ o.entry.start = ap (λ (w : Entry). w.start) (sym one) in
+        record { entry = record e { blank_before = b }; is = g; sign = ap (code t) start ∙ o.sign; white = ap (λ i. is_white_or_end (code t (i + 1))) start ∙ o.white }
 
 module _ {t : List ℕ} {s : Style} where
   mutual
@@ -98,13 +107,12 @@ module _ {t : List ℕ} {s : Style} where
     items_kept kept_no_items no_set_items = no_set_items
     items_kept (kept_item k more) (set_item a b) = set_item (set_kept k a) (items_kept more b)
 
-    value_kept : {m : ℕ} {k l v w : Node} → Kept k l → Kept v w → SetValue t s (BlockAt t) m k v → SetValue t s (BlockAt t) m l w
-    value_kept k v (beside off b q u a) = beside off (sym (same_block v) ∙ b) (sym (same_kind v) ∙ q) (unquestioned_kept k u) (set_kept v a)
-    value_kept k v (inside n a) = inside (λ off b q u. n off (same_block v ∙ b) (same_kind v ∙ q) (kept_back k u)) (set_kept v a)
-
     pairs_kept : {m : ℕ} {ps qs : Pairs} → KeptPairs ps qs → SetPairs t s (BlockAt t) m ps → SetPairs t s (BlockAt t) m qs
     pairs_kept kept_no_pairs no_set_pairs = no_set_pairs
-    pairs_kept (kept_pair k v more) (set_pair a b c) = set_pair (set_kept k a) (value_kept k v b) (pairs_kept more c)
+    pairs_kept {m} (kept_pair {w = w} k v more) (set_pair free marked a b c) =
+        let same = same_implicit s m (kept_alike k) in
+        set_pair (λ e. unquestioned_kept k (free (same ∙ e))) (λ e. questioned_kept k (marked (same ∙ e))) (set_kept k a)
+        (subst (λ n. SetAt t s n (m + s.indent) w) (behind_same s m k v) (set_kept v b)) (pairs_kept more c)
 
 -- Documents.
 

@@ -1,6 +1,6 @@
 -- What a meaning holds of the rows that it is derived from: each of its comments is well set, and the lines of each row with a block scalar are those of
 -- a scalar among its events.
-use Rattle.std.proofs.Common.{◌≡◌, ◌≢◌, ℕ, ◌+◌, ◌<◌, ◌≤◌, ◌⊎◌, Bool, true, false, List, [], ◌∷◌, ◌++◌, length, Option, Some, None, refl, sym, ap, ◌∙◌, subst, arith}
+use Rattle.std.proofs.Common.{◌≡◌, ℕ, ◌+◌, ◌<◌, ◌≤◌, ◌⊎◌, Bool, false, List, [], ◌∷◌, ◌++◌, length, Option, Some, refl, sym, subst}
 use Rattle.std.specs.Str.{IsUtf8}
 use Rattle.yf_chars.specs.Text.{code}
 use Rattle.yf_lines.specs.Basic.{LineStart}
@@ -16,7 +16,7 @@ use Rattle.yf_events.specs.declared.event.Span.{Span}
 pub use Rattle.yf_grammar.specs.BlockScalar.{LinesBetween}
 pub use Rattle.yf_grammar.specs.BlockScalar.LinesBetween.{counted}
 use Rattle.yf_grammar.proofs.BlankRuns.{Behind}
-use Rattle.yf_grammar.specs.Meaning.{Meaning, ◌⊕◌, behind, noting, plain_event, empty_node, collection, first_entering, with_props, entering}
+use Rattle.yf_grammar.specs.Meaning.{Meaning, ◌⊕◌, behind, noting, empty_node, collection, first_entering, with_props, entering}
 use Rattle.yf_emit.specs.BlockLines.{block_lines}
 use Rattle.yf_emit.specs.ContentStart.{content_start}
 use Rattle.yf_emit.specs.Carried.{IsDeco}

@@ -20,7 +20,6 @@ use Rattle.yf_grammar.proofs.BlankRuns.{Behind, behind_byte}
 use Rattle.yf_grammar.proofs.BlockFirst.{key_no_question}
 use Rattle.yf_grammar.proofs.CommentOrder.{end_ascends}
 use Rattle.yf_grammar.proofs.FlowBack.{visible_at, colon_follows}
-use Rattle.yf_grammar.proofs.FlowEvents.{flow_empty, key_events}
 use Rattle.yf_grammar.proofs.PairsBack.{key_back, key_apart_back}
 use Rattle.yf_grammar.proofs.MeantLemmas.{texts_behind, texts_noting, texts_entering, texts_both, texts_empty}
 use Rattle.yf_grammar.proofs.NodePlaces.{NodeStands, stands_nowhere, node_order, node_upto}
@@ -34,6 +33,7 @@ use Rattle.yf_emit.specs.Rows.{Row, Ending, anywhere, before_node, behind_key, b
 use Rattle.yf_events.specs.declared.event.Span.{Span}
 use Rattle.yf_emit.specs.Steps.{Step, leaf_steps, comment_steps, steps_in}
 use Rattle.yf_emit.proofs.EntriesMade.{Begins, begins, EntryMade, EntryMakes, comments_both, comments_entering}
+use Rattle.yf_emit.proofs.FlowEvents.{empty_flow, flow_means}
 use Rattle.yf_emit.proofs.FoundLines.{items_inside, leaves_inside, placed_node}
 use Rattle.yf_emit.proofs.FoundNodes.{FoundNode, FoundPair, HeadAt, head_at, KeyRows, key_commented, key_above, key_alone, key_joined, bare_node, bare_alike, bare_events, bare_escapes, bare_comments, found_behind, found_noting, found_nothing, found_implicit, meant_of}
 use Rattle.yf_emit.proofs.HeldLemmas.{Held, empty_silent, entering_silent, held_after, held_behind, held_joined, held_line, row_ended}
@@ -43,7 +43,7 @@ use Rattle.yf_emit.proofs.NodesMade.{Stood, Claim, no_row, some_rows, MeansNothi
 use Rattle.yf_emit.proofs.PlacedRows.{Inside, none_inside, one_inside, inside_wider, PlacedRow, AtRow, RowsIn, last_row, row_before, joined_placed, rows_joined}
 use Rattle.yf_emit.proofs.RowEnds.{row_end, first_deco, after_decos}
 use Rattle.yf_emit.proofs.SeenTexts.{ascii_ns}
-use Rattle.yf_emit.proofs.SetMeant.{column_start, SetDone, set_done, done_behind, done_empty, set_implicit, kind_of}
+use Rattle.yf_emit.proofs.SetMeant.{column_start, SetDone, set_done, done_behind, done_empty, set_implicit}
 use Rattle.yf_emit.proofs.SetNodes.{ColumnAt}
 use Rattle.yf_emit.proofs.StepsStand.{starts_of, MeaningLaid, laid_after, laid_both, laid_behind, laid_empty, laid_entering}
 
@@ -363,7 +363,8 @@ module _ {s : Setting} {k v : Node} {spot : Spot} {rs : List Row} (column : ℕ)
           laid = subst (λ z. MeaningLaid q one.place (entering q (Some key.place) (n.node.mean q) ⊕ one.meaning) z) (sym (behind_steps column (written k ++ colon_behind k) items leaves blank o below rs ds))
               (laid_both (entering q (Some key.place) (n.node.mean q)) one.meaning
               (laid_entering q (Some key.place) (n.node.mean q) (laid_line leaves (places u key.derived refl) (n.node.meant q) (n.node.silent q) count)) one.laid (omega arith));
-          set = set_implicit column q key.place (n.node.mean q) one.meaning found (key_events key.derived) at.events (λ f g. key_no_question key.derived (record { sign_stands = f; behind = g })) value_set (kind_of (meant_of one.meant) value_set);
+          set = set_implicit column q key.place (n.node.mean q) one.meaning found (placed_node at (n.node.meant q)) implicit (flow_means key.derived tt) at.events
+              (λ f g. key_no_question key.derived (record { sign_stands = f; behind = g })) (meant_of one.meant) value_set;
           held = held_after (entering q (Some key.place) (n.node.mean q)) one.meaning (behind_key (key_head column (written k ++ colon_behind k) items leaves blank) o below rs) ds r
               (entering_silent q (Some key.place) (n.node.mean q) (n.node.silent q)) one.held;
         }
@@ -398,7 +399,8 @@ module _ {s : Setting} {k v : Node} {spot : Spot} {rs : List Row} (column : ℕ)
           laid = subst (λ z. MeaningLaid q one.place (entering q (Some q) (empty_node q) ⊕ one.meaning) z)
               (ap (λ z. leaf_steps z ++ steps_behind o below rs ds) (sym none) ∙ sym (behind_steps column (58 ∷ []) items leaves blank o below rs ds))
               (laid_both {k = q} (entering q (Some q) (empty_node q)) one.meaning (laid_entering q (Some q) (empty_node q) (laid_empty q (omega arith))) one.laid (omega arith));
-          set = set_implicit column q q (empty_node q) one.meaning bare_node (flow_empty q) (bare_events q) (λ f g. let here : code t q ≡ 58 = colon.0 in absurd (omega (arith, f, here))) value_set (kind_of (meant_of one.meant) value_set);
+          set = set_implicit column q q (empty_node q) one.meaning bare_node (bare_alike q (n.meant q)) implicit (empty_flow q) (bare_events q)
+              (λ f g. let here : code t q ≡ 58 = colon.0 in absurd (omega (arith, f, here))) (meant_of one.meant) value_set;
           held = held_after (entering q (Some q) (empty_node q)) one.meaning (behind_key (key_head column (58 ∷ []) items leaves blank) o below rs) ds r
               (entering_silent q (Some q) (empty_node q) (empty_silent q)) one.held;
         }

@@ -14,14 +14,14 @@ use Rattle.yf_chars.proofs.TextLemmas.{reads_real}
 use Rattle.yf_lines.specs.declared.line.Line.{Line}
 use Rattle.yf_lines.specs.Basic.{Break}
 use Rattle.yf_lines.specs.LineText.{IsLineText}
-use Rattle.yf_lines.specs.Lines.{IsLine, Unbroken, LineEnd}
+use Rattle.yf_lines.specs.Lines.{IsLine, Unbroken}
 use Rattle.yf_lines.specs.Lines.LineEnd.{at_break}
 use Rattle.yf_lines.proofs.ClearLemmas.{code_inside}
 use Rattle.yf_lines.proofs.LineLemmas.{break_char_cases, end_within, same_line}
 use Rattle.yf_lines.proofs.RestLemmas.{Rest, rest_ascii, rest_text, rest_break}
 use Rattle.yf_lines.proofs.TableLemmas.{Follow}
 use Rattle.yf_comments.specs.GapLines.{GapLine, blank, remark, gap_then}
-use Rattle.yf_emit.specs.Decorated.{Deco, first, after, trails_then, body_then, end_then, lines_then}
+use Rattle.yf_emit.specs.Decorated.{Deco, first, after, trails_then, body_then, lines_then}
 use Rattle.yf_emit.specs.Rows.{Row}
 use Rattle.yf_emit.proofs.ClearRows.{trails_bytes, trails_are}
 use Rattle.yf_emit.proofs.RowsUtf8.{AreLines, no_line, line_more}

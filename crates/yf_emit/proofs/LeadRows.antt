@@ -1,9 +1,7 @@
 -- Rows before which a blank line may stand begin with an entry, and no such row begins with a percent sign.
-use Rattle.std.proofs.Common.{◌≡◌, ◌≢◌, ℕ, pos, zero, suc, ◌+◌, ◌-◌, ◌<◌, ◌≤◌, Bool, true, false, true≢false, List, [], ◌∷◌, ◌++◌, drop, get_or, get_or-drop, map, replicate, Option, Some, None, refl, sym, ap, ◌∙◌, subst, arith, append-nil}
+use Rattle.std.proofs.Common.{◌≡◌, ◌≢◌, ℕ, pos, ◌+◌, ◌-◌, Bool, true, false, true≢false, List, [], ◌∷◌, ◌++◌, get_or, map, replicate, Option, Some, None, refl, sym, ◌∙◌, subst, arith, append-nil}
 use Rattle.std.specs.Str.{IsUtf8}
-use Rattle.yf_chars.specs.declared.context.Ctx.{Ctx}
 use Rattle.yf_chars.specs.declared.context.Ctx.TheVariants.{BlockKey}
-use Rattle.yf_chars.specs.Text.{code}
 use Rattle.yf_chars.proofs.TextLemmas.{code_from_byte}
 use Rattle.yf_lines.specs.LineText.Follows.{nothing_follows}
 use Rattle.yf_lines.specs.Rest.{Rest}
@@ -13,16 +11,16 @@ use Rattle.yf_events.specs.declared.directive.Directive.{Directive}
 use Rattle.yf_events.specs.declared.document.Doc.{Doc}
 use Rattle.yf_events.specs.declared.event.ScalarStyle.{ScalarStyle}
 use Rattle.yf_events.specs.declared.event.ScalarStyle.TheVariants.{Plain, Single, Double, Literal, Folded}
-use Rattle.yf_events.specs.Tree.{Standing, Node, scalar, alias, sequence, mapping, Items, no_items, item, Pairs, no_pairs, pair, DocumentTree}
+use Rattle.yf_events.specs.Tree.{Standing, Node, scalar, Items, item, Pairs, pair, DocumentTree}
 use Rattle.yf_props.specs.Props.{PropsValue}
 use Rattle.yf_grammar.specs.Back.{Back}
 use Rattle.yf_stream.proofs.NoPercent.{no_percent_flow}
 use Rattle.yf_emit.specs.declared.style.Style.{Style}
 use Rattle.yf_emit.specs.FitDocuments.{FitDocuments, fit_no_documents, fit_document}
-use Rattle.yf_emit.specs.Fits.{LineNode, Fit, fit_nothing, fit_line, fit_scalar, fit_sequence, fit_mapping, FitItems, fit_no_items, fit_item, FitPairs, fit_no_pairs, fit_pair}
+use Rattle.yf_emit.specs.Fits.{Fit, fit_nothing, fit_line, fit_scalar, fit_sequence, fit_mapping, FitItems, fit_no_items, fit_item, FitPairs, fit_no_pairs, fit_pair}
 use Rattle.yf_emit.specs.Normal.{Setting, Spot, inner_spot, key_spot, value_spot, is_implicit, key_comment, root_spot}
 use Rattle.yf_emit.specs.OneLine.{written, colon_behind, props_text}
-use Rattle.yf_emit.specs.Rows.{Row, Ending, one_line, one_line_row, props_row, joined, behind_sign, behind_key, begins_below, entry_row, colon_row, key_row, explicit_pair, implicit_pair, pair_rows, rows, rows_of_items, rows_of_pairs, directive_row, end_rows, start_row, beginning_at, stream_rows}
+use Rattle.yf_emit.specs.Rows.{Row, one_line_row, props_row, joined, behind_sign, behind_key, begins_below, entry_row, colon_row, key_row, pair_rows, rows, rows_of_items, rows_of_pairs, directive_row, end_rows, beginning_at, stream_rows}
 use Rattle.yf_emit.proofs.LineUtf8.{line_utf8}
 use Rattle.yf_emit.proofs.TreesMade.{block_is_no_key, either_pair, inline_rows, not_implicit}
 
@@ -50,7 +48,7 @@ unspaced e = record { none = λ f. absurd (true≢false (sym f ∙ e)) }
 signed : {x : Row} → first_byte x.text ≢ 37 → IsLead x
 signed n = record { none = λ e. n }
 
-first_joined : (w z : List ℕ) → w ≢ [] → first_byte (w ++ z) ≡ first_byte w
+pub first_joined : (w z : List ℕ) → w ≢ [] → first_byte (w ++ z) ≡ first_byte w
 first_joined [] z n = absurd (n refl)
 first_joined (c ∷ w) z n = refl
 

@@ -102,6 +102,7 @@ pub mod CollectionsMade
 pub mod TreesMade
 pub mod DocumentsMade
 pub mod StreamParts
+pub mod DocumentsHeld
 pub mod StreamsMade
 pub mod LayoutLawsHold
 -- trees that are alike up to places are laid out alike (a second run changes nothing)
@@ -186,6 +187,7 @@ pub mod DirectiveEnds
 pub mod FormattedHeld
 pub mod FormattedSet
 pub mod TidyTexts
+pub mod LineSorts
 pub mod LinedRows
 pub mod GapSpread
 pub mod LeadRows
@@ -200,3 +202,4 @@ pub mod FoundTexts
 pub mod FoundMarks
 pub mod FixedBlocks
 pub mod FixedLawsHold
+pub mod FlowEvents

@@ -19,7 +19,6 @@ use Rattle.yf_grammar.specs.Meant.{Meant, tall}
 use Rattle.yf_grammar.proofs.BlankRuns.{behind_byte}
 use Rattle.yf_grammar.proofs.CommentOrder.{end_ascends}
 use Rattle.yf_grammar.proofs.FlowBack.{visible_at}
-use Rattle.yf_grammar.proofs.FlowEvents.{node_events}
 use Rattle.yf_grammar.proofs.LeafBack.{any_follow}
 use Rattle.yf_grammar.proofs.MeantLemmas.{texts_noting, texts_empty}
 use Rattle.yf_grammar.proofs.NodesBehind.{node_behind}
@@ -32,6 +31,7 @@ use Rattle.yf_emit.specs.OneLine.{written}
 use Rattle.yf_emit.specs.Rows.{Row, anywhere, joined, begins_below}
 use Rattle.yf_emit.specs.Steps.{steps_in}
 use Rattle.yf_emit.proofs.HeldLemmas.{Held, empty_silent, held_joined, held_line, row_ended}
+use Rattle.yf_emit.proofs.FlowEvents.{flow_means}
 use Rattle.yf_emit.proofs.FoundLines.{line_found}
 use Rattle.yf_emit.proofs.FoundNodes.{FoundNode, SignRows, sign_alone, sign_joined, found_noting, found_nothing}
 use Rattle.yf_emit.proofs.LaidRows.{laid_row, laid_line}
@@ -106,7 +106,7 @@ line_made {t} {s} {x} {r} spot n c ds z q b inline some key text body count node
       placed = found.placed;
       is = texts_noting (node.mean q) end.comments ∙ (ap (λ k. texts k ++ texts end.comments) (node.silent q) ∙ (end.is ∙ sym (append-nil (carried_texts (first ds)))));
       laid = laid_row (node.mean q) end.comments r.leaves (laid_line r.leaves (places u derived refl) (node.meant q) (node.silent q) count) (end_ascends end.end) end.is;
-      set = set_noting end.comments (let at = places u derived refl in set_flow at.node (node_events derived) at.events);
+      set = set_noting end.comments (let at = places u derived refl in set_flow at.node (flow_means derived tt) at.events);
       held = held_line (node.mean q) end.comments r ds z body (node.silent q) (row_ended (first ds) z u (node_behind u derived) (first_deco a) behind_text.rest end.end);
     }
 

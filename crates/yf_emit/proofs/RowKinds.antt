@@ -1,6 +1,6 @@
 -- The rows of a stream are texts that are no document markers, and the markers of documents, which nothing trails; so the lines of a layout are
 -- no markers but for those.
-use Rattle.std.proofs.Common.{◌≡◌, ℕ, ◌<◌, ◌≤◌, ◌⊎◌, inl, inr, Bool, true, false, List, [], ◌∷◌, ◌++◌, get_or, map, replicate, Option, None, refl, sym, ap, ◌∙◌, subst, arith, append-nil}
+use Rattle.std.proofs.Common.{◌≡◌, ℕ, ◌≤◌, ◌⊎◌, inl, inr, Bool, true, false, List, [], ◌∷◌, ◌++◌, get_or, map, replicate, None, refl, sym, ap, ◌∙◌, subst, arith, append-nil}
 use Rattle.std.specs.Prelude.{option_to_list, flat_map}
 use Rattle.yf_comments.specs.Comment.{CommentValue}
 use Rattle.yf_comments.specs.GapLines.{GapLine, blank, remark, AreGapLines}
@@ -9,7 +9,7 @@ use Rattle.yf_events.specs.declared.document.Doc.{Doc}
 use Rattle.yf_events.specs.Tree.{DocumentTree}
 use Rattle.yf_grammar.proofs.FlowBack.{visible_line}
 use Rattle.yf_emit.specs.Carried.{AreDecos}
-use Rattle.yf_emit.specs.Decorated.{Deco, first, after, comments_left, decos_of}
+use Rattle.yf_emit.specs.Decorated.{Deco, first, comments_left, decos_of}
 use Rattle.yf_emit.specs.FitDocuments.{FitDirectives, fit_no_directives, fit_directive, FitDocuments, fit_no_documents, fit_document}
 use Rattle.yf_emit.specs.Fits.{Unmarked}
 use Rattle.yf_emit.specs.Layout.{Source, trailing, trailing_leaf, first_comment, trimmed}

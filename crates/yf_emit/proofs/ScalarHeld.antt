@@ -1,20 +1,20 @@
 -- Where a block scalar stands that is derived from its row: its lines begin after the line of its header, it reaches past each of them, and its comments
 -- are well set.
-use Rattle.std.proofs.Common.{◌≡◌, ◌≢◌, ℕ, ℤ, zero, suc, ◌+◌, ◌-◌, ◌<◌, ◌≤◌, ◌⊎◌, inl, inr, ⊎_elim, Bool, true, false, true≢false, List, [], ◌∷◌, ◌++◌, length, map, replicate, Option, Some, None, refl, sym, ap, ◌∙◌, subst, arith, length-append}
+use Rattle.std.proofs.Common.{◌≡◌, ◌≢◌, ℕ, ℤ, zero, suc, ◌+◌, ◌-◌, ◌<◌, ◌≤◌, ◌⊎◌, inl, inr, ⊎_elim, Bool, true, false, List, [], ◌∷◌, ◌++◌, length, Option, None, refl, sym, ap, ◌∙◌, subst, arith, length-append}
 use Rattle.std.specs.Prelude.{if◌then◌else◌}
 use Rattle.std.specs.Str.{IsUtf8}
 use Rattle.std.proofs.lemmas.Bool.{cases_eq, cases_lt}
 use Rattle.std.proofs.lemmas.Bool.Decides.{nat_tests}
-use Rattle.yf_chars.specs.Chain.{Chain, Chosen}
+use Rattle.yf_chars.specs.Chain.{Chain}
 use Rattle.yf_chars.specs.Chain.Chain.{done, step}
-use Rattle.yf_chars.specs.Class.{is_white, is_white_or_end, is_break_char, is_ns_char}
+use Rattle.yf_chars.specs.Class.{is_white, is_white_or_end, is_break_char}
 use Rattle.yf_chars.specs.Text.{code}
 use Rattle.yf_chars.proofs.ChainLemmas.{chain_forward}
 use Rattle.yf_lines.proofs.LineLemmas.{line_functional}
 use Rattle.yf_lines.specs.Basic.{LineStart}
 use Rattle.yf_lines.specs.Basic.LineStart.{after_break}
 use Rattle.yf_lines.specs.LineText.{IsLineText}
-use Rattle.yf_lines.specs.Lines.{IsLine, LineEnd as EndOfLine, OneLine}
+use Rattle.yf_lines.specs.Lines.{LineEnd as EndOfLine, OneLine}
 use Rattle.yf_lines.specs.Lines.LineEnd.{at_break, at_end}
 use Rattle.yf_lines.specs.Lines.OneLine.{one_line}
 use Rattle.yf_lines.specs.Rest.{Rest}
@@ -23,9 +23,9 @@ use Rattle.yf_lines.proofs.ClearLemmas.{Quiet, quiet_join}
 use Rattle.yf_lines.proofs.RestLemmas.{rest_ascii, rest_text, rest_break}
 use Rattle.yf_comments.specs.Comment.{CommentValue}
 use Rattle.yf_comments.specs.Comments.{LineRest}
-use Rattle.yf_comments.proofs.GapLinesLemmas.{texts, texts_append}
+use Rattle.yf_comments.proofs.GapLinesLemmas.{texts_append}
 use Rattle.yf_comments.proofs.RowLemmas.{rest_unique}
-use Rattle.yf_block_scalar.specs.Body.{Body, BodyValue, Taken, Trail, first_noted, is_gap_tail}
+use Rattle.yf_block_scalar.specs.Body.{Body, BodyValue, Trail, first_noted, is_gap_tail}
 use Rattle.yf_block_scalar.specs.Body.Body.{indicated, detected, without_content}
 use Rattle.yf_block_scalar.specs.Body.Trail.{comments, no_comment}
 use Rattle.yf_block_scalar.specs.Content.{content_of, ending, feeds, folded, literal}

@@ -1,5 +1,5 @@
 -- How a literal or folded scalar that is made stands in the text: its event, and its lines.
-use Rattle.std.proofs.Common.{◌≡◌, ◌≢◌, ℕ, zero, suc, ◌+◌, ◌-◌, ◌<◌, ◌≤◌, ◌⊎◌, inl, inr, ℤ, true, false, true≢false, List, [], ◌++◌, length, map, replicate, Option, refl, sym, ap, subst, arith, length-append, ⊎_elim}
+use Rattle.std.proofs.Common.{◌≡◌, ◌≢◌, ℕ, zero, suc, ◌+◌, ◌-◌, ◌<◌, ◌≤◌, ◌⊎◌, inl, inr, ℤ, true, false, true≢false, List, [], ◌++◌, length, replicate, Option, refl, sym, ap, subst, arith, length-append, ⊎_elim}
 use Rattle.std.proofs.lemmas.List.{length-map}
 use Rattle.std.specs.Str.{IsUtf8}
 use Rattle.yf_chars.specs.declared.context.Ctx.{Ctx}

@@ -17,14 +17,16 @@ use Rattle.yf_events.specs.Tree.{Standing, Node, scalar, alias, sequence, mappin
 use Rattle.yf_events.proofs.TreeLemmas.{node_unique}
 use Rattle.yf_grammar.specs.Meaning.{Meaning, ◌⊕◌, behind, noting, plain_event, from_to, empty_node, collection, with_props, first_entering, entering}
 use Rattle.yf_grammar.specs.Meant.{Anywhere, Meant}
-use Rattle.yf_grammar.proofs.FlowEvents.{Blockless, FlowMeant, blockless_of}
 use Rattle.yf_grammar.proofs.MeantLemmas.{entered, entered_events}
 use Rattle.yf_emit.specs.Decorated.{body_then}
 use Rattle.yf_emit.specs.Fits.{is_block_style}
 use Rattle.yf_emit.specs.declared.style.Style.{Style}
-use Rattle.yf_emit.proofs.AlikeLemmas.{same_sequence}
+use Rattle.yf_emit.specs.Normal.{is_implicit, value_entries}
+use Rattle.yf_emit.proofs.AlikeLemmas.{same_implicit, same_sequence}
+use Rattle.yf_emit.proofs.FlowEvents.{AllFlow, MeansFlow, blockless}
+use Rattle.yf_emit.proofs.FoundNodes.{alike_entered}
 use Rattle.yf_emit.proofs.HeldLemmas.{Holds, here, there, ScalarAt, ScalarHeld}
-use Rattle.yf_emit.proofs.SetNodes.{ColumnAt, EntryOn, SetFirst, set_first, SetFirstPair, set_first_pair, SetItems, no_set_items, set_item, SetNode, set_line, set_scalar, set_sequence, set_mapping, SetPairs, no_set_pairs, set_pair, SetValue, beside, inside, Unquestioned}
+use Rattle.yf_emit.proofs.SetNodes.{Blockless, ColumnAt, entries_behind, EntryOn, Questioned, SetFirst, set_first, SetFirstPair, set_first_pair, SetItems, no_set_items, set_item, SetNode, set_line, set_scalar, set_sequence, set_mapping, SetPairs, no_set_pairs, set_pair, Unquestioned}
 
 -- the lines of a block scalar stand at a column
 pub data BlockAt (t : List ℕ) (l : ℕ) : Node → Type 0 where
@@ -125,7 +127,9 @@ pub record SetPair (t : List ℕ) (s : Style) (m q : ℕ) (x : Meaning) : Type 0
   pub events : x.events ≡ flat key ++ flat value
   pub on : ColumnAt t m q → EntryOn t m key
   pub set : ColumnAt t m q → SetAt t s (m + s.indent) (m + s.indent) key
-  pub value_set : ColumnAt t m q → SetValue t s (BlockAt t) m key value
+  pub free : is_implicit s m key ≡ true → Unquestioned t key
+  pub marked : is_implicit s m key ≡ false → Questioned t key
+  pub value_set : ColumnAt t m q → SetAt t s (entries_behind s m key value) (m + s.indent) value
 
 pub record SetList (t : List ℕ) (s : Style) (m q : ℕ) (x : Meaning) : Type 0 where
   pub items : Items
@@ -152,7 +156,7 @@ set_last t s true m q x a = record { items = item a.node no_items; events = a.ev
 set_last t s false m q x a = record {
   pairs = pair a.key a.value no_pairs;
   events = a.events ∙ ap (λ z. flat a.key ++ z) (sym (append-nil (flat a.value)));
-  set = λ c. set_first_pair (a.on c) (set_pair (a.set c) (a.value_set c) no_set_pairs);
+  set = λ c. set_first_pair (a.on c) (set_pair a.free a.marked (a.set c) (a.value_set c) no_set_pairs);
 }
 
 all_items : {t : List ℕ} {s : Style} {m : ℕ} {xs : Items} → SetFirst t s (BlockAt t) m xs → SetItems t s (BlockAt t) m xs
@@ -171,12 +175,18 @@ set_more t s true m q p x y d a o = record {
 set_more t s false m q p x y d a o = record {
   pairs = pair a.key a.value o.pairs;
   events = ap (λ z. z ++ y.events) a.events ∙ (append_assoc (flat a.key) (flat a.value) y.events ∙ ap (λ z. flat a.key ++ (flat a.value ++ z)) o.events);
-  set = λ c. set_first_pair (a.on c) (set_pair (a.set c) (a.value_set c) (all_pairs (o.set d)));
+  set = λ c. set_first_pair (a.on c) (set_pair a.free a.marked (a.set c) (a.value_set c) (all_pairs (o.set d)));
 }
 
 one_held : {event : EventValue} {part : Option Span} {e : Placed} → Holds event part (e ∷ []) → (e.event ≡ event) × (e.span ≡ part)
 one_held (here a b) = (a, b)
 one_held (there h) = elim h [ ]
+
+-- the node that is meant
+alike_of : {x : Node} {m : Meaning} {node : Node} → Meant x m → m.events ≡ flat node → Alike Anywhere x node
+alike_of {x} {node = node} b e =
+    let same : b.node ≡ node = (node_unique b.node node [] [] (append-nil (flat b.node) ∙ (sym b.events ∙ (e ∙ sym (append-nil (flat node)))))).0 in
+    subst (λ z. Alike Anywhere x z) same b.alike
 
 module _ {t : List ℕ} {s : Style} where
   -- Nodes.
@@ -194,8 +204,8 @@ module _ {t : List ℕ} {s : Style} where
   set_empty i = record { node = scalar (record { span = None; tag_offset = None; entry = None }) no_props Plain [] []; events = refl; set = λ c. set_line refl }
 
   -- a node on one line
-  pub set_flow : {m l q : ℕ} {below : Bool} {x : Meaning} (node : Node) → FlowMeant x → x.events ≡ flat node → SetMeant t s m l below q x
-  set_flow {x = x} node a e = record { node = node; events = e; set = λ c. set_line (blockless_of x node a e) }
+  pub set_flow : {m l q : ℕ} {below : Bool} {x : Meaning} (node : Node) → MeansFlow x → x.events ≡ flat node → SetMeant t s m l below q x
+  set_flow {x = x} node a e = record { node = node; events = e; set = λ c. set_line (blockless node (subst (λ z. AllFlow z) e a.all)) }
 
   -- a block scalar
   pub set_block : {m l q : ℕ} {below : Bool} {x : Meaning} {at : Standing} {props : PropsValue} {style : ScalarStyle} {text : List ℕ} {lines : List (List ℕ)} {node : Node} (body : List (List ℕ)) (z : List ℕ)
@@ -263,26 +273,22 @@ module _ {t : List ℕ} {s : Style} where
       }
 
   -- an explicit pair: a `?` stands at q
-  pub set_explicit : (m q k h : ℕ) (x y : Meaning) → code t q ≡ 63 → is_white_or_end (code t (q + 1)) ≡ true → SetSigned t s m q x → ColumnAt t m h → SetSigned t s m h y
+  pub set_explicit : {l : Node} (m q k h : ℕ) (x y : Meaning) → Meant l x → is_implicit s m l ≡ false → code t q ≡ 63 → is_white_or_end (code t (q + 1)) ≡ true → SetSigned t s m q x → ColumnAt t m h → SetSigned t s m h y
       → SetPair t s m q (entering q (Some k) x ⊕ y)
   unfolding entering ◌⊕◌
-  set_explicit m q k h x y sign white a d o =
+  set_explicit m q k h x y meant explicit sign white a d o =
       let entry : Entry = record { start = q; colon = Some k; blank_before = false } in
+      let no : is_implicit s m (entered entry a.node) ≡ false = sym (same_implicit s m (alike_entered entry (alike_of meant a.events))) ∙ explicit in
       record {
         key = entered entry a.node;
         value = o.node;
         events = ap (λ z. z ++ y.events) (ap (first_entering entry) a.events ∙ entered_events entry a.node) ∙ ap (λ z. flat (entered entry a.node) ++ z) o.events;
         on = λ c. record { entry = entry; is = entry_is entry a.node; column = c };
+        free = λ e. absurd (true≢false (sym e ∙ no));
+        marked = λ e. record { entry = entry; is = entry_is entry a.node; sign = sign; white = white };
         set = λ c. set_entered entry (a.set c);
-        value_set = λ c. inside (λ off block seq u. questioned (entry_is entry a.node) u) (o.set d);
-      } where
-        same_entry : {e g : Entry} → Some e ≡ Some g → e ≡ g
-        same_entry e = cc
-
-        questioned : {node : Node} → (standing node).entry ≡ Some (record { start = q; colon = Some k; blank_before = false }) → Unquestioned t node → ⊥
-        questioned e u =
-            let one : record { start = q; colon = Some k; blank_before = false } ≡ u.entry = same_entry (sym e ∙ u.is) in
-            u.none (ap (λ (w : Entry). code t w.start) (sym one) ∙ sign) (ap (λ (w : Entry). is_white_or_end (code t (w.start + 1))) (sym one) ∙ white)
+        value_set = λ c. subst (λ b. SetAt t s (if b then value_entries s m o.node else m + s.indent) (m + s.indent) o.node) (sym no) (o.set d);
+      }
 
   -- Values of implicit keys.
 
@@ -296,37 +302,21 @@ module _ {t : List ℕ} {s : Style} where
   pub done_empty : {m l : ℕ} (i : ℕ) (cs : List CommentValue) → SetDone t s m l (noting (empty_node i) cs).events
   done_empty {m} {l} i cs = set_done {q = i} {below = false} (λ e. absurd (true≢false (sym e))) (set_noting cs (set_empty i))
 
-  unblocked : {m n l : ℕ} {x : Node} → is_block_collection x ≡ false → SetAt t s m l x → SetAt t s n l x
-  unblocked e (set_line b) = set_line b
-  unblocked e (set_scalar f c) = set_scalar f c
-  unblocked e (set_sequence o a) = absurd (true≢false e)
-  unblocked e (set_mapping o a) = absurd (true≢false e)
-
-  set_value : (m : ℕ) (k v : Node) → Unquestioned t k → SetAt t s (if is_sequence v && not s.seq_indent then m else m + s.indent) (m + s.indent) v → SetValue t s (BlockAt t) m k v
-  set_value m k v u a = go (is_sequence v) s.seq_indent (is_block_collection v) refl refl refl a where
-    go : (b c d : Bool) → is_sequence v ≡ b → s.seq_indent ≡ c → is_block_collection v ≡ d → SetAt t s (if b && not c then m else m + s.indent) (m + s.indent) v → SetValue t s (BlockAt t) m k v
-    go true false true e f g a = beside f g e u a
-    go true false false e f g a = inside (λ off block seq w. true≢false (sym block ∙ g)) (unblocked g a)
-    go true true d e f g a = inside (λ off block seq w. true≢false (sym f ∙ off)) a
-    go false c d e f g a = inside (λ off block seq w. true≢false (sym seq ∙ e)) a
-
-  pub set_implicit : {other : Bool} (m q k : ℕ) (x y : Meaning) (node : Node) → FlowMeant x → x.events ≡ flat node → (code t q ≡ 63 → is_white_or_end (code t (q + 1)) ≡ true → ⊥)
-      → (a : SetDone t s (if other && not s.seq_indent then m else m + s.indent) (m + s.indent) y.events) → is_sequence a.node ≡ other → SetPair t s m q (entering q (Some k) x ⊕ y)
+  pub set_implicit : {l v : Node} (m q k : ℕ) (x y : Meaning) (node : Node) → Alike Anywhere l node → is_implicit s m l ≡ true → MeansFlow x → x.events ≡ flat node
+      → (code t q ≡ 63 → is_white_or_end (code t (q + 1)) ≡ true → ⊥) → Meant v y → SetDone t s (value_entries s m v) (m + s.indent) y.events → SetPair t s m q (entering q (Some k) x ⊕ y)
   unfolding entering ◌⊕◌
-  set_implicit {other = other} m q k x y node b e none a same =
+  set_implicit {v = v} m q k x y node alike implicit b e none meant a =
       let entry : Entry = record { start = q; colon = Some k; blank_before = false } in
+      let yes : is_implicit s m (entered entry node) ≡ true = sym (same_implicit s m (alike_entered entry alike)) ∙ implicit in
+      let kind : is_sequence v ≡ is_sequence a.node = same_sequence (alike_of meant a.events) in
       record {
         key = entered entry node;
         value = a.node;
         events = ap (λ z. z ++ y.events) (ap (first_entering entry) e ∙ entered_events entry node) ∙ ap (λ z. flat (entered entry node) ++ z) a.events;
         on = λ c. record { entry = entry; is = entry_is entry node; column = c };
-        set = λ c. set_line (blockless_entered entry node (blockless_of x node b e));
-        value_set = λ c. set_value m (entered entry node) a.node (record { entry = entry; is = entry_is entry node; none = none })
-            (subst (λ z. SetAt t s (if z && not s.seq_indent then m else m + s.indent) (m + s.indent) a.node) (sym same) a.set);
+        free = λ f. record { entry = entry; is = entry_is entry node; none = none };
+        marked = λ f. absurd (true≢false (sym yes ∙ f));
+        set = λ c. set_line (blockless_entered entry node (blockless node (subst (λ z. AllFlow z) e b.all)));
+        value_set = λ c. subst (λ z. SetAt t s (if z then value_entries s m a.node else m + s.indent) (m + s.indent) a.node) (sym yes)
+            (subst (λ z. SetAt t s (if z && not s.seq_indent then m else m + s.indent) (m + s.indent) a.node) kind a.set);
       }
-
-  -- the node is a sequence where one was laid out
-  pub kind_of : {m l : ℕ} {y : Meaning} {v : Node} → Meant v y → (a : SetDone t s m l y.events) → is_sequence a.node ≡ is_sequence v
-  kind_of {v = v} b a =
-      let same : b.node ≡ a.node = (node_unique b.node a.node [] [] (append-nil (flat b.node) ∙ (sym b.events ∙ (a.events ∙ sym (append-nil (flat a.node)))))).0 in
-      sym (same_sequence b.alike ∙ ap is_sequence same)

@@ -1,5 +1,5 @@
 -- A stream of documents from its rows.
-use Rattle.std.proofs.Common.{◌≡◌, ℕ, ◌+◌, max, ◌<◌, ◌≤◌, Bool, true, false, List, [], ◌∷◌, ◌++◌, length, map, flat_map, inl, codes, drop, Option, refl, sym, ap, ◌∙◌, subst, arith, append_assoc, length-drop}
+use Rattle.std.proofs.Common.{◌≡◌, ℕ, ◌+◌, max, ◌<◌, ◌≤◌, Bool, true, false, List, [], ◌∷◌, ◌++◌, length, map, inl, codes, drop, Option, refl, sym, ap, ◌∙◌, subst, arith, append_assoc, length-drop}
 use Rattle.std.specs.Prelude.{is_some}
 use Rattle.std.specs.Str.{IsUtf8}
 use Rattle.yf_chars.specs.Chain.{Chain}
@@ -34,10 +34,11 @@ use Rattle.yf_emit.specs.Rows.{Row, plain_row, directive_row, start_row, end_row
 use Rattle.yf_emit.specs.Steps.{Step, comment_steps, steps_in}
 use Rattle.yf_emit.proofs.DecoratedLemmas.{lines_append}
 use Rattle.yf_emit.proofs.DocumentsBegun.{comments_begun, document_begun, documents_begun, explicit_begun, starts_in}
+use Rattle.yf_emit.proofs.DocumentsHeld.{all_events, comments_set, documents_held, held_events}
 use Rattle.yf_emit.proofs.DocumentsMade.{ExplicitMade, explicit_made, directives_made, three_at, three_behind}
 use Rattle.yf_emit.proofs.FoundNodes.{meant_of}
 use Rattle.yf_emit.proofs.FoundStreams.{FoundDocument, FoundDocuments, no_documents_found, found_document, StreamIn, no_stream, document_begins, stream_more, comments_with_document, comments_with_comments, documents_with_comments, found_with}
-use Rattle.yf_emit.proofs.HeldLemmas.{BodiesHeld, EventsHeld, bare_row, bodies_append, bodies_more, holds_left, holds_right, row_ended}
+use Rattle.yf_emit.proofs.HeldLemmas.{BodiesHeld, EventsHeld, bare_row, bodies_append, row_ended}
 use Rattle.yf_emit.proofs.LaidRows.{steps_append}
 use Rattle.yf_emit.proofs.NoStarts.{no_start_on, directives_none, quiet_steps, rows_none, with_append}
 use Rattle.yf_emit.proofs.PlacedRows.{none_inside, PlacedRow, RowsIn, row_before, rows_in_append}
@@ -48,32 +49,7 @@ use Rattle.yf_emit.proofs.SetStreams.{SetAll, none_set, some_set, document_set, 
 use Rattle.yf_emit.proofs.StepsStand.{Stand, nothing_stands, stand_after, stand_join, comments_stand, EventsLaid, events_behind}
 use Rattle.yf_emit.proofs.TreesMade.{node_claim}
 use Rattle.yf_emit.proofs.StreamParts.{meant_document, texts_with_document, documents_with, texts_with_comments, same_documents, laid_document, DocumentsLaid, no_documents_laid, laid_with_comments, documents_laid}
-use Rattle.yf_emit.proofs.WellSet.{AllSet, lines_set, set_append}
-
--- What is held.
-
-held_events : (t : List ℕ) (m : Meaning) (rs : List Row) (ds : List Deco) (r : List ℕ) (s : ℕ) (dirs : List Directive) → BodiesHeld t m.events rs ds r → BodiesHeld t (document_of s true dirs m).events rs ds r
-unfolding document_of
-held_events t m rs ds r s dirs a = a
-
--- the events of all documents
-abbrev pub all_events : List Document → List Placed
-all_events ds = flat_map (λ (d : Document). d.events) ds
-
-comments_set : (t : List ℕ) (cs : List CommentValue) → AllSet t cs → AllSet t (with_comments cs (only_comments [])).comments
-unfolding with_comments
-comments_set t cs a = set_append t cs [] a tt
-
-documents_held : {t : List ℕ} (cs : List CommentValue) (d : Document) (rest : Documents) (xs ys : List Row) (ds : List Deco) → EventsHeld t d.events cs xs ds (lines_then ys (past xs ds) [])
-    → EventsHeld t (all_events rest.documents) rest.comments ys (past xs ds) []
-    → EventsHeld t (all_events (with_document cs d rest).documents) (with_document cs d rest).comments (xs ++ ys) ds []
-unfolding with_document
-documents_held {t} cs d rest xs ys ds a b = record {
-  comments = set_append t cs rest.comments a.comments b.comments;
-  bodies = bodies_append t (d.events ++ all_events rest.documents) xs ys ds []
-      (bodies_more t d.events (d.events ++ all_events rest.documents) xs ds (lines_then ys (past xs ds) []) (λ event part h. holds_left (all_events rest.documents) h) a.bodies)
-      (bodies_more t (all_events rest.documents) (d.events ++ all_events rest.documents) ys (past xs ds) [] (λ event part h. holds_right d.events h) b.bodies);
-}
+use Rattle.yf_emit.proofs.WellSet.{lines_set, set_append}
 
 -- Rows of directives, and of the node after them.
 

@@ -1,11 +1,11 @@
 -- Comments that are well set: each stands after white space at the start of a line, or two spaces after another character.
-use Rattle.std.proofs.Common.{◌≡◌, ◌≢◌, ℕ, ℤ, zero, suc, ◌+◌, ◌-◌, ◌<◌, ◌≤◌, ◌⊎◌, inl, inr, ⊎_elim, Bool, true, false, true≢false, List, [], ◌∷◌, ◌++◌, length, refl, sym, ap, ◌∙◌, subst, arith}
+use Rattle.std.proofs.Common.{◌≡◌, ◌≢◌, ℕ, ◌+◌, ◌-◌, ◌<◌, ◌⊎◌, inl, inr, ⊎_elim, Bool, true, false, true≢false, List, [], ◌∷◌, ◌++◌, length, refl, sym, ap, ◌∙◌, subst, arith}
 use Rattle.std.specs.Str.{IsUtf8}
 use Rattle.yf_chars.specs.Chain.{Chain, Many}
 use Rattle.yf_chars.specs.Chain.Chain.{done, step}
 use Rattle.yf_chars.specs.Chain.One.{one}
-use Rattle.yf_chars.specs.Class.{is_ns_char, is_white}
-use Rattle.yf_chars.specs.Text.{code, before, no_char}
+use Rattle.yf_chars.specs.Class.{is_white}
+use Rattle.yf_chars.specs.Text.{code, before}
 use Rattle.yf_chars.proofs.ChainLemmas.{many_unique}
 use Rattle.yf_chars.proofs.TextLemmas.{within_from_code}
 use Rattle.yf_lines.specs.Basic.{LineStart, SeparateInLine, Spaces}
@@ -21,12 +21,10 @@ use Rattle.yf_comments.specs.Comments.CommentLine.{whites_line, comment_line}
 use Rattle.yf_comments.specs.Comments.CommentText.{comment_text}
 use Rattle.yf_comments.specs.Comments.LineEnd.{past_rest, from_start}
 use Rattle.yf_comments.specs.Comments.LineRest.{nothing, whites, comment}
-use Rattle.yf_comments.specs.GapLines.{IsRemark}
 use Rattle.yf_comments.proofs.GapLinesLemmas.{spaces_whites}
 use Rattle.yf_plain.proofs.PlainLemmas.{ns_not_white}
 use Rattle.yf_grammar.proofs.BlankRuns.{Behind, no_start_behind}
 use Rattle.yf_grammar.proofs.BlockEnds.{LineOrEnd}
-use Rattle.yf_grammar.proofs.Forward.{in_line_forward}
 use Rattle.yf_emit.specs.Carried.{AreTrails, IsDeco}
 use Rattle.yf_emit.specs.Decorated.{Deco, trails_then, end_then, body_then, gap_then}
 

@@ -136,7 +136,6 @@ pub mod FlowBack
 pub mod PairsBack
 pub mod PlainUnmarked
 pub mod ScalarPlaced
-pub mod FlowEvents
 pub mod KeptNodes
 -- the laws of the readers of nodes, as the crates above use them
 pub mod LawsHold

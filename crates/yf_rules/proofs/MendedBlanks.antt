@@ -1,10 +1,8 @@
 -- In what formatting gives, no line ends with white space but the content lines of block scalars.
-use Rattle.std.proofs.Common.{◌≡◌, ◌≢◌, ℕ, ◌+◌, ◌-◌, ◌<◌, ◌≤◌, ⊎_elim, Bool, true, false, true≢false, List, [], ◌∷◌, ◌++◌, length, drop, Some, refl, sym, ap, ◌∙◌, subst, arith}
+use Rattle.std.proofs.Common.{◌≡◌, ◌≢◌, ℕ, ◌+◌, ◌-◌, ◌<◌, ◌≤◌, ⊎_elim, true, true≢false, List, [], ◌++◌, length, Some, refl, sym, ap, ◌∙◌, subst, arith}
 use Rattle.std.specs.Prelude.{slice_get}
 use Rattle.std.specs.Str.{IsUtf8}
 use Rattle.std.proofs.lemmas.Bool.{cases_lt}
-use Rattle.yf_chars.specs.Class.{is_white}
-use Rattle.yf_chars.specs.Text.{code}
 use Rattle.yf_lines.specs.Lines.{AreLines, IsLine, Table}
 use Rattle.yf_lines.specs.declared.line.Line.{Line}
 use Rattle.yf_lines.proofs.TableLemmas.{table_line}
@@ -15,18 +13,17 @@ use Rattle.yf_emit.specs.BlockLines.{block_lines, content_lines, tail_lines}
 use Rattle.yf_emit.specs.Fits.{is_block_style as is_block}
 use Rattle.yf_emit.specs.declared.style.Style.{Style}
 use Rattle.yf_emit.proofs.LaidLines.{LineIs, LinesAre}
-use Rattle.yf_emit.proofs.LinedRows.{InScalar, Sort, between_rows, ends_seen, in_scalar}
-use Rattle.yf_rules.specs.ByLine.{BlankEnd, TrailingBlank}
+use Rattle.yf_emit.proofs.LineSorts.{InScalar, Sort, between_rows, ends_seen, in_scalar, got_drop}
+use Rattle.yf_rules.specs.ByLine.{TrailingBlank}
 use Rattle.yf_rules.specs.ByLine.BlankEnd.{at_line_end}
 use Rattle.yf_rules.specs.ByLine.TrailingBlank.{trailing}
 use Rattle.yf_rules.specs.Mended.{FormatsAreMended, IsFormatted}
 use Rattle.yf_rules.specs.Rules.{trailing_blanks}
-use Rattle.yf_rules.specs.Scalars.{BlockContent, ContentLine, InBlock, head_count, is_block_style}
+use Rattle.yf_rules.specs.Scalars.{ContentLine, head_count, is_block_style}
 use Rattle.yf_rules.specs.Scalars.ContentLine.{of_block}
-use Rattle.yf_rules.specs.Whites.{WhitesEnd}
 use Rattle.yf_rules.proofs.MendedContents.{first_content, line_long}
 use Rattle.yf_rules.proofs.MendedLines.{exactly_none}
-use Rattle.yf_rules.proofs.MendedScalars.{got_drop, line_of_scalar}
+use Rattle.yf_rules.proofs.MendedScalars.{line_of_scalar}
 use Rattle.yf_rules.proofs.MendedSorts.{sorted_line}
 use Rattle.yf_rules.proofs.WhitesLemmas.{white_within}
 
@@ -73,7 +70,7 @@ none_trailing {src} {r} w k o (trailing (at_line_end {l = l} e whites short) n) 
       some_text x is m z = let end = is.end in let long : length x ≡ 0 = ap length z in omega (arith, end, m, long)
 
       by : IsUtf8 src.text → (x : List ℕ) → LineIs src.text l x → Sort src.text r.events src.lines k l x → l.start < l.end → ⊥
-      by u x is (between_rows z) m = some_text x is m z
+      by u x is (between_rows z before after) m = some_text x is m z
       by u x is (ends_seen v h) m = true≢false (sym (white_within (l.end - 1) whites.run (omega (arith, short)) (omega (arith, m))) ∙ v)
       by u x is (in_scalar b) m = let c = content_line src r k l x u w.lines e is (some_text x is m) b in n c.0 c.1
 

@@ -1,17 +1,17 @@
 -- The lines of a block scalar of a layout, by its text: so many are empty before the first one with content, which is indented by the column and by the spaces that the
 -- text begins with.
-use Rattle.std.proofs.Common.{◌≡◌, ◌≢◌, ℕ, zero, suc, ◌+◌, ◌-◌, ◌<◌, ◌≤◌, ◌⊎◌, inl, inr, ⊎_elim, Bool, true, false, List, [], ◌∷◌, ◌++◌, length, drop, map, replicate, get_or, get_or-drop, Some, refl, sym, ap, ◌∙◌, subst, arith, append_assoc, length-append}
-use Rattle.std.specs.Prelude.{slice_get, ◌==◌, ◌||◌, if◌then◌else◌}
+use Rattle.std.proofs.Common.{◌≡◌, ◌≢◌, ℕ, zero, suc, ◌+◌, ◌-◌, ◌<◌, ◌≤◌, ◌⊎◌, ⊎_elim, Bool, true, false, List, [], ◌∷◌, ◌++◌, length, drop, map, replicate, get_or, get_or-drop, Some, refl, sym, ap, ◌∙◌, subst, arith, append_assoc, length-append}
+use Rattle.std.specs.Prelude.{slice_get, ◌==◌, if◌then◌else◌}
 use Rattle.std.specs.Str.{IsUtf8}
 use Rattle.std.proofs.lemmas.Bool.{cases_eq, cases_lt, ne_eqb}
 use Rattle.yf_chars.specs.Class.{is_between, is_break_char, is_nb_char, is_printable, is_white}
 use Rattle.yf_chars.specs.Text.{code}
-use Rattle.yf_chars.proofs.TextLemmas.{byte_from_code, reads_ascii}
+use Rattle.yf_chars.proofs.TextLemmas.{byte_from_code}
 use Rattle.yf_lines.specs.Basic.{Spaces}
 use Rattle.yf_lines.specs.Lines.{IsLine, Indented}
 use Rattle.yf_lines.specs.declared.line.Line.{Line}
 use Rattle.yf_lines.proofs.RestLemmas.{Rest, rest_ascii, rest_spaces}
-use Rattle.yf_block_scalar.specs.Content.{content_of, ending, feeds, folded, folded_behind, joint, literal, literal_behind}
+use Rattle.yf_block_scalar.specs.Content.{content_of, ending, feeds, folded, folded_behind, literal, literal_behind}
 use Rattle.yf_block_scalar.specs.Written.{EndsWithContent}
 use Rattle.yf_block_scalar.specs.declared.header.Chomp.{Chomp}
 use Rattle.yf_block_scalar.specs.declared.header.Chomp.TheVariants.{Strip, Clip, Keep}

@@ -10,14 +10,14 @@ use Rattle.yf_events.specs.declared.event.ScalarStyle.{ScalarStyle}
 use Rattle.yf_events.specs.declared.event.ScalarStyle.TheVariants.{Plain, Single, Double, Literal, Folded}
 use Rattle.yf_events.specs.declared.event.Span.{Span}
 use Rattle.yf_events.specs.Tree.{Node, scalar, alias, sequence, mapping, Items, no_items, item, Pairs, no_pairs, pair, DocumentTree, flat, flat_document, is_block_collection, is_sequence, standing}
-use Rattle.yf_grammar.proofs.FlowEvents.{Blockless, BlocklessItems, BlocklessPairs, is_line_style}
 use Rattle.yf_emit.specs.ContentStart.{content_start}
+use Rattle.yf_emit.specs.Fits.{is_block_style as is_block}
 use Rattle.yf_emit.specs.declared.style.Style.{Style}
 use Rattle.yf_emit.proofs.FormattedLines.{formed, formed_are}
 use Rattle.yf_emit.proofs.FormattedSet.{reading_set}
 use Rattle.yf_emit.proofs.LaidLines.{line_text}
 use Rattle.yf_emit.proofs.SetMeant.{BlockAt}
-use Rattle.yf_emit.proofs.SetNodes.{ColumnAt, EntryOn, SetDocuments, no_set_documents, set_document, SetItems, no_set_items, set_item, SetNode, set_line, set_scalar, set_sequence, set_mapping, SetPairs, no_set_pairs, set_pair, SetValue, beside, inside, Unquestioned}
+use Rattle.yf_emit.proofs.SetNodes.{Blockless, BlocklessItems, BlocklessPairs, ColumnAt, EntryOn, SetDocuments, no_set_documents, set_document, SetItems, no_set_items, set_item, SetNode, set_line, set_scalar, set_sequence, set_mapping, SetPairs, no_set_pairs, set_pair, SetValue, beside, inside, Unquestioned, value_set as value_here}
 use Rattle.yf_rules.specs.Indents.{EntriesAt, ImplicitValue, Misindented, WantedColumn, WantedIndent, WithoutMark}
 use Rattle.yf_rules.specs.Indents.EntriesAt.{at_first}
 use Rattle.yf_rules.specs.Indents.Misindented.{entries, content}
@@ -44,12 +44,12 @@ same_entry e = cc
 second_same : {i j : ℕ} {x y : Node} → ◌≡◌ {A = Numbered} (i, x) (j, y) → x ≡ y
 second_same e = ap (λ (p : Numbered). p.1) e
 
-not_line : (style : ScalarStyle) → is_block_style style ≡ true → is_line_style style ≡ true → ⊥
-not_line Plain e f = true≢false (sym e)
-not_line Single e f = true≢false (sym e)
-not_line Double e f = true≢false (sym e)
-not_line Literal e f = true≢false (sym f)
-not_line Folded e f = true≢false (sym f)
+block_there : (style : ScalarStyle) → is_block_style style ≡ true → is_block style ≡ true
+block_there Plain e = e
+block_there Single e = e
+block_there Double e = e
+block_there Literal e = e
+block_there Folded e = e
 
 -- Nodes on one line.
 
@@ -126,7 +126,7 @@ module _ (src : Table) (s : Style) (trees : List DocumentTree) (Content : ℕ �
 
   key_set : {m : ℕ} (i : ℕ) (ps : Pairs) (k v : Numbered) → SetPairs src.text s Content m ps → Contains (pairs_from i ps) (k, v) → SetAt (m + s.indent) (m + s.indent) k.1
   key_set i no_pairs k v no_set_pairs q = absurd (nothing_in (k, v) q)
-  key_set {m} i (pair x y ps) k v (set_pair a b more) q =
+  key_set {m} i (pair x y ps) k v (set_pair free marked a b more) q =
       let j = i + length (flat x) in
       ⊎_elim (λ (e : ◌≡◌ {A = NumberedPair} ((i, x), (j, y)) (k, v)). subst (λ z. SetAt (m + s.indent) (m + s.indent) z) (ap (λ (p : NumberedPair). p.0.1) e) a)
       (λ (l : Contains (pairs_from (j + length (flat y)) ps) (k, v)). key_set (j + length (flat y)) ps k v more l)
@@ -134,10 +134,10 @@ module _ (src : Table) (s : Style) (trees : List DocumentTree) (Content : ℕ �
 
   value_set : {m : ℕ} (i : ℕ) (ps : Pairs) (k v : Numbered) → SetPairs src.text s Content m ps → Contains (pairs_from i ps) (k, v) → SetValue src.text s Content m k.1 v.1
   value_set i no_pairs k v no_set_pairs q = absurd (nothing_in (k, v) q)
-  value_set {m} i (pair x y ps) k v (set_pair a b more) q =
+  value_set {m} i (pair x y ps) k v (set_pair free marked a b more) q =
       let j = i + length (flat x) in
       ⊎_elim (λ (e : ◌≡◌ {A = NumberedPair} ((i, x), (j, y)) (k, v)).
-      subst (λ z. SetValue src.text s Content m k.1 z) (ap (λ (p : NumberedPair). p.1.1) e) (subst (λ z. SetValue src.text s Content m z y) (ap (λ (p : NumberedPair). p.0.1) e) b))
+      subst (λ z. SetValue src.text s Content m k.1 z) (ap (λ (p : NumberedPair). p.1.1) e) (subst (λ z. SetValue src.text s Content m z y) (ap (λ (p : NumberedPair). p.0.1) e) (value_here free marked b)))
       (λ (l : Contains (pairs_from (j + length (flat y)) ps) (k, v)). value_set (j + length (flat y)) ps k v more l)
       (head_or_later ((i, x), (j, y)) (pairs_from (j + length (flat y)) ps) (k, v) q)
 
@@ -245,7 +245,7 @@ module _ (src : Table) (s : Style) (trees : List DocumentTree) (Content : ℕ �
         → x ≡ scalar (standing x) props style text lines → (standing x).span ≡ Some span → is_block_style style ≡ true → Begun src.lines (content_start src.text span props) behind
         → BlockContent src.lines text behind first indent → indent ≡ l
     content_at x {style = style} (set_line b) e f block begun c =
-        absurd (not_line style block (subst (λ z. Blockless z) e b))
+        absurd (true≢false (sym (block_there style block) ∙ subst (λ z. Blockless z) e b))
     content_at {l = l} x {props = props} {style = style} {text = text} {lines = lines} {span = span} {behind = behind} {first = first} {indent = indent} (set_scalar g a) e f block begun c =
         stands l x props style text lines span behind first indent a e f begun c
     content_at x (set_sequence o a) e f block begun c = absurd cc

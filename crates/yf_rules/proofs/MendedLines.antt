@@ -1,11 +1,10 @@
 -- In what formatting gives, line breaks are line feeds, the last line ends with one, and no byte order mark stands.
-use Rattle.std.proofs.Common.{◌≡◌, ◌≢◌, ℕ, ◌+◌, ◌<◌, ◌≤◌, ◌⊎◌, inl, inr, ⊎_elim, Bool, true, false, List, [], ◌∷◌, length, refl, sym, ap, ◌∙◌, subst, arith}
+use Rattle.std.proofs.Common.{◌≡◌, ℕ, ◌<◌, ◌≤◌, ◌⊎◌, inl, inr, ⊎_elim, false, List, [], ◌∷◌, length, refl, sym, ap, ◌∙◌, subst, arith}
 use Rattle.std.specs.Prelude.{◌==◌, if◌then◌else◌}
-use Rattle.std.specs.List.{Contains}
 use Rattle.std.specs.Str.{IsUtf8}
 use Rattle.std.proofs.lemmas.Bool.{cases_lt}
 use Rattle.yf_chars.specs.Class.{is_break_char, is_nb_char, is_printable, is_between}
-use Rattle.yf_chars.specs.Text.{code, no_char}
+use Rattle.yf_chars.specs.Text.{code}
 use Rattle.yf_chars.proofs.TextLemmas.{within_from_code}
 use Rattle.yf_lines.specs.Basic.{Break}
 use Rattle.yf_lines.specs.declared.line.Line.{Line}
@@ -13,7 +12,7 @@ use Rattle.yf_lines.specs.Lines.{Table}
 use Rattle.yf_lines.proofs.TableLemmas.{Follow, follow, line_of}
 use Rattle.yf_events.specs.declared.lists.Lists.{Lists}
 use Rattle.yf_emit.specs.declared.style.Style.{Style}
-use Rattle.yf_emit.proofs.FormattedLines.{Formed, formed, formed_are, formed_lines}
+use Rattle.yf_emit.proofs.FormattedLines.{formed, formed_are, formed_lines}
 use Rattle.yf_emit.proofs.LaidLines.{LinesAre, no_lines, more_lines, line_break, line_char, line_feed, line_text, nb_no}
 use Rattle.yf_rules.specs.Exact.{Exactly}
 use Rattle.yf_rules.specs.Mended.{FormatsAreMended, IsFormatted}

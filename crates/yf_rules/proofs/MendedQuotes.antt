@@ -1,19 +1,17 @@
 -- In what formatting gives, each scalar has the style of the house.
-use Rattle.std.proofs.Common.{◌≡◌, ℕ, zero, suc, Bool, List, [], ◌∷◌, map, Some, refl, sym, ap, ◌∙◌, subst}
+use Rattle.std.proofs.Common.{◌≡◌, ℕ, zero, suc, Bool, List, [], ◌∷◌, Some, sym, subst}
 use Rattle.std.specs.Prelude.{slice_get}
 use Rattle.yf_lines.specs.declared.quotes.Quotes.{Quotes}
 use Rattle.yf_events.specs.Event.{EventValue, Placed, stream_starts, stream_ends, document_starts, document_ends, sequence_starts, sequence_ends, mapping_starts, mapping_ends, scalar_node, alias_node}
-use Rattle.yf_events.specs.declared.event.ScalarStyle.{ScalarStyle}
 use Rattle.yf_events.specs.declared.lists.Lists.{Lists}
-use Rattle.yf_props.specs.Props.{PropsValue}
 use Rattle.yf_stream.proofs.BreachLemmas.{values}
 use Rattle.yf_emit.specs.Restyled.{Restyled, none_left, one_more, restyled_event}
-use Rattle.yf_emit.specs.Wanted.{wanted, wanted_of_event}
+use Rattle.yf_emit.specs.Wanted.{wanted}
 use Rattle.yf_emit.specs.declared.style.Style.{Style}
 use Rattle.yf_emit.proofs.NormalRestyled.{normal_restyled}
 use Rattle.yf_emit.proofs.SameContent.{bare, formats_values, unmarked, unmarked_value}
 use Rattle.yf_emit.proofs.WantedLemmas.{wanted_stays}
-use Rattle.yf_rules.specs.Mended.{FormatsAreMended, IsFormatted}
+use Rattle.yf_rules.specs.Mended.{FormatsAreMended}
 use Rattle.yf_rules.specs.Rules.{quoting}
 use Rattle.yf_rules.specs.Styles.{Misquoted}
 use Rattle.yf_rules.specs.Styles.Misquoted.{other_style}

@@ -31,27 +31,23 @@ use Rattle.yf_rules.proofs.MendedScalars.{follow_drop, got_drop}
 
 -- Lines that are read from a place on.
 
-body_there : {t : List ℕ} {xs : List (List ℕ)} (ls : List Line) {q : ℕ} (z : List ℕ) → IsUtf8 t → AreTexts xs → Follow t q (length t) ls → Rest t q (body_then xs z) → (i : ℕ) (x : List ℕ) → slice_get xs i ≡ Some x
-    → LineThere t ls i x
-body_there ls z u no_line f s i x e = absurd cc
-body_there [] z u (line_more {x = y} {xs = ys} a more) f s i x e = absurd (let l = before_text_end y (body_then ys z) s in omega (arith, l, f))
-body_there {t} (l ∷ ls) {q} z u (line_more {x = y} {xs = ys} a more) f s i x e = go i e where
-  here : Rest t l.start (y ++ (10 ∷ body_then ys z))
-  here = subst (λ k. Rest t k (y ++ (10 ∷ body_then ys z))) (sym f.0) s
-
-  is : LineIs t l y
-  is = (line_is l y (body_then ys z) u a f.1 here).0
-
+line_here : {t : List ℕ} {l : Line} {ls : List Line} {y : List ℕ} {ys : List (List ℕ)} (x : List ℕ) → LineIs t l y → ((i : ℕ) → slice_get ys i ≡ Some x → LineThere t ls i x) → (i : ℕ) → slice_get (y ∷ ys) i ≡ Some x
+    → LineThere t (l ∷ ls) i x
+line_here {t} {l} {ls} x is later zero e = subst (λ w. LineThere t (l ∷ ls) 0 w) (same e) (record { line = l; at = refl; is = is }) where
   same : {v w : List ℕ} → Some v ≡ Some w → v ≡ w
   same e = cc
+line_here x is later (suc i) e = let r = later i e in record { line = r.line; at = r.at; is = r.is }
 
-  go : (i : ℕ) → slice_get (y ∷ ys) i ≡ Some x → LineThere t (l ∷ ls) i x
-  go zero e = subst (λ w. LineThere t (l ∷ ls) 0 w) (same e) (record { line = l; at = refl; is = is })
-  go (suc i) e =
-      let end = rest_break u (rest_text y u a here).rest in
-      let there : l.start + length y + 1 ≡ l.next = sym (is.next ∙ ap (λ k. k + 1) is.end) in
-      let r = body_there ls z u more f.2 (subst (λ k. Rest t k (body_then ys z)) there end.1) i x e in
-      record { line = r.line; at = r.at; is = r.is }
+body_there : {t : List ℕ} {xs : List (List ℕ)} (ls : List Line) {q : ℕ} (z : List ℕ) → IsUtf8 t → AreTexts xs → Follow t q (length t) ls → Rest t q (body_then xs z) → (x : List ℕ) (i : ℕ) → slice_get xs i ≡ Some x
+    → LineThere t ls i x
+body_there ls z u no_line f s x i e = absurd cc
+body_there [] z u (line_more {x = y} {xs = ys} a more) f s x i e = absurd (let l = before_text_end y (body_then ys z) s in omega (arith, l, f))
+body_there {t} (l ∷ ls) {q} z u (line_more {x = y} {xs = ys} a more) f s x i e =
+    let here : Rest t l.start (y ++ (10 ∷ body_then ys z)) = subst (λ k. Rest t k (y ++ (10 ∷ body_then ys z))) (sym f.0) s in
+    let is : LineIs t l y = (line_is l y (body_then ys z) u a f.1 here).0 in
+    let end = rest_break u (rest_text y u a here).rest in
+    let there : l.start + length y + 1 ≡ l.next = sym (is.next ∙ ap (λ k. k + 1) is.end) in
+    line_here x is (λ i e. body_there ls z u more f.2 (subst (λ k. Rest t k (body_then ys z)) there end.1) x i e) i e
 
 some_body : (t : List ℕ) (q : ℕ) (xs : List (List ℕ)) (z : List ℕ) → xs ≢ [] → Rest t q (body_then xs z) → q < length t
 some_body t q [] z n s = absurd (n refl)
@@ -64,6 +60,13 @@ module _ (src : Table) (u : IsUtf8 src.text) (are : AreLines src.text src.lines)
     line : Line
     at : slice_get src.lines behind ≡ Some line
     start : line.start ≡ place
+
+  starts_before : (i : ℕ) (o : Line) → slice_get src.lines i ≡ Some o → (k : ℕ) (l : Line) → slice_get src.lines k ≡ Some l → i < k → o.start < l.start
+  starts_before i o e k l f n =
+      let order = line_before src.text src.lines 0 (length src.text) i k o l (follow are) e f n in
+      let made = (table_line src.text src.lines i o are e).order in
+      let far = order.0 in
+      omega (arith, far, made)
 
   first_line : {event : EventValue} {part : Option Span} {column : ℕ} {body : List (List ℕ)} {z : List ℕ} (a : ScalarAt src.text event part column body z) → a.place < length src.text → (behind : ℕ)
       → Begun src.lines a.head behind → FirstLine a.place behind
@@ -92,22 +95,13 @@ module _ (src : Table) (u : IsUtf8 src.text) (are : AreLines src.text src.lines)
           let other : Line = get_or src.lines behind l in
           let there : slice_get src.lines behind ≡ Some other = slice_get-get_or src.lines behind l (omega (arith, size, n)) in
           let after = begun.behind behind other there (omega arith) in
-          let order = line_before src.text src.lines 0 (length src.text) behind k other l (follow are) there e n in
-          let made = (table_line src.text src.lines behind other are there).order in
-          let far = order.0 in
-          a.quiet other.start after (apart behind other there k l e n start) (table_start src.text src.lines behind other are there)
-
-      apart : (i : ℕ) (o : Line) → slice_get src.lines i ≡ Some o → (k : ℕ) (l : Line) → slice_get src.lines k ≡ Some l → i < k → l.start ≡ a.place → o.start < a.place
-      apart i o e k l f n start =
-          let order = line_before src.text src.lines 0 (length src.text) i k o l (follow are) e f n in
-          let made = (table_line src.text src.lines i o are e).order in
-          let far = order.0 in
-          omega (arith, far, made, start)
+          let sooner = starts_before behind other there k l e n in
+          a.quiet other.start after (omega (arith, sooner, start)) (table_start src.text src.lines behind other are there)
 
   -- Its content.
-  indent_at : {event : EventValue} {part : Option Span} {column : ℕ} {body : List (List ℕ)} {z : List ℕ} (a : ScalarAt src.text event part column body (body_then body z)) → 0 < column → (behind first indent : ℕ)
+  indent_at : {event : EventValue} {part : Option Span} {column : ℕ} {body : List (List ℕ)} (z : List ℕ) (a : ScalarAt src.text event part column body (body_then body z)) → 0 < column → (behind first indent : ℕ)
       → Begun src.lines a.head behind → BlockContent src.lines a.text behind first indent → indent ≡ column
-  indent_at {column = column} {body = body} {z = z} a deep behind first indent begun c =
+  indent_at {column = column} {body = body} z a deep behind first indent begun c =
       let tail : ℕ = final_feeds a.text - 1 in
       let texts : AreTexts body = subst (λ b. AreTexts b) (sym a.are) (body_lines (body_texts column tail (content_lines a.style a.text a.lines) deep a.fit.texts)) in
       let some : body ≢ [] = λ e. body_some column tail (content_lines a.style a.text a.lines) a.fit.last (sym a.are ∙ e) in
@@ -117,7 +111,7 @@ module _ (src : Table) (u : IsUtf8 src.text) (are : AreLines src.text src.lines)
       subst (λ k. Follow src.text k (length src.text) (drop behind src.lines)) l.start (subst (λ w. Follow src.text l.line.start (length src.text) w) (sym got.1) (follow_drop src.text behind 0 (length src.text) src.lines l.line got.0 (follow are) got.1)) in
       let made : (i : ℕ) (m : Line) → slice_get (drop behind src.lines) i ≡ Some m → IsLine src.text m =
       λ i m g. table_line src.text src.lines (behind + i) m are (sym (got_drop behind i src.lines) ∙ g) in
-      let found = first_content_of {lines = a.lines} column u made a.fit (λ i x g. body_there (drop behind src.lines) z u texts flow a.rest i x (subst (λ b. slice_get b i ≡ Some x) (sym a.are) g)) in
+      let found = first_content_of {lines = a.lines} column u made a.fit (λ i x g. body_there (drop behind src.lines) z u texts flow a.rest x i (subst (λ b. slice_get b i ≡ Some x) (sym a.are) g)) in
       let number : behind + found.number ≡ first = ap (λ k. behind + k) (sym found.is) ∙ sym c.empty in
       let there : slice_get src.lines first ≡ Some found.line = ap (λ k. slice_get src.lines k) (sym number) ∙ (sym (got_drop behind found.number src.lines) ∙ found.at) in
       let one : c.line ≡ found.line = some_same (sym c.at ∙ there) in
@@ -144,7 +138,7 @@ module _ (src : Table) (u : IsUtf8 src.text) (are : AreLines src.text src.lines)
       let props_are : a.props ≡ props = cc in
       let text_is : a.text ≡ text = cc in
       let head : content_start src.text span props ≡ a.head = ap (λ v. content_start src.text v props) (sym one) ∙ (ap (λ v. content_start src.text a.span v) (sym props_are) ∙ a.content) in
-      indent_at a deep behind first indent (subst (λ k. Begun src.lines k behind) head begun) (subst (λ v. BlockContent src.lines v behind first indent) (sym text_is) c)
+      indent_at z a deep behind first indent (subst (λ k. Begun src.lines k behind) head begun) (subst (λ v. BlockContent src.lines v behind first indent) (sym text_is) c)
     where
       same_span : {v w : Span} → Some v ≡ Some w → v ≡ w
       same_span e = cc

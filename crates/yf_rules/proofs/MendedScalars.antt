@@ -1,5 +1,5 @@
 -- The lines of a layout that are lines of block scalars are so in the reading.
-use Rattle.std.proofs.Common.{◌≡◌, ◌≢◌, ℕ, zero, suc, ◌+◌, ◌-◌, ◌<◌, ◌≤◌, ◌⊎◌, inl, inr, ⊎_elim, Bool, true, false, List, [], ◌∷◌, ◌++◌, length, drop, map, Option, Some, None, refl, sym, ap, ◌∙◌, subst, arith, length-append}
+use Rattle.std.proofs.Common.{◌≡◌, ◌≢◌, ℕ, zero, suc, ◌+◌, ◌-◌, ◌<◌, ◌≤◌, ◌⊎◌, ⊎_elim, List, [], ◌∷◌, length, drop, map, Option, Some, sym, ap, ◌∙◌, subst, arith}
 use Rattle.std.specs.Prelude.{slice_get}
 use Rattle.std.specs.Str.{IsUtf8}
 use Rattle.std.proofs.lemmas.Bool.{cases_eq, cases_lt}
@@ -12,15 +12,12 @@ use Rattle.yf_lines.specs.Lines.{AreLines, Begun, OneLine, Table}
 use Rattle.yf_lines.specs.Lines.OneLine.{one_line}
 use Rattle.yf_lines.proofs.LineLemmas.{line_functional, same_line}
 use Rattle.yf_lines.proofs.TableLemmas.{Follow, follow, line_before, some_same, table_line, table_start}
-use Rattle.yf_events.specs.Event.{EventValue, Placed, scalar_node}
-use Rattle.yf_events.specs.Reading.{events_of, spans_of}
-use Rattle.yf_events.specs.declared.event.ScalarStyle.{ScalarStyle}
+use Rattle.yf_events.specs.Event.{EventValue, Placed}
 use Rattle.yf_events.specs.declared.event.Span.{Span}
 use Rattle.yf_events.specs.declared.lists.Lists.{Lists}
-use Rattle.yf_props.specs.Props.{PropsValue}
 use Rattle.yf_emit.specs.ContentStart.{content_start}
 use Rattle.yf_emit.proofs.HeldLemmas.{Holds, here, there, LinesBetween, counted, ScalarAt}
-use Rattle.yf_emit.proofs.LinedRows.{InScalar}
+use Rattle.yf_emit.proofs.LineSorts.{InScalar, got_drop}
 use Rattle.yf_rules.specs.BlankLines.{ScalarLine}
 use Rattle.yf_rules.specs.BlankLines.ScalarLine.{of_scalar}
 use Rattle.yf_rules.specs.Scalars.{IsScalar}
@@ -40,11 +37,6 @@ event_at (there h) = let r = event_at h in record { index = suc r.index; event_i
 
 no_line : (k : ℕ) (l : Line) → slice_get [] k ≡ Some l → ⊥
 no_line k l e = cc
-
-pub got_drop : (h n : ℕ) (all : List Line) → slice_get (drop h all) n ≡ slice_get all (h + n)
-got_drop zero n all = let e : n ≡ 0 + n = omega arith in ap (λ k. slice_get all k) e
-got_drop (suc h) n [] = let e : suc (h + n) ≡ suc h + n = omega arith in let none : List Line = [] in ap (λ k. slice_get none k) e
-got_drop (suc h) n (l ∷ all) = let e : suc (h + n) ≡ suc h + n = omega arith in got_drop h n all ∙ ap (λ k. slice_get (l ∷ all) k) e
 
 first_of : {m l : Line} {ms ls : List Line} → m ∷ ms ≡ l ∷ ls → (m ≡ l) × (ms ≡ ls)
 first_of e = (cc, cc)

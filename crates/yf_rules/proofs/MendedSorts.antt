@@ -1,18 +1,23 @@
 -- Of each line of what formatting gives: it is a blank one between rows, ends visibly, or is a line of a block scalar of the reading.
-use Rattle.std.proofs.Common.{◌≡◌, ℕ, zero, suc, ◌+◌, List, [], ◌∷◌, Some, refl, sym, ap, ◌∙◌, subst, arith}
+use Rattle.std.proofs.Common.{◌≡◌, ℕ, zero, suc, ◌+◌, true, List, ◌∷◌, Some, refl, sym, ◌∙◌, subst, arith}
 use Rattle.std.specs.Prelude.{slice_get}
 use Rattle.std.specs.Str.{IsUtf8}
 use Rattle.yf_lines.specs.Lines.{Table}
 use Rattle.yf_lines.specs.declared.line.Line.{Line}
 use Rattle.yf_events.specs.declared.lists.Lists.{Lists}
-use Rattle.yf_emit.specs.Decorated.{first_gap, row_decos, rows_of}
+use Rattle.yf_emit.specs.Decorated.{row_decos, rows_of}
 use Rattle.yf_emit.specs.Layout.{own_line_comments, source_of}
+use Rattle.yf_emit.specs.Normal.{setting_of}
 use Rattle.yf_emit.specs.Rows.{at_text_start}
 use Rattle.yf_emit.specs.declared.style.Style.{Style}
 use Rattle.yf_emit.proofs.FormattedHeld.{reading_held}
 use Rattle.yf_emit.proofs.FormattedLines.{formed, formed_are, formed_lines}
+use Rattle.yf_emit.proofs.GapSpread.{decos_spread, gap_spread}
 use Rattle.yf_emit.proofs.LaidLines.{LineIs, line_text}
-use Rattle.yf_emit.proofs.LinedRows.{Lined, lined_end, lined_more, Sort, layout_sorted}
+use Rattle.yf_emit.proofs.LeadRows.{stream_leads}
+use Rattle.yf_emit.proofs.LineSorts.{Lined, lined_end, lined_more, Sort}
+use Rattle.yf_emit.proofs.LinedRows.{layout_sorted}
+use Rattle.yf_emit.proofs.RowKinds.{stream_kinds}
 use Rattle.yf_emit.proofs.TidyTexts.{decos_tidy, gap_tidy}
 use Rattle.yf_rules.specs.Mended.{IsFormatted}
 
@@ -21,8 +26,10 @@ formed_sorts {src} {r} {s} w =
     let a = formed w.utf8 w.formats in
     let m : Lists = w.formats.normal in
     let rows = rows_of m s w.formats.writes.trees in
-    layout_sorted a.utf8 r.events src.lines (first_gap m rows) (row_decos m rows) a.gap (gap_tidy at_text_start (own_line_comments (source_of m rows) rows) rows) a.rows a.decos
-    (decos_tidy (source_of m rows) (own_line_comments (source_of m rows) rows) rows) (reading_held w.utf8 w.formats w.reads).bodies (formed_are src.lines w.formats a w.lines)
+    let cs = own_line_comments (source_of m rows) rows in
+    layout_sorted a.utf8 r.events src.lines (row_decos m rows) (gap_spread at_text_start cs rows) a.gap (gap_tidy at_text_start cs rows) a.rows (stream_kinds (setting_of m s) true a.fit)
+    (stream_leads (setting_of m s) true a.fit) (decos_spread (source_of m rows) cs rows) a.decos (decos_tidy (source_of m rows) cs rows) (reading_held w.utf8 w.formats w.reads).bodies
+    (formed_are src.lines w.formats a w.lines)
 
 record LinedAt (P : ℕ → Line → List ℕ → Type 0) (k : ℕ) (xs : List (List ℕ)) (i : ℕ) (l : Line) : Type 0 where
   pub text : List ℕ

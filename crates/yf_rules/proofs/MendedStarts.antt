@@ -1,5 +1,5 @@
 -- In what formatting gives, each document begins with a `---` alone on its line.
-use Rattle.std.proofs.Common.{◌≡◌, ◌≢◌, ℕ, zero, suc, ◌+◌, ◌<◌, ◌≤◌, inl, inr, ⊎_elim, Bool, true, false, true≢false, List, [], ◌∷◌, ◌++◌, flat_map, map, Some, refl, sym, ap, ◌∙◌, subst, arith, append_assoc}
+use Rattle.std.proofs.Common.{◌≡◌, ◌≢◌, ℕ, zero, suc, ◌+◌, inl, Bool, true, true≢false, List, [], ◌∷◌, ◌++◌, map, Some, refl, sym, ap, ◌∙◌, subst, arith, append_assoc}
 use Rattle.std.specs.Prelude.{slice_get}
 use Rattle.std.specs.Str.{IsUtf8}
 use Rattle.yf_chars.specs.Chain.Chain.{done, step}
@@ -9,14 +9,13 @@ use Rattle.yf_chars.specs.Class.{is_break_char}
 use Rattle.yf_chars.specs.Text.{code}
 use Rattle.yf_chars.proofs.TextLemmas.{within_from_code}
 use Rattle.yf_lines.specs.Basic.{Forbidden}
-use Rattle.yf_lines.specs.LineText.{Follows}
 use Rattle.yf_lines.specs.Lines.{Table, is_mark}
 use Rattle.yf_lines.specs.declared.line.Line.{Line}
 use Rattle.yf_lines.proofs.LineLemmas.{lf_breaks}
 use Rattle.yf_lines.proofs.MarkLemmas.{mark_code, start_in_line}
 use Rattle.yf_lines.proofs.RestLemmas.{rest_ascii}
 use Rattle.yf_lines.proofs.TableLemmas.{line_of, table_cut, table_line}
-use Rattle.yf_events.specs.Event.{EventValue, Placed, stream_starts, stream_ends, document_starts, document_ends, sequence_ends, mapping_ends, sequence_starts, mapping_starts}
+use Rattle.yf_events.specs.Event.{EventValue, Placed, stream_ends, document_ends, sequence_ends, mapping_ends}
 use Rattle.yf_events.specs.Reading.{events_of}
 use Rattle.yf_events.specs.Tree.{Node, scalar, alias, sequence, mapping, Items, no_items, item, Pairs, no_pairs, pair, flat, flat_items, flat_pairs, unplaced}
 use Rattle.yf_events.specs.declared.document.Doc.{Doc}
@@ -28,7 +27,7 @@ use Rattle.yf_stream.proofs.DocumentMarkers.{MarkersStand, no_markers, marker_st
 use Rattle.yf_stream.proofs.SameTags.{noting_values}
 use Rattle.yf_emit.specs.FitDocuments.{DocumentsMeant, no_documents_meant, document_meant}
 use Rattle.yf_emit.specs.declared.style.Style.{Style}
-use Rattle.yf_emit.specs.Decorated.{rows_of, first_gap, row_decos}
+use Rattle.yf_emit.specs.Decorated.{rows_of, first_gap}
 use Rattle.yf_emit.specs.Layout.{own_line_comments, source_of}
 use Rattle.yf_emit.specs.Normal.{setting_of}
 use Rattle.yf_emit.proofs.ClearRows.{feed_follows}
@@ -90,7 +89,7 @@ true_at [] k b a e = absurd (no_flag k b e)
 true_at (c ∷ bs) zero b a e = sym (same_flag e) ∙ a.0
 true_at (c ∷ bs) (suc k) b a e = true_at bs k b a.1 e
 
-reading_marked : {src : Table} {r : Lists} {s : Style} → IsFormatted src r s → AllTrue (markers_in (events_of r))
+pub reading_marked : {src : Table} {r : Lists} {s : Style} → IsFormatted src r s → AllTrue (markers_in (events_of r))
 reading_marked {src} {r} {s} w =
     let q : ReadingOf src.text r = w.reads in
     let all : values (q.derived_events ++ (unplaced stream_ends ∷ [])) ≡ values q.derived_events ++ (stream_ends ∷ []) = values_append q.derived_events (unplaced stream_ends ∷ []) in
@@ -126,7 +125,7 @@ alone_there {t} {l} u a document_end f e =
     let dot : code t l.start ≡ 46 = (rest_ascii 46 u (omega arith) (λ q. absurd (omega arith)) a.there).0.char in
     absurd (omega (arith, dot, e))
 
-first_mark : {t : List ℕ} {i j : ℕ} {x : List ℕ} → ((k : ℕ) → code t k ≡ 0xFEFF → ⊥) → Many t is_mark i j x → i ≡ j
+pub first_mark : {t : List ℕ} {i j : ℕ} {x : List ℕ} → ((k : ℕ) → code t k ≡ 0xFEFF → ⊥) → Many t is_mark i j x → i ≡ j
 first_mark n done = refl
 first_mark {t} n (step (one {i = i} e) c) = absurd (n i (mark_code t i e))
 
@@ -147,7 +146,7 @@ no_document_there k d e = cc
 same_document : {a b : Doc} → Some a ≡ Some b → a ≡ b
 same_document e = cc
 
-start_at : {t : List ℕ} {ms : List Doc} {trees : List _} {ds : List Document} (k : ℕ) (d : Doc) → MarkersStand t ds → DocumentsMeant ms trees ds → slice_get (map doc_of ds) k ≡ Some d
+pub start_at : {t : List ℕ} {ms : List Doc} {trees : List _} {ds : List Document} (k : ℕ) (d : Doc) → MarkersStand t ds → DocumentsMeant ms trees ds → slice_get (map doc_of ds) k ≡ Some d
     → Forbidden t d.start × (code t d.start ≡ 45)
 start_at k d no_markers no_documents_meant e = absurd (no_document_there k d e)
 start_at {t} zero d (marker_stands f more) (document_meant a others) e = subst (λ (w : Doc). Forbidden t w.start × (code t w.start ≡ 45)) (same_document e) (f a.marked)

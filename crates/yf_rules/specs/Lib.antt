@@ -11,7 +11,6 @@ pub mod BlankLines
 pub mod BlankNotes
 pub mod Nodes
 pub mod KeyPass
-pub mod Laws
 pub mod OuterFlow
 pub mod QuestionMarks
 pub mod ScalarLines

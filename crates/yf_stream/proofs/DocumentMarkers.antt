@@ -19,7 +19,7 @@ pub data MarkersStand (t : List ℕ) : List Document → Type 0 where
   marker_stands : {d : Document} {ds : List Document} → (d.marked ≡ true → Forbidden t d.start × (code t d.start ≡ 45)) → MarkersStand t ds → MarkersStand t (d ∷ ds)
 
 module _ {t : List ℕ} (u : IsUtf8 t) where
-  directives_next : {i k : ℕ} {x : Directives} → DirectiveLines t i k x → LineOrEnd t k
+  pub directives_next : {i k : ℕ} {x : Directives} → DirectiveLines t i k x → LineOrEnd t k
   directives_next (last_directive e r p l) = end_next l
   directives_next (more_directives a b) = directives_next b
 

@@ -56,6 +56,7 @@ pub mod CommentLines
 pub mod PassDocuments
 pub mod ReadingMade
 pub mod MadeReadings
+pub mod DerivedFaults
 pub mod CommentTexts
 pub mod DirectiveLaws
 pub mod DirectiveLineLemmas
@@ -73,5 +74,10 @@ pub mod NodePast
 pub mod NodeSteps
 pub mod StreamUpto
 pub mod NextSteps
+pub mod DocumentAnswers
+pub mod PartsUpto
 pub mod FloorLemmas
+pub mod NotingLemmas
+pub mod NestedNodes
 pub mod DocumentMarkers
+pub mod DirectivesStand

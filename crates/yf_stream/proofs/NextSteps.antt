@@ -1,7 +1,8 @@
 -- The loop of the reader of streams: what has been read goes on with the next document or `...`, and where the reader refuses, no stream is derived
 -- within the limit of open collections.
-use Rattle.std.proofs.Common.{◌≡◌, ◌≢◌, ℕ, ◌+◌, ◌<◌, ◌-ℤ◌, pos, Bool, true, false, ◌≤◌, List, [], ◌++◌, length, sym, subst, arith, ⊎_elim, append-nil}
+use Rattle.std.proofs.Common.{ap, Result, Ok, IfOk, ◌≡◌, ◌≢◌, ℕ, ◌+◌, ◌<◌, ◌-ℤ◌, pos, Bool, true, false, ◌≤◌, List, [], ◌++◌, length, sym, subst, arith, ⊎_elim, append-nil}
 use Rattle.std.specs.Str.{IsUtf8}
+use Rattle.std.specs.declared.alloc.AllocError.{AllocError}
 use Rattle.yf_chars.specs.declared.context.Ctx.TheVariants.{BlockIn}
 use Rattle.yf_chars.specs.Text.{code}
 use Rattle.yf_chars.specs.Chain.{Chosen}
@@ -14,26 +15,44 @@ use Rattle.yf_grammar.specs.Meaning.{Meaning, empty_node, noting}
 use Rattle.yf_grammar.specs.Part.{BlockNodePart}
 use Rattle.yf_grammar.specs.Refusal.{openers}
 use Rattle.yf_grammar.proofs.BlockEnds.{LineOrEnd}
-use Rattle.yf_stream.specs.DirectiveReaders.{IsDirective, LongestDirectives, no_directives, one_directive}
-use Rattle.yf_stream.specs.DocumentReaders.{PrefixRead, SuffixEnds}
-use Rattle.yf_stream.specs.DocumentSteps.{BareRead, MarkedRead, NextRead, after_directives, at_dashes, at_dots, bare_read, no_bare_read, no_dashes, no_directive, no_node_read, node_read, not_bare, nothing_read, too_deep_bare, too_deep_read, without_dashes}
-use Rattle.yf_stream.specs.Stream.{DirectiveLines, Directives, Documents, ExplicitNode, RootNode}
+use Rattle.yf_stream.specs.DirectiveReaders.{DirectivesRead, IsDirective, LongestDirectives, no_directives, one_directive}
+use Rattle.yf_stream.specs.DocumentReaders.{PrefixRead, SuffixEnds, closed, opened}
+use Rattle.yf_stream.specs.DocumentSteps.{BareRead, MarkedRead, NextRead, NodeEnds, NothingEnds, after_directives, at_dashes, at_dots, bare_read, no_bare_read, no_dashes, no_directive, no_node_read, node_read, not_bare, nothing_read, too_deep_bare, too_deep_read, with_comments_read, without_dashes}
+use Rattle.yf_stream.specs.Stream.{ContentAt, DirectiveLines, Directives, Documents, ExplicitNode, RootNode, document_of, only_comments}
 use Rattle.yf_stream.specs.Stream.AnyDocument.{bare_document, directive_document}
 use Rattle.yf_stream.specs.Stream.DirectiveLines.{last_directive, more_directives}
 use Rattle.yf_stream.specs.Stream.ExplicitNode.{marked_node, marked_nothing}
 use Rattle.yf_stream.specs.StreamReader.{NoStream}
+use Rattle.yf_stream.specs.declared.documents.Next.{Next}
 use Rattle.yf_stream.specs.declared.documents.Next.TheVariants.{Go, Syntax, TooDeep}
 use Rattle.yf_stream.specs.declared.documents.Parts.{Parts}
 use Rattle.yf_stream.specs.declared.documents.Spot.{Spot}
 use Rattle.yf_stream.proofs.BareStarts.{bare_start}
 use Rattle.yf_stream.proofs.NodeSteps.{MarkedThrough, marked_at_dash, marked_behind_directives, no_bare_document, no_directives_there, no_line_behind_dots, no_marked_document, no_marker_there, past_bare, past_marked, past_nothing}
 use Rattle.yf_stream.proofs.PathsThrough.{PathsThrough, no_second_bare}
-use Rattle.yf_stream.proofs.StreamUpto.{ReadUpto, past_document, past_dots, past_marked_document, three_dashes}
+use Rattle.yf_stream.proofs.StreamUpto.{ReadUpto, followed, one_document, past_document, past_dots, past_marked_document, past_prefix, three_dashes}
+
+-- the node of a document has been read, or an empty one, after the beginning of the document
+pub data NodeDone (t : List ℕ) (at : ℕ) (a b : Parts) (after : Spot) : Meaning → Type 0 where
+  node_done : (n : NodeEnds t at a b after) → NodeDone t at a b after n.chosen.derived.meaning
+  nothing_done : (n : NothingEnds t at a b after) → NodeDone t at a b after (noting (empty_node at) n.ends.comments)
+
+-- one step: what has been read before it, the parts before it and after it, and what has been read then
+pub data StepTo (t : List ℕ) (spot : Spot) (x : Documents) (a b : Parts) (after : Spot) : Documents → Type 0 where
+  dots_to : (s : SuffixEnds t spot a b after) → Forbidden t spot.at → code t spot.at ≡ 46 → StepTo t spot x a b after (followed x (only_comments s.comments))
+  dashes_to : {y : Meaning} → Forbidden t spot.at → code t spot.at ≡ 45 → NodeDone t (spot.at + 3) (opened spot.at true [] (closed false spot.is_open a)) b after y
+      → StepTo t spot x a b after (followed x (one_document y.comments (document_of spot.at true [] y)))
+  directives_to : {p : ℕ} {ds : List Directive} {cs : List CommentValue} {y : Meaning} → spot.may_be_bare ≡ true → (r : DirectivesRead t spot.at p ds a.part.comments cs)
+      → Forbidden t p → code t p ≡ 45 → NodeDone t (p + 3) (opened p true ds (with_comments_read cs a)) b after y
+      → StepTo t spot x a b after (followed x (one_document (r.upto.comments ++ y.comments) (document_of p true ds y)))
+  bare_to : {start : ℕ} {y : Meaning} → spot.may_be_bare ≡ true → ContentAt t spot.at start → NodeDone t spot.at (opened start false [] a) b after y
+      → StepTo t spot x a b after (followed x (one_document y.comments (document_of start false [] y)))
 
 -- what has been read goes on
-pub record GoesOn (t : List ℕ) (after : Spot) : Type 0 where
+pub record GoesOn (t : List ℕ) (spot : Spot) (x : Documents) (a b : Parts) (after : Spot) : Type 0 where
   pub documents : Documents
   pub read : ReadUpto t after.may_be_bare after.at documents
+  pub step : StepTo t spot x a b after documents
 
 module _ {t : List ℕ} where
   -- directives that were read are derived
@@ -59,16 +78,14 @@ module _ {t : List ℕ} where
   line_at : {k : ℕ} → LineOrEnd t k → k ≢ length t → LineStart t k
   line_at l n = ⊎_elim (λ s. s) (λ e. absurd (n e)) l
 
-  goes : (after : Spot) {x : Documents} → after.may_be_bare ≡ false → ReadUpto t false after.at x → GoesOn t after
-  goes after {x} e r = record { documents = x; read = subst (λ b. ReadUpto t b after.at x) (sym e) r }
-
-  goes_bare : (after : Spot) {x : Documents} → after.may_be_bare ≡ true → ReadUpto t true after.at x → GoesOn t after
-  goes_bare after {x} e r = record { documents = x; read = subst (λ b. ReadUpto t b after.at x) (sym e) r }
+  as_flag : (after : Spot) {b : Bool} {x : Documents} → after.may_be_bare ≡ b → ReadUpto t b after.at x → ReadUpto t after.may_be_bare after.at x
+  as_flag after {x = x} e r = subst (λ b. ReadUpto t b after.at x) (sym e) r
 
 -- a document from its `---` on, and the paths after it
-record MarkedDocument (t : List ℕ) (p : ℕ) (after : Spot) : Type 0 where
+record MarkedDocument (t : List ℕ) (p : ℕ) (a b : Parts) (after : Spot) : Type 0 where
   height : ℕ
   meaning : Meaning
+  is_done : NodeDone t (p + 3) a b after meaning
   node : ExplicitNode t height p after.at meaning
   within : height ≤ DEPTH
   through : PathsThrough t false after.at
@@ -76,10 +93,11 @@ record MarkedDocument (t : List ℕ) (p : ℕ) (after : Spot) : Type 0 where
 
 module _ {t : List ℕ} (u : IsUtf8 t) where
   marked_document : {p : ℕ} {ds : List Directive} {a b : Parts} {after : Spot} → Forbidden t p → code t p ≡ 45 → MarkedRead t p ds a b (Go after) → MarkedThrough t p
-      → MarkedDocument t p after
+      → MarkedDocument t p (opened p true ds a) b after
   marked_document {p} f e (node_read n) m = record {
     height = n.chosen.derived.height;
     meaning = n.chosen.derived.meaning;
+    is_done = node_done n;
     node = marked_node (three_dashes t p f e) (root_of n.chosen);
     within = n.chosen.derived.within;
     through = past_marked u n.chosen m;
@@ -88,6 +106,7 @@ module _ {t : List ℕ} (u : IsUtf8 t) where
   marked_document {p} f e (nothing_read n) m = record {
     height = 0;
     meaning = noting (empty_node (p + 3)) n.ends.comments;
+    is_done = nothing_done n;
     node = marked_nothing (three_dashes t p f e) n.ends.line.derived;
     within = omega arith;
     through = past_nothing u n.ends.line n.last m;
@@ -105,24 +124,40 @@ module _ {t : List ℕ} (u : IsUtf8 t) where
     begin_bare : spot.may_be_bare ≡ true → ReadUpto t true spot.at x
     begin_bare e = subst (λ b. ReadUpto t b spot.at x) e r
 
-    suffix_on : {a b : Parts} {after : Spot} → Forbidden t spot.at → code t spot.at ≡ 46 → SuffixEnds t spot a b after → GoesOn t after
-    suffix_on {after = after} f e s = goes_bare after s.bare (past_dots u pre.no_row f e s.line.derived r)
+    suffix_on : {a b : Parts} {after : Spot} → Forbidden t spot.at → code t spot.at ≡ 46 → SuffixEnds t spot a b after → GoesOn t spot x a b after
+    suffix_on {after = after} f e s = record {
+      documents = followed x (only_comments s.comments);
+      read = as_flag after s.bare (past_dots u pre.no_row f e s.line.derived r);
+      step = dots_to s f e;
+    }
 
-    bare_on : {a b : Parts} {after : Spot} → (Forbidden t spot.at → ⊥) → spot.may_be_bare ≡ true → code t spot.at ≢ 37 → BareRead t spot.at a b (Go after) → GoesOn t after
-    bare_on {after = after} f q e (bare_read m w n) =
+    bare_on : {a b : Parts} {after : Spot} → (Forbidden t spot.at → ⊥) → spot.may_be_bare ≡ true → code t spot.at ≢ 37 → BareRead t spot.at a b (Go after) → GoesOn t spot x a b after
+    bare_on {after = after} f q e (bare_read {start = start} m w n) =
         let y = n.chosen in
-        goes after n.bare
-        (past_document u y.derived.within (bare_document (root_of y) (bare_start (line_at r.starts some) pre.no_row m w y.derived.derived))
-        (past_bare u pre.no_row some pre.no_mark f e y r.through) (begin_bare q))
+        let c = bare_start (line_at r.starts some) pre.no_row m w y.derived.derived in
+        record {
+          documents = followed x (one_document y.derived.meaning.comments (document_of start false [] y.derived.meaning));
+          read = as_flag after n.bare
+              (past_document u y.derived.within (bare_document (root_of y) c) (past_bare u pre.no_row some pre.no_mark f e y r.through) (begin_bare q));
+          step = bare_to q c (node_done n);
+        }
 
-    pub reading_goes_on : {a b : Parts} {after : Spot} → NextRead t spot a b (Go after) → GoesOn t after
+    pub reading_goes_on : {a b : Parts} {after : Spot} → NextRead t spot a b (Go after) → GoesOn t spot x a b after
     reading_goes_on (at_dots f e s) = suffix_on f e s
     reading_goes_on {after = after} (at_dashes f e m) =
         let y = marked_document f e m (marked_at_dash pre.no_row f e r.through) in
-        goes after y.bare (past_marked_document u y.within y.node y.through r)
-    reading_goes_on {after = after} (after_directives q e d f g m) =
+        record {
+          documents = followed x (one_document y.meaning.comments (document_of spot.at true [] y.meaning));
+          read = as_flag after y.bare (past_marked_document u y.within y.node y.through r);
+          step = dashes_to f e y.is_done;
+        }
+    reading_goes_on {after = after} (after_directives {p = p} {ds = ds} q e d f g m) =
         let y = marked_document f g m (marked_behind_directives u e d r.through) in
-        goes after y.bare (past_document u y.within (directive_document (lines_read d.upto.longest e d.last) y.node) y.through (begin_bare q))
+        record {
+          documents = followed x (one_document (d.upto.comments ++ y.meaning.comments) (document_of p true ds y.meaning));
+          read = as_flag after y.bare (past_document u y.within (directive_document (lines_read d.upto.longest e d.last) y.node) y.through (begin_bare q));
+          step = directives_to q d f g y.is_done;
+        }
     reading_goes_on (without_dashes f q e m) = bare_on f q e m
 
     no_bare_there : {place : ℕ} {a b : Parts} → (Forbidden t spot.at → ⊥) → code t spot.at ≢ 37 → BareRead t spot.at a b (Syntax place) → NoStream t
@@ -148,3 +183,17 @@ module _ {t : List ℕ} (u : IsUtf8 t) where
     too_deep_there (at_dashes f e m) = marked_too_deep m (marked_at_dash pre.no_row f e r.through)
     too_deep_there (after_directives q e d f g m) = marked_too_deep m (marked_behind_directives u e d r.through)
     too_deep_there (without_dashes f q e m) = bare_too_deep f e m
+
+-- the same from a spot before comment lines and byte order marks on
+pub spot_on : {t : List ℕ} {c d : List CommentValue} {x : Documents} (spot s : Spot) → IsUtf8 t → s ≡ record spot { at = s.at } → (r : PrefixRead t spot.at s.at c d)
+    → ReadUpto t spot.may_be_bare spot.at x → ReadUpto t s.may_be_bare s.at (followed x (only_comments r.upto.comments))
+spot_on {t} {x = x} spot s u e r g =
+    subst (λ b. ReadUpto t b s.at (followed x (only_comments r.upto.comments))) (sym (ap (λ z. z.may_be_bare) e)) (past_prefix u r g)
+
+pub next_of : (t : List ℕ) (s : Spot) (a b : Parts) {r : Result Next AllocError} {o p : Next} → IfOk r (λ next. NextRead t s a b next) → r ≡ Ok o → o ≡ p → NextRead t s a b p
+next_of t s a b i e f = subst (λ w. NextRead t s a b w) f (subst (λ z. IfOk z (λ next. NextRead t s a b next)) e i)
+
+-- what has been read up to a spot
+pub record ReadSoFar (t : List ℕ) (spot : Spot) (p : Parts) : Type 0 where
+  pub documents : Documents
+  pub read : ReadUpto t spot.may_be_bare spot.at documents

@@ -135,7 +135,7 @@ end_code t k e = code-past t k (omega arith)
 pub three_code : (t : List ℕ) (k c : ℕ) → is_three t k c ≡ true → code t k ≡ c
 three_code t k c e = ⊎_elim (λ (q : code t k ≡ c). q) (λ (q : code t k ≢ c). absurd (true≢false (sym e ∙ three_first t k c q))) (cases_eq (code t k) c)
 
-three_last : (t : List ℕ) (k c : ℕ) → is_three t k c ≡ true → code t (k + 2) ≡ c
+pub three_last : (t : List ℕ) (k c : ℕ) → is_three t k c ≡ true → code t (k + 2) ≡ c
 three_last t k c e =
     let a = three_code t k c e in
     ⊎_elim (λ (q : code t (k + 1) ≡ c). eqb-true (code t (k + 2)) c (sym (three_all t k c a q) ∙ e))

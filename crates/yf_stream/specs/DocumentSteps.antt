@@ -16,7 +16,11 @@ use Rattle.yf_grammar.specs.Parser.{Found}
 use Rattle.yf_grammar.specs.Part.{BlockNodePart}
 use Rattle.yf_grammar.specs.Refusal.{openers}
 use Rattle.yf_stream.specs.DirectiveReaders.{DirectivesEnd, DirectivesRead}
-use Rattle.yf_stream.specs.DocumentReaders.{SuffixRead, closed, opened}
+use Rattle.yf_events.specs.Event.{scalar_node}
+use Rattle.yf_events.specs.declared.event.ScalarStyle.TheVariants.{Plain}
+use Rattle.yf_props.specs.Props.{no_props}
+use Rattle.yf_block.specs.declared.nodes.Found.{Found as FoundNode}
+use Rattle.yf_stream.specs.DocumentReaders.{SuffixRead, closed, commented, opened, with_event}
 use Rattle.yf_stream.specs.EmptyDocument.{EmptyEnds}
 use Rattle.yf_stream.specs.declared.documents.Next.{Next}
 use Rattle.yf_stream.specs.declared.documents.Next.TheVariants.{Go, Syntax, TooDeep}
@@ -54,6 +58,38 @@ pub record NothingEnds (t : List ℕ) (at : ℕ) (a b : Parts) (after : Spot) : 
 
 pub record SomethingBegins (t : List ℕ) (at : ℕ) : Type 0 where
   pub none : (j : ℕ) (cs : List CommentValue) → Chosen (LineEnd t at) j cs → LinesEnd t j → ⊥
+
+-- the same of the end of a line, and what is added for an empty node
+pub record NothingAt (t : List ℕ) (at end : ℕ) (cs : List CommentValue) : Type 0 where
+  pub line : Chosen (LineEnd t at) end cs
+  pub last : LinesEnd t end
+
+pub record EmptyTo (end : ℕ) (cs : List CommentValue) (a b : Parts) (after : Spot) : Type 0 where
+  pub at : after.at ≡ end
+  pub bare : after.may_be_bare ≡ false
+  pub document : after.is_open ≡ true
+  pub floor : after.floor ≡ 0
+  pub reached : after.reached ≡ end
+  pub parts : b ≡ with_event (commented cs a) (scalar_node no_props Plain [])
+
+abbrev pub EmptyAdded : ℕ → List CommentValue → Parts → Parts → Next → Type 0
+EmptyAdded end cs a b (Go after) = EmptyTo end cs a b after
+EmptyAdded end cs a b (Syntax place) = ⊥
+EmptyAdded end cs a b (TooDeep place) = ⊥
+
+-- a node was found: the reading goes on after it where nothing went wrong
+pub record FoundTo (f : FoundNode) (after : Spot) : Type 0 where
+  pub whole : f.whole ≡ true
+  pub at : after.at ≡ f.end
+  pub floor : after.floor ≡ f.floor
+  pub reached : after.reached ≡ f.reached
+  pub bare : after.may_be_bare ≡ false
+  pub document : after.is_open ≡ true
+
+abbrev pub FoundRead : FoundNode → Next → Type 0
+FoundRead f (Go after) = FoundTo f after
+FoundRead f (Syntax place) = (f.whole ≡ false) × (place ≡ f.reached)
+FoundRead f (TooDeep place) = ⊥
 
 -- a document from its `---` on, with these directives
 pub data MarkedRead (t : List ℕ) (at : ℕ) (ds : List Directive) (a b : Parts) : Next → Type 0 where

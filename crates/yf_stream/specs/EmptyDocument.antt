@@ -1,14 +1,12 @@
 -- What the reader of a stream answers of a `---` after which no node stands.
 use Rattle.std.specs.Prelude.{◌≡◌, ℕ, true, false, List, []}
-use Rattle.yf_chars.specs.Chain.{Chosen, Stuck}
+use Rattle.yf_chars.specs.Chain.{Chosen}
 use Rattle.yf_comments.specs.Comment.{CommentValue}
 use Rattle.yf_comments.specs.Comments.{LineEnd}
 use Rattle.yf_events.specs.Event.{scalar_node}
 use Rattle.yf_events.specs.declared.event.ScalarStyle.TheVariants.{Plain}
 use Rattle.yf_props.specs.Props.{no_props}
 use Rattle.yf_stream.specs.DocumentReaders.{commented, with_event}
-use Rattle.yf_stream.specs.declared.documents.Next.{Next}
-use Rattle.yf_stream.specs.declared.documents.Next.TheVariants.{Go, Syntax, TooDeep}
 use Rattle.yf_stream.specs.declared.documents.Parts.{Parts}
 use Rattle.yf_stream.specs.declared.documents.Spot.{Spot}
 
@@ -20,9 +18,3 @@ pub record EmptyEnds (t : List ℕ) (at : ℕ) (a b : Parts) (after : Spot) : Ty
   pub document : after.is_open ≡ true
   pub floor : after.floor ≡ 0
   pub parts : b ≡ with_event (commented comments a) (scalar_node no_props Plain [])
-
--- the next spot, or no line ends there
-abbrev pub EmptyRead : List ℕ → ℕ → Parts → Parts → Next → Type 0
-EmptyRead t at a b (Go after) = EmptyEnds t at a b after
-EmptyRead t at a b (Syntax place) = Stuck (LineEnd t at)
-EmptyRead t at a b (TooDeep place) = ⊥

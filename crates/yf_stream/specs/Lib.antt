@@ -1,5 +1,6 @@
 pub mod CommentLaws
 pub mod FewHandles
+pub mod DerivedStreams
 pub mod DirectiveReaders
 pub mod DocumentReaders
 pub mod DocumentSteps

@@ -1,17 +1,20 @@
 //! The documents of a stream (YAML 1.2.2, section 9.1): what begins one, and what ends it. Offsets count bytes.
-ghost use Rattle.std.specs.Prelude.{◌≡◌, ◌+◌, ◌<◌, ◌≤◌, [], true, false, IfOk, IfSome};
+ghost use Rattle.std.specs.Prelude.{◌≡◌, ◌+◌, ◌<◌, ◌≤◌, ◌^◌, [], true, false, length, IfOk, IfSome, MatchBool, MatchOption};
 ghost use Rattle.std.specs.List.{All};
 ghost use Rattle.std.specs.Str.{IsCharBoundary};
 ghost use Rattle.yf_events.specs.Event.{new_event_value};
 ghost use Rattle.yf_stream.specs.DocumentReaders.{IsMarker, closed, opened, with_event};
-ghost use Rattle.yf_stream.specs.EmptyDocument.{EmptyRead};
+ghost use Rattle.yf_chars.specs.Text.{code};
+ghost use Rattle.yf_lines.specs.Basic.{Forbidden};
+ghost use Rattle.yf_stream.specs.DocumentSteps.{BareRead, EmptyAdded, FoundRead, MarkedRead, NextRead, NothingAt, SomethingBegins};
 ghost use Rattle.yf_stream.specs.RefusalPlaces.{DirectivesAt, DocumentsAt};
 ghost use Rattle.yf_stream.specs.Walk.{NextAt};
 
 use crate::between::read_suffix;
 use crate::directives::{DirectiveLines, read_directives};
 use std::alloc::{AllocError, Global};
-use yf_block::nodes::{Outcome, block_node_in};
+use yf_block::look::node_ends;
+use yf_block::nodes::{Found, Outcome, block_node_in};
 use yf_chars::context::Ctx;
 use yf_chars::text::stands;
 use yf_comments::comments::{Comments, Separation};
@@ -149,6 +152,7 @@ pub(crate) fn read_next<'a>(
     requires reached { IsCharBoundary text.now spot.reached }
     requires escapes { All (IsCharBoundary text.now) parts.old.part.escapes }
     requires documents { DocumentsAt text.now parts.old.documents }
+    ensures reads { length text.now ≤ 2 ^ 30 → IfOk result (λ next. NextRead text.now spot parts.old parts.new next) }
     ensures next { IfOk result (λ next. NextAt text.now (spot.at + 1) next) }
     ensures escapes { IfOk result (λ _. All (IsCharBoundary text.now) parts.new.part.escapes) }
     ensures documents { IfOk result (λ _. DocumentsAt text.now parts.new.documents) }
@@ -165,7 +169,7 @@ pub(crate) fn read_next<'a>(
         return Ok(Next::Syntax(spot.reached.max(spot.at)));
     }
     if stands(text, spot.at, b'%') {
-        return directive_document(alloc, text, spot.at, parts);
+        return directive_document(alloc, text, spot, parts);
     }
     bare_document(alloc, text, spot.at, parts)
 }
@@ -187,23 +191,41 @@ fn marker_at(text: &str, at: usize) -> Option<Marker>
     None
 }
 
+// Whether a `---` stands at the start of a line that begins at the offset.
+fn has_dashes(text: &str, at: usize) -> bool
+    requires { IsCharBoundary text.now at }
+    ensures marker { MatchBool result (Forbidden text.now at × (code text.now at ≡ 45)) (Forbidden text.now at → code text.now at ≡ 45 → ⊥) }
+    ensures boundary { result ≡ true → IsCharBoundary text.now (at + 3) }
+{
+    if is_forbidden_at(text, at) {
+        if stands(text, at + 2, b'-') {
+            return true;
+        }
+        return false;
+    }
+    false
+}
+
 // Reads directives and the document after them (l-directive-document, production 209).
 fn directive_document<'a>(
     alloc: Global,
     text: &'a str,
-    at: usize,
+    spot: Spot,
     parts: &mut Parts<'a>,
 ) -> Result<Next, AllocError>
-    requires boundary { IsCharBoundary text.now at }
+    requires boundary { IsCharBoundary text.now spot.at }
+    requires percent { code text.now spot.at ≡ 37 }
+    requires bare { spot.may_be_bare ≡ true }
     requires escapes { All (IsCharBoundary text.now) parts.old.part.escapes }
     requires documents { DocumentsAt text.now parts.old.documents }
-    ensures next { IfOk result (λ next. NextAt text.now (at + 1) next) }
+    ensures reads { length text.now ≤ 2 ^ 30 → IfOk result (λ next. NextRead text.now spot parts.old parts.new next) }
+    ensures next { IfOk result (λ next. NextAt text.now (spot.at + 1) next) }
     ensures escapes { IfOk result (λ _. All (IsCharBoundary text.now) parts.new.part.escapes) }
     ensures documents { IfOk result (λ _. DocumentsAt text.now parts.new.documents) }
 {
-    match read_directives(alloc, text, at, &mut parts.part.comments)? {
+    match read_directives(alloc, text, spot.at, &mut parts.part.comments)? {
         Ok(DirectiveLines { directives, end }) => {
-            if let Some(Marker::DocumentStart) = marker_at(text, end) {
+            if has_dashes(text, end) {
                 return explicit_document(alloc, text, end, directives, parts);
             }
             Ok(Next::Syntax(end))
@@ -224,11 +246,15 @@ fn explicit_document<'a>(
     requires directives { DirectivesAt text.now directives }
     requires escapes { All (IsCharBoundary text.now) parts.old.part.escapes }
     requires documents { DocumentsAt text.now parts.old.documents }
+    ensures reads { length text.now ≤ 2 ^ 30 → IfOk result (λ next. MarkedRead text.now at directives.entry parts.old parts.new next) }
     ensures next { IfOk result (λ next. NextAt text.now (at + 1) next) }
     ensures escapes { IfOk result (λ _. All (IsCharBoundary text.now) parts.new.part.escapes) }
     ensures documents { IfOk result (λ _. DocumentsAt text.now parts.new.documents) }
 {
     parts.open(alloc, at, true, directives)?;
+    if let Some(Separation { comments, end }) = empty_end(alloc, text, at + 3)? {
+        return empty_document(alloc, comments, end, parts);
+    }
     match block_node_in(
         alloc,
         text,
@@ -238,48 +264,59 @@ fn explicit_document<'a>(
         DEPTH,
         &mut parts.part,
     )? {
-        Outcome::Found(found) => Ok(Next::Go(behind_node(found.end, found.floor, found.reached))),
-        Outcome::Nothing { reached } => empty_document(alloc, text, at + 3, reached, parts),
+        Outcome::Found(found) => Ok(behind_found(found)),
+        Outcome::Nothing { reached } => Ok(Next::Syntax(reached)),
         Outcome::TooDeep(place) => Ok(Next::TooDeep(place)),
     }
 }
 
-#[tactic(auto, using(crate::proofs::Forward::line_end_forward))]
-// Reads what is left of the line of a `---` after which no node stands.
-fn empty_document<'a>(
+// What is left of the line of a `---`, with the comment lines after it, where no node stands after them: the text ends there, or a
+// byte order mark or a document marker stands.
+fn empty_end<'a>(
     alloc: Global,
     text: &'a str,
     at: usize,
-    reached: usize,
-    parts: &mut Parts<'a>,
-) -> Result<Next, AllocError>
-    requires boundary { IsCharBoundary text.now at }
-    requires reached { IsCharBoundary text.now reached }
-    requires escapes { All (IsCharBoundary text.now) parts.old.part.escapes }
-    requires documents { DocumentsAt text.now parts.old.documents }
-    ensures reads { IfOk result (λ next. EmptyRead text.now at parts.old parts.new next) }
-    ensures next { IfOk result (λ next. NextAt text.now at next) }
-    ensures escapes { IfOk result (λ _. All (IsCharBoundary text.now) parts.new.part.escapes) }
-    ensures documents { IfOk result (λ _. DocumentsAt text.now parts.new.documents) }
+) -> Result<Option<Separation<'a>>, AllocError>
+    requires { IsCharBoundary text.now at }
+    ensures reads { IfOk result (λ o. MatchOption o (SomethingBegins text.now at) (λ p. NothingAt text.now at p.end p.comments)) }
+    ensures boundary { IfOk result (λ o. IfSome o (λ p. IsCharBoundary text.now p.end)) }
+    ensures order { IfOk result (λ o. IfSome o (λ p. at ≤ p.end)) }
 {
     match line_end(alloc, text, at)? {
         Some(Separation { comments, end }) => {
-            parts.part.comments.append(comments)?;
-            parts.push_unplaced(
-                alloc,
-                NewEvent::Scalar {
-                    props: Props {
-                        anchor: None,
-                        tag: None,
-                    },
-                    style: ScalarStyle::Plain,
-                    text: Text::Part(""),
-                },
-            )?;
-            Ok(Next::Go(behind_node(end, 0, reached)))
+            if node_ends(text, end) {
+                return Ok(Some(Separation { comments, end }));
+            }
+            Ok(None)
         }
-        None => Ok(Next::Syntax(reached)),
+        None => Ok(None),
     }
+}
+
+// Adds the empty node of a document after whose `---` the line ends, with its comments.
+fn empty_document<'a>(
+    alloc: Global,
+    comments: Comments<'a>,
+    end: usize,
+    parts: &mut Parts<'a>,
+) -> Result<Next, AllocError>
+    ensures reads { IfOk result (λ next. EmptyAdded end comments.entry parts.old parts.new next) }
+    ensures escapes { IfOk result (λ _. parts.new.part.escapes ≡ parts.old.part.escapes) }
+    ensures documents { IfOk result (λ _. parts.new.documents ≡ parts.old.documents) }
+{
+    parts.part.comments.append(comments)?;
+    parts.push_unplaced(
+        alloc,
+        NewEvent::Scalar {
+            props: Props {
+                anchor: None,
+                tag: None,
+            },
+            style: ScalarStyle::Plain,
+            text: Text::Part(""),
+        },
+    )?;
+    Ok(Next::Go(behind_node(end, 0, end)))
 }
 
 // Reads a document without `---` (l-bare-document, production 207).
@@ -292,6 +329,7 @@ fn bare_document<'a>(
     requires boundary { IsCharBoundary text.now at }
     requires escapes { All (IsCharBoundary text.now) parts.old.part.escapes }
     requires documents { DocumentsAt text.now parts.old.documents }
+    ensures reads { length text.now ≤ 2 ^ 30 → IfOk result (λ next. BareRead text.now at parts.old parts.new next) }
     ensures next { IfOk result (λ next. NextAt text.now (at + 1) next) }
     ensures escapes { IfOk result (λ _. All (IsCharBoundary text.now) parts.new.part.escapes) }
     ensures documents { IfOk result (λ _. DocumentsAt text.now parts.new.documents) }
@@ -299,10 +337,20 @@ fn bare_document<'a>(
     let start = skip_whites(text, at);
     parts.open(alloc, start, false, Directives::new(alloc))?;
     match block_node_in(alloc, text, at, -1, Ctx::BlockIn, DEPTH, &mut parts.part)? {
-        Outcome::Found(found) => Ok(Next::Go(behind_node(found.end, found.floor, found.reached))),
+        Outcome::Found(found) => Ok(behind_found(found)),
         Outcome::Nothing { reached } => Ok(Next::Syntax(reached)),
         Outcome::TooDeep(place) => Ok(Next::TooDeep(place)),
     }
+}
+
+// What comes after a node that was found: the next line, if nothing was left of the node where its reading went wrong.
+fn behind_found(found: Found) -> Next
+    ensures { FoundRead found result }
+{
+    if found.whole {
+        return Next::Go(behind_node(found.end, found.floor, found.reached));
+    }
+    Next::Syntax(found.reached)
 }
 
 // After a document's root node another document needs a `---`, or a `...` before it.

@@ -1,9 +1,10 @@
 //! The reader of whole streams.
-ghost use Rattle.std.specs.Prelude.{◌≡◌, ◌+◌, ◌-◌, ◌<◌, ◌≤◌, length, IfErr, IfOk, IfSome, MatchResult};
+ghost use Rattle.std.specs.Prelude.{◌≡◌, ◌+◌, ◌-◌, ◌<◌, ◌≤◌, ◌^◌, length, IfErr, IfOk, IfSome, MatchResult};
 ghost use Rattle.std.specs.List.{All};
 ghost use Rattle.std.specs.Str.{IsCharBoundary};
 ghost use Rattle.yf_events.specs.Reading.{Fits};
 ghost use Rattle.yf_lines.specs.FaultPlaces.{InText, IsPlaceOf};
+ghost use Rattle.yf_stream.specs.DerivedStreams.{ListsDerived, ShapeOr, StreamDerived};
 ghost use Rattle.yf_stream.specs.MadeReadings.{MadeOr, MadeReading, NoBreach};
 ghost use Rattle.yf_stream.specs.NotedLists.{FaultAt, NotedOr};
 ghost use Rattle.yf_stream.specs.Refusal.{IsStreamFault};
@@ -45,15 +46,18 @@ enum Refusal {
 /// Proved of this is that the faults are of these kinds, each but `Memory` with a place in the text, that the reading is well
 /// nested, and that it is made of parts in which nothing is breached, with the tags that they stand for and the notes which
 /// comments stand on the lines of leaves; a breach is the first one in such parts. Where the parts are those of the one shape
-/// of the text, that is its reading, and its first breach. That they are is tested.
+/// of the text, that is its reading, and its first breach. That they are is tested. Of texts of 1 GiB at most it is proved besides
+/// that `Syntax` and `TooDeep` come only where the text is no stream within the limit, and readings and breaches only where it is one.
 pub fn read_stream<'a>(alloc: Global, text: &'a str) -> Result<Reading<'a>, Fault>
     ensures faults { IfErr result (λ fault. IsStreamFault text.now fault) }
     ensures made { MadeReading text.now result }
+    ensures derived { length text.now ≤ 2 ^ 30 → StreamDerived text.now result }
 {
     match read_lists(alloc, text) {
         Ok(Ok(lists)) => match Reading::build(alloc, lists) {
             Ok(Some(reading)) => Ok(reading),
-            Ok(None) => Err(fault_at(alloc, text, Refusal::TooDeep(0))),
+            // The events of a stream are well nested, within the limit: so there is a reading.
+            Ok(None) => Err(Fault::Memory),
             Err(_) => Err(Fault::Memory),
         },
         Ok(Err(refusal)) => Err(fault_at(alloc, text, refusal)),
@@ -111,6 +115,7 @@ fn place_of(table: &LineTable, text: &str, offset: usize) -> Place
 // The lists of the stream's reading, or why there is none.
 fn read_lists<'a>(alloc: Global, text: &'a str) -> Result<Result<Lists<'a>, Refusal>, AllocError>
     ensures made { IfOk result (λ r. MadeOr text.now r) }
+    ensures derived { length text.now ≤ 2 ^ 30 → IfOk result (λ r. ListsDerived text.now r) }
     ensures refusal { IfOk result (λ r. MatchResult r (λ lists. Fits lists) (λ refusal. RefusalAt text.now refusal)) }
 {
     let mut parts = Parts::new(alloc);
@@ -165,6 +170,7 @@ fn read_documents<'a>(
     requires documents { DocumentsAt text.now parts.old.documents }
     ensures refusal { IfOk result (λ o. IfSome o (λ refusal. RefusalAt text.now refusal)) }
     ensures underived { IfOk result (λ o. IfSome o (λ refusal. NoBreach refusal)) }
+    ensures derived { length text.now ≤ 2 ^ 30 → IfOk result (λ o. ShapeOr text.now o) }
     ensures escapes { IfOk result (λ _. All (IsCharBoundary text.now) parts.new.part.escapes) }
     ensures documents { IfOk result (λ _. DocumentsAt text.now parts.new.documents) }
 {

@@ -1,11 +1,22 @@
 use Rattle.std.proofs.Common.{IfSome, subst}
 use Rattle.std.proofs.lemmas.Result.{IfOk-weaker}
 use Rattle.yf_stream.specs.MadeReadings.{NoBreach}
+use Rattle.yf_stream.proofs.DerivedFaults.{lists_derived, not_derived_refusal, shape_of}
 use Rattle.yf_stream.proofs.MadeReadings.{made_or, not_derived}
 use Rattle.yf_stream.proofs.stream.read_lists.Goals as goal
 
 pub returns-in-Some-clause-made : goal.returns-in-Some-clause-made
-returns-in-Some-clause-made c = not_derived c.args.text.now c.in-Some.refusal (subst (λ z. IfSome z (λ refusal. NoBreach refusal)) c.in-Some.is c.in_ok-refusal.ensures.underived)
+returns-in-Some-clause-made c =
+    not_derived c.args.text.now c.in-Some.refusal (subst (λ z. IfSome z (λ refusal. NoBreach refusal)) c.in-Some.is c.in_ok-refusal.ensures.underived)
+
+pub returns-in-Some-clause-derived : goal.returns-in-Some-clause-derived
+returns-in-Some-clause-derived c = λ l.
+    not_derived_refusal c.args.text.now c.in-Some.refusal (shape_of c.args.text.now (c.read_documents.ensures.derived l) c.in_ok-refusal.was c.in-Some.is)
 
 pub returns-clause-made : goal.returns-clause-made
 returns-clause-made c = IfOk-weaker _ _ _ (λ r n. made_or _ r c.utf8.text c.in_ok-refusal.ensures.documents c.in_ok-refusal.ensures.escapes n) c.noted_lists.ensures.noted
+
+pub returns-clause-derived : goal.returns-clause-derived
+returns-clause-derived c = λ l.
+    let s = shape_of c.args.text.now (c.read_documents.ensures.derived l) c.in_ok-refusal.was c.in_default.is in
+    IfOk-weaker _ _ _ (λ r n. lists_derived c.args.text.now _ r s n) c.noted_lists.ensures.noted

@@ -1,0 +1,153 @@
+-- What the readers of documents answer, by what the reader of block nodes does.
+use Rattle.std.proofs.Common.{◌≡◌, ℕ, ◌+◌, ◌<◌, ◌≤◌, ◌-ℤ◌, pos, Bool, true, false, not, true≢false, cond, Result, Ok, IfOk, List, [], ◌++◌, drop, take, refl, sym, ap, ◌∙◌, subst, arith}
+use Rattle.std.proofs.lemmas.List.Elements.{All-nil, All-push}
+use Rattle.std.proofs.lemmas.List.Sums.{sum_by-take-drop}
+use Rattle.std.specs.List.{sum_by}
+use Rattle.std.specs.declared.alloc.AllocError.{AllocError}
+use Rattle.std.specs.Str.{IsCharBoundary}
+use Rattle.yf_chars.specs.declared.context.Ctx.TheVariants.{BlockIn}
+use Rattle.yf_chars.specs.Text.{code}
+use Rattle.yf_chars.specs.Class.{is_white}
+use Rattle.yf_chars.specs.Chain.{Chosen, Many, Stuck}
+use Rattle.yf_comments.specs.Comment.{CommentValue}
+use Rattle.yf_comments.specs.Comments.{LineEnd}
+use Rattle.yf_events.specs.declared.directive.Directive.{Directive}
+use Rattle.yf_events.specs.declared.part.Part.{Part}
+use Rattle.yf_events.specs.declared.reading.TheConstants.{DEPTH}
+use Rattle.yf_flow.specs.Counted.{openers_from}
+use Rattle.yf_grammar.specs.BlockParser.{Awaited, LinesEnd, Nothing}
+use Rattle.yf_grammar.specs.Part.{BlockNodePart}
+use Rattle.yf_grammar.specs.Refusal.{is_opener, openers}
+use Rattle.yf_block.specs.BlockStepTied.{Unfinished, line_left as line_is_left, none_found as none_is_found}
+use Rattle.yf_block.specs.NodeGiven.{FoundTied, Indentation, NoneTied, OutcomeTied}
+use Rattle.yf_block.specs.declared.nodes.Outcome.{Outcome}
+use Rattle.yf_block.specs.declared.nodes.Found.{Found as FoundNode}
+use Rattle.yf_stream.specs.DocumentReaders.{opened}
+use Rattle.yf_stream.specs.DocumentSteps.{BareRead, EmptyAdded, EmptyTo, FoundRead, FoundTo, MarkedRead, NoNode, NodeEnds, NothingAt, SomethingBegins, bare_read, grown, line_left, no_bare_read, no_node_read, node_read, none_derived, none_found, nothing_read, too_deep_bare, too_deep_read}
+use Rattle.yf_events.specs.declared.document.Doc.{Doc}
+use Rattle.yf_stream.specs.RefusalPlaces.{DirectivesAt, DocumentsAt}
+use Rattle.yf_stream.specs.Walk.{NextAt}
+use Rattle.yf_stream.specs.declared.documents.Next.{Next}
+use Rattle.yf_stream.specs.declared.documents.Next.TheVariants.{Go, Syntax, TooDeep}
+use Rattle.yf_stream.specs.declared.documents.Parts.{Parts}
+use Rattle.yf_stream.specs.declared.documents.Spot.{Spot}
+
+grown_by : (a : Parts) {b : Parts} (part : Part) → b.part.events ≡ a.part.events ++ part.events → b.part.comments ≡ a.part.comments ++ part.comments
+    → b.part.escapes ≡ a.part.escapes ++ part.escapes → b.documents ≡ a.documents → b ≡ grown part a
+grown_by a {b} part e c s d =
+    ap (λ z. record { part = record { events = z; comments = b.part.comments; escapes = b.part.escapes }; documents = b.documents }) e
+    ∙ ap (λ z. record { part = record { events = a.part.events ++ part.events; comments = z; escapes = b.part.escapes }; documents = b.documents }) c
+    ∙ ap (λ z. record { part = record { events = a.part.events ++ part.events; comments = a.part.comments ++ part.comments; escapes = z }; documents = b.documents }) s
+    ∙ ap (λ z. record { part = record { events = a.part.events ++ part.events; comments = a.part.comments ++ part.comments; escapes = a.part.escapes ++ part.escapes }; documents = z }) d
+
+no_node_of : {t : List ℕ} {at : ℕ} → Unfinished t DEPTH (Awaited false (pos 0 -ℤ pos 1) BlockIn Nothing at) → NoNode t at
+no_node_of (none_is_found r) = none_found r
+no_node_of (line_is_left r o s) = line_left r o s
+
+module _ (t : List ℕ) where
+  node_ends : {at : ℕ} (a b : Parts) {f : FoundNode} {after : Spot} → FoundTied t DEPTH (pos 0 -ℤ pos 1) BlockIn at a.part f b.part → b.documents ≡ a.documents → FoundTo f after
+      → NodeEnds t at a b after
+  node_ends {at} a b x d e =
+      let g = x.whole e.whole in
+      record {
+        part = g.node;
+        chosen = subst (λ z. Chosen (BlockNodePart t DEPTH (pos 0 -ℤ pos 1) BlockIn at) z g.node) (sym e.at) g.chosen;
+        bare = e.bare;
+        document = e.document;
+        parts = grown_by a g.node g.added.events g.added.comments g.added.escapes d;
+      }
+
+  pub marked_found : {at : ℕ} {ds : List Directive} {old a b : Parts} {f : FoundNode} (next : Next) → SomethingBegins t (at + 3)
+      → FoundTied t DEPTH (pos 0 -ℤ pos 1) BlockIn (at + 3) a.part f b.part → b.documents ≡ a.documents → a ≡ opened at true ds old → FoundRead f next → MarkedRead t at ds old b next
+  marked_found {at} {a = a} {b = b} (Go after) s x d o e = node_read (subst (λ z. NodeEnds t (at + 3) z b after) o (node_ends a b x d e))
+  marked_found (Syntax place) s x d o e = no_node_read s (no_node_of (x.broken e.0))
+  marked_found (TooDeep place) s x d o e = absurd e
+
+  pub marked_none : {at place : ℕ} {ds : List Directive} {old b : Parts} → SomethingBegins t (at + 3) → NoneTied t DEPTH (pos 0 -ℤ pos 1) BlockIn (at + 3) → MarkedRead t at ds old b (Syntax place)
+  marked_none s n = no_node_read s (none_derived n.none)
+
+  fewer_openers : (i : ℕ) → openers_from t i ≤ openers t
+  unfolding openers_from
+  fewer_openers i =
+      let all : sum_by (λ c. cond (is_opener c) 1 0) (take i t) + openers (drop i t) ≡ openers t = sum_by-take-drop (λ c. cond (is_opener c) 1 0) t i in omega arith
+
+  pub marked_deep : {at place : ℕ} {ds : List Directive} {old b : Parts} → SomethingBegins t (at + 3) → NoneTied t DEPTH (pos 0 -ℤ pos 1) BlockIn (at + 3) → DEPTH < openers_from t (at + 3)
+      → MarkedRead t at ds old b (TooDeep place)
+  marked_deep {at} s n l = let m = fewer_openers (at + 3) in too_deep_read s (none_derived n.none) (omega arith)
+
+  pub marked_nothing : {at end : ℕ} {cs : List CommentValue} {ds : List Directive} {old a b : Parts} (next : Next) → NothingAt t (at + 3) end cs → a ≡ opened at true ds old
+      → EmptyAdded end cs a b next → MarkedRead t at ds old b next
+  marked_nothing {at} {end} {cs} {ds} {old} {a} {b} (Go after) n o e =
+      let e' : EmptyTo end cs (opened at true ds old) b after = subst (λ z. EmptyTo end cs z b after) o e in
+      nothing_read (record {
+        ends = record {
+          comments = cs;
+          line = subst (λ z. Chosen (LineEnd t (at + 3)) z cs) (sym e'.at) n.line;
+          bare = e'.bare;
+          document = e'.document;
+          floor = e'.floor;
+          parts = e'.parts;
+        };
+        last = subst (λ z. LinesEnd t z) (sym e'.at) n.last;
+      })
+  marked_nothing (Syntax place) n o e = absurd e
+  marked_nothing (TooDeep place) n o e = absurd e
+
+  pub bare_found : {at start : ℕ} {w : List ℕ} {old a b : Parts} {f : FoundNode} (next : Next) → Many t is_white at start w → is_white (code t start) ≡ false
+      → FoundTied t DEPTH (pos 0 -ℤ pos 1) BlockIn at a.part f b.part → b.documents ≡ a.documents → a ≡ opened start false [] old → FoundRead f next → BareRead t at old b next
+  bare_found {at} {a = a} {b = b} (Go after) m w x d o e = bare_read m w (subst (λ z. NodeEnds t at z b after) o (node_ends a b x d e))
+  bare_found (Syntax place) m w x d o e = no_bare_read (no_node_of (x.broken e.0))
+  bare_found (TooDeep place) m w x d o e = absurd e
+
+  pub bare_none : {at place : ℕ} {old b : Parts} → NoneTied t DEPTH (pos 0 -ℤ pos 1) BlockIn at → BareRead t at old b (Syntax place)
+  bare_none n = no_bare_read (none_derived n.none)
+
+  pub bare_deep : {at place : ℕ} {old b : Parts} → NoneTied t DEPTH (pos 0 -ℤ pos 1) BlockIn at → DEPTH < openers_from t at → BareRead t at old b (TooDeep place)
+  bare_deep {at} n l = let m = fewer_openers at in too_deep_bare (none_derived n.none) (omega arith)
+
+  -- the end of a line after a `---`
+  pub something_left : {at j : ℕ} {cs : List CommentValue} → Chosen (LineEnd t at) j cs → (LinesEnd t j → ⊥) → SomethingBegins t at
+  something_left {j = j} {cs = cs} c n = record {
+    none = λ k ds d z.
+        let l = c.longest k ds d.derived in
+        let m = d.longest j cs c.derived in
+        let e : k ≡ j = omega arith in
+        n (subst (λ w. LinesEnd t w) e z);
+  }
+
+  pub something_there : {at : ℕ} → Stuck (LineEnd t at) → SomethingBegins t at
+  something_there s = record { none = λ k ds d z. s.none k ds d.derived }
+
+-- the indentation of a document's node, and what the reader of block nodes answers of it
+pub root_indentation : Indentation (pos 0 -ℤ pos 1)
+root_indentation = record { least = 0; is = refl; narrow = omega arith }
+
+pub outcome_of : (t : List ℕ) (at : ℕ) (before part : Part) {r : Result Outcome AllocError} {o p : Outcome}
+    → IfOk r (λ w. OutcomeTied t DEPTH (pos 0 -ℤ pos 1) BlockIn at before w part) → r ≡ Ok o → o ≡ p → OutcomeTied t DEPTH (pos 0 -ℤ pos 1) BlockIn at before p part
+outcome_of t at before part i e f =
+    subst (λ w. OutcomeTied t DEPTH (pos 0 -ℤ pos 1) BlockIn at before w part) f
+    (subst (λ z. IfOk z (λ w. OutcomeTied t DEPTH (pos 0 -ℤ pos 1) BlockIn at before w part)) e i)
+
+-- the documents after one more
+pub documents_opened : (t : List ℕ) (a : Parts) {b : Parts} (start : ℕ) (marked : Bool) (ds : List Directive) → b ≡ opened start marked ds a → DocumentsAt t a.documents → DirectivesAt t ds
+    → DocumentsAt t b.documents
+documents_opened t a start marked ds e d h =
+    subst (λ z. DocumentsAt t z.documents) (sym e) (All-push (λ (d : Doc). DirectivesAt t d.directives) a.documents (record { start = start; directives = ds }) d h)
+
+pub no_directives_at : (t : List ℕ) {ds : List Directive} → ds ≡ [] → DirectivesAt t ds
+no_directives_at t e = subst (λ z. DirectivesAt t z) (sym e) (All-nil (λ (d : Directive). IsCharBoundary t d.offset))
+
+pub empty_next : (t : List ℕ) (at : ℕ) {end : ℕ} (cs : List CommentValue) (a b : Parts) (next : Next) → IsCharBoundary t end → at + 3 ≤ end → EmptyAdded end cs a b next
+    → NextAt t (at + 1) next
+empty_next t at cs a b (Go after) k l e =
+    (record { boundary = subst (λ z. IsCharBoundary t z) (sym e.at) k; order = omega (arith, e.at) }, subst (λ z. IsCharBoundary t z) (sym e.reached) k)
+empty_next t at cs a b (Syntax place) k l e = absurd e
+empty_next t at cs a b (TooDeep place) k l e = absurd e
+
+pub turned_false : (b : Bool) → not b ≡ true → b ≡ false
+turned_false true e = absurd (true≢false (sym e))
+turned_false false e = refl
+
+pub turned_true : (b : Bool) → not b ≡ false → b ≡ true
+turned_true true e = refl
+turned_true false e = absurd (true≢false e)
