@@ -32,12 +32,14 @@ use Rattle.yf_emit.specs.OneLine.{written, colon_behind}
 use Rattle.yf_emit.specs.Rows.{Row, Ending, anywhere, before_node, behind_key, begins_below, joined}
 use Rattle.yf_events.specs.declared.event.Span.{Span}
 use Rattle.yf_emit.specs.Steps.{Step, leaf_steps, comment_steps, steps_in}
+use Rattle.yf_emit.proofs.CollectionsMade.{comments_behind}
 use Rattle.yf_emit.proofs.EntriesMade.{Begins, begins, EntryMade, EntryMakes, comments_both, comments_entering}
 use Rattle.yf_emit.proofs.FlowEvents.{empty_flow, flow_means}
 use Rattle.yf_emit.proofs.FoundLines.{items_inside, leaves_inside, placed_node}
 use Rattle.yf_emit.proofs.FoundNodes.{FoundNode, FoundPair, HeadAt, head_at, KeyRows, key_commented, key_above, key_alone, key_joined, bare_node, bare_alike, bare_events, bare_escapes, bare_comments, found_behind, found_noting, found_nothing, found_implicit, meant_of}
 use Rattle.yf_emit.proofs.HeldLemmas.{Held, empty_silent, entering_silent, held_after, held_behind, held_joined, held_line, row_ended}
 use Rattle.yf_emit.proofs.LaidRows.{leaves_apart, laid_row, laid_line}
+use Rattle.yf_emit.proofs.LineUtf8.{space_chars, written_utf8}
 use Rattle.yf_emit.proofs.NodePlaces.{beside_at, below_at}
 use Rattle.yf_emit.proofs.NodesMade.{Stood, Claim, no_row, some_rows, MeansNothing, noting_nothing}
 use Rattle.yf_emit.proofs.PlacedRows.{Inside, none_inside, one_inside, inside_wider, PlacedRow, AtRow, RowsIn, last_row, row_before, joined_placed, rows_joined}
@@ -157,10 +159,6 @@ keyed_behind head q i a items ls h e (row_before {p = p} {ps = ps} at end w more
       placed = rows_joined head 1 q a items ls (omega (arith, e, width)) (inside_wider (omega arith) (omega (arith, e)) h.items_stand) (inside_wider (omega arith) (omega (arith, e)) h.leaves_stand)
           (row_before at end w more);
     }
-
-comments_behind : (cs : List CommentValue) (x : Meaning) → (behind cs x).comments ≡ cs ++ x.comments
-unfolding behind
-comments_behind cs x = refl
 
 -- the `:` before it
 colon_seen : {t : List ℕ} (i : ℕ) → IsUtf8 t → code t i ≡ 58 → Behind t (i + 1)
@@ -295,13 +293,6 @@ record KeyMade (t : List ℕ) (h : ℕ) (mean : Meaning) (q : ℕ) (z written_te
   pub colon : code t place ≡ 58
   pub rest : Rest t (place + 1) z
   pub width : q + length written_text ≡ place + 1
-
-space_chars : chars (32 ∷ []) ≡ 32 ∷ []
-unfolding chars
-space_chars = refl
-
-written_utf8 : {t : List ℕ} {q : ℕ} (w r : List ℕ) → IsUtf8 t → Rest t q (w ++ r) → Rest t (q + length w) r → IsUtf8 w
-written_utf8 {t} {q} w r u s e = subst (λ z. IsUtf8 z) (slice_back w r (rest_stands s)) (IsUtf8-between t q (q + length w) u (omega arith) s.boundary e.boundary)
 
 key_made : {t : List ℕ} {k : Node} (q : ℕ) (z : List ℕ) (text : List ℕ) (node : LineNode BlockKey k) → ColonFits node.colon text → length (chars (written k)) ≤ 1023 → IsUtf8 t
     → Rest t q (written k ++ (text ++ z)) → KeyMade t node.height (node.mean q) q z (written k ++ text)

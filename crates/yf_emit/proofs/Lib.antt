@@ -95,6 +95,7 @@ pub mod StepsStand
 pub mod LaidRows
 pub mod NodesMade
 pub mod ScalarStands
+pub mod ScalarFound
 pub mod ScalarsMade
 pub mod EntriesMade
 pub mod KeysMade

@@ -55,6 +55,7 @@ use Rattle.yf_emit.proofs.NodePlaces.{apart_at, both_behind, block_no_key}
 use Rattle.yf_emit.proofs.NodesMade.{Stood, NodeMade, Claim, some_rows}
 use Rattle.yf_emit.proofs.PlacedRows.{none_inside, one_inside, PlacedRow, AtRow, RowsIn, last_row}
 use Rattle.yf_emit.proofs.RowEnds.{trails_at, first_deco}
+use Rattle.yf_emit.proofs.ScalarFound.{bare_found, leaf_row, leaf_stands, props_found}
 use Rattle.yf_emit.proofs.ScalarHeld.{AllSigns, behind_signs, signs_append, ScalarReached, passed_header, scalar_comments, scalar_reached}
 use Rattle.yf_emit.proofs.ScalarStands.{ScalarMade, style_back, bare_scalar, props_scalar}
 use Rattle.yf_emit.proofs.StepsStand.{MeaningLaid, laid_scalar, laid_scalar_with}
@@ -246,47 +247,6 @@ scalar_at {t} {style} {text} {lines} indent n column d r q f wide near e u a cal
       seen = record { at = q + length header; behind = behind_signs header (end_then d body r) q u signs some w; rest = text_end.rest };
     }
 
--- its row, on which it begins at q
-abbrev leaf_row : ℕ → ℕ → PlacedRow
-leaf_row q finish = record { items = q ∷ []; leaves = record { start = q; end = finish } ∷ []; commented = false; from = q; upto = q }
-
--- its event
-bare_found : {t : List ℕ} {at : Standing} {style : ScalarStyle} {text : List ℕ} {lines : List (List ℕ)} (s : Setting) (column indent i : ℕ) (m : Meaning) → is_some at.span ≡ true → FitScalar style text lines
-    → m.events ≡ scalar_event (header_of style indent text) (content_lines style text lines) (final_feeds text - 1) i m.finish ∷ [] → m.escapes ≡ []
-    → FoundNode t s column (scalar at no_props style text lines) m (leaf_row i m.finish ∷ [])
-unfolding from_to
-bare_found {style = style} {text = text} {lines = lines} s column indent i m e f events escapes = record {
-  rows = scalar_rows f.block (one_inside (omega arith) (omega arith) none_inside) refl refl refl;
-  node = scalar (record { span = from_to i m.finish; tag_offset = None; entry = None }) no_props style text lines;
-  alike = alike_scalars e;
-  events = events ∙ λ z. record {
-    event = scalar_node no_props (style_back style f.block z) (f.content indent z);
-    span = from_to i m.finish;
-    tag_offset = None;
-    entry = None;
-    folded = f.kept z;
-  } ∷ [];
-  escapes = escapes;
-}
-
-props_found : {t : List ℕ} {at : Standing} {style : ScalarStyle} {text : List ℕ} {lines : List (List ℕ)} (s : Setting) (column indent i q g : ℕ) (p : PropsValue) (o : Option ℕ) (m : Meaning) → is_some at.span ≡ true
-    → FitScalar style text lines → m.events ≡ scalar_event (header_of style indent text) (content_lines style text lines) (final_feeds text - 1) i m.finish ∷ [] → m.escapes ≡ []
-    → FoundNode t s column (scalar at p style text lines) (with_props p o q g m) (leaf_row q m.finish ∷ [])
-unfolding from_to with_props
-props_found {style = style} {text = text} {lines = lines} s column indent i q g p o m e f events escapes = record {
-  rows = scalar_rows f.block (one_inside (omega arith) (omega arith) none_inside) refl refl refl;
-  node = scalar (record { span = from_to q m.finish; tag_offset = o; entry = None }) p style text lines;
-  alike = alike_scalars e;
-  events = ap (λ es. first_with p o q g es) events ∙ λ z. record {
-    event = scalar_node p (style_back style f.block z) (f.content indent z);
-    span = from_to q m.finish;
-    tag_offset = o;
-    entry = None;
-    folded = f.kept z;
-  } ∷ [];
-  escapes = escapes;
-}
-
 pub header_unmarked : (style : ScalarStyle) (indent : ℕ) (text : List ℕ) → Unmarked (header_text style indent text)
 header_unmarked Plain indent text = unmarked_first 124 (digit_text indent text ++ chomping_sign (final_feeds text)) (omega arith) (λ e. omega arith) (λ e. omega arith) (λ e. omega arith)
 header_unmarked Single indent text = unmarked_first 124 (digit_text indent text ++ chomping_sign (final_feeds text)) (omega arith) (λ e. omega arith) (λ e. omega arith) (λ e. omega arith)
@@ -303,16 +263,6 @@ spaced_some (b ∷ x) (c ∷ y) e f = refl
 pub body_some : (column n : ℕ) (ls : List (List ℕ)) → EndsWithContent ls → map (line_at column) (ls ++ replicate n []) ≡ [] → ⊥
 body_some column n [] last e = last
 body_some column n (x ∷ ls) last e = absurd cc
-
-leaf_stands : {row : Row} {q : ℕ} (finish : ℕ) → (row.body ≡ [] → ⊥) → is_some row.key_comment ≡ false → AtRow row q (leaf_row q finish)
-leaf_stands finish some key = record {
-  from = refl;
-  order = omega arith;
-  size = λ z. absurd (some z);
-  items = one_inside (omega arith) (omega arith) none_inside;
-  leaves = one_inside (omega arith) (omega arith) none_inside;
-  commented = key;
-}
 
 -- with properties
 pub header_with : {p : PropsValue} (style : ScalarStyle) (indent : ℕ) (text : List ℕ) → IsProps p → p ≢ no_props → spaced (props_text p) (header_text style indent text) ≡ props_bytes p ++ (32 ∷ header_text style indent text)

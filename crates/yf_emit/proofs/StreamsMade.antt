@@ -48,7 +48,7 @@ use Rattle.yf_emit.proofs.SetMeant.{SetDone}
 use Rattle.yf_emit.proofs.SetStreams.{SetAll, none_set, some_set, document_set, documents_set}
 use Rattle.yf_emit.proofs.StepsStand.{Stand, nothing_stands, stand_after, stand_join, comments_stand, EventsLaid, events_behind}
 use Rattle.yf_emit.proofs.TreesMade.{node_claim}
-use Rattle.yf_emit.proofs.StreamParts.{meant_document, texts_with_document, documents_with, texts_with_comments, same_documents, laid_document, DocumentsLaid, no_documents_laid, laid_with_comments, documents_laid}
+use Rattle.yf_emit.proofs.StreamParts.{beside_tree, ended_at, head_rows, meant_document, prefixes_of, texts_with_document, documents_with, texts_with_comments, same_documents, laid_document, DocumentsLaid, no_documents_laid, laid_with_comments, documents_laid}
 use Rattle.yf_emit.proofs.WellSet.{lines_set, set_append}
 
 -- Rows of directives, and of the node after them.
@@ -120,13 +120,6 @@ directed {t} c {d} x {e} {es} row ds r q none bare said key plain same f fs fit 
         bodies = held_events t node.meaning ((row ∷ map directive_row es) ++ (start_row ∷ tree)) ds r one.place one.meaning.directives (bodies_append t node.meaning.events (row ∷ map directive_row es) (start_row ∷ tree) ds r (one.held node.meaning.events).bodies node.held.bodies);
       };
     }
-
--- the rows of a document, by its directives
-abbrev head_rows : Bool → ℕ → List Directive → List Row
-head_rows is_first start dirs = beginning_at start (end_rows is_first dirs ++ (map directive_row dirs ++ (start_row ∷ [])))
-
-beside_tree : (row : Row) (es : List Directive) (tree : List Row) → ((row ∷ map directive_row es) ++ (start_row ∷ [])) ++ tree ≡ (row ∷ map directive_row es) ++ (start_row ∷ tree)
-beside_tree row es tree = append_assoc (row ∷ map directive_row es) (start_row ∷ []) tree
 
 -- The first document of a stream.
 
@@ -263,11 +256,6 @@ pub record RestMade (t : List ℕ) (s : Setting) (ds : List Doc) (xs : List Docu
   pub held : EventsHeld t (all_events documents.documents) documents.comments rs decos []
   pub set : SetAll t s.style documents.documents
 
-ended_at : {t : List ℕ} {q : ℕ} → Rest t q [] → q ≡ length t
-ended_at {t} {q} s =
-    let none : length (drop q t) ≡ 0 = ap length s.bytes in
-    omega (arith, none, length-drop q t, s.boundary.0)
-
 rest_made : {t : List ℕ} (c : Setting) {ds : List Doc} {xs : List DocumentTree} → FitDocuments ds xs → (decos : List Deco) (q : ℕ) → IsUtf8 t → AreDecos decos → Calm (stream_rows c false ds xs) decos []
     → Rest t q (lines_then (stream_rows c false ds xs) decos []) → RestMade t c ds xs (stream_rows c false ds xs) decos q
 rest_made {t} c fit_no_documents decos q u a k w = record {
@@ -314,10 +302,6 @@ rest_made {t} c (fit_document {d = d} {ds = ds} {x = x} {xs = xs} f fit more) de
     }
 
 -- Whole streams.
-
-prefixes_of : {t : List ℕ} {i j : ℕ} {cs : List CommentValue} → Chain (CommentLine t) i j cs → Prefixes t i j cs
-prefixes_of done = done
-prefixes_of (step a more) = step (prefix_comment a) (prefixes_of more)
 
 -- what is derived of the whole text, and its leaves and comments in the order of steps
 pub record StreamLaid (t : List ℕ) (s : Setting) (ds : List Doc) (xs : List DocumentTree) (gap : List GapLine) (rs : List Row) (decos : List Deco) : Type 0 where

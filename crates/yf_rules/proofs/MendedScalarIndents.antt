@@ -21,22 +21,23 @@ use Rattle.yf_emit.specs.ContentStart.{content_start}
 use Rattle.yf_emit.specs.Decorated.{body_then}
 use Rattle.yf_emit.proofs.HeldLemmas.{ScalarAt}
 use Rattle.yf_emit.proofs.LaidLines.{LineIs, before_text_end, line_is}
+use Rattle.yf_emit.proofs.LineSorts.{got_drop}
 use Rattle.yf_emit.proofs.RowsUtf8.{AreLines as AreTexts, no_line, line_more, body_lines}
 use Rattle.yf_emit.proofs.ScalarsMade.{body_some, body_texts}
 use Rattle.yf_emit.proofs.SetMeant.{BlockAt, block_at}
 use Rattle.yf_rules.specs.Scalars.{BlockContent, head_count}
 use Rattle.yf_rules.proofs.MendedColumns.{char_boundary}
 use Rattle.yf_rules.proofs.MendedContents.{LineThere, first_content_of}
-use Rattle.yf_rules.proofs.MendedScalars.{follow_drop, got_drop}
+use Rattle.yf_rules.proofs.MendedScalars.{follow_drop}
 
 -- Lines that are read from a place on.
 
-line_here : {t : List ℕ} {l : Line} {ls : List Line} {y : List ℕ} {ys : List (List ℕ)} (x : List ℕ) → LineIs t l y → ((i : ℕ) → slice_get ys i ≡ Some x → LineThere t ls i x) → (i : ℕ) → slice_get (y ∷ ys) i ≡ Some x
+line_here : {t : List ℕ} {l : Line} {ls : List Line} {y : List ℕ} (ys : List (List ℕ)) (x : List ℕ) → LineIs t l y → ((i : ℕ) → slice_get ys i ≡ Some x → LineThere t ls i x) → (i : ℕ) → slice_get (y ∷ ys) i ≡ Some x
     → LineThere t (l ∷ ls) i x
-line_here {t} {l} {ls} x is later zero e = subst (λ w. LineThere t (l ∷ ls) 0 w) (same e) (record { line = l; at = refl; is = is }) where
+line_here {t} {l} {ls} ys x is later zero e = subst (λ w. LineThere t (l ∷ ls) 0 w) (same e) (record { line = l; at = refl; is = is }) where
   same : {v w : List ℕ} → Some v ≡ Some w → v ≡ w
   same e = cc
-line_here x is later (suc i) e = let r = later i e in record { line = r.line; at = r.at; is = r.is }
+line_here ys x is later (suc i) e = let r = later i e in record { line = r.line; at = r.at; is = r.is }
 
 body_there : {t : List ℕ} {xs : List (List ℕ)} (ls : List Line) {q : ℕ} (z : List ℕ) → IsUtf8 t → AreTexts xs → Follow t q (length t) ls → Rest t q (body_then xs z) → (x : List ℕ) (i : ℕ) → slice_get xs i ≡ Some x
     → LineThere t ls i x
@@ -47,7 +48,7 @@ body_there {t} (l ∷ ls) {q} z u (line_more {x = y} {xs = ys} a more) f s x i e
     let is : LineIs t l y = (line_is l y (body_then ys z) u a f.1 here).0 in
     let end = rest_break u (rest_text y u a here).rest in
     let there : l.start + length y + 1 ≡ l.next = sym (is.next ∙ ap (λ k. k + 1) is.end) in
-    line_here x is (λ i e. body_there ls z u more f.2 (subst (λ k. Rest t k (body_then ys z)) there end.1) x i e) i e
+    line_here ys x is (λ i e. body_there ls z u more f.2 (subst (λ k. Rest t k (body_then ys z)) there end.1) x i e) i e
 
 some_body : (t : List ℕ) (q : ℕ) (xs : List (List ℕ)) (z : List ℕ) → xs ≢ [] → Rest t q (body_then xs z) → q < length t
 some_body t q [] z n s = absurd (n refl)
