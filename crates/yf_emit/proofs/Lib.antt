@@ -194,7 +194,7 @@ pub mod GapSpread
 pub mod LeadRows
 pub mod FoundLines
 pub mod FoundStreams
-pub mod FoundQuiet
+pub mod QuietPlaces
 pub mod FoundAgree
 pub mod FoundKeys
 pub mod BareNodes
