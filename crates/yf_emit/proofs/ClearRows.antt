@@ -48,7 +48,7 @@ line_indented (suc k) a = line_ascii 32 (omega arith) space_nb (line_indented k 
 pub remark_line : {text : List ℕ} → IsRemark text → IsLineText text
 remark_line a = subst (λ w. IsLineText w) (sym a.is) (line_ascii 35 (omega arith) hash_nb a.line)
 
-remark_unmarked : {text : List ℕ} → IsRemark text → Unmarked text
+pub remark_unmarked : {text : List ℕ} → IsRemark text → Unmarked text
 remark_unmarked a = subst (λ w. Unmarked w) (sym a.is) (unmarked_first 35 a.behind (omega arith) (λ e. omega arith) (λ e. omega arith) (λ e. omega arith))
 
 -- Lines.
@@ -58,7 +58,7 @@ pub record ClearTo (t : List ℕ) (q : ℕ) (r : List ℕ) : Type 0 where
   pub clear : Clear t q place
   pub rest : Rest t place r
 
-feed_follows : {r : List ℕ} → Follows is_behind_text (10 ∷ r)
+pub feed_follows : {r : List ℕ} → Follows is_behind_text (10 ∷ r)
 unfolding is_behind_text is_behind_name
 feed_follows = byte_follows (omega arith) refl
 
@@ -117,7 +117,7 @@ trails_line [] a = line_nothing
 trails_line (x ∷ []) a = line_ascii 32 (omega arith) space_nb (line_ascii 32 (omega arith) space_nb (line_append (remark_line a) line_nothing))
 trails_line (x ∷ y ∷ zs) a = absurd a
 
-trails_unmarked : {w : List ℕ} (xs : List (List ℕ)) → Unmarked w → Unmarked (w ++ trails_bytes xs)
+pub trails_unmarked : {w : List ℕ} (xs : List (List ℕ)) → Unmarked w → Unmarked (w ++ trails_bytes xs)
 trails_unmarked {w} [] a = subst (λ v. Unmarked v) (sym (append-nil w)) a
 trails_unmarked (x ∷ xs) a = unmarked_more 32 (32 ∷ (x ++ trails_bytes xs)) a (omega arith) space_is_behind
 

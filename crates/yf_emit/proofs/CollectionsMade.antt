@@ -14,9 +14,11 @@ use Rattle.yf_props.proofs.PropsLines.{props_line_text}
 use Rattle.yf_events.specs.Tree.{Node, is_sequence}
 use Rattle.yf_grammar.specs.Grammar.{least_column}
 use Rattle.yf_grammar.specs.Meaning.{Meaning, behind, collection, with_props}
-use Rattle.yf_grammar.specs.Meant.{tall}
+use Rattle.yf_grammar.specs.Meant.{tall, Meant}
 use Rattle.yf_grammar.proofs.CommentOrder.{Ascend, end_ascends}
-use Rattle.yf_grammar.proofs.MeantLemmas.{texts_behind, texts_collection, texts_with_props}
+use Rattle.yf_grammar.proofs.MeantLemmas.{texts_behind, texts_collection, texts_with_props, meant_behind}
+use Rattle.yf_grammar.proofs.NodesBehind.{properties_behind}
+use Rattle.yf_emit.specs.declared.style.Style.{Style}
 use Rattle.yf_emit.specs.Carried.{AreDecos, carried_texts, Calm}
 use Rattle.yf_emit.specs.Decorated.{Deco, first, after, end_then, lines_then, inline_then}
 use Rattle.yf_emit.specs.Normal.{Setting, Spot}
@@ -25,6 +27,7 @@ use Rattle.yf_emit.specs.Rows.{Row, before_node, plain_row, props_row, is_empty_
 use Rattle.yf_emit.specs.Steps.{leaf_steps, comment_steps, steps_in}
 use Rattle.yf_emit.proofs.EntriesMade.{Begins, begins, EntriesMakes, lines_begin}
 use Rattle.yf_emit.proofs.FoundNodes.{FoundNode, found_behind}
+use Rattle.yf_emit.proofs.HeldLemmas.{held_behind, held_collection, held_collection_with, row_ended}
 use Rattle.yf_emit.proofs.NodePlaces.{NodeAt, entries_at, propertied_at}
 use Rattle.yf_emit.proofs.NodesMade.{Stood, NodeMade, Claim, some_rows}
 use Rattle.yf_emit.proofs.PlacedRows.{none_inside, PlacedRow, AtRow, EndsRow, RowsIn, row_before}
@@ -119,6 +122,7 @@ bare_claim {s} {x} {spot} {es} {sequence} {bound} {Q} below kind high meant e = 
         placed = subst (λ z. RowsIn t rs one.found_rows ds q z one.place r) (sym (comments_collection sequence false q one.meaning.finish one.meaning)) one.placed;
         is = texts_collection sequence false q one.meaning.finish one.meaning ∙ one.is;
         laid = laid_collection sequence false q one.meaning.finish one.meaning one.laid;
+        held = held_collection sequence false q one.meaning.finish one.meaning rs ds r one.held;
       }
 
   claim : {rs : List Row} → Begins spot.entries rs → EntriesMakes sequence spot.entries bound Q rs → Claim s x spot rs
@@ -177,6 +181,9 @@ module _ {s : Setting} {x : Node} {spot : Spot} {es : List Row} {sequence : Bool
         laid = subst (λ z. MeaningLaid q one.place (behind end.comments (with_props p offset q g inner)) (leaf_steps z ++ (comment_steps (carried_texts (first ds)) ++ steps_in es (after ds)))) (sym none)
             (laid_after (omega arith) (laid_behind end.comments (with_props p offset q g inner) (end_ascends end.end) end.is (omega arith)
             (laid_collection_with p offset q g sequence false (end.place + spot.entries) one.meaning.finish one.meaning one.laid)));
+        held = held_behind end.comments (with_props p offset q g inner) row es ds r body
+            (row_ended (first ds) (lines_then es (after ds) r) u (properties_behind u properties) (first_deco a) after_props.rest end.end)
+            (held_collection_with p offset q g sequence false (end.place + spot.entries) one.meaning.finish one.meaning es (after ds) r one.held);
       }
 
   propertied_row : (w : List ℕ) → w ≡ props_bytes p → is_empty_text w ≡ false → Claim s x spot (props_row spot.column w ++ es)

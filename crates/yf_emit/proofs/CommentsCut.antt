@@ -1,5 +1,5 @@
--- Rows cut the comments of a text where, of each row, no comment stands between its leaves and the last item on it, and the comment that trails
--- it, if there is one, is the first after its items.
+-- Rows cut the comments of a text where, of each row, no comment stands between what begins on it and the last item on it, and the comment that
+-- trails it, if there is one, is the first after its items.
 use Rattle.std.proofs.Common.{◌≡◌, ℕ, max, ◌+◌, ◌<◌, ◌≤◌, Bool, true, false, List, [], ◌∷◌, ◌++◌, flat_map, refl, sym, ap, ◌∙◌, subst, arith, cond, append_assoc, append-nil, ⊎_elim}
 use Rattle.std.specs.Prelude.{not, ◌||◌, ◌==◌, nat_lt, filter}
 use Rattle.std.proofs.lemmas.Bool.{cases_lt}
@@ -10,10 +10,9 @@ use Rattle.yf_comments.specs.Comment.{CommentValue}
 use Rattle.yf_emit.specs.Decorated.{comments_left}
 use Rattle.yf_emit.specs.Layout.{Source, is_among, precedes_item, trailing}
 use Rattle.yf_emit.specs.Rows.{Row}
-use Rattle.yf_emit.proofs.PrintedSteps.{AllLater, no_later, more_later, AllEarlier, no_earlier, more_earlier, Cuts, none_cut, row_cut}
-use Rattle.yf_emit.proofs.RowLeaves.{leaves_on}
+use Rattle.yf_emit.specs.Steps.{Step}
+use Rattle.yf_emit.proofs.PrintedSteps.{begun, AllLater, no_later, more_later, AllEarlier, no_earlier, more_earlier, Cuts, none_cut, row_cut}
 use Rattle.yf_emit.proofs.StartsBefore.{AllFrom, later_join, later_from, AllBelow}
-use Rattle.yf_emit.proofs.StepsStand.{starts_of, starts_append}
 
 -- Comments of a list.
 
@@ -139,29 +138,31 @@ own_of all d = not (is_among all d)
 
 -- Rows.
 
--- how the leaves of a row stand to the comments before the last item on it, and after it
-pub record LeavesCut (cs : List CommentValue) (ls : List ℕ) (cut : ℕ) : Type 0 where
-  pub still : (d : CommentValue) → In d cs → d.offset < cut → AllFrom d.offset ls
-  pub behind : (d : CommentValue) → In d cs → cut ≤ d.offset → AllBelow d.offset ls
+-- how what begins on a row stands to the comments before the last item on it, and to those from its top on
+pub record BegunCut (cs : List CommentValue) (ss : List ℕ) (cut top : ℕ) : Type 0 where
+  pub still : (d : CommentValue) → In d cs → d.offset < cut → AllFrom d.offset ss
+  pub behind : (d : CommentValue) → In d cs → top ≤ d.offset → AllBelow d.offset ss
 
 -- what trails a row, before further rows
 pub data TrailCut (c : Source) (cs : List CommentValue) (cut top : ℕ) (row : Row) (rows : List Row) : Type 0 where
   none_trails : trailing c row ≡ [] → TrailCut c cs cut top row rows
   one_trails : (e : CommentValue) → trailing c row ≡ e ∷ [] → In e cs → top ≤ e.offset → ((d : CommentValue) → In d cs → d.offset < e.offset → d.offset < cut)
-      → AllFrom e.offset (starts_of (leaves_on rows)) → Over (e.offset + 1) (flat_map (trailing c) rows) → TrailCut c cs cut top row rows
+      → Over (e.offset + 1) (flat_map (trailing c) rows) → TrailCut c cs cut top row rows
 
--- rows whose items rise from an offset on
-pub data Flowing (c : Source) (cs : List CommentValue) : ℕ → List Row → Type 0 where
-  no_flow : {it : ℕ} → Flowing c cs it []
-  a_flow : {it : ℕ} {row : Row} {rows : List Row} (cut : ℕ) → ((d : CommentValue) → precedes_item row d ≡ nat_lt d.offset cut) → LeavesCut cs (starts_of row.leaves) cut
-      → AllFrom (max it cut) (starts_of (leaves_on rows)) → TrailCut c cs cut (max it cut) row rows → Flowing c cs (max it cut) rows → Flowing c cs it (row ∷ rows)
+-- rows whose items rise from an offset on; f tells what begins on a row, and the list where all of that stands
+pub data Flowing (f : Row → List Step) (c : Source) (cs : List CommentValue) : ℕ → List Row → List ℕ → Type 0 where
+  no_flow : {it : ℕ} → Flowing f c cs it [] []
+  a_flow : {it : ℕ} {row : Row} {rows : List Row} {rs : List ℕ} (cut : ℕ) (ss : List ℕ) → f row ≡ begun ss → ((d : CommentValue) → precedes_item row d ≡ nat_lt d.offset cut)
+      → BegunCut cs ss cut (max it cut) → AllFrom (max it cut) rs → ((d : CommentValue) → In d (trailing c row) → AllFrom d.offset rs) → TrailCut c cs cut (max it cut) row rows
+      → Flowing f c cs (max it cut) rows rs → Flowing f c cs it (row ∷ rows) (ss ++ rs)
 
-pub flowing_over : {c : Source} {cs : List CommentValue} {it : ℕ} {rows : List Row} (h : ℕ) → h ≤ it → Flowing c cs it rows → Over h (flat_map (trailing c) rows)
+pub flowing_over : {f : Row → List Step} {c : Source} {cs : List CommentValue} {it : ℕ} {rows : List Row} {starts : List ℕ} (h : ℕ) → h ≤ it → Flowing f c cs it rows starts
+    → Over h (flat_map (trailing c) rows)
 flowing_over h l no_flow = each_none
-flowing_over {c} {cs} {it = it} h l (a_flow {row = row} {rows = rows} cut p leaves later trail more) = go (flowing_over h (omega (arith, l)) more) trail where
+flowing_over {f} {c} {cs} {it = it} h l (a_flow {row = row} {rows = rows} cut ss a p leaves later near trail more) = go (flowing_over h (omega (arith, l)) more) trail where
   go : Over h (flat_map (trailing c) rows) → TrailCut c cs cut (max it cut) row rows → Over h (trailing c row ++ flat_map (trailing c) rows)
   go rest (none_trails e) = subst (λ w. Over h (w ++ flat_map (trailing c) rows)) (sym e) rest
-  go rest (one_trails d e i m f g o) = subst (λ w. Over h (w ++ flat_map (trailing c) rows)) (sym e) (each_more (omega (arith, l, m)) rest)
+  go rest (one_trails d e i m f o) = subst (λ w. Over h (w ++ flat_map (trailing c) rows)) (sym e) (each_more (omega (arith, l, m)) rest)
 
 -- Comments on both sides of an offset, and of a comment.
 
@@ -201,7 +202,7 @@ in_left (each_more m a) l (in_rest i) = in_left a l i
 
 -- The comments cut by the rows.
 
-module _ (c : Source) (cs all : List CommentValue) where
+module _ (f : Row → List Step) (c : Source) (cs all : List CommentValue) where
   -- a comment before those that later rows have, and after those that earlier ones have
   owned : (d : CommentValue) (gone trails rest : List CommentValue) → all ≡ gone ++ (trails ++ rest) → is_among gone d ≡ false → is_among trails d ≡ false → is_among rest d ≡ false
       → own_of all d ≡ true
@@ -217,13 +218,13 @@ module _ (c : Source) (cs all : List CommentValue) where
       keep_all (own_of all) (each_map (λ d i l. owned d gone [] [] e (none_below d l under) refl refl) (upward_over hi (omega arith) up))
 
   -- wherever the comments that are left begin, and whatever trailed earlier rows
-  abbrev pub CutAnywhere : ℕ → List Row → Type 0
-  CutAnywhere it rows = (hi : ℕ) (done left gone : List CommentValue) → it ≤ hi → cs ≡ done ++ left → Under hi done → Upward hi left → Under hi gone
-      → all ≡ gone ++ flat_map (trailing c) rows → Over hi (flat_map (trailing c) rows) → Cuts c (own_of all) left rows
+  abbrev pub CutAnywhere : ℕ → List Row → List ℕ → Type 0
+  CutAnywhere it rows starts = (hi : ℕ) (done left gone : List CommentValue) → it ≤ hi → cs ≡ done ++ left → Under hi done → Upward hi left → Under hi gone
+      → all ≡ gone ++ flat_map (trailing c) rows → Over hi (flat_map (trailing c) rows) → Cuts f c (own_of all) left rows starts
 
-  pub cuts_made : {it : ℕ} {rows : List Row} → Flowing c cs it rows → CutAnywhere it rows
+  pub cuts_made : {it : ℕ} {rows : List Row} {starts : List ℕ} → Flowing f c cs it rows starts → CutAnywhere it rows starts
   cuts_made no_flow hi done left gone l split before up under are over = none_cut (cut_none hi gone up under are)
-  cuts_made {it} (a_flow {row = row} {rows = rows} cut p leaves later trail flow) hi done left gone l split before up under are over =
+  cuts_made {it} (a_flow {row = row} {rows = rows} {rs = rs} cut ss begins p leaves later near trail flow) hi done left gone l split before up under are over =
       go (cuts_made flow) trail where
         rest : List CommentValue
         rest = flat_map (trailing c) rows
@@ -249,17 +250,16 @@ module _ (c : Source) (cs all : List CommentValue) where
         from_top : Over (max it cut) rest
         from_top = flowing_over (max it cut) (omega arith) flow
 
-        all_later : {ds : List CommentValue} → ((d : CommentValue) → In d ds → In d left) → Under cut ds → AllLater ds (starts_of (row.leaves ++ leaves_on rows))
-        all_later f each_none = no_later
-        all_later f (each_more {d = d} m a) =
-            more_later (subst (λ w. AllFrom d.offset w) (sym (starts_append row.leaves (leaves_on rows))) (later_join (leaves.still d (here d (f d in_first)) m) (later_from (omega (arith, m)) later)))
-            (all_later (λ e i. f e (in_rest i)) a)
+        all_later : {ds : List CommentValue} → ((d : CommentValue) → In d ds → In d left) → Under cut ds → AllLater ds (ss ++ rs)
+        all_later g each_none = no_later
+        all_later g (each_more {d = d} m a) =
+            more_later (later_join (leaves.still d (here d (g d in_first)) m) (later_from (omega (arith, m)) later)) (all_later (λ e i. g e (in_rest i)) a)
 
-        all_behind : {ds : List CommentValue} → ((d : CommentValue) → In d ds → In d left) → Over cut ds → AllEarlier ds (starts_of row.leaves)
-        all_behind f each_none = no_earlier
-        all_behind f (each_more {d = d} m a) = more_earlier (leaves.behind d (here d (f d in_first)) m) (all_behind (λ e i. f e (in_rest i)) a)
+        all_behind : {ds : List CommentValue} → ((d : CommentValue) → In d ds → In d left) → Over (max it cut) ds → AllEarlier ds ss
+        all_behind g each_none = no_earlier
+        all_behind g (each_more {d = d} m a) = more_earlier (leaves.behind d (here d (g d in_first)) m) (all_behind (λ e i. g e (in_rest i)) a)
 
-        go : CutAnywhere (max it cut) rows → TrailCut c cs cut (max it cut) row rows → Cuts c own left (row ∷ rows)
+        go : CutAnywhere (max it cut) rows rs → TrailCut c cs cut (max it cut) row rows → Cuts f c own left (row ∷ rows) (ss ++ rs)
         go further_cut (none_trails e) =
             let w = part cut hi (omega arith) up in
             let inside : (d : CommentValue) → In d w.ahead → In d left = λ d i. subst (λ v. In d v) (sym w.is) (in_before w.more i) in
@@ -274,14 +274,14 @@ module _ (c : Source) (cs all : List CommentValue) where
             let whole : left ≡ w.ahead ++ (trailing c row ++ w.more) = w.is ∙ ap (λ v. w.ahead ++ (v ++ w.more)) (sym e) in
             let none : Each (λ d. own d ≡ false) (trailing c row) = subst (λ v. Each (λ d. own d ≡ false) v) (sym e) each_none in
             let further : Over (max hi cut) rest = each_map (λ d i z. let y : hi ≤ d.offset = each_at from_hi i in omega (arith, z, y)) from_top in
-            row_cut w.ahead w.more whole
+            row_cut ss w.ahead w.more begins whole
             (ap (λ v. filter (precedes_item row) (filter own v)) whole ∙ cut_before (precedes_item row) own w.ahead (trailing c row) w.more kept ahead none more)
             (ap (λ v. comments_left row (filter own v)) whole ∙ cut_after (precedes_item row) own w.ahead (trailing c row) w.more kept ahead none more)
-            (all_later inside w.under) (subst (λ v. AllLater v (starts_of (leaves_on rows))) (sym e) no_later)
-            (subst (λ v. AllEarlier (v ++ w.more) (starts_of row.leaves)) (sym e) (all_behind beyond (upward_over cut (omega arith) w.upward)))
+            (all_later inside w.under) (subst (λ v. AllLater v rs) (sym e) no_later)
+            (subst (λ v. AllEarlier (v ++ w.more) ss) (sym e) (all_behind beyond (upward_over (max it cut) (omega (arith, l)) w.upward)))
             (further_cut (max hi cut) (done ++ w.ahead) w.more gone (omega (arith, l)) (split ∙ (ap (λ v. done ++ v) w.is ∙ sym (append_assoc done w.ahead w.more)))
             (each_join (each_map (λ d i z. omega (arith, z)) before) (each_map (λ d i z. omega (arith, z)) w.under)) w.upward (each_map (λ d i z. omega (arith, z)) under) same further)
-        go further_cut (one_trails x e i m f after g) =
+        go further_cut (one_trails x e i m earlier g) =
             let low : hi ≤ x.offset = each_at over (subst (λ v. In x (v ++ rest)) (sym e) in_first) in
             let w = around hi (in_left before low (subst (λ v. In x v) split i)) up in
             let inside : (d : CommentValue) → In d w.ahead → In d left = λ d j. subst (λ v. In d v) (sym w.is) (in_before (x ∷ w.more) j) in
@@ -290,17 +290,17 @@ module _ (c : Source) (cs all : List CommentValue) where
             let same : all ≡ gone ++ ((x ∷ []) ++ rest) = are ∙ ap (λ v. gone ++ (v ++ rest)) e in
             let kept : Each (λ d. own d ≡ true) w.ahead =
             each_map (λ d j z. owned d gone (x ∷ []) rest same (none_below d (each_at high j) under) (none_above {h = x.offset} d z (each_more {d = x} (omega arith) each_none)) (none_above d (omega (arith, z)) g)) w.under in
-            let cut_under : Under cut w.ahead = each_map (λ d j z. f d (here d (inside d j)) z) w.under in
+            let cut_under : Under cut w.ahead = each_map (λ d j z. earlier d (here d (inside d j)) z) w.under in
             let ahead : Each (λ d. precedes_item row d ≡ true) w.ahead = each_map (λ d j z. yes d z) cut_under in
-            let cut_over : Over cut (x ∷ w.more) = each_more (omega (arith, m)) (upward_over cut (omega (arith, m)) w.upward) in
+            let cut_over : Over (max it cut) (x ∷ w.more) = each_more m (upward_over (max it cut) (omega (arith, m)) w.upward) in
             let more : Each (λ d. precedes_item row d ≡ false) w.more = each_map (λ d j z. no d z) (upward_over cut (omega (arith, m)) w.upward) in
             let whole : left ≡ w.ahead ++ (trailing c row ++ w.more) = w.is ∙ ap (λ v. w.ahead ++ (v ++ w.more)) (sym e) in
             let none : Each (λ d. own d ≡ false) (trailing c row) = subst (λ v. Each (λ d. own d ≡ false) v) (sym e) (each_more (trailed x gone rest same) each_none) in
-            row_cut w.ahead w.more whole
+            row_cut ss w.ahead w.more begins whole
             (ap (λ v. filter (precedes_item row) (filter own v)) whole ∙ cut_before (precedes_item row) own w.ahead (trailing c row) w.more kept ahead none more)
             (ap (λ v. comments_left row (filter own v)) whole ∙ cut_after (precedes_item row) own w.ahead (trailing c row) w.more kept ahead none more)
-            (all_later inside cut_under) (subst (λ v. AllLater v (starts_of (leaves_on rows))) (sym e) (more_later after no_later))
-            (subst (λ v. AllEarlier (v ++ w.more) (starts_of row.leaves)) (sym e) (all_behind beyond cut_over))
+            (all_later inside cut_under) (subst (λ v. AllLater v rs) (sym e) (more_later (near x (subst (λ v. In x v) (sym e) in_first)) no_later))
+            (subst (λ v. AllEarlier (v ++ w.more) ss) (sym e) (all_behind beyond cut_over))
             (further_cut (x.offset + 1) (done ++ (w.ahead ++ (x ∷ []))) w.more (gone ++ (x ∷ [])) (omega (arith, m))
             (split ∙ (ap (λ v. done ++ v) (w.is ∙ sym (append_assoc w.ahead (x ∷ []) w.more)) ∙ sym (append_assoc done (w.ahead ++ (x ∷ [])) w.more)))
             (each_join (each_map (λ d j z. omega (arith, z, low)) before) (each_join (each_map (λ d j z. omega (arith, z)) w.under) (each_more {d = x} (omega arith) each_none))) w.upward

@@ -2,18 +2,20 @@
 use Rattle.std.proofs.Common.{◌≡◌, ℕ, ◌+◌, Bool, List, [], ◌∷◌, ◌++◌, length, map, flat_map, refl, sym, ap, ◌∙◌, arith, zero-add, append_assoc, append-nil}
 use Rattle.std.specs.Prelude.{filter, zip}
 use Rattle.yf_comments.specs.Comment.{CommentValue}
+use Rattle.yf_comments.specs.GapLines.{remarks_of}
 use Rattle.yf_events.specs.Event.{Placed, document_starts, document_ends, stream_ends}
 use Rattle.yf_events.specs.Reading.{leaf_starts}
 use Rattle.yf_events.specs.Tree.{DocumentTree, flat, flat_document, flat_stream, leaves, unplaced}
 use Rattle.yf_events.specs.declared.lists.Lists.{Lists}
 use Rattle.yf_grammar.proofs.CommentOrder.{Ascend, no_more, one_more}
+use Rattle.yf_emit.specs.Beginnings.{leaves_begin, steps_with}
+use Rattle.yf_emit.specs.Decorated.{first_gap, row_decos}
 use Rattle.yf_emit.specs.Layout.{Remark, source_of, trailing}
 use Rattle.yf_emit.specs.Rows.{Row, at_text_start}
-use Rattle.yf_emit.specs.Steps.{steps_of, told}
+use Rattle.yf_emit.specs.Steps.{Step, comment_steps, steps_of, told}
 use Rattle.yf_emit.proofs.CommentsCut.{each_none, Upward, upward_none, upward_more, own_of, Flowing, flowing_over, cuts_made}
 use Rattle.yf_emit.proofs.DocumentTrails.{leaves_of}
-use Rattle.yf_emit.proofs.PrintedSteps.{steps_printed, trimmed_by, printed_steps, cuts_told}
-use Rattle.yf_emit.proofs.RowLeaves.{leaves_on}
+use Rattle.yf_emit.proofs.PrintedSteps.{steps_of_leaves, steps_printed, trimmed_by, printed_steps, cuts_told}
 use Rattle.yf_emit.proofs.StartsBefore.{starts_before}
 use Rattle.yf_emit.proofs.StepsStand.{starts_of, starts_append, node_starts}
 
@@ -30,16 +32,22 @@ without_zero : (ss : List ℕ) (cs : List CommentValue) → trimmed_by (λ o. 0 
 without_zero ss [] = refl
 without_zero ss (c ∷ cs) = λ n. trimmed_by (λ o. zero-add (starts_before ss o) n) (c ∷ cs)
 
--- of a reading with these rows
-pub comments_told : (m : Lists) (rows : List Row) → length m.on_leaf_line ≡ length m.comments → Upward 0 m.comments → Flowing (source_of m rows) m.comments 0 rows
-    → told 0 (steps_of m rows) ≡ trimmed_by (starts_before (starts_of (leaves_on rows))) m.comments
-comments_told m rows notes up flow =
+-- of a reading with these rows, by what begins on them
+pub counts_told : (f : Row → List Step) (m : Lists) (rows : List Row) (starts : List ℕ) → length m.on_leaf_line ≡ length m.comments → Upward 0 m.comments → Flowing f (source_of m rows) m.comments 0 rows starts
+    → told 0 (comment_steps (remarks_of (first_gap m rows)) ++ steps_with f rows (row_decos m rows)) ≡ trimmed_by (starts_before starts) m.comments
+counts_told f m rows starts notes up flow =
     let all : List CommentValue = flat_map (trailing (source_of m rows)) rows in
     let own : CommentValue → Bool = own_of all in
-    let cuts = cuts_made (source_of m rows) m.comments all flow 0 [] m.comments [] (omega arith) refl each_none up each_none refl (flowing_over 0 (omega arith) flow) in
-    ap (told 0) (steps_printed (source_of m rows) at_text_start (filter own (map (λ (r : Remark). r.0) (zip m.comments m.on_leaf_line))) rows)
-    ∙ (ap (λ w. told 0 (printed_steps (source_of m rows) (filter own w) rows)) (firsts m.comments m.on_leaf_line notes)
-    ∙ (cuts_told cuts 0 ∙ without_zero (starts_of (leaves_on rows)) m.comments))
+    let cuts = cuts_made f (source_of m rows) m.comments all flow 0 [] m.comments [] (omega arith) refl each_none up each_none refl (flowing_over 0 (omega arith) flow) in
+    ap (told 0) (steps_printed f (source_of m rows) at_text_start (filter own (map (λ (r : Remark). r.0) (zip m.comments m.on_leaf_line))) rows)
+    ∙ (ap (λ w. told 0 (printed_steps f (source_of m rows) (filter own w) rows)) (firsts m.comments m.on_leaf_line notes)
+    ∙ (cuts_told cuts 0 ∙ without_zero starts m.comments))
+
+-- by its leaves
+pub comments_told : (m : Lists) (rows : List Row) (starts : List ℕ) → length m.on_leaf_line ≡ length m.comments → Upward 0 m.comments → Flowing leaves_begin (source_of m rows) m.comments 0 rows starts
+    → told 0 (steps_of m rows) ≡ trimmed_by (starts_before starts) m.comments
+comments_told m rows starts notes up flow =
+    ap (λ w. told 0 (comment_steps (remarks_of (first_gap m rows)) ++ w)) (steps_of_leaves rows (row_decos m rows)) ∙ counts_told leaves_begin m rows starts notes up flow
 
 -- The leaves of the trees of a reading.
 

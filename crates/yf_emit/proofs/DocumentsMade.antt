@@ -13,12 +13,14 @@ use Rattle.yf_lines.specs.LineText.Follows.{byte_follows}
 use Rattle.yf_lines.proofs.RestLemmas.{Rest, rest_spaces, rest_text, line_nothing}
 use Rattle.yf_comments.specs.Comment.{CommentValue}
 use Rattle.yf_comments.proofs.GapLinesLemmas.{texts, texts_append}
+use Rattle.yf_events.specs.Event.{Placed}
 use Rattle.yf_events.specs.declared.directive.Directive.{Directive}
 use Rattle.yf_events.specs.Tree.{Node, is_sequence}
 use Rattle.yf_grammar.specs.Grammar.{Derives, BlockNode, least_column}
 use Rattle.yf_grammar.specs.Meaning.{Meaning, behind, noting, empty_node}
-use Rattle.yf_grammar.specs.Meant.{tall}
+use Rattle.yf_grammar.specs.Meant.{tall, Meant}
 use Rattle.yf_grammar.proofs.CommentOrder.{Ascend, end_ascends}
+use Rattle.yf_grammar.proofs.BlankRuns.{Behind, behind_byte}
 use Rattle.yf_grammar.proofs.FlowBack.{visible_at, visible_line}
 use Rattle.yf_grammar.proofs.MeantLemmas.{texts_behind, texts_noting, texts_empty}
 use Rattle.yf_stream.specs.Stream.{ExplicitNode, DirectiveLines, Directives}
@@ -33,6 +35,10 @@ use Rattle.yf_emit.specs.Steps.{leaf_steps, comment_steps, steps_in}
 use Rattle.yf_emit.proofs.ClearRows.{AreRowTexts, rows_clear_after, place_of_rest}
 use Rattle.yf_emit.proofs.CollectionsMade.{comments_behind}
 use Rattle.yf_emit.proofs.FoundNodes.{FoundNode, found_behind, found_noting, found_nothing}
+use Rattle.yf_emit.proofs.DirectiveEnds.{directive_seen}
+use Rattle.yf_emit.proofs.HeldLemmas.{EventsHeld, Held, bare_row, empty_silent, held_behind, held_line, row_ended}
+use Rattle.yf_emit.proofs.SeenTexts.{ascii_ns}
+use Rattle.yf_emit.proofs.WellSet.{set_append}
 use Rattle.yf_emit.proofs.LaidRows.{steps_append, laid_row}
 use Rattle.yf_emit.proofs.NodePlaces.{below_at}
 use Rattle.yf_emit.proofs.NodesMade.{Stood, Claim, no_row, some_rows, noting_nothing}
@@ -57,6 +63,7 @@ pub record ExplicitMade (t : List ℕ) (s : Setting) (x : Node) (rs : List Row) 
   pub placed : RowsIn t rs (head ∷ inner) ds q meaning.comments place r
   pub is : texts meaning.comments ≡ comments_in rs ds
   pub laid : MeaningLaid q place meaning (steps_in rs ds)
+  pub held : Held t meaning rs ds r
 
 -- the row of a `---`
 abbrev mark_row : ℕ → PlacedRow
@@ -90,6 +97,14 @@ three_at {t} c {q} {r} u l h s =
     let third : q + 1 + 1 + 1 ≡ q + 3 = omega arith in
     (three_stand t q c one.0 two.0 (subst (λ k. code t k ≡ c) second three.0), subst (λ k. Rest t k r) third three.1)
 
+pub three_behind : {t : List ℕ} (c : ℕ) {q : ℕ} {r : List ℕ} → IsUtf8 t → 36 ≤ c → c < 127 → Rest t q (c ∷ c ∷ c ∷ r) → Behind t (q + 3)
+three_behind {t} c {q} u l h s =
+    let one = visible_at c u (omega (arith, l)) h s in
+    let two = visible_at c u (omega (arith, l)) h one.1 in
+    let three = visible_at c u (omega (arith, l)) h two.1 in
+    let place : q + 1 + 1 + 1 ≡ q + 3 = omega arith in
+    subst (λ k. Behind t k) place (behind_byte (q + 1 + 1) u three.0 (omega (arith, h)) (ascii_ns c (omega (arith, l)) h))
+
 dashes_line : IsLineText (45 ∷ 45 ∷ 45 ∷ [])
 dashes_line = visible_line 45 (omega arith) (omega arith) (visible_line 45 (omega arith) (omega arith) (visible_line 45 (omega arith) (omega arith) line_nothing))
 
@@ -104,9 +119,9 @@ not_beside : (b : Bool) → not b ≡ false → b ≡ true
 not_beside true e = refl
 not_beside false e = sym e
 
-pub explicit_made : {t : List ℕ} {s : Setting} {x : Node} {rs : List Row} (row : Row) (ds : List Deco) (r : List ℕ) (q : ℕ) → row.leaves ≡ [] → length row.text ≡ 3 → is_some row.key_comment ≡ false → Claim s x (root_spot s.style) rs → AreRowTexts rs → IsUtf8 t → AreDecos ds → Calm rs (after ds) r
+pub explicit_made : {t : List ℕ} {s : Setting} {x : Node} {rs : List Row} (row : Row) (ds : List Deco) (r : List ℕ) (q : ℕ) → row.leaves ≡ [] → row.body ≡ [] → length row.text ≡ 3 → is_some row.key_comment ≡ false → Claim s x (root_spot s.style) rs → AreRowTexts rs → IsUtf8 t → AreDecos ds → Calm rs (after ds) r
     → Rest t q (45 ∷ 45 ∷ 45 ∷ end_then (first ds) [] (lines_then rs (after ds) r)) → ExplicitMade t s x (row ∷ rs) ds q r
-explicit_made {t} {s} {x} row ds r q none width key (no_row m) free u a k w =
+explicit_made {t} {s} {x} row ds r q none bare width key (no_row m) free u a k w =
     let mark = three_at 45 u (omega arith) (omega arith) w in
     let end = row_end (first ds) r u (first_deco a) mark.1 in
     record {
@@ -126,8 +141,9 @@ explicit_made {t} {s} {x} row ds r q none width key (no_row m) free u a k w =
       is = texts_noting (empty_node (q + 3)) end.comments ∙ (ap (λ z. z ++ texts end.comments) (texts_empty (q + 3)) ∙ (end.is ∙ sym (append-nil (carried_texts (first ds)))));
       laid = subst (λ z. MeaningLaid q end.place (noting (empty_node (q + 3)) end.comments) (leaf_steps z ++ (comment_steps (carried_texts (first ds)) ++ []))) (sym none)
           (laid_row (empty_node (q + 3)) end.comments [] (laid_empty (q + 3) (omega arith)) (end_ascends end.end) end.is);
+      held = held_line (empty_node (q + 3)) end.comments row ds r bare (empty_silent (q + 3)) (row_ended (first ds) r u (three_behind 45 u (omega arith) (omega arith) w) (first_deco a) mark.1 end.end);
     }
-explicit_made {t} {s} {x} row ds r q none width key (some_rows {r = y} {rs = ys} f g m) lines u a k w =
+explicit_made {t} {s} {x} row ds r q none bare width key (some_rows {r = y} {rs = ys} f g m) lines u a k w =
     let mark = three_at 45 u (omega arith) (omega arith) w in
     let end = row_end (first ds) (lines_then (y ∷ ys) (after ds) r) u (first_deco a) mark.1 in
     let spaces = rest_spaces y.column end.place u end.rest in
@@ -153,6 +169,8 @@ explicit_made {t} {s} {x} row ds r q none width key (some_rows {r = y} {rs = ys}
       is = texts_behind end.comments node.meaning ∙ (ap (λ z. z ++ texts node.meaning.comments) end.is ∙ ap (λ z. carried_texts (first ds) ++ z) node.is);
       laid = subst (λ z. MeaningLaid q node.place (behind end.comments node.meaning) (leaf_steps z ++ (comment_steps (carried_texts (first ds)) ++ steps_in (y ∷ ys) (after ds)))) (sym none)
           (laid_after (omega arith) (laid_behind end.comments node.meaning (end_ascends end.end) end.is (omega arith) node.laid));
+      held = held_behind end.comments node.meaning row (y ∷ ys) ds r bare
+          (row_ended (first ds) (lines_then (y ∷ ys) (after ds) r) u (three_behind 45 u (omega arith) (omega arith) w) (first_deco a) mark.1 end.end) node.held;
     }
 
 -- Directives.
@@ -167,6 +185,7 @@ pub record DirectivesMade (t : List ℕ) (dirs : List Directive) (rs : List Row)
   pub stand : Stand q [] meaning.comments (steps_in rs ds) place
   pub found_rows : List PlacedRow
   pub placed : RowsIn t rs found_rows ds q meaning.comments place r
+  pub held : (es : List Placed) → EventsHeld t es meaning.comments rs ds r
 
 percent_line : {w : List ℕ} → IsLineText w → IsLineText (37 ∷ w)
 percent_line a = visible_line 37 (omega arith) (omega arith) a
@@ -181,9 +200,9 @@ row_stands {i} {j} {cs} row ds none a =
     subst (λ z. Stand i [] cs (leaf_steps z ++ (comment_steps (carried_texts (first ds)) ++ [])) j) (sym none)
     (subst (λ z. Stand i [] cs z j) (sym (append-nil (comment_steps (carried_texts (first ds))))) a)
 
-one_directive : {t : List ℕ} {d : Directive} (row : Row) (ds : List Deco) (r : List ℕ) (q : ℕ) → row.leaves ≡ [] → row.text ≡ 37 ∷ joined_words d.words → is_some row.key_comment ≡ false → FitDirective d.words → IsUtf8 t → AreDecos ds
+one_directive : {t : List ℕ} {d : Directive} (row : Row) (ds : List Deco) (r : List ℕ) (q : ℕ) → row.leaves ≡ [] → row.body ≡ [] → row.text ≡ 37 ∷ joined_words d.words → is_some row.key_comment ≡ false → FitDirective d.words → IsUtf8 t → AreDecos ds
     → Rest t q (37 ∷ (joined_words d.words ++ end_then (first ds) [] r)) → DirectivesMade t (d ∷ []) (row ∷ []) ds q r
-one_directive {t} {d} row ds r q none said key fit u a w =
+one_directive {t} {d} row ds r q none bare said key fit u a w =
     let at = fit.made q (end_then (first ds) [] r) u (apart_follows (first ds).trails _) w in
     let sign = visible_at 37 u (omega arith) (omega arith) w in
     let text = rest_text (37 ∷ joined_words d.words) u (percent_line fit.line) w in
@@ -205,15 +224,16 @@ one_directive {t} {d} row ds r q none said key fit u a w =
         commented = key;
       }) (record { ascend = subst (λ v. Ascend t (q + length v) end.comments end.place) (sym said) (end_ascends end.end); is = end.is; start = end.start }) end.rest;
       stand = row_stands row ds none (stand_after (omega arith) (comments_stand (end_ascends end.end) end.is));
+      held = λ es. let ended = row_ended (first ds) r u (directive_seen u at) (first_deco a) text.rest end.end in record { comments = ended.comments; bodies = (bare_row t es row (first ds) r bare ended.seen, tt) };
     }
 
-pub directives_made : {t : List ℕ} {d : Directive} {dirs : List Directive} (row : Row) (ds : List Deco) (r : List ℕ) (q : ℕ) → row.leaves ≡ [] → row.text ≡ 37 ∷ joined_words d.words → is_some row.key_comment ≡ false → FitDirective d.words → FitDirectives dirs → IsUtf8 t → AreDecos ds
+pub directives_made : {t : List ℕ} {d : Directive} {dirs : List Directive} (row : Row) (ds : List Deco) (r : List ℕ) (q : ℕ) → row.leaves ≡ [] → row.body ≡ [] → row.text ≡ 37 ∷ joined_words d.words → is_some row.key_comment ≡ false → FitDirective d.words → FitDirectives dirs → IsUtf8 t → AreDecos ds
     → Rest t q (37 ∷ (joined_words d.words ++ end_then (first ds) [] (lines_then (map directive_row dirs) (after ds) r)))
     → DirectivesMade t (d ∷ dirs) (row ∷ map directive_row dirs) ds q r
-directives_made {d = d} row ds r q none said key fit fit_no_directives u a w = one_directive {d = d} row ds r q none said key fit u a w
-directives_made {t} {d = d} row ds r q none said key fit (fit_directive {d = e} {ds = es} f fs) u a w =
-    let one = one_directive {d = d} row ds (lines_then (map directive_row (e ∷ es)) (after ds) r) q none said key fit u a w in
-    let more = directives_made {d = e} {dirs = es} (directive_row e) (after ds) r one.place refl refl refl f fs u (after_decos a) one.rest in
+directives_made {d = d} row ds r q none bare said key fit fit_no_directives u a w = one_directive {d = d} row ds r q none bare said key fit u a w
+directives_made {t} {d = d} row ds r q none bare said key fit (fit_directive {d = e} {ds = es} f fs) u a w =
+    let one = one_directive {d = d} row ds (lines_then (map directive_row (e ∷ es)) (after ds) r) q none bare said key fit u a w in
+    let more = directives_made {d = e} {dirs = es} (directive_row e) (after ds) r one.place refl refl refl refl f fs u (after_decos a) one.rest in
     record {
       place = more.place;
       meaning = record { directives = one.meaning.directives ++ more.meaning.directives; comments = one.meaning.comments ++ more.meaning.comments };
@@ -226,4 +246,8 @@ directives_made {t} {d = d} row ds r q none said key fit (fit_directive {d = e} 
       found_rows = one.found_rows ++ more.found_rows;
       placed = rows_in_append one.placed (subst (λ z. RowsIn t (map directive_row (e ∷ es)) more.found_rows (after ds) z more.meaning.comments more.place r) (omega arith) more.placed);
       stand = subst (λ z. Stand q [] (one.meaning.comments ++ more.meaning.comments) z more.place) (sym (steps_append (row ∷ []) (map directive_row (e ∷ es)) ds)) (stand_join one.stand more.stand);
+      held = λ ps. record {
+        comments = set_append t one.meaning.comments more.meaning.comments (one.held ps).comments (more.held ps).comments;
+        bodies = ((one.held ps).bodies.0, (more.held ps).bodies);
+      };
     }

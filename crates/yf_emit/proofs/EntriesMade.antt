@@ -21,6 +21,7 @@ use Rattle.yf_emit.specs.Rows.{Row, joined}
 use Rattle.yf_emit.specs.Steps.{steps_in}
 use Rattle.yf_emit.proofs.DecoratedLemmas.{inline_append}
 use Rattle.yf_emit.proofs.FoundNodes.{FoundItem, FoundPair, found_item, found_explicit}
+use Rattle.yf_emit.proofs.HeldLemmas.{Held, held_both, held_entering}
 use Rattle.yf_emit.proofs.LaidRows.{steps_append}
 use Rattle.yf_emit.proofs.NodesMade.{Stood, Claim, no_row, some_rows, sign_row, sign_made}
 use Rattle.yf_emit.proofs.PlacedRows.{PlacedRow, RowsIn, rows_in_append}
@@ -45,6 +46,7 @@ pub record EntryMade (sequence : Bool) (column bound : ℕ) (P : List ℕ → Me
   pub is : texts meaning.comments ≡ comments_in rs ds
   pub laid : MeaningLaid q place meaning (steps_in rs ds)
   pub placed : RowsIn t rs found_rows ds q meaning.comments place r
+  pub held : Held t meaning rs ds r
 
 pub record EntryMakes (sequence : Bool) (column bound : ℕ) (P : List ℕ → Meaning → List PlacedRow → Type 0) (rs : List Row) : Type 0 where
   pub starts : Begins column rs
@@ -64,6 +66,7 @@ pub record EntriesMade (sequence : Bool) (column bound : ℕ) (P : List ℕ → 
   pub is : texts meaning.comments ≡ comments_in rs ds
   pub laid : MeaningLaid q place meaning (steps_in rs ds)
   pub placed : RowsIn t rs found_rows ds q meaning.comments place r
+  pub held : Held t meaning rs ds r
 
 pub record EntriesMakes (sequence : Bool) (column bound : ℕ) (P : List ℕ → Meaning → List PlacedRow → Type 0) (rs : List Row) : Type 0 where
   pub starts : Begins column rs
@@ -122,6 +125,7 @@ entries_last {sequence} {column} {bound} {P} {Q} {rs} f e = subst (λ z. Entries
         placed = subst (λ z. RowsIn t rs z ds q one.meaning.comments one.place r) (sym (append-nil one.found_rows)) one.placed;
         is = one.is;
         laid = one.laid;
+        held = one.held;
       }
 
 pub entries_more : {sequence : Bool} {column bound least : ℕ} {P Q S : List ℕ → Meaning → List PlacedRow → Type 0} {rs ls : List Row} → ((t : List ℕ) (m n : Meaning) (ps qs : List PlacedRow) → P t m ps → Q t n qs → S t (m ⊕ n) (ps ++ qs))
@@ -150,6 +154,7 @@ entries_more {sequence} {column} {bound} {least} {P} {Q} {S} {rs} {ls} f e o = r
         is = texts_both one.meaning more.meaning ∙ (ap (λ z. z ++ texts more.meaning.comments) one.is
             ∙ (ap (λ z. comments_in rs ds ++ z) more.is ∙ sym (comments_append rs ls ds)));
         laid = subst (λ z. MeaningLaid q more.place (one.meaning ⊕ more.meaning) z) (sym (steps_append rs ls ds)) (laid_both one.meaning more.meaning one.laid more.laid (omega arith));
+        held = held_both one.meaning more.meaning rs ls ds r one.held more.held;
       }
 
 -- An item after its `-`.
@@ -198,6 +203,7 @@ item_makes {s} {x} {spot} {rs} column items blank wide e stood k = record { star
         placed = subst (λ z. RowsIn t (joined (sign_row column 45 items blank) (s.style.indent - 1) rs) one.found_rows ds q z one.place r) (sym (comments_entering q None one.meaning)) one.placed;
         is = texts_entering q None one.meaning ∙ one.is;
         laid = laid_entering q None one.meaning one.laid;
+        held = held_entering q None one.meaning (joined (sign_row column 45 items blank) (s.style.indent - 1) rs) ds r one.held;
       }
 
 -- A pair after its `?`, with the value after a `:` on a line of its own.
@@ -244,4 +250,6 @@ explicit_makes {s} {k} {v} {at} {to} {rs} {ls} column items blank places marked 
             ∙ (ap (λ z. comments_in keys ds ++ z) two.is ∙ sym (comments_append keys values ds)));
         laid = subst (λ z. MeaningLaid q two.place (entering q (Some (one.place + column)) one.meaning ⊕ two.meaning) z) (sym (steps_append keys values ds))
             (laid_both (entering q (Some (one.place + column)) one.meaning) two.meaning (laid_entering q (Some (one.place + column)) one.meaning one.laid) two.laid (omega arith));
+        held = held_both (entering q (Some (one.place + column)) one.meaning) two.meaning keys values ds r
+            (held_entering q (Some (one.place + column)) one.meaning keys ds (lines_then values (past keys ds) r) one.held) two.held;
       }

@@ -1,4 +1,6 @@
 -- What formatting gives is the one text that it may give, is accepted, has the same content, and is in normal form.
+-- What formatting gives is the one text that it may give, is accepted, and has the same content, and the same comments
+-- at the same places.
 use Rattle.std.proofs.Common.{List, ℕ}
 use Rattle.std.specs.Str.{IsUtf8}
 use Rattle.yf_emit.specs.declared.style.Style.{Style}
@@ -6,6 +8,7 @@ use Rattle.yf_emit.specs.Format.{Formats}
 use Rattle.yf_emit.specs.FormatKept.{FormatKept}
 use Rattle.yf_emit.proofs.FixedLawsHold.{formats_normal}
 use Rattle.yf_emit.proofs.FormatLawsHold.{formats_accepted, formats_are_one}
+use Rattle.yf_emit.proofs.SameComments.{formats_comments}
 use Rattle.yf_emit.proofs.SameContent.{formats_content}
 
 pub format_keeps : (t : List ℕ) (s : Style) (u : List ℕ) → IsUtf8 t → Formats t s u → FormatKept t s u
@@ -15,4 +18,5 @@ format_keeps t s u utf8 f = record {
   accepted = formats_accepted t u s utf8 f;
   content = formats_content t u s utf8 f;
   normal = formats_normal t u s utf8 f;
+  comments = formats_comments t u s utf8 f;
 }

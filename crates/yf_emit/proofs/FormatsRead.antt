@@ -1,9 +1,10 @@
 -- What a normal form is laid out as is a well-formed stream, within the limit of open collections, with the same nodes and directives.
-use Rattle.std.proofs.Common.{◌≡◌, ℕ, suc, max, ◌≤◌, Bool, true, false, List, ◌∷◌, ◌++◌, map, refl, sym, ap, ◌∙◌, subst, arith, length}
+use Rattle.std.proofs.Common.{◌≡◌, ℕ, suc, max, ◌≤◌, Bool, true, false, List, ◌∷◌, ◌++◌, map, refl, sym, ap, ◌∙◌, subst, arith, length, []}
 use Rattle.std.specs.Prelude.{◌&&◌, if◌then◌else◌}
 use Rattle.std.specs.Str.{IsUtf8}
 use Rattle.yf_lines.specs.declared.quotes.Quotes.{Quotes}
 use Rattle.yf_comments.specs.Comment.{CommentValue}
+use Rattle.yf_comments.specs.GapLines.{remarks_of}
 use Rattle.yf_events.proofs.TreeLemmas.{trees_unique}
 use Rattle.yf_events.specs.Alike.{Alike, alike_scalars, alike_aliases, alike_sequences, alike_mappings, AlikeItems, alike_nothing, alike_item, AlikePairs, alike_no_pairs, alike_pair}
 use Rattle.yf_events.specs.Event.{EventValue, Placed, stream_starts, stream_ends, document_starts, document_ends, sequence_starts, sequence_ends, mapping_starts, mapping_ends, scalar_node, alias_node}
@@ -19,6 +20,7 @@ use Rattle.yf_stream.proofs.LawsHold.{derived_streams_are_shapes}
 use Rattle.yf_stream.proofs.ReadingTrees.{TreesMeant, no_trees_meant, tree_meant, reading_stands}
 use Rattle.yf_stream.proofs.StreamDocuments.{DocumentsDerived, no_documents_derived, document_derived, stream_derived}
 use Rattle.yf_emit.specs.declared.style.Style.{Style}
+use Rattle.yf_emit.specs.Beginnings.{documents_begin, steps_with}
 use Rattle.yf_emit.specs.Carried.{AreRemarks}
 use Rattle.yf_emit.specs.Decorated.{first_gap, row_decos, rows_of}
 use Rattle.yf_emit.specs.FitDocuments.{FitDocuments, DocumentMeant, DocumentsMeant, no_documents_meant, document_meant, tall_documents}
@@ -27,7 +29,7 @@ use Rattle.yf_emit.specs.FormatLaws.{WellFormed, FormatsAreWellFormed}
 use Rattle.yf_emit.specs.LayoutLaws.{StreamMade, printed_comments}
 use Rattle.yf_emit.specs.Normal.{Setting, Spot, fits, settled, settled_items, settled_pairs, styled, styled_items, styled_pairs, inner_spot, key_spot, value_spot, root_spot, normal_document, setting_of}
 use Rattle.yf_emit.specs.Restyled.{Restyled, none_left, one_more, restyled_event}
-use Rattle.yf_emit.specs.Steps.{steps_of}
+use Rattle.yf_emit.specs.Steps.{comment_steps, steps_of}
 use Rattle.yf_emit.proofs.CommentsFit.{reading_remarks}
 use Rattle.yf_emit.proofs.FoundStreams.{FoundDocuments, StreamIn}
 use Rattle.yf_emit.proofs.FormatTrails.{formats_trail, normal_trees}
@@ -35,7 +37,10 @@ use Rattle.yf_emit.proofs.LayoutLawsHold.{layouts_are_texts, layouts_are_laid}
 use Rattle.yf_emit.proofs.NormalRestyled.{root_restyled}
 use Rattle.yf_emit.proofs.PlacedRows.{PlacedRow}
 use Rattle.yf_emit.proofs.StreamParts.{DocumentsLaid}
-use Rattle.yf_emit.proofs.StreamsMade.{StreamLaid}
+use Rattle.yf_emit.proofs.StreamsMade.{StreamLaid, DocumentsLaid}
+use Rattle.yf_emit.proofs.DocumentsHeld.{all_events}
+use Rattle.yf_emit.proofs.HeldLemmas.{EventsHeld}
+use Rattle.yf_emit.proofs.StepsStand.{Stand}
 use Rattle.yf_emit.proofs.TreesRead.{document_read, reading_fits, same_node}
 
 -- Heights: styles and brackets change none.
@@ -156,7 +161,7 @@ reading_meant : {t : List ℕ} {r : Lists} {trees : List DocumentTree} → IsUtf
 reading_meant {t} {r} {trees} u a of_reading =
     let w = reading_stands u a in subst (λ xs. TreesMeant a.derived.documents xs) (trees_unique r w.trees trees w.of_reading of_reading) w.meant
 
-formats_fit : {t u : List ℕ} {s : Style} → IsUtf8 t → (f : Formats t s u) → FitDocuments f.normal.documents f.writes.trees
+pub formats_fit : {t u : List ℕ} {s : Style} → IsUtf8 t → (f : Formats t s u) → FitDocuments f.normal.documents f.writes.trees
 formats_fit {t} {u} {s} utf8 f =
     let n = normal_trees f in
     subst (λ xs. FitDocuments f.normal.documents xs) (sym n.same)
@@ -184,6 +189,10 @@ pub record FormattedLaid {t : List ℕ} {s : Style} {u : List ℕ} (f : Formats 
   pub found_rows : List PlacedRow
   pub found : FoundDocuments u (setting_of f.normal s) f.writes.trees well.documents.documents found_rows
   pub placed : StreamIn u (rows_of f.normal s f.writes.trees) found_rows (row_decos f.normal (rows_of f.normal s f.writes.trees)) line others
+  pub held : EventsHeld u (all_events well.documents.documents) well.documents.comments (rows_of f.normal s f.writes.trees) (row_decos f.normal (rows_of f.normal s f.writes.trees)) []
+  pub begun : Stand 0 (map (λ (d : Document). d.start) well.documents.documents) well.documents.comments
+      (comment_steps (remarks_of (first_gap f.normal (rows_of f.normal s f.writes.trees)))
+      ++ steps_with documents_begin (rows_of f.normal s f.writes.trees) (row_decos f.normal (rows_of f.normal s f.writes.trees))) (length u)
 
 pub formats_laid : (t u : List ℕ) (s : Style) → IsUtf8 t → (f : Formats t s u) → FormattedLaid f
 formats_laid t u s utf8 f =
@@ -224,6 +233,8 @@ formats_laid t u s utf8 f =
       found_rows = laid.found_rows;
       found = laid.found;
       placed = laid.placed;
+      held = laid.held;
+      begun = laid.begun;
     }
 
 pub formats_well : FormatsAreWellFormed

@@ -96,7 +96,7 @@ noting_starts (without_entry {e = e} {x = x} {y = y} q a) =
 noting_starts (with_entry {e = e} {x = x} {y = y} entry q n a) =
     ap (λ b. start_in b e.span ++ leaf_starts x) (same_leaf e.event x y (noting_ends a)) ∙ ap (λ z. start_in (begins_leaf e.event y) e.span ++ z) (noting_starts a)
 
-noted_told : {t : List ℕ} {es : List Placed} {x y : List CommentValue} (n : ℕ → ℕ) → NotedComments t es x y
+pub noted_told : {t : List ℕ} {es : List Placed} {x y : List CommentValue} (n : ℕ → ℕ) → NotedComments t es x y
     → told_by n x ≡ told_by n y
 noted_told n no_comment = refl
 noted_told n (one_comment {c = c} m a) = ap (λ z. (c.text, n c.offset) ∷ z) (noted_told n a)

@@ -25,4 +25,4 @@ mutual
 
 pub trees_begin : {t : List ℕ} {i : ℕ} {ds : List Doc} {trees : List DocumentTree} → TreesStand t i ds trees → keys_begin_in_documents trees ≡ true
 trees_begin (no_trees_stand l) = refl
-trees_begin (tree_stands d a b) = and_from _ _ (node_begins a) (trees_begin b)
+trees_begin (tree_stands d a b z) = and_from _ _ (node_begins a) (trees_begin b)

@@ -15,7 +15,8 @@ use Rattle.yf_grammar.specs.Grammar.{Derives, BlockValue, KeyOf}
 use Rattle.yf_grammar.specs.Grammar.Derives.{a_keyed_entry, an_unkeyed_entry, a_block_value, an_empty_block_value}
 use Rattle.yf_grammar.specs.Back.{Back}
 use Rattle.yf_grammar.specs.Meaning.{Meaning, ◌⊕◌, behind, noting, empty_node, entering}
-use Rattle.yf_grammar.specs.Meant.{tall}
+use Rattle.yf_grammar.specs.Meant.{tall, Meant}
+use Rattle.yf_grammar.proofs.BlankRuns.{Behind, behind_byte}
 use Rattle.yf_grammar.proofs.CommentOrder.{end_ascends}
 use Rattle.yf_grammar.proofs.FlowBack.{visible_at, colon_follows}
 use Rattle.yf_grammar.proofs.PairsBack.{key_back, key_apart_back}
@@ -33,12 +34,14 @@ use Rattle.yf_emit.specs.Steps.{Step, leaf_steps, comment_steps, steps_in}
 use Rattle.yf_emit.proofs.EntriesMade.{Begins, begins, EntryMade, EntryMakes, comments_both, comments_entering}
 use Rattle.yf_emit.proofs.FoundLines.{items_inside, leaves_inside, placed_node}
 use Rattle.yf_emit.proofs.FoundNodes.{FoundNode, FoundPair, HeadAt, head_at, KeyRows, key_commented, key_above, key_alone, key_joined, bare_node, bare_alike, bare_events, bare_escapes, bare_comments, found_behind, found_noting, found_nothing, found_implicit}
+use Rattle.yf_emit.proofs.HeldLemmas.{Held, empty_silent, entering_silent, held_after, held_behind, held_joined, held_line, row_ended}
 use Rattle.yf_emit.proofs.LaidRows.{leaves_apart, laid_row, laid_line}
 use Rattle.yf_emit.proofs.NodePlaces.{beside_at, below_at}
 use Rattle.yf_emit.proofs.NodesMade.{Stood, Claim, no_row, some_rows, MeansNothing, noting_nothing}
 use Rattle.yf_emit.proofs.PlacedRows.{Inside, none_inside, one_inside, inside_wider, PlacedRow, AtRow, RowsIn, last_row, row_before, joined_placed, rows_joined}
 use Rattle.yf_emit.proofs.RowEnds.{row_end, first_deco, after_decos}
 use Rattle.yf_emit.proofs.StepsStand.{starts_of, MeaningLaid, laid_after, laid_both, laid_behind, laid_empty, laid_entering}
+use Rattle.yf_emit.proofs.SeenTexts.{ascii_ns}
 
 -- the row of a key with its `:`, as it is before its value is known
 abbrev pub key_head : ℕ → List ℕ → List ℕ → List Span → Bool → Row
@@ -97,6 +100,11 @@ record ValueMade (t : List ℕ) (s : Setting) (m column : ℕ) (v : Node) (rs : 
   pub head : HeadAt q (i + 1) found_rows
   pub keyed : KeyRows items leaves b below inner found_rows
   pub placed : RowsIn t rs found_rows ds q meaning.comments place r
+  pub held : Held t meaning rs ds r
+
+-- the `:` before it
+colon_seen : {t : List ℕ} (i : ℕ) → IsUtf8 t → code t i ≡ 58 → Behind t (i + 1)
+colon_seen i u e = behind_byte i u e (omega arith) (ascii_ns 58 (omega arith) (omega arith))
 
 -- the row of a key that begins at q, up to its `:` at i, with what is found on it
 record Head (row : Row) (q i a : ℕ) (items : List ℕ) (ls : List Span) (b : Bool) : Type 0 where
@@ -154,10 +162,10 @@ unfolding behind
 comments_behind cs x = refl
 
 -- no value
-value_missing : {t : List ℕ} {v : Node} {q a : ℕ} {items : List ℕ} {ls : List Span} {b below : Bool} (s : Setting) (n column : ℕ) (row : Row) (ds : List Deco) (r : List ℕ) {i : ℕ} → Head row q i a items ls b
+value_missing : {t : List ℕ} {v : Node} {q a : ℕ} {items : List ℕ} {ls : List Span} {b below : Bool} (s : Setting) (n column : ℕ) (row : Row) (ds : List Deco) (r : List ℕ) {i : ℕ} → row.body ≡ [] → Head row q i a items ls b
     → ((h : PlacedRow) → h.items ≡ a ∷ items → h.leaves ≡ ls → h.commented ≡ b → KeyRows (a ∷ items) ls b below [] (h ∷ [])) → MeansNothing v → code t i ≡ 58 → IsUtf8 t → AreDecos ds
     → Rest t (i + 1) (end_then (first ds) [] r) → ValueMade t s n column v (row ∷ []) ds q (a ∷ items) ls b below i r (comment_steps (carried_texts (first ds)) ++ [])
-value_missing {t} {q = q} {a = h} {items = items} {ls = ls} {b = b} s n column row ds r {i} head keyed m colon u a w =
+value_missing {t} {q = q} {a = h} {items = items} {ls = ls} {b = b} s n column row ds r {i} bare head keyed m colon u a w =
     let end = row_end (first ds) r u (first_deco a) w in
     record {
       height = 0;
@@ -176,16 +184,17 @@ value_missing {t} {q = q} {a = h} {items = items} {ls = ls} {b = b} s n column r
           (last_row (head_stands head) (record { ascend = end_ascends end.end; is = end.is; start = end.start }) end.rest);
       is = texts_noting (empty_node (i + 1)) end.comments ∙ (ap (λ z. z ++ texts end.comments) (texts_empty (i + 1)) ∙ (end.is ∙ sym (append-nil (carried_texts (first ds)))));
       laid = laid_row (empty_node (i + 1)) end.comments [] (laid_empty (i + 1) (omega arith)) (end_ascends end.end) end.is;
+      held = held_line (empty_node (i + 1)) end.comments row ds r bare (empty_silent (i + 1)) (row_ended (first ds) r u (colon_seen i u colon) (first_deco a) w end.end);
     }
 
 -- a value on lines of its own
-value_below : {t : List ℕ} {s : Setting} {v : Node} {spot : Spot} {rs : List Row} {q a : ℕ} {items : List ℕ} {ls : List Span} {b below : Bool} (column : ℕ) (row : Row) (ds : List Deco) (r : List ℕ) {i : ℕ} → Head row q i a items ls b
+value_below : {t : List ℕ} {s : Setting} {v : Node} {spot : Spot} {rs : List Row} {q a : ℕ} {items : List ℕ} {ls : List Span} {b below : Bool} (column : ℕ) (row : Row) (ds : List Deco) (r : List ℕ) {i : ℕ} → row.body ≡ [] → Head row q i a items ls b
     → ((ps : List PlacedRow) (h : PlacedRow) → h.items ≡ a ∷ items → h.leaves ≡ ls → h.commented ≡ b → KeyRows (a ∷ items) ls b below ps (h ∷ ps)) → Claim s v spot rs
     → (begins_below v ≡ false → column + 1 ≤ spot.column) → code t i ≡ 58 → IsUtf8 t → Stood s v (pos column) BlockOut spot → AreDecos ds → Calm rs (after ds) r
     → Rest t (i + 1) (end_then (first ds) [] (lines_then rs (after ds) r))
     → ValueMade t s spot.entries column v (row ∷ rs) ds q (a ∷ items) ls b below i r (comment_steps (carried_texts (first ds)) ++ steps_in rs (after ds))
-value_below {s = s} {spot = spot} column row ds r head keyed (no_row m) deep colon u stood a k w = value_missing s spot.entries column row ds r head (λ h. keyed [] h) m colon u a w
-value_below {t} {s} {v} {spot} {q = q} {a = h} {items = items} {ls = ls} {b = b} column row ds r {i} head keyed (some_rows {r = y} {rs = ys} f g m) deep colon u stood a k w =
+value_below {s = s} {spot = spot} column row ds r bare head keyed (no_row m) deep colon u stood a k w = value_missing s spot.entries column row ds r bare head (λ h. keyed [] h) m colon u a w
+value_below {t} {s} {v} {spot} {q = q} {a = h} {items = items} {ls = ls} {b = b} column row ds r {i} bare head keyed (some_rows {r = y} {rs = ys} f g m) deep colon u stood a k w =
     let end = row_end (first ds) (lines_then (y ∷ ys) (after ds) r) u (first_deco a) w in
     let there = rest_spaces y.column end.place u end.rest in
     let node = m.made (pos column) BlockOut (after ds) r (end.place + y.column) u stood (after_decos a) k there.1 in
@@ -207,6 +216,7 @@ value_below {t} {s} {v} {spot} {q = q} {a = h} {items = items} {ls = ls} {b = b}
           (row_before (head_stands head) (record { ascend = end_ascends end.end; is = end.is; start = end.start }) end.rest node.placed);
       is = texts_behind end.comments node.meaning ∙ (ap (λ z. z ++ texts node.meaning.comments) end.is ∙ ap (λ z. carried_texts (first ds) ++ z) node.is);
       laid = laid_after (omega arith) (laid_behind end.comments node.meaning (end_ascends end.end) end.is (omega arith) node.laid);
+      held = held_behind end.comments node.meaning row (y ∷ ys) ds r bare (row_ended (first ds) (lines_then (y ∷ ys) (after ds) r) u (colon_seen i u colon) (first_deco a) w end.end) node.held;
     }
   where
     turn : (b : Bool) → not b ≡ true → b ≡ false
@@ -239,11 +249,11 @@ value_made : {t : List ℕ} {s : Setting} {v : Node} {spot : Spot} {rs : List Ro
     → Rest t (i + 1) (behind_then o below rs ds r)
     → ValueMade t s spot.entries column v (behind_key (key_head column text items leaves blank) o below rs) ds q (a ∷ found) ls (is_some o) below i r (steps_behind o below rs ds)
 value_made {q = q} {a = a} {found = found} {ls = ls} column text items leaves blank (Some c) below ds r i head v e deep colon u stood k calm w =
-    value_below column (record (key_head column text items leaves blank) { key_comment = Some c; ending = before_node }) ds r (head_of (Some c) head) (λ ps h x y z. key_commented x y z) v (deep refl) colon u stood k calm.1 w
+    value_below column (record (key_head column text items leaves blank) { key_comment = Some c; ending = before_node }) ds r refl (head_of (Some c) head) (λ ps h x y z. key_commented x y z) v (deep refl) colon u stood k calm.1 w
 value_made {v = v} {spot = spot} column text items leaves blank None true ds r i head k e deep colon u stood a calm w =
-    value_below column (record (key_head column text items leaves blank) { key_comment = None; ending = before_node }) ds r (head_of None head) (λ ps h x y z. key_above x y z) k (λ f. absurd (true≢false (e ∙ f))) colon u stood a calm.1 w
+    value_below column (record (key_head column text items leaves blank) { key_comment = None; ending = before_node }) ds r refl (head_of None head) (λ ps h x y z. key_above x y z) k (λ f. absurd (true≢false (e ∙ f))) colon u stood a calm.1 w
 value_made {s = s} {spot = spot} column text items leaves blank None false ds r i head (no_row m) e deep colon u stood a calm w =
-    value_missing s spot.entries column (key_head column text items leaves blank) ds r (head_of {ending = anywhere} None head) (λ h x y z. key_alone x y z) m colon u a w
+    value_missing s spot.entries column (key_head column text items leaves blank) ds r refl (head_of {ending = anywhere} None head) (λ h x y z. key_alone x y z) m colon u a w
 value_made {t} {s} {v} {spot} {q = q} {a = h} {found = found} {ls = ls} column text items leaves blank None false ds r i head (some_rows {r = y} {rs = ys} f g m) e deep colon u stood a calm w =
     let space = visible_at 32 u (omega arith) (omega arith) w in
     let node = m.made (pos column) BlockOut ds r (i + 1 + 1) u stood a calm space.1 in
@@ -264,6 +274,7 @@ value_made {t} {s} {v} {spot} {q = q} {a = h} {found = found} {ls = ls} column t
       placed = joint.placed;
       is = node.is;
       laid = laid_after (omega arith) node.laid;
+      held = held_joined (key_head column text items leaves blank) 1 y ys ds r node.held;
     }
 
 -- The key.
@@ -343,6 +354,8 @@ module _ {s : Setting} {k v : Node} {spot : Spot} {rs : List Row} (column : ℕ)
           laid = subst (λ z. MeaningLaid q one.place (entering q (Some key.place) (n.node.mean q) ⊕ one.meaning) z) (sym (behind_steps column (written k ++ colon_behind k) items leaves blank o below rs ds))
               (laid_both (entering q (Some key.place) (n.node.mean q)) one.meaning
               (laid_entering q (Some key.place) (n.node.mean q) (laid_line leaves (places u key.derived refl) (n.node.meant q) (n.node.silent q) count)) one.laid (omega arith));
+          held = held_after (entering q (Some key.place) (n.node.mean q)) one.meaning (behind_key (key_head column (written k ++ colon_behind k) items leaves blank) o below rs) ds r
+              (entering_silent q (Some key.place) (n.node.mean q) (n.node.silent q)) one.held;
         }
 
   -- the key is an empty node
@@ -374,4 +387,6 @@ module _ {s : Setting} {k v : Node} {spot : Spot} {rs : List Row} (column : ℕ)
           laid = subst (λ z. MeaningLaid q one.place (entering q (Some q) (empty_node q) ⊕ one.meaning) z)
               (ap (λ z. leaf_steps z ++ steps_behind o below rs ds) (sym none) ∙ sym (behind_steps column (58 ∷ []) items leaves blank o below rs ds))
               (laid_both {k = q} (entering q (Some q) (empty_node q)) one.meaning (laid_entering q (Some q) (empty_node q) (laid_empty q (omega arith))) one.laid (omega arith));
+          held = held_after (entering q (Some q) (empty_node q)) one.meaning (behind_key (key_head column (58 ∷ []) items leaves blank) o below rs) ds r
+              (entering_silent q (Some q) (empty_node q) (empty_silent q)) one.held;
         }

@@ -60,7 +60,7 @@ colon_order (no_colon l) = l
 colon_order (a_colon l e m) = omega (arith, l, m)
 
 mutual
-  node_steps : {t : List ℕ} {i j : ℕ} {x : Node} → NodeStands t i j x → Steps i (leaves x) j
+  pub node_steps : {t : List ℕ} {i j : ℕ} {x : Node} → NodeStands t i j x → Steps i (leaves x) j
   node_steps {i = i} {j = j} (stands_nowhere m e) = subst (λ w. Steps i (spans_of_leaf w) j) (sym e) (no_step m)
   node_steps (scalar_stands {at = at} e b l m w s) = leaf_steps _ _ at.span e b.order l m
   node_steps (alias_stands {at = at} e b l m s) = leaf_steps _ _ at.span e b.order l m
@@ -79,7 +79,7 @@ mutual
 
 trees_steps : {t : List ℕ} {i : ℕ} {ds : List Doc} {trees : List DocumentTree} → TreesStand t i ds trees → Steps i (leaves_of trees) (length t)
 trees_steps (no_trees_stand l) = no_step l
-trees_steps (tree_stands d a b) = steps_after (directives_order d) (steps_join (node_steps a) (trees_steps b))
+trees_steps (tree_stands d a b z) = steps_after (directives_order d) (steps_join (node_steps a) (trees_steps b))
 
 pub leaves_rise : {t : List ℕ} {i : ℕ} {ds : List Doc} {trees : List DocumentTree} → TreesStand t i ds trees → rising (leaves_of trees) ≡ true
 leaves_rise a = steps_rise (trees_steps a)

@@ -94,6 +94,7 @@ pub mod NodePlaces
 pub mod StepsStand
 pub mod LaidRows
 pub mod NodesMade
+pub mod ScalarStands
 pub mod ScalarsMade
 pub mod EntriesMade
 pub mod KeysMade
@@ -101,6 +102,7 @@ pub mod CollectionsMade
 pub mod TreesMade
 pub mod DocumentsMade
 pub mod StreamParts
+pub mod DocumentsHeld
 pub mod StreamsMade
 pub mod LayoutLawsHold
 -- trees that are alike up to places are laid out alike (a second run changes nothing)
@@ -134,6 +136,19 @@ pub mod CommentsCut
 pub mod CommentsTold
 pub mod TrailFirst
 pub mod RowFlow
+pub mod ItemsOrder
+pub mod QuietTrees
+pub mod RowsFit
+pub mod QuietNodes
+pub mod QuietRows
+pub mod UprightRows
+pub mod SourceStands
+pub mod LeavesTold
+pub mod NoStarts
+pub mod DocumentsBegun
+pub mod DocumentsFlow
+pub mod DocumentsFound
+pub mod SameComments
 pub mod KeyTrails
 pub mod KeysBegin
 pub mod LayoutHolds
@@ -159,7 +174,7 @@ pub mod PlacedRows
 pub mod FoundNodes
 pub mod FoundLines
 pub mod FoundStreams
-pub mod QuietRows
+pub mod QuietPlaces
 pub mod FoundAgree
 pub mod FoundKeys
 pub mod BareNodes
@@ -168,3 +183,19 @@ pub mod FoundTexts
 pub mod FoundMarks
 pub mod FixedBlocks
 pub mod FixedLawsHold
+-- the lines of what formatting gives, which the rules of style look at
+pub mod LaidLines
+pub mod FormattedLines
+pub mod RowKinds
+pub mod WellSet
+pub mod HeldLemmas
+pub mod ScalarHeld
+pub mod DirectiveEnds
+pub mod FormattedHeld
+pub mod TidyTexts
+pub mod LineSorts
+pub mod LinedRows
+pub mod GapSpread
+pub mod LeadRows
+pub mod SetNodes
+pub mod FlowEvents

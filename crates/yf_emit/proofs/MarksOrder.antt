@@ -18,15 +18,15 @@ pub data Rises : ℕ → List ℕ → ℕ → Type 0 where
   no_place : {i j : ℕ} → i ≤ j → Rises i [] j
   a_place : {i k j : ℕ} {ms : List ℕ} → i ≤ k → Rises k ms j → Rises i (k ∷ ms) j
 
-rises_after : {h i j : ℕ} {ms : List ℕ} → h ≤ i → Rises i ms j → Rises h ms j
+pub rises_after : {h i j : ℕ} {ms : List ℕ} → h ≤ i → Rises i ms j → Rises h ms j
 rises_after l (no_place m) = no_place (omega arith)
 rises_after l (a_place m a) = a_place (omega arith) a
 
-rises_join : {i k j : ℕ} {ms ns : List ℕ} → Rises i ms k → Rises k ns j → Rises i (ms ++ ns) j
+pub rises_join : {i k j : ℕ} {ms ns : List ℕ} → Rises i ms k → Rises k ns j → Rises i (ms ++ ns) j
 rises_join (no_place m) b = rises_after m b
 rises_join (a_place m a) b = a_place m (rises_join a b)
 
-rises_order : {i j : ℕ} {ms : List ℕ} → Rises i ms j → i ≤ j
+pub rises_order : {i j : ℕ} {ms : List ℕ} → Rises i ms j → i ≤ j
 rises_order (no_place m) = m
 rises_order (a_place m a) = let l = rises_order a in omega arith
 
@@ -35,10 +35,10 @@ unfolding from_to
 around_rises {i} {j} {ms} {o} a b e l m n =
     subst (λ z. Rises i (around z ms) j) (sym e) (a_place l (rises_join m (a_place {k = b} (omega arith) (no_place n))))
 
-entry_rises : {i : ℕ} {o : Option Entry} (e : Entry) → o ≡ Some e → i ≤ e.start → Rises i (starts_of_entry o) e.start
+pub entry_rises : {i : ℕ} {o : Option Entry} (e : Entry) → o ≡ Some e → i ≤ e.start → Rises i (starts_of_entry o) e.start
 entry_rises {i} e q l = subst (λ z. Rises i (starts_of_entry z) e.start) (sym q) (a_place l (no_place (omega arith)))
 
-colon_rises : {t : List ℕ} {i j : ℕ} {o : Option Entry} (e : Entry) → o ≡ Some e → ColonStands t i j e.colon → Rises i (colon_offset o) j
+pub colon_rises : {t : List ℕ} {i j : ℕ} {o : Option Entry} (e : Entry) → o ≡ Some e → ColonStands t i j e.colon → Rises i (colon_offset o) j
 colon_rises {i} {j} e q c = subst (λ z. Rises i (colon_offset z) j) (sym q) (offset_rises c) where
   offset_rises : {t : List ℕ} {i j : ℕ} {c : Option ℕ} → ColonStands t i j c → Rises i (option_to_list c) j
   offset_rises (no_colon l) = no_place l
@@ -68,7 +68,7 @@ directives_rise (directive_stands m a) = a_place m (directives_rise a)
 pub trees_rise : {t : List ℕ} {i : ℕ} {ds : List Doc} {trees : List DocumentTree} → TreesStand t i ds trees
     → Rises i (marks_in_documents ds trees) (length t)
 trees_rise (no_trees_stand m) = no_place m
-trees_rise (tree_stands d a b) = rises_join (directives_rise d) (a_place (omega arith) (rises_join (node_rises a) (trees_rise b)))
+trees_rise (tree_stands d a b z) = rises_join (directives_rise d) (a_place (omega arith) (rises_join (node_rises a) (trees_rise b)))
 
 -- in terms of indices
 

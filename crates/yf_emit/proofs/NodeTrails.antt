@@ -266,7 +266,7 @@ module _ (cs : List CommentValue) where
   head_tidy false start post [] = (keyless cs nothing_still refl, tt)
   head_tidy false start post (d ∷ ds) = (keyless cs nothing_still refl, directive_tidy post (d ∷ ds))
 
-stream_tidy : (c : Setting) (is_first : Bool) (ds : List Doc) (trees : List DocumentTree) (post : List Span) → AreRemarks c.comments → TreesKept c trees
+pub stream_tidy : (c : Setting) (is_first : Bool) (ds : List Doc) (trees : List DocumentTree) (post : List Span) → AreRemarks c.comments → TreesKept c trees
     → TidyRows c.comments (stream_rows c is_first ds trees) post
 stream_tidy c is_first [] trees post a k = tt
 stream_tidy c is_first (d ∷ ds) [] post a k = tt

@@ -16,10 +16,12 @@ use Rattle.yf_grammar.specs.Grammar.{Derives, BlockIndented, least_column}
 use Rattle.yf_grammar.specs.Grammar.Derives.{flow_node, nothing_indented}
 use Rattle.yf_grammar.specs.Meaning.{Meaning, noting, empty_node}
 use Rattle.yf_grammar.specs.Meant.{Meant, tall}
+use Rattle.yf_grammar.proofs.BlankRuns.{behind_byte}
 use Rattle.yf_grammar.proofs.CommentOrder.{end_ascends}
 use Rattle.yf_grammar.proofs.FlowBack.{visible_at}
 use Rattle.yf_grammar.proofs.LeafBack.{any_follow}
-use Rattle.yf_grammar.proofs.MeantLemmas.{texts_noting, texts_empty}
+use Rattle.yf_grammar.proofs.MeantLemmas.{texts_noting, texts_empty, meant_noting}
+use Rattle.yf_grammar.proofs.NodesBehind.{node_behind}
 use Rattle.yf_grammar.proofs.PlacesDerived.{places}
 use Rattle.yf_emit.specs.Carried.{AreDecos, carried_texts, comments_in, Calm}
 use Rattle.yf_emit.specs.Decorated.{Deco, first, after, trails_then, end_then, lines_then, inline_then}
@@ -30,10 +32,12 @@ use Rattle.yf_emit.specs.Rows.{Row, anywhere, joined, begins_below}
 use Rattle.yf_emit.specs.Steps.{steps_in}
 use Rattle.yf_emit.proofs.FoundLines.{line_found}
 use Rattle.yf_emit.proofs.FoundNodes.{FoundNode, SignRows, sign_alone, sign_joined, found_noting, found_nothing}
+use Rattle.yf_emit.proofs.HeldLemmas.{Held, empty_silent, held_joined, held_line, row_ended}
 use Rattle.yf_emit.proofs.LaidRows.{laid_row, laid_line}
 use Rattle.yf_emit.proofs.NodePlaces.{NodeAt, leaf_at, behind_sign_at}
 use Rattle.yf_emit.proofs.PlacedRows.{none_inside, one_inside, PlacedRow, RowsIn, last_row, row_before, joined_placed, rows_joined}
 use Rattle.yf_emit.proofs.RowEnds.{row_end, end_follows, first_deco}
+use Rattle.yf_emit.proofs.SeenTexts.{ascii_ns}
 use Rattle.yf_emit.proofs.StepsStand.{MeaningLaid, laid_after, laid_empty}
 
 -- where a node stands in its block: in a block context, its entries at a column at which they may stand, and the lines of a block scalar
@@ -57,6 +61,7 @@ pub record NodeMade (t : List ℕ) (s : Setting) (n : ℤ) (c : Ctx) (m : ℕ) (
   pub is : texts meaning.comments ≡ comments_in rs ds
   pub laid : MeaningLaid q place meaning (steps_in rs ds)
   pub placed : RowsIn t rs found_rows ds q meaning.comments place r
+  pub held : Held t meaning rs ds r
 
 pub record Makes (s : Setting) (x : Node) (spot : Spot) (rs : List Row) : Type 0 where
   pub made : {t : List ℕ} (n : ℤ) (c : Ctx) (ds : List Deco) (r : List ℕ) (q : ℕ) → IsUtf8 t → Stood s x n c spot → AreDecos ds → Calm rs ds r
@@ -97,6 +102,7 @@ line_made {t} {s} {x} {r} spot n c ds z q b inline some key text body count node
       placed = found.placed;
       is = texts_noting (node.mean q) end.comments ∙ (ap (λ k. texts k ++ texts end.comments) (node.silent q) ∙ (end.is ∙ sym (append-nil (carried_texts (first ds)))));
       laid = laid_row (node.mean q) end.comments r.leaves (laid_line r.leaves (places u derived refl) (node.meant q) (node.silent q) count) (end_ascends end.end) end.is;
+      held = held_line (node.mean q) end.comments r ds z body (node.silent q) (row_ended (first ds) z u (node_behind u derived) (first_deco a) behind_text.rest end.end);
     }
 
 -- After a sign.
@@ -122,6 +128,7 @@ pub record SignMade (t : List ℕ) (s : Setting) (a : ℕ) (c : Ctx) (sign : ℕ
   pub found_rows : List PlacedRow
   pub signed : SignRows (q ∷ []) inner found_rows
   pub placed : RowsIn t rs found_rows ds q meaning.comments place r
+  pub held : Held t meaning rs ds r
 
 end_code : {t : List ℕ} {q : ℕ} (xs : List (List ℕ)) (r : List ℕ) → IsUtf8 t → Rest t q (trails_then xs (10 ∷ r)) → (code t q ≡ 32) ⊎ (code t q ≡ 10)
 end_code [] r u s = inr (rest_ascii 10 u (omega arith) (λ e. absurd (omega arith)) s).0.char
@@ -133,13 +140,13 @@ unfolding noting empty_node
 noting_nothing k cs = refl
 
 -- the rows of a node behind a sign at q
-record Behind (t : List ℕ) (rs : List Row) (inner : List PlacedRow) (ds : List Deco) (q : ℕ) (cs : List CommentValue) (place : ℕ) (r : List ℕ) : Type 0 where
+record BehindRows (t : List ℕ) (rs : List Row) (inner : List PlacedRow) (ds : List Deco) (q : ℕ) (cs : List CommentValue) (place : ℕ) (r : List ℕ) : Type 0 where
   found_rows : List PlacedRow
   signed : SignRows (q ∷ []) inner found_rows
   placed : RowsIn t rs found_rows ds q cs place r
 
 rows_behind : {t : List ℕ} {y : Row} {ys : List Row} {ps : List PlacedRow} {ds : List Deco} {i place : ℕ} {cs : List CommentValue} {r : List ℕ} (sign column : ℕ) (items : List ℕ) (blank : Bool) (n q : ℕ)
-    → i ≡ q + 1 + n → RowsIn t (y ∷ ys) ps ds i cs place r → Behind t (joined (sign_row column sign items blank) n (y ∷ ys)) ps ds q cs place r
+    → i ≡ q + 1 + n → RowsIn t (y ∷ ys) ps ds i cs place r → BehindRows t (joined (sign_row column sign items blank) n (y ∷ ys)) ps ds q cs place r
 rows_behind sign column items blank n q e (last_row {p = p} at end w) = record {
   found_rows = joined_placed (q ∷ []) [] q p ∷ [];
   signed = sign_joined refl refl refl (let f = at.from in omega (arith, e, f)) refl;
@@ -152,11 +159,11 @@ rows_behind sign column items blank n q e (row_before {p = p} {ps = ps} at end w
 }
 
 pub sign_made : {t : List ℕ} {s : Setting} {x : Node} {spot : Spot} {rs : List Row} (a sign : ℕ) (column : ℕ) (items : List ℕ) (blank : Bool) (c : Ctx) (ds : List Deco) (r : List ℕ) (q : ℕ)
-    → 32 ≤ sign → sign < 127 → 2 ≤ s.style.indent → Claim s x spot rs → spot.entries ≡ a + s.style.indent → IsUtf8 t → Stood s x (pos a) c spot → AreDecos ds
+    → 33 ≤ sign → sign < 127 → 2 ≤ s.style.indent → Claim s x spot rs → spot.entries ≡ a + s.style.indent → IsUtf8 t → Stood s x (pos a) c spot → AreDecos ds
     → Calm (joined (sign_row column sign items blank) (s.style.indent - 1) rs) ds r → Rest t q (inline_then (joined (sign_row column sign items blank) (s.style.indent - 1) rs) ds r)
     → SignMade t s a c sign x (joined (sign_row column sign items blank) (s.style.indent - 1) rs) ds q r
 sign_made {t} {s} {x} {spot} a sign column items blank c ds r q low high wide (no_row m) e u stood k calm w =
-    let at = visible_at sign u low high w in
+    let at = visible_at sign u (omega (arith, low)) high w in
     let end = row_end (first ds) r u (first_deco k) at.1 in
     let row : PlacedRow = record { items = q ∷ []; leaves = []; commented = false; from = q; upto = q + 1 } in
     record {
@@ -184,12 +191,14 @@ sign_made {t} {s} {x} {spot} a sign column items blank c ds r q low high wide (n
           }) (record { ascend = end_ascends end.end; is = end.is; start = end.start }) end.rest);
       is = texts_noting (empty_node (q + 1)) end.comments ∙ (ap (λ z. z ++ texts end.comments) (texts_empty (q + 1)) ∙ (end.is ∙ sym (append-nil (carried_texts (first ds)))));
       laid = laid_row (empty_node (q + 1)) end.comments [] (laid_empty (q + 1) (omega arith)) (end_ascends end.end) end.is;
+      held = held_line (empty_node (q + 1)) end.comments (sign_row column sign items blank) ds r refl (empty_silent (q + 1))
+          (row_ended (first ds) r u (behind_byte q u at.0 (omega arith) (ascii_ns sign low high)) (first_deco k) at.1 end.end);
     }
 sign_made {t} {s} {x} {spot} a sign column items blank c ds r q low high wide (some_rows {r = y} {rs = ys} f g m) e u stood k calm w =
     let n : ℕ = s.style.indent - 1 in
     let same : (replicate n 32 ++ y.text) ++ end_then (first ds) y.body (lines_then ys (after ds) r) ≡ replicate n 32 ++ inline_then (y ∷ ys) ds r =
     append_assoc (replicate n 32) y.text (end_then (first ds) y.body (lines_then ys (after ds) r)) in
-    let at = visible_at sign u low high (subst (λ v. Rest t q (sign ∷ v)) same w) in
+    let at = visible_at sign u (omega (arith, low)) high (subst (λ v. Rest t q (sign ∷ v)) same w) in
     let spaces = rest_spaces n (q + 1) u at.1 in
     let node = m.made (pos a) c ds r (q + 1 + n) u stood k calm spaces.1 in
     let zero_more : q + 1 + 0 ≡ q + 1 = omega arith in
@@ -211,4 +220,5 @@ sign_made {t} {s} {x} {spot} a sign column items blank c ds r q low high wide (s
       placed = behind_it.placed;
       is = node.is;
       laid = laid_after (omega arith) node.laid;
+      held = held_joined (sign_row column sign items blank) n y ys ds r node.held;
     }

@@ -119,7 +119,7 @@ module _ {t : List ℕ} (cs : List CommentValue) (apart : (i : ℕ) → Visible 
 
   trees_apart : {i : ℕ} {ds : List Doc} {trees : List DocumentTree} → TreesStand t i ds trees → none_at_starts cs (leaves_of trees) ≡ true
   trees_apart (no_trees_stand l) = refl
-  trees_apart (tree_stands {tree = tree} {trees = trees} d a b) = starts_append cs (leaves tree.root) (leaves_of trees) (node_apart a) (trees_apart b)
+  trees_apart (tree_stands {tree = tree} {trees = trees} d a b z) = starts_append cs (leaves tree.root) (leaves_of trees) (node_apart a) (trees_apart b)
 
 -- The trees of a normal form.
 

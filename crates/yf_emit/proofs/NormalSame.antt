@@ -75,7 +75,7 @@ either false h k = k
 -- Settled nodes.
 
 mutual
-  settled_same : (c : Setting) (spot : Spot) (x : Node) → SameNode (settled c spot x) x
+  pub settled_same : (c : Setting) (spot : Spot) (x : Node) → SameNode (settled c spot x) x
   settled_same c spot (scalar at props style text lines) = node_as_is (scalar at props style text lines)
   settled_same c spot (alias at name) = node_as_is (alias at name)
   settled_same c spot (sequence at flow props no_items) = node_as_is (sequence at flow props no_items)

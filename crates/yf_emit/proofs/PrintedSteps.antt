@@ -1,28 +1,31 @@
 -- What is told of the comments that a layout prints, where each row cuts those that are left into the ones before it, those that trail it,
 -- and the rest.
-use Rattle.std.proofs.Common.{◌≡◌, ℕ, suc, ◌+◌, Bool, true, false, List, [], ◌∷◌, ◌++◌, length, map, refl, sym, ap, ◌∙◌, subst, arith, add-zero, append_assoc, append-nil}
+use Rattle.std.proofs.Common.{◌≡◌, ℕ, suc, ◌+◌, Bool, true, false, List, [], ◌∷◌, ◌++◌, length, map, refl, sym, ap, ◌∙◌, arith, add-zero, append_assoc, append-nil}
 use Rattle.std.specs.Prelude.{◌&&◌, filter}
 use Rattle.std.proofs.lemmas.List.{map-append}
 use Rattle.yf_comments.specs.Comment.{CommentValue}
 use Rattle.yf_comments.specs.GapLines.{GapLine, remarks_of}
-use Rattle.yf_events.specs.declared.event.Span.{Span}
-use Rattle.yf_emit.specs.Decorated.{blank_if, comments_left, decos_of, ending_behind, gap_of, remarks_behind}
+use Rattle.yf_emit.specs.Beginnings.{leaves_begin, steps_with}
+use Rattle.yf_emit.specs.Carried.{carried_texts}
+use Rattle.yf_emit.specs.Decorated.{Deco, after, blank_if, comments_left, decos_of, ending_behind, first, gap_of, remarks_behind}
 use Rattle.yf_emit.specs.Layout.{Source, may_be_blank_behind, precedes_item, trailing, trimmed}
 use Rattle.yf_emit.specs.Rows.{Row, Ending, anywhere}
-use Rattle.yf_emit.specs.Steps.{Step, a_comment, comment_steps, leaf_steps, steps_in, told}
-use Rattle.yf_emit.proofs.RowLeaves.{leaves_on}
+use Rattle.yf_emit.specs.Steps.{Step, a_comment, a_leaf, comment_steps, leaf_steps, steps_in, told}
 use Rattle.yf_emit.proofs.StartsBefore.{AllFrom, AllBelow, starts_before, none_before, all_before}
-use Rattle.yf_emit.proofs.StepsStand.{starts_of}
 
 abbrev pub trimmed_texts : List CommentValue → List (List ℕ)
 trimmed_texts ds = map (λ d. trimmed d.text) ds
 
--- the steps of rows with the comments that are left
-abbrev pub printed_steps : Source → List CommentValue → List Row → List Step
-printed_steps c comments [] = comment_steps (trimmed_texts comments)
-printed_steps c comments (row ∷ rows) =
+-- the steps of rows with the comments that are left; f tells what begins on a row
+abbrev pub printed_steps : (Row → List Step) → Source → List CommentValue → List Row → List Step
+printed_steps f c comments [] = comment_steps (trimmed_texts comments)
+printed_steps f c comments (row ∷ rows) =
     comment_steps (trimmed_texts (filter (precedes_item row) comments))
-    ++ (leaf_steps row.leaves ++ (comment_steps (trimmed_texts (trailing c row)) ++ printed_steps c (comments_left row comments) rows))
+    ++ (f row ++ (comment_steps (trimmed_texts (trailing c row)) ++ printed_steps f c (comments_left row comments) rows))
+
+pub steps_of_leaves : (rows : List Row) (ds : List Deco) → steps_in rows ds ≡ steps_with leaves_begin rows ds
+steps_of_leaves [] ds = refl
+steps_of_leaves (x ∷ xs) ds = ap (λ w. leaf_steps x.leaves ++ (comment_steps (carried_texts (first ds)) ++ w)) (steps_of_leaves xs (after ds))
 
 -- The steps of what rows carry.
 
@@ -52,18 +55,18 @@ remarks_then before column cs b =
 comments_apart : (xs ys : List (List ℕ)) (r : List Step) → comment_steps (xs ++ ys) ++ r ≡ comment_steps xs ++ (comment_steps ys ++ r)
 comments_apart xs ys r = ap (λ w. w ++ r) (map-append (λ (x : List ℕ). a_comment x) xs ys) ∙ append_assoc (comment_steps xs) (comment_steps ys) r
 
-pub steps_printed : (c : Source) (before : Ending) (comments : List CommentValue) (rows : List Row)
-    → comment_steps (remarks_of (gap_of before comments rows)) ++ steps_in rows (decos_of c comments rows) ≡ printed_steps c comments rows
-steps_printed c before comments [] = append-nil (comment_steps (remarks_of (remarks_behind before 0 comments))) ∙ ap comment_steps (remarks_are before 0 comments)
-steps_printed c before comments (row ∷ rows) =
+pub steps_printed : (f : Row → List Step) (c : Source) (before : Ending) (comments : List CommentValue) (rows : List Row)
+    → comment_steps (remarks_of (gap_of before comments rows)) ++ steps_with f rows (decos_of c comments rows) ≡ printed_steps f c comments rows
+steps_printed f c before comments [] = append-nil (comment_steps (remarks_of (remarks_behind before 0 comments))) ∙ ap comment_steps (remarks_are before 0 comments)
+steps_printed f c before comments (row ∷ rows) =
     let left : List CommentValue = comments_left row comments in
     let ahead : List CommentValue = filter (precedes_item row) comments in
     let trails : List (List ℕ) = trimmed_texts (trailing c row) in
     let gap : List (List ℕ) = remarks_of (gap_of row.ending left rows) in
-    ap (λ w. comment_steps w ++ (leaf_steps row.leaves ++ (comment_steps (trails ++ gap) ++ steps_in rows (decos_of c left rows))))
+    ap (λ w. comment_steps w ++ (f row ++ (comment_steps (trails ++ gap) ++ steps_with f rows (decos_of c left rows))))
     (remarks_then before row.column ahead (may_be_blank_behind (ending_behind before ahead) && row.blank_before))
-    ∙ ap (λ w. comment_steps (trimmed_texts ahead) ++ (leaf_steps row.leaves ++ w))
-    (comments_apart trails gap (steps_in rows (decos_of c left rows)) ∙ ap (λ w. comment_steps trails ++ w) (steps_printed c row.ending left rows))
+    ∙ ap (λ w. comment_steps (trimmed_texts ahead) ++ (f row ++ w))
+    (comments_apart trails gap (steps_with f rows (decos_of c left rows)) ∙ ap (λ w. comment_steps trails ++ w) (steps_printed f c row.ending left rows))
 
 -- What they tell.
 
@@ -77,11 +80,15 @@ told_comments : (n : ℕ) (xs : List (List ℕ)) (rest : List Step) → told n (
 told_comments n [] rest = refl
 told_comments n (x ∷ xs) rest = ap (λ w. (x, n) ∷ w) (told_comments n xs rest)
 
-told_leaves : (n : ℕ) (ls : List Span) (rest : List Step) → told n (leaf_steps ls ++ rest) ≡ told (n + length ls) rest
-told_leaves n [] rest = ap (λ m. told m rest) (sym (add-zero n))
-told_leaves n (l ∷ ls) rest =
-    let same : (n + 1) + length ls ≡ n + suc (length ls) = omega arith in
-    told_leaves (n + 1) ls rest ∙ ap (λ m. told m rest) same
+-- so many beginnings
+abbrev pub begun : List ℕ → List Step
+begun ss = map (λ s. a_leaf) ss
+
+told_begun : (n : ℕ) (ss : List ℕ) (rest : List Step) → told n (begun ss ++ rest) ≡ told (n + length ss) rest
+told_begun n [] rest = ap (λ m. told m rest) (sym (add-zero n))
+told_begun n (s ∷ ss) rest =
+    let same : (n + 1) + length ss ≡ n + suc (length ss) = omega arith in
+    told_begun (n + 1) ss rest ∙ ap (λ m. told m rest) same
 
 -- each of these comments stands before these places, or after them
 pub data AllLater : List CommentValue → List ℕ → Type 0 where
@@ -108,13 +115,13 @@ earlier_told n rs (more_earlier {d = d} {ds = ds} {ss = ss} l a) =
     ap (λ w. (trimmed d.text, w) ∷ trimmed_by (λ o. (n + length ss) + starts_before rs o) ds) same
     ∙ ap (λ w. (trimmed d.text, n + starts_before (ss ++ rs) d.offset) ∷ w) (earlier_told n rs a)
 
--- rows that cut the comments so; own tells which comments trail nothing
-pub data Cuts (c : Source) (own : CommentValue → Bool) : List CommentValue → List Row → Type 0 where
-  none_cut : {left : List CommentValue} → filter own left ≡ left → Cuts c own left []
-  row_cut : {left : List CommentValue} {row : Row} {rows : List Row} (ahead more : List CommentValue) → left ≡ ahead ++ (trailing c row ++ more)
+-- Rows that cut the comments so; own tells which comments trail nothing, f what begins on a row, and the last list where all of that stands.
+pub data Cuts (f : Row → List Step) (c : Source) (own : CommentValue → Bool) : List CommentValue → List Row → List ℕ → Type 0 where
+  none_cut : {left : List CommentValue} → filter own left ≡ left → Cuts f c own left [] []
+  row_cut : {left : List CommentValue} {row : Row} {rows : List Row} {rest : List ℕ} (ss : List ℕ) (ahead more : List CommentValue) → f row ≡ begun ss → left ≡ ahead ++ (trailing c row ++ more)
       → filter (precedes_item row) (filter own left) ≡ ahead → comments_left row (filter own left) ≡ filter own more
-      → AllLater ahead (starts_of (row.leaves ++ leaves_on rows)) → AllLater (trailing c row) (starts_of (leaves_on rows))
-      → AllEarlier (trailing c row ++ more) (starts_of row.leaves) → Cuts c own more rows → Cuts c own left (row ∷ rows)
+      → AllLater ahead (ss ++ rest) → AllLater (trailing c row) rest
+      → AllEarlier (trailing c row ++ more) ss → Cuts f c own more rows rest → Cuts f c own left (row ∷ rows) (ss ++ rest)
 
 trimmed_append : (n : ℕ → ℕ) (xs ys : List CommentValue) → trimmed_by n (xs ++ ys) ≡ trimmed_by n xs ++ trimmed_by n ys
 trimmed_append n [] ys = refl
@@ -126,30 +133,23 @@ rest_told n (d ∷ ds) =
     let same : n ≡ n + starts_before [] d.offset = sym (add-zero n) in
     ap (λ w. (trimmed d.text, w) ∷ told n (comment_steps (trimmed_texts ds))) same ∙ ap (λ w. (trimmed d.text, n + starts_before [] d.offset) ∷ w) (rest_told n ds)
 
-pub cuts_told : {c : Source} {own : CommentValue → Bool} {left : List CommentValue} {rows : List Row} → Cuts c own left rows → (n : ℕ)
-    → told n (printed_steps c (filter own left) rows) ≡ trimmed_by (λ o. n + starts_before (starts_of (leaves_on rows)) o) left
+pub cuts_told : {f : Row → List Step} {c : Source} {own : CommentValue → Bool} {left : List CommentValue} {rows : List Row} {all : List ℕ} → Cuts f c own left rows all → (n : ℕ)
+    → told n (printed_steps f c (filter own left) rows) ≡ trimmed_by (λ o. n + starts_before all o) left
 cuts_told {own = own} {left = left} (none_cut e) n = ap (λ ds. told n (comment_steps (trimmed_texts ds))) e ∙ rest_told n left
-cuts_told {c} {own} {left} (row_cut {row = row} {rows = rows} ahead more split before after a b d cuts) n =
-    let m : ℕ = n + length (starts_of row.leaves) in
-    let ss : List ℕ = starts_of row.leaves in
-    let rs : List ℕ = starts_of (leaves_on rows) in
+cuts_told {f} {c} {own} {left} (row_cut {row = row} {rows = rows} {rest = rs} ss ahead more g split before after a b d cuts) n =
+    let m : ℕ = n + length ss in
     let trails : List CommentValue = trailing c row in
-    let all : starts_of (row.leaves ++ leaves_on rows) ≡ ss ++ rs = map-append (λ (s : Span). s.start) row.leaves (leaves_on rows) in
-    let inner : told n (leaf_steps row.leaves ++ (comment_steps (trimmed_texts trails) ++ printed_steps c (comments_left row (filter own left)) rows))
-    ≡ trimmed_by (λ o. m + starts_before rs o) (trails ++ more) =
-    told_leaves n row.leaves (comment_steps (trimmed_texts trails) ++ printed_steps c (comments_left row (filter own left)) rows)
-    ∙ (ap (λ k. told k (comment_steps (trimmed_texts trails) ++ printed_steps c (comments_left row (filter own left)) rows)) (ap (λ k. n + k) (sym (count row.leaves)))
-    ∙ (told_comments m (trimmed_texts trails) (printed_steps c (comments_left row (filter own left)) rows)
-    ∙ (ap (λ w. each_at m (trimmed_texts trails) ++ told m (printed_steps c w rows)) after
+    let further : List Step = printed_steps f c (comments_left row (filter own left)) rows in
+    let inner : told n (f row ++ (comment_steps (trimmed_texts trails) ++ further)) ≡ trimmed_by (λ o. m + starts_before rs o) (trails ++ more) =
+    ap (λ w. told n (w ++ (comment_steps (trimmed_texts trails) ++ further))) g
+    ∙ (told_begun n ss (comment_steps (trimmed_texts trails) ++ further)
+    ∙ (told_comments m (trimmed_texts trails) further
+    ∙ (ap (λ w. each_at m (trimmed_texts trails) ++ told m (printed_steps f c w rows)) after
     ∙ (ap (λ w. each_at m (trimmed_texts trails) ++ w) (cuts_told cuts m)
     ∙ (ap (λ w. w ++ trimmed_by (λ o. m + starts_before rs o) more) (later_told m b) ∙ sym (trimmed_append (λ o. m + starts_before rs o) trails more)))))) in
-    ap (λ w. told n (comment_steps (trimmed_texts w) ++ (leaf_steps row.leaves ++ (comment_steps (trimmed_texts trails) ++ printed_steps c (comments_left row (filter own left)) rows)))) before
-    ∙ (told_comments n (trimmed_texts ahead) (leaf_steps row.leaves ++ (comment_steps (trimmed_texts trails) ++ printed_steps c (comments_left row (filter own left)) rows))
+    ap (λ w. told n (comment_steps (trimmed_texts w) ++ (f row ++ (comment_steps (trimmed_texts trails) ++ further)))) before
+    ∙ (told_comments n (trimmed_texts ahead) (f row ++ (comment_steps (trimmed_texts trails) ++ further))
     ∙ (ap (λ w. each_at n (trimmed_texts ahead) ++ w) (inner ∙ earlier_told n rs d)
-    ∙ (ap (λ w. w ++ trimmed_by (λ o. n + starts_before (ss ++ rs) o) (trails ++ more)) (later_told n (subst (λ w. AllLater ahead w) all a))
+    ∙ (ap (λ w. w ++ trimmed_by (λ o. n + starts_before (ss ++ rs) o) (trails ++ more)) (later_told n a)
     ∙ (sym (trimmed_append (λ o. n + starts_before (ss ++ rs) o) ahead (trails ++ more))
-    ∙ (ap (trimmed_by (λ o. n + starts_before (ss ++ rs) o)) (sym split)
-    ∙ ap (λ w. trimmed_by (λ o. n + starts_before w o) left) (sym all)))))) where
-      count : (ls : List Span) → length (starts_of ls) ≡ length ls
-      count [] = refl
-      count (l ∷ ls) = ap suc (count ls)
+    ∙ ap (trimmed_by (λ o. n + starts_before (ss ++ rs) o)) (sym split)))))

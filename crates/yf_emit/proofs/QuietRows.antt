@@ -1,176 +1,220 @@
--- No comment of a text stands between where a row that was laid out begins and where what stands on it has begun; and the comment that trails a key
--- stands between it and the next row.
-use Rattle.std.proofs.Common.{◌≡◌, ◌≢◌, ℕ, ◌+◌, ◌<◌, ◌≤◌, true, false, List, [], ◌∷◌, ◌++◌, map, flat_map, Option, Some, None, refl, sym, ap, ◌∙◌, subst, arith, append_assoc, ◌⊎◌, inl, inr, true≢false}
-use Rattle.std.specs.Prelude.{is_some, option_to_list}
+-- The rows of the normal form of a tree that stands in a text: their items rise, and they fit the comments.
+use Rattle.std.proofs.Common.{◌≡◌, ℕ, ◌-◌, ◌≤◌, Bool, true, false, true≢false, ◌&&◌, ◌||◌, List, [], ◌∷◌, ◌++◌, codes, Option, Some, None, refl, sym, ap, ◌∙◌, subst, arith, append-nil, inl, inr}
+use Rattle.std.specs.Prelude.{find, if◌then◌else◌}
+use Rattle.std.proofs.lemmas.Bool.{and_parts}
 use Rattle.yf_comments.specs.Comment.{CommentValue}
-use Rattle.yf_comments.proofs.GapLinesLemmas.{texts}
-use Rattle.yf_comments.specs.GapLines.{remarks_of}
-use Rattle.yf_grammar.proofs.CommentOrder.{Ascend, no_more, one_more, ascend_order}
-use Rattle.yf_events.specs.Event.{Placed}
-use Rattle.yf_stream.specs.ReadingOf.{NotedComments, no_comment, one_comment}
-use Rattle.yf_emit.specs.Carried.{carried_texts}
-use Rattle.yf_emit.specs.Decorated.{Deco, first, after, comments_left, decos_of}
-use Rattle.yf_emit.specs.Layout.{Source, first_comment, trailing_leaf, trimmed}
-use Rattle.yf_emit.specs.Rows.{Row}
-use Rattle.yf_emit.proofs.CommentsCut.{In, in_first, in_rest, in_after, in_before, Each, each_none, each_more, each_map, each_join, Under, Over}
-use Rattle.yf_emit.proofs.PlacedRows.{PlacedRow, RowsIn, last_row, row_before}
+use Rattle.yf_events.specs.declared.event.Entry.{Entry}
+use Rattle.yf_events.specs.declared.event.Span.{Span}
+use Rattle.yf_events.specs.Tree.{Node, alias, sequence, mapping, Items, no_items, item, Pairs, no_pairs, pair, entry_start, items_in, leaves, standing, starts_of_entry, is_filled_flow, is_text}
+use Rattle.yf_emit.specs.Forms.{is_placed, items_are_placed, pairs_are_placed}
+use Rattle.yf_emit.specs.Measuring.{setting}
+use Rattle.yf_emit.specs.Normal.{Setting, Spot, entry_or, first_between, inner_spot, is_implicit, is_one_line_key, key_comment, key_spot, key_start, last_start, styled_items, styled_pairs, value_of_implicit, value_spot}
+use Rattle.yf_emit.specs.OneLine.{props_text}
+use Rattle.yf_emit.specs.Rows.{Row, before_node, begins_below, behind_key, behind_sign, colon_offset, colon_row, entry_row, explicit_pair, joined, key_row, pair_rows, rows, rows_of_items, rows_of_pairs}
+use Rattle.yf_emit.specs.StillLeaves.{between}
+use Rattle.yf_emit.proofs.ItemsOrder.{items_on, items_append, items_joined, rises_upto, sub_behind, sub_twice}
+use Rattle.yf_emit.proofs.LeafPrinted.{same_flag, same_flag_of_map}
+use Rattle.yf_emit.proofs.MarksOrder.{Rises, no_place, rises_after, rises_join, rises_order, entry_rises}
+use Rattle.yf_emit.proofs.PrintedTrees.{item_parts, items_of, pair_parts, pairs_of}
+use Rattle.yf_emit.proofs.QuietTrees.{Free, NodeSits, nothing_sits, scalar_sits, alias_sits, empty_sequence_sits, empty_mapping_sits, sequence_on_line, mapping_on_line, sequence_in_block, mapping_in_block, ItemsSit, no_items_sit, item_sits, PairsSit, no_pairs_sit, pair_sits}
+use Rattle.yf_emit.proofs.RowFlow.{Sub, sub_none, sub_take, greatest}
+use Rattle.yf_emit.proofs.RowLeaves.{leaves_on, node_leaves}
+use Rattle.yf_emit.proofs.RowsFit.{LineFits, behind_fits, beside_fits, last_among, KeyFits, no_key, a_key, RowsFit, no_rows_fit, row_fits, fit_append, as_leaves, sign_fits, rises_apart}
+use Rattle.yf_emit.proofs.StepsStand.{starts_of}
+use Rattle.yf_emit.proofs.StyledTwice.{House}
+use Rattle.yf_emit.proofs.TreesMade.{either_pair}
+use Rattle.yf_emit.proofs.QuietNodes.{OneLine, one_line, whole_line, key_line, NodeFlows, scalar_flows, line_flows, props_rises, props_fit, FirstOf, bare_first, whole_first, first_of, whole_not_below}
 
--- before or after an offset
+-- Keys and values.
 
-ascend_over : {t : List ℕ} {i j : ℕ} {cs : List CommentValue} (h : ℕ) → h ≤ i → Ascend t i cs j → Over h cs
-ascend_over h l (no_more m) = each_none
-ascend_over h l (one_more m s a) = each_more (omega (arith, l, m)) (ascend_over h (omega (arith, l, m)) a)
+-- what is known of a key and its value
+record PairSits (c : Setting) (i l m n : ℕ) (k v : Node) : Type 0 where
+  entry : Entry
+  is : (standing k).entry ≡ Some entry
+  low : i ≤ entry.start
+  free : Free c.comments entry.start
+  colon : Rises l (colon_offset (standing k).entry) m
+  value_sits : NodeSits c.comments m n v
+  house : House c v
+  leaves_are : (spot : Spot) → leaves_on (rows c spot v) ≡ leaves v
+  value : NodeFlows c m n v
 
-pub ascend_under : {t : List ℕ} {i j : ℕ} {cs : List CommentValue} → Ascend t i cs j → Under j cs
-ascend_under (no_more m) = each_none
-ascend_under (one_more m s a) = each_more (let o = ascend_order a in omega (arith, o)) (ascend_under a)
+module _ (c : Setting) (column : ℕ) {i l m n : ℕ} (k v : Node) (a : PairSits c i l m n k v) where
+  key_rises : Rises i (entry_start k) a.entry.start
+  key_rises = entry_rises a.entry a.is a.low
 
-under_more : {h k : ℕ} {cs : List CommentValue} → h ≤ k → Under h cs → Under k cs
-under_more l a = each_map (λ d i m. omega (arith, l, m)) a
+  -- the row of an implicit key
+  key_fits : OneLine c.comments a.entry.start l k → LineFits c.comments (entry_start k ++ items_in k) (starts_of (leaves k))
+  key_fits line = behind_fits (entry_start k) (items_in k) key_rises line.rises line.fits
 
-over_less : {h k : ℕ} {cs : List CommentValue} → k ≤ h → Over h cs → Over k cs
-over_less l a = each_map (λ d i m. omega (arith, l, m)) a
+  key_row_rises : OneLine c.comments a.entry.start l k → Rises i (entry_start k ++ items_in k) l
+  key_row_rises line = rises_join key_rises line.rises
 
--- each comment stands before the row, or after what stands on it has begun
-abbrev pub Quiet : List CommentValue → PlacedRow → Type 0
-Quiet cs p = Each (λ d. (d.offset < p.from) ⊎ (p.upto ≤ d.offset)) cs
+  value_rises : (spot : Spot) → Rises l (items_on (rows c spot v)) n
+  value_rises spot = rises_after (rises_order a.colon) (a.value.rises spot)
 
-pub data AllQuiet (cs : List CommentValue) : List PlacedRow → Type 0 where
-  quiet_none : AllQuiet cs []
-  quiet_row : {p : PlacedRow} {ps : List PlacedRow} → Quiet cs p → AllQuiet cs ps → AllQuiet cs (p ∷ ps)
+  -- where a comment trails the key
+  commented : (spot : Spot) (d : CommentValue) (b : Bool) → is_text v || is_filled_flow v ≡ b → (if b then first_between c.comments (key_start k) (leaves v) else None) ≡ Some d → OneLine c.comments a.entry.start l k
+      → RowsFit c.comments (record (key_row column k) { key_comment = Some d; ending = before_node } ∷ rows c spot v)
+  commented spot d false h e line = absurd cc
+  commented spot d true h e line = go (rows c spot v) (a.leaves_are spot) (first_of c spot v a.house (whole_not_below v h)) (a.value.fits spot) where
+    s : Span
+    s = ((one_line a.value_sits (whole_line v h)).whole h).0
 
--- the comment that trails the row's key stands before the next row
-pub data TrailsTo (cs : List CommentValue) (p : PlacedRow) : List PlacedRow → Type 0 where
-  trails_nothing : TrailsTo cs p []
-  trails_to : {n : PlacedRow} {ns : List PlacedRow} (d : CommentValue) → In d cs → p.upto ≤ d.offset → d.offset < n.from → TrailsTo cs p (n ∷ ns)
+    ss : List Span
+    ss = ((one_line a.value_sits (whole_line v h)).whole h).1.0
 
-pub data Linked (cs : List CommentValue) : List PlacedRow → Type 0 where
-  linked_none : Linked cs []
-  linked_row : {p : PlacedRow} {ps : List PlacedRow} → (p.commented ≡ true → TrailsTo cs p ps) → Linked cs ps → Linked cs (p ∷ ps)
+    some : leaves v ≡ s ∷ ss
+    some = ((one_line a.value_sits (whole_line v h)).whole h).1.1
 
--- Rows in a text.
+    found : find (between (key_start k) s.start) c.comments ≡ Some d
+    found = sym (ap (first_between c.comments (key_start k)) some) ∙ e
 
-rows_over : {t : List ℕ} {xs : List Row} {ps : List PlacedRow} {ds : List Deco} {i j : ℕ} {cs : List CommentValue} {r : List ℕ} (h : ℕ) → h ≤ i → RowsIn t xs ps ds i cs j r → Over h cs
-rows_over h l (last_row at e w) = let o = at.order in ascend_over h (omega (arith, l, o)) e.ascend
-rows_over h l (row_before at e w more) =
-    let o = at.order in
-    let k = ascend_order e.ascend in
-    each_join (ascend_over h (omega (arith, l, o)) e.ascend) (rows_over h (omega (arith, l, o, k)) more)
+    start_is : entry_start k ≡ a.entry.start ∷ []
+    start_is = ap starts_of_entry a.is
 
-rows_order : {t : List ℕ} {xs : List Row} {ps : List PlacedRow} {ds : List Deco} {i j : ℕ} {cs : List CommentValue} {r : List ℕ} → RowsIn t xs ps ds i cs j r → i ≤ j
-rows_order (last_row at e w) = let o = at.order in let k = ascend_order e.ascend in omega (arith, o, k)
-rows_order (row_before at e w more) = let o = at.order in let k = ascend_order e.ascend in let m = rows_order more in omega (arith, o, k, m)
+    keyed : (ks : List Span) → leaves k ≡ ks → (rest : List Row) (row : Row) → row.leaves ≡ s ∷ ss → KeyFits c.comments (record (key_row column k) { key_comment = Some d; ending = before_node }) (row ∷ rest)
+    keyed [] q rest row f =
+        let at : key_start k ≡ a.entry.start = ap (last_start (entry_or 0 (standing k).entry)) q ∙ ap (entry_or 0) a.is in
+        let alone : entry_start k ++ items_in k ≡ a.entry.start ∷ [] = ap (λ w. entry_start k ++ w) (line.bare q) ∙ (append-nil (entry_start k) ∙ start_is) in
+        let top : greatest (entry_start k ++ items_in k) ≡ a.entry.start = ap greatest alone ∙ omega arith in
+        a_key d a.entry.start s ss refl (subst (λ w. Sub (a.entry.start ∷ []) w) (sym alone) (sub_take sub_none)) a.free (inr (q, omega (arith, top))) f (subst (λ w. find (between w s.start) c.comments ≡ Some d) at found)
+    keyed (r ∷ rs) q rest row f =
+        let here : Sub (key_start k ∷ []) (starts_of (leaves k)) = subst (λ w. Sub (last_start (entry_or 0 (standing k).entry) w ∷ []) (starts_of w)) (sym q) (last_among (entry_or 0 (standing k).entry) r rs) in
+        a_key d (key_start k) s ss refl (sub_behind (entry_start k) (sub_twice here line.fits.among)) (line.free (key_start k) here) (inl here) f found
 
-quiet_of : {before own rest : List CommentValue} (p : PlacedRow) → Under p.from before → Over p.upto own → Over p.upto rest → Quiet (before ++ (own ++ rest)) p
-quiet_of p a b c = each_join (each_map (λ d i m. inl m) a) (each_join (each_map (λ d i m. inr m) b) (each_map (λ d i m. inr m) c))
+    go : (xs : List Row) → leaves_on xs ≡ leaves v → FirstOf v xs → RowsFit c.comments xs → RowsFit c.comments (record (key_row column k) { key_comment = Some d; ending = before_node } ∷ xs)
+    go [] f none g = absurd (let w : [] ≡ s ∷ ss = f ∙ some in cc)
+    go (x ∷ xs) f (bare_first p q r z) g = absurd (true≢false (sym h ∙ p))
+    go (x ∷ xs) f (whole_first p q r z) g = row_fits (key_fits line) (keyed (leaves k) refl xs x (r ∙ some)) g
 
--- with the comments before them, and those after them
-pub rows_quiet : {t : List ℕ} {xs : List Row} {ps : List PlacedRow} {ds : List Deco} {i j : ℕ} {cs : List CommentValue} {r : List ℕ} (before rest : List CommentValue) → Under i before → Over j rest
-    → RowsIn t xs ps ds i cs j r → AllQuiet (before ++ (cs ++ rest)) ps
-rows_quiet before rest a b (last_row {p = p} at e w) =
-    let k = ascend_order e.ascend in
-    quiet_row (quiet_of p (subst (λ h. Under h before) (sym at.from) a) (ascend_over p.upto (omega arith) e.ascend) (over_less k b)) quiet_none
-rows_quiet {i = i} {j = j} before rest a b (row_before {p = p} {ps = ps} {k = k} {own = own} {cs = cs} at e w more) =
-    let o = at.order in
-    let n = ascend_order e.ascend in
-    let m = rows_order more in
-    let inner : AllQuiet ((before ++ own) ++ (cs ++ rest)) ps = rows_quiet (before ++ own) rest (each_join (under_more (omega (arith, o, n)) a) (under_more (omega arith) (ascend_under e.ascend))) b more in
-    let same : (before ++ own) ++ (cs ++ rest) ≡ before ++ ((own ++ cs) ++ rest) =
-    append_assoc before own (cs ++ rest) ∙ ap (λ z. before ++ z) (sym (append_assoc own cs rest)) in
-    subst (λ z. AllQuiet z (p ∷ ps)) same (quiet_row
-    (subst (λ z. Quiet z p) (sym (append_assoc before own (cs ++ rest))) (quiet_of p (subst (λ h. Under h before) (sym at.from) a) (ascend_over p.upto (omega arith) e.ascend)
-    (each_join (over_less (omega (arith, n)) (rows_over k (omega arith) more)) (over_less (omega (arith, n, m)) b)))) inner)
+  -- beside it
+  beside : (spot : Spot) → key_comment c.comments k v ≡ None → OneLine c.comments a.entry.start l k → (xs : List Row) → FirstOf v xs → Rises m (items_on xs) n → RowsFit c.comments xs → RowsFit c.comments (joined (key_row column k) 1 xs)
+  beside spot e line [] f r g = row_fits (key_fits line) (no_key refl) no_rows_fit
+  beside spot e line (x ∷ xs) (bare_first b p q z) r (row_fits h y more) =
+      let none : entry_start k ++ items_in k ++ x.items ≡ entry_start k ++ items_in k = ap (λ w. entry_start k ++ items_in k ++ w) p ∙ append-nil (entry_start k ++ items_in k) in
+      let bare : leaves k ++ x.leaves ≡ leaves k = ap (λ w. leaves k ++ w) q ∙ append-nil (leaves k) in
+      row_fits (subst (λ w. LineFits c.comments w (starts_of (leaves k ++ x.leaves))) (sym none) (as_leaves bare (key_fits line))) (no_key z) more
+  beside spot e line (x ∷ xs) (whole_first p q y z) r (row_fits h w more) =
+      let whole = (one_line a.value_sits (whole_line v p)).whole p in
+      let s : Span = whole.0 in
+      let ss : List Span = whole.1.0 in
+      let some : leaves v ≡ s ∷ ss = whole.1.1 in
+      let found : find (between (key_start k) s.start) c.comments ≡ None =
+      sym (ap (first_between c.comments (key_start k)) some) ∙ (sym (ap (λ b. if b then first_between c.comments (key_start k) (leaves v) else None) p) ∙ e) in
+      let value : LineFits c.comments x.items (starts_of (s ∷ ss)) = as_leaves (sym (y ∙ some)) h in
+      let parts = rises_apart x.items (items_on xs) r in
+      let apart : Free c.comments s.start = (one_line a.value_sits (whole_line v p)).free s.start (subst (λ ls. Sub (s.start ∷ []) (starts_of ls)) (sym some) (sub_take sub_none)) in
+      row_fits (as_leaves (ap (λ ls. leaves k ++ ls) (y ∙ some)) (beside_fits (entry_or 0 (standing k).entry) s ss (leaves k) (key_fits line) value (key_row_rises line) (rises_after (rises_order a.colon) parts.one) line.free apart found))
+      (no_key z) more
 
--- a row whose key a comment trails carries one
-pub data Carries : List Row → List Deco → Type 0 where
-  carries_none : {ds : List Deco} → Carries [] ds
-  carries_row : {x : Row} {xs : List Row} {ds : List Deco} → (is_some x.key_comment ≡ true → (first ds).trails ≢ []) → Carries xs (after ds) → Carries (x ∷ xs) ds
+  implicit_fit : (spot : Spot) → OneLine c.comments a.entry.start l k → (o : Option CommentValue) → key_comment c.comments k v ≡ o → (below : Bool) → begins_below v ≡ below
+      → RowsFit c.comments (behind_key (key_row column k) o below (rows c spot v))
+  implicit_fit spot line (Some d) e below f = commented spot d (is_text v || is_filled_flow v) refl e line
+  implicit_fit spot line None e true f = row_fits (key_fits line) (no_key refl) (a.value.fits spot)
+  implicit_fit spot line None e false f = beside spot e line (rows c spot v) (first_of c spot v a.house f) (a.value.rises spot) (a.value.fits spot)
 
-pub decos_carry : (c : Source) (comments : List CommentValue) (rows : List Row) → Carries rows (decos_of c comments rows)
-decos_carry c comments [] = carries_none
-decos_carry c comments (row ∷ rows) = carries_row (λ e f. go row.key_comment refl e f) (decos_carry c (comments_left row comments) rows) where
-  some_text : {x : List ℕ} {xs : List (List ℕ)} → x ∷ xs ≡ [] → ⊥
-  some_text e = absurd cc
+  implicit_rises : (spot : Spot) → OneLine c.comments a.entry.start l k → (o : Option CommentValue) (below : Bool) → Rises i (items_on (behind_key (key_row column k) o below (rows c spot v))) n
+  implicit_rises spot line (Some d) below = rises_join (key_row_rises line) (value_rises spot)
+  implicit_rises spot line None true = rises_join (key_row_rises line) (value_rises spot)
+  implicit_rises spot line None false =
+      subst (λ z. Rises i z n) (sym (items_joined (key_row column k) 1 (rows c spot v))) (rises_join (key_row_rises line) (value_rises spot))
 
-  go : (o : Option CommentValue) → row.key_comment ≡ o → is_some row.key_comment ≡ true → (first (decos_of c comments (row ∷ rows))).trails ≡ [] → ⊥
-  go None e f g = absurd (true≢false (sym f ∙ ap is_some e))
-  go (Some d) e f g = some_text (ap (λ z. map (λ (v : CommentValue). trimmed v.text) (option_to_list z ++ flat_map (λ leaf. trailing_leaf c leaf (first_comment c leaf)) row.leaves)) (sym e) ∙ g)
+  -- with `?` and `:`
+  question : (key : NodeFlows c a.entry.start l k) → Rises i (items_on (behind_sign c.style (entry_row column (codes "?") k) (rows c (key_spot c.style column k) k))) l
+  question key =
+      subst (λ z. Rises i z l) (sym (items_joined (entry_row column (codes "?") k) (c.style.indent - 1) (rows c (key_spot c.style column k) k)))
+      (rises_join key_rises (key.rises (key_spot c.style column k)))
 
-data FirstAt (i : ℕ) : List PlacedRow → Type 0 where
-  first_at : {n : PlacedRow} {ns : List PlacedRow} → n.from ≡ i → FirstAt i (n ∷ ns)
+  answer : Rises l (items_on (behind_sign c.style (colon_row column k) (rows c (inner_spot c.style column) v))) n
+  answer =
+      subst (λ z. Rises l z n) (sym (items_joined (colon_row column k) (c.style.indent - 1) (rows c (inner_spot c.style column) v)))
+      (rises_join a.colon (a.value.rises (inner_spot c.style column)))
 
-rows_first : {t : List ℕ} {xs : List Row} {ps : List PlacedRow} {ds : List Deco} {i j : ℕ} {cs : List CommentValue} {r : List ℕ} → RowsIn t xs ps ds i cs j r → FirstAt i ps
-rows_first (last_row at e w) = first_at at.from
-rows_first (row_before at e w more) = first_at at.from
+  explicit_fit : (key : NodeFlows c a.entry.start l k) → RowsFit c.comments (explicit_pair c.style column k (rows c (key_spot c.style column k) k) (rows c (inner_spot c.style column) v))
+  explicit_fit key =
+      fit_append (sign_fits (entry_row column (codes "?") k) (c.style.indent - 1) (rows c (key_spot c.style column k) k) refl refl key_rises (key.rises (key_spot c.style column k)) (key.fits (key_spot c.style column k)))
+      (sign_fits (colon_row column k) (c.style.indent - 1) (rows c (inner_spot c.style column) v) refl refl a.colon (a.value.rises (inner_spot c.style column)) (a.value.fits (inner_spot c.style column)))
 
-in_middle : {d : CommentValue} {own : List CommentValue} (before cs rest : List CommentValue) → In d own → In d (before ++ ((own ++ cs) ++ rest))
-in_middle before cs rest a = in_after before (in_before rest (in_before cs a))
+  explicit_rises : (key : NodeFlows c a.entry.start l k) → Rises i (items_on (explicit_pair c.style column k (rows c (key_spot c.style column k) k) (rows c (inner_spot c.style column) v))) n
+  explicit_rises key =
+      subst (λ z. Rises i z n) (sym (items_append (behind_sign c.style (entry_row column (codes "?") k) (rows c (key_spot c.style column k) k)) (behind_sign c.style (colon_row column k) (rows c (inner_spot c.style column) v))))
+      (rises_join (question key) answer)
 
-trail_found : {t : List ℕ} {p : PlacedRow} {ps : List PlacedRow} {own : List CommentValue} {k i : ℕ} (ds : List Deco) (before cs rest : List CommentValue) → (first ds).trails ≢ [] → Ascend t p.upto own k
-    → texts own ≡ carried_texts (first ds) → k ≤ i → FirstAt i ps → TrailsTo (before ++ ((own ++ cs) ++ rest)) p ps
-trail_found ds before cs rest some (no_more m) is l f = absurd (empty (first ds).trails some is) where
-  empty : (xs : List (List ℕ)) → xs ≢ [] → [] ≡ xs ++ remarks_of (first ds).gap → ⊥
-  empty [] n e = n refl
-  empty (x ∷ xs) n e = absurd cc
-trail_found ds before cs rest some (one_more {c = c} m s a) is l (first_at {n = n} e) =
-    let o = ascend_order a in trails_to c (in_middle before cs rest in_first) m (omega (arith, o, l, e))
+  pair_flow : (NodeSits c.comments a.entry.start l k) → NodeFlows c a.entry.start l k
+      → Rises i (items_on (pair_rows c column k v (rows c (key_spot c.style column k) k) (rows c (value_spot c column k v) v))) n
+      × RowsFit c.comments (pair_rows c column k v (rows c (key_spot c.style column k) k) (rows c (value_spot c column k v) v))
+  pair_flow sits key = go (is_implicit c.style column k) refl where
+    go : (b : Bool) → is_implicit c.style column k ≡ b → Rises i (items_on (either_pair b c column k v)) n × RowsFit c.comments (either_pair b c column k v)
+    go true e =
+        let line = one_line sits (key_line c.style column k (and_parts (is_one_line_key c.style column k) _ e).0) in
+        (implicit_rises (value_of_implicit c column k v) line (key_comment c.comments k v) (begins_below v), implicit_fit (value_of_implicit c column k v) line (key_comment c.comments k v) refl (begins_below v) refl)
+    go false e = (explicit_rises key, explicit_fit key)
 
-pub rows_linked : {t : List ℕ} {xs : List Row} {ps : List PlacedRow} {ds : List Deco} {i j : ℕ} {cs : List CommentValue} {r : List ℕ} (before rest : List CommentValue) → Carries xs ds → RowsIn t xs ps ds i cs j r
-    → Linked (before ++ (cs ++ rest)) ps
-rows_linked before rest carries_none a = elim a [ ]
-rows_linked before rest (carries_row c more) (last_row at e w) = linked_row (λ z. trails_nothing) linked_none
-rows_linked before rest (carries_row c others) (row_before {x = x} {p = p} {ps = ps} {ds = ds} {k = k} {own = own} {cs = cs} at e w more) =
-    let inner : Linked ((before ++ own) ++ (cs ++ rest)) ps = rows_linked (before ++ own) rest others more in
-    let same : (before ++ own) ++ (cs ++ rest) ≡ before ++ ((own ++ cs) ++ rest) =
-    append_assoc before own (cs ++ rest) ∙ ap (λ z. before ++ z) (sym (append_assoc own cs rest)) in
-    linked_row (λ z. trail_found ds before cs rest (c (at.commented ∙ z)) e.ascend e.is (omega arith) (rows_first more)) (subst (λ z. Linked z ps) same inner)
+-- Trees.
 
--- Parts of rows.
+module _ (c : Setting) where
+  mutual
+    pub node_flows : {i j : ℕ} {x : Node} → NodeSits c.comments i j x → is_placed x ≡ true → House c x → NodeFlows c i j x
+    node_flows (nothing_sits {at = at} {props = props} {style = style} {text = text} {lines = lines} l e) p h = scalar_flows c at props style text lines (one_line (nothing_sits l e) refl)
+    node_flows (scalar_sits {at = at} {props = props} {style = style} {text = text} {lines = lines} a) p h = scalar_flows c at props style text lines (one_line (scalar_sits a) refl)
+    node_flows (alias_sits {at = at} {name = name} a) p h = line_flows c (alias at name) (λ spot. refl) (one_line (alias_sits a) refl)
+    node_flows (empty_sequence_sits {at = at} {flow = true} {props = props} a) p h = line_flows c (sequence at true props no_items) (λ spot. refl) (one_line (empty_sequence_sits a) refl)
+    node_flows (empty_sequence_sits {at = at} {flow = false} {props = props} a) p h = absurd (true≢false (same_flag h))
+    node_flows (empty_mapping_sits {at = at} {flow = true} {props = props} a) p h = line_flows c (mapping at true props no_pairs) (λ spot. refl) (one_line (empty_mapping_sits a) refl)
+    node_flows (empty_mapping_sits {at = at} {flow = false} {props = props} a) p h = absurd (true≢false (same_flag_of_map h))
+    node_flows (sequence_on_line {at = at} {props = props} {x = x} {xs = xs} l a m) p h = line_flows c (sequence at true props (item x xs)) (λ spot. refl) (one_line (sequence_on_line l a m) refl)
+    node_flows (mapping_on_line {at = at} {props = props} {x = x} {v = v} {ps = ps} l a m) p h = line_flows c (mapping at true props (pair x v ps)) (λ spot. refl) (one_line (mapping_on_line l a m) refl)
+    node_flows (sequence_in_block {props = props} {x = x} {xs = xs} l a m) p h =
+        let f = items_flow a p (items_of h) in
+        record {
+          rises = λ spot. props_rises spot.column (props_text props) (rows_of_items c spot.entries (item x xs)) (rises_after l (rises_upto (f spot.entries).0 m));
+          fits = λ spot. props_fit spot.column (props_text props) (rows_of_items c spot.entries (item x xs)) (f spot.entries).1;
+        }
+    node_flows (mapping_in_block {props = props} {x = x} {v = v} {ps = ps} l a m) p h =
+        let f = pairs_flow a p (pairs_of h) in
+        record {
+          rises = λ spot. props_rises spot.column (props_text props) (rows_of_pairs c spot.entries (pair x v ps)) (rises_after l (rises_upto (f spot.entries).0 m));
+          fits = λ spot. props_fit spot.column (props_text props) (rows_of_pairs c spot.entries (pair x v ps)) (f spot.entries).1;
+        }
 
-pub quiet_left : {cs : List CommentValue} (xs ys : List PlacedRow) → AllQuiet cs (xs ++ ys) → AllQuiet cs xs
-quiet_left [] ys a = quiet_none
-quiet_left (x ∷ xs) ys (quiet_row q a) = quiet_row q (quiet_left xs ys a)
+    items_flow : {i j : ℕ} {xs : Items} → ItemsSit c.comments i j xs → items_are_placed xs ≡ true → styled_items [] (setting c.style []) xs ≡ xs → (column : ℕ)
+        → Rises i (items_on (rows_of_items c column xs)) j × RowsFit c.comments (rows_of_items c column xs)
+    items_flow (no_items_sit l) p h column = (no_place l, no_rows_fit)
+    items_flow {i} {j} (item_sits {k = k} {x = x} {xs = xs} e q l a more) p h column =
+        let hs = and_parts (is_placed x) (items_are_placed xs) p in
+        let parts = item_parts h in
+        let node = node_flows a hs.0 parts.0 in
+        let rest = items_flow more hs.1 parts.1 column in
+        let head : Row = entry_row column (codes "-") x in
+        let inner : List Row = rows c (inner_spot c.style column) x in
+        let first : Rises i (items_on (behind_sign c.style head inner)) k =
+        subst (λ z. Rises i z k) (sym (items_joined head (c.style.indent - 1) inner)) (rises_join (entry_rises e q l) (node.rises (inner_spot c.style column))) in (
+          subst (λ z. Rises i z j) (sym (items_append (behind_sign c.style head inner) (rows_of_items c column xs))) (rises_join first rest.0),
+          fit_append (sign_fits head (c.style.indent - 1) inner refl refl (entry_rises e q l) (node.rises (inner_spot c.style column)) (node.fits (inner_spot c.style column))) rest.1,
+        )
 
-pub quiet_right : {cs : List CommentValue} (xs ys : List PlacedRow) → AllQuiet cs (xs ++ ys) → AllQuiet cs ys
-quiet_right [] ys a = a
-quiet_right (x ∷ xs) ys (quiet_row q a) = quiet_right xs ys a
-
-trails_left : {cs : List CommentValue} {p : PlacedRow} (xs ys : List PlacedRow) → TrailsTo cs p (xs ++ ys) → TrailsTo cs p xs
-trails_left [] ys a = trails_nothing
-trails_left (x ∷ xs) ys (trails_to d i l m) = trails_to d i l m
-
-pub linked_left : {cs : List CommentValue} (xs ys : List PlacedRow) → Linked cs (xs ++ ys) → Linked cs xs
-linked_left [] ys a = linked_none
-linked_left (x ∷ xs) ys (linked_row f a) = linked_row (λ e. trails_left xs ys (f e)) (linked_left xs ys a)
-
-pub linked_right : {cs : List CommentValue} (xs ys : List PlacedRow) → Linked cs (xs ++ ys) → Linked cs ys
-linked_right [] ys a = a
-linked_right (x ∷ xs) ys (linked_row f a) = linked_right xs ys a
-
--- Notes on comments leave them where they stand.
-
-quiet_noted : {t : List ℕ} {es : List Placed} {x y : List CommentValue} (p : PlacedRow) → NotedComments t es x y → Quiet x p → Quiet y p
-quiet_noted p no_comment each_none = each_none
-quiet_noted p (one_comment m a) (each_more e b) = each_more e (quiet_noted p a b)
-
-pub quiet_offsets : {t : List ℕ} {es : List Placed} {x y : List CommentValue} {ps : List PlacedRow} → NotedComments t es x y → AllQuiet x ps → AllQuiet y ps
-quiet_offsets n quiet_none = quiet_none
-quiet_offsets n (quiet_row {p = p} q a) = quiet_row (quiet_noted p n q) (quiet_offsets n a)
-
-record InNoted (d : CommentValue) (y : List CommentValue) : Type 0 where
-  other : CommentValue
-  is_in : In other y
-  same : other.offset ≡ d.offset
-
-in_noted : {t : List ℕ} {es : List Placed} {x y : List CommentValue} {d : CommentValue} → NotedComments t es x y → In d x → InNoted d y
-in_noted no_comment i = elim i [ ]
-in_noted (one_comment m a) in_first = record { other = _; is_in = in_first; same = refl }
-in_noted (one_comment m a) (in_rest i) = let w = in_noted a i in record { other = w.other; is_in = in_rest w.is_in; same = w.same }
-
-trails_offsets : {t : List ℕ} {es : List Placed} {x y : List CommentValue} {p : PlacedRow} {ps : List PlacedRow} → NotedComments t es x y → TrailsTo x p ps → TrailsTo y p ps
-trails_offsets n trails_nothing = trails_nothing
-trails_offsets n (trails_to d i l m) = let w = in_noted n i in let e = w.same in trails_to w.other w.is_in (omega (arith, l, e)) (omega (arith, m, e))
-
-pub linked_offsets : {t : List ℕ} {es : List Placed} {x y : List CommentValue} {ps : List PlacedRow} → NotedComments t es x y → Linked x ps → Linked y ps
-linked_offsets n linked_none = linked_none
-linked_offsets n (linked_row f a) = linked_row (λ e. trails_offsets n (f e)) (linked_offsets n a)
+    pairs_flow : {i j : ℕ} {ps : Pairs} → PairsSit c.comments i j ps → pairs_are_placed ps ≡ true → styled_pairs [] (setting c.style []) ps ≡ ps → (column : ℕ)
+        → Rises i (items_on (rows_of_pairs c column ps)) j × RowsFit c.comments (rows_of_pairs c column ps)
+    pairs_flow (no_pairs_sit l) p h column = (no_place l, no_rows_fit)
+    pairs_flow {i} {j} (pair_sits {l = l} {m = m} {n = n} {k = k} {v = v} {ps = ps} e q low free a colon b more) p h column =
+        let hx = and_parts (is_placed k) (is_placed v && pairs_are_placed ps) p in
+        let hy = and_parts (is_placed v) (pairs_are_placed ps) hx.1 in
+        let parts = pair_parts h in
+        let key = node_flows a hx.0 parts.0 in
+        let value = node_flows b hy.0 parts.1.0 in
+        let rest = pairs_flow more hy.1 parts.1.1 column in
+        let both : PairSits c i l m n k v = record {
+          entry = e;
+          is = q;
+          low = low;
+          free = free;
+          colon = colon;
+          value_sits = b;
+          house = parts.1.0;
+          leaves_are = λ spot. node_leaves c spot v hy.0 parts.1.0;
+          value = value;
+        } in
+        let first = pair_flow c column k v both a key in
+        let mine : List Row = pair_rows c column k v (rows c (key_spot c.style column k) k) (rows c (value_spot c column k v) v) in
+        (subst (λ z. Rises i z j) (sym (items_append mine (rows_of_pairs c column ps))) (rises_join first.0 rest.0), fit_append first.1 rest.1)

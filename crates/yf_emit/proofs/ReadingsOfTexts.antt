@@ -21,7 +21,7 @@ use Rattle.yf_emit.proofs.PlacedTrees.{node_placed}
 
 pub trees_placed : {t : List ℕ} {i : ℕ} {ds : List Doc} {trees : List DocumentTree} → TreesStand t i ds trees → documents_are_placed trees ≡ true
 trees_placed (no_trees_stand l) = refl
-trees_placed (tree_stands d a b) = and_from _ _ (node_placed a) (trees_placed b)
+trees_placed (tree_stands d a b z) = and_from _ _ (node_placed a) (trees_placed b)
 
 pub reading_is_textual : {t : List ℕ} {r : Lists} → IsUtf8 t → ReadingOf t r → IsTextual r
 reading_is_textual {t} {r} u a =

@@ -1,6 +1,6 @@
 -- Rows cut the comments where their items rise, each leaf begins at an item of its row, no comment stands between the first leaf of a row and
 -- its last item, and the comment that trails a row is the first after an item on it and before the leaves of later rows.
-use Rattle.std.proofs.Common.{◌≡◌, ◌≢◌, ℕ, max, ◌+◌, ◌<◌, ◌≤◌, true, false, true≢false, ◌||◌, List, [], ◌∷◌, ◌++◌, flat_map, sym, ap, ◌∙◌, subst, arith, ◌⊎◌, inl, inr, ⊎_elim}
+use Rattle.std.proofs.Common.{◌≡◌, ◌≢◌, ℕ, max, ◌+◌, ◌<◌, ◌≤◌, true, false, true≢false, ◌||◌, List, [], ◌∷◌, ◌++◌, flat_map, Some, None, refl, sym, ap, ◌∙◌, subst, arith, ◌⊎◌, inl, inr, ⊎_elim}
 use Rattle.std.specs.Prelude.{◌==◌, nat_lt}
 use Rattle.std.specs.List.{list_any}
 use Rattle.std.proofs.lemmas.Bool.{cases_lt}
@@ -8,13 +8,17 @@ use Rattle.std.proofs.lemmas.Bool.Decides.{nat_tests}
 use Rattle.yf_chars.specs.Text.{code}
 use Rattle.yf_comments.specs.Comment.{CommentValue}
 use Rattle.yf_events.specs.declared.event.Span.{Span}
-use Rattle.yf_emit.specs.Layout.{Source, is_among, trailing}
+use Rattle.yf_stream.specs.ReadingOf.{last_leaf}
+use Rattle.yf_emit.specs.Beginnings.{leaves_begin}
+use Rattle.yf_emit.specs.Layout.{Remark, Source, first_comment, is_among, trailing}
 use Rattle.yf_emit.specs.Rows.{Row}
-use Rattle.yf_emit.proofs.CommentsCut.{In, Each, each_none, each_more, Over, LeavesCut, TrailCut, none_trails, one_trails, Flowing, no_flow, a_flow}
+use Rattle.yf_emit.specs.Steps.{a_leaf, leaf_steps}
+use Rattle.yf_emit.proofs.CommentsCut.{In, in_first, in_rest, Each, each_none, each_more, Over, BegunCut, TrailCut, none_trails, one_trails, Flowing, no_flow, a_flow}
 use Rattle.yf_emit.proofs.FoundAgain.{Unsigned, no_start, a_start}
+use Rattle.yf_emit.proofs.PrintedSteps.{begun}
 use Rattle.yf_emit.proofs.RowLeaves.{leaves_on}
 use Rattle.yf_emit.proofs.StartsBefore.{AllFrom, none_later, one_later, later_from, AllBelow, none_earlier, one_earlier}
-use Rattle.yf_emit.proofs.StepsStand.{starts_of}
+use Rattle.yf_emit.proofs.StepsStand.{starts_of, starts_append}
 
 -- The last item of a row, which is the greatest.
 
@@ -53,12 +57,12 @@ sub_below (sub_take s) = one_earlier (omega arith) (below_more (omega arith) (su
 sub_below (sub_skip s) = below_more (omega arith) (sub_below s)
 
 -- one of them
-sub_one_below : {i : ℕ} {is : List ℕ} → Sub (i ∷ []) is → i ≤ greatest is
+pub sub_one_below : {i : ℕ} {is : List ℕ} → Sub (i ∷ []) is → i ≤ greatest is
 sub_one_below s = go (sub_below s) where
   go : {i n : ℕ} → AllBelow (n + 1) (i ∷ []) → i ≤ n
   go (one_earlier l a) = omega (arith, l)
 
-sub_one_from : {n i : ℕ} {is : List ℕ} → Sub (i ∷ []) is → AllFrom n is → n ≤ i
+pub sub_one_from : {n i : ℕ} {is : List ℕ} → Sub (i ∷ []) is → AllFrom n is → n ≤ i
 sub_one_from s a = go (sub_from s a) where
   go : {n i : ℕ} → AllFrom n (i ∷ []) → n ≤ i
   go (one_later l b) = l
@@ -74,13 +78,38 @@ below_sign o e l none_earlier no_start = none_earlier
 below_sign {t} o e l (one_earlier {s = s} m a) (a_start v u) =
     let apart : s ≢ o = λ z. v (ap (code t) z ∙ e) in one_earlier (omega (arith, l, m, apart)) (below_sign o e l a u)
 
-leaves_cut : {t : List ℕ} {cs : List CommentValue} {row : Row} → ((d : CommentValue) → In d cs → code t d.offset ≡ 35) → Unsigned t (starts_of row.leaves) → RowFits cs row
-    → LeavesCut cs (starts_of row.leaves) (greatest row.items)
-leaves_cut sign u f = record { still = f.still; behind = λ d i l. below_sign d.offset (sign d i) (omega (arith, l)) (sub_below f.among) u }
+leaves_cut : {t : List ℕ} {cs : List CommentValue} {row : Row} (it : ℕ) → ((d : CommentValue) → In d cs → code t d.offset ≡ 35) → Unsigned t (starts_of row.leaves) → RowFits cs row
+    → BegunCut cs (starts_of row.leaves) (greatest row.items) (max it (greatest row.items))
+leaves_cut it sign u f = record { still = f.still; behind = λ d i l. below_sign d.offset (sign d i) (omega (arith, l)) (sub_below f.among) u }
+
+-- where the leaves on rows begin
+abbrev pub starts_on : List Row → List ℕ
+starts_on [] = []
+starts_on (row ∷ rows) = starts_of row.leaves ++ starts_on rows
+
+pub starts_are : (rows : List Row) → starts_on rows ≡ starts_of (leaves_on rows)
+starts_are [] = refl
+starts_are (row ∷ rows) = ap (λ w. starts_of row.leaves ++ w) (starts_are rows) ∙ sym (starts_append row.leaves (leaves_on rows))
+
+leaves_begun : (ls : List Span) → leaf_steps ls ≡ begun (starts_of ls)
+leaves_begun [] = refl
+leaves_begun (l ∷ ls) = ap (λ w. a_leaf ∷ w) (leaves_begun ls)
 
 -- a leaf stands on the first of these rows
 pub data LeafNext : List Row → Type 0 where
   leaf_next : {row : Row} {rows : List Row} (s : ℕ) → Sub (s ∷ []) (starts_of row.leaves) → LeafNext (row ∷ rows)
+
+-- one of these leaves
+pub data Has (s : Span) : List Span → Type 0 where
+  has_first : {ss : List Span} → Has s (s ∷ ss)
+  has_rest : {r : Span} {ss : List Span} → Has s ss → Has s (r ∷ ss)
+
+-- A comment that trails a row stands in one of its leaves, or on the line on which that leaf ends, and that leaf is the last before it; or before a
+-- leaf of the next row.
+pub data Near (c : Source) (row : Row) (e : CommentValue) : List Row → Type 0 where
+  at_leaf : {rows : List Row} (s : Span) (r : Remark) → Has s row.leaves → last_leaf None e.offset c.leaves ≡ Some s → first_comment c s ≡ Some r → r.0 ≡ e
+      → (nat_lt e.offset s.end || r.1) ≡ true → Near c row e rows
+  before_leaf : {rows : List Row} (next : Row) (more : List Row) → rows ≡ next ∷ more → (s : Span) → Has s next.leaves → e.offset < s.start → Near c row e rows
 
 -- What trails a row: nothing, or the first comment after an item on it and before the leaves of later rows. The item begins a leaf; or there
 -- is no leaf on the row, and the comment trails its key. A comment that trails a key stands before a row with a leaf.
@@ -88,7 +117,7 @@ pub data RowTrail (c : Source) (cs : List CommentValue) (row : Row) (rows : List
   untrailed : trailing c row ≡ [] → RowTrail c cs row rows
   trailed_after : (e : CommentValue) (a : ℕ) → trailing c row ≡ e ∷ [] → In e cs → Sub (a ∷ []) row.items → a < e.offset → ((d : CommentValue) → In d cs → d.offset < e.offset → d.offset < a)
       → greatest row.items ≤ e.offset → AllFrom (e.offset + 1) (starts_of (leaves_on rows)) → Sub (a ∷ []) (starts_of row.leaves) ⊎ ((row.leaves ≡ []) × (is_among c.key_comments e ≡ true))
-      → (is_among c.key_comments e ≡ false) ⊎ LeafNext rows → RowTrail c cs row rows
+      → (is_among c.key_comments e ≡ false) ⊎ LeafNext rows → Near c row e rows → RowTrail c cs row rows
 
 -- rows whose items rise from an offset on, each with what trails it
 pub data Upright (c : Source) (cs : List CommentValue) : ℕ → List Row → Type 0 where
@@ -112,7 +141,7 @@ module _ (c : Source) (cs : List CommentValue) where
   before_trail : (e : CommentValue) {it : ℕ} {row : Row} {rows : List Row} → Ahead e it → AllFrom it row.items → AllFrom (e.offset + 1) (starts_of row.leaves) → RowTrail c cs row rows
       → Over (e.offset + 1) (trailing c row)
   before_trail e ahead from later (untrailed q) = subst (λ w. Over (e.offset + 1) w) (sym q) each_none
-  before_trail e {it} {row} ahead from later (trailed_after d a q i s l f g h k n) = subst (λ w. Over (e.offset + 1) w) (sym q) (each_more {d = d} (⊎_elim by_leaf by_key k) each_none) where
+  before_trail e {it} {row} ahead from later (trailed_after d a q i s l f g h k n near) = subst (λ w. Over (e.offset + 1) w) (sym q) (each_more {d = d} (⊎_elim by_leaf by_key k) each_none) where
     at : it ≤ a
     at = sub_one_from s from
 
@@ -163,27 +192,44 @@ module _ (c : Source) (cs : List CommentValue) where
 
         first : AllFrom (e.offset + 1) (starts_of row.leaves) → RowTrail c cs row rows → Over (e.offset + 1) (trailing c row)
         first low (untrailed q) = subst (λ w. Over (e.offset + 1) w) (sym q) each_none
-        first low (trailed_after d a q i s0 l f g h k n) = subst (λ w. Over (e.offset + 1) w) (sym q) (each_more {d = d} (⊎_elim
+        first low (trailed_after d a q i s0 l f g h k n y) = subst (λ w. Over (e.offset + 1) w) (sym q) (each_more {d = d} (⊎_elim
             (λ (w : Sub (a ∷ []) (starts_of row.leaves)). let m : e.offset + 1 ≤ a = sub_one_from w low in omega (arith, m, l))
             (λ (w : (row.leaves ≡ []) × (is_among c.key_comments d ≡ true)). absurd (none_on s z w.0)) k) each_none)
 
   -- Such rows cut the comments.
 
+  -- what trails a row cuts the comments, whatever is counted
+  pub row_cut_by : {it : ℕ} {row : Row} {rows : List Row} → AllFrom it row.items → Upright c cs (max it (greatest row.items)) rows → RowTrail c cs row rows
+      → TrailCut c cs (greatest row.items) (max it (greatest row.items)) row rows
+  row_cut_by from more (untrailed q) = none_trails q
+  row_cut_by {it} {row} {rows} from more (trailed_after e a q i s l f g h k n near) =
+      let at : it ≤ a = sub_one_from s from in
+      let top : a ≤ greatest row.items = sub_one_below s in
+      one_trails e q i (omega (arith, at, l, g)) (λ d j m. let z : d.offset < a = f d j m in omega (arith, z, top))
+      (⊎_elim (λ (z : is_among c.key_comments e ≡ false). before_trails e (inl (z, λ d j m. let w : d.offset < a = f d j m in omega (arith, w, top))) h more)
+      (λ (z : LeafNext rows). before_next e z h more) n)
+
+  leaves_near : {row : Row} {rows : List Row} → RowTrail c cs row rows → (d : CommentValue) → In d (trailing c row) → AllFrom d.offset (starts_on rows)
+  leaves_near {row} {rows} (untrailed q) d i = none q i where
+    none : {ds : List CommentValue} → ds ≡ [] → In d ds → AllFrom d.offset (starts_on rows)
+    none e in_first = absurd cc
+    none e (in_rest j) = absurd cc
+  leaves_near {row} {rows} (trailed_after e a q i s l f g h k n near) d j = one q j where
+    only : {ds : List CommentValue} → ds ≡ [] → In d ds → AllFrom d.offset (starts_on rows)
+    only z in_first = absurd cc
+    only z (in_rest m) = absurd cc
+
+    one : {ds : List CommentValue} → ds ≡ e ∷ [] → In d ds → AllFrom d.offset (starts_on rows)
+    one z (in_first {cs = w}) = let same : d ≡ e = cc in subst (λ ss. AllFrom d.offset ss) (sym (starts_are rows)) (subst (λ (v : CommentValue). AllFrom v.offset (starts_of (leaves_on rows))) (sym same) (later_from (omega arith) h))
+    one z (in_rest {cs = w} m) = only {ds = w} (cc) m
+
   pub rows_flow : {t : List ℕ} {it : ℕ} {rows : List Row} → ((d : CommentValue) → In d cs → code t d.offset ≡ 35) → Unsigned t (starts_of (leaves_on rows)) → Upright c cs it rows
-      → Flowing c cs it rows
+      → Flowing leaves_begin c cs it rows (starts_on rows)
   rows_flow sign u no_upright = no_flow
   rows_flow {t} {it} sign u (an_upright {row = row} {rows = rows} from rest fits trail more) =
       let parts = unsigned_parts row.leaves (leaves_on rows) u in
-      a_flow (greatest row.items) (λ d. precedes_greatest row.items d.offset) (leaves_cut sign parts.0 fits) rest (cut trail) (rows_flow sign parts.1 more) where
+      a_flow (greatest row.items) (starts_of row.leaves) (leaves_begun row.leaves) (λ d. precedes_greatest row.items d.offset) (leaves_cut it sign parts.0 fits)
+      (subst (λ ss. AllFrom (max it (greatest row.items)) ss) (sym (starts_are rows)) rest) (leaves_near trail) (row_cut_by from more trail) (rows_flow sign parts.1 more) where
         unsigned_parts : (xs ys : List Span) → Unsigned t (starts_of (xs ++ ys)) → Unsigned t (starts_of xs) × Unsigned t (starts_of ys)
         unsigned_parts [] ys u = (no_start, u)
         unsigned_parts (x ∷ xs) ys (a_start v u) = let r = unsigned_parts xs ys u in (a_start v r.0, r.1)
-
-        cut : RowTrail c cs row rows → TrailCut c cs (greatest row.items) (max it (greatest row.items)) row rows
-        cut (untrailed q) = none_trails q
-        cut (trailed_after e a q i s l f g h k n) =
-            let at : it ≤ a = sub_one_from s from in
-            let top : a ≤ greatest row.items = sub_one_below s in
-            one_trails e q i (omega (arith, at, l, g)) (λ d j m. let z : d.offset < a = f d j m in omega (arith, z, top)) (later_from (omega arith) h)
-            (⊎_elim (λ (z : is_among c.key_comments e ≡ false). before_trails e (inl (z, λ d j m. let w : d.offset < a = f d j m in omega (arith, w, top))) h more)
-            (λ (z : LeafNext rows). before_next e z h more) n)

@@ -115,7 +115,7 @@ module _ (c : Source) (cs : List CommentValue) (bs : List Bool) (remarks : c.rem
           never true x = refl
           never false x = refl
 
-  leaves_silent : (d : CommentValue) (pre ls post : List Span) → c.leaves ≡ pre ++ (ls ++ post) → is_among c.key_comments d ≡ true → Still cs ls → KeyLast cs d ls post
+  pub leaves_silent : (d : CommentValue) (pre ls post : List Span) → c.leaves ≡ pre ++ (ls ++ post) → is_among c.key_comments d ≡ true → Still cs ls → KeyLast cs d ls post
       → flat_map (trail_of c) ls ≡ []
   leaves_silent d pre ls post e k nothing_still h = refl
   leaves_silent d pre ls [] e k (one_still {s = s}) h = absurd h
@@ -137,10 +137,10 @@ abbrev pub TidyRows : List CommentValue → List Row → List Span → Type 0
 TidyRows cs [] post = Unit {0}
 TidyRows cs (x ∷ xs) post = Tidy cs x (leaves_on xs ++ post) × TidyRows cs xs post
 
-abbrev keys_of : List Row → List CommentValue
+abbrev pub keys_of : List Row → List CommentValue
 keys_of rows = flat_map (λ (row : Row). option_to_list row.key_comment) rows
 
-among_behind : (before rest : List CommentValue) (d : CommentValue) → is_among (before ++ (d ∷ rest)) d ≡ true
+pub among_behind : (before rest : List CommentValue) (d : CommentValue) → is_among (before ++ (d ∷ rest)) d ≡ true
 among_behind [] rest d = ap (λ b. b || is_among rest d) (itself d.offset) where
   itself : (n : ℕ) → (n == n) ≡ true
   itself n = grind (arith, nat_tests)

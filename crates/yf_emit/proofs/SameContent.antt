@@ -6,11 +6,14 @@ use Rattle.yf_events.specs.declared.directive.Directive.{Directive}
 use Rattle.yf_events.specs.declared.document.Doc.{Doc}
 use Rattle.yf_events.specs.declared.lists.Lists.{Lists}
 use Rattle.yf_events.specs.Tree.{DocumentTree, unplaced, flat, flat_document}
-use Rattle.yf_stream.specs.ReadingOf.{DocumentEvents, no_document, one_document, doc_of}
+use Rattle.yf_stream.specs.ReadingOf.{DocumentEvents, no_document, one_document, ReadingOf, doc_of}
 use Rattle.yf_stream.specs.Stream.{Document, Documents}
 use Rattle.yf_stream.proofs.BreachLemmas.{alike_values, values, values_append, words}
 use Rattle.yf_stream.proofs.LawsHold.{readings_are_one}
 use Rattle.yf_stream.proofs.SameTags.{noting_values, same_tags}
+use Rattle.std.specs.Str.{IsUtf8}
+use Rattle.yf_emit.specs.declared.style.Style.{Style}
+use Rattle.yf_emit.specs.Format.{Formats}
 use Rattle.yf_emit.specs.FitDocuments.{DocumentsMeant, no_documents_meant, document_meant}
 use Rattle.yf_emit.specs.FormatLaws.{FormatsKeepContent}
 use Rattle.yf_emit.proofs.FormatsRead.{formats_well, same_in_documents}
@@ -19,7 +22,7 @@ use Rattle.yf_emit.proofs.RestyledLemmas.{same_content}
 
 -- Markers say nothing.
 
-abbrev unmarked_value : EventValue → EventValue
+abbrev pub unmarked_value : EventValue → EventValue
 unmarked_value stream_starts = stream_starts
 unmarked_value stream_ends = stream_ends
 unmarked_value (document_starts marked) = document_starts false
@@ -31,7 +34,7 @@ unmarked_value mapping_ends = mapping_ends
 unmarked_value (scalar_node props style text) = scalar_node props style text
 unmarked_value (alias_node name) = alias_node name
 
-abbrev unmarked : List EventValue → List EventValue
+abbrev pub unmarked : List EventValue → List EventValue
 unmarked vs = map unmarked_value vs
 
 unmarked_items : (v : EventValue) (tag : Option (List ℕ)) → items_of_event (unmarked_value v) tag ≡ items_of_event v tag
@@ -60,7 +63,7 @@ unmarked_append (x ∷ xs) ys = ap (λ w. unmarked_value x ∷ w) (unmarked_appe
 
 -- Events.
 
-abbrev bare : List Placed → List EventValue
+abbrev pub bare : List Placed → List EventValue
 bare es = unmarked (values es)
 
 bare_append : (xs ys : List Placed) → bare (xs ++ ys) ≡ bare xs ++ bare ys
@@ -107,18 +110,27 @@ unfolding content_of nodes_of
 content_same q m e f =
     ap (λ w. record { directives = w; nodes = said (values q.events) q.resolved }) e ∙ ap (λ w. record { directives = flat_map items_of_document m.documents; nodes = w }) f
 
-pub formats_content : FormatsKeepContent
-formats_content t u s utf8 f r q a b =
-    let m : Lists = f.normal in
+-- what is derived of a formatted text has the documents of the normal form
+pub formats_meant : {t u : List ℕ} {s : Style} {q : Lists} → IsUtf8 t → (f : Formats t s u) → (b : ReadingOf u q) → DocumentsMeant f.normal.documents f.writes.trees b.derived.documents
+formats_meant {t} {u} {s} utf8 f b =
     let well = formats_well t u s utf8 f in
     let shapes = b.reads.shapes in
     let derived : b.derived ≡ well.documents = well.reads.shapes.only shapes.height b.derived shapes.derived shapes.within in
-    let meant : DocumentsMeant m.documents f.writes.trees b.derived.documents = subst (λ (w : Documents). DocumentsMeant m.documents f.writes.trees w.documents) (sym derived) well.meant in
-    let tags = same_tags (same_in_documents utf8 f meant) f.reads.events b.events in
-    let events : bare q.events ≡ bare m.events =
+    subst (λ (w : Documents). DocumentsMeant f.normal.documents f.writes.trees w.documents) (sym derived) well.meant
+
+-- and its reading the events of the normal form, but for markers
+pub formats_values : {t u : List ℕ} {s : Style} {q : Lists} → IsUtf8 t → (f : Formats t s u) → ReadingOf u q → bare q.events ≡ bare f.normal.events
+formats_values utf8 f b =
     ap unmarked (sym (noting_values b.noted)) ∙ (ap (λ w. stream_starts ∷ w)
-    (bare_joined b.derived_events (unplaced stream_ends ∷ []) (flat_map flat_document f.writes.trees) (unplaced stream_ends ∷ []) (documents_bare meant b.events) refl)
-    ∙ ap bare (sym f.writes.of_reading.events)) in
+    (bare_joined b.derived_events (unplaced stream_ends ∷ []) (flat_map flat_document f.writes.trees) (unplaced stream_ends ∷ []) (documents_bare (formats_meant utf8 f b) b.events) refl)
+    ∙ ap bare (sym f.writes.of_reading.events))
+
+pub formats_content : FormatsKeepContent
+formats_content t u s utf8 f r q a b =
+    let m : Lists = f.normal in
+    let meant : DocumentsMeant m.documents f.writes.trees b.derived.documents = formats_meant utf8 f b in
+    let tags = same_tags (same_in_documents utf8 f meant) f.reads.events b.events in
+    let events : bare q.events ≡ bare m.events = formats_values utf8 f b in
     let resolved : q.resolved ≡ m.resolved =
     b.resolved ∙ (ap (λ w. None ∷ (w ++ (None ∷ []))) (sym tags) ∙ (sym f.reads.resolved ∙ ap (λ (w : Lists). w.resolved) (sym f.is_normal.is))) in
     let nodes : said (values q.events) q.resolved ≡ said (values m.events) m.resolved =

@@ -1,5 +1,5 @@
 -- A literal or folded scalar from its row: its header, its lines and what it carries.
-use Rattle.std.proofs.Common.{◌≡◌, ◌≢◌, ℕ, zero, suc, ◌+◌, ◌-◌, ◌<◌, ◌≤◌, ℤ, pos, Bool, true, false, true≢false, List, [], ◌∷◌, ◌++◌, length, map, replicate, Option, Some, None, refl, sym, ap, ◌∙◌, subst, arith, append_assoc, append-nil, ⊎_elim}
+use Rattle.std.proofs.Common.{◌≡◌, ◌≢◌, ℕ, zero, suc, ◌+◌, ◌-◌, ◌<◌, ◌≤◌, ◌⊎◌, ℤ, pos, Bool, true, false, true≢false, List, [], ◌∷◌, ◌++◌, length, map, replicate, Option, Some, None, refl, sym, ap, ◌∙◌, subst, arith, append_assoc, append-nil, ⊎_elim}
 use Rattle.std.specs.Prelude.{◌+ℤ◌, is_some, if◌then◌else◌}
 use Rattle.std.specs.Str.{IsUtf8}
 use Rattle.std.proofs.lemmas.Bool.{cases_Bool}
@@ -26,7 +26,6 @@ use Rattle.yf_events.specs.declared.event.ScalarStyle.{ScalarStyle}
 use Rattle.yf_events.specs.declared.event.ScalarStyle.TheVariants.{Plain, Single, Double, Literal, Folded}
 use Rattle.yf_events.specs.declared.event.Span.{Span}
 use Rattle.yf_events.specs.Tree.{Standing, scalar, spans_of_leaf}
-use Rattle.yf_grammar.specs.BlockScalar.{style_of}
 use Rattle.yf_grammar.specs.Grammar.{Derives, BlockNode}
 use Rattle.yf_grammar.specs.Grammar.Derives.{a_block_scalar, a_block_scalar_with}
 use Rattle.yf_grammar.specs.Meaning.{Meaning, behind, first_with, with_props, from_to}
@@ -35,6 +34,7 @@ use Rattle.yf_grammar.proofs.FlowBack.{visible_line}
 use Rattle.yf_grammar.proofs.LeafBack.{behind_nothing, propertied}
 use Rattle.yf_grammar.proofs.MeantLemmas.{texts_with_props}
 use Rattle.yf_grammar.proofs.ScalarPlaced.{ScalarNode, scalar_event, scalar_placed}
+use Rattle.yf_emit.specs.declared.style.Style.{Style}
 use Rattle.yf_emit.specs.BlockLines.{begins_with_space, block_lines, chomping_sign, content_lines, digit_text, final_feeds, header_text, is_kept_tail, line_at, style_sign}
 use Rattle.yf_emit.specs.BlockValues.{is_folded, chomp_of, digit_of, header_of}
 use Rattle.yf_emit.specs.Carried.{AreTrails, IsDeco, AreDecos, carried_texts, CalmBody}
@@ -49,11 +49,15 @@ use Rattle.yf_emit.proofs.BlockTexts.{style_written, digit_written, sign_written
 use Rattle.yf_emit.proofs.ClearRows.{unmarked_first, unmarked_nothing, line_indented, AreBodyTexts, no_body_text, body_text, place_of_rest}
 use Rattle.yf_emit.proofs.CollectionsMade.{comments_with_props, same_props, some_props}
 use Rattle.yf_emit.proofs.FoundNodes.{FoundNode, scalar_rows}
+use Rattle.yf_emit.proofs.HeldLemmas.{held_scalar}
 use Rattle.yf_emit.proofs.NodePlaces.{apart_at, both_behind, block_no_key}
 use Rattle.yf_emit.proofs.NodesMade.{Stood, NodeMade, Claim, some_rows}
 use Rattle.yf_emit.proofs.PlacedRows.{none_inside, one_inside, PlacedRow, AtRow, RowsIn, last_row}
 use Rattle.yf_emit.proofs.RowEnds.{trails_at, first_deco}
+use Rattle.yf_emit.proofs.ScalarHeld.{AllSigns, behind_signs, signs_append, ScalarReached, passed_header, scalar_comments, scalar_reached}
+use Rattle.yf_emit.proofs.ScalarStands.{ScalarMade, style_back, bare_scalar, props_scalar}
 use Rattle.yf_emit.proofs.StepsStand.{MeaningLaid, laid_scalar, laid_scalar_with}
+use Rattle.yf_emit.proofs.WellSet.{AllSet}
 
 -- The bytes are those of yf_block_scalar.
 
@@ -159,11 +163,62 @@ unspaced_of {style} {text} indent f e = ⊎_elim (λ (h : begins_with_space text
       some_digit : Some indent ≡ None → ⊥
       some_digit e = true≢false (ap is_some e)
 
+pub header_line : (style : ScalarStyle) (indent : ℕ) (text : List ℕ) → indent ≤ 8 → IsLineText (header_text style indent text)
+header_line style indent text near = line_append (sign_line style) (line_append (digit_line (begins_with_space text)) (chomp_line (final_feeds text))) where
+  sign_line : (style : ScalarStyle) → IsLineText (style_sign style)
+  sign_line Plain = visible_line 124 (omega arith) (omega arith) line_nothing
+  sign_line Single = visible_line 124 (omega arith) (omega arith) line_nothing
+  sign_line Double = visible_line 124 (omega arith) (omega arith) line_nothing
+  sign_line Literal = visible_line 124 (omega arith) (omega arith) line_nothing
+  sign_line Folded = visible_line 62 (omega arith) (omega arith) line_nothing
+
+  digit_line : (b : Bool) → IsLineText (if b then (48 + indent) ∷ [] else [])
+  digit_line true = visible_line (48 + indent) (omega arith) (omega arith) line_nothing
+  digit_line false = line_nothing
+
+  chomp_line : (n : ℕ) → IsLineText (chomping_sign n)
+  chomp_line zero = visible_line 45 (omega arith) (omega arith) line_nothing
+  chomp_line (suc zero) = line_nothing
+  chomp_line (suc (suc n)) = visible_line 43 (omega arith) (omega arith) line_nothing
+
+-- and are signs
+header_signs : (style : ScalarStyle) (indent : ℕ) (text : List ℕ) → indent ≤ 8 → AllSigns (header_text style indent text)
+header_signs style indent text near =
+    signs_append (style_sign style) (digit_text indent text ++ chomping_sign (final_feeds text)) (style_signs style)
+    (signs_append (digit_text indent text) (chomping_sign (final_feeds text)) (digit_signs (begins_with_space text)) (chomp_signs (final_feeds text))) where
+      style_signs : (style : ScalarStyle) → AllSigns (style_sign style)
+      style_signs Plain = ((omega arith, omega arith), tt)
+      style_signs Single = ((omega arith, omega arith), tt)
+      style_signs Double = ((omega arith, omega arith), tt)
+      style_signs Literal = ((omega arith, omega arith), tt)
+      style_signs Folded = ((omega arith, omega arith), tt)
+
+      digit_signs : (b : Bool) → AllSigns (if b then (48 + indent) ∷ [] else [])
+      digit_signs true = ((omega arith, omega arith), tt)
+      digit_signs false = tt
+
+      chomp_signs : (n : ℕ) → AllSigns (chomping_sign n)
+      chomp_signs zero = ((omega arith, omega arith), tt)
+      chomp_signs (suc zero) = tt
+      chomp_signs (suc (suc n)) = ((omega arith, omega arith), tt)
+
+some_bytes : (w : List ℕ) → is_empty_text w ≡ false → w ≢ []
+some_bytes [] e f = true≢false e
+some_bytes (b ∷ w) e f = cc
+
+header_some : (style : ScalarStyle) (indent : ℕ) (text : List ℕ) → is_empty_text (header_text style indent text) ≡ false
+header_some Plain indent text = refl
+header_some Single indent text = refl
+header_some Double indent text = refl
+header_some Literal indent text = refl
+header_some Folded indent text = refl
+
 -- the scalar from its header on, after the text of the row before it
 scalar_at : {t : List ℕ} {style : ScalarStyle} {text : List ℕ} {lines : List (List ℕ)} (indent : ℕ) (n : ℤ) (column : ℕ) (d : Deco) (r : List ℕ) (q : ℕ) → FitScalar style text lines → 2 ≤ indent → indent ≤ 8
     → column ≡ base n + indent → IsUtf8 t → IsDeco d → CalmBody (block_lines style column text lines) column (tail_ending (is_kept_tail (final_feeds text))) d.gap r
     → Rest t q (header_text style indent text ++ end_then d (block_lines style column text lines) r)
-    → ScalarNode t n (header_of style indent text) (content_lines style text lines) (final_feeds text - 1) (d.trails ++ remarks_of d.gap) q r
+    → ScalarMade t n (header_of style indent text) (content_lines style text lines) (final_feeds text - 1) (d.trails ++ remarks_of d.gap) q r (body_then (block_lines style column text lines) (gap_then d.gap r))
+    (end_then d (block_lines style column text lines) r)
 scalar_at {t} {style} {text} {lines} indent n column d r q f wide near e u a calm w =
     let ls : List (List ℕ) = content_lines style text lines in
     let count : ℕ = final_feeds text - 1 in
@@ -175,16 +230,20 @@ scalar_at {t} {style} {text} {lines} indent n column d r q f wide near e u a cal
     ∙ (ap (λ z. style_bytes h.folded ++ (digit_bytes h.digit indent ++ (sign_bytes h.chomp ++ trails_then d.trails (10 ∷ z)))) (lines_are column ls count (gap_then d.gap r))
     ∙ (ap (λ z. style_bytes h.folded ++ (digit_bytes h.digit indent ++ (sign_bytes h.chomp ++ z))) (trail_is d.trails (scalar_lines column ls (feeds count ++ gap_then d.gap r)) a.trails)
     ∙ ap (λ z. style_bytes h.folded ++ (digit_bytes h.digit z ++ (sign_bytes h.chomp ++ trail_then (trail_of d.trails) (scalar_lines column ls (feeds count ++ gap_then d.gap r))))) (sym sizes.1.1))) in
-    let made = scalar_placed (placed n column h (trail_of d.trails) ls count d.gap u sizes.0 sizes.1.0 f.texts f.last (unspaced_of indent f) (trail_fits d.trails a.trails) a.gap quiet.0
+    let reached = scalar_reached f.last (placed n column h (trail_of d.trails) ls count d.gap u sizes.0 sizes.1.0 f.texts f.last (unspaced_of indent f) (trail_fits d.trails a.trails) a.gap quiet.0
     (kept_gap text d.gap quiet.1.1) quiet.1.0 (subst (λ z. Rest t q z) shape w)) in
-    subst (λ z. ScalarNode t n h ls count (z ++ remarks_of d.gap) q r) (trail_comments d.trails a.trails) made
-
-style_back : (style : ScalarStyle) → is_block_style style ≡ true → style_of (is_folded style) ≡ style
-style_back Plain e = absurd (true≢false (sym e))
-style_back Single e = absurd (true≢false (sym e))
-style_back Double e = absurd (true≢false (sym e))
-style_back Literal e = refl
-style_back Folded e = refl
+    let made : ScalarReached t n h ls count (d.trails ++ remarks_of d.gap) q r = subst (λ z. ScalarReached t n h ls count (z ++ remarks_of d.gap) q r) (trail_comments d.trails a.trails) reached in
+    let header : List ℕ = header_text style indent text in
+    let body : List (List ℕ) = block_lines style column text lines in
+    let signs = header_signs style indent text near in
+    let some = some_bytes header (header_some style indent text) in
+    let text_end = rest_text header u (header_line style indent text near) w in
+    record {
+      reached = made;
+      passed = passed_header header d body r u (header_line style indent text near) signs some a w made.head;
+      comments = scalar_comments header d body r u signs some a w text_end.rest made.node.derived;
+      seen = record { at = q + length header; behind = behind_signs header (end_then d body r) q u signs some w; rest = text_end.rest };
+    }
 
 -- its row, on which it begins at q
 abbrev leaf_row : ℕ → ℕ → PlacedRow
@@ -227,37 +286,12 @@ props_found {style = style} {text = text} {lines = lines} s column indent i q g 
   escapes = escapes;
 }
 
-pub header_line : (style : ScalarStyle) (indent : ℕ) (text : List ℕ) → indent ≤ 8 → IsLineText (header_text style indent text)
-header_line style indent text near = line_append (sign_line style) (line_append (digit_line (begins_with_space text)) (chomp_line (final_feeds text))) where
-  sign_line : (style : ScalarStyle) → IsLineText (style_sign style)
-  sign_line Plain = visible_line 124 (omega arith) (omega arith) line_nothing
-  sign_line Single = visible_line 124 (omega arith) (omega arith) line_nothing
-  sign_line Double = visible_line 124 (omega arith) (omega arith) line_nothing
-  sign_line Literal = visible_line 124 (omega arith) (omega arith) line_nothing
-  sign_line Folded = visible_line 62 (omega arith) (omega arith) line_nothing
-
-  digit_line : (b : Bool) → IsLineText (if b then (48 + indent) ∷ [] else [])
-  digit_line true = visible_line (48 + indent) (omega arith) (omega arith) line_nothing
-  digit_line false = line_nothing
-
-  chomp_line : (n : ℕ) → IsLineText (chomping_sign n)
-  chomp_line zero = visible_line 45 (omega arith) (omega arith) line_nothing
-  chomp_line (suc zero) = line_nothing
-  chomp_line (suc (suc n)) = visible_line 43 (omega arith) (omega arith) line_nothing
-
 pub header_unmarked : (style : ScalarStyle) (indent : ℕ) (text : List ℕ) → Unmarked (header_text style indent text)
 header_unmarked Plain indent text = unmarked_first 124 (digit_text indent text ++ chomping_sign (final_feeds text)) (omega arith) (λ e. omega arith) (λ e. omega arith) (λ e. omega arith)
 header_unmarked Single indent text = unmarked_first 124 (digit_text indent text ++ chomping_sign (final_feeds text)) (omega arith) (λ e. omega arith) (λ e. omega arith) (λ e. omega arith)
 header_unmarked Double indent text = unmarked_first 124 (digit_text indent text ++ chomping_sign (final_feeds text)) (omega arith) (λ e. omega arith) (λ e. omega arith) (λ e. omega arith)
 header_unmarked Literal indent text = unmarked_first 124 (digit_text indent text ++ chomping_sign (final_feeds text)) (omega arith) (λ e. omega arith) (λ e. omega arith) (λ e. omega arith)
 header_unmarked Folded indent text = unmarked_first 62 (digit_text indent text ++ chomping_sign (final_feeds text)) (omega arith) (λ e. omega arith) (λ e. omega arith) (λ e. omega arith)
-
-header_some : (style : ScalarStyle) (indent : ℕ) (text : List ℕ) → is_empty_text (header_text style indent text) ≡ false
-header_some Plain indent text = refl
-header_some Single indent text = refl
-header_some Double indent text = refl
-header_some Literal indent text = refl
-header_some Folded indent text = refl
 
 pub spaced_some : (x y : List ℕ) → is_empty_text x ≡ false → is_empty_text y ≡ false → spaced x y ≡ x ++ (32 ∷ y)
 spaced_some [] y e f = absurd (true≢false e)
@@ -284,6 +318,10 @@ pub header_with : {p : PropsValue} (style : ScalarStyle) (indent : ℕ) (text : 
 header_with {p} style indent text k n =
     ap (λ z. spaced z (header_text style indent text)) (same_props k) ∙ spaced_some (props_bytes p) (header_text style indent text) (some_props k n) (header_some style indent text)
 
+props_set : (t : List ℕ) (p : PropsValue) (o : Option ℕ) (q g : ℕ) (m : Meaning) → AllSet t m.comments → AllSet t (with_props p o q g m).comments
+unfolding with_props
+props_set t p o q g m a = a
+
 one_leaf : (o : Option Span) → is_some o ≡ true → leaf_steps (spans_of_leaf o) ≡ a_leaf ∷ []
 one_leaf None e = absurd (true≢false (sym e))
 one_leaf (Some s) e = refl
@@ -294,12 +332,13 @@ scalar_steps row ds e =
 
 module _ {s : Setting} {at : Standing} {style : ScalarStyle} {text : List ℕ} {lines : List (List ℕ)} (placed_at : is_some at.span ≡ true) (f : FitScalar style text lines) where
   bare_made : {t : List ℕ} (row : Row) (spot : Spot) (n : ℤ) (c : Ctx) (ds : List Deco) (r : List ℕ) (q : ℕ) → row.text ≡ header_text style s.style.indent text → row.body ≡ block_lines style spot.lines text lines
-      → leaf_steps row.leaves ≡ a_leaf ∷ [] → is_some row.key_comment ≡ false → IsUtf8 t → Stood s (scalar at no_props style text lines) n c spot → AreDecos ds → CalmBody (block_lines style spot.lines text lines) spot.lines (tail_ending (is_kept_tail (final_feeds text))) (first ds).gap r
+      → row.lines ≡ spot.lines → leaf_steps row.leaves ≡ a_leaf ∷ [] → is_some row.key_comment ≡ false → IsUtf8 t → Stood s (scalar at no_props style text lines) n c spot → AreDecos ds → CalmBody (block_lines style spot.lines text lines) spot.lines (tail_ending (is_kept_tail (final_feeds text))) (first ds).gap r
       → Rest t q (inline_then (row ∷ []) ds r) → NodeMade t s n c spot.entries (scalar at no_props style text lines) (row ∷ []) ds q r
-  bare_made {t} row spot n c ds r q said body leaf key u stood a calm w =
+  bare_made {t} row spot n c ds r q said body said_lines leaf key u stood a calm w =
       let there : Rest t q (header_text style s.style.indent text ++ end_then (first ds) (block_lines style spot.lines text lines) r) =
       subst (λ z. Rest t q (header_text style s.style.indent text ++ end_then (first ds) z r)) body (subst (λ z. Rest t q (z ++ end_then (first ds) row.body r)) said w) in
-      let node = scalar_at s.style.indent n spot.lines (first ds) r q f s.style.indent_from s.style.indent_to stood.lines u (first_deco a) calm there in
+      let made = scalar_at s.style.indent n spot.lines (first ds) r q f s.style.indent_from s.style.indent_to stood.lines u (first_deco a) calm there in
+      let node = made.reached.node in
       let text_end = rest_text (header_text style s.style.indent text) u (header_line style s.style.indent text s.style.indent_to) there in
       let deep : 0 < spot.lines = above_zero n stood.lines in
       let begun = end_start (first ds) r u (first_deco a) (body_texts spot.lines (final_feeds text - 1) (content_lines style text lines) deep f.texts) text_end.rest in
@@ -317,23 +356,25 @@ module _ {s : Setting} {at : Standing} {style : ScalarStyle} {text : List ℕ} {
             (record { ascend = scalar_ascends node.derived; is = node.is; start = subst (λ j. LineStart t j) (place_of_rest begun.rest node.rest) begun.start }) node.rest;
         is = node.is ∙ sym (append-nil (carried_texts (first ds)));
         laid = subst (λ z. MeaningLaid q node.place node.meaning z) (scalar_steps row ds leaf) (laid_scalar q node.meaning.finish (omega arith) node.events (scalar_ascends node.derived) node.is);
+        held = held_scalar node.meaning row ds r spot.lines (block_lines style spot.lines text lines) body said_lines made.comments made.seen (bare_scalar s.style.indent spot.lines u f made);
       }
     where
       above_zero : (n : ℤ) {k : ℕ} → k ≡ base n + s.style.indent → 0 < k
       above_zero n e = let wide : 2 ≤ s.style.indent = s.style.indent_from in omega (arith, wide, e)
 
   props_made : {t : List ℕ} {p : PropsValue} (row : Row) (spot : Spot) (n : ℤ) (c : Ctx) (ds : List Deco) (r : List ℕ) (q : ℕ) → IsProps p → p ≢ no_props → row.text ≡ props_bytes p ++ (32 ∷ header_text style s.style.indent text)
-      → row.body ≡ block_lines style spot.lines text lines → leaf_steps row.leaves ≡ a_leaf ∷ [] → is_some row.key_comment ≡ false → IsUtf8 t → Stood s (scalar at p style text lines) n c spot → AreDecos ds
+      → row.body ≡ block_lines style spot.lines text lines → row.lines ≡ spot.lines → leaf_steps row.leaves ≡ a_leaf ∷ [] → is_some row.key_comment ≡ false → IsUtf8 t → Stood s (scalar at p style text lines) n c spot → AreDecos ds
       → CalmBody (block_lines style spot.lines text lines) spot.lines (tail_ending (is_kept_tail (final_feeds text))) (first ds).gap r
       → Rest t q (inline_then (row ∷ []) ds r) → NodeMade t s n c spot.entries (scalar at p style text lines) (row ∷ []) ds q r
-  props_made {t} {p} row spot n c ds r q props some said body leaf key u stood a calm w =
+  props_made {t} {p} row spot n c ds r q props some said body said_lines leaf key u stood a calm w =
       let z : List ℕ = end_then (first ds) (block_lines style spot.lines text lines) r in
       let there : Rest t q (props_bytes p ++ (32 ∷ (header_text style s.style.indent text ++ z))) =
       subst (λ v. Rest t q v) (append_assoc (props_bytes p) (32 ∷ header_text style s.style.indent text) z)
       (subst (λ v. Rest t q ((props_bytes p ++ (32 ∷ header_text style s.style.indent text)) ++ end_then (first ds) v r)) body (subst (λ v. Rest t q (v ++ end_then (first ds) row.body r)) said w)) in
       let before = propertied (n +ℤ pos 1) c (header_text style s.style.indent text ++ z) u props some there in
       let i : ℕ = q + length (props_bytes p) + 1 in
-      let node = scalar_at s.style.indent n spot.lines (first ds) r i f s.style.indent_from s.style.indent_to stood.lines u (first_deco a) calm before.rest in
+      let made = scalar_at s.style.indent n spot.lines (first ds) r i f s.style.indent_from s.style.indent_to stood.lines u (first_deco a) calm before.rest in
+      let node = made.reached.node in
       let text_end = rest_text (header_text style s.style.indent text) u (header_line style s.style.indent text s.style.indent_to) before.rest in
       let deep : 0 < spot.lines = above_zero n stood.lines in
       let begun = end_start (first ds) r u (first_deco a) (body_texts spot.lines (final_feeds text - 1) (content_lines style text lines) deep f.texts) text_end.rest in
@@ -356,6 +397,8 @@ module _ {s : Setting} {at : Standing} {style : ScalarStyle} {text : List ℕ} {
         is = texts_with_props p o q g node.meaning ∙ (node.is ∙ sym (append-nil (carried_texts (first ds))));
         laid = subst (λ z. MeaningLaid q node.place (with_props p o q g node.meaning) z) (scalar_steps row ds leaf)
             (laid_scalar_with p o q g i node.meaning.finish node.meaning (omega arith) node.events (scalar_ascends node.derived) node.is);
+        held = held_scalar (with_props p o q g node.meaning) row ds r spot.lines (block_lines style spot.lines text lines) body said_lines (props_set t p o q g node.meaning made.comments) made.seen
+            (props_scalar s.style.indent spot.lines u f made q g p o (n +ℤ pos 1) c before.properties before.separate);
       }
     where
       above_zero : (n : ℤ) {k : ℕ} → k ≡ base n + s.style.indent → 0 < k
@@ -363,11 +406,11 @@ module _ {s : Setting} {at : Standing} {style : ScalarStyle} {text : List ℕ} {
 
   block_claim : {p : PropsValue} (spot : Spot) → FitProps p → Claim s (scalar at p style text lines) spot (block_scalar s.style spot (scalar at p style text lines) p style text lines)
   block_claim spot no_fit_props =
-      some_rows (λ z. refl) (λ z. absurd (true≢false (sym z))) (record { made = λ {t} n c ds r q u stood a calm w. bare_made _ spot n c ds r q refl refl (one_leaf at.span placed_at) refl u stood a calm.0 w })
+      some_rows (λ z. refl) (λ z. absurd (true≢false (sym z))) (record { made = λ {t} n c ds r q u stood a calm w. bare_made _ spot n c ds r q refl refl refl (one_leaf at.span placed_at) refl u stood a calm.0 w })
   block_claim spot (some_fit_props {p = p} k n) =
       some_rows (λ z. refl) (λ z. absurd (true≢false (sym z))) (record {
         made = λ {t} m c ds r q u stood a calm w.
-            props_made _ spot m c ds r q k n (header_with style s.style.indent text k n) refl (one_leaf at.span placed_at) refl u stood a calm.0 w;
+            props_made _ spot m c ds r q k n (header_with style s.style.indent text k n) refl refl (one_leaf at.span placed_at) refl u stood a calm.0 w;
       })
 
 -- its rows, by its style

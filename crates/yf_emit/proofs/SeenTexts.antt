@@ -26,7 +26,7 @@ pub record IsSeen (w : List ℕ) : Type 0 where
   pub no_hash : char ≢ 35
   pub is : w ≡ encode_utf8 char ++ behind
 
-ascii_ns : (c : ℕ) → 33 ≤ c → c < 127 → is_ns_char c ≡ true
+pub ascii_ns : (c : ℕ) → 33 ≤ c → c < 127 → is_ns_char c ≡ true
 unfolding is_ns_char is_nb_char is_printable is_between is_break_char is_white
 ascii_ns c l h = grind (arith, nat_tests)
 

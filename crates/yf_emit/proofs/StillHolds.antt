@@ -29,7 +29,7 @@ use Rattle.yf_emit.proofs.StyledTwice.{normal_house}
 none_there : (k a b n o : ℕ) → k ≤ a → o ≤ b → (nat_le k n && nat_lt n b) ≡ false → (nat_lt a n && nat_lt n o) ≡ false
 none_there k a b n o l m e = grind (arith, nat_tests)
 
-neither : (p q : Bool) → (p || q) ≡ false → (p ≡ false) × (q ≡ false)
+pub neither : (p q : Bool) → (p || q) ≡ false → (p ≡ false) × (q ≡ false)
 neither true q e = absurd (true≢false e)
 neither false q e = (refl, e)
 
@@ -57,12 +57,12 @@ module _ {t : List ℕ} (u : IsUtf8 t) (cs : List CommentValue) where
       let there : content_start t (record { start = a; end = b }) props ≡ _ = content_found u b (opens.content q) opens.wide in
       still_steps cs ss steps (ap (λ z. list_any (is_within z b) cs) (sym there) ∙ (ap (λ w. has_comment t cs w props) (sym e) ∙ n))
 
-first_two : (f n a b : Bool) → (f && not n && a && b) ≡ true → (f ≡ true) × (n ≡ false)
+pub first_two : (f n a b : Bool) → (f && not n && a && b) ≡ true → (f ≡ true) × (n ≡ false)
 first_two true false a b e = (refl, refl)
 first_two true true a b e = absurd (true≢false (sym e))
 first_two false n a b e = absurd (true≢false (sym e))
 
-first_of_three : (f n a b c : Bool) → (f && not n && a && b && c) ≡ true → (f ≡ true) × (n ≡ false)
+pub first_of_three : (f n a b c : Bool) → (f && not n && a && b && c) ≡ true → (f ≡ true) × (n ≡ false)
 first_of_three true false a b c e = (refl, refl)
 first_of_three true true a b c e = absurd (true≢false (sym e))
 first_of_three false n a b c e = absurd (true≢false (sym e))
@@ -127,5 +127,5 @@ module _ {t : List ℕ} (u : IsUtf8 t) (c : Setting) where
   -- of the documents of a stream
   pub trees_kept : {i : ℕ} {ds : List Doc} {trees : List DocumentTree} → TreesStand t i ds trees → TreesKept c (map (normal_document t c) trees)
   trees_kept (no_trees_stand l) = tt
-  trees_kept (tree_stands {tree = tree} d a b) =
+  trees_kept (tree_stands {tree = tree} d a b z) =
       (((root_same t c tree).placed ∙ node_placed a, (normal_house t c (root_spot c.style) tree.root, node_still (root_spot c.style) a)), trees_kept b)

@@ -1,5 +1,5 @@
 -- A stream of documents from its rows.
-use Rattle.std.proofs.Common.{◌≡◌, ℕ, ◌+◌, max, ◌<◌, ◌≤◌, Bool, true, false, List, [], ◌∷◌, ◌++◌, length, map, drop, refl, sym, ap, ◌∙◌, subst, arith, append_assoc, length-drop}
+use Rattle.std.proofs.Common.{◌≡◌, ℕ, ◌+◌, max, ◌<◌, ◌≤◌, Bool, true, false, List, [], ◌∷◌, ◌++◌, length, map, drop, refl, sym, ap, ◌∙◌, subst, arith, append_assoc, length-drop, inl, codes, Option}
 use Rattle.std.specs.Prelude.{is_some}
 use Rattle.std.specs.Str.{IsUtf8}
 use Rattle.yf_chars.specs.Chain.{Chain}
@@ -22,25 +22,33 @@ use Rattle.yf_stream.specs.Stream.PrefixPart.{prefix_comment}
 use Rattle.yf_stream.specs.Stream.Stream.{begins_with_document, without_document}
 use Rattle.yf_stream.specs.Stream.StreamRest.{stream_ended, past_suffixes_and_document, past_explicit}
 use Rattle.yf_stream.specs.Stream.Suffixes.{last_suffix}
+use Rattle.yf_stream.proofs.ReadingOrder.{directives_ascend}
+use Rattle.yf_emit.specs.Beginnings.{documents_begin, steps_with}
 use Rattle.yf_emit.specs.Carried.{AreDecos, carried_texts, comments_in, Calm}
 use Rattle.yf_emit.specs.Decorated.{GapLine, gap_then, Deco, first, after, past, end_then, lines_then}
 use Rattle.yf_emit.specs.FitDocuments.{FitDirective, FitDirectives, fit_directive, FitDocuments, fit_no_documents, fit_document, DocumentMeant, DocumentsMeant, no_documents_meant, tall_documents}
 use Rattle.yf_emit.specs.Fits.{Fit}
 use Rattle.yf_emit.specs.LayoutLaws.{StreamMade}
 use Rattle.yf_emit.specs.Normal.{Setting, root_spot}
-use Rattle.yf_emit.specs.Rows.{Row, directive_row, start_row, end_rows, beginning_at, joined_words, rows, document_rows, stream_rows}
-use Rattle.yf_emit.specs.Steps.{comment_steps, steps_in}
+use Rattle.yf_emit.specs.Rows.{Row, directive_row, start_row, end_rows, beginning_at, joined_words, rows, document_rows, stream_rows, plain_row}
+use Rattle.yf_emit.specs.Steps.{comment_steps, steps_in, Step}
 use Rattle.yf_emit.proofs.DecoratedLemmas.{lines_append}
-use Rattle.yf_emit.proofs.DocumentsMade.{ExplicitMade, explicit_made, directives_made, three_at}
+use Rattle.yf_emit.proofs.DocumentsMade.{ExplicitMade, explicit_made, directives_made, three_at, three_behind}
 use Rattle.yf_emit.proofs.FoundNodes.{meant_of}
 use Rattle.yf_emit.proofs.FoundStreams.{FoundDocument, FoundDocuments, no_documents_found, found_document, StreamIn, no_stream, document_begins, stream_more, comments_with_document, comments_with_comments, documents_with_comments, found_with}
 use Rattle.yf_emit.proofs.LaidRows.{steps_append}
 use Rattle.yf_emit.proofs.PlacedRows.{none_inside, PlacedRow, RowsIn, row_before, rows_in_append}
+use Rattle.yf_emit.proofs.DocumentsBegun.{comments_begun, document_begun, documents_begun, explicit_begun, starts_in}
+use Rattle.yf_emit.proofs.DocumentsHeld.{all_events, comments_set, documents_held, held_events}
+use Rattle.yf_emit.proofs.HeldLemmas.{BodiesHeld, EventsHeld, bare_row, bodies_append, row_ended}
+use Rattle.yf_emit.proofs.NoStarts.{no_start_on, directives_none, quiet_steps, rows_none, with_append}
 use Rattle.yf_emit.proofs.RowEnds.{row_end, first_deco, after_decos, past_decos, comments_append, calm_append}
 use Rattle.yf_emit.proofs.RowTexts.{row_texts}
-use Rattle.yf_emit.proofs.StepsStand.{stand_after, comments_stand, EventsLaid, events_behind}
+use Rattle.yf_emit.proofs.StepsStand.{stand_after, comments_stand, EventsLaid, events_behind, Stand, nothing_stands, stand_join}
 use Rattle.yf_emit.proofs.TreesMade.{node_claim}
+use Rattle.yf_emit.proofs.WellSet.{lines_set, set_append}
 use Rattle.yf_emit.proofs.StreamParts.{meant_document, texts_with_document, documents_with, texts_with_comments, same_documents, laid_document, DocumentsLaid, no_documents_laid, laid_with_comments, documents_laid}
+
 
 -- Rows of directives, and of the node after them.
 
@@ -58,6 +66,8 @@ pub record AnyMade (t : List ℕ) (s : Setting) (d : Doc) (x : DocumentTree) (rs
   pub found_rows : List PlacedRow
   pub found : FoundDocument t s x document found_rows
   pub placed : RowsIn t rs found_rows ds q comments place r
+  pub held : EventsHeld t document.events comments rs ds r
+  pub begun : Stand q (document.start ∷ []) comments (steps_with documents_begin rs ds) place
 
 abbrev root_rows : Setting → DocumentTree → List Row
 root_rows c x = rows c (root_spot c.style) x.root
@@ -65,23 +75,23 @@ root_rows c x = rows c (root_spot c.style) x.root
 root_deep : (c : Setting) → 0 < c.style.indent
 root_deep c = let wide : 2 ≤ c.style.indent = c.style.indent_from in omega (arith, wide)
 
-explicit_at : {t : List ℕ} (c : Setting) (x : DocumentTree) (row : Row) (ds : List Deco) (r : List ℕ) (q : ℕ) → row.leaves ≡ [] → length row.text ≡ 3 → is_some row.key_comment ≡ false → Fit x.root → IsUtf8 t → AreDecos ds → Calm (root_rows c x) (after ds) r
+explicit_at : {t : List ℕ} (c : Setting) (x : DocumentTree) (row : Row) (ds : List Deco) (r : List ℕ) (q : ℕ) → row.leaves ≡ [] → row.body ≡ [] → length row.text ≡ 3 → is_some row.key_comment ≡ false → Fit x.root → IsUtf8 t → AreDecos ds → Calm (root_rows c x) (after ds) r
     → Rest t q (45 ∷ 45 ∷ 45 ∷ end_then (first ds) [] (lines_then (root_rows c x) (after ds) r)) → ExplicitMade t c x.root (row ∷ root_rows c x) ds q r
-explicit_at c x row ds r q none width key fit u a k w = explicit_made row ds r q none width key (node_claim c (root_spot c.style) fit) (row_texts c (root_spot c.style) (root_deep c) fit) u a k w
+explicit_at c x row ds r q none bare width key fit u a k w = explicit_made row ds r q none bare width key (node_claim c (root_spot c.style) fit) (row_texts c (root_spot c.style) (root_deep c) fit) u a k w
 
 -- where the first row is given, of any items
-directed : {t : List ℕ} (c : Setting) {d : Doc} (x : DocumentTree) {e : Directive} {es : List Directive} (row : Row) (ds : List Deco) (r : List ℕ) (q : ℕ) → row.leaves ≡ [] → row.text ≡ 37 ∷ joined_words e.words → is_some row.key_comment ≡ false → d.directives ≡ e ∷ es
+directed : {t : List ℕ} (c : Setting) {d : Doc} (x : DocumentTree) {e : Directive} {es : List Directive} (row : Row) (ds : List Deco) (r : List ℕ) (q : ℕ) → row.leaves ≡ [] → row.body ≡ [] → documents_begin row ≡ [] → row.text ≡ 37 ∷ joined_words e.words → is_some row.key_comment ≡ false → d.directives ≡ e ∷ es
     → FitDirective e.words → FitDirectives es → Fit x.root → IsUtf8 t → AreDecos ds → Calm ((row ∷ map directive_row es) ++ (start_row ∷ root_rows c x)) ds r
     → Rest t q (37 ∷ (joined_words e.words ++ end_then (first ds) [] (lines_then (map directive_row es ++ (start_row ∷ root_rows c x)) (after ds) r)))
     → AnyMade t c d x ((row ∷ map directive_row es) ++ (start_row ∷ root_rows c x)) ds q r
-directed {t} c {d} x {e} {es} row ds r q none said key same f fs fit u a k w =
+directed {t} c {d} x {e} {es} row ds r q none bare plain said key same f fs fit u a k w =
     let tree : List Row = root_rows c x in
     let z : List ℕ = lines_then (start_row ∷ tree) (past (map directive_row es) (after ds)) r in
     let there : Rest t q (37 ∷ (joined_words e.words ++ end_then (first ds) [] (lines_then (map directive_row es) (after ds) z))) =
     subst (λ v. Rest t q (37 ∷ (joined_words e.words ++ end_then (first ds) [] v))) (lines_append (map directive_row es) (start_row ∷ tree) (after ds) r) w in
-    let one = directives_made {d = e} {dirs = es} row ds z q none said key f fs u a there in
+    let one = directives_made {d = e} {dirs = es} row ds z q none bare said key f fs u a there in
     let ks = calm_append (row ∷ map directive_row es) (start_row ∷ tree) ds r k in
-    let node = explicit_at c x start_row (past (map directive_row es) (after ds)) r one.place refl refl refl fit u (past_decos (row ∷ map directive_row es) a) ks.1.1 one.rest in
+    let node = explicit_at c x start_row (past (map directive_row es) (after ds)) r one.place refl refl refl refl fit u (past_decos (row ∷ map directive_row es) a) ks.1.1 one.rest in
     record {
       height = node.height;
       place = node.place;
@@ -98,6 +108,14 @@ directed {t} c {d} x {e} {es} row ds r q none said key same f fs fit u a k w =
       found_rows = one.found_rows ++ (node.head ∷ node.inner);
       found = found_document one.place one.meaning.directives (one.found_rows ++ (node.head ∷ [])) node.meant (sym (append_assoc one.found_rows (node.head ∷ []) node.inner));
       placed = rows_in_append one.placed (subst (λ z. RowsIn t (start_row ∷ tree) (node.head ∷ node.inner) (past (row ∷ map directive_row es) ds) z node.meaning.comments node.place r) (omega arith) node.placed);
+      held = record {
+        comments = set_append t one.meaning.comments node.meaning.comments (one.held node.meaning.events).comments node.held.comments;
+        bodies = held_events t node.meaning ((row ∷ map directive_row es) ++ (start_row ∷ tree)) ds r one.place one.meaning.directives (bodies_append t node.meaning.events (row ∷ map directive_row es) (start_row ∷ tree) ds r (one.held node.meaning.events).bodies node.held.bodies);
+      };
+      begun = document_begun one.place one.meaning.directives node.meaning
+          (subst (λ z. Stand q (one.place ∷ []) (one.meaning.comments ++ node.meaning.comments) z node.place) (sym (with_append documents_begin (row ∷ map directive_row es) (start_row ∷ tree) ds))
+          (stand_join (subst (λ z. Stand q [] one.meaning.comments z one.place) (sym (quiet_steps (no_start_on {row = row} plain (directives_none es)) ds)) (comments_stand (directives_ascend one.lines) one.is))
+          (explicit_begun start_row (past (map directive_row es) (after ds)) refl (rows_none c (root_spot c.style) x.root) node)));
     }
 
 -- the rows of a document, by its directives
@@ -112,7 +130,7 @@ beside_tree row es tree = append_assoc (row ∷ map directive_row es) (start_row
 first_with : {t : List ℕ} (c : Setting) {d : Doc} (x : DocumentTree) (start : ℕ) (dirs : List Directive) (ds : List Deco) (r : List ℕ) (q : ℕ) → d.directives ≡ dirs → FitDirectives dirs → Fit x.root → IsUtf8 t → AreDecos ds
     → Calm (head_rows true start dirs ++ root_rows c x) ds r → Rest t q (lines_then (head_rows true start dirs ++ root_rows c x) ds r) → AnyMade t c d x (head_rows true start dirs ++ root_rows c x) ds q r
 first_with {t} c {d} x start [] ds r q same f fit u a k w =
-    let node = explicit_at c x (record start_row { items = start ∷ [] }) ds r q refl refl refl fit u a k.1 w in
+    let node = explicit_at c x (record start_row { items = start ∷ [] }) ds r q refl refl refl refl fit u a k.1 w in
     record {
       height = node.height;
       place = node.place;
@@ -127,12 +145,14 @@ first_with {t} c {d} x start [] ds r q same f fit u a k w =
       found_rows = node.head ∷ node.inner;
       found = found_document q [] (node.head ∷ []) node.meant refl;
       placed = node.placed;
+      held = record { comments = node.held.comments; bodies = held_events t node.meaning (record start_row { items = start ∷ [] } ∷ root_rows c x) ds r q [] node.held.bodies };
+      begun = document_begun q [] node.meaning (explicit_begun (record start_row { items = start ∷ [] }) ds refl (rows_none c (root_spot c.style) x.root) node);
     }
 first_with {t} c {d} x start (e ∷ es) ds r q same (fit_directive f fs) fit u a k w =
     let row : Row = record (directive_row e) { items = start ∷ [] } in
     let shape = beside_tree row es (root_rows c x) in
     subst (λ z. AnyMade t c d x z ds q r) (sym shape)
-    (directed c x {e = e} row ds r q refl refl refl same f fs fit u a (subst (λ z. Calm z ds r) shape k) (subst (λ z. Rest t q (lines_then z ds r)) shape w))
+    (directed c x {e = e} row ds r q refl refl refl refl refl same f fs fit u a (subst (λ z. Calm z ds r) shape k) (subst (λ z. Rest t q (lines_then z ds r)) shape w))
 
 -- Later documents, each with what stands after it.
 
@@ -150,11 +170,13 @@ record StepMade (t : List ℕ) (s : Setting) (d : Doc) (x : DocumentTree) (rs : 
   pub found_rows : List PlacedRow
   pub found : FoundDocument t s x document found_rows
   pub placed : RowsIn t rs found_rows ds q comments place r
+  pub held : EventsHeld t document.events comments rs ds r
+  pub begun : Stand q (document.start ∷ []) comments (steps_with documents_begin rs ds) place
 
 step_with : {t : List ℕ} (c : Setting) {d : Doc} (x : DocumentTree) (start : ℕ) (dirs : List Directive) (ds : List Deco) (r : List ℕ) (q : ℕ) → d.directives ≡ dirs → FitDirectives dirs → Fit x.root → IsUtf8 t → AreDecos ds
     → Calm (head_rows false start dirs ++ root_rows c x) ds r → Rest t q (lines_then (head_rows false start dirs ++ root_rows c x) ds r) → StepMade t c d x (head_rows false start dirs ++ root_rows c x) ds q r
 step_with {t} c {d} x start [] ds r q same f fit u a k w =
-    let node = explicit_at c x (record start_row { items = start ∷ [] }) ds r q refl refl refl fit u a k.1 w in
+    let node = explicit_at c x (record start_row { items = start ∷ [] }) ds r q refl refl refl refl fit u a k.1 w in
     record {
       height = node.height;
       place = node.place;
@@ -169,13 +191,17 @@ step_with {t} c {d} x start [] ds r q same f fit u a k w =
       found_rows = node.head ∷ node.inner;
       found = found_document q [] (node.head ∷ []) node.meant refl;
       placed = node.placed;
+      held = record { comments = node.held.comments; bodies = held_events t node.meaning (record start_row { items = start ∷ [] } ∷ root_rows c x) ds r q [] node.held.bodies };
+      begun = document_begun q [] node.meaning (explicit_begun (record start_row { items = start ∷ [] }) ds refl (rows_none c (root_spot c.style) x.root) node);
     }
 step_with {t} c {d} x start (e ∷ es) ds r q same (fit_directive f fs) fit u a k w =
     let row : Row = directive_row e in
     let shape = beside_tree row es (root_rows c x) in
     let mark = three_at 46 u (omega arith) (omega arith) w in
-    let end = row_end (first ds) (lines_then (((row ∷ map directive_row es) ++ (start_row ∷ [])) ++ root_rows c x) (after ds) r) u (first_deco a) mark.1 in
-    let made = directed c {d = d} x {e = e} row (after ds) r end.place refl refl refl same f fs fit u (after_decos a) (subst (λ z. Calm z (after ds) r) shape k.1)
+    let rest : List ℕ = lines_then (((row ∷ map directive_row es) ++ (start_row ∷ [])) ++ root_rows c x) (after ds) r in
+    let end = row_end (first ds) rest u (first_deco a) mark.1 in
+    let ended = row_ended (first ds) rest u (three_behind 46 u (omega arith) (omega arith) w) (first_deco a) mark.1 end.end in
+    let made = directed c {d = d} x {e = e} row (after ds) r end.place refl refl refl refl refl same f fs fit u (after_decos a) (subst (λ z. Calm z (after ds) r) shape k.1)
     (subst (λ z. Rest t end.place (lines_then z (after ds) r)) shape end.rest) in
     let dots : PlacedRow = record { items = []; leaves = []; commented = false; from = q; upto = q + 3 } in
     record {
@@ -205,6 +231,12 @@ step_with {t} c {d} x start (e ∷ es) ds r q same (fit_directive f fs) fit u a 
           (record { ascend = end_ascends end.end; is = end.is; start = end.start }) end.rest
           (subst (λ z. RowsIn t z made.found_rows (after ds) (end.place + 0) made.comments made.place r) (sym shape)
           (subst (λ z. RowsIn t ((row ∷ map directive_row es) ++ (start_row ∷ root_rows c x)) made.found_rows (after ds) z made.comments made.place r) (omega arith) made.placed));
+      held = record {
+        comments = set_append t end.comments made.comments ended.comments made.held.comments;
+        bodies = (bare_row t made.document.events (record (plain_row 0 (codes "...")) { items = start ∷ [] }) (first ds) rest refl ended.seen, subst (λ z. BodiesHeld t made.document.events z (after ds) r) (sym shape) made.held.bodies);
+      };
+      begun = stand_join (stand_after (omega arith) (comments_stand (end_ascends end.end) end.is))
+          (subst (λ z. Stand end.place (made.document.start ∷ []) made.comments (steps_with documents_begin z (after ds)) made.place) (sym shape) made.begun);
     }
 
 -- The rest of a stream.
@@ -220,6 +252,8 @@ pub record RestMade (t : List ℕ) (s : Setting) (ds : List Doc) (xs : List Docu
   pub found_rows : List PlacedRow
   pub found : FoundDocuments t s xs documents.documents found_rows
   pub placed : StreamIn t rs found_rows decos q documents.comments
+  pub held : EventsHeld t (all_events documents.documents) documents.comments rs decos []
+  pub begun : Stand q (starts_in documents) documents.comments (steps_with documents_begin rs decos) (length t)
 
 ended_at : {t : List ℕ} {q : ℕ} → Rest t q [] → q ≡ length t
 ended_at {t} {q} s =
@@ -239,6 +273,8 @@ rest_made {t} c fit_no_documents decos q u a k w = record {
   found_rows = [];
   found = no_documents_found;
   placed = no_stream;
+  held = record { comments = tt; bodies = tt };
+  begun = nothing_stands (let end : q ≡ length t = ended_at w in omega (arith, end));
 }
 rest_made {t} c (fit_document {d = d} {ds = ds} {x = x} {xs = xs} f fit more) decos q u a k w =
     let head : List Row = document_rows c false d x in
@@ -262,6 +298,9 @@ rest_made {t} c (fit_document {d = d} {ds = ds} {x = x} {xs = xs} f fit more) de
       found = found_with one.comments last.documents one.found last.found;
       placed = subst (λ z. StreamIn t (head ++ others) (one.found_rows ++ last.found_rows) decos q z) (sym (comments_with_document one.comments one.document last.documents))
           (stream_more (document_begins false d.start d.directives (root_rows c x)) one.placed (λ e. ended_at (subst (λ z. Rest t one.place (lines_then z (past head decos) [])) e one.rest)) last.placed);
+      held = documents_held one.comments one.document last.documents head others decos one.held last.held;
+      begun = subst (λ z. Stand q (starts_in (with_document one.comments one.document last.documents)) (with_document one.comments one.document last.documents).comments z (length t))
+          (sym (with_append documents_begin head others decos)) (documents_begun one.comments one.document last.documents one.begun last.begun);
     }
 
 -- Whole streams.
@@ -282,6 +321,8 @@ pub record StreamLaid (t : List ℕ) (s : Setting) (ds : List Doc) (xs : List Do
   pub found_rows : List PlacedRow
   pub found : FoundDocuments t s xs made.documents.documents found_rows
   pub placed : StreamIn t rs found_rows decos line others
+  pub held : EventsHeld t (all_events made.documents.documents) made.documents.comments rs decos []
+  pub begun : Stand 0 (starts_in made.documents) made.documents.comments (comment_steps (remarks_of gap) ++ steps_with documents_begin rs decos) (length t)
 
 stream_made : {t : List ℕ} (c : Setting) {ds : List Doc} {xs : List DocumentTree} (gap : List GapLine) (decos : List Deco) → FitDocuments ds xs → IsUtf8 t → AreGapLines gap → AreDecos decos
     → Calm (stream_rows c true ds xs) decos [] → Rest t 0 (gap_then gap (lines_then (stream_rows c true ds xs) decos []))
@@ -308,6 +349,8 @@ stream_made {t} c gap decos fit_no_documents u g a k w =
       found_rows = [];
       found = subst (λ z. FoundDocuments t c [] z []) (sym (documents_with_comments at.comments)) no_documents_found;
       placed = no_stream;
+      held = record { comments = comments_set t at.comments (lines_set (inl at_text) at.lines); bodies = tt };
+      begun = comments_begun at.comments (only_comments []) (comments_stand (rows_ascend (lines_rows at.lines)) at.is) (nothing_stands (omega (arith, end)));
     }
 stream_made {t} c gap decos (fit_document {d = d} {ds = ds} {x = x} {xs = xs} f fit more) u g a k w =
     let head : List Row = document_rows c true d x in
@@ -340,6 +383,12 @@ stream_made {t} c gap decos (fit_document {d = d} {ds = ds} {x = x} {xs = xs} f 
       found_rows = one.found_rows ++ last.found_rows;
       found = found_with (at.comments ++ one.comments) last.documents one.found last.found;
       placed = stream_more (document_begins true d.start d.directives (root_rows c x)) one.placed (λ e. ended_at (subst (λ z. Rest t one.place (lines_then z (past head decos) [])) e one.rest)) last.placed;
+      held = documents_held (at.comments ++ one.comments) one.document last.documents head others decos
+          (record { comments = set_append t at.comments one.comments (lines_set (inl at_text) at.lines) one.held.comments; bodies = one.held.bodies }) last.held;
+      begun = subst (λ z. Stand 0 (starts_in (with_document (at.comments ++ one.comments) one.document last.documents)) (with_document (at.comments ++ one.comments) one.document last.documents).comments z (length t))
+          (append_assoc (comment_steps (remarks_of gap)) (steps_with documents_begin head decos) (steps_with documents_begin others (past head decos))
+          ∙ ap (λ z. comment_steps (remarks_of gap) ++ z) (sym (with_append documents_begin head others decos)))
+          (documents_begun (at.comments ++ one.comments) one.document last.documents (stand_join (comments_stand (rows_ascend (lines_rows at.lines)) at.is) one.begun) last.begun);
     }
   where
     joined_texts : (us vs ws : List CommentValue) {xs ys zs : List (List ℕ)} → texts us ≡ xs → texts vs ≡ ys → texts ws ≡ zs → texts (us ++ vs) ++ texts ws ≡ xs ++ (ys ++ zs)

@@ -145,7 +145,7 @@ pub next_later : (s : Span) (ys : List Span) → rising (s ∷ ys) ≡ true → 
 next_later s [] r = tt
 next_later s (y ∷ ys) r = head_later s.start y ys (and_parts (list_all (λ x. nat_lt s.start x.start) (y ∷ ys)) (rising (y ∷ ys)) r).0
 
-rising_behind : (xs ys : List Span) → rising (xs ++ ys) ≡ true → rising ys ≡ true
+pub rising_behind : (xs ys : List Span) → rising (xs ++ ys) ≡ true → rising ys ≡ true
 rising_behind [] ys r = r
 rising_behind (x ∷ xs) ys r = rising_behind xs ys (and_parts (list_all (λ z. nat_lt x.start z.start) (xs ++ ys)) (rising (xs ++ ys)) r).1
 

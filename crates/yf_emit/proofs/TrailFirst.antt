@@ -83,7 +83,7 @@ first_after cs from post e a =
 -- what trails a leaf before these further ones
 pub data LeafTrail (c : Source) (cs : List CommentValue) (s : Span) (post : List Span) : List CommentValue → Type 0 where
   nothing_trails : LeafTrail c cs s post []
-  it_trails : {e : CommentValue} → FirstAfter cs s.start post e → is_among c.key_comments e ≡ false → LeafTrail c cs s post (e ∷ [])
+  it_trails : (r : Remark) → first_comment c s ≡ Some r → (nat_lt r.0.offset s.end || r.1) ≡ true → FirstAfter cs s.start post r.0 → is_among c.key_comments r.0 ≡ false → LeafTrail c cs s post (r.0 ∷ [])
 
 module _ (c : Source) (cs : List CommentValue) (bs : List Bool) (remarks : c.remarks ≡ zip cs bs) (up : rising c.leaves ≡ true) (order : Upward 0 cs) where
   pub leaf_trail : (pre : List Span) (s : Span) (post : List Span) → c.leaves ≡ pre ++ (s ∷ post) → LeafTrail c cs s post (trail_of c s)
@@ -107,7 +107,7 @@ module _ (c : Source) (cs : List CommentValue) (bs : List Bool) (remarks : c.rem
     unturned false y h = absurd (true≢false (sym h))
 
     by : (r : Remark) → find test (zip cs bs) ≡ Some r → (b : Bool) → ((nat_lt r.0.offset s.end || r.1) && not (is_among c.key_comments r.0)) ≡ b → LeafTrail c cs s post (if b then r.0 ∷ [] else [])
-    by r f true q = it_trails (first_after cs s.start post r.0 (found_first p cs 0 r.0 order (noted_first p cs bs r f))) (unturned (nat_lt r.0.offset s.end || r.1) (is_among c.key_comments r.0) q)
+    by r f true q = it_trails r (first ∙ f) (and_parts (nat_lt r.0.offset s.end || r.1) (not (is_among c.key_comments r.0)) q).0 (first_after cs s.start post r.0 (found_first p cs 0 r.0 order (noted_first p cs bs r f))) (unturned (nat_lt r.0.offset s.end || r.1) (is_among c.key_comments r.0) q)
     by r f false q = nothing_trails
 
     go : (o : Option Remark) → find test (zip cs bs) ≡ o → LeafTrail c cs s post (trailing_leaf c s o)

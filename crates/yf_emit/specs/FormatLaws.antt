@@ -1,5 +1,5 @@
 -- The laws of what formatting gives, each with the plain sentence that it stands for. `proofs/FormatLawsHold.antt`, `proofs/FormatTrails.antt`,
--- `proofs/FormatsRead.antt` and `proofs/SameContent.antt` prove them.
+-- `proofs/FormatsRead.antt`, `proofs/SameContent.antt` and `proofs/SameComments.antt` prove them.
 use Rattle.std.specs.Prelude.{◌≡◌, ℕ, List}
 use Rattle.std.specs.Str.{IsUtf8}
 use Rattle.yf_events.specs.declared.lists.Lists.{Lists}
@@ -11,7 +11,7 @@ use Rattle.yf_emit.specs.Carried.{TrailsFit}
 use Rattle.yf_emit.specs.Decorated.{rows_of}
 use Rattle.yf_emit.specs.FitDocuments.{DocumentsMeant}
 use Rattle.yf_emit.specs.Format.{Formats}
-use Rattle.yf_emit.specs.Laws.{HasSameContent, IsAccepted}
+use Rattle.yf_emit.specs.Laws.{HasSameComments, HasSameContent, IsAccepted}
 use Rattle.yf_emit.specs.Layout.{source_of}
 
 -- Formatting a text that has a reading gives a text.
@@ -49,3 +49,8 @@ FormatsAreAccepted = (t u : List ℕ) (s : Style) → IsUtf8 t → Formats t s u
 -- And it has the same content.
 abbrev pub FormatsKeepContent : Type 0
 FormatsKeepContent = (t u : List ℕ) (s : Style) → IsUtf8 t → Formats t s u → HasSameContent t u
+
+-- And it has the same comments at the same places: as many, in order, each with the same text but for the white space that ended it, after the same
+-- number of documents and of leaves.
+abbrev pub FormatsKeepComments : Type 0
+FormatsKeepComments = (t u : List ℕ) (s : Style) → IsUtf8 t → Formats t s u → HasSameComments t u

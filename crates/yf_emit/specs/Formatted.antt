@@ -17,8 +17,8 @@ use Rattle.yf_stream.specs.ReadingOf.{ReadingOf}
 -- There is a reading, and one that differs from it by the styles of its scalars, which are those of the house, and by which of its
 -- collections are flow collections, and says the same; where the reading is one as texts have them, the other is its normal form. And u
 -- is the text that one pass prints of the other, which is its layout where it is the normal form of a text's reading. So where the reading
--- is that of t, u is what formatting t gives, and nothing else is; u is accepted, and has the same content (`FormatKept`). That it is the
--- reading of t is not said.
+-- is that of t, u is what formatting t gives, and nothing else is; u is accepted, and has the same content, and the same comments at the same
+-- places (`FormatKept`). That it is the reading of t is not said.
 pub record Formatted (t : List ℕ) (s : Style) (u : List ℕ) : Type 0 where
   pub reading : Lists
   pub normal : Lists

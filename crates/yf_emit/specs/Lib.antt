@@ -1,3 +1,4 @@
+pub mod Beginnings
 pub mod Begins
 pub mod BlockLines
 pub mod BlockValues

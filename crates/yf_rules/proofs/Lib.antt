@@ -49,3 +49,15 @@ pub mod NodePlaceLemmas
 pub mod PassLemmas
 pub mod StandSetLemmas
 pub mod StandTreeLemmas
+-- in what formatting gives nothing is at fault that the house style fixes
+pub mod MendedLines
+pub mod MendedQuotes
+pub mod MendedStarts
+pub mod MendedComments
+pub mod MendedScalars
+pub mod MendedContents
+pub mod MendedSorts
+pub mod MendedBlanks
+pub mod MendedSpaces
+pub mod MendedIndents
+pub mod MendedMarks

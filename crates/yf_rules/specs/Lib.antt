@@ -11,7 +11,6 @@ pub mod BlankLines
 pub mod BlankNotes
 pub mod Nodes
 pub mod KeyPass
-pub mod Laws
 pub mod OuterFlow
 pub mod QuestionMarks
 pub mod ScalarLines
@@ -28,3 +27,4 @@ pub mod Sets
 pub mod Definition
 pub mod Rules
 pub mod Check
+pub mod Mended

@@ -1,5 +1,6 @@
 -- The documents of a stream stand in order: directives, the beginning, the node with all that is in it, and the next document.
-use Rattle.std.proofs.Common.{◌≡◌, ◌≢◌, ℕ, ◌<◌, ◌≤◌, true, false, List, [], ◌∷◌, length, sym, ap, ◌∙◌, ⊎_elim, arith, true≢false}
+use Rattle.std.proofs.Common.{◌≡◌, ◌≢◌, ℕ, ◌+◌, ◌<◌, ◌≤◌, true, false, List, [], ◌∷◌, length, sym, ap, ◌∙◌, subst, ⊎_elim, arith, true≢false}
+use Rattle.std.specs.Prelude.{◌&&◌, ◌==◌}
 use Rattle.std.proofs.lemmas.Bool.{cases_eq}
 use Rattle.std.proofs.lemmas.Bool.Decides.{nat_tests}
 use Rattle.std.specs.Str.{IsUtf8}
@@ -10,7 +11,7 @@ use Rattle.yf_chars.specs.Class.{is_white}
 use Rattle.yf_chars.specs.Text.{code}
 use Rattle.yf_chars.proofs.ChainLemmas.{chain_forward, chain_one}
 use Rattle.yf_chars.proofs.TextLemmas.{next_ascii, next_later}
-use Rattle.yf_lines.specs.Basic.{SeparateInLine}
+use Rattle.yf_lines.specs.Basic.{LineStart, SeparateInLine, is_three}
 use Rattle.yf_lines.specs.Basic.SeparateInLine.{by_whites, at_start}
 use Rattle.yf_comments.specs.Comment.{CommentValue}
 use Rattle.yf_comments.proofs.LineEndLemmas.{lines_rows}
@@ -18,6 +19,7 @@ use Rattle.yf_comments.proofs.RowLemmas.{row_functional}
 use Rattle.yf_plain.proofs.PlainLemmas.{ns_not_white}
 use Rattle.yf_events.specs.Tree.{Node, flat}
 use Rattle.yf_grammar.specs.Meaning.{Meaning}
+use Rattle.yf_grammar.proofs.BlockCover.{after_dash}
 use Rattle.yf_grammar.proofs.Forward.{in_line_forward}
 use Rattle.yf_grammar.proofs.GapLemmas.{Visible}
 use Rattle.yf_grammar.proofs.NodePlaces.{NodeStands, node_after, node_upto}
@@ -31,6 +33,7 @@ use Rattle.yf_stream.specs.Stream.PrefixPart.{order_mark, prefix_comment}
 use Rattle.yf_stream.specs.Stream.Stream.{begins_with_document, without_document}
 use Rattle.yf_stream.specs.Stream.StreamRest.{past_explicit, past_prefix, past_suffixes, past_suffixes_and_document, stream_ended}
 use Rattle.yf_stream.specs.Stream.Suffixes.{last_suffix, more_suffixes}
+use Rattle.yf_stream.proofs.BrokenEnds.{Broken, DocumentBounds, block_broken, end_broken}
 use Rattle.yf_stream.proofs.DirectiveOrder.{DirectivesStand, no_directives_stand, directives_after, directives_stand}
 use Rattle.yf_stream.proofs.Forward.{line_end_forward}
 
@@ -39,6 +42,7 @@ pub record DocumentAt (t : List ℕ) (i j : ℕ) (d : Document) : Type 0 where
   pub directives : DirectivesStand i d.directives d.start
   pub events : d.events ≡ flat node
   pub stands : NodeStands t d.start j node
+  pub bounds : DocumentBounds t d.start j
 
 pub data DocumentsStand (t : List ℕ) : ℕ → List Document → Type 0 where
   no_documents_stand : {i : ℕ} → i ≤ length t → DocumentsStand t i []
@@ -76,40 +80,67 @@ module _ {t : List ℕ} where
   suffixes_forward (more_suffixes e d s) = let f = line_end_forward d in let g = suffixes_forward s in omega arith
 
   document_after : {h i j : ℕ} {d : Document} → h ≤ i → DocumentAt t i j d → DocumentAt t h j d
-  document_after l a = record { node = a.node; directives = directives_after l a.directives; events = a.events; stands = a.stands }
+  document_after l a = record { node = a.node; directives = directives_after l a.directives; events = a.events; stands = a.stands; bounds = a.bounds }
 
   documents_after : {h i : ℕ} {ds : List Document} → h ≤ i → DocumentsStand t i ds → DocumentsStand t h ds
   documents_after l (no_documents_stand m) = no_documents_stand (omega arith)
   documents_after l (document_stands a b) = document_stands (document_after l a) b
 
+third_dash : (a b c : ℕ) → ((a == 45) && ((b == 45) && (c == 45))) ≡ true → c ≡ 45
+third_dash a b c e = grind (arith, nat_tests)
+
+first_dash : (a b c : ℕ) → ((a == 45) && ((b == 45) && (c == 45))) ≡ true → a ≡ 45
+first_dash a b c e = grind (arith, nat_tests)
+
 module _ {t : List ℕ} (u : IsUtf8 t) where
+  first_of : (i : ℕ) → is_three t i 45 ≡ true → code t i ≡ 45
+  unfolding is_three
+  first_of i e = first_dash (code t i) (code t (i + 1)) (code t (i + 2)) e
+
+  third_of : (i : ℕ) → is_three t i 45 ≡ true → code t (i + 2) ≡ 45
+  unfolding is_three
+  third_of i e = third_dash (code t i) (code t (i + 1)) (code t (i + 2)) e
+
   explicit_node : {h i j : ℕ} {x : Meaning} → ExplicitNode t h i j x → NodeAt t i j x
   explicit_node (marked_node e n) = let a = places u n.derived in node_wider (omega (arith, a.begins.order)) a.node (omega arith)
   explicit_node (marked_nothing {cs = cs} e d) = node_noting cs (node_wider (omega arith) (nothing_at (line_end_forward d)) (omega arith))
 
-  document_with : {i k j : ℕ} {x : Meaning} (ds : Directives) → DirectivesStand i ds.directives k → NodeAt t k j x
+  explicit_broken : {h i j : ℕ} {x : Meaning} → ExplicitNode t h i j x → Broken t j
+  explicit_broken (marked_node e n) = block_broken u n.derived
+  explicit_broken (marked_nothing {i = i} e d) =
+      let same : i + 2 + 1 ≡ i + 3 = omega arith in
+      end_broken (λ s. after_dash u (i + 2) (third_of i e) (subst (λ k. LineStart t k) (sym same) s)) d
+
+  explicit_bounds : {h i j : ℕ} {x : Meaning} → ExplicitNode t h i j x → DocumentBounds t i j
+  explicit_bounds {i = i} e = let first : code t i ≡ 45 = dash_of e in record { start = λ z. absurd (omega (arith, first, z)); end = explicit_broken e } where
+    dash_of : {h i j : ℕ} {x : Meaning} → ExplicitNode t h i j x → code t i ≡ 45
+    dash_of (marked_node {i = i} e n) = first_of i e
+    dash_of (marked_nothing {i = i} e d) = first_of i e
+
+  document_with : {i k j : ℕ} {x : Meaning} (ds : Directives) → DirectivesStand i ds.directives k → NodeAt t k j x → DocumentBounds t k j
       → DocumentAt t i j (document_of k true ds.directives x)
   unfolding document_of
-  document_with ds d a = record { node = a.node; directives = d; events = a.events; stands = node_upto a.stands a.ends }
+  document_with ds d a b = record { node = a.node; directives = d; events = a.events; stands = node_upto a.stands a.ends; bounds = b }
 
   explicit_at : {h i j : ℕ} {x : Meaning} → ExplicitNode t h i j x → DocumentAt t i j (document_of i true [] x)
-  explicit_at e = document_with (record { directives = []; comments = [] }) (no_directives_stand (omega arith)) (explicit_node e)
+  explicit_at e = document_with (record { directives = []; comments = [] }) (no_directives_stand (omega arith)) (explicit_node e) (explicit_bounds e)
 
-  bare_at : {i k j : ℕ} {x : Meaning} → VisibleAt t i j x → ContentAt t i k → DocumentAt t i j (document_of k false [] x)
+  bare_at : {i k j : ℕ} {x : Meaning} → VisibleAt t i j x → ContentAt t i k → Broken t j → DocumentAt t i j (document_of k false [] x)
   unfolding document_of
-  bare_at a (content_at s n h) =
+  bare_at a (content_at s n h) b =
       let l = separated_before s a.begins.visible a.begins.order in
       record {
         node = a.node.node;
         directives = no_directives_stand (in_line_forward s);
         events = a.node.events;
         stands = node_upto (node_after l a.node.stands) a.node.ends;
+        bounds = record { start = h; end = b };
       }
 
   document_at : {h i j : ℕ} {d : Document} {x : List CommentValue} → AnyDocument t h i j d x → DocumentAt t i j d
-  document_at (bare_document n c) = bare_at (places u n.derived) c
+  document_at (bare_document n c) = bare_at (places u n.derived) c (block_broken u n.derived)
   document_at (explicit_document e) = explicit_at e
-  document_at (directive_document {ds = ds} d e) = document_with ds (directives_stand d) (explicit_node e)
+  document_at (directive_document {ds = ds} d e) = document_with ds (directives_stand d) (explicit_node e) (explicit_bounds e)
 
   rest_stands : {h i : ℕ} {x : Documents} → StreamRest t h i x → DocumentsStand t i x.documents
   unfolding with_comments with_document

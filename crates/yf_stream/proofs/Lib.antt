@@ -11,6 +11,7 @@ pub mod OneStream
 pub mod OneReading
 -- where documents and nodes stand (`NodeLaws`, `PlaceLaws`)
 pub mod DirectiveOrder
+pub mod BrokenEnds
 pub mod DocumentPlaces
 pub mod ReadingOrder
 pub mod ReadingTrees
@@ -52,3 +53,5 @@ pub mod StreamSteps
 pub mod PathLemmas
 pub mod PathsThrough
 pub mod FloorLemmas
+pub mod DocumentMarkers
+pub mod DirectivesStand

@@ -46,7 +46,7 @@ module _ {t : List ℕ} where
   percent_visible : {k : ℕ} → code t k ≡ 37 → Visible t k
   percent_visible e = record { ns = ap is_ns_char e ∙ percent_ns; no_hash = λ q. absurd (omega arith) }
 
-  no_percent_flow : {h i j : ℕ} {json : Bool} {n : ℤ} {c : Ctx} {x : Meaning} → is_block c ≡ false → code t i ≡ 37 → Derives t h (NodeOf json n c) i j x → ⊥
+  pub no_percent_flow : {h i j : ℕ} {json : Bool} {n : ℤ} {c : Ctx} {x : Meaning} → is_block c ≡ false → code t i ≡ 37 → Derives t h (NodeOf json n c) i j x → ⊥
   no_percent_flow {i = i} b e (an_alias f a) = apart begins_alias (code t i) e percent_bars.3 (alias_begins a)
   no_percent_flow {i = i} {c = c} b e (a_plain p) = true≢false (sym (plain_leaps p).0 ∙ percent_first t c i e)
   no_percent_flow {i = i} b e (a_plain_with p s q) = apart begins_properties (code t i) e percent_bars.1 (properties_begin p)

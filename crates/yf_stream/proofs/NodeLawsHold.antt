@@ -15,7 +15,7 @@ use Rattle.yf_stream.proofs.ReadingTrees.{ReadingStands, TreesStand, no_trees_st
 module _ {t : List ℕ} where
   trees_events : {i : ℕ} {ds : List Doc} {trees : List DocumentTree} → TreesStand t i ds trees → EventsStand t (flat_map flat_document trees)
   trees_events (no_trees_stand l) = no_events_stand
-  trees_events (tree_stands {tree = tree} d a b) =
+  trees_events (tree_stands {tree = tree} d a b z) =
       events_join (event_stands (unplaced_stands (document_starts tree.marked) refl)
       (events_join (node_events a) (event_stands (unplaced_stands (document_ends tree.closed) refl) no_events_stand))) (trees_events b)
 
@@ -29,7 +29,7 @@ module _ {t : List ℕ} where
   items_visible_in : {i : ℕ} {ds : List Doc} {trees : List DocumentTree} → TreesStand t i ds trees
       → AllVisible t (flat_map (λ (d : DocumentTree). items_in d.root) trees)
   items_visible_in (no_trees_stand l) = none_visible
-  items_visible_in (tree_stands d a b) = visible_join (node_visible a) (items_visible_in b)
+  items_visible_in (tree_stands d a b z) = visible_join (node_visible a) (items_visible_in b)
 
 pub nodes_of_readings_begin_visibly : NodesOfReadingsBeginVisibly
 nodes_of_readings_begin_visibly t r u a =

@@ -26,7 +26,7 @@ use Rattle.yf_stream.proofs.DirectiveOrder.{parameters_forward}
 
 module _ {t : List ℕ} where
   -- directives
-  directives_ascend : {i j : ℕ} {x : Directives} → DirectiveLines t i j x → Ascend t i x.comments j
+  pub directives_ascend : {i j : ℕ} {x : Directives} → DirectiveLines t i j x → Ascend t i x.comments j
   directives_ascend (last_directive e r p d) = let f = r.some in let g = parameters_forward p in ascend_after (omega arith) (end_ascends d)
   directives_ascend (more_directives a b) = ascend_join (directives_ascend a) (directives_ascend b)
 
@@ -43,7 +43,7 @@ module _ {t : List ℕ} where
   suffixes_ascend (last_suffix e d) = ascend_after (omega arith) (end_ascends d)
   suffixes_ascend (more_suffixes e d s) = ascend_join (ascend_after (omega arith) (end_ascends d)) (suffixes_ascend s)
 
-  explicit_ascends : {h i j : ℕ} {x : Meaning} → ExplicitNode t h i j x → Ascend t i x.comments j
+  pub explicit_ascends : {h i j : ℕ} {x : Meaning} → ExplicitNode t h i j x → Ascend t i x.comments j
   unfolding noting empty_node
   explicit_ascends (marked_node e n) = ascend_after (omega arith) (derived_ascends n.derived)
   explicit_ascends (marked_nothing e d) = ascend_after (omega arith) (end_ascends d)

@@ -12,14 +12,15 @@ use Rattle.yf_grammar.proofs.NodePlaces.{NodeStands}
 use Rattle.yf_grammar.proofs.NotedNodes.{noted_node, noted_plain}
 use Rattle.yf_stream.specs.ReadingOf.{DocumentEvents, no_document, one_document, ReadingOf, doc_of}
 use Rattle.yf_stream.specs.Stream.{Document, Documents, Stream}
+use Rattle.yf_stream.proofs.BrokenEnds.{DocumentBounds}
 use Rattle.yf_stream.proofs.DirectiveOrder.{DirectivesStand}
 use Rattle.yf_stream.proofs.DocumentPlaces.{DocumentsStand, no_documents_stand, document_stands, stream_stands}
 
--- documents in order, each with its tree: directives, the beginning, and the nodes
+-- documents in order, each with its tree: directives, the beginning, the nodes, and their bounds
 pub data TreesStand (t : List ℕ) : ℕ → List Doc → List DocumentTree → Type 0 where
   no_trees_stand : {i : ℕ} → i ≤ length t → TreesStand t i [] []
   tree_stands : {i j : ℕ} {d : Doc} {ds : List Doc} {tree : DocumentTree} {trees : List DocumentTree} → DirectivesStand i d.directives d.start
-      → NodeStands t d.start j tree.root → TreesStand t j ds trees → TreesStand t i (d ∷ ds) (tree ∷ trees)
+      → NodeStands t d.start j tree.root → TreesStand t j ds trees → DocumentBounds t d.start j → TreesStand t i (d ∷ ds) (tree ∷ trees)
 
 -- the trees of documents that are derived: they mean the same, but for notes on blank lines
 pub data TreesMeant : List Document → List DocumentTree → Type 0 where
@@ -80,7 +81,7 @@ module _ {t : List ℕ} where
       let behind = noted_trees b others last.noting in
       record {
         trees = record { marked = d.marked; closed = closed; root = root.node } ∷ behind.trees;
-        stand = tree_stands a.directives root.stands behind.stand;
+        stand = tree_stands a.directives root.stands behind.stand a.bounds;
         meant = tree_meant a.events root.alike behind.meant;
         count = ap suc behind.count;
         more = behind.more;

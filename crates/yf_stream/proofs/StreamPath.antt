@@ -191,7 +191,7 @@ module _ {t : List ℕ} (u : IsUtf8 t) where
       let same : k + 3 ≡ k + 2 + 1 = omega arith in
       no_start_behind u (behind_byte (k + 2) u (three_last t k c e) l n) (subst (λ w. LineStart t w) same s)
 
-  explicit_marker : {h k j : ℕ} {x : Meaning} → LineOrEnd t k → ExplicitNode t h k j x → Forbidden t k × (code t k ≡ 45)
+  pub explicit_marker : {h k j : ℕ} {x : Meaning} → LineOrEnd t k → ExplicitNode t h k j x → Forbidden t k × (code t k ≡ 45)
   explicit_marker {k = k} l (marked_node e n) =
       let c = three_code t k 45 e in
       (record { start = line_of l (omega arith); marker = marker_of_dashes t k e ∙ node_white (no_start_after k 45 e (omega arith) signs_visible.0) n.derived }, c)
@@ -206,24 +206,24 @@ module _ {t : List ℕ} (u : IsUtf8 t) where
       (record { start = line_of l (omega arith); marker = marker_of_dots t k n e ∙ line_end_white (no_start_after k 46 e (omega arith) signs_visible.1) d }, c)
 
   -- where the parts end
-  explicit_next : {h k j : ℕ} {x : Meaning} → ExplicitNode t h k j x → LineOrEnd t j
+  pub explicit_next : {h k j : ℕ} {x : Meaning} → ExplicitNode t h k j x → LineOrEnd t j
   explicit_next (marked_node e n) = block_ends n.derived
   explicit_next (marked_nothing e d) = end_next d
 
-  document_next : {h k j : ℕ} {d : Document} {cs : List CommentValue} → AnyDocument t h k j d cs → LineOrEnd t j
+  pub document_next : {h k j : ℕ} {d : Document} {cs : List CommentValue} → AnyDocument t h k j d cs → LineOrEnd t j
   document_next (bare_document n c) = block_ends n.derived
   document_next (explicit_document e) = explicit_next e
   document_next (directive_document ds e) = explicit_next e
 
-  part_next : {i k : ℕ} {cs : List CommentValue} → LineOrEnd t i → PrefixPart t i k cs → LineOrEnd t k
+  pub part_next : {i k : ℕ} {cs : List CommentValue} → LineOrEnd t i → PrefixPart t i k cs → LineOrEnd t k
   part_next l (order_mark e) = inl (after_mark (line_of l (omega arith)) e)
   part_next l (prefix_comment c) = rows_next l (lines_rows (chain_one c))
 
-  parts_next : {i k : ℕ} {cs : List CommentValue} → LineOrEnd t i → Prefixes t i k cs → LineOrEnd t k
+  pub parts_next : {i k : ℕ} {cs : List CommentValue} → LineOrEnd t i → Prefixes t i k cs → LineOrEnd t k
   parts_next l done = l
   parts_next l (step s c) = parts_next (part_next l s) c
 
-  suffixes_next : {i k : ℕ} {cs : List CommentValue} → Suffixes t i k cs → LineOrEnd t k
+  pub suffixes_next : {i k : ℕ} {cs : List CommentValue} → Suffixes t i k cs → LineOrEnd t k
   suffixes_next (last_suffix e d) = end_next d
   suffixes_next (more_suffixes e d s) = suffixes_next s
 

@@ -1,0 +1,111 @@
+-- Formatting keeps the comments of a text at the same places.
+use Rattle.std.proofs.Common.{◌≡◌, ℕ, Bool, true, false, ◌&&◌, List, [], ◌∷◌, map, refl, sym, ap, ◌∙◌, arith}
+use Rattle.std.specs.Prelude.{if◌then◌else◌, zip}
+use Rattle.std.specs.List.{list_all}
+use Rattle.std.specs.Str.{IsUtf8}
+use Rattle.yf_chars.specs.Class.{is_white}
+use Rattle.yf_comments.specs.Comment.{CommentValue}
+use Rattle.yf_events.proofs.TreeLemmas.{trees_unique}
+use Rattle.yf_events.specs.Reading.{documents_before, leaves_before}
+use Rattle.yf_events.specs.Tree.{DocumentTree, TreesOf}
+use Rattle.yf_events.specs.declared.lists.Lists.{Lists}
+use Rattle.yf_stream.proofs.LawsHold.{readings_are_one}
+use Rattle.yf_stream.specs.ReadingOf.{ReadingOf, leaf_lines}
+use Rattle.yf_emit.specs.declared.style.Style.{Style}
+use Rattle.yf_emit.specs.Beginnings.{documents_begin}
+use Rattle.yf_emit.specs.Decorated.{rows_of}
+use Rattle.yf_emit.specs.Format.{Formats}
+use Rattle.yf_emit.specs.FormatLaws.{FormatsKeepComments}
+use Rattle.yf_emit.specs.Layout.{Source, source_of, trimmed}
+use Rattle.yf_emit.specs.Normal.{normal_document, setting_of}
+use Rattle.yf_emit.specs.Rows.{Row}
+use Rattle.yf_emit.specs.SameComments.{Remembered, kept}
+use Rattle.yf_emit.specs.Steps.{told}
+use Rattle.yf_emit.proofs.CommentsTold.{counts_told}
+use Rattle.yf_emit.proofs.DocumentTrails.{leaves_of}
+use Rattle.yf_emit.proofs.DocumentsFlow.{stream_flow}
+use Rattle.yf_emit.proofs.DocumentsFound.{document_starts, document_steps, documents_are, documents_found}
+use Rattle.yf_emit.proofs.FoundAgain.{told_by}
+use Rattle.yf_emit.proofs.LeavesTold.{laid_trees, leaves_told}
+use Rattle.yf_emit.proofs.PrintedSteps.{trimmed_by}
+use Rattle.yf_emit.proofs.RowLeaves.{leaves_on}
+use Rattle.yf_emit.proofs.SourceStands.{normal_of, normal_rows, source_stands}
+use Rattle.yf_emit.proofs.StartsBefore.{starts_before}
+
+-- Documents of the source.
+
+trimmed_alike : (m n : ℕ → ℕ) (cs : List CommentValue) → ((o : ℕ) → m o ≡ n o) → trimmed_by m cs ≡ trimmed_by n cs
+trimmed_alike m n [] e = refl
+trimmed_alike m n (c ∷ cs) e = ap (λ z. (trimmed c.text, z) ∷ trimmed_by m cs) (e c.offset) ∙ ap (λ z. (trimmed c.text, n c.offset) ∷ z) (trimmed_alike m n cs e)
+
+documents_of_source : (t : List ℕ) (s : Style) (r : Lists) (trees : List DocumentTree) → IsUtf8 t → ReadingOf t r → TreesOf r trees
+    → told 0 (document_steps (normal_of t s r trees) (normal_rows t s r trees)) ≡ trimmed_by (documents_before r) r.comments
+documents_of_source t s r trees u a of_reading =
+    let w = source_stands t s r trees u a of_reading in
+    let m : Lists = normal_of t s r trees in
+    let all : List Row = normal_rows t s r trees in
+    let c : Source = source_of m all in
+    let same : leaves_of a.trees ≡ leaves_on all = ap leaves_of (trees_unique r a.trees trees a.of_reading of_reading) ∙ sym w.leaves_are in
+    let notes : r.on_leaf_line ≡ leaf_lines a.lines (leaves_on all) r.comments = a.notes ∙ ap (λ ls. leaf_lines a.lines ls r.comments) same in
+    let flow = stream_flow a.lines a.are_lines c r.comments (ap (zip r.comments) notes) w.sign u (setting_of r s) refl true (omega arith) w.stand w.upright in
+    counts_told documents_begin m all (document_starts r.documents) w.noted w.order flow
+    ∙ trimmed_alike (starts_before (document_starts r.documents)) (documents_before r) r.comments (λ o. sym (documents_are r.documents o))
+
+documents_told : (t u : List ℕ) (s : Style) (q : Lists) → IsUtf8 t → (f : Formats t s u) → ReadingOf u q
+    → told_by (documents_before q) q.comments ≡ trimmed_by (documents_before f.reading) f.reading.comments
+documents_told t u s q utf8 f a =
+    let trees : List DocumentTree = map (normal_document t (setting_of f.reading s)) f.is_normal.trees in
+    documents_found t u s q utf8 f a
+    ∙ (ap (λ xs. told 0 (document_steps f.normal (rows_of f.normal s xs))) (laid_trees f)
+    ∙ (ap (λ (m : Lists). told 0 (document_steps m (rows_of m s trees))) f.is_normal.is
+    ∙ documents_of_source t s f.reading f.is_normal.trees utf8 f.reads f.is_normal.of_reading))
+
+-- Texts without the white space that ends them.
+
+either_way : (a b : Bool) {x y : List ℕ} → a ≡ b → (b ≡ false → x ≡ y) → (if a then [] else x) ≡ (if b then [] else y)
+either_way true true e f = refl
+either_way false false e f = f refl
+either_way true false e f = absurd cc
+either_way false true e f = absurd cc
+
+whites_left : (x : List ℕ) → list_all is_white (trimmed x) ≡ list_all is_white x
+whites_left [] = refl
+whites_left (b ∷ bs) = go (is_white b && list_all is_white bs) refl (whites_left bs) where
+  go : (w : Bool) → (is_white b && list_all is_white bs) ≡ w → list_all is_white (trimmed bs) ≡ list_all is_white bs → list_all is_white (if w then [] else b ∷ trimmed bs) ≡ w
+  go true e f = refl
+  go false e f = ap (λ z. is_white b && z) f ∙ e
+
+trimmed_twice : (x : List ℕ) → trimmed (trimmed x) ≡ trimmed x
+trimmed_twice [] = refl
+trimmed_twice (b ∷ bs) = go (is_white b && list_all is_white bs) refl (trimmed_twice bs) where
+  go : (w : Bool) → (is_white b && list_all is_white bs) ≡ w → trimmed (trimmed bs) ≡ trimmed bs → trimmed (if w then [] else b ∷ trimmed bs) ≡ (if w then [] else b ∷ trimmed bs)
+  go true e f = refl
+  go false e f =
+      ap (λ z. if is_white b && z then [] else b ∷ trimmed (trimmed bs)) (whites_left bs)
+      ∙ (ap (λ z. if z then [] else b ∷ trimmed (trimmed bs)) e ∙ ap (λ z. b ∷ z) f)
+
+-- Both tellings together.
+
+both_told : (d n e m : ℕ → ℕ) (qs rs : List CommentValue) → told_by d qs ≡ trimmed_by e rs → told_by n qs ≡ trimmed_by m rs
+    → map {B = Remembered} (λ (c : CommentValue). (trimmed c.text, (d c.offset, n c.offset))) qs ≡ map {B = Remembered} (λ (c : CommentValue). (trimmed c.text, (e c.offset, m c.offset))) rs
+both_told d n e m [] [] x y = refl
+both_told d n e m [] (r ∷ rs) x y = absurd cc
+both_told d n e m (q ∷ qs) [] x y = absurd cc
+both_told d n e m (q ∷ qs) (r ∷ rs) x y =
+    let others : told_by d qs ≡ trimmed_by e rs = cc in
+    let further : told_by n qs ≡ trimmed_by m rs = cc in
+    let documents : ◌≡◌ {A = List ℕ × ℕ} (q.text, d q.offset) (trimmed r.text, e r.offset) = cc in
+    let leaves : ◌≡◌ {A = List ℕ × ℕ} (q.text, n q.offset) (trimmed r.text, m r.offset) = cc in
+    let text : trimmed q.text ≡ trimmed r.text = ap (λ (w : List ℕ × ℕ). trimmed w.0) documents ∙ trimmed_twice r.text in
+    let one : d q.offset ≡ e r.offset = ap (λ (w : List ℕ × ℕ). w.1) documents in
+    let two : n q.offset ≡ m r.offset = ap (λ (w : List ℕ × ℕ). w.1) leaves in
+    ap (λ w. (w, (d q.offset, n q.offset)) ∷ map {B = Remembered} (λ (c : CommentValue). (trimmed c.text, (d c.offset, n c.offset))) qs) text
+    ∙ (ap (λ w. (trimmed r.text, (w, n q.offset)) ∷ map {B = Remembered} (λ (c : CommentValue). (trimmed c.text, (d c.offset, n c.offset))) qs) one
+    ∙ (ap (λ w. (trimmed r.text, (e r.offset, w)) ∷ map {B = Remembered} (λ (c : CommentValue). (trimmed c.text, (d c.offset, n c.offset))) qs) two
+    ∙ ap (λ w. (trimmed r.text, (e r.offset, m r.offset)) ∷ w) (both_told d n e m qs rs others further)))
+
+pub formats_comments : FormatsKeepComments
+formats_comments t u s utf8 f r q a b =
+    both_told (documents_before q) (leaves_before q) (documents_before f.reading) (leaves_before f.reading) q.comments f.reading.comments
+    (documents_told t u s q utf8 f b) (leaves_told t u s q utf8 f b)
+    ∙ sym (ap kept (readings_are_one t f.reading r f.reads a))

@@ -1,0 +1,24 @@
+-- Steps of rows by what is counted on each: leaves with characters, or the beginnings of documents.
+use Rattle.std.specs.Prelude.{List, [], ◌∷◌, ◌++◌}
+use Rattle.yf_emit.specs.Carried.{carried_texts}
+use Rattle.yf_emit.specs.Decorated.{Deco, first, after}
+use Rattle.yf_emit.specs.Rows.{Row, Ending, at_text_start, at_document_start, at_kept_tail, before_node, anywhere}
+use Rattle.yf_emit.specs.Steps.{Step, a_leaf, comment_steps, leaf_steps}
+
+abbrev pub steps_with : (Row → List Step) → List Row → List Deco → List Step
+steps_with f [] ds = []
+steps_with f (x ∷ xs) ds = f x ++ (comment_steps (carried_texts (first ds)) ++ steps_with f xs (after ds))
+
+abbrev pub leaves_begin : Row → List Step
+leaves_begin row = leaf_steps row.leaves
+
+-- a document begins at its `---`, which is counted as a leaf is
+abbrev pub begins_behind : Ending → List Step
+begins_behind at_text_start = []
+begins_behind at_document_start = a_leaf ∷ []
+begins_behind at_kept_tail = []
+begins_behind before_node = []
+begins_behind anywhere = []
+
+abbrev pub documents_begin : Row → List Step
+documents_begin row = begins_behind row.ending

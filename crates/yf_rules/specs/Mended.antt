@@ -1,0 +1,21 @@
+-- The law that what formatting gives has nothing at fault that the house style fixes, for each rule by itself.
+use Rattle.std.specs.Prelude.{◌≡◌, ℕ, true, List, []}
+use Rattle.std.specs.Str.{IsUtf8}
+use Rattle.yf_emit.specs.Format.{Formats}
+use Rattle.yf_emit.specs.declared.style.Style.{Style}
+use Rattle.yf_events.specs.declared.lists.Lists.{Lists}
+use Rattle.yf_lines.specs.Lines.{AreLines, Table}
+use Rattle.yf_rules.specs.Definition.{RuleDefinition}
+use Rattle.yf_stream.specs.ReadingOf.{ReadingOf}
+
+-- the text of the table is what formatting some text gives in this style, these are its lines, and r is its reading
+pub record IsFormatted (src : Table) (r : Lists) (s : Style) : Type 0 where
+  pub source : List ℕ
+  pub utf8 : IsUtf8 source
+  pub formats : Formats source s src.text
+  pub lines : AreLines src.text src.lines
+  pub reads : ReadingOf src.text r
+
+-- In what formatting gives, the rule finds nothing, if the house style fixes what it finds.
+abbrev pub FormatsAreMended : RuleDefinition → Type 0
+FormatsAreMended rule = rule.fixable ≡ true → (src : Table) (r : Lists) (s : Style) → IsFormatted src r s → (offsets : List ℕ) → rule.faults src r s offsets → offsets ≡ []
