@@ -61,19 +61,19 @@ column_more {t} {m} {q} sign n a e low high s = record {
       ⊎_elim (λ (b : k < m). (a.least k b, a.most k b))
       (λ (b : m ≤ k). ⊎_elim (λ (c : m < k). further c) (λ (c : k ≤ m). here_at c b) (cases_lt m k))
       (cases_lt k m) where
-    here_at : k ≤ m → m ≤ k → (32 ≤ code t (a.line + k)) × (code t (a.line + k) < 127)
-    here_at c b =
-        let f : q ≡ a.line + m = a.is in
-        let g : q ≡ a.line + k = omega (arith, f, c, b) in
-        let h : code t (a.line + k) ≡ sign = ap (code t) (sym g) ∙ e in
-        (omega (arith, h, low), omega (arith, h, high))
+        here_at : k ≤ m → m ≤ k → (32 ≤ code t (a.line + k)) × (code t (a.line + k) < 127)
+        here_at c b =
+            let f : q ≡ a.line + m = a.is in
+            let g : q ≡ a.line + k = omega (arith, f, c, b) in
+            let h : code t (a.line + k) ≡ sign = ap (code t) (sym g) ∙ e in
+            (omega (arith, h, low), omega (arith, h, high))
 
-    further : m < k → (32 ≤ code t (a.line + k)) × (code t (a.line + k) < 127)
-    further c =
-        let f : q ≡ a.line + m = a.is in
-        let g : q + 1 + (k - (m + 1)) ≡ a.line + k = omega (arith, f, c) in
-        let h : code t (a.line + k) ≡ 32 = ap (code t) (sym g) ∙ s.each (k - (m + 1)) (omega (arith, l, c)) in
-        (omega (arith, h), omega (arith, h))
+        further : m < k → (32 ≤ code t (a.line + k)) × (code t (a.line + k) < 127)
+        further c =
+            let f : q ≡ a.line + m = a.is in
+            let g : q + 1 + (k - (m + 1)) ≡ a.line + k = omega (arith, f, c) in
+            let h : code t (a.line + k) ≡ 32 = ap (code t) (sym g) ∙ s.each (k - (m + 1)) (omega (arith, l, c)) in
+            (omega (arith, h), omega (arith, h))
 
 -- Entries.
 

@@ -92,14 +92,14 @@ module _ {t : List ℕ} (u : IsUtf8 t) {m o : ℕ} (a : ColumnAt t m o) where
       let far = chain_forward (one_functional t is_char) c in
       both (omega (arith, is, far, none)) (chars_past u no_mark_at (marks_order t s j marks) run upto c))
       (cases_lt 0 m) where
-    both : j ≤ a.line → a.line ≤ j → a.line ≡ j
-    both f g = omega (arith, f, g)
+        both : j ≤ a.line → a.line ≤ j → a.line ≡ j
+        both f g = omega (arith, f, g)
 
-    upto : a.line ≤ o
-    upto = let is = a.is in omega (arith, is)
+        upto : a.line ≤ o
+        upto = let is = a.is in omega (arith, is)
 
-    no_mark_at : code t j ≢ 0xFEFF
-    no_mark_at e = true≢false (sym (code_mark t j e) ∙ marks.stops)
+        no_mark_at : code t j ≢ 0xFEFF
+        no_mark_at e = true≢false (sym (code_mark t j e) ∙ marks.stops)
 
   column_in : {s c : ℕ} {y : List ℕ} → s ≤ a.line → Many t is_mark s a.line y → ColumnOf t s o c → c ≡ m + 1
   column_in {s} {y = y} l run (among_marks {j = j} marks n) =
@@ -128,10 +128,10 @@ module _ {t : List ℕ} (u : IsUtf8 t) {m o : ℕ} (a : ColumnAt t m o) where
         column_held k l (subst (λ w. slice_get w k ≡ Some l) same e) h d
     column_place (behind_lines are e new) =
         ⊎_elim (λ (some : 0 < m). absurd (ended some new)) (λ (none : m ≤ 0). omega (arith, none)) (cases_lt 0 m) where
-      ended : 0 < m → NewLine t → ⊥
-      ended some (of_empty n) = let is = a.is in omega (arith, some, n, is, e)
-      ended some (of_break b) =
-          let is = a.is in
-          let last = at_offset (length t - 1) (omega (arith, some, is, e)) (omega (arith, some, is, e)) in
-          let low = last.0 in
-          ⊎_elim (λ (f : code t (length t - 1) ≡ 10). omega (arith, f, low)) (λ (f : (code t (length t - 1) ≡ 13) × (code t (length t) ≢ 10)). let g = f.0 in omega (arith, g, low)) (break_end b)
+          ended : 0 < m → NewLine t → ⊥
+          ended some (of_empty n) = let is = a.is in omega (arith, some, n, is, e)
+          ended some (of_break b) =
+              let is = a.is in
+              let last = at_offset (length t - 1) (omega (arith, some, is, e)) (omega (arith, some, is, e)) in
+              let low = last.0 in
+              ⊎_elim (λ (f : code t (length t - 1) ≡ 10). omega (arith, f, low)) (λ (f : (code t (length t - 1) ≡ 13) × (code t (length t) ≢ 10)). let g = f.0 in omega (arith, g, low)) (break_end b)
