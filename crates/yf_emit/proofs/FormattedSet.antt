@@ -1,12 +1,12 @@
 -- The trees of the reading of a formatted text are set: the entries of each block collection and the content of each block scalar stand where they are to.
-use Rattle.std.proofs.Common.{◌≡◌, ℕ, suc, ◌+◌, Bool, true, false, List, [], ◌∷◌, ◌++◌, length, map, flat_map, Option, Some, None, refl, sym, ap, ◌∙◌, subst, append_assoc}
+use Rattle.std.proofs.Common.{◌≡◌, ℕ, suc, ◌+◌, List, [], ◌∷◌, ◌++◌, length, map, flat_map, Option, Some, None, refl, sym, ap, ◌∙◌, subst, append_assoc}
 use Rattle.std.specs.Str.{IsUtf8}
 use Rattle.yf_chars.specs.Class.{is_white_or_end}
 use Rattle.yf_chars.specs.Text.{code}
 use Rattle.std.specs.Prelude.{is_some, not, ◌&&◌, if◌then◌else◌}
 use Rattle.yf_events.specs.Alike.{Alike, alike_scalars, alike_aliases, alike_sequences, alike_mappings, AlikeItems, alike_nothing, alike_item, AlikePairs, alike_no_pairs, alike_pair}
 use Rattle.yf_events.specs.Event.{Placed, document_starts, document_ends, stream_starts, stream_ends, scalar_node}
-use Rattle.yf_events.specs.Tree.{Node, scalar, alias, sequence, mapping, Items, no_items, item, Pairs, no_pairs, pair, DocumentTree, TreesOf, unplaced, flat, flat_document, flat_stream, is_block_collection, is_sequence, standing}
+use Rattle.yf_events.specs.Tree.{Node, scalar, Items, Pairs, DocumentTree, TreesOf, unplaced, flat, flat_document, standing}
 use Rattle.yf_events.specs.declared.document.Doc.{Doc}
 use Rattle.yf_events.specs.declared.event.Entry.{Entry}
 use Rattle.yf_events.specs.declared.lists.Lists.{Lists}
@@ -23,8 +23,8 @@ use Rattle.yf_emit.specs.Normal.{is_implicit, value_entries}
 use Rattle.yf_emit.proofs.AlikeLemmas.{same_implicit, same_sequence}
 use Rattle.yf_emit.proofs.FormatsRead.{formats_laid}
 use Rattle.yf_emit.proofs.HeldLemmas.{ScalarAt}
-use Rattle.yf_emit.proofs.SetMeant.{BlockAt, block_at, SetAt, SetDone}
-use Rattle.yf_emit.proofs.SetNodes.{Blockless, BlocklessItems, BlocklessPairs, ColumnAt, entries_behind, EntryOn, Questioned, SetDocuments, no_set_documents, set_document, SetItems, no_set_items, set_item, SetNode, set_line, set_scalar, set_sequence, set_mapping, SetPairs, no_set_pairs, set_pair, Unquestioned}
+use Rattle.yf_emit.proofs.SetMeant.{BlockAt, block_at, SetAt}
+use Rattle.yf_emit.proofs.SetNodes.{Blockless, BlocklessItems, BlocklessPairs, ColumnAt, entries_behind, EntryOn, Questioned, SetDocuments, no_set_documents, set_document, SetItems, no_set_items, set_item, set_line, set_scalar, set_sequence, set_mapping, SetPairs, no_set_pairs, set_pair, Unquestioned}
 use Rattle.yf_emit.proofs.SetStreams.{SetAll, none_set, some_set}
 
 -- Kept nodes.

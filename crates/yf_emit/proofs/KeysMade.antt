@@ -2,11 +2,11 @@
 use Rattle.std.proofs.Common.{◌≡◌, ℕ, max, ◌+◌, ◌≤◌, pos, Bool, true, false, List, [], ◌∷◌, ◌++◌, length, Option, Some, None, refl, sym, ap, ◌∙◌, subst, arith, append_assoc, append-nil, length-append, true≢false}
 use Rattle.std.specs.Prelude.{not, is_some}
 use Rattle.std.specs.Str.{IsUtf8, chars}
-use Rattle.std.proofs.lemmas.Str.{chars-append, IsUtf8-between}
+use Rattle.std.proofs.lemmas.Str.{chars-append}
 use Rattle.yf_chars.specs.declared.context.Ctx.TheVariants.{BlockOut, BlockKey}
 use Rattle.yf_chars.specs.Text.{code}
 use Rattle.yf_lines.specs.Basic.{LineStart}
-use Rattle.yf_lines.proofs.RestLemmas.{Rest, rest_spaces, rest_stands, rest_text, slice_back}
+use Rattle.yf_lines.proofs.RestLemmas.{Rest, rest_spaces, rest_text}
 use Rattle.yf_comments.specs.Comment.{CommentValue}
 use Rattle.yf_comments.proofs.GapLinesLemmas.{texts}
 use Rattle.yf_comments.proofs.SpaceLemmas.{space_in_line}

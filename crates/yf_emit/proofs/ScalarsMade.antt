@@ -20,20 +20,17 @@ use Rattle.yf_block_scalar.specs.declared.header.Header.{Header}
 use Rattle.yf_block_scalar.proofs.PlacedScalar.{placed}
 use Rattle.yf_props.specs.Props.{PropsValue, no_props}
 use Rattle.yf_props.specs.Written.{IsProps, props_bytes, tag_offset_at}
-use Rattle.yf_events.specs.Alike.{alike_scalars}
-use Rattle.yf_events.specs.Event.{scalar_node}
 use Rattle.yf_events.specs.declared.event.ScalarStyle.{ScalarStyle}
 use Rattle.yf_events.specs.declared.event.ScalarStyle.TheVariants.{Plain, Single, Double, Literal, Folded}
 use Rattle.yf_events.specs.declared.event.Span.{Span}
 use Rattle.yf_events.specs.Tree.{Standing, scalar, spans_of_leaf}
 use Rattle.yf_grammar.specs.Grammar.{Derives, BlockNode}
 use Rattle.yf_grammar.specs.Grammar.Derives.{a_block_scalar, a_block_scalar_with}
-use Rattle.yf_grammar.specs.Meaning.{Meaning, behind, first_with, with_props, from_to}
+use Rattle.yf_grammar.specs.Meaning.{Meaning, behind, with_props}
 use Rattle.yf_grammar.proofs.CommentOrder.{ascend_after, scalar_ascends}
 use Rattle.yf_grammar.proofs.FlowBack.{visible_line}
 use Rattle.yf_grammar.proofs.LeafBack.{behind_nothing, propertied}
 use Rattle.yf_grammar.proofs.MeantLemmas.{texts_with_props}
-use Rattle.yf_grammar.proofs.ScalarPlaced.{ScalarNode, scalar_event, scalar_placed}
 use Rattle.yf_emit.specs.BlockLines.{begins_with_space, block_lines, chomping_sign, content_lines, digit_text, final_feeds, header_text, is_kept_tail, line_at, style_sign}
 use Rattle.yf_emit.specs.BlockValues.{is_folded, chomp_of, digit_of, header_of}
 use Rattle.yf_emit.specs.Carried.{AreTrails, IsDeco, AreDecos, carried_texts, CalmBody}
@@ -50,14 +47,13 @@ use Rattle.yf_emit.proofs.CollectionsMade.{same_props, some_props}
 use Rattle.yf_emit.proofs.HeldLemmas.{held_scalar}
 use Rattle.yf_emit.proofs.SetMeant.{SetMeant, set_block}
 use Rattle.yf_emit.proofs.CollectionsMade.{comments_with_props, same_props, some_props}
-use Rattle.yf_emit.proofs.FoundNodes.{FoundNode, scalar_rows}
 use Rattle.yf_emit.proofs.NodePlaces.{apart_at, both_behind, block_no_key}
 use Rattle.yf_emit.proofs.NodesMade.{Stood, NodeMade, Claim, some_rows}
-use Rattle.yf_emit.proofs.PlacedRows.{none_inside, one_inside, PlacedRow, AtRow, RowsIn, last_row}
+use Rattle.yf_emit.proofs.PlacedRows.{RowsIn, last_row}
 use Rattle.yf_emit.proofs.RowEnds.{trails_at, first_deco}
 use Rattle.yf_emit.proofs.ScalarFound.{bare_found, leaf_row, leaf_stands, props_found}
 use Rattle.yf_emit.proofs.ScalarHeld.{AllSigns, behind_signs, signs_append, ScalarReached, passed_header, scalar_comments, scalar_reached}
-use Rattle.yf_emit.proofs.ScalarStands.{ScalarMade, style_back, bare_scalar, props_scalar}
+use Rattle.yf_emit.proofs.ScalarStands.{ScalarMade, bare_scalar, props_scalar}
 use Rattle.yf_emit.proofs.StepsStand.{MeaningLaid, laid_scalar, laid_scalar_with}
 use Rattle.yf_emit.proofs.WellSet.{AllSet}
 

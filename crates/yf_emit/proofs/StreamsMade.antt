@@ -1,13 +1,11 @@
 -- A stream of documents from its rows.
-use Rattle.std.proofs.Common.{◌≡◌, ℕ, ◌+◌, max, ◌<◌, ◌≤◌, Bool, true, false, List, [], ◌∷◌, ◌++◌, length, map, inl, codes, drop, Option, refl, sym, ap, ◌∙◌, subst, arith, append_assoc, length-drop}
+use Rattle.std.proofs.Common.{◌≡◌, ℕ, ◌+◌, max, ◌<◌, ◌≤◌, true, false, List, [], ◌∷◌, ◌++◌, length, map, inl, codes, refl, sym, ap, ◌∙◌, subst, arith, append_assoc}
 use Rattle.std.specs.Prelude.{is_some}
 use Rattle.std.specs.Str.{IsUtf8}
-use Rattle.yf_chars.specs.Chain.{Chain}
-use Rattle.yf_chars.specs.Chain.Chain.{done, step}
+use Rattle.yf_chars.specs.Chain.Chain.{done}
 use Rattle.yf_lines.specs.Basic.LineStart.{at_text}
 use Rattle.yf_lines.proofs.RestLemmas.{Rest, rest_start}
 use Rattle.yf_comments.specs.Comment.{CommentValue}
-use Rattle.yf_comments.specs.Comments.{CommentLine}
 use Rattle.yf_comments.specs.GapLines.{AreGapLines, remarks_of}
 use Rattle.yf_comments.proofs.GapLinesLemmas.{texts, texts_append, gap_at}
 use Rattle.yf_comments.proofs.LineEndLemmas.{lines_rows}
@@ -16,9 +14,8 @@ use Rattle.yf_events.specs.declared.document.Doc.{Doc}
 use Rattle.yf_events.specs.Tree.{DocumentTree}
 use Rattle.yf_grammar.specs.Meant.{tall}
 use Rattle.yf_grammar.proofs.CommentOrder.{Ascend, end_ascends, rows_ascend}
-use Rattle.yf_stream.specs.Stream.{Document, document_of, Documents, only_comments, with_document, with_comments, AnyDocument, Prefixes, StreamRest}
+use Rattle.yf_stream.specs.Stream.{Document, document_of, Documents, only_comments, with_document, with_comments, AnyDocument, StreamRest}
 use Rattle.yf_stream.specs.Stream.AnyDocument.{explicit_document, directive_document}
-use Rattle.yf_stream.specs.Stream.PrefixPart.{prefix_comment}
 use Rattle.yf_stream.specs.Stream.Stream.{begins_with_document, without_document}
 use Rattle.yf_stream.specs.Stream.StreamRest.{stream_ended, past_suffixes_and_document, past_explicit}
 use Rattle.yf_stream.specs.Stream.Suffixes.{last_suffix}
@@ -30,8 +27,8 @@ use Rattle.yf_emit.specs.FitDocuments.{FitDirective, FitDirectives, fit_directiv
 use Rattle.yf_emit.specs.Fits.{Fit}
 use Rattle.yf_emit.specs.LayoutLaws.{StreamMade}
 use Rattle.yf_emit.specs.Normal.{Setting, root_spot}
-use Rattle.yf_emit.specs.Rows.{Row, plain_row, directive_row, start_row, end_rows, beginning_at, joined_words, rows, document_rows, stream_rows}
-use Rattle.yf_emit.specs.Steps.{Step, comment_steps, steps_in}
+use Rattle.yf_emit.specs.Rows.{Row, plain_row, directive_row, start_row, joined_words, rows, document_rows, stream_rows}
+use Rattle.yf_emit.specs.Steps.{comment_steps, steps_in}
 use Rattle.yf_emit.proofs.DecoratedLemmas.{lines_append}
 use Rattle.yf_emit.proofs.DocumentsBegun.{comments_begun, document_begun, documents_begun, explicit_begun, starts_in}
 use Rattle.yf_emit.proofs.DocumentsHeld.{all_events, comments_set, documents_held, held_events}
@@ -45,7 +42,7 @@ use Rattle.yf_emit.proofs.PlacedRows.{none_inside, PlacedRow, RowsIn, row_before
 use Rattle.yf_emit.proofs.RowEnds.{row_end, first_deco, after_decos, past_decos, comments_append, calm_append}
 use Rattle.yf_emit.proofs.RowTexts.{row_texts}
 use Rattle.yf_emit.proofs.SetMeant.{SetDone}
-use Rattle.yf_emit.proofs.SetStreams.{SetAll, none_set, some_set, document_set, documents_set}
+use Rattle.yf_emit.proofs.SetStreams.{SetAll, none_set, document_set, documents_set}
 use Rattle.yf_emit.proofs.StepsStand.{Stand, nothing_stands, stand_after, stand_join, comments_stand, EventsLaid, events_behind}
 use Rattle.yf_emit.proofs.TreesMade.{node_claim}
 use Rattle.yf_emit.proofs.StreamParts.{beside_tree, ended_at, head_rows, meant_document, prefixes_of, texts_with_document, documents_with, texts_with_comments, same_documents, laid_document, DocumentsLaid, no_documents_laid, laid_with_comments, documents_laid}

@@ -1,5 +1,5 @@
 -- An offset that stands so many characters of one byte behind a line's start has that column, in a text whose lines all end with a break.
-use Rattle.std.proofs.Common.{◌≡◌, ◌≢◌, ℕ, suc, ◌+◌, ◌-◌, ◌<◌, ◌≤◌, ◌⊎◌, inl, inr, ⊎_elim, Bool, true, false, true≢false, List, [], ◌∷◌, length, Some, refl, sym, ap, ◌∙◌, subst, arith}
+use Rattle.std.proofs.Common.{◌≡◌, ◌≢◌, ℕ, ◌+◌, ◌-◌, ◌<◌, ◌≤◌, ◌⊎◌, ⊎_elim, true, false, true≢false, List, length, Some, sym, ◌∙◌, subst, arith}
 use Rattle.std.specs.Prelude.{slice_get}
 use Rattle.std.specs.Str.{IsUtf8, IsCharBoundary}
 use Rattle.std.proofs.lemmas.Bool.{cases_Bool, cases_lt, ltb-true}
@@ -9,7 +9,7 @@ use Rattle.yf_chars.specs.Chain.Chain.{done, step}
 use Rattle.yf_chars.specs.Chain.One.{one}
 use Rattle.yf_chars.proofs.ChainLemmas.{chain_forward, one_functional}
 use Rattle.yf_chars.proofs.TextLemmas.{boundary_from_begins, byte_from_code, code-nowhere, next_later, next-mark, reads_ascii, reads_real}
-use Rattle.yf_lines.specs.Basic.{Break, LineStart}
+use Rattle.yf_lines.specs.Basic.{LineStart}
 use Rattle.yf_lines.specs.Basic.LineStart.{at_text, after_break, after_mark}
 use Rattle.yf_lines.specs.Lines.{AreLines, ColumnOf, Holds, Marks, NewLine, PlaceOf, is_char, is_mark}
 use Rattle.yf_lines.specs.Lines.ColumnOf.{among_marks, behind_marks}

@@ -15,8 +15,8 @@ use Rattle.yf_props.specs.Props.{PropsValue}
 use Rattle.yf_events.specs.Event.{EventValue, scalar_node}
 use Rattle.yf_events.specs.declared.event.ScalarStyle.{ScalarStyle}
 use Rattle.yf_events.specs.declared.event.Span.{Span}
-use Rattle.yf_events.specs.Tree.{Standing, Node, scalar, standing}
-use Rattle.yf_emit.specs.BlockLines.{block_lines, content_lines, final_feeds}
+use Rattle.yf_events.specs.Tree.{Node, scalar, standing}
+use Rattle.yf_emit.specs.BlockLines.{content_lines, final_feeds}
 use Rattle.yf_emit.specs.ContentStart.{content_start}
 use Rattle.yf_emit.specs.Decorated.{body_then}
 use Rattle.yf_emit.proofs.HeldLemmas.{ScalarAt}
