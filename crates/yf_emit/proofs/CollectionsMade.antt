@@ -31,6 +31,7 @@ use Rattle.yf_emit.proofs.NodePlaces.{NodeAt, entries_at, propertied_at}
 use Rattle.yf_emit.proofs.NodesMade.{Stood, NodeMade, Claim, some_rows}
 use Rattle.yf_emit.proofs.PlacedRows.{none_inside, PlacedRow, AtRow, EndsRow, RowsIn, row_before}
 use Rattle.yf_emit.proofs.RowEnds.{row_end, end_follows, first_deco, after_decos}
+use Rattle.yf_emit.proofs.SetMeant.{column_start, set_behind, set_collection, set_propertied}
 use Rattle.yf_emit.proofs.StepsStand.{MeaningLaid, laid_after, laid_behind, laid_collection, laid_collection_with}
 
 -- Properties are written as they are spelled.
@@ -101,9 +102,9 @@ row_before_rows {t} {ps = ps} {ds = ds} {k = k} {j = j} {cs = cs} {r = r} (begin
 -- A collection without properties.
 
 pub bare_claim : {s : Setting} {x : Node} {spot : Spot} {es : List Row} {sequence : Bool} {bound : ℕ} {Q : List ℕ → Meaning → List PlacedRow → Type 0} → begins_below x ≡ true → is_sequence x ≡ sequence → tall x ≡ suc bound
-    → ((t : List ℕ) (i j : ℕ) (m : Meaning) (ps : List PlacedRow) → Q t m ps → FoundNode t s spot.entries x (collection sequence false i j m) ps) → EntriesMakes sequence spot.entries bound Q es → Claim s x spot es
+    → ((t : List ℕ) (i j : ℕ) (m : Meaning) (ps : List PlacedRow) → Q t m ps → FoundNode t s spot.entries x (collection sequence false i j m) ps) → EntriesMakes s sequence spot.entries bound Q es → Claim s x spot es
 bare_claim {s} {x} {spot} {es} {sequence} {bound} {Q} below kind high meant e = claim e.starts e where
-  made : {rs : List Row} → EntriesMakes sequence spot.entries bound Q rs → {t : List ℕ} (n : ℤ) (c : Ctx) (ds : List Deco) (r : List ℕ) (q : ℕ) → IsUtf8 t → Stood s x n c spot → AreDecos ds
+  made : {rs : List Row} → EntriesMakes s sequence spot.entries bound Q rs → {t : List ℕ} (n : ℤ) (c : Ctx) (ds : List Deco) (r : List ℕ) (q : ℕ) → IsUtf8 t → Stood s x n c spot → AreDecos ds
       → Calm rs ds r → Rest t q (inline_then rs ds r) → NodeMade t s n c spot.entries x rs ds q r
   made {rs} e {t} n c ds r q u stood a k w =
       let one = e.made ds r q u a k w in
@@ -121,10 +122,11 @@ bare_claim {s} {x} {spot} {es} {sequence} {bound} {Q} below kind high meant e = 
         placed = subst (λ z. RowsIn t rs one.found_rows ds q z one.place r) (sym (comments_collection sequence false q one.meaning.finish one.meaning)) one.placed;
         is = texts_collection sequence false q one.meaning.finish one.meaning ∙ one.is;
         laid = laid_collection sequence false q one.meaning.finish one.meaning one.laid;
+        set = set_collection sequence spot.entries q q one.meaning.finish one.meaning below one.set;
         held = held_collection sequence false q one.meaning.finish one.meaning rs ds r one.held;
       }
 
-  claim : {rs : List Row} → Begins spot.entries rs → EntriesMakes sequence spot.entries bound Q rs → Claim s x spot rs
+  claim : {rs : List Row} → Begins spot.entries rs → EntriesMakes s sequence spot.entries bound Q rs → Claim s x spot rs
   claim (begins f) e = some_rows (λ b. absurd (true≢false (sym below ∙ b))) (λ b. f) (record { made = made e })
 
 -- With properties on a line of their own.
@@ -133,7 +135,7 @@ module _ {s : Setting} {x : Node} {spot : Spot} {es : List Row} {sequence : Bool
     (below : begins_below x ≡ false) (kind : is_sequence x ≡ sequence) (high : tall x ≡ suc bound)
     (meant : (t : List ℕ) (o : Option ℕ) (f g i j : ℕ) (m : Meaning) (h : PlacedRow) (ps : List PlacedRow) → h.items ≡ [] → h.leaves ≡ [] → h.commented ≡ false → Q t m ps
     → FoundNode t s spot.entries x (with_props p o f g (collection sequence false i j m)) (h ∷ ps))
-    (e : EntriesMakes sequence spot.entries bound Q es) where
+    (e : EntriesMakes s sequence spot.entries bound Q es) where
   propertied_made : {t : List ℕ} (row : Row) → row.text ≡ props_bytes p → row.body ≡ [] → row.leaves ≡ [] → is_some row.key_comment ≡ false → (n : ℤ) (c : Ctx) (ds : List Deco) (r : List ℕ) (q : ℕ) → IsUtf8 t → Stood s x n c spot
       → AreDecos ds → Calm (row ∷ es) ds r → Rest t q (inline_then (row ∷ es) ds r) → NodeMade t s n c spot.entries x (row ∷ es) ds q r
   propertied_made {t} row text body none key n c ds r q u stood a k w =
@@ -180,6 +182,7 @@ module _ {s : Setting} {x : Node} {spot : Spot} {es : List Row} {sequence : Bool
         laid = subst (λ z. MeaningLaid q one.place (behind end.comments (with_props p offset q g inner)) (leaf_steps z ++ (comment_steps (carried_texts (first ds)) ++ steps_in es (after ds)))) (sym none)
             (laid_after (omega arith) (laid_behind end.comments (with_props p offset q g inner) (end_ascends end.end) end.is (omega arith)
             (laid_collection_with p offset q g sequence false (end.place + spot.entries) one.meaning.finish one.meaning one.laid)));
+        set = set_behind end.comments (set_propertied sequence p offset q g spot.entries (end.place + spot.entries) (end.place + spot.entries) one.meaning.finish one.meaning (column_start end.start spaces.0) one.set);
         held = held_behind end.comments (with_props p offset q g inner) row es ds r body
             (row_ended (first ds) (lines_then es (after ds) r) u (properties_behind u properties) (first_deco a) after_props.rest end.end)
             (held_collection_with p offset q g sequence false (end.place + spot.entries) one.meaning.finish one.meaning es (after ds) r one.held);

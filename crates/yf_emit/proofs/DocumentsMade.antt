@@ -44,6 +44,8 @@ use Rattle.yf_emit.proofs.NodePlaces.{below_at}
 use Rattle.yf_emit.proofs.NodesMade.{Stood, Claim, no_row, some_rows, noting_nothing}
 use Rattle.yf_emit.proofs.PlacedRows.{none_inside, one_inside, PlacedRow, AtRow, RowsIn, last_row, row_before, rows_in_append}
 use Rattle.yf_emit.proofs.RowEnds.{row_end, first_deco, after_decos}
+use Rattle.yf_emit.proofs.SetMeant.{column_start, SetDone, SetMeant, set_done, done_behind, done_empty}
+use Rattle.yf_emit.proofs.SetNodes.{ColumnAt}
 use Rattle.yf_emit.proofs.StepsStand.{Stand, stand_after, stand_join, comments_stand, MeaningLaid, laid_after, laid_behind, laid_empty}
 
 -- The `---` and the node after it.
@@ -64,6 +66,7 @@ pub record ExplicitMade (t : List ℕ) (s : Setting) (x : Node) (rs : List Row) 
   pub is : texts meaning.comments ≡ comments_in rs ds
   pub laid : MeaningLaid q place meaning (steps_in rs ds)
   pub held : Held t meaning rs ds r
+  pub set : SetDone t s.style 0 s.style.indent meaning.events
 
 -- the row of a `---`
 abbrev mark_row : ℕ → PlacedRow
@@ -141,6 +144,7 @@ explicit_made {t} {s} {x} row ds r q none bare width key (no_row m) free u a k w
       is = texts_noting (empty_node (q + 3)) end.comments ∙ (ap (λ z. z ++ texts end.comments) (texts_empty (q + 3)) ∙ (end.is ∙ sym (append-nil (carried_texts (first ds)))));
       laid = subst (λ z. MeaningLaid q end.place (noting (empty_node (q + 3)) end.comments) (leaf_steps z ++ (comment_steps (carried_texts (first ds)) ++ []))) (sym none)
           (laid_row (empty_node (q + 3)) end.comments [] (laid_empty (q + 3) (omega arith)) (end_ascends end.end) end.is);
+      set = done_empty (q + 3) end.comments;
       held = held_line (empty_node (q + 3)) end.comments row ds r bare (empty_silent (q + 3)) (row_ended (first ds) r u (three_behind 45 u (omega arith) (omega arith) w) (first_deco a) mark.1 end.end);
     }
 explicit_made {t} {s} {x} row ds r q none bare width key (some_rows {r = y} {rs = ys} f g m) lines u a k w =
@@ -169,6 +173,8 @@ explicit_made {t} {s} {x} row ds r q none bare width key (some_rows {r = y} {rs 
       is = texts_behind end.comments node.meaning ∙ (ap (λ z. z ++ texts node.meaning.comments) end.is ∙ ap (λ z. carried_texts (first ds) ++ z) node.is);
       laid = subst (λ z. MeaningLaid q node.place (behind end.comments node.meaning) (leaf_steps z ++ (comment_steps (carried_texts (first ds)) ++ steps_in (y ∷ ys) (after ds)))) (sym none)
           (laid_after (omega arith) (laid_behind end.comments node.meaning (end_ascends end.end) end.is (omega arith) node.laid));
+      set = done_behind end.comments node.meaning (set_done (λ b. subst (λ z. ColumnAt t z (end.place + y.column)) (g b) (column_start end.start spaces.0))
+          (subst (λ k. SetMeant t s.style 0 k (begins_below x) (end.place + y.column) node.meaning) (omega arith) node.set));
       held = held_behind end.comments node.meaning row (y ∷ ys) ds r bare
           (row_ended (first ds) (lines_then (y ∷ ys) (after ds) r) u (three_behind 45 u (omega arith) (omega arith) w) (first_deco a) mark.1 end.end) node.held;
     }

@@ -21,11 +21,12 @@ use Rattle.yf_emit.specs.Rows.{Row, joined}
 use Rattle.yf_emit.specs.Steps.{steps_in}
 use Rattle.yf_emit.proofs.DecoratedLemmas.{inline_append}
 use Rattle.yf_emit.proofs.HeldLemmas.{Held, held_both, held_entering}
-use Rattle.yf_emit.proofs.FoundNodes.{FoundItem, FoundPair, found_item, found_explicit}
+use Rattle.yf_emit.proofs.FoundNodes.{FoundItem, FoundPair, found_item, found_explicit, meant_of}
 use Rattle.yf_emit.proofs.LaidRows.{steps_append}
 use Rattle.yf_emit.proofs.NodesMade.{Stood, Claim, no_row, some_rows, sign_row, sign_made}
 use Rattle.yf_emit.proofs.PlacedRows.{PlacedRow, RowsIn, rows_in_append}
 use Rattle.yf_emit.proofs.RowEnds.{past_decos, comments_append, calm_append}
+use Rattle.yf_emit.proofs.SetMeant.{column_start, SetEntry, SetEntries, set_last, set_more, set_item_entered, set_explicit}
 use Rattle.yf_emit.proofs.StepsStand.{MeaningLaid, laid_both, laid_entering}
 
 -- rows of which the first stands at that column
@@ -33,7 +34,7 @@ pub data Begins (column : ℕ) : List Row → Type 0 where
   begins : {r : Row} {rs : List Row} → r.column ≡ column → Begins column (r ∷ rs)
 
 -- an entry whose first row's text stands at q, of meanings that P tells; and entries
-pub record EntryMade (sequence : Bool) (column bound : ℕ) (P : List ℕ → Meaning → List PlacedRow → Type 0) (t : List ℕ) (rs : List Row) (ds : List Deco) (q : ℕ) (r : List ℕ) : Type 0 where
+pub record EntryMade (s : Setting) (sequence : Bool) (column bound : ℕ) (P : List ℕ → Meaning → List PlacedRow → Type 0) (t : List ℕ) (rs : List Row) (ds : List Deco) (q : ℕ) (r : List ℕ) : Type 0 where
   pub height : ℕ
   pub place : ℕ
   pub meaning : Meaning
@@ -46,14 +47,15 @@ pub record EntryMade (sequence : Bool) (column bound : ℕ) (P : List ℕ → Me
   pub is : texts meaning.comments ≡ comments_in rs ds
   pub laid : MeaningLaid q place meaning (steps_in rs ds)
   pub held : Held t meaning rs ds r
+  pub set : SetEntry sequence t s.style column q meaning
   pub placed : RowsIn t rs found_rows ds q meaning.comments place r
 
-pub record EntryMakes (sequence : Bool) (column bound : ℕ) (P : List ℕ → Meaning → List PlacedRow → Type 0) (rs : List Row) : Type 0 where
+pub record EntryMakes (s : Setting) (sequence : Bool) (column bound : ℕ) (P : List ℕ → Meaning → List PlacedRow → Type 0) (rs : List Row) : Type 0 where
   pub starts : Begins column rs
   pub made : {t : List ℕ} (ds : List Deco) (r : List ℕ) (q : ℕ) → IsUtf8 t → AreDecos ds → Calm rs ds r → Rest t q (inline_then rs ds r)
-      → EntryMade sequence column bound P t rs ds q r
+      → EntryMade s sequence column bound P t rs ds q r
 
-pub record EntriesMade (sequence : Bool) (column bound : ℕ) (P : List ℕ → Meaning → List PlacedRow → Type 0) (t : List ℕ) (rs : List Row) (ds : List Deco) (q : ℕ) (r : List ℕ) : Type 0 where
+pub record EntriesMade (s : Setting) (sequence : Bool) (column bound : ℕ) (P : List ℕ → Meaning → List PlacedRow → Type 0) (t : List ℕ) (rs : List Row) (ds : List Deco) (q : ℕ) (r : List ℕ) : Type 0 where
   pub height : ℕ
   pub place : ℕ
   pub meaning : Meaning
@@ -66,12 +68,13 @@ pub record EntriesMade (sequence : Bool) (column bound : ℕ) (P : List ℕ → 
   pub is : texts meaning.comments ≡ comments_in rs ds
   pub laid : MeaningLaid q place meaning (steps_in rs ds)
   pub held : Held t meaning rs ds r
+  pub set : SetEntries sequence t s.style column q meaning
   pub placed : RowsIn t rs found_rows ds q meaning.comments place r
 
-pub record EntriesMakes (sequence : Bool) (column bound : ℕ) (P : List ℕ → Meaning → List PlacedRow → Type 0) (rs : List Row) : Type 0 where
+pub record EntriesMakes (s : Setting) (sequence : Bool) (column bound : ℕ) (P : List ℕ → Meaning → List PlacedRow → Type 0) (rs : List Row) : Type 0 where
   pub starts : Begins column rs
   pub made : {t : List ℕ} (ds : List Deco) (r : List ℕ) (q : ℕ) → IsUtf8 t → AreDecos ds → Calm rs ds r → Rest t q (inline_then rs ds r)
-      → EntriesMade sequence column bound P t rs ds q r
+      → EntriesMade s sequence column bound P t rs ds q r
 
 -- Rows that begin at a column.
 
@@ -105,11 +108,11 @@ rows_in_more {t} {rs = rs} {qs = qs} {ds = ds} {k = k} {j = j} {es = es} {r = r}
 
 -- One entry after the other.
 
-pub entries_last : {sequence : Bool} {column bound : ℕ} {P Q : List ℕ → Meaning → List PlacedRow → Type 0} {rs : List Row} → ((t : List ℕ) (m : Meaning) (ps : List PlacedRow) → P t m ps → Q t m (ps ++ []))
-    → EntryMakes sequence column bound P rs → EntriesMakes sequence column bound Q (rs ++ [])
-entries_last {sequence} {column} {bound} {P} {Q} {rs} f e = subst (λ z. EntriesMakes sequence column bound Q z) (sym (append-nil rs)) (record { starts = e.starts; made = made }) where
+pub entries_last : {s : Setting} {sequence : Bool} {column bound : ℕ} {P Q : List ℕ → Meaning → List PlacedRow → Type 0} {rs : List Row} → ((t : List ℕ) (m : Meaning) (ps : List PlacedRow) → P t m ps → Q t m (ps ++ []))
+    → EntryMakes s sequence column bound P rs → EntriesMakes s sequence column bound Q (rs ++ [])
+entries_last {s} {sequence} {column} {bound} {P} {Q} {rs} f e = subst (λ z. EntriesMakes s sequence column bound Q z) (sym (append-nil rs)) (record { starts = e.starts; made = made }) where
   made : {t : List ℕ} (ds : List Deco) (r : List ℕ) (q : ℕ) → IsUtf8 t → AreDecos ds → Calm rs ds r → Rest t q (inline_then rs ds r)
-      → EntriesMade sequence column bound Q t rs ds q r
+      → EntriesMade s sequence column bound Q t rs ds q r
   made {t} ds r q u a k w =
       let one = e.made ds r q u a k w in
       record {
@@ -126,13 +129,14 @@ entries_last {sequence} {column} {bound} {P} {Q} {rs} f e = subst (λ z. Entries
         is = one.is;
         laid = one.laid;
         held = one.held;
+        set = set_last t s.style sequence column q one.meaning one.set;
       }
 
-pub entries_more : {sequence : Bool} {column bound least : ℕ} {P Q S : List ℕ → Meaning → List PlacedRow → Type 0} {rs ls : List Row} → ((t : List ℕ) (m n : Meaning) (ps qs : List PlacedRow) → P t m ps → Q t n qs → S t (m ⊕ n) (ps ++ qs))
-    → EntryMakes sequence column bound P rs → EntriesMakes sequence column least Q ls → EntriesMakes sequence column (max bound least) S (rs ++ ls)
-entries_more {sequence} {column} {bound} {least} {P} {Q} {S} {rs} {ls} f e o = record { starts = append_begins ls e.starts; made = made } where
+pub entries_more : {s : Setting} {sequence : Bool} {column bound least : ℕ} {P Q S : List ℕ → Meaning → List PlacedRow → Type 0} {rs ls : List Row} → ((t : List ℕ) (m n : Meaning) (ps qs : List PlacedRow) → P t m ps → Q t n qs → S t (m ⊕ n) (ps ++ qs))
+    → EntryMakes s sequence column bound P rs → EntriesMakes s sequence column least Q ls → EntriesMakes s sequence column (max bound least) S (rs ++ ls)
+entries_more {s} {sequence} {column} {bound} {least} {P} {Q} {S} {rs} {ls} f e o = record { starts = append_begins ls e.starts; made = made } where
   made : {t : List ℕ} (ds : List Deco) (r : List ℕ) (q : ℕ) → IsUtf8 t → AreDecos ds → Calm (rs ++ ls) ds r → Rest t q (inline_then (rs ++ ls) ds r)
-      → EntriesMade sequence column (max bound least) S t (rs ++ ls) ds q r
+      → EntriesMade s sequence column (max bound least) S t (rs ++ ls) ds q r
   made {t} ds r q u a k w =
       let ks = calm_append rs ls ds r k in
       let one = e.made ds (lines_then ls (past rs ds) r) q u a ks.0 (subst (λ v. Rest t q v) (inline_more ls ds r e.starts) w) in
@@ -155,6 +159,7 @@ entries_more {sequence} {column} {bound} {least} {P} {Q} {S} {rs} {ls} f e o = r
             ∙ (ap (λ z. comments_in rs ds ++ z) more.is ∙ sym (comments_append rs ls ds)));
         laid = subst (λ z. MeaningLaid q more.place (one.meaning ⊕ more.meaning) z) (sym (steps_append rs ls ds)) (laid_both one.meaning more.meaning one.laid more.laid (omega arith));
         held = held_both one.meaning more.meaning rs ls ds r one.held more.held;
+        set = set_more t s.style sequence column q (one.place + column) one.meaning more.meaning (column_start one.start there.0) one.set more.set;
       }
 
 -- An item after its `-`.
@@ -183,11 +188,11 @@ ends_white t i e = ⊎_elim (λ (z : code t i ≡ 32). ap is_white_or_end z ∙ 
 
 pub item_makes : {s : Setting} {x : Node} {spot : Spot} {rs : List Row} (column : ℕ) (items : List ℕ) (blank : Bool) → 2 ≤ s.style.indent → spot.entries ≡ column + s.style.indent
     → Stood s x (pos column) BlockIn spot → Claim s x spot rs
-    → EntryMakes true column (tall x) (λ t m ps. FoundItem t s column x m ps) (joined (sign_row column 45 items blank) (s.style.indent - 1) rs)
+    → EntryMakes s true column (tall x) (λ t m ps. FoundItem t s column x m ps) (joined (sign_row column 45 items blank) (s.style.indent - 1) rs)
 item_makes {s} {x} {spot} {rs} column items blank wide e stood k = record { starts = sign_begins column 45 items blank (s.style.indent - 1) k; made = made } where
   made : {t : List ℕ} (ds : List Deco) (r : List ℕ) (q : ℕ) → IsUtf8 t → AreDecos ds → Calm (joined (sign_row column 45 items blank) (s.style.indent - 1) rs) ds r
       → Rest t q (inline_then (joined (sign_row column 45 items blank) (s.style.indent - 1) rs) ds r)
-      → EntryMade true column (tall x) (λ t m ps. FoundItem t s column x m ps) t (joined (sign_row column 45 items blank) (s.style.indent - 1) rs) ds q r
+      → EntryMade s true column (tall x) (λ t m ps. FoundItem t s column x m ps) t (joined (sign_row column 45 items blank) (s.style.indent - 1) rs) ds q r
   made {t} ds r q u a calm w =
       let one = sign_made column 45 column items blank BlockIn ds r q (omega arith) (omega arith) wide k e u stood a calm w in
       record {
@@ -203,13 +208,14 @@ item_makes {s} {x} {spot} {rs} column items blank wide e stood k = record { star
         placed = subst (λ z. RowsIn t (joined (sign_row column 45 items blank) (s.style.indent - 1) rs) one.found_rows ds q z one.place r) (sym (comments_entering q None one.meaning)) one.placed;
         is = texts_entering q None one.meaning ∙ one.is;
         laid = laid_entering q None one.meaning one.laid;
+        set = set_item_entered column q one.meaning one.set;
         held = held_entering q None one.meaning (joined (sign_row column 45 items blank) (s.style.indent - 1) rs) ds r one.held;
       }
 
 -- A pair after its `?`, with the value after a `:` on a line of its own.
 pub explicit_makes : {s : Setting} {k v : Node} {at to : Spot} {rs ls : List Row} (column : ℕ) (items : List ℕ) (blank : Bool) (places : List ℕ) → is_implicit s.style column k ≡ false → 2 ≤ s.style.indent
     → at.entries ≡ column + s.style.indent → to.entries ≡ column + s.style.indent → Stood s k (pos column) BlockOut at → Stood s v (pos column) BlockOut to → Claim s k at rs → Claim s v to ls
-    → EntryMakes false column (max (tall k) (tall v)) (λ t m ps. FoundPair t s column k v m ps)
+    → EntryMakes s false column (max (tall k) (tall v)) (λ t m ps. FoundPair t s column k v m ps)
     (joined (sign_row column 63 items blank) (s.style.indent - 1) rs ++ joined (sign_row column 58 places false) (s.style.indent - 1) ls)
 explicit_makes {s} {k} {v} {at} {to} {rs} {ls} column items blank places marked wide e f stood stands a b = record {
   starts = append_begins values (sign_begins column 63 items blank (s.style.indent - 1) a);
@@ -222,7 +228,7 @@ explicit_makes {s} {k} {v} {at} {to} {rs} {ls} column items blank places marked 
   values = joined (sign_row column 58 places false) (s.style.indent - 1) ls
 
   made : {t : List ℕ} (ds : List Deco) (r : List ℕ) (q : ℕ) → IsUtf8 t → AreDecos ds → Calm (keys ++ values) ds r → Rest t q (inline_then (keys ++ values) ds r)
-      → EntryMade false column (max (tall k) (tall v)) (λ t m ps. FoundPair t s column k v m ps) t (keys ++ values) ds q r
+      → EntryMade s false column (max (tall k) (tall v)) (λ t m ps. FoundPair t s column k v m ps) t (keys ++ values) ds q r
   made {t} ds r q u ok calm w =
       let ks = calm_append keys values ds r calm in
       let one = sign_made column 63 column items blank BlockOut ds (lines_then values (past keys ds) r) q (omega arith) (omega arith) wide a e u stood ok ks.0
@@ -250,6 +256,7 @@ explicit_makes {s} {k} {v} {at} {to} {rs} {ls} column items blank places marked 
             ∙ (ap (λ z. comments_in keys ds ++ z) two.is ∙ sym (comments_append keys values ds)));
         laid = subst (λ z. MeaningLaid q two.place (entering q (Some (one.place + column)) one.meaning ⊕ two.meaning) z) (sym (steps_append keys values ds))
             (laid_both (entering q (Some (one.place + column)) one.meaning) two.meaning (laid_entering q (Some (one.place + column)) one.meaning one.laid) two.laid (omega arith));
+        set = set_explicit column q (one.place + column) (one.place + column) one.meaning two.meaning (meant_of one.meant) marked one.stands (ends_white t (q + 1) one.behind) one.set (column_start one.start there.0) two.set;
         held = held_both (entering q (Some (one.place + column)) one.meaning) two.meaning keys values ds r
             (held_entering q (Some (one.place + column)) one.meaning keys ds (lines_then values (past keys ds) r) one.held) two.held;
       }

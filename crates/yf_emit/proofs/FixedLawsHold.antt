@@ -22,7 +22,7 @@ use Rattle.yf_emit.proofs.FormatsRead.{formats_laid}
 use Rattle.yf_emit.proofs.FoundStreams.{StreamIn, no_stream, stream_in, FoundDocuments}
 use Rattle.yf_emit.proofs.FoundTexts.{Settled, normal_settled, roots_found, trees_found}
 use Rattle.yf_emit.proofs.PlacedRows.{PlacedRow}
-use Rattle.yf_emit.proofs.FoundQuiet.{AllQuiet, quiet_none, ascend_under, Carries, decos_carry, Linked, linked_none, quiet_offsets, linked_offsets, rows_linked, rows_quiet}
+use Rattle.yf_emit.proofs.QuietPlaces.{AllQuiet, quiet_none, ascend_under, Carries, decos_carry, Linked, linked_none, quiet_offsets, linked_offsets, rows_linked, rows_quiet}
 
 -- Streams.
 

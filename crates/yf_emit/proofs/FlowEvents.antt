@@ -70,7 +70,7 @@ alias_flow : (name : List ℕ) (i j : ℕ) → MeansFlow (alias_to name i j)
 unfolding alias_to plain_event
 alias_flow name i j = record { all = (tt, tt) }
 
-empty_flow : (i : ℕ) → MeansFlow (empty_node i)
+pub empty_flow : (i : ℕ) → MeansFlow (empty_node i)
 unfolding empty_node plain_event
 empty_flow i = record { all = (refl, tt) }
 

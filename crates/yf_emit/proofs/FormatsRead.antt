@@ -1,10 +1,10 @@
 -- What a normal form is laid out as is a well-formed stream, within the limit of open collections, with the same nodes and directives.
-use Rattle.std.proofs.Common.{◌≡◌, ℕ, suc, max, ◌≤◌, Bool, true, false, List, [], ◌∷◌, map, refl, sym, ap, ◌∙◌, subst, arith, length, ◌++◌}
+use Rattle.std.proofs.Common.{◌≡◌, ℕ, suc, max, ◌≤◌, Bool, true, false, List, [], ◌∷◌, ◌++◌, map, refl, sym, ap, ◌∙◌, subst, arith, length}
 use Rattle.std.specs.Prelude.{◌&&◌, if◌then◌else◌}
 use Rattle.std.specs.Str.{IsUtf8}
 use Rattle.yf_lines.specs.declared.quotes.Quotes.{Quotes}
-use Rattle.yf_comments.specs.GapLines.{remarks_of}
 use Rattle.yf_comments.specs.Comment.{CommentValue}
+use Rattle.yf_comments.specs.GapLines.{remarks_of}
 use Rattle.yf_events.proofs.TreeLemmas.{trees_unique}
 use Rattle.yf_events.specs.Alike.{Alike, alike_scalars, alike_aliases, alike_sequences, alike_mappings, AlikeItems, alike_nothing, alike_item, AlikePairs, alike_no_pairs, alike_pair}
 use Rattle.yf_events.specs.Event.{EventValue, Placed, stream_starts, stream_ends, document_starts, document_ends, sequence_starts, sequence_ends, mapping_starts, mapping_ends, scalar_node, alias_node}
@@ -36,8 +36,9 @@ use Rattle.yf_emit.proofs.FormatTrails.{formats_trail, normal_trees}
 use Rattle.yf_emit.proofs.LayoutLawsHold.{layouts_are_texts, layouts_are_laid}
 use Rattle.yf_emit.proofs.NormalRestyled.{root_restyled}
 use Rattle.yf_emit.proofs.DocumentsHeld.{all_events}
-use Rattle.yf_emit.proofs.HeldLemmas.{EventsHeld}
 use Rattle.yf_emit.proofs.StepsStand.{Stand}
+use Rattle.yf_emit.proofs.HeldLemmas.{EventsHeld}
+use Rattle.yf_emit.proofs.SetStreams.{SetAll}
 use Rattle.yf_emit.proofs.PlacedRows.{PlacedRow}
 use Rattle.yf_emit.proofs.StreamParts.{DocumentsLaid}
 use Rattle.yf_emit.proofs.StreamsMade.{StreamLaid}
@@ -181,10 +182,11 @@ same_in_documents {t} {u} {s} {es} utf8 f meant =
 pub record FormattedLaid {t : List ℕ} {s : Style} {u : List ℕ} (f : Formats t s u) : Type 0 where
   pub well : WellFormed f
   pub laid : DocumentsLaid 0 (length u) well.documents (steps_of f.normal (rows_of f.normal s f.writes.trees))
-  pub held : EventsHeld u (all_events well.documents.documents) well.documents.comments (rows_of f.normal s f.writes.trees) (row_decos f.normal (rows_of f.normal s f.writes.trees)) []
   pub begun : Stand 0 (map (λ (d : Document). d.start) well.documents.documents) well.documents.comments
       (comment_steps (remarks_of (first_gap f.normal (rows_of f.normal s f.writes.trees)))
       ++ steps_with documents_begin (rows_of f.normal s f.writes.trees) (row_decos f.normal (rows_of f.normal s f.writes.trees))) (length u)
+  pub held : EventsHeld u (all_events well.documents.documents) well.documents.comments (rows_of f.normal s f.writes.trees) (row_decos f.normal (rows_of f.normal s f.writes.trees)) []
+  pub set : SetAll u s well.documents.documents
   pub line : ℕ
   pub firsts : List CommentValue
   pub others : List CommentValue
@@ -225,8 +227,9 @@ formats_laid t u s utf8 f =
         meant = made.meant;
       };
       laid = laid.laid;
-      held = laid.held;
       begun = laid.begun;
+      held = laid.held;
+      set = laid.set;
       line = laid.line;
       firsts = laid.firsts;
       others = laid.others;

@@ -17,7 +17,7 @@ use Rattle.yf_emit.proofs.CommentsCut.{In, in_first, in_rest, Each, each_none, e
 use Rattle.yf_emit.proofs.FoundLines.{colon_order, leaves_inside}
 use Rattle.yf_emit.proofs.FoundNodes.{SignRows, sign_alone, sign_joined, KeyRows, key_commented, key_above, key_alone, key_joined, KeyOn, key_on, NodeRows, no_rows, line_rows, scalar_rows, sequence_rows, sequence_behind, mapping_rows, mapping_behind, ItemsRows, no_item_rows, item_rows, PairRows, explicit_rows, implicit_rows, PairsRows, no_pair_rows, pair_rows}
 use Rattle.yf_emit.proofs.PlacedRows.{Inside, one_inside, inside_wider, PlacedRow}
-use Rattle.yf_emit.proofs.FoundQuiet.{Quiet, AllQuiet, quiet_none, quiet_row, TrailsTo, trails_nothing, trails_to, Linked, linked_none, linked_row, quiet_left, quiet_right}
+use Rattle.yf_emit.proofs.QuietPlaces.{Quiet, AllQuiet, quiet_none, quiet_row, TrailsTo, trails_nothing, trails_to, Linked, linked_none, linked_row, quiet_left, quiet_right}
 use Rattle.yf_emit.proofs.StepsStand.{starts_of}
 
 -- Rows of parts.

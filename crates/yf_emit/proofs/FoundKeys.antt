@@ -21,7 +21,7 @@ use Rattle.yf_emit.proofs.FixedNodes.{first_item, first_key, first_value, flow_o
 use Rattle.yf_emit.proofs.FoundAgree.{OnRow, on_row, key_between, key_linked, key_quiet, no_value, none_found, sign_linked, sign_quiet, some_found, value_row}
 use Rattle.yf_emit.proofs.FoundNodes.{KeyRows, key_commented, key_above, key_alone, key_joined, KeyOn, NodeRows, no_rows, line_rows, scalar_rows, sequence_rows, sequence_behind, mapping_rows, mapping_behind, ItemsRows, no_item_rows, item_rows, PairRows, explicit_rows, implicit_rows, PairsRows, no_pair_rows, pair_rows}
 use Rattle.yf_emit.proofs.PlacedRows.{Inside, one_inside, PlacedRow}
-use Rattle.yf_emit.proofs.FoundQuiet.{AllQuiet, quiet_row, TrailsTo, trails_to, Linked, linked_row, quiet_left, quiet_right, linked_left, linked_right}
+use Rattle.yf_emit.proofs.QuietPlaces.{AllQuiet, quiet_row, TrailsTo, trails_to, Linked, linked_row, quiet_left, quiet_right, linked_left, linked_right}
 use Rattle.yf_emit.proofs.StepsStand.{starts_of}
 
 -- The comment of a key.

@@ -166,7 +166,7 @@ stands_entered e (alias_stands q b m n s) = alias_stands q b m n s
 stands_entered e (sequence_stands q b m n s) = sequence_stands q b m n s
 stands_entered e (mapping_stands q b m n s) = mapping_stands q b m n s
 
-alike_entered : {x y : Node} (e : Entry) → Alike Anywhere x y → Alike Anywhere x (entered e y)
+pub alike_entered : {x y : Node} (e : Entry) → Alike Anywhere x y → Alike Anywhere x (entered e y)
 alike_entered e (alike_scalars a) = alike_scalars a
 alike_entered e (alike_aliases a) = alike_aliases a
 alike_entered e (alike_sequences a b) = alike_sequences a b

@@ -18,7 +18,7 @@ use Rattle.yf_emit.proofs.FoundKeys.{blocks_found}
 use Rattle.yf_emit.proofs.FoundNodes.{NodeRows}
 use Rattle.yf_emit.proofs.FoundStreams.{FoundDocuments, no_documents_found, document_found}
 use Rattle.yf_emit.proofs.PlacedRows.{PlacedRow}
-use Rattle.yf_emit.proofs.FoundQuiet.{AllQuiet, Linked, quiet_left, quiet_right, linked_left, linked_right}
+use Rattle.yf_emit.proofs.QuietPlaces.{AllQuiet, Linked, quiet_left, quiet_right, linked_left, linked_right}
 use Rattle.yf_emit.proofs.SettledTwice.{settled_twice}
 
 -- the trees of documents that are found, with the markers of their events

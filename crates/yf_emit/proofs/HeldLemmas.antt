@@ -1,7 +1,8 @@
 -- What a meaning holds of the rows that it is derived from: each of its comments is well set, and the lines of each row with a block scalar are those of
 -- a scalar among its events.
-use Rattle.std.proofs.Common.{◌≡◌, ℕ, ◌+◌, ◌<◌, ◌≤◌, Bool, false, List, [], ◌∷◌, ◌++◌, length, Option, Some, refl, sym, subst}
+use Rattle.std.proofs.Common.{◌≡◌, ℕ, ◌+◌, ◌<◌, ◌≤◌, ◌⊎◌, Bool, false, List, [], ◌∷◌, ◌++◌, length, Option, Some, refl, sym, subst}
 use Rattle.std.specs.Str.{IsUtf8}
+use Rattle.yf_chars.specs.Text.{code}
 use Rattle.yf_lines.specs.Basic.{LineStart}
 use Rattle.yf_lines.specs.Rest.{Rest}
 use Rattle.yf_comments.specs.Comment.{CommentValue}
@@ -40,6 +41,7 @@ pub record ScalarAt (t : List ℕ) (event : EventValue) (part : Option Span) (co
   pub part_is : part ≡ Some span
   pub head : ℕ
   pub content : content_start t span props ≡ head
+  pub sign : (code t head ≡ 124) ⊎ (code t head ≡ 62)
   pub place : ℕ
   pub rest : Rest t place z
   pub start : LineStart t place

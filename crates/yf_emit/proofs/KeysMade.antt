@@ -2,11 +2,11 @@
 use Rattle.std.proofs.Common.{◌≡◌, ℕ, max, ◌+◌, ◌≤◌, pos, Bool, true, false, List, [], ◌∷◌, ◌++◌, length, Option, Some, None, refl, sym, ap, ◌∙◌, subst, arith, append_assoc, append-nil, length-append, true≢false}
 use Rattle.std.specs.Prelude.{not, is_some}
 use Rattle.std.specs.Str.{IsUtf8, chars}
-use Rattle.std.proofs.lemmas.Str.{chars-append, IsUtf8-between}
+use Rattle.std.proofs.lemmas.Str.{chars-append}
 use Rattle.yf_chars.specs.declared.context.Ctx.TheVariants.{BlockOut, BlockKey}
 use Rattle.yf_chars.specs.Text.{code}
 use Rattle.yf_lines.specs.Basic.{LineStart}
-use Rattle.yf_lines.proofs.RestLemmas.{Rest, rest_spaces, rest_stands, rest_text, slice_back}
+use Rattle.yf_lines.proofs.RestLemmas.{Rest, rest_spaces, rest_text}
 use Rattle.yf_comments.specs.Comment.{CommentValue}
 use Rattle.yf_comments.proofs.GapLinesLemmas.{texts}
 use Rattle.yf_comments.proofs.SpaceLemmas.{space_in_line}
@@ -17,6 +17,7 @@ use Rattle.yf_grammar.specs.Back.{Back}
 use Rattle.yf_grammar.specs.Meaning.{Meaning, ◌⊕◌, behind, noting, empty_node, entering}
 use Rattle.yf_grammar.specs.Meant.{tall}
 use Rattle.yf_grammar.proofs.BlankRuns.{Behind, behind_byte}
+use Rattle.yf_grammar.proofs.BlockFirst.{key_no_question}
 use Rattle.yf_grammar.proofs.CommentOrder.{end_ascends}
 use Rattle.yf_grammar.proofs.FlowBack.{visible_at, colon_follows}
 use Rattle.yf_grammar.proofs.PairsBack.{key_back, key_apart_back}
@@ -31,16 +32,21 @@ use Rattle.yf_emit.specs.OneLine.{written, colon_behind}
 use Rattle.yf_emit.specs.Rows.{Row, Ending, anywhere, before_node, behind_key, begins_below, joined}
 use Rattle.yf_events.specs.declared.event.Span.{Span}
 use Rattle.yf_emit.specs.Steps.{Step, leaf_steps, comment_steps, steps_in}
+use Rattle.yf_emit.proofs.CollectionsMade.{comments_behind}
 use Rattle.yf_emit.proofs.EntriesMade.{Begins, begins, EntryMade, EntryMakes, comments_both, comments_entering}
+use Rattle.yf_emit.proofs.FlowEvents.{empty_flow, flow_means}
 use Rattle.yf_emit.proofs.FoundLines.{items_inside, leaves_inside, placed_node}
-use Rattle.yf_emit.proofs.FoundNodes.{FoundNode, FoundPair, HeadAt, head_at, KeyRows, key_commented, key_above, key_alone, key_joined, bare_node, bare_alike, bare_events, bare_escapes, bare_comments, found_behind, found_noting, found_nothing, found_implicit}
+use Rattle.yf_emit.proofs.FoundNodes.{FoundNode, FoundPair, HeadAt, head_at, KeyRows, key_commented, key_above, key_alone, key_joined, bare_node, bare_alike, bare_events, bare_escapes, bare_comments, found_behind, found_noting, found_nothing, found_implicit, meant_of}
 use Rattle.yf_emit.proofs.HeldLemmas.{Held, empty_silent, entering_silent, held_after, held_behind, held_joined, held_line, row_ended}
 use Rattle.yf_emit.proofs.LaidRows.{leaves_apart, laid_row, laid_line}
+use Rattle.yf_emit.proofs.LineUtf8.{space_chars, written_utf8}
 use Rattle.yf_emit.proofs.NodePlaces.{beside_at, below_at}
 use Rattle.yf_emit.proofs.NodesMade.{Stood, Claim, no_row, some_rows, MeansNothing, noting_nothing}
 use Rattle.yf_emit.proofs.PlacedRows.{Inside, none_inside, one_inside, inside_wider, PlacedRow, AtRow, RowsIn, last_row, row_before, joined_placed, rows_joined}
 use Rattle.yf_emit.proofs.RowEnds.{row_end, first_deco, after_decos}
 use Rattle.yf_emit.proofs.SeenTexts.{ascii_ns}
+use Rattle.yf_emit.proofs.SetMeant.{column_start, SetDone, set_done, done_behind, done_empty, set_implicit}
+use Rattle.yf_emit.proofs.SetNodes.{ColumnAt}
 use Rattle.yf_emit.proofs.StepsStand.{starts_of, MeaningLaid, laid_after, laid_both, laid_behind, laid_empty, laid_entering}
 
 -- the row of a key with its `:`, as it is before its value is known
@@ -97,6 +103,7 @@ record ValueMade (t : List ℕ) (s : Setting) (m column : ℕ) (v : Node) (rs : 
   pub is : texts meaning.comments ≡ comments_in rs ds
   pub laid : MeaningLaid i place meaning steps
   pub held : Held t meaning rs ds r
+  pub set : SetDone t s.style m (column + s.style.indent) meaning.events
   pub found_rows : List PlacedRow
   pub head : HeadAt q (i + 1) found_rows
   pub keyed : KeyRows items leaves b below inner found_rows
@@ -153,10 +160,6 @@ keyed_behind head q i a items ls h e (row_before {p = p} {ps = ps} at end w more
           (row_before at end w more);
     }
 
-comments_behind : (cs : List CommentValue) (x : Meaning) → (behind cs x).comments ≡ cs ++ x.comments
-unfolding behind
-comments_behind cs x = refl
-
 -- the `:` before it
 colon_seen : {t : List ℕ} (i : ℕ) → IsUtf8 t → code t i ≡ 58 → Behind t (i + 1)
 colon_seen i u e = behind_byte i u e (omega arith) (ascii_ns 58 (omega arith) (omega arith))
@@ -184,6 +187,7 @@ value_missing {t} {q = q} {a = h} {items = items} {ls = ls} {b = b} s n column r
           (last_row (head_stands head) (record { ascend = end_ascends end.end; is = end.is; start = end.start }) end.rest);
       is = texts_noting (empty_node (i + 1)) end.comments ∙ (ap (λ z. z ++ texts end.comments) (texts_empty (i + 1)) ∙ (end.is ∙ sym (append-nil (carried_texts (first ds)))));
       laid = laid_row (empty_node (i + 1)) end.comments [] (laid_empty (i + 1) (omega arith)) (end_ascends end.end) end.is;
+      set = done_empty (i + 1) end.comments;
       held = held_line (empty_node (i + 1)) end.comments row ds r bare (empty_silent (i + 1)) (row_ended (first ds) r u (colon_seen i u colon) (first_deco a) w end.end);
     }
 
@@ -216,6 +220,7 @@ value_below {t} {s} {v} {spot} {q = q} {a = h} {items = items} {ls = ls} {b = b}
           (row_before (head_stands head) (record { ascend = end_ascends end.end; is = end.is; start = end.start }) end.rest node.placed);
       is = texts_behind end.comments node.meaning ∙ (ap (λ z. z ++ texts node.meaning.comments) end.is ∙ ap (λ z. carried_texts (first ds) ++ z) node.is);
       laid = laid_after (omega arith) (laid_behind end.comments node.meaning (end_ascends end.end) end.is (omega arith) node.laid);
+      set = done_behind end.comments node.meaning (set_done (λ b. subst (λ z. ColumnAt t z (end.place + y.column)) (g b) (column_start end.start there.0)) node.set);
       held = held_behind end.comments node.meaning row (y ∷ ys) ds r bare (row_ended (first ds) (lines_then (y ∷ ys) (after ds) r) u (colon_seen i u colon) (first_deco a) w end.end) node.held;
     }
   where
@@ -274,6 +279,7 @@ value_made {t} {s} {v} {spot} {q = q} {a = h} {found = found} {ls = ls} column t
       placed = joint.placed;
       is = node.is;
       laid = laid_after (omega arith) node.laid;
+      set = set_done (λ b. absurd (true≢false (sym b ∙ sym e))) node.set;
       held = held_joined (key_head column text items leaves blank) 1 y ys ds r node.held;
     }
 
@@ -287,13 +293,6 @@ record KeyMade (t : List ℕ) (h : ℕ) (mean : Meaning) (q : ℕ) (z written_te
   pub colon : code t place ≡ 58
   pub rest : Rest t (place + 1) z
   pub width : q + length written_text ≡ place + 1
-
-space_chars : chars (32 ∷ []) ≡ 32 ∷ []
-unfolding chars
-space_chars = refl
-
-written_utf8 : {t : List ℕ} {q : ℕ} (w r : List ℕ) → IsUtf8 t → Rest t q (w ++ r) → Rest t (q + length w) r → IsUtf8 w
-written_utf8 {t} {q} w r u s e = subst (λ z. IsUtf8 z) (slice_back w r (rest_stands s)) (IsUtf8-between t q (q + length w) u (omega arith) s.boundary e.boundary)
 
 key_made : {t : List ℕ} {k : Node} (q : ℕ) (z : List ℕ) (text : List ℕ) (node : LineNode BlockKey k) → ColonFits node.colon text → length (chars (written k)) ≤ 1023 → IsUtf8 t
     → Rest t q (written k ++ (text ++ z)) → KeyMade t node.height (node.mean q) q z (written k ++ text)
@@ -317,11 +316,11 @@ module _ {s : Setting} {k v : Node} {spot : Spot} {rs : List Row} (column : ℕ)
     (value : Claim s v spot rs) (same : below ≡ begins_below v) (deep : is_some o ≡ true → begins_below v ≡ false → column + 1 ≤ spot.column) (stood : Stood s v (pos column) BlockOut spot)
     (entries : spot.entries ≡ value_entries s.style column v) (implicit : is_implicit s.style column k ≡ true) (flag : is_some o ≡ is_some (key_comment s.comments k v)) where
   pub keyed_makes : KeyNode k → length leaves ≡ length (leaves_of k) → length (chars (written k)) ≤ 1023
-      → EntryMakes false column (max (tall k) (tall v)) (λ t m ps. FoundPair t s column k v m ps) (behind_key (key_head column (written k ++ colon_behind k) items leaves blank) o below rs)
+      → EntryMakes s false column (max (tall k) (tall v)) (λ t m ps. FoundPair t s column k v m ps) (behind_key (key_head column (written k ++ colon_behind k) items leaves blank) o below rs)
   keyed_makes n count l = record { starts = behind_begins column (written k ++ colon_behind k) items leaves blank o below rs; made = made } where
     made : {t : List ℕ} (ds : List Deco) (r : List ℕ) (q : ℕ) → IsUtf8 t → AreDecos ds → Calm (behind_key (key_head column (written k ++ colon_behind k) items leaves blank) o below rs) ds r
         → Rest t q (inline_then (behind_key (key_head column (written k ++ colon_behind k) items leaves blank) o below rs) ds r)
-        → EntryMade false column (max (tall k) (tall v)) (λ t m ps. FoundPair t s column k v m ps) t (behind_key (key_head column (written k ++ colon_behind k) items leaves blank) o below rs) ds q r
+        → EntryMade s false column (max (tall k) (tall v)) (λ t m ps. FoundPair t s column k v m ps) t (behind_key (key_head column (written k ++ colon_behind k) items leaves blank) o below rs) ds q r
     made {t} ds r q u a calm w =
         let shaped : Rest t q (written k ++ (colon_behind k ++ behind_then o below rs ds r)) =
         subst (λ z. Rest t q z) (behind_inline column (written k ++ colon_behind k) items leaves blank o below rs ds r ∙ append_assoc (written k) (colon_behind k) (behind_then o below rs ds r)) w in
@@ -333,6 +332,7 @@ module _ {s : Setting} {k v : Node} {spot : Spot} {rs : List Row} (column : ℕ)
         let head : AnyHead column (written k ++ colon_behind k) items leaves blank q key.place q (items_in found) (leaves_of found) =
         record { width = key.width; items_stand = one_inside (omega arith) order (items_inside stands); leaves_stand = leaves_inside stands } in
         let one = value_made column (written k ++ colon_behind k) items leaves blank o below ds r key.place head value same deep key.colon u stood a calm key.rest in
+        let value_set : SetDone t s.style (value_entries s.style column v) (column + s.style.indent) one.meaning.events = subst (λ z. SetDone t s.style z (column + s.style.indent) one.meaning.events) entries one.set in
         let low : n.node.height ≤ tall k = n.node.low in
         let high : one.height ≤ tall v = one.low in
         record {
@@ -354,20 +354,23 @@ module _ {s : Setting} {k v : Node} {spot : Spot} {rs : List Row} (column : ℕ)
           laid = subst (λ z. MeaningLaid q one.place (entering q (Some key.place) (n.node.mean q) ⊕ one.meaning) z) (sym (behind_steps column (written k ++ colon_behind k) items leaves blank o below rs ds))
               (laid_both (entering q (Some key.place) (n.node.mean q)) one.meaning
               (laid_entering q (Some key.place) (n.node.mean q) (laid_line leaves (places u key.derived refl) (n.node.meant q) (n.node.silent q) count)) one.laid (omega arith));
+          set = set_implicit column q key.place (n.node.mean q) one.meaning found (placed_node at (n.node.meant q)) implicit (flow_means key.derived tt) at.events
+              (λ f g. key_no_question key.derived (record { sign_stands = f; behind = g })) (meant_of one.meant) value_set;
           held = held_after (entering q (Some key.place) (n.node.mean q)) one.meaning (behind_key (key_head column (written k ++ colon_behind k) items leaves blank) o below rs) ds r
               (entering_silent q (Some key.place) (n.node.mean q) (n.node.silent q)) one.held;
         }
 
   -- the key is an empty node
-  pub unkeyed_makes : MeansNothing k → leaves ≡ [] → EntryMakes false column (max (tall k) (tall v)) (λ t m ps. FoundPair t s column k v m ps) (behind_key (key_head column (58 ∷ []) items leaves blank) o below rs)
+  pub unkeyed_makes : MeansNothing k → leaves ≡ [] → EntryMakes s false column (max (tall k) (tall v)) (λ t m ps. FoundPair t s column k v m ps) (behind_key (key_head column (58 ∷ []) items leaves blank) o below rs)
   unkeyed_makes n none = record { starts = behind_begins column (58 ∷ []) items leaves blank o below rs; made = made } where
     made : {t : List ℕ} (ds : List Deco) (r : List ℕ) (q : ℕ) → IsUtf8 t → AreDecos ds → Calm (behind_key (key_head column (58 ∷ []) items leaves blank) o below rs) ds r
         → Rest t q (inline_then (behind_key (key_head column (58 ∷ []) items leaves blank) o below rs) ds r)
-        → EntryMade false column (max (tall k) (tall v)) (λ t m ps. FoundPair t s column k v m ps) t (behind_key (key_head column (58 ∷ []) items leaves blank) o below rs) ds q r
+        → EntryMade s false column (max (tall k) (tall v)) (λ t m ps. FoundPair t s column k v m ps) t (behind_key (key_head column (58 ∷ []) items leaves blank) o below rs) ds q r
     made {t} ds r q u a calm w =
         let colon = visible_at 58 u (omega arith) (omega arith) (subst (λ z. Rest t q z) (behind_inline column (58 ∷ []) items leaves blank o below rs ds r) w) in
         let head : AnyHead column (58 ∷ []) items leaves blank q q q [] [] = record { width = refl; items_stand = one_inside (omega arith) (omega arith) none_inside; leaves_stand = none_inside } in
         let one = value_made column (58 ∷ []) items leaves blank o below ds r q head value same deep colon.0 u stood a calm colon.1 in
+        let value_set : SetDone t s.style (value_entries s.style column v) (column + s.style.indent) one.meaning.events = subst (λ z. SetDone t s.style z (column + s.style.indent) one.meaning.events) entries one.set in
         let high : one.height ≤ tall v = one.low in
         record {
           height = one.height;
@@ -387,6 +390,8 @@ module _ {s : Setting} {k v : Node} {spot : Spot} {rs : List Row} (column : ℕ)
           laid = subst (λ z. MeaningLaid q one.place (entering q (Some q) (empty_node q) ⊕ one.meaning) z)
               (ap (λ z. leaf_steps z ++ steps_behind o below rs ds) (sym none) ∙ sym (behind_steps column (58 ∷ []) items leaves blank o below rs ds))
               (laid_both {k = q} (entering q (Some q) (empty_node q)) one.meaning (laid_entering q (Some q) (empty_node q) (laid_empty q (omega arith))) one.laid (omega arith));
+          set = set_implicit column q q (empty_node q) one.meaning bare_node (bare_alike q (n.meant q)) implicit (empty_flow q) (bare_events q)
+              (λ f g. let here : code t q ≡ 58 = colon.0 in absurd (omega (arith, f, here))) (meant_of one.meant) value_set;
           held = held_after (entering q (Some q) (empty_node q)) one.meaning (behind_key (key_head column (58 ∷ []) items leaves blank) o below rs) ds r
               (entering_silent q (Some q) (empty_node q) (empty_silent q)) one.held;
         }

@@ -128,13 +128,13 @@ at_text_end {t} {q} s =
     let none : length (drop q t) ≡ 0 = ap length s.bytes in
     omega (arith, none, length-drop q t, s.boundary.0)
 
-before_text_end : {t : List ℕ} {q : ℕ} (x r : List ℕ) → Rest t q (x ++ (10 ∷ r)) → q < length t
+pub before_text_end : {t : List ℕ} {q : ℕ} (x r : List ℕ) → Rest t q (x ++ (10 ∷ r)) → q < length t
 before_text_end {t} {q} x r s =
     let some : length (drop q t) ≡ length (x ++ (10 ∷ r)) = ap length s.bytes in
     omega (arith, some, length-drop q t, length-append x (10 ∷ r))
 
 -- the line that begins with a text
-line_is : {t : List ℕ} (l : Line) (x r : List ℕ) → IsUtf8 t → IsLineText x → IsLine t l → Rest t l.start (x ++ (10 ∷ r)) → (a : LineIs t l x) × (a.behind ≡ r)
+pub line_is : {t : List ℕ} (l : Line) (x r : List ℕ) → IsUtf8 t → IsLineText x → IsLine t l → Rest t l.start (x ++ (10 ∷ r)) → (a : LineIs t l x) × (a.behind ≡ r)
 line_is {t} l x r u a m s =
     let at = rest_text x u a s in
     let end = rest_break u at.rest in

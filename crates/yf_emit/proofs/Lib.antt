@@ -95,14 +95,15 @@ pub mod StepsStand
 pub mod LaidRows
 pub mod NodesMade
 pub mod ScalarStands
+pub mod ScalarFound
 pub mod ScalarsMade
 pub mod EntriesMade
 pub mod KeysMade
 pub mod CollectionsMade
 pub mod TreesMade
 pub mod DocumentsMade
-pub mod DocumentsHeld
 pub mod StreamParts
+pub mod DocumentsHeld
 pub mod StreamsMade
 pub mod LayoutLawsHold
 -- trees that are alike up to places are laid out alike (a second run changes nothing)
@@ -178,19 +179,22 @@ pub mod FormattedLines
 pub mod RowKinds
 pub mod WellSet
 pub mod HeldLemmas
+-- where the entries of what is laid out stand
+pub mod SetNodes
+pub mod SetMeant
+pub mod SetStreams
 pub mod ScalarHeld
 pub mod DirectiveEnds
 pub mod FormattedHeld
+pub mod FormattedSet
 pub mod TidyTexts
 pub mod LineSorts
 pub mod LinedRows
 pub mod GapSpread
 pub mod LeadRows
-pub mod SetNodes
-pub mod FlowEvents
 pub mod FoundLines
 pub mod FoundStreams
-pub mod FoundQuiet
+pub mod QuietPlaces
 pub mod FoundAgree
 pub mod FoundKeys
 pub mod BareNodes
@@ -199,3 +203,4 @@ pub mod FoundTexts
 pub mod FoundMarks
 pub mod FixedBlocks
 pub mod FixedLawsHold
+pub mod FlowEvents

@@ -31,6 +31,7 @@ use Rattle.yf_emit.specs.OneLine.{written}
 use Rattle.yf_emit.specs.Rows.{Row, anywhere, joined, begins_below}
 use Rattle.yf_emit.specs.Steps.{steps_in}
 use Rattle.yf_emit.proofs.HeldLemmas.{Held, empty_silent, held_joined, held_line, row_ended}
+use Rattle.yf_emit.proofs.FlowEvents.{flow_means}
 use Rattle.yf_emit.proofs.FoundLines.{line_found}
 use Rattle.yf_emit.proofs.FoundNodes.{FoundNode, SignRows, sign_alone, sign_joined, found_noting, found_nothing}
 use Rattle.yf_emit.proofs.LaidRows.{laid_row, laid_line}
@@ -38,6 +39,8 @@ use Rattle.yf_emit.proofs.NodePlaces.{NodeAt, leaf_at, behind_sign_at}
 use Rattle.yf_emit.proofs.PlacedRows.{none_inside, one_inside, PlacedRow, RowsIn, last_row, row_before, joined_placed, rows_joined}
 use Rattle.yf_emit.proofs.RowEnds.{row_end, end_follows, first_deco}
 use Rattle.yf_emit.proofs.SeenTexts.{ascii_ns}
+use Rattle.yf_emit.proofs.SetMeant.{column_more, SetMeant, SetSigned, set_flow, set_noting, signed_of, signed_empty}
+use Rattle.yf_emit.proofs.SetNodes.{ColumnAt}
 use Rattle.yf_emit.proofs.StepsStand.{MeaningLaid, laid_after, laid_empty}
 
 -- where a node stands in its block: in a block context, its entries at a column at which they may stand, and the lines of a block scalar
@@ -61,6 +64,7 @@ pub record NodeMade (t : List ℕ) (s : Setting) (n : ℤ) (c : Ctx) (m : ℕ) (
   pub is : texts meaning.comments ≡ comments_in rs ds
   pub laid : MeaningLaid q place meaning (steps_in rs ds)
   pub held : Held t meaning rs ds r
+  pub set : SetMeant t s.style m (base n + s.style.indent) (begins_below x) q meaning
   pub placed : RowsIn t rs found_rows ds q meaning.comments place r
 
 pub record Makes (s : Setting) (x : Node) (spot : Spot) (rs : List Row) : Type 0 where
@@ -102,6 +106,7 @@ line_made {t} {s} {x} {r} spot n c ds z q b inline some key text body count node
       placed = found.placed;
       is = texts_noting (node.mean q) end.comments ∙ (ap (λ k. texts k ++ texts end.comments) (node.silent q) ∙ (end.is ∙ sym (append-nil (carried_texts (first ds)))));
       laid = laid_row (node.mean q) end.comments r.leaves (laid_line r.leaves (places u derived refl) (node.meant q) (node.silent q) count) (end_ascends end.end) end.is;
+      set = set_noting end.comments (let at = places u derived refl in set_flow at.node (flow_means derived tt) at.events);
       held = held_line (node.mean q) end.comments r ds z body (node.silent q) (row_ended (first ds) z u (node_behind u derived) (first_deco a) behind_text.rest end.end);
     }
 
@@ -126,6 +131,7 @@ pub record SignMade (t : List ℕ) (s : Setting) (a : ℕ) (c : Ctx) (sign : ℕ
   pub is : texts meaning.comments ≡ comments_in rs ds
   pub laid : MeaningLaid q place meaning (steps_in rs ds)
   pub held : Held t meaning rs ds r
+  pub set : SetSigned t s.style a q meaning
   pub found_rows : List PlacedRow
   pub signed : SignRows (q ∷ []) inner found_rows
   pub placed : RowsIn t rs found_rows ds q meaning.comments place r
@@ -191,6 +197,7 @@ sign_made {t} {s} {x} {spot} a sign column items blank c ds r q low high wide (n
           }) (record { ascend = end_ascends end.end; is = end.is; start = end.start }) end.rest);
       is = texts_noting (empty_node (q + 1)) end.comments ∙ (ap (λ z. z ++ texts end.comments) (texts_empty (q + 1)) ∙ (end.is ∙ sym (append-nil (carried_texts (first ds)))));
       laid = laid_row (empty_node (q + 1)) end.comments [] (laid_empty (q + 1) (omega arith)) (end_ascends end.end) end.is;
+      set = signed_empty (q + 1) end.comments;
       held = held_line (empty_node (q + 1)) end.comments (sign_row column sign items blank) ds r refl (empty_silent (q + 1))
           (row_ended (first ds) r u (behind_byte q u at.0 (omega arith) (ascii_ns sign low high)) (first_deco k) at.1 end.end);
     }
@@ -219,6 +226,8 @@ sign_made {t} {s} {x} {spot} a sign column items blank c ds r q low high wide (s
       signed = behind_it.signed;
       placed = behind_it.placed;
       is = node.is;
+      set = signed_of (λ b. subst (λ z. ColumnAt t z (q + 1 + n)) (omega arith) (column_more sign n b at.0 (omega (arith, low)) high spaces.0))
+          (subst (λ z. SetMeant t s.style z (a + s.style.indent) (begins_below x) (q + 1 + n) node.meaning) e node.set);
       laid = laid_after (omega arith) node.laid;
       held = held_joined (sign_row column sign items blank) n y ys ds r node.held;
     }

@@ -38,7 +38,7 @@ pub data RowLines : List Row → Type 0 where
   no_rows : RowLines []
   row_more : {x : Row} {xs : List Row} → IsLineText x.text → IsSeen x.text → AreLines x.body → RowLines xs → RowLines (x ∷ xs)
 
-body_lines : {xs : List (List ℕ)} → AreBodyTexts xs → AreLines xs
+pub body_lines : {xs : List (List ℕ)} → AreBodyTexts xs → AreLines xs
 body_lines no_body_text = no_line
 body_lines (body_text a n more) = line_more a (body_lines more)
 

@@ -94,6 +94,7 @@ module _ {t : List ℕ} {n : ℤ} {style : ScalarStyle} {text : List ℕ} {lines
     part_is = refl;
     head = i;
     content = content;
+    sign = header_char a.reached.head;
     place = a.reached.start;
     rest = a.passed.rest;
     start = a.passed.start;

@@ -20,20 +20,17 @@ use Rattle.yf_block_scalar.specs.declared.header.Header.{Header}
 use Rattle.yf_block_scalar.proofs.PlacedScalar.{placed}
 use Rattle.yf_props.specs.Props.{PropsValue, no_props}
 use Rattle.yf_props.specs.Written.{IsProps, props_bytes, tag_offset_at}
-use Rattle.yf_events.specs.Alike.{alike_scalars}
-use Rattle.yf_events.specs.Event.{scalar_node}
 use Rattle.yf_events.specs.declared.event.ScalarStyle.{ScalarStyle}
 use Rattle.yf_events.specs.declared.event.ScalarStyle.TheVariants.{Plain, Single, Double, Literal, Folded}
 use Rattle.yf_events.specs.declared.event.Span.{Span}
 use Rattle.yf_events.specs.Tree.{Standing, scalar, spans_of_leaf}
 use Rattle.yf_grammar.specs.Grammar.{Derives, BlockNode}
 use Rattle.yf_grammar.specs.Grammar.Derives.{a_block_scalar, a_block_scalar_with}
-use Rattle.yf_grammar.specs.Meaning.{Meaning, behind, first_with, with_props, from_to}
+use Rattle.yf_grammar.specs.Meaning.{Meaning, behind, with_props}
 use Rattle.yf_grammar.proofs.CommentOrder.{ascend_after, scalar_ascends}
 use Rattle.yf_grammar.proofs.FlowBack.{visible_line}
 use Rattle.yf_grammar.proofs.LeafBack.{behind_nothing, propertied}
 use Rattle.yf_grammar.proofs.MeantLemmas.{texts_with_props}
-use Rattle.yf_grammar.proofs.ScalarPlaced.{ScalarNode, scalar_event, scalar_placed}
 use Rattle.yf_emit.specs.BlockLines.{begins_with_space, block_lines, chomping_sign, content_lines, digit_text, final_feeds, header_text, is_kept_tail, line_at, style_sign}
 use Rattle.yf_emit.specs.BlockValues.{is_folded, chomp_of, digit_of, header_of}
 use Rattle.yf_emit.specs.Carried.{AreTrails, IsDeco, AreDecos, carried_texts, CalmBody}
@@ -42,20 +39,21 @@ use Rattle.yf_emit.specs.Fits.{FitScalar, FitProps, no_fit_props, some_fit_props
 use Rattle.yf_emit.specs.Layout.{may_be_blank_behind}
 use Rattle.yf_emit.specs.Normal.{Setting, Spot}
 use Rattle.yf_emit.specs.OneLine.{spaced, props_text}
-use Rattle.yf_emit.specs.Rows.{Row, Ending, block_scalar, tail_ending, is_empty_text, rows}
+use Rattle.yf_emit.specs.Rows.{begins_below, Row, Ending, block_scalar, tail_ending, is_empty_text, rows}
 use Rattle.yf_emit.specs.Steps.{a_leaf, leaf_steps, comment_steps, steps_in}
 use Rattle.yf_emit.proofs.BlockTexts.{style_written, digit_written, sign_written, line_written}
 use Rattle.yf_emit.proofs.ClearRows.{unmarked_first, unmarked_nothing, line_indented, AreBodyTexts, no_body_text, body_text, place_of_rest}
 use Rattle.yf_emit.proofs.CollectionsMade.{same_props, some_props}
 use Rattle.yf_emit.proofs.HeldLemmas.{held_scalar}
+use Rattle.yf_emit.proofs.SetMeant.{SetMeant, set_block}
 use Rattle.yf_emit.proofs.CollectionsMade.{comments_with_props, same_props, some_props}
-use Rattle.yf_emit.proofs.FoundNodes.{FoundNode, scalar_rows}
 use Rattle.yf_emit.proofs.NodePlaces.{apart_at, both_behind, block_no_key}
 use Rattle.yf_emit.proofs.NodesMade.{Stood, NodeMade, Claim, some_rows}
-use Rattle.yf_emit.proofs.PlacedRows.{none_inside, one_inside, PlacedRow, AtRow, RowsIn, last_row}
+use Rattle.yf_emit.proofs.PlacedRows.{RowsIn, last_row}
 use Rattle.yf_emit.proofs.RowEnds.{trails_at, first_deco}
+use Rattle.yf_emit.proofs.ScalarFound.{bare_found, leaf_row, leaf_stands, props_found}
 use Rattle.yf_emit.proofs.ScalarHeld.{AllSigns, behind_signs, signs_append, ScalarReached, passed_header, scalar_comments, scalar_reached}
-use Rattle.yf_emit.proofs.ScalarStands.{ScalarMade, style_back, bare_scalar, props_scalar}
+use Rattle.yf_emit.proofs.ScalarStands.{ScalarMade, bare_scalar, props_scalar}
 use Rattle.yf_emit.proofs.StepsStand.{MeaningLaid, laid_scalar, laid_scalar_with}
 use Rattle.yf_emit.proofs.WellSet.{AllSet}
 
@@ -245,47 +243,6 @@ scalar_at {t} {style} {text} {lines} indent n column d r q f wide near e u a cal
       seen = record { at = q + length header; behind = behind_signs header (end_then d body r) q u signs some w; rest = text_end.rest };
     }
 
--- its row, on which it begins at q
-abbrev leaf_row : ℕ → ℕ → PlacedRow
-leaf_row q finish = record { items = q ∷ []; leaves = record { start = q; end = finish } ∷ []; commented = false; from = q; upto = q }
-
--- its event
-bare_found : {t : List ℕ} {at : Standing} {style : ScalarStyle} {text : List ℕ} {lines : List (List ℕ)} (s : Setting) (column indent i : ℕ) (m : Meaning) → is_some at.span ≡ true → FitScalar style text lines
-    → m.events ≡ scalar_event (header_of style indent text) (content_lines style text lines) (final_feeds text - 1) i m.finish ∷ [] → m.escapes ≡ []
-    → FoundNode t s column (scalar at no_props style text lines) m (leaf_row i m.finish ∷ [])
-unfolding from_to
-bare_found {style = style} {text = text} {lines = lines} s column indent i m e f events escapes = record {
-  rows = scalar_rows f.block (one_inside (omega arith) (omega arith) none_inside) refl refl refl;
-  node = scalar (record { span = from_to i m.finish; tag_offset = None; entry = None }) no_props style text lines;
-  alike = alike_scalars e;
-  events = events ∙ λ z. record {
-    event = scalar_node no_props (style_back style f.block z) (f.content indent z);
-    span = from_to i m.finish;
-    tag_offset = None;
-    entry = None;
-    folded = f.kept z;
-  } ∷ [];
-  escapes = escapes;
-}
-
-props_found : {t : List ℕ} {at : Standing} {style : ScalarStyle} {text : List ℕ} {lines : List (List ℕ)} (s : Setting) (column indent i q g : ℕ) (p : PropsValue) (o : Option ℕ) (m : Meaning) → is_some at.span ≡ true
-    → FitScalar style text lines → m.events ≡ scalar_event (header_of style indent text) (content_lines style text lines) (final_feeds text - 1) i m.finish ∷ [] → m.escapes ≡ []
-    → FoundNode t s column (scalar at p style text lines) (with_props p o q g m) (leaf_row q m.finish ∷ [])
-unfolding from_to with_props
-props_found {style = style} {text = text} {lines = lines} s column indent i q g p o m e f events escapes = record {
-  rows = scalar_rows f.block (one_inside (omega arith) (omega arith) none_inside) refl refl refl;
-  node = scalar (record { span = from_to q m.finish; tag_offset = o; entry = None }) p style text lines;
-  alike = alike_scalars e;
-  events = ap (λ es. first_with p o q g es) events ∙ λ z. record {
-    event = scalar_node p (style_back style f.block z) (f.content indent z);
-    span = from_to q m.finish;
-    tag_offset = o;
-    entry = None;
-    folded = f.kept z;
-  } ∷ [];
-  escapes = escapes;
-}
-
 pub header_unmarked : (style : ScalarStyle) (indent : ℕ) (text : List ℕ) → Unmarked (header_text style indent text)
 header_unmarked Plain indent text = unmarked_first 124 (digit_text indent text ++ chomping_sign (final_feeds text)) (omega arith) (λ e. omega arith) (λ e. omega arith) (λ e. omega arith)
 header_unmarked Single indent text = unmarked_first 124 (digit_text indent text ++ chomping_sign (final_feeds text)) (omega arith) (λ e. omega arith) (λ e. omega arith) (λ e. omega arith)
@@ -299,19 +256,9 @@ spaced_some (b ∷ x) [] e f = absurd (true≢false f)
 spaced_some (b ∷ x) (c ∷ y) e f = refl
 
 -- the lines are some
-body_some : (column n : ℕ) (ls : List (List ℕ)) → EndsWithContent ls → map (line_at column) (ls ++ replicate n []) ≡ [] → ⊥
+pub body_some : (column n : ℕ) (ls : List (List ℕ)) → EndsWithContent ls → map (line_at column) (ls ++ replicate n []) ≡ [] → ⊥
 body_some column n [] last e = last
 body_some column n (x ∷ ls) last e = absurd cc
-
-leaf_stands : {row : Row} {q : ℕ} (finish : ℕ) → (row.body ≡ [] → ⊥) → is_some row.key_comment ≡ false → AtRow row q (leaf_row q finish)
-leaf_stands finish some key = record {
-  from = refl;
-  order = omega arith;
-  size = λ z. absurd (some z);
-  items = one_inside (omega arith) (omega arith) none_inside;
-  leaves = one_inside (omega arith) (omega arith) none_inside;
-  commented = key;
-}
 
 -- with properties
 pub header_with : {p : PropsValue} (style : ScalarStyle) (indent : ℕ) (text : List ℕ) → IsProps p → p ≢ no_props → spaced (props_text p) (header_text style indent text) ≡ props_bytes p ++ (32 ∷ header_text style indent text)
@@ -356,6 +303,9 @@ module _ {s : Setting} {at : Standing} {style : ScalarStyle} {text : List ℕ} {
             (record { ascend = scalar_ascends node.derived; is = node.is; start = subst (λ j. LineStart t j) (place_of_rest begun.rest node.rest) begun.start }) node.rest;
         is = node.is ∙ sym (append-nil (carried_texts (first ds)));
         laid = subst (λ z. MeaningLaid q node.place node.meaning z) (scalar_steps row ds leaf) (laid_scalar q node.meaning.finish (omega arith) node.events (scalar_ascends node.derived) node.is);
+        set = let found = bare_found {t = t} {at = at} s spot.entries s.style.indent q node.meaning placed_at f node.events node.escapes in
+            subst (λ k. SetMeant t s.style spot.entries k (begins_below (scalar at no_props style text lines)) q node.meaning) stood.lines
+            (set_block (block_lines style spot.lines text lines) (gap_then (first ds).gap r) found.alike found.events f.block deep (bare_scalar s.style.indent spot.lines u f made));
         held = held_scalar node.meaning row ds r spot.lines (block_lines style spot.lines text lines) body said_lines made.comments made.seen (bare_scalar s.style.indent spot.lines u f made);
       }
     where
@@ -397,6 +347,9 @@ module _ {s : Setting} {at : Standing} {style : ScalarStyle} {text : List ℕ} {
         is = texts_with_props p o q g node.meaning ∙ (node.is ∙ sym (append-nil (carried_texts (first ds))));
         laid = subst (λ z. MeaningLaid q node.place (with_props p o q g node.meaning) z) (scalar_steps row ds leaf)
             (laid_scalar_with p o q g i node.meaning.finish node.meaning (omega arith) node.events (scalar_ascends node.derived) node.is);
+        set = let found = props_found {t = t} {at = at} s spot.entries s.style.indent i q g p o node.meaning placed_at f node.events node.escapes in
+            subst (λ k. SetMeant t s.style spot.entries k (begins_below (scalar at p style text lines)) q (with_props p o q g node.meaning)) stood.lines
+            (set_block (block_lines style spot.lines text lines) (gap_then (first ds).gap r) found.alike found.events f.block deep (props_scalar s.style.indent spot.lines u f made q g p o (n +ℤ pos 1) c before.properties before.separate));
         held = held_scalar (with_props p o q g node.meaning) row ds r spot.lines (block_lines style spot.lines text lines) body said_lines (props_set t p o q g node.meaning made.comments) made.seen
             (props_scalar s.style.indent spot.lines u f made q g p o (n +ℤ pos 1) c before.properties before.separate);
       }

@@ -1,9 +1,9 @@
 -- Trees whose block collections have their entries at the columns of the layout: so the trees of what is laid out are to be found.
-use Rattle.std.proofs.Common.{◌≡◌, ℕ, ◌+◌, Bool, true, false, true≢false, List, [], ◌∷◌, Some, refl, sym, ◌∙◌, subst}
+use Rattle.std.proofs.Common.{◌≡◌, ℕ, ◌+◌, ◌<◌, ◌≤◌, Bool, true, false, true≢false, List, [], ◌∷◌, Some, refl, sym, ◌∙◌, subst}
 use Rattle.std.specs.Prelude.{◌&&◌, not, if◌then◌else◌}
 use Rattle.yf_chars.specs.Class.{is_white_or_end}
 use Rattle.yf_chars.specs.Text.{code}
-use Rattle.yf_lines.specs.Lines.{PlaceOf}
+use Rattle.yf_lines.specs.Basic.{LineStart}
 use Rattle.yf_props.specs.Props.{PropsValue}
 use Rattle.yf_events.specs.declared.event.Entry.{Entry}
 use Rattle.yf_events.specs.declared.event.ScalarStyle.{ScalarStyle}
@@ -12,12 +12,19 @@ use Rattle.yf_emit.specs.Fits.{is_block_style}
 use Rattle.yf_emit.specs.Normal.{is_implicit, value_entries}
 use Rattle.yf_emit.specs.declared.style.Style.{Style}
 
+-- the offset stands so many columns right of where a line starts, after signs and spaces of one byte
+pub record ColumnAt (t : List ℕ) (m i : ℕ) : Type 0 where
+  pub line : ℕ
+  pub start : LineStart t line
+  pub is : i ≡ line + m
+  pub least : (k : ℕ) → k < m → 32 ≤ code t (line + k)
+  pub most : (k : ℕ) → k < m → code t (line + k) < 127
+
 -- the entry of the node begins at the column, counted from 0
 pub record EntryOn (t : List ℕ) (m : ℕ) (x : Node) : Type 0 where
   pub entry : Entry
   pub is : (standing x).entry ≡ Some entry
-  pub line : ℕ
-  pub place : PlaceOf t entry.start line (m + 1)
+  pub column : ColumnAt t m entry.start
 
 -- the entry of the key begins with no `?` that is one
 pub record Unquestioned (t : List ℕ) (k : Node) : Type 0 where
@@ -118,3 +125,11 @@ value_set {t} {s} {Content} {m} {k} {v} free marked a = by_key (is_implicit s m 
   by_key : (b : Bool) → is_implicit s m k ≡ b → SetValue t s Content m k v
   by_key true e = by_sequence (is_sequence v) s.seq_indent refl refl (free e) (subst (λ b. Here (if b then value_entries s m v else m + s.indent)) e a)
   by_key false e = inside (λ x y z w. questioned_not (marked e) w) (subst (λ b. Here (if b then value_entries s m v else m + s.indent)) e a)
+
+-- Entries of which the first stands at the column.
+
+pub data SetFirst (t : List ℕ) (s : Style) (Content : ℕ → Node → Type 0) (m : ℕ) : Items → Type 0 where
+  set_first : {x : Node} {xs : Items} → EntryOn t m x → SetItems t s Content m (item x xs) → SetFirst t s Content m (item x xs)
+
+pub data SetFirstPair (t : List ℕ) (s : Style) (Content : ℕ → Node → Type 0) (m : ℕ) : Pairs → Type 0 where
+  set_first_pair : {k v : Node} {ps : Pairs} → EntryOn t m k → SetPairs t s Content m (pair k v ps) → SetFirstPair t s Content m (pair k v ps)

@@ -1,6 +1,10 @@
 -- Documents of a stream, with their leaves and comments in order.
-use Rattle.std.proofs.Common.{◌≡◌, ℕ, ◌+◌, ◌≤◌, true, List, [], ◌∷◌, ◌++◌, map, Option, refl, sym, ap, ◌∙◌, append_assoc}
+use Rattle.std.proofs.Common.{◌≡◌, ℕ, ◌+◌, ◌≤◌, Bool, true, List, [], ◌∷◌, ◌++◌, length, map, drop, Option, refl, sym, ap, ◌∙◌, arith, append_assoc, length-drop}
+use Rattle.yf_chars.specs.Chain.{Chain}
+use Rattle.yf_chars.specs.Chain.Chain.{done, step}
+use Rattle.yf_lines.proofs.RestLemmas.{Rest}
 use Rattle.yf_comments.specs.Comment.{CommentValue}
+use Rattle.yf_comments.specs.Comments.{CommentLine}
 use Rattle.yf_comments.proofs.GapLinesLemmas.{texts, texts_append}
 use Rattle.yf_events.specs.Event.{Placed, document_ends}
 use Rattle.yf_events.specs.Reading.{leaf_starts}
@@ -10,8 +14,10 @@ use Rattle.yf_events.specs.Tree.{DocumentTree, unplaced}
 use Rattle.yf_grammar.specs.Meaning.{Meaning}
 use Rattle.yf_grammar.specs.Meant.{Meant}
 use Rattle.yf_stream.specs.ReadingOf.{DocumentEvents, no_document, one_document}
-use Rattle.yf_stream.specs.Stream.{Document, document_of, Documents, only_comments, with_document, with_comments}
+use Rattle.yf_stream.specs.Stream.{Document, document_of, Documents, only_comments, with_document, with_comments, Prefixes}
+use Rattle.yf_stream.specs.Stream.PrefixPart.{prefix_comment}
 use Rattle.yf_emit.specs.FitDocuments.{DocumentMeant, DocumentsMeant, document_meant}
+use Rattle.yf_emit.specs.Rows.{Row, directive_row, start_row, end_rows, beginning_at}
 use Rattle.yf_emit.specs.Steps.{Step}
 use Rattle.yf_emit.proofs.StepsStand.{Stand, nothing_stands, stand_join, MeaningLaid, EventsLaid}
 
@@ -74,3 +80,21 @@ pub documents_laid : {i k j : ℕ} (d : Document) {cs : List CommentValue} {rest
     → DocumentsLaid i j (with_document cs d rest) (a ++ b)
 unfolding with_document
 documents_laid d x y = record { starts = x.starts ++ y.starts; are = λ rest e. more_starts x.starts y.starts rest x.are (λ fs others z. y.are rest z) e; stand = stand_join x.stand y.stand }
+
+-- Where a stream ends, and what stands before its documents.
+
+pub ended_at : {t : List ℕ} {q : ℕ} → Rest t q [] → q ≡ length t
+ended_at {t} {q} s =
+    let none : length (drop q t) ≡ 0 = ap length s.bytes in
+    omega (arith, none, length-drop q t, s.boundary.0)
+
+pub prefixes_of : {t : List ℕ} {i j : ℕ} {cs : List CommentValue} → Chain (CommentLine t) i j cs → Prefixes t i j cs
+prefixes_of done = done
+prefixes_of (step a more) = step (prefix_comment a) (prefixes_of more)
+
+-- the rows of a document, by its directives
+abbrev pub head_rows : Bool → ℕ → List Directive → List Row
+head_rows is_first start dirs = beginning_at start (end_rows is_first dirs ++ (map directive_row dirs ++ (start_row ∷ [])))
+
+pub beside_tree : (row : Row) (es : List Directive) (tree : List Row) → ((row ∷ map directive_row es) ++ (start_row ∷ [])) ++ tree ≡ (row ∷ map directive_row es) ++ (start_row ∷ tree)
+beside_tree row es tree = append_assoc (row ∷ map directive_row es) (start_row ∷ []) tree

@@ -1,13 +1,11 @@
 -- A stream of documents from its rows.
-use Rattle.std.proofs.Common.{◌≡◌, ℕ, ◌+◌, max, ◌<◌, ◌≤◌, Bool, true, false, List, [], ◌∷◌, ◌++◌, length, map, flat_map, inl, codes, drop, Option, refl, sym, ap, ◌∙◌, subst, arith, append_assoc, length-drop}
+use Rattle.std.proofs.Common.{◌≡◌, ℕ, ◌+◌, max, ◌<◌, ◌≤◌, true, false, List, [], ◌∷◌, ◌++◌, length, map, inl, codes, refl, sym, ap, ◌∙◌, subst, arith, append_assoc}
 use Rattle.std.specs.Prelude.{is_some}
 use Rattle.std.specs.Str.{IsUtf8}
-use Rattle.yf_chars.specs.Chain.{Chain}
-use Rattle.yf_chars.specs.Chain.Chain.{done, step}
+use Rattle.yf_chars.specs.Chain.Chain.{done}
 use Rattle.yf_lines.specs.Basic.LineStart.{at_text}
 use Rattle.yf_lines.proofs.RestLemmas.{Rest, rest_start}
 use Rattle.yf_comments.specs.Comment.{CommentValue}
-use Rattle.yf_comments.specs.Comments.{CommentLine}
 use Rattle.yf_comments.specs.GapLines.{AreGapLines, remarks_of}
 use Rattle.yf_comments.proofs.GapLinesLemmas.{texts, texts_append, gap_at}
 use Rattle.yf_comments.proofs.LineEndLemmas.{lines_rows}
@@ -16,9 +14,8 @@ use Rattle.yf_events.specs.declared.document.Doc.{Doc}
 use Rattle.yf_events.specs.Tree.{DocumentTree}
 use Rattle.yf_grammar.specs.Meant.{tall}
 use Rattle.yf_grammar.proofs.CommentOrder.{Ascend, end_ascends, rows_ascend}
-use Rattle.yf_stream.specs.Stream.{Document, document_of, Documents, only_comments, with_document, with_comments, AnyDocument, Prefixes, StreamRest}
+use Rattle.yf_stream.specs.Stream.{Document, document_of, Documents, only_comments, with_document, with_comments, AnyDocument, StreamRest}
 use Rattle.yf_stream.specs.Stream.AnyDocument.{explicit_document, directive_document}
-use Rattle.yf_stream.specs.Stream.PrefixPart.{prefix_comment}
 use Rattle.yf_stream.specs.Stream.Stream.{begins_with_document, without_document}
 use Rattle.yf_stream.specs.Stream.StreamRest.{stream_ended, past_suffixes_and_document, past_explicit}
 use Rattle.yf_stream.specs.Stream.Suffixes.{last_suffix}
@@ -30,24 +27,26 @@ use Rattle.yf_emit.specs.FitDocuments.{FitDirective, FitDirectives, fit_directiv
 use Rattle.yf_emit.specs.Fits.{Fit}
 use Rattle.yf_emit.specs.LayoutLaws.{StreamMade}
 use Rattle.yf_emit.specs.Normal.{Setting, root_spot}
-use Rattle.yf_emit.specs.Rows.{Row, plain_row, directive_row, start_row, end_rows, beginning_at, joined_words, rows, document_rows, stream_rows}
-use Rattle.yf_emit.specs.Steps.{Step, comment_steps, steps_in}
+use Rattle.yf_emit.specs.Rows.{Row, plain_row, directive_row, start_row, joined_words, rows, document_rows, stream_rows}
+use Rattle.yf_emit.specs.Steps.{comment_steps, steps_in}
 use Rattle.yf_emit.proofs.DecoratedLemmas.{lines_append}
 use Rattle.yf_emit.proofs.DocumentsBegun.{comments_begun, document_begun, documents_begun, explicit_begun, starts_in}
 use Rattle.yf_emit.proofs.DocumentsHeld.{all_events, comments_set, documents_held, held_events}
 use Rattle.yf_emit.proofs.DocumentsMade.{ExplicitMade, explicit_made, directives_made, three_at, three_behind}
 use Rattle.yf_emit.proofs.FoundNodes.{meant_of}
 use Rattle.yf_emit.proofs.FoundStreams.{FoundDocument, FoundDocuments, no_documents_found, found_document, StreamIn, no_stream, document_begins, stream_more, comments_with_document, comments_with_comments, documents_with_comments, found_with}
-use Rattle.yf_emit.proofs.HeldLemmas.{BodiesHeld, EventsHeld, bare_row, bodies_append, bodies_more, holds_left, holds_right, row_ended}
+use Rattle.yf_emit.proofs.HeldLemmas.{BodiesHeld, EventsHeld, bare_row, bodies_append, row_ended}
 use Rattle.yf_emit.proofs.LaidRows.{steps_append}
 use Rattle.yf_emit.proofs.NoStarts.{no_start_on, directives_none, quiet_steps, rows_none, with_append}
 use Rattle.yf_emit.proofs.PlacedRows.{none_inside, PlacedRow, RowsIn, row_before, rows_in_append}
 use Rattle.yf_emit.proofs.RowEnds.{row_end, first_deco, after_decos, past_decos, comments_append, calm_append}
 use Rattle.yf_emit.proofs.RowTexts.{row_texts}
+use Rattle.yf_emit.proofs.SetMeant.{SetDone}
+use Rattle.yf_emit.proofs.SetStreams.{SetAll, none_set, document_set, documents_set}
 use Rattle.yf_emit.proofs.StepsStand.{Stand, nothing_stands, stand_after, stand_join, comments_stand, EventsLaid, events_behind}
 use Rattle.yf_emit.proofs.TreesMade.{node_claim}
-use Rattle.yf_emit.proofs.WellSet.{AllSet, lines_set, set_append}
-use Rattle.yf_emit.proofs.StreamParts.{meant_document, texts_with_document, documents_with, texts_with_comments, same_documents, laid_document, DocumentsLaid, no_documents_laid, laid_with_comments, documents_laid}
+use Rattle.yf_emit.proofs.StreamParts.{beside_tree, ended_at, head_rows, meant_document, prefixes_of, texts_with_document, documents_with, texts_with_comments, same_documents, laid_document, DocumentsLaid, no_documents_laid, laid_with_comments, documents_laid}
+use Rattle.yf_emit.proofs.WellSet.{lines_set, set_append}
 
 -- Rows of directives, and of the node after them.
 
@@ -67,6 +66,7 @@ pub record AnyMade (t : List ℕ) (s : Setting) (d : Doc) (x : DocumentTree) (rs
   pub placed : RowsIn t rs found_rows ds q comments place r
   pub begun : Stand q (document.start ∷ []) comments (steps_with documents_begin rs ds) place
   pub held : EventsHeld t document.events comments rs ds r
+  pub set : SetDone t s.style 0 s.style.indent document.events
 
 abbrev root_rows : Setting → DocumentTree → List Row
 root_rows c x = rows c (root_spot c.style) x.root
@@ -111,18 +111,12 @@ directed {t} c {d} x {e} {es} row ds r q none bare said key plain same f fs fit 
           (subst (λ z. Stand q (one.place ∷ []) (one.meaning.comments ++ node.meaning.comments) z node.place) (sym (with_append documents_begin (row ∷ map directive_row es) (start_row ∷ tree) ds))
           (stand_join (subst (λ z. Stand q [] one.meaning.comments z one.place) (sym (quiet_steps (no_start_on {row = row} plain (directives_none es)) ds)) (comments_stand (directives_ascend one.lines) one.is))
           (explicit_begun start_row (past (map directive_row es) (after ds)) refl (rows_none c (root_spot c.style) x.root) node)));
+      set = document_set one.place one.meaning.directives node.meaning node.set;
       held = record {
         comments = set_append t one.meaning.comments node.meaning.comments (one.held node.meaning.events).comments node.held.comments;
         bodies = held_events t node.meaning ((row ∷ map directive_row es) ++ (start_row ∷ tree)) ds r one.place one.meaning.directives (bodies_append t node.meaning.events (row ∷ map directive_row es) (start_row ∷ tree) ds r (one.held node.meaning.events).bodies node.held.bodies);
       };
     }
-
--- the rows of a document, by its directives
-abbrev head_rows : Bool → ℕ → List Directive → List Row
-head_rows is_first start dirs = beginning_at start (end_rows is_first dirs ++ (map directive_row dirs ++ (start_row ∷ [])))
-
-beside_tree : (row : Row) (es : List Directive) (tree : List Row) → ((row ∷ map directive_row es) ++ (start_row ∷ [])) ++ tree ≡ (row ∷ map directive_row es) ++ (start_row ∷ tree)
-beside_tree row es tree = append_assoc (row ∷ map directive_row es) (start_row ∷ []) tree
 
 -- The first document of a stream.
 
@@ -145,6 +139,7 @@ first_with {t} c {d} x start [] ds r q same f fit u a k w =
       found = found_document q [] (node.head ∷ []) node.meant refl;
       placed = node.placed;
       begun = document_begun q [] node.meaning (explicit_begun (record start_row { items = start ∷ [] }) ds refl (rows_none c (root_spot c.style) x.root) node);
+      set = document_set q [] node.meaning node.set;
       held = record { comments = node.held.comments; bodies = held_events t node.meaning (record start_row { items = start ∷ [] } ∷ root_rows c x) ds r q [] node.held.bodies };
     }
 first_with {t} c {d} x start (e ∷ es) ds r q same (fit_directive f fs) fit u a k w =
@@ -171,6 +166,7 @@ record StepMade (t : List ℕ) (s : Setting) (d : Doc) (x : DocumentTree) (rs : 
   pub placed : RowsIn t rs found_rows ds q comments place r
   pub begun : Stand q (document.start ∷ []) comments (steps_with documents_begin rs ds) place
   pub held : EventsHeld t document.events comments rs ds r
+  pub set : SetDone t s.style 0 s.style.indent document.events
 
 step_with : {t : List ℕ} (c : Setting) {d : Doc} (x : DocumentTree) (start : ℕ) (dirs : List Directive) (ds : List Deco) (r : List ℕ) (q : ℕ) → d.directives ≡ dirs → FitDirectives dirs → Fit x.root → IsUtf8 t → AreDecos ds
     → Calm (head_rows false start dirs ++ root_rows c x) ds r → Rest t q (lines_then (head_rows false start dirs ++ root_rows c x) ds r) → StepMade t c d x (head_rows false start dirs ++ root_rows c x) ds q r
@@ -191,6 +187,7 @@ step_with {t} c {d} x start [] ds r q same f fit u a k w =
       found = found_document q [] (node.head ∷ []) node.meant refl;
       placed = node.placed;
       begun = document_begun q [] node.meaning (explicit_begun (record start_row { items = start ∷ [] }) ds refl (rows_none c (root_spot c.style) x.root) node);
+      set = document_set q [] node.meaning node.set;
       held = record { comments = node.held.comments; bodies = held_events t node.meaning (record start_row { items = start ∷ [] } ∷ root_rows c x) ds r q [] node.held.bodies };
     }
 step_with {t} c {d} x start (e ∷ es) ds r q same (fit_directive f fs) fit u a k w =
@@ -232,6 +229,7 @@ step_with {t} c {d} x start (e ∷ es) ds r q same (fit_directive f fs) fit u a 
           (subst (λ z. RowsIn t ((row ∷ map directive_row es) ++ (start_row ∷ root_rows c x)) made.found_rows (after ds) z made.comments made.place r) (omega arith) made.placed));
       begun = stand_join (stand_after (omega arith) (comments_stand (end_ascends end.end) end.is))
           (subst (λ z. Stand end.place (made.document.start ∷ []) made.comments (steps_with documents_begin z (after ds)) made.place) (sym shape) made.begun);
+      set = made.set;
       held = record {
         comments = set_append t end.comments made.comments ended.comments made.held.comments;
         bodies = (bare_row t made.document.events (record (plain_row 0 (codes "...")) { items = start ∷ [] }) (first ds) rest refl ended.seen, subst (λ z. BodiesHeld t made.document.events z (after ds) r) (sym shape) made.held.bodies);
@@ -253,11 +251,7 @@ pub record RestMade (t : List ℕ) (s : Setting) (ds : List Doc) (xs : List Docu
   pub placed : StreamIn t rs found_rows decos q documents.comments
   pub begun : Stand q (starts_in documents) documents.comments (steps_with documents_begin rs decos) (length t)
   pub held : EventsHeld t (all_events documents.documents) documents.comments rs decos []
-
-ended_at : {t : List ℕ} {q : ℕ} → Rest t q [] → q ≡ length t
-ended_at {t} {q} s =
-    let none : length (drop q t) ≡ 0 = ap length s.bytes in
-    omega (arith, none, length-drop q t, s.boundary.0)
+  pub set : SetAll t s.style documents.documents
 
 rest_made : {t : List ℕ} (c : Setting) {ds : List Doc} {xs : List DocumentTree} → FitDocuments ds xs → (decos : List Deco) (q : ℕ) → IsUtf8 t → AreDecos decos → Calm (stream_rows c false ds xs) decos []
     → Rest t q (lines_then (stream_rows c false ds xs) decos []) → RestMade t c ds xs (stream_rows c false ds xs) decos q
@@ -273,6 +267,7 @@ rest_made {t} c fit_no_documents decos q u a k w = record {
   found = no_documents_found;
   placed = no_stream;
   begun = nothing_stands (let end : q ≡ length t = ended_at w in omega (arith, end));
+  set = none_set;
   held = record { comments = tt; bodies = tt };
 }
 rest_made {t} c (fit_document {d = d} {ds = ds} {x = x} {xs = xs} f fit more) decos q u a k w =
@@ -299,14 +294,11 @@ rest_made {t} c (fit_document {d = d} {ds = ds} {x = x} {xs = xs} f fit more) de
           (stream_more (document_begins false d.start d.directives (root_rows c x)) one.placed (λ e. ended_at (subst (λ z. Rest t one.place (lines_then z (past head decos) [])) e one.rest)) last.placed);
       begun = subst (λ z. Stand q (starts_in (with_document one.comments one.document last.documents)) (with_document one.comments one.document last.documents).comments z (length t))
           (sym (with_append documents_begin head others decos)) (documents_begun one.comments one.document last.documents one.begun last.begun);
+      set = documents_set one.comments one.document last.documents one.set last.set;
       held = documents_held one.comments one.document last.documents head others decos one.held last.held;
     }
 
 -- Whole streams.
-
-prefixes_of : {t : List ℕ} {i j : ℕ} {cs : List CommentValue} → Chain (CommentLine t) i j cs → Prefixes t i j cs
-prefixes_of done = done
-prefixes_of (step a more) = step (prefix_comment a) (prefixes_of more)
 
 -- what is derived of the whole text, and its leaves and comments in the order of steps
 pub record StreamLaid (t : List ℕ) (s : Setting) (ds : List Doc) (xs : List DocumentTree) (gap : List GapLine) (rs : List Row) (decos : List Deco) : Type 0 where
@@ -322,6 +314,7 @@ pub record StreamLaid (t : List ℕ) (s : Setting) (ds : List Doc) (xs : List Do
   pub placed : StreamIn t rs found_rows decos line others
   pub begun : Stand 0 (starts_in made.documents) made.documents.comments (comment_steps (remarks_of gap) ++ steps_with documents_begin rs decos) (length t)
   pub held : EventsHeld t (all_events made.documents.documents) made.documents.comments rs decos []
+  pub set : SetAll t s.style made.documents.documents
 
 stream_made : {t : List ℕ} (c : Setting) {ds : List Doc} {xs : List DocumentTree} (gap : List GapLine) (decos : List Deco) → FitDocuments ds xs → IsUtf8 t → AreGapLines gap → AreDecos decos
     → Calm (stream_rows c true ds xs) decos [] → Rest t 0 (gap_then gap (lines_then (stream_rows c true ds xs) decos []))
@@ -349,6 +342,7 @@ stream_made {t} c gap decos fit_no_documents u g a k w =
       found = subst (λ z. FoundDocuments t c [] z []) (sym (documents_with_comments at.comments)) no_documents_found;
       placed = no_stream;
       begun = comments_begun at.comments (only_comments []) (comments_stand (rows_ascend (lines_rows at.lines)) at.is) (nothing_stands (omega (arith, end)));
+      set = subst (λ z. SetAll t c.style z) (sym (documents_with_comments at.comments)) none_set;
       held = record { comments = comments_set t at.comments (lines_set (inl at_text) at.lines); bodies = tt };
     }
 stream_made {t} c gap decos (fit_document {d = d} {ds = ds} {x = x} {xs = xs} f fit more) u g a k w =
@@ -386,6 +380,7 @@ stream_made {t} c gap decos (fit_document {d = d} {ds = ds} {x = x} {xs = xs} f 
           (append_assoc (comment_steps (remarks_of gap)) (steps_with documents_begin head decos) (steps_with documents_begin others (past head decos))
           ∙ ap (λ z. comment_steps (remarks_of gap) ++ z) (sym (with_append documents_begin head others decos)))
           (documents_begun (at.comments ++ one.comments) one.document last.documents (stand_join (comments_stand (rows_ascend (lines_rows at.lines)) at.is) one.begun) last.begun);
+      set = documents_set (at.comments ++ one.comments) one.document last.documents one.set last.set;
       held = documents_held (at.comments ++ one.comments) one.document last.documents head others decos
           (record { comments = set_append t at.comments one.comments (lines_set (inl at_text) at.lines) one.held.comments; bodies = one.held.bodies }) last.held;
     }

@@ -104,7 +104,7 @@ no_leaf None e = refl
 no_leaf (Some s) e = absurd (true≢false e)
 
 implicit_makes : (c : Setting) (column : ℕ) {k v : Node} → is_implicit c.style column k ≡ true → Fit k → Claim c v (value_of_implicit c column k v) (rows c (value_of_implicit c column k v) v)
-    → EntryMakes false column (max (tall k) (tall v)) (λ t m ps. FoundPair t c column k v m ps) (implicit_pair c column k v (rows c (value_of_implicit c column k v) v))
+    → EntryMakes c false column (max (tall k) (tall v)) (λ t m ps. FoundPair t c column k v m ps) (implicit_pair c column k v (rows c (value_of_implicit c column k v) v))
 implicit_makes c column {k} {v} e (fit_nothing {at = at} f) value =
     unkeyed_makes column (entry_start k ++ items_in k) (leaves k) (blank_before_entry (standing k).entry) (key_comment c.comments k v) (begins_below v) value refl
     (λ z b. commented_column (is_some (key_comment c.comments k v)) column c.style.indent _ c.style.indent_from z) (value_stood c column k v) refl e refl (record { meant = λ i. meant_nothing i f refl }) (no_leaf at.span f)
@@ -119,7 +119,7 @@ implicit_makes c column {k} {v} e (fit_mapping f p g h gs) value = absurd (not_i
 
 question_makes : (c : Setting) (column : ℕ) {k v : Node} {at : Spot} → is_implicit c.style column k ≡ false → at.entries ≡ column + c.style.indent → at.lines ≡ column + c.style.indent → Claim c k at (rows c at k)
     → Claim c v (inner_spot c.style column) (rows c (inner_spot c.style column) v)
-    → EntryMakes false column (max (tall k) (tall v)) (λ t m ps. FoundPair t c column k v m ps) (explicit_pair c.style column k (rows c at k) (rows c (inner_spot c.style column) v))
+    → EntryMakes c false column (max (tall k) (tall v)) (λ t m ps. FoundPair t c column k v m ps) (explicit_pair c.style column k (rows c at k) (rows c (inner_spot c.style column) v))
 question_makes c column {k} {v} {at} marked e f a b =
     explicit_makes column (entry_start k) (blank_before_entry (standing k).entry) (colon_offset (standing k).entry) marked c.style.indent_from e refl
     (record { block = refl; least = subst (λ z. least_column (is_sequence k) (pos column) BlockOut ≤ℤ pos z) (sym e) (least_inner (is_sequence k) column c.style.indent c.style.indent_from).1; lines = f })
@@ -132,23 +132,23 @@ either_pair b c column k v =
     else explicit_pair c.style column k (rows c (key_spot c.style column k) k) (rows c (if b then value_of_implicit c column k v else inner_spot c.style column) v)
 
 pair_makes : (c : Setting) (column : ℕ) {k v : Node} → Fit k → Everywhere c k → Everywhere c v
-    → EntryMakes false column (max (tall k) (tall v)) (λ t m ps. FoundPair t c column k v m ps) (pair_rows c column k v (rows c (key_spot c.style column k) k) (rows c (value_spot c column k v) v))
+    → EntryMakes c false column (max (tall k) (tall v)) (λ t m ps. FoundPair t c column k v m ps) (pair_rows c column k v (rows c (key_spot c.style column k) k) (rows c (value_spot c column k v) v))
 pair_makes c column {k} {v} fit key value = go (is_implicit c.style column k) refl where
-  go : (b : Bool) → is_implicit c.style column k ≡ b → EntryMakes false column (max (tall k) (tall v)) (λ t m ps. FoundPair t c column k v m ps) (either_pair (is_implicit c.style column k) c column k v)
-  go true e = subst (λ b. EntryMakes false column (max (tall k) (tall v)) (λ t m ps. FoundPair t c column k v m ps) (either_pair b c column k v)) (sym e)
+  go : (b : Bool) → is_implicit c.style column k ≡ b → EntryMakes c false column (max (tall k) (tall v)) (λ t m ps. FoundPair t c column k v m ps) (either_pair (is_implicit c.style column k) c column k v)
+  go true e = subst (λ b. EntryMakes c false column (max (tall k) (tall v)) (λ t m ps. FoundPair t c column k v m ps) (either_pair b c column k v)) (sym e)
       (implicit_makes c column e fit (value.claim (value_of_implicit c column k v)))
-  go false e = subst (λ b. EntryMakes false column (max (tall k) (tall v)) (λ t m ps. FoundPair t c column k v m ps) (either_pair b c column k v)) (sym e)
+  go false e = subst (λ b. EntryMakes c false column (max (tall k) (tall v)) (λ t m ps. FoundPair t c column k v m ps) (either_pair b c column k v)) (sym e)
       (question_makes c column e refl refl (key.claim (key_spot c.style column k)) (value.claim (inner_spot c.style column)))
 
 dash_makes : (c : Setting) (column : ℕ) {x : Node} → Everywhere c x
-    → EntryMakes true column (tall x) (λ t m ps. FoundItem t c column x m ps) (behind_sign c.style (entry_row column (codes "-") x) (rows c (inner_spot c.style column) x))
+    → EntryMakes c true column (tall x) (λ t m ps. FoundItem t c column x m ps) (behind_sign c.style (entry_row column (codes "-") x) (rows c (inner_spot c.style column) x))
 dash_makes c column {x} f =
     item_makes column (entry_start x) (blank_before_entry (standing x).entry) c.style.indent_from refl
     (record { block = refl; least = (least_inner (is_sequence x) column c.style.indent c.style.indent_from).0; lines = refl }) (f.claim (inner_spot c.style column))
 
 -- a bound of one entry, and of others after it
-bound_last : {sequence : Bool} {column a b : ℕ} {P : List ℕ → Meaning → List PlacedRow → Type 0} {rs : List Row} → a ≡ b → EntriesMakes sequence column a P rs → EntriesMakes sequence column b P rs
-bound_last {sequence} {column} {P = P} {rs = rs} e = subst (λ n. EntriesMakes sequence column n P rs) e
+bound_last : {c : Setting} {sequence : Bool} {column a b : ℕ} {P : List ℕ → Meaning → List PlacedRow → Type 0} {rs : List Row} → a ≡ b → EntriesMakes c sequence column a P rs → EntriesMakes c sequence column b P rs
+bound_last {c} {sequence} {column} {P = P} {rs = rs} e = subst (λ n. EntriesMakes c sequence column n P rs) e
 
 -- Trees.
 
@@ -161,7 +161,7 @@ mutual
   }
   node_everywhere c (fit_scalar e props f) = record { claim = λ spot. scalar_claim c spot e props f }
   node_everywhere c (fit_sequence {at = at} {p = p} {x = x} {xs = xs} e props f fs) = record { claim = λ spot. sequence_claim spot props (items_everywhere c spot.entries (node_everywhere c f) fs) } where
-    sequence_claim : (spot : Spot) {p : PropsValue} → FitProps p → EntriesMakes true spot.entries (tall_items (item x xs)) (λ t m ps. FoundItems t c spot.entries (item x xs) m ps) (rows_of_items c spot.entries (item x xs))
+    sequence_claim : (spot : Spot) {p : PropsValue} → FitProps p → EntriesMakes c true spot.entries (tall_items (item x xs)) (λ t m ps. FoundItems t c spot.entries (item x xs) m ps) (rows_of_items c spot.entries (item x xs))
         → Claim c (sequence at false p (item x xs)) spot (props_row spot.column (props_text p) ++ rows_of_items c spot.entries (item x xs))
     sequence_claim spot no_fit_props made = bare_claim refl refl refl (λ t i j m ps a. found_sequence i j e refl a) made
     sequence_claim spot (some_fit_props {p = p} k n) made =
@@ -169,7 +169,7 @@ mutual
         (λ t o f g i j m h ps y z w a. found_sequence_with p o f g i j e refl (ap is_empty_text (same_props k) ∙ some_props k n) y z w a) made
   node_everywhere c (fit_mapping {at = at} {p = p} {k = k} {v = v} {ps = ps} e props f g fs) =
       record { claim = λ spot. mapping_claim spot props (pairs_everywhere c spot.entries f (node_everywhere c f) (node_everywhere c g) fs) } where
-        mapping_claim : (spot : Spot) {p : PropsValue} → FitProps p → EntriesMakes false spot.entries (tall_pairs (pair k v ps)) (λ t m qs. FoundPairs t c spot.entries (pair k v ps) m qs) (rows_of_pairs c spot.entries (pair k v ps))
+        mapping_claim : (spot : Spot) {p : PropsValue} → FitProps p → EntriesMakes c false spot.entries (tall_pairs (pair k v ps)) (λ t m qs. FoundPairs t c spot.entries (pair k v ps) m qs) (rows_of_pairs c spot.entries (pair k v ps))
             → Claim c (mapping at false p (pair k v ps)) spot (props_row spot.column (props_text p) ++ rows_of_pairs c spot.entries (pair k v ps))
         mapping_claim spot no_fit_props made = bare_claim refl refl refl (λ t i j m qs a. found_mapping i j e refl a) made
         mapping_claim spot (some_fit_props {p = p} k n) made =
@@ -177,12 +177,12 @@ mutual
             (λ t o f g i j m h qs y z w a. found_mapping_with p o f g i j e refl (ap is_empty_text (same_props k) ∙ some_props k n) y z w a) made
 
   items_everywhere : (c : Setting) (column : ℕ) {x : Node} {xs : Items} → Everywhere c x → FitItems xs
-      → EntriesMakes true column (tall_items (item x xs)) (λ t m ps. FoundItems t c column (item x xs) m ps) (rows_of_items c column (item x xs))
+      → EntriesMakes c true column (tall_items (item x xs)) (λ t m ps. FoundItems t c column (item x xs) m ps) (rows_of_items c column (item x xs))
   items_everywhere c column {x} f fit_no_items = bound_last (omega arith) (entries_last (λ t m ps a. found_last_item a) (dash_makes c column f))
   items_everywhere c column f (fit_item g gs) = entries_more (λ t m n ps qs a b. found_more_items a b) (dash_makes c column f) (items_everywhere c column (node_everywhere c g) gs)
 
   pairs_everywhere : (c : Setting) (column : ℕ) {k v : Node} {ps : Pairs} → Fit k → Everywhere c k → Everywhere c v → FitPairs ps
-      → EntriesMakes false column (tall_pairs (pair k v ps)) (λ t m qs. FoundPairs t c column (pair k v ps) m qs) (rows_of_pairs c column (pair k v ps))
+      → EntriesMakes c false column (tall_pairs (pair k v ps)) (λ t m qs. FoundPairs t c column (pair k v ps) m qs) (rows_of_pairs c column (pair k v ps))
   pairs_everywhere c column {k} {v} fit f g fit_no_pairs = bound_last (omega arith) (entries_last (λ t m qs a. found_last_pair a) (pair_makes c column fit f g))
   pairs_everywhere c column fit f g (fit_pair a b fs) =
       entries_more (λ t m n hs qs a b. found_more_pairs a b) (pair_makes c column fit f g) (pairs_everywhere c column a (node_everywhere c a) (node_everywhere c b) fs)

@@ -5,8 +5,8 @@ use Rattle.yf_emit.specs.FixedLaws.{IsNormalText}
 use Rattle.yf_emit.specs.Format.{Formats}
 use Rattle.yf_emit.specs.Laws.{HasSameComments, HasSameContent, IsAccepted}
 
--- u is the layout of the normal form of the reading of t, and no other text is; it is accepted, has the same content, and the same comments at the same
--- places, and its reading is its own normal form
+-- u is the layout of the normal form of the reading of t, and no other text is; it is accepted, has the same content, and the same comments at the
+-- same places, and its reading is its own normal form
 pub record FormatKept (t : List ℕ) (s : Style) (u : List ℕ) : Type 0 where
   pub formats : Formats t s u
   pub only : (v : List ℕ) → Formats t s v → v ≡ u

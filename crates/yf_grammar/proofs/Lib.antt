@@ -136,6 +136,7 @@ pub mod FlowBack
 pub mod PairsBack
 pub mod PlainUnmarked
 pub mod ScalarPlaced
+pub mod KeptNodes
 -- the laws of the readers of nodes, as the crates above use them
 pub mod LawsHold
 -- the definitions by small texts

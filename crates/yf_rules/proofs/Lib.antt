@@ -59,5 +59,7 @@ pub mod MendedContents
 pub mod MendedSorts
 pub mod MendedBlanks
 pub mod MendedSpaces
+pub mod MendedColumns
+pub mod MendedScalarIndents
 pub mod MendedIndents
 pub mod MendedMarks

@@ -255,7 +255,7 @@ got_left [] ys i x e = absurd cc
 got_left (y ∷ xs) ys zero x e = e
 got_left (y ∷ xs) ys (suc i) x e = got_left xs ys i x e
 
-record LineThere (t : List ℕ) (ls : List Line) (i : ℕ) (x : List ℕ) : Type 0 where
+pub record LineThere (t : List ℕ) (ls : List Line) (i : ℕ) (x : List ℕ) : Type 0 where
   pub line : Line
   pub at : slice_get ls i ≡ Some line
   pub is : LineIs t line x
@@ -281,13 +281,12 @@ pub record FirstContent (t : List ℕ) (ls : List Line) (text : List ℕ) (colum
   pub indent : line.indent ≡ column + head_count 32 (drop (head_count 10 text) text)
   pub before : (i : ℕ) (x : List ℕ) → i < number → slice_get body i ≡ Some x → x ≡ []
 
-first_at : {t : List ℕ} {ls : List Line} (texts : List (List ℕ)) (column m b : ℕ) (y text : List ℕ) (others more : List (List ℕ)) → IsUtf8 t → ((i : ℕ) (l : Line) → slice_get ls i ≡ Some l → IsLine t l)
-    → LinesAre t ls (map (line_at column) ((nothings m ++ ((b ∷ y) ∷ others)) ++ more) ++ texts) → TextLeads m b y text
+first_at : {t : List ℕ} {ls : List Line} (column m b : ℕ) (y text : List ℕ) (others more : List (List ℕ)) → IsUtf8 t → ((i : ℕ) (l : Line) → slice_get ls i ≡ Some l → IsLine t l)
+    → ((i : ℕ) (x : List ℕ) → slice_get (map (line_at column) ((nothings m ++ ((b ∷ y) ∷ others)) ++ more)) i ≡ Some x → LineThere t ls i x) → TextLeads m b y text
     → FirstContent t ls text column (map (line_at column) ((nothings m ++ ((b ∷ y) ∷ others)) ++ more))
-first_at {t} {ls} texts column m b y text others more u lines are a =
-    let body : List (List ℕ) = map (line_at column) ((nothings m ++ ((b ∷ y) ∷ others)) ++ more) in
+first_at {t} {ls} column m b y text others more u lines got a =
     let x : List ℕ = replicate column 32 ++ (b ∷ y) in
-    let at = line_there m x are (got_left body texts m x (lead_line column m b y others more)) in
+    let at = got m x (lead_line column m b y others more) in
     let made = lines m at.line at.at in
     let counted = counted_text {m = m} {b = b} {y = y} (no_feed_there at.line column b y u at.is) a in
     record {
@@ -317,10 +316,9 @@ first_at {t} {ls} texts column m b y text others more u lines are a =
         feed_there : (q b : ℕ) (w : List ℕ) → IsUtf8 t → Rest t q (b ∷ w) → b ≡ 10 → code t q ≡ 10
         feed_there q b w u s e = (rest_ascii 10 u (omega arith) (λ z. absurd (omega arith)) (subst (λ c. Rest t q (c ∷ w)) e s)).0.char
 
-pub first_content : {t : List ℕ} {ls : List Line} {style : ScalarStyle} {text : List ℕ} {lines : List (List ℕ)} (texts : List (List ℕ)) (column : ℕ) → IsUtf8 t
-    → ((i : ℕ) (l : Line) → slice_get ls i ≡ Some l → IsLine t l) → FitScalar style text lines → LinesAre t ls (block_lines style column text lines ++ texts)
-    → FirstContent t ls text column (block_lines style column text lines)
-first_content {t} {ls} {style} {text} {lines} texts column u made f are =
+pub first_content_of : {t : List ℕ} {ls : List Line} {style : ScalarStyle} {text : List ℕ} {lines : List (List ℕ)} (column : ℕ) → IsUtf8 t → ((i : ℕ) (l : Line) → slice_get ls i ≡ Some l → IsLine t l)
+    → FitScalar style text lines → ((i : ℕ) (x : List ℕ) → slice_get (block_lines style column text lines) i ≡ Some x → LineThere t ls i x) → FirstContent t ls text column (block_lines style column text lines)
+first_content_of {t} {ls} {style} {text} {lines} column u made f are =
     let cs : List (List ℕ) = content_lines style text lines in
     let tail : List (List ℕ) = tail_lines text in
     let a = leads cs f.last in
@@ -329,6 +327,12 @@ first_content {t} {ls} {style} {text} {lines} texts column u made f are =
     let shaped : TextLeads a.count a.first a.behind text =
     subst (λ w. TextLeads a.count a.first a.behind w) (sym (whole ∙ ap (λ w. text_of h.folded w ++ ending h.chomp (final_feeds text - 1)) a.are))
     (text_leads h.folded a.count a.first a.behind a.others (ending h.chomp (final_feeds text - 1)) (ending_no_space h.chomp (final_feeds text - 1))) in
-    let lines_are : LinesAre t ls (map (line_at column) ((nothings a.count ++ ((a.first ∷ a.behind) ∷ a.others)) ++ tail) ++ texts) =
-    subst (λ w. LinesAre t ls (map (line_at column) (w ++ tail) ++ texts)) a.are are in
-    subst (λ w. FirstContent t ls text column (map (line_at column) (w ++ tail))) (sym a.are) (first_at texts column a.count a.first a.behind text a.others tail u made lines_are shaped)
+    let lines_are : (i : ℕ) (x : List ℕ) → slice_get (map (line_at column) ((nothings a.count ++ ((a.first ∷ a.behind) ∷ a.others)) ++ tail)) i ≡ Some x → LineThere t ls i x =
+    λ i x g. are i x (subst (λ w. slice_get (map (line_at column) (w ++ tail)) i ≡ Some x) (sym a.are) g) in
+    subst (λ w. FirstContent t ls text column (map (line_at column) (w ++ tail))) (sym a.are) (first_at column a.count a.first a.behind text a.others tail u made lines_are shaped)
+
+pub first_content : {t : List ℕ} {ls : List Line} {style : ScalarStyle} {text : List ℕ} {lines : List (List ℕ)} (texts : List (List ℕ)) (column : ℕ) → IsUtf8 t
+    → ((i : ℕ) (l : Line) → slice_get ls i ≡ Some l → IsLine t l) → FitScalar style text lines → LinesAre t ls (block_lines style column text lines ++ texts)
+    → FirstContent t ls text column (block_lines style column text lines)
+first_content {style = style} {text = text} {lines = lines} texts column u made f are =
+    first_content_of column u made f (λ i x g. line_there i x are (got_left (block_lines style column text lines) texts i x g))

@@ -1,8 +1,9 @@
 -- In trees whose block collections have their entries at the columns of the layout, and the content of block scalars so many columns in, nothing is misindented.
-use Rattle.std.proofs.Common.{◌≡◌, ◌≢◌, ℕ, ◌+◌, ◌⊎◌, ⊎_elim, true, false, true≢false, List, [], ◌∷◌, Some, length, sym, ap, ◌∙◌, subst, arith}
+use Rattle.std.proofs.Common.{◌≡◌, ◌≢◌, ℕ, ◌+◌, ◌<◌, ◌⊎◌, ⊎_elim, true, false, true≢false, List, [], ◌∷◌, Some, length, sym, ap, ◌∙◌, subst, arith}
 use Rattle.std.specs.List.{Contains}
+use Rattle.std.specs.Prelude.{slice_get}
 use Rattle.yf_lines.specs.Lines.{Begun, PlaceOf, Table}
-use Rattle.yf_lines.proofs.PlaceLemmas.{place_unique}
+use Rattle.yf_lines.specs.declared.line.Line.{Line}
 use Rattle.yf_props.specs.Props.{PropsValue}
 use Rattle.yf_events.specs.declared.event.Entry.{Entry}
 use Rattle.yf_events.specs.declared.event.ScalarStyle.{ScalarStyle}
@@ -12,7 +13,11 @@ use Rattle.yf_events.specs.Tree.{Node, scalar, alias, sequence, mapping, Items, 
 use Rattle.yf_emit.specs.ContentStart.{content_start}
 use Rattle.yf_emit.specs.Fits.{is_block_style as is_block}
 use Rattle.yf_emit.specs.declared.style.Style.{Style}
-use Rattle.yf_emit.proofs.SetNodes.{Blockless, BlocklessItems, BlocklessPairs, EntryOn, SetDocuments, no_set_documents, set_document, SetItems, no_set_items, set_item, SetNode, set_line, set_scalar, set_sequence, set_mapping, SetPairs, no_set_pairs, set_pair, SetValue, beside, inside, Unquestioned, value_set as value_here}
+use Rattle.yf_emit.proofs.FormattedLines.{formed, formed_are}
+use Rattle.yf_emit.proofs.FormattedSet.{reading_set}
+use Rattle.yf_emit.proofs.LaidLines.{line_text}
+use Rattle.yf_emit.proofs.SetMeant.{BlockAt}
+use Rattle.yf_emit.proofs.SetNodes.{Blockless, BlocklessItems, BlocklessPairs, ColumnAt, EntryOn, SetDocuments, no_set_documents, set_document, SetItems, no_set_items, set_item, SetNode, set_line, set_scalar, set_sequence, set_mapping, SetPairs, no_set_pairs, set_pair, SetValue, beside, inside, Unquestioned, value_set as value_here}
 use Rattle.yf_rules.specs.Indents.{EntriesAt, ImplicitValue, Misindented, WantedColumn, WantedIndent, WithoutMark}
 use Rattle.yf_rules.specs.Indents.EntriesAt.{at_first}
 use Rattle.yf_rules.specs.Indents.Misindented.{entries, content}
@@ -23,7 +28,12 @@ use Rattle.yf_rules.specs.Nodes.{Holds, Numbered, NumberedPair, StandsIn, items_
 use Rattle.yf_rules.specs.Nodes.Holds.{as_item, as_key, as_value}
 use Rattle.yf_rules.specs.Nodes.StandsIn.{is_root, is_inner}
 use Rattle.yf_rules.specs.Scalars.{BlockContent, is_block_style}
+use Rattle.yf_rules.specs.Mended.{FormatsAreMended}
+use Rattle.yf_rules.specs.Rules.{indentation}
 use Rattle.yf_rules.proofs.KeySetLemmas.{head_or_later, nothing_in}
+use Rattle.yf_rules.proofs.MendedColumns.{column_place}
+use Rattle.yf_rules.proofs.MendedLines.{exactly_none}
+use Rattle.yf_rules.proofs.MendedScalarIndents.{content_stands}
 
 same_node : {a b : Node} → Some a ≡ Some b → a ≡ b
 same_node e = cc
@@ -85,14 +95,6 @@ not_block (mapping at false props ps) b e = true≢false (sym b.0)
 
 -- Columns and marks.
 
-first_column : {t : List ℕ} {m : ℕ} (f : Node) (column line : ℕ) (first : Node) (entry : Entry) → EntryOn t m f → Some f ≡ Some first → (standing first).entry ≡ Some entry
-    → PlaceOf t entry.start line (column + 1) → column ≡ m
-first_column {t} {m} f column line first entry e same g p =
-    let one : e.entry ≡ entry = same_entry (sym e.is ∙ (ap (λ x. (standing x).entry) (same_node same) ∙ g)) in
-    let both = place_unique p (subst (λ (v : Entry). PlaceOf t v.start e.line (m + 1)) one e.place) in
-    let q : column + 1 ≡ m + 1 = both.1 in
-    omega (arith, q)
-
 block_of : {src : Table} {x : Node} {column start : ℕ} → EntriesAt src x column start → is_block_collection x ≡ true
 block_of (at_first e f g h p) = e
 
@@ -102,7 +104,14 @@ unmarked_by a = no_mark a.is (λ w. a.none w.sign w.white)
 questioned_by : {src : Table} {k : Node} → WithoutMark src k → Unquestioned src.text k
 questioned_by (no_mark {entry = entry} e n) = record { entry = entry; is = e; none = λ f g. n (record { sign = f; white = g }) }
 
-module _ (src : Table) (s : Style) (trees : List DocumentTree) (Content : ℕ → Node → Type 0) where
+module _ (src : Table) (s : Style) (trees : List DocumentTree) (Content : ℕ → Node → Type 0) (right : (m o line c : ℕ) → ColumnAt src.text m o → PlaceOf src.text o line c → c ≡ m + 1) where
+  first_column : {m : ℕ} (f : Node) (column line : ℕ) (first : Node) (entry : Entry) → EntryOn src.text m f → Some f ≡ Some first → (standing first).entry ≡ Some entry → PlaceOf src.text entry.start line (column + 1)
+      → column ≡ m
+  first_column {m} f column line first entry e same g p =
+      let one : e.entry ≡ entry = same_entry (sym e.is ∙ (ap (λ x. (standing x).entry) (same_node same) ∙ g)) in
+      let q = right m entry.start line (column + 1) (subst (λ (v : Entry). ColumnAt src.text m v.start) one e.column) p in
+      omega (arith, q)
+
   abbrev SetAt : ℕ → ℕ → Node → Type 0
   SetAt m l x = SetNode src.text s Content m l x
 
@@ -253,3 +262,15 @@ module _ (src : Table) (s : Style) (trees : List DocumentTree) (Content : ℕ �
     none_misindented i o w (entries {y = y} a same e wanted n) = n (entries_right y w e wanted)
     none_misindented i o w (content {y = y} a same e f block begun c wanted n) =
         let there = wanted_right y w wanted in n (content_at y.1 there.1 e f block begun c)
+
+-- The law.
+
+pub indentation_mended : FormatsAreMended indentation
+indentation_mended fixable src r s w offsets e =
+    let a = formed w.utf8 w.formats in
+    let set = reading_set w.utf8 w.formats w.reads in
+    let broken : (k : ℕ) (l : Line) → slice_get src.lines k ≡ Some l → l.end < l.next = λ k l q. let next = (line_text k l (formed_are src.lines w.formats a w.lines) q).is.next in omega (arith, next) in
+    exactly_none offsets
+    (λ i o m. none_misindented src s set.trees (BlockAt src.text) (λ m o line c at p. column_place a.utf8 at w.lines broken p)
+    (λ l x props style text lines span behind first indent b f g begun c. content_stands src a.utf8 w.lines l x props style text lines span behind first indent b f g begun c) i o set.set m)
+    (e set.trees set.of_reading)

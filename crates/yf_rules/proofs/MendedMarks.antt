@@ -2,6 +2,7 @@
 use Rattle.std.proofs.Common.{◌≡◌, ℕ, ◌+◌, ◌⊎◌, ⊎_elim, Bool, true, false, true≢false, List, [], ◌∷◌, ◌++◌, Option, Some, length, map, refl, sym, ap, ◌∙◌, subst}
 use Rattle.std.specs.List.{Contains}
 use Rattle.std.specs.Prelude.{slice_get, if◌then◌else◌}
+use Rattle.std.proofs.lemmas.List.{length-map}
 use Rattle.std.proofs.lemmas.List.Elements.{Contains-append_cases}
 use Rattle.yf_chars.specs.Class.{is_white_or_end}
 use Rattle.yf_chars.specs.Text.{code}
@@ -10,18 +11,27 @@ use Rattle.yf_events.specs.Event.{Placed}
 use Rattle.yf_events.specs.Reading.{entries_of}
 use Rattle.yf_events.specs.Tree.{Node, scalar, alias, sequence, mapping, Items, no_items, item, Pairs, no_pairs, pair, DocumentTree, TreesOf, flat, flat_document, standing}
 use Rattle.yf_events.specs.declared.event.Entry.{Entry}
+use Rattle.yf_events.proofs.TreeLemmas.{trees_unique}
 use Rattle.yf_events.specs.declared.lists.Lists.{Lists}
 use Rattle.yf_emit.specs.Keys.{NodeAt, keys, keys_of_documents, keys_of_items, keys_of_pairs}
-use Rattle.yf_emit.specs.Normal.{Setting, Spot, inner_spot, is_implicit, key_spot, normal_document, root_spot, setting_of, value_of_implicit, value_spot}
+use Rattle.yf_emit.specs.Normal.{Normal, Setting, Spot, inner_spot, is_implicit, key_spot, normal_document, root_spot, setting_of, value_of_implicit, value_spot}
 use Rattle.yf_emit.specs.declared.style.Style.{Style}
+use Rattle.yf_emit.proofs.FixedLawsHold.{formats_normal}
+use Rattle.yf_emit.proofs.FormattedLines.{formed}
+use Rattle.yf_emit.proofs.FormattedSet.{reading_set}
+use Rattle.yf_emit.proofs.ReadingsOfTexts.{reading_is_textual}
+use Rattle.yf_emit.proofs.SetMeant.{BlockAt}
 use Rattle.yf_emit.proofs.SetNodes.{Blockless, entries_behind, SetDocuments, no_set_documents, set_document, SetItems, no_set_items, set_item, SetNode, set_line, set_scalar, set_sequence, set_mapping, SetPairs, no_set_pairs, set_pair, Unquestioned}
 use Rattle.yf_rules.specs.Layouts.{NeedlessMark}
+use Rattle.yf_rules.specs.Mended.{FormatsAreMended}
 use Rattle.yf_rules.specs.Nodes.{Numbered, StandsIn, items_from, pairs_from, roots_from}
 use Rattle.yf_rules.specs.Nodes.Holds.{as_item, as_key, as_value}
 use Rattle.yf_rules.specs.Nodes.StandsIn.{is_root, is_inner}
 use Rattle.yf_rules.specs.QuestionMarks.{IsMarked}
 use Rattle.yf_rules.specs.QuestionMarks.IsMarked.{marked}
+use Rattle.yf_rules.specs.Rules.{key_mark}
 use Rattle.yf_rules.proofs.KeySetLemmas.{head_or_later, is_head, is_later, nothing_in}
+use Rattle.yf_rules.proofs.MendedLines.{exactly_none}
 use Rattle.yf_rules.proofs.NodePlaceLemmas.{node_there}
 
 -- The entry that an event begins.
@@ -138,3 +148,21 @@ none_needless src r s trees Content of_reading w same i o a =
     let key : Contains (keys_of_documents (setting_of r s) 1 trees) (i, true) = subst (λ ds. Contains (keys_of_documents (setting_of r s) 1 ds) (i, true)) same a.key in
     let free = documents_free src.text (setting_of r s) trees Content 1 trees i w (λ y q. is_root q) key in
     not_marked_there free.node.1 (node_there of_reading free.stands) free.free (subst (λ j. IsMarked src.text r j o) (sym free.index) a.marked)
+
+-- The law.
+
+normal_same : {u : List ℕ} {q : Lists} {s : Style} → Normal u q s q → (trees : List DocumentTree) → TreesOf q trees → map (normal_document u (setting_of q s)) trees ≡ trees
+normal_same {u} {q} {s} n trees of_reading =
+    let g : DocumentTree → DocumentTree = normal_document u (setting_of q s) in
+    let made : TreesOf q (map g n.trees) = record { events = ap (λ (w : Lists). w.events) n.is; documents = n.of_reading.documents ∙ sym (length-map n.trees g) } in
+    subst (λ z. map g z ≡ z) (trees_unique q n.trees trees n.of_reading of_reading) (trees_unique q (map g n.trees) n.trees made n.of_reading)
+
+pub key_mark_mended : FormatsAreMended key_mark
+key_mark_mended fixable src r s w offsets e =
+    let u = (formed w.utf8 w.formats).utf8 in
+    let textual = reading_is_textual u w.reads in
+    let set = reading_set w.utf8 w.formats w.reads in
+    let here : SetDocuments src.text s (BlockAt src.text) textual.trees =
+    subst (λ z. SetDocuments src.text s (BlockAt src.text) z) (trees_unique r set.trees textual.trees set.of_reading textual.of_reading) set.set in
+    let same = normal_same (formats_normal w.source src.text s w.utf8 w.formats r w.reads) textual.trees textual.of_reading in
+    exactly_none offsets (λ i o m. none_needless src r s textual.trees (BlockAt src.text) textual.of_reading here same i o m) (e textual)

@@ -45,7 +45,7 @@ no_drop : (h : ℕ) (m : Line) (ms : List Line) → drop h [] ≡ m ∷ ms → �
 no_drop zero m ms e = cc
 no_drop (suc h) m ms e = cc
 
-follow_drop : (t : List ℕ) (h i j : ℕ) (all : List Line) (m : Line) (ms : List Line) → Follow t i j all → drop h all ≡ m ∷ ms → Follow t m.start j (m ∷ ms)
+pub follow_drop : (t : List ℕ) (h i j : ℕ) (all : List Line) (m : Line) (ms : List Line) → Follow t i j all → drop h all ≡ m ∷ ms → Follow t m.start j (m ∷ ms)
 follow_drop t zero i j [] m ms f e = absurd cc
 follow_drop t zero i j (l ∷ all) m ms f e =
     let same = first_of e in
