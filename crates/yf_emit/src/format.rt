@@ -1,5 +1,5 @@
 //! Formatting a text.
-ghost use Rattle.std.specs.Prelude.{◌≡◌, ◌≤◌, ◌^◌, length, IfErr, IfOk};
+ghost use Rattle.std.specs.Prelude.{◌≡◌, IfErr, IfOk};
 ghost use Rattle.std.specs.Str.{IsUtf8};
 ghost use Rattle.std.specs.String.{string_bytes};
 ghost use Rattle.yf_emit.specs.FormatKept.{FormatKept};
@@ -31,16 +31,16 @@ fn formatted(alloc: Global, text: &str, reading: &Reading, style: &Style) -> Res
 }
 
 /// The stream of the text in the house style: the layout of the normal form of the text's reading, and nothing else is that. It is
-/// accepted, and has the same content and the same comments at the same places (`FormatKept`, of texts of 1 GiB at most).
+/// accepted, and has the same content and the same comments at the same places (`FormatKept`).
 ///
 /// # Errors
 ///
 /// Those of `read_stream`.
 pub fn format(alloc: Global, text: &str, style: &Style) -> Result<String, Fault>
     ensures formatted { IfOk result (λ formatted. Formatted text.now style.now (string_bytes formatted)) }
-    ensures keeps { length text.now ≤ 2 ^ 30 → IfOk result (λ formatted. FormatKept text.now style.now (string_bytes formatted)) }
+    ensures keeps { IfOk result (λ formatted. FormatKept text.now style.now (string_bytes formatted)) }
     ensures refused { IfErr result (λ fault. IsStreamFault text.now fault) }
-    ensures refuses { length text.now ≤ 2 ^ 30 → IfErr result (StreamFault text.now) }
+    ensures refuses { IfErr result (StreamFault text.now) }
 {
     let reading = read_stream(alloc, text)?;
     match formatted(alloc, text, &reading, style) {
