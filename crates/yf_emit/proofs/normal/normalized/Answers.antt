@@ -1,7 +1,7 @@
 use Rattle.std.proofs.Common.{◌∙◌, ap}
 use Rattle.yf_events.specs.Content.{content_of}
 use Rattle.yf_emit.proofs.RestyledLemmas.{same_content}
-use Rattle.yf_emit.proofs.normal.normal_of.Goals as goal
+use Rattle.yf_emit.proofs.normal.normalized.Goals as goal
 
 pub returns-in-Ok-Some-clause-content : goal.returns-in-Ok-Some-clause-content
 returns-in-Ok-Some-clause-content c =
