@@ -31,3 +31,9 @@ returns-clause-reads c = for_memory
 pub unreachable-requires : goal.unreachable-requires
 unreachable-requires c =
     not_unbuilt c.in-Ok-None.ensures c.in-Ok-None.field-0-is (lists_of c.args.text.now (c.read_lists.ensures.reads (omega arith)) c.in-Ok-Ok.is c.in-Ok-Ok.field-0-is)
+
+pub returns-then-text-gt-LONGEST-clause-made : goal.returns-then-text-gt-LONGEST-clause-made
+returns-then-text-gt-LONGEST-clause-made c = refused_memory refl
+
+pub returns-then-text-gt-LONGEST-clause-reads : goal.returns-then-text-gt-LONGEST-clause-reads
+returns-then-text-gt-LONGEST-clause-reads c = for_memory
