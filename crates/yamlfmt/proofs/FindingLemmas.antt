@@ -1,5 +1,5 @@
 -- The lines of the findings that are left are those of the next one and of the ones after it.
-use Rattle.std.proofs.Common.{◌≡◌, ℕ, ◌+◌, ◌<◌, ◌≤◌, ◌^◌, List, [], ◌∷◌, ◌++◌, Bool, Option, length, drop, get_or, ap, sym, ◌∙◌, subst, add-one, drop-cons}
+use Rattle.std.proofs.Common.{◌≡◌, ℕ, ◌+◌, ◌<◌, List, [], ◌∷◌, ◌++◌, Bool, Option, length, drop, get_or, ap, sym, ◌∙◌, subst, add-one, drop-cons}
 use Rattle.std.specs.Str.{IsUtf8}
 use Rattle.yf_lines.specs.Lines.{AreLines, Table}
 use Rattle.yf_lines.specs.Output.{Wrote, Broke}
@@ -23,7 +23,7 @@ next_finding old new before after text findings i d within p =
 -- what the rules find in a text
 pub found_text : {C : Table → Lists → List Finding → Type 0} {text : List ℕ} {findings : List Finding} (src : Table) (reading : Lists)
     → src.text ≡ text → AreLines text src.lines → IsStream DEPTH (events_of reading)
-    → (length text ≤ 2 ^ 30 → TheReading text reading) → C src reading findings → FoundIn C text findings
+    → TheReading text reading → C src reading findings → FoundIn C text findings
 found_text src reading same lines nested reads checked = record {
   src = src;
   reading = reading;
@@ -36,15 +36,15 @@ found_text src reading same lines nested reads checked = record {
 
 -- what the rules find in the text that was read
 pub found_in : {C : Table → Lists → List Finding → Type 0} {known : Option (List ℕ)} {text bytes : List ℕ} {findings : List Finding}
-    → FoundIn C text findings → text ≡ bytes → Gave known bytes → length bytes ≤ 2 ^ 30 → IsUtf8 text → Found C known findings
-found_in {known = known} {text = text} found same gave short utf8 = record {
+    → FoundIn C text findings → text ≡ bytes → Gave known bytes → IsUtf8 text → Found C known findings
+found_in {known = known} {text = text} found same gave utf8 = record {
   src = found.src;
   reading = found.reading;
   gave = subst (λ t. Gave known t) (sym (found.of_text ∙ same)) gave;
   utf8 = subst (λ t. IsUtf8 t) (sym found.of_text) utf8;
   lines = found.lines;
   nested = found.nested;
-  reads = subst (λ t. TheReading t found.reading) (sym found.of_text) (found.reads (subst (λ t. length t ≤ 2 ^ 30) (sym same) short));
+  reads = subst (λ t. TheReading t found.reading) (sym found.of_text) found.reads;
   checked = found.checked;
 }
 

@@ -1,5 +1,5 @@
 -- What the rules find in a text, before it is known where the text comes from.
-use Rattle.std.specs.Prelude.{◌≡◌, ◌≤◌, ◌^◌, ℕ, List, length}
+use Rattle.std.specs.Prelude.{◌≡◌, ℕ, List}
 use Rattle.yf_lines.specs.Lines.{AreLines, Table}
 use Rattle.yf_events.specs.declared.lists.Lists.{Lists}
 use Rattle.yf_events.specs.declared.reading.TheConstants.{DEPTH}
@@ -9,12 +9,12 @@ use Rattle.yf_rules.specs.declared.finding.Finding.{Finding}
 use Rattle.yf_stream.specs.StreamReader.{TheReading}
 
 -- the lines are those of the text, and in a reading whose events are a well nested stream the rules find this; C tells what the rules
--- find. It is the reading of the text, which has 1 GiB at most
+-- find. It is the reading of the text
 pub record FoundIn (C : Table → Lists → List Finding → Type 0) (text : List ℕ) (findings : List Finding) : Type 0 where
   pub src : Table
   pub reading : Lists
   pub of_text : src.text ≡ text
   pub lines : AreLines src.text src.lines
   pub nested : IsStream DEPTH (events_of reading)
-  pub reads : length text ≤ 2 ^ 30 → TheReading text reading
+  pub reads : TheReading text reading
   pub checked : C src reading findings

@@ -2,9 +2,10 @@
 
 use crate::command_line::{Cmd, Verb};
 use crate::program::run;
-use std::alloc::Global;
-use std::test::Fail;
+use crate::report::report;
+use std::alloc::{AllocError, Global};
 use yf_emit::style::Style;
+use yf_lines::fault::Fault;
 use yf_lines::watched::{Sink, Source, Watched};
 use yf_rules::rule::Rule;
 
@@ -14,6 +15,15 @@ pub struct Answer {
     pub status: u8,
     pub output: Vec<u8>,
     pub line: Vec<u8>,
+}
+
+impl Answer {
+    /// Whether the status is that, and the two streams are these texts.
+    pub fn is(&self, status: u8, output: &str, line: &str) -> bool {
+        self.status == status
+            && self.output.as_slice() == output.as_bytes()
+            && self.line.as_slice() == line.as_bytes()
+    }
 }
 
 /// A command over standard input.
@@ -74,12 +84,37 @@ pub fn answer_over<R: Source, W: Sink>(
     (status, error_stream.into_inner())
 }
 
+/// Whether a fault is answered with that status and that line.
+pub fn reports(alloc: Global, fault: &Fault, status: u8, line: &str) -> bool {
+    let mut stream = Watched::new(Vec::new(alloc));
+    report(fault, &mut stream) == status && stream.get_ref().as_slice() == line.as_bytes()
+}
+
 /// The lines, which stand between ` / ` in a table.
-pub fn lines_of(alloc: Global, lines: &str) -> Result<String, Fail> {
+pub fn lines_of(alloc: Global, lines: &str) -> Result<String, AllocError> {
     let mut text = String::new(alloc);
     for line in lines.split(" / ") {
         text.push_str(line)?;
         text.push('\n')?;
+    }
+    Ok(text)
+}
+
+/// A text so many times between two others, the second of which stands so many times as well.
+pub fn repeated(
+    alloc: Global,
+    before: &str,
+    part: &str,
+    count: usize,
+    rest: &str,
+    more: usize,
+) -> Result<String, AllocError> {
+    let mut text = String::from_str(alloc, before)?;
+    for _ in 0..count {
+        text.push_str(part)?;
+    }
+    for _ in 0..more {
+        text.push_str(rest)?;
     }
     Ok(text)
 }

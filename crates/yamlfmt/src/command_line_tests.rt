@@ -1,6 +1,6 @@
 //! Command lines: what they ask for, and the texts of help and of refusals.
 
-use crate::command_line::{Usage, Verb, parse_line};
+use crate::command_line::{Cmd, Usage, Verb, parse_line};
 use std::alloc::{AllocError, Global};
 use std::test::Fail;
 use yf_lines::text::OwnedText;
@@ -15,6 +15,12 @@ fn words_of(alloc: Global, line: &str) -> Result<Vec<String>, AllocError> {
     Ok(words)
 }
 
+/// What the words of a line ask for.
+fn parsed(alloc: Global, line: &str) -> Result<Result<Cmd, Usage>, AllocError> {
+    let words = words_of(alloc, line)?;
+    Ok(parse_line(alloc, words.as_slice()))
+}
+
 /// The text, and nothing where there is none.
 fn text_or_empty(text: &Option<OwnedText>) -> &str {
     match text {
@@ -23,77 +29,101 @@ fn text_or_empty(text: &Option<OwnedText>) -> &str {
     }
 }
 
-#[test]
-fn reads_commands(rt: HostRuntime) -> Result<(), Fail> {
-    let lines = [
-        ("events", Verb::Events, "", "", false),
-        ("events a.yaml", Verb::Events, "", "a.yaml", false),
-        ("check a.yaml", Verb::Check, "", "a.yaml", false),
-        ("fmt", Verb::Fmt, "", "", false),
-        ("fmt --write a.yaml", Verb::Fmt, "", "a.yaml", true),
-        (
-            "fmt a.yaml --write --config=s.toml",
-            Verb::Fmt,
-            "s.toml",
-            "a.yaml",
-            true,
+/// Whether a line asks for that command.
+fn asks_for(
+    alloc: Global,
+    line: &str,
+    verb: Verb,
+    config: &str,
+    file: &str,
+    write: bool,
+) -> Result<bool, AllocError> {
+    match parsed(alloc, line)? {
+        Ok(command) => Ok(
+            command.verb == verb
+                && command.write == write
+                && text_or_empty(&command.config) == config
+                && text_or_empty(&command.file) == file,
         ),
-        (
-            "events --config s.toml -- --write",
-            Verb::Events,
-            "s.toml",
-            "--write",
-            false,
-        ),
-    ];
-    for (line, verb, config, file, write) in &lines {
-        let words = words_of(rt.alloc(), line)?;
-        let Ok(command) = parse_line(rt.alloc(), words.as_slice()) else {
-            return Err(Fail::from(*line));
-        };
-        assert!(rt; command.verb == *verb && command.write == *write, "{line}");
-        assert_eq!(rt; text_or_empty(&command.config), *config, "{line}");
-        assert_eq!(rt; text_or_empty(&command.file), *file, "{line}");
+        Err(_) => Ok(false),
     }
-    Ok(())
 }
 
-#[test]
-fn refuses_other_words(rt: HostRuntime) -> Result<(), Fail> {
-    let lines = [
-        "",
+/// Lines, and the command for which they ask: the settings file, the file, and whether it is rewritten.
+const COMMANDS: [(&str, Verb, &str, &str, bool); 7] = [
+    ("events", Verb::Events, "", "", false),
+    ("events a.yaml", Verb::Events, "", "a.yaml", false),
+    ("check a.yaml", Verb::Check, "", "a.yaml", false),
+    ("fmt", Verb::Fmt, "", "", false),
+    ("fmt --write a.yaml", Verb::Fmt, "", "a.yaml", true),
+    (
+        "fmt a.yaml --write --config=s.toml",
+        Verb::Fmt,
+        "s.toml",
         "a.yaml",
-        "print",
-        "--config s.toml events",
-        "events a b",
-        "check a b",
-        "events --config",
-        "events --write a",
-        "events --version",
-        "check --write a",
-        "events --config s --config t",
-        "fmt --write",
-        "fmt --write=a a",
-        "fmt --write --write a",
-        "fmt -w a",
-    ];
-    for line in &lines {
-        let words = words_of(rt.alloc(), line)?;
+        true,
+    ),
+    (
+        "events --config s.toml -- --write",
+        Verb::Events,
+        "s.toml",
+        "--write",
+        false,
+    ),
+];
+
+#[test]
+fn reads_commands(rt: HostRuntime) -> Result<(), Fail> {
+    for (line, verb, config, file, write) in COMMANDS {
         assert!(rt;
-            matches!(
-                parse_line(rt.alloc(), words.as_slice()),
-                Err(Usage::Wrong(_))
-            ),
+            asks_for(rt.alloc(), line, verb, config, file, write)?,
             "{line}"
         );
     }
     Ok(())
 }
 
+/// What is printed for a line: `0` and the text of help, `3` and why it is refused, and nothing for a command.
+fn said(alloc: Global, line: &str) -> Result<String, AllocError> {
+    let (sign, text) = match parsed(alloc, line)? {
+        Err(Usage::Help(text)) => ("0", text),
+        Err(Usage::Wrong(text)) => ("3", text),
+        _ => return Ok(String::new(alloc)),
+    };
+    let mut shown = String::from_str(alloc, sign)?;
+    shown.push_str(text.as_str())?;
+    Ok(shown)
+}
+
+/// Lines that are refused.
+const REFUSED: [&str; 15] = [
+    "",
+    "a.yaml",
+    "print",
+    "--config s.toml events",
+    "events a b",
+    "check a b",
+    "events --config",
+    "events --write a",
+    "events --version",
+    "check --write a",
+    "events --config s --config t",
+    "fmt --write",
+    "fmt --write=a a",
+    "fmt --write --write a",
+    "fmt -w a",
+];
+
 #[test]
-fn says_how_it_is_used(rt: HostRuntime) -> Result<(), Fail> {
-    let overview =
-        "Prints the events of a YAML stream, checks its style and rewrites it in one house style
+fn refuses_other_words(rt: HostRuntime) -> Result<(), Fail> {
+    for line in REFUSED {
+        assert!(rt; said(rt.alloc(), line)?.as_str().starts_with('3'), "{line}");
+    }
+    Ok(())
+}
+
+const OVERVIEW: &str =
+    "0Prints the events of a YAML stream, checks its style and rewrites it in one house style
 
 Usage: yamlfmt <COMMAND>
 
@@ -107,7 +137,14 @@ Options:
   -h, --help     Print help
   -V, --version  Print version
 ";
-    let events = "Print the events of a YAML stream
+
+/// Lines, and what is said of them, as `said` gives it.
+const SAID: [(&str, &str); 10] = [
+    ("--help", OVERVIEW),
+    ("help", OVERVIEW),
+    (
+        "events -h",
+        "0Print the events of a YAML stream
 
 Usage: yamlfmt events [OPTIONS] [FILE]
 
@@ -117,47 +154,31 @@ Arguments:
 Options:
       --config <FILE>  Read the settings of the house style from this TOML file
   -h, --help           Print help
-";
-    for (line, expected) in &[
-        ("--help", overview),
-        ("help", overview),
-        ("events -h", events),
-        ("--version", "yamlfmt 0.2.0\n"),
-        ("-V", "yamlfmt 0.2.0\n"),
-    ] {
-        let words = words_of(rt.alloc(), line)?;
-        match parse_line(rt.alloc(), words.as_slice()) {
-            Err(Usage::Help(text)) => assert_eq!(rt; text.as_str(), *expected, "{line}"),
-            _ => panic!(rt; "{line}"),
-        }
-    }
-    Ok(())
-}
-
-#[test]
-fn says_what_is_wrong(rt: HostRuntime) -> Result<(), Fail> {
-    let lines = [
-        (
-            "fmt --write",
-            "error: the argument '--write' needs a FILE
+",
+    ),
+    ("--version", "0yamlfmt 0.2.0\n"),
+    ("-V", "0yamlfmt 0.2.0\n"),
+    (
+        "fmt --write",
+        "3error: the argument '--write' needs a FILE
 
 Usage: yamlfmt fmt [OPTIONS] [FILE]
 
 For more information, try '--help'.
 ",
-        ),
-        (
-            "events a b",
-            "error: unexpected argument 'b' found
+    ),
+    (
+        "events a b",
+        "3error: unexpected argument 'b' found
 
 Usage: yamlfmt events [OPTIONS] [FILE]
 
 For more information, try '--help'.
 ",
-        ),
-        (
-            "evnts",
-            "error: unrecognized subcommand 'evnts'
+    ),
+    (
+        "evnts",
+        "3error: unrecognized subcommand 'evnts'
 
   tip: a similar subcommand exists: 'events'
 
@@ -165,14 +186,33 @@ Usage: yamlfmt <COMMAND>
 
 For more information, try '--help'.
 ",
-        ),
-    ];
-    for (line, expected) in &lines {
-        let words = words_of(rt.alloc(), line)?;
-        match parse_line(rt.alloc(), words.as_slice()) {
-            Err(Usage::Wrong(text)) => assert_eq!(rt; text.as_str(), *expected, "{line}"),
-            _ => panic!(rt; "{line}"),
-        }
+    ),
+    // control characters are shown
+    (
+        "events a b\u{1b}[2J\n",
+        "3error: unexpected argument 'b\\x1B[2J\\x0A' found
+
+Usage: yamlfmt events [OPTIONS] [FILE]
+
+For more information, try '--help'.
+",
+    ),
+    (
+        "x\u{9b}y",
+        "3error: unrecognized subcommand 'x\\x9By'
+
+Usage: yamlfmt <COMMAND>
+
+For more information, try '--help'.
+",
+    ),
+];
+
+#[test]
+fn says_how_it_is_used_and_what_is_wrong(rt: HostRuntime) -> Result<(), Fail> {
+    for (line, wanted) in SAID {
+        let said = said(rt.alloc(), line)?;
+        assert!(rt; said.as_str() == wanted, "{line}");
     }
     Ok(())
 }

@@ -1,6 +1,6 @@
 //! The events of streams, and why streams are refused, in tables of data.
 
-use crate::answers::{Answer, answer_to, lines_of};
+use crate::answers::{Answer, answer_to, lines_of, repeated};
 use crate::command_line::Verb;
 use std::alloc::Global;
 use std::test::Fail;
@@ -8,22 +8,6 @@ use yf_emit::style::Style;
 
 fn events(alloc: Global, input: &[u8]) -> Answer {
     answer_to(alloc, Verb::Events, &[], &Style::house(), input)
-}
-
-/// A text, a part of it so many times, and another text.
-fn repeated(
-    alloc: Global,
-    front: &str,
-    part: &str,
-    count: usize,
-    back: &str,
-) -> Result<String, Fail> {
-    let mut text = String::from_str(alloc, front)?;
-    for _ in 0..count {
-        text.push_str(part)?;
-    }
-    text.push_str(back)?;
-    Ok(text)
 }
 
 /// Whether the input is accepted, and its events are those lines.
@@ -234,57 +218,49 @@ fn refuses_breaches(rt: HostRuntime) {
     }
 }
 
+/// Bytes that are no text, and the line of the fault.
+const NO_TEXTS: [(&[u8], &str); 2] = [
+    (b"a\n\xFF", "byte 2 refused: not-utf8\n"),
+    (b"\xF0\x9F\x98", "byte 0 refused: not-utf8\n"),
+];
+
 #[test]
 fn refuses_bytes_that_are_no_text(rt: HostRuntime) {
-    let rows = [
-        (b"a\n\xFF".as_slice(), "byte 2 refused: not-utf8\n"),
-        (b"\xF0\x9F\x98".as_slice(), "byte 0 refused: not-utf8\n"),
-    ];
-    for (input, line) in &rows {
+    for (input, line) in NO_TEXTS {
         assert!(rt; refuses(rt.alloc(), input, line), "{line}");
     }
 }
 
-#[test]
-fn counts_the_characters_of_keys(rt: HostRuntime) -> Result<(), Fail> {
-    let rows = [
-        ("", 1024, ": v", 0),
-        ("", 1025, ": v", 2),
-        ("[", 1025, ": v]", 2),
-        ("{", 1025, ": v}", 0),
-    ];
-    for (front, count, back, status) in &rows {
-        let input = repeated(rt.alloc(), front, "k", *count, back)?;
-        let answer = events(rt.alloc(), input.as_str().as_bytes());
-        assert!(rt; answer.status == *status, "{front}");
+/// Streams that hold a long key or many open collections: the parts of `repeated`, and the end of the line of the fault,
+/// where there is one.
+const LIMITS: [(&str, &str, usize, &str, usize, Option<&str>); 9] = [
+    ("", "k", 1024, ": v", 1, None),
+    ("", "k", 1025, ": v", 1, Some("\n")),
+    ("[", "k", 1025, ": v]", 1, Some("\n")),
+    ("{", "k", 1025, ": v}", 1, None),
+    ("", "- ", 1024, "a", 1, None),
+    ("", "[", 1024, "]", 1024, None),
+    ("", "- ", 1025, "", 0, Some(" refused: too-deep\n")),
+    ("", "[", 1025, "", 0, Some(" refused: too-deep\n")),
+    ("", "[", 1_000_000, "", 0, Some(" refused: too-deep\n")),
+];
+
+/// Whether an input is accepted, or refused with a line that ends so.
+fn is_answered(alloc: Global, input: &[u8], line_end: Option<&str>) -> bool {
+    match line_end {
+        Some(line_end) => refuses(alloc, input, line_end),
+        None => events(alloc, input).status == 0,
     }
-    Ok(())
 }
 
 #[test]
-fn counts_open_collections(rt: HostRuntime) -> Result<(), Fail> {
-    let accepted = [("- ", 1024, "a")];
-    for (part, count, back) in &accepted {
-        let input = repeated(rt.alloc(), "", part, *count, back)?;
+fn counts_characters_of_keys_and_open_collections(rt: HostRuntime) -> Result<(), Fail> {
+    for (before, part, count, rest, more, line_end) in LIMITS {
+        let input = repeated(rt.alloc(), before, part, count, rest, more)?;
         assert!(rt;
-            events(rt.alloc(), input.as_str().as_bytes()).status == 0,
-            "{part}"
+            is_answered(rt.alloc(), input.as_str().as_bytes(), line_end),
+            "{before}{part} {count}"
         );
     }
-    let refused = [("- ", 1025), ("[", 1025), ("[", 1_000_000)];
-    for (part, count) in &refused {
-        let input = repeated(rt.alloc(), "", part, *count, "")?;
-        assert!(rt;
-            refuses(
-                rt.alloc(),
-                input.as_str().as_bytes(),
-                " refused: too-deep\n"
-            ),
-            "{part}"
-        );
-    }
-    let open = repeated(rt.alloc(), "", "[", 1024, "")?;
-    let input = repeated(rt.alloc(), open.as_str(), "]", 1024, "")?;
-    assert!(rt; events(rt.alloc(), input.as_str().as_bytes()).status == 0);
     Ok(())
 }

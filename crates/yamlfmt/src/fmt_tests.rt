@@ -1,6 +1,6 @@
 //! What the formatter writes, in tables of data.
 
-use crate::answers::answer_to;
+use crate::answers::{answer_to, repeated};
 use crate::command_line::Verb;
 use crate::settings::style_from_toml;
 use std::alloc::{AllocError, Global};
@@ -213,79 +213,54 @@ fn formats_comments_and_blank_lines(rt: HostRuntime) {
     }
 }
 
+/// Whether the formatter writes that text of a stream under settings.
+fn formats_under(alloc: Global, settings: &str, input: &str, text: &str) -> bool {
+    match style_from_toml(alloc, settings) {
+        Ok(style) => formats(alloc, &style, input, text),
+        Err(_) => false,
+    }
+}
+
 #[test]
 fn formats_under_settings(rt: HostRuntime) {
     for (settings, input, text) in WITH_SETTINGS {
-        match style_from_toml(rt.alloc(), settings) {
-            Ok(style) => assert!(rt; formats(rt.alloc(), &style, input, text), "{input}"),
-            Err(fault) => panic!(rt; "{fault}"),
-        }
+        assert!(rt; formats_under(rt.alloc(), settings, input, text), "{input}");
     }
 }
 
-/// A text of one character so many times, between two others.
-fn repeated(
-    alloc: Global,
-    before: &str,
-    part: &str,
-    count: usize,
-    behind: &str,
-) -> Result<String, AllocError> {
-    let mut text = String::from_str(alloc, before)?;
-    for _ in 0..count {
-        text.push_str(part)?;
-    }
-    text.push_str(behind)?;
-    Ok(text)
-}
+/// A text of a part so many times between two others, the second of which stands so many times as well.
+type Repeated = (&'static str, &'static str, usize, &'static str, usize);
 
-/// Whether the formatter writes `before`, `part` so many times and `behind` of `given`, the same part and `end`.
-fn formats_long(
-    alloc: Global,
-    input: (&str, &str, usize, &str),
-    text: (&str, &str, usize, &str),
-) -> Result<bool, AllocError> {
-    let input = repeated(alloc, input.0, input.1, input.2, input.3)?;
-    let text = repeated(alloc, text.0, text.1, text.2, text.3)?;
+/// Streams with long keys and deep sequences, and what is written of them.
+const LONG: [(Repeated, Repeated); 5] = [
+    (
+        ("", "k", 1023, ": v\n", 1),
+        ("---\n", "k", 1023, ": v\n", 1),
+    ),
+    (
+        ("", "k", 1024, ": v\n", 1),
+        ("---\n? ", "k", 1024, "\n: v\n", 1),
+    ),
+    (
+        ("{", "k", 1025, ": v}\n", 1),
+        ("---\n? ", "k", 1025, "\n: v\n", 1),
+    ),
+    (("", "- ", 1024, "a\n", 1), ("---\n", "- ", 1024, "a\n", 1)),
+    (("", "[", 1024, "]", 1024), ("---\n", "- ", 1023, "[]\n", 1)),
+];
+
+/// Whether the formatter writes the second text of the first one.
+fn formats_long(alloc: Global, input: Repeated, text: Repeated) -> Result<bool, AllocError> {
+    let input = repeated(alloc, input.0, input.1, input.2, input.3, input.4)?;
+    let text = repeated(alloc, text.0, text.1, text.2, text.3, text.4)?;
     Ok(formats(alloc, &Style::house(), input.as_str(), text.as_str()))
 }
 
 #[test]
-fn formats_long_keys(rt: HostRuntime) -> Result<(), Fail> {
-    let alloc = rt.alloc();
-    let short = formats_long(
-        alloc,
-        ("", "k", 1023, ": v\n"),
-        ("---\n", "k", 1023, ": v\n"),
-    )?;
-    assert!(rt; short);
-    let long = formats_long(
-        alloc,
-        ("", "k", 1024, ": v\n"),
-        ("---\n? ", "k", 1024, "\n: v\n"),
-    )?;
-    assert!(rt; long);
-    let flow = formats_long(
-        alloc,
-        ("{", "k", 1025, ": v}\n"),
-        ("---\n? ", "k", 1025, "\n: v\n"),
-    )?;
-    assert!(rt; flow);
-    Ok(())
-}
-
-#[test]
-fn formats_deep_sequences(rt: HostRuntime) -> Result<(), Fail> {
-    let alloc = rt.alloc();
-    let dashes = formats_long(alloc, ("", "- ", 1024, "a\n"), ("---\n", "- ", 1024, "a\n"))?;
-    assert!(rt; dashes);
-    let closing = repeated(alloc, "", "]", 1024, "\n")?;
-    let brackets = formats_long(
-        alloc,
-        ("", "[", 1024, closing.as_str()),
-        ("---\n", "- ", 1023, "[]\n"),
-    )?;
-    assert!(rt; brackets);
+fn formats_long_keys_and_deep_sequences(rt: HostRuntime) -> Result<(), Fail> {
+    for (input, text) in LONG {
+        assert!(rt; formats_long(rt.alloc(), input, text)?, "{}", text.0);
+    }
     Ok(())
 }
 
@@ -302,15 +277,9 @@ const REFUSED: [(&str, &str); 4] = [
 
 #[test]
 fn refuses_streams(rt: HostRuntime) {
+    let style = Style::house();
     for (input, line) in REFUSED {
-        let answer = answer_to(
-            rt.alloc(),
-            Verb::Fmt,
-            &[],
-            &Style::house(),
-            input.as_bytes(),
-        );
-        assert!(rt; answer.status == 2 && answer.output.is_empty(), "{input}");
-        assert_eq!(rt; answer.line.as_slice(), line.as_bytes(), "{input}");
+        let answer = answer_to(rt.alloc(), Verb::Fmt, &[], &style, input.as_bytes());
+        assert!(rt; answer.is(2, "", line), "{input}");
     }
 }

@@ -1,5 +1,5 @@
 //! The runs of the program, over any reader and any writer. Their contracts are told in `Run` of the specs.
-ghost use Rattle.std.specs.Prelude.{◌≡◌, ◌≤◌, ◌^◌, length, string_bytes, IfErr, IfOk, OnOk};
+ghost use Rattle.std.specs.Prelude.{◌≡◌, string_bytes, IfErr, IfOk, OnOk};
 ghost use Rattle.yf_lines.specs.Output.{Writes};
 ghost use Rattle.yf_rules.specs.Check.{Checked, RuleFindings};
 ghost use Rattle.yf_stream.specs.Refusal.{IsStreamFault};
@@ -98,7 +98,7 @@ fn findings_in(
         (λ rule found. RuleFindings (definition rule) src reading style.now found) rules.now findings)
         text.now findings.items) }
     ensures refused { IfErr result (λ fault. IsStreamFault text.now fault) }
-    ensures refuses { length text.now ≤ 2 ^ 30 → IfErr result (StreamFault text.now) }
+    ensures refuses { IfErr result (StreamFault text.now) }
 {
     let src = match Src::new(alloc, text) {
         Ok(src) => src,

@@ -34,6 +34,7 @@ pub mod KeptLemmas
 -- `normal`: the normal form of a reading, which is settled, and the only one
 pub mod RestyledLemmas
 pub mod NormalLemmas
+pub mod NormalInPlace
 pub mod StyledTwice
 pub mod SettledTwice
 pub mod UniqueLemmas

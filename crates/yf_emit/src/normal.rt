@@ -1,14 +1,15 @@
 //! The normal form of a reading: each scalar in the style, and each collection in the form, that the house style gives it.
-ghost use Rattle.std.specs.Prelude.{◌≡◌, map, IfErr, IfOk};
+ghost use Rattle.std.specs.Prelude.{◌≡◌, IfErr, IfOk};
 ghost use Rattle.yf_events.specs.Content.{content_of};
-ghost use Rattle.yf_events.specs.Event.{event_value, new_event_value, placed_value, view_value};
+ghost use Rattle.yf_events.specs.Event.{event_value};
 ghost use Rattle.yf_events.specs.Nested.{IsStream};
 ghost use Rattle.yf_events.specs.Reading.{Fits, events_of};
 ghost use Rattle.yf_events.specs.declared.reading.TheConstants.{DEPTH};
 ghost use Rattle.yf_emit.specs.Normal.{Normal};
 ghost use Rattle.yf_emit.specs.NormalEvents.{normal_from};
-ghost use Rattle.yf_emit.specs.Restyled.{IsRestyled, lines_of, restyled, restyled_event};
+ghost use Rattle.yf_emit.specs.Restyled.{IsRestyled};
 ghost use Rattle.yf_emit.specs.Textual.{IsTextual};
+ghost use Rattle.yf_emit.specs.Wanted.{wanted_of_event};
 
 pub mod copies;
 
@@ -16,96 +17,40 @@ use crate::form::decide::decide;
 use crate::form::forms::Forms;
 use crate::form::measure::measure_text;
 use crate::form::measures::Measures;
-use crate::normal::copies::{
-    copied_comments, copied_documents, copied_notes, copied_offsets, copied_slices,
-};
+use crate::normal::copies::copied_lists;
 use crate::style::Style;
 use crate::text::wanted::wanted_of;
 use std::alloc::{AllocError, Global};
-use yf_events::event::{Event, NewEvent, PlacedEvent, ScalarStyle, View};
+use yf_events::event::{Event, ScalarStyle};
 use yf_events::events::Events;
 use yf_events::lists::Lists;
 use yf_events::reading::Reading;
-use yf_events::slices::Slices;
 use yf_lines::fault::Fault;
+use yf_lines::quotes::Quotes;
 use yf_lines::source_text::Src;
-use yf_lines::text::Text;
 
-/// The event in its normal form: `flow` says whether a collection is written between brackets.
-fn normal_event<'a>(event: Event<'a>, flow: bool, style: &Style) -> NewEvent<'a>
-    ensures { new_event_value result ≡ restyled_event style.now.quotes flow (event_value event.entry) }
+/// The style that the house gives the scalar that the event is; `Plain` of any other event.
+#[inline(always)]
+fn style_of(event: Event, quotes: Quotes) -> ScalarStyle
+    ensures { result ≡ wanted_of_event (event_value event.entry) quotes }
 {
     match event {
-        Event::StreamStart => NewEvent::StreamStart,
-        Event::StreamEnd => NewEvent::StreamEnd,
-        Event::DocStart { explicit } => NewEvent::DocStart { explicit },
-        Event::DocEnd { explicit } => NewEvent::DocEnd { explicit },
-        Event::SeqStart { props, .. } => NewEvent::SeqStart { flow, props },
-        Event::SeqEnd => NewEvent::SeqEnd,
-        Event::MapStart { props, .. } => NewEvent::MapStart { flow, props },
-        Event::MapEnd => NewEvent::MapEnd,
-        Event::Scalar {
-            props,
-            style: written,
-            text,
-        } => NewEvent::Scalar {
-            props,
-            style: wanted_of(written, text, style.quotes),
-            text: Text::Part(text),
-        },
-        Event::Alias { name } => NewEvent::Alias { name },
+        Event::Scalar { style, text, .. } => wanted_of(style, text, quotes),
+        _ => ScalarStyle::Plain,
     }
 }
 
-/// The lines that are kept of an event in its normal form: those of a folded scalar.
-fn normal_lines<'a>(
+/// Puts the events into their normal form. A collection is written between brackets where it is empty, or kept, or stands in a kept
+/// one. After a refusal the events are of no use.
+fn normalize<'a>(
     alloc: Global,
-    event: &NewEvent,
-    lines: &'a [&str],
-) -> Result<Slices<'a>, AllocError>
-    ensures { IfOk result (λ kept. kept ≡ lines_of (new_event_value event.now) (map (λ line. line.now) lines.now)) }
-{
-    match event {
-        NewEvent::Scalar {
-            style: ScalarStyle::Folded,
-            ..
-        } => copied_slices(alloc, lines),
-        _ => Ok(Slices::new(alloc)),
-    }
-}
-
-/// The event in its normal form, at its place.
-fn normal_placed<'a>(
-    alloc: Global,
-    view: View<'a>,
-    flow: bool,
-    style: &Style,
-) -> Result<PlacedEvent<'a>, AllocError>
-    ensures { IfOk result (λ normal. placed_value normal ≡ restyled style.now.quotes flow (view_value view.entry)) }
-{
-    let event = normal_event(view.event, flow, style);
-    let folded = normal_lines(alloc, &event, view.folded)?;
-    Ok(PlacedEvent {
-        event,
-        span: view.span,
-        tag_offset: view.tag_offset,
-        entry: view.entry,
-        folded,
-    })
-}
-
-/// The events in their normal form. A collection is written between brackets where it is empty, or kept, or stands in a kept
-/// one.
-fn normal_events<'a>(
-    alloc: Global,
-    events: &'a Events<'a>,
+    events: &mut Events<'a>,
     measures: &Measures,
     forms: &Forms,
     style: &Style,
-) -> Result<Events<'a>, AllocError>
-    ensures { IfOk result (λ normal. normal ≡ normal_from style.now.quotes measures.now 0 0 forms.now events.now) }
+) -> Result<(), AllocError>
+    ensures { IfOk result (λ _. events.new ≡ normal_from style.now.quotes measures.now 0 0 forms.now events.old) }
 {
-    let mut normal = Events::new(alloc);
     let mut kept_until = 0;
     for i in 0..events.len() {
         let measure = measures.at(i);
@@ -113,46 +58,41 @@ fn normal_events<'a>(
             kept_until = measure.last;
         }
         let flow = measure.is_leaf(i) || i < kept_until;
-        normal.push(normal_placed(alloc, events.at(i), flow, style)?)?;
+        let wanted = style_of(events.event(i), style.quotes);
+        events.set_form(alloc, i, flow, wanted)?;
     }
-    Ok(normal)
+    Ok(())
 }
 
 /// The lists of the normal form.
 fn normal_lists<'a>(
     alloc: Global,
     text: &str,
-    reading: &'a Reading<'a>,
+    reading: Reading<'a>,
     style: &Style,
 ) -> Result<Lists<'a>, AllocError>
-    ensures restyled { IfOk result (λ normal. IsRestyled style.now.quotes reading.now normal) }
-    ensures is_normal { IfOk result (λ normal. IsTextual reading.now → Normal text.now reading.now style.now normal) }
+    ensures restyled { IfOk result (λ normal. IsRestyled style.now.quotes reading.entry normal) }
+    ensures is_normal { IfOk result (λ normal. IsTextual reading.entry → Normal text.now reading.entry style.now normal) }
     ensures fit { IfOk result Fits }
     ensures nested { IfOk result (λ normal. IsStream DEPTH (events_of normal)) }
 {
-    let measures = measure_text(alloc, text, reading, style)?;
-    let forms = decide(alloc, &measures, reading, style)?;
-    let lists = reading.lists();
-    Ok(Lists {
-        events: normal_events(alloc, &lists.events, &measures, &forms, style)?,
-        resolved: lists.resolved.lent(alloc)?,
-        comments: copied_comments(alloc, lists.comments.as_slice())?,
-        on_leaf_line: copied_notes(alloc, lists.on_leaf_line.as_slice())?,
-        documents: copied_documents(alloc, lists.documents.as_slice())?,
-        escapes: copied_offsets(alloc, lists.escapes.as_slice())?,
-    })
+    let measures = measure_text(alloc, text, &reading, style)?;
+    let forms = decide(alloc, &measures, &reading, style)?;
+    let mut lists = reading.into_lists();
+    normalize(alloc, &mut lists.events, &measures, &forms, style)?;
+    Ok(lists)
 }
 
-/// The normal form of a reading of the text.
-pub(crate) fn normal_of<'a>(
+/// The normal form of a reading of the text, in place of that reading.
+pub(crate) fn normalized<'a>(
     alloc: Global,
     text: &str,
-    reading: &'a Reading<'a>,
+    reading: Reading<'a>,
     style: &Style,
 ) -> Result<Reading<'a>, Fault>
-    ensures restyled { IfOk result (λ normal. IsRestyled style.now.quotes reading.now normal) }
-    ensures is_normal { IfOk result (λ normal. IsTextual reading.now → Normal text.now reading.now style.now normal) }
-    ensures content { IfOk result (λ normal. content_of normal ≡ content_of reading.now) }
+    ensures restyled { IfOk result (λ normal. IsRestyled style.now.quotes reading.entry normal) }
+    ensures is_normal { IfOk result (λ normal. IsTextual reading.entry → Normal text.now reading.entry style.now normal) }
+    ensures content { IfOk result (λ normal. content_of normal ≡ content_of reading.entry) }
     ensures nested { IfOk result (λ normal. IsStream DEPTH (events_of normal)) }
     ensures refused { IfErr result (λ fault. fault ≡ Fault.Memory) }
 {
@@ -186,5 +126,13 @@ pub fn normal<'a>(
     ensures nested { IfOk result (λ normal. IsStream DEPTH (events_of normal)) }
     ensures refused { IfErr result (λ fault. fault ≡ Fault.Memory) }
 {
-    normal_of(alloc, src.text(), reading, style)
+    let lists = match copied_lists(alloc, reading) {
+        Ok(lists) => lists,
+        Err(AllocError) => return Err(Fault::Memory),
+    };
+    match Reading::build(alloc, lists) {
+        Ok(Some(copy)) => normalized(alloc, src.text(), copy, style),
+        Ok(None) => unreachable!(),
+        Err(_) => Err(Fault::Memory),
+    }
 }

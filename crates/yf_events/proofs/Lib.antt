@@ -15,6 +15,7 @@ pub mod EscapedRuns
 -- lists of events in rows: `Events` and `Tags`
 pub mod PackedRows
 pub mod TagLists
+pub mod FormedRows
 -- trees of events: at most one list of them, and one exactly where the places are those of trees
 pub mod TreeLemmas
 pub mod TreesExist

@@ -2,6 +2,7 @@ pub mod Alike
 pub mod Content
 pub mod Edit
 pub mod Event
+pub mod Formed
 pub mod Nested
 pub mod Nesting
 pub mod Notation

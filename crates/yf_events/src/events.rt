@@ -1,11 +1,12 @@
 //! Lists of events.
 ghost use Rattle.std.specs.Prelude.{◌≡◌, ◌<◌, ◌≤◌, [], ◌∷◌, ◌++◌, drop, take, length, map, slice_get, if◌then◌else◌, is_ok};
 
-use crate::event::{Entry, Event, PlacedEvent, Span, View};
+use crate::event::{Entry, Event, PlacedEvent, ScalarStyle, Span, View};
 use crate::packed::{
     More, PackedRow, entry_of, event_of, folded_of, keyed, more_in, shift, span_of, tag_of, view_of,
 };
 use crate::packing::{narrow, narrow_entry, row_of};
+use crate::relined::{formed, is_folded, relined};
 use std::alloc::{AllocError, Global};
 use std::marker::Model;
 use yf_props::props::Tag;
@@ -31,6 +32,7 @@ impl<'a> Model for Events<'a> {
 
 impl<'a> Events<'a> {
     ghost use Rattle.yf_events.specs.Edit.{edited, ended, coloned};
+    ghost use Rattle.yf_events.specs.Formed.{formed};
     ghost use Rattle.yf_events.specs.Tags.{written_tag};
     ghost use Rattle.yf_props.specs.Props.{optional_tag_value};
     ghost use Rattle.yf_events.specs.Event.{event_value, placed_value, view_value, with_entry};
@@ -182,6 +184,27 @@ impl<'a> Events<'a> {
             row.begins = keyed(row.begins);
             row.colon = colon;
         }
+        Ok(())
+    }
+
+    /// Gives the event at an index this style where it is a scalar, and these brackets or none where it begins a collection. Only a
+    /// folded scalar keeps its lines.
+    #[inline(always)]
+    pub fn set_form(
+        &mut self,
+        alloc: Global,
+        i: usize,
+        flow: bool,
+        style: ScalarStyle,
+    ) -> Result<(), AllocError>
+        requires { i < length self.old }
+        ensures { self.new ≡ (if is_ok result then edited (formed flow style) i self.old else self.old) }
+    {
+        let shape = formed(self.rows[i].shape, flow, style);
+        let more = relined(alloc, &mut self.more, self.rows[i].more, is_folded(shape))?;
+        let row = &mut self.rows[i];
+        row.shape = shape;
+        row.more = more;
         Ok(())
     }
 }

@@ -16,6 +16,7 @@ mod packed;
 mod packing;
 pub mod part;
 pub mod reading;
+mod relined;
 pub mod row;
 pub mod slices;
 pub mod tags;

@@ -76,6 +76,16 @@ impl<'a> Reading<'a> {
         &self.lists
     }
 
+    /// The lists themselves, for a reading that is no longer wanted.
+    #[inline(always)]
+    pub fn into_lists(self) -> Lists<'a>
+        ensures same { result ≡ self.entry }
+        ensures fit { Fits self.entry }
+        ensures nested { IsStream DEPTH (events_of self.entry) }
+    {
+        self.lists
+    }
+
     /// How many events there are, `StreamStart` and `StreamEnd` counted.
     #[inline(always)]
     pub fn len(&self) -> usize

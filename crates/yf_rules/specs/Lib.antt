@@ -26,5 +26,6 @@ pub mod Layouts
 pub mod Sets
 pub mod Definition
 pub mod Rules
+pub mod RuleOf
 pub mod Check
 pub mod Mended

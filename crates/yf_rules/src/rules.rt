@@ -1,4 +1,5 @@
-//! The rules of style.
+//! The rules of style, each with its function in a file of `rules`.
+ghost use Rattle.yf_rules.specs.RuleOf.{definition_of};
 
 pub mod blank_lines;
 pub mod byte_order_mark;
@@ -13,3 +14,76 @@ pub mod line_length;
 pub mod quoting;
 pub mod repeated_keys;
 pub mod trailing_blanks;
+
+use crate::rule::{About, Global, Offsets, Reading, Rule, Src, Style};
+
+/// The rules, in the order of their numbers.
+#[derive(Clone, Copy)]
+pub enum StyleRule {
+    /// The first of the white space that ends a line, unless it is a content line of a block scalar.
+    TrailingBlanks,
+    /// The first entry of a block collection that does not stand at the column of the house style, and the header of a block scalar whose content does not.
+    Indentation,
+    /// The first character of content of a scalar whose style is not the one that the house style gives it.
+    Quoting,
+    /// The first character of content of a document without `---`, and a `---` with more than white space after it on its line.
+    DocumentStart,
+    /// The end of a text that is not empty and does not end with a line break.
+    FinalBreak,
+    /// The break of the first line whose break is not a line feed.
+    LineBreaks,
+    /// Each byte order mark outside of scalars. Marks that stand together at the start of a line have one place.
+    ByteOrderMark,
+    /// A blank line that is the first line, follows another one or a `---` alone on its line, stands directly before a document marker or a directive, or has only blank lines after it.
+    BlankLines,
+    /// The opening bracket of a flow collection, in no other one, that is not written as the house style writes it, or may not be kept there.
+    FlowLayout,
+    /// The `#` of a comment that has a character other than white before it on its line and not exactly two spaces directly before it.
+    CommentSpace,
+    /// The column after the longest line that the style allows, of a line that is longer.
+    LineLength,
+    /// The first character of a scalar key whose text and resolved tag are those of an earlier scalar key of its mapping.
+    RepeatedKeys,
+    /// The `?` of an entry of a block mapping whose key the house style writes without it.
+    KeyMark,
+}
+
+impl Rule for StyleRule {
+    ghost definition = { λ rule. definition_of rule };
+
+    fn about(&self) -> About {
+        match *self {
+            StyleRule::TrailingBlanks => About::fixable(1, "trailing-blanks"),
+            StyleRule::Indentation => About::fixable(2, "indentation"),
+            StyleRule::Quoting => About::fixable(3, "quoting"),
+            StyleRule::DocumentStart => About::fixable(4, "document-start"),
+            StyleRule::FinalBreak => About::fixable(5, "final-break"),
+            StyleRule::LineBreaks => About::fixable(6, "line-breaks"),
+            StyleRule::ByteOrderMark => About::fixable(7, "byte-order-mark"),
+            StyleRule::BlankLines => About::fixable(8, "blank-lines"),
+            StyleRule::FlowLayout => About::fixable(9, "flow-layout"),
+            StyleRule::CommentSpace => About::fixable(10, "comment-space"),
+            StyleRule::LineLength => About::unfixable(11, "line-length"),
+            StyleRule::RepeatedKeys => About::unfixable(12, "repeated-keys"),
+            StyleRule::KeyMark => About::fixable(13, "key-mark"),
+        }
+    }
+
+    fn offsets(&self, alloc: Global, src: &Src, reading: &Reading, style: &Style) -> Offsets {
+        match *self {
+            StyleRule::TrailingBlanks => trailing_blanks::offsets(alloc, src, reading),
+            StyleRule::Indentation => indentation::offsets(alloc, src, reading, style),
+            StyleRule::Quoting => quoting::offsets(alloc, src, reading, style),
+            StyleRule::DocumentStart => document_start::offsets(alloc, src, reading),
+            StyleRule::FinalBreak => final_break::offsets(alloc, src),
+            StyleRule::LineBreaks => line_breaks::offsets(alloc, src),
+            StyleRule::ByteOrderMark => byte_order_mark::offsets(alloc, src, reading),
+            StyleRule::BlankLines => blank_lines::offsets(alloc, src, reading),
+            StyleRule::FlowLayout => flow_layout::offsets(alloc, src, reading, style),
+            StyleRule::CommentSpace => comment_space::offsets(alloc, src, reading),
+            StyleRule::LineLength => line_length::offsets(alloc, src, style),
+            StyleRule::RepeatedKeys => repeated_keys::offsets(alloc, reading),
+            StyleRule::KeyMark => key_mark::offsets(alloc, src, reading, style),
+        }
+    }
+}

@@ -1,5 +1,5 @@
 -- Refusals and their faults: what has been read of a stream is its reading, or tells why it has none.
-use Rattle.std.proofs.Common.{◌≡◌, ℕ, List, Option, Some, Result, Ok, Err, IfOk, MatchOption, sym, subst}
+use Rattle.std.proofs.Common.{◌≡◌, ℕ, List, Option, None, Some, Result, Ok, Err, IfOk, MatchOption, sym, subst}
 use Rattle.std.specs.List.{All}
 use Rattle.std.specs.Str.{IsCharBoundary, IsUtf8}
 use Rattle.std.specs.declared.alloc.AllocError.{AllocError}
@@ -17,6 +17,7 @@ use Rattle.yf_stream.specs.declared.documents.Parts.{Parts}
 use Rattle.yf_stream.specs.declared.stream.Refusal.{Refusal}
 use Rattle.yf_stream.specs.declared.stream.Refusal.TheVariants as Refusals
 use Rattle.yf_stream.proofs.BreachBoundaries.{first_told}
+use Rattle.yf_stream.proofs.NestedStreams.{reading_nests}
 use Rattle.yf_stream.proofs.ReadingMade.{first_breach, reading_made}
 
 first_derived : {t : List ℕ} (p : Parts) (refusal : Refusal) → IsUtf8 t → ShapeRead t p → DocumentsAt t p.documents → All (IsCharBoundary t) p.part.escapes → IsFirstBreach p refusal
@@ -55,3 +56,8 @@ pub is_built : {t : List ℕ} {lists r : Lists} {o : Option Lists} → MatchOpti
 is_built {t} {lists} b e l =
     let c = subst (λ z. MatchOption z (IsStream DEPTH (events_of lists) → ⊥) (λ r. (r ≡ lists) × IsStream DEPTH (events_of r))) e b in
     subst (λ z. TheReading t z) (sym c.0) l
+
+-- of the lists of a text's reading a reading is built
+pub not_unbuilt : {t : List ℕ} {lists : Lists} {o : Option Lists} → MatchOption o (IsStream DEPTH (events_of lists) → ⊥) (λ r. (r ≡ lists) × IsStream DEPTH (events_of r)) → o ≡ None
+    → TheReading t lists → ⊥
+not_unbuilt {t} {lists} b e l = subst (λ z. MatchOption z (IsStream DEPTH (events_of lists) → ⊥) (λ r. (r ≡ lists) × IsStream DEPTH (events_of r))) e b (reading_nests l.reads)

@@ -90,5 +90,6 @@ pub mod FloorsAt
 pub mod FloorLemmas
 pub mod NotingLemmas
 pub mod NestedNodes
+pub mod NestedStreams
 pub mod DocumentMarkers
 pub mod DirectivesStand

@@ -47,7 +47,7 @@ Nests d (BlockEntry s m) x = EntryNests d s (kinds x.events)
 Nests d (BlockIndented m c) x = Nested one_node d (kinds x.events)
 Nests d (BlockValue m) x = Nested one_node d (kinds x.events)
 
-kinds_join : (xs ys : List Placed) → kinds (xs ++ ys) ≡ kinds xs ++ kinds ys
+pub kinds_join : (xs ys : List Placed) → kinds (xs ++ ys) ≡ kinds xs ++ kinds ys
 kinds_join [] ys = refl
 kinds_join (x ∷ xs) ys = ap (λ z. x.event ∷ z) (kinds_join xs ys)
 

@@ -34,6 +34,9 @@ enum Refusal {
     Breach(Breach),
 }
 
+/// The most bytes that a text may have of which a reading is made: 1 GiB. A reading keeps offsets in 32 bits, and no column is larger.
+pub const LONGEST: usize = 1 << 30;
+
 /// Reads a whole stream (l-yaml-stream, production 211): its documents with their events, comments and places.
 ///
 /// # Errors
@@ -42,21 +45,23 @@ enum Refusal {
 /// at once. Else the first in the text of: a tag whose handle is not declared (`UnknownHandle`), an alias without an
 /// anchor of its name before it in its document (`UnknownAlias`), a second YAML directive or a second TAG directive for one
 /// handle in a document (`RepeatedDirective`), another major version than 1 (`BadVersion`), an escape that is no character
-/// (`EscapeValue`). `Fault::Memory` may come in the place of each answer, where a growth of memory was refused.
+/// (`EscapeValue`). `Fault::Memory` may come in the place of each answer, where a growth of memory was refused; a text of more than `LONGEST`
+/// bytes is always answered so.
 ///
-/// Of texts of 1 GiB at most this is the contract: a reading is the text's and its only one, and a fault comes only for its cause. Of longer texts
-/// it says that the faults are of these kinds, each but `Memory` with a place in the text, and that a reading is made of parts in which nothing is
-/// breached.
+/// A reading is the text's and its only one, and a fault comes only for its cause (`reads`).
 pub fn read_stream<'a>(alloc: Global, text: &'a str) -> Result<Reading<'a>, Fault>
     ensures faults { IfErr result (λ fault. IsStreamFault text.now fault) }
     ensures made { MadeReading text.now result }
-    ensures reads { length text.now ≤ 2 ^ 30 → StreamReader.ReadsStream text.now result }
+    ensures reads { StreamReader.ReadsStream text.now result }
 {
+    if text.len() > LONGEST {
+        return Err(Fault::Memory);
+    }
     match read_lists(alloc, text) {
         Ok(Ok(lists)) => match Reading::build(alloc, lists) {
             Ok(Some(reading)) => Ok(reading),
             // The events of a stream are well nested, within the limit: so there is a reading.
-            Ok(None) => Err(Fault::Memory),
+            Ok(None) => unreachable!(),
             Err(_) => Err(Fault::Memory),
         },
         Ok(Err(refusal)) => Err(fault_at(alloc, text, refusal)),

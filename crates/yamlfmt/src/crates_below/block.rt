@@ -1,6 +1,7 @@
 //! Block nodes, whose events were worked out from the productions.
 
-use crate::crates_below::node_text::{places, repeated, shown};
+use crate::answers::repeated;
+use crate::crates_below::node_text::{places, shown};
 use std::alloc::Global;
 use std::test::Fail;
 use yf_block::block::{read_block_node, scan_block_node};

@@ -1,6 +1,7 @@
 //! Flow nodes and implicit keys, whose events were worked out from the productions.
 
-use crate::crates_below::node_text::{places, repeated, shown};
+use crate::answers::repeated;
+use crate::crates_below::node_text::{places, shown};
 use std::alloc::Global;
 use std::test::Fail;
 use yf_chars::context::Ctx;

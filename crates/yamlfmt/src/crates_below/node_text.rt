@@ -94,22 +94,3 @@ pub fn places(alloc: Global, events: &Events) -> Result<Vec<[usize; 5]>, AllocEr
     }
     Ok(out)
 }
-
-/// A text so many times between two others, the second of which stands so many times as well.
-pub fn repeated(
-    alloc: Global,
-    before: &str,
-    part: &str,
-    count: usize,
-    rest: &str,
-    more: usize,
-) -> Result<String, AllocError> {
-    let mut text = String::from_str(alloc, before)?;
-    for _ in 0..count {
-        text.push_str(part)?;
-    }
-    for _ in 0..more {
-        text.push_str(rest)?;
-    }
-    Ok(text)
-}

@@ -1,14 +1,23 @@
 //! Copies of what a reading holds, which share its texts.
 ghost use Rattle.std.specs.Prelude.{◌≡◌, map, IfOk};
 ghost use Rattle.yf_comments.specs.Comment.{comment_value};
+ghost use Rattle.yf_events.specs.Event.{event_value, new_event_value, placed_value, view_value};
+ghost use Rattle.yf_events.specs.Nested.{IsStream};
+ghost use Rattle.yf_events.specs.Reading.{Fits, events_of};
+ghost use Rattle.yf_events.specs.declared.reading.TheConstants.{DEPTH};
 
 use std::alloc::{AllocError, Global};
 use yf_comments::comment::Comment;
 use yf_events::comments::Comments;
 use yf_events::directive::{Directive, Directives};
 use yf_events::document::{Doc, Documents};
+use yf_events::event::{Event, NewEvent, PlacedEvent, View};
+use yf_events::events::Events;
+use yf_events::lists::Lists;
+use yf_events::reading::Reading;
 use yf_events::row::Row;
 use yf_events::slices::Slices;
+use yf_lines::text::Text;
 
 /// The same slices.
 pub fn copied_slices<'a>(alloc: Global, parts: &'a [&str]) -> Result<Slices<'a>, AllocError>
@@ -113,4 +122,64 @@ pub fn copied_offsets(alloc: Global, offsets: &[usize]) -> Result<Row<usize>, Al
         copy.push(*offset)?;
     }
     Ok(copy)
+}
+
+fn copied_event<'a>(event: Event<'a>) -> NewEvent<'a>
+    ensures { new_event_value result ≡ event_value event.entry }
+{
+    match event {
+        Event::StreamStart => NewEvent::StreamStart,
+        Event::StreamEnd => NewEvent::StreamEnd,
+        Event::DocStart { explicit } => NewEvent::DocStart { explicit },
+        Event::DocEnd { explicit } => NewEvent::DocEnd { explicit },
+        Event::SeqStart { flow, props } => NewEvent::SeqStart { flow, props },
+        Event::SeqEnd => NewEvent::SeqEnd,
+        Event::MapStart { flow, props } => NewEvent::MapStart { flow, props },
+        Event::MapEnd => NewEvent::MapEnd,
+        Event::Scalar { props, style, text } => NewEvent::Scalar {
+            props,
+            style,
+            text: Text::Part(text),
+        },
+        Event::Alias { name } => NewEvent::Alias { name },
+    }
+}
+
+fn copied_view<'a>(alloc: Global, view: View<'a>) -> Result<PlacedEvent<'a>, AllocError>
+    ensures { IfOk result (λ copy. placed_value copy ≡ view_value view.entry) }
+{
+    Ok(PlacedEvent {
+        event: copied_event(view.event),
+        span: view.span,
+        tag_offset: view.tag_offset,
+        entry: view.entry,
+        folded: copied_slices(alloc, view.folded)?,
+    })
+}
+
+fn copied_events<'a>(alloc: Global, events: &'a Events<'a>) -> Result<Events<'a>, AllocError>
+    ensures { IfOk result (λ copy. copy ≡ events.now) }
+{
+    let mut copy = Events::new(alloc);
+    for i in 0..events.len() {
+        copy.push(copied_view(alloc, events.at(i))?)?;
+    }
+    Ok(copy)
+}
+
+/// The same lists.
+pub fn copied_lists<'a>(alloc: Global, reading: &'a Reading<'a>) -> Result<Lists<'a>, AllocError>
+    ensures same { IfOk result (λ copy. copy ≡ reading.now) }
+    ensures fit { IfOk result Fits }
+    ensures nested { IsStream DEPTH (events_of reading.now) }
+{
+    let lists = reading.lists();
+    Ok(Lists {
+        events: copied_events(alloc, &lists.events)?,
+        resolved: lists.resolved.lent(alloc)?,
+        comments: copied_comments(alloc, lists.comments.as_slice())?,
+        on_leaf_line: copied_notes(alloc, lists.on_leaf_line.as_slice())?,
+        documents: copied_documents(alloc, lists.documents.as_slice())?,
+        escapes: copied_offsets(alloc, lists.escapes.as_slice())?,
+    })
 }

@@ -1,35 +1,26 @@
 //! Rule 8, blank-lines.
-ghost use Rattle.std.specs.Prelude.{◌≡◌, ◌<◌, length, MatchBool};
+ghost use Rattle.std.specs.Prelude.{◌≡◌, ◌<◌, length, IfOk, MatchBool};
 ghost use Rattle.yf_events.specs.declared.lists.Lists.{Lists};
 ghost use Rattle.yf_lines.specs.Lines.{Table};
 ghost use Rattle.yf_rules.specs.BlankLines.{MisplacedBlank};
 ghost use Rattle.yf_rules.specs.BlankNotes.{AreNotes, Follows, LastLine, Precedes};
-ghost use Rattle.yf_rules.specs.Exact.{Answers};
-ghost use Rattle.yf_rules.specs.Rules.{blank_lines};
+ghost use Rattle.yf_rules.specs.Exact.{Answers, Exactly};
 
 use crate::facts::notes::{Notes, find_notes, flag};
-use crate::rule::{About, Global, Offsets, Reading, Rule, Src, Style, push_found};
+use crate::rule::{Global, Offsets, Reading, Src, push_found};
+pub use crate::rules::StyleRule::BlankLines;
 
 /// A blank line that is the first line, follows another one or a `---` alone on its line, stands directly before a document marker or a directive, or has only blank lines after it.
-#[derive(Clone, Copy)]
-pub struct BlankLines;
-
-impl Rule for BlankLines {
-    ghost definition = { λ _. blank_lines };
-
-    fn about(&self) -> About {
-        About::fixable(8, "blank-lines")
+pub fn offsets(alloc: Global, src: &Src, reading: &Reading) -> Offsets
+    ensures { IfOk result (λ offsets. Exactly (MisplacedBlank src.now reading.now) offsets.items) }
+{
+    let notes = find_notes(alloc, src, reading)?;
+    let last = last_line(notes.blank.as_slice());
+    let mut offsets = Vec::new(alloc);
+    for k in 0..src.lines().len() {
+        push_found(&mut offsets, misplaced(src, &notes, last, k))?;
     }
-
-    fn offsets(&self, alloc: Global, src: &Src, reading: &Reading, style: &Style) -> Offsets {
-        let notes = find_notes(alloc, src, reading)?;
-        let last = last_line(notes.blank.as_slice());
-        let mut offsets = Vec::new(alloc);
-        for k in 0..src.lines().len() {
-            push_found(&mut offsets, misplaced(src, &notes, last, k))?;
-        }
-        Ok(offsets)
-    }
+    Ok(offsets)
 }
 
 /// How many lines there are up to the last one that is not blank.

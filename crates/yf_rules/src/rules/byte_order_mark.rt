@@ -4,38 +4,29 @@ ghost use Rattle.std.specs.List.Sorted.{IsNonDecreasingBy};
 ghost use Rattle.yf_chars.specs.Text.{code};
 ghost use Rattle.yf_rules.specs.Cover.{AllBegin, Covers, IsBeyond, NoneBegins};
 ghost use Rattle.yf_rules.specs.Exact.{Answers, Exactly};
-ghost use Rattle.yf_rules.specs.Rules.{byte_order_mark};
-ghost use Rattle.yf_rules.specs.Scalars.{ScalarSpan};
+ghost use Rattle.yf_rules.specs.Scalars.{LooseMark, ScalarSpan};
 
-use crate::rule::{About, AllocError, Global, Offsets, Reading, Rule, Src, Style, push_found};
+use crate::rule::{AllocError, Global, Offsets, Reading, Src, push_found};
+pub use crate::rules::StyleRule::ByteOrderMark;
 use yf_events::event::{Event, Span};
 use yf_lines::basic::mark_stands;
 
 /// Each byte order mark outside of scalars. Marks that stand together at the start of a line have one place.
-#[derive(Clone, Copy)]
-pub struct ByteOrderMark;
-
-impl Rule for ByteOrderMark {
-    ghost definition = { λ _. byte_order_mark };
-
-    fn about(&self) -> About {
-        About::fixable(7, "byte-order-mark")
+pub fn offsets(alloc: Global, src: &Src, reading: &Reading) -> Offsets
+    ensures { IfOk result (λ offsets. Exactly (LooseMark src.now.text reading.now) offsets.items) }
+{
+    let text = src.text();
+    let mut offsets = Vec::new(alloc);
+    if !has_first_byte(text) {
+        return Ok(offsets);
     }
-
-    fn offsets(&self, alloc: Global, src: &Src, reading: &Reading, style: &Style) -> Offsets {
-        let text = src.text();
-        let mut offsets = Vec::new(alloc);
-        if !has_first_byte(text) {
-            return Ok(offsets);
-        }
-        let spans = sorted_spans(alloc, reading)?;
-        let mut cover = Cover { count: 0, reach: 0 };
-        for i in 0..text.len() {
-            cover = cover_to(spans.as_slice(), cover, i);
-            push_found(&mut offsets, loose_mark(text, cover.reach, i))?;
-        }
-        Ok(offsets)
+    let spans = sorted_spans(alloc, reading)?;
+    let mut cover = Cover { count: 0, reach: 0 };
+    for i in 0..text.len() {
+        cover = cover_to(spans.as_slice(), cover, i);
+        push_found(&mut offsets, loose_mark(text, cover.reach, i))?;
     }
+    Ok(offsets)
 }
 
 /// The part of the text that a scalar has, if the event of that index is one with characters.

@@ -1,32 +1,23 @@
 //! Rule 10, comment-space.
-ghost use Rattle.std.specs.Prelude.{◌<◌, length, MatchBool};
-ghost use Rattle.yf_rules.specs.Exact.{Answers};
-ghost use Rattle.yf_rules.specs.Rules.{comment_space};
+ghost use Rattle.std.specs.Prelude.{◌<◌, length, IfOk, MatchBool};
+ghost use Rattle.yf_rules.specs.Exact.{Answers, Exactly};
 ghost use Rattle.yf_rules.specs.Whites.{CloseComment, IsClose, TwoSpaces};
 
 use crate::facts::whites::whites_before;
-use crate::rule::{About, Global, Offsets, Reading, Rule, Src, Style, push_found};
+use crate::rule::{Global, Offsets, Reading, Src, push_found};
+pub use crate::rules::StyleRule::CommentSpace;
 use yf_chars::text::stands;
 use yf_lines::basic::is_line_start;
 
 /// The `#` of a comment that has a character other than white before it on its line and not exactly two spaces directly before it.
-#[derive(Clone, Copy)]
-pub struct CommentSpace;
-
-impl Rule for CommentSpace {
-    ghost definition = { λ _. comment_space };
-
-    fn about(&self) -> About {
-        About::fixable(10, "comment-space")
+pub fn offsets(alloc: Global, src: &Src, reading: &Reading) -> Offsets
+    ensures { IfOk result (λ offsets. Exactly (CloseComment src.now.text reading.now) offsets.items) }
+{
+    let mut offsets = Vec::new(alloc);
+    for k in 0..reading.comments().len() {
+        push_found(&mut offsets, close(src, reading, k))?;
     }
-
-    fn offsets(&self, alloc: Global, src: &Src, reading: &Reading, style: &Style) -> Offsets {
-        let mut offsets = Vec::new(alloc);
-        for k in 0..reading.comments().len() {
-            push_found(&mut offsets, close(src, reading, k))?;
-        }
-        Ok(offsets)
-    }
+    Ok(offsets)
 }
 
 /// Whether two spaces, and nothing else, stand between the two byte offsets.

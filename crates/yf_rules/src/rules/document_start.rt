@@ -3,37 +3,28 @@ ghost use Rattle.std.specs.Prelude.{◌≡◌, ◌<◌, ◌∷◌, ◌++◌, Lis
 ghost use Rattle.std.specs.Option.{option_to_list};
 ghost use Rattle.yf_events.specs.Event.{EventValue};
 ghost use Rattle.yf_events.specs.Reading.{events_of};
-ghost use Rattle.yf_rules.specs.Documents.{IsUnmarked, markers_in};
-ghost use Rattle.yf_rules.specs.Exact.{Answers};
-ghost use Rattle.yf_rules.specs.Rules.{document_start};
+ghost use Rattle.yf_rules.specs.Documents.{IsUnmarked, NoMarkerLine, markers_in};
+ghost use Rattle.yf_rules.specs.Exact.{Answers, Exactly};
 
 use crate::facts::notes::is_alone;
-use crate::rule::{About, AllocError, Global, Offsets, Reading, Rule, Src, Style, push_found};
+use crate::rule::{AllocError, Global, Offsets, Reading, Src, push_found};
+pub use crate::rules::StyleRule::DocumentStart;
 use yf_events::event::Event;
 
 /// The first character of content of a document without `---`, and a `---` with more than white space after it on its line.
-#[derive(Clone, Copy)]
-pub struct DocumentStart;
-
-impl Rule for DocumentStart {
-    ghost definition = { λ _. document_start };
-
-    fn about(&self) -> About {
-        About::fixable(4, "document-start")
+pub fn offsets(alloc: Global, src: &Src, reading: &Reading) -> Offsets
+    ensures { IfOk result (λ offsets. Exactly (NoMarkerLine src.now.text reading.now) offsets.items) }
+{
+    let documents = reading.documents();
+    let markers = markers(alloc, reading)?;
+    let mut offsets = Vec::new(alloc);
+    for k in 0..documents.len().min(markers.len()) {
+        push_found(
+            &mut offsets,
+            unmarked(src.text(), markers[k], documents[k].start),
+        )?;
     }
-
-    fn offsets(&self, alloc: Global, src: &Src, reading: &Reading, style: &Style) -> Offsets {
-        let documents = reading.documents();
-        let markers = markers(alloc, reading)?;
-        let mut offsets = Vec::new(alloc);
-        for k in 0..documents.len().min(markers.len()) {
-            push_found(
-                &mut offsets,
-                unmarked(src.text(), markers[k], documents[k].start),
-            )?;
-        }
-        Ok(offsets)
-    }
+    Ok(offsets)
 }
 
 /// Of each document, whether its `---` is written.

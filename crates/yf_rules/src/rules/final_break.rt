@@ -1,25 +1,17 @@
 //! Rule 5, final-break.
 ghost use Rattle.std.specs.Option.{option_to_list};
-ghost use Rattle.yf_rules.specs.Rules.{final_break};
+ghost use Rattle.std.specs.Prelude.{IfOk};
 ghost use Rattle.yf_rules.specs.Sets.{WithoutFinalBreak};
 
-use crate::rule::{About, Global, Offsets, Reading, Rule, Src, Style, listed};
+use crate::rule::{Global, Offsets, Src, listed};
+pub use crate::rules::StyleRule::FinalBreak;
 use yf_lines::basic::break_ends;
 
 /// The end of a text that is not empty and does not end with a line break.
-#[derive(Clone, Copy)]
-pub struct FinalBreak;
-
-impl Rule for FinalBreak {
-    ghost definition = { λ _. final_break };
-
-    fn about(&self) -> About {
-        About::fixable(5, "final-break")
-    }
-
-    fn offsets(&self, alloc: Global, src: &Src, reading: &Reading, style: &Style) -> Offsets {
-        listed(alloc, open_end(src.text()))
-    }
+pub fn offsets(alloc: Global, src: &Src) -> Offsets
+    ensures { IfOk result (λ offsets. WithoutFinalBreak src.now.text offsets.items) }
+{
+    listed(alloc, open_end(src.text()))
 }
 
 /// The end of the text, if it is not empty and no break ends there.

@@ -12,10 +12,11 @@ ghost use Rattle.yf_rules.specs.Exact.{Answers};
 ghost use Rattle.yf_rules.specs.Layouts.{Displaced, EndsBehind, IsDisplaced};
 ghost use Rattle.yf_rules.specs.OuterFlow as OuterFlow;
 ghost use Rattle.yf_rules.specs.OuterFlow.{FlowsDone, is_flow};
-ghost use Rattle.yf_rules.specs.Rules.{flow_layout};
+ghost use Rattle.yf_rules.specs.Sets.{flow_layout_at};
 
 use crate::facts::outer_flow::past_flow;
-use crate::rule::{About, AllocError, Global, Offsets, Reading, Rule, Src, Style, push_found};
+use crate::rule::{AllocError, Global, Offsets, Reading, Src, Style, push_found};
+pub use crate::rules::StyleRule::FlowLayout;
 use yf_emit::form::kept::kept_text_of;
 use yf_emit::form::measure::measure_all;
 use yf_emit::form::measures::Measures;
@@ -23,32 +24,23 @@ use yf_emit::text::content_start::content_start;
 use yf_events::event::{Event, Span};
 
 /// The opening bracket of a flow collection, in no other one, that is not written as the house style writes it, or may not be kept there.
-#[derive(Clone, Copy)]
-pub struct FlowLayout;
-
-impl Rule for FlowLayout {
-    ghost definition = { λ _. flow_layout };
-
-    fn about(&self) -> About {
-        About::fixable(9, "flow-layout")
+pub fn offsets(alloc: Global, src: &Src, reading: &Reading, style: &Style) -> Offsets
+    ensures { IfOk result (λ offsets. flow_layout_at src.now reading.now style.now offsets.items) }
+{
+    if !has_brackets(src, reading) {
+        return Ok(Vec::new(alloc));
     }
-
-    fn offsets(&self, alloc: Global, src: &Src, reading: &Reading, style: &Style) -> Offsets {
-        if !has_brackets(src, reading) {
-            return Ok(Vec::new(alloc));
-        }
-        let measures = measure_all(alloc, src, reading, style)?;
-        let mut offsets = Vec::new(alloc);
-        let mut done = 0;
-        for i in 0..reading.len() {
-            push_found(
-                &mut offsets,
-                displaced(alloc, src, reading, &measures, i, done, style)?,
-            )?;
-            done = past_flow(reading, &measures, i, done);
-        }
-        Ok(offsets)
+    let measures = measure_all(alloc, src, reading, style)?;
+    let mut offsets = Vec::new(alloc);
+    let mut done = 0;
+    for i in 0..reading.len() {
+        push_found(
+            &mut offsets,
+            displaced(alloc, src, reading, &measures, i, done, style)?,
+        )?;
+        done = past_flow(reading, &measures, i, done);
     }
+    Ok(offsets)
 }
 
 /// Whether that text is this part of the text, which ends with the text at the latest.

@@ -1,41 +1,33 @@
 //! Rule 2, indentation.
-ghost use Rattle.std.specs.Prelude.{◌≡◌, ◌+◌, ◌<◌, ◌&&◌, Some, length, slice_get};
+ghost use Rattle.std.specs.Prelude.{◌≡◌, ◌+◌, ◌<◌, ◌&&◌, Some, length, slice_get, IfOk};
 ghost use Rattle.yf_events.specs.Event.{EventValue};
 ghost use Rattle.yf_events.specs.Reading.{events_of};
 ghost use Rattle.yf_rules.specs.IndentFaults.{content_fault, content_in, entry_fault, fault_of};
-ghost use Rattle.yf_rules.specs.Rules.{indentation};
+ghost use Rattle.yf_rules.specs.Sets.{indentation_at};
 ghost use Rattle.yf_rules.specs.Stands.{is_other, wanted_column, wanted_indent};
 
 use crate::facts::scalars::{ScalarLines, scalar_lines_at};
 use crate::facts::stands::{Around, Pass, Stand};
-use crate::rule::{About, Global, Offsets, Reading, Rule, Src, Style, push_found};
+use crate::rule::{Global, Offsets, Reading, Src, Style, push_found};
+pub use crate::rules::StyleRule::Indentation;
 use yf_events::event::Event;
 
 /// The first entry of a block collection that does not stand at the column of the house style, and the header of a block scalar whose content does not.
-#[derive(Clone, Copy)]
-pub struct Indentation;
-
-impl Rule for Indentation {
-    ghost definition = { λ _. indentation };
-
-    fn about(&self) -> About {
-        About::fixable(2, "indentation")
-    }
-
-    fn offsets(&self, alloc: Global, src: &Src, reading: &Reading, style: &Style) -> Offsets {
-        let mut pass = Pass::new(alloc, src, reading)?;
-        let mut offsets = Vec::new(alloc);
-        let mut line = 0;
-        for i in 0..reading.len() {
-            let stand = pass.next(src, reading, i)?;
-            let scalar = scalar_lines_at(src, reading, i, line);
-            if let Some(lines) = scalar {
-                line = lines.first;
-            }
-            push_found(&mut offsets, misplaced(reading, stand, scalar, i, style))?;
+pub fn offsets(alloc: Global, src: &Src, reading: &Reading, style: &Style) -> Offsets
+    ensures { IfOk result (λ offsets. indentation_at src.now reading.now style.now offsets.items) }
+{
+    let mut pass = Pass::new(alloc, src, reading)?;
+    let mut offsets = Vec::new(alloc);
+    let mut line = 0;
+    for i in 0..reading.len() {
+        let stand = pass.next(src, reading, i)?;
+        let scalar = scalar_lines_at(src, reading, i, line);
+        if let Some(lines) = scalar {
+            line = lines.first;
         }
-        Ok(offsets)
+        push_found(&mut offsets, misplaced(reading, stand, scalar, i, style))?;
     }
+    Ok(offsets)
 }
 
 /// Whether the one column is not so many columns to the right of the other.

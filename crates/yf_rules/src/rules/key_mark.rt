@@ -1,5 +1,5 @@
 //! Rule 13, key-mark.
-ghost use Rattle.std.specs.Prelude.{◌≡◌, ◌<◌, ℕ, false, List, length};
+ghost use Rattle.std.specs.Prelude.{◌≡◌, ◌<◌, ℕ, false, List, length, IfOk};
 ghost use Rattle.yf_emit.specs.declared.style.Style.{Style};
 ghost use Rattle.yf_events.specs.Tree.{DocumentTree};
 ghost use Rattle.yf_rules.specs.Exact.{Answers};
@@ -7,40 +7,32 @@ ghost use Rattle.yf_rules.specs.Layouts.{NeedlessMark};
 ghost use Rattle.yf_rules.specs.MarkedKeys.{TellsKeys};
 ghost use Rattle.yf_rules.specs.QuestionMarks.{IsMarked};
 ghost use Rattle.yf_rules.specs.OuterFlow.{FlowsDone};
-ghost use Rattle.yf_rules.specs.Rules.{key_mark};
+ghost use Rattle.yf_rules.specs.Sets.{key_mark_at};
 
 use crate::facts::outer_flow::past_flow;
 use crate::facts::whites::has_question_mark;
-use crate::rule::{About, Global, Offsets, Reading, Rule, Src, Style, push_found};
+use crate::rule::{Global, Offsets, Reading, Src, Style, push_found};
+pub use crate::rules::StyleRule::KeyMark;
 use yf_emit::form::decide::decide;
 use yf_emit::form::forms::Forms;
 use yf_emit::form::measure::measure_all;
 
 /// The `?` of an entry of a block mapping whose key the house style writes without it.
-#[derive(Clone, Copy)]
-pub struct KeyMark;
-
-impl Rule for KeyMark {
-    ghost definition = { λ _. key_mark };
-
-    fn about(&self) -> About {
-        About::fixable(13, "key-mark")
+pub fn offsets(alloc: Global, src: &Src, reading: &Reading, style: &Style) -> Offsets
+    ensures { IfOk result (λ offsets. key_mark_at src.now reading.now style.now offsets.items) }
+{
+    if !has_marks(src, reading) {
+        return Ok(Vec::new(alloc));
     }
-
-    fn offsets(&self, alloc: Global, src: &Src, reading: &Reading, style: &Style) -> Offsets {
-        if !has_marks(src, reading) {
-            return Ok(Vec::new(alloc));
-        }
-        let measures = measure_all(alloc, src, reading, style)?;
-        let forms = decide(alloc, &measures, reading, style)?;
-        let mut offsets = Vec::new(alloc);
-        let mut done = 0;
-        for i in 0..reading.len() {
-            push_found(&mut offsets, needless(src, reading, &forms, i, done))?;
-            done = past_flow(reading, &measures, i, done);
-        }
-        Ok(offsets)
+    let measures = measure_all(alloc, src, reading, style)?;
+    let forms = decide(alloc, &measures, reading, style)?;
+    let mut offsets = Vec::new(alloc);
+    let mut done = 0;
+    for i in 0..reading.len() {
+        push_found(&mut offsets, needless(src, reading, &forms, i, done))?;
+        done = past_flow(reading, &measures, i, done);
     }
+    Ok(offsets)
 }
 
 /// The `?` with which the entry is written that the event begins, if it begins one that is.

@@ -1,32 +1,23 @@
 //! Rule 11, line-length.
-ghost use Rattle.std.specs.Prelude.{◌<◌, ◌≤◌, length};
+ghost use Rattle.std.specs.Prelude.{◌<◌, ◌≤◌, length, IfOk};
 ghost use Rattle.std.specs.Str.{IsCharBoundary};
 ghost use Rattle.yf_rules.specs.ByLine.{BeyondLimit, IsBehind};
-ghost use Rattle.yf_rules.specs.Exact.{Answers};
-ghost use Rattle.yf_rules.specs.Rules.{line_length};
+ghost use Rattle.yf_rules.specs.Exact.{Answers, Exactly};
 
 use crate::facts::places::skip_marks;
-use crate::rule::{About, Global, Offsets, Reading, Rule, Src, Style, push_found};
+use crate::rule::{Global, Offsets, Src, Style, push_found};
+pub use crate::rules::StyleRule::LineLength;
 use yf_chars::text::peek;
 
 /// The column after the longest line that the style allows, of a line that is longer.
-#[derive(Clone, Copy)]
-pub struct LineLength;
-
-impl Rule for LineLength {
-    ghost definition = { λ _. line_length };
-
-    fn about(&self) -> About {
-        About::unfixable(11, "line-length")
+pub fn offsets(alloc: Global, src: &Src, style: &Style) -> Offsets
+    ensures { IfOk result (λ offsets. Exactly (BeyondLimit src.now style.now.max_line) offsets.items) }
+{
+    let mut offsets = Vec::new(alloc);
+    for k in 0..src.lines().len() {
+        push_found(&mut offsets, beyond(src, k, style.max_line))?;
     }
-
-    fn offsets(&self, alloc: Global, src: &Src, reading: &Reading, style: &Style) -> Offsets {
-        let mut offsets = Vec::new(alloc);
-        for k in 0..src.lines().len() {
-            push_found(&mut offsets, beyond(src, k, style.max_line))?;
-        }
-        Ok(offsets)
-    }
+    Ok(offsets)
 }
 
 /// The byte offset after so many characters of a line, where at least one more stands before the line's end. A line of so

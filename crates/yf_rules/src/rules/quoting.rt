@@ -1,32 +1,23 @@
 //! Rule 3, quoting.
-ghost use Rattle.std.specs.Prelude.{◌<◌, length};
-ghost use Rattle.yf_rules.specs.Exact.{Answers};
-ghost use Rattle.yf_rules.specs.Rules.{quoting};
+ghost use Rattle.std.specs.Prelude.{◌<◌, length, IfOk};
+ghost use Rattle.yf_rules.specs.Exact.{Answers, Exactly};
 ghost use Rattle.yf_rules.specs.Styles.{Misquoted};
 
-use crate::rule::{About, Global, Offsets, Reading, Rule, Src, Style, push_found};
+use crate::rule::{Global, Offsets, Reading, Src, Style, push_found};
+pub use crate::rules::StyleRule::Quoting;
 use yf_emit::text::content_start::content_start;
 use yf_emit::text::wanted::wanted_of;
 use yf_events::event::Event;
 
 /// The first character of content of a scalar whose style is not the one that the house style gives it.
-#[derive(Clone, Copy)]
-pub struct Quoting;
-
-impl Rule for Quoting {
-    ghost definition = { λ _. quoting };
-
-    fn about(&self) -> About {
-        About::fixable(3, "quoting")
+pub fn offsets(alloc: Global, src: &Src, reading: &Reading, style: &Style) -> Offsets
+    ensures { IfOk result (λ offsets. Exactly (Misquoted src.now.text reading.now style.now) offsets.items) }
+{
+    let mut offsets = Vec::new(alloc);
+    for i in 0..reading.len() {
+        push_found(&mut offsets, misquoted(src, reading, i, style))?;
     }
-
-    fn offsets(&self, alloc: Global, src: &Src, reading: &Reading, style: &Style) -> Offsets {
-        let mut offsets = Vec::new(alloc);
-        for i in 0..reading.len() {
-            push_found(&mut offsets, misquoted(src, reading, i, style))?;
-        }
-        Ok(offsets)
-    }
+    Ok(offsets)
 }
 
 /// The first character of the scalar, if its style is not the one wanted.

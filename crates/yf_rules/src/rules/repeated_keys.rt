@@ -2,35 +2,29 @@
 ghost use Rattle.std.specs.Prelude.{◌≡◌, ◌<◌, ◌∷◌, ◌&&◌, List, Some, None, length, reverse, slice_get, IfOk};
 ghost use Rattle.yf_events.specs.Event.{EventValue, Placed};
 ghost use Rattle.yf_events.specs.Reading.{events_of};
+ghost use Rattle.yf_events.specs.Tree.{DocumentTree, TreesOf};
+ghost use Rattle.yf_rules.specs.Exact.{Exactly};
+ghost use Rattle.yf_rules.specs.Nodes.{RepeatedKey};
 ghost use Rattle.yf_rules.specs.KeyPass.{AreCollections, IsCollection, Opened, after, event_place, has_key, is_repeat, key_value, new_collection, next, past_key, repeats_in, takes_key, without_first};
-ghost use Rattle.yf_rules.specs.Rules.{repeated_keys};
 
-use crate::rule::{About, AllocError, Global, Offsets, Reading, Rule, Src, Style};
+use crate::rule::{AllocError, Global, Offsets, Reading};
+pub use crate::rules::StyleRule::RepeatedKeys;
 use std::collections::BTreeSet;
 use yf_events::event::Event;
 use yf_props::resolved::ResolvedTag;
 
 /// The first character of a scalar key whose text and resolved tag are those of an earlier scalar key of its mapping.
-#[derive(Clone, Copy)]
-pub struct RepeatedKeys;
-
-impl Rule for RepeatedKeys {
-    ghost definition = { λ _. repeated_keys };
-
-    fn about(&self) -> About {
-        About::unfixable(12, "repeated-keys")
-    }
-
-    fn offsets(&self, alloc: Global, src: &Src, reading: &Reading, style: &Style) -> Offsets {
-        let mut stack = Vec::new(alloc);
-        let mut offsets = Vec::new(alloc);
-        for i in 0..reading.len() {
-            if pass(alloc, &mut stack, &*reading, i)? {
-                offsets.push(key_offset(reading, i))?;
-            }
+pub fn offsets(alloc: Global, reading: &Reading) -> Offsets
+    ensures { IfOk result (λ offsets. (trees : List DocumentTree) → TreesOf reading.now trees → Exactly (RepeatedKey reading.now trees) offsets.items) }
+{
+    let mut stack = Vec::new(alloc);
+    let mut offsets = Vec::new(alloc);
+    for i in 0..reading.len() {
+        if pass(alloc, &mut stack, &*reading, i)? {
+            offsets.push(key_offset(reading, i))?;
         }
-        Ok(offsets)
     }
+    Ok(offsets)
 }
 
 /// A scalar key: its text and its resolved tag.

@@ -1,32 +1,23 @@
 //! Rule 1, trailing-blanks.
-ghost use Rattle.std.specs.Prelude.{◌<◌, length};
-ghost use Rattle.yf_rules.specs.ByLine.{BlankEnd};
-ghost use Rattle.yf_rules.specs.Exact.{Answers};
-ghost use Rattle.yf_rules.specs.Rules.{trailing_blanks};
+ghost use Rattle.std.specs.Prelude.{◌<◌, length, IfOk};
+ghost use Rattle.yf_rules.specs.ByLine.{BlankEnd, TrailingBlank};
+ghost use Rattle.yf_rules.specs.Exact.{Answers, Exactly};
 
 use crate::facts::noted_lines::content_lines;
 use crate::facts::whites::whites_before;
-use crate::rule::{About, Global, Offsets, Reading, Rule, Src, Style, push_found};
+use crate::rule::{Global, Offsets, Reading, Src, push_found};
+pub use crate::rules::StyleRule::TrailingBlanks;
 
 /// The first of the white space that ends a line, unless it is a content line of a block scalar.
-#[derive(Clone, Copy)]
-pub struct TrailingBlanks;
-
-impl Rule for TrailingBlanks {
-    ghost definition = { λ _. trailing_blanks };
-
-    fn about(&self) -> About {
-        About::fixable(1, "trailing-blanks")
+pub fn offsets(alloc: Global, src: &Src, reading: &Reading) -> Offsets
+    ensures { IfOk result (λ offsets. Exactly (TrailingBlank src.now reading.now) offsets.items) }
+{
+    let content = content_lines(alloc, src, reading)?;
+    let mut offsets = Vec::new(alloc);
+    for k in 0..content.len() {
+        push_found(&mut offsets, blank_end(src, k, content[k]))?;
     }
-
-    fn offsets(&self, alloc: Global, src: &Src, reading: &Reading, style: &Style) -> Offsets {
-        let content = content_lines(alloc, src, reading)?;
-        let mut offsets = Vec::new(alloc);
-        for k in 0..content.len() {
-            push_found(&mut offsets, blank_end(src, k, content[k]))?;
-        }
-        Ok(offsets)
-    }
+    Ok(offsets)
 }
 
 /// Where the white space begin that end the line of that index, unless it is a content line of a block scalar.

@@ -13,7 +13,7 @@ returns-clause-found g c =
     c.check.ensures.findings
 
 pub returns-in-Err-clause-refuses : goal.returns-in-Err-clause-refuses
-returns-in-Err-clause-refuses g c = λ short. for_memory
+returns-in-Err-clause-refuses g c = for_memory
 
 pub returns-clause-refuses : goal.returns-clause-refuses
-returns-clause-refuses g c = λ short. IfErr-weaker c.check.result _ _ (λ fault same. subst (StreamFault c.args.text.now) (sym same) for_memory) c.check.ensures.refused
+returns-clause-refuses g c = IfErr-weaker c.check.result _ _ (λ fault same. subst (StreamFault c.args.text.now) (sym same) for_memory) c.check.ensures.refused

@@ -1,4 +1,4 @@
-use Rattle.std.proofs.Common.{rules, ◌≡◌, ◌≤◌, ◌^◌, ◌∙◌, List, ℕ, length, subst, sym}
+use Rattle.std.proofs.Common.{◌≡◌, ◌∙◌, List, ℕ, subst, sym}
 use Rattle.std.specs.Str.{IsUtf8}
 use Rattle.yamlfmt.proofs.FindingLemmas.{found_in, wrote_same, broke_same, any_same}
 use Rattle.yamlfmt.proofs.run.run_check.Goals as goal
@@ -6,11 +6,10 @@ use Rattle.yamlfmt.proofs.run.run_check.Goals as goal
 pub returns-in-Ok-write_findings-clause-findings : goal.returns-in-Ok-write_findings-clause-findings
 returns-in-Ok-write_findings-clause-findings g c =
     let same : c.in-Ok.text.now ≡ c.in_ok-bytes.bytes.items = c.in-Ok.ensures.1 ∙ c.as_slice.ensures.value in
-    let short : length c.in_ok-bytes.bytes.items ≤ 2 ^ 30 = search rules in
     let utf8 = subst (λ (t : List ℕ). IsUtf8 t) (sym c.in-Ok.ensures.1) c.in-Ok.ensures.0 in
     record {
       findings = c.in_ok-findings.findings.items;
-      found = found_in c.in_ok-findings.ensures.found same c.in_ok-bytes.ensures.whole short utf8;
+      found = found_in c.in_ok-findings.ensures.found same c.in_ok-bytes.ensures.whole utf8;
       wrote = wrote_same c.as_slice-2.ensures.value c.in-Ok-write_findings.ensures;
       answer = c.has_any.ensures ∙ any_same c.as_slice-in-Ok-write_findings.ensures.value;
     }
@@ -18,11 +17,10 @@ returns-in-Ok-write_findings-clause-findings g c =
 pub returns-clause-refusals : goal.returns-clause-refusals
 returns-clause-refusals g c =
     let same : c.in-Ok.text.now ≡ c.in_ok-bytes.bytes.items = c.in-Ok.ensures.1 ∙ c.as_slice.ensures.value in
-    let short : length c.in_ok-bytes.bytes.items ≤ 2 ^ 30 = search rules in
     let utf8 = subst (λ (t : List ℕ). IsUtf8 t) (sym c.in-Ok.ensures.1) c.in-Ok.ensures.0 in (
       record {
         findings = c.in_ok-findings.findings.items;
-        found = found_in c.in_ok-findings.ensures.found same c.in_ok-bytes.ensures.whole short utf8;
+        found = found_in c.in_ok-findings.ensures.found same c.in_ok-bytes.ensures.whole utf8;
         broke = broke_same c.as_slice-2.ensures.value c.in-Err-write_findings.ensures.1;
       },
       c.in_ok-bytes.ensures.works,

@@ -2,4 +2,4 @@ use Rattle.yf_stream.specs.StreamReader.{for_memory}
 use Rattle.yf_emit.proofs.format.format.Goals as goal
 
 pub returns-clause-refuses : goal.returns-clause-refuses
-returns-clause-refuses c = λ short. for_memory
+returns-clause-refuses c = for_memory

@@ -1,0 +1,87 @@
+//! Rows in another form, and entries of their table without lines.
+ghost use Rattle.std.specs.Prelude.{◌≡◌, ◌≤◌, [], length, IfOk};
+ghost use Rattle.yf_events.specs.Formed as Formed;
+ghost use Rattle.yf_events.specs.Formed.{Relined, is_folded_shape, shape_formed};
+ghost use Rattle.yf_events.specs.Packed.{Grown};
+
+use crate::event::ScalarStyle;
+use crate::packed::{More, Shape, more_in};
+use crate::packing::narrow;
+use crate::slices::Slices;
+use std::alloc::{AllocError, Global};
+use yf_lines::text::OwnedText;
+
+/// The same kind of event, with these brackets or none round its collection, or with its scalar in this style.
+#[inline(always)]
+pub fn formed(shape: Shape, flow: bool, style: ScalarStyle) -> Shape
+    ensures { result ≡ shape_formed flow style shape }
+{
+    match shape {
+        Shape::SeqStart { .. } => Shape::SeqStart { flow },
+        Shape::MapStart { .. } => Shape::MapStart { flow },
+        Shape::Scalar { .. } => Shape::Scalar { style },
+        Shape::StreamStart => Shape::StreamStart,
+        Shape::StreamEnd => Shape::StreamEnd,
+        Shape::DocStart { explicit } => Shape::DocStart { explicit },
+        Shape::DocEnd { explicit } => Shape::DocEnd { explicit },
+        Shape::SeqEnd => Shape::SeqEnd,
+        Shape::MapEnd => Shape::MapEnd,
+        Shape::Alias => Shape::Alias,
+    }
+}
+
+/// Whether the event is a folded scalar.
+#[inline(always)]
+pub fn is_folded(shape: Shape) -> bool
+    ensures { result ≡ is_folded_shape shape }
+{
+    match shape {
+        Shape::Scalar {
+            style: ScalarStyle::Folded,
+        } => true,
+        _ => false,
+    }
+}
+
+/// The number of the same entry of the table, without lines unless they are kept. Rows may share an entry, so one with lines is
+/// left as it is, and another one added.
+#[inline(always)]
+pub fn relined<'a>(
+    alloc: Global,
+    list: &mut Vec<More<'a>>,
+    number: u32,
+    keeps: bool,
+) -> Result<u32, AllocError>
+    requires { number ≤ length list.old.items }
+    ensures grown { Grown list.old.items list.new.items }
+    ensures relined { IfOk result (λ n. Relined list.old.items list.new.items keeps number n) }
+{
+    if keeps {
+        return Ok(number);
+    }
+    let Some(more) = more_in(list.as_slice(), number) else {
+        return Ok(number);
+    };
+    if more.folded.as_slice().is_empty() {
+        return Ok(number);
+    }
+    let bare = without_lines(alloc, more)?;
+    list.push(bare)?;
+    narrow(list.len())
+}
+
+/// The same without lines.
+fn without_lines<'a>(alloc: Global, more: &More<'a>) -> Result<More<'a>, AllocError>
+    ensures { IfOk result (λ bare. bare ≡ record more.now { folded = [] }) }
+{
+    let text = match &more.text {
+        Some(text) => Some(OwnedText::new(String::from_str(alloc, text.as_str())?)),
+        None => None,
+    };
+    Ok(More {
+        props: more.props,
+        tag_offset: more.tag_offset,
+        text,
+        folded: Slices::new(alloc),
+    })
+}

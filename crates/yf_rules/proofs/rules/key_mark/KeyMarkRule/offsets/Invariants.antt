@@ -1,8 +1,0 @@
-use Rattle.yf_emit.specs.Textual.{IsTextual}
-use Rattle.yf_rules.specs.Exact.{UpTo}
-use Rattle.yf_rules.specs.Layouts.{NeedlessMark}
-use Rattle.yf_rules.specs.OuterFlow.{FlowsDone}
-use Rattle.yf_rules.proofs.rules.key_mark.KeyMarkRule.offsets.Given as goal
-
-abbrev pub invariant-loop-i : goal.invariant-loop-i
-invariant-loop-i l = (w : IsTextual l.reading) → UpTo (NeedlessMark l.src l.reading l.style w.trees) l.i l.offsets.items × FlowsDone l.reading.events l.i l.done

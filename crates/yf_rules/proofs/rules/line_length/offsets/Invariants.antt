@@ -1,0 +1,6 @@
+use Rattle.yf_rules.specs.ByLine.{BeyondLimit}
+use Rattle.yf_rules.specs.Exact.{UpTo}
+use Rattle.yf_rules.proofs.rules.line_length.offsets.Given as goal
+
+abbrev pub invariant-loop-k : goal.invariant-loop-k
+invariant-loop-k l = UpTo (BeyondLimit l.src l.style.max_line) l.k l.offsets.items
