@@ -67,11 +67,11 @@ upward_from h (each_more l b) (upward_more m a) = upward_more l a
 
 -- Lists that are filtered.
 
-keep_all : (p : CommentValue → Bool) {xs : List CommentValue} → Each (λ d. p d ≡ true) xs → filter p xs ≡ xs
+pub keep_all : (p : CommentValue → Bool) {xs : List CommentValue} → Each (λ d. p d ≡ true) xs → filter p xs ≡ xs
 keep_all p each_none = refl
 keep_all p (each_more {d = d} {ds = ds} e a) = ap (λ b. cond b (d ∷ filter p ds) (filter p ds)) e ∙ ap (λ w. d ∷ w) (keep_all p a)
 
-drop_all : (p : CommentValue → Bool) {xs : List CommentValue} → Each (λ d. p d ≡ false) xs → filter p xs ≡ []
+pub drop_all : (p : CommentValue → Bool) {xs : List CommentValue} → Each (λ d. p d ≡ false) xs → filter p xs ≡ []
 drop_all p each_none = refl
 drop_all p (each_more {d = d} {ds = ds} e a) = ap (λ b. cond b (d ∷ filter p ds) (filter p ds)) e ∙ drop_all p a
 
@@ -112,18 +112,18 @@ other_below x d h l m = grind (arith, nat_tests)
 other_above : (x d h : ℕ) → d < h → h ≤ x → (x == d) ≡ false
 other_above x d h l m = grind (arith, nat_tests)
 
-itself : (n : ℕ) → (n == n) ≡ true
+pub itself : (n : ℕ) → (n == n) ≡ true
 itself n = grind (arith, nat_tests)
 
-none_below : {h : ℕ} {ds : List CommentValue} (d : CommentValue) → h ≤ d.offset → Under h ds → is_among ds d ≡ false
+pub none_below : {h : ℕ} {ds : List CommentValue} (d : CommentValue) → h ≤ d.offset → Under h ds → is_among ds d ≡ false
 none_below d l each_none = refl
 none_below {h} d l (each_more {d = x} {ds = ds} m a) = ap (λ b. b || is_among ds d) (other_below x.offset d.offset h m l) ∙ none_below d l a
 
-none_above : {h : ℕ} {ds : List CommentValue} (d : CommentValue) → d.offset < h → Over h ds → is_among ds d ≡ false
+pub none_above : {h : ℕ} {ds : List CommentValue} (d : CommentValue) → d.offset < h → Over h ds → is_among ds d ≡ false
 none_above d l each_none = refl
 none_above {h} d l (each_more {d = x} {ds = ds} m a) = ap (λ b. b || is_among ds d) (other_above x.offset d.offset h l m) ∙ none_above d l a
 
-among_join : (xs ys : List CommentValue) (d : CommentValue) → is_among (xs ++ ys) d ≡ (is_among xs d || is_among ys d)
+pub among_join : (xs ys : List CommentValue) (d : CommentValue) → is_among (xs ++ ys) d ≡ (is_among xs d || is_among ys d)
 among_join xs ys d = list_any-append (λ (x : CommentValue). x.offset == d.offset) xs ys
 
 among_in : (d : CommentValue) {ds : List CommentValue} → In d ds → is_among ds d ≡ true

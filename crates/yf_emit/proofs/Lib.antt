@@ -202,6 +202,10 @@ pub mod BareNodes
 pub mod BareTrees
 pub mod FoundTexts
 pub mod FoundMarks
+pub mod GapsAgain
+pub mod RowsAgain
+pub mod CarriedAgain
+pub mod ReadingsAgain
 pub mod FixedBlocks
 pub mod FixedLawsHold
 pub mod FlowEvents
