@@ -80,6 +80,7 @@ pub(crate) fn is_apart(share: Share) -> bool
 }
 
 /// Begins the content of a node at a place of a line.
+#[inline(always)]
 pub(crate) fn take_content<'a>(
     alloc: Global,
     scope: Scope<'a>,
@@ -222,6 +223,7 @@ fn end_propertied<'a>(
 }
 
 // A flow node, a key or a block scalar, after the properties of its line.
+#[inline(always)]
 fn take_behind<'a>(
     alloc: Global,
     scope: Scope<'a>,

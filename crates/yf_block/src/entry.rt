@@ -205,6 +205,7 @@ pub(crate) fn take_explicit_value<'a>(
 
 /// Opens the mapping whose first entry begins with the `?` or the `:` at the place (l+block-mapping, production 187;
 /// ns-l-compact-mapping, production 195).
+#[inline(never)]
 pub(crate) fn open_mapping<'a>(
     alloc: Global,
     scope: Scope<'a>,

@@ -121,6 +121,7 @@ pub(crate) fn note_empty(text: &str, at: usize, progress: &mut Progress, frames:
 }
 
 /// Notes that all may end at the line after a node, which ends at `from`. Of a plain scalar it is known where it begins.
+#[inline(always)]
 pub(crate) fn note_node(
     text: &str,
     plain: Option<usize>,

@@ -119,6 +119,7 @@ fn read_flow<'a>(
     read_content(alloc, scene, at, *lead, depth, part)
 }
 
+#[inline(never)]
 fn read_alias<'a>(
     alloc: Global,
     text: &'a str,

@@ -48,6 +48,7 @@ pub(crate) fn sign_stands(text: &str, at: usize, sign: u8) -> bool
 }
 
 /// Whether the `:` after an implicit key stands there, on the line on which the key starts.
+#[inline(always)]
 pub(crate) fn key_ends(text: &str, start: usize, at: usize) -> bool
     requires { IsCharBoundary text.now start }
     ensures boundary { result ≡ true → IsCharBoundary text.now (at + 1) }
@@ -122,6 +123,7 @@ pub fn node_ends(text: &str, at: usize) -> bool
 }
 
 /// Where the first character other than a space stands of the line that begins there, if it can be that of an entry.
+#[inline(always)]
 pub(crate) fn entry_place(text: &str, at: usize) -> Option<usize>
     requires { IsCharBoundary text.now at }
     ensures place { IfSome result (λ p. Place text.now at p) }

@@ -31,6 +31,7 @@ use yf_flow::node::Lead;
 use yf_lines::text::{OwnedText, Text};
 
 /// Reads the block scalar whose `|` or `>` stands at an offset (s-l+block-scalar, production 199).
+#[inline(never)]
 pub(crate) fn take_block_scalar<'a>(
     alloc: Global,
     scope: Scope<'a>,

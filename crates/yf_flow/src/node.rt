@@ -146,6 +146,7 @@ pub(crate) fn begin_node<'a>(
 }
 
 /// Begins the content of a node: a plain scalar, a quoted one or a flow collection.
+#[inline(always)]
 pub(crate) fn begin_content<'a>(
     alloc: Global,
     scene: Scene<'a>,
@@ -235,6 +236,7 @@ fn propertied_node<'a>(
 }
 
 /// Adds a scalar that ends at an offset.
+#[inline(always)]
 pub fn push_scalar<'a>(
     alloc: Global,
     lead: Lead<'a>,

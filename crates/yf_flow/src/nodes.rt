@@ -177,6 +177,7 @@ fn new_part<'a>(alloc: Global) -> Part<'a>
 }
 
 // Reads the entries of a collection up to its closing bracket.
+#[inline(never)]
 fn read_collection<'a>(
     alloc: Global,
     scene: Scene<'a>,
