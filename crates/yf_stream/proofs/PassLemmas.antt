@@ -11,13 +11,13 @@ use Rattle.yf_events.specs.Event.{Placed, stream_starts}
 use Rattle.yf_events.specs.Tree.{unplaced}
 use Rattle.yf_events.specs.declared.directive.Directive.{Directive}
 use Rattle.yf_events.specs.declared.document.Doc.{Doc}
-use Rattle.yf_stream.specs.TagPass.{FirstOf, Finds, PassTags, Resolves, SameDeclarations, SameNames, StartsDocument, TagOf, document_begins, event_follows, later_documents, next_directives, no_event_left, own_breaches, pass_breaches, starts_document, stream_breaches}
+use Rattle.yf_stream.specs.TagPass.{AllPassed, FirstOf, Finds, PassTags, Passed, Resolves, SameDeclarations, SameNames, StartsDocument, TagOf, document_begins, event_follows, later_documents, next_directives, no_event_left, own_breaches, pass_breaches, starts_document, stream_breaches}
 use Rattle.yf_stream.specs.WellFormed.{alias_breaches, alias_of, breach_if, declaration_breaches, declaration_of, declarations, directive_breaches, escape_breaches, is_unknown, offset_or, props_of, start_or, version_breaches, version_of, with_declaration, with_name}
 use Rattle.yf_stream.specs.declared.breaches.Breach.{Breach}
 use Rattle.yf_stream.specs.declared.breaches.Kind.TheVariants.{RepeatedDirective, UnknownAlias, UnknownHandle}
 use Rattle.yf_stream.proofs.BreachLemmas.{both_empty, some_none}
 use Rattle.yf_stream.proofs.DeclaredLemmas.{declares_last, not_declared, same_declared, with_new, with_old}
-use Rattle.yf_stream.proofs.FirstLemmas.{finds_then, found_nothing}
+use Rattle.yf_stream.proofs.FirstLemmas.{finds_nothing_more, finds_then, found_nothing}
 
 -- Names in another order.
 
@@ -157,73 +157,71 @@ at_index xs j {x} f = cut_at xs j f ∙ ap (λ k. x ∷ drop k xs) (sym (add-one
   cut_at (y ∷ xs) zero {x} e = let same : y ≡ x = cc in ap (λ w. w ∷ xs) same
   cut_at (y ∷ xs) (suc i) e = cut_at xs i e
 
--- What has been found of the events from i up to j, in a document with these directives: its handles are these declarations, and the anchors so far
--- these names.
-pub record Passing (es : List Placed) (directives : List Directive) (i j : ℕ) (before after : Option Breach) (a b : List (Option (List ℕ)))
-    (names : List (List ℕ)) (ds : List Declaration) : Type 0 where
-  pub found : List Breach
-  pub finds : Finds before after found
-  pub breaches : (docs : List Doc) → directive_breaches false [] directives ++ pass_breaches docs (declarations [] directives) [] (drop i es)
-      ≡ found ++ pass_breaches docs ds names (drop j es)
-  pub added : List (Option (List ℕ))
-  pub list : b ≡ a ++ added
-  pub tags : after ≡ None → (docs : List Doc) (rest : List (Option (List ℕ))) → PassTags docs ds (drop j es) rest
-      → PassTags docs (declarations [] directives) (drop i es) (added ++ rest)
+-- What has been found of the events from i up to j.
 
-pub passing_starts : {es : List Placed} {directives : List Directive} (i : ℕ) {before after : Option Breach} (a : List (Option (List ℕ))) {names : List (List ℕ)}
-    {ds others : List Declaration} → names ≡ [] → others ≡ ds → SameDeclarations ds (declarations [] directives)
-    → Finds before after (directive_breaches false [] directives) → Passing es directives i i before after a a names others
-passing_starts {es} {directives} i {before} {after} a {names} {ds} {others} e d s f =
-    subst (λ z. Passing es directives i i before after a a z others) (sym e) (subst (λ z. Passing es directives i i before after a a [] z) (sym d) (record {
-      found = directive_breaches false [] directives;
-      finds = f;
-      breaches = λ docs. ap (λ z. directive_breaches false [] directives ++ z) (sym (pass_declared docs [] (drop i es) s));
-      added = [];
-      list = sym (append-nil a);
-      tags = λ n docs rest p. tags_declared s p;
-    }))
+pub none_passed : {es : List Placed} {ds : List Declaration} (i : ℕ) {first : Option Breach} {names : List (List ℕ)} (a : List (Option (List ℕ)))
+    → AllPassed es ds i i first first names names a a
+none_passed i a = record {
+  found = [];
+  finds = finds_nothing_more;
+  breaches = λ docs. refl;
+  added = [];
+  list = sym (append-nil a);
+  tags = λ n docs rest p. p;
+}
 
-pub passing_event : {es : List Placed} {directives : List Directive} {i j : ℕ} {before mid after : Option Breach} {a b c : List (Option (List ℕ))}
-    {names others : List (List ℕ)} {ds : List Declaration} {e : Placed} (tag : Option (List ℕ))
-    → Passing es directives i j before mid a b names ds → slice_get es j ≡ Some e → starts_document e.event ≡ false
-    → Finds mid after (own_breaches ds names e) → (is_unknown ds (props_of e.event).tag ≡ false → TagOf ds (props_of e.event).tag tag)
-    → SameNames others (with_name (props_of e.event).anchor names) → c ≡ b ++ tag ∷ []
-    → Passing es directives i (j + 1) before after a c others ds
-passing_event {es} {directives} {i} {j} {before} {mid} {after} {a} {b} {c} {names} {others} {ds} {e} tag p f n q o s l =
+pub one_passed : {es : List Placed} {ds : List Declaration} {i j : ℕ} {before mid after : Option Breach} {names between others : List (List ℕ)}
+    {a b c : List (Option (List ℕ))} {e : Placed} → AllPassed es ds i j before mid names between a b → slice_get es j ≡ Some e
+    → starts_document e.event ≡ false → Passed ds e mid after between others b c → AllPassed es ds i (j + 1) before after names others a c
+one_passed {es} {ds} {i} {j} {before} {mid} {after} {names} {between} {others} {a} {b} {c} {e} p f n o =
     let here = at_index es j f in
+    let tag = o.tag in
     record {
-      found = p.found ++ own_breaches ds names e;
-      finds = finds_then p.finds q;
+      found = p.found ++ own_breaches ds between e;
+      finds = finds_then p.finds o.finds;
       breaches = λ docs.
-          p.breaches docs ∙ ap (λ z. p.found ++ pass_breaches docs ds names z) here
-          ∙ ap (λ z. p.found ++ z) (at_event docs ds names e (drop (j + 1) es) n
-          ∙ ap (λ z. own_breaches ds names e ++ z) (pass_names docs ds (drop (j + 1) es) (record { each = λ x. sym (s.each x) })))
-          ∙ sym (append_assoc p.found (own_breaches ds names e) (pass_breaches docs ds others (drop (j + 1) es)));
+          p.breaches docs ∙ ap (λ z. p.found ++ pass_breaches docs ds between z) here
+          ∙ ap (λ z. p.found ++ z) (at_event docs ds between e (drop (j + 1) es) n
+          ∙ ap (λ z. own_breaches ds between e ++ z) (pass_names docs ds (drop (j + 1) es) (record { each = λ x. sym (o.same.each x) })))
+          ∙ sym (append_assoc p.found (own_breaches ds between e) (pass_breaches docs ds others (drop (j + 1) es)));
       added = p.added ++ tag ∷ [];
-      list = l ∙ ap (λ z. z ++ tag ∷ []) p.list ∙ append_assoc a p.added (tag ∷ []);
+      list = o.list ∙ ap (λ z. z ++ tag ∷ []) p.list ∙ append_assoc a p.added (tag ∷ []);
       tags = λ none docs rest t.
-          let nothing = found_nothing none q in
+          let nothing = found_nothing none o.finds in
           let known = both_empty (breach_if (is_unknown ds (props_of e.event).tag) UnknownHandle (offset_or 0 e.tag_offset)) _ nothing.1 in
-          let own = o (not_breached (is_unknown ds (props_of e.event).tag) (offset_or 0 e.tag_offset) known.0) in
+          let own = o.stands (not_breached (is_unknown ds (props_of e.event).tag) (offset_or 0 e.tag_offset) known.0) in
           let more : PassTags docs ds (drop j es) (tag ∷ rest) = subst (λ z. PassTags docs ds z (tag ∷ rest)) (sym here) (event_follows n own t) in
-          subst (λ z. PassTags docs (declarations [] directives) (drop i es) z) (sym (append_assoc p.added (tag ∷ []) rest)) (p.tags nothing.0 docs (tag ∷ rest) more);
+          subst (λ z. PassTags docs ds (drop i es) z) (sym (append_assoc p.added (tag ∷ []) rest)) (p.tags nothing.0 docs (tag ∷ rest) more);
     }
   where
     not_breached : (b : Bool) (i : ℕ) → breach_if b UnknownHandle i ≡ [] → b ≡ false
     not_breached true i e = some_none e
     not_breached false i e = refl
 
-pub passing_ends : {es : List Placed} {directives : List Directive} {i j : ℕ} {before after : Option Breach} {a b : List (Option (List ℕ))}
-    {names : List (List ℕ)} {ds : List Declaration} → Passing es directives i j before after a b names ds → StartsDocument (drop j es)
+-- those of a document, with its directives
+pub document_passed : {es : List Placed} {directives : List Directive} {i j : ℕ} {before mid after : Option Breach} {a b : List (Option (List ℕ))}
+    {names others : List (List ℕ)} {none ds : List Declaration} → none ≡ [] → names ≡ [] → SameDeclarations ds (declarations none directives)
+    → Finds before mid (directive_breaches false none directives) → StartsDocument (drop j es) → AllPassed es ds i j mid after names others a b
     → Resolves es directives i j before after a b
-passing_ends {es} {j = j} {names = names} {ds = ds} p s = record {
-  found = p.found;
-  finds = p.finds;
-  breaches = λ docs. p.breaches docs ∙ ap (λ z. p.found ++ z) (breaches_anew docs ds names (drop j es) s);
-  added = p.added;
-  list = p.list;
-  tags = λ none docs rest t. p.tags none docs rest (tags_anew s t);
-}
+document_passed {es} {directives} {i} {j} {before} {mid} {after} {a} {b} {others = others} {ds = ds} d e s f n p =
+    from_none (subst (λ z. SameDeclarations ds (declarations z directives)) d s) (subst (λ z. Finds before mid (directive_breaches false z directives)) d f)
+    (subst (λ z. AllPassed es ds i j mid after z others a b) e p)
+  where
+    own : List Breach
+    own = directive_breaches false [] directives
+
+    from_none : SameDeclarations ds (declarations [] directives) → Finds before mid own → AllPassed es ds i j mid after [] others a b
+        → Resolves es directives i j before after a b
+    from_none s f p = record {
+      found = own ++ p.found;
+      finds = finds_then f p.finds;
+      breaches = λ docs.
+          ap (λ z. own ++ z) (sym (pass_declared docs [] (drop i es) s) ∙ p.breaches docs ∙ ap (λ z. p.found ++ z) (breaches_anew docs ds others (drop j es) n))
+          ∙ sym (append_assoc own p.found (pass_breaches docs [] [] (drop j es)));
+      added = p.added;
+      list = p.list;
+      tags = λ none docs rest t. tags_declared s (p.tags none docs rest (tags_anew n t));
+    }
 
 -- What has been found of a stream up to an index, where so many documents have begun.
 pub record Resolving (docs : List Doc) (es : List Placed) (escapes : List ℕ) (begun at : ℕ) (first : Option Breach) (tags : List (Option (List ℕ))) : Type 0 where

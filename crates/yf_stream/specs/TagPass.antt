@@ -1,8 +1,8 @@
 -- What a pass over the events of a stream finds, document by document: the tags that they stand for, and the first of all breaches.
-use Rattle.std.specs.Prelude.{◌≡◌, ℕ, Bool, true, false, if◌then◌else◌, List, [], ◌∷◌, ◌++◌, drop, Option, Some, None}
+use Rattle.std.specs.Prelude.{◌≡◌, ℕ, Bool, true, false, if◌then◌else◌, List, [], ◌∷◌, ◌++◌, drop, slice_get, Option, Some, None}
 use Rattle.std.specs.Borrow.{Bor}
 use Rattle.yf_props.specs.Handles.{Declaration, TagText, declared_prefix}
-use Rattle.yf_props.specs.Props.{TagValue}
+use Rattle.yf_props.specs.Props.{TagValue, no_props}
 use Rattle.yf_events.specs.declared.directive.Directive.{Directive}
 use Rattle.yf_events.specs.declared.document.Doc.{Doc}
 use Rattle.yf_events.specs.Event.{EventValue, Placed, document_starts}
@@ -73,6 +73,43 @@ pub data PassTags : List Doc → List Declaration → List Placed → List (Opti
   event_follows : {docs : List Doc} {ds : List Declaration} {e : Placed} {es : List Placed} {tag : Option (List ℕ)}
       {tags : List (Option (List ℕ))} → starts_document e.event ≡ false → TagOf ds (props_of e.event).tag tag → PassTags docs ds es tags
       → PassTags docs ds (e ∷ es) (tag ∷ tags)
+
+-- an event of which this holds is the one at an index
+pub record EventAt (es : List Placed) (i : ℕ) (P : Placed → Type 0) : Type 0 where
+  pub event : Placed
+  pub there : slice_get es i ≡ Some event
+  pub holds : P event
+
+-- an event that begins no node with a tag or an anchor, and is no alias
+pub record Bare (v : EventValue) : Type 0 where
+  pub props : props_of v ≡ no_props
+  pub alias : alias_of v ≡ None
+
+-- the tag of an event has been added, and kept as a breach if it is one and the first
+pub record TagAdded (ds : List Declaration) (e : Placed) (before after : Option Breach) (a b : List (Option (List ℕ))) : Type 0 where
+  pub finds : Finds before after (breach_if (is_unknown ds (props_of e.event).tag) UnknownHandle (offset_or 0 e.tag_offset))
+  pub tag : Option (List ℕ)
+  pub stands : is_unknown ds (props_of e.event).tag ≡ false → TagOf ds (props_of e.event).tag tag
+  pub list : b ≡ a ++ tag ∷ []
+
+-- an event has been gone past, with these declarations: the first of its breaches has been kept, its anchor has occurred, and its tag has been added
+pub record Passed (ds : List Declaration) (e : Placed) (before after : Option Breach) (names others : List (List ℕ)) (a b : List (Option (List ℕ))) : Type 0 where
+  pub finds : Finds before after (own_breaches ds names e)
+  pub same : SameNames others (with_name (props_of e.event).anchor names)
+  pub tag : Option (List ℕ)
+  pub stands : is_unknown ds (props_of e.event).tag ≡ false → TagOf ds (props_of e.event).tag tag
+  pub list : b ≡ a ++ tag ∷ []
+
+-- all events from i up to j have been gone past
+pub record AllPassed (es : List Placed) (ds : List Declaration) (i j : ℕ) (before after : Option Breach) (names others : List (List ℕ))
+    (a b : List (Option (List ℕ))) : Type 0 where
+  pub found : List Breach
+  pub finds : Finds before after found
+  pub breaches : (docs : List Doc) → pass_breaches docs ds names (drop i es) ≡ found ++ pass_breaches docs ds others (drop j es)
+  pub added : List (Option (List ℕ))
+  pub list : b ≡ a ++ added
+  pub tags : after ≡ None → (docs : List Doc) (rest : List (Option (List ℕ))) → PassTags docs ds (drop j es) rest
+      → PassTags docs ds (drop i es) (added ++ rest)
 
 -- the directives of a document, or none
 abbrev pub directives_of : Option (Bor Doc) → List Directive

@@ -1,8 +1,8 @@
 //! The resolved tags of a stream (YAML 1.2.2, section 6.9.1), and the first breach in it.
-ghost use Rattle.std.specs.Prelude.{◌≡◌, ◌≤◌, ◌<◌, [], ◌∷◌, ◌++◌, false, drop, length, IfOk};
-ghost use Rattle.yf_props.specs.Props.{name_value, optional_tag_value};
-ghost use Rattle.yf_events.specs.Event.{event_value, view_value};
-ghost use Rattle.yf_stream.specs.TagPass.{FirstOf, Finds, PassTags, Resolves, SameDeclarations, SameNames, StartsDocument, TagOf, directives_of, stream_breaches};
+ghost use Rattle.std.specs.Prelude.{◌≡◌, ◌≤◌, ◌<◌, [], ◌∷◌, ◌++◌, false, drop, length, IfOk, MatchBool};
+ghost use Rattle.yf_props.specs.Props.{name_value, no_props, optional_tag_value, props_value};
+ghost use Rattle.yf_events.specs.Event.{event_value};
+ghost use Rattle.yf_stream.specs.TagPass.{AllPassed, Bare, EventAt, FirstOf, Finds, PassTags, Passed, Resolves, SameDeclarations, SameNames, StartsDocument, TagAdded, TagOf, directives_of, stream_breaches};
 ghost use Rattle.yf_stream.specs.TagPass as TagPass;
 ghost use Rattle.yf_stream.specs.WellFormed.{alias_breaches, alias_of, breach_if, declarations, directive_breaches, is_unknown, offset_or, props_of, start_or, with_name};
 
@@ -12,7 +12,7 @@ use crate::declarations::declare_all;
 use crate::prefixes::Prefixes;
 use std::alloc::{AllocError, Global};
 use yf_events::document::{Doc, Documents};
-use yf_events::event::{Event, View};
+use yf_events::event::Event;
 use yf_events::events::Events;
 use yf_events::row::Row;
 use yf_events::tags::Tags;
@@ -69,67 +69,191 @@ fn resolve_events<'e, 'a>(
     ensures resolves { IfOk result (λ end. Resolves events.now (directives_of document.entry) start end
         resolved.old.first resolved.new.first resolved.old.tags resolved.new.tags) }
 {
-    let handles = handles_of(alloc, document, &mut resolved.first)?;
+    let mut handles = Prefixes::new(alloc);
+    declare_handles(document, &mut handles, &mut resolved.first)?;
     let mut anchors = Anchors::new(alloc);
+    resolve_from(alloc, events, start, &handles, &mut anchors, resolved)
+}
+
+// The same with the handles of the document, and with the anchors that have occurred in it.
+fn resolve_from<'e, 'a>(
+    alloc: Global,
+    events: &'e Events<'a>,
+    start: usize,
+    handles: &Prefixes<'a>,
+    anchors: &mut Anchors<'e>,
+    resolved: &mut Resolved<'a>,
+) -> Result<usize, AllocError>
+    requires { start ≤ length events.now }
+    ensures end { IfOk result (λ end. (start ≤ end) × (end ≤ length events.now)) }
+    ensures next { IfOk result (λ end. StartsDocument (drop end events.now)) }
+    ensures passes { IfOk result (λ end. AllPassed events.now handles.now start end resolved.old.first resolved.new.first
+        anchors.old anchors.new resolved.old.tags resolved.new.tags) }
+{
     let mut at = start;
     'events: while at < events.len() {
-        let placed = events.at(at);
-        if starts_document(&placed.event) {
+        if document_starts(events, at) {
             return Ok(at);
         }
-        let tag = resolve_tag(
-            alloc,
-            events.tag(at),
-            placed.tag_offset,
-            &handles,
-            &mut resolved.first,
-        )?;
-        note_event(placed, &mut anchors, &mut resolved.first)?;
-        resolved.tags.push(tag)?;
+        resolve_one(alloc, events, at, handles, anchors, resolved)?;
         at += 1;
     }
     Ok(at)
 }
 
+// Whether a document starts at an index.
+#[inline(always)]
+fn document_starts(events: &Events, at: usize) -> bool
+    requires { at < length events.now }
+    ensures { EventAt events.now at (λ e. result ≡ TagPass.starts_document e.event) }
+{
+    starts_document(&events.event(at))
+}
+
+#[inline(always)]
 fn starts_document(event: &Event) -> bool
     ensures { result ≡ TagPass.starts_document (event_value event.now) }
 {
     matches!(event, Event::DocStart { .. })
 }
 
-// The handles of a document.
-fn handles_of<'a>(
+// Goes past the event at an index. Most events have nothing that is to be noted.
+#[inline(always)]
+fn resolve_one<'e, 'a>(
     alloc: Global,
-    document: Option<&Doc<'a>>,
-    first: &mut Option<Breach>,
-) -> Result<Prefixes<'a>, AllocError>
-    ensures handles { IfOk result (λ handles. SameDeclarations handles (declarations [] (directives_of document.entry))) }
-    ensures found { IfOk result (λ _. Finds first.old first.new (directive_breaches false [] (directives_of document.entry))) }
+    events: &'e Events<'a>,
+    at: usize,
+    handles: &Prefixes<'a>,
+    anchors: &mut Anchors<'e>,
+    resolved: &mut Resolved<'a>,
+) -> Result<(), AllocError>
+    requires { at < length events.now }
+    ensures { IfOk result (λ _. EventAt events.now at (λ e. Passed handles.now e resolved.old.first resolved.new.first
+        anchors.old anchors.new resolved.old.tags resolved.new.tags)) }
 {
-    let mut handles = Prefixes::new(alloc);
-    if let Some(document) = document {
-        declare_all(document.directives.as_slice(), &mut handles, first)?;
-        return Ok(handles);
+    if is_bare(&events.event(at)) {
+        return resolved.tags.push(None);
     }
-    Ok(handles)
+    resolve_named(alloc, events, at, handles, anchors, resolved)
 }
 
-// The anchor of the node that the event begins has occurred from now on; an alias names one that has.
+// Whether the event begins no node with a tag or an anchor, and is no alias.
+#[inline(always)]
+fn is_bare(event: &Event) -> bool
+    ensures { MatchBool result (Bare (event_value event.now)) (Unit {0}) }
+{
+    match event {
+        Event::Scalar { props, .. }
+        | Event::SeqStart { props, .. }
+        | Event::MapStart { props, .. } => has_none(props),
+        Event::Alias { .. } => false,
+        _ => true,
+    }
+}
+
+#[inline(always)]
+fn has_none(props: &Props) -> bool
+    ensures { MatchBool result (props_value props.now ≡ no_props) (Unit {0}) }
+{
+    if props.anchor.is_some() {
+        return false;
+    }
+    props.tag.is_none()
+}
+
+// Goes past an event with a tag, an anchor or the name of one.
+fn resolve_named<'e, 'a>(
+    alloc: Global,
+    events: &'e Events<'a>,
+    at: usize,
+    handles: &Prefixes<'a>,
+    anchors: &mut Anchors<'e>,
+    resolved: &mut Resolved<'a>,
+) -> Result<(), AllocError>
+    requires { at < length events.now }
+    ensures { IfOk result (λ _. EventAt events.now at (λ e. Passed handles.now e resolved.old.first resolved.new.first
+        anchors.old anchors.new resolved.old.tags resolved.new.tags)) }
+{
+    add_tag(alloc, events, at, handles, resolved)?;
+    note_event(
+        events.event(at),
+        start_of(events, at),
+        anchors,
+        &mut resolved.first,
+    )
+}
+
+// Adds what the tag of an event stands for.
+fn add_tag<'a>(
+    alloc: Global,
+    events: &Events<'a>,
+    at: usize,
+    handles: &Prefixes<'a>,
+    resolved: &mut Resolved<'a>,
+) -> Result<(), AllocError>
+    requires { at < length events.now }
+    ensures { IfOk result (λ _. EventAt events.now at (λ e. TagAdded handles.now e resolved.old.first resolved.new.first
+        resolved.old.tags resolved.new.tags)) }
+{
+    let tag = resolve_tag(
+        alloc,
+        events.tag(at),
+        tag_offset(events, at),
+        handles,
+        &mut resolved.first,
+    )?;
+    resolved.tags.push(tag)
+}
+
+fn tag_offset(events: &Events, at: usize) -> Option<usize>
+    requires { at < length events.now }
+    ensures { EventAt events.now at (λ e. result ≡ e.tag_offset) }
+{
+    events.at(at).tag_offset
+}
+
+// Where the node or alias begins, or 0 where it has no place.
+fn start_of(events: &Events, at: usize) -> usize
+    requires { at < length events.now }
+    ensures { EventAt events.now at (λ e. result ≡ start_or 0 e.span) }
+{
+    match events.span(at) {
+        Some(span) => span.start,
+        None => 0,
+    }
+}
+
+// Declares the handles of a document.
+fn declare_handles<'a>(
+    document: Option<&Doc<'a>>,
+    handles: &mut Prefixes<'a>,
+    first: &mut Option<Breach>,
+) -> Result<(), AllocError>
+    ensures handles { IfOk result (λ _. SameDeclarations handles.new (declarations handles.old (directives_of document.entry))) }
+    ensures found { IfOk result (λ _. Finds first.old first.new (directive_breaches false handles.old (directives_of document.entry))) }
+{
+    match document {
+        Some(document) => declare_all(document.directives.as_slice(), handles, first),
+        None => Ok(()),
+    }
+}
+
+// The anchor of the node that the event begins has occurred from now on; an alias at the offset names one that has.
 fn note_event<'e>(
-    placed: View<'e>,
+    event: Event<'e>,
+    offset: usize,
     anchors: &mut Anchors<'e>,
     first: &mut Option<Breach>,
 ) -> Result<(), AllocError>
-    ensures names { IfOk result (λ _. SameNames anchors.new (with_name (props_of (view_value placed.entry).event).anchor anchors.old)) }
+    ensures names { IfOk result (λ _. SameNames anchors.new (with_name (props_of (event_value event.entry)).anchor anchors.old)) }
     ensures found { IfOk result (λ _. Finds first.old first.new
-        (alias_breaches anchors.old (start_or 0 placed.entry.span) (alias_of (view_value placed.entry).event))) }
+        (alias_breaches anchors.old offset (alias_of (event_value event.entry)))) }
 {
-    match placed.event {
+    match event {
         Event::Scalar { props, .. }
         | Event::SeqStart { props, .. }
         | Event::MapStart { props, .. } => note_anchor(props, anchors),
         Event::Alias { name } => {
-            let offset = placed.span.map_or(0, |span| span.start);
             keep_if(first, !anchors.contains(name), Kind::UnknownAlias, offset);
             Ok(())
         }

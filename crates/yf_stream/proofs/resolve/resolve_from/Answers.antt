@@ -1,0 +1,20 @@
+use Rattle.std.proofs.Common.{arith}
+use Rattle.yf_stream.proofs.PassLemmas.{none_passed}
+use Rattle.yf_stream.proofs.PassSteps.{none_starts, passing_step, starts_at}
+use Rattle.yf_stream.proofs.resolve.resolve_from.Goals as goal
+
+pub events-init : goal.events-init
+events-init c = record { passed = none_passed c.args.start c.args.resolved.now.tags; later = omega arith; within = omega arith }
+
+pub events-preserved : goal.events-preserved
+events-preserved c = record {
+  passed = passing_step c.events.invariant.passed c.document_starts.ensures c.if-document_starts.false c.in_ok-resolve_one.ensures;
+  later = omega arith;
+  within = omega (arith, c.len.ensures, c.events-test.true);
+}
+
+pub returns-then-document_starts-clause-next : goal.returns-then-document_starts-clause-next
+returns-then-document_starts-clause-next c = starts_at c.document_starts.ensures c.if-document_starts.true
+
+pub returns-clause-next : goal.returns-clause-next
+returns-clause-next c = none_starts c.args.events.now c.events.at (omega (arith, c.len.ensures, c.events-test.false))
