@@ -4,6 +4,7 @@ ghost use Rattle.std.specs.Str.{IsUtf8};
 ghost use Rattle.std.specs.String.{string_bytes};
 ghost use Rattle.yf_emit.specs.FormatKept.{FormatKept};
 ghost use Rattle.yf_emit.specs.Formatted.{Formatted};
+ghost use Rattle.yf_emit.specs.Printout.{IsPrinted};
 ghost use Rattle.yf_stream.specs.ReadingOf.{ReadingOf};
 ghost use Rattle.yf_stream.specs.Refusal.{IsStreamFault};
 ghost use Rattle.yf_stream.specs.StreamReader.{StreamFault};
@@ -16,6 +17,17 @@ use yf_events::reading::Reading;
 use yf_lines::fault::Fault;
 use yf_stream::stream::read_stream;
 
+/// The layout of a normal reading.
+fn laid_out(alloc: Global, normal: &Reading, style: &Style) -> Result<String, Fault>
+    ensures printed { IfOk result (λ output. IsPrinted normal.now style.now (string_bytes output)) }
+    ensures refused { IfErr result (λ fault. fault ≡ Fault.Memory) }
+{
+    match layout(alloc, normal, style) {
+        Ok(output) => Ok(output),
+        Err(AllocError) => Err(Fault::Memory),
+    }
+}
+
 /// The text of a reading of the text in the house style.
 fn formatted(alloc: Global, text: &str, reading: Reading, style: &Style) -> Result<String, Fault>
     ensures formatted { IfOk result (λ formatted. Formatted text.now style.now (string_bytes formatted)) }
@@ -23,10 +35,9 @@ fn formatted(alloc: Global, text: &str, reading: Reading, style: &Style) -> Resu
         → IfOk result (λ formatted. FormatKept text.now style.now (string_bytes formatted)) }
     ensures refused { IfErr result (λ fault. fault ≡ Fault.Memory) }
 {
-    let normal = normalized(alloc, text, reading, style)?;
-    match layout(alloc, &normal, style) {
-        Ok(output) => Ok(output),
-        Err(AllocError) => Err(Fault::Memory),
+    match normalized(alloc, text, reading, style) {
+        Ok(normal) => laid_out(alloc, &normal, style),
+        Err(_) => Err(Fault::Memory),
     }
 }
 

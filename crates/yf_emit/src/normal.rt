@@ -1,17 +1,20 @@
 //! The normal form of a reading: each scalar in the style, and each collection in the form, that the house style gives it.
 ghost use Rattle.std.specs.Prelude.{◌≡◌, IfErr, IfOk};
+ghost use Rattle.std.specs.List.Sorted.{IsNonDecreasingBy};
 ghost use Rattle.yf_events.specs.Content.{content_of};
 ghost use Rattle.yf_events.specs.Event.{event_value};
 ghost use Rattle.yf_events.specs.Nested.{IsStream};
 ghost use Rattle.yf_events.specs.Reading.{Fits, events_of};
 ghost use Rattle.yf_events.specs.declared.reading.TheConstants.{DEPTH};
-ghost use Rattle.yf_emit.specs.Normal.{Normal};
+ghost use Rattle.yf_emit.specs.Forms.{Decided};
+ghost use Rattle.yf_emit.specs.Measures.{Measured};
+ghost use Rattle.yf_emit.specs.Normal.{Normal, setting_of};
 ghost use Rattle.yf_emit.specs.NormalEvents.{normal_from};
 ghost use Rattle.yf_emit.specs.Restyled.{IsRestyled};
 ghost use Rattle.yf_emit.specs.Textual.{IsTextual};
 ghost use Rattle.yf_emit.specs.Wanted.{wanted_of_event};
 
-pub mod copies;
+mod copies;
 
 use crate::form::decide::decide;
 use crate::form::forms::Forms;
@@ -40,21 +43,42 @@ fn style_of(event: Event, quotes: Quotes) -> ScalarStyle
     }
 }
 
+/// What is decided of a reading before it is put into its normal form.
+#[derive(Drop)]
+struct Decisions {
+    measures: Measures,
+    forms: Forms,
+}
+
+fn decisions_of(
+    alloc: Global,
+    text: &str,
+    reading: &Reading,
+    style: &Style,
+) -> Result<Decisions, AllocError>
+    ensures measured { IfOk result (λ decisions. IsNonDecreasingBy (λ c. c.offset) reading.now.comments
+        → Measured text.now (setting_of reading.now style.now) reading.now.events decisions.measures) }
+    ensures decided { IfOk result (λ decisions. Decided reading.now style.now decisions.measures decisions.forms) }
+{
+    let measures = measure_text(alloc, text, reading, style)?;
+    let forms = decide(alloc, &measures, reading, style)?;
+    Ok(Decisions { measures, forms })
+}
+
 /// Puts the events into their normal form. A collection is written between brackets where it is empty, or kept, or stands in a kept
 /// one. After a refusal the events are of no use.
 fn normalize<'a>(
     alloc: Global,
     events: &mut Events<'a>,
-    measures: &Measures,
-    forms: &Forms,
+    decisions: &Decisions,
     style: &Style,
 ) -> Result<(), AllocError>
-    ensures { IfOk result (λ _. events.new ≡ normal_from style.now.quotes measures.now 0 0 forms.now events.old) }
+    ensures { IfOk result (λ _. events.new ≡ normal_from style.now.quotes decisions.now.measures 0 0 decisions.now.forms events.old) }
 {
     let mut kept_until = 0;
     for i in 0..events.len() {
-        let measure = measures.at(i);
-        if forms.at(i).is_kept {
+        let measure = decisions.measures.at(i);
+        if decisions.forms.at(i).is_kept {
             kept_until = measure.last;
         }
         let flow = measure.is_leaf(i) || i < kept_until;
@@ -64,23 +88,38 @@ fn normalize<'a>(
     Ok(())
 }
 
-/// The lists of the normal form.
-fn normal_lists<'a>(
-    alloc: Global,
-    text: &str,
-    reading: Reading<'a>,
-    style: &Style,
-) -> Result<Lists<'a>, AllocError>
-    ensures restyled { IfOk result (λ normal. IsRestyled style.now.quotes reading.entry normal) }
-    ensures is_normal { IfOk result (λ normal. IsTextual reading.entry → Normal text.now reading.entry style.now normal) }
-    ensures fit { IfOk result Fits }
-    ensures nested { IfOk result (λ normal. IsStream DEPTH (events_of normal)) }
+/// The reading that well nested lists make.
+fn built<'a>(alloc: Global, lists: Lists<'a>) -> Result<Reading<'a>, Fault>
+    requires fit { Fits lists }
+    requires nested { IsStream DEPTH (events_of lists) }
+    ensures same { IfOk result (λ reading. reading ≡ lists.entry) }
+    ensures refused { IfErr result (λ fault. fault ≡ Fault.Memory) }
 {
-    let measures = measure_text(alloc, text, &reading, style)?;
-    let forms = decide(alloc, &measures, &reading, style)?;
-    let mut lists = reading.into_lists();
-    normalize(alloc, &mut lists.events, &measures, &forms, style)?;
-    Ok(lists)
+    match Reading::build(alloc, lists) {
+        Ok(Some(reading)) => Ok(reading),
+        Ok(None) => unreachable!(),
+        Err(_) => Err(Fault::Memory),
+    }
+}
+
+/// The reading that the lists make once their events are in their normal form.
+fn in_form<'a>(
+    alloc: Global,
+    mut lists: Lists<'a>,
+    decisions: &Decisions,
+    style: &Style,
+) -> Result<Reading<'a>, Fault>
+    requires fit { Fits lists }
+    requires nested { IsStream DEPTH (events_of lists) }
+    ensures restyled { IfOk result (λ normal. IsRestyled style.now.quotes lists.entry normal) }
+    ensures events { IfOk result (λ normal. normal.events ≡ normal_from style.now.quotes decisions.now.measures 0 0 decisions.now.forms
+        lists.entry.events) }
+    ensures refused { IfErr result (λ fault. fault ≡ Fault.Memory) }
+{
+    match normalize(alloc, &mut lists.events, decisions, style) {
+        Ok(()) => built(alloc, lists),
+        Err(AllocError) => Err(Fault::Memory),
+    }
 }
 
 /// The normal form of a reading of the text, in place of that reading.
@@ -96,14 +135,20 @@ pub(crate) fn normalized<'a>(
     ensures nested { IfOk result (λ normal. IsStream DEPTH (events_of normal)) }
     ensures refused { IfErr result (λ fault. fault ≡ Fault.Memory) }
 {
-    let lists = match normal_lists(alloc, text, reading, style) {
-        Ok(lists) => lists,
-        Err(AllocError) => return Err(Fault::Memory),
-    };
-    match Reading::build(alloc, lists) {
-        Ok(Some(normal)) => Ok(normal),
-        Ok(None) => unreachable!(),
-        Err(_) => Err(Fault::Memory),
+    match decisions_of(alloc, text, &reading, style) {
+        Ok(decisions) => in_form(alloc, reading.into_lists(), &decisions, style),
+        Err(AllocError) => Err(Fault::Memory),
+    }
+}
+
+/// A copy of a reading, which shares its texts.
+fn copied<'a>(alloc: Global, reading: &'a Reading<'a>) -> Result<Reading<'a>, Fault>
+    ensures same { IfOk result (λ copy. copy ≡ reading.now) }
+    ensures refused { IfErr result (λ fault. fault ≡ Fault.Memory) }
+{
+    match copied_lists(alloc, reading) {
+        Ok(lists) => built(alloc, lists),
+        Err(AllocError) => Err(Fault::Memory),
     }
 }
 
@@ -126,13 +171,8 @@ pub fn normal<'a>(
     ensures nested { IfOk result (λ normal. IsStream DEPTH (events_of normal)) }
     ensures refused { IfErr result (λ fault. fault ≡ Fault.Memory) }
 {
-    let lists = match copied_lists(alloc, reading) {
-        Ok(lists) => lists,
-        Err(AllocError) => return Err(Fault::Memory),
-    };
-    match Reading::build(alloc, lists) {
-        Ok(Some(copy)) => normalized(alloc, src.text(), copy, style),
-        Ok(None) => unreachable!(),
-        Err(_) => Err(Fault::Memory),
+    match copied(alloc, reading) {
+        Ok(copy) => normalized(alloc, src.text(), copy, style),
+        Err(fault) => Err(fault),
     }
 }

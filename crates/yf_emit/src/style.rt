@@ -4,7 +4,7 @@ ghost use Rattle.std.specs.Prelude.{◌≡◌, ◌≤◌, true};
 use yf_lines::quotes::Quotes;
 
 /// The settings of the house style. Each value of this type is within the ranges that its fields name.
-#[derive(Clone, Copy, Debug, PartialEq, Eq)]
+#[derive(Clone, Copy)]
 pub struct Style {
     /// By how many columns an entry stands to the right of the entry that holds it, 2 to 8.
     pub indent: usize,

@@ -9,7 +9,6 @@ ghost use Rattle.yf_emit.specs.Forms.{no_form, Decided};
 ghost use Rattle.yf_emit.specs.ImplicitKeys.{TellsImplicit};
 
 use crate::form::forms::Forms;
-use crate::form::keys::is_leaf;
 use crate::form::measure::{Measure, measure_all};
 use crate::form::measures::Measures;
 use crate::form::places::{Level, count_node, fits, next_place};
@@ -21,7 +20,7 @@ use yf_lines::fault::Fault;
 use yf_lines::source_text::Src;
 
 /// The form of the node that an event begins.
-#[derive(Clone, Copy, PartialEq, Eq)]
+#[derive(Clone, Copy)]
 pub struct Form {
     /// Whether it is a flow collection with entries that is written on one line.
     pub is_kept: bool,
@@ -51,7 +50,7 @@ fn is_whole(measure: &Measure, i: usize, is_kept: bool) -> bool
     if is_kept {
         return true;
     }
-    if is_leaf(measure.first_leaf, i) {
+    if measure.is_leaf(i) {
         return true;
     }
     measure.last == i

@@ -111,15 +111,19 @@ fn before_bracket(
     before_text(text, stack, props)
 }
 
+/// Begins a collection with these properties, between whose brackets `first` comes first.
 fn open_bracket(
     text: &mut String,
     stack: &mut Vec<Expected>,
+    props: &Props,
     bracket: char,
     first: Expected,
 ) -> Result<(), AllocError>
-    ensures adds { OnOk result (string_bytes text.new ≡ string_bytes text.old ++ encode_utf8 bracket) }
-    ensures next { OnOk result (reverse stack.new.items ≡ first ∷ reverse stack.old.items) }
+    ensures adds { OnOk result (string_bytes text.new ≡ string_bytes text.old ++ (OneLineRun.before_bracket (reverse stack.old.items)
+        (props_value props.now) ++ encode_utf8 bracket)) }
+    ensures next { OnOk result (reverse stack.new.items ≡ first ∷ behind_in false (reverse stack.old.items)) }
 {
+    before_bracket(text, stack, props)?;
     text.push(bracket)?;
     stack.push(first)?;
     Ok(())
@@ -163,12 +167,10 @@ fn push_event(
             text.push_str(name)
         }
         Event::SeqStart { props, .. } => {
-            before_bracket(text, stack, props)?;
-            open_bracket(text, stack, '[', Expected::FirstItem)
+            open_bracket(text, stack, props, '[', Expected::FirstItem)
         }
         Event::MapStart { props, .. } => {
-            before_bracket(text, stack, props)?;
-            open_bracket(text, stack, '{', Expected::FirstKey)
+            open_bracket(text, stack, props, '{', Expected::FirstKey)
         }
         Event::SeqEnd => close_bracket(text, stack, ']'),
         Event::MapEnd => close_bracket(text, stack, '}'),

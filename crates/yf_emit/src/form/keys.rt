@@ -42,16 +42,6 @@ pub(crate) fn is_implicit_key(measure: &Measure, column: usize, style: &Style) -
     }
 }
 
-/// Whether the node that the event at an index begins is a leaf with characters, where this is its first one.
-pub(crate) fn is_leaf(first_leaf: Option<usize>, i: usize) -> bool
-    ensures { result ≡ Deciding.is_leaf_at i first_leaf }
-{
-    match first_leaf {
-        Some(leaf) => leaf == i,
-        None => false,
-    }
-}
-
 /// Whether a space stands before the `:` of this key: after an alias, and after properties alone.
 pub fn has_space(event: &Event, is_leaf: bool) -> bool
     ensures { result ≡ Deciding.has_space (event_value event.now) is_leaf }
@@ -133,7 +123,7 @@ pub(crate) fn key_of(
 {
     Key {
         is_implicit,
-        width: key_width(event, is_leaf(measure.first_leaf, i), measure.width),
+        width: key_width(event, measure.is_leaf(i), measure.width),
         start: key_start(reading, i, measure.last_leaf),
     }
 }

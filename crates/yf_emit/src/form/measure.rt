@@ -20,7 +20,7 @@ use yf_events::reading::Reading;
 use yf_lines::source_text::Src;
 
 /// What one pass finds of the node that an event begins.
-#[derive(Clone, Copy, PartialEq, Eq)]
+#[derive(Clone, Copy)]
 pub struct Measure {
     /// The index of the event with which the node ends: its own, or that of the collection's end.
     pub last: usize,

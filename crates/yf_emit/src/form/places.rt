@@ -7,7 +7,7 @@ ghost use Rattle.yf_emit.specs.Deciding as Deciding;
 ghost use Rattle.yf_emit.specs.Deciding.{given};
 
 use crate::form::comments_before::first_between;
-use crate::form::keys::{Key, is_implicit_key, is_leaf, key_of, leaf_start};
+use crate::form::keys::{Key, is_implicit_key, key_of, leaf_start};
 use crate::form::measure::Measure;
 use crate::style::Style;
 use yf_comments::comment::Comment;
@@ -82,7 +82,7 @@ fn trailing_comment(reading: &Reading, start: usize, i: usize, measure: &Measure
         → result ≡ Deciding.trailing_comment reading.now.comments reading.now.events start i measure.now }
 {
     let to = leaf_start(reading, measure.first_leaf);
-    if is_leaf(measure.first_leaf, i) {
+    if measure.is_leaf(i) {
         return comment_before(reading.comments(), start, to);
     }
     if measure.can_be_kept {
@@ -113,7 +113,7 @@ fn comment_if(
 ) -> Option<usize>
     ensures { result ≡ Deciding.comment_if (Deciding.is_leaf_at i measure.now.first_leaf || Deciding.has_room style.now column measure.now.width) comment }
 {
-    if is_leaf(measure.first_leaf, i) {
+    if measure.is_leaf(i) {
         return Some(comment);
     }
     if fits(column, measure.width, style) {

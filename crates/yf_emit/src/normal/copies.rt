@@ -1,7 +1,7 @@
 //! Copies of what a reading holds, which share its texts.
-ghost use Rattle.std.specs.Prelude.{◌≡◌, map, IfOk};
+ghost use Rattle.std.specs.Prelude.{◌≡◌, [], ◌∷◌, ◌++◌, map, IfOk};
 ghost use Rattle.yf_comments.specs.Comment.{comment_value};
-ghost use Rattle.yf_events.specs.Event.{event_value, new_event_value, placed_value, view_value};
+ghost use Rattle.yf_events.specs.Event.{event_value, new_event_value, view_value};
 ghost use Rattle.yf_events.specs.Nested.{IsStream};
 ghost use Rattle.yf_events.specs.Reading.{Fits, events_of};
 ghost use Rattle.yf_events.specs.declared.reading.TheConstants.{DEPTH};
@@ -17,10 +17,11 @@ use yf_events::lists::Lists;
 use yf_events::reading::Reading;
 use yf_events::row::Row;
 use yf_events::slices::Slices;
+use yf_events::tags::Tags;
 use yf_lines::text::Text;
 
 /// The same slices.
-pub fn copied_slices<'a>(alloc: Global, parts: &'a [&str]) -> Result<Slices<'a>, AllocError>
+fn copied_slices<'a>(alloc: Global, parts: &'a [&str]) -> Result<Slices<'a>, AllocError>
     ensures { IfOk result (λ copy. copy ≡ map (λ part. part.now) parts.now) }
 {
     let mut copy = Slices::new(alloc);
@@ -30,15 +31,17 @@ pub fn copied_slices<'a>(alloc: Global, parts: &'a [&str]) -> Result<Slices<'a>,
     Ok(copy)
 }
 
-fn copied_directive<'a>(
+fn push_directive<'a>(
+    copy: &mut Directives<'a>,
     alloc: Global,
     directive: &'a Directive<'_>,
-) -> Result<Directive<'a>, AllocError>
-    ensures { IfOk result (λ copy. copy ≡ directive.now) }
+) -> Result<(), AllocError>
+    ensures { IfOk result (λ _. copy.new ≡ copy.old ++ directive.now ∷ []) }
 {
-    Ok(Directive {
+    let words = copied_slices(alloc, directive.words.as_slice())?;
+    copy.push(Directive {
         offset: directive.offset,
-        words: copied_slices(alloc, directive.words.as_slice())?,
+        words,
     })
 }
 
@@ -50,32 +53,37 @@ fn copied_directives<'a>(
 {
     let mut copy = Directives::new(alloc);
     for directive in directives {
-        copy.push(copied_directive(alloc, directive)?)?;
+        push_directive(&mut copy, alloc, directive)?;
     }
     Ok(copy)
 }
 
-fn copied_document<'a>(alloc: Global, document: &'a Doc<'_>) -> Result<Doc<'a>, AllocError>
-    ensures { IfOk result (λ copy. copy ≡ document.now) }
+fn push_document<'a>(
+    copy: &mut Documents<'a>,
+    alloc: Global,
+    document: &'a Doc<'_>,
+) -> Result<(), AllocError>
+    ensures { IfOk result (λ _. copy.new ≡ copy.old ++ document.now ∷ []) }
 {
-    Ok(Doc {
+    let directives = copied_directives(alloc, document.directives.as_slice())?;
+    copy.push(Doc {
         start: document.start,
-        directives: copied_directives(alloc, document.directives.as_slice())?,
+        directives,
     })
 }
 
-/// The same documents.
-pub fn copied_documents<'a>(
+/// Adds the same documents.
+fn push_documents<'a>(
+    copy: &mut Documents<'a>,
     alloc: Global,
     documents: &'a [Doc<'_>],
-) -> Result<Documents<'a>, AllocError>
-    ensures { IfOk result (λ copy. copy ≡ documents.now) }
+) -> Result<(), AllocError>
+    ensures { IfOk result (λ _. copy.new ≡ copy.old ++ documents.now) }
 {
-    let mut copy = Documents::new(alloc);
     for document in documents {
-        copy.push(copied_document(alloc, document)?)?;
+        push_document(copy, alloc, document)?;
     }
-    Ok(copy)
+    Ok(())
 }
 
 fn copied_comment<'a>(comment: &'a Comment<'_>) -> Comment<'a>
@@ -88,46 +96,40 @@ fn copied_comment<'a>(comment: &'a Comment<'_>) -> Comment<'a>
     }
 }
 
-/// The same comments.
-pub fn copied_comments<'a>(
-    alloc: Global,
-    comments: &'a [Comment<'_>],
-) -> Result<Comments<'a>, AllocError>
-    ensures { IfOk result (λ copy. copy ≡ map comment_value comments.now) }
+/// Adds the same comments.
+fn push_comments<'a>(copy: &mut Comments<'a>, comments: &'a [Comment<'_>]) -> Result<(), AllocError>
+    ensures { IfOk result (λ _. copy.new ≡ copy.old ++ map comment_value comments.now) }
 {
-    let mut copy = Comments::new(alloc);
     for comment in comments {
         copy.push(copied_comment(comment))?;
     }
-    Ok(copy)
+    Ok(())
 }
 
-/// The same notes.
-pub fn copied_notes(alloc: Global, notes: &[bool]) -> Result<Row<bool>, AllocError>
-    ensures { IfOk result (λ copy. copy ≡ notes.now) }
+/// Adds the same notes.
+fn push_notes(copy: &mut Row<bool>, notes: &[bool]) -> Result<(), AllocError>
+    ensures { IfOk result (λ _. copy.new ≡ copy.old ++ notes.now) }
 {
-    let mut copy = Row::new(alloc);
     for note in notes {
         copy.push(*note)?;
     }
-    Ok(copy)
+    Ok(())
 }
 
-/// The same offsets.
-pub fn copied_offsets(alloc: Global, offsets: &[usize]) -> Result<Row<usize>, AllocError>
-    ensures { IfOk result (λ copy. copy ≡ offsets.now) }
+/// Adds the same offsets.
+fn push_offsets(copy: &mut Row<usize>, offsets: &[usize]) -> Result<(), AllocError>
+    ensures { IfOk result (λ _. copy.new ≡ copy.old ++ offsets.now) }
 {
-    let mut copy = Row::new(alloc);
     for offset in offsets {
         copy.push(*offset)?;
     }
-    Ok(copy)
+    Ok(())
 }
 
-fn copied_event<'a>(event: Event<'a>) -> NewEvent<'a>
-    ensures { new_event_value result ≡ event_value event.entry }
+fn copied_event<'a>(event: &Event<'a>) -> NewEvent<'a>
+    ensures { new_event_value result ≡ event_value event.now }
 {
-    match event {
+    match *event {
         Event::StreamStart => NewEvent::StreamStart,
         Event::StreamEnd => NewEvent::StreamEnd,
         Event::DocStart { explicit } => NewEvent::DocStart { explicit },
@@ -145,41 +147,79 @@ fn copied_event<'a>(event: Event<'a>) -> NewEvent<'a>
     }
 }
 
-fn copied_view<'a>(alloc: Global, view: View<'a>) -> Result<PlacedEvent<'a>, AllocError>
-    ensures { IfOk result (λ copy. placed_value copy ≡ view_value view.entry) }
+fn push_event<'a>(copy: &mut Events<'a>, alloc: Global, view: &View<'a>) -> Result<(), AllocError>
+    ensures { IfOk result (λ _. copy.new ≡ copy.old ++ view_value view.now ∷ []) }
 {
-    Ok(PlacedEvent {
-        event: copied_event(view.event),
+    let folded = copied_slices(alloc, view.folded)?;
+    copy.push(PlacedEvent {
+        event: copied_event(&view.event),
         span: view.span,
         tag_offset: view.tag_offset,
         entry: view.entry,
-        folded: copied_slices(alloc, view.folded)?,
+        folded,
     })
 }
 
-fn copied_events<'a>(alloc: Global, events: &'a Events<'a>) -> Result<Events<'a>, AllocError>
-    ensures { IfOk result (λ copy. copy ≡ events.now) }
+/// Adds the same events.
+fn push_events<'a>(
+    copy: &mut Events<'a>,
+    alloc: Global,
+    events: &'a Events<'a>,
+) -> Result<(), AllocError>
+    ensures { IfOk result (λ _. copy.new ≡ copy.old ++ events.now) }
 {
-    let mut copy = Events::new(alloc);
     for i in 0..events.len() {
-        copy.push(copied_view(alloc, events.at(i))?)?;
+        push_event(copy, alloc, &events.at(i))?;
     }
-    Ok(copy)
+    Ok(())
+}
+
+/// Lists with these tags, and with nothing else.
+fn lists_of<'a>(alloc: Global, resolved: Tags<'a>) -> Lists<'a>
+    ensures { result ≡ record { events = []; resolved = resolved.entry; comments = []; on_leaf_line = []; documents = []; escapes = [] } }
+{
+    Lists {
+        events: Events::new(alloc),
+        resolved,
+        comments: Comments::new(alloc),
+        on_leaf_line: Row::new(alloc),
+        documents: Documents::new(alloc),
+        escapes: Row::new(alloc),
+    }
+}
+
+/// Adds what these lists hold beside the tags.
+fn push_lists<'a>(
+    copy: &mut Lists<'a>,
+    alloc: Global,
+    lists: &'a Lists<'a>,
+) -> Result<(), AllocError>
+    ensures { IfOk result (λ _. copy.new ≡ record copy.old {
+      events = copy.old.events ++ lists.now.events;
+      comments = copy.old.comments ++ lists.now.comments;
+      on_leaf_line = copy.old.on_leaf_line ++ lists.now.on_leaf_line;
+      documents = copy.old.documents ++ lists.now.documents;
+      escapes = copy.old.escapes ++ lists.now.escapes;
+    }) }
+{
+    push_events(&mut copy.events, alloc, &lists.events)?;
+    push_comments(&mut copy.comments, lists.comments.as_slice())?;
+    push_notes(&mut copy.on_leaf_line, lists.on_leaf_line.as_slice())?;
+    push_documents(&mut copy.documents, alloc, lists.documents.as_slice())?;
+    push_offsets(&mut copy.escapes, lists.escapes.as_slice())
 }
 
 /// The same lists.
-pub fn copied_lists<'a>(alloc: Global, reading: &'a Reading<'a>) -> Result<Lists<'a>, AllocError>
+pub(crate) fn copied_lists<'a>(
+    alloc: Global,
+    reading: &'a Reading<'a>,
+) -> Result<Lists<'a>, AllocError>
     ensures same { IfOk result (λ copy. copy ≡ reading.now) }
     ensures fit { IfOk result Fits }
     ensures nested { IsStream DEPTH (events_of reading.now) }
 {
     let lists = reading.lists();
-    Ok(Lists {
-        events: copied_events(alloc, &lists.events)?,
-        resolved: lists.resolved.lent(alloc)?,
-        comments: copied_comments(alloc, lists.comments.as_slice())?,
-        on_leaf_line: copied_notes(alloc, lists.on_leaf_line.as_slice())?,
-        documents: copied_documents(alloc, lists.documents.as_slice())?,
-        escapes: copied_offsets(alloc, lists.escapes.as_slice())?,
-    })
+    let mut copy = lists_of(alloc, lists.resolved.lent(alloc)?);
+    push_lists(&mut copy, alloc, lists)?;
+    Ok(copy)
 }
