@@ -12,6 +12,7 @@ use Rattle.yf_lines.specs.LineText.{IsLineText, Follows}
 use Rattle.yf_lines.specs.LineText.Follows.{byte_follows}
 use Rattle.yf_lines.proofs.RestLemmas.{Rest, rest_spaces, rest_text, line_nothing}
 use Rattle.yf_comments.specs.Comment.{CommentValue}
+use Rattle.yf_comments.specs.Comments.{LineEnd}
 use Rattle.yf_comments.proofs.GapLinesLemmas.{texts, texts_append}
 use Rattle.yf_events.specs.Event.{Placed}
 use Rattle.yf_events.specs.declared.directive.Directive.{Directive}
@@ -42,7 +43,7 @@ use Rattle.yf_emit.proofs.FoundNodes.{FoundNode, found_behind, found_noting, fou
 use Rattle.yf_emit.proofs.LaidRows.{steps_append, laid_row}
 use Rattle.yf_emit.proofs.NodePlaces.{below_at}
 use Rattle.yf_emit.proofs.NodesMade.{Stood, Claim, no_row, some_rows, noting_nothing}
-use Rattle.yf_emit.proofs.PlacedRows.{none_inside, one_inside, PlacedRow, AtRow, RowsIn, last_row, row_before, rows_in_append}
+use Rattle.yf_emit.proofs.PlacedRows.{never_bare, none_inside, one_inside, PlacedRow, AtRow, no_leaf_to, behind_line, RowsIn, last_row, row_before, rows_in_append}
 use Rattle.yf_emit.proofs.RowEnds.{row_end, first_deco, after_decos}
 use Rattle.yf_emit.proofs.SetMeant.{column_start, SetDone, SetMeant, set_done, done_behind, done_empty}
 use Rattle.yf_emit.proofs.SetNodes.{ColumnAt}
@@ -80,6 +81,7 @@ mark_stands q width key = record {
   items = one_inside (omega arith) (omega arith) none_inside;
   leaves = none_inside;
   commented = key;
+  bare = λ z. never_bare z;
 }
 
 same_number : (c : ℕ) → (c == c) ≡ true
@@ -140,7 +142,7 @@ explicit_made {t} {s} {x} row ds r q none bare width key (no_row m) free u a k w
       inner = [];
       meant = found_noting end.comments (found_nothing (q + 3) (m.meant (q + 3)));
       placed = subst (λ v. RowsIn t (row ∷ []) (mark_row q ∷ []) ds q v end.place r) (sym (noting_nothing (q + 3) end.comments))
-          (last_row (mark_stands q width key) (record { ascend = end_ascends end.end; is = end.is; start = end.start }) end.rest);
+          (last_row (mark_stands q width key) (record { ascend = end_ascends end.end; is = end.is; start = end.start; tail = behind_line bare end.end no_leaf_to }) end.rest);
       is = texts_noting (empty_node (q + 3)) end.comments ∙ (ap (λ z. z ++ texts end.comments) (texts_empty (q + 3)) ∙ (end.is ∙ sym (append-nil (carried_texts (first ds)))));
       laid = subst (λ z. MeaningLaid q end.place (noting (empty_node (q + 3)) end.comments) (leaf_steps z ++ (comment_steps (carried_texts (first ds)) ++ []))) (sym none)
           (laid_row (empty_node (q + 3)) end.comments [] (laid_empty (q + 3) (omega arith)) (end_ascends end.end) end.is);
@@ -169,7 +171,7 @@ explicit_made {t} {s} {x} row ds r q none bare width key (some_rows {r = y} {rs 
       inner = node.found_rows;
       meant = found_behind end.comments node.meant;
       placed = subst (λ v. RowsIn t (row ∷ y ∷ ys) (mark_row q ∷ node.found_rows) ds q v node.place r) (sym (comments_behind end.comments node.meaning))
-          (row_before (mark_stands q width key) (record { ascend = end_ascends end.end; is = end.is; start = end.start }) end.rest node.placed);
+          (row_before (mark_stands q width key) (record { ascend = end_ascends end.end; is = end.is; start = end.start; tail = behind_line bare end.end no_leaf_to }) end.rest node.placed);
       is = texts_behind end.comments node.meaning ∙ (ap (λ z. z ++ texts node.meaning.comments) end.is ∙ ap (λ z. carried_texts (first ds) ++ z) node.is);
       laid = subst (λ z. MeaningLaid q node.place (behind end.comments node.meaning) (leaf_steps z ++ (comment_steps (carried_texts (first ds)) ++ steps_in (y ∷ ys) (after ds)))) (sym none)
           (laid_after (omega arith) (laid_behind end.comments node.meaning (end_ascends end.end) end.is (omega arith) node.laid));
@@ -220,15 +222,21 @@ one_directive {t} {d} row ds r q none bare said key fit u a w =
       words = ap (λ z. z ∷ []) at.are;
       rest = end.rest;
       is = end.is ∙ sym (append-nil (carried_texts (first ds)));
-      found_rows = record { items = []; leaves = []; commented = false; from = q; upto = q + length row.text } ∷ [];
+      found_rows = record { items = q ∷ []; leaves = []; commented = false; from = q; upto = q + length row.text } ∷ [];
       placed = last_row (record {
         from = refl;
         order = omega arith;
         size = λ z. refl;
-        items = none_inside;
+        items = one_inside (omega arith) (omega arith) none_inside;
         leaves = none_inside;
         commented = key;
-      }) (record { ascend = subst (λ v. Ascend t (q + length v) end.comments end.place) (sym said) (end_ascends end.end); is = end.is; start = end.start }) end.rest;
+        bare = λ z. never_bare z;
+      }) (record {
+        ascend = subst (λ v. Ascend t (q + length v) end.comments end.place) (sym said) (end_ascends end.end);
+        is = end.is;
+        start = end.start;
+        tail = behind_line bare (subst (λ v. LineEnd t (q + length v) end.place end.comments) (sym said) end.end) no_leaf_to;
+      }) end.rest;
       stand = row_stands row ds none (stand_after (omega arith) (comments_stand (end_ascends end.end) end.is));
       held = λ es. let ended = row_ended (first ds) r u (directive_seen u at) (first_deco a) text.rest end.end in record { comments = ended.comments; bodies = (bare_row t es row (first ds) r bare ended.seen, tt) };
     }

@@ -38,7 +38,7 @@ use Rattle.yf_emit.proofs.FoundStreams.{FoundDocument, FoundDocuments, no_docume
 use Rattle.yf_emit.proofs.HeldLemmas.{BodiesHeld, EventsHeld, bare_row, bodies_append, row_ended}
 use Rattle.yf_emit.proofs.LaidRows.{steps_append}
 use Rattle.yf_emit.proofs.NoStarts.{no_start_on, directives_none, quiet_steps, rows_none, with_append}
-use Rattle.yf_emit.proofs.PlacedRows.{none_inside, PlacedRow, RowsIn, row_before, rows_in_append}
+use Rattle.yf_emit.proofs.PlacedRows.{never_bare, none_inside, one_inside, PlacedRow, no_leaf_to, behind_line, RowsIn, row_before, rows_in_append}
 use Rattle.yf_emit.proofs.RowEnds.{row_end, first_deco, after_decos, past_decos, comments_append, calm_append}
 use Rattle.yf_emit.proofs.RowTexts.{row_texts}
 use Rattle.yf_emit.proofs.SetMeant.{SetDone}
@@ -199,7 +199,7 @@ step_with {t} c {d} x start (e ∷ es) ds r q same (fit_directive f fs) fit u a 
     let ended = row_ended (first ds) rest u (three_behind 46 u (omega arith) (omega arith) w) (first_deco a) mark.1 end.end in
     let made = directed c {d = d} x {e = e} row (after ds) r end.place refl refl refl refl refl same f fs fit u (after_decos a) (subst (λ z. Calm z (after ds) r) shape k.1)
     (subst (λ z. Rest t end.place (lines_then z (after ds) r)) shape end.rest) in
-    let dots : PlacedRow = record { items = []; leaves = []; commented = false; from = q; upto = q + 3 } in
+    let dots : PlacedRow = record { items = q ∷ []; leaves = []; commented = false; from = q; upto = q + 3 } in
     record {
       height = made.height;
       place = made.place;
@@ -223,8 +223,8 @@ step_with {t} c {d} x start (e ∷ es) ds r q same (fit_directive f fs) fit u a 
         are = ap (λ z. dots ∷ z) made.found.are;
         rows = made.found.rows;
       };
-      placed = row_before (record { from = refl; order = omega arith; size = λ z. refl; items = none_inside; leaves = none_inside; commented = refl })
-          (record { ascend = end_ascends end.end; is = end.is; start = end.start }) end.rest
+      placed = row_before (record { from = refl; order = omega arith; size = λ z. refl; items = one_inside (omega arith) (omega arith) none_inside; leaves = none_inside; commented = refl; bare = λ z. never_bare z })
+          (record { ascend = end_ascends end.end; is = end.is; start = end.start; tail = behind_line refl end.end no_leaf_to }) end.rest
           (subst (λ z. RowsIn t z made.found_rows (after ds) (end.place + 0) made.comments made.place r) (sym shape)
           (subst (λ z. RowsIn t ((row ∷ map directive_row es) ++ (start_row ∷ root_rows c x)) made.found_rows (after ds) z made.comments made.place r) (omega arith) made.placed));
       begun = stand_join (stand_after (omega arith) (comments_stand (end_ascends end.end) end.is))
@@ -307,6 +307,7 @@ pub record StreamLaid (t : List ℕ) (s : Setting) (ds : List Doc) (xs : List Do
   pub line : ℕ
   pub firsts : List CommentValue
   pub others : List CommentValue
+  pub begin : Rest t line (lines_then rs decos [])
   pub ascend : Ascend t 0 firsts line
   pub are : made.documents.comments ≡ firsts ++ others
   pub found_rows : List PlacedRow
@@ -336,6 +337,7 @@ stream_made {t} c gap decos fit_no_documents u g a k w =
       line = at.place;
       firsts = at.comments;
       others = [];
+      begin = at.rest;
       ascend = rows_ascend (lines_rows at.lines);
       are = comments_with_comments at.comments;
       found_rows = [];
@@ -371,6 +373,7 @@ stream_made {t} c gap decos (fit_document {d = d} {ds = ds} {x = x} {xs = xs} f 
       line = at.place;
       firsts = at.comments;
       others = one.comments ++ last.documents.comments;
+      begin = at.rest;
       ascend = rows_ascend (lines_rows at.lines);
       are = comments_with_document (at.comments ++ one.comments) one.document last.documents ∙ append_assoc at.comments one.comments last.documents.comments;
       found_rows = one.found_rows ++ last.found_rows;
