@@ -195,7 +195,7 @@ pub record FormattedLaid {t : List ℕ} {s : Style} {u : List ℕ} (f : Formats 
   pub ascend : Ascend u 0 firsts line
   pub are : well.documents.comments ≡ firsts ++ others
   pub found_rows : List PlacedRow
-  pub found : FoundDocuments u (setting_of f.normal s) f.writes.trees well.documents.documents found_rows
+  pub found : FoundDocuments u (setting_of f.normal s) true f.writes.trees well.documents.documents found_rows
   pub placed : StreamIn u (rows_of f.normal s f.writes.trees) found_rows (row_decos f.normal (rows_of f.normal s f.writes.trees)) line others
 
 pub formats_laid : (t u : List ℕ) (s : Style) → IsUtf8 t → (f : Formats t s u) → FormattedLaid f

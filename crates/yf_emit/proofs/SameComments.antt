@@ -75,7 +75,7 @@ whites_left (b ∷ bs) = go (is_white b && list_all is_white bs) refl (whites_le
   go true e f = refl
   go false e f = ap (λ z. is_white b && z) f ∙ e
 
-trimmed_twice : (x : List ℕ) → trimmed (trimmed x) ≡ trimmed x
+pub trimmed_twice : (x : List ℕ) → trimmed (trimmed x) ≡ trimmed x
 trimmed_twice [] = refl
 trimmed_twice (b ∷ bs) = go (is_white b && list_all is_white bs) refl (trimmed_twice bs) where
   go : (w : Bool) → (is_white b && list_all is_white bs) ≡ w → trimmed (trimmed bs) ≡ trimmed bs → trimmed (if w then [] else b ∷ trimmed bs) ≡ (if w then [] else b ∷ trimmed bs)
