@@ -44,7 +44,7 @@ formats_normal t u s utf8 f q a =
     let shapes = a.reads.shapes in
     let derived : a.derived ≡ all.well.documents = all.well.reads.shapes.only shapes.height a.derived shapes.derived shapes.within in
     let meant : DocumentsMeant m.documents trees a.derived.documents = subst (λ (w : Documents). DocumentsMeant m.documents trees w.documents) (sym derived) all.well.meant in
-    let found : FoundDocuments u c trees a.derived.documents all.found_rows = subst (λ (w : Documents). FoundDocuments u c trees w.documents all.found_rows) (sym derived) all.found in
+    let found : FoundDocuments u c true trees a.derived.documents all.found_rows = subst (λ (w : Documents). FoundDocuments u c true trees w.documents all.found_rows) (sym derived) all.found in
     let comments : all.firsts ++ all.others ≡ a.derived.comments = sym all.are ∙ ap (λ (w : Documents). w.comments) (sym derived) in
     let quiet : AllQuiet q.comments all.found_rows =
     quiet_offsets a.comments (subst (λ z. AllQuiet z all.found_rows) comments (stream_quiet all.firsts (ascend_under all.ascend) all.placed)) in
