@@ -1,39 +1,25 @@
--- The rows of a text that was laid out, row by row as they were laid out, as they are found, and as they stand in the text; and that each carries again what
--- it carried.
-use Rattle.std.proofs.Common.{◌≡◌, ℕ, max, ◌+◌, ◌<◌, ◌≤◌, Bool, true, false, ◌||◌, List, [], ◌∷◌, ◌++◌, flat_map, length, map, Option, Some, None, refl, sym, ap, ◌∙◌, subst, arith, append_assoc, append-nil, ⊎_elim}
-use Rattle.std.specs.Prelude.{filter, is_some, nat_lt, option_to_list, zip}
-use Rattle.std.proofs.lemmas.Bool.{cases_lt}
-use Rattle.yf_chars.specs.Text.{code}
-use Rattle.yf_lines.specs.Lines.{AreLines}
-use Rattle.yf_lines.specs.declared.line.Line.{Line}
+-- The rows of a text that was laid out: row by row as they were laid out, with what each carried, as they are found, and as they stand in the text.
+use Rattle.std.proofs.Common.{◌≡◌, ℕ, max, ◌≤◌, Bool, true, false, List, [], ◌∷◌, ◌++◌, flat_map, length, Option, Some, None, refl, sym, ap, ◌∙◌, subst, arith}
+use Rattle.std.specs.Prelude.{◌&&◌, filter, is_some, nat_lt, option_to_list}
+use Rattle.std.specs.List.{list_any}
 use Rattle.yf_comments.specs.Comment.{CommentValue}
 use Rattle.yf_comments.specs.GapLines.{remarks_of}
-use Rattle.yf_comments.proofs.GapLinesLemmas.{texts}
 use Rattle.yf_events.specs.declared.event.Span.{Span}
-use Rattle.yf_stream.specs.ReadingOf.{leaf_lines}
-use Rattle.yf_emit.specs.Carried.{AreDecos, AreTrails, carried_texts}
-use Rattle.yf_emit.specs.Decorated.{Deco, GapLine, comments_left, decos_of, gap_of}
-use Rattle.yf_emit.specs.Layout.{Source, is_among, may_be_blank_behind, precedes_item, trailing, trimmed}
+use Rattle.yf_emit.specs.Carried.{AreDecos, AreTrails}
+use Rattle.yf_emit.specs.Decorated.{Deco, blank_if, comments_left, decos_of, gap_of}
+use Rattle.yf_emit.specs.Layout.{Source, may_be_blank_behind, precedes_item, trailing, trimmed}
 use Rattle.yf_emit.specs.RowShapes.{RowShape, shape_of}
 use Rattle.yf_emit.specs.Rows.{Row, Ending}
 use Rattle.yf_emit.proofs.AlikeLemmas.{shapes}
-use Rattle.yf_emit.proofs.CarriedAgain.{NextTied, bare_next, items_next, Owns, last_owns, row_owns, Tied, last_tied, row_tied, TrailTied, nothing_trails, all_of, owns_upward, standing_of}
-use Rattle.yf_emit.proofs.CommentsCut.{In, Each, each_none, each_more, each_join, each_map, Under, Over, Upward, upward_over, among_join, none_below, none_above}
-use Rattle.yf_emit.proofs.FoundAgain.{Unsigned}
-use Rattle.yf_emit.proofs.GapsAgain.{Blanks, gap_at_end, gap_with, trimmed_twice}
-use Rattle.yf_emit.proofs.OwnsAgain.{Spots, last_spot, row_spot}
+use Rattle.yf_emit.proofs.CarriedAgain.{NextTied, bare_next, items_next}
+use Rattle.yf_emit.proofs.CommentsCut.{In, Each, each_none, each_more, drop_all}
+use Rattle.yf_emit.proofs.GapsAgain.{gap_at_end, gap_with, trimmed_twice}
 use Rattle.yf_emit.proofs.PlacedRows.{Inside, none_inside, one_inside, PlacedRow}
 use Rattle.yf_emit.proofs.PrintedSteps.{trimmed_texts}
-use Rattle.yf_emit.proofs.QuietPlaces.{Quiet, AllQuiet, quiet_none, quiet_row}
 use Rattle.yf_emit.proofs.RowEnds.{first_deco, after_decos}
-use Rattle.yf_emit.proofs.RowFlow.{greatest, precedes_greatest, Sub, RowTrail, untrailed, trailed_after, Upright, no_upright, an_upright}
-use Rattle.yf_emit.proofs.RowLeaves.{leaves_on}
-use Rattle.yf_emit.proofs.RowSpots.{Spot}
-use Rattle.yf_emit.proofs.RowTrails.{keys_of, trail_of}
-use Rattle.yf_emit.proofs.StartsBefore.{AllFrom, none_later, one_later, later_join, later_from}
-use Rattle.yf_emit.proofs.StepsStand.{starts_of, starts_append}
-use Rattle.yf_emit.proofs.TrailAgain.{LaidRow, row_trail_tied, sub_inside}
-use Rattle.yf_emit.proofs.TrailChoice.{rising}
+use Rattle.yf_emit.proofs.RowFlow.{greatest, precedes_greatest}
+use Rattle.yf_emit.proofs.RowTrails.{trail_of}
+use Rattle.yf_emit.proofs.TrailAgain.{LaidRow}
 
 -- A row x that was laid out, as it is found, and as it stands: of a node, or before the node of a document. The item of a document stands on the first of
 -- its rows, and no comment stands between.
@@ -50,7 +36,7 @@ pub ties_join : {cs : List CommentValue} {xs ys rows others : List Row} {ps qs :
 ties_join no_ties b = b
 ties_join (a_tie t a) b = a_tie t (ties_join a b)
 
-tie_leaves : {cs : List CommentValue} {x row : Row} {p : PlacedRow} → Tie cs x row p → row.leaves ≡ p.leaves
+pub tie_leaves : {cs : List CommentValue} {x row : Row} {p : PlacedRow} → Tie cs x row p → row.leaves ≡ p.leaves
 tie_leaves (node_tie a b c) = b
 tie_leaves (start_tie s a b c d e f) = b ∙ sym c
 tie_leaves (head_tie a b c d e) = c ∙ sym d
@@ -94,13 +80,10 @@ row_is_laid m d x row e fit count key = record {
   unkeyed (Some v) f g = absurd (texts_none (ap (λ o. trimmed_texts (option_to_list o ++ flat_map (trail_of m) x.leaves)) (sym f) ∙ (sym e ∙ g)))
 
 none_precedes : (x : Row) (cs : List CommentValue) → x.items ≡ [] → filter (precedes_item x) cs ≡ []
-none_precedes x [] e = refl
-none_precedes x (c ∷ cs) e = go (precedes_item x c) (ap (λ is. list_any_of is c) e) (none_precedes x cs e) where
-  list_any_of : List ℕ → CommentValue → Bool
-  list_any_of is b = precedes_item (record x { items = is }) b
-
-  go : (w : Bool) → w ≡ false → filter (precedes_item x) cs ≡ [] → (if w then c ∷ filter (precedes_item x) cs else filter (precedes_item x) cs) ≡ []
-  go w f g = ap (λ v. if v then c ∷ filter (precedes_item x) cs else filter (precedes_item x) cs) f ∙ g
+none_precedes x cs e = drop_all (precedes_item x) (each_not cs) where
+  each_not : (cs : List CommentValue) → Each (λ d. precedes_item x d ≡ false) cs
+  each_not [] = each_none
+  each_not (c ∷ cs) = each_more (ap (λ z. list_any (λ i. nat_lt c.offset i) z) e) (each_not cs)
 
 no_blank_remarks : (b : Bool) → remarks_of (blank_if b) ≡ []
 no_blank_remarks true = refl
@@ -109,11 +92,11 @@ no_blank_remarks false = refl
 bare_gap : (e : Ending) (column : ℕ) (hs : List CommentValue) (b : Bool) → hs ≡ [] → remarks_of (gap_with e column hs b) ≡ []
 bare_gap e column hs b f = ap (λ z. remarks_of (gap_with e column z b)) f ∙ no_blank_remarks (may_be_blank_behind e && b)
 
-first_shape : RowShape → List RowShape → RowShape
+pub first_shape : RowShape → List RowShape → RowShape
 first_shape other [] = other
 first_shape other (s ∷ ss) = s
 
-other_shapes : List RowShape → List RowShape
+pub other_shapes : List RowShape → List RowShape
 other_shapes [] = []
 other_shapes (s ∷ ss) = ss
 
@@ -150,8 +133,8 @@ greatest_from : {i j a : ℕ} {is : List ℕ} → Inside i j (a ∷ is) → i �
 greatest_from (one_inside l m a) = omega (arith, l)
 
 pub next_tied : {cs : List CommentValue} {x row : Row} {p : PlacedRow} {d : Deco} → Tie cs x row p → Inside p.from p.upto p.items → (x.items ≡ [] → remarks_of d.gap ≡ []) → NextTied cs row p d
-next_tied {row = row} {p = p} {d = d} (node_tie a b c) inside f = go p.items refl where
-  go : (is : List ℕ) → p.items ≡ is → NextTied _ row p d
+next_tied {cs} {row = row} {p = p} {d = d} (node_tie a b c) inside f = go p.items refl where
+  go : (is : List ℕ) → p.items ≡ is → NextTied cs row p d
   go [] e = bare_next (a ∙ e) (f (c e))
   go (i ∷ is) e =
       let here : Inside p.from p.upto (i ∷ is) = subst (λ z. Inside p.from p.upto z) e inside in

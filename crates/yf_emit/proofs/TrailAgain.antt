@@ -103,7 +103,7 @@ unsigned_behind : {t : List ℕ} (xs : List Span) (s : Span) (ys : List Span) �
 unsigned_behind [] s ys (a_start n a) e = n e
 unsigned_behind (x ∷ xs) s ys (a_start n a) e = unsigned_behind xs s ys a e
 
-in_parts : {e : CommentValue} (xs ys : List CommentValue) → In e (xs ++ ys) → In e xs ⊎ In e ys
+pub in_parts : {e : CommentValue} (xs ys : List CommentValue) → In e (xs ++ ys) → In e xs ⊎ In e ys
 in_parts [] ys i = inr i
 in_parts (x ∷ xs) ys in_first = inl in_first
 in_parts (x ∷ xs) ys (in_rest i) = ⊎_elim (λ z. inl (in_rest z)) (λ z. inr z) (in_parts xs ys i)
@@ -171,10 +171,10 @@ module _ {t : List ℕ} (lines : List Line) (are_lines : AreLines t lines) (c : 
       let on : list_any (is_on_line s.end o.offset) lines ≡ true = line_holds are_lines refl from s.end o.offset (omega arith) l m within quiet in
       ap (λ b. nat_lt o.offset s.end || b) (ap (λ w. on_line_of lines w o.offset) last ∙ on) ∙ always (nat_lt o.offset s.end)
 
-  module _ {d : Deco} {p : PlacedRow} {own : List CommentValue} {place : ℕ} (row : Row) (rows : List Row) (pre : List Span) (before rest : List CommentValue) (laid : LaidRow d row) (leaves : row.leaves ≡ p.leaves) (spot : Spot t d p own place)
-      (all : c.leaves ≡ pre ++ (row.leaves ++ leaves_on rows)) (later : AllFrom place (starts_of (leaves_on rows)))
-      (keys : row.key_comment ≡ None → (o : CommentValue) → p.upto ≤ o.offset → o.offset < place → is_among c.key_comments o ≡ false)
-      (are : cs ≡ before ++ (own ++ rest)) (early : Under p.from before) (over : Over p.upto own) (under : Under place own) (far : Over place rest) (is : texts own ≡ carried_texts d) where
+  module _ {d : Deco} {p : PlacedRow} {own : List CommentValue} {place top : ℕ} (row : Row) (rows : List Row) (pre : List Span) (before rest : List CommentValue) (laid : LaidRow d row) (leaves : row.leaves ≡ p.leaves) (spot : Spot t d p own place)
+      (all : c.leaves ≡ pre ++ (row.leaves ++ leaves_on rows)) (later : AllFrom top (starts_of (leaves_on rows)))
+      (keys : row.key_comment ≡ None → (o : CommentValue) → p.upto ≤ o.offset → o.offset < top → is_among c.key_comments o ≡ false)
+      (are : cs ≡ before ++ (own ++ rest)) (early : Under p.from before) (over : Over p.upto own) (under : Under top own) (far : Over place rest) (is : texts own ≡ carried_texts d) where
     starts_after : {m n : ℕ} {ss : List ℕ} → m ≤ n → AllFrom n ss → AllFrom m ss
     starts_after l none_later = none_later
     starts_after l (one_later m a) = one_later (omega (arith, l, m)) (starts_after l a)
@@ -195,7 +195,7 @@ module _ {t : List ℕ} (lines : List Line) (are_lines : AreLines t lines) (c : 
           let at : cs ≡ before ++ (o ∷ (os ++ rest)) = are ∙ ap (λ z. before ++ (z ++ rest)) f in
           let i : In o cs = subst (λ z. In o z) (sym at) (there before) in
           let low : p.upto ≤ o.offset = head_at (subst (λ z. Over p.upto z) f over) in
-          let high : o.offset < place = head_at (subst (λ z. Under place z) f under) in
+          let high : o.offset < top = head_at (subst (λ z. Under top z) f under) in
           let apart : c.leaves ≡ (pre ++ ls) ++ (s ∷ leaves_on rows) =
           all ∙ (ap (λ w. pre ++ (w ++ leaves_on rows)) g ∙ (ap (λ w. pre ++ w) (append_assoc ls (s ∷ []) (leaves_on rows)) ∙ sym (append_assoc pre ls (s ∷ leaves_on rows)))) in
           let begins = last_begins ls s (subst (λ z. Inside p.from p.upto (starts_of z)) (sym leaves ∙ g) spot.starts) in
