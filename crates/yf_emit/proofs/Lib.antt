@@ -207,6 +207,14 @@ pub mod GapsAgain
 pub mod RowsAgain
 pub mod CarriedAgain
 pub mod ReadingsAgain
+pub mod RowSpots
+pub mod OwnsAgain
+pub mod TrailAgain
+pub mod RowTies
+pub mod AllBlanks
+pub mod RowsTied
+pub mod DocumentTies
+pub mod FormatsFixed
 pub mod FixedBlocks
 pub mod FixedLawsHold
 pub mod FlowEvents

@@ -79,7 +79,7 @@ row_is_laid m d x row e fit count key = record {
   unkeyed None f g = f
   unkeyed (Some v) f g = absurd (texts_none (ap (λ o. trimmed_texts (option_to_list o ++ flat_map (trail_of m) x.leaves)) (sym f) ∙ (sym e ∙ g)))
 
-none_precedes : (x : Row) (cs : List CommentValue) → x.items ≡ [] → filter (precedes_item x) cs ≡ []
+pub none_precedes : (x : Row) (cs : List CommentValue) → x.items ≡ [] → filter (precedes_item x) cs ≡ []
 none_precedes x cs e = drop_all (precedes_item x) (each_not cs) where
   each_not : (cs : List CommentValue) → Each (λ d. precedes_item x d ≡ false) cs
   each_not [] = each_none
@@ -89,7 +89,7 @@ no_blank_remarks : (b : Bool) → remarks_of (blank_if b) ≡ []
 no_blank_remarks true = refl
 no_blank_remarks false = refl
 
-bare_gap : (e : Ending) (column : ℕ) (hs : List CommentValue) (b : Bool) → hs ≡ [] → remarks_of (gap_with e column hs b) ≡ []
+pub bare_gap : (e : Ending) (column : ℕ) (hs : List CommentValue) (b : Bool) → hs ≡ [] → remarks_of (gap_with e column hs b) ≡ []
 bare_gap e column hs b f = ap (λ z. remarks_of (gap_with e column z b)) f ∙ no_blank_remarks (may_be_blank_behind e && b)
 
 pub first_shape : RowShape → List RowShape → RowShape

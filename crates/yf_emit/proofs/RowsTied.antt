@@ -48,7 +48,7 @@ inside_from : {i j n : ℕ} {ss : List ℕ} → n ≤ i → Inside i j ss → Al
 inside_from l none_inside = none_later
 inside_from l (one_inside m n a) = one_later (omega (arith, l, m)) (inside_from l a)
 
-spot_first : {t : List ℕ} {p : PlacedRow} {ps : List PlacedRow} {ds : List Deco} {owns : List (List CommentValue)} → Spots t (p ∷ ps) ds owns → Inside p.from p.upto p.items
+pub spot_first : {t : List ℕ} {p : PlacedRow} {ps : List PlacedRow} {ds : List Deco} {owns : List (List CommentValue)} → Spots t (p ∷ ps) ds owns → Inside p.from p.upto p.items
 spot_first (last_spot a) = a.items
 spot_first (row_spot a l more) = a.items
 
