@@ -51,13 +51,13 @@ space_gap : (c : ℕ) → c ≡ 32 → is_gap c ≡ true
 unfolding is_gap is_white is_break_char
 space_gap c e = ap is_gap e
 
-since_past : {t : List ℕ} {f i : ℕ} (k : ℕ) → Spaces t i k → BlankSince t f i → BlankSince t f (i + k)
-since_past {t} {f} {i} zero s d = subst (λ z. BlankSince t f z) (sym (add-zero i)) d
-since_past {t} {f} {i} (suc k) s d =
+since_past : {t : List ℕ} {f : ℕ} (k i : ℕ) → Spaces t i k → BlankSince t f i → BlankSince t f (i + k)
+since_past {t} {f} zero i s d = subst (λ z. BlankSince t f z) (sym (add-zero i)) d
+since_past {t} {f} (suc k) i s d =
     let e = first_space s in
     let one : BlankSince t f (i + 1) = subst (λ z. BlankSince t f z) (next_ascii t i (omega (arith, e))) (past_gap d (space_gap (code t i) e)) in
     let end : i + 1 + k ≡ i + suc k = omega arith in
-    subst (λ z. BlankSince t f z) end (since_past k (spaces_tail s) one)
+    subst (λ z. BlankSince t f z) end (since_past k (i + 1) (spaces_tail s) one)
 
 data SinceView (t : List ℕ) (f j : ℕ) : Type 0 where
   line_view : (i : ℕ) → Break t i j → SinceView t f j
@@ -76,32 +76,32 @@ one_back {t} {f} {q} u e d = by (since_view d) where
   by (line_view i k) = absurd (not_last t u q (omega (arith, e)) place (λ z. omega (arith, e, z)) (λ z. omega (arith, e, z)) k)
   by (gap_view i c v w) = subst (λ z. BlankSince t f z) (same_place t i q u (gap_below (code t i) v) (omega (arith, e)) (w ∙ sym place)) c
 
-since_back : {t : List ℕ} {f i : ℕ} (k : ℕ) → IsUtf8 t → Spaces t i k → BlankSince t f (i + k) → BlankSince t f i
-since_back {t} {f} {i} zero u s d = subst (λ z. BlankSince t f z) (add-zero i) d
-since_back {t} {f} {i} (suc k) u s d =
+since_back : {t : List ℕ} {f : ℕ} (k i : ℕ) → IsUtf8 t → Spaces t i k → BlankSince t f (i + k) → BlankSince t f i
+since_back {t} {f} zero i u s d = subst (λ z. BlankSince t f z) (add-zero i) d
+since_back {t} {f} (suc k) i u s d =
     let end : i + suc k ≡ i + 1 + k = omega arith in
-    one_back u (first_space s) (since_back k u (spaces_tail s) (subst (λ z. BlankSince t f z) end d))
+    one_back u (first_space s) (since_back k (i + 1) u (spaces_tail s) (subst (λ z. BlankSince t f z) end d))
 
 -- The last line.
 
 last_noted : {t : List ℕ} {f i j : ℕ} {b : Bool} {cs ns : List CommentValue} (may a : Bool) → IsUtf8 t → GapStands t i (blank_if (may && a)) cs j → Blank t i → f ≤ i → (may ≡ true → BlankSince t f i → ⊥) → NotedOver t f cs ns
     → (k : ℕ) → Spaces t j k → HeadNote t f (j + k) a b → Blanks may false (blank_if (may && a)) ns b
-last_noted true true u (blank_stands br gap_over) line l none none_over k s (entry_head n) = gap_blank (gap_ends (λ z. noted_true n (since_past k s (blank_line l line br))))
+last_noted {i = i} true true u (blank_stands br gap_over) line l none none_over k s (entry_head n) = gap_blank (gap_ends (λ z. noted_true n (since_past k (i + 1) s (blank_line l line br))))
 last_noted true false u gap_over line l none none_over k s bare_head = gap_ends (λ z. refl)
-last_noted true false u gap_over line l none none_over k s (entry_head n) = gap_ends (λ z. noted_false n (λ d. none refl (since_back k u s d)))
+last_noted {i = i} true false u gap_over line l none none_over k s (entry_head n) = gap_ends (λ z. noted_false n (λ d. none refl (since_back k i u s d)))
 last_noted false a u gap_over line l none none_over k s n = gap_ends (λ z. absurd (true≢false (sym z)))
 
 -- A comment, after a blank line or none.
 
-remark_noted : {t : List ℕ} {f i j column : ℕ} {b : Bool} {text : List ℕ} {gs : List GapLine} {cs ns : List CommentValue} (may a : Bool) → IsUtf8 t → trimmed text ≡ text → GapStands t i (blank_if (may && a) ++ (remark column text ∷ gs)) cs j
+remark_noted : {t : List ℕ} {f i j : ℕ} {b : Bool} {text : List ℕ} {gs : List GapLine} {cs ns : List CommentValue} (column : ℕ) (may a : Bool) → IsUtf8 t → trimmed text ≡ text → GapStands t i (blank_if (may && a) ++ (remark column text ∷ gs)) cs j
     → Blank t i → f ≤ i → (may ≡ true → BlankSince t f i → ⊥) → NotedOver t f cs ns
     → ((k : ℕ) (es ms : List CommentValue) → GapStands t k gs es j → Blank t k → f ≤ k → (BlankSince t f k → ⊥) → NotedOver t f es ms → Blanks true false gs ms b)
     → Blanks may false (blank_if (may && a) ++ (remark column text ∷ gs)) ns b
-remark_noted {t} {f} {column = column} true true u e (blank_stands br (remark_stands {k = k} s o q m z n rest)) line l none (one_over {cs = es} {ns = ms} {b = note} d ds) more =
-    gap_blank (gap_remark (ap trimmed q ∙ e) (λ w. noted_true (subst (λ p. NotedSince t f p note) o d) (since_past column s (blank_line l line br))) (more k es ms rest z (omega (arith, l, m)) (λ w. n (since_before w)) ds))
-remark_noted {t} {f} {column = column} true false u e (remark_stands {k = k} s o q m z n rest) line l none (one_over {cs = es} {ns = ms} {b = note} d ds) more =
-    gap_remark (ap trimmed q ∙ e) (λ w. noted_false (subst (λ p. NotedSince t f p note) o d) (λ y. none refl (since_back column u s y))) (more k es ms rest z (omega (arith, l, m)) (λ w. n (since_before w)) ds)
-remark_noted false a u e (remark_stands {k = k} s o q m z n rest) line l none (one_over {cs = es} {ns = ms} d ds) more =
+remark_noted {t} {f} {i} column true true u e (blank_stands br (remark_stands {k = k} s o q m z n rest)) line l none (one_over {cs = es} {ns = ms} {b = note} d ds) more =
+    gap_blank (gap_remark (ap trimmed q ∙ e) (λ w. noted_true (subst (λ p. NotedSince t f p note) o d) (since_past column (i + 1) s (blank_line l line br))) (more k es ms rest z (omega (arith, l, m)) (λ w. n (since_before w)) ds))
+remark_noted {t} {f} {i} column true false u e (remark_stands {k = k} s o q m z n rest) line l none (one_over {cs = es} {ns = ms} {b = note} d ds) more =
+    gap_remark (ap trimmed q ∙ e) (λ w. noted_false (subst (λ p. NotedSince t f p note) o d) (λ y. none refl (since_back column i u s y))) (more k es ms rest z (omega (arith, l, m)) (λ w. n (since_before w)) ds)
+remark_noted {f = f} column false a u e (remark_stands {k = k} s o q m z n rest) line l none (one_over {cs = es} {ns = ms} d ds) more =
     gap_remark (ap trimmed q ∙ e) (λ w. absurd (true≢false (sym w))) (more k es ms rest z (omega (arith, l, m)) (λ w. n (since_before w)) ds)
 
 -- of a gap that was laid out so, before a row that stands k spaces after it
@@ -110,5 +110,5 @@ pub gap_noted : {t : List ℕ} {f i j : ℕ} {b : Bool} {cs ns : List CommentVal
 gap_noted e column [] a u stands line l none notes k s n = last_noted (may_be_blank_behind e) a u stands line l none notes k s n
 gap_noted {t} {f} {i} {j} {b} {cs} {ns} e column (h ∷ hs) a u stands line l none notes k s n =
     subst (λ z. Blanks (may_be_blank_behind e) false z ns b) (sym (gap_more e column h hs a))
-    (remark_noted (may_be_blank_behind e) h.blank_before u (trimmed_twice h.text) (subst (λ z. GapStands t i z cs j) (gap_more e column h hs a) stands) line l none notes
+    (remark_noted column (may_be_blank_behind e) h.blank_before u (trimmed_twice h.text) (subst (λ z. GapStands t i z cs j) (gap_more e column h hs a) stands) line l none notes
     (λ p es ms rest w m nothing others. gap_noted anywhere column hs a u rest w m (λ z. nothing) others k s n))

@@ -155,12 +155,12 @@ rows_behind : {t : List ℕ} {y : Row} {ys : List Row} {ps : List PlacedRow} {ds
     → i ≡ q + 1 + n → RowsIn t (y ∷ ys) ps ds i cs place r → Behind t (joined (sign_row column sign items blank) n (y ∷ ys)) ps ds q cs place r
 rows_behind sign column items blank n q e (last_row {p = p} at end w) = record {
   found_rows = joined_placed (q ∷ []) [] q p ∷ [];
-  signed = sign_joined refl refl refl (let f = at.from in omega (arith, e, f)) refl;
+  signed = sign_joined refl refl refl (let f = at.from in omega (arith, e, f)) refl refl;
   placed = rows_joined (sign_row column sign items blank) n q q [] [] e (one_inside (omega arith) (omega (arith, e)) none_inside) none_inside no_leaf_to (last_row at end w);
 }
 rows_behind sign column items blank n q e (row_before {p = p} {ps = ps} at end w more) = record {
   found_rows = joined_placed (q ∷ []) [] q p ∷ ps;
-  signed = sign_joined refl refl refl (let f = at.from in omega (arith, e, f)) refl;
+  signed = sign_joined refl refl refl (let f = at.from in omega (arith, e, f)) refl refl;
   placed = rows_joined (sign_row column sign items blank) n q q [] [] e (one_inside (omega arith) (omega (arith, e)) none_inside) none_inside no_leaf_to (row_before at end w more);
 }
 
@@ -185,7 +185,7 @@ sign_made {t} {s} {x} {spot} a sign column items blank c ds r q low high wide (n
       inner = [];
       meant = found_noting end.comments (found_nothing (q + 1) (m.meant (q + 1)));
       found_rows = row ∷ [];
-      signed = sign_alone refl refl refl;
+      signed = sign_alone refl refl refl refl;
       placed = subst (λ v. RowsIn t (sign_row column sign items blank ∷ []) (row ∷ []) ds q v end.place r) (sym (noting_nothing (q + 1) end.comments))
           (last_row (record {
             from = refl;
