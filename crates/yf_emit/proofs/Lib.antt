@@ -96,6 +96,7 @@ pub mod StepsStand
 pub mod LaidRows
 pub mod NodesMade
 pub mod ScalarStands
+pub mod ScalarTails
 pub mod ScalarFound
 pub mod ScalarsMade
 pub mod EntriesMade
@@ -204,9 +205,13 @@ pub mod BareTrees
 pub mod FoundTexts
 pub mod FoundMarks
 pub mod GapsAgain
+pub mod GapsStand
+pub mod GapsNoted
 pub mod RowsAgain
 pub mod CarriedAgain
 pub mod ReadingsAgain
+pub mod RowsRenoted
+pub mod RowGaps
 pub mod RowSpots
 pub mod OwnsAgain
 pub mod TrailAgain
