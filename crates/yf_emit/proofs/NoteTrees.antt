@@ -126,6 +126,9 @@ key_heads {t} {f} {k} a (key_on {h = h} st l m e some) n = heads_with (by (stand
 start_unlined : (s e : Placed) → ((f : ℕ) (p : Placed) → floor_behind f p s.event ≡ f) → ((f : ℕ) (p : Placed) → floor_behind f p e.event ≡ f) → (es : List Placed) (o g : ℕ) → floor_at o g (s ∷ (es ++ (e ∷ []))) ≡ floor_at o g es
 start_unlined s e k l es o g = collection_floor o g es (record { keeps = k }) (record { keeps = l })
 
+regrouped : (t : List ℕ) (f : ℕ) (xs ys rest : List Placed) → AllNoted t f ((xs ++ ys) ++ rest) → AllNoted t f (xs ++ (ys ++ rest))
+regrouped t f xs ys rest n = subst (λ z. AllNoted t f z) (append_assoc xs ys rest) n
+
 -- two lists of events with their notes
 module _ {t : List ℕ} {f : ℕ} where
   pub both_made : {ps qs : List PlacedRow} {xs ys us vs : List Row} {es fs rest : List Placed} (a : NotesMade t f ps xs ys es (fs ++ rest)) → NotesMade t (last_of f a.ends) qs us vs fs rest
@@ -150,9 +153,6 @@ module _ {t : List ℕ} {f : ℕ} where
   with_rows : {ps qs : List PlacedRow} {xs ys us vs : List Row} {es rest : List Placed} (a : NotesMade t f ps xs ys es rest) → RowNotes t f qs us vs a.ends → NotesMade t f qs us vs es rest
   with_rows a r = record { ends = a.ends; rows = r; notes = a.notes; at = a.at }
 
-  regrouped : (xs ys rest : List Placed) → AllNoted t f ((xs ++ ys) ++ rest) → AllNoted t f (xs ++ (ys ++ rest))
-  regrouped xs ys rest n = subst (λ z. AllNoted t f z) (append_assoc xs ys rest) n
-
   by_pair : {ps : List PlacedRow} {es rest : List Placed} (c d : Setting) (column to : ℕ) (k v l w : Node) (b : Bool) → is_implicit c.style column k ≡ b → is_implicit d.style to l ≡ b
       → NotesMade t f ps (either_pair b c column k v) (either_pair b d to l w) es rest
       → NotesMade t f ps (either_pair (is_implicit c.style column k) c column k v) (either_pair (is_implicit d.style to l) d to l w) es rest
@@ -175,7 +175,7 @@ mutual
         ends = [];
         rows = subst (λ z. RowNotes t f (p ∷ []) z (rows (setting c.style cs) to y) []) (sym (inline_rows c spot x within))
             (subst (λ z. RowNotes t f (p ∷ []) (one_line_row spot.column x (written x)) z []) (sym (inline_rows (setting c.style cs) to y inline)) base);
-        notes = flow_passed (flat y) rest flow n;
+        notes = flow_passed t f (flat y) rest flow n;
         at = λ o z. flow_at o z (flat y) flow;
       }
   node_notes {t} {c} {f = f} cs spot to e g (alike_lines (alike_scalars {at = at} {bt = bt} {props = props} {style = style} {text = text} {lines = lines} q) b) (scalar_rows {p = p} block inside items leaves key) fit rest n =
@@ -197,7 +197,7 @@ mutual
       }
   node_notes {t} {c} {f = f} cs spot to e g a (sequence_rows {at = at} {bt = bt} {props = props} {xs = xs} {ys = ys} {ps = ps} block none r) fit rest n =
       let last : List Placed = unplaced sequence_ends ∷ [] in
-      let inner = items_notes cs spot.entries to.entries e g (sequence_blocks a block) r (items_fit fit) (last ++ rest) (regrouped (flat_items ys) last rest n.1) in
+      let inner = items_notes cs spot.entries to.entries e g (sequence_blocks a block) r (items_fit fit) (last ++ rest) (regrouped t f (flat_items ys) last rest n.1) in
       record {
         ends = inner.ends;
         rows = subst (λ z. RowNotes t f ps (z ++ rows_of_items c spot.entries xs) (rows (setting c.style cs) to (sequence bt false props ys)) inner.ends) (sym (no_props_marks spot.column (props_text props) none))
@@ -207,7 +207,7 @@ mutual
       }
   node_notes {t} {c} {f = f} cs spot to e g a (sequence_behind {at = at} {bt = bt} {props = props} {xs = xs} {ys = ys} {ps = ps} block some h i k r) fit rest n =
       let last : List Placed = unplaced sequence_ends ∷ [] in
-      let inner = items_notes cs spot.entries to.entries e g (sequence_blocks a block) r (items_fit fit) (last ++ rest) (regrouped (flat_items ys) last rest n.1) in
+      let inner = items_notes cs spot.entries to.entries e g (sequence_blocks a block) r (items_fit fit) (last ++ rest) (regrouped t f (flat_items ys) last rest n.1) in
       record {
         ends = inner.ends;
         rows = notes_join (props_notes spot.column to.column (props_text props) some) inner.rows;
@@ -216,7 +216,7 @@ mutual
       }
   node_notes {t} {c} {f = f} cs spot to e g a (mapping_rows {at = at} {bt = bt} {props = props} {xs = xs} {ys = ys} {ps = ps} block none r) fit rest n =
       let last : List Placed = unplaced mapping_ends ∷ [] in
-      let inner = pairs_notes cs spot.entries to.entries e g (mapping_blocks a block) r (pairs_fit fit) (last ++ rest) (regrouped (flat_pairs ys) last rest n.1) in
+      let inner = pairs_notes cs spot.entries to.entries e g (mapping_blocks a block) r (pairs_fit fit) (last ++ rest) (regrouped t f (flat_pairs ys) last rest n.1) in
       record {
         ends = inner.ends;
         rows = subst (λ z. RowNotes t f ps (z ++ rows_of_pairs c spot.entries xs) (rows (setting c.style cs) to (mapping bt false props ys)) inner.ends) (sym (no_props_marks spot.column (props_text props) none))
@@ -226,7 +226,7 @@ mutual
       }
   node_notes {t} {c} {f = f} cs spot to e g a (mapping_behind {at = at} {bt = bt} {props = props} {xs = xs} {ys = ys} {ps = ps} block some h i k r) fit rest n =
       let last : List Placed = unplaced mapping_ends ∷ [] in
-      let inner = pairs_notes cs spot.entries to.entries e g (mapping_blocks a block) r (pairs_fit fit) (last ++ rest) (regrouped (flat_pairs ys) last rest n.1) in
+      let inner = pairs_notes cs spot.entries to.entries e g (mapping_blocks a block) r (pairs_fit fit) (last ++ rest) (regrouped t f (flat_pairs ys) last rest n.1) in
       record {
         ends = inner.ends;
         rows = notes_join (props_notes spot.column to.column (props_text props) some) inner.rows;
@@ -238,10 +238,10 @@ mutual
       → (rest : List Placed) → AllNoted t f (flat_items ys ++ rest) → NotesMade t f ps (rows_of_items c column xs) (rows_of_items (setting c.style cs) to ys) (flat_items ys) rest
   items_notes cs column to e g no_block_items no_item_rows fit rest n = record { ends = []; rows = no_row_notes; notes = n; at = λ o z. refl }
   items_notes {t} {c} {f = f} cs column to e g (block_item a b) (item_rows {x = x} {y = y} {ys = ys} r s more) (fit_item fit fits) rest n =
-      let here : AllNoted t f (flat y ++ (flat_items ys ++ rest)) = regrouped (flat y) (flat_items ys) rest n in
+      let here : AllNoted t f (flat y ++ (flat_items ys ++ rest)) = regrouped t f (flat y) (flat_items ys) rest n in
       let one = node_notes cs (inner_spot c.style column) (inner_spot c.style to) (ap (λ z. z + c.style.indent) e) (ap (λ z. z + c.style.indent) g) a r fit (flat_items ys ++ rest) here in
       let signed = sign_notes (entry_row column (codes "-") x) (entry_row to (codes "-") y) (c.style.indent - 1) s
-      (λ q h. entry_head_of (standing y).entry (blank_before_entry (standing x).entry) (entry_noted y (flat_items ys ++ rest) here) h) refl one.rows in
+      (λ q h. entry_head_of (standing y).entry (blank_before_entry (standing x).entry) (entry_noted t f y (flat_items ys ++ rest) here) h) refl one.rows in
       both_made (with_rows one signed) (items_notes cs column to e g b more fits rest one.notes)
 
   pair_notes : {t : List ℕ} {c : Setting} {m f : ℕ} {k v l w : Node} {ps : List PlacedRow} (cs : List CommentValue) (column to : ℕ) → column ≡ m → to ≡ m → AlikeBlocks c.style c.comments cs k l → AlikeBlocks c.style c.comments cs v w
@@ -252,7 +252,7 @@ mutual
       let there : is_implicit c.style column k ≡ false = ap (λ z. is_implicit c.style z k) e ∙ (same_implicit c.style m (blocks_alike a) ∙ n) in
       let key = node_notes cs (key_spot c.style column k) (key_spot c.style to l) (ap (λ z. z + c.style.indent) e) (ap (λ z. z + c.style.indent) g) a r fit (flat w ++ rest) noted in
       let signed = sign_notes (entry_row column (codes "?") k) (entry_row to (codes "?") l) (c.style.indent - 1) s
-      (λ q h. entry_head_of (standing l).entry (blank_before_entry (standing k).entry) (entry_noted l (flat w ++ rest) noted) h) refl key.rows in
+      (λ q h. entry_head_of (standing l).entry (blank_before_entry (standing k).entry) (entry_noted t f l (flat w ++ rest) noted) h) refl key.rows in
       let value = node_notes cs (inner_spot c.style column) (inner_spot c.style to) (ap (λ z. z + c.style.indent) e) (ap (λ z. z + c.style.indent) g) b d fits rest key.notes in
       let behind = sign_notes (colon_row column k) (colon_row to l) (c.style.indent - 1) j (λ q h. bare_head) refl value.rows in
       by_pair c (setting c.style cs) column to k v l w false there here (both_made (with_rows key signed) (with_rows value behind))
@@ -263,9 +263,9 @@ mutual
       let told : is_some (key_comment cs l w) ≡ flag = sym (agree.comment column there) ∙ sym q in
       let first : value_entries c.style column v ≡ value_entries c.style m w =
       ap (λ z. value_entries c.style z v) e ∙ ap (λ z. if z && not c.style.seq_indent then m else m + c.style.indent) (same_sequence (blocks_alike b)) in
-      let value = node_notes cs (value_of_implicit c column k v) (value_of_implicit (setting c.style cs) to l w) first (ap (λ z. value_entries c.style z w) g) b d fits rest (flow_passed (flat l) (flat w ++ rest) flow noted) in
+      let value = node_notes cs (value_of_implicit c column k v) (value_of_implicit (setting c.style cs) to l w) first (ap (λ z. value_entries c.style z w) g) b d fits rest (flow_passed t f (flat l) (flat w ++ rest) flow noted) in
       let keyed = key_notes (key_row column k) (key_row to l) (key_comment c.comments k v) (key_comment cs l w) (begins_below v) (begins_below w) (sym q) told (same_below (blocks_alike b)) refl j
-      (key_heads (blank_before_entry (standing k).entry) on (entry_noted l (flat w ++ rest) noted)) refl value.rows in
+      (key_heads (blank_before_entry (standing k).entry) on (entry_noted t f l (flat w ++ rest) noted)) refl value.rows in
       by_pair c (setting c.style cs) column to k v l w true there here (flow_made (flat l) flow (with_rows value keyed))
 
   pairs_notes : {t : List ℕ} {c : Setting} {m f : ℕ} {xs ys : Pairs} {ps : List PlacedRow} (cs : List CommentValue) (column to : ℕ) → column ≡ m → to ≡ m → AlikeBlockPairs c.style c.comments cs xs ys → PairsRows t c m xs ys ps → FitPairs xs
@@ -273,7 +273,7 @@ mutual
   pairs_notes cs column to e g no_block_pairs no_pair_rows fit rest n = record { ends = []; rows = no_row_notes; notes = n; at = λ o z. refl }
   pairs_notes {t} {c} {f = f} cs column to e g (block_pair a b agree more) (pair_rows {l = l} {w = w} {ys = ys} {hs = hs} {rs = rs} r others) (fit_pair fit fits all) rest n =
       let here : AllNoted t f (flat l ++ (flat w ++ (flat_pairs ys ++ rest))) =
-      subst (λ z. AllNoted t f (flat l ++ z)) (append_assoc (flat w) (flat_pairs ys) rest) (regrouped (flat l) (flat w ++ flat_pairs ys) rest n) in
+      subst (λ z. AllNoted t f (flat l ++ z)) (append_assoc (flat w) (flat_pairs ys) rest) (regrouped t f (flat l) (flat w ++ flat_pairs ys) rest n) in
       let one = pair_notes cs column to e g a b agree r fit fits (flat_pairs ys ++ rest) here in
       let both = both_made one (pairs_notes cs column to e g more others all rest one.notes) in
       record {

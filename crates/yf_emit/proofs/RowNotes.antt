@@ -108,11 +108,11 @@ pub entry_head_of : {t : List ℕ} {f q : ℕ} (o : Option Entry) (a : Bool) →
 entry_head_of None a n h = absurd h
 entry_head_of {t} {f} (Some e) a n h = entry_head (subst (λ z. NotedSince t f z e.blank_before) h n)
 
-pub entry_noted : {t : List ℕ} {f : ℕ} (y : Node) (rest : List Placed) → AllNoted t f (flat y ++ rest) → EntryNoted t f (standing y).entry
-entry_noted (scalar at props style text lines) rest n = n.0
-entry_noted (alias at name) rest n = n.0
-entry_noted (sequence at flow props xs) rest n = n.0
-entry_noted (mapping at flow props ps) rest n = n.0
+pub entry_noted : (t : List ℕ) (f : ℕ) (y : Node) (rest : List Placed) → AllNoted t f (flat y ++ rest) → EntryNoted t f (standing y).entry
+entry_noted t f (scalar at props style text lines) rest n = n.0
+entry_noted t f (alias at name) rest n = n.0
+entry_noted t f (sequence at flow props xs) rest n = n.0
+entry_noted t f (mapping at flow props ps) rest n = n.0
 
 -- flow nodes move no floor
 flow_style : (f : ℕ) (e : Placed) (props : PropsValue) (text : List ℕ) (style : ScalarStyle) → is_block_style style ≡ false → floor_behind f e (scalar_node props style text) ≡ f
@@ -134,9 +134,9 @@ flow_kept f e mapping_ends n = refl
 flow_kept f e (scalar_node props style text) n = flow_style f e props text style n
 flow_kept f e (alias_node name) n = refl
 
-pub flow_passed : {t : List ℕ} {f : ℕ} (es rest : List Placed) → AllFlow es → AllNoted t f (es ++ rest) → AllNoted t f rest
-flow_passed [] rest a n = n
-flow_passed {t} {f} (e ∷ es) rest a n = flow_passed es rest a.1 (subst (λ z. AllNoted t z (es ++ rest)) (flow_kept f e e.event a.0) n.1)
+pub flow_passed : (t : List ℕ) (f : ℕ) (es rest : List Placed) → AllFlow es → AllNoted t f (es ++ rest) → AllNoted t f rest
+flow_passed t f [] rest a n = n
+flow_passed t f (e ∷ es) rest a n = flow_passed t f es rest a.1 (subst (λ z. AllNoted t z (es ++ rest)) (flow_kept f e e.event a.0) n.1)
 
 pub flow_at : (o f : ℕ) (es : List Placed) → AllFlow es → floor_at o f es ≡ f
 flow_at o f [] a = refl
