@@ -6,6 +6,7 @@ use Rattle.yf_lines.specs.Rest.{Rest}
 use Rattle.yf_lines.specs.declared.quotes.Quotes.{Quotes}
 use Rattle.yf_comments.specs.Comment.{CommentValue}
 use Rattle.yf_comments.specs.GapLines.{remarks_of}
+use Rattle.yf_comments.proofs.GapLinesLemmas.{texts}
 use Rattle.yf_events.proofs.TreeLemmas.{trees_unique}
 use Rattle.yf_events.specs.Alike.{Alike, alike_scalars, alike_aliases, alike_sequences, alike_mappings, AlikeItems, alike_nothing, alike_item, AlikePairs, alike_no_pairs, alike_pair}
 use Rattle.yf_events.specs.Event.{EventValue, Placed, stream_starts, stream_ends, document_starts, document_ends, sequence_starts, sequence_ends, mapping_starts, mapping_ends, scalar_node, alias_node}
@@ -191,6 +192,7 @@ pub record FormattedLaid {t : List ℕ} {s : Style} {u : List ℕ} (f : Formats 
   pub line : ℕ
   pub firsts : List CommentValue
   pub others : List CommentValue
+  pub told : texts firsts ≡ remarks_of (first_gap f.normal (rows_of f.normal s f.writes.trees))
   pub begin : Rest u line (lines_then (rows_of f.normal s f.writes.trees) (row_decos f.normal (rows_of f.normal s f.writes.trees)) [])
   pub ascend : Ascend u 0 firsts line
   pub are : well.documents.comments ≡ firsts ++ others
@@ -235,6 +237,7 @@ formats_laid t u s utf8 f =
       line = laid.line;
       firsts = laid.firsts;
       others = laid.others;
+      told = laid.told;
       begin = laid.begin;
       ascend = laid.ascend;
       are = laid.are;

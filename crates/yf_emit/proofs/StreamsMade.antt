@@ -314,6 +314,7 @@ pub record StreamLaid (t : List ℕ) (s : Setting) (ds : List Doc) (xs : List Do
   pub firsts : List CommentValue
   pub others : List CommentValue
   pub begin : Rest t line (lines_then rs decos [])
+  pub told : texts firsts ≡ remarks_of gap
   pub ascend : Ascend t 0 firsts line
   pub are : made.documents.comments ≡ firsts ++ others
   pub found_rows : List PlacedRow
@@ -344,6 +345,7 @@ stream_made {t} c gap decos fit_no_documents u g a k w =
       firsts = at.comments;
       others = [];
       begin = at.rest;
+      told = at.is;
       ascend = rows_ascend (lines_rows at.lines);
       are = comments_with_comments at.comments;
       found_rows = [];
@@ -380,6 +382,7 @@ stream_made {t} c gap decos (fit_document {d = d} {ds = ds} {x = x} {xs = xs} f 
       firsts = at.comments;
       others = one.comments ++ last.documents.comments;
       begin = at.rest;
+      told = at.is;
       ascend = rows_ascend (lines_rows at.lines);
       are = comments_with_document (at.comments ++ one.comments) one.document last.documents ∙ append_assoc at.comments one.comments last.documents.comments;
       found_rows = one.found_rows ++ last.found_rows;

@@ -29,11 +29,11 @@ rows_among no_rows_fit = sub_none
 rows_among (row_fits {row = row} {rows = rows} f k a) = subst (λ w. Sub w (row.items ++ items_on rows)) (sym (starts_append row.leaves (leaves_on rows))) (sub_join f.among (rows_among a))
 
 -- The last of some leaves.
-data EndsIn : List Span → Type 0 where
+pub data EndsIn : List Span → Type 0 where
   ends_in_none : EndsIn []
   ends_in : (ls : List Span) (s : Span) → EndsIn (ls ++ (s ∷ []))
 
-ending_of : (ls : List Span) → EndsIn ls
+pub ending_of : (ls : List Span) → EndsIn ls
 ending_of [] = ends_in_none
 ending_of (l ∷ ls) = go (ending_of ls) where
   go : {ls : List Span} → EndsIn ls → EndsIn (l ∷ ls)
