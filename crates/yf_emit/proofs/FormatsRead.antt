@@ -2,9 +2,11 @@
 use Rattle.std.proofs.Common.{◌≡◌, ℕ, suc, max, ◌≤◌, Bool, true, false, List, [], ◌∷◌, ◌++◌, map, refl, sym, ap, ◌∙◌, subst, arith, length}
 use Rattle.std.specs.Prelude.{◌&&◌, if◌then◌else◌}
 use Rattle.std.specs.Str.{IsUtf8}
+use Rattle.yf_chars.specs.Chain.{Chain}
 use Rattle.yf_lines.specs.Rest.{Rest}
 use Rattle.yf_lines.specs.declared.quotes.Quotes.{Quotes}
 use Rattle.yf_comments.specs.Comment.{CommentValue}
+use Rattle.yf_comments.specs.Comments.{CommentLine}
 use Rattle.yf_comments.specs.GapLines.{remarks_of}
 use Rattle.yf_comments.proofs.GapLinesLemmas.{texts}
 use Rattle.yf_events.proofs.TreeLemmas.{trees_unique}
@@ -193,6 +195,7 @@ pub record FormattedLaid {t : List ℕ} {s : Style} {u : List ℕ} (f : Formats 
   pub firsts : List CommentValue
   pub others : List CommentValue
   pub told : texts firsts ≡ remarks_of (first_gap f.normal (rows_of f.normal s f.writes.trees))
+  pub lines : Chain (CommentLine u) 0 line firsts
   pub begin : Rest u line (lines_then (rows_of f.normal s f.writes.trees) (row_decos f.normal (rows_of f.normal s f.writes.trees)) [])
   pub ascend : Ascend u 0 firsts line
   pub are : well.documents.comments ≡ firsts ++ others
@@ -238,6 +241,7 @@ formats_laid t u s utf8 f =
       firsts = laid.firsts;
       others = laid.others;
       told = laid.told;
+      lines = laid.lines;
       begin = laid.begin;
       ascend = laid.ascend;
       are = laid.are;

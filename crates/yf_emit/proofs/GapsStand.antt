@@ -46,7 +46,7 @@ since_zero : {t : List ℕ} {j : ℕ} → BlankBefore t j → BlankSince t 0 j
 since_zero (line_before b k) = blank_line (omega arith) b k
 since_zero (gap_before b e) = past_gap (since_zero b) e
 
-since_later : {t : List ℕ} {f j : ℕ} → BlankSince t f j → f < j
+pub since_later : {t : List ℕ} {f j : ℕ} → BlankSince t f j → f < j
 since_later (blank_line l b k) = let m = break_forward k in omega (arith, l, m)
 since_later {t} (past_gap {i = i} d e) = let l = since_later d in let m = next_later t i in omega (arith, l, m)
 

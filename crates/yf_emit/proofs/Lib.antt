@@ -187,6 +187,7 @@ pub mod SetNodes
 pub mod SetMeant
 pub mod SetStreams
 pub mod ScalarHeld
+pub mod ScalarTails
 pub mod DirectiveEnds
 pub mod FormattedHeld
 pub mod FormattedSet
@@ -212,11 +213,16 @@ pub mod CarriedAgain
 pub mod ReadingsAgain
 pub mod RowsRenoted
 pub mod RowGaps
+pub mod RowNotes
+pub mod NoteTrees
+pub mod NoteStreams
 pub mod RowSpots
 pub mod OwnsAgain
 pub mod TrailAgain
 pub mod RowTies
 pub mod AllBlanks
+pub mod BlanksRows
+pub mod BlanksAgain
 pub mod RowsTied
 pub mod DocumentTies
 pub mod FormatsFixed

@@ -1,5 +1,5 @@
 -- The comments after a block scalar that was laid out: those on the line of its header, and those from its end on, where the gap after it begins.
-use Rattle.std.proofs.Common.{◌≡◌, ℕ, ℤ, zero, suc, ◌+◌, ◌-◌, ◌<◌, ◌≤◌, ◌⊎◌, inl, inr, ⊎_elim, Bool, true, false, true≢false, List, [], ◌∷◌, ◌++◌, length, map, replicate, refl, sym, ap, ◌∙◌, subst, arith, length-append, add-zero, append-nil}
+use Rattle.std.proofs.Common.{◌≡◌, ℕ, ℤ, zero, suc, ◌+◌, ◌-◌, ◌<◌, ◌≤◌, ◌⊎◌, inl, inr, ⊎_elim, Bool, true, false, true≢false, List, [], ◌∷◌, ◌++◌, length, map, replicate, refl, sym, ap, ◌∙◌, subst, arith, length-append, add-zero, zero-add, append-nil}
 use Rattle.std.proofs.lemmas.Bool.{cases_lt}
 use Rattle.std.proofs.lemmas.List.{length-map, length-replicate}
 use Rattle.std.specs.Str.{IsUtf8}
@@ -167,7 +167,7 @@ bare_tail : {t : List ℕ} {k start p place e : ℕ} {widths : List ℕ} {x : Li
     → BodyTail t e place (first_noted b x)
 bare_tail {start = start} b Strip a w m = from_end b (as_many_lines (as_lines m) (nothing_to start)) (chain_append (bare_rows a) (trail_rows w))
 bare_tail {start = start} b Clip a w m = from_end b (as_many_lines (as_lines m) (nothing_to start)) (chain_append (bare_rows a) (trail_rows w))
-bare_tail b Keep a w m = from_end b (as_many_lines (as_lines m) (blanks_one a)) (trail_rows w)
+bare_tail {t} {start = start} {p = p} {widths = widths} b Keep a w m = from_end b (as_many_lines (as_lines m) (subst (λ k. LinesTo t start p k) (sym (zero-add (length widths))) (blanks_one a))) (trail_rows w)
 
 body_tail : {t : List ℕ} {n : ℤ} {h : Header} {start place e : ℕ} {v : BodyValue} → IsUtf8 t → Body t n h start place v → LinesBetween t (reach h.chomp (length v.lines) v.tail) start e → BodyTail t e place v.comments
 body_tail {h = h} u (indicated {count = count} f a w) m = taken_tail (is_gap_tail h.chomp count) h.chomp u a w m
@@ -204,11 +204,11 @@ lines_many : (column n : ℕ) (ls : List (List ℕ)) → length (map (line_at co
 lines_many column n ls =
     length-map (ls ++ replicate n []) (line_at column) ∙ (length-append ls (replicate n []) ∙ ap (λ z. length ls + z) (length-replicate n []))
 
-pub scalar_tail : {t : List ℕ} {n : ℤ} {style : ScalarStyle} {text : List ℕ} {lines : List (List ℕ)} {notes : List (List ℕ)} {q : ℕ} {r : List ℕ} (indent column : ℕ) (d : Deco) → IsUtf8 t
+pub scalar_tail : {t : List ℕ} {n : ℤ} {notes : List (List ℕ)} {q : ℕ} {r : List ℕ} (style : ScalarStyle) (text : List ℕ) (lines : List (List ℕ)) (indent column : ℕ) (d : Deco) → IsUtf8 t
     → (block_lines style column text lines ≡ [] → ⊥) → AreBodyTexts (block_lines style column text lines) → (a : ScalarReached t n (header_of style indent text) (content_lines style text lines) (final_feeds text - 1) notes q r)
     → HeaderPassed t q a.start (body_then (block_lines style column text lines) (gap_then d.gap r)) → HeaderNotes t q a.start a.header.comments d.trails
     → ScalarTail t d q a.node.meaning.finish a.node.place a.node.meaning.comments
-scalar_tail {t} {style = style} {text = text} {lines = lines} {r = r} indent column d u some body a passed notes =
+scalar_tail {t} {r = r} style text lines indent column d u some body a passed notes =
     let ls : List (List ℕ) = content_lines style text lines in
     let count : a.lines ≡ length (block_lines style column text lines) = a.exact ∙ (reach_all (final_feeds text) (length ls) ∙ sym (lines_many column (final_feeds text - 1) ls)) in
     let between = as_lines a.between in

@@ -49,11 +49,12 @@ use Rattle.yf_emit.proofs.SetMeant.{SetMeant, set_block}
 use Rattle.yf_emit.proofs.CollectionsMade.{comments_with_props, same_props, some_props}
 use Rattle.yf_emit.proofs.NodePlaces.{apart_at, both_behind, block_no_key}
 use Rattle.yf_emit.proofs.NodesMade.{Stood, NodeMade, Claim, some_rows}
-use Rattle.yf_emit.proofs.PlacedRows.{RowsIn, last_row}
+use Rattle.yf_emit.proofs.PlacedRows.{behind_scalar, last_end, leaf_to, no_leaf_to, RowsIn, last_row}
 use Rattle.yf_emit.proofs.RowEnds.{trails_at, first_deco}
 use Rattle.yf_emit.proofs.ScalarFound.{bare_found, leaf_row, leaf_stands, props_found}
-use Rattle.yf_emit.proofs.ScalarHeld.{AllSigns, behind_signs, signs_append, ScalarReached, passed_header, scalar_comments, scalar_reached}
+use Rattle.yf_emit.proofs.ScalarHeld.{AllSigns, behind_signs, signs_append, HeaderNotes, header_notes, ScalarReached, passed_header, scalar_comments, scalar_reached}
 use Rattle.yf_emit.proofs.ScalarStands.{ScalarMade, bare_scalar, props_scalar}
+use Rattle.yf_emit.proofs.ScalarTails.{ScalarTail, scalar_tail}
 use Rattle.yf_emit.proofs.StepsStand.{MeaningLaid, laid_scalar, laid_scalar_with}
 use Rattle.yf_emit.proofs.WellSet.{AllSet}
 
@@ -278,6 +279,22 @@ scalar_steps row ds e =
     ap (λ z. a_leaf ∷ z) (sym (append-nil (comment_steps (carried_texts (first ds))))) ∙ ap (λ z. z ++ (comment_steps (carried_texts (first ds)) ++ [])) (sym e)
 
 module _ {s : Setting} {at : Standing} {style : ScalarStyle} {text : List ℕ} {lines : List (List ℕ)} (placed_at : is_some at.span ≡ true) (f : FitScalar style text lines) where
+  notes_of : {t : List ℕ} {n : ℤ} (spot : Spot) (ds : List Deco) (r : List ℕ) (q : ℕ) → IsUtf8 t → AreDecos ds
+      → (made : ScalarMade t n (header_of style s.style.indent text) (content_lines style text lines) (final_feeds text - 1) ((first ds).trails ++ remarks_of (first ds).gap) q r (body_then (block_lines style spot.lines text lines) (gap_then (first ds).gap r))
+      (end_then (first ds) (block_lines style spot.lines text lines) r))
+      → Rest t q (header_text style s.style.indent text ++ end_then (first ds) (block_lines style spot.lines text lines) r) → HeaderNotes t q made.reached.start made.reached.header.comments (first ds).trails
+  notes_of spot ds r q u a made w =
+      header_notes (header_text style s.style.indent text) (first ds) (block_lines style spot.lines text lines) r u (header_line style s.style.indent text s.style.indent_to) (header_signs style s.style.indent text s.style.indent_to)
+      (some_bytes (header_text style s.style.indent text) (header_some style s.style.indent text)) (first_deco a) w made.reached.head
+
+  tail_of : {t : List ℕ} {n : ℤ} (spot : Spot) (ds : List Deco) (r : List ℕ) (q : ℕ) → IsUtf8 t → 0 < spot.lines
+      → (made : ScalarMade t n (header_of style s.style.indent text) (content_lines style text lines) (final_feeds text - 1) ((first ds).trails ++ remarks_of (first ds).gap) q r (body_then (block_lines style spot.lines text lines) (gap_then (first ds).gap r))
+      (end_then (first ds) (block_lines style spot.lines text lines) r))
+      → HeaderNotes t q made.reached.start made.reached.header.comments (first ds).trails → ScalarTail t (first ds) q made.reached.node.meaning.finish made.reached.node.place made.reached.node.meaning.comments
+  tail_of spot ds r q u deep made notes =
+      scalar_tail style text lines s.style.indent spot.lines (first ds) u (body_some spot.lines (final_feeds text - 1) (content_lines style text lines) f.last)
+      (body_texts spot.lines (final_feeds text - 1) (content_lines style text lines) deep f.texts) made.reached made.passed notes
+
   bare_made : {t : List ℕ} (row : Row) (spot : Spot) (n : ℤ) (c : Ctx) (ds : List Deco) (r : List ℕ) (q : ℕ) → row.text ≡ header_text style s.style.indent text → row.body ≡ block_lines style spot.lines text lines
       → row.lines ≡ spot.lines → leaf_steps row.leaves ≡ a_leaf ∷ [] → is_some row.key_comment ≡ false → IsUtf8 t → Stood s (scalar at no_props style text lines) n c spot → AreDecos ds → CalmBody (block_lines style spot.lines text lines) spot.lines (tail_ending (is_kept_tail (final_feeds text))) (first ds).gap r
       → Rest t q (inline_then (row ∷ []) ds r) → NodeMade t s n c spot.entries (scalar at no_props style text lines) (row ∷ []) ds q r
@@ -289,6 +306,9 @@ module _ {s : Setting} {at : Standing} {style : ScalarStyle} {text : List ℕ} {
       let text_end = rest_text (header_text style s.style.indent text) u (header_line style s.style.indent text s.style.indent_to) there in
       let deep : 0 < spot.lines = above_zero n stood.lines in
       let begun = end_start (first ds) r u (first_deco a) (body_texts spot.lines (final_feeds text - 1) (content_lines style text lines) deep f.texts) text_end.rest in
+      let notes = notes_of spot ds r q u a made there in
+      let tail = tail_of spot ds r q u deep made notes in
+      let later = tail.later in
       record {
         height = 0;
         place = node.place;
@@ -300,7 +320,13 @@ module _ {s : Setting} {at : Standing} {style : ScalarStyle} {text : List ℕ} {
         found_rows = leaf_row q node.meaning.finish ∷ [];
         meant = bare_found s spot.entries s.style.indent q node.meaning placed_at f node.events node.escapes;
         placed = last_row (leaf_stands node.meaning.finish (λ z. body_some spot.lines (final_feeds text - 1) (content_lines style text lines) f.last (sym body ∙ z)) key)
-            (record { ascend = scalar_ascends node.derived; is = node.is; start = subst (λ j. LineStart t j) (place_of_rest begun.rest node.rest) begun.start }) node.rest;
+            (record {
+              ascend = scalar_ascends node.derived;
+              is = node.is;
+              start = subst (λ j. LineStart t j) (place_of_rest begun.rest node.rest) begun.start;
+              tail = behind_scalar tail.first (λ z. body_some spot.lines (final_feeds text - 1) (content_lines style text lines) f.last (sym body ∙ z)) tail.is tail.trail tail.from tail.line tail.order (omega (arith, later))
+                  (leaf_to later (omega arith) no_leaf_to) last_end tail.blank tail.broken tail.rest tail.ended tail.rows;
+            }) node.rest;
         is = node.is ∙ sym (append-nil (carried_texts (first ds)));
         laid = subst (λ z. MeaningLaid q node.place node.meaning z) (scalar_steps row ds leaf) (laid_scalar q node.meaning.finish (omega arith) node.events (scalar_ascends node.derived) node.is);
         set = let found = bare_found {t = t} {at = at} s spot.entries s.style.indent q node.meaning placed_at f node.events node.escapes in
@@ -328,6 +354,10 @@ module _ {s : Setting} {at : Standing} {style : ScalarStyle} {text : List ℕ} {
       let text_end = rest_text (header_text style s.style.indent text) u (header_line style s.style.indent text s.style.indent_to) before.rest in
       let deep : 0 < spot.lines = above_zero n stood.lines in
       let begun = end_start (first ds) r u (first_deco a) (body_texts spot.lines (final_feeds text - 1) (content_lines style text lines) deep f.texts) text_end.rest in
+      let notes = notes_of spot ds r i u a made before.rest in
+      let tail = tail_of spot ds r i u deep made notes in
+      let later = tail.later in
+      let from = tail.from in
       let o : Option ℕ = tag_offset_at q p.anchor p.tag in
       let g : ℕ = q + length (props_bytes p) in
       record {
@@ -343,7 +373,13 @@ module _ {s : Setting} {at : Standing} {style : ScalarStyle} {text : List ℕ} {
         meant = props_found s spot.entries s.style.indent i q g p o node.meaning placed_at f node.events node.escapes;
         placed = subst (λ v. RowsIn t (row ∷ []) (leaf_row q node.meaning.finish ∷ []) ds q v node.place r) (sym (comments_with_props p o q g node.meaning))
             (last_row (leaf_stands node.meaning.finish (λ v. body_some spot.lines (final_feeds text - 1) (content_lines style text lines) f.last (sym body ∙ v)) key)
-            (record { ascend = ascend_after (omega arith) (scalar_ascends node.derived); is = node.is; start = subst (λ j. LineStart t j) (place_of_rest begun.rest node.rest) begun.start }) node.rest);
+            (record {
+              ascend = ascend_after (omega arith) (scalar_ascends node.derived);
+              is = node.is;
+              start = subst (λ j. LineStart t j) (place_of_rest begun.rest node.rest) begun.start;
+              tail = behind_scalar tail.first (λ v. body_some spot.lines (final_feeds text - 1) (content_lines style text lines) f.last (sym body ∙ v)) tail.is tail.trail (omega (arith, from)) tail.line tail.order (omega (arith, later))
+                  (leaf_to (omega (arith, later)) (omega arith) no_leaf_to) last_end tail.blank tail.broken tail.rest tail.ended tail.rows;
+            }) node.rest);
         is = texts_with_props p o q g node.meaning ∙ (node.is ∙ sym (append-nil (carried_texts (first ds))));
         laid = subst (λ z. MeaningLaid q node.place (with_props p o q g node.meaning) z) (scalar_steps row ds leaf)
             (laid_scalar_with p o q g i node.meaning.finish node.meaning (omega arith) node.events (scalar_ascends node.derived) node.is);

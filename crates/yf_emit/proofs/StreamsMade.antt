@@ -2,10 +2,12 @@
 use Rattle.std.proofs.Common.{◌≡◌, ℕ, ◌+◌, max, ◌<◌, ◌≤◌, true, false, List, [], ◌∷◌, ◌++◌, length, map, inl, codes, refl, sym, ap, ◌∙◌, subst, arith, append_assoc}
 use Rattle.std.specs.Prelude.{is_some}
 use Rattle.std.specs.Str.{IsUtf8}
+use Rattle.yf_chars.specs.Chain.{Chain}
 use Rattle.yf_chars.specs.Chain.Chain.{done}
 use Rattle.yf_lines.specs.Basic.LineStart.{at_text}
 use Rattle.yf_lines.proofs.RestLemmas.{Rest, rest_start}
 use Rattle.yf_comments.specs.Comment.{CommentValue}
+use Rattle.yf_comments.specs.Comments.{CommentLine}
 use Rattle.yf_comments.specs.GapLines.{AreGapLines, remarks_of}
 use Rattle.yf_comments.proofs.GapLinesLemmas.{texts, texts_append, gap_at}
 use Rattle.yf_comments.proofs.LineEndLemmas.{lines_rows}
@@ -315,6 +317,7 @@ pub record StreamLaid (t : List ℕ) (s : Setting) (ds : List Doc) (xs : List Do
   pub others : List CommentValue
   pub begin : Rest t line (lines_then rs decos [])
   pub told : texts firsts ≡ remarks_of gap
+  pub lines : Chain (CommentLine t) 0 line firsts
   pub ascend : Ascend t 0 firsts line
   pub are : made.documents.comments ≡ firsts ++ others
   pub found_rows : List PlacedRow
@@ -346,6 +349,7 @@ stream_made {t} c gap decos fit_no_documents u g a k w =
       others = [];
       begin = at.rest;
       told = at.is;
+      lines = at.lines;
       ascend = rows_ascend (lines_rows at.lines);
       are = comments_with_comments at.comments;
       found_rows = [];
@@ -383,6 +387,7 @@ stream_made {t} c gap decos (fit_document {d = d} {ds = ds} {x = x} {xs = xs} f 
       others = one.comments ++ last.documents.comments;
       begin = at.rest;
       told = at.is;
+      lines = at.lines;
       ascend = rows_ascend (lines_rows at.lines);
       are = comments_with_document (at.comments ++ one.comments) one.document last.documents ∙ append_assoc at.comments one.comments last.documents.comments;
       found_rows = one.found_rows ++ last.found_rows;
