@@ -48,9 +48,9 @@ step : {cs : List CommentValue} {j : ℕ} {x row : Row} {xs found : List Row} {p
 step (some_left before (row_barely f b) (last_owns g l m up u is) (last_laid hs laid gap) early are) = ended b where
   ended : {cs : List CommentValue} {j : ℕ} {xs : List Row} → Barely xs [] → Left cs j xs [] []
   ended none_barely = none_left
-step (some_left before b (last_owns g l m up u is) (row_laid hs v laid gap bare more) early are) = elim more [ ]
+step (some_left before b (last_owns g l m up u is) (row_laid hs v laid gap quiet more) early are) = elim more [ ]
 step (some_left before b (row_owns g l m up u is n more) (last_laid hs laid gap) early are) = elim more [ ]
-step (some_left before (row_barely f b) (row_owns {own = own} {owns = owns} g l m up u is n more) (row_laid hs v laid gap bare others) early are) =
+step (some_left before (row_barely f b) (row_owns {own = own} {owns = owns} g l m up u is n more) (row_laid hs v laid gap quiet others) early are) =
     some_left (before ++ own) b more others (each_join (under_wider (omega (arith, l, m, n)) early) (under_wider n u)) (are ∙ sym (append_assoc before own (all_of owns)))
 
 barely_first : {cs : List CommentValue} {j : ℕ} {x row : Row} {xs found : List Row} {p : PlacedRow} {ps : List PlacedRow} → Left cs j (x ∷ xs) (row ∷ found) (p ∷ ps) → p.items ≡ [] → x.items ≡ []
@@ -106,14 +106,15 @@ free_one {cs = cs} {low = low} {p = p} {q = q} {owns = owns} before own none f l
           (λ (z : In b (all_of owns)). let y : low ≤ b.offset = each_at (upward_over low (omega arith) (owns_upward more)) z in further.free b i (omega (arith, y, at))) (in_parts before (all_of owns) where_in);
     }
 
-free_to : {cs : List CommentValue} {start n j : ℕ} {x row : Row} {xs found ys others : List Row} {p : PlacedRow} {ps qs : List PlacedRow} → HeadRows start n (p ∷ ps) → row.leaves ≡ [] → row.key_comment ≡ None → PlainHeads n xs found
-    → Left cs j (x ∷ (xs ++ ys)) (row ∷ (found ++ others)) (p ∷ (ps ++ qs)) → FreeTo cs start p
-free_to (mark_head a f) none key b left = record { from = omega (arith, f); free = λ v i m. omega (arith, f, m) }
-free_to (more_heads {hs = []} a h) none key b left = elim h [ ]
-free_to (more_heads {hs = q ∷ ps} a h) none key (a_plain_head bare items unleaved unkeyed b) (some_left before (row_barely z bs) (row_owns {own = own} {owns = owns} g l m up u is n more) (row_laid {d = d} hs v laid gap quiet others) early are) =
-    let silent : own ≡ [] = no_texts own (is ∙ (ap (λ w. w ++ remarks_of d.gap) (laid.bare none key) ∙ quiet bare)) in
+free_to : {cs : List CommentValue} {start n j : ℕ} {x row : Row} {xs found : List Row} {p : PlacedRow} {ps : List PlacedRow} (ys others : List Row) (qs : List PlacedRow) → HeadRows start n (p ∷ ps) → row.leaves ≡ [] → row.key_comment ≡ None
+    → PlainHeads n xs found → Left cs j (x ∷ (xs ++ ys)) (row ∷ (found ++ others)) (p ∷ (ps ++ qs)) → FreeTo cs start p
+free_to ys others qs (mark_head a f) none key b left = record { from = omega (arith, f); free = λ v i m. omega (arith, f, m) }
+free_to ys others qs (more_heads {hs = []} a h) none key b left = elim h [ ]
+free_to ys others qs (more_heads {hs = q ∷ ps} a h) none key (a_plain_head unmarked items unleaved unkeyed b)
+    (some_left before (row_barely z bs) (row_owns {own = own} {owns = owns} g l m up u is n more) (row_laid {d = d} hs v laid gap quiet further) early are) =
+    let silent : own ≡ [] = no_texts own (is ∙ (ap (λ w. w ++ remarks_of d.gap) (laid.bare none key) ∙ quiet unmarked)) in
     free_one before own silent g (omega (arith, l, m, n)) early are more
-    (free_to h unleaved unkeyed b (some_left (before ++ own) bs more others (each_join (under_wider (omega (arith, l, m, n)) early) (under_wider n u)) (are ∙ sym (append_assoc before own (all_of owns)))))
+    (free_to ys others qs h unleaved unkeyed b (some_left (before ++ own) bs more further (each_join (under_wider (omega (arith, l, m, n)) early) (under_wider n u)) (are ∙ sym (append_assoc before own (all_of owns)))))
 
 left_order : {cs : List CommentValue} {j : ℕ} {x row : Row} {xs found : List Row} {p : PlacedRow} {ps : List PlacedRow} → Left cs j (x ∷ xs) (row ∷ found) (p ∷ ps) → p.from ≤ p.upto
 left_order (some_left before b (last_owns f l m up u is) laid early are) = omega (arith, f, l)
@@ -121,17 +122,17 @@ left_order (some_left before b (row_owns f l m up u is n more) laid early are) =
 
 plain_ties : {cs : List CommentValue} {start n j : ℕ} {xs found ys others : List Row} {ps qs : List PlacedRow} → HeadRows start n ps → PlainHeads (suc n) xs found → Left cs j (xs ++ ys) (found ++ others) (ps ++ qs)
     → (Left cs j ys others qs → Ties cs ys others qs) → Ties cs (xs ++ ys) (found ++ others) (ps ++ qs)
-plain_ties (mark_head a f) (a_plain_head bare items unleaved unkeyed no_plain_head) left go = a_tie (head_tie items bare unleaved a unkeyed) (go (step left))
-plain_ties (more_heads a h) (a_plain_head bare items unleaved unkeyed b) left go = a_tie (head_tie items bare unleaved a unkeyed) (plain_ties h b (step left) go)
+plain_ties (mark_head a f) (a_plain_head unmarked items unleaved unkeyed no_plain_head) left go = a_tie (head_tie items unmarked unleaved a unkeyed) (go (step left))
+plain_ties (more_heads a h) (a_plain_head unmarked items unleaved unkeyed b) left go = a_tie (head_tie items unmarked unleaved a unkeyed) (plain_ties h b (step left) go)
 
 -- the first of them, with the item of the document, and the others
 begun_ties : {cs : List CommentValue} {start n j : ℕ} (x row : Row) {xs found ys others : List Row} {ps qs : List PlacedRow} → row.items ≡ start ∷ [] → row.leaves ≡ [] → row.key_comment ≡ None → HeadRows start n ps → PlainHeads n xs found
     → Left cs j (x ∷ (xs ++ ys)) (row ∷ (found ++ others)) (ps ++ qs) → (Left cs j ys others qs → Ties cs ys others qs) → Ties cs (x ∷ (xs ++ ys)) (row ∷ (found ++ others)) (ps ++ qs)
-begun_ties {start = start} x row items none key (mark_head a f) no_plain_head left go =
-    let free = free_to (mark_head a f) none key no_plain_head left in
+begun_ties {start = start} {ys = ys} {others = others} {qs = qs} x row items none key (mark_head a f) no_plain_head left go =
+    let free = free_to ys others qs (mark_head a f) none key no_plain_head left in
     a_tie (start_tie start items none a key free.from (λ b i l. let o = left_order left in free.free b i (omega (arith, o, l)))) (go (step left))
-begun_ties {start = start} x row items none key (more_heads a h) b left go =
-    let free = free_to (more_heads a h) none key b left in
+begun_ties {start = start} {ys = ys} {others = others} {qs = qs} x row items none key (more_heads a h) b left go =
+    let free = free_to ys others qs (more_heads a h) none key b left in
     a_tie (start_tie start items none a key free.from (λ v i l. let o = left_order left in free.free v i (omega (arith, o, l)))) (plain_ties h b (step left) go)
 
 abbrev other_words : List (List (List ℕ)) → List (List (List ℕ))

@@ -80,12 +80,12 @@ rows_known u s q utf8 a fixed =
     })
 
 -- the first row, where one is laid out
-first_again : {u : List ℕ} {q : Lists} {mc : Source} {own : List CommentValue} (x row : Row) (xs found : List Row) (p : PlacedRow) (ps : List PlacedRow) {line end : ℕ} {owns : List (List CommentValue)} (known : RowsKnown u q (row ∷ found)) (ones : List CommentValue)
+first_again : {u : List ℕ} {q : Lists} (mc : Source) (own : List CommentValue) (x row : Row) (xs found : List Row) (p : PlacedRow) (ps : List PlacedRow) {line end : ℕ} {owns : List (List CommentValue)} (known : RowsKnown u q (row ∷ found)) (ones : List CommentValue)
     → shapes (x ∷ xs) ≡ shapes (row ∷ found) → AreDecos (decos_of mc own (x ∷ xs)) → q.comments ≡ ones ++ all_of owns → Upward 0 ones → Under line ones → texts ones ≡ remarks_of (gap_of at_text_start own (x ∷ xs))
     → Ties q.comments (x ∷ xs) (row ∷ found) (p ∷ ps) → Owns (p ∷ ps) (decos_of mc own (x ∷ xs)) line owns end → Spots u (p ∷ ps) (decos_of mc own (x ∷ xs)) owns → AllQuiet q.comments (p ∷ ps)
     → BlanksFound q.comments (gap_of at_text_start own (x ∷ xs)) (decos_of mc own (x ∷ xs)) (row ∷ found) (p ∷ ps) line end
     → CarriedSame q (row ∷ found) (gap_of at_text_start own (x ∷ xs)) (decos_of mc own (x ∷ xs))
-first_again {u} {q} {mc} {own} x row xs found p ps {line} {end} {owns} known ones same fit are up under told (a_tie tie ties) each spots quiet blanks =
+first_again {u} {q} mc own x row xs found p ps {line} {end} {owns} known ones same fit are up under told (a_tie tie ties) each spots quiet blanks =
     let gap : List GapLine = gap_of at_text_start own (x ∷ xs) in
     let here : List CommentValue = filter (precedes_item x) own in
     let c : Source = source_of q (row ∷ found) in
@@ -100,12 +100,12 @@ first_again {u} {q} {mc} {own} x row xs found p ps {line} {end} {owns} known one
     (subst (λ z. NextTied z row p (before_text gap)) are next) each (subst (λ z. Tied c z (row ∷ found) (p ∷ ps) (decos_of mc own (x ∷ xs)) owns) are tied)
 
 -- all rows
-carried_again : {u : List ℕ} {es : List Placed} {q : Lists} {mc : Source} {own : List CommentValue} (xs found : List Row) {ps : List PlacedRow} {line : ℕ} (befores others : List CommentValue) → IsUtf8 u → RowsKnown u q found
+carried_again : {u : List ℕ} {es : List Placed} {q : Lists} (mc : Source) (own : List CommentValue) (xs found : List Row) {ps : List PlacedRow} {line : ℕ} (befores others : List CommentValue) → IsUtf8 u → RowsKnown u q found
     → shapes xs ≡ shapes found → RowLines xs → AreDecos (decos_of mc own xs) → Rest u line (lines_then xs (decos_of mc own xs) []) → StreamIn u xs ps (decos_of mc own xs) line others → Ascend u 0 befores line
     → texts befores ≡ remarks_of (gap_of at_text_start own xs) → NotedComments u es (befores ++ others) q.comments → (Left q.comments (length u) xs found ps → Ties q.comments xs found ps) → AllQuiet q.comments ps
     → BlanksFound q.comments (gap_of at_text_start own xs) (decos_of mc own xs) found ps line (length u) → CarriedSame q found (gap_of at_text_start own xs) (decos_of mc own xs)
-carried_again [] [] befores others utf8 known same lines fit w (stream_in b rows) ascend told noted ties quiet blanks = elim rows [ ]
-carried_again {q = q} {own = own} [] [] befores others utf8 known same lines fit w no_stream ascend told noted ties quiet blanks =
+carried_again mc own [] [] befores others utf8 known same lines fit w (stream_in b rows) ascend told noted ties quiet blanks = elim rows [ ]
+carried_again {es = es} {q = q} mc own [] [] befores others utf8 known same lines fit w no_stream ascend told noted ties quiet blanks =
     let all : remarks q [] ≡ q.comments = firsts q.comments q.on_leaf_line known.count in
     let parts = noted_parts befores noted in
     let same_texts : texts parts.one ≡ remarks_of (gap_of at_text_start own []) = noted_texts parts.first ∙ told in
@@ -114,10 +114,10 @@ carried_again {q = q} {own = own} [] [] befores others utf8 known same lines fit
     (blanks.first parts.one parts.two parts.are same_texts) where
       nothing : {ys : List CommentValue} → NotedComments _ _ [] ys → ys ≡ []
       nothing no_comment = refl
-carried_again [] (row ∷ found) befores others utf8 known same lines fit w rows ascend told noted ties quiet blanks = absurd cc
-carried_again (x ∷ xs) [] befores others utf8 known same lines fit w rows ascend told noted ties quiet blanks = absurd cc
-carried_again {u} {q = q} {mc = mc} {own = own} (x ∷ xs) (row ∷ found) {ps = []} befores others utf8 known same lines fit w (stream_in b rows) ascend told noted ties quiet blanks = elim rows [ ]
-carried_again {u} {q = q} {mc = mc} {own = own} (x ∷ xs) (row ∷ found) {ps = p ∷ ps} {line = line} befores others utf8 known same lines fit w (stream_in b rows) ascend told noted ties quiet blanks =
+carried_again mc own [] (row ∷ found) befores others utf8 known same lines fit w rows ascend told noted ties quiet blanks = absurd cc
+carried_again mc own (x ∷ xs) [] befores others utf8 known same lines fit w rows ascend told noted ties quiet blanks = absurd cc
+carried_again {u} {es = es} {q = q} mc own (x ∷ xs) (row ∷ found) {ps = []} befores others utf8 known same lines fit w (stream_in b rows) ascend told noted ties quiet blanks = elim rows [ ]
+carried_again {u} {es = es} {q = q} mc own (x ∷ xs) (row ∷ found) {ps = p ∷ ps} {line = line} befores others utf8 known same lines fit w (stream_in b rows) ascend told noted ties quiet blanks =
     let spaces = rest_spaces x.column line utf8 w in
     let column : x.column ≡ 0 = begin_column b in
     let start : Rest u line (inline_then (x ∷ xs) (decos_of mc own (x ∷ xs)) []) = subst (λ k. Rest u k (inline_then (x ∷ xs) (decos_of mc own (x ∷ xs)) [])) (omega (arith, column)) spaces.1 in
@@ -127,7 +127,7 @@ carried_again {u} {q = q} {mc = mc} {own = own} (x ∷ xs) (row ∷ found) {ps =
     let are : q.comments ≡ parts.one ++ all_of owns.owns = parts.are ∙ ap (λ z. parts.one ++ z) owns.are in
     let under : Under line parts.one = noted_under (ascend_under ascend) parts.first in
     let laid = laid_rows mc own (x ∷ xs) (row ∷ found) same fit in
-    first_again x row xs found p ps known parts.one same fit are (noted_upward (upward_of ascend) parts.first) under (noted_texts parts.first ∙ told)
+    first_again mc own x row xs found p ps known parts.one same fit are (noted_upward (upward_of ascend) parts.first) under (noted_texts parts.first ∙ told)
     (ties (some_left parts.one (rows_barely rows) owns.each laid under are)) owns.each owns.spots quiet blanks where
       begin_column : {rs : List Row} → Begins 0 (x ∷ rs) → x.column ≡ 0
       begin_column (begins f) = f
@@ -144,6 +144,6 @@ again_same {t} {u} {s} q utf8 f a w blanks =
     let fixed : map (normal_document u (setting_of q s)) a.trees ≡ a.trees = roots_fixed f q a.trees w.alike in
     let noted : NotedComments u q.events (w.laid.firsts ++ w.laid.others) q.comments =
     subst (λ z. NotedComments u q.events z q.comments) (ap (λ (v : Documents). v.comments) w.derived ∙ w.laid.are) a.comments in
-    let carried = carried_again {es = q.events} {mc = source_of m xs} {own = own_line_comments (source_of m xs) xs} xs (rows_of q s a.trees) w.laid.firsts w.laid.others form.utf8 (rows_known u s q form.utf8 a fixed)
+    let carried = carried_again {es = q.events} (source_of m xs) (own_line_comments (source_of m xs) xs) xs (rows_of q s a.trees) w.laid.firsts w.laid.others form.utf8 (rows_known u s q form.utf8 a fixed)
     (found_rows true w.alike) form.rows form.decos w.laid.begin w.laid.placed w.laid.ascend w.laid.told noted (λ left. stream_ties a.trees w.roots w.same w.alike left) w.quiet blanks in
     record { of_reading = a.of_reading; alike = w.alike; gap = carried.gap_is; decos = carried.decos_are }

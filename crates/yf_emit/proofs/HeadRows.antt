@@ -19,9 +19,9 @@ pub data HeadRows (start : ℕ) : ℕ → List PlacedRow → Type 0 where
   mark_head : {h : PlacedRow} → h.leaves ≡ [] → h.from ≡ start → HeadRows start 0 (h ∷ [])
   more_heads : {n : ℕ} {h : PlacedRow} {hs : List PlacedRow} → h.leaves ≡ [] → HeadRows start n hs → HeadRows start (suc n) (h ∷ hs)
 
-pub heads_join : {start n : ℕ} {xs : List PlacedRow} {h : PlacedRow} → BareRows n xs → h.leaves ≡ [] → h.from ≡ start → HeadRows start n (xs ++ (h ∷ []))
-heads_join no_head_row e f = mark_head e f
-heads_join (one_head_row g a) e f = more_heads g (heads_join a e f)
+pub heads_join : {start n : ℕ} {xs : List PlacedRow} (h : PlacedRow) → BareRows n xs → h.leaves ≡ [] → h.from ≡ start → HeadRows start n (xs ++ (h ∷ []))
+heads_join h no_head_row e f = mark_head e f
+heads_join h (one_head_row g a) e f = more_heads g (heads_join h a e f)
 
 -- how many stand before it: the directives, and before those a `...` in documents that are not the first
 abbrev pub heads_before : Bool → List Directive → ℕ

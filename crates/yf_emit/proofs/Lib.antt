@@ -96,7 +96,6 @@ pub mod StepsStand
 pub mod LaidRows
 pub mod NodesMade
 pub mod ScalarStands
-pub mod ScalarTails
 pub mod ScalarFound
 pub mod ScalarsMade
 pub mod EntriesMade

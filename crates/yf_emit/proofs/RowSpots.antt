@@ -16,7 +16,7 @@ use Rattle.yf_lines.proofs.BasicLemmas.{break_char}
 use Rattle.yf_lines.proofs.ClearLemmas.{Quiet, quiet_join}
 use Rattle.yf_lines.proofs.RestLemmas.{rest_ascii, rest_break, rest_spaces, rest_text}
 use Rattle.yf_comments.specs.Comment.{CommentValue}
-use Rattle.yf_comments.specs.Comments.{BreakOrEnd, LineEnd, LineRest}
+use Rattle.yf_comments.specs.Comments.{BreakOrEnd, CommentText, LineEnd, LineRest}
 use Rattle.yf_comments.specs.Comments.BreakOrEnd.{by_break, by_end}
 use Rattle.yf_comments.specs.Comments.CommentText.{comment_text}
 use Rattle.yf_comments.specs.Comments.LineEnd.{past_rest, from_start}
@@ -124,12 +124,15 @@ first_place {t} {q} {j} x z o os u a n w (past_rest {y = ys} r c) e = go ys r e 
   at_sign : {h : ℕ} {y : List ℕ} → Many t is_white q h y → is_white (code t h) ≡ false → h ≡ q + 2
   at_sign m f = (many_unique t is_white m f (spaces_whites 2 q (rest_spaces 2 q u w).0).1 (ap is_white sign ∙ hash_no_white)).0
 
+  texted : {h j : ℕ} {w : List ℕ} {xs : List CommentValue} (ys : List CommentValue) → Many t is_white q h w → CommentText t h j xs → xs ++ ys ≡ o ∷ os → o.offset ≡ q + 2
+  texted ys m (comment_text v k noted) f = sym (ap offset_or f) ∙ at_sign m (ap is_white v ∙ hash_no_white)
+
   go : {h : ℕ} {xs : List CommentValue} (ys : List CommentValue) → LineRest t q h xs → xs ++ ys ≡ o ∷ os → o.offset ≡ q + 2
   go ys (nothing b) f = absurd (no_end_at_space b space)
   go ys (whites (at_start s) b) f = absurd (n s)
   go ys (whites (by_whites m l) b) f = absurd (no_end_at_sign b (ap (code t) (at_sign m (end_white b)) ∙ sign))
   go ys (comment (at_start s) k b) f = absurd (n s)
-  go ys (comment (by_whites m l) (comment_text v k noted) b) f = sym (ap offset_or f) ∙ at_sign m (ap is_white v ∙ hash_no_white)
+  go ys (comment (by_whites m l) k b) f = texted ys m k f
 first_place x z o os u a n w (from_start s c) e = absurd (n s)
 
 -- A row without lines of a scalar.

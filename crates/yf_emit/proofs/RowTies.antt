@@ -58,8 +58,8 @@ none_of : {o : Option CommentValue} (v : Option CommentValue) → is_some v ≡ 
 none_of None e f = refl
 none_of (Some c) e f = absurd (let g : true ≡ false = e ∙ ap is_some f in cc)
 
-texts_none : {c : CommentValue} {cs : List CommentValue} → trimmed_texts (c ∷ cs) ≡ [] → ⊥
-texts_none e = absurd cc
+texts_none : (c : CommentValue) (cs : List CommentValue) → trimmed_texts (c ∷ cs) ≡ [] → ⊥
+texts_none c cs e = absurd cc
 
 text_stays : (cs : List CommentValue) (x : List ℕ) → trimmed_texts cs ≡ x ∷ [] → trimmed x ≡ x
 text_stays [] x e = absurd cc
@@ -77,7 +77,7 @@ row_is_laid m d x row e fit count key = record {
 } where
   unkeyed : (o : Option CommentValue) → x.key_comment ≡ o → d.trails ≡ [] → x.key_comment ≡ None
   unkeyed None f g = f
-  unkeyed (Some v) f g = absurd (texts_none (ap (λ o. trimmed_texts (option_to_list o ++ flat_map (trail_of m) x.leaves)) (sym f) ∙ (sym e ∙ g)))
+  unkeyed (Some v) f g = absurd (texts_none v (flat_map (trail_of m) x.leaves) (ap (λ o. trimmed_texts (option_to_list o ++ flat_map (trail_of m) x.leaves)) (sym f) ∙ (sym e ∙ g)))
 
 pub none_precedes : (x : Row) (cs : List CommentValue) → x.items ≡ [] → filter (precedes_item x) cs ≡ []
 none_precedes x cs e = drop_all (precedes_item x) (each_not cs) where

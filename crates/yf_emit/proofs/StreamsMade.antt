@@ -108,7 +108,7 @@ directed {t} c {d} x {e} {es} row ds r q none bare said key plain same f fs fit 
       laid = subst (λ z. EventsLaid q node.place (document_of one.place true one.meaning.directives node.meaning).events (one.meaning.comments ++ node.meaning.comments) z)
           (sym (steps_append (row ∷ map directive_row es) (start_row ∷ tree) ds)) (events_behind one.stand (laid_document one.place one.meaning.directives node.laid));
       found_rows = one.found_rows ++ (node.head ∷ node.inner);
-      found = found_document true one.place one.meaning.directives (one.found_rows ++ (node.head ∷ [])) (heads_join one.heads node.unleaved node.from) node.meant (sym (append_assoc one.found_rows (node.head ∷ []) node.inner));
+      found = found_document true one.place one.meaning.directives (one.found_rows ++ (node.head ∷ [])) (heads_join node.head one.heads node.unleaved node.from) node.meant (sym (append_assoc one.found_rows (node.head ∷ []) node.inner));
       placed = rows_in_append one.placed (subst (λ z. RowsIn t (start_row ∷ tree) (node.head ∷ node.inner) (past (row ∷ map directive_row es) ds) z node.meaning.comments node.place r) (omega arith) node.placed);
       begun = document_begun one.place one.meaning.directives node.meaning
           (subst (λ z. Stand q (one.place ∷ []) (one.meaning.comments ++ node.meaning.comments) z node.place) (sym (with_append documents_begin (row ∷ map directive_row es) (start_row ∷ tree) ds))

@@ -29,7 +29,7 @@ use Rattle.yf_emit.proofs.CarriedAgain.{TrailTied, nothing_trails, first_trails}
 use Rattle.yf_emit.proofs.CommentsCut.{In, in_first, in_rest, Each, each_none, each_more, each_at, each_map, Under, Over}
 use Rattle.yf_emit.proofs.DocumentsFlow.{note_is, on_line_before}
 use Rattle.yf_emit.proofs.FoundAgain.{Unsigned, no_start, a_start}
-use Rattle.yf_emit.proofs.PlacedRows.{Inside, one_inside, PlacedRow, LeavesTo, leaf_to}
+use Rattle.yf_emit.proofs.PlacedRows.{Inside, one_inside, PlacedRow, LeavesTo, no_leaf_to, leaf_to}
 use Rattle.yf_emit.proofs.QuietPlaces.{Quiet as QuietRow}
 use Rattle.yf_emit.proofs.RowFlow.{Sub, sub_take, sub_skip, Has, has_first, has_rest, Near, at_leaf, before_leaf, RowTrail, untrailed, trailed_after}
 use Rattle.yf_emit.proofs.RowLeaves.{leaves_on}
@@ -96,6 +96,7 @@ first_later o [] a = refl
 first_later o (s ∷ ss) (one_later l a) = below o s.start (omega (arith, l))
 
 has_to : {n : ℕ} {s : Span} {ss : List Span} → LeavesTo n ss → Has s ss → s.end ≤ n
+has_to no_leaf_to h = elim h [ ]
 has_to (leaf_to l m a) has_first = m
 has_to (leaf_to l m a) (has_rest b) = has_to a b
 
