@@ -58,11 +58,11 @@ barely_first (some_left before (row_barely f b) own laid early are) = f
 
 -- Rows of a node.
 
-first_mark : Mark → List Mark → Mark
+abbrev first_mark : Mark → List Mark → Mark
 first_mark other [] = other
 first_mark other (m ∷ ms) = m
 
-other_marks : List Mark → List Mark
+abbrev other_marks : List Mark → List Mark
 other_marks [] = []
 other_marks (m ∷ ms) = ms
 
@@ -134,15 +134,16 @@ begun_ties {start = start} x row items none key (more_heads a h) b left go =
     let free = free_to (more_heads a h) none key b left in
     a_tie (start_tie start items none a key free.from (λ v i l. let o = left_order left in free.free v i (omega (arith, o, l)))) (plain_ties h b (step left) go)
 
+abbrev other_words : List (List (List ℕ)) → List (List (List ℕ))
+other_words [] = []
+other_words (w ∷ ws) = ws
+
 -- directives and the `---`
 directive_heads : (ds es : List Directive) → words_of ds ≡ words_of es → PlainHeads (suc (length es)) (map directive_row ds ++ (start_row ∷ [])) (map directive_row es ++ (start_row ∷ []))
 directive_heads [] [] e = a_plain_head refl refl refl refl no_plain_head
 directive_heads [] (b ∷ es) e = absurd cc
 directive_heads (a ∷ ds) [] e = absurd cc
-directive_heads (a ∷ ds) (b ∷ es) e = a_plain_head refl refl refl refl (directive_heads ds es (ap other_words e)) where
-  other_words : List (List (List ℕ)) → List (List (List ℕ))
-  other_words [] = []
-  other_words (w ∷ ws) = ws
+directive_heads (a ∷ ds) (b ∷ es) e = a_plain_head refl refl refl refl (directive_heads ds es (ap other_words e))
 
 head_ties : {cs : List CommentValue} {j : ℕ} (is_first : Bool) (before start : ℕ) (ds es : List Directive) {ys others : List Row} {ps qs : List PlacedRow} → words_of ds ≡ words_of es → HeadRows start (heads_before is_first es) ps
     → Left cs j (beginning_at before (end_rows is_first ds ++ (map directive_row ds ++ (start_row ∷ []))) ++ ys) (beginning_at start (end_rows is_first es ++ (map directive_row es ++ (start_row ∷ []))) ++ others) (ps ++ qs)
@@ -152,19 +153,16 @@ head_ties true before start [] [] e h left go = begun_ties _ _ refl refl refl h 
 head_ties false before start [] [] e h left go = begun_ties _ _ refl refl refl h no_plain_head left go
 head_ties is_first before start [] (b ∷ es) e h left go = absurd cc
 head_ties is_first before start (a ∷ ds) [] e h left go = absurd cc
-head_ties true before start (a ∷ ds) (b ∷ es) e h left go = begun_ties _ _ refl refl refl h (directive_heads ds es (ap other_words e)) left go where
-  other_words : List (List (List ℕ)) → List (List (List ℕ))
-  other_words [] = []
-  other_words (w ∷ ws) = ws
+head_ties true before start (a ∷ ds) (b ∷ es) e h left go = begun_ties _ _ refl refl refl h (directive_heads ds es (ap other_words e)) left go
 head_ties false before start (a ∷ ds) (b ∷ es) e h left go = begun_ties _ _ refl refl refl h (directive_heads (a ∷ ds) (b ∷ es) e) left go
 
 -- Documents.
 
-first_root : DocumentTree → List DocumentTree → Node
+abbrev first_root : DocumentTree → List DocumentTree → Node
 first_root other [] = other.root
 first_root other (w ∷ ws) = w.root
 
-other_trees : List DocumentTree → List DocumentTree
+abbrev other_trees : List DocumentTree → List DocumentTree
 other_trees [] = []
 other_trees (w ∷ ws) = ws
 

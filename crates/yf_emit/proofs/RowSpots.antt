@@ -72,11 +72,11 @@ last_start : {i j : ℕ} (ls : List Span) (s : Span) → Inside i j (starts_of (
 last_start [] s (one_inside l m a) = l
 last_start (x ∷ ls) s (one_inside l m a) = last_start ls s a
 
-end_or : ℕ → List Span → ℕ
+abbrev end_or : ℕ → List Span → ℕ
 end_or other [] = other
 end_or other (s ∷ ss) = s.end
 
-behind_first : List Span → List Span
+abbrev behind_first : List Span → List Span
 behind_first [] = []
 behind_first (s ∷ ss) = ss
 
@@ -93,7 +93,7 @@ last_end_of (later_end a) (x ∷ ls) s q = last_end_of a ls s (ap behind_first q
 
 -- The first comment.
 
-offset_or : List CommentValue → ℕ
+abbrev offset_or : List CommentValue → ℕ
 offset_or [] = 0
 offset_or (c ∷ cs) = c.offset
 
@@ -114,7 +114,7 @@ no_end_at_space b e = true≢false (sym white_space ∙ (ap is_white (sym e) ∙
 
 first_place : {t : List ℕ} {q j : ℕ} {own : List CommentValue} (x z : List ℕ) (o : CommentValue) (os : List CommentValue) → IsUtf8 t → IsRemark x → (LineStart t q → ⊥) → Rest t q (32 ∷ 32 ∷ (x ++ (10 ∷ z)))
     → LineEnd t q j own → own ≡ o ∷ os → o.offset ≡ q + 2
-first_place {t} {q} {j} x z o os u a n w (past_rest r c) e = go r e where
+first_place {t} {q} {j} x z o os u a n w (past_rest {y = ys} r c) e = go ys r e where
   space : code t q ≡ 32
   space = (rest_ascii 32 u (omega arith) (λ e. absurd (omega arith)) w).0.char
 
@@ -124,12 +124,12 @@ first_place {t} {q} {j} x z o os u a n w (past_rest r c) e = go r e where
   at_sign : {h : ℕ} {y : List ℕ} → Many t is_white q h y → is_white (code t h) ≡ false → h ≡ q + 2
   at_sign m f = (many_unique t is_white m f (spaces_whites 2 q (rest_spaces 2 q u w).0).1 (ap is_white sign ∙ hash_no_white)).0
 
-  go : {h : ℕ} {xs ys : List CommentValue} → LineRest t q h xs → xs ++ ys ≡ o ∷ os → o.offset ≡ q + 2
-  go (nothing b) f = absurd (no_end_at_space b space)
-  go (whites (at_start s) b) f = absurd (n s)
-  go (whites (by_whites m l) b) f = absurd (no_end_at_sign b (ap (code t) (at_sign m (end_white b)) ∙ sign))
-  go (comment (at_start s) k b) f = absurd (n s)
-  go (comment (by_whites m l) (comment_text v k noted) b) f = sym (ap offset_or f) ∙ at_sign m (ap is_white v ∙ hash_no_white)
+  go : {h : ℕ} {xs : List CommentValue} (ys : List CommentValue) → LineRest t q h xs → xs ++ ys ≡ o ∷ os → o.offset ≡ q + 2
+  go ys (nothing b) f = absurd (no_end_at_space b space)
+  go ys (whites (at_start s) b) f = absurd (n s)
+  go ys (whites (by_whites m l) b) f = absurd (no_end_at_sign b (ap (code t) (at_sign m (end_white b)) ∙ sign))
+  go ys (comment (at_start s) k b) f = absurd (n s)
+  go ys (comment (by_whites m l) (comment_text v k noted) b) f = sym (ap offset_or f) ∙ at_sign m (ap is_white v ∙ hash_no_white)
 first_place x z o os u a n w (from_start s c) e = absurd (n s)
 
 -- A row without lines of a scalar.
@@ -219,16 +219,16 @@ module _ {t : List ℕ} (u : IsUtf8 t) {x : Row} {p : PlacedRow} {i : ℕ} {own 
       };
     trailed = λ o os f some ls s g.
         let same : end ≡ s.end = last_end_of last ls s g in
-        let low : o.offset < start = near_first near (near_under rest) (λ v. some (sym is ∙ ap texts v)) (sym are ∙ f) in
+        let low : o.offset < start = near_first (first_noted b far) near (near_under rest) (λ v. some (sym is ∙ ap texts v)) (sym are ∙ f) in
         in_leaf (omega (arith, low, order, same));
   } where
     nothing_near : (near : List CommentValue) → texts near ≡ [] → near ≡ []
     nothing_near [] f = refl
     nothing_near (c ∷ cs) f = absurd cc
 
-    near_first : {o : CommentValue} {os rest : List CommentValue} (near : List CommentValue) → Under start near → (near ≡ [] → ⊥) → near ++ rest ≡ o ∷ os → o.offset < start
-    near_first [] a n f = absurd (n refl)
-    near_first {o = o} (c ∷ cs) (each_more l a) n f = let same : c.offset ≡ o.offset = ap offset_or f in omega (arith, l, same)
+    near_first : {o : CommentValue} {os : List CommentValue} (rest near : List CommentValue) → Under start near → (near ≡ [] → ⊥) → near ++ rest ≡ o ∷ os → o.offset < start
+    near_first rest [] a n f = absurd (n refl)
+    near_first {o = o} rest (c ∷ cs) (each_more l a) n f = let same : c.offset ≡ o.offset = ap offset_or f in omega (arith, l, same)
 
   pub spot_of : Spot t d p own place
   spot_of = go e.tail where

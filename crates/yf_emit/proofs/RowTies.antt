@@ -92,11 +92,11 @@ no_blank_remarks false = refl
 pub bare_gap : (e : Ending) (column : ℕ) (hs : List CommentValue) (b : Bool) → hs ≡ [] → remarks_of (gap_with e column hs b) ≡ []
 bare_gap e column hs b f = ap (λ z. remarks_of (gap_with e column z b)) f ∙ no_blank_remarks (may_be_blank_behind e && b)
 
-pub first_shape : RowShape → List RowShape → RowShape
+abbrev pub first_shape : RowShape → List RowShape → RowShape
 first_shape other [] = other
 first_shape other (s ∷ ss) = s
 
-pub other_shapes : List RowShape → List RowShape
+abbrev pub other_shapes : List RowShape → List RowShape
 other_shapes [] = []
 other_shapes (s ∷ ss) = ss
 

@@ -31,7 +31,7 @@ use Rattle.yf_emit.proofs.StepsStand.{starts_of, starts_append}
 use Rattle.yf_emit.proofs.TrailAgain.{LaidRow, row_trail_tied, sub_inside}
 use Rattle.yf_emit.proofs.TrailChoice.{rising}
 
-offset_or : List CommentValue → ℕ
+abbrev offset_or : List CommentValue → ℕ
 offset_or [] = 0
 offset_or (c ∷ cs) = c.offset
 
