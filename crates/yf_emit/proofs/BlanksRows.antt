@@ -107,13 +107,13 @@ ends_over (row_before {x = x} {y = next} {xs = xs} at end w more) (note_kept {y 
     let m = at.order in
     let n = ascend_order end.ascend in
     ends_over more rest others (omega (arith, l, m, n))
-ends_over (row_before {x = x} {y = next} {xs = xs} at end w more) (note_moved {y = y} {ys = ys} h some last rest) s l =
+ends_over {f = f} (row_before {x = x} {y = next} {xs = xs} at end w more) (note_moved {g = e} {y = y} {ys = ys} h some last rest) s l =
     let same : shape_of x ≡ shape_of y = cc in
     let others : shapes (next ∷ xs) ≡ shapes ys = cc in
     let m = at.order in
     let n = ascend_order end.ascend in
     let k = moved_after {x = x} y at end same some last in
-    (omega (arith, l, k), ends_over more rest others (omega (arith, l, m, n)))
+    (omega (arith, l, k), ends_over {f = e} more rest others (omega (arith, l, m, n)))
 
 -- One row.
 

@@ -83,12 +83,12 @@ pub documents_noted : {t : List ℕ} {c : Setting} {f : ℕ} {is_first : Bool} {
     → map bare_tree zs ≡ map bare_tree ys → FoundTrees c.style c.comments t cs ds xs es ys → FitDocuments ds xs → (rest : List Placed) → AllNoted t f (flat_map flat_document ys ++ rest)
     → NotesMade t f ps (stream_rows c is_first ds xs) (stream_rows (setting c.style cs) is_first es ys) (flat_map flat_document ys) rest
 documents_noted cs [] no_roots e none_found fit_no_documents rest n = record { ends = []; rows = no_row_notes; notes = n; at = λ o z. refl }
-documents_noted {t} {c} {f} cs (y ∷ ys) (one_root {z = z} {zs = zs} heads h alike r others) e (one_found words a undisturbed more) (fit_document directives fit fits) rest n =
+documents_noted {t} {c} {f} {is_first} cs (y ∷ ys) (one_root {z = z} {zs = zs} heads h alike r others) e (one_found {d = d} {e = b} {x = x} words a undisturbed more) (fit_document directives fit fits) rest n =
     let root : bare z.root ≡ bare y.root = ap (λ w. (first_root (bare_tree z) w).root) e in
     let trees : map bare_tree zs ≡ map bare_tree ys = ap other_trees e in
     let last : List Placed = unplaced (document_ends y.closed) ∷ [] in
     let here : AllNoted t f (flat_document y ++ (flat_map flat_document ys ++ rest)) = regrouped t f (flat_document y) (flat_map flat_document ys) rest n in
     let inner = node_notes cs (root_spot c.style) (root_spot c.style) refl refl a (rows_renoted y.root root r) fit (last ++ (flat_map flat_document ys ++ rest))
     (regrouped t f (flat y.root) last (flat_map flat_document ys ++ rest) here.1) in
-    let one = document_made cs heads words h inner in
+    let one = document_made {is_first = is_first} {d = d} {b = b} {x = x} {y = y} cs heads words h inner in
     both_made one (documents_noted cs ys others trees more fits rest one.notes)
