@@ -278,23 +278,23 @@ scalar_steps : (row : Row) (ds : List Deco) → leaf_steps row.leaves ≡ a_leaf
 scalar_steps row ds e =
     ap (λ z. a_leaf ∷ z) (sym (append-nil (comment_steps (carried_texts (first ds))))) ∙ ap (λ z. z ++ (comment_steps (carried_texts (first ds)) ++ [])) (sym e)
 
+notes_of : {t : List ℕ} {n : ℤ} (s : Setting) (style : ScalarStyle) (text : List ℕ) (lines : List (List ℕ)) (spot : Spot) (ds : List Deco) (r : List ℕ) (q : ℕ) → IsUtf8 t → AreDecos ds
+    → (made : ScalarMade t n (header_of style s.style.indent text) (content_lines style text lines) (final_feeds text - 1) ((first ds).trails ++ remarks_of (first ds).gap) q r (body_then (block_lines style spot.lines text lines) (gap_then (first ds).gap r))
+    (end_then (first ds) (block_lines style spot.lines text lines) r))
+    → Rest t q (header_text style s.style.indent text ++ end_then (first ds) (block_lines style spot.lines text lines) r) → HeaderNotes t q made.reached.start made.reached.header.comments (first ds).trails
+notes_of s style text lines spot ds r q u a made w =
+    header_notes (header_text style s.style.indent text) (first ds) (block_lines style spot.lines text lines) r u (header_line style s.style.indent text s.style.indent_to) (header_signs style s.style.indent text s.style.indent_to)
+    (some_bytes (header_text style s.style.indent text) (header_some style s.style.indent text)) (first_deco a) w made.reached.head
+
+tail_of : {t : List ℕ} {n : ℤ} (s : Setting) {style : ScalarStyle} {text : List ℕ} {lines : List (List ℕ)} (f : FitScalar style text lines) (spot : Spot) (ds : List Deco) (r : List ℕ) (q : ℕ) → IsUtf8 t → 0 < spot.lines
+    → (made : ScalarMade t n (header_of style s.style.indent text) (content_lines style text lines) (final_feeds text - 1) ((first ds).trails ++ remarks_of (first ds).gap) q r (body_then (block_lines style spot.lines text lines) (gap_then (first ds).gap r))
+    (end_then (first ds) (block_lines style spot.lines text lines) r))
+    → HeaderNotes t q made.reached.start made.reached.header.comments (first ds).trails → ScalarTail t (first ds) q made.reached.node.meaning.finish made.reached.node.place made.reached.node.meaning.comments
+tail_of s {style} {text} {lines} f spot ds r q u deep made notes =
+    scalar_tail style text lines s.style.indent spot.lines (first ds) u (body_some spot.lines (final_feeds text - 1) (content_lines style text lines) f.last)
+    (body_texts spot.lines (final_feeds text - 1) (content_lines style text lines) deep f.texts) made.reached made.passed notes
+
 module _ {s : Setting} {at : Standing} {style : ScalarStyle} {text : List ℕ} {lines : List (List ℕ)} (placed_at : is_some at.span ≡ true) (f : FitScalar style text lines) where
-  notes_of : {t : List ℕ} {n : ℤ} (spot : Spot) (ds : List Deco) (r : List ℕ) (q : ℕ) → IsUtf8 t → AreDecos ds
-      → (made : ScalarMade t n (header_of style s.style.indent text) (content_lines style text lines) (final_feeds text - 1) ((first ds).trails ++ remarks_of (first ds).gap) q r (body_then (block_lines style spot.lines text lines) (gap_then (first ds).gap r))
-      (end_then (first ds) (block_lines style spot.lines text lines) r))
-      → Rest t q (header_text style s.style.indent text ++ end_then (first ds) (block_lines style spot.lines text lines) r) → HeaderNotes t q made.reached.start made.reached.header.comments (first ds).trails
-  notes_of spot ds r q u a made w =
-      header_notes (header_text style s.style.indent text) (first ds) (block_lines style spot.lines text lines) r u (header_line style s.style.indent text s.style.indent_to) (header_signs style s.style.indent text s.style.indent_to)
-      (some_bytes (header_text style s.style.indent text) (header_some style s.style.indent text)) (first_deco a) w made.reached.head
-
-  tail_of : {t : List ℕ} {n : ℤ} (spot : Spot) (ds : List Deco) (r : List ℕ) (q : ℕ) → IsUtf8 t → 0 < spot.lines
-      → (made : ScalarMade t n (header_of style s.style.indent text) (content_lines style text lines) (final_feeds text - 1) ((first ds).trails ++ remarks_of (first ds).gap) q r (body_then (block_lines style spot.lines text lines) (gap_then (first ds).gap r))
-      (end_then (first ds) (block_lines style spot.lines text lines) r))
-      → HeaderNotes t q made.reached.start made.reached.header.comments (first ds).trails → ScalarTail t (first ds) q made.reached.node.meaning.finish made.reached.node.place made.reached.node.meaning.comments
-  tail_of spot ds r q u deep made notes =
-      scalar_tail style text lines s.style.indent spot.lines (first ds) u (body_some spot.lines (final_feeds text - 1) (content_lines style text lines) f.last)
-      (body_texts spot.lines (final_feeds text - 1) (content_lines style text lines) deep f.texts) made.reached made.passed notes
-
   bare_made : {t : List ℕ} (row : Row) (spot : Spot) (n : ℤ) (c : Ctx) (ds : List Deco) (r : List ℕ) (q : ℕ) → row.text ≡ header_text style s.style.indent text → row.body ≡ block_lines style spot.lines text lines
       → row.lines ≡ spot.lines → leaf_steps row.leaves ≡ a_leaf ∷ [] → is_some row.key_comment ≡ false → IsUtf8 t → Stood s (scalar at no_props style text lines) n c spot → AreDecos ds → CalmBody (block_lines style spot.lines text lines) spot.lines (tail_ending (is_kept_tail (final_feeds text))) (first ds).gap r
       → Rest t q (inline_then (row ∷ []) ds r) → NodeMade t s n c spot.entries (scalar at no_props style text lines) (row ∷ []) ds q r
@@ -306,8 +306,8 @@ module _ {s : Setting} {at : Standing} {style : ScalarStyle} {text : List ℕ} {
       let text_end = rest_text (header_text style s.style.indent text) u (header_line style s.style.indent text s.style.indent_to) there in
       let deep : 0 < spot.lines = above_zero n stood.lines in
       let begun = end_start (first ds) r u (first_deco a) (body_texts spot.lines (final_feeds text - 1) (content_lines style text lines) deep f.texts) text_end.rest in
-      let notes = notes_of spot ds r q u a made there in
-      let tail = tail_of spot ds r q u deep made notes in
+      let notes = notes_of s style text lines spot ds r q u a made there in
+      let tail = tail_of s f spot ds r q u deep made notes in
       let later = tail.later in
       record {
         height = 0;
@@ -354,8 +354,8 @@ module _ {s : Setting} {at : Standing} {style : ScalarStyle} {text : List ℕ} {
       let text_end = rest_text (header_text style s.style.indent text) u (header_line style s.style.indent text s.style.indent_to) before.rest in
       let deep : 0 < spot.lines = above_zero n stood.lines in
       let begun = end_start (first ds) r u (first_deco a) (body_texts spot.lines (final_feeds text - 1) (content_lines style text lines) deep f.texts) text_end.rest in
-      let notes = notes_of spot ds r i u a made before.rest in
-      let tail = tail_of spot ds r i u deep made notes in
+      let notes = notes_of s style text lines spot ds r i u a made before.rest in
+      let tail = tail_of s f spot ds r i u deep made notes in
       let later = tail.later in
       let from = tail.from in
       let o : Option ℕ = tag_offset_at q p.anchor p.tag in
