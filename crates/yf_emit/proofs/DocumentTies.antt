@@ -128,10 +128,10 @@ plain_ties (more_heads a h) (a_plain_head unmarked items unleaved unkeyed b) lef
 -- the first of them, with the item of the document, and the others
 begun_ties : {cs : List CommentValue} {start n j : ℕ} (x row : Row) {xs found ys others : List Row} {ps qs : List PlacedRow} → row.items ≡ start ∷ [] → row.leaves ≡ [] → row.key_comment ≡ None → HeadRows start n ps → PlainHeads n xs found
     → Left cs j (x ∷ (xs ++ ys)) (row ∷ (found ++ others)) (ps ++ qs) → (Left cs j ys others qs → Ties cs ys others qs) → Ties cs (x ∷ (xs ++ ys)) (row ∷ (found ++ others)) (ps ++ qs)
-begun_ties {start = start} {ys = ys} {others = others} {qs = qs} x row items none key (mark_head a f) no_plain_head left go =
+begun_ties {start = start} x row {ys = ys} {others = others} {qs = qs} items none key (mark_head a f) no_plain_head left go =
     let free = free_to ys others qs (mark_head a f) none key no_plain_head left in
     a_tie (start_tie start items none a key free.from (λ b i l. let o = left_order left in free.free b i (omega (arith, o, l)))) (go (step left))
-begun_ties {start = start} {ys = ys} {others = others} {qs = qs} x row items none key (more_heads a h) b left go =
+begun_ties {start = start} x row {ys = ys} {others = others} {qs = qs} items none key (more_heads a h) b left go =
     let free = free_to ys others qs (more_heads a h) none key b left in
     a_tie (start_tie start items none a key free.from (λ v i l. let o = left_order left in free.free v i (omega (arith, o, l)))) (plain_ties h b (step left) go)
 

@@ -105,14 +105,14 @@ carried_again : {u : List ℕ} {es : List Placed} {q : Lists} (mc : Source) (own
     → texts befores ≡ remarks_of (gap_of at_text_start own xs) → NotedComments u es (befores ++ others) q.comments → (Left q.comments (length u) xs found ps → Ties q.comments xs found ps) → AllQuiet q.comments ps
     → BlanksFound q.comments (gap_of at_text_start own xs) (decos_of mc own xs) found ps line (length u) → CarriedSame q found (gap_of at_text_start own xs) (decos_of mc own xs)
 carried_again mc own [] [] befores others utf8 known same lines fit w (stream_in b rows) ascend told noted ties quiet blanks = elim rows [ ]
-carried_again {es = es} {q = q} mc own [] [] befores others utf8 known same lines fit w no_stream ascend told noted ties quiet blanks =
+carried_again {u} {es = es} {q = q} mc own [] [] befores others utf8 known same lines fit w no_stream ascend told noted ties quiet blanks =
     let all : remarks q [] ≡ q.comments = firsts q.comments q.on_leaf_line known.count in
     let parts = noted_parts befores noted in
     let same_texts : texts parts.one ≡ remarks_of (gap_of at_text_start own []) = noted_texts parts.first ∙ told in
     let none : parts.two ≡ [] = nothing parts.second in
     alone_same q parts.one own (all ∙ (parts.are ∙ (ap (λ z. parts.one ++ z) none ∙ append-nil parts.one))) (noted_upward (upward_of ascend) parts.first) (gap_at_end at_text_start own)
     (blanks.first parts.one parts.two parts.are same_texts) where
-      nothing : {ys : List CommentValue} → NotedComments _ _ [] ys → ys ≡ []
+      nothing : {ys : List CommentValue} → NotedComments u es [] ys → ys ≡ []
       nothing no_comment = refl
 carried_again mc own [] (row ∷ found) befores others utf8 known same lines fit w rows ascend told noted ties quiet blanks = absurd cc
 carried_again mc own (x ∷ xs) [] befores others utf8 known same lines fit w rows ascend told noted ties quiet blanks = absurd cc

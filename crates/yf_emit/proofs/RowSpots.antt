@@ -125,7 +125,7 @@ first_place {t} {q} {j} x z o os u a n w (past_rest {y = ys} r c) e = go ys r e 
   at_sign m f = (many_unique t is_white m f (spaces_whites 2 q (rest_spaces 2 q u w).0).1 (ap is_white sign ∙ hash_no_white)).0
 
   texted : {h j : ℕ} {w : List ℕ} {xs : List CommentValue} (ys : List CommentValue) → Many t is_white q h w → CommentText t h j xs → xs ++ ys ≡ o ∷ os → o.offset ≡ q + 2
-  texted ys m (comment_text v k noted) f = sym (ap offset_or f) ∙ at_sign m (ap is_white v ∙ hash_no_white)
+  texted ys m (comment_text v k note) f = sym (ap offset_or f) ∙ at_sign m (ap is_white v ∙ hash_no_white)
 
   go : {h : ℕ} {xs : List CommentValue} (ys : List CommentValue) → LineRest t q h xs → xs ++ ys ≡ o ∷ os → o.offset ≡ q + 2
   go ys (nothing b) f = absurd (no_end_at_space b space)

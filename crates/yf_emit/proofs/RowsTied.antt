@@ -67,17 +67,17 @@ leaves_from n l (a_tie {row = row} {rows = rows} tie ties) (row_owns f m k up u 
 module _ {t : List ℕ} (lines : List Line) (are_lines : AreLines t lines) (c : Source) (cs : List CommentValue) (remarks : c.remarks ≡ zip cs (leaf_lines lines c.leaves cs))
     (sign : (d : CommentValue) → In d cs → code t d.offset ≡ 35) (up : rising c.leaves ≡ true) (unsigned : Unsigned t (starts_of c.leaves)) where
   -- what trails a row that a comment trails at its key
-  key_trails : {row : Row} {rows : List Row} (k : CommentValue) → row.key_comment ≡ Some k → trailing c row ≡ k ∷ flat_map (trail_of c) row.leaves
-  key_trails {row} k e = ap (λ o. option_to_list o ++ flat_map (trail_of c) row.leaves) e
+  key_trails : (row : Row) (k : CommentValue) → row.key_comment ≡ Some k → trailing c row ≡ k ∷ flat_map (trail_of c) row.leaves
+  key_trails row k e = ap (λ o. option_to_list o ++ flat_map (trail_of c) row.leaves) e
 
   -- it stands after an item on the row, and no other comment between
-  key_stands : {x row : Row} {rows : List Row} {p : PlacedRow} {P : ℕ → Type 0} (k : CommentValue) → row.key_comment ≡ Some k → Tie cs x row p → Inside p.from p.upto p.items → RowTrail c cs row rows
+  key_stands : {x row : Row} {rows : List Row} {p : PlacedRow} (P : ℕ → Type 0) (k : CommentValue) → row.key_comment ≡ Some k → Tie cs x row p → Inside p.from p.upto p.items → RowTrail c cs row rows
       → ((a : ℕ) → p.from ≤ a → a ≤ p.upto → a < k.offset → ((d : CommentValue) → In d cs → d.offset < k.offset → d.offset < a) → P k.offset) → P k.offset
-  key_stands k e (start_tie s a b d none f g) inside trail go = absurd (no_option (sym none ∙ e))
-  key_stands k e (head_tie a b d f none) inside trail go = absurd (no_option (sym none ∙ e))
-  key_stands {row = row} {rows = rows} k e (node_tie items leaves bare) inside (untrailed q) go = absurd (no_comments (sym (key_trails {rows = rows} k e) ∙ q))
-  key_stands {row = row} {rows = rows} {p = p} {P = P} k e (node_tie items leaves bare) inside (trailed_after d a q i s l f g h m n near) go =
-      let same : d.offset ≡ k.offset = ap offset_or (sym q ∙ key_trails {rows = rows} k e) in
+  key_stands P k e (start_tie s a b d none f g) inside trail go = absurd (no_option (sym none ∙ e))
+  key_stands P k e (head_tie a b d f none) inside trail go = absurd (no_option (sym none ∙ e))
+  key_stands {row = row} P k e (node_tie items leaves bare) inside (untrailed q) go = absurd (no_comments (sym (key_trails row k e) ∙ q))
+  key_stands {row = row} {p = p} P k e (node_tie items leaves bare) inside (trailed_after d a q i s l f g h m n near) go =
+      let same : d.offset ≡ k.offset = ap offset_or (sym q ∙ key_trails row k e) in
       let bounds = sub_inside s (subst (λ z. Inside p.from p.upto z) (sym items) inside) in
       go a bounds.0 bounds.1 (omega (arith, l, same)) (λ v j w. f v j (omega (arith, w, same)))
 
@@ -85,15 +85,15 @@ module _ {t : List ℕ} (lines : List Line) (are_lines : AreLines t lines) (c : 
       → Over n (option_to_list row.key_comment)
   key_over n l None e tie inside trail = subst (λ z. Over n (option_to_list z)) (sym e) each_none
   key_over n l (Some k) e tie inside trail =
-      subst (λ z. Over n (option_to_list z)) (sym e) (each_more (key_stands {P = λ z. n ≤ z} k e tie inside trail (λ a low high after first. omega (arith, l, low, after))) each_none)
+      subst (λ z. Over n (option_to_list z)) (sym e) (each_more (key_stands (λ z. n ≤ z) k e tie inside trail (λ a low high after first. omega (arith, l, low, after))) each_none)
 
   -- and before the first of the comments after the row
   key_under : {x row : Row} {rows : List Row} {p : PlacedRow} {d : Deco} {place : ℕ} (own : List CommentValue) → ((b : CommentValue) → In b own → In b cs) → Over p.upto own → Under place own → texts own ≡ carried_texts d → LaidRow d row
       → (o : Option CommentValue) → row.key_comment ≡ o → Tie cs x row p → Inside p.from p.upto p.items → RowTrail c cs row rows → Under place (option_to_list row.key_comment)
   key_under {place = place} own among over under is laid None e tie inside trail = subst (λ z. Under place (option_to_list z)) (sym e) each_none
-  key_under {row = row} {d = d} {place = place} own among over under is laid (Some k) e tie inside trail =
-      subst (λ z. Under place (option_to_list z)) (sym e) (each_more (key_stands {P = λ z. z < place} k e tie inside trail (λ a low high after first. by own d.trails refl among over under is a high first)) each_none) where
-        by : (os : List CommentValue) (xs : List (List ℕ)) → d.trails ≡ xs → ((b : CommentValue) → In b os → In b cs) → Over _ os → Under place os → texts os ≡ carried_texts d → (a : ℕ) → a ≤ _
+  key_under {row = row} {p = p} {d = d} {place = place} own among over under is laid (Some k) e tie inside trail =
+      subst (λ z. Under place (option_to_list z)) (sym e) (each_more (key_stands (λ z. z < place) k e tie inside trail (λ a low high after first. by own d.trails refl among over under is a high first)) each_none) where
+        by : (os : List CommentValue) (xs : List (List ℕ)) → d.trails ≡ xs → ((b : CommentValue) → In b os → In b cs) → Over p.upto os → Under place os → texts os ≡ carried_texts d → (a : ℕ) → a ≤ p.upto
             → ((v : CommentValue) → In v cs → v.offset < k.offset → v.offset < a) → k.offset < place
         by os [] f g m n w a high first = absurd (no_option (sym (laid.keyless f) ∙ e))
         by [] (x ∷ xs) f g m n w a high first = absurd (no_texts (w ∙ ap (λ z. z ++ remarks_of d.gap) f))
@@ -142,13 +142,13 @@ module _ {t : List ℕ} (lines : List Line) (are_lines : AreLines t lines) (c : 
   pub tied_rows : {xs rows : List Row} {ps : List PlacedRow} {ds : List Deco} {i j it : ℕ} {owns : List (List CommentValue)} (pre : List Span) (kb before : List CommentValue) → Ties cs xs rows ps → LaidRows xs rows ds → Owns ps ds i owns j
       → Spots t ps ds owns → Upright c cs it rows → AllQuiet cs ps → AllBlanks rows ds owns → c.leaves ≡ pre ++ leaves_on rows → c.key_comments ≡ kb ++ keys_of rows → Under i kb → Under i before → cs ≡ before ++ all_of owns
       → Tied c cs rows ps ds owns
-  tied_rows pre kb before no_ties laid own spots upright quiet blanks all keys kbs early are = elim own [ ]
-  tied_rows pre kb before (a_tie tie no_ties) (last_laid hs laid gap) (row_owns f l m over under is n more) spots upright quiet blanks all keys kbs early are = elim more [ ]
-  tied_rows pre kb before (a_tie tie no_ties) (last_laid hs laid gap) (last_owns {p = p} f l m over under is) (last_spot spot) (an_upright first later fits trail more) (quiet_row q quiet) (last_blanks blanks) all keys kbs early are =
+  tied_rows pre kb before no_ties laid own spots rising_rows quiet notes all keys kbs early are = elim own [ ]
+  tied_rows pre kb before (a_tie tie no_ties) (last_laid hs laid gap) (row_owns f l m over under is n more) spots rising_rows quiet notes all keys kbs early are = elim more [ ]
+  tied_rows pre kb before (a_tie tie no_ties) (last_laid hs laid gap) (last_owns {p = p} f l m over under is) (last_spot spot) (an_upright first later fits trail more) (quiet_row q quiet) (last_blanks here_noted) all keys kbs early are =
       last_tied hs (one_tied pre kb before [] [] tie laid spot q trail all none_later keys (subst (λ z. Under z kb) (sym f) kbs) each_none are (subst (λ z. Under z before) (sym f) early) (upward_over p.upto (omega arith) over)
-      under each_none (omega (arith, f, l)) is) gap blanks
+      under each_none (omega (arith, f, l)) is) gap here_noted
   tied_rows pre kb before (a_tie {row = row} tie (a_tie {row = next} next_tie ties)) (row_laid hs b laid gap bare others) (row_owns {p = p} {k = k} {l = low} {own = own} {owns = owns} f l m over under is n more)
-      (row_spot {o = o} {k = place} spot near spots) (an_upright first later fits trail upright) (quiet_row q quiet) (row_blanks blanks more_blanks) all keys kbs early are =
+      (row_spot {o = o} {k = place} spot near spots) (an_upright first later fits trail others_rise) (quiet_row q quiet) (row_blanks here_noted more_noted) all keys kbs early are =
       let from : o.from ≡ low = first_from more in
       let here : Under o.from own = under_wider (omega (arith, n, from)) under in
       let ahead : Over p.upto own = upward_over p.upto (omega arith) over in
@@ -156,8 +156,8 @@ module _ {t : List ℕ} (lines : List Line) (are_lines : AreLines t lines) (c : 
       key_under own (among_own before own (all_of owns) are) ahead (subst (λ z. Under z own) from here) is laid row.key_comment refl tie spot.items trail in
       row_tied hs b
       (one_tied pre kb before (all_of owns) (keys_of _) tie laid spot q trail all (leaves_from o.from (omega (arith, from)) (a_tie next_tie ties) more spots) keys (subst (λ z. Under z kb) (sym f) kbs)
-      (keys_over o.from (omega (arith, from)) (a_tie next_tie ties) more spots upright) are (subst (λ z. Under z before) (sym f) early) ahead here (upward_over place (omega (arith, near, from)) (owns_upward more)) (omega (arith, f, l)) is)
-      gap blanks (next_tied next_tie (spot_first spots) bare)
-      (tied_rows (pre ++ row.leaves) (kb ++ option_to_list row.key_comment) (before ++ own) (a_tie next_tie ties) others more spots upright quiet more_blanks (all ∙ sym (append_assoc pre row.leaves _))
+      (keys_over o.from (omega (arith, from)) (a_tie next_tie ties) more spots others_rise) are (subst (λ z. Under z before) (sym f) early) ahead here (upward_over place (omega (arith, near, from)) (owns_upward more)) (omega (arith, f, l)) is)
+      gap here_noted (next_tied next_tie (spot_first spots) bare)
+      (tied_rows (pre ++ row.leaves) (kb ++ option_to_list row.key_comment) (before ++ own) (a_tie next_tie ties) others more spots others_rise quiet more_noted (all ∙ sym (append_assoc pre row.leaves _))
       (keys ∙ sym (append_assoc kb (option_to_list row.key_comment) _)) (each_join (under_wider (omega (arith, l, m, n)) kbs) key) (each_join (under_wider (omega (arith, l, m, n)) early) (under_wider n under))
       (are ∙ sym (append_assoc before own (all_of owns))))
