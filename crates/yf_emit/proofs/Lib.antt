@@ -185,6 +185,7 @@ pub mod HeldLemmas
 pub mod SetNodes
 pub mod SetMeant
 pub mod SetStreams
+pub mod ScalarBytes
 pub mod ScalarHeld
 pub mod ScalarTails
 pub mod DirectiveEnds

@@ -1,6 +1,6 @@
 -- A literal or folded scalar from its row: its header, its lines and what it carries.
 use Rattle.std.proofs.Common.{◌≡◌, ◌≢◌, ℕ, zero, suc, ◌+◌, ◌-◌, ◌<◌, ◌≤◌, ◌⊎◌, ℤ, pos, Bool, true, false, true≢false, List, [], ◌∷◌, ◌++◌, length, map, replicate, Option, Some, None, refl, sym, ap, ◌∙◌, subst, arith, append_assoc, append-nil, ⊎_elim}
-use Rattle.std.specs.Prelude.{◌+ℤ◌, is_some, if◌then◌else◌}
+use Rattle.std.specs.Prelude.{◌+ℤ◌, is_some}
 use Rattle.std.specs.Str.{IsUtf8}
 use Rattle.std.proofs.lemmas.Bool.{cases_Bool}
 use Rattle.yf_chars.specs.declared.context.Ctx.{Ctx}
@@ -13,7 +13,7 @@ use Rattle.yf_comments.specs.GapLines.{AllLeft, remarks_of}
 use Rattle.yf_comments.proofs.GapLinesLemmas.{gap_at}
 use Rattle.yf_block_scalar.specs.Body.{base}
 use Rattle.yf_block_scalar.specs.Content.{feeds}
-use Rattle.yf_block_scalar.specs.Placed.{lines_then as scalar_lines, trail_then, IsTrail, trail_texts, Below, KeptGap, scalar_then}
+use Rattle.yf_block_scalar.specs.Placed.{lines_then as scalar_lines, trail_then, Below, KeptGap, scalar_then}
 use Rattle.yf_block_scalar.specs.Written.{style_bytes, digit_bytes, sign_bytes, AreLineTexts, EndsWithContent, StartsUnspaced}
 use Rattle.yf_block_scalar.specs.declared.header.Chomp.TheVariants.{Keep}
 use Rattle.yf_block_scalar.specs.declared.header.Header.{Header}
@@ -32,8 +32,8 @@ use Rattle.yf_grammar.proofs.FlowBack.{visible_line}
 use Rattle.yf_grammar.proofs.LeafBack.{behind_nothing, propertied}
 use Rattle.yf_grammar.proofs.MeantLemmas.{texts_with_props}
 use Rattle.yf_emit.specs.BlockLines.{begins_with_space, block_lines, chomping_sign, content_lines, digit_text, final_feeds, header_text, is_kept_tail, line_at, style_sign}
-use Rattle.yf_emit.specs.BlockValues.{is_folded, chomp_of, digit_of, header_of}
-use Rattle.yf_emit.specs.Carried.{AreTrails, IsDeco, AreDecos, carried_texts, CalmBody}
+use Rattle.yf_emit.specs.BlockValues.{chomp_of, digit_of, header_of}
+use Rattle.yf_emit.specs.Carried.{IsDeco, AreDecos, carried_texts, CalmBody}
 use Rattle.yf_emit.specs.Decorated.{GapLine, gap_then, Deco, first, trails_then, body_then, end_then, inline_then}
 use Rattle.yf_emit.specs.Fits.{FitScalar, FitProps, no_fit_props, some_fit_props, is_block_style, Unmarked}
 use Rattle.yf_emit.specs.Layout.{may_be_blank_behind}
@@ -41,7 +41,6 @@ use Rattle.yf_emit.specs.Normal.{Setting, Spot}
 use Rattle.yf_emit.specs.OneLine.{spaced, props_text}
 use Rattle.yf_emit.specs.Rows.{begins_below, Row, Ending, block_scalar, tail_ending, is_empty_text, rows}
 use Rattle.yf_emit.specs.Steps.{a_leaf, leaf_steps, comment_steps, steps_in}
-use Rattle.yf_emit.proofs.BlockTexts.{style_written, digit_written, sign_written, line_written}
 use Rattle.yf_emit.proofs.ClearRows.{unmarked_first, unmarked_nothing, line_indented, AreBodyTexts, no_body_text, body_text, place_of_rest}
 use Rattle.yf_emit.proofs.CollectionsMade.{same_props, some_props}
 use Rattle.yf_emit.proofs.HeldLemmas.{held_scalar}
@@ -57,46 +56,7 @@ use Rattle.yf_emit.proofs.ScalarStands.{ScalarMade, bare_scalar, props_scalar}
 use Rattle.yf_emit.proofs.ScalarTails.{ScalarTail, scalar_tail}
 use Rattle.yf_emit.proofs.StepsStand.{MeaningLaid, laid_scalar, laid_scalar_with}
 use Rattle.yf_emit.proofs.WellSet.{AllSet}
-
--- The bytes are those of yf_block_scalar.
-
-header_bytes_are : (style : ScalarStyle) (indent : ℕ) (text : List ℕ) (r : List ℕ)
-    → header_text style indent text ++ r ≡ style_bytes (is_folded style) ++ (digit_bytes (digit_of indent text) indent ++ (sign_bytes (chomp_of (final_feeds text)) ++ r))
-header_bytes_are style indent text r =
-    append_assoc (style_sign style) (digit_text indent text ++ chomping_sign (final_feeds text)) r
-    ∙ (ap (λ z. style_sign style ++ z) (append_assoc (digit_text indent text) (chomping_sign (final_feeds text)) r)
-    ∙ (ap (λ z. z ++ (digit_text indent text ++ (chomping_sign (final_feeds text) ++ r))) (sym (style_written style))
-    ∙ (ap (λ z. style_bytes (is_folded style) ++ (z ++ (chomping_sign (final_feeds text) ++ r))) (sym (digit_written (begins_with_space text) indent))
-    ∙ ap (λ z. style_bytes (is_folded style) ++ (digit_bytes (digit_of indent text) indent ++ (z ++ r))) (sym (sign_written (final_feeds text))))))
-
-tail_are : (column n : ℕ) (r : List ℕ) → body_then (map (line_at column) (replicate n [])) r ≡ feeds n ++ r
-tail_are column zero r = refl
-tail_are column (suc n) r = ap (λ z. 10 ∷ z) (tail_are column n r)
-
-lines_are : (column : ℕ) (ls : List (List ℕ)) (n : ℕ) (r : List ℕ) → body_then (map (line_at column) (ls ++ replicate n [])) r ≡ scalar_lines column ls (feeds n ++ r)
-lines_are column [] n r = tail_are column n r
-lines_are column (x ∷ ls) n r =
-    ap (λ z. line_at column x ++ (10 ∷ z)) (lines_are column ls n r) ∙ ap (λ z. z ++ (10 ∷ scalar_lines column ls (feeds n ++ r))) (sym (line_written column x))
-
--- the comment that trails the header
-abbrev trail_of : List (List ℕ) → Option (List ℕ)
-trail_of [] = None
-trail_of (x ∷ xs) = Some x
-
-trail_is : (xs : List (List ℕ)) (r : List ℕ) → AreTrails xs → trails_then xs (10 ∷ r) ≡ trail_then (trail_of xs) r
-trail_is [] r a = refl
-trail_is (x ∷ []) r a = refl
-trail_is (x ∷ y ∷ zs) r a = absurd a
-
-trail_fits : (xs : List (List ℕ)) → AreTrails xs → IsTrail (trail_of xs)
-trail_fits [] a = tt
-trail_fits (x ∷ []) a = a
-trail_fits (x ∷ y ∷ zs) a = absurd a
-
-trail_comments : (xs : List (List ℕ)) → AreTrails xs → trail_texts (trail_of xs) ≡ xs
-trail_comments [] a = refl
-trail_comments (x ∷ []) a = refl
-trail_comments (x ∷ y ∷ zs) a = absurd a
+use Rattle.yf_emit.proofs.ScalarBytes.{header_bytes_are, lines_are, trail_of, trail_is, trail_fits, trail_comments}
 
 -- What follows it.
 
