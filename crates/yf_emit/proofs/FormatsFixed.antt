@@ -22,6 +22,7 @@ use Rattle.yf_emit.specs.Carried.{AreDecos}
 use Rattle.yf_emit.specs.Decorated.{Deco, decos_of, first_gap, gap_of, inline_then, lines_then, row_decos, rows_of}
 use Rattle.yf_emit.specs.Format.{Formats}
 use Rattle.yf_emit.specs.FoundTrees.{FoundSame, FoundTrees}
+use Rattle.yf_emit.specs.Laws.{IsUnchanged}
 use Rattle.yf_emit.specs.Layout.{Source, own_line_comments, precedes_item, source_of}
 use Rattle.yf_emit.specs.Normal.{normal_document, setting_of}
 use Rattle.yf_emit.specs.RowShapes.{RowShape, shape_of}
@@ -34,9 +35,10 @@ use Rattle.yf_emit.proofs.CommentsTold.{firsts}
 use Rattle.yf_emit.proofs.DocumentTies.{Barely, rows_barely, Left, none_left, some_left, stream_ties}
 use Rattle.yf_emit.proofs.DocumentTrails.{leaves_of}
 use Rattle.yf_emit.proofs.EntriesMade.{Begins, begins}
-use Rattle.yf_emit.proofs.FixedFormats.{roots_fixed}
+use Rattle.yf_emit.proofs.FixedFormats.{found_fixed, roots_fixed}
 use Rattle.yf_emit.proofs.FixedLawsHold.{FoundReading, found_reading}
 use Rattle.yf_emit.proofs.FixedRows.{found_rows}
+use Rattle.yf_emit.proofs.FormatLawsHold.{formats_accepted, formats_are_one}
 use Rattle.yf_emit.proofs.FormattedLines.{Formed, formed}
 use Rattle.yf_emit.proofs.FoundAgain.{Unsigned}
 use Rattle.yf_emit.proofs.FoundStreams.{StreamIn, no_stream, stream_in}
@@ -147,3 +149,14 @@ again_same {t} {u} {s} q utf8 f a w blanks =
     let carried = carried_again {es = q.events} (source_of m xs) (own_line_comments (source_of m xs) xs) xs (rows_of q s a.trees) w.laid.firsts w.laid.others form.utf8 (rows_known u s q form.utf8 a fixed)
     (found_rows true w.alike) form.rows form.decos w.laid.begin w.laid.placed w.laid.ascend w.laid.told noted (λ left. stream_ties a.trees w.roots w.same w.alike left) w.quiet blanks in
     record { of_reading = a.of_reading; alike = w.alike; gap = carried.gap_is; decos = carried.decos_are }
+
+-- So it is where those notes are right.
+pub fixed_where : (t u : List ℕ) (s : Style) → IsUtf8 t → (f : Formats t s u)
+    → ((q : Lists) (a : ReadingOf u q) (w : FoundReading f q a) → BlanksFound q.comments (first_gap f.normal (rows_of f.normal s f.writes.trees)) (row_decos f.normal (rows_of f.normal s f.writes.trees)) (rows_of q s a.trees)
+    w.laid.found_rows w.laid.line (length u)) → IsUnchanged s u
+fixed_where t u s utf8 f blanks =
+    let q : Lists = (formats_accepted t u s utf8 f).0 in
+    let a : ReadingOf u q = (formats_accepted t u s utf8 f).1 in
+    let w = found_reading t u s q utf8 f a in
+    let again : Formats u s u = found_fixed f q a.trees a (again_same q utf8 f a w (blanks q a w)) in
+    record { again = again; only = λ v g. formats_are_one u v u s g again }

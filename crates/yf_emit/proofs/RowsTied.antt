@@ -147,7 +147,7 @@ module _ {t : List ℕ} (lines : List Line) (are_lines : AreLines t lines) (c : 
   tied_rows pre kb before (a_tie tie no_ties) (last_laid hs laid gap) (last_owns {p = p} f l m over under is) (last_spot spot) (an_upright first later fits trail more) (quiet_row q quiet) (last_blanks here_noted) all keys kbs early are =
       last_tied hs (one_tied pre kb before [] [] tie laid spot q trail all none_later keys (subst (λ z. Under z kb) (sym f) kbs) each_none are (subst (λ z. Under z before) (sym f) early) (upward_over p.upto (omega arith) over)
       under each_none (omega (arith, f, l)) is) gap here_noted
-  tied_rows pre kb before (a_tie {row = row} tie (a_tie {row = next} next_tie ties)) (row_laid hs b laid gap bare others) (row_owns {p = p} {k = k} {l = low} {own = own} {owns = owns} f l m over under is n more)
+  tied_rows pre kb before (a_tie {row = row} tie (a_tie {row = next} next_tie ties)) (row_laid {rows = rows} hs b laid gap bare others) (row_owns {p = p} {k = k} {l = low} {own = own} {owns = owns} f l m over under is n more)
       (row_spot {o = o} {k = place} spot near spots) (an_upright first later fits trail others_rise) (quiet_row q quiet) (row_blanks here_noted more_noted) all keys kbs early are =
       let from : o.from ≡ low = first_from more in
       let here : Under o.from own = under_wider (omega (arith, n, from)) under in
@@ -155,9 +155,9 @@ module _ {t : List ℕ} (lines : List Line) (are_lines : AreLines t lines) (c : 
       let key : Under low (option_to_list row.key_comment) =
       key_under own (among_own before own (all_of owns) are) ahead (subst (λ z. Under z own) from here) is laid row.key_comment refl tie spot.items trail in
       row_tied hs b
-      (one_tied pre kb before (all_of owns) (keys_of _) tie laid spot q trail all (leaves_from o.from (omega (arith, from)) (a_tie next_tie ties) more spots) keys (subst (λ z. Under z kb) (sym f) kbs)
+      (one_tied pre kb before (all_of owns) (keys_of (next ∷ rows)) tie laid spot q trail all (leaves_from o.from (omega (arith, from)) (a_tie next_tie ties) more spots) keys (subst (λ z. Under z kb) (sym f) kbs)
       (keys_over o.from (omega (arith, from)) (a_tie next_tie ties) more spots others_rise) are (subst (λ z. Under z before) (sym f) early) ahead here (upward_over place (omega (arith, near, from)) (owns_upward more)) (omega (arith, f, l)) is)
       gap here_noted (next_tied next_tie (spot_first spots) bare)
-      (tied_rows (pre ++ row.leaves) (kb ++ option_to_list row.key_comment) (before ++ own) (a_tie next_tie ties) others more spots others_rise quiet more_noted (all ∙ sym (append_assoc pre row.leaves _))
-      (keys ∙ sym (append_assoc kb (option_to_list row.key_comment) _)) (each_join (under_wider (omega (arith, l, m, n)) kbs) key) (each_join (under_wider (omega (arith, l, m, n)) early) (under_wider n under))
+      (tied_rows (pre ++ row.leaves) (kb ++ option_to_list row.key_comment) (before ++ own) (a_tie next_tie ties) others more spots others_rise quiet more_noted (all ∙ sym (append_assoc pre row.leaves (leaves_on (next ∷ rows))))
+      (keys ∙ sym (append_assoc kb (option_to_list row.key_comment) (keys_of (next ∷ rows)))) (each_join (under_wider (omega (arith, l, m, n)) kbs) key) (each_join (under_wider (omega (arith, l, m, n)) early) (under_wider n under))
       (are ∙ sym (append_assoc before own (all_of owns))))
