@@ -96,7 +96,7 @@ first_again {u} {q} mc own x row xs found p ps {line} {end} {owns} known ones sa
     let all : remarks q (row ∷ found) ≡ q.comments = firsts q.comments q.on_leaf_line known.count in
     let tied : Tied c q.comments (row ∷ found) (p ∷ ps) (decos_of mc own (x ∷ xs)) owns =
     tied_rows known.lines known.are_lines c q.comments (ap (zip q.comments) known.leaf_notes) known.sign known.rises known.unsigned [] [] ones (a_tie tie ties) laid each spots known.upright quiet
-    (blanks.after ones owns are told) refl refl each_none under are in
+    (blanks.after ones owns are told each) refl refl each_none under are in
     let next : NextTied q.comments row p (before_text gap) = next_tied tie (spot_first spots) (λ f. bare_gap at_text_start x.column here x.blank_before (none_precedes x own f)) in
     carried_same q row found ones here x.blank_before (all ∙ are) up under told (ap (λ z. gap_with at_text_start z here x.blank_before) (ap (λ (z : RowShape). z.column) one)) (blanks.first ones (all_of owns) are told)
     (subst (λ z. NextTied z row p (before_text gap)) are next) each (subst (λ z. Tied c z (row ∷ found) (p ∷ ps) (decos_of mc own (x ∷ xs)) owns) are tied)
