@@ -125,7 +125,7 @@ carried_again {u} {es = es} {q = q} mc own (x ∷ xs) (row ∷ found) {ps = p �
     let start : Rest u line (inline_then (x ∷ xs) (decos_of mc own (x ∷ xs)) []) = subst (λ k. Rest u k (inline_then (x ∷ xs) (decos_of mc own (x ∷ xs)) [])) (omega (arith, column)) spaces.1 in
     let owned = rows_own utf8 (decos_beside mc own (x ∷ xs)) lines fit start rows in
     let parts = noted_parts befores noted in
-    let owns = owns_noted owned.each owned.spots (subst (λ z. NotedComments u _ z parts.two) owned.are parts.second) in
+    let owns = owns_noted owned.each owned.spots (subst (λ z. NotedComments u es z parts.two) owned.are parts.second) in
     let are : q.comments ≡ parts.one ++ all_of owns.owns = parts.are ∙ ap (λ z. parts.one ++ z) owns.are in
     let under : Under line parts.one = noted_under (ascend_under ascend) parts.first in
     let laid = laid_rows mc own (x ∷ xs) (row ∷ found) same fit in
