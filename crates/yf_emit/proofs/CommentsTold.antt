@@ -12,7 +12,7 @@ use Rattle.yf_emit.specs.Decorated.{first_gap, row_decos}
 use Rattle.yf_emit.specs.Layout.{Remark, source_of, trailing}
 use Rattle.yf_emit.specs.Rows.{Row, at_text_start}
 use Rattle.yf_emit.specs.Steps.{Step, comment_steps, steps_of, told}
-use Rattle.yf_emit.proofs.CommentsCut.{each_none, Upward, upward_none, upward_more, own_of, Flowing, flowing_over, cuts_made}
+use Rattle.yf_emit.proofs.CommentsCut.{each_none, Upward, own_of, Flowing, flowing_over, cuts_made}
 use Rattle.yf_emit.proofs.DocumentTrails.{leaves_of}
 use Rattle.yf_emit.proofs.PrintedSteps.{steps_of_leaves, steps_printed, trimmed_by, printed_steps, cuts_told}
 use Rattle.yf_emit.proofs.StartsBefore.{starts_before}

@@ -1,5 +1,5 @@
 -- The rows of the documents of a text that was laid out, as they were laid out, as they are found, and as they stand in the text.
-use Rattle.std.proofs.Common.{◌≡◌, ℕ, suc, ◌<◌, ◌≤◌, Bool, true, false, List, [], ◌∷◌, ◌++◌, length, map, Option, None, refl, sym, ap, ◌∙◌, subst, arith, append_assoc, append-nil, ⊎_elim}
+use Rattle.std.proofs.Common.{◌≡◌, ℕ, suc, ◌<◌, ◌≤◌, Bool, true, false, List, [], ◌∷◌, ◌++◌, length, map, None, refl, sym, ap, ◌∙◌, subst, arith, append_assoc, ⊎_elim}
 use Rattle.yf_comments.specs.Comment.{CommentValue}
 use Rattle.yf_comments.specs.GapLines.{remarks_of}
 use Rattle.yf_comments.proofs.GapLinesLemmas.{texts}
@@ -7,12 +7,10 @@ use Rattle.yf_events.specs.Tree.{Node, DocumentTree}
 use Rattle.yf_events.specs.declared.directive.Directive.{Directive}
 use Rattle.yf_events.specs.declared.document.Doc.{Doc}
 use Rattle.yf_emit.specs.declared.style.Style.{Style}
-use Rattle.yf_emit.specs.Carried.{carried_texts}
 use Rattle.yf_emit.specs.Decorated.{Deco}
 use Rattle.yf_emit.specs.FoundTrees.{FoundTrees, none_found, one_found, words_of}
-use Rattle.yf_emit.specs.Normal.{Setting, root_spot}
-use Rattle.yf_emit.specs.RowShapes.{RowShape, shape_of}
-use Rattle.yf_emit.specs.Rows.{Row, beginning_at, directive_row, document_rows, end_rows, rows, start_row, stream_rows}
+use Rattle.yf_emit.specs.Normal.{root_spot}
+use Rattle.yf_emit.specs.Rows.{Row, beginning_at, directive_row, end_rows, rows, start_row, stream_rows}
 use Rattle.yf_emit.proofs.AlikeLemmas.{setting, shapes}
 use Rattle.yf_emit.proofs.BareNodes.{bare, bare_tree}
 use Rattle.yf_emit.proofs.CarriedAgain.{Owns, last_owns, row_owns, all_of, first_from, owns_upward}
@@ -23,8 +21,8 @@ use Rattle.yf_emit.proofs.FoundTexts.{FoundRoots, no_roots, one_root}
 use Rattle.yf_emit.proofs.HeadRows.{HeadRows, mark_head, more_heads, heads_before}
 use Rattle.yf_emit.proofs.PlacedRows.{PlacedRow, RowsIn, last_row, row_before}
 use Rattle.yf_emit.proofs.RowsRenoted.{rows_renoted}
-use Rattle.yf_emit.proofs.RowTies.{Tie, node_tie, start_tie, head_tie, Ties, no_ties, a_tie, LaidRows, none_laid, last_laid, row_laid, first_shape, other_shapes}
-use Rattle.yf_emit.proofs.TrailAgain.{LaidRow, in_parts}
+use Rattle.yf_emit.proofs.RowTies.{node_tie, start_tie, head_tie, Ties, no_ties, a_tie, LaidRows, last_laid, row_laid, other_shapes}
+use Rattle.yf_emit.proofs.TrailAgain.{in_parts}
 
 -- a row without items was laid out without any
 pub data Barely : List Row → List PlacedRow → Type 0 where

@@ -1,5 +1,5 @@
 -- What formatting gives is its own formatting: the same rows are found in it, and each carries what it carried, where the notes on blank lines are right.
-use Rattle.std.proofs.Common.{◌≡◌, ℕ, true, false, List, [], ◌∷◌, ◌++◌, length, map, refl, sym, ap, ◌∙◌, subst, arith, append-nil}
+use Rattle.std.proofs.Common.{◌≡◌, ℕ, true, List, [], ◌∷◌, ◌++◌, length, map, refl, sym, ap, ◌∙◌, subst, arith, append-nil}
 use Rattle.std.specs.Prelude.{filter, zip}
 use Rattle.std.specs.Str.{IsUtf8}
 use Rattle.yf_chars.specs.Text.{code}
@@ -11,40 +11,37 @@ use Rattle.yf_comments.specs.Comment.{CommentValue}
 use Rattle.yf_comments.specs.GapLines.{GapLine, remarks_of}
 use Rattle.yf_comments.proofs.GapLinesLemmas.{texts}
 use Rattle.yf_events.specs.Event.{Placed}
-use Rattle.yf_events.specs.Tree.{DocumentTree, TreesOf}
-use Rattle.yf_events.specs.declared.document.Doc.{Doc}
 use Rattle.yf_events.specs.declared.lists.Lists.{Lists}
-use Rattle.yf_grammar.proofs.CommentOrder.{Ascend, ascend_order}
+use Rattle.yf_grammar.proofs.CommentOrder.{Ascend}
 use Rattle.yf_stream.specs.ReadingOf.{NotedComments, no_comment, ReadingOf, leaf_lines}
 use Rattle.yf_stream.specs.Stream.{Documents}
 use Rattle.yf_emit.specs.declared.style.Style.{Style}
 use Rattle.yf_emit.specs.Carried.{AreDecos}
-use Rattle.yf_emit.specs.Decorated.{Deco, decos_of, first_gap, gap_of, inline_then, lines_then, row_decos, rows_of}
+use Rattle.yf_emit.specs.Decorated.{decos_of, first_gap, gap_of, inline_then, lines_then, row_decos, rows_of}
 use Rattle.yf_emit.specs.Format.{Formats}
-use Rattle.yf_emit.specs.FoundTrees.{FoundSame, FoundTrees}
+use Rattle.yf_emit.specs.FoundTrees.{FoundSame}
 use Rattle.yf_emit.specs.Laws.{IsUnchanged}
 use Rattle.yf_emit.specs.Layout.{Source, own_line_comments, precedes_item, source_of}
 use Rattle.yf_emit.specs.Normal.{normal_document, setting_of}
 use Rattle.yf_emit.specs.RowShapes.{RowShape, shape_of}
 use Rattle.yf_emit.specs.Rows.{Row, at_text_start, stream_rows}
 use Rattle.yf_emit.proofs.AlikeLemmas.{shapes}
-use Rattle.yf_emit.proofs.AllBlanks.{AllBlanks, BlanksFound, first_blank}
-use Rattle.yf_emit.proofs.CarriedAgain.{NextTied, Owns, Tied, all_of, first_from}
+use Rattle.yf_emit.proofs.AllBlanks.{BlanksFound}
+use Rattle.yf_emit.proofs.CarriedAgain.{NextTied, Owns, Tied, all_of}
 use Rattle.yf_emit.proofs.CommentsCut.{In, Under, Upward, each_none, upward_of}
 use Rattle.yf_emit.proofs.CommentsTold.{firsts}
-use Rattle.yf_emit.proofs.DocumentTies.{Barely, rows_barely, Left, none_left, some_left, stream_ties}
-use Rattle.yf_emit.proofs.DocumentTrails.{leaves_of}
+use Rattle.yf_emit.proofs.DocumentTies.{rows_barely, Left, some_left, stream_ties}
 use Rattle.yf_emit.proofs.EntriesMade.{Begins, begins}
 use Rattle.yf_emit.proofs.FixedFormats.{found_fixed, roots_fixed}
 use Rattle.yf_emit.proofs.FixedLawsHold.{FoundReading, found_reading}
 use Rattle.yf_emit.proofs.FixedRows.{found_rows}
 use Rattle.yf_emit.proofs.FormatLawsHold.{formats_accepted, formats_are_one}
-use Rattle.yf_emit.proofs.FormattedLines.{Formed, formed}
+use Rattle.yf_emit.proofs.FormattedLines.{formed}
 use Rattle.yf_emit.proofs.FoundAgain.{Unsigned}
 use Rattle.yf_emit.proofs.FoundStreams.{StreamIn, no_stream, stream_in}
 use Rattle.yf_emit.proofs.GapsAgain.{gap_at_end, gap_with}
-use Rattle.yf_emit.proofs.OwnsAgain.{Beside, decos_beside, noted_parts, noted_texts, noted_under, noted_upward, OwnsNoted, owns_noted, RowsOwn, rows_own, Spots}
-use Rattle.yf_emit.proofs.PlacedRows.{PlacedRow, RowsIn}
+use Rattle.yf_emit.proofs.OwnsAgain.{decos_beside, noted_parts, noted_texts, noted_under, noted_upward, owns_noted, rows_own, Spots}
+use Rattle.yf_emit.proofs.PlacedRows.{PlacedRow}
 use Rattle.yf_emit.proofs.QuietPlaces.{AllQuiet, ascend_under}
 use Rattle.yf_emit.proofs.ReadingsAgain.{CarriedSame, alone_same, before_text, carried_same, remarks}
 use Rattle.yf_emit.proofs.RowFlow.{Upright}
@@ -52,7 +49,7 @@ use Rattle.yf_emit.proofs.RowLeaves.{leaves_on}
 use Rattle.yf_emit.proofs.RowsTied.{spot_first, tied_rows}
 use Rattle.yf_emit.proofs.RowsUtf8.{RowLines}
 use Rattle.yf_emit.proofs.RowTies.{Ties, a_tie, LaidRows, bare_gap, first_shape, laid_rows, next_tied, none_precedes}
-use Rattle.yf_emit.proofs.SourceStands.{normal_of, normal_rows, source_stands}
+use Rattle.yf_emit.proofs.SourceStands.{source_stands}
 use Rattle.yf_emit.proofs.StepsStand.{starts_of}
 use Rattle.yf_emit.proofs.TrailChoice.{rising}
 

@@ -1,5 +1,5 @@
 -- The rows before the node of a document, where they are found: those before its `---`, and its own.
-use Rattle.std.proofs.Common.{◌≡◌, ℕ, suc, ◌+◌, Bool, true, false, List, [], ◌∷◌, ◌++◌, length, refl, sym, subst, arith}
+use Rattle.std.proofs.Common.{◌≡◌, ℕ, suc, ◌+◌, Bool, true, false, List, [], ◌∷◌, ◌++◌, length, refl, subst, arith}
 use Rattle.yf_events.specs.declared.directive.Directive.{Directive}
 use Rattle.yf_emit.proofs.PlacedRows.{PlacedRow}
 

@@ -34,7 +34,7 @@ use Rattle.yf_emit.specs.Carried.{AreTrails, IsDeco}
 use Rattle.yf_emit.specs.Decorated.{Deco, body_then, end_then, gap_then, trails_then}
 use Rattle.yf_emit.specs.Rows.{Row}
 use Rattle.yf_emit.proofs.ClearRows.{trails_are, trails_bytes, trails_line}
-use Rattle.yf_emit.proofs.CommentsCut.{each_none, each_more, Over, Under, Upward, upward_over, upward_of}
+use Rattle.yf_emit.proofs.CommentsCut.{each_none, each_more, Over, Under, upward_over, upward_of}
 use Rattle.yf_emit.proofs.PlacedRows.{Inside, one_inside, PlacedRow, AtRow, LeavesTo, leaf_to, leaves_to_wider, LastEnd, last_end, later_end, OwnTail, behind_line, behind_scalar, EndsRow}
 use Rattle.yf_emit.proofs.QuietPlaces.{ascend_under}
 use Rattle.yf_emit.proofs.SeenTexts.{IsSeen}

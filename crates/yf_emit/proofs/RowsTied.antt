@@ -1,5 +1,5 @@
 -- Each row of a text that was laid out carries again what it carried, where its comments are those of the text and its notes on blank lines are right.
-use Rattle.std.proofs.Common.{◌≡◌, ℕ, max, ◌+◌, ◌<◌, ◌≤◌, true, false, ◌||◌, List, [], ◌∷◌, ◌++◌, flat_map, length, Option, Some, None, refl, sym, ap, ◌∙◌, subst, arith, append_assoc, append-nil, ⊎_elim}
+use Rattle.std.proofs.Common.{◌≡◌, ℕ, ◌<◌, ◌≤◌, true, false, ◌||◌, List, [], ◌∷◌, ◌++◌, flat_map, Option, Some, None, refl, sym, ap, ◌∙◌, subst, arith, append_assoc, ⊎_elim}
 use Rattle.std.specs.Prelude.{option_to_list, zip}
 use Rattle.std.proofs.lemmas.Bool.{cases_lt}
 use Rattle.yf_chars.specs.Text.{code}
@@ -14,19 +14,19 @@ use Rattle.yf_emit.specs.Carried.{carried_texts}
 use Rattle.yf_emit.specs.Decorated.{Deco}
 use Rattle.yf_emit.specs.Layout.{Source, is_among, trailing}
 use Rattle.yf_emit.specs.Rows.{Row}
-use Rattle.yf_emit.proofs.AllBlanks.{AllBlanks, no_blanks, last_blanks, row_blanks}
+use Rattle.yf_emit.proofs.AllBlanks.{AllBlanks, last_blanks, row_blanks}
 use Rattle.yf_emit.proofs.CarriedAgain.{Owns, last_owns, row_owns, Tied, last_tied, row_tied, TrailTied, nothing_trails, all_of, first_from, owns_upward}
-use Rattle.yf_emit.proofs.CommentsCut.{In, in_first, in_after, in_before, Each, each_none, each_more, each_join, each_map, Under, Over, upward_over, among_join, none_below, none_above}
+use Rattle.yf_emit.proofs.CommentsCut.{In, in_first, in_after, in_before, each_none, each_more, each_join, each_map, Under, Over, upward_over, among_join, none_below, none_above}
 use Rattle.yf_emit.proofs.FoundAgain.{Unsigned}
 use Rattle.yf_emit.proofs.OwnsAgain.{Spots, last_spot, row_spot}
 use Rattle.yf_emit.proofs.PlacedRows.{Inside, none_inside, one_inside, PlacedRow}
-use Rattle.yf_emit.proofs.QuietPlaces.{Quiet, AllQuiet, quiet_none, quiet_row}
+use Rattle.yf_emit.proofs.QuietPlaces.{Quiet, AllQuiet, quiet_row}
 use Rattle.yf_emit.proofs.RowFlow.{RowTrail, untrailed, trailed_after, Upright, no_upright, an_upright}
 use Rattle.yf_emit.proofs.RowLeaves.{leaves_on}
 use Rattle.yf_emit.proofs.RowSpots.{Spot}
-use Rattle.yf_emit.proofs.RowTies.{Tie, node_tie, start_tie, head_tie, Ties, no_ties, a_tie, tie_leaves, LaidRows, none_laid, last_laid, row_laid, next_tied}
+use Rattle.yf_emit.proofs.RowTies.{Tie, node_tie, start_tie, head_tie, Ties, no_ties, a_tie, tie_leaves, LaidRows, last_laid, row_laid, next_tied}
 use Rattle.yf_emit.proofs.RowTrails.{keys_of, trail_of}
-use Rattle.yf_emit.proofs.StartsBefore.{AllFrom, none_later, one_later, later_join, later_from}
+use Rattle.yf_emit.proofs.StartsBefore.{AllFrom, none_later, one_later, later_join}
 use Rattle.yf_emit.proofs.StepsStand.{starts_of, starts_append}
 use Rattle.yf_emit.proofs.TrailAgain.{LaidRow, row_trail_tied, sub_inside}
 use Rattle.yf_emit.proofs.TrailChoice.{rising}

@@ -7,7 +7,7 @@ use Rattle.std.proofs.lemmas.Bool.Decides.{nat_tests}
 use Rattle.std.proofs.lemmas.Grind.{flat_map-append}
 use Rattle.yf_chars.specs.Chain.{Chain}
 use Rattle.yf_chars.specs.Chain.Chain.{done, step}
-use Rattle.yf_chars.specs.Text.{code, no_char}
+use Rattle.yf_chars.specs.Text.{code}
 use Rattle.yf_chars.proofs.TextLemmas.{within_from_code}
 use Rattle.yf_lines.specs.Basic.LineStart.{after_break}
 use Rattle.yf_lines.specs.Lines.{AreLines, LineEnd, OneLine}
@@ -26,9 +26,9 @@ use Rattle.yf_emit.specs.Decorated.{Deco}
 use Rattle.yf_emit.specs.Layout.{Remark, Source, first_comment, is_among, is_before, next_leaf, trailing, trailing_leaf, trimmed}
 use Rattle.yf_emit.specs.Rows.{Row}
 use Rattle.yf_emit.proofs.CarriedAgain.{TrailTied, nothing_trails, first_trails}
-use Rattle.yf_emit.proofs.CommentsCut.{In, in_first, in_rest, Each, each_none, each_more, each_at, each_map, Under, Over}
+use Rattle.yf_emit.proofs.CommentsCut.{In, in_first, in_rest, Each, each_more, each_at, each_map, Under, Over}
 use Rattle.yf_emit.proofs.DocumentsFlow.{note_is, on_line_before}
-use Rattle.yf_emit.proofs.FoundAgain.{Unsigned, no_start, a_start}
+use Rattle.yf_emit.proofs.FoundAgain.{Unsigned, a_start}
 use Rattle.yf_emit.proofs.PlacedRows.{Inside, one_inside, PlacedRow, LeavesTo, no_leaf_to, leaf_to}
 use Rattle.yf_emit.proofs.QuietPlaces.{Quiet as QuietRow}
 use Rattle.yf_emit.proofs.RowFlow.{Sub, sub_take, sub_skip, Has, has_first, has_rest, Near, at_leaf, before_leaf, RowTrail, untrailed, trailed_after}
