@@ -214,12 +214,12 @@ module _ {t : List ℕ} (u : IsUtf8 t) {x : Row} {p : PlacedRow} {i : ℕ} {own 
     items = items_at;
     starts = starts_at;
     clear = λ f. record {
-        edge = end;
-        broken = broken;
-        reach = leaves;
-        over = subst (λ v. Over end v) (sym (are ∙ ap (λ v. v ++ first_noted b far) (nothing_near near (is ∙ f)))) (noted_over b far a);
-        later = λ o sign l. let k : end ≤ place = ascend_order a in omega (arith, k, l);
-      };
+      edge = end;
+      broken = broken;
+      reach = leaves;
+      over = subst (λ v. Over end v) (sym (are ∙ ap (λ v. v ++ first_noted b far) (nothing_near near (is ∙ f)))) (noted_over b far a);
+      later = λ o sign l. let k : end ≤ place = ascend_order a in omega (arith, k, l);
+    };
     trailed = λ o os f some ls s g.
         let same : end ≡ s.end = last_end_of last ls s g in
         let low : o.offset < start = near_first (first_noted b far) near (near_under rest) (λ v. some (sym is ∙ ap texts v)) (sym are ∙ f) in
