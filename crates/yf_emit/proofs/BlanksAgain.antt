@@ -8,7 +8,7 @@ use Rattle.yf_lines.specs.Basic.LineStart.{at_text}
 use Rattle.yf_lines.specs.Rest.{Rest}
 use Rattle.yf_lines.proofs.RestLemmas.{rest_spaces, rest_start}
 use Rattle.yf_comments.specs.Comment.{CommentValue}
-use Rattle.yf_comments.specs.Comments.{CommentLine}
+use Rattle.yf_comments.specs.Comments.{CommentLine, Row as CommentRow}
 use Rattle.yf_comments.specs.Comments.Blank.{text_begins}
 use Rattle.yf_comments.specs.GapLines.{AreGapLines, GapLine, gap_then, remarks_of}
 use Rattle.yf_comments.proofs.GapLinesLemmas.{texts}
@@ -32,6 +32,7 @@ use Rattle.yf_emit.proofs.AllBlanks.{AllBlanks, BlanksFound, first_blank}
 use Rattle.yf_emit.proofs.BlanksRows.{as_many, ends_over, gap_forms, noted_gap, noted_split, pick_early, rows_blanks, rows_from}
 use Rattle.yf_emit.proofs.CarriedAgain.{Owns, all_of}
 use Rattle.yf_emit.proofs.DecoratedLemmas.{layout_then}
+use Rattle.yf_emit.proofs.DocumentsHeld.{all_events}
 use Rattle.yf_emit.proofs.FixedLawsHold.{FoundReading, found_reading}
 use Rattle.yf_emit.proofs.FixedRows.{found_rows}
 use Rattle.yf_emit.proofs.FormattedLines.{formed}
@@ -48,13 +49,13 @@ use Rattle.yf_emit.proofs.RowGaps.{one_chain}
 use Rattle.yf_emit.proofs.RowNotes.{AllNoted, RowNotes, no_row_notes, note_kept, note_moved, all_noted, pick}
 
 -- the gap before the first row
-first_found : {t : List ℕ} {es : List Placed} {line j : ℕ} {gap : List GapLine} {firsts others own rest noted : List CommentValue} {z : List ℕ} (column : ℕ) (hs : List CommentValue) (a : Bool) → IsUtf8 t → AreGapLines gap → gap ≡ gap_with at_text_start column hs a
+first_found : {t : List ℕ} {es : List Placed} {line : ℕ} {gap : List GapLine} {firsts own noted : List CommentValue} {z : List ℕ} (others rest : List CommentValue) (column : ℕ) (hs : List CommentValue) (a : Bool) → IsUtf8 t → AreGapLines gap → gap ≡ gap_with at_text_start column hs a
     → Rest t 0 (gap_then gap z) → Rest t line z → Chain (CommentLine t) 0 line firsts → NotedComments t es (firsts ++ others) noted → noted ≡ own ++ rest → texts firsts ≡ remarks_of gap → texts own ≡ remarks_of gap
     → ((o : ℕ) → o < line → floor_at o 0 es ≡ 0) → (k : ℕ) → Spaces t line k → (b : Bool) → HeadNote t 0 (line + k) a b → Blanks false false gap own b
-first_found {t} {es} {line} {gap = gap} {firsts = firsts} {others = others} {own = own} {z = z} column hs a u lines shape begin next chain noted split told mine floor k s b head =
+first_found {t} {es} {line} {gap = gap} {firsts = firsts} {own = own} {z = z} others rest column hs a u lines shape begin next chain noted split told mine floor k s b head =
     let at = gap_placed gap z u lines at_text begin in
     let place : at.place ≡ line = place_of at.rest next in
-    let same : at.comments ≡ firsts = one_chain row_functional (subst (λ p. Chain _ 0 p at.comments) place (lines_rows at.lines)) (lines_rows chain) in
+    let same : at.comments ≡ firsts = one_chain row_functional (subst (λ p. Chain (CommentRow t) 0 p at.comments) place (lines_rows at.lines)) (lines_rows chain) in
     let stands : GapStands t 0 gap firsts line = subst (λ p. GapStands t 0 gap firsts p) place (subst (λ w. GapStands t 0 gap w at.place) same at.stands) in
     let parts = noted_split firsts own (as_many firsts own told mine) (subst (λ w. NotedComments t es (firsts ++ others) w) split noted) in
     let over = noted_gap stands (λ o l m. floor o m) parts.0 in
@@ -70,24 +71,24 @@ head_of {t} {f} rows (note_moved {x = x} {y = y} h n l a) = subst (λ z. HeadNot
 no_space : (t : List ℕ) (i : ℕ) → Spaces t i 0
 no_space t i = record { each = λ m l. absurd (omega (arith, l)) }
 
-found_of : {t : List ℕ} {es hs : List Placed} {xs ys : List Row} {ps : List PlacedRow} {line : ℕ} {firsts others noted : List CommentValue} {gs : List ℕ} (m : Lists) → IsUtf8 t → StreamIn t xs ps (row_decos m xs) line others → AreGapLines (first_gap m xs)
+found_of : {t : List ℕ} {es : List Placed} {xs ys : List Row} {ps : List PlacedRow} {line : ℕ} {firsts others noted : List CommentValue} {gs : List ℕ} (hs : List Placed) (m : Lists) → IsUtf8 t → StreamIn t xs ps (row_decos m xs) line others → AreGapLines (first_gap m xs)
     → AreDecos (row_decos m xs) → BodiesHeld t hs xs (row_decos m xs) [] → Rest t 0 (gap_then (first_gap m xs) (lines_then xs (row_decos m xs) [])) → Rest t line (lines_then xs (row_decos m xs) []) → Chain (CommentLine t) 0 line firsts
     → texts firsts ≡ remarks_of (first_gap m xs) → NotedComments t es (firsts ++ others) noted → RowNotes t 0 ps xs ys gs → shapes xs ≡ shapes ys → ((o : ℕ) → floor_at o 0 es ≡ pick o 0 gs)
     → BlanksFound noted (first_gap m xs) (row_decos m xs) ys ps line (length t)
-found_of {t} {line = line} m u no_stream lines decos held begin next chain told notes no_row_notes s at = record {
-  first = λ own rest is mine. first_found 0 (own_line_comments (source_of m []) []) false u lines (gap_at_end at_text_start (own_line_comments (source_of m []) [])) begin next chain notes is told mine (λ o l. at o) 0 (no_space t line) false bare_head;
+found_of {t} {line = line} hs m u no_stream lines decos held begin next chain told notes no_row_notes s at = record {
+  first = λ own rest is mine. first_found [] rest 0 (own_line_comments (source_of m []) []) false u lines (gap_at_end at_text_start (own_line_comments (source_of m []) [])) begin next chain notes is told mine (λ o l. at o) 0 (no_space t line) false bare_head;
   after = λ own owns is mine owned. absurd (no_owns owned);
 } where
   no_owns : {a b : ℕ} {ds : List Deco} {owns : List (List CommentValue)} → Owns [] ds a owns b → ⊥
   no_owns owned = elim owned [ ]
-found_of {t} {es} {hs} {ys = ys} {line = line} {firsts = firsts} {others = others} {gs = gs} m u (stream_in (begins {r = x} {rs = xs} e) rows) lines decos held begin next chain told notes row_notes s at =
+found_of {t} {es} {ys = ys} {line = line} {firsts = firsts} {others = others} {gs = gs} hs m u (stream_in (begins {r = x} {rs = xs} e) rows) lines decos held begin next chain told notes row_notes s at =
     let c : Source = source_of m (x ∷ xs) in
     let own_lines : List CommentValue = own_line_comments c (x ∷ xs) in
     let inline : Rest t line (inline_then (x ∷ xs) (row_decos m (x ∷ xs)) []) = subst (λ z. Rest t line z) (lines_begin (row_decos m (x ∷ xs)) [] (begins e)) next in
     let place : line ≡ line + 0 = sym (add-zero line) in
     record {
       first = λ own rest is mine.
-          first_found x.column (filter (precedes_item x) own_lines) x.blank_before u lines refl begin next chain notes is told mine (λ o l. at o ∙ pick_early o 0 gs (ends_over rows row_notes s l)) 0 (no_space t line) (first_blank ys)
+          first_found others rest x.column (filter (precedes_item x) own_lines) x.blank_before u lines refl begin next chain notes is told mine (λ o l. at o ∙ pick_early o 0 gs (ends_over rows row_notes s l)) 0 (no_space t line) (first_blank ys)
           (subst (λ z. HeadNote t 0 z x.blank_before (first_blank ys)) place (head_of rows row_notes));
       after = λ own owns is mine owned.
           let parts = noted_split firsts own (as_many firsts own told mine) (subst (λ w. NotedComments t es (firsts ++ others) w) is notes) in
@@ -109,5 +110,5 @@ blanks_found t u s q utf8 f a w =
     λ o. ap (λ z. floor_at o 0 z) events ∙ (start_unlined (unplaced stream_starts) (unplaced stream_ends) (λ v p. refl) (λ v p. refl) (flat_map flat_document a.trees) o 0 ∙ made.at o 0) in
     let text : u ≡ gap_then (first_gap m xs) (lines_then xs (row_decos m xs) []) = f.writes.is ∙ layout_then m s f.writes.trees in
     let comments : a.derived.comments ≡ all.firsts ++ all.others = ap (λ (z : Documents). z.comments) w.derived ∙ all.are in
-    found_of m form.utf8 all.placed form.gap form.decos all.held.bodies (subst (λ z. Rest u 0 z) text (rest_start u form.utf8)) all.begin all.lines all.told (subst (λ z. NotedComments u q.events z q.comments) comments a.comments) made.rows
+    found_of (all_events all.well.documents.documents) m form.utf8 all.placed form.gap form.decos all.held.bodies (subst (λ z. Rest u 0 z) text (rest_start u form.utf8)) all.begin all.lines all.told (subst (λ z. NotedComments u q.events z q.comments) comments a.comments) made.rows
     (found_rows true w.alike) at

@@ -225,11 +225,11 @@ module _ {t : List ℕ} (u : IsUtf8 t) (es hs : List Placed) where
       let ended : e ≡ g.gap = one_end last (g.last (λ z. some (sym (same_body x y same) ∙ z))) in
       let inside = gap_order g.stands in
       let over : (o : ℕ) → o < place → AllOver o gs = λ o b. ends_over more rest after (omega (arith, b)) in
-      let floored = moved_floor f gs g order ended floor over in
+      let floored : Floored t es e g.gap place = moved_floor f gs g order ended floor over in
       let split = noted_split own ns (as_many own ns end.is is) notes in
       let later : (o : ℕ) → place + next.column ≤ o → floor_at o 0 es ≡ pick o e gs =
       λ o b. floor o (omega (arith, order, behind, b)) ∙ ap (λ z. pick o z gs) (end_taken o f e (omega (arith, ended, inside, b))) in
       add_row {y = y} (first_of rest) more
       (λ b head. row_noted x.ending y.ending next.column comments next.blank_before u g floored split.0 (same_ending x y same) shape next.column spaces.0 b head)
-      (rows_blanks more forms others held.1 spaces.1 rest after (omega (arith, ended, inside)) later owned split.1)
+      (rows_blanks {f = e} more forms others held.1 spaces.1 rest after (omega (arith, ended, inside)) later owned split.1)
   rows_blanks (row_before at end w more) forms decos held begin notes s low floor (last_owns m l n up v is) noted = elim more [ ]

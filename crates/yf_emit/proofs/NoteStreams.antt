@@ -67,11 +67,11 @@ abbrev other_trees : List DocumentTree → List DocumentTree
 other_trees [] = []
 other_trees (w ∷ ws) = ws
 
-document_made : {t : List ℕ} {c : Setting} {f : ℕ} {is_first : Bool} {d b : Doc} {x y : DocumentTree} {ps : List PlacedRow} {rest : List Placed} (cs : List CommentValue) (heads : List PlacedRow) → words_of d.directives ≡ words_of b.directives
+document_made : {t : List ℕ} {f : ℕ} {ps : List PlacedRow} {rest : List Placed} (c : Setting) (is_first : Bool) (d b : Doc) (x y : DocumentTree) (cs : List CommentValue) (heads : List PlacedRow) → words_of d.directives ≡ words_of b.directives
     → HeadRows b.start (heads_before is_first b.directives) heads
     → NotesMade t f ps (rows c (root_spot c.style) x.root) (rows (setting c.style cs) (root_spot c.style) y.root) (flat y.root) ((unplaced (document_ends y.closed) ∷ []) ++ rest)
     → NotesMade t f (heads ++ ps) (document_rows c is_first d x) (document_rows (setting c.style cs) is_first b y) (flat_document y) rest
-document_made {t} {c} {f} {is_first} {d} {b} {x} {y} {ps} {rest} cs heads e h a = record {
+document_made {f = f} c is_first d b x y cs heads e h a = record {
   ends = a.ends;
   rows = notes_join {f = f} {gs = []} (head_notes h (subst (λ z. PlainRows (suc z) (beginning_at d.start (end_rows is_first d.directives ++ (map directive_row d.directives ++ (start_row ∷ []))))) (same_heads is_first d.directives b.directives e)
       (plain_beginning d.start (plain_heads is_first d.directives))) (plain_beginning b.start (plain_heads is_first b.directives))) a.rows;
@@ -83,6 +83,8 @@ pub documents_noted : {t : List ℕ} {c : Setting} {f : ℕ} {is_first : Bool} {
     → map bare_tree zs ≡ map bare_tree ys → FoundTrees c.style c.comments t cs ds xs es ys → FitDocuments ds xs → (rest : List Placed) → AllNoted t f (flat_map flat_document ys ++ rest)
     → NotesMade t f ps (stream_rows c is_first ds xs) (stream_rows (setting c.style cs) is_first es ys) (flat_map flat_document ys) rest
 documents_noted cs [] no_roots e none_found fit_no_documents rest n = record { ends = []; rows = no_row_notes; notes = n; at = λ o z. refl }
+documents_noted cs [] (one_root heads h alike r others) e found fit rest n = elim found [ ]
+documents_noted cs (y ∷ ys) no_roots e found fit rest n = elim found [ ]
 documents_noted {t} {c} {f} {is_first} cs (y ∷ ys) (one_root {z = z} {zs = zs} heads h alike r others) e (one_found {d = d} {e = b} {x = x} words a undisturbed more) (fit_document directives fit fits) rest n =
     let root : bare z.root ≡ bare y.root = ap (λ w. (first_root (bare_tree z) w).root) e in
     let trees : map bare_tree zs ≡ map bare_tree ys = ap other_trees e in
@@ -90,5 +92,5 @@ documents_noted {t} {c} {f} {is_first} cs (y ∷ ys) (one_root {z = z} {zs = zs}
     let here : AllNoted t f (flat_document y ++ (flat_map flat_document ys ++ rest)) = regrouped t f (flat_document y) (flat_map flat_document ys) rest n in
     let inner = node_notes cs (root_spot c.style) (root_spot c.style) refl refl a (rows_renoted y.root root r) fit (last ++ (flat_map flat_document ys ++ rest))
     (regrouped t f (flat y.root) last (flat_map flat_document ys ++ rest) here.1) in
-    let one = document_made {is_first = is_first} {d = d} {b = b} {x = x} {y = y} cs heads words h inner in
+    let one = document_made c is_first d b x y cs heads words h inner in
     both_made one (documents_noted cs ys others trees more fits rest one.notes)

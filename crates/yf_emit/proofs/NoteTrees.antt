@@ -123,10 +123,10 @@ key_heads {t} {f} {k} a (key_on {h = h} st l m e some) n = heads_with (by (stand
   by None e some n = absurd (true≢false (sym some))
   by (Some entry) e some n = entry_head (subst (λ z. NotedSince t f z entry.blank_before) e n)
 
-start_unlined : (s e : Placed) → ((f : ℕ) (p : Placed) → floor_behind f p s.event ≡ f) → ((f : ℕ) (p : Placed) → floor_behind f p e.event ≡ f) → (es : List Placed) (o g : ℕ) → floor_at o g (s ∷ (es ++ (e ∷ []))) ≡ floor_at o g es
-start_unlined s e k l es o g = collection_floor o g es (record { keeps = k }) (record { keeps = l })
+pub start_unlined : (s e : Placed) → ((f : ℕ) (p : Placed) → floor_behind f p s.event ≡ f) → ((f : ℕ) (p : Placed) → floor_behind f p e.event ≡ f) → (es : List Placed) (o g : ℕ) → floor_at o g (s ∷ (es ++ (e ∷ []))) ≡ floor_at o g es
+start_unlined s e k l es o g = collection_floor {s = s} {e = e} o g es (record { keeps = k }) (record { keeps = l })
 
-regrouped : (t : List ℕ) (f : ℕ) (xs ys rest : List Placed) → AllNoted t f ((xs ++ ys) ++ rest) → AllNoted t f (xs ++ (ys ++ rest))
+pub regrouped : (t : List ℕ) (f : ℕ) (xs ys rest : List Placed) → AllNoted t f ((xs ++ ys) ++ rest) → AllNoted t f (xs ++ (ys ++ rest))
 regrouped t f xs ys rest n = subst (λ z. AllNoted t f z) (append_assoc xs ys rest) n
 
 -- two lists of events with their notes
@@ -150,7 +150,7 @@ module _ {t : List ℕ} {f : ℕ} where
   }
 
   -- the same with other rows
-  with_rows : {ps qs : List PlacedRow} {xs ys us vs : List Row} {es rest : List Placed} (a : NotesMade t f ps xs ys es rest) → RowNotes t f qs us vs a.ends → NotesMade t f qs us vs es rest
+  abbrev pub with_rows : {ps qs : List PlacedRow} {xs ys us vs : List Row} {es rest : List Placed} (a : NotesMade t f ps xs ys es rest) → RowNotes t f qs us vs a.ends → NotesMade t f qs us vs es rest
   with_rows a r = record { ends = a.ends; rows = r; notes = a.notes; at = a.at }
 
   by_pair : {ps : List PlacedRow} {es rest : List Placed} (c d : Setting) (column to : ℕ) (k v l w : Node) (b : Bool) → is_implicit c.style column k ≡ b → is_implicit d.style to l ≡ b
