@@ -84,7 +84,7 @@ found_of {t} {line = line} hs m u no_stream lines decos held begin next chain to
 found_of {t} {es} {ys = ys} {line = line} {firsts = firsts} {others = others} {gs = gs} hs m u (stream_in (begins {r = x} {rs = xs} e) rows) lines decos held begin next chain told notes row_notes s at =
     let c : Source = source_of m (x ∷ xs) in
     let own_lines : List CommentValue = own_line_comments c (x ∷ xs) in
-    let inline : Rest t line (inline_then (x ∷ xs) (row_decos m (x ∷ xs)) []) = subst (λ z. Rest t line z) (lines_begin (row_decos m (x ∷ xs)) [] (begins e)) next in
+    let inline : Rest t line (inline_then (x ∷ xs) (row_decos m (x ∷ xs)) []) = subst (λ z. Rest t line z) (lines_begin (row_decos m (x ∷ xs)) [] (begins {r = x} {rs = xs} e)) next in
     let place : line ≡ line + 0 = sym (add-zero line) in
     record {
       first = λ own rest is mine.
