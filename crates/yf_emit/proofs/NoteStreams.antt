@@ -79,13 +79,13 @@ document_made {f = f} c is_first d b x y cs heads e h a = record {
   at = λ o z. start_unlined (unplaced (document_starts y.marked)) (unplaced (document_ends y.closed)) (λ v p. refl) (λ v p. refl) (flat y.root) o z ∙ a.at o z;
 }
 
-pub documents_noted : {t : List ℕ} {c : Setting} {is_first : Bool} {f : ℕ} {ds es : List Doc} {xs zs : List DocumentTree} {ps : List PlacedRow} (cs : List CommentValue) (ys : List DocumentTree) → FoundRoots t c is_first es xs zs ps
+pub documents_noted : {t : List ℕ} {c : Setting} (cs : List CommentValue) (ys : List DocumentTree) {is_first : Bool} {f : ℕ} {ds es : List Doc} {xs zs : List DocumentTree} {ps : List PlacedRow} → FoundRoots t c is_first es xs zs ps
     → map bare_tree zs ≡ map bare_tree ys → FoundTrees c.style c.comments t cs ds xs es ys → FitDocuments ds xs → (rest : List Placed) → AllNoted t f (flat_map flat_document ys ++ rest)
     → NotesMade t f ps (stream_rows c is_first ds xs) (stream_rows (setting c.style cs) is_first es ys) (flat_map flat_document ys) rest
 documents_noted cs [] no_roots e none_found fit_no_documents rest n = record { ends = []; rows = no_row_notes; notes = n; at = λ o z. refl }
 documents_noted cs [] (one_root heads h alike r others) e found fit rest n = elim found [ ]
 documents_noted cs (y ∷ ys) no_roots e found fit rest n = elim found [ ]
-documents_noted {t} {c} {is_first} {f} cs (y ∷ ys) (one_root {z = z} {zs = zs} heads h alike r others) e (one_found {d = d} {e = b} {x = x} words a undisturbed more) (fit_document directives fit fits) rest n =
+documents_noted {t} {c} cs (y ∷ ys) {is_first} {f} (one_root {z = z} {zs = zs} heads h alike r others) e (one_found {d = d} {e = b} {x = x} words a undisturbed more) (fit_document directives fit fits) rest n =
     let root : bare z.root ≡ bare y.root = ap (λ w. (first_root (bare_tree z) w).root) e in
     let trees : map bare_tree zs ≡ map bare_tree ys = ap other_trees e in
     let last : List Placed = unplaced (document_ends y.closed) ∷ [] in
