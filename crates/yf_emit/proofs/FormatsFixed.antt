@@ -1,4 +1,4 @@
--- What formatting gives is its own formatting: the same rows are found in it, and each carries what it carried, where the notes on blank lines are right.
+-- What formatting gives is its own formatting: the same rows are found in it, and each carries what it carried. So a second run changes nothing.
 use Rattle.std.proofs.Common.{◌≡◌, ℕ, true, List, [], ◌∷◌, ◌++◌, length, map, refl, sym, ap, ◌∙◌, subst, arith, append-nil}
 use Rattle.std.specs.Prelude.{filter, zip}
 use Rattle.std.specs.Str.{IsUtf8}
@@ -18,14 +18,15 @@ use Rattle.yf_stream.specs.Stream.{Documents}
 use Rattle.yf_emit.specs.declared.style.Style.{Style}
 use Rattle.yf_emit.specs.Carried.{AreDecos}
 use Rattle.yf_emit.specs.Decorated.{decos_of, first_gap, gap_of, inline_then, lines_then, row_decos, rows_of}
+use Rattle.yf_emit.specs.FixedLaws.{FormatsAreFixed}
 use Rattle.yf_emit.specs.Format.{Formats}
 use Rattle.yf_emit.specs.FoundTrees.{FoundSame}
-use Rattle.yf_emit.specs.Laws.{IsUnchanged}
 use Rattle.yf_emit.specs.Layout.{Source, own_line_comments, precedes_item, source_of}
 use Rattle.yf_emit.specs.Normal.{normal_document, setting_of}
 use Rattle.yf_emit.specs.RowShapes.{RowShape, shape_of}
 use Rattle.yf_emit.specs.Rows.{Row, at_text_start, stream_rows}
 use Rattle.yf_emit.proofs.AlikeLemmas.{shapes}
+use Rattle.yf_emit.proofs.BlanksAgain.{blanks_found}
 use Rattle.yf_emit.proofs.AllBlanks.{BlanksFound}
 use Rattle.yf_emit.proofs.CarriedAgain.{NextTied, Owns, Tied, all_of}
 use Rattle.yf_emit.proofs.CommentsCut.{In, Under, Upward, each_none, upward_of}
@@ -131,7 +132,7 @@ carried_again {u} {es = es} {q = q} mc own (x ∷ xs) (row ∷ found) {ps = p �
       begin_column : {rs : List Row} → Begins 0 (x ∷ rs) → x.column ≡ 0
       begin_column (begins f) = f
 
--- The law, where the notes on blank lines are right.
+-- Where the notes on blank lines are right.
 
 pub again_same : {t u : List ℕ} {s : Style} (q : Lists) → IsUtf8 t → (f : Formats t s u) → (a : ReadingOf u q) → (w : FoundReading f q a)
     → BlanksFound q.comments (first_gap f.normal (rows_of f.normal s f.writes.trees)) (row_decos f.normal (rows_of f.normal s f.writes.trees)) (rows_of q s a.trees) w.laid.found_rows w.laid.line (length u)
@@ -147,13 +148,12 @@ again_same {t} {u} {s} q utf8 f a w blanks =
     (found_rows true w.alike) form.rows form.decos w.laid.begin w.laid.placed w.laid.ascend w.laid.told noted (λ left. stream_ties a.trees w.roots w.same w.alike left) w.quiet blanks in
     record { of_reading = a.of_reading; alike = w.alike; gap = carried.gap_is; decos = carried.decos_are }
 
--- So it is where those notes are right.
-pub fixed_where : (t u : List ℕ) (s : Style) → IsUtf8 t → (f : Formats t s u)
-    → ((q : Lists) (a : ReadingOf u q) (w : FoundReading f q a) → BlanksFound q.comments (first_gap f.normal (rows_of f.normal s f.writes.trees)) (row_decos f.normal (rows_of f.normal s f.writes.trees)) (rows_of q s a.trees)
-    w.laid.found_rows w.laid.line (length u)) → IsUnchanged s u
-fixed_where t u s utf8 f blanks =
-    let q : Lists = (formats_accepted t u s utf8 f).0 in
-    let a : ReadingOf u q = (formats_accepted t u s utf8 f).1 in
+-- The law: they are right.
+pub formats_fixed : FormatsAreFixed
+formats_fixed t u s utf8 f =
+    let accepted = formats_accepted t u s utf8 f in
+    let q : Lists = accepted.0 in
+    let a : ReadingOf u q = accepted.1 in
     let w = found_reading t u s q utf8 f a in
-    let again : Formats u s u = found_fixed f q a.trees a (again_same q utf8 f a w (blanks q a w)) in
+    let again : Formats u s u = found_fixed f q a.trees a (again_same q utf8 f a w (blanks_found t u s q utf8 f a w)) in
     record { again = again; only = λ v g. formats_are_one u v u s g again }
