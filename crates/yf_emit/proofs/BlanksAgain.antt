@@ -1,12 +1,12 @@
 -- In each reading of what formatting gives the notes on blank lines are those of the blank lines that were printed.
-use Rattle.std.proofs.Common.{◌≡◌, ℕ, ◌+◌, ◌<◌, ◌≤◌, Bool, true, false, true≢false, List, [], ◌∷◌, ◌++◌, flat_map, length, map, refl, sym, ap, ◌∙◌, subst, arith, add-zero}
+use Rattle.std.proofs.Common.{◌≡◌, ℕ, ◌+◌, ◌<◌, Bool, true, false, true≢false, List, [], ◌∷◌, ◌++◌, flat_map, length, refl, sym, ap, ◌∙◌, subst, arith, add-zero}
 use Rattle.std.specs.Prelude.{filter}
 use Rattle.std.specs.Str.{IsUtf8}
 use Rattle.yf_chars.specs.Chain.{Chain}
 use Rattle.yf_lines.specs.Basic.{Spaces}
 use Rattle.yf_lines.specs.Basic.LineStart.{at_text}
 use Rattle.yf_lines.specs.Rest.{Rest}
-use Rattle.yf_lines.proofs.RestLemmas.{rest_spaces, rest_start}
+use Rattle.yf_lines.proofs.RestLemmas.{rest_start}
 use Rattle.yf_comments.specs.Comment.{CommentValue}
 use Rattle.yf_comments.specs.Comments.{CommentLine, Row as CommentRow}
 use Rattle.yf_comments.specs.Comments.Blank.{text_begins}
@@ -15,25 +15,24 @@ use Rattle.yf_comments.proofs.GapLinesLemmas.{texts}
 use Rattle.yf_comments.proofs.LineEndLemmas.{lines_rows}
 use Rattle.yf_comments.proofs.RowLemmas.{row_functional}
 use Rattle.yf_events.specs.Event.{Placed, stream_ends, stream_starts}
-use Rattle.yf_events.specs.Tree.{DocumentTree, flat_document, unplaced}
+use Rattle.yf_events.specs.Tree.{flat_document, unplaced}
 use Rattle.yf_events.specs.declared.lists.Lists.{Lists}
-use Rattle.yf_grammar.specs.Part.{BlankSince}
 use Rattle.yf_stream.specs.ReadingOf.{NotedComments, ReadingOf, floor_at}
 use Rattle.yf_stream.specs.Stream.{Documents}
 use Rattle.yf_emit.specs.Carried.{AreDecos}
-use Rattle.yf_emit.specs.Decorated.{Deco, decos_of, first_gap, gap_of, inline_then, lines_then, row_decos, rows_of}
+use Rattle.yf_emit.specs.Decorated.{Deco, first_gap, inline_then, lines_then, row_decos, rows_of}
 use Rattle.yf_emit.specs.Format.{Formats}
 use Rattle.yf_emit.specs.Layout.{Source, own_line_comments, precedes_item, source_of}
-use Rattle.yf_emit.specs.Normal.{Setting, setting_of}
+use Rattle.yf_emit.specs.Normal.{setting_of}
 use Rattle.yf_emit.specs.Rows.{Row, at_text_start}
 use Rattle.yf_emit.specs.declared.style.Style.{Style}
-use Rattle.yf_emit.proofs.AlikeLemmas.{setting, shapes}
-use Rattle.yf_emit.proofs.AllBlanks.{AllBlanks, BlanksFound, first_blank}
+use Rattle.yf_emit.proofs.AlikeLemmas.{shapes}
+use Rattle.yf_emit.proofs.AllBlanks.{BlanksFound, first_blank}
 use Rattle.yf_emit.proofs.BlanksRows.{as_many, ends_over, gap_forms, noted_gap, noted_split, pick_early, rows_blanks, rows_from}
-use Rattle.yf_emit.proofs.CarriedAgain.{Owns, all_of}
+use Rattle.yf_emit.proofs.CarriedAgain.{Owns}
 use Rattle.yf_emit.proofs.DecoratedLemmas.{layout_then}
 use Rattle.yf_emit.proofs.DocumentsHeld.{all_events}
-use Rattle.yf_emit.proofs.FixedLawsHold.{FoundReading, found_reading}
+use Rattle.yf_emit.proofs.FixedLawsHold.{FoundReading}
 use Rattle.yf_emit.proofs.FixedRows.{found_rows}
 use Rattle.yf_emit.proofs.FormattedLines.{formed}
 use Rattle.yf_emit.proofs.FoundStreams.{StreamIn, no_stream, stream_in}
@@ -43,7 +42,7 @@ use Rattle.yf_emit.proofs.GapsNoted.{HeadNote, bare_head, gap_noted}
 use Rattle.yf_emit.proofs.GapsStand.{GapStands, gap_placed, place_of}
 use Rattle.yf_emit.proofs.HeldLemmas.{BodiesHeld}
 use Rattle.yf_emit.proofs.NoteStreams.{documents_noted}
-use Rattle.yf_emit.proofs.NoteTrees.{NotesMade, start_unlined}
+use Rattle.yf_emit.proofs.NoteTrees.{start_unlined}
 use Rattle.yf_emit.proofs.PlacedRows.{PlacedRow, RowsIn}
 use Rattle.yf_emit.proofs.RowGaps.{one_chain}
 use Rattle.yf_emit.proofs.RowNotes.{AllNoted, RowNotes, no_row_notes, note_kept, note_moved, all_noted, pick}

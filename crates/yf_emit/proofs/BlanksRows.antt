@@ -1,5 +1,5 @@
 -- The comments after each row of a text that was laid out, and what stands on the next row, carry the notes whether a blank line was printed before them.
-use Rattle.std.proofs.Common.{◌≡◌, ℕ, zero, suc, ◌+◌, ◌<◌, ◌≤◌, Bool, true, false, true≢false, List, [], ◌∷◌, ◌++◌, drop, length, refl, sym, ap, ◌∙◌, subst, arith, add-zero, append-nil}
+use Rattle.std.proofs.Common.{◌≡◌, ℕ, zero, suc, ◌+◌, ◌<◌, ◌≤◌, Bool, false, List, [], ◌∷◌, ◌++◌, drop, length, refl, sym, ap, ◌∙◌, subst, arith, append-nil}
 use Rattle.std.proofs.lemmas.List.{length-map}
 use Rattle.std.specs.Prelude.{filter}
 use Rattle.std.specs.Str.{IsUtf8}
@@ -15,10 +15,10 @@ use Rattle.yf_events.specs.declared.event.Span.{Span}
 use Rattle.yf_grammar.proofs.CommentOrder.{ascend_order}
 use Rattle.yf_grammar.proofs.SinceKnown.{since_before}
 use Rattle.yf_grammar.specs.Part.{BlankSince, NotedSince}
-use Rattle.yf_stream.specs.ReadingOf.{NotedComments, end_before, floor_at, no_comment, one_comment}
+use Rattle.yf_stream.specs.ReadingOf.{NotedComments, floor_at, no_comment, one_comment}
 use Rattle.yf_stream.proofs.FloorWalk.{end_later, end_taken}
 use Rattle.yf_emit.specs.Carried.{AreDecos, one_carried}
-use Rattle.yf_emit.specs.Decorated.{Deco, comments_left, decos_of, end_then, inline_then, lines_then}
+use Rattle.yf_emit.specs.Decorated.{Deco, comments_left, decos_of, inline_then}
 use Rattle.yf_emit.specs.Layout.{Source, may_be_blank_behind, precedes_item}
 use Rattle.yf_emit.specs.RowShapes.{shape_of}
 use Rattle.yf_emit.specs.Rows.{Ending, Row}

@@ -1,5 +1,5 @@
 -- Each comment of a gap, as it stands in a text, and what stands after it carry the note whether a blank line was printed before them.
-use Rattle.std.proofs.Common.{◌≡◌, ℕ, zero, suc, ◌+◌, ◌<◌, ◌≤◌, Bool, true, false, true≢false, List, [], ◌∷◌, ◌++◌, refl, sym, ap, ◌∙◌, subst, arith, add-zero}
+use Rattle.std.proofs.Common.{◌≡◌, ℕ, zero, suc, ◌+◌, ◌≤◌, Bool, true, false, true≢false, List, [], ◌∷◌, ◌++◌, refl, sym, ap, ◌∙◌, subst, arith, add-zero}
 use Rattle.std.specs.Prelude.{◌&&◌}
 use Rattle.std.specs.Str.{IsUtf8}
 use Rattle.yf_chars.specs.Class.{is_white, is_break_char}
@@ -8,7 +8,7 @@ use Rattle.yf_chars.proofs.TextLemmas.{next_ascii}
 use Rattle.yf_lines.specs.Basic.{Break, Spaces}
 use Rattle.yf_comments.specs.Comment.{CommentValue}
 use Rattle.yf_comments.specs.Comments.{Blank, is_gap}
-use Rattle.yf_comments.specs.GapLines.{GapLine, blank, remark}
+use Rattle.yf_comments.specs.GapLines.{GapLine, remark}
 use Rattle.yf_comments.proofs.BlankLemmas.{gap_below, not_last, same_place}
 use Rattle.yf_grammar.specs.Part.{BlankSince, NotedSince}
 use Rattle.yf_grammar.specs.Part.BlankSince.{blank_line, past_gap}

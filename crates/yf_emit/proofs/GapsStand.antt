@@ -1,11 +1,11 @@
 -- Where the lines of a gap stand in a text, each comment at its offset; no blank line stands before what follows a comment.
-use Rattle.std.proofs.Common.{◌≡◌, ℕ, zero, suc, ◌+◌, ◌<◌, ◌≤◌, Bool, true, false, true≢false, ◌⊎◌, ⊎_elim, List, [], ◌∷◌, ◌++◌, drop, length, refl, sym, ap, ◌∙◌, subst, arith, length-drop, add-zero}
-use Rattle.std.proofs.lemmas.Bool.{cases_eq, cases_lt}
+use Rattle.std.proofs.Common.{◌≡◌, ℕ, suc, ◌+◌, ◌<◌, ◌≤◌, true, false, true≢false, ⊎_elim, List, [], ◌∷◌, ◌++◌, drop, length, refl, sym, ap, ◌∙◌, subst, arith, length-drop}
+use Rattle.std.proofs.lemmas.Bool.{cases_eq}
 use Rattle.std.specs.Str.{IsUtf8}
 use Rattle.yf_chars.specs.Chain.{Chain}
 use Rattle.yf_chars.specs.Chain.Chain.{done, step}
 use Rattle.yf_chars.specs.Class.{is_white, is_nb_char, is_printable, is_between, is_break_char}
-use Rattle.yf_chars.specs.Text.{code, next, no_char}
+use Rattle.yf_chars.specs.Text.{code, next}
 use Rattle.yf_chars.proofs.TextLemmas.{next_ascii, next_later}
 use Rattle.yf_lines.specs.Basic.{Break, LineStart, Spaces}
 use Rattle.yf_lines.specs.Basic.LineStart.{after_break}
@@ -22,8 +22,8 @@ use Rattle.yf_comments.specs.Comments.BreakOrEnd.{by_break}
 use Rattle.yf_comments.specs.Comments.CommentLine.{whites_line, comment_line}
 use Rattle.yf_comments.specs.Comments.CommentText.{comment_text}
 use Rattle.yf_comments.specs.GapLines.{GapLine, blank, remark, gap_then, AreGapLines, IsRemark, remarks_of}
-use Rattle.yf_comments.proofs.BlankLemmas.{gap_below, past_break}
-use Rattle.yf_comments.proofs.GapLinesLemmas.{texts, texts_append, remark_at, spaces_in_line}
+use Rattle.yf_comments.proofs.BlankLemmas.{past_break}
+use Rattle.yf_comments.proofs.GapLinesLemmas.{texts, remark_at, spaces_in_line}
 use Rattle.yf_grammar.specs.Part.{BlankSince}
 use Rattle.yf_grammar.specs.Part.BlankSince.{blank_line, past_gap}
 use Rattle.yf_stream.proofs.FloorLemmas.{since_over}

@@ -1,12 +1,11 @@
 -- The rows of the documents of a reading of what formatting gives carry its notes on blank lines.
-use Rattle.std.proofs.Common.{◌≡◌, ℕ, suc, Bool, true, false, List, [], ◌∷◌, ◌++◌, flat_map, length, map, refl, sym, ap, ◌∙◌, subst, append_assoc, codes}
+use Rattle.std.proofs.Common.{◌≡◌, ℕ, suc, Bool, true, false, List, [], ◌∷◌, ◌++◌, flat_map, length, map, refl, sym, ap, ◌∙◌, subst}
 use Rattle.std.proofs.lemmas.List.{length-map}
 use Rattle.yf_comments.specs.Comment.{CommentValue}
 use Rattle.yf_events.specs.Event.{Placed, document_ends, document_starts}
 use Rattle.yf_events.specs.Tree.{DocumentTree, flat, flat_document, unplaced}
 use Rattle.yf_events.specs.declared.directive.Directive.{Directive}
 use Rattle.yf_events.specs.declared.document.Doc.{Doc}
-use Rattle.yf_stream.specs.ReadingOf.{floor_at}
 use Rattle.yf_emit.specs.FitDocuments.{FitDocuments, fit_no_documents, fit_document}
 use Rattle.yf_emit.specs.FoundTrees.{FoundTrees, none_found, one_found, words_of}
 use Rattle.yf_emit.specs.Normal.{Setting, root_spot}
@@ -16,7 +15,7 @@ use Rattle.yf_emit.proofs.BareNodes.{bare, bare_tree}
 use Rattle.yf_emit.proofs.FoundTexts.{FoundRoots, no_roots, one_root}
 use Rattle.yf_emit.proofs.GapsNoted.{HeadNote, bare_head}
 use Rattle.yf_emit.proofs.HeadRows.{HeadRows, mark_head, more_heads, heads_before}
-use Rattle.yf_emit.proofs.NoteTrees.{NotesMade, both_made, node_notes, regrouped, start_unlined, with_rows}
+use Rattle.yf_emit.proofs.NoteTrees.{NotesMade, both_made, node_notes, regrouped, start_unlined}
 use Rattle.yf_emit.proofs.PlacedRows.{PlacedRow}
 use Rattle.yf_emit.proofs.RowNotes.{AllNoted, RowNotes, no_row_notes, note_kept, notes_join}
 use Rattle.yf_emit.proofs.RowsRenoted.{rows_renoted}

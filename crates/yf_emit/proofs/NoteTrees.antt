@@ -7,26 +7,26 @@ use Rattle.yf_lines.specs.LineText.Follows.{nothing_follows}
 use Rattle.yf_lines.proofs.RestLemmas.{Rest, rest_start}
 use Rattle.yf_comments.specs.Comment.{CommentValue}
 use Rattle.yf_props.specs.Props.{PropsValue}
-use Rattle.yf_events.specs.Alike.{Alike, alike_scalars, alike_aliases, alike_sequences, alike_mappings}
-use Rattle.yf_events.specs.Event.{EventValue, Placed, mapping_ends, mapping_starts, scalar_node, sequence_ends, sequence_starts}
+use Rattle.yf_events.specs.Alike.{Alike, alike_scalars}
+use Rattle.yf_events.specs.Event.{Placed, mapping_ends, mapping_starts, scalar_node, sequence_ends, sequence_starts}
 use Rattle.yf_events.specs.declared.event.Entry.{Entry}
 use Rattle.yf_events.specs.declared.event.ScalarStyle.{ScalarStyle}
 use Rattle.yf_events.specs.declared.event.ScalarStyle.TheVariants.{Plain, Single, Double, Literal, Folded}
 use Rattle.yf_events.specs.declared.event.Span.{Span}
-use Rattle.yf_events.specs.Tree.{Standing, Node, scalar, alias, sequence, mapping, Items, no_items, item, Pairs, no_pairs, pair, flat, flat_items, flat_pairs, placed, spans_of_leaf, standing, unplaced}
+use Rattle.yf_events.specs.Tree.{Standing, Node, scalar, sequence, mapping, Items, item, Pairs, pair, flat, flat_items, flat_pairs, placed, spans_of_leaf, standing, unplaced}
 use Rattle.yf_grammar.specs.Meant.{Anywhere}
 use Rattle.yf_grammar.specs.Part.{NotedSince, end_or, floor_behind}
 use Rattle.yf_stream.specs.ReadingOf.{end_before, floor_at}
 use Rattle.yf_stream.proofs.BreachLemmas.{alike_values, values}
 use Rattle.yf_stream.proofs.FloorWalk.{end_same, floor_join}
-use Rattle.yf_stream.proofs.NodeNotes.{Unlined, collection_floor}
-use Rattle.yf_emit.specs.AlikeBlocks.{AlikeBlocks, alike_lines, alike_block_sequences, alike_block_mappings, AlikeBlockItems, no_block_items, block_item, AlikeBlockPairs, no_block_pairs, block_pair}
+use Rattle.yf_stream.proofs.NodeNotes.{collection_floor}
+use Rattle.yf_emit.specs.AlikeBlocks.{AlikeBlocks, alike_lines, AlikeBlockItems, no_block_items, block_item, AlikeBlockPairs, no_block_pairs, block_pair}
 use Rattle.yf_emit.specs.BlockLines.{content_lines, final_feeds}
-use Rattle.yf_emit.specs.Fits.{Fit, fit_nothing, fit_line, fit_scalar, fit_sequence, fit_mapping, FitItems, fit_no_items, fit_item, FitPairs, fit_no_pairs, fit_pair, FitScalar, LineNode, is_block_style, is_inline}
-use Rattle.yf_emit.specs.Normal.{Setting, Spot, entry_or, inner_spot, is_implicit, key_comment, key_spot, value_entries, value_of_implicit, value_spot}
+use Rattle.yf_emit.specs.Fits.{Fit, fit_nothing, fit_line, fit_scalar, fit_sequence, fit_mapping, FitItems, fit_item, FitPairs, fit_pair, FitScalar, LineNode, is_block_style, is_inline}
+use Rattle.yf_emit.specs.Normal.{Setting, Spot, entry_or, inner_spot, is_implicit, key_comment, key_spot, value_entries, value_of_implicit}
 use Rattle.yf_emit.specs.OneLine.{props_text, written}
 use Rattle.yf_emit.specs.RowShapes.{KeysAgree}
-use Rattle.yf_emit.specs.Rows.{Row, begins_below, behind_sign, blank_before_entry, block_scalar, colon_row, entry_row, explicit_pair, implicit_pair, is_empty_text, key_row, one_line_row, pair_rows as rows_of_pair, props_row, rows, rows_of_items, rows_of_pairs}
+use Rattle.yf_emit.specs.Rows.{Row, begins_below, blank_before_entry, block_scalar, colon_row, entry_row, is_empty_text, key_row, one_line_row, props_row, rows, rows_of_items, rows_of_pairs}
 use Rattle.yf_emit.proofs.AlikeLemmas.{same_below, same_implicit, same_sequence, same_written, setting}
 use Rattle.yf_emit.proofs.FixedBlocks.{blocks_alike}
 use Rattle.yf_emit.proofs.FlowEvents.{AllFlow, IsFlowEvent, flow_means}

@@ -1,5 +1,5 @@
 -- After each row of a text that was laid out, where the lines of the gap stand that it carries, with the comments after the row.
-use Rattle.std.proofs.Common.{◌≡◌, ℕ, zero, suc, ◌+◌, ◌<◌, ◌≤◌, Bool, true, false, true≢false, List, [], ◌∷◌, ◌++◌, drop, length, replicate, refl, sym, ap, ◌∙◌, subst, arith, length-append, length-drop, append-nil}
+use Rattle.std.proofs.Common.{◌≡◌, ℕ, zero, suc, ◌+◌, ◌≤◌, Bool, true, false, true≢false, List, [], ◌∷◌, ◌++◌, drop, length, refl, sym, ap, ◌∙◌, subst, arith, length-append, length-drop, append-nil}
 use Rattle.std.specs.Prelude.{◌&&◌, ◌||◌, not, ◌==◌}
 use Rattle.std.proofs.Math.Seq.{drop-append_seam}
 use Rattle.std.proofs.lemmas.List.{length-map}
@@ -10,13 +10,12 @@ use Rattle.yf_chars.specs.Class.{is_break_char, is_nb_char, is_ns_char, is_print
 use Rattle.yf_chars.specs.Signs.{BYTE_ORDER_MARK}
 use Rattle.yf_chars.specs.Text.{code}
 use Rattle.yf_chars.proofs.ChainLemmas.{chain_append, chain_forward, chain_meet, Meets, goes_on, falls_short}
-use Rattle.yf_lines.specs.Basic.{Break, LineStart}
 use Rattle.yf_lines.specs.Basic.LineStart.{after_break}
 use Rattle.yf_lines.specs.Basic.SeparateInLine.{by_whites}
 use Rattle.yf_lines.specs.Rest.{Rest}
 use Rattle.yf_lines.proofs.RestLemmas.{rest_break, rest_spaces}
 use Rattle.yf_comments.specs.Comment.{CommentValue}
-use Rattle.yf_comments.specs.Comments.{Blank, BlankBefore, is_gap, LineEnd, LineRest, Row as CommentRow}
+use Rattle.yf_comments.specs.Comments.{Blank, BlankBefore, is_gap, LineRest, Row as CommentRow}
 use Rattle.yf_comments.specs.Comments.Blank.{break_ends}
 use Rattle.yf_comments.specs.Comments.BreakOrEnd.{by_break}
 use Rattle.yf_comments.specs.Comments.LineEnd.{past_rest}

@@ -16,8 +16,8 @@ use Rattle.yf_stream.proofs.FloorWalk.{end_same}
 use Rattle.yf_emit.specs.Fits.{is_block_style}
 use Rattle.yf_emit.specs.Rows.{Row, behind_key, blank_before_entry, joined}
 use Rattle.yf_emit.proofs.FlowEvents.{AllFlow, IsFlowEvent}
-use Rattle.yf_emit.proofs.FoundNodes.{IsHead, KeyOn, key_on, KeyRows, key_commented, key_above, key_alone, key_joined, SignRows, sign_alone, sign_joined}
-use Rattle.yf_emit.proofs.GapsNoted.{HeadNote, bare_head, entry_head}
+use Rattle.yf_emit.proofs.FoundNodes.{IsHead, KeyRows, key_commented, key_above, key_alone, key_joined, SignRows, sign_alone, sign_joined}
+use Rattle.yf_emit.proofs.GapsNoted.{HeadNote, entry_head}
 use Rattle.yf_emit.proofs.PlacedRows.{LastEnd, last_end_behind, PlacedRow}
 
 -- the last of some ends, and the last that is no later than a place

@@ -1,16 +1,15 @@
 -- The rows of a node that is found are those of the same node with other notes on blank lines.
-use Rattle.std.proofs.Common.{◌≡◌, ℕ, ◌+◌, Bool, true, false, List, [], ◌∷◌, ◌++◌, map, Option, Some, None, refl, sym, ap, ◌∙◌, subst}
+use Rattle.std.proofs.Common.{◌≡◌, ℕ, ◌+◌, Bool, true, false, List, ◌++◌, map, Option, Some, None, refl, sym, ap, ◌∙◌, subst}
 use Rattle.std.specs.Prelude.{is_some, not, ◌&&◌, if◌then◌else◌}
 use Rattle.yf_props.specs.Props.{PropsValue}
 use Rattle.yf_events.specs.Alike.{Alike, alike_scalars, alike_aliases, alike_sequences, alike_mappings, AlikeItems, alike_nothing, alike_item, AlikePairs, alike_no_pairs, alike_pair}
 use Rattle.yf_events.specs.declared.event.Entry.{Entry}
-use Rattle.yf_events.specs.declared.event.ScalarStyle.{ScalarStyle}
 use Rattle.yf_events.specs.declared.event.Span.{Span}
 use Rattle.yf_events.specs.Tree.{Standing, Node, scalar, alias, sequence, mapping, Items, no_items, item, Pairs, no_pairs, pair, entry_start, is_block_collection, items_in, items_in_items, items_in_pairs, leaves, leaves_of_items, leaves_of_pairs, spans_of_leaf, standing, starts_of_entry}
 use Rattle.yf_grammar.specs.Meant.{Anywhere}
 use Rattle.yf_grammar.proofs.KeptNodes.{SameEntry, no_entry, same_entry, SameStanding, Kept, kept_scalar, kept_alias, kept_sequence, kept_mapping, KeptItems, kept_no_items, kept_item, KeptPairs, kept_no_pairs, kept_pair, kept_standing}
-use Rattle.yf_grammar.proofs.NodePlaces.{Begins, ColonStands, Entered, NodeStands, stands_nowhere, scalar_stands, alias_stands, sequence_stands, mapping_stands, ItemsStand, no_items_stand, item_stands, PairsStand, no_pairs_stand, pair_stands}
-use Rattle.yf_emit.specs.Normal.{Setting, entry_or, value_entries}
+use Rattle.yf_grammar.proofs.NodePlaces.{Begins, ColonStands, NodeStands, stands_nowhere, scalar_stands, alias_stands, sequence_stands, mapping_stands, ItemsStand, no_items_stand, item_stands, PairsStand, no_pairs_stand, pair_stands}
+use Rattle.yf_emit.specs.Normal.{Setting, entry_or}
 use Rattle.yf_emit.specs.Rows.{begins_below, colon_offset}
 use Rattle.yf_emit.proofs.AlikeLemmas.{same_below, same_implicit, same_sequence, same_written}
 use Rattle.yf_emit.proofs.BareNodes.{bare, bare_entry, bare_items, bare_pairs, bare_standing}

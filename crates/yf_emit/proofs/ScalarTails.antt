@@ -1,12 +1,10 @@
 -- The comments after a block scalar that was laid out: those on the line of its header, and those from its end on, where the gap after it begins.
-use Rattle.std.proofs.Common.{◌≡◌, ℕ, ℤ, zero, suc, ◌+◌, ◌-◌, ◌<◌, ◌≤◌, ◌⊎◌, inl, inr, ⊎_elim, Bool, true, false, true≢false, List, [], ◌∷◌, ◌++◌, length, map, replicate, refl, sym, ap, ◌∙◌, subst, arith, length-append, add-zero, zero-add, append-nil}
+use Rattle.std.proofs.Common.{◌≡◌, ℕ, ℤ, zero, suc, ◌+◌, ◌-◌, ◌<◌, ◌≤◌, ◌⊎◌, inl, inr, ⊎_elim, Bool, true≢false, List, [], ◌∷◌, ◌++◌, length, map, replicate, refl, sym, ap, ◌∙◌, subst, arith, length-append, add-zero, zero-add}
 use Rattle.std.proofs.lemmas.Bool.{cases_lt}
 use Rattle.std.proofs.lemmas.List.{length-map, length-replicate}
 use Rattle.std.specs.Str.{IsUtf8}
 use Rattle.yf_chars.specs.Chain.{Chain, Functional}
 use Rattle.yf_chars.specs.Chain.Chain.{done, step}
-use Rattle.yf_chars.specs.Class.{is_break_char}
-use Rattle.yf_chars.specs.Text.{code}
 use Rattle.yf_chars.proofs.ChainLemmas.{chain_append, chain_meet, Meets, goes_on, falls_short}
 use Rattle.yf_lines.specs.Basic.{Break}
 use Rattle.yf_lines.specs.Basic.SeparateInLine.{by_whites}
@@ -40,10 +38,9 @@ use Rattle.yf_grammar.specs.BlockScalar.{LinesBetween, reach}
 use Rattle.yf_grammar.specs.BlockScalar.LinesBetween.{counted}
 use Rattle.yf_stream.proofs.BrokenEnds.{Broken}
 use Rattle.yf_stream.proofs.BrokenEnds.Broken.{at_break as break_at}
-use Rattle.yf_emit.specs.BlockLines.{block_lines, content_lines, final_feeds, header_text, line_at}
+use Rattle.yf_emit.specs.BlockLines.{block_lines, content_lines, final_feeds, line_at}
 use Rattle.yf_emit.specs.BlockValues.{chomp_of, header_of}
-use Rattle.yf_emit.specs.Carried.{IsDeco}
-use Rattle.yf_emit.specs.Decorated.{Deco, body_then, end_then}
+use Rattle.yf_emit.specs.Decorated.{Deco, body_then}
 use Rattle.yf_emit.proofs.ClearRows.{AreBodyTexts, no_body_text, body_text}
 use Rattle.yf_emit.proofs.ScalarHeld.{HeaderNotes, HeaderPassed, ScalarReached, lines_forward}
 
