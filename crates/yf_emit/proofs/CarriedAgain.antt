@@ -10,7 +10,7 @@ use Rattle.yf_emit.specs.Carried.{carried_texts}
 use Rattle.yf_emit.specs.Decorated.{Deco}
 use Rattle.yf_emit.specs.Layout.{Source, may_be_blank_behind, precedes_item, trailing, trimmed}
 use Rattle.yf_emit.specs.Rows.{Row}
-use Rattle.yf_emit.proofs.CommentsCut.{In, in_first, in_rest, Each, each_none, each_more, each_at, each_join, Under, Over, Upward, upward_none, upward_more, upward_over}
+use Rattle.yf_emit.proofs.CommentsCut.{In, in_first, in_rest, Each, each_none, each_more, each_at, each_join, each_map, Under, Over, Upward, upward_none, upward_more, upward_over}
 use Rattle.yf_emit.proofs.GapsAgain.{Blanks, gap_with}
 use Rattle.yf_emit.proofs.PlacedRows.{PlacedRow}
 use Rattle.yf_emit.proofs.PrintedSteps.{trimmed_texts}
@@ -41,17 +41,17 @@ pub data TrailTied (c : Source) (cs : List CommentValue) (row : Row) (p : Placed
   first_trails : (e : CommentValue) (x : List ℕ) → trailing c row ≡ e ∷ [] → d.trails ≡ x ∷ [] → trimmed x ≡ x → In e cs → p.upto ≤ e.offset → ((b : CommentValue) → In b cs → p.upto ≤ b.offset → e.offset ≤ b.offset)
       → TrailTied c cs row p d
 
--- the items of a row stand where the row does; before a row without items no comment was laid out on a line of its own
-pub data NextTied (next : Row) (o : PlacedRow) (d : Deco) : Type 0 where
-  bare_next : next.items ≡ [] → remarks_of d.gap ≡ [] → NextTied next o d
-  items_next : (cut : ℕ) → ((b : CommentValue) → precedes_item next b ≡ nat_lt b.offset cut) → o.from ≤ cut → cut ≤ o.upto → NextTied next o d
+-- the items of a row stand where the row does, or no comment stands between; before a row without items no comment was laid out on a line of its own
+pub data NextTied (cs : List CommentValue) (next : Row) (o : PlacedRow) (d : Deco) : Type 0 where
+  bare_next : next.items ≡ [] → remarks_of d.gap ≡ [] → NextTied cs next o d
+  items_next : (cut : ℕ) → ((b : CommentValue) → precedes_item next b ≡ nat_lt b.offset cut) → o.from ≤ cut → ((b : CommentValue) → In b cs → o.upto ≤ b.offset → cut ≤ b.offset) → NextTied cs next o d
 
 -- rows of a reading with the comments cs, where the rows with what they carry stand
 pub data Tied (c : Source) (cs : List CommentValue) : List Row → List PlacedRow → List Deco → List (List CommentValue) → Type 0 where
   last_tied : {row : Row} {p : PlacedRow} {d : Deco} {own : List CommentValue} (hs : List CommentValue) → TrailTied c cs row p d → d.gap ≡ gap_with row.ending 0 hs false
       → Blanks (may_be_blank_behind row.ending) false d.gap (standing_of d own) false → Tied c cs (row ∷ []) (p ∷ []) (d ∷ []) (own ∷ [])
   row_tied : {row next : Row} {rows : List Row} {p o : PlacedRow} {ps : List PlacedRow} {d : Deco} {ds : List Deco} {own : List CommentValue} {owns : List (List CommentValue)} (hs : List CommentValue) (b : Bool)
-      → TrailTied c cs row p d → d.gap ≡ gap_with row.ending next.column hs b → Blanks (may_be_blank_behind row.ending) false d.gap (standing_of d own) next.blank_before → NextTied next o d
+      → TrailTied c cs row p d → d.gap ≡ gap_with row.ending next.column hs b → Blanks (may_be_blank_behind row.ending) false d.gap (standing_of d own) next.blank_before → NextTied cs next o d
       → Tied c cs (next ∷ rows) (o ∷ ps) ds owns → Tied c cs (row ∷ next ∷ rows) (p ∷ o ∷ ps) (d ∷ ds) (own ∷ owns)
 
 pub record CarryAgain (c : Source) (rows : List Row) (ds : List Deco) (owns : List (List CommentValue)) : Type 0 where
@@ -97,7 +97,7 @@ same_first {e = e} {o = o} each_none l (upward_more m a) n (in_rest i) = absurd 
 same_first (each_more m a) l up n in_first = absurd (omega (arith, m, l))
 same_first (each_more m a) l up n (in_rest i) = same_first a l up n i
 
-in_join : {e : CommentValue} {xs : List CommentValue} (before : List CommentValue) → In e xs → In e (before ++ xs)
+pub in_join : {e : CommentValue} {xs : List CommentValue} (before : List CommentValue) → In e xs → In e (before ++ xs)
 in_join [] i = i
 in_join (b ∷ before) i = in_rest (in_join before i)
 
@@ -153,11 +153,15 @@ each_not : {cut k : ℕ} {cs : List CommentValue} (row : Row) → ((b : CommentV
 each_not row f l each_none = each_none
 each_not {cut} row f l (each_more {d = d} m a) = each_more (f d ∙ not_less d.offset cut (omega (arith, l, m))) (each_not row f l a)
 
-pub next_apart : {next : Row} {o : PlacedRow} {d : Deco} {k : ℕ} (here left : List CommentValue) → NextTied next o d → (remarks_of d.gap ≡ [] → here ≡ []) → k ≤ o.from → Under k here
-    → Over o.upto left → Apart next here left
-next_apart {next} here left (bare_next e f) g l u v =
+pub next_apart : {cs : List CommentValue} {next : Row} {o : PlacedRow} {d : Deco} {k : ℕ} (here left : List CommentValue) → NextTied cs next o d → (remarks_of d.gap ≡ [] → here ≡ []) → k ≤ o.from → Under k here
+    → ((cut : ℕ) → ((b : CommentValue) → In b cs → o.upto ≤ b.offset → cut ≤ b.offset) → Over cut left) → Apart next here left
+next_apart {next = next} here left (bare_next e f) g l u v =
     record { before = subst (λ z. Each (λ d. precedes_item next d ≡ true) z) (sym (g f)) each_none; behind = each_all (λ d. ap (λ z. list_any (λ i. nat_lt d.offset i) z) e) left }
-next_apart {next} here left (items_next cut f l m) g n u v = record { before = each_less next f (omega (arith, l, n)) u; behind = each_not next f m v }
+next_apart {next = next} here left (items_next cut f l m) g n u v = record { before = each_less next f (omega (arith, l, n)) u; behind = each_not {k = cut} next f (omega arith) (v cut m) }
+
+-- what follows stands from a cut on
+pub cut_over : {ts hs all cs : List CommentValue} {upto : ℕ} (before : List CommentValue) → cs ≡ before ++ all → Merged ts hs all → Over upto all → (cut : ℕ) → ((b : CommentValue) → In b cs → upto ≤ b.offset → cut ≤ b.offset) → Over cut hs
+cut_over {cs = cs} before e m a cut f = standing_over m (each_map (λ b i l. f b (subst (λ z. In b z) (sym e) (in_join before i)) l) a)
 
 -- Rows.
 
@@ -187,7 +191,7 @@ carry_again {c} before u e (row_owns {p = p} {d = d} {ds = ds} {k = k} {l = low}
     let here : Under k (standing_of d own) = each_right (trailing c row) (subst (λ z. Under k z) s.is v) in
     let bare : remarks_of d.gap ≡ [] → standing_of d own ≡ [] = λ z. none_stands d.trails own (is ∙ (ap (λ y. d.trails ++ y) z ∙ append-nil d.trails)) in
     let apart : Apart next (standing_of d own) (all_standing ds owns) =
-    next_apart (standing_of d own) (all_standing ds owns) x bare (omega (arith, n, from)) here (standing_over further.merged (first_over more)) in
+    next_apart (standing_of d own) (all_standing ds owns) x bare (omega (arith, n, from)) here (cut_over (before ++ own) (e ∙ sym (append_assoc before own (all_of owns))) further.merged (first_over more)) in
     record {
       carry = row_carries hs b s.trails q w apart further.carry;
       merged = both_merged (trailing c row) (standing_of d own) s.is further.merged;

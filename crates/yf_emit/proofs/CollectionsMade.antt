@@ -5,6 +5,7 @@ use Rattle.std.specs.Str.{IsUtf8}
 use Rattle.yf_chars.specs.declared.context.Ctx.{Ctx}
 use Rattle.yf_lines.proofs.RestLemmas.{Rest, rest_spaces, rest_stands, rest_text}
 use Rattle.yf_comments.specs.Comment.{CommentValue}
+use Rattle.yf_comments.specs.Comments.{LineEnd}
 use Rattle.yf_comments.proofs.GapLinesLemmas.{texts}
 use Rattle.yf_props.specs.Props.{PropsValue, TagValue, no_props}
 use Rattle.yf_props.specs.Props.TagValue.{IsVerbatim, IsShort, IsNonSpecific}
@@ -29,7 +30,7 @@ use Rattle.yf_emit.proofs.HeldLemmas.{held_behind, held_collection, held_collect
 use Rattle.yf_emit.proofs.FoundNodes.{FoundNode, found_behind}
 use Rattle.yf_emit.proofs.NodePlaces.{NodeAt, entries_at, propertied_at}
 use Rattle.yf_emit.proofs.NodesMade.{Stood, NodeMade, Claim, some_rows}
-use Rattle.yf_emit.proofs.PlacedRows.{none_inside, PlacedRow, AtRow, EndsRow, RowsIn, row_before}
+use Rattle.yf_emit.proofs.PlacedRows.{none_inside, PlacedRow, AtRow, no_leaf_to, behind_line, EndsRow, RowsIn, row_before}
 use Rattle.yf_emit.proofs.RowEnds.{row_end, end_follows, first_deco, after_decos}
 use Rattle.yf_emit.proofs.SetMeant.{column_start, set_behind, set_collection, set_propertied}
 use Rattle.yf_emit.proofs.StepsStand.{MeaningLaid, laid_after, laid_behind, laid_collection, laid_collection_with}
@@ -95,7 +96,7 @@ unfolding behind
 comments_behind cs x = refl
 
 row_before_rows : {t : List ℕ} {column : ℕ} {row : Row} {rs : List Row} {p : PlacedRow} {ps : List PlacedRow} {ds : List Deco} {i k j : ℕ} {own cs : List CommentValue} {r : List ℕ} → Begins column rs → AtRow row i p
-    → EndsRow t (first ds) p.upto own k → Rest t k (lines_then rs (after ds) r) → RowsIn t rs ps (after ds) (k + column) cs j r → RowsIn t (row ∷ rs) (p ∷ ps) ds i (own ++ cs) j r
+    → EndsRow t row.body (first ds) p own k → Rest t k (lines_then rs (after ds) r) → RowsIn t rs ps (after ds) (k + column) cs j r → RowsIn t (row ∷ rs) (p ∷ ps) ds i (own ++ cs) j r
 row_before_rows {t} {ps = ps} {ds = ds} {k = k} {j = j} {cs = cs} {r = r} (begins {r = y} {rs = ys} e) at end w a =
     row_before at end w (subst (λ z. RowsIn t (y ∷ ys) ps (after ds) (k + z) cs j r) (sym e) a)
 
@@ -136,9 +137,9 @@ module _ {s : Setting} {x : Node} {spot : Spot} {es : List Row} {sequence : Bool
     (meant : (t : List ℕ) (o : Option ℕ) (f g i j : ℕ) (m : Meaning) (h : PlacedRow) (ps : List PlacedRow) → h.items ≡ [] → h.leaves ≡ [] → h.commented ≡ false → Q t m ps
     → FoundNode t s spot.entries x (with_props p o f g (collection sequence false i j m)) (h ∷ ps))
     (e : EntriesMakes s sequence spot.entries bound Q es) where
-  propertied_made : {t : List ℕ} (row : Row) → row.text ≡ props_bytes p → row.body ≡ [] → row.leaves ≡ [] → is_some row.key_comment ≡ false → (n : ℤ) (c : Ctx) (ds : List Deco) (r : List ℕ) (q : ℕ) → IsUtf8 t → Stood s x n c spot
+  propertied_made : {t : List ℕ} (row : Row) → row.text ≡ props_bytes p → row.body ≡ [] → row.items ≡ [] → row.leaves ≡ [] → is_some row.key_comment ≡ false → (n : ℤ) (c : Ctx) (ds : List Deco) (r : List ℕ) (q : ℕ) → IsUtf8 t → Stood s x n c spot
       → AreDecos ds → Calm (row ∷ es) ds r → Rest t q (inline_then (row ∷ es) ds r) → NodeMade t s n c spot.entries x (row ∷ es) ds q r
-  propertied_made {t} row text body none key n c ds r q u stood a k w =
+  propertied_made {t} row text body no_items none key n c ds r q u stood a k w =
       let there : Rest t q (props_bytes p ++ end_then (first ds) [] (lines_then es (after ds) r)) =
       subst (λ l. Rest t q (props_bytes p ++ end_then (first ds) l (lines_then es (after ds) r))) body
       (subst (λ v. Rest t q (v ++ end_then (first ds) row.body (lines_then es (after ds) r))) text w) in
@@ -176,7 +177,13 @@ module _ {s : Setting} {x : Node} {spot : Spot} {es : List Row} {sequence : Bool
               items = none_inside;
               leaves = none_inside;
               commented = key;
-            }) (record { ascend = subst (λ z. Ascend t (q + z) end.comments end.place) width (end_ascends end.end); is = end.is; start = end.start }) end.rest one.placed);
+              bare = λ z. no_items;
+            }) (record {
+              ascend = subst (λ z. Ascend t (q + z) end.comments end.place) width (end_ascends end.end);
+              is = end.is;
+              start = end.start;
+              tail = behind_line body (subst (λ z. LineEnd t (q + z) end.place end.comments) width end.end) no_leaf_to;
+            }) end.rest one.placed);
         is = texts_behind end.comments (with_props p offset q g inner) ∙ (ap (λ z. z ++ texts (with_props p offset q g inner).comments) end.is
             ∙ ap (λ z. carried_texts (first ds) ++ z) (texts_with_props p offset q g inner ∙ (texts_collection sequence false (end.place + spot.entries) one.meaning.finish one.meaning ∙ one.is)));
         laid = subst (λ z. MeaningLaid q one.place (behind end.comments (with_props p offset q g inner)) (leaf_steps z ++ (comment_steps (carried_texts (first ds)) ++ steps_in es (after ds)))) (sym none)
@@ -193,7 +200,7 @@ module _ {s : Setting} {x : Node} {spot : Spot} {es : List Row} {sequence : Bool
   propertied_row (b ∷ w) text f =
       some_rows (λ z. refl) (λ z. absurd (true≢false (sym z ∙ below))) (record {
         made = λ {t} n c ds r q u stood a k v.
-            propertied_made (record (plain_row spot.column (b ∷ w)) { ending = before_node }) text refl refl refl n c ds r q u stood a k v;
+            propertied_made (record (plain_row spot.column (b ∷ w)) { ending = before_node }) text refl refl refl refl n c ds r q u stood a k v;
       })
 
   pub propertied_claim : Claim s x spot (props_row spot.column (props_text p) ++ es)

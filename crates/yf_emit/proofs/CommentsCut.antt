@@ -7,6 +7,7 @@ use Rattle.std.proofs.lemmas.Bool.Decides.{nat_tests}
 use Rattle.std.proofs.lemmas.List.Elements.{filter-append}
 use Rattle.std.proofs.lemmas.List.Folds.{list_any-append}
 use Rattle.yf_comments.specs.Comment.{CommentValue}
+use Rattle.yf_grammar.proofs.CommentOrder.{Ascend, no_more, one_more}
 use Rattle.yf_emit.specs.Decorated.{comments_left}
 use Rattle.yf_emit.specs.Layout.{Source, is_among, precedes_item, trailing}
 use Rattle.yf_emit.specs.Rows.{Row}
@@ -60,6 +61,10 @@ pub data Upward : ℕ → List CommentValue → Type 0 where
 pub upward_over : {i : ℕ} {cs : List CommentValue} (h : ℕ) → h ≤ i → Upward i cs → Over h cs
 upward_over h l upward_none = each_none
 upward_over h l (upward_more m a) = each_more (omega (arith, l, m)) (upward_over h (omega (arith, l, m)) a)
+
+pub upward_of : {t : List ℕ} {i j : ℕ} {cs : List CommentValue} → Ascend t i cs j → Upward i cs
+upward_of (no_more l) = upward_none
+upward_of (one_more l s a) = upward_more l (upward_of a)
 
 upward_from : {i : ℕ} {cs : List CommentValue} (h : ℕ) → Over h cs → Upward i cs → Upward h cs
 upward_from h each_none upward_none = upward_none

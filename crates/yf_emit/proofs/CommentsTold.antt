@@ -7,26 +7,21 @@ use Rattle.yf_events.specs.Event.{Placed, document_starts, document_ends, stream
 use Rattle.yf_events.specs.Reading.{leaf_starts}
 use Rattle.yf_events.specs.Tree.{DocumentTree, flat, flat_document, flat_stream, leaves, unplaced}
 use Rattle.yf_events.specs.declared.lists.Lists.{Lists}
-use Rattle.yf_grammar.proofs.CommentOrder.{Ascend, no_more, one_more}
 use Rattle.yf_emit.specs.Beginnings.{leaves_begin, steps_with}
 use Rattle.yf_emit.specs.Decorated.{first_gap, row_decos}
 use Rattle.yf_emit.specs.Layout.{Remark, source_of, trailing}
 use Rattle.yf_emit.specs.Rows.{Row, at_text_start}
 use Rattle.yf_emit.specs.Steps.{Step, comment_steps, steps_of, told}
-use Rattle.yf_emit.proofs.CommentsCut.{each_none, Upward, upward_none, upward_more, own_of, Flowing, flowing_over, cuts_made}
+use Rattle.yf_emit.proofs.CommentsCut.{each_none, Upward, own_of, Flowing, flowing_over, cuts_made}
 use Rattle.yf_emit.proofs.DocumentTrails.{leaves_of}
 use Rattle.yf_emit.proofs.PrintedSteps.{steps_of_leaves, steps_printed, trimmed_by, printed_steps, cuts_told}
 use Rattle.yf_emit.proofs.StartsBefore.{starts_before}
 use Rattle.yf_emit.proofs.StepsStand.{starts_of, starts_append, node_starts}
 
-firsts : (cs : List CommentValue) (bs : List Bool) → length bs ≡ length cs → map (λ (r : Remark). r.0) (zip cs bs) ≡ cs
+pub firsts : (cs : List CommentValue) (bs : List Bool) → length bs ≡ length cs → map (λ (r : Remark). r.0) (zip cs bs) ≡ cs
 firsts [] bs e = refl
 firsts (c ∷ cs) [] e = absurd (omega (arith, e))
 firsts (c ∷ cs) (b ∷ bs) e = ap (λ w. c ∷ w) (firsts cs bs (omega (arith, e)))
-
-pub upward_of : {t : List ℕ} {i j : ℕ} {cs : List CommentValue} → Ascend t i cs j → Upward i cs
-upward_of (no_more l) = upward_none
-upward_of (one_more l s a) = upward_more l (upward_of a)
 
 without_zero : (ss : List ℕ) (cs : List CommentValue) → trimmed_by (λ o. 0 + starts_before ss o) cs ≡ trimmed_by (starts_before ss) cs
 without_zero ss [] = refl

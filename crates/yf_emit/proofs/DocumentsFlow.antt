@@ -101,16 +101,16 @@ head_bare false start (d ∷ ds) ys next more e = ap (λ (rs : List Row). first_
 
 module _ {t : List ℕ} (lines : List Line) (are_lines : AreLines t lines) (c : Source) (cs : List CommentValue) (remarks : c.remarks ≡ zip cs (leaf_lines lines c.leaves cs))
     (sign : (d : CommentValue) → In d cs → code t d.offset ≡ 35) where
-  abbrev note : CommentValue → Bool
+  abbrev pub note : CommentValue → Bool
   note d = on_line_of lines (last_leaf None d.offset c.leaves) d.offset
 
-  note_is : (s : Span) (r : Remark) → first_comment c s ≡ Some r → r.1 ≡ note r.0
+  pub note_is : (s : Span) (r : Remark) → first_comment c s ≡ Some r → r.1 ≡ note r.0
   note_is s r e =
       noted_as (λ d. nat_lt s.start d.offset && is_before d.offset (next_leaf c.leaves s.start)) note cs r
       (sym (ap (λ w. find (λ (q : Remark). nat_lt s.start q.0.offset && is_before q.0.offset (next_leaf c.leaves s.start)) w) remarks) ∙ e)
 
   -- a comment on the line on which a leaf ends, before the end of the document that has the leaf
-  on_line_before : (j : ℕ) → Broken t j → (e : CommentValue) (s : Span) → In e cs → list_any (is_on_line s.end e.offset) lines ≡ true → s.end ≤ j → e.offset < j
+  pub on_line_before : (j : ℕ) → Broken t j → (e : CommentValue) (s : Span) → In e cs → list_any (is_on_line s.end e.offset) lines ≡ true → s.end ≤ j → e.offset < j
   on_line_before j z e s i on l = ⊎_elim (λ (w : e.offset < j). w) (λ (w : j ≤ e.offset). absurd (past z w)) (cases_lt e.offset j) where
     past : Broken t j → j ≤ e.offset → ⊥
     past (at_break b) w = unbroken_line are_lines s.end e.offset _ j on b l w
@@ -135,11 +135,11 @@ module _ {t : List ℕ} (lines : List Line) (are_lines : AreLines t lines) (c : 
         let on : list_any (is_on_line s.end e.offset) lines ≡ true = sym (ap (λ o. on_line_of lines o e.offset) last) ∙ noted in
         let l : e.offset < j = on_line_before j z e s i on end in
         omega (arith, l)
-  near_before j z row e [] ys bare i ends (before_leaf next more q s has l) = absurd (none (bare next more q) has) where
+  near_before j z row e [] ys bare i ends (before_leaf key next more q s has l) = absurd (none (bare next more q) has) where
     none : {ls : List Span} → ls ≡ [] → Has s ls → ⊥
     none p has_first = absurd cc
     none p (has_rest h) = absurd cc
-  near_before j z row e (x ∷ xs) ys bare i ends (before_leaf next more q s has l) =
+  near_before j z row e (x ∷ xs) ys bare i ends (before_leaf key next more q s has l) =
       let same : x ≡ next = cc in
       let here : Has s x.leaves = subst (λ (r : Row). Has s r.leaves) (sym same) has in
       let low : s.start ≤ j = (ends s (has_right row.leaves (has_left (leaves_on xs) here))).0 in

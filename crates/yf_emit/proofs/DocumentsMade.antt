@@ -1,5 +1,5 @@
 -- A document from its rows: its directives, its `---` and its node.
-use Rattle.std.proofs.Common.{◌≡◌, ℕ, ◌+◌, ◌<◌, ◌≤◌, pos, Bool, true, false, List, [], ◌∷◌, ◌++◌, length, map, slice_range, refl, sym, ap, ◌∙◌, subst, arith, append-nil}
+use Rattle.std.proofs.Common.{◌≡◌, ℕ, ◌+◌, ◌<◌, ◌≤◌, pos, Bool, true, false, List, [], ◌∷◌, ◌++◌, length, map, slice_range, refl, sym, ap, ◌∙◌, subst, arith, append-nil, length-append}
 use Rattle.std.specs.Prelude.{is_some, ◌-ℤ◌, ◌≤ℤ◌, ◌&&◌, ◌==◌, not}
 use Rattle.std.specs.Str.{IsUtf8}
 use Rattle.std.proofs.lemmas.Bool.Decides.{nat_tests}
@@ -12,6 +12,7 @@ use Rattle.yf_lines.specs.LineText.{IsLineText, Follows}
 use Rattle.yf_lines.specs.LineText.Follows.{byte_follows}
 use Rattle.yf_lines.proofs.RestLemmas.{Rest, rest_spaces, rest_text, line_nothing}
 use Rattle.yf_comments.specs.Comment.{CommentValue}
+use Rattle.yf_comments.specs.Comments.{LineEnd}
 use Rattle.yf_comments.proofs.GapLinesLemmas.{texts, texts_append}
 use Rattle.yf_events.specs.Event.{Placed}
 use Rattle.yf_events.specs.declared.directive.Directive.{Directive}
@@ -42,7 +43,8 @@ use Rattle.yf_emit.proofs.FoundNodes.{FoundNode, found_behind, found_noting, fou
 use Rattle.yf_emit.proofs.LaidRows.{steps_append, laid_row}
 use Rattle.yf_emit.proofs.NodePlaces.{below_at}
 use Rattle.yf_emit.proofs.NodesMade.{Stood, Claim, no_row, some_rows, noting_nothing}
-use Rattle.yf_emit.proofs.PlacedRows.{none_inside, one_inside, PlacedRow, AtRow, RowsIn, last_row, row_before, rows_in_append}
+use Rattle.yf_emit.proofs.HeadRows.{BareRows, no_head_row, one_head_row, bare_join}
+use Rattle.yf_emit.proofs.PlacedRows.{never_bare, none_inside, one_inside, PlacedRow, AtRow, no_leaf_to, behind_line, RowsIn, last_row, row_before, rows_in_append}
 use Rattle.yf_emit.proofs.RowEnds.{row_end, first_deco, after_decos}
 use Rattle.yf_emit.proofs.SetMeant.{column_start, SetDone, SetMeant, set_done, done_behind, done_empty}
 use Rattle.yf_emit.proofs.SetNodes.{ColumnAt}
@@ -60,6 +62,8 @@ pub record ExplicitMade (t : List ℕ) (s : Setting) (x : Node) (rs : List Row) 
   pub start : LineStart t place
   pub head : PlacedRow
   pub starts : head.items ≡ q ∷ []
+  pub unleaved : head.leaves ≡ []
+  pub from : head.from ≡ q
   pub inner : List PlacedRow
   pub meant : FoundNode t s 0 x meaning inner
   pub placed : RowsIn t rs (head ∷ inner) ds q meaning.comments place r
@@ -80,6 +84,7 @@ mark_stands q width key = record {
   items = one_inside (omega arith) (omega arith) none_inside;
   leaves = none_inside;
   commented = key;
+  bare = λ z. never_bare z;
 }
 
 same_number : (c : ℕ) → (c == c) ≡ true
@@ -137,10 +142,12 @@ explicit_made {t} {s} {x} row ds r q none bare width key (no_row m) free u a k w
       start = end.start;
       head = mark_row q;
       starts = refl;
+      unleaved = refl;
+      from = refl;
       inner = [];
       meant = found_noting end.comments (found_nothing (q + 3) (m.meant (q + 3)));
       placed = subst (λ v. RowsIn t (row ∷ []) (mark_row q ∷ []) ds q v end.place r) (sym (noting_nothing (q + 3) end.comments))
-          (last_row (mark_stands q width key) (record { ascend = end_ascends end.end; is = end.is; start = end.start }) end.rest);
+          (last_row (mark_stands q width key) (record { ascend = end_ascends end.end; is = end.is; start = end.start; tail = behind_line bare end.end no_leaf_to }) end.rest);
       is = texts_noting (empty_node (q + 3)) end.comments ∙ (ap (λ z. z ++ texts end.comments) (texts_empty (q + 3)) ∙ (end.is ∙ sym (append-nil (carried_texts (first ds)))));
       laid = subst (λ z. MeaningLaid q end.place (noting (empty_node (q + 3)) end.comments) (leaf_steps z ++ (comment_steps (carried_texts (first ds)) ++ []))) (sym none)
           (laid_row (empty_node (q + 3)) end.comments [] (laid_empty (q + 3) (omega arith)) (end_ascends end.end) end.is);
@@ -166,10 +173,12 @@ explicit_made {t} {s} {x} row ds r q none bare width key (some_rows {r = y} {rs 
       start = node.start;
       head = mark_row q;
       starts = refl;
+      unleaved = refl;
+      from = refl;
       inner = node.found_rows;
       meant = found_behind end.comments node.meant;
       placed = subst (λ v. RowsIn t (row ∷ y ∷ ys) (mark_row q ∷ node.found_rows) ds q v node.place r) (sym (comments_behind end.comments node.meaning))
-          (row_before (mark_stands q width key) (record { ascend = end_ascends end.end; is = end.is; start = end.start }) end.rest node.placed);
+          (row_before (mark_stands q width key) (record { ascend = end_ascends end.end; is = end.is; start = end.start; tail = behind_line bare end.end no_leaf_to }) end.rest node.placed);
       is = texts_behind end.comments node.meaning ∙ (ap (λ z. z ++ texts node.meaning.comments) end.is ∙ ap (λ z. carried_texts (first ds) ++ z) node.is);
       laid = subst (λ z. MeaningLaid q node.place (behind end.comments node.meaning) (leaf_steps z ++ (comment_steps (carried_texts (first ds)) ++ steps_in (y ∷ ys) (after ds)))) (sym none)
           (laid_after (omega arith) (laid_behind end.comments node.meaning (end_ascends end.end) end.is (omega arith) node.laid));
@@ -191,6 +200,7 @@ pub record DirectivesMade (t : List ℕ) (dirs : List Directive) (rs : List Row)
   pub stand : Stand q [] meaning.comments (steps_in rs ds) place
   pub held : (es : List Placed) → EventsHeld t es meaning.comments rs ds r
   pub found_rows : List PlacedRow
+  pub heads : BareRows (length meaning.directives) found_rows
   pub placed : RowsIn t rs found_rows ds q meaning.comments place r
 
 percent_line : {w : List ℕ} → IsLineText w → IsLineText (37 ∷ w)
@@ -220,15 +230,22 @@ one_directive {t} {d} row ds r q none bare said key fit u a w =
       words = ap (λ z. z ∷ []) at.are;
       rest = end.rest;
       is = end.is ∙ sym (append-nil (carried_texts (first ds)));
-      found_rows = record { items = []; leaves = []; commented = false; from = q; upto = q + length row.text } ∷ [];
+      found_rows = record { items = q ∷ []; leaves = []; commented = false; from = q; upto = q + length row.text } ∷ [];
+      heads = one_head_row refl no_head_row;
       placed = last_row (record {
         from = refl;
         order = omega arith;
         size = λ z. refl;
-        items = none_inside;
+        items = one_inside (omega arith) (omega arith) none_inside;
         leaves = none_inside;
         commented = key;
-      }) (record { ascend = subst (λ v. Ascend t (q + length v) end.comments end.place) (sym said) (end_ascends end.end); is = end.is; start = end.start }) end.rest;
+        bare = λ z. never_bare z;
+      }) (record {
+        ascend = subst (λ v. Ascend t (q + length v) end.comments end.place) (sym said) (end_ascends end.end);
+        is = end.is;
+        start = end.start;
+        tail = behind_line bare (subst (λ v. LineEnd t (q + length v) end.place end.comments) (sym said) end.end) no_leaf_to;
+      }) end.rest;
       stand = row_stands row ds none (stand_after (omega arith) (comments_stand (end_ascends end.end) end.is));
       held = λ es. let ended = row_ended (first ds) r u (directive_seen u at) (first_deco a) text.rest end.end in record { comments = ended.comments; bodies = (bare_row t es row (first ds) r bare ended.seen, tt) };
     }
@@ -250,6 +267,7 @@ directives_made {t} {d = d} row ds r q none bare said key fit (fit_directive {d 
       is = texts_append one.meaning.comments more.meaning.comments ∙ (ap (λ z. z ++ texts more.meaning.comments) (one.is ∙ append-nil (carried_texts (first ds)))
           ∙ ap (λ z. carried_texts (first ds) ++ z) more.is);
       found_rows = one.found_rows ++ more.found_rows;
+      heads = bare_join (length (one.meaning.directives ++ more.meaning.directives)) (length-append one.meaning.directives more.meaning.directives) one.heads more.heads;
       placed = rows_in_append one.placed (subst (λ z. RowsIn t (map directive_row (e ∷ es)) more.found_rows (after ds) z more.meaning.comments more.place r) (omega arith) more.placed);
       stand = subst (λ z. Stand q [] (one.meaning.comments ++ more.meaning.comments) z more.place) (sym (steps_append (row ∷ []) (map directive_row (e ∷ es)) ds)) (stand_join one.stand more.stand);
       held = λ ps. record {

@@ -47,12 +47,16 @@ documents_fixed {s} {cs} {es} {u} t (z ∷ read) e (one_found {x = x} {y = y} {x
       rest_of [] = []
       rest_of (w ∷ ws) = ws
 
+pub roots_fixed : {t u : List ℕ} {s : Style} (f : Formats t s u) (q : Lists) (found : List DocumentTree) → FoundTrees s f.normal.comments u q.comments f.normal.documents f.writes.trees q.documents found
+    → map (normal_document u (setting_of q s)) found ≡ found
+roots_fixed {t} {u} {s} f q found alike =
+    let n = normal_trees f in documents_fixed t n.trees (n.same ∙ ap (λ cs. map (normal_document t (setting s cs)) n.trees) (sym n.comments)) alike
+
 -- where the same trees are found the reading is its own normal form
 pub found_normal : {t u : List ℕ} {s : Style} (f : Formats t s u) (q : Lists) (found : List DocumentTree) → TreesOf q found
     → FoundTrees s f.normal.comments u q.comments f.normal.documents f.writes.trees q.documents found → Normal u q s q
-found_normal {t} {u} {s} f q found of_reading alike =
-    let n = normal_trees f in
-    let roots : map (normal_document u (setting_of q s)) found ≡ found = documents_fixed t n.trees (n.same ∙ ap (λ cs. map (normal_document t (setting s cs)) n.trees) (sym n.comments)) alike in
+found_normal {u = u} {s = s} f q found of_reading alike =
+    let roots : map (normal_document u (setting_of q s)) found ≡ found = roots_fixed f q found alike in
     record { trees = found; of_reading = of_reading; is = ap (λ z. record q { events = z }) of_reading.events ∙ ap (λ z. record q { events = flat_stream z }) (sym roots) }
 
 pub found_fixed : {t u : List ℕ} {s : Style} (f : Formats t s u) (q : Lists) (found : List DocumentTree) → ReadingOf u q → FoundSame f.normal s f.writes.trees u q found → Formats u s u

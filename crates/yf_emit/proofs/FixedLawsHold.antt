@@ -1,15 +1,18 @@
 -- The reading of what formatting gives is in normal form.
-use Rattle.std.proofs.Common.{◌≡◌, ℕ, ◌+◌, ◌<◌, List, [], ◌∷◌, ◌++◌, length, map, sym, ap, ◌∙◌, subst, append-nil}
+use Rattle.std.proofs.Common.{◌≡◌, ℕ, ◌<◌, true, List, [], ◌∷◌, ◌++◌, length, map, sym, ap, ◌∙◌, subst, append-nil}
+use Rattle.std.specs.Str.{IsUtf8}
 use Rattle.std.proofs.lemmas.List.{length-map}
 use Rattle.yf_comments.specs.Comment.{CommentValue}
 use Rattle.yf_events.specs.Event.{stream_starts, stream_ends}
 use Rattle.yf_events.specs.Tree.{DocumentTree, flat_stream, unplaced}
 use Rattle.yf_events.specs.declared.lists.Lists.{Lists}
-use Rattle.yf_stream.specs.ReadingOf.{doc_of}
+use Rattle.yf_stream.specs.ReadingOf.{ReadingOf, doc_of}
 use Rattle.yf_stream.specs.Stream.{Documents}
+use Rattle.yf_emit.specs.declared.style.Style.{Style}
 use Rattle.yf_emit.specs.Decorated.{Deco, rows_of}
 use Rattle.yf_emit.specs.FitDocuments.{DocumentsMeant}
 use Rattle.yf_emit.specs.FixedLaws.{FormatsAreNormal}
+use Rattle.yf_emit.specs.Format.{Formats}
 use Rattle.yf_emit.specs.FoundTrees.{FoundTrees}
 use Rattle.yf_emit.specs.Normal.{Setting, normal_document, setting_of}
 use Rattle.yf_emit.specs.Rows.{Row}
@@ -18,9 +21,9 @@ use Rattle.yf_emit.proofs.BareTrees.{trees_bare}
 use Rattle.yf_emit.proofs.CommentsCut.{Each, each_none}
 use Rattle.yf_emit.proofs.FixedFormats.{found_normal}
 use Rattle.yf_emit.proofs.FormatTrails.{normal_trees}
-use Rattle.yf_emit.proofs.FormatsRead.{formats_laid}
+use Rattle.yf_emit.proofs.FormatsRead.{FormattedLaid, formats_laid}
 use Rattle.yf_emit.proofs.FoundStreams.{StreamIn, no_stream, stream_in, FoundDocuments}
-use Rattle.yf_emit.proofs.FoundTexts.{Settled, normal_settled, roots_found, trees_found}
+use Rattle.yf_emit.proofs.FoundTexts.{FoundRoots, Settled, normal_settled, roots_found, trees_found}
 use Rattle.yf_emit.proofs.PlacedRows.{PlacedRow}
 use Rattle.yf_emit.proofs.QuietPlaces.{AllQuiet, quiet_none, ascend_under, Carries, decos_carry, Linked, linked_none, quiet_offsets, linked_offsets, rows_linked, rows_quiet}
 
@@ -35,8 +38,18 @@ stream_linked : {t : List ℕ} {rs : List Row} {ps : List PlacedRow} {ds : List 
 stream_linked before c no_stream = linked_none
 stream_linked before c (stream_in {ps = ps} {cs = cs} b rows) = subst (λ z. Linked (before ++ z) ps) (append-nil cs) (rows_linked before [] c rows)
 
-pub formats_normal : FormatsAreNormal
-formats_normal t u s utf8 f q a =
+-- What is found in each reading q of what formatting gives: its trees, as they were laid out, on the rows of the layout.
+pub record FoundReading {t : List ℕ} {s : Style} {u : List ℕ} (f : Formats t s u) (q : Lists) (a : ReadingOf u q) : Type 0 where
+  pub laid : FormattedLaid f
+  pub derived : a.derived ≡ laid.well.documents
+  pub quiet : AllQuiet q.comments laid.found_rows
+  pub trees : List DocumentTree
+  pub roots : FoundRoots u (setting_of f.normal s) true q.documents f.writes.trees trees laid.found_rows
+  pub same : map bare_tree trees ≡ map bare_tree a.trees
+  pub alike : FoundTrees s f.normal.comments u q.comments f.normal.documents f.writes.trees q.documents a.trees
+
+pub found_reading : (t u : List ℕ) (s : Style) (q : Lists) → IsUtf8 t → (f : Formats t s u) → (a : ReadingOf u q) → FoundReading f q a
+found_reading t u s q utf8 f a =
     let all = formats_laid t u s utf8 f in
     let m : Lists = f.normal in
     let trees : List DocumentTree = f.writes.trees in
@@ -44,7 +57,7 @@ formats_normal t u s utf8 f q a =
     let shapes = a.reads.shapes in
     let derived : a.derived ≡ all.well.documents = all.well.reads.shapes.only shapes.height a.derived shapes.derived shapes.within in
     let meant : DocumentsMeant m.documents trees a.derived.documents = subst (λ (w : Documents). DocumentsMeant m.documents trees w.documents) (sym derived) all.well.meant in
-    let found : FoundDocuments u c trees a.derived.documents all.found_rows = subst (λ (w : Documents). FoundDocuments u c trees w.documents all.found_rows) (sym derived) all.found in
+    let found : FoundDocuments u c true trees a.derived.documents all.found_rows = subst (λ (w : Documents). FoundDocuments u c true trees w.documents all.found_rows) (sym derived) all.found in
     let comments : all.firsts ++ all.others ≡ a.derived.comments = sym all.are ∙ ap (λ (w : Documents). w.comments) (sym derived) in
     let quiet : AllQuiet q.comments all.found_rows =
     quiet_offsets a.comments (subst (λ z. AllQuiet z all.found_rows) comments (stream_quiet all.firsts (ascend_under all.ascend) all.placed)) in
@@ -59,4 +72,15 @@ formats_normal t u s utf8 f q a =
     let settled : Settled c trees =
     subst (λ z. Settled c z) (sym (n.same ∙ ap (λ cs. map (normal_document t (record { style = s; comments = cs })) n.trees) (sym n.comments))) (normal_settled t c n.trees) in
     let here : FoundTrees s m.comments u q.comments m.documents trees (map doc_of a.derived.documents) a.trees = trees_found a.trees meant roots.roots same settled quiet linked in
-    found_normal f q a.trees a.of_reading (subst (λ z. FoundTrees s m.comments u q.comments m.documents trees z a.trees) (sym a.documents) here)
+    record {
+      laid = all;
+      derived = derived;
+      quiet = quiet;
+      trees = roots.trees;
+      roots = subst (λ z. FoundRoots u c true z trees roots.trees all.found_rows) (sym a.documents) roots.roots;
+      same = same;
+      alike = subst (λ z. FoundTrees s m.comments u q.comments m.documents trees z a.trees) (sym a.documents) here;
+    }
+
+pub formats_normal : FormatsAreNormal
+formats_normal t u s utf8 f q a = found_normal f q a.trees a.of_reading (found_reading t u s q utf8 f a).alike

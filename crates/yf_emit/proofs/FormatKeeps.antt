@@ -1,11 +1,12 @@
--- What formatting gives is the one text that it may give, is accepted, has the same content, and the same comments at the same places, and is in
--- normal form.
+-- What formatting gives is the one text that it may give, is accepted, has the same content, and the same comments at the same places, is in normal
+-- form, and a second run changes nothing.
 use Rattle.std.proofs.Common.{List, ℕ}
 use Rattle.std.specs.Str.{IsUtf8}
 use Rattle.yf_emit.specs.declared.style.Style.{Style}
 use Rattle.yf_emit.specs.Format.{Formats}
 use Rattle.yf_emit.specs.FormatKept.{FormatKept}
 use Rattle.yf_emit.proofs.FixedLawsHold.{formats_normal}
+use Rattle.yf_emit.proofs.FormatsFixed.{formats_fixed}
 use Rattle.yf_emit.proofs.FormatLawsHold.{formats_accepted, formats_are_one}
 use Rattle.yf_emit.proofs.SameComments.{formats_comments}
 use Rattle.yf_emit.proofs.SameContent.{formats_content}
@@ -18,4 +19,5 @@ format_keeps t s u utf8 f = record {
   content = formats_content t u s utf8 f;
   comments = formats_comments t u s utf8 f;
   normal = formats_normal t u s utf8 f;
+  unchanged = formats_fixed t u s utf8 f;
 }

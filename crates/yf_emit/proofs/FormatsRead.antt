@@ -2,9 +2,13 @@
 use Rattle.std.proofs.Common.{◌≡◌, ℕ, suc, max, ◌≤◌, Bool, true, false, List, [], ◌∷◌, ◌++◌, map, refl, sym, ap, ◌∙◌, subst, arith, length}
 use Rattle.std.specs.Prelude.{◌&&◌, if◌then◌else◌}
 use Rattle.std.specs.Str.{IsUtf8}
+use Rattle.yf_chars.specs.Chain.{Chain}
+use Rattle.yf_lines.specs.Rest.{Rest}
 use Rattle.yf_lines.specs.declared.quotes.Quotes.{Quotes}
 use Rattle.yf_comments.specs.Comment.{CommentValue}
+use Rattle.yf_comments.specs.Comments.{CommentLine}
 use Rattle.yf_comments.specs.GapLines.{remarks_of}
+use Rattle.yf_comments.proofs.GapLinesLemmas.{texts}
 use Rattle.yf_events.proofs.TreeLemmas.{trees_unique}
 use Rattle.yf_events.specs.Alike.{Alike, alike_scalars, alike_aliases, alike_sequences, alike_mappings, AlikeItems, alike_nothing, alike_item, AlikePairs, alike_no_pairs, alike_pair}
 use Rattle.yf_events.specs.Event.{EventValue, Placed, stream_starts, stream_ends, document_starts, document_ends, sequence_starts, sequence_ends, mapping_starts, mapping_ends, scalar_node, alias_node}
@@ -22,7 +26,7 @@ use Rattle.yf_stream.proofs.StreamDocuments.{DocumentsDerived, no_documents_deri
 use Rattle.yf_emit.specs.declared.style.Style.{Style}
 use Rattle.yf_emit.specs.Beginnings.{documents_begin, steps_with}
 use Rattle.yf_emit.specs.Carried.{AreRemarks}
-use Rattle.yf_emit.specs.Decorated.{first_gap, row_decos, rows_of}
+use Rattle.yf_emit.specs.Decorated.{first_gap, lines_then, row_decos, rows_of}
 use Rattle.yf_emit.specs.FitDocuments.{FitDocuments, DocumentMeant, DocumentsMeant, no_documents_meant, document_meant, tall_documents}
 use Rattle.yf_emit.specs.Format.{Formats}
 use Rattle.yf_emit.specs.FormatLaws.{WellFormed, FormatsAreWellFormed}
@@ -190,10 +194,13 @@ pub record FormattedLaid {t : List ℕ} {s : Style} {u : List ℕ} (f : Formats 
   pub line : ℕ
   pub firsts : List CommentValue
   pub others : List CommentValue
+  pub told : texts firsts ≡ remarks_of (first_gap f.normal (rows_of f.normal s f.writes.trees))
+  pub lines : Chain (CommentLine u) 0 line firsts
+  pub begin : Rest u line (lines_then (rows_of f.normal s f.writes.trees) (row_decos f.normal (rows_of f.normal s f.writes.trees)) [])
   pub ascend : Ascend u 0 firsts line
   pub are : well.documents.comments ≡ firsts ++ others
   pub found_rows : List PlacedRow
-  pub found : FoundDocuments u (setting_of f.normal s) f.writes.trees well.documents.documents found_rows
+  pub found : FoundDocuments u (setting_of f.normal s) true f.writes.trees well.documents.documents found_rows
   pub placed : StreamIn u (rows_of f.normal s f.writes.trees) found_rows (row_decos f.normal (rows_of f.normal s f.writes.trees)) line others
 
 pub formats_laid : (t u : List ℕ) (s : Style) → IsUtf8 t → (f : Formats t s u) → FormattedLaid f
@@ -233,6 +240,9 @@ formats_laid t u s utf8 f =
       line = laid.line;
       firsts = laid.firsts;
       others = laid.others;
+      told = laid.told;
+      lines = laid.lines;
+      begin = laid.begin;
       ascend = laid.ascend;
       are = laid.are;
       found_rows = laid.found_rows;

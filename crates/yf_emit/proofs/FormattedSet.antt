@@ -3,14 +3,12 @@ use Rattle.std.proofs.Common.{◌≡◌, ℕ, suc, ◌+◌, List, [], ◌∷◌,
 use Rattle.std.specs.Str.{IsUtf8}
 use Rattle.yf_chars.specs.Class.{is_white_or_end}
 use Rattle.yf_chars.specs.Text.{code}
-use Rattle.std.specs.Prelude.{is_some, not, ◌&&◌, if◌then◌else◌}
-use Rattle.yf_events.specs.Alike.{Alike, alike_scalars, alike_aliases, alike_sequences, alike_mappings, AlikeItems, alike_nothing, alike_item, AlikePairs, alike_no_pairs, alike_pair}
+use Rattle.std.specs.Prelude.{not, ◌&&◌, if◌then◌else◌}
 use Rattle.yf_events.specs.Event.{Placed, document_starts, document_ends, stream_starts, stream_ends, scalar_node}
 use Rattle.yf_events.specs.Tree.{Node, scalar, Items, Pairs, DocumentTree, TreesOf, unplaced, flat, flat_document, standing}
 use Rattle.yf_events.specs.declared.document.Doc.{Doc}
 use Rattle.yf_events.specs.declared.event.Entry.{Entry}
 use Rattle.yf_events.specs.declared.lists.Lists.{Lists}
-use Rattle.yf_grammar.specs.Meant.{Anywhere}
 use Rattle.yf_grammar.specs.Part.{Noting, no_event}
 use Rattle.yf_grammar.proofs.KeptNodes.{SameEntry, no_entry, same_entry, Kept, kept_scalar, kept_alias, kept_sequence, kept_mapping, KeptItems, kept_no_items, kept_item, KeptPairs, kept_no_pairs, kept_pair, kept_standing, kept_node}
 use Rattle.yf_grammar.proofs.NotedNodes.{noted_plain}
@@ -23,6 +21,7 @@ use Rattle.yf_emit.specs.Normal.{is_implicit, value_entries}
 use Rattle.yf_emit.proofs.AlikeLemmas.{same_implicit, same_sequence}
 use Rattle.yf_emit.proofs.FormatsRead.{formats_laid}
 use Rattle.yf_emit.proofs.HeldLemmas.{ScalarAt}
+use Rattle.yf_emit.proofs.RowsRenoted.{kept_alike}
 use Rattle.yf_emit.proofs.SetMeant.{BlockAt, block_at, SetAt}
 use Rattle.yf_emit.proofs.SetNodes.{Blockless, BlocklessItems, BlocklessPairs, ColumnAt, entries_behind, EntryOn, Questioned, SetDocuments, no_set_documents, set_document, SetItems, no_set_items, set_item, set_line, set_scalar, set_sequence, set_mapping, SetPairs, no_set_pairs, set_pair, Unquestioned}
 use Rattle.yf_emit.proofs.SetStreams.{SetAll, none_set, some_set}
@@ -46,21 +45,6 @@ mutual
   kept_line_pairs : {ps qs : Pairs} → KeptPairs ps qs → BlocklessPairs ps → BlocklessPairs qs
   kept_line_pairs kept_no_pairs b = tt
   kept_line_pairs (kept_pair a c more) b = (kept_line a b.0, (kept_line c b.1.0, kept_line_pairs more b.1.1))
-
-mutual
-  kept_alike : {x y : Node} → Kept x y → Alike Anywhere x y
-  kept_alike (kept_scalar s) = alike_scalars (ap (λ o. is_some o) s.span)
-  kept_alike (kept_alias s) = alike_aliases (ap (λ o. is_some o) s.span)
-  kept_alike (kept_sequence s a) = alike_sequences (ap (λ o. is_some o) s.span) (kept_alike_items a)
-  kept_alike (kept_mapping s a) = alike_mappings (ap (λ o. is_some o) s.span) (kept_alike_pairs a)
-
-  kept_alike_items : {xs ys : Items} → KeptItems xs ys → AlikeItems Anywhere xs ys
-  kept_alike_items kept_no_items = alike_nothing
-  kept_alike_items (kept_item a more) = alike_item (kept_alike a) (kept_alike_items more)
-
-  kept_alike_pairs : {ps qs : Pairs} → KeptPairs ps qs → AlikePairs Anywhere ps qs
-  kept_alike_pairs kept_no_pairs = alike_no_pairs
-  kept_alike_pairs (kept_pair a b more) = alike_pair (kept_alike a) (kept_alike b) tt (kept_alike_pairs more)
 
 behind_same : {k l v w : Node} (s : Style) (m : ℕ) → Kept k l → Kept v w → entries_behind s m k v ≡ entries_behind s m l w
 behind_same {l = l} {v = v} s m k a =

@@ -1,5 +1,5 @@
 -- Nodes that are found on quiet rows: no comment stands within a flow collection, and a comment trails a key exactly where one trailed it.
-use Rattle.std.proofs.Common.{◌≡◌, ◌≢◌, ℕ, ◌+◌, ◌<◌, ◌≤◌, Bool, true, false, ◌&&◌, ◌||◌, List, [], ◌∷◌, Option, Some, None, refl, sym, ap, ◌∙◌, arith, ◌⊎◌, inl, inr, ⊎_elim, true≢false}
+use Rattle.std.proofs.Common.{◌≡◌, ℕ, ◌+◌, ◌<◌, ◌≤◌, Bool, true, false, ◌&&◌, ◌||◌, List, [], ◌∷◌, Option, Some, None, refl, sym, ap, ◌∙◌, arith, ◌⊎◌, inl, inr, ⊎_elim, true≢false}
 use Rattle.std.specs.Prelude.{is_some, ◌==◌, nat_lt, nat_le, find, if◌then◌else◌}
 use Rattle.std.specs.List.{list_any}
 use Rattle.std.proofs.lemmas.Bool.Decides.{nat_tests}
@@ -30,12 +30,12 @@ trails_inner h p e trails_nothing = trails_nothing
 trails_inner h p e (trails_to d i l m) = trails_to d i (omega (arith, e, l)) m
 
 pub sign_quiet : {cs : List CommentValue} {items : List ℕ} {ps hs : List PlacedRow} → SignRows items ps hs → AllQuiet cs hs → AllQuiet cs ps
-sign_quiet (sign_alone e f g) a = quiet_none
-sign_quiet (sign_joined {h = h} {p = p} e f g l m) (quiet_row q a) = quiet_row (quiet_inner h p l m q) a
+sign_quiet (sign_alone e f g w) a = quiet_none
+sign_quiet (sign_joined {h = h} {p = p} e f g l m w) (quiet_row q a) = quiet_row (quiet_inner h p l m q) a
 
 pub sign_linked : {cs : List CommentValue} {items : List ℕ} {ps hs : List PlacedRow} → SignRows items ps hs → Linked cs hs → Linked cs ps
-sign_linked (sign_alone e f g) a = linked_none
-sign_linked (sign_joined {h = h} {p = p} e f g l m) (linked_row q a) = linked_row (λ z. trails_inner h p m (q (g ∙ z))) a
+sign_linked (sign_alone e f g w) a = linked_none
+sign_linked (sign_joined {h = h} {p = p} e f g l m w) (linked_row q a) = linked_row (λ z. trails_inner h p m (q (g ∙ z))) a
 
 pub key_quiet : {cs : List CommentValue} {items : List ℕ} {ls : List Span} {b below : Bool} {ps hs : List PlacedRow} → KeyRows items ls b below ps hs → AllQuiet cs hs → AllQuiet cs ps
 key_quiet (key_commented e f g) (quiet_row q a) = a
@@ -130,7 +130,7 @@ row_none : {cs : List CommentValue} {a b : ℕ} (p : PlacedRow) → p.from ≤ a
 row_none p l m q = each_map (λ d n o. ⊎_elim (λ (z : d.offset < p.from). inl (omega (arith, l, z))) (λ (z : p.upto ≤ d.offset). inr (omega (arith, m, z))) o) q
 
 key_undisturbed : {t : List ℕ} {cs : List CommentValue} {k : Node} {hs : List PlacedRow} → KeyOn t k hs → AllQuiet cs hs → Undisturbed t cs k
-key_undisturbed (key_on {h = h} st l m e) (quiet_row q a) = stands_undisturbed st (row_none h l (omega (arith, m)) q)
+key_undisturbed (key_on {h = h} st l m e w) (quiet_row q a) = stands_undisturbed st (row_none h l (omega (arith, m)) q)
 
 mutual
   pub rows_undisturbed : {t : List ℕ} {c : Setting} {cs : List CommentValue} {m : ℕ} {x y : Node} {ps : List PlacedRow} → NodeRows t c m x y ps → AllQuiet cs ps → Undisturbed t cs y
@@ -164,7 +164,7 @@ later_last other [] l m a = (l, m)
 later_last other (s ∷ ss) l m (one_inside n o a) = later_last s.start ss n o a
 
 pub key_between : {t : List ℕ} {k : Node} {h : PlacedRow} {hs : List PlacedRow} → KeyOn t k (h ∷ hs) → (h.from ≤ key_start k) × (key_start k < h.upto)
-key_between {k = k} {h = h} (key_on {a = a} {b = b} st l m e) =
+key_between {k = k} {h = h} (key_on {a = a} {b = b} st l m e w) =
     let o = node_order st in
     let w = later_last {i = h.from} {j = b} _ (leaves k) (omega (arith, e)) (omega (arith, e, l, o)) (inside_wider l (omega arith) (leaves_inside st)) in
     (w.0, let z = w.1 in omega (arith, z, m))

@@ -1,11 +1,13 @@
 -- A node on one line is found on its row.
-use Rattle.std.proofs.Common.{◌≡◌, ◌≢◌, ℕ, ◌+◌, ◌≤◌, true, false, List, [], ◌∷◌, ◌++◌, length, Option, refl, sym, ap, ◌∙◌, subst, arith, append-nil}
+use Rattle.std.proofs.Common.{◌≡◌, ◌≢◌, ℕ, ◌+◌, ◌<◌, ◌≤◌, true, false, List, [], ◌∷◌, ◌++◌, length, Option, Some, None, refl, sym, ap, ◌∙◌, subst, arith, append-nil}
 use Rattle.std.specs.Prelude.{is_some}
 use Rattle.yf_lines.specs.Basic.{LineStart}
 use Rattle.yf_lines.specs.Rest.{Rest}
 use Rattle.yf_comments.specs.Comment.{CommentValue}
+use Rattle.yf_comments.specs.Comments.{LineEnd}
 use Rattle.yf_comments.proofs.GapLinesLemmas.{texts}
 use Rattle.yf_events.specs.Alike.{Alike, alike_scalars, alike_aliases, alike_sequences, alike_mappings}
+use Rattle.yf_events.specs.declared.event.Entry.{Entry}
 use Rattle.yf_events.specs.declared.event.ScalarStyle.{ScalarStyle}
 use Rattle.yf_events.specs.declared.event.ScalarStyle.TheVariants.{Plain, Single, Double, Literal, Folded}
 use Rattle.yf_events.specs.declared.event.Span.{Span}
@@ -13,7 +15,7 @@ use Rattle.yf_events.specs.Tree.{Node, scalar, Items, Pairs, flat, leaves, leave
 use Rattle.yf_events.proofs.TreeLemmas.{node_unique}
 use Rattle.yf_grammar.specs.Meaning.{Meaning, noting, from_to}
 use Rattle.yf_grammar.specs.Meant.{Anywhere, Meant}
-use Rattle.yf_grammar.proofs.CommentOrder.{Ascend}
+use Rattle.yf_grammar.proofs.CommentOrder.{Ascend, end_ascends}
 use Rattle.yf_grammar.proofs.NodePlaces.{ColonStands, no_colon, a_colon, NodeStands, stands_nowhere, scalar_stands, alias_stands, sequence_stands, mapping_stands, ItemsStand, no_items_stand, item_stands, PairsStand, no_pairs_stand, pair_stands, node_order, items_order, pairs_order, node_upto}
 use Rattle.yf_grammar.proofs.PlacedNodes.{NodeAt}
 use Rattle.yf_emit.specs.Normal.{Setting}
@@ -24,7 +26,7 @@ use Rattle.yf_emit.specs.OneLine.{written}
 use Rattle.yf_emit.specs.Rows.{Row}
 use Rattle.yf_emit.proofs.AlikeLemmas.{same_written}
 use Rattle.yf_emit.proofs.FoundNodes.{FoundNode, line_rows, found_noting}
-use Rattle.yf_emit.proofs.PlacedRows.{Inside, none_inside, one_inside, inside_join, inside_wider, PlacedRow, RowsIn, last_row}
+use Rattle.yf_emit.proofs.PlacedRows.{Inside, none_inside, one_inside, inside_join, inside_wider, LeavesTo, no_leaf_to, leaf_to, leaves_to_join, leaves_to_wider, behind_line, PlacedRow, RowsIn, last_row}
 use Rattle.yf_emit.proofs.StepsStand.{starts_of, starts_append}
 
 -- What stands on one line between two places.
@@ -100,6 +102,53 @@ mutual
       leaves_both (leaves k) (leaves v ++ leaves_of_pairs ps) (inside_wider o (omega (arith, two, three, four)) (leaves_inside a))
       (leaves_both (leaves v) (leaves_of_pairs ps) (inside_wider (omega (arith, o, one, two)) four (leaves_inside d)) (inside_wider (omega (arith, o, one, two, three)) (omega arith) (pairs_leaves g)))
 
+-- where they end
+
+leaf_end : {j : ℕ} (a b : ℕ) (o : Option Span) → o ≡ from_to a b → a < b → b ≤ j → LeavesTo j (spans_of_leaf o)
+unfolding from_to
+leaf_end {j} a b o e l m = subst (λ w. LeavesTo j (spans_of_leaf w)) (sym e) (leaf_to l m no_leaf_to)
+
+mutual
+  pub leaves_end : {t : List ℕ} {i j : ℕ} {x : Node} → NodeStands t i j x → LeavesTo j (leaves x)
+  leaves_end {j = j} (stands_nowhere m e) = subst (λ w. LeavesTo j (spans_of_leaf w)) (sym e) no_leaf_to
+  leaves_end (scalar_stands {at = at} e b l m w s) = leaf_end _ _ at.span e l m
+  leaves_end (alias_stands {at = at} e b l m s) = leaf_end _ _ at.span e l m
+  leaves_end (sequence_stands {at = at} e b (no_items_stand l) m s) = let n = b.inner in let w = b.wide in leaf_end _ _ at.span e (omega (arith, n, w)) m
+  leaves_end (sequence_stands e b (item_stands f q l a c) m s) = leaves_to_wider m (list_end (item_stands f q l a c))
+  leaves_end (mapping_stands {at = at} e b (no_pairs_stand l) m s) = let n = b.inner in let w = b.wide in leaf_end _ _ at.span e (omega (arith, n, w)) m
+  leaves_end (mapping_stands e b (pair_stands f q l a c d g) m s) = leaves_to_wider m (pairs_end (pair_stands f q l a c d g))
+
+  list_end : {t : List ℕ} {i j : ℕ} {xs : Items} → ItemsStand t i j xs → LeavesTo j (leaves_of_items xs)
+  list_end (no_items_stand l) = no_leaf_to
+  list_end (item_stands f q l a c) = leaves_to_join (leaves_to_wider (items_order c) (leaves_end a)) (list_end c)
+
+  pairs_end : {t : List ℕ} {i j : ℕ} {ps : Pairs} → PairsStand t i j ps → LeavesTo j (leaves_of_pairs ps)
+  pairs_end (no_pairs_stand l) = no_leaf_to
+  pairs_end (pair_stands f q l a c d g) =
+      let two = colon_order c in
+      let three = node_order d in
+      let four = pairs_order g in
+      leaves_to_join (leaves_to_wider (omega (arith, two, three, four)) (leaves_end a)) (leaves_to_join (leaves_to_wider four (leaves_end d)) (pairs_end g))
+
+-- a node that is written has an item on its row
+some_start : (a b : ℕ) (o : Option Span) → o ≡ from_to a b → starts_of (spans_of_leaf o) ≡ [] → ⊥
+unfolding from_to
+some_start a b None e z = absurd cc
+some_start a b (Some s) e z = absurd cc
+
+entry_some : (e : Entry) (o : Option Entry) (rest : List ℕ) → o ≡ Some e → starts_of_entry o ++ rest ≡ [] → ⊥
+entry_some e None rest f z = absurd cc
+entry_some e (Some g) rest f z = absurd cc
+
+pub items_some : {t : List ℕ} {i j : ℕ} {x : Node} → NodeStands t i j x → written x ≢ [] → items_in x ≡ [] → ⊥
+items_some (stands_nowhere m e) n z = n refl
+items_some (scalar_stands {at = at} e b l m w s) n z = some_start _ _ at.span e z
+items_some (alias_stands {at = at} e b l m s) n z = some_start _ _ at.span e z
+items_some (sequence_stands {at = at} e b (no_items_stand l) m s) n z = some_start _ _ at.span e z
+items_some (sequence_stands e b (item_stands f q l a c) m s) n z = entry_some f _ _ q z
+items_some (mapping_stands {at = at} e b (no_pairs_stand l) m s) n z = some_start _ _ at.span e z
+items_some (mapping_stands e b (pair_stands f q l a c d g) m s) n z = entry_some f _ _ q.key z
+
 pub same_inline : {K : Node → Node → Node → Node → Type 0} {x y : Node} → Alike K x y → is_inline x ≡ is_inline y
 same_inline (alike_scalars {at = at} {bt = bt} {props = props} {style = style} {text = text} {lines = lines} e) = by style where
   by : (style : ScalarStyle) → is_inline (scalar at props style text lines) ≡ is_inline (scalar bt props style text lines)
@@ -130,9 +179,9 @@ placed_node {x = x} a b =
     subst (λ z. Alike Anywhere x z) same b.alike
 
 pub line_found : {t : List ℕ} {x : Node} {row : Row} {place q : ℕ} {cs : List CommentValue} {z : List ℕ} {mean : Meaning} (s : Setting) (m : ℕ) (ds : List Deco) → is_inline x ≡ true → written x ≢ []
-    → row.text ≡ written x → is_some row.key_comment ≡ false → NodeAt t q (q + length (written x)) mean → Meant x mean → mean.comments ≡ []
-    → Ascend t (q + length (written x)) cs place → texts cs ≡ carried_texts (first ds) → LineStart t place → Rest t place z → LineFound t s m x (noting mean cs) row ds q place z
-line_found {t} {x} {row} {place} {q} {cs} {z} {mean} s m ds inline some text key a b silent up is start w =
+    → row.text ≡ written x → row.body ≡ [] → is_some row.key_comment ≡ false → NodeAt t q (q + length (written x)) mean → Meant x mean → mean.comments ≡ []
+    → LineEnd t (q + length (written x)) place cs → texts cs ≡ carried_texts (first ds) → LineStart t place → Rest t place z → LineFound t s m x (noting mean cs) row ds q place z
+line_found {t} {x} {row} {place} {q} {cs} {z} {mean} s m ds inline some text body key a b silent up is start w =
     let alike : Alike Anywhere x a.node = placed_node a b in
     let stands : NodeStands t q (q + length (written x)) a.node = node_upto a.stands a.ends in
     let width : length (written x) ≡ length row.text = ap length (sym text) in
@@ -155,5 +204,11 @@ line_found {t} {x} {row} {place} {q} {cs} {z} {mean} s m ds inline some text key
         items = items_inside here;
         leaves = leaves_inside here;
         commented = key;
-      }) (record { ascend = subst (λ k. Ascend t (q + k) cs place) width up; is = is; start = start }) w);
+        bare = λ z. absurd (items_some here (λ e. some (same_written alike ∙ e)) z);
+      }) (record {
+        ascend = subst (λ k. Ascend t (q + k) cs place) width (end_ascends up);
+        is = is;
+        start = start;
+        tail = behind_line body (subst (λ k. LineEnd t (q + k) place cs) width up) (leaves_end here);
+      }) w);
     }

@@ -47,10 +47,10 @@ marks_join xs ys ps qs e f =
 -- behind a sign
 sign_marks : {items : List ℕ} {ps hs : List PlacedRow} (head : Row) (n : ℕ) (rs : List Row) → head.items ≡ items → head.leaves ≡ [] → SignRows items ps hs → marks rs ≡ placed_marks ps
     → marks (joined head n rs) ≡ placed_marks hs
-sign_marks head n [] e f (sign_alone a b c) m = both_marks [] (e ∙ sym a) (f ∙ sym b)
-sign_marks head n (r ∷ rs) e f (sign_alone a b c) m = absurd cc
-sign_marks head n [] e f (sign_joined a b c l k) m = absurd cc
-sign_marks {items = items} head n (r ∷ rs) e f (sign_joined {h = h} {p = p} {ps = ps} a b c l k) m =
+sign_marks head n [] e f (sign_alone a b c w) m = both_marks [] (e ∙ sym a) (f ∙ sym b)
+sign_marks head n (r ∷ rs) e f (sign_alone a b c w) m = absurd cc
+sign_marks head n [] e f (sign_joined a b c l k w) m = absurd cc
+sign_marks {items = items} head n (r ∷ rs) e f (sign_joined {h = h} {p = p} {ps = ps} a b c l k w) m =
     let one : (r.items, r.leaves) ≡ (p.items, p.leaves) = ap (first_mark (r.items, r.leaves)) m in
     both_marks (marks rs) (ap (λ z. z ++ r.items) e ∙ (ap (λ z. items ++ z.0) one ∙ sym a)) (ap (λ z. z ++ r.leaves) f ∙ (ap (λ z. z.1) one ∙ sym b)) ∙ ap (λ z. (h.items, h.leaves) ∷ z) (ap other_marks m)
 
@@ -76,7 +76,7 @@ line_marks : (column : ℕ) (y : Node) (w : List ℕ) (p : PlacedRow) → w ≢ 
 line_marks column y [] p n e f = absurd (n refl)
 line_marks column y (b ∷ w) p n e f = both_marks [] (sym e) (sym f)
 
-no_props_marks : (column : ℕ) (w : List ℕ) → is_empty_text w ≡ true → props_row column w ≡ []
+pub no_props_marks : (column : ℕ) (w : List ℕ) → is_empty_text w ≡ true → props_row column w ≡ []
 no_props_marks column [] e = refl
 no_props_marks column (b ∷ w) e = absurd (true≢false (sym e))
 
@@ -84,12 +84,12 @@ props_marks : (column : ℕ) (w : List ℕ) (p : PlacedRow) → is_empty_text w 
 props_marks column [] p n e f = absurd (true≢false n)
 props_marks column (b ∷ w) p n e f = both_marks [] (sym e) (sym f)
 
-sequence_blocks : {s : Style} {cs ds : List CommentValue} {at bt : Standing} {f g : Bool} {p r : PropsValue} {xs ys : Items} → AlikeBlocks s cs ds (sequence at f p xs) (sequence bt g r ys)
+pub sequence_blocks : {s : Style} {cs ds : List CommentValue} {at bt : Standing} {f g : Bool} {p r : PropsValue} {xs ys : Items} → AlikeBlocks s cs ds (sequence at f p xs) (sequence bt g r ys)
     → is_block_collection (sequence bt g r ys) ≡ true → AlikeBlockItems s cs ds xs ys
 sequence_blocks (alike_lines a e) n = absurd (true≢false (sym n ∙ (sym (same_block a) ∙ e)))
 sequence_blocks (alike_block_sequences e a) n = a
 
-mapping_blocks : {s : Style} {cs ds : List CommentValue} {at bt : Standing} {f g : Bool} {p r : PropsValue} {ps qs : Pairs} → AlikeBlocks s cs ds (mapping at f p ps) (mapping bt g r qs)
+pub mapping_blocks : {s : Style} {cs ds : List CommentValue} {at bt : Standing} {f g : Bool} {p r : PropsValue} {ps qs : Pairs} → AlikeBlocks s cs ds (mapping at f p ps) (mapping bt g r qs)
     → is_block_collection (mapping bt g r qs) ≡ true → AlikeBlockPairs s cs ds ps qs
 mapping_blocks (alike_lines a e) n = absurd (true≢false (sym n ∙ (sym (same_block a) ∙ e)))
 mapping_blocks (alike_block_mappings e a) n = a

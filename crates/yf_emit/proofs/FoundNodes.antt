@@ -22,11 +22,16 @@ use Rattle.yf_emit.specs.Rows.{begins_below, colon_offset, is_empty_text}
 use Rattle.yf_emit.proofs.AlikeLemmas.{same_below, same_block, same_implicit, same_sequence}
 use Rattle.yf_emit.proofs.PlacedRows.{Inside, PlacedRow}
 
+-- the first of some items begins at q
+abbrev pub IsHead : List ℕ → ℕ → Type 0
+IsHead [] q = ⊥
+IsHead (i ∷ is) q = i ≡ q
+
 -- a row that a sign begins, with these items, and the rows of what stands behind it
 pub data SignRows (items : List ℕ) : List PlacedRow → List PlacedRow → Type 0 where
-  sign_alone : {h : PlacedRow} → h.items ≡ items → h.leaves ≡ [] → h.commented ≡ false → SignRows items [] (h ∷ [])
+  sign_alone : {h : PlacedRow} → h.items ≡ items → h.leaves ≡ [] → h.commented ≡ false → IsHead items h.from → SignRows items [] (h ∷ [])
   sign_joined : {h p : PlacedRow} {ps : List PlacedRow} → h.items ≡ items ++ p.items → h.leaves ≡ p.leaves → h.commented ≡ p.commented → h.from ≤ p.from → p.upto ≡ h.upto
-      → SignRows items (p ∷ ps) (h ∷ ps)
+      → IsHead items h.from → SignRows items (p ∷ ps) (h ∷ ps)
 
 -- a row that an implicit key begins, with these items and leaves, which a comment trails or not, and the rows of its value, which begins on a line
 -- of its own or not
@@ -43,10 +48,10 @@ pub data HeadAt (q e : ℕ) : List PlacedRow → Type 0 where
 
 -- the key stands on the first of these rows
 pub data KeyOn (t : List ℕ) (k : Node) : List PlacedRow → Type 0 where
-  key_on : {a b : ℕ} {h : PlacedRow} {hs : List PlacedRow} → NodeStands t a b k → h.from ≤ a → b < h.upto → entry_or 0 (standing k).entry ≡ h.from → KeyOn t k (h ∷ hs)
+  key_on : {a b : ℕ} {h : PlacedRow} {hs : List PlacedRow} → NodeStands t a b k → h.from ≤ a → b < h.upto → entry_or 0 (standing k).entry ≡ h.from → is_some (standing k).entry ≡ true → KeyOn t k (h ∷ hs)
 
-pub key_at : {t : List ℕ} {k : Node} {q e : ℕ} {hs : List PlacedRow} → NodeStands t q e k → entry_or 0 (standing k).entry ≡ q → HeadAt q (e + 1) hs → KeyOn t k hs
-key_at n g (head_at f l) = key_on n (omega (arith, f)) (omega (arith, l)) (g ∙ sym f)
+pub key_at : {t : List ℕ} {k : Node} {q e : ℕ} {hs : List PlacedRow} → NodeStands t q e k → entry_or 0 (standing k).entry ≡ q → is_some (standing k).entry ≡ true → HeadAt q (e + 1) hs → KeyOn t k hs
+key_at n g some (head_at f l) = key_on n (omega (arith, f)) (omega (arith, l)) (g ∙ sym f) some
 
 -- The rows of a node whose entries stand at a column.
 mutual
@@ -337,7 +342,7 @@ module _ {t : List ℕ} {s : Setting} {m : ℕ} where
         alike_value = value.alike;
         events = ap (λ z. z ++ two.events) (ap (first_entering entry) events ∙ entered_events entry key) ∙ ap (λ z. flat (entered entry key) ++ z) value.events;
         escapes = ap (λ z. z ++ two.escapes) escapes ∙ value.escapes;
-        rows = implicit_rows b flag (sym (same_implicit s.style m alike) ∙ e) (key_at (stands_entered entry st) (ap (λ o. entry_or 0 o) (entry_entered entry key)) head)
+        rows = implicit_rows b flag (sym (same_implicit s.style m alike) ∙ e) (key_at (stands_entered entry st) (ap (λ o. entry_or 0 o) (entry_entered entry key)) (ap (λ o. is_some o) (entry_entered entry key)) head)
             (subst (λ z. NodeRows t s z v value.node ps) (ap (λ z. if z && not s.style.seq_indent then m else m + s.style.indent) (same_sequence value.alike)) value.rows) moved;
       }
 

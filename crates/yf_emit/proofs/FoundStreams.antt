@@ -12,27 +12,29 @@ use Rattle.yf_emit.specs.Decorated.{Deco, past, lines_then}
 use Rattle.yf_emit.specs.Rows.{Row, directive_row, start_row, end_rows, beginning_at}
 use Rattle.yf_emit.proofs.EntriesMade.{Begins, begins, append_begins, rows_in_more}
 use Rattle.yf_emit.proofs.FoundNodes.{FoundNode, NodeRows}
+use Rattle.yf_emit.proofs.HeadRows.{HeadRows, heads_before}
 use Rattle.yf_emit.proofs.PlacedRows.{PlacedRow, RowsIn}
 
 -- a document: the rows before its node, and those of its node
-pub record FoundDocument (t : List ℕ) (s : Setting) (x : DocumentTree) (m : Document) (ps : List PlacedRow) : Type 0 where
+pub record FoundDocument (t : List ℕ) (s : Setting) (is_first : Bool) (x : DocumentTree) (m : Document) (ps : List PlacedRow) : Type 0 where
   pub node : Node
   pub alike : Alike Anywhere x.root node
   pub events : m.events ≡ flat node
   pub heads : List PlacedRow
+  pub head : HeadRows m.start (heads_before is_first m.directives) heads
   pub inner : List PlacedRow
   pub are : ps ≡ heads ++ inner
   pub rows : NodeRows t s 0 x.root node inner
 
-pub data FoundDocuments (t : List ℕ) (s : Setting) : List DocumentTree → List Document → List PlacedRow → Type 0 where
-  no_documents_found : FoundDocuments t s [] [] []
-  document_found : {x : DocumentTree} {xs : List DocumentTree} {m : Document} {ms : List Document} {ps qs : List PlacedRow} → FoundDocument t s x m ps → FoundDocuments t s xs ms qs
-      → FoundDocuments t s (x ∷ xs) (m ∷ ms) (ps ++ qs)
+pub data FoundDocuments (t : List ℕ) (s : Setting) : Bool → List DocumentTree → List Document → List PlacedRow → Type 0 where
+  no_documents_found : {is_first : Bool} → FoundDocuments t s is_first [] [] []
+  document_found : {is_first : Bool} {x : DocumentTree} {xs : List DocumentTree} {m : Document} {ms : List Document} {ps qs : List PlacedRow} → FoundDocument t s is_first x m ps → FoundDocuments t s false xs ms qs
+      → FoundDocuments t s is_first (x ∷ xs) (m ∷ ms) (ps ++ qs)
 
-pub found_document : {t : List ℕ} {s : Setting} {x : DocumentTree} {m : Meaning} {ps inner : List PlacedRow} (i : ℕ) (dirs : List Directive) (heads : List PlacedRow) → FoundNode t s 0 x.root m inner
-    → ps ≡ heads ++ inner → FoundDocument t s x (document_of i true dirs m) ps
+pub found_document : {t : List ℕ} {s : Setting} {x : DocumentTree} {m : Meaning} {ps inner : List PlacedRow} (is_first : Bool) (i : ℕ) (dirs : List Directive) (heads : List PlacedRow) → HeadRows i (heads_before is_first dirs) heads → FoundNode t s 0 x.root m inner
+    → ps ≡ heads ++ inner → FoundDocument t s is_first x (document_of i true dirs m) ps
 unfolding document_of
-found_document {inner = inner} i dirs heads a e = record { node = a.node; alike = a.alike; events = a.events; heads = heads; inner = inner; are = e; rows = a.rows }
+found_document {inner = inner} is_first i dirs heads h a e = record { node = a.node; alike = a.alike; events = a.events; heads = heads; head = h; inner = inner; are = e; rows = a.rows }
 
 -- rows from a line on, up to the end of the text
 pub data StreamIn (t : List ℕ) : List Row → List PlacedRow → List Deco → ℕ → List CommentValue → Type 0 where
@@ -70,7 +72,7 @@ pub documents_with_comments : (cs : List CommentValue) → (with_comments cs (on
 unfolding with_comments
 documents_with_comments cs = refl
 
-pub found_with : {t : List ℕ} {s : Setting} {x : DocumentTree} {xs : List DocumentTree} {m : Document} {ps qs : List PlacedRow} (cs : List CommentValue) (rest : Documents) → FoundDocument t s x m ps
-    → FoundDocuments t s xs rest.documents qs → FoundDocuments t s (x ∷ xs) (with_document cs m rest).documents (ps ++ qs)
+pub found_with : {t : List ℕ} {s : Setting} {is_first : Bool} {x : DocumentTree} {xs : List DocumentTree} {m : Document} {ps qs : List PlacedRow} (cs : List CommentValue) (rest : Documents) → FoundDocument t s is_first x m ps
+    → FoundDocuments t s false xs rest.documents qs → FoundDocuments t s is_first (x ∷ xs) (with_document cs m rest).documents (ps ++ qs)
 unfolding with_document
 found_with cs rest a b = document_found a b

@@ -1,5 +1,5 @@
 -- The trees of each reading of what formatting gives are found as they were laid out.
-use Rattle.std.proofs.Common.{◌≡◌, ℕ, ◌+◌, List, [], ◌∷◌, ◌++◌, length, map, flat_map, Option, refl, sym, ap, ◌∙◌, subst, arith, append_assoc}
+use Rattle.std.proofs.Common.{◌≡◌, ℕ, Bool, false, List, [], ◌∷◌, ◌++◌, length, map, flat_map, Option, refl, sym, ap, ◌∙◌, subst, arith, append_assoc}
 use Rattle.yf_comments.specs.Comment.{CommentValue}
 use Rattle.yf_events.specs.Alike.{Alike}
 use Rattle.yf_events.specs.Event.{Placed, document_starts, document_ends}
@@ -17,26 +17,27 @@ use Rattle.yf_emit.proofs.FoundAgree.{rows_undisturbed}
 use Rattle.yf_emit.proofs.FoundKeys.{blocks_found}
 use Rattle.yf_emit.proofs.FoundNodes.{NodeRows}
 use Rattle.yf_emit.proofs.FoundStreams.{FoundDocuments, no_documents_found, document_found}
+use Rattle.yf_emit.proofs.HeadRows.{HeadRows, heads_before}
 use Rattle.yf_emit.proofs.PlacedRows.{PlacedRow}
 use Rattle.yf_emit.proofs.QuietPlaces.{AllQuiet, Linked, quiet_left, quiet_right, linked_left, linked_right}
 use Rattle.yf_emit.proofs.SettledTwice.{settled_twice}
 
 -- the trees of documents that are found, with the markers of their events
-pub data FoundRoots (t : List ℕ) (c : Setting) : List DocumentTree → List DocumentTree → List PlacedRow → Type 0 where
-  no_roots : FoundRoots t c [] [] []
-  one_root : {x z : DocumentTree} {xs zs : List DocumentTree} {inner qs : List PlacedRow} (heads : List PlacedRow) → Alike Anywhere x.root z.root → NodeRows t c 0 x.root z.root inner → FoundRoots t c xs zs qs
-      → FoundRoots t c (x ∷ xs) (z ∷ zs) ((heads ++ inner) ++ qs)
+pub data FoundRoots (t : List ℕ) (c : Setting) : Bool → List Doc → List DocumentTree → List DocumentTree → List PlacedRow → Type 0 where
+  no_roots : {is_first : Bool} → FoundRoots t c is_first [] [] [] []
+  one_root : {is_first : Bool} {d : Doc} {ds : List Doc} {x z : DocumentTree} {xs zs : List DocumentTree} {inner qs : List PlacedRow} (heads : List PlacedRow) → HeadRows d.start (heads_before is_first d.directives) heads → Alike Anywhere x.root z.root → NodeRows t c 0 x.root z.root inner → FoundRoots t c false ds xs zs qs
+      → FoundRoots t c is_first (d ∷ ds) (x ∷ xs) (z ∷ zs) ((heads ++ inner) ++ qs)
 
-pub record RootsFound (t : List ℕ) (c : Setting) (xs : List DocumentTree) (es : List Placed) (ps : List PlacedRow) (n : ℕ) : Type 0 where
+pub record RootsFound (t : List ℕ) (c : Setting) (is_first : Bool) (ds : List Doc) (xs : List DocumentTree) (es : List Placed) (ps : List PlacedRow) (n : ℕ) : Type 0 where
   pub trees : List DocumentTree
   pub events : es ≡ flat_map flat_document trees
   pub count : n ≡ length trees
-  pub roots : FoundRoots t c xs trees ps
+  pub roots : FoundRoots t c is_first ds xs trees ps
 
-pub roots_found : {u t : List ℕ} {c : Setting} {xs : List DocumentTree} {ms : List Document} {ps : List PlacedRow} {es : List Placed} {tags : List (Option (List ℕ))} → FoundDocuments t c xs ms ps → DocumentEvents u ms es tags
-    → RootsFound t c xs es ps (length ms)
+pub roots_found : {u t : List ℕ} {c : Setting} {is_first : Bool} {xs : List DocumentTree} {ms : List Document} {ps : List PlacedRow} {es : List Placed} {tags : List (Option (List ℕ))} → FoundDocuments t c is_first xs ms ps → DocumentEvents u ms es tags
+    → RootsFound t c is_first (map doc_of ms) xs es ps (length ms)
 roots_found no_documents_found no_document = record { trees = []; events = refl; count = refl; roots = no_roots }
-roots_found {t = t} {c = c} (document_found {x = x} {xs = xs} {ms = ms} {qs = qs} a more) (one_document {d = d} {x = rest} {closed = closed} tags end marked others) =
+roots_found {t = t} {c = c} {is_first = is_first} (document_found {x = x} {xs = xs} {ms = ms} {qs = qs} a more) (one_document {d = d} {x = rest} {closed = closed} tags end marked others) =
     let w = roots_found more others in
     let z : DocumentTree = record { marked = d.marked; closed = closed; root = a.node } in
     let last : List Placed = unplaced (document_ends closed) ∷ [] in
@@ -46,7 +47,7 @@ roots_found {t = t} {c = c} (document_found {x = x} {xs = xs} {ms = ms} {qs = qs
           ∙ (ap (λ v. unplaced (document_starts d.marked) ∷ (flat a.node ++ (unplaced (document_ends closed) ∷ v))) w.events
           ∙ ap (λ v. unplaced (document_starts d.marked) ∷ v) (sym (append_assoc (flat a.node) last (flat_map flat_document w.trees))));
       count = let n = w.count in omega (arith, n);
-      roots = subst (λ v. FoundRoots t c (x ∷ xs) (z ∷ w.trees) (v ++ qs)) (sym a.are) (one_root a.heads a.alike a.rows w.roots);
+      roots = subst (λ v. FoundRoots t c is_first (doc_of d ∷ map doc_of ms) (x ∷ xs) (z ∷ w.trees) (v ++ qs)) (sym a.are) (one_root a.heads a.head a.alike a.rows w.roots);
     }
 
 -- each root is settled
@@ -67,12 +68,12 @@ abbrev other_trees : List DocumentTree → List DocumentTree
 other_trees [] = []
 other_trees (w ∷ ws) = ws
 
-pub trees_found : {u : List ℕ} {c : Setting} {cs : List CommentValue} {ds : List Doc} {xs zs : List DocumentTree} {ms : List Document} {ps : List PlacedRow} (ys : List DocumentTree) → DocumentsMeant ds xs ms → FoundRoots u c xs zs ps
+pub trees_found : {u : List ℕ} {c : Setting} {is_first : Bool} {cs : List CommentValue} {ds es : List Doc} {xs zs : List DocumentTree} {ms : List Document} {ps : List PlacedRow} (ys : List DocumentTree) → DocumentsMeant ds xs ms → FoundRoots u c is_first es xs zs ps
     → map bare_tree zs ≡ map bare_tree ys → Settled c xs → AllQuiet cs ps → Linked cs ps → FoundTrees c.style c.comments u cs ds xs (map doc_of ms) ys
 trees_found [] no_documents_meant no_roots e h q l = none_found
 trees_found (y ∷ ys) no_documents_meant no_roots e h q l = absurd cc
-trees_found [] (document_meant a more) (one_root heads b r others) e h q l = absurd cc
-trees_found {u} {c} {cs} (y ∷ ys) (document_meant a more) (one_root {z = z} {zs = zs} {inner = inner} {qs = qs} heads b r others) e (one_settled h hs) q l =
+trees_found [] (document_meant a more) (one_root heads hr b r others) e h q l = absurd cc
+trees_found {u} {c} {cs} (y ∷ ys) (document_meant a more) (one_root {z = z} {zs = zs} {inner = inner} {qs = qs} heads hr b r others) e (one_settled h hs) q l =
     let root : bare z.root ≡ bare y.root = ap (first_root (bare_tree z)) e in
     let rest : map bare_tree zs ≡ map bare_tree ys = ap other_trees e in
     let quiet = quiet_right heads inner (quiet_left (heads ++ inner) qs q) in

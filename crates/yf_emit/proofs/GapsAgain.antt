@@ -1,11 +1,30 @@
 -- The lines of a gap that was laid out are laid out again, where each comment in it, and what stands after it, carries the note whether a blank line
 -- stands before it.
 use Rattle.std.proofs.Common.{◌≡◌, ℕ, Bool, true, false, List, [], ◌∷◌, ◌++◌, refl, sym, ap, ◌∙◌, subst, append_assoc, append-nil}
-use Rattle.std.specs.Prelude.{◌&&◌}
+use Rattle.std.specs.Prelude.{◌&&◌, if◌then◌else◌}
+use Rattle.std.specs.List.{list_all}
+use Rattle.yf_chars.specs.Class.{is_white}
 use Rattle.yf_comments.specs.Comment.{CommentValue}
 use Rattle.yf_emit.specs.Decorated.{GapLine, blank, remark, blank_if, ending_behind, gap_of, remarks_behind}
 use Rattle.yf_emit.specs.Layout.{may_be_blank_behind, trimmed}
 use Rattle.yf_emit.specs.Rows.{Ending, anywhere}
+
+-- a text without the white space that ends it stays what it is
+whites_left : (x : List ℕ) → list_all is_white (trimmed x) ≡ list_all is_white x
+whites_left [] = refl
+whites_left (b ∷ bs) = go (is_white b && list_all is_white bs) refl (whites_left bs) where
+  go : (w : Bool) → (is_white b && list_all is_white bs) ≡ w → list_all is_white (trimmed bs) ≡ list_all is_white bs → list_all is_white (if w then [] else b ∷ trimmed bs) ≡ w
+  go true e f = refl
+  go false e f = ap (λ z. is_white b && z) f ∙ e
+
+pub trimmed_twice : (x : List ℕ) → trimmed (trimmed x) ≡ trimmed x
+trimmed_twice [] = refl
+trimmed_twice (b ∷ bs) = go (is_white b && list_all is_white bs) refl (trimmed_twice bs) where
+  go : (w : Bool) → (is_white b && list_all is_white bs) ≡ w → trimmed (trimmed bs) ≡ trimmed bs → trimmed (if w then [] else b ∷ trimmed bs) ≡ (if w then [] else b ∷ trimmed bs)
+  go true e f = refl
+  go false e f =
+      ap (λ z. if is_white b && z then [] else b ∷ trimmed (trimmed bs)) (whites_left bs)
+      ∙ (ap (λ z. if z then [] else b ∷ trimmed (trimmed bs)) e ∙ ap (λ z. b ∷ z) f)
 
 -- the lines of a gap, the comments that are found on them, and the note of what stands after it. may: whether a blank line may stand there, else the
 -- next note may be any; is: whether one stands directly before
@@ -46,7 +65,7 @@ still_anywhere : (cs : List CommentValue) → ending_behind anywhere cs ≡ anyw
 still_anywhere [] = refl
 still_anywhere (c ∷ cs) = refl
 
-gap_more : (e : Ending) (column : ℕ) (c : CommentValue) (cs : List CommentValue) (b : Bool)
+pub gap_more : (e : Ending) (column : ℕ) (c : CommentValue) (cs : List CommentValue) (b : Bool)
     → gap_with e column (c ∷ cs) b ≡ blank_if (may_be_blank_behind e && c.blank_before) ++ (remark column (trimmed c.text) ∷ gap_with anywhere column cs b)
 gap_more e column c cs b =
     let lines : List GapLine = remark column (trimmed c.text) ∷ remarks_behind anywhere column cs in

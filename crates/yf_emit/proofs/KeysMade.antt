@@ -35,14 +35,14 @@ use Rattle.yf_emit.specs.Steps.{Step, leaf_steps, comment_steps, steps_in}
 use Rattle.yf_emit.proofs.CollectionsMade.{comments_behind}
 use Rattle.yf_emit.proofs.EntriesMade.{Begins, begins, EntryMade, EntryMakes, comments_both, comments_entering}
 use Rattle.yf_emit.proofs.FlowEvents.{empty_flow, flow_means}
-use Rattle.yf_emit.proofs.FoundLines.{items_inside, leaves_inside, placed_node}
+use Rattle.yf_emit.proofs.FoundLines.{items_inside, leaves_inside, leaves_end, placed_node}
 use Rattle.yf_emit.proofs.FoundNodes.{FoundNode, FoundPair, HeadAt, head_at, KeyRows, key_commented, key_above, key_alone, key_joined, bare_node, bare_alike, bare_events, bare_escapes, bare_comments, found_behind, found_noting, found_nothing, found_implicit, meant_of}
 use Rattle.yf_emit.proofs.HeldLemmas.{Held, empty_silent, entering_silent, held_after, held_behind, held_joined, held_line, row_ended}
 use Rattle.yf_emit.proofs.LaidRows.{leaves_apart, laid_row, laid_line}
 use Rattle.yf_emit.proofs.LineUtf8.{space_chars, written_utf8}
 use Rattle.yf_emit.proofs.NodePlaces.{beside_at, below_at}
 use Rattle.yf_emit.proofs.NodesMade.{Stood, Claim, no_row, some_rows, MeansNothing, noting_nothing}
-use Rattle.yf_emit.proofs.PlacedRows.{Inside, none_inside, one_inside, inside_wider, PlacedRow, AtRow, RowsIn, last_row, row_before, joined_placed, rows_joined}
+use Rattle.yf_emit.proofs.PlacedRows.{never_bare, Inside, none_inside, one_inside, inside_wider, PlacedRow, AtRow, LeavesTo, no_leaf_to, leaves_to_wider, behind_line, RowsIn, last_row, row_before, joined_placed, rows_joined}
 use Rattle.yf_emit.proofs.RowEnds.{row_end, first_deco, after_decos}
 use Rattle.yf_emit.proofs.SeenTexts.{ascii_ns}
 use Rattle.yf_emit.proofs.SetMeant.{column_start, SetDone, set_done, done_behind, done_empty, set_implicit}
@@ -114,6 +114,7 @@ record Head (row : Row) (q i a : ℕ) (items : List ℕ) (ls : List Span) (b : B
   width : q + length row.text ≡ i + 1
   items_stand : Inside q (i + 1) (a ∷ items)
   leaves_stand : Inside q (i + 1) (starts_of ls)
+  leaves_to : LeavesTo (i + 1) ls
   commented : is_some row.key_comment ≡ b
 
 abbrev head_row : ℕ → ℕ → ℕ → List ℕ → List Span → Bool → PlacedRow
@@ -127,6 +128,7 @@ head_stands h = record {
   items = h.items_stand;
   leaves = h.leaves_stand;
   commented = h.commented;
+  bare = λ z. never_bare z;
 }
 
 -- the head of rows that are joined to a key
@@ -146,7 +148,8 @@ keyed_behind head q i a items ls h e (last_row {p = p} at end w) =
       found_rows = joined_placed (a ∷ items) ls q p ∷ [];
       head = head_at refl (omega (arith, e, order));
       keyed = key_joined refl refl refl (omega (arith, e, from, width)) refl;
-      placed = rows_joined head 1 q a items ls (omega (arith, e, width)) (inside_wider (omega arith) (omega (arith, e)) h.items_stand) (inside_wider (omega arith) (omega (arith, e)) h.leaves_stand) (last_row at end w);
+      placed = rows_joined head 1 q a items ls (omega (arith, e, width)) (inside_wider (omega arith) (omega (arith, e)) h.items_stand) (inside_wider (omega arith) (omega (arith, e)) h.leaves_stand) (leaves_to_wider (omega (arith, e)) h.leaves_to)
+          (last_row at end w);
     }
 keyed_behind head q i a items ls h e (row_before {p = p} {ps = ps} at end w more) =
     let width = h.width in
@@ -156,7 +159,7 @@ keyed_behind head q i a items ls h e (row_before {p = p} {ps = ps} at end w more
       found_rows = joined_placed (a ∷ items) ls q p ∷ ps;
       head = head_at refl (omega (arith, e, order));
       keyed = key_joined refl refl refl (omega (arith, e, from, width)) refl;
-      placed = rows_joined head 1 q a items ls (omega (arith, e, width)) (inside_wider (omega arith) (omega (arith, e)) h.items_stand) (inside_wider (omega arith) (omega (arith, e)) h.leaves_stand)
+      placed = rows_joined head 1 q a items ls (omega (arith, e, width)) (inside_wider (omega arith) (omega (arith, e)) h.items_stand) (inside_wider (omega arith) (omega (arith, e)) h.leaves_stand) (leaves_to_wider (omega (arith, e)) h.leaves_to)
           (row_before at end w more);
     }
 
@@ -184,7 +187,7 @@ value_missing {t} {q = q} {a = h} {items = items} {ls = ls} {b = b} s n column r
       head = head_at refl (omega arith);
       keyed = keyed (head_row q i h items ls b) refl refl refl;
       placed = subst (λ v. RowsIn t (row ∷ []) (head_row q i h items ls b ∷ []) ds q v end.place r) (sym (noting_nothing (i + 1) end.comments))
-          (last_row (head_stands head) (record { ascend = end_ascends end.end; is = end.is; start = end.start }) end.rest);
+          (last_row (head_stands head) (record { ascend = end_ascends end.end; is = end.is; start = end.start; tail = behind_line bare end.end head.leaves_to }) end.rest);
       is = texts_noting (empty_node (i + 1)) end.comments ∙ (ap (λ z. z ++ texts end.comments) (texts_empty (i + 1)) ∙ (end.is ∙ sym (append-nil (carried_texts (first ds)))));
       laid = laid_row (empty_node (i + 1)) end.comments [] (laid_empty (i + 1) (omega arith)) (end_ascends end.end) end.is;
       set = done_empty (i + 1) end.comments;
@@ -217,7 +220,7 @@ value_below {t} {s} {v} {spot} {q = q} {a = h} {items = items} {ls = ls} {b = b}
       head = head_at refl (omega arith);
       keyed = keyed node.found_rows (head_row q i h items ls b) refl refl refl;
       placed = subst (λ z. RowsIn t (row ∷ y ∷ ys) (head_row q i h items ls b ∷ node.found_rows) ds q z node.place r) (sym (comments_behind end.comments node.meaning))
-          (row_before (head_stands head) (record { ascend = end_ascends end.end; is = end.is; start = end.start }) end.rest node.placed);
+          (row_before (head_stands head) (record { ascend = end_ascends end.end; is = end.is; start = end.start; tail = behind_line bare end.end head.leaves_to }) end.rest node.placed);
       is = texts_behind end.comments node.meaning ∙ (ap (λ z. z ++ texts node.meaning.comments) end.is ∙ ap (λ z. carried_texts (first ds) ++ z) node.is);
       laid = laid_after (omega arith) (laid_behind end.comments node.meaning (end_ascends end.end) end.is (omega arith) node.laid);
       set = done_behind end.comments node.meaning (set_done (λ b. subst (λ z. ColumnAt t z (end.place + y.column)) (g b) (column_start end.start there.0)) node.set);
@@ -243,10 +246,11 @@ record AnyHead (column : ℕ) (text items : List ℕ) (leaves : List Span) (blan
   width : q + length text ≡ i + 1
   items_stand : Inside q (i + 1) (a ∷ found)
   leaves_stand : Inside q (i + 1) (starts_of ls)
+  leaves_to : LeavesTo (i + 1) ls
 
 head_of : {column q i a : ℕ} {text items found : List ℕ} {leaves ls : List Span} {blank : Bool} {ending : Ending} (o : Option CommentValue) → AnyHead column text items leaves blank q i a found ls
     → Head (record (key_head column text items leaves blank) { key_comment = o; ending = ending }) q i a found ls (is_some o)
-head_of o h = record { width = h.width; items_stand = h.items_stand; leaves_stand = h.leaves_stand; commented = refl }
+head_of o h = record { width = h.width; items_stand = h.items_stand; leaves_stand = h.leaves_stand; leaves_to = h.leaves_to; commented = refl }
 
 value_made : {t : List ℕ} {s : Setting} {v : Node} {spot : Spot} {rs : List Row} {q a : ℕ} {found : List ℕ} {ls : List Span} (column : ℕ) (text items : List ℕ) (leaves : List Span) (blank : Bool) (o : Option CommentValue) (below : Bool)
     (ds : List Deco) (r : List ℕ) (i : ℕ) → AnyHead column text items leaves blank q i a found ls → Claim s v spot rs → below ≡ begins_below v → (is_some o ≡ true → begins_below v ≡ false → column + 1 ≤ spot.column)
@@ -330,7 +334,7 @@ module _ {s : Setting} {k v : Node} {spot : Spot} {rs : List Row} (column : ℕ)
         let stands : NodeStands t q (key.place + 1) found = node_upto at.stands (let e = at.ends in omega (arith, e)) in
         let order : q ≤ key.place + 1 = node_order stands in
         let head : AnyHead column (written k ++ colon_behind k) items leaves blank q key.place q (items_in found) (leaves_of found) =
-        record { width = key.width; items_stand = one_inside (omega arith) order (items_inside stands); leaves_stand = leaves_inside stands } in
+        record { width = key.width; items_stand = one_inside (omega arith) order (items_inside stands); leaves_stand = leaves_inside stands; leaves_to = leaves_end stands } in
         let one = value_made column (written k ++ colon_behind k) items leaves blank o below ds r key.place head value same deep key.colon u stood a calm key.rest in
         let value_set : SetDone t s.style (value_entries s.style column v) (column + s.style.indent) one.meaning.events = subst (λ z. SetDone t s.style z (column + s.style.indent) one.meaning.events) entries one.set in
         let low : n.node.height ≤ tall k = n.node.low in
@@ -368,7 +372,7 @@ module _ {s : Setting} {k v : Node} {spot : Spot} {rs : List Row} (column : ℕ)
         → EntryMade s false column (max (tall k) (tall v)) (λ t m ps. FoundPair t s column k v m ps) t (behind_key (key_head column (58 ∷ []) items leaves blank) o below rs) ds q r
     made {t} ds r q u a calm w =
         let colon = visible_at 58 u (omega arith) (omega arith) (subst (λ z. Rest t q z) (behind_inline column (58 ∷ []) items leaves blank o below rs ds r) w) in
-        let head : AnyHead column (58 ∷ []) items leaves blank q q q [] [] = record { width = refl; items_stand = one_inside (omega arith) (omega arith) none_inside; leaves_stand = none_inside } in
+        let head : AnyHead column (58 ∷ []) items leaves blank q q q [] [] = record { width = refl; items_stand = one_inside (omega arith) (omega arith) none_inside; leaves_stand = none_inside; leaves_to = no_leaf_to } in
         let one = value_made column (58 ∷ []) items leaves blank o below ds r q head value same deep colon.0 u stood a calm colon.1 in
         let value_set : SetDone t s.style (value_entries s.style column v) (column + s.style.indent) one.meaning.events = subst (λ z. SetDone t s.style z (column + s.style.indent) one.meaning.events) entries one.set in
         let high : one.height ≤ tall v = one.low in

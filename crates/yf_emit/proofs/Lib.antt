@@ -173,6 +173,7 @@ pub mod FixedNodes
 pub mod FixedRows
 pub mod FixedFormats
 pub mod PlacedRows
+pub mod HeadRows
 pub mod FoundNodes
 -- the lines of what formatting gives, which the rules of style look at
 pub mod LaidLines
@@ -184,7 +185,9 @@ pub mod HeldLemmas
 pub mod SetNodes
 pub mod SetMeant
 pub mod SetStreams
+pub mod ScalarBytes
 pub mod ScalarHeld
+pub mod ScalarTails
 pub mod DirectiveEnds
 pub mod FormattedHeld
 pub mod FormattedSet
@@ -203,9 +206,26 @@ pub mod BareTrees
 pub mod FoundTexts
 pub mod FoundMarks
 pub mod GapsAgain
+pub mod GapsStand
+pub mod GapsNoted
 pub mod RowsAgain
 pub mod CarriedAgain
 pub mod ReadingsAgain
+pub mod RowsRenoted
+pub mod RowGaps
+pub mod RowNotes
+pub mod NoteTrees
+pub mod NoteStreams
+pub mod RowSpots
+pub mod OwnsAgain
+pub mod TrailAgain
+pub mod RowTies
+pub mod AllBlanks
+pub mod BlanksRows
+pub mod BlanksAgain
+pub mod RowsTied
+pub mod DocumentTies
+pub mod FormatsFixed
 pub mod FixedBlocks
 pub mod FixedLawsHold
 pub mod FlowEvents

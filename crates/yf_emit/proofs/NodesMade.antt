@@ -36,7 +36,7 @@ use Rattle.yf_emit.proofs.FoundLines.{line_found}
 use Rattle.yf_emit.proofs.FoundNodes.{FoundNode, SignRows, sign_alone, sign_joined, found_noting, found_nothing}
 use Rattle.yf_emit.proofs.LaidRows.{laid_row, laid_line}
 use Rattle.yf_emit.proofs.NodePlaces.{NodeAt, leaf_at, behind_sign_at}
-use Rattle.yf_emit.proofs.PlacedRows.{none_inside, one_inside, PlacedRow, RowsIn, last_row, row_before, joined_placed, rows_joined}
+use Rattle.yf_emit.proofs.PlacedRows.{never_bare, none_inside, one_inside, PlacedRow, no_leaf_to, behind_line, RowsIn, last_row, row_before, joined_placed, rows_joined}
 use Rattle.yf_emit.proofs.RowEnds.{row_end, end_follows, first_deco}
 use Rattle.yf_emit.proofs.SeenTexts.{ascii_ns}
 use Rattle.yf_emit.proofs.SetMeant.{column_more, SetMeant, SetSigned, set_flow, set_noting, signed_of, signed_empty}
@@ -92,7 +92,7 @@ line_made {t} {s} {x} {r} spot n c ds z q b inline some key text body count node
     let behind_text = rest_text (written x) u node.back.line there in
     let end = row_end (first ds) z u (first_deco a) behind_text.rest in
     let at = leaf_at {c = c} spot.entries stood.block (flow_node derived) end.end in
-    let found = line_found {row = r} s spot.entries ds inline some text key (places u derived refl) (node.meant q) (node.silent q) (end_ascends end.end) end.is end.start end.rest in
+    let found = line_found {row = r} s spot.entries ds inline some text body key (places u derived refl) (node.meant q) (node.silent q) end.end end.is end.start end.rest in
     record {
       height = node.height;
       place = end.place;
@@ -155,13 +155,13 @@ rows_behind : {t : List ℕ} {y : Row} {ys : List Row} {ps : List PlacedRow} {ds
     → i ≡ q + 1 + n → RowsIn t (y ∷ ys) ps ds i cs place r → Behind t (joined (sign_row column sign items blank) n (y ∷ ys)) ps ds q cs place r
 rows_behind sign column items blank n q e (last_row {p = p} at end w) = record {
   found_rows = joined_placed (q ∷ []) [] q p ∷ [];
-  signed = sign_joined refl refl refl (let f = at.from in omega (arith, e, f)) refl;
-  placed = rows_joined (sign_row column sign items blank) n q q [] [] e (one_inside (omega arith) (omega (arith, e)) none_inside) none_inside (last_row at end w);
+  signed = sign_joined refl refl refl (let f = at.from in omega (arith, e, f)) refl refl;
+  placed = rows_joined (sign_row column sign items blank) n q q [] [] e (one_inside (omega arith) (omega (arith, e)) none_inside) none_inside no_leaf_to (last_row at end w);
 }
 rows_behind sign column items blank n q e (row_before {p = p} {ps = ps} at end w more) = record {
   found_rows = joined_placed (q ∷ []) [] q p ∷ ps;
-  signed = sign_joined refl refl refl (let f = at.from in omega (arith, e, f)) refl;
-  placed = rows_joined (sign_row column sign items blank) n q q [] [] e (one_inside (omega arith) (omega (arith, e)) none_inside) none_inside (row_before at end w more);
+  signed = sign_joined refl refl refl (let f = at.from in omega (arith, e, f)) refl refl;
+  placed = rows_joined (sign_row column sign items blank) n q q [] [] e (one_inside (omega arith) (omega (arith, e)) none_inside) none_inside no_leaf_to (row_before at end w more);
 }
 
 pub sign_made : {t : List ℕ} {s : Setting} {x : Node} {spot : Spot} {rs : List Row} (a sign : ℕ) (column : ℕ) (items : List ℕ) (blank : Bool) (c : Ctx) (ds : List Deco) (r : List ℕ) (q : ℕ)
@@ -185,7 +185,7 @@ sign_made {t} {s} {x} {spot} a sign column items blank c ds r q low high wide (n
       inner = [];
       meant = found_noting end.comments (found_nothing (q + 1) (m.meant (q + 1)));
       found_rows = row ∷ [];
-      signed = sign_alone refl refl refl;
+      signed = sign_alone refl refl refl refl;
       placed = subst (λ v. RowsIn t (sign_row column sign items blank ∷ []) (row ∷ []) ds q v end.place r) (sym (noting_nothing (q + 1) end.comments))
           (last_row (record {
             from = refl;
@@ -194,7 +194,8 @@ sign_made {t} {s} {x} {spot} a sign column items blank c ds r q low high wide (n
             items = one_inside (omega arith) (omega arith) none_inside;
             leaves = none_inside;
             commented = refl;
-          }) (record { ascend = end_ascends end.end; is = end.is; start = end.start }) end.rest);
+            bare = λ z. never_bare z;
+          }) (record { ascend = end_ascends end.end; is = end.is; start = end.start; tail = behind_line refl end.end no_leaf_to }) end.rest);
       is = texts_noting (empty_node (q + 1)) end.comments ∙ (ap (λ z. z ++ texts end.comments) (texts_empty (q + 1)) ∙ (end.is ∙ sym (append-nil (carried_texts (first ds)))));
       laid = laid_row (empty_node (q + 1)) end.comments [] (laid_empty (q + 1) (omega arith)) (end_ascends end.end) end.is;
       set = signed_empty (q + 1) end.comments;

@@ -1,15 +1,19 @@
 -- Where rows stand in a text: of each what stands on it, between where it begins and where its text ends, and the comments after it.
-use Rattle.std.proofs.Common.{◌≡◌, ℕ, ◌+◌, ◌≤◌, Bool, List, [], ◌∷◌, ◌++◌, length, replicate, refl, sym, ap, ◌∙◌, subst, arith, append_assoc, length-append}
+use Rattle.std.proofs.Common.{◌≡◌, ℕ, ◌+◌, ◌<◌, ◌≤◌, Bool, List, [], ◌∷◌, ◌++◌, length, replicate, refl, sym, ap, ◌∙◌, subst, arith, append_assoc, length-append}
 use Rattle.std.specs.Prelude.{is_some}
 use Rattle.std.proofs.lemmas.List.{length-replicate}
+use Rattle.yf_chars.specs.Chain.{Chain}
 use Rattle.yf_lines.specs.Basic.{LineStart}
 use Rattle.yf_lines.specs.Rest.{Rest}
 use Rattle.yf_comments.specs.Comment.{CommentValue}
+use Rattle.yf_comments.specs.Comments.{Blank, LineEnd, LineRest, Row as CommentRow}
 use Rattle.yf_comments.proofs.GapLinesLemmas.{texts}
+use Rattle.yf_block_scalar.specs.Body.{first_noted}
 use Rattle.yf_events.specs.declared.event.Span.{Span}
 use Rattle.yf_grammar.proofs.CommentOrder.{Ascend}
+use Rattle.yf_stream.proofs.BrokenEnds.{Broken}
 use Rattle.yf_emit.specs.Carried.{carried_texts}
-use Rattle.yf_emit.specs.Decorated.{Deco, first, after, past, lines_then}
+use Rattle.yf_emit.specs.Decorated.{Deco, first, after, past, gap_then, lines_then}
 use Rattle.yf_emit.specs.Rows.{Row, joined}
 use Rattle.yf_emit.proofs.DecoratedLemmas.{lines_append}
 use Rattle.yf_emit.proofs.StepsStand.{starts_of, starts_append}
@@ -43,19 +47,53 @@ pub record AtRow (x : Row) (i : ℕ) (p : PlacedRow) : Type 0 where
   pub items : Inside i p.upto p.items
   pub leaves : Inside i p.upto (starts_of p.leaves)
   pub commented : is_some x.key_comment ≡ p.commented
+  pub bare : p.items ≡ [] → x.items ≡ []
+
+pub never_bare : {a : ℕ} {xs ys : List ℕ} → a ∷ xs ≡ [] → ys ≡ []
+never_bare e = absurd cc
+
+-- leaves with characters, that end before a place
+pub data LeavesTo (n : ℕ) : List Span → Type 0 where
+  no_leaf_to : LeavesTo n []
+  leaf_to : {s : Span} {ss : List Span} → s.start < s.end → s.end ≤ n → LeavesTo n ss → LeavesTo n (s ∷ ss)
+
+pub leaves_to_join : {n : ℕ} {xs ys : List Span} → LeavesTo n xs → LeavesTo n ys → LeavesTo n (xs ++ ys)
+leaves_to_join no_leaf_to b = b
+leaves_to_join (leaf_to l m a) b = leaf_to l m (leaves_to_join a b)
+
+pub leaves_to_wider : {m n : ℕ} {ss : List Span} → m ≤ n → LeavesTo m ss → LeavesTo n ss
+leaves_to_wider l no_leaf_to = no_leaf_to
+leaves_to_wider l (leaf_to m n a) = leaf_to m (omega (arith, l, n)) (leaves_to_wider l a)
+
+-- where the last of these leaves ends
+pub data LastEnd : List Span → ℕ → Type 0 where
+  last_end : {s : Span} → LastEnd (s ∷ []) s.end
+  later_end : {s : Span} {ss : List Span} {e : ℕ} → LastEnd ss e → LastEnd (s ∷ ss) e
+
+pub last_end_behind : {ys : List Span} {e : ℕ} (xs : List Span) → LastEnd ys e → LastEnd (xs ++ ys) e
+last_end_behind [] a = a
+last_end_behind (x ∷ xs) a = later_end (last_end_behind xs a)
+
+-- The comments after a row with these lines of a literal or folded scalar, or without: in the second case those on the line of the scalar's header stand
+-- before its end, and the others from its end on.
+pub data OwnTail (t : List ℕ) (body : List (List ℕ)) (d : Deco) (p : PlacedRow) (own : List CommentValue) (place : ℕ) : Type 0 where
+  behind_line : body ≡ [] → LineEnd t p.upto place own → LeavesTo p.upto p.leaves → OwnTail t body d p own place
+  behind_scalar : {near far : List CommentValue} {h start e : ℕ} {z : List ℕ} (b : Bool) → (body ≡ [] → ⊥) → own ≡ near ++ first_noted b far → texts near ≡ d.trails → p.upto ≤ h → LineRest t h start near → start ≤ e
+      → p.upto ≤ e → LeavesTo e p.leaves → LastEnd p.leaves e → Blank t e → Broken t e → Rest t e (gap_then d.gap z) → Rest t place z → Chain (CommentRow t) e place far → OwnTail t body d p own place
 
 -- the comments after a row, up to the next line that is none
-pub record EndsRow (t : List ℕ) (d : Deco) (upto : ℕ) (own : List CommentValue) (place : ℕ) : Type 0 where
-  pub ascend : Ascend t upto own place
+pub record EndsRow (t : List ℕ) (body : List (List ℕ)) (d : Deco) (p : PlacedRow) (own : List CommentValue) (place : ℕ) : Type 0 where
+  pub ascend : Ascend t p.upto own place
   pub is : texts own ≡ carried_texts d
   pub start : LineStart t place
+  pub tail : OwnTail t body d p own place
 
 -- rows of which the first begins at i, with the comments after them, up to j
 pub data RowsIn (t : List ℕ) : List Row → List PlacedRow → List Deco → ℕ → List CommentValue → ℕ → List ℕ → Type 0 where
-  last_row : {x : Row} {p : PlacedRow} {ds : List Deco} {i j : ℕ} {own : List CommentValue} {r : List ℕ} → AtRow x i p → EndsRow t (first ds) p.upto own j → Rest t j r
+  last_row : {x : Row} {p : PlacedRow} {ds : List Deco} {i j : ℕ} {own : List CommentValue} {r : List ℕ} → AtRow x i p → EndsRow t x.body (first ds) p own j → Rest t j r
       → RowsIn t (x ∷ []) (p ∷ []) ds i own j r
   row_before : {x y : Row} {xs : List Row} {p : PlacedRow} {ps : List PlacedRow} {ds : List Deco} {i k j : ℕ} {own cs : List CommentValue} {r : List ℕ} → AtRow x i p
-      → EndsRow t (first ds) p.upto own k → Rest t k (lines_then (y ∷ xs) (after ds) r) → RowsIn t (y ∷ xs) ps (after ds) (k + y.column) cs j r
+      → EndsRow t x.body (first ds) p own k → Rest t k (lines_then (y ∷ xs) (after ds) r) → RowsIn t (y ∷ xs) ps (after ds) (k + y.column) cs j r
       → RowsIn t (x ∷ y ∷ xs) (p ∷ ps) ds i (own ++ cs) j r
 
 -- One after the other.
@@ -105,13 +143,27 @@ at_joined {y} {p} {i} head ys n q a items leaves e f g at x xs same =
       items = inside_join (inside_wider (omega arith) at.order f) (inside_wider (omega (arith, e)) (omega arith) at.items);
       leaves = subst (λ z. Inside q p.upto z) (sym (starts_append leaves p.leaves)) (inside_join (inside_wider (omega arith) at.order g) (inside_wider (omega (arith, e)) (omega arith) at.leaves));
       commented = at.commented;
+      bare = λ z. never_bare z;
     }) where
       first_row : Row → List Row → Row
       first_row other [] = other
       first_row other (r ∷ rs) = r
 
+at_upto : {x : Row} {i : ℕ} {p : PlacedRow} → AtRow x i p → i ≤ p.upto
+at_upto at = at.order
+
+ends_joined : {t : List ℕ} {body : List (List ℕ)} {d : Deco} {p : PlacedRow} {own : List CommentValue} {place : ℕ} (q : ℕ) (items : List ℕ) (leaves : List Span) → LeavesTo p.upto leaves → EndsRow t body d p own place
+    → EndsRow t body d (joined_placed items leaves q p) own place
+ends_joined {t} {body} {d} {p} {own} {place} q items leaves l e = record { ascend = e.ascend; is = e.is; start = e.start; tail = go e.tail } where
+  go : OwnTail t body d p own place → OwnTail t body d (joined_placed items leaves q p) own place
+  go (behind_line none a b) = behind_line none a (leaves_to_join l b)
+  go (behind_scalar b some are is m rest n w a last blank broken from to rows) =
+      behind_scalar b some are is m rest n w (leaves_to_join (leaves_to_wider w l) a) (last_end_behind leaves last) blank broken from to rows
+
 pub rows_joined : {t : List ℕ} {y : Row} {ys : List Row} {p : PlacedRow} {ps : List PlacedRow} {ds : List Deco} {i j : ℕ} {cs : List CommentValue} {r : List ℕ} (head : Row) (n q a : ℕ) (items : List ℕ) (leaves : List Span)
-    → i ≡ q + length head.text + n → Inside q i (a ∷ items) → Inside q i (starts_of leaves) → RowsIn t (y ∷ ys) (p ∷ ps) ds i cs j r
+    → i ≡ q + length head.text + n → Inside q i (a ∷ items) → Inside q i (starts_of leaves) → LeavesTo i leaves → RowsIn t (y ∷ ys) (p ∷ ps) ds i cs j r
     → RowsIn t (joined head n (y ∷ ys)) (joined_placed (a ∷ items) leaves q p ∷ ps) ds q cs j r
-rows_joined {y = y} {ys = ys} head n q a items leaves e f g (last_row at end w) = last_row (at_joined head ys n q a items leaves e f g at _ _ refl) end w
-rows_joined {y = y} {ys = ys} head n q a items leaves e f g (row_before at end w more) = row_before (at_joined head ys n q a items leaves e f g at _ _ refl) end w more
+rows_joined {y = y} {ys = ys} head n q a items leaves e f g h (last_row at end w) =
+    last_row (at_joined head ys n q a items leaves e f g at _ _ refl) (ends_joined q (a ∷ items) leaves (leaves_to_wider (at_upto at) h) end) w
+rows_joined {y = y} {ys = ys} head n q a items leaves e f g h (row_before at end w more) =
+    row_before (at_joined head ys n q a items leaves e f g at _ _ refl) (ends_joined q (a ∷ items) leaves (leaves_to_wider (at_upto at) h) end) w more

@@ -13,13 +13,13 @@ use Rattle.yf_emit.proofs.CommentsCut.{each_none, Under, Upward, upward_none, up
 use Rattle.yf_emit.proofs.GapsAgain.{Blanks, gap_at_end, gap_with}
 use Rattle.yf_emit.proofs.PlacedRows.{PlacedRow}
 use Rattle.yf_emit.proofs.RowsAgain.{Apart, apart_gap, apart_left, decos_again, gap_is, merged_own, merged_stand}
-use Rattle.yf_emit.proofs.CarriedAgain.{CarryAgain, NextTied, Owns, Tied, all_of, all_standing, carry_again, first_from, first_over, next_apart, none_stands, owns_upward, standing_over, upward_join}
+use Rattle.yf_emit.proofs.CarriedAgain.{CarryAgain, NextTied, Owns, Tied, all_of, all_standing, carry_again, cut_over, first_from, first_over, next_apart, none_stands, owns_upward, upward_join}
 
 pub record CarriedSame (q : Lists) (rows : List Row) (gap : List GapLine) (ds : List Deco) : Type 0 where
   pub gap_is : first_gap q rows ≡ gap
   pub decos_are : row_decos q rows ≡ ds
 
-abbrev remarks : Lists → List Row → List CommentValue
+abbrev pub remarks : Lists → List Row → List CommentValue
 remarks q rows = map (λ r. r.0) (source_of q rows).remarks
 
 -- what stands before the first row, as if a row without text carried it
@@ -29,7 +29,7 @@ before_text gap = record { trails = []; gap = gap }
 -- firsts are the comments before the first row; hs and b are those of the gap as it was laid out
 pub carried_same : (q : Lists) (row : Row) (rows : List Row) {p : PlacedRow} {ps : List PlacedRow} {ds : List Deco} {gap : List GapLine} {i j : ℕ} {owns : List (List CommentValue)} (firsts hs : List CommentValue) (b : Bool)
     → remarks q (row ∷ rows) ≡ firsts ++ all_of owns → Upward 0 firsts → Under i firsts → texts firsts ≡ remarks_of gap → gap ≡ gap_with at_text_start row.column hs b → Blanks false false gap firsts row.blank_before
-    → NextTied row p (before_text gap) → Owns (p ∷ ps) ds i owns j → Tied (source_of q (row ∷ rows)) (firsts ++ all_of owns) (row ∷ rows) (p ∷ ps) ds owns → CarriedSame q (row ∷ rows) gap ds
+    → NextTied (firsts ++ all_of owns) row p (before_text gap) → Owns (p ∷ ps) ds i owns j → Tied (source_of q (row ∷ rows)) (firsts ++ all_of owns) (row ∷ rows) (p ∷ ps) ds owns → CarriedSame q (row ∷ rows) gap ds
 carried_same q row rows {p} {ps} {ds} {gap} {i} {j} {owns} firsts hs b all up under is shape blanks tied a t =
     let c : Source = source_of q (row ∷ rows) in
     let again : CarryAgain c (row ∷ rows) ds owns = carry_again firsts under refl a t in
@@ -38,7 +38,7 @@ carried_same q row rows {p} {ps} {ds} {gap} {i} {j} {owns} firsts hs b all up un
     ap (filter (own_of (flat_map (trailing c) (row ∷ rows)))) all ∙ merged_own [] each_none whole (merged_stand firsts again.merged) in
     let from : p.from ≡ i = first_from a in
     let apart : Apart row firsts (all_standing ds owns) =
-    next_apart firsts (all_standing ds owns) tied (λ z. none_stands [] firsts (is ∙ z)) (omega (arith, from)) under (standing_over again.merged (first_over a)) in
+    next_apart firsts (all_standing ds owns) tied (λ z. none_stands [] firsts (is ∙ z)) (omega (arith, from)) under (cut_over firsts refl again.merged (first_over a)) in
     record {
       gap_is = ap (λ z. gap_of at_text_start z (row ∷ rows)) own ∙ (apart_gap at_text_start rows apart ∙ gap_is at_text_start row.column hs b shape blanks);
       decos_are = decos_again (own_line_comments c (row ∷ rows)) again.carry (ap (comments_left row) own ∙ apart_left apart);

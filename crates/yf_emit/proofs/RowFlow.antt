@@ -105,11 +105,11 @@ pub data Has (s : Span) : List Span → Type 0 where
   has_rest : {r : Span} {ss : List Span} → Has s ss → Has s (r ∷ ss)
 
 -- A comment that trails a row stands in one of its leaves, or on the line on which that leaf ends, and that leaf is the last before it; or before a
--- leaf of the next row.
+-- leaf of the next row, where it trails the row's key.
 pub data Near (c : Source) (row : Row) (e : CommentValue) : List Row → Type 0 where
   at_leaf : {rows : List Row} (s : Span) (r : Remark) → Has s row.leaves → last_leaf None e.offset c.leaves ≡ Some s → first_comment c s ≡ Some r → r.0 ≡ e
       → (nat_lt e.offset s.end || r.1) ≡ true → Near c row e rows
-  before_leaf : {rows : List Row} (next : Row) (more : List Row) → rows ≡ next ∷ more → (s : Span) → Has s next.leaves → e.offset < s.start → Near c row e rows
+  before_leaf : {rows : List Row} → row.key_comment ≡ Some e → (next : Row) (more : List Row) → rows ≡ next ∷ more → (s : Span) → Has s next.leaves → e.offset < s.start → Near c row e rows
 
 -- What trails a row: nothing, or the first comment after an item on it and before the leaves of later rows. The item begins a leaf; or there
 -- is no leaf on the row, and the comment trails its key. A comment that trails a key stands before a row with a leaf.

@@ -1,9 +1,7 @@
 -- Formatting keeps the comments of a text at the same places.
-use Rattle.std.proofs.Common.{◌≡◌, ℕ, Bool, true, false, ◌&&◌, List, [], ◌∷◌, map, refl, sym, ap, ◌∙◌, arith}
+use Rattle.std.proofs.Common.{◌≡◌, ℕ, Bool, true, false, List, [], ◌∷◌, map, refl, sym, ap, ◌∙◌, arith}
 use Rattle.std.specs.Prelude.{if◌then◌else◌, zip}
-use Rattle.std.specs.List.{list_all}
 use Rattle.std.specs.Str.{IsUtf8}
-use Rattle.yf_chars.specs.Class.{is_white}
 use Rattle.yf_comments.specs.Comment.{CommentValue}
 use Rattle.yf_events.proofs.TreeLemmas.{trees_unique}
 use Rattle.yf_events.specs.Reading.{documents_before, leaves_before}
@@ -26,6 +24,7 @@ use Rattle.yf_emit.proofs.DocumentTrails.{leaves_of}
 use Rattle.yf_emit.proofs.DocumentsFlow.{stream_flow}
 use Rattle.yf_emit.proofs.DocumentsFound.{document_starts, document_steps, documents_are, documents_found}
 use Rattle.yf_emit.proofs.FoundAgain.{told_by}
+use Rattle.yf_emit.proofs.GapsAgain.{trimmed_twice}
 use Rattle.yf_emit.proofs.LeavesTold.{laid_trees, leaves_told}
 use Rattle.yf_emit.proofs.PrintedSteps.{trimmed_by}
 use Rattle.yf_emit.proofs.RowLeaves.{leaves_on}
@@ -67,22 +66,6 @@ either_way true true e f = refl
 either_way false false e f = f refl
 either_way true false e f = absurd cc
 either_way false true e f = absurd cc
-
-whites_left : (x : List ℕ) → list_all is_white (trimmed x) ≡ list_all is_white x
-whites_left [] = refl
-whites_left (b ∷ bs) = go (is_white b && list_all is_white bs) refl (whites_left bs) where
-  go : (w : Bool) → (is_white b && list_all is_white bs) ≡ w → list_all is_white (trimmed bs) ≡ list_all is_white bs → list_all is_white (if w then [] else b ∷ trimmed bs) ≡ w
-  go true e f = refl
-  go false e f = ap (λ z. is_white b && z) f ∙ e
-
-trimmed_twice : (x : List ℕ) → trimmed (trimmed x) ≡ trimmed x
-trimmed_twice [] = refl
-trimmed_twice (b ∷ bs) = go (is_white b && list_all is_white bs) refl (trimmed_twice bs) where
-  go : (w : Bool) → (is_white b && list_all is_white bs) ≡ w → trimmed (trimmed bs) ≡ trimmed bs → trimmed (if w then [] else b ∷ trimmed bs) ≡ (if w then [] else b ∷ trimmed bs)
-  go true e f = refl
-  go false e f =
-      ap (λ z. if is_white b && z then [] else b ∷ trimmed (trimmed bs)) (whites_left bs)
-      ∙ (ap (λ z. if z then [] else b ∷ trimmed (trimmed bs)) e ∙ ap (λ z. b ∷ z) f)
 
 -- Both tellings together.
 

@@ -14,7 +14,7 @@ use Rattle.yf_emit.specs.Fits.{FitScalar}
 use Rattle.yf_emit.specs.Normal.{Setting}
 use Rattle.yf_emit.specs.Rows.{Row}
 use Rattle.yf_emit.proofs.FoundNodes.{FoundNode, scalar_rows}
-use Rattle.yf_emit.proofs.PlacedRows.{none_inside, one_inside, PlacedRow, AtRow}
+use Rattle.yf_emit.proofs.PlacedRows.{never_bare, none_inside, one_inside, PlacedRow, AtRow}
 use Rattle.yf_emit.proofs.ScalarStands.{style_back}
 
 -- its row, on which it begins at q
@@ -66,4 +66,5 @@ leaf_stands finish some key = record {
   items = one_inside (omega arith) (omega arith) none_inside;
   leaves = one_inside (omega arith) (omega arith) none_inside;
   commented = key;
+  bare = λ z. never_bare z;
 }

@@ -1,6 +1,6 @@
 -- Where a block scalar stands that is derived from its row: its lines begin after the line of its header, it reaches past each of them, and its comments
 -- are well set.
-use Rattle.std.proofs.Common.{◌≡◌, ◌≢◌, ℕ, ℤ, zero, suc, ◌+◌, ◌-◌, ◌<◌, ◌≤◌, ◌⊎◌, inl, inr, ⊎_elim, Bool, true, false, List, [], ◌∷◌, ◌++◌, length, Option, None, refl, sym, ap, ◌∙◌, subst, arith, length-append}
+use Rattle.std.proofs.Common.{◌≡◌, ◌≢◌, ℕ, ℤ, zero, suc, ◌+◌, ◌<◌, ◌≤◌, ◌⊎◌, inl, inr, ⊎_elim, Bool, true, false, List, [], ◌∷◌, ◌++◌, length, Option, None, refl, sym, ap, ◌∙◌, subst, arith, length-append}
 use Rattle.std.specs.Prelude.{if◌then◌else◌}
 use Rattle.std.specs.Str.{IsUtf8}
 use Rattle.std.proofs.lemmas.Bool.{cases_eq, cases_lt}
@@ -23,7 +23,7 @@ use Rattle.yf_lines.proofs.ClearLemmas.{Quiet, quiet_join}
 use Rattle.yf_lines.proofs.RestLemmas.{rest_ascii, rest_text, rest_break}
 use Rattle.yf_comments.specs.Comment.{CommentValue}
 use Rattle.yf_comments.specs.Comments.{LineRest}
-use Rattle.yf_comments.proofs.GapLinesLemmas.{texts_append}
+use Rattle.yf_comments.proofs.GapLinesLemmas.{texts, texts_append}
 use Rattle.yf_comments.proofs.RowLemmas.{rest_unique}
 use Rattle.yf_block_scalar.specs.Body.{Body, BodyValue, Trail, first_noted, is_gap_tail}
 use Rattle.yf_block_scalar.specs.Body.Body.{indicated, detected, without_content}
@@ -83,13 +83,18 @@ pub record ScalarReached (t : List ℕ) (n : ℤ) (h : Header) (ls : List (List 
   pub between : LinesBetween t lines start node.meaning.finish
   pub many : length ls ≤ lines
   pub kept : h.chomp ≡ Keep → length ls + count ≤ lines
+  pub exact : lines ≡ reach h.chomp (length ls) count
+  pub value : BodyValue
+  pub body : Body t n header.header start node.place value
+  pub reaches : lines ≡ reach header.header.chomp (length value.lines) value.tail
+  pub comments : node.meaning.comments ≡ header.comments ++ value.comments
 
 feeds_long : (k : ℕ) → length (feeds k) ≡ k
 feeds_long zero = refl
 feeds_long (suc k) = ap suc (feeds_long k)
 
 -- of two contents with the same lines, that are the same, the tails are as long
-same_tails : (w : List ℕ) (tail count : ℕ) (o : Bool) → length (w ++ (if o then [] else feeds (tail + 1))) ≡ length (w ++ feeds (count + 1)) → count ≤ tail
+same_tails : (w : List ℕ) (tail count : ℕ) (o : Bool) → length (w ++ (if o then [] else feeds (tail + 1))) ≡ length (w ++ feeds (count + 1)) → count ≡ tail
 same_tails w tail count true e =
     let l = length-append w (feeds (count + 1)) in
     let m = length-append w [] in
@@ -106,16 +111,21 @@ abbrev text_of : Bool → List (List ℕ) → List ℕ
 text_of f ls = if f then folded ls else literal ls
 
 kept_parts : (f g : Bool) (c d : Chomp) (ls : List (List ℕ)) (tail count : ℕ) (o : Bool) → f ≡ g → c ≡ Keep → d ≡ Keep
-    → text_of f ls ++ (if o then [] else ending c tail) ≡ text_of g ls ++ ending d count → count ≤ tail
+    → text_of f ls ++ (if o then [] else ending c tail) ≡ text_of g ls ++ ending d count → count ≡ tail
 kept_parts f g c d ls tail count o e m n same =
     same_tails (text_of f ls) tail count o (ap length (ap (λ k. text_of f ls ++ (if o then [] else ending k tail)) (sym m)
     ∙ (same ∙ (ap (λ b. text_of b ls ++ ending d count) (sym e) ∙ ap (λ k. text_of f ls ++ ending k count) n))))
 
 kept_tail : (hh h : Header) (bl ls : List (List ℕ)) (tail count : ℕ) (o : Bool) → hh.folded ≡ h.folded → hh.chomp ≡ h.chomp → bl ≡ ls → EndsWithContent ls
-    → content_of hh bl tail o ≡ content_of h ls count false → h.chomp ≡ Keep → count ≤ tail
+    → content_of hh bl tail o ≡ content_of h ls count false → h.chomp ≡ Keep → count ≡ tail
 kept_tail hh h bl [] tail count o e f g last same k = absurd last
 kept_tail hh h bl (x ∷ ls) tail count o e f g last same k =
     kept_parts hh.folded h.folded hh.chomp h.chomp (x ∷ ls) tail count o e (f ∙ k) k (subst (λ w. content_of hh w tail o ≡ content_of h (x ∷ ls) count false) g same)
+
+same_reach : (c d : Chomp) (l k m n : ℕ) → c ≡ d → l ≡ k → (d ≡ Keep → n ≡ m) → reach c l m ≡ reach d k n
+same_reach c Strip l k m n e f g = ap (λ z. reach z l m) e ∙ f
+same_reach c Clip l k m n e f g = ap (λ z. reach z l m) e ∙ f
+same_reach c Keep l k m n e f g = let h = g refl in ap (λ z. reach z l m) e ∙ omega (arith, f, h)
 
 reach_lines : (c : Chomp) (l k : ℕ) → l ≤ reach c l k
 reach_lines Strip l k = omega arith
@@ -152,9 +162,15 @@ scalar_reached {t} {n} {h} {ls} {count} {notes} {q} {r} last a =
       between = to.between;
       many = let l = reach_lines c (length a.body.lines) a.body.tail in omega (arith, l, long);
       kept = λ k.
-          let tail : count ≤ a.body.tail = kept_tail a.header.header h a.body.lines ls a.body.tail count a.body.open_end a.folded a.chomp a.lines last a.content k in
+          let tail : count ≡ a.body.tail = kept_tail a.header.header h a.body.lines ls a.body.tail count a.body.open_end a.folded a.chomp a.lines last a.content k in
           let all : reach c (length a.body.lines) a.body.tail ≡ length a.body.lines + a.body.tail = ap (λ z. reach z (length a.body.lines) a.body.tail) (a.chomp ∙ k) in
           omega (arith, tail, all, long);
+      exact = same_reach c h.chomp (length a.body.lines) (length ls) a.body.tail count a.chomp long
+          (kept_tail a.header.header h a.body.lines ls a.body.tail count a.body.open_end a.folded a.chomp a.lines last a.content);
+      value = a.body;
+      body = a.rest;
+      reaches = refl;
+      comments = refl;
     }
 
 -- Its comments.
@@ -305,6 +321,25 @@ passed_header {t} {q} w d body r u text a some k s (block_header {j = j} {x = x}
       before = omega (arith, there);
       quiet = λ h l m. whole.none h l (omega (arith, m, there));
     }
+
+-- the comments on its line
+pub record HeaderNotes (t : List ℕ) (q place : ℕ) (own : List CommentValue) (xs : List (List ℕ)) : Type 0 where
+  pub at : ℕ
+  pub from : q ≤ at
+  pub line : LineRest t at place own
+  pub is : texts own ≡ xs
+
+pub header_notes : {t : List ℕ} {q j : ℕ} {v : HeaderValue} (w : List ℕ) (d : Deco) (body : List (List ℕ)) (r : List ℕ) → IsUtf8 t → IsLineText w → AllSigns w → w ≢ [] → IsDeco d
+    → Rest t q (w ++ end_then d body r) → BlockHeader t q j v → HeaderNotes t q j v.comments d.trails
+header_notes {t} {q} w d body r u text a some k s (block_header {j = j} {x = x} style marks rest) =
+    let z : List ℕ = body_then body (gap_then d.gap r) in
+    let at = rest_text w u text s in
+    let line = trails_at d.trails z u k.trails at.rest in
+    let same = header_ends w d.trails z u a some s at.rest style marks rest in
+    let notes : x ≡ line.notes = (rest_unique (subst (λ i. LineRest t i j x) same rest) line.line).1 in
+    let first = style_next style in
+    let later = indicators_forward marks in
+    record { at = _; from = omega (arith, first, later); line = rest; is = ap texts notes ∙ line.is }
 
 -- its first character
 pub header_char : {t : List ℕ} {i j : ℕ} {v : HeaderValue} → BlockHeader t i j v → (code t i ≡ 124) ⊎ (code t i ≡ 62)

@@ -1,5 +1,5 @@
 -- A literal or folded scalar from its row: its header, its lines and what it carries.
-use Rattle.std.proofs.Common.{◌≡◌, ◌≢◌, ℕ, zero, suc, ◌+◌, ◌-◌, ◌<◌, ◌≤◌, ◌⊎◌, ℤ, pos, Bool, true, false, true≢false, List, [], ◌∷◌, ◌++◌, length, map, replicate, Option, Some, None, refl, sym, ap, ◌∙◌, subst, arith, append_assoc, append-nil, ⊎_elim}
+use Rattle.std.proofs.Common.{◌≡◌, ◌≢◌, ℕ, zero, suc, ◌+◌, ◌-◌, ◌<◌, ◌≤◌, ℤ, pos, Bool, true, false, true≢false, List, [], ◌∷◌, ◌++◌, length, map, replicate, Option, Some, None, refl, sym, ap, ◌∙◌, subst, arith, append_assoc, append-nil, ⊎_elim}
 use Rattle.std.specs.Prelude.{◌+ℤ◌, is_some, if◌then◌else◌}
 use Rattle.std.specs.Str.{IsUtf8}
 use Rattle.std.proofs.lemmas.Bool.{cases_Bool}
@@ -13,7 +13,7 @@ use Rattle.yf_comments.specs.GapLines.{AllLeft, remarks_of}
 use Rattle.yf_comments.proofs.GapLinesLemmas.{gap_at}
 use Rattle.yf_block_scalar.specs.Body.{base}
 use Rattle.yf_block_scalar.specs.Content.{feeds}
-use Rattle.yf_block_scalar.specs.Placed.{lines_then as scalar_lines, trail_then, IsTrail, trail_texts, Below, KeptGap, scalar_then}
+use Rattle.yf_block_scalar.specs.Placed.{lines_then as scalar_lines, trail_then, Below, KeptGap, scalar_then}
 use Rattle.yf_block_scalar.specs.Written.{style_bytes, digit_bytes, sign_bytes, AreLineTexts, EndsWithContent, StartsUnspaced}
 use Rattle.yf_block_scalar.specs.declared.header.Chomp.TheVariants.{Keep}
 use Rattle.yf_block_scalar.specs.declared.header.Header.{Header}
@@ -32,8 +32,8 @@ use Rattle.yf_grammar.proofs.FlowBack.{visible_line}
 use Rattle.yf_grammar.proofs.LeafBack.{behind_nothing, propertied}
 use Rattle.yf_grammar.proofs.MeantLemmas.{texts_with_props}
 use Rattle.yf_emit.specs.BlockLines.{begins_with_space, block_lines, chomping_sign, content_lines, digit_text, final_feeds, header_text, is_kept_tail, line_at, style_sign}
-use Rattle.yf_emit.specs.BlockValues.{is_folded, chomp_of, digit_of, header_of}
-use Rattle.yf_emit.specs.Carried.{AreTrails, IsDeco, AreDecos, carried_texts, CalmBody}
+use Rattle.yf_emit.specs.BlockValues.{chomp_of, digit_of, header_of}
+use Rattle.yf_emit.specs.Carried.{IsDeco, AreDecos, carried_texts, CalmBody}
 use Rattle.yf_emit.specs.Decorated.{GapLine, gap_then, Deco, first, trails_then, body_then, end_then, inline_then}
 use Rattle.yf_emit.specs.Fits.{FitScalar, FitProps, no_fit_props, some_fit_props, is_block_style, Unmarked}
 use Rattle.yf_emit.specs.Layout.{may_be_blank_behind}
@@ -41,7 +41,6 @@ use Rattle.yf_emit.specs.Normal.{Setting, Spot}
 use Rattle.yf_emit.specs.OneLine.{spaced, props_text}
 use Rattle.yf_emit.specs.Rows.{begins_below, Row, Ending, block_scalar, tail_ending, is_empty_text, rows}
 use Rattle.yf_emit.specs.Steps.{a_leaf, leaf_steps, comment_steps, steps_in}
-use Rattle.yf_emit.proofs.BlockTexts.{style_written, digit_written, sign_written, line_written}
 use Rattle.yf_emit.proofs.ClearRows.{unmarked_first, unmarked_nothing, line_indented, AreBodyTexts, no_body_text, body_text, place_of_rest}
 use Rattle.yf_emit.proofs.CollectionsMade.{same_props, some_props}
 use Rattle.yf_emit.proofs.HeldLemmas.{held_scalar}
@@ -49,53 +48,15 @@ use Rattle.yf_emit.proofs.SetMeant.{SetMeant, set_block}
 use Rattle.yf_emit.proofs.CollectionsMade.{comments_with_props, same_props, some_props}
 use Rattle.yf_emit.proofs.NodePlaces.{apart_at, both_behind, block_no_key}
 use Rattle.yf_emit.proofs.NodesMade.{Stood, NodeMade, Claim, some_rows}
-use Rattle.yf_emit.proofs.PlacedRows.{RowsIn, last_row}
+use Rattle.yf_emit.proofs.PlacedRows.{behind_scalar, last_end, leaf_to, no_leaf_to, RowsIn, last_row}
 use Rattle.yf_emit.proofs.RowEnds.{trails_at, first_deco}
 use Rattle.yf_emit.proofs.ScalarFound.{bare_found, leaf_row, leaf_stands, props_found}
-use Rattle.yf_emit.proofs.ScalarHeld.{AllSigns, behind_signs, signs_append, ScalarReached, passed_header, scalar_comments, scalar_reached}
+use Rattle.yf_emit.proofs.ScalarHeld.{AllSigns, behind_signs, signs_append, HeaderNotes, header_notes, ScalarReached, passed_header, scalar_comments, scalar_reached}
 use Rattle.yf_emit.proofs.ScalarStands.{ScalarMade, bare_scalar, props_scalar}
+use Rattle.yf_emit.proofs.ScalarTails.{ScalarTail, scalar_tail}
 use Rattle.yf_emit.proofs.StepsStand.{MeaningLaid, laid_scalar, laid_scalar_with}
 use Rattle.yf_emit.proofs.WellSet.{AllSet}
-
--- The bytes are those of yf_block_scalar.
-
-header_bytes_are : (style : ScalarStyle) (indent : ℕ) (text : List ℕ) (r : List ℕ)
-    → header_text style indent text ++ r ≡ style_bytes (is_folded style) ++ (digit_bytes (digit_of indent text) indent ++ (sign_bytes (chomp_of (final_feeds text)) ++ r))
-header_bytes_are style indent text r =
-    append_assoc (style_sign style) (digit_text indent text ++ chomping_sign (final_feeds text)) r
-    ∙ (ap (λ z. style_sign style ++ z) (append_assoc (digit_text indent text) (chomping_sign (final_feeds text)) r)
-    ∙ (ap (λ z. z ++ (digit_text indent text ++ (chomping_sign (final_feeds text) ++ r))) (sym (style_written style))
-    ∙ (ap (λ z. style_bytes (is_folded style) ++ (z ++ (chomping_sign (final_feeds text) ++ r))) (sym (digit_written (begins_with_space text) indent))
-    ∙ ap (λ z. style_bytes (is_folded style) ++ (digit_bytes (digit_of indent text) indent ++ (z ++ r))) (sym (sign_written (final_feeds text))))))
-
-tail_are : (column n : ℕ) (r : List ℕ) → body_then (map (line_at column) (replicate n [])) r ≡ feeds n ++ r
-tail_are column zero r = refl
-tail_are column (suc n) r = ap (λ z. 10 ∷ z) (tail_are column n r)
-
-lines_are : (column : ℕ) (ls : List (List ℕ)) (n : ℕ) (r : List ℕ) → body_then (map (line_at column) (ls ++ replicate n [])) r ≡ scalar_lines column ls (feeds n ++ r)
-lines_are column [] n r = tail_are column n r
-lines_are column (x ∷ ls) n r =
-    ap (λ z. line_at column x ++ (10 ∷ z)) (lines_are column ls n r) ∙ ap (λ z. z ++ (10 ∷ scalar_lines column ls (feeds n ++ r))) (sym (line_written column x))
-
--- the comment that trails the header
-abbrev trail_of : List (List ℕ) → Option (List ℕ)
-trail_of [] = None
-trail_of (x ∷ xs) = Some x
-
-trail_is : (xs : List (List ℕ)) (r : List ℕ) → AreTrails xs → trails_then xs (10 ∷ r) ≡ trail_then (trail_of xs) r
-trail_is [] r a = refl
-trail_is (x ∷ []) r a = refl
-trail_is (x ∷ y ∷ zs) r a = absurd a
-
-trail_fits : (xs : List (List ℕ)) → AreTrails xs → IsTrail (trail_of xs)
-trail_fits [] a = tt
-trail_fits (x ∷ []) a = a
-trail_fits (x ∷ y ∷ zs) a = absurd a
-
-trail_comments : (xs : List (List ℕ)) → AreTrails xs → trail_texts (trail_of xs) ≡ xs
-trail_comments [] a = refl
-trail_comments (x ∷ []) a = refl
-trail_comments (x ∷ y ∷ zs) a = absurd a
+use Rattle.yf_emit.proofs.ScalarBytes.{header_bytes_are, lines_are, trail_of, trail_is, trail_fits, trail_comments}
 
 -- What follows it.
 
@@ -277,6 +238,22 @@ scalar_steps : (row : Row) (ds : List Deco) → leaf_steps row.leaves ≡ a_leaf
 scalar_steps row ds e =
     ap (λ z. a_leaf ∷ z) (sym (append-nil (comment_steps (carried_texts (first ds))))) ∙ ap (λ z. z ++ (comment_steps (carried_texts (first ds)) ++ [])) (sym e)
 
+notes_of : {t : List ℕ} {n : ℤ} (s : Setting) (style : ScalarStyle) (text : List ℕ) (lines : List (List ℕ)) (spot : Spot) (ds : List Deco) (r : List ℕ) (q : ℕ) → IsUtf8 t → AreDecos ds
+    → (made : ScalarMade t n (header_of style s.style.indent text) (content_lines style text lines) (final_feeds text - 1) ((first ds).trails ++ remarks_of (first ds).gap) q r (body_then (block_lines style spot.lines text lines) (gap_then (first ds).gap r))
+    (end_then (first ds) (block_lines style spot.lines text lines) r))
+    → Rest t q (header_text style s.style.indent text ++ end_then (first ds) (block_lines style spot.lines text lines) r) → HeaderNotes t q made.reached.start made.reached.header.comments (first ds).trails
+notes_of s style text lines spot ds r q u a made w =
+    header_notes (header_text style s.style.indent text) (first ds) (block_lines style spot.lines text lines) r u (header_line style s.style.indent text s.style.indent_to) (header_signs style s.style.indent text s.style.indent_to)
+    (some_bytes (header_text style s.style.indent text) (header_some style s.style.indent text)) (first_deco a) w made.reached.head
+
+tail_of : {t : List ℕ} {n : ℤ} (s : Setting) {style : ScalarStyle} {text : List ℕ} {lines : List (List ℕ)} (f : FitScalar style text lines) (spot : Spot) (ds : List Deco) (r : List ℕ) (q : ℕ) → IsUtf8 t → 0 < spot.lines
+    → (made : ScalarMade t n (header_of style s.style.indent text) (content_lines style text lines) (final_feeds text - 1) ((first ds).trails ++ remarks_of (first ds).gap) q r (body_then (block_lines style spot.lines text lines) (gap_then (first ds).gap r))
+    (end_then (first ds) (block_lines style spot.lines text lines) r))
+    → HeaderNotes t q made.reached.start made.reached.header.comments (first ds).trails → ScalarTail t (first ds) q made.reached.node.meaning.finish made.reached.node.place made.reached.node.meaning.comments
+tail_of s {style} {text} {lines} f spot ds r q u deep made notes =
+    scalar_tail style text lines s.style.indent spot.lines (first ds) u (body_some spot.lines (final_feeds text - 1) (content_lines style text lines) f.last)
+    (body_texts spot.lines (final_feeds text - 1) (content_lines style text lines) deep f.texts) made.reached made.passed notes
+
 module _ {s : Setting} {at : Standing} {style : ScalarStyle} {text : List ℕ} {lines : List (List ℕ)} (placed_at : is_some at.span ≡ true) (f : FitScalar style text lines) where
   bare_made : {t : List ℕ} (row : Row) (spot : Spot) (n : ℤ) (c : Ctx) (ds : List Deco) (r : List ℕ) (q : ℕ) → row.text ≡ header_text style s.style.indent text → row.body ≡ block_lines style spot.lines text lines
       → row.lines ≡ spot.lines → leaf_steps row.leaves ≡ a_leaf ∷ [] → is_some row.key_comment ≡ false → IsUtf8 t → Stood s (scalar at no_props style text lines) n c spot → AreDecos ds → CalmBody (block_lines style spot.lines text lines) spot.lines (tail_ending (is_kept_tail (final_feeds text))) (first ds).gap r
@@ -289,6 +266,9 @@ module _ {s : Setting} {at : Standing} {style : ScalarStyle} {text : List ℕ} {
       let text_end = rest_text (header_text style s.style.indent text) u (header_line style s.style.indent text s.style.indent_to) there in
       let deep : 0 < spot.lines = above_zero n stood.lines in
       let begun = end_start (first ds) r u (first_deco a) (body_texts spot.lines (final_feeds text - 1) (content_lines style text lines) deep f.texts) text_end.rest in
+      let notes = notes_of s style text lines spot ds r q u a made there in
+      let tail = tail_of s f spot ds r q u deep made notes in
+      let later = tail.later in
       record {
         height = 0;
         place = node.place;
@@ -300,7 +280,13 @@ module _ {s : Setting} {at : Standing} {style : ScalarStyle} {text : List ℕ} {
         found_rows = leaf_row q node.meaning.finish ∷ [];
         meant = bare_found s spot.entries s.style.indent q node.meaning placed_at f node.events node.escapes;
         placed = last_row (leaf_stands node.meaning.finish (λ z. body_some spot.lines (final_feeds text - 1) (content_lines style text lines) f.last (sym body ∙ z)) key)
-            (record { ascend = scalar_ascends node.derived; is = node.is; start = subst (λ j. LineStart t j) (place_of_rest begun.rest node.rest) begun.start }) node.rest;
+            (record {
+              ascend = scalar_ascends node.derived;
+              is = node.is;
+              start = subst (λ j. LineStart t j) (place_of_rest begun.rest node.rest) begun.start;
+              tail = behind_scalar tail.first (λ z. body_some spot.lines (final_feeds text - 1) (content_lines style text lines) f.last (sym body ∙ z)) tail.is tail.trail tail.from tail.line tail.order (omega (arith, later))
+                  (leaf_to later (omega arith) no_leaf_to) last_end tail.blank tail.broken tail.rest tail.ended tail.rows;
+            }) node.rest;
         is = node.is ∙ sym (append-nil (carried_texts (first ds)));
         laid = subst (λ z. MeaningLaid q node.place node.meaning z) (scalar_steps row ds leaf) (laid_scalar q node.meaning.finish (omega arith) node.events (scalar_ascends node.derived) node.is);
         set = let found = bare_found {t = t} {at = at} s spot.entries s.style.indent q node.meaning placed_at f node.events node.escapes in
@@ -328,6 +314,10 @@ module _ {s : Setting} {at : Standing} {style : ScalarStyle} {text : List ℕ} {
       let text_end = rest_text (header_text style s.style.indent text) u (header_line style s.style.indent text s.style.indent_to) before.rest in
       let deep : 0 < spot.lines = above_zero n stood.lines in
       let begun = end_start (first ds) r u (first_deco a) (body_texts spot.lines (final_feeds text - 1) (content_lines style text lines) deep f.texts) text_end.rest in
+      let notes = notes_of s style text lines spot ds r i u a made before.rest in
+      let tail = tail_of s f spot ds r i u deep made notes in
+      let later = tail.later in
+      let from = tail.from in
       let o : Option ℕ = tag_offset_at q p.anchor p.tag in
       let g : ℕ = q + length (props_bytes p) in
       record {
@@ -343,7 +333,13 @@ module _ {s : Setting} {at : Standing} {style : ScalarStyle} {text : List ℕ} {
         meant = props_found s spot.entries s.style.indent i q g p o node.meaning placed_at f node.events node.escapes;
         placed = subst (λ v. RowsIn t (row ∷ []) (leaf_row q node.meaning.finish ∷ []) ds q v node.place r) (sym (comments_with_props p o q g node.meaning))
             (last_row (leaf_stands node.meaning.finish (λ v. body_some spot.lines (final_feeds text - 1) (content_lines style text lines) f.last (sym body ∙ v)) key)
-            (record { ascend = ascend_after (omega arith) (scalar_ascends node.derived); is = node.is; start = subst (λ j. LineStart t j) (place_of_rest begun.rest node.rest) begun.start }) node.rest);
+            (record {
+              ascend = ascend_after (omega arith) (scalar_ascends node.derived);
+              is = node.is;
+              start = subst (λ j. LineStart t j) (place_of_rest begun.rest node.rest) begun.start;
+              tail = behind_scalar tail.first (λ v. body_some spot.lines (final_feeds text - 1) (content_lines style text lines) f.last (sym body ∙ v)) tail.is tail.trail (omega (arith, from)) tail.line tail.order (omega (arith, later))
+                  (leaf_to (omega (arith, later)) (omega arith) no_leaf_to) last_end tail.blank tail.broken tail.rest tail.ended tail.rows;
+            }) node.rest);
         is = texts_with_props p o q g node.meaning ∙ (node.is ∙ sym (append-nil (carried_texts (first ds))));
         laid = subst (λ z. MeaningLaid q node.place (with_props p o q g node.meaning) z) (scalar_steps row ds leaf)
             (laid_scalar_with p o q g i node.meaning.finish node.meaning (omega arith) node.events (scalar_ascends node.derived) node.is);

@@ -23,9 +23,9 @@ use Rattle.yf_emit.specs.Layout.{source_of}
 use Rattle.yf_emit.specs.Normal.{Setting, normal_document, root_spot, setting_of}
 use Rattle.yf_emit.specs.Rows.{Row, beginning_at, directive_row, end_rows, rows, start_row, stream_rows}
 use Rattle.yf_emit.specs.Steps.{steps_of, told}
-use Rattle.yf_emit.proofs.CommentsCut.{In, in_first, in_rest, Upward, upward_none, upward_more}
+use Rattle.yf_emit.proofs.CommentsCut.{In, in_first, in_rest, Upward, upward_none, upward_more, upward_of}
 use Rattle.yf_emit.proofs.CommentsFit.{reading_remarks}
-use Rattle.yf_emit.proofs.CommentsTold.{upward_of, comments_told, stream_starts_are}
+use Rattle.yf_emit.proofs.CommentsTold.{comments_told, stream_starts_are}
 use Rattle.yf_emit.proofs.DocumentTrails.{InHouse, leaves_of, stream_leaves}
 use Rattle.yf_emit.proofs.FoundAgain.{Unsigned, no_start}
 use Rattle.yf_emit.proofs.ItemsOrder.{items_on, items_append, node_unsigned, unsigned_at, unsigned_join}

@@ -2,10 +2,12 @@
 use Rattle.std.proofs.Common.{◌≡◌, ℕ, ◌+◌, max, ◌<◌, ◌≤◌, true, false, List, [], ◌∷◌, ◌++◌, length, map, inl, codes, refl, sym, ap, ◌∙◌, subst, arith, append_assoc}
 use Rattle.std.specs.Prelude.{is_some}
 use Rattle.std.specs.Str.{IsUtf8}
+use Rattle.yf_chars.specs.Chain.{Chain}
 use Rattle.yf_chars.specs.Chain.Chain.{done}
 use Rattle.yf_lines.specs.Basic.LineStart.{at_text}
 use Rattle.yf_lines.proofs.RestLemmas.{Rest, rest_start}
 use Rattle.yf_comments.specs.Comment.{CommentValue}
+use Rattle.yf_comments.specs.Comments.{CommentLine}
 use Rattle.yf_comments.specs.GapLines.{AreGapLines, remarks_of}
 use Rattle.yf_comments.proofs.GapLinesLemmas.{texts, texts_append, gap_at}
 use Rattle.yf_comments.proofs.LineEndLemmas.{lines_rows}
@@ -35,10 +37,11 @@ use Rattle.yf_emit.proofs.DocumentsHeld.{all_events, comments_set, documents_hel
 use Rattle.yf_emit.proofs.DocumentsMade.{ExplicitMade, explicit_made, directives_made, three_at, three_behind}
 use Rattle.yf_emit.proofs.FoundNodes.{meant_of}
 use Rattle.yf_emit.proofs.FoundStreams.{FoundDocument, FoundDocuments, no_documents_found, found_document, StreamIn, no_stream, document_begins, stream_more, comments_with_document, comments_with_comments, documents_with_comments, found_with}
+use Rattle.yf_emit.proofs.HeadRows.{HeadRows, mark_head, more_heads, heads_join, later_heads}
 use Rattle.yf_emit.proofs.HeldLemmas.{BodiesHeld, EventsHeld, bare_row, bodies_append, row_ended}
 use Rattle.yf_emit.proofs.LaidRows.{steps_append}
 use Rattle.yf_emit.proofs.NoStarts.{no_start_on, directives_none, quiet_steps, rows_none, with_append}
-use Rattle.yf_emit.proofs.PlacedRows.{none_inside, PlacedRow, RowsIn, row_before, rows_in_append}
+use Rattle.yf_emit.proofs.PlacedRows.{never_bare, none_inside, one_inside, PlacedRow, no_leaf_to, behind_line, RowsIn, row_before, rows_in_append}
 use Rattle.yf_emit.proofs.RowEnds.{row_end, first_deco, after_decos, past_decos, comments_append, calm_append}
 use Rattle.yf_emit.proofs.RowTexts.{row_texts}
 use Rattle.yf_emit.proofs.SetMeant.{SetDone}
@@ -62,7 +65,7 @@ pub record AnyMade (t : List ℕ) (s : Setting) (d : Doc) (x : DocumentTree) (rs
   pub is : texts comments ≡ comments_in rs ds
   pub laid : EventsLaid q place document.events comments (steps_in rs ds)
   pub found_rows : List PlacedRow
-  pub found : FoundDocument t s x document found_rows
+  pub found : FoundDocument t s true x document found_rows
   pub placed : RowsIn t rs found_rows ds q comments place r
   pub begun : Stand q (document.start ∷ []) comments (steps_with documents_begin rs ds) place
   pub held : EventsHeld t document.events comments rs ds r
@@ -105,7 +108,7 @@ directed {t} c {d} x {e} {es} row ds r q none bare said key plain same f fs fit 
       laid = subst (λ z. EventsLaid q node.place (document_of one.place true one.meaning.directives node.meaning).events (one.meaning.comments ++ node.meaning.comments) z)
           (sym (steps_append (row ∷ map directive_row es) (start_row ∷ tree) ds)) (events_behind one.stand (laid_document one.place one.meaning.directives node.laid));
       found_rows = one.found_rows ++ (node.head ∷ node.inner);
-      found = found_document one.place one.meaning.directives (one.found_rows ++ (node.head ∷ [])) node.meant (sym (append_assoc one.found_rows (node.head ∷ []) node.inner));
+      found = found_document true one.place one.meaning.directives (one.found_rows ++ (node.head ∷ [])) (heads_join node.head one.heads node.unleaved node.from) node.meant (sym (append_assoc one.found_rows (node.head ∷ []) node.inner));
       placed = rows_in_append one.placed (subst (λ z. RowsIn t (start_row ∷ tree) (node.head ∷ node.inner) (past (row ∷ map directive_row es) ds) z node.meaning.comments node.place r) (omega arith) node.placed);
       begun = document_begun one.place one.meaning.directives node.meaning
           (subst (λ z. Stand q (one.place ∷ []) (one.meaning.comments ++ node.meaning.comments) z node.place) (sym (with_append documents_begin (row ∷ map directive_row es) (start_row ∷ tree) ds))
@@ -136,7 +139,7 @@ first_with {t} c {d} x start [] ds r q same f fit u a k w =
       is = node.is;
       laid = laid_document q [] node.laid;
       found_rows = node.head ∷ node.inner;
-      found = found_document q [] (node.head ∷ []) node.meant refl;
+      found = found_document true q [] (node.head ∷ []) (mark_head node.unleaved node.from) node.meant refl;
       placed = node.placed;
       begun = document_begun q [] node.meaning (explicit_begun (record start_row { items = start ∷ [] }) ds refl (rows_none c (root_spot c.style) x.root) node);
       set = document_set q [] node.meaning node.set;
@@ -162,11 +165,14 @@ record StepMade (t : List ℕ) (s : Setting) (d : Doc) (x : DocumentTree) (rs : 
   pub is : texts comments ≡ comments_in rs ds
   pub laid : EventsLaid q place document.events comments (steps_in rs ds)
   pub found_rows : List PlacedRow
-  pub found : FoundDocument t s x document found_rows
+  pub found : FoundDocument t s false x document found_rows
   pub placed : RowsIn t rs found_rows ds q comments place r
   pub begun : Stand q (document.start ∷ []) comments (steps_with documents_begin rs ds) place
   pub held : EventsHeld t document.events comments rs ds r
   pub set : SetDone t s.style 0 s.style.indent document.events
+
+no_words : {w : List (List ℕ)} {ws : List (List (List ℕ))} → [] ≡ w ∷ ws → ⊥
+no_words e = absurd cc
 
 step_with : {t : List ℕ} (c : Setting) {d : Doc} (x : DocumentTree) (start : ℕ) (dirs : List Directive) (ds : List Deco) (r : List ℕ) (q : ℕ) → d.directives ≡ dirs → FitDirectives dirs → Fit x.root → IsUtf8 t → AreDecos ds
     → Calm (head_rows false start dirs ++ root_rows c x) ds r → Rest t q (lines_then (head_rows false start dirs ++ root_rows c x) ds r) → StepMade t c d x (head_rows false start dirs ++ root_rows c x) ds q r
@@ -184,7 +190,7 @@ step_with {t} c {d} x start [] ds r q same f fit u a k w =
       is = node.is;
       laid = laid_document q [] node.laid;
       found_rows = node.head ∷ node.inner;
-      found = found_document q [] (node.head ∷ []) node.meant refl;
+      found = found_document false q [] (node.head ∷ []) (mark_head node.unleaved node.from) node.meant refl;
       placed = node.placed;
       begun = document_begun q [] node.meaning (explicit_begun (record start_row { items = start ∷ [] }) ds refl (rows_none c (root_spot c.style) x.root) node);
       set = document_set q [] node.meaning node.set;
@@ -199,7 +205,8 @@ step_with {t} c {d} x start (e ∷ es) ds r q same (fit_directive f fs) fit u a 
     let ended = row_ended (first ds) rest u (three_behind 46 u (omega arith) (omega arith) w) (first_deco a) mark.1 end.end in
     let made = directed c {d = d} x {e = e} row (after ds) r end.place refl refl refl refl refl same f fs fit u (after_decos a) (subst (λ z. Calm z (after ds) r) shape k.1)
     (subst (λ z. Rest t end.place (lines_then z (after ds) r)) shape end.rest) in
-    let dots : PlacedRow = record { items = []; leaves = []; commented = false; from = q; upto = q + 3 } in
+    let some : made.document.directives ≡ [] → ⊥ = λ z. no_words (sym (ap (λ (w : List Directive). map (λ (v : Directive). v.words) w) z) ∙ (made.meant.words ∙ ap (λ (w : List Directive). map (λ (v : Directive). v.words) w) same)) in
+    let dots : PlacedRow = record { items = q ∷ []; leaves = []; commented = false; from = q; upto = q + 3 } in
     record {
       height = made.height;
       place = made.place;
@@ -219,12 +226,13 @@ step_with {t} c {d} x start (e ∷ es) ds r q same (fit_directive f fs) fit u a 
         alike = made.found.alike;
         events = made.found.events;
         heads = dots ∷ made.found.heads;
+        head = subst (λ z. HeadRows made.document.start z (dots ∷ made.found.heads)) (sym (later_heads made.document.directives some)) (more_heads refl made.found.head);
         inner = made.found.inner;
         are = ap (λ z. dots ∷ z) made.found.are;
         rows = made.found.rows;
       };
-      placed = row_before (record { from = refl; order = omega arith; size = λ z. refl; items = none_inside; leaves = none_inside; commented = refl })
-          (record { ascend = end_ascends end.end; is = end.is; start = end.start }) end.rest
+      placed = row_before (record { from = refl; order = omega arith; size = λ z. refl; items = one_inside (omega arith) (omega arith) none_inside; leaves = none_inside; commented = refl; bare = λ z. never_bare z })
+          (record { ascend = end_ascends end.end; is = end.is; start = end.start; tail = behind_line refl end.end no_leaf_to }) end.rest
           (subst (λ z. RowsIn t z made.found_rows (after ds) (end.place + 0) made.comments made.place r) (sym shape)
           (subst (λ z. RowsIn t ((row ∷ map directive_row es) ++ (start_row ∷ root_rows c x)) made.found_rows (after ds) z made.comments made.place r) (omega arith) made.placed));
       begun = stand_join (stand_after (omega arith) (comments_stand (end_ascends end.end) end.is))
@@ -247,7 +255,7 @@ pub record RestMade (t : List ℕ) (s : Setting) (ds : List Doc) (xs : List Docu
   pub is : texts documents.comments ≡ comments_in rs decos
   pub laid : DocumentsLaid q (length t) documents (steps_in rs decos)
   pub found_rows : List PlacedRow
-  pub found : FoundDocuments t s xs documents.documents found_rows
+  pub found : FoundDocuments t s false xs documents.documents found_rows
   pub placed : StreamIn t rs found_rows decos q documents.comments
   pub begun : Stand q (starts_in documents) documents.comments (steps_with documents_begin rs decos) (length t)
   pub held : EventsHeld t (all_events documents.documents) documents.comments rs decos []
@@ -307,10 +315,13 @@ pub record StreamLaid (t : List ℕ) (s : Setting) (ds : List Doc) (xs : List Do
   pub line : ℕ
   pub firsts : List CommentValue
   pub others : List CommentValue
+  pub begin : Rest t line (lines_then rs decos [])
+  pub told : texts firsts ≡ remarks_of gap
+  pub lines : Chain (CommentLine t) 0 line firsts
   pub ascend : Ascend t 0 firsts line
   pub are : made.documents.comments ≡ firsts ++ others
   pub found_rows : List PlacedRow
-  pub found : FoundDocuments t s xs made.documents.documents found_rows
+  pub found : FoundDocuments t s true xs made.documents.documents found_rows
   pub placed : StreamIn t rs found_rows decos line others
   pub begun : Stand 0 (starts_in made.documents) made.documents.comments (comment_steps (remarks_of gap) ++ steps_with documents_begin rs decos) (length t)
   pub held : EventsHeld t (all_events made.documents.documents) made.documents.comments rs decos []
@@ -336,10 +347,13 @@ stream_made {t} c gap decos fit_no_documents u g a k w =
       line = at.place;
       firsts = at.comments;
       others = [];
+      begin = at.rest;
+      told = at.is;
+      lines = at.lines;
       ascend = rows_ascend (lines_rows at.lines);
       are = comments_with_comments at.comments;
       found_rows = [];
-      found = subst (λ z. FoundDocuments t c [] z []) (sym (documents_with_comments at.comments)) no_documents_found;
+      found = subst (λ z. FoundDocuments t c true [] z []) (sym (documents_with_comments at.comments)) no_documents_found;
       placed = no_stream;
       begun = comments_begun at.comments (only_comments []) (comments_stand (rows_ascend (lines_rows at.lines)) at.is) (nothing_stands (omega (arith, end)));
       set = subst (λ z. SetAll t c.style z) (sym (documents_with_comments at.comments)) none_set;
@@ -371,6 +385,9 @@ stream_made {t} c gap decos (fit_document {d = d} {ds = ds} {x = x} {xs = xs} f 
       line = at.place;
       firsts = at.comments;
       others = one.comments ++ last.documents.comments;
+      begin = at.rest;
+      told = at.is;
+      lines = at.lines;
       ascend = rows_ascend (lines_rows at.lines);
       are = comments_with_document (at.comments ++ one.comments) one.document last.documents ∙ append_assoc at.comments one.comments last.documents.comments;
       found_rows = one.found_rows ++ last.found_rows;

@@ -29,11 +29,11 @@ rows_among no_rows_fit = sub_none
 rows_among (row_fits {row = row} {rows = rows} f k a) = subst (λ w. Sub w (row.items ++ items_on rows)) (sym (starts_append row.leaves (leaves_on rows))) (sub_join f.among (rows_among a))
 
 -- The last of some leaves.
-data EndsIn : List Span → Type 0 where
+pub data EndsIn : List Span → Type 0 where
   ends_in_none : EndsIn []
   ends_in : (ls : List Span) (s : Span) → EndsIn (ls ++ (s ∷ []))
 
-ending_of : (ls : List Span) → EndsIn ls
+pub ending_of : (ls : List Span) → EndsIn ls
 ending_of [] = ends_in_none
 ending_of (l ∷ ls) = go (ending_of ls) where
   go : {ls : List Span} → EndsIn ls → EndsIn (l ∷ ls)
@@ -78,7 +78,7 @@ stays s o [] a = refl
 stays s o (p ∷ post) (one_later l a) =
     ap (λ b. last_leaf (if b then Some p else Some s) o post) (not_below p.start o (omega (arith, l))) ∙ stays s o post a
 
-last_is : (pre : List Span) (s : Span) (post : List Span) (o : ℕ) → s.start < o → AllFrom (o + 1) (starts_of post) → (found : Option Span) → last_leaf found o (pre ++ (s ∷ post)) ≡ Some s
+pub last_is : (pre : List Span) (s : Span) (post : List Span) (o : ℕ) → s.start < o → AllFrom (o + 1) (starts_of post) → (found : Option Span) → last_leaf found o (pre ++ (s ∷ post)) ≡ Some s
 last_is [] s post o l a found = ap (λ b. last_leaf (if b then Some s else found) o post) (below s.start o l) ∙ stays s o post a
 last_is (p ∷ pre) s post o l a found = last_is pre s post o l a (if nat_lt p.start o then Some p else found)
 
@@ -152,7 +152,7 @@ module _ (c : Source) (cs : List CommentValue) (bs : List Bool) (remarks : c.rem
       (leaves_later e.offset (leaves_on (next ∷ rows)) there rest)
       (⊎_elim (λ (z : Sub (a ∷ []) (starts_of row.leaves)). inl z) (λ (z : (row.leaves ≡ []) × (greatest row.items ≤ a)). inr (z.0, among)) at)
       (inr (leaf_next s.start (subst (λ z. Sub (s.start ∷ []) (starts_of z)) (sym first) (sub_take sub_none))))
-      (before_leaf next rows refl s (subst (λ z. Has s z) (sym first) has_first) before)
+      (before_leaf q next rows refl s (subst (λ z. Has s z) (sym first) has_first) before)
 
   with_trail : {it n : ℕ} (row : Row) (rows : List Row) → LineFits cs row.items (starts_of row.leaves) → RowsFit cs rows → (r : RisesApart it n row.items (items_on rows)) → RowTrail c cs row rows
       → Upright c cs (max it (greatest row.items)) rows → Upright c cs it (row ∷ rows)

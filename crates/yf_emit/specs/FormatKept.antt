@@ -3,10 +3,10 @@ use Rattle.std.specs.Prelude.{◌≡◌, ℕ, List}
 use Rattle.yf_emit.specs.declared.style.Style.{Style}
 use Rattle.yf_emit.specs.FixedLaws.{IsNormalText}
 use Rattle.yf_emit.specs.Format.{Formats}
-use Rattle.yf_emit.specs.Laws.{HasSameComments, HasSameContent, IsAccepted}
+use Rattle.yf_emit.specs.Laws.{HasSameComments, HasSameContent, IsAccepted, IsUnchanged}
 
 -- u is the layout of the normal form of the reading of t, and no other text is; it is accepted, has the same content, and the same comments at the
--- same places, and its reading is its own normal form
+-- same places, its reading is its own normal form, and a second run changes nothing
 pub record FormatKept (t : List ℕ) (s : Style) (u : List ℕ) : Type 0 where
   pub formats : Formats t s u
   pub only : (v : List ℕ) → Formats t s v → v ≡ u
@@ -14,3 +14,4 @@ pub record FormatKept (t : List ℕ) (s : Style) (u : List ℕ) : Type 0 where
   pub content : HasSameContent t u
   pub comments : HasSameComments t u
   pub normal : IsNormalText s u
+  pub unchanged : IsUnchanged s u

@@ -42,7 +42,7 @@ fn formatted(alloc: Global, text: &str, reading: Reading, style: &Style) -> Resu
 }
 
 /// The stream of the text in the house style: the layout of the normal form of the text's reading, and nothing else is that. It is
-/// accepted, and has the same content and the same comments at the same places (`FormatKept`).
+/// accepted, has the same content and the same comments at the same places, and formatting it again changes nothing (`FormatKept`).
 ///
 /// # Errors
 ///
