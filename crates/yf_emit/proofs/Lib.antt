@@ -188,6 +188,8 @@ pub mod ScalarHeld
 pub mod DirectiveEnds
 pub mod FormattedHeld
 pub mod FormattedSet
+-- outer flow collections stand as they are written
+pub mod WrittenNodes
 pub mod TidyTexts
 pub mod LineSorts
 pub mod LinedRows

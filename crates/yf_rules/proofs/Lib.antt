@@ -63,3 +63,6 @@ pub mod MendedColumns
 pub mod MendedScalarIndents
 pub mod MendedIndents
 pub mod MendedMarks
+pub mod MendedFlows
+pub mod WrittenPlaces
+pub mod MendedLayouts
