@@ -2,6 +2,7 @@
 use Rattle.std.proofs.Common.{◌≡◌, ℕ, suc, max, ◌≤◌, Bool, true, false, List, [], ◌∷◌, ◌++◌, map, refl, sym, ap, ◌∙◌, subst, arith, length}
 use Rattle.std.specs.Prelude.{◌&&◌, if◌then◌else◌}
 use Rattle.std.specs.Str.{IsUtf8}
+use Rattle.yf_lines.specs.Basic.{LineStart}
 use Rattle.yf_lines.specs.declared.quotes.Quotes.{Quotes}
 use Rattle.yf_comments.specs.Comment.{CommentValue}
 use Rattle.yf_comments.specs.GapLines.{remarks_of}
@@ -188,6 +189,7 @@ pub record FormattedLaid {t : List ℕ} {s : Style} {u : List ℕ} (f : Formats 
   pub held : EventsHeld u (all_events well.documents.documents) well.documents.comments (rows_of f.normal s f.writes.trees) (row_decos f.normal (rows_of f.normal s f.writes.trees)) []
   pub set : SetAll u s well.documents.documents
   pub line : ℕ
+  pub starts : LineStart u line
   pub firsts : List CommentValue
   pub others : List CommentValue
   pub ascend : Ascend u 0 firsts line
@@ -231,6 +233,7 @@ formats_laid t u s utf8 f =
       held = laid.held;
       set = laid.set;
       line = laid.line;
+      starts = laid.starts;
       firsts = laid.firsts;
       others = laid.others;
       ascend = laid.ascend;

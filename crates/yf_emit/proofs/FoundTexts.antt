@@ -24,7 +24,7 @@ use Rattle.yf_emit.proofs.SettledTwice.{settled_twice}
 -- the trees of documents that are found, with the markers of their events
 pub data FoundRoots (t : List ℕ) (c : Setting) : List DocumentTree → List DocumentTree → List PlacedRow → Type 0 where
   no_roots : FoundRoots t c [] [] []
-  one_root : {x z : DocumentTree} {xs zs : List DocumentTree} {inner qs : List PlacedRow} (heads : List PlacedRow) → Alike Anywhere x.root z.root → NodeRows t c 0 x.root z.root inner → FoundRoots t c xs zs qs
+  one_root : {x z : DocumentTree} {xs zs : List DocumentTree} {inner qs : List PlacedRow} (heads : List PlacedRow) → Alike Anywhere x.root z.root → NodeRows t c (root_spot c.style) x.root z.root inner → FoundRoots t c xs zs qs
       → FoundRoots t c (x ∷ xs) (z ∷ zs) ((heads ++ inner) ++ qs)
 
 pub record RootsFound (t : List ℕ) (c : Setting) (xs : List DocumentTree) (es : List Placed) (ps : List PlacedRow) (n : ℕ) : Type 0 where

@@ -188,8 +188,6 @@ pub mod ScalarHeld
 pub mod DirectiveEnds
 pub mod FormattedHeld
 pub mod FormattedSet
--- outer flow collections stand as they are written
-pub mod WrittenNodes
 pub mod TidyTexts
 pub mod LineSorts
 pub mod LinedRows
@@ -211,3 +209,10 @@ pub mod ReadingsAgain
 pub mod FixedBlocks
 pub mod FixedLawsHold
 pub mod FlowEvents
+-- outer flow collections of what is laid out stand as they are written
+pub mod LinePlaces
+pub mod FlowHeads
+pub mod WrittenNodes
+pub mod WrittenFlows
+pub mod WrittenTrees
+pub mod WrittenReadings

@@ -1,11 +1,8 @@
 -- Trees in whose text each flow collection that stands in no other one stands at its column as it is written on one line: so the trees of
 -- what is laid out are to be found.
-use Rattle.std.proofs.Common.{◌≡◌, ◌≢◌, ℕ, ◌+◌, ◌-◌, ◌<◌, true, false, List, [], ◌∷◌, length, Some}
+use Rattle.std.proofs.Common.{◌≡◌, ℕ, ◌+◌, ◌-◌, ◌<◌, true, false, List, [], ◌∷◌, Some}
 use Rattle.std.specs.Prelude.{slice_range}
-use Rattle.yf_chars.specs.Chain.{Many}
-use Rattle.yf_chars.specs.Text.{code, no_char}
-use Rattle.yf_lines.specs.Basic.{LineStart}
-use Rattle.yf_lines.specs.Lines.{is_char}
+use Rattle.yf_chars.specs.Text.{code}
 use Rattle.yf_props.specs.Props.{PropsValue}
 use Rattle.yf_events.specs.declared.event.ScalarStyle.{ScalarStyle}
 use Rattle.yf_events.specs.declared.event.Span.{Span}
@@ -13,22 +10,17 @@ use Rattle.yf_events.specs.Tree.{Standing, Node, scalar, alias, sequence, mappin
 use Rattle.yf_emit.specs.ContentStart.{content_start}
 use Rattle.yf_emit.specs.Normal.{Setting, Spot, inner_spot, key_spot, root_spot, value_spot}
 use Rattle.yf_emit.specs.OneLine.{bare, width, written}
+use Rattle.yf_emit.proofs.LinePlaces.{OnLine}
 
--- The flow collection is written so from bracket to bracket, on a line on which no other one starts, and which begins with a character
--- that is no mark; its last character is the last one of its width from that column on.
+-- The flow collection is written so from bracket to bracket; it ends in the line that it begins in, as many characters after the column as it is
+-- wide, and its last character is one byte.
 pub record WrittenAt (t : List ℕ) (column : ℕ) (x : Node) : Type 0 where
   pub span : Span
   pub is : (standing x).span ≡ Some span
   pub text : slice_range t (content_start t span (props_of x)) span.end ≡ bare x
-  pub line : ℕ
-  pub start : LineStart t line
-  pub real : code t line < no_char
-  pub no_mark : code t line ≢ 0xFEFF
-  pub alone : (h : ℕ) → LineStart t h → line < h → h < span.end → ⊥
-  pub before : List ℕ
-  pub run : Many t is_char line (span.end - 1) before
-  pub wide : length before + 1 ≡ column + width (written x)
-  pub some : line < span.end
+  pub on : OnLine t (column + width (written x)) span.end
+  pub some : on.line < span.end
+  pub last : code t (span.end - 1) < 128
 
 mutual
   pub data WrittenNode (t : List ℕ) (c : Setting) : Spot → Node → Type 0 where

@@ -26,7 +26,7 @@ use Rattle.yf_emit.proofs.SetNodes.{ColumnAt}
 
 -- characters of one byte
 
-ascii_next : {t : List ℕ} (i : ℕ) → IsUtf8 t → code t i < 128 → next t i ≡ i + 1
+pub ascii_next : {t : List ℕ} (i : ℕ) → IsUtf8 t → code t i < 128 → next t i ≡ i + 1
 ascii_next {t} i u l = let b = byte_from_code t i u l in (reads_ascii t i u b.0 (let e = b.1 in omega (arith, e, l))).end
 
 pub char_boundary : (t : List ℕ) (i : ℕ) → code t i < no_char → IsCharBoundary t i
