@@ -5,5 +5,6 @@ pub mod form;
 pub mod format;
 pub mod normal;
 pub mod print;
+pub mod probe;
 pub mod style;
 pub mod text;

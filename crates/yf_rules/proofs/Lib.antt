@@ -66,3 +66,6 @@ pub mod MendedMarks
 pub mod MendedFlows
 pub mod WrittenPlaces
 pub mod MendedLayouts
+pub mod MendedBrackets
+pub mod MendedFindings
+pub mod RulesMended

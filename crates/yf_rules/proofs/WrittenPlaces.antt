@@ -87,13 +87,10 @@ module _ {t : List ℕ} (u : IsUtf8 t) {m : ℕ} {x : Node} (a : WrittenAt t m x
 
   -- a character before it is there, or it is the first
   some_wide : 1 ≤ m + width (written x)
-  some_wide = by a.on.run a.on.wide where
-    by : {y : List ℕ} → Many t is_nb_char from a.span.end y → length y ≡ m + width (written x) → 1 ≤ m + width (written x)
-    by done w = absurd (none a.some)
-    by (step (one n) c) w = omega (arith, w)
-
-    none : {p : ℕ} → p < p → ⊥
-    none l = omega (arith, l)
+  some_wide = by a.on.run a.on.wide a.some where
+    by : {i j : ℕ} {y : List ℕ} → Many t is_nb_char i j y → length y ≡ m + width (written x) → i < j → 1 ≤ m + width (written x)
+    by done w l = absurd (omega (arith, l))
+    by (step (one n) c) w l = omega (arith, w)
 
   column_in : {s c : ℕ} {y : List ℕ} → s ≤ from → Many t is_mark s from y → ColumnOf t s last c → c ≤ m + width (written x)
   column_in l run (among_marks marks n) = some_wide
