@@ -6,13 +6,12 @@ use Rattle.yf_lines.specs.Rest.{Rest}
 use Rattle.yf_comments.specs.Comment.{CommentValue}
 use Rattle.yf_props.specs.Props.{PropsValue, no_props}
 use Rattle.yf_events.specs.Alike.{Alike, alike_scalars, alike_aliases, alike_sequences, alike_mappings, AlikeItems, alike_nothing, alike_item, AlikePairs, alike_no_pairs, alike_pair}
-use Rattle.yf_events.specs.Event.{sequence_starts, sequence_ends, mapping_starts, mapping_ends}
 use Rattle.yf_events.specs.declared.event.Entry.{Entry}
 use Rattle.yf_events.specs.declared.event.ScalarStyle.{ScalarStyle}
 use Rattle.yf_events.specs.declared.event.ScalarStyle.TheVariants.{Plain, Single, Double, Literal, Folded}
 use Rattle.yf_events.specs.declared.event.Span.{Span}
-use Rattle.yf_events.specs.Tree.{Standing, Node, scalar, alias, sequence, mapping, Items, no_items, item, Pairs, no_pairs, pair, flat, flat_items, flat_pairs, leaves, items_in, entry_start, starts_of_entry, standing, spans_of_leaf, is_block_collection, placed, unplaced}
-use Rattle.yf_grammar.specs.Meaning.{Meaning, ◌⊕◌, behind, noting, plain_event, from_to, empty_node, collection, with_props, first_entering, entering}
+use Rattle.yf_events.specs.Tree.{Standing, Node, scalar, alias, sequence, mapping, Items, no_items, item, Pairs, no_pairs, pair, flat, flat_items, flat_pairs, leaves, items_in, entry_start, starts_of_entry, standing, spans_of_leaf, is_block_collection}
+use Rattle.yf_grammar.specs.Meaning.{Meaning, ◌⊕◌, behind, noting, plain_event, empty_node, first_entering, entering}
 use Rattle.yf_grammar.specs.Meant.{Anywhere, Meant}
 use Rattle.yf_grammar.proofs.MeantLemmas.{entered, entered_events}
 use Rattle.yf_events.proofs.TreeLemmas.{node_unique}
@@ -21,7 +20,7 @@ use Rattle.yf_emit.specs.Fits.{is_block_style, is_inline}
 use Rattle.yf_emit.specs.Normal.{Setting, Spot, entry_or, inner_spot, is_implicit, key_comment, key_spot, value_of_implicit}
 use Rattle.yf_emit.specs.OneLine.{written, props_text}
 use Rattle.yf_emit.specs.Rows.{begins_below, colon_offset, is_empty_text}
-use Rattle.yf_emit.proofs.AlikeLemmas.{same_below, same_block, same_implicit}
+use Rattle.yf_emit.proofs.AlikeLemmas.{same_below, same_implicit}
 use Rattle.yf_emit.proofs.FlowHeads.{Bracketed, bracketed_entered, is_bracketed, is_bracketed_entered}
 use Rattle.yf_emit.proofs.LinePlaces.{OnLine}
 use Rattle.yf_emit.proofs.PlacedRows.{Inside, PlacedRow}
@@ -362,55 +361,3 @@ module _ {t : List ℕ} {s : Setting} {m : ℕ} where
         escapes = ap (λ z. z ++ two.escapes) escapes ∙ value.escapes;
         rows = implicit_rows b flag (sym (same_implicit s.style m alike) ∙ e) (key_at (stands_entered entry st) (ap (λ o. entry_or 0 o) (entry_entered entry key)) (text_entered entry key text) head) value.rows moved;
       }
-
--- Collections.
-
-abbrev spanned : ℕ → ℕ → Option ℕ → Standing
-spanned i j o = record { span = from_to i j; tag_offset = o; entry = None }
-
-module _ {t : List ℕ} {s : Setting} {spot : Spot} where
-  pub found_sequence : {at : Standing} {xs : Items} {meaning : Meaning} {ps : List PlacedRow} (i j : ℕ) → is_some at.span ≡ true → is_block_collection (sequence at false no_props xs) ≡ true → FoundItems t s spot.entries xs meaning ps
-      → FoundNode t s spot (sequence at false no_props xs) (collection true false i j meaning) ps
-  unfolding collection plain_event from_to
-  found_sequence {at = at} {xs = xs} i j e n a = record {
-    node = sequence (spanned i j None) false no_props a.items;
-    alike = alike_sequences e a.alike;
-    events = ap (λ z. placed (spanned i j None) (sequence_starts false no_props) [] ∷ (z ++ (unplaced sequence_ends ∷ []))) a.events;
-    escapes = a.escapes;
-    rows = sequence_rows (sym (same_block {K = Anywhere} {x = sequence at false no_props xs} {y = sequence (spanned i j None) false no_props a.items} (alike_sequences e a.alike)) ∙ n) refl a.rows;
-  }
-
-  pub found_mapping : {at : Standing} {xs : Pairs} {meaning : Meaning} {ps : List PlacedRow} (i j : ℕ) → is_some at.span ≡ true → is_block_collection (mapping at false no_props xs) ≡ true → FoundPairs t s spot.entries xs meaning ps
-      → FoundNode t s spot (mapping at false no_props xs) (collection false false i j meaning) ps
-  unfolding collection plain_event from_to
-  found_mapping {at = at} {xs = xs} i j e n a = record {
-    node = mapping (spanned i j None) false no_props a.pairs;
-    alike = alike_mappings e a.alike;
-    events = ap (λ z. placed (spanned i j None) (mapping_starts false no_props) [] ∷ (z ++ (unplaced mapping_ends ∷ []))) a.events;
-    escapes = a.escapes;
-    rows = mapping_rows (sym (same_block {K = Anywhere} {x = mapping at false no_props xs} {y = mapping (spanned i j None) false no_props a.pairs} (alike_mappings e a.alike)) ∙ n) refl a.rows;
-  }
-
-  pub found_sequence_with : {at : Standing} {xs : Items} {meaning : Meaning} {h : PlacedRow} {ps : List PlacedRow} (p : PropsValue) (o : Option ℕ) (f g i j : ℕ) → is_some at.span ≡ true
-      → is_block_collection (sequence at false p xs) ≡ true → is_empty_text (props_text p) ≡ false → h.items ≡ [] → h.leaves ≡ [] → h.commented ≡ false → FoundItems t s spot.entries xs meaning ps
-      → FoundNode t s spot (sequence at false p xs) (with_props p o f g (collection true false i j meaning)) (h ∷ ps)
-  unfolding collection plain_event from_to with_props
-  found_sequence_with {at = at} {xs = xs} p o f g i j e b n k l c a = record {
-    node = sequence (spanned f j o) false p a.items;
-    alike = alike_sequences e a.alike;
-    events = ap (λ z. placed (spanned f j o) (sequence_starts false p) [] ∷ (z ++ (unplaced sequence_ends ∷ []))) a.events;
-    escapes = a.escapes;
-    rows = sequence_behind (sym (same_block {K = Anywhere} {x = sequence at false p xs} {y = sequence (spanned f j o) false p a.items} (alike_sequences e a.alike)) ∙ b) n k l c a.rows;
-  }
-
-  pub found_mapping_with : {at : Standing} {xs : Pairs} {meaning : Meaning} {h : PlacedRow} {ps : List PlacedRow} (p : PropsValue) (o : Option ℕ) (f g i j : ℕ) → is_some at.span ≡ true
-      → is_block_collection (mapping at false p xs) ≡ true → is_empty_text (props_text p) ≡ false → h.items ≡ [] → h.leaves ≡ [] → h.commented ≡ false → FoundPairs t s spot.entries xs meaning ps
-      → FoundNode t s spot (mapping at false p xs) (with_props p o f g (collection false false i j meaning)) (h ∷ ps)
-  unfolding collection plain_event from_to with_props
-  found_mapping_with {at = at} {xs = xs} p o f g i j e b n k l c a = record {
-    node = mapping (spanned f j o) false p a.pairs;
-    alike = alike_mappings e a.alike;
-    events = ap (λ z. placed (spanned f j o) (mapping_starts false p) [] ∷ (z ++ (unplaced mapping_ends ∷ []))) a.events;
-    escapes = a.escapes;
-    rows = mapping_behind (sym (same_block {K = Anywhere} {x = mapping at false p xs} {y = mapping (spanned f j o) false p a.pairs} (alike_mappings e a.alike)) ∙ b) n k l c a.rows;
-  }

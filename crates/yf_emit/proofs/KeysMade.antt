@@ -1,34 +1,29 @@
 -- Implicit keys with their values: the value on the same line, on the next lines, or missing.
-use Rattle.std.proofs.Common.{◌≡◌, ℕ, max, ◌+◌, ◌≤◌, pos, Bool, true, false, List, [], ◌∷◌, ◌++◌, length, Option, Some, None, refl, sym, ap, ◌∙◌, subst, arith, append_assoc, append-nil, length-append, true≢false}
-use Rattle.std.specs.Prelude.{not, is_some, if◌then◌else◌}
+use Rattle.std.proofs.Common.{◌≡◌, ℕ, max, ◌+◌, ◌≤◌, pos, Bool, true, false, List, [], ◌∷◌, ◌++◌, length, Option, Some, None, refl, sym, ap, ◌∙◌, subst, arith, append_assoc, append-nil, true≢false}
+use Rattle.std.specs.Prelude.{not, is_some}
 use Rattle.std.specs.Str.{IsUtf8, chars}
-use Rattle.std.proofs.lemmas.Str.{chars-append}
-use Rattle.yf_chars.specs.declared.context.Ctx.TheVariants.{BlockOut, BlockKey}
+use Rattle.yf_chars.specs.declared.context.Ctx.TheVariants.{BlockOut}
 use Rattle.yf_chars.specs.Text.{code}
 use Rattle.yf_lines.specs.Basic.{LineStart}
-use Rattle.yf_lines.specs.LineText.{Follows, IsLineText}
-use Rattle.yf_lines.proofs.RestLemmas.{Rest, line_nothing, rest_spaces, rest_text}
+use Rattle.yf_lines.proofs.RestLemmas.{Rest, line_nothing, rest_spaces}
 use Rattle.yf_comments.specs.Comment.{CommentValue}
 use Rattle.yf_comments.proofs.GapLinesLemmas.{texts}
 use Rattle.yf_comments.proofs.SpaceLemmas.{space_in_line}
 use Rattle.yf_events.specs.Tree.{Node, items_in, leaves as leaves_of}
-use Rattle.yf_grammar.specs.Grammar.{Derives, BlockValue, KeyOf, NodeOf}
+use Rattle.yf_grammar.specs.Grammar.{Derives, BlockValue}
 use Rattle.yf_grammar.specs.Grammar.Derives.{a_keyed_entry, an_unkeyed_entry, a_block_value, an_empty_block_value}
-use Rattle.yf_grammar.specs.Back.{Back, follower}
 use Rattle.yf_grammar.specs.Meaning.{Meaning, ◌⊕◌, behind, noting, empty_node, entering}
 use Rattle.yf_grammar.specs.Meant.{tall}
 use Rattle.yf_grammar.proofs.BlankRuns.{Behind, behind_byte}
 use Rattle.yf_grammar.proofs.BlockFirst.{key_no_question}
 use Rattle.yf_grammar.proofs.CommentOrder.{end_ascends}
-use Rattle.yf_grammar.proofs.FlowBack.{visible_at, visible_line, colon_follows}
-use Rattle.yf_grammar.proofs.LeafBack.{any_follow, space_follows}
-use Rattle.yf_grammar.proofs.PairsBack.{key_back, key_apart_back}
+use Rattle.yf_grammar.proofs.FlowBack.{visible_at}
 use Rattle.yf_grammar.proofs.MeantLemmas.{texts_behind, texts_noting, texts_entering, texts_both, texts_empty}
 use Rattle.yf_grammar.proofs.NodePlaces.{NodeStands, stands_nowhere, node_order, node_upto}
 use Rattle.yf_grammar.proofs.PlacesDerived.{places}
 use Rattle.yf_emit.specs.Carried.{AreDecos, carried_texts, comments_in, Calm}
 use Rattle.yf_emit.specs.Decorated.{Deco, first, after, end_then, lines_then, inline_then}
-use Rattle.yf_emit.specs.Fits.{LineNode, KeyNode, ColonFits, colon_at_once, colon_apart}
+use Rattle.yf_emit.specs.Fits.{KeyNode}
 use Rattle.yf_emit.specs.Normal.{Setting, Spot, is_implicit, key_comment, value_entries, value_of_implicit}
 use Rattle.yf_emit.specs.OneLine.{width, written, colon_behind}
 use Rattle.yf_emit.specs.Rows.{Row, Ending, anywhere, before_node, behind_key, begins_below, joined}
@@ -41,9 +36,9 @@ use Rattle.yf_emit.proofs.FlowHeads.{bracketed}
 use Rattle.yf_emit.proofs.FoundLines.{items_inside, leaves_inside, node_text, placed_node}
 use Rattle.yf_emit.proofs.FoundNodes.{FoundNode, FoundPair, HeadAt, head_at, KeyRows, key_commented, key_above, key_alone, key_joined, bare_node, bare_alike, bare_events, bare_escapes, bare_comments, found_behind, found_noting, found_nothing, found_implicit, meant_of}
 use Rattle.yf_emit.proofs.HeldLemmas.{Held, empty_silent, entering_silent, held_after, held_behind, held_joined, held_line, row_ended}
+use Rattle.yf_emit.proofs.KeyTexts.{colon_line, key_made, key_node, over_key, value_right}
 use Rattle.yf_emit.proofs.LaidRows.{leaves_apart, laid_row, laid_line}
-use Rattle.yf_emit.proofs.LinePlaces.{OnLine, bare_width, on_more, on_same, on_sign}
-use Rattle.yf_emit.proofs.LineUtf8.{space_chars, written_utf8}
+use Rattle.yf_emit.proofs.LinePlaces.{OnLine, bare_width, on_same, on_sign}
 use Rattle.yf_emit.proofs.NodePlaces.{beside_at, below_at}
 use Rattle.yf_emit.proofs.NodesMade.{Stood, Claim, no_row, some_rows, MeansNothing, noting_nothing}
 use Rattle.yf_emit.proofs.PlacedRows.{Inside, none_inside, one_inside, inside_wider, PlacedRow, AtRow, RowsIn, last_row, row_before, joined_placed, rows_joined}
@@ -291,57 +286,6 @@ value_made {t} {s} {v} {spot} {q = q} {a = h} {found = found} {ls = ls} column t
       set = set_done (λ b. absurd (true≢false (sym b ∙ sym e))) node.set;
       held = held_joined (key_head column text items leaves blank) 1 y ys ds r node.held;
     }
-
--- The key.
-
--- the `:` after a key, and what stands after it
-record KeyMade (t : List ℕ) (h : ℕ) (mean : Meaning) (q : ℕ) (z written_text : List ℕ) : Type 0 where
-  pub json : Bool
-  pub place : ℕ
-  pub derived : Derives t h (KeyOf json BlockKey) q place mean
-  pub colon : code t place ≡ 58
-  pub rest : Rest t (place + 1) z
-  pub width : q + length written_text ≡ place + 1
-
-key_made : {t : List ℕ} {k : Node} (q : ℕ) (z : List ℕ) (text : List ℕ) (node : LineNode BlockKey k) → ColonFits node.colon text → length (chars (written k)) ≤ 1023 → IsUtf8 t
-    → Rest t q (written k ++ (text ++ z)) → KeyMade t node.height (node.mean q) q z (written k ++ text)
-key_made {t} {k} q z text node (colon_at_once e) l u w =
-    let back : Back node.json true BlockKey (written k) node.height node.mean = subst (λ b. Back node.json b BlockKey (written k) node.height node.mean) e node.back in
-    let after_key = rest_text (written k) u node.back.line w in
-    let colon = visible_at 58 u (omega arith) (omega arith) after_key.rest in
-    record { json = node.json; place = q + length (written k); derived = key_back q (58 ∷ z) u back (omega arith) colon_follows w; colon = colon.0; rest = colon.1; width = let n : length (written k ++ 58 ∷ []) ≡ length (written k) + 1 = length-append (written k) (58 ∷ []) in omega (arith, n) }
-key_made {t} {k} q z text node colon_apart l u w =
-    let after_key = rest_text (written k) u node.back.line w in
-    let space = visible_at 32 u (omega arith) (omega arith) after_key.rest in
-    let colon = visible_at 58 u (omega arith) (omega arith) space.1 in
-    let parts : chars (written k ++ 32 ∷ []) ≡ chars (written k) ++ 32 ∷ [] =
-    chars-append (written k) (32 ∷ []) (written_utf8 (written k) (32 ∷ 58 ∷ z) u w after_key.rest) ∙ ap (λ x. chars (written k) ++ x) space_chars in
-    let long : length (chars (written k ++ 32 ∷ [])) ≡ length (chars (written k)) + 1 = ap length parts ∙ length-append (chars (written k)) (32 ∷ []) in
-    record { json = node.json; place = q + length (written k) + 1; derived = key_apart_back q (58 ∷ z) u node.back (omega (arith, long, l)) w; colon = colon.0; rest = colon.1; width = let n : length (written k ++ 32 ∷ 58 ∷ []) ≡ length (written k) + 2 = length-append (written k) (32 ∷ 58 ∷ []) in omega (arith, n) }
-
--- the node of the key
-key_node : {t : List ℕ} {k : Node} (q : ℕ) (z : List ℕ) (text : List ℕ) (node : LineNode BlockKey k) → ColonFits node.colon text → IsUtf8 t → Rest t q (written k ++ (text ++ z))
-    → Derives t node.height (NodeOf node.json (pos 0) BlockKey) q (q + length (written k)) (node.mean q)
-key_node q z text node (colon_at_once e) u w = node.back.made (pos 0) q (58 ∷ z) u (subst (λ b. Follows (follower b) (58 ∷ z)) (sym e) colon_follows) w
-key_node q z text node colon_apart u w = node.back.made (pos 0) q (32 ∷ 58 ∷ z) u (any_follow node.colon space_follows) w
-
-colon_line : {b : Bool} {text : List ℕ} → ColonFits b text → IsLineText text
-colon_line (colon_at_once e) = visible_line 58 (omega arith) (omega arith) line_nothing
-colon_line colon_apart = visible_line 32 (omega arith) (omega arith) (visible_line 58 (omega arith) (omega arith) line_nothing)
-
--- so many characters further on the line
-over_key : {t : List ℕ} {column q : ℕ} (i : ℕ) (key colon z : List ℕ) → IsUtf8 t → IsLineText key → IsLineText colon → Rest t q (key ++ (colon ++ z)) → q + length (key ++ colon) ≡ i + 1 → OnLine t column q
-    → OnLine t (column + (width key + width colon)) (i + 1)
-over_key i key colon z u a b w e on =
-    let first = on_more key (colon ++ z) u a on w in
-    let second = on_more colon z u b first (rest_text key u a w).rest in
-    on_same (omega arith) (let l = length-append key colon in omega (arith, l, e)) second
-
--- where its value begins
-value_right : (s : Setting) (spot : Spot) (column : ℕ) (k v : Node) (b : Bool) → spot ≡ value_of_implicit s column k v → b ≡ is_some (key_comment s.comments k v) → b ≡ false
-    → spot.column ≡ column + (width (written k) + width (colon_behind k)) + 1
-value_right s spot column k v b e flag f =
-    ap (λ z. z.column) e ∙ (ap (λ z. if z then column + s.style.indent else column + width (written k) + width (colon_behind k) + 1) (sym flag ∙ f) ∙ omega arith)
 
 -- A pair with an implicit key.
 

@@ -99,8 +99,10 @@ pub mod ScalarStands
 pub mod ScalarFound
 pub mod ScalarsMade
 pub mod EntriesMade
+pub mod KeyTexts
 pub mod KeysMade
 pub mod CollectionsMade
+pub mod FoundCollections
 pub mod TreesMade
 pub mod DocumentsMade
 pub mod StreamParts

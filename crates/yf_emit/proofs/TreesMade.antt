@@ -20,7 +20,8 @@ use Rattle.yf_emit.specs.OneLine.{written, width, props_text}
 use Rattle.yf_emit.specs.Rows.{Row, plain_row, one_line, one_line_row, props_row, behind_sign, entry_row, colon_offset, blank_before_entry, begins_below, is_empty_text, implicit_pair, explicit_pair, pair_rows, rows, rows_of_items, rows_of_pairs}
 use Rattle.yf_emit.proofs.CollectionsMade.{same_props, some_props, bare_claim, propertied_claim}
 use Rattle.yf_emit.proofs.EntriesMade.{EntryMakes, EntriesMakes, entries_last, entries_more, item_makes, explicit_makes}
-use Rattle.yf_emit.proofs.FoundNodes.{FoundItem, FoundItems, FoundPair, FoundPairs, found_last_item, found_more_items, found_last_pair, found_more_pairs, found_sequence, found_mapping, found_sequence_with, found_mapping_with}
+use Rattle.yf_emit.proofs.FoundCollections.{found_sequence, found_mapping, found_sequence_with, found_mapping_with}
+use Rattle.yf_emit.proofs.FoundNodes.{FoundItem, FoundItems, FoundPair, FoundPairs, found_last_item, found_more_items, found_last_pair, found_more_pairs}
 use Rattle.yf_emit.proofs.KeysMade.{keyed_makes, unkeyed_makes}
 use Rattle.yf_emit.proofs.PlacedRows.{PlacedRow}
 use Rattle.yf_emit.proofs.ScalarsMade.{scalar_claim}

@@ -1,5 +1,5 @@
 -- A flow collection that was laid out stands from bracket to bracket as it is written.
-use Rattle.std.proofs.Common.{◌≡◌, ◌≢◌, ℕ, ◌+◌, ◌-◌, ◌<◌, ◌≤◌, ◌⊎◌, inl, inr, ⊎_elim, pos, Bool, true, false, true≢false, List, [], ◌∷◌, ◌++◌, length, refl, sym, ap, ◌∙◌, subst, arith, append_assoc, length-append}
+use Rattle.std.proofs.Common.{◌≡◌, ℕ, ◌+◌, ◌-◌, ◌<◌, ◌≤◌, ◌⊎◌, inl, inr, ⊎_elim, pos, true, true≢false, List, [], ◌∷◌, ◌++◌, length, refl, sym, ap, ◌∙◌, subst, arith, append_assoc, length-append}
 use Rattle.std.specs.Prelude.{slice_range}
 use Rattle.std.specs.Str.{IsUtf8}
 use Rattle.std.proofs.lemmas.Bool.{cases_lt}
@@ -12,15 +12,15 @@ use Rattle.yf_lines.specs.Rest.{Rest}
 use Rattle.yf_lines.proofs.ClearLemmas.{Quiet}
 use Rattle.yf_lines.proofs.RestLemmas.{rest_ascii, rest_stands, rest_text, slice_back}
 use Rattle.yf_props.specs.Props.{PropsValue, no_props}
-use Rattle.yf_props.specs.Written.{IsProps, props_at, props_bytes}
+use Rattle.yf_props.specs.Written.{props_at, props_bytes}
 use Rattle.yf_events.specs.Tree.{Node, scalar, alias, sequence, mapping, no_items, item, no_pairs, pair, props_of}
 use Rattle.yf_grammar.proofs.LeafBack.{propertied}
 use Rattle.yf_grammar.proofs.NodePlaces.{content_alone}
 use Rattle.yf_emit.specs.ContentStart.{content_start}
 use Rattle.yf_emit.specs.Fits.{FitProps, no_fit_props, some_fit_props}
-use Rattle.yf_emit.specs.OneLine.{bare, props_text, spaced, width, written}
+use Rattle.yf_emit.specs.OneLine.{bare, props_text, spaced, written}
 use Rattle.yf_emit.proofs.ContentFound.{content_found, content_starts_are_found}
-use Rattle.yf_emit.proofs.FlowHeads.{Bracketed, is_bracketed}
+use Rattle.yf_emit.proofs.FlowHeads.{is_bracketed}
 use Rattle.yf_emit.proofs.FoundNodes.{NodeText}
 use Rattle.yf_emit.proofs.LeafFits.{props_before}
 use Rattle.yf_emit.proofs.LinePlaces.{OnLine, on_more}

@@ -5,6 +5,5 @@ pub mod form;
 pub mod format;
 pub mod normal;
 pub mod print;
-pub mod probe;
 pub mod style;
 pub mod text;

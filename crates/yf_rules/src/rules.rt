@@ -50,7 +50,13 @@ pub enum StyleRule {
 }
 
 /// The byte offsets at fault by a rule.
-fn offsets_by(rule: StyleRule, alloc: Global, src: &Src, reading: &Reading, style: &Style) -> Offsets
+fn offsets_by(
+    rule: StyleRule,
+    alloc: Global,
+    src: &Src,
+    reading: &Reading,
+    style: &Style,
+) -> Offsets
     ensures { IfOk result (λ offsets. (definition_of rule).faults src.now reading.now style.now offsets.items) }
 {
     match rule {

@@ -14,4 +14,4 @@ pub returns-in-Ok-clause-mends : goal.returns-in-Ok-clause-mends
 returns-in-Ok-clause-mends g c =
     let a = c.about_of-about in
     λ w. rule_silent a.result.number a.result.id a.result.fixable c.as_slice.result.now c.in-Ok.findings.items
-        (λ fixable. c.as_slice.ensures.value ∙ c.in_ok-places.ensures.mends (sym a.ensures.fixable ∙ fixable) w) c.in-Ok.ensures
+    (λ fixable. c.as_slice.ensures.value ∙ c.in_ok-places.ensures.mends (sym a.ensures.fixable ∙ fixable) w) c.in-Ok.ensures
