@@ -27,7 +27,7 @@ none_found t os xs items (Err x) f e p = tt
 
 -- Findings.
 
-pub none_fixed : (findings : List Finding) → findings ≡ [] → NoneFixable findings
+none_fixed : (findings : List Finding) → findings ≡ [] → NoneFixable findings
 none_fixed findings e = subst (λ z. NoneFixable z) (sym e) (record { none = λ f c. absurd (nothing_in f c) })
 
 left_alone : (number : ℕ) (id : Bor (List ℕ)) (fixable : Bool) (ps : List Place) → fixable ≡ false → NoneFixable (map (finding_at number id fixable) ps)
@@ -39,20 +39,24 @@ left_alone number id fixable (p ∷ ps) e = record {
       (head_or_later (finding_at number id fixable p) (map (finding_at number id fixable) ps) f c);
 }
 
--- those of one rule
-pub rule_silent : (number : ℕ) (id : Bor (List ℕ)) (fixable : Bool) (places : List Place) (findings : List Finding) → (fixable ≡ true → places ≡ []) → findings ≡ map (finding_at number id fixable) places
-    → NoneFixable findings
-rule_silent number id fixable places findings f e =
+-- those of one rule, where W holds
+pub rule_silent : {W : Type 0} (number : ℕ) (id : Bor (List ℕ)) (fixable is_fixable : Bool) (xs places : List Place) (findings : List Finding) → fixable ≡ is_fixable → xs ≡ places
+    → (is_fixable ≡ true → W → places ≡ []) → findings ≡ map (finding_at number id fixable) xs → W → NoneFixable findings
+rule_silent number id fixable is_fixable xs places findings same are f e w =
     subst (λ z. NoneFixable z) (sym e)
     (⊎_elim
-    (λ (h : fixable ≡ true). subst (λ z. NoneFixable (map (finding_at number id fixable) z)) (sym (f h)) (none_fixed [] refl))
-    (λ (h : fixable ≡ false). left_alone number id fixable places h)
+    (λ (h : fixable ≡ true). subst (λ z. NoneFixable (map (finding_at number id fixable) z)) (sym (are ∙ f (sym same ∙ h) w)) (none_fixed [] refl))
+    (λ (h : fixable ≡ false). left_alone number id fixable xs h)
     (cases_Bool fixable))
 
--- those of one rule more
-pub both_silent : (xs ys zs : List Finding) → NoneFixable xs → NoneFixable ys → zs ≡ xs ++ ys → NoneFixable zs
-both_silent xs ys zs a b e =
-    subst (λ z. NoneFixable z) (sym e) (record { none = λ f c. ⊎_elim (λ (h : Contains xs f). a.none f h) (λ (h : Contains ys f). b.none f h) (Contains-append_cases xs ys f c) })
+-- those of no rule, and of one rule more
+pub none_silent : {W : Type 0} (findings : List Finding) → findings ≡ [] → W → NoneFixable findings
+none_silent findings e w = none_fixed findings e
 
-pub sorted_silent : (all findings : List Finding) → NoneFixable all → SortedFrom all findings → NoneFixable findings
-sorted_silent all findings a s = record { none = λ f c. a.none f (Contains-permutation findings all f (IsPermutation-sym all findings s.same) c) }
+pub both_silent : {W : Type 0} (xs ys zs : List Finding) → (W → NoneFixable xs) → (W → NoneFixable ys) → zs ≡ xs ++ ys → W → NoneFixable zs
+both_silent xs ys zs a b e w = subst (λ z. NoneFixable z) (sym e) (record {
+  none = λ f c. ⊎_elim (λ (h : Contains xs f). (a w).none f h) (λ (h : Contains ys f). (b w).none f h) (Contains-append_cases xs ys f c);
+})
+
+pub sorted_silent : {W : Type 0} (all findings : List Finding) → (W → NoneFixable all) → SortedFrom all findings → W → NoneFixable findings
+sorted_silent all findings a s w = record { none = λ f c. (a w).none f (Contains-permutation findings all f (IsPermutation-sym all findings s.same) c) }

@@ -1,4 +1,4 @@
-use Rattle.std.proofs.Common.{◌≡◌, ◌∙◌, map, subst, sym}
+use Rattle.std.proofs.Common.{◌≡◌, map, subst}
 use Rattle.yf_rules.specs.Check.{finding_at}
 use Rattle.yf_rules.specs.Check.FindingsOf.{at_places}
 use Rattle.yf_rules.proofs.MendedFindings.{rule_silent}
@@ -13,5 +13,4 @@ returns-in-Ok-clause-findings g c =
 pub returns-in-Ok-clause-mends : goal.returns-in-Ok-clause-mends
 returns-in-Ok-clause-mends g c =
     let a = c.about_of-about in
-    λ w. rule_silent a.result.number a.result.id a.result.fixable c.as_slice.result.now c.in-Ok.findings.items
-    (λ fixable. c.as_slice.ensures.value ∙ c.in_ok-places.ensures.mends (sym a.ensures.fixable ∙ fixable) w) c.in-Ok.ensures
+    rule_silent a.result.number a.result.id a.result.fixable _ c.as_slice.result.now _ c.in-Ok.findings.items a.ensures.fixable c.as_slice.ensures.value c.in_ok-places.ensures.mends c.in-Ok.ensures
