@@ -201,7 +201,7 @@ same_value_column {k = k} {l = l} cs ds v w s column a e =
     ∙ (ap (λ z. if is_some (key_comment ds l w) then column + s.indent else column + width z + width (colon_behind k) + 1) (same_written a)
     ∙ ap (λ z. if is_some (key_comment ds l w) then column + s.indent else column + width (written l) + width z + 1) (same_colon a))
 
-same_value_entries : {K : Node → Node → Node → Node → Type 0} {v w : Node} (s : Style) (column : ℕ) → Alike K v w
+pub same_value_entries : {K : Node → Node → Node → Node → Type 0} {v w : Node} (s : Style) (column : ℕ) → Alike K v w
     → value_entries s column v ≡ value_entries s column w
 same_value_entries s column a = ap (λ z. if z && not s.seq_indent then column else column + s.indent) (same_sequence a)
 

@@ -103,10 +103,10 @@ row_before_rows {t} {ps = ps} {ds = ds} {k = k} {j = j} {cs = cs} {r = r} (begin
 -- A collection without properties.
 
 pub bare_claim : {s : Setting} {x : Node} {spot : Spot} {es : List Row} {sequence : Bool} {bound : ℕ} {Q : List ℕ → Meaning → List PlacedRow → Type 0} → begins_below x ≡ true → is_sequence x ≡ sequence → tall x ≡ suc bound
-    → ((t : List ℕ) (i j : ℕ) (m : Meaning) (ps : List PlacedRow) → Q t m ps → FoundNode t s spot.entries x (collection sequence false i j m) ps) → EntriesMakes s sequence spot.entries bound Q es → Claim s x spot es
+    → ((t : List ℕ) (i j : ℕ) (m : Meaning) (ps : List PlacedRow) → Q t m ps → FoundNode t s spot x (collection sequence false i j m) ps) → EntriesMakes s sequence spot.entries bound Q es → Claim s x spot es
 bare_claim {s} {x} {spot} {es} {sequence} {bound} {Q} below kind high meant e = claim e.starts e where
   made : {rs : List Row} → EntriesMakes s sequence spot.entries bound Q rs → {t : List ℕ} (n : ℤ) (c : Ctx) (ds : List Deco) (r : List ℕ) (q : ℕ) → IsUtf8 t → Stood s x n c spot → AreDecos ds
-      → Calm rs ds r → Rest t q (inline_then rs ds r) → NodeMade t s n c spot.entries x rs ds q r
+      → Calm rs ds r → Rest t q (inline_then rs ds r) → NodeMade t s n c spot x rs ds q r
   made {rs} e {t} n c ds r q u stood a k w =
       let one = e.made ds r q u a k w in
       let low : one.height ≤ bound = one.low in
@@ -135,10 +135,10 @@ bare_claim {s} {x} {spot} {es} {sequence} {bound} {Q} below kind high meant e = 
 module _ {s : Setting} {x : Node} {spot : Spot} {es : List Row} {sequence : Bool} {bound : ℕ} {Q : List ℕ → Meaning → List PlacedRow → Type 0} {p : PropsValue} (props : IsProps p) (some : p ≢ no_props)
     (below : begins_below x ≡ false) (kind : is_sequence x ≡ sequence) (high : tall x ≡ suc bound)
     (meant : (t : List ℕ) (o : Option ℕ) (f g i j : ℕ) (m : Meaning) (h : PlacedRow) (ps : List PlacedRow) → h.items ≡ [] → h.leaves ≡ [] → h.commented ≡ false → Q t m ps
-    → FoundNode t s spot.entries x (with_props p o f g (collection sequence false i j m)) (h ∷ ps))
+    → FoundNode t s spot x (with_props p o f g (collection sequence false i j m)) (h ∷ ps))
     (e : EntriesMakes s sequence spot.entries bound Q es) where
   propertied_made : {t : List ℕ} (row : Row) → row.text ≡ props_bytes p → row.body ≡ [] → row.items ≡ [] → row.leaves ≡ [] → is_some row.key_comment ≡ false → (n : ℤ) (c : Ctx) (ds : List Deco) (r : List ℕ) (q : ℕ) → IsUtf8 t → Stood s x n c spot
-      → AreDecos ds → Calm (row ∷ es) ds r → Rest t q (inline_then (row ∷ es) ds r) → NodeMade t s n c spot.entries x (row ∷ es) ds q r
+      → AreDecos ds → Calm (row ∷ es) ds r → Rest t q (inline_then (row ∷ es) ds r) → NodeMade t s n c spot x (row ∷ es) ds q r
   propertied_made {t} row text body no_items none key n c ds r q u stood a k w =
       let there : Rest t q (props_bytes p ++ end_then (first ds) [] (lines_then es (after ds) r)) =
       subst (λ l. Rest t q (props_bytes p ++ end_then (first ds) l (lines_then es (after ds) r))) body
@@ -153,8 +153,8 @@ module _ {s : Setting} {x : Node} {spot : Spot} {es : List Row} {sequence : Bool
       let g : ℕ = q + length (props_bytes p) in
       let inner : Meaning = collection sequence false (end.place + spot.entries) one.meaning.finish one.meaning in
       let width : length (props_bytes p) ≡ length row.text = ap length (sym text) in
-      let h : PlacedRow = record { items = []; leaves = []; commented = false; from = q; upto = q + length row.text } in
-      let found : FoundNode t s spot.entries x (with_props p offset q g inner) (h ∷ one.found_rows) =
+      let h : PlacedRow = record { items = []; leaves = []; commented = false; column = row.column; from = q; upto = q + length row.text } in
+      let found : FoundNode t s spot x (with_props p offset q g inner) (h ∷ one.found_rows) =
       meant t offset q g (end.place + spot.entries) one.meaning.finish one.meaning h one.found_rows refl refl refl one.meant in
       let at = propertied_at {c = c} {p = p} stood.block properties end.end spaces.0 (subst (λ b. least_column b n c ≤ℤ pos spot.entries) kind stood.least) one.derived in
       record {
@@ -178,6 +178,7 @@ module _ {s : Setting} {x : Node} {spot : Spot} {es : List Row} {sequence : Bool
               leaves = none_inside;
               commented = key;
               bare = λ z. no_items;
+              column = refl;
             }) (record {
               ascend = subst (λ z. Ascend t (q + z) end.comments end.place) width (end_ascends end.end);
               is = end.is;

@@ -65,7 +65,7 @@ pub record ExplicitMade (t : List ℕ) (s : Setting) (x : Node) (rs : List Row) 
   pub unleaved : head.leaves ≡ []
   pub from : head.from ≡ q
   pub inner : List PlacedRow
-  pub meant : FoundNode t s 0 x meaning inner
+  pub meant : FoundNode t s (root_spot s.style) x meaning inner
   pub placed : RowsIn t rs (head ∷ inner) ds q meaning.comments place r
   pub is : texts meaning.comments ≡ comments_in rs ds
   pub laid : MeaningLaid q place meaning (steps_in rs ds)
@@ -74,10 +74,10 @@ pub record ExplicitMade (t : List ℕ) (s : Setting) (x : Node) (rs : List Row) 
 
 -- the row of a `---`
 abbrev mark_row : ℕ → PlacedRow
-mark_row q = record { items = q ∷ []; leaves = []; commented = false; from = q; upto = q + 3 }
+mark_row q = record { items = q ∷ []; leaves = []; commented = false; column = 0; from = q; upto = q + 3 }
 
-mark_stands : {row : Row} (q : ℕ) → length row.text ≡ 3 → is_some row.key_comment ≡ false → AtRow row q (mark_row q)
-mark_stands q width key = record {
+mark_stands : {row : Row} (q : ℕ) → row.column ≡ 0 → length row.text ≡ 3 → is_some row.key_comment ≡ false → AtRow row q (mark_row q)
+mark_stands q column width key = record {
   from = refl;
   order = omega arith;
   size = λ z. omega (arith, width);
@@ -85,6 +85,7 @@ mark_stands q width key = record {
   leaves = none_inside;
   commented = key;
   bare = λ z. never_bare z;
+  column = column;
 }
 
 same_number : (c : ℕ) → (c == c) ≡ true
@@ -127,9 +128,9 @@ not_beside : (b : Bool) → not b ≡ false → b ≡ true
 not_beside true e = refl
 not_beside false e = sym e
 
-pub explicit_made : {t : List ℕ} {s : Setting} {x : Node} {rs : List Row} (row : Row) (ds : List Deco) (r : List ℕ) (q : ℕ) → row.leaves ≡ [] → row.body ≡ [] → length row.text ≡ 3 → is_some row.key_comment ≡ false → Claim s x (root_spot s.style) rs → AreRowTexts rs → IsUtf8 t → AreDecos ds → Calm rs (after ds) r
+pub explicit_made : {t : List ℕ} {s : Setting} {x : Node} {rs : List Row} (row : Row) (ds : List Deco) (r : List ℕ) (q : ℕ) → row.leaves ≡ [] → row.body ≡ [] → row.column ≡ 0 → length row.text ≡ 3 → is_some row.key_comment ≡ false → Claim s x (root_spot s.style) rs → AreRowTexts rs → IsUtf8 t → AreDecos ds → Calm rs (after ds) r
     → Rest t q (45 ∷ 45 ∷ 45 ∷ end_then (first ds) [] (lines_then rs (after ds) r)) → ExplicitMade t s x (row ∷ rs) ds q r
-explicit_made {t} {s} {x} row ds r q none bare width key (no_row m) free u a k w =
+explicit_made {t} {s} {x} row ds r q none bare column width key (no_row m) free u a k w =
     let mark = three_at 45 u (omega arith) (omega arith) w in
     let end = row_end (first ds) r u (first_deco a) mark.1 in
     record {
@@ -147,14 +148,14 @@ explicit_made {t} {s} {x} row ds r q none bare width key (no_row m) free u a k w
       inner = [];
       meant = found_noting end.comments (found_nothing (q + 3) (m.meant (q + 3)));
       placed = subst (λ v. RowsIn t (row ∷ []) (mark_row q ∷ []) ds q v end.place r) (sym (noting_nothing (q + 3) end.comments))
-          (last_row (mark_stands q width key) (record { ascend = end_ascends end.end; is = end.is; start = end.start; tail = behind_line bare end.end no_leaf_to }) end.rest);
+          (last_row (mark_stands q column width key) (record { ascend = end_ascends end.end; is = end.is; start = end.start; tail = behind_line bare end.end no_leaf_to }) end.rest);
       is = texts_noting (empty_node (q + 3)) end.comments ∙ (ap (λ z. z ++ texts end.comments) (texts_empty (q + 3)) ∙ (end.is ∙ sym (append-nil (carried_texts (first ds)))));
       laid = subst (λ z. MeaningLaid q end.place (noting (empty_node (q + 3)) end.comments) (leaf_steps z ++ (comment_steps (carried_texts (first ds)) ++ []))) (sym none)
           (laid_row (empty_node (q + 3)) end.comments [] (laid_empty (q + 3) (omega arith)) (end_ascends end.end) end.is);
       set = done_empty (q + 3) end.comments;
       held = held_line (empty_node (q + 3)) end.comments row ds r bare (empty_silent (q + 3)) (row_ended (first ds) r u (three_behind 45 u (omega arith) (omega arith) w) (first_deco a) mark.1 end.end);
     }
-explicit_made {t} {s} {x} row ds r q none bare width key (some_rows {r = y} {rs = ys} f g m) lines u a k w =
+explicit_made {t} {s} {x} row ds r q none bare column width key (some_rows {r = y} {rs = ys} f g m) lines u a k w =
     let mark = three_at 45 u (omega arith) (omega arith) w in
     let end = row_end (first ds) (lines_then (y ∷ ys) (after ds) r) u (first_deco a) mark.1 in
     let spaces = rest_spaces y.column end.place u end.rest in
@@ -178,7 +179,7 @@ explicit_made {t} {s} {x} row ds r q none bare width key (some_rows {r = y} {rs 
       inner = node.found_rows;
       meant = found_behind end.comments node.meant;
       placed = subst (λ v. RowsIn t (row ∷ y ∷ ys) (mark_row q ∷ node.found_rows) ds q v node.place r) (sym (comments_behind end.comments node.meaning))
-          (row_before (mark_stands q width key) (record { ascend = end_ascends end.end; is = end.is; start = end.start; tail = behind_line bare end.end no_leaf_to }) end.rest node.placed);
+          (row_before (mark_stands q column width key) (record { ascend = end_ascends end.end; is = end.is; start = end.start; tail = behind_line bare end.end no_leaf_to }) end.rest node.placed);
       is = texts_behind end.comments node.meaning ∙ (ap (λ z. z ++ texts node.meaning.comments) end.is ∙ ap (λ z. carried_texts (first ds) ++ z) node.is);
       laid = subst (λ z. MeaningLaid q node.place (behind end.comments node.meaning) (leaf_steps z ++ (comment_steps (carried_texts (first ds)) ++ steps_in (y ∷ ys) (after ds)))) (sym none)
           (laid_after (omega arith) (laid_behind end.comments node.meaning (end_ascends end.end) end.is (omega arith) node.laid));
@@ -230,7 +231,7 @@ one_directive {t} {d} row ds r q none bare said key fit u a w =
       words = ap (λ z. z ∷ []) at.are;
       rest = end.rest;
       is = end.is ∙ sym (append-nil (carried_texts (first ds)));
-      found_rows = record { items = q ∷ []; leaves = []; commented = false; from = q; upto = q + length row.text } ∷ [];
+      found_rows = record { items = q ∷ []; leaves = []; commented = false; column = row.column; from = q; upto = q + length row.text } ∷ [];
       heads = one_head_row refl no_head_row;
       placed = last_row (record {
         from = refl;
@@ -240,6 +241,7 @@ one_directive {t} {d} row ds r q none bare said key fit u a w =
         leaves = none_inside;
         commented = key;
         bare = λ z. never_bare z;
+        column = refl;
       }) (record {
         ascend = subst (λ v. Ascend t (q + length v) end.comments end.place) (sym said) (end_ascends end.end);
         is = end.is;

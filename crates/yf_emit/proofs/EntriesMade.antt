@@ -1,5 +1,6 @@
 -- Entries of a block collection, from their rows: items, explicit pairs, and entries one after the other.
 use Rattle.std.proofs.Common.{◌≡◌, ℕ, max, ◌+◌, ◌-◌, ◌≤◌, pos, Bool, true, false, List, [], ◌∷◌, ◌++◌, replicate, Option, Some, None, refl, sym, ap, ◌∙◌, subst, arith, append-nil, ◌⊎◌, ⊎_elim}
+use Rattle.std.specs.Prelude.{if◌then◌else◌}
 use Rattle.std.specs.Str.{IsUtf8}
 use Rattle.yf_chars.specs.declared.context.Ctx.TheVariants.{BlockIn, BlockOut}
 use Rattle.yf_chars.specs.Class.{is_ns_char, is_nb_char, is_printable, is_between, is_break_char, is_white, is_white_or_end}
@@ -16,12 +17,12 @@ use Rattle.yf_grammar.specs.Meant.{tall}
 use Rattle.yf_grammar.proofs.MeantLemmas.{texts_entering, texts_both}
 use Rattle.yf_emit.specs.Carried.{AreDecos, comments_in, Calm}
 use Rattle.yf_emit.specs.Decorated.{Deco, past, lines_then, inline_then}
-use Rattle.yf_emit.specs.Normal.{Setting, Spot, is_implicit}
+use Rattle.yf_emit.specs.Normal.{Setting, Spot, inner_spot, is_implicit, key_spot}
 use Rattle.yf_emit.specs.Rows.{Row, joined}
 use Rattle.yf_emit.specs.Steps.{steps_in}
 use Rattle.yf_emit.proofs.DecoratedLemmas.{inline_append}
 use Rattle.yf_emit.proofs.HeldLemmas.{Held, held_both, held_entering}
-use Rattle.yf_emit.proofs.FoundNodes.{FoundItem, FoundPair, found_item, found_explicit, meant_of}
+use Rattle.yf_emit.proofs.FoundNodes.{FoundItem, FoundNode, FoundPair, found_item, found_explicit, meant_of}
 use Rattle.yf_emit.proofs.LaidRows.{steps_append}
 use Rattle.yf_emit.proofs.NodesMade.{Stood, Claim, no_row, some_rows, sign_row, sign_made}
 use Rattle.yf_emit.proofs.PlacedRows.{PlacedRow, RowsIn, rows_in_append}
@@ -186,7 +187,7 @@ no_ns t i e = ⊎_elim (λ (z : code t i ≡ 32). ap is_ns_char z ∙ space_no_n
 ends_white : (t : List ℕ) (i : ℕ) → (code t i ≡ 32) ⊎ (code t i ≡ 10) → is_white_or_end (code t i) ≡ true
 ends_white t i e = ⊎_elim (λ (z : code t i ≡ 32). ap is_white_or_end z ∙ space_ends) (λ (z : code t i ≡ 10). ap is_white_or_end z ∙ feed_ends) e
 
-pub item_makes : {s : Setting} {x : Node} {spot : Spot} {rs : List Row} (column : ℕ) (items : List ℕ) (blank : Bool) → 2 ≤ s.style.indent → spot.entries ≡ column + s.style.indent
+pub item_makes : {s : Setting} {x : Node} {spot : Spot} {rs : List Row} (column : ℕ) (items : List ℕ) (blank : Bool) → 2 ≤ s.style.indent → spot ≡ inner_spot s.style column
     → Stood s x (pos column) BlockIn spot → Claim s x spot rs
     → EntryMakes s true column (tall x) (λ t m ps. FoundItem t s column x m ps) (joined (sign_row column 45 items blank) (s.style.indent - 1) rs)
 item_makes {s} {x} {spot} {rs} column items blank wide e stood k = record { starts = sign_begins column 45 items blank (s.style.indent - 1) k; made = made } where
@@ -194,7 +195,7 @@ item_makes {s} {x} {spot} {rs} column items blank wide e stood k = record { star
       → Rest t q (inline_then (joined (sign_row column 45 items blank) (s.style.indent - 1) rs) ds r)
       → EntryMade s true column (tall x) (λ t m ps. FoundItem t s column x m ps) t (joined (sign_row column 45 items blank) (s.style.indent - 1) rs) ds q r
   made {t} ds r q u a calm w =
-      let one = sign_made column 45 column items blank BlockIn ds r q (omega arith) (omega arith) wide k e u stood a calm w in
+      let one = sign_made column 45 items blank BlockIn ds r q (omega arith) (omega arith) wide k (ap (λ z. z.column) e) (ap (λ z. z.entries) e) u stood a calm w in
       record {
         height = one.height;
         place = one.place;
@@ -204,7 +205,7 @@ item_makes {s} {x} {spot} {rs} column items blank wide e stood k = record { star
         rest = one.rest;
         start = one.start;
         found_rows = one.found_rows;
-        meant = found_item q one.meant one.signed;
+        meant = found_item q (subst (λ z. FoundNode t s z x one.meaning one.inner) e one.meant) one.signed;
         placed = subst (λ z. RowsIn t (joined (sign_row column 45 items blank) (s.style.indent - 1) rs) one.found_rows ds q z one.place r) (sym (comments_entering q None one.meaning)) one.placed;
         is = texts_entering q None one.meaning ∙ one.is;
         laid = laid_entering q None one.meaning one.laid;
@@ -214,7 +215,7 @@ item_makes {s} {x} {spot} {rs} column items blank wide e stood k = record { star
 
 -- A pair after its `?`, with the value after a `:` on a line of its own.
 pub explicit_makes : {s : Setting} {k v : Node} {at to : Spot} {rs ls : List Row} (column : ℕ) (items : List ℕ) (blank : Bool) (places : List ℕ) → is_implicit s.style column k ≡ false → 2 ≤ s.style.indent
-    → at.entries ≡ column + s.style.indent → to.entries ≡ column + s.style.indent → Stood s k (pos column) BlockOut at → Stood s v (pos column) BlockOut to → Claim s k at rs → Claim s v to ls
+    → at ≡ key_spot s.style column k → to ≡ inner_spot s.style column → Stood s k (pos column) BlockOut at → Stood s v (pos column) BlockOut to → Claim s k at rs → Claim s v to ls
     → EntryMakes s false column (max (tall k) (tall v)) (λ t m ps. FoundPair t s column k v m ps)
     (joined (sign_row column 63 items blank) (s.style.indent - 1) rs ++ joined (sign_row column 58 places false) (s.style.indent - 1) ls)
 explicit_makes {s} {k} {v} {at} {to} {rs} {ls} column items blank places marked wide e f stood stands a b = record {
@@ -224,6 +225,9 @@ explicit_makes {s} {k} {v} {at} {to} {rs} {ls} column items blank places marked 
   keys : List Row
   keys = joined (sign_row column 63 items blank) (s.style.indent - 1) rs
 
+  behind_question : (key_spot s.style column k).column ≡ column + s.style.indent
+  behind_question = ap (λ z. if z then column else column + s.style.indent) marked
+
   values : List Row
   values = joined (sign_row column 58 places false) (s.style.indent - 1) ls
 
@@ -231,10 +235,10 @@ explicit_makes {s} {k} {v} {at} {to} {rs} {ls} column items blank places marked 
       → EntryMade s false column (max (tall k) (tall v)) (λ t m ps. FoundPair t s column k v m ps) t (keys ++ values) ds q r
   made {t} ds r q u ok calm w =
       let ks = calm_append keys values ds r calm in
-      let one = sign_made column 63 column items blank BlockOut ds (lines_then values (past keys ds) r) q (omega arith) (omega arith) wide a e u stood ok ks.0
+      let one = sign_made column 63 items blank BlockOut ds (lines_then values (past keys ds) r) q (omega arith) (omega arith) wide a (ap (λ z. z.column) e ∙ behind_question) (ap (λ z. z.entries) e) u stood ok ks.0
       (subst (λ z. Rest t q z) (inline_more values ds r (sign_begins column 63 items blank (s.style.indent - 1) a)) w) in
       let there = rest_spaces column one.place u (subst (λ z. Rest t one.place z) (lines_begin (past keys ds) r (sign_begins column 58 places false (s.style.indent - 1) b)) one.rest) in
-      let two = sign_made column 58 column places false BlockOut (past keys ds) r (one.place + column) (omega arith) (omega arith) wide b f u stands (past_decos keys ok) ks.1 there.1 in
+      let two = sign_made column 58 places false BlockOut (past keys ds) r (one.place + column) (omega arith) (omega arith) wide b (ap (λ z. z.column) f) (ap (λ z. z.entries) f) u stands (past_decos keys ok) ks.1 there.1 in
       let colon : ColonLine t column one.place = record { indent = there.0; colon = two.stands; behind = ends_white t (one.place + column + 1) two.behind } in
       let low : one.height ≤ tall k = one.low in
       let high : two.height ≤ tall v = two.low in
@@ -247,7 +251,7 @@ explicit_makes {s} {k} {v} {at} {to} {rs} {ls} column items blank places marked 
         rest = two.rest;
         start = two.start;
         found_rows = one.found_rows ++ two.found_rows;
-        meant = found_explicit q (one.place + column) marked one.meant one.signed two.meant two.signed;
+        meant = found_explicit q (one.place + column) marked (subst (λ z. FoundNode t s z k one.meaning one.inner) e one.meant) one.signed (subst (λ z. FoundNode t s z v two.meaning two.inner) f two.meant) two.signed;
         placed = subst (λ z. RowsIn t (keys ++ values) (one.found_rows ++ two.found_rows) ds q z two.place r)
             (sym (comments_both (entering q (Some (one.place + column)) one.meaning) two.meaning ∙ ap (λ z. z ++ two.meaning.comments) (comments_entering q (Some (one.place + column)) one.meaning)))
             (rows_in_more (sign_begins column 58 places false (s.style.indent - 1) b) one.placed two.placed);

@@ -5,6 +5,7 @@ use Rattle.std.proofs.lemmas.List.{length-map}
 use Rattle.yf_comments.specs.Comment.{CommentValue}
 use Rattle.yf_events.specs.Event.{stream_starts, stream_ends}
 use Rattle.yf_events.specs.Tree.{DocumentTree, flat_stream, unplaced}
+use Rattle.yf_events.specs.declared.document.Doc.{Doc}
 use Rattle.yf_events.specs.declared.lists.Lists.{Lists}
 use Rattle.yf_stream.specs.ReadingOf.{ReadingOf, doc_of}
 use Rattle.yf_stream.specs.Stream.{Documents}
@@ -38,6 +39,40 @@ stream_linked : {t : List ℕ} {rs : List Row} {ps : List PlacedRow} {ds : List 
 stream_linked before c no_stream = linked_none
 stream_linked before c (stream_in {ps = ps} {cs = cs} b rows) = subst (λ z. Linked (before ++ z) ps) (append-nil cs) (rows_linked before [] c rows)
 
+-- Readings of what formatting gives: the trees that are found, those of the reading but for notes on blank lines, and the rows that they stand on.
+pub record RootsRead (u : List ℕ) (c : Setting) (cs : List CommentValue) (es : List Doc) (trees read : List DocumentTree) (ps : List PlacedRow) : Type 0 where
+  pub found : List DocumentTree
+  pub roots : FoundRoots u c true es trees found ps
+  pub same : map bare_tree found ≡ map bare_tree read
+  pub settled : Settled c trees
+  pub quiet : AllQuiet cs ps
+  pub linked : Linked cs ps
+
+pub roots_read : (t u : List ℕ) (s : Style) (utf8 : IsUtf8 t) (f : Formats t s u) (q : Lists) (a : ReadingOf u q)
+    → RootsRead u (setting_of f.normal s) q.comments q.documents f.writes.trees a.trees (formats_laid t u s utf8 f).found_rows
+roots_read t u s utf8 f q a =
+    let all = formats_laid t u s utf8 f in
+    let m : Lists = f.normal in
+    let trees : List DocumentTree = f.writes.trees in
+    let c : Setting = setting_of m s in
+    let shapes = a.reads.shapes in
+    let derived : a.derived ≡ all.well.documents = all.well.reads.shapes.only shapes.height a.derived shapes.derived shapes.within in
+    let found : FoundDocuments u c true trees a.derived.documents all.found_rows = subst (λ (w : Documents). FoundDocuments u c true trees w.documents all.found_rows) (sym derived) all.found in
+    let comments : all.firsts ++ all.others ≡ a.derived.comments = sym all.are ∙ ap (λ (w : Documents). w.comments) (sym derived) in
+    let roots = roots_found found a.events in
+    let count : length q.documents ≡ length a.derived.documents = ap length a.documents ∙ length-map a.derived.documents doc_of in
+    let events : bared (flat_stream roots.trees) ≡ bared (flat_stream a.trees) =
+    ap (λ z. bared (unplaced stream_starts ∷ (z ++ (unplaced stream_ends ∷ [])))) (sym roots.events) ∙ (sym (noting_bare a.noted) ∙ ap bared a.of_reading.events) in
+    let n = normal_trees f in
+    record {
+      found = roots.trees;
+      roots = subst (λ z. FoundRoots u c true z trees roots.trees all.found_rows) (sym a.documents) roots.roots;
+      same = trees_bare q roots.trees a.trees (count ∙ roots.count) a.of_reading.documents events;
+      settled = subst (λ z. Settled c z) (sym (n.same ∙ ap (λ cs. map (normal_document t (record { style = s; comments = cs })) n.trees) (sym n.comments))) (normal_settled t c n.trees);
+      quiet = quiet_offsets a.comments (subst (λ z. AllQuiet z all.found_rows) comments (stream_quiet all.firsts (ascend_under all.ascend) all.placed));
+      linked = linked_offsets a.comments (subst (λ z. Linked z all.found_rows) comments (stream_linked all.firsts (decos_carry _ _ (rows_of m s trees)) all.placed));
+    }
+
 -- What is found in each reading q of what formatting gives: its trees, as they were laid out, on the rows of the layout.
 pub record FoundReading {t : List ℕ} {s : Style} {u : List ℕ} (f : Formats t s u) (q : Lists) (a : ReadingOf u q) : Type 0 where
   pub laid : FormattedLaid f
@@ -53,32 +88,18 @@ found_reading t u s q utf8 f a =
     let all = formats_laid t u s utf8 f in
     let m : Lists = f.normal in
     let trees : List DocumentTree = f.writes.trees in
-    let c : Setting = setting_of m s in
     let shapes = a.reads.shapes in
     let derived : a.derived ≡ all.well.documents = all.well.reads.shapes.only shapes.height a.derived shapes.derived shapes.within in
     let meant : DocumentsMeant m.documents trees a.derived.documents = subst (λ (w : Documents). DocumentsMeant m.documents trees w.documents) (sym derived) all.well.meant in
-    let found : FoundDocuments u c true trees a.derived.documents all.found_rows = subst (λ (w : Documents). FoundDocuments u c true trees w.documents all.found_rows) (sym derived) all.found in
-    let comments : all.firsts ++ all.others ≡ a.derived.comments = sym all.are ∙ ap (λ (w : Documents). w.comments) (sym derived) in
-    let quiet : AllQuiet q.comments all.found_rows =
-    quiet_offsets a.comments (subst (λ z. AllQuiet z all.found_rows) comments (stream_quiet all.firsts (ascend_under all.ascend) all.placed)) in
-    let linked : Linked q.comments all.found_rows =
-    linked_offsets a.comments (subst (λ z. Linked z all.found_rows) comments (stream_linked all.firsts (decos_carry _ _ (rows_of m s trees)) all.placed)) in
-    let roots = roots_found found a.events in
-    let count : length q.documents ≡ length a.derived.documents = ap length a.documents ∙ length-map a.derived.documents doc_of in
-    let events : bared (flat_stream roots.trees) ≡ bared (flat_stream a.trees) =
-    ap (λ z. bared (unplaced stream_starts ∷ (z ++ (unplaced stream_ends ∷ [])))) (sym roots.events) ∙ (sym (noting_bare a.noted) ∙ ap bared a.of_reading.events) in
-    let same : map bare_tree roots.trees ≡ map bare_tree a.trees = trees_bare q roots.trees a.trees (count ∙ roots.count) a.of_reading.documents events in
-    let n = normal_trees f in
-    let settled : Settled c trees =
-    subst (λ z. Settled c z) (sym (n.same ∙ ap (λ cs. map (normal_document t (record { style = s; comments = cs })) n.trees) (sym n.comments))) (normal_settled t c n.trees) in
-    let here : FoundTrees s m.comments u q.comments m.documents trees (map doc_of a.derived.documents) a.trees = trees_found a.trees meant roots.roots same settled quiet linked in
+    let read = roots_read t u s utf8 f q a in
+    let here : FoundTrees s m.comments u q.comments m.documents trees (map doc_of a.derived.documents) a.trees = trees_found a.trees meant read.roots read.same read.settled read.quiet read.linked in
     record {
       laid = all;
       derived = derived;
-      quiet = quiet;
-      trees = roots.trees;
-      roots = subst (λ z. FoundRoots u c true z trees roots.trees all.found_rows) (sym a.documents) roots.roots;
-      same = same;
+      quiet = read.quiet;
+      trees = read.found;
+      roots = read.roots;
+      same = read.same;
       alike = subst (λ z. FoundTrees s m.comments u q.comments m.documents trees z a.trees) (sym a.documents) here;
     }
 

@@ -3,6 +3,7 @@ use Rattle.std.proofs.Common.{◌≡◌, ℕ, suc, max, ◌≤◌, Bool, true, f
 use Rattle.std.specs.Prelude.{◌&&◌, if◌then◌else◌}
 use Rattle.std.specs.Str.{IsUtf8}
 use Rattle.yf_chars.specs.Chain.{Chain}
+use Rattle.yf_lines.specs.Basic.{LineStart}
 use Rattle.yf_lines.specs.Rest.{Rest}
 use Rattle.yf_lines.specs.declared.quotes.Quotes.{Quotes}
 use Rattle.yf_comments.specs.Comment.{CommentValue}
@@ -192,6 +193,7 @@ pub record FormattedLaid {t : List ℕ} {s : Style} {u : List ℕ} (f : Formats 
   pub held : EventsHeld u (all_events well.documents.documents) well.documents.comments (rows_of f.normal s f.writes.trees) (row_decos f.normal (rows_of f.normal s f.writes.trees)) []
   pub set : SetAll u s well.documents.documents
   pub line : ℕ
+  pub starts : LineStart u line
   pub firsts : List CommentValue
   pub others : List CommentValue
   pub told : texts firsts ≡ remarks_of (first_gap f.normal (rows_of f.normal s f.writes.trees))
@@ -238,6 +240,7 @@ formats_laid t u s utf8 f =
       held = laid.held;
       set = laid.set;
       line = laid.line;
+      starts = laid.starts;
       firsts = laid.firsts;
       others = laid.others;
       told = laid.told;

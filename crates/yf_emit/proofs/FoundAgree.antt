@@ -11,7 +11,7 @@ use Rattle.yf_grammar.specs.Meaning.{from_to}
 use Rattle.yf_grammar.proofs.NodePlaces.{NodeStands, stands_nowhere, scalar_stands, alias_stands, sequence_stands, mapping_stands, ItemsStand, no_items_stand, item_stands, PairsStand, no_pairs_stand, pair_stands, node_order, items_order, pairs_order}
 use Rattle.yf_emit.specs.ContentStart.{content_start, past_gap, past_second, property_len}
 use Rattle.yf_emit.specs.Kept.{has_comment, is_within}
-use Rattle.yf_emit.specs.Normal.{Setting, key_start, last_start}
+use Rattle.yf_emit.specs.Normal.{Setting, Spot, key_start, last_start}
 use Rattle.yf_emit.specs.Undisturbed.{Undisturbed, undisturbed_scalar, undisturbed_alias, undisturbed_sequence, undisturbed_mapping, UndisturbedItems, undisturbed_end, undisturbed_item, UndisturbedPairs, undisturbed_last, undisturbed_pair}
 use Rattle.yf_emit.proofs.CommentsCut.{In, in_first, in_rest, Each, each_none, each_more, each_map}
 use Rattle.yf_emit.proofs.FoundLines.{colon_order, leaves_inside}
@@ -29,25 +29,25 @@ trails_inner : {cs : List CommentValue} {ps : List PlacedRow} (h p : PlacedRow) 
 trails_inner h p e trails_nothing = trails_nothing
 trails_inner h p e (trails_to d i l m) = trails_to d i (omega (arith, e, l)) m
 
-pub sign_quiet : {cs : List CommentValue} {items : List ℕ} {ps hs : List PlacedRow} → SignRows items ps hs → AllQuiet cs hs → AllQuiet cs ps
+pub sign_quiet : {t : List ℕ} {cs : List CommentValue} {items : List ℕ} {ps hs : List PlacedRow} → SignRows t items ps hs → AllQuiet cs hs → AllQuiet cs ps
 sign_quiet (sign_alone e f g w) a = quiet_none
-sign_quiet (sign_joined {h = h} {p = p} e f g l m w) (quiet_row q a) = quiet_row (quiet_inner h p l m q) a
+sign_quiet (sign_joined {h = h} {p = p} e f g l m o w) (quiet_row q a) = quiet_row (quiet_inner h p l m q) a
 
-pub sign_linked : {cs : List CommentValue} {items : List ℕ} {ps hs : List PlacedRow} → SignRows items ps hs → Linked cs hs → Linked cs ps
+pub sign_linked : {t : List ℕ} {cs : List CommentValue} {items : List ℕ} {ps hs : List PlacedRow} → SignRows t items ps hs → Linked cs hs → Linked cs ps
 sign_linked (sign_alone e f g w) a = linked_none
-sign_linked (sign_joined {h = h} {p = p} e f g l m w) (linked_row q a) = linked_row (λ z. trails_inner h p m (q (g ∙ z))) a
+sign_linked (sign_joined {h = h} {p = p} e f g l m o w) (linked_row q a) = linked_row (λ z. trails_inner h p m (q (g ∙ z))) a
 
-pub key_quiet : {cs : List CommentValue} {items : List ℕ} {ls : List Span} {b below : Bool} {ps hs : List PlacedRow} → KeyRows items ls b below ps hs → AllQuiet cs hs → AllQuiet cs ps
+pub key_quiet : {t : List ℕ} {cs : List CommentValue} {items : List ℕ} {ls : List Span} {b below : Bool} {ps hs : List PlacedRow} → KeyRows t items ls b below ps hs → AllQuiet cs hs → AllQuiet cs ps
 key_quiet (key_commented e f g) (quiet_row q a) = a
 key_quiet (key_above e f g) (quiet_row q a) = a
 key_quiet (key_alone e f g) (quiet_row q a) = a
-key_quiet (key_joined {h = h} {p = p} e f g l m) (quiet_row q a) = quiet_row (quiet_inner h p l m q) a
+key_quiet (key_joined {h = h} {p = p} e f g l m o) (quiet_row q a) = quiet_row (quiet_inner h p l m q) a
 
-pub key_linked : {cs : List CommentValue} {items : List ℕ} {ls : List Span} {b below : Bool} {ps hs : List PlacedRow} → KeyRows items ls b below ps hs → Linked cs hs → Linked cs ps
+pub key_linked : {t : List ℕ} {cs : List CommentValue} {items : List ℕ} {ls : List Span} {b below : Bool} {ps hs : List PlacedRow} → KeyRows t items ls b below ps hs → Linked cs hs → Linked cs ps
 key_linked (key_commented e f g) (linked_row q a) = a
 key_linked (key_above e f g) (linked_row q a) = a
 key_linked (key_alone e f g) (linked_row q a) = a
-key_linked (key_joined {h = h} {p = p} e f g l m) (linked_row q a) = linked_row (λ z. trails_inner h p m (q (g ∙ z))) a
+key_linked (key_joined {h = h} {p = p} e f g l m o) (linked_row q a) = linked_row (λ z. trails_inner h p m (q (g ∙ z))) a
 
 -- Flow collections.
 
@@ -129,13 +129,13 @@ mutual
 row_none : {cs : List CommentValue} {a b : ℕ} (p : PlacedRow) → p.from ≤ a → b ≤ p.upto → Quiet cs p → NoneIn cs a b
 row_none p l m q = each_map (λ d n o. ⊎_elim (λ (z : d.offset < p.from). inl (omega (arith, l, z))) (λ (z : p.upto ≤ d.offset). inr (omega (arith, m, z))) o) q
 
-key_undisturbed : {t : List ℕ} {cs : List CommentValue} {k : Node} {hs : List PlacedRow} → KeyOn t k hs → AllQuiet cs hs → Undisturbed t cs k
-key_undisturbed (key_on {h = h} st l m e w) (quiet_row q a) = stands_undisturbed st (row_none h l (omega (arith, m)) q)
+key_undisturbed : {t : List ℕ} {cs : List CommentValue} {m : ℕ} {k : Node} {hs : List PlacedRow} → KeyOn t m k hs → AllQuiet cs hs → Undisturbed t cs k
+key_undisturbed (key_on {h = h} st l m e c text w) (quiet_row q a) = stands_undisturbed st (row_none h l (omega (arith, m)) q)
 
 mutual
-  pub rows_undisturbed : {t : List ℕ} {c : Setting} {cs : List CommentValue} {m : ℕ} {x y : Node} {ps : List PlacedRow} → NodeRows t c m x y ps → AllQuiet cs ps → Undisturbed t cs y
+  pub rows_undisturbed : {t : List ℕ} {c : Setting} {cs : List CommentValue} {spot : Spot} {x y : Node} {ps : List PlacedRow} → NodeRows t c spot x y ps → AllQuiet cs ps → Undisturbed t cs y
   rows_undisturbed (no_rows e) a = undisturbed_scalar
-  rows_undisturbed (line_rows {p = p} e n f g h st l m) (quiet_row q a) = stands_undisturbed st (row_none p l m q)
+  rows_undisturbed (line_rows {p = p} e n f g h st l m o w) (quiet_row q a) = stands_undisturbed st (row_none p l m q)
   rows_undisturbed (scalar_rows e n f g h) a = undisturbed_scalar
   rows_undisturbed (sequence_rows n e r) a = undisturbed_sequence (λ f. absurd (true≢false (sym f))) (item_rows_undisturbed r a)
   rows_undisturbed (sequence_behind n e f g h r) (quiet_row q a) = undisturbed_sequence (λ f. absurd (true≢false (sym f))) (item_rows_undisturbed r a)
@@ -163,8 +163,8 @@ later_last : {i j : ℕ} (other : ℕ) (ss : List Span) → i ≤ other → othe
 later_last other [] l m a = (l, m)
 later_last other (s ∷ ss) l m (one_inside n o a) = later_last s.start ss n o a
 
-pub key_between : {t : List ℕ} {k : Node} {h : PlacedRow} {hs : List PlacedRow} → KeyOn t k (h ∷ hs) → (h.from ≤ key_start k) × (key_start k < h.upto)
-key_between {k = k} {h = h} (key_on {a = a} {b = b} st l m e w) =
+pub key_between : {t : List ℕ} {n : ℕ} {k : Node} {h : PlacedRow} {hs : List PlacedRow} → KeyOn t n k (h ∷ hs) → (h.from ≤ key_start k) × (key_start k < h.upto)
+key_between {k = k} {h = h} (key_on {a = a} {b = b} st l m e c text w) =
     let o = node_order st in
     let w = later_last {i = h.from} {j = b} _ (leaves k) (omega (arith, e)) (omega (arith, e, l, o)) (inside_wider l (omega arith) (leaves_inside st)) in
     (w.0, let z = w.1 in omega (arith, z, m))
@@ -205,9 +205,9 @@ no_value (mapping at flow props no_pairs) e f = true≢false (sym e)
 no_value (mapping at true props (pair k v ps)) e f = true≢false (sym e)
 no_value (mapping at false props (pair k v ps)) e f = true≢false (sym f)
 
-pub value_row : {t : List ℕ} {c : Setting} {m : ℕ} {v w : Node} {ps : List PlacedRow} → NodeRows t c m v w ps → (is_text w || is_filled_flow w) ≡ true → OnRow w ps
+pub value_row : {t : List ℕ} {c : Setting} {spot : Spot} {v w : Node} {ps : List PlacedRow} → NodeRows t c spot v w ps → (is_text w || is_filled_flow w) ≡ true → OnRow w ps
 value_row (no_rows e) f = absurd (true≢false (sym f ∙ ap (λ o. is_some o || false) e))
-value_row (line_rows {p = p} e n f g h st l m) q = on_row (inside_wider l m (leaves_inside st))
+value_row (line_rows {p = p} e n f g h st l m o text) q = on_row (inside_wider l m (leaves_inside st))
 value_row (scalar_rows e n f g h) q = on_row n
 value_row (sequence_rows {bt = bt} {props = props} {ys = ys} n e r) f = absurd (no_value (sequence bt false props ys) n f)
 value_row (sequence_behind {bt = bt} {props = props} {ys = ys} n e f g h r) q = absurd (no_value (sequence bt false props ys) n q)

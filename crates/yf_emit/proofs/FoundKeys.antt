@@ -1,5 +1,5 @@
 -- Of nodes that are found on quiet rows a comment trails a key exactly where one trailed the key that was laid out.
-use Rattle.std.proofs.Common.{◌≡◌, ◌≢◌, ℕ, ◌+◌, ◌≤◌, Bool, true, false, not, ◌&&◌, ◌||◌, List, [], ◌∷◌, length, None, refl, sym, ap, ◌∙◌, arith, true≢false}
+use Rattle.std.proofs.Common.{◌≡◌, ◌≢◌, ℕ, ◌+◌, ◌≤◌, Bool, true, false, ◌&&◌, ◌||◌, List, [], ◌∷◌, length, None, refl, sym, ap, ◌∙◌, arith, true≢false}
 use Rattle.std.specs.Prelude.{is_some, nat_lt, nat_le, find, if◌then◌else◌}
 use Rattle.std.proofs.lemmas.Bool.{and_parts}
 use Rattle.std.proofs.lemmas.Bool.Decides.{nat_tests}
@@ -16,7 +16,7 @@ use Rattle.yf_emit.specs.Fits.{is_inline}
 use Rattle.yf_emit.specs.Normal.{Setting, Spot, first_between, fits, inner_spot, is_implicit, key_comment, key_spot, key_start, settled, settled_items, settled_pairs, value_entries, value_of_implicit, value_spot}
 use Rattle.yf_emit.specs.OneLine.{props_text, width, written}
 use Rattle.yf_emit.specs.Rows.{begins_below, is_empty_text}
-use Rattle.yf_emit.proofs.AlikeLemmas.{same_block, same_filled_flow, same_implicit, same_leaves, same_sequence, same_text}
+use Rattle.yf_emit.proofs.AlikeLemmas.{same_block, same_filled_flow, same_implicit, same_leaves, same_text}
 use Rattle.yf_emit.proofs.FixedNodes.{first_item, first_key, first_value, flow_of, items_of, more_items, more_pairs, pairs_of}
 use Rattle.yf_emit.proofs.FoundAgree.{OnRow, on_row, key_between, key_linked, key_quiet, no_value, none_found, sign_linked, sign_quiet, some_found, value_row}
 use Rattle.yf_emit.proofs.FoundNodes.{KeyRows, key_commented, key_above, key_alone, key_joined, KeyOn, NodeRows, no_rows, line_rows, scalar_rows, sequence_rows, sequence_behind, mapping_rows, mapping_behind, ItemsRows, no_item_rows, item_rows, PairRows, explicit_rows, implicit_rows, PairsRows, no_pair_rows, pair_rows}
@@ -38,8 +38,8 @@ first_met : (p : PlacedRow) (cs : List CommentValue) (from : ℕ) (ls : List Spa
 first_met p cs from [] n a f = absurd (n refl)
 first_met p cs from (s ∷ ss) n (one_inside l m a) f = f s.start l
 
-commented_key : {t : List ℕ} {c : Setting} {cs : List CommentValue} {m : ℕ} {l v w : Node} {items : List ℕ} {ls : List Span} {below : Bool} {ps hs : List PlacedRow} → KeyOn t l hs → NodeRows t c m v w ps
-    → KeyRows items ls true below ps hs → Linked cs hs → (is_text w || is_filled_flow w) ≡ true → leaves w ≢ [] → is_some (key_comment cs l w) ≡ true
+commented_key : {t : List ℕ} {c : Setting} {cs : List CommentValue} {m : ℕ} {spot : Spot} {l v w : Node} {items : List ℕ} {ls : List Span} {below : Bool} {ps hs : List PlacedRow} → KeyOn t m l hs → NodeRows t c spot v w ps
+    → KeyRows t items ls true below ps hs → Linked cs hs → (is_text w || is_filled_flow w) ≡ true → leaves w ≢ [] → is_some (key_comment cs l w) ≡ true
 commented_key {cs = cs} {l = l} {w = w} k r (key_commented {h = h} e f g) a q n = ap (λ b. is_some (if b then first_between cs (key_start l) (leaves w) else None)) q ∙ go (value_row r q) a where
   go : {ps : List PlacedRow} → OnRow w ps → Linked cs (h ∷ ps) → is_some (first_between cs (key_start l) (leaves w)) ≡ true
   go (on_row {p = p} inside) (linked_row trails more) = at (trails g) where
@@ -56,24 +56,24 @@ none_met : (p : PlacedRow) (cs : List CommentValue) (from : ℕ) (ls : List Span
 none_met p cs from [] a f = refl
 none_met p cs from (s ∷ ss) (one_inside l m a) f = f s.start m
 
-silent_rows : {t : List ℕ} {cs : List CommentValue} {l w : Node} {items : List ℕ} {ls : List Span} {below : Bool} {ps hs : List PlacedRow} → (is_text w || is_filled_flow w) ≡ true → begins_below w ≡ below
-    → KeyRows items ls false below ps hs → KeyOn t l hs → OnRow w ps → AllQuiet cs hs → first_between cs (key_start l) (leaves w) ≡ None
+silent_rows : {t : List ℕ} {cs : List CommentValue} {m : ℕ} {l w : Node} {items : List ℕ} {ls : List Span} {below : Bool} {ps hs : List PlacedRow} → (is_text w || is_filled_flow w) ≡ true → begins_below w ≡ below
+    → KeyRows t items ls false below ps hs → KeyOn t m l hs → OnRow w ps → AllQuiet cs hs → first_between cs (key_start l) (leaves w) ≡ None
 silent_rows {w = w} q e (key_above f g h) k o a = absurd (no_value w (and_parts (is_block_collection w) (is_empty_text (props_text (props_of w))) e).0 q)
 silent_rows q e (key_alone f g h) k o a = absurd (no_row o)
-silent_rows {cs = cs} {l = l} {w = w} q e (key_joined {h = h} {p = p} f g i lo same) k (on_row inside) (quiet_row quiet more) =
+silent_rows {cs = cs} {l = l} {w = w} q e (key_joined {h = h} {p = p} f g i lo same on) k (on_row inside) (quiet_row quiet more) =
     let b = (key_between k).0 in
     none_met p cs (key_start l) (leaves w) inside (λ to z. none_found (key_start l) to h.from h.upto b (omega (arith, same, z)) quiet)
 
-silent_key : {t : List ℕ} {c : Setting} {cs : List CommentValue} {m : ℕ} {l v w : Node} {items : List ℕ} {ls : List Span} {below : Bool} {ps hs : List PlacedRow} → begins_below w ≡ below → KeyOn t l hs
-    → NodeRows t c m v w ps → KeyRows items ls false below ps hs → AllQuiet cs hs → key_comment cs l w ≡ None
+silent_key : {t : List ℕ} {c : Setting} {cs : List CommentValue} {m : ℕ} {spot : Spot} {l v w : Node} {items : List ℕ} {ls : List Span} {below : Bool} {ps hs : List PlacedRow} → begins_below w ≡ below → KeyOn t m l hs
+    → NodeRows t c spot v w ps → KeyRows t items ls false below ps hs → AllQuiet cs hs → key_comment cs l w ≡ None
 silent_key {cs = cs} {l = l} {v = v} {w = w} e k r rows a = by (is_text w || is_filled_flow w) refl where
   by : (b : Bool) → (is_text w || is_filled_flow w) ≡ b → key_comment cs l w ≡ None
   by false q = ap (λ b. if b then first_between cs (key_start l) (leaves w) else None) q
   by true q = ap (λ b. if b then first_between cs (key_start l) (leaves w) else None) q ∙ silent_rows q e rows k (value_row r q) a
 
 -- as the key was laid out
-key_agrees : {t : List ℕ} {c : Setting} {cs : List CommentValue} {m : ℕ} {l v w : Node} {items : List ℕ} {ls : List Span} {ps hs : List PlacedRow} (k : Node) (b : Bool) → b ≡ is_some (key_comment c.comments k v) → Alike Anywhere v w
-    → KeyOn t l hs → NodeRows t c m v w ps → KeyRows items ls b (begins_below w) ps hs → AllQuiet cs hs → Linked cs hs
+key_agrees : {t : List ℕ} {c : Setting} {cs : List CommentValue} {m : ℕ} {spot : Spot} {l v w : Node} {items : List ℕ} {ls : List Span} {ps hs : List PlacedRow} (k : Node) (b : Bool) → b ≡ is_some (key_comment c.comments k v) → Alike Anywhere v w
+    → KeyOn t m l hs → NodeRows t c spot v w ps → KeyRows t items ls b (begins_below w) ps hs → AllQuiet cs hs → Linked cs hs
     → is_some (key_comment c.comments k v) ≡ is_some (key_comment cs l w)
 key_agrees {c = c} {v = v} {w = w} k true e a on r rows quiet linked =
     let value = some_value c.comments k v (sym e) in
@@ -166,10 +166,10 @@ mapping_parts : {at bt : Standing} {f g : Bool} {p r : PropsValue} {ps qs : Pair
 mapping_parts (alike_mappings e a) = (e, a)
 
 mutual
-  pub blocks_found : {t : List ℕ} {c : Setting} {cs : List CommentValue} {m : ℕ} {x y : Node} {ps : List PlacedRow} (spot : Spot) → spot.entries ≡ m → settled c spot x ≡ x → Alike Anywhere x y → NodeRows t c m x y ps
+  pub blocks_found : {t : List ℕ} {c : Setting} {cs : List CommentValue} {at : Spot} {x y : Node} {ps : List PlacedRow} (spot : Spot) → spot.entries ≡ at.entries → settled c spot x ≡ x → Alike Anywhere x y → NodeRows t c at x y ps
       → AllQuiet cs ps → Linked cs ps → AlikeBlocks c.style c.comments cs x y
   blocks_found spot e h (alike_scalars a) (no_rows f) q l = alike_lines (alike_scalars a) refl
-  blocks_found spot e h a (line_rows {y = y} f n g i j st k o) q l = alike_lines a (same_block a ∙ inline_no_block y f)
+  blocks_found spot e h a (line_rows {y = y} f n g i j st k o column text) q l = alike_lines a (same_block a ∙ inline_no_block y f)
   blocks_found spot e h (alike_scalars a) (scalar_rows f n g i j) q l = alike_lines (alike_scalars a) refl
   blocks_found {c = c} spot e h a (sequence_rows {at = at} {props = props} {xs = xs} f n r) q l =
       let b = sequence_parts a in alike_block_sequences b.0 (items_blocks spot.entries e (items_settle c spot at props xs h) b.1 r q l)
@@ -199,8 +199,7 @@ mutual
   pair_blocks {c = c} {m = m} {k = k} {v = v} {w = w} column e h i a b (implicit_rows flag g n on d f) q l more =
       let here : is_implicit c.style column k ≡ true = ap (λ z. is_implicit c.style z k) e ∙ (same_implicit c.style m a ∙ n) in
       let spot : (value_spot c column k v).entries ≡ value_entries c.style column v = ap (λ z. (if z then value_of_implicit c column k v else inner_spot c.style column).entries) here in
-      let entries : value_entries c.style column v ≡ value_entries c.style m w =
-      ap (λ z. value_entries c.style z v) e ∙ ap (λ z. if z && not c.style.seq_indent then m else m + c.style.indent) (same_sequence b) in
+      let entries : value_entries c.style column v ≡ value_entries c.style m v = ap (λ z. value_entries c.style z v) e in
       block_pair (alike_lines a (implicit_line c.style column k here)) (blocks_found (value_spot c column k v) (spot ∙ entries) i b d (key_quiet f q) (key_linked f l))
       (record { comment = λ other z. key_agrees k flag g b on d f q l }) more
 

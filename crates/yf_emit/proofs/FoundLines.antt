@@ -2,6 +2,7 @@
 use Rattle.std.proofs.Common.{◌≡◌, ◌≢◌, ℕ, ◌+◌, ◌<◌, ◌≤◌, true, false, List, [], ◌∷◌, ◌++◌, length, Option, Some, None, refl, sym, ap, ◌∙◌, subst, arith, append-nil}
 use Rattle.std.specs.Prelude.{is_some}
 use Rattle.yf_lines.specs.Basic.{LineStart}
+use Rattle.yf_lines.specs.LineText.{IsLineText}
 use Rattle.yf_lines.specs.Rest.{Rest}
 use Rattle.yf_comments.specs.Comment.{CommentValue}
 use Rattle.yf_comments.specs.Comments.{LineEnd}
@@ -18,14 +19,15 @@ use Rattle.yf_grammar.specs.Meant.{Anywhere, Meant}
 use Rattle.yf_grammar.proofs.CommentOrder.{Ascend, end_ascends}
 use Rattle.yf_grammar.proofs.NodePlaces.{ColonStands, no_colon, a_colon, NodeStands, stands_nowhere, scalar_stands, alias_stands, sequence_stands, mapping_stands, ItemsStand, no_items_stand, item_stands, PairsStand, no_pairs_stand, pair_stands, node_order, items_order, pairs_order, node_upto}
 use Rattle.yf_grammar.proofs.PlacedNodes.{NodeAt}
-use Rattle.yf_emit.specs.Normal.{Setting}
+use Rattle.yf_emit.specs.Normal.{Setting, Spot}
 use Rattle.yf_emit.specs.Carried.{carried_texts}
 use Rattle.yf_emit.specs.Decorated.{Deco, first}
 use Rattle.yf_emit.specs.Fits.{is_inline}
 use Rattle.yf_emit.specs.OneLine.{written}
 use Rattle.yf_emit.specs.Rows.{Row}
 use Rattle.yf_emit.proofs.AlikeLemmas.{same_written}
-use Rattle.yf_emit.proofs.FoundNodes.{FoundNode, line_rows, found_noting}
+use Rattle.yf_emit.proofs.FlowHeads.{Bracketed, is_bracketed}
+use Rattle.yf_emit.proofs.FoundNodes.{FoundNode, NodeText, line_rows, found_noting}
 use Rattle.yf_emit.proofs.PlacedRows.{Inside, none_inside, one_inside, inside_join, inside_wider, LeavesTo, no_leaf_to, leaf_to, leaves_to_join, leaves_to_wider, behind_line, PlacedRow, RowsIn, last_row}
 use Rattle.yf_emit.proofs.StepsStand.{starts_of, starts_append}
 
@@ -167,9 +169,9 @@ pub comments_noting : (x : Meaning) (cs : List CommentValue) → (noting x cs).c
 unfolding noting
 comments_noting x cs = refl
 
-pub record LineFound (t : List ℕ) (s : Setting) (m : ℕ) (x : Node) (meaning : Meaning) (row : Row) (ds : List Deco) (q place : ℕ) (z : List ℕ) : Type 0 where
+pub record LineFound (t : List ℕ) (s : Setting) (spot : Spot) (x : Node) (meaning : Meaning) (row : Row) (ds : List Deco) (q place : ℕ) (z : List ℕ) : Type 0 where
   pub found_rows : List PlacedRow
-  pub meant : FoundNode t s m x meaning found_rows
+  pub meant : FoundNode t s spot x meaning found_rows
   pub placed : RowsIn t (row ∷ []) found_rows ds q meaning.comments place z
 
 -- the node that a production means is the one that is placed
@@ -178,15 +180,28 @@ placed_node {x = x} a b =
     let same : b.node ≡ a.node = (node_unique b.node a.node [] [] (append-nil (flat b.node) ∙ (sym b.events ∙ (a.events ∙ sym (append-nil (flat a.node)))))).0 in
     subst (λ z. Alike Anywhere x z) same b.alike
 
-pub line_found : {t : List ℕ} {x : Node} {row : Row} {place q : ℕ} {cs : List CommentValue} {z : List ℕ} {mean : Meaning} (s : Setting) (m : ℕ) (ds : List Deco) → is_inline x ≡ true → written x ≢ []
-    → row.text ≡ written x → row.body ≡ [] → is_some row.key_comment ≡ false → NodeAt t q (q + length (written x)) mean → Meant x mean → mean.comments ≡ []
-    → LineEnd t (q + length (written x)) place cs → texts cs ≡ carried_texts (first ds) → LineStart t place → Rest t place z → LineFound t s m x (noting mean cs) row ds q place z
-line_found {t} {x} {row} {place} {q} {cs} {z} {mean} s m ds inline some text body key a b silent up is start w =
+-- it stands there as it was written
+pub node_text : {t : List ℕ} {x y : Node} {q : ℕ} (behind : List ℕ) → Alike Anywhere x y → IsLineText (written x) → Rest t q (written x ++ behind)
+    → (is_bracketed y ≡ true → Bracketed t q (q + length (written x)) y) → NodeText t q y
+node_text {t} {x} {y} {q} behind alike line there flow =
+    let said : written x ≡ written y = same_written alike in
+    record {
+      line = subst (λ w. IsLineText w) said line;
+      behind = behind;
+      there = subst (λ w. Rest t q (w ++ behind)) said there;
+      flow = λ f. subst (λ w. Bracketed t q (q + length w) y) said (flow f);
+    }
+
+pub line_found : {t : List ℕ} {x : Node} {row : Row} {place q : ℕ} {cs : List CommentValue} {z : List ℕ} {mean : Meaning} (s : Setting) (spot : Spot) (ds : List Deco) (behind : List ℕ) → is_inline x ≡ true → written x ≢ []
+    → row.text ≡ written x → row.column ≡ spot.column → row.body ≡ [] → is_some row.key_comment ≡ false → IsLineText (written x) → Rest t q (written x ++ behind)
+    → ((y : Node) → mean.events ≡ flat y → is_bracketed y ≡ true → Bracketed t q (q + length (written x)) y) → NodeAt t q (q + length (written x)) mean → Meant x mean → mean.comments ≡ []
+    → LineEnd t (q + length (written x)) place cs → texts cs ≡ carried_texts (first ds) → LineStart t place → Rest t place z → LineFound t s spot x (noting mean cs) row ds q place z
+line_found {t} {x} {row} {place} {q} {cs} {z} {mean} s spot ds behind inline some text column body key line there flow a b silent up is start w =
     let alike : Alike Anywhere x a.node = placed_node a b in
     let stands : NodeStands t q (q + length (written x)) a.node = node_upto a.stands a.ends in
     let width : length (written x) ≡ length row.text = ap length (sym text) in
     let here : NodeStands t q (q + length row.text) a.node = subst (λ k. NodeStands t q (q + k) a.node) width stands in
-    let p : PlacedRow = record { items = items_in a.node; leaves = leaves a.node; commented = false; from = q; upto = q + length row.text } in
+    let p : PlacedRow = record { items = items_in a.node; leaves = leaves a.node; commented = false; column = row.column; from = q; upto = q + length row.text } in
     let same : (noting mean cs).comments ≡ cs = comments_noting mean cs ∙ ap (λ w. w ++ cs) silent in
     record {
       found_rows = p ∷ [];
@@ -195,7 +210,7 @@ line_found {t} {x} {row} {place} {q} {cs} {z} {mean} s m ds inline some text bod
         alike = alike;
         events = a.events;
         escapes = b.escapes;
-        rows = line_rows (sym (same_inline alike) ∙ inline) (λ e. some (same_written alike ∙ e)) refl refl refl here (omega arith) (omega arith);
+        rows = line_rows (sym (same_inline alike) ∙ inline) (λ e. some (same_written alike ∙ e)) refl refl refl here (omega arith) (omega arith) column (node_text behind alike line there (λ f. flow a.node a.events f));
       });
       placed = subst (λ v. RowsIn t (row ∷ []) (p ∷ []) ds q v place z) (sym same) (last_row (record {
         from = refl;
@@ -205,6 +220,7 @@ line_found {t} {x} {row} {place} {q} {cs} {z} {mean} s m ds inline some text bod
         leaves = leaves_inside here;
         commented = key;
         bare = λ z. absurd (items_some here (λ e. some (same_written alike ∙ e)) z);
+        column = refl;
       }) (record {
         ascend = subst (λ k. Ascend t (q + k) cs place) width (end_ascends up);
         is = is;

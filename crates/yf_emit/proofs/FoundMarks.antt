@@ -12,7 +12,7 @@ use Rattle.yf_emit.specs.Normal.{Setting, Spot, inner_spot, is_implicit, key_com
 use Rattle.yf_emit.specs.OneLine.{props_text, written}
 use Rattle.yf_emit.specs.RowShapes.{KeysAgree}
 use Rattle.yf_emit.specs.Rows.{Row, behind_key, behind_sign, colon_row, entry_row, explicit_pair, implicit_pair, is_empty_text, joined, key_row, one_line_row, pair_rows as rows_of_pair, props_row, rows, rows_of_items, rows_of_pairs}
-use Rattle.yf_emit.proofs.AlikeLemmas.{same_block, same_implicit, setting}
+use Rattle.yf_emit.proofs.AlikeLemmas.{same_block, same_implicit, same_value_entries, setting}
 use Rattle.yf_emit.proofs.FixedBlocks.{blocks_alike}
 use Rattle.yf_emit.proofs.FoundNodes.{SignRows, sign_alone, sign_joined, KeyRows, key_commented, key_above, key_alone, key_joined, NodeRows, no_rows, line_rows, scalar_rows, sequence_rows, sequence_behind, mapping_rows, mapping_behind, ItemsRows, no_item_rows, item_rows, PairRows, explicit_rows, implicit_rows, PairsRows, no_pair_rows, pair_rows}
 use Rattle.yf_emit.proofs.PlacedRows.{PlacedRow}
@@ -45,18 +45,18 @@ marks_join xs ys ps qs e f =
     ∙ sym (map-append (λ (p : PlacedRow). (p.items, p.leaves)) ps qs)))
 
 -- behind a sign
-sign_marks : {items : List ℕ} {ps hs : List PlacedRow} (head : Row) (n : ℕ) (rs : List Row) → head.items ≡ items → head.leaves ≡ [] → SignRows items ps hs → marks rs ≡ placed_marks ps
+sign_marks : {t : List ℕ} {items : List ℕ} {ps hs : List PlacedRow} (head : Row) (n : ℕ) (rs : List Row) → head.items ≡ items → head.leaves ≡ [] → SignRows t items ps hs → marks rs ≡ placed_marks ps
     → marks (joined head n rs) ≡ placed_marks hs
 sign_marks head n [] e f (sign_alone a b c w) m = both_marks [] (e ∙ sym a) (f ∙ sym b)
 sign_marks head n (r ∷ rs) e f (sign_alone a b c w) m = absurd cc
-sign_marks head n [] e f (sign_joined a b c l k w) m = absurd cc
-sign_marks {items = items} head n (r ∷ rs) e f (sign_joined {h = h} {p = p} {ps = ps} a b c l k w) m =
+sign_marks head n [] e f (sign_joined a b c l k o w) m = absurd cc
+sign_marks {items = items} head n (r ∷ rs) e f (sign_joined {h = h} {p = p} {ps = ps} a b c l k o w) m =
     let one : (r.items, r.leaves) ≡ (p.items, p.leaves) = ap (first_mark (r.items, r.leaves)) m in
     both_marks (marks rs) (ap (λ z. z ++ r.items) e ∙ (ap (λ z. items ++ z.0) one ∙ sym a)) (ap (λ z. z ++ r.leaves) f ∙ (ap (λ z. z.1) one ∙ sym b)) ∙ ap (λ z. (h.items, h.leaves) ∷ z) (ap other_marks m)
 
 -- behind a key
-key_marks : {items : List ℕ} {ls : List Span} {b below : Bool} {ps hs : List PlacedRow} (head : Row) (o : Option CommentValue) (rs : List Row) → head.items ≡ items → head.leaves ≡ ls → is_some o ≡ b
-    → KeyRows items ls b below ps hs → marks rs ≡ placed_marks ps → marks (behind_key head o below rs) ≡ placed_marks hs
+key_marks : {t : List ℕ} {items : List ℕ} {ls : List Span} {b below : Bool} {ps hs : List PlacedRow} (head : Row) (o : Option CommentValue) (rs : List Row) → head.items ≡ items → head.leaves ≡ ls → is_some o ≡ b
+    → KeyRows t items ls b below ps hs → marks rs ≡ placed_marks ps → marks (behind_key head o below rs) ≡ placed_marks hs
 key_marks head None rs e f g (key_commented a b c) m = absurd (true≢false (sym g))
 key_marks head (Some d) rs e f g (key_commented {h = h} a b c) m = both_marks (marks rs) (e ∙ sym a) (f ∙ sym b) ∙ ap (λ z. (h.items, h.leaves) ∷ z) m
 key_marks head None rs e f g (key_above {h = h} a b c) m = both_marks (marks rs) (e ∙ sym a) (f ∙ sym b) ∙ ap (λ z. (h.items, h.leaves) ∷ z) m
@@ -64,11 +64,11 @@ key_marks head (Some d) rs e f g (key_above a b c) m = absurd (true≢false g)
 key_marks head None [] e f g (key_alone a b c) m = both_marks [] (e ∙ sym a) (f ∙ sym b)
 key_marks head None (r ∷ rs) e f g (key_alone a b c) m = absurd cc
 key_marks head (Some d) rs e f g (key_alone a b c) m = absurd (true≢false g)
-key_marks head None [] e f g (key_joined a b c l k) m = absurd cc
-key_marks {items = items} {ls = ls} head None (r ∷ rs) e f g (key_joined {h = h} {p = p} {ps = ps} a b c l k) m =
+key_marks head None [] e f g (key_joined a b c l k o) m = absurd cc
+key_marks {items = items} {ls = ls} head None (r ∷ rs) e f g (key_joined {h = h} {p = p} {ps = ps} a b c l k o) m =
     let one : (r.items, r.leaves) ≡ (p.items, p.leaves) = ap (first_mark (r.items, r.leaves)) m in
     both_marks (marks rs) (ap (λ z. z ++ r.items) e ∙ (ap (λ z. items ++ z.0) one ∙ sym a)) (ap (λ z. z ++ r.leaves) f ∙ (ap (λ z. ls ++ z.1) one ∙ sym b)) ∙ ap (λ z. (h.items, h.leaves) ∷ z) (ap other_marks m)
-key_marks head (Some d) rs e f g (key_joined a b c l k) m = absurd (true≢false g)
+key_marks head (Some d) rs e f g (key_joined a b c l k o) m = absurd (true≢false g)
 
 -- Trees.
 
@@ -95,10 +95,10 @@ mapping_blocks (alike_lines a e) n = absurd (true≢false (sym n ∙ (sym (same_
 mapping_blocks (alike_block_mappings e a) n = a
 
 mutual
-  pub node_marks : {t : List ℕ} {c : Setting} {m : ℕ} {x y : Node} {ps : List PlacedRow} (cs : List CommentValue) (spot : Spot) → spot.entries ≡ m → AlikeBlocks c.style c.comments cs x y → NodeRows t c m x y ps
+  pub node_marks : {t : List ℕ} {c : Setting} {at : Spot} {x y : Node} {ps : List PlacedRow} (cs : List CommentValue) (spot : Spot) → spot.entries ≡ at.entries → AlikeBlocks c.style c.comments cs x y → NodeRows t c at x y ps
       → marks (rows (setting c.style cs) spot y) ≡ placed_marks ps
   node_marks cs spot e a (no_rows f) = refl
-  node_marks {c = c} cs spot e a (line_rows {y = y} {p = p} f n g h i st k l) =
+  node_marks {c = c} cs spot e a (line_rows {y = y} {p = p} f n g h i st k l o w) =
       ap marks (inline_rows (setting c.style cs) spot y f) ∙ line_marks spot.column y (written y) p n g h
   node_marks {c = c} cs spot e a (scalar_rows {at = at} {props = props} {style = style} {text = text} {lines = lines} f n g h i) =
       ap marks (scalar_rows_are (setting c.style cs) spot at props text lines style f) ∙ both_marks [] (sym g) (sym h)
@@ -141,7 +141,7 @@ mutual
       ap (λ z. marks (if z then implicit_pair (setting c.style cs) column l w (rows (setting c.style cs) (value_spot (setting c.style cs) column l w) w)
       else explicit_pair c.style column l (rows (setting c.style cs) (key_spot c.style column l) l) (rows (setting c.style cs) (value_spot (setting c.style cs) column l w) w))) here
       ∙ key_marks (key_row column l) (key_comment cs l w) _ refl refl told f
-      (node_marks cs (value_spot (setting c.style cs) column l w) (spot ∙ ap (λ z. value_entries c.style z w) e) b d)
+      (node_marks cs (value_spot (setting c.style cs) column l w) (spot ∙ (ap (λ z. value_entries c.style z w) e ∙ sym (same_value_entries c.style m (blocks_alike b)))) b d)
 
   pairs_marks : {t : List ℕ} {c : Setting} {m : ℕ} {xs ys : Pairs} {ps : List PlacedRow} (cs : List CommentValue) (column : ℕ) → column ≡ m → AlikeBlockPairs c.style c.comments cs xs ys → PairsRows t c m xs ys ps
       → marks (rows_of_pairs (setting c.style cs) column ys) ≡ placed_marks ps

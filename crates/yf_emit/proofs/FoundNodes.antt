@@ -1,25 +1,28 @@
 -- A node that is found where rows were laid out: it differs from the one that was by places alone, and its parts stand on those rows.
-use Rattle.std.proofs.Common.{◌≡◌, ◌≢◌, ℕ, ◌+◌, ◌<◌, ◌≤◌, Bool, true, false, List, [], ◌∷◌, ◌++◌, map, Option, Some, None, refl, sym, ap, ◌∙◌, subst, arith, append_assoc, append-nil}
-use Rattle.std.specs.Prelude.{is_some, not, ◌&&◌, if◌then◌else◌}
+use Rattle.std.proofs.Common.{◌≡◌, ◌≢◌, ℕ, ◌+◌, ◌<◌, ◌≤◌, Bool, true, false, List, [], ◌∷◌, ◌++◌, length, map, Option, Some, None, refl, sym, ap, ◌∙◌, subst, arith, append_assoc, append-nil}
+use Rattle.std.specs.Prelude.{is_some}
+use Rattle.yf_lines.specs.LineText.{IsLineText}
+use Rattle.yf_lines.specs.Rest.{Rest}
 use Rattle.yf_comments.specs.Comment.{CommentValue}
 use Rattle.yf_props.specs.Props.{PropsValue, no_props}
 use Rattle.yf_events.specs.Alike.{Alike, alike_scalars, alike_aliases, alike_sequences, alike_mappings, AlikeItems, alike_nothing, alike_item, AlikePairs, alike_no_pairs, alike_pair}
-use Rattle.yf_events.specs.Event.{sequence_starts, sequence_ends, mapping_starts, mapping_ends}
 use Rattle.yf_events.specs.declared.event.Entry.{Entry}
 use Rattle.yf_events.specs.declared.event.ScalarStyle.{ScalarStyle}
 use Rattle.yf_events.specs.declared.event.ScalarStyle.TheVariants.{Plain, Single, Double, Literal, Folded}
 use Rattle.yf_events.specs.declared.event.Span.{Span}
-use Rattle.yf_events.specs.Tree.{Standing, Node, scalar, alias, sequence, mapping, Items, no_items, item, Pairs, no_pairs, pair, flat, flat_items, flat_pairs, leaves, items_in, entry_start, starts_of_entry, standing, spans_of_leaf, is_block_collection, placed, unplaced}
-use Rattle.yf_grammar.specs.Meaning.{Meaning, ◌⊕◌, behind, noting, plain_event, from_to, empty_node, collection, with_props, first_entering, entering}
+use Rattle.yf_events.specs.Tree.{Standing, Node, scalar, alias, sequence, mapping, Items, no_items, item, Pairs, no_pairs, pair, flat, flat_items, flat_pairs, leaves, items_in, entry_start, starts_of_entry, standing, spans_of_leaf, is_block_collection}
+use Rattle.yf_grammar.specs.Meaning.{Meaning, ◌⊕◌, behind, noting, plain_event, empty_node, first_entering, entering}
 use Rattle.yf_grammar.specs.Meant.{Anywhere, Meant}
 use Rattle.yf_grammar.proofs.MeantLemmas.{entered, entered_events}
 use Rattle.yf_events.proofs.TreeLemmas.{node_unique}
 use Rattle.yf_grammar.proofs.NodePlaces.{NodeStands, stands_nowhere, scalar_stands, alias_stands, sequence_stands, mapping_stands}
 use Rattle.yf_emit.specs.Fits.{is_block_style, is_inline}
-use Rattle.yf_emit.specs.Normal.{Setting, entry_or, is_implicit, key_comment, value_entries}
+use Rattle.yf_emit.specs.Normal.{Setting, Spot, entry_or, inner_spot, is_implicit, key_comment, key_spot, value_of_implicit}
 use Rattle.yf_emit.specs.OneLine.{written, props_text}
 use Rattle.yf_emit.specs.Rows.{begins_below, colon_offset, is_empty_text}
-use Rattle.yf_emit.proofs.AlikeLemmas.{same_below, same_block, same_implicit, same_sequence}
+use Rattle.yf_emit.proofs.AlikeLemmas.{same_below, same_implicit}
+use Rattle.yf_emit.proofs.FlowHeads.{Bracketed, bracketed_entered, is_bracketed, is_bracketed_entered}
+use Rattle.yf_emit.proofs.LinePlaces.{OnLine}
 use Rattle.yf_emit.proofs.PlacedRows.{Inside, PlacedRow}
 
 -- the first of some items begins at q
@@ -28,61 +31,69 @@ IsHead [] q = ⊥
 IsHead (i ∷ is) q = i ≡ q
 
 -- a row that a sign begins, with these items, and the rows of what stands behind it
-pub data SignRows (items : List ℕ) : List PlacedRow → List PlacedRow → Type 0 where
-  sign_alone : {h : PlacedRow} → h.items ≡ items → h.leaves ≡ [] → h.commented ≡ false → IsHead items h.from → SignRows items [] (h ∷ [])
+pub data SignRows (t : List ℕ) (items : List ℕ) : List PlacedRow → List PlacedRow → Type 0 where
+  sign_alone : {h : PlacedRow} → h.items ≡ items → h.leaves ≡ [] → h.commented ≡ false → IsHead items h.from → SignRows t items [] (h ∷ [])
   sign_joined : {h p : PlacedRow} {ps : List PlacedRow} → h.items ≡ items ++ p.items → h.leaves ≡ p.leaves → h.commented ≡ p.commented → h.from ≤ p.from → p.upto ≡ h.upto
-      → IsHead items h.from → SignRows items (p ∷ ps) (h ∷ ps)
+      → (OnLine t h.column h.from → OnLine t p.column p.from) → IsHead items h.from → SignRows t items (p ∷ ps) (h ∷ ps)
 
 -- a row that an implicit key begins, with these items and leaves, which a comment trails or not, and the rows of its value, which begins on a line
 -- of its own or not
-pub data KeyRows (items : List ℕ) (leaves : List Span) : Bool → Bool → List PlacedRow → List PlacedRow → Type 0 where
-  key_commented : {below : Bool} {h : PlacedRow} {ps : List PlacedRow} → h.items ≡ items → h.leaves ≡ leaves → h.commented ≡ true → KeyRows items leaves true below ps (h ∷ ps)
-  key_above : {h : PlacedRow} {ps : List PlacedRow} → h.items ≡ items → h.leaves ≡ leaves → h.commented ≡ false → KeyRows items leaves false true ps (h ∷ ps)
-  key_alone : {h : PlacedRow} → h.items ≡ items → h.leaves ≡ leaves → h.commented ≡ false → KeyRows items leaves false false [] (h ∷ [])
+pub data KeyRows (t : List ℕ) (items : List ℕ) (leaves : List Span) : Bool → Bool → List PlacedRow → List PlacedRow → Type 0 where
+  key_commented : {below : Bool} {h : PlacedRow} {ps : List PlacedRow} → h.items ≡ items → h.leaves ≡ leaves → h.commented ≡ true → KeyRows t items leaves true below ps (h ∷ ps)
+  key_above : {h : PlacedRow} {ps : List PlacedRow} → h.items ≡ items → h.leaves ≡ leaves → h.commented ≡ false → KeyRows t items leaves false true ps (h ∷ ps)
+  key_alone : {h : PlacedRow} → h.items ≡ items → h.leaves ≡ leaves → h.commented ≡ false → KeyRows t items leaves false false [] (h ∷ [])
   key_joined : {h p : PlacedRow} {ps : List PlacedRow} → h.items ≡ items ++ p.items → h.leaves ≡ leaves ++ p.leaves → h.commented ≡ p.commented → h.from ≤ p.from
-      → p.upto ≡ h.upto → KeyRows items leaves false false (p ∷ ps) (h ∷ ps)
+      → p.upto ≡ h.upto → (OnLine t h.column h.from → OnLine t p.column p.from) → KeyRows t items leaves false false (p ∷ ps) (h ∷ ps)
 
--- the first of these rows begins at q, and what stands on it has begun before e
-pub data HeadAt (q e : ℕ) : List PlacedRow → Type 0 where
-  head_at : {h : PlacedRow} {hs : List PlacedRow} → h.from ≡ q → e ≤ h.upto → HeadAt q e (h ∷ hs)
+-- the first of these rows stands at the column m and begins at q, and what stands on it has begun before e
+pub data HeadAt (m q e : ℕ) : List PlacedRow → Type 0 where
+  head_at : {h : PlacedRow} {hs : List PlacedRow} → h.column ≡ m → h.from ≡ q → e ≤ h.upto → HeadAt m q e (h ∷ hs)
 
--- the key stands on the first of these rows
-pub data KeyOn (t : List ℕ) (k : Node) : List PlacedRow → Type 0 where
-  key_on : {a b : ℕ} {h : PlacedRow} {hs : List PlacedRow} → NodeStands t a b k → h.from ≤ a → b < h.upto → entry_or 0 (standing k).entry ≡ h.from → is_some (standing k).entry ≡ true → KeyOn t k (h ∷ hs)
+-- a node on one line stands as it is written from i on; a flow collection has this part of the text
+pub record NodeText (t : List ℕ) (i : ℕ) (y : Node) : Type 0 where
+  pub line : IsLineText (written y)
+  pub behind : List ℕ
+  pub there : Rest t i (written y ++ behind)
+  pub flow : is_bracketed y ≡ true → Bracketed t i (i + length (written y)) y
 
-pub key_at : {t : List ℕ} {k : Node} {q e : ℕ} {hs : List PlacedRow} → NodeStands t q e k → entry_or 0 (standing k).entry ≡ q → is_some (standing k).entry ≡ true → HeadAt q (e + 1) hs → KeyOn t k hs
-key_at n g some (head_at f l) = key_on n (omega (arith, f)) (omega (arith, l)) (g ∙ sym f) some
+-- the key stands on the first of these rows, which stands at the column m
+pub data KeyOn (t : List ℕ) (m : ℕ) (k : Node) : List PlacedRow → Type 0 where
+  key_on : {a b : ℕ} {h : PlacedRow} {hs : List PlacedRow} → NodeStands t a b k → h.from ≤ a → b < h.upto → entry_or 0 (standing k).entry ≡ h.from → h.column ≡ m → NodeText t h.from k
+      → is_some (standing k).entry ≡ true → KeyOn t m k (h ∷ hs)
 
--- The rows of a node whose entries stand at a column.
+pub key_at : {t : List ℕ} {m : ℕ} {k : Node} {q e : ℕ} {hs : List PlacedRow} → NodeStands t q e k → entry_or 0 (standing k).entry ≡ q → NodeText t q k → is_some (standing k).entry ≡ true → HeadAt m q (e + 1) hs → KeyOn t m k hs
+key_at {t} {k = k} n g w some (head_at c f l) = key_on n (omega (arith, f)) (omega (arith, l)) (g ∙ sym f) c (subst (λ i. NodeText t i k) (sym f) w) some
+
+-- The rows of a node that was laid out at a spot.
 mutual
-  pub data NodeRows (t : List ℕ) (s : Setting) : ℕ → Node → Node → List PlacedRow → Type 0 where
-    no_rows : {m : ℕ} {x : Node} {at : Standing} {lines : List (List ℕ)} → at.span ≡ None → NodeRows t s m x (scalar at no_props Plain [] lines) []
-    line_rows : {m a b : ℕ} {x y : Node} {p : PlacedRow} → is_inline y ≡ true → written y ≢ [] → p.items ≡ items_in y → p.leaves ≡ leaves y → p.commented ≡ false
-        → NodeStands t a b y → p.from ≤ a → b ≤ p.upto → NodeRows t s m x y (p ∷ [])
-    scalar_rows : {m : ℕ} {x : Node} {at : Standing} {props : PropsValue} {style : ScalarStyle} {text : List ℕ} {lines : List (List ℕ)} {p : PlacedRow} → is_block_style style ≡ true
-        → Inside p.from p.upto (map (λ s. s.start) (spans_of_leaf at.span)) → p.items ≡ map (λ s. s.start) (spans_of_leaf at.span) → p.leaves ≡ spans_of_leaf at.span → p.commented ≡ false → NodeRows t s m x (scalar at props style text lines) (p ∷ [])
-    sequence_rows : {m : ℕ} {at bt : Standing} {props : PropsValue} {xs ys : Items} {ps : List PlacedRow} → is_block_collection (sequence bt false props ys) ≡ true → is_empty_text (props_text props) ≡ true → ItemsRows t s m xs ys ps
-        → NodeRows t s m (sequence at false props xs) (sequence bt false props ys) ps
-    sequence_behind : {m : ℕ} {at bt : Standing} {props : PropsValue} {xs ys : Items} {p : PlacedRow} {ps : List PlacedRow} → is_block_collection (sequence bt false props ys) ≡ true
+  pub data NodeRows (t : List ℕ) (s : Setting) : Spot → Node → Node → List PlacedRow → Type 0 where
+    no_rows : {spot : Spot} {x : Node} {at : Standing} {lines : List (List ℕ)} → at.span ≡ None → NodeRows t s spot x (scalar at no_props Plain [] lines) []
+    line_rows : {spot : Spot} {a b : ℕ} {x y : Node} {p : PlacedRow} → is_inline y ≡ true → written y ≢ [] → p.items ≡ items_in y → p.leaves ≡ leaves y → p.commented ≡ false
+        → NodeStands t a b y → p.from ≤ a → b ≤ p.upto → p.column ≡ spot.column → NodeText t p.from y → NodeRows t s spot x y (p ∷ [])
+    scalar_rows : {spot : Spot} {x : Node} {at : Standing} {props : PropsValue} {style : ScalarStyle} {text : List ℕ} {lines : List (List ℕ)} {p : PlacedRow} → is_block_style style ≡ true
+        → Inside p.from p.upto (map (λ s. s.start) (spans_of_leaf at.span)) → p.items ≡ map (λ s. s.start) (spans_of_leaf at.span) → p.leaves ≡ spans_of_leaf at.span → p.commented ≡ false → NodeRows t s spot x (scalar at props style text lines) (p ∷ [])
+    sequence_rows : {spot : Spot} {at bt : Standing} {props : PropsValue} {xs ys : Items} {ps : List PlacedRow} → is_block_collection (sequence bt false props ys) ≡ true → is_empty_text (props_text props) ≡ true → ItemsRows t s spot.entries xs ys ps
+        → NodeRows t s spot (sequence at false props xs) (sequence bt false props ys) ps
+    sequence_behind : {spot : Spot} {at bt : Standing} {props : PropsValue} {xs ys : Items} {p : PlacedRow} {ps : List PlacedRow} → is_block_collection (sequence bt false props ys) ≡ true
         → is_empty_text (props_text props) ≡ false → p.items ≡ [] → p.leaves ≡ []
-        → p.commented ≡ false → ItemsRows t s m xs ys ps → NodeRows t s m (sequence at false props xs) (sequence bt false props ys) (p ∷ ps)
-    mapping_rows : {m : ℕ} {at bt : Standing} {props : PropsValue} {xs ys : Pairs} {ps : List PlacedRow} → is_block_collection (mapping bt false props ys) ≡ true → is_empty_text (props_text props) ≡ true → PairsRows t s m xs ys ps
-        → NodeRows t s m (mapping at false props xs) (mapping bt false props ys) ps
-    mapping_behind : {m : ℕ} {at bt : Standing} {props : PropsValue} {xs ys : Pairs} {p : PlacedRow} {ps : List PlacedRow} → is_block_collection (mapping bt false props ys) ≡ true
+        → p.commented ≡ false → ItemsRows t s spot.entries xs ys ps → NodeRows t s spot (sequence at false props xs) (sequence bt false props ys) (p ∷ ps)
+    mapping_rows : {spot : Spot} {at bt : Standing} {props : PropsValue} {xs ys : Pairs} {ps : List PlacedRow} → is_block_collection (mapping bt false props ys) ≡ true → is_empty_text (props_text props) ≡ true → PairsRows t s spot.entries xs ys ps
+        → NodeRows t s spot (mapping at false props xs) (mapping bt false props ys) ps
+    mapping_behind : {spot : Spot} {at bt : Standing} {props : PropsValue} {xs ys : Pairs} {p : PlacedRow} {ps : List PlacedRow} → is_block_collection (mapping bt false props ys) ≡ true
         → is_empty_text (props_text props) ≡ false → p.items ≡ [] → p.leaves ≡ []
-        → p.commented ≡ false → PairsRows t s m xs ys ps → NodeRows t s m (mapping at false props xs) (mapping bt false props ys) (p ∷ ps)
+        → p.commented ≡ false → PairsRows t s spot.entries xs ys ps → NodeRows t s spot (mapping at false props xs) (mapping bt false props ys) (p ∷ ps)
 
   pub data ItemsRows (t : List ℕ) (s : Setting) : ℕ → Items → Items → List PlacedRow → Type 0 where
     no_item_rows : {m : ℕ} → ItemsRows t s m no_items no_items []
-    item_rows : {m : ℕ} {x y : Node} {xs ys : Items} {ps hs qs : List PlacedRow} → NodeRows t s (m + s.style.indent) x y ps → SignRows (entry_start y) ps hs → ItemsRows t s m xs ys qs
+    item_rows : {m : ℕ} {x y : Node} {xs ys : Items} {ps hs qs : List PlacedRow} → NodeRows t s (inner_spot s.style m) x y ps → SignRows t (entry_start y) ps hs → ItemsRows t s m xs ys qs
         → ItemsRows t s m (item x xs) (item y ys) (hs ++ qs)
 
   -- a key k with its value v that are found as l and w
   pub data PairRows (t : List ℕ) (s : Setting) : ℕ → Node → Node → Node → Node → List PlacedRow → Type 0 where
-    explicit_rows : {m : ℕ} {k v l w : Node} {ps hs qs gs : List PlacedRow} → is_implicit s.style m l ≡ false → NodeRows t s (m + s.style.indent) k l ps → SignRows (entry_start l) ps hs
-        → NodeRows t s (m + s.style.indent) v w qs → SignRows (colon_offset (standing l).entry) qs gs → PairRows t s m k v l w (hs ++ gs)
-    implicit_rows : {m : ℕ} {k v l w : Node} {ps hs : List PlacedRow} (b : Bool) → b ≡ is_some (key_comment s.comments k v) → is_implicit s.style m l ≡ true → KeyOn t l hs
-        → NodeRows t s (value_entries s.style m w) v w ps → KeyRows (entry_start l ++ items_in l) (leaves l) b (begins_below w) ps hs → PairRows t s m k v l w hs
+    explicit_rows : {m : ℕ} {k v l w : Node} {ps hs qs gs : List PlacedRow} → is_implicit s.style m l ≡ false → NodeRows t s (key_spot s.style m k) k l ps → SignRows t (entry_start l) ps hs
+        → NodeRows t s (inner_spot s.style m) v w qs → SignRows t (colon_offset (standing l).entry) qs gs → PairRows t s m k v l w (hs ++ gs)
+    implicit_rows : {m : ℕ} {k v l w : Node} {ps hs : List PlacedRow} (b : Bool) → b ≡ is_some (key_comment s.comments k v) → is_implicit s.style m l ≡ true → KeyOn t m l hs
+        → NodeRows t s (value_of_implicit s m k v) v w ps → KeyRows t (entry_start l ++ items_in l) (leaves l) b (begins_below w) ps hs → PairRows t s m k v l w hs
 
   pub data PairsRows (t : List ℕ) (s : Setting) : ℕ → Pairs → Pairs → List PlacedRow → Type 0 where
     no_pair_rows : {m : ℕ} → PairsRows t s m no_pairs no_pairs []
@@ -90,17 +101,17 @@ mutual
 
 -- What a production means: the node that is found, on these rows.
 
-pub record FoundNode (t : List ℕ) (s : Setting) (m : ℕ) (x : Node) (meaning : Meaning) (ps : List PlacedRow) : Type 0 where
+pub record FoundNode (t : List ℕ) (s : Setting) (spot : Spot) (x : Node) (meaning : Meaning) (ps : List PlacedRow) : Type 0 where
   pub node : Node
   pub alike : Alike Anywhere x node
   pub events : meaning.events ≡ flat node
   pub escapes : meaning.escapes ≡ []
-  pub rows : NodeRows t s m x node ps
+  pub rows : NodeRows t s spot x node ps
 
 pub record FoundItem (t : List ℕ) (s : Setting) (m : ℕ) (x : Node) (meaning : Meaning) (hs : List PlacedRow) : Type 0 where
   pub inner : List PlacedRow
-  pub found : FoundNode t s (m + s.style.indent) x meaning inner
-  pub sign : SignRows (entry_start found.node) inner hs
+  pub found : FoundNode t s (inner_spot s.style m) x meaning inner
+  pub sign : SignRows t (entry_start found.node) inner hs
 
 pub record FoundItems (t : List ℕ) (s : Setting) (m : ℕ) (xs : Items) (meaning : Meaning) (ps : List PlacedRow) : Type 0 where
   pub items : Items
@@ -125,7 +136,7 @@ pub record FoundPairs (t : List ℕ) (s : Setting) (m : ℕ) (xs : Pairs) (meani
   pub escapes : meaning.escapes ≡ []
   pub rows : PairsRows t s m xs pairs ps
 
-pub meant_of : {t : List ℕ} {s : Setting} {m : ℕ} {x : Node} {meaning : Meaning} {ps : List PlacedRow} → FoundNode t s m x meaning ps → Meant x meaning
+pub meant_of : {t : List ℕ} {s : Setting} {spot : Spot} {x : Node} {meaning : Meaning} {ps : List PlacedRow} → FoundNode t s spot x meaning ps → Meant x meaning
 meant_of a = record { node = a.node; alike = a.alike; events = a.events; escapes = a.escapes }
 
 -- Entries.
@@ -191,10 +202,20 @@ block_entered e (sequence at flow props (item x xs)) f = f
 block_entered e (mapping at flow props no_pairs) f = f
 block_entered e (mapping at flow props (pair k v ps)) f = f
 
-pub rows_entered : {t : List ℕ} {s : Setting} {m : ℕ} {x y : Node} {ps : List PlacedRow} (e : Entry) → NodeRows t s m x y ps → NodeRows t s m x (entered e y) ps
+text_entered : {t : List ℕ} {i : ℕ} (e : Entry) (y : Node) → NodeText t i y → NodeText t i (entered e y)
+text_entered {t} {i} e y a =
+    let same : written y ≡ written (entered e y) = sym (written_entered e y) in
+    record {
+      line = subst (λ w. IsLineText w) same a.line;
+      behind = a.behind;
+      there = subst (λ w. Rest t i (w ++ a.behind)) same a.there;
+      flow = λ f. subst (λ w. Bracketed t i (i + length w) (entered e y)) same (bracketed_entered e y (a.flow (sym (is_bracketed_entered e y) ∙ f)));
+    }
+
+pub rows_entered : {t : List ℕ} {s : Setting} {spot : Spot} {x y : Node} {ps : List PlacedRow} (e : Entry) → NodeRows t s spot x y ps → NodeRows t s spot x (entered e y) ps
 rows_entered e (no_rows q) = no_rows q
-rows_entered e (line_rows {y = y} f n g h i st j k) =
-    line_rows (inline_entered e y f) (λ z. n (sym (written_entered e y) ∙ z)) (g ∙ sym (items_entered e y)) (h ∙ sym (leaves_entered e y)) i (stands_entered e st) j k
+rows_entered e (line_rows {y = y} f n g h i st j k c w) =
+    line_rows (inline_entered e y f) (λ z. n (sym (written_entered e y) ∙ z)) (g ∙ sym (items_entered e y)) (h ∙ sym (leaves_entered e y)) i (stands_entered e st) j k c (text_entered e y w)
 rows_entered e (scalar_rows f n g h i) = scalar_rows f n g h i
 rows_entered e (sequence_rows {bt = bt} {props = props} {ys = ys} b f a) = sequence_rows (block_entered e (sequence bt false props ys) b) f a
 rows_entered e (sequence_behind {bt = bt} {props = props} {ys = ys} b f g h i a) = sequence_behind (block_entered e (sequence bt false props ys) b) f g h i a
@@ -226,19 +247,19 @@ bare_alike {x} i a =
 abbrev pub entry_at : ℕ → Option ℕ → Entry
 entry_at q colon = record { start = q; colon = colon; blank_before = false }
 
-module _ {t : List ℕ} {s : Setting} {m : ℕ} where
-  pub found_behind : {x : Node} {meaning : Meaning} {ps : List PlacedRow} (cs : List CommentValue) → FoundNode t s m x meaning ps → FoundNode t s m x (behind cs meaning) ps
+module _ {t : List ℕ} {s : Setting} {spot : Spot} where
+  pub found_behind : {x : Node} {meaning : Meaning} {ps : List PlacedRow} (cs : List CommentValue) → FoundNode t s spot x meaning ps → FoundNode t s spot x (behind cs meaning) ps
   unfolding behind
   found_behind cs a = record { node = a.node; alike = a.alike; events = a.events; escapes = a.escapes; rows = a.rows }
 
-  pub found_noting : {x : Node} {meaning : Meaning} {ps : List PlacedRow} (cs : List CommentValue) → FoundNode t s m x meaning ps → FoundNode t s m x (noting meaning cs) ps
+  pub found_noting : {x : Node} {meaning : Meaning} {ps : List PlacedRow} (cs : List CommentValue) → FoundNode t s spot x meaning ps → FoundNode t s spot x (noting meaning cs) ps
   unfolding noting
   found_noting cs a = record { node = a.node; alike = a.alike; events = a.events; escapes = a.escapes; rows = a.rows }
 
-  pub found_nothing : {x : Node} (i : ℕ) → Meant x (empty_node i) → FoundNode t s m x (empty_node i) []
+  pub found_nothing : {x : Node} (i : ℕ) → Meant x (empty_node i) → FoundNode t s spot x (empty_node i) []
   found_nothing i a = record { node = bare_node; alike = bare_alike i a; events = bare_events i; escapes = bare_escapes i; rows = no_rows refl }
 
-  pub found_entering : {x : Node} {meaning : Meaning} {ps : List PlacedRow} (q : ℕ) (colon : Option ℕ) → FoundNode t s m x meaning ps → FoundNode t s m x (entering q colon meaning) ps
+  pub found_entering : {x : Node} {meaning : Meaning} {ps : List PlacedRow} (q : ℕ) (colon : Option ℕ) → FoundNode t s spot x meaning ps → FoundNode t s spot x (entering q colon meaning) ps
   unfolding entering
   found_entering q colon a = record {
     node = entered (entry_at q colon) a.node;
@@ -248,8 +269,9 @@ module _ {t : List ℕ} {s : Setting} {m : ℕ} where
     rows = rows_entered (entry_at q colon) a.rows;
   }
 
+module _ {t : List ℕ} {s : Setting} {m : ℕ} where
   -- an item behind its sign, which stands at q
-  pub found_item : {x : Node} {meaning : Meaning} {ps hs : List PlacedRow} (q : ℕ) → FoundNode t s (m + s.style.indent) x meaning ps → SignRows (q ∷ []) ps hs → FoundItem t s m x (entering q None meaning) hs
+  pub found_item : {x : Node} {meaning : Meaning} {ps hs : List PlacedRow} (q : ℕ) → FoundNode t s (inner_spot s.style m) x meaning ps → SignRows t (q ∷ []) ps hs → FoundItem t s m x (entering q None meaning) hs
   unfolding entering
   found_item {ps = ps} {hs = hs} q a b = record {
     inner = ps;
@@ -260,7 +282,7 @@ module _ {t : List ℕ} {s : Setting} {m : ℕ} where
       escapes = a.escapes;
       rows = rows_entered (entry_at q None) a.rows;
     };
-    sign = subst (λ o. SignRows (starts_of_entry o) ps hs) (sym (entry_entered (entry_at q None) a.node)) b;
+    sign = subst (λ o. SignRows t (starts_of_entry o) ps hs) (sym (entry_entered (entry_at q None) a.node)) b;
   }
 
   pub found_last_item : {x : Node} {meaning : Meaning} {hs : List PlacedRow} → FoundItem t s m x meaning hs → FoundItems t s m (item x no_items) meaning (hs ++ [])
@@ -304,8 +326,8 @@ module _ {t : List ℕ} {s : Setting} {m : ℕ} where
   }
 
   -- a pair whose key stands behind a `?` at q, and its value behind a `:` at colon
-  pub found_explicit : {k v : Node} {one two : Meaning} {ps hs qs gs : List PlacedRow} (q colon : ℕ) → is_implicit s.style m k ≡ false → FoundNode t s (m + s.style.indent) k one ps → SignRows (q ∷ []) ps hs
-      → FoundNode t s (m + s.style.indent) v two qs → SignRows (colon ∷ []) qs gs → FoundPair t s m k v (entering q (Some colon) one ⊕ two) (hs ++ gs)
+  pub found_explicit : {k v : Node} {one two : Meaning} {ps hs qs gs : List PlacedRow} (q colon : ℕ) → is_implicit s.style m k ≡ false → FoundNode t s (key_spot s.style m k) k one ps → SignRows t (q ∷ []) ps hs
+      → FoundNode t s (inner_spot s.style m) v two qs → SignRows t (colon ∷ []) qs gs → FoundPair t s m k v (entering q (Some colon) one ⊕ two) (hs ++ gs)
   unfolding entering ◌⊕◌
   found_explicit {k} {v} {one} {two} {ps} {hs} {qs} {gs} q colon e a f b g =
       let entry : Entry = entry_at q (Some colon) in
@@ -317,24 +339,24 @@ module _ {t : List ℕ} {s : Setting} {m : ℕ} where
         alike_value = b.alike;
         events = ap (λ z. z ++ two.events) (ap (first_entering entry) a.events ∙ entered_events entry a.node) ∙ ap (λ z. flat (entered entry a.node) ++ z) b.events;
         escapes = ap (λ z. z ++ two.escapes) a.escapes ∙ b.escapes;
-        rows = explicit_rows (sym (same_implicit s.style m alike) ∙ e) (rows_entered entry a.rows) (subst (λ o. SignRows (starts_of_entry o) ps hs) (sym (entry_entered entry a.node)) f)
-            b.rows (subst (λ o. SignRows (colon_offset o) qs gs) (sym (entry_entered entry a.node)) g);
+        rows = explicit_rows (sym (same_implicit s.style m alike) ∙ e) (rows_entered entry a.rows) (subst (λ o. SignRows t (starts_of_entry o) ps hs) (sym (entry_entered entry a.node)) f)
+            b.rows (subst (λ o. SignRows t (colon_offset o) qs gs) (sym (entry_entered entry a.node)) g);
       }
 
   -- an implicit key, which begins at q and whose `:` stands at colon, and its value
   pub found_implicit : {k v : Node} {two : Meaning} {ps hs : List PlacedRow} (one : Meaning) (q colon : ℕ) (key : Node) (b : Bool) → b ≡ is_some (key_comment s.comments k v) → is_implicit s.style m k ≡ true → Alike Anywhere k key → one.events ≡ flat key → one.escapes ≡ []
-      → NodeStands t q colon key → HeadAt q (colon + 1) hs → FoundNode t s (value_entries s.style m v) v two ps → KeyRows (q ∷ items_in key) (leaves key) b (begins_below v) ps hs
+      → NodeStands t q colon key → NodeText t q key → HeadAt m q (colon + 1) hs → FoundNode t s (value_of_implicit s m k v) v two ps → KeyRows t (q ∷ items_in key) (leaves key) b (begins_below v) ps hs
       → FoundPair t s m k v (entering q (Some colon) one ⊕ two) hs
   unfolding entering ◌⊕◌
-  found_implicit {k} {v} {two} {ps} {hs} one q colon key b flag e a events escapes st head value rows =
+  found_implicit {k} {v} {two} {ps} {hs} one q colon key b flag e a events escapes st text head value rows =
       let entry : Entry = entry_at q (Some colon) in
       let alike : Alike Anywhere k (entered entry key) = alike_entered entry a in
       let items : q ∷ items_in key ≡ entry_start (entered entry key) ++ items_in (entered entry key) =
       ap (λ z. q ∷ z) (sym (items_entered entry key)) ∙ ap (λ o. starts_of_entry o ++ items_in (entered entry key)) (sym (entry_entered entry key)) in
-      let moved : KeyRows (entry_start (entered entry key) ++ items_in (entered entry key)) (leaves (entered entry key)) b (begins_below value.node) ps hs =
-      subst (λ z. KeyRows z (leaves (entered entry key)) b (begins_below value.node) ps hs) items
-      (subst (λ z. KeyRows (q ∷ items_in key) z b (begins_below value.node) ps hs) (sym (leaves_entered entry key))
-      (subst (λ z. KeyRows (q ∷ items_in key) (leaves key) b z ps hs) (same_below value.alike) rows)) in
+      let moved : KeyRows t (entry_start (entered entry key) ++ items_in (entered entry key)) (leaves (entered entry key)) b (begins_below value.node) ps hs =
+      subst (λ z. KeyRows t z (leaves (entered entry key)) b (begins_below value.node) ps hs) items
+      (subst (λ z. KeyRows t (q ∷ items_in key) z b (begins_below value.node) ps hs) (sym (leaves_entered entry key))
+      (subst (λ z. KeyRows t (q ∷ items_in key) (leaves key) b z ps hs) (same_below value.alike) rows)) in
       record {
         key = entered entry key;
         value = value.node;
@@ -342,58 +364,6 @@ module _ {t : List ℕ} {s : Setting} {m : ℕ} where
         alike_value = value.alike;
         events = ap (λ z. z ++ two.events) (ap (first_entering entry) events ∙ entered_events entry key) ∙ ap (λ z. flat (entered entry key) ++ z) value.events;
         escapes = ap (λ z. z ++ two.escapes) escapes ∙ value.escapes;
-        rows = implicit_rows b flag (sym (same_implicit s.style m alike) ∙ e) (key_at (stands_entered entry st) (ap (λ o. entry_or 0 o) (entry_entered entry key)) (ap (λ o. is_some o) (entry_entered entry key)) head)
-            (subst (λ z. NodeRows t s z v value.node ps) (ap (λ z. if z && not s.style.seq_indent then m else m + s.style.indent) (same_sequence value.alike)) value.rows) moved;
+        rows = implicit_rows b flag (sym (same_implicit s.style m alike) ∙ e)
+            (key_at (stands_entered entry st) (ap (λ o. entry_or 0 o) (entry_entered entry key)) (text_entered entry key text) (ap (λ o. is_some o) (entry_entered entry key)) head) value.rows moved;
       }
-
--- Collections.
-
-abbrev spanned : ℕ → ℕ → Option ℕ → Standing
-spanned i j o = record { span = from_to i j; tag_offset = o; entry = None }
-
-module _ {t : List ℕ} {s : Setting} {m : ℕ} where
-  pub found_sequence : {at : Standing} {xs : Items} {meaning : Meaning} {ps : List PlacedRow} (i j : ℕ) → is_some at.span ≡ true → is_block_collection (sequence at false no_props xs) ≡ true → FoundItems t s m xs meaning ps
-      → FoundNode t s m (sequence at false no_props xs) (collection true false i j meaning) ps
-  unfolding collection plain_event from_to
-  found_sequence {at = at} {xs = xs} i j e n a = record {
-    node = sequence (spanned i j None) false no_props a.items;
-    alike = alike_sequences e a.alike;
-    events = ap (λ z. placed (spanned i j None) (sequence_starts false no_props) [] ∷ (z ++ (unplaced sequence_ends ∷ []))) a.events;
-    escapes = a.escapes;
-    rows = sequence_rows (sym (same_block {K = Anywhere} {x = sequence at false no_props xs} {y = sequence (spanned i j None) false no_props a.items} (alike_sequences e a.alike)) ∙ n) refl a.rows;
-  }
-
-  pub found_mapping : {at : Standing} {xs : Pairs} {meaning : Meaning} {ps : List PlacedRow} (i j : ℕ) → is_some at.span ≡ true → is_block_collection (mapping at false no_props xs) ≡ true → FoundPairs t s m xs meaning ps
-      → FoundNode t s m (mapping at false no_props xs) (collection false false i j meaning) ps
-  unfolding collection plain_event from_to
-  found_mapping {at = at} {xs = xs} i j e n a = record {
-    node = mapping (spanned i j None) false no_props a.pairs;
-    alike = alike_mappings e a.alike;
-    events = ap (λ z. placed (spanned i j None) (mapping_starts false no_props) [] ∷ (z ++ (unplaced mapping_ends ∷ []))) a.events;
-    escapes = a.escapes;
-    rows = mapping_rows (sym (same_block {K = Anywhere} {x = mapping at false no_props xs} {y = mapping (spanned i j None) false no_props a.pairs} (alike_mappings e a.alike)) ∙ n) refl a.rows;
-  }
-
-  pub found_sequence_with : {at : Standing} {xs : Items} {meaning : Meaning} {h : PlacedRow} {ps : List PlacedRow} (p : PropsValue) (o : Option ℕ) (f g i j : ℕ) → is_some at.span ≡ true
-      → is_block_collection (sequence at false p xs) ≡ true → is_empty_text (props_text p) ≡ false → h.items ≡ [] → h.leaves ≡ [] → h.commented ≡ false → FoundItems t s m xs meaning ps
-      → FoundNode t s m (sequence at false p xs) (with_props p o f g (collection true false i j meaning)) (h ∷ ps)
-  unfolding collection plain_event from_to with_props
-  found_sequence_with {at = at} {xs = xs} p o f g i j e b n k l c a = record {
-    node = sequence (spanned f j o) false p a.items;
-    alike = alike_sequences e a.alike;
-    events = ap (λ z. placed (spanned f j o) (sequence_starts false p) [] ∷ (z ++ (unplaced sequence_ends ∷ []))) a.events;
-    escapes = a.escapes;
-    rows = sequence_behind (sym (same_block {K = Anywhere} {x = sequence at false p xs} {y = sequence (spanned f j o) false p a.items} (alike_sequences e a.alike)) ∙ b) n k l c a.rows;
-  }
-
-  pub found_mapping_with : {at : Standing} {xs : Pairs} {meaning : Meaning} {h : PlacedRow} {ps : List PlacedRow} (p : PropsValue) (o : Option ℕ) (f g i j : ℕ) → is_some at.span ≡ true
-      → is_block_collection (mapping at false p xs) ≡ true → is_empty_text (props_text p) ≡ false → h.items ≡ [] → h.leaves ≡ [] → h.commented ≡ false → FoundPairs t s m xs meaning ps
-      → FoundNode t s m (mapping at false p xs) (with_props p o f g (collection false false i j meaning)) (h ∷ ps)
-  unfolding collection plain_event from_to with_props
-  found_mapping_with {at = at} {xs = xs} p o f g i j e b n k l c a = record {
-    node = mapping (spanned f j o) false p a.pairs;
-    alike = alike_mappings e a.alike;
-    events = ap (λ z. placed (spanned f j o) (mapping_starts false p) [] ∷ (z ++ (unplaced mapping_ends ∷ []))) a.events;
-    escapes = a.escapes;
-    rows = mapping_behind (sym (same_block {K = Anywhere} {x = mapping at false p xs} {y = mapping (spanned f j o) false p a.pairs} (alike_mappings e a.alike)) ∙ b) n k l c a.rows;
-  }

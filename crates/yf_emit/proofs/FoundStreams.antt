@@ -7,7 +7,7 @@ use Rattle.yf_events.specs.Tree.{Node, DocumentTree, flat}
 use Rattle.yf_grammar.specs.Meaning.{Meaning}
 use Rattle.yf_grammar.specs.Meant.{Anywhere}
 use Rattle.yf_stream.specs.Stream.{Document, document_of, Documents, with_document, with_comments, only_comments}
-use Rattle.yf_emit.specs.Normal.{Setting}
+use Rattle.yf_emit.specs.Normal.{Setting, root_spot}
 use Rattle.yf_emit.specs.Decorated.{Deco, past, lines_then}
 use Rattle.yf_emit.specs.Rows.{Row, directive_row, start_row, end_rows, beginning_at}
 use Rattle.yf_emit.proofs.EntriesMade.{Begins, begins, append_begins, rows_in_more}
@@ -24,15 +24,15 @@ pub record FoundDocument (t : List ℕ) (s : Setting) (is_first : Bool) (x : Doc
   pub head : HeadRows m.start (heads_before is_first m.directives) heads
   pub inner : List PlacedRow
   pub are : ps ≡ heads ++ inner
-  pub rows : NodeRows t s 0 x.root node inner
+  pub rows : NodeRows t s (root_spot s.style) x.root node inner
 
 pub data FoundDocuments (t : List ℕ) (s : Setting) : Bool → List DocumentTree → List Document → List PlacedRow → Type 0 where
   no_documents_found : {is_first : Bool} → FoundDocuments t s is_first [] [] []
   document_found : {is_first : Bool} {x : DocumentTree} {xs : List DocumentTree} {m : Document} {ms : List Document} {ps qs : List PlacedRow} → FoundDocument t s is_first x m ps → FoundDocuments t s false xs ms qs
       → FoundDocuments t s is_first (x ∷ xs) (m ∷ ms) (ps ++ qs)
 
-pub found_document : {t : List ℕ} {s : Setting} {x : DocumentTree} {m : Meaning} {ps inner : List PlacedRow} (is_first : Bool) (i : ℕ) (dirs : List Directive) (heads : List PlacedRow) → HeadRows i (heads_before is_first dirs) heads → FoundNode t s 0 x.root m inner
-    → ps ≡ heads ++ inner → FoundDocument t s is_first x (document_of i true dirs m) ps
+pub found_document : {t : List ℕ} {s : Setting} {x : DocumentTree} {m : Meaning} {ps inner : List PlacedRow} (is_first : Bool) (i : ℕ) (dirs : List Directive) (heads : List PlacedRow) → HeadRows i (heads_before is_first dirs) heads
+    → FoundNode t s (root_spot s.style) x.root m inner → ps ≡ heads ++ inner → FoundDocument t s is_first x (document_of i true dirs m) ps
 unfolding document_of
 found_document {inner = inner} is_first i dirs heads h a e = record { node = a.node; alike = a.alike; events = a.events; heads = heads; head = h; inner = inner; are = e; rows = a.rows }
 

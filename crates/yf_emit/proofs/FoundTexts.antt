@@ -25,8 +25,8 @@ use Rattle.yf_emit.proofs.SettledTwice.{settled_twice}
 -- the trees of documents that are found, with the markers of their events
 pub data FoundRoots (t : List ℕ) (c : Setting) : Bool → List Doc → List DocumentTree → List DocumentTree → List PlacedRow → Type 0 where
   no_roots : {is_first : Bool} → FoundRoots t c is_first [] [] [] []
-  one_root : {is_first : Bool} {d : Doc} {ds : List Doc} {x z : DocumentTree} {xs zs : List DocumentTree} {inner qs : List PlacedRow} (heads : List PlacedRow) → HeadRows d.start (heads_before is_first d.directives) heads → Alike Anywhere x.root z.root → NodeRows t c 0 x.root z.root inner → FoundRoots t c false ds xs zs qs
-      → FoundRoots t c is_first (d ∷ ds) (x ∷ xs) (z ∷ zs) ((heads ++ inner) ++ qs)
+  one_root : {is_first : Bool} {d : Doc} {ds : List Doc} {x z : DocumentTree} {xs zs : List DocumentTree} {inner qs : List PlacedRow} (heads : List PlacedRow) → HeadRows d.start (heads_before is_first d.directives) heads
+      → Alike Anywhere x.root z.root → NodeRows t c (root_spot c.style) x.root z.root inner → FoundRoots t c false ds xs zs qs → FoundRoots t c is_first (d ∷ ds) (x ∷ xs) (z ∷ zs) ((heads ++ inner) ++ qs)
 
 pub record RootsFound (t : List ℕ) (c : Setting) (is_first : Bool) (ds : List Doc) (xs : List DocumentTree) (es : List Placed) (ps : List PlacedRow) (n : ℕ) : Type 0 where
   pub trees : List DocumentTree

@@ -1,45 +1,44 @@
 -- Implicit keys with their values: the value on the same line, on the next lines, or missing.
-use Rattle.std.proofs.Common.{◌≡◌, ℕ, max, ◌+◌, ◌≤◌, pos, Bool, true, false, List, [], ◌∷◌, ◌++◌, length, Option, Some, None, refl, sym, ap, ◌∙◌, subst, arith, append_assoc, append-nil, length-append, true≢false}
+use Rattle.std.proofs.Common.{◌≡◌, ℕ, max, ◌+◌, ◌≤◌, pos, Bool, true, false, List, [], ◌∷◌, ◌++◌, length, Option, Some, None, refl, sym, ap, ◌∙◌, subst, arith, append_assoc, append-nil, true≢false}
 use Rattle.std.specs.Prelude.{not, is_some}
 use Rattle.std.specs.Str.{IsUtf8, chars}
-use Rattle.std.proofs.lemmas.Str.{chars-append}
-use Rattle.yf_chars.specs.declared.context.Ctx.TheVariants.{BlockOut, BlockKey}
+use Rattle.yf_chars.specs.declared.context.Ctx.TheVariants.{BlockOut}
 use Rattle.yf_chars.specs.Text.{code}
 use Rattle.yf_lines.specs.Basic.{LineStart}
-use Rattle.yf_lines.proofs.RestLemmas.{Rest, rest_spaces, rest_text}
+use Rattle.yf_lines.proofs.RestLemmas.{Rest, line_nothing, rest_spaces}
 use Rattle.yf_comments.specs.Comment.{CommentValue}
 use Rattle.yf_comments.proofs.GapLinesLemmas.{texts}
 use Rattle.yf_comments.proofs.SpaceLemmas.{space_in_line}
 use Rattle.yf_events.specs.Tree.{Node, items_in, leaves as leaves_of}
-use Rattle.yf_grammar.specs.Grammar.{Derives, BlockValue, KeyOf}
+use Rattle.yf_grammar.specs.Grammar.{Derives, BlockValue}
 use Rattle.yf_grammar.specs.Grammar.Derives.{a_keyed_entry, an_unkeyed_entry, a_block_value, an_empty_block_value}
-use Rattle.yf_grammar.specs.Back.{Back}
 use Rattle.yf_grammar.specs.Meaning.{Meaning, ◌⊕◌, behind, noting, empty_node, entering}
 use Rattle.yf_grammar.specs.Meant.{tall}
 use Rattle.yf_grammar.proofs.BlankRuns.{Behind, behind_byte}
 use Rattle.yf_grammar.proofs.BlockFirst.{key_no_question}
 use Rattle.yf_grammar.proofs.CommentOrder.{end_ascends}
-use Rattle.yf_grammar.proofs.FlowBack.{visible_at, colon_follows}
-use Rattle.yf_grammar.proofs.PairsBack.{key_back, key_apart_back}
+use Rattle.yf_grammar.proofs.FlowBack.{visible_at}
 use Rattle.yf_grammar.proofs.MeantLemmas.{texts_behind, texts_noting, texts_entering, texts_both, texts_empty}
 use Rattle.yf_grammar.proofs.NodePlaces.{NodeStands, stands_nowhere, node_order, node_upto}
 use Rattle.yf_grammar.proofs.PlacesDerived.{places}
 use Rattle.yf_emit.specs.Carried.{AreDecos, carried_texts, comments_in, Calm}
 use Rattle.yf_emit.specs.Decorated.{Deco, first, after, end_then, lines_then, inline_then}
-use Rattle.yf_emit.specs.Fits.{LineNode, KeyNode, ColonFits, colon_at_once, colon_apart}
-use Rattle.yf_emit.specs.Normal.{Setting, Spot, is_implicit, key_comment, value_entries}
-use Rattle.yf_emit.specs.OneLine.{written, colon_behind}
+use Rattle.yf_emit.specs.Fits.{KeyNode}
+use Rattle.yf_emit.specs.Normal.{Setting, Spot, is_implicit, key_comment, value_entries, value_of_implicit}
+use Rattle.yf_emit.specs.OneLine.{width, written, colon_behind}
 use Rattle.yf_emit.specs.Rows.{Row, Ending, anywhere, before_node, behind_key, begins_below, joined}
 use Rattle.yf_events.specs.declared.event.Span.{Span}
 use Rattle.yf_emit.specs.Steps.{Step, leaf_steps, comment_steps, steps_in}
 use Rattle.yf_emit.proofs.CollectionsMade.{comments_behind}
 use Rattle.yf_emit.proofs.EntriesMade.{Begins, begins, EntryMade, EntryMakes, comments_both, comments_entering}
 use Rattle.yf_emit.proofs.FlowEvents.{empty_flow, flow_means}
-use Rattle.yf_emit.proofs.FoundLines.{items_inside, leaves_inside, leaves_end, placed_node}
+use Rattle.yf_emit.proofs.FlowHeads.{bracketed}
+use Rattle.yf_emit.proofs.FoundLines.{items_inside, leaves_inside, leaves_end, node_text, placed_node}
 use Rattle.yf_emit.proofs.FoundNodes.{FoundNode, FoundPair, HeadAt, head_at, KeyRows, key_commented, key_above, key_alone, key_joined, bare_node, bare_alike, bare_events, bare_escapes, bare_comments, found_behind, found_noting, found_nothing, found_implicit, meant_of}
 use Rattle.yf_emit.proofs.HeldLemmas.{Held, empty_silent, entering_silent, held_after, held_behind, held_joined, held_line, row_ended}
+use Rattle.yf_emit.proofs.KeyTexts.{colon_line, key_made, key_node, over_key, value_right}
 use Rattle.yf_emit.proofs.LaidRows.{leaves_apart, laid_row, laid_line}
-use Rattle.yf_emit.proofs.LineUtf8.{space_chars, written_utf8}
+use Rattle.yf_emit.proofs.LinePlaces.{OnLine, bare_width, on_same, on_sign}
 use Rattle.yf_emit.proofs.NodePlaces.{beside_at, below_at}
 use Rattle.yf_emit.proofs.NodesMade.{Stood, Claim, no_row, some_rows, MeansNothing, noting_nothing}
 use Rattle.yf_emit.proofs.PlacedRows.{never_bare, Inside, none_inside, one_inside, inside_wider, PlacedRow, AtRow, LeavesTo, no_leaf_to, leaves_to_wider, behind_line, RowsIn, last_row, row_before, joined_placed, rows_joined}
@@ -90,7 +89,7 @@ behind_steps column text items leaves blank None false [] ds = refl
 behind_steps column text items leaves blank None false (x ∷ xs) ds = leaves_apart leaves x.leaves (comment_steps (carried_texts (first ds)) ++ steps_in xs (after ds))
 
 -- the `:` at i and the value after it
-record ValueMade (t : List ℕ) (s : Setting) (m column : ℕ) (v : Node) (rs : List Row) (ds : List Deco) (q : ℕ) (items : List ℕ) (leaves : List Span) (b below : Bool) (i : ℕ) (r : List ℕ) (steps : List Step) : Type 0 where
+record ValueMade (t : List ℕ) (s : Setting) (spot : Spot) (column : ℕ) (v : Node) (rs : List Row) (ds : List Deco) (q : ℕ) (items : List ℕ) (leaves : List Span) (b below : Bool) (i : ℕ) (r : List ℕ) (steps : List Step) : Type 0 where
   pub height : ℕ
   pub place : ℕ
   pub meaning : Meaning
@@ -99,28 +98,29 @@ record ValueMade (t : List ℕ) (s : Setting) (m column : ℕ) (v : Node) (rs : 
   pub rest : Rest t place r
   pub start : LineStart t place
   pub inner : List PlacedRow
-  pub meant : FoundNode t s m v meaning inner
+  pub meant : FoundNode t s spot v meaning inner
   pub is : texts meaning.comments ≡ comments_in rs ds
   pub laid : MeaningLaid i place meaning steps
   pub held : Held t meaning rs ds r
-  pub set : SetDone t s.style m (column + s.style.indent) meaning.events
+  pub set : SetDone t s.style spot.entries (column + s.style.indent) meaning.events
   pub found_rows : List PlacedRow
-  pub head : HeadAt q (i + 1) found_rows
-  pub keyed : KeyRows items leaves b below inner found_rows
+  pub head : HeadAt column q (i + 1) found_rows
+  pub keyed : KeyRows t items leaves b below inner found_rows
   pub placed : RowsIn t rs found_rows ds q meaning.comments place r
 
 -- the row of a key that begins at q, up to its `:` at i, with what is found on it
-record Head (row : Row) (q i a : ℕ) (items : List ℕ) (ls : List Span) (b : Bool) : Type 0 where
+record Head (column : ℕ) (row : Row) (q i a : ℕ) (items : List ℕ) (ls : List Span) (b : Bool) : Type 0 where
+  stands : row.column ≡ column
   width : q + length row.text ≡ i + 1
   items_stand : Inside q (i + 1) (a ∷ items)
   leaves_stand : Inside q (i + 1) (starts_of ls)
   leaves_to : LeavesTo (i + 1) ls
   commented : is_some row.key_comment ≡ b
 
-abbrev head_row : ℕ → ℕ → ℕ → List ℕ → List Span → Bool → PlacedRow
-head_row q i a items ls b = record { items = a ∷ items; leaves = ls; commented = b; from = q; upto = i + 1 }
+abbrev head_row : ℕ → ℕ → ℕ → ℕ → List ℕ → List Span → Bool → PlacedRow
+head_row column q i a items ls b = record { items = a ∷ items; leaves = ls; commented = b; column = column; from = q; upto = i + 1 }
 
-head_stands : {row : Row} {q i a : ℕ} {items : List ℕ} {ls : List Span} {b : Bool} → Head row q i a items ls b → AtRow row q (head_row q i a items ls b)
+head_stands : {column : ℕ} {row : Row} {q i a : ℕ} {items : List ℕ} {ls : List Span} {b : Bool} → Head column row q i a items ls b → AtRow row q (head_row column q i a items ls b)
 head_stands h = record {
   from = refl;
   order = let w = h.width in omega (arith, w);
@@ -129,36 +129,37 @@ head_stands h = record {
   leaves = h.leaves_stand;
   commented = h.commented;
   bare = λ z. never_bare z;
+  column = h.stands;
 }
 
 -- the head of rows that are joined to a key
-record Joined (t : List ℕ) (rs : List Row) (inner : List PlacedRow) (ds : List Deco) (q i : ℕ) (items : List ℕ) (leaves : List Span) (cs : List CommentValue) (place : ℕ) (r : List ℕ) : Type 0 where
+record Joined (t : List ℕ) (column : ℕ) (rs : List Row) (inner : List PlacedRow) (ds : List Deco) (q i : ℕ) (items : List ℕ) (leaves : List Span) (cs : List CommentValue) (place : ℕ) (r : List ℕ) : Type 0 where
   found_rows : List PlacedRow
-  head : HeadAt q (i + 1) found_rows
-  keyed : KeyRows items leaves false false inner found_rows
+  head : HeadAt column q (i + 1) found_rows
+  keyed : KeyRows t items leaves false false inner found_rows
   placed : RowsIn t rs found_rows ds q cs place r
 
-keyed_behind : {t : List ℕ} {y : Row} {ys : List Row} {ps : List PlacedRow} {ds : List Deco} {k place : ℕ} {cs : List CommentValue} {r : List ℕ} (head : Row) (q i a : ℕ) (items : List ℕ) (ls : List Span) → Head head q i a items ls false
-    → k ≡ i + 1 + 1 → RowsIn t (y ∷ ys) ps ds k cs place r → Joined t (joined head 1 (y ∷ ys)) ps ds q i (a ∷ items) ls cs place r
-keyed_behind head q i a items ls h e (last_row {p = p} at end w) =
+keyed_behind : {t : List ℕ} {y : Row} {ys : List Row} {ps : List PlacedRow} {ds : List Deco} {k place : ℕ} {cs : List CommentValue} {r : List ℕ} (column : ℕ) (head : Row) (q i a : ℕ) (items : List ℕ) (ls : List Span) → Head column head q i a items ls false
+    → k ≡ i + 1 + 1 → (OnLine t column q → OnLine t y.column k) → RowsIn t (y ∷ ys) ps ds k cs place r → Joined t column (joined head 1 (y ∷ ys)) ps ds q i (a ∷ items) ls cs place r
+keyed_behind column head q i a items ls h e on (last_row {p = p} at end w) =
     let width = h.width in
     let order = at.order in
     let from = at.from in
     record {
-      found_rows = joined_placed (a ∷ items) ls q p ∷ [];
-      head = head_at refl (omega (arith, e, order));
-      keyed = key_joined refl refl refl (omega (arith, e, from, width)) refl;
+      found_rows = joined_placed (a ∷ items) ls head.column q p ∷ [];
+      head = head_at h.stands refl (omega (arith, e, order));
+      keyed = key_joined refl refl refl (omega (arith, e, from, width)) refl (λ z. on_same at.column (sym at.from) (on (on_same h.stands refl z)));
       placed = rows_joined head 1 q a items ls (omega (arith, e, width)) (inside_wider (omega arith) (omega (arith, e)) h.items_stand) (inside_wider (omega arith) (omega (arith, e)) h.leaves_stand) (leaves_to_wider (omega (arith, e)) h.leaves_to)
           (last_row at end w);
     }
-keyed_behind head q i a items ls h e (row_before {p = p} {ps = ps} at end w more) =
+keyed_behind column head q i a items ls h e on (row_before {p = p} {ps = ps} at end w more) =
     let width = h.width in
     let order = at.order in
     let from = at.from in
     record {
-      found_rows = joined_placed (a ∷ items) ls q p ∷ ps;
-      head = head_at refl (omega (arith, e, order));
-      keyed = key_joined refl refl refl (omega (arith, e, from, width)) refl;
+      found_rows = joined_placed (a ∷ items) ls head.column q p ∷ ps;
+      head = head_at h.stands refl (omega (arith, e, order));
+      keyed = key_joined refl refl refl (omega (arith, e, from, width)) refl (λ z. on_same at.column (sym at.from) (on (on_same h.stands refl z)));
       placed = rows_joined head 1 q a items ls (omega (arith, e, width)) (inside_wider (omega arith) (omega (arith, e)) h.items_stand) (inside_wider (omega arith) (omega (arith, e)) h.leaves_stand) (leaves_to_wider (omega (arith, e)) h.leaves_to)
           (row_before at end w more);
     }
@@ -168,10 +169,10 @@ colon_seen : {t : List ℕ} (i : ℕ) → IsUtf8 t → code t i ≡ 58 → Behin
 colon_seen i u e = behind_byte i u e (omega arith) (ascii_ns 58 (omega arith) (omega arith))
 
 -- no value
-value_missing : {t : List ℕ} {v : Node} {q a : ℕ} {items : List ℕ} {ls : List Span} {b below : Bool} (s : Setting) (n column : ℕ) (row : Row) (ds : List Deco) (r : List ℕ) {i : ℕ} → row.body ≡ [] → Head row q i a items ls b
-    → ((h : PlacedRow) → h.items ≡ a ∷ items → h.leaves ≡ ls → h.commented ≡ b → KeyRows (a ∷ items) ls b below [] (h ∷ [])) → MeansNothing v → code t i ≡ 58 → IsUtf8 t → AreDecos ds
-    → Rest t (i + 1) (end_then (first ds) [] r) → ValueMade t s n column v (row ∷ []) ds q (a ∷ items) ls b below i r (comment_steps (carried_texts (first ds)) ++ [])
-value_missing {t} {q = q} {a = h} {items = items} {ls = ls} {b = b} s n column row ds r {i} bare head keyed m colon u a w =
+value_missing : {t : List ℕ} {v : Node} {q a : ℕ} {items : List ℕ} {ls : List Span} {b below : Bool} (s : Setting) (spot : Spot) (column : ℕ) (row : Row) (ds : List Deco) (r : List ℕ) {i : ℕ} → row.body ≡ [] → Head column row q i a items ls b
+    → ((h : PlacedRow) → h.items ≡ a ∷ items → h.leaves ≡ ls → h.commented ≡ b → KeyRows t (a ∷ items) ls b below [] (h ∷ [])) → MeansNothing v → code t i ≡ 58 → IsUtf8 t → AreDecos ds
+    → Rest t (i + 1) (end_then (first ds) [] r) → ValueMade t s spot column v (row ∷ []) ds q (a ∷ items) ls b below i r (comment_steps (carried_texts (first ds)) ++ [])
+value_missing {t} {q = q} {a = h} {items = items} {ls = ls} {b = b} s spot column row ds r {i} bare head keyed m colon u a w =
     let end = row_end (first ds) r u (first_deco a) w in
     record {
       height = 0;
@@ -183,10 +184,10 @@ value_missing {t} {q = q} {a = h} {items = items} {ls = ls} {b = b} s n column r
       start = end.start;
       inner = [];
       meant = found_noting end.comments (found_nothing (i + 1) (m.meant (i + 1)));
-      found_rows = head_row q i h items ls b ∷ [];
-      head = head_at refl (omega arith);
-      keyed = keyed (head_row q i h items ls b) refl refl refl;
-      placed = subst (λ v. RowsIn t (row ∷ []) (head_row q i h items ls b ∷ []) ds q v end.place r) (sym (noting_nothing (i + 1) end.comments))
+      found_rows = head_row column q i h items ls b ∷ [];
+      head = head_at refl refl (omega arith);
+      keyed = keyed (head_row column q i h items ls b) refl refl refl;
+      placed = subst (λ v. RowsIn t (row ∷ []) (head_row column q i h items ls b ∷ []) ds q v end.place r) (sym (noting_nothing (i + 1) end.comments))
           (last_row (head_stands head) (record { ascend = end_ascends end.end; is = end.is; start = end.start; tail = behind_line bare end.end head.leaves_to }) end.rest);
       is = texts_noting (empty_node (i + 1)) end.comments ∙ (ap (λ z. z ++ texts end.comments) (texts_empty (i + 1)) ∙ (end.is ∙ sym (append-nil (carried_texts (first ds)))));
       laid = laid_row (empty_node (i + 1)) end.comments [] (laid_empty (i + 1) (omega arith)) (end_ascends end.end) end.is;
@@ -195,12 +196,12 @@ value_missing {t} {q = q} {a = h} {items = items} {ls = ls} {b = b} s n column r
     }
 
 -- a value on lines of its own
-value_below : {t : List ℕ} {s : Setting} {v : Node} {spot : Spot} {rs : List Row} {q a : ℕ} {items : List ℕ} {ls : List Span} {b below : Bool} (column : ℕ) (row : Row) (ds : List Deco) (r : List ℕ) {i : ℕ} → row.body ≡ [] → Head row q i a items ls b
-    → ((ps : List PlacedRow) (h : PlacedRow) → h.items ≡ a ∷ items → h.leaves ≡ ls → h.commented ≡ b → KeyRows (a ∷ items) ls b below ps (h ∷ ps)) → Claim s v spot rs
+value_below : {t : List ℕ} {s : Setting} {v : Node} {spot : Spot} {rs : List Row} {q a : ℕ} {items : List ℕ} {ls : List Span} {b below : Bool} (column : ℕ) (row : Row) (ds : List Deco) (r : List ℕ) {i : ℕ} → row.body ≡ [] → Head column row q i a items ls b
+    → ((ps : List PlacedRow) (h : PlacedRow) → h.items ≡ a ∷ items → h.leaves ≡ ls → h.commented ≡ b → KeyRows t (a ∷ items) ls b below ps (h ∷ ps)) → Claim s v spot rs
     → (begins_below v ≡ false → column + 1 ≤ spot.column) → code t i ≡ 58 → IsUtf8 t → Stood s v (pos column) BlockOut spot → AreDecos ds → Calm rs (after ds) r
     → Rest t (i + 1) (end_then (first ds) [] (lines_then rs (after ds) r))
-    → ValueMade t s spot.entries column v (row ∷ rs) ds q (a ∷ items) ls b below i r (comment_steps (carried_texts (first ds)) ++ steps_in rs (after ds))
-value_below {s = s} {spot = spot} column row ds r bare head keyed (no_row m) deep colon u stood a k w = value_missing s spot.entries column row ds r bare head (λ h. keyed [] h) m colon u a w
+    → ValueMade t s spot column v (row ∷ rs) ds q (a ∷ items) ls b below i r (comment_steps (carried_texts (first ds)) ++ steps_in rs (after ds))
+value_below {s = s} {spot = spot} column row ds r bare head keyed (no_row m) deep colon u stood a k w = value_missing s spot column row ds r bare head (λ h. keyed [] h) m colon u a w
 value_below {t} {s} {v} {spot} {q = q} {a = h} {items = items} {ls = ls} {b = b} column row ds r {i} bare head keyed (some_rows {r = y} {rs = ys} f g m) deep colon u stood a k w =
     let end = row_end (first ds) (lines_then (y ∷ ys) (after ds) r) u (first_deco a) w in
     let there = rest_spaces y.column end.place u end.rest in
@@ -216,10 +217,10 @@ value_below {t} {s} {v} {spot} {q = q} {a = h} {items = items} {ls = ls} {b = b}
       start = node.start;
       inner = node.found_rows;
       meant = found_behind end.comments node.meant;
-      found_rows = head_row q i h items ls b ∷ node.found_rows;
-      head = head_at refl (omega arith);
-      keyed = keyed node.found_rows (head_row q i h items ls b) refl refl refl;
-      placed = subst (λ z. RowsIn t (row ∷ y ∷ ys) (head_row q i h items ls b ∷ node.found_rows) ds q z node.place r) (sym (comments_behind end.comments node.meaning))
+      found_rows = head_row column q i h items ls b ∷ node.found_rows;
+      head = head_at refl refl (omega arith);
+      keyed = keyed node.found_rows (head_row column q i h items ls b) refl refl refl;
+      placed = subst (λ z. RowsIn t (row ∷ y ∷ ys) (head_row column q i h items ls b ∷ node.found_rows) ds q z node.place r) (sym (comments_behind end.comments node.meaning))
           (row_before (head_stands head) (record { ascend = end_ascends end.end; is = end.is; start = end.start; tail = behind_line bare end.end head.leaves_to }) end.rest node.placed);
       is = texts_behind end.comments node.meaning ∙ (ap (λ z. z ++ texts node.meaning.comments) end.is ∙ ap (λ z. carried_texts (first ds) ++ z) node.is);
       laid = laid_after (omega arith) (laid_behind end.comments node.meaning (end_ascends end.end) end.is (omega arith) node.laid);
@@ -249,24 +250,27 @@ record AnyHead (column : ℕ) (text items : List ℕ) (leaves : List Span) (blan
   leaves_to : LeavesTo (i + 1) ls
 
 head_of : {column q i a : ℕ} {text items found : List ℕ} {leaves ls : List Span} {blank : Bool} {ending : Ending} (o : Option CommentValue) → AnyHead column text items leaves blank q i a found ls
-    → Head (record (key_head column text items leaves blank) { key_comment = o; ending = ending }) q i a found ls (is_some o)
-head_of o h = record { width = h.width; items_stand = h.items_stand; leaves_stand = h.leaves_stand; leaves_to = h.leaves_to; commented = refl }
+    → Head column (record (key_head column text items leaves blank) { key_comment = o; ending = ending }) q i a found ls (is_some o)
+head_of o h = record { stands = refl; width = h.width; items_stand = h.items_stand; leaves_stand = h.leaves_stand; leaves_to = h.leaves_to; commented = refl }
 
 value_made : {t : List ℕ} {s : Setting} {v : Node} {spot : Spot} {rs : List Row} {q a : ℕ} {found : List ℕ} {ls : List Span} (column : ℕ) (text items : List ℕ) (leaves : List Span) (blank : Bool) (o : Option CommentValue) (below : Bool)
-    (ds : List Deco) (r : List ℕ) (i : ℕ) → AnyHead column text items leaves blank q i a found ls → Claim s v spot rs → below ≡ begins_below v → (is_some o ≡ true → begins_below v ≡ false → column + 1 ≤ spot.column)
+    (ds : List Deco) (r : List ℕ) (i wide : ℕ) → AnyHead column text items leaves blank q i a found ls → (OnLine t column q → OnLine t (column + wide) (i + 1))
+    → (is_some o ≡ false → spot.column ≡ column + wide + 1) → Claim s v spot rs → below ≡ begins_below v → (is_some o ≡ true → begins_below v ≡ false → column + 1 ≤ spot.column)
     → code t i ≡ 58 → IsUtf8 t → Stood s v (pos column) BlockOut spot → AreDecos ds → Calm (behind_key (key_head column text items leaves blank) o below rs) ds r
     → Rest t (i + 1) (behind_then o below rs ds r)
-    → ValueMade t s spot.entries column v (behind_key (key_head column text items leaves blank) o below rs) ds q (a ∷ found) ls (is_some o) below i r (steps_behind o below rs ds)
-value_made {q = q} {a = a} {found = found} {ls = ls} column text items leaves blank (Some c) below ds r i head v e deep colon u stood k calm w =
+    → ValueMade t s spot column v (behind_key (key_head column text items leaves blank) o below rs) ds q (a ∷ found) ls (is_some o) below i r (steps_behind o below rs ds)
+value_made {q = q} {a = a} {found = found} {ls = ls} column text items leaves blank (Some c) below ds r i wide head over right v e deep colon u stood k calm w =
     value_below column (record (key_head column text items leaves blank) { key_comment = Some c; ending = before_node }) ds r refl (head_of (Some c) head) (λ ps h x y z. key_commented x y z) v (deep refl) colon u stood k calm.1 w
-value_made {v = v} {spot = spot} column text items leaves blank None true ds r i head k e deep colon u stood a calm w =
+value_made {v = v} {spot = spot} column text items leaves blank None true ds r i wide head over right k e deep colon u stood a calm w =
     value_below column (record (key_head column text items leaves blank) { key_comment = None; ending = before_node }) ds r refl (head_of None head) (λ ps h x y z. key_above x y z) k (λ f. absurd (true≢false (e ∙ f))) colon u stood a calm.1 w
-value_made {s = s} {spot = spot} column text items leaves blank None false ds r i head (no_row m) e deep colon u stood a calm w =
-    value_missing s spot.entries column (key_head column text items leaves blank) ds r refl (head_of {ending = anywhere} None head) (λ h x y z. key_alone x y z) m colon u a w
-value_made {t} {s} {v} {spot} {q = q} {a = h} {found = found} {ls = ls} column text items leaves blank None false ds r i head (some_rows {r = y} {rs = ys} f g m) e deep colon u stood a calm w =
+value_made {s = s} {spot = spot} column text items leaves blank None false ds r i wide head over right (no_row m) e deep colon u stood a calm w =
+    value_missing s spot column (key_head column text items leaves blank) ds r refl (head_of {ending = anywhere} None head) (λ h x y z. key_alone x y z) m colon u a w
+value_made {t} {s} {v} {spot} {q = q} {a = h} {found = found} {ls = ls} column text items leaves blank None false ds r i wide head over right (some_rows {r = y} {rs = ys} f g m) e deep colon u stood a calm w =
     let space = visible_at 32 u (omega arith) (omega arith) w in
     let node = m.made (pos column) BlockOut ds r (i + 1 + 1) u stood a calm space.1 in
-    let joint = keyed_behind (key_head column text items leaves blank) q i h found ls (head_of {ending = anywhere} None head) refl node.placed in
+    let stands : y.column ≡ column + wide + 1 = f (sym e) ∙ right refl in
+    let joint = keyed_behind column (key_head column text items leaves blank) q i h found ls (head_of {ending = anywhere} None head) refl
+    (λ z. on_same (sym stands) refl (on_sign 32 (inline_then (y ∷ ys) ds r) u (omega arith) (omega arith) (over z) w)) node.placed in
     record {
       height = node.height;
       place = node.place;
@@ -287,38 +291,11 @@ value_made {t} {s} {v} {spot} {q = q} {a = h} {found = found} {ls = ls} column t
       held = held_joined (key_head column text items leaves blank) 1 y ys ds r node.held;
     }
 
--- The key.
-
--- the `:` after a key, and what stands after it
-record KeyMade (t : List ℕ) (h : ℕ) (mean : Meaning) (q : ℕ) (z written_text : List ℕ) : Type 0 where
-  pub json : Bool
-  pub place : ℕ
-  pub derived : Derives t h (KeyOf json BlockKey) q place mean
-  pub colon : code t place ≡ 58
-  pub rest : Rest t (place + 1) z
-  pub width : q + length written_text ≡ place + 1
-
-key_made : {t : List ℕ} {k : Node} (q : ℕ) (z : List ℕ) (text : List ℕ) (node : LineNode BlockKey k) → ColonFits node.colon text → length (chars (written k)) ≤ 1023 → IsUtf8 t
-    → Rest t q (written k ++ (text ++ z)) → KeyMade t node.height (node.mean q) q z (written k ++ text)
-key_made {t} {k} q z text node (colon_at_once e) l u w =
-    let back : Back node.json true BlockKey (written k) node.height node.mean = subst (λ b. Back node.json b BlockKey (written k) node.height node.mean) e node.back in
-    let after_key = rest_text (written k) u node.back.line w in
-    let colon = visible_at 58 u (omega arith) (omega arith) after_key.rest in
-    record { json = node.json; place = q + length (written k); derived = key_back q (58 ∷ z) u back (omega arith) colon_follows w; colon = colon.0; rest = colon.1; width = let n : length (written k ++ 58 ∷ []) ≡ length (written k) + 1 = length-append (written k) (58 ∷ []) in omega (arith, n) }
-key_made {t} {k} q z text node colon_apart l u w =
-    let after_key = rest_text (written k) u node.back.line w in
-    let space = visible_at 32 u (omega arith) (omega arith) after_key.rest in
-    let colon = visible_at 58 u (omega arith) (omega arith) space.1 in
-    let parts : chars (written k ++ 32 ∷ []) ≡ chars (written k) ++ 32 ∷ [] =
-    chars-append (written k) (32 ∷ []) (written_utf8 (written k) (32 ∷ 58 ∷ z) u w after_key.rest) ∙ ap (λ x. chars (written k) ++ x) space_chars in
-    let long : length (chars (written k ++ 32 ∷ [])) ≡ length (chars (written k)) + 1 = ap length parts ∙ length-append (chars (written k)) (32 ∷ []) in
-    record { json = node.json; place = q + length (written k) + 1; derived = key_apart_back q (58 ∷ z) u node.back (omega (arith, long, l)) w; colon = colon.0; rest = colon.1; width = let n : length (written k ++ 32 ∷ 58 ∷ []) ≡ length (written k) + 2 = length-append (written k) (32 ∷ 58 ∷ []) in omega (arith, n) }
-
 -- A pair with an implicit key.
 
 module _ {s : Setting} {k v : Node} {spot : Spot} {rs : List Row} (column : ℕ) (items : List ℕ) (leaves : List Span) (blank : Bool) (o : Option CommentValue) (below : Bool)
     (value : Claim s v spot rs) (same : below ≡ begins_below v) (deep : is_some o ≡ true → begins_below v ≡ false → column + 1 ≤ spot.column) (stood : Stood s v (pos column) BlockOut spot)
-    (entries : spot.entries ≡ value_entries s.style column v) (implicit : is_implicit s.style column k ≡ true) (flag : is_some o ≡ is_some (key_comment s.comments k v)) where
+    (is_spot : spot ≡ value_of_implicit s column k v) (implicit : is_implicit s.style column k ≡ true) (flag : is_some o ≡ is_some (key_comment s.comments k v)) where
   pub keyed_makes : KeyNode k → length leaves ≡ length (leaves_of k) → length (chars (written k)) ≤ 1023
       → EntryMakes s false column (max (tall k) (tall v)) (λ t m ps. FoundPair t s column k v m ps) (behind_key (key_head column (written k ++ colon_behind k) items leaves blank) o below rs)
   keyed_makes n count l = record { starts = behind_begins column (written k ++ colon_behind k) items leaves blank o below rs; made = made } where
@@ -335,8 +312,12 @@ module _ {s : Setting} {k v : Node} {spot : Spot} {rs : List Row} (column : ℕ)
         let order : q ≤ key.place + 1 = node_order stands in
         let head : AnyHead column (written k ++ colon_behind k) items leaves blank q key.place q (items_in found) (leaves_of found) =
         record { width = key.width; items_stand = one_inside (omega arith) order (items_inside stands); leaves_stand = leaves_inside stands; leaves_to = leaves_end stands } in
-        let one = value_made column (written k ++ colon_behind k) items leaves blank o below ds r key.place head value same deep key.colon u stood a calm key.rest in
-        let value_set : SetDone t s.style (value_entries s.style column v) (column + s.style.indent) one.meaning.events = subst (λ z. SetDone t s.style z (column + s.style.indent) one.meaning.events) entries one.set in
+        let alike = placed_node at (n.node.meant q) in
+        let line = n.node.back.line in
+        let derived = key_node q (behind_then o below rs ds r) (colon_behind k) n.node n.colon u shaped in
+        let one = value_made column (written k ++ colon_behind k) items leaves blank o below ds r key.place (width (written k) + width (colon_behind k)) head
+        (λ b. over_key key.place (written k) (colon_behind k) (behind_then o below rs ds r) u line (colon_line n.colon) shaped key.width b) (λ e. value_right s spot column k v (is_some o) is_spot flag e) value same deep key.colon u stood a calm key.rest in
+        let value_set : SetDone t s.style (value_entries s.style column v) (column + s.style.indent) one.meaning.events = subst (λ z. SetDone t s.style z (column + s.style.indent) one.meaning.events) (ap (λ z. z.entries) is_spot) one.set in
         let low : n.node.height ≤ tall k = n.node.low in
         let high : one.height ≤ tall v = one.low in
         record {
@@ -348,8 +329,9 @@ module _ {s : Setting} {k v : Node} {spot : Spot} {rs : List Row} (column : ℕ)
           rest = one.rest;
           start = one.start;
           found_rows = one.found_rows;
-          meant = found_implicit (n.node.mean q) q key.place found (is_some o) flag implicit (placed_node at (n.node.meant q)) at.events (n.node.meant q).escapes (node_upto at.stands at.ends) one.head
-              (subst (λ z. FoundNode t s z v one.meaning one.inner) entries one.meant) (subst (λ z. KeyRows (q ∷ items_in found) (leaves_of found) (is_some o) z one.inner one.found_rows) same one.keyed);
+          meant = found_implicit (n.node.mean q) q key.place found (is_some o) flag implicit alike at.events (n.node.meant q).escapes (node_upto at.stands at.ends)
+              (node_text (colon_behind k ++ behind_then o below rs ds r) alike line shaped (λ f. bracketed found u derived at.events f)) one.head
+              (subst (λ z. FoundNode t s z v one.meaning one.inner) is_spot one.meant) (subst (λ z. KeyRows t (q ∷ items_in found) (leaves_of found) (is_some o) z one.inner one.found_rows) same one.keyed);
           placed = subst (λ z. RowsIn t (behind_key (key_head column (written k ++ colon_behind k) items leaves blank) o below rs) one.found_rows ds q z one.place r)
               (sym (comments_both (entering q (Some key.place) (n.node.mean q)) one.meaning
               ∙ ap (λ z. z ++ one.meaning.comments) (comments_entering q (Some key.place) (n.node.mean q) ∙ n.node.silent q))) one.placed;
@@ -358,23 +340,26 @@ module _ {s : Setting} {k v : Node} {spot : Spot} {rs : List Row} (column : ℕ)
           laid = subst (λ z. MeaningLaid q one.place (entering q (Some key.place) (n.node.mean q) ⊕ one.meaning) z) (sym (behind_steps column (written k ++ colon_behind k) items leaves blank o below rs ds))
               (laid_both (entering q (Some key.place) (n.node.mean q)) one.meaning
               (laid_entering q (Some key.place) (n.node.mean q) (laid_line leaves (places u key.derived refl) (n.node.meant q) (n.node.silent q) count)) one.laid (omega arith));
-          set = set_implicit column q key.place (n.node.mean q) one.meaning found (placed_node at (n.node.meant q)) implicit (flow_means key.derived tt) at.events
+          set = set_implicit column q key.place (n.node.mean q) one.meaning found alike implicit (flow_means key.derived tt) at.events
               (λ f g. key_no_question key.derived (record { sign_stands = f; behind = g })) (meant_of one.meant) value_set;
           held = held_after (entering q (Some key.place) (n.node.mean q)) one.meaning (behind_key (key_head column (written k ++ colon_behind k) items leaves blank) o below rs) ds r
               (entering_silent q (Some key.place) (n.node.mean q) (n.node.silent q)) one.held;
         }
 
   -- the key is an empty node
-  pub unkeyed_makes : MeansNothing k → leaves ≡ [] → EntryMakes s false column (max (tall k) (tall v)) (λ t m ps. FoundPair t s column k v m ps) (behind_key (key_head column (58 ∷ []) items leaves blank) o below rs)
-  unkeyed_makes n none = record { starts = behind_begins column (58 ∷ []) items leaves blank o below rs; made = made } where
+  pub unkeyed_makes : MeansNothing k → written k ≡ [] → colon_behind k ≡ 58 ∷ [] → leaves ≡ [] → EntryMakes s false column (max (tall k) (tall v)) (λ t m ps. FoundPair t s column k v m ps) (behind_key (key_head column (58 ∷ []) items leaves blank) o below rs)
+  unkeyed_makes n said colon_is none = record { starts = behind_begins column (58 ∷ []) items leaves blank o below rs; made = made } where
     made : {t : List ℕ} (ds : List Deco) (r : List ℕ) (q : ℕ) → IsUtf8 t → AreDecos ds → Calm (behind_key (key_head column (58 ∷ []) items leaves blank) o below rs) ds r
         → Rest t q (inline_then (behind_key (key_head column (58 ∷ []) items leaves blank) o below rs) ds r)
         → EntryMade s false column (max (tall k) (tall v)) (λ t m ps. FoundPair t s column k v m ps) t (behind_key (key_head column (58 ∷ []) items leaves blank) o below rs) ds q r
     made {t} ds r q u a calm w =
-        let colon = visible_at 58 u (omega arith) (omega arith) (subst (λ z. Rest t q z) (behind_inline column (58 ∷ []) items leaves blank o below rs ds r) w) in
+        let here : Rest t q (58 ∷ behind_then o below rs ds r) = subst (λ z. Rest t q z) (behind_inline column (58 ∷ []) items leaves blank o below rs ds r) w in
+        let colon = visible_at 58 u (omega arith) (omega arith) here in
+        let wide : width (written k) + width (colon_behind k) ≡ 1 = ap (λ z. width z + width (colon_behind k)) said ∙ (ap (λ z. width [] + width z) colon_is ∙ bare_width) in
         let head : AnyHead column (58 ∷ []) items leaves blank q q q [] [] = record { width = refl; items_stand = one_inside (omega arith) (omega arith) none_inside; leaves_stand = none_inside; leaves_to = no_leaf_to } in
-        let one = value_made column (58 ∷ []) items leaves blank o below ds r q head value same deep colon.0 u stood a calm colon.1 in
-        let value_set : SetDone t s.style (value_entries s.style column v) (column + s.style.indent) one.meaning.events = subst (λ z. SetDone t s.style z (column + s.style.indent) one.meaning.events) entries one.set in
+        let one = value_made column (58 ∷ []) items leaves blank o below ds r q (width (written k) + width (colon_behind k)) head
+        (λ b. on_same (omega (arith, wide)) refl (on_sign 58 (behind_then o below rs ds r) u (omega arith) (omega arith) b here)) (λ e. value_right s spot column k v (is_some o) is_spot flag e) value same deep colon.0 u stood a calm colon.1 in
+        let value_set : SetDone t s.style (value_entries s.style column v) (column + s.style.indent) one.meaning.events = subst (λ z. SetDone t s.style z (column + s.style.indent) one.meaning.events) (ap (λ z. z.entries) is_spot) one.set in
         let high : one.height ≤ tall v = one.low in
         record {
           height = one.height;
@@ -385,8 +370,9 @@ module _ {s : Setting} {k v : Node} {spot : Spot} {rs : List Row} (column : ℕ)
           rest = one.rest;
           start = one.start;
           found_rows = one.found_rows;
-          meant = found_implicit (empty_node q) q q bare_node (is_some o) flag implicit (bare_alike q (n.meant q)) (bare_events q) (bare_escapes q) (stands_nowhere (omega arith) refl) one.head
-              (subst (λ z. FoundNode t s z v one.meaning one.inner) entries one.meant) (subst (λ z. KeyRows (q ∷ []) [] (is_some o) z one.inner one.found_rows) same one.keyed);
+          meant = found_implicit (empty_node q) q q bare_node (is_some o) flag implicit (bare_alike q (n.meant q)) (bare_events q) (bare_escapes q) (stands_nowhere (omega arith) refl)
+              (record { line = line_nothing; behind = 58 ∷ behind_then o below rs ds r; there = here; flow = λ f. absurd (true≢false (sym f)) }) one.head
+              (subst (λ z. FoundNode t s z v one.meaning one.inner) is_spot one.meant) (subst (λ z. KeyRows t (q ∷ []) [] (is_some o) z one.inner one.found_rows) same one.keyed);
           placed = subst (λ z. RowsIn t (behind_key (key_head column (58 ∷ []) items leaves blank) o below rs) one.found_rows ds q z one.place r)
               (sym (comments_both (entering q (Some q) (empty_node q)) one.meaning ∙ ap (λ z. z ++ one.meaning.comments) (comments_entering q (Some q) (empty_node q) ∙ bare_comments q))) one.placed;
           is = texts_both (entering q (Some q) (empty_node q)) one.meaning

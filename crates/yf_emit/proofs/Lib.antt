@@ -99,8 +99,10 @@ pub mod ScalarStands
 pub mod ScalarFound
 pub mod ScalarsMade
 pub mod EntriesMade
+pub mod KeyTexts
 pub mod KeysMade
 pub mod CollectionsMade
+pub mod FoundCollections
 pub mod TreesMade
 pub mod DocumentsMade
 pub mod StreamParts
@@ -229,3 +231,10 @@ pub mod FormatsFixed
 pub mod FixedBlocks
 pub mod FixedLawsHold
 pub mod FlowEvents
+-- outer flow collections of what is laid out stand as they are written
+pub mod LinePlaces
+pub mod FlowHeads
+pub mod WrittenNodes
+pub mod WrittenFlows
+pub mod WrittenTrees
+pub mod WrittenReadings

@@ -32,9 +32,11 @@ use Rattle.yf_emit.specs.Rows.{Row, anywhere, joined, begins_below}
 use Rattle.yf_emit.specs.Steps.{steps_in}
 use Rattle.yf_emit.proofs.HeldLemmas.{Held, empty_silent, held_joined, held_line, row_ended}
 use Rattle.yf_emit.proofs.FlowEvents.{flow_means}
+use Rattle.yf_emit.proofs.FlowHeads.{bracketed}
 use Rattle.yf_emit.proofs.FoundLines.{line_found}
 use Rattle.yf_emit.proofs.FoundNodes.{FoundNode, SignRows, sign_alone, sign_joined, found_noting, found_nothing}
 use Rattle.yf_emit.proofs.LaidRows.{laid_row, laid_line}
+use Rattle.yf_emit.proofs.LinePlaces.{OnLine, on_same, on_sign, on_spaces}
 use Rattle.yf_emit.proofs.NodePlaces.{NodeAt, leaf_at, behind_sign_at}
 use Rattle.yf_emit.proofs.PlacedRows.{never_bare, none_inside, one_inside, PlacedRow, no_leaf_to, behind_line, RowsIn, last_row, row_before, joined_placed, rows_joined}
 use Rattle.yf_emit.proofs.RowEnds.{row_end, end_follows, first_deco}
@@ -51,25 +53,25 @@ pub record Stood (s : Setting) (x : Node) (n : ℤ) (c : Ctx) (spot : Spot) : Ty
   pub lines : spot.lines ≡ base n + s.style.indent
 
 -- the node whose first row's text stands at q, up to the row that r begins with
-pub record NodeMade (t : List ℕ) (s : Setting) (n : ℤ) (c : Ctx) (m : ℕ) (x : Node) (rs : List Row) (ds : List Deco) (q : ℕ) (r : List ℕ) : Type 0 where
+pub record NodeMade (t : List ℕ) (s : Setting) (n : ℤ) (c : Ctx) (spot : Spot) (x : Node) (rs : List Row) (ds : List Deco) (q : ℕ) (r : List ℕ) : Type 0 where
   pub height : ℕ
   pub place : ℕ
   pub meaning : Meaning
-  pub at : NodeAt t n c m (not (begins_below x)) height q place meaning
+  pub at : NodeAt t n c spot.entries (not (begins_below x)) height q place meaning
   pub low : height ≤ tall x
   pub rest : Rest t place r
   pub start : LineStart t place
   pub found_rows : List PlacedRow
-  pub meant : FoundNode t s m x meaning found_rows
+  pub meant : FoundNode t s spot x meaning found_rows
   pub is : texts meaning.comments ≡ comments_in rs ds
   pub laid : MeaningLaid q place meaning (steps_in rs ds)
   pub held : Held t meaning rs ds r
-  pub set : SetMeant t s.style m (base n + s.style.indent) (begins_below x) q meaning
+  pub set : SetMeant t s.style spot.entries (base n + s.style.indent) (begins_below x) q meaning
   pub placed : RowsIn t rs found_rows ds q meaning.comments place r
 
 pub record Makes (s : Setting) (x : Node) (spot : Spot) (rs : List Row) : Type 0 where
   pub made : {t : List ℕ} (n : ℤ) (c : Ctx) (ds : List Deco) (r : List ℕ) (q : ℕ) → IsUtf8 t → Stood s x n c spot → AreDecos ds → Calm rs ds r
-      → Rest t q (inline_then rs ds r) → NodeMade t s n c spot.entries x rs ds q r
+      → Rest t q (inline_then rs ds r) → NodeMade t s n c spot x rs ds q r
 
 -- what is shown of a node and its rows: it has none and means nothing, or they are derived as the node
 pub record MeansNothing (x : Node) : Type 0 where
@@ -83,16 +85,16 @@ pub data Claim (s : Setting) (x : Node) (spot : Spot) : List Row → Type 0 wher
 -- A leaf or a flow collection on one line.
 
 pub line_made : {t : List ℕ} {s : Setting} {x : Node} {r : Row} (spot : Spot) (n : ℤ) (c : Ctx) (ds : List Deco) (z : List ℕ) (q : ℕ) → begins_below x ≡ false
-    → is_inline x ≡ true → written x ≢ [] → is_some r.key_comment ≡ false → r.text ≡ written x → r.body ≡ [] → length r.leaves ≡ length (leaves x) → LineNode FlowOut x → IsUtf8 t → Stood s x n c spot → AreDecos ds → Rest t q (inline_then (r ∷ []) ds z)
-    → NodeMade t s n c spot.entries x (r ∷ []) ds q z
-line_made {t} {s} {x} {r} spot n c ds z q b inline some key text body count node u stood a w =
+    → is_inline x ≡ true → written x ≢ [] → is_some r.key_comment ≡ false → r.text ≡ written x → r.column ≡ spot.column → r.body ≡ [] → length r.leaves ≡ length (leaves x) → LineNode FlowOut x → IsUtf8 t → Stood s x n c spot → AreDecos ds → Rest t q (inline_then (r ∷ []) ds z)
+    → NodeMade t s n c spot x (r ∷ []) ds q z
+line_made {t} {s} {x} {r} spot n c ds z q b inline some key text column body count node u stood a w =
     let there : Rest t q (written x ++ end_then (first ds) [] z) =
     subst (λ l. Rest t q (written x ++ end_then (first ds) l z)) body (subst (λ v. Rest t q (v ++ end_then (first ds) r.body z)) text w) in
     let derived = node.back.made (n +ℤ pos 1) q (end_then (first ds) [] z) u (any_follow node.colon (end_follows (first ds) [] z)) there in
     let behind_text = rest_text (written x) u node.back.line there in
     let end = row_end (first ds) z u (first_deco a) behind_text.rest in
     let at = leaf_at {c = c} spot.entries stood.block (flow_node derived) end.end in
-    let found = line_found {row = r} s spot.entries ds inline some text body key (places u derived refl) (node.meant q) (node.silent q) end.end end.is end.start end.rest in
+    let found = line_found {row = r} s spot ds (end_then (first ds) [] z) inline some text column body key node.back.line there (λ y e f. bracketed y u derived e f) (places u derived refl) (node.meant q) (node.silent q) end.end end.is end.start end.rest in
     record {
       height = node.height;
       place = end.place;
@@ -116,7 +118,7 @@ abbrev pub sign_row : ℕ → ℕ → List ℕ → Bool → Row
 sign_row column sign items blank =
     record { column = column; text = sign ∷ []; items = items; leaves = []; key_comment = None; blank_before = blank; ending = anywhere; body = []; lines = 0 }
 
-pub record SignMade (t : List ℕ) (s : Setting) (a : ℕ) (c : Ctx) (sign : ℕ) (x : Node) (rs : List Row) (ds : List Deco) (q : ℕ) (r : List ℕ) : Type 0 where
+pub record SignMade (t : List ℕ) (s : Setting) (a : ℕ) (c : Ctx) (sign : ℕ) (spot : Spot) (x : Node) (rs : List Row) (ds : List Deco) (q : ℕ) (r : List ℕ) : Type 0 where
   pub height : ℕ
   pub place : ℕ
   pub meaning : Meaning
@@ -127,13 +129,13 @@ pub record SignMade (t : List ℕ) (s : Setting) (a : ℕ) (c : Ctx) (sign : ℕ
   pub rest : Rest t place r
   pub start : LineStart t place
   pub inner : List PlacedRow
-  pub meant : FoundNode t s (a + s.style.indent) x meaning inner
+  pub meant : FoundNode t s spot x meaning inner
   pub is : texts meaning.comments ≡ comments_in rs ds
   pub laid : MeaningLaid q place meaning (steps_in rs ds)
   pub held : Held t meaning rs ds r
   pub set : SetSigned t s.style a q meaning
   pub found_rows : List PlacedRow
-  pub signed : SignRows (q ∷ []) inner found_rows
+  pub signed : SignRows t (q ∷ []) inner found_rows
   pub placed : RowsIn t rs found_rows ds q meaning.comments place r
 
 end_code : {t : List ℕ} {q : ℕ} (xs : List (List ℕ)) (r : List ℕ) → IsUtf8 t → Rest t q (trails_then xs (10 ∷ r)) → (code t q ≡ 32) ⊎ (code t q ≡ 10)
@@ -148,30 +150,35 @@ noting_nothing k cs = refl
 -- the rows of a node behind a sign at q
 record Behind (t : List ℕ) (rs : List Row) (inner : List PlacedRow) (ds : List Deco) (q : ℕ) (cs : List CommentValue) (place : ℕ) (r : List ℕ) : Type 0 where
   found_rows : List PlacedRow
-  signed : SignRows (q ∷ []) inner found_rows
+  signed : SignRows t (q ∷ []) inner found_rows
   placed : RowsIn t rs found_rows ds q cs place r
 
 rows_behind : {t : List ℕ} {y : Row} {ys : List Row} {ps : List PlacedRow} {ds : List Deco} {i place : ℕ} {cs : List CommentValue} {r : List ℕ} (sign column : ℕ) (items : List ℕ) (blank : Bool) (n q : ℕ)
-    → i ≡ q + 1 + n → RowsIn t (y ∷ ys) ps ds i cs place r → Behind t (joined (sign_row column sign items blank) n (y ∷ ys)) ps ds q cs place r
-rows_behind sign column items blank n q e (last_row {p = p} at end w) = record {
-  found_rows = joined_placed (q ∷ []) [] q p ∷ [];
-  signed = sign_joined refl refl refl (let f = at.from in omega (arith, e, f)) refl refl;
+    → i ≡ q + 1 + n → (OnLine t column q → OnLine t y.column i) → RowsIn t (y ∷ ys) ps ds i cs place r → Behind t (joined (sign_row column sign items blank) n (y ∷ ys)) ps ds q cs place r
+rows_behind sign column items blank n q e on (last_row {p = p} at end w) = record {
+  found_rows = joined_placed (q ∷ []) [] column q p ∷ [];
+  signed = sign_joined refl refl refl (let f = at.from in omega (arith, e, f)) refl (λ a. on_same at.column (sym at.from) (on a)) refl;
   placed = rows_joined (sign_row column sign items blank) n q q [] [] e (one_inside (omega arith) (omega (arith, e)) none_inside) none_inside no_leaf_to (last_row at end w);
 }
-rows_behind sign column items blank n q e (row_before {p = p} {ps = ps} at end w more) = record {
-  found_rows = joined_placed (q ∷ []) [] q p ∷ ps;
-  signed = sign_joined refl refl refl (let f = at.from in omega (arith, e, f)) refl refl;
+rows_behind sign column items blank n q e on (row_before {p = p} {ps = ps} at end w more) = record {
+  found_rows = joined_placed (q ∷ []) [] column q p ∷ ps;
+  signed = sign_joined refl refl refl (let f = at.from in omega (arith, e, f)) refl (λ a. on_same at.column (sym at.from) (on a)) refl;
   placed = rows_joined (sign_row column sign items blank) n q q [] [] e (one_inside (omega arith) (omega (arith, e)) none_inside) none_inside no_leaf_to (row_before at end w more);
 }
 
-pub sign_made : {t : List ℕ} {s : Setting} {x : Node} {spot : Spot} {rs : List Row} (a sign : ℕ) (column : ℕ) (items : List ℕ) (blank : Bool) (c : Ctx) (ds : List Deco) (r : List ℕ) (q : ℕ)
-    → 33 ≤ sign → sign < 127 → 2 ≤ s.style.indent → Claim s x spot rs → spot.entries ≡ a + s.style.indent → IsUtf8 t → Stood s x (pos a) c spot → AreDecos ds
-    → Calm (joined (sign_row column sign items blank) (s.style.indent - 1) rs) ds r → Rest t q (inline_then (joined (sign_row column sign items blank) (s.style.indent - 1) rs) ds r)
-    → SignMade t s a c sign x (joined (sign_row column sign items blank) (s.style.indent - 1) rs) ds q r
-sign_made {t} {s} {x} {spot} a sign column items blank c ds r q low high wide (no_row m) e u stood k calm w =
+-- where the first row of a node stands
+row_column : {k m : ℕ} (b : Bool) → (b ≡ false → k ≡ m) → (b ≡ true → k ≡ m) → k ≡ m
+row_column true f g = g refl
+row_column false f g = f refl
+
+pub sign_made : {t : List ℕ} {s : Setting} {x : Node} {spot : Spot} {rs : List Row} (a sign : ℕ) (items : List ℕ) (blank : Bool) (c : Ctx) (ds : List Deco) (r : List ℕ) (q : ℕ)
+    → 33 ≤ sign → sign < 127 → 2 ≤ s.style.indent → Claim s x spot rs → spot.column ≡ a + s.style.indent → spot.entries ≡ a + s.style.indent → IsUtf8 t → Stood s x (pos a) c spot → AreDecos ds
+    → Calm (joined (sign_row a sign items blank) (s.style.indent - 1) rs) ds r → Rest t q (inline_then (joined (sign_row a sign items blank) (s.style.indent - 1) rs) ds r)
+    → SignMade t s a c sign spot x (joined (sign_row a sign items blank) (s.style.indent - 1) rs) ds q r
+sign_made {t} {s} {x} {spot} a sign items blank c ds r q low high wide (no_row m) f e u stood k calm w =
     let at = visible_at sign u (omega (arith, low)) high w in
     let end = row_end (first ds) r u (first_deco k) at.1 in
-    let row : PlacedRow = record { items = q ∷ []; leaves = []; commented = false; from = q; upto = q + 1 } in
+    let row : PlacedRow = record { items = q ∷ []; leaves = []; commented = false; column = a; from = q; upto = q + 1 } in
     record {
       height = 0;
       place = end.place;
@@ -186,7 +193,7 @@ sign_made {t} {s} {x} {spot} a sign column items blank c ds r q low high wide (n
       meant = found_noting end.comments (found_nothing (q + 1) (m.meant (q + 1)));
       found_rows = row ∷ [];
       signed = sign_alone refl refl refl refl;
-      placed = subst (λ v. RowsIn t (sign_row column sign items blank ∷ []) (row ∷ []) ds q v end.place r) (sym (noting_nothing (q + 1) end.comments))
+      placed = subst (λ v. RowsIn t (sign_row a sign items blank ∷ []) (row ∷ []) ds q v end.place r) (sym (noting_nothing (q + 1) end.comments))
           (last_row (record {
             from = refl;
             order = omega arith;
@@ -195,22 +202,26 @@ sign_made {t} {s} {x} {spot} a sign column items blank c ds r q low high wide (n
             leaves = none_inside;
             commented = refl;
             bare = λ z. never_bare z;
+            column = refl;
           }) (record { ascend = end_ascends end.end; is = end.is; start = end.start; tail = behind_line refl end.end no_leaf_to }) end.rest);
       is = texts_noting (empty_node (q + 1)) end.comments ∙ (ap (λ z. z ++ texts end.comments) (texts_empty (q + 1)) ∙ (end.is ∙ sym (append-nil (carried_texts (first ds)))));
       laid = laid_row (empty_node (q + 1)) end.comments [] (laid_empty (q + 1) (omega arith)) (end_ascends end.end) end.is;
       set = signed_empty (q + 1) end.comments;
-      held = held_line (empty_node (q + 1)) end.comments (sign_row column sign items blank) ds r refl (empty_silent (q + 1))
+      held = held_line (empty_node (q + 1)) end.comments (sign_row a sign items blank) ds r refl (empty_silent (q + 1))
           (row_ended (first ds) r u (behind_byte q u at.0 (omega arith) (ascii_ns sign low high)) (first_deco k) at.1 end.end);
     }
-sign_made {t} {s} {x} {spot} a sign column items blank c ds r q low high wide (some_rows {r = y} {rs = ys} f g m) e u stood k calm w =
+sign_made {t} {s} {x} {spot} a sign items blank c ds r q low high wide (some_rows {r = y} {rs = ys} f g m) h e u stood k calm w =
     let n : ℕ = s.style.indent - 1 in
     let same : (replicate n 32 ++ y.text) ++ end_then (first ds) y.body (lines_then ys (after ds) r) ≡ replicate n 32 ++ inline_then (y ∷ ys) ds r =
     append_assoc (replicate n 32) y.text (end_then (first ds) y.body (lines_then ys (after ds) r)) in
-    let at = visible_at sign u (omega (arith, low)) high (subst (λ v. Rest t q (sign ∷ v)) same w) in
+    let here : Rest t q (sign ∷ (replicate n 32 ++ inline_then (y ∷ ys) ds r)) = subst (λ v. Rest t q (sign ∷ v)) same w in
+    let at = visible_at sign u (omega (arith, low)) high here in
     let spaces = rest_spaces n (q + 1) u at.1 in
+    let stands : y.column ≡ a + 1 + n = row_column (begins_below x) (λ z. f z ∙ (h ∙ omega arith)) (λ z. g z ∙ (e ∙ omega arith)) in
     let node = m.made (pos a) c ds r (q + 1 + n) u stood k calm spaces.1 in
     let zero_more : q + 1 + 0 ≡ q + 1 = omega arith in
-    let behind_it = rows_behind sign column items blank n q refl node.placed in
+    let behind_it = rows_behind sign a items blank n q refl
+    (λ b. on_same (sym stands) refl (on_spaces n (inline_then (y ∷ ys) ds r) u (on_sign sign (replicate n 32 ++ inline_then (y ∷ ys) ds r) u (omega (arith, low)) high b here) at.1)) node.placed in
     record {
       height = node.height;
       place = node.place;
@@ -222,7 +233,7 @@ sign_made {t} {s} {x} {spot} a sign column items blank c ds r q low high wide (s
       rest = node.rest;
       start = node.start;
       inner = node.found_rows;
-      meant = subst (λ z. FoundNode t s z x node.meaning node.found_rows) e node.meant;
+      meant = node.meant;
       found_rows = behind_it.found_rows;
       signed = behind_it.signed;
       placed = behind_it.placed;
@@ -230,5 +241,5 @@ sign_made {t} {s} {x} {spot} a sign column items blank c ds r q low high wide (s
       set = signed_of (λ b. subst (λ z. ColumnAt t z (q + 1 + n)) (omega arith) (column_more sign n b at.0 (omega (arith, low)) high spaces.0))
           (subst (λ z. SetMeant t s.style z (a + s.style.indent) (begins_below x) (q + 1 + n) node.meaning) e node.set);
       laid = laid_after (omega arith) node.laid;
-      held = held_joined (sign_row column sign items blank) n y ys ds r node.held;
+      held = held_joined (sign_row a sign items blank) n y ys ds r node.held;
     }

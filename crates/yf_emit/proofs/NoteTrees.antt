@@ -117,8 +117,8 @@ span_of : (o : Option Span) → is_some o ≡ true → (s : Span) × (o ≡ Some
 span_of None e = absurd (true≢false (sym e))
 span_of (Some s) e = (s, refl)
 
-key_heads : {t : List ℕ} {f : ℕ} {k : Node} {hs : List PlacedRow} (a : Bool) → KeyOn t k hs → EntryNoted t f (standing k).entry → HeadsWith t f a (blank_before_entry (standing k).entry) hs
-key_heads {t} {f} {k} a (key_on {h = h} st l m e some) n = heads_with (by (standing k).entry e some n) where
+key_heads : {t : List ℕ} {f : ℕ} {k : Node} {m : ℕ} {hs : List PlacedRow} (a : Bool) → KeyOn t m k hs → EntryNoted t f (standing k).entry → HeadsWith t f a (blank_before_entry (standing k).entry) hs
+key_heads {t} {f} {k} a (key_on {h = h} st l m e column text some) n = heads_with (by (standing k).entry e some n) where
   by : (o : Option Entry) → entry_or 0 o ≡ h.from → is_some o ≡ true → EntryNoted t f o → HeadNote t f h.from a (blank_before_entry o)
   by None e some n = absurd (true≢false (sym some))
   by (Some entry) e some n = entry_head (subst (λ z. NotedSince t f z entry.blank_before) e n)
@@ -162,10 +162,10 @@ module _ {t : List ℕ} {f : ℕ} where
 
 -- Trees: x was laid out, and y is found.
 mutual
-  pub node_notes : {t : List ℕ} {c : Setting} {m f : ℕ} {x y : Node} {ps : List PlacedRow} (cs : List CommentValue) (spot to : Spot) → spot.entries ≡ m → to.entries ≡ m → AlikeBlocks c.style c.comments cs x y → NodeRows t c m x y ps → Fit x
+  pub node_notes : {t : List ℕ} {c : Setting} {laid : Spot} {f : ℕ} {x y : Node} {ps : List PlacedRow} (cs : List CommentValue) (spot to : Spot) → spot.entries ≡ laid.entries → to.entries ≡ laid.entries → AlikeBlocks c.style c.comments cs x y → NodeRows t c laid x y ps → Fit x
       → (rest : List Placed) → AllNoted t f (flat y ++ rest) → NotesMade t f ps (rows c spot x) (rows (setting c.style cs) to y) (flat y) rest
   node_notes cs spot to e g (alike_lines (alike_scalars q) b) (no_rows h) fit rest n = record { ends = []; rows = no_row_notes; notes = n.1; at = λ o z. end_same o z }
-  node_notes {t} {c} {f = f} {x = x} cs spot to e g a (line_rows {y = y} {p = p} inline some h i k st l m) fit rest n =
+  node_notes {t} {c} {f = f} {x = x} cs spot to e g a (line_rows {y = y} {p = p} inline some h i k st l m o w) fit rest n =
       let alike : Alike Anywhere x y = blocks_alike a in
       let within : is_inline x ≡ true = same_inline alike ∙ inline in
       let flow : AllFlow (flat y) = inline_flow fit within alike in
@@ -261,9 +261,9 @@ mutual
       let there : is_implicit c.style column k ≡ true = ap (λ z. is_implicit c.style z k) e ∙ (same_implicit c.style m (blocks_alike a) ∙ n) in
       let flow : AllFlow (flat l) = key_flow c column fit there (blocks_alike a) in
       let told : is_some (key_comment cs l w) ≡ flag = sym (agree.comment column there) ∙ sym q in
-      let first : value_entries c.style column v ≡ value_entries c.style m w =
-      ap (λ z. value_entries c.style z v) e ∙ ap (λ z. if z && not c.style.seq_indent then m else m + c.style.indent) (same_sequence (blocks_alike b)) in
-      let value = node_notes cs (value_of_implicit c column k v) (value_of_implicit (setting c.style cs) to l w) first (ap (λ z. value_entries c.style z w) g) b d fits rest (flow_passed t f (flat l) (flat w ++ rest) flow noted) in
+      let second : value_entries c.style to w ≡ value_entries c.style m v =
+      ap (λ z. value_entries c.style z w) g ∙ ap (λ z. if z && not c.style.seq_indent then m else m + c.style.indent) (sym (same_sequence (blocks_alike b))) in
+      let value = node_notes cs (value_of_implicit c column k v) (value_of_implicit (setting c.style cs) to l w) (ap (λ z. value_entries c.style z v) e) second b d fits rest (flow_passed t f (flat l) (flat w ++ rest) flow noted) in
       let keyed = key_notes (key_row column k) (key_row to l) (key_comment c.comments k v) (key_comment cs l w) (begins_below v) (begins_below w) (sym q) told (same_below (blocks_alike b)) refl j
       (key_heads (blank_before_entry (standing k).entry) on (entry_noted t f l (flat w ++ rest) noted)) refl value.rows in
       by_pair c (setting c.style cs) column to k v l w true there here (flow_made (flat l) flow (with_rows value keyed))

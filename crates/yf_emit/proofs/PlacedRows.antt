@@ -31,11 +31,13 @@ pub inside_wider : {h i j k : ℕ} {xs : List ℕ} → h ≤ i → j ≤ k → I
 inside_wider l m none_inside = none_inside
 inside_wider l m (one_inside n o a) = one_inside (omega (arith, l, n)) (omega (arith, m, o)) (inside_wider l m a)
 
--- a row in a text: the items and leaves that are found on it, whether a comment trails its key, where it begins, and where what stands on it has begun
+-- a row in a text: the items and leaves that are found on it, whether a comment trails its key, its column, where it begins, and where what stands on it has
+-- begun
 pub record PlacedRow : Type 0 where
   pub items : List ℕ
   pub leaves : List Span
   pub commented : Bool
+  pub column : ℕ
   pub from : ℕ
   pub upto : ℕ
 
@@ -48,6 +50,7 @@ pub record AtRow (x : Row) (i : ℕ) (p : PlacedRow) : Type 0 where
   pub leaves : Inside i p.upto (starts_of p.leaves)
   pub commented : is_some x.key_comment ≡ p.commented
   pub bare : p.items ≡ [] → x.items ≡ []
+  pub column : x.column ≡ p.column
 
 pub never_bare : {a : ℕ} {xs ys : List ℕ} → a ∷ xs ≡ [] → ys ≡ []
 never_bare e = absurd cc
@@ -113,8 +116,8 @@ rows_in_append a b = rows_in_before a refl b
 
 -- On the line of a sign or key that begins at q.
 
-abbrev pub joined_placed : List ℕ → List Span → ℕ → PlacedRow → PlacedRow
-joined_placed items leaves q p = record { items = items ++ p.items; leaves = leaves ++ p.leaves; commented = p.commented; from = q; upto = p.upto }
+abbrev pub joined_placed : List ℕ → List Span → ℕ → ℕ → PlacedRow → PlacedRow
+joined_placed items leaves column q p = record { items = items ++ p.items; leaves = leaves ++ p.leaves; commented = p.commented; column = column; from = q; upto = p.upto }
 
 joined_size : (text more : List ℕ) (n : ℕ) → length (text ++ (replicate n 32 ++ more)) ≡ length text + n + length more
 joined_size text more n =
@@ -123,7 +126,7 @@ joined_size text more n =
     length-append text (spaces ++ more) ∙ (ap (λ z. length text + z) (length-append spaces more ∙ ap (λ z. z + length more) three) ∙ omega arith)
 
 at_joined : {y : Row} {p : PlacedRow} {i : ℕ} (head : Row) (ys : List Row) (n q a : ℕ) (items : List ℕ) (leaves : List Span) → i ≡ q + length head.text + n → Inside q i (a ∷ items) → Inside q i (starts_of leaves)
-    → AtRow y i p → (x : Row) (xs : List Row) → joined head n (y ∷ ys) ≡ x ∷ xs → AtRow x q (joined_placed (a ∷ items) leaves q p)
+    → AtRow y i p → (x : Row) (xs : List Row) → joined head n (y ∷ ys) ≡ x ∷ xs → AtRow x q (joined_placed (a ∷ items) leaves head.column q p)
 at_joined {y} {p} {i} head ys n q a items leaves e f g at x xs same =
     let here : record {
       column = head.column;
@@ -136,7 +139,7 @@ at_joined {y} {p} {i} head ys n q a items leaves e f g at x xs same =
       body = y.body;
       lines = y.lines;
     } ≡ x = ap (first_row x) same in
-    subst (λ z. AtRow z q (joined_placed (a ∷ items) leaves q p)) here (record {
+    subst (λ z. AtRow z q (joined_placed (a ∷ items) leaves head.column q p)) here (record {
       from = refl;
       order = let o = at.order in omega (arith, e, o);
       size = λ z. let s = at.size z in let l = joined_size head.text y.text n in omega (arith, e, s, l);
@@ -144,6 +147,7 @@ at_joined {y} {p} {i} head ys n q a items leaves e f g at x xs same =
       leaves = subst (λ z. Inside q p.upto z) (sym (starts_append leaves p.leaves)) (inside_join (inside_wider (omega arith) at.order g) (inside_wider (omega (arith, e)) (omega arith) at.leaves));
       commented = at.commented;
       bare = λ z. never_bare z;
+      column = refl;
     }) where
       first_row : Row → List Row → Row
       first_row other [] = other
@@ -152,18 +156,18 @@ at_joined {y} {p} {i} head ys n q a items leaves e f g at x xs same =
 at_upto : {x : Row} {i : ℕ} {p : PlacedRow} → AtRow x i p → i ≤ p.upto
 at_upto at = at.order
 
-ends_joined : {t : List ℕ} {body : List (List ℕ)} {d : Deco} {p : PlacedRow} {own : List CommentValue} {place : ℕ} (q : ℕ) (items : List ℕ) (leaves : List Span) → LeavesTo p.upto leaves → EndsRow t body d p own place
-    → EndsRow t body d (joined_placed items leaves q p) own place
-ends_joined {t} {body} {d} {p} {own} {place} q items leaves l e = record { ascend = e.ascend; is = e.is; start = e.start; tail = go e.tail } where
-  go : OwnTail t body d p own place → OwnTail t body d (joined_placed items leaves q p) own place
+ends_joined : {t : List ℕ} {body : List (List ℕ)} {d : Deco} {p : PlacedRow} {own : List CommentValue} {place : ℕ} (m q : ℕ) (items : List ℕ) (leaves : List Span) → LeavesTo p.upto leaves → EndsRow t body d p own place
+    → EndsRow t body d (joined_placed items leaves m q p) own place
+ends_joined {t} {body} {d} {p} {own} {place} m q items leaves l e = record { ascend = e.ascend; is = e.is; start = e.start; tail = go e.tail } where
+  go : OwnTail t body d p own place → OwnTail t body d (joined_placed items leaves m q p) own place
   go (behind_line none a b) = behind_line none a (leaves_to_join l b)
   go (behind_scalar b some are is m rest n w a last blank broken from to rows) =
       behind_scalar b some are is m rest n w (leaves_to_join (leaves_to_wider w l) a) (last_end_behind leaves last) blank broken from to rows
 
 pub rows_joined : {t : List ℕ} {y : Row} {ys : List Row} {p : PlacedRow} {ps : List PlacedRow} {ds : List Deco} {i j : ℕ} {cs : List CommentValue} {r : List ℕ} (head : Row) (n q a : ℕ) (items : List ℕ) (leaves : List Span)
     → i ≡ q + length head.text + n → Inside q i (a ∷ items) → Inside q i (starts_of leaves) → LeavesTo i leaves → RowsIn t (y ∷ ys) (p ∷ ps) ds i cs j r
-    → RowsIn t (joined head n (y ∷ ys)) (joined_placed (a ∷ items) leaves q p ∷ ps) ds q cs j r
+    → RowsIn t (joined head n (y ∷ ys)) (joined_placed (a ∷ items) leaves head.column q p ∷ ps) ds q cs j r
 rows_joined {y = y} {ys = ys} head n q a items leaves e f g h (last_row at end w) =
-    last_row (at_joined head ys n q a items leaves e f g at _ _ refl) (ends_joined q (a ∷ items) leaves (leaves_to_wider (at_upto at) h) end) w
+    last_row (at_joined head ys n q a items leaves e f g at _ _ refl) (ends_joined head.column q (a ∷ items) leaves (leaves_to_wider (at_upto at) h) end) w
 rows_joined {y = y} {ys = ys} head n q a items leaves e f g h (row_before at end w more) =
-    row_before (at_joined head ys n q a items leaves e f g at _ _ refl) (ends_joined q (a ∷ items) leaves (leaves_to_wider (at_upto at) h) end) w more
+    row_before (at_joined head ys n q a items leaves e f g at _ _ refl) (ends_joined head.column q (a ∷ items) leaves (leaves_to_wider (at_upto at) h) end) w more

@@ -52,18 +52,18 @@ notes_join (note_moved h n l a) b = note_moved h n l (notes_join a b)
 
 -- Behind signs and keys.
 
-pub sign_notes : {t : List ℕ} {f : ℕ} {items : List ℕ} {ps hs : List PlacedRow} {xs ys : List Row} {gs : List ℕ} (u v : Row) (n : ℕ) → SignRows items ps hs → ((q : ℕ) → IsHead items q → HeadNote t f q u.blank_before v.blank_before)
+pub sign_notes : {t : List ℕ} {f : ℕ} {items : List ℕ} {ps hs : List PlacedRow} {xs ys : List Row} {gs : List ℕ} (u v : Row) (n : ℕ) → SignRows t items ps hs → ((q : ℕ) → IsHead items q → HeadNote t f q u.blank_before v.blank_before)
     → v.body ≡ [] → RowNotes t f ps xs ys gs → RowNotes t f hs (joined u n xs) (joined v n ys) gs
 sign_notes u v n (sign_alone {h = h} a b c w) head e no_row_notes = note_kept (head h.from w) e no_row_notes
-sign_notes u v n (sign_joined {h = h} a b c l k w) head e (note_kept z f more) = note_kept (head h.from w) f more
-sign_notes u v n (sign_joined {h = h} a b c l k w) head e (note_moved {g = g} z m last more) = note_moved (head h.from w) m (subst (λ z. LastEnd z g) (sym b) last) more
+sign_notes u v n (sign_joined {h = h} a b c l k o w) head e (note_kept z f more) = note_kept (head h.from w) f more
+sign_notes u v n (sign_joined {h = h} a b c l k o w) head e (note_moved {g = g} z m last more) = note_moved (head h.from w) m (subst (λ z. LastEnd z g) (sym b) last) more
 
 -- the first row begins with a note
 pub data HeadsWith (t : List ℕ) (f : ℕ) (a b : Bool) : List PlacedRow → Type 0 where
   heads_with : {h : PlacedRow} {hs : List PlacedRow} → HeadNote t f h.from a b → HeadsWith t f a b (h ∷ hs)
 
 pub key_notes : {t : List ℕ} {f : ℕ} {items : List ℕ} {ls : List Span} {flag below : Bool} {ps hs : List PlacedRow} {xs ys : List Row} {gs : List ℕ} (u v : Row) (o p : Option CommentValue) (a b : Bool) → is_some o ≡ flag → is_some p ≡ flag
-    → a ≡ below → b ≡ below → KeyRows items ls flag below ps hs → HeadsWith t f u.blank_before v.blank_before hs → v.body ≡ [] → RowNotes t f ps xs ys gs → RowNotes t f hs (behind_key u o a xs) (behind_key v p b ys) gs
+    → a ≡ below → b ≡ below → KeyRows t items ls flag below ps hs → HeadsWith t f u.blank_before v.blank_before hs → v.body ≡ [] → RowNotes t f ps xs ys gs → RowNotes t f hs (behind_key u o a xs) (behind_key v p b ys) gs
 key_notes u v (Some c) (Some d) a b e f g h (key_commented k l m) (heads_with w) n more = note_kept w n more
 key_notes u v None p a b e f g h (key_commented k l m) w n more = absurd (true≢false (sym e))
 key_notes u v (Some c) None a b e f g h (key_commented k l m) w n more = absurd (true≢false (sym f))
@@ -77,13 +77,13 @@ key_notes u v (Some c) p a b e f g h (key_alone k l m) w n more = absurd (true�
 key_notes u v None (Some d) a b e f g h (key_alone k l m) w n more = absurd (true≢false f)
 key_notes u v None None true b e f g h (key_alone k l m) w n more = absurd (true≢false g)
 key_notes u v None None false true e f g h (key_alone k l m) w n more = absurd (true≢false h)
-key_notes u v None None false false e f g h (key_joined k l m i j) (heads_with w) n (note_kept z body more) = note_kept w body more
-key_notes {ls = ls} u v None None false false e f g h (key_joined k l m i j) (heads_with w) n (note_moved {g = last} z some end more) =
+key_notes u v None None false false e f g h (key_joined k l m i j on) (heads_with w) n (note_kept z body more) = note_kept w body more
+key_notes {ls = ls} u v None None false false e f g h (key_joined k l m i j on) (heads_with w) n (note_moved {g = last} z some end more) =
     note_moved w some (subst (λ z. LastEnd z last) (sym l) (last_end_behind ls end)) more
-key_notes u v (Some c) p a b e f g h (key_joined k l m i j) w n more = absurd (true≢false e)
-key_notes u v None (Some d) a b e f g h (key_joined k l m i j) w n more = absurd (true≢false f)
-key_notes u v None None true b e f g h (key_joined k l m i j) w n more = absurd (true≢false g)
-key_notes u v None None false true e f g h (key_joined k l m i j) w n more = absurd (true≢false h)
+key_notes u v (Some c) p a b e f g h (key_joined k l m i j on) w n more = absurd (true≢false e)
+key_notes u v None (Some d) a b e f g h (key_joined k l m i j on) w n more = absurd (true≢false f)
+key_notes u v None None true b e f g h (key_joined k l m i j on) w n more = absurd (true≢false g)
+key_notes u v None None false true e f g h (key_joined k l m i j on) w n more = absurd (true≢false h)
 
 -- Events with their notes.
 

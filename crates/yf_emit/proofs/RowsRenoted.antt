@@ -1,20 +1,25 @@
 -- The rows of a node that is found are those of the same node with other notes on blank lines.
-use Rattle.std.proofs.Common.{◌≡◌, ℕ, ◌+◌, Bool, true, false, List, ◌++◌, map, Option, Some, None, refl, sym, ap, ◌∙◌, subst}
+use Rattle.std.proofs.Common.{◌≡◌, ℕ, ◌+◌, Bool, true, false, List, ◌++◌, length, map, Option, Some, None, refl, sym, ap, ◌∙◌, subst}
 use Rattle.std.specs.Prelude.{is_some, not, ◌&&◌, if◌then◌else◌}
+use Rattle.yf_lines.specs.LineText.{IsLineText}
+use Rattle.yf_lines.specs.Rest.{Rest}
 use Rattle.yf_props.specs.Props.{PropsValue}
 use Rattle.yf_events.specs.Alike.{Alike, alike_scalars, alike_aliases, alike_sequences, alike_mappings, AlikeItems, alike_nothing, alike_item, AlikePairs, alike_no_pairs, alike_pair}
 use Rattle.yf_events.specs.declared.event.Entry.{Entry}
 use Rattle.yf_events.specs.declared.event.Span.{Span}
-use Rattle.yf_events.specs.Tree.{Standing, Node, scalar, alias, sequence, mapping, Items, no_items, item, Pairs, no_pairs, pair, entry_start, is_block_collection, items_in, items_in_items, items_in_pairs, leaves, leaves_of_items, leaves_of_pairs, spans_of_leaf, standing, starts_of_entry}
+use Rattle.yf_events.specs.Tree.{Standing, Node, scalar, alias, sequence, mapping, Items, no_items, item, Pairs, no_pairs, pair, entry_start, is_block_collection, items_in, items_in_items, items_in_pairs, leaves, leaves_of_items, leaves_of_pairs, props_of, spans_of_leaf, standing, starts_of_entry}
 use Rattle.yf_grammar.specs.Meant.{Anywhere}
 use Rattle.yf_grammar.proofs.KeptNodes.{SameEntry, no_entry, same_entry, SameStanding, Kept, kept_scalar, kept_alias, kept_sequence, kept_mapping, KeptItems, kept_no_items, kept_item, KeptPairs, kept_no_pairs, kept_pair, kept_standing}
 use Rattle.yf_grammar.proofs.NodePlaces.{Begins, ColonStands, NodeStands, stands_nowhere, scalar_stands, alias_stands, sequence_stands, mapping_stands, ItemsStand, no_items_stand, item_stands, PairsStand, no_pairs_stand, pair_stands}
-use Rattle.yf_emit.specs.Normal.{Setting, entry_or}
+use Rattle.yf_emit.specs.Fits.{FitProps}
+use Rattle.yf_emit.specs.Normal.{Setting, Spot, entry_or}
+use Rattle.yf_emit.specs.OneLine.{written}
 use Rattle.yf_emit.specs.Rows.{begins_below, colon_offset}
-use Rattle.yf_emit.proofs.AlikeLemmas.{same_below, same_implicit, same_sequence, same_written}
+use Rattle.yf_emit.proofs.AlikeLemmas.{same_below, same_implicit, same_written}
 use Rattle.yf_emit.proofs.BareNodes.{bare, bare_entry, bare_items, bare_pairs, bare_standing}
+use Rattle.yf_emit.proofs.FlowHeads.{Bracketed, is_bracketed}
 use Rattle.yf_emit.proofs.FoundLines.{same_inline}
-use Rattle.yf_emit.proofs.FoundNodes.{SignRows, KeyRows, KeyOn, key_on, NodeRows, no_rows, line_rows, scalar_rows, sequence_rows, sequence_behind, mapping_rows, mapping_behind, ItemsRows, no_item_rows, item_rows, PairRows, explicit_rows, implicit_rows, PairsRows, no_pair_rows, pair_rows}
+use Rattle.yf_emit.proofs.FoundNodes.{SignRows, KeyRows, KeyOn, key_on, NodeText, NodeRows, no_rows, line_rows, scalar_rows, sequence_rows, sequence_behind, mapping_rows, mapping_behind, ItemsRows, no_item_rows, item_rows, PairRows, explicit_rows, implicit_rows, PairsRows, no_pair_rows, pair_rows}
 use Rattle.yf_emit.proofs.PlacedRows.{Inside, PlacedRow}
 
 -- Nodes that are the same without their notes are kept.
@@ -192,11 +197,38 @@ module _ {t : List ℕ} where
         pair_stands w.entry (record { key = w.is; value = none_stays (kept_standing v).entry q.value }) (subst (λ z. Begins t i z) w.start b) (subst (λ z. NodeStands t z g l) w.start (node_stays k a))
         (subst (λ z. ColonStands t g h z) w.colon c) (node_stays v d) (pairs_stay more f)
 
+-- Texts.
+
+bracketed_same : {y z : Node} → Kept y z → is_bracketed z ≡ is_bracketed y
+bracketed_same (kept_scalar s) = refl
+bracketed_same (kept_alias s) = refl
+bracketed_same (kept_sequence s a) = refl
+bracketed_same (kept_mapping s a) = refl
+
+props_same : {y z : Node} → Kept y z → props_of y ≡ props_of z
+props_same (kept_scalar s) = refl
+props_same (kept_alias s) = refl
+props_same (kept_sequence s a) = refl
+props_same (kept_mapping s a) = refl
+
+bracketed_stays : {t : List ℕ} {i j : ℕ} {y z : Node} → Kept y z → Bracketed t i j y → Bracketed t i j z
+bracketed_stays k a = record { span = sym (kept_standing k).span ∙ a.span; last = a.last; props = subst (λ p. FitProps p) (props_same k) a.props }
+
+text_stays : {t : List ℕ} {i : ℕ} {y z : Node} → Kept y z → NodeText t i y → NodeText t i z
+text_stays {t} {i} {y} {z} k a =
+    let said : written y ≡ written z = same_written (kept_alike k) in
+    record {
+      line = subst (λ w. IsLineText w) said a.line;
+      behind = a.behind;
+      there = subst (λ w. Rest t i (w ++ a.behind)) said a.there;
+      flow = λ f. subst (λ w. Bracketed t i (i + length w) z) said (bracketed_stays k (a.flow (sym (bracketed_same k) ∙ f)));
+    }
+
 -- Rows.
 
-key_stays : {t : List ℕ} {k l : Node} {hs : List PlacedRow} → Kept k l → KeyOn t k hs → KeyOn t l hs
-key_stays k (key_on st l m e w) =
-    key_on (node_stays k st) l m (sym (by_entry (entry_or 0) (λ e b. refl) (kept_standing k).entry) ∙ e) (sym (by_entry (λ o. is_some o) (λ e b. refl) (kept_standing k).entry) ∙ w)
+key_stays : {t : List ℕ} {m : ℕ} {k l : Node} {hs : List PlacedRow} → Kept k l → KeyOn t m k hs → KeyOn t m l hs
+key_stays k (key_on st l m e c text w) =
+    key_on (node_stays k st) l m (sym (by_entry (entry_or 0) (λ e b. refl) (kept_standing k).entry) ∙ e) c (text_stays k text) (sym (by_entry (λ o. is_some o) (λ e b. refl) (kept_standing k).entry) ∙ w)
 
 sequence_block : (at bt : Standing) (props : PropsValue) {xs ys : Items} → KeptItems xs ys → is_block_collection (sequence at false props xs) ≡ true → is_block_collection (sequence bt false props ys) ≡ true
 sequence_block at bt props kept_no_items e = e
@@ -207,10 +239,10 @@ mapping_block at bt props kept_no_pairs e = e
 mapping_block at bt props (kept_pair a b more) e = e
 
 mutual
-  pub rows_kept : {t : List ℕ} {c : Setting} {m : ℕ} {x y z : Node} {ps : List PlacedRow} → Kept y z → NodeRows t c m x y ps → NodeRows t c m x z ps
+  pub rows_kept : {t : List ℕ} {c : Setting} {spot : Spot} {x y z : Node} {ps : List PlacedRow} → Kept y z → NodeRows t c spot x y ps → NodeRows t c spot x z ps
   rows_kept (kept_scalar s) (no_rows e) = no_rows (sym s.span ∙ e)
-  rows_kept k (line_rows f n g h i st a b) =
-      line_rows (sym (same_inline (kept_alike k)) ∙ f) (λ e. n (same_written (kept_alike k) ∙ e)) (g ∙ items_same k) (h ∙ leaves_same k) i (node_stays k st) a b
+  rows_kept k (line_rows f n g h i st a b column text) =
+      line_rows (sym (same_inline (kept_alike k)) ∙ f) (λ e. n (same_written (kept_alike k) ∙ e)) (g ∙ items_same k) (h ∙ leaves_same k) i (node_stays k st) a b column (text_stays k text)
   rows_kept (kept_scalar s) (scalar_rows {p = p} f a g h i) =
       scalar_rows f (subst (λ o. Inside p.from p.upto (map (λ (w : Span). w.start) (spans_of_leaf o))) s.span a) (g ∙ ap (λ o. map (λ (w : Span). w.start) (spans_of_leaf o)) s.span) (h ∙ ap spans_of_leaf s.span) i
   rows_kept (kept_sequence {at = at} {bt = bt} {props = props} s a) (sequence_rows b e r) = sequence_rows (sequence_block at bt props a b) e (items_rows_kept a r)
@@ -220,21 +252,20 @@ mutual
 
   items_rows_kept : {t : List ℕ} {c : Setting} {m : ℕ} {xs ys zs : Items} {ps : List PlacedRow} → KeptItems ys zs → ItemsRows t c m xs ys ps → ItemsRows t c m xs zs ps
   items_rows_kept kept_no_items no_item_rows = no_item_rows
-  items_rows_kept (kept_item k more) (item_rows {ps = ps} {hs = hs} r s others) = item_rows (rows_kept k r) (subst (λ z. SignRows z ps hs) (start_same k) s) (items_rows_kept more others)
+  items_rows_kept {t} (kept_item k more) (item_rows {ps = ps} {hs = hs} r s others) = item_rows (rows_kept k r) (subst (λ z. SignRows t z ps hs) (start_same k) s) (items_rows_kept more others)
 
   pair_rows_kept : {t : List ℕ} {c : Setting} {m : ℕ} {k v l w g u : Node} {ps : List PlacedRow} → Kept l g → Kept w u → PairRows t c m k v l w ps → PairRows t c m k v g u ps
-  pair_rows_kept {c = c} {m = m} a b (explicit_rows {ps = ps} {hs = hs} {qs = qs} {gs = gs} n r s d f) =
-      explicit_rows (sym (same_implicit c.style m (kept_alike a)) ∙ n) (rows_kept a r) (subst (λ z. SignRows z ps hs) (start_same a) s) (rows_kept b d) (subst (λ z. SignRows z qs gs) (colon_same a) f)
+  pair_rows_kept {t} {c} {m} a b (explicit_rows {ps = ps} {hs = hs} {qs = qs} {gs = gs} n r s d f) =
+      explicit_rows (sym (same_implicit c.style m (kept_alike a)) ∙ n) (rows_kept a r) (subst (λ z. SignRows t z ps hs) (start_same a) s) (rows_kept b d) (subst (λ z. SignRows t z qs gs) (colon_same a) f)
   pair_rows_kept {t} {c} {m} {v = v} {l = l} {w = w} {g = g} {u = u} a b (implicit_rows {ps = ps} {hs = hs} flag q n on d f) =
-      implicit_rows flag q (sym (same_implicit c.style m (kept_alike a)) ∙ n) (key_stays a on)
-      (subst (λ z. NodeRows t c z v u ps) (ap (λ z. if z && not c.style.seq_indent then m else m + c.style.indent) (same_sequence (kept_alike b))) (rows_kept b d))
-      (subst (λ z. KeyRows (entry_start g ++ items_in g) (leaves g) flag z ps hs) (same_below (kept_alike b))
-      (subst (λ z. KeyRows (entry_start g ++ items_in g) z flag (begins_below w) ps hs) (leaves_same a)
-      (subst (λ z. KeyRows (entry_start g ++ z) (leaves l) flag (begins_below w) ps hs) (items_same a) (subst (λ z. KeyRows (z ++ items_in l) (leaves l) flag (begins_below w) ps hs) (start_same a) f))))
+      implicit_rows flag q (sym (same_implicit c.style m (kept_alike a)) ∙ n) (key_stays a on) (rows_kept b d)
+      (subst (λ z. KeyRows t (entry_start g ++ items_in g) (leaves g) flag z ps hs) (same_below (kept_alike b))
+      (subst (λ z. KeyRows t (entry_start g ++ items_in g) z flag (begins_below w) ps hs) (leaves_same a)
+      (subst (λ z. KeyRows t (entry_start g ++ z) (leaves l) flag (begins_below w) ps hs) (items_same a) (subst (λ z. KeyRows t (z ++ items_in l) (leaves l) flag (begins_below w) ps hs) (start_same a) f))))
 
   pairs_rows_kept : {t : List ℕ} {c : Setting} {m : ℕ} {xs ys zs : Pairs} {ps : List PlacedRow} → KeptPairs ys zs → PairsRows t c m xs ys ps → PairsRows t c m xs zs ps
   pairs_rows_kept kept_no_pairs no_pair_rows = no_pair_rows
   pairs_rows_kept (kept_pair a b more) (pair_rows r others) = pair_rows (pair_rows_kept a b r) (pairs_rows_kept more others)
 
-pub rows_renoted : {t : List ℕ} {c : Setting} {m : ℕ} {x z : Node} {ps : List PlacedRow} (y : Node) → bare z ≡ bare y → NodeRows t c m x z ps → NodeRows t c m x y ps
+pub rows_renoted : {t : List ℕ} {c : Setting} {spot : Spot} {x z : Node} {ps : List PlacedRow} (y : Node) → bare z ≡ bare y → NodeRows t c spot x z ps → NodeRows t c spot x y ps
 rows_renoted {z = z} y e r = rows_kept (node_kept z y e) r

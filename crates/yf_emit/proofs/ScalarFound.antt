@@ -11,22 +11,22 @@ use Rattle.yf_grammar.proofs.ScalarPlaced.{scalar_event}
 use Rattle.yf_emit.specs.BlockLines.{content_lines, final_feeds}
 use Rattle.yf_emit.specs.BlockValues.{header_of}
 use Rattle.yf_emit.specs.Fits.{FitScalar}
-use Rattle.yf_emit.specs.Normal.{Setting}
+use Rattle.yf_emit.specs.Normal.{Setting, Spot}
 use Rattle.yf_emit.specs.Rows.{Row}
 use Rattle.yf_emit.proofs.FoundNodes.{FoundNode, scalar_rows}
 use Rattle.yf_emit.proofs.PlacedRows.{never_bare, none_inside, one_inside, PlacedRow, AtRow}
 use Rattle.yf_emit.proofs.ScalarStands.{style_back}
 
 -- its row, on which it begins at q
-abbrev pub leaf_row : ℕ → ℕ → PlacedRow
-leaf_row q finish = record { items = q ∷ []; leaves = record { start = q; end = finish } ∷ []; commented = false; from = q; upto = q }
+abbrev pub leaf_row : ℕ → ℕ → ℕ → PlacedRow
+leaf_row column q finish = record { items = q ∷ []; leaves = record { start = q; end = finish } ∷ []; commented = false; column = column; from = q; upto = q }
 
 -- its event
-pub bare_found : {t : List ℕ} {at : Standing} {style : ScalarStyle} {text : List ℕ} {lines : List (List ℕ)} (s : Setting) (column indent i : ℕ) (m : Meaning) → is_some at.span ≡ true → FitScalar style text lines
+pub bare_found : {t : List ℕ} {at : Standing} {style : ScalarStyle} {text : List ℕ} {lines : List (List ℕ)} (s : Setting) (spot : Spot) (column indent i : ℕ) (m : Meaning) → is_some at.span ≡ true → FitScalar style text lines
     → m.events ≡ scalar_event (header_of style indent text) (content_lines style text lines) (final_feeds text - 1) i m.finish ∷ [] → m.escapes ≡ []
-    → FoundNode t s column (scalar at no_props style text lines) m (leaf_row i m.finish ∷ [])
+    → FoundNode t s spot (scalar at no_props style text lines) m (leaf_row column i m.finish ∷ [])
 unfolding from_to
-bare_found {style = style} {text = text} {lines = lines} s column indent i m e f events escapes = record {
+bare_found {style = style} {text = text} {lines = lines} s spot column indent i m e f events escapes = record {
   rows = scalar_rows f.block (one_inside (omega arith) (omega arith) none_inside) refl refl refl;
   node = scalar (record { span = from_to i m.finish; tag_offset = None; entry = None }) no_props style text lines;
   alike = alike_scalars e;
@@ -40,11 +40,11 @@ bare_found {style = style} {text = text} {lines = lines} s column indent i m e f
   escapes = escapes;
 }
 
-pub props_found : {t : List ℕ} {at : Standing} {style : ScalarStyle} {text : List ℕ} {lines : List (List ℕ)} (s : Setting) (column indent i q g : ℕ) (p : PropsValue) (o : Option ℕ) (m : Meaning) → is_some at.span ≡ true
+pub props_found : {t : List ℕ} {at : Standing} {style : ScalarStyle} {text : List ℕ} {lines : List (List ℕ)} (s : Setting) (spot : Spot) (column indent i q g : ℕ) (p : PropsValue) (o : Option ℕ) (m : Meaning) → is_some at.span ≡ true
     → FitScalar style text lines → m.events ≡ scalar_event (header_of style indent text) (content_lines style text lines) (final_feeds text - 1) i m.finish ∷ [] → m.escapes ≡ []
-    → FoundNode t s column (scalar at p style text lines) (with_props p o q g m) (leaf_row q m.finish ∷ [])
+    → FoundNode t s spot (scalar at p style text lines) (with_props p o q g m) (leaf_row column q m.finish ∷ [])
 unfolding from_to with_props
-props_found {style = style} {text = text} {lines = lines} s column indent i q g p o m e f events escapes = record {
+props_found {style = style} {text = text} {lines = lines} s spot column indent i q g p o m e f events escapes = record {
   rows = scalar_rows f.block (one_inside (omega arith) (omega arith) none_inside) refl refl refl;
   node = scalar (record { span = from_to q m.finish; tag_offset = o; entry = None }) p style text lines;
   alike = alike_scalars e;
@@ -58,7 +58,7 @@ props_found {style = style} {text = text} {lines = lines} s column indent i q g 
   escapes = escapes;
 }
 
-pub leaf_stands : {row : Row} {q : ℕ} (finish : ℕ) → (row.body ≡ [] → ⊥) → is_some row.key_comment ≡ false → AtRow row q (leaf_row q finish)
+pub leaf_stands : {row : Row} {q : ℕ} (finish : ℕ) → (row.body ≡ [] → ⊥) → is_some row.key_comment ≡ false → AtRow row q (leaf_row row.column q finish)
 leaf_stands finish some key = record {
   from = refl;
   order = omega arith;
@@ -67,4 +67,5 @@ leaf_stands finish some key = record {
   leaves = one_inside (omega arith) (omega arith) none_inside;
   commented = key;
   bare = λ z. never_bare z;
+  column = refl;
 }

@@ -257,7 +257,7 @@ tail_of s {style} {text} {lines} f spot ds r q u deep made notes =
 module _ {s : Setting} {at : Standing} {style : ScalarStyle} {text : List ℕ} {lines : List (List ℕ)} (placed_at : is_some at.span ≡ true) (f : FitScalar style text lines) where
   bare_made : {t : List ℕ} (row : Row) (spot : Spot) (n : ℤ) (c : Ctx) (ds : List Deco) (r : List ℕ) (q : ℕ) → row.text ≡ header_text style s.style.indent text → row.body ≡ block_lines style spot.lines text lines
       → row.lines ≡ spot.lines → leaf_steps row.leaves ≡ a_leaf ∷ [] → is_some row.key_comment ≡ false → IsUtf8 t → Stood s (scalar at no_props style text lines) n c spot → AreDecos ds → CalmBody (block_lines style spot.lines text lines) spot.lines (tail_ending (is_kept_tail (final_feeds text))) (first ds).gap r
-      → Rest t q (inline_then (row ∷ []) ds r) → NodeMade t s n c spot.entries (scalar at no_props style text lines) (row ∷ []) ds q r
+      → Rest t q (inline_then (row ∷ []) ds r) → NodeMade t s n c spot (scalar at no_props style text lines) (row ∷ []) ds q r
   bare_made {t} row spot n c ds r q said body said_lines leaf key u stood a calm w =
       let there : Rest t q (header_text style s.style.indent text ++ end_then (first ds) (block_lines style spot.lines text lines) r) =
       subst (λ z. Rest t q (header_text style s.style.indent text ++ end_then (first ds) z r)) body (subst (λ z. Rest t q (z ++ end_then (first ds) row.body r)) said w) in
@@ -277,8 +277,8 @@ module _ {s : Setting} {at : Standing} {style : ScalarStyle} {text : List ℕ} {
         low = omega arith;
         rest = node.rest;
         start = subst (λ j. LineStart t j) (place_of_rest begun.rest node.rest) begun.start;
-        found_rows = leaf_row q node.meaning.finish ∷ [];
-        meant = bare_found s spot.entries s.style.indent q node.meaning placed_at f node.events node.escapes;
+        found_rows = leaf_row row.column q node.meaning.finish ∷ [];
+        meant = bare_found s spot row.column s.style.indent q node.meaning placed_at f node.events node.escapes;
         placed = last_row (leaf_stands node.meaning.finish (λ z. body_some spot.lines (final_feeds text - 1) (content_lines style text lines) f.last (sym body ∙ z)) key)
             (record {
               ascend = scalar_ascends node.derived;
@@ -289,7 +289,7 @@ module _ {s : Setting} {at : Standing} {style : ScalarStyle} {text : List ℕ} {
             }) node.rest;
         is = node.is ∙ sym (append-nil (carried_texts (first ds)));
         laid = subst (λ z. MeaningLaid q node.place node.meaning z) (scalar_steps row ds leaf) (laid_scalar q node.meaning.finish (omega arith) node.events (scalar_ascends node.derived) node.is);
-        set = let found = bare_found {t = t} {at = at} s spot.entries s.style.indent q node.meaning placed_at f node.events node.escapes in
+        set = let found = bare_found {t = t} {at = at} s spot row.column s.style.indent q node.meaning placed_at f node.events node.escapes in
             subst (λ k. SetMeant t s.style spot.entries k (begins_below (scalar at no_props style text lines)) q node.meaning) stood.lines
             (set_block (block_lines style spot.lines text lines) (gap_then (first ds).gap r) found.alike found.events f.block deep (bare_scalar s.style.indent spot.lines u f made));
         held = held_scalar node.meaning row ds r spot.lines (block_lines style spot.lines text lines) body said_lines made.comments made.seen (bare_scalar s.style.indent spot.lines u f made);
@@ -301,7 +301,7 @@ module _ {s : Setting} {at : Standing} {style : ScalarStyle} {text : List ℕ} {
   props_made : {t : List ℕ} {p : PropsValue} (row : Row) (spot : Spot) (n : ℤ) (c : Ctx) (ds : List Deco) (r : List ℕ) (q : ℕ) → IsProps p → p ≢ no_props → row.text ≡ props_bytes p ++ (32 ∷ header_text style s.style.indent text)
       → row.body ≡ block_lines style spot.lines text lines → row.lines ≡ spot.lines → leaf_steps row.leaves ≡ a_leaf ∷ [] → is_some row.key_comment ≡ false → IsUtf8 t → Stood s (scalar at p style text lines) n c spot → AreDecos ds
       → CalmBody (block_lines style spot.lines text lines) spot.lines (tail_ending (is_kept_tail (final_feeds text))) (first ds).gap r
-      → Rest t q (inline_then (row ∷ []) ds r) → NodeMade t s n c spot.entries (scalar at p style text lines) (row ∷ []) ds q r
+      → Rest t q (inline_then (row ∷ []) ds r) → NodeMade t s n c spot (scalar at p style text lines) (row ∷ []) ds q r
   props_made {t} {p} row spot n c ds r q props some said body said_lines leaf key u stood a calm w =
       let z : List ℕ = end_then (first ds) (block_lines style spot.lines text lines) r in
       let there : Rest t q (props_bytes p ++ (32 ∷ (header_text style s.style.indent text ++ z))) =
@@ -329,9 +329,9 @@ module _ {s : Setting} {at : Standing} {style : ScalarStyle} {text : List ℕ} {
         low = omega arith;
         rest = node.rest;
         start = subst (λ j. LineStart t j) (place_of_rest begun.rest node.rest) begun.start;
-        found_rows = leaf_row q node.meaning.finish ∷ [];
-        meant = props_found s spot.entries s.style.indent i q g p o node.meaning placed_at f node.events node.escapes;
-        placed = subst (λ v. RowsIn t (row ∷ []) (leaf_row q node.meaning.finish ∷ []) ds q v node.place r) (sym (comments_with_props p o q g node.meaning))
+        found_rows = leaf_row row.column q node.meaning.finish ∷ [];
+        meant = props_found s spot row.column s.style.indent i q g p o node.meaning placed_at f node.events node.escapes;
+        placed = subst (λ v. RowsIn t (row ∷ []) (leaf_row row.column q node.meaning.finish ∷ []) ds q v node.place r) (sym (comments_with_props p o q g node.meaning))
             (last_row (leaf_stands node.meaning.finish (λ v. body_some spot.lines (final_feeds text - 1) (content_lines style text lines) f.last (sym body ∙ v)) key)
             (record {
               ascend = ascend_after (omega arith) (scalar_ascends node.derived);
@@ -343,7 +343,7 @@ module _ {s : Setting} {at : Standing} {style : ScalarStyle} {text : List ℕ} {
         is = texts_with_props p o q g node.meaning ∙ (node.is ∙ sym (append-nil (carried_texts (first ds))));
         laid = subst (λ z. MeaningLaid q node.place (with_props p o q g node.meaning) z) (scalar_steps row ds leaf)
             (laid_scalar_with p o q g i node.meaning.finish node.meaning (omega arith) node.events (scalar_ascends node.derived) node.is);
-        set = let found = props_found {t = t} {at = at} s spot.entries s.style.indent i q g p o node.meaning placed_at f node.events node.escapes in
+        set = let found = props_found {t = t} {at = at} s spot row.column s.style.indent i q g p o node.meaning placed_at f node.events node.escapes in
             subst (λ k. SetMeant t s.style spot.entries k (begins_below (scalar at p style text lines)) q (with_props p o q g node.meaning)) stood.lines
             (set_block (block_lines style spot.lines text lines) (gap_then (first ds).gap r) found.alike found.events f.block deep (props_scalar s.style.indent spot.lines u f made q g p o (n +ℤ pos 1) c before.properties before.separate));
         held = held_scalar (with_props p o q g node.meaning) row ds r spot.lines (block_lines style spot.lines text lines) body said_lines (props_set t p o q g node.meaning made.comments) made.seen

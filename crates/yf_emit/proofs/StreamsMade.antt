@@ -4,6 +4,7 @@ use Rattle.std.specs.Prelude.{is_some}
 use Rattle.std.specs.Str.{IsUtf8}
 use Rattle.yf_chars.specs.Chain.{Chain}
 use Rattle.yf_chars.specs.Chain.Chain.{done}
+use Rattle.yf_lines.specs.Basic.{LineStart}
 use Rattle.yf_lines.specs.Basic.LineStart.{at_text}
 use Rattle.yf_lines.proofs.RestLemmas.{Rest, rest_start}
 use Rattle.yf_comments.specs.Comment.{CommentValue}
@@ -77,9 +78,9 @@ root_rows c x = rows c (root_spot c.style) x.root
 root_deep : (c : Setting) → 0 < c.style.indent
 root_deep c = let wide : 2 ≤ c.style.indent = c.style.indent_from in omega (arith, wide)
 
-explicit_at : {t : List ℕ} (c : Setting) (x : DocumentTree) (row : Row) (ds : List Deco) (r : List ℕ) (q : ℕ) → row.leaves ≡ [] → row.body ≡ [] → length row.text ≡ 3 → is_some row.key_comment ≡ false → Fit x.root → IsUtf8 t → AreDecos ds → Calm (root_rows c x) (after ds) r
+explicit_at : {t : List ℕ} (c : Setting) (x : DocumentTree) (row : Row) (ds : List Deco) (r : List ℕ) (q : ℕ) → row.leaves ≡ [] → row.body ≡ [] → row.column ≡ 0 → length row.text ≡ 3 → is_some row.key_comment ≡ false → Fit x.root → IsUtf8 t → AreDecos ds → Calm (root_rows c x) (after ds) r
     → Rest t q (45 ∷ 45 ∷ 45 ∷ end_then (first ds) [] (lines_then (root_rows c x) (after ds) r)) → ExplicitMade t c x.root (row ∷ root_rows c x) ds q r
-explicit_at c x row ds r q none bare width key fit u a k w = explicit_made row ds r q none bare width key (node_claim c (root_spot c.style) fit) (row_texts c (root_spot c.style) (root_deep c) fit) u a k w
+explicit_at c x row ds r q none bare column width key fit u a k w = explicit_made row ds r q none bare column width key (node_claim c (root_spot c.style) fit) (row_texts c (root_spot c.style) (root_deep c) fit) u a k w
 
 -- where the first row is given, of any items
 directed : {t : List ℕ} (c : Setting) {d : Doc} (x : DocumentTree) {e : Directive} {es : List Directive} (row : Row) (ds : List Deco) (r : List ℕ) (q : ℕ) → row.leaves ≡ [] → row.body ≡ [] → row.text ≡ 37 ∷ joined_words e.words → is_some row.key_comment ≡ false → documents_begin row ≡ [] → d.directives ≡ e ∷ es
@@ -93,7 +94,7 @@ directed {t} c {d} x {e} {es} row ds r q none bare said key plain same f fs fit 
     subst (λ v. Rest t q (37 ∷ (joined_words e.words ++ end_then (first ds) [] v))) (lines_append (map directive_row es) (start_row ∷ tree) (after ds) r) w in
     let one = directives_made {d = e} {dirs = es} row ds z q none bare said key f fs u a there in
     let ks = calm_append (row ∷ map directive_row es) (start_row ∷ tree) ds r k in
-    let node = explicit_at c x start_row (past (map directive_row es) (after ds)) r one.place refl refl refl refl fit u (past_decos (row ∷ map directive_row es) a) ks.1.1 one.rest in
+    let node = explicit_at c x start_row (past (map directive_row es) (after ds)) r one.place refl refl refl refl refl fit u (past_decos (row ∷ map directive_row es) a) ks.1.1 one.rest in
     record {
       height = node.height;
       place = node.place;
@@ -126,7 +127,7 @@ directed {t} c {d} x {e} {es} row ds r q none bare said key plain same f fs fit 
 first_with : {t : List ℕ} (c : Setting) {d : Doc} (x : DocumentTree) (start : ℕ) (dirs : List Directive) (ds : List Deco) (r : List ℕ) (q : ℕ) → d.directives ≡ dirs → FitDirectives dirs → Fit x.root → IsUtf8 t → AreDecos ds
     → Calm (head_rows true start dirs ++ root_rows c x) ds r → Rest t q (lines_then (head_rows true start dirs ++ root_rows c x) ds r) → AnyMade t c d x (head_rows true start dirs ++ root_rows c x) ds q r
 first_with {t} c {d} x start [] ds r q same f fit u a k w =
-    let node = explicit_at c x (record start_row { items = start ∷ [] }) ds r q refl refl refl refl fit u a k.1 w in
+    let node = explicit_at c x (record start_row { items = start ∷ [] }) ds r q refl refl refl refl refl fit u a k.1 w in
     record {
       height = node.height;
       place = node.place;
@@ -177,7 +178,7 @@ no_words e = absurd cc
 step_with : {t : List ℕ} (c : Setting) {d : Doc} (x : DocumentTree) (start : ℕ) (dirs : List Directive) (ds : List Deco) (r : List ℕ) (q : ℕ) → d.directives ≡ dirs → FitDirectives dirs → Fit x.root → IsUtf8 t → AreDecos ds
     → Calm (head_rows false start dirs ++ root_rows c x) ds r → Rest t q (lines_then (head_rows false start dirs ++ root_rows c x) ds r) → StepMade t c d x (head_rows false start dirs ++ root_rows c x) ds q r
 step_with {t} c {d} x start [] ds r q same f fit u a k w =
-    let node = explicit_at c x (record start_row { items = start ∷ [] }) ds r q refl refl refl refl fit u a k.1 w in
+    let node = explicit_at c x (record start_row { items = start ∷ [] }) ds r q refl refl refl refl refl fit u a k.1 w in
     record {
       height = node.height;
       place = node.place;
@@ -206,7 +207,7 @@ step_with {t} c {d} x start (e ∷ es) ds r q same (fit_directive f fs) fit u a 
     let made = directed c {d = d} x {e = e} row (after ds) r end.place refl refl refl refl refl same f fs fit u (after_decos a) (subst (λ z. Calm z (after ds) r) shape k.1)
     (subst (λ z. Rest t end.place (lines_then z (after ds) r)) shape end.rest) in
     let some : made.document.directives ≡ [] → ⊥ = λ z. no_words (sym (ap (λ (w : List Directive). map (λ (v : Directive). v.words) w) z) ∙ (made.meant.words ∙ ap (λ (w : List Directive). map (λ (v : Directive). v.words) w) same)) in
-    let dots : PlacedRow = record { items = q ∷ []; leaves = []; commented = false; from = q; upto = q + 3 } in
+    let dots : PlacedRow = record { items = q ∷ []; leaves = []; commented = false; column = 0; from = q; upto = q + 3 } in
     record {
       height = made.height;
       place = made.place;
@@ -231,7 +232,7 @@ step_with {t} c {d} x start (e ∷ es) ds r q same (fit_directive f fs) fit u a 
         are = ap (λ z. dots ∷ z) made.found.are;
         rows = made.found.rows;
       };
-      placed = row_before (record { from = refl; order = omega arith; size = λ z. refl; items = one_inside (omega arith) (omega arith) none_inside; leaves = none_inside; commented = refl; bare = λ z. never_bare z })
+      placed = row_before (record { from = refl; order = omega arith; size = λ z. refl; items = one_inside (omega arith) (omega arith) none_inside; leaves = none_inside; commented = refl; bare = λ z. never_bare z; column = refl })
           (record { ascend = end_ascends end.end; is = end.is; start = end.start; tail = behind_line refl end.end no_leaf_to }) end.rest
           (subst (λ z. RowsIn t z made.found_rows (after ds) (end.place + 0) made.comments made.place r) (sym shape)
           (subst (λ z. RowsIn t ((row ∷ map directive_row es) ++ (start_row ∷ root_rows c x)) made.found_rows (after ds) z made.comments made.place r) (omega arith) made.placed));
@@ -313,6 +314,7 @@ pub record StreamLaid (t : List ℕ) (s : Setting) (ds : List Doc) (xs : List Do
   pub made : StreamMade t ds xs (remarks_of gap ++ comments_in rs decos)
   pub laid : DocumentsLaid 0 (length t) made.documents (comment_steps (remarks_of gap) ++ steps_in rs decos)
   pub line : ℕ
+  pub starts : LineStart t line
   pub firsts : List CommentValue
   pub others : List CommentValue
   pub begin : Rest t line (lines_then rs decos [])
@@ -345,6 +347,7 @@ stream_made {t} c gap decos fit_no_documents u g a k w =
       };
       laid = laid_with_comments at.comments (comments_stand (rows_ascend (lines_rows at.lines)) at.is) (no_documents_laid (omega (arith, end)));
       line = at.place;
+      starts = at.start;
       firsts = at.comments;
       others = [];
       begin = at.rest;
@@ -383,6 +386,7 @@ stream_made {t} c gap decos (fit_document {d = d} {ds = ds} {x = x} {xs = xs} f 
           (append_assoc (comment_steps (remarks_of gap)) (steps_in head decos) (steps_in others (past head decos)) ∙ ap (λ z. comment_steps (remarks_of gap) ++ z) (sym (steps_append head others decos)))
           (documents_laid one.document (events_behind (comments_stand (rows_ascend (lines_rows at.lines)) at.is) one.laid) last.laid);
       line = at.place;
+      starts = at.start;
       firsts = at.comments;
       others = one.comments ++ last.documents.comments;
       begin = at.rest;

@@ -20,7 +20,8 @@ use Rattle.yf_emit.specs.OneLine.{written, width, props_text}
 use Rattle.yf_emit.specs.Rows.{Row, plain_row, one_line, one_line_row, props_row, behind_sign, entry_row, colon_offset, blank_before_entry, begins_below, is_empty_text, implicit_pair, explicit_pair, pair_rows, rows, rows_of_items, rows_of_pairs}
 use Rattle.yf_emit.proofs.CollectionsMade.{same_props, some_props, bare_claim, propertied_claim}
 use Rattle.yf_emit.proofs.EntriesMade.{EntryMakes, EntriesMakes, entries_last, entries_more, item_makes, explicit_makes}
-use Rattle.yf_emit.proofs.FoundNodes.{FoundItem, FoundItems, FoundPair, FoundPairs, found_last_item, found_more_items, found_last_pair, found_more_pairs, found_sequence, found_mapping, found_sequence_with, found_mapping_with}
+use Rattle.yf_emit.proofs.FoundCollections.{found_sequence, found_mapping, found_sequence_with, found_mapping_with}
+use Rattle.yf_emit.proofs.FoundNodes.{FoundItem, FoundItems, FoundPair, FoundPairs, found_last_item, found_more_items, found_last_pair, found_more_pairs}
 use Rattle.yf_emit.proofs.KeysMade.{keyed_makes, unkeyed_makes}
 use Rattle.yf_emit.proofs.PlacedRows.{PlacedRow}
 use Rattle.yf_emit.proofs.ScalarsMade.{scalar_claim}
@@ -55,7 +56,7 @@ line_claim spot [] e some b inline node = absurd (some refl)
 line_claim {s} {x} spot (a ∷ w) e some b inline node =
     some_rows (λ z. refl) (λ z. absurd (true≢false (sym z ∙ b))) (record {
       made = λ {t} n c ds r q u stood k calm v.
-          line_made {r = record (plain_row spot.column (a ∷ w)) { items = items_in x; leaves = leaves x }} spot n c ds r q b inline (λ z. some (e ∙ z)) refl e refl refl node u stood k v;
+          line_made {r = record (plain_row spot.column (a ∷ w)) { items = items_in x; leaves = leaves x }} spot n c ds r q b inline (λ z. some (e ∙ z)) refl e refl refl refl node u stood k v;
     })
 
 -- Where values stand.
@@ -107,7 +108,7 @@ implicit_makes : (c : Setting) (column : ℕ) {k v : Node} → is_implicit c.sty
     → EntryMakes c false column (max (tall k) (tall v)) (λ t m ps. FoundPair t c column k v m ps) (implicit_pair c column k v (rows c (value_of_implicit c column k v) v))
 implicit_makes c column {k} {v} e (fit_nothing {at = at} f) value =
     unkeyed_makes column (entry_start k ++ items_in k) (leaves k) (blank_before_entry (standing k).entry) (key_comment c.comments k v) (begins_below v) value refl
-    (λ z b. commented_column (is_some (key_comment c.comments k v)) column c.style.indent _ c.style.indent_from z) (value_stood c column k v) refl e refl (record { meant = λ i. meant_nothing i f refl }) (no_leaf at.span f)
+    (λ z b. commented_column (is_some (key_comment c.comments k v)) column c.style.indent _ c.style.indent_from z) (value_stood c column k v) refl e refl (record { meant = λ i. meant_nothing i f refl }) refl refl (no_leaf at.span f)
 implicit_makes c column {k} {v} e (fit_line inline some node key) value =
     keyed_makes column (entry_start k ++ items_in k) (leaves k) (blank_before_entry (standing k).entry) (key_comment c.comments k v) (begins_below v) value refl
     (λ z b. commented_column (is_some (key_comment c.comments k v)) column c.style.indent _ c.style.indent_from z) (value_stood c column k v) refl e refl key refl
@@ -117,12 +118,12 @@ implicit_makes c column {k} {v} e (fit_scalar {at = at} {p = p} {style = style} 
 implicit_makes c column {k} {v} e (fit_sequence f p g gs) value = absurd (not_implicit c column k refl e)
 implicit_makes c column {k} {v} e (fit_mapping f p g h gs) value = absurd (not_implicit c column k refl e)
 
-question_makes : (c : Setting) (column : ℕ) {k v : Node} {at : Spot} → is_implicit c.style column k ≡ false → at.entries ≡ column + c.style.indent → at.lines ≡ column + c.style.indent → Claim c k at (rows c at k)
+question_makes : (c : Setting) (column : ℕ) {k v : Node} {at : Spot} → is_implicit c.style column k ≡ false → at ≡ key_spot c.style column k → Claim c k at (rows c at k)
     → Claim c v (inner_spot c.style column) (rows c (inner_spot c.style column) v)
     → EntryMakes c false column (max (tall k) (tall v)) (λ t m ps. FoundPair t c column k v m ps) (explicit_pair c.style column k (rows c at k) (rows c (inner_spot c.style column) v))
-question_makes c column {k} {v} {at} marked e f a b =
+question_makes c column {k} {v} {at} marked e a b =
     explicit_makes column (entry_start k) (blank_before_entry (standing k).entry) (colon_offset (standing k).entry) marked c.style.indent_from e refl
-    (record { block = refl; least = subst (λ z. least_column (is_sequence k) (pos column) BlockOut ≤ℤ pos z) (sym e) (least_inner (is_sequence k) column c.style.indent c.style.indent_from).1; lines = f })
+    (record { block = refl; least = subst (λ z. least_column (is_sequence k) (pos column) BlockOut ≤ℤ pos z) (sym (ap (λ z. z.entries) e)) (least_inner (is_sequence k) column c.style.indent c.style.indent_from).1; lines = ap (λ z. z.lines) e })
     (record { block = refl; least = (least_inner (is_sequence v) column c.style.indent c.style.indent_from).1; lines = refl }) a b
 
 -- the rows of a pair, by whether its key is implicit
@@ -138,7 +139,7 @@ pair_makes c column {k} {v} fit key value = go (is_implicit c.style column k) re
   go true e = subst (λ b. EntryMakes c false column (max (tall k) (tall v)) (λ t m ps. FoundPair t c column k v m ps) (either_pair b c column k v)) (sym e)
       (implicit_makes c column e fit (value.claim (value_of_implicit c column k v)))
   go false e = subst (λ b. EntryMakes c false column (max (tall k) (tall v)) (λ t m ps. FoundPair t c column k v m ps) (either_pair b c column k v)) (sym e)
-      (question_makes c column e refl refl (key.claim (key_spot c.style column k)) (value.claim (inner_spot c.style column)))
+      (question_makes c column e refl (key.claim (key_spot c.style column k)) (value.claim (inner_spot c.style column)))
 
 dash_makes : (c : Setting) (column : ℕ) {x : Node} → Everywhere c x
     → EntryMakes c true column (tall x) (λ t m ps. FoundItem t c column x m ps) (behind_sign c.style (entry_row column (codes "-") x) (rows c (inner_spot c.style column) x))

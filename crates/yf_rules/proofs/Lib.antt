@@ -63,3 +63,9 @@ pub mod MendedColumns
 pub mod MendedScalarIndents
 pub mod MendedIndents
 pub mod MendedMarks
+pub mod MendedFlows
+pub mod WrittenPlaces
+pub mod MendedLayouts
+pub mod MendedBrackets
+pub mod MendedFindings
+pub mod RulesMended

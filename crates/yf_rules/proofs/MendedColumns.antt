@@ -26,7 +26,7 @@ use Rattle.yf_emit.proofs.SetNodes.{ColumnAt}
 
 -- characters of one byte
 
-ascii_next : {t : List ℕ} (i : ℕ) → IsUtf8 t → code t i < 128 → next t i ≡ i + 1
+pub ascii_next : {t : List ℕ} (i : ℕ) → IsUtf8 t → code t i < 128 → next t i ≡ i + 1
 ascii_next {t} i u l = let b = byte_from_code t i u l in (reads_ascii t i u b.0 (let e = b.1 in omega (arith, e, l))).end
 
 pub char_boundary : (t : List ℕ) (i : ℕ) → code t i < no_char → IsCharBoundary t i
@@ -46,7 +46,7 @@ ascii_many {t} {i = i} {o = o} m u (step {y = y} (one p) c) e f =
     omega (arith, more, some)
 
 -- characters behind marks begin where those end, or later
-chars_past : {t : List ℕ} {s j a e : ℕ} {y x : List ℕ} → IsUtf8 t → code t j ≢ 0xFEFF → s ≤ j → Many t is_mark s a y → a ≤ e → Many t is_char j e x → a ≤ j
+pub chars_past : {t : List ℕ} {s j a e : ℕ} {y x : List ℕ} → IsUtf8 t → code t j ≢ 0xFEFF → s ≤ j → Many t is_mark s a y → a ≤ e → Many t is_char j e x → a ≤ j
 chars_past u n l run m done = m
 chars_past {t} {j = j} u n l run m (step (one p) more) = marks_stop j u (char_boundary t j (ltb-true (code t j) no_char p)) n l run
 

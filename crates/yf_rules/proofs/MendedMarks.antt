@@ -151,7 +151,7 @@ none_needless src r s trees Content of_reading w same i o a =
 
 -- The law.
 
-normal_same : {u : List ℕ} {q : Lists} {s : Style} → Normal u q s q → (trees : List DocumentTree) → TreesOf q trees → map (normal_document u (setting_of q s)) trees ≡ trees
+pub normal_same : {u : List ℕ} {q : Lists} {s : Style} → Normal u q s q → (trees : List DocumentTree) → TreesOf q trees → map (normal_document u (setting_of q s)) trees ≡ trees
 normal_same {u} {q} {s} n trees of_reading =
     let g : DocumentTree → DocumentTree = normal_document u (setting_of q s) in
     let made : TreesOf q (map g n.trees) = record { events = ap (λ (w : Lists). w.events) n.is; documents = n.of_reading.documents ∙ sym (length-map n.trees g) } in

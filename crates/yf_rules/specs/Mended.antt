@@ -1,10 +1,12 @@
--- The law that what formatting gives has nothing at fault that the house style fixes, for each rule by itself.
-use Rattle.std.specs.Prelude.{◌≡◌, ℕ, true, List, []}
+-- The law that what formatting gives has nothing at fault that the house style fixes, for each rule by itself, and of the findings of several rules.
+use Rattle.std.specs.Prelude.{◌≡◌, ℕ, true, false, List, []}
+use Rattle.std.specs.List.{Contains}
 use Rattle.std.specs.Str.{IsUtf8}
 use Rattle.yf_emit.specs.Format.{Formats}
 use Rattle.yf_emit.specs.declared.style.Style.{Style}
 use Rattle.yf_events.specs.declared.lists.Lists.{Lists}
 use Rattle.yf_lines.specs.Lines.{AreLines, Table}
+use Rattle.yf_rules.specs.declared.finding.Finding.{Finding}
 use Rattle.yf_rules.specs.Definition.{RuleDefinition}
 use Rattle.yf_stream.specs.ReadingOf.{ReadingOf}
 
@@ -19,3 +21,7 @@ pub record IsFormatted (src : Table) (r : Lists) (s : Style) : Type 0 where
 -- In what formatting gives, the rule finds nothing, if the house style fixes what it finds.
 abbrev pub FormatsAreMended : RuleDefinition → Type 0
 FormatsAreMended rule = rule.fixable ≡ true → (src : Table) (r : Lists) (s : Style) → IsFormatted src r s → (offsets : List ℕ) → rule.faults src r s offsets → offsets ≡ []
+
+-- none of these findings is one that the house style fixes
+pub record NoneFixable (findings : List Finding) : Type 0 where
+  pub none : (f : Finding) → Contains findings f → f.fixable ≡ false

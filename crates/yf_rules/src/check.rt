@@ -1,8 +1,9 @@
 //! All findings of several rules.
-ghost use Rattle.std.specs.Prelude.{◌≡◌, ◌++◌, true, map, IfErr, IfOk};
+ghost use Rattle.std.specs.Prelude.{◌≡◌, [], ◌++◌, true, map, IfErr, IfOk};
 ghost use Rattle.std.specs.List.Sorted.{IsSortedByKey};
 ghost use Rattle.std.specs.Ordering.{is_lt};
 ghost use Rattle.yf_rules.specs.Check.{Checked, RuleFindings, SortedFrom, finding_at, key_cmp, sort_key};
+ghost use Rattle.yf_rules.specs.Mended.{IsFormatted, NoneFixable};
 ghost use Rattle.yf_rules.specs.Places.{FoundAt};
 
 use crate::finding::Finding;
@@ -30,6 +31,8 @@ fn places_by(
     ensures refused { IfErr result (λ fault. fault ≡ Fault.Memory) }
     ensures found { IfOk result (λ places. FoundAt src.now.text
         ((definition rule.now).faults src.now reading.now style.now) places.items) }
+    ensures mends { IfOk result (λ places. (definition rule.now).fixable ≡ true
+        → IsFormatted src.now reading.now style.now → places.items ≡ []) }
 {
     rule.find(alloc, src, reading, style)
 }
@@ -59,6 +62,7 @@ fn findings_of(
 ) -> Result<Vec<Finding>, Fault>
     ensures refused { IfErr result (λ fault. fault ≡ Fault.Memory) }
     ensures findings { IfOk result (λ findings. RuleFindings (definition rule.now) src.now reading.now style.now findings.items) }
+    ensures mends { IfOk result (λ findings. IsFormatted src.now reading.now style.now → NoneFixable findings.items) }
 {
     let about = about_of(rule);
     let places = places_by(alloc, rule, src, reading, style)?;
@@ -131,6 +135,7 @@ pub fn check(
     ensures refused { IfErr result (λ fault. fault ≡ Fault.Memory) }
     ensures findings { IfOk result (λ findings. Checked
         (λ rule found. RuleFindings (definition rule) src.now reading.now style.now found) rules.now findings.items) }
+    ensures mends { IfOk result (λ findings. IsFormatted src.now reading.now style.now → NoneFixable findings.items) }
 {
     let mut all = Vec::new(alloc);
     for rule in rules {

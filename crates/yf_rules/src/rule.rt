@@ -55,7 +55,9 @@ pub type Offsets = Result<Vec<usize>, AllocError>;
 
 /// A rule of style. What it is says its definition, one of `specs/Rules.antt`.
 pub trait Rule: Drop {
+    ghost use Rattle.std.specs.Prelude.{[]};
     ghost use Rattle.yf_rules.specs.Definition.{RuleDefinition};
+    ghost use Rattle.yf_rules.specs.Mended.{IsFormatted};
     ghost use Rattle.yf_rules.specs.Places.{Ascending, FoundAt};
 
     ghost definition: { Self → RuleDefinition };
@@ -87,9 +89,11 @@ pub trait Rule: Drop {
         self.about().fixable
     }
 
-    /// The byte offsets at fault in a text with this reading.
+    /// The byte offsets at fault in a text with this reading: none in what formatting gives, where the house style fixes what the rule finds.
     fn offsets(&self, alloc: Global, src: &Src, reading: &Reading, style: &Style) -> Offsets
-        ensures { IfOk result (λ offsets. (definition self.now).faults src.now reading.now style.now offsets.items) };
+        ensures faults { IfOk result (λ offsets. (definition self.now).faults src.now reading.now style.now offsets.items) }
+        ensures mends { IfOk result (λ offsets. (definition self.now).fixable ≡ true
+            → IsFormatted src.now reading.now style.now → offsets.items ≡ []) };
 
     /// The places at fault in a text with this reading, in ascending order by line and column, each once.
     ///
@@ -107,6 +111,8 @@ pub trait Rule: Drop {
         ensures ascending { IfOk result (λ places. Ascending places.items) }
         ensures found { IfOk result (λ places. FoundAt src.now.text
             ((definition self.now).faults src.now reading.now style.now) places.items) }
+        ensures mends { IfOk result (λ places. (definition self.now).fixable ≡ true
+            → IsFormatted src.now reading.now style.now → places.items ≡ []) }
     {
         match self.offsets(alloc, src, reading, style) {
             Ok(offsets) => placed(alloc, src, offsets.as_slice()),

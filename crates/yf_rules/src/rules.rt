@@ -1,4 +1,5 @@
 //! The rules of style, each with its function in a file of `rules`.
+ghost use Rattle.std.specs.Prelude.{IfOk};
 ghost use Rattle.yf_rules.specs.RuleOf.{definition_of};
 
 pub mod blank_lines;
@@ -48,6 +49,33 @@ pub enum StyleRule {
     KeyMark,
 }
 
+/// The byte offsets at fault by a rule.
+fn offsets_by(
+    rule: StyleRule,
+    alloc: Global,
+    src: &Src,
+    reading: &Reading,
+    style: &Style,
+) -> Offsets
+    ensures { IfOk result (λ offsets. (definition_of rule).faults src.now reading.now style.now offsets.items) }
+{
+    match rule {
+        StyleRule::TrailingBlanks => trailing_blanks::offsets(alloc, src, reading),
+        StyleRule::Indentation => indentation::offsets(alloc, src, reading, style),
+        StyleRule::Quoting => quoting::offsets(alloc, src, reading, style),
+        StyleRule::DocumentStart => document_start::offsets(alloc, src, reading),
+        StyleRule::FinalBreak => final_break::offsets(alloc, src),
+        StyleRule::LineBreaks => line_breaks::offsets(alloc, src),
+        StyleRule::ByteOrderMark => byte_order_mark::offsets(alloc, src, reading),
+        StyleRule::BlankLines => blank_lines::offsets(alloc, src, reading),
+        StyleRule::FlowLayout => flow_layout::offsets(alloc, src, reading, style),
+        StyleRule::CommentSpace => comment_space::offsets(alloc, src, reading),
+        StyleRule::LineLength => line_length::offsets(alloc, src, style),
+        StyleRule::RepeatedKeys => repeated_keys::offsets(alloc, reading),
+        StyleRule::KeyMark => key_mark::offsets(alloc, src, reading, style),
+    }
+}
+
 impl Rule for StyleRule {
     ghost definition = { λ rule. definition_of rule };
 
@@ -70,20 +98,6 @@ impl Rule for StyleRule {
     }
 
     fn offsets(&self, alloc: Global, src: &Src, reading: &Reading, style: &Style) -> Offsets {
-        match *self {
-            StyleRule::TrailingBlanks => trailing_blanks::offsets(alloc, src, reading),
-            StyleRule::Indentation => indentation::offsets(alloc, src, reading, style),
-            StyleRule::Quoting => quoting::offsets(alloc, src, reading, style),
-            StyleRule::DocumentStart => document_start::offsets(alloc, src, reading),
-            StyleRule::FinalBreak => final_break::offsets(alloc, src),
-            StyleRule::LineBreaks => line_breaks::offsets(alloc, src),
-            StyleRule::ByteOrderMark => byte_order_mark::offsets(alloc, src, reading),
-            StyleRule::BlankLines => blank_lines::offsets(alloc, src, reading),
-            StyleRule::FlowLayout => flow_layout::offsets(alloc, src, reading, style),
-            StyleRule::CommentSpace => comment_space::offsets(alloc, src, reading),
-            StyleRule::LineLength => line_length::offsets(alloc, src, style),
-            StyleRule::RepeatedKeys => repeated_keys::offsets(alloc, reading),
-            StyleRule::KeyMark => key_mark::offsets(alloc, src, reading, style),
-        }
+        offsets_by(*self, alloc, src, reading, style)
     }
 }

@@ -1,14 +1,20 @@
 use Rattle.std.proofs.Common.{arith}
 use Rattle.yf_rules.proofs.CheckLemmas.{none_checked, more_checked, all_checked}
+use Rattle.yf_rules.proofs.MendedFindings.{both_silent, none_silent, sorted_silent}
 use Rattle.yf_rules.proofs.check.check.Goals as goal
 
 pub loop-rule-init : goal.loop-rule-init
-loop-rule-init g c = none_checked _ _ c.new-all.ensures.items
+loop-rule-init g c = record { ordered = none_checked _ _ c.new-all.ensures.items; silent = none_silent _ c.new-all.ensures.items }
 
 pub loop-rule-preserved : goal.loop-rule-preserved
-loop-rule-preserved g c =
-    more_checked _ _ _ _ _ _ _ (omega arith) c.rule-item.is c.loop-rule.invariant c.in_ok-findings.ensures.findings c.in_ok-all.ensures.joined
+loop-rule-preserved g c = record {
+  ordered = more_checked _ _ _ _ _ _ _ (omega arith) c.rule-item.is c.loop-rule.invariant.ordered c.in_ok-findings.ensures.findings c.in_ok-all.ensures.joined;
+  silent = both_silent _ _ _ c.loop-rule.invariant.silent c.in_ok-findings.ensures.mends c.in_ok-all.ensures.joined;
+}
 
 pub returns-in-Ok-clause-findings : goal.returns-in-Ok-clause-findings
 returns-in-Ok-clause-findings g c =
-    all_checked _ _ _ _ _ (omega arith) c.loop-rule.invariant c.in-Ok.ensures
+    all_checked _ _ _ _ _ (omega arith) c.loop-rule.invariant.ordered c.in-Ok.ensures
+
+pub returns-in-Ok-clause-mends : goal.returns-in-Ok-clause-mends
+returns-in-Ok-clause-mends g c = sorted_silent _ _ c.loop-rule.invariant.silent c.in-Ok.ensures

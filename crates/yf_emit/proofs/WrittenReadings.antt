@@ -1,0 +1,56 @@
+-- In each reading of what formatting gives, each flow collection that stands in no other one stands as it is written, at the column of the layout.
+use Rattle.std.proofs.Common.{◌≡◌, ℕ, Bool, List, [], ◌∷◌, ◌++◌, map, refl, ap}
+use Rattle.std.specs.Str.{IsUtf8}
+use Rattle.yf_lines.specs.Basic.{LineStart}
+use Rattle.yf_comments.specs.Comment.{CommentValue}
+use Rattle.yf_events.specs.Tree.{Node, DocumentTree}
+use Rattle.yf_events.specs.declared.document.Doc.{Doc}
+use Rattle.yf_events.specs.declared.lists.Lists.{Lists}
+use Rattle.yf_stream.specs.ReadingOf.{ReadingOf}
+use Rattle.yf_emit.specs.declared.style.Style.{Style}
+use Rattle.yf_emit.specs.Decorated.{Deco}
+use Rattle.yf_emit.specs.Format.{Formats}
+use Rattle.yf_emit.specs.Normal.{Setting, root_spot, setting_of}
+use Rattle.yf_emit.specs.Rows.{Row}
+use Rattle.yf_emit.proofs.AlikeLemmas.{setting}
+use Rattle.yf_emit.proofs.BareNodes.{bare, bare_tree}
+use Rattle.yf_emit.proofs.FixedLawsHold.{roots_read}
+use Rattle.yf_emit.proofs.FormatsRead.{formats_laid}
+use Rattle.yf_emit.proofs.FoundKeys.{blocks_found}
+use Rattle.yf_emit.proofs.FoundStreams.{StreamIn, no_stream, stream_in}
+use Rattle.yf_emit.proofs.FoundTexts.{FoundRoots, no_roots, one_root, Settled, one_settled}
+use Rattle.yf_emit.proofs.PlacedRows.{PlacedRow}
+use Rattle.yf_emit.proofs.QuietPlaces.{AllQuiet, Linked, quiet_left, quiet_right, linked_left, linked_right}
+use Rattle.yf_emit.proofs.WrittenNodes.{WrittenDocuments, no_written_documents, written_document}
+use Rattle.yf_emit.proofs.WrittenTrees.{AllLined, lined_none, first_begins, lined_left, lined_right, renoted_written, rows_lined, rows_written}
+
+stream_lined : {t : List ℕ} {rs : List Row} {ps : List PlacedRow} {ds : List Deco} {i : ℕ} {cs : List CommentValue} → IsUtf8 t → LineStart t i → StreamIn t rs ps ds i cs → AllLined t ps
+stream_lined u a no_stream = lined_none
+stream_lined u a (stream_in b rows) = rows_lined u (first_begins b a) rows
+
+abbrev first_root : DocumentTree → List DocumentTree → Node
+first_root other [] = other.root
+first_root other (w ∷ ws) = w.root
+
+abbrev other_trees : List DocumentTree → List DocumentTree
+other_trees [] = []
+other_trees (w ∷ ws) = ws
+
+documents_written : {u : List ℕ} {c : Setting} {cs : List CommentValue} {is_first : Bool} {es : List Doc} {xs zs : List DocumentTree} {ps : List PlacedRow} (ys : List DocumentTree) → IsUtf8 u → FoundRoots u c is_first es xs zs ps → map bare_tree zs ≡ map bare_tree ys
+    → Settled c xs → AllQuiet cs ps → Linked cs ps → AllLined u ps → WrittenDocuments u (setting c.style cs) ys
+documents_written [] utf8 r e h q l a = no_written_documents
+documents_written (y ∷ ys) utf8 no_roots e h q l a = absurd cc
+documents_written {u} {c} {cs} (y ∷ ys) utf8 (one_root {z = z} {zs = zs} {inner = inner} {qs = qs} heads hr b r others) e (one_settled h hs) q l a =
+    let root : bare z.root ≡ bare y.root = ap (first_root (bare_tree z)) e in
+    let rest : map bare_tree zs ≡ map bare_tree ys = ap other_trees e in
+    let quiet = quiet_right heads inner (quiet_left (heads ++ inner) qs q) in
+    let linked = linked_right heads inner (linked_left (heads ++ inner) qs l) in
+    let lined = lined_right heads inner (lined_left (heads ++ inner) qs a) in
+    written_document (renoted_written y.root root (rows_written c cs utf8 r lined (blocks_found (root_spot c.style) refl h b r quiet linked)))
+    (documents_written ys utf8 others rest hs (quiet_right (heads ++ inner) qs q) (linked_right (heads ++ inner) qs l) (lined_right (heads ++ inner) qs a))
+
+pub reading_written : {t u : List ℕ} {s : Style} {q : Lists} → IsUtf8 t → (f : Formats t s u) → (a : ReadingOf u q) → WrittenDocuments u (setting_of q s) a.trees
+reading_written {t} {u} {s} {q} utf8 f a =
+    let all = formats_laid t u s utf8 f in
+    let read = roots_read t u s utf8 f q a in
+    documents_written a.trees all.well.utf8 read.roots read.same read.settled read.quiet read.linked (stream_lined all.well.utf8 all.starts all.placed)
