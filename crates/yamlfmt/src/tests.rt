@@ -1,15 +1,14 @@
 //! What the contracts leave to the system: that reading and writing succeed, and what a failing reader or writer gives.
 
+use crate::answers::reports;
 use crate::input::read_all;
 use crate::report::report;
 use crate::run::run_events;
 use std::io;
 use std::io::{Read, Write};
-use std::test::Fail;
 use yf_lines::fault::Fault;
 use yf_lines::output::write_text;
 use yf_lines::place::Place;
-use yf_lines::text::OwnedText;
 use yf_lines::watched::{Sink, Source, Watched};
 
 /// Gives the same byte for ever.
@@ -150,64 +149,66 @@ fn leaves_a_writer_that_takes_nothing(rt: HostRuntime) {
     assert!(rt; !idle.failed());
 }
 
+const PLACE: Place = Place {
+    line: 12,
+    column: 7,
+};
+
+/// Faults, their status and their line. That of a key of the settings stands in `shown_tests`.
+const FAULTS: [(Fault, u8, &str); 11] = [
+    (
+        Fault::NotUtf8 { offset: 2 },
+        2,
+        "byte 2 refused: not-utf8\n",
+    ),
+    (
+        Fault::Syntax {
+            place: PLACE,
+            what: "an entry",
+        },
+        2,
+        "12:7 refused: syntax\n",
+    ),
+    (
+        Fault::TooDeep { place: PLACE },
+        2,
+        "12:7 refused: too-deep\n",
+    ),
+    (
+        Fault::UnknownHandle { place: PLACE },
+        2,
+        "12:7 refused: unknown-handle\n",
+    ),
+    (
+        Fault::UnknownAlias { place: PLACE },
+        2,
+        "12:7 refused: unknown-alias\n",
+    ),
+    (
+        Fault::RepeatedDirective { place: PLACE },
+        2,
+        "12:7 refused: repeated-directive\n",
+    ),
+    (
+        Fault::BadVersion { place: PLACE },
+        2,
+        "12:7 refused: bad-version\n",
+    ),
+    (
+        Fault::EscapeValue { place: PLACE },
+        2,
+        "12:7 refused: escape-value\n",
+    ),
+    (Fault::Memory, 3, "no memory\n"),
+    (Fault::ReadFailed, 3, "read failed\n"),
+    (Fault::WriteFailed, 3, "write failed\n"),
+];
+
 #[test]
-fn reports_faults(rt: HostRuntime) -> Result<(), Fail> {
-    let place = Place {
-        line: 12,
-        column: 7,
-    };
-    let key = OwnedText::new(String::from_str(rt.alloc(), "indent")?);
-    let faults = [
-        (
-            Fault::NotUtf8 { offset: 2 },
-            2,
-            "byte 2 refused: not-utf8\n",
-        ),
-        (
-            Fault::Syntax {
-                place,
-                what: "an entry",
-            },
-            2,
-            "12:7 refused: syntax\n",
-        ),
-        (Fault::TooDeep { place }, 2, "12:7 refused: too-deep\n"),
-        (
-            Fault::UnknownHandle { place },
-            2,
-            "12:7 refused: unknown-handle\n",
-        ),
-        (
-            Fault::UnknownAlias { place },
-            2,
-            "12:7 refused: unknown-alias\n",
-        ),
-        (
-            Fault::RepeatedDirective { place },
-            2,
-            "12:7 refused: repeated-directive\n",
-        ),
-        (
-            Fault::BadVersion { place },
-            2,
-            "12:7 refused: bad-version\n",
-        ),
-        (
-            Fault::EscapeValue { place },
-            2,
-            "12:7 refused: escape-value\n",
-        ),
-        (Fault::Memory, 3, "no memory\n"),
-        (Fault::ReadFailed, 3, "read failed\n"),
-        (Fault::WriteFailed, 3, "write failed\n"),
-        (Fault::Config { key }, 3, "config: indent\n"),
-    ];
-    for (fault, status, line) in &faults {
-        let mut stream = Watched::new(Vec::new(rt.alloc()));
-        assert_eq!(rt; report(fault, &mut stream), *status, "{line}");
-        assert_eq!(rt; stream.get_ref().as_slice(), line.as_bytes());
+fn reports_faults(rt: HostRuntime) {
+    for (fault, status, line) in FAULTS {
+        assert!(rt; reports(rt.alloc(), &fault, status, line), "{line}");
     }
-    Ok(())
 }
 
 #[test]
