@@ -2,121 +2,147 @@
 
 use crate::failing_files::{FailingFiles, Step};
 use crate::files::rewrite;
-use crate::run::read_formatted;
-use std::fs;
 use std::fs::Permissions;
 use std::os::unix::fs::{MetadataExt, PermissionsExt};
 use std::test::Fail;
+use std::{fs, io};
 use yf_emit::style::Style;
 use yf_lines::fault::Fault;
-use yf_lines::watched::Watched;
 
 /// Makes an empty folder.
-fn make_folder(rt: &HostRuntime, folder: &str) -> Result<(), Fail> {
+fn make_folder(rt: &HostRuntime, folder: &str) -> io::Result<()> {
     let _ = fs::remove_dir_all(rt, folder);
-    fs::create_dir(rt, folder)?;
-    Ok(())
+    fs::create_dir(rt, folder)
+}
+
+/// What is answered for a file.
+#[derive(Clone, Copy)]
+enum Answer {
+    Rewritten,
+    Syntax,
+    ReadFailed,
+    WriteFailed,
+}
+
+/// Whether that is the answer.
+fn is_answer(answer: &Result<(), Fault>, wanted: Answer) -> bool {
+    match answer {
+        Ok(()) => matches!(wanted, Answer::Rewritten),
+        Err(Fault::Syntax { .. }) => matches!(wanted, Answer::Syntax),
+        Err(Fault::ReadFailed) => matches!(wanted, Answer::ReadFailed),
+        Err(Fault::WriteFailed) => matches!(wanted, Answer::WriteFailed),
+        Err(_) => false,
+    }
+}
+
+/// Whether that is the answer for the file at the path in the house style, where a step fails.
+fn answers(rt: &HostRuntime, path: &str, fails: Step, wanted: Answer) -> bool {
+    let files = (FailingFiles { host: rt, fails }, rt.alloc());
+    is_answer(&rewrite(&files, path, &Style::house()), wanted)
+}
+
+/// The same of the files of the system, of which no step fails.
+fn host_answers(rt: &HostRuntime, path: &str, wanted: Answer) -> bool {
+    is_answer(&rewrite(rt, path, &Style::house()), wanted)
+}
+
+const PATH: &str = "yamlfmt_rewrites/a.yaml";
+
+const NEW_PATH: &str = "yamlfmt_rewrites/a.yaml.yamlfmt-new";
+
+/// Whether the file has that text, and nothing stands at the path of the new file.
+fn has_text(rt: &HostRuntime, text: &str) -> io::Result<bool> {
+    let held = fs::read_to_string(rt, PATH)?;
+    Ok(held.as_str() == text && !fs::exists(rt, NEW_PATH)?)
+}
+
+/// Whether that is the answer for a file with the first text where a step fails, and the file has then the second one. One
+/// whose text stays is the same file.
+fn ends_with(
+    rt: &HostRuntime,
+    old: &str,
+    fails: Step,
+    wanted: Answer,
+    new: &str,
+) -> io::Result<bool> {
+    make_folder(rt, "yamlfmt_rewrites")?;
+    fs::write(rt, PATH, old)?;
+    let before = fs::metadata(rt, PATH)?.ino();
+    let is_answered = answers(rt, PATH, fails, wanted);
+    let is_same = fs::metadata(rt, PATH)?.ino() == before;
+    Ok(is_answered && has_text(rt, new)? && is_same == (old == new))
+}
+
+/// Texts of a file, the step that fails, the answer, and the text of the file after it.
+const TEXTS: [(&str, Step, Answer, &str); 7] = [
+    // a text that is refused
+    ("a: b: c\n", Step::Nothing, Answer::Syntax, "a: b: c\n"),
+    // the new file fails
+    ("- a\n- b\n", Step::Make, Answer::WriteFailed, "- a\n- b\n"),
+    ("- a\n- b\n", Step::Write, Answer::WriteFailed, "- a\n- b\n"),
+    (
+        "- a\n- b\n",
+        Step::Rename,
+        Answer::WriteFailed,
+        "- a\n- b\n",
+    ),
+    // once and twice
+    (
+        "- a\n- b\n",
+        Step::Nothing,
+        Answer::Rewritten,
+        "---\n- a\n- b\n",
+    ),
+    (
+        "---\n- a\n- b\n",
+        Step::Nothing,
+        Answer::Rewritten,
+        "---\n- a\n- b\n",
+    ),
+    // no new file is made
+    (
+        "---\n- a\n- b\n",
+        Step::Make,
+        Answer::Rewritten,
+        "---\n- a\n- b\n",
+    ),
+];
+
+/// Whether a file of the system is rewritten over what another run left, and keeps its permissions.
+fn keeps_permissions(rt: &HostRuntime) -> io::Result<bool> {
+    make_folder(rt, "yamlfmt_rewrites")?;
+    fs::write(rt, PATH, "- a\n- b\n")?;
+    fs::set_permissions(rt, PATH, Permissions::from_mode(0o640))?;
+    fs::write(rt, NEW_PATH, [b'x'; 100].as_slice())?;
+    let is_rewritten = host_answers(rt, PATH, Answer::Rewritten);
+    let mode = fs::metadata(rt, PATH)?.permissions().mode();
+    Ok(is_rewritten && has_text(rt, "---\n- a\n- b\n")? && mode & 0o777 == 0o640)
 }
 
 #[test]
-fn rewrites_a_file(rt: HostRuntime) -> Result<(), Fail> {
-    make_folder(&rt, "yamlfmt_rewrites")?;
-    let path = "yamlfmt_rewrites/a.yaml";
-    fs::write(&rt, path, "- a\n- b\n")?;
-    fs::set_permissions(&rt, path, Permissions::from_mode(0o640))?;
-    fs::write(
-        &rt,
-        "yamlfmt_rewrites/a.yaml.yamlfmt-new",
-        [b'x'; 100].as_slice(),
-    )?;
-    assert!(rt; rewrite(&rt, path, &Style::house()).is_ok());
-    let mut reader = Watched::new(b"- a\n- b\n".as_slice());
-    match read_formatted(rt.alloc(), &mut reader, &Style::house()) {
-        Ok(wanted) => assert!(rt; fs::read_to_string(&rt, path)? == wanted),
-        Err(fault) => panic!(rt; "{fault}"),
+fn rewrites_files_or_leaves_them(rt: HostRuntime) -> Result<(), Fail> {
+    for (old, fails, wanted, new) in TEXTS {
+        assert!(rt; ends_with(&rt, old, fails, wanted, new)?, "{old}");
     }
-    assert_eq!(rt;
-        fs::metadata(&rt, path)?.permissions().mode() & 0o777,
-        0o640
-    );
-    assert!(rt; !fs::exists(&rt, "yamlfmt_rewrites/a.yaml.yamlfmt-new")?);
+    assert!(rt; keeps_permissions(&rt)?);
     fs::remove_dir_all(&rt, "yamlfmt_rewrites")?;
     Ok(())
 }
 
-#[test]
-fn leaves_a_file_that_is_refused(rt: HostRuntime) -> Result<(), Fail> {
-    make_folder(&rt, "yamlfmt_refused")?;
-    let path = "yamlfmt_refused/a.yaml";
-    fs::write(&rt, path, "a: b: c\n")?;
-    let answer = rewrite(&rt, path, &Style::house());
-    assert!(rt; matches!(answer, Err(Fault::Syntax { .. })));
-    assert!(rt; fs::read_to_string(&rt, path)?.as_str() == "a: b: c\n");
-    assert!(rt; !fs::exists(&rt, "yamlfmt_refused/a.yaml.yamlfmt-new")?);
-    let answer = rewrite(&rt, "yamlfmt_refused/b.yaml", &Style::house());
-    assert!(rt; matches!(answer, Err(Fault::ReadFailed)));
-    assert!(rt; !fs::exists(&rt, "yamlfmt_refused/b.yaml")?);
-    fs::remove_dir_all(&rt, "yamlfmt_refused")?;
-    Ok(())
-}
-
-#[test]
-fn leaves_a_file_where_the_new_one_fails(rt: HostRuntime) -> Result<(), Fail> {
-    make_folder(&rt, "yamlfmt_faulty")?;
-    let path = "yamlfmt_faulty/a.yaml";
-    fs::write(&rt, path, "- a\n- b\n")?;
-    for step in [Step::Make, Step::Write, Step::Rename] {
-        let files = FailingFiles {
-            host: &rt,
-            fails: step,
-        };
-        let answer = rewrite(&(files, rt.alloc()), path, &Style::house());
-        assert!(rt; matches!(answer, Err(Fault::WriteFailed)));
-        assert!(rt; fs::read_to_string(&rt, path)?.as_str() == "- a\n- b\n");
-        assert!(rt; !fs::exists(&rt, "yamlfmt_faulty/a.yaml.yamlfmt-new")?);
-    }
-    fs::remove_dir_all(&rt, "yamlfmt_faulty")?;
-    Ok(())
-}
-
-#[test]
-fn leaves_the_house_style_in_a_file(rt: HostRuntime) -> Result<(), Fail> {
-    make_folder(&rt, "yamlfmt_twice")?;
-    let path = "yamlfmt_twice/a.yaml";
-    fs::write(&rt, path, "- a\n- b\n")?;
-    for _ in 0..2 {
-        assert!(rt; rewrite(&rt, path, &Style::house()).is_ok());
-        assert!(rt; fs::read_to_string(&rt, path)?.as_str() == "---\n- a\n- b\n");
-    }
-    fs::remove_dir_all(&rt, "yamlfmt_twice")?;
-    Ok(())
-}
-
-#[test]
-fn leaves_a_file_in_the_house_style(rt: HostRuntime) -> Result<(), Fail> {
-    make_folder(&rt, "yamlfmt_styled")?;
-    let path = "yamlfmt_styled/a.yaml";
-    fs::write(&rt, path, "---\n- a\n- b\n")?;
-    let before = fs::metadata(&rt, path)?;
-    let files = FailingFiles {
-        host: &rt,
-        fails: Step::Make,
-    };
-    assert!(rt; rewrite(&(files, rt.alloc()), path, &Style::house()).is_ok());
-    assert!(rt; rewrite(&rt, path, &Style::house()).is_ok());
-    assert_eq!(rt; fs::metadata(&rt, path)?.ino(), before.ino());
-    fs::remove_dir_all(&rt, "yamlfmt_styled")?;
-    Ok(())
-}
+/// Paths at which no regular file stands, and one at which then nothing may stand.
+const NO_FILES: [(&str, &str); 3] = [
+    ("yamlfmt_kinds", "yamlfmt_kinds.yamlfmt-new"),
+    ("/dev/null", "yamlfmt_kinds.yamlfmt-new"),
+    ("yamlfmt_kinds/b.yaml", "yamlfmt_kinds/b.yaml"),
+];
 
 #[test]
 fn refuses_what_is_no_regular_file(rt: HostRuntime) -> Result<(), Fail> {
     make_folder(&rt, "yamlfmt_kinds")?;
-    for path in ["yamlfmt_kinds", "/dev/null"] {
-        let answer = rewrite(&rt, path, &Style::house());
-        assert!(rt; matches!(answer, Err(Fault::ReadFailed)));
+    for (path, missing) in NO_FILES {
+        assert!(rt; host_answers(&rt, path, Answer::ReadFailed), "{path}");
+        assert!(rt; !fs::exists(&rt, missing)?, "{path}");
     }
-    assert!(rt; !fs::exists(&rt, "yamlfmt_kinds.yamlfmt-new")?);
     fs::remove_dir_all(&rt, "yamlfmt_kinds")?;
     Ok(())
 }

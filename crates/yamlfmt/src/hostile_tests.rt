@@ -4,18 +4,12 @@ use crate::answers::{answer_over, answer_to, command};
 use crate::command_line::Verb;
 use crate::faulty::{FaultyReader, FaultyWriter};
 use crate::program::run;
+use crate::rules::{WithRules, with_all_rules};
 use std::alloc::{AllocError, Global};
 use std::test::Fail;
 use yf_emit::style::Style;
 use yf_lines::watched::{Sink, Source, Watched};
 use yf_rules::rule::Rule;
-use yf_rules::rules::blank_lines::BlankLines;
-use yf_rules::rules::comment_space::CommentSpace;
-use yf_rules::rules::document_start::DocumentStart;
-use yf_rules::rules::flow_layout::FlowLayout;
-use yf_rules::rules::key_mark::KeyMark;
-use yf_rules::rules::quoting::Quoting;
-use yf_rules::rules::repeated_keys::RepeatedKeys;
 
 const VERBS: [Verb; 3] = [Verb::Events, Verb::Check, Verb::Fmt];
 
@@ -46,29 +40,37 @@ enum Failing {
     Memory,
 }
 
+/// What fails while commands run.
+#[derive(Drop)]
+struct Failures {
+    alloc: Global,
+    failing: Failing,
+}
+
+impl WithRules for Failures {
+    type Answer = bool;
+
+    /// Whether each command answers as it should on each input, with these rules.
+    fn with_rules(self, rules: &[Box<dyn Rule>]) -> bool {
+        let Failures { alloc, failing } = self;
+        for input in INPUTS {
+            if !holds_on(alloc, rules, failing, input.as_bytes()) {
+                return false;
+            }
+        }
+        let dashes = nested_dashes();
+        // The deepest one has thousands of writes, so there only a part of it.
+        let deep = match failing {
+            Failing::Reads | Failing::Memory => &dashes[..],
+            Failing::Writes => &dashes[1984..],
+        };
+        holds_on(alloc, rules, failing, deep)
+    }
+}
+
 /// Whether each command answers as it should on each input where that fails.
 fn holds(alloc: Global, failing: Failing) -> Result<bool, AllocError> {
-    let rules: [Box<dyn Rule>; 7] = [
-        Box::new(alloc, KeyMark)?,
-        Box::new(alloc, RepeatedKeys)?,
-        Box::new(alloc, CommentSpace)?,
-        Box::new(alloc, FlowLayout)?,
-        Box::new(alloc, BlankLines)?,
-        Box::new(alloc, DocumentStart)?,
-        Box::new(alloc, Quoting)?,
-    ];
-    for input in INPUTS {
-        if !holds_on(alloc, &rules, failing, input.as_bytes()) {
-            return Ok(false);
-        }
-    }
-    let dashes = nested_dashes();
-    // The deepest one has thousands of writes, so there only a part of it.
-    let deep = match failing {
-        Failing::Reads | Failing::Memory => &dashes[..],
-        Failing::Writes => &dashes[1984..],
-    };
-    Ok(holds_on(alloc, &rules, failing, deep))
+    with_all_rules(alloc, Failures { alloc, failing })
 }
 
 fn holds_on(alloc: Global, rules: &[Box<dyn Rule>], failing: Failing, input: &[u8]) -> bool {

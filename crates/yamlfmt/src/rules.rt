@@ -2,19 +2,7 @@
 
 use std::alloc::{AllocError, Global};
 use yf_rules::rule::Rule;
-use yf_rules::rules::blank_lines::BlankLines;
-use yf_rules::rules::byte_order_mark::ByteOrderMark;
-use yf_rules::rules::comment_space::CommentSpace;
-use yf_rules::rules::document_start::DocumentStart;
-use yf_rules::rules::final_break::FinalBreak;
-use yf_rules::rules::flow_layout::FlowLayout;
-use yf_rules::rules::indentation::Indentation;
-use yf_rules::rules::key_mark::KeyMark;
-use yf_rules::rules::line_breaks::LineBreaks;
-use yf_rules::rules::line_length::LineLength;
-use yf_rules::rules::quoting::Quoting;
-use yf_rules::rules::repeated_keys::RepeatedKeys;
-use yf_rules::rules::trailing_blanks::TrailingBlanks;
+use yf_rules::rules::StyleRule;
 
 /// Work that takes all rules of style.
 pub trait WithRules: Drop {
@@ -25,22 +13,28 @@ pub trait WithRules: Drop {
     fn with_rules(self, rules: &[Box<dyn Rule>]) -> Self::Answer;
 }
 
-/// Does work with all rules of style, unless memory for their boxes was refused. A new rule is a new line of this list.
+/// All rules of style. A new rule is a new line of this list.
+const RULES: [StyleRule; 13] = [
+    StyleRule::TrailingBlanks,
+    StyleRule::Indentation,
+    StyleRule::Quoting,
+    StyleRule::DocumentStart,
+    StyleRule::FinalBreak,
+    StyleRule::LineBreaks,
+    StyleRule::ByteOrderMark,
+    StyleRule::BlankLines,
+    StyleRule::FlowLayout,
+    StyleRule::CommentSpace,
+    StyleRule::LineLength,
+    StyleRule::RepeatedKeys,
+    StyleRule::KeyMark,
+];
+
+/// Does work with all rules of style, unless memory for them was refused.
 pub fn with_all_rules<W: WithRules>(alloc: Global, work: W) -> Result<W::Answer, AllocError> {
-    let rules: &[Box<dyn Rule>] = &[
-        Box::new(alloc, TrailingBlanks)?,
-        Box::new(alloc, Indentation)?,
-        Box::new(alloc, Quoting)?,
-        Box::new(alloc, DocumentStart)?,
-        Box::new(alloc, FinalBreak)?,
-        Box::new(alloc, LineBreaks)?,
-        Box::new(alloc, ByteOrderMark)?,
-        Box::new(alloc, BlankLines)?,
-        Box::new(alloc, FlowLayout)?,
-        Box::new(alloc, CommentSpace)?,
-        Box::new(alloc, LineLength)?,
-        Box::new(alloc, RepeatedKeys)?,
-        Box::new(alloc, KeyMark)?,
-    ];
-    Ok(work.with_rules(rules))
+    let mut rules: Vec<Box<dyn Rule>> = Vec::with_capacity(alloc, RULES.len())?;
+    for rule in RULES {
+        rules.push(Box::new(alloc, rule)?)?;
+    }
+    Ok(work.with_rules(rules.as_slice()))
 }

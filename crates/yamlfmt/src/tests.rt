@@ -1,15 +1,16 @@
 //! What the contracts leave to the system: that reading and writing succeed, and what a failing reader or writer gives.
 
+use crate::answers::{answer_over, reports};
+use crate::command_line::Verb;
+use crate::faulty::FaultyReader;
 use crate::input::read_all;
 use crate::report::report;
-use crate::run::run_events;
+use std::alloc::Global;
 use std::io;
 use std::io::{Read, Write};
-use std::test::Fail;
 use yf_lines::fault::Fault;
 use yf_lines::output::write_text;
 use yf_lines::place::Place;
-use yf_lines::text::OwnedText;
 use yf_lines::watched::{Sink, Source, Watched};
 
 /// Gives the same byte for ever.
@@ -20,33 +21,6 @@ impl Read for EndlessReader {
     fn read(&mut self, buffer: &mut [u8]) -> io::Result<usize> {
         buffer.fill(b'x');
         Ok(buffer.len())
-    }
-}
-
-/// Fails at once.
-#[derive(Drop)]
-struct BrokenReader;
-
-impl Read for BrokenReader {
-    fn read(&mut self, _buffer: &mut [u8]) -> io::Result<usize> {
-        Err(io::Error::from(io::ErrorKind::Other))
-    }
-}
-
-/// Gives one line, and then fails.
-#[derive(Drop)]
-struct CutReader {
-    given: bool,
-}
-
-impl Read for CutReader {
-    fn read(&mut self, buffer: &mut [u8]) -> io::Result<usize> {
-        if self.given || buffer.len() < 4 {
-            return Err(io::Error::from(io::ErrorKind::Other));
-        }
-        self.given = true;
-        buffer[..4].copy_from_slice(b"- a\n");
-        Ok(4)
     }
 }
 
@@ -87,127 +61,127 @@ impl Write for StuckWriter {
     }
 }
 
+/// Whether the reader fails, or gives more than so many bytes.
+fn fails_to_read<R: Source>(alloc: Global, reader: &mut R, limit: usize) -> bool {
+    matches!(read_all(alloc, reader, limit), Err(Fault::ReadFailed))
+}
+
+/// Whether so many bytes are read whole of a reader that has these.
+fn is_read(alloc: Global, bytes: &[u8], limit: usize) -> bool {
+    let mut reader = Watched::new(bytes);
+    match read_all(alloc, &mut reader, limit) {
+        Ok(read) => read.as_slice() == bytes && !reader.failed(),
+        Err(_) => false,
+    }
+}
+
 #[test]
 fn reads_up_to_the_limit(rt: HostRuntime) {
+    assert!(rt; is_read(rt.alloc(), b"0123456789", 10));
     let mut reader = Watched::new(b"0123456789".as_slice());
-    match read_all(rt.alloc(), &mut reader, 10) {
-        Ok(bytes) => assert_eq!(rt; bytes.as_slice(), b"0123456789".as_slice()),
-        Err(fault) => panic!(rt; "{fault}"),
-    }
-    assert!(rt; !reader.failed());
-    let mut reader = Watched::new(b"0123456789".as_slice());
-    assert!(rt; matches!(read_all(rt.alloc(), &mut reader, 9), Err(Fault::ReadFailed)));
-}
-
-#[test]
-fn leaves_a_reader_that_never_ends(rt: HostRuntime) {
+    assert!(rt; fails_to_read(rt.alloc(), &mut reader, 9));
     let mut reader = Watched::new(EndlessReader);
-    assert!(rt;
-        matches!(
-            read_all(rt.alloc(), &mut reader, 10),
-            Err(Fault::ReadFailed)
-        )
-    );
-    assert!(rt; !reader.failed());
+    assert!(rt; fails_to_read(rt.alloc(), &mut reader, 10) && !reader.failed());
+    let mut reader = Watched::new(broken_reader());
+    assert!(rt; fails_to_read(rt.alloc(), &mut reader, 10) && reader.failed());
 }
 
-#[test]
-fn answers_a_failed_read(rt: HostRuntime) {
-    let mut reader = Watched::new(BrokenReader);
-    assert!(rt;
-        matches!(
-            read_all(rt.alloc(), &mut reader, 10),
-            Err(Fault::ReadFailed)
-        )
-    );
-    assert!(rt; reader.failed());
+/// A reader that fails at once.
+fn broken_reader() -> FaultyReader<'static> {
+    FaultyReader {
+        rest: b"",
+        reads_left: 0,
+    }
+}
+
+/// A writer that takes three bytes.
+fn full_writer(alloc: Global) -> Watched<FullWriter> {
+    Watched::new(FullWriter {
+        taken: Vec::new(alloc),
+        room: 3,
+    })
+}
+
+/// Whether the writer fails, or takes not all of these bytes.
+fn fails_to_write<W: Sink>(writer: &mut W, bytes: &[u8]) -> bool {
+    matches!(write_text(writer, bytes), Err(Fault::WriteFailed))
 }
 
 #[test]
 fn writes_a_front_and_fails(rt: HostRuntime) {
-    let full = FullWriter {
-        taken: Vec::new(rt.alloc()),
-        room: 3,
-    };
-    let mut writer = Watched::new(full);
-    assert!(rt;
-        matches!(
-            write_text(&mut writer, b"---\n- a\n"),
-            Err(Fault::WriteFailed)
-        )
-    );
-    assert!(rt; writer.failed());
-    assert_eq!(rt; writer.get_ref().taken.as_slice(), b"---".as_slice());
+    let mut writer = full_writer(rt.alloc());
+    assert!(rt; fails_to_write(&mut writer, b"---\n- a\n") && writer.failed());
+    assert!(rt; writer.get_ref().taken.as_slice() == b"---".as_slice());
 }
 
 #[test]
 fn leaves_a_writer_that_takes_nothing(rt: HostRuntime) {
     let mut writer = Watched::new(StuckWriter);
-    assert!(rt; matches!(write_text(&mut writer, b"a"), Err(Fault::WriteFailed)));
-    assert!(rt; writer.failed());
+    assert!(rt; fails_to_write(&mut writer, b"a") && writer.failed());
     let mut idle = Watched::new(StuckWriter);
-    assert!(rt; write_text(&mut idle, b"").is_ok());
-    assert!(rt; !idle.failed());
+    assert!(rt; write_text(&mut idle, b"").is_ok() && !idle.failed());
 }
 
+const PLACE: Place = Place {
+    line: 12,
+    column: 7,
+};
+
+/// Faults, their status and their line. That of a key of the settings stands in `shown_tests`.
+const FAULTS: [(Fault, u8, &str); 11] = [
+    (
+        Fault::NotUtf8 { offset: 2 },
+        2,
+        "byte 2 refused: not-utf8\n",
+    ),
+    (
+        Fault::Syntax {
+            place: PLACE,
+            what: "an entry",
+        },
+        2,
+        "12:7 refused: syntax\n",
+    ),
+    (
+        Fault::TooDeep { place: PLACE },
+        2,
+        "12:7 refused: too-deep\n",
+    ),
+    (
+        Fault::UnknownHandle { place: PLACE },
+        2,
+        "12:7 refused: unknown-handle\n",
+    ),
+    (
+        Fault::UnknownAlias { place: PLACE },
+        2,
+        "12:7 refused: unknown-alias\n",
+    ),
+    (
+        Fault::RepeatedDirective { place: PLACE },
+        2,
+        "12:7 refused: repeated-directive\n",
+    ),
+    (
+        Fault::BadVersion { place: PLACE },
+        2,
+        "12:7 refused: bad-version\n",
+    ),
+    (
+        Fault::EscapeValue { place: PLACE },
+        2,
+        "12:7 refused: escape-value\n",
+    ),
+    (Fault::Memory, 3, "no memory\n"),
+    (Fault::ReadFailed, 3, "read failed\n"),
+    (Fault::WriteFailed, 3, "write failed\n"),
+];
+
 #[test]
-fn reports_faults(rt: HostRuntime) -> Result<(), Fail> {
-    let place = Place {
-        line: 12,
-        column: 7,
-    };
-    let key = OwnedText::new(String::from_str(rt.alloc(), "indent")?);
-    let faults = [
-        (
-            Fault::NotUtf8 { offset: 2 },
-            2,
-            "byte 2 refused: not-utf8\n",
-        ),
-        (
-            Fault::Syntax {
-                place,
-                what: "an entry",
-            },
-            2,
-            "12:7 refused: syntax\n",
-        ),
-        (Fault::TooDeep { place }, 2, "12:7 refused: too-deep\n"),
-        (
-            Fault::UnknownHandle { place },
-            2,
-            "12:7 refused: unknown-handle\n",
-        ),
-        (
-            Fault::UnknownAlias { place },
-            2,
-            "12:7 refused: unknown-alias\n",
-        ),
-        (
-            Fault::RepeatedDirective { place },
-            2,
-            "12:7 refused: repeated-directive\n",
-        ),
-        (
-            Fault::BadVersion { place },
-            2,
-            "12:7 refused: bad-version\n",
-        ),
-        (
-            Fault::EscapeValue { place },
-            2,
-            "12:7 refused: escape-value\n",
-        ),
-        (Fault::Memory, 3, "no memory\n"),
-        (Fault::ReadFailed, 3, "read failed\n"),
-        (Fault::WriteFailed, 3, "write failed\n"),
-        (Fault::Config { key }, 3, "config: indent\n"),
-    ];
-    for (fault, status, line) in &faults {
-        let mut stream = Watched::new(Vec::new(rt.alloc()));
-        assert_eq!(rt; report(fault, &mut stream), *status, "{line}");
-        assert_eq!(rt; stream.get_ref().as_slice(), line.as_bytes());
+fn reports_faults(rt: HostRuntime) {
+    for (fault, status, line) in FAULTS {
+        assert!(rt; reports(rt.alloc(), &fault, status, line), "{line}");
     }
-    Ok(())
 }
 
 #[test]
@@ -217,47 +191,36 @@ fn keeps_the_status_where_the_report_fails(rt: HostRuntime) {
     assert!(rt; stream.failed());
 }
 
+/// The status of a run that prints events, and what it writes to the stream of faults.
+fn events_over<R: Source, W: Sink>(alloc: Global, reader: &mut R, writer: &mut W) -> (u8, Vec<u8>) {
+    answer_over(alloc, Verb::Events, &[], reader, writer)
+}
+
 #[test]
 fn answers_a_writer_that_fails_in_the_lines(rt: HostRuntime) {
-    let full = FullWriter {
-        taken: Vec::new(rt.alloc()),
-        room: 3,
-    };
     let mut reader = Watched::new(b"- a\n- b\n".as_slice());
-    let mut writer = Watched::new(full);
-    assert!(rt;
-        matches!(
-            run_events(rt.alloc(), &mut reader, &mut writer),
-            Err(Fault::WriteFailed)
-        )
-    );
-    assert!(rt; writer.failed());
-    assert_eq!(rt; writer.get_ref().taken.as_slice(), b"+ST".as_slice());
+    let mut writer = full_writer(rt.alloc());
+    let (status, line) = events_over(rt.alloc(), &mut reader, &mut writer);
+    assert!(rt; status == 3 && line.as_slice() == b"write failed\n".as_slice());
+    assert!(rt; writer.failed() && writer.get_ref().taken.as_slice() == b"+ST".as_slice());
+}
+
+/// Whether nothing is written where that reader fails.
+fn writes_nothing(alloc: Global, faulty: FaultyReader) -> bool {
+    let mut reader = Watched::new(faulty);
+    let mut writer = Watched::new(Vec::new(alloc));
+    let (status, line) = events_over(alloc, &mut reader, &mut writer);
+    let says_so = status == 3 && line.as_slice() == b"read failed\n".as_slice();
+    says_so && reader.failed() && writer.get_ref().is_empty()
 }
 
 #[test]
 fn writes_nothing_where_the_reader_fails(rt: HostRuntime) {
-    let mut reader = Watched::new(BrokenReader);
-    let mut writer = Watched::new(Vec::new(rt.alloc()));
-    assert!(rt;
-        matches!(
-            run_events(rt.alloc(), &mut reader, &mut writer),
-            Err(Fault::ReadFailed)
-        )
-    );
-    assert!(rt; writer.get_ref().is_empty());
-}
-
-#[test]
-fn writes_nothing_where_the_reader_fails_behind_a_line(rt: HostRuntime) {
-    let mut reader = Watched::new(CutReader { given: false });
-    let mut writer = Watched::new(Vec::new(rt.alloc()));
-    assert!(rt;
-        matches!(
-            run_events(rt.alloc(), &mut reader, &mut writer),
-            Err(Fault::ReadFailed)
-        )
-    );
-    assert!(rt; reader.failed());
-    assert!(rt; writer.get_ref().is_empty());
+    assert!(rt; writes_nothing(rt.alloc(), broken_reader()));
+    // behind a line
+    let cut = FaultyReader {
+        rest: b"- a\n",
+        reads_left: 1,
+    };
+    assert!(rt; writes_nothing(rt.alloc(), cut));
 }

@@ -1,5 +1,5 @@
 -- The events of a text's reading are well nested, with no more collections open at once than the limit.
-use Rattle.std.proofs.Common.{◌≡◌, ℕ, ◌≤◌, List, [], ◌∷◌, ◌++◌, Option, sym, refl, ap, ◌∙◌, subst, arith}
+use Rattle.std.proofs.Common.{◌≡◌, ℕ, ◌≤◌, List, [], ◌∷◌, Option, sym, refl, ap, ◌∙◌, subst, arith}
 use Rattle.yf_comments.specs.Comment.{CommentValue}
 use Rattle.yf_events.specs.Event.{Placed, document_ends, document_starts, stream_ends, stream_starts}
 use Rattle.yf_events.specs.Nested.{IsStream, Nested, a_scalar, a_stream, many_documents, more_documents, no_documents, one_node}
@@ -12,7 +12,7 @@ use Rattle.yf_grammar.specs.Part.{Noting}
 use Rattle.yf_grammar.specs.Part.Noting.{no_event, with_entry, without_entry}
 use Rattle.yf_stream.specs.ReadingOf.{DocumentEvents, ReadingOf}
 use Rattle.yf_stream.specs.ReadingOf.DocumentEvents.{no_document, one_document}
-use Rattle.yf_stream.specs.Stream.{AnyDocument, Document, ExplicitNode, document_of}
+use Rattle.yf_stream.specs.Stream.{AnyDocument, Document, document_of}
 use Rattle.yf_stream.specs.Stream.AnyDocument.{bare_document, directive_document, explicit_document}
 use Rattle.yf_stream.specs.Stream.ExplicitNode.{marked_node, marked_nothing}
 use Rattle.yf_stream.proofs.NestedNodes.{kinds, kinds_join, nests}

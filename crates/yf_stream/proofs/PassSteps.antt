@@ -13,7 +13,7 @@ use Rattle.yf_events.specs.Tree.{unplaced}
 use Rattle.yf_events.specs.declared.event.Span.{Span}
 use Rattle.yf_events.specs.declared.directive.Directive.{Directive}
 use Rattle.yf_events.specs.declared.document.Doc.{Doc}
-use Rattle.yf_stream.specs.TagPass.{AllPassed, Bare, EventAt, Finds, Passed, SameDeclarations, SameNames, StartsDocument, TagAdded, TagOf, directives_of, next_directives, own_breaches, starts_document}
+use Rattle.yf_stream.specs.TagPass.{AllPassed, Bare, EventAt, Finds, Passed, SameDeclarations, SameNames, StartsDocument, TagAdded, TagOf, directives_of, next_directives, starts_document}
 use Rattle.yf_stream.specs.WellFormed.{alias_breaches, alias_of, breach_if, declarations, directive_breaches, is_unknown, offset_or, props_of, start_or, with_name}
 use Rattle.yf_stream.specs.declared.breaches.Breach.{Breach}
 use Rattle.yf_stream.specs.declared.breaches.Kind.TheVariants.{UnknownHandle}

@@ -138,74 +138,83 @@ const REFUSED: [&str; 9] = [
     "- a: b: c",
 ];
 
-/// Whether the block node that begins the text has these events and ends there.
-fn is_read(alloc: Global, text: &str, wanted: &str, end: usize) -> Result<bool, Fail> {
-    let src = Src::new(alloc, text)?;
-    if !src.text().is_char_boundary(0) {
-        return Err("no boundary".into());
-    }
-    match scan_block_node(alloc, &src, 0, -1, Ctx::BlockIn)? {
-        Some(node) => {
-            let events = shown(alloc, &node.part.events)?;
-            Ok(events.as_str() == wanted && node.end == end)
+/// What is wanted of a block node that is scanned.
+#[derive(Clone, Copy)]
+enum Wanted {
+    /// Its events, and where it ends.
+    Node(&'static str, usize),
+    /// Where it ends.
+    End(usize),
+    /// There is none.
+    Nothing,
+    /// It is nested too deep.
+    TooDeep,
+}
+
+/// Whether a node with these events that ends there is the one that is wanted.
+fn is_wanted(alloc: Global, events: &Events, end: usize, wanted: Wanted) -> Result<bool, Fail> {
+    match wanted {
+        Wanted::Node(text, wanted_end) => {
+            Ok(end == wanted_end && shown(alloc, events)?.as_str() == text)
         }
-        None => Ok(false),
+        Wanted::End(wanted_end) => Ok(end == wanted_end),
+        Wanted::Nothing | Wanted::TooDeep => Ok(false),
     }
 }
 
-#[test]
-fn reads_nodes(rt: HostRuntime) -> Result<(), Fail> {
-    for (text, wanted, end) in NODES {
-        assert!(rt; is_read(rt.alloc(), text, wanted, end)?, "{text}");
-    }
-    for text in REFUSED {
-        assert!(rt; node_end(rt.alloc(), text)? == Some(0), "{text}");
-    }
-    Ok(())
-}
-
-/// Where the block node ends that begins the text; `None` where it is nested too deep, and 0 where there is none.
-fn node_end(alloc: Global, text: &str) -> Result<Option<usize>, Fail> {
+/// Whether the block node that begins the text is the one that is wanted.
+fn is_scanned(alloc: Global, text: &str, wanted: Wanted) -> Result<bool, Fail> {
     let src = Src::new(alloc, text)?;
     if !src.text().is_char_boundary(0) {
-        return Err("no boundary".into());
+        return Ok(false);
     }
     match scan_block_node(alloc, &src, 0, -1, Ctx::BlockIn) {
-        Ok(Some(node)) => Ok(Some(node.end)),
-        Ok(None) => Ok(Some(0)),
-        Err(Fault::TooDeep { .. }) => Ok(None),
+        Ok(Some(node)) => is_wanted(alloc, &node.part.events, node.end, wanted),
+        Ok(None) => Ok(matches!(wanted, Wanted::Nothing)),
+        Err(Fault::TooDeep { .. }) => Ok(matches!(wanted, Wanted::TooDeep)),
         Err(fault) => Err(fault.into()),
     }
 }
 
-/// Texts of sequences and of keys: a part, how many times it stands, what follows, and where the node ends as `node_end`
-/// tells it.
-const LIMITS: [(&str, usize, &str, Option<usize>); 4] = [
-    ("- ", 1024, "a", Some(2049)),
-    ("- ", 1025, "a", None),
-    ("k", 1024, ": v", Some(1027)),
-    ("k", 1025, ": v", Some(0)),
+/// Texts of sequences and of keys: a part, how many times it stands, what follows, and the node that begins the text.
+const LIMITS: [(&str, usize, &str, Wanted); 4] = [
+    ("- ", 1024, "a", Wanted::End(2049)),
+    ("- ", 1025, "a", Wanted::TooDeep),
+    ("k", 1024, ": v", Wanted::End(1027)),
+    ("k", 1025, ": v", Wanted::Nothing),
 ];
 
 #[test]
-fn limits_depth_and_keys(rt: HostRuntime) -> Result<(), Fail> {
+fn scans_nodes(rt: HostRuntime) -> Result<(), Fail> {
+    for (text, wanted, end) in NODES {
+        assert!(rt;
+            is_scanned(rt.alloc(), text, Wanted::Node(wanted, end))?,
+            "{text}"
+        );
+    }
+    for text in REFUSED {
+        assert!(rt; is_scanned(rt.alloc(), text, Wanted::Nothing)?, "{text}");
+    }
     for (part, count, rest, wanted) in LIMITS {
         let text = repeated(rt.alloc(), "", part, count, rest, 1)?;
-        let end = node_end(rt.alloc(), text.as_str())?;
-        assert!(rt; end == wanted, "{part} {count}");
+        assert!(rt;
+            is_scanned(rt.alloc(), text.as_str(), wanted)?,
+            "{part} {count}"
+        );
     }
     Ok(())
 }
 
-#[test]
-fn gives_the_first_bad_escape(rt: HostRuntime) -> Result<(), Fail> {
-    let src = Src::new(rt.alloc(), "- \"\\ud83d\"\n- [")?;
-    assert!(rt; src.text().is_char_boundary(0));
-    match read_block_node(rt.alloc(), &src, 0, -1, Ctx::BlockIn) {
-        Err(Fault::EscapeValue { place }) => assert!(rt; place.line == 1 && place.column == 4),
-        _ => assert!(rt; false),
+/// Whether the reader refuses the text for an escape in that column of the first line.
+fn is_refused(alloc: Global, text: &str, column: usize) -> Result<bool, Fail> {
+    let src = Src::new(alloc, text)?;
+    if !src.text().is_char_boundary(0) {
+        return Ok(false);
     }
-    Ok(())
+    match read_block_node(alloc, &src, 0, -1, Ctx::BlockIn) {
+        Err(Fault::EscapeValue { place }) => Ok(place.line == 1 && place.column == column),
+        _ => Ok(false),
+    }
 }
 
 /// A text that goes wrong at its end, and the places of its events, as `places` tells them.
@@ -220,15 +229,9 @@ const PLACES: [[usize; 5]; 6] = [
     [21, 22, 19, 0, 1],
 ];
 
-#[test]
-fn keeps_places(rt: HostRuntime) -> Result<(), Fail> {
-    assert!(rt; CUT.is_char_boundary(0));
-    let mut part = Part {
-        events: Events::new(rt.alloc()),
-        comments: Comments::new(rt.alloc()),
-        escapes: Row::new(rt.alloc()),
-    };
-    match block_node_in(rt.alloc(), CUT, 0, -1, Ctx::BlockIn, 1024, &mut part)? {
+/// Whether what is found in that text ends and goes wrong where it should.
+fn is_cut(found: Outcome) -> bool {
+    match found {
         Outcome::Found(
             Found {
                 end,
@@ -236,12 +239,28 @@ fn keeps_places(rt: HostRuntime) -> Result<(), Fail> {
                 floor,
                 whole,
             },
-        ) => {
-            let found = places(rt.alloc(), &part.events)?;
-            assert!(rt; found.as_slice() == PLACES.as_slice());
-            assert!(rt; end == 27 && reached == 39 && floor == 14 && !whole);
-        }
-        _ => assert!(rt; false),
+        ) => end == 27 && reached == 39 && floor == 14 && !whole,
+        _ => false,
     }
+}
+
+/// Whether a node is read from that text up to where it goes wrong, with those places.
+fn reads_cut(alloc: Global) -> Result<bool, Fail> {
+    if !CUT.is_char_boundary(0) {
+        return Ok(false);
+    }
+    let mut part = Part {
+        events: Events::new(alloc),
+        comments: Comments::new(alloc),
+        escapes: Row::new(alloc),
+    };
+    let found = block_node_in(alloc, CUT, 0, -1, Ctx::BlockIn, 1024, &mut part)?;
+    Ok(is_cut(found) && places(alloc, &part.events)?.as_slice() == PLACES.as_slice())
+}
+
+#[test]
+fn keeps_places_and_the_first_bad_escape(rt: HostRuntime) -> Result<(), Fail> {
+    assert!(rt; is_refused(rt.alloc(), "- \"\\ud83d\"\n- [", 4)?);
+    assert!(rt; reads_cut(rt.alloc())?);
     Ok(())
 }

@@ -4,16 +4,21 @@ use std::alloc::Global;
 use std::test::Fail;
 use yf_block_scalar::body::BlockText;
 use yf_block_scalar::content::content;
+use yf_block_scalar::header_reader::HeaderLine;
 use yf_block_scalar::read::{read_body, read_header};
 use yf_block_scalar::write::write_block;
 use yf_lines::source_text::Src;
 
-/// The scalar whose header begins the source.
-fn block_of<'a>(alloc: Global, src: &Src<'a>, n: i32) -> Result<BlockText<'a>, Fail> {
-    let head = read_header(src, 0).ok_or("no header")?;
+/// The header that begins the source.
+fn header_of<'a>(src: &Src<'a>) -> Option<HeaderLine<'a>> {
+    read_header(src, 0)
+}
+
+/// The scalar whose header begins the source, and nothing where a header begins it and no scalar follows.
+fn block_of<'a>(alloc: Global, src: &Src<'a>, n: i32) -> Result<Option<BlockText<'a>>, Fail> {
+    let head = header_of(src).ok_or("no header")?;
     let line = src.lines().len().min(1);
-    let block = read_body(alloc, src, line, n.min(9), head.header)?.ok_or("no scalar")?;
-    Ok(block)
+    Ok(read_body(alloc, src, line, n.min(9), head.header)?)
 }
 
 /// Texts that a header begins, the indentation, and the content.
@@ -39,51 +44,79 @@ const CONTENTS: [(&str, i32, &str); 11] = [
     (">\n\ta\n", -1, "\ta\n"),
 ];
 
+/// Whether the scalar that begins a text has that content.
+fn has_content(alloc: Global, text: &str, n: i32, wanted: &str) -> Result<bool, Fail> {
+    let src = Src::new(alloc, text)?;
+    let block = block_of(alloc, &src, n)?.ok_or("no scalar")?;
+    Ok(content(alloc, &block)?.as_str() == wanted)
+}
+
 #[test]
 fn reads_contents(rt: HostRuntime) -> Result<(), Fail> {
     for (text, n, wanted) in CONTENTS {
-        let src = Src::new(rt.alloc(), text)?;
-        let block = block_of(rt.alloc(), &src, n)?;
-        let content = content(rt.alloc(), &block)?;
-        assert!(rt; content.as_str() == wanted, "{text}");
+        assert!(rt; has_content(rt.alloc(), text, n, wanted)?, "{text}");
     }
     Ok(())
 }
 
-#[test]
-fn takes_comments_behind_the_tail(rt: HostRuntime) -> Result<(), Fail> {
-    let src = Src::new(rt.alloc(), "|-\n x\n\n# c\n- y\n")?;
-    let block = block_of(rt.alloc(), &src, 0)?;
-    assert!(rt; block.next == 11 && block.tail == 1 && block.lines.len() == 1);
-    let comment = block.comments.as_slice().first().ok_or("no comment")?;
-    let text = comment.text;
-    assert!(rt; text == "# c" && comment.blank_before);
-    Ok(())
-}
-
-#[test]
-fn refuses_a_longer_empty_line(rt: HostRuntime) -> Result<(), Fail> {
-    let src = Src::new(rt.alloc(), "|\n   \n  a\n")?;
-    let head = read_header(&src, 0).ok_or("no header")?;
-    assert!(rt; 1 <= src.lines().len());
-    assert!(rt; read_body(rt.alloc(), &src, 1, 0, head.header)?.is_none());
-    Ok(())
-}
-
-/// Texts that no header begins.
-const NO_HEADERS: [&str; 5] = ["|#c\n a\n", "|10\n a\n", "|-1+\n", "x", ""];
-
-#[test]
-fn reads_headers(rt: HostRuntime) -> Result<(), Fail> {
-    for text in NO_HEADERS {
-        let src = Src::new(rt.alloc(), text)?;
-        assert!(rt; read_header(&src, 0).is_none(), "{text}");
+/// Whether the scalar has one line and one blank line in its tail, and then a comment after another blank line.
+fn has_comment(block: &BlockText) -> bool {
+    if block.next != 11 || block.tail != 1 || block.lines.len() != 1 {
+        return false;
     }
-    let src = Src::new(rt.alloc(), "|  # c\n a\n")?;
-    let head = read_header(&src, 0).ok_or("no header")?;
-    let comment = head.comment.ok_or("no comment")?;
-    let text = comment.text;
-    assert!(rt; head.end == 7 && text == "# c");
+    match block.comments.as_slice().first() {
+        Some(comment) => {
+            let text = comment.text;
+            text == "# c" && comment.blank_before
+        }
+        None => false,
+    }
+}
+
+/// Whether comments behind the tail are read, and a longer empty line before the content is refused.
+fn reads_tails(alloc: Global) -> Result<bool, Fail> {
+    let src = Src::new(alloc, "|-\n x\n\n# c\n- y\n")?;
+    let block = block_of(alloc, &src, 0)?.ok_or("no scalar")?;
+    let longer = Src::new(alloc, "|\n   \n  a\n")?;
+    Ok(has_comment(&block) && block_of(alloc, &longer, 0)?.is_none())
+}
+
+/// Texts, and where the header ends that begins them and has the comment `# c`; `None` where no header begins.
+const HEADERS: [(&str, Option<usize>); 6] = [
+    ("|#c\n a\n", None),
+    ("|10\n a\n", None),
+    ("|-1+\n", None),
+    ("x", None),
+    ("", None),
+    ("|  # c\n a\n", Some(7)),
+];
+
+/// Whether a header with the comment `# c` begins a text and ends there, or no header does.
+fn has_header(alloc: Global, text: &str, wanted: Option<usize>) -> Result<bool, Fail> {
+    let src = Src::new(alloc, text)?;
+    match header_of(&src) {
+        Some(head) => Ok(wanted == Some(head.end) && is_commented(&head)),
+        None => Ok(wanted.is_none()),
+    }
+}
+
+/// Whether the header has the comment `# c`.
+fn is_commented(head: &HeaderLine) -> bool {
+    match &head.comment {
+        Some(comment) => {
+            let text = comment.text;
+            text == "# c"
+        }
+        None => false,
+    }
+}
+
+#[test]
+fn reads_headers_and_tails(rt: HostRuntime) -> Result<(), Fail> {
+    for (text, wanted) in HEADERS {
+        assert!(rt; has_header(rt.alloc(), text, wanted)?, "{text}");
+    }
+    assert!(rt; reads_tails(rt.alloc())?);
     Ok(())
 }
 
@@ -96,14 +129,19 @@ const WRITTEN: [(&str, &str); 5] = [
     ("|-\n x", "|-\n  x\n"),
 ];
 
+/// Whether the scalar that begins a text is written so.
+fn is_written(alloc: Global, text: &str, wanted: &str) -> Result<bool, Fail> {
+    let src = Src::new(alloc, text)?;
+    let block = block_of(alloc, &src, 0)?.ok_or("no scalar")?;
+    let mut out = String::new(alloc);
+    write_block(alloc, &mut out, &block, 2, 0)?;
+    Ok(out.as_str() == wanted)
+}
+
 #[test]
 fn writes_scalars(rt: HostRuntime) -> Result<(), Fail> {
     for (text, wanted) in WRITTEN {
-        let src = Src::new(rt.alloc(), text)?;
-        let block = block_of(rt.alloc(), &src, 0)?;
-        let mut out = String::new(rt.alloc());
-        write_block(rt.alloc(), &mut out, &block, 2, 0)?;
-        assert!(rt; out.as_str() == wanted, "{text}");
+        assert!(rt; is_written(rt.alloc(), text, wanted)?, "{text}");
     }
     Ok(())
 }

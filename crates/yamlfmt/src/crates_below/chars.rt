@@ -3,16 +3,31 @@
 use std::test::Fail;
 use yf_chars::classes::{is_break_char, is_white};
 use yf_chars::escapes::{Escape, push_escaped, read_escape};
-use yf_chars::utf8::{BadByte, check_utf8};
+use yf_chars::utf8::check_utf8;
+
+/// Bytes, the text that they are, and else the offset of the first that is none.
+const TEXTS: [(&[u8], Option<&str>, usize); 6] = [
+    (b"a\xC3\xA9\n", Some("a\u{E9}\n"), 0),
+    (b"", Some(""), 0),
+    (b"a\xFF", None, 1),
+    (b"\xF0\x9F\x98", None, 0),
+    (b"a\n\xFF", None, 2),
+    (b"ab\xED\xA0\x80c", None, 2),
+];
+
+/// Whether bytes are taken for that text, or refused at that offset.
+fn is_taken(bytes: &[u8], wanted: Option<&str>, offset: usize) -> bool {
+    match check_utf8(bytes) {
+        Ok(text) => wanted == Some(text),
+        Err(bad) => wanted.is_none() && bad.offset == offset,
+    }
+}
 
 #[test]
 fn takes_text(rt: HostRuntime) {
-    assert_eq!(rt; check_utf8(b"a\xC3\xA9\n"), Ok("a\u{E9}\n"));
-    assert_eq!(rt; check_utf8(b""), Ok(""));
-    assert_eq!(rt; check_utf8(b"a\xFF"), Err(BadByte { offset: 1 }));
-    assert_eq!(rt; check_utf8(b"\xF0\x9F\x98"), Err(BadByte { offset: 0 }));
-    assert_eq!(rt; check_utf8(b"a\n\xFF"), Err(BadByte { offset: 2 }));
-    assert_eq!(rt; check_utf8(b"ab\xED\xA0\x80c"), Err(BadByte { offset: 2 }));
+    for (bytes, wanted, offset) in TEXTS {
+        assert!(rt; is_taken(bytes, wanted, offset), "{offset}");
+    }
 }
 
 /// Escapes, with the numbers that they write and where they end.

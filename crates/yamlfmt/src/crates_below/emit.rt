@@ -28,6 +28,11 @@ const BROKEN: &str = "a: ['x', # c\n y]\n";
 
 const MENDED: &str = "---\na:\n  - \"x\"  # c\n  - y\n";
 
+/// The reading of a text.
+fn reading_of(alloc: Global, text: &str) -> Result<Reading<'_>, Fault> {
+    read_stream(alloc, text)
+}
+
 /// Prints the normal form of a reading of the text.
 fn printed(alloc: Global, src: &Src, reading: &Reading, style: &Style) -> Result<Vec<u8>, Fault> {
     let normal = normal(alloc, src, reading, style)?;
@@ -42,42 +47,73 @@ fn formats_at_once_and_in_steps(rt: HostRuntime) -> Result<(), Fail> {
     let text = format(rt.alloc(), BROKEN, &style)?;
     assert!(rt; text.as_str() == MENDED);
     let src = Src::new(rt.alloc(), BROKEN)?;
-    let reading = read_stream(rt.alloc(), BROKEN)?;
+    let reading = reading_of(rt.alloc(), BROKEN)?;
     let bytes = printed(rt.alloc(), &src, &reading, &style)?;
     assert!(rt; bytes.as_slice() == MENDED.as_bytes());
     Ok(())
 }
 
-/// The style in which the house style writes the scalar that an event of a text is.
-fn wanted_in(alloc: Global, text: &str, i: usize) -> Result<Option<ScalarStyle>, Fail> {
-    let reading = read_stream(alloc, text)?;
-    if i < reading.len() {
-        return Ok(Some(wanted_style(&reading, i, &Style::house())));
-    }
-    Ok(None)
+/// What is asked of an event.
+#[derive(Clone, Copy)]
+enum Asked {
+    /// The style in which the house style writes the scalar that it is.
+    Style,
+    /// The text on one line of the flow collection that it begins.
+    Kept,
+    /// Whether the key that it begins is written without `?`.
+    Implicit,
 }
 
-/// The text on one line of the flow collection that an event of a text begins.
-fn kept_in(alloc: Global, text: &str, i: usize) -> Result<Option<String>, Fail> {
-    let src = Src::new(alloc, text)?;
-    let reading = read_stream(alloc, text)?;
-    Ok(kept_text(alloc, &src, &reading, i, &Style::house())?)
+/// What is told of an event, as a text.
+fn told(
+    alloc: Global,
+    asked: Asked,
+    src: &Src,
+    reading: &Reading,
+    i: usize,
+) -> Result<String, Fail> {
+    let style = Style::house();
+    let sign = match asked {
+        Asked::Style => {
+            if i >= reading.len() {
+                return Err("no event".into());
+            }
+            match wanted_style(reading, i, &style) {
+                ScalarStyle::Double => "double",
+                _ => "another",
+            }
+        }
+        Asked::Kept => match kept_text(alloc, src, reading, i, &style)? {
+            Some(text) => return Ok(text),
+            None => "not kept",
+        },
+        Asked::Implicit => {
+            if implicit_key(alloc, src, reading, i, &style)? {
+                "implicit"
+            } else {
+                "explicit"
+            }
+        }
+    };
+    Ok(String::from_str(alloc, sign)?)
 }
 
-/// Whether the key that an event of a text begins is written without `?`.
-fn is_implicit_in(alloc: Global, text: &str, i: usize) -> Result<bool, Fail> {
-    let src = Src::new(alloc, text)?;
-    let reading = read_stream(alloc, text)?;
-    Ok(implicit_key(alloc, &src, &reading, i, &Style::house())?)
-}
+/// Texts, an event of each, what is asked of it, and what is told.
+const TOLD: [(&str, usize, Asked, &str); 5] = [
+    (" ...\n", 2, Asked::Style, "double"),
+    ("[a: b, c]\n", 2, Asked::Kept, "[{a: b}, c]"),
+    ("[ # c\n]\n", 2, Asked::Kept, "not kept"),
+    ("? [a]\n: v\n", 3, Asked::Implicit, "implicit"),
+    ("---\n? |\n  x\n: y\n", 3, Asked::Implicit, "explicit"),
+];
 
 #[test]
 fn tells_how_one_event_is_written(rt: HostRuntime) -> Result<(), Fail> {
-    assert!(rt; wanted_in(rt.alloc(), " ...\n", 2)? == Some(ScalarStyle::Double));
-    let kept = kept_in(rt.alloc(), "[a: b, c]\n", 2)?;
-    assert!(rt; kept.is_some_and(|text| text.as_str() == "[{a: b}, c]"));
-    assert!(rt; kept_in(rt.alloc(), "[ # c\n]\n", 2)?.is_none());
-    assert!(rt; is_implicit_in(rt.alloc(), "? [a]\n: v\n", 3)?);
-    assert!(rt; !is_implicit_in(rt.alloc(), "---\n? |\n  x\n: y\n", 3)?);
+    for (text, i, asked, wanted) in TOLD {
+        let src = Src::new(rt.alloc(), text)?;
+        let reading = reading_of(rt.alloc(), text)?;
+        let told = told(rt.alloc(), asked, &src, &reading, i)?;
+        assert!(rt; told.as_str() == wanted, "{text}");
+    }
     Ok(())
 }

@@ -5,7 +5,10 @@ use crate::crates_below::node_text::{places, shown};
 use std::alloc::Global;
 use std::test::Fail;
 use yf_chars::context::Ctx;
-use yf_flow::flow::{read_flow_node, read_implicit_key, scan_flow_node, scan_implicit_key};
+use yf_events::part::Part;
+use yf_flow::flow::{
+    ScannedPart, read_flow_node, read_implicit_key, scan_flow_node, scan_implicit_key,
+};
 use yf_lines::fault::Fault;
 use yf_lines::source_text::Src;
 
@@ -86,40 +89,26 @@ const NODES: [(&str, i32, &str, usize); 18] = [
     ),
 ];
 
-/// Texts that no flow node begins, and the indentation.
-const REFUSED: [(&str, i32); 7] = [
-    ("[\n  1\n]", 1),
-    ("[a", 0),
-    ("[a\n: b]", 0),
-    ("[,]", 0),
-    ("[?]", 0),
-    ("---", 0),
-    ("[a,\n--- b]", 0),
-];
-
-/// Whether the flow node that begins the text has these events and ends there.
-fn is_read(alloc: Global, text: &str, n: i32, wanted: &str, end: usize) -> Result<bool, Fail> {
-    let src = Src::new(alloc, text)?;
-    if !src.text().is_char_boundary(0) {
-        return Err("no boundary".into());
-    }
-    match read_flow_node(alloc, &src, 0, n, Ctx::FlowOut)? {
-        Some(node) => {
-            let events = shown(alloc, &node.part.events)?;
-            Ok(events.as_str() == wanted && node.end == end)
-        }
-        None => Ok(false),
-    }
+/// Whether these are the events.
+fn has_events(alloc: Global, part: &Part, wanted: &str) -> Result<bool, Fail> {
+    Ok(shown(alloc, &part.events)?.as_str() == wanted)
 }
 
-/// Whether a flow node begins the text.
-fn is_found(alloc: Global, text: &str, n: i32) -> Result<bool, Fail> {
+/// Whether the flow node that begins the text has these events and ends there; without events, whether it is refused for an
+/// escape in that column of the first line.
+fn is_read(alloc: Global, text: &str, n: i32, wanted: &str, at: usize) -> Result<bool, Fail> {
     let src = Src::new(alloc, text)?;
     if !src.text().is_char_boundary(0) {
-        return Err("no boundary".into());
+        return Ok(false);
     }
-    let found = scan_flow_node(alloc, &src, 0, n, Ctx::FlowOut)?;
-    Ok(found.is_some())
+    match read_flow_node(alloc, &src, 0, n, Ctx::FlowOut) {
+        Ok(Some(node)) => Ok(node.end == at && has_events(alloc, &node.part, wanted)?),
+        Ok(None) => Ok(false),
+        Err(Fault::EscapeValue { place }) => {
+            Ok(wanted.is_empty() && place.line == 1 && place.column == at)
+        }
+        Err(fault) => Err(fault.into()),
+    }
 }
 
 #[test]
@@ -127,77 +116,58 @@ fn reads_nodes(rt: HostRuntime) -> Result<(), Fail> {
     for (text, n, wanted, end) in NODES {
         assert!(rt; is_read(rt.alloc(), text, n, wanted, end)?, "{text}");
     }
-    for (text, n) in REFUSED {
-        assert!(rt; !is_found(rt.alloc(), text, n)?, "{text}");
+    assert!(rt; is_read(rt.alloc(), "\"\\ud83dA\"", 0, "", 2)?);
+    Ok(())
+}
+
+/// What is wanted of a flow node that is scanned.
+#[derive(Clone, Copy)]
+enum Wanted {
+    /// It ends there.
+    End(usize),
+    /// There is none.
+    Nothing,
+    /// It is nested too deep.
+    TooDeep,
+    /// Its events, where it ends, and the column of the first escape that is no character, in the first line.
+    Escape(&'static str, usize, usize),
+    /// The places of its events, as `places` tells them, and how many comments it has.
+    Places(&'static [[usize; 5]], usize),
+}
+
+/// Whether the node is one that is wanted.
+fn is_wanted(alloc: Global, node: &ScannedPart, wanted: Wanted) -> Result<bool, Fail> {
+    match wanted {
+        Wanted::End(end) => Ok(node.end == end),
+        Wanted::Escape(events, end, column) => {
+            let is_told = node
+                .escape
+                .is_some_and(|place| place.line == 1 && place.column == column);
+            Ok(is_told && node.end == end && has_events(alloc, &node.part, events)?)
+        }
+        Wanted::Places(rows, comments) => {
+            let found = places(alloc, &node.part.events)?;
+            Ok(found.as_slice() == rows && node.part.comments.len() == comments)
+        }
+        Wanted::Nothing | Wanted::TooDeep => Ok(false),
     }
-    Ok(())
 }
 
-#[test]
-fn reads_keys(rt: HostRuntime) -> Result<(), Fail> {
-    let src = Src::new(rt.alloc(), "[a]: b")?;
-    assert!(rt; src.text().is_char_boundary(0));
-    let key = read_implicit_key(rt.alloc(), &src, 0, Ctx::BlockKey)?.ok_or("no key")?;
-    let events = shown(rt.alloc(), &key.part.events)?;
-    assert!(rt; events.as_str() == "+SEQ [] / =VAL :a / -SEQ" && key.end == 3);
-    let lines = Src::new(rt.alloc(), "[a,\nb]: c")?;
-    assert!(rt; lines.text().is_char_boundary(0));
-    assert!(rt; scan_implicit_key(rt.alloc(), &lines, 0, Ctx::BlockKey)?.is_none());
-    Ok(())
-}
-
-/// Where the flow node ends that begins the text; `None` where it is nested too deep, and 0 where there is none.
-fn node_end(alloc: Global, text: &str) -> Result<Option<usize>, Fail> {
+/// Whether the flow node that begins the text is the one that is wanted.
+fn is_scanned(alloc: Global, text: &str, n: i32, wanted: Wanted) -> Result<bool, Fail> {
     let src = Src::new(alloc, text)?;
     if !src.text().is_char_boundary(0) {
-        return Err("no boundary".into());
+        return Ok(false);
     }
-    match scan_flow_node(alloc, &src, 0, 0, Ctx::FlowOut) {
-        Ok(Some(node)) => Ok(Some(node.end)),
-        Ok(None) => Ok(Some(0)),
-        Err(Fault::TooDeep { .. }) => Ok(None),
+    match scan_flow_node(alloc, &src, 0, n, Ctx::FlowOut) {
+        Ok(Some(node)) => is_wanted(alloc, &node, wanted),
+        Ok(None) => Ok(matches!(wanted, Wanted::Nothing)),
+        Err(Fault::TooDeep { .. }) => Ok(matches!(wanted, Wanted::TooDeep)),
         Err(fault) => Err(fault.into()),
     }
 }
 
-/// Texts of brackets and of keys: the parts of `repeated`, and where the node ends as `node_end` tells it.
-const LIMITS: [(&str, &str, usize, &str, usize, Option<usize>); 6] = [
-    ("", "[", 1024, "]", 1024, Some(2048)),
-    ("", "[", 1025, "]", 1025, None),
-    ("&a ", "[", 1025, "]", 1025, Some(2)),
-    ("[", "k", 1024, ": v]", 1, Some(1029)),
-    ("[", "k", 1025, ": v]", 1, Some(0)),
-    ("{", "k", 1025, ": v}", 1, Some(1030)),
-];
-
-#[test]
-fn limits_depth_and_keys(rt: HostRuntime) -> Result<(), Fail> {
-    for (before, part, count, rest, more, wanted) in LIMITS {
-        let text = repeated(rt.alloc(), before, part, count, rest, more)?;
-        let end = node_end(rt.alloc(), text.as_str())?;
-        assert!(rt; end == wanted, "{before}{part} {count}");
-    }
-    Ok(())
-}
-
-#[test]
-fn gives_the_first_bad_escape(rt: HostRuntime) -> Result<(), Fail> {
-    let src = Src::new(rt.alloc(), "\"\\ud83dA\"")?;
-    assert!(rt; src.text().is_char_boundary(0));
-    let found = scan_flow_node(rt.alloc(), &src, 0, 0, Ctx::FlowOut)?;
-    let node = found.ok_or("no node")?;
-    let events = shown(rt.alloc(), &node.part.events)?;
-    assert!(rt; events.as_str() == "=VAL \"\u{FFFD}A" && node.end == 9);
-    let place = node.escape.ok_or("no escape")?;
-    assert!(rt; place.line == 1 && place.column == 2);
-    match read_flow_node(rt.alloc(), &src, 0, 0, Ctx::FlowOut) {
-        Err(Fault::EscapeValue { place }) => assert!(rt; place.line == 1 && place.column == 2),
-        _ => assert!(rt; false),
-    }
-    Ok(())
-}
-
-/// The places of the events of one text, as `places` tells them.
+/// The places of the events of the last text of `SCANNED`.
 const PLACES: [[usize; 5]; 5] = [
     [0, 20, 0, 0, 0],
     [1, 2, 1, 0, 0],
@@ -206,14 +176,68 @@ const PLACES: [[usize; 5]; 5] = [
     [18, 19, 0, 0, 0],
 ];
 
+/// Texts, the indentation, and the flow node that begins the text.
+const SCANNED: [(&str, i32, Wanted); 9] = [
+    ("[\n  1\n]", 1, Wanted::Nothing),
+    ("[a", 0, Wanted::Nothing),
+    ("[a\n: b]", 0, Wanted::Nothing),
+    ("[,]", 0, Wanted::Nothing),
+    ("[?]", 0, Wanted::Nothing),
+    ("---", 0, Wanted::Nothing),
+    ("[a,\n--- b]", 0, Wanted::Nothing),
+    ("\"\\ud83dA\"", 0, Wanted::Escape("=VAL \"\u{FFFD}A", 9, 2)),
+    ("[a,\n\n &a k : # c\n v]", 0, Wanted::Places(&PLACES, 1)),
+];
+
+/// Texts of brackets and of keys: the parts of `repeated`, and the node that begins the text.
+const LIMITS: [(&str, &str, usize, &str, usize, Wanted); 6] = [
+    ("", "[", 1024, "]", 1024, Wanted::End(2048)),
+    ("", "[", 1025, "]", 1025, Wanted::TooDeep),
+    ("&a ", "[", 1025, "]", 1025, Wanted::End(2)),
+    ("[", "k", 1024, ": v]", 1, Wanted::End(1029)),
+    ("[", "k", 1025, ": v]", 1, Wanted::Nothing),
+    ("{", "k", 1025, ": v}", 1, Wanted::End(1030)),
+];
+
 #[test]
-fn keeps_places(rt: HostRuntime) -> Result<(), Fail> {
-    let src = Src::new(rt.alloc(), "[a,\n\n &a k : # c\n v]")?;
-    assert!(rt; src.text().is_char_boundary(0));
-    let found = scan_flow_node(rt.alloc(), &src, 0, 0, Ctx::FlowOut)?;
-    let node = found.ok_or("no node")?;
-    let found = places(rt.alloc(), &node.part.events)?;
-    assert!(rt; found.as_slice() == PLACES.as_slice());
-    assert!(rt; node.part.comments.len() == 1);
+fn scans_nodes(rt: HostRuntime) -> Result<(), Fail> {
+    for (text, n, wanted) in SCANNED {
+        assert!(rt; is_scanned(rt.alloc(), text, n, wanted)?, "{text}");
+    }
+    for (before, part, count, rest, more, wanted) in LIMITS {
+        let text = repeated(rt.alloc(), before, part, count, rest, more)?;
+        assert!(rt;
+            is_scanned(rt.alloc(), text.as_str(), 0, wanted)?,
+            "{before}{part} {count}"
+        );
+    }
+    Ok(())
+}
+
+/// Whether an implicit key with these events begins the text and ends there.
+fn is_key(alloc: Global, text: &str, wanted: &str, end: usize) -> Result<bool, Fail> {
+    let src = Src::new(alloc, text)?;
+    if !src.text().is_char_boundary(0) {
+        return Ok(false);
+    }
+    match read_implicit_key(alloc, &src, 0, Ctx::BlockKey)? {
+        Some(key) => Ok(key.end == end && has_events(alloc, &key.part, wanted)?),
+        None => Ok(false),
+    }
+}
+
+/// Whether no implicit key begins the text.
+fn is_no_key(alloc: Global, text: &str) -> Result<bool, Fail> {
+    let src = Src::new(alloc, text)?;
+    if !src.text().is_char_boundary(0) {
+        return Ok(false);
+    }
+    Ok(scan_implicit_key(alloc, &src, 0, Ctx::BlockKey)?.is_none())
+}
+
+#[test]
+fn reads_keys(rt: HostRuntime) -> Result<(), Fail> {
+    assert!(rt; is_key(rt.alloc(), "[a]: b", "+SEQ [] / =VAL :a / -SEQ", 3)?);
+    assert!(rt; is_no_key(rt.alloc(), "[a,\nb]: c")?);
     Ok(())
 }

@@ -1,5 +1,6 @@
 //! Lines and places of texts, worked out by hand, and watched readers and writers.
 
+use std::alloc::{AllocError, Global};
 use std::io::Write;
 use std::test::Fail;
 use yf_lines::source_text::Src;
@@ -25,18 +26,29 @@ fn has_line(table: &LineTable, i: usize, wanted: [usize; 4]) -> bool {
     [line.start, line.end, line.next, line.indent] == wanted
 }
 
+/// The table of the lines of a text.
+fn table_of(alloc: Global, text: &str) -> Result<LineTable<'_>, AllocError> {
+    LineTable::build(alloc, text)
+}
+
+/// Whether the text has these lines.
+fn has_lines(alloc: Global, text: &str, lines: &[[usize; 4]]) -> Result<bool, AllocError> {
+    let table = table_of(alloc, text)?;
+    if table.text() != text || table.len() != lines.len() {
+        return Ok(false);
+    }
+    for i in 0..lines.len() {
+        if !has_line(&table, i, lines[i]) {
+            return Ok(false);
+        }
+    }
+    Ok(table.is_empty() == text.is_empty())
+}
+
 #[test]
 fn finds_the_lines(rt: HostRuntime) -> Result<(), Fail> {
     for (text, lines) in LINES {
-        let table = LineTable::build(rt.alloc(), text)?;
-        assert!(rt;
-            table.text() == text && table.len() == lines.len(),
-            "{text:?}"
-        );
-        assert!(rt; table.is_empty() == text.is_empty(), "{text:?}");
-        for i in 0..lines.len() {
-            assert!(rt; has_line(&table, i, lines[i]), "{text:?}");
-        }
+        assert!(rt; has_lines(rt.alloc(), text, lines)?, "{text:?}");
     }
     Ok(())
 }
@@ -66,18 +78,30 @@ const PLACES: [(&str, &[[usize; 3]]); 7] = [
     ("\u{feff}", &[[3, 1, 1]]),
 ];
 
+/// Whether the offset stands in that line and column.
+fn has_place(table: &LineTable, offset: usize, line: usize, column: usize) -> bool {
+    if !table.text().is_char_boundary(offset) {
+        return false;
+    }
+    let place = table.place(offset);
+    place.line == line && place.column == column
+}
+
+/// Whether the text has these places.
+fn has_places(alloc: Global, text: &str, places: &[[usize; 3]]) -> Result<bool, AllocError> {
+    let table = table_of(alloc, text)?;
+    for [offset, line, column] in places {
+        if !has_place(&table, *offset, *line, *column) {
+            return Ok(false);
+        }
+    }
+    Ok(true)
+}
+
 #[test]
 fn finds_places(rt: HostRuntime) -> Result<(), Fail> {
     for (text, places) in PLACES {
-        let table = LineTable::build(rt.alloc(), text)?;
-        for [offset, line, column] in places {
-            assert!(rt; table.text().is_char_boundary(*offset));
-            let place = table.place(*offset);
-            assert!(rt;
-                place.line == *line && place.column == *column,
-                "{text:?} at {offset}"
-            );
-        }
+        assert!(rt; has_places(rt.alloc(), text, places)?, "{text:?}");
     }
     Ok(())
 }
@@ -87,39 +111,63 @@ const MARKERS: &str = "--- a\n---a\n...\n\u{feff}---\n----\n ---\n...\u{a0}\n.."
 
 const FORBIDDEN: [bool; 8] = [true, false, true, true, false, false, false, false];
 
-#[test]
-fn finds_forbidden_lines(rt: HostRuntime) -> Result<(), Fail> {
-    let table = LineTable::build(rt.alloc(), MARKERS)?;
-    assert!(rt; table.len() == 8);
-    let mut i = 0;
-    for wanted in FORBIDDEN {
-        assert!(rt; i < table.len());
-        assert!(rt; table.is_forbidden(i) == wanted, "line {i}");
-        i += 1;
+/// Whether the line is one of the table, and forbidden or not.
+fn is_forbidden_so(table: &LineTable, i: usize, wanted: bool) -> bool {
+    if i >= table.len() {
+        return false;
     }
-    Ok(())
+    table.is_forbidden(i) == wanted
+}
+
+/// Whether those lines of that text are forbidden.
+fn forbids(alloc: Global) -> Result<bool, AllocError> {
+    let table = table_of(alloc, MARKERS)?;
+    for i in 0..FORBIDDEN.len() {
+        if !is_forbidden_so(&table, i, FORBIDDEN[i]) {
+            return Ok(false);
+        }
+    }
+    Ok(table.len() == 8)
+}
+
+/// Whether a source has its text, its lines and its places.
+fn keeps(alloc: Global, text: &str) -> Result<bool, AllocError> {
+    let src = Src::new(alloc, text)?;
+    if src.text() != text || src.lines().len() != 2 || !src.text().is_char_boundary(3) {
+        return Ok(false);
+    }
+    let place = src.place(3);
+    Ok(place.line == 2 && place.column == 1)
 }
 
 #[test]
-fn keeps_text_and_lines(rt: HostRuntime) -> Result<(), Fail> {
-    let src = Src::new(rt.alloc(), "a\r\nb")?;
-    assert!(rt; src.text() == "a\r\nb" && src.lines().len() == 2);
-    assert!(rt; src.text().is_char_boundary(3));
-    let place = src.place(3);
-    assert!(rt; place.line == 2 && place.column == 1);
+fn finds_forbidden_lines_and_keeps_text(rt: HostRuntime) -> Result<(), Fail> {
+    assert!(rt; forbids(rt.alloc())?);
+    assert!(rt; keeps(rt.alloc(), "a\r\nb")?);
     Ok(())
+}
+
+/// Whether a writer that writes is given back with what was written.
+fn gives_writer_back(alloc: Global) -> bool {
+    let mut writer = Watched::new(Vec::new(alloc));
+    if writer.write_watched(b"a").is_err() || writer.flush().is_err() || writer.failed() {
+        return false;
+    }
+    writer.into_inner().as_slice() == b"a".as_slice()
+}
+
+/// Whether a reader that reads is given back with what is left.
+fn gives_reader_back() -> bool {
+    let mut reader = Watched::new(b"ab".as_slice());
+    let mut buffer = [0; 1];
+    if reader.read_watched(&mut buffer).is_err() || reader.failed() {
+        return false;
+    }
+    buffer[0] == b'a' && reader.into_inner() == b"b".as_slice()
 }
 
 #[test]
 fn gives_reader_and_writer_back(rt: HostRuntime) {
-    let mut writer = Watched::new(Vec::new(rt.alloc()));
-    assert!(rt; writer.write_watched(b"a").is_ok());
-    assert!(rt; writer.flush().is_ok());
-    assert!(rt; !writer.failed());
-    assert!(rt; writer.into_inner().as_slice() == b"a".as_slice());
-    let mut reader = Watched::new(b"ab".as_slice());
-    let mut buffer = [0; 1];
-    assert!(rt; reader.read_watched(&mut buffer).is_ok());
-    assert!(rt; !reader.failed());
-    assert!(rt; buffer[0] == b'a' && reader.into_inner() == b"b".as_slice());
+    assert!(rt; gives_writer_back(rt.alloc()));
+    assert!(rt; gives_reader_back());
 }

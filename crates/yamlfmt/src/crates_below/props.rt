@@ -69,51 +69,81 @@ const PROPERTIES: [(
     (STREAM, 2, 0, 4, Some("a"), None, ("", ""), 0),
 ];
 
+/// Whether the properties end there and have these parts, where their tag begins, and so many comments.
+fn are(
+    found: &Properties,
+    end: usize,
+    anchor: Option<&str>,
+    tag_offset: Option<usize>,
+    tag: (&str, &str),
+    comments: usize,
+) -> bool {
+    found.end == end
+        && found.props.anchor == anchor
+        && found.tag_offset == tag_offset
+        && parts_of(found.props.tag) == tag
+        && found.comments.len() == comments
+}
+
+/// Where the properties end that `node_properties` finds at the start of a text; 0 where there are none.
+fn properties_end(alloc: Global, text: &str) -> Result<usize, Fail> {
+    if !text.is_char_boundary(0) {
+        return Ok(0);
+    }
+    match node_properties(alloc, text, 0, -1, Ctx::BlockIn)? {
+        Some(found) => Ok(found.end),
+        None => Ok(0),
+    }
+}
+
 #[test]
 fn reads_properties(rt: HostRuntime) -> Result<(), Fail> {
     for (text, at, n, end, anchor, tag_offset, tag, comments) in PROPERTIES {
         let found = props_at(rt.alloc(), text, at, n)?;
         assert!(rt;
-            found.end == end && found.tag_offset == tag_offset,
+            are(&found, end, anchor, tag_offset, tag, comments),
             "{text}"
         );
-        assert!(rt; found.props.anchor == anchor, "{text}");
-        assert!(rt; parts_of(found.props.tag) == tag, "{text}");
-        assert!(rt; found.comments.len() == comments, "{text}");
     }
-    let found = node_properties(rt.alloc(), "&a", 0, -1, Ctx::BlockIn)?.ok_or("none")?;
-    assert!(rt; found.end == 2);
+    assert!(rt; properties_end(rt.alloc(), "&a")? == 2);
     Ok(())
+}
+
+/// The alias of that stream at a place.
+fn alias_at(alloc: Global, at: usize) -> Result<Option<(&'static str, usize)>, Fail> {
+    let src = Src::new(alloc, STREAM)?;
+    Ok(read_alias(&src, at))
 }
 
 #[test]
 fn reads_aliases(rt: HostRuntime) -> Result<(), Fail> {
     assert!(rt; alias_node("*\u{E9} x", 0) == Some(("\u{E9}", 3)));
-    let src = Src::new(rt.alloc(), STREAM)?;
-    assert!(rt; read_alias(&src, 13) == Some(("a", 15)));
-    assert!(rt; read_alias(&src, 2).is_none());
+    assert!(rt; alias_at(rt.alloc(), 13)? == Some(("a", 15)));
+    assert!(rt; alias_at(rt.alloc(), 2)?.is_none());
     Ok(())
 }
 
-#[test]
-fn resolves_by_default(rt: HostRuntime) -> Result<(), Fail> {
-    let handles = Handles::new(rt.alloc());
-    let tag = props_at(rt.alloc(), STREAM, 18, 0)?
-        .props
-        .tag
-        .ok_or("no tag")?;
-    let tag = handles.resolve(rt.alloc(), &tag, PLACE)?;
-    assert!(rt; tag == ResolvedTag::new("tag:yaml.org,2002:str", Text::Part("")));
-    let tag = props_at(rt.alloc(), "- !x!t v\n", 2, 0)?
-        .props
-        .tag
-        .ok_or("no tag")?;
-    match handles.resolve(rt.alloc(), &tag, PLACE) {
-        Err(Fault::UnknownHandle { place }) => assert!(rt; place == PLACE),
-        Err(fault) => return Err(fault.into()),
-        Ok(_) => return Err("resolved".into()),
+/// Whether the tag stands for that text; where none is wanted, whether its handle is unknown.
+fn stands_for(alloc: Global, handles: &Handles, tag: &Tag, wanted: &str) -> Result<bool, Fail> {
+    match handles.resolve(alloc, tag, PLACE) {
+        Ok(resolved) => Ok(resolved == ResolvedTag::new(wanted, Text::Part(""))),
+        Err(Fault::UnknownHandle { place }) => Ok(wanted.is_empty() && place == PLACE),
+        Err(fault) => Err(fault.into()),
     }
-    Ok(())
+}
+
+/// The same of the tag at a place of a text.
+fn stands_at(
+    alloc: Global,
+    handles: &Handles,
+    text: &str,
+    at: usize,
+    wanted: &str,
+) -> Result<bool, Fail> {
+    match props_at(alloc, text, at, 0)?.props.tag {
+        Some(tag) => stands_for(alloc, handles, &tag, wanted),
+        None => Ok(false),
+    }
 }
 
 /// Handles and prefixes as they are declared one after another, and whether the handle was free. A default is no
@@ -152,17 +182,15 @@ const TAGS: [(Tag, &str); 5] = [
 ];
 
 #[test]
-fn resolves_by_declarations(rt: HostRuntime) -> Result<(), Fail> {
+fn resolves_tags(rt: HostRuntime) -> Result<(), Fail> {
     let mut handles = Handles::new(rt.alloc());
+    assert!(rt; stands_at(rt.alloc(), &handles, STREAM, 18, "tag:yaml.org,2002:str")?);
+    assert!(rt; stands_at(rt.alloc(), &handles, "- !x!t v\n", 2, "")?);
     for (handle, prefix, free) in DECLARED {
         assert!(rt; handles.declare(handle, prefix)? == free, "{prefix}");
     }
     for (tag, wanted) in TAGS {
-        let resolved = handles.resolve(rt.alloc(), &tag, PLACE)?;
-        assert!(rt;
-            resolved == ResolvedTag::new(wanted, Text::Part("")),
-            "{wanted}"
-        );
+        assert!(rt; stands_for(rt.alloc(), &handles, &tag, wanted)?, "{wanted}");
     }
     Ok(())
 }

@@ -1,4 +1,3 @@
-use Rattle.std.specs.Result.{IfOk}
 use Rattle.yf_stream.proofs.PassSteps.{event_at, if_both, named_passed}
 use Rattle.yf_stream.proofs.resolve.resolve_named.Goals as goal
 
