@@ -27,7 +27,7 @@ const FILE: &str = "file";
 const VERSION: &str = "0.2.0";
 
 /// What is to be done with a stream.
-#[derive(Clone, Copy, Debug, PartialEq, Eq)]
+#[derive(Clone, Copy, PartialEq, Eq)]
 pub enum Verb {
     /// Print its events.
     Events,
@@ -38,7 +38,7 @@ pub enum Verb {
 }
 
 /// A command line.
-#[derive(Debug, Drop)]
+#[derive(Drop)]
 pub struct Cmd {
     pub verb: Verb,
     /// The settings file.
@@ -50,7 +50,7 @@ pub struct Cmd {
 }
 
 /// Why the words of a command line give no command.
-#[derive(Debug, Drop)]
+#[derive(Drop)]
 pub enum Usage {
     /// Help or the version was asked for; its text, for standard output.
     Help(OwnedText),
@@ -206,11 +206,22 @@ fn text_of(alloc: Global, error: &Error) -> Result<OwnedText, AllocError> {
 fn refusal_text(alloc: Global, words: &[String], error: &Error) -> Result<OwnedText, AllocError> {
     let shown = shown_words(alloc, words)?;
     match yamlfmt_command(alloc)?.try_get_matches_from(shown.as_slice()) {
-        Ok(_) => Ok(OwnedText::new(shown_text(alloc, format!(in alloc; "{error}")?.as_str())?)),
-        Err(again) => match again.kind() {
-            ErrorKind::OutOfMemory => Err(AllocError),
-            _ => text_of(alloc, &again),
-        },
+        Ok(_) => shown_text_of(alloc, error),
+        Err(again) => text_of_refusal(alloc, &again),
+    }
+}
+
+// The text of an error with the control characters in it shown.
+fn shown_text_of(alloc: Global, error: &Error) -> Result<OwnedText, AllocError> {
+    let text = text_of(alloc, error)?;
+    Ok(OwnedText::new(shown_text(alloc, text.as_str())?))
+}
+
+// The text of an error, unless it says that memory was refused.
+fn text_of_refusal(alloc: Global, error: &Error) -> Result<OwnedText, AllocError> {
+    match error.kind() {
+        ErrorKind::OutOfMemory => Err(AllocError),
+        _ => text_of(alloc, error),
     }
 }
 
@@ -325,5 +336,5 @@ fn refusal(
     ensures { IfOk result IsWrong }
 {
     let error = command.error(kind, message)?;
-    Ok(Usage::Wrong(OwnedText::new(format!(in alloc; "{error}")?)))
+    Ok(Usage::Wrong(text_of(alloc, &error)?))
 }
