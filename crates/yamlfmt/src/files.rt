@@ -13,7 +13,7 @@ use yf_chars::utf8::{BadByte, check_utf8};
 use yf_emit::format::format;
 use yf_emit::style::Style;
 use yf_lines::fault::Fault;
-use yf_lines::watched::Watched;
+use yf_lines::watched::{Source, Watched};
 
 /// Opens a file for reading. One that cannot be opened is one that cannot be read (`Fault::ReadFailed`).
 pub fn open<R: Files>(rt: &R, path: &str) -> Result<R::File, Fault>
@@ -45,12 +45,26 @@ where
         return Err(Fault::ReadFailed);
     };
     let mut reader = Watched::new(file);
-    let bytes = read_all(rt.alloc(), &mut reader, INPUT_LIMIT)?;
-    let formatted = format_bytes(rt.alloc(), bytes.as_slice(), style)?;
-    if formatted.as_str().as_bytes() == bytes.as_slice() {
-        return Ok(());
+    match changed_text(rt.alloc(), &mut reader, style)? {
+        Some(text) => replace_text(rt, reader.get_ref(), &metadata, path, text.as_str()),
+        None => Ok(()),
     }
-    replace_text(rt, reader.get_ref(), &metadata, path, formatted.as_str())
+}
+
+// The text that is read, in the house style; nothing where it is in it already.
+fn changed_text<R: Source>(
+    alloc: Global,
+    reader: &mut R,
+    style: &Style,
+) -> Result<Option<String>, Fault>
+    ensures { IfErr result IsRewriteFault }
+{
+    let bytes = read_all(alloc, reader, INPUT_LIMIT)?;
+    let formatted = format_bytes(alloc, bytes.as_slice(), style)?;
+    if formatted.as_str().as_bytes() == bytes.as_slice() {
+        return Ok(None);
+    }
+    Ok(Some(formatted))
 }
 
 // Puts the text in the place of the open file, by way of a new file beside it.
