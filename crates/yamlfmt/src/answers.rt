@@ -4,10 +4,13 @@ use crate::command_line::{Cmd, Verb};
 use crate::program::run;
 use crate::report::report;
 use std::alloc::{AllocError, Global};
+use yf_emit::format::format;
 use yf_emit::style::Style;
+use yf_events::reading::Reading;
 use yf_lines::fault::Fault;
 use yf_lines::watched::{Sink, Source, Watched};
 use yf_rules::rule::Rule;
+use yf_stream::stream::read_stream;
 
 /// The status of a command, and what it writes to the two streams.
 #[derive(Drop)]
@@ -88,6 +91,16 @@ pub fn answer_over<R: Source, W: Sink>(
 pub fn reports(alloc: Global, fault: &Fault, status: u8, line: &str) -> bool {
     let mut stream = Watched::new(Vec::new(alloc));
     report(fault, &mut stream) == status && stream.get_ref().as_slice() == line.as_bytes()
+}
+
+/// The reading of a text, without what its contract says of it.
+pub fn reading_of(alloc: Global, text: &str) -> Result<Reading<'_>, Fault> {
+    read_stream(alloc, text)
+}
+
+/// A text in a style, without what its contract says of it.
+pub fn formatted(alloc: Global, text: &str, style: &Style) -> Result<String, Fault> {
+    format(alloc, text, style)
 }
 
 /// The lines, which stand between ` / ` in a table.

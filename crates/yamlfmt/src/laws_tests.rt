@@ -2,12 +2,12 @@
 //! that can be fixed, and formatting it again changes nothing.
 ghost use Rattle.std.specs.Prelude.{◌≤◌};
 
+use crate::answers::{formatted, reading_of};
 use crate::fmt_tests::{COMMENTED, NODES, PLAIN_STREAMS, WITH_SETTINGS};
 use crate::rules::{WithRules, with_all_rules};
 use std::alloc::{AllocError, Global};
 use std::test::Fail;
 use yf_comments::comment::Comment;
-use yf_emit::format::format;
 use yf_emit::style::Style;
 use yf_events::reading::Reading;
 use yf_lines::fault::Fault;
@@ -15,7 +15,6 @@ use yf_lines::quotes::Quotes;
 use yf_lines::source_text::Src;
 use yf_rules::check::check;
 use yf_rules::rule::Rule;
-use yf_stream::stream::read_stream;
 
 /// The text of a comment without the white space at its end.
 fn trimmed<'a>(comment: &Comment<'a>) -> &'a str {
@@ -70,18 +69,17 @@ fn is_in_order(
     reading: &Reading,
     text: &str,
 ) -> Result<bool, Fault> {
-    let formatted = read_stream(alloc, text)?;
-    if !has_same_content(alloc, reading, &formatted)? {
+    let read = reading_of(alloc, text)?;
+    if !has_same_content(alloc, reading, &read)? {
         return Ok(false);
     }
-    if !has_same_comments(reading, &formatted) {
+    if !has_same_comments(reading, &read) {
         return Ok(false);
     }
-    if has_fixable(alloc, rules, style, text, &formatted)? {
+    if has_fixable(alloc, rules, style, text, &read)? {
         return Ok(false);
     }
-    let again = format(alloc, text, style)?;
-    Ok(again.as_str() == text)
+    Ok(formatted(alloc, text, style)?.as_str() == text)
 }
 
 /// Whether the laws hold of a text: it is refused by the formatter too, or what is formatted is in order.
@@ -91,12 +89,12 @@ fn holds_of(
     style: &Style,
     text: &str,
 ) -> Result<bool, Fault> {
-    match read_stream(alloc, text) {
+    match reading_of(alloc, text) {
         Ok(reading) => {
-            let formatted = format(alloc, text, style)?;
-            is_in_order(alloc, rules, style, &reading, formatted.as_str())
+            let written = formatted(alloc, text, style)?;
+            is_in_order(alloc, rules, style, &reading, written.as_str())
         }
-        Err(_) => Ok(format(alloc, text, style).is_err()),
+        Err(_) => Ok(formatted(alloc, text, style).is_err()),
     }
 }
 

@@ -73,12 +73,19 @@ fn has_comment(block: &BlockText) -> bool {
     }
 }
 
-/// Whether comments behind the tail are read, and a longer empty line before the content is refused.
-fn reads_tails(alloc: Global) -> Result<bool, Fail> {
+/// Whether comments behind the tail are read.
+fn reads_tail(alloc: Global) -> Result<bool, Fail> {
     let src = Src::new(alloc, "|-\n x\n\n# c\n- y\n")?;
-    let block = block_of(alloc, &src, 0)?.ok_or("no scalar")?;
-    let longer = Src::new(alloc, "|\n   \n  a\n")?;
-    Ok(has_comment(&block) && block_of(alloc, &longer, 0)?.is_none())
+    match block_of(alloc, &src, 0)? {
+        Some(block) => Ok(has_comment(&block)),
+        None => Ok(false),
+    }
+}
+
+/// Whether no scalar follows the header that begins a text.
+fn is_refused(alloc: Global, text: &str) -> Result<bool, Fail> {
+    let src = Src::new(alloc, text)?;
+    Ok(block_of(alloc, &src, 0)?.is_none())
 }
 
 /// Texts, and where the header ends that begins them and has the comment `# c`; `None` where no header begins.
@@ -116,7 +123,9 @@ fn reads_headers_and_tails(rt: HostRuntime) -> Result<(), Fail> {
     for (text, wanted) in HEADERS {
         assert!(rt; has_header(rt.alloc(), text, wanted)?, "{text}");
     }
-    assert!(rt; reads_tails(rt.alloc())?);
+    assert!(rt; reads_tail(rt.alloc())?);
+    // a longer empty line before the content
+    assert!(rt; is_refused(rt.alloc(), "|\n   \n  a\n")?);
     Ok(())
 }
 

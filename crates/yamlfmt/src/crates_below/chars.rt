@@ -1,6 +1,6 @@
 //! Bytes, and escapes as they are read and written.
 
-use std::test::Fail;
+use std::alloc::Global;
 use yf_chars::classes::{is_break_char, is_white};
 use yf_chars::escapes::{Escape, push_escaped, read_escape};
 use yf_chars::utf8::check_utf8;
@@ -30,37 +30,60 @@ fn takes_text(rt: HostRuntime) {
     }
 }
 
-/// Escapes, with the numbers that they write and where they end.
-const ESCAPES: [(&str, u32, usize); 3] = [
-    ("\\ud83d\\ude00", 0x1F600, 12),
-    ("\\ud83d", 0xD83D, 6),
-    ("\\/", 0x2F, 2),
+/// Escapes, with the numbers that they write and where they end. The last one is none.
+const ESCAPES: [(&str, Option<(u32, usize)>); 4] = [
+    ("\\ud83d\\ude00", Some((0x1F600, 12))),
+    ("\\ud83d", Some((0xD83D, 6))),
+    ("\\/", Some((0x2F, 2))),
+    ("\\x4", None),
 ];
 
-#[test]
-fn reads_and_writes_escapes(rt: HostRuntime) -> Result<(), Fail> {
-    for (text, value, end) in ESCAPES {
-        assert!(rt;
-            read_escape(text, 0) == Some(Escape { value, end }),
-            "{text}"
-        );
+/// Whether an escape with that number begins the text and ends there, or none does.
+fn is_escape(text: &str, wanted: Option<(u32, usize)>) -> bool {
+    match read_escape(text, 0) {
+        Some(Escape { value, end }) => wanted == Some((value, end)),
+        None => wanted.is_none(),
     }
-    assert!(rt; read_escape("\\x4", 0).is_none());
-    let mut out = String::new(rt.alloc());
-    for c in ['\u{7}', '\u{2028}', '"', 'e'] {
-        assert!(rt; push_escaped(&mut out, c).is_ok());
+}
+
+/// Characters.
+const CHARACTERS: [char; 4] = ['\u{7}', '\u{2028}', '"', 'e'];
+
+/// How they are written one after another in double quotes.
+const WRITTEN: &str = "\\x07\\u2028\\\"e";
+
+/// Whether they are written so.
+fn are_written(alloc: Global) -> bool {
+    let mut out = String::new(alloc);
+    for c in CHARACTERS {
+        if push_escaped(&mut out, c).is_err() {
+            return false;
+        }
     }
-    assert_eq!(rt; out.as_str(), "\\x07\\u2028\\\"e");
-    Ok(())
+    out.as_str() == WRITTEN
 }
 
 #[test]
+fn reads_and_writes_escapes(rt: HostRuntime) {
+    for (text, wanted) in ESCAPES {
+        assert!(rt; is_escape(text, wanted), "{text}");
+    }
+    assert!(rt; are_written(rt.alloc()));
+}
+
+/// Characters, whether they are white space within a line, and whether they are breaks.
+const SPACES: [(char, bool, bool); 6] = [
+    (' ', true, false),
+    ('\t', true, false),
+    ('\n', false, true),
+    ('\r', false, true),
+    ('\u{A0}', false, false),
+    ('\u{85}', false, false),
+];
+
+#[test]
 fn tells_white_space_from_breaks(rt: HostRuntime) {
-    for c in [' ', '\t'] {
-        assert!(rt; is_white(c) && !is_break_char(c));
+    for (c, white, ends_line) in SPACES {
+        assert!(rt; is_white(c) == white && is_break_char(c) == ends_line);
     }
-    for c in ['\n', '\r'] {
-        assert!(rt; is_break_char(c) && !is_white(c));
-    }
-    assert!(rt; !is_white('\u{A0}') && !is_break_char('\u{85}'));
 }

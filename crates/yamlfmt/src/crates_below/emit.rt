@@ -1,10 +1,10 @@
 //! The house style, and a text that is formatted at once and in steps.
 
+use crate::answers::{formatted, reading_of};
 use std::alloc::Global;
 use std::test::Fail;
 use yf_emit::form::decide::implicit_key;
 use yf_emit::form::kept::kept_text;
-use yf_emit::format::format;
 use yf_emit::normal::normal;
 use yf_emit::print::print;
 use yf_emit::style::Style;
@@ -15,7 +15,6 @@ use yf_lines::fault::Fault;
 use yf_lines::quotes::Quotes;
 use yf_lines::source_text::Src;
 use yf_lines::watched::Watched;
-use yf_stream::stream::read_stream;
 
 #[test]
 fn the_house_style(rt: HostRuntime) {
@@ -28,28 +27,32 @@ const BROKEN: &str = "a: ['x', # c\n y]\n";
 
 const MENDED: &str = "---\na:\n  - \"x\"  # c\n  - y\n";
 
-/// The reading of a text.
-fn reading_of(alloc: Global, text: &str) -> Result<Reading<'_>, Fault> {
-    read_stream(alloc, text)
+/// Prints a reading that is in normal form.
+fn written(alloc: Global, normal: &Reading, style: &Style) -> Result<Vec<u8>, Fault> {
+    let mut writer = Watched::new(Vec::new(alloc));
+    print(alloc, normal, style, &mut writer)?;
+    Ok(writer.into_inner())
 }
 
 /// Prints the normal form of a reading of the text.
 fn printed(alloc: Global, src: &Src, reading: &Reading, style: &Style) -> Result<Vec<u8>, Fault> {
     let normal = normal(alloc, src, reading, style)?;
-    let mut writer = Watched::new(Vec::new(alloc));
-    print(alloc, &normal, style, &mut writer)?;
-    Ok(writer.into_inner())
+    written(alloc, &normal, style)
+}
+
+/// Whether the text is printed so in steps.
+fn is_printed(alloc: Global, text: &str, wanted: &str) -> Result<bool, Fail> {
+    let src = Src::new(alloc, text)?;
+    let reading = reading_of(alloc, text)?;
+    let bytes = printed(alloc, &src, &reading, &Style::house())?;
+    Ok(bytes.as_slice() == wanted.as_bytes())
 }
 
 #[test]
 fn formats_at_once_and_in_steps(rt: HostRuntime) -> Result<(), Fail> {
-    let style = Style::house();
-    let text = format(rt.alloc(), BROKEN, &style)?;
+    let text = formatted(rt.alloc(), BROKEN, &Style::house())?;
     assert!(rt; text.as_str() == MENDED);
-    let src = Src::new(rt.alloc(), BROKEN)?;
-    let reading = reading_of(rt.alloc(), BROKEN)?;
-    let bytes = printed(rt.alloc(), &src, &reading, &style)?;
-    assert!(rt; bytes.as_slice() == MENDED.as_bytes());
+    assert!(rt; is_printed(rt.alloc(), BROKEN, MENDED)?);
     Ok(())
 }
 
@@ -64,6 +67,33 @@ enum Asked {
     Implicit,
 }
 
+/// The style in which an event that is a scalar is written.
+fn style_word(reading: &Reading, i: usize) -> &'static str {
+    if i >= reading.len() {
+        return "no event";
+    }
+    match wanted_style(reading, i, &Style::house()) {
+        ScalarStyle::Double => "double",
+        _ => "another",
+    }
+}
+
+/// Whether the key that an event begins is written without `?`.
+fn key_word(alloc: Global, src: &Src, reading: &Reading, i: usize) -> Result<&'static str, Fail> {
+    if implicit_key(alloc, src, reading, i, &Style::house())? {
+        return Ok("implicit");
+    }
+    Ok("explicit")
+}
+
+/// The text on one line of the flow collection that an event begins.
+fn kept(alloc: Global, src: &Src, reading: &Reading, i: usize) -> Result<String, Fail> {
+    match kept_text(alloc, src, reading, i, &Style::house())? {
+        Some(text) => Ok(text),
+        None => Ok(String::from_str(alloc, "not kept")?),
+    }
+}
+
 /// What is told of an event, as a text.
 fn told(
     alloc: Global,
@@ -72,30 +102,19 @@ fn told(
     reading: &Reading,
     i: usize,
 ) -> Result<String, Fail> {
-    let style = Style::house();
-    let sign = match asked {
-        Asked::Style => {
-            if i >= reading.len() {
-                return Err("no event".into());
-            }
-            match wanted_style(reading, i, &style) {
-                ScalarStyle::Double => "double",
-                _ => "another",
-            }
-        }
-        Asked::Kept => match kept_text(alloc, src, reading, i, &style)? {
-            Some(text) => return Ok(text),
-            None => "not kept",
-        },
-        Asked::Implicit => {
-            if implicit_key(alloc, src, reading, i, &style)? {
-                "implicit"
-            } else {
-                "explicit"
-            }
-        }
+    let word = match asked {
+        Asked::Kept => return kept(alloc, src, reading, i),
+        Asked::Style => style_word(reading, i),
+        Asked::Implicit => key_word(alloc, src, reading, i)?,
     };
-    Ok(String::from_str(alloc, sign)?)
+    Ok(String::from_str(alloc, word)?)
+}
+
+/// Whether that is told of an event of a text.
+fn is_told(alloc: Global, text: &str, i: usize, asked: Asked, wanted: &str) -> Result<bool, Fail> {
+    let src = Src::new(alloc, text)?;
+    let reading = reading_of(alloc, text)?;
+    Ok(told(alloc, asked, &src, &reading, i)?.as_str() == wanted)
 }
 
 /// Texts, an event of each, what is asked of it, and what is told.
@@ -110,10 +129,7 @@ const TOLD: [(&str, usize, Asked, &str); 5] = [
 #[test]
 fn tells_how_one_event_is_written(rt: HostRuntime) -> Result<(), Fail> {
     for (text, i, asked, wanted) in TOLD {
-        let src = Src::new(rt.alloc(), text)?;
-        let reading = reading_of(rt.alloc(), text)?;
-        let told = told(rt.alloc(), asked, &src, &reading, i)?;
-        assert!(rt; told.as_str() == wanted, "{text}");
+        assert!(rt; is_told(rt.alloc(), text, i, asked, wanted)?, "{text}");
     }
     Ok(())
 }
