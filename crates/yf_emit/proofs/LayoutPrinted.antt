@@ -10,7 +10,6 @@ use Rattle.yf_emit.specs.Begins.{keys_begin_in_documents}
 use Rattle.yf_emit.specs.Decorated.{rows_of}
 use Rattle.yf_emit.specs.Forms.{documents_are_placed, stream_forms}
 use Rattle.yf_emit.specs.Layout.{Source, behind_two_spaces, layout, source_of}
-use Rattle.yf_emit.specs.Measures.{Measured}
 use Rattle.yf_emit.specs.Measuring.{setting}
 use Rattle.yf_emit.specs.Normal.{setting_of}
 use Rattle.yf_emit.specs.Printing.{printed, work_of}
@@ -20,11 +19,12 @@ use Rattle.yf_emit.proofs.DocumentsPrinted.{AreNormal, stream_printed}
 use Rattle.yf_emit.proofs.FedLemmas.{layout_fed, trail}
 use Rattle.yf_emit.proofs.FeedLemmas.{ascend}
 use Rattle.yf_emit.proofs.NotedLemmas.{Known}
+use Rattle.yf_emit.proofs.ToldMeasures.{Told}
 use Rattle.yf_emit.proofs.TrailLeaves.{text_of}
 use Rattle.yf_emit.proofs.TrailOthers.{others_left}
 
 pub printed_layout : (m : Lists) (s : Style) (ms : List Measure) (fs : List Form) (f : Found) (n : ℕ) (ds : List DocumentTree) → TreesOf m ds
-    → Measured [] (setting s []) m.events ms → fs ≡ stream_forms [] (setting s []) (setting_of m s) ds → documents_are_placed ds ≡ true
+    → Told m.events ms → fs ≡ stream_forms [] (setting s []) (setting_of m s) ds → documents_are_placed ds ≡ true
     → keys_begin_in_documents ds ≡ true → AreNormal (setting_of m s) n ds → 8 * n + 8 ≤ 2 ^ 64 - 1 → ascend m.comments ≡ true
     → length m.on_leaf_line ≡ length m.comments → LayoutTrails m s ds f
     → printed (work_of m s ms fs f) ≡ layout m s ds

@@ -37,6 +37,7 @@ pub mod NormalLemmas
 pub mod NormalInPlace
 pub mod StyledTwice
 pub mod SettledTwice
+pub mod SettledForms
 pub mod UniqueLemmas
 -- `layout`: the pass of the printer prints the rows of the layout
 pub mod DraftLemmas
@@ -46,6 +47,8 @@ pub mod FeedLemmas
 pub mod FedLemmas
 pub mod JoinLemmas
 pub mod SignLemmas
+pub mod ToldMeasures
+pub mod SameMeasures
 pub mod NotedLemmas
 pub mod LeafFed
 pub mod LeafPrinted
@@ -156,6 +159,7 @@ pub mod SameComments
 pub mod KeyTrails
 pub mod KeysBegin
 pub mod LayoutHolds
+pub mod FormsHandedOn
 pub mod LeavesRise
 pub mod LineUtf8
 pub mod MarkSpans

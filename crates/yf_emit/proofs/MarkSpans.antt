@@ -1,9 +1,8 @@
 -- The leaves that the pass over the events of trees meets are the leaves of the trees, and each has its mark.
-use Rattle.std.proofs.Common.{◌≡◌, ℕ, ◌+◌, ◌<◌, Bool, true, false, ◌&&◌, List, [], ◌∷◌, ◌++◌, length, flat_map, Option, Some, None, refl, sym, ap, ◌∙◌, subst, arith, append_assoc, append-nil}
+use Rattle.std.proofs.Common.{◌≡◌, ℕ, ◌+◌, ◌<◌, Bool, true, false, ◌&&◌, List, [], ◌∷◌, ◌++◌, length, flat_map, Option, Some, None, refl, sym, ap, ◌∙◌, arith, append-nil}
 use Rattle.std.specs.Prelude.{is_some, if◌then◌else◌}
 use Rattle.std.proofs.lemmas.Bool.{and_parts}
 use Rattle.std.proofs.lemmas.List.{length-append, map-append}
-use Rattle.std.proofs.lemmas.Option.{get_or_from_slice_get}
 use Rattle.yf_events.specs.Event.{Placed, sequence_starts, sequence_ends, mapping_starts, mapping_ends, scalar_node, alias_node, document_starts, document_ends, stream_starts, stream_ends}
 use Rattle.yf_events.specs.Tree.{Node, scalar, alias, sequence, mapping, Items, no_items, item, Pairs, no_pairs, pair, DocumentTree, flat, flat_document, flat_items, flat_pairs, flat_stream, is_text, leaves, leaves_of_items, leaves_of_pairs, placed, spans_of_leaf, standing, unplaced}
 use Rattle.yf_events.specs.declared.event.Span.{Span}
@@ -11,25 +10,22 @@ use Rattle.yf_emit.specs.declared.form.measure.Measure.{Measure}
 use Rattle.yf_emit.specs.Deciding as Deciding
 use Rattle.yf_emit.specs.Forms.{documents_are_placed, is_placed, items_are_placed, pairs_are_placed}
 use Rattle.yf_emit.specs.Keys.{NodeAt}
-use Rattle.yf_emit.specs.Measures.{Measured, first_of, leaf_indices, measure_of, no_measure}
-use Rattle.yf_emit.specs.Normal.{Setting}
+use Rattle.yf_emit.specs.Measures.{first_of, leaf_indices}
 use Rattle.yf_emit.specs.Trailing.{is_leaf}
 use Rattle.yf_emit.proofs.AmongLemmas.{Among, back, behind_first, front, node_at}
 use Rattle.yf_emit.proofs.LeafLemmas.{is_own_leaf, same}
 use Rattle.yf_emit.proofs.LeafMarks.{Mark, event_marks, mark, mark_if, marks_append}
+use Rattle.yf_emit.proofs.ToldMeasures.{Told}
 use Rattle.yf_emit.proofs.TrailRuns.{spans}
 
 -- events that were measured
 pub record Seen : Type 0 where
   pub events : List Placed
   pub measures : List Measure
-  pub text : List ℕ
-  pub by : Setting
-  pub measured : Measured text by events measures
+  pub measured : Told events measures
 
 first_seen : (g : Seen) (i : ℕ) (x : Node) → NodeAt g.events i x → is_leaf g.measures i ≡ Deciding.is_leaf_at i (first_of (leaf_indices i x))
-first_seen g i x n =
-    ap (λ w. Deciding.is_leaf_at i w.first_leaf) (get_or_from_slice_get g.measures i (measure_of g.text g.by i x) no_measure (g.measured.each i x n))
+first_seen g i x n = ap (λ w. Deciding.is_leaf_at i w.first_leaf) (g.measured.each i x n)
 
 leaf_seen : (g : Seen) (i : ℕ) (x : Node) → is_placed x ≡ true → NodeAt g.events i x → is_leaf g.measures i ≡ is_text x
 leaf_seen g i x h n = first_seen g i x n ∙ is_own_leaf i x h

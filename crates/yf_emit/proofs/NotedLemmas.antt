@@ -5,7 +5,6 @@ use Rattle.std.proofs.lemmas.Bool.{and_parts}
 use Rattle.std.proofs.lemmas.Bool.Decides.{nat_tests}
 use Rattle.std.proofs.lemmas.Grind.{flat_map-append}
 use Rattle.std.proofs.lemmas.List.{length-append}
-use Rattle.std.proofs.lemmas.Option.{get_or_from_slice_get}
 use Rattle.yf_comments.specs.Comment.{CommentValue}
 use Rattle.yf_events.specs.Event.{Placed, sequence_starts, sequence_ends, mapping_starts, mapping_ends}
 use Rattle.yf_events.specs.Tree.{Node, scalar, alias, sequence, mapping, Items, no_items, item, Pairs, no_pairs, pair, entry_start, flat, flat_items, flat_pairs, is_text, items_in, items_in_items, items_in_pairs, leaves, leaves_of_items, leaves_of_pairs, placed, spans_of_leaf, standing, starts_of_entry, unplaced}
@@ -16,25 +15,25 @@ use Rattle.yf_emit.specs.Deciding as Deciding
 use Rattle.yf_emit.specs.Drafts.{Draft, behind_if}
 use Rattle.yf_emit.specs.Forms.{is_placed, items_are_placed, pairs_are_placed}
 use Rattle.yf_emit.specs.Keys.{NodeAt}
-use Rattle.yf_emit.specs.Measures.{Measured, measure_of, no_measure}
-use Rattle.yf_emit.specs.Measuring.{setting}
+use Rattle.yf_emit.specs.Measures.{no_measure}
 use Rattle.yf_emit.specs.Printing.{Work, entry_met, event_noted, events_noted, is_leaf, leaf_noted_if}
 use Rattle.yf_emit.proofs.AmongLemmas.{Among, back, behind_first, front, node_at}
 use Rattle.yf_emit.proofs.FedLemmas.{all_past}
 use Rattle.yf_emit.proofs.JoinLemmas.{edited, past_append, past_edited}
 use Rattle.yf_emit.proofs.LeafLemmas.{is_own_leaf}
+use Rattle.yf_emit.proofs.ToldMeasures.{Told, asked, asked_of}
 
--- what the pass looks at, with the measures of a reading in the style of the house, and what trails each leaf
+-- what the pass looks at, with what is asked of the measures of a reading, and what trails each leaf
 pub record Known : Type 0 where
   pub work : Work
   pub trail : Span → List ℕ
-  pub measured : Measured [] (setting work.style []) work.reading.events work.measures
+  pub measured : Told work.reading.events work.measures
   pub trails : (j : ℕ) (x : Node) (span : Span) → NodeAt work.reading.events j x → is_text x ≡ true → (standing x).span ≡ Some span
       → behind_if work.reading.comments (get_or work.trails j None) ≡ trail span
 
 pub measure_there : (k : Known) (i : ℕ) (x : Node) → NodeAt k.work.reading.events i x
-    → get_or k.work.measures i no_measure ≡ measure_of [] (setting k.work.style []) i x
-measure_there k i x n = get_or_from_slice_get k.work.measures i (measure_of [] (setting k.work.style []) i x) no_measure (k.measured.each i x n)
+    → asked (get_or k.work.measures i no_measure) ≡ asked_of i x
+measure_there k i x n = k.measured.each i x n
 
 -- past these items, with what trails these leaves
 abbrev pub met : Known → List ℕ → List Span → Draft → Draft

@@ -22,6 +22,7 @@ use Rattle.yf_emit.proofs.LeafFed.{put, with_colon_of}
 use Rattle.yf_emit.proofs.LeafLemmas.{is_own_leaf}
 use Rattle.yf_emit.proofs.LeafPrinted.{Laid, Spotted, flat_is, head_of, leaf_printed, measure, setting_in, tail_of}
 use Rattle.yf_emit.proofs.NotedLemmas.{Known, measure_there}
+use Rattle.yf_emit.proofs.ToldMeasures.{asked, same_asked}
 use Rattle.yf_emit.proofs.OneLineRuns.{flat_filled}
 use Rattle.yf_emit.proofs.Reaching.{Part, Reaches, first_form, reaches_same, reaches_whole}
 
@@ -122,11 +123,11 @@ whole_reaches k i docs n site x levels d a b =
     let printed : Printing.leaf k.work i m f (head_of x) sp before ≡ node_draft k site x levels d =
     leaf_printed k i f sp site.spot x before a.laid a.spotted b
     ∙ ap (λ w. with_colon_of x sp (put k site.key_comment (w && is_empty_text (props_text (props_of x))) sp (rows (setting_in k) site.spot x) before)) (sym b) in
-    let there : get_or k.work.measures i no_measure ≡ m = measure_there k i x (node_at x a.laid.among) in
+    let there : asked (get_or k.work.measures i no_measure) ≡ asked m = measure_there k i x (node_at x a.laid.among) in
     let its : get_or k.work.forms i no_form ≡ f = form_there k i site x a.forms in
     subst (λ w. Reaches k.work i w docs d (node_draft k site x levels d) levels behind) (sym (flat_is x))
     (reaches_same k.work i docs (head_of x ∷ tail_of x) d (Printing.leaf k.work i m f (head_of x) sp before) (node_draft k site x levels d) levels behind printed
     (reaches_whole k.work i docs m.last (head_of x) (tail_of x) d (Printing.leaf k.work i m f (head_of x) sp before) levels behind last (λ p.
-    ap (λ w. Printing.past_event k.work i w (get_or k.work.forms i no_form) (head_of x) (head_of x).event (state d levels docs p)) there
+    same_asked k.work i (get_or k.work.measures i no_measure) m (get_or k.work.forms i no_form) (head_of x) (state d levels docs p) there
     ∙ (ap (λ w. Printing.past_event k.work i m w (head_of x) (head_of x).event (state d levels docs p)) its
     ∙ whole_looked k i m f x d levels docs p (whole_is k i site x a.laid.placed a.settled b)))))

@@ -26,6 +26,7 @@ use Rattle.yf_emit.proofs.EntriesFed.{begun, collection_put, filled, is_key}
 use Rattle.yf_emit.proofs.LeafFed.{ColumnAt, put, with_colon_of}
 use Rattle.yf_emit.proofs.LeafPrinted.{measure, setting_in}
 use Rattle.yf_emit.proofs.NotedLemmas.{Known, measure_there}
+use Rattle.yf_emit.proofs.ToldMeasures.{asked, same_asked}
 use Rattle.yf_emit.proofs.PrintedNodes.{At, NodeReaches, form, form_there, items_nest, nests, node_draft, pairs_nest, spot_of}
 use Rattle.yf_emit.proofs.Reaching.{Part, Reaches, back_part, front_part, reaches_append, reaches_begun, reaches_event, reaches_same}
 
@@ -79,11 +80,11 @@ open_reaches k i docs n site x levels first e end ys xs d a q begins whole ends 
     let inline : Bool = not (has_props props) && is_behind sp in
     let top : Level = level site.spot.entries first inline in
     let here : Draft = collection_begun k.work props sp (sign k.work fx (standing x).entry levels d) in
-    let there : get_or k.work.measures i no_measure ≡ measure k i x = measure_there k i x (node_at x a.laid.among) in
+    let there : asked (get_or k.work.measures i no_measure) ≡ asked (measure k i x) = measure_there k i x (node_at x a.laid.among) in
     let its : get_or k.work.forms i no_form ≡ fx = form_there k i site x a.forms in
     let first_reaches : Reaches k.work i (e ∷ []) docs d here levels (top ∷ behind) =
     reaches_begun k.work i docs e d here levels (top ∷ behind) (λ p.
-    ap (λ w. Printing.past_event k.work i w (get_or k.work.forms i no_form) e e.event (state d levels docs p)) there
+    same_asked k.work i (get_or k.work.measures i no_measure) (measure k i x) (get_or k.work.forms i no_form) e (state d levels docs p) there
     ∙ (ap (λ w. Printing.past_event k.work i (measure k i x) w e e.event (state d levels docs p)) its
     ∙ (begins fx p whole
     ∙ ap (λ c. state here (level c first inline ∷ behind) docs i) (cut site.spot.entries n a.room)))) in

@@ -13,6 +13,7 @@ use Rattle.yf_events.specs.declared.event.Span.{Span}
 use Rattle.yf_emit.specs.declared.form.ended.Ended.{Ended}
 use Rattle.yf_emit.specs.declared.form.measure.Measure.{Measure}
 use Rattle.yf_emit.specs.declared.form.collection.Open.{Open}
+use Rattle.yf_emit.specs.FoundInPass.{FoundInPass}
 use Rattle.yf_emit.specs.Measures.{up_to_greatest, width_if, joined_width, no_measure, Measured}
 use Rattle.yf_emit.specs.Measuring.{found, handed, with_node, passed, past, pass, has_text, have_texts}
 use Rattle.yf_emit.specs.Normal.{Setting}
@@ -149,10 +150,13 @@ texts_on es i v s h k g u =
     rw add-one (λ w. g (rw (x.cut, x.event, u, w) refl))
 
 pub at_last : (t : List ℕ) (c : Setting) (es : List Placed) (i : ℕ) (list : List Measure) (stack : List Open) → length es ≤ i
-    → Texts es i → Runs t c es i list stack → Measured t c es list
+    → Texts es i → Runs t c es i list stack → FoundInPass t c es list
 unfolding pass
 at_last t c es i list stack l h r =
     let none : drop i es ≡ [] = drop_all i es l in
     let texts : have_texts es ≡ true = h (rw none refl) in
     let run : found list stack ≡ pass t c es (found [] []) = ap (λ w. pass t c w (found list stack)) (sym none) ∙ r.1 in
-    subst (λ w. Measured t c es w) (sym (ap (λ f. f.list) run)) (measured_all t c es texts)
+    record { is = ap (λ f. f.list) run; texts = texts }
+
+pub measured_in_pass : {t : List ℕ} {c : Setting} {es : List Placed} {ms : List Measure} → FoundInPass t c es ms → Measured t c es ms
+measured_in_pass {t} {c} {es} {ms} f = subst (λ w. Measured t c es w) (sym f.is) (measured_all t c es f.texts)

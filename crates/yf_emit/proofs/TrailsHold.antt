@@ -1,5 +1,5 @@
 -- What the pass over leaves finds of a stream of normal forms are the comments that trail in its layout.
-use Rattle.std.proofs.Common.{◌≡◌, ℕ, ◌<◌, Bool, true, false, ◌&&◌, List, [], ◌∷◌, ◌++◌, length, flat_map, get_or, replicate, set, Option, Some, None, refl, sym, ap, ◌∙◌, subst, arith}
+use Rattle.std.proofs.Common.{◌≡◌, ℕ, ◌<◌, Bool, true, false, List, [], ◌∷◌, ◌++◌, length, flat_map, get_or, replicate, Option, Some, None, refl, sym, ap, ◌∙◌, arith}
 use Rattle.std.specs.Prelude.{◌||◌, option_to_list, slice_get}
 use Rattle.std.proofs.lemmas.Bool.{and_parts}
 use Rattle.std.proofs.lemmas.List.{get_or-replicate, length-replicate, length-set}
@@ -14,23 +14,21 @@ use Rattle.yf_emit.specs.Decorated.{rows_of}
 use Rattle.yf_emit.specs.Forms.{documents_are_placed, stream_forms}
 use Rattle.yf_emit.specs.Keys.{NodeAt}
 use Rattle.yf_emit.specs.Layout.{Source, first_comment, is_among, source_of, trailing, trailing_leaf}
-use Rattle.yf_emit.specs.Measures.{Measured}
 use Rattle.yf_emit.specs.Measuring.{setting}
-use Rattle.yf_emit.specs.Normal.{Setting, setting_of}
-use Rattle.yf_emit.specs.Rows.{Row}
+use Rattle.yf_emit.specs.Normal.{setting_of}
 use Rattle.yf_emit.specs.Trailing.{Found, all_found, ended, keys_taken, start, taken}
 use Rattle.yf_emit.specs.TrailsOf.{LayoutTrails, at_index}
 use Rattle.yf_emit.proofs.DocumentTrails.{in_house, leaves_of, stream_keys, stream_leaves}
 use Rattle.yf_emit.proofs.DocumentsPrinted.{AreNormal}
 use Rattle.yf_emit.proofs.FeedLemmas.{ascend}
-use Rattle.yf_emit.proofs.KeyTrails.{indices_of, keys_on}
+use Rattle.yf_emit.proofs.KeyTrails.{indices_of}
 use Rattle.yf_emit.proofs.LeafMarks.{Mark, event_marks, in_order, mark, marks_in_order, pass_marks}
 use Rattle.yf_emit.proofs.MarkSpans.{MarkedAt, Seen, marked_at, node_within, spans_append, stream_spans}
-use Rattle.yf_emit.proofs.RowLeaves.{leaves_on}
+use Rattle.yf_emit.proofs.ToldMeasures.{Told}
 use Rattle.yf_emit.proofs.TrailChoice.{none_at, rising}
 use Rattle.yf_emit.proofs.TrailLeaves.{KeyMarks, chosen_of}
 use Rattle.yf_emit.proofs.TrailOthers.{among_indices, at_indices, has, strict}
-use Rattle.yf_emit.proofs.TrailRuns.{AgreeFrom, closed_all, found_at, found_of, run_is, spans}
+use Rattle.yf_emit.proofs.TrailRuns.{AgreeFrom, closed_all, found_at, run_is, spans}
 use Rattle.yf_emit.proofs.TrailsAgree.{has_append, marked_one, marks_agree, none_at_starts, or_assoc, or_false, some_within}
 
 -- a stream of normal forms, with so many open collections at most, whose places are in order
@@ -93,7 +91,7 @@ alike r (l ∷ ls) ts = record { agree = λ k h. refl }
 -- a stream that was measured and decided
 record Passed (m : Lists) (s : Style) (n : ℕ) (ds : List DocumentTree) (ms : List Measure) (fs : List Form) : Type 0 where
   placing : Placing m s n ds
-  measured : Measured [] (setting s []) m.events ms
+  measured : Told m.events ms
   decided : fs ≡ stream_forms [] (setting s []) (setting_of m s) ds
 
 abbrev source : Lists → Style → List DocumentTree → Source
@@ -103,7 +101,7 @@ abbrev marks_of : Lists → List Measure → List Mark
 marks_of m ms = event_marks ms 0 m.events
 
 abbrev seen : {m : Lists} {s : Style} {n : ℕ} {ds : List DocumentTree} {ms : List Measure} {fs : List Form} → Passed m s n ds ms fs → Seen
-seen {m} {s} {n} {ds} {ms} {fs} p = record { events = m.events; measures = ms; text = []; by = setting s []; measured = p.measured }
+seen {m} {s} {n} {ds} {ms} {fs} p = record { events = m.events; measures = ms; measured = p.measured }
 
 tree_spans : {m : Lists} {s : Style} {n : ℕ} {ds : List DocumentTree} {ms : List Measure} {fs : List Form} → Passed m s n ds ms fs → spans (marks_of m ms) ≡ leaves_of ds
 tree_spans {ds = ds} p = stream_spans (seen p) ds p.placing.of_reading.events p.placing.placed
@@ -150,7 +148,7 @@ comment_found {m} {s} {n} {ds} {ms} {fs} p k d q =
     (spans_rise p) (ap (none_at_starts m.comments) (tree_spans p) ∙ p.placing.apart) (key_marks m s n ds fs p.placing p.decided) (alike m ls f.trailing) long k d q
 
 pub trails_found : (m : Lists) (s : Style) (n : ℕ) (ds : List DocumentTree) (ms : List Measure) (fs : List Form) → Placing m s n ds
-    → Measured [] (setting s []) m.events ms → fs ≡ stream_forms [] (setting s []) (setting_of m s) ds → LayoutTrails m s ds (all_found m ms fs)
+    → Told m.events ms → fs ≡ stream_forms [] (setting s []) (setting_of m s) ds → LayoutTrails m s ds (all_found m ms fs)
 trails_found m s n ds ms fs p measured decided =
     let all : Passed m s n ds ms fs = record { placing = p; measured = measured; decided = decided } in
     record { of_leaf = leaf_found all; of_comment = comment_found all }

@@ -14,6 +14,7 @@ pub mod Drafts
 pub mod Format
 pub mod FormatLaws
 pub mod FormatKept
+pub mod FoundInPass
 pub mod Formatted
 pub mod Forms
 pub mod ImplicitKeys

@@ -3,7 +3,6 @@ use Rattle.std.specs.Prelude.{◌≡◌, ℕ, List, []}
 use Rattle.yf_events.specs.declared.lists.Lists.{Lists}
 use Rattle.yf_emit.specs.declared.form.decide.Form.{Form}
 use Rattle.yf_emit.specs.declared.form.measure.Measure.{Measure}
-use Rattle.yf_emit.specs.declared.print.printer.Plan.{Plan}
 use Rattle.yf_emit.specs.declared.style.Style.{Style}
 use Rattle.yf_emit.specs.Forms.{Decided}
 use Rattle.yf_emit.specs.Layout.{Writes}
@@ -11,7 +10,7 @@ use Rattle.yf_emit.specs.Measures.{Measured}
 use Rattle.yf_emit.specs.Measuring.{setting}
 use Rattle.yf_emit.specs.NormalForm.{NormalForm}
 use Rattle.yf_emit.specs.Printing.{printed, work_of}
-use Rattle.yf_emit.specs.Trailing.{all_found, found}
+use Rattle.yf_emit.specs.Trailing.{all_found}
 
 -- u is the text that is printed of the reading m
 pub record Printout (m : Lists) (s : Style) (u : List ℕ) : Type 0 where
@@ -25,10 +24,3 @@ pub record Printout (m : Lists) (s : Style) (u : List ℕ) : Type 0 where
 pub record IsPrinted (m : Lists) (s : Style) (u : List ℕ) : Type 0 where
   pub printout : Printout m s u
   pub writes : NormalForm m s → Writes m s u
-
--- what is decided of the reading m before it is printed
-pub record IsPlan (m : Lists) (s : Style) (plan : Plan) : Type 0 where
-  pub style : plan.style ≡ s
-  pub measured : Measured [] (setting s []) m.events plan.measures
-  pub decided : Decided m s plan.measures plan.forms
-  pub trails : found plan.trails ≡ all_found m plan.measures plan.forms

@@ -4,41 +4,37 @@ ghost use Rattle.std.specs.Str.{IsUtf8};
 ghost use Rattle.std.specs.String.{string_bytes};
 ghost use Rattle.yf_emit.specs.FormatKept.{FormatKept};
 ghost use Rattle.yf_emit.specs.Formatted.{Formatted};
-ghost use Rattle.yf_emit.specs.Printout.{IsPrinted};
 ghost use Rattle.yf_stream.specs.ReadingOf.{ReadingOf};
 ghost use Rattle.yf_stream.specs.Refusal.{IsStreamFault};
 ghost use Rattle.yf_stream.specs.StreamReader.{StreamFault};
 
+use crate::form::decide::decide;
+use crate::form::measure::measure_text;
 use crate::normal::normalized;
-use crate::print::layout::layout;
+use crate::print::layout::layout_by;
 use crate::style::Style;
 use std::alloc::{AllocError, Global};
 use yf_events::reading::Reading;
 use yf_lines::fault::Fault;
 use yf_stream::stream::read_stream;
 
-/// The layout of a normal reading.
-fn laid_out(alloc: Global, normal: &Reading, style: &Style) -> Result<String, Fault>
-    ensures printed { IfOk result (λ output. IsPrinted normal.now style.now (string_bytes output)) }
-    ensures refused { IfErr result (λ fault. fault ≡ Fault.Memory) }
-{
-    match layout(alloc, normal, style) {
-        Ok(output) => Ok(output),
-        Err(AllocError) => Err(Fault::Memory),
-    }
-}
-
-/// The text of a reading of the text in the house style.
-fn formatted(alloc: Global, text: &str, reading: Reading, style: &Style) -> Result<String, Fault>
-    ensures formatted { IfOk result (λ formatted. Formatted text.now style.now (string_bytes formatted)) }
+/// The text of a reading of the text in the house style. The normal form has the forms of the reading, and where its nodes end and their first
+/// leaves are what was measured of the reading, so it is printed by these.
+fn formatted(
+    alloc: Global,
+    text: &str,
+    reading: Reading,
+    style: &Style,
+) -> Result<String, AllocError>
+    ensures formatted { IsUtf8 text.now → ReadingOf text.now reading.entry
+        → IfOk result (λ formatted. Formatted text.now style.now (string_bytes formatted)) }
     ensures keeps { IsUtf8 text.now → ReadingOf text.now reading.entry
         → IfOk result (λ formatted. FormatKept text.now style.now (string_bytes formatted)) }
-    ensures refused { IfErr result (λ fault. fault ≡ Fault.Memory) }
 {
-    match normalized(alloc, text, reading, style) {
-        Ok(normal) => laid_out(alloc, &normal, style),
-        Err(_) => Err(Fault::Memory),
-    }
+    let measures = measure_text(alloc, text, &reading, style)?;
+    let forms = decide(alloc, &measures, &reading, style)?;
+    let normal = normalized(alloc, reading, &measures, &forms, style)?;
+    layout_by(alloc, &normal, measures, forms, style)
 }
 
 /// The stream of the text in the house style: the layout of the normal form of the text's reading, and nothing else is that. It is

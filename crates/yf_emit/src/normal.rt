@@ -1,20 +1,17 @@
 //! The normal form of a reading: each scalar in the style, and each collection in the form, that the house style gives it.
 ghost use Rattle.std.specs.Prelude.{◌≡◌, IfErr, IfOk};
-ghost use Rattle.std.specs.List.Sorted.{IsNonDecreasingBy};
 ghost use Rattle.yf_events.specs.Content.{content_of};
 ghost use Rattle.yf_events.specs.Event.{event_value};
 ghost use Rattle.yf_events.specs.Nested.{IsStream};
 ghost use Rattle.yf_events.specs.Reading.{Fits, events_of};
 ghost use Rattle.yf_events.specs.declared.reading.TheConstants.{DEPTH};
-ghost use Rattle.yf_emit.specs.Forms.{Decided};
-ghost use Rattle.yf_emit.specs.Measures.{Measured};
-ghost use Rattle.yf_emit.specs.Normal.{Normal, setting_of};
+ghost use Rattle.yf_emit.specs.Normal.{Normal};
 ghost use Rattle.yf_emit.specs.NormalEvents.{normal_from};
 ghost use Rattle.yf_emit.specs.Restyled.{IsRestyled};
 ghost use Rattle.yf_emit.specs.Textual.{IsTextual};
 ghost use Rattle.yf_emit.specs.Wanted.{wanted_of_event};
 
-mod copies;
+pub mod copies;
 
 use crate::form::decide::decide;
 use crate::form::forms::Forms;
@@ -43,42 +40,21 @@ fn style_of(event: Event, quotes: Quotes) -> ScalarStyle
     }
 }
 
-/// What is decided of a reading before it is put into its normal form.
-#[derive(Drop)]
-struct Decisions {
-    measures: Measures,
-    forms: Forms,
-}
-
-fn decisions_of(
-    alloc: Global,
-    text: &str,
-    reading: &Reading,
-    style: &Style,
-) -> Result<Decisions, AllocError>
-    ensures measured { IfOk result (λ decisions. IsNonDecreasingBy (λ c. c.offset) reading.now.comments
-        → Measured text.now (setting_of reading.now style.now) reading.now.events decisions.measures) }
-    ensures decided { IfOk result (λ decisions. Decided reading.now style.now decisions.measures decisions.forms) }
-{
-    let measures = measure_text(alloc, text, reading, style)?;
-    let forms = decide(alloc, &measures, reading, style)?;
-    Ok(Decisions { measures, forms })
-}
-
 /// Puts the events into their normal form. A collection is written between brackets where it is empty, or kept, or stands in a kept
 /// one. After a refusal the events are of no use.
 fn normalize<'a>(
     alloc: Global,
     events: &mut Events<'a>,
-    decisions: &Decisions,
+    measures: &Measures,
+    forms: &Forms,
     style: &Style,
 ) -> Result<(), AllocError>
-    ensures { IfOk result (λ _. events.new ≡ normal_from style.now.quotes decisions.now.measures 0 0 decisions.now.forms events.old) }
+    ensures { IfOk result (λ _. events.new ≡ normal_from style.now.quotes measures.now 0 0 forms.now events.old) }
 {
     let mut kept_until = 0;
     for i in 0..events.len() {
-        let measure = decisions.measures.at(i);
-        if decisions.forms.at(i).is_kept {
+        let measure = measures.at(i);
+        if forms.at(i).is_kept {
             kept_until = measure.last;
         }
         let flow = measure.is_leaf(i) || i < kept_until;
@@ -88,42 +64,67 @@ fn normalize<'a>(
     Ok(())
 }
 
-/// The reading that well nested lists make.
-fn built<'a>(alloc: Global, lists: Lists<'a>) -> Result<Reading<'a>, Fault>
-    requires fit { Fits lists }
-    requires nested { IsStream DEPTH (events_of lists) }
-    ensures same { IfOk result (λ reading. reading ≡ lists.entry) }
-    ensures refused { IfErr result (λ fault. fault ≡ Fault.Memory) }
+/// The lists of the normal form.
+fn normal_lists<'a>(
+    alloc: Global,
+    reading: Reading<'a>,
+    measures: &Measures,
+    forms: &Forms,
+    style: &Style,
+) -> Result<Lists<'a>, AllocError>
+    ensures restyled { IfOk result (λ normal. IsRestyled style.now.quotes reading.entry normal) }
+    ensures events { IfOk result (λ normal. normal.events
+        ≡ normal_from style.now.quotes measures.now 0 0 forms.now reading.entry.events) }
+    ensures fit { IfOk result Fits }
+    ensures nested { IfOk result (λ normal. IsStream DEPTH (events_of normal)) }
 {
-    match Reading::build(alloc, lists) {
-        Ok(Some(reading)) => Ok(reading),
-        Ok(None) => unreachable!(),
-        Err(_) => Err(Fault::Memory),
-    }
+    let mut lists = reading.into_lists();
+    normalize(alloc, &mut lists.events, measures, forms, style)?;
+    Ok(lists)
 }
 
-/// The reading that the lists make once their events are in their normal form.
-fn in_form<'a>(
+/// The normal form of a reading that was measured, by the forms of its nodes, in place of that reading.
+pub(crate) fn normalized<'a>(
     alloc: Global,
-    mut lists: Lists<'a>,
-    decisions: &Decisions,
+    reading: Reading<'a>,
+    measures: &Measures,
+    forms: &Forms,
     style: &Style,
-) -> Result<Reading<'a>, Fault>
-    requires fit { Fits lists }
-    requires nested { IsStream DEPTH (events_of lists) }
-    ensures restyled { IfOk result (λ normal. IsRestyled style.now.quotes lists.entry normal) }
-    ensures events { IfOk result (λ normal. normal.events ≡ normal_from style.now.quotes decisions.now.measures 0 0 decisions.now.forms
-        lists.entry.events) }
-    ensures refused { IfErr result (λ fault. fault ≡ Fault.Memory) }
+) -> Result<Reading<'a>, AllocError>
+    ensures restyled { IfOk result (λ normal. IsRestyled style.now.quotes reading.entry normal) }
+    ensures events { IfOk result (λ normal. normal.events
+        ≡ normal_from style.now.quotes measures.now 0 0 forms.now reading.entry.events) }
+    ensures content { IfOk result (λ normal. content_of normal ≡ content_of reading.entry) }
+    ensures nested { IfOk result (λ normal. IsStream DEPTH (events_of normal)) }
 {
-    match normalize(alloc, &mut lists.events, decisions, style) {
-        Ok(()) => built(alloc, lists),
-        Err(AllocError) => Err(Fault::Memory),
+    let lists = normal_lists(alloc, reading, measures, forms, style)?;
+    match Reading::build(alloc, lists) {
+        Ok(Some(normal)) => Ok(normal),
+        Ok(None) => unreachable!(),
+        Err(_) => Err(AllocError),
     }
 }
 
 /// The normal form of a reading of the text, in place of that reading.
-pub(crate) fn normalized<'a>(
+fn normal_copy<'a>(
+    alloc: Global,
+    text: &str,
+    reading: Reading<'a>,
+    style: &Style,
+) -> Result<Reading<'a>, AllocError>
+    ensures restyled { IfOk result (λ normal. IsRestyled style.now.quotes reading.entry normal) }
+    ensures is_normal { IfOk result (λ normal. IsTextual reading.entry → Normal text.now reading.entry style.now normal) }
+    ensures content { IfOk result (λ normal. content_of normal ≡ content_of reading.entry) }
+    ensures nested { IfOk result (λ normal. IsStream DEPTH (events_of normal)) }
+{
+    let measures = measure_text(alloc, text, &reading, style)?;
+    let forms = decide(alloc, &measures, &reading, style)?;
+    let normal = normalized(alloc, reading, &measures, &forms, style)?;
+    Ok(normal)
+}
+
+/// The same, where a refusal of memory is a fault.
+fn normal_of<'a>(
     alloc: Global,
     text: &str,
     reading: Reading<'a>,
@@ -135,19 +136,8 @@ pub(crate) fn normalized<'a>(
     ensures nested { IfOk result (λ normal. IsStream DEPTH (events_of normal)) }
     ensures refused { IfErr result (λ fault. fault ≡ Fault.Memory) }
 {
-    match decisions_of(alloc, text, &reading, style) {
-        Ok(decisions) => in_form(alloc, reading.into_lists(), &decisions, style),
-        Err(AllocError) => Err(Fault::Memory),
-    }
-}
-
-/// A copy of a reading, which shares its texts.
-fn copied<'a>(alloc: Global, reading: &'a Reading<'a>) -> Result<Reading<'a>, Fault>
-    ensures same { IfOk result (λ copy. copy ≡ reading.now) }
-    ensures refused { IfErr result (λ fault. fault ≡ Fault.Memory) }
-{
-    match copied_lists(alloc, reading) {
-        Ok(lists) => built(alloc, lists),
+    match normal_copy(alloc, text, reading, style) {
+        Ok(normal) => Ok(normal),
         Err(AllocError) => Err(Fault::Memory),
     }
 }
@@ -171,8 +161,13 @@ pub fn normal<'a>(
     ensures nested { IfOk result (λ normal. IsStream DEPTH (events_of normal)) }
     ensures refused { IfErr result (λ fault. fault ≡ Fault.Memory) }
 {
-    match copied(alloc, reading) {
-        Ok(copy) => normalized(alloc, src.text(), copy, style),
-        Err(fault) => Err(fault),
+    let lists = match copied_lists(alloc, reading) {
+        Ok(lists) => lists,
+        Err(AllocError) => return Err(Fault::Memory),
+    };
+    match Reading::build(alloc, lists) {
+        Ok(Some(copy)) => normal_of(alloc, src.text(), copy, style),
+        Ok(None) => unreachable!(),
+        Err(_) => Err(Fault::Memory),
     }
 }

@@ -4,6 +4,7 @@ ghost use Rattle.std.specs.List.Sorted.{IsNonDecreasingBy};
 ghost use Rattle.yf_comments.specs.Comment.{comment_value};
 ghost use Rattle.yf_events.specs.Event.{event_value};
 ghost use Rattle.yf_emit.specs.Deciding.{is_leaf_at};
+ghost use Rattle.yf_emit.specs.FoundInPass.{FoundInPass};
 ghost use Rattle.yf_emit.specs.Measures.{Measured};
 ghost use Rattle.yf_emit.specs.Measuring as Measuring;
 ghost use Rattle.yf_emit.specs.Measuring.{found, has_text, setting};
@@ -153,7 +154,7 @@ fn measured(
     style: &Style,
 ) -> Result<Measures, AllocError>
     ensures { IfOk result (λ m. IsNonDecreasingBy (λ c. c.offset) comments.now
-        → Measured text.now (setting style.now (map comment_value comments.now)) reading.now.events m) }
+        → FoundInPass text.now (setting style.now (map comment_value comments.now)) reading.now.events m) }
 {
     let mut list = Measures::new(alloc);
     let mut stack: Vec<Open> = Vec::new(alloc);
@@ -181,7 +182,7 @@ pub(crate) fn measure_text(
     style: &Style,
 ) -> Result<Measures, AllocError>
     ensures { IfOk result (λ m. IsNonDecreasingBy (λ c. c.offset) reading.now.comments
-        → Measured text.now (setting_of reading.now style.now) reading.now.events m) }
+        → FoundInPass text.now (setting_of reading.now style.now) reading.now.events m) }
 {
     let measures = measured(alloc, text, reading.comments(), reading, style)?;
     Ok(measures)

@@ -6,12 +6,15 @@ ghost use Rattle.yf_events.specs.Event.{event_value, view_value};
 ghost use Rattle.yf_emit.specs.Forms.{no_form};
 ghost use Rattle.yf_emit.specs.Measures.{no_measure};
 ghost use Rattle.yf_emit.specs.Printing as Printing;
-ghost use Rattle.yf_emit.specs.Printing.{work};
+ghost use Rattle.yf_emit.specs.Printing.{work, work_of};
 ghost use Rattle.yf_emit.specs.Printers.{state_of};
-ghost use Rattle.yf_emit.specs.Printout.{IsPlan, IsPrinted};
+ghost use Rattle.yf_emit.specs.Printout.{IsPrinted};
+ghost use Rattle.yf_emit.specs.Trailing.{all_found};
 
 use crate::form::decide::{Form, decide};
+use crate::form::forms::Forms;
 use crate::form::measure::{Measure, measure_normal};
+use crate::form::measures::Measures;
 use crate::print::leaves::push_leaf;
 use crate::print::output::Output;
 use crate::print::printer::{
@@ -222,21 +225,6 @@ impl Printer {
     }
 }
 
-/// What is decided before printing.
-fn plan_of(alloc: Global, reading: &Reading, style: &Style) -> Result<Plan, AllocError>
-    ensures { IfOk result (λ plan. IsPlan reading.now style.now plan) }
-{
-    let measures = measure_normal(alloc, reading, style)?;
-    let forms = decide(alloc, &measures, reading, style)?;
-    let trails = find_trails(alloc, reading, &measures, &forms)?;
-    Ok(Plan {
-        measures,
-        forms,
-        trails,
-        style: *style,
-    })
-}
-
 /// The text that is printed of a reading by a plan.
 fn text_of(alloc: Global, reading: &Reading, plan: &Plan) -> Result<String, AllocError>
     ensures { IfOk result (λ text. string_bytes text ≡ Printing.printed (work reading.now plan.now)) }
@@ -254,11 +242,33 @@ fn text_of(alloc: Global, reading: &Reading, plan: &Plan) -> Result<String, Allo
     output.finish(reading, &plan.trails)
 }
 
+/// The text that is printed of a reading by what was measured of it and by the forms of its nodes.
+pub(crate) fn layout_by(
+    alloc: Global,
+    reading: &Reading,
+    measures: Measures,
+    forms: Forms,
+    style: &Style,
+) -> Result<String, AllocError>
+    ensures { IfOk result (λ text. string_bytes text
+        ≡ Printing.printed (work_of reading.now style.now measures forms (all_found reading.now measures forms))) }
+{
+    let trails = find_trails(alloc, reading, &measures, &forms)?;
+    let plan = Plan {
+        measures,
+        forms,
+        trails,
+        style: *style,
+    };
+    text_of(alloc, reading, &plan)
+}
+
 /// The text of a normal reading in the house style: of the normal form of a text's reading, its layout; of any other reading, what one
 /// pass over its events prints of it.
 pub fn layout(alloc: Global, reading: &Reading, style: &Style) -> Result<String, AllocError>
     ensures { IfOk result (λ text. IsPrinted reading.now style.now (string_bytes text)) }
 {
-    let plan = plan_of(alloc, reading, style)?;
-    text_of(alloc, reading, &plan)
+    let measures = measure_normal(alloc, reading, style)?;
+    let forms = decide(alloc, &measures, reading, style)?;
+    layout_by(alloc, reading, measures, forms, style)
 }

@@ -20,7 +20,7 @@ flow_now c = elim c.if-is_leaf.branch [
 pub loop-i-preserved : goal.loop-i-preserved
 loop-i-preserved c = (
   same_long _ _ _ _ c.in_ok-set_form.ensures ∙ c.loop-i.invariant.0,
-  step_in_place c.args.style.now.quotes c.args.decisions.now.measures c.args.decisions.now.forms c.loop-i.events _ _ c.loop-i.i c.loop-i.kept_until c.if-at.kept_until
+  step_in_place c.args.style.now.quotes c.args.measures.now c.args.forms.now c.loop-i.events _ _ c.loop-i.i c.loop-i.kept_until c.if-at.kept_until
       (event_value c.event.result) c.at-measure.result c.at.result c.if-is_leaf.flow c.style_of-wanted.result c.event.ensures c.at-measure.ensures c.at.ensures
       (until_now c) (flow_now c) c.style_of-wanted.ensures c.in_ok-set_form.ensures c.loop-i.invariant.1,
 )

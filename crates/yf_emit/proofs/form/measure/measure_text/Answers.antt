@@ -1,7 +1,7 @@
 use Rattle.std.proofs.Common.{subst, sym}
 use Rattle.std.specs.List.Sorted.{IsNonDecreasingBy}
 use Rattle.yf_comments.specs.Comment.{CommentValue}
-use Rattle.yf_emit.specs.Measures.{Measured}
+use Rattle.yf_emit.specs.FoundInPass.{FoundInPass}
 use Rattle.yf_emit.specs.Measuring.{setting}
 use Rattle.yf_emit.proofs.OffsetLemmas.{same_order}
 use Rattle.yf_emit.proofs.form.measure.measure_text.Goals as goal
@@ -9,5 +9,5 @@ use Rattle.yf_emit.proofs.form.measure.measure_text.Goals as goal
 pub returns : goal.returns
 returns c = λ s.
     let sorted = same_order c.comments.result.now (subst (λ w. IsNonDecreasingBy (λ (d : CommentValue). d.offset) w) (sym c.comments.ensures) s) in
-    subst (λ w. Measured c.args.text.now (setting c.args.style.now w) c.args.reading.now.events c.in_ok-measures.measures) c.comments.ensures
+    subst (λ w. FoundInPass c.args.text.now (setting c.args.style.now w) c.args.reading.now.events c.in_ok-measures.measures) c.comments.ensures
     (c.in_ok-measures.ensures sorted)

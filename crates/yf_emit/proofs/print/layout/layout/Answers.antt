@@ -5,5 +5,7 @@ use Rattle.yf_emit.proofs.print.layout.layout.Goals as goal
 
 pub returns : goal.returns
 returns c =
-    IfOk-weaker c.text_of.result _ _ (λ text h. planned c.args.reading.now c.args.style.now c.in_ok-plan.plan (string_bytes text) c.in_ok-plan.ensures h)
-    c.text_of.ensures
+    IfOk-weaker c.layout_by.result _ _
+    (λ text h. planned c.args.reading.now c.args.style.now c.in_ok-measures.measures c.in_ok-forms.forms (string_bytes text) c.in_ok-measures.ensures
+    c.in_ok-forms.ensures h)
+    c.layout_by.ensures

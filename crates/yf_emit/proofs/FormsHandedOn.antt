@@ -1,0 +1,135 @@
+-- A normal form is printed by the measures and forms of the reading that it is of: its own forms are the same, and its own measures are, as
+-- far as the printer asks.
+use Rattle.std.proofs.Common.{◌≡◌, ℕ, true, List, [], map, sym, ap, ◌∙◌, subst}
+use Rattle.std.specs.Str.{IsUtf8}
+use Rattle.yf_events.specs.Content.{content_of}
+use Rattle.yf_events.specs.Nested.{IsStream}
+use Rattle.yf_events.specs.Reading.{events_of}
+use Rattle.yf_events.specs.declared.lists.Lists.{Lists}
+use Rattle.yf_events.specs.declared.reading.TheConstants.{DEPTH}
+use Rattle.yf_events.proofs.TreeLemmas.{trees_unique}
+use Rattle.yf_stream.specs.ReadingOf.{ReadingOf}
+use Rattle.yf_emit.specs.declared.form.decide.Form.{Form}
+use Rattle.yf_emit.specs.declared.form.measure.Measure.{Measure}
+use Rattle.yf_emit.specs.declared.style.Style.{Style}
+use Rattle.yf_emit.specs.FormatKept.{FormatKept}
+use Rattle.yf_emit.specs.Formatted.{Formatted}
+use Rattle.yf_emit.specs.Forms.{Decided, documents_are_placed, stream_forms}
+use Rattle.yf_emit.specs.FoundInPass.{FoundInPass}
+use Rattle.yf_emit.specs.Layout.{layout}
+use Rattle.yf_emit.specs.Measures.{Measured}
+use Rattle.yf_emit.specs.Measuring.{found, pass, setting}
+use Rattle.yf_emit.specs.Normal.{Normal, setting_of}
+use Rattle.yf_emit.specs.NormalEvents.{normal_from}
+use Rattle.yf_emit.specs.NormalForm.{NormalForm}
+use Rattle.yf_emit.specs.Printing.{printed, work_of}
+use Rattle.yf_emit.specs.Printout.{IsPrinted}
+use Rattle.yf_emit.specs.Restyled.{IsRestyled}
+use Rattle.yf_emit.specs.Textual.{CommentsAscend, IsTextual}
+use Rattle.yf_emit.specs.Trailing.{all_found}
+use Rattle.yf_emit.proofs.FormatHolds.{printed_formats}
+use Rattle.yf_emit.proofs.FormatKeeps.{format_keeps}
+use Rattle.yf_emit.proofs.LayoutHolds.{is_printed, printed_lays_out}
+use Rattle.yf_emit.proofs.MeasuredLemmas.{measured_all}
+use Rattle.yf_emit.proofs.NormalLemmas.{normal_reading}
+use Rattle.yf_emit.proofs.NormalParts.{trees_in, trees_of}
+use Rattle.yf_emit.proofs.ReadingsOfTexts.{reading_is_textual}
+use Rattle.yf_emit.proofs.SameMeasures.{same_measures, same_texts}
+use Rattle.yf_emit.proofs.SettledForms.{stream_stays}
+use Rattle.yf_emit.proofs.StepLemmas.{measured_in_pass}
+use Rattle.yf_emit.proofs.StreamLemmas.{decides}
+use Rattle.yf_emit.proofs.ToldMeasures.{Told, asked, measured_tells, told_alike}
+
+-- the events that are made by measures and forms of a reading are those of its normal form
+pub normal_made : (t : List ℕ) (r m : Lists) (s : Style) (ms : List Measure) (fs : List Form) → IsTextual r
+    → (CommentsAscend r → FoundInPass t (setting_of r s) r.events ms) → Decided r s ms fs → IsRestyled s.quotes r m
+    → m.events ≡ normal_from s.quotes ms 0 0 fs r.events → Normal t r s m
+normal_made t r m s ms fs w measured decided k e =
+    let is_measured : Measured t (setting_of r s) r.events ms = measured_in_pass (measured w.comments) in
+    normal_reading t r m s ms fs w.trees w.of_reading is_measured
+    (decided.are w.comments t (setting_of r s) w.trees w.of_reading w.placed is_measured) e k.rest
+
+-- what is known where a normal form is printed by what was found of the reading of the text
+pub record HandedOn (t : List ℕ) (r m : Lists) (s : Style) (ms : List Measure) (fs : List Form) : Type 0 where
+  pub utf8 : IsUtf8 t
+  pub reads : ReadingOf t r
+  pub measured : CommentsAscend r → FoundInPass t (setting_of r s) r.events ms
+  pub decided : Decided r s ms fs
+  pub restyled : IsRestyled s.quotes r m
+  pub events : m.events ≡ normal_from s.quotes ms 0 0 fs r.events
+  pub nested : IsStream DEPTH (events_of m)
+
+module _ {t : List ℕ} {r m : Lists} {s : Style} {ms : List Measure} {fs : List Form} (h : HandedOn t r m s ms fs) where
+  textual : IsTextual r
+  textual = reading_is_textual h.utf8 h.reads
+
+  in_pass : FoundInPass t (setting_of r s) r.events ms
+  in_pass = h.measured textual.comments
+
+  pub made : Normal t r s m
+  made = normal_made t r m s ms fs textual h.measured h.decided h.restyled h.events
+
+  abbrev normal : NormalForm m s
+  normal = record {
+    text = t;
+    utf8 = h.utf8;
+    reading = r;
+    reads = h.reads;
+    is = made;
+    nested = h.nested;
+  }
+
+  same_setting : setting_of m s ≡ setting_of r s
+  same_setting = ap (λ (w : Lists). setting_of w s) made.is
+
+  placed : documents_are_placed made.trees ≡ true
+  placed = subst (λ ds. documents_are_placed ds ≡ true) (trees_unique r textual.trees made.trees textual.of_reading made.of_reading) textual.placed
+
+  same_forms : fs ≡ stream_forms [] (setting s []) (setting_of m s) (trees_in normal)
+  same_forms =
+      h.decided.are textual.comments t (setting_of r s) made.trees made.of_reading placed (measured_in_pass in_pass)
+      ∙ (sym (stream_stays t (setting_of r s) made.trees) ∙ ap (λ c. stream_forms [] (setting s []) c (trees_in normal)) (sym same_setting))
+
+  abbrev own : List Measure
+  own = (pass [] (setting s []) m.events (found [] [])).list
+
+  own_measured : Measured [] (setting s []) m.events own
+  own_measured = measured_all [] (setting s []) m.events (same_texts h.restyled.events ∙ in_pass.texts)
+
+  told : Told m.events ms
+  told = told_alike (ap (map asked) in_pass.is ∙ same_measures t [] (setting_of r s) (setting s []) h.restyled.events) (measured_tells own_measured)
+
+  own_decided : Decided m s own fs
+  own_decided = record {
+    are = λ ascend u c ds trees is_placed measured.
+        same_forms
+        ∙ (ap (stream_forms [] (setting s []) (setting_of m s)) (trees_unique m (trees_in normal) ds (trees_of normal) trees)
+        ∙ (sym (decides m s own [] (setting s []) ds trees is_placed own_measured) ∙ decides m s own u c ds trees is_placed measured));
+  }
+
+  pub printed_once : (u : List ℕ) → u ≡ printed (work_of m s ms fs (all_found m ms fs)) → IsPrinted m s u
+  printed_once u e =
+      let one : printed (work_of m s ms fs (all_found m ms fs)) ≡ layout m s (trees_in normal) =
+      printed_lays_out m s ms fs normal (trees_in normal) (trees_of normal) told same_forms in
+      let other : printed (work_of m s own fs (all_found m own fs)) ≡ layout m s (trees_in normal) =
+      printed_lays_out m s own fs normal (trees_in normal) (trees_of normal) (measured_tells own_measured) same_forms in
+      is_printed m s u (record { measures = own; forms = fs; measured = own_measured; decided = own_decided; is = e ∙ (one ∙ sym other) })
+
+  -- so it is what formatting the text gives
+  pub kept_so : (u : List ℕ) → u ≡ printed (work_of m s ms fs (all_found m ms fs)) → FormatKept t s u
+  kept_so u e =
+      format_keeps t s u h.utf8 (printed_formats t s u r m h.nested (λ w. normal_made t r m s ms fs w h.measured h.decided h.restyled h.events)
+      (printed_once u e) h.utf8 h.reads)
+
+  pub formatted_so : (u : List ℕ) → content_of m ≡ content_of r → IsUtf8 u → u ≡ printed (work_of m s ms fs (all_found m ms fs)) → Formatted t s u
+  formatted_so u content utf8 e = record {
+    reading = r;
+    normal = m;
+    nested = h.nested;
+    restyled = h.restyled;
+    is_normal = λ w. normal_made t r m s ms fs w h.measured h.decided h.restyled h.events;
+    same = content;
+    is = printed_once u e;
+    formats = λ g reads. kept_so u e;
+    utf8 = utf8;
+  }

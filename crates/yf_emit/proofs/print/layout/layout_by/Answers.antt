@@ -1,0 +1,9 @@
+use Rattle.std.proofs.Common.{◌∙◌, ap}
+use Rattle.std.proofs.lemmas.Result.{IfOk-weaker}
+use Rattle.yf_emit.specs.Printing.{printed, work_of}
+use Rattle.yf_emit.proofs.print.layout.layout_by.Goals as goal
+
+pub returns : goal.returns
+returns c =
+    IfOk-weaker c.text_of.result _ _ (λ text h. h ∙ ap (λ w. printed (work_of c.args.reading.now c.args.style.now c.args.measures c.args.forms w)) c.in_ok-trails.ensures.found)
+    c.text_of.ensures
