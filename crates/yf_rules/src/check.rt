@@ -105,16 +105,17 @@ fn sort_findings(findings: &mut Vec<Finding>) -> Result<(), AllocError>
     }
 }
 
-/// The findings, and those of one more rule after them. Where there are none yet, the others are not copied.
-fn joined(mut all: Vec<Finding>, mut findings: Vec<Finding>) -> Result<Vec<Finding>, Fault>
+/// Adds the findings of one more rule after the others. Where there are none yet, they are not copied.
+fn add(all: &mut Vec<Finding>, mut findings: Vec<Finding>) -> Result<(), Fault>
     ensures refused { IfErr result (λ fault. fault ≡ Fault.Memory) }
-    ensures joined { IfOk result (λ joined. joined.items ≡ all.items ++ findings.items) }
+    ensures added { IfOk result (λ _. all.new.items ≡ all.old.items ++ findings.items) }
 {
     if all.is_empty() {
-        return Ok(findings);
+        *all = findings;
+        return Ok(());
     }
     match all.append(&mut findings) {
-        Ok(()) => Ok(all),
+        Ok(()) => Ok(()),
         Err(_) => Err(Fault::Memory),
     }
 }
@@ -140,7 +141,7 @@ pub fn check(
     let mut all = Vec::new(alloc);
     for rule in rules {
         let findings = findings_of(alloc, rule, src, reading, style)?;
-        all = joined(all, findings)?;
+        add(&mut all, findings)?;
     }
     match sort_findings(&mut all) {
         Ok(()) => Ok(all),

@@ -3,7 +3,7 @@
 use yf_lines::place::Place;
 
 /// A place at fault, with the rule that found it.
-#[derive(Clone, Copy, Debug, PartialEq, Eq)]
+#[derive(Clone, Copy)]
 pub struct Finding {
     pub place: Place,
     /// The rule's number.

@@ -1,7 +1,5 @@
 //! What a rule is.
-ghost use Rattle.std.specs.Prelude.{◌≡◌, true, false, IfErr, IfOk};
-ghost use Rattle.std.specs.List.{Contains};
-ghost use Rattle.yf_lines.specs.declared.place.Place.{Place};
+ghost use Rattle.std.specs.Prelude.{◌≡◌, ℕ, List, true, false, IfErr, IfOk};
 ghost use Rattle.yf_rules.specs.Places.{Ascending, PlacesOf};
 
 pub use crate::facts::found::{listed, push_found};
@@ -124,8 +122,7 @@ pub trait Rule: Drop {
 /// Sorts places by line and column, and leaves each once.
 fn ascend(places: &mut Vec<Place>)
     ensures ascending { Ascending places.new.items }
-    ensures keeps { (p : Place) → Contains places.old.items p → Contains places.new.items p }
-    ensures adds_none { (p : Place) → Contains places.new.items p → Contains places.old.items p }
+    ensures places { (t os : List ℕ) → PlacesOf t os places.old.items → PlacesOf t os places.new.items }
 {
     places.sort_unstable_by_key(|place| (place.line, place.column));
     places.dedup();

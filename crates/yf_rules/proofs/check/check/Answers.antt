@@ -8,8 +8,8 @@ loop-rule-init g c = record { ordered = none_checked _ _ c.new-all.ensures.items
 
 pub loop-rule-preserved : goal.loop-rule-preserved
 loop-rule-preserved g c = record {
-  ordered = more_checked _ _ _ _ _ _ _ (omega arith) c.rule-item.is c.loop-rule.invariant.ordered c.in_ok-findings.ensures.findings c.in_ok-all.ensures.joined;
-  silent = both_silent _ _ _ c.loop-rule.invariant.silent c.in_ok-findings.ensures.mends c.in_ok-all.ensures.joined;
+  ordered = more_checked _ _ _ _ _ _ _ (omega arith) c.rule-item.is c.loop-rule.invariant.ordered c.in_ok-findings.ensures.findings c.in_ok-add.ensures.added;
+  silent = both_silent _ _ _ c.loop-rule.invariant.silent c.in_ok-findings.ensures.mends c.in_ok-add.ensures.added;
 }
 
 pub returns-in-Ok-clause-findings : goal.returns-in-Ok-clause-findings

@@ -10,11 +10,11 @@ returns-clause-ascending c =
     rw (dedup_is _ _ _ c.dedup.ensures.filtered)
     (IsStrictlySortedBy-dedup place_total place_ties _ (c.sort_unstable_by_key.ensures.sorted (λ p. (p.line, p.column)) (answers_always _ _ _ (λ f a r g h. search rules))))
 
-pub returns-clause-keeps : goal.returns-clause-keeps
-returns-clause-keeps c = λ p h.
-    rw (dedup_is _ _ _ c.dedup.ensures.filtered)
-    (Contains-dedup same_equivalence same_is _ p (Contains-permutation _ _ p c.sort_unstable_by_key.ensures.permutation h))
-
-pub returns-clause-adds_none : goal.returns-clause-adds_none
-returns-clause-adds_none c = λ p h.
-    Contains-permutation _ _ p (IsPermutation-sym _ _ c.sort_unstable_by_key.ensures.permutation) (Contains-from_dedup _ _ p (rw (dedup_is _ _ _ c.dedup.ensures.filtered) at h))
+pub returns-clause-places : goal.returns-clause-places
+returns-clause-places c = λ t os h. record {
+  only = λ p there. h.only p
+      (Contains-permutation _ _ p (IsPermutation-sym _ _ c.sort_unstable_by_key.ensures.permutation) (Contains-from_dedup _ _ p (rw (dedup_is _ _ _ c.dedup.ensures.filtered) at there)));
+  all = λ p is.
+      rw (dedup_is _ _ _ c.dedup.ensures.filtered)
+      (Contains-dedup same_equivalence same_is _ p (Contains-permutation _ _ p c.sort_unstable_by_key.ensures.permutation (h.all p is)));
+}
