@@ -10,7 +10,6 @@ use Rattle.yf_events.specs.declared.event.ScalarStyle.{ScalarStyle}
 use Rattle.yf_events.specs.declared.event.ScalarStyle.TheVariants.{Plain, Single, Double, Literal, Folded}
 use Rattle.yf_events.specs.declared.event.Span.{Span}
 use Rattle.yf_emit.specs.declared.style.Style.{Style}
-use Rattle.yf_emit.specs.Measures.{is_one_line}
 use Rattle.yf_emit.specs.Normal.{Setting, Spot, inner_spot, fits, is_one_line_key, is_implicit, key_comment, key_spot, value_spot, value_column, value_entries, value_of_implicit}
 use Rattle.yf_emit.specs.OneLine.{width, spaced, props_text, bare, more_items, more_pairs, written, colon_behind}
 use Rattle.yf_emit.specs.RowShapes.{RowShape, shape_of, joined_shapes, shapes_behind_key, KeysAgree}
@@ -82,14 +81,6 @@ same_written {x = x} {y = y} a =
 
 pub same_fit : {K : Node → Node → Node → Node → Type 0} {x y : Node} (s : Style) (column : ℕ) → Alike K x y → fits s column x ≡ fits s column y
 same_fit s column a = ap (λ z. nat_le (column + width z) s.max_line) (same_written a)
-
-pub same_one_line : {K : Node → Node → Node → Node → Type 0} {x y : Node} → Alike K x y → is_one_line x ≡ is_one_line y
-same_one_line (alike_scalars e) = refl
-same_one_line (alike_aliases e) = refl
-same_one_line (alike_sequences e alike_nothing) = refl
-same_one_line (alike_sequences e (alike_item a rest)) = refl
-same_one_line (alike_mappings e alike_no_pairs) = refl
-same_one_line (alike_mappings e (alike_pair a b k rest)) = refl
 
 same_one_line_key : {K : Node → Node → Node → Node → Type 0} {x y : Node} (s : Style) (column : ℕ) → Alike K x y
     → is_one_line_key s column x ≡ is_one_line_key s column y

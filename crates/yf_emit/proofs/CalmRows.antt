@@ -247,12 +247,6 @@ no_blank : (m b : Bool) → m ≡ false → blank_if (m && b) ≡ []
 no_blank true b e = absurd (true≢false e)
 no_blank false b e = refl
 
-remarks_kept : (before : Ending) (column : ℕ) (cs : List CommentValue) (z : List GapLine) → may_be_blank_behind before ≡ false → KeptGap Keep z
-    → KeptGap Keep (remarks_behind before column cs ++ z)
-remarks_kept before column [] z e k = k
-remarks_kept before column (c ∷ cs) z e k =
-    subst (λ g. KeptGap Keep ((g ++ (remark column (trimmed c.text) ∷ remarks_behind anywhere column cs)) ++ z)) (sym (no_blank (may_be_blank_behind before) c.blank_before e)) tt
-
 behind_kept : (before : Ending) (column : ℕ) (b : Bool) (cs : List CommentValue) → may_be_blank_behind before ≡ false
     → KeptGap Keep (remarks_behind before column cs ++ blank_if (may_be_blank_behind (ending_behind before cs) && b))
 behind_kept before column b [] e = subst (λ g. KeptGap Keep g) (sym (no_blank (may_be_blank_behind before) b e)) tt

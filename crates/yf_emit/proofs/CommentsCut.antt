@@ -66,10 +66,6 @@ pub upward_of : {t : List ℕ} {i j : ℕ} {cs : List CommentValue} → Ascend t
 upward_of (no_more l) = upward_none
 upward_of (one_more l s a) = upward_more l (upward_of a)
 
-upward_from : {i : ℕ} {cs : List CommentValue} (h : ℕ) → Over h cs → Upward i cs → Upward h cs
-upward_from h each_none upward_none = upward_none
-upward_from h (each_more l b) (upward_more m a) = upward_more l a
-
 -- Lists that are filtered.
 
 pub keep_all : (p : CommentValue → Bool) {xs : List CommentValue} → Each (λ d. p d ≡ true) xs → filter p xs ≡ xs

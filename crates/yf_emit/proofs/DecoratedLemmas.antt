@@ -8,7 +8,7 @@ use Rattle.yf_events.specs.declared.lists.Lists.{Lists}
 use Rattle.yf_emit.specs.declared.style.Style.{Style}
 use Rattle.yf_emit.specs.Decorated.{GapLine, blank, remark, Deco, first, after, past, gap_then, trails_then, body_then, end_then, lines_then, inline_then, blank_if, remarks_behind, ending_behind, gap_of, comments_left, decos_of, decorated, rows_of}
 use Rattle.yf_emit.specs.Layout.{Source, Line, layout, lines_of, comment_line, row_line, bytes_behind, line_bytes, ended, behind_two_spaces, trailing, trimmed, precedes_item, may_be_blank_behind, own_line_comments, source_of}
-use Rattle.yf_emit.specs.Rows.{Row, Ending, anywhere, at_text_start, joined}
+use Rattle.yf_emit.specs.Rows.{Row, Ending, anywhere, at_text_start}
 
 -- Rows one after the other.
 
@@ -20,23 +20,6 @@ lines_append (x ∷ xs) ys ds r =
 pub inline_append : (x : Row) (xs ys : List Row) (ds : List Deco) (r : List ℕ)
     → inline_then ((x ∷ xs) ++ ys) ds r ≡ inline_then (x ∷ xs) ds (lines_then ys (past (x ∷ xs) ds) r)
 inline_append x xs ys ds r = ap (λ z. x.text ++ end_then (first ds) x.body z) (lines_append xs ys (after ds) r)
-
--- a row that begins a line is its column's spaces and the row
-pub lines_first : (x : Row) (xs : List Row) (ds : List Deco) (r : List ℕ) → lines_then (x ∷ xs) ds r ≡ replicate x.column 32 ++ inline_then (x ∷ xs) ds r
-lines_first x xs ds r = refl
-
--- rows whose first one stands on the line of a sign or key
-pub joined_inline : (head : Row) (n : ℕ) (x : Row) (xs ys : List Row) (ds : List Deco) (r : List ℕ)
-    → inline_then (joined head n (x ∷ xs) ++ ys) ds r
-    ≡ head.text ++ (replicate n 32 ++ inline_then (x ∷ xs) ds (lines_then ys (past (x ∷ xs) ds) r))
-joined_inline head n x xs ys ds r =
-    ap (λ z. (head.text ++ (replicate n 32 ++ x.text)) ++ end_then (first ds) x.body z) (lines_append xs ys (after ds) r)
-    ∙ (append_assoc head.text (replicate n 32 ++ x.text) _ ∙ ap (λ z. head.text ++ z) (append_assoc (replicate n 32) x.text _))
-
--- and where the node is an empty one, which has no row
-pub joined_nothing : (head : Row) (n : ℕ) (ys : List Row) (ds : List Deco) (r : List ℕ)
-    → inline_then (joined head n [] ++ ys) ds r ≡ head.text ++ end_then (first ds) head.body (lines_then ys (after ds) r)
-joined_nothing head n ys ds r = refl
 
 pub gap_append : (xs ys : List GapLine) (r : List ℕ) → gap_then (xs ++ ys) r ≡ gap_then xs (gap_then ys r)
 gap_append [] ys r = refl

@@ -70,11 +70,6 @@ behind_past (y ∷ xs) (suc k) l = behind_past xs k (omega arith)
 pub behind_none : (xs : List Comment) (o : Option ℕ) (text : List ℕ) → o ≡ None → text ≡ text ++ behind_if (map comment_value xs) o
 behind_none xs o text h = sym (append-nil text) ∙ ap (λ w. text ++ behind_if (map comment_value xs) w) (sym h)
 
-pub behind_no_more : (xs : List Comment) (o : Option ℕ) (k : ℕ) (text : List ℕ) → o ≡ Some k → length xs ≤ k
-    → text ≡ text ++ behind_if (map comment_value xs) o
-behind_no_more xs o k text h l =
-    sym (append-nil text) ∙ (ap (λ w. text ++ w) (sym (behind_past xs k l)) ∙ ap (λ w. text ++ behind_if (map comment_value xs) w) (sym h))
-
 -- comments on lines of their own
 
 one_between : (xs : List Comment) (k end : ℕ) (e : Comment) → k < end → end ≤ length xs

@@ -2,7 +2,6 @@
 use Rattle.std.proofs.Common.{◌≡◌, ℕ, suc, ◌+◌, ◌-◌, ◌≤◌, Bool, true, false, List, [], ◌∷◌, ◌++◌, length, get_or, Option, Some, None, refl, sym, ap, ◌∙◌, subst, ⊎_elim, arith, append_assoc, append-nil}
 use Rattle.std.specs.Prelude.{replicate, if◌then◌else◌, ◌==◌}
 use Rattle.std.proofs.lemmas.Bool.{and_parts, cases_Bool}
-use Rattle.std.proofs.lemmas.Bool.Decides.{nat_tests}
 use Rattle.std.proofs.lemmas.List.{length-append, length-replicate}
 use Rattle.std.proofs.lemmas.Option.{get_or_from_slice_get}
 use Rattle.yf_events.specs.Event.{Placed, sequence_starts, sequence_ends, mapping_starts, mapping_ends}
@@ -12,7 +11,7 @@ use Rattle.yf_emit.specs.declared.form.keys.Key.{Key}
 use Rattle.yf_emit.specs.declared.form.places.Level.{Level}
 use Rattle.yf_emit.specs.declared.form.measure.Measure.{Measure}
 use Rattle.yf_emit.specs.Deciding as Deciding
-use Rattle.yf_emit.specs.Deciding.{Given, given, State, state, next, pass, past, node, behind_node, is_leaf_at, is_whole, form_at, next_place, next_stack, key_of, may_be_implicit}
+use Rattle.yf_emit.specs.Deciding.{Given, given, State, state, next, pass, past, node, behind_node, is_leaf_at, is_whole, next_place, next_stack, key_of, may_be_implicit}
 use Rattle.yf_emit.specs.Forms.{Site, site_at, key_site, value_site, forms, forms_of_items, forms_of_pairs, no_form, form_of, forms_within, is_kept_at, is_placed, items_are_placed, pairs_are_placed}
 use Rattle.yf_emit.specs.Measures.{Measured, measure_of, up_to_greatest, no_measure, leaf_indices, first_of}
 use Rattle.yf_emit.specs.Normal.{Setting, styled, styled_items, styled_pairs, inner_spot}
@@ -24,6 +23,7 @@ use Rattle.yf_emit.proofs.PlaceLemmas.{place_of, key_there, key_waits, value_the
 use Rattle.yf_emit.proofs.RunLemmas.{looked_at, passed_over}
 use Rattle.yf_emit.proofs.SiteLemmas.{is_kept_there}
 use Rattle.yf_emit.proofs.ValueLemmas.{event_of}
+use Rattle.yf_emit.proofs.WholeLemmas.{last_one, not_last, whole_if_kept, whole_if_leaf, whole_if_last, open_if}
 
 -- what the pass is given: the text, with what it was measured, with what it is laid out, all events, and their measures
 pub record Known : Type 0 where
@@ -107,33 +107,6 @@ begun k x p list stack behind site a l s =
     ∙ ap (λ w. Deciding.node_at g (suc p) m (is_map x) (place_of site) list w) s.stack_is
     ∙ ap (λ b. behind_node (suc p) m (is_map x) (level_at k site x)
     (list ++ record { is_kept = b; is_implicit = site.is_implicit; key_comment = site.key_comment; column = up_to_greatest site.spot.entries } ∷ []) behind (is_whole (suc p) m b)) kept
-
--- whether it is gone past at once
-
-last_one : (i : ℕ) → (i + 1 - 1 == i) ≡ true
-last_one i = grind (arith, nat_tests)
-
-not_last : (i n : ℕ) → 2 ≤ n → (i + n - 1 == i) ≡ false
-not_last i n l = grind (arith, nat_tests)
-
-whole_if_kept : (i : ℕ) (m : Measure) (b : Bool) → b ≡ true → is_whole i m b ≡ true
-whole_if_kept i m true e = refl
-whole_if_kept i m false e = absurd cc
-
-whole_if_leaf : (i : ℕ) (m : Measure) (b : Bool) → is_leaf_at i m.first_leaf ≡ true → is_whole i m b ≡ true
-whole_if_leaf i m true e = refl
-whole_if_leaf i m false e = ap (λ b. if b then true else m.last == i) e
-
-whole_if_last : (i : ℕ) (m : Measure) (b : Bool) → (m.last == i) ≡ true → is_whole i m b ≡ true
-whole_if_last i m true e = refl
-whole_if_last i m false e = by (is_leaf_at i m.first_leaf) where
-  by : (b : Bool) → (if b then true else m.last == i) ≡ true
-  by true = refl
-  by false = e
-
-open_if : (i : ℕ) (m : Measure) (b : Bool) → b ≡ false → is_leaf_at i m.first_leaf ≡ false → (m.last == i) ≡ false → is_whole i m b ≡ false
-open_if i m true e f g = absurd cc
-open_if i m false e f g = ap (λ b. if b then true else m.last == i) f ∙ g
 
 -- the form of a node at its site
 abbrev form_there : Known → Site → Node → Form

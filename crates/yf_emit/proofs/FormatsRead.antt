@@ -46,7 +46,7 @@ use Rattle.yf_emit.proofs.HeldLemmas.{EventsHeld}
 use Rattle.yf_emit.proofs.SetStreams.{SetAll}
 use Rattle.yf_emit.proofs.PlacedRows.{PlacedRow}
 use Rattle.yf_emit.proofs.StreamParts.{DocumentsLaid}
-use Rattle.yf_emit.proofs.StreamsMade.{StreamLaid}
+use Rattle.yf_emit.proofs.StreamsLaid.{StreamLaid}
 use Rattle.yf_emit.proofs.TreesRead.{document_read, reading_fits, same_node}
 
 -- Heights: styles and brackets change none.

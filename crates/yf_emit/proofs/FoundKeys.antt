@@ -96,10 +96,6 @@ implicit_line s column (mapping at flow props no_pairs) e = refl
 implicit_line s column (mapping at true props (pair k v ps)) e = refl
 implicit_line s column (mapping at false props (pair k v ps)) e = absurd (true≢false (sym e))
 
--- a test that does not look at the column
-unplaced_test : (a b : Bool) → (a && b) ≡ false → (a && b) ≡ true → ⊥
-unplaced_test a b e f = true≢false (sym f ∙ e)
-
 wider_test : (m column indent w most : ℕ) → nat_le (column + w) most ≡ true → nat_le (m + w) most ≡ false → nat_le (m + indent + w) most ≡ false
 wider_test m column indent w most e f = grind (arith, nat_tests)
 

@@ -17,7 +17,6 @@ use Rattle.yf_emit.specs.declared.form.measure.Measure.{Measure}
 use Rattle.yf_emit.specs.Measures.{Measured, TellsKept, measure_of, no_measure}
 use Rattle.yf_emit.proofs.OneLineRuns.{flat_filled}
 use Rattle.yf_emit.specs.Normal.{Setting, styled, styled_items, styled_pairs}
-use Rattle.yf_emit.specs.OneLine.{bare}
 use Rattle.yf_events.specs.Tree.{Standing, Node, scalar, alias, sequence, mapping, Items, no_items, item, Pairs, no_pairs, pair, flat, is_collection, is_filled_flow}
 use Rattle.yf_emit.specs.Wanted.{lines_in, quoted_in, style_in, wanted}
 use Rattle.yf_emit.proofs.WantedLemmas.{lines_stay}
@@ -190,16 +189,3 @@ mutual
       let r = and_parts (may_be_kept t c.comments x && may_be_kept t c.comments y) (pairs_may_be_kept t c.comments ps) k in
       let p = and_parts (may_be_kept t c.comments x) (may_be_kept t c.comments y) r.0 in
       same_pair _ _ _ _ _ _ (styled_again t c x p.0) (styled_again t c y p.1) (pairs_again t c ps r.1)
-
-styled_collection : (t : List ℕ) (c : Setting) (x : Node) → is_collection (styled t c x) ≡ is_collection x
-styled_collection t c (scalar at props style text lines) = refl
-styled_collection t c (alias at name) = refl
-styled_collection t c (sequence at flow props xs) = refl
-styled_collection t c (mapping at flow props ps) = refl
-
--- so in a normal form the collection's own text is added
-pub adds_styled : (t : List ℕ) (c : Setting) (x : Node) (es : List Placed) (s : Style) (first last : ℕ) (old new : List ℕ) → AddsKept es s first last old new
-    → c.style ≡ s → NodeAt es first (styled t c x) → last + 1 ≡ first + length (flat (styled t c x)) → is_collection x ≡ true
-    → may_be_kept t c.comments x ≡ true → new ≡ old ++ bare (styled t c x)
-adds_styled t c x es s first last old new a e n l b k =
-    a.adds t c (styled t c x) e n l (styled_collection t c x ∙ b) (node_kept t c x k) ∙ ap (λ w. old ++ bare w) (styled_again t c x k)

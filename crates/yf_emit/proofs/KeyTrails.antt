@@ -1,10 +1,8 @@
 -- The comments that the forms of a normal form give its keys are those that trail keys in its layout.
-use Rattle.std.proofs.Common.{◌≡◌, ℕ, zero, suc, ◌+◌, ◌-◌, ◌<◌, Bool, true, false, not, ◌&&◌, List, [], ◌∷◌, ◌++◌, codes, length, flat_map, get_or, set, replicate, Option, Some, None, refl, sym, ap, ◌∙◌, arith, append_assoc, append-nil, true≢false}
+use Rattle.std.proofs.Common.{◌≡◌, ℕ, zero, suc, ◌+◌, ◌-◌, ◌<◌, Bool, true, false, ◌&&◌, List, [], ◌∷◌, ◌++◌, codes, length, flat_map, replicate, Option, Some, None, refl, sym, ap, ◌∙◌, append_assoc, append-nil, true≢false}
 use Rattle.std.specs.Prelude.{◌||◌, find, option_map, option_to_list, slice_get, nat_lt, if◌then◌else◌}
-use Rattle.std.proofs.lemmas.Bool.{and_parts}
 use Rattle.std.proofs.lemmas.Grind.{flat_map-append}
 use Rattle.yf_comments.specs.Comment.{CommentValue}
-use Rattle.yf_props.specs.Props.{PropsValue}
 use Rattle.yf_events.specs.Tree.{Node, scalar, alias, sequence, mapping, Items, no_items, item, Pairs, no_pairs, pair, flat_items, flat_pairs, is_filled_flow, is_text, leaves}
 use Rattle.yf_events.specs.declared.event.ScalarStyle.TheVariants.{Plain, Single, Double, Literal, Folded}
 use Rattle.yf_events.specs.declared.event.Span.{Span}
@@ -12,7 +10,7 @@ use Rattle.yf_emit.specs.declared.form.decide.Form.{Form}
 use Rattle.yf_emit.specs.Forms.{Site, first_index, form_of, forms, forms_of_items, forms_of_pairs, forms_within, index_between, is_kept_at, key_comment_index, key_site, no_form, site_at, value_comment, value_site}
 use Rattle.yf_emit.specs.Measuring.{setting}
 use Rattle.yf_emit.specs.Normal as Normal
-use Rattle.yf_emit.specs.Normal.{Setting, Spot, first_between, fits, inner_spot, is_implicit, key_comment, key_spot, settled, settled_items, settled_pairs, styled_items, styled_pairs, value_spot}
+use Rattle.yf_emit.specs.Normal.{Setting, first_between, fits, inner_spot, is_implicit, key_comment, key_spot, settled, settled_items, settled_pairs, styled_items, styled_pairs, value_spot}
 use Rattle.yf_emit.specs.OneLine.{props_text, written}
 use Rattle.yf_emit.specs.Rows.{Row, begins_below, behind_key, behind_sign, colon_row, entry_row, explicit_pair, implicit_pair, joined, key_row, one_line_row, pair_rows, props_row, rows, rows_of_items, rows_of_pairs}
 use Rattle.yf_emit.proofs.LeafPrinted.{same_flag, same_flag_of_map}
@@ -86,9 +84,6 @@ given_one c f = at_append c.comments (option_to_list f.key_comment) [] ∙ appen
 
 given_kept : (c : Setting) (b : Bool) (n : ℕ) (gs : List Form) → b ≡ true → given c (forms_within b n gs) ≡ []
 given_kept c b n gs e = ap (λ w. given c (forms_within w n gs)) e ∙ ap (at_indices c.comments) (none_within n)
-
-given_block : (c : Setting) (b : Bool) (n : ℕ) (gs : List Form) → b ≡ false → given c (forms_within b n gs) ≡ given c gs
-given_block c b n gs e = ap (λ w. given c (forms_within w n gs)) e
 
 keys_line : (column : ℕ) (x : Node) (w : List ℕ) → keys_on (one_line_row column x w) ≡ []
 keys_line column x [] = refl

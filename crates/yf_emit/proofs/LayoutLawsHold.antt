@@ -14,7 +14,7 @@ use Rattle.yf_emit.proofs.CalmRows.{layout_calm}
 use Rattle.yf_emit.proofs.DecoratedLemmas.{layout_then}
 use Rattle.yf_emit.proofs.GapsFit.{all_fit}
 use Rattle.yf_emit.proofs.RowsUtf8.{layout_utf8}
-use Rattle.yf_emit.proofs.StreamsMade.{StreamLaid, layout_derived}
+use Rattle.yf_emit.proofs.StreamsLaid.{StreamLaid, layout_derived}
 
 pub layouts_are_texts : LayoutsAreTexts
 layouts_are_texts m s trees fit remarks trails =

@@ -23,6 +23,7 @@ pub mod RunLemmas
 pub mod SiteLemmas
 pub mod ValueLemmas
 pub mod PlaceLemmas
+pub mod WholeLemmas
 pub mod FormLemmas
 pub mod StreamLemmas
 pub mod SettledLemmas
@@ -34,6 +35,7 @@ pub mod KeptLemmas
 -- `normal`: the normal form of a reading, which is settled, and the only one
 pub mod RestyledLemmas
 pub mod NormalLemmas
+pub mod NormalSteps
 pub mod NormalInPlace
 pub mod StyledTwice
 pub mod SettledTwice
@@ -111,6 +113,7 @@ pub mod DocumentsMade
 pub mod StreamParts
 pub mod DocumentsHeld
 pub mod StreamsMade
+pub mod StreamsLaid
 pub mod LayoutLawsHold
 -- trees that are alike up to places are laid out alike (a second run changes nothing)
 pub mod AlikeLemmas

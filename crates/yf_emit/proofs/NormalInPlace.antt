@@ -18,7 +18,8 @@ use Rattle.yf_emit.specs.Measures.{no_measure}
 use Rattle.yf_emit.specs.NormalEvents.{is_flow_at, kept_until, normal_from}
 use Rattle.yf_emit.specs.Restyled.{IsRestyled, Restyled, lines_of, restyled, restyled_event}
 use Rattle.yf_emit.specs.Wanted.{lines_in, wanted, wanted_of_event}
-use Rattle.yf_emit.proofs.NormalLemmas.{pass_restyles, pass_step}
+use Rattle.yf_emit.proofs.NormalLemmas.{pass_restyles}
+use Rattle.yf_emit.proofs.NormalSteps.{pass_step}
 use Rattle.yf_emit.proofs.RestyledLemmas.{restyled_whole}
 
 lines_same : (style : ScalarStyle) (props : PropsValue) (text : List ℕ) (lines : List (List ℕ))

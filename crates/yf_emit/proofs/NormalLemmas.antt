@@ -1,11 +1,11 @@
 -- The pass that writes the events of the normal form: of a node that begins outside of collections on one line it gives the events
 -- of the node with its forms settled, and within one those of the node with its styles.
-use Rattle.std.proofs.Common.{◌≡◌, ℕ, zero, suc, ◌+◌, ◌-◌, ◌<◌, ◌≤◌, Bool, true, false, not, ◌&&◌, ◌||◌, List, [], ◌∷◌, ◌++◌, length, map, replicate, get_or, Some, refl, sym, ap, ◌∙◌, subst, arith, append_assoc, add-one}
+use Rattle.std.proofs.Common.{◌≡◌, ℕ, zero, suc, ◌+◌, ◌-◌, ◌<◌, ◌≤◌, Bool, true, false, not, ◌&&◌, ◌||◌, List, [], ◌∷◌, ◌++◌, length, map, replicate, get_or, Some, refl, sym, ap, ◌∙◌, subst, arith, append_assoc}
 use Rattle.std.specs.Prelude.{nat_lt, if◌then◌else◌, slice_get, drop}
 use Rattle.std.specs.List.{flat_map}
 use Rattle.std.proofs.lemmas.Bool.{and_parts}
 use Rattle.std.proofs.lemmas.Bool.Decides.{nat_tests}
-use Rattle.std.proofs.lemmas.List.{append-nil, drop-drop, get_or-drop, length-append, replicate-append-replicate}
+use Rattle.std.proofs.lemmas.List.{append-nil, length-append, replicate-append-replicate}
 use Rattle.yf_comments.specs.Comment.{CommentValue}
 use Rattle.yf_props.specs.Props.{PropsValue}
 use Rattle.yf_lines.specs.declared.quotes.Quotes.{Quotes}
@@ -388,38 +388,3 @@ normal_reading t r m s ms fs ds o d f e k = record {
       ∙ ap (λ es. normal_from s.quotes ms 0 0 (stream_forms t (setting_of r s) (setting_of r s) ds) es) o.events
       ∙ normal_stream t (setting_of r s) ms ds (subst (λ es. Measured t (setting_of r s) es ms) o.events d));
 }
-
--- The pass as a loop.
-
-cut_at : (es : List Placed) (i : ℕ) (e : Placed) → slice_get es i ≡ Some e → drop i es ≡ e ∷ drop (suc i) es
-cut_at [] i e h = cc
-cut_at (x ∷ es) zero e h = ap (λ w. w ∷ es) (let same : x ≡ e = cc in same)
-cut_at (x ∷ es) (suc i) e h = cut_at es i e h
-
-one_step : (q : Quotes) (ms : List Measure) (fs : List Form) (es : List Placed) (i u : ℕ) (e : Placed) → slice_get es i ≡ Some e
-    → normal_from q ms i u (drop i fs) (drop i es)
-    ≡ restyled q (is_flow_at i (kept_until u (get_or ms i no_measure) (get_or fs i no_form)) (get_or ms i no_measure)) e
-    ∷ normal_from q ms (i + 1) (kept_until u (get_or ms i no_measure) (get_or fs i no_form)) (drop (i + 1) fs) (drop (i + 1) es)
-one_step q ms fs es i u e a =
-    ap (λ ys. normal_from q ms i u (drop i fs) ys) (cut_at es i e a ∙ ap (λ n. e ∷ drop n es) (sym (add-one i)))
-    ∙ ap (λ g. by g (drop 1 (drop i fs))) same_form ∙ ap (λ gs. by (get_or fs i no_form) gs) (drop-drop 1 i fs) where
-      by : Form → List Form → List Placed
-      by g gs = restyled q (is_flow_at i (kept_until u (get_or ms i no_measure) g) (get_or ms i no_measure)) e
-          ∷ normal_from q ms (i + 1) (kept_until u (get_or ms i no_measure) g) gs (drop (i + 1) es)
-
-      here : i + 0 ≡ i
-      here = omega arith
-
-      same_form : get_or (drop i fs) 0 no_form ≡ get_or fs i no_form
-      same_form = get_or-drop i fs 0 no_form ∙ ap (λ n. get_or fs n no_form) here
-
-pub pass_step : (q : Quotes) (ms : List Measure) (fs : List Form) (es : List Placed) (i u v : ℕ) (x : Placed) (m : Measure) (g : Form)
-    (b : Bool) (done : List Placed) (p : Placed) → slice_get es i ≡ Some x → m ≡ get_or ms i no_measure → g ≡ get_or fs i no_form
-    → v ≡ kept_until u m g → b ≡ is_flow_at i v m → p ≡ restyled q b x
-    → (done ++ (p ∷ [])) ++ normal_from q ms (i + 1) v (drop (i + 1) fs) (drop (i + 1) es) ≡ done ++ normal_from q ms i u (drop i fs) (drop i es)
-pass_step q ms fs es i u v x m g b done p a k n w c e =
-    append_assoc done (p ∷ []) _ ∙ ap (λ r. done ++ r) (sym (one_step q ms fs es i u x a ∙ now)) where
-      now : restyled q (is_flow_at i (kept_until u (get_or ms i no_measure) (get_or fs i no_form)) (get_or ms i no_measure)) x
-          ∷ normal_from q ms (i + 1) (kept_until u (get_or ms i no_measure) (get_or fs i no_form)) (drop (i + 1) fs) (drop (i + 1) es)
-          ≡ p ∷ normal_from q ms (i + 1) v (drop (i + 1) fs) (drop (i + 1) es)
-      now = rw (e, c, w, k, n) refl

@@ -1,14 +1,10 @@
 -- Scalars that the house style leaves plain are leaves on one line that read back, whatever their text.
 use Rattle.std.proofs.Common.{◌≡◌, ◌≢◌, ℕ, ℤ, true, false, true≢false, List, [], ◌∷◌, length, refl, sym, ap, ◌∙◌, arith, encode_utf8_all}
 use Rattle.std.specs.Prelude.{is_some}
-use Rattle.std.specs.Str.{IsUtf8}
 use Rattle.std.proofs.lemmas.Str.{length-le-encodes}
 use Rattle.yf_chars.specs.declared.context.Ctx.{Ctx}
 use Rattle.yf_lines.specs.Basic.{is_block}
-use Rattle.yf_lines.specs.Steady.{is_steady}
-use Rattle.yf_plain.specs.Kept.{IsPlain, StaysPlain, is_plain_line}
-use Rattle.yf_plain.specs.Plain.{PlainText}
-use Rattle.yf_plain.proofs.KeptLemmas.{plain_kept}
+use Rattle.yf_plain.specs.Kept.{IsPlain, is_plain_line}
 use Rattle.yf_props.specs.Props.{PropsValue}
 use Rattle.yf_events.specs.declared.event.ScalarStyle.TheVariants.{Plain}
 use Rattle.yf_events.specs.Tree.{Standing, scalar}
@@ -31,8 +27,3 @@ pub plain_fits : {c : Ctx} {at : Standing} {p : PropsValue} {text : List ℕ} �
 plain_fits {text = []} k e f plain = absurd (plain_some plain refl)
 plain_fits {c} {text = b ∷ w} k e no_fit_props plain = plain_inline b w e (plain_node_back c k plain) (plain_unmarked k plain)
 plain_fits {c} {text = b ∷ w} k e (some_fit_props props some) plain = plain_with_inline b w e props some (plain_props_back c k props some plain)
-
--- as it was read in some context, where its text is steady
-pub read_plain_fits : {t : List ℕ} {n : ℤ} {d c : Ctx} {i j : ℕ} {x : List ℕ} {at : Standing} {p : PropsValue} → IsUtf8 t → PlainText t n d i j x → StaysPlain d c
-    → is_steady (encode_utf8_all x) ≡ true → is_some at.span ≡ true → FitProps p → InlineNode c (scalar at p Plain (encode_utf8_all x) [])
-read_plain_fits {c = c} u text k s e f = plain_fits k.flow e f (plain_kept c u text k s)

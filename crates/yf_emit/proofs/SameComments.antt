@@ -1,5 +1,5 @@
 -- Formatting keeps the comments of a text at the same places.
-use Rattle.std.proofs.Common.{◌≡◌, ℕ, Bool, true, false, List, [], ◌∷◌, map, refl, sym, ap, ◌∙◌, arith}
+use Rattle.std.proofs.Common.{◌≡◌, ℕ, true, List, [], ◌∷◌, map, refl, sym, ap, ◌∙◌, arith}
 use Rattle.std.specs.Prelude.{if◌then◌else◌, zip}
 use Rattle.std.specs.Str.{IsUtf8}
 use Rattle.yf_comments.specs.Comment.{CommentValue}
@@ -60,12 +60,6 @@ documents_told t u s q utf8 f a =
     ∙ documents_of_source t s f.reading f.is_normal.trees utf8 f.reads f.is_normal.of_reading))
 
 -- Texts without the white space that ends them.
-
-either_way : (a b : Bool) {x y : List ℕ} → a ≡ b → (b ≡ false → x ≡ y) → (if a then [] else x) ≡ (if b then [] else y)
-either_way true true e f = refl
-either_way false false e f = f refl
-either_way true false e f = absurd cc
-either_way false true e f = absurd cc
 
 -- Both tellings together.
 

@@ -18,7 +18,7 @@ use Rattle.yf_emit.specs.LayoutLaws.{StreamMade}
 use Rattle.yf_emit.proofs.Examples.{house, at, entry, key, nothing, block_items, block_pairs, flow_items, one_document, root}
 use Rattle.yf_emit.proofs.FlowFits.{flow_inline}
 use Rattle.yf_emit.proofs.LeafFits.{single_inline}
-use Rattle.yf_emit.proofs.StreamsMade.{layout_derived}
+use Rattle.yf_emit.proofs.StreamsLaid.{layout_derived}
 
 -- 'a' with three items: a text, nothing, and a collection on one line
 

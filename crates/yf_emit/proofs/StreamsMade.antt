@@ -1,43 +1,35 @@
--- A stream of documents from its rows.
-use Rattle.std.proofs.Common.{◌≡◌, ℕ, ◌+◌, max, ◌<◌, ◌≤◌, true, false, List, [], ◌∷◌, ◌++◌, length, map, inl, codes, refl, sym, ap, ◌∙◌, subst, arith, append_assoc}
+-- The documents of a stream from their rows.
+use Rattle.std.proofs.Common.{◌≡◌, ℕ, ◌+◌, max, ◌<◌, ◌≤◌, true, false, List, [], ◌∷◌, ◌++◌, length, map, codes, refl, sym, ap, ◌∙◌, subst, arith, append_assoc}
 use Rattle.std.specs.Prelude.{is_some}
 use Rattle.std.specs.Str.{IsUtf8}
-use Rattle.yf_chars.specs.Chain.{Chain}
 use Rattle.yf_chars.specs.Chain.Chain.{done}
-use Rattle.yf_lines.specs.Basic.{LineStart}
-use Rattle.yf_lines.specs.Basic.LineStart.{at_text}
-use Rattle.yf_lines.proofs.RestLemmas.{Rest, rest_start}
+use Rattle.yf_lines.proofs.RestLemmas.{Rest}
 use Rattle.yf_comments.specs.Comment.{CommentValue}
-use Rattle.yf_comments.specs.Comments.{CommentLine}
-use Rattle.yf_comments.specs.GapLines.{AreGapLines, remarks_of}
-use Rattle.yf_comments.proofs.GapLinesLemmas.{texts, texts_append, gap_at}
-use Rattle.yf_comments.proofs.LineEndLemmas.{lines_rows}
+use Rattle.yf_comments.proofs.GapLinesLemmas.{texts, texts_append}
 use Rattle.yf_events.specs.declared.directive.Directive.{Directive}
 use Rattle.yf_events.specs.declared.document.Doc.{Doc}
 use Rattle.yf_events.specs.Tree.{DocumentTree}
 use Rattle.yf_grammar.specs.Meant.{tall}
-use Rattle.yf_grammar.proofs.CommentOrder.{Ascend, end_ascends, rows_ascend}
-use Rattle.yf_stream.specs.Stream.{Document, document_of, Documents, only_comments, with_document, with_comments, AnyDocument, StreamRest}
+use Rattle.yf_grammar.proofs.CommentOrder.{end_ascends}
+use Rattle.yf_stream.specs.Stream.{Document, document_of, Documents, only_comments, with_document, AnyDocument, StreamRest}
 use Rattle.yf_stream.specs.Stream.AnyDocument.{explicit_document, directive_document}
-use Rattle.yf_stream.specs.Stream.Stream.{begins_with_document, without_document}
 use Rattle.yf_stream.specs.Stream.StreamRest.{stream_ended, past_suffixes_and_document, past_explicit}
 use Rattle.yf_stream.specs.Stream.Suffixes.{last_suffix}
 use Rattle.yf_stream.proofs.ReadingOrder.{directives_ascend}
 use Rattle.yf_emit.specs.Beginnings.{documents_begin, steps_with}
 use Rattle.yf_emit.specs.Carried.{AreDecos, carried_texts, comments_in, Calm}
-use Rattle.yf_emit.specs.Decorated.{GapLine, gap_then, Deco, first, after, past, end_then, lines_then}
+use Rattle.yf_emit.specs.Decorated.{Deco, first, after, past, end_then, lines_then}
 use Rattle.yf_emit.specs.FitDocuments.{FitDirective, FitDirectives, fit_directive, FitDocuments, fit_no_documents, fit_document, DocumentMeant, DocumentsMeant, no_documents_meant, tall_documents}
 use Rattle.yf_emit.specs.Fits.{Fit}
-use Rattle.yf_emit.specs.LayoutLaws.{StreamMade}
 use Rattle.yf_emit.specs.Normal.{Setting, root_spot}
 use Rattle.yf_emit.specs.Rows.{Row, plain_row, directive_row, start_row, joined_words, rows, document_rows, stream_rows}
-use Rattle.yf_emit.specs.Steps.{comment_steps, steps_in}
+use Rattle.yf_emit.specs.Steps.{steps_in}
 use Rattle.yf_emit.proofs.DecoratedLemmas.{lines_append}
-use Rattle.yf_emit.proofs.DocumentsBegun.{comments_begun, document_begun, documents_begun, explicit_begun, starts_in}
-use Rattle.yf_emit.proofs.DocumentsHeld.{all_events, comments_set, documents_held, held_events}
+use Rattle.yf_emit.proofs.DocumentsBegun.{document_begun, documents_begun, explicit_begun, starts_in}
+use Rattle.yf_emit.proofs.DocumentsHeld.{all_events, documents_held, held_events}
 use Rattle.yf_emit.proofs.DocumentsMade.{ExplicitMade, explicit_made, directives_made, three_at, three_behind}
 use Rattle.yf_emit.proofs.FoundNodes.{meant_of}
-use Rattle.yf_emit.proofs.FoundStreams.{FoundDocument, FoundDocuments, no_documents_found, found_document, StreamIn, no_stream, document_begins, stream_more, comments_with_document, comments_with_comments, documents_with_comments, found_with}
+use Rattle.yf_emit.proofs.FoundStreams.{FoundDocument, FoundDocuments, no_documents_found, found_document, StreamIn, no_stream, document_begins, stream_more, comments_with_document, found_with}
 use Rattle.yf_emit.proofs.HeadRows.{HeadRows, mark_head, more_heads, heads_join, later_heads}
 use Rattle.yf_emit.proofs.HeldLemmas.{BodiesHeld, EventsHeld, bare_row, bodies_append, row_ended}
 use Rattle.yf_emit.proofs.LaidRows.{steps_append}
@@ -49,8 +41,8 @@ use Rattle.yf_emit.proofs.SetMeant.{SetDone}
 use Rattle.yf_emit.proofs.SetStreams.{SetAll, none_set, document_set, documents_set}
 use Rattle.yf_emit.proofs.StepsStand.{Stand, nothing_stands, stand_after, stand_join, comments_stand, EventsLaid, events_behind}
 use Rattle.yf_emit.proofs.TreesMade.{node_claim}
-use Rattle.yf_emit.proofs.StreamParts.{beside_tree, ended_at, head_rows, meant_document, prefixes_of, texts_with_document, documents_with, texts_with_comments, same_documents, laid_document, DocumentsLaid, no_documents_laid, laid_with_comments, documents_laid}
-use Rattle.yf_emit.proofs.WellSet.{lines_set, set_append}
+use Rattle.yf_emit.proofs.StreamParts.{beside_tree, ended_at, head_rows, meant_document, texts_with_document, documents_with, laid_document, DocumentsLaid, no_documents_laid, documents_laid}
+use Rattle.yf_emit.proofs.WellSet.{set_append}
 
 -- Rows of directives, and of the node after them.
 
@@ -124,7 +116,7 @@ directed {t} c {d} x {e} {es} row ds r q none bare said key plain same f fs fit 
 
 -- The first document of a stream.
 
-first_with : {t : List ℕ} (c : Setting) {d : Doc} (x : DocumentTree) (start : ℕ) (dirs : List Directive) (ds : List Deco) (r : List ℕ) (q : ℕ) → d.directives ≡ dirs → FitDirectives dirs → Fit x.root → IsUtf8 t → AreDecos ds
+pub first_with : {t : List ℕ} (c : Setting) {d : Doc} (x : DocumentTree) (start : ℕ) (dirs : List Directive) (ds : List Deco) (r : List ℕ) (q : ℕ) → d.directives ≡ dirs → FitDirectives dirs → Fit x.root → IsUtf8 t → AreDecos ds
     → Calm (head_rows true start dirs ++ root_rows c x) ds r → Rest t q (lines_then (head_rows true start dirs ++ root_rows c x) ds r) → AnyMade t c d x (head_rows true start dirs ++ root_rows c x) ds q r
 first_with {t} c {d} x start [] ds r q same f fit u a k w =
     let node = explicit_at c x (record start_row { items = start ∷ [] }) ds r q refl refl refl refl refl fit u a k.1 w in
@@ -262,7 +254,7 @@ pub record RestMade (t : List ℕ) (s : Setting) (ds : List Doc) (xs : List Docu
   pub held : EventsHeld t (all_events documents.documents) documents.comments rs decos []
   pub set : SetAll t s.style documents.documents
 
-rest_made : {t : List ℕ} (c : Setting) {ds : List Doc} {xs : List DocumentTree} → FitDocuments ds xs → (decos : List Deco) (q : ℕ) → IsUtf8 t → AreDecos decos → Calm (stream_rows c false ds xs) decos []
+pub rest_made : {t : List ℕ} (c : Setting) {ds : List Doc} {xs : List DocumentTree} → FitDocuments ds xs → (decos : List Deco) (q : ℕ) → IsUtf8 t → AreDecos decos → Calm (stream_rows c false ds xs) decos []
     → Rest t q (lines_then (stream_rows c false ds xs) decos []) → RestMade t c ds xs (stream_rows c false ds xs) decos q
 rest_made {t} c fit_no_documents decos q u a k w = record {
   height = 0;
@@ -306,111 +298,3 @@ rest_made {t} c (fit_document {d = d} {ds = ds} {x = x} {xs = xs} f fit more) de
       set = documents_set one.comments one.document last.documents one.set last.set;
       held = documents_held one.comments one.document last.documents head others decos one.held last.held;
     }
-
--- Whole streams.
-
--- what is derived of the whole text, and its leaves and comments in the order of steps
-pub record StreamLaid (t : List ℕ) (s : Setting) (ds : List Doc) (xs : List DocumentTree) (gap : List GapLine) (rs : List Row) (decos : List Deco) : Type 0 where
-  pub made : StreamMade t ds xs (remarks_of gap ++ comments_in rs decos)
-  pub laid : DocumentsLaid 0 (length t) made.documents (comment_steps (remarks_of gap) ++ steps_in rs decos)
-  pub line : ℕ
-  pub starts : LineStart t line
-  pub firsts : List CommentValue
-  pub others : List CommentValue
-  pub begin : Rest t line (lines_then rs decos [])
-  pub told : texts firsts ≡ remarks_of gap
-  pub lines : Chain (CommentLine t) 0 line firsts
-  pub ascend : Ascend t 0 firsts line
-  pub are : made.documents.comments ≡ firsts ++ others
-  pub found_rows : List PlacedRow
-  pub found : FoundDocuments t s true xs made.documents.documents found_rows
-  pub placed : StreamIn t rs found_rows decos line others
-  pub begun : Stand 0 (starts_in made.documents) made.documents.comments (comment_steps (remarks_of gap) ++ steps_with documents_begin rs decos) (length t)
-  pub held : EventsHeld t (all_events made.documents.documents) made.documents.comments rs decos []
-  pub set : SetAll t s.style made.documents.documents
-
-stream_made : {t : List ℕ} (c : Setting) {ds : List Doc} {xs : List DocumentTree} (gap : List GapLine) (decos : List Deco) → FitDocuments ds xs → IsUtf8 t → AreGapLines gap → AreDecos decos
-    → Calm (stream_rows c true ds xs) decos [] → Rest t 0 (gap_then gap (lines_then (stream_rows c true ds xs) decos []))
-    → StreamLaid t c ds xs gap (stream_rows c true ds xs) decos
-stream_made {t} c gap decos fit_no_documents u g a k w =
-    let at = gap_at gap [] u g at_text w in
-    let rest : StreamRest t 0 at.place (only_comments []) = subst (λ p. StreamRest t 0 p (only_comments [])) (sym (ended_at at.rest)) stream_ended in
-    let end : at.place ≡ length t = ended_at at.rest in
-    record {
-      made = record {
-        height = 0;
-        documents = with_comments at.comments (only_comments []);
-        derived = without_document (prefixes_of at.lines) rest;
-        low = omega arith;
-        meant = subst (λ z. DocumentsMeant [] [] z) (same_documents at.comments (only_comments [])) no_documents_meant;
-        is = texts_with_comments at.comments (only_comments []) ∙ ap (λ z. z ++ []) at.is;
-      };
-      laid = laid_with_comments at.comments (comments_stand (rows_ascend (lines_rows at.lines)) at.is) (no_documents_laid (omega (arith, end)));
-      line = at.place;
-      starts = at.start;
-      firsts = at.comments;
-      others = [];
-      begin = at.rest;
-      told = at.is;
-      lines = at.lines;
-      ascend = rows_ascend (lines_rows at.lines);
-      are = comments_with_comments at.comments;
-      found_rows = [];
-      found = subst (λ z. FoundDocuments t c true [] z []) (sym (documents_with_comments at.comments)) no_documents_found;
-      placed = no_stream;
-      begun = comments_begun at.comments (only_comments []) (comments_stand (rows_ascend (lines_rows at.lines)) at.is) (nothing_stands (omega (arith, end)));
-      set = subst (λ z. SetAll t c.style z) (sym (documents_with_comments at.comments)) none_set;
-      held = record { comments = comments_set t at.comments (lines_set (inl at_text) at.lines); bodies = tt };
-    }
-stream_made {t} c gap decos (fit_document {d = d} {ds = ds} {x = x} {xs = xs} f fit more) u g a k w =
-    let head : List Row = document_rows c true d x in
-    let others : List Row = stream_rows c false ds xs in
-    let at = gap_at gap (lines_then (head ++ others) decos []) u g at_text w in
-    let ks = calm_append head others decos [] k in
-    let one = first_with c {d = d} x d.start d.directives decos (lines_then others (past head decos) []) at.place refl f fit u a ks.0
-    (subst (λ z. Rest t at.place z) (lines_append head others decos []) at.rest) in
-    let last = rest_made c more (past head decos) one.place u (past_decos head a) ks.1 one.rest in
-    let low : one.height ≤ tall x.root = one.low in
-    let high : last.height ≤ tall_documents xs = last.low in
-    record {
-      made = record {
-        height = max one.height last.height;
-        documents = with_document (at.comments ++ one.comments) one.document last.documents;
-        derived = begins_with_document (prefixes_of at.lines) one.derived last.derived;
-        low = omega (arith, low, high);
-        meant = documents_with last.documents (at.comments ++ one.comments) one.meant last.meant;
-        is = texts_with_document (at.comments ++ one.comments) one.document last.documents
-            ∙ (joined_texts at.comments one.comments last.documents.comments at.is one.is last.is ∙ ap (λ z. remarks_of gap ++ z) (sym (comments_append head others decos)));
-      };
-      laid = subst (λ z. DocumentsLaid 0 (length t) (with_document (at.comments ++ one.comments) one.document last.documents) z)
-          (append_assoc (comment_steps (remarks_of gap)) (steps_in head decos) (steps_in others (past head decos)) ∙ ap (λ z. comment_steps (remarks_of gap) ++ z) (sym (steps_append head others decos)))
-          (documents_laid one.document (events_behind (comments_stand (rows_ascend (lines_rows at.lines)) at.is) one.laid) last.laid);
-      line = at.place;
-      starts = at.start;
-      firsts = at.comments;
-      others = one.comments ++ last.documents.comments;
-      begin = at.rest;
-      told = at.is;
-      lines = at.lines;
-      ascend = rows_ascend (lines_rows at.lines);
-      are = comments_with_document (at.comments ++ one.comments) one.document last.documents ∙ append_assoc at.comments one.comments last.documents.comments;
-      found_rows = one.found_rows ++ last.found_rows;
-      found = found_with (at.comments ++ one.comments) last.documents one.found last.found;
-      placed = stream_more (document_begins true d.start d.directives (root_rows c x)) one.placed (λ e. ended_at (subst (λ z. Rest t one.place (lines_then z (past head decos) [])) e one.rest)) last.placed;
-      begun = subst (λ z. Stand 0 (starts_in (with_document (at.comments ++ one.comments) one.document last.documents)) (with_document (at.comments ++ one.comments) one.document last.documents).comments z (length t))
-          (append_assoc (comment_steps (remarks_of gap)) (steps_with documents_begin head decos) (steps_with documents_begin others (past head decos))
-          ∙ ap (λ z. comment_steps (remarks_of gap) ++ z) (sym (with_append documents_begin head others decos)))
-          (documents_begun (at.comments ++ one.comments) one.document last.documents (stand_join (comments_stand (rows_ascend (lines_rows at.lines)) at.is) one.begun) last.begun);
-      set = documents_set (at.comments ++ one.comments) one.document last.documents one.set last.set;
-      held = documents_held (at.comments ++ one.comments) one.document last.documents head others decos
-          (record { comments = set_append t at.comments one.comments (lines_set (inl at_text) at.lines) one.held.comments; bodies = one.held.bodies }) last.held;
-    }
-  where
-    joined_texts : (us vs ws : List CommentValue) {xs ys zs : List (List ℕ)} → texts us ≡ xs → texts vs ≡ ys → texts ws ≡ zs → texts (us ++ vs) ++ texts ws ≡ xs ++ (ys ++ zs)
-    joined_texts us vs ws e f g = ap (λ z. z ++ texts ws) (texts_append us vs) ∙ (append_assoc (texts us) (texts vs) (texts ws) ∙ λ n. e n ++ (f n ++ g n))
-
--- what is laid out is derived again, with its leaves and comments in the order in which they were laid out
-pub layout_derived : {t : List ℕ} (c : Setting) {ds : List Doc} {xs : List DocumentTree} (gap : List GapLine) (decos : List Deco) → FitDocuments ds xs → IsUtf8 t → AreGapLines gap → AreDecos decos
-    → Calm (stream_rows c true ds xs) decos [] → t ≡ gap_then gap (lines_then (stream_rows c true ds xs) decos [])
-    → StreamLaid t c ds xs gap (stream_rows c true ds xs) decos
-layout_derived {t} c gap decos fit u g a k e = stream_made c gap decos fit u g a k (subst (λ z. Rest t 0 z) e (rest_start t u))

@@ -22,9 +22,6 @@ cut_both_at g a b = omega arith
 cut_first_at : (g a b : ℕ) → min (min a g + b) g ≡ min (a + b) g
 cut_first_at g a b = omega arith
 
-cut_again_at : (g a : ℕ) → min (min a g) g ≡ min a g
-cut_again_at g a = omega arith
-
 cut_at_most : (g a : ℕ) → a ≤ g → min a g ≡ a
 cut_at_most g a l = omega arith
 
@@ -33,9 +30,6 @@ cut_both a b = cut_both_at _ a b
 
 pub cut_first : (a b : ℕ) → up_to_greatest (up_to_greatest a + b) ≡ up_to_greatest (a + b)
 cut_first a b = cut_first_at _ a b
-
-pub cut_again : (a : ℕ) → up_to_greatest (up_to_greatest a) ≡ up_to_greatest a
-cut_again a = cut_again_at _ a
 
 -- a number that a `usize` holds is not cut
 pub not_cut : (a : ℕ) → a < 2 ^ 64 → up_to_greatest a ≡ a

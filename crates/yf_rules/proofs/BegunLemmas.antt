@@ -1,10 +1,10 @@
 -- Laws of the number of lines that begin at an offset or before it.
-use Rattle.std.proofs.Common.{◌≡◌, ℕ, ◌+◌, ◌-◌, ◌<◌, ◌≤◌, List, Some, length, sym, subst, ap, ◌∙◌, arith}
+use Rattle.std.proofs.Common.{◌≡◌, ℕ, ◌+◌, ◌-◌, ◌<◌, ◌≤◌, List, Some, length, ap, ◌∙◌, arith}
 use Rattle.std.specs.Prelude.{slice_get}
 use Rattle.std.proofs.lemmas.Option.{slice_get_within, slice_get-get_or, get_or_from_slice_get}
 use Rattle.yf_lines.specs.declared.line.Line.{Line}
 use Rattle.yf_lines.specs.Lines.{AreLines, Begun}
-use Rattle.yf_lines.proofs.TableLemmas.{some_same, starts_ascend}
+use Rattle.yf_lines.proofs.TableLemmas.{starts_ascend}
 use Rattle.yf_rules.specs.Scalars.{BegunTo}
 
 pub starts_order : (t : List ℕ) (ls : List Line) (i j : ℕ) (a b : Line) → AreLines t ls → slice_get ls i ≡ Some a → slice_get ls j ≡ Some b → i ≤ j → a.start ≤ b.start
@@ -38,14 +38,6 @@ begun_all t ls offset k a b h = record {
 
 pub begun_none : (ls : List Line) (offset k : ℕ) → k ≡ 0 → BegunTo ls offset k
 begun_none ls offset k e = record { within = omega (arith, e); last = λ m l f w. absurd (omega (arith, w, e)) }
-
-pub begun_last : (ls : List Line) (offset k m : ℕ) (n : Line) → k ≤ length ls → slice_get ls m ≡ Some n → m + 1 ≡ k → n.start ≤ offset → BegunTo ls offset k
-begun_last ls offset k m n w e q h = record {
-  within = w;
-  last = λ i l f r.
-      let same : l ≡ n = some_same (sym f ∙ subst (λ j. slice_get ls j ≡ Some n) (let z : m ≡ i = omega (arith, q, r) in z) e) in
-      let v = ap (λ (x : Line). x.start) same in omega (arith, v, h);
-}
 
 -- two such numbers are one, or both lie past the last line
 pub begun_same : (ls : List Line) (offset j k : ℕ) (l : Line) (m : ℕ) → Begun ls offset j → Begun ls offset k → slice_get ls m ≡ Some l → j ≤ m → j < k → ⊥

@@ -96,10 +96,6 @@ no_line_holds src old offset begun l a w b e h = none_noted old (HasOffset src o
     let t = q.to in
     omega (arith, x, t, h))
 
-pub no_line_begun : (src : Table) (old : List Bool) (offset begun : ℕ) → AreLines src.text src.lines → begun ≤ length src.lines → Begun src.lines offset begun → begun ≡ 0
-    → Noted old old (HasOffset src offset)
-no_line_begun src old offset begun a w b e = none_noted old (HasOffset src offset) (λ k q. let z = last_begun src offset begun k a w b q in omega (arith, z, e))
-
 -- the directives, one by one
 directive_same : {d e : Directive} → Some d ≡ Some e → d ≡ e
 directive_same e = cc
@@ -152,18 +148,12 @@ marker_index {r = r} {m = m} (has_marker {d} g h a o) = (slice_get_within r.docu
 pub marker_line : {src : Table} {r : Lists} {m k : ℕ} → MarkerOf src r m k → k < length src.lines
 marker_line (has_marker g h a o) = offset_within o
 
-pub not_written : (src : Table) (old : List Bool) (marked : Bool) (start : ℕ) → marked ≡ false → Noted old old (MarkerThere src marked start)
-not_written src old marked start e = none_noted old (MarkerThere src marked start) (λ k h. true≢false (sym h.written ∙ e))
-
 -- blank lines
 pub blank_unless : (src : Table) (k : ℕ) (b : Bool) (l : Line) → b ≡ false → slice_get src.lines k ≡ Some l → WhitesEnd src.text l.start l.end l.start → BlankUnless src k b
 blank_unless src k b l e f w = subst (BlankUnless src k) (sym e) (is_white f w)
 
 unless_parts : {src : Table} {k : ℕ} {b : Bool} (l : Line) → slice_get src.lines k ≡ Some l → BlankUnless src k b → (b ≡ false) × WhitesEnd src.text l.start l.end l.start
 unless_parts {src} l e (is_white {l = m} f w) = (refl, subst (λ (x : Line). WhitesEnd src.text x.start x.end x.start) (some_same (sym f ∙ e)) w)
-
-pub inside_no_blank : (src : Table) (k : ℕ) (b : Bool) → b ≡ true → BlankUnless src k b → ⊥
-inside_no_blank src k b e (is_white f w) = true≢false (sym e)
 
 pub other_no_blank : (src : Table) (k : ℕ) (b : Bool) (l : Line) → slice_get src.lines k ≡ Some l → (WhitesEnd src.text l.start l.end l.start → ⊥) → BlankUnless src k b → ⊥
 other_no_blank src k b l e n u = n (unless_parts l e u).1

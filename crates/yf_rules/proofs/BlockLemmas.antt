@@ -1,10 +1,8 @@
 -- Laws of the content lines of block scalars.
-use Rattle.std.proofs.Common.{◌≡◌, ℕ, suc, ◌+◌, ◌-◌, ◌<◌, ◌≤◌, true, false, List, ◌∷◌, Option, Some, length, drop, get_or, refl, sym, subst, ap, ◌∙◌, ⊎_elim, arith, true≢false, add-one}
+use Rattle.std.proofs.Common.{◌≡◌, ℕ, ◌+◌, ◌-◌, ◌<◌, ◌≤◌, true, false, List, ◌∷◌, Option, Some, length, drop, sym, subst, ap, ◌∙◌, ⊎_elim, arith, true≢false}
 use Rattle.std.specs.Prelude.{slice_get}
-use Rattle.std.proofs.lemmas.Bool.{cases_lt, eq-eqb, ne_eqb}
-use Rattle.std.proofs.lemmas.List.{drop_all}
+use Rattle.std.proofs.lemmas.Bool.{cases_lt}
 use Rattle.std.proofs.lemmas.Option.{slice_get_within}
-use Rattle.std.proofs.Math.Seq.{drop-cons}
 use Rattle.yf_emit.specs.ContentStart.{content_start}
 use Rattle.yf_events.specs.Event.{EventValue, scalar_node}
 use Rattle.yf_events.specs.declared.event.ScalarStyle.{ScalarStyle}
@@ -17,21 +15,6 @@ use Rattle.yf_props.specs.Props.{PropsValue}
 use Rattle.yf_rules.specs.Scalars.{IsScalar, BlockContent, InBlock, ContentLine, head_count, is_block_style}
 use Rattle.yf_rules.specs.Scalars.ContentLine.{of_block}
 use Rattle.yf_rules.proofs.BegunLemmas.{begun_same}
-
--- how many of one byte stand from an index on
-pub head_here : (b : ℕ) (bs : List ℕ) (i : ℕ) (m : ℕ) → i < length bs → get_or bs i 0 ≡ b → m + head_count b (drop i bs) ≡ m + 1 + head_count b (drop (i + 1) bs)
-head_here b bs i m l e =
-    let d : drop i bs ≡ get_or bs i 0 ∷ drop (i + 1) bs = subst (λ k. drop i bs ≡ get_or bs i 0 ∷ drop k bs) (sym (add-one i)) (drop-cons bs i 0 l) in
-    let h : head_count b (drop i bs) ≡ suc (head_count b (drop (i + 1) bs)) = ap (head_count b) d ∙ rw (eq-eqb (get_or bs i 0) b e) refl in
-    omega (arith, h)
-
-pub head_over : (b : ℕ) (bs : List ℕ) (i : ℕ) → i < length bs → (get_or bs i 0 ≡ b → ⊥) → head_count b (drop i bs) ≡ 0
-head_over b bs i l n =
-    let d : drop i bs ≡ get_or bs i 0 ∷ drop (i + 1) bs = subst (λ k. drop i bs ≡ get_or bs i 0 ∷ drop k bs) (sym (add-one i)) (drop-cons bs i 0 l) in
-    ap (head_count b) d ∙ rw (ne_eqb (get_or bs i 0) b n) refl
-
-pub head_end : (b : ℕ) (bs : List ℕ) (i : ℕ) → length bs ≤ i → head_count b (drop i bs) ≡ 0
-head_end b bs i l = ap (head_count b) (drop_all i bs l)
 
 -- the content of a block scalar is told by its text and the line after its header
 pub content_same : (ls : List Line) (text : List ℕ) (behind f n g m : ℕ) → BlockContent ls text behind f n → BlockContent ls text behind g m → (f ≡ g) × (n ≡ m)

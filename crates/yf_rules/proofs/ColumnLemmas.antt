@@ -1,9 +1,7 @@
 -- An offset at which no character begins has column 1, if it has any.
-use Rattle.std.proofs.Common.{◌≡◌, ℕ, ◌+◌, ◌-◌, ◌<◌, ◌≤◌, ◌⊎◌, ◌∙◌, true, List, [], length, get_or, set, refl, sym, subst, inl, inr, ⊎_elim, ap, arith}
+use Rattle.std.proofs.Common.{◌≡◌, ℕ, ◌+◌, ◌-◌, ◌<◌, ◌≤◌, ◌⊎◌, ◌∙◌, true, List, [], length, refl, subst, inl, inr, ⊎_elim, ap, arith}
 use Rattle.std.specs.Str.{IsCharBoundary, IsUtf8}
-use Rattle.std.proofs.lemmas.Bool.{cases_lt}
 use Rattle.std.proofs.lemmas.Bool.Decides.{nat_tests}
-use Rattle.std.proofs.lemmas.List.{get_or-set_other, get_or-set_same, length-set}
 use Rattle.yf_chars.specs.Chain.{Many, one}
 use Rattle.yf_chars.specs.Chain.Chain.{done, step}
 use Rattle.yf_chars.specs.Text.{code, no_char}
@@ -48,19 +46,3 @@ column_there t o line column less p e =
 
 pub no_columns : (t offsets : List ℕ) → ColumnsTo t offsets offsets 0
 no_columns t offsets = record { count = refl; columns = λ j l b. absurd (omega (arith, l)); others = λ j l. refl }
-
-pub one_column : (t offsets now new : List ℕ) (k column : ℕ) → k < length now → ColumnsTo t offsets now k → new ≡ set now k column
-    → (IsCharBoundary t (get_or now k 0) → IsColumn t (get_or now k 0) column) → ColumnsTo t offsets new (k + 1)
-one_column t offsets now new k column l c e f = subst (λ w. ColumnsTo t offsets w (k + 1)) (sym e) (record {
-  count = length-set now k column ∙ c.count;
-  columns = λ j h b. ⊎_elim
-      (λ (m : j < k). subst (λ w. IsColumn t (get_or offsets j 0) w) (sym (get_or-set_other now k j column 0 (omega (arith, m)))) (c.columns j m b))
-      (λ (m : k ≤ j).
-      let q : j ≡ k = omega (arith, h, m) in
-      subst (λ i. IsColumn t (get_or offsets i 0) (get_or (set now k column) i 0)) (sym q)
-      (subst (λ w. IsColumn t (get_or offsets k 0) w) (sym (get_or-set_same now k column 0 l))
-      (subst (λ w. IsColumn t w column) (c.others k (omega arith))
-      (f (subst (λ w. IsCharBoundary t w) (sym (c.others k (omega arith))) (subst (λ i. IsCharBoundary t (get_or offsets i 0)) q b))))))
-      (cases_lt j k);
-  others = λ j h. get_or-set_other now k j column 0 (omega (arith, h)) ∙ c.others j (omega (arith, h));
-})

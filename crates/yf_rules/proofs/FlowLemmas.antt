@@ -78,9 +78,6 @@ no_flow_begun es i e q h x n f = true≢false (sym f ∙ sym (flow_event x) ∙ 
 
 -- one event more
 
-pub none_done : (es : List Placed) → FlowsDone es 0 0
-none_done es = record { bound = λ j y n f l. absurd (omega (arith, l)); reached = inl refl }
-
 pub is_outside : {es : List Placed} {i done : ℕ} → FlowsDone es i done → done < i → StandsOutside es i
 is_outside d l = record { outside = λ j y n f h. ⊎_elim (λ p. p) (λ p. omega (arith, p, l)) (d.bound j y n f h) }
 

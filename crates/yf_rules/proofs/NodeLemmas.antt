@@ -103,12 +103,6 @@ first_begins (alias at name) after more e q = ap (λ d. begins_node d.event) (sy
 first_begins (sequence at flow props items) after more e q = ap (λ d. begins_node d.event) (sym (head_same q))
 first_begins (mapping at flow props pairs) after more e q = ap (λ d. begins_node d.event) (sym (head_same q))
 
-no_empty : (x : Node) (after : List Placed) → [] ≡ flat x ++ after → ⊥
-no_empty (scalar at props style text lines) after q = absurd cc
-no_empty (alias at name) after q = absurd cc
-no_empty (sequence at flow props items) after q = absurd cc
-no_empty (mapping at flow props pairs) after q = absurd cc
-
 -- Nodes at indices.
 
 pub events_behind : {es : List Placed} {i : ℕ} {x : Node} (n : NodeAt es i x) → drop i es ≡ flat x ++ n.after

@@ -69,12 +69,6 @@ one_noted_by old new i P Q f n b = record {
       (cases_lt j i);
 }
 
-pub none_more_by : (xs : List Bool) (i : ℕ) (P : ℕ → ℕ → Type 0) → ((k : ℕ) → P i k → ⊥) → NotedBy xs i P → NotedBy xs (i + 1) P
-none_more_by xs i P f b = record {
-  only = λ k q. let w = b.only k q in (w.0, omega (arith, w.1), w.2);
-  all = λ j k l m p. ⊎_elim (λ (h : j < i). b.all j k h m p) (λ (h : i ≤ j). absurd (f k (subst (λ x. P x k) (omega (arith, h, l)) p))) (cases_lt j i);
-}
-
 -- one line is noted, or none
 pub sole_noted : (old : List Bool) (P : ℕ → Type 0) (at : ℕ) → at < length old → P at → ((k : ℕ) → P k → k ≡ at) → Noted old (set old at true) P
 sole_noted old P at l p f = record {

@@ -89,12 +89,6 @@ module _ (t : List ℕ) (es : List Placed) (i : ℕ) (l : i < length es) (old ne
     some_same : {a b : EventValue} → Some a ≡ Some b → a ≡ b
     some_same e = cc
 
-pub opened_by : (t : List ℕ) (es : List Placed) (i : ℕ) (old new : Pass) (stand : Stand) (v e : EventValue) → slice_get (map (λ (e : Placed). e.event) es) i ≡ Some v
-    → slice_get (map (λ (e : Placed). e.event) es) i ≡ Some e → Passes t es i v old new stand → Passes t es i e old new stand
-opened_by t es i old new stand v e q f p = subst (λ e. Passes t es i e old new stand) (some_same (sym q ∙ f)) p where
-  some_same : {a b : EventValue} → Some a ≡ Some b → a ≡ b
-  some_same e = cc
-
 -- without the innermost open collection
 pub rest_reversed : (xs : List OpenCollection) → reverse (take (length xs - 1) xs) ≡ drop 1 (reverse xs)
 rest_reversed [] = refl

@@ -80,8 +80,3 @@ pub same_is : (p q : Place) → is_same p q ≡ true → p ≡ q
 same_is p q e =
     let w = and_parts (p.line == q.line) (p.column == q.column) e in
     same_place p q (eqb-true p.line q.line w.0, eqb-true p.column q.column w.1)
-
--- places after a sort and a `dedup` are the same places
-pub places_kept : (t os : List ℕ) (ps qs : List Place) → PlacesOf t os ps → ((p : Place) → Contains ps p → Contains qs p)
-    → ((p : Place) → Contains qs p → Contains ps p) → PlacesOf t os qs
-places_kept t os ps qs s k a = record { only = λ p c. s.only p (a p c); all = λ p w. k p (s.all p w) }
