@@ -38,7 +38,7 @@ use Rattle.yf_emit.proofs.SetStreams.{SetAll, none_set, documents_set}
 use Rattle.yf_emit.proofs.StepsStand.{Stand, nothing_stands, stand_join, comments_stand, events_behind}
 use Rattle.yf_emit.proofs.StreamParts.{ended_at, prefixes_of, texts_with_document, documents_with, texts_with_comments, same_documents, DocumentsLaid, no_documents_laid, laid_with_comments, documents_laid}
 use Rattle.yf_emit.proofs.WellSet.{lines_set, set_append}
-use Rattle.yf_emit.proofs.StreamsMade.{first_with, rest_made}
+use Rattle.yf_emit.proofs.StreamsMade.{first_with, rest_made, root_rows}
 
 -- what is derived of the whole text, and its leaves and comments in the order of steps
 pub record StreamLaid (t : List ℕ) (s : Setting) (ds : List Doc) (xs : List DocumentTree) (gap : List GapLine) (rs : List Row) (decos : List Deco) : Type 0 where

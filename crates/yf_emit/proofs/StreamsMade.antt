@@ -64,7 +64,7 @@ pub record AnyMade (t : List ℕ) (s : Setting) (d : Doc) (x : DocumentTree) (rs
   pub held : EventsHeld t document.events comments rs ds r
   pub set : SetDone t s.style 0 s.style.indent document.events
 
-abbrev root_rows : Setting → DocumentTree → List Row
+abbrev pub root_rows : Setting → DocumentTree → List Row
 root_rows c x = rows c (root_spot c.style) x.root
 
 root_deep : (c : Setting) → 0 < c.style.indent
