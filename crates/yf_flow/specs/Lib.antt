@@ -11,5 +11,6 @@ pub mod NodeAnswers
 pub mod NodeBegun
 pub mod NodeRead
 pub mod NodeReaders
+pub mod Stepped
 pub mod Steps
 pub mod Tied

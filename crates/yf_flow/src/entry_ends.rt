@@ -1,15 +1,16 @@
 //! The steps after a node of a flow collection: what its end makes of it, the end of its entry, and the closing bracket.
 //! Each step leads on to a later place of the text, and none goes back.
-ghost use Rattle.std.specs.Prelude.{◌≡◌, ℕ, ◌+◌, ◌-◌, ◌*◌, ◌<◌, ◌≤◌, length, reverse, IfOk};
+ghost use Rattle.std.specs.Prelude.{◌≡◌, ℕ, ◌+◌, ◌<◌, ◌≤◌, length, reverse, IfOk};
 ghost use Rattle.std.specs.List.{All};
 ghost use Rattle.std.specs.Str.{IsCharBoundary, IsUtf8};
 ghost use Rattle.yf_chars.specs.Text.{code};
 ghost use Rattle.yf_events.specs.Event.{new_event_value};
-ghost use Rattle.yf_flow.specs.Counted.{AllCounted, NodeCounted, StepCounted};
-ghost use Rattle.yf_flow.specs.Machine.{Indexed, Ready, left};
+ghost use Rattle.yf_flow.specs.Counted.{AllCounted, NodeCounted};
+ghost use Rattle.yf_flow.specs.Machine.{Indexed};
 ghost use Rattle.yf_grammar.specs.Parser.{PairKey};
+ghost use Rattle.yf_flow.specs.Stepped.{Standing, StateCounted, StateTied, Stepped};
 ghost use Rattle.yf_flow.specs.Steps.{Reached, Reading};
-ghost use Rattle.yf_flow.specs.Tied.{AtClosing, AtEnded, AtEntryDone, AtEntryEnd, Base, StepTied, end_event};
+ghost use Rattle.yf_flow.specs.Tied.{AtClosing, AtEnded, AtEntryDone, AtEntryEnd, Base, end_event};
 
 use crate::entries::{Below, await_value, failed, pair_start};
 use crate::frame::{Frame, Kind, Node, Role, Scene, State, Step};
@@ -31,18 +32,13 @@ pub(crate) fn finish_node<'a>(
     below: &mut Below,
     part: &mut Part<'a>,
 ) -> Result<State, AllocError>
-    requires boundary { IsCharBoundary scene.text.now node.end }
-    requires top { Indexed scene.text.now (length part.old.events) top }
-    requires below { All (Indexed scene.text.now (length part.old.events)) below.old.items }
+    requires standing { Standing Indexed scene.text.now node.end (length part.old.events) below.old.items top }
     ensures tied { (base : Base) → Reading scene.entry.text.now scene.entry.context scene.entry.limit base
         → AtEnded scene.entry.text.now scene.entry.indentation scene.entry.context base (reverse below.old.items) top node part.old
-        → IfOk result (λ s. StepTied scene.entry.text.now scene.entry.indentation scene.entry.context base
-        (reverse below.new.items) s.top s.step part.new) }
+        → IfOk result (StateTied scene.entry base below.new.items part.new) }
     ensures counted { (total : ℕ) → NodeCounted scene.entry.text.now total node.deepest node.end below.old.items top
-        → IfOk result (λ s. StepCounted scene.entry.text.now scene.entry.limit total below.new.items s.top s.step) }
-    ensures ready { IfOk result (λ s. Ready scene.entry.text.now node.end (length part.new.events) below.new.items s) }
-    ensures moves { IfOk result (λ s. left (length scene.entry.text.now) s.step ≤ 2 * (length scene.entry.text.now - node.end) + 1) }
-    ensures escapes { IfOk result (λ _. part.new.escapes ≡ part.old.escapes) }
+        → IfOk result (StateCounted scene.entry total below.new.items) }
+    ensures stepped { IfOk result (Stepped scene.entry.text.now node.end part.old.escapes part.new below.new.items) }
 {
     match top.role {
         Role::Item => behind_item(alloc, scene, node, top, below, part),
@@ -69,18 +65,13 @@ fn behind_item<'a>(
     below: &mut Below,
     part: &mut Part<'a>,
 ) -> Result<State, AllocError>
-    requires boundary { IsCharBoundary scene.text.now node.end }
-    requires top { Indexed scene.text.now (length part.old.events) top }
-    requires below { All (Indexed scene.text.now (length part.old.events)) below.old.items }
+    requires standing { Standing Indexed scene.text.now node.end (length part.old.events) below.old.items top }
     ensures tied { (base : Base) → Reading scene.entry.text.now scene.entry.context scene.entry.limit base
         → AtEnded scene.entry.text.now scene.entry.indentation scene.entry.context base (reverse below.old.items) top node part.old
-        → top.role ≡ Role.Item → IfOk result (λ s. StepTied scene.entry.text.now scene.entry.indentation scene.entry.context base
-        (reverse below.new.items) s.top s.step part.new) }
+        → top.role ≡ Role.Item → IfOk result (StateTied scene.entry base below.new.items part.new) }
     ensures counted { (total : ℕ) → NodeCounted scene.entry.text.now total node.deepest node.end below.old.items top
-        → IfOk result (λ s. StepCounted scene.entry.text.now scene.entry.limit total below.new.items s.top s.step) }
-    ensures ready { IfOk result (λ s. Ready scene.entry.text.now node.end (length part.new.events) below.new.items s) }
-    ensures moves { IfOk result (λ s. left (length scene.entry.text.now) s.step ≤ 2 * (length scene.entry.text.now - node.end) + 1) }
-    ensures escapes { IfOk result (λ _. part.new.escapes ≡ part.old.escapes) }
+        → IfOk result (StateCounted scene.entry total below.new.items) }
+    ensures stepped { IfOk result (Stepped scene.entry.text.now node.end part.old.escapes part.new below.new.items) }
 {
     let colon = skip_whites(scene.text, node.end);
     if is_pair_key(scene, top.entry, colon, node.json) {
@@ -106,21 +97,16 @@ fn pair_of_key<'a>(
     below: &mut Below,
     part: &mut Part<'a>,
 ) -> Result<State, AllocError>
-    requires boundary { IsCharBoundary scene.text.now (colon + 1) }
-    requires top { Indexed scene.text.now (length part.old.events) top }
-    requires below { All (Indexed scene.text.now (length part.old.events)) below.old.items }
+    requires standing { Standing Indexed scene.text.now ((colon + 1)) (length part.old.events) below.old.items top }
     ensures tied { (base : Base) → Reading scene.entry.text.now scene.entry.context scene.entry.limit base
         → (a : AtEnded scene.entry.text.now scene.entry.indentation scene.entry.context base
         (reverse below.old.items) top node part.old) → top.role ≡ Role.Item
         → PairKey scene.entry.text.now scene.entry.context a.layer.start a.answer colon
-        → IfOk result (λ s. StepTied scene.entry.text.now scene.entry.indentation scene.entry.context base
-        (reverse below.new.items) s.top s.step part.new) }
+        → IfOk result (StateTied scene.entry base below.new.items part.new) }
     ensures counted { (total : ℕ) → node.end ≤ colon → code scene.entry.text.now colon ≡ 58
         → NodeCounted scene.entry.text.now total node.deepest node.end below.old.items top
-        → IfOk result (λ s. StepCounted scene.entry.text.now scene.entry.limit total below.new.items s.top s.step) }
-    ensures ready { IfOk result (λ s. Ready scene.entry.text.now colon (length part.new.events) below.new.items s) }
-    ensures moves { IfOk result (λ s. left (length scene.entry.text.now) s.step ≤ 2 * (length scene.entry.text.now - colon) + 1) }
-    ensures escapes { IfOk result (λ _. part.new.escapes ≡ part.old.escapes) }
+        → IfOk result (StateCounted scene.entry total below.new.items) }
+    ensures stepped { IfOk result (Stepped scene.entry.text.now colon part.old.escapes part.new below.new.items) }
 {
     let deepest = top.depth.max(node.deepest);
     if deepest >= scene.limit {
@@ -154,19 +140,14 @@ fn behind_key<'a>(
     below: &mut Below,
     part: &mut Part<'a>,
 ) -> Result<State, AllocError>
-    requires boundary { IsCharBoundary scene.text.now node.end }
-    requires top { Indexed scene.text.now (length part.old.events) top }
-    requires below { All (Indexed scene.text.now (length part.old.events)) below.old.items }
+    requires standing { Standing Indexed scene.text.now node.end (length part.old.events) below.old.items top }
     ensures tied { (base : Base) → Reading scene.entry.text.now scene.entry.context scene.entry.limit base → (first : Frame)
         → AtEnded scene.entry.text.now scene.entry.indentation scene.entry.context base
         (reverse below.old.items) first node part.old → first.role ≡ Role.Key → Reached first node.deepest top
-        → IfOk result (λ s. StepTied scene.entry.text.now scene.entry.indentation scene.entry.context base
-        (reverse below.new.items) s.top s.step part.new) }
+        → IfOk result (StateTied scene.entry base below.new.items part.new) }
     ensures counted { (total : ℕ) → AllCounted scene.entry.text.now total node.end below.old.items top
-        → IfOk result (λ s. StepCounted scene.entry.text.now scene.entry.limit total below.new.items s.top s.step) }
-    ensures ready { IfOk result (λ s. Ready scene.entry.text.now node.end (length part.new.events) below.new.items s) }
-    ensures moves { IfOk result (λ s. left (length scene.entry.text.now) s.step ≤ 2 * (length scene.entry.text.now - node.end) + 1) }
-    ensures escapes { IfOk result (λ _. part.new.escapes ≡ part.old.escapes) }
+        → IfOk result (StateCounted scene.entry total below.new.items) }
+    ensures stepped { IfOk result (Stepped scene.entry.text.now node.end part.old.escapes part.new below.new.items) }
 {
     let place = read_gap(alloc, scene, node.end, part)?.end;
     if colon_stands(scene, place, node.json) {
@@ -188,19 +169,13 @@ pub(crate) fn end_entry<'a>(
     below: &mut Below,
     part: &mut Part<'a>,
 ) -> Result<State, AllocError>
-    requires boundary { IsCharBoundary scene.text.now at }
-    requires top { Indexed scene.text.now (length part.old.events) top }
-    requires below { All (Indexed scene.text.now (length part.old.events)) below.old.items }
+    requires standing { Standing Indexed scene.text.now at (length part.old.events) below.old.items top }
     ensures tied { (base : Base) → IsUtf8 scene.entry.text.now
         → AtEntryDone scene.entry.text.now scene.entry.indentation scene.entry.context base
-        (reverse below.old.items) top finish at part.old → IfOk result
-        (λ s. StepTied scene.entry.text.now scene.entry.indentation scene.entry.context base
-        (reverse below.new.items) s.top s.step part.new) }
+        (reverse below.old.items) top finish at part.old → IfOk result (StateTied scene.entry base below.new.items part.new) }
     ensures counted { (total : ℕ) → AllCounted scene.entry.text.now total at below.old.items top
-        → IfOk result (λ s. StepCounted scene.entry.text.now scene.entry.limit total below.new.items s.top s.step) }
-    ensures ready { IfOk result (λ s. Ready scene.entry.text.now at (length part.new.events) below.new.items s) }
-    ensures moves { IfOk result (λ s. left (length scene.entry.text.now) s.step ≤ 2 * (length scene.entry.text.now - at) + 1) }
-    ensures escapes { IfOk result (λ _. part.new.escapes ≡ part.old.escapes) }
+        → IfOk result (StateCounted scene.entry total below.new.items) }
+    ensures stepped { IfOk result (Stepped scene.entry.text.now at part.old.escapes part.new below.new.items) }
 {
     if top.kind.is_pair() {
         return end_pair(alloc, scene, finish, at, top, below, part);
@@ -218,20 +193,14 @@ fn end_pair<'a>(
     below: &mut Below,
     part: &mut Part<'a>,
 ) -> Result<State, AllocError>
-    requires boundary { IsCharBoundary scene.text.now at }
-    requires top { Indexed scene.text.now (length part.old.events) top }
-    requires below { All (Indexed scene.text.now (length part.old.events)) below.old.items }
+    requires standing { Standing Indexed scene.text.now at (length part.old.events) below.old.items top }
     requires pair { top.kind ≡ Kind.Pair }
     ensures tied { (base : Base) → IsUtf8 scene.entry.text.now
         → AtEntryDone scene.entry.text.now scene.entry.indentation scene.entry.context base
-        (reverse below.old.items) top finish at part.old → IfOk result
-        (λ s. StepTied scene.entry.text.now scene.entry.indentation scene.entry.context base
-        (reverse below.new.items) s.top s.step part.new) }
+        (reverse below.old.items) top finish at part.old → IfOk result (StateTied scene.entry base below.new.items part.new) }
     ensures counted { (total : ℕ) → AllCounted scene.entry.text.now total at below.old.items top
-        → IfOk result (λ s. StepCounted scene.entry.text.now scene.entry.limit total below.new.items s.top s.step) }
-    ensures ready { IfOk result (λ s. Ready scene.entry.text.now at (length part.new.events) below.new.items s) }
-    ensures moves { IfOk result (λ s. left (length scene.entry.text.now) s.step ≤ 2 * (length scene.entry.text.now - at) + 1) }
-    ensures escapes { IfOk result (λ _. part.new.escapes ≡ part.old.escapes) }
+        → IfOk result (StateCounted scene.entry total below.new.items) }
+    ensures stepped { IfOk result (Stepped scene.entry.text.now at part.old.escapes part.new below.new.items) }
 {
     part.events.push(unplaced(alloc, NewEvent::MapEnd, None))?;
     part.events.set_end(top.event, finish)?;
@@ -259,18 +228,13 @@ fn after_entry<'a>(
     below: &mut Below,
     part: &mut Part<'a>,
 ) -> Result<State, AllocError>
-    requires boundary { IsCharBoundary scene.text.now at }
-    requires top { Indexed scene.text.now (length part.old.events) top }
-    requires below { All (Indexed scene.text.now (length part.old.events)) below.old.items }
+    requires standing { Standing Indexed scene.text.now at (length part.old.events) below.old.items top }
     ensures tied { (base : Base) → IsUtf8 scene.entry.text.now
         → AtEntryEnd scene.entry.text.now scene.entry.indentation scene.entry.context base (reverse below.old.items) top at part.old
-        → IfOk result (λ s. StepTied scene.entry.text.now scene.entry.indentation scene.entry.context base
-        (reverse below.new.items) s.top s.step part.new) }
+        → IfOk result (StateTied scene.entry base below.new.items part.new) }
     ensures counted { (total : ℕ) → AllCounted scene.entry.text.now total at below.old.items top
-        → IfOk result (λ s. StepCounted scene.entry.text.now scene.entry.limit total below.new.items s.top s.step) }
-    ensures ready { IfOk result (λ s. Ready scene.entry.text.now at (length part.new.events) below.new.items s) }
-    ensures moves { IfOk result (λ s. left (length scene.entry.text.now) s.step ≤ 2 * (length scene.entry.text.now - at) + 1) }
-    ensures escapes { IfOk result (λ _. part.new.escapes ≡ part.old.escapes) }
+        → IfOk result (StateCounted scene.entry total below.new.items) }
+    ensures stepped { IfOk result (Stepped scene.entry.text.now at part.old.escapes part.new below.new.items) }
 {
     let place = read_gap(alloc, scene, at, part)?.end;
     if stands(scene.text, place, b',') {
@@ -310,14 +274,10 @@ pub(crate) fn close<'a>(
     requires top { top.event < length part.old.events }
     requires below { All (Indexed scene.text.now (length part.old.events)) below.old.items }
     ensures tied { (base : Base) → AtClosing scene.entry.text.now scene.entry.indentation scene.entry.context base
-        (reverse below.old.items) top at part.old → IfOk result
-        (λ s. StepTied scene.entry.text.now scene.entry.indentation scene.entry.context base
-        (reverse below.new.items) s.top s.step part.new) }
+        (reverse below.old.items) top at part.old → IfOk result (StateTied scene.entry base below.new.items part.new) }
     ensures counted { (total : ℕ) → AllCounted scene.entry.text.now total at below.old.items top
-        → IfOk result (λ s. StepCounted scene.entry.text.now scene.entry.limit total below.new.items s.top s.step) }
-    ensures ready { IfOk result (λ s. Ready scene.entry.text.now at (length part.new.events) below.new.items s) }
-    ensures moves { IfOk result (λ s. left (length scene.entry.text.now) s.step ≤ 2 * (length scene.entry.text.now - at) + 1) }
-    ensures escapes { IfOk result (λ _. part.new.escapes ≡ part.old.escapes) }
+        → IfOk result (StateCounted scene.entry total below.new.items) }
+    ensures stepped { IfOk result (Stepped scene.entry.text.now at part.old.escapes part.new below.new.items) }
 {
     part.events
         .push(unplaced(alloc, collection_end(top.kind), None))?;

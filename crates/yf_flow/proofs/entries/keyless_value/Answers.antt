@@ -6,3 +6,6 @@ pub returns-clause-tied : goal.returns-clause-tied
 returns-clause-tied c = λ base r cs f a w.
     c.await_value.ensures.tied base r.utf8
     (keyless_awaits a w c.entry_at-entry.result (c.entry_at-entry.ensures f) (c.in_ok-push.ensures ∙ ap (λ z. c.args.part.now.events ++ z ∷ []) c.empty_node.ensures) refl refl)
+
+pub returns-clause-stepped : goal.returns-clause-stepped
+returns-clause-stepped c = c.await_value.ensures.stepped

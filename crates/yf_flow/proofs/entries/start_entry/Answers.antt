@@ -3,6 +3,8 @@ use Rattle.yf_flow.proofs.TiedEnds.{gap_of, place_awaited, place_closing}
 use Rattle.yf_flow.proofs.TiedFirst.{first_begun, first_node_at}
 use Rattle.yf_flow.proofs.TiedSigns.{code_at, chosen_at}
 use Rattle.yf_flow.proofs.CountLemmas.{moved, counted_as}
+use Rattle.std.proofs.lemmas.Result.{IfOk-weaker}
+use Rattle.yf_flow.proofs.MachineLemmas.{stepped_later, frames_same, entry_awaits}
 use Rattle.yf_flow.proofs.entries.start_entry.Goals as goal
 
 pub returns-then-closes-clause-tied : goal.returns-then-closes-clause-tied
@@ -64,3 +66,28 @@ pub returns-clause-counted : goal.returns-clause-counted
 returns-clause-counted c = λ total a.
     let v = c.with_entry-top.ensures in
     counted_as _ v.depth v.deepest (moved _ c.in_ok-place.ensures.place.order a)
+
+pub returns-then-closes-clause-stepped : goal.returns-then-closes-clause-stepped
+returns-then-closes-clause-stepped c = IfOk-weaker _ _ _ (stepped_later c.in_ok-place.ensures.place.order c.in_ok-place.ensures.escapes) c.close.ensures.stepped
+
+pub returns-in-Some-clause-stepped : goal.returns-in-Some-clause-stepped
+returns-in-Some-clause-stepped c =
+    let e = rw c.in-Some.is at c.in_ok-end.ensures.place in
+    IfOk-weaker _ _ _ (stepped_later (omega (arith, e.order, c.in_ok-place.ensures.place.order)) (c.in_ok-end.ensures.escapes ∙ c.in_ok-place.ensures.escapes)) c.explicit_entry.ensures.stepped
+
+pub returns-then-colon_stands-clause-stepped : goal.returns-then-colon_stands-clause-stepped
+returns-then-colon_stands-clause-stepped c = IfOk-weaker _ _ _ (stepped_later c.in_ok-place.ensures.place.order (c.in_ok-end.ensures.escapes ∙ c.in_ok-place.ensures.escapes)) c.lone_value.ensures.stepped
+
+pub returns-clause-stepped : goal.returns-clause-stepped
+returns-clause-stepped c =
+    let p = c.in_ok-place.ensures in
+    let q = c.in_ok-end.ensures in
+    let v = c.with_entry-top.ensures in
+    record {
+      ready = record {
+        below = frames_same _ (q.events ∙ p.events) c.requires.standing.others;
+        step = (p.place, entry_awaits c.args.top _ p.events q.events v.event (v.index ∙ c.len.ensures) (rw v.entry p.place.boundary) c.requires.standing.innermost);
+      };
+      moves = omega (arith, p.place.order);
+      same_escapes = q.escapes ∙ p.escapes;
+    }

@@ -5,6 +5,8 @@ use Rattle.yf_flow.proofs.TiedEnds.{gap_of}
 use Rattle.yf_flow.proofs.TiedKeys.{key_value}
 use Rattle.yf_flow.proofs.TiedNodes.{key_read_done}
 use Rattle.yf_flow.proofs.CountLemmas.{moved}
+use Rattle.std.proofs.lemmas.Result.{IfOk-weaker}
+use Rattle.yf_flow.proofs.MachineLemmas.{stepped_later}
 use Rattle.yf_flow.proofs.entry_ends.behind_key.Goals as goal
 
 pub returns-then-colon_stands-clause-tied : goal.returns-then-colon_stands-clause-tied
@@ -28,3 +30,9 @@ returns-then-colon_stands-clause-counted c = λ total a. c.await_value.ensures.c
 
 pub returns-clause-counted : goal.returns-clause-counted
 returns-clause-counted c = λ total a. c.end_entry.ensures.counted total (moved _ c.in_ok-place.ensures.place.order a)
+
+pub returns-then-colon_stands-clause-stepped : goal.returns-then-colon_stands-clause-stepped
+returns-then-colon_stands-clause-stepped c = IfOk-weaker _ _ _ (stepped_later c.in_ok-place.ensures.place.order c.in_ok-place.ensures.escapes) c.await_value.ensures.stepped
+
+pub returns-clause-stepped : goal.returns-clause-stepped
+returns-clause-stepped c = IfOk-weaker _ _ _ (stepped_later c.in_ok-place.ensures.place.order c.in_ok-place.ensures.escapes) c.end_entry.ensures.stepped

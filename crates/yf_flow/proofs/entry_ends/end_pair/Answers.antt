@@ -1,8 +1,10 @@
-use Rattle.std.proofs.Common.{refl, sym, true≢false, ap, ◌∙◌, ◌++◌, ◌∷◌, []}
+use Rattle.std.proofs.Common.{refl, sym, true≢false, ap, ◌∙◌, ◌++◌, ◌∷◌, [], arith}
 use Rattle.yf_events.specs.Edit.{edited, ended}
 use Rattle.yf_flow.proofs.TiedClose.{popped, none_left}
 use Rattle.yf_flow.proofs.TiedPairs.{done_pair, pair_below}
 use Rattle.yf_flow.proofs.CountLemmas.{counted_less, counted_reaching, failed_counted}
+use Rattle.yf_flow.proofs.Frames.{pushed_longer}
+use Rattle.yf_flow.proofs.MachineLemmas.{frames_popped, indexed_as}
 use Rattle.yf_flow.proofs.entry_ends.end_pair.Goals as goal
 
 pub returns-in-Some-clause-tied : goal.returns-in-Some-clause-tied
@@ -22,3 +24,10 @@ returns-in-Some-clause-counted c = λ total a.
 
 pub returns-in-None-clause-counted : goal.returns-in-None-clause-counted
 returns-in-None-clause-counted c = λ total a. failed_counted _ _ total _ _ _ c.failed.ensures
+
+pub after_entry-requires : goal.after_entry-requires
+after_entry-requires c =
+    let l = pushed_longer _ _ _ c.in_ok-push.ensures in
+    let f = frames_popped _ _ _ c.in-Some.ensures.items (omega (arith, l, c.in_ok-set_end.ensures.len)) c.requires.standing.others in
+    let v = c.reaching.ensures in
+    record { standing = record { boundary = c.requires.standing.boundary; innermost = indexed_as c.in-Some.sequence _ v.event v.index v.entry f.1; others = f.0 } }
