@@ -23,7 +23,8 @@ use yf_events::event::NewEvent;
 use yf_events::part::Part;
 use yf_lines::basic::skip_whites;
 
-/// Goes on after a node of the collection.
+/// Goes on after a node of the collection. Where a `:` follows an item of a sequence on its line, the item is the key of a
+/// single pair (ns-flow-pair-entry, production 151).
 pub(crate) fn finish_node<'a>(
     alloc: Global,
     scene: Scene<'a>,
@@ -41,7 +42,20 @@ pub(crate) fn finish_node<'a>(
     ensures stepped { IfOk result (Stepped scene.entry.text.now node.end part.old.escapes part.new below.new.items) }
 {
     match top.role {
-        Role::Item => behind_item(alloc, scene, node, top, below, part),
+        Role::Item => {
+            let colon = skip_whites(scene.text, node.end);
+            if is_pair_key(scene, top.entry, colon, node.json) {
+                return pair_of_key(alloc, scene, node, colon, top, below, part);
+            }
+            after_entry(
+                alloc,
+                scene,
+                node.end,
+                top.reaching(node.deepest),
+                below,
+                part,
+            )
+        }
         Role::Key => behind_key(alloc, scene, node, top.reaching(node.deepest), below, part),
         Role::Value => end_entry(
             alloc,
@@ -53,38 +67,6 @@ pub(crate) fn finish_node<'a>(
             part,
         ),
     }
-}
-
-// After an item of a sequence: where a `:` follows on its line, it is the key of a single pair
-// (ns-flow-pair-entry, production 151).
-fn behind_item<'a>(
-    alloc: Global,
-    scene: Scene<'a>,
-    node: Node,
-    top: Frame,
-    below: &mut Below,
-    part: &mut Part<'a>,
-) -> Result<State, AllocError>
-    requires standing { Standing Indexed scene.text.now node.end (length part.old.events) below.old.items top }
-    ensures tied { (base : Base) → Reading scene.entry.text.now scene.entry.context scene.entry.limit base
-        → AtEnded scene.entry.text.now scene.entry.indentation scene.entry.context base (reverse below.old.items) top node part.old
-        → top.role ≡ Role.Item → IfOk result (StateTied scene.entry base below.new.items part.new) }
-    ensures counted { (total : ℕ) → NodeCounted scene.entry.text.now total node.deepest node.end below.old.items top
-        → IfOk result (StateCounted scene.entry total below.new.items) }
-    ensures stepped { IfOk result (Stepped scene.entry.text.now node.end part.old.escapes part.new below.new.items) }
-{
-    let colon = skip_whites(scene.text, node.end);
-    if is_pair_key(scene, top.entry, colon, node.json) {
-        return pair_of_key(alloc, scene, node, colon, top, below, part);
-    }
-    after_entry(
-        alloc,
-        scene,
-        node.end,
-        top.reaching(node.deepest),
-        below,
-        part,
-    )
 }
 
 // The item that was read last becomes the key of a single pair.
@@ -159,7 +141,7 @@ fn behind_key<'a>(
 }
 
 /// An entry has been read whose last node or indicator ends at `finish`; what follows is read from `at` on. A single pair
-/// ends with it.
+/// ends with it, and what follows belongs to its sequence.
 pub(crate) fn end_entry<'a>(
     alloc: Global,
     scene: Scene<'a>,
@@ -178,45 +160,23 @@ pub(crate) fn end_entry<'a>(
     ensures stepped { IfOk result (Stepped scene.entry.text.now at part.old.escapes part.new below.new.items) }
 {
     if top.kind.is_pair() {
-        return end_pair(alloc, scene, finish, at, top, below, part);
+        part.events.push(unplaced(alloc, NewEvent::MapEnd, None))?;
+        part.events.set_end(top.event, finish)?;
+        match below.pop() {
+            Some(sequence) => {
+                return after_entry(
+                    alloc,
+                    scene,
+                    at,
+                    sequence.reaching(top.deepest),
+                    below,
+                    part,
+                );
+            }
+            None => return Ok(failed(top)),
+        }
     }
     after_entry(alloc, scene, at, top, below, part)
-}
-
-// The same of a single pair: what follows belongs to its sequence.
-fn end_pair<'a>(
-    alloc: Global,
-    scene: Scene<'a>,
-    finish: usize,
-    at: usize,
-    top: Frame,
-    below: &mut Below,
-    part: &mut Part<'a>,
-) -> Result<State, AllocError>
-    requires standing { Standing Indexed scene.text.now at (length part.old.events) below.old.items top }
-    requires pair { top.kind ≡ Kind.Pair }
-    ensures tied { (base : Base) → IsUtf8 scene.entry.text.now
-        → AtEntryDone scene.entry.text.now scene.entry.indentation scene.entry.context base
-        (reverse below.old.items) top finish at part.old → IfOk result (StateTied scene.entry base below.new.items part.new) }
-    ensures counted { (total : ℕ) → AllCounted scene.entry.text.now total at below.old.items top
-        → IfOk result (StateCounted scene.entry total below.new.items) }
-    ensures stepped { IfOk result (Stepped scene.entry.text.now at part.old.escapes part.new below.new.items) }
-{
-    part.events.push(unplaced(alloc, NewEvent::MapEnd, None))?;
-    part.events.set_end(top.event, finish)?;
-    match below.pop() {
-        Some(sequence) => {
-            after_entry(
-                alloc,
-                scene,
-                at,
-                sequence.reaching(top.deepest),
-                below,
-                part,
-            )
-        }
-        None => Ok(failed(top)),
-    }
 }
 
 // After an entry: a comma, or the bracket that closes the collection.

@@ -1,4 +1,4 @@
-use Rattle.std.proofs.Common.{refl, sym, true≢false, ap, ◌∙◌, None, ◌++◌, ◌∷◌, [], ◌+◌, arith}
+use Rattle.std.proofs.Common.{refl, length, sym, true≢false, ap, ◌∙◌, None, ◌++◌, ◌∷◌, [], ◌+◌, arith}
 use Rattle.yf_events.specs.Edit.{edited, ended}
 use Rattle.yf_flow.specs.Begun.{entry_event}
 use Rattle.yf_flow.proofs.TiedClose.{close_into, close_base, popped, none_left}
@@ -29,7 +29,7 @@ returns-in-None-clause-counted c = λ total a. let m = moved (c.args.at + 1) (om
 pub returns-in-Some-clause-stepped : goal.returns-in-Some-clause-stepped
 returns-in-Some-clause-stepped c =
     let l = pushed_longer _ _ _ c.in_ok-push.ensures in
-    let f = frames_popped _ _ _ c.in-Some.ensures.items (omega (arith, l, c.in_ok-set_end.ensures.len)) c.requires.below in
+    let f = frames_popped {k = length c.set_end.new.self} _ _ _ c.in-Some.ensures.items (omega (arith, l, c.in_ok-set_end.ensures.len)) c.requires.below in
     let b = c.requires.boundary.0 in
     record {
       ready = record { below = f.0; step = (record { boundary = c.requires.boundary; order = omega arith }, f.1) };
