@@ -133,7 +133,15 @@ pub(crate) fn start_entry<'a>(
         None => {}
     }
     if colon_stands(scene, place, false) {
-        return lone_value(alloc, scene, place, top, below, part);
+        match in_mapping(alloc, scene, top, below, part)? {
+            None => {
+                return Ok(State {
+                    top,
+                    step: Step::TooDeep(top.entry),
+                });
+            }
+            Some(top) => return keyless_value(alloc, scene, place, top, below, part),
+        }
     }
     Ok(State {
         top,
@@ -206,35 +214,7 @@ fn explicit_entry<'a>(
     }
 }
 
-// A value without a key, from its `:` on (c-ns-flow-map-empty-key-entry, production 146).
-fn lone_value<'a>(
-    alloc: Global,
-    scene: Scene<'a>,
-    colon: usize,
-    top: Frame,
-    below: &mut Below,
-    part: &mut Part<'a>,
-) -> Result<State, AllocError>
-    requires standing { Standing Awaiting scene.text.now ((colon + 1)) (length part.old.events) below.old.items top }
-    ensures tied { (base : Base) → Reading scene.entry.text.now scene.entry.context scene.entry.limit base
-        → ColonAt scene.entry.text.now false scene.entry.context colon → top.entry ≡ colon
-        → AtFirst scene.entry.text.now scene.entry.indentation scene.entry.context base (reverse below.old.items) top [] part.old
-        → IfOk result (StateTied scene.entry base below.new.items part.new) }
-    ensures counted { (total : ℕ) → code scene.entry.text.now colon ≡ 58
-        → AllCounted scene.entry.text.now total colon below.old.items top
-        → IfOk result (StateCounted scene.entry total below.new.items) }
-    ensures stepped { IfOk result (Stepped scene.entry.text.now colon part.old.escapes part.new below.new.items) }
-{
-    match in_mapping(alloc, scene, top, below, part)? {
-        None => Ok(State {
-            top,
-            step: Step::TooDeep(top.entry),
-        }),
-        Some(top) => keyless_value(alloc, scene, colon, top, below, part),
-    }
-}
-
-// The empty key of an entry, and its value from the `:` on.
+// The empty key of an entry, and its value from the `:` on (c-ns-flow-map-empty-key-entry, production 146).
 fn keyless_value<'a>(
     alloc: Global,
     scene: Scene<'a>,

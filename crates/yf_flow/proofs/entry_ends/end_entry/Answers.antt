@@ -34,3 +34,9 @@ after_entry-requires c =
 
 pub returns-clause-tied : goal.returns-clause-tied
 returns-clause-tied c = λ base u a. c.after_entry-2.ensures.tied base u (done_entry a c.if-is_pair.ensures.cases)
+
+pub returns-in-Some-clause-stepped : goal.returns-in-Some-clause-stepped
+returns-in-Some-clause-stepped c = c.after_entry.ensures.stepped
+
+pub returns-clause-stepped : goal.returns-clause-stepped
+returns-clause-stepped c = c.after_entry-2.ensures.stepped

@@ -45,3 +45,9 @@ returns-in-Key-clause-counted c = λ total a. let v = c.reaching-in-Key.ensures 
 
 pub returns-in-Value-clause-counted : goal.returns-in-Value-clause-counted
 returns-in-Value-clause-counted c = λ total a. let v = c.reaching-in-Value.ensures in c.end_entry.ensures.counted total (counted_reaching _ v.depth v.deepest a)
+
+pub returns-in-Key-clause-stepped : goal.returns-in-Key-clause-stepped
+returns-in-Key-clause-stepped c = c.behind_key.ensures.stepped
+
+pub returns-in-Value-clause-stepped : goal.returns-in-Value-clause-stepped
+returns-in-Value-clause-stepped c = c.end_entry.ensures.stepped
