@@ -18,7 +18,7 @@ ghost use Rattle.yf_flow.specs.Steps.{Reading};
 ghost use Rattle.yf_flow.specs.Tied.{AtEntry, AtNode, AtValue, Base, EntryNoted, NoBase, NotedEvent, pair_event};
 
 use crate::entry_ends::{close, end_entry};
-use crate::frame::{Frame, Kind, Role, Scene, State, Step};
+use crate::frame::{Frame, Kind, Role, Scene, Spot, State, Step};
 use crate::gap::{read_gap, read_separation_into};
 use crate::look::{closes, colon_stands, entry_ends, is_blank_before_entry};
 use crate::node::{Begun, begin_node, empty_node};
@@ -85,7 +85,13 @@ pub(crate) fn take_node<'a>(
     ensures escapes { IfOk result (λ _. All (IsCharBoundary scene.entry.text.now) part.new.escapes) }
 {
     let entry = entry_begun(scene.text, top);
-    match begin_node(alloc, scene, at, entry, top.depth, part)? {
+    let spot = Spot {
+        alloc,
+        scene,
+        at,
+        depth: top.depth,
+    };
+    match begin_node(spot, entry, part)? {
         Begun::Leaf(node) => Ok(State {
             top,
             step: Step::Ended(node),
