@@ -10,7 +10,7 @@ use Rattle.yf_flow.specs.declared.frame.Step.{Step}
 use Rattle.yf_flow.specs.declared.frame.Step.TheVariants.{Node, Entry, Ended, Done, Failed, TooDeep}
 use Rattle.yf_flow.specs.Machine.{Place, Indexed, Awaiting, StepReady, Ready, left}
 use Rattle.yf_flow.specs.Stepped.{Stepped}
-use Rattle.yf_flow.proofs.Frames.{frames_more}
+use Rattle.yf_flow.proofs.Frames.{frames_more, pushed_longer}
 
 place_from : {t : List ℕ} {a b p : ℕ} → b ≤ a → Place t a p → Place t b p
 place_from l q = record { boundary = q.boundary; order = omega (arith, q.order) }
@@ -45,6 +45,9 @@ stepped_failed {t} {xs} {a} {new} s f b e = record {
 pub frames_same : {t : List ℕ} {X : Type 0} {xs ys : List X} (frames : List Frame) → ys ≡ xs → All (Indexed t (length xs)) frames → All (Indexed t (length ys)) frames
 frames_same {t} frames e a = subst (λ z. All (Indexed t (length z)) frames) (sym e) a
 
+pub indexed_same : {t : List ℕ} {X : Type 0} {xs ys : List X} (f : Frame) → ys ≡ xs → Indexed t (length xs) f → Indexed t (length ys) f
+indexed_same {t} f e i = subst (λ z. Indexed t (length z) f) (sym e) i
+
 pub value_awaits : {t : List ℕ} {X : Type 0} {xs ys : List X} (f g : Frame) → ys ≡ xs → g.event ≡ f.event → g.entry_event ≡ f.entry_event → g.entry ≡ f.entry
     → Indexed t (length xs) f → Awaiting t (length ys) g
 value_awaits {t} {xs = xs} f g e a b d i = record {
@@ -68,3 +71,14 @@ indexed_as {t} {m} f g a b d i = record {
   entry = rw b i.entry;
   place = subst (λ z. IsCharBoundary t z) (sym d) i.place;
 }
+
+-- where an event was added
+module _ {t : List ℕ} {X : Type 0} (xs ys : List X) (x : X) where
+  pub frames_event : (frames : List Frame) → ys ≡ xs ++ x ∷ [] → All (Indexed t (length xs)) frames → All (Indexed t (length ys)) frames
+  frames_event frames e a = let l = pushed_longer xs ys x e in frames_more (length xs) (length ys) frames (omega (arith, l)) a
+
+  pub indexed_event : (f : Frame) → ys ≡ xs ++ x ∷ [] → Indexed t (length xs) f → Indexed t (length ys) f
+  indexed_event f e i = let l = pushed_longer xs ys x e in record { event = omega (arith, l, i.event); entry = omega (arith, l, i.entry); place = i.place }
+
+  pub awaited_event : (f : Frame) → ys ≡ xs ++ x ∷ [] → Awaiting t (length xs) f → Indexed t (length ys) f
+  awaited_event f e i = let l = pushed_longer xs ys x e in record { event = omega (arith, l, i.event); entry = omega (arith, l, i.entry); place = i.place }

@@ -7,7 +7,7 @@ use Rattle.yf_flow.proofs.TiedEnds.{gap_of}
 use Rattle.yf_flow.proofs.TiedValues.{separated_gap, unseparated_gap, value_done, value_after, value_beside, value_fails}
 use Rattle.yf_flow.proofs.CountLemmas.{moved, counted_as, failed_counted}
 use Rattle.std.proofs.lemmas.Result.{IfOk-weaker}
-use Rattle.yf_flow.proofs.MachineLemmas.{stepped_later, stepped_failed, frames_same, value_awaits}
+use Rattle.yf_flow.proofs.MachineLemmas.{stepped_later, stepped_failed, frames_same, frames_event, indexed_same, indexed_event, value_awaits}
 use Rattle.yf_flow.proofs.entries.await_value.Goals as goal
 
 pub returns-then-entry_ends-clause-tied : goal.returns-then-entry_ends-clause-tied
@@ -81,3 +81,10 @@ returns-then-json-clause-stepped c =
 
 pub returns-clause-stepped : goal.returns-clause-stepped
 returns-clause-stepped c = stepped_failed _ c.failed.ensures (frames_same _ c.in_ok-gap.ensures.events c.requires.standing.others) c.in_ok-gap.ensures.escapes
+
+pub end_entry-requires : goal.end_entry-requires
+end_entry-requires c =
+    let r = c.in_ok-gap.ensures in
+    let q = c.requires.standing in
+    let e = c.in_ok-push.ensures in
+    record { standing = record { boundary = r.place.boundary; innermost = indexed_event _ _ _ _ e (indexed_same _ r.events q.innermost); others = frames_event _ _ _ _ e (frames_same _ r.events q.others) } }

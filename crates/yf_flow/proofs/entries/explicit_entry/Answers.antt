@@ -3,7 +3,7 @@ use Rattle.yf_flow.specs.Beginning.{question_there}
 use Rattle.yf_flow.proofs.TiedSigns.{code_at, chosen_at, question_no_feed, rest_nothing, rest_value, rest_key}
 use Rattle.yf_flow.proofs.CountLemmas.{moved, question_passed}
 use Rattle.std.proofs.lemmas.Result.{IfOk-weaker}
-use Rattle.yf_flow.proofs.MachineLemmas.{stepped_later}
+use Rattle.yf_flow.proofs.MachineLemmas.{stepped_later, frames_event, indexed_event, awaited_event}
 use Rattle.yf_flow.proofs.entries.explicit_entry.Goals as goal
 
 pub returns-in-None-clause-tied : goal.returns-in-None-clause-tied
@@ -64,3 +64,11 @@ returns-else-colon_stands-clause-stepped c =
       moves = omega arith;
       same_escapes = m.escapes;
     }
+
+pub end_entry-requires : goal.end_entry-requires
+end_entry-requires c =
+    let m = c.in_ok-in_mapping.ensures in
+    let q = rw c.in-Some.is at m.top in
+    let e = c.in_ok-push-in-Some.ensures in
+    let f = c.in_ok-push-in-Some-2.ensures in
+    record { standing = record { boundary = c.requires.standing.boundary; innermost = indexed_event _ _ _ _ f (awaited_event _ _ _ _ e q); others = frames_event _ _ _ _ f (frames_event _ _ _ _ e m.below) } }

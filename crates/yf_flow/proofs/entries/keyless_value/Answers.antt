@@ -1,5 +1,6 @@
 use Rattle.std.proofs.Common.{refl, ap, ◌∙◌, ◌++◌, ◌∷◌, []}
 use Rattle.yf_flow.proofs.TiedSigns.{keyless_awaits}
+use Rattle.yf_flow.proofs.MachineLemmas.{frames_event, awaited_event}
 use Rattle.yf_flow.proofs.entries.keyless_value.Goals as goal
 
 pub returns-clause-tied : goal.returns-clause-tied
@@ -9,3 +10,9 @@ returns-clause-tied c = λ base r cs f a w.
 
 pub returns-clause-stepped : goal.returns-clause-stepped
 returns-clause-stepped c = c.await_value.ensures.stepped
+
+pub await_value-requires : goal.await_value-requires
+await_value-requires c =
+    let q = c.requires.standing in
+    let e = c.in_ok-push.ensures in
+    record { standing = record { boundary = q.boundary; innermost = awaited_event _ _ _ _ e q.innermost; others = frames_event _ _ _ _ e q.others } }

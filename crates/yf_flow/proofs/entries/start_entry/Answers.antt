@@ -122,3 +122,17 @@ returns-clause-stepped c =
       moves = omega (arith, p.place.order);
       same_escapes = q.escapes ∙ p.escapes;
     }
+
+pub explicit_entry-requires : goal.explicit_entry-requires
+explicit_entry-requires c =
+    let p = c.in_ok-place.ensures in
+    let q = c.in_ok-end.ensures in
+    let v = c.with_entry-top.ensures in
+    let e = rw c.in-Some.is at q.place in
+    record {
+      standing = record {
+        boundary = e.boundary;
+        innermost = entry_awaits c.args.top _ p.events q.events v.event (v.index ∙ c.len.ensures) (rw v.entry p.place.boundary) c.requires.standing.innermost;
+        others = frames_same _ (q.events ∙ p.events) c.requires.standing.others;
+      };
+    }
