@@ -11,5 +11,7 @@ pub mod NodeAnswers
 pub mod NodeBegun
 pub mod NodeRead
 pub mod NodeReaders
+pub mod Spots
+pub mod Stepped
 pub mod Steps
 pub mod Tied

@@ -10,14 +10,15 @@ ghost use Rattle.yf_comments.specs.Comments.{Separate};
 ghost use Rattle.yf_events.specs.Event.{placed_value};
 ghost use Rattle.yf_grammar.specs.Parser.{ColonAt};
 ghost use Rattle.yf_flow.specs.Beginning.{AloneAwaited, AtFirst, AtSign, Questioned, SignAt};
-ghost use Rattle.yf_flow.specs.Counted.{AllCounted, StepCounted, openers_from};
+ghost use Rattle.yf_flow.specs.Counted.{AllCounted, openers_from};
 ghost use Rattle.yf_flow.specs.EntryBegun.{EntryBegun};
 ghost use Rattle.yf_flow.specs.Machine.{Awaiting, Indexed, Place, Ready, left};
+ghost use Rattle.yf_flow.specs.Stepped.{Standing, StateCounted, StateTied, Stepped};
 ghost use Rattle.yf_flow.specs.Steps.{Reading};
-ghost use Rattle.yf_flow.specs.Tied.{AtEntry, AtNode, AtValue, Base, EntryNoted, NoBase, NotedEvent, StepTied, pair_event};
+ghost use Rattle.yf_flow.specs.Tied.{AtEntry, AtNode, AtValue, Base, EntryNoted, NoBase, NotedEvent, pair_event};
 
 use crate::entry_ends::{close, end_entry};
-use crate::frame::{Frame, Kind, Role, Scene, State, Step};
+use crate::frame::{Frame, Kind, Role, Scene, Spot, State, Step};
 use crate::gap::{read_gap, read_separation_into};
 use crate::look::{closes, colon_stands, entry_ends, is_blank_before_entry};
 use crate::node::{Begun, begin_node, empty_node};
@@ -72,22 +73,25 @@ pub(crate) fn take_node<'a>(
     below: &mut Below,
     part: &mut Part<'a>,
 ) -> Result<State, AllocError>
-    requires boundary { IsCharBoundary scene.text.now at }
-    requires top { Awaiting scene.text.now (length part.old.events) top }
-    requires below { All (Indexed scene.text.now (length part.old.events)) below.old.items }
+    requires standing { Standing Awaiting scene.text.now at (length part.old.events) below.old.items top }
     requires escapes { All (IsCharBoundary scene.text.now) part.old.escapes }
     ensures tied { (base : Base) → Reading scene.entry.text.now scene.entry.context scene.entry.limit base
         → AtNode scene.entry.text.now scene.entry.indentation scene.entry.context base (reverse below.old.items) top at part.old
-        → IfOk result (λ s. StepTied scene.entry.text.now scene.entry.indentation scene.entry.context base
-        (reverse below.new.items) s.top s.step part.new) }
+        → IfOk result (StateTied scene.entry base below.new.items part.new) }
     ensures counted { (total : ℕ) → AllCounted scene.entry.text.now total at below.old.items top
-        → IfOk result (λ s. StepCounted scene.entry.text.now scene.entry.limit total below.new.items s.top s.step) }
+        → IfOk result (StateCounted scene.entry total below.new.items) }
     ensures ready { IfOk result (λ s. Ready scene.entry.text.now at (length part.new.events) below.new.items s) }
     ensures moves { IfOk result (λ s. left (length scene.entry.text.now) s.step < 2 * (length scene.entry.text.now - at) + 1) }
     ensures escapes { IfOk result (λ _. All (IsCharBoundary scene.entry.text.now) part.new.escapes) }
 {
     let entry = entry_begun(scene.text, top);
-    match begin_node(alloc, scene, at, entry, top.depth, part)? {
+    let spot = Spot {
+        alloc,
+        scene,
+        at,
+        depth: top.depth,
+    };
+    match begin_node(spot, entry, part)? {
         Begun::Leaf(node) => Ok(State {
             top,
             step: Step::Ended(node),
@@ -117,18 +121,13 @@ pub(crate) fn start_entry<'a>(
     below: &mut Below,
     part: &mut Part<'a>,
 ) -> Result<State, AllocError>
-    requires boundary { IsCharBoundary scene.text.now at }
-    requires top { Awaiting scene.text.now (length part.old.events) top }
-    requires below { All (Indexed scene.text.now (length part.old.events)) below.old.items }
+    requires standing { Standing Awaiting scene.text.now at (length part.old.events) below.old.items top }
     ensures tied { (base : Base) → Reading scene.entry.text.now scene.entry.context scene.entry.limit base
         → AtEntry scene.entry.text.now scene.entry.indentation scene.entry.context base (reverse below.old.items) top at part.old
-        → IfOk result (λ s. StepTied scene.entry.text.now scene.entry.indentation scene.entry.context base
-        (reverse below.new.items) s.top s.step part.new) }
+        → IfOk result (StateTied scene.entry base below.new.items part.new) }
     ensures counted { (total : ℕ) → AllCounted scene.entry.text.now total at below.old.items top
-        → IfOk result (λ s. StepCounted scene.entry.text.now scene.entry.limit total below.new.items s.top s.step) }
-    ensures ready { IfOk result (λ s. Ready scene.entry.text.now at (length part.new.events) below.new.items s) }
-    ensures moves { IfOk result (λ s. left (length scene.entry.text.now) s.step ≤ 2 * (length scene.entry.text.now - at) + 1) }
-    ensures escapes { IfOk result (λ _. part.new.escapes ≡ part.old.escapes) }
+        → IfOk result (StateCounted scene.entry total below.new.items) }
+    ensures stepped { IfOk result (Stepped scene.entry.text.now at part.old.escapes part.new below.new.items) }
 {
     let place = read_gap(alloc, scene, at, part)?.end;
     if closes(scene.text, place, top.kind) {
@@ -140,7 +139,15 @@ pub(crate) fn start_entry<'a>(
         None => {}
     }
     if colon_stands(scene, place, false) {
-        return lone_value(alloc, scene, place, top, below, part);
+        match in_mapping(alloc, scene, top, below, part)? {
+            None => {
+                return Ok(State {
+                    top,
+                    step: Step::TooDeep(top.entry),
+                });
+            }
+            Some(top) => return keyless_value(alloc, scene, place, top, below, part),
+        }
     }
     Ok(State {
         top,
@@ -179,21 +186,16 @@ fn explicit_entry<'a>(
     below: &mut Below,
     part: &mut Part<'a>,
 ) -> Result<State, AllocError>
-    requires boundary { IsCharBoundary scene.text.now at }
-    requires top { Awaiting scene.text.now (length part.old.events) top }
-    requires below { All (Indexed scene.text.now (length part.old.events)) below.old.items }
+    requires standing { Standing Awaiting scene.text.now at (length part.old.events) below.old.items top }
     ensures tied { (base : Base) → Reading scene.entry.text.now scene.entry.context scene.entry.limit base
         → (cs : List CommentValue) → code scene.entry.text.now top.entry ≡ 63
         → Chosen (Separate scene.entry.text.now scene.entry.indentation scene.entry.context (top.entry + 1)) at cs
         → AtFirst scene.entry.text.now scene.entry.indentation scene.entry.context base (reverse below.old.items) top cs part.old
-        → IfOk result (λ s. StepTied scene.entry.text.now scene.entry.indentation scene.entry.context base
-        (reverse below.new.items) s.top s.step part.new) }
+        → IfOk result (StateTied scene.entry base below.new.items part.new) }
     ensures counted { (total : ℕ) → code scene.entry.text.now top.entry ≡ 63 → top.entry < at
         → AllCounted scene.entry.text.now total top.entry below.old.items top
-        → IfOk result (λ s. StepCounted scene.entry.text.now scene.entry.limit total below.new.items s.top s.step) }
-    ensures ready { IfOk result (λ s. Ready scene.entry.text.now at (length part.new.events) below.new.items s) }
-    ensures moves { IfOk result (λ s. left (length scene.entry.text.now) s.step ≤ 2 * (length scene.entry.text.now - at) + 1) }
-    ensures escapes { IfOk result (λ _. part.new.escapes ≡ part.old.escapes) }
+        → IfOk result (StateCounted scene.entry total below.new.items) }
+    ensures stepped { IfOk result (Stepped scene.entry.text.now at part.old.escapes part.new below.new.items) }
 {
     match in_mapping(alloc, scene, top, below, part)? {
         None => Ok(State {
@@ -218,40 +220,7 @@ fn explicit_entry<'a>(
     }
 }
 
-// A value without a key, from its `:` on (c-ns-flow-map-empty-key-entry, production 146).
-fn lone_value<'a>(
-    alloc: Global,
-    scene: Scene<'a>,
-    colon: usize,
-    top: Frame,
-    below: &mut Below,
-    part: &mut Part<'a>,
-) -> Result<State, AllocError>
-    requires boundary { IsCharBoundary scene.text.now (colon + 1) }
-    requires top { Awaiting scene.text.now (length part.old.events) top }
-    requires below { All (Indexed scene.text.now (length part.old.events)) below.old.items }
-    ensures tied { (base : Base) → Reading scene.entry.text.now scene.entry.context scene.entry.limit base
-        → ColonAt scene.entry.text.now false scene.entry.context colon → top.entry ≡ colon
-        → AtFirst scene.entry.text.now scene.entry.indentation scene.entry.context base (reverse below.old.items) top [] part.old
-        → IfOk result (λ s. StepTied scene.entry.text.now scene.entry.indentation scene.entry.context base
-        (reverse below.new.items) s.top s.step part.new) }
-    ensures counted { (total : ℕ) → code scene.entry.text.now colon ≡ 58
-        → AllCounted scene.entry.text.now total colon below.old.items top
-        → IfOk result (λ s. StepCounted scene.entry.text.now scene.entry.limit total below.new.items s.top s.step) }
-    ensures ready { IfOk result (λ s. Ready scene.entry.text.now colon (length part.new.events) below.new.items s) }
-    ensures moves { IfOk result (λ s. left (length scene.entry.text.now) s.step ≤ 2 * (length scene.entry.text.now - colon) + 1) }
-    ensures escapes { IfOk result (λ _. part.new.escapes ≡ part.old.escapes) }
-{
-    match in_mapping(alloc, scene, top, below, part)? {
-        None => Ok(State {
-            top,
-            step: Step::TooDeep(top.entry),
-        }),
-        Some(top) => keyless_value(alloc, scene, colon, top, below, part),
-    }
-}
-
-// The empty key of an entry, and its value from the `:` on.
+// The empty key of an entry, and its value from the `:` on (c-ns-flow-map-empty-key-entry, production 146).
 fn keyless_value<'a>(
     alloc: Global,
     scene: Scene<'a>,
@@ -260,18 +229,14 @@ fn keyless_value<'a>(
     below: &mut Below,
     part: &mut Part<'a>,
 ) -> Result<State, AllocError>
-    requires boundary { IsCharBoundary scene.text.now (colon + 1) }
-    requires top { Awaiting scene.text.now (length part.old.events) top }
-    requires below { All (Indexed scene.text.now (length part.old.events)) below.old.items }
+    requires standing { Standing Awaiting scene.text.now ((colon + 1)) (length part.old.events) below.old.items top }
     ensures tied { (base : Base) → Reading scene.entry.text.now scene.entry.context scene.entry.limit base
         → (cs : List CommentValue) → code scene.entry.text.now top.entry ≢ 10
         → (a : AtSign scene.entry.text.now scene.entry.indentation scene.entry.context base
-        (reverse below.old.items) top cs part.old) → AloneAwaited scene.entry.text.now scene.entry.indentation scene.entry.context a.layer cs colon → IfOk result (λ s. StepTied scene.entry.text.now scene.entry.indentation scene.entry.context base (reverse below.new.items) s.top s.step part.new) }
+        (reverse below.old.items) top cs part.old) → AloneAwaited scene.entry.text.now scene.entry.indentation scene.entry.context a.layer cs colon → IfOk result (StateTied scene.entry base below.new.items part.new) }
     ensures counted { (total : ℕ) → AllCounted scene.entry.text.now total (colon + 1) below.old.items top
-        → IfOk result (λ s. StepCounted scene.entry.text.now scene.entry.limit total below.new.items s.top s.step) }
-    ensures ready { IfOk result (λ s. Ready scene.entry.text.now colon (length part.new.events) below.new.items s) }
-    ensures moves { IfOk result (λ s. left (length scene.entry.text.now) s.step ≤ 2 * (length scene.entry.text.now - colon) + 1) }
-    ensures escapes { IfOk result (λ _. part.new.escapes ≡ part.old.escapes) }
+        → IfOk result (StateCounted scene.entry total below.new.items) }
+    ensures stepped { IfOk result (Stepped scene.entry.text.now colon part.old.escapes part.new below.new.items) }
 {
     let entry = entry_at(scene.text, top.entry, Some(colon));
     part.events.push(empty_node(alloc, Some(entry)))?;
@@ -354,19 +319,13 @@ pub(crate) fn await_value<'a>(
     below: &mut Below,
     part: &mut Part<'a>,
 ) -> Result<State, AllocError>
-    requires boundary { IsCharBoundary scene.text.now (colon + 1) }
-    requires top { Indexed scene.text.now (length part.old.events) top }
-    requires below { All (Indexed scene.text.now (length part.old.events)) below.old.items }
+    requires standing { Standing Indexed scene.text.now ((colon + 1)) (length part.old.events) below.old.items top }
     ensures tied { (base : Base) → IsUtf8 scene.entry.text.now
         → AtValue scene.entry.text.now scene.entry.indentation scene.entry.context base
-        (reverse below.old.items) top json colon part.old → IfOk result
-        (λ s. StepTied scene.entry.text.now scene.entry.indentation scene.entry.context base
-        (reverse below.new.items) s.top s.step part.new) }
+        (reverse below.old.items) top json colon part.old → IfOk result (StateTied scene.entry base below.new.items part.new) }
     ensures counted { (total : ℕ) → AllCounted scene.entry.text.now total (colon + 1) below.old.items top
-        → IfOk result (λ s. StepCounted scene.entry.text.now scene.entry.limit total below.new.items s.top s.step) }
-    ensures ready { IfOk result (λ s. Ready scene.entry.text.now colon (length part.new.events) below.new.items s) }
-    ensures moves { IfOk result (λ s. left (length scene.entry.text.now) s.step ≤ 2 * (length scene.entry.text.now - colon) + 1) }
-    ensures escapes { IfOk result (λ _. part.new.escapes ≡ part.old.escapes) }
+        → IfOk result (StateCounted scene.entry total below.new.items) }
+    ensures stepped { IfOk result (Stepped scene.entry.text.now colon part.old.escapes part.new below.new.items) }
 {
     let gap = read_gap(alloc, scene, colon + 1, part)?;
     if entry_ends(scene.text, gap.end) {

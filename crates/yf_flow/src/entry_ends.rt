@@ -1,15 +1,16 @@
 //! The steps after a node of a flow collection: what its end makes of it, the end of its entry, and the closing bracket.
 //! Each step leads on to a later place of the text, and none goes back.
-ghost use Rattle.std.specs.Prelude.{◌≡◌, ℕ, ◌+◌, ◌-◌, ◌*◌, ◌<◌, ◌≤◌, length, reverse, IfOk};
+ghost use Rattle.std.specs.Prelude.{◌≡◌, ℕ, ◌+◌, ◌<◌, ◌≤◌, length, reverse, IfOk};
 ghost use Rattle.std.specs.List.{All};
 ghost use Rattle.std.specs.Str.{IsCharBoundary, IsUtf8};
 ghost use Rattle.yf_chars.specs.Text.{code};
 ghost use Rattle.yf_events.specs.Event.{new_event_value};
-ghost use Rattle.yf_flow.specs.Counted.{AllCounted, NodeCounted, StepCounted};
-ghost use Rattle.yf_flow.specs.Machine.{Indexed, Ready, left};
+ghost use Rattle.yf_flow.specs.Counted.{AllCounted, NodeCounted};
+ghost use Rattle.yf_flow.specs.Machine.{Indexed};
 ghost use Rattle.yf_grammar.specs.Parser.{PairKey};
+ghost use Rattle.yf_flow.specs.Stepped.{Standing, StateCounted, StateTied, Stepped};
 ghost use Rattle.yf_flow.specs.Steps.{Reached, Reading};
-ghost use Rattle.yf_flow.specs.Tied.{AtClosing, AtEnded, AtEntryDone, AtEntryEnd, Base, StepTied, end_event};
+ghost use Rattle.yf_flow.specs.Tied.{AtClosing, AtEnded, AtEntryDone, AtEntryEnd, Base, end_event};
 
 use crate::entries::{Below, await_value, failed, pair_start};
 use crate::frame::{Frame, Kind, Node, Role, Scene, State, Step};
@@ -22,7 +23,8 @@ use yf_events::event::NewEvent;
 use yf_events::part::Part;
 use yf_lines::basic::skip_whites;
 
-/// Goes on after a node of the collection.
+/// Goes on after a node of the collection. Where a `:` follows an item of a sequence on its line, the item is the key of a
+/// single pair (ns-flow-pair-entry, production 151).
 pub(crate) fn finish_node<'a>(
     alloc: Global,
     scene: Scene<'a>,
@@ -31,21 +33,29 @@ pub(crate) fn finish_node<'a>(
     below: &mut Below,
     part: &mut Part<'a>,
 ) -> Result<State, AllocError>
-    requires boundary { IsCharBoundary scene.text.now node.end }
-    requires top { Indexed scene.text.now (length part.old.events) top }
-    requires below { All (Indexed scene.text.now (length part.old.events)) below.old.items }
+    requires standing { Standing Indexed scene.text.now node.end (length part.old.events) below.old.items top }
     ensures tied { (base : Base) → Reading scene.entry.text.now scene.entry.context scene.entry.limit base
         → AtEnded scene.entry.text.now scene.entry.indentation scene.entry.context base (reverse below.old.items) top node part.old
-        → IfOk result (λ s. StepTied scene.entry.text.now scene.entry.indentation scene.entry.context base
-        (reverse below.new.items) s.top s.step part.new) }
+        → IfOk result (StateTied scene.entry base below.new.items part.new) }
     ensures counted { (total : ℕ) → NodeCounted scene.entry.text.now total node.deepest node.end below.old.items top
-        → IfOk result (λ s. StepCounted scene.entry.text.now scene.entry.limit total below.new.items s.top s.step) }
-    ensures ready { IfOk result (λ s. Ready scene.entry.text.now node.end (length part.new.events) below.new.items s) }
-    ensures moves { IfOk result (λ s. left (length scene.entry.text.now) s.step ≤ 2 * (length scene.entry.text.now - node.end) + 1) }
-    ensures escapes { IfOk result (λ _. part.new.escapes ≡ part.old.escapes) }
+        → IfOk result (StateCounted scene.entry total below.new.items) }
+    ensures stepped { IfOk result (Stepped scene.entry.text.now node.end part.old.escapes part.new below.new.items) }
 {
     match top.role {
-        Role::Item => behind_item(alloc, scene, node, top, below, part),
+        Role::Item => {
+            let colon = skip_whites(scene.text, node.end);
+            if is_pair_key(scene, top.entry, colon, node.json) {
+                return pair_of_key(alloc, scene, node, colon, top, below, part);
+            }
+            after_entry(
+                alloc,
+                scene,
+                node.end,
+                top.reaching(node.deepest),
+                below,
+                part,
+            )
+        }
         Role::Key => behind_key(alloc, scene, node, top.reaching(node.deepest), below, part),
         Role::Value => end_entry(
             alloc,
@@ -59,43 +69,6 @@ pub(crate) fn finish_node<'a>(
     }
 }
 
-// After an item of a sequence: where a `:` follows on its line, it is the key of a single pair
-// (ns-flow-pair-entry, production 151).
-fn behind_item<'a>(
-    alloc: Global,
-    scene: Scene<'a>,
-    node: Node,
-    top: Frame,
-    below: &mut Below,
-    part: &mut Part<'a>,
-) -> Result<State, AllocError>
-    requires boundary { IsCharBoundary scene.text.now node.end }
-    requires top { Indexed scene.text.now (length part.old.events) top }
-    requires below { All (Indexed scene.text.now (length part.old.events)) below.old.items }
-    ensures tied { (base : Base) → Reading scene.entry.text.now scene.entry.context scene.entry.limit base
-        → AtEnded scene.entry.text.now scene.entry.indentation scene.entry.context base (reverse below.old.items) top node part.old
-        → top.role ≡ Role.Item → IfOk result (λ s. StepTied scene.entry.text.now scene.entry.indentation scene.entry.context base
-        (reverse below.new.items) s.top s.step part.new) }
-    ensures counted { (total : ℕ) → NodeCounted scene.entry.text.now total node.deepest node.end below.old.items top
-        → IfOk result (λ s. StepCounted scene.entry.text.now scene.entry.limit total below.new.items s.top s.step) }
-    ensures ready { IfOk result (λ s. Ready scene.entry.text.now node.end (length part.new.events) below.new.items s) }
-    ensures moves { IfOk result (λ s. left (length scene.entry.text.now) s.step ≤ 2 * (length scene.entry.text.now - node.end) + 1) }
-    ensures escapes { IfOk result (λ _. part.new.escapes ≡ part.old.escapes) }
-{
-    let colon = skip_whites(scene.text, node.end);
-    if is_pair_key(scene, top.entry, colon, node.json) {
-        return pair_of_key(alloc, scene, node, colon, top, below, part);
-    }
-    after_entry(
-        alloc,
-        scene,
-        node.end,
-        top.reaching(node.deepest),
-        below,
-        part,
-    )
-}
-
 // The item that was read last becomes the key of a single pair.
 fn pair_of_key<'a>(
     alloc: Global,
@@ -106,21 +79,16 @@ fn pair_of_key<'a>(
     below: &mut Below,
     part: &mut Part<'a>,
 ) -> Result<State, AllocError>
-    requires boundary { IsCharBoundary scene.text.now (colon + 1) }
-    requires top { Indexed scene.text.now (length part.old.events) top }
-    requires below { All (Indexed scene.text.now (length part.old.events)) below.old.items }
+    requires standing { Standing Indexed scene.text.now ((colon + 1)) (length part.old.events) below.old.items top }
     ensures tied { (base : Base) → Reading scene.entry.text.now scene.entry.context scene.entry.limit base
         → (a : AtEnded scene.entry.text.now scene.entry.indentation scene.entry.context base
         (reverse below.old.items) top node part.old) → top.role ≡ Role.Item
         → PairKey scene.entry.text.now scene.entry.context a.layer.start a.answer colon
-        → IfOk result (λ s. StepTied scene.entry.text.now scene.entry.indentation scene.entry.context base
-        (reverse below.new.items) s.top s.step part.new) }
+        → IfOk result (StateTied scene.entry base below.new.items part.new) }
     ensures counted { (total : ℕ) → node.end ≤ colon → code scene.entry.text.now colon ≡ 58
         → NodeCounted scene.entry.text.now total node.deepest node.end below.old.items top
-        → IfOk result (λ s. StepCounted scene.entry.text.now scene.entry.limit total below.new.items s.top s.step) }
-    ensures ready { IfOk result (λ s. Ready scene.entry.text.now colon (length part.new.events) below.new.items s) }
-    ensures moves { IfOk result (λ s. left (length scene.entry.text.now) s.step ≤ 2 * (length scene.entry.text.now - colon) + 1) }
-    ensures escapes { IfOk result (λ _. part.new.escapes ≡ part.old.escapes) }
+        → IfOk result (StateCounted scene.entry total below.new.items) }
+    ensures stepped { IfOk result (Stepped scene.entry.text.now colon part.old.escapes part.new below.new.items) }
 {
     let deepest = top.depth.max(node.deepest);
     if deepest >= scene.limit {
@@ -154,19 +122,14 @@ fn behind_key<'a>(
     below: &mut Below,
     part: &mut Part<'a>,
 ) -> Result<State, AllocError>
-    requires boundary { IsCharBoundary scene.text.now node.end }
-    requires top { Indexed scene.text.now (length part.old.events) top }
-    requires below { All (Indexed scene.text.now (length part.old.events)) below.old.items }
+    requires standing { Standing Indexed scene.text.now node.end (length part.old.events) below.old.items top }
     ensures tied { (base : Base) → Reading scene.entry.text.now scene.entry.context scene.entry.limit base → (first : Frame)
         → AtEnded scene.entry.text.now scene.entry.indentation scene.entry.context base
         (reverse below.old.items) first node part.old → first.role ≡ Role.Key → Reached first node.deepest top
-        → IfOk result (λ s. StepTied scene.entry.text.now scene.entry.indentation scene.entry.context base
-        (reverse below.new.items) s.top s.step part.new) }
+        → IfOk result (StateTied scene.entry base below.new.items part.new) }
     ensures counted { (total : ℕ) → AllCounted scene.entry.text.now total node.end below.old.items top
-        → IfOk result (λ s. StepCounted scene.entry.text.now scene.entry.limit total below.new.items s.top s.step) }
-    ensures ready { IfOk result (λ s. Ready scene.entry.text.now node.end (length part.new.events) below.new.items s) }
-    ensures moves { IfOk result (λ s. left (length scene.entry.text.now) s.step ≤ 2 * (length scene.entry.text.now - node.end) + 1) }
-    ensures escapes { IfOk result (λ _. part.new.escapes ≡ part.old.escapes) }
+        → IfOk result (StateCounted scene.entry total below.new.items) }
+    ensures stepped { IfOk result (Stepped scene.entry.text.now node.end part.old.escapes part.new below.new.items) }
 {
     let place = read_gap(alloc, scene, node.end, part)?.end;
     if colon_stands(scene, place, node.json) {
@@ -178,7 +141,7 @@ fn behind_key<'a>(
 }
 
 /// An entry has been read whose last node or indicator ends at `finish`; what follows is read from `at` on. A single pair
-/// ends with it.
+/// ends with it, and what follows belongs to its sequence.
 pub(crate) fn end_entry<'a>(
     alloc: Global,
     scene: Scene<'a>,
@@ -188,66 +151,32 @@ pub(crate) fn end_entry<'a>(
     below: &mut Below,
     part: &mut Part<'a>,
 ) -> Result<State, AllocError>
-    requires boundary { IsCharBoundary scene.text.now at }
-    requires top { Indexed scene.text.now (length part.old.events) top }
-    requires below { All (Indexed scene.text.now (length part.old.events)) below.old.items }
+    requires standing { Standing Indexed scene.text.now at (length part.old.events) below.old.items top }
     ensures tied { (base : Base) → IsUtf8 scene.entry.text.now
         → AtEntryDone scene.entry.text.now scene.entry.indentation scene.entry.context base
-        (reverse below.old.items) top finish at part.old → IfOk result
-        (λ s. StepTied scene.entry.text.now scene.entry.indentation scene.entry.context base
-        (reverse below.new.items) s.top s.step part.new) }
+        (reverse below.old.items) top finish at part.old → IfOk result (StateTied scene.entry base below.new.items part.new) }
     ensures counted { (total : ℕ) → AllCounted scene.entry.text.now total at below.old.items top
-        → IfOk result (λ s. StepCounted scene.entry.text.now scene.entry.limit total below.new.items s.top s.step) }
-    ensures ready { IfOk result (λ s. Ready scene.entry.text.now at (length part.new.events) below.new.items s) }
-    ensures moves { IfOk result (λ s. left (length scene.entry.text.now) s.step ≤ 2 * (length scene.entry.text.now - at) + 1) }
-    ensures escapes { IfOk result (λ _. part.new.escapes ≡ part.old.escapes) }
+        → IfOk result (StateCounted scene.entry total below.new.items) }
+    ensures stepped { IfOk result (Stepped scene.entry.text.now at part.old.escapes part.new below.new.items) }
 {
     if top.kind.is_pair() {
-        return end_pair(alloc, scene, finish, at, top, below, part);
+        part.events.push(unplaced(alloc, NewEvent::MapEnd, None))?;
+        part.events.set_end(top.event, finish)?;
+        match below.pop() {
+            Some(sequence) => {
+                return after_entry(
+                    alloc,
+                    scene,
+                    at,
+                    sequence.reaching(top.deepest),
+                    below,
+                    part,
+                );
+            }
+            None => return Ok(failed(top)),
+        }
     }
     after_entry(alloc, scene, at, top, below, part)
-}
-
-// The same of a single pair: what follows belongs to its sequence.
-fn end_pair<'a>(
-    alloc: Global,
-    scene: Scene<'a>,
-    finish: usize,
-    at: usize,
-    top: Frame,
-    below: &mut Below,
-    part: &mut Part<'a>,
-) -> Result<State, AllocError>
-    requires boundary { IsCharBoundary scene.text.now at }
-    requires top { Indexed scene.text.now (length part.old.events) top }
-    requires below { All (Indexed scene.text.now (length part.old.events)) below.old.items }
-    requires pair { top.kind ≡ Kind.Pair }
-    ensures tied { (base : Base) → IsUtf8 scene.entry.text.now
-        → AtEntryDone scene.entry.text.now scene.entry.indentation scene.entry.context base
-        (reverse below.old.items) top finish at part.old → IfOk result
-        (λ s. StepTied scene.entry.text.now scene.entry.indentation scene.entry.context base
-        (reverse below.new.items) s.top s.step part.new) }
-    ensures counted { (total : ℕ) → AllCounted scene.entry.text.now total at below.old.items top
-        → IfOk result (λ s. StepCounted scene.entry.text.now scene.entry.limit total below.new.items s.top s.step) }
-    ensures ready { IfOk result (λ s. Ready scene.entry.text.now at (length part.new.events) below.new.items s) }
-    ensures moves { IfOk result (λ s. left (length scene.entry.text.now) s.step ≤ 2 * (length scene.entry.text.now - at) + 1) }
-    ensures escapes { IfOk result (λ _. part.new.escapes ≡ part.old.escapes) }
-{
-    part.events.push(unplaced(alloc, NewEvent::MapEnd, None))?;
-    part.events.set_end(top.event, finish)?;
-    match below.pop() {
-        Some(sequence) => {
-            after_entry(
-                alloc,
-                scene,
-                at,
-                sequence.reaching(top.deepest),
-                below,
-                part,
-            )
-        }
-        None => Ok(failed(top)),
-    }
 }
 
 // After an entry: a comma, or the bracket that closes the collection.
@@ -259,18 +188,13 @@ fn after_entry<'a>(
     below: &mut Below,
     part: &mut Part<'a>,
 ) -> Result<State, AllocError>
-    requires boundary { IsCharBoundary scene.text.now at }
-    requires top { Indexed scene.text.now (length part.old.events) top }
-    requires below { All (Indexed scene.text.now (length part.old.events)) below.old.items }
+    requires standing { Standing Indexed scene.text.now at (length part.old.events) below.old.items top }
     ensures tied { (base : Base) → IsUtf8 scene.entry.text.now
         → AtEntryEnd scene.entry.text.now scene.entry.indentation scene.entry.context base (reverse below.old.items) top at part.old
-        → IfOk result (λ s. StepTied scene.entry.text.now scene.entry.indentation scene.entry.context base
-        (reverse below.new.items) s.top s.step part.new) }
+        → IfOk result (StateTied scene.entry base below.new.items part.new) }
     ensures counted { (total : ℕ) → AllCounted scene.entry.text.now total at below.old.items top
-        → IfOk result (λ s. StepCounted scene.entry.text.now scene.entry.limit total below.new.items s.top s.step) }
-    ensures ready { IfOk result (λ s. Ready scene.entry.text.now at (length part.new.events) below.new.items s) }
-    ensures moves { IfOk result (λ s. left (length scene.entry.text.now) s.step ≤ 2 * (length scene.entry.text.now - at) + 1) }
-    ensures escapes { IfOk result (λ _. part.new.escapes ≡ part.old.escapes) }
+        → IfOk result (StateCounted scene.entry total below.new.items) }
+    ensures stepped { IfOk result (Stepped scene.entry.text.now at part.old.escapes part.new below.new.items) }
 {
     let place = read_gap(alloc, scene, at, part)?.end;
     if stands(scene.text, place, b',') {
@@ -310,14 +234,10 @@ pub(crate) fn close<'a>(
     requires top { top.event < length part.old.events }
     requires below { All (Indexed scene.text.now (length part.old.events)) below.old.items }
     ensures tied { (base : Base) → AtClosing scene.entry.text.now scene.entry.indentation scene.entry.context base
-        (reverse below.old.items) top at part.old → IfOk result
-        (λ s. StepTied scene.entry.text.now scene.entry.indentation scene.entry.context base
-        (reverse below.new.items) s.top s.step part.new) }
+        (reverse below.old.items) top at part.old → IfOk result (StateTied scene.entry base below.new.items part.new) }
     ensures counted { (total : ℕ) → AllCounted scene.entry.text.now total at below.old.items top
-        → IfOk result (λ s. StepCounted scene.entry.text.now scene.entry.limit total below.new.items s.top s.step) }
-    ensures ready { IfOk result (λ s. Ready scene.entry.text.now at (length part.new.events) below.new.items s) }
-    ensures moves { IfOk result (λ s. left (length scene.entry.text.now) s.step ≤ 2 * (length scene.entry.text.now - at) + 1) }
-    ensures escapes { IfOk result (λ _. part.new.escapes ≡ part.old.escapes) }
+        → IfOk result (StateCounted scene.entry total below.new.items) }
+    ensures stepped { IfOk result (Stepped scene.entry.text.now at part.old.escapes part.new below.new.items) }
 {
     part.events
         .push(unplaced(alloc, collection_end(top.kind), None))?;

@@ -2,6 +2,7 @@
 ghost use Rattle.std.specs.Prelude.{◌≡◌, max, MatchBool};
 ghost use Rattle.yf_flow.specs.Steps.{first_role};
 
+use std::alloc::Global;
 use yf_chars::context::Ctx;
 
 /// What is read, and how: the text, its indentation and context, and how many collections may be open at once.
@@ -11,6 +12,15 @@ pub struct Scene<'a> {
     pub indentation: i32,
     pub context: Ctx,
     pub limit: usize,
+}
+
+/// Where a node is awaited: at which offset of what is read, and how many collections are open there.
+#[derive(Clone, Copy)]
+pub(crate) struct Spot<'a> {
+    pub(crate) alloc: Global,
+    pub(crate) scene: Scene<'a>,
+    pub(crate) at: usize,
+    pub(crate) depth: usize,
 }
 
 /// What an open collection is. A single pair is a mapping without brackets, in a sequence.

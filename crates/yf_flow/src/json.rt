@@ -8,9 +8,10 @@ ghost use Rattle.yf_grammar.specs.Meaning.{event_with, start_of};
 ghost use Rattle.yf_grammar.specs.Parser.{begins_content};
 ghost use Rattle.yf_chars.specs.Text.{code};
 ghost use Rattle.yf_flow.specs.Machine.{BegunAt};
-ghost use Rattle.yf_flow.specs.Begun.{ContentBegun, Opens, is_sequence};
+ghost use Rattle.yf_flow.specs.Begun.{Opens, is_sequence};
+ghost use Rattle.yf_flow.specs.Spots.{SpotContent};
 
-use crate::frame::{Frame, Kind, Node, Role, Scene};
+use crate::frame::{Frame, Kind, Node, Role, Spot};
 use crate::leaf::{read_single, scan_double};
 use crate::node::{Begun, Lead, push_scalar};
 use std::alloc::{AllocError, Global};
@@ -21,55 +22,45 @@ use yf_props::props::Props;
 
 /// A quoted scalar, or the opening bracket of a flow collection (c-flow-json-content, production 157).
 pub(crate) fn json_content<'a>(
-    alloc: Global,
-    scene: Scene<'a>,
-    at: usize,
+    spot: Spot<'a>,
     lead: Lead<'a>,
-    depth: usize,
     part: &mut Part<'a>,
 ) -> Result<Begun, AllocError>
-    requires boundary { IsCharBoundary scene.text.now at }
-    requires escapes { All (IsCharBoundary scene.text.now) part.old.escapes }
-    requires content { begins_content (code scene.text.now at) ≡ true }
-    ensures exact { IfOk result (λ b. ContentBegun scene.entry.text.now scene.entry.indentation scene.entry.context at depth scene.entry.limit lead.entry part.old part.new b) }
-    ensures begun { IfOk result (λ b. BegunAt scene.entry.text.now at (length part.old.events) (length part.new.events) b) }
+    requires boundary { IsCharBoundary spot.scene.text.now spot.at }
+    requires escapes { All (IsCharBoundary spot.scene.text.now) part.old.escapes }
+    requires content { begins_content (code spot.scene.text.now spot.at) ≡ true }
+    ensures exact { IfOk result (SpotContent spot.entry lead.entry part.old part.new) }
+    ensures begun { IfOk result (λ b. BegunAt spot.entry.scene.text.now spot.entry.at (length part.old.events) (length part.new.events) b) }
     ensures grows { IfOk result (λ _. length part.old.events ≤ length part.new.events) }
-    ensures escapes { IfOk result (λ _. All (IsCharBoundary scene.entry.text.now) part.new.escapes) }
+    ensures escapes { IfOk result (λ _. All (IsCharBoundary spot.entry.scene.text.now) part.new.escapes) }
 {
-    if stands(scene.text, at, b'\'') {
-        return single_node(alloc, scene, at, lead, depth, part);
+    if stands(spot.scene.text, spot.at, b'\'') {
+        return single_node(spot, lead, part);
     }
-    if stands(scene.text, at, b'"') {
-        return double_node(alloc, scene, at, lead, depth, part);
+    if stands(spot.scene.text, spot.at, b'"') {
+        return double_node(spot, lead, part);
     }
-    if stands(scene.text, at, b'[') {
-        return open(alloc, scene, at, Kind::Sequence, lead, depth, part);
+    if stands(spot.scene.text, spot.at, b'[') {
+        return open(spot, Kind::Sequence, lead, part);
     }
-    if stands(scene.text, at, b'{') {
-        return open(alloc, scene, at, Kind::Mapping, lead, depth, part);
+    if stands(spot.scene.text, spot.at, b'{') {
+        return open(spot, Kind::Mapping, lead, part);
     }
     Ok(Begun::Nothing)
 }
 
-fn single_node<'a>(
-    alloc: Global,
-    scene: Scene<'a>,
-    at: usize,
-    lead: Lead<'a>,
-    depth: usize,
-    part: &mut Part<'a>,
-) -> Result<Begun, AllocError>
-    requires boundary { IsCharBoundary scene.text.now at }
-    requires quote { code scene.text.now at ≡ 39 }
-    ensures exact { IfOk result (λ b. ContentBegun scene.entry.text.now scene.entry.indentation scene.entry.context at depth scene.entry.limit lead.entry part.old part.new b) }
-    ensures begun { IfOk result (λ b. BegunAt scene.entry.text.now at (length part.old.events) (length part.new.events) b) }
+fn single_node<'a>(spot: Spot<'a>, lead: Lead<'a>, part: &mut Part<'a>) -> Result<Begun, AllocError>
+    requires boundary { IsCharBoundary spot.scene.text.now spot.at }
+    requires quote { code spot.scene.text.now spot.at ≡ 39 }
+    ensures exact { IfOk result (SpotContent spot.entry lead.entry part.old part.new) }
+    ensures begun { IfOk result (λ b. BegunAt spot.entry.scene.text.now spot.entry.at (length part.old.events) (length part.new.events) b) }
     ensures grows { IfOk result (λ _. length part.old.events ≤ length part.new.events) }
     ensures escapes { IfOk result (λ _. part.new.escapes ≡ part.old.escapes) }
 {
-    match read_single(alloc, scene, at)? {
+    match read_single(spot.alloc, spot.scene, spot.at)? {
         Some(single) => {
             push_scalar(
-                alloc,
+                spot.alloc,
                 lead,
                 ScalarStyle::Single,
                 single.text,
@@ -79,33 +70,26 @@ fn single_node<'a>(
             Ok(Begun::Leaf(Node {
                 end: single.end,
                 json: true,
-                deepest: depth,
+                deepest: spot.depth,
             }))
         }
         None => Ok(Begun::Nothing),
     }
 }
 
-fn double_node<'a>(
-    alloc: Global,
-    scene: Scene<'a>,
-    at: usize,
-    lead: Lead<'a>,
-    depth: usize,
-    part: &mut Part<'a>,
-) -> Result<Begun, AllocError>
-    requires boundary { IsCharBoundary scene.text.now at }
-    requires escapes { All (IsCharBoundary scene.text.now) part.old.escapes }
-    requires quote { code scene.text.now at ≡ 34 }
-    ensures exact { IfOk result (λ b. ContentBegun scene.entry.text.now scene.entry.indentation scene.entry.context at depth scene.entry.limit lead.entry part.old part.new b) }
-    ensures begun { IfOk result (λ b. BegunAt scene.entry.text.now at (length part.old.events) (length part.new.events) b) }
+fn double_node<'a>(spot: Spot<'a>, lead: Lead<'a>, part: &mut Part<'a>) -> Result<Begun, AllocError>
+    requires boundary { IsCharBoundary spot.scene.text.now spot.at }
+    requires escapes { All (IsCharBoundary spot.scene.text.now) part.old.escapes }
+    requires quote { code spot.scene.text.now spot.at ≡ 34 }
+    ensures exact { IfOk result (SpotContent spot.entry lead.entry part.old part.new) }
+    ensures begun { IfOk result (λ b. BegunAt spot.entry.scene.text.now spot.entry.at (length part.old.events) (length part.new.events) b) }
     ensures grows { IfOk result (λ _. length part.old.events ≤ length part.new.events) }
-    ensures escapes { IfOk result (λ _. All (IsCharBoundary scene.entry.text.now) part.new.escapes) }
+    ensures escapes { IfOk result (λ _. All (IsCharBoundary spot.entry.scene.text.now) part.new.escapes) }
 {
-    match scan_double(alloc, scene, at, part)? {
+    match scan_double(spot.alloc, spot.scene, spot.at, part)? {
         Some(double) => {
             push_scalar(
-                alloc,
+                spot.alloc,
                 lead,
                 ScalarStyle::Double,
                 double.text,
@@ -115,7 +99,7 @@ fn double_node<'a>(
             Ok(Begun::Leaf(Node {
                 end: double.end,
                 json: true,
-                deepest: depth,
+                deepest: spot.depth,
             }))
         }
         None => Ok(Begun::Nothing),
@@ -135,34 +119,32 @@ fn collection_start<'a>(kind: Kind, props: Props<'a>) -> NewEvent<'a>
 
 // Opens the collection whose bracket stands there, if there is room for it. Where it ends is noted once it is closed.
 fn open<'a>(
-    alloc: Global,
-    scene: Scene<'a>,
-    at: usize,
+    spot: Spot<'a>,
     kind: Kind,
     lead: Lead<'a>,
-    depth: usize,
     part: &mut Part<'a>,
 ) -> Result<Begun, AllocError>
-    requires boundary { IsCharBoundary scene.text.now at }
-    requires behind { IsCharBoundary scene.text.now (at + 1) }
-    requires bracket { Opens kind (code scene.text.now at) }
-    ensures exact { IfOk result (λ b. ContentBegun scene.entry.text.now scene.entry.indentation scene.entry.context at depth scene.entry.limit lead.entry part.old part.new b) }
-    ensures begun { IfOk result (λ b. BegunAt scene.entry.text.now at (length part.old.events) (length part.new.events) b) }
+    requires boundary { IsCharBoundary spot.scene.text.now spot.at }
+    requires behind { IsCharBoundary spot.scene.text.now (spot.at + 1) }
+    requires bracket { Opens kind (code spot.scene.text.now spot.at) }
+    ensures exact { IfOk result (SpotContent spot.entry lead.entry part.old part.new) }
+    ensures begun { IfOk result (λ b. BegunAt spot.entry.scene.text.now spot.entry.at (length part.old.events) (length part.new.events) b) }
     ensures grows { IfOk result (λ _. length part.old.events ≤ length part.new.events) }
     ensures escapes { IfOk result (λ _. part.new.escapes ≡ part.old.escapes) }
 {
-    if depth >= scene.limit {
-        return Ok(Begun::TooDeep(at));
+    if spot.depth >= spot.scene.limit {
+        return Ok(Begun::TooDeep(spot.at));
     }
     let event = part.events.len();
     let start = collection_start(kind, lead.props);
-    part.events.push(lead.placed(alloc, start, at + 1))?;
+    part.events
+        .push(lead.placed(spot.alloc, start, spot.at + 1))?;
     Ok(Begun::Opened(Frame {
         kind,
-        depth: depth + 1,
-        deepest: depth + 1,
+        depth: spot.depth + 1,
+        deepest: spot.depth + 1,
         event,
-        entry: at + 1,
+        entry: spot.at + 1,
         entry_event: event,
         role: Role::Item,
     }))

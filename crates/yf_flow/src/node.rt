@@ -11,10 +11,10 @@ ghost use Rattle.yf_events.specs.Event.{new_event_value, placed_value, scalar_no
 ghost use Rattle.yf_grammar.specs.Parser.{begins_content};
 ghost use Rattle.yf_chars.specs.Text.{code};
 ghost use Rattle.yf_flow.specs.Machine.{BegunAt, Place};
-ghost use Rattle.yf_flow.specs.NodeBegun.{NodeBegun};
-ghost use Rattle.yf_flow.specs.Begun.{ContentBegun, bare_lead, entry_event, leaf_event, lead_event};
+ghost use Rattle.yf_flow.specs.Spots.{SpotBegun, SpotContent};
+ghost use Rattle.yf_flow.specs.Begun.{bare_lead, entry_event, leaf_event, lead_event};
 
-use crate::frame::{Frame, Node, Scene};
+use crate::frame::{Frame, Node, Spot};
 use crate::gap::read_separation;
 use crate::json::json_content;
 use crate::leaf::{read_plain, read_properties};
@@ -112,81 +112,72 @@ pub fn empty_node<'a>(alloc: Global, entry: Option<Entry>) -> PlacedEvent<'a>
 
 /// Begins a node (ns-flow-node, production 161), where so many collections are open.
 pub(crate) fn begin_node<'a>(
-    alloc: Global,
-    scene: Scene<'a>,
-    at: usize,
+    spot: Spot<'a>,
     entry: Option<Entry>,
-    depth: usize,
     part: &mut Part<'a>,
 ) -> Result<Begun, AllocError>
-    requires boundary { IsCharBoundary scene.text.now at }
-    requires escapes { All (IsCharBoundary scene.text.now) part.old.escapes }
-    ensures exact { IfOk result (λ b. NodeBegun scene.entry.text.now scene.entry.indentation scene.entry.context at depth scene.entry.limit entry part.old part.new b) }
-    ensures begun { IfOk result (λ b. BegunAt scene.entry.text.now at (length part.old.events) (length part.new.events) b) }
+    requires boundary { IsCharBoundary spot.scene.text.now spot.at }
+    requires escapes { All (IsCharBoundary spot.scene.text.now) part.old.escapes }
+    ensures exact { IfOk result (SpotBegun spot.entry entry part.old part.new) }
+    ensures begun { IfOk result (λ b. BegunAt spot.entry.scene.text.now spot.entry.at (length part.old.events) (length part.new.events) b) }
     ensures grows { IfOk result (λ _. length part.old.events ≤ length part.new.events) }
-    ensures escapes { IfOk result (λ _. All (IsCharBoundary scene.entry.text.now) part.new.escapes) }
+    ensures escapes { IfOk result (λ _. All (IsCharBoundary spot.entry.scene.text.now) part.new.escapes) }
 {
-    match alias_node(scene.text, at) {
+    match alias_node(spot.scene.text, spot.at) {
         Some((name, end)) => {
             let event = NewEvent::Alias { name };
             part.events
-                .push(Lead::bare(at, entry).placed(alloc, event, end))?;
+                .push(Lead::bare(spot.at, entry).placed(spot.alloc, event, end))?;
             return Ok(Begun::Leaf(Node {
                 end,
                 json: false,
-                deepest: depth,
+                deepest: spot.depth,
             }));
         }
         None => {}
     }
-    match read_properties(alloc, scene, at)? {
-        Some(properties) => propertied_node(alloc, scene, at, properties, entry, depth, part),
-        None => { begin_content(alloc, scene, at, Lead::bare(at, entry), depth, part) }
+    match read_properties(spot.alloc, spot.scene, spot.at)? {
+        Some(properties) => propertied_node(spot, properties, entry, part),
+        None => { begin_content(spot, Lead::bare(spot.at, entry), part) }
     }
 }
 
 /// Begins the content of a node: a plain scalar, a quoted one or a flow collection.
 #[inline(always)]
 pub(crate) fn begin_content<'a>(
-    alloc: Global,
-    scene: Scene<'a>,
-    at: usize,
+    spot: Spot<'a>,
     lead: Lead<'a>,
-    depth: usize,
     part: &mut Part<'a>,
 ) -> Result<Begun, AllocError>
-    requires boundary { IsCharBoundary scene.text.now at }
-    requires escapes { All (IsCharBoundary scene.text.now) part.old.escapes }
-    ensures exact { IfOk result (λ b. ContentBegun scene.entry.text.now scene.entry.indentation scene.entry.context at depth scene.entry.limit lead.entry part.old part.new b) }
-    ensures begun { IfOk result (λ b. BegunAt scene.entry.text.now at (length part.old.events) (length part.new.events) b) }
+    requires boundary { IsCharBoundary spot.scene.text.now spot.at }
+    requires escapes { All (IsCharBoundary spot.scene.text.now) part.old.escapes }
+    ensures exact { IfOk result (SpotContent spot.entry lead.entry part.old part.new) }
+    ensures begun { IfOk result (λ b. BegunAt spot.entry.scene.text.now spot.entry.at (length part.old.events) (length part.new.events) b) }
     ensures grows { IfOk result (λ _. length part.old.events ≤ length part.new.events) }
-    ensures escapes { IfOk result (λ _. All (IsCharBoundary scene.entry.text.now) part.new.escapes) }
+    ensures escapes { IfOk result (λ _. All (IsCharBoundary spot.entry.scene.text.now) part.new.escapes) }
 {
-    if content_begins(scene.text, at) {
-        return json_content(alloc, scene, at, lead, depth, part);
+    if content_begins(spot.scene.text, spot.at) {
+        return json_content(spot, lead, part);
     }
-    plain_node(alloc, scene, at, lead, depth, part)
+    plain_node(spot, lead, part)
 }
 
 // A node with properties: its content is a plain scalar, a quoted scalar or a flow collection, and else it is empty.
 fn propertied_node<'a>(
-    alloc: Global,
-    scene: Scene<'a>,
-    at: usize,
+    spot: Spot<'a>,
     properties: Properties<'a>,
     entry: Option<Entry>,
-    depth: usize,
     part: &mut Part<'a>,
 ) -> Result<Begun, AllocError>
-    requires boundary { IsCharBoundary scene.text.now at }
-    requires place { Place scene.text.now (at + 1) properties.end }
-    requires escapes { All (IsCharBoundary scene.text.now) part.old.escapes }
-    requires properties { Chosen (Names.Properties scene.text.now scene.indentation scene.context at) properties.end
+    requires boundary { IsCharBoundary spot.scene.text.now spot.at }
+    requires place { Place spot.scene.text.now (spot.at + 1) properties.end }
+    requires escapes { All (IsCharBoundary spot.scene.text.now) part.old.escapes }
+    requires properties { Chosen (Names.Properties spot.scene.text.now spot.scene.indentation spot.scene.context spot.at) properties.end
         (properties_value properties) }
-    ensures exact { IfOk result (λ b. NodeBegun scene.entry.text.now scene.entry.indentation scene.entry.context at depth scene.entry.limit entry part.old part.new b) }
-    ensures begun { IfOk result (λ b. BegunAt scene.entry.text.now at (length part.old.events) (length part.new.events) b) }
+    ensures exact { IfOk result (SpotBegun spot.entry entry part.old part.new) }
+    ensures begun { IfOk result (λ b. BegunAt spot.entry.scene.text.now spot.entry.at (length part.old.events) (length part.new.events) b) }
     ensures grows { IfOk result (λ _. length part.old.events ≤ length part.new.events) }
-    ensures escapes { IfOk result (λ _. All (IsCharBoundary scene.entry.text.now) part.new.escapes) }
+    ensures escapes { IfOk result (λ _. All (IsCharBoundary spot.entry.scene.text.now) part.new.escapes) }
 {
     let Properties {
         props,
@@ -195,31 +186,38 @@ fn propertied_node<'a>(
         end,
     } = properties;
     let lead = Lead {
-        start: at,
+        start: spot.at,
         props,
         tag_offset,
         entry,
     };
     part.comments.append(comments)?;
-    match read_separation(alloc, scene, end)? {
+    match read_separation(spot.alloc, spot.scene, end)? {
         Some(
             Separation {
                 comments,
                 end: place,
             },
         ) => {
-            if content_begins(scene.text, place) {
+            if content_begins(spot.scene.text, place) {
                 part.comments.append(comments)?;
-                return json_content(alloc, scene, place, lead, depth, part);
+                return json_content(Spot { at: place, ..spot }, lead, part);
             }
-            match read_plain(alloc, scene, place)? {
+            match read_plain(spot.alloc, spot.scene, place)? {
                 Some(plain) => {
                     part.comments.append(comments)?;
-                    push_scalar(alloc, lead, ScalarStyle::Plain, plain.text, plain.end, part)?;
+                    push_scalar(
+                        spot.alloc,
+                        lead,
+                        ScalarStyle::Plain,
+                        plain.text,
+                        plain.end,
+                        part,
+                    )?;
                     return Ok(Begun::Leaf(Node {
                         end: plain.end,
                         json: false,
-                        deepest: depth,
+                        deepest: spot.depth,
                     }));
                 }
                 None => {}
@@ -227,11 +225,18 @@ fn propertied_node<'a>(
         }
         None => {}
     }
-    push_scalar(alloc, lead, ScalarStyle::Plain, Text::Part(""), end, part)?;
+    push_scalar(
+        spot.alloc,
+        lead,
+        ScalarStyle::Plain,
+        Text::Part(""),
+        end,
+        part,
+    )?;
     Ok(Begun::Leaf(Node {
         end,
         json: false,
-        deepest: depth,
+        deepest: spot.depth,
     }))
 }
 
@@ -260,28 +265,28 @@ pub fn push_scalar<'a>(
 }
 
 // A plain scalar as a node (ns-plain, production 131).
-fn plain_node<'a>(
-    alloc: Global,
-    scene: Scene<'a>,
-    at: usize,
-    lead: Lead<'a>,
-    depth: usize,
-    part: &mut Part<'a>,
-) -> Result<Begun, AllocError>
-    requires boundary { IsCharBoundary scene.text.now at }
-    requires other { begins_content (code scene.text.now at) ≡ false }
-    ensures exact { IfOk result (λ b. ContentBegun scene.entry.text.now scene.entry.indentation scene.entry.context at depth scene.entry.limit lead.entry part.old part.new b) }
-    ensures begun { IfOk result (λ b. BegunAt scene.entry.text.now at (length part.old.events) (length part.new.events) b) }
+fn plain_node<'a>(spot: Spot<'a>, lead: Lead<'a>, part: &mut Part<'a>) -> Result<Begun, AllocError>
+    requires boundary { IsCharBoundary spot.scene.text.now spot.at }
+    requires other { begins_content (code spot.scene.text.now spot.at) ≡ false }
+    ensures exact { IfOk result (SpotContent spot.entry lead.entry part.old part.new) }
+    ensures begun { IfOk result (λ b. BegunAt spot.entry.scene.text.now spot.entry.at (length part.old.events) (length part.new.events) b) }
     ensures grows { IfOk result (λ _. length part.old.events ≤ length part.new.events) }
     ensures escapes { IfOk result (λ _. part.new.escapes ≡ part.old.escapes) }
 {
-    match read_plain(alloc, scene, at)? {
+    match read_plain(spot.alloc, spot.scene, spot.at)? {
         Some(plain) => {
-            push_scalar(alloc, lead, ScalarStyle::Plain, plain.text, plain.end, part)?;
+            push_scalar(
+                spot.alloc,
+                lead,
+                ScalarStyle::Plain,
+                plain.text,
+                plain.end,
+                part,
+            )?;
             Ok(Begun::Leaf(Node {
                 end: plain.end,
                 json: false,
-                deepest: depth,
+                deepest: spot.depth,
             }))
         }
         None => Ok(Begun::Nothing),

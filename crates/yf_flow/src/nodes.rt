@@ -15,7 +15,7 @@ ghost use Rattle.yf_flow.specs.Tied.{AtEntry, Base};
 
 use crate::entries::{Below, start_entry, take_node};
 use crate::entry_ends::finish_node;
-use crate::frame::{Frame, Node, Scene, State, Step};
+use crate::frame::{Frame, Node, Scene, Spot, State, Step};
 use crate::leaf::read_properties;
 use crate::node::{Begun, Lead, begin_content, begin_node, push_scalar};
 use smallvec::SmallVec;
@@ -71,7 +71,13 @@ pub(crate) fn read_node<'a>(
                 limit,
             };
             let mut part = new_part(alloc);
-            let begun = begin_node(alloc, scene, at, None, 0, &mut part)?;
+            let spot = Spot {
+                alloc,
+                scene,
+                at,
+                depth: 0,
+            };
+            let begun = begin_node(spot, None, &mut part)?;
             let within = Scene {
                 context: inner,
                 ..scene
@@ -119,7 +125,13 @@ pub fn read_content<'a>(
     match inner_context(scene.context) {
         None => Ok(Ending::Nothing),
         Some(inner) => {
-            let begun = begin_content(alloc, scene, at, lead, depth, part)?;
+            let spot = Spot {
+                alloc,
+                scene,
+                at,
+                depth,
+            };
+            let begun = begin_content(spot, lead, part)?;
             let within = Scene {
                 context: inner,
                 ..scene

@@ -1,4 +1,4 @@
-use Rattle.std.proofs.Common.{sym, ap, ◌∙◌, ◌++◌, ◌∷◌, []}
+use Rattle.std.proofs.Common.{sym, ap, ◌∙◌, ◌++◌, ◌∷◌, [], arith}
 use Rattle.yf_chars.specs.Text.{code}
 use Rattle.yf_events.specs.Event.{placed_value}
 use Rattle.yf_grammar.specs.Awaits.{is_entry_end}
@@ -6,6 +6,8 @@ use Rattle.yf_flow.proofs.TiedClose.{failed_tied}
 use Rattle.yf_flow.proofs.TiedEnds.{gap_of}
 use Rattle.yf_flow.proofs.TiedValues.{separated_gap, unseparated_gap, value_done, value_after, value_beside, value_fails}
 use Rattle.yf_flow.proofs.CountLemmas.{moved, counted_as, failed_counted}
+use Rattle.std.proofs.lemmas.Result.{IfOk-weaker}
+use Rattle.yf_flow.proofs.MachineLemmas.{stepped_later, stepped_failed, frames_same, frames_event, indexed_same, indexed_event, value_awaits}
 use Rattle.yf_flow.proofs.entries.await_value.Goals as goal
 
 pub returns-then-entry_ends-clause-tied : goal.returns-then-entry_ends-clause-tied
@@ -47,3 +49,42 @@ returns-then-json-clause-counted c = λ total a. let v = c.with_value-then-json.
 
 pub returns-clause-counted : goal.returns-clause-counted
 returns-clause-counted c = λ total a. failed_counted _ _ total _ _ _ c.failed.ensures
+
+pub returns-then-entry_ends-clause-stepped : goal.returns-then-entry_ends-clause-stepped
+returns-then-entry_ends-clause-stepped c = IfOk-weaker _ _ _ (stepped_later (omega (arith, c.in_ok-gap.ensures.place.order)) c.in_ok-gap.ensures.escapes) c.end_entry.ensures.stepped
+
+pub returns-then-gap-clause-stepped : goal.returns-then-gap-clause-stepped
+returns-then-gap-clause-stepped c =
+    let r = c.in_ok-gap.ensures in
+    let v = c.with_value.ensures in
+    record {
+      ready = record {
+        below = frames_same _ r.events c.requires.standing.others;
+        step = (record { boundary = r.place.boundary; order = omega (arith, r.place.order) }, value_awaits c.args.top _ r.events v.event v.index v.entry c.requires.standing.innermost);
+      };
+      moves = omega (arith, r.place.order);
+      same_escapes = r.escapes;
+    }
+
+pub returns-then-json-clause-stepped : goal.returns-then-json-clause-stepped
+returns-then-json-clause-stepped c =
+    let r = c.in_ok-gap.ensures in
+    let v = c.with_value-then-json.ensures in
+    record {
+      ready = record {
+        below = frames_same _ r.events c.requires.standing.others;
+        step = (record { boundary = r.place.boundary; order = omega (arith, r.place.order) }, value_awaits c.args.top _ r.events v.event v.index v.entry c.requires.standing.innermost);
+      };
+      moves = omega (arith, r.place.order);
+      same_escapes = r.escapes;
+    }
+
+pub returns-clause-stepped : goal.returns-clause-stepped
+returns-clause-stepped c = stepped_failed _ c.failed.ensures (frames_same _ c.in_ok-gap.ensures.events c.requires.standing.others) c.in_ok-gap.ensures.escapes
+
+pub end_entry-requires : goal.end_entry-requires
+end_entry-requires c =
+    let r = c.in_ok-gap.ensures in
+    let q = c.requires.standing in
+    let e = c.in_ok-push.ensures in
+    record { standing = record { boundary = r.place.boundary; innermost = indexed_event _ _ _ _ e (indexed_same _ r.events q.innermost); others = frames_event _ _ _ _ e (frames_same _ r.events q.others) } }

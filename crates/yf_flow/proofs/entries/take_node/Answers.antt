@@ -16,9 +16,9 @@ returns-in_ok-push-in-Opened-clause-tied c = λ base r a.
 pub returns-in_ok-push-in-Opened-clause-ready : goal.returns-in_ok-push-in-Opened-clause-ready
 returns-in_ok-push-in-Opened-clause-ready c =
     let b = rw c.in-Opened.is at c.in_ok-node.ensures.begun in
-    let q = c.requires.top in
+    let q = c.requires.standing.innermost in
     record {
-      below = frames_pushed _ _ _ _ _ c.in_ok-push-in-Opened.ensures.ok c.in_ok-node.ensures.grows c.requires.below (record { event = omega (arith, b.2, q.event); entry = omega (arith, b.2, q.entry); place = q.place });
+      below = frames_pushed _ _ _ _ _ c.in_ok-push-in-Opened.ensures.ok c.in_ok-node.ensures.grows c.requires.standing.others (record { event = omega (arith, b.2, q.event); entry = omega (arith, b.2, q.entry); place = q.place });
       step = (record { boundary = b.0.boundary; order = omega (arith, b.0.order) }, b.1);
     }
 

@@ -2,6 +2,8 @@ use Rattle.yf_flow.proofs.TiedClose.{failed_tied}
 use Rattle.yf_flow.proofs.TiedEnds.{gap_of, entry_next, entry_closing, entry_fails}
 use Rattle.std.proofs.Common.{arith, ◌+◌}
 use Rattle.yf_flow.proofs.CountLemmas.{moved, failed_counted}
+use Rattle.std.proofs.lemmas.Result.{IfOk-weaker}
+use Rattle.yf_flow.proofs.MachineLemmas.{stepped_later, stepped_failed, frames_same}
 use Rattle.yf_flow.proofs.entry_ends.after_entry.Goals as goal
 
 pub returns-then-stands-clause-tied : goal.returns-then-stands-clause-tied
@@ -27,3 +29,9 @@ returns-then-closes-clause-counted c = λ total a. c.close.ensures.counted total
 
 pub returns-clause-counted : goal.returns-clause-counted
 returns-clause-counted c = λ total a. failed_counted _ _ total _ _ _ c.failed.ensures
+
+pub returns-then-closes-clause-stepped : goal.returns-then-closes-clause-stepped
+returns-then-closes-clause-stepped c = IfOk-weaker _ _ _ (stepped_later c.in_ok-place.ensures.place.order c.in_ok-place.ensures.escapes) c.close.ensures.stepped
+
+pub returns-clause-stepped : goal.returns-clause-stepped
+returns-clause-stepped c = stepped_failed _ c.failed.ensures (frames_same _ c.in_ok-place.ensures.events c.requires.standing.others) c.in_ok-place.ensures.escapes

@@ -5,6 +5,8 @@ use Rattle.yf_flow.proofs.TiedEnds.{gap_of}
 use Rattle.yf_flow.proofs.TiedKeys.{key_value}
 use Rattle.yf_flow.proofs.TiedNodes.{key_read_done}
 use Rattle.yf_flow.proofs.CountLemmas.{moved}
+use Rattle.std.proofs.lemmas.Result.{IfOk-weaker}
+use Rattle.yf_flow.proofs.MachineLemmas.{stepped_later, frames_same, frames_event, indexed_same, indexed_event}
 use Rattle.yf_flow.proofs.entry_ends.behind_key.Goals as goal
 
 pub returns-then-colon_stands-clause-tied : goal.returns-then-colon_stands-clause-tied
@@ -28,3 +30,16 @@ returns-then-colon_stands-clause-counted c = λ total a. c.await_value.ensures.c
 
 pub returns-clause-counted : goal.returns-clause-counted
 returns-clause-counted c = λ total a. c.end_entry.ensures.counted total (moved _ c.in_ok-place.ensures.place.order a)
+
+pub returns-then-colon_stands-clause-stepped : goal.returns-then-colon_stands-clause-stepped
+returns-then-colon_stands-clause-stepped c = IfOk-weaker _ _ _ (stepped_later c.in_ok-place.ensures.place.order c.in_ok-place.ensures.escapes) c.await_value.ensures.stepped
+
+pub returns-clause-stepped : goal.returns-clause-stepped
+returns-clause-stepped c = IfOk-weaker _ _ _ (stepped_later c.in_ok-place.ensures.place.order c.in_ok-place.ensures.escapes) c.end_entry.ensures.stepped
+
+pub end_entry-requires : goal.end_entry-requires
+end_entry-requires c =
+    let p = c.in_ok-place.ensures in
+    let q = c.requires.standing in
+    let e = c.in_ok-push.ensures in
+    record { standing = record { boundary = p.place.boundary; innermost = indexed_event _ _ _ _ e (indexed_same _ p.events q.innermost); others = frames_event _ _ _ _ e (frames_same _ p.events q.others) } }

@@ -1,8 +1,10 @@
-use Rattle.std.proofs.Common.{refl, sym, true≢false, ap, ◌∙◌, None, ◌++◌, ◌∷◌, [], ◌+◌, arith}
+use Rattle.std.proofs.Common.{refl, length, sym, true≢false, ap, ◌∙◌, None, ◌++◌, ◌∷◌, [], ◌+◌, arith}
 use Rattle.yf_events.specs.Edit.{edited, ended}
 use Rattle.yf_flow.specs.Begun.{entry_event}
 use Rattle.yf_flow.proofs.TiedClose.{close_into, close_base, popped, none_left}
 use Rattle.yf_flow.proofs.CountLemmas.{moved, counted_less}
+use Rattle.yf_flow.proofs.Frames.{pushed_longer}
+use Rattle.yf_flow.proofs.MachineLemmas.{frames_popped}
 use Rattle.yf_flow.proofs.entry_ends.close.Goals as goal
 
 pub returns-in-Some-clause-tied : goal.returns-in-Some-clause-tied
@@ -23,3 +25,14 @@ returns-in-Some-clause-counted c = λ total a. counted_less c.in-Some.ensures.it
 
 pub returns-in-None-clause-counted : goal.returns-in-None-clause-counted
 returns-in-None-clause-counted c = λ total a. let m = moved (c.args.at + 1) (omega arith) a in m.innermost.deepest
+
+pub returns-in-Some-clause-stepped : goal.returns-in-Some-clause-stepped
+returns-in-Some-clause-stepped c =
+    let l = pushed_longer _ _ _ c.in_ok-push.ensures in
+    let f = frames_popped {k = length c.set_end.new.self} _ _ _ c.in-Some.ensures.items (omega (arith, l, c.in_ok-set_end.ensures.len)) c.requires.below in
+    let b = c.requires.boundary.0 in
+    record {
+      ready = record { below = f.0; step = (record { boundary = c.requires.boundary; order = omega arith }, f.1) };
+      moves = omega (arith, b);
+      same_escapes = refl;
+    }

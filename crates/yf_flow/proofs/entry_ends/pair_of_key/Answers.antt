@@ -10,12 +10,19 @@ use Rattle.yf_flow.proofs.entry_ends.pair_of_key.Goals as goal
 pub returns-then-deepest-scene-clause-tied : goal.returns-then-deepest-scene-clause-tied
 returns-then-deepest-scene-clause-tied c = λ base r a q key. item_deep_fails a q r key (omega (arith, c.max-deepest.ensures, c.if-deepest-scene.true))
 
-pub await_value-requires-clause-below : goal.await_value-requires-clause-below
-await_value-requires-clause-below c =
+pub await_value-requires : goal.await_value-requires
+await_value-requires c =
     let l = inserted_longer _ _ _ _ c.in_ok-insert.ensures in
-    let q = c.requires.top in
-    frames_pushed _ _ _ _ c.args.top c.in_ok-push.ensures.ok (omega (arith, l, c.in_ok-set_colon.ensures.len)) c.requires.below
-    (record { event = omega (arith, l, c.in_ok-set_colon.ensures.len, q.event); entry = omega (arith, l, c.in_ok-set_colon.ensures.len, q.entry); place = q.place })
+    let q = c.requires.standing.innermost in
+    record {
+      standing = record {
+        boundary = c.requires.standing.boundary;
+        innermost = record { event = omega (arith, l, c.in_ok-set_colon.ensures.len, q.entry); entry = omega (arith, l, c.in_ok-set_colon.ensures.len, q.entry); place = q.place };
+        others =
+            frames_pushed _ _ _ _ c.args.top c.in_ok-push.ensures.ok (omega (arith, l, c.in_ok-set_colon.ensures.len)) c.requires.standing.others
+            (record { event = omega (arith, l, c.in_ok-set_colon.ensures.len, q.event); entry = omega (arith, l, c.in_ok-set_colon.ensures.len, q.entry); place = q.place });
+      };
+    }
 
 pub returns-clause-tied : goal.returns-clause-tied
 returns-clause-tied c = λ base r a q key.
@@ -39,3 +46,13 @@ returns-clause-counted c = λ total o q a.
     let y = openers_later c.args.scene.text.now c.args.node.end c.args.colon o in
     c.await_value.ensures.counted total
     (counted_more _ (c.args.colon + 1) c.in_ok-push.ensures.ok (omega (arith, o)) (record { depth = omega arith; deepest = omega (arith, c.max-deepest.ensures) }) a.collections)
+
+pub returns-then-deepest-scene-clause-stepped : goal.returns-then-deepest-scene-clause-stepped
+returns-then-deepest-scene-clause-stepped c = record {
+  ready = record { below = c.requires.standing.others; step = c.requires.standing.innermost.place };
+  moves = omega arith;
+  same_escapes = refl;
+}
+
+pub returns-clause-stepped : goal.returns-clause-stepped
+returns-clause-stepped c = c.await_value.ensures.stepped

@@ -18,5 +18,5 @@ returns-in-Some-clause-exact c =
 
 pub returns-in-None-2-clause-exact : goal.returns-in-None-2-clause-exact
 returns-in-None-2-clause-exact c =
-    IfOk-weaker _ _ _ (bare_begun c.args.depth c.args.scene.limit c.args.entry c.args.part.now _ _ c.bare-in-None-2.ensures c.in-None.ensures.reads (rw c.in-None-2.is at c.in_ok-properties.ensures.reads))
+    IfOk-weaker _ _ _ (bare_begun c.args.spot.depth c.args.spot.scene.limit c.args.entry c.args.part.now _ _ c.bare-in-None-2.ensures c.in-None.ensures.reads (rw c.in-None-2.is at c.in_ok-properties.ensures.reads))
     c.begin_content.ensures.exact

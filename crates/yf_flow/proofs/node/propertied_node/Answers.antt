@@ -8,7 +8,7 @@ use Rattle.yf_flow.proofs.node.propertied_node.Goals.{in-Some+else-content_begin
 pub returns-then-content_begins-clause-exact : goal.returns-then-content_begins-clause-exact
 returns-then-content_begins-clause-exact c =
     let s = rw c.in-Some.is at c.in_ok-comments.ensures.reads in
-    IfOk-weaker _ _ _ (with_begun c.requires.properties s (sym c.content_begins.ensures ∙ c.if-content_begins.true) c.args.depth c.args.scene.limit c.args.part.now
+    IfOk-weaker _ _ _ (with_begun c.requires.properties s (sym c.content_begins.ensures ∙ c.if-content_begins.true) c.args.spot.depth c.args.spot.scene.limit c.args.part.now
     (record { events = c.args.part.now.events; comments = _; escapes = c.args.part.now.escapes }) _ (record { start = refl; props = refl; tag = refl; first = refl }) refl
     (appended _ _ _ _ _ c.in_ok-append.ensures c.in_ok-append-in-Some.ensures) refl)
     c.json_content.ensures.exact

@@ -16,8 +16,8 @@ steps-preserved-in_ok-state-in-Entry c =
     let q = c.in_ok-state-in-Entry.ensures in
     let p = rw c.in-Entry.is at v.ready.step in
     record {
-      ready = ready_from _ p.0.order q.ready;
-      escapes = escapes_same _ _ _ q.escapes v.escapes;
+      ready = ready_from _ p.0.order q.stepped.ready;
+      escapes = escapes_same _ _ _ q.stepped.same_escapes v.escapes;
       tied = λ base r a. q.tied base r (rw c.in-Entry.is at (v.tied base r a));
       counted = λ total a. q.counted total (rw c.in-Entry.is at (v.counted total a));
     }
@@ -40,8 +40,8 @@ steps-preserved c =
     let q = c.in_ok-state-in-Ended.ensures in
     let p = rw c.in-Ended.is at v.ready.step in
     record {
-      ready = ready_from _ p.0.order q.ready;
-      escapes = escapes_same _ _ _ q.escapes v.escapes;
+      ready = ready_from _ p.0.order q.stepped.ready;
+      escapes = escapes_same _ _ _ q.stepped.same_escapes v.escapes;
       tied = λ base r a. q.tied base r (rw c.in-Ended.is at (v.tied base r a));
       counted = λ total a. q.counted total (rw c.in-Ended.is at (v.counted total a));
     }
