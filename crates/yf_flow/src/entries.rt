@@ -229,7 +229,7 @@ fn keyless_value<'a>(
     below: &mut Below,
     part: &mut Part<'a>,
 ) -> Result<State, AllocError>
-    requires standing { Standing Awaiting scene.text.now ((colon + 1)) (length part.old.events) below.old.items top }
+    requires standing { Standing Awaiting scene.text.now (colon + 1) (length part.old.events) below.old.items top }
     ensures tied { (base : Base) → Reading scene.entry.text.now scene.entry.context scene.entry.limit base
         → (cs : List CommentValue) → code scene.entry.text.now top.entry ≢ 10
         → (a : AtSign scene.entry.text.now scene.entry.indentation scene.entry.context base
@@ -319,7 +319,7 @@ pub(crate) fn await_value<'a>(
     below: &mut Below,
     part: &mut Part<'a>,
 ) -> Result<State, AllocError>
-    requires standing { Standing Indexed scene.text.now ((colon + 1)) (length part.old.events) below.old.items top }
+    requires standing { Standing Indexed scene.text.now (colon + 1) (length part.old.events) below.old.items top }
     ensures tied { (base : Base) → IsUtf8 scene.entry.text.now
         → AtValue scene.entry.text.now scene.entry.indentation scene.entry.context base
         (reverse below.old.items) top json colon part.old → IfOk result (StateTied scene.entry base below.new.items part.new) }

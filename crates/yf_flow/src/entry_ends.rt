@@ -79,7 +79,7 @@ fn pair_of_key<'a>(
     below: &mut Below,
     part: &mut Part<'a>,
 ) -> Result<State, AllocError>
-    requires standing { Standing Indexed scene.text.now ((colon + 1)) (length part.old.events) below.old.items top }
+    requires standing { Standing Indexed scene.text.now (colon + 1) (length part.old.events) below.old.items top }
     ensures tied { (base : Base) → Reading scene.entry.text.now scene.entry.context scene.entry.limit base
         → (a : AtEnded scene.entry.text.now scene.entry.indentation scene.entry.context base
         (reverse below.old.items) top node part.old) → top.role ≡ Role.Item
