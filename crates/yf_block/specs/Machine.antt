@@ -8,9 +8,9 @@ use Rattle.yf_flow.specs.declared.nodes.Ending.TheVariants.{End}
 use Rattle.yf_block.specs.declared.frame.Progress.{Progress}
 use Rattle.yf_block.specs.declared.frame.Step.{Step}
 use Rattle.yf_block.specs.declared.frame.Step.TheVariants.{Node, Line, Resume, Done, Failed, TooDeep}
-use Rattle.yf_block.specs.declared.held.Held.{Held}
+use Rattle.yf_block.specs.declared.properties.PlacedProperties.{PlacedProperties}
 use Rattle.yf_block.specs.declared.resume.Fit.{Fit}
-use Rattle.yf_block.specs.declared.resume.Fit.TheVariants.{Item, Entry as EntryAt, Deeper, Behind}
+use Rattle.yf_block.specs.declared.resume.Fit.TheVariants.{Item, Entry as EntryAt, Deeper, EndsBefore}
 use Rattle.yf_block.specs.declared.nodes.Outcome.{Outcome}
 use Rattle.yf_block.specs.declared.nodes.Outcome.TheVariants.{Found, Nothing as NoNode, TooDeep as TooDeepHere}
 use Rattle.yf_block.specs.declared.nodes.Stopped.{Stopped}
@@ -52,14 +52,14 @@ pub record Stepped (t : List ℕ) (at more : ℕ) (p : Progress) (s : Step) : Ty
   pub moves : left (length t) s ≤ 3 * (length t - at) + more
 
 -- from an offset on stand properties, or none, and after them a place
-abbrev pub HeldTo : List ℕ → ℕ → ℕ → Option Held → Type 0
-HeldTo t start at None = at ≡ start
-HeldTo t start at (Some held) = Place t (start + 1) held.end × (held.end ≤ at)
+abbrev pub PropertiesTo : List ℕ → ℕ → ℕ → Option PlacedProperties → Type 0
+PropertiesTo t start at None = at ≡ start
+PropertiesTo t start at (Some held) = Place t (start + 1) held.end × (held.end ≤ at)
 
 -- where what stands at a place ends at the earliest: after its first character, or after the properties before it
-abbrev pub behind_held : ℕ → Option Held → ℕ
-behind_held at None = at + 1
-behind_held at (Some held) = held.end
+abbrev pub earliest_end : ℕ → Option PlacedProperties → ℕ
+earliest_end at None = at + 1
+earliest_end at (Some held) = held.end
 
 abbrev pub StopAt : List ℕ → Stop → Type 0
 StopAt t (DoneAt p) = IsCharBoundary t p
@@ -76,9 +76,9 @@ OutcomeAt t at (Found f) = Place t (at + 1) f.end × IsCharBoundary t f.reached 
 OutcomeAt t at (NoNode p) = IsCharBoundary t p
 OutcomeAt t at (TooDeepHere p) = IsCharBoundary t p
 
-abbrev pub HeldBefore : List ℕ → ℕ → Option Held → Type 0
-HeldBefore t at None = Unit {0}
-HeldBefore t at (Some held) = IsCharBoundary t held.end × (held.end ≤ at)
+abbrev pub PropertiesBefore : List ℕ → ℕ → Option PlacedProperties → Type 0
+PropertiesBefore t at None = Unit {0}
+PropertiesBefore t at (Some held) = IsCharBoundary t held.end × (held.end ≤ at)
 
 abbrev pub IsEndAt : ℕ → Ending → Type 0
 IsEndAt p (End node) = node.end ≡ p
@@ -92,4 +92,4 @@ abbrev pub FitsAt : List ℕ → ℕ → Fit → Type 0
 FitsAt t at (Item p) = Place t at p × IsCharBoundary t (p + 1)
 FitsAt t at (EntryAt p) = Place t at p
 FitsAt t at (Deeper p) = IsCharBoundary t p
-FitsAt t at Behind = Unit {0}
+FitsAt t at EndsBefore = Unit {0}

@@ -19,10 +19,10 @@ ghost use Rattle.yf_flow.specs.Counted.{openers_from};
 ghost use Rattle.yf_block.specs.Counted.{EntryCounted, StepCounted};
 
 use crate::frame::{Frame, Frames, Kind, Progress, Scope, Step, Wanted};
-use crate::held::{Held, lead_of, line_properties, place_behind};
 use crate::inline::read_inline;
 use crate::leaf::read_line_end;
 use crate::look::{is_blank_after, key_ends, sign_stands};
+use crate::properties::{PlacedProperties, lead_of, line_properties, place_after};
 use std::alloc::{AllocError, Global};
 use yf_events::event::{Entry, NewEvent, PlacedEvent};
 use yf_events::part::Part;
@@ -87,7 +87,7 @@ pub(crate) fn open_sequence<'a>(
     part: &mut Part<'a>,
 ) -> Result<Step, AllocError>
     requires boundary { IsCharBoundary scope.text.now at }
-    requires behind { IsCharBoundary scope.text.now (at + 1) }
+    requires after { IsCharBoundary scope.text.now (at + 1) }
     requires progress { ProgressAt scope.text.now progress.old }
     ensures tied { (d : ℕ) → (root : BlockTask) → (before : Part) → (cols : Columns) → d ≡ scope.entry.limit → cols.sequence ≡ Some column
         → DashAt scope.entry.text.now at → AtStart scope.entry.text.now d root before
@@ -116,7 +116,7 @@ pub(crate) fn take_item<'a>(
     progress: &mut Progress<'a>,
     frames: &mut Frames,
 ) -> Result<Step, AllocError>
-    requires behind { IsCharBoundary text.now (at + 1) }
+    requires after { IsCharBoundary text.now (at + 1) }
     requires progress { ProgressAt text.now progress.old }
     ensures tied { (d : ℕ) → (root : BlockTask) → (before : Part) → (part : Part) → DashAt text.now at → frame.kind ≡ Kind.Sequence
         → frame.awaits_colon ≡ false → AtEntry text.now d root before (reverse frames.old.items) frame at progress.old part
@@ -335,18 +335,18 @@ fn key_text<'a>(
     alloc: Global,
     text: &'a str,
     start: usize,
-    inner: &Option<Held<'a>>,
+    inner: &Option<PlacedProperties<'a>>,
 ) -> Result<KeyText, AllocError>
     requires start { IsCharBoundary text.now start }
-    requires held { IfSome inner.now (λ h. Place text.now (start + 1) h.end) }
+    requires properties { IfSome inner.now (λ h. Place text.now (start + 1) h.end) }
     ensures place { IfOk result (λ k. KeyTextPlace text.now start inner.now k) }
     ensures reads { IfOk result (λ k. KeyTextAt text.now start inner.now k) }
 {
     match *inner {
         None => Ok(KeyText::At(start)),
-        Some(held) => {
-            let ended = read_line_end(alloc, text, held.end)?;
-            match place_behind(text, held) {
+        Some(properties) => {
+            let ended = read_line_end(alloc, text, properties.end)?;
+            match place_after(text, properties) {
                 None => Ok(KeyText::Nowhere(start)),
                 Some(at) => match ended {
                     Some(_) => Ok(KeyText::Nowhere(at)),

@@ -12,7 +12,7 @@ ghost use Rattle.yf_grammar.specs.BlockParser.{BlockTask, DashAt};
 ghost use Rattle.yf_flow.specs.Counted.{openers_from};
 ghost use Rattle.yf_block.specs.Counted.{StepCounted};
 
-use crate::content::{Spot, take_content};
+use crate::content::{NodeStart, take_content};
 use crate::entry::open_sequence;
 use crate::frame::{Frame, Frames, Progress, Scope, Step, Wanted};
 use crate::halt::note_empty;
@@ -115,8 +115,8 @@ pub(crate) fn take_node<'a>(
     match dashed_column(text, place, column) {
         Some(dashed) => open_sequence(alloc, scope, place, dashed, progress, frames, part),
         None => {
-            let spot = Spot { at: place, column };
-            take_content(alloc, scope, spot, progress, frames, part)
+            let node_start = NodeStart { at: place, column };
+            take_content(alloc, scope, node_start, progress, frames, part)
         }
     }
 }
@@ -248,8 +248,8 @@ fn take_indented<'a>(
         return Ok(Step::Failed(place));
     }
     let column = line_column(progress.wanted.least, width, start, place);
-    let spot = Spot { at: place, column };
-    take_content(alloc, scope, spot, progress, frames, part)
+    let node_start = NodeStart { at: place, column };
+    take_content(alloc, scope, node_start, progress, frames, part)
 }
 
 // Whether a line is indented as it must be; nothing is asked of the first one.
@@ -295,17 +295,17 @@ fn end_empty<'a>(
         → IfOk result (λ s. StepCounted _text.now limit total count s) }
 {
     match progress.wanted.outer {
-        Some(held) => {
-            let lead = held.lead(progress.wanted.entry);
+        Some(properties) => {
+            let lead = properties.lead(progress.wanted.entry);
             push_scalar(
                 alloc,
                 lead,
                 ScalarStyle::Plain,
                 Text::Part(""),
-                held.end,
+                properties.end,
                 part,
             )?;
-            progress.last = held.end;
+            progress.last = properties.end;
         }
         None => {
             if frames.len() == 0 {

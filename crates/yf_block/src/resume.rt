@@ -30,7 +30,7 @@ enum Fit {
     // It is indented more than the entries are, up to the offset.
     Deeper(usize),
     // The collection ends before it.
-    Behind,
+    EndsBefore,
 }
 
 // The innermost collection that does not end before a line, and what the line is to it. It is no longer on the stack.
@@ -66,7 +66,7 @@ pub(crate) fn resume<'a>(
             Fit::Item(start) => take_item(scope.text, start, frame, progress, frames),
             Fit::Entry(start) => next_entry(alloc, scope, start, frame, progress, frames, part),
             Fit::Deeper(start) => Ok(Step::Failed(start)),
-            Fit::Behind => Ok(Step::Failed(at)),
+            Fit::EndsBefore => Ok(Step::Failed(at)),
         },
     }
 }
@@ -96,7 +96,7 @@ fn end_collections<'a>(
         progress.colons = colons_without(&frame, progress.colons);
         let fit = fit_of(text, at, place, &frame);
         match fit {
-            Fit::Behind => end_collection(alloc, frame, progress.last, part)?,
+            Fit::EndsBefore => end_collection(alloc, frame, progress.last, part)?,
             _ => return Ok(Some(Next { frame, fit })),
         }
     }
@@ -120,11 +120,11 @@ fn fit_of(text: &str, at: usize, place: Option<usize>, frame: &Frame) -> Fit
     ensures line { PlaceTied text.now at place → FitsLine text.now at frame.now result }
 {
     match place {
-        None => Fit::Behind,
+        None => Fit::EndsBefore,
         Some(start) => {
             let column = start - at;
             if column < frame.column {
-                return Fit::Behind;
+                return Fit::EndsBefore;
             }
             if column > frame.column {
                 return Fit::Deeper(start);
@@ -134,7 +134,7 @@ fn fit_of(text: &str, at: usize, place: Option<usize>, frame: &Frame) -> Fit
                     if dash_stands(text, start) {
                         return Fit::Item(start);
                     }
-                    Fit::Behind
+                    Fit::EndsBefore
                 }
                 Kind::Mapping => Fit::Entry(start),
             }
