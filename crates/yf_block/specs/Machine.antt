@@ -1,7 +1,9 @@
 -- What holds between two steps of the reader: the places that it keeps lie between characters, and less of the text is
 -- left at each step.
 use Rattle.std.specs.Prelude.{◌≡◌, ℕ, ◌+◌, ◌-◌, ◌*◌, ◌≤◌, length, List, Option, Some, None}
+use Rattle.std.specs.List.{All}
 use Rattle.std.specs.Str.{IsCharBoundary}
+use Rattle.yf_events.specs.declared.part.Part.{Part}
 use Rattle.yf_flow.specs.Machine.{Place}
 use Rattle.yf_flow.specs.declared.nodes.Ending.{Ending}
 use Rattle.yf_flow.specs.declared.nodes.Ending.TheVariants.{End}
@@ -26,6 +28,12 @@ pub record ProgressAt (t : List ℕ) (p : Progress) : Type 0 where
   pub floor : IsCharBoundary t p.floor
   pub from : IsCharBoundary t p.from
   pub halt : MayBoundary t p.halt
+
+-- what a step stands on: a place, and what is kept and noted so far
+pub record Standing (t : List ℕ) (at : ℕ) (kept : Progress) (part : Part) : Type 0 where
+  pub boundary : IsCharBoundary t at
+  pub progress : ProgressAt t kept
+  pub escapes : All (IsCharBoundary t) part.escapes
 
 -- a step from an offset on
 abbrev pub StepReady : List ℕ → ℕ → Step → Type 0

@@ -1,7 +1,7 @@
 //! What a node has on one line: the sign of an entry, properties, a block scalar, or a flow node.
 ghost use Rattle.std.specs.Prelude.{◌≡◌, ◌+◌, Some, IfOk, MatchBool, ◌⊎◌, ℕ, ◌≤◌, length, ◌^◌, ◌<◌, List, MatchOption, reverse};
 ghost use Rattle.std.specs.List.{All};
-ghost use Rattle.std.specs.Str.{IsCharBoundary, IsUtf8};
+ghost use Rattle.std.specs.Str.{IsCharBoundary};
 ghost use Rattle.yf_flow.specs.Machine.{Place};
 ghost use Rattle.yf_grammar.specs.BlockParser.{Ahead, BlockTask, Columns, DashAt};
 ghost use Rattle.yf_block.specs.declared.properties.PlacedProperties.{PlacedProperties as PropertiesThere};
@@ -10,9 +10,8 @@ ghost use Rattle.yf_block.specs.BelongingTied.{BelongingTied};
 ghost use Rattle.yf_block.specs.ContentTied.{AtAfterProperties, AtContent, CountsOf, EndsAfter, ScalarSignAt};
 ghost use Rattle.yf_block.specs.PropertiesAnswers.{Holds, LineProperties, held_lead, lead_at};
 ghost use Rattle.yf_block.specs.InlineTied.{AtStart, EntrySignAt};
-ghost use Rattle.yf_block.specs.Machine.{Stepped, ProgressAt, PropertiesTo};
-ghost use Rattle.yf_flow.specs.Counted.{openers_from};
-ghost use Rattle.yf_block.specs.Counted.{StepCounted};
+ghost use Rattle.yf_block.specs.Machine.{Standing, Stepped, ProgressAt, PropertiesTo};
+ghost use Rattle.yf_block.specs.Counted.{CountsAlone, CountsFrom};
 
 use crate::entry::open_mapping;
 use crate::frame::{Frame, Frames, Progress, Scope, Step, Wanted};
@@ -91,9 +90,7 @@ pub(crate) fn take_content<'a>(
     frames: &mut Frames,
     part: &mut Part<'a>,
 ) -> Result<Step, AllocError>
-    requires boundary { IsCharBoundary scope.text.now node_start.at }
-    requires progress { ProgressAt scope.text.now progress.old }
-    requires escapes { All (IsCharBoundary scope.text.now) part.old.escapes }
+    requires standing { Standing scope.text.now (node_start.at) progress.old part.old }
     ensures tied { (d : ℕ) → (root : BlockTask) → (before : Part) → (cols : Columns) → d < 2 ^ 64 → d ≡ scope.entry.limit
         → cols.mapping ≡ node_start.column
         → ((m : ℕ) → cols.sequence ≡ Some m → DashAt scope.entry.text.now (node_start.at) → ⊥)
@@ -101,9 +98,7 @@ pub(crate) fn take_content<'a>(
         → IfOk result (λ s. BlockTied scope.entry.text.now d root before (reverse frames.new.items) s progress.new part.new) }
     ensures stepped { IfOk result (λ s. Stepped scope.entry.text.now (node_start.at) 0 progress.new s) }
     ensures escapes { IfOk result (λ _. All (IsCharBoundary scope.entry.text.now) part.new.escapes) }
-    ensures counted { IsUtf8 scope.entry.text.now → (total : ℕ)
-        → length frames.old.items + openers_from scope.entry.text.now (node_start.at) ≤ total
-        → IfOk result (λ s. StepCounted scope.entry.text.now scope.entry.limit total (length frames.new.items) s) }
+    ensures counted { CountsFrom scope.entry (node_start.at) frames.old.items frames.new.items result }
 {
     match signed_column(scope.text, node_start) {
         Some(column) => open_mapping(alloc, scope, node_start.at, column, progress, frames, part),
@@ -158,19 +153,15 @@ fn take_propertied<'a>(
     frames: &mut Frames,
     part: &mut Part<'a>,
 ) -> Result<Step, AllocError>
-    requires boundary { IsCharBoundary scope.text.now node_start.at }
+    requires standing { Standing scope.text.now (node_start.at) progress.old part.old }
     requires inner { Place scope.text.now (node_start.at + 1) inner.end }
-    requires progress { ProgressAt scope.text.now progress.old }
-    requires escapes { All (IsCharBoundary scope.text.now) part.old.escapes }
     ensures tied { (d : ℕ) → (root : BlockTask) → (before : Part) → d ≡ scope.entry.limit
         → LineProperties scope.entry.text.now (node_start.at) inner.entry
         → AtContent scope.entry.text.now d root before (reverse frames.old.items) (node_start.at) node_start.column progress.old part.old
         → IfOk result (λ s. BlockTied scope.entry.text.now d root before (reverse frames.new.items) s progress.new part.new) }
     ensures stepped { IfOk result (λ s. Stepped scope.entry.text.now (node_start.at) 0 progress.new s) }
     ensures escapes { IfOk result (λ _. All (IsCharBoundary scope.entry.text.now) part.new.escapes) }
-    ensures counted { IsUtf8 scope.entry.text.now → (total : ℕ)
-        → length frames.old.items + openers_from scope.entry.text.now (node_start.at) ≤ total
-        → IfOk result (λ s. StepCounted scope.entry.text.now scope.entry.limit total (length frames.new.items) s) }
+    ensures counted { CountsFrom scope.entry (node_start.at) frames.old.items frames.new.items result }
 {
     let place = skip_whites(scope.text, inner.end);
     if line_ends(scope.text, place, place > inner.end) {
@@ -208,8 +199,7 @@ fn end_propertied<'a>(
         → IfOk result (λ s. BlockTied text.now d root before frames s progress.new part.new) }
     ensures stepped { IfOk result (λ s. Stepped text.now (node_start.at) 0 progress.new s) }
     ensures escapes { IfOk result (λ _. part.new.escapes ≡ part.old.escapes) }
-    ensures counted { (limit : ℕ) → (total : ℕ) → (count : ℕ) → count + openers_from text.now (node_start.at) ≤ total
-        → IfOk result (λ s. StepCounted text.now limit total count s) }
+    ensures counted { CountsAlone text.now (node_start.at) result }
 {
     match joined_after(progress.wanted.outer, inner) {
         None => {
@@ -234,19 +224,15 @@ fn take_after_properties<'a>(
     frames: &mut Frames,
     part: &mut Part<'a>,
 ) -> Result<Step, AllocError>
-    requires boundary { IsCharBoundary scope.text.now after.now.at }
+    requires standing { Standing scope.text.now (after.now.at) progress.old part.old }
     requires start { IsCharBoundary scope.text.now after.now.node_start.at }
     requires properties { PropertiesTo scope.text.now after.now.node_start.at after.now.at after.now.inner }
-    requires progress { ProgressAt scope.text.now progress.old }
-    requires escapes { All (IsCharBoundary scope.text.now) part.old.escapes }
     ensures tied { (d : ℕ) → (root : BlockTask) → (before : Part) → d ≡ scope.entry.limit
         → AtAfterProperties scope.entry.text.now d root before (reverse frames.old.items) after.now progress.old part.old
         → IfOk result (λ s. BlockTied scope.entry.text.now d root before (reverse frames.new.items) s progress.new part.new) }
     ensures stepped { IfOk result (λ s. Stepped scope.entry.text.now (after.now.node_start.at) 0 progress.new s) }
     ensures escapes { IfOk result (λ _. All (IsCharBoundary scope.entry.text.now) part.new.escapes) }
-    ensures counted { IsUtf8 scope.entry.text.now → (total : ℕ)
-        → length frames.old.items + openers_from scope.entry.text.now (after.now.node_start.at) ≤ total
-        → IfOk result (λ s. StepCounted scope.entry.text.now scope.entry.limit total (length frames.new.items) s) }
+    ensures counted { CountsFrom scope.entry (after.now.node_start.at) frames.old.items frames.new.items result }
 {
     let facts = facts_of(scope.text, after, &progress.wanted, part);
     let least = progress.wanted.least;

@@ -14,9 +14,9 @@ ghost use Rattle.yf_block.specs.Fits.{PairLine};
 ghost use Rattle.yf_block.specs.InlineTied.{AtStart, EntrySignAt, started};
 ghost use Rattle.yf_block.specs.KeyAwaited.{KeyAwaited};
 ghost use Rattle.yf_block.specs.KeyTexts.{KeyTextAt, KeyTextPlace};
-ghost use Rattle.yf_block.specs.Machine.{Stepped, ProgressAt};
+ghost use Rattle.yf_block.specs.Machine.{Standing, Stepped, ProgressAt};
 ghost use Rattle.yf_flow.specs.Counted.{openers_from};
-ghost use Rattle.yf_block.specs.Counted.{EntryCounted, StepCounted};
+ghost use Rattle.yf_block.specs.Counted.{CountsFrom, EntryCounted, StepCounted};
 
 use crate::frame::{Frame, Frames, Kind, Progress, Scope, Step, Wanted};
 use crate::inline::read_inline;
@@ -215,9 +215,7 @@ pub(crate) fn open_mapping<'a>(
     frames: &mut Frames,
     part: &mut Part<'a>,
 ) -> Result<Step, AllocError>
-    requires boundary { IsCharBoundary scope.text.now at }
-    requires progress { ProgressAt scope.text.now progress.old }
-    requires escapes { All (IsCharBoundary scope.text.now) part.old.escapes }
+    requires standing { Standing scope.text.now at progress.old part.old }
     ensures tied { (d : ℕ) → (root : BlockTask) → (before : Part) → (cols : Columns) → d < 2 ^ 64 → d ≡ scope.entry.limit
         → cols.mapping ≡ Some column
         → EntrySignAt scope.entry.text.now at → AtStart scope.entry.text.now d root before
@@ -248,9 +246,7 @@ pub(crate) fn take_entry<'a>(
     frames: &mut Frames,
     part: &mut Part<'a>,
 ) -> Result<Step, AllocError>
-    requires boundary { IsCharBoundary scope.text.now at }
-    requires progress { ProgressAt scope.text.now progress.old }
-    requires escapes { All (IsCharBoundary scope.text.now) part.old.escapes }
+    requires standing { Standing scope.text.now at progress.old part.old }
     ensures tied { (d : ℕ) → (root : BlockTask) → (before : Part) → d < 2 ^ 64 → d ≡ scope.entry.limit → frame.kind ≡ Kind.Mapping
         → AtEntry scope.entry.text.now d root before (reverse frames.old.items) frame at progress.old part.old
         → IfOk result (λ s. BlockTied scope.entry.text.now d root before (reverse frames.new.items) s progress.new part.new) }
@@ -294,17 +290,13 @@ fn take_key<'a>(
     frames: &mut Frames,
     part: &mut Part<'a>,
 ) -> Result<Step, AllocError>
-    requires boundary { IsCharBoundary scope.text.now entry.start }
-    requires progress { ProgressAt scope.text.now progress.old }
-    requires escapes { All (IsCharBoundary scope.text.now) part.old.escapes }
+    requires standing { Standing scope.text.now (entry.start) progress.old part.old }
     ensures tied { (d : ℕ) → (root : BlockTask) → (before : Part) → (outer : List Frame) → (frame : Frame) → d ≡ scope.entry.limit
         → KeyAwaited scope.entry.text.now d root before outer frame (reverse frames.old.items) column entry progress.old part.old
         → IfOk result (λ s. BlockTied scope.entry.text.now d root before (reverse frames.new.items) s progress.new part.new) }
     ensures stepped { IfOk result (λ s. Stepped scope.entry.text.now (entry.start) 0 progress.new s) }
     ensures escapes { IfOk result (λ _. All (IsCharBoundary scope.entry.text.now) part.new.escapes) }
-    ensures counted { IsUtf8 scope.entry.text.now → (total : ℕ)
-        → length frames.old.items + openers_from scope.entry.text.now (entry.start) ≤ total
-        → IfOk result (λ s. StepCounted scope.entry.text.now scope.entry.limit total (length frames.new.items) s) }
+    ensures counted { CountsFrom scope.entry (entry.start) frames.old.items frames.new.items result }
 {
     let start = entry.start;
     let inner = line_properties(alloc, scope.text, start)?;

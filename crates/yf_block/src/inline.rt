@@ -12,7 +12,7 @@ ghost use Rattle.yf_block.specs.InlineAnswers.{EmptyKeyAt, InlineEnds, KeyEnds, 
 ghost use Rattle.yf_block.specs.InlineTied.{started};
 ghost use Rattle.yf_block.specs.Machine.{Stepped, ProgressAt, PropertiesBefore, earliest_end, MayBoundary};
 ghost use Rattle.yf_flow.specs.Counted.{EndCounted, openers_from};
-ghost use Rattle.yf_block.specs.Counted.{StepCounted};
+ghost use Rattle.yf_block.specs.Counted.{CountsAlone, StepCounted};
 
 use crate::content::{AfterProperties, Belonging, NodeFacts, NodeStart, is_apart};
 use crate::entry::{await_value, collection_start, entry_at};
@@ -185,7 +185,8 @@ pub(crate) fn finish_inline<'a>(
     requires progress { ProgressAt scope.text.now progress.old }
     requires escapes { All (IsCharBoundary scope.text.now) part.old.escapes }
     ensures tied { (d : ℕ) → (root : BlockTask) → (before : Part) → (depth : ℕ) → (earlier : Part) → d ≡ scope.entry.limit
-        → AtInline scope.entry.text.now d root before (reverse frames.old.items) depth after.now facts.now node progress.old earlier part.old
+        → AtInline scope.entry.text.now d root before (reverse frames.old.items) depth after.now facts.now node
+        progress.old earlier part.old
         → IfOk result (λ s. BlockTied scope.entry.text.now d root before (reverse frames.new.items) s progress.new part.new) }
     ensures stepped { IfOk result (λ s. Stepped scope.entry.text.now (after.now.node_start.at) 0 progress.new s) }
     ensures escapes { IfOk result (λ _. All (IsCharBoundary scope.entry.text.now) part.new.escapes) }
@@ -271,7 +272,8 @@ fn take_first_key<'a>(
     requires progress { ProgressAt scope.text.now progress.old }
     requires escapes { All (IsCharBoundary scope.text.now) part.old.escapes }
     ensures tied { (d : ℕ) → (root : BlockTask) → (before : Part) → (depth : ℕ) → (earlier : Part) → d ≡ scope.entry.limit
-        → AtFirstKey scope.entry.text.now d root before (reverse frames.old.items) depth after.now facts.now column colon progress.old earlier part.old
+        → AtFirstKey scope.entry.text.now d root before (reverse frames.old.items) depth after.now facts.now column colon
+        progress.old earlier part.old
         → IfOk result (λ s. BlockTied scope.entry.text.now d root before (reverse frames.new.items) s progress.new part.new) }
     ensures stepped { IfOk result (λ s. Stepped scope.entry.text.now (after.now.node_start.at) 0 progress.new s) }
     ensures escapes { IfOk result (λ _. All (IsCharBoundary scope.entry.text.now) part.new.escapes) }
@@ -312,8 +314,7 @@ fn end_inline<'a>(
         → IfOk result (λ s. BlockTied text.now d root before (reverse frames.now.items) s progress.new part.new) }
     ensures stepped { IfOk result (λ s. Stepped text.now at 1 progress.new s) }
     ensures escapes { IfOk result (λ _. part.new.escapes ≡ part.old.escapes) }
-    ensures counted { (limit : ℕ) → (total : ℕ) → (count : ℕ) → count + openers_from text.now at ≤ total
-        → IfOk result (λ s. StepCounted text.now limit total count s) }
+    ensures counted { CountsAlone text.now at result }
 {
     match read_line_end(alloc, text, at)? {
         Some(Separation { comments, end }) => {
@@ -342,7 +343,8 @@ fn begin_mapping<'a>(
     requires place { IsCharBoundary scope.text.now after.now.at }
     requires properties { PropertiesBefore scope.text.now after.now.at after.now.inner }
     requires escapes { All (IsCharBoundary scope.text.now) part.old.escapes }
-    ensures key { (earlier : Part) → (room : ℕ) → IsUtf8 scope.entry.text.now → wanted.now.least ≤ 2 ^ 30 → depth + room ≡ scope.entry.limit
+    ensures key { (earlier : Part) → (room : ℕ) → IsUtf8 scope.entry.text.now → wanted.now.least ≤ 2 ^ 30
+        → depth + room ≡ scope.entry.limit
         → KeyRead scope.entry.text.now room (pos wanted.now.least) depth after.now facts.now wanted.now earlier part.old
         → IfOk result (λ _. KeyOrLost scope.entry.text.now room (pos wanted.now.least) depth after.now entry
         (started Kind.Mapping after.now.node_start.at wanted.now) earlier part.new) }

@@ -1,16 +1,15 @@
 //! Nodes where they are awaited: after an indicator, or at the start of a line (s-l+block-node, production 196).
 ghost use Rattle.std.specs.Prelude.{◌≡◌, ◌^◌, ◌<◌, ◌≤◌, ℕ, IfOk, IfSome, List, reverse, ◌+◌, length, Some, true, false, ◌⊎◌, MatchBool, MatchOption};
 ghost use Rattle.std.specs.List.{All};
-ghost use Rattle.std.specs.Str.{IsCharBoundary, IsUtf8};
+ghost use Rattle.std.specs.Str.{IsCharBoundary};
 ghost use Rattle.yf_flow.specs.Machine.{Place};
 ghost use Rattle.yf_block.specs.BlockStepTied.{AtNode, AtLine, BlockTied};
 ghost use Rattle.yf_block.specs.ColumnsTied.{CompactTied, SequenceBegins, SequenceTied};
 ghost use Rattle.yf_block.specs.LineStepTied.{AtEmpty, AtIndented};
 ghost use Rattle.yf_block.specs.LineTied.{AtBelow, EndedTied};
-ghost use Rattle.yf_block.specs.Machine.{Stepped, ProgressAt};
+ghost use Rattle.yf_block.specs.Machine.{Standing, Stepped, ProgressAt};
 ghost use Rattle.yf_grammar.specs.BlockParser.{BlockTask, DashAt};
-ghost use Rattle.yf_flow.specs.Counted.{openers_from};
-ghost use Rattle.yf_block.specs.Counted.{StepCounted};
+ghost use Rattle.yf_block.specs.Counted.{CountsAlone, CountsFrom};
 
 use crate::content::{NodeStart, take_content};
 use crate::entry::open_sequence;
@@ -42,8 +41,7 @@ pub(crate) fn first_line<'a>(
         → IfOk result (λ s. BlockTied text.now d root before frames s progress.new part.new) }
     ensures stepped { IfOk result (λ s. Stepped text.now at 2 progress.new s) }
     ensures escapes { IfOk result (λ _. part.new.escapes ≡ part.old.escapes) }
-    ensures counted { (limit : ℕ) → (total : ℕ) → (count : ℕ) → count + openers_from text.now at ≤ total
-        → IfOk result (λ s. StepCounted text.now limit total count s) }
+    ensures counted { CountsAlone text.now at result }
 {
     match end_line(alloc, text, at, progress, part)? {
         Step::Line(line) => {
@@ -69,8 +67,7 @@ pub(crate) fn end_line<'a>(
         → IfOk result (λ s. EndedTied text.now d root before frames at s progress.new part.new) }
     ensures stepped { IfOk result (λ s. Stepped text.now at 2 progress.new s) }
     ensures escapes { IfOk result (λ _. part.new.escapes ≡ part.old.escapes) }
-    ensures counted { (limit : ℕ) → (total : ℕ) → (count : ℕ) → count + openers_from text.now at ≤ total
-        → IfOk result (λ s. StepCounted text.now limit total count s) }
+    ensures counted { CountsAlone text.now at result }
 {
     match read_line_end(alloc, text, at)? {
         Some(Separation { comments, end }) => {
@@ -92,16 +89,13 @@ pub(crate) fn take_node<'a>(
     frames: &mut Frames,
     part: &mut Part<'a>,
 ) -> Result<Step, AllocError>
-    requires boundary { IsCharBoundary scope.text.now at }
-    requires progress { ProgressAt scope.text.now progress.old }
-    requires escapes { All (IsCharBoundary scope.text.now) part.old.escapes }
+    requires standing { Standing scope.text.now at progress.old part.old }
     ensures tied { (d : ℕ) → (root : BlockTask) → (before : Part) → d < 2 ^ 64 → d ≡ scope.entry.limit
         → AtNode scope.entry.text.now d root before (reverse frames.old.items) at progress.old part.old
         → IfOk result (λ s. BlockTied scope.entry.text.now d root before (reverse frames.new.items) s progress.new part.new) }
     ensures stepped { IfOk result (λ s. Stepped scope.entry.text.now at 2 progress.new s) }
     ensures escapes { IfOk result (λ _. All (IsCharBoundary scope.entry.text.now) part.new.escapes) }
-    ensures counted { IsUtf8 scope.entry.text.now → (total : ℕ) → length frames.old.items + openers_from scope.entry.text.now at ≤ total
-        → IfOk result (λ s. StepCounted scope.entry.text.now scope.entry.limit total (length frames.new.items) s) }
+    ensures counted { CountsFrom scope.entry at frames.old.items frames.new.items result }
 {
     let text = scope.text;
     let place = skip_whites(text, at);
@@ -162,16 +156,13 @@ pub(crate) fn take_line<'a>(
     frames: &mut Frames,
     part: &mut Part<'a>,
 ) -> Result<Step, AllocError>
-    requires boundary { IsCharBoundary scope.text.now at }
-    requires progress { ProgressAt scope.text.now progress.old }
-    requires escapes { All (IsCharBoundary scope.text.now) part.old.escapes }
+    requires standing { Standing scope.text.now at progress.old part.old }
     ensures tied { (d : ℕ) → (root : BlockTask) → (before : Part) → d < 2 ^ 64 → d ≡ scope.entry.limit
         → AtLine scope.entry.text.now d root before (reverse frames.old.items) at progress.old part.old
         → IfOk result (λ s. BlockTied scope.entry.text.now d root before (reverse frames.new.items) s progress.new part.new) }
     ensures stepped { IfOk result (λ s. Stepped scope.entry.text.now at 1 progress.new s) }
     ensures escapes { IfOk result (λ _. All (IsCharBoundary scope.entry.text.now) part.new.escapes) }
-    ensures counted { IsUtf8 scope.entry.text.now → (total : ℕ) → length frames.old.items + openers_from scope.entry.text.now at ≤ total
-        → IfOk result (λ s. StepCounted scope.entry.text.now scope.entry.limit total (length frames.new.items) s) }
+    ensures counted { CountsFrom scope.entry at frames.old.items frames.new.items result }
 {
     let text = scope.text;
     note_empty(text, at, progress, frames);
@@ -224,17 +215,14 @@ fn take_indented<'a>(
     frames: &mut Frames,
     part: &mut Part<'a>,
 ) -> Result<Step, AllocError>
-    requires boundary { IsCharBoundary scope.text.now at }
+    requires standing { Standing scope.text.now at progress.old part.old }
     requires place { Place scope.text.now at start }
-    requires progress { ProgressAt scope.text.now progress.old }
-    requires escapes { All (IsCharBoundary scope.text.now) part.old.escapes }
     ensures tied { (d : ℕ) → (root : BlockTask) → (before : Part) → d < 2 ^ 64 → d ≡ scope.entry.limit
         → AtIndented scope.entry.text.now d root before (reverse frames.old.items) at start progress.old part.old
         → IfOk result (λ s. BlockTied scope.entry.text.now d root before (reverse frames.new.items) s progress.new part.new) }
     ensures stepped { IfOk result (λ s. Stepped scope.entry.text.now at 1 progress.new s) }
     ensures escapes { IfOk result (λ _. All (IsCharBoundary scope.entry.text.now) part.new.escapes) }
-    ensures counted { IsUtf8 scope.entry.text.now → (total : ℕ) → length frames.old.items + openers_from scope.entry.text.now at ≤ total
-        → IfOk result (λ s. StepCounted scope.entry.text.now scope.entry.limit total (length frames.new.items) s) }
+    ensures counted { CountsFrom scope.entry at frames.old.items frames.new.items result }
 {
     let width = start - at;
     if !may_begin(progress, width) {
@@ -291,8 +279,7 @@ fn end_empty<'a>(
         → IfOk result (λ s. BlockTied _text.now d root before (reverse frames.now.items) s progress.new part.new) }
     ensures stepped { IfOk result (λ s. Stepped _text.now at 1 progress.new s) }
     ensures escapes { IfOk result (λ _. part.new.escapes ≡ part.old.escapes) }
-    ensures counted { (limit : ℕ) → (total : ℕ) → (count : ℕ) → count + openers_from _text.now at ≤ total
-        → IfOk result (λ s. StepCounted _text.now limit total count s) }
+    ensures counted { CountsAlone _text.now at result }
 {
     match progress.wanted.outer {
         Some(properties) => {

@@ -1,5 +1,5 @@
 //! The reader of block nodes: one forward pass, with a stack of the open collections.
-ghost use Rattle.std.specs.Prelude.{◌≡◌, ℕ, ℤ, pos, ◌+ℤ◌, ◌^◌, ◌<◌, ◌≤◌, [], true, false, IfOk, IfSome, ◌+◌, length, MatchBool, MatchOption, Some, None, Ok};
+ghost use Rattle.std.specs.Prelude.{◌≡◌, ℕ, ℤ, pos, ◌+ℤ◌, ◌^◌, ◌<◌, ◌≤◌, [], true, false, IfOk, ◌+◌, length, MatchBool, MatchOption, Some, None, Ok};
 ghost use Rattle.std.specs.List.{All};
 ghost use Rattle.std.specs.Str.{IsCharBoundary, IsUtf8};
 ghost use Rattle.yf_grammar.specs.BlockParser.{Nothing, Awaited, BlockTask};

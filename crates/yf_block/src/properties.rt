@@ -1,5 +1,5 @@
 //! The properties of nodes, line by line.
-ghost use Rattle.std.specs.Prelude.{◌≡◌, ℕ, pos, ◌+◌, IfOk, IfSome, MatchBool, MatchOption};
+ghost use Rattle.std.specs.Prelude.{◌≡◌, pos, ◌+◌, IfOk, IfSome, MatchBool, MatchOption};
 ghost use Rattle.std.specs.Str.{IsCharBoundary};
 ghost use Rattle.yf_chars.specs.Chain.{Stuck};
 ghost use Rattle.yf_chars.specs.Text.{code};
@@ -66,7 +66,8 @@ pub(crate) fn line_properties<'a>(
     at: usize,
 ) -> Result<Option<PlacedProperties<'a>>, AllocError>
     ensures place { IfOk result (λ o. IfSome o (λ h. Place text.now (at + 1) h.end)) }
-    ensures reads { IfOk result (λ o. MatchOption o (Stuck (Names.Properties text.now (pos 0) Ctx.FlowKey at)) (LineProperties text.now at)) }
+    ensures reads { IfOk result
+        (λ o. MatchOption o (Stuck (Names.Properties text.now (pos 0) Ctx.FlowKey at)) (LineProperties text.now at)) }
 {
     if property_stands(text, at) {
         match read_properties(alloc, text, at)? {

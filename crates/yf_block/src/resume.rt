@@ -8,9 +8,9 @@ ghost use Rattle.yf_block.specs.BlockStepTied.{AtResume, AtDone, AtFit, AtTop, B
 ghost use Rattle.yf_block.specs.BlockTied.{colons_if};
 ghost use Rattle.yf_block.specs.Closing.{closing};
 ghost use Rattle.yf_block.specs.Fits.{FitsLine, PairLine, PlaceTied};
-ghost use Rattle.yf_block.specs.Machine.{Stepped, ProgressAt, MayPlace, FitsAt};
+ghost use Rattle.yf_block.specs.Machine.{Standing, Stepped, ProgressAt, MayPlace, FitsAt};
 ghost use Rattle.yf_flow.specs.Counted.{openers_from};
-ghost use Rattle.yf_block.specs.Counted.{StepCounted};
+ghost use Rattle.yf_block.specs.Counted.{CountsFrom, StepCounted};
 
 use crate::entry::{take_entry, take_explicit_value, take_item};
 use crate::frame::{Frame, Frames, Kind, Progress, Scope, Step};
@@ -49,16 +49,13 @@ pub(crate) fn resume<'a>(
     frames: &mut Frames,
     part: &mut Part<'a>,
 ) -> Result<Step, AllocError>
-    requires boundary { IsCharBoundary scope.text.now at }
-    requires progress { ProgressAt scope.text.now progress.old }
-    requires escapes { All (IsCharBoundary scope.text.now) part.old.escapes }
+    requires standing { Standing scope.text.now at progress.old part.old }
     ensures tied { (d : ℕ) → (root : BlockTask) → (before : Part) → d < 2 ^ 64 → d ≡ scope.entry.limit
         → AtResume scope.entry.text.now d root before (reverse frames.old.items) at progress.old part.old
         → IfOk result (λ s. BlockTied scope.entry.text.now d root before (reverse frames.new.items) s progress.new part.new) }
     ensures stepped { IfOk result (λ s. Stepped scope.entry.text.now at 0 progress.new s) }
     ensures escapes { IfOk result (λ _. All (IsCharBoundary scope.entry.text.now) part.new.escapes) }
-    ensures counted { IsUtf8 scope.entry.text.now → (total : ℕ) → length frames.old.items + openers_from scope.entry.text.now at ≤ total
-        → IfOk result (λ s. StepCounted scope.entry.text.now scope.entry.limit total (length frames.new.items) s) }
+    ensures counted { CountsFrom scope.entry at frames.old.items frames.new.items result }
 {
     match end_collections(alloc, scope.text, at, progress, frames, part)? {
         None => Ok(Step::Done(at)),
@@ -152,16 +149,15 @@ fn next_entry<'a>(
     frames: &mut Frames,
     part: &mut Part<'a>,
 ) -> Result<Step, AllocError>
-    requires boundary { IsCharBoundary scope.text.now at }
-    requires progress { ProgressAt scope.text.now progress.old }
-    requires escapes { All (IsCharBoundary scope.text.now) part.old.escapes }
+    requires standing { Standing scope.text.now at progress.old part.old }
     ensures tied { (line : ℕ) → (d : ℕ) → (root : BlockTask) → (before : Part) → d < 2 ^ 64 → d ≡ scope.entry.limit
         → PairLine scope.entry.text.now line frame at → AtTop scope.entry.text.now d root before
         (reverse frames.old.items) line frame progress.old part.old
         → IfOk result (λ s. BlockTied scope.entry.text.now d root before (reverse frames.new.items) s progress.new part.new) }
     ensures stepped { IfOk result (λ s. Stepped scope.entry.text.now at 0 progress.new s) }
     ensures escapes { IfOk result (λ _. All (IsCharBoundary scope.entry.text.now) part.new.escapes) }
-    ensures counted { IsUtf8 scope.entry.text.now → (total : ℕ) → length frames.old.items + 1 + openers_from scope.entry.text.now at ≤ total
+    ensures counted { IsUtf8 scope.entry.text.now → (total : ℕ)
+        → length frames.old.items + 1 + openers_from scope.entry.text.now at ≤ total
         → IfOk result (λ s. StepCounted scope.entry.text.now scope.entry.limit total (length frames.new.items) s) }
 {
     if frame.awaits_colon {

@@ -1,7 +1,6 @@
 //! Block scalars as nodes (YAML 1.2.2, section 8.1).
 ghost use Rattle.std.specs.Prelude.{◌≡◌, IfOk, ℕ, ◌+◌, ◌≤◌, length, ◌^◌, ◌<◌, ◌++◌, reverse};
-ghost use Rattle.std.specs.Str.{IsCharBoundary, IsUtf8};
-ghost use Rattle.yf_lines.specs.Basic.{LineStart};
+ghost use Rattle.std.specs.Str.{IsCharBoundary};
 ghost use Rattle.yf_comments.specs.Comment.{row_comments};
 ghost use Rattle.yf_events.specs.Event.{placed_value};
 ghost use Rattle.yf_grammar.specs.BlockParser.{BlockTask};
@@ -9,8 +8,7 @@ ghost use Rattle.yf_grammar.specs.BlockScalar.{kept_lines as kept_of, reach as r
 ghost use Rattle.yf_flow.specs.Machine.{Place};
 ghost use Rattle.yf_block.specs.BlockStepTied.{BlockTied};
 ghost use Rattle.yf_block.specs.Machine.{Stepped, ProgressAt};
-ghost use Rattle.yf_flow.specs.Counted.{openers_from};
-ghost use Rattle.yf_block.specs.Counted.{StepCounted};
+ghost use Rattle.yf_block.specs.Counted.{CountsAlone};
 ghost use Rattle.yf_block.specs.ScalarTied.{AtBody, AtScalar, scalar_event};
 
 use crate::frame::{Frames, Progress, Scope, Step};
@@ -49,8 +47,7 @@ pub(crate) fn take_block_scalar<'a>(
         → IfOk result (λ s. BlockTied scope.entry.text.now d root before (reverse frames.now.items) s progress.new part.new) }
     ensures stepped { IfOk result (λ s. Stepped scope.entry.text.now at 0 progress.new s) }
     ensures escapes { IfOk result (λ _. part.new.escapes ≡ part.old.escapes) }
-    ensures counted { (limit : ℕ) → (total : ℕ) → (count : ℕ) → count + openers_from scope.entry.text.now at ≤ total
-        → IfOk result (λ s. StepCounted scope.entry.text.now limit total count s) }
+    ensures counted { CountsAlone scope.entry.text.now at result }
 {
     match read_header(scope.text, at) {
         None => Ok(Step::Failed(at)),
@@ -104,8 +101,7 @@ fn take_body<'a>(
         → IfOk result (λ s. BlockTied text.now d root before (reverse frames.now.items) s progress.new part.new) }
     ensures stepped { IfOk result (λ s. Stepped text.now at 1 progress.new s) }
     ensures escapes { IfOk result (λ _. part.new.escapes ≡ part.old.escapes) }
-    ensures counted { (limit : ℕ) → (total : ℕ) → (count : ℕ) → count + openers_from text.now at ≤ total
-        → IfOk result (λ s. StepCounted text.now limit total count s) }
+    ensures counted { CountsAlone text.now at result }
 {
     let finish = skip_lines(text, at, reach(&block));
     let next = block.next;
