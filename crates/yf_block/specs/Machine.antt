@@ -59,6 +59,11 @@ pub record Stepped (t : List ℕ) (at more : ℕ) (p : Progress) (s : Step) : Ty
   pub ready : StepReady t at s
   pub moves : left (length t) s ≤ 3 * (length t - at) + more
 
+-- the same of a step that may note bad escapes
+pub record Moved (t : List ℕ) (at more : ℕ) (kept : Progress) (part : Part) (s : Step) : Type 0 where
+  pub step : Stepped t at more kept s
+  pub escapes : All (IsCharBoundary t) part.escapes
+
 -- from an offset on stand properties, or none, and after them a place
 abbrev pub PropertiesTo : List ℕ → ℕ → ℕ → Option PlacedProperties → Type 0
 PropertiesTo t start at None = at ≡ start

@@ -1,6 +1,5 @@
 //! What a node has on one line: the sign of an entry, properties, a block scalar, or a flow node.
-ghost use Rattle.std.specs.Prelude.{◌≡◌, ◌+◌, Some, IfOk, MatchBool, ◌⊎◌, ℕ, ◌≤◌, length, ◌^◌, ◌<◌, List, MatchOption, reverse};
-ghost use Rattle.std.specs.List.{All};
+ghost use Rattle.std.specs.Prelude.{◌≡◌, ◌+◌, Some, IfOk, MatchBool, ◌⊎◌, ℕ, ◌≤◌, ◌^◌, ◌<◌, List, MatchOption, reverse};
 ghost use Rattle.std.specs.Str.{IsCharBoundary};
 ghost use Rattle.yf_flow.specs.Machine.{Place};
 ghost use Rattle.yf_grammar.specs.BlockParser.{Ahead, BlockTask, Columns, DashAt};
@@ -10,7 +9,7 @@ ghost use Rattle.yf_block.specs.BelongingTied.{BelongingTied};
 ghost use Rattle.yf_block.specs.ContentTied.{AtAfterProperties, AtContent, CountsOf, EndsAfter, ScalarSignAt};
 ghost use Rattle.yf_block.specs.PropertiesAnswers.{Holds, LineProperties, held_lead, lead_at};
 ghost use Rattle.yf_block.specs.InlineTied.{AtStart, EntrySignAt};
-ghost use Rattle.yf_block.specs.Machine.{Standing, Stepped, ProgressAt, PropertiesTo};
+ghost use Rattle.yf_block.specs.Machine.{Moved, Standing, Stepped, ProgressAt, PropertiesTo};
 ghost use Rattle.yf_block.specs.Counted.{CountsAlone, CountsFrom};
 
 use crate::entry::open_mapping;
@@ -96,8 +95,7 @@ pub(crate) fn take_content<'a>(
         → ((m : ℕ) → cols.sequence ≡ Some m → DashAt scope.entry.text.now (node_start.at) → ⊥)
         → AtStart scope.entry.text.now d root before (reverse frames.old.items) cols (node_start.at) progress.old part.old
         → IfOk result (λ s. BlockTied scope.entry.text.now d root before (reverse frames.new.items) s progress.new part.new) }
-    ensures stepped { IfOk result (λ s. Stepped scope.entry.text.now (node_start.at) 0 progress.new s) }
-    ensures escapes { IfOk result (λ _. All (IsCharBoundary scope.entry.text.now) part.new.escapes) }
+    ensures stepped { IfOk result (Moved scope.entry.text.now (node_start.at) 0 progress.new part.new) }
     ensures counted { CountsFrom scope.entry (node_start.at) frames.old.items frames.new.items result }
 {
     match signed_column(scope.text, node_start) {
@@ -159,8 +157,7 @@ fn take_propertied<'a>(
         → LineProperties scope.entry.text.now (node_start.at) inner.entry
         → AtContent scope.entry.text.now d root before (reverse frames.old.items) (node_start.at) node_start.column progress.old part.old
         → IfOk result (λ s. BlockTied scope.entry.text.now d root before (reverse frames.new.items) s progress.new part.new) }
-    ensures stepped { IfOk result (λ s. Stepped scope.entry.text.now (node_start.at) 0 progress.new s) }
-    ensures escapes { IfOk result (λ _. All (IsCharBoundary scope.entry.text.now) part.new.escapes) }
+    ensures stepped { IfOk result (Moved scope.entry.text.now (node_start.at) 0 progress.new part.new) }
     ensures counted { CountsFrom scope.entry (node_start.at) frames.old.items frames.new.items result }
 {
     let place = skip_whites(scope.text, inner.end);
@@ -230,8 +227,7 @@ fn take_after_properties<'a>(
     ensures tied { (d : ℕ) → (root : BlockTask) → (before : Part) → d ≡ scope.entry.limit
         → AtAfterProperties scope.entry.text.now d root before (reverse frames.old.items) after.now progress.old part.old
         → IfOk result (λ s. BlockTied scope.entry.text.now d root before (reverse frames.new.items) s progress.new part.new) }
-    ensures stepped { IfOk result (λ s. Stepped scope.entry.text.now (after.now.node_start.at) 0 progress.new s) }
-    ensures escapes { IfOk result (λ _. All (IsCharBoundary scope.entry.text.now) part.new.escapes) }
+    ensures stepped { IfOk result (Moved scope.entry.text.now (after.now.node_start.at) 0 progress.new part.new) }
     ensures counted { CountsFrom scope.entry (after.now.node_start.at) frames.old.items frames.new.items result }
 {
     let facts = facts_of(scope.text, after, &progress.wanted, part);

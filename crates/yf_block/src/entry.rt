@@ -1,6 +1,5 @@
 //! Block collections and their entries (YAML 1.2.2, section 8.2).
 ghost use Rattle.std.specs.Prelude.{◌≡◌, ◌≢◌, ℕ, ◌+◌, ◌-◌, ◌^◌, ◌<◌, ◌≤◌, true, false, List, Some, None, IfOk, IfSome, reverse, length};
-ghost use Rattle.std.specs.List.{All};
 ghost use Rattle.std.specs.Str.{IsCharBoundary, IsUtf8};
 ghost use Rattle.yf_chars.specs.Text.{code};
 ghost use Rattle.yf_comments.specs.Comments.{Blank};
@@ -14,7 +13,7 @@ ghost use Rattle.yf_block.specs.Fits.{PairLine};
 ghost use Rattle.yf_block.specs.InlineTied.{AtStart, EntrySignAt, started};
 ghost use Rattle.yf_block.specs.KeyAwaited.{KeyAwaited};
 ghost use Rattle.yf_block.specs.KeyTexts.{KeyTextAt, KeyTextPlace};
-ghost use Rattle.yf_block.specs.Machine.{Standing, Stepped, ProgressAt};
+ghost use Rattle.yf_block.specs.Machine.{Moved, Standing, Stepped, ProgressAt};
 ghost use Rattle.yf_flow.specs.Counted.{openers_from};
 ghost use Rattle.yf_block.specs.Counted.{CountsFrom, EntryCounted, StepCounted};
 
@@ -221,8 +220,7 @@ pub(crate) fn open_mapping<'a>(
         → EntrySignAt scope.entry.text.now at → AtStart scope.entry.text.now d root before
         (reverse frames.old.items) cols at progress.old part.old
         → IfOk result (λ s. BlockTied scope.entry.text.now d root before (reverse frames.new.items) s progress.new part.new) }
-    ensures stepped { IfOk result (λ s. Stepped scope.entry.text.now at 0 progress.new s) }
-    ensures escapes { IfOk result (λ _. All (IsCharBoundary scope.entry.text.now) part.new.escapes) }
+    ensures stepped { IfOk result (Moved scope.entry.text.now at 0 progress.new part.new) }
     ensures counted { IsUtf8 scope.entry.text.now → (total : ℕ) → EntrySignAt scope.entry.text.now at
         → length frames.old.items + openers_from scope.entry.text.now at ≤ total
         → IfOk result (λ s. StepCounted scope.entry.text.now scope.entry.limit total (length frames.new.items) s) }
@@ -250,8 +248,7 @@ pub(crate) fn take_entry<'a>(
     ensures tied { (d : ℕ) → (root : BlockTask) → (before : Part) → d < 2 ^ 64 → d ≡ scope.entry.limit → frame.kind ≡ Kind.Mapping
         → AtEntry scope.entry.text.now d root before (reverse frames.old.items) frame at progress.old part.old
         → IfOk result (λ s. BlockTied scope.entry.text.now d root before (reverse frames.new.items) s progress.new part.new) }
-    ensures stepped { IfOk result (λ s. Stepped scope.entry.text.now at 0 progress.new s) }
-    ensures escapes { IfOk result (λ _. All (IsCharBoundary scope.entry.text.now) part.new.escapes) }
+    ensures stepped { IfOk result (Moved scope.entry.text.now at 0 progress.new part.new) }
     ensures counted { IsUtf8 scope.entry.text.now → (total : ℕ) → EntryCounted scope.entry.text.now total (length frames.old.items) at
         → IfOk result (λ s. StepCounted scope.entry.text.now scope.entry.limit total (length frames.new.items) s) }
 {
@@ -294,8 +291,7 @@ fn take_key<'a>(
     ensures tied { (d : ℕ) → (root : BlockTask) → (before : Part) → (outer : List Frame) → (frame : Frame) → d ≡ scope.entry.limit
         → KeyAwaited scope.entry.text.now d root before outer frame (reverse frames.old.items) column entry progress.old part.old
         → IfOk result (λ s. BlockTied scope.entry.text.now d root before (reverse frames.new.items) s progress.new part.new) }
-    ensures stepped { IfOk result (λ s. Stepped scope.entry.text.now (entry.start) 0 progress.new s) }
-    ensures escapes { IfOk result (λ _. All (IsCharBoundary scope.entry.text.now) part.new.escapes) }
+    ensures stepped { IfOk result (Moved scope.entry.text.now (entry.start) 0 progress.new part.new) }
     ensures counted { CountsFrom scope.entry (entry.start) frames.old.items frames.new.items result }
 {
     let start = entry.start;

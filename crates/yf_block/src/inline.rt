@@ -10,7 +10,7 @@ ghost use Rattle.yf_block.specs.BlockStepTied.{BlockTied};
 ghost use Rattle.yf_block.specs.ContentTied.{AtFirstKey, AtInline, KeyOrLost, KeyRead, LeafEnding};
 ghost use Rattle.yf_block.specs.InlineAnswers.{EmptyKeyAt, InlineEnds, KeyEnds, NoEmptyKey};
 ghost use Rattle.yf_block.specs.InlineTied.{started};
-ghost use Rattle.yf_block.specs.Machine.{Stepped, ProgressAt, PropertiesBefore, earliest_end, MayBoundary};
+ghost use Rattle.yf_block.specs.Machine.{Moved, Stepped, ProgressAt, PropertiesBefore, earliest_end, MayBoundary};
 ghost use Rattle.yf_flow.specs.Counted.{EndCounted, openers_from};
 ghost use Rattle.yf_block.specs.Counted.{CountsAlone, StepCounted};
 
@@ -188,8 +188,7 @@ pub(crate) fn finish_inline<'a>(
         → AtInline scope.entry.text.now d root before (reverse frames.old.items) depth after.now facts.now node
         progress.old earlier part.old
         → IfOk result (λ s. BlockTied scope.entry.text.now d root before (reverse frames.new.items) s progress.new part.new) }
-    ensures stepped { IfOk result (λ s. Stepped scope.entry.text.now (after.now.node_start.at) 0 progress.new s) }
-    ensures escapes { IfOk result (λ _. All (IsCharBoundary scope.entry.text.now) part.new.escapes) }
+    ensures stepped { IfOk result (Moved scope.entry.text.now (after.now.node_start.at) 0 progress.new part.new) }
     ensures counted { IsUtf8 scope.entry.text.now → (total : ℕ) → node.deepest + openers_from scope.entry.text.now node.end ≤ total
         → length frames.old.items + openers_from scope.entry.text.now (after.now.node_start.at) ≤ total
         → IfOk result (λ s. StepCounted scope.entry.text.now scope.entry.limit total (length frames.new.items) s) }
@@ -275,8 +274,7 @@ fn take_first_key<'a>(
         → AtFirstKey scope.entry.text.now d root before (reverse frames.old.items) depth after.now facts.now column colon
         progress.old earlier part.old
         → IfOk result (λ s. BlockTied scope.entry.text.now d root before (reverse frames.new.items) s progress.new part.new) }
-    ensures stepped { IfOk result (λ s. Stepped scope.entry.text.now (after.now.node_start.at) 0 progress.new s) }
-    ensures escapes { IfOk result (λ _. All (IsCharBoundary scope.entry.text.now) part.new.escapes) }
+    ensures stepped { IfOk result (Moved scope.entry.text.now (after.now.node_start.at) 0 progress.new part.new) }
     ensures counted { (total : ℕ) → length frames.old.items + 1 + openers_from scope.entry.text.now (colon + 1) ≤ total
         → IfOk result (λ s. StepCounted scope.entry.text.now scope.entry.limit total (length frames.new.items) s) }
 {

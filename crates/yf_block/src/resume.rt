@@ -1,6 +1,5 @@
 //! After a node, at the start of a line: the next entry of an open collection, or the end of collections.
 ghost use Rattle.std.specs.Prelude.{◌≡◌, ℕ, ◌-◌, ◌^◌, ◌<◌, ◌++◌, IfOk, IfSome, MatchOption, reverse, ◌+◌, ◌≤◌, length};
-ghost use Rattle.std.specs.List.{All};
 ghost use Rattle.std.specs.Str.{IsCharBoundary, IsUtf8};
 ghost use Rattle.yf_events.specs.Edit.{edited, ended};
 ghost use Rattle.yf_grammar.specs.BlockParser.{BlockTask};
@@ -8,7 +7,7 @@ ghost use Rattle.yf_block.specs.BlockStepTied.{AtResume, AtDone, AtFit, AtTop, B
 ghost use Rattle.yf_block.specs.BlockTied.{colons_if};
 ghost use Rattle.yf_block.specs.Closing.{closing};
 ghost use Rattle.yf_block.specs.Fits.{FitsLine, PairLine, PlaceTied};
-ghost use Rattle.yf_block.specs.Machine.{Standing, Stepped, ProgressAt, MayPlace, FitsAt};
+ghost use Rattle.yf_block.specs.Machine.{Moved, Standing, ProgressAt, MayPlace, FitsAt};
 ghost use Rattle.yf_flow.specs.Counted.{openers_from};
 ghost use Rattle.yf_block.specs.Counted.{CountsFrom, StepCounted};
 
@@ -53,8 +52,7 @@ pub(crate) fn resume<'a>(
     ensures tied { (d : ℕ) → (root : BlockTask) → (before : Part) → d < 2 ^ 64 → d ≡ scope.entry.limit
         → AtResume scope.entry.text.now d root before (reverse frames.old.items) at progress.old part.old
         → IfOk result (λ s. BlockTied scope.entry.text.now d root before (reverse frames.new.items) s progress.new part.new) }
-    ensures stepped { IfOk result (λ s. Stepped scope.entry.text.now at 0 progress.new s) }
-    ensures escapes { IfOk result (λ _. All (IsCharBoundary scope.entry.text.now) part.new.escapes) }
+    ensures stepped { IfOk result (Moved scope.entry.text.now at 0 progress.new part.new) }
     ensures counted { CountsFrom scope.entry at frames.old.items frames.new.items result }
 {
     match end_collections(alloc, scope.text, at, progress, frames, part)? {
@@ -154,8 +152,7 @@ fn next_entry<'a>(
         → PairLine scope.entry.text.now line frame at → AtTop scope.entry.text.now d root before
         (reverse frames.old.items) line frame progress.old part.old
         → IfOk result (λ s. BlockTied scope.entry.text.now d root before (reverse frames.new.items) s progress.new part.new) }
-    ensures stepped { IfOk result (λ s. Stepped scope.entry.text.now at 0 progress.new s) }
-    ensures escapes { IfOk result (λ _. All (IsCharBoundary scope.entry.text.now) part.new.escapes) }
+    ensures stepped { IfOk result (Moved scope.entry.text.now at 0 progress.new part.new) }
     ensures counted { IsUtf8 scope.entry.text.now → (total : ℕ)
         → length frames.old.items + 1 + openers_from scope.entry.text.now at ≤ total
         → IfOk result (λ s. StepCounted scope.entry.text.now scope.entry.limit total (length frames.new.items) s) }
