@@ -25,8 +25,8 @@ CountsFrom scope at old new result = IsUtf8 scope.text.now → (total : ℕ) →
     → IfOk result (λ s. StepCounted scope.text.now scope.limit total (length new) s)
 
 -- and one that opens and ends none
-abbrev pub CountsAlone : List ℕ → ℕ → Result Step AllocError → Type 0
-CountsAlone t at result = (limit : ℕ) → (total : ℕ) → (count : ℕ) → count + openers_from t at ≤ total → IfOk result (λ s. StepCounted t limit total count s)
+abbrev pub CountsSame : List ℕ → ℕ → Result Step AllocError → Type 0
+CountsSame t at result = (limit : ℕ) → (total : ℕ) → (count : ℕ) → count + openers_from t at ≤ total → IfOk result (λ s. StepCounted t limit total count s)
 
 -- an entry begins there of a collection round which so many are open: the first one, with its `?` or its `:`, or one after others, whose
 -- opener has been read

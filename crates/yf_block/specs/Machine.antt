@@ -29,7 +29,12 @@ pub record ProgressAt (t : List ℕ) (p : Progress) : Type 0 where
   pub from : IsCharBoundary t p.from
   pub halt : MayBoundary t p.halt
 
--- what a step stands on: a place, and what is kept and noted so far
+-- what a step stands on that notes no bad escapes: a place, and what is kept so far
+pub record StandingAt (t : List ℕ) (at : ℕ) (kept : Progress) : Type 0 where
+  pub boundary : IsCharBoundary t at
+  pub progress : ProgressAt t kept
+
+-- the same of any step, with what is noted so far
 pub record Standing (t : List ℕ) (at : ℕ) (kept : Progress) (part : Part) : Type 0 where
   pub boundary : IsCharBoundary t at
   pub progress : ProgressAt t kept
@@ -63,6 +68,11 @@ pub record Stepped (t : List ℕ) (at more : ℕ) (p : Progress) (s : Step) : Ty
 pub record Moved (t : List ℕ) (at more : ℕ) (kept : Progress) (part : Part) (s : Step) : Type 0 where
   pub step : Stepped t at more kept s
   pub escapes : All (IsCharBoundary t) part.escapes
+
+-- and of one that notes none
+pub record MovedSame (t : List ℕ) (at more : ℕ) (escapes : List ℕ) (kept : Progress) (part : Part) (s : Step) : Type 0 where
+  pub step : Stepped t at more kept s
+  pub same_escapes : part.escapes ≡ escapes
 
 -- from an offset on stand properties, or none, and after them a place
 abbrev pub PropertiesTo : List ℕ → ℕ → ℕ → Option PlacedProperties → Type 0

@@ -9,8 +9,8 @@ ghost use Rattle.yf_block.specs.BelongingTied.{BelongingTied};
 ghost use Rattle.yf_block.specs.ContentTied.{AtAfterProperties, AtContent, CountsOf, EndsAfter, ScalarSignAt};
 ghost use Rattle.yf_block.specs.PropertiesAnswers.{Holds, LineProperties, held_lead, lead_at};
 ghost use Rattle.yf_block.specs.InlineTied.{AtStart, EntrySignAt};
-ghost use Rattle.yf_block.specs.Machine.{Moved, Standing, Stepped, ProgressAt, PropertiesTo};
-ghost use Rattle.yf_block.specs.Counted.{CountsAlone, CountsFrom};
+ghost use Rattle.yf_block.specs.Machine.{StandingAt, MovedSame, Moved, Standing, PropertiesTo};
+ghost use Rattle.yf_block.specs.Counted.{CountsSame, CountsFrom};
 
 use crate::entry::open_mapping;
 use crate::frame::{Frame, Frames, Progress, Scope, Step, Wanted};
@@ -187,16 +187,14 @@ fn end_propertied<'a>(
     progress: &mut Progress<'a>,
     part: &mut Part<'a>,
 ) -> Result<Step, AllocError>
-    requires boundary { IsCharBoundary text.now node_start.at }
+    requires standing { StandingAt text.now (node_start.at) progress.old }
     requires inner { Place text.now (node_start.at + 1) inner.end }
-    requires progress { ProgressAt text.now progress.old }
     ensures tied { (place : ℕ) → (d : ℕ) → (root : BlockTask) → (before : Part) → (frames : List Frame)
         → EndsAfter text.now inner.entry.end place → LineProperties text.now (node_start.at) inner.entry
         → AtContent text.now d root before frames (node_start.at) node_start.column progress.old part.old
         → IfOk result (λ s. BlockTied text.now d root before frames s progress.new part.new) }
-    ensures stepped { IfOk result (λ s. Stepped text.now (node_start.at) 0 progress.new s) }
-    ensures escapes { IfOk result (λ _. part.new.escapes ≡ part.old.escapes) }
-    ensures counted { CountsAlone text.now (node_start.at) result }
+    ensures stepped { IfOk result (MovedSame text.now (node_start.at) 0 part.old.escapes progress.new part.new) }
+    ensures counted { CountsSame text.now (node_start.at) result }
 {
     match joined_after(progress.wanted.outer, inner) {
         None => {

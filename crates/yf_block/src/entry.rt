@@ -13,7 +13,7 @@ ghost use Rattle.yf_block.specs.Fits.{PairLine};
 ghost use Rattle.yf_block.specs.InlineTied.{AtStart, EntrySignAt, started};
 ghost use Rattle.yf_block.specs.KeyAwaited.{KeyAwaited};
 ghost use Rattle.yf_block.specs.KeyTexts.{KeyTextAt, KeyTextPlace};
-ghost use Rattle.yf_block.specs.Machine.{Moved, Standing, Stepped, ProgressAt};
+ghost use Rattle.yf_block.specs.Machine.{StandingAt, MovedSame, Moved, Standing, Stepped, ProgressAt};
 ghost use Rattle.yf_flow.specs.Counted.{openers_from};
 ghost use Rattle.yf_block.specs.Counted.{CountsFrom, EntryCounted, StepCounted};
 
@@ -85,15 +85,13 @@ pub(crate) fn open_sequence<'a>(
     frames: &mut Frames,
     part: &mut Part<'a>,
 ) -> Result<Step, AllocError>
-    requires boundary { IsCharBoundary scope.text.now at }
+    requires standing { StandingAt scope.text.now at progress.old }
     requires after { IsCharBoundary scope.text.now (at + 1) }
-    requires progress { ProgressAt scope.text.now progress.old }
     ensures tied { (d : ℕ) → (root : BlockTask) → (before : Part) → (cols : Columns) → d ≡ scope.entry.limit → cols.sequence ≡ Some column
         → DashAt scope.entry.text.now at → AtStart scope.entry.text.now d root before
         (reverse frames.old.items) cols at progress.old part.old
         → IfOk result (λ s. BlockTied scope.entry.text.now d root before (reverse frames.new.items) s progress.new part.new) }
-    ensures stepped { IfOk result (λ s. Stepped scope.entry.text.now at 0 progress.new s) }
-    ensures escapes { IfOk result (λ _. part.new.escapes ≡ part.old.escapes) }
+    ensures stepped { IfOk result (MovedSame scope.entry.text.now at 0 part.old.escapes progress.new part.new) }
     ensures counted { IsUtf8 scope.entry.text.now → (total : ℕ) → DashAt scope.entry.text.now at
         → length frames.old.items + openers_from scope.entry.text.now at ≤ total
         → IfOk result (λ s. StepCounted scope.entry.text.now scope.entry.limit total (length frames.new.items) s) }

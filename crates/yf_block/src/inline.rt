@@ -10,9 +10,9 @@ ghost use Rattle.yf_block.specs.BlockStepTied.{BlockTied};
 ghost use Rattle.yf_block.specs.ContentTied.{AtFirstKey, AtInline, KeyOrLost, KeyRead, LeafEnding};
 ghost use Rattle.yf_block.specs.InlineAnswers.{EmptyKeyAt, InlineEnds, KeyEnds, NoEmptyKey};
 ghost use Rattle.yf_block.specs.InlineTied.{started};
-ghost use Rattle.yf_block.specs.Machine.{Moved, Stepped, ProgressAt, PropertiesBefore, earliest_end, MayBoundary};
+ghost use Rattle.yf_block.specs.Machine.{StandingAt, MovedSame, Moved, ProgressAt, PropertiesBefore, earliest_end, MayBoundary};
 ghost use Rattle.yf_flow.specs.Counted.{EndCounted, openers_from};
-ghost use Rattle.yf_block.specs.Counted.{CountsAlone, StepCounted};
+ghost use Rattle.yf_block.specs.Counted.{CountsSame, StepCounted};
 
 use crate::content::{AfterProperties, Belonging, NodeFacts, NodeStart, is_apart};
 use crate::entry::{await_value, collection_start, entry_at};
@@ -304,15 +304,13 @@ fn end_inline<'a>(
     frames: &Frames,
     part: &mut Part<'a>,
 ) -> Result<Step, AllocError>
-    requires boundary { IsCharBoundary text.now at }
+    requires standing { StandingAt text.now at progress.old }
     requires plain { MayBoundary text.now plain }
-    requires progress { ProgressAt text.now progress.old }
     ensures tied { (d : ℕ) → (root : BlockTask) → (before : Part)
         → LeafEnding text.now d root before (reverse frames.now.items) plain at progress.old part.old
         → IfOk result (λ s. BlockTied text.now d root before (reverse frames.now.items) s progress.new part.new) }
-    ensures stepped { IfOk result (λ s. Stepped text.now at 1 progress.new s) }
-    ensures escapes { IfOk result (λ _. part.new.escapes ≡ part.old.escapes) }
-    ensures counted { CountsAlone text.now at result }
+    ensures stepped { IfOk result (MovedSame text.now at 1 part.old.escapes progress.new part.new) }
+    ensures counted { CountsSame text.now at result }
 {
     match read_line_end(alloc, text, at)? {
         Some(Separation { comments, end }) => {

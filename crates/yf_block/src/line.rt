@@ -6,9 +6,9 @@ ghost use Rattle.yf_block.specs.BlockStepTied.{AtNode, AtLine, BlockTied};
 ghost use Rattle.yf_block.specs.ColumnsTied.{CompactTied, SequenceBegins, SequenceTied};
 ghost use Rattle.yf_block.specs.LineStepTied.{AtEmpty, AtIndented};
 ghost use Rattle.yf_block.specs.LineTied.{AtBelow, EndedTied};
-ghost use Rattle.yf_block.specs.Machine.{Moved, Standing, Stepped, ProgressAt};
+ghost use Rattle.yf_block.specs.Machine.{StandingAt, MovedSame, Moved, Standing};
 ghost use Rattle.yf_grammar.specs.BlockParser.{BlockTask, DashAt};
-ghost use Rattle.yf_block.specs.Counted.{CountsAlone, CountsFrom};
+ghost use Rattle.yf_block.specs.Counted.{CountsSame, CountsFrom};
 
 use crate::content::{NodeStart, take_content};
 use crate::entry::open_sequence;
@@ -33,14 +33,12 @@ pub(crate) fn first_line<'a>(
     progress: &mut Progress<'a>,
     part: &mut Part<'a>,
 ) -> Result<Step, AllocError>
-    requires boundary { IsCharBoundary text.now at }
-    requires progress { ProgressAt text.now progress.old }
+    requires standing { StandingAt text.now at progress.old }
     ensures tied { (d : ℕ) → (root : BlockTask) → (before : Part) → (frames : List Frame)
         → AtBelow text.now d root before frames at progress.old part.old
         → IfOk result (λ s. BlockTied text.now d root before frames s progress.new part.new) }
-    ensures stepped { IfOk result (λ s. Stepped text.now at 2 progress.new s) }
-    ensures escapes { IfOk result (λ _. part.new.escapes ≡ part.old.escapes) }
-    ensures counted { CountsAlone text.now at result }
+    ensures stepped { IfOk result (MovedSame text.now at 2 part.old.escapes progress.new part.new) }
+    ensures counted { CountsSame text.now at result }
 {
     match end_line(alloc, text, at, progress, part)? {
         Step::Line(line) => {
@@ -59,14 +57,12 @@ pub(crate) fn end_line<'a>(
     progress: &mut Progress<'a>,
     part: &mut Part<'a>,
 ) -> Result<Step, AllocError>
-    requires boundary { IsCharBoundary text.now at }
-    requires progress { ProgressAt text.now progress.old }
+    requires standing { StandingAt text.now at progress.old }
     ensures tied { (d : ℕ) → (root : BlockTask) → (before : Part) → (frames : List Frame)
         → AtBelow text.now d root before frames at progress.old part.old
         → IfOk result (λ s. EndedTied text.now d root before frames at s progress.new part.new) }
-    ensures stepped { IfOk result (λ s. Stepped text.now at 2 progress.new s) }
-    ensures escapes { IfOk result (λ _. part.new.escapes ≡ part.old.escapes) }
-    ensures counted { CountsAlone text.now at result }
+    ensures stepped { IfOk result (MovedSame text.now at 2 part.old.escapes progress.new part.new) }
+    ensures counted { CountsSame text.now at result }
 {
     match read_line_end(alloc, text, at)? {
         Some(Separation { comments, end }) => {
@@ -268,14 +264,12 @@ fn end_empty<'a>(
     frames: &Frames,
     part: &mut Part<'a>,
 ) -> Result<Step, AllocError>
-    requires boundary { IsCharBoundary _text.now at }
-    requires progress { ProgressAt _text.now progress.old }
+    requires standing { StandingAt _text.now at progress.old }
     ensures tied { (d : ℕ) → (root : BlockTask) → (before : Part)
         → AtEmpty _text.now d root before (reverse frames.now.items) at progress.old part.old
         → IfOk result (λ s. BlockTied _text.now d root before (reverse frames.now.items) s progress.new part.new) }
-    ensures stepped { IfOk result (λ s. Stepped _text.now at 1 progress.new s) }
-    ensures escapes { IfOk result (λ _. part.new.escapes ≡ part.old.escapes) }
-    ensures counted { CountsAlone _text.now at result }
+    ensures stepped { IfOk result (MovedSame _text.now at 1 part.old.escapes progress.new part.new) }
+    ensures counted { CountsSame _text.now at result }
 {
     match progress.wanted.outer {
         Some(properties) => {

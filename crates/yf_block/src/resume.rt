@@ -1,13 +1,13 @@
 //! After a node, at the start of a line: the next entry of an open collection, or the end of collections.
 ghost use Rattle.std.specs.Prelude.{◌≡◌, ℕ, ◌-◌, ◌^◌, ◌<◌, ◌++◌, IfOk, IfSome, MatchOption, reverse, ◌+◌, ◌≤◌, length};
-ghost use Rattle.std.specs.Str.{IsCharBoundary, IsUtf8};
+ghost use Rattle.std.specs.Str.{IsUtf8};
 ghost use Rattle.yf_events.specs.Edit.{edited, ended};
 ghost use Rattle.yf_grammar.specs.BlockParser.{BlockTask};
 ghost use Rattle.yf_block.specs.BlockStepTied.{AtResume, AtDone, AtFit, AtTop, BlockTied};
 ghost use Rattle.yf_block.specs.BlockTied.{colons_if};
 ghost use Rattle.yf_block.specs.Closing.{closing};
 ghost use Rattle.yf_block.specs.Fits.{FitsLine, PairLine, PlaceTied};
-ghost use Rattle.yf_block.specs.Machine.{Moved, Standing, ProgressAt, MayPlace, FitsAt};
+ghost use Rattle.yf_block.specs.Machine.{StandingAt, Moved, Standing, ProgressAt, MayPlace, FitsAt};
 ghost use Rattle.yf_flow.specs.Counted.{openers_from};
 ghost use Rattle.yf_block.specs.Counted.{CountsFrom, StepCounted};
 
@@ -75,8 +75,7 @@ fn end_collections<'a>(
     frames: &mut Frames,
     part: &mut Part<'a>,
 ) -> Result<Option<Next>, AllocError>
-    requires boundary { IsCharBoundary text.now at }
-    requires progress { ProgressAt text.now progress.old }
+    requires standing { StandingAt text.now at progress.old }
     ensures progress { IfOk result (λ _. ProgressAt text.now progress.new) }
     ensures places { IfOk result (λ o. IfSome o (λ n. FitsAt text.now at n.fit)) }
     ensures escapes { IfOk result (λ _. part.new.escapes ≡ part.old.escapes) }

@@ -12,7 +12,7 @@ returns-in_ok-_ended-in-None-clause-tied c = λ place d root before frames e l a
 pub returns-in_ok-step-in-Some-clause-tied : goal.returns-in_ok-step-in-Some-clause-tied
 returns-in_ok-step-in-Some-clause-tied c = λ place d root before frames e l a.
     let joined = rw c.in-Some.is at (c.joined_after.ensures.reads a.start.ahead l.value (ahead_held a.start.wanted.outer) (line_tied l)) in
-    below_ended c.args.text.now d root before c.end_line.new.part frames c.args.inner.end c.end_line.new.progress c.in_ok-step-in-Some.step (inside a.start a.signless l) c.in_ok-step-in-Some.ensures.stepped.ready
+    below_ended c.args.text.now d root before c.end_line.new.part frames c.args.inner.end c.end_line.new.progress c.in_ok-step-in-Some.step (inside a.start a.signless l) c.in_ok-step-in-Some.ensures.stepped.step.ready
     (c.in_ok-step-in-Some.ensures.tied d root before frames (joined_below a.start a.signless l e (joined_here a.start a.signless l joined) refl))
 
 pub returns-in_ok-step-in-Some-clause-counted : goal.returns-in_ok-step-in-Some-clause-counted

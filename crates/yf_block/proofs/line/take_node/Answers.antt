@@ -9,7 +9,7 @@ use Rattle.yf_block.proofs.line.take_node.Goals as goal
 pub returns-then-line_ends-clause-tied : goal.returns-then-line_ends-clause-tied
 returns-then-line_ends-clause-tied c = λ d root before s r a.
     let w = c.skip_whites-place.ensures in
-    ended_line c.args.scope.text.now d root before (reverse c.args.frames.now.items) c.args.at c.end_line.new.progress c.end_line.new.part a.inside c.end_line.result
+    ended_line c.args.scope.text.now d root before (reverse c.args.frames.now.items) c.args.at c.end_line.new.progress c.end_line.new.part a.inside _ c.end_line.result
     (c.end_line.ensures.tied d root before (reverse c.args.frames.now.items) (line_ends_there a w.whites.1 w.all w.order c.if-line_ends.ensures)) c.end_line.ensures.stepped
 
 pub returns-then-place-at-clause-tied : goal.returns-then-place-at-clause-tied
