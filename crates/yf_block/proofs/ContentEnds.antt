@@ -1,4 +1,4 @@
--- A flow node on its line that is no key: the leaf that it is, whose line is to end; or an empty key behind which the line goes on.
+-- A flow node on its line that is no key: the leaf that it is, whose line is to end; or an empty key after which the line goes on.
 use Rattle.std.proofs.Common.{◌≡◌, ℕ, pos, ◌+ℤ◌, ◌<◌, ◌≤◌, Bool, true, false, List, Option, Some, None, refl, sym, ap, ◌∙◌, subst, arith, ⊎_elim}
 use Rattle.std.proofs.lemmas.Bool.{cases_Bool}
 use Rattle.std.specs.Str.{IsUtf8}
@@ -24,11 +24,11 @@ use Rattle.yf_flow.specs.declared.node.Lead.{Lead}
 use Rattle.yf_flow.proofs.EntriesFrom.{outcome_from}
 use Rattle.yf_block.specs.declared.frame.Frame.{Frame}
 use Rattle.yf_block.specs.declared.frame.Progress.{Progress}
-use Rattle.yf_block.specs.declared.held.Held.{Held}
+use Rattle.yf_block.specs.declared.properties.PlacedProperties.{PlacedProperties}
 use Rattle.yf_block.specs.BlockTied.{layers_entry, all_written, EntryTied}
 use Rattle.yf_block.specs.BlockStepTied.{AtFailed}
-use Rattle.yf_block.specs.ClaimsTied.{BehindLine, none_more}
-use Rattle.yf_block.specs.ContentTied.{TextBehind, text_alone, text_held, ScalarSignAt, PlainIs, plain_known, other_known, AtLeaf, LeafEnding, leaf_ends, line_goes_on}
+use Rattle.yf_block.specs.BelongingTied.{AfterLine, none_more}
+use Rattle.yf_block.specs.ContentTied.{TextAfter, text_alone, text_held, ScalarSignAt, PlainIs, plain_known, other_known, AtLeaf, LeafEnding, leaf_ends, line_goes_on}
 use Rattle.yf_block.specs.InlineAnswers.{InlineRead, NodeIs, EmptyKeyAt}
 use Rattle.yf_block.specs.InlineAnswers as Answers
 use Rattle.yf_block.specs.InlineTied.{AtStart}
@@ -36,17 +36,17 @@ use Rattle.yf_block.specs.LastStarts.{NoStart}
 use Rattle.yf_block.proofs.ContentFails.{no_scalar, other_no_scalar, leaf_fails}
 use Rattle.yf_block.proofs.ContentLeaves.{leaf_task, behind_comments, LeafAhead, leaf_added, NodeKind, plain_kind, json_kind, alias_kind, node_kind, no_start_inside, no_start_late}
 use Rattle.yf_block.proofs.ContentNodes.{leaf_lost}
-use Rattle.yf_block.proofs.KeyNodes.{content_node, colon_bare, sign_no_plain, behind_later}
+use Rattle.yf_block.proofs.KeyNodes.{content_node, colon_bare, sign_no_plain, after_later}
 use Rattle.yf_block.proofs.TiedKeys.{none_spread}
 use Rattle.yf_block.proofs.TiedLeads.{bare_content, no_none, same_held}
 use Rattle.yf_block.proofs.TiedReads.{read_moved}
 
--- the text stands behind the properties
-pub behind_order : {t : List ℕ} {p at : ℕ} {inner : Option Held} → TextBehind t p inner at → p ≤ at
-behind_order (text_alone q) = omega arith
-behind_order (text_held l q b) = let f = properties_later l.chosen.derived in let g = whites_forward b.run in omega (arith, f, g)
+-- the text stands after the properties
+pub after_order : {t : List ℕ} {p at : ℕ} {inner : Option PlacedProperties} → TextAfter t p inner at → p ≤ at
+after_order (text_alone q) = omega arith
+after_order (text_held l q b) = let f = properties_later l.chosen.derived in let g = whites_forward b.run in omega (arith, f, g)
 
-alone_ahead : {t : List ℕ} {p : ℕ} {a z : Ahead} → BehindLine t p a None z → z ≡ a
+alone_ahead : {t : List ℕ} {p : ℕ} {a z : Ahead} → AfterLine t p a None z → z ≡ a
 alone_ahead none_more = refl
 
 no_plain_place : {q : ℕ} → None ≡ Some q → ⊥
@@ -64,13 +64,13 @@ unfolding begins_alias
 colon_no_alias c e = rw e refl
 
 module _ {t : List ℕ} {p : ℕ} where
-  stuck_behind : {j : Option Held} {y : Held} {k end : ℕ} → TextBehind t p j k → j ≡ Some y → end ≡ y.end → Stuck (LineEnd t end)
-  stuck_behind (text_alone q) z e = absurd (no_none (sym z))
-  stuck_behind (text_held {held = h} l q b) z e = subst (λ (i : ℕ). Stuck (LineEnd t i)) (ap (λ (g : Held). g.end) (same_held z) ∙ sym e) q
+  stuck_after : {j : Option PlacedProperties} {y : PlacedProperties} {k end : ℕ} → TextAfter t p j k → j ≡ Some y → end ≡ y.end → Stuck (LineEnd t end)
+  stuck_after (text_alone q) z e = absurd (no_none (sym z))
+  stuck_after (text_held {held = h} l q b) z e = subst (λ (i : ℕ). Stuck (LineEnd t i)) (ap (λ (g : PlacedProperties). g.end) (same_held z) ∙ sym e) q
 
-  end_before : {j : Option Held} {y : Held} {k : ℕ} → TextBehind t p j k → j ≡ Some y → y.end ≤ k
+  end_before : {j : Option PlacedProperties} {y : PlacedProperties} {k : ℕ} → TextAfter t p j k → j ≡ Some y → y.end ≤ k
   end_before (text_alone q) z = absurd (no_none (sym z))
-  end_before (text_held {held = h} l q b) z = let f = whites_forward b.run in let e = ap (λ (g : Held). g.end) (same_held z) in omega (arith, f, e)
+  end_before (text_held {held = h} l q b) z = let f = whites_forward b.run in let e = ap (λ (g : PlacedProperties). g.end) (same_held z) in omega (arith, f, e)
 
 module _ {t : List ℕ} {at end : ℕ} {f : Found} {json : Bool} {plain : Option ℕ} (as_json : json ≡ true → plain ≡ None) (as_plain : json ≡ false → plain ≡ Some at) where
   known_kind : json ≡ f.json → end ≡ f.end → NodeKind t at f → PlainIs t at end plain
@@ -82,18 +82,18 @@ module _ {t : List ℕ} {at end : ℕ} {f : Found} {json : Bool} {plain : Option
       (cases_Bool json))
 
 module _ {t : List ℕ} {d : ℕ} {root : BlockTask} {before old : Part} {frames : List Frame} {cols : Columns} {p : ℕ} {progress : Progress}
-    (a : AtStart t d root before frames cols p progress old) (s : NoSign t cols p) {inner : Option Held} {at : ℕ} (x : TextBehind t p inner at) (bars : ScalarSignAt t at → ⊥) (k : NoKeyAt t a.room a.indentation cols p)
+    (a : AtStart t d root before frames cols p progress old) (s : NoSign t cols p) {inner : Option PlacedProperties} {at : ℕ} (x : TextAfter t p inner at) (bars : ScalarSignAt t at → ⊥) (k : NoKeyAt t a.room a.indentation cols p)
     {lead : Lead} (v : LeafAhead t p at a.ahead inner progress.wanted.entry lead) where
   utf8 : IsUtf8 t
   utf8 = a.read.text.utf8
 
   leaf_here : {plain : Option ℕ} {after : Progress} {depth : ℕ} {f : Found} {node : Node} {new : Part} → Parses t a.room (ANode (a.indentation +ℤ pos 1) FlowOut at) (Some f) → begins_properties (code t at) ≡ false
-      → ((h : HeldValue) → v.ahead ≡ Props h → begins_alias (code t at) ≡ false) → ((held : Held) → inner ≡ Some held → held.end < at) → NodeIs depth f node → WrittenWith t lead f.meaning (from_to at node.end) node.end old new
+      → ((h : HeldValue) → v.ahead ≡ Props h → begins_alias (code t at) ≡ false) → ((held : PlacedProperties) → inner ≡ Some held → held.end < at) → NodeIs depth f node → WrittenWith t lead f.meaning (from_to at node.end) node.end old new
       → (node.json ≡ true → plain ≡ None) → (node.json ≡ false → plain ≡ Some at) → after.last ≡ node.end → after.floor ≡ progress.floor → after.colons ≡ progress.colons → after.halt ≡ progress.halt
       → AtLeaf t d root before frames plain node.end after new
   leaf_here {f = f} {node} r b c o i w as_json as_plain last fl co ha =
       let starts = flow_starts (found_is_derived refl r).0 refl in
-      let order = behind_order x in
+      let order = after_order x in
       let later = starts.starts.later in
       let past = a.past in
       let end = i.end in
@@ -119,8 +119,8 @@ module _ {t : List ℕ} {d : ℕ} {root : BlockTask} {before old : Part} {frames
             (subst (λ z. EntryTied t progress.floor (layers_entry a.layers) z) (sym v.entry_is) a.wanted.entry) v.tied (behind_comments v.joined) w) fl;
       }
 
-  -- no node stands at the `:` behind an empty key
-  empty_fails : {y : Held} → inner ≡ Some y → SignAt t 58 at → AtFailed t d root progress
+  -- no node stands at the `:` after an empty key
+  empty_fails : {y : PlacedProperties} → inner ≡ Some y → SignAt t 58 at → AtFailed t d root progress
   empty_fails q c =
       leaf_fails a s x k (λ z l. leaf_lost (other_no_scalar c.sign_stands (λ e. omega (arith, e)) (λ e. omega (arith, e)))
       (λ m. content_node (colon_no_alias (code t at) c.sign_stands) m.no_props (plain_missing (colon_bare (code t at) c.sign_stands) (sign_no_plain c))))
@@ -136,18 +136,18 @@ module _ {t : List ℕ} {d : ℕ} {root : BlockTask} {before old : Part} {frames
     go_read {f} e y r i w =
         let props = bare x r in
         leaf_here (indented (content_node y props r)) props (λ h q. y) (later x e) i w as_json as_plain last fl co ha where
-          bare : {j : Option Held} {k : ℕ} → TextBehind t p j k → ContentAt t a.room (pos progress.wanted.least) FlowOut k (Some f) → begins_properties (code t k) ≡ false
+          bare : {j : Option PlacedProperties} {k : ℕ} → TextAfter t p j k → ContentAt t a.room (pos progress.wanted.least) FlowOut k (Some f) → begins_properties (code t k) ≡ false
           bare (text_alone q) r = bare_content r refl
           bare (text_held l q b) r = b.no_property
 
-          later : {j : Option Held} {k : ℕ} → TextBehind t p j k → Answers.NoEmptyKey t k j → (held : Held) → j ≡ Some held → held.end < k
+          later : {j : Option PlacedProperties} {k : ℕ} → TextAfter t p j k → Answers.NoEmptyKey t k j → (held : PlacedProperties) → j ≡ Some held → held.end < k
           later (text_alone q) e held z = absurd (no_none (sym z))
-          later (text_held {held = h} {at = k} l q b) e held z = subst (λ (g : Held). g.end < k) (same_held z) (behind_later utf8 l q b (e h refl))
+          later (text_held {held = h} {at = k} l q b) e held z = subst (λ (g : PlacedProperties). g.end < k) (same_held z) (after_later utf8 l q b (e h refl))
 
     go_alias : {f : Found} → inner ≡ None → Parses t a.room (ANode (pos progress.wanted.least) FlowOut at) (Some f) → NodeIs depth f node → WrittenWith t lead f.meaning (from_to at node.end) node.end old new
         → AtLeaf t d root before frames plain node.end after new
-    go_alias q r i w = leaf_here (indented r) (bare x q r) (λ h z. v.no_alias (sym (alone_ahead (subst (λ j. BehindLine t p a.ahead j v.ahead) q v.joined)) ∙ z)) (λ held z. absurd (no_none (sym z ∙ q))) i w as_json as_plain last fl co ha where
-      bare : {j : Option Held} {k : ℕ} {g : Found} → TextBehind t p j k → j ≡ None → Parses t a.room (ANode (pos progress.wanted.least) FlowOut k) (Some g) → begins_properties (code t k) ≡ false
+    go_alias q r i w = leaf_here (indented r) (bare x q r) (λ h z. v.no_alias (sym (alone_ahead (subst (λ j. AfterLine t p a.ahead j v.ahead) q v.joined)) ∙ z)) (λ held z. absurd (no_none (sym z ∙ q))) i w as_json as_plain last fl co ha where
+      bare : {j : Option PlacedProperties} {k : ℕ} {g : Found} → TextAfter t p j k → j ≡ None → Parses t a.room (ANode (pos progress.wanted.least) FlowOut k) (Some g) → begins_properties (code t k) ≡ false
       bare {k = k} (text_alone y) z r = ⊎_elim
           (λ (b : begins_properties (code t k) ≡ true). absurd (none_some (outcome_is_one (properties_missed b (none_spread y)) r)))
           (λ (b : begins_properties (code t k) ≡ false). b)
@@ -160,5 +160,5 @@ module _ {t : List ℕ} {d : ℕ} {root : BlockTask} {before old : Part} {frames
     leaf_ending (Answers.empty_key_read e j g w) =
         let order = end_before x e.is in
         let end = e.ends in
-        line_goes_on (stuck_behind x e.is e.ends) (λ q z. subst (λ (i : ℕ). NoStart t i node.end) (sym (plain_place (sym (as_plain j) ∙ z))) (no_start_late (omega (arith, order, end))))
+        line_goes_on (stuck_after x e.is e.ends) (λ q z. subst (λ (i : ℕ). NoStart t i node.end) (sym (plain_place (sym (as_plain j) ∙ z))) (no_start_late (omega (arith, order, end))))
         (failed_still (empty_fails e.is e.colon) ha)

@@ -1,4 +1,4 @@
--- No node is found on a line: nothing that may be a leaf stands behind its properties, or the properties do not go together.
+-- No node is found on a line: nothing that may be a leaf stands after its properties, or the properties do not go together.
 use Rattle.std.proofs.Common.{◌≡◌, ◌≢◌, ℕ, ℤ, pos, ◌+ℤ◌, ◌<◌, ◌≤◌, Bool, true, false, List, Option, Some, None, refl, sym, ◌∙◌, subst, arith, inl, inr, ⊎_elim, true≢false}
 use Rattle.std.proofs.lemmas.Bool.{cases_lt}
 use Rattle.std.proofs.lemmas.Bool.Decides.{nat_tests}
@@ -27,11 +27,11 @@ use Rattle.yf_grammar.proofs.Forward.{whites_forward}
 use Rattle.yf_flow.specs.declared.node.Lead.{Lead}
 use Rattle.yf_block.specs.declared.frame.Frame.{Frame}
 use Rattle.yf_block.specs.declared.frame.Progress.{Progress}
-use Rattle.yf_block.specs.declared.held.Held.{Held}
+use Rattle.yf_block.specs.declared.properties.PlacedProperties.{PlacedProperties}
 use Rattle.yf_block.specs.BlockStepTied.{AtFailed}
-use Rattle.yf_block.specs.ClaimsTied.{OfOther, two_alike, before_alias, OthersBefore}
-use Rattle.yf_block.specs.ContentTied.{TextBehind, text_alone, text_held, ScalarSignAt}
-use Rattle.yf_block.specs.HeldAnswers.{LineProperties, NoPlaceBehind, other_beside, property_behind}
+use Rattle.yf_block.specs.BelongingTied.{OfOther, two_alike, before_alias, OthersBefore}
+use Rattle.yf_block.specs.ContentTied.{TextAfter, text_alone, text_held, ScalarSignAt}
+use Rattle.yf_block.specs.PropertiesAnswers.{LineProperties, NoPlaceAfter, other_beside, property_after}
 use Rattle.yf_block.specs.InlineAnswers.{InlineLost}
 use Rattle.yf_block.specs.InlineAnswers as Answers
 use Rattle.yf_block.specs.InlineTied.{AtStart}
@@ -62,7 +62,7 @@ unfolding begins_alias
 alias_is c e = rw e refl
 
 -- the node is that of its line, or has properties that stand on it
-abbrev pub Leads : Ahead → Option Held → Ahead → Type 0
+abbrev pub Leads : Ahead → Option PlacedProperties → Ahead → Type 0
 Leads a None z = z ≡ a
 Leads a (Some held) z = (h : HeldValue) × (z ≡ Props h)
 
@@ -85,8 +85,8 @@ module _ {t : List ℕ} {d : ℕ} {root : BlockTask} {before part : Part} {frame
         of_whose o (of_one {z = z} j) = let r = leaf z (joined_props j) in missing (properties_leaf s n c l m o f j r.whole) (halts_properties_leaf s n c l m o f j r.halted)
         of_whose o (of_two x) = missing (properties_apart s n c l x) (halts_properties_apart s n c l x)
 
-  -- no leaf stands behind the properties
-  pub leaf_fails : {inner : Option Held} {at : ℕ} → TextBehind t p inner at → NoKeyAt t a.room a.indentation cols p
+  -- no leaf stands after the properties
+  pub leaf_fails : {inner : Option PlacedProperties} {at : ℕ} → TextAfter t p inner at → NoKeyAt t a.room a.indentation cols p
       → ((z : Ahead) → Leads a.ahead inner z → NoLeaf t a.room (asked a.layers) a.indentation z at) → AtFailed t d root progress
   leaf_fails (text_alone q) n f = let r = f a.ahead refl in missing (leaf_there s n q r.whole) (halts_leaf s n q r.halted)
   leaf_fails (text_held l q b) n f = leaf_of n l.chosen q b.run b.no_white f
@@ -97,37 +97,37 @@ module _ {t : List ℕ} {d : ℕ} {root : BlockTask} {before part : Part} {frame
   utf8 : IsUtf8 t
   utf8 = a.read.text.utf8
 
-  lost_leaf : {inner : Option Held} {at : ℕ} (z : Ahead) → InlineLost t a.room (a.indentation +ℤ pos 1) at inner → (ScalarSignAt t at → ⊥) → Leads a.ahead inner z → NoLeaf t a.room (asked a.layers) a.indentation z at
+  lost_leaf : {inner : Option PlacedProperties} {at : ℕ} (z : Ahead) → InlineLost t a.room (a.indentation +ℤ pos 1) at inner → (ScalarSignAt t at → ⊥) → Leads a.ahead inner z → NoLeaf t a.room (asked a.layers) a.indentation z at
   lost_leaf z (Answers.content_lost k y r) n l = leaf_lost (no_scalar n) (λ m. content_node y m.no_props r)
   lost_leaf z (Answers.alias_lost q r) n l = leaf_lost (no_scalar n) (λ m. r)
-  lost_leaf z (Answers.alias_behind {properties = h} k q y) n l =
+  lost_leaf z (Answers.alias_after {properties = h} k q y) n l =
       let props : (g : HeldValue) × (z ≡ Props g) = subst (λ j. Leads a.ahead j z) q l in
       leaf_refuses (no_scalar n) (λ m. true≢false (sym y ∙ m.no_alias props.1))
 
   -- nothing that was read is a node
-  pub inline_fails : {inner : Option Held} {at : ℕ} → TextBehind t p inner at → InlineLost t a.room (pos progress.wanted.least) at inner → (ScalarSignAt t at → ⊥) → AtFailed t d root progress
+  pub inline_fails : {inner : Option PlacedProperties} {at : ℕ} → TextAfter t p inner at → InlineLost t a.room (pos progress.wanted.least) at inner → (ScalarSignAt t at → ⊥) → AtFailed t d root progress
   inline_fails {inner} {at} x i n =
       let i' = subst (λ y. InlineLost t a.room y at inner) indent i in
       leaf_fails x (no_key_here x (lost_keyless utf8 x i')) (λ z l. lost_leaf z i' n l)
 
   -- the properties of lines before are those of no node on the line
-  pub apart_fails : {inner : Option Held} {at : ℕ} {entry : Option TheEntry.Entry} {lead : Lead} → TextBehind t p inner at → NoKeyAt t a.room a.indentation cols p → OthersBefore t p at a.ahead inner entry lead
+  pub apart_fails : {inner : Option PlacedProperties} {at : ℕ} {entry : Option TheEntry.Entry} {lead : Lead} → TextAfter t p inner at → NoKeyAt t a.room a.indentation cols p → OthersBefore t p at a.ahead inner entry lead
       → AtFailed t d root progress
   apart_fails {inner} {at} x n o = go x o.other where
     of_alias : {k : ℕ} → code t k ≡ 42 → (z : Ahead) → (h : HeldValue) × (z ≡ Props h) → NoLeaf t a.room (asked a.layers) a.indentation z k
     of_alias {k} c z l = leaf_refuses (other_no_scalar c (λ e. omega (arith, e)) (λ e. omega (arith, e))) (λ m. true≢false (sym (alias_is (code t k) c) ∙ m.no_alias l.1))
 
-    alias_fails : {i : Option Held} {k : ℕ} → TextBehind t p i k → code t k ≡ 42 → AtFailed t d root progress
+    alias_fails : {i : Option PlacedProperties} {k : ℕ} → TextAfter t p i k → code t k ≡ 42 → AtFailed t d root progress
     alias_fails (text_alone q) c = leaf_fails (text_alone q) n (λ z l. of_alias c z (o.before, l ∙ o.is))
     alias_fails (text_held l q b) c = leaf_fails (text_held l q b) n (λ z l. of_alias c z l)
 
-    go : {i : Option Held} {k : ℕ} → TextBehind t p i k → OfOther t p k a.ahead i → AtFailed t d root progress
+    go : {i : Option PlacedProperties} {k : ℕ} → TextAfter t p i k → OfOther t p k a.ahead i → AtFailed t d root progress
     go y (before_alias c) = alias_fails y c
     go (text_held l q b) (two_alike m r) = missing (properties_apart s n m.chosen (subst (λ (z : ℕ). Stuck (LineEnd t z)) refl q) r) (halts_properties_apart s n m.chosen q r)
 
-  -- nothing may stand behind the properties
-  pub nowhere_fails : {held : Held} (l : LineProperties t p held) → Stuck (LineEnd t held.end) → NoPlaceBehind t held.end → NoKeyAt t a.room a.indentation cols p → AtFailed t d root progress
+  -- nothing may stand after the properties
+  pub nowhere_fails : {held : PlacedProperties} (l : LineProperties t p held) → Stuck (LineEnd t held.end) → NoPlaceAfter t held.end → NoKeyAt t a.room a.indentation cols p → AtFailed t d root progress
   nowhere_fails l q (other_beside f c) n = missing (properties_alone_missed s n l.chosen q f) (halts_properties_missed s n l.chosen q f)
-  nowhere_fails l q (property_behind {p = k} m f b) n =
+  nowhere_fails l q (property_after {p = k} m f b) n =
       let bars = property_no_bar (code t k) b in
       leaf_of n l.chosen q m f (λ z h. leaf_refuses (other_no_scalar refl bars.0 bars.1) (λ r. true≢false (sym b ∙ r.no_props)))

@@ -118,7 +118,7 @@ module _ {t : List ℕ} {d : ℕ} {root : BlockTask} {before old : Part} {frames
     node_parsed : Parses t a.room (ANode (a.indentation +ℤ pos 1) FlowOut p) (Some n.answer)
     node_parsed = subst (λ i. Parses t a.room (ANode i FlowOut p) (Some n.answer)) node_indent n.parsed
 
-    -- the `:` stands behind it
+    -- the `:` stands after it
     pub is_key : {v : ℕ} {w : List ℕ} → Many t is_white node.end v w → KeyEnds t p v → KeyBefore t p n.answer v
     is_key {v} {w} m e = key_before n.answer (subst (λ (j : ℕ). Many t is_white j v w) n.end m) e
 
@@ -133,7 +133,7 @@ module _ {t : List ℕ} {d : ℕ} {root : BlockTask} {before old : Part} {frames
               (λ (l : a.room ≤ n.answer.height). l)
               (cases_lt n.answer.height a.room)
 
-    -- the line goes on otherwise behind it
+    -- the line goes on otherwise after it
     pub no_key_there : {column : Option ℕ} {v : ℕ} {w : List ℕ} → cols.mapping ≡ column → Many t is_white node.end v w → is_white (code t v) ≡ false → ((m : ℕ) → column ≡ Some m → KeyEnds t p v → ⊥)
         → NoKeyAt t a.room a.indentation cols p
     no_key_there {column = None} q m f k = no_column q
@@ -142,7 +142,7 @@ module _ {t : List ℕ} {d : ℕ} {root : BlockTask} {before old : Part} {frames
         let same = (many_unique t is_white b.run (sign_no_white b.colon) whites f).0 in
         k x refl (subst (λ (z : ℕ). KeyEnds t p z) same (record { colon = b.colon; line = record { line = b.line; short = b.short } }))))
 
-  -- the mapping is begun, and its key has been read again behind the event that begins it
+  -- the mapping is begun, and its key has been read again after the event that begins it
   module _ {depth : ℕ} {mid new : Part} {node : Node} {m v : ℕ} {b : Bool} (q : cols.mapping ≡ Some m) (o : depth ≡ length frames)
       (n : NodeThere t a.room (pos progress.wanted.least) p depth (Some (record { start = p; colon = Some v; blank_before = b })) mid new node) where
     pub key_awaits : {stack : List Frame} {after : Progress} → KeyBefore t p n.answer v → NotedSince t progress.floor p b → depth + n.answer.height < d

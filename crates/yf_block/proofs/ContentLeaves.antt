@@ -37,12 +37,12 @@ use Rattle.yf_flow.specs.declared.node.Lead.{Lead}
 use Rattle.yf_flow.proofs.EntriesFrom.{EntriesFrom, one_from}
 use Rattle.yf_block.specs.declared.frame.Frame.{Frame}
 use Rattle.yf_block.specs.declared.frame.Progress.{Progress}
-use Rattle.yf_block.specs.declared.held.Held.{Held}
+use Rattle.yf_block.specs.declared.properties.PlacedProperties.{PlacedProperties}
 use Rattle.yf_block.specs.BlockTied.{begins, ahead_comments, ahead_props, ahead_start, ahead_tag, ReadTied, EntryTied}
-use Rattle.yf_block.specs.BlockStepTied.{HeldTied}
-use Rattle.yf_block.specs.ClaimsTied.{BehindLine, none_more, more_there, AllOfNode, NoneBefore}
-use Rattle.yf_block.specs.ContentTied.{TextBehind, text_alone, text_held, LeadTied}
-use Rattle.yf_block.specs.HeldAnswers.{held_lead, lead_at}
+use Rattle.yf_block.specs.BlockStepTied.{PropertiesTied}
+use Rattle.yf_block.specs.BelongingTied.{AfterLine, none_more, more_there, AllOfNode, NoneBefore}
+use Rattle.yf_block.specs.ContentTied.{TextAfter, text_alone, text_held, LeadTied}
+use Rattle.yf_block.specs.PropertiesAnswers.{held_lead, lead_at}
 use Rattle.yf_block.specs.InlineTied.{AtStart}
 use Rattle.yf_block.specs.LastStarts.{NoStart}
 use Rattle.yf_block.proofs.TiedLeads.{known_event, written_as, rest_from, node_added}
@@ -51,7 +51,7 @@ use Rattle.yf_block.proofs.TiedReads.{read_as}
 -- the text of the node is a leaf
 module _ {t : List ℕ} {d : ℕ} {root : BlockTask} {before part : Part} {frames : List Frame} {cols : Columns} {p : ℕ} {progress : Progress}
     (a : AtStart t d root before frames cols p progress part) (s : NoSign t cols p) where
-  pub leaf_task : {inner : Option Held} {at : ℕ} {z : Ahead} → TextBehind t p inner at → NoKeyAt t a.room a.indentation cols p → BehindLine t p a.ahead inner z → ((held : Held) → inner ≡ Some held → held.end < at)
+  pub leaf_task : {inner : Option PlacedProperties} {at : ℕ} {z : Ahead} → TextAfter t p inner at → NoKeyAt t a.room a.indentation cols p → AfterLine t p a.ahead inner z → ((held : PlacedProperties) → inner ≡ Some held → held.end < at)
       → NodeAt t d root a.layers a.room a.comments (Leaf a.indentation z at) a.halt
   leaf_task (text_alone q) n none_more f = node_through a.node (leaf_awaits s n q) (leaf_halts s n q)
   leaf_task (text_held {held = h} l q b) n (more_there m j) f =
@@ -67,19 +67,19 @@ joined_comments {a} (first_held f) e = e ∙ bare a f where
   bare (Props h) f = absurd (f h refl)
 joined_comments {a} {q = q} (more_held {h = h} r f) e = ap (λ y. h.value.comments ++ y) e ∙ append-nil h.value.comments ∙ ap (λ y. ahead_comments y) (sym r)
 
-pub behind_comments : {t : List ℕ} {p : ℕ} {a z : Ahead} {inner : Option Held} → BehindLine t p a inner z → ahead_comments z ≡ ahead_comments a
+pub behind_comments : {t : List ℕ} {p : ℕ} {a z : Ahead} {inner : Option PlacedProperties} → AfterLine t p a inner z → ahead_comments z ≡ ahead_comments a
 behind_comments none_more = refl
 behind_comments (more_there l j) = joined_comments j l.no_comments
 
 -- what stands ahead of the leaf, and what is known of it
-pub record LeafAhead (t : List ℕ) (p at : ℕ) (a : Ahead) (inner : Option Held) (entry : Option TheEntry.Entry) (lead : Lead) : Type 0 where
+pub record LeafAhead (t : List ℕ) (p at : ℕ) (a : Ahead) (inner : Option PlacedProperties) (entry : Option TheEntry.Entry) (lead : Lead) : Type 0 where
   pub ahead : Ahead
-  pub joined : BehindLine t p a inner ahead
+  pub joined : AfterLine t p a inner ahead
   pub tied : LeadTied ahead at lead
   pub entry_is : lead.entry ≡ entry
   pub no_alias : {h : HeldValue} → a ≡ Props h → begins_alias (code t at) ≡ false
 
-held_tied : {h : HeldValue} {held : Held} {at : ℕ} {entry : Option TheEntry.Entry} {z : Ahead} → HeldTied h held → z ≡ Props h → LeadTied z at (held_lead held entry)
+held_tied : {h : HeldValue} {held : PlacedProperties} {at : ℕ} {entry : Option TheEntry.Entry} {z : Ahead} → PropertiesTied h held → z ≡ Props h → LeadTied z at (held_lead held entry)
 held_tied {h} {at = at} r e = record { start = r.start ∙ ap (λ y. ahead_start y at) (sym e); props = r.props ∙ ap (λ y. ahead_props y) (sym e); tag = r.tag ∙ ap (λ y. ahead_tag y) (sym e) }
 
 bare_tied : (a : Ahead) {p : ℕ} {entry : Option TheEntry.Entry} → ((h : HeldValue) → a ≡ Props h → ⊥) → LeadTied a p (bare_lead p entry)
@@ -91,10 +91,10 @@ not_alias : (c : ℕ) → c ≢ 42 → begins_alias c ≡ false
 unfolding begins_alias
 not_alias c n = grind (arith, nat_tests)
 
-module _ {t : List ℕ} {p at : ℕ} {a : Ahead} {inner : Option Held} {entry : Option TheEntry.Entry} {lead : Lead} where
-  pub ahead_of_none : TextBehind t p inner at → NoneBefore t p a inner entry lead → LeafAhead t p at a inner entry lead
+module _ {t : List ℕ} {p at : ℕ} {a : Ahead} {inner : Option PlacedProperties} {entry : Option TheEntry.Entry} {lead : Lead} where
+  pub ahead_of_none : TextAfter t p inner at → NoneBefore t p a inner entry lead → LeafAhead t p at a inner entry lead
   ahead_of_none x n = subst (λ l. LeafAhead t p at a inner entry l) (sym n.lead_is) (go x) where
-    go : {i : Option Held} {k : ℕ} → TextBehind t p i k → LeafAhead t p k a i entry (lead_at p i entry)
+    go : {i : Option PlacedProperties} {k : ℕ} → TextAfter t p i k → LeafAhead t p k a i entry (lead_at p i entry)
     go (text_alone q) = record { ahead = a; joined = none_more; tied = bare_tied a n.none; entry_is = refl; no_alias = λ {h} e. absurd (n.none h e) }
     go (text_held {held = h} l q b) = record { ahead = _; joined = more_there l (first_held n.none); tied = held_tied l.tied refl; entry_is = refl; no_alias = λ {h} e. absurd (n.none h e) }
 

@@ -1,4 +1,4 @@
--- The line behind the properties of a node: it ends, and the node stands on a later one, or it goes on; or it should end and does not.
+-- The line after the properties of a node: it ends, and the node stands on a later one, or it goes on; or it should end and does not.
 use Rattle.std.proofs.Common.{◌≡◌, ℕ, ℤ, pos, ◌+ℤ◌, ◌<◌, ◌≤◌, Bool, true, false, List, ◌++◌, Option, Some, None, MatchOption, refl, sym, ap, ◌∙◌, subst, arith, ⊎_elim}
 use Rattle.std.proofs.lemmas.Bool.{cases_lt}
 use Rattle.std.specs.Str.{IsUtf8}
@@ -31,11 +31,11 @@ use Rattle.yf_grammar.proofs.PropertiesEnds.{properties_later}
 use Rattle.yf_grammar.proofs.Forward.{whites_forward}
 use Rattle.yf_block.specs.declared.frame.Frame.{Frame}
 use Rattle.yf_block.specs.declared.frame.Progress.{Progress}
-use Rattle.yf_block.specs.declared.held.Held.{Held}
+use Rattle.yf_block.specs.declared.properties.PlacedProperties.{PlacedProperties}
 use Rattle.yf_block.specs.BlockTied.{all_written, ReadTied}
 use Rattle.yf_block.specs.BlockStepTied.{AheadTied, nothing_held, none_held, props_held, AtFailed, BlockTied}
-use Rattle.yf_block.specs.ContentTied.{EndsBehind}
-use Rattle.yf_block.specs.HeldAnswers.{LineProperties, NoPlaceBehind, HeldAhead, JoinedAhead}
+use Rattle.yf_block.specs.ContentTied.{EndsAfter}
+use Rattle.yf_block.specs.PropertiesAnswers.{LineProperties, NoPlaceAfter, PropertiesAhead, JoinedAhead}
 use Rattle.yf_block.specs.InlineTied.{AtStart}
 use Rattle.yf_block.specs.LineTied.{AtBelow, EndedTied}
 use Rattle.yf_block.specs.Machine.{StepReady}
@@ -46,7 +46,7 @@ use Rattle.yf_block.specs.Looks.{LineEndsAt, text_stops, feed_stands, return_sta
 use Rattle.yf_block.proofs.ContentFails.{missing, leaf_of, nowhere_fails, other_no_scalar}
 use Rattle.yf_block.proofs.ContentLeaves.{joined_comments}
 use Rattle.yf_block.proofs.ContentNodes.{no_key_held, leaf_lost}
-use Rattle.yf_block.proofs.KeyNodes.{lone_behind, lone_no_key, keyless_nowhere}
+use Rattle.yf_block.proofs.KeyNodes.{lone_after, lone_no_key, keyless_nowhere}
 use Rattle.yf_block.proofs.TiedReads.{read_moved}
 
 -- the sign of a comment, a break, or the end of the text
@@ -104,7 +104,7 @@ no_props_sign : {i : ℕ} {h : HeldValue} → Indicator i ≡ Props h → ⊥
 no_props_sign e = cc
 
 -- what stands ahead, as the properties of a line are joined with it
-pub ahead_held : {a : Ahead} {outer : Option Held} → AheadTied a outer → HeldAhead a outer
+pub ahead_held : {a : Ahead} {outer : Option PlacedProperties} → AheadTied a outer → PropertiesAhead a outer
 ahead_held nothing_held = λ h e. no_props_nothing e
 ahead_held none_held = λ h e. no_props_sign e
 ahead_held (props_held {h = h} w) = record { value = h; is = refl; tied = w }
@@ -120,19 +120,19 @@ module _ (t : List ℕ) (d : ℕ) (root : BlockTask) (before part : Part) (frame
   below_ended (TooDeep p) n r e = absurd e
 
 module _ {t : List ℕ} {d : ℕ} {root : BlockTask} {before part : Part} {frames : List Frame} {cols : Columns} {p : ℕ} {progress : Progress}
-    (a : AtStart t d root before frames cols p progress part) (s : NoSign t cols p) {held : Held} (l : LineProperties t p held) where
+    (a : AtStart t d root before frames cols p progress part) (s : NoSign t cols p) {held : PlacedProperties} (l : LineProperties t p held) where
   utf8 : IsUtf8 t
   utf8 = a.read.text.utf8
 
   pub inside : LineStart t held.end → ⊥
   inside = properties_no_start utf8 l.chosen.derived
 
-  pub joined_here : {outer : Held} → JoinedAhead a.ahead l.value held.start held.end outer → JoinedAhead a.ahead l.value p held.end outer
+  pub joined_here : {outer : PlacedProperties} → JoinedAhead a.ahead l.value held.start held.end outer → JoinedAhead a.ahead l.value p held.end outer
   joined_here {outer} j = subst (λ (k : ℕ). JoinedAhead a.ahead l.value k held.end outer) l.tied.start j
 
   -- the line goes on
-  pub line_goes_on_behind : {place : ℕ} {w : List ℕ} {b : Bool} → Many t is_white held.end place w → is_white (code t place) ≡ false → (held.end < place → b ≡ true) → (LineEndsAt t b place → ⊥) → Stuck (LineEnd t held.end)
-  line_goes_on_behind {place} m f g n = ⊎_elim
+  pub line_goes_on_after : {place : ℕ} {w : List ℕ} {b : Bool} → Many t is_white held.end place w → is_white (code t place) ≡ false → (held.end < place → b ≡ true) → (LineEndsAt t b place → ⊥) → Stuck (LineEnd t held.end)
+  line_goes_on_after {place} m f g n = ⊎_elim
       (λ (o : held.end < place). line_end_stuck inside (stuck_at_solid m f (λ h. n (hash_stands (g o) h)) (record { none = λ j e. no_end e })))
       (λ (o : place ≤ held.end).
       let v = whites_forward m in
@@ -145,16 +145,16 @@ module _ {t : List ℕ} {d : ℕ} {root : BlockTask} {before part : Part} {frame
         no_end (by_end c) = n (text_stops c)
 
   -- nothing may stand there
-  pub nowhere_behind_fails : Stuck (LineEnd t held.end) → NoPlaceBehind t held.end → AtFailed t d root progress
-  nowhere_behind_fails q n = nowhere_fails a s l q n (no_key_held l q (keyless_nowhere utf8 l q n))
+  pub nowhere_after_fails : Stuck (LineEnd t held.end) → NoPlaceAfter t held.end → AtFailed t d root progress
+  nowhere_after_fails q n = nowhere_fails a s l q n (no_key_held l q (keyless_nowhere utf8 l q n))
 
-  module _ {place : ℕ} (e : EndsBehind t held.end place) where
+  module _ {place : ℕ} (e : EndsAfter t held.end place) where
     ended_key : Stuck (LineEnd t held.end) → NoKeyAt t a.room a.indentation cols p
     ended_key q =
         let u = dull_of t place e.ends in
         let no = dull_other u.1.0 in
         let stuck = λ (n : ℤ). no_plain {n = n} (no_front (dull_first t place u.1.0 u.1.1)) in
-        no_key_held l q (node_unfit (lone_behind utf8 l q e.run e.no_white (ap begins_content u.1.1 ∙ dull_content u.1.0) (stuck (a.indentation +ℤ pos 1)))
+        no_key_held l q (node_unfit (lone_after utf8 l q e.run e.no_white (ap begins_content u.1.1 ∙ dull_content u.1.0) (stuck (a.indentation +ℤ pos 1)))
         (lone_no_key l.value p e.run e.no_white (λ y. no.0 (sym u.1.1 ∙ y.sign_stands))))
 
     -- it should end there, and does not
@@ -179,7 +179,7 @@ module _ {t : List ℕ} {d : ℕ} {root : BlockTask} {before part : Part} {frame
     apart_either (Some y) end comments x m = apart_ended x m
 
     -- they do: the node stands on a later line
-    pub joined_below : {outer : Held} {after : Progress} → JoinedAhead a.ahead l.value p held.end outer → after ≡ record progress { wanted = record progress.wanted { outer = Some outer } } → AtBelow t d root before frames held.end after part
+    pub joined_below : {outer : PlacedProperties} {after : Progress} → JoinedAhead a.ahead l.value p held.end outer → after ≡ record progress { wanted = record progress.wanted { outer = Some outer } } → AtBelow t d root before frames held.end after part
     joined_below {outer} {after} j q = subst (λ z. AtBelow t d root before frames held.end z part) (sym q) (record {
       layers = a.layers;
       room = a.room;

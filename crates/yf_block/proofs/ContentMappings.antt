@@ -1,4 +1,4 @@
--- The first key of a mapping, once more: it is written behind the event that begins the mapping, which has the properties of lines before.
+-- The first key of a mapping, once more: it is written after the event that begins the mapping, which has the properties of lines before.
 use Rattle.std.proofs.Common.{◌≡◌, ℕ, zero, suc, ℤ, pos, ◌+◌, ◌<◌, ◌≤◌, Bool, true, false, List, [], ◌∷◌, ◌++◌, length, take, drop, Option, Some, None, refl, sym, ap, ◌∙◌, subst, arith, append_assoc, true≢false}
 use Rattle.std.proofs.Math.Seq.{take-append_seam, drop-append_seam}
 use Rattle.std.proofs.lemmas.List.{length-append}
@@ -30,20 +30,20 @@ use Rattle.yf_flow.specs.declared.frame.Node.{Node}
 use Rattle.yf_flow.specs.declared.node.Lead.{Lead}
 use Rattle.yf_flow.specs.declared.nodes.Ending.{Ending}
 use Rattle.yf_flow.specs.declared.nodes.Ending.TheVariants.{End, Nothing as NoEnd, TooDeep as TooDeepThere}
-use Rattle.yf_block.specs.declared.content.Behind.{Behind}
-use Rattle.yf_block.specs.declared.content.Claim.{Claim}
-use Rattle.yf_block.specs.declared.content.Share.{Share}
-use Rattle.yf_block.specs.declared.content.Share.TheVariants.{Nothing as NoShare, Joined, Apart as ApartShare}
-use Rattle.yf_block.specs.ClaimsTied.{ShareTied}
+use Rattle.yf_block.specs.declared.content.AfterProperties.{AfterProperties}
+use Rattle.yf_block.specs.declared.content.NodeFacts.{NodeFacts}
+use Rattle.yf_block.specs.declared.content.Belonging.{Belonging}
+use Rattle.yf_block.specs.declared.content.Belonging.TheVariants.{Nothing as NoBelonging, Joined, Apart as ApartBelonging}
+use Rattle.yf_block.specs.BelongingTied.{BelongingTied}
 use Rattle.yf_block.specs.declared.frame.Frame.{Frame}
 use Rattle.yf_block.specs.declared.frame.Kind.TheVariants.{Mapping}
 use Rattle.yf_block.specs.declared.frame.Progress.{Progress}
 use Rattle.yf_block.specs.declared.frame.Wanted.{Wanted}
-use Rattle.yf_block.specs.declared.held.Held.{Held}
+use Rattle.yf_block.specs.declared.properties.PlacedProperties.{PlacedProperties}
 use Rattle.yf_block.specs.BlockTied.{wanted_after}
 use Rattle.yf_block.specs.BlockStepTied.{AtNode}
-use Rattle.yf_block.specs.ContentTied.{TextBehind, text_alone, text_held, AtFirstKey, KeyOrLost, key_again, key_lost, KeyRead}
-use Rattle.yf_block.specs.HeldAnswers.{lead_at}
+use Rattle.yf_block.specs.ContentTied.{TextAfter, text_alone, text_held, AtFirstKey, KeyOrLost, key_again, key_lost, KeyRead}
+use Rattle.yf_block.specs.PropertiesAnswers.{lead_at}
 use Rattle.yf_block.specs.InlineAnswers.{InlineRead, InlineLost, InlineEnds}
 use Rattle.yf_block.specs.InlineAnswers as Answers
 use Rattle.yf_block.specs.InlineTied.{AtStart, started}
@@ -56,11 +56,11 @@ unfolding is_ns_char is_nb_char is_printable is_between is_break_char is_white
 feed_no_ns = refl
 
 -- a node begins an entry
-with_entry_of : (p : ℕ) (inner : Option Held) (a b : Option TheEntry.Entry) {lead : Lead} → lead ≡ lead_at p inner a → record lead { entry = b } ≡ lead_at p inner b
+with_entry_of : (p : ℕ) (inner : Option PlacedProperties) (a b : Option TheEntry.Entry) {lead : Lead} → lead ≡ lead_at p inner a → record lead { entry = b } ≡ lead_at p inner b
 with_entry_of p None a b q = ap (λ (l : Lead). record l { entry = b }) q
 with_entry_of p (Some h) a b q = ap (λ (l : Lead). record l { entry = b }) q
 
--- what was written behind something was added to it
+-- what was written after something was added to it
 record FirstOf (old new : Part) : Type 0 where
   first : Placed
   others : List Placed
@@ -70,7 +70,7 @@ record FirstOf (old new : Part) : Type 0 where
 
 module _ {t : List ℕ} {lead : Lead} {old new other later : Part} (entry : TheEntry.Entry)
     (move : (x : Placed) (xs : List Placed) (cs : List CommentValue) (bad : List ℕ) → Added old new (x ∷ xs) cs bad → Added other later (record x { entry = Some entry } ∷ xs) cs bad) where
-  -- the same behind another part, as an entry
+  -- the same after another part, as an entry
   moved_written : {x : Meaning} {span : Option Span} {end : ℕ} → WrittenWith t lead x span end old new → WrittenWith t (record lead { entry = Some entry }) x span end other later
   moved_written w = record {
     event = w.event;
@@ -83,7 +83,7 @@ module _ {t : List ℕ} {lead : Lead} {old new other later : Part} (entry : TheE
     added = move _ _ _ _ w.added;
   }
 
-module _ {t : List ℕ} {e at depth : ℕ} {n : ℤ} {held : Option Held} {lead : Lead} {old new : Part} {node : Node} where
+module _ {t : List ℕ} {e at depth : ℕ} {n : ℤ} {held : Option PlacedProperties} {lead : Lead} {old new : Part} {node : Node} where
   first_of : InlineRead t e n at depth held lead old new node → FirstOf old new
   first_of (Answers.content_read k a r i w) = record { first = _; others = w.noted_others; comments = _; escapes = _; added = w.added }
   first_of (Answers.alias_read q r i w) = record { first = _; others = w.noted_others; comments = _; escapes = _; added = w.added }
@@ -96,10 +96,10 @@ module _ {t : List ℕ} {e at depth : ℕ} {n : ℤ} {held : Option Held} {lead 
     moved_read (Answers.alias_read q r i w) = Answers.alias_read q r i (moved_written entry move w)
     moved_read (Answers.empty_key_read k j d w) = Answers.empty_key_read k j d (moved_written entry move w)
 
-module _ {t : List ℕ} {room depth : ℕ} {n : ℤ} {b : Behind} {claim : Claim} {wanted : Wanted} {earlier old : Part} (r : KeyRead t room n depth b claim wanted earlier old) (entry : TheEntry.Entry) where
+module _ {t : List ℕ} {room depth : ℕ} {n : ℤ} {b : AfterProperties} {facts : NodeFacts} {wanted : Wanted} {earlier old : Part} (r : KeyRead t room n depth b facts wanted earlier old) (entry : TheEntry.Entry) where
   -- the event that begins the mapping is put before it
-  pub put_again : {start : Placed} {new : Part} → (claim.share ≡ Joined → ⊥)
-      → ((before : List Placed) (x : Placed) (xs : List Placed) → claim.before.events ≡ length before → old.events ≡ before ++ x ∷ xs → new.events ≡ before ++ start ∷ record x { entry = Some entry } ∷ xs)
+  pub put_again : {start : Placed} {new : Part} → (facts.belonging ≡ Joined → ⊥)
+      → ((before : List Placed) (x : Placed) (xs : List Placed) → facts.before.events ≡ length before → old.events ≡ before ++ x ∷ xs → new.events ≡ before ++ start ∷ record x { entry = Some entry } ∷ xs)
       → new.comments ≡ old.comments → new.escapes ≡ old.escapes → KeyOrLost t room n depth b entry start earlier new
   put_again {start} {new} f put x y = key_again (record {
     opened = record { events = earlier.events ++ start ∷ []; comments = earlier.comments; escapes = earlier.escapes };
@@ -108,7 +108,7 @@ module _ {t : List ℕ} {room depth : ℕ} {n : ℤ} {b : Behind} {claim : Claim
     comments = refl;
     escapes = refl;
     read = subst (λ l. InlineRead t room n b.at depth b.inner l (record { events = earlier.events ++ start ∷ []; comments = earlier.comments; escapes = earlier.escapes }) new r.node)
-        (with_entry_of b.spot.at b.inner wanted.entry (Some entry) (r.lead_is f)) (moved_read entry move r.read);
+        (with_entry_of b.node_start.at b.inner wanted.entry (Some entry) (r.lead_is f)) (moved_read entry move r.read);
   }) where
     move : (e : Placed) (es : List Placed) (cs : List CommentValue) (bad : List ℕ) → Added earlier old (e ∷ es) cs bad
         → Added (record { events = earlier.events ++ start ∷ []; comments = earlier.comments; escapes = earlier.escapes }) new (record e { entry = Some entry } ∷ es) cs bad
@@ -119,17 +119,17 @@ module _ {t : List ℕ} {room depth : ℕ} {n : ℤ} {b : Behind} {claim : Claim
     }
 
   -- what was read of it is cut off, and read again
-  cut_events : take claim.before.events old.events ≡ earlier.events
-  cut_events = let f = first_of r.read in ap (λ z. take claim.before.events z) f.added.events ∙ ap (λ (k : ℕ). take k (earlier.events ++ f.first ∷ f.others)) r.counts.events ∙ take-append_seam earlier.events (f.first ∷ f.others)
+  cut_events : take facts.before.events old.events ≡ earlier.events
+  cut_events = let f = first_of r.read in ap (λ z. take facts.before.events z) f.added.events ∙ ap (λ (k : ℕ). take k (earlier.events ++ f.first ∷ f.others)) r.counts.events ∙ take-append_seam earlier.events (f.first ∷ f.others)
 
-  cut_comments : take claim.before.comments old.comments ≡ earlier.comments
-  cut_comments = let f = first_of r.read in ap (λ z. take claim.before.comments z) f.added.comments ∙ ap (λ (k : ℕ). take k (earlier.comments ++ f.comments)) r.counts.comments ∙ take-append_seam earlier.comments f.comments
+  cut_comments : take facts.before.comments old.comments ≡ earlier.comments
+  cut_comments = let f = first_of r.read in ap (λ z. take facts.before.comments z) f.added.comments ∙ ap (λ (k : ℕ). take k (earlier.comments ++ f.comments)) r.counts.comments ∙ take-append_seam earlier.comments f.comments
 
-  cut_escapes : take claim.before.escapes old.escapes ≡ earlier.escapes
-  cut_escapes = let f = first_of r.read in ap (λ z. take claim.before.escapes z) f.added.escapes ∙ ap (λ (k : ℕ). take k (earlier.escapes ++ f.escapes)) r.counts.escapes ∙ take-append_seam earlier.escapes f.escapes
+  cut_escapes : take facts.before.escapes old.escapes ≡ earlier.escapes
+  cut_escapes = let f = first_of r.read in ap (λ z. take facts.before.escapes z) f.added.escapes ∙ ap (λ (k : ℕ). take k (earlier.escapes ++ f.escapes)) r.counts.escapes ∙ take-append_seam earlier.escapes f.escapes
 
-  pub read_again : {start : Placed} {opened new : Part} (e : Ending) → opened.events ≡ take claim.before.events old.events ++ start ∷ [] → opened.comments ≡ take claim.before.comments old.comments
-      → opened.escapes ≡ take claim.before.escapes old.escapes → InlineEnds t room n b.at depth b.inner (lead_at b.spot.at b.inner (Some entry)) opened new e → KeyOrLost t room n depth b entry start earlier new
+  pub read_again : {start : Placed} {opened new : Part} (e : Ending) → opened.events ≡ take facts.before.events old.events ++ start ∷ [] → opened.comments ≡ take facts.before.comments old.comments
+      → opened.escapes ≡ take facts.before.escapes old.escapes → InlineEnds t room n b.at depth b.inner (lead_at b.node_start.at b.inner (Some entry)) opened new e → KeyOrLost t room n depth b entry start earlier new
   read_again {start} {opened} (End node) x y z i = key_again (record {
     opened = opened;
     node = node;
@@ -142,13 +142,13 @@ module _ {t : List ℕ} {room depth : ℕ} {n : ℤ} {b : Behind} {claim : Claim
   read_again (TooDeepThere p) x y z i = key_lost i
 
 -- what is known of the node on its line
-lead_alone : (t : List ℕ) (p at : ℕ) (a : Ahead) (inner : Option Held) (entry : Option TheEntry.Entry) (lead : Lead) (share : Share) → ShareTied t p at a inner entry lead share → (share ≡ Joined → ⊥) → lead ≡ lead_at p inner entry
-lead_alone t p at a inner entry lead NoShare s f = s.lead_is
+lead_alone : (t : List ℕ) (p at : ℕ) (a : Ahead) (inner : Option PlacedProperties) (entry : Option TheEntry.Entry) (lead : Lead) (belonging : Belonging) → BelongingTied t p at a inner entry lead belonging → (belonging ≡ Joined → ⊥) → lead ≡ lead_at p inner entry
+lead_alone t p at a inner entry lead NoBelonging s f = s.lead_is
 lead_alone t p at a inner entry lead Joined s f = absurd (f refl)
-lead_alone t p at a inner entry lead ApartShare s f = s.lead_is
+lead_alone t p at a inner entry lead ApartBelonging s f = s.lead_is
 
 -- it is a key, so something is found
-no_key_lost : {t : List ℕ} {e p k : ℕ} {n : ℤ} {inner : Option Held} {at : ℕ} {f : Found} → TextBehind t p inner at → Keyless t e n p → Parses t e (ANode n FlowOut p) (Some f) → KeyBefore t p f k → ⊥
+no_key_lost : {t : List ℕ} {e p k : ℕ} {n : ℤ} {inner : Option PlacedProperties} {at : ℕ} {f : Found} → TextAfter t p inner at → Keyless t e n p → Parses t e (ANode n FlowOut p) (Some f) → KeyBefore t p f k → ⊥
 no_key_lost {t} {p = p} {k = k} {f = f} x (node_unfit r u) w b = go u (outcome_is_one r w) where
   go : {o : Option Found} → NoKey t p o → o ≡ Some f → ⊥
   go key_missed q = none_some q
@@ -156,26 +156,26 @@ no_key_lost {t} {p = p} {k = k} {f = f} x (node_unfit r u) w b = go u (outcome_i
 no_key_lost (text_alone s) (properties_end_line {g = g} {q = q} c l) w b = s.none g q c.derived
 no_key_lost {t} (text_held l s y) (properties_end_line {l = k} {ds = ds} c d) w b = let same = chosen_one l.chosen c in s.none k ds (subst (λ (z : ℕ). LineEnd t z k ds) same.0 d)
 
-pub key_there_again : {t : List ℕ} (u : IsUtf8 t) {e p depth : ℕ} {n : ℤ} {inner : Option Held} {at : ℕ} {entry : Option TheEntry.Entry} {old new : Part} {node : Node} → TextBehind t p inner at
+pub key_there_again : {t : List ℕ} (u : IsUtf8 t) {e p depth : ℕ} {n : ℤ} {inner : Option PlacedProperties} {at : ℕ} {entry : Option TheEntry.Entry} {old new : Part} {node : Node} → TextAfter t p inner at
     → InlineRead t e n at depth inner (lead_at p inner entry) old new node → NodeThere t e n p depth entry old new node
 key_there_again u (text_alone s) r = bare_there r
 key_there_again u (text_held l s b) r = held_there u l s b r
 
-module _ {t : List ℕ} {d : ℕ} {root : BlockTask} {before old : Part} {frames : List Frame} {depth : ℕ} {b : Behind} {claim : Claim} {column colon : ℕ} {progress : Progress} {earlier : Part}
-    (a : AtFirstKey t d root before frames depth b claim column colon progress earlier old) where
-  abbrev start : AtStart t d root before frames a.inline.there.content.cols b.spot.at progress earlier
+module _ {t : List ℕ} {d : ℕ} {root : BlockTask} {before old : Part} {frames : List Frame} {depth : ℕ} {b : AfterProperties} {facts : NodeFacts} {column colon : ℕ} {progress : Progress} {earlier : Part}
+    (a : AtFirstKey t d root before frames depth b facts column colon progress earlier old) where
+  abbrev start : AtStart t d root before frames a.inline.there.content.cols b.node_start.at progress earlier
   start = a.inline.there.content.start
 
   utf8 : IsUtf8 t
   utf8 = start.read.text.utf8
 
   -- what the key was read for
-  pub key_reads : KeyRead t start.room (pos progress.wanted.least) depth b claim progress.wanted earlier old
-  key_reads = record { node = a.node; counts = a.inline.counts; lead_is = λ f. lead_alone t b.spot.at b.at start.ahead b.inner progress.wanted.entry claim.lead claim.share a.inline.share f; read = a.inline.read }
+  pub key_reads : KeyRead t start.room (pos progress.wanted.least) depth b facts progress.wanted earlier old
+  key_reads = record { node = a.node; counts = a.inline.counts; lead_is = λ f. lead_alone t b.node_start.at b.at start.ahead b.inner progress.wanted.entry facts.lead facts.belonging a.inline.belonging f; read = a.inline.read }
 
   -- its value is awaited
-  pub first_key_awaits : {stack : List Frame} {after : Progress} {new : Part} {n : Bool} {entry : TheEntry.Entry} → KeyOrLost t start.room (pos progress.wanted.least) depth b entry (started Mapping b.spot.at progress.wanted) earlier new
-      → entry ≡ record { start = b.spot.at; colon = Some colon; blank_before = n } → NotedSince t progress.floor b.spot.at n
+  pub first_key_awaits : {stack : List Frame} {after : Progress} {new : Part} {n : Bool} {entry : TheEntry.Entry} → KeyOrLost t start.room (pos progress.wanted.least) depth b entry (started Mapping b.node_start.at progress.wanted) earlier new
+      → entry ≡ record { start = b.node_start.at; colon = Some colon; blank_before = n } → NotedSince t progress.floor b.node_start.at n
       → stack ≡ record { kind = Mapping; column = column; event = length earlier.events; entry_event = length earlier.events; awaits_colon = false } ∷ frames
       → after.wanted ≡ wanted_after column false true None → after.last ≡ colon + 1 → after.floor ≡ progress.floor → after.colons ≡ progress.colons → after.halt ≡ progress.halt
       → AtNode t d root before stack (colon + 1) after new
@@ -185,23 +185,23 @@ module _ {t : List ℕ} {d : ℕ} {root : BlockTask} {before old : Part} {frames
   first_key_awaits {new = new} (key_again k) e s z y i fl c h =
       let x = a.inline.there in
       let n = node_here utf8 x.text a.inline.read in
-      let m = key_there_again utf8 x.text (subst (λ j. InlineRead t start.room (pos progress.wanted.least) b.at depth b.inner (lead_at b.spot.at b.inner (Some j)) k.opened new k.node) e k.read) in
+      let m = key_there_again utf8 x.text (subst (λ j. InlineRead t start.room (pos progress.wanted.least) b.at depth b.inner (lead_at b.node_start.at b.inner (Some j)) k.opened new k.node) e k.read) in
       let same = same_found (outcome_is_one n.1.parsed m.parsed) in
-      let kb = subst (λ f. KeyBefore t b.spot.at f colon) same (is_key start x.content.signless n.1 a.run a.ends) in
+      let kb = subst (λ f. KeyBefore t b.node_start.at f colon) same (is_key start x.content.signless n.1 a.run a.ends) in
       let deep = n.1.deepest in
       let within = a.within in
       let height : n.1.answer.height ≡ m.answer.height = ap (λ (f : Found). f.height) same in
       key_awaits start x.content.signless (x.content.column_is ∙ a.column_is) a.inline.depth_is m kb s (omega (arith, deep, within, height)) k.events k.comments k.escapes z y i fl c h
 
-  visible : Visible t b.spot.at
+  visible : Visible t b.node_start.at
   visible = (flow_starts (found_is_derived refl (node_here utf8 a.inline.there.text a.inline.read).1.parsed).0 refl).starts.visible
 
   -- no break begins there, and the text does not end
-  pub key_no_feed : code t b.spot.at ≡ 10 → ⊥
+  pub key_no_feed : code t b.node_start.at ≡ 10 → ⊥
   key_no_feed e = true≢false (sym visible.ns ∙ ap is_ns_char e ∙ feed_no_ns)
 
-  pub key_within : b.spot.at < length t
-  key_within = within_from_code t b.spot.at (ns_below (code t b.spot.at) visible.ns)
+  pub key_within : b.node_start.at < length t
+  key_within = within_from_code t b.node_start.at (ns_below (code t b.node_start.at) visible.ns)
 
 -- an event becomes an entry, and another one is put before it
 entry_length : (xs : List Placed) (i : ℕ) (entry : TheEntry.Entry) → length (with_entry xs i entry) ≡ length xs

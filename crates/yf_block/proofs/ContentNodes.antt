@@ -30,13 +30,13 @@ use Rattle.yf_flow.specs.Begun.{bare_lead, lead_event}
 use Rattle.yf_flow.specs.ContentAnswers.{WrittenWith}
 use Rattle.yf_flow.specs.declared.frame.Node.{Node}
 use Rattle.yf_flow.specs.declared.node.Lead.{Lead}
-use Rattle.yf_block.specs.declared.held.Held.{Held}
-use Rattle.yf_block.specs.ContentTied.{TextBehind, text_alone, text_held}
-use Rattle.yf_block.specs.HeldAnswers.{LineProperties, BothThere, both_there, held_lead}
+use Rattle.yf_block.specs.declared.properties.PlacedProperties.{PlacedProperties}
+use Rattle.yf_block.specs.ContentTied.{TextAfter, text_alone, text_held}
+use Rattle.yf_block.specs.PropertiesAnswers.{LineProperties, BothThere, both_there, held_lead}
 use Rattle.yf_block.specs.InlineAnswers.{InlineRead, InlineLost}
 use Rattle.yf_block.specs.InlineAnswers as Answers
-use Rattle.yf_block.proofs.HeldLemmas.{name_there, tag_there, no_clash}
-use Rattle.yf_block.proofs.KeyNodes.{keyless_behind}
+use Rattle.yf_block.proofs.PropertiesLemmas.{name_there, tag_there, no_clash}
+use Rattle.yf_block.proofs.KeyNodes.{keyless_after}
 use Rattle.yf_block.proofs.TiedKeys.{keyless_plain}
 use Rattle.yf_block.proofs.TiedLeads.{NodeThere, bare_there, held_there}
 
@@ -61,23 +61,23 @@ module _ {t : List ℕ} {lead : Lead} {x : Meaning} {span : Option Span} {end : 
     added = record { events = refl; comments = refl; escapes = refl };
   }
 
-module _ {t : List ℕ} {e at depth : ℕ} {n : ℤ} {held : Option Held} {lead : Lead} {old new : Part} {node : Node} (other : Lead) where
+module _ {t : List ℕ} {e at depth : ℕ} {n : ℤ} {held : Option PlacedProperties} {lead : Lead} {old new : Part} {node : Node} (other : Lead) where
   inline_other : InlineRead t e n at depth held lead old new node → (mid : Part) × InlineRead t e n at depth held other old mid node
   inline_other (Answers.content_read k a r i w) = (other_part other w, Answers.content_read k a r i (other_written other w))
   inline_other (Answers.alias_read q r i w) = (other_part other w, Answers.alias_read q r i (other_written other w))
   inline_other (Answers.empty_key_read k j d w) = (other_part other w, Answers.empty_key_read k j d (other_written other w))
 
 module _ {t : List ℕ} (u : IsUtf8 t) {e p : ℕ} {n : ℤ} where
-  pub node_here : {held : Option Held} {at depth : ℕ} {lead : Lead} {old new : Part} {node : Node} → TextBehind t p held at → InlineRead t e n at depth held lead old new node → (mid : Part) × NodeThere t e n p depth None old mid node
+  pub node_here : {held : Option PlacedProperties} {at depth : ℕ} {lead : Lead} {old new : Part} {node : Node} → TextAfter t p held at → InlineRead t e n at depth held lead old new node → (mid : Part) × NodeThere t e n p depth None old mid node
   node_here (text_alone s) r = let o = inline_other (bare_lead p None) r in (o.0, bare_there o.1)
   node_here (text_held {held = h} l s b) r = let o = inline_other (held_lead h None) r in (o.0, held_there u l s b o.1)
 
-  pub lost_keyless : {held : Option Held} {at : ℕ} → TextBehind t p held at → InlineLost t e n at held → Keyless t e n p
+  pub lost_keyless : {held : Option PlacedProperties} {at : ℕ} → TextAfter t p held at → InlineLost t e n at held → Keyless t e n p
   lost_keyless (text_alone s) i = keyless_plain s i
-  lost_keyless (text_held l s b) i = keyless_behind u l s b i
+  lost_keyless (text_held l s b) i = keyless_after u l s b i
 
 -- the line of its properties goes on
-pub no_key_held : {t : List ℕ} {e p : ℕ} {n : ℤ} {held : Held} {cols : Columns} (l : LineProperties t p held) → Stuck (LineEnd t held.end) → Keyless t e (n +ℤ pos 1) p → NoKeyAt t e n cols p
+pub no_key_held : {t : List ℕ} {e p : ℕ} {n : ℤ} {held : PlacedProperties} {cols : Columns} (l : LineProperties t p held) → Stuck (LineEnd t held.end) → Keyless t e (n +ℤ pos 1) p → NoKeyAt t e n cols p
 no_key_held l s (node_unfit r k) = unfit_node r k
 no_key_held {t} l s (properties_end_line {l = k} {ds = ds} c d) = let same = chosen_one l.chosen c in absurd (s.none k ds (subst (λ (z : ℕ). LineEnd t z k ds) same.0 d))
 
@@ -85,7 +85,7 @@ no_key_bare : {t : List ℕ} {e p : ℕ} {n : ℤ} {cols : Columns} → Stuck (P
 no_key_bare s (node_unfit r k) = unfit_node r k
 no_key_bare s (properties_end_line {g = g} {q = q} c d) = absurd (s.none g q c.derived)
 
-pub no_key_here : {t : List ℕ} {e p : ℕ} {n : ℤ} {held : Option Held} {at : ℕ} {cols : Columns} → TextBehind t p held at → Keyless t e (n +ℤ pos 1) p → NoKeyAt t e n cols p
+pub no_key_here : {t : List ℕ} {e p : ℕ} {n : ℤ} {held : Option PlacedProperties} {at : ℕ} {cols : Columns} → TextAfter t p held at → Keyless t e (n +ℤ pos 1) p → NoKeyAt t e n cols p
 no_key_here (text_alone s) k = no_key_bare s k
 no_key_here (text_held l s b) k = no_key_held l s k
 

@@ -8,10 +8,10 @@ use Rattle.yf_flow.proofs.CountLemmas.{openers_later, dash_opens, question_opens
 use Rattle.yf_block.specs.declared.frame.Frame.{Frame}
 use Rattle.yf_block.specs.declared.frame.Step.{Step}
 use Rattle.yf_block.specs.declared.frame.Step.TheVariants.{Node}
-use Rattle.yf_block.specs.declared.held.Held.{Held}
+use Rattle.yf_block.specs.declared.properties.PlacedProperties.{PlacedProperties}
 use Rattle.yf_block.specs.Counted.{StepCounted, EntryCounted}
 use Rattle.yf_block.specs.InlineTied.{EntrySignAt}
-use Rattle.yf_block.specs.Machine.{HeldTo, HeldBefore, behind_held}
+use Rattle.yf_block.specs.Machine.{PropertiesTo, PropertiesBefore, earliest_end}
 
 module _ (t : List ℕ) (count total : ℕ) where
   -- further on
@@ -59,16 +59,16 @@ pushed_counted t limit total p s new old f e k q =
 pub within_counted : (t : List ℕ) (total i j : ℕ) (new old : List Frame) (f : Frame) → new ≡ old ++ f ∷ [] → j ≡ i → length old + 1 + openers_from t i ≤ total → length new + openers_from t j ≤ total
 within_counted t total i j new old f k e q = subst (λ (z : ℕ). length new + openers_from t z ≤ total) (sym e) (let n = length-append old (f ∷ []) in let m = ap (λ z. length z) k in omega arith)
 
--- what stands behind properties stands after their start
-pub held_later : (t : List ℕ) (start at : ℕ) (inner : Option Held) → HeldTo t start at inner → start < behind_held at inner
+-- what stands after properties stands after their start
+pub held_later : (t : List ℕ) (start at : ℕ) (inner : Option PlacedProperties) → PropertiesTo t start at inner → start < earliest_end at inner
 held_later t start at None e = omega arith
 held_later t start at (Some h) q = let l = q.0.order in omega arith
 
-pub held_below : (t : List ℕ) (start at : ℕ) (inner : Option Held) → HeldBefore t at inner → start < behind_held at inner → start ≤ at
+pub held_below : (t : List ℕ) (start at : ℕ) (inner : Option PlacedProperties) → PropertiesBefore t at inner → start < earliest_end at inner → start ≤ at
 held_below t start at None b l = omega arith
 held_below t start at (Some h) b l = let k = b.1 in omega arith
 
-pub held_after : (t : List ℕ) (start at : ℕ) (inner : Option Held) → HeldTo t start at inner → start ≤ at
+pub held_after : (t : List ℕ) (start at : ℕ) (inner : Option PlacedProperties) → PropertiesTo t start at inner → start ≤ at
 held_after t start at None e = omega arith
 held_after t start at (Some h) q = let l = q.0.order in let k = q.1 in omega arith
 

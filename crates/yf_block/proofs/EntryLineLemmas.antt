@@ -73,9 +73,9 @@ module _ {t : List ℕ} {at p : ℕ} {w : List ℕ} (m : Many t is_white at p w)
       let same : q ≡ p = (many_unique t is_white v.1 l.content.no_white m f).0 in
       ends_there e (λ h. l.content.no_hash (ap (code t) same ∙ h)) (λ j b. l.content.no_end j (subst (λ z. BreakOrEnd t z j) (sym same) b))
 
-pub no_line_behind_spaces : {t w : List ℕ} {at s p k q : ℕ} → NotWithinBreak t at → at ≤ s → Spaces t at (s - at) → Many t is_white s p w → is_white (code t p) ≡ false
+pub no_line_after_spaces : {t w : List ℕ} {at s p k q : ℕ} → NotWithinBreak t at → at ≤ s → Spaces t at (s - at) → Many t is_white s p w → is_white (code t p) ≡ false
     → LineEndsAt t true p → LineText t at k q → ⊥
-no_line_behind_spaces {t} {w} {at} {s} {p} b l y m f e v =
+no_line_after_spaces {t} {w} {at} {s} {p} b l y m f e v =
     let z = spaces_whites t at (s - at) y in
     let place : at + (s - at) ≡ s = omega arith in
     no_entry_line (chain_append z.1 (subst (λ i. Many t is_white i p w) (sym place) m)) b f e v

@@ -16,8 +16,8 @@ module _ {t : List ℕ} {at p : ℕ} (f : Frame) (e : EntryPlace t at p) where
   place_there : p - at ≡ f.column → p ≡ at + f.column
   place_there q = let s = e.stands in omega (arith, s, q)
 
-  pub fits_behind : p - at < f.column → EndLine t at f
-  fits_behind l = less_deep e.line (let s = e.stands in omega (arith, s, l))
+  pub fits_before : p - at < f.column → EndLine t at f
+  fits_before l = less_deep e.line (let s = e.stands in omega (arith, s, l))
 
   pub fits_deeper : f.column < p - at → DeepLine t at f
   fits_deeper l = record { column = e.column; first = e.first; line = e.line; deep = let s = e.stands in omega (arith, s, l) }

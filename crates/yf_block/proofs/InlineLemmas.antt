@@ -19,7 +19,7 @@ use Rattle.yf_flow.specs.declared.nodes.Ending.TheVariants.{End, Nothing as NoEn
 use Rattle.yf_flow.specs.Begun.{lead_event, leaf_event}
 use Rattle.yf_flow.specs.ContentAnswers.{WrittenWith, ContentEnds}
 use Rattle.yf_flow.specs.Tied.{no_events}
-use Rattle.yf_block.specs.declared.held.Held.{Held}
+use Rattle.yf_block.specs.declared.properties.PlacedProperties.{PlacedProperties}
 use Rattle.yf_block.specs.InlineAnswers.{NoEmptyKey, EmptyKeyAt, NodeIs, InlineRead, content_read, empty_key_read, content_lost, InlineEnds}
 use Rattle.yf_block.specs.InlineAnswers as Answers
 
@@ -75,7 +75,7 @@ pub alias_none : {t : List ℕ} {room : ℕ} {n : ℤ} {at : ℕ} → code t at 
 alias_none {t} {at = at} c s = Answers.alias_lost refl (alias_missed (alias_there (code t at) c) s)
 
 module _ {t : List ℕ} {at : ℕ} (room : ℕ) (n : ℤ) (depth : ℕ) (lead : Lead) (old new : Part) where
-  pub content_ends : {held : Option Held} (e : Ending) → NoEmptyKey t at held → code t at ≢ 42 → ContentEnds t n FlowOut room at depth lead old new e → InlineEnds t room n at depth held lead old new e
+  pub content_ends : {held : Option PlacedProperties} (e : Ending) → NoEmptyKey t at held → code t at ≢ 42 → ContentEnds t n FlowOut room at depth lead old new e → InlineEnds t room n at depth held lead old new e
   content_ends (End node) k a r = content_read k (alias_not (code t at) a) r.read (record { end = r.end; json = r.json; deepest = r.deepest; finish = r.finish }) r.written
   content_ends NoEnd k a r = content_lost k (alias_not (code t at) a) r
   content_ends (TooDeepThere p) k a r = content_lost k (alias_not (code t at) a) r

@@ -29,9 +29,9 @@ use Rattle.yf_grammar.proofs.NodeExact.{lone_is, plain_is}
 use Rattle.yf_grammar.proofs.NodeExits.{some_found, none_some, alias_no_plain, plain_no_properties}
 use Rattle.yf_flow.specs.Begun.{ContentAt, content_there, plain_there, plain_missing}
 use Rattle.yf_flow.proofs.LookLemmas.{nothing_begins}
-use Rattle.yf_block.specs.declared.held.Held.{Held}
-use Rattle.yf_block.specs.HeldAnswers.{LineProperties, PlaceBehind, NoPlaceBehind, other_beside, property_behind}
-use Rattle.yf_block.specs.InlineAnswers.{KeyEnds, InlineLost, content_lost, alias_lost, alias_behind}
+use Rattle.yf_block.specs.declared.properties.PlacedProperties.{PlacedProperties}
+use Rattle.yf_block.specs.PropertiesAnswers.{LineProperties, PlaceAfter, NoPlaceAfter, other_beside, property_after}
+use Rattle.yf_block.specs.InlineAnswers.{KeyEnds, InlineLost, content_lost, alias_lost, alias_after}
 
 no_nothing : {X : Type 0} {x : X} → Some x ≡ None → ⊥
 no_nothing q = cc
@@ -82,21 +82,21 @@ module _ {t : List ℕ} where
   property_no_text : {n : ℤ} {k : ℕ} → begins_properties (code t k) ≡ true → Stuck (Plain t n FlowOut k)
   property_no_text {k = k} a = record { none = λ j x p. plain_no_properties (code t k) (plain_begins p.text) a }
 
-  -- properties alone are no key, unless a `:` stands behind them
+  -- properties alone are no key, unless a `:` stands after them
   pub lone_no_key : {g k : ℕ} {w : List ℕ} (q : PropertiesValue) (p : ℕ) → Many t is_white g k w → is_white (code t k) ≡ false → (SignAt t 58 k → ⊥) → NoKey t p (lone_properties q p g)
   lone_no_key {g} {k} q p m f n = subst (λ o. NoKey t p o) (sym (lone_is q p g ∙ found_is g 0 false (behind q.comments (with_props q.props q.tag_offset p g (empty_node g)))))
       (key_unfit (λ h b. let same = (many_unique t is_white b.run (colon_white (code t h) b.colon.sign_stands) m f).0 in n (subst (λ z. SignAt t 58 z) same b.colon)))
 
-module _ {t : List ℕ} (u : IsUtf8 t) {p : ℕ} {held : Held} (l : LineProperties t p held) where
+module _ {t : List ℕ} (u : IsUtf8 t) {p : ℕ} {held : PlacedProperties} (l : LineProperties t p held) where
   -- the line ends after the properties
   pub keyless_line : {e k : ℕ} {n : ℤ} {ds : List CommentValue} → LineEnd t held.end k ds → Keyless t e n p
   keyless_line d = properties_end_line l.chosen d
 
   module _ (s : Stuck (LineEnd t held.end)) where
     -- properties alone, before white space or beside what stands there
-    pub lone_behind : {e k : ℕ} {n : ℤ} {w : List ℕ} → Many t is_white held.end k w → is_white (code t k) ≡ false → begins_content (code t k) ≡ false → Stuck (Plain t n FlowOut k)
+    pub lone_after : {e k : ℕ} {n : ℤ} {w : List ℕ} → Many t is_white held.end k w → is_white (code t k) ≡ false → begins_content (code t k) ≡ false → Stuck (Plain t n FlowOut k)
         → Parses t e (ANode n FlowOut p) (lone_properties l.value p held.end)
-    lone_behind {k = k} m f b r = ⊎_elim
+    lone_after {k = k} m f b r = ⊎_elim
         (λ (o : held.end < k). line_other u l.chosen s m o f b r)
         (λ (o : k ≤ held.end).
         let v = whites_forward m in
@@ -104,50 +104,50 @@ module _ {t : List ℕ} (u : IsUtf8 t) {p : ℕ} {held : Held} (l : LineProperti
         line_alone u l.chosen s (subst (λ z. is_white (code t z) ≡ false) same f))
         (cases_lt held.end k)
 
-    -- nothing that may be a node stands behind them
-    pub keyless_nowhere : {e : ℕ} {n : ℤ} → NoPlaceBehind t held.end → Keyless t e n p
+    -- nothing that may be a node stands after them
+    pub keyless_nowhere : {e : ℕ} {n : ℤ} → NoPlaceAfter t held.end → Keyless t e n p
     keyless_nowhere (other_beside f c) = node_unfit (line_alone u l.chosen s f) (lone_no_key l.value p done f c)
-    keyless_nowhere (property_behind {p = k} m f b) =
-        node_unfit (lone_behind m f (property_bare (code t k) b) (property_no_text b)) (lone_no_key l.value p m f (λ c. property_no_sign (code t k) b c.sign_stands))
+    keyless_nowhere (property_after {p = k} m f b) =
+        node_unfit (lone_after m f (property_bare (code t k) b) (property_no_text b)) (lone_no_key l.value p m f (λ c. property_no_sign (code t k) b c.sign_stands))
 
-    module _ {at : ℕ} (b : PlaceBehind t held.end at) where
+    module _ {at : ℕ} (b : PlaceAfter t held.end at) where
       -- the place is further on, unless an empty key stands there
-      pub behind_later : (SignAt t 58 at → ⊥) → held.end < at
-      behind_later n = ⊎_elim
+      pub after_later : (SignAt t 58 at → ⊥) → held.end < at
+      after_later n = ⊎_elim
           (λ (o : held.end < at). o)
           (λ (o : at ≤ held.end). let v = whites_forward b.run in let same : at ≡ held.end = omega arith in absurd (n (b.beside same)))
           (cases_lt held.end at)
 
       -- an empty key
       pub lone_found : {e : ℕ} {n : ℤ} → SignAt t 58 at → Parses t e (ANode n FlowOut p) (lone_properties l.value p held.end)
-      lone_found c = lone_behind b.run b.no_white (colon_bare (code t at) c.sign_stands) (sign_no_plain c)
+      lone_found c = lone_after b.run b.no_white (colon_bare (code t at) c.sign_stands) (sign_no_plain c)
 
       -- content
       pub content_found : {e : ℕ} {n : ℤ} {f : Found} → (SignAt t 58 at → ⊥) → ContentAt t e n FlowOut at (Some f) → Parses t e (ANode n FlowOut p) (propertied l.value [] p held.end f)
       content_found {e} {n} {f} c r = go r refl where
         go : {o : Option Found} → ContentAt t e n FlowOut at o → o ≡ Some f → Parses t e (ANode n FlowOut p) (propertied l.value [] p held.end f)
-        go (content_there a z) q = line_content u l.chosen s b.run (behind_later c) b.no_white a (subst (λ o. Parses t e (AContent n FlowOut at) o) q z)
+        go (content_there a z) q = line_content u l.chosen s b.run (after_later c) b.no_white a (subst (λ o. Parses t e (AContent n FlowOut at) o) q z)
         go (plain_there {j = j} {x = x} a z) q =
             let same = some_found j 0 false (scalar PlainStyle (encode_utf8_all x) [] at j) (sym q ∙ plain_is x at j) in
-            subst (λ v. Parses t e (ANode n FlowOut p) (propertied l.value [] p held.end v)) (sym same) (line_plain u l.chosen s b.run (behind_later c) b.no_white a z)
+            subst (λ v. Parses t e (ANode n FlowOut p) (propertied l.value [] p held.end v)) (sym same) (line_plain u l.chosen s b.run (after_later c) b.no_white a z)
         go (plain_missing a z) q = absurd (none_some q)
 
       -- none of them
-      pub keyless_behind : {e : ℕ} {n : ℤ} → InlineLost t e n at (Some held) → Keyless t e n p
-      keyless_behind {e} {n} (content_lost k a r) = node_unfit (go r refl) (lone_no_key l.value p b.run b.no_white (k held refl)) where
+      pub keyless_after : {e : ℕ} {n : ℤ} → InlineLost t e n at (Some held) → Keyless t e n p
+      keyless_after {e} {n} (content_lost k a r) = node_unfit (go r refl) (lone_no_key l.value p b.run b.no_white (k held refl)) where
         go : {o : Option Found} → ContentAt t e n FlowOut at o → o ≡ None → Parses t e (ANode n FlowOut p) (lone_properties l.value p held.end)
-        go (content_there y z) q = line_broken u l.chosen s b.run (behind_later (k held refl)) b.no_white y (subst (λ o. Parses t e (AContent n FlowOut at) o) q z)
+        go (content_there y z) q = line_broken u l.chosen s b.run (after_later (k held refl)) b.no_white y (subst (λ o. Parses t e (AContent n FlowOut at) o) q z)
         go (plain_there {j = j} {x = x} y z) q = absurd (none_some (sym q ∙ plain_is x at j ∙ found_is j 0 false (scalar PlainStyle (encode_utf8_all x) [] at j)))
-        go (plain_missing y z) q = lone_behind b.run b.no_white y z
-      keyless_behind (alias_lost q r) = absurd (no_nothing q)
-      keyless_behind (alias_behind k q a) =
-          node_unfit (lone_behind b.run b.no_white (alias_bare (code t at) a) (alias_no_text a)) (lone_no_key l.value p b.run b.no_white (k held refl))
+        go (plain_missing y z) q = lone_after b.run b.no_white y z
+      keyless_after (alias_lost q r) = absurd (no_nothing q)
+      keyless_after (alias_after k q a) =
+          node_unfit (lone_after b.run b.no_white (alias_bare (code t at) a) (alias_no_text a)) (lone_no_key l.value p b.run b.no_white (k held refl))
 
 -- without properties
 pub keyless_bare : {t : List ℕ} {e p : ℕ} {n : ℤ} → begins_properties (code t p) ≡ false → InlineLost t e n p None → Keyless t e n p
 keyless_bare b (content_lost k a r) = node_unfit (content_node a b r) key_missed
 keyless_bare b (alias_lost q r) = node_unfit r key_missed
-keyless_bare b (alias_behind k q a) = absurd (no_nothing (sym q))
+keyless_bare b (alias_after k q a) = absurd (no_nothing (sym q))
 
 -- a node whose `:` stands where white space after it ends
 module _ {t : List ℕ} {p : ℕ} (f : Found) {k : ℕ} {w : List ℕ} (m : Many t is_white f.end k w) where

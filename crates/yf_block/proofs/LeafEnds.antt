@@ -1,4 +1,4 @@
--- The end of the line behind a leaf: the leaf is read whole, or all breaks; and the last place at which all may end, as it is noted.
+-- The end of the line after a leaf: the leaf is read whole, or all breaks; and the last place at which all may end, as it is noted.
 use Rattle.std.proofs.Common.{◌≡◌, ℕ, ℤ, pos, ◌+ℤ◌, true, false, List, [], ◌++◌, Option, Some, None, refl, sym, ap, ◌∙◌, subst, arith, append_assoc, append-nil}
 use Rattle.std.specs.Str.{IsUtf8}
 use Rattle.yf_chars.specs.declared.context.Ctx.TheVariants.{FlowOut}
@@ -82,7 +82,7 @@ module _ {t : List ℕ} (u : IsUtf8 t) {e : ℕ} {ws : List ℕ} {n : ℤ} {a : 
     noted = refl;
   }
 
-  -- all may end behind the whole leaf
+  -- all may end after the whole leaf
   pub leaf_to : {j : ℕ} {ds : List CommentValue} {plain : Option ℕ} (old : Option ℕ) → PlainIs t p f.end plain → Chosen (MayEnd t ws f.end) j ds → HaltNoted t e ws (Leaf n a p) old (Some j)
   leaf_to old (plain_known b q) d = plain_to old b (whole_plain u (plain_was_read b r refl).chosen d)
   leaf_to old (other_known b q) d = other_to old b d
@@ -107,7 +107,7 @@ unfolding made_or
 noted_round ls cs h None e q = q ∙ e
 noted_round ls cs h (Some f) e q = q ∙ ap (λ (k : ℕ). Some k) (sym (rounds_end ls (as_behind cs f)))
 
--- what is read with the comments behind it
+-- what is read with the comments after it
 noted_events : (x : Meaning) (z : Ahead) (ds : List CommentValue) → (headed z (noting x ds)).events ≡ (headed z x).events
 unfolding headed noting behind with_props
 noted_events x Nothing ds = refl
@@ -142,7 +142,7 @@ pub behind_finish : (cs : List CommentValue) (x : Meaning) → (behind cs x).fin
 unfolding behind
 behind_finish cs x = refl
 
--- the comments of a leaf behind it
+-- the comments of a leaf after it
 told_comments : (o : Option ℕ) (cs : List CommentValue) (z : Ahead) (x : Meaning) (ds : List CommentValue) → (begins o (behind cs (headed z x))).comments ++ ds ≡ (begins o (behind cs (headed z (noting x ds)))).comments
 told_comments o cs z x ds =
     ap (λ y. y ++ ds) (begun_comments o (behind cs (headed z x)) ∙ behind_comments cs (headed z x) ∙ ap (λ y. cs ++ y) (headed_comments x z))

@@ -2,7 +2,7 @@
 
 -- what all functions rest on: ends and looks ahead
 pub mod Forward
-pub mod HeldLemmas
+pub mod PropertiesLemmas
 pub mod InlineLemmas
 pub mod KeyEndLemmas
 pub mod KeyNodes
@@ -10,7 +10,7 @@ pub mod LookLemmas
 pub mod EntryLineLemmas
 pub mod AwaitingLemmas
 pub mod FitLemmas
-pub mod ClaimLemmas
+pub mod BelongingLemmas
 pub mod LastStartLemmas
 pub mod NotedLemmas
 pub mod PrefixLemmas

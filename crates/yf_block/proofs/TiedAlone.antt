@@ -28,20 +28,20 @@ use Rattle.yf_grammar.proofs.BlockResume.{root_was_read, root_halts}
 use Rattle.yf_flow.specs.Begun.{is_lined, leaf_event, entry_event}
 use Rattle.yf_block.specs.declared.frame.Frame.{Frame}
 use Rattle.yf_block.specs.declared.frame.Progress.{Progress}
-use Rattle.yf_block.specs.declared.held.Held.{Held}
-use Rattle.yf_block.specs.HeldAnswers.{held_lead}
+use Rattle.yf_block.specs.declared.properties.PlacedProperties.{PlacedProperties}
+use Rattle.yf_block.specs.PropertiesAnswers.{held_lead}
 use Rattle.yf_block.specs.LineStepTied.{halt_with, AtAlone, AtEmpty}
 use Rattle.yf_block.specs.Looks.{NotWithinBreak}
 use Rattle.yf_block.specs.NotedHalts.{ColonsCounted, IsOutermost, EmptyNoted, empty_noted, empty_before, empty_nowhere}
 use Rattle.yf_block.specs.BlockTied.{floor_after, begins, ahead_comments, all_written, ReadTied, FramesTied, no_frames, frame_tied, halt_end, EntryTied}
-use Rattle.yf_block.specs.BlockStepTied.{HeldTied, AheadTied, nothing_held, none_held, props_held, AtLine, AtResume, line_left, AtFailed}
+use Rattle.yf_block.specs.BlockStepTied.{PropertiesTied, AheadTied, nothing_held, none_held, props_held, AtLine, AtResume, line_left, AtFailed}
 use Rattle.yf_block.proofs.LineHalts.{outside_end, chosen_still, colons_counted, rounds_end, may_end_at, may_end_before, may_end_nowhere}
 use Rattle.yf_block.proofs.TiedFailed.{broken_fails}
 use Rattle.yf_block.proofs.TiedLeads.{first_noted, first_floor, begins_events, begins_comments, begins_escapes}
 use Rattle.yf_block.proofs.TiedReads.{read_events, read_moved}
 
 -- what stands ahead, and the reader's properties for it
-pub no_outer : {a : Ahead} {o : Option Held} → AheadTied a o → a ≡ Nothing → o ≡ None
+pub no_outer : {a : Ahead} {o : Option PlacedProperties} → AheadTied a o → a ≡ Nothing → o ≡ None
 no_outer nothing_held e = refl
 no_outer none_held e = refl
 no_outer (props_held h) e = absurd (cc)
@@ -54,7 +54,7 @@ pub no_layers_there : {n : ℕ} {fs : List Frame} {ls : List Layer} → FramesTi
 no_layers_there no_frames e = refl
 no_layers_there (frame_tied f r) e = absurd (cc)
 
-outer_unheld : {a : Ahead} {o : Option Held} → AheadTied a o → o ≡ None → ((i : ℕ) → a ≡ Indicator i → ⊥) → a ≡ Nothing
+outer_unheld : {a : Ahead} {o : Option PlacedProperties} → AheadTied a o → o ≡ None → ((i : ℕ) → a ≡ Indicator i → ⊥) → a ≡ Nothing
 outer_unheld nothing_held e n = refl
 outer_unheld (none_held {i = i}) e n = absurd (n i refl)
 outer_unheld (props_held h) e n = absurd (cc)
@@ -186,7 +186,7 @@ module _ {t : List ℕ} {before : Part} (w : Meaning) {cs : List CommentValue} {
       (ap (λ v. w.escapes ++ v) (sym (begins_escapes o m ∙ s)))
 
 -- the event of a node that has its properties alone
-held_event : {h : HeldValue} {held : Held} (entry : Option TheEntry.Entry) → HeldTied h held → leaf_event (held_lead held entry) Plain [] held.end
+held_event : {h : HeldValue} {held : PlacedProperties} (entry : Option TheEntry.Entry) → PropertiesTied h held → leaf_event (held_lead held entry) Plain [] held.end
     ≡ record { event = scalar_node h.value.props Plain []; span = Some (record { start = h.start; end = h.end }); tag_offset = h.value.tag_offset; entry = entry; folded = [] }
 held_event {h} {held} entry v =
     ap (λ z. record { event = scalar_node z Plain []; span = Some (record { start = held.start; end = held.end }); tag_offset = held.tag_offset; entry = entry; folded = [] }) v.props
@@ -264,7 +264,7 @@ module _ {t : List ℕ} {d : ℕ} {root : BlockTask} {before : Part} {frames : L
       resumes f (entry_event (scalar_node no_props Plain []) None) (ap (λ (v : Progress). v.halt) n) (ap (λ (v : Progress). v.floor) n) (ap (λ (v : Progress). v.colons) n) (ap (λ (v : Progress). v.last) n ∙ a.last i e) refl refl refl
       (ap (λ v. ahead_comments v ++ a.told) (sym e)) refl x y z
 
-  pub props_resume : {h : HeldValue} {held : Held} {new : Progress} {part' : Part} → a.ahead ≡ Props h → HeldTied h held → new ≡ record old { last = held.end }
+  pub props_resume : {h : HeldValue} {held : PlacedProperties} {new : Progress} {part' : Part} → a.ahead ≡ Props h → PropertiesTied h held → new ≡ record old { last = held.end }
       → part'.events ≡ part.events ++ leaf_event (held_lead held old.wanted.entry) Plain [] held.end ∷ [] → part'.comments ≡ part.comments → part'.escapes ≡ part.escapes → AtResume t d root before frames p new part'
   unfolding alone found noting headed behind with_props empty_node plain_event from_to
   props_resume {h} {held} {new} {part'} e v n x y z =
@@ -286,23 +286,23 @@ pub some_there : (xs : List Frame) → reverse xs ≡ [] → length xs ≡ 0
 some_there xs q = sym (length-reverse xs) ∙ ap (λ z. length z) q
 
 -- the properties that stand ahead, or the indicator
-pub record HeldIs (a : Ahead) (held : Held) : Type 0 where
+pub record HeldIs (a : Ahead) (held : PlacedProperties) : Type 0 where
   pub value : HeldValue
   pub is : a ≡ Props value
-  pub tied : HeldTied value held
+  pub tied : PropertiesTied value held
 
-pub held_is : {a : Ahead} {o : Option Held} {held : Held} → AheadTied a o → o ≡ Some held → HeldIs a held
+pub held_is : {a : Ahead} {o : Option PlacedProperties} {held : PlacedProperties} → AheadTied a o → o ≡ Some held → HeldIs a held
 held_is nothing_held e = absurd (cc)
 held_is none_held e = absurd (cc)
-held_is (props_held {h = h} {held = g} t) e = record { value = h; is = refl; tied = subst (λ z. HeldTied h z) (same_held e) t } where
-  same_held : {x y : Held} → Some x ≡ Some y → x ≡ y
+held_is (props_held {h = h} {held = g} t) e = record { value = h; is = refl; tied = subst (λ z. PropertiesTied h z) (same_held e) t } where
+  same_held : {x y : PlacedProperties} → Some x ≡ Some y → x ≡ y
   same_held q = cc
 
 pub record IndicatorIs (a : Ahead) : Type 0 where
   pub at : ℕ
   pub is : a ≡ Indicator at
 
-pub indicator_is : {a : Ahead} {o : Option Held} → AheadTied a o → o ≡ None → (a ≡ Nothing → ⊥) → IndicatorIs a
+pub indicator_is : {a : Ahead} {o : Option PlacedProperties} → AheadTied a o → o ≡ None → (a ≡ Nothing → ⊥) → IndicatorIs a
 indicator_is nothing_held e n = absurd (n refl)
 indicator_is (none_held {i = i}) e n = record { at = i; is = refl }
 indicator_is (props_held h) e n = absurd (cc)
@@ -317,7 +317,7 @@ module _ {t : List ℕ} {d : ℕ} {root : BlockTask} {before : Part} {frames : L
       let i = indicator_is e.at.wanted.outer o (λ q. f (no_frames_there e.at.stack.frames_tied (e.at.wanted.nested q))) in
       indicator_resumes e.at e.none i.is refl x y z
 
-  pub held_resumes : {held : Held} {new : Progress} {part' : Part} → old.wanted.outer ≡ Some held → new ≡ record old { last = held.end }
+  pub held_resumes : {held : PlacedProperties} {new : Progress} {part' : Part} → old.wanted.outer ≡ Some held → new ≡ record old { last = held.end }
       → part'.events ≡ part.events ++ leaf_event (held_lead held old.wanted.entry) Plain [] held.end ∷ [] → part'.comments ≡ part.comments → part'.escapes ≡ part.escapes
       → AtResume t d root before frames p new part'
   held_resumes o n x y z = let h = held_is e.at.wanted.outer o in props_resume e.at e.none h.is h.tied n x y z

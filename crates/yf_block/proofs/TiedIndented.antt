@@ -30,7 +30,7 @@ use Rattle.yf_grammar.proofs.BlockNodeSteps.{node_on_line}
 use Rattle.yf_grammar.proofs.ParserLemmas.{Same}
 use Rattle.yf_block.specs.declared.frame.Frame.{Frame}
 use Rattle.yf_block.specs.declared.frame.Progress.{Progress}
-use Rattle.yf_block.specs.declared.held.Held.{Held}
+use Rattle.yf_block.specs.declared.properties.PlacedProperties.{PlacedProperties}
 use Rattle.yf_block.specs.BlockTied.{ahead_comments, all_written}
 use Rattle.yf_block.specs.BlockStepTied.{AheadTied, nothing_held, none_held, props_held}
 use Rattle.yf_block.specs.InlineTied.{AtStart, ColumnTied}
@@ -39,7 +39,7 @@ use Rattle.yf_block.proofs.LineHalts.{chosen_still}
 use Rattle.yf_block.proofs.TiedReads.{read_as}
 
 -- comments before the node are those of its properties, if it has any
-past_tied : {a : Ahead} {o : Option Held} (es : List CommentValue) → AheadTied a o → AheadTied (past a es) o
+past_tied : {a : Ahead} {o : Option PlacedProperties} (es : List CommentValue) → AheadTied a o → AheadTied (past a es) o
 unfolding past with_comments
 past_tied es nothing_held = nothing_held
 past_tied es none_held = none_held

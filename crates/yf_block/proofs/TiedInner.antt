@@ -82,7 +82,7 @@ module _ {t : List ℕ} {d : ℕ} {root : BlockTask} {before : Part} {frames : L
     no_end (by_break b) = ⊎_elim (λ c. n (return_stands c)) (λ c. n (feed_stands c)) (break_char b)
     no_end (by_end c) = n (text_stops c)
 
-  -- a comment that no break ends stands behind white space
+  -- a comment that no break ends stands after white space
   comment_inside : p < place → code t place ≡ 35 → Stuck (LineEnd t p) → AtFailed t d root progress
   comment_inside l h s = go (cases_Bool progress.wanted.compact) where
     with_columns : {cols : Columns} → Compact t progress.wanted.compact a.indentation p place cols → AtFailed t d root progress
@@ -164,7 +164,7 @@ module _ {t : List ℕ} {d : ℕ} {root : BlockTask} {before : Part} {frames : L
         read = a.read;
       }
 
--- what ends a line ends it behind white space too
+-- what ends a line ends it after white space too
 pub ends_anyway : {t : List ℕ} {b : Bool} {p : ℕ} → LineEndsAt t false p → LineEndsAt t b p
 ends_anyway (text_stops e) = text_stops e
 ends_anyway (feed_stands e) = feed_stands e
@@ -174,5 +174,5 @@ ends_anyway (hash_stands c e) = absurd (true≢false (sym c))
 pub later_than : {a b : ℕ} → a ≤ b → (b ≡ a → ⊥) → a < b
 later_than {a} {b} l n = ⊎_elim (λ (m : a < b). m) (λ (m : b ≤ a). absurd (n (omega (arith, l, m)))) (cases_lt a b)
 
-pub no_end_behind : {t : List ℕ} {b : Bool} {p : ℕ} → (LineEndsAt t b p → ⊥) → b ≡ true → LineEndsAt t true p → ⊥
-no_end_behind {t} {b} {p} n e y = n (subst (λ z. LineEndsAt t z p) (sym e) y)
+pub no_end_after : {t : List ℕ} {b : Bool} {p : ℕ} → (LineEndsAt t b p → ⊥) → b ≡ true → LineEndsAt t true p → ⊥
+no_end_after {t} {b} {p} n e y = n (subst (λ z. LineEndsAt t z p) (sym e) y)

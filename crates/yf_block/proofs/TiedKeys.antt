@@ -34,13 +34,13 @@ use Rattle.yf_block.specs.declared.entry.KeyText.TheVariants.{At, Nowhere}
 use Rattle.yf_block.specs.declared.frame.Frame.{Frame}
 use Rattle.yf_block.specs.declared.frame.Kind.TheVariants.{Mapping}
 use Rattle.yf_block.specs.declared.frame.Progress.{Progress}
-use Rattle.yf_block.specs.declared.held.Held.{Held}
-use Rattle.yf_block.specs.HeldAnswers.{LineProperties, NoPlaceBehind, lead_at}
+use Rattle.yf_block.specs.declared.properties.PlacedProperties.{PlacedProperties}
+use Rattle.yf_block.specs.PropertiesAnswers.{LineProperties, NoPlaceAfter, lead_at}
 use Rattle.yf_block.specs.InlineAnswers.{InlineRead, InlineLost, KeyEnds}
-use Rattle.yf_block.specs.KeyTexts.{KeyTextAt, text_bare, text_behind, text_nowhere, text_ended}
+use Rattle.yf_block.specs.KeyTexts.{KeyTextAt, text_bare, text_after, text_nowhere, text_ended}
 use Rattle.yf_block.specs.BlockTied.{entries_written, EntryTied, no_entry, entry_begins, wanted_after}
 use Rattle.yf_block.specs.BlockStepTied.{AtNode, AtEntry, AtFailed}
-use Rattle.yf_block.proofs.KeyNodes.{keyless_line, keyless_nowhere, keyless_behind, keyless_bare, key_before, keyless_unended}
+use Rattle.yf_block.proofs.KeyNodes.{keyless_line, keyless_nowhere, keyless_after, keyless_bare, key_before, keyless_unended}
 use Rattle.yf_block.proofs.TiedFailed.{broken_fails}
 use Rattle.yf_block.proofs.TiedFits.{is_mapping_of}
 use Rattle.yf_block.proofs.TiedLeads.{no_held, no_none, same_held, NodeThere, bare_there, held_there, node_added}
@@ -49,14 +49,14 @@ use Rattle.yf_block.proofs.TiedOpenings.{frames_count}
 use Rattle.yf_block.proofs.TiedReads.{read_moved, count_read}
 
 -- of what may have been read
-abbrev pub PropertiesMay : List ℕ → ℕ → Option Held → Type 0
+abbrev pub PropertiesMay : List ℕ → ℕ → Option PlacedProperties → Type 0
 PropertiesMay t p o = MatchOption o (Stuck (Properties t (pos 0) FlowKey p)) (LineProperties t p)
 
-pub none_of : (t : List ℕ) (p : ℕ) (o : Option Held) → PropertiesMay t p o → o ≡ None → Stuck (Properties t (pos 0) FlowKey p)
+pub none_of : (t : List ℕ) (p : ℕ) (o : Option PlacedProperties) → PropertiesMay t p o → o ≡ None → Stuck (Properties t (pos 0) FlowKey p)
 none_of t p None m q = m
 none_of t p (Some h) m q = absurd (no_none q)
 
-pub some_of : (t : List ℕ) (p : ℕ) (o : Option Held) → PropertiesMay t p o → (h : Held) → o ≡ Some h → LineProperties t p h
+pub some_of : (t : List ℕ) (p : ℕ) (o : Option PlacedProperties) → PropertiesMay t p o → (h : PlacedProperties) → o ≡ Some h → LineProperties t p h
 some_of t p None m h q = absurd (no_held q)
 some_of t p (Some g) m h q = subst (λ z. LineProperties t p z) (same_held q) m
 
@@ -151,23 +151,23 @@ module _ {t : List ℕ} {d : ℕ} {root : BlockTask} {before old : Part} {frames
         (read_moved here o)
 
   -- what was read of it
-  pub key_there : {depth at : ℕ} {entry_of : Option TheEntry.Entry} {inner : Option Held} {mid : Part} {node : Node} → KeyTextAt t p inner (At at) → (inner ≡ None → Stuck (Properties t (pos 0) FlowKey p))
-      → ((h : Held) → inner ≡ Some h → LineProperties t p h) → InlineRead t a.room (pos least) at depth inner (lead_at p inner entry_of) old mid node
+  pub key_there : {depth at : ℕ} {entry_of : Option TheEntry.Entry} {inner : Option PlacedProperties} {mid : Part} {node : Node} → KeyTextAt t p inner (At at) → (inner ≡ None → Stuck (Properties t (pos 0) FlowKey p))
+      → ((h : PlacedProperties) → inner ≡ Some h → LineProperties t p h) → InlineRead t a.room (pos least) at depth inner (lead_at p inner entry_of) old mid node
       → NodeThere t a.room (pos least) p depth entry_of old mid node
   key_there text_bare s l r = bare_there r
-  key_there (text_behind {held = h} s' b) s l r = held_there a.read.text.utf8 (l h refl) s' b r
+  key_there (text_after {held = h} s' b) s l r = held_there a.read.text.utf8 (l h refl) s' b r
 
-  pub key_lost : {at : ℕ} {inner : Option Held} → KeyTextAt t p inner (At at) → (inner ≡ None → Stuck (Properties t (pos 0) FlowKey p)) → ((h : Held) → inner ≡ Some h → LineProperties t p h)
+  pub key_lost : {at : ℕ} {inner : Option PlacedProperties} → KeyTextAt t p inner (At at) → (inner ≡ None → Stuck (Properties t (pos 0) FlowKey p)) → ((h : PlacedProperties) → inner ≡ Some h → LineProperties t p h)
       → InlineLost t a.room (pos least) at inner → AtFailed t d root progress
   key_lost text_bare s l r = key_breaks (keyless_plain (s refl) r)
-  key_lost (text_behind {held = h} s' b) s l r = key_breaks (keyless_behind a.read.text.utf8 (l h refl) s' b r)
+  key_lost (text_after {held = h} s' b) s l r = key_breaks (keyless_after a.read.text.utf8 (l h refl) s' b r)
 
-  pub key_nowhere : {q : ℕ} {inner : Option Held} → KeyTextAt t p inner (Nowhere q) → ((h : Held) → inner ≡ Some h → LineProperties t p h) → AtFailed t d root progress
+  pub key_nowhere : {q : ℕ} {inner : Option PlacedProperties} → KeyTextAt t p inner (Nowhere q) → ((h : PlacedProperties) → inner ≡ Some h → LineProperties t p h) → AtFailed t d root progress
   key_nowhere (text_nowhere {held = h} s b) l = key_breaks (keyless_nowhere a.read.text.utf8 (l h refl) s b)
   key_nowhere (text_ended {held = h} e) l = key_breaks (keyless_line a.read.text.utf8 (l h refl) e)
 
--- where nothing may stand behind properties, whether their line ends or not
-pub nowhere_behind : {t : List ℕ} {start p : ℕ} {held : Held} {X : Type 0} (o : Option X) (end : X → ℕ) (comments : X → List CommentValue)
-    → MatchOption o (Stuck (LineEnd t held.end)) (λ s. Chosen (LineEnd t held.end) (end s) (comments s)) → NoPlaceBehind t held.end → KeyTextAt t start (Some held) (Nowhere p)
-nowhere_behind None end comments m n = text_nowhere m n
-nowhere_behind (Some s) end comments m n = text_ended m.derived
+-- where nothing may stand after properties, whether their line ends or not
+pub nowhere_after : {t : List ℕ} {start p : ℕ} {held : PlacedProperties} {X : Type 0} (o : Option X) (end : X → ℕ) (comments : X → List CommentValue)
+    → MatchOption o (Stuck (LineEnd t held.end)) (λ s. Chosen (LineEnd t held.end) (end s) (comments s)) → NoPlaceAfter t held.end → KeyTextAt t start (Some held) (Nowhere p)
+nowhere_after None end comments m n = text_nowhere m n
+nowhere_after (Some s) end comments m n = text_ended m.derived

@@ -31,8 +31,8 @@ use Rattle.yf_flow.proofs.EntriesFrom.{EntriesFrom, one_from}
 use Rattle.yf_flow.proofs.NotedFloor.{noting_later}
 use Rattle.yf_flow.proofs.NotedLemmas.{floor_same}
 use Rattle.yf_block.specs.declared.frame.Progress.{Progress}
-use Rattle.yf_block.specs.declared.held.Held.{Held}
-use Rattle.yf_block.specs.HeldAnswers.{held_lead, LineProperties, PlaceBehind}
+use Rattle.yf_block.specs.declared.properties.PlacedProperties.{PlacedProperties}
+use Rattle.yf_block.specs.PropertiesAnswers.{held_lead, LineProperties, PlaceAfter}
 use Rattle.yf_block.specs.InlineAnswers.{InlineRead, content_read, alias_read, empty_key_read}
 use Rattle.yf_block.specs.BlockTied.{begins, floor_after, ReadTied, EntryTied, no_entry, entry_begins}
 use Rattle.yf_block.proofs.KeyNodes.{content_node, content_found, lone_found}
@@ -155,7 +155,7 @@ bare_written {x = x} {p} {end} {entry} w =
     written_as w x (w.events ∙ ap (λ z. record { event = z; span = Some (record { start = p; end = end }); tag_offset = None; entry = None; folded = [] } ∷ w.others) (sym w.no_properties)) refl refl
 
 -- one with the properties of its line
-held_events : (q : PropertiesValue) (p g end : ℕ) (held : Held) (entry : Option TheEntry.Entry) (event : EventValue) (others : List Placed) (span : Option Span) → span_since p g span ≡ from_to p end
+held_events : (q : PropertiesValue) (p g end : ℕ) (held : PlacedProperties) (entry : Option TheEntry.Entry) (event : EventValue) (others : List Placed) (span : Option Span) → span_since p g span ≡ from_to p end
     → held.start ≡ p → held.tag_offset ≡ q.tag_offset → props_value held.props ≡ q.props
     → first_with q.props q.tag_offset p g (plain_event event span ∷ others) ≡ known_event (held_lead held entry) event end ∷ others
 unfolding plain_event from_to
@@ -165,10 +165,10 @@ held_events q p g end held entry event others span s a b c =
     ∙ ap (λ z. record { event = event_with q.props event; span = Some (record { start = held.start; end = end }); tag_offset = z; entry = None; folded = [] } ∷ others) (sym b)
     ∙ ap (λ z. record { event = event_with z event; span = Some (record { start = held.start; end = end }); tag_offset = held.tag_offset; entry = None; folded = [] } ∷ others) (sym c)
 
-none_told : {t : List ℕ} {p : ℕ} {held : Held} (l : LineProperties t p held) → l.value.comments ++ [] ≡ []
+none_told : {t : List ℕ} {p : ℕ} {held : PlacedProperties} (l : LineProperties t p held) → l.value.comments ++ [] ≡ []
 none_told l = append-nil l.value.comments ∙ l.no_comments
 
-module _ {t : List ℕ} {p : ℕ} {held : Held} (l : LineProperties t p held) {entry : Option TheEntry.Entry} {old new : Part} where
+module _ {t : List ℕ} {p : ℕ} {held : PlacedProperties} (l : LineProperties t p held) {entry : Option TheEntry.Entry} {old new : Part} where
   held_written : {x : Meaning} {end : ℕ} (cs : List CommentValue) (span : Option Span) → cs ≡ [] → span_since p held.end span ≡ from_to p end → WrittenWith t (held_lead held entry) x span end old new
       → WrittenAs t entry (behind cs (with_props l.value.props l.value.tag_offset p held.end x)) old new
   unfolding behind with_props
@@ -197,13 +197,13 @@ pub record NodeThere (t : List ℕ) (e : ℕ) (n : ℤ) (p depth : ℕ) (entry :
   pub finish : answer.meaning.finish ≡ answer.end
   pub written : WrittenAs t entry answer.meaning old new
 
-pub no_held : {held : Held} → None ≡ Some held → ⊥
+pub no_held : {held : PlacedProperties} → None ≡ Some held → ⊥
 no_held e = cc
 
-pub no_none : {held : Held} → Some held ≡ None → ⊥
+pub no_none : {held : PlacedProperties} → Some held ≡ None → ⊥
 no_none e = cc
 
-pub same_held : {a b : Held} → Some a ≡ Some b → a ≡ b
+pub same_held : {a b : PlacedProperties} → Some a ≡ Some b → a ≡ b
 same_held e = cc
 
 some_none : {f : Found} → Some f ≡ None → ⊥
@@ -242,7 +242,7 @@ module _ {t : List ℕ} {e p depth : ℕ} {n : ℤ} {entry : Option TheEntry.Ent
   bare_there (alias_read {f = f} q r i w) = record { answer = f; parsed = r; end = i.end; json = i.json; deepest = i.deepest; finish = i.finish; written = bare_written w }
   bare_there (empty_key_read k j d w) = absurd (no_held k.is)
 
-  pub held_there : {held : Held} {at : ℕ} (u : IsUtf8 t) (l : LineProperties t p held) → Stuck (LineEnd t held.end) → PlaceBehind t held.end at
+  pub held_there : {held : PlacedProperties} {at : ℕ} (u : IsUtf8 t) (l : LineProperties t p held) → Stuck (LineEnd t held.end) → PlaceAfter t held.end at
       → InlineRead t e n at depth (Some held) (held_lead held entry) old new node → NodeThere t e n p depth entry old new node
   held_there {held} {at} u l s b (content_read {f = f} k a r i w) = record {
     answer = record f { meaning = behind (l.value.comments ++ []) (with_props l.value.props l.value.tag_offset p held.end f.meaning) };
@@ -255,7 +255,7 @@ module _ {t : List ℕ} {e p depth : ℕ} {n : ℤ} {entry : Option TheEntry.Ent
   }
   held_there u l s b (alias_read q r i w) = absurd (no_none q)
   held_there {held} {at} u l s b (empty_key_read k j d w) =
-      let end : node.end ≡ held.end = k.ends ∙ ap (λ (z : Held). z.end) (sym (same_held k.is)) in
+      let end : node.end ≡ held.end = k.ends ∙ ap (λ (z : PlacedProperties). z.end) (sym (same_held k.is)) in
       let m = behind l.value.comments (with_props l.value.props l.value.tag_offset p held.end (empty_node held.end)) in
       record {
         answer = record { end = held.end; height = 0; json = false; meaning = m };

@@ -22,7 +22,7 @@ use Rattle.yf_block.specs.declared.frame.Step.{Step}
 use Rattle.yf_block.specs.declared.frame.Step.TheVariants.{Node, Line, Resume, Done, Failed, TooDeep}
 use Rattle.yf_block.specs.BlockTied.{ahead_comments, all_written, ReadTied}
 use Rattle.yf_block.specs.BlockStepTied.{AtLine, BlockTied}
-use Rattle.yf_block.specs.Machine.{Stepped}
+use Rattle.yf_block.specs.Machine.{MovedSame, Stepped}
 use Rattle.yf_block.specs.LineTied.{AtBelow, AtNewLine, EndedTied}
 use Rattle.yf_block.proofs.TiedLeads.{read_added}
 use Rattle.yf_block.proofs.TiedReads.{read_as, read_moved}
@@ -162,7 +162,7 @@ module _ (t : List ℕ) (d : ℕ) (root : BlockTask) (before : Part) (frames : L
   step_ended (Failed p) e s = e
   step_ended (TooDeep p) e s = absurd e
 
-  pub ended_line : {E : Type 0} (r : Result Step E) → IfOk r (λ s. EndedTied t d root before frames at s progress part) → IfOk r (λ s. Stepped t at 2 progress s)
+  pub ended_line : {E : Type 0} (escapes : List ℕ) (r : Result Step E) → IfOk r (λ s. EndedTied t d root before frames at s progress part) → IfOk r (MovedSame t at 2 escapes progress part)
       → IfOk r (λ s. BlockTied t d root before frames s progress part)
-  ended_line (Ok s) e y = step_ended s e y
-  ended_line (Err x) e y = tt
+  ended_line x (Ok s) e y = step_ended s e y.step
+  ended_line x (Err z) e y = tt

@@ -26,8 +26,8 @@ use Rattle.yf_block.specs.declared.frame.Frame.{Frame}
 use Rattle.yf_block.specs.declared.frame.Kind.{Kind}
 use Rattle.yf_block.specs.declared.frame.Kind.TheVariants.{Sequence, Mapping}
 use Rattle.yf_block.specs.declared.frame.Progress.{Progress}
-use Rattle.yf_block.specs.declared.held.Held.{Held}
-use Rattle.yf_block.specs.HeldAnswers.{held_lead, lead_at}
+use Rattle.yf_block.specs.declared.properties.PlacedProperties.{PlacedProperties}
+use Rattle.yf_block.specs.PropertiesAnswers.{held_lead, lead_at}
 use Rattle.yf_block.specs.BlockTied.{kind_of, layers_entry, ahead_comments, ahead_props, ahead_start, ahead_tag, entry_at, begun_event, all_written, entries_written, ReadTied, FramesTied, no_frames, frame_tied, EntryTied, no_entry, entry_begins}
 use Rattle.yf_block.specs.BlockStepTied.{AheadTied, nothing_held, none_held, props_held, AtEntry, AtFailed}
 use Rattle.yf_block.specs.InlineTied.{AtStart, EntrySignAt, is_sequence, started}
@@ -56,7 +56,7 @@ begun_as_event a s at entry =
 abbrev lead_start : Lead → Kind → ℕ → Placed
 lead_start lead kind at = lead_event lead (event_with (props_value lead.props) (start_of (is_sequence kind) false)) at
 
-begun_as : {a : Ahead} {outer : Option Held} (s : Bool) (at : ℕ) (entry : Option TheEntry.Entry) → AheadTied a outer → lead_start (lead_at at outer entry) (kind_of s) at ≡ begun_as_event a s at entry
+begun_as : {a : Ahead} {outer : Option PlacedProperties} (s : Bool) (at : ℕ) (entry : Option TheEntry.Entry) → AheadTied a outer → lead_start (lead_at at outer entry) (kind_of s) at ≡ begun_as_event a s at entry
 begun_as s at entry nothing_held = ap (λ b. begun_as_event Nothing b at entry) (kind_back s)
 begun_as s at entry (none_held {i = i}) = ap (λ b. begun_as_event (Indicator i) b at entry) (kind_back s)
 begun_as s at entry (props_held {h = h} {held = held} t) =

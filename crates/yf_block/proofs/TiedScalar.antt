@@ -162,7 +162,7 @@ scalar_lists w o cs z i e h b = record {
   escapes = sym (append-nil w.escapes) ∙ ap (λ y. w.escapes ++ y) (sym (begun_escapes o (behind cs (headed z (noting (scalar_as i e h b) []))) ∙ headed_escapes (noting (scalar_as i e h b) []) z ∙ noting_escapes (scalar_as i e h b) []));
 }
 
--- all may end behind it
+-- all may end after it
 part_chosen : {t : List ℕ} {n : ℤ} {i k : ℕ} {ws : List ℕ} {x : Meaning} → Chosen (BlockScalar t n i) k x → Allowed t k ws → Chosen (ScalarPart t n ws i) k x
 part_chosen d a = record { derived = record { scalar = d.derived; allowed = a }; longest = λ j x m. d.longest j x m.scalar; only = λ x m. d.only x m.scalar }
 

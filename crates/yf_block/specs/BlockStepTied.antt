@@ -20,24 +20,24 @@ use Rattle.yf_block.specs.declared.frame.Progress.{Progress}
 use Rattle.yf_block.specs.declared.frame.Step.{Step}
 use Rattle.yf_block.specs.declared.frame.Step.TheVariants.{Node, Line, Resume, Done, Failed, TooDeep}
 use Rattle.yf_block.specs.declared.frame.Wanted.{Wanted}
-use Rattle.yf_block.specs.declared.held.Held.{Held}
+use Rattle.yf_block.specs.declared.properties.PlacedProperties.{PlacedProperties}
 use Rattle.yf_block.specs.declared.resume.Next.{Next}
-use Rattle.yf_block.specs.declared.resume.Fit.TheVariants.{Behind}
+use Rattle.yf_block.specs.declared.resume.Fit.TheVariants.{EndsBefore}
 use Rattle.yf_block.specs.Fits.{FitsLine}
 use Rattle.yf_block.specs.Looks.{NotWithinBreak}
 use Rattle.yf_block.specs.BlockTied.{stage_entry, layers_entry, begins, ahead_comments, all_written, entries_written, ReadTied, CollectionTied, FrameTied, StackTied, halt_end, EntryTied}
 
 -- properties on hold, and what stands ahead of the node that is awaited
-pub record HeldTied (h : HeldValue) (held : Held) : Type 0 where
+pub record PropertiesTied (h : HeldValue) (held : PlacedProperties) : Type 0 where
   pub start : held.start ≡ h.start
   pub end : held.end ≡ h.end
   pub tag : held.tag_offset ≡ h.value.tag_offset
   pub props : props_value held.props ≡ h.value.props
 
-pub data AheadTied : Ahead → Option Held → Type 0 where
+pub data AheadTied : Ahead → Option PlacedProperties → Type 0 where
   nothing_held : AheadTied Nothing None
   none_held : {i : ℕ} → AheadTied (Indicator i) None
-  props_held : {h : HeldValue} {held : Held} → HeldTied h held → AheadTied (Props h) (Some held)
+  props_held : {h : HeldValue} {held : PlacedProperties} → PropertiesTied h held → AheadTied (Props h) (Some held)
 
 abbrev pub is_out : Ctx → Bool
 is_out BlockOut = true
@@ -127,7 +127,7 @@ pub record AtTop (t : List ℕ) (d : ℕ) (root : BlockTask) (before : Part) (fr
 pub record AtFit (t : List ℕ) (d : ℕ) (root : BlockTask) (before : Part) (frames : List Frame) (p : ℕ) (next : Next) (progress : Progress) (part : Part) : Type 0 where
   pub top : AtTop t d root before frames p next.frame progress part
   pub line : FitsLine t p next.frame next.fit
-  pub goes_on : next.fit ≡ Behind → ⊥
+  pub goes_on : next.fit ≡ EndsBefore → ⊥
 
 -- an entry of a collection begins there, whose frame is not on the stack; the first one of a mapping with a `?` or a `:`
 pub record AtEntry (t : List ℕ) (d : ℕ) (root : BlockTask) (before : Part) (frames : List Frame) (frame : Frame) (p : ℕ) (progress : Progress) (part : Part) : Type 0 where

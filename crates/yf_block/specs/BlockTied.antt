@@ -83,16 +83,16 @@ begun_event l entry = record {
 }
 
 -- what has been written up to the entries of a collection before the present one, after what was written before the collection
-abbrev pub entries_behind : Meaning → Layer → List Layer → Meaning
-entries_behind w l ls = noting w (l.comments ++ ahead_comments l.ahead) ⊕ one (begun_event l (entry_at (layers_entry ls))) ⊕ l.known
+abbrev pub entries_after : Meaning → Layer → List Layer → Meaning
+entries_after w l ls = noting w (l.comments ++ ahead_comments l.ahead) ⊕ one (begun_event l (entry_at (layers_entry ls))) ⊕ l.known
 
 -- what has been written before the node that is awaited in the innermost collection, from the outermost node on
 abbrev pub all_written : List Layer → Meaning
 all_written [] = only [] 0
-all_written (l ∷ ls) = entries_behind (all_written ls) l ls ⊕ stage_written l.stage
+all_written (l ∷ ls) = entries_after (all_written ls) l ls ⊕ stage_written l.stage
 
 abbrev pub entries_written : Layer → List Layer → Meaning
-entries_written l ls = entries_behind (all_written ls) l ls
+entries_written l ls = entries_after (all_written ls) l ls
 
 -- a part has so much more than one before, with the notes of its entries filled in
 pub record Written (t : List ℕ) (before : Part) (x : Meaning) (part : Part) : Type 0 where

@@ -1,4 +1,4 @@
--- A node on its line where no collection begins with a sign: before its properties, behind them, and once a flow node has been read.
+-- A node on its line where no collection begins with a sign: before its properties, after them, and once a flow node has been read.
 use Rattle.std.specs.Prelude.{◌≡◌, ℕ, ◌<◌, ◌≤◌, ℤ, pos, ◌+ℤ◌, Bool, true, false, List, [], ◌∷◌, ◌++◌, length, Option, Some, None, ◌⊎◌}
 use Rattle.yf_chars.specs.declared.context.Ctx.TheVariants.{FlowOut, FlowKey}
 use Rattle.yf_chars.specs.Text.{code}
@@ -19,18 +19,18 @@ use Rattle.yf_grammar.specs.Meaning.{◌⊕◌, behind}
 use Rattle.yf_grammar.specs.Parser.{Found, ANode, Parses, begins_plain}
 use Rattle.yf_flow.specs.declared.frame.Node.{Node}
 use Rattle.yf_flow.specs.declared.node.Lead.{Lead}
-use Rattle.yf_block.specs.declared.content.Behind.{Behind}
-use Rattle.yf_block.specs.declared.content.Claim.{Claim}
-use Rattle.yf_block.specs.declared.content.Share.TheVariants.{Joined}
+use Rattle.yf_block.specs.declared.content.AfterProperties.{AfterProperties}
+use Rattle.yf_block.specs.declared.content.NodeFacts.{NodeFacts}
+use Rattle.yf_block.specs.declared.content.Belonging.TheVariants.{Joined}
 use Rattle.yf_block.specs.declared.frame.Frame.{Frame}
 use Rattle.yf_block.specs.declared.frame.Progress.{Progress}
 use Rattle.yf_block.specs.declared.frame.Wanted.{Wanted}
 use Rattle.yf_block.specs.declared.halt.Counts.{Counts}
-use Rattle.yf_block.specs.declared.held.Held.{Held}
+use Rattle.yf_block.specs.declared.properties.PlacedProperties.{PlacedProperties}
 use Rattle.yf_block.specs.BlockTied.{layers_entry, begins, ahead_props, ahead_tag, ahead_start, all_written, ReadTied, StackTied}
 use Rattle.yf_block.specs.BlockStepTied.{AtFailed}
-use Rattle.yf_block.specs.ClaimsTied.{ShareTied}
-use Rattle.yf_block.specs.HeldAnswers.{LineProperties, PlaceBehind, lead_at}
+use Rattle.yf_block.specs.BelongingTied.{BelongingTied}
+use Rattle.yf_block.specs.PropertiesAnswers.{LineProperties, PlaceAfter, lead_at}
 use Rattle.yf_block.specs.InlineAnswers.{InlineRead, InlineLost, KeyEnds}
 use Rattle.yf_block.specs.InlineTied.{AtStart}
 use Rattle.yf_block.specs.LastStarts.{NoStart}
@@ -43,22 +43,22 @@ pub record AtContent (t : List ℕ) (d : ℕ) (root : BlockTask) (before : Part)
   pub column_is : cols.mapping ≡ column
   pub signless : NoSign t cols p
 
--- properties on the line, or none, and where the text of the node stands behind them
-pub data TextBehind (t : List ℕ) (p : ℕ) : Option Held → ℕ → Type 0 where
-  text_alone : Stuck (Properties t (pos 0) FlowKey p) → TextBehind t p None p
-  text_held : {held : Held} {at : ℕ} → LineProperties t p held → Stuck (LineEnd t held.end) → PlaceBehind t held.end at → TextBehind t p (Some held) at
+-- properties on the line, or none, and where the text of the node stands after them
+pub data TextAfter (t : List ℕ) (p : ℕ) : Option PlacedProperties → ℕ → Type 0 where
+  text_alone : Stuck (Properties t (pos 0) FlowKey p) → TextAfter t p None p
+  text_held : {held : PlacedProperties} {at : ℕ} → LineProperties t p held → Stuck (LineEnd t held.end) → PlaceAfter t held.end at → TextAfter t p (Some held) at
 
--- behind white space the line ends, or a comment stands there
-pub record EndsBehind (t : List ℕ) (g place : ℕ) : Type 0 where
+-- after white space the line ends, or a comment stands there
+pub record EndsAfter (t : List ℕ) (g place : ℕ) : Type 0 where
   pub whites : List ℕ
   pub run : Many t is_white g place whites
   pub no_white : is_white (code t place) ≡ false
   pub comment : Bool
   pub ends : LineEndsAt t comment place
 
-pub record AtBehind (t : List ℕ) (d : ℕ) (root : BlockTask) (before : Part) (frames : List Frame) (b : Behind) (progress : Progress) (part : Part) : Type 0 where
-  pub content : AtContent t d root before frames b.spot.at b.spot.column progress part
-  pub text : TextBehind t b.spot.at b.inner b.at
+pub record AtAfterProperties (t : List ℕ) (d : ℕ) (root : BlockTask) (before : Part) (frames : List Frame) (b : AfterProperties) (progress : Progress) (part : Part) : Type 0 where
+  pub content : AtContent t d root before frames b.node_start.at b.node_start.column progress part
+  pub text : TextAfter t b.node_start.at b.inner b.at
 
 -- so much a part has
 pub record CountsOf (part : Part) (counts : Counts) : Type 0 where
@@ -70,23 +70,23 @@ pub record CountsOf (part : Part) (counts : Counts) : Type 0 where
 abbrev pub ScalarSignAt : List ℕ → ℕ → Type 0
 ScalarSignAt t p = (code t p ≡ 124) ⊎ (code t p ≡ 62)
 
--- a flow node, or an empty key, was read behind the properties, with what was known of it, after what the earlier part had
-pub record AtInline (t : List ℕ) (d : ℕ) (root : BlockTask) (before : Part) (frames : List Frame) (depth : ℕ) (b : Behind) (claim : Claim) (node : Node) (progress : Progress) (earlier now : Part) : Type 0 where
-  pub there : AtBehind t d root before frames b progress earlier
-  pub share : ShareTied t b.spot.at b.at there.content.start.ahead b.inner progress.wanted.entry claim.lead claim.share
-  pub counts : CountsOf earlier claim.before
+-- a flow node, or an empty key, was read after the properties, with what was known of it, after what the earlier part had
+pub record AtInline (t : List ℕ) (d : ℕ) (root : BlockTask) (before : Part) (frames : List Frame) (depth : ℕ) (b : AfterProperties) (facts : NodeFacts) (node : Node) (progress : Progress) (earlier now : Part) : Type 0 where
+  pub there : AtAfterProperties t d root before frames b progress earlier
+  pub belonging : BelongingTied t b.node_start.at b.at there.content.start.ahead b.inner progress.wanted.entry facts.lead facts.belonging
+  pub counts : CountsOf earlier facts.before
   pub depth_is : depth ≡ length frames
-  pub read : InlineRead t there.content.start.room (pos progress.wanted.least) b.at depth b.inner claim.lead earlier now node
+  pub read : InlineRead t there.content.start.room (pos progress.wanted.least) b.at depth b.inner facts.lead earlier now node
   pub no_scalar : ScalarSignAt t b.at → ⊥
 
 -- it is the first key of a mapping at that column, with its `:` at the other place, and its collections may be open
-pub record AtFirstKey (t : List ℕ) (d : ℕ) (root : BlockTask) (before : Part) (frames : List Frame) (depth : ℕ) (b : Behind) (claim : Claim) (column colon : ℕ) (progress : Progress) (earlier now : Part) : Type 0 where
+pub record AtFirstKey (t : List ℕ) (d : ℕ) (root : BlockTask) (before : Part) (frames : List Frame) (depth : ℕ) (b : AfterProperties) (facts : NodeFacts) (column colon : ℕ) (progress : Progress) (earlier now : Part) : Type 0 where
   pub node : Node
-  pub inline : AtInline t d root before frames depth b claim node progress earlier now
-  pub column_is : b.spot.column ≡ Some column
+  pub inline : AtInline t d root before frames depth b facts node progress earlier now
+  pub column_is : b.node_start.column ≡ Some column
   pub whites : List ℕ
   pub run : Many t is_white node.end colon whites
-  pub ends : KeyEnds t b.spot.at colon
+  pub ends : KeyEnds t b.node_start.at colon
   pub within : node.deepest < d
   pub open_there : depth < d
 
@@ -101,7 +101,7 @@ pub data PlainIs (t : List ℕ) (place end : ℕ) (plain : Option ℕ) : Type 0 
   plain_known : begins_plain (code t place) ≡ true → plain ≡ Some place → PlainIs t place end plain
   other_known : begins_plain (code t place) ≡ false → ((q : ℕ) → plain ≡ Some q → NoStart t q end) → PlainIs t place end plain
 
--- a flow node without properties of its own was read, which ends at the offset and may be what is awaited if the line ends behind it
+-- a flow node without properties of its own was read, which ends at the offset and may be what is awaited if the line ends after it
 pub record AtLeaf (t : List ℕ) (d : ℕ) (root : BlockTask) (before : Part) (frames : List Frame) (plain : Option ℕ) (p : ℕ) (progress : Progress) (part : Part) : Type 0 where
   pub layers : List Layer
   pub room : ℕ
@@ -122,27 +122,27 @@ pub record AtLeaf (t : List ℕ) (d : ℕ) (root : BlockTask) (before : Part) (f
   pub stack : StackTied (length before.events) layers frames progress halt
   pub read : ReadTied t before (all_written layers ⊕ begins (layers_entry layers) (behind comments (headed ahead answer.meaning))) progress part
 
--- a leaf, or an empty key that is none, behind which the line goes on
+-- a leaf, or an empty key that is none, after which the line goes on
 pub data LeafEnding (t : List ℕ) (d : ℕ) (root : BlockTask) (before : Part) (frames : List Frame) (plain : Option ℕ) (p : ℕ) (progress : Progress) (part : Part) : Type 0 where
   leaf_ends : AtLeaf t d root before frames plain p progress part → LeafEnding t d root before frames plain p progress part
   line_goes_on : Stuck (LineEnd t p) → ((q : ℕ) → plain ≡ Some q → NoStart t q p) → AtFailed t d root progress → LeafEnding t d root before frames plain p progress part
 
 -- the key of a mapping that begins there is read, after the event that begins the mapping
-pub record KeyAgain (t : List ℕ) (room : ℕ) (n : ℤ) (depth : ℕ) (b : Behind) (entry : TheEntry.Entry) (start : Placed) (earlier new : Part) : Type 0 where
+pub record KeyAgain (t : List ℕ) (room : ℕ) (n : ℤ) (depth : ℕ) (b : AfterProperties) (entry : TheEntry.Entry) (start : Placed) (earlier new : Part) : Type 0 where
   pub opened : Part
   pub node : Node
   pub events : opened.events ≡ earlier.events ++ start ∷ []
   pub comments : opened.comments ≡ earlier.comments
   pub escapes : opened.escapes ≡ earlier.escapes
-  pub read : InlineRead t room n b.at depth b.inner (lead_at b.spot.at b.inner (Some entry)) opened new node
+  pub read : InlineRead t room n b.at depth b.inner (lead_at b.node_start.at b.inner (Some entry)) opened new node
 
-pub data KeyOrLost (t : List ℕ) (room : ℕ) (n : ℤ) (depth : ℕ) (b : Behind) (entry : TheEntry.Entry) (start : Placed) (earlier new : Part) : Type 0 where
+pub data KeyOrLost (t : List ℕ) (room : ℕ) (n : ℤ) (depth : ℕ) (b : AfterProperties) (entry : TheEntry.Entry) (start : Placed) (earlier new : Part) : Type 0 where
   key_again : KeyAgain t room n depth b entry start earlier new → KeyOrLost t room n depth b entry start earlier new
   key_lost : InlineLost t room n b.at b.inner → KeyOrLost t room n depth b entry start earlier new
 
 -- it was read after what the earlier part had, with what is known of the node on its line, unless all properties are those of a node
-pub record KeyRead (t : List ℕ) (room : ℕ) (n : ℤ) (depth : ℕ) (b : Behind) (claim : Claim) (wanted : Wanted) (earlier old : Part) : Type 0 where
+pub record KeyRead (t : List ℕ) (room : ℕ) (n : ℤ) (depth : ℕ) (b : AfterProperties) (facts : NodeFacts) (wanted : Wanted) (earlier old : Part) : Type 0 where
   pub node : Node
-  pub counts : CountsOf earlier claim.before
-  pub lead_is : (claim.share ≡ Joined → ⊥) → claim.lead ≡ lead_at b.spot.at b.inner wanted.entry
-  pub read : InlineRead t room n b.at depth b.inner claim.lead earlier old node
+  pub counts : CountsOf earlier facts.before
+  pub lead_is : (facts.belonging ≡ Joined → ⊥) → facts.lead ≡ lead_at b.node_start.at b.inner wanted.entry
+  pub read : InlineRead t room n b.at depth b.inner facts.lead earlier old node

@@ -4,7 +4,7 @@ use Rattle.yf_grammar.specs.BlockParser.{DashAt, LineText}
 use Rattle.yf_block.specs.declared.frame.Frame.{Frame}
 use Rattle.yf_block.specs.declared.frame.Kind.TheVariants.{Sequence, Mapping}
 use Rattle.yf_block.specs.declared.resume.Fit.{Fit}
-use Rattle.yf_block.specs.declared.resume.Fit.TheVariants.{Item, Entry, Deeper, Behind}
+use Rattle.yf_block.specs.declared.resume.Fit.TheVariants.{Item, Entry, Deeper, EndsBefore}
 use Rattle.yf_block.specs.Looks.{EntryPlace}
 
 -- an entry may begin at the place on the line that begins at the offset; without a place no line of a node stands there
@@ -40,4 +40,4 @@ abbrev pub FitsLine : List ℕ → ℕ → Frame → Fit → Type 0
 FitsLine t at f (Item p) = ItemLine t at f p
 FitsLine t at f (Entry p) = PairLine t at f p
 FitsLine t at f (Deeper p) = DeepLine t at f
-FitsLine t at f Behind = EndLine t at f
+FitsLine t at f EndsBefore = EndLine t at f

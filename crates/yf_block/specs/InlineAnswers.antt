@@ -1,5 +1,5 @@
 -- What the reader of a node on a line gives, in terms of the recursive reader: what stands at a place after properties, or without any, is
--- a flow node or the `:` behind an empty key; it was written after what a part had, with what is known of the node before it.
+-- a flow node or the `:` after an empty key; it was written after what a part had, with what is known of the node before it.
 use Rattle.std.specs.Prelude.{◌≡◌, ℕ, ◌+◌, ℤ, true, false, List, Option, Some, None}
 use Rattle.yf_chars.specs.declared.context.Ctx.TheVariants.{FlowOut}
 use Rattle.yf_chars.specs.Text.{code}
@@ -14,7 +14,7 @@ use Rattle.yf_flow.specs.declared.nodes.Ending.TheVariants.{End, Nothing as NoEn
 use Rattle.yf_flow.specs.Begun.{ContentAt}
 use Rattle.yf_flow.specs.ContentAnswers.{WrittenWith}
 use Rattle.yf_flow.specs.Leaves.{KeyLine}
-use Rattle.yf_block.specs.declared.held.Held.{Held}
+use Rattle.yf_block.specs.declared.properties.PlacedProperties.{PlacedProperties}
 
 -- the `:` of a key that begins at the first offset, on its line and not too far
 pub record KeyEnds (t : List ℕ) (start k : ℕ) : Type 0 where
@@ -22,11 +22,11 @@ pub record KeyEnds (t : List ℕ) (start k : ℕ) : Type 0 where
   pub line : KeyLine t start k
 
 -- no empty key stands there; one does, whose properties end at an offset
-abbrev pub NoEmptyKey : List ℕ → ℕ → Option Held → Type 0
-NoEmptyKey t at held = (properties : Held) → held ≡ Some properties → SignAt t 58 at → ⊥
+abbrev pub NoEmptyKey : List ℕ → ℕ → Option PlacedProperties → Type 0
+NoEmptyKey t at held = (properties : PlacedProperties) → held ≡ Some properties → SignAt t 58 at → ⊥
 
-pub record EmptyKeyAt (t : List ℕ) (at : ℕ) (held : Option Held) (end : ℕ) : Type 0 where
-  pub properties : Held
+pub record EmptyKeyAt (t : List ℕ) (at : ℕ) (held : Option PlacedProperties) (end : ℕ) : Type 0 where
+  pub properties : PlacedProperties
   pub is : held ≡ Some properties
   pub colon : SignAt t 58 at
   pub ends : end ≡ properties.end
@@ -38,9 +38,9 @@ pub record NodeIs (depth : ℕ) (f : Found) (node : Node) : Type 0 where
   pub deepest : node.deepest ≡ depth + f.height
   pub finish : f.meaning.finish ≡ f.end
 
--- a plain scalar, a quoted one or a flow collection; an alias, where no properties stand before; the `:` behind properties that are an
+-- a plain scalar, a quoted one or a flow collection; an alias, where no properties stand before; the `:` after properties that are an
 -- empty key
-pub data InlineRead (t : List ℕ) (room : ℕ) (n : ℤ) (at depth : ℕ) (held : Option Held) (lead : Lead) (old new : Part) (node : Node) : Type 0 where
+pub data InlineRead (t : List ℕ) (room : ℕ) (n : ℤ) (at depth : ℕ) (held : Option PlacedProperties) (lead : Lead) (old new : Part) (node : Node) : Type 0 where
   content_read : {f : Found} → NoEmptyKey t at held → begins_alias (code t at) ≡ false → ContentAt t room n FlowOut at (Some f) → NodeIs depth f node
       → WrittenWith t lead f.meaning (from_to at node.end) node.end old new → InlineRead t room n at depth held lead old new node
   alias_read : {f : Found} → held ≡ None → Parses t room (ANode n FlowOut at) (Some f) → NodeIs depth f node → WrittenWith t lead f.meaning (from_to at node.end) node.end old new
@@ -49,12 +49,12 @@ pub data InlineRead (t : List ℕ) (room : ℕ) (n : ℤ) (at depth : ℕ) (held
       → InlineRead t room n at depth held lead old new node
 
 -- nothing stands there that may be the node
-pub data InlineLost (t : List ℕ) (room : ℕ) (n : ℤ) (at : ℕ) (held : Option Held) : Type 0 where
+pub data InlineLost (t : List ℕ) (room : ℕ) (n : ℤ) (at : ℕ) (held : Option PlacedProperties) : Type 0 where
   content_lost : NoEmptyKey t at held → begins_alias (code t at) ≡ false → ContentAt t room n FlowOut at None → InlineLost t room n at held
   alias_lost : held ≡ None → Parses t room (ANode n FlowOut at) None → InlineLost t room n at held
-  alias_behind : {properties : Held} → NoEmptyKey t at held → held ≡ Some properties → begins_alias (code t at) ≡ true → InlineLost t room n at held
+  alias_after : {properties : PlacedProperties} → NoEmptyKey t at held → held ≡ Some properties → begins_alias (code t at) ≡ true → InlineLost t room n at held
 
-abbrev pub InlineEnds : List ℕ → ℕ → ℤ → ℕ → ℕ → Option Held → Lead → Part → Part → Ending → Type 0
+abbrev pub InlineEnds : List ℕ → ℕ → ℤ → ℕ → ℕ → Option PlacedProperties → Lead → Part → Part → Ending → Type 0
 InlineEnds t room n at depth held lead old new (End node) = InlineRead t room n at depth held lead old new node
 InlineEnds t room n at depth held lead old new NoEnd = InlineLost t room n at held
 InlineEnds t room n at depth held lead old new (TooDeepThere p) = InlineLost t room n at held

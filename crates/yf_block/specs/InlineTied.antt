@@ -18,7 +18,7 @@ use Rattle.yf_block.specs.declared.frame.Kind.{Kind}
 use Rattle.yf_block.specs.declared.frame.Kind.TheVariants.{Sequence, Mapping}
 use Rattle.yf_block.specs.declared.frame.Progress.{Progress}
 use Rattle.yf_block.specs.declared.frame.Wanted.{Wanted}
-use Rattle.yf_block.specs.HeldAnswers.{lead_at}
+use Rattle.yf_block.specs.PropertiesAnswers.{lead_at}
 use Rattle.yf_block.specs.BlockTied.{ahead_comments, all_written, ReadTied, StackTied}
 use Rattle.yf_block.specs.BlockStepTied.{WantedTied}
 

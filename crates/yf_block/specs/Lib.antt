@@ -1,13 +1,13 @@
 pub mod Awaiting
 pub mod BlockStepTied
 pub mod BlockTied
-pub mod ClaimsTied
+pub mod BelongingTied
 pub mod Closing
 pub mod ColumnsTied
 pub mod Counted
 pub mod ContentTied
 pub mod Fits
-pub mod HeldAnswers
+pub mod PropertiesAnswers
 pub mod InlineAnswers
 pub mod InlineTied
 pub mod KeyAwaited

@@ -1,16 +1,18 @@
 -- What holds between two steps of the reader: the places that it keeps lie between characters, and less of the text is
 -- left at each step.
 use Rattle.std.specs.Prelude.{◌≡◌, ℕ, ◌+◌, ◌-◌, ◌*◌, ◌≤◌, length, List, Option, Some, None}
+use Rattle.std.specs.List.{All}
 use Rattle.std.specs.Str.{IsCharBoundary}
+use Rattle.yf_events.specs.declared.part.Part.{Part}
 use Rattle.yf_flow.specs.Machine.{Place}
 use Rattle.yf_flow.specs.declared.nodes.Ending.{Ending}
 use Rattle.yf_flow.specs.declared.nodes.Ending.TheVariants.{End}
 use Rattle.yf_block.specs.declared.frame.Progress.{Progress}
 use Rattle.yf_block.specs.declared.frame.Step.{Step}
 use Rattle.yf_block.specs.declared.frame.Step.TheVariants.{Node, Line, Resume, Done, Failed, TooDeep}
-use Rattle.yf_block.specs.declared.held.Held.{Held}
+use Rattle.yf_block.specs.declared.properties.PlacedProperties.{PlacedProperties}
 use Rattle.yf_block.specs.declared.resume.Fit.{Fit}
-use Rattle.yf_block.specs.declared.resume.Fit.TheVariants.{Item, Entry as EntryAt, Deeper, Behind}
+use Rattle.yf_block.specs.declared.resume.Fit.TheVariants.{Item, Entry as EntryAt, Deeper, EndsBefore}
 use Rattle.yf_block.specs.declared.nodes.Outcome.{Outcome}
 use Rattle.yf_block.specs.declared.nodes.Outcome.TheVariants.{Found, Nothing as NoNode, TooDeep as TooDeepHere}
 use Rattle.yf_block.specs.declared.nodes.Stopped.{Stopped}
@@ -26,6 +28,17 @@ pub record ProgressAt (t : List ℕ) (p : Progress) : Type 0 where
   pub floor : IsCharBoundary t p.floor
   pub from : IsCharBoundary t p.from
   pub halt : MayBoundary t p.halt
+
+-- what a step stands on that notes no bad escapes: a place, and what is kept so far
+pub record StandingAt (t : List ℕ) (at : ℕ) (kept : Progress) : Type 0 where
+  pub boundary : IsCharBoundary t at
+  pub progress : ProgressAt t kept
+
+-- the same of any step, with what is noted so far
+pub record Standing (t : List ℕ) (at : ℕ) (kept : Progress) (part : Part) : Type 0 where
+  pub boundary : IsCharBoundary t at
+  pub progress : ProgressAt t kept
+  pub escapes : All (IsCharBoundary t) part.escapes
 
 -- a step from an offset on
 abbrev pub StepReady : List ℕ → ℕ → Step → Type 0
@@ -51,15 +64,25 @@ pub record Stepped (t : List ℕ) (at more : ℕ) (p : Progress) (s : Step) : Ty
   pub ready : StepReady t at s
   pub moves : left (length t) s ≤ 3 * (length t - at) + more
 
+-- the same of a step that may note bad escapes
+pub record Moved (t : List ℕ) (at more : ℕ) (kept : Progress) (part : Part) (s : Step) : Type 0 where
+  pub step : Stepped t at more kept s
+  pub escapes : All (IsCharBoundary t) part.escapes
+
+-- and of one that notes none
+pub record MovedSame (t : List ℕ) (at more : ℕ) (escapes : List ℕ) (kept : Progress) (part : Part) (s : Step) : Type 0 where
+  pub step : Stepped t at more kept s
+  pub same_escapes : part.escapes ≡ escapes
+
 -- from an offset on stand properties, or none, and after them a place
-abbrev pub HeldTo : List ℕ → ℕ → ℕ → Option Held → Type 0
-HeldTo t start at None = at ≡ start
-HeldTo t start at (Some held) = Place t (start + 1) held.end × (held.end ≤ at)
+abbrev pub PropertiesTo : List ℕ → ℕ → ℕ → Option PlacedProperties → Type 0
+PropertiesTo t start at None = at ≡ start
+PropertiesTo t start at (Some held) = Place t (start + 1) held.end × (held.end ≤ at)
 
 -- where what stands at a place ends at the earliest: after its first character, or after the properties before it
-abbrev pub behind_held : ℕ → Option Held → ℕ
-behind_held at None = at + 1
-behind_held at (Some held) = held.end
+abbrev pub earliest_end : ℕ → Option PlacedProperties → ℕ
+earliest_end at None = at + 1
+earliest_end at (Some held) = held.end
 
 abbrev pub StopAt : List ℕ → Stop → Type 0
 StopAt t (DoneAt p) = IsCharBoundary t p
@@ -76,9 +99,9 @@ OutcomeAt t at (Found f) = Place t (at + 1) f.end × IsCharBoundary t f.reached 
 OutcomeAt t at (NoNode p) = IsCharBoundary t p
 OutcomeAt t at (TooDeepHere p) = IsCharBoundary t p
 
-abbrev pub HeldBefore : List ℕ → ℕ → Option Held → Type 0
-HeldBefore t at None = Unit {0}
-HeldBefore t at (Some held) = IsCharBoundary t held.end × (held.end ≤ at)
+abbrev pub PropertiesBefore : List ℕ → ℕ → Option PlacedProperties → Type 0
+PropertiesBefore t at None = Unit {0}
+PropertiesBefore t at (Some held) = IsCharBoundary t held.end × (held.end ≤ at)
 
 abbrev pub IsEndAt : ℕ → Ending → Type 0
 IsEndAt p (End node) = node.end ≡ p
@@ -92,4 +115,4 @@ abbrev pub FitsAt : List ℕ → ℕ → Fit → Type 0
 FitsAt t at (Item p) = Place t at p × IsCharBoundary t (p + 1)
 FitsAt t at (EntryAt p) = Place t at p
 FitsAt t at (Deeper p) = IsCharBoundary t p
-FitsAt t at Behind = Unit {0}
+FitsAt t at EndsBefore = Unit {0}

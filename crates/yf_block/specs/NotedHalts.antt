@@ -2,7 +2,7 @@
 -- of the last line before that one.
 use Rattle.std.specs.Prelude.{◌≡◌, ℕ, List, [], Option, Some, None}
 use Rattle.yf_block.specs.declared.frame.Frame.{Frame}
-use Rattle.yf_block.specs.declared.held.Held.{Held}
+use Rattle.yf_block.specs.declared.properties.PlacedProperties.{PlacedProperties}
 use Rattle.yf_block.specs.Awaiting.{AwaitsAt, AwaitedColon}
 use Rattle.yf_block.specs.LastStarts.{LastStart, NoStart}
 
@@ -11,7 +11,7 @@ abbrev pub ColonsCounted : ℕ → List Frame → Type 0
 ColonsCounted colons fs = colons ≡ 0 → (m : ℕ) → AwaitsAt m fs → ⊥
 
 -- the outermost node, of which no properties are known, may not be empty
-abbrev pub IsOutermost : Option Held → List Frame → Type 0
+abbrev pub IsOutermost : Option PlacedProperties → List Frame → Type 0
 IsOutermost outer fs = (outer ≡ None) × (fs ≡ [])
 
 -- an awaited node is empty at a line, the end of the line before it having been read from an offset on

@@ -1,4 +1,4 @@
--- A block scalar as a node: its header stands where the node is awaited; and its lines behind the header, as the reader has them.
+-- A block scalar as a node: its header stands where the node is awaited; and its lines after the header, as the reader has them.
 use Rattle.std.specs.Prelude.{◌≡◌, ℕ, ◌^◌, ◌≤◌, ℤ, pos, ◌+ℤ◌, List, ◌++◌, length, Option}
 use Rattle.yf_chars.specs.Chain.{Chosen}
 use Rattle.yf_lines.specs.Lines.{Unbroken}

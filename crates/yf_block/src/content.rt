@@ -1,27 +1,27 @@
 //! What a node has on one line: the sign of an entry, properties, a block scalar, or a flow node.
-ghost use Rattle.std.specs.Prelude.{◌≡◌, ◌+◌, Some, IfOk, MatchBool, ◌⊎◌, ℕ, ◌≤◌, length, ◌^◌, ◌<◌, List, MatchOption, reverse};
-ghost use Rattle.std.specs.List.{All};
-ghost use Rattle.std.specs.Str.{IsCharBoundary, IsUtf8};
+ghost use Rattle.std.specs.Prelude.{◌≡◌, ◌+◌, Some, IfOk, MatchBool, ◌⊎◌, ℕ, ◌≤◌, ◌^◌, ◌<◌, List, MatchOption, reverse};
+ghost use Rattle.std.specs.Str.{IsCharBoundary};
 ghost use Rattle.yf_flow.specs.Machine.{Place};
 ghost use Rattle.yf_grammar.specs.BlockParser.{Ahead, BlockTask, Columns, DashAt};
-ghost use Rattle.yf_block.specs.declared.held.Held.{Held as HeldProperties};
+ghost use Rattle.yf_block.specs.declared.properties.PlacedProperties.{PlacedProperties as PropertiesThere};
 ghost use Rattle.yf_block.specs.BlockStepTied.{AheadTied, BlockTied};
-ghost use Rattle.yf_block.specs.ClaimsTied.{ShareTied};
-ghost use Rattle.yf_block.specs.ContentTied.{AtBehind, AtContent, CountsOf, EndsBehind, ScalarSignAt};
-ghost use Rattle.yf_block.specs.HeldAnswers.{Holds, LineProperties, held_lead, lead_at};
+ghost use Rattle.yf_block.specs.BelongingTied.{BelongingTied};
+ghost use Rattle.yf_block.specs.ContentTied.{AtAfterProperties, AtContent, CountsOf, EndsAfter, ScalarSignAt};
+ghost use Rattle.yf_block.specs.PropertiesAnswers.{Holds, LineProperties, held_lead, lead_at};
 ghost use Rattle.yf_block.specs.InlineTied.{AtStart, EntrySignAt};
-ghost use Rattle.yf_block.specs.Machine.{Stepped, ProgressAt, HeldTo};
-ghost use Rattle.yf_flow.specs.Counted.{openers_from};
-ghost use Rattle.yf_block.specs.Counted.{StepCounted};
+ghost use Rattle.yf_block.specs.Machine.{StandingAt, MovedSame, Moved, Standing, PropertiesTo};
+ghost use Rattle.yf_block.specs.Counted.{CountsSame, CountsFrom};
 
 use crate::entry::open_mapping;
 use crate::frame::{Frame, Frames, Progress, Scope, Step, Wanted};
 use crate::halt::Counts;
-use crate::held::{Held, joined, joined_behind, lead_of, line_properties, place_behind};
 use crate::inline::{finish_inline, read_inline};
 use crate::leaf::read_line_end;
 use crate::line::end_line;
 use crate::look::{line_ends, sign_stands};
+use crate::properties::{
+    PlacedProperties, joined, joined_after, lead_of, line_properties, place_after,
+};
 use crate::scalar::take_block_scalar;
 use std::alloc::{AllocError, Global};
 use yf_chars::text::stands;
@@ -33,7 +33,7 @@ use yf_lines::basic::skip_whites;
 
 /// A place of a line at which the text of a node begins.
 #[derive(Clone, Copy)]
-pub(crate) struct Spot {
+pub(crate) struct NodeStart {
     pub(crate) at: usize,
     /// The column of a collection that may begin there.
     pub(crate) column: Option<usize>,
@@ -41,17 +41,17 @@ pub(crate) struct Spot {
 
 /// What stands after the properties of a line.
 #[derive(Clone, Copy)]
-pub(crate) struct Behind<'a> {
+pub(crate) struct AfterProperties<'a> {
     pub(crate) at: usize,
     /// The properties of the line.
-    pub(crate) inner: Option<Held<'a>>,
+    pub(crate) inner: Option<PlacedProperties<'a>>,
     /// Where the text of the node begins.
-    pub(crate) spot: Spot,
+    pub(crate) node_start: NodeStart,
 }
 
 /// To which node the properties belong that stand on lines before.
 #[derive(Clone, Copy)]
-pub(crate) enum Share {
+pub(crate) enum Belonging {
     /// There are none.
     Nothing,
     /// To the node on the line, if it is no key.
@@ -62,20 +62,20 @@ pub(crate) enum Share {
 
 /// What is known of a node before its text.
 #[derive(Clone, Copy)]
-pub(crate) struct Claim<'a> {
+pub(crate) struct NodeFacts<'a> {
     pub(crate) lead: Lead<'a>,
-    pub(crate) share: Share,
+    pub(crate) belonging: Belonging,
     /// How much had been read before the node.
     pub(crate) before: Counts,
 }
 
 /// Whether the properties of lines before cannot be those of the node on the line.
-pub(crate) fn is_apart(share: Share) -> bool
-    ensures { MatchBool result (share ≡ Share.Apart) (share ≡ Share.Apart → ⊥) }
+pub(crate) fn is_apart(belonging: Belonging) -> bool
+    ensures { MatchBool result (belonging ≡ Belonging.Apart) (belonging ≡ Belonging.Apart → ⊥) }
 {
-    match share {
-        Share::Apart => true,
-        Share::Nothing | Share::Joined => false,
+    match belonging {
+        Belonging::Apart => true,
+        Belonging::Nothing | Belonging::Joined => false,
     }
 }
 
@@ -84,49 +84,44 @@ pub(crate) fn is_apart(share: Share) -> bool
 pub(crate) fn take_content<'a>(
     alloc: Global,
     scope: Scope<'a>,
-    spot: Spot,
+    node_start: NodeStart,
     progress: &mut Progress<'a>,
     frames: &mut Frames,
     part: &mut Part<'a>,
 ) -> Result<Step, AllocError>
-    requires boundary { IsCharBoundary scope.text.now spot.at }
-    requires progress { ProgressAt scope.text.now progress.old }
-    requires escapes { All (IsCharBoundary scope.text.now) part.old.escapes }
+    requires standing { Standing scope.text.now (node_start.at) progress.old part.old }
     ensures tied { (d : ℕ) → (root : BlockTask) → (before : Part) → (cols : Columns) → d < 2 ^ 64 → d ≡ scope.entry.limit
-        → cols.mapping ≡ spot.column
-        → ((m : ℕ) → cols.sequence ≡ Some m → DashAt scope.entry.text.now (spot.at) → ⊥)
-        → AtStart scope.entry.text.now d root before (reverse frames.old.items) cols (spot.at) progress.old part.old
+        → cols.mapping ≡ node_start.column
+        → ((m : ℕ) → cols.sequence ≡ Some m → DashAt scope.entry.text.now (node_start.at) → ⊥)
+        → AtStart scope.entry.text.now d root before (reverse frames.old.items) cols (node_start.at) progress.old part.old
         → IfOk result (λ s. BlockTied scope.entry.text.now d root before (reverse frames.new.items) s progress.new part.new) }
-    ensures stepped { IfOk result (λ s. Stepped scope.entry.text.now (spot.at) 0 progress.new s) }
-    ensures escapes { IfOk result (λ _. All (IsCharBoundary scope.entry.text.now) part.new.escapes) }
-    ensures counted { IsUtf8 scope.entry.text.now → (total : ℕ)
-        → length frames.old.items + openers_from scope.entry.text.now (spot.at) ≤ total
-        → IfOk result (λ s. StepCounted scope.entry.text.now scope.entry.limit total (length frames.new.items) s) }
+    ensures stepped { IfOk result (Moved scope.entry.text.now (node_start.at) 0 progress.new part.new) }
+    ensures counted { CountsFrom scope.entry (node_start.at) frames.old.items frames.new.items result }
 {
-    match signed_column(scope.text, spot) {
-        Some(column) => open_mapping(alloc, scope, spot.at, column, progress, frames, part),
-        None => match line_properties(alloc, scope.text, spot.at)? {
-            Some(inner) => take_propertied(alloc, scope, inner, spot, progress, frames, part),
+    match signed_column(scope.text, node_start) {
+        Some(column) => open_mapping(alloc, scope, node_start.at, column, progress, frames, part),
+        None => match line_properties(alloc, scope.text, node_start.at)? {
+            Some(inner) => take_propertied(alloc, scope, inner, node_start, progress, frames, part),
             None => {
-                let behind = Behind {
-                    at: spot.at,
+                let after = AfterProperties {
+                    at: node_start.at,
                     inner: None,
-                    spot,
+                    node_start,
                 };
-                take_behind(alloc, scope, &behind, progress, frames, part)
+                take_after_properties(alloc, scope, &after, progress, frames, part)
             }
         },
     }
 }
 
 // The column of a mapping whose first entry begins there with its `?` or its `:`.
-fn signed_column(text: &str, spot: Spot) -> Option<usize>
-    ensures { MatchOption result ((m : ℕ) → spot.column ≡ Some m → EntrySignAt text.now (spot.at) → ⊥)
-        (λ m. (spot.column ≡ Some m) × EntrySignAt text.now (spot.at)) }
+fn signed_column(text: &str, node_start: NodeStart) -> Option<usize>
+    ensures { MatchOption result ((m : ℕ) → node_start.column ≡ Some m → EntrySignAt text.now (node_start.at) → ⊥)
+        (λ m. (node_start.column ≡ Some m) × EntrySignAt text.now (node_start.at)) }
 {
-    match spot.column {
+    match node_start.column {
         Some(column) => {
-            if entry_sign_stands(text, spot.at) {
+            if entry_sign_stands(text, node_start.at) {
                 return Some(column);
             }
             None
@@ -150,39 +145,34 @@ fn entry_sign_stands(text: &str, at: usize) -> bool
 fn take_propertied<'a>(
     alloc: Global,
     scope: Scope<'a>,
-    inner: Held<'a>,
-    spot: Spot,
+    inner: PlacedProperties<'a>,
+    node_start: NodeStart,
     progress: &mut Progress<'a>,
     frames: &mut Frames,
     part: &mut Part<'a>,
 ) -> Result<Step, AllocError>
-    requires boundary { IsCharBoundary scope.text.now spot.at }
-    requires inner { Place scope.text.now (spot.at + 1) inner.end }
-    requires progress { ProgressAt scope.text.now progress.old }
-    requires escapes { All (IsCharBoundary scope.text.now) part.old.escapes }
+    requires standing { Standing scope.text.now (node_start.at) progress.old part.old }
+    requires inner { Place scope.text.now (node_start.at + 1) inner.end }
     ensures tied { (d : ℕ) → (root : BlockTask) → (before : Part) → d ≡ scope.entry.limit
-        → LineProperties scope.entry.text.now (spot.at) inner.entry
-        → AtContent scope.entry.text.now d root before (reverse frames.old.items) (spot.at) spot.column progress.old part.old
+        → LineProperties scope.entry.text.now (node_start.at) inner.entry
+        → AtContent scope.entry.text.now d root before (reverse frames.old.items) (node_start.at) node_start.column progress.old part.old
         → IfOk result (λ s. BlockTied scope.entry.text.now d root before (reverse frames.new.items) s progress.new part.new) }
-    ensures stepped { IfOk result (λ s. Stepped scope.entry.text.now (spot.at) 0 progress.new s) }
-    ensures escapes { IfOk result (λ _. All (IsCharBoundary scope.entry.text.now) part.new.escapes) }
-    ensures counted { IsUtf8 scope.entry.text.now → (total : ℕ)
-        → length frames.old.items + openers_from scope.entry.text.now (spot.at) ≤ total
-        → IfOk result (λ s. StepCounted scope.entry.text.now scope.entry.limit total (length frames.new.items) s) }
+    ensures stepped { IfOk result (Moved scope.entry.text.now (node_start.at) 0 progress.new part.new) }
+    ensures counted { CountsFrom scope.entry (node_start.at) frames.old.items frames.new.items result }
 {
     let place = skip_whites(scope.text, inner.end);
     if line_ends(scope.text, place, place > inner.end) {
-        return end_propertied(alloc, scope.text, inner, spot, progress, part);
+        return end_propertied(alloc, scope.text, inner, node_start, progress, part);
     }
-    match place_behind(scope.text, inner) {
+    match place_after(scope.text, inner) {
         None => Ok(Step::Failed(place)),
         Some(at) => {
-            let behind = Behind {
+            let after = AfterProperties {
                 at,
                 inner: Some(inner),
-                spot,
+                node_start,
             };
-            take_behind(alloc, scope, &behind, progress, frames, part)
+            take_after_properties(alloc, scope, &after, progress, frames, part)
         }
     }
 }
@@ -192,27 +182,24 @@ fn take_propertied<'a>(
 fn end_propertied<'a>(
     alloc: Global,
     text: &'a str,
-    inner: Held<'a>,
-    spot: Spot,
+    inner: PlacedProperties<'a>,
+    node_start: NodeStart,
     progress: &mut Progress<'a>,
     part: &mut Part<'a>,
 ) -> Result<Step, AllocError>
-    requires boundary { IsCharBoundary text.now spot.at }
-    requires inner { Place text.now (spot.at + 1) inner.end }
-    requires progress { ProgressAt text.now progress.old }
+    requires standing { StandingAt text.now (node_start.at) progress.old }
+    requires inner { Place text.now (node_start.at + 1) inner.end }
     ensures tied { (place : ℕ) → (d : ℕ) → (root : BlockTask) → (before : Part) → (frames : List Frame)
-        → EndsBehind text.now inner.entry.end place → LineProperties text.now (spot.at) inner.entry
-        → AtContent text.now d root before frames (spot.at) spot.column progress.old part.old
+        → EndsAfter text.now inner.entry.end place → LineProperties text.now (node_start.at) inner.entry
+        → AtContent text.now d root before frames (node_start.at) node_start.column progress.old part.old
         → IfOk result (λ s. BlockTied text.now d root before frames s progress.new part.new) }
-    ensures stepped { IfOk result (λ s. Stepped text.now (spot.at) 0 progress.new s) }
-    ensures escapes { IfOk result (λ _. part.new.escapes ≡ part.old.escapes) }
-    ensures counted { (limit : ℕ) → (total : ℕ) → (count : ℕ) → count + openers_from text.now (spot.at) ≤ total
-        → IfOk result (λ s. StepCounted text.now limit total count s) }
+    ensures stepped { IfOk result (MovedSame text.now (node_start.at) 0 part.old.escapes progress.new part.new) }
+    ensures counted { CountsSame text.now (node_start.at) result }
 {
-    match joined_behind(progress.wanted.outer, inner) {
+    match joined_after(progress.wanted.outer, inner) {
         None => {
             let _ended = read_line_end(alloc, text, inner.end)?;
-            Ok(Step::Failed(spot.at))
+            Ok(Step::Failed(node_start.at))
         }
         Some(outer) => {
             progress.wanted.outer = Some(outer);
@@ -224,39 +211,34 @@ fn end_propertied<'a>(
 
 // A flow node, a key or a block scalar, after the properties of its line.
 #[inline(always)]
-fn take_behind<'a>(
+fn take_after_properties<'a>(
     alloc: Global,
     scope: Scope<'a>,
-    behind: &Behind<'a>,
+    after: &AfterProperties<'a>,
     progress: &mut Progress<'a>,
     frames: &mut Frames,
     part: &mut Part<'a>,
 ) -> Result<Step, AllocError>
-    requires boundary { IsCharBoundary scope.text.now behind.now.at }
-    requires start { IsCharBoundary scope.text.now behind.now.spot.at }
-    requires held { HeldTo scope.text.now behind.now.spot.at behind.now.at behind.now.inner }
-    requires progress { ProgressAt scope.text.now progress.old }
-    requires escapes { All (IsCharBoundary scope.text.now) part.old.escapes }
+    requires standing { Standing scope.text.now (after.now.at) progress.old part.old }
+    requires start { IsCharBoundary scope.text.now after.now.node_start.at }
+    requires properties { PropertiesTo scope.text.now after.now.node_start.at after.now.at after.now.inner }
     ensures tied { (d : ℕ) → (root : BlockTask) → (before : Part) → d ≡ scope.entry.limit
-        → AtBehind scope.entry.text.now d root before (reverse frames.old.items) behind.now progress.old part.old
+        → AtAfterProperties scope.entry.text.now d root before (reverse frames.old.items) after.now progress.old part.old
         → IfOk result (λ s. BlockTied scope.entry.text.now d root before (reverse frames.new.items) s progress.new part.new) }
-    ensures stepped { IfOk result (λ s. Stepped scope.entry.text.now (behind.now.spot.at) 0 progress.new s) }
-    ensures escapes { IfOk result (λ _. All (IsCharBoundary scope.entry.text.now) part.new.escapes) }
-    ensures counted { IsUtf8 scope.entry.text.now → (total : ℕ)
-        → length frames.old.items + openers_from scope.entry.text.now (behind.now.spot.at) ≤ total
-        → IfOk result (λ s. StepCounted scope.entry.text.now scope.entry.limit total (length frames.new.items) s) }
+    ensures stepped { IfOk result (Moved scope.entry.text.now (after.now.node_start.at) 0 progress.new part.new) }
+    ensures counted { CountsFrom scope.entry (after.now.node_start.at) frames.old.items frames.new.items result }
 {
-    let claim = claim_of(scope.text, behind, &progress.wanted, part);
+    let facts = facts_of(scope.text, after, &progress.wanted, part);
     let least = progress.wanted.least;
-    if block_scalar_stands(scope.text, behind.at) {
-        if is_apart(claim.share) {
-            return Ok(Step::Failed(behind.spot.at));
+    if block_scalar_stands(scope.text, after.at) {
+        if is_apart(facts.belonging) {
+            return Ok(Step::Failed(after.node_start.at));
         }
         return take_block_scalar(
             alloc,
             scope,
-            behind.at,
-            &claim.lead,
+            after.at,
+            &facts.lead,
             least,
             progress,
             frames,
@@ -267,16 +249,16 @@ fn take_behind<'a>(
         alloc,
         scope,
         least,
-        behind.at,
-        &behind.inner,
-        &claim.lead,
+        after.at,
+        &after.inner,
+        &facts.lead,
         frames.len(),
         part,
     )? {
         Ending::End(node) => finish_inline(
-            alloc, scope, behind, &claim, node, progress, frames, part,
+            alloc, scope, after, &facts, node, progress, frames, part,
         ),
-        Ending::Nothing => Ok(Step::Failed(behind.at)),
+        Ending::Nothing => Ok(Step::Failed(after.at)),
         Ending::TooDeep(place) => Ok(Step::TooDeep(place)),
     }
 }
@@ -292,70 +274,83 @@ fn block_scalar_stands(text: &str, at: usize) -> bool
 }
 
 // What is known of the node after the properties of a line, as long as it is not known whether it is a key.
-fn claim_of<'a>(text: &str, behind: &Behind<'a>, wanted: &Wanted<'a>, part: &Part<'a>) -> Claim<'a>
+fn facts_of<'a>(
+    text: &str,
+    after: &AfterProperties<'a>,
+    wanted: &Wanted<'a>,
+    part: &Part<'a>,
+) -> NodeFacts<'a>
     ensures counts { CountsOf part.now result.before }
-    ensures share { (a : Ahead) → AheadTied a wanted.now.outer
-        → ((h : HeldProperties) → behind.now.inner ≡ Some h → LineProperties text.now behind.now.spot.at h)
-        → ShareTied text.now behind.now.spot.at behind.now.at a behind.now.inner wanted.now.entry result.lead result.share }
+    ensures belonging { (a : Ahead) → AheadTied a wanted.now.outer
+        → ((h : PropertiesThere) → after.now.inner ≡ Some h → LineProperties text.now after.now.node_start.at h)
+        → BelongingTied text.now after.now.node_start.at after.now.at a after.now.inner wanted.now.entry result.lead result.belonging }
 {
     match wanted.outer {
-        None => Claim {
-            lead: lead_of(behind.spot.at, behind.inner, wanted.entry),
-            share: Share::Nothing,
+        None => NodeFacts {
+            lead: lead_of(after.node_start.at, after.inner, wanted.entry),
+            belonging: Belonging::Nothing,
             before: Counts::of(part),
         },
-        Some(outer) => shared_claim(text, behind, outer, wanted.entry, Counts::of(part)),
+        Some(outer) => facts_with_outer(text, after, outer, wanted.entry, Counts::of(part)),
     }
 }
 
 // The same where properties stand on lines before.
 #[inline(never)]
-fn shared_claim<'a>(
+fn facts_with_outer<'a>(
     text: &str,
-    behind: &Behind<'a>,
-    outer: Held<'a>,
+    after: &AfterProperties<'a>,
+    outer: PlacedProperties<'a>,
     entry: Option<Entry>,
     before: Counts,
-) -> Claim<'a>
+) -> NodeFacts<'a>
     ensures before { result.before ≡ before }
-    ensures share { (a : Ahead) → Holds a outer.entry
-        → ((h : HeldProperties) → behind.now.inner ≡ Some h → LineProperties text.now behind.now.spot.at h)
-        → ShareTied text.now behind.now.spot.at behind.now.at a behind.now.inner entry result.lead result.share }
+    ensures belonging { (a : Ahead) → Holds a outer.entry
+        → ((h : PropertiesThere) → after.now.inner ≡ Some h → LineProperties text.now after.now.node_start.at h)
+        → BelongingTied text.now after.now.node_start.at after.now.at a after.now.inner entry result.lead result.belonging }
 {
-    if stands(text, behind.at, b'*') {
-        return apart_claim(behind, entry, before);
+    if stands(text, after.at, b'*') {
+        return apart_facts(after, entry, before);
     }
-    match behind.inner {
-        None => joined_claim(outer, entry, before),
+    match after.inner {
+        None => joined_facts(outer, entry, before),
         Some(inner) => match joined(outer, inner) {
-            None => apart_claim(behind, entry, before),
-            Some(held) => joined_claim(held, entry, before),
+            None => apart_facts(after, entry, before),
+            Some(properties) => joined_facts(properties, entry, before),
         },
     }
 }
 
 // Of a node that has all properties, if it is no key.
-fn joined_claim<'a>(held: Held<'a>, entry: Option<Entry>, before: Counts) -> Claim<'a>
-    ensures lead { result.lead ≡ held_lead held.entry entry }
-    ensures share { result.share ≡ Share.Joined }
+fn joined_facts<'a>(
+    properties: PlacedProperties<'a>,
+    entry: Option<Entry>,
+    before: Counts,
+) -> NodeFacts<'a>
+    ensures lead { result.lead ≡ held_lead properties.entry entry }
+    ensures belonging { result.belonging ≡ Belonging.Joined }
     ensures before { result.before ≡ before }
 {
-    Claim {
-        lead: held.lead(entry),
-        share: Share::Joined,
+    NodeFacts {
+        lead: properties.lead(entry),
+        belonging: Belonging::Joined,
         before,
     }
 }
 
 // Of a node that has those of its line alone.
-fn apart_claim<'a>(behind: &Behind<'a>, entry: Option<Entry>, before: Counts) -> Claim<'a>
-    ensures lead { result.lead ≡ lead_at behind.now.spot.at behind.now.inner entry }
-    ensures share { result.share ≡ Share.Apart }
+fn apart_facts<'a>(
+    after: &AfterProperties<'a>,
+    entry: Option<Entry>,
+    before: Counts,
+) -> NodeFacts<'a>
+    ensures lead { result.lead ≡ lead_at after.now.node_start.at after.now.inner entry }
+    ensures belonging { result.belonging ≡ Belonging.Apart }
     ensures before { result.before ≡ before }
 {
-    Claim {
-        lead: lead_of(behind.spot.at, behind.inner, entry),
-        share: Share::Apart,
+    NodeFacts {
+        lead: lead_of(after.node_start.at, after.inner, entry),
+        belonging: Belonging::Apart,
         before,
     }
 }

@@ -1,6 +1,5 @@
 //! Block collections and their entries (YAML 1.2.2, section 8.2).
 ghost use Rattle.std.specs.Prelude.{◌≡◌, ◌≢◌, ℕ, ◌+◌, ◌-◌, ◌^◌, ◌<◌, ◌≤◌, true, false, List, Some, None, IfOk, IfSome, reverse, length};
-ghost use Rattle.std.specs.List.{All};
 ghost use Rattle.std.specs.Str.{IsCharBoundary, IsUtf8};
 ghost use Rattle.yf_chars.specs.Text.{code};
 ghost use Rattle.yf_comments.specs.Comments.{Blank};
@@ -14,15 +13,15 @@ ghost use Rattle.yf_block.specs.Fits.{PairLine};
 ghost use Rattle.yf_block.specs.InlineTied.{AtStart, EntrySignAt, started};
 ghost use Rattle.yf_block.specs.KeyAwaited.{KeyAwaited};
 ghost use Rattle.yf_block.specs.KeyTexts.{KeyTextAt, KeyTextPlace};
-ghost use Rattle.yf_block.specs.Machine.{Stepped, ProgressAt};
+ghost use Rattle.yf_block.specs.Machine.{StandingAt, MovedSame, Moved, Standing, Stepped, ProgressAt};
 ghost use Rattle.yf_flow.specs.Counted.{openers_from};
-ghost use Rattle.yf_block.specs.Counted.{EntryCounted, StepCounted};
+ghost use Rattle.yf_block.specs.Counted.{CountsFrom, EntryCounted, StepCounted};
 
 use crate::frame::{Frame, Frames, Kind, Progress, Scope, Step, Wanted};
-use crate::held::{Held, lead_of, line_properties, place_behind};
 use crate::inline::read_inline;
 use crate::leaf::read_line_end;
 use crate::look::{is_blank_after, key_ends, sign_stands};
+use crate::properties::{PlacedProperties, lead_of, line_properties, place_after};
 use std::alloc::{AllocError, Global};
 use yf_events::event::{Entry, NewEvent, PlacedEvent};
 use yf_events::part::Part;
@@ -86,15 +85,13 @@ pub(crate) fn open_sequence<'a>(
     frames: &mut Frames,
     part: &mut Part<'a>,
 ) -> Result<Step, AllocError>
-    requires boundary { IsCharBoundary scope.text.now at }
-    requires behind { IsCharBoundary scope.text.now (at + 1) }
-    requires progress { ProgressAt scope.text.now progress.old }
+    requires standing { StandingAt scope.text.now at progress.old }
+    requires after { IsCharBoundary scope.text.now (at + 1) }
     ensures tied { (d : ℕ) → (root : BlockTask) → (before : Part) → (cols : Columns) → d ≡ scope.entry.limit → cols.sequence ≡ Some column
         → DashAt scope.entry.text.now at → AtStart scope.entry.text.now d root before
         (reverse frames.old.items) cols at progress.old part.old
         → IfOk result (λ s. BlockTied scope.entry.text.now d root before (reverse frames.new.items) s progress.new part.new) }
-    ensures stepped { IfOk result (λ s. Stepped scope.entry.text.now at 0 progress.new s) }
-    ensures escapes { IfOk result (λ _. part.new.escapes ≡ part.old.escapes) }
+    ensures stepped { IfOk result (MovedSame scope.entry.text.now at 0 part.old.escapes progress.new part.new) }
     ensures counted { IsUtf8 scope.entry.text.now → (total : ℕ) → DashAt scope.entry.text.now at
         → length frames.old.items + openers_from scope.entry.text.now at ≤ total
         → IfOk result (λ s. StepCounted scope.entry.text.now scope.entry.limit total (length frames.new.items) s) }
@@ -116,7 +113,7 @@ pub(crate) fn take_item<'a>(
     progress: &mut Progress<'a>,
     frames: &mut Frames,
 ) -> Result<Step, AllocError>
-    requires behind { IsCharBoundary text.now (at + 1) }
+    requires after { IsCharBoundary text.now (at + 1) }
     requires progress { ProgressAt text.now progress.old }
     ensures tied { (d : ℕ) → (root : BlockTask) → (before : Part) → (part : Part) → DashAt text.now at → frame.kind ≡ Kind.Sequence
         → frame.awaits_colon ≡ false → AtEntry text.now d root before (reverse frames.old.items) frame at progress.old part
@@ -215,16 +212,13 @@ pub(crate) fn open_mapping<'a>(
     frames: &mut Frames,
     part: &mut Part<'a>,
 ) -> Result<Step, AllocError>
-    requires boundary { IsCharBoundary scope.text.now at }
-    requires progress { ProgressAt scope.text.now progress.old }
-    requires escapes { All (IsCharBoundary scope.text.now) part.old.escapes }
+    requires standing { Standing scope.text.now at progress.old part.old }
     ensures tied { (d : ℕ) → (root : BlockTask) → (before : Part) → (cols : Columns) → d < 2 ^ 64 → d ≡ scope.entry.limit
         → cols.mapping ≡ Some column
         → EntrySignAt scope.entry.text.now at → AtStart scope.entry.text.now d root before
         (reverse frames.old.items) cols at progress.old part.old
         → IfOk result (λ s. BlockTied scope.entry.text.now d root before (reverse frames.new.items) s progress.new part.new) }
-    ensures stepped { IfOk result (λ s. Stepped scope.entry.text.now at 0 progress.new s) }
-    ensures escapes { IfOk result (λ _. All (IsCharBoundary scope.entry.text.now) part.new.escapes) }
+    ensures stepped { IfOk result (Moved scope.entry.text.now at 0 progress.new part.new) }
     ensures counted { IsUtf8 scope.entry.text.now → (total : ℕ) → EntrySignAt scope.entry.text.now at
         → length frames.old.items + openers_from scope.entry.text.now at ≤ total
         → IfOk result (λ s. StepCounted scope.entry.text.now scope.entry.limit total (length frames.new.items) s) }
@@ -248,14 +242,11 @@ pub(crate) fn take_entry<'a>(
     frames: &mut Frames,
     part: &mut Part<'a>,
 ) -> Result<Step, AllocError>
-    requires boundary { IsCharBoundary scope.text.now at }
-    requires progress { ProgressAt scope.text.now progress.old }
-    requires escapes { All (IsCharBoundary scope.text.now) part.old.escapes }
+    requires standing { Standing scope.text.now at progress.old part.old }
     ensures tied { (d : ℕ) → (root : BlockTask) → (before : Part) → d < 2 ^ 64 → d ≡ scope.entry.limit → frame.kind ≡ Kind.Mapping
         → AtEntry scope.entry.text.now d root before (reverse frames.old.items) frame at progress.old part.old
         → IfOk result (λ s. BlockTied scope.entry.text.now d root before (reverse frames.new.items) s progress.new part.new) }
-    ensures stepped { IfOk result (λ s. Stepped scope.entry.text.now at 0 progress.new s) }
-    ensures escapes { IfOk result (λ _. All (IsCharBoundary scope.entry.text.now) part.new.escapes) }
+    ensures stepped { IfOk result (Moved scope.entry.text.now at 0 progress.new part.new) }
     ensures counted { IsUtf8 scope.entry.text.now → (total : ℕ) → EntryCounted scope.entry.text.now total (length frames.old.items) at
         → IfOk result (λ s. StepCounted scope.entry.text.now scope.entry.limit total (length frames.new.items) s) }
 {
@@ -294,17 +285,12 @@ fn take_key<'a>(
     frames: &mut Frames,
     part: &mut Part<'a>,
 ) -> Result<Step, AllocError>
-    requires boundary { IsCharBoundary scope.text.now entry.start }
-    requires progress { ProgressAt scope.text.now progress.old }
-    requires escapes { All (IsCharBoundary scope.text.now) part.old.escapes }
+    requires standing { Standing scope.text.now (entry.start) progress.old part.old }
     ensures tied { (d : ℕ) → (root : BlockTask) → (before : Part) → (outer : List Frame) → (frame : Frame) → d ≡ scope.entry.limit
         → KeyAwaited scope.entry.text.now d root before outer frame (reverse frames.old.items) column entry progress.old part.old
         → IfOk result (λ s. BlockTied scope.entry.text.now d root before (reverse frames.new.items) s progress.new part.new) }
-    ensures stepped { IfOk result (λ s. Stepped scope.entry.text.now (entry.start) 0 progress.new s) }
-    ensures escapes { IfOk result (λ _. All (IsCharBoundary scope.entry.text.now) part.new.escapes) }
-    ensures counted { IsUtf8 scope.entry.text.now → (total : ℕ)
-        → length frames.old.items + openers_from scope.entry.text.now (entry.start) ≤ total
-        → IfOk result (λ s. StepCounted scope.entry.text.now scope.entry.limit total (length frames.new.items) s) }
+    ensures stepped { IfOk result (Moved scope.entry.text.now (entry.start) 0 progress.new part.new) }
+    ensures counted { CountsFrom scope.entry (entry.start) frames.old.items frames.new.items result }
 {
     let start = entry.start;
     let inner = line_properties(alloc, scope.text, start)?;
@@ -335,18 +321,18 @@ fn key_text<'a>(
     alloc: Global,
     text: &'a str,
     start: usize,
-    inner: &Option<Held<'a>>,
+    inner: &Option<PlacedProperties<'a>>,
 ) -> Result<KeyText, AllocError>
     requires start { IsCharBoundary text.now start }
-    requires held { IfSome inner.now (λ h. Place text.now (start + 1) h.end) }
+    requires properties { IfSome inner.now (λ h. Place text.now (start + 1) h.end) }
     ensures place { IfOk result (λ k. KeyTextPlace text.now start inner.now k) }
     ensures reads { IfOk result (λ k. KeyTextAt text.now start inner.now k) }
 {
     match *inner {
         None => Ok(KeyText::At(start)),
-        Some(held) => {
-            let ended = read_line_end(alloc, text, held.end)?;
-            match place_behind(text, held) {
+        Some(properties) => {
+            let ended = read_line_end(alloc, text, properties.end)?;
+            match place_after(text, properties) {
                 None => Ok(KeyText::Nowhere(start)),
                 Some(at) => match ended {
                     Some(_) => Ok(KeyText::Nowhere(at)),

@@ -1,7 +1,7 @@
 //! The open collections of a block node, and the steps of its reader.
 ghost use Rattle.std.specs.Prelude.{◌≡◌, false};
 
-use crate::held::Held;
+use crate::properties::PlacedProperties;
 use smallvec::SmallVec;
 use yf_events::event::Entry;
 
@@ -49,7 +49,7 @@ pub(crate) struct Wanted<'a> {
     /// The entry that it begins.
     pub(crate) entry: Option<Entry>,
     /// Its properties so far: those on lines before.
-    pub(crate) outer: Option<Held<'a>>,
+    pub(crate) outer: Option<PlacedProperties<'a>>,
 }
 
 /// What comes next, each at a byte offset.

@@ -10,17 +10,17 @@ ghost use Rattle.yf_block.specs.BlockStepTied.{BlockTied};
 ghost use Rattle.yf_block.specs.ContentTied.{AtFirstKey, AtInline, KeyOrLost, KeyRead, LeafEnding};
 ghost use Rattle.yf_block.specs.InlineAnswers.{EmptyKeyAt, InlineEnds, KeyEnds, NoEmptyKey};
 ghost use Rattle.yf_block.specs.InlineTied.{started};
-ghost use Rattle.yf_block.specs.Machine.{Stepped, ProgressAt, HeldBefore, behind_held, MayBoundary};
+ghost use Rattle.yf_block.specs.Machine.{StandingAt, MovedSame, Moved, ProgressAt, PropertiesBefore, earliest_end, MayBoundary};
 ghost use Rattle.yf_flow.specs.Counted.{EndCounted, openers_from};
-ghost use Rattle.yf_block.specs.Counted.{StepCounted};
+ghost use Rattle.yf_block.specs.Counted.{CountsSame, StepCounted};
 
-use crate::content::{Behind, Claim, Share, Spot, is_apart};
+use crate::content::{AfterProperties, Belonging, NodeFacts, NodeStart, is_apart};
 use crate::entry::{await_value, collection_start, entry_at};
 use crate::frame::{Frame, Frames, Kind, Progress, Scope, Step, Wanted};
 use crate::halt::{note_node, note_shorter};
-use crate::held::{Held, lead_of};
 use crate::leaf::read_line_end;
 use crate::look::{key_ends, sign_stands};
+use crate::properties::{PlacedProperties, lead_of};
 use std::alloc::{AllocError, Global};
 use yf_chars::context::Ctx;
 use yf_chars::text::stands;
@@ -40,19 +40,19 @@ pub(crate) fn read_inline<'a>(
     scope: Scope<'a>,
     least: usize,
     at: usize,
-    inner: &Option<Held<'a>>,
+    inner: &Option<PlacedProperties<'a>>,
     lead: &Lead<'a>,
     depth: usize,
     part: &mut Part<'a>,
 ) -> Result<Ending, AllocError>
     requires boundary { IsCharBoundary scope.text.now at }
-    requires held { HeldBefore scope.text.now at inner.now }
+    requires properties { PropertiesBefore scope.text.now at inner.now }
     requires escapes { All (IsCharBoundary scope.text.now) part.old.escapes }
     ensures answers { IsUtf8 scope.entry.text.now → least ≤ 2 ^ 30 → (room : ℕ) → depth + room ≡ scope.entry.limit
         → IfOk result (λ e. InlineEnds scope.entry.text.now room (pos least) at depth inner.now lead.now part.old part.new e) }
     ensures escapes { IfOk result (λ _. All (IsCharBoundary scope.entry.text.now) part.new.escapes) }
-    ensures found { IfOk result (λ e. EndingAt scope.entry.text.now (behind_held at inner.now) e) }
-    ensures counted { IsUtf8 scope.entry.text.now → (total : ℕ) → (start : ℕ) → start < behind_held at inner.now
+    ensures found { IfOk result (λ e. EndingAt scope.entry.text.now (earliest_end at inner.now) e) }
+    ensures counted { IsUtf8 scope.entry.text.now → (total : ℕ) → (start : ℕ) → start < earliest_end at inner.now
         → depth + openers_from scope.entry.text.now start ≤ total
         → IfOk result (λ e. EndCounted scope.entry.text.now scope.entry.limit total e) }
 {
@@ -66,16 +66,16 @@ pub(crate) fn read_inline<'a>(
 }
 
 // The offset after the properties that are an empty key, whose `:` stands there.
-fn empty_key_end(text: &str, at: usize, inner: &Option<Held>) -> Option<usize>
-    requires { HeldBefore text.now at inner.now }
+fn empty_key_end(text: &str, at: usize, inner: &Option<PlacedProperties>) -> Option<usize>
+    requires { PropertiesBefore text.now at inner.now }
     ensures reads { MatchOption result (NoEmptyKey text.now at inner.now) (EmptyKeyAt text.now at inner.now) }
-    ensures place { IfSome result (λ p. Place text.now (behind_held at inner.now) p) }
+    ensures place { IfSome result (λ p. Place text.now (earliest_end at inner.now) p) }
 {
     match *inner {
         None => None,
-        Some(held) => {
+        Some(properties) => {
             if sign_stands(text, at, b':') {
-                return Some(held.end);
+                return Some(properties.end);
             }
             None
         }
@@ -88,19 +88,19 @@ fn read_flow<'a>(
     scope: Scope<'a>,
     least: usize,
     at: usize,
-    inner: &Option<Held<'a>>,
+    inner: &Option<PlacedProperties<'a>>,
     lead: &Lead<'a>,
     depth: usize,
     part: &mut Part<'a>,
 ) -> Result<Ending, AllocError>
     requires boundary { IsCharBoundary scope.text.now at }
-    requires held { HeldBefore scope.text.now at inner.now }
+    requires properties { PropertiesBefore scope.text.now at inner.now }
     requires escapes { All (IsCharBoundary scope.text.now) part.old.escapes }
     requires other { NoEmptyKey scope.text.now at inner.now }
     ensures answers { IsUtf8 scope.entry.text.now → least ≤ 2 ^ 30 → (room : ℕ) → depth + room ≡ scope.entry.limit
         → IfOk result (λ e. InlineEnds scope.entry.text.now room (pos least) at depth inner.now lead.now part.old part.new e) }
     ensures escapes { IfOk result (λ _. All (IsCharBoundary scope.entry.text.now) part.new.escapes) }
-    ensures found { IfOk result (λ e. EndingAt scope.entry.text.now (behind_held at inner.now) e) }
+    ensures found { IfOk result (λ e. EndingAt scope.entry.text.now (earliest_end at inner.now) e) }
     ensures counted { IsUtf8 scope.entry.text.now → (total : ℕ) → depth + openers_from scope.entry.text.now at ≤ total
         → IfOk result (λ e. EndCounted scope.entry.text.now scope.entry.limit total e) }
 {
@@ -171,59 +171,59 @@ pub(crate) fn flow_indentation(least: usize) -> i32
 pub(crate) fn finish_inline<'a>(
     alloc: Global,
     scope: Scope<'a>,
-    behind: &Behind<'a>,
-    claim: &Claim<'a>,
+    after: &AfterProperties<'a>,
+    facts: &NodeFacts<'a>,
     node: Node,
     progress: &mut Progress<'a>,
     frames: &mut Frames,
     part: &mut Part<'a>,
 ) -> Result<Step, AllocError>
-    requires node { Place scope.text.now (behind.now.spot.at + 1) node.end }
-    requires start { IsCharBoundary scope.text.now behind.now.spot.at }
-    requires place { IsCharBoundary scope.text.now behind.now.at }
-    requires held { HeldBefore scope.text.now behind.now.at behind.now.inner }
+    requires node { Place scope.text.now (after.now.node_start.at + 1) node.end }
+    requires start { IsCharBoundary scope.text.now after.now.node_start.at }
+    requires place { IsCharBoundary scope.text.now after.now.at }
+    requires properties { PropertiesBefore scope.text.now after.now.at after.now.inner }
     requires progress { ProgressAt scope.text.now progress.old }
     requires escapes { All (IsCharBoundary scope.text.now) part.old.escapes }
     ensures tied { (d : ℕ) → (root : BlockTask) → (before : Part) → (depth : ℕ) → (earlier : Part) → d ≡ scope.entry.limit
-        → AtInline scope.entry.text.now d root before (reverse frames.old.items) depth behind.now claim.now node progress.old earlier part.old
+        → AtInline scope.entry.text.now d root before (reverse frames.old.items) depth after.now facts.now node
+        progress.old earlier part.old
         → IfOk result (λ s. BlockTied scope.entry.text.now d root before (reverse frames.new.items) s progress.new part.new) }
-    ensures stepped { IfOk result (λ s. Stepped scope.entry.text.now (behind.now.spot.at) 0 progress.new s) }
-    ensures escapes { IfOk result (λ _. All (IsCharBoundary scope.entry.text.now) part.new.escapes) }
+    ensures stepped { IfOk result (Moved scope.entry.text.now (after.now.node_start.at) 0 progress.new part.new) }
     ensures counted { IsUtf8 scope.entry.text.now → (total : ℕ) → node.deepest + openers_from scope.entry.text.now node.end ≤ total
-        → length frames.old.items + openers_from scope.entry.text.now (behind.now.spot.at) ≤ total
+        → length frames.old.items + openers_from scope.entry.text.now (after.now.node_start.at) ≤ total
         → IfOk result (λ s. StepCounted scope.entry.text.now scope.entry.limit total (length frames.new.items) s) }
 {
     let colon = skip_whites(scope.text, node.end);
-    match keyed_column(scope.text, behind.spot, colon) {
+    match keyed_column(scope.text, after.node_start, colon) {
         Some(column) => {
             if node.deepest.max(frames.len()) >= scope.limit {
-                return Ok(Step::TooDeep(behind.spot.at));
+                return Ok(Step::TooDeep(after.node_start.at));
             }
             take_first_key(
-                alloc, scope, behind, claim, column, colon, progress, frames, part,
+                alloc, scope, after, facts, column, colon, progress, frames, part,
             )
         }
         None => {
-            if is_apart(claim.share) {
-                return Ok(Step::Failed(behind.spot.at));
+            if is_apart(facts.belonging) {
+                return Ok(Step::Failed(after.node_start.at));
             }
             progress.last = node.end;
-            let plain = plain_place(node, behind.at);
+            let plain = plain_place(node, after.at);
             end_inline(alloc, scope.text, plain, node.end, progress, frames, part)
         }
     }
 }
 
 // The column of a mapping that begins there with a key whose `:` stands at the other place.
-fn keyed_column(text: &str, spot: Spot, colon: usize) -> Option<usize>
-    requires { IsCharBoundary text.now spot.at }
+fn keyed_column(text: &str, node_start: NodeStart, colon: usize) -> Option<usize>
+    requires { IsCharBoundary text.now node_start.at }
     ensures boundary { IfSome result (λ _. IsCharBoundary text.now (colon + 1)) }
-    ensures key { MatchOption result ((m : ℕ) → spot.column ≡ Some m → KeyEnds text.now (spot.at) colon → ⊥)
-        (λ m. (spot.column ≡ Some m) × KeyEnds text.now (spot.at) colon) }
+    ensures key { MatchOption result ((m : ℕ) → node_start.column ≡ Some m → KeyEnds text.now (node_start.at) colon → ⊥)
+        (λ m. (node_start.column ≡ Some m) × KeyEnds text.now (node_start.at) colon) }
 {
-    match spot.column {
+    match node_start.column {
         Some(column) => {
-            if key_ends(text, spot.at, colon) {
+            if key_ends(text, node_start.at, colon) {
                 return Some(column);
             }
             None
@@ -233,12 +233,12 @@ fn keyed_column(text: &str, spot: Spot, colon: usize) -> Option<usize>
 }
 
 // Whether the properties of lines before are those of the node, if it is no key.
-fn is_joined(share: Share) -> bool
-    ensures { MatchBool result (share ≡ Share.Joined) (share ≡ Share.Joined → ⊥) }
+fn is_joined(belonging: Belonging) -> bool
+    ensures { MatchBool result (belonging ≡ Belonging.Joined) (belonging ≡ Belonging.Joined → ⊥) }
 {
-    match share {
-        Share::Joined => true,
-        Share::Nothing | Share::Apart => false,
+    match belonging {
+        Belonging::Joined => true,
+        Belonging::Nothing | Belonging::Apart => false,
     }
 }
 
@@ -255,36 +255,36 @@ fn plain_place(node: Node, at: usize) -> Option<usize>
 fn take_first_key<'a>(
     alloc: Global,
     scope: Scope<'a>,
-    behind: &Behind<'a>,
-    claim: &Claim<'a>,
+    after: &AfterProperties<'a>,
+    facts: &NodeFacts<'a>,
     column: usize,
     colon: usize,
     progress: &mut Progress<'a>,
     frames: &mut Frames,
     part: &mut Part<'a>,
 ) -> Result<Step, AllocError>
-    requires start { IsCharBoundary scope.text.now behind.now.spot.at }
-    requires place { IsCharBoundary scope.text.now behind.now.at }
-    requires held { HeldBefore scope.text.now behind.now.at behind.now.inner }
-    requires order { behind.now.spot.at ≤ colon }
+    requires start { IsCharBoundary scope.text.now after.now.node_start.at }
+    requires place { IsCharBoundary scope.text.now after.now.at }
+    requires properties { PropertiesBefore scope.text.now after.now.at after.now.inner }
+    requires order { after.now.node_start.at ≤ colon }
     requires next { IsCharBoundary scope.text.now (colon + 1) }
     requires progress { ProgressAt scope.text.now progress.old }
     requires escapes { All (IsCharBoundary scope.text.now) part.old.escapes }
     ensures tied { (d : ℕ) → (root : BlockTask) → (before : Part) → (depth : ℕ) → (earlier : Part) → d ≡ scope.entry.limit
-        → AtFirstKey scope.entry.text.now d root before (reverse frames.old.items) depth behind.now claim.now column colon progress.old earlier part.old
+        → AtFirstKey scope.entry.text.now d root before (reverse frames.old.items) depth after.now facts.now column colon
+        progress.old earlier part.old
         → IfOk result (λ s. BlockTied scope.entry.text.now d root before (reverse frames.new.items) s progress.new part.new) }
-    ensures stepped { IfOk result (λ s. Stepped scope.entry.text.now (behind.now.spot.at) 0 progress.new s) }
-    ensures escapes { IfOk result (λ _. All (IsCharBoundary scope.entry.text.now) part.new.escapes) }
+    ensures stepped { IfOk result (Moved scope.entry.text.now (after.now.node_start.at) 0 progress.new part.new) }
     ensures counted { (total : ℕ) → length frames.old.items + 1 + openers_from scope.entry.text.now (colon + 1) ≤ total
         → IfOk result (λ s. StepCounted scope.entry.text.now scope.entry.limit total (length frames.new.items) s) }
 {
-    let frame = Frame::new(Kind::Mapping, column, claim.before.events);
-    let entry = entry_at(scope.text, progress.floor, behind.spot.at, Some(colon));
+    let frame = Frame::new(Kind::Mapping, column, facts.before.events);
+    let entry = entry_at(scope.text, progress.floor, after.node_start.at, Some(colon));
     begin_mapping(
         alloc,
         scope,
-        behind,
-        claim,
+        after,
+        facts,
         entry,
         &progress.wanted,
         frames.len(),
@@ -304,16 +304,13 @@ fn end_inline<'a>(
     frames: &Frames,
     part: &mut Part<'a>,
 ) -> Result<Step, AllocError>
-    requires boundary { IsCharBoundary text.now at }
+    requires standing { StandingAt text.now at progress.old }
     requires plain { MayBoundary text.now plain }
-    requires progress { ProgressAt text.now progress.old }
     ensures tied { (d : ℕ) → (root : BlockTask) → (before : Part)
         → LeafEnding text.now d root before (reverse frames.now.items) plain at progress.old part.old
         → IfOk result (λ s. BlockTied text.now d root before (reverse frames.now.items) s progress.new part.new) }
-    ensures stepped { IfOk result (λ s. Stepped text.now at 1 progress.new s) }
-    ensures escapes { IfOk result (λ _. part.new.escapes ≡ part.old.escapes) }
-    ensures counted { (limit : ℕ) → (total : ℕ) → (count : ℕ) → count + openers_from text.now at ≤ total
-        → IfOk result (λ s. StepCounted text.now limit total count s) }
+    ensures stepped { IfOk result (MovedSame text.now at 1 part.old.escapes progress.new part.new) }
+    ensures counted { CountsSame text.now at result }
 {
     match read_line_end(alloc, text, at)? {
         Some(Separation { comments, end }) => {
@@ -332,40 +329,41 @@ fn end_inline<'a>(
 fn begin_mapping<'a>(
     alloc: Global,
     scope: Scope<'a>,
-    behind: &Behind<'a>,
-    claim: &Claim<'a>,
+    after: &AfterProperties<'a>,
+    facts: &NodeFacts<'a>,
     entry: Entry,
     wanted: &Wanted<'a>,
     depth: usize,
     part: &mut Part<'a>,
 ) -> Result<(), AllocError>
-    requires place { IsCharBoundary scope.text.now behind.now.at }
-    requires held { HeldBefore scope.text.now behind.now.at behind.now.inner }
+    requires place { IsCharBoundary scope.text.now after.now.at }
+    requires properties { PropertiesBefore scope.text.now after.now.at after.now.inner }
     requires escapes { All (IsCharBoundary scope.text.now) part.old.escapes }
-    ensures key { (earlier : Part) → (room : ℕ) → IsUtf8 scope.entry.text.now → wanted.now.least ≤ 2 ^ 30 → depth + room ≡ scope.entry.limit
-        → KeyRead scope.entry.text.now room (pos wanted.now.least) depth behind.now claim.now wanted.now earlier part.old
-        → IfOk result (λ _. KeyOrLost scope.entry.text.now room (pos wanted.now.least) depth behind.now entry
-        (started Kind.Mapping behind.now.spot.at wanted.now) earlier part.new) }
+    ensures key { (earlier : Part) → (room : ℕ) → IsUtf8 scope.entry.text.now → wanted.now.least ≤ 2 ^ 30
+        → depth + room ≡ scope.entry.limit
+        → KeyRead scope.entry.text.now room (pos wanted.now.least) depth after.now facts.now wanted.now earlier part.old
+        → IfOk result (λ _. KeyOrLost scope.entry.text.now room (pos wanted.now.least) depth after.now entry
+        (started Kind.Mapping after.now.node_start.at wanted.now) earlier part.new) }
     ensures escapes { IfOk result (λ _. All (IsCharBoundary scope.entry.text.now) part.new.escapes) }
 {
-    let start = collection_start(alloc, Kind::Mapping, behind.spot.at, wanted);
-    if is_joined(claim.share) {
-        claim.before.cut(part);
+    let start = collection_start(alloc, Kind::Mapping, after.node_start.at, wanted);
+    if is_joined(facts.belonging) {
+        facts.before.cut(part);
         part.events.push(start)?;
-        let lead = lead_of(behind.spot.at, behind.inner, Some(entry));
+        let lead = lead_of(after.node_start.at, after.inner, Some(entry));
         let _again = read_inline(
             alloc,
             scope,
             wanted.least,
-            behind.at,
-            &behind.inner,
+            after.at,
+            &after.inner,
             &lead,
             depth,
             part,
         )?;
         return Ok(());
     }
-    put_before(claim.before.events, start, entry, part)?;
+    put_before(facts.before.events, start, entry, part)?;
     Ok(())
 }
 

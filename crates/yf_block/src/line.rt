@@ -1,18 +1,16 @@
 //! Nodes where they are awaited: after an indicator, or at the start of a line (s-l+block-node, production 196).
-ghost use Rattle.std.specs.Prelude.{◌≡◌, ◌^◌, ◌<◌, ◌≤◌, ℕ, IfOk, IfSome, List, reverse, ◌+◌, length, Some, true, false, ◌⊎◌, MatchBool, MatchOption};
-ghost use Rattle.std.specs.List.{All};
-ghost use Rattle.std.specs.Str.{IsCharBoundary, IsUtf8};
+ghost use Rattle.std.specs.Prelude.{◌≡◌, ◌^◌, ◌<◌, ◌≤◌, ℕ, IfOk, IfSome, List, reverse, ◌+◌, Some, true, false, ◌⊎◌, MatchBool, MatchOption};
+ghost use Rattle.std.specs.Str.{IsCharBoundary};
 ghost use Rattle.yf_flow.specs.Machine.{Place};
 ghost use Rattle.yf_block.specs.BlockStepTied.{AtNode, AtLine, BlockTied};
 ghost use Rattle.yf_block.specs.ColumnsTied.{CompactTied, SequenceBegins, SequenceTied};
 ghost use Rattle.yf_block.specs.LineStepTied.{AtEmpty, AtIndented};
 ghost use Rattle.yf_block.specs.LineTied.{AtBelow, EndedTied};
-ghost use Rattle.yf_block.specs.Machine.{Stepped, ProgressAt};
+ghost use Rattle.yf_block.specs.Machine.{StandingAt, MovedSame, Moved, Standing};
 ghost use Rattle.yf_grammar.specs.BlockParser.{BlockTask, DashAt};
-ghost use Rattle.yf_flow.specs.Counted.{openers_from};
-ghost use Rattle.yf_block.specs.Counted.{StepCounted};
+ghost use Rattle.yf_block.specs.Counted.{CountsSame, CountsFrom};
 
-use crate::content::{Spot, take_content};
+use crate::content::{NodeStart, take_content};
 use crate::entry::open_sequence;
 use crate::frame::{Frame, Frames, Progress, Scope, Step, Wanted};
 use crate::halt::note_empty;
@@ -35,15 +33,12 @@ pub(crate) fn first_line<'a>(
     progress: &mut Progress<'a>,
     part: &mut Part<'a>,
 ) -> Result<Step, AllocError>
-    requires boundary { IsCharBoundary text.now at }
-    requires progress { ProgressAt text.now progress.old }
+    requires standing { StandingAt text.now at progress.old }
     ensures tied { (d : ℕ) → (root : BlockTask) → (before : Part) → (frames : List Frame)
         → AtBelow text.now d root before frames at progress.old part.old
         → IfOk result (λ s. BlockTied text.now d root before frames s progress.new part.new) }
-    ensures stepped { IfOk result (λ s. Stepped text.now at 2 progress.new s) }
-    ensures escapes { IfOk result (λ _. part.new.escapes ≡ part.old.escapes) }
-    ensures counted { (limit : ℕ) → (total : ℕ) → (count : ℕ) → count + openers_from text.now at ≤ total
-        → IfOk result (λ s. StepCounted text.now limit total count s) }
+    ensures stepped { IfOk result (MovedSame text.now at 2 part.old.escapes progress.new part.new) }
+    ensures counted { CountsSame text.now at result }
 {
     match end_line(alloc, text, at, progress, part)? {
         Step::Line(line) => {
@@ -62,15 +57,12 @@ pub(crate) fn end_line<'a>(
     progress: &mut Progress<'a>,
     part: &mut Part<'a>,
 ) -> Result<Step, AllocError>
-    requires boundary { IsCharBoundary text.now at }
-    requires progress { ProgressAt text.now progress.old }
+    requires standing { StandingAt text.now at progress.old }
     ensures tied { (d : ℕ) → (root : BlockTask) → (before : Part) → (frames : List Frame)
         → AtBelow text.now d root before frames at progress.old part.old
         → IfOk result (λ s. EndedTied text.now d root before frames at s progress.new part.new) }
-    ensures stepped { IfOk result (λ s. Stepped text.now at 2 progress.new s) }
-    ensures escapes { IfOk result (λ _. part.new.escapes ≡ part.old.escapes) }
-    ensures counted { (limit : ℕ) → (total : ℕ) → (count : ℕ) → count + openers_from text.now at ≤ total
-        → IfOk result (λ s. StepCounted text.now limit total count s) }
+    ensures stepped { IfOk result (MovedSame text.now at 2 part.old.escapes progress.new part.new) }
+    ensures counted { CountsSame text.now at result }
 {
     match read_line_end(alloc, text, at)? {
         Some(Separation { comments, end }) => {
@@ -92,16 +84,12 @@ pub(crate) fn take_node<'a>(
     frames: &mut Frames,
     part: &mut Part<'a>,
 ) -> Result<Step, AllocError>
-    requires boundary { IsCharBoundary scope.text.now at }
-    requires progress { ProgressAt scope.text.now progress.old }
-    requires escapes { All (IsCharBoundary scope.text.now) part.old.escapes }
+    requires standing { Standing scope.text.now at progress.old part.old }
     ensures tied { (d : ℕ) → (root : BlockTask) → (before : Part) → d < 2 ^ 64 → d ≡ scope.entry.limit
         → AtNode scope.entry.text.now d root before (reverse frames.old.items) at progress.old part.old
         → IfOk result (λ s. BlockTied scope.entry.text.now d root before (reverse frames.new.items) s progress.new part.new) }
-    ensures stepped { IfOk result (λ s. Stepped scope.entry.text.now at 2 progress.new s) }
-    ensures escapes { IfOk result (λ _. All (IsCharBoundary scope.entry.text.now) part.new.escapes) }
-    ensures counted { IsUtf8 scope.entry.text.now → (total : ℕ) → length frames.old.items + openers_from scope.entry.text.now at ≤ total
-        → IfOk result (λ s. StepCounted scope.entry.text.now scope.entry.limit total (length frames.new.items) s) }
+    ensures stepped { IfOk result (Moved scope.entry.text.now at 2 progress.new part.new) }
+    ensures counted { CountsFrom scope.entry at frames.old.items frames.new.items result }
 {
     let text = scope.text;
     let place = skip_whites(text, at);
@@ -115,8 +103,8 @@ pub(crate) fn take_node<'a>(
     match dashed_column(text, place, column) {
         Some(dashed) => open_sequence(alloc, scope, place, dashed, progress, frames, part),
         None => {
-            let spot = Spot { at: place, column };
-            take_content(alloc, scope, spot, progress, frames, part)
+            let node_start = NodeStart { at: place, column };
+            take_content(alloc, scope, node_start, progress, frames, part)
         }
     }
 }
@@ -162,16 +150,12 @@ pub(crate) fn take_line<'a>(
     frames: &mut Frames,
     part: &mut Part<'a>,
 ) -> Result<Step, AllocError>
-    requires boundary { IsCharBoundary scope.text.now at }
-    requires progress { ProgressAt scope.text.now progress.old }
-    requires escapes { All (IsCharBoundary scope.text.now) part.old.escapes }
+    requires standing { Standing scope.text.now at progress.old part.old }
     ensures tied { (d : ℕ) → (root : BlockTask) → (before : Part) → d < 2 ^ 64 → d ≡ scope.entry.limit
         → AtLine scope.entry.text.now d root before (reverse frames.old.items) at progress.old part.old
         → IfOk result (λ s. BlockTied scope.entry.text.now d root before (reverse frames.new.items) s progress.new part.new) }
-    ensures stepped { IfOk result (λ s. Stepped scope.entry.text.now at 1 progress.new s) }
-    ensures escapes { IfOk result (λ _. All (IsCharBoundary scope.entry.text.now) part.new.escapes) }
-    ensures counted { IsUtf8 scope.entry.text.now → (total : ℕ) → length frames.old.items + openers_from scope.entry.text.now at ≤ total
-        → IfOk result (λ s. StepCounted scope.entry.text.now scope.entry.limit total (length frames.new.items) s) }
+    ensures stepped { IfOk result (Moved scope.entry.text.now at 1 progress.new part.new) }
+    ensures counted { CountsFrom scope.entry at frames.old.items frames.new.items result }
 {
     let text = scope.text;
     note_empty(text, at, progress, frames);
@@ -224,17 +208,13 @@ fn take_indented<'a>(
     frames: &mut Frames,
     part: &mut Part<'a>,
 ) -> Result<Step, AllocError>
-    requires boundary { IsCharBoundary scope.text.now at }
+    requires standing { Standing scope.text.now at progress.old part.old }
     requires place { Place scope.text.now at start }
-    requires progress { ProgressAt scope.text.now progress.old }
-    requires escapes { All (IsCharBoundary scope.text.now) part.old.escapes }
     ensures tied { (d : ℕ) → (root : BlockTask) → (before : Part) → d < 2 ^ 64 → d ≡ scope.entry.limit
         → AtIndented scope.entry.text.now d root before (reverse frames.old.items) at start progress.old part.old
         → IfOk result (λ s. BlockTied scope.entry.text.now d root before (reverse frames.new.items) s progress.new part.new) }
-    ensures stepped { IfOk result (λ s. Stepped scope.entry.text.now at 1 progress.new s) }
-    ensures escapes { IfOk result (λ _. All (IsCharBoundary scope.entry.text.now) part.new.escapes) }
-    ensures counted { IsUtf8 scope.entry.text.now → (total : ℕ) → length frames.old.items + openers_from scope.entry.text.now at ≤ total
-        → IfOk result (λ s. StepCounted scope.entry.text.now scope.entry.limit total (length frames.new.items) s) }
+    ensures stepped { IfOk result (Moved scope.entry.text.now at 1 progress.new part.new) }
+    ensures counted { CountsFrom scope.entry at frames.old.items frames.new.items result }
 {
     let width = start - at;
     if !may_begin(progress, width) {
@@ -248,8 +228,8 @@ fn take_indented<'a>(
         return Ok(Step::Failed(place));
     }
     let column = line_column(progress.wanted.least, width, start, place);
-    let spot = Spot { at: place, column };
-    take_content(alloc, scope, spot, progress, frames, part)
+    let node_start = NodeStart { at: place, column };
+    take_content(alloc, scope, node_start, progress, frames, part)
 }
 
 // Whether a line is indented as it must be; nothing is asked of the first one.
@@ -284,28 +264,25 @@ fn end_empty<'a>(
     frames: &Frames,
     part: &mut Part<'a>,
 ) -> Result<Step, AllocError>
-    requires boundary { IsCharBoundary _text.now at }
-    requires progress { ProgressAt _text.now progress.old }
+    requires standing { StandingAt _text.now at progress.old }
     ensures tied { (d : ℕ) → (root : BlockTask) → (before : Part)
         → AtEmpty _text.now d root before (reverse frames.now.items) at progress.old part.old
         → IfOk result (λ s. BlockTied _text.now d root before (reverse frames.now.items) s progress.new part.new) }
-    ensures stepped { IfOk result (λ s. Stepped _text.now at 1 progress.new s) }
-    ensures escapes { IfOk result (λ _. part.new.escapes ≡ part.old.escapes) }
-    ensures counted { (limit : ℕ) → (total : ℕ) → (count : ℕ) → count + openers_from _text.now at ≤ total
-        → IfOk result (λ s. StepCounted _text.now limit total count s) }
+    ensures stepped { IfOk result (MovedSame _text.now at 1 part.old.escapes progress.new part.new) }
+    ensures counted { CountsSame _text.now at result }
 {
     match progress.wanted.outer {
-        Some(held) => {
-            let lead = held.lead(progress.wanted.entry);
+        Some(properties) => {
+            let lead = properties.lead(progress.wanted.entry);
             push_scalar(
                 alloc,
                 lead,
                 ScalarStyle::Plain,
                 Text::Part(""),
-                held.end,
+                properties.end,
                 part,
             )?;
-            progress.last = held.end;
+            progress.last = properties.end;
         }
         None => {
             if frames.len() == 0 {

@@ -91,8 +91,8 @@ fn is_short_line(text: &str, start: usize, end: usize) -> bool
 }
 
 /// Whether nothing more stands on the line from the offset on; a comment stands after a white.
-pub(crate) fn line_ends(text: &str, at: usize, behind_white: bool) -> bool
-    ensures { MatchBool result (LineEndsAt text.now behind_white at) (LineEndsAt text.now behind_white at → ⊥) }
+pub(crate) fn line_ends(text: &str, at: usize, after_white: bool) -> bool
+    ensures { MatchBool result (LineEndsAt text.now after_white at) (LineEndsAt text.now after_white at → ⊥) }
 {
     if at == text.len() {
         return true;
@@ -103,7 +103,7 @@ pub(crate) fn line_ends(text: &str, at: usize, behind_white: bool) -> bool
     if stands(text, at, b'\r') {
         return true;
     }
-    if behind_white {
+    if after_white {
         return stands(text, at, b'#');
     }
     false

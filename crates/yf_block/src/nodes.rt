@@ -1,12 +1,12 @@
 //! The reader of block nodes: one forward pass, with a stack of the open collections.
-ghost use Rattle.std.specs.Prelude.{◌≡◌, ℕ, ℤ, pos, ◌+ℤ◌, ◌^◌, ◌<◌, ◌≤◌, [], true, false, IfOk, IfSome, ◌+◌, length, MatchBool, MatchOption, Some, None, Ok};
+ghost use Rattle.std.specs.Prelude.{◌≡◌, ℕ, ℤ, pos, ◌+ℤ◌, ◌^◌, ◌<◌, ◌≤◌, [], true, false, IfOk, ◌+◌, length, MatchBool, MatchOption, Some, None, Ok};
 ghost use Rattle.std.specs.List.{All};
 ghost use Rattle.std.specs.Str.{IsCharBoundary, IsUtf8};
 ghost use Rattle.yf_grammar.specs.BlockParser.{Nothing, Awaited, BlockTask};
 ghost use Rattle.yf_block.specs.BlockStepTied.{BlockTied, is_out};
 ghost use Rattle.yf_block.specs.BlockTied.{TextTied};
 ghost use Rattle.yf_block.specs.RootTied.{AtRoot};
-ghost use Rattle.yf_block.specs.Machine.{MayBoundary, ProgressAt, StoppedAt, StepReady, StopAt, OutcomeAt};
+ghost use Rattle.yf_block.specs.Machine.{StandingAt, MayBoundary, ProgressAt, StoppedAt, StepReady, StopAt, OutcomeAt};
 ghost use Rattle.yf_lines.specs.Basic.{is_block};
 ghost use Rattle.yf_flow.specs.Counted.{openers_from};
 ghost use Rattle.yf_block.specs.Counted.{StepCounted};
@@ -199,8 +199,7 @@ fn begin<'a>(
     progress: &mut Progress<'a>,
     part: &mut Part<'a>,
 ) -> Result<Step, AllocError>
-    requires boundary { IsCharBoundary text.now at }
-    requires progress { ProgressAt text.now progress.old }
+    requires standing { StandingAt text.now at progress.old }
     ensures tied { (n : ℤ) → (c : Ctx) → (d : ℕ) → AtRoot text.now n c at progress.old
         → IfOk result (λ s. BlockTied text.now d (Awaited false n c Nothing at) part.old [] s progress.new part.new) }
     ensures progress { IfOk result (λ _. ProgressAt text.now progress.new) }

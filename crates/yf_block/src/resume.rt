@@ -1,16 +1,15 @@
 //! After a node, at the start of a line: the next entry of an open collection, or the end of collections.
 ghost use Rattle.std.specs.Prelude.{◌≡◌, ℕ, ◌-◌, ◌^◌, ◌<◌, ◌++◌, IfOk, IfSome, MatchOption, reverse, ◌+◌, ◌≤◌, length};
-ghost use Rattle.std.specs.List.{All};
-ghost use Rattle.std.specs.Str.{IsCharBoundary, IsUtf8};
+ghost use Rattle.std.specs.Str.{IsUtf8};
 ghost use Rattle.yf_events.specs.Edit.{edited, ended};
 ghost use Rattle.yf_grammar.specs.BlockParser.{BlockTask};
 ghost use Rattle.yf_block.specs.BlockStepTied.{AtResume, AtDone, AtFit, AtTop, BlockTied};
 ghost use Rattle.yf_block.specs.BlockTied.{colons_if};
 ghost use Rattle.yf_block.specs.Closing.{closing};
 ghost use Rattle.yf_block.specs.Fits.{FitsLine, PairLine, PlaceTied};
-ghost use Rattle.yf_block.specs.Machine.{Stepped, ProgressAt, MayPlace, FitsAt};
+ghost use Rattle.yf_block.specs.Machine.{StandingAt, Moved, Standing, ProgressAt, MayPlace, FitsAt};
 ghost use Rattle.yf_flow.specs.Counted.{openers_from};
-ghost use Rattle.yf_block.specs.Counted.{StepCounted};
+ghost use Rattle.yf_block.specs.Counted.{CountsFrom, StepCounted};
 
 use crate::entry::{take_entry, take_explicit_value, take_item};
 use crate::frame::{Frame, Frames, Kind, Progress, Scope, Step};
@@ -30,7 +29,7 @@ enum Fit {
     // It is indented more than the entries are, up to the offset.
     Deeper(usize),
     // The collection ends before it.
-    Behind,
+    EndsBefore,
 }
 
 // The innermost collection that does not end before a line, and what the line is to it. It is no longer on the stack.
@@ -49,16 +48,12 @@ pub(crate) fn resume<'a>(
     frames: &mut Frames,
     part: &mut Part<'a>,
 ) -> Result<Step, AllocError>
-    requires boundary { IsCharBoundary scope.text.now at }
-    requires progress { ProgressAt scope.text.now progress.old }
-    requires escapes { All (IsCharBoundary scope.text.now) part.old.escapes }
+    requires standing { Standing scope.text.now at progress.old part.old }
     ensures tied { (d : ℕ) → (root : BlockTask) → (before : Part) → d < 2 ^ 64 → d ≡ scope.entry.limit
         → AtResume scope.entry.text.now d root before (reverse frames.old.items) at progress.old part.old
         → IfOk result (λ s. BlockTied scope.entry.text.now d root before (reverse frames.new.items) s progress.new part.new) }
-    ensures stepped { IfOk result (λ s. Stepped scope.entry.text.now at 0 progress.new s) }
-    ensures escapes { IfOk result (λ _. All (IsCharBoundary scope.entry.text.now) part.new.escapes) }
-    ensures counted { IsUtf8 scope.entry.text.now → (total : ℕ) → length frames.old.items + openers_from scope.entry.text.now at ≤ total
-        → IfOk result (λ s. StepCounted scope.entry.text.now scope.entry.limit total (length frames.new.items) s) }
+    ensures stepped { IfOk result (Moved scope.entry.text.now at 0 progress.new part.new) }
+    ensures counted { CountsFrom scope.entry at frames.old.items frames.new.items result }
 {
     match end_collections(alloc, scope.text, at, progress, frames, part)? {
         None => Ok(Step::Done(at)),
@@ -66,7 +61,7 @@ pub(crate) fn resume<'a>(
             Fit::Item(start) => take_item(scope.text, start, frame, progress, frames),
             Fit::Entry(start) => next_entry(alloc, scope, start, frame, progress, frames, part),
             Fit::Deeper(start) => Ok(Step::Failed(start)),
-            Fit::Behind => Ok(Step::Failed(at)),
+            Fit::EndsBefore => Ok(Step::Failed(at)),
         },
     }
 }
@@ -80,8 +75,7 @@ fn end_collections<'a>(
     frames: &mut Frames,
     part: &mut Part<'a>,
 ) -> Result<Option<Next>, AllocError>
-    requires boundary { IsCharBoundary text.now at }
-    requires progress { ProgressAt text.now progress.old }
+    requires standing { StandingAt text.now at progress.old }
     ensures progress { IfOk result (λ _. ProgressAt text.now progress.new) }
     ensures places { IfOk result (λ o. IfSome o (λ n. FitsAt text.now at n.fit)) }
     ensures escapes { IfOk result (λ _. part.new.escapes ≡ part.old.escapes) }
@@ -96,7 +90,7 @@ fn end_collections<'a>(
         progress.colons = colons_without(&frame, progress.colons);
         let fit = fit_of(text, at, place, &frame);
         match fit {
-            Fit::Behind => end_collection(alloc, frame, progress.last, part)?,
+            Fit::EndsBefore => end_collection(alloc, frame, progress.last, part)?,
             _ => return Ok(Some(Next { frame, fit })),
         }
     }
@@ -120,11 +114,11 @@ fn fit_of(text: &str, at: usize, place: Option<usize>, frame: &Frame) -> Fit
     ensures line { PlaceTied text.now at place → FitsLine text.now at frame.now result }
 {
     match place {
-        None => Fit::Behind,
+        None => Fit::EndsBefore,
         Some(start) => {
             let column = start - at;
             if column < frame.column {
-                return Fit::Behind;
+                return Fit::EndsBefore;
             }
             if column > frame.column {
                 return Fit::Deeper(start);
@@ -134,7 +128,7 @@ fn fit_of(text: &str, at: usize, place: Option<usize>, frame: &Frame) -> Fit
                     if dash_stands(text, start) {
                         return Fit::Item(start);
                     }
-                    Fit::Behind
+                    Fit::EndsBefore
                 }
                 Kind::Mapping => Fit::Entry(start),
             }
@@ -152,16 +146,14 @@ fn next_entry<'a>(
     frames: &mut Frames,
     part: &mut Part<'a>,
 ) -> Result<Step, AllocError>
-    requires boundary { IsCharBoundary scope.text.now at }
-    requires progress { ProgressAt scope.text.now progress.old }
-    requires escapes { All (IsCharBoundary scope.text.now) part.old.escapes }
+    requires standing { Standing scope.text.now at progress.old part.old }
     ensures tied { (line : ℕ) → (d : ℕ) → (root : BlockTask) → (before : Part) → d < 2 ^ 64 → d ≡ scope.entry.limit
         → PairLine scope.entry.text.now line frame at → AtTop scope.entry.text.now d root before
         (reverse frames.old.items) line frame progress.old part.old
         → IfOk result (λ s. BlockTied scope.entry.text.now d root before (reverse frames.new.items) s progress.new part.new) }
-    ensures stepped { IfOk result (λ s. Stepped scope.entry.text.now at 0 progress.new s) }
-    ensures escapes { IfOk result (λ _. All (IsCharBoundary scope.entry.text.now) part.new.escapes) }
-    ensures counted { IsUtf8 scope.entry.text.now → (total : ℕ) → length frames.old.items + 1 + openers_from scope.entry.text.now at ≤ total
+    ensures stepped { IfOk result (Moved scope.entry.text.now at 0 progress.new part.new) }
+    ensures counted { IsUtf8 scope.entry.text.now → (total : ℕ)
+        → length frames.old.items + 1 + openers_from scope.entry.text.now at ≤ total
         → IfOk result (λ s. StepCounted scope.entry.text.now scope.entry.limit total (length frames.new.items) s) }
 {
     if frame.awaits_colon {

@@ -1,16 +1,13 @@
 //! Block scalars as nodes (YAML 1.2.2, section 8.1).
 ghost use Rattle.std.specs.Prelude.{◌≡◌, IfOk, ℕ, ◌+◌, ◌≤◌, length, ◌^◌, ◌<◌, ◌++◌, reverse};
-ghost use Rattle.std.specs.Str.{IsCharBoundary, IsUtf8};
-ghost use Rattle.yf_lines.specs.Basic.{LineStart};
 ghost use Rattle.yf_comments.specs.Comment.{row_comments};
 ghost use Rattle.yf_events.specs.Event.{placed_value};
 ghost use Rattle.yf_grammar.specs.BlockParser.{BlockTask};
 ghost use Rattle.yf_grammar.specs.BlockScalar.{kept_lines as kept_of, reach as reach_of, style_of as style_by};
 ghost use Rattle.yf_flow.specs.Machine.{Place};
 ghost use Rattle.yf_block.specs.BlockStepTied.{BlockTied};
-ghost use Rattle.yf_block.specs.Machine.{Stepped, ProgressAt};
-ghost use Rattle.yf_flow.specs.Counted.{openers_from};
-ghost use Rattle.yf_block.specs.Counted.{StepCounted};
+ghost use Rattle.yf_block.specs.Machine.{StandingAt, MovedSame};
+ghost use Rattle.yf_block.specs.Counted.{CountsSame};
 ghost use Rattle.yf_block.specs.ScalarTied.{AtBody, AtScalar, scalar_event};
 
 use crate::frame::{Frames, Progress, Scope, Step};
@@ -42,15 +39,12 @@ pub(crate) fn take_block_scalar<'a>(
     frames: &Frames,
     part: &mut Part<'a>,
 ) -> Result<Step, AllocError>
-    requires boundary { IsCharBoundary scope.text.now at }
-    requires progress { ProgressAt scope.text.now progress.old }
+    requires standing { StandingAt scope.text.now at progress.old }
     ensures tied { (d : ℕ) → (root : BlockTask) → (before : Part)
         → AtScalar scope.entry.text.now d root before (reverse frames.now.items) lead.now least at progress.old part.old
         → IfOk result (λ s. BlockTied scope.entry.text.now d root before (reverse frames.now.items) s progress.new part.new) }
-    ensures stepped { IfOk result (λ s. Stepped scope.entry.text.now at 0 progress.new s) }
-    ensures escapes { IfOk result (λ _. part.new.escapes ≡ part.old.escapes) }
-    ensures counted { (limit : ℕ) → (total : ℕ) → (count : ℕ) → count + openers_from scope.entry.text.now at ≤ total
-        → IfOk result (λ s. StepCounted scope.entry.text.now limit total count s) }
+    ensures stepped { IfOk result (MovedSame scope.entry.text.now at 0 part.old.escapes progress.new part.new) }
+    ensures counted { CountsSame scope.entry.text.now at result }
 {
     match read_header(scope.text, at) {
         None => Ok(Step::Failed(at)),
@@ -96,16 +90,13 @@ fn take_body<'a>(
     frames: &Frames,
     part: &mut Part<'a>,
 ) -> Result<Step, AllocError>
-    requires boundary { IsCharBoundary text.now at }
+    requires standing { StandingAt text.now at progress.old }
     requires next { Place text.now at block.next }
-    requires progress { ProgressAt text.now progress.old }
     ensures tied { (d : ℕ) → (root : BlockTask) → (before : Part)
         → AtBody text.now d root before (reverse frames.now.items) lead.now at block.entry progress.old part.old
         → IfOk result (λ s. BlockTied text.now d root before (reverse frames.now.items) s progress.new part.new) }
-    ensures stepped { IfOk result (λ s. Stepped text.now at 1 progress.new s) }
-    ensures escapes { IfOk result (λ _. part.new.escapes ≡ part.old.escapes) }
-    ensures counted { (limit : ℕ) → (total : ℕ) → (count : ℕ) → count + openers_from text.now at ≤ total
-        → IfOk result (λ s. StepCounted text.now limit total count s) }
+    ensures stepped { IfOk result (MovedSame text.now at 1 part.old.escapes progress.new part.new) }
+    ensures counted { CountsSame text.now at result }
 {
     let finish = skip_lines(text, at, reach(&block));
     let next = block.next;

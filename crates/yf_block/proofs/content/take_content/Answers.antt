@@ -12,7 +12,7 @@ returns-in-Some-2-clause-tied c = λ d root before cols j r q y a.
 
 pub returns-in-None-2-clause-tied : goal.returns-in-None-2-clause-tied
 returns-in-None-2-clause-tied c = λ d root before cols j r q y a.
-    c.take_behind.ensures.tied d root before r (record { content = record { cols = cols; start = a; column_is = q; signless = signless_there q y c.in-None.ensures }; text = text_alone (rw c.in-None-2.is at c.in_ok-inner-in-None.ensures.reads) })
+    c.take_after_properties.ensures.tied d root before r (record { content = record { cols = cols; start = a; column_is = q; signless = signless_there q y c.in-None.ensures }; text = text_alone (rw c.in-None-2.is at c.in_ok-inner-in-None.ensures.reads) })
 
 pub returns-in-Some-clause-counted : goal.returns-in-Some-clause-counted
 returns-in-Some-clause-counted c = λ u total q. c.open_mapping.ensures.counted u total c.in-Some.ensures.1 q
@@ -21,4 +21,4 @@ pub returns-in-Some-2-clause-counted : goal.returns-in-Some-2-clause-counted
 returns-in-Some-2-clause-counted c = λ u total q. c.take_propertied.ensures.counted u total q
 
 pub returns-in-None-2-clause-counted : goal.returns-in-None-2-clause-counted
-returns-in-None-2-clause-counted c = λ u total q. c.take_behind.ensures.counted u total q
+returns-in-None-2-clause-counted c = λ u total q. c.take_after_properties.ensures.counted u total q

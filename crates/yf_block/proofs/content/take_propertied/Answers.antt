@@ -1,6 +1,6 @@
 use Rattle.std.proofs.lemmas.Bool.{lt-ltb}
 use Rattle.yf_block.specs.ContentTied.{text_held}
-use Rattle.yf_block.proofs.ContentLines.{line_goes_on_behind, nowhere_behind_fails}
+use Rattle.yf_block.proofs.ContentLines.{line_goes_on_after, nowhere_after_fails}
 use Rattle.std.proofs.Common.{length}
 use Rattle.yf_block.proofs.content.take_propertied.Goals as goal
 
@@ -11,16 +11,16 @@ returns-then-line_ends-clause-tied c = λ d root before r l a.
 
 pub returns-in-None-clause-tied : goal.returns-in-None-clause-tied
 returns-in-None-clause-tied c = λ d root before r l a.
-    let q = line_goes_on_behind a.start a.signless l c.skip_whites-place.ensures.whites.1 c.skip_whites-place.ensures.all (λ o. lt-ltb _ _ o) c.if-line_ends.ensures in
-    nowhere_behind_fails a.start a.signless l q c.in-None.ensures.reads
+    let q = line_goes_on_after a.start a.signless l c.skip_whites-place.ensures.whites.1 c.skip_whites-place.ensures.all (λ o. lt-ltb _ _ o) c.if-line_ends.ensures in
+    nowhere_after_fails a.start a.signless l q c.in-None.ensures.reads
 
 pub returns-in-Some-clause-tied : goal.returns-in-Some-clause-tied
 returns-in-Some-clause-tied c = λ d root before r l a.
-    let q = line_goes_on_behind a.start a.signless l c.skip_whites-place.ensures.whites.1 c.skip_whites-place.ensures.all (λ o. lt-ltb _ _ o) c.if-line_ends.ensures in
-    c.take_behind.ensures.tied d root before r (record { content = a; text = text_held l q c.in-Some.ensures.reads })
+    let q = line_goes_on_after a.start a.signless l c.skip_whites-place.ensures.whites.1 c.skip_whites-place.ensures.all (λ o. lt-ltb _ _ o) c.if-line_ends.ensures in
+    c.take_after_properties.ensures.tied d root before r (record { content = a; text = text_held l q c.in-Some.ensures.reads })
 
 pub returns-then-line_ends-clause-counted : goal.returns-then-line_ends-clause-counted
 returns-then-line_ends-clause-counted c = λ u total q. c.end_propertied.ensures.counted c.args.scope.limit total (length c.args.frames.now.items) q
 
 pub returns-in-Some-clause-counted : goal.returns-in-Some-clause-counted
-returns-in-Some-clause-counted c = λ u total q. c.take_behind.ensures.counted u total q
+returns-in-Some-clause-counted c = λ u total q. c.take_after_properties.ensures.counted u total q

@@ -30,16 +30,16 @@ returns-else-is_apart-clause-tied c = λ d root before depth earlier r a.
 
 pub returns-then-max-scope-clause-counted : goal.returns-then-max-scope-clause-counted
 returns-then-max-scope-clause-counted c = λ u total z q.
-    let l : c.args.behind.now.spot.at ≤ c.skip_whites-colon.result = omega (arith, c.requires.node.order, c.skip_whites-colon.ensures.order) in
-    key_full _ c.args.scope.limit total (length c.args.frames.now.items) c.args.node.deepest c.args.behind.now.spot.at c.args.node.end c.skip_whites-colon.result u c.in-Some.ensures.key.1.colon l c.skip_whites-colon.ensures.order z q
+    let l : c.args.after.now.node_start.at ≤ c.skip_whites-colon.result = omega (arith, c.requires.node.order, c.skip_whites-colon.ensures.order) in
+    key_full _ c.args.scope.limit total (length c.args.frames.now.items) c.args.node.deepest c.args.after.now.node_start.at c.args.node.end c.skip_whites-colon.result u c.in-Some.ensures.key.1.colon l c.skip_whites-colon.ensures.order z q
     (omega (arith, c.if-max-scope.true, c.max.ensures, c.len.ensures.value))
 
 pub returns-else-max-scope-clause-counted : goal.returns-else-max-scope-clause-counted
 returns-else-max-scope-clause-counted c = λ u total z q.
-    let l : c.args.behind.now.spot.at ≤ c.skip_whites-colon.result = omega (arith, c.requires.node.order, c.skip_whites-colon.ensures.order) in
-    c.take_first_key.ensures.counted total (colon_passed _ (length c.args.frames.now.items) total c.args.behind.now.spot.at c.skip_whites-colon.result u c.in-Some.ensures.key.1.colon l q)
+    let l : c.args.after.now.node_start.at ≤ c.skip_whites-colon.result = omega (arith, c.requires.node.order, c.skip_whites-colon.ensures.order) in
+    c.take_first_key.ensures.counted total (colon_passed _ (length c.args.frames.now.items) total c.args.after.now.node_start.at c.skip_whites-colon.result u c.in-Some.ensures.key.1.colon l q)
 
 pub returns-else-is_apart-clause-counted : goal.returns-else-is_apart-clause-counted
 returns-else-is_apart-clause-counted c = λ u total z q.
-    let l : c.args.behind.now.spot.at ≤ c.args.node.end = omega (arith, c.requires.node.order) in
-    c.end_inline.ensures.counted c.args.scope.limit total (length c.args.frames.now.items) (later _ (length c.args.frames.now.items) total c.args.behind.now.spot.at c.args.node.end l q)
+    let l : c.args.after.now.node_start.at ≤ c.args.node.end = omega (arith, c.requires.node.order) in
+    c.end_inline.ensures.counted c.args.scope.limit total (length c.args.frames.now.items) (later _ (length c.args.frames.now.items) total c.args.after.now.node_start.at c.args.node.end l q)

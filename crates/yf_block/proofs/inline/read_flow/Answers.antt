@@ -1,11 +1,11 @@
 use Rattle.std.proofs.Common.{rules, pos, refl, to_z-of_z, SFits, w32}
 use Rattle.std.proofs.lemmas.Result.{IfOk-weaker}
-use Rattle.yf_block.specs.InlineAnswers.{alias_behind}
+use Rattle.yf_block.specs.InlineAnswers.{alias_after}
 use Rattle.yf_block.proofs.InlineLemmas.{alias_there, content_ends}
 use Rattle.yf_block.proofs.inline.read_flow.Goals as goal
 
 pub returns-in-Some-clause-answers : goal.returns-in-Some-clause-answers
-returns-in-Some-clause-answers c = λ u l room r. alias_behind c.requires.other c.in-Some.is (alias_there _ c.if-stands.ensures.cases.char)
+returns-in-Some-clause-answers c = λ u l room r. alias_after c.requires.other c.in-Some.is (alias_there _ c.if-stands.ensures.cases.char)
 
 pub returns-in-None-clause-answers : goal.returns-in-None-clause-answers
 returns-in-None-clause-answers c = λ u l room r. rw c.in-None.is (c.read_alias.ensures.answers room (pos c.args.least))

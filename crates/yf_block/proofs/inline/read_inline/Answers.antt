@@ -15,4 +15,4 @@ returns-in_ok-push_scalar-in-Some-clause-counted c = λ u total start l q.
     rw c.inline_end.ensures (later _ c.args.depth total start c.in-Some.end k q)
 
 pub returns-in-None-clause-counted : goal.returns-in-None-clause-counted
-returns-in-None-clause-counted c = λ u total start l q. c.read_flow.ensures.counted u total (later _ c.args.depth total start c.args.at (held_below _ _ _ c.args.inner.now c.requires.held l) q)
+returns-in-None-clause-counted c = λ u total start l q. c.read_flow.ensures.counted u total (later _ c.args.depth total start c.args.at (held_below _ _ _ c.args.inner.now c.requires.properties l) q)

@@ -15,7 +15,7 @@ returns-clause-tied c = λ d root before depth earlier r a.
     let n = length-reverse c.args.frames.now.items in
     let there = a.inline.depth_is in
     let same : depth ≡ c.len.result = omega (arith, n, there, c.len.ensures.value) in
-    let k = subst (λ (x : ℕ). AtFirstKey c.args.scope.text.now d root before (reverse c.args.frames.now.items) x c.args.behind.now c.args.claim.now c.args.column c.args.colon c.args.progress.now earlier c.args.part.now) same a in
+    let k = subst (λ (x : ℕ). AtFirstKey c.args.scope.text.now d root before (reverse c.args.frames.now.items) x c.args.after.now c.args.facts.now c.args.column c.args.colon c.args.progress.now earlier c.args.part.now) same a in
     let start = k.inline.there.content.start in
     let o = room_there start in
     let room : c.len.result + start.room ≡ c.args.scope.limit = omega (arith, n, o, r, c.len.ensures.value) in
@@ -26,7 +26,7 @@ returns-clause-tied c = λ d root before depth earlier r a.
     let v = c.await_value.ensures in
     let shallow = start.mapping.shallow c.args.column (k.inline.there.content.column_is ∙ k.column_is) in
     let order = c.requires.order in
-    node_tied _ v.step (first_key_awaits k key (entry_same c.entry_at-entry.result c.args.behind.now.spot.at (Some c.args.colon) e.start e.colon) note
+    node_tied _ v.step (first_key_awaits k key (entry_same c.entry_at-entry.result c.args.after.now.node_start.at (Some c.args.colon) e.start e.colon) note
     (popped _ _ _ c.in_ok-push.ensures.ok ∙ ap (λ (f : Frame). f ∷ reverse c.args.frames.now.items) (c.new-frame.ensures
     ∙ ap (λ (x : ℕ). record { kind = Mapping; column = c.args.column; event = x; entry_event = x; awaits_colon = false }) k.inline.counts.events))
     (v.wanted (omega (arith, shallow, order))) v.last v.floor v.colons v.halt)

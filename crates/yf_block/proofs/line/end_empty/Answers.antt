@@ -14,7 +14,7 @@ pub returns-in_ok-push_scalar-in-Some-clause-tied : goal.returns-in_ok-push_scal
 returns-in_ok-push_scalar-in-Some-clause-tied c = λ d root before e.
     let p = c.in_ok-push_scalar-in-Some.ensures in
     held_resumes e c.in-Some.is refl
-    (p.pushed ∙ ap (λ (z : Lead). c.args.part.now.events ++ leaf_event z Plain [] c.in-Some.held.end ∷ []) c.lead-lead.ensures) p.comments p.escapes
+    (p.pushed ∙ ap (λ (z : Lead). c.args.part.now.events ++ leaf_event z Plain [] c.in-Some.properties.end ∷ []) c.lead-lead.ensures) p.comments p.escapes
 
 pub returns-in_ok-push-in-None-clause-tied : goal.returns-in_ok-push-in-None-clause-tied
 returns-in_ok-push-in-None-clause-tied c = λ d root before e.

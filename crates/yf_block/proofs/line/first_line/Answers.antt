@@ -11,7 +11,6 @@ pub returns-in_default : goal.returns-in_default
 returns-in_default c = record {
   tied = λ d root before frames a. ended_other c.args.text.now d root before frames c.args.at c.end_line.new.progress c.end_line.new.part c.in_ok-other.other (c.in_ok-other.ensures.tied d root before frames a) c.in_default.not-Line;
   stepped = c.in_ok-other.ensures.stepped;
-  escapes = c.in_ok-other.ensures.escapes;
   counted = c.in_ok-other.ensures.counted;
 }
 

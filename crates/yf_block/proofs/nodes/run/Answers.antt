@@ -6,9 +6,9 @@ steps-preserved-in_ok-step-in-Node c =
     let v = c.steps.invariant in
     let q = c.in_ok-step-in-Node.ensures in
     record {
-      progress = q.stepped.progress;
-      ready = ready_anywhere c.args.scope.text.now c.in-Node.at c.in_ok-step-in-Node.step q.stepped.ready;
-      escapes = q.escapes;
+      progress = q.stepped.step.progress;
+      ready = ready_anywhere c.args.scope.text.now c.in-Node.at c.in_ok-step-in-Node.step q.stepped.step.ready;
+      escapes = q.stepped.escapes;
       tied = λ d root before j r a. q.tied d root before j r (rw c.in-Node.is at (v.tied d root before j r a));
       counted = λ u total a. q.counted u total (rw c.in-Node.is at (v.counted u total a));
     }
@@ -18,9 +18,9 @@ steps-preserved-in_ok-step-in-Line c =
     let v = c.steps.invariant in
     let q = c.in_ok-step-in-Line.ensures in
     record {
-      progress = q.stepped.progress;
-      ready = ready_anywhere c.args.scope.text.now c.in-Line.at c.in_ok-step-in-Line.step q.stepped.ready;
-      escapes = q.escapes;
+      progress = q.stepped.step.progress;
+      ready = ready_anywhere c.args.scope.text.now c.in-Line.at c.in_ok-step-in-Line.step q.stepped.step.ready;
+      escapes = q.stepped.escapes;
       tied = λ d root before j r a. q.tied d root before j r (rw c.in-Line.is at (v.tied d root before j r a));
       counted = λ u total a. q.counted u total (rw c.in-Line.is at (v.counted u total a));
     }
@@ -30,9 +30,9 @@ steps-preserved c =
     let v = c.steps.invariant in
     let q = c.in_ok-step-in-Resume.ensures in
     record {
-      progress = q.stepped.progress;
-      ready = ready_anywhere c.args.scope.text.now c.in-Resume.at c.in_ok-step-in-Resume.step q.stepped.ready;
-      escapes = q.escapes;
+      progress = q.stepped.step.progress;
+      ready = ready_anywhere c.args.scope.text.now c.in-Resume.at c.in_ok-step-in-Resume.step q.stepped.step.ready;
+      escapes = q.stepped.escapes;
       tied = λ d root before j r a. q.tied d root before j r (rw c.in-Resume.is at (v.tied d root before j r a));
       counted = λ u total a. q.counted u total (rw c.in-Resume.is at (v.counted u total a));
     }

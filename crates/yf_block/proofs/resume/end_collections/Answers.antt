@@ -7,13 +7,13 @@ use Rattle.yf_block.proofs.resume.end_collections.Goals as goal
 pub frames-preserved : goal.frames-preserved
 frames-preserved c = record {
   progress = let p = c.frames.invariant.progress in record { floor = p.floor; from = p.from; halt = p.halt };
-  escapes = c.in_ok-end_collection-in-Behind.ensures.escapes ∙ c.frames.invariant.escapes;
+  escapes = c.in_ok-end_collection-in-EndsBefore.ensures.escapes ∙ c.frames.invariant.escapes;
   fewer = let l = fewer_left _ _ _ (length c.args.frames.now.items) c.in-Some.ensures.items c.frames.invariant.fewer in omega (arith, l);
   tied = λ d root before a.
       let r = c.frames.invariant.tied d root before a in
       let top = top_of r (popped _ _ _ c.in-Some.ensures.items) c.colons_without-progress.ensures refl refl refl in
-      let line = rw c.in-Behind.is at (c.fit_of-fit.ensures.line (place_tied _ r.outside c.entry_place-place.ensures.entry)) in
-      one_ended top line c.in_ok-end_collection-in-Behind.ensures.events c.in_ok-end_collection-in-Behind.ensures.comments c.in_ok-end_collection-in-Behind.ensures.escapes;
+      let line = rw c.in-EndsBefore.is at (c.fit_of-fit.ensures.line (place_tied _ r.outside c.entry_place-place.ensures.entry)) in
+      one_ended top line c.in_ok-end_collection-in-EndsBefore.ensures.events c.in_ok-end_collection-in-EndsBefore.ensures.comments c.in_ok-end_collection-in-EndsBefore.ensures.escapes;
 }
 
 pub returns-in_default-fit-clause-tied : goal.returns-in_default-fit-clause-tied
@@ -22,7 +22,7 @@ returns-in_default-fit-clause-tied c = λ d root before a.
     record {
       top = top_of r (popped _ _ _ c.in-Some.ensures.items) c.colons_without-progress.ensures refl refl refl;
       line = c.fit_of-fit.ensures.line (place_tied _ r.outside c.entry_place-place.ensures.entry);
-      goes_on = c.in_default-fit.not-Behind;
+      goes_on = c.in_default-fit.not-EndsBefore;
     }
 
 pub returns-clause-tied : goal.returns-clause-tied

@@ -1,10 +1,10 @@
 use Rattle.std.proofs.Common.{subst, arith}
 use Rattle.yf_block.specs.Fits.{PlaceTied}
-use Rattle.yf_block.proofs.FitLemmas.{fits_behind, fits_no_item}
+use Rattle.yf_block.proofs.FitLemmas.{fits_before, fits_no_item}
 use Rattle.yf_block.proofs.resume.fit_of.Goals as goal
 
 pub returns-then-column-frame-clause-line : goal.returns-then-column-frame-clause-line
-returns-then-column-frame-clause-line c e = fits_behind c.args.frame.now (subst (λ z. PlaceTied c.args.text.now c.args.at z) c.in-Some.is e) c.if-column-frame.true
+returns-then-column-frame-clause-line c e = fits_before c.args.frame.now (subst (λ z. PlaceTied c.args.text.now c.args.at z) c.in-Some.is e) c.if-column-frame.true
 
 pub returns-else-dash_stands-clause-line : goal.returns-else-dash_stands-clause-line
 returns-else-dash_stands-clause-line c e = fits_no_item c.args.frame.now (subst (λ z. PlaceTied c.args.text.now c.args.at z) c.in-Some.is e)

@@ -21,10 +21,10 @@ returns-in-Deeper-clause-tied c = λ d root before j r a.
     let f = rw c.in-Some.is at (c.in_ok-end_collections.ensures.tied d root before a) in
     top_breaks f.top (fit_line f c.in-Deeper.is)
 
-pub returns-in-Behind-clause-tied : goal.returns-in-Behind-clause-tied
-returns-in-Behind-clause-tied c = λ d root before j r a.
+pub returns-in-EndsBefore-clause-tied : goal.returns-in-EndsBefore-clause-tied
+returns-in-EndsBefore-clause-tied c = λ d root before j r a.
     let f = rw c.in-Some.is at (c.in_ok-end_collections.ensures.tied d root before a) in
-    absurd (f.goes_on c.in-Behind.is)
+    absurd (f.goes_on c.in-EndsBefore.is)
 
 pub returns-in-Item-clause-counted : goal.returns-in-Item-clause-counted
 returns-in-Item-clause-counted c = λ u total q.

@@ -8,7 +8,7 @@ use Rattle.yf_block.proofs.scalar.take_body.Goals as goal
 
 pub returns-clause-tied : goal.returns-clause-tied
 returns-clause-tied c = λ d root before a.
-    let inside = c.requires.boundary.0 in
+    let inside = c.requires.standing.boundary.0 in
     let count = c.reach.ensures (few_lines a inside) in
     let e = c.skip_lines-finish.ensures.lines (to a inside).end (subst (λ (n : ℕ). LinesBetween c.args.text.now n c.args.at (to a inside).end) (sym count) (scalar_ends a inside)) in
     scalar_was_read a inside e (c.note_node.ensures.noted (scalar_outside a inside) (colons_counted a.scalar.stack))

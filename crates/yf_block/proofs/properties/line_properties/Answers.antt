@@ -1,6 +1,6 @@
 use Rattle.std.proofs.Common.{sym, ◌∙◌}
-use Rattle.yf_block.proofs.HeldLemmas.{line_found, no_properties}
-use Rattle.yf_block.proofs.held.line_properties.Goals as goal
+use Rattle.yf_block.proofs.PropertiesLemmas.{line_found, no_properties}
+use Rattle.yf_block.proofs.properties.line_properties.Goals as goal
 
 pub returns-in-Some-clause-reads : goal.returns-in-Some-clause-reads
 returns-in-Some-clause-reads c = line_found c.in-Some.field-0 (rw c.in-Some.is at c.in_ok-props.ensures.reads)

@@ -1,6 +1,6 @@
 use Rattle.std.proofs.Common.{◌∙◌}
-use Rattle.yf_block.proofs.HeldLemmas.{property_and, property_or}
-use Rattle.yf_block.proofs.held.property_stands.Goals as goal
+use Rattle.yf_block.proofs.PropertiesLemmas.{property_and, property_or}
+use Rattle.yf_block.proofs.properties.property_stands.Goals as goal
 
 pub returns-then-stands : goal.returns-then-stands
 returns-then-stands c = property_and _ c.if-stands.ensures.cases.char

@@ -1,5 +1,5 @@
 //! The properties of nodes, line by line.
-ghost use Rattle.std.specs.Prelude.{◌≡◌, ℕ, pos, ◌+◌, IfOk, IfSome, MatchBool, MatchOption};
+ghost use Rattle.std.specs.Prelude.{◌≡◌, pos, ◌+◌, IfOk, IfSome, MatchBool, MatchOption};
 ghost use Rattle.std.specs.Str.{IsCharBoundary};
 ghost use Rattle.yf_chars.specs.Chain.{Stuck};
 ghost use Rattle.yf_chars.specs.Text.{code};
@@ -8,8 +8,8 @@ ghost use Rattle.yf_grammar.specs.BlockParser.{Ahead, Held as HeldValue};
 ghost use Rattle.yf_grammar.specs.Parser.{begins_properties};
 ghost use Rattle.yf_props.specs.Names as Names;
 ghost use Rattle.yf_props.specs.Props.{name_value, optional_tag_value};
-ghost use Rattle.yf_block.specs.BlockStepTied.{HeldTied};
-ghost use Rattle.yf_block.specs.HeldAnswers.{BothThere, HeldAhead, JoinedBehind, JoinedTo, LineProperties, NoPlaceBehind, PlaceBehind, held_lead, lead_at, line_held};
+ghost use Rattle.yf_block.specs.BlockStepTied.{PropertiesTied};
+ghost use Rattle.yf_block.specs.PropertiesAnswers.{BothThere, PropertiesAhead, JoinedAfter, JoinedTo, LineProperties, NoPlaceAfter, PlaceAfter, held_lead, lead_at, line_held};
 
 use crate::leaf::read_properties;
 use crate::look::sign_stands;
@@ -24,14 +24,14 @@ use yf_props::props::{Props, Tag};
 
 /// Properties, from one byte offset to another.
 #[derive(Clone, Copy)]
-pub(crate) struct Held<'a> {
+pub(crate) struct PlacedProperties<'a> {
     pub(crate) start: usize,
     pub(crate) props: Props<'a>,
     pub(crate) tag_offset: Option<usize>,
     pub(crate) end: usize,
 }
 
-impl<'a> Held<'a> {
+impl<'a> PlacedProperties<'a> {
     /// What is known of a node with these properties.
     pub(crate) fn lead(self, entry: Option<Entry>) -> Lead<'a>
         ensures { result ≡ held_lead self.entry entry }
@@ -46,11 +46,15 @@ impl<'a> Held<'a> {
 }
 
 /// What is known of a node at an offset, with properties or none.
-pub(crate) fn lead_of<'a>(at: usize, held: Option<Held<'a>>, entry: Option<Entry>) -> Lead<'a>
-    ensures { result ≡ lead_at at held.entry entry }
+pub(crate) fn lead_of<'a>(
+    at: usize,
+    properties: Option<PlacedProperties<'a>>,
+    entry: Option<Entry>,
+) -> Lead<'a>
+    ensures { result ≡ lead_at at properties.entry entry }
 {
-    match held {
-        Some(held) => held.lead(entry),
+    match properties {
+        Some(properties) => properties.lead(entry),
         None => Lead::bare(at, entry),
     }
 }
@@ -60,9 +64,10 @@ pub(crate) fn line_properties<'a>(
     alloc: Global,
     text: &'a str,
     at: usize,
-) -> Result<Option<Held<'a>>, AllocError>
+) -> Result<Option<PlacedProperties<'a>>, AllocError>
     ensures place { IfOk result (λ o. IfSome o (λ h. Place text.now (at + 1) h.end)) }
-    ensures reads { IfOk result (λ o. MatchOption o (Stuck (Names.Properties text.now (pos 0) Ctx.FlowKey at)) (LineProperties text.now at)) }
+    ensures reads { IfOk result
+        (λ o. MatchOption o (Stuck (Names.Properties text.now (pos 0) Ctx.FlowKey at)) (LineProperties text.now at)) }
 {
     if property_stands(text, at) {
         match read_properties(alloc, text, at)? {
@@ -74,7 +79,7 @@ pub(crate) fn line_properties<'a>(
                     end,
                 },
             ) => {
-                return Ok(Some(Held {
+                return Ok(Some(PlacedProperties {
                     start: at,
                     props,
                     tag_offset,
@@ -99,13 +104,13 @@ pub(crate) fn property_stands(text: &str, at: usize) -> bool
 
 /// The place of what stands after properties on their line: after white space, or the `:` of an empty key. `None` where
 /// something else follows, or a property of a kind that they have.
-pub(crate) fn place_behind(text: &str, held: Held) -> Option<usize>
-    requires { IsCharBoundary text.now held.end }
-    ensures place { IfSome result (λ p. Place text.now held.entry.end p) }
-    ensures reads { MatchOption result (NoPlaceBehind text.now held.entry.end) (PlaceBehind text.now held.entry.end) }
+pub(crate) fn place_after(text: &str, properties: PlacedProperties) -> Option<usize>
+    requires { IsCharBoundary text.now properties.end }
+    ensures place { IfSome result (λ p. Place text.now properties.entry.end p) }
+    ensures reads { MatchOption result (NoPlaceAfter text.now properties.entry.end) (PlaceAfter text.now properties.entry.end) }
 {
-    let place = skip_whites(text, held.end);
-    if place == held.end {
+    let place = skip_whites(text, properties.end);
+    if place == properties.end {
         if !sign_stands(text, place, b':') {
             return None;
         }
@@ -117,10 +122,13 @@ pub(crate) fn place_behind(text: &str, held: Held) -> Option<usize>
 }
 
 /// Properties of one node that stand on several lines; `None` where two are of one kind.
-pub(crate) fn joined<'a>(outer: Held<'a>, inner: Held<'a>) -> Option<Held<'a>>
+pub(crate) fn joined<'a>(
+    outer: PlacedProperties<'a>,
+    inner: PlacedProperties<'a>,
+) -> Option<PlacedProperties<'a>>
     ensures end { IfSome result (λ h. h.end ≡ inner.entry.end) }
-    ensures reads { (h : HeldValue) → (q : Names.PropertiesValue) → HeldTied h outer.entry
-        → HeldTied (line_held q inner.entry.start inner.entry.end) inner.entry
+    ensures reads { (h : HeldValue) → (q : Names.PropertiesValue) → PropertiesTied h outer.entry
+        → PropertiesTied (line_held q inner.entry.start inner.entry.end) inner.entry
         → JoinedTo h q inner.entry.end result }
 {
     if names_clash(outer.props.anchor, inner.props.anchor) {
@@ -129,7 +137,7 @@ pub(crate) fn joined<'a>(outer: Held<'a>, inner: Held<'a>) -> Option<Held<'a>>
     if tags_clash(outer.props.tag, inner.props.tag) {
         return None;
     }
-    Some(Held {
+    Some(PlacedProperties {
         start: outer.start,
         props: Props {
             anchor: outer.props.anchor.or(inner.props.anchor),
@@ -168,11 +176,14 @@ fn tags_clash(outer: Option<Tag>, inner: Option<Tag>) -> bool
 }
 
 /// The same where there need be none before.
-pub(crate) fn joined_behind<'a>(outer: Option<Held<'a>>, inner: Held<'a>) -> Option<Held<'a>>
+pub(crate) fn joined_after<'a>(
+    outer: Option<PlacedProperties<'a>>,
+    inner: PlacedProperties<'a>,
+) -> Option<PlacedProperties<'a>>
     ensures end { IfSome result (λ h. h.end ≡ inner.entry.end) }
-    ensures reads { (a : Ahead) → (q : Names.PropertiesValue) → HeldAhead a outer.entry
-        → HeldTied (line_held q inner.entry.start inner.entry.end) inner.entry
-        → JoinedBehind a q inner.entry.start inner.entry.end result }
+    ensures reads { (a : Ahead) → (q : Names.PropertiesValue) → PropertiesAhead a outer.entry
+        → PropertiesTied (line_held q inner.entry.start inner.entry.end) inner.entry
+        → JoinedAfter a q inner.entry.start inner.entry.end result }
 {
     match outer {
         Some(outer) => joined(outer, inner),

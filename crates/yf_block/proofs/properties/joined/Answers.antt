@@ -1,6 +1,6 @@
 use Rattle.std.proofs.Common.{refl, ◌∙◌}
-use Rattle.yf_block.proofs.HeldLemmas.{go_together, names_clashed, offset_or, props_joined, tags_clashed}
-use Rattle.yf_block.proofs.held.joined.Goals as goal
+use Rattle.yf_block.proofs.PropertiesLemmas.{go_together, names_clashed, offset_or, props_joined, tags_clashed}
+use Rattle.yf_block.proofs.properties.joined.Goals as goal
 
 pub returns-then-names_clash-clause-reads : goal.returns-then-names_clash-clause-reads
 returns-then-names_clash-clause-reads c = λ h q a b. names_clashed a b c.if-names_clash.ensures

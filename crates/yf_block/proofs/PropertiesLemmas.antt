@@ -1,4 +1,4 @@
--- The properties of a line, what stands behind them, and those of lines before.
+-- The properties of a line, what stands after them, and those of lines before.
 use Rattle.std.proofs.Common.{◌≡◌, ◌≢◌, ℕ, ℤ, pos, true, false, ◌==◌, List, [], ◌++◌, Option, Some, None, refl, sym, ap, ◌∙◌, arith, true≢false}
 use Rattle.std.proofs.lemmas.Bool.Decides.{nat_tests}
 use Rattle.std.specs.Borrow.{Bor}
@@ -19,9 +19,9 @@ use Rattle.yf_props.specs.declared.props.Tag.{Tag}
 use Rattle.yf_grammar.specs.BlockParser.{Ahead, Props, Held as HeldValue, Clash, anchors_clash, tags_clash, first_held, more_held, Apart, one_of, both}
 use Rattle.yf_grammar.specs.Parser.{begins_properties}
 use Rattle.yf_grammar.proofs.PropertiesEnds.{properties_begin}
-use Rattle.yf_block.specs.declared.held.Held.{Held}
-use Rattle.yf_block.specs.BlockStepTied.{HeldTied}
-use Rattle.yf_block.specs.HeldAnswers.{line_held, LineProperties, BothThere, both_there, BothHeld, JoinedTo, Holds, JoinedAhead, JoinedBehind}
+use Rattle.yf_block.specs.declared.properties.PlacedProperties.{PlacedProperties}
+use Rattle.yf_block.specs.BlockStepTied.{PropertiesTied}
+use Rattle.yf_block.specs.PropertiesAnswers.{line_held, LineProperties, BothThere, both_there, BothProperties, JoinedTo, Holds, JoinedAhead, JoinedAfter}
 
 pub property_and : (c : ℕ) → c ≡ 38 → true ≡ begins_properties c
 unfolding begins_properties
@@ -86,7 +86,7 @@ props_joined a b x d e y p q =
     ap (λ z. record { anchor = z; tag = optional_tag_value y }) (ap name_value p ∙ name_or a b)
     ∙ ap (λ z. record { anchor = one_of (name_value a) (name_value b); tag = z }) (ap optional_tag_value q ∙ tag_or d e)
 
-module _ {h : HeldValue} {q : PropertiesValue} {outer inner : Held} (a : HeldTied h outer) (b : HeldTied (line_held q inner.start inner.end) inner) where
+module _ {h : HeldValue} {q : PropertiesValue} {outer inner : PlacedProperties} (a : PropertiesTied h outer) (b : PropertiesTied (line_held q inner.start inner.end) inner) where
   outer_name : h.value.props.anchor ≡ name_value outer.props.anchor
   outer_name = ap (λ (z : PropsValue). z.anchor) (sym a.props)
 
@@ -105,9 +105,9 @@ module _ {h : HeldValue} {q : PropertiesValue} {outer inner : Held} (a : HeldTie
   pub tags_clashed : BothThere (optional_tag_value outer.props.tag) (optional_tag_value inner.props.tag) → Clash h q
   tags_clashed c = tag_there c outer_tag inner_tag
 
-  pub go_together : (BothThere (name_value outer.props.anchor) (name_value inner.props.anchor) → ⊥) → (BothThere (optional_tag_value outer.props.tag) (optional_tag_value inner.props.tag) → ⊥) → (held : Held)
+  pub go_together : (BothThere (name_value outer.props.anchor) (name_value inner.props.anchor) → ⊥) → (BothThere (optional_tag_value outer.props.tag) (optional_tag_value inner.props.tag) → ⊥) → (held : PlacedProperties)
       → held.start ≡ outer.start → held.end ≡ inner.end → props_value held.props ≡ record { anchor = one_of (name_value outer.props.anchor) (name_value inner.props.anchor); tag = one_of (optional_tag_value outer.props.tag) (optional_tag_value inner.props.tag) }
-      → held.tag_offset ≡ one_of outer.tag_offset inner.tag_offset → BothHeld h q inner.end held
+      → held.tag_offset ≡ one_of outer.tag_offset inner.tag_offset → BothProperties h q inner.end held
   unfolding both
   go_together f g held s e p o = record {
     apart = no_clash (λ z. f (rw (outer_name, inner_name) at z)) (λ z. g (rw (outer_tag, inner_tag) at z));
@@ -133,15 +133,15 @@ module _ {h : HeldValue} {q : PropertiesValue} {outer inner : Held} (a : HeldTie
   }
 
 -- the same where there need be none before
-pub apart_behind : {a : Ahead} {q : PropertiesValue} {outer : Held} (w : Holds a outer) → Clash w.value q → Apart a q
-apart_behind w c = record { held = w.value; is = w.is; clash = c }
+pub apart_after : {a : Ahead} {q : PropertiesValue} {outer : PlacedProperties} (w : Holds a outer) → Clash w.value q → Apart a q
+apart_after w c = record { held = w.value; is = w.is; clash = c }
 
-pub joined_ahead : {a : Ahead} {q : PropertiesValue} {p g : ℕ} {outer held : Held} (w : Holds a outer) → BothHeld w.value q g held → JoinedAhead a q p g held
+pub joined_ahead : {a : Ahead} {q : PropertiesValue} {p g : ℕ} {outer held : PlacedProperties} (w : Holds a outer) → BothProperties w.value q g held → JoinedAhead a q p g held
 joined_ahead {a} {q} {p} {g} w b = record { ahead = both w.value q g; joins = more_held w.is b.apart; tied = record { value = b.value; is = b.is; tied = b.tied } }
 
-pub first_ahead : {a : Ahead} {q : PropertiesValue} {inner : Held} → ((h : HeldValue) → a ≡ Props h → ⊥) → HeldTied (line_held q inner.start inner.end) inner → JoinedAhead a q inner.start inner.end inner
+pub first_ahead : {a : Ahead} {q : PropertiesValue} {inner : PlacedProperties} → ((h : HeldValue) → a ≡ Props h → ⊥) → PropertiesTied (line_held q inner.start inner.end) inner → JoinedAhead a q inner.start inner.end inner
 first_ahead {q = q} {inner = inner} n b = record { ahead = Props (line_held q inner.start inner.end); joins = first_held n; tied = record { value = line_held q inner.start inner.end; is = refl; tied = b } }
 
-pub joined_any : {a : Ahead} {outer : Held} (q : PropertiesValue) (p g : ℕ) (w : Holds a outer) (r : Option Held) → JoinedTo w.value q g r → JoinedBehind a q p g r
-joined_any q p g w None c = apart_behind w c
+pub joined_any : {a : Ahead} {outer : PlacedProperties} (q : PropertiesValue) (p g : ℕ) (w : Holds a outer) (r : Option PlacedProperties) → JoinedTo w.value q g r → JoinedAfter a q p g r
+joined_any q p g w None c = apart_after w c
 joined_any q p g w (Some held) b = joined_ahead w b

@@ -1,5 +1,5 @@
-use Rattle.yf_block.proofs.HeldLemmas.{first_ahead, joined_any}
-use Rattle.yf_block.proofs.held.joined_behind.Goals as goal
+use Rattle.yf_block.proofs.PropertiesLemmas.{first_ahead, joined_any}
+use Rattle.yf_block.proofs.properties.joined_after.Goals as goal
 
 pub returns-in-Some-clause-reads : goal.returns-in-Some-clause-reads
 returns-in-Some-clause-reads c = λ a q w b. let v = rw c.in-Some.is at w in joined_any q c.args.inner.start c.args.inner.end v c.joined.result (c.joined.ensures.reads v.value q v.tied b)

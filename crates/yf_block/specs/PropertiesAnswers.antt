@@ -1,4 +1,4 @@
--- What the readers of the properties of a line give, in terms of the recursive reader: the properties, what stands behind them, and
+-- What the readers of the properties of a line give, in terms of the recursive reader: the properties, what stands after them, and
 -- what becomes of those of lines before.
 use Rattle.std.specs.Prelude.{◌≡◌, ℕ, pos, true, false, List, [], Option, Some, None, MatchOption}
 use Rattle.yf_chars.specs.declared.context.Ctx.TheVariants.{FlowKey}
@@ -11,21 +11,21 @@ use Rattle.yf_grammar.specs.Parser.{begins_properties}
 use Rattle.yf_grammar.specs.BlockParser.{Ahead, Props, Held as HeldValue, SignAt, Clash, Joins, Apart, both}
 use Rattle.yf_flow.specs.Begun.{bare_lead}
 use Rattle.yf_flow.specs.declared.node.Lead.{Lead}
-use Rattle.yf_block.specs.declared.held.Held.{Held}
-use Rattle.yf_block.specs.BlockStepTied.{HeldTied}
+use Rattle.yf_block.specs.declared.properties.PlacedProperties.{PlacedProperties}
+use Rattle.yf_block.specs.BlockStepTied.{PropertiesTied}
 
 -- properties of one line, from one offset to another
 abbrev pub line_held : PropertiesValue → ℕ → ℕ → HeldValue
 line_held q p g = record { value = q; start = p; end = g }
 
-pub record LineProperties (t : List ℕ) (p : ℕ) (held : Held) : Type 0 where
+pub record LineProperties (t : List ℕ) (p : ℕ) (held : PlacedProperties) : Type 0 where
   pub value : PropertiesValue
   pub chosen : Chosen (Properties t (pos 0) FlowKey p) held.end value
-  pub tied : HeldTied (line_held value p held.end) held
+  pub tied : PropertiesTied (line_held value p held.end) held
   pub no_comments : value.comments ≡ []
 
--- the place of what stands behind properties that end at g: after white space, or the `:` of an empty key; and no further property
-pub record PlaceBehind (t : List ℕ) (g p : ℕ) : Type 0 where
+-- the place of what stands after properties that end at g: after white space, or the `:` of an empty key; and no further property
+pub record PlaceAfter (t : List ℕ) (g p : ℕ) : Type 0 where
   pub whites : List ℕ
   pub run : Many t is_white g p whites
   pub no_white : is_white (code t p) ≡ false
@@ -33,46 +33,46 @@ pub record PlaceBehind (t : List ℕ) (g p : ℕ) : Type 0 where
   pub no_property : begins_properties (code t p) ≡ false
 
 -- or something else stands beside them, or a further property
-pub data NoPlaceBehind (t : List ℕ) (g : ℕ) : Type 0 where
-  other_beside : is_white (code t g) ≡ false → (SignAt t 58 g → ⊥) → NoPlaceBehind t g
-  property_behind : {p : ℕ} {w : List ℕ} → Many t is_white g p w → is_white (code t p) ≡ false → begins_properties (code t p) ≡ true → NoPlaceBehind t g
+pub data NoPlaceAfter (t : List ℕ) (g : ℕ) : Type 0 where
+  other_beside : is_white (code t g) ≡ false → (SignAt t 58 g → ⊥) → NoPlaceAfter t g
+  property_after : {p : ℕ} {w : List ℕ} → Many t is_white g p w → is_white (code t p) ≡ false → begins_properties (code t p) ≡ true → NoPlaceAfter t g
 
 -- two things that may be missing are both there
 pub data BothThere {A : Type 0} : Option A → Option A → Type 0 where
   both_there : {a b : A} → BothThere (Some a) (Some b)
 
--- properties of a line behind those of lines before, as the properties of one node
-pub record BothHeld (h : HeldValue) (q : PropertiesValue) (g : ℕ) (held : Held) : Type 0 where
+-- properties of a line after those of lines before, as the properties of one node
+pub record BothProperties (h : HeldValue) (q : PropertiesValue) (g : ℕ) (held : PlacedProperties) : Type 0 where
   pub apart : Clash h q → ⊥
   pub value : HeldValue
   pub is : both h q g ≡ Props value
-  pub tied : HeldTied value held
+  pub tied : PropertiesTied value held
 
-abbrev pub JoinedTo : HeldValue → PropertiesValue → ℕ → Option Held → Type 0
-JoinedTo h q g result = MatchOption result (Clash h q) (BothHeld h q g)
+abbrev pub JoinedTo : HeldValue → PropertiesValue → ℕ → Option PlacedProperties → Type 0
+JoinedTo h q g result = MatchOption result (Clash h q) (BothProperties h q g)
 
 -- what stands ahead holds those of lines before, or there are none
-pub record Holds (a : Ahead) (held : Held) : Type 0 where
+pub record Holds (a : Ahead) (held : PlacedProperties) : Type 0 where
   pub value : HeldValue
   pub is : a ≡ Props value
-  pub tied : HeldTied value held
+  pub tied : PropertiesTied value held
 
-abbrev pub HeldAhead : Ahead → Option Held → Type 0
-HeldAhead a None = (h : HeldValue) → a ≡ Props h → ⊥
-HeldAhead a (Some held) = Holds a held
+abbrev pub PropertiesAhead : Ahead → Option PlacedProperties → Type 0
+PropertiesAhead a None = (h : HeldValue) → a ≡ Props h → ⊥
+PropertiesAhead a (Some held) = Holds a held
 
-pub record JoinedAhead (a : Ahead) (q : PropertiesValue) (p g : ℕ) (held : Held) : Type 0 where
+pub record JoinedAhead (a : Ahead) (q : PropertiesValue) (p g : ℕ) (held : PlacedProperties) : Type 0 where
   pub ahead : Ahead
   pub joins : Joins a q p g ahead
   pub tied : Holds ahead held
 
-abbrev pub JoinedBehind : Ahead → PropertiesValue → ℕ → ℕ → Option Held → Type 0
-JoinedBehind a q p g result = MatchOption result (Apart a q) (JoinedAhead a q p g)
+abbrev pub JoinedAfter : Ahead → PropertiesValue → ℕ → ℕ → Option PlacedProperties → Type 0
+JoinedAfter a q p g result = MatchOption result (Apart a q) (JoinedAhead a q p g)
 
 -- what is known of a node with properties, or of one at an offset that has perhaps none
-abbrev pub held_lead : Held → Option TheEntry.Entry → Lead
+abbrev pub held_lead : PlacedProperties → Option TheEntry.Entry → Lead
 held_lead held entry = record { start = held.start; props = held.props; tag_offset = held.tag_offset; entry = entry }
 
-abbrev pub lead_at : ℕ → Option Held → Option TheEntry.Entry → Lead
+abbrev pub lead_at : ℕ → Option PlacedProperties → Option TheEntry.Entry → Lead
 lead_at at None entry = bare_lead at entry
 lead_at at (Some held) entry = held_lead held entry

@@ -1,7 +1,0 @@
-use Rattle.std.proofs.Common.{sym, ◌∙◌}
-use Rattle.yf_block.specs.HeldAnswers.{property_behind}
-use Rattle.yf_block.proofs.held.place_behind.Goals as goal
-
-pub returns-then-property_stands-clause-reads : goal.returns-then-property_stands-clause-reads
-returns-then-property_stands-clause-reads c =
-    let s = c.skip_whites-place.ensures in property_behind s.whites.1 s.all (sym c.property_stands.ensures ∙ c.if-property_stands.true)
