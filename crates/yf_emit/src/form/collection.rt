@@ -123,6 +123,7 @@ fn joined_sum(collection: &Open) -> Option<usize>
 }
 
 /// The node that a collection is, which ends with the event at that index.
+#[inline(always)]
 pub(crate) fn closed(collection: Open, end: usize) -> Ended
     ensures { result ≡ Measuring.closed collection end }
 {
@@ -164,6 +165,7 @@ fn space_width(collection: &Open, node: &Ended) -> usize
 }
 
 /// The width of the text so far with one more node.
+#[inline(always)]
 fn sum_with(collection: &Open, node: &Ended) -> Option<usize>
     ensures { result ≡ (Measuring.with_node collection.now node.now).sum }
 {
@@ -184,6 +186,7 @@ fn or_else(one: Option<usize>, other: Option<usize>) -> Option<usize>
 }
 
 /// The collection with one more node.
+#[inline(always)]
 pub(crate) fn with_node(collection: Open, node: &Ended) -> Open
     ensures { result ≡ Measuring.with_node collection node.now }
 {

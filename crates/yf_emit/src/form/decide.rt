@@ -44,6 +44,7 @@ impl Form {
 }
 
 /// Whether a node that the event at an index begins holds no node to look at.
+#[inline(always)]
 fn is_whole(measure: &Measure, i: usize, is_kept: bool) -> bool
     ensures { result ≡ Deciding.is_whole i measure.now is_kept }
 {
@@ -58,6 +59,7 @@ fn is_whole(measure: &Measure, i: usize, is_kept: bool) -> bool
 
 /// Gives a node its form, and answers the index of the last event that needs no look: the node's last one, or of a block
 /// collection the first one.
+#[inline(always)]
 fn node(
     list: &mut Forms,
     stack: &mut Vec<Level>,
@@ -95,6 +97,7 @@ fn node(
 }
 
 /// Goes past one event, and answers the index of the last one that needs no look.
+#[inline(always)]
 fn pass(
     list: &mut Forms,
     stack: &mut Vec<Level>,
@@ -133,6 +136,7 @@ fn pass(
 }
 
 /// Goes past one event, which gets no look up to the index `done`, and answers that index from here on.
+#[inline(always)]
 fn advance(
     list: &mut Forms,
     stack: &mut Vec<Level>,

@@ -26,6 +26,7 @@ pub(crate) struct Ended {
 
 /// Whether a scalar that is to have the style `wanted` may stand in kept text: a quoted one, or a plain one with characters
 /// that stays plain.
+#[inline(always)]
 fn may_be_inside(written: ScalarStyle, wanted: ScalarStyle, text: &str) -> bool
     ensures { (quotes : Quotes) → wanted ≡ Wanted.wanted written text.now quotes → result ≡ scalar_may_be_kept written text.now }
 {
@@ -42,6 +43,7 @@ fn may_be_inside(written: ScalarStyle, wanted: ScalarStyle, text: &str) -> bool
 }
 
 /// The node is a leaf where it has characters, and so a part of the text.
+#[inline(always)]
 fn leaf_if(span: Option<Span>, i: usize) -> Option<usize>
     ensures { result ≡ Measuring.leaf_if span i }
 {
@@ -52,6 +54,7 @@ fn leaf_if(span: Option<Span>, i: usize) -> Option<usize>
 }
 
 /// A leaf that is a scalar or an alias, of that width.
+#[inline(always)]
 fn leaf(i: usize, width: Option<usize>, leaf: Option<usize>) -> Measure
     ensures { result ≡ record { last = i; width = width; can_be_kept = false; first_leaf = leaf; last_leaf = leaf } }
 {
@@ -65,6 +68,7 @@ fn leaf(i: usize, width: Option<usize>, leaf: Option<usize>) -> Measure
 }
 
 /// How many characters a scalar has in a style, with its properties; `None` where it is a block scalar.
+#[inline(always)]
 fn width_in_style(props: &Props, style: ScalarStyle, text: &str) -> Option<usize>
     ensures width { result ≡ width_if (is_one_line_style style) (spaced (props_text (props_value props.now)) (scalar_text style text.now)) }
     ensures utf8 { (IsUtf8 (props_text (props_value props.now))) × (IsUtf8 text.now) }
@@ -77,6 +81,7 @@ fn width_in_style(props: &Props, style: ScalarStyle, text: &str) -> Option<usize
 }
 
 /// The scalar that the event at an index is.
+#[inline(always)]
 pub(crate) fn scalar(
     i: usize,
     span: Option<Span>,

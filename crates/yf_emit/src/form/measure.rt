@@ -58,6 +58,7 @@ impl Measure {
 }
 
 /// Hands a node that has ended to the collection that holds it.
+#[inline(always)]
 fn hand(stack: &mut Vec<Open>, node: &Ended)
     ensures { reverse stack.new.items ≡ Measuring.handed node.now (reverse stack.old.items) }
 {
@@ -69,6 +70,7 @@ fn hand(stack: &mut Vec<Open>, node: &Ended)
 }
 
 /// Notes a node that has ended, in the list and in the collection that holds it.
+#[inline(always)]
 fn end_node(
     list: &mut Measures,
     stack: &mut Vec<Open>,
@@ -84,6 +86,7 @@ fn end_node(
 }
 
 /// Ends the innermost collection.
+#[inline(always)]
 fn close(list: &mut Measures, stack: &mut Vec<Open>, i: usize) -> Result<(), AllocError>
     ensures { IfOk result (λ _. found list.new (reverse stack.new.items) ≡ Measuring.popped i list.old (reverse stack.old.items)) }
 {
@@ -97,6 +100,7 @@ fn close(list: &mut Measures, stack: &mut Vec<Open>, i: usize) -> Result<(), All
 }
 
 /// Goes past one event, whose place in the list is there already.
+#[inline(always)]
 fn pass(
     list: &mut Measures,
     stack: &mut Vec<Open>,

@@ -47,6 +47,7 @@ impl Place {
 }
 
 /// Whether a node of that width fits that begins at the column.
+#[inline(always)]
 pub(crate) fn fits(column: usize, width: Option<usize>, style: &Style) -> bool
     ensures { result ≡ Deciding.has_room style.now column width }
 {
@@ -92,6 +93,7 @@ fn trailing_comment(reading: &Reading, start: usize, i: usize, measure: &Measure
 }
 
 /// The column of the entries of an implicit key's value, if it is a block collection.
+#[inline(always)]
 fn value_entries(event: &Event, column: usize, style: &Style) -> usize
     ensures { result ≡ Deciding.value_entries style.now (event_value event.now) column }
 {
@@ -123,6 +125,7 @@ fn comment_if(
 }
 
 /// Where the value of an implicit key stands.
+#[inline(always)]
 fn value_place(
     reading: &Reading,
     event: &Event,
@@ -157,6 +160,7 @@ fn value_place(
 }
 
 /// Where a key stands.
+#[inline(always)]
 fn key_place(column: usize, is_implicit: bool, style: &Style) -> Place
     ensures { result ≡ Deciding.key_place style.now column is_implicit }
 {
@@ -170,6 +174,7 @@ fn key_place(column: usize, is_implicit: bool, style: &Style) -> Place
 }
 
 /// Where a key or a value stands.
+#[inline(always)]
 fn place_in_map(
     reading: &Reading,
     event: &Event,
@@ -197,6 +202,7 @@ fn place_in_map(
 }
 
 /// The key that waits for its value after a key or a value.
+#[inline(always)]
 fn key_behind(
     reading: &Reading,
     event: &Event,
@@ -219,6 +225,7 @@ fn key_behind(
 }
 
 /// Where the next node stands that holds no other.
+#[inline(always)]
 pub(crate) fn next_place(
     stack: &[Level],
     reading: &Reading,
@@ -243,6 +250,7 @@ pub(crate) fn next_place(
 }
 
 /// Notes in the innermost open collection that a node is a key or a value.
+#[inline(always)]
 pub(crate) fn count_node(
     stack: &mut Vec<Level>,
     reading: &Reading,

@@ -41,6 +41,7 @@ pub(crate) struct Printer {
 
 impl Printer {
     /// Prints a leaf, an empty node or a flow collection that is kept.
+    #[inline(always)]
     fn leaf(
         &mut self,
         alloc: Global,
@@ -172,6 +173,7 @@ impl Printer {
     }
 
     /// Goes past one event.
+    #[inline(always)]
     fn event(
         &mut self,
         alloc: Global,
@@ -207,6 +209,7 @@ impl Printer {
     }
 
     /// Goes past one event, which gets no look where it stands within a node that is printed.
+    #[inline(always)]
     fn advance(
         &mut self,
         alloc: Global,

@@ -171,6 +171,7 @@ fn push_node(
 }
 
 /// Goes past the leaf that the event at an index begins, if it begins one, and notes the comment that trails it.
+#[inline(always)]
 fn note_leaf(
     output: &mut Output,
     reading: &Reading,
