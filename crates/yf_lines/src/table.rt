@@ -164,12 +164,12 @@ fn is_forbidden_line(text: &str, start: usize) -> bool
     marker_stands(text, at)
 }
 
-// The offset after all byte order marks that stand at the offset.
-fn skip_marks(text: &str, at: usize) -> usize
+/// The offset after all byte order marks that stand at the offset.
+pub fn skip_marks(text: &str, at: usize) -> usize
     requires { IsCharBoundary text.now at }
     ensures marks { Marks text.now at result }
-    ensures boundary { IsCharBoundary text.now result }
     ensures order { at ≤ result }
+    ensures boundary { IsCharBoundary text.now result }
 {
     let mut end = at;
     while mark_stands(text, end) {
