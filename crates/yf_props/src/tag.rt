@@ -15,18 +15,18 @@ use yf_chars::classes::{is_hex_digit, is_tag_char, is_uri_char};
 use yf_chars::runs::{WordChars, skip_while};
 use yf_chars::text::{peek, stands};
 
-// Which characters a part of a tag may hold as themselves: all of a URI, or those of a suffix.
-#[derive(Clone, Copy)]
-enum Chars {
-    Uri,
-    Suffix,
-}
-
 // A tag that was read, and the offset after it.
 #[derive(Clone, Copy)]
 pub(crate) struct TagPart<'a> {
     pub(crate) tag: Tag<'a>,
     pub(crate) end: usize,
+}
+
+// Which characters a part of a tag may hold as themselves: all of a URI, or those of a suffix.
+#[derive(Clone, Copy)]
+enum Chars {
+    Uri,
+    Suffix,
 }
 
 // Whether the class holds the character.

@@ -36,12 +36,6 @@ no_simple_end e = record { none = λ j n m a. true≢false (sym j ∙ ap is_nb_j
 pub clear_escape : {t : List ℕ} {i j v : ℕ} → Escape t i j v → Clear t i j
 clear_escape {t} e = let n = escape_no_sign e in record { none = λ h l m f. let s = n.none h l m in not_forbidden t h s.0 s.1 f }
 
-pub no_double_char : {t : List ℕ} {i : ℕ} → NoSimple t i → Stuck (Escape t i) → NoDoubleChar t i
-no_double_char {t} {i} n s = record { none = λ j y d a. go (written d) a } where
-  go : {j : ℕ} {y : List Piece} → Written t i j y → Clear t i j → ⊥
-  go (itself b q e p x) a = let f = next_later t i in n.none e b q (λ g. a.none i (omega arith) (omega arith) g)
-  go {j} (by_escape v e) a = s.none j v e
-
 pub no_char_end : {t : List ℕ} {i : ℕ} → code t i ≡ no_char → NoDoubleChar t i
 no_char_end {t} {i} e = record { none = λ j y d a. go (written d) } where
   go : {j : ℕ} {y : List Piece} → Written t i j y → ⊥
