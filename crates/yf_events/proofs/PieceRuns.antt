@@ -19,12 +19,6 @@ next_item f old new before after text xs i d within p =
     let cut : drop i xs ≡ get_or xs i d ∷ drop (i + 1) xs = rw add-one (drop-cons xs i d within) in
     subst (Progress old new before after text) (ap (flat_map f) cut) p
 
--- no item is left
-pub no_item : {X : Type 0} (f : X → List ℕ) (old new : Option (List ℕ)) (before after : Bool) (text : List ℕ) (xs : List X) (i : ℕ)
-    → length xs ≤ i → Progress old new before after text (flat_map f (drop i xs)) → Wrote old new before after text
-no_item f old new before after text xs i past p =
-    progress_done old new before after text (subst (Progress old new before after text) (ap (flat_map f) (drop_all i xs past)) p)
-
 -- Events, each with its resolved tag
 
 drop_nil : {X : Type 0} (i : ℕ) → drop i (let none : List X = [] in none) ≡ []
