@@ -18,10 +18,6 @@ pub noted_first : (b : Bool) (cs : List Comment) (d : Comment) → length cs ≢
 noted_first b [] d n = absurd (n refl)
 noted_first b (c ∷ cs) d n = refl
 
-pub noted_next : (cs : List Comment) (i : ℕ) (d : Comment) → i < length cs
-    → map comment_value (drop i cs) ≡ comment_value (get_or cs i d) ∷ map comment_value (drop (i + 1) cs)
-noted_next cs i d l = rw add-one (ap (map comment_value) (drop-cons cs i d l))
-
 pub noted_last : (cs : List Comment) (i : ℕ) → length cs ≤ i → map comment_value (drop i cs) ≡ []
 noted_last cs i l = ap (map comment_value) (drop_of_length-le cs l)
 
