@@ -2,7 +2,7 @@
 use Rattle.std.proofs.Common.{ℕ, zero, suc, arith, refl, Some, ◌+◌, ◌<◌, ◌≤◌, ◌≡◌, Bool, List, [], ◌∷◌, ◌++◌, Option, length, drop, get_or, ap, ◌∙◌, subst, drop-cons, add-one}
 use Rattle.std.specs.List.{flat_map, zip}
 use Rattle.std.specs.Prelude.{slice_get}
-use Rattle.std.proofs.lemmas.List.{drop_all, length-map}
+use Rattle.std.proofs.lemmas.List.{length-map}
 use Rattle.std.proofs.lemmas.Option.{same_Some}
 use Rattle.yf_lines.specs.Output.{Wrote}
 use Rattle.yf_events.specs.Event.{EventValue}

@@ -24,8 +24,8 @@ use Rattle.yf_lines.specs.Lines.NewLine.{of_empty, of_break}
 use Rattle.yf_lines.specs.Lines.PlaceOf.{in_line, behind_lines}
 use Rattle.yf_lines.proofs.BasicLemmas.{break_end, break_forward}
 use Rattle.yf_lines.proofs.LineLemmas.{end_within, lines_unique}
-use Rattle.yf_lines.proofs.MarkLemmas.{marks_unique, ends_by_break, break_at_start}
-use Rattle.yf_lines.proofs.TableLemmas.{Follow, follow, line_at, line_before, line_of, some_same}
+use Rattle.yf_lines.proofs.MarkLemmas.{marks_unique, ends_by_break}
+use Rattle.yf_lines.proofs.TableLemmas.{Follow, follow, line_at, line_before, some_same}
 
 -- no character begins inside of another
 first_part : (c n : ℕ) (rest cs : List ℕ) (xs : List ℕ) → xs ≡ encode c ++ rest → encodes cs ≡ take n xs → 0 < n → n ≤ length xs → length (encode c) ≤ n

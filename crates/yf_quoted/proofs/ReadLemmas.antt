@@ -1,5 +1,5 @@
 -- Laws for the reader of double-quoted scalars.
-use Rattle.std.proofs.Common.{◌≡◌, ◌≢◌, ℕ, ◌+◌, Bool, false, List, [], ◌∷◌, ◌++◌, Option, Some, None, refl, sym, ap, ◌∙◌, subst, inl, inr, arith, append_assoc, append-nil, encode_utf8_all, encode_utf8, SomeIff, IfSome}
+use Rattle.std.proofs.Common.{◌≡◌, ◌≢◌, ℕ, ◌+◌, Bool, false, List, [], ◌∷◌, ◌++◌, Option, Some, None, refl, sym, ap, ◌∙◌, subst, inl, inr, arith, append_assoc, append-nil, encode_utf8_all, encode_utf8, SomeIff}
 use Rattle.std.proofs.lemmas.Bool.{true≢false}
 use Rattle.std.proofs.lemmas.List.Elements.{All-append, All-cons, All-nil}
 use Rattle.std.proofs.lemmas.Str.{encodes-append}
@@ -8,11 +8,10 @@ use Rattle.std.specs.List.{All}
 use Rattle.std.specs.Str.{IsUtf8, IsCharBoundary}
 use Rattle.yf_chars.specs.Text.{code, no_char}
 use Rattle.yf_chars.specs.Class.{is_nb_json, is_between}
-use Rattle.yf_chars.specs.Chain.{Chain, Stuck}
+use Rattle.yf_chars.specs.Chain.{Chain}
 use Rattle.yf_chars.specs.Chain.Chain.{done}
 use Rattle.yf_chars.specs.Escape.{Escape}
 use Rattle.yf_chars.proofs.EscapeLemmas.{escape_backslash, escape_no_sign}
-use Rattle.yf_chars.proofs.TextLemmas.{next_later}
 use Rattle.yf_chars.proofs.ChainLemmas.{chain_more}
 use Rattle.yf_lines.specs.Basic.{Clear}
 use Rattle.yf_lines.proofs.BasicLemmas.{clear_join, clear_back}
