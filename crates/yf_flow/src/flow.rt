@@ -32,6 +32,12 @@ pub struct ScannedPart<'a> {
     pub end: usize,
 }
 
+/// What the readers of nodes answer: the node, `None` where none is derived, or a refusal.
+pub type Answer<'a> = Result<Option<NodePart<'a>>, Fault>;
+
+/// What they answer where they go on past escapes.
+pub type Scanned<'a> = Result<Option<ScannedPart<'a>>, Fault>;
+
 /// Reads the longest flow node (ns-flow-node(n,c), production 161) from a byte offset on: its events and comments, each with
 /// its place, and the offset after it. `n` is the indentation, from -1. No more than `DEPTH` collections are open in it at
 /// once, a single pair counted as one, and it covers no document marker.
@@ -43,13 +49,7 @@ pub struct ScannedPart<'a> {
 ///
 /// `Fault::TooDeep` where no such node is derived there, and more than `DEPTH` openers of collections stand from there on;
 /// `Fault::EscapeValue` at the first escape in the node that is no character; `Fault::Memory`.
-pub fn read_flow_node<'a>(
-    alloc: Global,
-    src: &Src<'a>,
-    at: usize,
-    n: i32,
-    ctx: Ctx,
-) -> Result<Option<NodePart<'a>>, Fault>
+pub fn read_flow_node<'a>(alloc: Global, src: &Src<'a>, at: usize, n: i32, ctx: Ctx) -> Answer<'a>
     requires { IsCharBoundary src.now.text at }
     ensures place { MatchResult result (λ o. IfSome o (λ p. Place src.now.text (at + 1) p.end)) (IsReadFault src.now.text) }
     ensures escapes { IfOk result (λ o. IfSome o (λ p. p.part.escapes ≡ [])) }
@@ -71,13 +71,7 @@ pub fn read_flow_node<'a>(
 /// # Errors
 ///
 /// `Fault::TooDeep` and `Fault::Memory`, as `read_flow_node` does.
-pub fn scan_flow_node<'a>(
-    alloc: Global,
-    src: &Src<'a>,
-    at: usize,
-    n: i32,
-    ctx: Ctx,
-) -> Result<Option<ScannedPart<'a>>, Fault>
+pub fn scan_flow_node<'a>(alloc: Global, src: &Src<'a>, at: usize, n: i32, ctx: Ctx) -> Scanned<'a>
     requires { IsCharBoundary src.now.text at }
     ensures place { MatchResult result (λ o. IfSome o (λ p. Place src.now.text (at + 1) p.end)) (IsScanFault src.now.text) }
     ensures escapes { IfOk result (λ o. IfSome o (λ p. IsFirstPlace src.now.text p.part.escapes p.escape)) }
@@ -120,12 +114,7 @@ pub fn first_escape(src: &Src, part: &Part) -> Option<SourcePlace>
 /// # Errors
 ///
 /// As `read_flow_node`.
-pub fn read_implicit_key<'a>(
-    alloc: Global,
-    src: &Src<'a>,
-    at: usize,
-    ctx: Ctx,
-) -> Result<Option<NodePart<'a>>, Fault>
+pub fn read_implicit_key<'a>(alloc: Global, src: &Src<'a>, at: usize, ctx: Ctx) -> Answer<'a>
     requires { IsCharBoundary src.now.text at }
     ensures place { MatchResult result (λ o. IfSome o (λ p. Place src.now.text (at + 1) p.end)) (IsReadFault src.now.text) }
     ensures escapes { IfOk result (λ o. IfSome o (λ p. p.part.escapes ≡ [])) }
@@ -140,12 +129,7 @@ pub fn read_implicit_key<'a>(
 /// # Errors
 ///
 /// `Fault::TooDeep` and `Fault::Memory`, as `read_flow_node` does.
-pub fn scan_implicit_key<'a>(
-    alloc: Global,
-    src: &Src<'a>,
-    at: usize,
-    ctx: Ctx,
-) -> Result<Option<ScannedPart<'a>>, Fault>
+pub fn scan_implicit_key<'a>(alloc: Global, src: &Src<'a>, at: usize, ctx: Ctx) -> Scanned<'a>
     requires { IsCharBoundary src.now.text at }
     ensures place { MatchResult result (λ o. IfSome o (λ p. Place src.now.text (at + 1) p.end)) (IsScanFault src.now.text) }
     ensures escapes { IfOk result (λ o. IfSome o (λ p. IsFirstPlace src.now.text p.part.escapes p.escape)) }
