@@ -15,7 +15,7 @@ use yf_events::events::Events;
 use yf_events::part::Part;
 use yf_events::reading::DEPTH;
 use yf_events::row::Row;
-use yf_flow::flow::{NodePart, ScannedPart, first_escape};
+use yf_flow::flow::{Answer, NodePart, Scanned, ScannedPart, first_escape};
 use yf_lines::fault::Fault;
 use yf_lines::source_text::Src;
 
@@ -30,13 +30,7 @@ use yf_lines::source_text::Src;
 ///
 /// `Fault::TooDeep` where nothing is found and the nodes there open more than `DEPTH` collections at once, a single pair
 /// counted as one; `Fault::EscapeValue` at the first escape in the node that is no character; `Fault::Memory`.
-pub fn read_block_node<'a>(
-    alloc: Global,
-    src: &Src<'a>,
-    at: usize,
-    n: i32,
-    ctx: Ctx,
-) -> Result<Option<NodePart<'a>>, Fault>
+pub fn read_block_node<'a>(alloc: Global, src: &Src<'a>, at: usize, n: i32, ctx: Ctx) -> Answer<'a>
     requires { IsCharBoundary src.now.text at }
     ensures place { MatchResult result (λ o. IfSome o (λ p. Place src.now.text (at + 1) p.end)) (IsReadFault src.now.text) }
     ensures escapes { IfOk result (λ o. IfSome o (λ p. p.part.escapes ≡ [])) }
@@ -58,13 +52,7 @@ pub fn read_block_node<'a>(
 /// # Errors
 ///
 /// `Fault::TooDeep` and `Fault::Memory`, as `read_block_node` does.
-pub fn scan_block_node<'a>(
-    alloc: Global,
-    src: &Src<'a>,
-    at: usize,
-    n: i32,
-    ctx: Ctx,
-) -> Result<Option<ScannedPart<'a>>, Fault>
+pub fn scan_block_node<'a>(alloc: Global, src: &Src<'a>, at: usize, n: i32, ctx: Ctx) -> Scanned<'a>
     requires { IsCharBoundary src.now.text at }
     ensures place { MatchResult result (λ o. IfSome o (λ p. Place src.now.text (at + 1) p.end)) (IsScanFault src.now.text) }
     ensures escapes { IfOk result (λ o. IfSome o (λ p. IsFirstPlace src.now.text p.part.escapes p.escape)) }
