@@ -9,6 +9,7 @@ ghost use Rattle.yf_emit.specs.OneLine.{anchor_text, props_text, tag_text, width
 ghost use Rattle.yf_props.specs.Props.{name_value, optional_tag_value, props_value, tag_value};
 ghost use Rattle.yf_quoted.specs.Written.{double_bytes, single_bytes, twice};
 
+use yf_chars::escapes::{is_by_four, is_by_two};
 use yf_events::event::ScalarStyle;
 use yf_props::props::{Props, Tag};
 
@@ -36,25 +37,6 @@ fn is_by_letter(c: char) -> bool
     ensures { result ≡ is_some (Escape.short_name c) }
 {
     matches!(c, '"' | '\\' | '\n' | '\t' | '\r' | '\0')
-}
-
-/// Whether another one is spelled by two digits.
-#[tactic(auto, unfolding(yf_chars::specs::Escape::is_by_two, yf_chars::specs::Class::is_between))]
-fn is_by_two(c: char) -> bool
-    ensures { result ≡ Escape.is_by_two c }
-{
-    matches!(c, '\0'..='\u{1f}' | '\u{7f}'..='\u{a0}')
-}
-
-/// Whether another one is spelled by four digits.
-#[tactic(auto, unfolding(yf_chars::specs::Escape::is_by_four))]
-fn is_by_four(c: char) -> bool
-    ensures { result ≡ Escape.is_by_four c }
-{
-    matches!(
-        c,
-        '\u{2028}' | '\u{2029}' | '\u{feff}' | '\u{fffe}' | '\u{ffff}'
-    )
 }
 
 /// How many characters the spelling of one has in double quotes.
