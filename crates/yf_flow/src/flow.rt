@@ -33,7 +33,7 @@ pub struct ScannedPart<'a> {
 }
 
 /// Reads the longest flow node (ns-flow-node(n,c), production 161) from a byte offset on: its events and comments, each with
-/// its place, and the offset after it. `n` is the indentation, from -1. No more than `DEPTH` collections are open in it at
+/// its place, and the offset after it. The indentation is from -1 on. No more than `DEPTH` collections are open in it at
 /// once, a single pair counted as one, and it covers no document marker.
 ///
 /// `None` where no such node is derived there in that context. In the two block contexts, in which no flow node stands, it is
@@ -47,16 +47,16 @@ pub fn read_flow_node<'a>(
     alloc: Global,
     src: &Src<'a>,
     at: usize,
-    n: i32,
-    ctx: Ctx,
+    indentation: i32,
+    context: Ctx,
 ) -> Result<Option<NodePart<'a>>, Fault>
     requires { IsCharBoundary src.now.text at }
     ensures place { MatchResult result (λ o. IfSome o (λ p. Place src.now.text (at + 1) p.end)) (IsReadFault src.now.text) }
     ensures escapes { IfOk result (λ o. IfSome o (λ p. p.part.escapes ≡ [])) }
-    ensures reads { is_block ctx ≡ false → ReadsFlowNode src.now.text n ctx at result }
-    ensures block { is_block ctx ≡ true → result ≡ Ok None }
+    ensures reads { is_block context ≡ false → ReadsFlowNode src.now.text indentation context at result }
+    ensures block { is_block context ≡ true → result ≡ Ok None }
 {
-    match scan_flow_node(alloc, src, at, n, ctx) {
+    match scan_flow_node(alloc, src, at, indentation, context) {
         Ok(None) => Ok(None),
         Ok(Some(ScannedPart { part, escape, end })) => match escape {
             None => Ok(Some(NodePart { part, end })),
@@ -75,19 +75,19 @@ pub fn scan_flow_node<'a>(
     alloc: Global,
     src: &Src<'a>,
     at: usize,
-    n: i32,
-    ctx: Ctx,
+    indentation: i32,
+    context: Ctx,
 ) -> Result<Option<ScannedPart<'a>>, Fault>
     requires { IsCharBoundary src.now.text at }
     ensures place { MatchResult result (λ o. IfSome o (λ p. Place src.now.text (at + 1) p.end)) (IsScanFault src.now.text) }
     ensures escapes { IfOk result (λ o. IfSome o (λ p. IsFirstPlace src.now.text p.part.escapes p.escape)) }
-    ensures reads { is_block ctx ≡ false → ScansFlowNode src.now.text n ctx at result }
-    ensures block { is_block ctx ≡ true → result ≡ Ok None }
+    ensures reads { is_block context ≡ false → ScansFlowNode src.now.text indentation context at result }
+    ensures block { is_block context ≡ true → result ≡ Ok None }
 {
-    if is_block(ctx) {
+    if is_block(context) {
         return Ok(None);
     }
-    match read_node(alloc, src.text(), at, n, ctx, DEPTH) {
+    match read_node(alloc, src.text(), at, indentation, context, DEPTH) {
         Ok(Outcome::Found { part, end }) => {
             let escape = first_escape(src, &part);
             Ok(Some(ScannedPart { part, escape, end }))
@@ -124,15 +124,15 @@ pub fn read_implicit_key<'a>(
     alloc: Global,
     src: &Src<'a>,
     at: usize,
-    ctx: Ctx,
+    context: Ctx,
 ) -> Result<Option<NodePart<'a>>, Fault>
     requires { IsCharBoundary src.now.text at }
     ensures place { MatchResult result (λ o. IfSome o (λ p. Place src.now.text (at + 1) p.end)) (IsReadFault src.now.text) }
     ensures escapes { IfOk result (λ o. IfSome o (λ p. p.part.escapes ≡ [])) }
-    ensures reads { is_block ctx ≡ false → ReadsKey src.now.text ctx at result }
-    ensures block { is_block ctx ≡ true → result ≡ Ok None }
+    ensures reads { is_block context ≡ false → ReadsKey src.now.text context at result }
+    ensures block { is_block context ≡ true → result ≡ Ok None }
 {
-    read_flow_node(alloc, src, at, 0, ctx)
+    read_flow_node(alloc, src, at, 0, context)
 }
 
 /// Reads the node of an implicit key as `read_implicit_key` does, but goes on past an escape that is no character.
@@ -144,13 +144,13 @@ pub fn scan_implicit_key<'a>(
     alloc: Global,
     src: &Src<'a>,
     at: usize,
-    ctx: Ctx,
+    context: Ctx,
 ) -> Result<Option<ScannedPart<'a>>, Fault>
     requires { IsCharBoundary src.now.text at }
     ensures place { MatchResult result (λ o. IfSome o (λ p. Place src.now.text (at + 1) p.end)) (IsScanFault src.now.text) }
     ensures escapes { IfOk result (λ o. IfSome o (λ p. IsFirstPlace src.now.text p.part.escapes p.escape)) }
-    ensures reads { is_block ctx ≡ false → ScansKey src.now.text ctx at result }
-    ensures block { is_block ctx ≡ true → result ≡ Ok None }
+    ensures reads { is_block context ≡ false → ScansKey src.now.text context at result }
+    ensures block { is_block context ≡ true → result ≡ Ok None }
 {
-    scan_flow_node(alloc, src, at, 0, ctx)
+    scan_flow_node(alloc, src, at, 0, context)
 }
