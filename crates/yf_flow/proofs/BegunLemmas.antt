@@ -1,5 +1,8 @@
 -- What is found where content is awaited, from what the readers of its parts give.
-use Rattle.std.proofs.Common.{◌≡◌, ◌≢◌, ℕ, ℤ, true, false, List, [], ◌∷◌, ◌++◌, None, refl, sym, true≢false, ◌∙◌, append-nil, encode_utf8_all}
+use Rattle.std.proofs.Common.{◌≡◌, ◌≢◌, ℕ, ◌+◌, ◌<◌, ◌≤◌, length, subst, arith, Result, IfOk, ℤ, true, false, List, [], ◌∷◌, ◌++◌, None, refl, sym, true≢false, ◌∙◌, append-nil, encode_utf8_all}
+use Rattle.std.proofs.lemmas.Result.{IfOk-weaker}
+use Rattle.std.specs.List.{All}
+use Rattle.std.specs.Str.{IsCharBoundary}
 use Rattle.yf_chars.specs.declared.context.Ctx.{Ctx}
 use Rattle.yf_chars.specs.Text.{code}
 use Rattle.yf_chars.specs.Chain.{Stuck, Chosen}
@@ -13,9 +16,19 @@ use Rattle.yf_grammar.specs.Grammar.{bad_escapes}
 use Rattle.yf_grammar.specs.Meaning.{scalar, event_with, start_of}
 use Rattle.yf_grammar.specs.Parser.{found, plain_found, begins_content}
 use Rattle.yf_grammar.specs.Parser.Parses.{single_read, single_missed, double_read, double_missed}
+use Rattle.yf_lines.specs.Text.{text_bytes}
+use Rattle.yf_events.specs.declared.event.ScalarStyle.{ScalarStyle}
 use Rattle.yf_flow.specs.declared.frame.Kind.{Kind}
+use Rattle.yf_flow.specs.declared.frame.Spot.{Spot}
+use Rattle.yf_flow.specs.declared.leaf.Scalar.{Scalar}
+use Rattle.yf_flow.specs.declared.node.Begun.{Begun}
+use Rattle.yf_flow.specs.declared.node.Begun.TheVariants.{Leaf}
 use Rattle.yf_flow.specs.declared.node.Lead.{Lead}
 use Rattle.yf_flow.specs.Begun.{ContentAt, content_there, plain_there, LeafAt, leaf_event, lead_event, is_sequence}
+use Rattle.yf_flow.specs.Machine.{BegunAt, Place}
+use Rattle.yf_flow.specs.Spots.{Begins, LeafPushed, is_quoted}
+use Rattle.yf_flow.proofs.Frames.{pushed_longer}
+use Rattle.yf_flow.proofs.MachineLemmas.{begun_from}
 use Rattle.yf_flow.proofs.LookLemmas.{single_begins, double_begins, nothing_begins}
 
 plain_is : (x : List ℕ) (i j : ℕ) → plain_found x i j ≡ found j 0 false (scalar PlainStyle (encode_utf8_all x) [] i j)
@@ -78,3 +91,29 @@ pub start_event : (lead : Lead) (kind : Kind) (j : ℕ) (old new : List Placed) 
     → event ≡ event_with (props_value lead.props) (start_of (is_sequence kind) true)
     → new ≡ old ++ (lead_event lead (event_with (props_value lead.props) (start_of (is_sequence kind) true)) j ∷ [])
 start_event lead kind j old new e event a b d = rw (sym d, sym b) a
+
+-- a scalar that was added as a node
+pub leaf_begins : {HasBegun : Part → Part → Begun → Type 0} {spot : Spot} {lead : Lead} {style : ScalarStyle} {s : Scalar} {old mid new : Part} (b : Begun) → LeafPushed spot lead style s mid new b
+    → Place spot.scene.text.now (spot.at + 1) s.end → mid.events ≡ old.events → All (IsCharBoundary spot.scene.text.now) mid.escapes
+    → HasBegun old new (Leaf (record { end = s.end; json = is_quoted style; deepest = spot.depth })) → Begins HasBegun spot old new b
+leaf_begins {HasBegun} {spot} {lead} {style} {s} {old} {mid} {new} b p place e es h =
+    let l = pushed_longer mid.events new.events (leaf_event lead style (text_bytes s.text) s.end) p.events in
+    let m : length old.events < length new.events = rw e at l in
+    subst (λ z. Begins HasBegun spot old new z) (sym p.leaf) (record {
+      exact = h;
+      begun = (place, m);
+      grows = omega (arith, m);
+      escapes = subst (λ xs. All (IsCharBoundary spot.scene.text.now) xs) (sym p.escapes) es;
+    })
+
+-- what has begun at a spot further on, after other comments
+pub begins_behind : (HasBegun Other : Part → Part → Begun → Type 0) (spot : Spot) (p : ℕ) (old mid new : Part) {E : Type 0} (r : Result Begun E) → IfOk r (Begins Other (record spot { at = p }) mid new)
+    → spot.at ≤ p → mid.events ≡ old.events → ((b : Begun) → Other mid new b → HasBegun old new b) → IfOk r (Begins HasBegun spot old new)
+begins_behind HasBegun Other spot p old mid new r h l e f =
+    IfOk-weaker r (Begins Other (record spot { at = p }) mid new) (Begins HasBegun spot old new)
+    (λ b q. record {
+      exact = f b q.exact;
+      begun = begun_from spot.scene.text.now (length old.events) (length new.events) b l (subst (λ es. BegunAt spot.scene.text.now p (length es) (length new.events) b) e q.begun);
+      grows = subst (λ es. length es ≤ length new.events) e q.grows;
+      escapes = q.escapes;
+    }) h

@@ -16,15 +16,13 @@ use Rattle.yf_grammar.specs.Refusal.{is_opener, openers}
 use Rattle.yf_flow.specs.declared.frame.Frame.{Frame}
 use Rattle.yf_flow.specs.declared.frame.Kind.{Kind}
 use Rattle.yf_flow.specs.declared.frame.Kind.TheVariants.{Sequence, Mapping, Pair}
-use Rattle.yf_flow.specs.declared.frame.Step.{Step}
-use Rattle.yf_flow.specs.declared.frame.Step.TheVariants.{Failed}
 use Rattle.yf_flow.specs.Begun.{Opens}
 use Rattle.yf_flow.specs.declared.frame.Node.{Node}
 use Rattle.yf_flow.specs.declared.node.Begun.{Begun}
 use Rattle.yf_flow.specs.declared.node.Begun.TheVariants.{Leaf, Opened, Nothing, TooDeep}
 use Rattle.yf_flow.specs.Machine.{BegunAt}
 use Rattle.yf_flow.specs.NodeBegun.{NodeLeaf, NodeOpened, NodeFull, NodeBegun}
-use Rattle.yf_flow.specs.Counted.{openers_from, Counted, AllCounted, NodeCounted, StepCounted, BegunCounted}
+use Rattle.yf_flow.specs.Counted.{openers_from, Counted, AllCounted, NodeCounted, BegunCounted}
 
 -- further on there are no more of them
 openers_drop : (t : List ℕ) (i j : ℕ) → i ≤ j → openers (drop j t) ≤ openers (drop i t)
@@ -109,9 +107,6 @@ module _ {t : List ℕ} {total i : ℕ} where
   counted_less {frames} {all} {top} {outer} e a =
       let b = All-pop (Counted t total i) all frames (Some outer) e a.others in
       record { collections = record { utf8 = a.utf8; innermost = b.1; others = b.0 }; node = a.innermost.deepest }
-
-pub failed_counted : (t : List ℕ) (limit total : ℕ) (frames : List Frame) (top : Frame) (step : Step) → step ≡ Failed → StepCounted t limit total frames top step
-failed_counted t limit total frames top step e = subst (λ s. StepCounted t limit total frames top s) (sym e) tt
 
 -- where a node is awaited with so many collections open
 over_later : {t : List ℕ} {n : ℤ} {c : Ctx} {i k : ℕ} {b : Before} → NodeOver t n c i k b → i ≤ k

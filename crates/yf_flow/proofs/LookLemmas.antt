@@ -1,5 +1,5 @@
 -- Tests of what stands at a place.
-use Rattle.std.proofs.Common.{◌≡◌, ◌≢◌, ℕ, true, false, ◌==◌, ◌||◌, arith}
+use Rattle.std.proofs.Common.{◌≡◌, ◌≢◌, ℕ, Bool, true, false, ◌==◌, ◌||◌, arith}
 use Rattle.std.proofs.lemmas.Bool.Decides.{nat_tests}
 use Rattle.yf_grammar.specs.Parser.{begins_content}
 
@@ -30,8 +30,5 @@ module _ {c : ℕ} where
   pub end_bracket : c ≡ 93 → true ≡ ((c == 44) || (c == 93) || (c == 125))
   end_bracket e = grind (arith, nat_tests)
 
-  pub end_brace : c ≡ 125 → true ≡ ((c == 44) || (c == 93) || (c == 125))
-  end_brace e = grind (arith, nat_tests)
-
-  pub no_end : c ≢ 44 → c ≢ 93 → c ≢ 125 → false ≡ ((c == 44) || (c == 93) || (c == 125))
-  no_end a b d = grind (arith, nat_tests)
+  pub end_last : {b : Bool} → c ≢ 44 → c ≢ 93 → b ≡ (c == 125) → b ≡ ((c == 44) || (c == 93) || (c == 125))
+  end_last a d e = rw e (grind (arith, nat_tests))

@@ -19,9 +19,7 @@ use Rattle.yf_flow.specs.declared.frame.Role.TheVariants.{Item, Key, Value}
 use Rattle.yf_flow.specs.declared.frame.Node.{Node}
 use Rattle.yf_flow.specs.Begun.{entry_event}
 use Rattle.yf_flow.specs.NodeBegun.{comments_before, opened_event}
-use Rattle.yf_flow.specs.Tied.{first_events, NotedEvent, entryless, Noted, Written, one, entry_of, in_role, ahead, entries_written, entry_written, kind_of, end_event, Framed, of_collection, of_pair, NodeIn, Base, Below, outermost, inside, AtClosing, AtEnded, AtDone, NoBase, StepTied}
-use Rattle.yf_flow.specs.declared.frame.Step.{Step}
-use Rattle.yf_flow.specs.declared.frame.Step.TheVariants.{Failed}
+use Rattle.yf_flow.specs.Tied.{first_events, NotedEvent, entryless, Noted, Written, one, entry_of, in_role, ahead, entries_written, entry_written, kind_of, end_event, Framed, of_collection, of_pair, NodeIn, Base, Below, outermost, inside, AtClosing, AtEnded, AtDone}
 use Rattle.yf_flow.proofs.NotedLemmas.{noted_more, noted_ended, edited_here}
 use Rattle.yf_flow.proofs.TiedEnds.{written_as, written_same}
 
@@ -196,7 +194,3 @@ popped old new x e = ap reverse e ∙ reverse-append new (x ∷ [])
 pub none_left : {X : Type 0} (old : List X) → (0 < length old → ⊥) → reverse old ≡ []
 none_left [] f = refl
 none_left (x ∷ old) f = absurd (f (omega arith))
-
-pub failed_tied : (t : List ℕ) (n : ℤ) (d : Ctx) (base : Base) (frames : List Frame) (top : Frame) (part : Part) (step : Step) → step ≡ Failed → NoBase t n base
-    → StepTied t n d base frames top step part
-failed_tied t n d base frames top part step e x = subst (λ s. StepTied t n d base frames top s part) (sym e) x

@@ -62,3 +62,17 @@ pub record AtSign (t : List ℕ) (n : ℤ) (d : Ctx) (base : Base) (frames : Lis
 -- what a value without a key is to its entry
 abbrev pub AloneAwaited : List ℕ → ℤ → Ctx → InEntry → List CommentValue → ℕ → Type 0
 AloneAwaited t n d l cs v = ValueAwaited t l.limit l.sequence n d l.pair l.start false 0 (noting (only [] 0) cs ⊕ entering l.start (Some v) (empty_node v)) v
+
+-- after a `?` and its separation, which ends at the offset
+pub record AtQuestioned (t : List ℕ) (n : ℤ) (d : Ctx) (base : Base) (frames : List Frame) (top : Frame) (at : ℕ) (part : Part) : Type 0 where
+  pub comments : List CommentValue
+  pub question : code t top.entry ≡ 63
+  pub chosen : Chosen (Separate t n d (top.entry + 1)) at comments
+  pub first : AtFirst t n d base frames top comments part
+
+-- before the `:` of a value without a key
+pub record AtLone (t : List ℕ) (n : ℤ) (d : Ctx) (base : Base) (frames : List Frame) (top : Frame) (colon : ℕ) (part : Part) : Type 0 where
+  pub comments : List CommentValue
+  pub no_feed : code t top.entry ≢ 10
+  pub sign : AtSign t n d base frames top comments part
+  pub awaited : AloneAwaited t n d sign.layer comments colon

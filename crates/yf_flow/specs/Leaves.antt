@@ -1,17 +1,14 @@
 -- What the readers of the parts without nodes give: the longest part of each production, with its value.
-use Rattle.std.specs.Prelude.{◌≡◌, ℕ, ◌≤◌, ℤ, true, false, List, ◌++◌, Option, Some, None, encode_utf8_all}
+use Rattle.std.specs.Prelude.{◌≡◌, ℕ, ◌≤◌, ℤ, true, false, List, ◌++◌}
 use Rattle.yf_chars.specs.declared.context.Ctx.{Ctx}
 use Rattle.yf_chars.specs.Chain.{Stuck, Chosen}
-use Rattle.yf_lines.specs.Text.{text_bytes}
 use Rattle.yf_comments.specs.Comment.{CommentValue}
 use Rattle.yf_comments.specs.Comments.{Separate}
-use Rattle.yf_quoted.specs.Quoted.{Piece, text_of, DoubleQuoted}
-use Rattle.yf_grammar.specs.Grammar.{bad_escapes, characters_between, KEY_LIMIT}
+use Rattle.yf_grammar.specs.Grammar.{characters_between, KEY_LIMIT}
 use Rattle.yf_grammar.specs.Parser.{OnOneLine}
 use Rattle.yf_flow.specs.declared.frame.Kind.{Kind}
 use Rattle.yf_flow.specs.declared.frame.Kind.TheVariants.{Sequence, Mapping, Pair}
 use Rattle.yf_flow.specs.declared.gap.Gap.{Gap}
-use Rattle.yf_flow.specs.declared.leaf.Scalar.{Scalar}
 
 -- the longest separation from i, with its comments after those of a list; or there is none
 pub record SeparatedTo (t : List ℕ) (n : ℤ) (c : Ctx) (i j : ℕ) (old new : List CommentValue) : Type 0 where
@@ -23,29 +20,10 @@ pub record Unseparated (t : List ℕ) (n : ℤ) (c : Ctx) (i : ℕ) (old new : L
   pub none : Stuck (Separate t n c i)
   pub same : new ≡ old
 
-abbrev pub Separated : List ℕ → ℤ → Ctx → ℕ → List CommentValue → List CommentValue → Option ℕ → Type 0
-Separated t n c i old new (Some j) = SeparatedTo t n c i j old new
-Separated t n c i old new None = Unseparated t n c i old new
-
 -- the same where there need be none
 pub data GapRead (t : List ℕ) (n : ℤ) (c : Ctx) (i : ℕ) (old new : List CommentValue) : Gap → Type 0 where
   gap_read : {j : ℕ} → SeparatedTo t n c i j old new → GapRead t n c i old new (record { end = j; is_separation = true })
   gap_missing : Unseparated t n c i old new → GapRead t n c i old new (record { end = i; is_separation = false })
-
--- a double-quoted scalar, whose bad escapes are noted after those of a list
-pub record DoubleRest (t : List ℕ) (n : ℤ) (c : Ctx) (i : ℕ) (old new : List ℕ) (s : Scalar) : Type 0 where
-  pub pieces : List Piece
-  pub text : text_bytes s.text ≡ encode_utf8_all (text_of pieces)
-  pub added : new ≡ old ++ bad_escapes pieces
-  pub chosen : Chosen (DoubleQuoted t n c i) s.end pieces
-
-pub record DoubleMissing (t : List ℕ) (n : ℤ) (c : Ctx) (i : ℕ) (old new : List ℕ) : Type 0 where
-  pub none : Stuck (DoubleQuoted t n c i)
-  pub same : new ≡ old
-
-abbrev pub DoubleRead : List ℕ → ℤ → Ctx → ℕ → List ℕ → List ℕ → Option Scalar → Type 0
-DoubleRead t n c i old new (Some s) = DoubleRest t n c i old new s
-DoubleRead t n c i old new None = DoubleMissing t n c i old new
 
 -- the bracket that closes a collection of that kind
 abbrev pub Closes : Kind → ℕ → Type 0

@@ -2,6 +2,7 @@ pub mod Beginning
 pub mod Begun
 pub mod ContentAnswers
 pub mod Counted
+pub mod Ending
 pub mod Ends
 pub mod EntryBegun
 pub mod KeyThere

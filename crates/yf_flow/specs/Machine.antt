@@ -7,7 +7,6 @@ use Rattle.yf_lines.specs.declared.fault.Fault.{Fault}
 use Rattle.yf_lines.specs.declared.fault.Fault.TheVariants.{Memory, EscapeValue, TooDeep as TooDeepFault}
 use Rattle.yf_lines.specs.FaultPlaces.{InText}
 use Rattle.yf_flow.specs.declared.frame.Frame.{Frame}
-use Rattle.yf_flow.specs.declared.frame.State.{State}
 use Rattle.yf_flow.specs.declared.frame.Step.{Step}
 use Rattle.yf_flow.specs.declared.frame.Step.TheVariants.{Node, Entry, Ended, Done, Failed, TooDeep}
 use Rattle.yf_flow.specs.declared.nodes.Ending.{Ending}
@@ -42,10 +41,6 @@ StepReady t at m top (Ended node) = Place t at node.end × Indexed t m top
 StepReady t at m top (Done node) = Place t at node.end
 StepReady t at m top Failed = Unit {0}
 StepReady t at m top (TooDeep p) = IsCharBoundary t p
-
-pub record Ready (t : List ℕ) (at m : ℕ) (frames : List Frame) (s : State) : Type 0 where
-  pub below : All (Indexed t m) frames
-  pub step : StepReady t at m s.top s.step
 
 -- how much is left to do of n bytes
 abbrev pub left : ℕ → Step → ℕ

@@ -2,8 +2,10 @@
 ghost use Rattle.std.specs.Prelude.{◌≡◌, max, MatchBool};
 ghost use Rattle.yf_flow.specs.Steps.{first_role};
 
+use smallvec::SmallVec;
 use std::alloc::Global;
 use yf_chars::context::Ctx;
+use yf_events::part::Part;
 
 /// What is read, and how: the text, its indentation and context, and how many collections may be open at once.
 #[derive(Clone, Copy)]
@@ -88,11 +90,16 @@ pub(crate) enum Step {
     TooDeep(usize),
 }
 
-/// The innermost open collection, and what comes next in it.
-#[derive(Clone, Copy)]
-pub(crate) struct State {
+/// The reader of a collection: what its steps change.
+#[derive(Drop)]
+pub(crate) struct Reader<'a> {
+    pub(crate) alloc: Global,
+    /// The innermost open collection.
     pub(crate) top: Frame,
-    pub(crate) step: Step,
+    /// The open collections round it, the outermost first.
+    pub(crate) below: SmallVec<Frame, 8>,
+    /// What has been read.
+    pub(crate) part: Part<'a>,
 }
 
 impl Kind {

@@ -1,24 +1,24 @@
 //! Content between quotes or brackets, as JSON has it: quoted scalars, and the beginning of flow collections.
-ghost use Rattle.std.specs.Prelude.{◌≡◌, ◌+◌, ◌≤◌, length, true, IfOk};
-ghost use Rattle.std.specs.List.{All};
+ghost use Rattle.std.specs.Prelude.{◌≡◌, ◌+◌, true, IfOk};
 ghost use Rattle.std.specs.Str.{IsCharBoundary};
+ghost use Rattle.yf_grammar.specs.Meaning.{event_with, start_of};
 ghost use Rattle.yf_props.specs.Props.{props_value};
 ghost use Rattle.yf_events.specs.Event.{new_event_value};
-ghost use Rattle.yf_grammar.specs.Meaning.{event_with, start_of};
 ghost use Rattle.yf_grammar.specs.Parser.{begins_content};
-ghost use Rattle.yf_chars.specs.Text.{code};
-ghost use Rattle.yf_flow.specs.Machine.{BegunAt};
 ghost use Rattle.yf_flow.specs.Begun.{Opens, is_sequence};
-ghost use Rattle.yf_flow.specs.Spots.{SpotContent};
+ghost use Rattle.yf_chars.specs.Text.{code};
+ghost use Rattle.yf_flow.specs.Spots.{Awaited, Begins, SpotContent};
 
-use crate::frame::{Frame, Kind, Node, Role, Spot};
-use crate::leaf::{read_single, scan_double};
-use crate::node::{Begun, Lead, push_scalar};
-use std::alloc::{AllocError, Global};
+use crate::frame::{Frame, Kind, Role, Spot};
+use crate::leaf::{Scalar, keep_escapes};
+use crate::node::{Begun, Lead, push_leaf};
+use std::alloc::AllocError;
 use yf_chars::text::stands;
 use yf_events::event::{NewEvent, ScalarStyle};
 use yf_events::part::Part;
 use yf_props::props::Props;
+use yf_quoted::double::{Double, double_in};
+use yf_quoted::single::{Single, single_in};
 
 /// A quoted scalar, or the opening bracket of a flow collection (c-flow-json-content, production 157).
 pub(crate) fn json_content<'a>(
@@ -26,81 +26,44 @@ pub(crate) fn json_content<'a>(
     lead: Lead<'a>,
     part: &mut Part<'a>,
 ) -> Result<Begun, AllocError>
-    requires boundary { IsCharBoundary spot.scene.text.now spot.at }
-    requires escapes { All (IsCharBoundary spot.scene.text.now) part.old.escapes }
+    requires awaited { Awaited spot part.old }
     requires content { begins_content (code spot.scene.text.now spot.at) ≡ true }
-    ensures exact { IfOk result (SpotContent spot.entry lead.entry part.old part.new) }
-    ensures begun { IfOk result (λ b. BegunAt spot.entry.scene.text.now spot.entry.at (length part.old.events) (length part.new.events) b) }
-    ensures grows { IfOk result (λ _. length part.old.events ≤ length part.new.events) }
-    ensures escapes { IfOk result (λ _. All (IsCharBoundary spot.entry.scene.text.now) part.new.escapes) }
+    ensures { IfOk result (Begins (SpotContent spot.entry lead.entry) spot.entry part.old part.new) }
 {
-    if stands(spot.scene.text, spot.at, b'\'') {
-        return single_node(spot, lead, part);
+    let alloc = spot.alloc;
+    let scene = spot.scene;
+    if stands(scene.text, spot.at, b'\'') {
+        match single_in(alloc, scene.text, spot.at, scene.indentation, scene.context)? {
+            Some(Single { text, end }) => {
+                return push_leaf(spot, lead, ScalarStyle::Single, Scalar { text, end }, part);
+            }
+            None => return Ok(Begun::Nothing),
+        }
     }
-    if stands(spot.scene.text, spot.at, b'"') {
+    if stands(scene.text, spot.at, b'"') {
         return double_node(spot, lead, part);
     }
-    if stands(spot.scene.text, spot.at, b'[') {
+    if stands(scene.text, spot.at, b'[') {
         return open(spot, Kind::Sequence, lead, part);
     }
-    if stands(spot.scene.text, spot.at, b'{') {
+    if stands(scene.text, spot.at, b'{') {
         return open(spot, Kind::Mapping, lead, part);
     }
     Ok(Begun::Nothing)
 }
 
-fn single_node<'a>(spot: Spot<'a>, lead: Lead<'a>, part: &mut Part<'a>) -> Result<Begun, AllocError>
-    requires boundary { IsCharBoundary spot.scene.text.now spot.at }
-    requires quote { code spot.scene.text.now spot.at ≡ 39 }
-    ensures exact { IfOk result (SpotContent spot.entry lead.entry part.old part.new) }
-    ensures begun { IfOk result (λ b. BegunAt spot.entry.scene.text.now spot.entry.at (length part.old.events) (length part.new.events) b) }
-    ensures grows { IfOk result (λ _. length part.old.events ≤ length part.new.events) }
-    ensures escapes { IfOk result (λ _. part.new.escapes ≡ part.old.escapes) }
-{
-    match read_single(spot.alloc, spot.scene, spot.at)? {
-        Some(single) => {
-            push_scalar(
-                spot.alloc,
-                lead,
-                ScalarStyle::Single,
-                single.text,
-                single.end,
-                part,
-            )?;
-            Ok(Begun::Leaf(Node {
-                end: single.end,
-                json: true,
-                deepest: spot.depth,
-            }))
-        }
-        None => Ok(Begun::Nothing),
-    }
-}
-
+// A double-quoted scalar (c-double-quoted(n,c), production 109), whose escapes that are no character are kept.
 fn double_node<'a>(spot: Spot<'a>, lead: Lead<'a>, part: &mut Part<'a>) -> Result<Begun, AllocError>
-    requires boundary { IsCharBoundary spot.scene.text.now spot.at }
-    requires escapes { All (IsCharBoundary spot.scene.text.now) part.old.escapes }
+    requires awaited { Awaited spot part.old }
     requires quote { code spot.scene.text.now spot.at ≡ 34 }
-    ensures exact { IfOk result (SpotContent spot.entry lead.entry part.old part.new) }
-    ensures begun { IfOk result (λ b. BegunAt spot.entry.scene.text.now spot.entry.at (length part.old.events) (length part.new.events) b) }
-    ensures grows { IfOk result (λ _. length part.old.events ≤ length part.new.events) }
-    ensures escapes { IfOk result (λ _. All (IsCharBoundary spot.entry.scene.text.now) part.new.escapes) }
+    ensures { IfOk result (Begins (SpotContent spot.entry lead.entry) spot.entry part.old part.new) }
 {
-    match scan_double(spot.alloc, spot.scene, spot.at, part)? {
-        Some(double) => {
-            push_scalar(
-                spot.alloc,
-                lead,
-                ScalarStyle::Double,
-                double.text,
-                double.end,
-                part,
-            )?;
-            Ok(Begun::Leaf(Node {
-                end: double.end,
-                json: true,
-                deepest: spot.depth,
-            }))
+    let alloc = spot.alloc;
+    let scene = spot.scene;
+    match double_in(alloc, scene.text, spot.at, scene.indentation, scene.context)? {
+        Some(Double { text, bad, end }) => {
+            keep_escapes(&bad, &mut part.escapes)?;
+            push_leaf(spot, lead, ScalarStyle::Double, Scalar { text, end }, part)
         }
         None => Ok(Begun::Nothing),
     }
@@ -124,13 +87,10 @@ fn open<'a>(
     lead: Lead<'a>,
     part: &mut Part<'a>,
 ) -> Result<Begun, AllocError>
-    requires boundary { IsCharBoundary spot.scene.text.now spot.at }
+    requires awaited { Awaited spot part.old }
     requires behind { IsCharBoundary spot.scene.text.now (spot.at + 1) }
     requires bracket { Opens kind (code spot.scene.text.now spot.at) }
-    ensures exact { IfOk result (SpotContent spot.entry lead.entry part.old part.new) }
-    ensures begun { IfOk result (λ b. BegunAt spot.entry.scene.text.now spot.entry.at (length part.old.events) (length part.new.events) b) }
-    ensures grows { IfOk result (λ _. length part.old.events ≤ length part.new.events) }
-    ensures escapes { IfOk result (λ _. part.new.escapes ≡ part.old.escapes) }
+    ensures { IfOk result (Begins (SpotContent spot.entry lead.entry) spot.entry part.old part.new) }
 {
     if spot.depth >= spot.scene.limit {
         return Ok(Begun::TooDeep(spot.at));

@@ -25,7 +25,7 @@ pub(crate) fn closes(text: &str, at: usize, kind: Kind) -> bool
 }
 
 /// Whether a comma or a closing bracket stands there, after which there is nothing more of an entry.
-#[tactic(auto, using(crate::proofs::LookLemmas::end_comma, crate::proofs::LookLemmas::end_bracket, crate::proofs::LookLemmas::end_brace, crate::proofs::LookLemmas::no_end))]
+#[tactic(auto, using(crate::proofs::LookLemmas::end_comma, crate::proofs::LookLemmas::end_bracket, crate::proofs::LookLemmas::end_last))]
 pub(crate) fn entry_ends(text: &str, at: usize) -> bool
     ensures { result ≡ ((code text.now at == 44) || (code text.now at == 93) || (code text.now at == 125)) }
 {
@@ -35,10 +35,7 @@ pub(crate) fn entry_ends(text: &str, at: usize) -> bool
     if stands(text, at, b']') {
         return true;
     }
-    if stands(text, at, b'}') {
-        return true;
-    }
-    false
+    stands(text, at, b'}')
 }
 
 /// Whether a quote or an opening bracket stands there (c-flow-json-content).

@@ -1,26 +1,20 @@
 //! Nodes: what may stand as an item, a key or a value, and the events of them.
-ghost use Rattle.std.specs.Prelude.{◌≡◌, ◌+◌, ◌≤◌, length, false, [], ◌∷◌, ◌++◌, IfOk};
-ghost use Rattle.std.specs.List.{All};
-ghost use Rattle.std.specs.Str.{IsCharBoundary};
+ghost use Rattle.std.specs.Prelude.{◌≡◌, ◌+◌, length, false, [], ◌∷◌, ◌++◌, IfOk};
 ghost use Rattle.yf_lines.specs.Text.{text_bytes};
-ghost use Rattle.yf_chars.specs.Chain.{Chosen};
-ghost use Rattle.yf_props.specs.Names as Names;
 ghost use Rattle.yf_props.specs.Props.{no_props};
-ghost use Rattle.yf_props.specs.Properties.{properties_value};
 ghost use Rattle.yf_events.specs.Event.{new_event_value, placed_value, scalar_node};
 ghost use Rattle.yf_grammar.specs.Parser.{begins_content};
 ghost use Rattle.yf_chars.specs.Text.{code};
-ghost use Rattle.yf_flow.specs.Machine.{BegunAt, Place};
-ghost use Rattle.yf_flow.specs.Spots.{SpotBegun, SpotContent};
+ghost use Rattle.yf_flow.specs.Spots.{Awaited, Begins, LeafPushed, PropertiesAt, SpotBegun, SpotContent, is_quoted};
 ghost use Rattle.yf_flow.specs.Begun.{bare_lead, entry_event, leaf_event, lead_event};
 
 use crate::frame::{Frame, Node, Spot};
-use crate::gap::read_separation;
 use crate::json::json_content;
-use crate::leaf::{read_plain, read_properties};
+use crate::leaf::{Scalar, read_plain, read_properties};
 use crate::look::content_begins;
 use std::alloc::{AllocError, Global};
 use yf_comments::comments::Separation;
+use yf_comments::separation::separate;
 use yf_events::event::{Entry, NewEvent, PlacedEvent, ScalarStyle, Span};
 use yf_events::part::Part;
 use yf_events::slices::Slices;
@@ -116,12 +110,8 @@ pub(crate) fn begin_node<'a>(
     entry: Option<Entry>,
     part: &mut Part<'a>,
 ) -> Result<Begun, AllocError>
-    requires boundary { IsCharBoundary spot.scene.text.now spot.at }
-    requires escapes { All (IsCharBoundary spot.scene.text.now) part.old.escapes }
-    ensures exact { IfOk result (SpotBegun spot.entry entry part.old part.new) }
-    ensures begun { IfOk result (λ b. BegunAt spot.entry.scene.text.now spot.entry.at (length part.old.events) (length part.new.events) b) }
-    ensures grows { IfOk result (λ _. length part.old.events ≤ length part.new.events) }
-    ensures escapes { IfOk result (λ _. All (IsCharBoundary spot.entry.scene.text.now) part.new.escapes) }
+    requires { Awaited spot part.old }
+    ensures { IfOk result (Begins (SpotBegun spot.entry entry) spot.entry part.old part.new) }
 {
     match alias_node(spot.scene.text, spot.at) {
         Some((name, end)) => {
@@ -149,12 +139,8 @@ pub(crate) fn begin_content<'a>(
     lead: Lead<'a>,
     part: &mut Part<'a>,
 ) -> Result<Begun, AllocError>
-    requires boundary { IsCharBoundary spot.scene.text.now spot.at }
-    requires escapes { All (IsCharBoundary spot.scene.text.now) part.old.escapes }
-    ensures exact { IfOk result (SpotContent spot.entry lead.entry part.old part.new) }
-    ensures begun { IfOk result (λ b. BegunAt spot.entry.scene.text.now spot.entry.at (length part.old.events) (length part.new.events) b) }
-    ensures grows { IfOk result (λ _. length part.old.events ≤ length part.new.events) }
-    ensures escapes { IfOk result (λ _. All (IsCharBoundary spot.entry.scene.text.now) part.new.escapes) }
+    requires { Awaited spot part.old }
+    ensures { IfOk result (Begins (SpotContent spot.entry lead.entry) spot.entry part.old part.new) }
 {
     if content_begins(spot.scene.text, spot.at) {
         return json_content(spot, lead, part);
@@ -169,15 +155,9 @@ fn propertied_node<'a>(
     entry: Option<Entry>,
     part: &mut Part<'a>,
 ) -> Result<Begun, AllocError>
-    requires boundary { IsCharBoundary spot.scene.text.now spot.at }
-    requires place { Place spot.scene.text.now (spot.at + 1) properties.end }
-    requires escapes { All (IsCharBoundary spot.scene.text.now) part.old.escapes }
-    requires properties { Chosen (Names.Properties spot.scene.text.now spot.scene.indentation spot.scene.context spot.at) properties.end
-        (properties_value properties) }
-    ensures exact { IfOk result (SpotBegun spot.entry entry part.old part.new) }
-    ensures begun { IfOk result (λ b. BegunAt spot.entry.scene.text.now spot.entry.at (length part.old.events) (length part.new.events) b) }
-    ensures grows { IfOk result (λ _. length part.old.events ≤ length part.new.events) }
-    ensures escapes { IfOk result (λ _. All (IsCharBoundary spot.entry.scene.text.now) part.new.escapes) }
+    requires awaited { Awaited spot part.old }
+    requires properties { PropertiesAt spot properties }
+    ensures { IfOk result (Begins (SpotBegun spot.entry entry) spot.entry part.old part.new) }
 {
     let Properties {
         props,
@@ -191,53 +171,68 @@ fn propertied_node<'a>(
         tag_offset,
         entry,
     };
+    let scene = spot.scene;
     part.comments.append(comments)?;
-    match read_separation(spot.alloc, spot.scene, end)? {
+    match separate(
+        spot.alloc,
+        scene.text,
+        end,
+        scene.indentation,
+        scene.context,
+    )? {
         Some(
             Separation {
                 comments,
                 end: place,
             },
         ) => {
-            if content_begins(spot.scene.text, place) {
+            if content_begins(scene.text, place) {
                 part.comments.append(comments)?;
                 return json_content(Spot { at: place, ..spot }, lead, part);
             }
-            match read_plain(spot.alloc, spot.scene, place)? {
+            match read_plain(Spot { at: place, ..spot })? {
                 Some(plain) => {
                     part.comments.append(comments)?;
-                    push_scalar(
-                        spot.alloc,
-                        lead,
-                        ScalarStyle::Plain,
-                        plain.text,
-                        plain.end,
-                        part,
-                    )?;
-                    return Ok(Begun::Leaf(Node {
-                        end: plain.end,
-                        json: false,
-                        deepest: spot.depth,
-                    }));
+                    return push_leaf(spot, lead, ScalarStyle::Plain, plain, part);
                 }
                 None => {}
             }
         }
         None => {}
     }
-    push_scalar(
-        spot.alloc,
-        lead,
-        ScalarStyle::Plain,
-        Text::Part(""),
-        end,
-        part,
-    )?;
+    let text = Text::Part("");
+    push_leaf(spot, lead, ScalarStyle::Plain, Scalar { text, end }, part)
+}
+
+/// Adds a scalar as a node.
+#[inline(always)]
+pub(crate) fn push_leaf<'a>(
+    spot: Spot<'a>,
+    lead: Lead<'a>,
+    style: ScalarStyle,
+    scalar: Scalar<'a>,
+    part: &mut Part<'a>,
+) -> Result<Begun, AllocError>
+    ensures { IfOk result (LeafPushed spot.entry lead.entry style scalar.entry part.old part.new) }
+{
+    let Scalar { text, end } = scalar;
+    let json = is_quoted(style);
+    push_scalar(spot.alloc, lead, style, text, end, part)?;
     Ok(Begun::Leaf(Node {
         end,
-        json: false,
+        json,
         deepest: spot.depth,
     }))
+}
+
+// Whether a scalar of that style is one like those of JSON.
+fn is_quoted(style: ScalarStyle) -> bool
+    ensures { result ≡ is_quoted style }
+{
+    match style {
+        ScalarStyle::Single | ScalarStyle::Double => true,
+        ScalarStyle::Plain | ScalarStyle::Literal | ScalarStyle::Folded => false,
+    }
 }
 
 /// Adds a scalar that ends at an offset.
@@ -266,29 +261,12 @@ pub fn push_scalar<'a>(
 
 // A plain scalar as a node (ns-plain, production 131).
 fn plain_node<'a>(spot: Spot<'a>, lead: Lead<'a>, part: &mut Part<'a>) -> Result<Begun, AllocError>
-    requires boundary { IsCharBoundary spot.scene.text.now spot.at }
+    requires awaited { Awaited spot part.old }
     requires other { begins_content (code spot.scene.text.now spot.at) ≡ false }
-    ensures exact { IfOk result (SpotContent spot.entry lead.entry part.old part.new) }
-    ensures begun { IfOk result (λ b. BegunAt spot.entry.scene.text.now spot.entry.at (length part.old.events) (length part.new.events) b) }
-    ensures grows { IfOk result (λ _. length part.old.events ≤ length part.new.events) }
-    ensures escapes { IfOk result (λ _. part.new.escapes ≡ part.old.escapes) }
+    ensures { IfOk result (Begins (SpotContent spot.entry lead.entry) spot.entry part.old part.new) }
 {
-    match read_plain(spot.alloc, spot.scene, spot.at)? {
-        Some(plain) => {
-            push_scalar(
-                spot.alloc,
-                lead,
-                ScalarStyle::Plain,
-                plain.text,
-                plain.end,
-                part,
-            )?;
-            Ok(Begun::Leaf(Node {
-                end: plain.end,
-                json: false,
-                deepest: spot.depth,
-            }))
-        }
+    match read_plain(spot)? {
+        Some(plain) => push_leaf(spot, lead, ScalarStyle::Plain, plain, part),
         None => Ok(Begun::Nothing),
     }
 }

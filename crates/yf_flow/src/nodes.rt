@@ -10,16 +10,16 @@ ghost use Rattle.yf_flow.specs.Ends.{BegunTied, EndTied, EndsAs};
 ghost use Rattle.yf_flow.specs.Machine.{Awaiting, BegunAt, EndingAt, OutcomeAt};
 ghost use Rattle.yf_flow.specs.NodeAnswers.{InnerContext, NodeAnswers};
 ghost use Rattle.yf_flow.specs.NodeRead.{NodeLost};
+ghost use Rattle.yf_flow.specs.Stepped.{CollectionEnds, Standing};
 ghost use Rattle.yf_flow.specs.Steps.{Reading};
 ghost use Rattle.yf_flow.specs.Tied.{AtEntry, Base};
 
-use crate::entries::{Below, start_entry, take_node};
-use crate::entry_ends::finish_node;
-use crate::frame::{Frame, Node, Scene, Spot, State, Step};
+use crate::frame::{Frame, Node, Reader, Scene, Spot, Step};
 use crate::leaf::read_properties;
 use crate::node::{Begun, Lead, begin_content, begin_node, push_scalar};
 use smallvec::SmallVec;
 use std::alloc::{AllocError, Global};
+use std::mem::swap;
 use yf_chars::context::Ctx;
 use yf_events::comments::Comments;
 use yf_events::event::ScalarStyle;
@@ -78,11 +78,14 @@ pub(crate) fn read_node<'a>(
                 depth: 0,
             };
             let begun = begin_node(spot, None, &mut part)?;
-            let within = Scene {
-                context: inner,
-                ..scene
+            let inside = Spot {
+                scene: Scene {
+                    context: inner,
+                    ..scene
+                },
+                ..spot
             };
-            match end_node(alloc, within, at, begun, &mut part)? {
+            match end_node(inside, begun, &mut part)? {
                 Ending::End(node) => Ok(Outcome::Found {
                     part,
                     end: node.end,
@@ -132,34 +135,31 @@ pub fn read_content<'a>(
                 depth,
             };
             let begun = begin_content(spot, lead, part)?;
-            let within = Scene {
-                context: inner,
-                ..scene
+            let inside = Spot {
+                scene: Scene {
+                    context: inner,
+                    ..scene
+                },
+                ..spot
             };
-            end_node(alloc, within, at, begun, part)
+            end_node(inside, begun, part)
         }
     }
 }
 
-// Reads on where a node has begun at an offset, and tells how it ends.
-fn end_node<'a>(
-    alloc: Global,
-    scene: Scene<'a>,
-    at: usize,
-    begun: Begun,
-    part: &mut Part<'a>,
-) -> Result<Ending, AllocError>
-    requires begun { (m : ℕ) × BegunAt scene.text.now at m (length part.old.events) begun }
-    requires escapes { All (IsCharBoundary scene.text.now) part.old.escapes }
-    ensures ends { (base : Base) → BegunTied scene.entry.text.now scene.entry.indentation scene.entry.context scene.entry.limit base begun part.old → IfOk result (λ e. EndsAs scene.entry.text.now scene.entry.indentation base begun part.old part.new e) }
-    ensures counted { IsUtf8 scene.entry.text.now → (total : ℕ) → BegunCounted scene.entry.text.now scene.entry.limit total begun
-        → IfOk result (λ e. EndCounted scene.entry.text.now scene.entry.limit total e) }
-    ensures found { IfOk result (λ e. EndingAt scene.entry.text.now (at + 1) e) }
-    ensures escapes { IfOk result (λ _. All (IsCharBoundary scene.entry.text.now) part.new.escapes) }
+// Reads on where a node has begun, and tells how it ends.
+fn end_node<'a>(spot: Spot<'a>, begun: Begun, part: &mut Part<'a>) -> Result<Ending, AllocError>
+    requires begun { (m : ℕ) × BegunAt spot.scene.text.now spot.at m (length part.old.events) begun }
+    requires escapes { All (IsCharBoundary spot.scene.text.now) part.old.escapes }
+    ensures ends { (base : Base) → BegunTied spot.entry.scene.text.now spot.entry.scene.indentation spot.entry.scene.context spot.entry.scene.limit base begun part.old → IfOk result (λ e. EndsAs spot.entry.scene.text.now spot.entry.scene.indentation base begun part.old part.new e) }
+    ensures counted { IsUtf8 spot.entry.scene.text.now → (total : ℕ) → BegunCounted spot.entry.scene.text.now spot.entry.scene.limit total begun
+        → IfOk result (λ e. EndCounted spot.entry.scene.text.now spot.entry.scene.limit total e) }
+    ensures found { IfOk result (λ e. EndingAt spot.entry.scene.text.now (spot.entry.at + 1) e) }
+    ensures escapes { IfOk result (λ _. All (IsCharBoundary spot.entry.scene.text.now) part.new.escapes) }
 {
     match begun {
         Begun::Leaf(node) => Ok(Ending::End(node)),
-        Begun::Opened(frame) => read_collection(alloc, scene, frame, part),
+        Begun::Opened(frame) => read_entries(spot, frame, part),
         Begun::Nothing => Ok(Ending::Nothing),
         Begun::TooDeep(place) => Ok(Ending::TooDeep(place)),
     }
@@ -176,7 +176,8 @@ fn inner_context(context: Ctx) -> Option<Ctx>
     }
 }
 
-fn new_part<'a>(alloc: Global) -> Part<'a>
+/// A part with nothing in it.
+pub fn new_part<'a>(alloc: Global) -> Part<'a>
     ensures events { result.events ≡ [] }
     ensures comments { result.comments ≡ [] }
     ensures escapes { result.escapes ≡ [] }
@@ -190,37 +191,49 @@ fn new_part<'a>(alloc: Global) -> Part<'a>
 
 // Reads the entries of a collection up to its closing bracket.
 #[inline(never)]
-fn read_collection<'a>(
-    alloc: Global,
-    scene: Scene<'a>,
-    frame: Frame,
-    part: &mut Part<'a>,
-) -> Result<Ending, AllocError>
-    requires boundary { IsCharBoundary scene.text.now frame.entry }
-    requires top { Awaiting scene.text.now (length part.old.events) frame }
-    requires escapes { All (IsCharBoundary scene.text.now) part.old.escapes }
-    ensures tied { (base : Base) → Reading scene.entry.text.now scene.entry.context scene.entry.limit base
-        → AtEntry scene.entry.text.now scene.entry.indentation scene.entry.context base [] frame frame.entry part.old
-        → IfOk result (λ e. EndTied scene.entry.text.now scene.entry.indentation base e part.new) }
-    ensures counted { (total : ℕ) → AllCounted scene.entry.text.now total frame.entry [] frame
-        → IfOk result (λ e. EndCounted scene.entry.text.now scene.entry.limit total e) }
-    ensures found { IfOk result (λ e. EndingAt scene.entry.text.now frame.entry e) }
-    ensures escapes { IfOk result (λ _. All (IsCharBoundary scene.entry.text.now) part.new.escapes) }
+fn read_entries<'a>(spot: Spot<'a>, top: Frame, part: &mut Part<'a>) -> Result<Ending, AllocError>
+    requires boundary { IsCharBoundary spot.scene.text.now top.entry }
+    requires top { Awaiting spot.scene.text.now (length part.old.events) top }
+    requires escapes { All (IsCharBoundary spot.scene.text.now) part.old.escapes }
+    ensures tied { (base : Base) → Reading spot.entry.scene.text.now spot.entry.scene.context spot.entry.scene.limit base
+        → AtEntry spot.entry.scene.text.now spot.entry.scene.indentation spot.entry.scene.context base [] top top.entry part.old
+        → IfOk result (λ e. EndTied spot.entry.scene.text.now spot.entry.scene.indentation base e part.new) }
+    ensures counted { (total : ℕ) → AllCounted spot.entry.scene.text.now total top.entry [] top
+        → IfOk result (λ e. EndCounted spot.entry.scene.text.now spot.entry.scene.limit total e) }
+    ensures found { IfOk result (λ e. EndingAt spot.entry.scene.text.now top.entry e) }
+    ensures escapes { IfOk result (λ _. All (IsCharBoundary spot.entry.scene.text.now) part.new.escapes) }
 {
-    let mut below: Below = SmallVec::new(alloc);
-    let mut state = State {
-        top: frame,
-        step: Step::Entry(frame.entry),
+    let alloc = spot.alloc;
+    let mut reader = Reader {
+        alloc,
+        top,
+        below: SmallVec::new(alloc),
+        part: new_part(alloc),
     };
-    'steps: loop {
-        state = match state.step {
-            Step::Entry(at) => start_entry(alloc, scene, at, state.top, &mut below, part)?,
-            Step::Node(at) => take_node(alloc, scene, at, state.top, &mut below, part)?,
-            Step::Ended(node) => finish_node(alloc, scene, node, state.top, &mut below, part)?,
-            Step::Done(node) => return Ok(Ending::End(node)),
-            Step::Failed => return Ok(Ending::Nothing),
-            Step::TooDeep(place) => return Ok(Ending::TooDeep(place)),
-        };
+    swap(part, &mut reader.part);
+    let ending = reader.read_on(spot.scene, top.entry);
+    swap(part, &mut reader.part);
+    ending
+}
+
+impl<'a> Reader<'a> {
+    // Goes on step by step from an offset at which an entry is awaited.
+    fn read_on(&mut self, scene: Scene<'a>, at: usize) -> Result<Ending, AllocError>
+        requires standing { Standing Awaiting scene.text.now at self.old }
+        requires escapes { All (IsCharBoundary scene.text.now) self.old.part.escapes }
+        ensures { IfOk result (CollectionEnds scene.entry at self.old self.new) }
+    {
+        let mut step = Step::Entry(at);
+        'steps: loop {
+            step = match step {
+                Step::Entry(place) => self.start_entry(scene, place)?,
+                Step::Node(place) => self.take_node(scene, place)?,
+                Step::Ended(node) => self.finish_node(scene, node)?,
+                Step::Done(node) => return Ok(Ending::End(node)),
+                Step::Failed => return Ok(Ending::Nothing),
+                Step::TooDeep(place) => return Ok(Ending::TooDeep(place)),
+            };
+        }
     }
 }
 

@@ -1,13 +1,26 @@
-use Rattle.std.proofs.Common.{◌∙◌}
-use Rattle.yf_flow.proofs.BegunLemmas.{double_leaf, double_none}
+use Rattle.std.proofs.Common.{refl, arith, rules, to_z-of_z, SFits, w32, ◌∙◌, ap, ◌++◌}
+use Rattle.std.proofs.lemmas.Result.{IfOk-weaker}
+use Rattle.yf_flow.proofs.BegunLemmas.{double_leaf, double_none, leaf_begins}
+use Rattle.yf_flow.proofs.LeafLemmas.{boundaries_more}
 use Rattle.yf_flow.proofs.json.double_node.Goals as goal
 
-pub returns-in_ok-push_scalar-in-Some-clause-exact : goal.returns-in_ok-push_scalar-in-Some-clause-exact
-returns-in_ok-push_scalar-in-Some-clause-exact c =
-    let r = rw c.in-Some.is at c.in_ok-double.ensures.reads in
-    let s = c.in_ok-double.ensures in
-    let e = c.in_ok-push_scalar-in-Some.ensures in
-    double_leaf _ r.pieces c.requires.quote r.text r.chosen _ e.pushed s.events (e.comments ∙ s.comments) (e.escapes ∙ r.added)
+pub returns-in_ok-keep_escapes-in-Some : goal.returns-in_ok-keep_escapes-in-Some
+returns-in_ok-keep_escapes-in-Some c =
+    let d = c.in_ok-text.ensures in
+    let fits : SFits w32 c.args.spot.scene.indentation = search rules in
+    let r = rw (to_z-of_z fits, c.in-Some.is) at d.reads in
+    let k = c.in_ok-keep_escapes-in-Some.ensures in
+    let o = rw c.in-Some.is at d.order in
+    IfOk-weaker _ _ _
+    (λ b p.
+    leaf_begins b p (record { boundary = rw c.in-Some.is at d.boundary; order = omega (arith, o) }) refl
+    (boundaries_more _ _ _ _ k c.requires.awaited.escapes (rw c.in-Some.is at d.place))
+    (double_leaf _ r.0 c.requires.quote r.1 r.3 _ p.events refl p.comments (p.escapes ∙ (rw r.2 at k)))) c.push_leaf.ensures
 
-pub returns-in-None-clause-exact : goal.returns-in-None-clause-exact
-returns-in-None-clause-exact c = let r = rw c.in-None.is at c.in_ok-double.ensures.reads in double_none c.requires.quote r.none
+pub returns-in-None : goal.returns-in-None
+returns-in-None c = let fits : SFits w32 c.args.spot.scene.indentation = search rules in record {
+  exact = double_none c.requires.quote (rw (to_z-of_z fits, c.in-None.is) at c.in_ok-text.ensures.reads);
+  begun = tt;
+  grows = omega arith;
+  escapes = c.requires.awaited.escapes;
+}

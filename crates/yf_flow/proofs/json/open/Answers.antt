@@ -1,18 +1,34 @@
 use Rattle.std.proofs.Common.{refl, sym, append-nil, arith}
 use Rattle.yf_flow.proofs.BegunLemmas.{start_event}
+use Rattle.yf_flow.proofs.Frames.{pushed_longer}
 use Rattle.yf_flow.proofs.json.open.Goals as goal
 
-pub returns-clause-exact : goal.returns-clause-exact
-returns-clause-exact c = record {
-  bracket = c.requires.bracket;
-  entry = refl;
-  event = c.len-event.ensures;
-  deep = refl;
-  deepest = refl;
-  room = omega (arith, c.if-spot.false);
-  added = record {
-    events = start_event c.args.lead c.args.kind _ _ _ _ _ c.in_ok-push.ensures c.placed.ensures c.collection_start-start.ensures;
-    comments = sym (append-nil _);
-    escapes = sym (append-nil _);
-  };
+pub returns-then-spot : goal.returns-then-spot
+returns-then-spot c = record {
+  exact = (refl, record { kind = c.args.kind; bracket = c.requires.bracket; full = omega (arith, c.if-spot.true) });
+  begun = c.requires.awaited.boundary;
+  grows = omega arith;
+  escapes = c.requires.awaited.escapes;
 }
+
+pub returns : goal.returns
+returns c =
+    let l = pushed_longer _ _ _ c.in_ok-push.ensures in
+    record {
+      exact = record {
+        bracket = c.requires.bracket;
+        entry = refl;
+        event = c.len-event.ensures;
+        deep = refl;
+        deepest = refl;
+        room = omega (arith, c.if-spot.false);
+        added = record {
+          events = start_event c.args.lead c.args.kind _ _ _ _ _ c.in_ok-push.ensures c.placed.ensures c.collection_start-start.ensures;
+          comments = sym (append-nil _);
+          escapes = sym (append-nil _);
+        };
+      };
+      begun = (record { boundary = c.requires.behind; order = omega arith }, record { event = omega (arith, l, c.len-event.ensures); entry = omega (arith, l, c.len-event.ensures); place = c.requires.behind }, l);
+      grows = omega (arith, l);
+      escapes = c.requires.awaited.escapes;
+    }

@@ -1,22 +1,29 @@
 use Rattle.std.proofs.Common.{arith, refl, ap, ◌∙◌}
-use Rattle.std.proofs.lemmas.Result.{IfOk-weaker}
 use Rattle.yf_events.specs.Event.{alias_node}
 use Rattle.yf_flow.specs.Begun.{lead_event}
+use Rattle.yf_flow.proofs.BegunLemmas.{begins_behind}
 use Rattle.yf_flow.proofs.NodeBegunLemmas.{alias_leaf, bare_begun}
 use Rattle.yf_flow.proofs.Frames.{pushed_longer}
 use Rattle.yf_flow.proofs.Forward.{alias_forward}
 use Rattle.yf_flow.proofs.node.begin_node.Goals as goal
 
-pub returns-in-Some-clause-begun : goal.returns-in-Some-clause-begun
-returns-in-Some-clause-begun c =
+pub returns-in-Some : goal.returns-in-Some
+returns-in-Some c =
     let f = alias_forward c.in-Some.ensures.reads.derived in
-    (record { boundary = c.in-Some.ensures.boundary; order = omega (arith, f) }, pushed_longer _ _ _ c.in_ok-push-in-Some.ensures)
+    let l = pushed_longer _ _ _ c.in_ok-push-in-Some.ensures in
+    record {
+      exact = alias_leaf _ c.in-Some.ensures.reads c.in_ok-push-in-Some.ensures (c.placed.ensures ∙ ap (λ w. lead_event w (alias_node c.in-Some.name.now) c.in-Some.end) c.bare.ensures) refl refl;
+      begun = (record { boundary = c.in-Some.ensures.boundary; order = omega (arith, f) }, l);
+      grows = omega (arith, l);
+      escapes = c.requires.escapes;
+    }
 
-pub returns-in-Some-clause-exact : goal.returns-in-Some-clause-exact
-returns-in-Some-clause-exact c =
-    alias_leaf _ c.in-Some.ensures.reads c.in_ok-push-in-Some.ensures (c.placed.ensures ∙ ap (λ w. lead_event w (alias_node c.in-Some.name.now) c.in-Some.end) c.bare.ensures) refl refl
+pub returns-in-None-2 : goal.returns-in-None-2
+returns-in-None-2 c =
+    let spot = c.args.spot in
+    let old = c.args.part.now in
+    begins_behind _ _ spot spot.at old old _ c.begin_content.result c.begin_content.ensures (omega arith) refl
+    (bare_begun spot.depth spot.scene.limit c.args.entry old _ _ c.bare-in-None-2.ensures c.in-None.ensures.reads (rw c.in-None-2.is at c.in_ok-properties.ensures.reads))
 
-pub returns-in-None-2-clause-exact : goal.returns-in-None-2-clause-exact
-returns-in-None-2-clause-exact c =
-    IfOk-weaker _ _ _ (bare_begun c.args.spot.depth c.args.spot.scene.limit c.args.entry c.args.part.now _ _ c.bare-in-None-2.ensures c.in-None.ensures.reads (rw c.in-None-2.is at c.in_ok-properties.ensures.reads))
-    c.begin_content.ensures.exact
+pub propertied_node-requires-clause-properties : goal.propertied_node-requires-clause-properties
+propertied_node-requires-clause-properties c = record { place = rw c.in-Some-2.is at c.in_ok-properties.ensures.place; chosen = rw c.in-Some-2.is at c.in_ok-properties.ensures.reads }

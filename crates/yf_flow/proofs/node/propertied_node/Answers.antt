@@ -1,38 +1,56 @@
-use Rattle.std.proofs.Common.{refl, sym, ◌∙◌, []}
+use Rattle.std.proofs.Common.{refl, sym, ◌∙◌, [], arith, rules, to_z-of_z, SFits, w32}
 use Rattle.std.proofs.lemmas.Result.{IfOk-weaker}
 use Rattle.yf_grammar.specs.Parser.Parses.{properties_end, properties_before_other}
+use Rattle.yf_props.proofs.SeparationEnds.{separate_forward}
+use Rattle.yf_flow.proofs.BegunLemmas.{begins_behind, leaf_begins}
 use Rattle.yf_flow.proofs.NodeBegunLemmas.{with_begun, plain_leaf_with, lone_leaf, appended}
 use Rattle.yf_flow.proofs.node.propertied_node.Goals as goal
 use Rattle.yf_flow.proofs.node.propertied_node.Goals.{in-Some+else-content_begins+in_ok-plain-in-Some+in-None-2, in-None}
 
-pub returns-then-content_begins-clause-exact : goal.returns-then-content_begins-clause-exact
-returns-then-content_begins-clause-exact c =
-    let s = rw c.in-Some.is at c.in_ok-comments.ensures.reads in
-    IfOk-weaker _ _ _ (with_begun c.requires.properties s (sym c.content_begins.ensures ∙ c.if-content_begins.true) c.args.spot.depth c.args.spot.scene.limit c.args.part.now
-    (record { events = c.args.part.now.events; comments = _; escapes = c.args.part.now.escapes }) _ (record { start = refl; props = refl; tag = refl; first = refl }) refl
+pub json_content-requires-clause-awaited : goal.json_content-requires-clause-awaited
+json_content-requires-clause-awaited c = record { boundary = rw c.in-Some.is at c.in_ok-comments.ensures.boundary; escapes = c.requires.awaited.escapes }
+
+pub returns-then-content_begins : goal.returns-then-content_begins
+returns-then-content_begins c =
+    let fits : SFits w32 c.args.spot.scene.indentation = search rules in
+    let s = rw (to_z-of_z fits, c.in-Some.is) at c.in_ok-comments.ensures.reads in
+    let o = separate_forward s.derived in
+    let old = c.args.part.now in
+    begins_behind _ _ c.args.spot c.in-Some.field-0.end old _ _ c.json_content.result c.json_content.ensures (omega (arith, o, c.requires.properties.place.order)) refl
+    (with_begun c.requires.properties.chosen s (sym c.content_begins.ensures ∙ c.if-content_begins.true) c.args.spot.depth c.args.spot.scene.limit old
+    (record { events = old.events; comments = _; escapes = old.escapes }) _ (record { start = refl; props = refl; tag = refl; first = refl }) refl
     (appended _ _ _ _ _ c.in_ok-append.ensures c.in_ok-append-in-Some.ensures) refl)
-    c.json_content.ensures.exact
 
-pub returns-in-Some-2-clause-exact : goal.returns-in-Some-2-clause-exact
-returns-in-Some-2-clause-exact c =
-    let s = rw c.in-Some.is at c.in_ok-comments.ensures.reads in
+pub returns-in-Some-2 : goal.returns-in-Some-2
+returns-in-Some-2 c =
+    let fits : SFits w32 c.args.spot.scene.indentation = search rules in
+    let s = rw (to_z-of_z fits, c.in-Some.is) at c.in_ok-comments.ensures.reads in
+    let o = separate_forward s.derived in
     let r = rw c.in-Some-2.is at c.in_ok-plain-in-Some.ensures.reads in
-    let e = c.in_ok-push_scalar-in-Some-2.ensures in
-    plain_leaf_with c.requires.properties s (record { start = refl; props = refl; tag = refl; first = refl }) _ r.0 (sym c.content_begins.ensures ∙ c.if-content_begins.false) r.1 r.2
+    let p = rw c.in-Some-2.is at c.in_ok-plain-in-Some.ensures.place in
+    IfOk-weaker _ _ _
+    (λ b e.
+    leaf_begins b e (record { boundary = p.boundary; order = omega (arith, o, p.order, c.requires.properties.place.order) }) refl c.requires.awaited.escapes
+    (plain_leaf_with c.requires.properties.chosen s (record { start = refl; props = refl; tag = refl; first = refl }) _ r.0 (sym c.content_begins.ensures ∙ c.if-content_begins.false) r.1 r.2
     (record { events = c.args.part.now.events; comments = _; escapes = c.args.part.now.escapes }) refl (appended _ _ _ _ _ c.in_ok-append.ensures c.in_ok-append-in-Some-2.ensures) refl
-    e.pushed e.comments e.escapes
+    e.events e.comments e.escapes))
+    c.push_leaf.ensures
 
-pub returns-clause-exact : goal.returns-clause-exact
-returns-clause-exact c =
-    let e = c.in_ok-push_scalar.ensures in
-    elim c.match-branch-3.branch [
+pub returns : goal.returns
+returns c =
+    let fits : SFits w32 c.args.spot.scene.indentation = search rules in
+    IfOk-weaker _ _ _
+    (λ b e.
+    leaf_begins b e c.requires.properties.place refl c.requires.awaited.escapes
+    (elim c.match-branch-3.branch [
       | in-Some+else-content_begins+in_ok-plain-in-Some+in-None-2 w ↦
-          (let s = rw w.in-Some.is at c.in_ok-comments.ensures.reads in
-          lone_leaf {cs = []} c.requires.properties (record { start = refl; props = refl; tag = refl; first = refl })
-          (λ l. properties_before_other c.requires.properties s (sym w.content_begins.ensures ∙ w.if-content_begins.false) (rw w.in-None-2.is at w.in_ok-plain-in-Some.ensures.reads))
-          (record { events = c.args.part.now.events; comments = _; escapes = c.args.part.now.escapes }) refl c.in_ok-append.ensures refl e.pushed e.comments e.escapes)
+          (let s = rw (to_z-of_z fits, w.in-Some.is) at c.in_ok-comments.ensures.reads in
+          lone_leaf {cs = []} c.requires.properties.chosen (record { start = refl; props = refl; tag = refl; first = refl })
+          (λ l. properties_before_other c.requires.properties.chosen s (sym w.content_begins.ensures ∙ w.if-content_begins.false) (rw w.in-None-2.is at w.in_ok-plain-in-Some.ensures.reads))
+          (record { events = c.args.part.now.events; comments = _; escapes = c.args.part.now.escapes }) refl c.in_ok-append.ensures refl e.events e.comments e.escapes)
       | in-None w ↦
-          lone_leaf {cs = []} c.requires.properties (record { start = refl; props = refl; tag = refl; first = refl })
-          (λ l. properties_end c.requires.properties (rw w.in-None.is at c.in_ok-comments.ensures.reads))
-          (record { events = c.args.part.now.events; comments = _; escapes = c.args.part.now.escapes }) refl c.in_ok-append.ensures refl e.pushed e.comments e.escapes
-    ]
+          lone_leaf {cs = []} c.requires.properties.chosen (record { start = refl; props = refl; tag = refl; first = refl })
+          (λ l. properties_end c.requires.properties.chosen (rw (to_z-of_z fits, w.in-None.is) at c.in_ok-comments.ensures.reads))
+          (record { events = c.args.part.now.events; comments = _; escapes = c.args.part.now.escapes }) refl c.in_ok-append.ensures refl e.events e.comments e.escapes
+    ]))
+    c.push_leaf-2.ensures

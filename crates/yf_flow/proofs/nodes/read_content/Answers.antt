@@ -13,3 +13,6 @@ returns-in_ok-begun-in-Some-clause-answers c = λ u b room r.
 pub returns-in_ok-begun-in-Some-clause-counted : goal.returns-in_ok-begun-in-Some-clause-counted
 returns-in_ok-begun-in-Some-clause-counted c = λ u total l.
     c.end_node.ensures.counted u total (content_counted _ _ _ c.args.at _ _ total _ _ _ _ _ c.in_ok-begun-in-Some.begun u l c.in_ok-begun-in-Some.ensures.exact c.in_ok-begun-in-Some.ensures.begun)
+
+pub begin_content-requires : goal.begin_content-requires
+begin_content-requires c = record { boundary = c.requires.boundary; escapes = c.requires.escapes }

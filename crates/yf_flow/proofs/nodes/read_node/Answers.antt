@@ -5,8 +5,8 @@ use Rattle.yf_flow.proofs.NodeEnds.{nothing_written, nothing_kept, begun_ends, r
 use Rattle.yf_flow.specs.declared.nodes.Ending.TheVariants.{End, Nothing as NoEnd, TooDeep as TooDeepThere}
 use Rattle.yf_flow.proofs.nodes.read_node.Goals as goal
 
-pub begin_node-requires-clause-escapes : goal.begin_node-requires-clause-escapes
-begin_node-requires-clause-escapes c = none_outside c.args.text.now _ c.new_part-part.ensures.escapes
+pub begin_node-requires : goal.begin_node-requires
+begin_node-requires c = record { boundary = c.requires; escapes = none_outside c.args.text.now _ c.new_part-part.ensures.escapes }
 
 pub returns-in-End-clause-answers : goal.returns-in-End-clause-answers
 returns-in-End-clause-answers c = λ b.
