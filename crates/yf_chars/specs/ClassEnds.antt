@@ -14,3 +14,11 @@ no_anchor_char = refl
 pub no_word_char : is_word_char no_char ≡ false
 unfolding is_word_char is_digit is_between
 no_word_char = refl
+
+pub no_ns_char : is_ns_char no_char ≡ false
+unfolding is_ns_char is_nb_char is_printable is_between is_break_char is_white
+no_ns_char = refl
+
+pub no_digit : is_digit no_char ≡ false
+unfolding is_digit is_between
+no_digit = refl

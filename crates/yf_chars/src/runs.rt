@@ -72,6 +72,40 @@ impl CharClass for WordChars {
     }
 }
 
+/// The characters of content that are no white space (ns-char, production 34).
+pub struct NsChars;
+
+impl CharClass for NsChars {
+    ghost use Rattle.yf_chars.specs.Class as Class;
+    ghost use Rattle.yf_chars.specs.ClassEnds as ClassEnds;
+
+    ghost members = { Class.is_ns_char };
+
+    ghost none = { ClassEnds.no_ns_char };
+
+    #[inline]
+    fn holds(c: char) -> bool {
+        classes::is_ns_char(c)
+    }
+}
+
+/// The digits of numbers (ns-dec-digit, production 35).
+pub struct Digits;
+
+impl CharClass for Digits {
+    ghost use Rattle.yf_chars.specs.Class as Class;
+    ghost use Rattle.yf_chars.specs.ClassEnds as ClassEnds;
+
+    ghost members = { Class.is_digit };
+
+    ghost none = { ClassEnds.no_digit };
+
+    #[inline]
+    fn holds(c: char) -> bool {
+        classes::is_digit(c)
+    }
+}
+
 /// The offset after all characters of the class that stand at the offset.
 #[inline]
 pub fn skip_while<C: CharClass>(s: &str, at: usize) -> usize

@@ -1,5 +1,5 @@
 -- A block scalar is laid out as yf_block_scalar writes it.
-use Rattle.std.proofs.Common.{◌≡◌, ℕ, zero, suc, ◌+◌, ◌-◌, ℤ, Bool, true, false, List, [], ◌∷◌, ◌++◌, Some, None, flat_map, map, replicate, refl, sym, ap, ◌∙◌, append_assoc, append-nil}
+use Rattle.std.proofs.Common.{◌≡◌, ℕ, zero, suc, ◌+◌, ◌-◌, Bool, true, false, List, [], ◌∷◌, ◌++◌, Some, None, flat_map, map, replicate, refl, sym, ap, ◌∙◌, append_assoc, append-nil}
 use Rattle.std.specs.Prelude.{if◌then◌else◌}
 use Rattle.yf_block_scalar.specs.Content.{literal_behind}
 use Rattle.yf_block_scalar.specs.Written.{digit_bytes, sign_bytes, style_bytes, indented, body_bytes, tail_bytes}

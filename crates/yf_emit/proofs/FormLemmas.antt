@@ -1,6 +1,6 @@
 -- The pass over the events of a node notes the forms of the node.
 use Rattle.std.proofs.Common.{◌≡◌, ℕ, suc, ◌+◌, ◌-◌, ◌≤◌, Bool, true, false, List, [], ◌∷◌, ◌++◌, length, get_or, Option, Some, None, refl, sym, ap, ◌∙◌, subst, ⊎_elim, arith, append_assoc, append-nil}
-use Rattle.std.specs.Prelude.{replicate, if◌then◌else◌, ◌==◌}
+use Rattle.std.specs.Prelude.{replicate, ◌==◌}
 use Rattle.std.proofs.lemmas.Bool.{and_parts, cases_Bool}
 use Rattle.std.proofs.lemmas.List.{length-append, length-replicate}
 use Rattle.std.proofs.lemmas.Option.{get_or_from_slice_get}

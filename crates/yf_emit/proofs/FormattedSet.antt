@@ -5,7 +5,7 @@ use Rattle.yf_chars.specs.Class.{is_white_or_end}
 use Rattle.yf_chars.specs.Text.{code}
 use Rattle.std.specs.Prelude.{not, ◌&&◌, if◌then◌else◌}
 use Rattle.yf_events.specs.Event.{Placed, document_starts, document_ends, stream_starts, stream_ends, scalar_node}
-use Rattle.yf_events.specs.Tree.{Node, scalar, Items, Pairs, DocumentTree, TreesOf, unplaced, flat, flat_document, standing}
+use Rattle.yf_events.specs.Tree.{Node, Items, Pairs, DocumentTree, TreesOf, unplaced, flat, flat_document, standing}
 use Rattle.yf_events.specs.declared.document.Doc.{Doc}
 use Rattle.yf_events.specs.declared.event.Entry.{Entry}
 use Rattle.yf_events.specs.declared.lists.Lists.{Lists}

@@ -1,6 +1,6 @@
 -- What a meaning holds of the rows that it is derived from: each of its comments is well set, and the lines of each row with a block scalar are those of
 -- a scalar among its events.
-use Rattle.std.proofs.Common.{◌≡◌, ℕ, ◌+◌, ◌<◌, ◌≤◌, ◌⊎◌, Bool, false, List, [], ◌∷◌, ◌++◌, length, Option, Some, refl, sym, subst}
+use Rattle.std.proofs.Common.{◌≡◌, ℕ, ◌<◌, ◌≤◌, ◌⊎◌, Bool, false, List, [], ◌∷◌, ◌++◌, length, Option, Some, refl, sym, subst}
 use Rattle.std.specs.Str.{IsUtf8}
 use Rattle.yf_chars.specs.Text.{code}
 use Rattle.yf_lines.specs.Basic.{LineStart}

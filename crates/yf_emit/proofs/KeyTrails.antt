@@ -1,5 +1,5 @@
 -- The comments that the forms of a normal form give its keys are those that trail keys in its layout.
-use Rattle.std.proofs.Common.{◌≡◌, ℕ, zero, suc, ◌+◌, ◌-◌, ◌<◌, Bool, true, false, ◌&&◌, List, [], ◌∷◌, ◌++◌, codes, length, flat_map, replicate, Option, Some, None, refl, sym, ap, ◌∙◌, append_assoc, append-nil, true≢false}
+use Rattle.std.proofs.Common.{◌≡◌, ℕ, zero, suc, ◌-◌, Bool, true, false, ◌&&◌, List, [], ◌∷◌, ◌++◌, codes, length, flat_map, replicate, Option, Some, None, refl, sym, ap, ◌∙◌, append_assoc, append-nil, true≢false}
 use Rattle.std.specs.Prelude.{◌||◌, find, option_map, option_to_list, slice_get, nat_lt, if◌then◌else◌}
 use Rattle.std.proofs.lemmas.Grind.{flat_map-append}
 use Rattle.yf_comments.specs.Comment.{CommentValue}

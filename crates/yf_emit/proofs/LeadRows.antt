@@ -1,5 +1,5 @@
 -- Rows before which a blank line may stand begin with an entry, and no such row begins with a percent sign.
-use Rattle.std.proofs.Common.{◌≡◌, ◌≢◌, ℕ, pos, ◌+◌, ◌-◌, Bool, true, false, true≢false, List, [], ◌∷◌, ◌++◌, get_or, map, replicate, Option, Some, None, refl, sym, ◌∙◌, subst, arith, append-nil}
+use Rattle.std.proofs.Common.{◌≡◌, ◌≢◌, ℕ, pos, ◌-◌, Bool, true, false, true≢false, List, [], ◌∷◌, ◌++◌, get_or, map, replicate, Option, Some, None, refl, sym, ◌∙◌, subst, arith, append-nil}
 use Rattle.std.specs.Str.{IsUtf8}
 use Rattle.yf_chars.specs.declared.context.Ctx.TheVariants.{BlockKey}
 use Rattle.yf_chars.proofs.TextLemmas.{code_from_byte}

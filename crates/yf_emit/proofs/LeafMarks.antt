@@ -1,5 +1,5 @@
 -- The pass that finds which comments trail looks at the leaves alone, one after the other.
-use Rattle.std.proofs.Common.{◌≡◌, ℕ, ◌+◌, ◌<◌, ◌≤◌, Bool, true, false, ◌&&◌, List, [], ◌∷◌, ◌++◌, length, drop, Option, Some, None, refl, sym, ap, ◌∙◌, arith, append_assoc}
+use Rattle.std.proofs.Common.{◌≡◌, ℕ, ◌+◌, ◌<◌, Bool, true, false, ◌&&◌, List, [], ◌∷◌, ◌++◌, length, drop, Option, Some, None, refl, sym, ap, ◌∙◌, arith, append_assoc}
 use Rattle.std.specs.Prelude.{nat_lt}
 use Rattle.std.specs.List.{list_all}
 use Rattle.std.proofs.lemmas.Bool.{and_from}
@@ -10,7 +10,7 @@ use Rattle.yf_events.specs.declared.lists.Lists.{Lists}
 use Rattle.yf_emit.specs.declared.form.measure.Measure.{Measure}
 use Rattle.yf_emit.specs.declared.print.trails.Leaf.{Leaf}
 use Rattle.yf_emit.specs.Drafts.{count_to}
-use Rattle.yf_emit.specs.Trailing.{State, first_of, is_leaf, leaf_if, next, pass, with_leaf}
+use Rattle.yf_emit.specs.Trailing.{State, first_of, is_leaf, leaf_if, pass, with_leaf}
 
 -- a leaf with characters: the index of the event that begins it, and its part of the text
 pub record Mark : Type 0 where

@@ -1,5 +1,5 @@
 -- Comments as their index and one.
-use Rattle.std.proofs.Common.{◌≡◌, ◌∙◌, ◌+◌, ◌-◌, ap, arith, map, refl, set, sym, List, Option, Some, ℕ}
+use Rattle.std.proofs.Common.{◌≡◌, ◌∙◌, ◌+◌, ap, arith, map, set, List, Option, Some, ℕ}
 use Rattle.std.proofs.lemmas.List.{map-set}
 use Rattle.yf_emit.specs.LeafTrails.{counted}
 

@@ -1,14 +1,13 @@
 -- In a tree whose events pass the test of nesting no more collections are open at once than there is room for.
 use Rattle.std.proofs.Common.{◌≡◌, ℕ, zero, suc, Bool, true, false, ◌&&◌, List, [], ◌∷◌, ◌++◌, map, flat_map, Option, Some, None, refl, sym, ap, ◌∙◌, append_assoc, true≢false}
 use Rattle.std.proofs.lemmas.Bool.{and_from}
-use Rattle.yf_events.specs.Event.{EventValue, Placed, document_starts, document_ends, stream_starts, stream_ends, sequence_starts, sequence_ends, mapping_starts, mapping_ends, scalar_node, alias_node}
+use Rattle.yf_events.specs.Event.{EventValue, Placed, document_starts, document_ends, stream_starts, stream_ends, sequence_ends, mapping_ends, scalar_node, alias_node}
 use Rattle.yf_events.specs.Nested.{IsStream}
 use Rattle.yf_events.specs.Nesting.{after_node, enter, follow, open_if, run, stay_if}
 use Rattle.yf_events.specs.Reading.{events_of}
 use Rattle.yf_events.specs.Tree.{Node, scalar, alias, sequence, mapping, Items, no_items, item, Pairs, no_pairs, pair, DocumentTree, TreesOf, flat, flat_document, flat_items, flat_pairs, flat_stream, unplaced}
 use Rattle.yf_events.specs.declared.lists.Lists.{Lists}
 use Rattle.yf_events.specs.declared.nesting.Awaited.{Awaited}
-use Rattle.yf_events.specs.declared.nesting.Awaited.TheVariants as Awaited
 use Rattle.yf_events.proofs.Nests.{complete}
 use Rattle.yf_emit.proofs.PrintedNodes.{items_nest, nests, pairs_nest}
 

@@ -1,8 +1,7 @@
 -- What the printer is given by the normal form of a text's reading: its trees, their nesting, and the order of its places.
-use Rattle.std.proofs.Common.{◌≡◌, ◌≢◌, ℕ, zero, suc, ◌<◌, Bool, true, false, not, ◌&&◌, List, [], ◌∷◌, ◌++◌, length, map, flat_map, Option, Some, None, refl, sym, ap, ◌∙◌, subst, arith}
+use Rattle.std.proofs.Common.{◌≡◌, ◌≢◌, ℕ, suc, ◌<◌, Bool, true, false, not, List, [], ◌∷◌, ◌++◌, length, map, Option, refl, sym, ap, ◌∙◌, subst, arith}
 use Rattle.std.specs.Prelude.{◌==◌, nat_lt, nat_le, slice_index_or}
 use Rattle.std.specs.List.{list_all}
-use Rattle.std.specs.Str.{IsUtf8}
 use Rattle.std.proofs.lemmas.Bool.{and_from, and_parts}
 use Rattle.std.proofs.lemmas.Bool.Decides.{nat_tests}
 use Rattle.std.proofs.lemmas.List.{length-map}
@@ -17,13 +16,12 @@ use Rattle.yf_events.proofs.TreeLemmas.{trees_unique}
 use Rattle.yf_grammar.specs.Meaning.{from_to}
 use Rattle.yf_grammar.proofs.GapLemmas.{Visible}
 use Rattle.yf_grammar.proofs.NodePlaces.{NodeStands, stands_nowhere, scalar_stands, alias_stands, sequence_stands, mapping_stands, ItemsStand, no_items_stand, item_stands, PairsStand, no_pairs_stand, pair_stands}
-use Rattle.yf_stream.specs.ReadingOf.{ReadingOf}
 use Rattle.yf_stream.proofs.PlaceLawsHold.{comments_of_readings_ascend_strictly, comments_of_readings_have_signs}
 use Rattle.yf_stream.proofs.ReadingTrees.{TreesStand, no_trees_stand, tree_stands, reading_stands}
 use Rattle.yf_emit.specs.declared.style.Style.{Style}
 use Rattle.yf_emit.specs.Begins.{keys_begin_in_documents}
 use Rattle.yf_emit.specs.Forms.{documents_are_placed}
-use Rattle.yf_emit.specs.Normal.{Setting, normal_document, root_spot, settled, setting_of, styled}
+use Rattle.yf_emit.specs.Normal.{Setting, normal_document, root_spot, setting_of, styled}
 use Rattle.yf_emit.specs.NormalForm.{NormalForm}
 use Rattle.yf_emit.proofs.DocumentTrails.{leaves_of}
 use Rattle.yf_emit.proofs.DocumentsPrinted.{AreNormal, no_documents, one_more}

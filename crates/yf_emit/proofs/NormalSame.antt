@@ -1,5 +1,5 @@
 -- What the normal form of a tree leaves as it is: where its leaves stand, which of them have characters, and which nodes begin entries.
-use Rattle.std.proofs.Common.{◌≡◌, ℕ, Bool, true, false, not, ◌&&◌, List, [], ◌∷◌, ◌++◌, Option, Some, None, refl, sym, ap, ◌∙◌}
+use Rattle.std.proofs.Common.{◌≡◌, ℕ, Bool, true, false, not, ◌&&◌, List, [], ◌∷◌, refl, ap, ◌∙◌}
 use Rattle.std.specs.Prelude.{is_some, if◌then◌else◌}
 use Rattle.std.specs.Str.{chars}
 use Rattle.yf_lines.specs.Steady.{is_steady}
@@ -8,13 +8,11 @@ use Rattle.yf_props.specs.Props.{PropsValue}
 use Rattle.yf_quoted.specs.Written.{quotes_for}
 use Rattle.yf_events.specs.declared.event.ScalarStyle.{ScalarStyle}
 use Rattle.yf_events.specs.declared.event.ScalarStyle.TheVariants.{Plain, Single, Double, Literal, Folded}
-use Rattle.yf_events.specs.declared.event.Span.{Span}
 use Rattle.yf_events.specs.Tree.{DocumentTree, Node, Standing, scalar, alias, sequence, mapping, Items, no_items, item, Pairs, no_pairs, pair, leaves, leaves_of_items, leaves_of_pairs, standing}
-use Rattle.yf_emit.specs.Begins.{keys_begin, keys_begin_in_items, keys_begin_in_pairs, no_entry}
-use Rattle.yf_emit.specs.Forms.{agree, is_empty_node, is_nothing, is_placed, items_are_placed, pairs_are_placed}
-use Rattle.yf_emit.specs.Kept.{may_be_kept}
+use Rattle.yf_emit.specs.Begins.{keys_begin, keys_begin_in_items, keys_begin_in_pairs}
+use Rattle.yf_emit.specs.Forms.{agree, is_empty_node, is_placed, items_are_placed, pairs_are_placed}
 use Rattle.yf_emit.specs.Normal.{Setting, Spot, fits, inner_spot, key_spot, normal_document, root_spot, settled, settled_items, settled_pairs, styled, styled_items, styled_pairs, value_spot}
-use Rattle.yf_emit.specs.Wanted.{has_block_content, lines_in, quoted_in, style_in, wanted}
+use Rattle.yf_emit.specs.Wanted.{has_block_content, quoted_in, style_in, wanted}
 use Rattle.yf_emit.proofs.ValueLemmas.{nothing_steady}
 
 pub record SameNode (x y : Node) : Type 0 where

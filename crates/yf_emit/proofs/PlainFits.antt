@@ -1,5 +1,5 @@
 -- Scalars that the house style leaves plain are leaves on one line that read back, whatever their text.
-use Rattle.std.proofs.Common.{◌≡◌, ◌≢◌, ℕ, ℤ, true, false, true≢false, List, [], ◌∷◌, length, refl, sym, ap, ◌∙◌, arith, encode_utf8_all}
+use Rattle.std.proofs.Common.{◌≡◌, ◌≢◌, ℕ, true, false, true≢false, List, [], ◌∷◌, length, refl, sym, ap, ◌∙◌, arith, encode_utf8_all}
 use Rattle.std.specs.Prelude.{is_some}
 use Rattle.std.proofs.lemmas.Str.{length-le-encodes}
 use Rattle.yf_chars.specs.declared.context.Ctx.{Ctx}

@@ -1,6 +1,6 @@
 -- The rows of a node that is found are those of the same node with other notes on blank lines.
 use Rattle.std.proofs.Common.{◌≡◌, ℕ, ◌+◌, Bool, true, false, List, ◌++◌, length, map, Option, Some, None, refl, sym, ap, ◌∙◌, subst}
-use Rattle.std.specs.Prelude.{is_some, ◌&&◌, if◌then◌else◌}
+use Rattle.std.specs.Prelude.{is_some}
 use Rattle.yf_lines.specs.LineText.{IsLineText}
 use Rattle.yf_lines.specs.Rest.{Rest}
 use Rattle.yf_props.specs.Props.{PropsValue}

@@ -1,6 +1,6 @@
 -- Formatting keeps the comments of a text at the same places.
 use Rattle.std.proofs.Common.{◌≡◌, ℕ, true, List, [], ◌∷◌, map, refl, sym, ap, ◌∙◌, arith}
-use Rattle.std.specs.Prelude.{if◌then◌else◌, zip}
+use Rattle.std.specs.Prelude.{zip}
 use Rattle.std.specs.Str.{IsUtf8}
 use Rattle.yf_comments.specs.Comment.{CommentValue}
 use Rattle.yf_events.proofs.TreeLemmas.{trees_unique}

@@ -14,7 +14,6 @@ use Rattle.yf_props.specs.Written.{props_at}
 use Rattle.yf_events.specs.Event.{scalar_node}
 use Rattle.yf_events.specs.declared.event.ScalarStyle.{ScalarStyle}
 use Rattle.yf_events.specs.declared.event.ScalarStyle.TheVariants.{Plain, Single, Double, Literal, Folded}
-use Rattle.yf_events.specs.Tree.{scalar}
 use Rattle.yf_grammar.specs.BlockScalar.{style_of}
 use Rattle.yf_grammar.specs.Meaning.{event_with, first_with, with_props, from_to}
 use Rattle.yf_grammar.proofs.NodePlaces.{content_alone}

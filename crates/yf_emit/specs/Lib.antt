@@ -11,6 +11,7 @@ pub mod FitFlows
 pub mod Fits
 pub mod Decorated
 pub mod Drafts
+pub mod EventsGiven
 pub mod Format
 pub mod FormatLaws
 pub mod FormatKept
@@ -33,6 +34,7 @@ pub mod OfText
 pub mod OneLine
 pub mod OneLineRun
 pub mod Packed
+pub mod Pages
 pub mod Printed
 pub mod Printers
 pub mod Printing

@@ -1,5 +1,5 @@
 -- Which comments trail which leaves in the layout of a reading, and which trail anything.
-use Rattle.std.specs.Prelude.{◌≡◌, ℕ, Bool, true, false, List, [], flat_map, get_or, option_to_list, slice_get, Option, Some, None}
+use Rattle.std.specs.Prelude.{◌≡◌, ℕ, true, false, List, [], flat_map, get_or, option_to_list, slice_get, Option, Some, None}
 use Rattle.yf_comments.specs.Comment.{CommentValue}
 use Rattle.yf_events.specs.Tree.{DocumentTree, Node, TreesOf, is_text, standing}
 use Rattle.yf_events.specs.declared.event.Span.{Span}
@@ -10,7 +10,7 @@ use Rattle.yf_emit.specs.declared.style.Style.{Style}
 use Rattle.yf_emit.specs.Decorated.{rows_of}
 use Rattle.yf_emit.specs.Forms.{Decided}
 use Rattle.yf_emit.specs.Keys.{NodeAt}
-use Rattle.yf_emit.specs.Layout.{Source, first_comment, is_among, source_of, trailing, trailing_leaf}
+use Rattle.yf_emit.specs.Layout.{first_comment, is_among, source_of, trailing, trailing_leaf}
 use Rattle.yf_emit.specs.Measures.{Measured}
 use Rattle.yf_emit.specs.Measuring.{setting}
 use Rattle.yf_emit.specs.NormalForm.{NormalForm}

@@ -3,7 +3,7 @@ ghost use Rattle.std.specs.Prelude.{◌≡◌, IfErr, IfOk};
 ghost use Rattle.yf_events.specs.Content.{content_of};
 ghost use Rattle.yf_events.specs.Event.{event_value};
 ghost use Rattle.yf_events.specs.Nested.{IsStream};
-ghost use Rattle.yf_events.specs.Reading.{Fits, events_of};
+ghost use Rattle.yf_events.specs.Reading.{events_of};
 ghost use Rattle.yf_events.specs.declared.reading.TheConstants.{DEPTH};
 ghost use Rattle.yf_emit.specs.Normal.{Normal};
 ghost use Rattle.yf_emit.specs.NormalEvents.{normal_from};
@@ -23,7 +23,6 @@ use crate::text::wanted::wanted_of;
 use std::alloc::{AllocError, Global};
 use yf_events::event::{Event, ScalarStyle};
 use yf_events::events::Events;
-use yf_events::lists::Lists;
 use yf_events::reading::Reading;
 use yf_lines::fault::Fault;
 use yf_lines::quotes::Quotes;
@@ -64,25 +63,6 @@ fn normalize<'a>(
     Ok(())
 }
 
-/// The lists of the normal form.
-fn normal_lists<'a>(
-    alloc: Global,
-    reading: Reading<'a>,
-    measures: &Measures,
-    forms: &Forms,
-    style: &Style,
-) -> Result<Lists<'a>, AllocError>
-    ensures restyled { IfOk result (λ normal. IsRestyled style.now.quotes reading.entry normal) }
-    ensures events { IfOk result (λ normal. normal.events
-        ≡ normal_from style.now.quotes measures.now 0 0 forms.now reading.entry.events) }
-    ensures fit { IfOk result Fits }
-    ensures nested { IfOk result (λ normal. IsStream DEPTH (events_of normal)) }
-{
-    let mut lists = reading.into_lists();
-    normalize(alloc, &mut lists.events, measures, forms, style)?;
-    Ok(lists)
-}
-
 /// The normal form of a reading that was measured, by the forms of its nodes, in place of that reading.
 pub(crate) fn normalized<'a>(
     alloc: Global,
@@ -97,7 +77,8 @@ pub(crate) fn normalized<'a>(
     ensures content { IfOk result (λ normal. content_of normal ≡ content_of reading.entry) }
     ensures nested { IfOk result (λ normal. IsStream DEPTH (events_of normal)) }
 {
-    let lists = normal_lists(alloc, reading, measures, forms, style)?;
+    let mut lists = reading.into_lists();
+    normalize(alloc, &mut lists.events, measures, forms, style)?;
     match Reading::build(alloc, lists) {
         Ok(Some(normal)) => Ok(normal),
         Ok(None) => unreachable!(),
@@ -121,25 +102,6 @@ fn normal_copy<'a>(
     let forms = decide(alloc, &measures, &reading, style)?;
     let normal = normalized(alloc, reading, &measures, &forms, style)?;
     Ok(normal)
-}
-
-/// The same, where a refusal of memory is a fault.
-fn normal_of<'a>(
-    alloc: Global,
-    text: &str,
-    reading: Reading<'a>,
-    style: &Style,
-) -> Result<Reading<'a>, Fault>
-    ensures restyled { IfOk result (λ normal. IsRestyled style.now.quotes reading.entry normal) }
-    ensures is_normal { IfOk result (λ normal. IsTextual reading.entry → Normal text.now reading.entry style.now normal) }
-    ensures content { IfOk result (λ normal. content_of normal ≡ content_of reading.entry) }
-    ensures nested { IfOk result (λ normal. IsStream DEPTH (events_of normal)) }
-    ensures refused { IfErr result (λ fault. fault ≡ Fault.Memory) }
-{
-    match normal_copy(alloc, text, reading, style) {
-        Ok(normal) => Ok(normal),
-        Err(AllocError) => Err(Fault::Memory),
-    }
 }
 
 /// The normal form of a reading of the text: each scalar has the style of `wanted_style`, and each collection stands between
@@ -166,7 +128,10 @@ pub fn normal<'a>(
         Err(AllocError) => return Err(Fault::Memory),
     };
     match Reading::build(alloc, lists) {
-        Ok(Some(copy)) => normal_of(alloc, src.text(), copy, style),
+        Ok(Some(copy)) => match normal_copy(alloc, src.text(), copy, style) {
+            Ok(normal) => Ok(normal),
+            Err(AllocError) => Err(Fault::Memory),
+        },
         Ok(None) => unreachable!(),
         Err(_) => Err(Fault::Memory),
     }

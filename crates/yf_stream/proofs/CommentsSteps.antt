@@ -1,5 +1,5 @@
 -- The notes of comments after one step more of the reader of streams.
-use Rattle.std.proofs.Common.{◌≡◌, ◌≢◌, ℕ, ◌+◌, ◌<◌, ◌≤◌, Bool, true, false, ⊎_elim, List, [], ◌∷◌, ◌++◌, length, refl, sym, ap, ◌∙◌, subst, arith, append_assoc, true≢false}
+use Rattle.std.proofs.Common.{◌≡◌, ◌≢◌, ℕ, ◌+◌, ◌<◌, ◌≤◌, Bool, true, false, not, ⊎_elim, List, [], ◌∷◌, ◌++◌, length, refl, sym, ap, ◌∙◌, subst, arith, append_assoc, true≢false}
 use Rattle.std.specs.Str.{IsUtf8}
 use Rattle.yf_chars.specs.Text.{code}
 use Rattle.yf_chars.specs.Chain.{Stuck}
@@ -158,11 +158,11 @@ module _ {t : List ℕ} (u : IsUtf8 t) {spot : Spot} {x : Documents} {a : Parts}
   pub comments_go_on : {b : Parts} {after : Spot} {y : Documents} → StepTo t spot x a b after y → CommentsRead t after y b
   unfolding followed
   comments_go_on {b} {after} (dots_to s f e) =
-      let c = closed true spot.is_open a in
-      let same = closed_floor true spot.is_open a in
+      let c = closed true (not spot.may_be_bare) a in
+      let same = closed_floor true (not spot.may_be_bare) a in
       let g : Guard t (floor_of 0 c.part.events) (spot.at + 3) = guarded spot.at (omega arith) (ap is_gap e ∙ signs_solid.1) (omega (arith, same, top)) (omega arith) in
       let forward = line_end_forward s.line.derived in
-      let n = noted_told u (omega arith) forward g (noted_closed true spot.is_open a r.comments) (line_told s.line.derived) in
+      let n = noted_told u (omega arith) forward g (noted_closed true (not spot.may_be_bare) a r.comments) (line_told s.line.derived) in
       let events : b.part.events ≡ c.part.events = ap (λ z. z.part.events) s.parts in
       let comments : b.part.comments ≡ c.part.comments ++ s.comments = ap (λ z. z.part.comments) s.parts in
       let after_it = guard_later forward g in
@@ -174,11 +174,11 @@ module _ {t : List ℕ} (u : IsUtf8 t) {spot : Spot} {x : Documents} {a : Parts}
         bare = λ q. subst (λ z. Guard t (floor_of 0 z) after.at) (sym events) after_it;
       }
   comments_go_on (dashes_to {y = y} f e d) =
-      let c = closed false spot.is_open a in
+      let c = closed false (not spot.may_be_bare) a in
       let o = opened spot.at true [] c in
-      let same = opened_floor spot.at true [] c ∙ closed_floor false spot.is_open a in
+      let same = opened_floor spot.at true [] c ∙ closed_floor false (not spot.may_be_bare) a in
       let g : Guard t (floor_of 0 o.part.events) (spot.at + 3) = guarded spot.at (omega arith) (ap is_gap e ∙ signs_solid.0) (omega (arith, same, top)) (omega arith) in
-      document_noted u x.comments _ (noted_silent (noted_closed false spot.is_open a r.comments) (silent_start true)) (omega arith) g refl (node_noted u d)
+      document_noted u x.comments _ (noted_silent (noted_closed false (not spot.may_be_bare) a r.comments) (silent_start true)) (omega arith) g refl (node_noted u d)
   comments_go_on (directives_to {p = p} {ds = ds} {cs = cs} {y = y} q h d f e done) =
       let lines = lines_read d.upto.longest h d.last in
       let order = directives_order (directives_stand lines) in
@@ -215,16 +215,16 @@ comments_begin spot k e f =
     let all = f ∙ ap (λ z. with_event z stream_starts) e in begins_empty spot k (ap (λ z. z.part.events) all) (ap (λ z. z.part.comments) all)
 
 -- at the end of the text
-comments_end : {t : List ℕ} {spot : Spot} {x : Documents} {a b c : Parts} → CommentsRead t spot x a → b ≡ closed false spot.is_open a → c ≡ with_event b stream_ends
+comments_end : {t : List ℕ} {spot : Spot} {x : Documents} {a b c : Parts} → CommentsRead t spot x a → b ≡ closed false (not spot.may_be_bare) a → c ≡ with_event b stream_ends
     → NotedComments t c.part.events x.comments c.part.comments
 comments_end {t} {spot} {x} {a} {b} {c} r e f =
     let all = f ∙ ap (λ z. with_event z stream_ends) e in
-    let n = noted_silent (noted_closed false spot.is_open a r.comments) (one_element (record { kept = λ f p. refl }) no_element) in
+    let n = noted_silent (noted_closed false (not spot.may_be_bare) a r.comments) (one_element (record { kept = λ f p. refl }) no_element) in
     subst (λ z. NotedComments t z.part.events x.comments z.part.comments) (sym all) n.noted
 
 -- all parts of a stream
 pub stream_written : {t : List ℕ} {spot : Spot} {x : Documents} {a b c : Parts} → spot.at ≡ length t → code t spot.at ≢ 0xFEFF → Stuck (Row t spot.at) → EventsRead t spot x a
-    → CommentsRead t spot x a → b ≡ closed false spot.is_open a → c ≡ with_event b stream_ends → Written t x c
+    → CommentsRead t spot x a → b ≡ closed false (not spot.may_be_bare) a → c ≡ with_event b stream_ends → Written t x c
 stream_written k m n r s e f =
     let w = events_end k m n r e f in
     record { derived = w.derived; written = w.written; events = w.events; comments = comments_end s e f; documents = w.documents; escapes = w.escapes }

@@ -1,8 +1,8 @@
 -- The parameters of a directive, as a reader finds them: as long as they go, or none.
 use Rattle.std.proofs.Common.{◌≡◌, ◌≢◌, ℕ, ◌+◌, Bool, false, List, [], ◌∷◌, ◌++◌, slice_range, codes, refl, sym, ap, ◌∙◌, subst, arith, true≢false, append_assoc, Option, Some, None, MatchOption}
 use Rattle.std.specs.Str.{IsUtf8}
-use Rattle.yf_chars.specs.Text.{code, no_char}
-use Rattle.yf_chars.specs.Class.{is_white, is_digit, is_ns_char, is_nb_char, is_printable, is_between, is_break_char}
+use Rattle.yf_chars.specs.Text.{code}
+use Rattle.yf_chars.specs.Class.{is_white, is_digit, is_ns_char}
 use Rattle.yf_chars.specs.Chain.{Chain, Chosen, Many, One, Stuck}
 use Rattle.yf_chars.proofs.ChainLemmas.{many_unique, one_functional}
 use Rattle.yf_lines.specs.Basic.{LineStart, SeparateInLine}
@@ -14,15 +14,6 @@ use Rattle.yf_stream.specs.Stream.{Parameters, ReservedParameter}
 use Rattle.yf_stream.specs.Stream.Parameters.{version_parameter, tag_parameters, reserved_parameters}
 use Rattle.yf_stream.specs.Stream.ReservedParameter.{reserved_parameter}
 use Rattle.yf_stream.proofs.OneDirective.{digit_ns, no_ns_white, run_first, yaml_no_tag}
-
--- at the end of the text
-pub none_digit : (c : ℕ) → c ≡ no_char → is_digit c ≡ false
-unfolding is_digit is_between
-none_digit c e = ap is_digit e
-
-pub none_visible : (c : ℕ) → c ≡ no_char → is_ns_char c ≡ false
-unfolding is_ns_char is_nb_char is_printable is_between is_break_char is_white
-none_visible c e = ap is_ns_char e
 
 module _ {t : List ℕ} where
   -- white space up to a character that is none

@@ -2,7 +2,7 @@
 use Rattle.std.proofs.Common.{◌≡◌, ℕ, ◌+◌, ◌<◌, ◌≤◌, ◌-ℤ◌, pos, Bool, true, false, not, true≢false, cond, Result, Ok, IfOk, List, [], ◌++◌, drop, take, refl, sym, ap, ◌∙◌, subst, arith}
 use Rattle.std.proofs.lemmas.List.Elements.{All-nil, All-push}
 use Rattle.std.proofs.lemmas.List.Sums.{sum_by-take-drop}
-use Rattle.std.specs.List.{sum_by}
+use Rattle.std.specs.List.{All, sum_by}
 use Rattle.std.specs.declared.alloc.AllocError.{AllocError}
 use Rattle.std.specs.Str.{IsCharBoundary}
 use Rattle.yf_chars.specs.declared.context.Ctx.TheVariants.{BlockIn}
@@ -23,8 +23,9 @@ use Rattle.yf_block.specs.NodeGiven.{FoundTied, Indentation, NoneTied, OutcomeTi
 use Rattle.yf_block.specs.declared.nodes.Outcome.{Outcome}
 use Rattle.yf_block.specs.declared.nodes.Found.{Found as FoundNode}
 use Rattle.yf_stream.specs.DocumentReaders.{opened}
-use Rattle.yf_stream.specs.DocumentSteps.{BareRead, EmptyAdded, EmptyTo, FoundRead, FoundTo, MarkedRead, NoNode, NodeEnds, NothingAt, SomethingBegins, bare_read, grown, line_left, no_bare_read, no_node_read, node_read, none_derived, none_found, nothing_read, too_deep_bare, too_deep_read}
+use Rattle.yf_stream.specs.DocumentSteps.{BareRead, EmptyAdded, EmptyTo, FoundRead, FoundTo, MarkedRead, NoNode, NodeEnds, NothingAt, RootRead, SomethingBegins, bare_read, grown, line_left, no_bare_read, no_node_read, no_root, node_read, none_derived, none_found, nothing_read, root_read, root_too_deep, too_deep_bare, too_deep_read}
 use Rattle.yf_events.specs.declared.document.Doc.{Doc}
+use Rattle.yf_stream.specs.PartsPlaces.{PartsAt}
 use Rattle.yf_stream.specs.RefusalPlaces.{DirectivesAt, DocumentsAt}
 use Rattle.yf_stream.specs.Walk.{NextAt}
 use Rattle.yf_stream.specs.declared.documents.Next.{Next}
@@ -53,28 +54,39 @@ module _ (t : List ℕ) where
         part = g.node;
         chosen = subst (λ z. Chosen (BlockNodePart t DEPTH (pos 0 -ℤ pos 1) BlockIn at) z g.node) (sym e.at) g.chosen;
         bare = e.bare;
-        document = e.document;
         floor = e.floor ∙ g.floor_is;
         parts = grown_by a g.node g.added.events g.added.comments g.added.escapes d;
       }
 
-  pub marked_found : {at : ℕ} {ds : List Directive} {old a b : Parts} {f : FoundNode} (next : Next) → SomethingBegins t (at + 3)
-      → FoundTied t DEPTH (pos 0 -ℤ pos 1) BlockIn (at + 3) a.part f b.part → b.documents ≡ a.documents → a ≡ opened at true ds old → FoundRead f next → MarkedRead t at ds old b next
-  marked_found {at} {a = a} {b = b} (Go after) s x d o e = node_read (subst (λ z. NodeEnds t (at + 3) z b after) o (node_ends a b x d e))
-  marked_found (Syntax place) s x d o e = no_node_read s (no_node_of (x.broken e.0))
-  marked_found (TooDeep place) s x d o e = absurd e
+  pub root_found : {at : ℕ} {a b : Parts} {f : FoundNode} (next : Next) → FoundTied t DEPTH (pos 0 -ℤ pos 1) BlockIn at a.part f b.part → b.documents ≡ a.documents → FoundRead f next
+      → RootRead t at a b next
+  root_found {a = a} {b = b} (Go after) x d e = root_read (node_ends a b x d e)
+  root_found (Syntax place) x d e = no_root (no_node_of (x.broken e.0))
+  root_found (TooDeep place) x d e = absurd e
 
-  pub marked_none : {at place : ℕ} {ds : List Directive} {old b : Parts} → SomethingBegins t (at + 3) → NoneTied t DEPTH (pos 0 -ℤ pos 1) BlockIn (at + 3) → MarkedRead t at ds old b (Syntax place)
-  marked_none s n = no_node_read s (none_derived n.none)
+  pub root_none : {at place : ℕ} {a b : Parts} → NoneTied t DEPTH (pos 0 -ℤ pos 1) BlockIn at → RootRead t at a b (Syntax place)
+  root_none n = no_root (none_derived n.none)
 
   fewer_openers : (i : ℕ) → openers_from t i ≤ openers t
   unfolding openers_from
   fewer_openers i =
       let all : sum_by (λ c. cond (is_opener c) 1 0) (take i t) + openers (drop i t) ≡ openers t = sum_by-take-drop (λ c. cond (is_opener c) 1 0) t i in omega arith
 
-  pub marked_deep : {at place : ℕ} {ds : List Directive} {old b : Parts} → SomethingBegins t (at + 3) → NoneTied t DEPTH (pos 0 -ℤ pos 1) BlockIn (at + 3) → DEPTH < openers_from t (at + 3)
-      → MarkedRead t at ds old b (TooDeep place)
-  marked_deep {at} s n l = let m = fewer_openers (at + 3) in too_deep_read s (none_derived n.none) (omega arith)
+  pub root_deep : {at place : ℕ} {a b : Parts} → NoneTied t DEPTH (pos 0 -ℤ pos 1) BlockIn at → DEPTH < openers_from t at → RootRead t at a b (TooDeep place)
+  root_deep {at} n l = let m = fewer_openers at in root_too_deep (none_derived n.none) (omega arith)
+
+  -- as the node of a document with `---`, and of one without
+  pub marked_of : {at : ℕ} {ds : List Directive} {old a b : Parts} {next : Next} → SomethingBegins t (at + 3) → a ≡ opened at true ds old → RootRead t (at + 3) a b next
+      → MarkedRead t at ds old b next
+  marked_of {at} {b = b} s o (root_read {after = after} n) = node_read (subst (λ z. NodeEnds t (at + 3) z b after) o n)
+  marked_of s o (no_root n) = no_node_read s n
+  marked_of s o (root_too_deep n l) = too_deep_read s n l
+
+  pub bare_of : {at start : ℕ} {w : List ℕ} {old a b : Parts} {next : Next} → Many t is_white at start w → is_white (code t start) ≡ false → a ≡ opened start false [] old
+      → RootRead t at a b next → BareRead t at old b next
+  bare_of {at} {b = b} m w o (root_read {after = after} n) = bare_read m w (subst (λ z. NodeEnds t at z b after) o n)
+  bare_of m w o (no_root n) = no_bare_read n
+  bare_of m w o (root_too_deep n l) = too_deep_bare n l
 
   pub marked_nothing : {at end : ℕ} {cs : List CommentValue} {ds : List Directive} {old a b : Parts} (next : Next) → NothingAt t (at + 3) end cs → a ≡ opened at true ds old
       → EmptyAdded end cs a b next → MarkedRead t at ds old b next
@@ -85,7 +97,6 @@ module _ (t : List ℕ) where
           comments = cs;
           line = subst (λ z. Chosen (LineEnd t (at + 3)) z cs) (sym e'.at) n.line;
           bare = e'.bare;
-          document = e'.document;
           floor = e'.floor;
           parts = e'.parts;
         };
@@ -93,18 +104,6 @@ module _ (t : List ℕ) where
       })
   marked_nothing (Syntax place) n o e = absurd e
   marked_nothing (TooDeep place) n o e = absurd e
-
-  pub bare_found : {at start : ℕ} {w : List ℕ} {old a b : Parts} {f : FoundNode} (next : Next) → Many t is_white at start w → is_white (code t start) ≡ false
-      → FoundTied t DEPTH (pos 0 -ℤ pos 1) BlockIn at a.part f b.part → b.documents ≡ a.documents → a ≡ opened start false [] old → FoundRead f next → BareRead t at old b next
-  bare_found {at} {a = a} {b = b} (Go after) m w x d o e = bare_read m w (subst (λ z. NodeEnds t at z b after) o (node_ends a b x d e))
-  bare_found (Syntax place) m w x d o e = no_bare_read (no_node_of (x.broken e.0))
-  bare_found (TooDeep place) m w x d o e = absurd e
-
-  pub bare_none : {at place : ℕ} {old b : Parts} → NoneTied t DEPTH (pos 0 -ℤ pos 1) BlockIn at → BareRead t at old b (Syntax place)
-  bare_none n = no_bare_read (none_derived n.none)
-
-  pub bare_deep : {at place : ℕ} {old b : Parts} → NoneTied t DEPTH (pos 0 -ℤ pos 1) BlockIn at → DEPTH < openers_from t at → BareRead t at old b (TooDeep place)
-  bare_deep {at} n l = let m = fewer_openers at in too_deep_bare (none_derived n.none) (omega arith)
 
   -- the end of a line after a `---`
   pub something_left : {at j : ℕ} {cs : List CommentValue} → Chosen (LineEnd t at) j cs → (LinesEnd t j → ⊥) → SomethingBegins t at
@@ -144,6 +143,19 @@ empty_next t at cs a b (Go after) k l e =
     (record { boundary = subst (λ z. IsCharBoundary t z) (sym e.at) k; order = omega (arith, e.at) }, subst (λ z. IsCharBoundary t z) (sym e.reached) k)
 empty_next t at cs a b (Syntax place) k l e = absurd e
 empty_next t at cs a b (TooDeep place) k l e = absurd e
+
+-- what an empty node is added to
+pub empty_parts : (t : List ℕ) (end : ℕ) (cs : List CommentValue) (a b : Parts) (next : Next) → All (IsCharBoundary t) a.part.escapes → DocumentsAt t a.documents
+    → EmptyAdded end cs a b next → PartsAt t b
+empty_parts t end cs a b (Go after) k d e = subst (PartsAt t) (sym e.parts) (record { escapes = k; documents = d })
+empty_parts t end cs a b (Syntax place) k d e = absurd e
+empty_parts t end cs a b (TooDeep place) k d e = absurd e
+
+-- from an offset on, and so from an earlier one
+pub later_next : (t : List ℕ) (at : ℕ) (next : Next) → NextAt t (at + 3 + 1) next → NextAt t (at + 1) next
+later_next t at (Go after) n = (record { boundary = n.0.boundary; order = omega (arith, n.0.order) }, n.1)
+later_next t at (Syntax place) n = n
+later_next t at (TooDeep place) n = n
 
 pub turned_false : (b : Bool) → not b ≡ true → b ≡ false
 turned_false true e = absurd (true≢false (sym e))

@@ -1,6 +1,6 @@
 -- The loop of the reader of streams: what has been read goes on with the next document or `...`, and where the reader refuses, no stream is derived
 -- within the limit of open collections.
-use Rattle.std.proofs.Common.{ap, Result, Ok, IfOk, ◌≡◌, ◌≢◌, ℕ, ◌+◌, ◌<◌, ◌-ℤ◌, pos, Bool, true, false, ◌≤◌, List, [], ◌++◌, length, sym, subst, arith, ⊎_elim, append-nil}
+use Rattle.std.proofs.Common.{ap, Result, Ok, IfOk, ◌≡◌, ◌≢◌, ℕ, ◌+◌, ◌<◌, ◌-ℤ◌, pos, Bool, true, false, not, ◌≤◌, List, [], ◌++◌, length, sym, subst, arith, ⊎_elim, append-nil}
 use Rattle.std.specs.Str.{IsUtf8}
 use Rattle.std.specs.declared.alloc.AllocError.{AllocError}
 use Rattle.yf_chars.specs.declared.context.Ctx.TheVariants.{BlockIn}
@@ -40,7 +40,7 @@ pub data NodeDone (t : List ℕ) (at : ℕ) (a b : Parts) (after : Spot) : Meani
 -- one step: what has been read before it, the parts before it and after it, and what has been read then
 pub data StepTo (t : List ℕ) (spot : Spot) (x : Documents) (a b : Parts) (after : Spot) : Documents → Type 0 where
   dots_to : (s : SuffixEnds t spot a b after) → Forbidden t spot.at → code t spot.at ≡ 46 → StepTo t spot x a b after (followed x (only_comments s.comments))
-  dashes_to : {y : Meaning} → Forbidden t spot.at → code t spot.at ≡ 45 → NodeDone t (spot.at + 3) (opened spot.at true [] (closed false spot.is_open a)) b after y
+  dashes_to : {y : Meaning} → Forbidden t spot.at → code t spot.at ≡ 45 → NodeDone t (spot.at + 3) (opened spot.at true [] (closed false (not spot.may_be_bare) a)) b after y
       → StepTo t spot x a b after (followed x (one_document y.comments (document_of spot.at true [] y)))
   directives_to : {p : ℕ} {ds : List Directive} {cs : List CommentValue} {y : Meaning} → spot.may_be_bare ≡ true → code t spot.at ≡ 37
       → (r : DirectivesRead t spot.at p ds a.part.comments cs) → Forbidden t p → code t p ≡ 45 → NodeDone t (p + 3) (opened p true ds (with_comments_read cs a)) b after y

@@ -1,5 +1,5 @@
 -- What the parts hold after one step more of the reader of streams.
-use Rattle.std.proofs.Common.{◌≡◌, ◌≢◌, ℕ, ◌+◌, ◌≤◌, Bool, true, false, inr, List, [], ◌∷◌, ◌++◌, length, map, flat_map, Option, Some, None, refl, sym, ap, ◌∙◌, subst, arith, append_assoc, append-nil, true≢false}
+use Rattle.std.proofs.Common.{◌≡◌, ◌≢◌, ℕ, ◌+◌, ◌≤◌, Bool, true, false, not, inr, List, [], ◌∷◌, ◌++◌, length, map, flat_map, Option, Some, None, refl, sym, ap, ◌∙◌, subst, arith, append_assoc, append-nil, true≢false}
 use Rattle.std.specs.Str.{IsUtf8}
 use Rattle.yf_chars.specs.Text.{code}
 use Rattle.yf_chars.specs.Class.{is_break_char, is_white}
@@ -136,7 +136,7 @@ record NodeParts (t : List ℕ) (at : ℕ) (start : ℕ) (marked : Bool) (dirs :
   documents : b.documents ≡ a.documents ++ (record { start = start; directives = dirs }) ∷ []
   escapes : b.part.escapes ≡ a.part.escapes ++ y.escapes
   line : LineRows t y.finish after.at
-  is_open : after.is_open ≡ true
+  is_open : not after.may_be_bare ≡ true
   bare : after.may_be_bare ≡ false
 
 module _ {t : List ℕ} (u : IsUtf8 t) where
@@ -156,7 +156,7 @@ module _ {t : List ℕ} (u : IsUtf8 t) where
         documents = ap (λ z. z.documents) n.parts;
         escapes = ap (λ z. z.part.escapes) n.parts ∙ ap (λ z. a.part.escapes ++ z) d.escapes;
         line = finish_ends u d.derived;
-        is_open = n.document;
+        is_open = ap not n.bare;
         bare = n.bare;
       }
   node_parts {at} {a = a} (nothing_done n) =
@@ -171,7 +171,7 @@ module _ {t : List ℕ} (u : IsUtf8 t) where
         documents = ap (λ z. z.documents) n.ends.parts;
         escapes = ap (λ z. z.part.escapes) n.ends.parts ∙ sym (append-nil a.part.escapes);
         line = rows_there d;
-        is_open = n.ends.document;
+        is_open = ap not n.ends.bare;
         bare = n.ends.bare;
       }
 
@@ -213,7 +213,7 @@ written_of e (all_closed w) = w
 written_of e (last_open d w l c) = absurd (true≢false e)
 
 module _ {t : List ℕ} (u : IsUtf8 t) {spot : Spot} {x : Documents} {a : Parts} (r : EventsRead t spot x a) where
-  with_other_comments : (cs : List CommentValue) → spot.is_open ≡ false → ClosedParts t spot.at x.documents (with_comments_read cs a)
+  with_other_comments : (cs : List CommentValue) → not spot.may_be_bare ≡ false → ClosedParts t spot.at x.documents (with_comments_read cs a)
   with_other_comments cs e = record { derived = r.derived; written = written_of e r.so_far; noted = r.noted; floor = r.floor; documents = r.documents; escapes = r.escapes }
 
   pub events_go_on : {b : Parts} {after : Spot} {y : Documents} → code t spot.at ≢ 0xFEFF → Stuck (Row t spot.at) → StepTo t spot x a b after y → EventsRead t after y b
@@ -223,11 +223,11 @@ module _ {t : List ℕ} (u : IsUtf8 t) {spot : Spot} {x : Documents} {a : Parts}
       let same = no_more x s.comments in
       record {
         derived = c.derived;
-        so_far = subst (λ z. EventsUpto t after.is_open after.at z c.derived) (sym same)
-            (subst (λ z. EventsUpto t z after.at x.documents c.derived) (sym s.no_document) (all_closed c.written));
+        so_far = subst (λ z. EventsUpto t (not after.may_be_bare) after.at z c.derived) (sym same)
+            (subst (λ z. EventsUpto t z after.at x.documents c.derived) (sym (ap not s.bare)) (all_closed c.written));
         noted = subst (λ z. Noting t 0 (unplaced stream_starts ∷ c.derived) z) (sym (ap (λ z. z.part.events) s.parts)) c.noted;
         floor = omega (arith, c.floor);
-        bare = λ q. record { no_document = s.no_document; guard = guarded spot.at (omega arith) (ap is_gap e ∙ signs_solid.1) c.floor (omega arith) };
+        bare = λ q. record { no_document = ap not s.bare; guard = guarded spot.at (omega arith) (ap is_gap e ∙ signs_solid.1) c.floor (omega arith) };
         documents = ap (λ z. z.documents) s.parts ∙ c.documents ∙ ap (map doc_of) (sym same);
         escapes = ap (λ z. z.part.escapes) s.parts ∙ c.escapes ∙ ap (flat_map (λ (d : Document). d.escapes)) (sym same);
       }
@@ -253,7 +253,7 @@ module _ {t : List ℕ} (u : IsUtf8 t) {spot : Spot} {x : Documents} {a : Parts}
       document_more u x y.comments parts s.guard (omega arith) (omega arith) (node_parts u d)
 
 -- before anything has been read, but the start of the stream
-pub events_begin : {t : List ℕ} {a b : Parts} (spot : Spot) → spot.at ≡ 0 → spot.is_open ≡ false → a ≡ no_parts → b ≡ with_event a stream_starts
+pub events_begin : {t : List ℕ} {a b : Parts} (spot : Spot) → spot.at ≡ 0 → not spot.may_be_bare ≡ false → a ≡ no_parts → b ≡ with_event a stream_starts
     → EventsRead t spot (only_comments []) b
 events_begin {t} spot k o e f =
     let all = f ∙ ap (λ z. with_event z stream_starts) e in
@@ -269,7 +269,7 @@ events_begin {t} spot k o e f =
 
 -- at the end of the text
 pub events_end : {t : List ℕ} {spot : Spot} {x : Documents} {a b c : Parts} → spot.at ≡ length t → code t spot.at ≢ 0xFEFF → Stuck (Row t spot.at) → EventsRead t spot x a
-    → b ≡ closed false spot.is_open a → c ≡ with_event b stream_ends → EventsWritten t x c
+    → b ≡ closed false (not spot.may_be_bare) a → c ≡ with_event b stream_ends → EventsWritten t x c
 events_end {t} {spot} {x} {a} {b} {c} k m n r e f =
     let none = end_code t spot.at k in
     let p = parts_closed false (λ j cs l q. no_mark_there m n (λ g h. absurd (omega arith)) q) r in

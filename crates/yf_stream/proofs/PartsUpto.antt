@@ -1,5 +1,5 @@
 -- What the reader of streams has read so far, and what its parts hold of it: the events with their notes, the documents and the escapes.
-use Rattle.std.proofs.Common.{◌≡◌, ◌≢◌, ℕ, ◌≤◌, Bool, true, false, List, [], ◌∷◌, ◌++◌, map, flat_map, refl, sym, ap, ◌∙◌, subst, arith, append_assoc, append-nil}
+use Rattle.std.proofs.Common.{◌≡◌, ◌≢◌, ℕ, ◌≤◌, Bool, true, false, not, List, [], ◌∷◌, ◌++◌, map, flat_map, refl, sym, ap, ◌∙◌, subst, arith, append_assoc, append-nil}
 use Rattle.yf_chars.specs.Text.{code}
 use Rattle.yf_chars.specs.Chain.{Chain, Stuck}
 use Rattle.yf_chars.proofs.ChainLemmas.{chain_append, chain_forward, stuck_unique}
@@ -32,12 +32,12 @@ pub data EventsUpto (t : List ℕ) : Bool → ℕ → List Document → List Pla
 
 -- where a document may begin without `---`
 pub record BareSpot (t : List ℕ) (spot : Spot) (f : ℕ) : Type 0 where
-  pub no_document : spot.is_open ≡ false
+  pub no_document : not spot.may_be_bare ≡ false
   pub guard : Guard t f spot.at
 
 pub record EventsRead (t : List ℕ) (spot : Spot) (x : Documents) (p : Parts) : Type 0 where
   pub derived : List Placed
-  pub so_far : EventsUpto t spot.is_open spot.at x.documents derived
+  pub so_far : EventsUpto t (not spot.may_be_bare) spot.at x.documents derived
   pub noted : Noting t 0 (unplaced stream_starts ∷ derived) p.part.events
   pub floor : floor_of 0 derived ≤ spot.at
   pub bare : spot.may_be_bare ≡ true → BareSpot t spot (floor_of 0 derived)
@@ -87,8 +87,8 @@ module _ {t : List ℕ} where
   -- the end of the document that is open
   pub parts_closed : {spot : Spot} {x : Documents} {p : Parts} (b : Bool)
       → ((j : ℕ) (cs : List CommentValue) → LineOrEnd t j → Chain (PrefixRow t) j spot.at cs → EndIsMarked t j b) → EventsRead t spot x p
-      → ClosedParts t spot.at x.documents (closed b spot.is_open p)
-  parts_closed {spot} {x} {p} b ends r = go spot.is_open x.documents r.derived r.so_far r.noted r.floor r.documents r.escapes where
+      → ClosedParts t spot.at x.documents (closed b (not spot.may_be_bare) p)
+  parts_closed {spot} {x} {p} b ends r = go (not spot.may_be_bare) x.documents r.derived r.so_far r.noted r.floor r.documents r.escapes where
     go : (o : Bool) (ds : List Document) (es : List Placed) → EventsUpto t o spot.at ds es → Noting t 0 (unplaced stream_starts ∷ es) p.part.events → floor_of 0 es ≤ spot.at
         → p.documents ≡ map doc_of ds → p.part.escapes ≡ flat_map (λ (d : Document). d.escapes) ds → ClosedParts t spot.at ds (closed b o p)
     go false ds es (all_closed w) n f d e = record { derived = es; written = w; noted = n; floor = f; documents = d; escapes = e }
@@ -106,8 +106,8 @@ module _ {t : List ℕ} where
         }
 
 -- comment lines and byte order marks after what has been read
-same_flag : (spot s : Spot) → s ≡ record spot { at = s.at } → (s.is_open ≡ spot.is_open) × (s.may_be_bare ≡ spot.may_be_bare)
-same_flag spot s e = (ap (λ z. z.is_open) e, ap (λ z. z.may_be_bare) e)
+same_flag : (spot s : Spot) → s ≡ record spot { at = s.at } → (not s.may_be_bare ≡ not spot.may_be_bare) × (s.may_be_bare ≡ spot.may_be_bare)
+same_flag spot s e = (ap (λ z. not z.may_be_bare) e, ap (λ z. z.may_be_bare) e)
 
 pub no_more : (x : Documents) (cs : List CommentValue) → (followed x (only_comments cs)).documents ≡ x.documents
 unfolding followed
@@ -127,7 +127,7 @@ module _ {t : List ℕ} where
       let none = no_more x r.upto.comments in
       record {
         derived = p.derived;
-        so_far = subst (λ z. EventsUpto t s.is_open s.at z p.derived) (sym none)
+        so_far = subst (λ z. EventsUpto t (not s.may_be_bare) s.at z p.derived) (sym none)
             (subst (λ z. EventsUpto t z s.at x.documents p.derived) (sym flags.0) (rows_after p.so_far r.upto.rows));
         noted = subst (λ z. Noting t 0 (unplaced stream_starts ∷ p.derived) z) (sym same) p.noted;
         floor = omega (arith, p.floor);

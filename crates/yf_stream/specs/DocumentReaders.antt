@@ -1,6 +1,6 @@
 -- What the readers of a stream answer of what stands between its documents: the marker of a line, the lines before a document, and the
 -- line of a `...`.
-use Rattle.std.specs.Prelude.{◌≡◌, ◌≢◌, ℕ, ◌+◌, ◌-◌, ◌<◌, Bool, true, false, List, [], ◌∷◌, ◌++◌, Option, Some, None}
+use Rattle.std.specs.Prelude.{◌≡◌, ◌≢◌, ℕ, ◌+◌, ◌-◌, ◌<◌, Bool, true, false, not, List, [], ◌∷◌, ◌++◌, Option, Some, None}
 use Rattle.yf_chars.specs.Text.{code, next}
 use Rattle.yf_chars.specs.Chain.{Chain, Chosen, Stuck}
 use Rattle.yf_lines.specs.Basic.{Forbidden}
@@ -80,9 +80,8 @@ pub record SuffixEnds (t : List ℕ) (spot : Spot) (a b : Parts) (after : Spot) 
   pub comments : List CommentValue
   pub line : Chosen (LineEnd t (spot.at + 3)) after.at comments
   pub bare : after.may_be_bare ≡ true
-  pub no_document : after.is_open ≡ false
   pub floor : after.floor ≡ 0
-  pub parts : b ≡ commented comments (closed true spot.is_open a)
+  pub parts : b ≡ commented comments (closed true (not spot.may_be_bare) a)
 
 -- what comes after the three dots at a spot: the next spot, or no line ends there
 abbrev pub SuffixRead : List ℕ → Spot → Parts → Parts → Next → Type 0

@@ -1,6 +1,6 @@
 -- What the reader of a stream answers of the next document, or of a `...`: what the parts have more and where it goes on, or that no stream is
 -- derived.
-use Rattle.std.specs.Prelude.{◌≡◌, ◌≢◌, ℕ, ◌+◌, ◌<◌, pos, ◌-ℤ◌, true, false, List, [], ◌++◌, Some, None}
+use Rattle.std.specs.Prelude.{◌≡◌, ◌≢◌, ℕ, ◌+◌, ◌<◌, pos, ◌-ℤ◌, true, false, not, List, [], ◌++◌, Some, None}
 use Rattle.yf_chars.specs.declared.context.Ctx.TheVariants.{BlockIn}
 use Rattle.yf_chars.specs.Text.{code}
 use Rattle.yf_chars.specs.Class.{is_white}
@@ -49,9 +49,14 @@ pub record NodeEnds (t : List ℕ) (at : ℕ) (a b : Parts) (after : Spot) : Typ
   pub part : Part
   pub chosen : Chosen (BlockNodePart t DEPTH (pos 0 -ℤ pos 1) BlockIn at) after.at part
   pub bare : after.may_be_bare ≡ false
-  pub document : after.is_open ≡ true
   pub floor : after.floor ≡ floor_after 0 part.events
   pub parts : b ≡ grown part a
+
+-- what is read of a document's node
+pub data RootRead (t : List ℕ) (at : ℕ) (a b : Parts) : Next → Type 0 where
+  root_read : {after : Spot} → NodeEnds t at a b after → RootRead t at a b (Go after)
+  no_root : {place : ℕ} → NoNode t at → RootRead t at a b (Syntax place)
+  root_too_deep : {place : ℕ} → NoNode t at → DEPTH < openers t → RootRead t at a b (TooDeep place)
 
 -- after a `---` the line ends, and after it and its comment lines stands what ends all nodes; or that is not so
 pub record NothingEnds (t : List ℕ) (at : ℕ) (a b : Parts) (after : Spot) : Type 0 where
@@ -69,7 +74,6 @@ pub record NothingAt (t : List ℕ) (at end : ℕ) (cs : List CommentValue) : Ty
 pub record EmptyTo (end : ℕ) (cs : List CommentValue) (a b : Parts) (after : Spot) : Type 0 where
   pub at : after.at ≡ end
   pub bare : after.may_be_bare ≡ false
-  pub document : after.is_open ≡ true
   pub floor : after.floor ≡ 0
   pub reached : after.reached ≡ end
   pub parts : b ≡ with_event (commented cs a) (scalar_node no_props Plain [])
@@ -86,7 +90,6 @@ pub record FoundTo (f : FoundNode) (after : Spot) : Type 0 where
   pub floor : after.floor ≡ f.floor
   pub reached : after.reached ≡ f.reached
   pub bare : after.may_be_bare ≡ false
-  pub document : after.is_open ≡ true
 
 abbrev pub FoundRead : FoundNode → Next → Type 0
 FoundRead f (Go after) = FoundTo f after
@@ -114,7 +117,7 @@ with_comments_read cs p = record p { part = record p.part { comments = cs } }
 -- what begins at a spot where no comment line and no byte order mark does
 pub data NextRead (t : List ℕ) (spot : Spot) (a b : Parts) : Next → Type 0 where
   at_dots : {next : Next} → Forbidden t spot.at → code t spot.at ≡ 46 → SuffixRead t spot a b next → NextRead t spot a b next
-  at_dashes : {next : Next} → Forbidden t spot.at → code t spot.at ≡ 45 → MarkedRead t spot.at [] (closed false spot.is_open a) b next → NextRead t spot a b next
+  at_dashes : {next : Next} → Forbidden t spot.at → code t spot.at ≡ 45 → MarkedRead t spot.at [] (closed false (not spot.may_be_bare) a) b next → NextRead t spot a b next
   not_bare : {place : ℕ} → (Forbidden t spot.at → ⊥) → spot.may_be_bare ≡ false → NextRead t spot a b (Syntax place)
   after_directives : {next : Next} {p : ℕ} {ds : List Directive} {cs : List CommentValue} → spot.may_be_bare ≡ true → code t spot.at ≡ 37
       → DirectivesRead t spot.at p ds a.part.comments cs → Forbidden t p → code t p ≡ 45 → MarkedRead t p ds (with_comments_read cs a) b next → NextRead t spot a b next

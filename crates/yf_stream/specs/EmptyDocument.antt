@@ -1,5 +1,5 @@
 -- What the reader of a stream answers of a `---` after which no node stands.
-use Rattle.std.specs.Prelude.{◌≡◌, ℕ, true, false, List, []}
+use Rattle.std.specs.Prelude.{◌≡◌, ℕ, false, List, []}
 use Rattle.yf_chars.specs.Chain.{Chosen}
 use Rattle.yf_comments.specs.Comment.{CommentValue}
 use Rattle.yf_comments.specs.Comments.{LineEnd}
@@ -15,6 +15,5 @@ pub record EmptyEnds (t : List ℕ) (at : ℕ) (a b : Parts) (after : Spot) : Ty
   pub comments : List CommentValue
   pub line : Chosen (LineEnd t at) after.at comments
   pub bare : after.may_be_bare ≡ false
-  pub document : after.is_open ≡ true
   pub floor : after.floor ≡ 0
   pub parts : b ≡ with_event (commented comments a) (scalar_node no_props Plain [])

@@ -7,11 +7,13 @@ pub mod DocumentReaders
 pub mod DocumentSteps
 pub mod EmptyDocument
 pub mod HasReading
+pub mod InLine
 pub mod Laws
 pub mod LeafPass
 pub mod MadeReadings
 pub mod NodeLaws
 pub mod NotedLists
+pub mod PartsPlaces
 pub mod PlaceLaws
 pub mod ReaderLaws
 pub mod ReadingOf

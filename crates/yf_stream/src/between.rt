@@ -1,12 +1,11 @@
 //! What stands between the documents of a stream (YAML 1.2.2, section 9.1): byte order marks and comment lines, and `...`.
 ghost use Rattle.std.specs.Prelude.{◌≡◌, ◌+◌, ◌≤◌, IfOk};
-ghost use Rattle.std.specs.List.{All};
 ghost use Rattle.std.specs.Str.{IsCharBoundary};
 ghost use Rattle.yf_stream.specs.DocumentReaders.{Kept, PrefixRead, SuffixRead};
-ghost use Rattle.yf_stream.specs.RefusalPlaces.{DocumentsAt};
+ghost use Rattle.yf_stream.specs.PartsPlaces.{PartsAt};
 ghost use Rattle.yf_stream.specs.Walk.{Place, NextAt};
 
-use crate::documents::{Next, Parts, Spot};
+use crate::documents::{Next, Parts, Source, Spot};
 use std::alloc::{AllocError, Global};
 use yf_block::look::is_blank_after;
 use yf_comments::comment::Comment;
@@ -73,21 +72,18 @@ fn keep_comments<'a>(
 #[tactic(auto, using(crate::proofs::Forward::line_end_forward))]
 /// Reads `...` (l-document-suffix, production 205).
 pub(crate) fn read_suffix<'a>(
-    alloc: Global,
-    text: &'a str,
+    source: Source<'a>,
     spot: Spot,
     parts: &mut Parts<'a>,
 ) -> Result<Next, AllocError>
-    requires boundary { IsCharBoundary text.now (spot.at + 3) }
-    requires escapes { All (IsCharBoundary text.now) parts.old.part.escapes }
-    requires documents { DocumentsAt text.now parts.old.documents }
-    ensures reads { IfOk result (λ next. SuffixRead text.now spot parts.old parts.new next) }
-    ensures next { IfOk result (λ next. NextAt text.now (spot.at + 1) next) }
-    ensures escapes { IfOk result (λ _. All (IsCharBoundary text.now) parts.new.part.escapes) }
-    ensures documents { IfOk result (λ _. DocumentsAt text.now parts.new.documents) }
+    requires boundary { IsCharBoundary source.text.now (spot.at + 3) }
+    requires parts { PartsAt source.text.now parts.old }
+    ensures reads { IfOk result (λ next. SuffixRead source.entry.text.now spot parts.old parts.new next) }
+    ensures next { IfOk result (λ next. NextAt source.entry.text.now (spot.at + 1) next) }
+    ensures parts { IfOk result (λ _. PartsAt source.entry.text.now parts.new) }
 {
-    parts.close(alloc, spot, true)?;
-    match line_end(alloc, text, spot.at + 3)? {
+    parts.close(source.alloc, spot, true)?;
+    match line_end(source.alloc, source.text, spot.at + 3)? {
         Some(Separation { comments, end }) => {
             parts.part.comments.append(comments)?;
             Ok(Next::Go(Spot {
@@ -95,7 +91,6 @@ pub(crate) fn read_suffix<'a>(
                 floor: 0,
                 reached: end,
                 may_be_bare: true,
-                is_open: false,
             }))
         }
         None => Ok(Next::Syntax(spot.at + 3)),

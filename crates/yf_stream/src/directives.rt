@@ -1,18 +1,16 @@
 //! Directives (YAML 1.2.2, section 6.8). Offsets count bytes.
-ghost use Rattle.std.specs.Prelude.{◌≡◌, ◌+◌, ◌<◌, ◌≤◌, ℕ, List, [], ◌∷◌, false, codes, IfOk, IfSome, MatchOption, MatchResult};
+ghost use Rattle.std.specs.Prelude.{◌≡◌, ◌+◌, ◌<◌, ◌≤◌, [], ◌∷◌, codes, IfOk, IfSome, MatchOption, MatchResult};
 ghost use Rattle.std.specs.Str.{IsCharBoundary};
-ghost use Rattle.yf_chars.specs.Chain.{Chosen, Many, Stuck};
-ghost use Rattle.yf_chars.specs.Class.{is_digit, is_ns_char};
-ghost use Rattle.yf_chars.specs.Text.{code};
-ghost use Rattle.yf_lines.specs.Basic.{LineStart};
+ghost use Rattle.yf_chars.specs.Chain.{Chosen, Stuck};
 ghost use Rattle.yf_stream.specs.DirectiveReaders.{DirectivesEnd, DirectivesRead, IsDirective, ReservedRead, WordsRead};
+ghost use Rattle.yf_stream.specs.InLine.{InLine};
 ghost use Rattle.yf_stream.specs.RefusalPlaces.{DirectivesAt};
 ghost use Rattle.yf_stream.specs.Stream.{Parameters};
 ghost use Rattle.yf_stream.specs.Walk.{Place};
 
 use std::alloc::{AllocError, Global};
-use yf_chars::classes::{is_digit, is_ns_char};
-use yf_chars::text::{peek, stands};
+use yf_chars::runs::{Digits, NsChars, skip_while};
+use yf_chars::text::stands;
 use yf_comments::comments::{Comments, Separation};
 use yf_comments::lines::line_end;
 use yf_events::directive::{Directive, Directives};
@@ -79,7 +77,7 @@ fn read_directive<'a>(
     if !stands(text, at, b'%') {
         return Ok(None);
     }
-    let name_end = skip_ns_chars(text, at + 1);
+    let name_end = skip_while::<NsChars>(text, at + 1);
     if name_end == at + 1 {
         return Ok(None);
     }
@@ -111,8 +109,7 @@ fn read_parameters<'a>(
     at: usize,
     words: &mut Slices<'a>,
 ) -> Result<Option<usize>, AllocError>
-    requires boundary { IsCharBoundary text.now at }
-    requires within { LineStart text.now at → ⊥ }
+    requires { InLine text.now at }
     ensures reads { IfOk result (λ o. MatchOption o (Stuck (Parameters text.now name.now at))
         (λ end. WordsRead text.now name.now at end words.old words.new)) }
     ensures place { IfOk result (λ o. IfSome o (λ end. Place text.now at end)) }
@@ -130,8 +127,7 @@ fn read_version<'a>(
     at: usize,
     words: &mut Slices<'a>,
 ) -> Result<Option<usize>, AllocError>
-    requires boundary { IsCharBoundary text.now at }
-    requires within { LineStart text.now at → ⊥ }
+    requires { InLine text.now at }
     ensures reads { IfOk result (λ o. MatchOption o (Stuck (Parameters text.now (codes "YAML") at))
         (λ end. WordsRead text.now (codes "YAML") at end words.old words.new)) }
     ensures place { IfOk result (λ o. IfSome o (λ end. Place text.now at end)) }
@@ -140,14 +136,14 @@ fn read_version<'a>(
     if start == at {
         return Ok(None);
     }
-    let dot = skip_digits(text, start);
+    let dot = skip_while::<Digits>(text, start);
     if dot == start {
         return Ok(None);
     }
     if !stands(text, dot, b'.') {
         return Ok(None);
     }
-    let end = skip_digits(text, dot + 1);
+    let end = skip_while::<Digits>(text, dot + 1);
     if end == dot + 1 {
         return Ok(None);
     }
@@ -161,8 +157,7 @@ fn read_tag_parameters<'a>(
     at: usize,
     words: &mut Slices<'a>,
 ) -> Result<Option<usize>, AllocError>
-    requires boundary { IsCharBoundary text.now at }
-    requires within { LineStart text.now at → ⊥ }
+    requires { InLine text.now at }
     ensures reads { IfOk result (λ o. MatchOption o (Stuck (Parameters text.now (codes "TAG") at))
         (λ end. WordsRead text.now (codes "TAG") at end words.old words.new)) }
     ensures place { IfOk result (λ o. IfSome o (λ end. Place text.now at end)) }
@@ -192,8 +187,7 @@ fn read_reserved<'a>(
     at: usize,
     words: &mut Slices<'a>,
 ) -> Result<Option<usize>, AllocError>
-    requires boundary { IsCharBoundary text.now at }
-    requires within { LineStart text.now at → ⊥ }
+    requires { InLine text.now at }
     ensures reads { IfOk result (λ o. MatchOption o ⊥ (λ end. ReservedRead text.now at end words.old words.new)) }
     ensures place { IfOk result (λ o. IfSome o (λ end. Place text.now at end)) }
 {
@@ -206,55 +200,11 @@ fn read_reserved<'a>(
         if stands(text, start, b'#') {
             return Ok(Some(end));
         }
-        let next = skip_ns_chars(text, start);
+        let next = skip_while::<NsChars>(text, start);
         if next == start {
             return Ok(Some(end));
         }
         words.push(&text[start..next])?;
         end = next;
-    }
-}
-
-// The offset after all characters that are no white space that stands at the offset.
-fn skip_ns_chars(text: &str, at: usize) -> usize
-    requires { IsCharBoundary text.now at }
-    ensures chars { (x : List ℕ) × Many text.now is_ns_char at result x }
-    ensures all { is_ns_char (code text.now result) ≡ false }
-    ensures place { Place text.now at result }
-{
-    let mut end = at;
-    'chars: loop {
-        match peek(text, end) {
-            Some((c, next)) => {
-                if is_ns_char(c) {
-                    end = next;
-                } else {
-                    return end;
-                }
-            }
-            None => return end,
-        }
-    }
-}
-
-// The offset after all digits that stand at the offset.
-fn skip_digits(text: &str, at: usize) -> usize
-    requires { IsCharBoundary text.now at }
-    ensures chars { (x : List ℕ) × Many text.now is_digit at result x }
-    ensures all { is_digit (code text.now result) ≡ false }
-    ensures place { Place text.now at result }
-{
-    let mut end = at;
-    'digits: loop {
-        match peek(text, end) {
-            Some((c, next)) => {
-                if is_digit(c) {
-                    end = next;
-                } else {
-                    return end;
-                }
-            }
-            None => return end,
-        }
     }
 }

@@ -1,14 +1,14 @@
 //! The documents of a stream (YAML 1.2.2, section 9.1): what begins one, and what ends it. Offsets count bytes.
-ghost use Rattle.std.specs.Prelude.{◌≡◌, ◌+◌, ◌<◌, ◌≤◌, ◌^◌, [], true, false, length, IfOk, IfSome, MatchBool, MatchOption};
-ghost use Rattle.std.specs.List.{All};
+ghost use Rattle.std.specs.Prelude.{◌≡◌, ◌+◌, ◌<◌, ◌≤◌, ◌^◌, [], true, false, length, not, IfOk, IfSome, MatchBool, MatchOption};
 ghost use Rattle.std.specs.Str.{IsCharBoundary};
 ghost use Rattle.yf_events.specs.Event.{new_event_value};
 ghost use Rattle.yf_stream.specs.DocumentReaders.{IsMarker, closed, opened, with_event};
 ghost use Rattle.yf_chars.specs.Text.{code};
 ghost use Rattle.yf_lines.specs.Basic.{Forbidden};
-ghost use Rattle.yf_stream.specs.DocumentSteps.{BareRead, EmptyAdded, FoundRead, MarkedRead, NextRead, NothingAt, SomethingBegins};
-ghost use Rattle.yf_stream.specs.RefusalPlaces.{DirectivesAt, DocumentsAt};
+ghost use Rattle.yf_stream.specs.DocumentSteps.{BareRead, EmptyAdded, FoundRead, MarkedRead, NextRead, NothingAt, RootRead, SomethingBegins};
+ghost use Rattle.yf_stream.specs.RefusalPlaces.{DirectivesAt};
 ghost use Rattle.yf_stream.specs.DerivedParts.{no_parts};
+ghost use Rattle.yf_stream.specs.PartsPlaces.{PartsAt};
 ghost use Rattle.yf_stream.specs.Walk.{NextAt};
 
 use crate::between::read_suffix;
@@ -32,12 +32,11 @@ use yf_lines::basic::{is_forbidden_at, skip_whites};
 use yf_lines::text::Text;
 use yf_props::props::Props;
 
-/// What has been read of a stream so far, in order of the text.
-#[derive(Drop)]
-pub(crate) struct Parts<'a> {
-    /// The events and comments of the stream, and its escapes that are no character.
-    pub(crate) part: Part<'a>,
-    pub(crate) documents: Documents<'a>,
+/// What is read, and in which memory what is made of it stands.
+#[derive(Clone, Copy)]
+pub(crate) struct Source<'a> {
+    pub(crate) alloc: Global,
+    pub(crate) text: &'a str,
 }
 
 /// How far the stream has been read.
@@ -49,10 +48,34 @@ pub(crate) struct Spot {
     pub(crate) floor: usize,
     /// The furthest offset at which the last node's reading went wrong, or where the node ends.
     pub(crate) reached: usize,
-    /// Whether a document may begin here without `---`, or with directives.
+    /// Whether a document may begin here without `---`, or with directives: where none has been read whose end is not yet
+    /// among the events.
     pub(crate) may_be_bare: bool,
-    /// Whether a document has been read whose end is not yet among the events.
-    pub(crate) is_open: bool,
+}
+
+impl Spot {
+    // After a document's root node another document needs a `---`, or a `...` before it.
+    fn behind_node(at: usize, floor: usize, reached: usize) -> Spot
+        ensures at { result.at ≡ at }
+        ensures floor { result.floor ≡ floor }
+        ensures reached { result.reached ≡ reached }
+        ensures bare { result.may_be_bare ≡ false }
+    {
+        Spot {
+            at,
+            floor,
+            reached,
+            may_be_bare: false,
+        }
+    }
+}
+
+/// What has been read of a stream so far, in order of the text.
+#[derive(Drop)]
+pub(crate) struct Parts<'a> {
+    /// The events and comments of the stream, and its escapes that are no character.
+    pub(crate) part: Part<'a>,
+    pub(crate) documents: Documents<'a>,
 }
 
 /// What comes next.
@@ -117,13 +140,13 @@ impl<'a> Parts<'a> {
         explicit: bool,
     ) -> Result<(), AllocError>
         ensures documents { IfOk result (λ _. self.new.documents ≡ self.old.documents) }
-        ensures parts { IfOk result (λ _. self.new ≡ closed explicit spot.is_open self.old) }
+        ensures parts { IfOk result (λ _. self.new ≡ closed explicit (not spot.may_be_bare) self.old) }
         ensures escapes { IfOk result (λ _. self.new.part.escapes ≡ self.old.part.escapes) }
     {
-        if spot.is_open {
-            return self.push_unplaced(alloc, NewEvent::DocEnd { explicit });
+        if spot.may_be_bare {
+            return Ok(());
         }
-        Ok(())
+        self.push_unplaced(alloc, NewEvent::DocEnd { explicit })
     }
 
     // Adds the start of a document.
@@ -140,40 +163,118 @@ impl<'a> Parts<'a> {
         self.push_unplaced(alloc, NewEvent::DocStart { explicit })?;
         self.documents.push(Doc { start, directives })
     }
-}
 
-/// Reads what begins at the offset, which is no comment line and not the end of the text: a document with its directives,
-/// or a `...`.
-pub(crate) fn read_next<'a>(
-    alloc: Global,
-    text: &'a str,
-    spot: Spot,
-    parts: &mut Parts<'a>,
-) -> Result<Next, AllocError>
-    requires boundary { IsCharBoundary text.now spot.at }
-    requires reached { IsCharBoundary text.now spot.reached }
-    requires escapes { All (IsCharBoundary text.now) parts.old.part.escapes }
-    requires documents { DocumentsAt text.now parts.old.documents }
-    ensures reads { length text.now ≤ 2 ^ 30 → IfOk result (λ next. NextRead text.now spot parts.old parts.new next) }
-    ensures next { IfOk result (λ next. NextAt text.now (spot.at + 1) next) }
-    ensures escapes { IfOk result (λ _. All (IsCharBoundary text.now) parts.new.part.escapes) }
-    ensures documents { IfOk result (λ _. DocumentsAt text.now parts.new.documents) }
-{
-    match marker_at(text, spot.at) {
-        Some(Marker::DocumentEnd) => return read_suffix(alloc, text, spot, parts),
-        Some(Marker::DocumentStart) => {
-            parts.close(alloc, spot, false)?;
-            return explicit_document(alloc, text, spot.at, Directives::new(alloc), parts);
+    /// Reads what begins at the offset, which is no comment line and not the end of the text: a document with its directives,
+    /// or a `...`.
+    pub(crate) fn read_next(&mut self, source: Source<'a>, spot: Spot) -> Result<Next, AllocError>
+        requires boundary { IsCharBoundary source.text.now spot.at }
+        requires reached { IsCharBoundary source.text.now spot.reached }
+        requires parts { PartsAt source.text.now self.old }
+        ensures reads { length source.entry.text.now ≤ 2 ^ 30
+            → IfOk result (λ next. NextRead source.entry.text.now spot self.old self.new next) }
+        ensures next { IfOk result (λ next. NextAt source.entry.text.now (spot.at + 1) next) }
+        ensures parts { IfOk result (λ _. PartsAt source.entry.text.now self.new) }
+    {
+        match marker_at(source.text, spot.at) {
+            Some(Marker::DocumentEnd) => return read_suffix(source, spot, self),
+            Some(Marker::DocumentStart) => {
+                self.close(source.alloc, spot, false)?;
+                return self.explicit_document(source, spot.at, Directives::new(source.alloc));
+            }
+            None => {}
         }
-        None => {}
+        if !spot.may_be_bare {
+            return Ok(Next::Syntax(spot.reached.max(spot.at)));
+        }
+        if stands(source.text, spot.at, b'%') {
+            return self.directive_document(source, spot);
+        }
+        // A document without `---` (l-bare-document, production 207).
+        let start = skip_whites(source.text, spot.at);
+        self.open(source.alloc, start, false, Directives::new(source.alloc))?;
+        self.root_node(source, spot.at)
     }
-    if !spot.may_be_bare {
-        return Ok(Next::Syntax(spot.reached.max(spot.at)));
+
+    // Reads directives and the document after them (l-directive-document, production 209).
+    fn directive_document(&mut self, source: Source<'a>, spot: Spot) -> Result<Next, AllocError>
+        requires boundary { IsCharBoundary source.text.now spot.at }
+        requires percent { code source.text.now spot.at ≡ 37 }
+        requires bare { spot.may_be_bare ≡ true }
+        requires parts { PartsAt source.text.now self.old }
+        ensures reads { length source.entry.text.now ≤ 2 ^ 30
+            → IfOk result (λ next. NextRead source.entry.text.now spot self.old self.new next) }
+        ensures next { IfOk result (λ next. NextAt source.entry.text.now (spot.at + 1) next) }
+        ensures parts { IfOk result (λ _. PartsAt source.entry.text.now self.new) }
+    {
+        match read_directives(source.alloc, source.text, spot.at, &mut self.part.comments)? {
+            Ok(DirectiveLines { directives, end }) => {
+                if has_dashes(source.text, end) {
+                    return self.explicit_document(source, end, directives);
+                }
+                Ok(Next::Syntax(end))
+            }
+            Err(place) => Ok(Next::Syntax(place)),
+        }
     }
-    if stands(text, spot.at, b'%') {
-        return directive_document(alloc, text, spot, parts);
+
+    // Reads a document that begins with `---` (l-explicit-document, production 208).
+    fn explicit_document(
+        &mut self,
+        source: Source<'a>,
+        at: usize,
+        directives: Directives<'a>,
+    ) -> Result<Next, AllocError>
+        requires boundary { IsCharBoundary source.text.now (at + 3) }
+        requires directives { DirectivesAt source.text.now directives }
+        requires parts { PartsAt source.text.now self.old }
+        ensures reads { length source.entry.text.now ≤ 2 ^ 30
+            → IfOk result (λ next. MarkedRead source.entry.text.now at directives.entry self.old self.new next) }
+        ensures next { IfOk result (λ next. NextAt source.entry.text.now (at + 1) next) }
+        ensures parts { IfOk result (λ _. PartsAt source.entry.text.now self.new) }
+    {
+        self.open(source.alloc, at, true, directives)?;
+        if let Some(line) = empty_end(source, at + 3)? {
+            return self.empty_document(source.alloc, line);
+        }
+        self.root_node(source, at + 3)
     }
-    bare_document(alloc, text, spot.at, parts)
+
+    // Adds the empty node of a document after whose `---` the line ends, with its comments.
+    fn empty_document(&mut self, alloc: Global, line: Separation<'a>) -> Result<Next, AllocError>
+        ensures { IfOk result (λ next. EmptyAdded line.entry.end line.entry.comments self.old self.new next) }
+    {
+        let Separation { comments, end } = line;
+        self.part.comments.append(comments)?;
+        self.push_unplaced(
+            alloc,
+            NewEvent::Scalar {
+                props: Props {
+                    anchor: None,
+                    tag: None,
+                },
+                style: ScalarStyle::Plain,
+                text: Text::Part(""),
+            },
+        )?;
+        Ok(Next::Go(Spot::behind_node(end, 0, end)))
+    }
+
+    // Reads the node of a document. Where it was found, and nothing was left of it where its reading went wrong, the next line follows.
+    fn root_node(&mut self, source: Source<'a>, at: usize) -> Result<Next, AllocError>
+        requires boundary { IsCharBoundary source.text.now at }
+        requires parts { PartsAt source.text.now self.old }
+        ensures reads { length source.entry.text.now ≤ 2 ^ 30
+            → IfOk result (λ next. RootRead source.entry.text.now at self.old self.new next) }
+        ensures next { IfOk result (λ next. NextAt source.entry.text.now (at + 1) next) }
+        ensures parts { IfOk result (λ _. PartsAt source.entry.text.now self.new) }
+    {
+        let Source { alloc, text } = source;
+        match block_node_in(alloc, text, at, -1, Ctx::BlockIn, DEPTH, &mut self.part)? {
+            Outcome::Found(found) => Ok(behind_found(found)),
+            Outcome::Nothing { reached } => Ok(Next::Syntax(reached)),
+            Outcome::TooDeep(place) => Ok(Next::TooDeep(place)),
+        }
+    }
 }
 
 // The document marker at the start of a line that begins at the offset.
@@ -209,85 +310,18 @@ fn has_dashes(text: &str, at: usize) -> bool
     false
 }
 
-// Reads directives and the document after them (l-directive-document, production 209).
-fn directive_document<'a>(
-    alloc: Global,
-    text: &'a str,
-    spot: Spot,
-    parts: &mut Parts<'a>,
-) -> Result<Next, AllocError>
-    requires boundary { IsCharBoundary text.now spot.at }
-    requires percent { code text.now spot.at ≡ 37 }
-    requires bare { spot.may_be_bare ≡ true }
-    requires escapes { All (IsCharBoundary text.now) parts.old.part.escapes }
-    requires documents { DocumentsAt text.now parts.old.documents }
-    ensures reads { length text.now ≤ 2 ^ 30 → IfOk result (λ next. NextRead text.now spot parts.old parts.new next) }
-    ensures next { IfOk result (λ next. NextAt text.now (spot.at + 1) next) }
-    ensures escapes { IfOk result (λ _. All (IsCharBoundary text.now) parts.new.part.escapes) }
-    ensures documents { IfOk result (λ _. DocumentsAt text.now parts.new.documents) }
-{
-    match read_directives(alloc, text, spot.at, &mut parts.part.comments)? {
-        Ok(DirectiveLines { directives, end }) => {
-            if has_dashes(text, end) {
-                return explicit_document(alloc, text, end, directives, parts);
-            }
-            Ok(Next::Syntax(end))
-        }
-        Err(place) => Ok(Next::Syntax(place)),
-    }
-}
-
-// Reads a document that begins with `---` (l-explicit-document, production 208).
-fn explicit_document<'a>(
-    alloc: Global,
-    text: &'a str,
-    at: usize,
-    directives: Directives<'a>,
-    parts: &mut Parts<'a>,
-) -> Result<Next, AllocError>
-    requires boundary { IsCharBoundary text.now (at + 3) }
-    requires directives { DirectivesAt text.now directives }
-    requires escapes { All (IsCharBoundary text.now) parts.old.part.escapes }
-    requires documents { DocumentsAt text.now parts.old.documents }
-    ensures reads { length text.now ≤ 2 ^ 30 → IfOk result (λ next. MarkedRead text.now at directives.entry parts.old parts.new next) }
-    ensures next { IfOk result (λ next. NextAt text.now (at + 1) next) }
-    ensures escapes { IfOk result (λ _. All (IsCharBoundary text.now) parts.new.part.escapes) }
-    ensures documents { IfOk result (λ _. DocumentsAt text.now parts.new.documents) }
-{
-    parts.open(alloc, at, true, directives)?;
-    if let Some(Separation { comments, end }) = empty_end(alloc, text, at + 3)? {
-        return empty_document(alloc, comments, end, parts);
-    }
-    match block_node_in(
-        alloc,
-        text,
-        at + 3,
-        -1,
-        Ctx::BlockIn,
-        DEPTH,
-        &mut parts.part,
-    )? {
-        Outcome::Found(found) => Ok(behind_found(found)),
-        Outcome::Nothing { reached } => Ok(Next::Syntax(reached)),
-        Outcome::TooDeep(place) => Ok(Next::TooDeep(place)),
-    }
-}
-
 // What is left of the line of a `---`, with the comment lines after it, where no node stands after them: the text ends there, or a
 // byte order mark or a document marker stands.
-fn empty_end<'a>(
-    alloc: Global,
-    text: &'a str,
-    at: usize,
-) -> Result<Option<Separation<'a>>, AllocError>
-    requires { IsCharBoundary text.now at }
-    ensures reads { IfOk result (λ o. MatchOption o (SomethingBegins text.now at) (λ p. NothingAt text.now at p.end p.comments)) }
-    ensures boundary { IfOk result (λ o. IfSome o (λ p. IsCharBoundary text.now p.end)) }
+fn empty_end<'a>(source: Source<'a>, at: usize) -> Result<Option<Separation<'a>>, AllocError>
+    requires { IsCharBoundary source.text.now at }
+    ensures reads { IfOk result (λ o. MatchOption o (SomethingBegins source.entry.text.now at)
+        (λ p. NothingAt source.entry.text.now at p.end p.comments)) }
+    ensures boundary { IfOk result (λ o. IfSome o (λ p. IsCharBoundary source.entry.text.now p.end)) }
     ensures order { IfOk result (λ o. IfSome o (λ p. at ≤ p.end)) }
 {
-    match line_end(alloc, text, at)? {
+    match line_end(source.alloc, source.text, at)? {
         Some(Separation { comments, end }) => {
-            if node_ends(text, end) {
+            if node_ends(source.text, end) {
                 return Ok(Some(Separation { comments, end }));
             }
             Ok(None)
@@ -296,79 +330,12 @@ fn empty_end<'a>(
     }
 }
 
-// Adds the empty node of a document after whose `---` the line ends, with its comments.
-fn empty_document<'a>(
-    alloc: Global,
-    comments: Comments<'a>,
-    end: usize,
-    parts: &mut Parts<'a>,
-) -> Result<Next, AllocError>
-    ensures reads { IfOk result (λ next. EmptyAdded end comments.entry parts.old parts.new next) }
-    ensures escapes { IfOk result (λ _. parts.new.part.escapes ≡ parts.old.part.escapes) }
-    ensures documents { IfOk result (λ _. parts.new.documents ≡ parts.old.documents) }
-{
-    parts.part.comments.append(comments)?;
-    parts.push_unplaced(
-        alloc,
-        NewEvent::Scalar {
-            props: Props {
-                anchor: None,
-                tag: None,
-            },
-            style: ScalarStyle::Plain,
-            text: Text::Part(""),
-        },
-    )?;
-    Ok(Next::Go(behind_node(end, 0, end)))
-}
-
-// Reads a document without `---` (l-bare-document, production 207).
-fn bare_document<'a>(
-    alloc: Global,
-    text: &'a str,
-    at: usize,
-    parts: &mut Parts<'a>,
-) -> Result<Next, AllocError>
-    requires boundary { IsCharBoundary text.now at }
-    requires escapes { All (IsCharBoundary text.now) parts.old.part.escapes }
-    requires documents { DocumentsAt text.now parts.old.documents }
-    ensures reads { length text.now ≤ 2 ^ 30 → IfOk result (λ next. BareRead text.now at parts.old parts.new next) }
-    ensures next { IfOk result (λ next. NextAt text.now (at + 1) next) }
-    ensures escapes { IfOk result (λ _. All (IsCharBoundary text.now) parts.new.part.escapes) }
-    ensures documents { IfOk result (λ _. DocumentsAt text.now parts.new.documents) }
-{
-    let start = skip_whites(text, at);
-    parts.open(alloc, start, false, Directives::new(alloc))?;
-    match block_node_in(alloc, text, at, -1, Ctx::BlockIn, DEPTH, &mut parts.part)? {
-        Outcome::Found(found) => Ok(behind_found(found)),
-        Outcome::Nothing { reached } => Ok(Next::Syntax(reached)),
-        Outcome::TooDeep(place) => Ok(Next::TooDeep(place)),
-    }
-}
-
 // What comes after a node that was found: the next line, if nothing was left of the node where its reading went wrong.
 fn behind_found(found: Found) -> Next
     ensures { FoundRead found result }
 {
     if found.whole {
-        return Next::Go(behind_node(found.end, found.floor, found.reached));
+        return Next::Go(Spot::behind_node(found.end, found.floor, found.reached));
     }
     Next::Syntax(found.reached)
-}
-
-// After a document's root node another document needs a `---`, or a `...` before it.
-fn behind_node(at: usize, floor: usize, reached: usize) -> Spot
-    ensures at { result.at ≡ at }
-    ensures floor { result.floor ≡ floor }
-    ensures reached { result.reached ≡ reached }
-    ensures bare { result.may_be_bare ≡ false }
-    ensures document { result.is_open ≡ true }
-{
-    Spot {
-        at,
-        floor,
-        reached,
-        may_be_bare: false,
-        is_open: true,
-    }
 }

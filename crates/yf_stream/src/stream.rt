@@ -1,6 +1,5 @@
 //! The reader of whole streams.
 ghost use Rattle.std.specs.Prelude.{◌≡◌, ◌+◌, ◌-◌, ◌<◌, ◌≤◌, ◌^◌, length, IfErr, IfOk, IfSome, MatchResult};
-ghost use Rattle.std.specs.List.{All};
 ghost use Rattle.std.specs.Str.{IsCharBoundary};
 ghost use Rattle.yf_events.specs.Reading.{Fits};
 ghost use Rattle.yf_lines.specs.FaultPlaces.{InText, IsPlaceOf};
@@ -8,13 +7,14 @@ ghost use Rattle.yf_stream.specs.DerivedParts.{no_parts};
 ghost use Rattle.yf_stream.specs.DerivedStreams.{ListsDerived, ShapeOr};
 ghost use Rattle.yf_stream.specs.MadeReadings.{MadeOr, MadeReading, NoBreach};
 ghost use Rattle.yf_stream.specs.NotedLists.{FaultAt, NotedOr};
+ghost use Rattle.yf_stream.specs.PartsPlaces.{PartsAt};
 ghost use Rattle.yf_stream.specs.Refusal.{IsStreamFault};
-ghost use Rattle.yf_stream.specs.RefusalPlaces.{DocumentsAt, RefusalAt};
+ghost use Rattle.yf_stream.specs.RefusalPlaces.{RefusalAt};
 ghost use Rattle.yf_stream.specs.StreamReader as StreamReader;
 
 use crate::between::skip_prefix;
 use crate::breaches::{Breach, Kind};
-use crate::documents::{Next, Parts, Spot, read_next};
+use crate::documents::{Next, Parts, Source, Spot};
 use crate::leaf_lines::on_leaf_lines;
 use crate::resolve::{Resolved, resolve};
 use std::alloc::{AllocError, Global};
@@ -135,8 +135,7 @@ fn noted_lists<'a>(
     text: &'a str,
     parts: Parts<'a>,
 ) -> Result<Result<Lists<'a>, Refusal>, AllocError>
-    requires escapes { All (IsCharBoundary text.now) parts.part.escapes }
-    requires documents { DocumentsAt text.now parts.documents }
+    requires { PartsAt text.now parts }
     ensures noted { IfOk result (λ r. NotedOr text.now parts.entry r) }
     ensures refusal { IfOk result (λ r. MatchResult r (λ lists. Fits lists) (λ refusal. RefusalAt text.now refusal)) }
 {
@@ -174,8 +173,7 @@ fn read_documents<'a>(
     ensures refusal { IfOk result (λ o. IfSome o (λ refusal. RefusalAt text.now refusal)) }
     ensures underived { IfOk result (λ o. IfSome o (λ refusal. NoBreach refusal)) }
     ensures derived { length text.now ≤ 2 ^ 30 → IfOk result (λ o. ShapeOr text.now parts.new o) }
-    ensures escapes { IfOk result (λ _. All (IsCharBoundary text.now) parts.new.part.escapes) }
-    ensures documents { IfOk result (λ _. DocumentsAt text.now parts.new.documents) }
+    ensures parts { IfOk result (λ _. PartsAt text.now parts.new) }
 {
     parts.push_unplaced(alloc, NewEvent::StreamStart)?;
     let mut spot = Spot {
@@ -183,7 +181,6 @@ fn read_documents<'a>(
         floor: 0,
         reached: 0,
         may_be_bare: true,
-        is_open: false,
     };
     'documents: loop {
         spot = skip_prefix(alloc, text, spot, parts)?;
@@ -192,7 +189,7 @@ fn read_documents<'a>(
             parts.push_unplaced(alloc, NewEvent::StreamEnd)?;
             return Ok(None);
         }
-        match read_next(alloc, text, spot, parts)? {
+        match parts.read_next(Source { alloc, text }, spot)? {
             Next::Go(next) => spot = next,
             Next::Syntax(offset) => return Ok(Some(Refusal::Syntax(offset))),
             Next::TooDeep(offset) => return Ok(Some(Refusal::TooDeep(offset))),

@@ -5,13 +5,14 @@ ghost use Rattle.std.specs.List.Sorted.{IsNonDecreasingBy};
 ghost use Rattle.yf_events.specs.Event.{event_value};
 ghost use Rattle.yf_emit.specs.Deciding as Deciding;
 ghost use Rattle.yf_emit.specs.Deciding.{given, state};
+ghost use Rattle.yf_emit.specs.EventsGiven.{given_in};
 ghost use Rattle.yf_emit.specs.Forms.{no_form, Decided};
 ghost use Rattle.yf_emit.specs.ImplicitKeys.{TellsImplicit};
 
 use crate::form::forms::Forms;
 use crate::form::measure::{Measure, measure_all};
 use crate::form::measures::Measures;
-use crate::form::places::{Level, count_node, fits, next_place};
+use crate::form::places::{EventFacts, Level, count_node, fits, next_place};
 use crate::style::Style;
 use std::alloc::{AllocError, Global};
 use yf_events::event::Event;
@@ -43,6 +44,14 @@ impl Form {
     };
 }
 
+/// What forms are decided of: a reading, what was measured of it, and the style.
+#[derive(Clone, Copy)]
+struct MeasuredReading<'r, 'a> {
+    reading: &'r Reading<'a>,
+    measures: &'r Measures,
+    style: &'r Style,
+}
+
 /// Whether a node that the event at an index begins holds no node to look at.
 #[inline(always)]
 fn is_whole(measure: &Measure, i: usize, is_kept: bool) -> bool
@@ -63,29 +72,25 @@ fn is_whole(measure: &Measure, i: usize, is_kept: bool) -> bool
 fn node(
     list: &mut Forms,
     stack: &mut Vec<Level>,
-    reading: &Reading,
-    event: &Event,
-    measure: &Measure,
-    style: &Style,
-    i: usize,
+    facts: &EventFacts,
     is_map: bool,
 ) -> Result<usize, AllocError>
-    requires { i < length reading.now.events }
-    ensures { IfOk result (λ done. IsNonDecreasingBy (λ c. c.offset) reading.now.comments
-        → state list.new (reverse stack.new.items) done ≡ Deciding.node
-        (given style.now reading.now.comments reading.now.events) (event_value event.now) i measure.now is_map list.old
-        (reverse stack.old.items)) }
+    requires { facts.now.i < length facts.now.reading.now.events }
+    ensures { IfOk result (λ done. IsNonDecreasingBy (λ c. c.offset) facts.now.reading.now.comments
+        → state list.new (reverse stack.new.items) done ≡ Deciding.node (given_in facts.now) (event_value facts.now.event.now) facts.now.i
+        facts.now.measure.now is_map list.old (reverse stack.old.items)) }
 {
-    let place = next_place(stack.as_slice(), reading, event, i, measure, style);
-    count_node(stack, reading, event, i, measure, style);
-    let is_kept = measure.can_be_kept && fits(place.column, measure.width, style);
+    let measure = facts.measure;
+    let place = next_place(stack.as_slice(), facts);
+    count_node(stack, facts);
+    let is_kept = measure.can_be_kept && fits(place.column, measure.width, facts.style);
     list.push(Form {
         is_kept,
         is_implicit: place.is_implicit,
         key_comment: place.key_comment,
         column: place.entries,
     })?;
-    if is_whole(measure, i, is_kept) {
+    if is_whole(measure, facts.i, is_kept) {
         return Ok(measure.last);
     }
     stack.push(Level {
@@ -93,44 +98,35 @@ fn node(
         column: place.entries,
         key: None,
     })?;
-    Ok(i)
+    Ok(facts.i)
 }
 
 /// Goes past one event, and answers the index of the last one that needs no look.
 #[inline(always)]
-fn pass(
-    list: &mut Forms,
-    stack: &mut Vec<Level>,
-    reading: &Reading,
-    event: &Event,
-    measure: &Measure,
-    style: &Style,
-    i: usize,
-) -> Result<usize, AllocError>
-    requires { i < length reading.now.events }
-    ensures { IfOk result (λ done. IsNonDecreasingBy (λ c. c.offset) reading.now.comments
-        → state list.new (reverse stack.new.items) done ≡ Deciding.past
-        (given style.now reading.now.comments reading.now.events) (event_value event.now) i measure.now list.old
-        (reverse stack.old.items)) }
+fn pass(list: &mut Forms, stack: &mut Vec<Level>, facts: &EventFacts) -> Result<usize, AllocError>
+    requires { facts.now.i < length facts.now.reading.now.events }
+    ensures { IfOk result (λ done. IsNonDecreasingBy (λ c. c.offset) facts.now.reading.now.comments
+        → state list.new (reverse stack.new.items) done ≡ Deciding.past (given_in facts.now) (event_value facts.now.event.now) facts.now.i
+        facts.now.measure.now list.old (reverse stack.old.items)) }
 {
-    match event {
-        Event::Scalar { .. } => node(list, stack, reading, event, measure, style, i, false),
-        Event::Alias { .. } => node(list, stack, reading, event, measure, style, i, false),
-        Event::SeqStart { .. } => node(list, stack, reading, event, measure, style, i, false),
-        Event::MapStart { .. } => node(list, stack, reading, event, measure, style, i, true),
+    match facts.event {
+        Event::Scalar { .. } => node(list, stack, facts, false),
+        Event::Alias { .. } => node(list, stack, facts, false),
+        Event::SeqStart { .. } => node(list, stack, facts, false),
+        Event::MapStart { .. } => node(list, stack, facts, true),
         Event::SeqEnd => {
             list.push(Form::NONE)?;
             let _ = stack.pop();
-            Ok(i)
+            Ok(facts.i)
         }
         Event::MapEnd => {
             list.push(Form::NONE)?;
             let _ = stack.pop();
-            Ok(i)
+            Ok(facts.i)
         }
         _ => {
             list.push(Form::NONE)?;
-            Ok(i)
+            Ok(facts.i)
         }
     }
 }
@@ -140,21 +136,27 @@ fn pass(
 fn advance(
     list: &mut Forms,
     stack: &mut Vec<Level>,
-    reading: &Reading,
+    measured: &MeasuredReading,
     event: &Event,
-    measures: &Measures,
-    style: &Style,
     i: usize,
     done: usize,
 ) -> Result<usize, AllocError>
-    requires { i < length reading.now.events }
-    ensures { IfOk result (λ r. IsNonDecreasingBy (λ c. c.offset) reading.now.comments → length list.old ≡ i
+    requires { i < length measured.now.reading.now.events }
+    ensures { IfOk result (λ r. IsNonDecreasingBy (λ c. c.offset) measured.now.reading.now.comments → length list.old ≡ i
         → state list.new (reverse stack.new.items) r ≡ Deciding.next
-        (given style.now reading.now.comments reading.now.events) measures.now (event_value event.now)
-        (state list.old (reverse stack.old.items) done)) }
+        (given measured.now.style.now measured.now.reading.now.comments measured.now.reading.now.events) measured.now.measures.now
+        (event_value event.now) (state list.old (reverse stack.old.items) done)) }
 {
     if done < i {
-        return pass(list, stack, reading, event, &measures.at(i), style, i);
+        let measure = measured.measures.at(i);
+        let facts = EventFacts {
+            reading: measured.reading,
+            event,
+            i,
+            measure: &measure,
+            style: measured.style,
+        };
+        return pass(list, stack, &facts);
     }
     list.push(Form::NONE)?;
     Ok(done)
@@ -172,11 +174,14 @@ pub fn decide(
     let mut list = Forms::new(alloc);
     let mut stack: Vec<Level> = Vec::new(alloc);
     let mut done = 0;
+    let measured = MeasuredReading {
+        reading,
+        measures,
+        style,
+    };
     for i in 0..reading.len() {
         let event = reading.event(i);
-        done = advance(
-            &mut list, &mut stack, reading, &event, measures, style, i, done,
-        )?;
+        done = advance(&mut list, &mut stack, &measured, &event, i, done)?;
     }
     Ok(list)
 }

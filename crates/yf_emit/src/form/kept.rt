@@ -19,6 +19,7 @@ use std::alloc::{AllocError, Global};
 use yf_events::event::Event;
 use yf_events::reading::Reading;
 use yf_lines::fault::Fault;
+use yf_lines::quotes::Quotes;
 use yf_lines::source_text::Src;
 use yf_props::props::Props;
 
@@ -62,120 +63,104 @@ fn behind(is_alias: bool, expected: Expected) -> Expected
     }
 }
 
-/// Appends what stands before the next node, and goes past that node. The innermost open bracket comes last.
-fn before_node(
-    text: &mut String,
-    stack: &mut Vec<Expected>,
-    is_alias: bool,
-) -> Result<(), AllocError>
-    ensures adds { OnOk result (string_bytes text.new ≡ string_bytes text.old ++ separator_in (reverse stack.old.items)) }
-    ensures next { OnOk result (reverse stack.new.items ≡ behind_in is_alias (reverse stack.old.items)) }
-{
-    match stack.pop() {
-        Some(expected) => {
-            text.push_str(separator(expected))?;
-            stack.push(behind(is_alias, expected))?;
-            Ok(())
+/// What comes next between each two brackets that are open, the innermost last.
+#[derive(Drop)]
+struct Brackets {
+    open: Vec<Expected>,
+}
+
+impl Brackets {
+    /// Appends what stands before the next node, and goes past that node.
+    fn before_node(&mut self, out: &mut String, is_alias: bool) -> Result<(), AllocError>
+        ensures adds { OnOk result (string_bytes out.new ≡ string_bytes out.old ++ separator_in (reverse self.old.open.items)) }
+        ensures next { OnOk result (reverse self.new.open.items ≡ behind_in is_alias (reverse self.old.open.items)) }
+    {
+        match self.open.pop() {
+            Some(expected) => {
+                out.push_str(separator(expected))?;
+                self.open.push(behind(is_alias, expected))?;
+                Ok(())
+            }
+            None => Ok(()),
         }
-        None => Ok(()),
     }
-}
 
-/// Appends what stands before the text of a node that is no alias.
-fn before_text(
-    text: &mut String,
-    stack: &mut Vec<Expected>,
-    props: &Props,
-) -> Result<(), AllocError>
-    ensures adds { OnOk result (string_bytes text.new ≡ string_bytes text.old ++ OneLineRun.before_text (reverse stack.old.items)
-        (props_value props.now)) }
-    ensures next { OnOk result (reverse stack.new.items ≡ behind_in false (reverse stack.old.items)) }
-{
-    before_node(text, stack, false)?;
-    push_props_before(text, props)
-}
-
-/// Appends what stands before a collection's bracket. The properties of the outermost one are left out.
-fn before_bracket(
-    text: &mut String,
-    stack: &mut Vec<Expected>,
-    props: &Props,
-) -> Result<(), AllocError>
-    ensures adds { OnOk result (string_bytes text.new ≡ string_bytes text.old ++ OneLineRun.before_bracket (reverse stack.old.items)
-        (props_value props.now)) }
-    ensures next { OnOk result (reverse stack.new.items ≡ behind_in false (reverse stack.old.items)) }
-{
-    if stack.is_empty() {
-        return Ok(());
+    /// Appends what stands before the text of a node that is no alias.
+    fn before_text(&mut self, out: &mut String, props: &Props) -> Result<(), AllocError>
+        ensures adds { OnOk result (string_bytes out.new ≡ string_bytes out.old ++ OneLineRun.before_text (reverse self.old.open.items)
+            (props_value props.now)) }
+        ensures next { OnOk result (reverse self.new.open.items ≡ behind_in false (reverse self.old.open.items)) }
+    {
+        self.before_node(out, false)?;
+        push_props_before(out, props)
     }
-    before_text(text, stack, props)
-}
 
-/// Begins a collection with these properties, between whose brackets `first` comes first.
-fn open_bracket(
-    text: &mut String,
-    stack: &mut Vec<Expected>,
-    props: &Props,
-    bracket: char,
-    first: Expected,
-) -> Result<(), AllocError>
-    ensures adds { OnOk result (string_bytes text.new ≡ string_bytes text.old ++ (OneLineRun.before_bracket (reverse stack.old.items)
-        (props_value props.now) ++ encode_utf8 bracket)) }
-    ensures next { OnOk result (reverse stack.new.items ≡ first ∷ behind_in false (reverse stack.old.items)) }
-{
-    before_bracket(text, stack, props)?;
-    text.push(bracket)?;
-    stack.push(first)?;
-    Ok(())
-}
+    /// Appends what stands before a collection's bracket. The properties of the outermost one are left out.
+    fn before_bracket(&mut self, out: &mut String, props: &Props) -> Result<(), AllocError>
+        ensures adds { OnOk result (string_bytes out.new ≡ string_bytes out.old ++ OneLineRun.before_bracket (reverse self.old.open.items)
+            (props_value props.now)) }
+        ensures next { OnOk result (reverse self.new.open.items ≡ behind_in false (reverse self.old.open.items)) }
+    {
+        if self.open.is_empty() {
+            return Ok(());
+        }
+        self.before_text(out, props)
+    }
 
-fn close_bracket(
-    text: &mut String,
-    stack: &mut Vec<Expected>,
-    bracket: char,
-) -> Result<(), AllocError>
-    ensures adds { OnOk result (string_bytes text.new ≡ string_bytes text.old ++ encode_utf8 bracket) }
-    ensures next { OnOk result (reverse stack.new.items ≡ outside (reverse stack.old.items)) }
-{
-    let _ = stack.pop();
-    text.push(bracket)
-}
+    /// Begins a collection with these properties, between whose brackets `first` comes first.
+    fn begin(
+        &mut self,
+        out: &mut String,
+        props: &Props,
+        bracket: char,
+        first: Expected,
+    ) -> Result<(), AllocError>
+        ensures adds { OnOk result (string_bytes out.new ≡ string_bytes out.old ++ (OneLineRun.before_bracket (reverse self.old.open.items)
+            (props_value props.now) ++ encode_utf8 bracket)) }
+        ensures next { OnOk result (reverse self.new.open.items ≡ first ∷ behind_in false (reverse self.old.open.items)) }
+    {
+        self.before_bracket(out, props)?;
+        out.push(bracket)?;
+        self.open.push(first)?;
+        Ok(())
+    }
 
-/// Appends what one event adds.
-fn push_event(
-    text: &mut String,
-    stack: &mut Vec<Expected>,
-    event: &Event,
-    style: &Style,
-) -> Result<(), AllocError>
-    ensures adds { OnOk result (string_bytes text.new ≡ string_bytes text.old ++ added style.now.quotes (reverse stack.old.items)
-        (event_value event.now)) }
-    ensures next { OnOk result (reverse stack.new.items ≡ next_open (reverse stack.old.items) (event_value event.now)) }
-{
-    match event {
-        Event::Scalar {
-            props,
-            style: written,
-            text: content,
-        } => {
-            before_text(text, stack, props)?;
-            push_scalar(text, wanted_of(*written, content, style.quotes), content)
-        }
-        Event::Alias { name } => {
-            before_node(text, stack, true)?;
-            text.push('*')?;
-            text.push_str(name)
-        }
-        Event::SeqStart { props, .. } => {
-            open_bracket(text, stack, props, '[', Expected::FirstItem)
-        }
-        Event::MapStart { props, .. } => {
-            open_bracket(text, stack, props, '{', Expected::FirstKey)
-        }
-        Event::SeqEnd => close_bracket(text, stack, ']'),
-        Event::MapEnd => close_bracket(text, stack, '}'),
-        Event::StreamStart | Event::StreamEnd | Event::DocStart { .. } | Event::DocEnd { .. } => {
-            Ok(())
+    /// Ends the innermost collection.
+    fn close(&mut self, out: &mut String, bracket: char) -> Result<(), AllocError>
+        ensures adds { OnOk result (string_bytes out.new ≡ string_bytes out.old ++ encode_utf8 bracket) }
+        ensures next { OnOk result (reverse self.new.open.items ≡ outside (reverse self.old.open.items)) }
+    {
+        let _ = self.open.pop();
+        out.push(bracket)
+    }
+
+    /// Appends what one event adds.
+    fn push_event(
+        &mut self,
+        out: &mut String,
+        event: &Event,
+        quotes: Quotes,
+    ) -> Result<(), AllocError>
+        ensures adds { OnOk result (string_bytes out.new ≡ string_bytes out.old ++ added quotes (reverse self.old.open.items)
+            (event_value event.now)) }
+        ensures next { OnOk result (reverse self.new.open.items ≡ next_open (reverse self.old.open.items) (event_value event.now)) }
+    {
+        match event {
+            Event::Scalar { props, style, text } => {
+                self.before_text(out, props)?;
+                push_scalar(out, wanted_of(*style, text, quotes), text)
+            }
+            Event::Alias { name } => {
+                self.before_node(out, true)?;
+                out.push('*')?;
+                out.push_str(name)
+            }
+            Event::SeqStart { props, .. } => self.begin(out, props, '[', Expected::FirstItem),
+            Event::MapStart { props, .. } => self.begin(out, props, '{', Expected::FirstKey),
+            Event::SeqEnd => self.close(out, ']'),
+            Event::MapEnd => self.close(out, '}'),
+            Event::StreamStart | Event::StreamEnd | Event::DocStart { .. } | Event::DocEnd { .. } =>
+                Ok(()),
         }
     }
 }
@@ -183,20 +168,20 @@ fn push_event(
 /// Appends what the events add from the one index to the other.
 fn push_between(
     text: &mut String,
-    stack: &mut Vec<Expected>,
+    brackets: &mut Brackets,
     reading: &Reading,
     first: usize,
     last: usize,
     style: &Style,
 ) -> Result<(), AllocError>
-    ensures { OnOk result (string_bytes text.new ≡ string_bytes text.old ++ run style.now.quotes (reverse stack.old.items)
+    ensures { OnOk result (string_bytes text.new ≡ string_bytes text.old ++ run style.now.quotes (reverse brackets.old.open.items)
         (between first last reading.now.events)) }
 {
     for k in first..reading.len() {
         if last < k {
             break;
         }
-        push_event(text, stack, &reading.event(k), style)?;
+        brackets.push_event(text, &reading.event(k), style.quotes)?;
     }
     Ok(())
 }
@@ -236,8 +221,10 @@ pub fn push_kept(
         (between first last reading.now.events)) }
     ensures kept { OnOk result (AddsKept reading.now.events style.now first last (string_bytes text.old) (string_bytes text.new)) }
 {
-    let mut stack = Vec::new(alloc);
-    push_between(text, &mut stack, reading, first, last, style)?;
+    let mut brackets = Brackets {
+        open: Vec::new(alloc),
+    };
+    push_between(text, &mut brackets, reading, first, last, style)?;
     Ok(())
 }
 

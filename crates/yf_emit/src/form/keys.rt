@@ -5,7 +5,7 @@ ghost use Rattle.yf_events.specs.Event.{event_value};
 ghost use Rattle.yf_emit.specs.Deciding as Deciding;
 
 use crate::form::measure::Measure;
-use crate::form::places::fits;
+use crate::form::places::{EventFacts, fits};
 use crate::style::Style;
 use yf_events::event::{Event, ScalarStyle};
 use yf_events::reading::Reading;
@@ -105,25 +105,20 @@ fn key_width(event: &Event, is_leaf: bool, width: Option<usize>) -> usize
     }
 }
 
-/// The key that the event at an index begins.
-pub(crate) fn key_of(
-    reading: &Reading,
-    event: &Event,
-    i: usize,
-    measure: &Measure,
-    is_implicit: bool,
-) -> Key
-    requires { i < length reading.now.events }
+/// The key that an event begins.
+pub(crate) fn key_of(facts: &EventFacts, is_implicit: bool) -> Key
+    requires { facts.now.i < length facts.now.reading.now.events }
     ensures { result ≡ record {
       is_implicit = is_implicit;
-      width = Deciding.key_width measure.now.width (Deciding.colon_width (event_value event.now)
-          (Deciding.is_leaf_at i measure.now.first_leaf));
-      start = Deciding.key_start reading.now.events i measure.now.last_leaf;
+      width = Deciding.key_width facts.now.measure.now.width (Deciding.colon_width (event_value facts.now.event.now)
+          (Deciding.is_leaf_at facts.now.i facts.now.measure.now.first_leaf));
+      start = Deciding.key_start facts.now.reading.now.events facts.now.i facts.now.measure.now.last_leaf;
     } }
 {
+    let measure = facts.measure;
     Key {
         is_implicit,
-        width: key_width(event, measure.is_leaf(i), measure.width),
-        start: key_start(reading, i, measure.last_leaf),
+        width: key_width(facts.event, measure.is_leaf(facts.i), measure.width),
+        start: key_start(facts.reading, facts.i, measure.last_leaf),
     }
 }

@@ -4,7 +4,7 @@ ghost use Rattle.std.specs.List.Sorted.{IsNonDecreasingBy};
 ghost use Rattle.yf_comments.specs.Comment.{comment_value};
 ghost use Rattle.yf_events.specs.Event.{event_value};
 ghost use Rattle.yf_emit.specs.Deciding as Deciding;
-ghost use Rattle.yf_emit.specs.Deciding.{given};
+ghost use Rattle.yf_emit.specs.EventsGiven.{given_in};
 
 use crate::form::comments_before::first_between;
 use crate::form::keys::{Key, is_implicit_key, key_of, leaf_start};
@@ -13,6 +13,16 @@ use crate::style::Style;
 use yf_comments::comment::Comment;
 use yf_events::event::Event;
 use yf_events::reading::Reading;
+
+/// What is known of an event: the reading in which it stands, at which index, what was measured of the node that it begins, and the style.
+#[derive(Clone, Copy)]
+pub(crate) struct EventFacts<'r, 'a, 'e> {
+    pub(crate) reading: &'r Reading<'a>,
+    pub(crate) event: &'r Event<'e>,
+    pub(crate) i: usize,
+    pub(crate) measure: &'r Measure,
+    pub(crate) style: &'r Style,
+}
 
 /// A block collection whose end has not come yet.
 #[derive(Clone, Copy)]
@@ -126,28 +136,19 @@ fn comment_if(
 
 /// Where the value of an implicit key stands.
 #[inline(always)]
-fn value_place(
-    reading: &Reading,
-    event: &Event,
-    i: usize,
-    measure: &Measure,
-    key: &Key,
-    column: usize,
-    style: &Style,
-) -> Place
-    ensures { IsNonDecreasingBy (λ c. c.offset) reading.now.comments
-        → result ≡ Deciding.value_place (given style.now reading.now.comments reading.now.events)
-        (event_value event.now) i measure.now key.now column }
+fn value_place(facts: &EventFacts, key: &Key, column: usize) -> Place
+    ensures { IsNonDecreasingBy (λ c. c.offset) facts.now.reading.now.comments
+        → result ≡ Deciding.value_place (given_in facts.now) (event_value facts.now.event.now) facts.now.i facts.now.measure.now key.now column }
 {
-    let entries = value_entries(event, column, style);
-    match trailing_comment(reading, key.start, i, measure) {
+    let entries = value_entries(facts.event, column, facts.style);
+    match trailing_comment(facts.reading, key.start, facts.i, facts.measure) {
         Some(comment) => {
-            let next = column.saturating_add(style.indent);
+            let next = column.saturating_add(facts.style.indent);
             Place {
                 column: next,
                 entries,
                 is_implicit: false,
-                key_comment: comment_if(comment, i, measure, next, style),
+                key_comment: comment_if(comment, facts.i, facts.measure, next, facts.style),
             }
         }
         None => Place {
@@ -175,93 +176,65 @@ fn key_place(column: usize, is_implicit: bool, style: &Style) -> Place
 
 /// Where a key or a value stands.
 #[inline(always)]
-fn place_in_map(
-    reading: &Reading,
-    event: &Event,
-    i: usize,
-    measure: &Measure,
-    level: &Level,
-    style: &Style,
-) -> Place
-    ensures { IsNonDecreasingBy (λ c. c.offset) reading.now.comments
-        → result ≡ Deciding.place_in_map (given style.now reading.now.comments reading.now.events)
-        (event_value event.now) i measure.now level.now.column level.now.key }
+fn place_in_map(facts: &EventFacts, level: &Level) -> Place
+    ensures { IsNonDecreasingBy (λ c. c.offset) facts.now.reading.now.comments
+        → result ≡ Deciding.place_in_map (given_in facts.now) (event_value facts.now.event.now) facts.now.i facts.now.measure.now
+        level.now.column level.now.key }
 {
     match level.key {
         Some(key) => {
             if key.is_implicit {
-                return value_place(reading, event, i, measure, &key, level.column, style);
+                return value_place(facts, &key, level.column);
             }
-            Place::at(level.column.saturating_add(style.indent))
+            Place::at(level.column.saturating_add(facts.style.indent))
         }
         None => {
-            let is_implicit = is_implicit_key(measure, level.column, style);
-            key_place(level.column, is_implicit, style)
+            let is_implicit = is_implicit_key(facts.measure, level.column, facts.style);
+            key_place(level.column, is_implicit, facts.style)
         }
     }
 }
 
 /// The key that waits for its value after a key or a value.
 #[inline(always)]
-fn key_behind(
-    reading: &Reading,
-    event: &Event,
-    i: usize,
-    measure: &Measure,
-    level: &Level,
-    style: &Style,
-) -> Option<Key>
-    requires { i < length reading.now.events }
-    ensures { result ≡ Deciding.key_behind (given style.now reading.now.comments reading.now.events)
-        (event_value event.now) i measure.now level.now.column level.now.key }
+fn key_behind(facts: &EventFacts, level: &Level) -> Option<Key>
+    requires { facts.now.i < length facts.now.reading.now.events }
+    ensures { result ≡ Deciding.key_behind (given_in facts.now) (event_value facts.now.event.now) facts.now.i facts.now.measure.now
+        level.now.column level.now.key }
 {
     match level.key {
         Some(_) => None,
         None => {
-            let is_implicit = is_implicit_key(measure, level.column, style);
-            Some(key_of(reading, event, i, measure, is_implicit))
+            let is_implicit = is_implicit_key(facts.measure, level.column, facts.style);
+            Some(key_of(facts, is_implicit))
         }
     }
 }
 
 /// Where the next node stands that holds no other.
 #[inline(always)]
-pub(crate) fn next_place(
-    stack: &[Level],
-    reading: &Reading,
-    event: &Event,
-    i: usize,
-    measure: &Measure,
-    style: &Style,
-) -> Place
-    ensures { IsNonDecreasingBy (λ c. c.offset) reading.now.comments
-        → result ≡ Deciding.next_place (given style.now reading.now.comments reading.now.events)
-        (event_value event.now) i measure.now (reverse stack.now) }
+pub(crate) fn next_place(stack: &[Level], facts: &EventFacts) -> Place
+    ensures { IsNonDecreasingBy (λ c. c.offset) facts.now.reading.now.comments
+        → result ≡ Deciding.next_place (given_in facts.now) (event_value facts.now.event.now) facts.now.i facts.now.measure.now
+        (reverse stack.now) }
 {
     let count = stack.len();
     if count > 0 {
         let level = stack[count - 1];
         if level.is_map {
-            return place_in_map(reading, event, i, measure, &level, style);
+            return place_in_map(facts, &level);
         }
-        return Place::at(level.column.saturating_add(style.indent));
+        return Place::at(level.column.saturating_add(facts.style.indent));
     }
     Place::at(0)
 }
 
 /// Notes in the innermost open collection that a node is a key or a value.
 #[inline(always)]
-pub(crate) fn count_node(
-    stack: &mut Vec<Level>,
-    reading: &Reading,
-    event: &Event,
-    i: usize,
-    measure: &Measure,
-    style: &Style,
-)
-    requires { i < length reading.now.events }
-    ensures { reverse stack.new.items ≡ Deciding.next_stack (given style.now reading.now.comments reading.now.events)
-        (event_value event.now) i measure.now (reverse stack.old.items) }
+pub(crate) fn count_node(stack: &mut Vec<Level>, facts: &EventFacts)
+    requires { facts.now.i < length facts.now.reading.now.events }
+    ensures { reverse stack.new.items ≡ Deciding.next_stack (given_in facts.now) (event_value facts.now.event.now) facts.now.i
+        facts.now.measure.now (reverse stack.old.items) }
 {
     let count = stack.len();
     if count > 0 {
@@ -270,7 +243,7 @@ pub(crate) fn count_node(
             stack[count - 1] = Level {
                 is_map: true,
                 column: level.column,
-                key: key_behind(reading, event, i, measure, &level, style),
+                key: key_behind(facts, &level),
             };
         }
     }

@@ -31,20 +31,6 @@ fn copied_slices<'a>(alloc: Global, parts: &'a [&str]) -> Result<Slices<'a>, All
     Ok(copy)
 }
 
-fn push_directive<'a>(
-    copy: &mut Directives<'a>,
-    alloc: Global,
-    directive: &'a Directive<'_>,
-) -> Result<(), AllocError>
-    ensures { IfOk result (λ _. copy.new ≡ copy.old ++ directive.now ∷ []) }
-{
-    let words = copied_slices(alloc, directive.words.as_slice())?;
-    copy.push(Directive {
-        offset: directive.offset,
-        words,
-    })
-}
-
 fn copied_directives<'a>(
     alloc: Global,
     directives: &'a [Directive<'_>],
@@ -53,7 +39,11 @@ fn copied_directives<'a>(
 {
     let mut copy = Directives::new(alloc);
     for directive in directives {
-        push_directive(&mut copy, alloc, directive)?;
+        let words = copied_slices(alloc, directive.words.as_slice())?;
+        copy.push(Directive {
+            offset: directive.offset,
+            words,
+        })?;
     }
     Ok(copy)
 }

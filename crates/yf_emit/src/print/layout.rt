@@ -6,19 +6,20 @@ ghost use Rattle.yf_events.specs.Event.{event_value, view_value};
 ghost use Rattle.yf_emit.specs.Forms.{no_form};
 ghost use Rattle.yf_emit.specs.Measures.{no_measure};
 ghost use Rattle.yf_emit.specs.Printing as Printing;
-ghost use Rattle.yf_emit.specs.Printing.{work, work_of};
+ghost use Rattle.yf_emit.specs.Pages.{work_on};
+ghost use Rattle.yf_emit.specs.Printing.{work_of};
 ghost use Rattle.yf_emit.specs.Printers.{state_of};
 ghost use Rattle.yf_emit.specs.Printout.{IsPrinted};
 ghost use Rattle.yf_emit.specs.Trailing.{all_found};
 
-use crate::form::decide::{Form, decide};
+use crate::form::decide::decide;
 use crate::form::forms::Forms;
-use crate::form::measure::{Measure, measure_normal};
+use crate::form::measure::measure_normal;
 use crate::form::measures::Measures;
 use crate::print::leaves::push_leaf;
 use crate::print::output::Output;
 use crate::print::printer::{
-    Awaited, Level, Plan, Spot, begin_collection, next_document, next_spot,
+    Awaited, Level, Node, Page, Plan, Spot, begin_collection, next_document, next_spot,
 };
 use crate::print::trails::find_trails;
 use crate::style::Style;
@@ -42,157 +43,99 @@ pub(crate) struct Printer {
 impl Printer {
     /// Prints a leaf, an empty node or a flow collection that is kept.
     #[inline(always)]
-    fn leaf(
-        &mut self,
-        alloc: Global,
-        reading: &Reading,
-        plan: &Plan,
-        i: usize,
-        measure: &Measure,
-        form: &Form,
-        view: &View,
-        spot: Spot,
-    ) -> Result<(), AllocError>
-        requires { i < length reading.now.events }
-        ensures { OnOk result (state_of self.new ≡ Printing.leaf_at (work reading.now plan.now) i measure.now form.now
-            (view_value view.now) spot (state_of self.old)) }
+    fn leaf(&mut self, page: &Page, node: &Node, spot: Spot) -> Result<(), AllocError>
+        requires { node.now.i < length page.now.reading.now.events }
+        ensures { OnOk result (state_of self.new ≡ Printing.leaf_at (work_on page.now) node.now.i node.now.measure.now node.now.form.now
+            (view_value node.now.view.now) spot (state_of self.old)) }
     {
-        push_leaf(
-            alloc,
-            &mut self.output,
-            reading,
-            plan,
-            i,
-            measure,
-            form,
-            view,
-            spot,
-        )?;
-        self.done = measure.last;
+        push_leaf(&mut self.output, page, node, spot)?;
+        self.done = node.measure.last;
         Ok(())
     }
 
     /// Begins a block collection, or prints a collection that is kept or empty.
     fn collection(
         &mut self,
-        alloc: Global,
-        reading: &Reading,
-        plan: &Plan,
-        i: usize,
-        measure: &Measure,
-        form: &Form,
-        view: &View,
+        page: &Page,
+        node: &Node,
         spot: Spot,
         props: &Props,
         first: Awaited,
     ) -> Result<(), AllocError>
-        requires { i < length reading.now.events }
-        ensures { OnOk result (state_of self.new ≡ Printing.collection_if (Printing.is_whole i measure.now form.now)
-            (work reading.now plan.now) i measure.now form.now (view_value view.now) (props_value props.now) first spot
-            (state_of self.old)) }
+        requires { node.now.i < length page.now.reading.now.events }
+        ensures { OnOk result (state_of self.new ≡ Printing.collection_if (Printing.is_whole node.now.i node.now.measure.now node.now.form.now)
+            (work_on page.now) node.now.i node.now.measure.now node.now.form.now (view_value node.now.view.now) (props_value props.now)
+            first spot (state_of self.old)) }
     {
-        if form.is_kept || measure.is_leaf(i) {
-            return self.leaf(alloc, reading, plan, i, measure, form, view, spot);
+        if node.form.is_kept || node.measure.is_leaf(node.i) {
+            return self.leaf(page, node, spot);
         }
         begin_collection(
             &mut self.output,
             &mut self.levels,
-            reading,
-            plan,
-            form,
+            page,
+            node.form,
             spot,
             props,
             first,
         )?;
-        self.done = i;
+        self.done = node.i;
         Ok(())
     }
 
     /// Prints the node that the event begins, or begins it where it is a block collection.
-    fn node(
-        &mut self,
-        alloc: Global,
-        reading: &Reading,
-        plan: &Plan,
-        i: usize,
-        measure: &Measure,
-        form: &Form,
-        view: &View,
-    ) -> Result<(), AllocError>
-        requires { i < length reading.now.events }
-        ensures { OnOk result (state_of self.new ≡ Printing.node (work reading.now plan.now) i measure.now form.now
-            (view_value view.now) (state_of self.old)) }
+    fn node(&mut self, page: &Page, node: &Node) -> Result<(), AllocError>
+        requires { node.now.i < length page.now.reading.now.events }
+        ensures { OnOk result (state_of self.new ≡ Printing.node (work_on page.now) node.now.i node.now.measure.now node.now.form.now
+            (view_value node.now.view.now) (state_of self.old)) }
     {
         let spot = next_spot(
             &mut self.output,
             &mut self.levels,
-            reading,
-            plan,
-            form,
-            view.entry,
+            page,
+            node.form,
+            node.view.entry,
         )?;
-        match &view.event {
-            Event::SeqStart { props, .. } => {
-                self.collection(
-                    alloc,
-                    reading,
-                    plan,
-                    i,
-                    measure,
-                    form,
-                    view,
-                    spot,
-                    props,
-                    Awaited::Item,
-                )
-            }
-            Event::MapStart { props, .. } => {
-                self.collection(
-                    alloc,
-                    reading,
-                    plan,
-                    i,
-                    measure,
-                    form,
-                    view,
-                    spot,
-                    props,
-                    Awaited::Key,
-                )
-            }
-            _ => self.leaf(alloc, reading, plan, i, measure, form, view, spot),
+        match &node.view.event {
+            Event::SeqStart { props, .. } => self.collection(
+                page,
+                node,
+                spot,
+                props,
+                Awaited::Item,
+            ),
+            Event::MapStart { props, .. } => self.collection(page, node, spot, props, Awaited::Key),
+            _ => self.leaf(page, node, spot),
         }
     }
 
     /// Begins the next document.
-    fn document(&mut self, reading: &Reading, plan: &Plan) -> Result<(), AllocError>
-        ensures { OnOk result (state_of self.new ≡ Printing.document (work reading.now plan.now) (state_of self.old)) }
+    fn document(&mut self, page: &Page) -> Result<(), AllocError>
+        ensures { OnOk result (state_of self.new ≡ Printing.document (work_on page.now) (state_of self.old)) }
     {
-        self.documents = next_document(&mut self.output, reading, plan, self.documents)?;
+        self.documents = next_document(&mut self.output, page, self.documents)?;
         Ok(())
     }
 
     /// Goes past one event.
     #[inline(always)]
-    fn event(
-        &mut self,
-        alloc: Global,
-        reading: &Reading,
-        plan: &Plan,
-        i: usize,
-        view: &View,
-    ) -> Result<(), AllocError>
-        requires { i < length reading.now.events }
-        ensures { OnOk result (state_of self.new ≡ Printing.looked (work reading.now plan.now) i (view_value view.now)
-            (state_of self.old)) }
+    fn event(&mut self, page: &Page, i: usize, view: &View) -> Result<(), AllocError>
+        requires { i < length page.now.reading.now.events }
+        ensures { OnOk result (state_of self.new ≡ Printing.looked (work_on page.now) i (view_value view.now) (state_of self.old)) }
     {
-        let measure = plan.measures.at(i);
-        let form = plan.forms.at(i);
+        let measure = page.plan.measures.at(i);
+        let form = page.plan.forms.at(i);
+        let node = Node {
+            i,
+            view,
+            measure: &measure,
+            form: &form,
+        };
         match &view.event {
             Event::StreamStart => Ok(()),
             Event::StreamEnd => Ok(()),
             Event::DocEnd { .. } => Ok(()),
-            Event::DocStart { .. } => self.document(reading, plan),
+            Event::DocStart { .. } => self.document(page),
             Event::SeqEnd => {
                 let _ = self.levels.pop();
                 Ok(())
@@ -201,48 +144,41 @@ impl Printer {
                 let _ = self.levels.pop();
                 Ok(())
             }
-            Event::Scalar { .. } => self.node(alloc, reading, plan, i, &measure, &form, view),
-            Event::Alias { .. } => self.node(alloc, reading, plan, i, &measure, &form, view),
-            Event::SeqStart { .. } => self.node(alloc, reading, plan, i, &measure, &form, view),
-            Event::MapStart { .. } => self.node(alloc, reading, plan, i, &measure, &form, view),
+            Event::Scalar { .. } => self.node(page, &node),
+            Event::Alias { .. } => self.node(page, &node),
+            Event::SeqStart { .. } => self.node(page, &node),
+            Event::MapStart { .. } => self.node(page, &node),
         }
     }
 
     /// Goes past one event, which gets no look where it stands within a node that is printed.
     #[inline(always)]
-    fn advance(
-        &mut self,
-        alloc: Global,
-        reading: &Reading,
-        plan: &Plan,
-        i: usize,
-        view: &View,
-    ) -> Result<(), AllocError>
-        requires { i < length reading.now.events }
-        ensures { OnOk result (state_of self.new ≡ Printing.next (work reading.now plan.now) i (view_value view.now) (state_of self.old)) }
+    fn advance(&mut self, page: &Page, i: usize, view: &View) -> Result<(), AllocError>
+        requires { i < length page.now.reading.now.events }
+        ensures { OnOk result (state_of self.new ≡ Printing.next (work_on page.now) i (view_value view.now) (state_of self.old)) }
     {
         if self.done < i {
-            return self.event(alloc, reading, plan, i, view);
+            return self.event(page, i, view);
         }
         Ok(())
     }
 }
 
-/// The text that is printed of a reading by a plan.
-fn text_of(alloc: Global, reading: &Reading, plan: &Plan) -> Result<String, AllocError>
-    ensures { IfOk result (λ text. string_bytes text ≡ Printing.printed (work reading.now plan.now)) }
+/// The text that is printed of a page.
+fn text_of(page: &Page) -> Result<String, AllocError>
+    ensures { IfOk result (λ text. string_bytes text ≡ Printing.printed (work_on page.now)) }
 {
     let mut printer = Printer {
-        output: Output::new(alloc),
-        levels: Vec::new(alloc),
+        output: Output::new(page.alloc),
+        levels: Vec::new(page.alloc),
         documents: 0,
         done: 0,
     };
-    for i in 0..reading.len() {
-        printer.advance(alloc, reading, plan, i, &reading.lists().events.at(i))?;
+    for i in 0..page.reading.len() {
+        printer.advance(page, i, &page.reading.lists().events.at(i))?;
     }
     let Printer { output, .. } = printer;
-    output.finish(reading, &plan.trails)
+    output.finish(page.reading, &page.plan.trails)
 }
 
 /// The text that is printed of a reading by what was measured of it and by the forms of its nodes.
@@ -263,7 +199,11 @@ pub(crate) fn layout_by(
         trails,
         style: *style,
     };
-    text_of(alloc, reading, &plan)
+    text_of(&Page {
+        alloc,
+        reading,
+        plan: &plan,
+    })
 }
 
 /// The text of a normal reading in the house style: of the normal form of a text's reading, its layout; of any other reading, what one

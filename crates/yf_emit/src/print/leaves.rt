@@ -4,59 +4,51 @@ ghost use Rattle.std.specs.Prelude.{◌<◌, ◌≡◌, ◌+◌, drop, length, m
 ghost use Rattle.yf_props.specs.Props.{props_value};
 ghost use Rattle.yf_events.specs.Event.{event_value, view_value};
 ghost use Rattle.yf_emit.specs.Drafts.{draft};
+ghost use Rattle.yf_emit.specs.Pages.{work_on};
 ghost use Rattle.yf_emit.specs.Printing as Printing;
-ghost use Rattle.yf_emit.specs.Printing.{event_noted, events_noted, leaf_noted_if, lines_column, node_noted, with_kept, with_node, work};
+ghost use Rattle.yf_emit.specs.Printing.{event_noted, events_noted, leaf_noted_if, lines_column, node_noted, with_kept, with_node};
 
 use crate::form::decide::Form;
 use crate::form::kept::push_kept;
 use crate::form::keys::has_space;
-use crate::form::measure::Measure;
 use crate::print::output::Output;
-use crate::print::printer::{Plan, Spot};
+use crate::print::printer::{Node, Page, Plan, Spot};
 use crate::text::block::{is_kept_whole, push_folded, push_header, push_literal, push_spaces};
 use crate::text::written::{push_props, push_props_before, push_scalar};
-use std::alloc::{AllocError, Global};
+use std::alloc::AllocError;
 use yf_events::event::{Event, ScalarStyle, Span, View};
-use yf_events::reading::Reading;
 use yf_props::props::Props;
 
 /// Prints what stands before the value of a key without `?`, in an entry at that column.
 fn before_value(
     output: &mut Output,
-    reading: &Reading,
-    plan: &Plan,
+    page: &Page,
     comment: Option<usize>,
     column: usize,
 ) -> Result<(), AllocError>
-    ensures { OnOk result (draft output.new ≡ Printing.before_value (work reading.now plan.now) comment column (draft output.old)) }
+    ensures { OnOk result (draft output.new ≡ Printing.before_value (work_on page.now) comment column (draft output.old)) }
 {
     if comment.is_none() {
         return output.line.push(' ');
     }
-    output.add_key_trail(reading, comment)?;
+    output.add_key_trail(page.reading, comment)?;
     output.forbid_blank();
     output.open_line(
-        reading,
-        &plan.trails,
-        column.saturating_add(plan.style.indent),
+        page.reading,
+        &page.plan.trails,
+        column.saturating_add(page.plan.style.indent),
     )
 }
 
 /// Prints what stands between the line so far and a node that has characters.
-fn before_text(
-    output: &mut Output,
-    reading: &Reading,
-    plan: &Plan,
-    form: &Form,
-    spot: Spot,
-) -> Result<(), AllocError>
-    ensures { OnOk result (draft output.new ≡ Printing.before_text (work reading.now plan.now) form.now spot (draft output.old)) }
+fn before_text(output: &mut Output, page: &Page, form: &Form, spot: Spot) -> Result<(), AllocError>
+    ensures { OnOk result (draft output.new ≡ Printing.before_text (work_on page.now) form.now spot (draft output.old)) }
 {
     match spot {
-        Spot::Root => output.open_line(reading, &plan.trails, 0),
-        Spot::Behind(_) => push_spaces(&mut output.line, plan.style.indent.saturating_sub(1)),
+        Spot::Root => output.open_line(page.reading, &page.plan.trails, 0),
+        Spot::Behind(_) => push_spaces(&mut output.line, page.plan.style.indent.saturating_sub(1)),
         Spot::Key => Ok(()),
-        Spot::Value(column) => before_value(output, reading, plan, form.key_comment, column),
+        Spot::Value(column) => before_value(output, page, form.key_comment, column),
     }
 }
 
@@ -128,43 +120,48 @@ fn push_scalar_node(
 
 /// Prints a flow collection that is kept, or an empty one.
 fn push_collection(
-    alloc: Global,
     output: &mut Output,
-    reading: &Reading,
-    plan: &Plan,
-    first: usize,
-    last: usize,
+    page: &Page,
+    node: &Node,
     props: &Props,
 ) -> Result<(), AllocError>
-    ensures { OnOk result (draft output.new ≡ with_kept (work reading.now plan.now) first last (props_value props.now) (draft output.old)) }
+    ensures { OnOk result (draft output.new ≡ with_kept (work_on page.now) node.now.i node.now.measure.now.last (props_value props.now)
+        (draft output.old)) }
 {
     push_props_before(&mut output.line, props)?;
-    push_kept(alloc, &mut output.line, reading, first, last, &plan.style)
+    push_kept(
+        page.alloc,
+        &mut output.line,
+        page.reading,
+        node.i,
+        node.measure.last,
+        &page.plan.style,
+    )
 }
 
 /// Prints the text of a node that goes to the line.
-fn push_node(
-    alloc: Global,
-    output: &mut Output,
-    reading: &Reading,
-    plan: &Plan,
-    i: usize,
-    last: usize,
-    view: &View,
-    spot: Spot,
-) -> Result<(), AllocError>
-    ensures { OnOk result (draft output.new ≡ with_node (work reading.now plan.now) i last (view_value view.now) spot (draft output.old)) }
+fn push_node(output: &mut Output, page: &Page, node: &Node, spot: Spot) -> Result<(), AllocError>
+    ensures { OnOk result (draft output.new ≡ with_node (work_on page.now) node.now.i node.now.measure.now.last
+        (view_value node.now.view.now) spot (draft output.old)) }
 {
-    match &view.event {
+    match &node.view.event {
         Event::Scalar { props, style, text } => {
-            push_scalar_node(output, plan, spot, props, *style, text, view.folded)
+            push_scalar_node(
+                output,
+                page.plan,
+                spot,
+                props,
+                *style,
+                text,
+                node.view.folded,
+            )
         }
         Event::Alias { name } => {
             output.line.push('*')?;
             output.line.push_str(name)
         }
         Event::SeqStart { props, .. } | Event::MapStart { props, .. } => {
-            push_collection(alloc, output, reading, plan, i, last, props)
+            push_collection(output, page, node, props)
         }
         _ => Ok(()),
     }
@@ -174,57 +171,49 @@ fn push_node(
 #[inline(always)]
 fn note_leaf(
     output: &mut Output,
-    reading: &Reading,
-    plan: &Plan,
+    page: &Page,
     i: usize,
     span: Option<Span>,
 ) -> Result<(), AllocError>
-    ensures { OnOk result (draft output.new ≡ leaf_noted_if (Printing.is_leaf (work reading.now plan.now) i)
-        (work reading.now plan.now) i span (draft output.old)) }
+    ensures { OnOk result (draft output.new ≡ leaf_noted_if (Printing.is_leaf (work_on page.now) i) (work_on page.now) i span
+        (draft output.old)) }
 {
-    if plan.measures.at(i).is_leaf(i) {
+    if page.plan.measures.at(i).is_leaf(i) {
         if let Some(span) = span {
-            output.meet(reading, span.start);
-            output.add_trail(reading, plan.trails.of_leaf(i))?;
+            output.meet(page.reading, span.start);
+            output.add_trail(page.reading, page.plan.trails.of_leaf(i))?;
         }
     }
     Ok(())
 }
 
 /// Goes past an entry and a leaf that the event at an index begins.
-fn note_event(
-    output: &mut Output,
-    reading: &Reading,
-    plan: &Plan,
-    i: usize,
-    view: &View,
-) -> Result<(), AllocError>
-    ensures { OnOk result (draft output.new ≡ event_noted (work reading.now plan.now) i (view_value view.now) (draft output.old)) }
+fn note_event(output: &mut Output, page: &Page, i: usize, view: &View) -> Result<(), AllocError>
+    ensures { OnOk result (draft output.new ≡ event_noted (work_on page.now) i (view_value view.now) (draft output.old)) }
 {
     if let Some(entry) = view.entry {
-        output.meet(reading, entry.start);
+        output.meet(page.reading, entry.start);
     }
-    note_leaf(output, reading, plan, i, view.span)
+    note_leaf(output, page, i, view.span)
 }
 
 /// Goes past the entries and leaves within a node that is printed, whose events stand from the one index to the other.
 fn note_within(
     output: &mut Output,
-    reading: &Reading,
-    plan: &Plan,
+    page: &Page,
     first: usize,
     last: usize,
 ) -> Result<(), AllocError>
-    requires { first < length reading.now.events }
-    ensures { OnOk result (draft output.new ≡ events_noted (work reading.now plan.now) last (first + 1)
-        (drop (first + 1) reading.now.events) (draft output.old)) }
+    requires { first < length page.now.reading.now.events }
+    ensures { OnOk result (draft output.new ≡ events_noted (work_on page.now) last (first + 1)
+        (drop (first + 1) page.now.reading.now.events) (draft output.old)) }
 {
-    let end = reading.len();
+    let end = page.reading.len();
     for k in first + 1..end {
         if last < k {
             return Ok(());
         }
-        note_event(output, reading, plan, k, &reading.lists().events.at(k))?;
+        note_event(output, page, k, &page.reading.lists().events.at(k))?;
     }
     Ok(())
 }
@@ -246,25 +235,25 @@ fn push_colon(output: &mut Output, spot: Spot, with_space: bool) -> Result<(), A
 
 /// Prints a leaf, an empty node or a flow collection that is kept, and the `:` after a key.
 pub(crate) fn push_leaf(
-    alloc: Global,
     output: &mut Output,
-    reading: &Reading,
-    plan: &Plan,
-    i: usize,
-    measure: &Measure,
-    form: &Form,
-    view: &View,
+    page: &Page,
+    node: &Node,
     spot: Spot,
 ) -> Result<(), AllocError>
-    requires { i < length reading.now.events }
-    ensures { OnOk result (draft output.new ≡ Printing.leaf (work reading.now plan.now) i measure.now form.now
-        (view_value view.now) spot (draft output.old)) }
+    requires { node.now.i < length page.now.reading.now.events }
+    ensures { OnOk result (draft output.new ≡ Printing.leaf (work_on page.now) node.now.i node.now.measure.now node.now.form.now
+        (view_value node.now.view.now) spot (draft output.old)) }
 {
-    if measure.first_leaf.is_some() {
-        before_text(output, reading, plan, form, spot)?;
-        push_node(alloc, output, reading, plan, i, measure.last, view, spot)?;
-        note_leaf(output, reading, plan, i, view.span)?;
-        note_within(output, reading, plan, i, measure.last)?;
+    let i = node.i;
+    if node.measure.first_leaf.is_some() {
+        before_text(output, page, node.form, spot)?;
+        push_node(output, page, node, spot)?;
+        note_leaf(output, page, i, node.view.span)?;
+        note_within(output, page, i, node.measure.last)?;
     }
-    push_colon(output, spot, has_space(&view.event, measure.is_leaf(i)))
+    push_colon(
+        output,
+        spot,
+        has_space(&node.view.event, node.measure.is_leaf(i)),
+    )
 }

@@ -6,21 +6,23 @@ ghost use Rattle.yf_props.specs.Props.{props_value};
 ghost use Rattle.yf_events.specs.Event.{view_value};
 ghost use Rattle.yf_emit.specs.Drafts.{draft};
 ghost use Rattle.yf_emit.specs.Printing as Printing;
-ghost use Rattle.yf_emit.specs.Printing.{level_of, levels_behind, marked, sign, space_text, work};
+ghost use Rattle.yf_emit.specs.Pages.{work_on};
+ghost use Rattle.yf_emit.specs.Printing.{level_of, levels_behind, marked, sign, space_text};
 ghost use Rattle.yf_emit.specs.Rows.{joined_words};
 
 use crate::form::decide::Form;
 use crate::form::forms::Forms;
+use crate::form::measure::Measure;
 use crate::form::measures::Measures;
 use crate::print::output::Output;
 use crate::print::trails::Trails;
 use crate::style::Style;
 use crate::text::block::push_spaces;
 use crate::text::written::{has_props, push_props};
-use std::alloc::AllocError;
+use std::alloc::{AllocError, Global};
 use yf_events::directive::Directive;
 use yf_events::document::Doc;
-use yf_events::event::Entry;
+use yf_events::event::{Entry, View};
 use yf_events::reading::Reading;
 use yf_props::props::Props;
 
@@ -31,6 +33,23 @@ pub(crate) struct Plan {
     pub(crate) forms: Forms,
     pub(crate) trails: Trails,
     pub(crate) style: Style,
+}
+
+/// What is printed, what was decided of it, and the memory in which that is done.
+#[derive(Clone, Copy)]
+pub(crate) struct Page<'r, 'a> {
+    pub(crate) alloc: Global,
+    pub(crate) reading: &'r Reading<'a>,
+    pub(crate) plan: &'r Plan,
+}
+
+/// A node that is printed: the index of the event that begins it, that event with its places, what was measured of the node, and its form.
+#[derive(Clone, Copy)]
+pub(crate) struct Node<'r, 'v> {
+    pub(crate) i: usize,
+    pub(crate) view: &'r View<'v>,
+    pub(crate) measure: &'r Measure,
+    pub(crate) form: &'r Form,
 }
 
 /// What a block collection awaits.
@@ -95,16 +114,15 @@ fn push_words(out: &mut String, words: &[&str]) -> Result<(), AllocError>
 /// Prints directives, each on a line of its own.
 fn push_directives(
     output: &mut Output,
-    reading: &Reading,
-    plan: &Plan,
+    page: &Page,
     directives: &[Directive],
 ) -> Result<(), AllocError>
-    ensures { OnOk result (draft output.new ≡ Printing.directive_lines (work reading.now plan.now) directives.now (draft output.old)) }
+    ensures { OnOk result (draft output.new ≡ Printing.directive_lines (work_on page.now) directives.now (draft output.old)) }
 {
     for directive in directives {
         output.line.push('%')?;
         push_words(&mut output.line, directive.words.as_slice())?;
-        output.open_line(reading, &plan.trails, 0)?;
+        output.open_line(page.reading, &page.plan.trails, 0)?;
     }
     Ok(())
 }
@@ -112,42 +130,34 @@ fn push_directives(
 /// Prints the `...` and directives of a document that has directives.
 fn push_document_directives(
     output: &mut Output,
-    reading: &Reading,
-    plan: &Plan,
+    page: &Page,
     is_first: bool,
     directives: &[Directive],
 ) -> Result<(), AllocError>
-    ensures { OnOk result (draft output.new ≡ Printing.directives (work reading.now plan.now) is_first directives.now (draft output.old)) }
+    ensures { OnOk result (draft output.new ≡ Printing.directives (work_on page.now) is_first directives.now (draft output.old)) }
 {
     if directives.is_empty() {
         return Ok(());
     }
     if !is_first {
         output.line.push_str("...")?;
-        output.open_line(reading, &plan.trails, 0)?;
+        output.open_line(page.reading, &page.plan.trails, 0)?;
     }
-    push_directives(output, reading, plan, directives)
+    push_directives(output, page, directives)
 }
 
 /// Begins a document on a line that was begun: its directives, and not yet the `---`.
 fn begin_document(
     output: &mut Output,
-    reading: &Reading,
-    plan: &Plan,
+    page: &Page,
     is_first: bool,
     document: &Doc,
 ) -> Result<(), AllocError>
-    ensures { OnOk result (draft output.new ≡ Printing.document_begun (work reading.now plan.now) is_first document.now
+    ensures { OnOk result (draft output.new ≡ Printing.document_begun (work_on page.now) is_first document.now
         (draft output.old)) }
 {
-    output.meet(reading, document.start);
-    push_document_directives(
-        output,
-        reading,
-        plan,
-        is_first,
-        document.directives.as_slice(),
-    )
+    output.meet(page.reading, document.start);
+    push_document_directives(output, page, is_first, document.directives.as_slice())
 }
 
 fn push_document_mark(output: &mut Output) -> Result<(), AllocError>
@@ -161,22 +171,21 @@ fn push_document_mark(output: &mut Output) -> Result<(), AllocError>
 /// Begins an entry, on a line of its own unless it is the first one of a collection that goes to the line.
 fn begin_entry(
     output: &mut Output,
-    reading: &Reading,
-    plan: &Plan,
+    page: &Page,
     is_inline: bool,
     column: usize,
     entry: Option<Entry>,
 ) -> Result<(), AllocError>
-    ensures { OnOk result (draft output.new ≡ Printing.entry_begun (work reading.now plan.now) is_inline column entry (draft output.old)) }
+    ensures { OnOk result (draft output.new ≡ Printing.entry_begun (work_on page.now) is_inline column entry (draft output.old)) }
 {
     if !is_inline {
-        output.open_line(reading, &plan.trails, column)?;
+        output.open_line(page.reading, &page.plan.trails, column)?;
     }
     if let Some(entry) = entry {
         if !is_inline {
             output.set_blank_before(entry.blank_before);
         }
-        output.meet(reading, entry.start);
+        output.meet(page.reading, entry.start);
     }
     Ok(())
 }
@@ -184,16 +193,15 @@ fn begin_entry(
 /// Begins the value of a key with `?`, whose `:` stands at that byte offset.
 fn begin_explicit_value(
     output: &mut Output,
-    reading: &Reading,
-    plan: &Plan,
+    page: &Page,
     column: usize,
     colon: Option<usize>,
 ) -> Result<(), AllocError>
-    ensures { OnOk result (draft output.new ≡ Printing.with_colon (work reading.now plan.now) column colon (draft output.old)) }
+    ensures { OnOk result (draft output.new ≡ Printing.with_colon (work_on page.now) column colon (draft output.old)) }
 {
-    output.open_line(reading, &plan.trails, column)?;
+    output.open_line(page.reading, &page.plan.trails, column)?;
     if let Some(offset) = colon {
-        output.meet(reading, offset);
+        output.meet(page.reading, offset);
     }
     output.line.push(':')
 }
@@ -201,31 +209,28 @@ fn begin_explicit_value(
 /// Prints what stands before the node that comes next in a block collection.
 fn push_sign(
     output: &mut Output,
-    reading: &Reading,
-    plan: &Plan,
+    page: &Page,
     form: &Form,
     entry: Option<Entry>,
     level: &Level,
 ) -> Result<(), AllocError>
     ensures { OnOk result (draft output.new ≡ Printing.sign_in
-        (work reading.now plan.now) form.now entry level.now.is_inline level.now.column level.now.awaited (draft output.old)) }
+        (work_on page.now) form.now entry level.now.is_inline level.now.column level.now.awaited (draft output.old)) }
 {
     match level.awaited {
         Awaited::Item => {
-            begin_entry(output, reading, plan, level.is_inline, level.column, entry)?;
+            begin_entry(output, page, level.is_inline, level.column, entry)?;
             output.line.push('-')
         }
         Awaited::Key => {
-            begin_entry(output, reading, plan, level.is_inline, level.column, entry)?;
+            begin_entry(output, page, level.is_inline, level.column, entry)?;
             if form.is_implicit {
                 return Ok(());
             }
             output.line.push('?')
         }
         Awaited::Value => Ok(()),
-        Awaited::ExplicitValue(colon) => {
-            begin_explicit_value(output, reading, plan, level.column, colon)
-        }
+        Awaited::ExplicitValue(colon) => { begin_explicit_value(output, page, level.column, colon) }
     }
 }
 
@@ -275,19 +280,18 @@ fn awaited_behind(form: &Form, entry: Option<Entry>, awaited: Awaited) -> Awaite
 pub(crate) fn next_spot(
     output: &mut Output,
     levels: &mut Vec<Level>,
-    reading: &Reading,
-    plan: &Plan,
+    page: &Page,
     form: &Form,
     entry: Option<Entry>,
 ) -> Result<Spot, AllocError>
     ensures spot { IfOk result (λ spot. spot ≡ Printing.spot form.now (reverse levels.old.items)) }
-    ensures printed { OnOk result (draft output.new ≡ sign (work reading.now plan.now) form.now entry (reverse levels.old.items)
+    ensures printed { OnOk result (draft output.new ≡ sign (work_on page.now) form.now entry (reverse levels.old.items)
         (draft output.old)) }
     ensures levels { OnOk result (reverse levels.new.items ≡ levels_behind form.now entry (reverse levels.old.items)) }
 {
     match levels.pop() {
         Some(level) => {
-            push_sign(output, reading, plan, form, entry, &level)?;
+            push_sign(output, page, form, entry, &level)?;
             levels.push(Level {
                 column: level.column,
                 awaited: awaited_behind(form, entry, level.awaited),
@@ -302,23 +306,22 @@ pub(crate) fn next_spot(
 /// Prints what stands before the properties of a block collection, or before its entries where it has none.
 fn before_collection(
     output: &mut Output,
-    reading: &Reading,
-    plan: &Plan,
+    page: &Page,
     has_props: bool,
     spot: Spot,
 ) -> Result<(), AllocError>
-    ensures { OnOk result (draft output.new ≡ Printing.before_collection (work reading.now plan.now) has_props spot (draft output.old)) }
+    ensures { OnOk result (draft output.new ≡ Printing.before_collection (work_on page.now) has_props spot (draft output.old)) }
 {
     match spot {
         Spot::Root => {
             if has_props {
-                output.open_line(reading, &plan.trails, 0)?;
+                output.open_line(page.reading, &page.plan.trails, 0)?;
                 output.forbid_blank();
             }
             Ok(())
         }
         Spot::Behind(_) => {
-            push_spaces(&mut output.line, plan.style.indent.saturating_sub(1))?;
+            push_spaces(&mut output.line, page.plan.style.indent.saturating_sub(1))?;
             if has_props {
                 output.forbid_blank();
             }
@@ -338,20 +341,19 @@ fn before_collection(
 pub(crate) fn begin_collection(
     output: &mut Output,
     levels: &mut Vec<Level>,
-    reading: &Reading,
-    plan: &Plan,
+    page: &Page,
     form: &Form,
     spot: Spot,
     props: &Props,
     first: Awaited,
 ) -> Result<(), AllocError>
-    ensures printed { OnOk result (draft output.new ≡ Printing.collection_begun (work reading.now plan.now)
+    ensures printed { OnOk result (draft output.new ≡ Printing.collection_begun (work_on page.now)
         (props_value props.now) spot (draft output.old)) }
     ensures levels { OnOk result (reverse levels.new.items ≡ level_of form.now
         (Printing.has_props (props_value props.now)) first spot ∷ reverse levels.old.items) }
 {
     let with_props = has_props(props);
-    before_collection(output, reading, plan, with_props, spot)?;
+    before_collection(output, page, with_props, spot)?;
     push_props(&mut output.line, props)?;
     levels.push(Level {
         column: form.column,
@@ -364,19 +366,18 @@ pub(crate) fn begin_collection(
 /// Begins the next document, and answers how many have begun.
 pub(crate) fn next_document(
     output: &mut Output,
-    reading: &Reading,
-    plan: &Plan,
+    page: &Page,
     documents: usize,
 ) -> Result<usize, AllocError>
-    ensures printed { OnOk result (draft output.new ≡ Printing.document_printed (work reading.now plan.now) documents
-        (slice_get reading.now.documents documents) (draft output.old)) }
-    ensures documents { IfOk result (λ next. next ≡ Printing.documents_behind documents (slice_get reading.now.documents documents)) }
+    ensures printed { OnOk result (draft output.new ≡ Printing.document_printed (work_on page.now) documents
+        (slice_get page.now.reading.now.documents documents) (draft output.old)) }
+    ensures documents { IfOk result (λ next. next ≡ Printing.documents_behind documents (slice_get page.now.reading.now.documents documents)) }
 {
-    output.open_line(reading, &plan.trails, 0)?;
+    output.open_line(page.reading, &page.plan.trails, 0)?;
     let mut next = documents;
-    let list = reading.documents();
+    let list = page.reading.documents();
     if documents < list.len() {
-        begin_document(output, reading, plan, documents == 0, &list[documents])?;
+        begin_document(output, page, documents == 0, &list[documents])?;
         next = documents + 1;
     }
     push_document_mark(output)?;

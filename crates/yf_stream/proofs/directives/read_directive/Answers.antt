@@ -14,19 +14,22 @@ returns-then-not-stands-clause-reads c = no_percent c.if-not-stands.ensures.case
 
 pub returns-then-name_end-at-clause-reads : goal.returns-then-name_end-at-clause-reads
 returns-then-name_end-at-clause-reads c =
-    let same : c.skip_ns_chars-name_end.result ≡ c.args.at + 1 = c.if-name_end-at.true in
-    no_name c.utf8.text (ap (λ k. is_ns_char (code c.args.text.now k)) (sym same) ∙ c.skip_ns_chars-name_end.ensures.all)
+    let same : c.skip_while-name_end.result ≡ c.args.at + 1 = c.if-name_end-at.true in
+    no_name c.utf8.text (ap (λ k. is_ns_char (code c.args.text.now k)) (sym same) ∙ c.skip_while-name_end.ensures.all)
 
-pub read_parameters-requires-clause-within : goal.read_parameters-requires-clause-within
-read_parameters-requires-clause-within c = λ s.
-    let more : c.args.at + 1 < c.skip_ns_chars-name_end.result = omega (arith, c.skip_ns_chars-name_end.ensures.place.order, c.if-name_end-at.false) in
-    no_start_behind c.utf8.text (run_behind c.utf8.text (λ d q. q) c.skip_ns_chars-name_end.ensures.chars.1 more) s
+pub read_parameters-requires : goal.read_parameters-requires
+read_parameters-requires c =
+    let more : c.args.at + 1 < c.skip_while-name_end.result = omega (arith, c.skip_while-name_end.ensures.order, c.if-name_end-at.false) in
+    record {
+      boundary = c.skip_while-name_end.ensures.boundary;
+      within = λ s. no_start_behind c.utf8.text (run_behind c.utf8.text (λ d q. q) c.skip_while-name_end.ensures.chars.1 more) s;
+    }
 
 pub returns-in-Some-2-clause-reads : goal.returns-in-Some-2-clause-reads
 returns-in-Some-2-clause-reads c =
     let t = c.args.text.now in
-    let more : c.args.at + 1 < c.skip_ns_chars-name_end.result = omega (arith, c.skip_ns_chars-name_end.ensures.place.order, c.if-name_end-at.false) in
-    let run = run_of t is_ns_char c.skip_ns_chars-name_end.ensures.chars.1 more c.skip_ns_chars-name_end.ensures.all in
+    let more : c.args.at + 1 < c.skip_while-name_end.result = omega (arith, c.skip_while-name_end.ensures.order, c.if-name_end-at.false) in
+    let run = run_of t is_ns_char c.skip_while-name_end.ensures.chars.1 more c.skip_while-name_end.ensures.all in
     let read = rw c.in-Some.is at c.in_ok-end.ensures.reads in
     directive_read c.utf8.text c.if-not-stands.ensures.cases.char run c.range-name.ensures.value c.new-words.ensures c.in_ok-push.ensures read
     (rw c.in-Some-2.is at c.in_ok-comments-in-Some.ensures.reads)
@@ -34,8 +37,8 @@ returns-in-Some-2-clause-reads c =
 pub returns-in-Some-clause-reads : goal.returns-in-Some-clause-reads
 returns-in-Some-clause-reads c =
     let t = c.args.text.now in
-    let more : c.args.at + 1 < c.skip_ns_chars-name_end.result = omega (arith, c.skip_ns_chars-name_end.ensures.place.order, c.if-name_end-at.false) in
-    let run = run_of t is_ns_char c.skip_ns_chars-name_end.ensures.chars.1 more c.skip_ns_chars-name_end.ensures.all in
+    let more : c.args.at + 1 < c.skip_while-name_end.result = omega (arith, c.skip_while-name_end.ensures.order, c.if-name_end-at.false) in
+    let run = run_of t is_ns_char c.skip_while-name_end.ensures.chars.1 more c.skip_while-name_end.ensures.all in
     let read = rw c.in-Some.is at c.in_ok-end.ensures.reads in
     no_line_end c.utf8.text c.if-not-stands.ensures.cases.char run c.range-name.ensures.value read
     (rw c.in-None-2.is at c.in_ok-comments-in-Some.ensures.reads)
@@ -43,7 +46,7 @@ returns-in-Some-clause-reads c =
 pub returns-clause-reads : goal.returns-clause-reads
 returns-clause-reads c =
     let t = c.args.text.now in
-    let more : c.args.at + 1 < c.skip_ns_chars-name_end.result = omega (arith, c.skip_ns_chars-name_end.ensures.place.order, c.if-name_end-at.false) in
-    let run = run_of t is_ns_char c.skip_ns_chars-name_end.ensures.chars.1 more c.skip_ns_chars-name_end.ensures.all in
+    let more : c.args.at + 1 < c.skip_while-name_end.result = omega (arith, c.skip_while-name_end.ensures.order, c.if-name_end-at.false) in
+    let run = run_of t is_ns_char c.skip_while-name_end.ensures.chars.1 more c.skip_while-name_end.ensures.all in
     let none = rw c.in-None.is at c.in_ok-end.ensures.reads in
-    no_parameters c.utf8.text c.if-not-stands.ensures.cases.char run (subst (λ z. Stuck (Parameters t z c.skip_ns_chars-name_end.result)) c.range-name.ensures.value none)
+    no_parameters c.utf8.text c.if-not-stands.ensures.cases.char run (subst (λ z. Stuck (Parameters t z c.skip_while-name_end.result)) c.range-name.ensures.value none)

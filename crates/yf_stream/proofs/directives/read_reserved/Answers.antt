@@ -33,9 +33,9 @@ returns-then-stands-clause-reads c =
 
 pub returns-then-next-start-clause-reads : goal.returns-then-next-start-clause-reads
 returns-then-next-start-clause-reads c =
-    let same : c.skip_ns_chars-next.result ≡ c.skip_whites-start.result = c.if-next-start.true in
+    let same : c.skip_while-next.result ≡ c.skip_whites-start.result = c.if-next-start.true in
     let stuck = no_word c.utf8.text c.skip_whites-start.ensures.whites.1 c.skip_whites-start.ensures.all
-    (ap (λ k. is_ns_char (code c.args.text.now k)) (sym same) ∙ c.skip_ns_chars-next.ensures.all) in
+    (ap (λ k. is_ns_char (code c.args.text.now k)) (sym same) ∙ c.skip_while-next.ensures.all) in
     let read = c.words.invariant.read in
     record { words = read.0; read = chain_chosen (reserved_functional c.utf8.text) read.1 stuck; list = read.2 }
 
@@ -43,14 +43,14 @@ pub words-preserved : goal.words-preserved
 words-preserved c =
     let t = c.args.text.now in
     let read = c.words.invariant.read in
-    let word = c.skip_ns_chars-next.ensures.chars.1 in
-    let run = run_of t is_ns_char word (omega (arith, c.skip_ns_chars-next.ensures.place.order, c.if-next-start.false)) c.skip_ns_chars-next.ensures.all in
+    let word = c.skip_while-next.ensures.chars.1 in
+    let run = run_of t is_ns_char word (omega (arith, c.skip_while-next.ensures.order, c.if-next-start.false)) c.skip_while-next.ensures.all in
     let separate = by_whites c.skip_whites-start.ensures.whites.1 (omega (arith, c.skip_whites-start.ensures.order, c.if-start-end.false)) in
     record {
       read = (_, chain_more read.1 (reserved_parameter separate c.if-stands.ensures.cases run), word_after _ _ read.2 c.in_ok-push.ensures c.range.ensures.value);
       within = λ s. no_start_behind c.utf8.text (run_behind c.utf8.text (λ d q. q) word run.some) s;
       place = record {
-        boundary = c.skip_ns_chars-next.ensures.place.boundary;
-        order = omega (arith, c.words.invariant.place.order, c.skip_whites-start.ensures.order, c.skip_ns_chars-next.ensures.place.order);
+        boundary = c.skip_while-next.ensures.boundary;
+        order = omega (arith, c.words.invariant.place.order, c.skip_whites-start.ensures.order, c.skip_while-next.ensures.order);
       };
     }

@@ -6,7 +6,7 @@ use Rattle.yf_stream.proofs.documents.empty_end.Goals as goal
 
 pub returns-then-node_ends-clause-order : goal.returns-then-node_ends-clause-order
 returns-then-node_ends-clause-order c =
-    let t = c.args.text.now in
+    let t = c.args.source.text.now in
     let i = c.args.at in
     let r = subst (λ z. MatchOption z (Stuck (LineEnd t i)) (λ p. Chosen (LineEnd t i) p.end p.comments)) c.in-Some.is c.in_ok-comments.ensures.reads in
     line_end_forward r.derived

@@ -21,9 +21,27 @@ documents-init c =
     record {
       place = IsCharBoundary-start t c.utf8.text;
       reached = IsCharBoundary-start t c.utf8.text;
-      escapes = subst (All (IsCharBoundary t)) (sym (c.in_ok-push_unplaced.ensures.escapes ∙ ap (λ z. z.part.escapes) c.requires.nothing)) (All-nil (IsCharBoundary t));
-      documents = subst (DocumentsAt t) (sym (c.in_ok-push_unplaced.ensures.documents ∙ ap (λ z. z.documents) c.requires.nothing)) (All-nil (λ (d : Doc). DirectivesAt t d.directives));
+      parts = record {
+        escapes = subst (All (IsCharBoundary t)) (sym (c.in_ok-push_unplaced.ensures.escapes ∙ ap (λ z. z.part.escapes) c.requires.nothing)) (All-nil (IsCharBoundary t));
+        documents = subst (DocumentsAt t) (sym (c.in_ok-push_unplaced.ensures.documents ∙ ap (λ z. z.documents) c.requires.nothing)) (All-nil (λ (d : Doc). DirectivesAt t d.directives));
+      };
       derived = λ l. record { documents = only_comments []; read = reading_begins c.utf8.text; parts = events_begin _ refl refl c.requires.nothing c.in_ok-push_unplaced.ensures.parts; comments = comments_begin _ refl c.requires.nothing c.in_ok-push_unplaced.ensures.parts };
+    }
+
+pub read_next-requires-clause-parts : goal.read_next-requires-clause-parts
+read_next-requires-clause-parts c =
+    let t = c.args.text.now in
+    record {
+      escapes = subst (All (IsCharBoundary t)) (sym c.in_ok-spot.ensures.escapes) c.documents.invariant.parts.escapes;
+      documents = subst (DocumentsAt t) (sym c.in_ok-spot.ensures.documents) c.documents.invariant.parts.documents;
+    }
+
+pub returns-then-spot-text-clause-parts : goal.returns-then-spot-text-clause-parts
+returns-then-spot-text-clause-parts c =
+    let t = c.args.text.now in
+    record {
+      escapes = subst (All (IsCharBoundary t)) (sym (c.in_ok-push_unplaced-2.ensures.escapes ∙ c.in_ok-close.ensures.escapes ∙ c.in_ok-spot.ensures.escapes)) c.documents.invariant.parts.escapes;
+      documents = subst (DocumentsAt t) (sym (c.in_ok-push_unplaced-2.ensures.documents ∙ c.in_ok-close.ensures.documents ∙ c.in_ok-spot.ensures.documents)) c.documents.invariant.parts.documents;
     }
 
 pub documents-preserved : goal.documents-preserved
@@ -33,8 +51,7 @@ documents-preserved c =
     record {
       place = n.0.boundary;
       reached = n.1;
-      escapes = c.in_ok-next.ensures.escapes;
-      documents = c.in_ok-next.ensures.documents;
+      parts = c.in_ok-next.ensures.parts;
       derived = λ l.
           let i = c.documents.invariant.derived l in
           let pre = c.in_ok-spot.ensures.reads in
@@ -42,7 +59,7 @@ documents-preserved c =
           let e = events_past_prefix c.in_ok-spot.ensures.spot pre c.in_ok-spot.ensures.events c.in_ok-spot.ensures.documents c.in_ok-spot.ensures.escapes i.parts in
           let k = comments_past_prefix c.utf8.text c.in_ok-spot.ensures.spot pre c.in_ok-spot.ensures.events i.comments in
           let n = reading_goes_on c.utf8.text c.in_ok-spot.spot pre c.if-spot-text.false g
-          (next_of t c.in_ok-spot.spot c.skip_prefix.new.parts c.read_next.new.parts (c.read_next.ensures.reads l) c.in_ok-next.was c.in-Go.is) in
+          (next_of t c.in_ok-spot.spot c.skip_prefix.new.parts c.read_next.new.self (c.read_next.ensures.reads l) c.in_ok-next.was c.in-Go.is) in
           record { documents = n.documents; read = n.read; parts = events_go_on c.utf8.text e pre.no_mark pre.no_row n.step; comments = comments_go_on c.utf8.text k n.step };
     }
 
@@ -63,10 +80,10 @@ pub returns-in-Syntax-clause-derived : goal.returns-in-Syntax-clause-derived
 returns-in-Syntax-clause-derived c = λ l.
     let g = spot_on c.documents.spot c.in_ok-spot.spot c.utf8.text c.in_ok-spot.ensures.spot c.in_ok-spot.ensures.reads (c.documents.invariant.derived l).read in
     no_stream_read c.utf8.text c.in_ok-spot.spot c.in_ok-spot.ensures.reads c.if-spot-text.false g
-    (next_of c.args.text.now c.in_ok-spot.spot c.skip_prefix.new.parts c.read_next.new.parts (c.read_next.ensures.reads l) c.in_ok-next.was c.in-Syntax.is)
+    (next_of c.args.text.now c.in_ok-spot.spot c.skip_prefix.new.parts c.read_next.new.self (c.read_next.ensures.reads l) c.in_ok-next.was c.in-Syntax.is)
 
 pub returns-in-TooDeep-clause-derived : goal.returns-in-TooDeep-clause-derived
 returns-in-TooDeep-clause-derived c = λ l.
     let g = spot_on c.documents.spot c.in_ok-spot.spot c.utf8.text c.in_ok-spot.ensures.spot c.in_ok-spot.ensures.reads (c.documents.invariant.derived l).read in
     too_deep_there c.utf8.text c.in_ok-spot.spot c.in_ok-spot.ensures.reads c.if-spot-text.false g
-    (next_of c.args.text.now c.in_ok-spot.spot c.skip_prefix.new.parts c.read_next.new.parts (c.read_next.ensures.reads l) c.in_ok-next.was c.in-TooDeep.is)
+    (next_of c.args.text.now c.in_ok-spot.spot c.skip_prefix.new.parts c.read_next.new.self (c.read_next.ensures.reads l) c.in_ok-next.was c.in-TooDeep.is)

@@ -1,7 +1,6 @@
 use Rattle.std.proofs.Common.{◌-◌, ◌≤◌, ◌^◌, length}
-use Rattle.std.specs.List.{All}
 use Rattle.std.specs.Str.{IsCharBoundary}
-use Rattle.yf_stream.specs.RefusalPlaces.{DocumentsAt}
+use Rattle.yf_stream.specs.PartsPlaces.{PartsAt}
 use Rattle.yf_stream.proofs.CommentsSteps.{ReadSoFar}
 use Rattle.yf_stream.proofs.stream.read_documents.Given as goal
 
@@ -9,8 +8,7 @@ abbrev pub invariant-documents : goal.invariant-documents
 invariant-documents l = record {
   place : IsCharBoundary l.text l.spot.at;
   reached : IsCharBoundary l.text l.spot.reached;
-  escapes : All (IsCharBoundary l.text) l.parts.part.escapes;
-  documents : DocumentsAt l.text l.parts.documents;
+  parts : PartsAt l.text l.parts;
   derived : length l.text ≤ 2 ^ 30 → ReadSoFar l.text l.spot l.parts;
 }
 

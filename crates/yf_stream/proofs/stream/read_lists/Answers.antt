@@ -14,9 +14,9 @@ returns-in-Some-clause-reads c = λ l.
     not_derived_refusal c.args.text.now c.in-Some.refusal (shape_of c.args.text.now c.read_documents.new.parts (c.read_documents.ensures.derived l) c.in_ok-refusal.was c.in-Some.is)
 
 pub returns-clause-made : goal.returns-clause-made
-returns-clause-made c = IfOk-weaker _ _ _ (λ r n. made_or _ r c.utf8.text c.in_ok-refusal.ensures.documents c.in_ok-refusal.ensures.escapes n) c.noted_lists.ensures.noted
+returns-clause-made c = IfOk-weaker _ _ _ (λ r n. made_or _ r c.utf8.text c.in_ok-refusal.ensures.parts.documents c.in_ok-refusal.ensures.parts.escapes n) c.noted_lists.ensures.noted
 
 pub returns-clause-reads : goal.returns-clause-reads
 returns-clause-reads c = λ l.
     let s = shape_of c.args.text.now c.read_documents.new.parts (c.read_documents.ensures.derived l) c.in_ok-refusal.was c.in_default.is in
-    IfOk-weaker _ _ _ (λ r n. lists_derived c.args.text.now _ r c.utf8.text s c.in_ok-refusal.ensures.documents c.in_ok-refusal.ensures.escapes n) c.noted_lists.ensures.noted
+    IfOk-weaker _ _ _ (λ r n. lists_derived c.args.text.now _ r c.utf8.text s c.in_ok-refusal.ensures.parts.documents c.in_ok-refusal.ensures.parts.escapes n) c.noted_lists.ensures.noted

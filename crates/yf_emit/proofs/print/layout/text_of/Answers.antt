@@ -5,18 +5,19 @@ use Rattle.yf_events.specs.Event.{view_value}
 use Rattle.yf_events.specs.declared.lists.Lists.{Lists}
 use Rattle.yf_emit.specs.Drafts.{finished}
 use Rattle.yf_emit.specs.Printers.{state_of}
-use Rattle.yf_emit.specs.Printing.{State, remarks_of, work}
+use Rattle.yf_emit.specs.Printing.{State, remarks_of}
+use Rattle.yf_emit.specs.Pages.{work_on}
 use Rattle.yf_emit.proofs.PrintLemmas.{passed_on, passed_end}
 use Rattle.yf_emit.proofs.print.layout.text_of.Goals as goal
 
 pub loop-i-preserved : goal.loop-i-preserved
 loop-i-preserved c =
-    passed_on (work c.args.reading.now c.args.plan.now) c.loop-i.i c.args.reading.now.events (view_value c.at.result) _ _ _ (ap (λ (w : Lists). slice_get w.events c.loop-i.i) (sym c.lists.ensures.same) ∙ c.at.ensures)
+    passed_on (work_on c.args.page.now) c.loop-i.i c.args.page.now.reading.now.events (view_value c.at.result) _ _ _ (ap (λ (w : Lists). slice_get w.events c.loop-i.i) (sym c.lists.ensures.same) ∙ c.at.ensures)
     c.in_ok-advance.ensures c.loop-i.invariant
 
 pub returns : goal.returns
 returns c =
-    let past : length c.args.reading.now.events ≤ c.loop-i.i = omega arith in
-    let end = passed_end (work c.args.reading.now c.args.plan.now) c.loop-i.i c.args.reading.now.events (state_of c.loop-i.printer) _ past c.loop-i.invariant in
-    subst (λ w. IfOk c.finish.result (λ text. string_bytes text ≡ finished (remarks_of (work c.args.reading.now c.args.plan.now)) w))
+    let past : length c.args.page.now.reading.now.events ≤ c.loop-i.i = omega arith in
+    let end = passed_end (work_on c.args.page.now) c.loop-i.i c.args.page.now.reading.now.events (state_of c.loop-i.printer) _ past c.loop-i.invariant in
+    subst (λ w. IfOk c.finish.result (λ text. string_bytes text ≡ finished (remarks_of (work_on c.args.page.now)) w))
     (ap (λ (w : State). w.draft) end) c.finish.ensures

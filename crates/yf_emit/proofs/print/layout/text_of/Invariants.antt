@@ -1,8 +1,9 @@
 use Rattle.std.proofs.Common.{◌≡◌, drop}
-use Rattle.yf_emit.specs.Printing.{pass, start, work}
+use Rattle.yf_emit.specs.Printing.{pass, start}
+use Rattle.yf_emit.specs.Pages.{work_on}
 use Rattle.yf_emit.specs.Printers.{state_of}
 use Rattle.yf_emit.proofs.print.layout.text_of.Given as goal
 
 abbrev pub invariant-loop-i : goal.invariant-loop-i
 invariant-loop-i l =
-    pass (work l.reading l.plan) l.i (drop l.i l.reading.events) (state_of l.printer) ≡ pass (work l.reading l.plan) 0 l.reading.events start
+    pass (work_on l.page) l.i (drop l.i l.page.reading.now.events) (state_of l.printer) ≡ pass (work_on l.page) 0 l.page.reading.now.events start

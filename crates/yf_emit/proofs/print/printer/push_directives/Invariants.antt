@@ -1,9 +1,10 @@
 use Rattle.std.proofs.Common.{◌≡◌, drop}
 use Rattle.yf_emit.specs.Drafts.{draft}
-use Rattle.yf_emit.specs.Printing.{directive_lines, work}
+use Rattle.yf_emit.specs.Pages.{work_on}
+use Rattle.yf_emit.specs.Printing.{directive_lines}
 use Rattle.yf_emit.proofs.print.printer.push_directives.Given as goal
 
 abbrev pub invariant-loop-directive : goal.invariant-loop-directive
 invariant-loop-directive l =
-    directive_lines (work l.reading l.plan) (drop l.directive-index l.directives) (draft l.output)
-    ≡ directive_lines (work l.reading l.plan) l.directives (draft l.initial.output)
+    directive_lines (work_on l.page) (drop l.directive-index l.directives) (draft l.output)
+    ≡ directive_lines (work_on l.page) l.directives (draft l.initial.output)

@@ -31,7 +31,7 @@ returns-then-len-gt-FEW-clause-refused c =
     prefix_by_declared c.self.inside.few c.args.self.now h (c.self.invariant.others h none ∙ sym none ∙ ap (λ z. declared_prefix z h) c.self.view_is) in
     IfErr-weaker _ _ _
     (λ fault u. ⊎_elim (λ (m : fault ≡ Memory). inl m)
-    (λ (m : (fault ≡ UnknownHandle c.args.place) × UnknownHandleOf c.self.inside.few (tag_value c.args.tag.now)).
+    (λ (m : (fault ≡ UnknownHandle (record { line = 1; column = 1 })) × UnknownHandleOf c.self.inside.few (tag_value c.args.tag.now)).
     inr (m.0, unknown_by_prefix (ap tag_value c.in-Short.is) same m.1)) u)
     c.resolve.ensures.refused
 
@@ -53,7 +53,7 @@ returns-in-Short-clause-refused c =
     (c.self.invariant.same (omega (arith, length-map es declaration, c.len.ensures.len, c.if-len-gt-FEW.false)) h ∙ ap (λ z. declared_prefix z h) c.self.view_is) in
     IfErr-weaker _ _ _
     (λ fault u. ⊎_elim (λ (m : fault ≡ Memory). inl m)
-    (λ (m : (fault ≡ UnknownHandle c.args.place) × UnknownHandleOf c.self.inside.few (tag_value c.args.tag.now)).
+    (λ (m : (fault ≡ UnknownHandle (record { line = 1; column = 1 })) × UnknownHandleOf c.self.inside.few (tag_value c.args.tag.now)).
     inr (m.0, unknown_by_prefix (ap tag_value c.in-Short.is) same m.1)) u)
     c.resolve-in-Short.ensures.refused
 
@@ -62,7 +62,7 @@ returns c = record {
   text = IfOk-weaker _ _ _ (λ text t. other_text c.args.tag.now c.in_default.not-Short t) c.resolve-2.ensures.text;
   refused = IfErr-weaker _ _ _
       (λ fault u. ⊎_elim (λ (m : fault ≡ Memory). inl m)
-      (λ (m : (fault ≡ UnknownHandle c.args.place) × UnknownHandleOf c.self.inside.few (tag_value c.args.tag.now)).
+      (λ (m : (fault ≡ UnknownHandle (record { line = 1; column = 1 })) × UnknownHandleOf c.self.inside.few (tag_value c.args.tag.now)).
       other_known c.args.tag.now c.in_default.not-Short m.1) u)
       c.resolve-2.ensures.refused;
 }
