@@ -47,10 +47,6 @@ digit_boundary t i u l a = (reads_ascii t i u l a).boundary
 digit_code : {t : List ℕ} {i j d : ℕ} → Digit t i j d → (49 ≤ code t i) × (code t i ≤ 57) × (j ≡ i + 1) × (d ≡ code t i - 48)
 digit_code {t} {i} (digit e) = let b = between_bounds 49 57 (code t i) e in (b.0, b.1, refl, refl)
 
-sign_code : {t : List ℕ} {i j : ℕ} {c : Chomp} → Sign t i j c → ((code t i ≡ 45) ⊎ (code t i ≡ 43)) × (j ≡ i + 1)
-sign_code (strip_sign e) = (inl e, refl)
-sign_code (keep_sign e) = (inr e, refl)
-
 pub no_digit_end : {t : List ℕ} {i j d : ℕ} → length t ≤ i → Digit t i j d → ⊥
 no_digit_end {t} {i} l x = let c = digit_code x in let past = code-past t i l in absurd (omega (arith, c.1))
 
@@ -63,10 +59,6 @@ no_digit_byte t i u n x =
 pub no_sign : {t : List ℕ} {i j : ℕ} {c : Chomp} → code t i ≢ 45 → code t i ≢ 43 → Sign t i j c → ⊥
 no_sign a b (strip_sign e) = a e
 no_sign a b (keep_sign e) = b e
-
-pub no_style : {t : List ℕ} {i j : ℕ} {f : Bool} → code t i ≢ 124 → code t i ≢ 62 → Style t i j f → ⊥
-no_style a b (literal_sign e) = a e
-no_style a b (folded_sign e) = b e
 
 -- what may follow the indicators is none of them
 stop_codes : (c : ℕ) → is_white_or_end c ≡ true → ((c ≡ 32) ⊎ (c ≡ 9)) ⊎ (((c ≡ 10) ⊎ (c ≡ 13)) ⊎ (c ≡ no_char))

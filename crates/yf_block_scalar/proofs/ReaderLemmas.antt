@@ -48,3 +48,11 @@ body_none {t} {i} n h e f s = record { none = λ j x b. none b } where
   none (indicated q a b) = cc
   none (detected {k = k} q d a b) = f k d
   none (without_content {p = p} {widths = widths} q a d b) = s p widths a d
+
+-- lines that were taken, from what they are the same as
+pub same_taken : {t : List ℕ} {i p k m n : ℕ} {xs ys : List (List ℕ)} {a b : Bool} → ys ≡ xs → b ≡ a → n ≡ m → Taken t k i xs a m p
+    → Taken t k i ys b n p
+same_taken {t} {i} {p} {k} {m} {n} {xs} {ys} {a} {b} e f g d =
+    let one : Taken t k i ys a m p = subst (λ w. Taken t k i w a m p) (sym e) d in
+    let two : Taken t k i ys b m p = subst (λ w. Taken t k i ys w m p) (sym f) one in
+    subst (λ w. Taken t k i ys b w p) (sym g) two

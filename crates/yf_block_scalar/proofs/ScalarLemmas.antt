@@ -16,6 +16,10 @@ use Rattle.yf_chars.proofs.TextLemmas.{drop_there, code_from_byte, code-past, ne
 use Rattle.yf_chars.proofs.ChainLemmas.{chain_forward, one_functional}
 use Rattle.yf_lines.proofs.BasicLemmas.{break_char}
 use Rattle.yf_comments.specs.declared.comment.Comment.{Comment}
+use Rattle.yf_comments.specs.Comment.{CommentValue, row_comments}
+use Rattle.yf_comments.specs.Comments.{CommentText, LineRest}
+use Rattle.yf_comments.specs.Comments.CommentText.{comment_text}
+use Rattle.yf_comments.specs.Comments.LineRest.{nothing, whites, comment}
 use Rattle.yf_block_scalar.specs.declared.body.BlockText.{BlockText}
 use Rattle.yf_block_scalar.specs.declared.header.Header.{Header}
 use Rattle.yf_block_scalar.specs.Body.{Bare, largest, Ends, Content, Line, Lines, Taken, Indented, Body, BodyValue, body_value}
@@ -200,3 +204,20 @@ hash_text {t} {j} {x} i u e m =
     let whole : Many t is_nb_char i j (code t i ∷ [] ++ x) = step (one nb) m' in
     let b = many_bytes u whole in
     (encodes x, (b.0 ∙ ap (λ w. encode w ++ encodes x) e ∙ ap (λ w. w ++ encodes x) (encode_ascii 35 (omega arith)), record { chars = x; bytes = refl; each = b.1.1 }))
+
+-- the comments of a line's rest
+abbrev AreTexts : List CommentValue → Type 0
+AreTexts [] = Unit {0}
+AreTexts (v ∷ vs) = (y : List ℕ) × ((v.text ≡ 35 ∷ y) × IsLineText y)
+
+text_hashed : {t : List ℕ} {i j : ℕ} {x : List CommentValue} → IsUtf8 t → CommentText t i j x → AreTexts x
+text_hashed u (comment_text {i = i} e m n) = hash_text i u e m
+
+rest_texts : {t : List ℕ} {i j : ℕ} {x : List CommentValue} → IsUtf8 t → LineRest t i j x → AreTexts x
+rest_texts u (nothing e) = tt
+rest_texts u (whites s e) = tt
+rest_texts u (comment s d e) = text_hashed u d
+
+pub rest_comment : {t : List ℕ} {i j : ℕ} (c : Option Comment) → IsUtf8 t → LineRest t i j (row_comments c) → IsCommentText c
+rest_comment None u r = tt
+rest_comment (Some c) u r = rest_texts u r

@@ -1,5 +1,5 @@
 -- The comments after a scalar, and the note of the first.
-use Rattle.std.proofs.Common.{◌≡◌, ◌≢◌, ℕ, ◌+◌, ◌-◌, ◌<◌, ◌≤◌, Bool, List, [], ◌∷◌, length, drop, get_or, map, refl, sym, ap, ◌∙◌, arith, add-one, drop-cons}
+use Rattle.std.proofs.Common.{◌≡◌, ◌≢◌, ℕ, ◌+◌, ◌-◌, ◌<◌, ◌≤◌, Bool, List, [], ◌∷◌, length, drop, get_or, map, refl, sym, ap, ◌∙◌, arith}
 use Rattle.std.proofs.Math.ListN.{drop_of_length-le}
 use Rattle.yf_chars.specs.Text.{code}
 use Rattle.yf_chars.specs.Chain.{Chosen, Stuck}
@@ -17,10 +17,6 @@ pub noted_first : (b : Bool) (cs : List Comment) (d : Comment) → length cs ≢
     → record (comment_value (get_or cs 0 d)) { blank_before = b } ∷ map comment_value (drop 1 cs) ≡ first_noted b (map comment_value cs)
 noted_first b [] d n = absurd (n refl)
 noted_first b (c ∷ cs) d n = refl
-
-pub noted_next : (cs : List Comment) (i : ℕ) (d : Comment) → i < length cs
-    → map comment_value (drop i cs) ≡ comment_value (get_or cs i d) ∷ map comment_value (drop (i + 1) cs)
-noted_next cs i d l = rw add-one (ap (map comment_value) (drop-cons cs i d l))
 
 pub noted_last : (cs : List Comment) (i : ℕ) → length cs ≤ i → map comment_value (drop i cs) ≡ []
 noted_last cs i l = ap (map comment_value) (drop_of_length-le cs l)

@@ -21,3 +21,6 @@ pub struct BlockText<'a> {
     /// The byte offset of the first line that is not taken.
     pub next: usize,
 }
+
+/// What a reader of block scalars answers: the scalar, `None` where none stands there, or why it could not be read.
+pub type Found<'a, E> = Result<Option<BlockText<'a>>, E>;

@@ -79,11 +79,11 @@ fn push_literal(text: &mut String, lines: &Lines) -> Result<(), AllocError>
     if lines.len() == 0 {
         return Ok(());
     }
-    text.push_str(lines.line(0))?;
+    text.push_str(lines.at(0))?;
     let mut index = 1;
     while index < lines.len() {
         text.push('\n')?;
-        text.push_str(lines.line(index))?;
+        text.push_str(lines.at(index))?;
         index += 1;
     }
     Ok(())
@@ -95,7 +95,7 @@ fn push_folded(text: &mut String, lines: &Lines) -> Result<(), AllocError>
 {
     let mut index = 0;
     while index < lines.len() {
-        let line = lines.line(index);
+        let line = lines.at(index);
         index += 1;
         if !line.is_empty() {
             text.push_str(line)?;
@@ -119,7 +119,7 @@ fn push_folded_behind(
     let mut last_spaced = spaced;
     let mut empty = 0;
     while index < lines.len() {
-        let line = lines.line(index);
+        let line = lines.at(index);
         index += 1;
         if line.is_empty() {
             empty += 1;

@@ -1,18 +1,18 @@
 //! Reads the header of a block scalar (YAML 1.2.2, section 8.1.1).
-ghost use Rattle.std.specs.Prelude.{◌≡◌, ◌+◌, ℕ, List, Option, Bool, true, IfSome, MatchOption};
-ghost use Rattle.std.specs.Str.{IsCharBoundary};
+ghost use Rattle.std.specs.Prelude.{◌≡◌, ◌+◌, ◌<◌, ℕ, List, Option, Bool, true, length, IfSome, IsCharBoundary, MatchOption};
 ghost use Rattle.yf_chars.specs.Chain.{Chosen, Stuck};
 ghost use Rattle.yf_chars.specs.Class.{is_white_or_end};
 ghost use Rattle.yf_chars.specs.Text.{code};
+ghost use Rattle.yf_lines.specs.Basic.{LineStart};
 ghost use Rattle.yf_comments.specs.Comment.{row_comments};
 ghost use Rattle.yf_block_scalar.specs.declared.header.Chomp.{Chomp};
 ghost use Rattle.yf_block_scalar.specs.Header.{BlockHeader, Digit, Indicators, Sign, Style, header_value};
 ghost use Rattle.yf_block_scalar.specs.Written.{IsCommentText};
 
 use crate::header::{Chomp, Header};
-use crate::rest::{Rest, line_rest};
 use yf_chars::text::stands;
 use yf_comments::comment::Comment;
+use yf_comments::lines::{Row, line_rest};
 
 /// A header that was read, with the comment after it and the byte offset of the line after it.
 #[derive(Drop)]
@@ -87,15 +87,15 @@ fn read_marks(s: &str, at: usize) -> Marks
         },
         None => match sign_at(s, at) {
             Some(chomp) => match digit_at(s, next) {
-                Some(digit) => Marks {
-                    digit: Some(digit),
-                    chomp,
-                    end: next + 1,
-                },
                 None => Marks {
                     digit: None,
                     chomp,
                     end: next,
+                },
+                Some(digit) => Marks {
+                    digit: Some(digit),
+                    chomp,
+                    end: next + 1,
                 },
             },
             None => Marks {
@@ -130,12 +130,14 @@ pub fn block_header<'a>(s: &'a str, at: usize) -> Option<HeaderLine<'a>>
         (λ r. Chosen (BlockHeader s.now at) r.end (header_value r.header r.comment)) }
     ensures comment { IfSome result (λ r. IsCommentText r.comment) }
     ensures boundary { IfSome result (λ r. IsCharBoundary s.now r.end) }
+    ensures order { IfSome result (λ r. at < r.end) }
+    ensures starts { IfSome result (λ r. r.end < length s.now → LineStart s.now r.end) }
 {
     match style_at(s, at) {
         Some(folded) => {
             let Marks { digit, chomp, end } = read_marks(s, at + 1);
-            match line_rest(s, end) {
-                Some(Rest { comment, end }) => Some(HeaderLine {
+            match line_rest(s, end, false) {
+                Some(Row { comment, end }) => Some(HeaderLine {
                     header: Header {
                         folded,
                         digit,

@@ -9,7 +9,6 @@ mod indent;
 pub mod lines;
 pub mod read;
 pub mod reader;
-mod rest;
 mod rows;
 mod trail;
 pub mod write;

@@ -8,7 +8,7 @@ ghost use Rattle.yf_lines.specs.Basic.{LineStart};
 ghost use Rattle.yf_block_scalar.specs.LineOffset.{line_offset};
 ghost use Rattle.yf_block_scalar.specs.Written.{IsCommentText, IsScalar};
 
-use crate::body::BlockText;
+use crate::body::Found;
 use crate::header::Header;
 use crate::header_reader::{HeaderLine, block_header};
 use crate::reader::block_body;
@@ -47,7 +47,7 @@ pub fn read_body<'a>(
     line: usize,
     n: i32,
     header: Header,
-) -> Result<Option<BlockText<'a>>, Fault>
+) -> Found<'a, Fault>
     requires within { line ≤ length src.now.lines }
     requires small { n ≤ℤ pos (2 ^ 30) }
     ensures { MatchResult result (λ o. MatchOption o (Stuck (Body src.now.text n header (line_offset src.now line)))

@@ -1,5 +1,5 @@
 //! Reads the lines of a block scalar (YAML 1.2.2, sections 8.1.1.1, 8.1.2 and 8.1.3).
-ghost use Rattle.std.specs.Prelude.{◌≡◌, ◌≢◌, ◌+◌, ◌<◌, ◌^◌, ◌≤ℤ◌, pos, ℕ, List, [], false, None, length, IfOk, IfSome, MatchOption};
+ghost use Rattle.std.specs.Prelude.{◌≡◌, ◌≢◌, ◌+◌, ◌<◌, ◌≤◌, ◌^◌, ◌≤ℤ◌, pos, ℕ, List, [], None, length, IfOk, IfSome, MatchOption};
 ghost use Rattle.std.specs.Str.{IsCharBoundary};
 ghost use Rattle.yf_chars.specs.Chain.{Chosen, Stuck};
 ghost use Rattle.yf_lines.specs.Basic.{LineStart};
@@ -7,7 +7,7 @@ ghost use Rattle.yf_comments.specs.Comment.{CommentValue};
 ghost use Rattle.yf_block_scalar.specs.Body.{Body, Taken, Trail, is_gap_tail, first_noted, body_value};
 ghost use Rattle.yf_block_scalar.specs.Written.{IsScalar};
 
-use crate::body::BlockText;
+use crate::body::{BlockText, Found};
 use crate::header::{Chomp, Header};
 use crate::indent::{Indentation, base_of, find_indentation, least_of};
 use crate::lines::Lines;
@@ -27,6 +27,44 @@ fn is_gap(chomp: Chomp, count: usize) -> bool
     }
 }
 
+// Reads the comment lines after the rows of a scalar whose content has that indentation, and puts the whole together.
+fn with_trail<'a>(
+    alloc: Global,
+    s: &'a str,
+    indent: usize,
+    header: Header,
+    rows: Rows<'a>,
+) -> Result<BlockText<'a>, AllocError>
+    requires boundary { IsCharBoundary s.now rows.next }
+    requires starts { rows.next < length s.now → LineStart s.now rows.next }
+    ensures reads { IfOk result (λ b. (x : List CommentValue) × (Trail s.now indent rows.entry.next b.next x
+        × (b.comments ≡ first_noted (is_gap_tail header.chomp rows.entry.tail) x))) }
+    ensures lines { IfOk result (λ b. b.lines ≡ rows.entry.lines) }
+    ensures open_end { IfOk result (λ b. b.open_end ≡ rows.entry.open_end) }
+    ensures tail { IfOk result (λ b. b.tail ≡ rows.entry.tail) }
+    ensures boundary { IfOk result (λ b. IsCharBoundary s.now b.next) }
+    ensures header { IfOk result (λ b. b.header ≡ header) }
+    ensures comment { IfOk result (λ b. b.comment ≡ None) }
+{
+    let Rows {
+        lines,
+        open_end,
+        tail,
+        next,
+    } = rows;
+    let blank = is_gap(header.chomp, tail);
+    let Separation { comments, end } = read_trail(alloc, s, next, indent, blank)?;
+    Ok(BlockText {
+        header,
+        comment: None,
+        lines,
+        tail,
+        open_end,
+        comments,
+        next: end,
+    })
+}
+
 // Reads the scalar whose content has that indentation.
 fn read_indented<'a>(
     alloc: Global,
@@ -44,66 +82,9 @@ fn read_indented<'a>(
     ensures header { IfOk result (λ b. b.header ≡ header) }
     ensures comment { IfOk result (λ b. b.comment ≡ None) }
 {
-    let Rows {
-        lines,
-        open_end,
-        tail,
-        next,
-    } = read_rows(alloc, s, at, indent)?;
-    let Separation { comments, end } = read_trail(
-        alloc,
-        s,
-        next,
-        indent,
-        is_gap(header.chomp, tail),
-    )?;
-    Ok(BlockText {
-        header,
-        comment: None,
-        lines,
-        tail,
-        open_end,
-        comments,
-        next: end,
-    })
-}
-
-// Reads what is left of a scalar without content, after its empty lines.
-fn read_bare<'a>(
-    alloc: Global,
-    s: &'a str,
-    at: usize,
-    least: usize,
-    count: usize,
-    header: Header,
-) -> Result<BlockText<'a>, AllocError>
-    requires boundary { IsCharBoundary s.now at }
-    requires starts { at < length s.now → LineStart s.now at }
-    ensures reads { IfOk result (λ b. (x : List CommentValue)
-        × (Trail s.now least at b.next x × (b.comments ≡ first_noted (is_gap_tail header.chomp count) x))) }
-    ensures lines { IfOk result (λ b. b.lines ≡ []) }
-    ensures open_end { IfOk result (λ b. b.open_end ≡ false) }
-    ensures tail { IfOk result (λ b. b.tail ≡ count) }
-    ensures boundary { IfOk result (λ b. IsCharBoundary s.now b.next) }
-    ensures header { IfOk result (λ b. b.header ≡ header) }
-    ensures comment { IfOk result (λ b. b.comment ≡ None) }
-{
-    let Separation { comments, end } = read_trail(
-        alloc,
-        s,
-        at,
-        least,
-        is_gap(header.chomp, count),
-    )?;
-    Ok(BlockText {
-        header,
-        comment: None,
-        lines: Lines::new(alloc),
-        tail: count,
-        open_end: false,
-        comments,
-        next: end,
-    })
+    let rows = read_rows(alloc, s, at, indent)?;
+    let block = with_trail(alloc, s, indent, header, rows)?;
+    Ok(block)
 }
 
 /// Reads the lines of a block scalar after its header: its content lines and the empty lines among them, its tail, and
@@ -121,14 +102,15 @@ pub fn block_body<'a>(
     at: usize,
     n: i32,
     header: Header,
-) -> Result<Option<BlockText<'a>>, AllocError>
-    requires boundary { IsCharBoundary s.now at }
+) -> Found<'a, AllocError>
     requires starts { at < length s.now → LineStart s.now at }
+    requires boundary { IsCharBoundary s.now at }
     requires small { n ≤ℤ pos (2 ^ 30) }
     ensures reads { IfOk result (λ o. MatchOption o (Stuck (Body s.now n header at))
         (λ b. (b.header ≡ header) × (b.comment ≡ None) × Chosen (Body s.now n header at) b.next (body_value b))) }
     ensures scalar { IfOk result (λ o. IfSome o (λ b. b.lines ≢ [] → IsScalar b)) }
     ensures boundary { IfOk result (λ o. IfSome o (λ b. IsCharBoundary s.now b.next)) }
+    ensures order { IfOk result (λ o. IfSome o (λ b. at ≤ b.next)) }
 {
     match header.digit {
         Some(digit) => {
@@ -141,7 +123,14 @@ pub fn block_body<'a>(
                 Ok(Some(block))
             }
             Indentation::Missing(count, next) => {
-                let block = read_bare(alloc, s, next, least_of(n), count, header)?;
+                let lines = Lines::new(alloc);
+                let rows = Rows {
+                    lines,
+                    open_end: false,
+                    tail: count,
+                    next,
+                };
+                let block = with_trail(alloc, s, least_of(n), header, rows)?;
                 Ok(Some(block))
             }
             Indentation::TooLong => Ok(None),

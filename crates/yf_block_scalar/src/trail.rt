@@ -59,8 +59,8 @@ pub(crate) fn read_trail<'a>(
     indent: usize,
     blank: bool,
 ) -> Result<Separation<'a>, AllocError>
-    requires boundary { IsCharBoundary s.now at }
     requires starts { at < length s.now → LineStart s.now at }
+    requires boundary { IsCharBoundary s.now at }
     ensures reads { IfOk result (λ p. (x : List CommentValue) × (Trail s.now indent at p.end x × (p.comments ≡ first_noted blank x))) }
     ensures boundary { IfOk result (λ p. IsCharBoundary s.now p.end) }
 {

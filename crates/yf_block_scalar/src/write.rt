@@ -167,11 +167,11 @@ fn push_indented(text: &mut String, lines: &Lines, column: usize) -> Result<(), 
     if lines.len() == 0 {
         return Ok(());
     }
-    push_line(text, lines.line(0), column)?;
+    push_line(text, lines.at(0), column)?;
     let mut index = 1;
     while index < lines.len() {
         text.push('\n')?;
-        push_line(text, lines.line(index), column)?;
+        push_line(text, lines.at(index), column)?;
         index += 1;
     }
     Ok(())

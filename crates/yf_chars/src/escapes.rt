@@ -275,17 +275,19 @@ fn upper_digit(digit: u32) -> char
     char::from(b'A' + (digit - 10) as u8)
 }
 
-// Characters that are spelled by two digits.
+/// Whether a character that has no letter is spelled by two digits.
+#[inline]
 #[tactic(auto, unfolding(crate::specs::Escape::is_by_two, crate::specs::Class::is_between))]
-fn is_by_two(c: char) -> bool
+pub fn is_by_two(c: char) -> bool
     ensures { result ≡ Escapes.is_by_two c }
 {
     matches!(c, '\0'..='\u{1F}' | '\u{7F}'..='\u{A0}')
 }
 
-// Characters that are spelled by four digits.
+/// Whether another one is spelled by four digits.
+#[inline]
 #[tactic(auto, unfolding(crate::specs::Escape::is_by_four))]
-fn is_by_four(c: char) -> bool
+pub fn is_by_four(c: char) -> bool
     ensures { result ≡ Escapes.is_by_four c }
 {
     matches!(

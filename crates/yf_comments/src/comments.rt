@@ -5,6 +5,7 @@ ghost use Rattle.yf_comments.specs.Comment.{CommentValue, comment_value};
 use crate::comment::Comment;
 use std::alloc::{AllocError, Global};
 use std::marker::Model;
+use yf_lines::fault::Fault;
 
 /// What was read: the comments in it, and the offset after it.
 #[derive(Drop)]
@@ -12,6 +13,9 @@ pub struct Separation<'a> {
     pub comments: Comments<'a>,
     pub end: usize,
 }
+
+/// What a reader answers: what was read, `None` where nothing of the kind stands there, or a refusal.
+pub type Found<'a> = Result<Option<Separation<'a>>, Fault>;
 
 /// Comments in the order of the text. In a contract it is the list of what they are.
 #[derive(Drop)]
@@ -37,19 +41,10 @@ impl<'a> Comments<'a> {
         }
     }
 
-    /// Appends a comment; where memory is refused, the list is as it was.
-    pub fn push(&mut self, comment: Comment<'a>) -> Result<(), AllocError>
-        ensures { self.new ≡ (if is_ok result then self.old ++ comment_value comment.entry ∷ [] else self.old) }
+    pub fn as_slice(&self) -> &[Comment<'a>]
+        ensures { map comment_value result.now ≡ self.now }
     {
-        self.list.push(comment)?;
-        Ok(())
-    }
-
-    /// Keeps the first comments, that many at most.
-    pub fn truncate(&mut self, count: usize)
-        ensures { self.new ≡ take count self.old }
-    {
-        self.list.truncate(count);
+        self.list.as_slice()
     }
 
     pub fn len(&self) -> usize
@@ -66,17 +61,26 @@ impl<'a> Comments<'a> {
         &self.list[i]
     }
 
+    /// Appends a comment; where memory is refused, the list is as it was.
+    pub fn push(&mut self, comment: Comment<'a>) -> Result<(), AllocError>
+        ensures { self.new ≡ (if is_ok result then self.old ++ comment_value comment.entry ∷ [] else self.old) }
+    {
+        self.list.push(comment)?;
+        Ok(())
+    }
+
+    /// Keeps the first comments, that many at most.
+    pub fn truncate(&mut self, count: usize)
+        ensures { self.new ≡ take count self.old }
+    {
+        self.list.truncate(count);
+    }
+
     /// Moves all comments of another list to the end; where memory is refused, the list is as it was.
     pub fn append(&mut self, mut other: Comments<'a>) -> Result<(), AllocError>
         ensures { self.new ≡ (if is_ok result then self.old ++ other.entry else self.old) }
     {
         self.list.append(&mut other.list)?;
         Ok(())
-    }
-
-    pub fn as_slice(&self) -> &[Comment<'a>]
-        ensures { map comment_value result.now ≡ self.now }
-    {
-        self.list.as_slice()
     }
 }

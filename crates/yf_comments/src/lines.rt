@@ -24,11 +24,11 @@ struct CommentPart<'a> {
     end: usize,
 }
 
-// The rest of a line that was read: its comment, if it has one, and the offset after its break.
+/// The rest of a line that was read: its comment, if it has one, and the offset after its break.
 #[derive(Clone, Copy)]
-struct Row<'a> {
-    comment: Option<Comment<'a>>,
-    end: usize,
+pub struct Row<'a> {
+    pub comment: Option<Comment<'a>>,
+    pub end: usize,
 }
 
 // Reads a comment's text (c-nb-comment-text, production 75), as long as its characters go.
@@ -90,9 +90,9 @@ fn past_whites<'a>(s: &'a str, at: usize, place: usize) -> Option<Row<'a>>
     }
 }
 
-// Reads what is left of a line: white space, a comment where white space or the start of the line stands before it, and a break
-// or the end of the text (s-b-comment, production 77).
-fn line_rest<'a>(s: &'a str, at: usize, starts: bool) -> Option<Row<'a>>
+/// Reads what is left of a line: white space, a comment where white space or the start of the line stands before it, and a
+/// break or the end of the text (s-b-comment, production 77).
+pub fn line_rest<'a>(s: &'a str, at: usize, starts: bool) -> Option<Row<'a>>
     requires boundary { IsCharBoundary s.now at }
     requires starts { MatchBool starts (LineStart s.now at) (LineStart s.now at → ⊥) }
     ensures reads { MatchOption result (Stuck (LineRest s.now at)) (λ r. LineRest s.now at r.end (row_comments r.comment)) }
@@ -179,6 +179,7 @@ pub fn line_end<'a>(
     requires { IsCharBoundary s.now at }
     ensures reads { IfOk result (λ o. MatchOption o (Stuck (LineEnd s.now at)) (λ p. Chosen (LineEnd s.now at) p.end p.comments)) }
     ensures boundary { IfOk result (λ o. IfSome o (λ p. IsCharBoundary s.now p.end)) }
+    ensures order { IfOk result (λ o. IfSome o (λ p. at ≤ p.end)) }
 {
     let starts = is_line_start(s, at);
     let mut comments = Comments::new(alloc);

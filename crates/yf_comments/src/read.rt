@@ -4,7 +4,7 @@ ghost use Rattle.std.specs.Str.{IsCharBoundary};
 ghost use Rattle.yf_chars.specs.Chain.{Chosen, Stuck};
 ghost use Rattle.yf_comments.specs.Comments.{LineEnd, Separate};
 
-use crate::comments::Separation;
+use crate::comments::Found;
 use crate::lines::line_end;
 use crate::separation::separate;
 use std::alloc::{AllocError, Global};
@@ -20,11 +20,7 @@ use yf_lines::source_text::Src;
 /// # Errors
 ///
 /// `Fault::Memory` where a growth of memory was refused.
-pub fn read_line_end<'a>(
-    alloc: Global,
-    src: &Src<'a>,
-    at: usize,
-) -> Result<Option<Separation<'a>>, Fault>
+pub fn read_line_end<'a>(alloc: Global, src: &Src<'a>, at: usize) -> Found<'a>
     requires { IsCharBoundary src.now.text at }
     ensures { MatchResult result (λ o. MatchOption o (Stuck (LineEnd src.now.text at))
         (λ p. Chosen (LineEnd src.now.text at) p.end p.comments × IsCharBoundary src.now.text p.end)) (λ fault. fault ≡ Fault.Memory) }
@@ -44,13 +40,7 @@ pub fn read_line_end<'a>(
 /// # Errors
 ///
 /// `Fault::Memory` where a growth of memory was refused.
-pub fn read_separation<'a>(
-    alloc: Global,
-    src: &Src<'a>,
-    at: usize,
-    n: i32,
-    ctx: Ctx,
-) -> Result<Option<Separation<'a>>, Fault>
+pub fn read_separation<'a>(alloc: Global, src: &Src<'a>, at: usize, n: i32, ctx: Ctx) -> Found<'a>
     requires { IsCharBoundary src.now.text at }
     ensures { MatchResult result (λ o. MatchOption o (Stuck (Separate src.now.text n ctx at))
         (λ p. Chosen (Separate src.now.text n ctx at) p.end p.comments × IsCharBoundary src.now.text p.end))

@@ -92,8 +92,8 @@ fn last_reach<'a>(
     width: usize,
     comments: &mut Comments<'a>,
 ) -> Result<Option<Reach>, AllocError>
-    requires boundary { IsCharBoundary s.now at }
     requires fresh { comments.old ≡ [] }
+    requires boundary { IsCharBoundary s.now at }
     ensures reads { IfOk result (λ o. (p : ℕ) × Chain (Row s.now) at p comments.new × Stuck (Row s.now p)
         × MatchOption o (Stuck (Upto s.now (pos width) at p))
         (λ r. Chosen (Upto s.now (pos width) at p) r.end (take r.count comments.new))) }
@@ -164,6 +164,7 @@ pub fn separate<'a>(
     ensures reads { IfOk result (λ o. MatchOption o (Stuck (Separate s.now n ctx at))
         (λ p. Chosen (Separate s.now n ctx at) p.end p.comments)) }
     ensures boundary { IfOk result (λ o. IfSome o (λ p. IsCharBoundary s.now p.end)) }
+    ensures order { IfOk result (λ o. IfSome o (λ p. at ≤ p.end)) }
 {
     match line_width(n, ctx) {
         Some(width) => match separate_lines(alloc, s, at, width)? {

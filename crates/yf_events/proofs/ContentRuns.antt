@@ -1,8 +1,8 @@
 -- Lists of items that grow as their sources are passed.
-use Rattle.std.proofs.Common.{ℕ, ◌+◌, ◌<◌, ◌≤◌, ◌≡◌, List, [], ◌∷◌, ◌++◌, Option, Some, length, map, drop, get_or, refl, sym, ap, ◌∙◌, append_assoc, append-nil, drop-cons, add-one, arith}
+use Rattle.std.proofs.Common.{ℕ, ◌+◌, ◌≤◌, ◌≡◌, List, [], ◌∷◌, ◌++◌, Option, Some, length, map, drop, refl, sym, ap, ◌∙◌, append_assoc, add-one, arith}
 use Rattle.std.specs.List.{flat_map, zip}
 use Rattle.std.specs.Prelude.{slice_get}
-use Rattle.std.proofs.lemmas.List.{drop_all, length-map, map-append}
+use Rattle.std.proofs.lemmas.List.{length-map, map-append}
 use Rattle.std.proofs.lemmas.Simd.{map-map}
 use Rattle.std.specs.Borrow.{Bor}
 use Rattle.yf_events.specs.declared.directive.Directive.{Directive}
@@ -11,27 +11,6 @@ use Rattle.yf_events.specs.Event.{EventValue}
 use Rattle.yf_events.specs.Reading.{events_of}
 use Rattle.yf_events.specs.declared.lists.Lists.{Lists}
 use Rattle.yf_events.proofs.PieceRuns.{zip_at, zip_past}
-
--- one source more, which adds h of it
-pub flat_next : {X B : Type 0} (h : X → List B) (m n t : List B) (xs : List X) (i : ℕ) (d : X) → i < length xs
-    → m ++ flat_map h (drop i xs) ≡ t → n ≡ m ++ h (get_or xs i d) → n ++ flat_map h (drop (i + 1) xs) ≡ t
-flat_next h m n t xs i d within is more =
-    let cut : drop i xs ≡ get_or xs i d ∷ drop (i + 1) xs = rw add-one (drop-cons xs i d within) in
-    ap (λ w. w ++ flat_map h (drop (i + 1) xs)) more ∙ append_assoc m (h (get_or xs i d)) (flat_map h (drop (i + 1) xs))
-    ∙ ap (λ w. m ++ w) (sym (ap (flat_map h) cut)) ∙ is
-
-pub flat_over : {X B : Type 0} (h : X → List B) (m t : List B) (xs : List X) (i : ℕ) → length xs ≤ i → m ++ flat_map h (drop i xs) ≡ t → m ≡ t
-flat_over h m t xs i past is = sym (append-nil m) ∙ ap (λ w. m ++ flat_map h w) (sym (drop_all i xs past)) ∙ is
-
-pub map_next : {X B : Type 0} (h : X → B) (m n t : List B) (xs : List X) (i : ℕ) (d : X) → i < length xs
-    → m ++ map h (drop i xs) ≡ t → n ≡ m ++ (h (get_or xs i d) ∷ []) → n ++ map h (drop (i + 1) xs) ≡ t
-map_next h m n t xs i d within is more =
-    let cut : drop i xs ≡ get_or xs i d ∷ drop (i + 1) xs = rw add-one (drop-cons xs i d within) in
-    ap (λ w. w ++ map h (drop (i + 1) xs)) more ∙ append_assoc m (h (get_or xs i d) ∷ []) (map h (drop (i + 1) xs))
-    ∙ ap (λ w. m ++ w) (sym (ap (map h) cut)) ∙ is
-
-pub map_over : {X B : Type 0} (h : X → B) (m t : List B) (xs : List X) (i : ℕ) → length xs ≤ i → m ++ map h (drop i xs) ≡ t → m ≡ t
-map_over h m t xs i past is = sym (append-nil m) ∙ ap (λ w. m ++ map h w) (sym (drop_all i xs past)) ∙ is
 
 -- the view of a list that was pushed to
 pub pushed : {A B : Type 0} (f : A → B) (before after : List A) (x : A) → after ≡ before ++ (x ∷ []) → map f after ≡ map f before ++ (f x ∷ [])

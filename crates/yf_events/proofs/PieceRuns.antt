@@ -2,7 +2,7 @@
 use Rattle.std.proofs.Common.{ℕ, zero, suc, arith, refl, Some, ◌+◌, ◌<◌, ◌≤◌, ◌≡◌, Bool, List, [], ◌∷◌, ◌++◌, Option, length, drop, get_or, ap, ◌∙◌, subst, drop-cons, add-one}
 use Rattle.std.specs.List.{flat_map, zip}
 use Rattle.std.specs.Prelude.{slice_get}
-use Rattle.std.proofs.lemmas.List.{drop_all, length-map}
+use Rattle.std.proofs.lemmas.List.{length-map}
 use Rattle.std.proofs.lemmas.Option.{same_Some}
 use Rattle.yf_lines.specs.Output.{Wrote}
 use Rattle.yf_events.specs.Event.{EventValue}
@@ -18,12 +18,6 @@ pub next_item : {X : Type 0} (f : X → List ℕ) (old new : Option (List ℕ)) 
 next_item f old new before after text xs i d within p =
     let cut : drop i xs ≡ get_or xs i d ∷ drop (i + 1) xs = rw add-one (drop-cons xs i d within) in
     subst (Progress old new before after text) (ap (flat_map f) cut) p
-
--- no item is left
-pub no_item : {X : Type 0} (f : X → List ℕ) (old new : Option (List ℕ)) (before after : Bool) (text : List ℕ) (xs : List X) (i : ℕ)
-    → length xs ≤ i → Progress old new before after text (flat_map f (drop i xs)) → Wrote old new before after text
-no_item f old new before after text xs i past p =
-    progress_done old new before after text (subst (Progress old new before after text) (ap (flat_map f) (drop_all i xs past)) p)
 
 -- Events, each with its resolved tag
 

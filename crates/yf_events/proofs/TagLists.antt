@@ -6,7 +6,7 @@ use Rattle.std.specs.Ordering.{nat_cmp, ordering_index}
 use Rattle.std.proofs.lemmas.Bool.{cases_lt}
 use Rattle.std.proofs.lemmas.Bool.Decides.{nat_tests}
 use Rattle.std.proofs.lemmas.Cmp.{ranked}
-use Rattle.std.proofs.lemmas.List.{get_or_append_left, get_or_default, get_or_push, length_push}
+use Rattle.std.proofs.lemmas.List.{get_or_append_left, get_or_default, length_push}
 use Rattle.std.proofs.lemmas.List.Sorted.{IsNonDecreasingBy-from_default}
 use Rattle.yf_events.specs.Tags.{Rises, event_at, tag_at, tags_listed}
 use Rattle.yf_events.specs.declared.tags.TaggedEvent.{TaggedEvent}
@@ -75,9 +75,6 @@ next_untagged n count ts r e =
     ap (λ w. tags_listed w ts) later
     ∙ ap (λ w. tags_listed n ts ++ w ∷ []) (absent ts n (λ k l same. omega (arith, r.within k l, same)))
 
-pub rises_untagged : (n count : ℕ) (ts : List TaggedEvent) → Rises n ts → count ≡ n + 1 → Rises count ts
-rises_untagged n count ts r e = record { rise = r.rise; within = λ k l. omega (arith, r.within k l, e) }
-
 -- the next event has a tag
 pub next_tagged : (n count : ℕ) (ts after : List TaggedEvent) (t : TaggedEvent) → Rises n ts → count ≡ n + 1 → t.event ≡ n → after ≡ ts ++ t ∷ []
     → tags_listed count after ≡ tags_listed n ts ++ Some t.tag ∷ []
@@ -91,28 +88,6 @@ next_tagged n count ts after t r e is more =
 
 event_before : (ts : List TaggedEvent) (t : TaggedEvent) (k : ℕ) → k < length ts → event_at (ts ++ t ∷ []) k ≡ event_at ts k
 event_before ts t k l = ap (λ w. w.event) (get_or_append_left ts (t ∷ []) no_tag k l)
-
-event_last : (ts : List TaggedEvent) (t : TaggedEvent) (k : ℕ) → length ts ≡ k → event_at (ts ++ t ∷ []) k ≡ t.event
-event_last ts t k e = ap (λ w. w.event) (get_or_push ts t no_tag k e)
-
-pub rises_tagged : (n count : ℕ) (ts after : List TaggedEvent) (t : TaggedEvent) → Rises n ts → count ≡ n + 1 → t.event ≡ n → after ≡ ts ++ t ∷ []
-    → Rises count after
-rises_tagged n count ts after t r e is more =
-    subst (Rises count) (sym more) (record {
-      rise = λ j k less l. elim (cases_lt k (length ts)) [
-        | inl inside ↦ omega (arith, event_before ts t j (omega (arith, less, inside)), event_before ts t k inside, r.rise j k less inside)
-        | inr past ↦
-            let last : length ts ≡ k = omega (arith, past, l, length_push ts t) in
-            let inside : j < length ts = omega (arith, less, last) in
-            omega (arith, event_before ts t j inside, event_last ts t k last, r.within j inside, is)
-      ];
-      within = λ k l. elim (cases_lt k (length ts)) [
-        | inl inside ↦ omega (arith, event_before ts t k inside, r.within k inside, e)
-        | inr past ↦
-            let last : length ts ≡ k = omega (arith, past, l, length_push ts t) in
-            omega (arith, event_last ts t k last, is, e)
-      ];
-    })
 
 -- a search by the events
 

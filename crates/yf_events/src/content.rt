@@ -155,8 +155,8 @@ fn add_directive<'r>(
 }
 
 fn add_document<'r>(
-    items: &mut Vec<DirectiveItem<'r>>,
     document: &'r Doc<'r>,
+    items: &mut Vec<DirectiveItem<'r>>,
 ) -> Result<(), AllocError>
     ensures { IfOk result (λ _. map before_value items.new.items ≡ map before_value items.old.items ++ items_of_document document.now) }
 {
@@ -175,7 +175,7 @@ fn directives<'r>(
 {
     let mut items = Vec::new(alloc);
     for document in documents {
-        add_document(&mut items, document)?;
+        add_document(document, &mut items)?;
     }
     Ok(items)
 }

@@ -37,18 +37,18 @@ impl<'a> Documents<'a> {
         }
     }
 
-    pub fn len(&self) -> usize
-        ensures { result ≡ length self.now }
-    {
-        self.list.len()
-    }
-
     /// Adds a document at the end.
     pub fn push(&mut self, document: Doc<'a>) -> Result<(), AllocError>
         ensures { self.new ≡ (if is_ok result then self.old ++ document.entry ∷ [] else self.old) }
     {
         self.list.push(document)?;
         Ok(())
+    }
+
+    pub fn len(&self) -> usize
+        ensures { result ≡ length self.now }
+    {
+        self.list.len()
     }
 
     pub fn as_slice(&self) -> &[Doc<'a>]

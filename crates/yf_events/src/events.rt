@@ -175,8 +175,8 @@ impl<'a> Events<'a> {
 
     /// Sets where the `:` stands of the entry that the event at an index begins, if it begins one.
     pub fn set_colon(&mut self, i: usize, colon: usize) -> Result<(), AllocError>
-        ensures edited { self.new ≡ (if is_ok result then edited (coloned colon) i self.old else self.old) }
         ensures len { length self.new ≡ length self.old }
+        ensures edited { self.new ≡ (if is_ok result then edited (coloned colon) i self.old else self.old) }
     {
         let colon = narrow(colon)?;
         if i < self.rows.len() {

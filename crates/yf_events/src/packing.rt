@@ -78,12 +78,12 @@ pub fn narrow_entry(entry: Option<Entry>) -> Result<Beginning, AllocError>
             let start = narrow(entry.start)?;
             match entry.colon {
                 Some(colon) => {
-                    let colon = narrow(colon)?;
                     let begins = if entry.blank_before {
                         Begins::KeyedAfterBlank
                     } else {
                         Begins::Keyed
                     };
+                    let colon = narrow(colon)?;
                     Ok(Beginning {
                         begins,
                         start,
@@ -125,6 +125,19 @@ fn bare<'a>(shape: Shape) -> Taken<'a>
 }
 
 #[inline(always)]
+fn begun<'a>(shape: Shape, props: Props<'a>) -> Taken<'a>
+    ensures { shape_value result.shape (props_value result.props) (text_or result.part.now result.owned) ≡ shape_value shape
+        (props_value props.entry) [] }
+{
+    Taken {
+        shape,
+        props,
+        part: "",
+        owned: None,
+    }
+}
+
+#[inline(always)]
 fn scalar_taken<'a>(props: Props<'a>, style: ScalarStyle, text: Text<'a>) -> Taken<'a>
     ensures { shape_value result.shape (props_value result.props) (text_or result.part.now result.owned) ≡ scalar_node
         (props_value props.entry) style (text_bytes text.entry) }
@@ -155,19 +168,9 @@ fn taken_apart<'a>(event: NewEvent<'a>) -> Taken<'a>
         NewEvent::StreamEnd => bare(Shape::StreamEnd),
         NewEvent::DocStart { explicit } => bare(Shape::DocStart { explicit }),
         NewEvent::DocEnd { explicit } => bare(Shape::DocEnd { explicit }),
-        NewEvent::SeqStart { flow, props } => Taken {
-            shape: Shape::SeqStart { flow },
-            props,
-            part: "",
-            owned: None,
-        },
+        NewEvent::SeqStart { flow, props } => begun(Shape::SeqStart { flow }, props),
         NewEvent::SeqEnd => bare(Shape::SeqEnd),
-        NewEvent::MapStart { flow, props } => Taken {
-            shape: Shape::MapStart { flow },
-            props,
-            part: "",
-            owned: None,
-        },
+        NewEvent::MapStart { flow, props } => begun(Shape::MapStart { flow }, props),
         NewEvent::MapEnd => bare(Shape::MapEnd),
         NewEvent::Scalar { props, style, text } => scalar_taken(props, style, text),
         NewEvent::Alias { name } => Taken {

@@ -24,8 +24,8 @@ use Rattle.yf_lines.specs.Lines.NewLine.{of_empty, of_break}
 use Rattle.yf_lines.specs.Lines.PlaceOf.{in_line, behind_lines}
 use Rattle.yf_lines.proofs.BasicLemmas.{break_end, break_forward}
 use Rattle.yf_lines.proofs.LineLemmas.{end_within, lines_unique}
-use Rattle.yf_lines.proofs.MarkLemmas.{marks_unique, ends_by_break, break_at_start}
-use Rattle.yf_lines.proofs.TableLemmas.{Follow, follow, line_at, line_before, line_of, some_same}
+use Rattle.yf_lines.proofs.MarkLemmas.{marks_unique, ends_by_break}
+use Rattle.yf_lines.proofs.TableLemmas.{Follow, follow, line_at, line_before, some_same}
 
 -- no character begins inside of another
 first_part : (c n : ℕ) (rest cs : List ℕ) (xs : List ℕ) → xs ≡ encode c ++ rest → encodes cs ≡ take n xs → 0 < n → n ≤ length xs → length (encode c) ≤ n
@@ -181,11 +181,3 @@ place_unique {t} {o} (in_line {ls} {l} {c} k a e p x) (in_line {ls = ms} {l = n}
 place_unique {t} {o} (in_line {ls} {l} k a e p x) (behind_lines b q n) = absurd (no_new_line t ls o a k l e p q n)
 place_unique {t} {o} (behind_lines b q n) (in_line {ls} {l} k a e p x) = absurd (no_new_line t ls o a k l e p q n)
 place_unique {t} (behind_lines {ls} a p n) (behind_lines {ls = ms} b q m) = (ap (λ w. length w + 1) (lines_unique t ls ms a b), refl)
-
--- after a break a line begins, unless the text ends there
-pub line_behind_break : (t : List ℕ) (ls : List Line) (i e : ℕ) → AreLines t ls → Break t i e → e < length t
-    → (k : ℕ) × (l : Line) × (slice_get ls k ≡ Some l) × (l.start ≡ e)
-line_behind_break t ls i e a b w =
-    let r = line_of t ls e a w in
-    let m = (line_at t ls 0 (length t) r.index r.line (follow a) r.is).made in
-    (r.index, r.line, r.is, break_at_start r.line m b r.from r.before)

@@ -52,9 +52,6 @@ end_lf t n l b = end_by t n 1 (n - 1) (width_lf (code t (n - 2)) (code t (n - 1)
 pub end_cr : (t : List ℕ) (n : ℕ) → code t (n - 1) ≡ 13 → end_before t n ≡ n - 1
 end_cr t n l = end_by t n 1 (n - 1) (width_cr (code t (n - 2)) (code t (n - 1)) l) refl
 
-pub end_other : (t : List ℕ) (n : ℕ) → code t (n - 1) ≢ 10 → code t (n - 1) ≢ 13 → end_before t n ≡ n
-end_other t n a b = end_by t n 0 n (width_other (code t (n - 2)) (code t (n - 1)) a b) (omega arith)
-
 break_found : {t : List ℕ} {i j : ℕ} → Break t i j → end_before t j ≡ i
 break_found {t} {i} (cr_lf a b) =
     end_cr_lf t (i + 2) (ap (code t) (omega arith) ∙ b) (ap (code t) (omega arith) ∙ a) ∙ omega arith

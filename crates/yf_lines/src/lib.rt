@@ -10,6 +10,7 @@ pub mod output;
 pub mod place;
 pub mod quotes;
 pub mod rows;
+pub mod slices;
 pub mod source_text;
 pub mod steady;
 pub mod table;

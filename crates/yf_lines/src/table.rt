@@ -1,11 +1,12 @@
 //! The lines of a text, found once and kept.
 ghost use Rattle.std.specs.Prelude.{◌≡◌, ◌↔◌, ◌≢◌, ◌+◌, ◌-◌, ◌<◌, ◌≤◌, ◌⊎◌, ℕ, true, false, Some, List, [], ◌∷◌, length, slice_get, IfOk, IfSome, IsTrue, MatchBool};
 ghost use Rattle.std.specs.Str.{IsCharBoundary};
+ghost use Rattle.yf_chars.specs.Chain.{Many};
 ghost use Rattle.yf_chars.specs.Class.{is_break_char};
 ghost use Rattle.yf_chars.specs.Text.{code};
 ghost use Rattle.yf_lines.specs.Basic.{LineStart, Forbidden, Clear};
 ghost use Rattle.yf_lines.specs.declared.line.Line.{Line};
-ghost use Rattle.yf_lines.specs.Lines.{AreLines, IsLine, IsCutAt, OneLine, Unbroken, Apart, Marks, IsForbiddenLine, PlaceOf, ColumnOf};
+ghost use Rattle.yf_lines.specs.Lines.{AreLines, IsLine, IsCutAt, OneLine, Unbroken, Apart, Marks, IsForbiddenLine, PlaceOf, ColumnOf, is_char};
 
 use crate::basic::{line_break, mark_stands, marker_stands, skip_spaces};
 use crate::line::Line;
@@ -138,21 +139,34 @@ fn column_in_line(text: &str, start: usize, offset: usize) -> usize
     requires offset { IsCharBoundary text.now offset }
     ensures { ColumnOf text.now start offset result }
 {
-    let mut at = skip_marks(text, start);
-    let mut column = 1;
+    let at = skip_marks(text, start);
     if offset < at {
-        return column;
+        return 1;
     }
+    column_from(text, at, 1, offset)
+}
+
+/// The column of the byte offset, from that of an earlier one in its line on.
+pub fn column_from(text: &str, from: usize, column: usize, offset: usize) -> usize
+    requires from { IsCharBoundary text.now from }
+    requires offset { IsCharBoundary text.now offset }
+    requires order { from ≤ offset }
+    requires room { column ≤ from + 1 }
+    ensures characters { (x : List ℕ) × Many text.now is_char from offset x × (result ≡ column + length x) }
+    ensures room { result ≤ offset + 1 }
+{
+    let mut at = from;
+    let mut reached = column;
     while at < offset {
         match peek(text, at) {
             Some((_, next)) => {
                 at = next;
-                column += 1;
+                reached += 1;
             }
             None => unreachable!(),
         }
     }
-    column
+    reached
 }
 
 // Whether the line that begins at the offset is forbidden.
@@ -164,12 +178,12 @@ fn is_forbidden_line(text: &str, start: usize) -> bool
     marker_stands(text, at)
 }
 
-// The offset after all byte order marks that stand at the offset.
-fn skip_marks(text: &str, at: usize) -> usize
+/// The offset after all byte order marks that stand at the offset.
+pub fn skip_marks(text: &str, at: usize) -> usize
     requires { IsCharBoundary text.now at }
     ensures marks { Marks text.now at result }
-    ensures boundary { IsCharBoundary text.now result }
     ensures order { at ≤ result }
+    ensures boundary { IsCharBoundary text.now result }
 {
     let mut end = at;
     while mark_stands(text, end) {

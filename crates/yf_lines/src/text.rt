@@ -2,6 +2,7 @@
 ghost use Rattle.std.specs.Prelude.{◌≡◌, List, ℕ};
 ghost use Rattle.std.specs.String.{string_bytes};
 
+use crate::fault::Fault;
 use std::marker::Model;
 
 /// A text of one's own. In a contract it is the list of its bytes, which are UTF-8.
@@ -37,6 +38,10 @@ pub enum Text<'a> {
     Part(&'a str),
     Owned(OwnedText),
 }
+
+/// What a reader of texts answers: the text that stands there with the offset after it, `None` where none does, or a
+/// refusal.
+pub type FoundText<'a> = Result<Option<(Text<'a>, usize)>, Fault>;
 
 impl Text<'_> {
     ghost use Rattle.yf_lines.specs.Text.{text_bytes};

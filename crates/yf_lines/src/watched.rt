@@ -106,20 +106,6 @@ impl<T: Read> Read for Watched<T> {
     }
 }
 
-impl<T: Read> Source for Watched<T> {
-    ghost use Rattle.yf_lines.specs.Watched.{watched_failed};
-
-    ghost has_failed = { λ watched. watched_failed watched };
-
-    fn read_watched(&mut self, buffer: &mut [u8]) -> io::Result<usize> {
-        self.read(buffer)
-    }
-
-    fn failed(&self) -> bool {
-        self.failed
-    }
-}
-
 impl<T: Write> Write for Watched<T> {
     ghost use Rattle.yf_lines.specs.Watched.{Notes, WriteNotes, watched_inner, watched_failed};
 
@@ -155,6 +141,20 @@ impl<T: Write> Write for Watched<T> {
                 Err(error)
             }
         }
+    }
+}
+
+impl<T: Read> Source for Watched<T> {
+    ghost use Rattle.yf_lines.specs.Watched.{watched_failed};
+
+    ghost has_failed = { λ watched. watched_failed watched };
+
+    fn read_watched(&mut self, buffer: &mut [u8]) -> io::Result<usize> {
+        self.read(buffer)
+    }
+
+    fn failed(&self) -> bool {
+        self.failed
     }
 }
 

@@ -19,7 +19,7 @@ use yf_lines::basic::{is_forbidden_at, skip_whites};
 use yf_lines::fault::Fault;
 use yf_lines::fold::{flow_folded, indent_width};
 use yf_lines::source_text::Src;
-use yf_lines::text::{OwnedText, Text};
+use yf_lines::text::{FoundText, OwnedText, Text};
 
 /// Reads a plain scalar (ns-plain(n,c), production 131) that begins at the byte offset: its text, folded, and the offset
 /// after it, or `None` where no plain scalar begins. `n` is the indentation, from -1.
@@ -30,13 +30,7 @@ use yf_lines::text::{OwnedText, Text};
 /// # Errors
 ///
 /// `Fault::Memory` alone.
-pub fn read_plain<'a>(
-    alloc: Global,
-    src: &Src<'a>,
-    at: usize,
-    n: i32,
-    ctx: Ctx,
-) -> Result<Option<(Text<'a>, usize)>, Fault>
+pub fn read_plain<'a>(alloc: Global, src: &Src<'a>, at: usize, n: i32, ctx: Ctx) -> FoundText<'a>
     requires { IsCharBoundary src.now.text at }
     ensures reads { IfOk result (λ o. MatchOption o (Stuck (Plain src.now.text n ctx at))
         (λ p. (x : List ℕ) × (text_bytes p.0 ≡ encode_utf8_all x) × Chosen (Plain src.now.text n ctx at) p.1 x)) }
@@ -47,17 +41,12 @@ pub fn read_plain<'a>(
 }
 
 /// The same in a text without its lines.
-pub fn read_plain_in<'a>(
-    alloc: Global,
-    s: &'a str,
-    at: usize,
-    n: i32,
-    ctx: Ctx,
-) -> Result<Option<(Text<'a>, usize)>, Fault>
+pub fn read_plain_in<'a>(alloc: Global, s: &'a str, at: usize, n: i32, ctx: Ctx) -> FoundText<'a>
     requires { IsCharBoundary s.now at }
     ensures reads { IfOk result (λ o. MatchOption o (Stuck (Plain s.now n ctx at))
         (λ p. (x : List ℕ) × (text_bytes p.0 ≡ encode_utf8_all x) × Chosen (Plain s.now n ctx at) p.1 x)) }
     ensures boundary { IfOk result (λ o. IfSome o (λ p. IsCharBoundary s.now p.1)) }
+    ensures order { IfOk result (λ o. IfSome o (λ p. at < p.1)) }
     ensures refused { IfErr result (λ e. e ≡ Fault.Memory) }
 {
     if is_block(ctx) {

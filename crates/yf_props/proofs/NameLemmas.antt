@@ -85,17 +85,14 @@ module _ {t : List ℕ} where
   pub anchor_parts : {i j : ℕ} {x : List ℕ} → Anchor t i j x → (code t i ≡ 38) × Run (AnchorChar t) (i + 1) j
   anchor_parts (ampersand_name e r) = (e, r)
 
-  pub no_alias_here : {i : ℕ} → code t i ≢ 42 → Stuck (Alias t i)
-  no_alias_here n = record { none = λ j x a. n (alias_parts a).0 }
-
   pub no_anchor_here : {i : ℕ} → code t i ≢ 38 → Stuck (Anchor t i)
   no_anchor_here n = record { none = λ j x a. n (anchor_parts a).0 }
 
-  pub no_alias_name : {i : ℕ} → is_anchor_char (code t (i + 1)) ≡ false → Stuck (Alias t i)
-  no_alias_name {i} n = record { none = λ j x a. run_stuck (one_stuck t is_anchor_char (i + 1) n) (alias_parts a).1 }
+  pub no_alias : {i : ℕ} → (code t i ≡ 42 → is_anchor_char (code t (i + 1)) ≡ false) → Stuck (Alias t i)
+  no_alias {i} n = record { none = λ j x a. let p = alias_parts a in run_stuck (one_stuck t is_anchor_char (i + 1) (n p.0)) p.1 }
 
-  pub no_anchor_name : {i : ℕ} → is_anchor_char (code t (i + 1)) ≡ false → Stuck (Anchor t i)
-  no_anchor_name {i} n = record { none = λ j x a. run_stuck (one_stuck t is_anchor_char (i + 1) n) (anchor_parts a).1 }
+  pub no_anchor : {i : ℕ} → (code t i ≡ 38 → is_anchor_char (code t (i + 1)) ≡ false) → Stuck (Anchor t i)
+  no_anchor {i} n = record { none = λ j x a. let p = anchor_parts a in run_stuck (one_stuck t is_anchor_char (i + 1) (n p.0)) p.1 }
 
 -- at the end of the text no character of a name stands
 pub no_anchor_char : (c : ℕ) → c ≡ no_char → is_anchor_char c ≡ false

@@ -24,6 +24,7 @@ use Rattle.yf_comments.specs.Comments.Separate.{in_key, in_node}
 use Rattle.yf_comments.proofs.RowLemmas.{end_white, text_hash, separate_whites, row_functional, rest_tail, no_separation, stuck_alone}
 use Rattle.yf_comments.proofs.LineEndLemmas.{line_end_rows, line_end_stuck}
 use Rattle.yf_comments.proofs.SeparateLemmas.{prefix_whites}
+pub use Rattle.yf_comments.proofs.LineOrder.{separate_forward}
 
 -- with the character there no separation goes on, and no line ends
 pub record Apparent (t : List ℕ) (k : ℕ) : Type 0 where
@@ -68,15 +69,6 @@ module _ {t : List ℕ} where
   tail : {n : ℤ} {c : Ctx} {h k : ℕ} {x : List CommentValue} → Separate t n c h k x → Tailed t h k x
   tail (in_key e s) = in_line_tail s
   tail (in_node e s) = lines_tail s
-
-  tail_forward : {h k : ℕ} {x : List CommentValue} → Tailed t h k x → h ≤ k
-  tail_forward a =
-      let l = chain_forward row_functional a.rows in
-      let m = chain_forward (one_functional t is_white) a.whites_to in
-      omega arith
-
-  pub separate_forward : {n : ℤ} {c : Ctx} {h k : ℕ} {x : List CommentValue} → Separate t n c h k x → h ≤ k
-  separate_forward s = tail_forward (tail s)
 
   -- no line's rest goes past such a character after white space
   blocked : {p r k : ℕ} {w : List ℕ} {z : List CommentValue} → Many t is_white p k w → Apparent t k → LineRest t p r z → ⊥

@@ -9,16 +9,22 @@ ghost use Rattle.yf_props.specs.Names.{AnchorChar, Run, Alias, Anchor};
 use yf_chars::runs::{AnchorChars, skip_while};
 use yf_chars::text::stands;
 
-// Reads the name of an anchor or an alias (ns-anchor-name, production 103) and gives it with the offset after it.
-fn anchor_name<'a>(s: &'a str, at: usize) -> Option<(&'a str, usize)>
-    requires { IsCharBoundary s.now at }
-    ensures reads { MatchOption result (is_anchor_char (code s.now at) ≡ false) (λ p. Run (AnchorChar s.now) at p.1) }
-    ensures name { IfSome result (λ p. p.0.now ≡ slice_range s.now at p.1) }
+// Reads the name of an anchor or an alias (ns-anchor-name, production 103) after its sign, and gives it with the offset
+// after it.
+fn name_after<'a>(s: &'a str, at: usize, sign: u8) -> Option<(&'a str, usize)>
+    requires { sign < 128 }
+    ensures reads { MatchOption result (code s.now at ≡ sign → is_anchor_char (code s.now (at + 1)) ≡ false)
+        (λ p. (code s.now at ≡ sign) × Run (AnchorChar s.now) (at + 1) p.1) }
+    ensures name { IfSome result (λ p. p.0.now ≡ slice_range s.now (at + 1) p.1) }
     ensures boundary { IfSome result (λ p. IsCharBoundary s.now p.1) }
 {
-    let end = skip_while::<AnchorChars>(s, at);
-    if end > at {
-        return Some((&s[at..end], end));
+    if stands(s, at, sign) {
+        let start = at + 1;
+        let end = skip_while::<AnchorChars>(s, start);
+        if end > start {
+            return Some((&s[start..end], end));
+        }
+        return None;
     }
     None
 }
@@ -30,13 +36,10 @@ pub fn alias_node<'a>(s: &'a str, at: usize) -> Option<(&'a str, usize)>
     ensures reads { MatchOption result (Stuck (Alias s.now at)) (λ p. Chosen (Alias s.now at) p.1 p.0.now) }
     ensures boundary { IfSome result (λ p. IsCharBoundary s.now p.1) }
 {
-    if stands(s, at, b'*') {
-        return match anchor_name(s, at + 1) {
-            Some((name, end)) => Some((name, end)),
-            None => None,
-        };
+    match name_after(s, at, b'*') {
+        Some((name, end)) => Some((name, end)),
+        None => None,
     }
-    None
 }
 
 // Reads an anchor (c-ns-anchor-property, production 101): its name, without the `&`, and the offset after it.
@@ -44,11 +47,8 @@ pub(crate) fn anchor_property<'a>(s: &'a str, at: usize) -> Option<(&'a str, usi
     ensures reads { MatchOption result (Stuck (Anchor s.now at)) (λ p. Chosen (Anchor s.now at) p.1 p.0.now) }
     ensures boundary { IfSome result (λ p. IsCharBoundary s.now p.1) }
 {
-    if stands(s, at, b'&') {
-        return match anchor_name(s, at + 1) {
-            Some((name, end)) => Some((name, end)),
-            None => None,
-        };
+    match name_after(s, at, b'&') {
+        Some((name, end)) => Some((name, end)),
+        None => None,
     }
-    None
 }

@@ -106,9 +106,9 @@ impl<'a> Handles<'a> {
         tag: &Tag<'a>,
         place: Place,
     ) -> Result<ResolvedTag<'a>, Fault>
-        ensures text { IfOk result (λ text. TagText self.now (tag_value tag.now) text) }
         ensures refused { IfErr result (λ fault. (fault ≡ Fault.Memory)
             ⊎ ((fault ≡ Fault.UnknownHandle place) × UnknownHandleOf self.now (tag_value tag.now))) }
+        ensures text { IfOk result (λ text. TagText self.now (tag_value tag.now) text) }
     {
         match *tag {
             Tag::Verbatim(text) => Ok(ResolvedTag::new(text, Text::Part(""))),

@@ -1,5 +1,5 @@
 //! Properties of a node (YAML 1.2.2, section 6.9).
-ghost use Rattle.std.specs.Prelude.{◌≡◌, IfOk, IfSome, MatchOption};
+ghost use Rattle.std.specs.Prelude.{◌≡◌, ◌<◌, IfOk, IfSome, MatchOption};
 ghost use Rattle.std.specs.Str.{IsCharBoundary};
 ghost use Rattle.yf_chars.specs.Chain.{Chosen, Stuck};
 ghost use Rattle.yf_props.specs.Names.{Anchor, TagProperty, anchor_only, tag_only, Properties as PropertiesOf};
@@ -145,6 +145,7 @@ pub fn node_properties<'a>(
     ensures reads { IfOk result (λ o. MatchOption o (Stuck (PropertiesOf s.now n ctx at))
         (λ p. Chosen (PropertiesOf s.now n ctx at) p.end (properties_value p))) }
     ensures boundary { IfOk result (λ o. IfSome o (λ p. IsCharBoundary s.now p.end)) }
+    ensures order { IfOk result (λ o. IfSome o (λ p. at < p.end)) }
 {
     match anchor_property(s, at) {
         Some((anchor, end)) => {

@@ -1,5 +1,5 @@
 //! Tags (YAML 1.2.2, section 6.9.1).
-ghost use Rattle.std.specs.Prelude.{◌≡◌, ◌+◌, ◌<◌, ◌≤◌, ℕ, List, true, false, IfSome, MatchOption};
+ghost use Rattle.std.specs.Prelude.{◌≡◌, ◌+◌, ◌<◌, ◌≤◌, ℕ, List, true, false, IfSome, MatchOption, slice_range};
 ghost use Rattle.std.specs.Str.{IsCharBoundary};
 ghost use Rattle.yf_chars.specs.Signs.{EXCLAMATION};
 ghost use Rattle.yf_chars.specs.Chain.{Chain, Chosen, Stuck};
@@ -8,25 +8,25 @@ ghost use Rattle.yf_chars.specs.Text.{code, Reads};
 ghost use Rattle.yf_props.specs.Chars.{class_of};
 ghost use Rattle.yf_props.specs.Names.{Spelled, TagChar, Run, Handle, VerbatimTag, ShorthandTag, TagProperty, TagPrefix};
 ghost use Rattle.yf_props.specs.Props.{tag_value};
-ghost use Rattle.yf_props.specs.Props.TagValue.{IsVerbatim};
+ghost use Rattle.yf_props.specs.Props.TagValue.{IsShort, IsVerbatim};
 
 use crate::props::Tag;
 use yf_chars::classes::{is_hex_digit, is_tag_char, is_uri_char};
 use yf_chars::runs::{WordChars, skip_while};
 use yf_chars::text::{peek, stands};
 
-// Which characters a part of a tag may hold as themselves: all of a URI, or those of a suffix.
-#[derive(Clone, Copy)]
-enum Chars {
-    Uri,
-    Suffix,
-}
-
 // A tag that was read, and the offset after it.
 #[derive(Clone, Copy)]
 pub(crate) struct TagPart<'a> {
     pub(crate) tag: Tag<'a>,
     pub(crate) end: usize,
+}
+
+// Which characters a part of a tag may hold as themselves: all of a URI, or those of a suffix.
+#[derive(Clone, Copy)]
+enum Chars {
+    Uri,
+    Suffix,
 }
 
 // Whether the class holds the character.
@@ -156,6 +156,26 @@ fn verbatim<'a>(s: &'a str, at: usize) -> Option<TagPart<'a>>
     None
 }
 
+// Reads the suffix of a shorthand tag, whose handle begins at `at` and ends at `start`.
+fn suffix_after<'a>(s: &'a str, at: usize, start: usize) -> Option<TagPart<'a>>
+    requires first { IsCharBoundary s.now at }
+    requires second { IsCharBoundary s.now start }
+    requires order { at ≤ start }
+    ensures reads { MatchOption result (Stuck (TagChar s.now start)) (λ p. Run (TagChar s.now) start p.end) }
+    ensures value { IfSome result (λ p. tag_value p.tag ≡ IsShort (slice_range s.now at start) (slice_range s.now start p.end)) }
+    ensures boundary { IfSome result (λ p. IsCharBoundary s.now p.end) }
+{
+    let end = skip_chars(s, start, Chars::Suffix);
+    if end > start {
+        let tag = Tag::Short {
+            handle: &s[at..start],
+            suffix: &s[start..end],
+        };
+        return Some(TagPart { tag, end });
+    }
+    None
+}
+
 // Reads a shorthand tag whose handle is not the lone `!`.
 fn long_shorthand<'a>(s: &'a str, at: usize) -> Option<TagPart<'a>>
     requires { Reads s.now at EXCLAMATION (at + 1) }
@@ -165,16 +185,10 @@ fn long_shorthand<'a>(s: &'a str, at: usize) -> Option<TagPart<'a>>
 {
     let name_end = skip_while::<WordChars>(s, at + 1);
     if stands(s, name_end, b'!') {
-        let start = name_end + 1;
-        let end = skip_chars(s, start, Chars::Suffix);
-        if end > start {
-            let tag = Tag::Short {
-                handle: &s[at..start],
-                suffix: &s[start..end],
-            };
-            return Some(TagPart { tag, end });
-        }
-        return None;
+        return match suffix_after(s, at, name_end + 1) {
+            Some(part) => Some(part),
+            None => None,
+        };
     }
     None
 }
@@ -188,18 +202,10 @@ fn shorthand<'a>(s: &'a str, at: usize) -> Option<TagPart<'a>>
 {
     match long_shorthand(s, at) {
         Some(part) => Some(part),
-        None => {
-            let start = at + 1;
-            let end = skip_chars(s, start, Chars::Suffix);
-            if end > start {
-                let tag = Tag::Short {
-                    handle: &s[at..start],
-                    suffix: &s[start..end],
-                };
-                return Some(TagPart { tag, end });
-            }
-            None
-        }
+        None => match suffix_after(s, at, at + 1) {
+            Some(part) => Some(part),
+            None => None,
+        },
     }
 }
 

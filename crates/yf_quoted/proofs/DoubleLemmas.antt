@@ -176,10 +176,6 @@ line_kind : {t : List ℕ} {i j : ℕ} {x : List Piece} → Gap t goods (DoubleB
 line_kind (by_whites {x = x} m n) = whites_alone x m n refl
 line_kind (by_break b n) = absurd b
 
-any_kind : {t : List ℕ} (o : Option ℕ) {i j : ℕ} {x : List Piece} → Gap t goods (DoubleBreaks t o) i j x → (n : ℤ) × Kind t n i j x
-any_kind None g = (pos 0, line_kind g)
-any_kind (Some w) g = (pos w, gap_kind g)
-
 pub double_laws : (t : List ℕ) (o : Option ℕ) → Laws t goods (DoubleChar t) (DoubleBreaks t o) 34
 double_laws t None = record {
   chars = char_functional t;

@@ -1,5 +1,5 @@
 -- Laws for the reader of double-quoted scalars.
-use Rattle.std.proofs.Common.{◌≡◌, ◌≢◌, ℕ, ◌+◌, Bool, false, List, [], ◌∷◌, ◌++◌, Option, Some, None, refl, sym, ap, ◌∙◌, subst, inl, inr, arith, append_assoc, append-nil, encode_utf8_all, encode_utf8, SomeIff, IfSome}
+use Rattle.std.proofs.Common.{◌≡◌, ◌≢◌, ℕ, ◌+◌, Bool, false, List, [], ◌∷◌, ◌++◌, Option, Some, None, refl, sym, ap, ◌∙◌, subst, inl, inr, arith, append_assoc, append-nil, encode_utf8_all, encode_utf8, SomeIff}
 use Rattle.std.proofs.lemmas.Bool.{true≢false}
 use Rattle.std.proofs.lemmas.List.Elements.{All-append, All-cons, All-nil}
 use Rattle.std.proofs.lemmas.Str.{encodes-append}
@@ -8,11 +8,10 @@ use Rattle.std.specs.List.{All}
 use Rattle.std.specs.Str.{IsUtf8, IsCharBoundary}
 use Rattle.yf_chars.specs.Text.{code, no_char}
 use Rattle.yf_chars.specs.Class.{is_nb_json, is_between}
-use Rattle.yf_chars.specs.Chain.{Chain, Stuck}
+use Rattle.yf_chars.specs.Chain.{Chain}
 use Rattle.yf_chars.specs.Chain.Chain.{done}
 use Rattle.yf_chars.specs.Escape.{Escape}
 use Rattle.yf_chars.proofs.EscapeLemmas.{escape_backslash, escape_no_sign}
-use Rattle.yf_chars.proofs.TextLemmas.{next_later}
 use Rattle.yf_chars.proofs.ChainLemmas.{chain_more}
 use Rattle.yf_lines.specs.Basic.{Clear}
 use Rattle.yf_lines.proofs.BasicLemmas.{clear_join, clear_back}
@@ -35,12 +34,6 @@ no_simple_end e = record { none = λ j n m a. true≢false (sym j ∙ ap is_nb_j
 -- characters
 pub clear_escape : {t : List ℕ} {i j v : ℕ} → Escape t i j v → Clear t i j
 clear_escape {t} e = let n = escape_no_sign e in record { none = λ h l m f. let s = n.none h l m in not_forbidden t h s.0 s.1 f }
-
-pub no_double_char : {t : List ℕ} {i : ℕ} → NoSimple t i → Stuck (Escape t i) → NoDoubleChar t i
-no_double_char {t} {i} n s = record { none = λ j y d a. go (written d) a } where
-  go : {j : ℕ} {y : List Piece} → Written t i j y → Clear t i j → ⊥
-  go (itself b q e p x) a = let f = next_later t i in n.none e b q (λ g. a.none i (omega arith) (omega arith) g)
-  go {j} (by_escape v e) a = s.none j v e
 
 pub no_char_end : {t : List ℕ} {i : ℕ} → code t i ≡ no_char → NoDoubleChar t i
 no_char_end {t} {i} e = record { none = λ j y d a. go (written d) } where

@@ -54,10 +54,6 @@ single_forward {t} {i} {j} {x} a = go (single_written a) where
 pub single_functional : (t : List ℕ) → Functional (SingleChar t)
 single_functional t = record { one_end = λ a b. (single_same a b).0; one_meaning = λ a b. (single_same a b).1; forward = λ a. single_forward a }
 
--- where a gap may end no break is there
-pub SingleGoesOn : List ℕ → ℕ → Type 0
-SingleGoesOn t k = ((l : ℕ) × (z : List ℕ) × SingleChar t k l z) ⊎ (code t k ≡ 39)
-
 char_no_break : {t : List ℕ} {k l : ℕ} {z : List ℕ} → SingleChar t k l z → Nowhere (Break t k)
 char_no_break {t} {k} {l} {z} a = go (single_written a) where
   json : (d : ℕ) → is_nb_json d ≡ false → is_nb_json (code t k) ≡ true → code t k ≢ d

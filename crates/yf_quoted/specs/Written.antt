@@ -1,5 +1,5 @@
 -- How a text is written in quotes on one line (YAML 1.2.2, sections 7.3.1 and 7.3.2), and what reading that gives.
-use Rattle.std.specs.Prelude.{◌≡◌, ◌≢◌, ℕ, ◌+◌, ℤ, Bool, true, false, ◌==◌, ◌&&◌, List, [], ◌∷◌, ◌++◌, drop, length, flat_map, encode_utf8_all, if◌then◌else◌, None}
+use Rattle.std.specs.Prelude.{◌≡◌, ◌≢◌, ℕ, ◌+◌, ℤ, Bool, true, false, ◌==◌, ◌&&◌, List, [], ◌∷◌, ◌++◌, drop, length, flat_map, encode_utf8_all, if◌then◌else◌}
 use Rattle.std.specs.Str.{IsUtf8}
 use Rattle.yf_chars.specs.Signs.{DOUBLE_QUOTE, SINGLE_QUOTE}
 use Rattle.yf_chars.specs.declared.context.Ctx.{Ctx}

@@ -1,7 +1,5 @@
 //! The reader of double-quoted scalars. Offsets count bytes.
-ghost use Rattle.std.specs.Prelude.{◌≡◌, ◌<◌, ◌≤◌, ◌++◌, ◌+◌, ◌∷◌, [], ℕ, Bool, true, false, List, IfSome, IfOk, IfErr, MatchOption, length, encode_utf8_all};
-ghost use Rattle.std.specs.List.{All};
-ghost use Rattle.std.specs.Str.{IsCharBoundary};
+ghost use Rattle.std.specs.Prelude.{◌≡◌, ◌<◌, ◌≤◌, ◌++◌, ◌+◌, ◌∷◌, [], ℕ, Bool, true, false, List, All, IfSome, IfOk, IfErr, IsCharBoundary, MatchOption, length, encode_utf8_all};
 ghost use Rattle.yf_chars.specs.Signs.{DOUBLE_QUOTE};
 ghost use Rattle.yf_lines.specs.Basic.{Clear};
 ghost use Rattle.yf_lines.specs.FaultPlaces.{IsFirstPlace};
@@ -12,7 +10,7 @@ ghost use Rattle.yf_quoted.specs.Quoted as Q;
 ghost use Rattle.yf_quoted.specs.Fault.{DoubleFault};
 ghost use Rattle.yf_chars.specs.Text.{Reads};
 
-use crate::gap::{double_gap, is_block, lines_width, push_gap};
+use crate::gap::{Found, double_gap, is_block, lines_width, push_gap};
 use crate::offsets::Offsets;
 use std::alloc::{AllocError, Global};
 use yf_chars::classes::is_nb_json;
@@ -23,7 +21,7 @@ use yf_lines::basic::is_forbidden_at;
 use yf_lines::fault::Fault;
 use yf_lines::place::Place;
 use yf_lines::source_text::Src;
-use yf_lines::text::{OwnedText, Text};
+use yf_lines::text::{FoundText, OwnedText, Text};
 
 /// Reads a double-quoted scalar (c-double-quoted(n,c), production 109) that begins at the byte offset: its text, and the
 /// offset after it, or `None` where no such scalar stands there. `n` is the indentation, from -1.
@@ -33,13 +31,7 @@ use yf_lines::text::{OwnedText, Text};
 /// # Errors
 ///
 /// `Fault::EscapeValue` at the first escape whose number is no character; `Fault::Memory`.
-pub fn read_double<'a>(
-    alloc: Global,
-    src: &Src<'a>,
-    at: usize,
-    n: i32,
-    ctx: Ctx,
-) -> Result<Option<(Text<'a>, usize)>, Fault>
+pub fn read_double<'a>(alloc: Global, src: &Src<'a>, at: usize, n: i32, ctx: Ctx) -> FoundText<'a>
     requires { IsCharBoundary src.now.text at }
     ensures reads { IfOk result (λ o. MatchOption o (Stuck (Q.DoubleQuoted src.now.text n ctx at))
         (λ p. (x : List Q.Piece) × (text_bytes p.0 ≡ encode_utf8_all (Q.text_of x)) × (Q.bad_escapes x ≡ [])
@@ -101,13 +93,7 @@ pub struct Double<'a> {
 }
 
 /// The same in a text without its lines.
-pub fn double_in<'a>(
-    alloc: Global,
-    s: &'a str,
-    at: usize,
-    n: i32,
-    ctx: Ctx,
-) -> Result<Option<Double<'a>>, AllocError>
+pub fn double_in<'a>(alloc: Global, s: &'a str, at: usize, n: i32, ctx: Ctx) -> Found<Double<'a>>
     requires { IsCharBoundary s.now at }
     ensures reads { IfOk result (λ o. MatchOption o (Stuck (Q.DoubleQuoted s.now n ctx at))
         (λ p. (x : List Q.Piece) × (text_bytes p.text ≡ encode_utf8_all (Q.text_of x)) × (p.bad ≡ Q.bad_escapes x)
@@ -217,12 +203,7 @@ fn double_char(s: &str, at: usize) -> Option<DoubleChar>
 }
 
 // The rest of a double-quoted scalar after its opening quote.
-fn double_body<'a>(
-    alloc: Global,
-    s: &'a str,
-    at: usize,
-    width: Option<usize>,
-) -> Result<Option<Double<'a>>, AllocError>
+fn double_body<'a>(alloc: Global, s: &'a str, at: usize, width: Option<usize>) -> Found<Double<'a>>
     requires { IsCharBoundary s.now at }
     ensures reads { IfOk result (λ o. MatchOption o (NoDoubleBody s.now width at)
         (λ p. DoubleRead s.now width at (text_bytes p.text) p.bad p.end)) }

@@ -14,6 +14,9 @@ use yf_chars::text::stands;
 use yf_lines::basic::{line_break, skip_whites};
 use yf_lines::fold::{flow_folded, fold_lines, indent_width};
 
+/// What a reader of quoted scalars answers: what it read, `None` where no such scalar stands, or a refusal of memory.
+pub type Found<T> = Result<Option<T>, AllocError>;
+
 /// White space or a line break between two characters: the white space up to `blank_end` stay, then come a space or line feeds.
 #[derive(Clone, Copy)]
 pub struct Gap {

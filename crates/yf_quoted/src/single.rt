@@ -11,7 +11,7 @@ ghost use Rattle.yf_lines.specs.Text.{text_bytes};
 ghost use Rattle.yf_quoted.specs.Body.{NoSingleChar, NoSingleBody, SingleRead};
 ghost use Rattle.yf_quoted.specs.Quoted as Q;
 
-use crate::gap::{is_block, lines_width, push_gap, single_gap};
+use crate::gap::{Found, is_block, lines_width, push_gap, single_gap};
 use std::alloc::{AllocError, Global};
 use yf_chars::classes::is_nb_json;
 use yf_chars::context::Ctx;
@@ -19,7 +19,7 @@ use yf_chars::text::{peek, stands};
 use yf_lines::basic::is_forbidden_at;
 use yf_lines::fault::Fault;
 use yf_lines::source_text::Src;
-use yf_lines::text::{OwnedText, Text};
+use yf_lines::text::{FoundText, OwnedText, Text};
 
 /// Reads a single-quoted scalar (c-single-quoted(n,c), production 120) that begins at the byte offset: its text, folded,
 /// and the offset after it, or `None` where no such scalar stands there. `n` is the indentation, from -1.
@@ -30,13 +30,7 @@ use yf_lines::text::{OwnedText, Text};
 /// # Errors
 ///
 /// `Fault::Memory` alone.
-pub fn read_single<'a>(
-    alloc: Global,
-    src: &Src<'a>,
-    at: usize,
-    n: i32,
-    ctx: Ctx,
-) -> Result<Option<(Text<'a>, usize)>, Fault>
+pub fn read_single<'a>(alloc: Global, src: &Src<'a>, at: usize, n: i32, ctx: Ctx) -> FoundText<'a>
     requires { IsCharBoundary src.now.text at }
     ensures reads { IfOk result (λ o. MatchOption o (Stuck (Q.SingleQuoted src.now.text n ctx at))
         (λ p. (x : List ℕ) × (text_bytes p.0 ≡ encode_utf8_all x) × Chosen (Q.SingleQuoted src.now.text n ctx at) p.1 x)) }
@@ -58,13 +52,7 @@ pub struct Single<'a> {
 }
 
 /// The same in a text without its lines.
-pub fn single_in<'a>(
-    alloc: Global,
-    s: &'a str,
-    at: usize,
-    n: i32,
-    ctx: Ctx,
-) -> Result<Option<Single<'a>>, AllocError>
+pub fn single_in<'a>(alloc: Global, s: &'a str, at: usize, n: i32, ctx: Ctx) -> Found<Single<'a>>
     requires { IsCharBoundary s.now at }
     ensures reads { IfOk result (λ o. MatchOption o (Stuck (Q.SingleQuoted s.now n ctx at))
         (λ p. (x : List ℕ) × (text_bytes p.text ≡ encode_utf8_all x) × Chosen (Q.SingleQuoted s.now n ctx at) p.end x)) }
@@ -168,12 +156,7 @@ struct Mark {
 }
 
 // The rest of a single-quoted scalar after its opening quote.
-fn single_body<'a>(
-    alloc: Global,
-    s: &'a str,
-    at: usize,
-    width: Option<usize>,
-) -> Result<Option<Single<'a>>, AllocError>
+fn single_body<'a>(alloc: Global, s: &'a str, at: usize, width: Option<usize>) -> Found<Single<'a>>
     requires { IsCharBoundary s.now at }
     ensures reads { IfOk result (λ o. MatchOption o (NoSingleBody s.now width at)
         (λ p. SingleRead s.now width at (text_bytes p.text) p.end)) }

@@ -1,32 +1,16 @@
 //! The places of byte offsets, in one pass over the text.
-ghost use Rattle.std.specs.Prelude.{◌≡◌, ◌<◌, ◌≤◌, ◌+◌, ℕ, List, length, IfOk, IfSome, slice_get};
+ghost use Rattle.std.specs.Prelude.{◌≡◌, ◌<◌, ◌≤◌, ◌+◌, length, IfOk, IfSome, slice_get};
 ghost use Rattle.std.specs.Str.{IsCharBoundary};
-ghost use Rattle.yf_chars.specs.Chain.{Many};
-ghost use Rattle.yf_lines.specs.Lines.{Marks, PlaceOf, is_char};
+ghost use Rattle.yf_lines.specs.Lines.{PlaceOf};
 ghost use Rattle.yf_rules.specs.Columns.{ColumnsTo, IsColumn};
 ghost use Rattle.yf_rules.specs.Places.{IsCursor, PlacesOf};
 
 use crate::facts::begun::lines_begun;
 use crate::facts::cursor::{Cursor, Located};
 use std::alloc::{AllocError, Global};
-use yf_chars::text::peek;
-use yf_lines::basic::mark_stands;
 use yf_lines::place::Place;
 use yf_lines::source_text::Src;
-
-/// The byte offset after all byte order marks that stand there.
-pub fn skip_marks(text: &str, at: usize) -> usize
-    requires { IsCharBoundary text.now at }
-    ensures marks { Marks text.now at result }
-    ensures boundary { IsCharBoundary text.now result }
-    ensures order { at ≤ result }
-{
-    let mut end = at;
-    while mark_stands(text, end) {
-        end += 3;
-    }
-    end
-}
+use yf_lines::table::{column_from, skip_marks};
 
 /// The cursor after the marks of the line of that index.
 fn line_cursor(src: &Src, line: usize) -> Cursor
@@ -56,29 +40,6 @@ fn forward(src: &Src, cursor: Cursor, offset: usize) -> Cursor
         return cursor;
     }
     line_cursor(src, line)
-}
-
-/// The column of the byte offset, from that of an earlier one in its line on.
-fn column_from(text: &str, from: usize, column: usize, offset: usize) -> usize
-    requires from { IsCharBoundary text.now from }
-    requires offset { IsCharBoundary text.now offset }
-    requires order { from ≤ offset }
-    requires room { column ≤ from + 1 }
-    ensures characters { (x : List ℕ) × Many text.now is_char from offset x × (result ≡ column + length x) }
-    ensures room { result ≤ offset + 1 }
-{
-    let mut at = from;
-    let mut reached = column;
-    while at < offset {
-        match peek(text, at) {
-            Some((_, next)) => {
-                at = next;
-                reached += 1;
-            }
-            None => unreachable!(),
-        }
-    }
-    reached
 }
 
 /// The place of a byte offset, from a cursor before it on.

@@ -4,10 +4,10 @@ ghost use Rattle.std.specs.Str.{IsCharBoundary};
 ghost use Rattle.yf_rules.specs.ByLine.{BeyondLimit, IsBehind};
 ghost use Rattle.yf_rules.specs.Exact.{Answers, Exactly};
 
-use crate::facts::places::skip_marks;
 use crate::rule::{Global, Offsets, Src, Style, push_found};
 pub use crate::rules::StyleRule::LineLength;
 use yf_chars::text::peek;
+use yf_lines::table::skip_marks;
 
 /// The column after the longest line that the style allows, of a line that is longer.
 pub fn offsets(alloc: Global, src: &Src, style: &Style) -> Offsets

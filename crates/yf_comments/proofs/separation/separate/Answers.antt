@@ -3,6 +3,7 @@ use Rattle.std.proofs.lemmas.Int.{to_z-of_z}
 use Rattle.yf_chars.specs.Chain.{Chosen}
 use Rattle.yf_comments.specs.Comments.{SeparateLines, Separate}
 use Rattle.yf_comments.proofs.SeparateLemmas.{alone_chosen, alone_stuck, node_chosen}
+use Rattle.yf_comments.proofs.LineOrder.{separate_forward}
 use Rattle.yf_comments.proofs.separation.separate.Goals as goal
 
 pub returns-in-Some-2-clause-reads : goal.returns-in-Some-2-clause-reads
@@ -23,3 +24,9 @@ pub returns-in-None-separate_in_line-clause-reads : goal.returns-in-None-separat
 returns-in-None-separate_in_line-clause-reads c =
     let none = rw (to_z-of_z w32 c.args.n c.ranges.n) at c.in-None.ensures in
     alone_stuck none c.in-None-separate_in_line.ensures.reads
+
+pub returns-in-Some-2-clause-order : goal.returns-in-Some-2-clause-order
+returns-in-Some-2-clause-order c = separate_forward (returns-in-Some-2-clause-reads c).derived
+
+pub returns-in-Some-separate_in_line-clause-order : goal.returns-in-Some-separate_in_line-clause-order
+returns-in-Some-separate_in_line-clause-order c = separate_forward (returns-in-Some-separate_in_line-clause-reads c).derived

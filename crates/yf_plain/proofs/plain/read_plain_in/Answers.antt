@@ -2,6 +2,7 @@ use Rattle.std.proofs.Common.{◌≡◌, sym, ◌∙◌, pos, ◌<ℤ◌}
 use Rattle.std.proofs.Common.{to_z-of_z}
 use Rattle.yf_lines.proofs.ClearLemmas.{spelled_slice}
 use Rattle.yf_plain.proofs.LineLemmas.{no_plain, key_chosen, front_spelled, not_others, one_line_chosen, no_next_negative}
+use Rattle.yf_plain.proofs.PlainOrder.{plain_forward}
 use Rattle.yf_plain.proofs.plain.read_plain_in.Goals as goal
 
 pub returns-in-None-clause-reads : goal.returns-in-None-clause-reads
@@ -31,3 +32,6 @@ returns-in-None-next_line-clause-reads c =
       c.range.ensures.value ∙ spelled_slice c.in-Some.ensures.boundary.0 (front_spelled c.utf8.s best.derived),
       one_line_chosen flow best c.in-Some.ensures.all (rw width c.in-None-next_line.ensures.reads),
     )
+
+pub returns-in-Ok-clause-order : goal.returns-in-Ok-clause-order
+returns-in-Ok-clause-order c = plain_forward c.in-Ok.ensures.reads.2.derived.text

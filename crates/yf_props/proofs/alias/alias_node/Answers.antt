@@ -1,15 +1,14 @@
-use Rattle.std.proofs.Common.{◌≡◌, sym, subst}
+use Rattle.std.proofs.Common.{sym, subst}
 use Rattle.yf_chars.specs.Chain.{Chosen}
-use Rattle.yf_chars.specs.Text.{code}
 use Rattle.yf_props.specs.Names.{Alias}
-use Rattle.yf_props.proofs.NameLemmas.{alias_chosen, no_alias_name}
+use Rattle.yf_props.proofs.NameLemmas.{alias_chosen, no_alias}
 use Rattle.yf_props.proofs.alias.alias_node.Goals as goal
 
 pub returns-in-Some-clause-reads : goal.returns-in-Some-clause-reads
 returns-in-Some-clause-reads c =
     let t = c.args.s.now in
-    let e : code t c.args.at ≡ 42 = c.if-stands.ensures.cases.char in
-    subst (λ x. Chosen (Alias t c.args.at) c.in-Some.end x) (sym c.in-Some.ensures.name) (alias_chosen e c.in-Some.ensures.reads)
+    let r = c.in-Some.ensures.reads in
+    subst (λ x. Chosen (Alias t c.args.at) c.in-Some.end x) (sym c.in-Some.ensures.name) (alias_chosen r.0 r.1)
 
 pub returns-in-None-clause-reads : goal.returns-in-None-clause-reads
-returns-in-None-clause-reads c = no_alias_name {t = c.args.s.now} c.in-None.ensures.reads
+returns-in-None-clause-reads c = no_alias {t = c.args.s.now} c.in-None.ensures.reads

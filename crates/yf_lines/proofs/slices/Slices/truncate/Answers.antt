@@ -1,6 +1,6 @@
 use Rattle.std.proofs.Common.{sym}
 use Rattle.std.proofs.lemmas.List.{take-map}
-use Rattle.yf_block_scalar.proofs.lines.Lines.truncate.Goals as goal
+use Rattle.yf_lines.proofs.slices.Slices.truncate.Goals as goal
 
 pub returns : goal.returns
 returns c = rw (c.truncate.ensures.items, ← c.self.view_is) (sym (take-map _ _ _))

@@ -6,7 +6,7 @@ use Rattle.yf_chars.specs.Chain.Chain.{done}
 use Rattle.yf_chars.specs.Text.{code, Reads}
 use Rattle.yf_lines.specs.Lines.{is_char}
 use Rattle.yf_lines.proofs.PlaceLemmas.{characters_more, not_inside}
-use Rattle.yf_rules.proofs.facts.places.column_from.Goals as goal
+use Rattle.yf_lines.proofs.table.column_from.Goals as goal
 
 pub loop-at-init : goal.loop-at-init
 loop-at-init c = record {

@@ -2,14 +2,14 @@ use Rattle.std.proofs.Common.{◌≡◌, ◌≤◌, ◌+◌, ◌-◌, List, ℕ,
 use Rattle.std.specs.Str.{IsCharBoundary}
 use Rattle.yf_chars.specs.Chain.{Many}
 use Rattle.yf_lines.specs.Lines.{is_char}
-use Rattle.yf_lines.proofs.table.column_in_line.Given as goal
+use Rattle.yf_lines.proofs.table.column_from.Given as goal
 
 abbrev pub invariant-loop-at : goal.invariant-loop-at
 invariant-loop-at l = record {
-  characters : (x : List ℕ) × Many l.text is_char l.initial.at l.at x × (l.column ≡ length x + 1);
+  characters : (x : List ℕ) × Many l.text is_char l.from l.at x × (l.reached ≡ l.column + length x);
   boundary : IsCharBoundary l.text l.at;
   within : l.at ≤ l.offset;
-  room : l.column ≤ l.at + 1;
+  room : l.reached ≤ l.at + 1;
 }
 
 abbrev pub decreases-loop-at : goal.decreases-loop-at

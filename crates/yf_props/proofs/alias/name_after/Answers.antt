@@ -1,0 +1,8 @@
+use Rattle.yf_chars.specs.Class.{is_anchor_char}
+use Rattle.yf_props.proofs.NameLemmas.{run_of}
+use Rattle.yf_props.proofs.alias.name_after.Goals as goal
+
+pub returns-then-end-start-clause-reads : goal.returns-then-end-start-clause-reads
+returns-then-end-start-clause-reads c =
+    let run = run_of c.args.s.now is_anchor_char c.skip_while-end.ensures.chars.1 c.if-end-start.true c.skip_while-end.ensures.all in
+    (c.if-stands.ensures.cases.char, run)
