@@ -2,6 +2,7 @@
 
 -- `read_plain`
 pub mod PlainLemmas
+pub mod OrdinaryLemmas
 pub mod LineLemmas
 pub mod PlainOrder
 -- what stays plain is read again (the laws of layouts of yf_emit)

@@ -8,6 +8,7 @@ ghost use Rattle.yf_chars.specs.Text.{code, before, Reads};
 ghost use Rattle.yf_lines.specs.Basic.{is_block, is_flow, is_key};
 ghost use Rattle.yf_lines.specs.Fold.{fold_text};
 ghost use Rattle.yf_lines.specs.Text.{text_bytes};
+ghost use Rattle.yf_plain.specs.Ordinary.{is_ordinary, OrdinaryAt};
 ghost use Rattle.yf_plain.specs.Plain as P;
 ghost use Rattle.yf_plain.specs.Plain.{is_plain_first, is_plain_char, is_sign, Plain, PlainItem, PlainLine, PlainFront, NoNextLine};
 
@@ -206,11 +207,54 @@ fn plain_in_line(s: &str, at: usize, ctx: Ctx) -> usize
 {
     let mut end = at;
     'items: loop {
-        match plain_item(s, end, ctx) {
-            None => return end,
+        let word_end = ordinary_run(s, end, ctx);
+        match plain_item(s, word_end, ctx) {
+            None => return word_end,
             Some(next) => end = next,
         }
     }
+}
+
+// Whether the ASCII character may stand in a plain scalar, whatever stands beside it.
+#[tactic(auto, unfolding(crate::specs::Ordinary::is_ordinary, yf_chars::specs::Class::is_between))]
+#[inline(always)]
+fn is_ordinary(byte: u8) -> bool
+    ensures { result ≡ is_ordinary byte }
+{
+    matches!(byte, b'a'..=b'z' | b'A'..=b'Z' | b'0'..=b'9' | b'-' | b'.' | b'/' | b'_')
+}
+
+// Whether such a character begins at the offset.
+#[inline(always)]
+fn ordinary_stands(s: &str, at: usize) -> bool
+    ensures { result ≡ true → OrdinaryAt s.now at }
+{
+    let bytes = s.as_bytes();
+    if at < bytes.len() {
+        return is_ordinary(bytes[at]);
+    }
+    false
+}
+
+// The offset after all such characters that stand there after a character of content; in block contexts, in which no scalar
+// stands, none is looked for.
+#[inline(always)]
+fn ordinary_run(s: &str, at: usize, ctx: Ctx) -> usize
+    requires boundary { IsCharBoundary s.now at }
+    requires behind { Class.is_ns_char (before s.now at) ≡ true }
+    ensures reads { (x : List ℕ) × Chain (PlainItem s.now ctx) at result x }
+    ensures behind { Class.is_ns_char (before s.now result) ≡ true }
+    ensures boundary { IsCharBoundary s.now result }
+    ensures order { at ≤ result }
+{
+    if is_block(ctx) {
+        return at;
+    }
+    let mut end = at;
+    while ordinary_stands(s, end) {
+        end += 1;
+    }
+    end
 }
 
 // White space and one character after them: the offset after it.

@@ -1,17 +1,17 @@
-//! The forms of all events of a reading, each in a row of sixteen bytes.
+//! The forms of all events of a reading, each in a row of twelve bytes.
 ghost use Rattle.std.specs.Prelude.{◌≡◌, [], ◌∷◌, ◌++◌, get_or, length, IfOk};
 ghost use Rattle.yf_emit.specs.Forms.{no_form};
 ghost use Rattle.yf_emit.specs.Packed.{form_in};
 
 use crate::form::decide::Form;
-use crate::form::narrow::{narrow_if, some_if};
+use crate::form::narrow::{narrow, narrow_if, some_if};
 use std::alloc::{AllocError, Global};
 use std::marker::Model;
 
 /// A form, with a note whether there is a comment.
 #[derive(Clone, Copy)]
 pub struct PackedForm {
-    column: usize,
+    column: u32,
     key_comment: u32,
     has_key_comment: bool,
     is_kept: bool,
@@ -22,9 +22,10 @@ pub struct PackedForm {
 fn packed(form: &Form) -> Result<PackedForm, AllocError>
     ensures { IfOk result (λ p. form_in p ≡ form.now) }
 {
+    let column = narrow(form.column)?;
     let key_comment = narrow_if(form.key_comment)?;
     Ok(PackedForm {
-        column: form.column,
+        column,
         key_comment,
         has_key_comment: form.key_comment.is_some(),
         is_kept: form.is_kept,
@@ -40,7 +41,7 @@ fn unpacked(packed: &PackedForm) -> Form
         is_kept: packed.is_kept,
         is_implicit: packed.is_implicit,
         key_comment: some_if(packed.has_key_comment, packed.key_comment),
-        column: packed.column,
+        column: packed.column as usize,
     }
 }
 

@@ -1,4 +1,4 @@
-//! Numbers in 32 bits: indices of events and of comments.
+//! Numbers in 32 bits: indices of events and of comments, and columns.
 ghost use Rattle.std.specs.Prelude.{◌≡◌, is_some, IfOk};
 ghost use Rattle.yf_emit.specs.Packed as Packed;
 

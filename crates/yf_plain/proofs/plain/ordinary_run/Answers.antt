@@ -1,0 +1,24 @@
+use Rattle.std.proofs.Common.{arith, ap, ◌∙◌, sym}
+use Rattle.yf_chars.specs.Chain.Chain.{done}
+use Rattle.yf_chars.specs.Class.{is_ns_char}
+use Rattle.yf_chars.proofs.ChainLemmas.{chain_more}
+use Rattle.yf_plain.proofs.PlainLemmas.{item_found, plain_is_ns}
+use Rattle.yf_plain.proofs.plain.ordinary_run.Goals as goal
+
+pub returns-then-is_block-clause-reads : goal.returns-then-is_block-clause-reads
+returns-then-is_block-clause-reads c = (_, done)
+
+pub loop-end-init : goal.loop-end-init
+loop-end-init c = record { flowing = sym c.is_block.ensures ∙ c.if-is_block.false; so_far = (_, done); behind = c.requires.behind; boundary = c.requires.boundary; order = omega arith }
+
+pub loop-end-preserved : goal.loop-end-preserved
+loop-end-preserved c =
+    let o = c.ordinary_stands.ensures c.loop-end-test.true in
+    let e = o.plain c.args.ctx c.loop-end.invariant.flowing in
+    record {
+      flowing = c.loop-end.invariant.flowing;
+      so_far = (_, chain_more c.loop-end.invariant.so_far.1 (item_found done e o.reads).1);
+      behind = ap is_ns_char o.reads.back ∙ plain_is_ns c.args.s.now c.args.ctx c.loop-end.end e;
+      boundary = o.reads.boundary;
+      order = omega (arith, c.loop-end.invariant.order);
+    }
