@@ -5,7 +5,7 @@ use Rattle.yf_flow.proofs.flow.read_flow_node.Goals as goal
 
 pub returns-in-Ok-Some-clause-reads : goal.returns-in-Ok-Some-clause-reads
 returns-in-Ok-Some-clause-reads c = λ b.
-    scanned_stops c.in-Ok-Some.field-0-0 c.in-Some.place c.in-Some.is (rw (c.in-Ok-Some.field-0-is, to_z-of_z c.ranges.indentation) at (c.in-Ok-Some.ensures.reads b))
+    scanned_stops c.in-Ok-Some.field-0-0 c.in-Some.place c.in-Some.is (rw (c.in-Ok-Some.field-0-is, to_z-of_z c.ranges.n) at (c.in-Ok-Some.ensures.reads b))
 
 pub returns-clause-reads : goal.returns-clause-reads
-returns-clause-reads c = λ b. as_scanned (rw (to_z-of_z c.ranges.indentation) at (c.in-Err.ensures.reads b))
+returns-clause-reads c = λ b. as_scanned (rw (to_z-of_z c.ranges.n) at (c.in-Err.ensures.reads b))
