@@ -65,6 +65,7 @@ fn break_or_end(s: &str, at: usize) -> Option<usize>
 }
 
 // Reads what is left of a line after its white space: a comment, if there is one, and a break or the end of the text.
+#[inline(always)]
 fn past_whites<'a>(s: &'a str, at: usize, place: usize) -> Option<Row<'a>>
     requires boundary { IsCharBoundary s.now place }
     requires separate { SeparateInLine s.now at place }
@@ -92,6 +93,7 @@ fn past_whites<'a>(s: &'a str, at: usize, place: usize) -> Option<Row<'a>>
 
 /// Reads what is left of a line: white space, a comment where white space or the start of the line stands before it, and a
 /// break or the end of the text (s-b-comment, production 77).
+#[inline(always)]
 pub fn line_rest<'a>(s: &'a str, at: usize, starts: bool) -> Option<Row<'a>>
     requires boundary { IsCharBoundary s.now at }
     requires starts { MatchBool starts (LineStart s.now at) (LineStart s.now at → ⊥) }

@@ -156,6 +156,7 @@ pub fn white_or_end_stands(s: &str, at: usize) -> bool
 
 /// Whether a document marker, `---` or `...` before white, a break or the end of the text, stands at the offset
 /// (c-directives-end, production 203; c-document-end, production 204).
+#[inline(always)]
 pub fn marker_stands(s: &str, at: usize) -> bool
     ensures { result ≡ is_marker s.now at }
 {
@@ -169,6 +170,7 @@ pub fn marker_stands(s: &str, at: usize) -> bool
 }
 
 // Whether that ASCII character stands three times from the offset on.
+#[inline(always)]
 fn three_stand(s: &str, at: usize, byte: u8) -> bool
     requires { byte < 128 }
     ensures value { result ≡ is_three s.now at byte }
@@ -185,6 +187,7 @@ fn three_stand(s: &str, at: usize, byte: u8) -> bool
 
 /// Whether a forbidden line begins at the offset: a document marker at the start of a line (c-forbidden,
 /// production 206).
+#[inline(always)]
 pub fn is_forbidden_at(s: &str, at: usize) -> bool
     ensures { MatchBool result (Forbidden s.now at) (Forbidden s.now at → ⊥) }
 {

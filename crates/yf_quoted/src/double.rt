@@ -143,6 +143,7 @@ fn simple_end(s: &str, at: usize) -> Option<usize>
 }
 
 // The offset after a character that stands for itself.
+#[inline(always)]
 fn simple_char(s: &str, at: usize) -> Option<usize>
     requires { IsCharBoundary s.now at }
     ensures reads { MatchOption result (NoSimple s.now at) (λ j. Simple s.now at j) }

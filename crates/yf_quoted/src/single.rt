@@ -112,6 +112,7 @@ struct SingleChar {
 }
 
 // A character of a single-quoted scalar (nb-single-char, production 118).
+#[inline(always)]
 fn single_char(s: &str, at: usize) -> Option<SingleChar>
     requires { IsCharBoundary s.now at }
     ensures reads { MatchOption result (NoSingleChar s.now at) (λ c. Q.SingleChar s.now at c.end (c.value ∷ []) × Clear s.now at c.end) }

@@ -1,4 +1,4 @@
-//! The measures of all events of a reading, each in a row of twenty-four bytes.
+//! The measures of all events of a reading, each in a row of twenty bytes.
 ghost use Rattle.std.specs.Prelude.{◌≡◌, [], ◌∷◌, ◌++◌, get_or, set, IfOk};
 ghost use Rattle.yf_emit.specs.Measures.{no_measure};
 ghost use Rattle.yf_emit.specs.Packed.{measure_in};
@@ -11,7 +11,7 @@ use std::marker::Model;
 /// A measure: of each number that may be missing a note whether it is there.
 #[derive(Clone, Copy)]
 pub struct PackedMeasure {
-    width: usize,
+    width: u32,
     last: u32,
     first_leaf: u32,
     last_leaf: u32,
@@ -37,11 +37,12 @@ const NO_MEASURE: PackedMeasure = PackedMeasure {
 fn packed(measure: &Measure) -> Result<PackedMeasure, AllocError>
     ensures { IfOk result (λ p. measure_in p ≡ measure.now) }
 {
+    let width = narrow_if(measure.width)?;
     let last = narrow(measure.last)?;
     let first_leaf = narrow_if(measure.first_leaf)?;
     let last_leaf = narrow_if(measure.last_leaf)?;
     Ok(PackedMeasure {
-        width: measure.width.unwrap_or(0),
+        width,
         last,
         first_leaf,
         last_leaf,
@@ -53,22 +54,12 @@ fn packed(measure: &Measure) -> Result<PackedMeasure, AllocError>
 }
 
 #[inline(always)]
-fn width_in(packed: &PackedMeasure) -> Option<usize>
-    ensures { result ≡ (measure_in packed.now).width }
-{
-    if packed.has_width {
-        return Some(packed.width);
-    }
-    None
-}
-
-#[inline(always)]
 fn unpacked(packed: &PackedMeasure) -> Measure
     ensures { result ≡ measure_in packed.now }
 {
     Measure {
         last: packed.last as usize,
-        width: width_in(packed),
+        width: some_if(packed.has_width, packed.width),
         can_be_kept: packed.can_be_kept,
         first_leaf: some_if(packed.has_first_leaf, packed.first_leaf),
         last_leaf: some_if(packed.has_last_leaf, packed.last_leaf),

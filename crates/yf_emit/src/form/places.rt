@@ -88,6 +88,7 @@ fn comment_before(comments: &[Comment], from: usize, to: Option<usize>) -> Optio
 
 /// The comment that trails an implicit key, whose last leaf begins at that offset, before a value that begins on the next
 /// line if there is one.
+#[inline(always)]
 fn trailing_comment(reading: &Reading, start: usize, i: usize, measure: &Measure) -> Option<usize>
     ensures { IsNonDecreasingBy (λ c. c.offset) reading.now.comments
         → result ≡ Deciding.trailing_comment reading.now.comments reading.now.events start i measure.now }

@@ -30,6 +30,7 @@ fn has_block_content(text: &str) -> bool
 }
 
 /// The style in which the house style writes a scalar of this style and text.
+#[inline(always)]
 pub fn wanted_of(written: ScalarStyle, text: &str, quotes: Quotes) -> ScalarStyle
     ensures { result ≡ wanted written text.now quotes }
 {
