@@ -215,13 +215,17 @@ fn plain_in_line(s: &str, at: usize, ctx: Ctx) -> usize
     }
 }
 
-// Whether the ASCII character may stand in a plain scalar, whatever stands beside it.
+// Whether the ASCII character may stand in a plain scalar, whatever stands beside it. Most are lower-case letters, which take two
+// tests.
 #[tactic(auto, unfolding(crate::specs::Ordinary::is_ordinary, yf_chars::specs::Class::is_between))]
 #[inline(always)]
 fn is_ordinary(byte: u8) -> bool
     ensures { result ≡ is_ordinary byte }
 {
-    matches!(byte, b'a'..=b'z' | b'A'..=b'Z' | b'0'..=b'9' | b'-' | b'.' | b'/' | b'_')
+    if byte < b'a' {
+        return matches!(byte, b'-'..=b'9' | b'A'..=b'Z' | b'_');
+    }
+    byte <= b'z'
 }
 
 // Whether such a character begins at the offset.
