@@ -3,6 +3,7 @@ ghost use Rattle.std.specs.Prelude.{◌≡◌, chars, is_some, length, Some};
 ghost use Rattle.std.specs.Str.{IsUtf8};
 ghost use Rattle.yf_chars.specs.Escape as Escape;
 ghost use Rattle.yf_chars.specs.Escape.{spelled};
+ghost use Rattle.yf_emit.specs.CommonChars.{is_common};
 ghost use Rattle.yf_emit.specs.Measures as Measures;
 ghost use Rattle.yf_emit.specs.Measures.{up_to_greatest};
 ghost use Rattle.yf_emit.specs.OneLine.{anchor_text, props_text, tag_text, width};
@@ -39,10 +40,24 @@ fn is_by_letter(c: char) -> bool
     matches!(c, '"' | '\\' | '\n' | '\t' | '\r' | '\0')
 }
 
+/// Whether it is an ASCII character that is spelled by itself, as most are. Lower-case letters take two tests.
+#[tactic(auto, unfolding(crate::specs::CommonChars::is_common, yf_chars::specs::Class::is_between))]
+fn is_common(c: char) -> bool
+    ensures { result ≡ is_common c }
+{
+    if c < ']' {
+        return matches!(c, ' ' | '!' | '#'..='[');
+    }
+    c <= '~'
+}
+
 /// How many characters the spelling of one has in double quotes.
 fn spelled_width(c: char) -> usize
     ensures { result ≡ length (spelled c) }
 {
+    if is_common(c) {
+        return 1;
+    }
     if is_by_letter(c) {
         return 2;
     }
