@@ -1,5 +1,5 @@
 -- The openers that stand ahead while a flow collection is read.
-use Rattle.std.proofs.Common.{◌≡◌, ℕ, zero, suc, max, ◌+◌, ◌<◌, ◌≤◌, ℤ, true, cond, List, [], ◌∷◌, ◌++◌, length, Option, Some, drop, get_or, refl, sym, ap, ◌∙◌, subst, arith}
+use Rattle.std.proofs.Common.{◌≡◌, ℕ, zero, suc, max, ◌+◌, ◌<◌, ◌≤◌, ℤ, true, cond, List, [], ◌∷◌, ◌++◌, length, Option, Some, drop, get_or, refl, ap, ◌∙◌, arith}
 use Rattle.std.proofs.lemmas.List.Elements.{All-weaker, All-same, All-push, All-pop}
 use Rattle.std.proofs.lemmas.List.Sums.{sum_by-cons, sum_by-drop_more}
 use Rattle.std.specs.List.{All}

@@ -1,7 +1,7 @@
 //! Tests of what stands at a place of a flow node. They look and read nothing.
-ghost use Rattle.std.specs.Prelude.{◌≡◌, ◌≢◌, ◌+◌, ◌≤◌, ◌==◌, ◌||◌, true, false, MatchBool};
+ghost use Rattle.std.specs.Prelude.{◌≡◌, ◌≢◌, ◌+◌, ◌==◌, ◌||◌, true, MatchBool};
 ghost use Rattle.std.specs.Str.{IsCharBoundary};
-ghost use Rattle.yf_chars.specs.Text.{code, Reads};
+ghost use Rattle.yf_chars.specs.Text.{code};
 ghost use Rattle.yf_grammar.specs.Parser.{ColonAt, begins_content};
 ghost use Rattle.yf_grammar.specs.Part.{NotedSince};
 ghost use Rattle.yf_flow.specs.KeyThere.{KeyThere};

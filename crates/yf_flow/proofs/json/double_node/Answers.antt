@@ -1,4 +1,4 @@
-use Rattle.std.proofs.Common.{refl, arith, rules, to_z-of_z, SFits, w32, ◌∙◌, ap, ◌++◌}
+use Rattle.std.proofs.Common.{refl, arith, rules, to_z-of_z, SFits, w32, ◌∙◌}
 use Rattle.std.proofs.lemmas.Result.{IfOk-weaker}
 use Rattle.yf_flow.proofs.BegunLemmas.{double_leaf, double_none, leaf_begins}
 use Rattle.yf_flow.proofs.LeafLemmas.{boundaries_more}
