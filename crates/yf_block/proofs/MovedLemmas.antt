@@ -1,5 +1,5 @@
 -- What a step leaves to be done: of the steps that it answers, and seen from an earlier offset.
-use Rattle.std.proofs.Common.{◌≡◌, ℕ, ◌+◌, ◌-◌, ◌*◌, ◌<◌, ◌≤◌, Bool, List, length, Option, Result, Ok, Err, IfOk, sym, subst, arith}
+use Rattle.std.proofs.Common.{ℕ, ◌+◌, ◌-◌, ◌*◌, ◌<◌, ◌≤◌, Bool, List, length, Option, Result, Ok, Err, IfOk, sym, subst, arith}
 use Rattle.std.specs.List.{All}
 use Rattle.std.specs.Str.{IsCharBoundary}
 use Rattle.yf_events.specs.declared.event.Entry as TheEntry

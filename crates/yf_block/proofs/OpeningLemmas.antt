@@ -1,5 +1,5 @@
 -- A collection of either kind, where no further one may be opened.
-use Rattle.std.proofs.Common.{◌≡◌, ℕ, ◌+◌, ◌<◌, ◌≤◌, List, length}
+use Rattle.std.proofs.Common.{ℕ, ◌+◌, ◌<◌, ◌≤◌, List, length}
 use Rattle.std.specs.Str.{IsUtf8}
 use Rattle.yf_events.specs.declared.part.Part.{Part}
 use Rattle.yf_grammar.specs.BlockParser.{BlockTask}

@@ -1,4 +1,4 @@
-use Rattle.std.proofs.Common.{◌≡◌, ℕ, false, [], List, length, reverse, refl, sym, ap, subst, arith}
+use Rattle.std.proofs.Common.{false, List, length, reverse, refl, sym, ap, subst, arith}
 use Rattle.std.specs.List.{All}
 use Rattle.std.specs.Str.{IsCharBoundary}
 use Rattle.yf_events.specs.declared.part.Part.{Part}

@@ -1,4 +1,4 @@
-use Rattle.std.proofs.Common.{length, refl, sym, ◌∙◌, true≢false, arith}
+use Rattle.std.proofs.Common.{length, refl, sym, true≢false, arith}
 use Rattle.std.proofs.lemmas.List.Elements.{All-same}
 use Rattle.std.specs.Str.{IsCharBoundary}
 use Rattle.yf_flow.proofs.TiedClose.{popped, none_left}

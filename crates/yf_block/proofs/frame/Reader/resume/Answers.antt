@@ -1,4 +1,4 @@
-use Rattle.std.proofs.Common.{◌+◌, length, arith}
+use Rattle.std.proofs.Common.{length, arith}
 use Rattle.yf_block.proofs.TiedEntries.{top_breaks, item_follows_top, no_item_awaits}
 use Rattle.yf_block.proofs.TiedResumed.{fit_line}
 use Rattle.yf_block.proofs.CountedSteps.{popped_counted, outer_counted}
