@@ -1,6 +1,6 @@
 #!/usr/bin/env python3
 """Measures yamlfmt on text of 1 and 16 MB: processor seconds (user and system), their ratio, the peak of memory, and, where
-valgrind is installed, the instructions a byte on 300 KB.
+valgrind is installed, the instructions a byte on 300 KB, by phase. Of three runs the one with the least seconds counts.
 
 Usage: bench/measure.py [--dense | --real FOLDER..] [--program PROGRAM]     (default: the program that ./yamlfmt builds; build it first)
 
@@ -106,17 +106,39 @@ def run(words, path, good):
     return usage.ru_utime + usage.ru_stime, usage.ru_maxrss * 1024
 
 
-def instructions(name, words, path):
-    """Prints the instructions a byte, as valgrind counts them."""
-    counter = shutil.which('valgrind')
-    if counter is None:
+# Of each command the functions that are its phases, by the name that the program has for them; what is inlined elsewhere is part of the rest.
+PHASES = {
+    'events': (('reading the stream', 'yf_stream::stream::read_stream'), ('writing the lines', 'yf_events::notation::write_events')),
+    'check': (('the table of lines', 'yf_lines::table::LineTable::build'), ('reading the stream', 'yf_stream::stream::read_stream'),
+              ('the rules', 'yf_rules::rules::offsets_by')),
+    'fmt': (('reading the stream', 'yf_stream::stream::read_stream'), ('measuring the nodes', 'yf_emit::form::measure::measure_text'),
+            ('deciding their forms', 'yf_emit::form::decide::decide')),
+}
+
+
+def instructions(verb, program, path):
+    """Prints the instructions a byte of a command and of its phases, as valgrind counts them."""
+    counter, teller = shutil.which('valgrind'), shutil.which('callgrind_annotate')
+    if counter is None or teller is None:
         return
-    with open(path, 'rb') as source:
-        words = [counter, '--tool=callgrind', '--callgrind-out-file=/dev/null', *words]
-        said = subprocess.run(words, stdin=source, stdout=subprocess.DEVNULL, stderr=subprocess.PIPE, text=True).stderr
-    count = re.search(r'Collected : (\d+)', said)
-    if count:
-        print('%-24s %9d bytes  %.0f instructions a byte' % (name, os.path.getsize(path), int(count[1]) / os.path.getsize(path)))
+    size = os.path.getsize(path)
+    with tempfile.TemporaryDirectory() as folder, open(path, 'rb') as source:
+        counts = os.path.join(folder, 'counts')
+        words = [counter, '--tool=callgrind', '--callgrind-out-file=' + counts, program, verb]
+        subprocess.run(words, stdin=source, stdout=subprocess.DEVNULL, stderr=subprocess.DEVNULL)
+        said = subprocess.run([teller, '--inclusive=yes', '--threshold=100', counts], capture_output=True, text=True).stdout
+    total = re.search(r'^ *([\d,]+) .*PROGRAM TOTALS', said, re.M)
+    if total is None:
+        return
+    left = int(total[1].replace(',', ''))
+    print('%-24s %9d bytes  %.0f instructions a byte' % ('yamlfmt ' + verb, size, left / size))
+    for phase, function in PHASES[verb]:
+        found = re.search(r'^ *([\d,]+) .*:%s(::<\S*)? \[' % re.escape(function), said, re.M)
+        if found:
+            count = int(found[1].replace(',', ''))
+            left -= count
+            print('    %-20s %26.0f' % (phase, count / size))
+    print('    %-20s %26.0f' % ('the rest', left / size))
 
 
 def measure(name, words, files, good=(0,)):
@@ -127,7 +149,7 @@ def measure(name, words, files, good=(0,)):
             print('%-24s %9d bytes  more than %d s' % (name, size, LIMIT))
             return
         if best[0] < 10:
-            best = min(best, run(words, path, good))
+            best = min(best, run(words, path, good), run(words, path, good))
         seconds.append(best[0])
         print('%-24s %9d bytes  %7.2f s  %6.1f bytes of memory a byte of input' % (name, size, best[0], best[1] / size))
     print('%-24s ratio of the times %.1f' % (name, seconds[1] / seconds[0]))
@@ -197,7 +219,7 @@ def main():
         measure('yamlfmt check', [program, 'check'], files, good=(0, 1))
         measure('yamlfmt fmt', [program, 'fmt'], files)
         for verb in ('events', 'check', 'fmt'):
-            instructions('yamlfmt ' + verb, [program, verb], small)
+            instructions(verb, program, small)
         for name, words, good in peers(given.dense):
             if words:
                 measure(name, words, files, good)

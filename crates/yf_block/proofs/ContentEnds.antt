@@ -29,7 +29,7 @@ use Rattle.yf_block.specs.BlockTied.{layers_entry, all_written, EntryTied}
 use Rattle.yf_block.specs.BlockStepTied.{AtFailed}
 use Rattle.yf_block.specs.BelongingTied.{AfterLine, none_more}
 use Rattle.yf_block.specs.ContentTied.{TextAfter, text_alone, text_held, ScalarSignAt, PlainIs, plain_known, other_known, AtLeaf, LeafEnding, leaf_ends, line_goes_on}
-use Rattle.yf_block.specs.InlineAnswers.{InlineRead, NodeIs, EmptyKeyAt}
+use Rattle.yf_block.specs.InlineAnswers.{InlineRead, NodeIs}
 use Rattle.yf_block.specs.InlineAnswers as Answers
 use Rattle.yf_block.specs.InlineTied.{AtStart}
 use Rattle.yf_block.specs.LastStarts.{NoStart}
@@ -154,7 +154,7 @@ module _ {t : List ℕ} {d : ℕ} {root : BlockTask} {before old : Part} {frames
           (cases_Bool (begins_properties (code t k)))
       bare (text_held l y b) z r = b.no_property
 
-    pub leaf_ending : InlineRead t a.room (pos progress.wanted.least) at depth inner lead old new node → LeafEnding t d root before frames plain node.end after new
+    pub leaf_ending : InlineRead t a.room (pos progress.wanted.least) at depth inner lead old new node → LeafEnding plain t d root before frames node.end after new
     leaf_ending (Answers.content_read e y r i w) = leaf_ends (go_read e y r i w)
     leaf_ending (Answers.alias_read q r i w) = leaf_ends (go_alias q r i w)
     leaf_ending (Answers.empty_key_read e j g w) =

@@ -33,15 +33,11 @@ use Rattle.yf_block.specs.declared.frame.Frame.{Frame}
 use Rattle.yf_block.specs.declared.frame.Progress.{Progress}
 use Rattle.yf_block.specs.declared.properties.PlacedProperties.{PlacedProperties}
 use Rattle.yf_block.specs.BlockTied.{all_written, ReadTied}
-use Rattle.yf_block.specs.BlockStepTied.{AheadTied, nothing_held, none_held, props_held, AtFailed, BlockTied}
+use Rattle.yf_block.specs.BlockStepTied.{AheadTied, nothing_held, none_held, props_held, AtFailed}
 use Rattle.yf_block.specs.ContentTied.{EndsAfter}
 use Rattle.yf_block.specs.PropertiesAnswers.{LineProperties, NoPlaceAfter, PropertiesAhead, JoinedAhead}
 use Rattle.yf_block.specs.InlineTied.{AtStart}
-use Rattle.yf_block.specs.LineTied.{AtBelow, EndedTied}
-use Rattle.yf_block.specs.Machine.{StepReady}
-use Rattle.yf_block.specs.declared.frame.Step.{Step}
-use Rattle.yf_block.specs.declared.frame.Step.TheVariants.{Node, Line, Resume, Done, Failed, TooDeep}
-use Rattle.yf_block.proofs.TiedLines.{new_line}
+use Rattle.yf_block.specs.LineTied.{AtBelow}
 use Rattle.yf_block.specs.Looks.{LineEndsAt, text_stops, feed_stands, return_stands, hash_stands}
 use Rattle.yf_block.proofs.ContentFails.{missing, leaf_of, nowhere_fails, other_no_scalar}
 use Rattle.yf_block.proofs.ContentLeaves.{joined_comments}
@@ -109,22 +105,12 @@ ahead_held nothing_held = λ h e. no_props_nothing e
 ahead_held none_held = λ h e. no_props_sign e
 ahead_held (props_held {h = h} w) = record { value = h; is = refl; tied = w }
 
--- the line ended, and the next one begins
-module _ (t : List ℕ) (d : ℕ) (root : BlockTask) (before part : Part) (frames : List Frame) (at : ℕ) (progress : Progress) where
-  pub below_ended : (s : Step) → (LineStart t at → ⊥) → StepReady t at s → EndedTied t d root before frames at s progress part → BlockTied t d root before frames s progress part
-  below_ended (Node p) n r e = absurd e
-  below_ended (Line p) n r e = new_line e n r.boundary.0
-  below_ended (Resume p) n r e = absurd e
-  below_ended (Done p) n r e = absurd e
-  below_ended (Failed p) n r e = e
-  below_ended (TooDeep p) n r e = absurd e
-
 module _ {t : List ℕ} {d : ℕ} {root : BlockTask} {before part : Part} {frames : List Frame} {cols : Columns} {p : ℕ} {progress : Progress}
     (a : AtStart t d root before frames cols p progress part) (s : NoSign t cols p) {held : PlacedProperties} (l : LineProperties t p held) where
   utf8 : IsUtf8 t
   utf8 = a.read.text.utf8
 
-  pub inside : LineStart t held.end → ⊥
+  inside : LineStart t held.end → ⊥
   inside = properties_no_start utf8 l.chosen.derived
 
   pub joined_here : {outer : PlacedProperties} → JoinedAhead a.ahead l.value held.start held.end outer → JoinedAhead a.ahead l.value p held.end outer

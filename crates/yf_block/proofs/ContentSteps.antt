@@ -82,7 +82,7 @@ bar_alias c s = ⊎_elim (λ (e : c ≡ 124). rw e refl) (λ (e : c ≡ 62). rw 
 bar_lost : {t : List ℕ} {e at : ℕ} {n : ℤ} {inner : Option PlacedProperties} → ScalarSignAt t at → InlineLost t e n at inner
 bar_lost {t} {at = at} s = Answers.content_lost (λ h q y. bar_no_colon s y) (bar_alias (code t at) s) (plain_missing (bar_content (code t at) s) (no_plain (no_front (sign_no_first t FlowOut at (bar_is (code t at) s)))))
 
-module _ {t : List ℕ} {d : ℕ} {root : BlockTask} {before part : Part} {frames : List Frame} {b : AfterProperties} {progress : Progress} (a : AtAfterProperties t d root before frames b progress part) where
+module _ {t : List ℕ} {d : ℕ} {root : BlockTask} {before part : Part} {frames : List Frame} {b : AfterProperties} {progress : Progress} (a : AtAfterProperties b t d root before frames b.node_start.at progress part) where
   abbrev start : AtStart t d root before frames a.content.cols b.node_start.at progress part
   start = a.content.start
 
@@ -149,7 +149,7 @@ module _ {t : List ℕ} {d : ℕ} {root : BlockTask} {before old : Part} {frames
   -- or they do
   pub leaf_there : {colon : ℕ} {w : List ℕ} {plain : Option ℕ} {after : Progress} → Many t is_white node.end colon w → is_white (code t colon) ≡ false → ((m : ℕ) → b.node_start.column ≡ Some m → KeyEnds t b.node_start.at colon → ⊥)
       → (facts.belonging ≡ ApartBelonging → ⊥) → (node.json ≡ true → plain ≡ None) → (node.json ≡ false → plain ≡ Some b.at) → after.last ≡ node.end → after.floor ≡ progress.floor → after.colons ≡ progress.colons
-      → after.halt ≡ progress.halt → LeafEnding t d root before frames plain node.end after old
+      → after.halt ≡ progress.halt → LeafEnding plain t d root before frames node.end after old
   leaf_there m f k e json plain_there last fl co ha =
       leaf_ending begins a.there.content.signless a.there.text a.no_scalar (no_key m f k) (leaf_ahead facts.belonging a.there.text a.belonging e) json plain_there last fl co ha a.read
 

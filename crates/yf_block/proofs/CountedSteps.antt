@@ -76,6 +76,9 @@ held_after t start at (Some h) q = let l = q.0.order in let k = q.1 in omega ari
 pub popped_counted : (t : List ℕ) (total few many i j : ℕ) → few < many → i ≤ j → many + openers_from t i ≤ total → few + 1 + openers_from t j ≤ total
 popped_counted t total few many i j k l q = let o = openers_later t i j l in omega arith
 
+pub outer_counted : (t : List ℕ) (total few many i j : ℕ) → few < many → i ≤ j → many + openers_from t i ≤ total → few + openers_from t j ≤ total
+outer_counted t total few many i j k l q = let o = openers_later t i j l in omega arith
+
 pub fewer_left : (all rest : List Frame) (f : Frame) (n : ℕ) → all ≡ rest ++ f ∷ [] → length all ≤ n → length rest < n
 fewer_left all rest f n e l = let k = length-append rest (f ∷ []) in let m = ap (λ z. length z) e in omega arith
 

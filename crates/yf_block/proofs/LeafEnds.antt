@@ -243,12 +243,12 @@ still_noted n (one_line l) = refl
 still_noted n no_plain = refl
 
 module _ {t : List ℕ} {d : ℕ} {root : BlockTask} {before old : Part} {frames : List Frame} {plain : Option ℕ} {p : ℕ} {progress : Progress} where
-  pub leaf_finishes : {k : ℕ} {ds : List CommentValue} {new : Progress} {part : Part} → LeafEnding t d root before frames plain p progress old → Chosen (LineEnd t p) k ds
+  pub leaf_finishes : {k : ℕ} {ds : List CommentValue} {new : Progress} {part : Part} → LeafEnding plain t d root before frames p progress old → Chosen (LineEnd t p) k ds
       → (NotWithinBreak t k → ColonsCounted progress.colons frames → NodeNoted t plain p k frames progress.halt new.halt) → part.events ≡ old.events → part.comments ≡ old.comments ++ ds → part.escapes ≡ old.escapes
       → new.last ≡ progress.last → new.floor ≡ progress.floor → new.colons ≡ progress.colons → AtResume t d root before frames k new part
   leaf_finishes (leaf_ends l) e n a b c i fl y = leaf_was_read l e (n (outside_end l.read.text.utf8 e.derived) (colons_counted l.stack)) a b c i fl y
   leaf_finishes {k = k} {ds = ds} (line_goes_on s q f) e n a b c i fl y = absurd (s.none k ds e.derived)
 
-  pub leaf_stops : {new : Progress} → LeafEnding t d root before frames plain p progress old → Stuck (LineEnd t p) → ShorterNoted t p progress.halt plain new.halt → AtFailed t d root new
+  pub leaf_stops : {new : Progress} → LeafEnding plain t d root before frames p progress old → Stuck (LineEnd t p) → ShorterNoted t p progress.halt plain new.halt → AtFailed t d root new
   leaf_stops (leaf_ends l) e r = leaf_breaks l e r
   leaf_stops (line_goes_on s q f) e r = record { halt = f.halt; unfinished = f.unfinished; halts = f.halts; halted = still_noted q r ∙ f.halted }

@@ -18,6 +18,7 @@ pub mod PrefixLemmas
 pub mod TiedFrames
 pub mod TiedFits
 pub mod CountedSteps
+pub mod MovedLemmas
 -- the steps on a line
 pub mod ContentNodes
 pub mod ContentFails
@@ -48,6 +49,7 @@ pub mod TiedLeads
 pub mod TiedLines
 pub mod TiedNodes
 pub mod TiedOpenings
+pub mod OpeningLemmas
 pub mod TiedReads
 pub mod TiedResume
 pub mod TiedResumed

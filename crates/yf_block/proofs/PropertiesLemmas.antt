@@ -2,7 +2,7 @@
 use Rattle.std.proofs.Common.{◌≡◌, ◌≢◌, ℕ, ℤ, pos, true, false, ◌==◌, List, [], ◌++◌, Option, Some, None, refl, sym, ap, ◌∙◌, arith, true≢false}
 use Rattle.std.proofs.lemmas.Bool.Decides.{nat_tests}
 use Rattle.std.specs.Borrow.{Bor}
-use Rattle.std.specs.Option.{option_or}
+use Rattle.std.specs.Option.{is_some, option_and, option_or}
 use Rattle.yf_chars.specs.declared.context.Ctx.TheVariants.{FlowKey}
 use Rattle.yf_chars.specs.declared.context.Ctx.{Ctx}
 use Rattle.yf_chars.specs.Text.{code}
@@ -85,6 +85,27 @@ pub props_joined : (a b x : Option (Bor (List ℕ))) (d e y : Option Tag) → x 
 props_joined a b x d e y p q =
     ap (λ z. record { anchor = z; tag = optional_tag_value y }) (ap name_value p ∙ name_or a b)
     ∙ ap (λ z. record { anchor = one_of (name_value a) (name_value b); tag = z }) (ap optional_tag_value q ∙ tag_or d e)
+
+-- both are there, or not
+pub names_meet : (x y : Option (Bor (List ℕ))) → is_some (option_and x y) ≡ true → BothThere (name_value x) (name_value y)
+names_meet None y e = absurd (true≢false (sym e))
+names_meet (Some a) None e = absurd (true≢false (sym e))
+names_meet (Some a) (Some b) e = both_there
+
+pub names_apart : (x y : Option (Bor (List ℕ))) → is_some (option_and x y) ≡ false → BothThere (name_value x) (name_value y) → ⊥
+names_apart None y e b = elim b [ ]
+names_apart (Some a) None e b = elim b [ ]
+names_apart (Some a) (Some c) e b = absurd (true≢false e)
+
+pub tags_meet : (x y : Option Tag) → is_some (option_and x y) ≡ true → BothThere (optional_tag_value x) (optional_tag_value y)
+tags_meet None y e = absurd (true≢false (sym e))
+tags_meet (Some a) None e = absurd (true≢false (sym e))
+tags_meet (Some a) (Some b) e = both_there
+
+pub tags_apart : (x y : Option Tag) → is_some (option_and x y) ≡ false → BothThere (optional_tag_value x) (optional_tag_value y) → ⊥
+tags_apart None y e b = elim b [ ]
+tags_apart (Some a) None e b = elim b [ ]
+tags_apart (Some a) (Some c) e b = absurd (true≢false e)
 
 module _ {h : HeldValue} {q : PropertiesValue} {outer inner : PlacedProperties} (a : PropertiesTied h outer) (b : PropertiesTied (line_held q inner.start inner.end) inner) where
   outer_name : h.value.props.anchor ≡ name_value outer.props.anchor

@@ -10,17 +10,18 @@ use Rattle.yf_events.specs.declared.part.Part.{Part}
 use Rattle.yf_grammar.specs.Meaning.{◌⊕◌}
 use Rattle.yf_grammar.specs.Part.Noting.{no_event}
 use Rattle.yf_grammar.specs.Parser.{only}
-use Rattle.yf_grammar.specs.BlockParser.{Nothing, Indicator, Awaited}
+use Rattle.yf_grammar.specs.BlockParser.{Nothing, Indicator, BlockTask, Awaited}
 use Rattle.yf_grammar.specs.BlockStack.{outermost}
 use Rattle.yf_grammar.specs.BlockStates.{NodeAt, none_within, none_deepens}
 use Rattle.yf_grammar.proofs.BlockEntryBegins.{node_is_at}
 use Rattle.yf_grammar.proofs.BlockNodeSteps.{node_through}
 use Rattle.yf_grammar.proofs.BlockStepNodes.{below_awaits, below_halts}
+use Rattle.yf_block.specs.declared.frame.Frame.{Frame}
 use Rattle.yf_block.specs.declared.frame.Progress.{Progress}
 use Rattle.yf_block.specs.BlockTied.{ReadTied, StackTied, no_frames, EntryTied, no_entry}
 use Rattle.yf_block.specs.BlockStepTied.{AheadTied, nothing_held, WantedTied, AtNode}
 use Rattle.yf_block.specs.LineTied.{AtBelow}
-use Rattle.yf_block.specs.RootTied.{AtRoot}
+use Rattle.yf_block.specs.RootTied.{AtBegin, AtRoot}
 
 nothing_indicator : {i : ℕ} → Nothing ≡ Indicator i → ⊥
 nothing_indicator e = cc
@@ -94,3 +95,14 @@ module _ {t : List ℕ} {n : ℤ} {c : Ctx} {at : ℕ} {progress : Progress} (r 
       stack = root_stack _;
       read = root_read part;
     }
+
+-- the outermost node, for a part to which nothing is added yet
+begun_as : {frames : List Frame} {root new : BlockTask} {before part : Part} (At : BlockTask → Part → List Frame → Type 0) → root ≡ new → before ≡ part → frames ≡ [] → At new part [] → At root before frames
+begun_as {frames} {root} {new} {before} {part} At e b f x = subst (λ z. At z before frames) (sym e) (subst (λ z. At new z frames) (sym b) (subst (λ z. At new part z) (sym f) x))
+
+module _ {t : List ℕ} (d : ℕ) {root : BlockTask} {before part : Part} {frames : List Frame} {at : ℕ} {progress : Progress} (a : AtBegin t d root before frames at progress part) where
+  pub begins_line : LineStart t at → AtBelow t d root before frames at progress part
+  begins_line s = begun_as (λ x y z. AtBelow t d x y z at progress part) a.root_is a.before_is a.alone (root_line a.awaited d part s)
+
+  pub begins_node : (LineStart t at → ⊥) → AtNode t d root before frames at progress part
+  begins_node i = begun_as (λ x y z. AtNode t d x y z at progress part) a.root_is a.before_is a.alone (root_node a.awaited d part i)

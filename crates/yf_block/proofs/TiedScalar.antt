@@ -167,7 +167,7 @@ part_chosen : {t : List ℕ} {n : ℤ} {i k : ℕ} {ws : List ℕ} {x : Meaning}
 part_chosen d a = record { derived = record { scalar = d.derived; allowed = a }; longest = λ j x m. d.longest j x m.scalar; only = λ x m. d.only x m.scalar }
 
 module _ {t : List ℕ} {d : ℕ} {root : BlockTask} {before old : Part} {frames : List Frame} {lead : Lead} {at : ℕ} {block : BlockText} {progress : Progress}
-    (a : AtBody t d root before frames lead at block progress old) (inside : at ≤ length t) where
+    (a : AtBody lead block t d root before frames at progress old) (inside : at ≤ length t) where
   utf8 : IsUtf8 t
   utf8 = a.scalar.read.text.utf8
 

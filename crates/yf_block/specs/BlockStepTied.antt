@@ -23,7 +23,7 @@ use Rattle.yf_block.specs.declared.frame.Wanted.{Wanted}
 use Rattle.yf_block.specs.declared.properties.PlacedProperties.{PlacedProperties}
 use Rattle.yf_block.specs.declared.resume.Next.{Next}
 use Rattle.yf_block.specs.declared.resume.Fit.TheVariants.{EndsBefore}
-use Rattle.yf_block.specs.Fits.{FitsLine}
+use Rattle.yf_block.specs.Fits.{FitsLine, PairLine}
 use Rattle.yf_block.specs.Looks.{NotWithinBreak}
 use Rattle.yf_block.specs.BlockTied.{stage_entry, layers_entry, begins, ahead_comments, all_written, entries_written, ReadTied, CollectionTied, FrameTied, StackTied, halt_end, EntryTied}
 
@@ -128,6 +128,12 @@ pub record AtFit (t : List ℕ) (d : ℕ) (root : BlockTask) (before : Part) (fr
   pub top : AtTop t d root before frames p next.frame progress part
   pub line : FitsLine t p next.frame next.fit
   pub goes_on : next.fit ≡ EndsBefore → ⊥
+
+-- an entry of a mapping may go on there, the line of which begins after the node
+pub record AtPair (frame : Frame) (t : List ℕ) (d : ℕ) (root : BlockTask) (before : Part) (frames : List Frame) (p : ℕ) (progress : Progress) (part : Part) : Type 0 where
+  pub line : ℕ
+  pub fits : PairLine t line frame p
+  pub top : AtTop t d root before frames line frame progress part
 
 -- an entry of a collection begins there, whose frame is not on the stack; the first one of a mapping with a `?` or a `:`
 pub record AtEntry (t : List ℕ) (d : ℕ) (root : BlockTask) (before : Part) (frames : List Frame) (frame : Frame) (p : ℕ) (progress : Progress) (part : Part) : Type 0 where

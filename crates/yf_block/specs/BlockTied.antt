@@ -19,6 +19,8 @@ use Rattle.yf_block.specs.declared.frame.Frame.{Frame}
 use Rattle.yf_block.specs.declared.frame.Kind.{Kind}
 use Rattle.yf_block.specs.declared.frame.Kind.TheVariants.{Sequence, Mapping}
 use Rattle.yf_block.specs.declared.frame.Progress.{Progress}
+use Rattle.yf_block.specs.declared.frame.Step.{Step}
+use Rattle.yf_block.specs.declared.frame.Step.TheVariants.{Node}
 use Rattle.yf_block.specs.declared.frame.Wanted.{Wanted}
 
 abbrev pub kind_of : Bool → Kind
@@ -158,3 +160,13 @@ pub data EntryTied (t : List ℕ) (floor : ℕ) : Option ℕ → Option TheEntry
 -- what is awaited after an indicator in a collection at that column
 abbrev pub wanted_after : ℕ → Bool → Bool → Option TheEntry.Entry → Wanted
 wanted_after column compact out entry = record { least = column + 1; out = out; compact = compact; entry = entry; outer = None }
+
+-- it is awaited after the indicator at an offset
+pub record NodeAwaited (at column : ℕ) (compact out : Bool) (entry : Option TheEntry.Entry) (old new : Progress) (s : Step) : Type 0 where
+  pub floor : new.floor ≡ old.floor
+  pub from : new.from ≡ old.from
+  pub halt : new.halt ≡ old.halt
+  pub last : new.last ≡ at + 1
+  pub colons : new.colons ≡ old.colons
+  pub wanted : column ≤ at → new.wanted ≡ wanted_after column compact out entry
+  pub step : s ≡ Node (at + 1)

@@ -11,7 +11,7 @@ use Rattle.yf_props.specs.Props.{props_value}
 use Rattle.yf_events.specs.Event.{Placed}
 use Rattle.yf_events.specs.declared.event.Entry as TheEntry
 use Rattle.yf_events.specs.declared.part.Part.{Part}
-use Rattle.yf_grammar.specs.BlockParser.{Ahead, NoSign, Columns, BlockTask, MayLeaf, Leaf, headed}
+use Rattle.yf_grammar.specs.BlockParser.{Ahead, DashAt, NoSign, Columns, BlockTask, MayLeaf, Leaf, headed}
 use Rattle.yf_grammar.specs.BlockScalar.{BlockScalar}
 use Rattle.yf_grammar.specs.BlockStack.{Layer}
 use Rattle.yf_grammar.specs.BlockStates.{NodeAt}
@@ -43,6 +43,18 @@ pub record AtContent (t : List ℕ) (d : ℕ) (root : BlockTask) (before : Part)
   pub column_is : cols.mapping ≡ column
   pub signless : NoSign t cols p
 
+-- the same, where it is only known of sequences that none begins there
+pub record AtUndashed (column : Option ℕ) (t : List ℕ) (d : ℕ) (root : BlockTask) (before : Part) (frames : List Frame) (p : ℕ) (progress : Progress) (part : Part) : Type 0 where
+  pub cols : Columns
+  pub column_is : cols.mapping ≡ column
+  pub undashed : (m : ℕ) → cols.sequence ≡ Some m → DashAt t p → ⊥
+  pub start : AtStart t d root before frames cols p progress part
+
+-- and where properties stand there
+pub record AtProperties (held : PlacedProperties) (column : Option ℕ) (t : List ℕ) (d : ℕ) (root : BlockTask) (before : Part) (frames : List Frame) (p : ℕ) (progress : Progress) (part : Part) : Type 0 where
+  pub properties : LineProperties t p held
+  pub content : AtContent t d root before frames p column progress part
+
 -- properties on the line, or none, and where the text of the node stands after them
 pub data TextAfter (t : List ℕ) (p : ℕ) : Option PlacedProperties → ℕ → Type 0 where
   text_alone : Stuck (Properties t (pos 0) FlowKey p) → TextAfter t p None p
@@ -56,9 +68,9 @@ pub record EndsAfter (t : List ℕ) (g place : ℕ) : Type 0 where
   pub comment : Bool
   pub ends : LineEndsAt t comment place
 
-pub record AtAfterProperties (t : List ℕ) (d : ℕ) (root : BlockTask) (before : Part) (frames : List Frame) (b : AfterProperties) (progress : Progress) (part : Part) : Type 0 where
-  pub content : AtContent t d root before frames b.node_start.at b.node_start.column progress part
-  pub text : TextAfter t b.node_start.at b.inner b.at
+pub record AtAfterProperties (b : AfterProperties) (t : List ℕ) (d : ℕ) (root : BlockTask) (before : Part) (frames : List Frame) (p : ℕ) (progress : Progress) (part : Part) : Type 0 where
+  pub content : AtContent t d root before frames p b.node_start.column progress part
+  pub text : TextAfter t p b.inner b.at
 
 -- so much a part has
 pub record CountsOf (part : Part) (counts : Counts) : Type 0 where
@@ -72,7 +84,7 @@ ScalarSignAt t p = (code t p ≡ 124) ⊎ (code t p ≡ 62)
 
 -- a flow node, or an empty key, was read after the properties, with what was known of it, after what the earlier part had
 pub record AtInline (t : List ℕ) (d : ℕ) (root : BlockTask) (before : Part) (frames : List Frame) (depth : ℕ) (b : AfterProperties) (facts : NodeFacts) (node : Node) (progress : Progress) (earlier now : Part) : Type 0 where
-  pub there : AtAfterProperties t d root before frames b progress earlier
+  pub there : AtAfterProperties b t d root before frames b.node_start.at progress earlier
   pub belonging : BelongingTied t b.node_start.at b.at there.content.start.ahead b.inner progress.wanted.entry facts.lead facts.belonging
   pub counts : CountsOf earlier facts.before
   pub depth_is : depth ≡ length frames
@@ -89,6 +101,17 @@ pub record AtFirstKey (t : List ℕ) (d : ℕ) (root : BlockTask) (before : Part
   pub ends : KeyEnds t b.node_start.at colon
   pub within : node.deepest < d
   pub open_there : depth < d
+
+-- both, whatever the part was before the node and how many were open there
+pub record AtNodeEnd (b : AfterProperties) (facts : NodeFacts) (node : Node) (t : List ℕ) (d : ℕ) (root : BlockTask) (before : Part) (frames : List Frame) (p : ℕ) (progress : Progress) (part : Part) : Type 0 where
+  pub depth : ℕ
+  pub earlier : Part
+  pub inline : AtInline t d root before frames depth b facts node progress earlier part
+
+pub record AtKeyEnd (b : AfterProperties) (facts : NodeFacts) (column colon : ℕ) (t : List ℕ) (d : ℕ) (root : BlockTask) (before : Part) (frames : List Frame) (p : ℕ) (progress : Progress) (part : Part) : Type 0 where
+  pub depth : ℕ
+  pub earlier : Part
+  pub key : AtFirstKey t d root before frames depth b facts column colon progress earlier part
 
 -- what is known of a node is what stands ahead of it, if its text begins at the place
 pub record LeadTied (a : Ahead) (p : ℕ) (lead : Lead) : Type 0 where
@@ -123,9 +146,9 @@ pub record AtLeaf (t : List ℕ) (d : ℕ) (root : BlockTask) (before : Part) (f
   pub read : ReadTied t before (all_written layers ⊕ begins (layers_entry layers) (behind comments (headed ahead answer.meaning))) progress part
 
 -- a leaf, or an empty key that is none, after which the line goes on
-pub data LeafEnding (t : List ℕ) (d : ℕ) (root : BlockTask) (before : Part) (frames : List Frame) (plain : Option ℕ) (p : ℕ) (progress : Progress) (part : Part) : Type 0 where
-  leaf_ends : AtLeaf t d root before frames plain p progress part → LeafEnding t d root before frames plain p progress part
-  line_goes_on : Stuck (LineEnd t p) → ((q : ℕ) → plain ≡ Some q → NoStart t q p) → AtFailed t d root progress → LeafEnding t d root before frames plain p progress part
+pub data LeafEnding (plain : Option ℕ) (t : List ℕ) (d : ℕ) (root : BlockTask) (before : Part) (frames : List Frame) (p : ℕ) (progress : Progress) (part : Part) : Type 0 where
+  leaf_ends : AtLeaf t d root before frames plain p progress part → LeafEnding plain t d root before frames p progress part
+  line_goes_on : Stuck (LineEnd t p) → ((q : ℕ) → plain ≡ Some q → NoStart t q p) → AtFailed t d root progress → LeafEnding plain t d root before frames p progress part
 
 -- the key of a mapping that begins there is read, after the event that begins the mapping
 pub record KeyAgain (t : List ℕ) (room : ℕ) (n : ℤ) (depth : ℕ) (b : AfterProperties) (entry : TheEntry.Entry) (start : Placed) (earlier new : Part) : Type 0 where

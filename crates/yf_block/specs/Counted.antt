@@ -1,11 +1,8 @@
 -- How many collections are open at once: of each of them an opener has been read that belongs to no other one, so these and the openers
 -- that stand ahead are no more than a total.
-use Rattle.std.specs.Prelude.{ℕ, ◌+◌, ◌<◌, ◌≤◌, List, length, Result, IfOk}
-use Rattle.std.specs.Str.{IsUtf8}
-use Rattle.std.specs.declared.alloc.AllocError.{AllocError}
+use Rattle.std.specs.Prelude.{ℕ, ◌+◌, ◌<◌, ◌≤◌, List}
 use Rattle.yf_flow.specs.Counted.{openers_from}
-use Rattle.yf_block.specs.declared.frame.Frame.{Frame}
-use Rattle.yf_block.specs.declared.frame.Scope.{Scope}
+use Rattle.yf_flow.specs.declared.frame.Node.{Node as FlowNode}
 use Rattle.yf_block.specs.declared.frame.Step.{Step}
 use Rattle.yf_block.specs.declared.frame.Step.TheVariants.{Node, Line, Resume, Done, Failed, TooDeep}
 use Rattle.yf_block.specs.InlineTied.{EntrySignAt}
@@ -19,14 +16,20 @@ StepCounted t limit total count (Done p) = Unit {0}
 StepCounted t limit total count (Failed p) = Unit {0}
 StepCounted t limit total count (TooDeep p) = limit < total
 
--- what a step at an offset answers, which changes how many are open
-abbrev pub CountsFrom : Scope → ℕ → List Frame → List Frame → Result Step AllocError → Type 0
-CountsFrom scope at old new result = IsUtf8 scope.text.now → (total : ℕ) → length old + openers_from scope.text.now at ≤ total
-    → IfOk result (λ s. StepCounted scope.text.now scope.limit total (length new) s)
+-- what is counted of the collections that are open, a total, and the openers from an offset on: of a collection whose frame is on the stack,
+-- of one that is open besides, once a node is read with its collections, and after the `:` of a key
+abbrev pub CountedAt : List ℕ → ℕ → ℕ → ℕ → Type 0
+CountedAt t total count i = count + openers_from t i ≤ total
 
--- and one that opens and ends none
-abbrev pub CountsSame : List ℕ → ℕ → Result Step AllocError → Type 0
-CountsSame t at result = (limit : ℕ) → (total : ℕ) → (count : ℕ) → count + openers_from t at ≤ total → IfOk result (λ s. StepCounted t limit total count s)
+abbrev pub CountedInside : List ℕ → ℕ → ℕ → ℕ → Type 0
+CountedInside t total count i = count + 1 + openers_from t i ≤ total
+
+pub record CountedWith (node : FlowNode) (t : List ℕ) (total count i : ℕ) : Type 0 where
+  pub deepest : node.deepest + openers_from t node.end ≤ total
+  pub opened : count + openers_from t i ≤ total
+
+abbrev pub CountedPast : ℕ → List ℕ → ℕ → ℕ → ℕ → Type 0
+CountedPast colon t total count i = count + 1 + openers_from t (colon + 1) ≤ total
 
 -- an entry begins there of a collection round which so many are open: the first one, with its `?` or its `:`, or one after others, whose
 -- opener has been read

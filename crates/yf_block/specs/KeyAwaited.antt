@@ -9,13 +9,14 @@ use Rattle.yf_block.specs.declared.frame.Kind.TheVariants.{Mapping}
 use Rattle.yf_block.specs.declared.frame.Progress.{Progress}
 use Rattle.yf_block.specs.BlockStepTied.{AtEntry}
 
-pub record KeyAwaited (t : List ℕ) (d : ℕ) (root : BlockTask) (before : Part) (outer : List Frame) (frame : Frame) (frames : List Frame) (column : ℕ) (entry : TheEntry.Entry)
-    (progress : Progress) (part : Part) : Type 0 where
-  pub at : AtEntry t d root before outer frame entry.start progress part
+pub record KeyAwaited (column : ℕ) (entry : TheEntry.Entry) (t : List ℕ) (d : ℕ) (root : BlockTask) (before : Part) (frames : List Frame) (p : ℕ) (progress : Progress) (part : Part) : Type 0 where
+  pub outer : List Frame
+  pub frame : Frame
+  pub at : AtEntry t d root before outer frame p progress part
   pub mapping : frame.kind ≡ Mapping
   pub stack : frames ≡ record frame { awaits_colon = false } ∷ outer
   pub column_there : column ≡ frame.column
-  pub note : NotedSince t progress.floor entry.start entry.blank_before
+  pub note : NotedSince t progress.floor p entry.blank_before
   pub no_colon_yet : entry.colon ≡ None
-  pub no_question : SignAt t 63 entry.start → ⊥
-  pub no_colon : SignAt t 58 entry.start → ⊥
+  pub no_question : SignAt t 63 p → ⊥
+  pub no_colon : SignAt t 58 p → ⊥

@@ -20,6 +20,8 @@ pub mod Machine
 pub mod NodeGiven
 pub mod NodeReaders
 pub mod NotedHalts
+pub mod OpeningTied
 pub mod ScalarTied
 pub mod RootTied
 pub mod RunTied
+pub mod StepAnswers

@@ -1,5 +1,5 @@
--- The end of a line where a node is awaited that may stand on a later one, and the line after it.
-use Rattle.std.specs.Prelude.{◌≡◌, ℕ, ◌≤◌, ℤ, false, List, ◌++◌, length, Option}
+-- The end of a line where a node is awaited that may stand on a later one.
+use Rattle.std.specs.Prelude.{◌≡◌, ℕ, ◌≤◌, ℤ, List, ◌++◌, length, Option}
 use Rattle.yf_chars.specs.declared.context.Ctx.{Ctx}
 use Rattle.yf_chars.specs.Chain.{Stuck, Chosen}
 use Rattle.yf_lines.specs.Basic.{LineStart}
@@ -13,8 +13,6 @@ use Rattle.yf_grammar.specs.BlockStack.{Layer}
 use Rattle.yf_grammar.specs.BlockStates.{NodeAt}
 use Rattle.yf_block.specs.declared.frame.Frame.{Frame}
 use Rattle.yf_block.specs.declared.frame.Progress.{Progress}
-use Rattle.yf_block.specs.declared.frame.Step.{Step}
-use Rattle.yf_block.specs.declared.frame.Step.TheVariants.{Node, Line, Resume, Done, Failed, TooDeep}
 use Rattle.yf_block.specs.BlockTied.{ahead_comments, all_written, ReadTied, StackTied}
 use Rattle.yf_block.specs.BlockStepTied.{WantedTied, AtFailed}
 
@@ -35,32 +33,3 @@ pub record AtBelow (t : List ℕ) (d : ℕ) (root : BlockTask) (before : Part) (
   pub past : progress.floor ≤ p
   pub stack : StackTied (length before.events) layers frames progress halt
   pub read : ReadTied t before (all_written layers ⊕ only (comments ++ ahead_comments ahead) 0) progress part
-
--- it ended where it was read from, and a line begins at the offset
-pub record AtNewLine (t : List ℕ) (d : ℕ) (root : BlockTask) (before : Part) (frames : List Frame) (at p : ℕ) (progress : Progress) (part : Part) : Type 0 where
-  pub layers : List Layer
-  pub room : ℕ
-  pub comments : List CommentValue
-  pub indentation : ℤ
-  pub context : Ctx
-  pub ahead : Ahead
-  pub told : List CommentValue
-  pub halt : Option Found
-  pub node : NodeAt t d root layers room comments (Below indentation context ahead at) halt
-  pub line : Chosen (LineEnd t at) p told
-  pub started : LineStart t at → ahead ≡ Nothing
-  pub from : progress.from ≡ at
-  pub not_first : progress.first ≡ false
-  pub wanted : WantedTied t progress.floor layers indentation context ahead progress.wanted
-  pub last : (i : ℕ) → ahead ≡ Indicator i → progress.last ≡ i
-  pub past : progress.floor ≤ at
-  pub stack : StackTied (length before.events) layers frames progress halt
-  pub read : ReadTied t before (all_written layers ⊕ only (comments ++ (ahead_comments ahead ++ told)) 0) progress part
-
-abbrev pub EndedTied : List ℕ → ℕ → BlockTask → Part → List Frame → ℕ → Step → Progress → Part → Type 0
-EndedTied t d root before frames at (Node p) progress part = ⊥
-EndedTied t d root before frames at (Line p) progress part = AtNewLine t d root before frames at p progress part
-EndedTied t d root before frames at (Resume p) progress part = ⊥
-EndedTied t d root before frames at (Done p) progress part = ⊥
-EndedTied t d root before frames at (Failed p) progress part = AtFailed t d root progress
-EndedTied t d root before frames at (TooDeep p) progress part = ⊥

@@ -3,11 +3,13 @@
 use Rattle.std.specs.Prelude.{◌≡◌, ℕ, ◌+◌, ◌-◌, ◌*◌, ◌≤◌, length, List, Option, Some, None}
 use Rattle.std.specs.List.{All}
 use Rattle.std.specs.Str.{IsCharBoundary}
-use Rattle.yf_events.specs.declared.part.Part.{Part}
+use Rattle.yf_grammar.specs.BlockParser.{DashAt}
 use Rattle.yf_flow.specs.Machine.{Place}
 use Rattle.yf_flow.specs.declared.nodes.Ending.{Ending}
 use Rattle.yf_flow.specs.declared.nodes.Ending.TheVariants.{End}
+use Rattle.yf_block.specs.declared.content.AfterProperties.{AfterProperties}
 use Rattle.yf_block.specs.declared.frame.Progress.{Progress}
+use Rattle.yf_block.specs.declared.frame.Reader.{Reader}
 use Rattle.yf_block.specs.declared.frame.Step.{Step}
 use Rattle.yf_block.specs.declared.frame.Step.TheVariants.{Node, Line, Resume, Done, Failed, TooDeep}
 use Rattle.yf_block.specs.declared.properties.PlacedProperties.{PlacedProperties}
@@ -29,16 +31,11 @@ pub record ProgressAt (t : List ℕ) (p : Progress) : Type 0 where
   pub from : IsCharBoundary t p.from
   pub halt : MayBoundary t p.halt
 
--- what a step stands on that notes no bad escapes: a place, and what is kept so far
-pub record StandingAt (t : List ℕ) (at : ℕ) (kept : Progress) : Type 0 where
+-- what a step stands on: a place, and what is kept and noted so far
+pub record Standing (t : List ℕ) (at : ℕ) (r : Reader) : Type 0 where
   pub boundary : IsCharBoundary t at
-  pub progress : ProgressAt t kept
-
--- the same of any step, with what is noted so far
-pub record Standing (t : List ℕ) (at : ℕ) (kept : Progress) (part : Part) : Type 0 where
-  pub boundary : IsCharBoundary t at
-  pub progress : ProgressAt t kept
-  pub escapes : All (IsCharBoundary t) part.escapes
+  pub progress : ProgressAt t r.progress
+  pub escapes : All (IsCharBoundary t) r.part.escapes
 
 -- a step from an offset on
 abbrev pub StepReady : List ℕ → ℕ → Step → Type 0
@@ -59,25 +56,22 @@ left n (Failed p) = 0
 left n (TooDeep p) = 0
 
 -- a step from an offset on, after which so much is left at most
-pub record Stepped (t : List ℕ) (at more : ℕ) (p : Progress) (s : Step) : Type 0 where
-  pub progress : ProgressAt t p
+pub record Moved (t : List ℕ) (at more : ℕ) (r : Reader) (s : Step) : Type 0 where
+  pub progress : ProgressAt t r.progress
   pub ready : StepReady t at s
   pub moves : left (length t) s ≤ 3 * (length t - at) + more
-
--- the same of a step that may note bad escapes
-pub record Moved (t : List ℕ) (at more : ℕ) (kept : Progress) (part : Part) (s : Step) : Type 0 where
-  pub step : Stepped t at more kept s
-  pub escapes : All (IsCharBoundary t) part.escapes
-
--- and of one that notes none
-pub record MovedSame (t : List ℕ) (at more : ℕ) (escapes : List ℕ) (kept : Progress) (part : Part) (s : Step) : Type 0 where
-  pub step : Stepped t at more kept s
-  pub same_escapes : part.escapes ≡ escapes
+  pub escapes : All (IsCharBoundary t) r.part.escapes
 
 -- from an offset on stand properties, or none, and after them a place
 abbrev pub PropertiesTo : List ℕ → ℕ → ℕ → Option PlacedProperties → Type 0
 PropertiesTo t start at None = at ≡ start
 PropertiesTo t start at (Some held) = Place t (start + 1) held.end × (held.end ≤ at)
+
+-- what a step stands on after the properties of a line
+pub record StandingAfter (t : List ℕ) (b : AfterProperties) (r : Reader) : Type 0 where
+  pub standing : Standing t b.at r
+  pub start : IsCharBoundary t b.node_start.at
+  pub properties : PropertiesTo t b.node_start.at b.at b.inner
 
 -- where what stands at a place ends at the earliest: after its first character, or after the properties before it
 abbrev pub earliest_end : ℕ → Option PlacedProperties → ℕ
@@ -112,7 +106,7 @@ MayPlace t at None = Unit {0}
 MayPlace t at (Some p) = Place t at p
 
 abbrev pub FitsAt : List ℕ → ℕ → Fit → Type 0
-FitsAt t at (Item p) = Place t at p × IsCharBoundary t (p + 1)
+FitsAt t at (Item p) = Place t at p × IsCharBoundary t (p + 1) × DashAt t p
 FitsAt t at (EntryAt p) = Place t at p
 FitsAt t at (Deeper p) = IsCharBoundary t p
 FitsAt t at EndsBefore = Unit {0}

@@ -1,6 +1,9 @@
 -- What is known where the reader of block nodes begins, before it has read anything.
-use Rattle.std.specs.Prelude.{◌≡◌, ℕ, ◌^◌, ◌≤◌, ℤ, pos, ◌+ℤ◌, false, List, None}
+use Rattle.std.specs.Prelude.{◌≡◌, ℕ, ◌^◌, ◌≤◌, ℤ, pos, ◌+ℤ◌, false, List, [], None}
 use Rattle.yf_chars.specs.declared.context.Ctx.{Ctx}
+use Rattle.yf_events.specs.declared.part.Part.{Part}
+use Rattle.yf_grammar.specs.BlockParser.{Nothing, BlockTask, Awaited}
+use Rattle.yf_block.specs.declared.frame.Frame.{Frame}
 use Rattle.yf_block.specs.declared.frame.Progress.{Progress}
 use Rattle.yf_block.specs.BlockTied.{TextTied}
 use Rattle.yf_block.specs.BlockStepTied.{is_out}
@@ -17,3 +20,12 @@ pub record AtRoot (t : List ℕ) (n : ℤ) (c : Ctx) (at : ℕ) (progress : Prog
   pub floor : progress.floor ≡ 0
   pub colons : progress.colons ≡ 0
   pub halt : progress.halt ≡ None
+
+-- the outermost node is awaited, before the part has anything of it
+pub record AtBegin (t : List ℕ) (d : ℕ) (root : BlockTask) (before : Part) (frames : List Frame) (p : ℕ) (progress : Progress) (part : Part) : Type 0 where
+  pub indentation : ℤ
+  pub context : Ctx
+  pub root_is : root ≡ Awaited false indentation context Nothing p
+  pub before_is : before ≡ part
+  pub alone : frames ≡ []
+  pub awaited : AtRoot t indentation context p progress

@@ -39,8 +39,12 @@ pub record AtScalar (t : List ℕ) (d : ℕ) (root : BlockTask) (before : Part) 
   pub stack : StackTied (length before.events) layers frames progress halt
   pub read : ReadTied t before (all_written layers ⊕ only (comments ++ ahead_comments ahead) 0) progress part
 
+-- with the indentation that is awaited
+abbrev pub AtHeader : Lead → List ℕ → ℕ → BlockTask → Part → List Frame → ℕ → Progress → Part → Type 0
+AtHeader lead t d root before frames p progress part = AtScalar t d root before frames lead progress.wanted.least p progress part
+
 -- its header is read, which ends at the offset, and so are its lines
-pub record AtBody (t : List ℕ) (d : ℕ) (root : BlockTask) (before : Part) (frames : List Frame) (lead : Lead) (at : ℕ) (block : BlockText) (progress : Progress) (part : Part) : Type 0 where
+pub record AtBody (lead : Lead) (block : BlockText) (t : List ℕ) (d : ℕ) (root : BlockTask) (before : Part) (frames : List Frame) (at : ℕ) (progress : Progress) (part : Part) : Type 0 where
   pub least : ℕ
   pub place : ℕ
   pub head : HeaderValue

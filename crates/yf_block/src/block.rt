@@ -1,20 +1,16 @@
 //! The readers of block nodes over a text with its lines.
 ghost use Rattle.std.specs.Prelude.{◌≡◌, ◌+◌, [], IfOk, IfSome, MatchResult, true, false, ◌^◌, ◌≤◌, length, Ok, None};
-ghost use Rattle.std.specs.Str.{IsCharBoundary};
-ghost use Rattle.yf_lines.specs.FaultPlaces.{IsFirstPlace};
 ghost use Rattle.yf_flow.specs.Machine.{Place, IsReadFault, IsScanFault};
-ghost use Rattle.yf_lines.specs.Basic.{is_block};
 ghost use Rattle.yf_block.specs.NodeGiven.{Indentation};
+ghost use Rattle.yf_lines.specs.Basic.{is_block};
+ghost use Rattle.yf_lines.specs.FaultPlaces.{IsFirstPlace};
+ghost use Rattle.std.specs.Str.{IsCharBoundary};
 ghost use Rattle.yf_block.specs.NodeReaders.{ReadsBlockNode, ScansBlockNode};
 
-use crate::nodes::{Found, Outcome, block_node_in};
+use crate::nodes::{Found, Outcome, block_node_in, new_part};
 use std::alloc::{AllocError, Global};
 use yf_chars::context::Ctx;
-use yf_events::comments::Comments;
-use yf_events::events::Events;
-use yf_events::part::Part;
 use yf_events::reading::DEPTH;
-use yf_events::row::Row;
 use yf_flow::flow::{Answer, NodePart, Scanned, ScannedPart, first_escape};
 use yf_lines::fault::Fault;
 use yf_lines::source_text::Src;
@@ -79,17 +75,5 @@ pub fn scan_block_node<'a>(alloc: Global, src: &Src<'a>, at: usize, n: i32, ctx:
             place: src.place(offset),
         }),
         Err(AllocError) => Err(Fault::Memory),
-    }
-}
-
-fn new_part<'a>(alloc: Global) -> Part<'a>
-    ensures events { result.events ≡ [] }
-    ensures comments { result.comments ≡ [] }
-    ensures escapes { result.escapes ≡ [] }
-{
-    Part {
-        events: Events::new(alloc),
-        comments: Comments::new(alloc),
-        escapes: Row::new(alloc),
     }
 }

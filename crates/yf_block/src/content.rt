@@ -1,29 +1,27 @@
 //! What a node has on one line: the sign of an entry, properties, a block scalar, or a flow node.
-ghost use Rattle.std.specs.Prelude.{◌≡◌, ◌+◌, Some, IfOk, MatchBool, ◌⊎◌, ℕ, ◌≤◌, ◌^◌, ◌<◌, List, MatchOption, reverse};
+ghost use Rattle.std.specs.Prelude.{◌≡◌, ◌+◌, Some, MatchBool, ◌⊎◌, ℕ, MatchOption};
 ghost use Rattle.std.specs.Str.{IsCharBoundary};
 ghost use Rattle.yf_flow.specs.Machine.{Place};
-ghost use Rattle.yf_grammar.specs.BlockParser.{Ahead, BlockTask, Columns, DashAt};
+ghost use Rattle.yf_grammar.specs.BlockParser.{Ahead};
 ghost use Rattle.yf_block.specs.declared.properties.PlacedProperties.{PlacedProperties as PropertiesThere};
-ghost use Rattle.yf_block.specs.BlockStepTied.{AheadTied, BlockTied};
+ghost use Rattle.yf_block.specs.BlockStepTied.{AheadTied};
 ghost use Rattle.yf_block.specs.BelongingTied.{BelongingTied};
-ghost use Rattle.yf_block.specs.ContentTied.{AtAfterProperties, AtContent, CountsOf, EndsAfter, ScalarSignAt};
+ghost use Rattle.yf_block.specs.ContentTied.{AtAfterProperties, AtProperties, AtUndashed, CountsOf, ScalarSignAt};
+ghost use Rattle.yf_block.specs.Counted.{CountedAt};
 ghost use Rattle.yf_block.specs.PropertiesAnswers.{Holds, LineProperties, held_lead, lead_at};
-ghost use Rattle.yf_block.specs.InlineTied.{AtStart, EntrySignAt};
-ghost use Rattle.yf_block.specs.Machine.{StandingAt, MovedSame, Moved, Standing, PropertiesTo};
-ghost use Rattle.yf_block.specs.Counted.{CountsSame, CountsFrom};
+ghost use Rattle.yf_block.specs.InlineTied.{EntrySignAt};
+ghost use Rattle.yf_block.specs.Machine.{PropertiesTo, Standing};
+ghost use Rattle.yf_block.specs.StepAnswers.{Answers};
 
-use crate::entry::open_mapping;
-use crate::frame::{Frame, Frames, Progress, Scope, Step, Wanted};
+use crate::frame::{Kind, Reader, Scope, Step, Wanted};
 use crate::halt::Counts;
-use crate::inline::{finish_inline, read_inline};
-use crate::leaf::read_line_end;
-use crate::line::end_line;
+use crate::inline::read_inline;
+use crate::line::read_line_end;
 use crate::look::{line_ends, sign_stands};
 use crate::properties::{
     PlacedProperties, joined, joined_after, lead_of, line_properties, place_after,
 };
-use crate::scalar::take_block_scalar;
-use std::alloc::{AllocError, Global};
+use std::alloc::AllocError;
 use yf_chars::text::stands;
 use yf_events::event::Entry;
 use yf_events::part::Part;
@@ -79,38 +77,104 @@ pub(crate) fn is_apart(belonging: Belonging) -> bool
     }
 }
 
-/// Begins the content of a node at a place of a line.
-#[inline(always)]
-pub(crate) fn take_content<'a>(
-    alloc: Global,
-    scope: Scope<'a>,
-    node_start: NodeStart,
-    progress: &mut Progress<'a>,
-    frames: &mut Frames,
-    part: &mut Part<'a>,
-) -> Result<Step, AllocError>
-    requires standing { Standing scope.text.now (node_start.at) progress.old part.old }
-    ensures tied { (d : ℕ) → (root : BlockTask) → (before : Part) → (cols : Columns) → d < 2 ^ 64 → d ≡ scope.entry.limit
-        → cols.mapping ≡ node_start.column
-        → ((m : ℕ) → cols.sequence ≡ Some m → DashAt scope.entry.text.now (node_start.at) → ⊥)
-        → AtStart scope.entry.text.now d root before (reverse frames.old.items) cols (node_start.at) progress.old part.old
-        → IfOk result (λ s. BlockTied scope.entry.text.now d root before (reverse frames.new.items) s progress.new part.new) }
-    ensures stepped { IfOk result (Moved scope.entry.text.now (node_start.at) 0 progress.new part.new) }
-    ensures counted { CountsFrom scope.entry (node_start.at) frames.old.items frames.new.items result }
-{
-    match signed_column(scope.text, node_start) {
-        Some(column) => open_mapping(alloc, scope, node_start.at, column, progress, frames, part),
-        None => match line_properties(alloc, scope.text, node_start.at)? {
-            Some(inner) => take_propertied(alloc, scope, inner, node_start, progress, frames, part),
-            None => {
+impl<'a> Reader<'a> {
+    /// Begins the content of a node at a place of a line.
+    #[inline(always)]
+    pub(crate) fn take_content(
+        &mut self,
+        scope: Scope<'a>,
+        node_start: NodeStart,
+    ) -> Result<Step, AllocError>
+        requires { Standing scope.text.now node_start.at self.old }
+        ensures { Answers (AtUndashed node_start.column) CountedAt scope.entry node_start.at 0 self.old self.new result }
+    {
+        match signed_column(scope.text, node_start) {
+            Some(column) => self.open_collection(scope, Kind::Mapping, node_start.at, column),
+            None => match line_properties(scope.alloc, scope.text, node_start.at)? {
+                Some(inner) => self.take_propertied(scope, inner, node_start),
+                None => {
+                    let after = AfterProperties {
+                        at: node_start.at,
+                        inner: None,
+                        node_start,
+                    };
+                    self.take_after_properties(scope, &after)
+                }
+            },
+        }
+    }
+
+    // A flow node, a key or a block scalar, after the properties of its line.
+    #[inline(always)]
+    fn take_after_properties(
+        &mut self,
+        scope: Scope<'a>,
+        after: &AfterProperties<'a>,
+    ) -> Result<Step, AllocError>
+        requires standing { Standing scope.text.now after.now.at self.old }
+        requires start { IsCharBoundary scope.text.now after.now.node_start.at }
+        requires properties { PropertiesTo scope.text.now after.now.node_start.at after.now.at after.now.inner }
+        ensures { Answers (AtAfterProperties after.now) CountedAt scope.entry after.now.node_start.at 0 self.old self.new result }
+    {
+        let facts = facts_of(scope.text, after, &self.progress.wanted, &self.part);
+        if block_scalar_stands(scope.text, after.at) {
+            if is_apart(facts.belonging) {
+                return Ok(Step::Failed(after.node_start.at));
+            }
+            return self.take_block_scalar(scope, after.at, &facts.lead);
+        }
+        match read_inline(
+            scope,
+            self.progress.wanted.least,
+            after.at,
+            &after.inner,
+            &facts.lead,
+            self.frames.len(),
+            &mut self.part,
+        )? {
+            Ending::End(node) => self.finish_inline(scope, after, &facts, node),
+            Ending::Nothing => Ok(Step::Failed(after.at)),
+            Ending::TooDeep(place) => Ok(Step::TooDeep(place)),
+        }
+    }
+
+    // What stands after the properties of a line: nothing, so that the node stands on a later one, or the content of a
+    // node or key.
+    #[inline(never)]
+    fn take_propertied(
+        &mut self,
+        scope: Scope<'a>,
+        inner: PlacedProperties<'a>,
+        node_start: NodeStart,
+    ) -> Result<Step, AllocError>
+        requires standing { Standing scope.text.now node_start.at self.old }
+        requires inner { Place scope.text.now (node_start.at + 1) inner.end }
+        ensures { Answers (AtProperties inner.entry node_start.column) CountedAt scope.entry node_start.at 0 self.old self.new result }
+    {
+        let place = skip_whites(scope.text, inner.end);
+        if line_ends(scope.text, place, place > inner.end) {
+            match joined_after(self.progress.wanted.outer, inner) {
+                None => {
+                    let _ended = read_line_end(scope.alloc, scope.text, inner.end)?;
+                    return Ok(Step::Failed(node_start.at));
+                }
+                Some(outer) => {
+                    self.progress.wanted.outer = Some(outer);
+                    return self.end_line(scope, inner.end);
+                }
+            }
+        }
+        match place_after(scope.text, inner) {
+            None => Ok(Step::Failed(place)),
+            Some(at) => {
                 let after = AfterProperties {
-                    at: node_start.at,
-                    inner: None,
+                    at,
+                    inner: Some(inner),
                     node_start,
                 };
-                take_after_properties(alloc, scope, &after, progress, frames, part)
+                self.take_after_properties(scope, &after)
             }
-        },
+        }
     }
 }
 
@@ -138,129 +202,6 @@ fn entry_sign_stands(text: &str, at: usize) -> bool
         return true;
     }
     sign_stands(text, at, b':')
-}
-
-// What stands after the properties of a line: nothing, or the content of a node or key.
-#[inline(never)]
-fn take_propertied<'a>(
-    alloc: Global,
-    scope: Scope<'a>,
-    inner: PlacedProperties<'a>,
-    node_start: NodeStart,
-    progress: &mut Progress<'a>,
-    frames: &mut Frames,
-    part: &mut Part<'a>,
-) -> Result<Step, AllocError>
-    requires standing { Standing scope.text.now (node_start.at) progress.old part.old }
-    requires inner { Place scope.text.now (node_start.at + 1) inner.end }
-    ensures tied { (d : ℕ) → (root : BlockTask) → (before : Part) → d ≡ scope.entry.limit
-        → LineProperties scope.entry.text.now (node_start.at) inner.entry
-        → AtContent scope.entry.text.now d root before (reverse frames.old.items) (node_start.at) node_start.column progress.old part.old
-        → IfOk result (λ s. BlockTied scope.entry.text.now d root before (reverse frames.new.items) s progress.new part.new) }
-    ensures stepped { IfOk result (Moved scope.entry.text.now (node_start.at) 0 progress.new part.new) }
-    ensures counted { CountsFrom scope.entry (node_start.at) frames.old.items frames.new.items result }
-{
-    let place = skip_whites(scope.text, inner.end);
-    if line_ends(scope.text, place, place > inner.end) {
-        return end_propertied(alloc, scope.text, inner, node_start, progress, part);
-    }
-    match place_after(scope.text, inner) {
-        None => Ok(Step::Failed(place)),
-        Some(at) => {
-            let after = AfterProperties {
-                at,
-                inner: Some(inner),
-                node_start,
-            };
-            take_after_properties(alloc, scope, &after, progress, frames, part)
-        }
-    }
-}
-
-// The line ends after the properties of a node, which stands on a later line.
-#[inline(never)]
-fn end_propertied<'a>(
-    alloc: Global,
-    text: &'a str,
-    inner: PlacedProperties<'a>,
-    node_start: NodeStart,
-    progress: &mut Progress<'a>,
-    part: &mut Part<'a>,
-) -> Result<Step, AllocError>
-    requires standing { StandingAt text.now (node_start.at) progress.old }
-    requires inner { Place text.now (node_start.at + 1) inner.end }
-    ensures tied { (place : ℕ) → (d : ℕ) → (root : BlockTask) → (before : Part) → (frames : List Frame)
-        → EndsAfter text.now inner.entry.end place → LineProperties text.now (node_start.at) inner.entry
-        → AtContent text.now d root before frames (node_start.at) node_start.column progress.old part.old
-        → IfOk result (λ s. BlockTied text.now d root before frames s progress.new part.new) }
-    ensures stepped { IfOk result (MovedSame text.now (node_start.at) 0 part.old.escapes progress.new part.new) }
-    ensures counted { CountsSame text.now (node_start.at) result }
-{
-    match joined_after(progress.wanted.outer, inner) {
-        None => {
-            let _ended = read_line_end(alloc, text, inner.end)?;
-            Ok(Step::Failed(node_start.at))
-        }
-        Some(outer) => {
-            progress.wanted.outer = Some(outer);
-            let step = end_line(alloc, text, inner.end, progress, part)?;
-            Ok(step)
-        }
-    }
-}
-
-// A flow node, a key or a block scalar, after the properties of its line.
-#[inline(always)]
-fn take_after_properties<'a>(
-    alloc: Global,
-    scope: Scope<'a>,
-    after: &AfterProperties<'a>,
-    progress: &mut Progress<'a>,
-    frames: &mut Frames,
-    part: &mut Part<'a>,
-) -> Result<Step, AllocError>
-    requires standing { Standing scope.text.now (after.now.at) progress.old part.old }
-    requires start { IsCharBoundary scope.text.now after.now.node_start.at }
-    requires properties { PropertiesTo scope.text.now after.now.node_start.at after.now.at after.now.inner }
-    ensures tied { (d : ℕ) → (root : BlockTask) → (before : Part) → d ≡ scope.entry.limit
-        → AtAfterProperties scope.entry.text.now d root before (reverse frames.old.items) after.now progress.old part.old
-        → IfOk result (λ s. BlockTied scope.entry.text.now d root before (reverse frames.new.items) s progress.new part.new) }
-    ensures stepped { IfOk result (Moved scope.entry.text.now (after.now.node_start.at) 0 progress.new part.new) }
-    ensures counted { CountsFrom scope.entry (after.now.node_start.at) frames.old.items frames.new.items result }
-{
-    let facts = facts_of(scope.text, after, &progress.wanted, part);
-    let least = progress.wanted.least;
-    if block_scalar_stands(scope.text, after.at) {
-        if is_apart(facts.belonging) {
-            return Ok(Step::Failed(after.node_start.at));
-        }
-        return take_block_scalar(
-            alloc,
-            scope,
-            after.at,
-            &facts.lead,
-            least,
-            progress,
-            frames,
-            part,
-        );
-    }
-    match read_inline(
-        alloc,
-        scope,
-        least,
-        after.at,
-        &after.inner,
-        &facts.lead,
-        frames.len(),
-        part,
-    )? {
-        Ending::End(node) => finish_inline(
-            alloc, scope, after, &facts, node, progress, frames, part,
-        ),
-        Ending::Nothing => Ok(Step::Failed(after.at)),
-        Ending::TooDeep(place) => Ok(Step::TooDeep(place)),
-    }
 }
 
 // Whether the header of a block scalar begins there.

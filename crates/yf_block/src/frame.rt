@@ -3,11 +3,15 @@ ghost use Rattle.std.specs.Prelude.{◌≡◌, false};
 
 use crate::properties::PlacedProperties;
 use smallvec::SmallVec;
+use std::alloc::Global;
 use yf_events::event::Entry;
+use yf_events::part::Part;
 
-/// What is read: the text, and how many collections may be open at once.
+/// What is read: the text, and how many collections may be open at once. What is read of it is kept in the memory that
+/// the allocator gives.
 #[derive(Clone, Copy)]
 pub(crate) struct Scope<'a> {
+    pub(crate) alloc: Global,
     pub(crate) text: &'a str,
     pub(crate) limit: usize,
 }
@@ -36,6 +40,13 @@ pub(crate) struct Frame {
 
 /// The open collections, the outermost first.
 pub(crate) type Frames = SmallVec<Frame, 8>;
+
+/// Where an entry of a collection begins whose frame is not on the stack.
+#[derive(Clone, Copy)]
+pub(crate) struct Slot {
+    pub(crate) frame: Frame,
+    pub(crate) at: usize,
+}
 
 /// Which node is awaited.
 #[derive(Clone, Copy)]
@@ -69,7 +80,7 @@ pub(crate) enum Step {
     TooDeep(usize),
 }
 
-/// What has been read, and which node is awaited. It is changed in place.
+/// How far the text has been read, and which node is awaited. It is changed in place.
 #[derive(Clone, Copy)]
 pub(crate) struct Progress<'a> {
     /// The byte offset after the last node with characters, or the last indicator.
@@ -81,10 +92,19 @@ pub(crate) struct Progress<'a> {
     pub(crate) wanted: Wanted<'a>,
     /// Where the end of the line before the awaited node was read from, with the comment lines after it.
     pub(crate) from: usize,
-    /// Whether nothing was read yet before a line, so that no indentation is asked of a node without entries.
+    /// Whether the line of the awaited node begins where the end of the line before was read from: nothing was read yet
+    /// before it, so that no indentation is asked of a node without entries, or the text ends there.
     pub(crate) first: bool,
     /// The byte offset of the last place at which all open nodes may end.
     pub(crate) halt: Option<usize>,
+}
+
+/// The reader of a block node, whose steps change it: how far it is, the open collections, and what has been read.
+#[derive(Drop)]
+pub(crate) struct Reader<'a> {
+    pub(crate) progress: Progress<'a>,
+    pub(crate) frames: Frames,
+    pub(crate) part: Part<'a>,
 }
 
 impl Frame {

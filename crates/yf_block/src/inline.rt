@@ -1,27 +1,26 @@
 //! What stands on a line after properties, or where there are none: a flow node or an alias, perhaps a mapping's first key.
-ghost use Rattle.std.specs.Prelude.{◌≡◌, ℕ, ℤ, ◌+◌, ◌^◌, ◌<◌, ◌≤◌, ◌≤ℤ◌, pos, false, None, IfOk, IfSome, MatchOption, length, true, List, ◌∷◌, ◌++◌, reverse, Some, MatchBool};
+ghost use Rattle.std.specs.Prelude.{◌≡◌, ℕ, ℤ, ◌+◌, ◌^◌, ◌<◌, ◌≤◌, ◌≤ℤ◌, pos, false, None, IfOk, IfSome, MatchOption, length, true, List, ◌∷◌, ◌++◌, Some, MatchBool};
 ghost use Rattle.std.specs.List.{All};
 ghost use Rattle.std.specs.Str.{IsCharBoundary, IsUtf8};
 ghost use Rattle.yf_chars.specs.Text.{code};
 ghost use Rattle.yf_events.specs.Event.{Placed, placed_value};
-ghost use Rattle.yf_grammar.specs.BlockParser.{BlockTask};
 ghost use Rattle.yf_flow.specs.Machine.{Place, EndingAt};
-ghost use Rattle.yf_block.specs.BlockStepTied.{BlockTied};
-ghost use Rattle.yf_block.specs.ContentTied.{AtFirstKey, AtInline, KeyOrLost, KeyRead, LeafEnding};
+ghost use Rattle.yf_flow.specs.Counted.{EndCounted, openers_from};
+ghost use Rattle.yf_block.specs.ContentTied.{AtKeyEnd, AtNodeEnd, KeyOrLost, KeyRead, LeafEnding};
+ghost use Rattle.yf_block.specs.Counted.{CountedAt, CountedPast, CountedWith};
 ghost use Rattle.yf_block.specs.InlineAnswers.{EmptyKeyAt, InlineEnds, KeyEnds, NoEmptyKey};
 ghost use Rattle.yf_block.specs.InlineTied.{started};
-ghost use Rattle.yf_block.specs.Machine.{StandingAt, MovedSame, Moved, ProgressAt, PropertiesBefore, earliest_end, MayBoundary};
-ghost use Rattle.yf_flow.specs.Counted.{EndCounted, openers_from};
-ghost use Rattle.yf_block.specs.Counted.{CountsSame, StepCounted};
+ghost use Rattle.yf_block.specs.Machine.{Standing, StandingAfter, PropertiesBefore, earliest_end, MayBoundary};
+ghost use Rattle.yf_block.specs.StepAnswers.{Answers};
 
 use crate::content::{AfterProperties, Belonging, NodeFacts, NodeStart, is_apart};
 use crate::entry::{await_value, collection_start, entry_at};
-use crate::frame::{Frame, Frames, Kind, Progress, Scope, Step, Wanted};
+use crate::frame::{Frame, Kind, Reader, Scope, Step, Wanted};
 use crate::halt::{note_node, note_shorter};
-use crate::leaf::read_line_end;
+use crate::line::read_line_end;
 use crate::look::{key_ends, sign_stands};
 use crate::properties::{PlacedProperties, lead_of};
-use std::alloc::{AllocError, Global};
+use std::alloc::AllocError;
 use yf_chars::context::Ctx;
 use yf_chars::text::stands;
 use yf_comments::comments::Separation;
@@ -34,9 +33,9 @@ use yf_lines::basic::skip_whites;
 use yf_lines::text::Text;
 use yf_props::alias::alias_node;
 
-/// Reads what stands there: nothing before a `:`, an alias, or the content of a flow node. `depth` collections are open.
+/// Reads what stands there: nothing before a `:`, an alias, which has no properties, or the content of a flow node. `depth`
+/// collections are open.
 pub(crate) fn read_inline<'a>(
-    alloc: Global,
     scope: Scope<'a>,
     least: usize,
     at: usize,
@@ -58,10 +57,25 @@ pub(crate) fn read_inline<'a>(
 {
     match empty_key_end(scope.text, at, inner) {
         Some(end) => {
-            push_scalar(alloc, *lead, ScalarStyle::Plain, Text::Part(""), end, part)?;
+            let style = ScalarStyle::Plain;
+            push_scalar(scope.alloc, *lead, style, Text::Part(""), end, part)?;
             Ok(inline_end(end, depth))
         }
-        None => read_flow(alloc, scope, least, at, inner, lead, depth, part),
+        None => {
+            if stands(scope.text, at, b'*') {
+                return match *inner {
+                    Some(_) => Ok(Ending::Nothing),
+                    None => read_alias(scope, at, lead, depth, part),
+                };
+            }
+            let scene = Scene {
+                text: scope.text,
+                indentation: flow_indentation(least),
+                context: Ctx::FlowOut,
+                limit: scope.limit,
+            };
+            read_content(scope.alloc, scene, at, *lead, depth, part)
+        }
     }
 }
 
@@ -82,64 +96,27 @@ fn empty_key_end(text: &str, at: usize, inner: &Option<PlacedProperties>) -> Opt
     }
 }
 
-// An alias, which has no properties, or the content of a flow node.
-fn read_flow<'a>(
-    alloc: Global,
-    scope: Scope<'a>,
-    least: usize,
-    at: usize,
-    inner: &Option<PlacedProperties<'a>>,
-    lead: &Lead<'a>,
-    depth: usize,
-    part: &mut Part<'a>,
-) -> Result<Ending, AllocError>
-    requires boundary { IsCharBoundary scope.text.now at }
-    requires properties { PropertiesBefore scope.text.now at inner.now }
-    requires escapes { All (IsCharBoundary scope.text.now) part.old.escapes }
-    requires other { NoEmptyKey scope.text.now at inner.now }
-    ensures answers { IsUtf8 scope.entry.text.now → least ≤ 2 ^ 30 → (room : ℕ) → depth + room ≡ scope.entry.limit
-        → IfOk result (λ e. InlineEnds scope.entry.text.now room (pos least) at depth inner.now lead.now part.old part.new e) }
-    ensures escapes { IfOk result (λ _. All (IsCharBoundary scope.entry.text.now) part.new.escapes) }
-    ensures found { IfOk result (λ e. EndingAt scope.entry.text.now (earliest_end at inner.now) e) }
-    ensures counted { IsUtf8 scope.entry.text.now → (total : ℕ) → depth + openers_from scope.entry.text.now at ≤ total
-        → IfOk result (λ e. EndCounted scope.entry.text.now scope.entry.limit total e) }
-{
-    if stands(scope.text, at, b'*') {
-        return match *inner {
-            Some(_) => Ok(Ending::Nothing),
-            None => read_alias(alloc, scope.text, at, lead, depth, part),
-        };
-    }
-    let scene = Scene {
-        text: scope.text,
-        indentation: flow_indentation(least),
-        context: Ctx::FlowOut,
-        limit: scope.limit,
-    };
-    read_content(alloc, scene, at, *lead, depth, part)
-}
-
 #[inline(never)]
 fn read_alias<'a>(
-    alloc: Global,
-    text: &'a str,
+    scope: Scope<'a>,
     at: usize,
     lead: &Lead<'a>,
     depth: usize,
     part: &mut Part<'a>,
 ) -> Result<Ending, AllocError>
-    requires { code text.now at ≡ 42 }
-    ensures answers { (room : ℕ) → (n : ℤ) → IfOk result (λ e. InlineEnds text.now room n at depth None lead.now part.old part.new e) }
+    requires { code scope.text.now at ≡ 42 }
+    ensures answers { (room : ℕ) → (n : ℤ)
+        → IfOk result (λ e. InlineEnds scope.entry.text.now room n at depth None lead.now part.old part.new e) }
     ensures escapes { IfOk result (λ _. part.new.escapes ≡ part.old.escapes) }
-    ensures found { IfOk result (λ e. EndingAt text.now (at + 1) e) }
-    ensures counted { (limit : ℕ) → (total : ℕ) → depth + openers_from text.now at ≤ total
-        → IfOk result (λ e. EndCounted text.now limit total e) }
+    ensures found { IfOk result (λ e. EndingAt scope.entry.text.now (at + 1) e) }
+    ensures counted { (limit : ℕ) → (total : ℕ) → depth + openers_from scope.entry.text.now at ≤ total
+        → IfOk result (λ e. EndCounted scope.entry.text.now limit total e) }
 {
-    match alias_node(text, at) {
+    match alias_node(scope.text, at) {
         None => Ok(Ending::Nothing),
         Some((name, end)) => {
             part.events
-                .push(lead.placed(alloc, NewEvent::Alias { name }, end))?;
+                .push(lead.placed(scope.alloc, NewEvent::Alias { name }, end))?;
             Ok(inline_end(end, depth))
         }
     }
@@ -167,49 +144,94 @@ pub(crate) fn flow_indentation(least: usize) -> i32
     least.min(WIDEST) as i32
 }
 
-/// After a flow node on its line: it is the first key of a mapping, or the end of the line follows.
-pub(crate) fn finish_inline<'a>(
-    alloc: Global,
-    scope: Scope<'a>,
-    after: &AfterProperties<'a>,
-    facts: &NodeFacts<'a>,
-    node: Node,
-    progress: &mut Progress<'a>,
-    frames: &mut Frames,
-    part: &mut Part<'a>,
-) -> Result<Step, AllocError>
-    requires node { Place scope.text.now (after.now.node_start.at + 1) node.end }
-    requires start { IsCharBoundary scope.text.now after.now.node_start.at }
-    requires place { IsCharBoundary scope.text.now after.now.at }
-    requires properties { PropertiesBefore scope.text.now after.now.at after.now.inner }
-    requires progress { ProgressAt scope.text.now progress.old }
-    requires escapes { All (IsCharBoundary scope.text.now) part.old.escapes }
-    ensures tied { (d : ℕ) → (root : BlockTask) → (before : Part) → (depth : ℕ) → (earlier : Part) → d ≡ scope.entry.limit
-        → AtInline scope.entry.text.now d root before (reverse frames.old.items) depth after.now facts.now node
-        progress.old earlier part.old
-        → IfOk result (λ s. BlockTied scope.entry.text.now d root before (reverse frames.new.items) s progress.new part.new) }
-    ensures stepped { IfOk result (Moved scope.entry.text.now (after.now.node_start.at) 0 progress.new part.new) }
-    ensures counted { IsUtf8 scope.entry.text.now → (total : ℕ) → node.deepest + openers_from scope.entry.text.now node.end ≤ total
-        → length frames.old.items + openers_from scope.entry.text.now (after.now.node_start.at) ≤ total
-        → IfOk result (λ s. StepCounted scope.entry.text.now scope.entry.limit total (length frames.new.items) s) }
-{
-    let colon = skip_whites(scope.text, node.end);
-    match keyed_column(scope.text, after.node_start, colon) {
-        Some(column) => {
-            if node.deepest.max(frames.len()) >= scope.limit {
-                return Ok(Step::TooDeep(after.node_start.at));
+impl<'a> Reader<'a> {
+    /// After a flow node on its line: it is the first key of a mapping, or the end of the line follows.
+    pub(crate) fn finish_inline(
+        &mut self,
+        scope: Scope<'a>,
+        after: &AfterProperties<'a>,
+        facts: &NodeFacts<'a>,
+        node: Node,
+    ) -> Result<Step, AllocError>
+        requires standing { StandingAfter scope.text.now after.now self.old }
+        requires node { Place scope.text.now (after.now.node_start.at + 1) node.end }
+        ensures { Answers (AtNodeEnd after.now facts.now node) (CountedWith node) scope.entry after.now.node_start.at 0 self.old self.new result }
+    {
+        let colon = skip_whites(scope.text, node.end);
+        match keyed_column(scope.text, after.node_start, colon) {
+            Some(column) => {
+                if node.deepest.max(self.frames.len()) >= scope.limit {
+                    return Ok(Step::TooDeep(after.node_start.at));
+                }
+                self.take_first_key(scope, column, colon, after, facts)
             }
-            take_first_key(
-                alloc, scope, after, facts, column, colon, progress, frames, part,
-            )
+            None => {
+                if is_apart(facts.belonging) {
+                    return Ok(Step::Failed(after.node_start.at));
+                }
+                self.progress.last = node.end;
+                self.end_inline(scope, plain_place(node, after.at), node.end)
+            }
         }
-        None => {
-            if is_apart(facts.belonging) {
-                return Ok(Step::Failed(after.node_start.at));
+    }
+
+    // Opens a mapping with its first key, which has been read up to its `:`.
+    #[inline(never)]
+    fn take_first_key(
+        &mut self,
+        scope: Scope<'a>,
+        column: usize,
+        colon: usize,
+        after: &AfterProperties<'a>,
+        facts: &NodeFacts<'a>,
+    ) -> Result<Step, AllocError>
+        requires standing { StandingAfter scope.text.now after.now self.old }
+        requires order { after.now.node_start.at ≤ colon }
+        requires next { IsCharBoundary scope.text.now (colon + 1) }
+        ensures { Answers (AtKeyEnd after.now facts.now column colon) (CountedPast colon) scope.entry after.now.node_start.at 0 self.old self.new result }
+    {
+        let frame = Frame::new(Kind::Mapping, column, facts.before.events);
+        let entry = entry_at(
+            scope.text,
+            self.progress.floor,
+            after.node_start.at,
+            Some(colon),
+        );
+        begin_mapping(
+            scope,
+            after,
+            facts,
+            entry,
+            &self.progress.wanted,
+            self.frames.len(),
+            &mut self.part,
+        )?;
+        self.frames.push(frame)?;
+        Ok(await_value(colon, column, &mut self.progress))
+    }
+
+    // The end of the line after a flow node that is no key. Of a plain scalar it is known where it begins.
+    fn end_inline(
+        &mut self,
+        scope: Scope<'a>,
+        plain: Option<usize>,
+        at: usize,
+    ) -> Result<Step, AllocError>
+        requires standing { Standing scope.text.now at self.old }
+        requires plain { MayBoundary scope.text.now plain }
+        ensures { Answers (LeafEnding plain) CountedAt scope.entry at 1 self.old self.new result }
+    {
+        let text = scope.text;
+        match read_line_end(scope.alloc, text, at)? {
+            Some(Separation { comments, end }) => {
+                self.part.comments.append(comments)?;
+                note_node(text, plain, at, end, &mut self.progress, &self.frames);
+                Ok(Step::Resume(end))
             }
-            progress.last = node.end;
-            let plain = plain_place(node, after.at);
-            end_inline(alloc, scope.text, plain, node.end, progress, frames, part)
+            None => {
+                note_shorter(text, plain, at, &mut self.progress);
+                Ok(Step::Failed(skip_whites(text, at)))
+            }
         }
     }
 }
@@ -250,84 +272,8 @@ fn plain_place(node: Node, at: usize) -> Option<usize>
     if node.json { None } else { Some(at) }
 }
 
-// Opens a mapping with its first key, which has been read up to its `:`.
-#[inline(never)]
-fn take_first_key<'a>(
-    alloc: Global,
-    scope: Scope<'a>,
-    after: &AfterProperties<'a>,
-    facts: &NodeFacts<'a>,
-    column: usize,
-    colon: usize,
-    progress: &mut Progress<'a>,
-    frames: &mut Frames,
-    part: &mut Part<'a>,
-) -> Result<Step, AllocError>
-    requires start { IsCharBoundary scope.text.now after.now.node_start.at }
-    requires place { IsCharBoundary scope.text.now after.now.at }
-    requires properties { PropertiesBefore scope.text.now after.now.at after.now.inner }
-    requires order { after.now.node_start.at ≤ colon }
-    requires next { IsCharBoundary scope.text.now (colon + 1) }
-    requires progress { ProgressAt scope.text.now progress.old }
-    requires escapes { All (IsCharBoundary scope.text.now) part.old.escapes }
-    ensures tied { (d : ℕ) → (root : BlockTask) → (before : Part) → (depth : ℕ) → (earlier : Part) → d ≡ scope.entry.limit
-        → AtFirstKey scope.entry.text.now d root before (reverse frames.old.items) depth after.now facts.now column colon
-        progress.old earlier part.old
-        → IfOk result (λ s. BlockTied scope.entry.text.now d root before (reverse frames.new.items) s progress.new part.new) }
-    ensures stepped { IfOk result (Moved scope.entry.text.now (after.now.node_start.at) 0 progress.new part.new) }
-    ensures counted { (total : ℕ) → length frames.old.items + 1 + openers_from scope.entry.text.now (colon + 1) ≤ total
-        → IfOk result (λ s. StepCounted scope.entry.text.now scope.entry.limit total (length frames.new.items) s) }
-{
-    let frame = Frame::new(Kind::Mapping, column, facts.before.events);
-    let entry = entry_at(scope.text, progress.floor, after.node_start.at, Some(colon));
-    begin_mapping(
-        alloc,
-        scope,
-        after,
-        facts,
-        entry,
-        &progress.wanted,
-        frames.len(),
-        part,
-    )?;
-    frames.push(frame)?;
-    Ok(await_value(colon, column, progress))
-}
-
-// The end of the line after a flow node that is no key. Of a plain scalar it is known where it begins.
-fn end_inline<'a>(
-    alloc: Global,
-    text: &'a str,
-    plain: Option<usize>,
-    at: usize,
-    progress: &mut Progress<'a>,
-    frames: &Frames,
-    part: &mut Part<'a>,
-) -> Result<Step, AllocError>
-    requires standing { StandingAt text.now at progress.old }
-    requires plain { MayBoundary text.now plain }
-    ensures tied { (d : ℕ) → (root : BlockTask) → (before : Part)
-        → LeafEnding text.now d root before (reverse frames.now.items) plain at progress.old part.old
-        → IfOk result (λ s. BlockTied text.now d root before (reverse frames.now.items) s progress.new part.new) }
-    ensures stepped { IfOk result (MovedSame text.now at 1 part.old.escapes progress.new part.new) }
-    ensures counted { CountsSame text.now at result }
-{
-    match read_line_end(alloc, text, at)? {
-        Some(Separation { comments, end }) => {
-            part.comments.append(comments)?;
-            note_node(text, plain, at, end, progress, frames);
-            Ok(Step::Resume(end))
-        }
-        None => {
-            note_shorter(text, plain, at, progress);
-            Ok(Step::Failed(skip_whites(text, at)))
-        }
-    }
-}
-
 // Puts a mapping's beginning before its first key. Properties of lines before are its own: a key read with them is read again.
 fn begin_mapping<'a>(
-    alloc: Global,
     scope: Scope<'a>,
     after: &AfterProperties<'a>,
     facts: &NodeFacts<'a>,
@@ -346,13 +292,12 @@ fn begin_mapping<'a>(
         (started Kind.Mapping after.now.node_start.at wanted.now) earlier part.new) }
     ensures escapes { IfOk result (λ _. All (IsCharBoundary scope.entry.text.now) part.new.escapes) }
 {
-    let start = collection_start(alloc, Kind::Mapping, after.node_start.at, wanted);
+    let start = collection_start(scope.alloc, Kind::Mapping, after.node_start.at, wanted);
     if is_joined(facts.belonging) {
         facts.before.cut(part);
         part.events.push(start)?;
         let lead = lead_of(after.node_start.at, after.inner, Some(entry));
         let _again = read_inline(
-            alloc,
             scope,
             wanted.least,
             after.at,

@@ -8,7 +8,6 @@ pub(crate) mod entry;
 pub(crate) mod frame;
 pub(crate) mod halt;
 pub(crate) mod inline;
-pub(crate) mod leaf;
 pub(crate) mod line;
 pub mod look;
 pub mod nodes;

@@ -1,111 +1,138 @@
 //! Nodes where they are awaited: after an indicator, or at the start of a line (s-l+block-node, production 196).
-ghost use Rattle.std.specs.Prelude.{◌≡◌, ◌^◌, ◌<◌, ◌≤◌, ℕ, IfOk, IfSome, List, reverse, ◌+◌, Some, true, false, ◌⊎◌, MatchBool, MatchOption};
+ghost use Rattle.std.specs.Prelude.{◌≡◌, ◌<◌, ◌≤◌, ℕ, IfOk, IfSome, ◌+◌, Some, true, false, ◌⊎◌, MatchBool, MatchOption};
 ghost use Rattle.std.specs.Str.{IsCharBoundary};
+ghost use Rattle.yf_block.specs.LineStepTied.{AtEmpty};
+ghost use Rattle.yf_block.specs.Machine.{Standing};
 ghost use Rattle.yf_flow.specs.Machine.{Place};
-ghost use Rattle.yf_block.specs.BlockStepTied.{AtNode, AtLine, BlockTied};
+ghost use Rattle.yf_grammar.specs.BlockParser.{DashAt};
+ghost use Rattle.yf_block.specs.Counted.{CountedAt};
+ghost use Rattle.yf_block.specs.LineTied.{AtBelow};
+ghost use Rattle.yf_chars.specs.Chain.{Chosen, Stuck};
 ghost use Rattle.yf_block.specs.ColumnsTied.{CompactTied, SequenceBegins, SequenceTied};
-ghost use Rattle.yf_block.specs.LineStepTied.{AtEmpty, AtIndented};
-ghost use Rattle.yf_block.specs.LineTied.{AtBelow, EndedTied};
-ghost use Rattle.yf_block.specs.Machine.{StandingAt, MovedSame, Moved, Standing};
-ghost use Rattle.yf_grammar.specs.BlockParser.{BlockTask, DashAt};
-ghost use Rattle.yf_block.specs.Counted.{CountsSame, CountsFrom};
+ghost use Rattle.yf_block.specs.BlockStepTied.{AtNode, AtLine};
+ghost use Rattle.yf_block.specs.StepAnswers.{Answers};
+ghost use Rattle.yf_comments.specs.Comments.{LineEnd};
 
-use crate::content::{NodeStart, take_content};
-use crate::entry::open_sequence;
-use crate::frame::{Frame, Frames, Progress, Scope, Step, Wanted};
+use crate::content::NodeStart;
+use crate::frame::{Kind, Progress, Reader, Scope, Step, Wanted};
 use crate::halt::note_empty;
-use crate::leaf::read_line_end;
 use crate::look::{dash_stands, line_ends, node_ends};
 use std::alloc::{AllocError, Global};
 use yf_chars::text::stands;
 use yf_comments::comments::Separation;
+use yf_comments::lines::line_end;
 use yf_events::event::ScalarStyle;
-use yf_events::part::Part;
 use yf_flow::node::{empty_node, push_scalar};
 use yf_lines::basic::{skip_spaces, skip_whites};
 use yf_lines::text::Text;
 
-/// Goes on to the first line of a node at the start of a line, whose comment lines are read.
-pub(crate) fn first_line<'a>(
+/// Reads the end of a line, and the comment lines after it (s-l-comments, production 79).
+pub(crate) fn read_line_end<'a>(
     alloc: Global,
     text: &'a str,
     at: usize,
-    progress: &mut Progress<'a>,
-    part: &mut Part<'a>,
-) -> Result<Step, AllocError>
-    requires standing { StandingAt text.now at progress.old }
-    ensures tied { (d : ℕ) → (root : BlockTask) → (before : Part) → (frames : List Frame)
-        → AtBelow text.now d root before frames at progress.old part.old
-        → IfOk result (λ s. BlockTied text.now d root before frames s progress.new part.new) }
-    ensures stepped { IfOk result (MovedSame text.now at 2 part.old.escapes progress.new part.new) }
-    ensures counted { CountsSame text.now at result }
+) -> Result<Option<Separation<'a>>, AllocError>
+    requires { IsCharBoundary text.now at }
+    ensures place { IfOk result (λ o. IfSome o (λ p. Place text.now at p.end)) }
+    ensures reads { IfOk result (λ o. MatchOption o (Stuck (LineEnd text.now at)) (λ p. Chosen (LineEnd text.now at) p.end p.comments)) }
 {
-    match end_line(alloc, text, at, progress, part)? {
-        Step::Line(line) => {
-            progress.first = line == at;
-            Ok(Step::Line(line))
-        }
-        other => Ok(other),
+    match line_end(alloc, text, at)? {
+        Some(separation) => Ok(Some(separation)),
+        None => Ok(None),
     }
 }
 
-/// Reads the end of a line, and the comment lines after it, where a node is awaited that may have properties.
-pub(crate) fn end_line<'a>(
-    alloc: Global,
-    text: &'a str,
-    at: usize,
-    progress: &mut Progress<'a>,
-    part: &mut Part<'a>,
-) -> Result<Step, AllocError>
-    requires standing { StandingAt text.now at progress.old }
-    ensures tied { (d : ℕ) → (root : BlockTask) → (before : Part) → (frames : List Frame)
-        → AtBelow text.now d root before frames at progress.old part.old
-        → IfOk result (λ s. EndedTied text.now d root before frames at s progress.new part.new) }
-    ensures stepped { IfOk result (MovedSame text.now at 2 part.old.escapes progress.new part.new) }
-    ensures counted { CountsSame text.now at result }
-{
-    match read_line_end(alloc, text, at)? {
-        Some(Separation { comments, end }) => {
-            part.comments.append(comments)?;
-            progress.from = at;
-            progress.first = false;
-            Ok(Step::Line(end))
+impl<'a> Reader<'a> {
+    /// Reads the end of a line, and the comment lines after it, where a node is awaited that may have properties.
+    pub(crate) fn end_line(&mut self, scope: Scope<'a>, at: usize) -> Result<Step, AllocError>
+        requires { Standing scope.text.now at self.old }
+        ensures { Answers AtBelow CountedAt scope.entry at 2 self.old self.new result }
+    {
+        match read_line_end(scope.alloc, scope.text, at)? {
+            Some(Separation { comments, end }) => {
+                self.part.comments.append(comments)?;
+                self.progress.from = at;
+                self.progress.first = end == at;
+                Ok(Step::Line(end))
+            }
+            None => Ok(Step::Failed(at)),
         }
-        None => Ok(Step::Failed(at)),
     }
-}
 
-/// Begins the node that is awaited after an indicator, which ends at the offset.
-pub(crate) fn take_node<'a>(
-    alloc: Global,
-    scope: Scope<'a>,
-    at: usize,
-    progress: &mut Progress<'a>,
-    frames: &mut Frames,
-    part: &mut Part<'a>,
-) -> Result<Step, AllocError>
-    requires standing { Standing scope.text.now at progress.old part.old }
-    ensures tied { (d : ℕ) → (root : BlockTask) → (before : Part) → d < 2 ^ 64 → d ≡ scope.entry.limit
-        → AtNode scope.entry.text.now d root before (reverse frames.old.items) at progress.old part.old
-        → IfOk result (λ s. BlockTied scope.entry.text.now d root before (reverse frames.new.items) s progress.new part.new) }
-    ensures stepped { IfOk result (Moved scope.entry.text.now at 2 progress.new part.new) }
-    ensures counted { CountsFrom scope.entry at frames.old.items frames.new.items result }
-{
-    let text = scope.text;
-    let place = skip_whites(text, at);
-    if line_ends(text, place, place > at) {
-        return end_line(alloc, text, at, progress, part);
-    }
-    if place == at {
-        return Ok(Step::Failed(place));
-    }
-    let column = compact_column(text, at, place, &progress.wanted);
-    match dashed_column(text, place, column) {
-        Some(dashed) => open_sequence(alloc, scope, place, dashed, progress, frames, part),
-        None => {
-            let node_start = NodeStart { at: place, column };
-            take_content(alloc, scope, node_start, progress, frames, part)
+    /// Begins the node that is awaited after an indicator, which ends at the offset.
+    pub(crate) fn take_node(&mut self, scope: Scope<'a>, at: usize) -> Result<Step, AllocError>
+        requires { Standing scope.text.now at self.old }
+        ensures { Answers AtNode CountedAt scope.entry at 2 self.old self.new result }
+    {
+        let place = skip_whites(scope.text, at);
+        if line_ends(scope.text, place, place > at) {
+            return self.end_line(scope, at);
         }
+        if place == at {
+            return Ok(Step::Failed(place));
+        }
+        let column = compact_column(scope.text, at, place, &self.progress.wanted);
+        match dashed_column(scope.text, place, column) {
+            Some(dashed) => self.open_collection(scope, Kind::Sequence, place, dashed),
+            None => self.take_content(scope, NodeStart { at: place, column }),
+        }
+    }
+
+    /// Begins the node that is awaited at the start of a line, if it has anything on that line.
+    pub(crate) fn take_line(&mut self, scope: Scope<'a>, at: usize) -> Result<Step, AllocError>
+        requires { Standing scope.text.now at self.old }
+        ensures { Answers AtLine CountedAt scope.entry at 1 self.old self.new result }
+    {
+        let text = scope.text;
+        note_empty(text, at, &mut self.progress, &self.frames);
+        if node_ends(text, at) {
+            return self.end_empty(scope, at);
+        }
+        let start = skip_spaces(text, at);
+        let width = start - at;
+        if sequence_begins(text, start, &self.progress.wanted, width) {
+            return self.open_collection(scope, Kind::Sequence, start, width);
+        }
+        if !may_begin(&self.progress, width) {
+            return self.end_empty(scope, at);
+        }
+        let place = skip_whites(text, start);
+        if place == text.len() {
+            return self.end_empty(scope, at);
+        }
+        if stands(text, place, b'#') {
+            return Ok(Step::Failed(place));
+        }
+        let column = line_column(self.progress.wanted.least, width, start, place);
+        self.take_content(scope, NodeStart { at: place, column })
+    }
+
+    // The node that is awaited at a line is empty, or has its properties alone. The outermost one may not be empty.
+    fn end_empty(&mut self, scope: Scope<'a>, at: usize) -> Result<Step, AllocError>
+        requires { Standing scope.text.now at self.old }
+        ensures { Answers AtEmpty CountedAt scope.entry at 1 self.old self.new result }
+    {
+        match self.progress.wanted.outer {
+            Some(properties) => {
+                push_scalar(
+                    scope.alloc,
+                    properties.lead(self.progress.wanted.entry),
+                    ScalarStyle::Plain,
+                    Text::Part(""),
+                    properties.end,
+                    &mut self.part,
+                )?;
+                self.progress.last = properties.end;
+            }
+            None => {
+                if self.frames.len() == 0 {
+                    return Ok(Step::Failed(at));
+                }
+                let empty = empty_node(scope.alloc, self.progress.wanted.entry);
+                self.part.events.push(empty)?;
+            }
+        }
+        Ok(Step::Resume(at))
     }
 }
 
@@ -141,35 +168,6 @@ fn compact_column(text: &str, at: usize, place: usize, wanted: &Wanted) -> Optio
     None
 }
 
-/// Begins the node that is awaited at the start of a line, if it has anything on that line.
-pub(crate) fn take_line<'a>(
-    alloc: Global,
-    scope: Scope<'a>,
-    at: usize,
-    progress: &mut Progress<'a>,
-    frames: &mut Frames,
-    part: &mut Part<'a>,
-) -> Result<Step, AllocError>
-    requires standing { Standing scope.text.now at progress.old part.old }
-    ensures tied { (d : ℕ) → (root : BlockTask) → (before : Part) → d < 2 ^ 64 → d ≡ scope.entry.limit
-        → AtLine scope.entry.text.now d root before (reverse frames.old.items) at progress.old part.old
-        → IfOk result (λ s. BlockTied scope.entry.text.now d root before (reverse frames.new.items) s progress.new part.new) }
-    ensures stepped { IfOk result (Moved scope.entry.text.now at 1 progress.new part.new) }
-    ensures counted { CountsFrom scope.entry at frames.old.items frames.new.items result }
-{
-    let text = scope.text;
-    note_empty(text, at, progress, frames);
-    if node_ends(text, at) {
-        return end_empty(alloc, text, at, progress, frames, part);
-    }
-    let start = skip_spaces(text, at);
-    let width = start - at;
-    if sequence_begins(text, start, &progress.wanted, width) {
-        return open_sequence(alloc, scope, start, width, progress, frames, part);
-    }
-    take_indented(alloc, scope, at, start, progress, frames, part)
-}
-
 // Whether the `-` of a sequence of that column stands there, which may be the node that is awaited.
 fn sequence_begins(text: &str, at: usize, wanted: &Wanted, width: usize) -> bool
     ensures boundary { result ≡ true → IsCharBoundary text.now (at + 1) }
@@ -198,40 +196,6 @@ fn may_hold_sequence(wanted: &Wanted, width: usize) -> bool
     false
 }
 
-// Begins the content of a node on a line, after its spaces, if the line is indented as it must be.
-fn take_indented<'a>(
-    alloc: Global,
-    scope: Scope<'a>,
-    at: usize,
-    start: usize,
-    progress: &mut Progress<'a>,
-    frames: &mut Frames,
-    part: &mut Part<'a>,
-) -> Result<Step, AllocError>
-    requires standing { Standing scope.text.now at progress.old part.old }
-    requires place { Place scope.text.now at start }
-    ensures tied { (d : ℕ) → (root : BlockTask) → (before : Part) → d < 2 ^ 64 → d ≡ scope.entry.limit
-        → AtIndented scope.entry.text.now d root before (reverse frames.old.items) at start progress.old part.old
-        → IfOk result (λ s. BlockTied scope.entry.text.now d root before (reverse frames.new.items) s progress.new part.new) }
-    ensures stepped { IfOk result (Moved scope.entry.text.now at 1 progress.new part.new) }
-    ensures counted { CountsFrom scope.entry at frames.old.items frames.new.items result }
-{
-    let width = start - at;
-    if !may_begin(progress, width) {
-        return end_empty(alloc, scope.text, at, progress, frames, part);
-    }
-    let place = skip_whites(scope.text, start);
-    if place == scope.text.len() {
-        return end_empty(alloc, scope.text, at, progress, frames, part);
-    }
-    if stands(scope.text, place, b'#') {
-        return Ok(Step::Failed(place));
-    }
-    let column = line_column(progress.wanted.least, width, start, place);
-    let node_start = NodeStart { at: place, column };
-    take_content(alloc, scope, node_start, progress, frames, part)
-}
-
 // Whether a line is indented as it must be; nothing is asked of the first one.
 fn may_begin(progress: &Progress, width: usize) -> bool
     ensures { MatchBool result ((progress.now.wanted.least ≤ width) ⊎ (progress.now.first ≡ true))
@@ -253,43 +217,4 @@ fn line_column(least: usize, width: usize, start: usize, place: usize) -> Option
         }
     }
     None
-}
-
-// The node that is awaited at a line is empty, or has its properties alone. The outermost one may not be empty.
-fn end_empty<'a>(
-    alloc: Global,
-    _text: &str,
-    at: usize,
-    progress: &mut Progress<'a>,
-    frames: &Frames,
-    part: &mut Part<'a>,
-) -> Result<Step, AllocError>
-    requires standing { StandingAt _text.now at progress.old }
-    ensures tied { (d : ℕ) → (root : BlockTask) → (before : Part)
-        → AtEmpty _text.now d root before (reverse frames.now.items) at progress.old part.old
-        → IfOk result (λ s. BlockTied _text.now d root before (reverse frames.now.items) s progress.new part.new) }
-    ensures stepped { IfOk result (MovedSame _text.now at 1 part.old.escapes progress.new part.new) }
-    ensures counted { CountsSame _text.now at result }
-{
-    match progress.wanted.outer {
-        Some(properties) => {
-            let lead = properties.lead(progress.wanted.entry);
-            push_scalar(
-                alloc,
-                lead,
-                ScalarStyle::Plain,
-                Text::Part(""),
-                properties.end,
-                part,
-            )?;
-            progress.last = properties.end;
-        }
-        None => {
-            if frames.len() == 0 {
-                return Ok(Step::Failed(at));
-            }
-            part.events.push(empty_node(alloc, progress.wanted.entry))?;
-        }
-    }
-    Ok(Step::Resume(at))
 }

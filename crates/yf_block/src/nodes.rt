@@ -1,25 +1,25 @@
 //! The reader of block nodes: one forward pass, with a stack of the open collections.
-ghost use Rattle.std.specs.Prelude.{◌≡◌, ℕ, ℤ, pos, ◌+ℤ◌, ◌^◌, ◌<◌, ◌≤◌, [], true, false, IfOk, ◌+◌, length, MatchBool, MatchOption, Some, None, Ok};
+ghost use Rattle.std.specs.Prelude.{◌≡◌, ℕ, ℤ, pos, ◌+ℤ◌, ◌^◌, ◌<◌, ◌≤◌, [], true, false, IfOk, ◌+◌, length, MatchBool, MatchOption, Some, None, Ok, reverse};
 ghost use Rattle.std.specs.List.{All};
 ghost use Rattle.std.specs.Str.{IsCharBoundary, IsUtf8};
 ghost use Rattle.yf_grammar.specs.BlockParser.{Nothing, Awaited, BlockTask};
-ghost use Rattle.yf_block.specs.BlockStepTied.{BlockTied, is_out};
 ghost use Rattle.yf_block.specs.BlockTied.{TextTied};
-ghost use Rattle.yf_block.specs.RootTied.{AtRoot};
-ghost use Rattle.yf_block.specs.Machine.{StandingAt, MayBoundary, ProgressAt, StoppedAt, StepReady, StopAt, OutcomeAt};
+ghost use Rattle.yf_block.specs.BlockStepTied.{BlockTied, is_out};
 ghost use Rattle.yf_lines.specs.Basic.{is_block};
+ghost use Rattle.yf_block.specs.RootTied.{AtBegin, AtRoot};
+ghost use Rattle.yf_block.specs.Machine.{Standing, MayBoundary, ProgressAt, StoppedAt, StepReady, StopAt, OutcomeAt};
 ghost use Rattle.yf_flow.specs.Counted.{openers_from};
-ghost use Rattle.yf_block.specs.Counted.{StepCounted};
-ghost use Rattle.yf_block.specs.NodeGiven.{Indentation, OutcomeTied, PrefixGiven};
+ghost use Rattle.yf_block.specs.Counted.{CountedAt, StepCounted};
 ghost use Rattle.yf_block.specs.ContentTied.{CountsOf};
+ghost use Rattle.yf_block.specs.NodeGiven.{Indentation, OutcomeTied, PrefixGiven};
 ghost use Rattle.yf_block.specs.RunTied.{HaltAt, ReadRoot, RunTied, StopCounted, StopTied, StopsAs};
+ghost use Rattle.yf_block.specs.StepAnswers.{Answers};
 
-use crate::frame::{Frames, Progress, Scope, Step, Wanted};
+use crate::frame::{Progress, Reader, Scope, Step, Wanted};
 use crate::halt::Counts;
-use crate::line::{first_line, take_line, take_node};
-use crate::resume::resume;
 use smallvec::SmallVec;
 use std::alloc::{AllocError, Global};
+use std::mem;
 use yf_chars::context::Ctx;
 use yf_events::comments::Comments;
 use yf_events::events::Events;
@@ -112,14 +112,14 @@ pub fn block_node_in<'a>(
         None => Ok(Outcome::Nothing { reached: at }),
         Some(out) => {
             let before = Counts::of(part);
-            let scope = Scope { text, limit };
+            let scope = Scope { alloc, text, limit };
             let root = Root {
                 at,
                 least: least_of(n),
                 out,
             };
-            let stopped = run_from(alloc, scope, root, part)?;
-            conclude(alloc, scope, root, stopped, before, part)
+            let stopped = run_from(scope, root, part)?;
+            conclude(scope, root, stopped, before, part)
         }
     }
 }
@@ -165,13 +165,8 @@ fn no_progress<'a>(_text: &str, at: usize, least: usize, out: bool) -> Progress<
     }
 }
 
-// Reads a node from its first line on.
-fn run_from<'a>(
-    alloc: Global,
-    scope: Scope<'a>,
-    root: Root,
-    part: &mut Part<'a>,
-) -> Result<Stopped, AllocError>
+// Reads a node from its first line on, and adds it to the part.
+fn run_from<'a>(scope: Scope<'a>, root: Root, part: &mut Part<'a>) -> Result<Stopped, AllocError>
     requires boundary { IsCharBoundary scope.text.now root.at }
     requires escapes { All (IsCharBoundary scope.text.now) part.old.escapes }
     ensures tied { (n : ℤ) → (c : Ctx) → scope.entry.limit < 2 ^ 64 → ReadRoot scope.entry.text.now root n c
@@ -181,75 +176,76 @@ fn run_from<'a>(
     ensures counted { IsUtf8 scope.entry.text.now
         → IfOk result (λ r. StopCounted scope.entry.limit (openers_from scope.entry.text.now root.at) r.stop) }
 {
-    let mut progress = no_progress(scope.text, root.at, root.least, root.out);
-    let step = begin(alloc, scope.text, root.at, &mut progress, part)?;
-    let stop = run(alloc, scope, step, &mut progress, part)?;
+    let mut reader = Reader {
+        progress: no_progress(scope.text, root.at, root.least, root.out),
+        frames: SmallVec::new(scope.alloc),
+        part: new_part(scope.alloc),
+    };
+    mem::swap(&mut reader.part, part);
+    let step = reader.begin(scope, root.at)?;
+    let stop = reader.run(scope, step)?;
+    mem::swap(&mut reader.part, part);
     Ok(Stopped {
         stop,
-        halt: progress.halt,
-        floor: progress.floor,
+        halt: reader.progress.halt,
+        floor: reader.progress.floor,
     })
 }
 
-// The first step: at the start of a line, or within one.
-fn begin<'a>(
-    alloc: Global,
-    text: &'a str,
-    at: usize,
-    progress: &mut Progress<'a>,
-    part: &mut Part<'a>,
-) -> Result<Step, AllocError>
-    requires standing { StandingAt text.now at progress.old }
-    ensures tied { (n : ℤ) → (c : Ctx) → (d : ℕ) → AtRoot text.now n c at progress.old
-        → IfOk result (λ s. BlockTied text.now d (Awaited false n c Nothing at) part.old [] s progress.new part.new) }
-    ensures progress { IfOk result (λ _. ProgressAt text.now progress.new) }
-    ensures ready { IfOk result (λ s. StepReady text.now at s) }
-    ensures escapes { IfOk result (λ _. part.new.escapes ≡ part.old.escapes) }
-    ensures counted { (limit : ℕ) → IfOk result (λ s. StepCounted text.now limit (openers_from text.now at) 0 s) }
+/// A part with nothing in it.
+pub(crate) fn new_part<'a>(alloc: Global) -> Part<'a>
+    ensures { result ≡ record { events = []; comments = []; escapes = [] } }
 {
-    if is_line_start(text, at) {
-        return first_line(alloc, text, at, progress, part);
+    Part {
+        events: Events::new(alloc),
+        comments: Comments::new(alloc),
+        escapes: Row::new(alloc),
     }
-    Ok(Step::Node(at))
 }
 
-// Reads on until the outermost node ends or the text goes wrong.
-fn run<'a>(
-    alloc: Global,
-    scope: Scope<'a>,
-    first: Step,
-    progress: &mut Progress<'a>,
-    part: &mut Part<'a>,
-) -> Result<Stop, AllocError>
-    requires ready { StepReady scope.text.now 0 first }
-    requires progress { ProgressAt scope.text.now progress.old }
-    requires escapes { All (IsCharBoundary scope.text.now) part.old.escapes }
-    ensures tied { (d : ℕ) → (root : BlockTask) → (before : Part) → d < 2 ^ 64 → d ≡ scope.entry.limit
-        → BlockTied scope.entry.text.now d root before [] first progress.old part.old
-        → IfOk result (λ s. StopTied scope.entry.text.now d root before s progress.new part.new) }
-    ensures progress { IfOk result (λ _. ProgressAt scope.entry.text.now progress.new) }
-    ensures stop { IfOk result (λ s. StopAt scope.entry.text.now s) }
-    ensures escapes { IfOk result (λ _. All (IsCharBoundary scope.entry.text.now) part.new.escapes) }
-    ensures counted { IsUtf8 scope.entry.text.now → (total : ℕ) → StepCounted scope.entry.text.now scope.entry.limit total 0 first
-        → IfOk result (λ s. StopCounted scope.entry.limit total s) }
-{
-    let mut frames: Frames = SmallVec::new(alloc);
-    let mut step = first;
-    'steps: loop {
-        step = match step {
-            Step::Node(at) => take_node(alloc, scope, at, progress, &mut frames, part)?,
-            Step::Line(at) => take_line(alloc, scope, at, progress, &mut frames, part)?,
-            Step::Resume(at) => resume(alloc, scope, at, progress, &mut frames, part)?,
-            Step::Done(place) => return Ok(Stop::Done(place)),
-            Step::Failed(place) => return Ok(Stop::Failed(place)),
-            Step::TooDeep(place) => return Ok(Stop::TooDeep(place)),
-        };
+impl<'a> Reader<'a> {
+    // The first step: at the start of a line, or within one.
+    fn begin(&mut self, scope: Scope<'a>, at: usize) -> Result<Step, AllocError>
+        requires { Standing scope.text.now at self.old }
+        ensures { Answers AtBegin CountedAt scope.entry at 3 self.old self.new result }
+    {
+        if is_line_start(scope.text, at) {
+            return self.end_line(scope, at);
+        }
+        Ok(Step::Node(at))
+    }
+
+    // Reads on until the outermost node ends or the text goes wrong.
+    fn run(&mut self, scope: Scope<'a>, first: Step) -> Result<Stop, AllocError>
+        requires ready { StepReady scope.text.now 0 first }
+        requires progress { ProgressAt scope.text.now self.old.progress }
+        requires escapes { All (IsCharBoundary scope.text.now) self.old.part.escapes }
+        ensures tied { (d : ℕ) → (root : BlockTask) → (before : Part) → d < 2 ^ 64 → d ≡ scope.entry.limit
+            → BlockTied scope.entry.text.now d root before (reverse self.old.frames.items) first self.old.progress self.old.part
+            → IfOk result (λ s. StopTied scope.entry.text.now d root before s self.new.progress self.new.part) }
+        ensures progress { IfOk result (λ _. ProgressAt scope.entry.text.now self.new.progress) }
+        ensures stop { IfOk result (λ s. StopAt scope.entry.text.now s) }
+        ensures escapes { IfOk result (λ _. All (IsCharBoundary scope.entry.text.now) self.new.part.escapes) }
+        ensures counted { IsUtf8 scope.entry.text.now → (total : ℕ)
+            → StepCounted scope.entry.text.now scope.entry.limit total (length self.old.frames.items) first
+            → IfOk result (λ s. StopCounted scope.entry.limit total s) }
+    {
+        let mut step = first;
+        'steps: loop {
+            step = match step {
+                Step::Node(at) => self.take_node(scope, at)?,
+                Step::Line(at) => self.take_line(scope, at)?,
+                Step::Resume(at) => self.resume(scope, at)?,
+                Step::Done(place) => return Ok(Stop::Done(place)),
+                Step::Failed(place) => return Ok(Stop::Failed(place)),
+                Step::TooDeep(place) => return Ok(Stop::TooDeep(place)),
+            };
+        }
     }
 }
 
 // What was found, once the reader stopped; so much had been read before it began.
 fn conclude<'a>(
-    alloc: Global,
     scope: Scope<'a>,
     root: Root,
     stopped: Stopped,
@@ -281,7 +277,7 @@ fn conclude<'a>(
                 }));
             }
             before.cut(part);
-            match read_prefix(alloc, scope, root, end, part)? {
+            match read_prefix(scope, root, end, part)? {
                 Some(floor) => Ok(Outcome::Found(Found {
                     end,
                     reached,
@@ -337,7 +333,6 @@ fn ends_whole(stop: Stop, end: usize) -> bool
 // Reads the node once more, in the text up to the last place at which all open nodes may end, and adds it to the part: it
 // ends there. The answer is the offset after its last block scalar, or 0; `None` where it did not end there.
 fn read_prefix<'a>(
-    alloc: Global,
     scope: Scope<'a>,
     root: Root,
     end: usize,
@@ -355,14 +350,10 @@ fn read_prefix<'a>(
 {
     let prefix = Scope {
         text: &scope.text[..end],
-        limit: scope.limit,
+        ..scope
     };
-    let mut read = Part {
-        events: Events::new(alloc),
-        comments: Comments::new(alloc),
-        escapes: Row::new(alloc),
-    };
-    let stopped = run_from(alloc, prefix, root, &mut read)?;
+    let mut read = new_part(scope.alloc);
+    let stopped = run_from(prefix, root, &mut read)?;
     if !ends_whole(stopped.stop, end) {
         return Ok(None);
     }

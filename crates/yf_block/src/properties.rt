@@ -1,5 +1,5 @@
 //! The properties of nodes, line by line.
-ghost use Rattle.std.specs.Prelude.{◌≡◌, pos, ◌+◌, IfOk, IfSome, MatchBool, MatchOption};
+ghost use Rattle.std.specs.Prelude.{◌≡◌, pos, ◌+◌, IfOk, IfSome, MatchOption};
 ghost use Rattle.std.specs.Str.{IsCharBoundary};
 ghost use Rattle.yf_chars.specs.Chain.{Stuck};
 ghost use Rattle.yf_chars.specs.Text.{code};
@@ -7,11 +7,9 @@ ghost use Rattle.yf_flow.specs.Machine.{Place};
 ghost use Rattle.yf_grammar.specs.BlockParser.{Ahead, Held as HeldValue};
 ghost use Rattle.yf_grammar.specs.Parser.{begins_properties};
 ghost use Rattle.yf_props.specs.Names as Names;
-ghost use Rattle.yf_props.specs.Props.{name_value, optional_tag_value};
 ghost use Rattle.yf_block.specs.BlockStepTied.{PropertiesTied};
-ghost use Rattle.yf_block.specs.PropertiesAnswers.{BothThere, PropertiesAhead, JoinedAfter, JoinedTo, LineProperties, NoPlaceAfter, PlaceAfter, held_lead, lead_at, line_held};
+ghost use Rattle.yf_block.specs.PropertiesAnswers.{PropertiesAhead, JoinedAfter, JoinedTo, LineProperties, NoPlaceAfter, PlaceAfter, held_lead, lead_at, line_held};
 
-use crate::leaf::read_properties;
 use crate::look::sign_stands;
 use std::alloc::{AllocError, Global};
 use yf_chars::context::Ctx;
@@ -19,8 +17,8 @@ use yf_chars::text::stands;
 use yf_events::event::Entry;
 use yf_flow::node::Lead;
 use yf_lines::basic::skip_whites;
-use yf_props::properties::Properties;
-use yf_props::props::{Props, Tag};
+use yf_props::properties::{Properties, node_properties};
+use yf_props::props::Props;
 
 /// Properties, from one byte offset to another.
 #[derive(Clone, Copy)]
@@ -70,7 +68,7 @@ pub(crate) fn line_properties<'a>(
         (λ o. MatchOption o (Stuck (Names.Properties text.now (pos 0) Ctx.FlowKey at)) (LineProperties text.now at)) }
 {
     if property_stands(text, at) {
-        match read_properties(alloc, text, at)? {
+        match node_properties(alloc, text, at, 0, Ctx::FlowKey)? {
             Some(
                 Properties {
                     props,
@@ -131,10 +129,10 @@ pub(crate) fn joined<'a>(
         → PropertiesTied (line_held q inner.entry.start inner.entry.end) inner.entry
         → JoinedTo h q inner.entry.end result }
 {
-    if names_clash(outer.props.anchor, inner.props.anchor) {
+    if outer.props.anchor.and(inner.props.anchor).is_some() {
         return None;
     }
-    if tags_clash(outer.props.tag, inner.props.tag) {
+    if outer.props.tag.and(inner.props.tag).is_some() {
         return None;
     }
     Some(PlacedProperties {
@@ -146,33 +144,6 @@ pub(crate) fn joined<'a>(
         tag_offset: outer.tag_offset.or(inner.tag_offset),
         end: inner.end,
     })
-}
-
-// Whether both are there.
-fn names_clash(outer: Option<&str>, inner: Option<&str>) -> bool
-    ensures { MatchBool result (BothThere (name_value outer.entry) (name_value inner.entry))
-        (BothThere (name_value outer.entry) (name_value inner.entry) → ⊥) }
-{
-    match outer {
-        Some(_) => match inner {
-            Some(_) => true,
-            None => false,
-        },
-        None => false,
-    }
-}
-
-fn tags_clash(outer: Option<Tag>, inner: Option<Tag>) -> bool
-    ensures { MatchBool result (BothThere (optional_tag_value outer.entry) (optional_tag_value inner.entry))
-        (BothThere (optional_tag_value outer.entry) (optional_tag_value inner.entry) → ⊥) }
-{
-    match outer {
-        Some(_) => match inner {
-            Some(_) => true,
-            None => false,
-        },
-        None => false,
-    }
 }
 
 /// The same where there need be none before.

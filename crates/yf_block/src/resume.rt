@@ -1,18 +1,17 @@
 //! After a node, at the start of a line: the next entry of an open collection, or the end of collections.
-ghost use Rattle.std.specs.Prelude.{◌≡◌, ℕ, ◌-◌, ◌^◌, ◌<◌, ◌++◌, IfOk, IfSome, MatchOption, reverse, ◌+◌, ◌≤◌, length};
-ghost use Rattle.std.specs.Str.{IsUtf8};
+ghost use Rattle.std.specs.Prelude.{◌≡◌, ℕ, ◌-◌, ◌<◌, ◌++◌, IfOk, IfSome, MatchOption, reverse, length};
 ghost use Rattle.yf_events.specs.Edit.{edited, ended};
 ghost use Rattle.yf_grammar.specs.BlockParser.{BlockTask};
-ghost use Rattle.yf_block.specs.BlockStepTied.{AtResume, AtDone, AtFit, AtTop, BlockTied};
+ghost use Rattle.yf_block.specs.BlockStepTied.{AtResume, AtDone, AtFit, AtPair};
 ghost use Rattle.yf_block.specs.BlockTied.{colons_if};
 ghost use Rattle.yf_block.specs.Closing.{closing};
-ghost use Rattle.yf_block.specs.Fits.{FitsLine, PairLine, PlaceTied};
-ghost use Rattle.yf_block.specs.Machine.{StandingAt, Moved, Standing, ProgressAt, MayPlace, FitsAt};
-ghost use Rattle.yf_flow.specs.Counted.{openers_from};
-ghost use Rattle.yf_block.specs.Counted.{CountsFrom, StepCounted};
+ghost use Rattle.yf_block.specs.Counted.{CountedAt, CountedInside};
+ghost use Rattle.yf_block.specs.Fits.{FitsLine, PlaceTied};
+ghost use Rattle.yf_block.specs.Machine.{Standing, MayPlace, FitsAt};
+ghost use Rattle.yf_block.specs.StepAnswers.{Answers};
 
-use crate::entry::{take_entry, take_explicit_value, take_item};
-use crate::frame::{Frame, Frames, Kind, Progress, Scope, Step};
+use crate::entry::await_node;
+use crate::frame::{Frame, Kind, Reader, Scope, Slot, Step};
 use crate::look::{dash_stands, entry_place, sign_stands};
 use std::alloc::{AllocError, Global};
 use yf_events::event::NewEvent;
@@ -39,62 +38,70 @@ struct Next {
     fit: Fit,
 }
 
-/// Goes on at the start of a line after a node.
-pub(crate) fn resume<'a>(
-    alloc: Global,
-    scope: Scope<'a>,
-    at: usize,
-    progress: &mut Progress<'a>,
-    frames: &mut Frames,
-    part: &mut Part<'a>,
-) -> Result<Step, AllocError>
-    requires standing { Standing scope.text.now at progress.old part.old }
-    ensures tied { (d : ℕ) → (root : BlockTask) → (before : Part) → d < 2 ^ 64 → d ≡ scope.entry.limit
-        → AtResume scope.entry.text.now d root before (reverse frames.old.items) at progress.old part.old
-        → IfOk result (λ s. BlockTied scope.entry.text.now d root before (reverse frames.new.items) s progress.new part.new) }
-    ensures stepped { IfOk result (Moved scope.entry.text.now at 0 progress.new part.new) }
-    ensures counted { CountsFrom scope.entry at frames.old.items frames.new.items result }
-{
-    match end_collections(alloc, scope.text, at, progress, frames, part)? {
-        None => Ok(Step::Done(at)),
-        Some(Next { frame, fit }) => match fit {
-            Fit::Item(start) => take_item(scope.text, start, frame, progress, frames),
-            Fit::Entry(start) => next_entry(alloc, scope, start, frame, progress, frames, part),
-            Fit::Deeper(start) => Ok(Step::Failed(start)),
-            Fit::EndsBefore => Ok(Step::Failed(at)),
-        },
-    }
-}
-
-// Ends the collections that end before the line at an offset; `None` where all of them do.
-fn end_collections<'a>(
-    alloc: Global,
-    text: &'a str,
-    at: usize,
-    progress: &mut Progress<'a>,
-    frames: &mut Frames,
-    part: &mut Part<'a>,
-) -> Result<Option<Next>, AllocError>
-    requires standing { StandingAt text.now at progress.old }
-    ensures progress { IfOk result (λ _. ProgressAt text.now progress.new) }
-    ensures places { IfOk result (λ o. IfSome o (λ n. FitsAt text.now at n.fit)) }
-    ensures escapes { IfOk result (λ _. part.new.escapes ≡ part.old.escapes) }
-    ensures tied { (d : ℕ) → (root : BlockTask) → (before : Part)
-        → AtResume text.now d root before (reverse frames.old.items) at progress.old part.old
-        → IfOk result (λ o. MatchOption o (AtDone text.now d root before at progress.new part.new)
-        (λ n. AtFit text.now d root before (reverse frames.new.items) at n progress.new part.new)) }
-    ensures fewer { IfOk result (λ o. IfSome o (λ _. length frames.new.items < length frames.old.items)) }
-{
-    let place = entry_place(text, at);
-    'frames: while let Some(frame) = frames.pop() {
-        progress.colons = colons_without(&frame, progress.colons);
-        let fit = fit_of(text, at, place, &frame);
-        match fit {
-            Fit::EndsBefore => end_collection(alloc, frame, progress.last, part)?,
-            _ => return Ok(Some(Next { frame, fit })),
+impl<'a> Reader<'a> {
+    /// Goes on at the start of a line after a node.
+    pub(crate) fn resume(&mut self, scope: Scope<'a>, at: usize) -> Result<Step, AllocError>
+        requires { Standing scope.text.now at self.old }
+        ensures { Answers AtResume CountedAt scope.entry at 0 self.old self.new result }
+    {
+        match self.end_collections(scope, at)? {
+            None => Ok(Step::Done(at)),
+            Some(Next { frame, fit }) => match fit {
+                Fit::Item(start) => self.take_item(scope, Slot { frame, at: start }),
+                Fit::Entry(start) => self.next_entry(scope, Slot { frame, at: start }),
+                Fit::Deeper(start) => Ok(Step::Failed(start)),
+                Fit::EndsBefore => Ok(Step::Failed(at)),
+            },
         }
     }
-    Ok(None)
+
+    // Ends the collections that end before the line at an offset; `None` where all of them do.
+    fn end_collections(&mut self, scope: Scope<'a>, at: usize) -> Result<Option<Next>, AllocError>
+        requires { Standing scope.text.now at self.old }
+        ensures standing { IfOk result (λ _. Standing scope.entry.text.now at self.new) }
+        ensures places { IfOk result (λ o. IfSome o (λ n. FitsAt scope.entry.text.now at n.fit)) }
+        ensures tied { (d : ℕ) → (root : BlockTask) → (before : Part)
+            → AtResume scope.entry.text.now d root before (reverse self.old.frames.items) at self.old.progress self.old.part
+            → IfOk result (λ o. MatchOption o (AtDone scope.entry.text.now d root before at self.new.progress self.new.part)
+            (λ n. AtFit scope.entry.text.now d root before (reverse self.new.frames.items) at n self.new.progress self.new.part)) }
+        ensures fewer { IfOk result (λ o. IfSome o (λ _. length self.new.frames.items < length self.old.frames.items)) }
+    {
+        let place = entry_place(scope.text, at);
+        'frames: while let Some(frame) = self.frames.pop() {
+            self.progress.colons = colons_without(&frame, self.progress.colons);
+            let fit = fit_of(scope.text, at, place, &frame);
+            match fit {
+                Fit::EndsBefore => {
+                    end_collection(scope.alloc, frame, self.progress.last, &mut self.part)?;
+                }
+                _ => return Ok(Some(Next { frame, fit })),
+            }
+        }
+        Ok(None)
+    }
+
+    // The next entry of a mapping, or the `:` of an entry with a `?` and the value after it (l-block-map-explicit-value,
+    // production 191).
+    fn next_entry(&mut self, scope: Scope<'a>, slot: Slot) -> Result<Step, AllocError>
+        requires { Standing scope.text.now slot.at self.old }
+        ensures { Answers (AtPair slot.frame) CountedInside scope.entry slot.at 0 self.old self.new result }
+    {
+        let Slot { frame, at } = slot;
+        if frame.awaits_colon {
+            if sign_stands(scope.text, at, b':') {
+                self.part.events.set_colon(frame.entry_event, at)?;
+                self.frames.push(Frame {
+                    awaits_colon: false,
+                    ..frame
+                })?;
+                let progress = &mut self.progress;
+                return Ok(await_node(at, true, true, frame.column, None, progress));
+            }
+            self.part.events.push(empty_node(scope.alloc, None))?;
+            return self.take_entry(scope, slot);
+        }
+        self.take_entry(scope, slot)
+    }
 }
 
 // How many of so many collections await a `:` when this one is left out.
@@ -134,36 +141,6 @@ fn fit_of(text: &str, at: usize, place: Option<usize>, frame: &Frame) -> Fit
             }
         }
     }
-}
-
-// The next entry of a mapping, or the `:` of an entry with a `?`.
-fn next_entry<'a>(
-    alloc: Global,
-    scope: Scope<'a>,
-    at: usize,
-    frame: Frame,
-    progress: &mut Progress<'a>,
-    frames: &mut Frames,
-    part: &mut Part<'a>,
-) -> Result<Step, AllocError>
-    requires standing { Standing scope.text.now at progress.old part.old }
-    ensures tied { (line : ℕ) → (d : ℕ) → (root : BlockTask) → (before : Part) → d < 2 ^ 64 → d ≡ scope.entry.limit
-        → PairLine scope.entry.text.now line frame at → AtTop scope.entry.text.now d root before
-        (reverse frames.old.items) line frame progress.old part.old
-        → IfOk result (λ s. BlockTied scope.entry.text.now d root before (reverse frames.new.items) s progress.new part.new) }
-    ensures stepped { IfOk result (Moved scope.entry.text.now at 0 progress.new part.new) }
-    ensures counted { IsUtf8 scope.entry.text.now → (total : ℕ)
-        → length frames.old.items + 1 + openers_from scope.entry.text.now at ≤ total
-        → IfOk result (λ s. StepCounted scope.entry.text.now scope.entry.limit total (length frames.new.items) s) }
-{
-    if frame.awaits_colon {
-        if sign_stands(scope.text, at, b':') {
-            return take_explicit_value(scope.text, at, frame, progress, frames, part);
-        }
-        part.events.push(empty_node(alloc, None))?;
-        return take_entry(alloc, scope, at, frame, progress, frames, part);
-    }
-    take_entry(alloc, scope, at, frame, progress, frames, part)
 }
 
 // Ends a collection whose last node or indicator ends at an offset.

@@ -1,25 +1,29 @@
 //! Block scalars as nodes (YAML 1.2.2, section 8.1).
-ghost use Rattle.std.specs.Prelude.{◌≡◌, IfOk, ℕ, ◌+◌, ◌≤◌, length, ◌^◌, ◌<◌, ◌++◌, reverse};
+ghost use Rattle.std.specs.Prelude.{◌≡◌, IfOk, IfSome, MatchOption, ℤ, pos, ◌+ℤ◌, ◌+◌, ◌≤◌, ◌≤ℤ◌, length, ◌^◌, ◌<◌, ◌++◌};
+ghost use Rattle.std.specs.Str.{IsCharBoundary};
+ghost use Rattle.yf_lines.specs.Basic.{LineStart};
+ghost use Rattle.yf_chars.specs.Chain.{Chosen, Stuck};
 ghost use Rattle.yf_comments.specs.Comment.{row_comments};
+ghost use Rattle.yf_block_scalar.specs.Body.{Body, body_value};
 ghost use Rattle.yf_events.specs.Event.{placed_value};
-ghost use Rattle.yf_grammar.specs.BlockParser.{BlockTask};
-ghost use Rattle.yf_grammar.specs.BlockScalar.{kept_lines as kept_of, reach as reach_of, style_of as style_by};
 ghost use Rattle.yf_flow.specs.Machine.{Place};
-ghost use Rattle.yf_block.specs.BlockStepTied.{BlockTied};
-ghost use Rattle.yf_block.specs.Machine.{StandingAt, MovedSame};
-ghost use Rattle.yf_block.specs.Counted.{CountsSame};
-ghost use Rattle.yf_block.specs.ScalarTied.{AtBody, AtScalar, scalar_event};
+ghost use Rattle.yf_grammar.specs.BlockScalar.{kept_lines as kept_of, reach as reach_of, style_of as style_by};
+ghost use Rattle.yf_block.specs.Counted.{CountedAt};
+ghost use Rattle.yf_block.specs.ScalarTied.{AtBody, AtHeader, scalar_event};
+ghost use Rattle.yf_block.specs.Machine.{Standing};
+ghost use Rattle.yf_block.specs.StepAnswers.{Answers};
 
-use crate::frame::{Frames, Progress, Scope, Step};
+use crate::frame::{Reader, Scope, Step};
 use crate::halt::note_node;
-use crate::leaf::{read_header, read_lines};
+use crate::inline::flow_indentation;
 use crate::look::skip_lines;
 use std::alloc::{AllocError, Global};
 use yf_block_scalar::body::BlockText;
 use yf_block_scalar::content::content;
-use yf_block_scalar::header::Chomp;
-use yf_block_scalar::header_reader::HeaderLine;
+use yf_block_scalar::header::{Chomp, Header};
+use yf_block_scalar::header_reader::{HeaderLine, block_header};
 use yf_block_scalar::lines::Lines;
+use yf_block_scalar::reader::block_body;
 use yf_comments::comment::Comment;
 use yf_events::event::{NewEvent, PlacedEvent, ScalarStyle, Span};
 use yf_events::part::Part;
@@ -27,42 +31,59 @@ use yf_events::slices::Slices;
 use yf_flow::node::Lead;
 use yf_lines::text::{OwnedText, Text};
 
-/// Reads the block scalar whose `|` or `>` stands at an offset (s-l+block-scalar, production 199).
-#[inline(never)]
-pub(crate) fn take_block_scalar<'a>(
-    alloc: Global,
-    scope: Scope<'a>,
-    at: usize,
-    lead: &Lead<'a>,
-    least: usize,
-    progress: &mut Progress<'a>,
-    frames: &Frames,
-    part: &mut Part<'a>,
-) -> Result<Step, AllocError>
-    requires standing { StandingAt scope.text.now at progress.old }
-    ensures tied { (d : ℕ) → (root : BlockTask) → (before : Part)
-        → AtScalar scope.entry.text.now d root before (reverse frames.now.items) lead.now least at progress.old part.old
-        → IfOk result (λ s. BlockTied scope.entry.text.now d root before (reverse frames.now.items) s progress.new part.new) }
-    ensures stepped { IfOk result (MovedSame scope.entry.text.now at 0 part.old.escapes progress.new part.new) }
-    ensures counted { CountsSame scope.entry.text.now at result }
-{
-    match read_header(scope.text, at) {
-        None => Ok(Step::Failed(at)),
-        Some(
-            HeaderLine {
-                header,
-                comment,
-                end,
-            },
-        ) => {
-            push_comment(comment, part)?;
-            match read_lines(alloc, scope.text, end, least, header)? {
-                None => Ok(Step::Failed(end)),
-                Some(block) => take_body(
-                    alloc, scope.text, end, lead, block, progress, frames, part,
-                ),
+impl<'a> Reader<'a> {
+    /// Reads the block scalar whose `|` or `>` stands at an offset (s-l+block-scalar, production 199).
+    #[inline(never)]
+    pub(crate) fn take_block_scalar(
+        &mut self,
+        scope: Scope<'a>,
+        at: usize,
+        lead: &Lead<'a>,
+    ) -> Result<Step, AllocError>
+        requires { Standing scope.text.now at self.old }
+        ensures { Answers (AtHeader lead.now) CountedAt scope.entry at 0 self.old self.new result }
+    {
+        match block_header(scope.text, at) {
+            None => Ok(Step::Failed(at)),
+            Some(
+                HeaderLine {
+                    header,
+                    comment,
+                    end,
+                },
+            ) => {
+                push_comment(comment, &mut self.part)?;
+                match read_lines(scope, end, self.progress.wanted.least, header)? {
+                    None => Ok(Step::Failed(end)),
+                    Some(block) => self.take_body(scope, end, lead, block),
+                }
             }
         }
+    }
+
+    // Adds a block scalar whose lines have been read from an offset on.
+    fn take_body(
+        &mut self,
+        scope: Scope<'a>,
+        at: usize,
+        lead: &Lead<'a>,
+        block: BlockText<'a>,
+    ) -> Result<Step, AllocError>
+        requires standing { Standing scope.text.now at self.old }
+        requires next { Place scope.text.now at block.next }
+        ensures { Answers (AtBody lead.now block.entry) CountedAt scope.entry at 1 self.old self.new result }
+    {
+        let text = scope.text;
+        let finish = skip_lines(text, at, reach(&block));
+        let next = block.next;
+        let scalar = placed_scalar(scope.alloc, lead, &block, finish)?;
+        self.part.events.push(scalar)?;
+        let BlockText { comments, .. } = block;
+        self.part.comments.append(comments)?;
+        self.progress.last = finish;
+        self.progress.floor = finish;
+        note_node(text, None, next, next, &mut self.progress, &self.frames);
+        Ok(Step::Resume(next))
     }
 }
 
@@ -79,35 +100,39 @@ fn push_comment<'a>(comment: Option<Comment<'a>>, part: &mut Part<'a>) -> Result
     Ok(())
 }
 
-// Adds a block scalar whose lines have been read from an offset on.
-fn take_body<'a>(
-    alloc: Global,
-    text: &'a str,
+// Reads the lines of a block scalar after its header, which ends at an offset, in a node whose lines are indented by that
+// many spaces at least.
+fn read_lines<'a>(
+    scope: Scope<'a>,
     at: usize,
-    lead: &Lead<'a>,
-    block: BlockText<'a>,
-    progress: &mut Progress<'a>,
-    frames: &Frames,
-    part: &mut Part<'a>,
-) -> Result<Step, AllocError>
-    requires standing { StandingAt text.now at progress.old }
-    requires next { Place text.now at block.next }
-    ensures tied { (d : ℕ) → (root : BlockTask) → (before : Part)
-        → AtBody text.now d root before (reverse frames.now.items) lead.now at block.entry progress.old part.old
-        → IfOk result (λ s. BlockTied text.now d root before (reverse frames.now.items) s progress.new part.new) }
-    ensures stepped { IfOk result (MovedSame text.now at 1 part.old.escapes progress.new part.new) }
-    ensures counted { CountsSame text.now at result }
+    least: usize,
+    header: Header,
+) -> Result<Option<BlockText<'a>>, AllocError>
+    requires boundary { IsCharBoundary scope.text.now at }
+    requires starts { at < length scope.text.now → LineStart scope.text.now at }
+    ensures place { IfOk result (λ o. IfSome o (λ b. Place scope.entry.text.now at b.next)) }
+    ensures reads { least ≤ 2 ^ 30 → (n : ℤ) → pos least ≡ n +ℤ pos 1
+        → IfOk result (λ o. MatchOption o (Stuck (Body scope.entry.text.now n header at))
+        (λ b. (b.header ≡ header) × Chosen (Body scope.entry.text.now n header at) b.next (body_value b))) }
 {
-    let finish = skip_lines(text, at, reach(&block));
-    let next = block.next;
-    part.events
-        .push(placed_scalar(alloc, lead, &block, finish)?)?;
-    let BlockText { comments, .. } = block;
-    part.comments.append(comments)?;
-    progress.last = finish;
-    progress.floor = finish;
-    note_node(text, None, next, next, progress, frames);
-    Ok(Step::Resume(next))
+    match block_body(
+        scope.alloc,
+        scope.text,
+        at,
+        outer_indentation(least),
+        header,
+    )? {
+        Some(block) => Ok(Some(block)),
+        None => Ok(None),
+    }
+}
+
+// The indentation of the collection around a node whose lines are indented by that many spaces at least.
+fn outer_indentation(least: usize) -> i32
+    ensures same { least ≤ 2 ^ 30 → pos least ≡ result +ℤ pos 1 }
+    ensures upper { result ≤ℤ pos (2 ^ 30) }
+{
+    flow_indentation(least) - 1
 }
 
 // How many lines after its header a scalar reaches: to its last content line, or through its kept tail.

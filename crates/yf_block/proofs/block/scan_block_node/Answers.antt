@@ -1,4 +1,7 @@
-use Rattle.std.proofs.Common.{to_z-of_z}
+use Rattle.std.proofs.Common.{ap, to_z-of_z}
+use Rattle.std.proofs.lemmas.List.Elements.{All-nil, All-same}
+use Rattle.std.specs.Str.{IsCharBoundary}
+use Rattle.yf_events.specs.declared.part.Part.{Part}
 use Rattle.yf_grammar.specs.Refusal.{for_memory}
 use Rattle.yf_block.proofs.NodesGiven.{node_alone, too_deep_given}
 use Rattle.yf_block.proofs.block.scan_block_node.Goals as goal
@@ -7,9 +10,11 @@ pub returns-in-Ok-Found-clause-reads : goal.returns-in-Ok-Found-clause-reads
 returns-in-Ok-Found-clause-reads c = λ b i l.
     let f = rw (c.text.ensures, to_z-of_z c.ranges.n, c.in-Ok-Found.field-0-is) at c.in-Ok-Found.ensures.tied in
     let place = rw (c.text.ensures, c.in-Ok-Found.field-0-is) at c.in-Ok-Found.ensures.place in
-    let new = c.new_part-part.ensures in
+    let events = ap (λ (z : Part). z.events) c.new_part-part.ensures in
+    let comments = ap (λ (z : Part). z.comments) c.new_part-part.ensures in
+    let escapes = ap (λ (z : Part). z.escapes) c.new_part-part.ensures in
     record {
-      chosen = node_alone new.events new.comments new.escapes ((f b i l).alone new.events new.comments new.escapes);
+      chosen = node_alone events comments escapes ((f b i l).alone events comments escapes);
       escape = c.first_escape-escape.ensures;
       boundary = place.0.boundary;
     }
@@ -26,3 +31,7 @@ returns-in-Ok-TooDeep-clause-reads c = λ b i l.
 
 pub returns-clause-reads : goal.returns-clause-reads
 returns-clause-reads c = λ b i l. for_memory
+
+pub block_node_in-requires-clause-escapes : goal.block_node_in-requires-clause-escapes
+block_node_in-requires-clause-escapes c =
+    All-same (IsCharBoundary c.text.result.now) _ _ (ap (λ (z : Part). z.escapes) c.new_part-part.ensures) (All-nil (IsCharBoundary c.text.result.now))

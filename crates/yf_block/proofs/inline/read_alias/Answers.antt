@@ -18,4 +18,4 @@ pub returns-in_ok-push-in-Some-clause-counted : goal.returns-in_ok-push-in-Some-
 returns-in_ok-push-in-Some-clause-counted c = λ limit total q.
     let f = alias_forward c.in-Some.ensures.reads.derived in
     let k : c.args.at ≤ c.in-Some.end = omega (arith, f) in
-    rw c.inline_end.ensures (later c.args.text.now c.args.depth total c.args.at c.in-Some.end k q)
+    rw c.inline_end.ensures (later c.args.scope.text.now c.args.depth total c.args.at c.in-Some.end k q)

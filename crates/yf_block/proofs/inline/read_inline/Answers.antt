@@ -1,6 +1,7 @@
-use Rattle.std.proofs.Common.{refl, arith, ◌≤◌}
-use Rattle.yf_block.specs.InlineAnswers.{empty_key_read}
-use Rattle.yf_block.proofs.InlineLemmas.{empty_written}
+use Rattle.std.proofs.Common.{rules, pos, refl, arith, ◌≤◌, to_z-of_z, SFits, w32}
+use Rattle.std.proofs.lemmas.Result.{IfOk-weaker}
+use Rattle.yf_block.specs.InlineAnswers.{alias_after, empty_key_read}
+use Rattle.yf_block.proofs.InlineLemmas.{alias_there, content_ends, empty_written}
 use Rattle.yf_block.proofs.CountedSteps.{later, held_below}
 use Rattle.yf_block.proofs.inline.read_inline.Goals as goal
 
@@ -14,5 +15,22 @@ returns-in_ok-push_scalar-in-Some-clause-counted c = λ u total start l q.
     let k : start ≤ c.in-Some.end = omega (arith, l, c.in-Some.ensures.place.order) in
     rw c.inline_end.ensures (later _ c.args.depth total start c.in-Some.end k q)
 
-pub returns-in-None-clause-counted : goal.returns-in-None-clause-counted
-returns-in-None-clause-counted c = λ u total start l q. c.read_flow.ensures.counted u total (later _ c.args.depth total start c.args.at (held_below _ _ _ c.args.inner.now c.requires.properties l) q)
+pub returns-in-Some-inner-clause-answers : goal.returns-in-Some-inner-clause-answers
+returns-in-Some-inner-clause-answers c = λ u l room r. alias_after c.in-None.ensures.reads c.in-Some-inner.is (alias_there _ c.if-stands.ensures.cases.char)
+
+pub returns-in-None-inner-clause-answers : goal.returns-in-None-inner-clause-answers
+returns-in-None-inner-clause-answers c = λ u l room r. rw c.in-None-inner.is (c.read_alias.ensures.answers room (pos c.args.least))
+
+pub returns-else-stands-clause-answers : goal.returns-else-stands-clause-answers
+returns-else-stands-clause-answers c = λ u l room r.
+    let fits : SFits w32 c.flow_indentation.result = search rules in
+    let e = rw (to_z-of_z fits, c.flow_indentation.ensures.same l) at (c.read_content.ensures.answers u refl room r) in
+    IfOk-weaker _ _ _ (λ e f. content_ends room (pos c.args.least) c.args.depth c.args.lead.now c.args.part.now c.read_content.new.part e c.in-None.ensures.reads c.if-stands.ensures.cases f) e
+
+pub returns-in-None-inner-clause-counted : goal.returns-in-None-inner-clause-counted
+returns-in-None-inner-clause-counted c = λ u total start l q.
+    c.read_alias.ensures.counted c.args.scope.limit total (later _ c.args.depth total start c.args.at (held_below _ _ _ c.args.inner.now c.requires.properties l) q)
+
+pub returns-else-stands-clause-counted : goal.returns-else-stands-clause-counted
+returns-else-stands-clause-counted c = λ u total start l q.
+    c.read_content.ensures.counted u total (later _ c.args.depth total start c.args.at (held_below _ _ _ c.args.inner.now c.requires.properties l) q)

@@ -1,0 +1,24 @@
+use Rattle.std.proofs.Common.{refl, ap, length, arith}
+use Rattle.yf_block.specs.declared.frame.Progress.{Progress}
+use Rattle.yf_block.proofs.LeafEnds.{leaf_finishes, leaf_stops}
+use Rattle.yf_block.proofs.CountedSteps.{later}
+use Rattle.yf_block.proofs.MovedLemmas.{failed_moved, resume_moved}
+use Rattle.yf_block.proofs.frame.Reader.end_inline.Goals as goal
+
+pub returns-in_ok-append-in-Some : goal.returns-in_ok-append-in-Some
+returns-in_ok-append-in-Some c = record {
+  tied = λ d root before j r l.
+      leaf_finishes l (rw c.in-Some.is at c.in_ok-comments.ensures.reads) c.note_node.ensures.noted refl c.in_ok-append-in-Some.ensures refl
+      (ap (λ (p : Progress). p.last) c.note_node.ensures.others) (ap (λ (p : Progress). p.floor) c.note_node.ensures.others) (ap (λ (p : Progress). p.colons) c.note_node.ensures.others);
+  stepped = resume_moved c.note_node.ensures.progress c.requires.standing.escapes (omega arith) (rw c.in-Some.is at c.in_ok-comments.ensures.place);
+  counted = λ u total q.
+      let p = rw c.in-Some.is at c.in_ok-comments.ensures.place in
+      later _ (length c.args.self.now.frames.items) total c.args.at _ p.order q;
+}
+
+pub returns-in-None : goal.returns-in-None
+returns-in-None c = record {
+  tied = λ d root before j r l. leaf_stops l (rw c.in-None.is at c.in_ok-comments.ensures.reads) c.note_shorter.ensures.noted;
+  stepped = failed_moved c.note_shorter.ensures.progress c.requires.standing.escapes c.skip_whites.ensures.boundary;
+  counted = λ u total q. tt;
+}

@@ -1,0 +1,8 @@
+use Rattle.yf_block.proofs.Forward.{line_end_forward}
+use Rattle.yf_block.proofs.line.read_line_end.Goals as goal
+
+pub returns-in-Some-clause-place : goal.returns-in-Some-clause-place
+returns-in-Some-clause-place c = record {
+  boundary = rw c.in-Some.is at c.in_ok-separation.ensures.boundary;
+  order = line_end_forward (rw c.in-Some.is at c.in_ok-separation.ensures.reads).derived;
+}
