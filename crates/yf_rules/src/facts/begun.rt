@@ -6,6 +6,7 @@ ghost use Rattle.yf_rules.specs.Scalars.{BegunTo};
 use yf_lines::source_text::Src;
 
 /// The largest number of lines, not above the hint, of which the last begins at the byte offset or before it.
+#[inline(always)]
 fn begun_back(src: &Src, hint: usize, offset: usize) -> usize
     ensures { BegunTo src.now.lines offset result }
 {
@@ -22,6 +23,7 @@ fn begun_back(src: &Src, hint: usize, offset: usize) -> usize
 
 /// How many lines begin at the byte offset or before it. It is looked for from a hint on, so that a pass over ascending
 /// offsets goes over the lines once.
+#[inline(always)]
 pub fn lines_begun(src: &Src, hint: usize, offset: usize) -> usize
     ensures begun { Begun src.now.lines offset result }
     ensures within { result ≤ length src.now.lines }

@@ -47,6 +47,7 @@ fn count_from(bytes: &[u8], from: usize, byte: u8) -> usize
 
 /// Where the content begins of a block scalar with this text, whose header stands on the line before that of the index
 /// `after`; `None` where it has no content line.
+#[inline(always)]
 fn content_of(src: &Src, text: &str, after: usize) -> Option<ContentStart>
     requires { after ≤ length src.now.lines }
     ensures { MatchOption result ((first indent : ℕ) → BlockContent src.now.lines text.now after first indent → ⊥)
@@ -69,6 +70,7 @@ fn content_of(src: &Src, text: &str, after: usize) -> Option<ContentStart>
 }
 
 /// Whether a scalar of this style is a block scalar.
+#[inline(always)]
 fn is_block_style(style: ScalarStyle) -> bool
     ensures { result ≡ Scalars.is_block_style style }
 {
@@ -79,6 +81,7 @@ fn is_block_style(style: ScalarStyle) -> bool
 }
 
 /// Where the content begins of a scalar of this style with this text, if it is a block scalar that has a content line.
+#[inline(always)]
 fn block_content(src: &Src, style: ScalarStyle, text: &str, after: usize) -> Option<ContentStart>
     requires { after ≤ length src.now.lines }
     ensures { IsContent src.now.lines style text.now after result }
@@ -92,6 +95,7 @@ fn block_content(src: &Src, style: ScalarStyle, text: &str, after: usize) -> Opt
 /// The lines of the scalar that the event at an index is; `None` of any other event and of an empty scalar. They are looked for
 /// from the line of that index on, so that a pass over the events goes over the lines once: `first` of one scalar is the line
 /// for the next one.
+#[inline(always)]
 pub fn scalar_lines_at(src: &Src, reading: &Reading, i: usize, line: usize) -> Option<ScalarLines>
     requires { i < length reading.now.events }
     ensures { LinesOfScalar src.now reading.now i result }
