@@ -172,10 +172,7 @@ fn quotes_at(table: &Table, house: Quotes) -> Quotes
     ensures { result ≡ setting quotes_of (codes "quotes") house (table_view table.now) }
 {
     match value_at(table, QUOTES) {
-        Some(value) => match quotes_of(value) {
-            Some(quotes) => quotes,
-            None => house,
-        },
+        Some(value) => quotes_of(value).unwrap_or(house),
         None => house,
     }
 }
@@ -184,10 +181,7 @@ fn seq_indent_at(table: &Table, house: bool) -> bool
     ensures { result ≡ setting seq_indent_of (codes "seq_indent") house (table_view table.now) }
 {
     match value_at(table, SEQ_INDENT) {
-        Some(value) => match value.as_bool() {
-            Some(is_indented) => is_indented,
-            None => house,
-        },
+        Some(value) => value.as_bool().unwrap_or(house),
         None => house,
     }
 }

@@ -28,6 +28,7 @@ struct LineRange {
 }
 
 /// Where the lines stand that are wanted of a scalar.
+#[inline(always)]
 fn range_of(scalar: Option<ScalarLines>, wanted: WantedLines) -> Option<LineRange>
     ensures { result ≡ wanted_range wanted scalar }
 {
@@ -52,6 +53,7 @@ fn range_of(scalar: Option<ScalarLines>, wanted: WantedLines) -> Option<LineRang
 }
 
 /// Whether a line has more characters than the indentation, if there is one.
+#[inline(always)]
 fn is_longer(line: Line, indent: Option<usize>) -> bool
     requires { line.start ≤ line.end }
     ensures { MatchBool result (IsLonger line indent) (IsLonger line indent → ⊥) }
@@ -68,6 +70,7 @@ fn is_longer(line: Line, indent: Option<usize>) -> bool
 }
 
 /// Notes lines.
+#[inline(always)]
 fn note_range(list: &mut Vec<bool>, src: &Src, range: LineRange)
     requires { length list.old.items ≡ length src.now.lines }
     ensures { Noted list.old.items list.new.items (InRange src.now.lines range) }
@@ -87,6 +90,7 @@ fn note_range(list: &mut Vec<bool>, src: &Src, range: LineRange)
 }
 
 /// Notes lines, if there are any.
+#[inline(always)]
 fn note(list: &mut Vec<bool>, src: &Src, range: Option<LineRange>)
     requires { length list.old.items ≡ length src.now.lines }
     ensures { Noted list.old.items list.new.items (InSome src.now.lines range) }
@@ -98,6 +102,7 @@ fn note(list: &mut Vec<bool>, src: &Src, range: Option<LineRange>)
 }
 
 /// Of each line, whether it is one of those that are wanted of a scalar.
+#[inline(always)]
 fn wanted_lines(
     alloc: Global,
     src: &Src,

@@ -47,6 +47,7 @@ fn count_from(bytes: &[u8], from: usize, byte: u8) -> usize
 
 /// Where the content begins of a block scalar with this text, whose header stands on the line before that of the index
 /// `after`; `None` where it has no content line.
+#[inline(always)]
 fn content_of(src: &Src, text: &str, after: usize) -> Option<ContentStart>
     requires { after ≤ length src.now.lines }
     ensures { MatchOption result ((first indent : ℕ) → BlockContent src.now.lines text.now after first indent → ⊥)
@@ -69,6 +70,7 @@ fn content_of(src: &Src, text: &str, after: usize) -> Option<ContentStart>
 }
 
 /// Whether a scalar of this style is a block scalar.
+#[inline(always)]
 fn is_block_style(style: ScalarStyle) -> bool
     ensures { result ≡ Scalars.is_block_style style }
 {

@@ -129,6 +129,7 @@ fn is_displaced(
 }
 
 /// From bracket to bracket the flow collection that the event begins.
+#[inline(always)]
 fn brackets(src: &Src, reading: &Reading, i: usize) -> Option<Span>
     requires { i < length reading.now.events }
     ensures { (e : EventValue) (span : Option Span) → slice_get (events_of reading.now) i ≡ Some e
