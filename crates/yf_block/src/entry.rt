@@ -1,20 +1,20 @@
 //! Block collections and their entries (YAML 1.2.2, section 8.2).
 ghost use Rattle.std.specs.Prelude.{◌≡◌, ◌≢◌, ◌+◌, ◌-◌, ◌^◌, ◌<◌, true, false, None, IfOk, IfSome};
-ghost use Rattle.yf_block.specs.Counted.{CountedAt, EntryCounted};
-ghost use Rattle.yf_block.specs.KeyAwaited.{KeyAwaited};
-ghost use Rattle.yf_block.specs.StepAnswers.{Answers};
-ghost use Rattle.yf_block.specs.KeyTexts.{KeyTextAt, KeyTextPlace};
-ghost use Rattle.yf_block.specs.OpeningTied.{AtItem, AtOpening, AtPairEntry, SignOf};
-ghost use Rattle.yf_events.specs.Event.{placed_value};
-ghost use Rattle.yf_block.specs.Machine.{Standing};
-ghost use Rattle.yf_block.specs.BlockTied.{NodeAwaited};
-ghost use Rattle.yf_flow.specs.Machine.{Place};
-ghost use Rattle.yf_chars.specs.Text.{code};
 ghost use Rattle.std.specs.Str.{IsCharBoundary};
-ghost use Rattle.yf_block.specs.InlineTied.{started};
-ghost use Rattle.yf_grammar.specs.Part.{NotedSince};
+ghost use Rattle.yf_chars.specs.Text.{code};
 ghost use Rattle.yf_comments.specs.Comments.{Blank};
+ghost use Rattle.yf_events.specs.Event.{placed_value};
 ghost use Rattle.yf_grammar.specs.BlockParser.{DashAt};
+ghost use Rattle.yf_grammar.specs.Part.{NotedSince};
+ghost use Rattle.yf_flow.specs.Machine.{Place};
+ghost use Rattle.yf_block.specs.BlockTied.{NodeAwaited};
+ghost use Rattle.yf_block.specs.Counted.{CountedAt, EntryCounted};
+ghost use Rattle.yf_block.specs.InlineTied.{started};
+ghost use Rattle.yf_block.specs.KeyAwaited.{KeyAwaited};
+ghost use Rattle.yf_block.specs.KeyTexts.{KeyTextAt, KeyTextPlace};
+ghost use Rattle.yf_block.specs.Machine.{Standing};
+ghost use Rattle.yf_block.specs.OpeningTied.{AtItem, AtOpening, AtPairEntry, SignOf};
+ghost use Rattle.yf_block.specs.StepAnswers.{Answers};
 
 use crate::frame::{Frame, Kind, Progress, Reader, Scope, Slot, Step, Wanted};
 use crate::inline::read_inline;

@@ -1,10 +1,10 @@
 //! The last place at which all open nodes may end: what the reader falls back on where the text goes wrong later.
 ghost use Rattle.std.specs.Prelude.{◌≡◌, ℕ, MatchBool, length, reverse, take};
-ghost use Rattle.yf_block.specs.Machine.{MayBoundary, ProgressAt};
 ghost use Rattle.std.specs.Str.{IsCharBoundary};
-ghost use Rattle.yf_block.specs.Looks.{NotWithinBreak};
-ghost use Rattle.yf_block.specs.NotedHalts.{ColonsCounted, EmptyNoted, IsOutermost, NodeNoted, ShorterNoted};
 ghost use Rattle.yf_block.specs.Awaiting.{AwaitedColon, AwaitsAt};
+ghost use Rattle.yf_block.specs.Looks.{NotWithinBreak};
+ghost use Rattle.yf_block.specs.Machine.{MayBoundary, ProgressAt};
+ghost use Rattle.yf_block.specs.NotedHalts.{ColonsCounted, EmptyNoted, IsOutermost, NodeNoted, ShorterNoted};
 
 use crate::frame::{Frames, Progress};
 use crate::look::{entry_place, last_line_start, sign_stands};

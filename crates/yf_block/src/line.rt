@@ -1,17 +1,17 @@
 //! Nodes where they are awaited: after an indicator, or at the start of a line (s-l+block-node, production 196).
 ghost use Rattle.std.specs.Prelude.{◌≡◌, ◌<◌, ◌≤◌, ℕ, IfOk, IfSome, ◌+◌, Some, true, false, ◌⊎◌, MatchBool, MatchOption};
 ghost use Rattle.std.specs.Str.{IsCharBoundary};
-ghost use Rattle.yf_block.specs.LineStepTied.{AtEmpty};
-ghost use Rattle.yf_block.specs.Machine.{Standing};
-ghost use Rattle.yf_flow.specs.Machine.{Place};
-ghost use Rattle.yf_grammar.specs.BlockParser.{DashAt};
-ghost use Rattle.yf_block.specs.Counted.{CountedAt};
-ghost use Rattle.yf_block.specs.LineTied.{AtBelow};
 ghost use Rattle.yf_chars.specs.Chain.{Chosen, Stuck};
-ghost use Rattle.yf_block.specs.ColumnsTied.{CompactTied, SequenceBegins, SequenceTied};
-ghost use Rattle.yf_block.specs.BlockStepTied.{AtNode, AtLine};
-ghost use Rattle.yf_block.specs.StepAnswers.{Answers};
 ghost use Rattle.yf_comments.specs.Comments.{LineEnd};
+ghost use Rattle.yf_grammar.specs.BlockParser.{DashAt};
+ghost use Rattle.yf_flow.specs.Machine.{Place};
+ghost use Rattle.yf_block.specs.BlockStepTied.{AtNode, AtLine};
+ghost use Rattle.yf_block.specs.ColumnsTied.{CompactTied, SequenceBegins, SequenceTied};
+ghost use Rattle.yf_block.specs.Counted.{CountedAt};
+ghost use Rattle.yf_block.specs.LineStepTied.{AtEmpty};
+ghost use Rattle.yf_block.specs.LineTied.{AtBelow};
+ghost use Rattle.yf_block.specs.Machine.{Standing};
+ghost use Rattle.yf_block.specs.StepAnswers.{Answers};
 
 use crate::content::NodeStart;
 use crate::frame::{Kind, Progress, Reader, Scope, Step, Wanted};

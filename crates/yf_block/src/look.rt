@@ -1,17 +1,17 @@
 //! Tests of what stands at a place of a block node, and walks that read nothing.
 ghost use Rattle.std.specs.Prelude.{◌≡◌, ◌≢◌, ◌+◌, ◌-◌, ◌<◌, true, ℕ, IfSome, MatchBool, MatchOption};
-ghost use Rattle.yf_chars.specs.Text.{code};
-ghost use Rattle.yf_flow.specs.Machine.{Place};
-ghost use Rattle.yf_lines.specs.Basic.{Break};
-ghost use Rattle.yf_grammar.specs.BlockScalar.{LinesBetween};
-ghost use Rattle.yf_block.specs.InlineAnswers.{KeyEnds};
-ghost use Rattle.yf_grammar.specs.Part.{NotedSince};
-ghost use Rattle.yf_grammar.specs.BlockParser.{DashAt, LineText, LinesEnd, SignAt};
-ghost use Rattle.yf_block.specs.Looks.{EntryPlace, LineEndsAt, NotWithinBreak};
-ghost use Rattle.yf_comments.specs.Comments.{Blank};
 ghost use Rattle.std.specs.Str.{IsCharBoundary};
-ghost use Rattle.yf_block.specs.LastStarts.{LastStartIs};
+ghost use Rattle.yf_chars.specs.Text.{code};
+ghost use Rattle.yf_lines.specs.Basic.{Break};
+ghost use Rattle.yf_comments.specs.Comments.{Blank};
+ghost use Rattle.yf_grammar.specs.BlockParser.{DashAt, LineText, LinesEnd, SignAt};
+ghost use Rattle.yf_grammar.specs.BlockScalar.{LinesBetween};
+ghost use Rattle.yf_grammar.specs.Part.{NotedSince};
 ghost use Rattle.yf_flow.specs.Leaves.{KeyLine};
+ghost use Rattle.yf_flow.specs.Machine.{Place};
+ghost use Rattle.yf_block.specs.InlineAnswers.{KeyEnds};
+ghost use Rattle.yf_block.specs.LastStarts.{LastStartIs};
+ghost use Rattle.yf_block.specs.Looks.{EntryPlace, LineEndsAt, NotWithinBreak};
 
 use yf_chars::classes::is_ns_char;
 use yf_chars::text::{peek, stands};

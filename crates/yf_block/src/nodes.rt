@@ -1,17 +1,17 @@
 //! The reader of block nodes: one forward pass, with a stack of the open collections.
-ghost use Rattle.std.specs.Prelude.{◌≡◌, ℕ, ℤ, pos, ◌+ℤ◌, ◌^◌, ◌<◌, ◌≤◌, [], true, false, IfOk, ◌+◌, length, MatchBool, MatchOption, Some, None, Ok, reverse};
 ghost use Rattle.std.specs.List.{All};
+ghost use Rattle.std.specs.Prelude.{◌≡◌, ℕ, ℤ, pos, ◌+ℤ◌, ◌^◌, ◌<◌, ◌≤◌, [], true, false, IfOk, ◌+◌, length, MatchBool, MatchOption, Some, None, Ok, reverse};
 ghost use Rattle.std.specs.Str.{IsCharBoundary, IsUtf8};
-ghost use Rattle.yf_grammar.specs.BlockParser.{Nothing, Awaited, BlockTask};
-ghost use Rattle.yf_block.specs.BlockTied.{TextTied};
-ghost use Rattle.yf_block.specs.BlockStepTied.{BlockTied, is_out};
 ghost use Rattle.yf_lines.specs.Basic.{is_block};
-ghost use Rattle.yf_block.specs.RootTied.{AtBegin, AtRoot};
-ghost use Rattle.yf_block.specs.Machine.{Standing, MayBoundary, ProgressAt, StoppedAt, StepReady, StopAt, OutcomeAt};
+ghost use Rattle.yf_grammar.specs.BlockParser.{Nothing, Awaited, BlockTask};
 ghost use Rattle.yf_flow.specs.Counted.{openers_from};
-ghost use Rattle.yf_block.specs.Counted.{CountedAt, StepCounted};
+ghost use Rattle.yf_block.specs.BlockStepTied.{BlockTied, is_out};
+ghost use Rattle.yf_block.specs.BlockTied.{TextTied};
 ghost use Rattle.yf_block.specs.ContentTied.{CountsOf};
+ghost use Rattle.yf_block.specs.Counted.{CountedAt, StepCounted};
+ghost use Rattle.yf_block.specs.Machine.{Standing, MayBoundary, ProgressAt, StoppedAt, StepReady, StopAt, OutcomeAt};
 ghost use Rattle.yf_block.specs.NodeGiven.{Indentation, OutcomeTied, PrefixGiven};
+ghost use Rattle.yf_block.specs.RootTied.{AtBegin, AtRoot};
 ghost use Rattle.yf_block.specs.RunTied.{HaltAt, ReadRoot, RunTied, StopCounted, StopTied, StopsAs};
 ghost use Rattle.yf_block.specs.StepAnswers.{Answers};
 

@@ -1,16 +1,16 @@
 //! Block scalars as nodes (YAML 1.2.2, section 8.1).
 ghost use Rattle.std.specs.Prelude.{◌≡◌, IfOk, IfSome, MatchOption, ℤ, pos, ◌+ℤ◌, ◌+◌, ◌≤◌, ◌≤ℤ◌, length, ◌^◌, ◌<◌, ◌++◌};
 ghost use Rattle.std.specs.Str.{IsCharBoundary};
-ghost use Rattle.yf_lines.specs.Basic.{LineStart};
 ghost use Rattle.yf_chars.specs.Chain.{Chosen, Stuck};
+ghost use Rattle.yf_lines.specs.Basic.{LineStart};
 ghost use Rattle.yf_comments.specs.Comment.{row_comments};
 ghost use Rattle.yf_block_scalar.specs.Body.{Body, body_value};
 ghost use Rattle.yf_events.specs.Event.{placed_value};
-ghost use Rattle.yf_flow.specs.Machine.{Place};
 ghost use Rattle.yf_grammar.specs.BlockScalar.{kept_lines as kept_of, reach as reach_of, style_of as style_by};
+ghost use Rattle.yf_flow.specs.Machine.{Place};
 ghost use Rattle.yf_block.specs.Counted.{CountedAt};
-ghost use Rattle.yf_block.specs.ScalarTied.{AtBody, AtHeader, scalar_event};
 ghost use Rattle.yf_block.specs.Machine.{Standing};
+ghost use Rattle.yf_block.specs.ScalarTied.{AtBody, AtHeader, scalar_event};
 ghost use Rattle.yf_block.specs.StepAnswers.{Answers};
 
 use crate::frame::{Reader, Scope, Step};
