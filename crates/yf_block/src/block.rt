@@ -7,11 +7,12 @@ ghost use Rattle.yf_flow.specs.Machine.{Place, IsReadFault, IsScanFault};
 ghost use Rattle.yf_block.specs.NodeGiven.{Indentation};
 ghost use Rattle.yf_block.specs.NodeReaders.{ReadsBlockNode, ScansBlockNode};
 
-use crate::nodes::{Found, Outcome, block_node_in, new_part};
+use crate::nodes::{Found, Outcome, block_node_in};
 use std::alloc::{AllocError, Global};
 use yf_chars::context::Ctx;
 use yf_events::reading::DEPTH;
 use yf_flow::flow::{Answer, NodePart, Scanned, ScannedPart, first_escape};
+use yf_flow::nodes::new_part;
 use yf_lines::fault::Fault;
 use yf_lines::source_text::Src;
 

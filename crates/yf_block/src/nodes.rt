@@ -21,10 +21,8 @@ use smallvec::SmallVec;
 use std::alloc::{AllocError, Global};
 use std::mem;
 use yf_chars::context::Ctx;
-use yf_events::comments::Comments;
-use yf_events::events::Events;
 use yf_events::part::Part;
-use yf_events::row::Row;
+use yf_flow::nodes::new_part;
 use yf_lines::basic::is_line_start;
 
 /// A block node that was found.
@@ -190,17 +188,6 @@ fn run_from<'a>(scope: Scope<'a>, root: Root, part: &mut Part<'a>) -> Result<Sto
         halt: reader.progress.halt,
         floor: reader.progress.floor,
     })
-}
-
-/// A part with nothing in it.
-pub(crate) fn new_part<'a>(alloc: Global) -> Part<'a>
-    ensures { result ≡ record { events = []; comments = []; escapes = [] } }
-{
-    Part {
-        events: Events::new(alloc),
-        comments: Comments::new(alloc),
-        escapes: Row::new(alloc),
-    }
 }
 
 impl<'a> Reader<'a> {

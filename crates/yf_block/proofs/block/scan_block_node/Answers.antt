@@ -10,9 +10,9 @@ pub returns-in-Ok-Found-clause-reads : goal.returns-in-Ok-Found-clause-reads
 returns-in-Ok-Found-clause-reads c = λ b i l.
     let f = rw (c.text.ensures, to_z-of_z c.ranges.n, c.in-Ok-Found.field-0-is) at c.in-Ok-Found.ensures.tied in
     let place = rw (c.text.ensures, c.in-Ok-Found.field-0-is) at c.in-Ok-Found.ensures.place in
-    let events = ap (λ (z : Part). z.events) c.new_part-part.ensures in
-    let comments = ap (λ (z : Part). z.comments) c.new_part-part.ensures in
-    let escapes = ap (λ (z : Part). z.escapes) c.new_part-part.ensures in
+    let events = c.new_part-part.ensures.events in
+    let comments = c.new_part-part.ensures.comments in
+    let escapes = c.new_part-part.ensures.escapes in
     record {
       chosen = node_alone events comments escapes ((f b i l).alone events comments escapes);
       escape = c.first_escape-escape.ensures;
@@ -34,4 +34,4 @@ returns-clause-reads c = λ b i l. for_memory
 
 pub block_node_in-requires-clause-escapes : goal.block_node_in-requires-clause-escapes
 block_node_in-requires-clause-escapes c =
-    All-same (IsCharBoundary c.text.result.now) _ _ (ap (λ (z : Part). z.escapes) c.new_part-part.ensures) (All-nil (IsCharBoundary c.text.result.now))
+    All-same (IsCharBoundary c.text.result.now) _ _ c.new_part-part.ensures.escapes (All-nil (IsCharBoundary c.text.result.now))

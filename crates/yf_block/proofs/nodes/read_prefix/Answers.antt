@@ -22,9 +22,9 @@ returns-clause-tied c = λ n ctx j r h.
     let same = c.range.ensures.value ∙ prefix_of c.args.scope.text.now c.args.end in
     let text = prefix_text r.text.utf8 r.block c.args.root.least r.least h same r.text.size in
     let run = c.in_ok-stopped.ensures.tied n ctx j (record { text = text; block = r.block; least = r.least; narrow = r.narrow; out = r.out }) in
-    given_after (ap (λ (z : Part). z.events) c.new_part-read.ensures) (ap (λ (z : Part). z.comments) c.new_part-read.ensures) (ap (λ (z : Part). z.escapes) c.new_part-read.ensures) c.in_ok-append.ensures c.in_ok-append-2.ensures c.in_ok-append-3.ensures
+    given_after c.new_part-read.ensures.events c.new_part-read.ensures.comments c.new_part-read.ensures.escapes c.in_ok-append.ensures c.in_ok-append-2.ensures c.in_ok-append-3.ensures
     (prefix_given r.text.utf8 r.block c.args.root.least r.least h same c.if-not-ends_whole.ensures run)
 
 pub run_from-requires-clause-escapes : goal.run_from-requires-clause-escapes
 run_from-requires-clause-escapes c =
-    All-same (IsCharBoundary c.range.result.now) _ _ (ap (λ (z : Part). z.escapes) c.new_part-read.ensures) (All-nil (IsCharBoundary c.range.result.now))
+    All-same (IsCharBoundary c.range.result.now) _ _ c.new_part-read.ensures.escapes (All-nil (IsCharBoundary c.range.result.now))
