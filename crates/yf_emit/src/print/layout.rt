@@ -84,28 +84,38 @@ impl Printer {
     }
 
     /// Prints the node that the event begins, or begins it where it is a block collection.
-    fn node(&mut self, page: &Page, node: &Node) -> Result<(), AllocError>
-        requires { node.now.i < length page.now.reading.now.events }
-        ensures { OnOk result (state_of self.new ≡ Printing.node (work_on page.now) node.now.i node.now.measure.now node.now.form.now
-            (view_value node.now.view.now) (state_of self.old)) }
+    fn node(&mut self, page: &Page, i: usize, view: &View) -> Result<(), AllocError>
+        requires { i < length page.now.reading.now.events }
+        ensures { OnOk result (state_of self.new ≡ Printing.node (work_on page.now) i (get_or page.now.plan.now.measures i no_measure)
+            (get_or page.now.plan.now.forms i no_form) (view_value view.now) (state_of self.old)) }
     {
+        let measure = page.plan.measures.at(i);
+        let form = page.plan.forms.at(i);
+        let node = Node {
+            i,
+            view,
+            measure: &measure,
+            form: &form,
+        };
         let spot = next_spot(
             &mut self.output,
             &mut self.levels,
             page,
             node.form,
-            node.view.entry,
+            view.entry,
         )?;
-        match &node.view.event {
-            Event::SeqStart { props, .. } => self.collection(
+        match &view.event {
+            Event::SeqStart { props, .. } => {
+                self.collection(page, &node, spot, props, Awaited::Item)
+            }
+            Event::MapStart { props, .. } => self.collection(
                 page,
-                node,
+                &node,
                 spot,
                 props,
-                Awaited::Item,
+                Awaited::Key,
             ),
-            Event::MapStart { props, .. } => self.collection(page, node, spot, props, Awaited::Key),
-            _ => self.leaf(page, node, spot),
+            _ => self.leaf(page, &node, spot),
         }
     }
 
@@ -123,14 +133,6 @@ impl Printer {
         requires { i < length page.now.reading.now.events }
         ensures { OnOk result (state_of self.new ≡ Printing.looked (work_on page.now) i (view_value view.now) (state_of self.old)) }
     {
-        let measure = page.plan.measures.at(i);
-        let form = page.plan.forms.at(i);
-        let node = Node {
-            i,
-            view,
-            measure: &measure,
-            form: &form,
-        };
         match &view.event {
             Event::StreamStart => Ok(()),
             Event::StreamEnd => Ok(()),
@@ -144,10 +146,10 @@ impl Printer {
                 let _ = self.levels.pop();
                 Ok(())
             }
-            Event::Scalar { .. } => self.node(page, &node),
-            Event::Alias { .. } => self.node(page, &node),
-            Event::SeqStart { .. } => self.node(page, &node),
-            Event::MapStart { .. } => self.node(page, &node),
+            Event::Scalar { .. } => self.node(page, i, view),
+            Event::Alias { .. } => self.node(page, i, view),
+            Event::SeqStart { .. } => self.node(page, i, view),
+            Event::MapStart { .. } => self.node(page, i, view),
         }
     }
 
