@@ -88,7 +88,7 @@ struct Stopped {
 ///
 /// # Errors
 ///
-/// `AllocError` where a growth of memory was refused; what was read until then may be in the part.
+/// `AllocError` where a growth of memory was refused; what was in the part before may then be gone.
 pub fn block_node_in<'a>(
     alloc: Global,
     text: &'a str,
