@@ -100,6 +100,7 @@ impl<'a> Reader<'a> {
     }
 
     /// The entry of a sequence whose `-` stands there.
+    #[inline(always)]
     pub(crate) fn take_item(&mut self, scope: Scope<'a>, slot: Slot) -> Result<Step, AllocError>
         requires standing { Standing scope.text.now slot.at self.old }
         requires after { IsCharBoundary scope.text.now (slot.at + 1) }

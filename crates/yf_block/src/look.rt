@@ -110,6 +110,7 @@ pub(crate) fn line_ends(text: &str, at: usize, after_white: bool) -> bool
 }
 
 /// Whether no line of a node begins there: at the end of the text, a byte order mark or a document marker.
+#[inline(always)]
 pub fn node_ends(text: &str, at: usize) -> bool
     ensures { MatchBool result (LinesEnd text.now at) (LinesEnd text.now at → ⊥) }
 {
