@@ -9,3 +9,4 @@ pub mod ChainLemmas
 -- escapes: `read_escape` and `push_escaped`, and that what is spelled is read again
 pub mod EscapeLemmas
 pub mod SpelledLemmas
+pub mod CommonLemmas

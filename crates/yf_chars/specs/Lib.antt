@@ -1,5 +1,6 @@
 pub mod Chain
 pub mod Class
+pub mod Common
 pub mod Escape
 pub mod Spelled
 pub mod Text

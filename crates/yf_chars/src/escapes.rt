@@ -1,8 +1,9 @@
 //! Escapes of double-quoted scalars (YAML 1.2.2, section 5.7), read and written.
-ghost use Rattle.std.specs.Prelude.{◌≡◌, ◌+◌, ◌<◌, ◌≤◌, ◌++◌, ◌∷◌, [], ℕ, IfSome, OnSome, MatchOption, is_ok, if◌then◌else◌, length, encode_utf8_all};
+ghost use Rattle.std.specs.Prelude.{◌≡◌, ◌+◌, ◌<◌, ◌≤◌, ◌++◌, ◌∷◌, [], ℕ, IfSome, OnSome, MatchOption, is_ok, true, if◌then◌else◌, length, encode_utf8_all};
 ghost use Rattle.std.specs.String.{string_bytes, string_len, string_capacity};
 ghost use Rattle.std.specs.Str.{IsCharBoundary};
 ghost use Rattle.yf_chars.specs.Chain.{Stuck, Chosen};
+ghost use Rattle.yf_chars.specs.Common.{AreCommon, is_common};
 ghost use Rattle.yf_chars.specs.Escape as Escapes;
 ghost use Rattle.yf_chars.specs.Spelled.{ReadsBack};
 
@@ -273,6 +274,31 @@ fn upper_digit(digit: u32) -> char
         return char::from(b'0' + digit as u8);
     }
     char::from(b'A' + (digit - 10) as u8)
+}
+
+// Whether it is an ASCII character that is spelled by itself, as most are. Lower-case letters take two tests.
+#[inline(always)]
+#[tactic(auto, unfolding(crate::specs::Common::is_common, crate::specs::Class::is_between))]
+fn is_common(byte: u8) -> bool
+    ensures { result ≡ is_common byte }
+{
+    if byte < b']' {
+        return matches!(byte, b' ' | b'!' | b'#'..=b'[');
+    }
+    byte <= b'~'
+}
+
+/// Whether it is told that each character is an ASCII one that is spelled by itself, so that the text stands in double quotes as it is.
+pub fn are_common(text: &str) -> bool
+    ensures { result ≡ true → AreCommon text.now }
+{
+    let bytes = text.as_bytes();
+    for i in 0..bytes.len() {
+        if !is_common(bytes[i]) {
+            return false;
+        }
+    }
+    true
 }
 
 /// Whether a character that has no letter is spelled by two digits.

@@ -11,8 +11,6 @@ use lib.Utf8.{scalar, scalars, encodes, low_scalar}
 use Rattle.yf_chars.specs.Escape.{spelled, spelled_long, short_name, is_by_two, is_by_four, two_digits, upper_digit}
 use Rattle.yf_chars.proofs.EscapeLemmas.{upper_below, by_two_below, by_four_below, spelled_two, spelled_four, spelled_self, spelled_letter, spelled_none}
 use Rattle.yf_quoted.specs.Written.{twice, single_bytes, double_bytes}
-use Rattle.yf_chars.specs.Class.{is_between}
-use Rattle.yf_emit.specs.CommonChars.{is_common}
 use Rattle.yf_emit.specs.Measures.{up_to_greatest, joined_width}
 use Rattle.yf_emit.specs.OneLine.{width, spaced}
 
@@ -208,18 +206,3 @@ by_four c n e f = ap length (not_by_letter c n ∙ spelled_four c e f)
 
 pub by_itself : (c : ℕ) → is_some (short_name c) ≡ false → is_by_two c ≡ false → is_by_four c ≡ false → length (spelled c) ≡ 1
 by_itself c n e f = ap length (not_by_letter c n ∙ spelled_self c e f)
-
-common_no_letter : (c : ℕ) → is_common c ≡ true → is_some (short_name c) ≡ false
-unfolding is_common is_between short_name
-common_no_letter c e = grind (arith, nat_tests)
-
-common_not_by_two : (c : ℕ) → is_common c ≡ true → is_by_two c ≡ false
-unfolding is_common is_between is_by_two
-common_not_by_two c e = grind (arith, nat_tests)
-
-common_not_by_four : (c : ℕ) → is_common c ≡ true → is_by_four c ≡ false
-unfolding is_common is_between is_by_four
-common_not_by_four c e = grind (arith, nat_tests)
-
-pub common_by_itself : (c : ℕ) → is_common c ≡ true → length (spelled c) ≡ 1
-common_by_itself c e = by_itself c (common_no_letter c e) (common_not_by_two c e) (common_not_by_four c e)

@@ -3,7 +3,6 @@ pub mod Begins
 pub mod BlockLines
 pub mod BlockValues
 pub mod Carried
-pub mod CommonChars
 pub mod ContentLaws
 pub mod ContentStart
 pub mod Deciding

@@ -1,12 +1,13 @@
 //! Writes quoted scalars on one line (YAML 1.2.2, sections 7.3.1 and 7.3.2).
-ghost use Rattle.std.specs.Prelude.{◌≡◌, ◌++◌, ◌∷◌, [], IfErr, OnErr, OnOk, chars, encode_utf8_all};
+ghost use Rattle.std.specs.Prelude.{◌≡◌, ◌++◌, ◌∷◌, [], IfErr, OnErr, OnOk, chars, encode_utf8_all, flat_map};
 ghost use Rattle.std.specs.String.{string_bytes};
+ghost use Rattle.yf_chars.specs.Escape.{spelled};
 ghost use Rattle.yf_quoted.specs.Written.{DoubleBack, Grown, SingleBack, all_nb, double_bytes, quotes_for, single_bytes, twice};
 
 use std::alloc::AllocError;
 use yf_chars::classes::is_nb_char;
 use yf_chars::error::NoMemory;
-use yf_chars::escapes::push_escaped;
+use yf_chars::escapes::{are_common, push_escaped};
 use yf_lines::fault::Fault;
 use yf_lines::quotes::Quotes;
 
@@ -63,8 +64,8 @@ pub fn write_single(out: &mut String, text: &str) -> Result<(), Fault>
     }
 }
 
-// Appends the text in single quotes, or a part of that.
-fn push_single(out: &mut String, text: &str) -> Result<(), AllocError>
+/// Appends the text in single quotes, or a part of that where memory is refused.
+pub fn push_single(out: &mut String, text: &str) -> Result<(), AllocError>
     ensures written { OnOk result (string_bytes out.new ≡ string_bytes out.old ++ single_bytes (chars text.now)) }
     ensures grown { Grown (string_bytes out.old) (string_bytes out.new) }
 {
@@ -111,15 +112,28 @@ pub fn write_double(out: &mut String, text: &str) -> Result<(), Fault>
     }
 }
 
-// Appends the text in double quotes, or a part of that.
-fn push_double(out: &mut String, text: &str) -> Result<(), NoMemory>
+/// Appends the text in double quotes, or a part of that where memory is refused.
+pub fn push_double(out: &mut String, text: &str) -> Result<(), NoMemory>
     ensures written { OnOk result (string_bytes out.new ≡ string_bytes out.old ++ double_bytes (chars text.now)) }
     ensures grown { Grown (string_bytes out.old) (string_bytes out.new) }
 {
     out.push('"')?;
+    push_spelled(out, text)?;
+    out.push('"')?;
+    Ok(())
+}
+
+// Appends the text as it stands between double quotes, or a part of that. Most texts stand there as they are.
+fn push_spelled(out: &mut String, text: &str) -> Result<(), NoMemory>
+    ensures written { OnOk result (string_bytes out.new ≡ string_bytes out.old ++ encode_utf8_all (flat_map spelled (chars text.now))) }
+    ensures grown { Grown (string_bytes out.old) (string_bytes out.new) }
+{
+    if are_common(text) {
+        out.push_str(text)?;
+        return Ok(());
+    }
     for c in text.chars() {
         push_escaped(out, c)?;
     }
-    out.push('"')?;
     Ok(())
 }

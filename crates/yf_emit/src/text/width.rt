@@ -3,14 +3,13 @@ ghost use Rattle.std.specs.Prelude.{◌≡◌, chars, is_some, length, Some};
 ghost use Rattle.std.specs.Str.{IsUtf8};
 ghost use Rattle.yf_chars.specs.Escape as Escape;
 ghost use Rattle.yf_chars.specs.Escape.{spelled};
-ghost use Rattle.yf_emit.specs.CommonChars.{is_common};
 ghost use Rattle.yf_emit.specs.Measures as Measures;
 ghost use Rattle.yf_emit.specs.Measures.{up_to_greatest};
 ghost use Rattle.yf_emit.specs.OneLine.{anchor_text, props_text, tag_text, width};
 ghost use Rattle.yf_props.specs.Props.{name_value, optional_tag_value, props_value, tag_value};
 ghost use Rattle.yf_quoted.specs.Written.{double_bytes, single_bytes, twice};
 
-use yf_chars::escapes::{is_by_four, is_by_two};
+use yf_chars::escapes::{are_common, is_by_four, is_by_two};
 use yf_events::event::ScalarStyle;
 use yf_props::props::{Props, Tag};
 
@@ -40,24 +39,10 @@ fn is_by_letter(c: char) -> bool
     matches!(c, '"' | '\\' | '\n' | '\t' | '\r' | '\0')
 }
 
-/// Whether it is an ASCII character that is spelled by itself, as most are. Lower-case letters take two tests.
-#[tactic(auto, unfolding(crate::specs::CommonChars::is_common, yf_chars::specs::Class::is_between))]
-fn is_common(c: char) -> bool
-    ensures { result ≡ is_common c }
-{
-    if c < ']' {
-        return matches!(c, ' ' | '!' | '#'..='[');
-    }
-    c <= '~'
-}
-
 /// How many characters the spelling of one has in double quotes.
 fn spelled_width(c: char) -> usize
     ensures { result ≡ length (spelled c) }
 {
-    if is_common(c) {
-        return 1;
-    }
     if is_by_letter(c) {
         return 2;
     }
@@ -83,6 +68,9 @@ fn twice_width(c: char) -> usize
 fn double_width(text: &str) -> usize
     ensures { result ≡ up_to_greatest (width (double_bytes (chars text.now))) }
 {
+    if are_common(text) {
+        return byte_count(text).saturating_add(2);
+    }
     let mut width = 2usize;
     for c in text.chars() {
         width = width.saturating_add(spelled_width(c));

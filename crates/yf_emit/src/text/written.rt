@@ -1,45 +1,15 @@
 //! The text of a node that is written on one line.
-ghost use Rattle.std.specs.Prelude.{◌≡◌, ◌++◌, chars, encode_utf8_all, not, OnOk, Some};
+ghost use Rattle.std.specs.Prelude.{◌≡◌, ◌++◌, not, OnOk, Some};
 ghost use Rattle.std.specs.String.{string_bytes};
 ghost use Rattle.yf_props.specs.Props.{optional_tag_value, props_value, tag_value};
-ghost use Rattle.yf_quoted.specs.Written.{double_bytes, single_bytes, twice};
 ghost use Rattle.yf_emit.specs.OneLine.{props_text, scalar_text, space_before, space_behind, tag_text};
 ghost use Rattle.yf_emit.specs.Rows.{is_empty_text};
 
 use std::alloc::AllocError;
+use yf_chars::error::NoMemory;
 use yf_events::event::ScalarStyle;
 use yf_props::props::{Props, Tag};
-use yf_quoted::write::write_double;
-
-fn push_double(out: &mut String, text: &str) -> Result<(), AllocError>
-    ensures { OnOk result (string_bytes out.new ≡ string_bytes out.old ++ double_bytes (chars text.now)) }
-{
-    match write_double(out, text) {
-        Ok(()) => Ok(()),
-        Err(_) => Err(AllocError),
-    }
-}
-
-/// Appends a character, or two quotes for one.
-fn push_twice(out: &mut String, c: char) -> Result<(), AllocError>
-    ensures { OnOk result (string_bytes out.new ≡ string_bytes out.old ++ encode_utf8_all (twice c)) }
-{
-    if c == '\'' {
-        return out.push_str("''");
-    }
-    out.push(c)
-}
-
-fn push_single(out: &mut String, text: &str) -> Result<(), AllocError>
-    ensures { OnOk result (string_bytes out.new ≡ string_bytes out.old ++ single_bytes (chars text.now)) }
-{
-    out.push('\'')?;
-    for c in text.chars() {
-        push_twice(out, c)?;
-    }
-    out.push('\'')?;
-    Ok(())
-}
+use yf_quoted::write::{push_double, push_single};
 
 /// Appends the text of a scalar in a style on one line; nothing of a block style.
 pub fn push_scalar(out: &mut String, style: ScalarStyle, text: &str) -> Result<(), AllocError>
@@ -48,7 +18,10 @@ pub fn push_scalar(out: &mut String, style: ScalarStyle, text: &str) -> Result<(
     match style {
         ScalarStyle::Plain => out.push_str(text),
         ScalarStyle::Single => push_single(out, text),
-        ScalarStyle::Double => push_double(out, text),
+        ScalarStyle::Double => match push_double(out, text) {
+            Ok(()) => Ok(()),
+            Err(NoMemory) => Err(AllocError),
+        },
         ScalarStyle::Literal | ScalarStyle::Folded => Ok(()),
     }
 }

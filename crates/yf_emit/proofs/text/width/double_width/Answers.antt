@@ -1,10 +1,17 @@
-use Rattle.std.proofs.Common.{ap, sym, ◌∙◌, ◌+◌, length, flat_map, map-id}
+use Rattle.std.proofs.Common.{◌≡◌, ap, sym, ◌∙◌, ◌+◌, arith, chars, length, flat_map, map-id}
 use Rattle.std.proofs.lemmas.Iterator.{YieldsList-from_chars}
 use Rattle.std.proofs.lemmas.Iterator.Consumers.{YieldsList-end}
 use Rattle.yf_chars.specs.Escape.{spelled}
 use Rattle.yf_emit.specs.Measures.{up_to_greatest}
 use Rattle.yf_emit.proofs.WidthLemmas.{one_counted, double_width}
+use Rattle.yf_chars.proofs.CommonLemmas.{common_spelling}
 use Rattle.yf_emit.proofs.text.width.double_width.Goals as goal
+
+pub returns-then-are_common : goal.returns-then-are_common
+returns-then-are_common c =
+    let spelling = common_spelling c.args.text.now (c.are_common.ensures c.if-are_common.true) in
+    let count : length (flat_map spelled (chars c.args.text.now)) ≡ length c.args.text.now = ap length spelling in
+    c.saturating_add.ensures ∙ ap (λ n. up_to_greatest n) (omega (arith, c.byte_count.ensures, count, double_width c.args.text.now c.utf8.text))
 
 pub loop-c-preserved : goal.loop-c-preserved
 loop-c-preserved c =

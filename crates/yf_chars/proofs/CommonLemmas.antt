@@ -1,0 +1,49 @@
+-- Texts of characters that are spelled by themselves stand in double quotes as they are.
+use Rattle.std.proofs.Common.{◌≡◌, ℕ, zero, suc, ◌<◌, true, false, true≢false, List, [], ◌∷◌, ◌++◌, Option, Some, None, refl, ap, ◌∙◌, arith, length, flat_map, encode_utf8_all}
+use Rattle.std.specs.Prelude.{is_some}
+use Rattle.std.specs.Str.{IsAscii, chars}
+use Rattle.std.proofs.lemmas.Bool.Decides.{nat_tests}
+use Rattle.std.proofs.lemmas.Str.{chars-IsAscii, encodes-IsAscii}
+use Rattle.yf_chars.specs.Class.{is_between}
+use Rattle.yf_chars.specs.Common.{AreCommon, is_common}
+use Rattle.yf_chars.specs.Escape.{is_by_two, is_by_four, short_name, spelled}
+use Rattle.yf_chars.proofs.EscapeLemmas.{spelled_none, spelled_self}
+
+common_below : (c : ℕ) → is_common c ≡ true → c < 128
+unfolding is_common is_between
+common_below c e = grind (arith, nat_tests)
+
+common_no_letter : (c : ℕ) → is_common c ≡ true → is_some (short_name c) ≡ false
+unfolding is_common is_between short_name
+common_no_letter c e = grind (arith, nat_tests)
+
+common_not_by_two : (c : ℕ) → is_common c ≡ true → is_by_two c ≡ false
+unfolding is_common is_between is_by_two
+common_not_by_two c e = grind (arith, nat_tests)
+
+common_not_by_four : (c : ℕ) → is_common c ≡ true → is_by_four c ≡ false
+unfolding is_common is_between is_by_four
+common_not_by_four c e = grind (arith, nat_tests)
+
+none_there : (o : Option ℕ) → is_some o ≡ false → o ≡ None
+none_there None e = refl
+none_there (Some x) e = absurd (true≢false e)
+
+common_spelled : (c : ℕ) → is_common c ≡ true → spelled c ≡ c ∷ []
+common_spelled c e = spelled_none c (none_there (short_name c) (common_no_letter c e)) ∙ spelled_self c (common_not_by_two c e) (common_not_by_four c e)
+
+common_ascii : (t : List ℕ) → AreCommon t → IsAscii t
+common_ascii [] a i = omega arith
+common_ascii (b ∷ t) a zero = common_below b (a 0 (omega arith))
+common_ascii (b ∷ t) a (suc i) = common_ascii t (λ k l. a (suc k) (omega (arith, l))) i
+
+common_each : (t : List ℕ) → AreCommon t → flat_map spelled t ≡ t
+common_each [] a = refl
+common_each (b ∷ t) a =
+    ap (λ w. w ++ flat_map spelled t) (common_spelled b (a 0 (omega arith))) ∙ ap (λ w. b ∷ w) (common_each t (λ k l. a (suc k) (omega (arith, l))))
+
+pub common_spelling : (t : List ℕ) → AreCommon t → flat_map spelled (chars t) ≡ t
+common_spelling t a = ap (λ w. flat_map spelled w) (chars-IsAscii t (common_ascii t a)) ∙ common_each t a
+
+pub common_text : (t : List ℕ) → AreCommon t → encode_utf8_all (flat_map spelled (chars t)) ≡ t
+common_text t a = ap encode_utf8_all (common_spelling t a) ∙ encodes-IsAscii t (common_ascii t a)

@@ -1,6 +1,0 @@
--- ASCII characters that are spelled by themselves in double quotes: all that are printed, but " and \
-use Rattle.std.specs.Prelude.{ℕ, Bool, ◌||◌}
-use Rattle.yf_chars.specs.Class.{is_between}
-
-unfoldable pub is_common : ℕ → Bool
-is_common c = is_between 0x5D 0x7E c || is_between 0x23 0x5B c || is_between 0x20 0x21 c

@@ -1,0 +1,20 @@
+use Rattle.std.proofs.Common.{chars, sym, ◌∙◌, ap, ◌++◌, map-id, encode_utf8_all, flat_map}
+use Rattle.std.specs.String.{string_bytes}
+use Rattle.std.proofs.lemmas.Iterator.{YieldsList-from_chars}
+use Rattle.std.proofs.lemmas.Iterator.Consumers.{YieldsList-end}
+use Rattle.yf_chars.specs.Escape.{spelled}
+use Rattle.yf_chars.proofs.CommonLemmas.{common_text}
+use Rattle.yf_quoted.proofs.WriteLemmas.{one_written}
+use Rattle.yf_quoted.proofs.write.push_spelled.Goals as goal
+
+pub returns-then-are_common-clause-written : goal.returns-then-are_common-clause-written
+returns-then-are_common-clause-written c =
+    c.in_ok-push_str.ensures.bytes ∙ ap (λ w. string_bytes c.args.out.now ++ w) (sym (common_text c.args.text.now (c.are_common.ensures c.if-are_common.true)))
+
+pub loop-c-preserved : goal.loop-c-preserved
+loop-c-preserved c = one_written spelled (string_bytes c.args.out.now) c.loop-c.yielded c.in-Some.c c.loop-c.invariant c.in_ok-push_escaped.ensures.spelled
+
+pub returns-clause-written : goal.returns-clause-written
+returns-clause-written c =
+    let done = YieldsList-end (YieldsList-from_chars c.args.text.now c.utf8.text cc) c.loop-c.yielded _ c.loop-c.yielded_by _ _ c.in-None.is c.next.ensures.steps in
+    c.loop-c.invariant ∙ ap (λ w. string_bytes c.args.out.now ++ encode_utf8_all (flat_map spelled w)) (sym (map-id c.loop-c.yielded) ∙ done.0)
