@@ -23,7 +23,7 @@ import subprocess
 import sys
 import tempfile
 
-LIMIT = 400
+LIMIT = 150
 TOP = os.path.dirname(os.path.dirname(os.path.abspath(__file__)))
 
 ENTRY = '''service-%d:
@@ -99,7 +99,7 @@ def run(words, path, good):
         child = subprocess.Popen(words, stdin=source, stdout=subprocess.DEVNULL)
         resource.prlimit(child.pid, resource.RLIMIT_CPU, (LIMIT, LIMIT))
         _, status, usage = os.wait4(child.pid, 0)
-    if usage.ru_utime + usage.ru_stime > LIMIT - 2:
+    if os.WIFSIGNALED(status) and usage.ru_utime + usage.ru_stime > 0.9 * LIMIT:
         return None, usage.ru_maxrss * 1024
     if os.waitstatus_to_exitcode(status) not in good:
         sys.exit('%s: status %d' % (' '.join(words), status))
