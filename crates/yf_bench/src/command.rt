@@ -1,0 +1,49 @@
+//! The words of the command line.
+
+/// What is done with each stream.
+#[derive(Clone, Copy)]
+pub enum Verb {
+    Events,
+    Check,
+    Fmt,
+}
+
+/// What the words ask for.
+#[derive(Clone, Copy)]
+pub struct Command {
+    pub verb: Verb,
+    /// How many streams.
+    pub count: u32,
+    /// How many pieces the largest stream has, at most.
+    pub pieces: u32,
+    pub seed: u64,
+}
+
+impl Command {
+    /// How many pieces the stream with that index has: every sixth one is largest, the others have a half, a quarter and so on.
+    pub fn size_of(&self, index: u32) -> u32 {
+        (self.pieces >> (index % 6)).max(1)
+    }
+}
+
+fn read_verb(word: &str) -> Option<Verb> {
+    match word {
+        "events" => Some(Verb::Events),
+        "check" => Some(Verb::Check),
+        "fmt" => Some(Verb::Fmt),
+        _ => None,
+    }
+}
+
+/// The command of four words, or none.
+pub fn read_command(words: &[String]) -> Option<Command> {
+    let [verb, count, pieces, seed] = words else {
+        return None;
+    };
+    Some(Command {
+        verb: read_verb(verb.as_str())?,
+        count: count.as_str().parse::<u32>().ok()?,
+        pieces: pieces.as_str().parse::<u32>().ok()?,
+        seed: seed.as_str().parse::<u64>().ok()?,
+    })
+}
