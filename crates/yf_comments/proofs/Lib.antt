@@ -6,6 +6,8 @@ pub mod LineEndLemmas
 pub mod LineOrder
 -- `separate`, `separate_lines`, `flow_line_prefix` and `read_separation`
 pub mod SeparateLemmas
+-- the frequent cases of `next_row`, `line_end` and `separate`
+mod SolidLemmas
 -- `is_blank_before`, and that its answer is known of every text (`ReadingOf` of yf_stream)
 pub mod BlankLemmas
 pub mod NoteKnown

@@ -15,7 +15,7 @@ use crate::comments::{Comments, Separation};
 use std::alloc::{AllocError, Global};
 use yf_chars::runs::{NbChars, skip_while};
 use yf_chars::text::stands;
-use yf_lines::basic::{is_line_start, line_break, skip_whites};
+use yf_lines::basic::{is_line_start, line_break, skip_whites, white_stands};
 
 // A comment that was read, and the offset after it.
 #[derive(Clone, Copy)]
@@ -62,6 +62,31 @@ fn break_or_end(s: &str, at: usize) -> Option<usize>
         Some(end) => Some(end),
         None => None,
     }
+}
+
+// Whether a character stands there that begins neither white space nor a comment nor the end of a line.
+#[inline(always)]
+pub(crate) fn solid_stands(s: &str, at: usize) -> bool
+    ensures white { result ≡ true → is_white (code s.now at) ≡ false }
+    ensures sign { result ≡ true → code s.now at ≢ NUMBER_SIGN }
+    ensures rest { result ≡ true → Nowhere (BreakOrEnd s.now at) }
+{
+    if at >= s.len() {
+        return false;
+    }
+    if white_stands(s, at) {
+        return false;
+    }
+    if stands(s, at, b'#') {
+        return false;
+    }
+    if stands(s, at, b'\n') {
+        return false;
+    }
+    if stands(s, at, b'\r') {
+        return false;
+    }
+    true
 }
 
 // Reads what is left of a line after its white space: a comment, if there is one, and a break or the end of the text.
@@ -117,7 +142,35 @@ pub fn line_rest<'a>(s: &'a str, at: usize, starts: bool) -> Option<Row<'a>>
 }
 
 // Reads what is left of a line, and keeps its comment; the offset after it, or `None`, with no comment kept.
+//
+// Most lines have no comment: then the white space is all that is passed before the break.
+#[inline(always)]
 pub(crate) fn next_row<'a>(
+    s: &'a str,
+    at: usize,
+    starts: bool,
+    comments: &mut Comments<'a>,
+) -> Result<Option<usize>, AllocError>
+    requires boundary { IsCharBoundary s.now at }
+    requires starts { MatchBool starts (LineStart s.now at) (LineStart s.now at → ⊥) }
+    ensures reads { IfOk result (λ o. MatchOption o (Stuck (LineRest s.now at))
+        (λ e. (x : List CommentValue) × LineRest s.now at e x × (comments.new ≡ comments.old ++ x))) }
+    ensures unchanged { IfOk result (λ o. IfNone o (comments.new ≡ comments.old)) }
+    ensures boundary { IfOk result (λ o. IfSome o (λ e. IsCharBoundary s.now e)) }
+{
+    let place = skip_whites(s, at);
+    if stands(s, place, b'#') {
+        return comment_row(s, at, starts, comments);
+    }
+    match break_or_end(s, place) {
+        Some(end) => Ok(Some(end)),
+        None => Ok(None),
+    }
+}
+
+// The same, where there may be a comment.
+#[inline(never)]
+fn comment_row<'a>(
     s: &'a str,
     at: usize,
     starts: bool,
@@ -174,6 +227,29 @@ fn comment_lines<'a>(
 /// What is left of the line may hold a comment; at the start of a line there need be nothing at all.
 /// `None` where neither the rest of a line nor the start of one is there, as between the CR and the LF of one break.
 pub fn line_end<'a>(
+    alloc: Global,
+    s: &'a str,
+    at: usize,
+) -> Result<Option<Separation<'a>>, AllocError>
+    requires { IsCharBoundary s.now at }
+    ensures reads { IfOk result (λ o. MatchOption o (Stuck (LineEnd s.now at)) (λ p. Chosen (LineEnd s.now at) p.end p.comments)) }
+    ensures boundary { IfOk result (λ o. IfSome o (λ p. IsCharBoundary s.now p.end)) }
+    ensures order { IfOk result (λ o. IfSome o (λ p. at ≤ p.end)) }
+{
+    let place = skip_whites(s, at);
+    match line_break(s, place) {
+        Some(next) => {
+            let mut comments = Comments::new(alloc);
+            let end = comment_lines(s, next, &mut comments)?;
+            Ok(Some(Separation { comments, end }))
+        }
+        None => line_end_far(alloc, s, at),
+    }
+}
+
+// The same, where more than white space may stand before the break.
+#[inline(never)]
+fn line_end_far<'a>(
     alloc: Global,
     s: &'a str,
     at: usize,

@@ -9,7 +9,7 @@ ghost use Rattle.yf_comments.specs.Comment.{CommentValue};
 ghost use Rattle.yf_comments.specs.Comments.{Row, Separate, SeparateLines, Upto};
 
 use crate::comments::{Comments, Separation};
-use crate::lines::next_row;
+use crate::lines::{next_row, solid_stands};
 use std::alloc::{AllocError, Global};
 use yf_chars::context::Ctx;
 use yf_lines::basic::{is_line_start, skip_spaces, skip_whites};
@@ -22,6 +22,7 @@ struct Reach {
 }
 
 /// Reads white space, or nothing at the start of a line (s-separate-in-line, production 66): as many as there are.
+#[inline(always)]
 pub fn separate_in_line(s: &str, at: usize) -> Option<usize>
     requires { IsCharBoundary s.now at }
     ensures reads { MatchOption result (Nowhere (SeparateInLine s.now at)) (λ e. Farthest (SeparateInLine s.now at) e) }
@@ -153,7 +154,41 @@ pub fn separate_lines<'a>(
 /// Reads a separation (s-separate(n,c), production 80): the longest, with its comments.
 ///
 /// In the two key contexts, and where `n` is negative, it is white space alone, or nothing at the start of a line.
+#[inline(always)]
 pub fn separate<'a>(
+    alloc: Global,
+    s: &'a str,
+    at: usize,
+    n: i32,
+    ctx: Ctx,
+) -> Result<Option<Separation<'a>>, AllocError>
+    requires { IsCharBoundary s.now at }
+    ensures reads { IfOk result (λ o. MatchOption o (Stuck (Separate s.now n ctx at))
+        (λ p. Chosen (Separate s.now n ctx at) p.end p.comments)) }
+    ensures boundary { IfOk result (λ o. IfSome o (λ p. IsCharBoundary s.now p.end)) }
+    ensures order { IfOk result (λ o. IfSome o (λ p. at ≤ p.end)) }
+{
+    match separate_in_line(s, at) {
+        Some(end) => {
+            if solid_stands(s, end) {
+                return Ok(Some(Separation {
+                    comments: Comments::new(alloc),
+                    end,
+                }));
+            }
+        }
+        None => {
+            if solid_stands(s, at) {
+                return Ok(None);
+            }
+        }
+    }
+    separate_far(alloc, s, at, n, ctx)
+}
+
+// The same, where the line may end, or a comment may stand there.
+#[inline(never)]
+fn separate_far<'a>(
     alloc: Global,
     s: &'a str,
     at: usize,

@@ -1,23 +1,18 @@
-use Rattle.std.proofs.Common.{◌∙◌}
-use Rattle.yf_comments.proofs.LineEndLemmas.{next_starts, line_end_from, line_end_start}
+use Rattle.std.proofs.Common.{[], sym, append-nil}
+use Rattle.yf_lines.specs.Basic.LineStart.{after_break}
+use Rattle.yf_comments.specs.Comments.BreakOrEnd.{by_break}
+use Rattle.yf_comments.proofs.LineEndLemmas.{line_end_from}
 use Rattle.yf_comments.proofs.LineOrder.{line_end_forward}
+use Rattle.yf_comments.proofs.SolidLemmas.{rest_bare}
 use Rattle.yf_comments.proofs.lines.line_end.Goals as goal
 
 pub comment_lines-requires-clause-starts : goal.comment_lines-requires-clause-starts
-comment_lines-requires-clause-starts c =
-    let f = rw c.in-Some.is at c.in_ok-next.ensures.reads in
-    next_starts f.1
+comment_lines-requires-clause-starts c = λ _. after_break c.in-Some.ensures.reads
 
-pub returns-in-Some-clause-reads : goal.returns-in-Some-clause-reads
-returns-in-Some-clause-reads c =
-    let f = rw c.in-Some.is at c.in_ok-next.ensures.reads in
-    line_end_from c.new-comments.ensures f c.in_ok-end-in-Some.ensures.reads c.in_ok-end-in-Some.ensures.all
+pub returns-in_ok-end-in-Some-clause-reads : goal.returns-in_ok-end-in-Some-clause-reads
+returns-in_ok-end-in-Some-clause-reads c =
+    let rest = rest_bare c.skip_whites-place.ensures.whites.1 (by_break c.in-Some.ensures.reads) in
+    line_end_from c.new-comments.ensures ([], rest, sym (append-nil _)) c.in_ok-end-in-Some.ensures.reads c.in_ok-end-in-Some.ensures.all
 
-pub returns-then-starts-clause-reads : goal.returns-then-starts-clause-reads
-returns-then-starts-clause-reads c =
-    let s = rw c.in-None.is at c.in_ok-next.ensures.reads in
-    let e = rw c.in-None.is at c.in_ok-next.ensures.unchanged in
-    line_end_start c.if-starts.ensures s (e ∙ c.new-comments.ensures)
-
-pub returns-in-Some-clause-order : goal.returns-in-Some-clause-order
-returns-in-Some-clause-order c = line_end_forward (returns-in-Some-clause-reads c).derived
+pub returns-in_ok-end-in-Some-clause-order : goal.returns-in_ok-end-in-Some-clause-order
+returns-in_ok-end-in-Some-clause-order c = line_end_forward (returns-in_ok-end-in-Some-clause-reads c).derived
