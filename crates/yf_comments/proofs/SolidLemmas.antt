@@ -1,5 +1,5 @@
 -- Where a line goes on with a character that begins neither white space nor a comment nor the end of the line.
-use Rattle.std.proofs.Common.{◌≡◌, ◌≢◌, ℕ, ℤ, ◌<◌, ◌≤◌, true, false, ◌⊎◌, inl, inr, ⊎_elim, List, [], length, subst, arith}
+use Rattle.std.proofs.Common.{◌≡◌, ◌≢◌, ℕ, ℤ, ◌<◌, ◌≤◌, true, false, ◌⊎◌, inl, inr, ⊎_elim, List, [], length, refl, subst, arith}
 use Rattle.std.proofs.lemmas.Bool.{cases_lt, cases_Bool}
 use Rattle.yf_chars.specs.declared.context.Ctx.{Ctx}
 use Rattle.yf_chars.specs.Text.{code}
@@ -11,11 +11,11 @@ use Rattle.yf_lines.specs.Basic.{is_key, SeparateInLine}
 use Rattle.yf_lines.specs.Basic.SeparateInLine.{by_whites}
 use Rattle.yf_lines.proofs.BasicLemmas.{break_char}
 use Rattle.yf_comments.specs.Comment.{CommentValue}
-use Rattle.yf_comments.specs.Comments.{BreakOrEnd, LineRest, Separate}
+use Rattle.yf_comments.specs.Comments.{BreakOrEnd, LineEnd, LineRest, Separate}
 use Rattle.yf_comments.specs.Comments.BreakOrEnd.{by_break, by_end}
 use Rattle.yf_comments.specs.Comments.LineRest.{nothing, whites}
 use Rattle.yf_comments.proofs.RowLemmas.{separate_whites, stuck_at_solid}
-use Rattle.yf_comments.proofs.LineEndLemmas.{row_stuck}
+use Rattle.yf_comments.proofs.LineEndLemmas.{kept_none, line_end_from, row_stuck}
 use Rattle.yf_comments.proofs.SeparateLemmas.{upto_first, stuck_first, lines_chosen, lines_stuck, alone_chosen, alone_stuck, node_chosen, node_stuck}
 
 module _ {t : List ℕ} where
@@ -34,6 +34,11 @@ module _ {t : List ℕ} where
   -- neither a break nor the end of the text
   pub no_end : {i : ℕ} → i < length t → code t i ≢ 10 → code t i ≢ 13 → Nowhere (BreakOrEnd t i)
   no_end l n m = record { none = λ j e. ends_with l n m e }
+
+  -- a line ends, and the next one goes on with such a character
+  pub ended_chosen : {i h e : ℕ} {w : List ℕ} → LineRest t i h [] → Many t is_white h e w → is_white (code t e) ≡ false → code t e ≢ 35
+      → Nowhere (BreakOrEnd t e) → Chosen (LineEnd t i) h []
+  ended_chosen {h = h} r m s n none = line_end_from refl ([], r, refl) (kept_none t h []) (row_stuck (stuck_at_solid m s n none))
 
 module _ {t : List ℕ} {n : ℤ} {c : Ctx} {i : ℕ} where
   -- white space alone, before such a character

@@ -226,6 +226,7 @@ fn comment_lines<'a>(
 ///
 /// What is left of the line may hold a comment; at the start of a line there need be nothing at all.
 /// `None` where neither the rest of a line nor the start of one is there, as between the CR and the LF of one break.
+#[inline(always)]
 pub fn line_end<'a>(
     alloc: Global,
     s: &'a str,
@@ -239,15 +240,20 @@ pub fn line_end<'a>(
     let place = skip_whites(s, at);
     match line_break(s, place) {
         Some(next) => {
-            let mut comments = Comments::new(alloc);
-            let end = comment_lines(s, next, &mut comments)?;
-            Ok(Some(Separation { comments, end }))
+            let first = skip_whites(s, next);
+            if solid_stands(s, first) {
+                return Ok(Some(Separation {
+                    comments: Comments::new(alloc),
+                    end: next,
+                }));
+            }
         }
-        None => line_end_far(alloc, s, at),
+        None => {}
     }
+    line_end_far(alloc, s, at)
 }
 
-// The same, where more than white space may stand before the break.
+// The same, where more than white space may stand before the break, or comment lines follow.
 #[inline(never)]
 fn line_end_far<'a>(
     alloc: Global,

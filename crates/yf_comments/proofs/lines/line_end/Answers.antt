@@ -1,18 +1,18 @@
-use Rattle.std.proofs.Common.{[], sym, append-nil}
-use Rattle.yf_lines.specs.Basic.LineStart.{after_break}
+use Rattle.std.proofs.Common.{[], sym, subst}
+use Rattle.yf_chars.specs.Chain.{Chosen}
+use Rattle.yf_comments.specs.Comments.{LineEnd}
 use Rattle.yf_comments.specs.Comments.BreakOrEnd.{by_break}
-use Rattle.yf_comments.proofs.LineEndLemmas.{line_end_from}
 use Rattle.yf_comments.proofs.LineOrder.{line_end_forward}
-use Rattle.yf_comments.proofs.SolidLemmas.{rest_bare}
+use Rattle.yf_comments.proofs.SolidLemmas.{rest_bare, ended_chosen}
 use Rattle.yf_comments.proofs.lines.line_end.Goals as goal
 
-pub comment_lines-requires-clause-starts : goal.comment_lines-requires-clause-starts
-comment_lines-requires-clause-starts c = λ _. after_break c.in-Some.ensures.reads
-
-pub returns-in_ok-end-in-Some-clause-reads : goal.returns-in_ok-end-in-Some-clause-reads
-returns-in_ok-end-in-Some-clause-reads c =
+pub returns-then-solid_stands-clause-reads : goal.returns-then-solid_stands-clause-reads
+returns-then-solid_stands-clause-reads c =
+    let solid = c.solid_stands.ensures in
+    let is = c.if-solid_stands.true in
     let rest = rest_bare c.skip_whites-place.ensures.whites.1 (by_break c.in-Some.ensures.reads) in
-    line_end_from c.new-comments.ensures ([], rest, sym (append-nil _)) c.in_ok-end-in-Some.ensures.reads c.in_ok-end-in-Some.ensures.all
+    subst (λ v. Chosen (LineEnd c.args.s.now c.args.at) c.in-Some.next v) (sym c.new.ensures)
+    (ended_chosen rest c.skip_whites-first.ensures.whites.1 (solid.white is) (solid.sign is) (solid.rest is))
 
-pub returns-in_ok-end-in-Some-clause-order : goal.returns-in_ok-end-in-Some-clause-order
-returns-in_ok-end-in-Some-clause-order c = line_end_forward (returns-in_ok-end-in-Some-clause-reads c).derived
+pub returns-then-solid_stands-clause-order : goal.returns-then-solid_stands-clause-order
+returns-then-solid_stands-clause-order c = line_end_forward (returns-then-solid_stands-clause-reads c).derived
