@@ -1,7 +1,7 @@
 //! Names of anchors and aliases (YAML 1.2.2, sections 6.9.2 and 7.1).
-ghost use Rattle.std.specs.Prelude.{◌≡◌, ◌+◌, ◌<◌, false, slice_range, IfSome, MatchOption};
+ghost use Rattle.std.specs.Prelude.{◌≡◌, ◌+◌, ◌<◌, ◌≤◌, ℕ, List, false, slice_range, IfSome, MatchOption};
 ghost use Rattle.std.specs.Str.{IsCharBoundary};
-ghost use Rattle.yf_chars.specs.Chain.{Chosen, Stuck};
+ghost use Rattle.yf_chars.specs.Chain.{Chosen, Many, Stuck};
 ghost use Rattle.yf_chars.specs.Class.{is_anchor_char};
 ghost use Rattle.yf_chars.specs.Text.{code};
 ghost use Rattle.yf_props.specs.Names.{AnchorChar, Run, Alias, Anchor};
@@ -9,8 +9,21 @@ ghost use Rattle.yf_props.specs.Names.{AnchorChar, Run, Alias, Anchor};
 use yf_chars::runs::{AnchorChars, skip_while};
 use yf_chars::text::stands;
 
+// The offset after all characters of a name that stand at the offset.
+#[inline(never)]
+fn name_end(s: &str, at: usize) -> usize
+    requires { IsCharBoundary s.now at }
+    ensures chars { (x : List ℕ) × Many s.now is_anchor_char at result x }
+    ensures all { is_anchor_char (code s.now result) ≡ false }
+    ensures boundary { IsCharBoundary s.now result }
+    ensures order { at ≤ result }
+{
+    skip_while::<AnchorChars>(s, at)
+}
+
 // Reads the name of an anchor or an alias (ns-anchor-name, production 103) after its sign, and gives it with the offset
 // after it.
+#[inline(always)]
 fn name_after<'a>(s: &'a str, at: usize, sign: u8) -> Option<(&'a str, usize)>
     requires { sign < 128 }
     ensures reads { MatchOption result (code s.now at ≡ sign → is_anchor_char (code s.now (at + 1)) ≡ false)
@@ -20,7 +33,7 @@ fn name_after<'a>(s: &'a str, at: usize, sign: u8) -> Option<(&'a str, usize)>
 {
     if stands(s, at, sign) {
         let start = at + 1;
-        let end = skip_while::<AnchorChars>(s, start);
+        let end = name_end(s, start);
         if end > start {
             return Some((&s[start..end], end));
         }
@@ -32,6 +45,7 @@ fn name_after<'a>(s: &'a str, at: usize, sign: u8) -> Option<(&'a str, usize)>
 /// Reads an alias (c-ns-alias-node, production 104): its name, without the `*`, and the byte offset after it.
 ///
 /// The name is as long as its characters go; `None` where no alias begins at the offset.
+#[inline(always)]
 pub fn alias_node<'a>(s: &'a str, at: usize) -> Option<(&'a str, usize)>
     ensures reads { MatchOption result (Stuck (Alias s.now at)) (λ p. Chosen (Alias s.now at) p.1 p.0.now) }
     ensures boundary { IfSome result (λ p. IsCharBoundary s.now p.1) }

@@ -1,7 +1,9 @@
 //! Properties of a node (YAML 1.2.2, section 6.9).
-ghost use Rattle.std.specs.Prelude.{◌≡◌, ◌<◌, IfOk, IfSome, MatchOption};
+ghost use Rattle.std.specs.Prelude.{◌≡◌, ◌≢◌, ◌<◌, false, IfOk, IfSome, MatchOption};
 ghost use Rattle.std.specs.Str.{IsCharBoundary};
 ghost use Rattle.yf_chars.specs.Chain.{Chosen, Stuck};
+ghost use Rattle.yf_chars.specs.Signs.{AMPERSAND, EXCLAMATION};
+ghost use Rattle.yf_chars.specs.Text.{code};
 ghost use Rattle.yf_props.specs.Names.{Anchor, TagProperty, anchor_only, tag_only, Properties as PropertiesOf};
 ghost use Rattle.yf_props.specs.Properties.{properties_value};
 ghost use Rattle.yf_props.specs.Props.{tag_value};
@@ -11,6 +13,7 @@ use crate::props::{Props, Tag};
 use crate::tag::{TagPart, tag_property};
 use std::alloc::{AllocError, Global};
 use yf_chars::context::Ctx;
+use yf_chars::text::stands;
 use yf_comments::comments::{Comments, Separation};
 use yf_comments::separation::separate;
 
@@ -134,8 +137,40 @@ fn behind_tag<'a>(
 /// Reads properties (c-ns-properties(n,c), production 96) from a byte offset on: a tag, an anchor, or both in either order
 /// with separation between them, as long as their characters go. `n` is an indentation, from -1.
 ///
-/// `None` where no properties begin at the offset.
+/// `None` where no properties begin at the offset, as before most nodes: the first character tells it.
+#[inline(always)]
 pub fn node_properties<'a>(
+    alloc: Global,
+    s: &'a str,
+    at: usize,
+    n: i32,
+    ctx: Ctx,
+) -> Result<Option<Properties<'a>>, AllocError>
+    ensures reads { IfOk result (λ o. MatchOption o (Stuck (PropertiesOf s.now n ctx at))
+        (λ p. Chosen (PropertiesOf s.now n ctx at) p.end (properties_value p))) }
+    ensures boundary { IfOk result (λ o. IfSome o (λ p. IsCharBoundary s.now p.end)) }
+    ensures order { IfOk result (λ o. IfSome o (λ p. at < p.end)) }
+{
+    if sign_stands(s, at) {
+        return anchor_or_tag(alloc, s, at, n, ctx);
+    }
+    Ok(None)
+}
+
+// Whether the first character of an anchor or a tag stands there.
+#[inline(always)]
+fn sign_stands(s: &str, at: usize) -> bool
+    ensures { result ≡ false → (code s.now at ≢ AMPERSAND) × (code s.now at ≢ EXCLAMATION) }
+{
+    if stands(s, at, b'&') {
+        return true;
+    }
+    stands(s, at, b'!')
+}
+
+// Reads properties where an anchor or a tag may stand.
+#[inline(never)]
+fn anchor_or_tag<'a>(
     alloc: Global,
     s: &'a str,
     at: usize,

@@ -8,6 +8,7 @@ pub mod ScalarLemmas
 -- `read_double`, `scan_double` and `double_in`
 pub mod DoubleLemmas
 pub mod ReadLemmas
+pub mod SimpleLemmas
 pub mod QuotedLemmas
 -- `read_single` and `single_in`
 pub mod SingleLemmas

@@ -74,7 +74,7 @@ bad_more : (x y z : List Piece) → bad_escapes y ≡ [] → bad_escapes (x ++ (
 bad_more x y z n =
     bad_append x (y ++ z) ∙ ap (λ w. bad_escapes x ++ w) (bad_append y z ∙ ap (λ w. w ++ bad_escapes z) n)
 
-bad_none : (x y : List Piece) → bad_escapes y ≡ [] → bad_escapes (x ++ y) ≡ bad_escapes x
+pub bad_none : (x y : List Piece) → bad_escapes y ≡ [] → bad_escapes (x ++ y) ≡ bad_escapes x
 bad_none x y n = bad_append x y ∙ ap (λ w. bad_escapes x ++ w) n ∙ append-nil (bad_escapes x)
 
 -- the text so far

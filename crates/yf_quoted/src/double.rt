@@ -4,7 +4,7 @@ ghost use Rattle.yf_chars.specs.Signs.{DOUBLE_QUOTE};
 ghost use Rattle.yf_lines.specs.Basic.{Clear};
 ghost use Rattle.yf_lines.specs.FaultPlaces.{IsFirstPlace};
 ghost use Rattle.yf_lines.specs.Text.{text_bytes};
-ghost use Rattle.yf_quoted.specs.Body.{Simple, NoSimple, NoDoubleChar, SimpleChar, DoubleRead, NoDoubleBody, piece, shown};
+ghost use Rattle.yf_quoted.specs.Body.{NoDoubleChar, SimpleChar, DoubleRead, NoDoubleBody, piece, shown};
 ghost use Rattle.yf_chars.specs.Chain.{Chain, Stuck, Chosen};
 ghost use Rattle.yf_quoted.specs.Quoted as Q;
 ghost use Rattle.yf_quoted.specs.Fault.{DoubleFault};
@@ -12,12 +12,11 @@ ghost use Rattle.yf_chars.specs.Text.{Reads};
 
 use crate::gap::{Found, double_gap, is_block, lines_width, push_gap};
 use crate::offsets::Offsets;
+use crate::simple::{ordinary_run, simple_char, words_end};
 use std::alloc::{AllocError, Global};
-use yf_chars::classes::is_nb_json;
 use yf_chars::context::Ctx;
 use yf_chars::escapes::read_escape;
 use yf_chars::text::{peek, stands};
-use yf_lines::basic::is_forbidden_at;
 use yf_lines::fault::Fault;
 use yf_lines::place::Place;
 use yf_lines::source_text::Src;
@@ -132,40 +131,13 @@ fn simple_end(s: &str, at: usize) -> Option<usize>
 {
     let mut end = at;
     'chars: loop {
-        if stands(s, end, b'"') {
-            return Some(end);
+        let run_end = ordinary_run(s, end);
+        if stands(s, run_end, b'"') {
+            return Some(run_end);
         }
-        match simple_char(s, end) {
+        match simple_char(s, run_end) {
             None => return None,
             Some(next) => end = next,
-        }
-    }
-}
-
-// The offset after a character that stands for itself.
-#[inline(always)]
-fn simple_char(s: &str, at: usize) -> Option<usize>
-    requires { IsCharBoundary s.now at }
-    ensures reads { MatchOption result (NoSimple s.now at) (λ j. Simple s.now at j) }
-    ensures boundary { IfSome result (λ j. IsCharBoundary s.now j) }
-    ensures order { IfSome result (λ j. at < j) }
-{
-    match peek(s, at) {
-        None => None,
-        Some((c, end)) => {
-            if !is_nb_json(c) {
-                return None;
-            }
-            if c == '"' {
-                return None;
-            }
-            if c == '\\' {
-                return None;
-            }
-            if is_forbidden_at(s, at) {
-                return None;
-            }
-            Some(end)
         }
     }
 }
@@ -216,11 +188,13 @@ fn double_body<'a>(alloc: Global, s: &'a str, at: usize, width: Option<usize>) -
     let mut bad = Offsets::new(alloc);
     let mut end = at;
     'chars: loop {
-        let gap = match double_gap(s, end, width) {
+        let word_end = words_end(s, end);
+        text.push_str(&s[end..word_end])?;
+        let gap = match double_gap(s, word_end, width) {
             None => return Ok(None),
             Some(gap) => gap,
         };
-        push_gap(&mut text, s, end, gap)?;
+        push_gap(&mut text, s, word_end, gap)?;
         if stands(s, gap.end, b'"') {
             return Ok(Some(Double {
                 text: Text::Owned(OwnedText::new(text)),

@@ -4,5 +4,6 @@
 pub mod double;
 pub mod gap;
 pub mod offsets;
+mod simple;
 pub mod single;
 pub mod write;

@@ -1,8 +1,9 @@
-use Rattle.yf_props.proofs.NameOrder.{properties_forward}
+use Rattle.yf_props.proofs.NameLemmas.{no_anchor_here}
+use Rattle.yf_props.proofs.PropertiesLemmas.{no_properties}
+use Rattle.yf_props.proofs.TagLemmas.{no_mark}
 use Rattle.yf_props.proofs.properties.node_properties.Goals as goal
 
-pub returns-in-Some-clause-order : goal.returns-in-Some-clause-order
-returns-in-Some-clause-order c = properties_forward c.in_ok-found-in-Some.ensures.reads.derived
-
-pub returns-in_ok-found-in-Some-tag_property-clause-order : goal.returns-in_ok-found-in-Some-tag_property-clause-order
-returns-in_ok-found-in-Some-tag_property-clause-order c = properties_forward c.in_ok-found-in-Some-tag_property.ensures.reads.derived
+pub returns-clause-reads : goal.returns-clause-reads
+returns-clause-reads c =
+    let none = c.sign_stands.ensures c.if-sign_stands.false in
+    no_properties (no_anchor_here none.0) (no_mark none.1)

@@ -1,0 +1,99 @@
+-- Ordinary characters stand for themselves, and runs of them are read at once.
+use Rattle.std.proofs.Common.{◌≡◌, ◌≢◌, ℕ, ◌+◌, ◌<◌, ◌≤◌, false, true, List, [], ◌∷◌, ◌++◌, Option, refl, sym, ap, ◌∙◌, subst, arith, get_or, length, encode_utf8_all, slice_range}
+use Rattle.std.proofs.lemmas.Bool.Decides.{nat_tests}
+use Rattle.std.specs.Str.{IsUtf8}
+use Rattle.yf_chars.specs.Class.{is_white, is_nb_json, is_between}
+use Rattle.yf_chars.specs.Chain.{Chain, Many}
+use Rattle.yf_chars.specs.Chain.Chain.{done}
+use Rattle.yf_chars.specs.Text.{code, Reads}
+use Rattle.yf_chars.proofs.ChainLemmas.{chain_append, chain_more, many_more}
+use Rattle.yf_chars.proofs.TextLemmas.{reads_ascii}
+use Rattle.yf_lines.proofs.BasicLemmas.{clear_join}
+use Rattle.yf_lines.proofs.ClearLemmas.{clear_whites, not_forbidden, Spelled, spelled_nothing, spelled_join, spelled_char, spelled_whites, spelled_slice}
+use Rattle.yf_quoted.specs.Body.{Step, DoubleBreaks, Simple}
+use Rattle.yf_quoted.specs.Body.Gap.{by_whites}
+use Rattle.yf_quoted.specs.Ordinary.{is_ordinary, Words}
+use Rattle.yf_quoted.specs.Quoted.{DoubleChar, goods, text_of}
+use Rattle.yf_quoted.specs.Quoted.Piece.{good}
+use Rattle.yf_quoted.proofs.DoubleLemmas.{goods_append}
+use Rattle.yf_quoted.proofs.GapLemmas.{text_of_goods, no_bad_goods}
+use Rattle.yf_quoted.proofs.ReadLemmas.{SoFar, simple_char, pieces_bytes, bad_none}
+
+ordinary_below : (c : ℕ) → is_ordinary c ≡ true → c < 128
+unfolding is_ordinary is_between
+ordinary_below c e = grind (arith, nat_tests)
+
+ordinary_json : (c : ℕ) → is_ordinary c ≡ true → is_nb_json c ≡ true
+unfolding is_ordinary is_between is_nb_json
+ordinary_json c e = grind (arith, nat_tests)
+
+ordinary_no_backslash : (c : ℕ) → is_ordinary c ≡ true → c ≢ 92
+unfolding is_ordinary is_between
+ordinary_no_backslash c e q = grind (arith, nat_tests)
+
+ordinary_no_quote : (c : ℕ) → is_ordinary c ≡ true → c ≢ 34
+unfolding is_ordinary is_between
+ordinary_no_quote c e q = grind (arith, nat_tests)
+
+ordinary_no_dash : (c : ℕ) → is_ordinary c ≡ true → c ≢ 45
+unfolding is_ordinary is_between
+ordinary_no_dash c e q = grind (arith, nat_tests)
+
+ordinary_no_dot : (c : ℕ) → is_ordinary c ≡ true → c ≢ 46
+unfolding is_ordinary is_between
+ordinary_no_dot c e q = grind (arith, nat_tests)
+
+-- of a byte that is one
+pub ordinary_at : (t : List ℕ) (i : ℕ) → IsUtf8 t → i < length t → is_ordinary (get_or t i 0) ≡ true → Simple t i (i + 1)
+ordinary_at t i u l e =
+    let r = reads_ascii t i u l (ordinary_below (get_or t i 0) e) in
+    let o : is_ordinary (code t i) ≡ true = ap is_ordinary r.char ∙ e in
+    record {
+      json = ordinary_json (code t i) o;
+      no_backslash = ordinary_no_backslash (code t i) o;
+      no_quote = ordinary_no_quote (code t i) o;
+      reads = subst (λ c. Reads t i c (i + 1)) (sym r.char) r;
+      allowed = not_forbidden t i (ordinary_no_dash (code t i) o) (ordinary_no_dot (code t i) o);
+    }
+
+-- the words so far
+pub record WordsSoFar (t : List ℕ) (i j : ℕ) : Type 0 where
+  pub text : List ℕ
+  pub steps : (o : Option ℕ) → Chain (Step t goods (DoubleChar t) (DoubleBreaks t o)) i j (goods text)
+  pub spelled : Spelled t i j text
+
+pub no_words : (t : List ℕ) (i : ℕ) → WordsSoFar t i i
+no_words t i = record { text = []; steps = λ o. done; spelled = spelled_nothing t i }
+
+pub words_more : {t : List ℕ} {i h j k : ℕ} → IsUtf8 t → WordsSoFar t i h → (x : List ℕ) × Many t is_white h j x → is_white (code t j) ≡ false → Simple t j k
+    → WordsSoFar t i k
+words_more {t} {i} {h} {j} {k} u w m n s =
+    let c = code t j in
+    let x = m.0 in
+    let char = simple_char u s refl in
+    let same : goods w.text ++ (goods x ++ good c ∷ []) ≡ goods (w.text ++ (x ++ c ∷ [])) =
+    ap (λ v. goods w.text ++ v) (sym (goods_append x (c ∷ []))) ∙ sym (goods_append w.text (x ++ c ∷ [])) in
+    record {
+      text = w.text ++ (x ++ c ∷ []);
+      steps = λ o. subst (λ v. Chain (Step t goods (DoubleChar t) (DoubleBreaks t o)) i k v) same
+          (chain_more (w.steps o) (record { at = j; front = goods x; char = good c ∷ []; gap = by_whites m.1 n; is = char.0; clear = clear_join (clear_whites u m.1) char.1; text = refl }));
+      spelled = spelled_join w.spelled (spelled_join (spelled_whites u m.1) (spelled_char s.reads));
+    }
+
+pub whites_more : {t : List ℕ} {i j k : ℕ} → (x : List ℕ) × Many t is_white i j x → Reads t j (code t j) k → true ≡ is_white (code t j)
+    → (x : List ℕ) × Many t is_white i k x
+whites_more {t} {i} {j} {k} m r e = (_, subst (λ h. Many t is_white i h (m.0 ++ code t j ∷ [])) r.end (many_more t is_white m.1 (sym e)))
+
+pub words_found : {t : List ℕ} {i j : ℕ} → j ≤ length t → WordsSoFar t i j → Words t i j
+words_found l w = record { text = w.text; steps = w.steps; bytes = spelled_slice l w.spelled }
+
+-- the text so far, and words after it
+pub words_read : {t : List ℕ} {o : Option ℕ} {i j k : ℕ} {bytes more slice wrong : List ℕ} → SoFar t o i j bytes wrong → Words t j k
+    → more ≡ bytes ++ slice → slice ≡ slice_range t j k → SoFar t o i k more wrong
+words_read {t} {o} {j = j} {k} {slice = slice} s w e q = record {
+  text = s.text ++ goods w.text;
+  steps = chain_append s.steps (w.steps o);
+  is = e ∙ ap (λ v. v ++ slice) s.is ∙ ap (λ v. encode_utf8_all (text_of s.text) ++ v) (q ∙ w.bytes ∙ ap encode_utf8_all (sym (text_of_goods w.text)))
+      ∙ sym (pieces_bytes s.text (goods w.text));
+  escapes = s.escapes ∙ sym (bad_none s.text (goods w.text) (no_bad_goods w.text));
+}

@@ -1,0 +1,16 @@
+-- Characters that stand for themselves between quotes in one byte, at whatever place: all that are printed and ASCII, but
+-- the quote, in double quotes the backslash, and - and . with which a document marker may begin.
+use Rattle.std.specs.Prelude.{◌≡◌, ℕ, Bool, ◌||◌, List, Option, slice_range, encode_utf8_all}
+use Rattle.yf_chars.specs.Class.{is_between}
+use Rattle.yf_chars.specs.Chain.{Chain}
+use Rattle.yf_quoted.specs.Quoted.{DoubleChar, goods}
+use Rattle.yf_quoted.specs.Body.{Step, DoubleBreaks}
+
+unfoldable pub is_ordinary : ℕ → Bool
+is_ordinary c = is_between 0x20 0x21 c || is_between 0x23 0x2C c || is_between 0x2F 0x5B c || is_between 0x5D 0x7E c
+
+-- characters that stand for themselves in double quotes, each after white space or none: their steps, and their bytes
+pub record Words (t : List ℕ) (i j : ℕ) : Type 0 where
+  pub text : List ℕ
+  pub steps : (o : Option ℕ) → Chain (Step t goods (DoubleChar t) (DoubleBreaks t o)) i j (goods text)
+  pub bytes : slice_range t i j ≡ encode_utf8_all text

@@ -1,0 +1,103 @@
+//! Characters that stand for themselves in double quotes, one by one and in runs. Offsets count bytes.
+ghost use Rattle.std.specs.Prelude.{◌≡◌, ◌+◌, ◌<◌, ◌≤◌, ℕ, Bool, true, List, IfSome, IsCharBoundary, MatchOption};
+ghost use Rattle.yf_chars.specs.Chain.{Chain};
+ghost use Rattle.yf_quoted.specs.Body.{Simple, NoSimple, SimpleChar};
+ghost use Rattle.yf_quoted.specs.Ordinary.{is_ordinary, Words};
+
+use yf_chars::classes::is_nb_json;
+use yf_chars::text::peek;
+use yf_lines::basic::{is_forbidden_at, white_stands};
+
+// Whether the ASCII character stands for itself at whatever place. Most are lower-case letters, which take two tests.
+#[tactic(auto, unfolding(crate::specs::Ordinary::is_ordinary, yf_chars::specs::Class::is_between))]
+#[inline(always)]
+fn is_ordinary(byte: u8) -> bool
+    ensures { result ≡ is_ordinary byte }
+{
+    if byte < b']' {
+        return matches!(byte, b' ' | b'!' | b'#'..=b',' | b'/'..=b'[');
+    }
+    byte <= b'~'
+}
+
+// Whether such a character begins at the offset.
+#[inline(always)]
+fn ordinary_stands(s: &str, at: usize) -> bool
+    ensures { result ≡ true → Simple s.now at (at + 1) }
+{
+    let bytes = s.as_bytes();
+    if at < bytes.len() {
+        return is_ordinary(bytes[at]);
+    }
+    false
+}
+
+// The offset after all such characters that stand there.
+#[inline(always)]
+pub(crate) fn ordinary_run(s: &str, at: usize) -> usize
+    requires { IsCharBoundary s.now at }
+    ensures reads { (x : List ℕ) × Chain (SimpleChar s.now) at result x }
+    ensures boundary { IsCharBoundary s.now result }
+    ensures order { at ≤ result }
+{
+    let mut end = at;
+    while ordinary_stands(s, end) {
+        end += 1;
+    }
+    end
+}
+
+// The offset after a character that stands for itself.
+#[inline(always)]
+pub(crate) fn simple_char(s: &str, at: usize) -> Option<usize>
+    requires { IsCharBoundary s.now at }
+    ensures reads { MatchOption result (NoSimple s.now at) (λ j. Simple s.now at j) }
+    ensures boundary { IfSome result (λ j. IsCharBoundary s.now j) }
+    ensures order { IfSome result (λ j. at < j) }
+{
+    match peek(s, at) {
+        None => None,
+        Some((c, end)) => {
+            if !is_nb_json(c) {
+                return None;
+            }
+            if c == '"' {
+                return None;
+            }
+            if c == '\\' {
+                return None;
+            }
+            if is_forbidden_at(s, at) {
+                return None;
+            }
+            Some(end)
+        }
+    }
+}
+
+// The offset after the last of all characters that stand for themselves there, with white space between them.
+pub(crate) fn words_end(s: &str, at: usize) -> usize
+    requires { IsCharBoundary s.now at }
+    ensures reads { Words s.now at result }
+    ensures boundary { IsCharBoundary s.now result }
+    ensures order { at ≤ result }
+{
+    let mut end = at;
+    let mut next = at;
+    'chars: loop {
+        if white_stands(s, next) {
+            next += 1;
+        } else if ordinary_stands(s, next) {
+            next += 1;
+            end = next;
+        } else {
+            match simple_char(s, next) {
+                None => return end,
+                Some(after) => {
+                    next = after;
+                    end = after;
+                }
+            }
+        }
+    }
+}
