@@ -6,6 +6,7 @@ use Rattle.std.proofs.lemmas.Bool.Decides.{nat_tests}
 use Rattle.yf_lines.specs.Output.{Wrote}
 use Rattle.yf_lines.proofs.OutputLemmas.{Progress, progress_done}
 use Rattle.yf_events.specs.Notation.{escaped, escaped_byte, is_escaped}
+use Rattle.yf_events.specs.Plain.{PlainBetween}
 
 escaped_nil : escaped [] ≡ []
 unfolding escaped
@@ -60,3 +61,12 @@ at_escape old new before after text (c ∷ y) p l =
 -- a text in two parts
 pub escaped_parts : {text : List ℕ} (front back : List ℕ) → text ≡ front ++ back → escaped text ≡ escaped front ++ escaped back
 escaped_parts front back is = ap escaped is ∙ escaped_join front back
+
+-- a text of bytes that are not escaped
+pub escaped_plain : (bytes text : List ℕ) → bytes ≡ text → PlainBetween bytes 0 (length bytes) → escaped text ≡ text
+escaped_plain bytes text same h = subst (λ t. escaped t ≡ t) same (whole bytes h) where
+  whole : (t : List ℕ) → PlainBetween t 0 (length t) → escaped t ≡ t
+  whole [] h = escaped_nil
+  whole (c ∷ t) h =
+      escaped_cons c t ∙ ap (λ w. w ++ escaped t) (plain_byte c (h 0 (omega arith) (omega arith)))
+      ∙ ap (λ w. c ∷ w) (whole t (λ k p q. h (suc k) (omega arith) (omega arith)))

@@ -12,6 +12,8 @@ pub mod ContentRuns
 -- `write_events` and `write_escaped`
 pub mod PieceRuns
 pub mod EscapedRuns
+pub mod PlainLanes
+pub mod PutLemmas
 -- lists of events in rows: `Events` and `Tags`
 pub mod PackedRows
 pub mod TagLists

@@ -8,6 +8,8 @@ pub mod Nesting
 pub mod Notation
 pub mod Packed
 pub mod Pieces
+pub mod Plain
+pub mod Puts
 pub mod Reading
 pub mod Tags
 pub mod Tree

@@ -8,8 +8,10 @@ use yf_lines::fault::Fault;
 use yf_lines::output::write_text;
 use yf_lines::watched::Sink;
 
+/// Whether a byte is escaped.
+#[inline(always)]
 #[tactic(auto, unfolding(crate::specs::Notation::is_escaped))]
-fn is_escaped(byte: u8) -> bool
+pub fn is_escaped(byte: u8) -> bool
     ensures { result ≡ Notation.is_escaped byte }
 {
     byte == b'\\' || byte < 0x20

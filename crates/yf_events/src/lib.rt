@@ -15,6 +15,8 @@ pub mod notation;
 mod packed;
 mod packing;
 pub mod part;
+mod plain;
+mod puts;
 pub mod reading;
 mod relined;
 pub mod row;

@@ -1,14 +1,16 @@
 //! The notation of events: one line for each, as the YAML test suite writes them.
-ghost use Rattle.std.specs.Prelude.{◌≡◌, ◌<◌, length, slice_get, Some};
+ghost use Rattle.std.specs.Prelude.{◌≡◌, ◌<◌, length, slice_get, None, Some};
 ghost use Rattle.std.specs.List.{flat_map};
 ghost use Rattle.yf_events.specs.Event.{event_value};
 ghost use Rattle.yf_events.specs.Notation as Notation;
-ghost use Rattle.yf_events.specs.Pieces.{bare_head, bare_line, piece_bytes, start_line};
+ghost use Rattle.yf_events.specs.Pieces.{bare_head, bare_line, piece_bytes, scalar_line, start_line};
+ghost use Rattle.yf_events.specs.Puts.{Puts};
 ghost use Rattle.yf_lines.specs.Output.{Writes};
 ghost use Rattle.yf_props.specs.Props.{name_value};
 
 use crate::escapes::write_escaped;
 use crate::event::{Event, ScalarStyle};
+use crate::puts::{put_escaped, put_text, put_texts};
 use crate::reading::Reading;
 use yf_lines::fault::Fault;
 use yf_lines::output::{write_text, write_texts};
@@ -84,6 +86,16 @@ fn write_pieces<W: Sink>(writer: &mut W, pieces: &[Piece]) -> Result<(), Fault>
     Ok(())
 }
 
+fn put_pieces<W: Sink>(writer: &mut W, pieces: &[Piece]) -> bool
+    ensures { Puts (W.contents writer.old) (W.contents writer.new) (W.has_failed writer.old) (W.has_failed writer.new)
+        (flat_map piece_bytes pieces.now) result }
+{
+    match write_pieces(writer, pieces) {
+        Ok(()) => true,
+        Err(_) => false,
+    }
+}
+
 /// The sign of a scalar's style.
 fn style_sign(style: ScalarStyle) -> &'static str
     ensures { result.now ≡ Notation.style_sign style }
@@ -118,89 +130,132 @@ fn bare_head(style: ScalarStyle) -> &'static str
 }
 
 // Writes the line of a scalar without properties, as most are, by three writes.
-fn write_bare_scalar<W: Sink>(writer: &mut W, style: ScalarStyle, text: &str) -> Result<(), Fault>
-    ensures { Writes (W.contents writer.old) (W.contents writer.new) (W.has_failed writer.old) (W.has_failed writer.new)
+#[inline(always)]
+fn put_bare_scalar<W: Sink>(writer: &mut W, style: ScalarStyle, text: &str) -> bool
+    ensures { Puts (W.contents writer.old) (W.contents writer.new) (W.has_failed writer.old) (W.has_failed writer.new)
         (bare_line style text.now) result }
 {
-    write_text(writer, bare_head(style).as_bytes())?;
-    write_escaped(writer, text)?;
-    write_text(writer, b"\n")
+    if !put_text(writer, bare_head(style).as_bytes()) {
+        return false;
+    }
+    if !put_escaped(writer, text) {
+        return false;
+    }
+    put_text(writer, b"\n")
 }
 
-// Writes the line of the start of a collection.
-fn write_start<'x, W: Sink>(
+// Writes the line of a scalar with an anchor or a tag.
+#[inline(never)]
+fn put_scalar<'x, W: Sink>(
+    writer: &mut W,
+    anchor: Option<&'x str>,
+    tag: Option<&'x ResolvedTag<'x>>,
+    style: ScalarStyle,
+    text: &'x str,
+) -> bool
+    ensures { Puts (W.contents writer.old) (W.contents writer.new) (W.has_failed writer.old) (W.has_failed writer.new)
+        (scalar_line (name_value anchor.entry) (name_value tag.entry) style text.now) result }
+{
+    let sign = style_sign(style);
+    put_pieces(
+        writer,
+        &[
+            Piece::Plain("=VAL"),
+            Piece::Anchor(anchor),
+            Piece::Tag(tag),
+            Piece::Plain(" "),
+            Piece::Plain(sign),
+            Piece::Escaped(text),
+            Piece::Plain("\n"),
+        ],
+    )
+}
+
+// Writes the line of the start of a collection without properties.
+#[inline(always)]
+fn put_bare_start<W: Sink>(writer: &mut W, name: &str) -> bool
+    ensures { Puts (W.contents writer.old) (W.contents writer.new) (W.has_failed writer.old) (W.has_failed writer.new)
+        (start_line name.now None None) result }
+{
+    if !put_text(writer, name.as_bytes()) {
+        return false;
+    }
+    put_text(writer, b"\n")
+}
+
+// Writes the line of the start of a collection with an anchor or a tag.
+#[inline(never)]
+fn put_marked_start<'x, W: Sink>(
     writer: &mut W,
     name: &'x str,
     anchor: Option<&'x str>,
     tag: Option<&'x ResolvedTag<'x>>,
-) -> Result<(), Fault>
-    ensures { Writes (W.contents writer.old) (W.contents writer.new) (W.has_failed writer.old) (W.has_failed writer.new)
+) -> bool
+    ensures { Puts (W.contents writer.old) (W.contents writer.new) (W.has_failed writer.old) (W.has_failed writer.new)
+        (start_line name.now (name_value anchor.entry) (name_value tag.entry)) result }
+{
+    put_pieces(
+        writer,
+        &[
+            Piece::Plain(name),
+            Piece::Anchor(anchor),
+            Piece::Tag(tag),
+            Piece::Plain("\n"),
+        ],
+    )
+}
+
+// Writes the line of the start of a collection.
+#[inline(always)]
+fn put_start<'x, W: Sink>(
+    writer: &mut W,
+    name: &'x str,
+    anchor: Option<&'x str>,
+    tag: Option<&'x ResolvedTag<'x>>,
+) -> bool
+    ensures { Puts (W.contents writer.old) (W.contents writer.new) (W.has_failed writer.old) (W.has_failed writer.new)
         (start_line name.now (name_value anchor.entry) (name_value tag.entry)) result }
 {
     match (anchor, tag) {
-        (None, None) => write_texts(writer, &[name, "\n"]),
-        (anchor, tag) => write_pieces(
-            writer,
-            &[
-                Piece::Plain(name),
-                Piece::Anchor(anchor),
-                Piece::Tag(tag),
-                Piece::Plain("\n"),
-            ],
-        ),
+        (None, None) => put_bare_start(writer, name),
+        (anchor, tag) => put_marked_start(writer, name, anchor, tag),
     }
 }
 
-/// Writes the line of an event, with the resolved tag of the node that it begins.
+/// Writes the line of an event, with the resolved tag of the node that it begins, and tells whether that was done.
+#[inline(always)]
 #[tactic(auto, unfolding(crate::specs::Notation::event_line))]
-fn write_event<'x, W: Sink>(
+fn put_event<'x, W: Sink>(
     writer: &mut W,
     event: Event<'x>,
     tag: Option<&'x ResolvedTag<'x>>,
-) -> Result<(), Fault>
-    ensures { Writes (W.contents writer.old) (W.contents writer.new) (W.has_failed writer.old) (W.has_failed writer.new)
+) -> bool
+    ensures { Puts (W.contents writer.old) (W.contents writer.new) (W.has_failed writer.old) (W.has_failed writer.new)
         (Notation.event_line (event_value event.entry) (name_value tag.entry)) result }
 {
     match event {
-        Event::StreamStart => write_text(writer, b"+STR\n"),
-        Event::StreamEnd => write_text(writer, b"-STR\n"),
-        Event::DocStart { explicit } => write_texts(
+        Event::StreamStart => put_text(writer, b"+STR\n"),
+        Event::StreamEnd => put_text(writer, b"-STR\n"),
+        Event::DocStart { explicit } => put_texts(
             writer,
             &["+DOC", part_if(explicit, " ---"), "\n"],
         ),
-        Event::DocEnd { explicit } => write_texts(
-            writer,
-            &["-DOC", part_if(explicit, " ..."), "\n"],
-        ),
+        Event::DocEnd { explicit } => put_texts(writer, &["-DOC", part_if(explicit, " ..."), "\n"]),
         Event::SeqStart { flow, props } => {
             let name = if flow { "+SEQ []" } else { "+SEQ" };
-            write_start(writer, name, props.anchor, tag)
+            put_start(writer, name, props.anchor, tag)
         }
-        Event::SeqEnd => write_text(writer, b"-SEQ\n"),
+        Event::SeqEnd => put_text(writer, b"-SEQ\n"),
         Event::MapStart { flow, props } => {
             let name = if flow { "+MAP {}" } else { "+MAP" };
-            write_start(writer, name, props.anchor, tag)
+            put_start(writer, name, props.anchor, tag)
         }
-        Event::MapEnd => write_text(writer, b"-MAP\n"),
+        Event::MapEnd => put_text(writer, b"-MAP\n"),
         Event::Scalar { props, style, text } => match (props.anchor, tag) {
-            (None, None) => write_bare_scalar(writer, style, text),
-            (anchor, tag) => {
-                let sign = style_sign(style);
-                write_pieces(
-                    writer,
-                    &[
-                        Piece::Plain("=VAL"),
-                        Piece::Anchor(anchor),
-                        Piece::Tag(tag),
-                        Piece::Plain(" "),
-                        Piece::Plain(sign),
-                        Piece::Escaped(text),
-                        Piece::Plain("\n"),
-                    ],
-                )
-            }
+            (None, None) => put_bare_scalar(writer, style, text),
+            (anchor, tag) => put_scalar(writer, anchor, tag, style, text),
         },
-        Event::Alias { name } => write_texts(writer, &["=ALI *", name, "\n"]),
+        Event::Alias { name } => put_texts(writer, &["=ALI *", name, "\n"]),
     }
 }
 
@@ -213,7 +268,9 @@ pub fn write_events<W: Sink>(reading: &Reading, writer: &mut W) -> Result<(), Fa
         (Notation.notation_of reading.now) result }
 {
     for i in 0..reading.len() {
-        write_event(writer, reading.event(i), reading.resolved(i))?;
+        if !put_event(writer, reading.event(i), reading.resolved(i)) {
+            return Err(Fault::WriteFailed);
+        }
     }
     Ok(())
 }

@@ -1,0 +1,20 @@
+-- Writes with a plain answer.
+use Rattle.std.proofs.Common.{◌≡◌, ℕ, ◌++◌, Bool, true, false, List, Option, ◌∙◌, subst}
+use Rattle.std.proofs.KnownBytes.{Appends-trans}
+use Rattle.yf_lines.specs.Output.{Wrote}
+use Rattle.yf_lines.proofs.OutputLemmas.{broke_second}
+use Rattle.yf_events.specs.Puts.{Puts}
+
+-- one text written, and then another
+pub puts_second : (old mid new : Option (List ℕ)) (before between after : Bool) (text more : List ℕ) (done : Bool)
+    → Wrote old mid before between text → Puts mid new between after more done → Puts old new before after (text ++ more) done
+puts_second old mid new before between after text more true p q = record {
+  appended = Appends-trans old mid new text more p.appended q.appended;
+  same = q.same ∙ p.same;
+}
+puts_second old mid new before between after text more false p q = broke_second old mid new before between after text more p q
+
+-- a text that is the same
+pub puts_same : (old new : Option (List ℕ)) (before after : Bool) (text same : List ℕ) (done : Bool) → text ≡ same
+    → Puts old new before after text done → Puts old new before after same done
+puts_same old new before after text same done e p = subst (λ t. Puts old new before after t done) e p
