@@ -22,16 +22,16 @@ use yf_quoted::single::{Single, single_in};
 
 /// A quoted scalar, or the opening bracket of a flow collection (c-flow-json-content, production 157).
 pub(crate) fn json_content<'a>(
-    spot: Spot<'a>,
-    lead: Lead<'a>,
+    spot: &Spot<'a>,
+    lead: &Lead<'a>,
     part: &mut Part<'a>,
 ) -> Result<Begun, AllocError>
-    requires awaited { Awaited spot part.old }
-    requires content { begins_content (code spot.scene.text.now spot.at) ≡ true }
-    ensures { IfOk result (Begins (SpotContent spot.entry lead.entry) spot.entry part.old part.new) }
+    requires awaited { Awaited spot.now part.old }
+    requires content { begins_content (code spot.now.scene.text.now spot.now.at) ≡ true }
+    ensures { IfOk result (Begins (SpotContent spot.now lead.now) spot.now part.old part.new) }
 {
     let alloc = spot.alloc;
-    let scene = spot.scene;
+    let scene = &spot.scene;
     if stands(scene.text, spot.at, b'\'') {
         match single_in(alloc, scene.text, spot.at, scene.indentation, scene.context)? {
             Some(Single { text, end }) => {
@@ -53,13 +53,17 @@ pub(crate) fn json_content<'a>(
 }
 
 // A double-quoted scalar (c-double-quoted(n,c), production 109), whose escapes that are no character are kept.
-fn double_node<'a>(spot: Spot<'a>, lead: Lead<'a>, part: &mut Part<'a>) -> Result<Begun, AllocError>
-    requires awaited { Awaited spot part.old }
-    requires quote { code spot.scene.text.now spot.at ≡ 34 }
-    ensures { IfOk result (Begins (SpotContent spot.entry lead.entry) spot.entry part.old part.new) }
+fn double_node<'a>(
+    spot: &Spot<'a>,
+    lead: &Lead<'a>,
+    part: &mut Part<'a>,
+) -> Result<Begun, AllocError>
+    requires awaited { Awaited spot.now part.old }
+    requires quote { code spot.now.scene.text.now spot.now.at ≡ 34 }
+    ensures { IfOk result (Begins (SpotContent spot.now lead.now) spot.now part.old part.new) }
 {
     let alloc = spot.alloc;
-    let scene = spot.scene;
+    let scene = &spot.scene;
     match double_in(alloc, scene.text, spot.at, scene.indentation, scene.context)? {
         Some(Double { text, bad, end }) => {
             keep_escapes(&bad, &mut part.escapes)?;
@@ -82,15 +86,15 @@ fn collection_start<'a>(kind: Kind, props: Props<'a>) -> NewEvent<'a>
 
 // Opens the collection whose bracket stands there, if there is room for it. Where it ends is noted once it is closed.
 fn open<'a>(
-    spot: Spot<'a>,
+    spot: &Spot<'a>,
     kind: Kind,
-    lead: Lead<'a>,
+    lead: &Lead<'a>,
     part: &mut Part<'a>,
 ) -> Result<Begun, AllocError>
-    requires awaited { Awaited spot part.old }
-    requires behind { IsCharBoundary spot.scene.text.now (spot.at + 1) }
-    requires bracket { Opens kind (code spot.scene.text.now spot.at) }
-    ensures { IfOk result (Begins (SpotContent spot.entry lead.entry) spot.entry part.old part.new) }
+    requires awaited { Awaited spot.now part.old }
+    requires behind { IsCharBoundary spot.now.scene.text.now (spot.now.at + 1) }
+    requires bracket { Opens kind (code spot.now.scene.text.now spot.now.at) }
+    ensures { IfOk result (Begins (SpotContent spot.now lead.now) spot.now part.old part.new) }
 {
     if spot.depth >= spot.scene.limit {
         return Ok(Begun::TooDeep(spot.at));

@@ -36,14 +36,20 @@ pub(crate) fn read_properties<'a>(
 }
 
 /// Reads a plain scalar (ns-plain(n,c), production 131).
-pub(crate) fn read_plain<'a>(spot: Spot<'a>) -> Result<Option<Scalar<'a>>, AllocError>
-    requires { IsCharBoundary spot.scene.text.now spot.at }
-    ensures place { IfOk result (λ o. IfSome o (λ p. Place spot.entry.scene.text.now (spot.entry.at + 1) p.end)) }
-    ensures reads { IfOk result (PlainRead spot.entry) }
+#[inline(always)]
+pub(crate) fn read_plain<'a>(spot: &Spot<'a>) -> Result<Option<Scalar<'a>>, AllocError>
+    requires { IsCharBoundary spot.now.scene.text.now spot.now.at }
+    ensures place { IfOk result (λ o. IfSome o (λ p. Place spot.now.scene.text.now (spot.now.at + 1) p.end)) }
+    ensures reads { IfOk result (PlainRead spot.now) }
 {
-    let alloc = spot.alloc;
-    let scene = spot.scene;
-    match read_plain_in(alloc, scene.text, spot.at, scene.indentation, scene.context) {
+    let scene = &spot.scene;
+    match read_plain_in(
+        spot.alloc,
+        scene.text,
+        spot.at,
+        scene.indentation,
+        scene.context,
+    ) {
         Ok(Some((text, end))) => Ok(Some(Scalar { text, end })),
         Ok(None) => Ok(None),
         Err(_) => Err(AllocError),

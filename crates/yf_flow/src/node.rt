@@ -45,6 +45,7 @@ pub(crate) enum Begun {
 
 impl<'a> Lead<'a> {
     /// Without properties.
+    #[inline(always)]
     pub fn bare(start: usize, entry: Option<Entry>) -> Lead<'a>
         ensures { result ≡ bare_lead start entry }
     {
@@ -60,6 +61,7 @@ impl<'a> Lead<'a> {
     }
 
     /// The event that begins the node, which ends at an offset.
+    #[inline(always)]
     pub fn placed(self, alloc: Global, event: NewEvent<'a>, end: usize) -> PlacedEvent<'a>
         ensures { placed_value result ≡ lead_event self.entry (new_event_value event.entry) end }
     {
@@ -116,8 +118,8 @@ pub(crate) fn begin_node<'a>(
     match alias_node(spot.scene.text, spot.at) {
         Some((name, end)) => {
             let event = NewEvent::Alias { name };
-            part.events
-                .push(Lead::bare(spot.at, entry).placed(spot.alloc, event, end))?;
+            let lead = Lead::bare(spot.at, entry);
+            part.events.push(lead.placed(spot.alloc, event, end))?;
             return Ok(Begun::Leaf(Node {
                 end,
                 json: false,
@@ -128,19 +130,19 @@ pub(crate) fn begin_node<'a>(
     }
     match read_properties(spot.alloc, spot.scene, spot.at)? {
         Some(properties) => propertied_node(spot, properties, entry, part),
-        None => { begin_content(spot, Lead::bare(spot.at, entry), part) }
+        None => begin_content(&spot, &Lead::bare(spot.at, entry), part),
     }
 }
 
 /// Begins the content of a node: a plain scalar, a quoted one or a flow collection.
 #[inline(always)]
 pub(crate) fn begin_content<'a>(
-    spot: Spot<'a>,
-    lead: Lead<'a>,
+    spot: &Spot<'a>,
+    lead: &Lead<'a>,
     part: &mut Part<'a>,
 ) -> Result<Begun, AllocError>
-    requires { Awaited spot part.old }
-    ensures { IfOk result (Begins (SpotContent spot.entry lead.entry) spot.entry part.old part.new) }
+    requires { Awaited spot.now part.old }
+    ensures { IfOk result (Begins (SpotContent spot.now lead.now) spot.now part.old part.new) }
 {
     if content_begins(spot.scene.text, spot.at) {
         return json_content(spot, lead, part);
@@ -149,6 +151,7 @@ pub(crate) fn begin_content<'a>(
 }
 
 // A node with properties: its content is a plain scalar, a quoted scalar or a flow collection, and else it is empty.
+#[inline(never)]
 fn propertied_node<'a>(
     spot: Spot<'a>,
     properties: Properties<'a>,
@@ -188,12 +191,12 @@ fn propertied_node<'a>(
         ) => {
             if content_begins(scene.text, place) {
                 part.comments.append(comments)?;
-                return json_content(Spot { at: place, ..spot }, lead, part);
+                return json_content(&Spot { at: place, ..spot }, &lead, part);
             }
-            match read_plain(Spot { at: place, ..spot })? {
+            match read_plain(&Spot { at: place, ..spot })? {
                 Some(plain) => {
                     part.comments.append(comments)?;
-                    return push_leaf(spot, lead, ScalarStyle::Plain, plain, part);
+                    return push_leaf(&spot, &lead, ScalarStyle::Plain, plain, part);
                 }
                 None => {}
             }
@@ -201,23 +204,23 @@ fn propertied_node<'a>(
         None => {}
     }
     let text = Text::Part("");
-    push_leaf(spot, lead, ScalarStyle::Plain, Scalar { text, end }, part)
+    push_leaf(&spot, &lead, ScalarStyle::Plain, Scalar { text, end }, part)
 }
 
 /// Adds a scalar as a node.
 #[inline(always)]
 pub(crate) fn push_leaf<'a>(
-    spot: Spot<'a>,
-    lead: Lead<'a>,
+    spot: &Spot<'a>,
+    lead: &Lead<'a>,
     style: ScalarStyle,
     scalar: Scalar<'a>,
     part: &mut Part<'a>,
 ) -> Result<Begun, AllocError>
-    ensures { IfOk result (LeafPushed spot.entry lead.entry style scalar.entry part.old part.new) }
+    ensures { IfOk result (LeafPushed spot.now lead.now style scalar.entry part.old part.new) }
 {
     let Scalar { text, end } = scalar;
     let json = is_quoted(style);
-    push_scalar(spot.alloc, lead, style, text, end, part)?;
+    push_scalar_with(spot.alloc, lead, style, text, end, part)?;
     Ok(Begun::Leaf(Node {
         end,
         json,
@@ -251,6 +254,25 @@ pub fn push_scalar<'a>(
     ensures comments { IfOk result (λ _. part.new.comments ≡ part.old.comments) }
     ensures escapes { IfOk result (λ _. part.new.escapes ≡ part.old.escapes) }
 {
+    push_scalar_with(alloc, &lead, style, text, end, part)
+}
+
+/// The same for what is known of a node that stays where it is.
+#[inline(always)]
+pub fn push_scalar_with<'a>(
+    alloc: Global,
+    lead: &Lead<'a>,
+    style: ScalarStyle,
+    text: Text<'a>,
+    end: usize,
+    part: &mut Part<'a>,
+) -> Result<(), AllocError>
+    ensures pushed { IfOk result (λ _. part.new.events ≡ part.old.events ++
+        (leaf_event lead.now style (text_bytes text.entry) end ∷ [])) }
+    ensures found { IfOk result (λ _. length part.new.events ≡ length part.old.events + 1) }
+    ensures comments { IfOk result (λ _. part.new.comments ≡ part.old.comments) }
+    ensures escapes { IfOk result (λ _. part.new.escapes ≡ part.old.escapes) }
+{
     let event = NewEvent::Scalar {
         props: lead.props,
         style,
@@ -260,10 +282,15 @@ pub fn push_scalar<'a>(
 }
 
 // A plain scalar as a node (ns-plain, production 131).
-fn plain_node<'a>(spot: Spot<'a>, lead: Lead<'a>, part: &mut Part<'a>) -> Result<Begun, AllocError>
-    requires awaited { Awaited spot part.old }
-    requires other { begins_content (code spot.scene.text.now spot.at) ≡ false }
-    ensures { IfOk result (Begins (SpotContent spot.entry lead.entry) spot.entry part.old part.new) }
+#[inline(always)]
+fn plain_node<'a>(
+    spot: &Spot<'a>,
+    lead: &Lead<'a>,
+    part: &mut Part<'a>,
+) -> Result<Begun, AllocError>
+    requires awaited { Awaited spot.now part.old }
+    requires other { begins_content (code spot.now.scene.text.now spot.now.at) ≡ false }
+    ensures { IfOk result (Begins (SpotContent spot.now lead.now) spot.now part.old part.new) }
 {
     match read_plain(spot)? {
         Some(plain) => push_leaf(spot, lead, ScalarStyle::Plain, plain, part),

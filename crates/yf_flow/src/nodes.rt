@@ -108,6 +108,7 @@ pub(crate) fn read_node<'a>(
 /// # Errors
 ///
 /// `AllocError` where a growth of memory was refused.
+#[inline(always)]
 pub fn read_content<'a>(
     alloc: Global,
     scene: Scene<'a>,
@@ -125,29 +126,58 @@ pub fn read_content<'a>(
     ensures found { IfOk result (λ e. EndingAt scene.entry.text.now (at + 1) e) }
     ensures escapes { IfOk result (λ _. All (IsCharBoundary scene.entry.text.now) part.new.escapes) }
 {
+    read_content_with(alloc, &scene, at, &lead, depth, part)
+}
+
+/// The same for a scene and what is known of a node that stay where they are.
+///
+/// # Errors
+///
+/// `AllocError` where a growth of memory was refused.
+pub fn read_content_with<'a>(
+    alloc: Global,
+    scene: &Scene<'a>,
+    at: usize,
+    lead: &Lead<'a>,
+    depth: usize,
+    part: &mut Part<'a>,
+) -> Result<Ending, AllocError>
+    requires boundary { IsCharBoundary scene.now.text.now at }
+    requires escapes { All (IsCharBoundary scene.now.text.now) part.old.escapes }
+    ensures answers { IsUtf8 scene.now.text.now → is_block scene.now.context ≡ false → (room : ℕ) → depth + room ≡ scene.now.limit
+        → IfOk result (λ e. ContentEnds scene.now.text.now scene.now.indentation scene.now.context room at depth lead.now part.old part.new e) }
+    ensures counted { IsUtf8 scene.now.text.now → (total : ℕ) → depth + openers_from scene.now.text.now at ≤ total
+        → IfOk result (λ e. EndCounted scene.now.text.now scene.now.limit total e) }
+    ensures found { IfOk result (λ e. EndingAt scene.now.text.now (at + 1) e) }
+    ensures escapes { IfOk result (λ _. All (IsCharBoundary scene.now.text.now) part.new.escapes) }
+{
     match inner_context(scene.context) {
         None => Ok(Ending::Nothing),
         Some(inner) => {
             let spot = Spot {
                 alloc,
-                scene,
+                scene: *scene,
                 at,
                 depth,
             };
-            let begun = begin_content(spot, lead, part)?;
-            let inside = Spot {
-                scene: Scene {
-                    context: inner,
-                    ..scene
+            let begun = begin_content(&spot, lead, part)?;
+            end_node(
+                Spot {
+                    scene: Scene {
+                        context: inner,
+                        ..*scene
+                    },
+                    ..spot
                 },
-                ..spot
-            };
-            end_node(inside, begun, part)
+                begun,
+                part,
+            )
         }
     }
 }
 
 // Reads on where a node has begun, and tells how it ends.
+#[inline(always)]
 fn end_node<'a>(spot: Spot<'a>, begun: Begun, part: &mut Part<'a>) -> Result<Ending, AllocError>
     requires begun { (m : ℕ) × BegunAt spot.scene.text.now spot.at m (length part.old.events) begun }
     requires escapes { All (IsCharBoundary spot.scene.text.now) part.old.escapes }

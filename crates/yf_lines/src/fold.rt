@@ -52,7 +52,8 @@ pub fn flow_folded(s: &str, at: usize, width: usize) -> Option<Fold>
     }
 }
 
-/// The empty lines from the start of a line on, and the indentation of the line after them.
+/// The empty lines from the start of a line on (l-empty(n,flow-in), production 70), and the indentation of the line after them
+/// (s-flow-line-prefix(n), production 69). Of each line the white space is passed once.
 pub fn fold_lines(s: &str, at: usize, width: usize) -> Option<Fold>
     requires { IsCharBoundary s.now at }
     ensures reads { MatchOption result (Stuck (FoldLines s.now (pos width) at))
@@ -63,57 +64,24 @@ pub fn fold_lines(s: &str, at: usize, width: usize) -> Option<Fold>
     let mut line = at;
     let mut feeds = 0;
     'lines: loop {
-        match empty_line(s, line, width) {
+        let indent = skip_spaces(s, line);
+        let end = skip_whites(s, indent);
+        match line_break(s, end) {
             None => {
-                return match indented_line(s, line, width) {
-                    None => None,
-                    Some(end) => Some(Fold { feeds, end }),
-                };
+                if indent - line < width {
+                    return None;
+                }
+                return Some(Fold { feeds, end });
             }
             Some(next_line) => {
+                if indent - line < width {
+                    if end != indent {
+                        return None;
+                    }
+                }
                 line = next_line;
                 feeds += 1;
             }
         }
-    }
-}
-
-// The offset after the line that begins there, where it is empty (l-empty(n,flow-in), production 70).
-fn empty_line(s: &str, at: usize, width: usize) -> Option<usize>
-    requires { IsCharBoundary s.now at }
-    ensures reads { MatchOption result (Stuck (Empty s.now (pos width) FlowIn at))
-        (λ j. Empty s.now (pos width) FlowIn at j (LINE_FEED ∷ [])) }
-    ensures boundary { IfSome result (λ j. IsCharBoundary s.now j) }
-    ensures order { IfSome result (λ j. at < j) }
-{
-    let indent = skip_spaces(s, at);
-    let end = skip_whites(s, indent);
-    if indent - at < width {
-        if end != indent {
-            return None;
-        }
-    }
-    match line_break(s, end) {
-        None => None,
-        Some(next_line) => Some(next_line),
-    }
-}
-
-// The offset after the white space at the start of a line, where it is indented (s-flow-line-prefix(n), production 69) and not
-// empty.
-fn indented_line(s: &str, at: usize, width: usize) -> Option<usize>
-    requires { IsCharBoundary s.now at }
-    ensures reads { MatchOption result ((j : ℕ) → ContentAt s.now (pos width) at j → ⊥) (λ j. ContentAt s.now (pos width) at j) }
-    ensures boundary { IfSome result (λ j. IsCharBoundary s.now j) }
-    ensures order { IfSome result (λ j. at ≤ j) }
-{
-    let indent = skip_spaces(s, at);
-    if indent - at < width {
-        return None;
-    }
-    let end = skip_whites(s, indent);
-    match line_break(s, end) {
-        None => Some(end),
-        Some(_) => None,
     }
 }

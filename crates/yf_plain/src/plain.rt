@@ -5,17 +5,17 @@ ghost use Rattle.std.specs.Str.{IsCharBoundary};
 ghost use Rattle.yf_chars.specs.Chain.{Chain, Stuck, Chosen};
 ghost use Rattle.yf_chars.specs.Class as Class;
 ghost use Rattle.yf_chars.specs.Text.{code, before, Reads};
-ghost use Rattle.yf_lines.specs.Basic.{is_block, is_flow, is_key};
+ghost use Rattle.yf_lines.specs.Basic.{Forbidden, is_block, is_flow, is_key};
 ghost use Rattle.yf_lines.specs.Fold.{fold_text};
 ghost use Rattle.yf_lines.specs.Text.{text_bytes};
-ghost use Rattle.yf_plain.specs.Ordinary.{is_ordinary, OrdinaryAt};
+ghost use Rattle.yf_plain.specs.Ordinary.{is_ordinary, EndAt, LetterAt, OrdinaryAt};
 ghost use Rattle.yf_plain.specs.Plain as P;
 ghost use Rattle.yf_plain.specs.Plain.{is_plain_first, is_plain_char, is_sign, Plain, PlainItem, PlainLine, PlainFront, NoNextLine};
 
 use std::alloc::{AllocError, Global};
 use yf_chars::classes::{is_indicator, is_ns_char, is_plain_safe};
 use yf_chars::context::Ctx;
-use yf_chars::text::peek;
+use yf_chars::text::{peek, stands};
 use yf_lines::basic::{is_forbidden_at, skip_whites};
 use yf_lines::fault::Fault;
 use yf_lines::fold::{flow_folded, indent_width};
@@ -186,12 +186,29 @@ pub fn read_plain_line(s: &str, at: usize, ctx: Ctx) -> Option<usize>
     ensures order { IfSome result (λ j. at < j) }
     ensures all { IfSome result (λ j. Stuck (PlainItem s.now ctx j)) }
 {
+    match front_char(s, at, ctx) {
+        None => None,
+        Some(end) => Some(plain_in_line(s, end, ctx)),
+    }
+}
+
+// The offset after the first character of a plain scalar, which begins no forbidden line. Most are letters, which need one
+// test.
+#[inline(always)]
+fn front_char(s: &str, at: usize, ctx: Ctx) -> Option<usize>
+    requires { IsCharBoundary s.now at }
+    ensures { MatchOption result (Stuck (PlainFront s.now ctx at))
+        (λ j. (Forbidden s.now at → ⊥) × (is_plain_first s.now ctx at ≡ true) × Reads s.now at (code s.now at) j) }
+{
+    if letter_stands(s, at) {
+        return Some(at + 1);
+    }
     if is_forbidden_at(s, at) {
         return None;
     }
     match plain_first(s, at, ctx) {
         None => None,
-        Some(end) => Some(plain_in_line(s, end, ctx)),
+        Some(end) => Some(end),
     }
 }
 
@@ -240,6 +257,39 @@ fn ordinary_stands(s: &str, at: usize) -> bool
     false
 }
 
+// Whether a letter or a digit stands there, which may begin a plain scalar.
+#[inline(always)]
+fn letter_stands(s: &str, at: usize) -> bool
+    ensures { result ≡ true → LetterAt s.now at }
+{
+    let bytes = s.as_bytes();
+    if at < bytes.len() {
+        if bytes[at] >= b'0' {
+            return is_ordinary(bytes[at]);
+        }
+    }
+    false
+}
+
+// Whether a line feed stands there, or a `:` before a space or a line feed, which end the line of a plain scalar.
+#[inline(always)]
+fn end_stands(s: &str, at: usize) -> bool
+    ensures { result ≡ true → EndAt s.now at }
+{
+    if stands(s, at, b'\n') {
+        return true;
+    }
+    if stands(s, at, b':') {
+        if stands(s, at + 1, b' ') {
+            return true;
+        }
+        if stands(s, at + 1, b'\n') {
+            return true;
+        }
+    }
+    false
+}
+
 // The offset after all such characters that stand there after a character of content; in block contexts, in which no scalar
 // stands, none is looked for.
 #[inline(always)]
@@ -271,6 +321,9 @@ fn plain_item(s: &str, at: usize, ctx: Ctx) -> Option<usize>
     ensures boundary { IfSome result (λ j. IsCharBoundary s.now j) }
     ensures order { IfSome result (λ j. at < j) }
 {
+    if end_stands(s, at) {
+        return None;
+    }
     let start = skip_whites(s, at);
     match plain_char(s, start, ctx, start == at) {
         None => None,

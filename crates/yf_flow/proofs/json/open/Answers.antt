@@ -23,7 +23,7 @@ returns c =
         deepest = refl;
         room = omega (arith, c.if-spot.false);
         added = record {
-          events = start_event c.args.lead c.args.kind _ _ _ _ _ c.in_ok-push.ensures c.placed.ensures c.collection_start-start.ensures;
+          events = start_event c.args.lead.now c.args.kind _ _ _ _ _ c.in_ok-push.ensures c.placed.ensures c.collection_start-start.ensures;
           comments = sym (append-nil _);
           escapes = sym (append-nil _);
         };

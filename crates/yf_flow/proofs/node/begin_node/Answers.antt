@@ -12,7 +12,7 @@ returns-in-Some c =
     let f = alias_forward c.in-Some.ensures.reads.derived in
     let l = pushed_longer _ _ _ c.in_ok-push-in-Some.ensures in
     record {
-      exact = alias_leaf _ c.in-Some.ensures.reads c.in_ok-push-in-Some.ensures (c.placed.ensures ∙ ap (λ w. lead_event w (alias_node c.in-Some.name.now) c.in-Some.end) c.bare.ensures) refl refl;
+      exact = alias_leaf _ c.in-Some.ensures.reads c.in_ok-push-in-Some.ensures (c.placed.ensures ∙ ap (λ w. lead_event w (alias_node c.in-Some.name.now) c.in-Some.end) c.bare-lead.ensures) refl refl;
       begun = (record { boundary = c.in-Some.ensures.boundary; order = omega (arith, f) }, l);
       grows = omega (arith, l);
       escapes = c.requires.escapes;
@@ -23,7 +23,7 @@ returns-in-None-2 c =
     let spot = c.args.spot in
     let old = c.args.part.now in
     begins_behind _ _ spot spot.at old old _ c.begin_content.result c.begin_content.ensures (omega arith) refl
-    (bare_begun spot.depth spot.scene.limit c.args.entry old _ _ c.bare-in-None-2.ensures c.in-None.ensures.reads (rw c.in-None-2.is at c.in_ok-properties.ensures.reads))
+    (bare_begun spot.depth spot.scene.limit c.args.entry old _ _ c.bare.ensures c.in-None.ensures.reads (rw c.in-None-2.is at c.in_ok-properties.ensures.reads))
 
 pub propertied_node-requires-clause-properties : goal.propertied_node-requires-clause-properties
 propertied_node-requires-clause-properties c = record { place = rw c.in-Some-2.is at c.in_ok-properties.ensures.place; chosen = rw c.in-Some-2.is at c.in_ok-properties.ensures.reads }

@@ -16,3 +16,6 @@ returns-in-Some-clause-reads c = item_found c.skip_whites-start.ensures.whites.1
 pub returns-in-Some-clause-behind : goal.returns-in-Some-clause-behind
 returns-in-Some-clause-behind c =
     ap Class.is_ns_char c.in-Some.ensures.1.back ∙ plain_is_ns c.args.s.now c.args.ctx c.skip_whites-start.result c.in-Some.ensures.0
+
+pub returns-then-end_stands-clause-reads : goal.returns-then-end_stands-clause-reads
+returns-then-end_stands-clause-reads c = (c.end_stands.ensures c.if-end_stands.true).ends c.args.ctx
