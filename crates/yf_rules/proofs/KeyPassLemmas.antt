@@ -1,9 +1,9 @@
 -- Laws of the pass that finds repeated keys.
-use Rattle.std.proofs.Common.{◌≡◌, ℕ, ◌+◌, ◌<◌, ◌≤◌, Bool, true, false, List, [], ◌∷◌, ◌++◌, Some, None, length, drop, get_or, reverse, add-one, refl, sym, subst, ap, ◌∙◌, append_assoc, ⊎_elim, arith}
+use Rattle.std.proofs.Common.{◌≡◌, ℕ, ◌+◌, ◌<◌, ◌≤◌, Bool, true, false, List, [], ◌∷◌, ◌++◌, Some, None, length, drop, get_or, reverse, set, take, add-one, suc, ◌-◌, refl, sym, subst, ap, ◌∙◌, append_assoc, ⊎_elim, arith}
 use Rattle.std.specs.Prelude.{slice_get, option_map, ◌&&◌, Option}
-use Rattle.std.proofs.lemmas.List.{append-nil, drop_all, reverse-append}
+use Rattle.std.proofs.lemmas.List.{append-nil, drop_all, length-take-le, reverse-append, take-append-drop}
 use Rattle.std.proofs.lemmas.Option.{slice_get_cases, slice_get_within, slice_get-map, get_or_from_slice_get}
-use Rattle.std.proofs.Math.Seq.{drop-cons}
+use Rattle.std.proofs.Math.Seq.{drop-cons, set-append_seam}
 use Rattle.yf_events.specs.Event.{Placed}
 use Rattle.yf_events.specs.Reading.{events_of}
 use Rattle.yf_events.specs.Tree.{DocumentTree, TreesOf}
@@ -59,6 +59,21 @@ module _ (old rest new : List KeyedCollection) (a b : KeyedCollection) (p : old 
   scalar_passed w hit g st h =
       let f = first_collection a (reverse rest) (ap reverse p ∙ reverse_push rest a) h in
       (node_passed (Some w) (λ l k. (g l k).0) st h, (g f.l f.collection).1 ∙ ap (λ s. repeats_in w s) (sym f.is))
+
+-- the innermost collection changed in place
+module _ {A : Type 0} (xs : List A) (n : ℕ) (l : A) (c : length xs ≡ n) (h : 0 < n) (e : l ≡ get_or xs (n - 1) l) where
+  pub last_is : xs ≡ take (n - 1) xs ++ l ∷ []
+  last_is =
+      let k = n - 1 in
+      let d : drop k xs ≡ l ∷ [] = drop-cons xs k l (omega (arith, h, c)) ∙ ap (λ x. x ∷ drop (suc k) xs) (sym e)
+      ∙ ap (λ w. l ∷ w) (drop_all (suc k) xs (omega (arith, h, c))) in
+      sym (take-append-drop k xs) ∙ ap (λ w. take k xs ++ w) d
+
+  pub last_set : (new : A) → set xs (n - 1) new ≡ take (n - 1) xs ++ new ∷ []
+  last_set new =
+      let p = take (n - 1) xs in
+      let k : length p ≡ n - 1 = length-take-le (n - 1) xs (omega (arith, c)) in
+      ap (λ ys. set ys (n - 1) new) last_is ∙ ap (λ j. set (p ++ l ∷ []) j new) (sym k) ∙ set-append_seam p l [] new
 
 pub end_passed : (old rest : List KeyedCollection) (a : KeyedCollection) → old ≡ rest ++ a ∷ [] → (st : List Opened) → AreCollections (reverse old) st → AreCollections (reverse rest) (without_first st)
 end_passed old rest a p st h =

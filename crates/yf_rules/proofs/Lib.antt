@@ -15,6 +15,7 @@ pub mod NodeLemmas
 pub mod FlowLemmas
 pub mod BlockLemmas
 pub mod ScalarLemmas
+pub mod ScalarPasses
 -- trailing-blanks
 pub mod TrailingLemmas
 -- quoting

@@ -1,9 +1,9 @@
 -- In trees that are their own normal form, whose outer flow collections stand as they are written, none is displaced.
-use Rattle.std.proofs.Common.{◌≡◌, ◌≢◌, ℕ, ◌+◌, ◌-◌, ◌<◌, ◌≤◌, ◌⊎◌, ⊎_elim, Bool, true, false, true≢false, List, [], ◌∷◌, ◌++◌, Option, Some, None, length, map, flat_map, refl, sym, ap, ◌∙◌, subst, arith, append-nil, length-append}
-use Rattle.std.specs.Prelude.{◌&&◌, if◌then◌else◌, slice_get, nat_le}
+use Rattle.std.proofs.Common.{◌≡◌, ℕ, ◌+◌, ◌<◌, ◌≤◌, ⊎_elim, Bool, true, false, true≢false, List, [], ◌∷◌, ◌++◌, Some, length, map, flat_map, refl, sym, ap, ◌∙◌, subst, arith, append-nil, length-append}
+use Rattle.std.specs.Prelude.{◌&&◌, if◌then◌else◌, slice_get}
 use Rattle.std.proofs.lemmas.Bool.{and_parts, cases_lt}
-use Rattle.yf_events.specs.Event.{EventValue, Placed, document_starts, document_ends, sequence_ends, mapping_ends, stream_starts, stream_ends}
-use Rattle.yf_events.specs.Tree.{Standing, Node, scalar, alias, sequence, mapping, Items, no_items, item, Pairs, no_pairs, pair, DocumentTree, TreesOf, flat, flat_document, flat_items, flat_pairs, is_filled_flow, standing, unplaced}
+use Rattle.yf_events.specs.Event.{Placed, document_starts, document_ends, sequence_ends, mapping_ends, stream_starts, stream_ends}
+use Rattle.yf_events.specs.Tree.{Standing, Node, scalar, alias, sequence, mapping, Items, no_items, item, Pairs, no_pairs, pair, DocumentTree, TreesOf, flat, flat_document, flat_items, flat_pairs, is_filled_flow, unplaced}
 use Rattle.yf_events.specs.declared.lists.Lists.{Lists}
 use Rattle.yf_props.specs.Props.{PropsValue}
 use Rattle.yf_emit.specs.Kept.{may_be_kept}
@@ -14,7 +14,7 @@ use Rattle.yf_emit.proofs.SettledTwice.{settled_twice}
 use Rattle.yf_rules.specs.OuterFlow.{StandsOutside, is_flow, starts_flow}
 use Rattle.yf_rules.proofs.FlowLemmas.{no_flow_begun}
 use Rattle.yf_rules.proofs.NodeLemmas.{same_node}
-use Rattle.yf_emit.proofs.WrittenNodes.{WrittenAt, WrittenNode, written_scalar, written_alias, sequence_on_line, mapping_on_line, written_sequence, written_mapping, WrittenItems, no_written_items, written_item, WrittenPairs, no_written_pairs, written_pair, WrittenDocuments, no_written_documents, written_document}
+use Rattle.yf_emit.proofs.WrittenNodes.{WrittenAt, WrittenNode, sequence_on_line, mapping_on_line, written_sequence, written_mapping, WrittenItems, no_written_items, written_item, WrittenPairs, no_written_pairs, written_pair, WrittenDocuments, written_document}
 
 -- Parts of equations.
 

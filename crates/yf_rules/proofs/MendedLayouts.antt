@@ -1,11 +1,11 @@
 -- In a text whose reading is its own normal form, and in which each outer flow collection stands as it is written, none is displaced.
-use Rattle.std.proofs.Common.{◌≡◌, ◌≢◌, ℕ, ◌+◌, ◌-◌, ◌<◌, ◌≤◌, Bool, true, false, List, Option, Some, None, map, refl, sym, ap, ◌∙◌, subst, arith}
+use Rattle.std.proofs.Common.{◌≡◌, ℕ, ◌+◌, ◌-◌, ◌<◌, ◌≤◌, Bool, true, false, List, Some, None, map, refl, sym, ap, ◌∙◌, subst, arith}
 use Rattle.std.specs.Prelude.{◌&&◌, if◌then◌else◌, slice_get, slice_range}
 use Rattle.std.specs.Str.{IsUtf8}
 use Rattle.std.proofs.lemmas.Bool.{leb-true}
 use Rattle.yf_lines.specs.Lines.{AreLines, PlaceOf, Table}
 use Rattle.yf_lines.specs.declared.line.Line.{Line}
-use Rattle.yf_events.specs.Tree.{Node, DocumentTree, TreesOf, is_filled_flow, props_of, standing}
+use Rattle.yf_events.specs.Tree.{Node, DocumentTree, TreesOf, is_filled_flow, props_of}
 use Rattle.yf_events.specs.declared.event.Span.{Span}
 use Rattle.yf_events.specs.declared.lists.Lists.{Lists}
 use Rattle.yf_emit.specs.ContentStart.{content_start}
@@ -13,13 +13,13 @@ use Rattle.yf_emit.specs.Kept.{may_be_kept}
 use Rattle.yf_emit.specs.Normal.{Setting, normal_document, setting_of, styled}
 use Rattle.yf_emit.specs.OneLine.{bare, width, written}
 use Rattle.yf_emit.specs.declared.style.Style.{Style}
-use Rattle.yf_rules.specs.Layouts.{Displaced, EndsBehind, IsDisplaced, wanted_text}
+use Rattle.yf_rules.specs.Layouts.{Displaced, IsDisplaced, wanted_text}
 use Rattle.yf_rules.specs.Layouts.Displaced.{displaced}
 use Rattle.yf_rules.specs.Layouts.EndsBehind.{behind}
 use Rattle.yf_rules.specs.Layouts.IsDisplaced.{other_text, too_wide}
 use Rattle.yf_rules.specs.OuterFlow.{bracketed}
 use Rattle.yf_rules.proofs.MendedFlows.{Fine, fine_outer}
-use Rattle.yf_emit.proofs.WrittenNodes.{WrittenAt, WrittenDocuments}
+use Rattle.yf_emit.proofs.WrittenNodes.{WrittenDocuments}
 use Rattle.yf_rules.proofs.WrittenPlaces.{column_most}
 
 some_span : {a b : Span} → Some a ≡ Some b → a ≡ b

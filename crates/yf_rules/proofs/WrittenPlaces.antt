@@ -1,5 +1,5 @@
 -- The last character of a flow collection that stands as it is written has the last column of its width.
-use Rattle.std.proofs.Common.{◌≡◌, ◌≢◌, ℕ, ◌+◌, ◌-◌, ◌<◌, ◌≤◌, ◌⊎◌, ⊎_elim, Bool, true, false, true≢false, List, [], ◌∷◌, ◌++◌, length, length-append, Some, refl, sym, ap, ◌∙◌, subst, arith}
+use Rattle.std.proofs.Common.{◌≡◌, ◌≢◌, ℕ, ◌+◌, ◌-◌, ◌<◌, ◌≤◌, ⊎_elim, Bool, true, false, true≢false, List, [], ◌∷◌, ◌++◌, length, length-append, Some, refl, sym, ap, ◌∙◌, subst, arith}
 use Rattle.std.specs.Prelude.{nat_lt, slice_get}
 use Rattle.std.specs.Str.{IsUtf8}
 use Rattle.std.proofs.lemmas.Bool.{cases_lt}
@@ -11,7 +11,7 @@ use Rattle.yf_chars.specs.Chain.Chain.{done, step}
 use Rattle.yf_chars.specs.Chain.One.{one}
 use Rattle.yf_chars.proofs.ChainLemmas.{chain_forward, many_more, one_functional}
 use Rattle.yf_chars.proofs.TextLemmas.{next_later}
-use Rattle.yf_lines.specs.Lines.{AreLines, ColumnOf, Holds, Marks, NewLine, PlaceOf, is_char, is_mark}
+use Rattle.yf_lines.specs.Lines.{AreLines, ColumnOf, Holds, Marks, PlaceOf, is_char, is_mark}
 use Rattle.yf_lines.specs.Lines.ColumnOf.{among_marks, behind_marks}
 use Rattle.yf_lines.specs.Lines.Holds.{inside, at_text_end}
 use Rattle.yf_lines.specs.Lines.PlaceOf.{in_line, behind_lines}

@@ -5,6 +5,7 @@ pub mod Scalars
 pub mod Noted
 pub mod Styles
 pub mod Cover
+pub mod BlockLines
 pub mod ByLine
 pub mod Documents
 pub mod BlankLines

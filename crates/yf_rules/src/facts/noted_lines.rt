@@ -1,11 +1,14 @@
 //! Notes on lines: which are those of scalars, and which the content lines of block scalars.
-ghost use Rattle.std.specs.Prelude.{◌≡◌, ◌<◌, ◌≤◌, length, IfOk, MatchBool};
+ghost use Rattle.std.specs.Prelude.{◌≡◌, ◌<◌, ◌≤◌, ℕ, Some, true, length, slice_get, IfOk, MatchBool};
+ghost use Rattle.yf_lines.specs.declared.line.Line.{Line};
 ghost use Rattle.yf_rules.specs.BlankLines.{ScalarLine};
 ghost use Rattle.yf_rules.specs.Noted.{Noted, NotedBy};
 ghost use Rattle.yf_rules.specs.ScalarLines.{InRange, InSome, IsLonger, WantedLine, wanted_range};
 ghost use Rattle.yf_rules.specs.Scalars.{ContentLine};
 
-use crate::facts::scalars::{ScalarLines, scalar_lines_at};
+use crate::facts::begun::lines_begun;
+use crate::facts::scalars::{ScalarLines, block_lines_at, scalar_lines_at};
+use crate::rules::byte_order_mark::scalar_span;
 use std::alloc::{AllocError, Global};
 use yf_events::reading::Reading;
 use yf_lines::line::Line;
@@ -101,6 +104,78 @@ fn note(list: &mut Vec<bool>, src: &Src, range: Option<LineRange>)
     }
 }
 
+/// Notes the content lines of the block scalar that the event is. The line from which on the next one is looked for.
+#[inline(always)]
+fn note_content(list: &mut Vec<bool>, src: &Src, reading: &Reading, i: usize, line: usize) -> usize
+    requires event { i < length reading.now.events }
+    requires count { length list.old.items ≡ length src.now.lines }
+    ensures { Noted list.old.items list.new.items (λ k. ContentLine src.now reading.now k i) }
+{
+    let block = block_lines_at(src, reading, i, line);
+    note(list, src, range_of(block, WantedLines::Content));
+    match block {
+        Some(lines) => lines.first,
+        None => line,
+    }
+}
+
+/// Whether the lines from that index on begin at the byte offset or after it.
+#[inline(always)]
+fn begin_from(src: &Src, line: usize, end: usize) -> bool
+    ensures { result ≡ true → (m : ℕ) (l : Line) → slice_get src.now.lines m ≡ Some l → line ≤ m → end ≤ l.start }
+{
+    let lines = src.lines();
+    if line >= lines.len() {
+        return true;
+    }
+    if end <= lines.line(line).start {
+        return true;
+    }
+    false
+}
+
+/// Notes the lines of the scalar that the event is, after the one on which it begins. The line from which on the next one is
+/// looked for. Most scalars stand on one line.
+#[inline(always)]
+fn note_scalar(list: &mut Vec<bool>, src: &Src, reading: &Reading, i: usize, line: usize) -> usize
+    requires event { i < length reading.now.events }
+    requires count { length list.old.items ≡ length src.now.lines }
+    ensures { Noted list.old.items list.new.items (λ k. ScalarLine src.now reading.now k i) }
+{
+    match scalar_span(reading, i) {
+        Some(span) => {
+            let begun = lines_begun(src, line, span.start);
+            if begin_from(src, begun, span.end) {
+                return begun;
+            }
+            let lines = scalar_lines_at(src, reading, i, begun);
+            note(list, src, range_of(lines, WantedLines::All));
+            begun
+        }
+        None => line,
+    }
+}
+
+/// Notes the lines that are wanted of the scalar that the event is. The line from which on the next one is looked for.
+#[inline(always)]
+fn note_wanted(
+    list: &mut Vec<bool>,
+    src: &Src,
+    reading: &Reading,
+    i: usize,
+    line: usize,
+    wanted: WantedLines,
+) -> usize
+    requires event { i < length reading.now.events }
+    requires count { length list.old.items ≡ length src.now.lines }
+    ensures { Noted list.old.items list.new.items (λ k. WantedLine wanted src.now reading.now k i) }
+{
+    match wanted {
+        WantedLines::All => note_scalar(list, src, reading, i, line),
+        WantedLines::Content => note_content(list, src, reading, i, line),
+    }
+}
+
 /// Of each line, whether it is one of those that are wanted of a scalar.
 #[inline(always)]
 fn wanted_lines(
@@ -115,11 +190,7 @@ fn wanted_lines(
     let mut list = vec![in alloc; false; src.lines().len()]?;
     let mut line = 0;
     for i in 0..reading.len() {
-        let scalar = scalar_lines_at(src, reading, i, line);
-        note(&mut list, src, range_of(scalar, wanted));
-        if let Some(lines) = scalar {
-            line = lines.first;
-        }
+        line = note_wanted(&mut list, src, reading, i, line, wanted);
     }
     Ok(list)
 }

@@ -1,5 +1,6 @@
 //! The lines of each scalar after the one on which it begins, and the content lines of block scalars (YAML 1.2.2, section 8.1).
 ghost use Rattle.std.specs.Prelude.{◌≡◌, ◌<◌, ◌≤◌, ℕ, drop, length, MatchOption};
+ghost use Rattle.yf_rules.specs.BlockLines.{LinesOfBlock};
 ghost use Rattle.yf_rules.specs.ScalarLines.{IsContent, LinesOfScalar};
 ghost use Rattle.yf_rules.specs.Scalars as Scalars;
 ghost use Rattle.yf_rules.specs.Scalars.{BlockContent};
@@ -114,6 +115,23 @@ pub fn scalar_lines_at(src: &Src, reading: &Reading, i: usize, line: usize) -> O
             }
             None => None,
         },
+        _ => None,
+    }
+}
+
+/// The same of a block scalar; `None` also of a scalar of another style, which is passed by at once.
+#[inline(always)]
+pub fn block_lines_at(src: &Src, reading: &Reading, i: usize, line: usize) -> Option<ScalarLines>
+    requires { i < length reading.now.events }
+    ensures { LinesOfBlock src.now reading.now i result }
+{
+    match reading.event(i) {
+        Event::Scalar { style, .. } => {
+            if is_block_style(style) {
+                return scalar_lines_at(src, reading, i, line);
+            }
+            None
+        }
         _ => None,
     }
 }

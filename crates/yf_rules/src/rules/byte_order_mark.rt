@@ -30,7 +30,8 @@ pub fn offsets(alloc: Global, src: &Src, reading: &Reading) -> Offsets
 }
 
 /// The part of the text that a scalar has, if the event of that index is one with characters.
-fn scalar_span(reading: &Reading, i: usize) -> Option<Span>
+#[inline(always)]
+pub fn scalar_span(reading: &Reading, i: usize) -> Option<Span>
     requires { i < length reading.now.events }
     ensures { Answers (ScalarSpan reading.now i) result }
 {

@@ -6,7 +6,7 @@ ghost use Rattle.yf_rules.specs.IndentFaults.{content_fault, content_in, entry_f
 ghost use Rattle.yf_rules.specs.Sets.{indentation_at};
 ghost use Rattle.yf_rules.specs.Stands.{is_other, wanted_column, wanted_indent};
 
-use crate::facts::scalars::{ScalarLines, scalar_lines_at};
+use crate::facts::scalars::{ScalarLines, block_lines_at};
 use crate::facts::stands::{Around, Pass, Stand};
 use crate::rule::{Global, Offsets, Reading, Src, Style, push_found};
 pub use crate::rules::StyleRule::Indentation;
@@ -21,7 +21,7 @@ pub fn offsets(alloc: Global, src: &Src, reading: &Reading, style: &Style) -> Of
     let mut line = 0;
     for i in 0..reading.len() {
         let stand = pass.next(src, reading, i)?;
-        let scalar = scalar_lines_at(src, reading, i, line);
+        let scalar = block_lines_at(src, reading, i, line);
         if let Some(lines) = scalar {
             line = lines.first;
         }

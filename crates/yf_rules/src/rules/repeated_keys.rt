@@ -44,45 +44,45 @@ struct KeyedCollection<'r> {
     keys: BTreeSet<Key<'r>>,
 }
 
-/// A collection after a node in it that is no scalar.
-fn past<'r>(collection: KeyedCollection<'r>) -> KeyedCollection<'r>
-    ensures { (l : Opened) → IsCollection collection.entry l → IsCollection result (past_key None l) }
+/// Goes past a node in a collection that is no scalar.
+#[inline(always)]
+fn turn(collection: &mut KeyedCollection)
+    ensures { (l : Opened) → IsCollection collection.old l → IsCollection collection.new (past_key None l) }
 {
-    let mut past = collection;
-    past.at_value = !past.at_value;
-    past
+    collection.at_value = !collection.at_value;
 }
 
-/// A collection after a scalar in it, and whether the scalar is a key that the collection has already.
-fn past_scalar<'r>(
-    mut collection: KeyedCollection<'r>,
+/// Goes past a scalar in a collection: whether it is a key that the collection has already.
+#[inline(always)]
+fn turn_scalar<'r>(
+    collection: &mut KeyedCollection<'r>,
     scalar: Key<'r>,
-) -> Result<(KeyedCollection<'r>, bool), AllocError>
-    ensures { IfOk result (λ p. (l : Opened) → IsCollection collection.entry l → IsCollection p.0 (past_key (Some (key_value scalar.entry)) l)
-        × (p.1 ≡ (takes_key l && has_key (key_value scalar.entry) l.keys))) }
+) -> Result<bool, AllocError>
+    ensures { IfOk result (λ hit. (l : Opened) → IsCollection collection.old l → IsCollection collection.new (past_key (Some (key_value scalar.entry)) l)
+        × (hit ≡ (takes_key l && has_key (key_value scalar.entry) l.keys))) }
 {
     let takes_key = collection.is_map && !collection.at_value;
     collection.at_value = !collection.at_value;
     if takes_key {
         let is_new = collection.keys.insert(scalar)?;
-        return Ok((collection, !is_new));
+        return Ok(!is_new);
     }
-    Ok((collection, false))
+    Ok(false)
 }
 
 /// Goes past a node that is no scalar, in the innermost collection that is open.
-fn pass_node(stack: &mut Vec<KeyedCollection>) -> Result<(), AllocError>
-    ensures { IfOk result (λ _. (st : List Opened) → AreCollections (reverse stack.old.items) st
-        → AreCollections (reverse stack.new.items) (after None st)) }
+#[inline(always)]
+fn pass_node(stack: &mut Vec<KeyedCollection>)
+    ensures { (st : List Opened) → AreCollections (reverse stack.old.items) st → AreCollections (reverse stack.new.items) (after None st) }
 {
-    match stack.pop() {
-        Some(collection) => stack.push(past(collection))?,
+    match stack.last_mut() {
+        Some(collection) => turn(collection),
         None => {}
     }
-    Ok(())
 }
 
 /// Goes past a scalar: whether it is a key that its mapping has already.
+#[inline(always)]
 fn pass_scalar<'r>(
     stack: &mut Vec<KeyedCollection<'r>>,
     scalar: Key<'r>,
@@ -90,12 +90,8 @@ fn pass_scalar<'r>(
     ensures { IfOk result (λ hit. (st : List Opened) → AreCollections (reverse stack.old.items) st
         → AreCollections (reverse stack.new.items) (after (Some (key_value scalar.entry)) st) × (hit ≡ repeats_in (key_value scalar.entry) st)) }
 {
-    match stack.pop() {
-        Some(collection) => {
-            let (collection, is_known) = past_scalar(collection, scalar)?;
-            stack.push(collection)?;
-            Ok(is_known)
-        }
+    match stack.last_mut() {
+        Some(collection) => turn_scalar(collection, scalar),
         None => Ok(false),
     }
 }
@@ -109,7 +105,7 @@ fn pass_start(
     ensures { IfOk result (λ _. (st : List Opened) → AreCollections (reverse stack.old.items) st
         → AreCollections (reverse stack.new.items) (new_collection is_map ∷ after None st)) }
 {
-    pass_node(stack)?;
+    pass_node(stack);
     stack.push(KeyedCollection {
         is_map,
         at_value: false,
@@ -129,6 +125,7 @@ fn pass_end(stack: &mut Vec<KeyedCollection>)
 }
 
 /// Goes past one event: whether it is a scalar key that its mapping has already.
+#[inline(always)]
 fn pass<'r>(
     alloc: Global,
     stack: &mut Vec<KeyedCollection<'r>>,
@@ -146,7 +143,7 @@ fn pass<'r>(
             pass_scalar(stack, Key { text, tag })
         }
         Event::Alias { .. } => {
-            pass_node(stack)?;
+            pass_node(stack);
             Ok(false)
         }
         Event::SeqStart { .. } => {

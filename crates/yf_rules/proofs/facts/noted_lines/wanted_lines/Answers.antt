@@ -1,9 +1,8 @@
 use Rattle.std.proofs.Common.{◌≡◌, ℕ, ◌∙◌, ap, subst, length, false, arith}
 use Rattle.std.proofs.lemmas.List.{length-replicate}
 use Rattle.yf_rules.specs.Noted.{NotedBy}
-use Rattle.yf_rules.specs.ScalarLines.{InSome, WantedLine}
+use Rattle.yf_rules.specs.ScalarLines.{WantedLine}
 use Rattle.yf_rules.proofs.NotedLemmas.{none_noted_by, one_noted_by}
-use Rattle.yf_rules.proofs.ScalarLemmas.{wanted_told}
 use Rattle.yf_rules.proofs.facts.noted_lines.wanted_lines.Goals as goal
 
 pub loop-i-init : goal.loop-i-init
@@ -16,16 +15,10 @@ loop-i-init c =
 
 pub loop-i-preserved : goal.loop-i-preserved
 loop-i-preserved c =
-    let v = c.args.src.now in
-    let r = c.args.reading.now in
-    let i = c.loop-i.i in
-    let wanted = c.args.wanted in
-    let scalar = c.scalar_lines_at-scalar.result in
-    let told : (k : ℕ) → (WantedLine wanted v r k i → InSome v.lines c.range_of.result k) × (InSome v.lines c.range_of.result k → WantedLine wanted v r k i) =
-    rw c.range_of.ensures (wanted_told wanted v r i scalar c.scalar_lines_at-scalar.ensures) in
+    let P = λ (i : ℕ) (k : ℕ). WantedLine c.args.wanted c.args.src.now c.args.reading.now k i in
     record {
-      len = c.note.ensures.len ∙ c.loop-i.invariant.len;
-      noted = one_noted_by c.loop-i.list.items _ i (λ (i : ℕ) (k : ℕ). WantedLine wanted v r k i) (InSome v.lines c.range_of.result) told c.note.ensures c.loop-i.invariant.noted;
+      len = c.note_wanted-line.ensures.len ∙ c.loop-i.invariant.len;
+      noted = one_noted_by c.loop-i.list.items _ c.loop-i.i P (P c.loop-i.i) (λ k. (λ h. h, λ h. h)) c.note_wanted-line.ensures c.loop-i.invariant.noted;
     }
 
 pub returns : goal.returns
