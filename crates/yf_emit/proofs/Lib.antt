@@ -240,6 +240,7 @@ pub mod FixedLawsHold
 pub mod FlowEvents
 -- outer flow collections of what is laid out stand as they are written
 pub mod LinePlaces
+pub mod LookLemmas
 pub mod FlowHeads
 pub mod WrittenNodes
 pub mod WrittenFlows

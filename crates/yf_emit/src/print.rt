@@ -5,6 +5,7 @@ ghost use Rattle.yf_emit.specs.Printed.{RefusedPrint, WroteMade};
 pub mod layout;
 pub(crate) mod leaf_trails;
 pub(crate) mod leaves;
+pub(crate) mod looks;
 pub mod output;
 pub(crate) mod printer;
 pub mod trails;

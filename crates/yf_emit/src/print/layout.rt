@@ -1,12 +1,10 @@
 //! The layout of a normal reading: one pass over its events. Columns count from 0 here.
-ghost use Rattle.std.specs.Prelude.{◌<◌, ◌≡◌, get_or, length, OnOk, IfOk};
+ghost use Rattle.std.specs.Prelude.{◌<◌, ◌≡◌, length, OnOk, IfOk};
 ghost use Rattle.std.specs.String.{string_bytes};
 ghost use Rattle.yf_props.specs.Props.{props_value};
-ghost use Rattle.yf_events.specs.Event.{event_value, view_value};
-ghost use Rattle.yf_emit.specs.Forms.{no_form};
-ghost use Rattle.yf_emit.specs.Measures.{no_measure};
+ghost use Rattle.yf_events.specs.Event.{event_value};
 ghost use Rattle.yf_emit.specs.Printing as Printing;
-ghost use Rattle.yf_emit.specs.Pages.{work_on};
+ghost use Rattle.yf_emit.specs.Pages.{form_at, measure_at, placed_at, work_on};
 ghost use Rattle.yf_emit.specs.Printing.{work_of};
 ghost use Rattle.yf_emit.specs.Printers.{state_of};
 ghost use Rattle.yf_emit.specs.Printout.{IsPrinted};
@@ -17,14 +15,15 @@ use crate::form::forms::Forms;
 use crate::form::measure::measure_normal;
 use crate::form::measures::Measures;
 use crate::print::leaves::push_leaf;
+use crate::print::looks::{entry_at, event_at};
 use crate::print::output::Output;
 use crate::print::printer::{
-    Awaited, Level, Node, Page, Plan, Spot, begin_collection, next_document, next_spot,
+    Awaited, Level, Page, Plan, Spot, begin_collection, next_document, next_spot,
 };
 use crate::print::trails::find_trails;
 use crate::style::Style;
 use std::alloc::{AllocError, Global};
-use yf_events::event::{Event, View};
+use yf_events::event::Event;
 use yf_events::reading::Reading;
 use yf_props::props::Props;
 
@@ -43,13 +42,13 @@ pub(crate) struct Printer {
 impl Printer {
     /// Prints a leaf, an empty node or a flow collection that is kept.
     #[inline(always)]
-    fn leaf(&mut self, page: &Page, node: &Node, spot: Spot) -> Result<(), AllocError>
-        requires { node.now.i < length page.now.reading.now.events }
-        ensures { OnOk result (state_of self.new ≡ Printing.leaf_at (work_on page.now) node.now.i node.now.measure.now node.now.form.now
-            (view_value node.now.view.now) spot (state_of self.old)) }
+    fn leaf(&mut self, page: &Page, i: usize, spot: Spot) -> Result<(), AllocError>
+        requires { i < length page.now.reading.now.events }
+        ensures { OnOk result (state_of self.new ≡ Printing.leaf_at (work_on page.now) i (measure_at page.now i) (form_at page.now i)
+            (placed_at page.now i) spot (state_of self.old)) }
     {
-        push_leaf(&mut self.output, page, node, spot)?;
-        self.done = node.measure.last;
+        push_leaf(&mut self.output, page, i, spot)?;
+        self.done = page.plan.measures.at(i).last;
         Ok(())
     }
 
@@ -57,66 +56,69 @@ impl Printer {
     fn collection(
         &mut self,
         page: &Page,
-        node: &Node,
+        i: usize,
         spot: Spot,
         props: &Props,
         first: Awaited,
     ) -> Result<(), AllocError>
-        requires { node.now.i < length page.now.reading.now.events }
-        ensures { OnOk result (state_of self.new ≡ Printing.collection_if (Printing.is_whole node.now.i node.now.measure.now node.now.form.now)
-            (work_on page.now) node.now.i node.now.measure.now node.now.form.now (view_value node.now.view.now) (props_value props.now)
+        requires { i < length page.now.reading.now.events }
+        ensures { OnOk result (state_of self.new ≡ Printing.collection_if (Printing.is_whole i (measure_at page.now i) (form_at page.now i))
+            (work_on page.now) i (measure_at page.now i) (form_at page.now i) (placed_at page.now i) (props_value props.now)
             first spot (state_of self.old)) }
     {
-        if node.form.is_kept || node.measure.is_leaf(node.i) {
-            return self.leaf(page, node, spot);
+        let form = page.plan.forms.at(i);
+        if form.is_kept || page.plan.measures.at(i).is_leaf(i) {
+            return self.leaf(page, i, spot);
         }
         begin_collection(
             &mut self.output,
             &mut self.levels,
             page,
-            node.form,
+            &form,
             spot,
             props,
             first,
         )?;
-        self.done = node.i;
+        self.done = i;
         Ok(())
     }
 
     /// Prints the node that the event begins, or begins it where it is a block collection.
-    fn node(&mut self, page: &Page, i: usize, view: &View) -> Result<(), AllocError>
+    #[inline(always)]
+    fn node_at(
+        &mut self,
+        page: &Page,
+        i: usize,
+        event: &Event,
+        spot: Spot,
+    ) -> Result<(), AllocError>
         requires { i < length page.now.reading.now.events }
-        ensures { OnOk result (state_of self.new ≡ Printing.node (work_on page.now) i (get_or page.now.plan.now.measures i no_measure)
-            (get_or page.now.plan.now.forms i no_form) (view_value view.now) (state_of self.old)) }
+        ensures { OnOk result (state_of self.new ≡ Printing.node_in (work_on page.now) i (measure_at page.now i) (form_at page.now i)
+            (placed_at page.now i) (event_value event.now) spot (state_of self.old)) }
     {
-        let measure = page.plan.measures.at(i);
-        let form = page.plan.forms.at(i);
-        let node = Node {
-            i,
-            view,
-            measure: &measure,
-            form: &form,
-        };
+        match event {
+            Event::SeqStart { props, .. } => {
+                self.collection(page, i, spot, props, Awaited::Item)
+            }
+            Event::MapStart { props, .. } => { self.collection(page, i, spot, props, Awaited::Key) }
+            _ => self.leaf(page, i, spot),
+        }
+    }
+
+    /// Prints what stands before the node that the event begins, and the node.
+    fn node(&mut self, page: &Page, i: usize) -> Result<(), AllocError>
+        requires { i < length page.now.reading.now.events }
+        ensures { OnOk result (state_of self.new ≡ Printing.node (work_on page.now) i (measure_at page.now i) (form_at page.now i)
+            (placed_at page.now i) (state_of self.old)) }
+    {
         let spot = next_spot(
             &mut self.output,
             &mut self.levels,
             page,
-            node.form,
-            view.entry,
+            &page.plan.forms.at(i),
+            entry_at(page, i),
         )?;
-        match &view.event {
-            Event::SeqStart { props, .. } => {
-                self.collection(page, &node, spot, props, Awaited::Item)
-            }
-            Event::MapStart { props, .. } => self.collection(
-                page,
-                &node,
-                spot,
-                props,
-                Awaited::Key,
-            ),
-            _ => self.leaf(page, &node, spot),
-        }
+        self.node_at(page, i, &event_at(page, i), spot)
     }
 
     /// Begins the next document.
@@ -129,11 +131,12 @@ impl Printer {
 
     /// Goes past one event.
     #[inline(always)]
-    fn event(&mut self, page: &Page, i: usize, view: &View) -> Result<(), AllocError>
+    fn event(&mut self, page: &Page, i: usize, event: &Event) -> Result<(), AllocError>
         requires { i < length page.now.reading.now.events }
-        ensures { OnOk result (state_of self.new ≡ Printing.looked (work_on page.now) i (view_value view.now) (state_of self.old)) }
+        ensures { OnOk result (state_of self.new ≡ Printing.past_event (work_on page.now) i (measure_at page.now i) (form_at page.now i)
+            (placed_at page.now i) (event_value event.now) (state_of self.old)) }
     {
-        match &view.event {
+        match event {
             Event::StreamStart => Ok(()),
             Event::StreamEnd => Ok(()),
             Event::DocEnd { .. } => Ok(()),
@@ -146,21 +149,21 @@ impl Printer {
                 let _ = self.levels.pop();
                 Ok(())
             }
-            Event::Scalar { .. } => self.node(page, i, view),
-            Event::Alias { .. } => self.node(page, i, view),
-            Event::SeqStart { .. } => self.node(page, i, view),
-            Event::MapStart { .. } => self.node(page, i, view),
+            Event::Scalar { .. } => self.node(page, i),
+            Event::Alias { .. } => self.node(page, i),
+            Event::SeqStart { .. } => self.node(page, i),
+            Event::MapStart { .. } => self.node(page, i),
         }
     }
 
     /// Goes past one event, which gets no look where it stands within a node that is printed.
     #[inline(always)]
-    fn advance(&mut self, page: &Page, i: usize, view: &View) -> Result<(), AllocError>
+    fn advance(&mut self, page: &Page, i: usize) -> Result<(), AllocError>
         requires { i < length page.now.reading.now.events }
-        ensures { OnOk result (state_of self.new ≡ Printing.next (work_on page.now) i (view_value view.now) (state_of self.old)) }
+        ensures { OnOk result (state_of self.new ≡ Printing.next (work_on page.now) i (placed_at page.now i) (state_of self.old)) }
     {
         if self.done < i {
-            return self.event(page, i, view);
+            return self.event(page, i, &event_at(page, i));
         }
         Ok(())
     }
@@ -177,7 +180,7 @@ fn text_of(page: &Page) -> Result<String, AllocError>
         done: 0,
     };
     for i in 0..page.reading.len() {
-        printer.advance(page, i, &page.reading.lists().events.at(i))?;
+        printer.advance(page, i)?;
     }
     let Printer { output, .. } = printer;
     output.finish(page.reading, &page.plan.trails)

@@ -2,21 +2,23 @@
 //! count from 0 here.
 ghost use Rattle.std.specs.Prelude.{◌<◌, ◌≡◌, ◌+◌, drop, length, map, slice_get, OnOk, Some};
 ghost use Rattle.yf_props.specs.Props.{props_value};
-ghost use Rattle.yf_events.specs.Event.{event_value, view_value};
-ghost use Rattle.yf_emit.specs.Drafts.{draft};
-ghost use Rattle.yf_emit.specs.Pages.{work_on};
+ghost use Rattle.yf_events.specs.Event.{event_value};
+ghost use Rattle.yf_emit.specs.Deciding as Deciding;
+ghost use Rattle.yf_emit.specs.Drafts.{draft, with_text};
+ghost use Rattle.yf_emit.specs.Pages.{form_at, measure_at, placed_at, work_on};
 ghost use Rattle.yf_emit.specs.Printing as Printing;
-ghost use Rattle.yf_emit.specs.Printing.{event_noted, events_noted, leaf_noted_if, lines_column, node_noted, with_kept, with_node};
+ghost use Rattle.yf_emit.specs.Printing.{colon_text, event_noted, events_noted, leaf_noted_if, lines_column, node_noted, with_kept, with_node_event};
 
 use crate::form::decide::Form;
 use crate::form::kept::push_kept;
 use crate::form::keys::has_space;
+use crate::print::looks::{entry_at, event_at, folded_at, span_at};
 use crate::print::output::Output;
-use crate::print::printer::{Node, Page, Plan, Spot};
+use crate::print::printer::{Page, Plan, Spot};
 use crate::text::block::{is_kept_whole, push_folded, push_header, push_literal, push_spaces};
 use crate::text::written::{push_props, push_props_before, push_scalar};
 use std::alloc::AllocError;
-use yf_events::event::{Event, ScalarStyle, Span, View};
+use yf_events::event::{Event, ScalarStyle, Span};
 use yf_props::props::Props;
 
 /// Prints what stands before the value of a key without `?`, in an entry at that column.
@@ -122,29 +124,38 @@ fn push_scalar_node(
 fn push_collection(
     output: &mut Output,
     page: &Page,
-    node: &Node,
+    i: usize,
+    last: usize,
     props: &Props,
 ) -> Result<(), AllocError>
-    ensures { OnOk result (draft output.new ≡ with_kept (work_on page.now) node.now.i node.now.measure.now.last (props_value props.now)
-        (draft output.old)) }
+    ensures { OnOk result (draft output.new ≡ with_kept (work_on page.now) i last (props_value props.now) (draft output.old)) }
 {
     push_props_before(&mut output.line, props)?;
     push_kept(
         page.alloc,
         &mut output.line,
         page.reading,
-        node.i,
-        node.measure.last,
+        i,
+        last,
         &page.plan.style,
     )
 }
 
-/// Prints the text of a node that goes to the line.
-fn push_node(output: &mut Output, page: &Page, node: &Node, spot: Spot) -> Result<(), AllocError>
-    ensures { OnOk result (draft output.new ≡ with_node (work_on page.now) node.now.i node.now.measure.now.last
-        (view_value node.now.view.now) spot (draft output.old)) }
+/// Prints the text of a node that goes to the line: of the event at an index, with all up to the last one of the node.
+#[inline(always)]
+fn push_node(
+    output: &mut Output,
+    page: &Page,
+    i: usize,
+    last: usize,
+    event: &Event,
+    spot: Spot,
+) -> Result<(), AllocError>
+    requires { i < length page.now.reading.now.events }
+    ensures { OnOk result (draft output.new ≡ with_node_event (work_on page.now) i last (event_value event.now)
+        (placed_at page.now i).folded spot (draft output.old)) }
 {
-    match &node.view.event {
+    match event {
         Event::Scalar { props, style, text } => {
             push_scalar_node(
                 output,
@@ -153,7 +164,7 @@ fn push_node(output: &mut Output, page: &Page, node: &Node, spot: Spot) -> Resul
                 props,
                 *style,
                 text,
-                node.view.folded,
+                folded_at(page, i),
             )
         }
         Event::Alias { name } => {
@@ -161,7 +172,7 @@ fn push_node(output: &mut Output, page: &Page, node: &Node, spot: Spot) -> Resul
             output.line.push_str(name)
         }
         Event::SeqStart { props, .. } | Event::MapStart { props, .. } => {
-            push_collection(output, page, node, props)
+            push_collection(output, page, i, last, props)
         }
         _ => Ok(()),
     }
@@ -188,13 +199,15 @@ fn note_leaf(
 }
 
 /// Goes past an entry and a leaf that the event at an index begins.
-fn note_event(output: &mut Output, page: &Page, i: usize, view: &View) -> Result<(), AllocError>
-    ensures { OnOk result (draft output.new ≡ event_noted (work_on page.now) i (view_value view.now) (draft output.old)) }
+#[inline(always)]
+fn note_event(output: &mut Output, page: &Page, i: usize) -> Result<(), AllocError>
+    requires { i < length page.now.reading.now.events }
+    ensures { OnOk result (draft output.new ≡ event_noted (work_on page.now) i (placed_at page.now i) (draft output.old)) }
 {
-    if let Some(entry) = view.entry {
+    if let Some(entry) = entry_at(page, i) {
         output.meet(page.reading, entry.start);
     }
-    note_leaf(output, page, i, view.span)
+    note_leaf(output, page, i, span_at(page, i))
 }
 
 /// Goes past the entries and leaves within a node that is printed, whose events stand from the one index to the other.
@@ -213,21 +226,32 @@ fn note_within(
         if last < k {
             return Ok(());
         }
-        note_event(output, page, k, &page.reading.lists().events.at(k))?;
+        note_event(output, page, k)?;
     }
     Ok(())
 }
 
-/// Prints the `:` after a key.
-fn push_colon(output: &mut Output, spot: Spot, with_space: bool) -> Result<(), AllocError>
-    ensures { OnOk result (draft output.new ≡ Printing.colon_if spot with_space (draft output.old)) }
+/// Prints the `:` of a key, with a space before it or none.
+fn push_mark(output: &mut Output, with_space: bool) -> Result<(), AllocError>
+    ensures { OnOk result (draft output.new ≡ with_text (colon_text with_space) (draft output.old)) }
+{
+    if with_space {
+        return output.line.push_str(" :");
+    }
+    output.line.push(':')
+}
+
+/// Prints the `:` after the node that the event at an index begins, where it is a key without `?`.
+#[inline(always)]
+fn push_colon(output: &mut Output, page: &Page, i: usize, spot: Spot) -> Result<(), AllocError>
+    requires { i < length page.now.reading.now.events }
+    ensures { OnOk result (draft output.new ≡ Printing.colon_if spot (Deciding.has_space (placed_at page.now i).event
+        (Printing.is_leaf (work_on page.now) i)) (draft output.old)) }
 {
     match spot {
         Spot::Key => {
-            if with_space {
-                return output.line.push_str(" :");
-            }
-            output.line.push(':')
+            let is_leaf = page.plan.measures.at(i).is_leaf(i);
+            push_mark(output, has_space(&event_at(page, i), is_leaf))
         }
         _ => Ok(()),
     }
@@ -237,23 +261,19 @@ fn push_colon(output: &mut Output, spot: Spot, with_space: bool) -> Result<(), A
 pub(crate) fn push_leaf(
     output: &mut Output,
     page: &Page,
-    node: &Node,
+    i: usize,
     spot: Spot,
 ) -> Result<(), AllocError>
-    requires { node.now.i < length page.now.reading.now.events }
-    ensures { OnOk result (draft output.new ≡ Printing.leaf (work_on page.now) node.now.i node.now.measure.now node.now.form.now
-        (view_value node.now.view.now) spot (draft output.old)) }
+    requires { i < length page.now.reading.now.events }
+    ensures { OnOk result (draft output.new ≡ Printing.leaf (work_on page.now) i (measure_at page.now i) (form_at page.now i)
+        (placed_at page.now i) spot (draft output.old)) }
 {
-    let i = node.i;
-    if node.measure.first_leaf.is_some() {
-        before_text(output, page, node.form, spot)?;
-        push_node(output, page, node, spot)?;
-        note_leaf(output, page, i, node.view.span)?;
-        note_within(output, page, i, node.measure.last)?;
+    let measure = page.plan.measures.at(i);
+    if measure.first_leaf.is_some() {
+        before_text(output, page, &page.plan.forms.at(i), spot)?;
+        push_node(output, page, i, measure.last, &event_at(page, i), spot)?;
+        note_leaf(output, page, i, span_at(page, i))?;
+        note_within(output, page, i, measure.last)?;
     }
-    push_colon(
-        output,
-        spot,
-        has_space(&node.view.event, node.measure.is_leaf(i)),
-    )
+    push_colon(output, page, i, spot)
 }

@@ -3,7 +3,6 @@
 ghost use Rattle.std.specs.Prelude.{◌≡◌, ◌++◌, ◌∷◌, ◌==◌, map, not, reverse, slice_get, OnOk, IfOk};
 ghost use Rattle.std.specs.String.{string_bytes};
 ghost use Rattle.yf_props.specs.Props.{props_value};
-ghost use Rattle.yf_events.specs.Event.{view_value};
 ghost use Rattle.yf_emit.specs.Drafts.{draft};
 ghost use Rattle.yf_emit.specs.Printing as Printing;
 ghost use Rattle.yf_emit.specs.Pages.{work_on};
@@ -12,7 +11,6 @@ ghost use Rattle.yf_emit.specs.Rows.{joined_words};
 
 use crate::form::decide::Form;
 use crate::form::forms::Forms;
-use crate::form::measure::Measure;
 use crate::form::measures::Measures;
 use crate::print::output::Output;
 use crate::print::trails::Trails;
@@ -22,7 +20,7 @@ use crate::text::written::{has_props, push_props};
 use std::alloc::{AllocError, Global};
 use yf_events::directive::Directive;
 use yf_events::document::Doc;
-use yf_events::event::{Entry, View};
+use yf_events::event::Entry;
 use yf_events::reading::Reading;
 use yf_props::props::Props;
 
@@ -41,15 +39,6 @@ pub(crate) struct Page<'r, 'a> {
     pub(crate) alloc: Global,
     pub(crate) reading: &'r Reading<'a>,
     pub(crate) plan: &'r Plan,
-}
-
-/// A node that is printed: the index of the event that begins it, that event with its places, what was measured of the node, and its form.
-#[derive(Clone, Copy)]
-pub(crate) struct Node<'r, 'v> {
-    pub(crate) i: usize,
-    pub(crate) view: &'r View<'v>,
-    pub(crate) measure: &'r Measure,
-    pub(crate) form: &'r Form,
 }
 
 /// What a block collection awaits.

@@ -1,19 +1,18 @@
-use Rattle.std.proofs.Common.{◌≡◌, ◌≤◌, ◌∙◌, ap, arith, length, subst, sym}
-use Rattle.std.specs.Prelude.{IfOk, slice_get}
+use Rattle.std.proofs.Common.{◌≡◌, ◌≤◌, ap, arith, length, subst}
+use Rattle.std.specs.Prelude.{IfOk}
 use Rattle.std.specs.String.{string_bytes}
-use Rattle.yf_events.specs.Event.{view_value}
-use Rattle.yf_events.specs.declared.lists.Lists.{Lists}
 use Rattle.yf_emit.specs.Drafts.{finished}
 use Rattle.yf_emit.specs.Printers.{state_of}
 use Rattle.yf_emit.specs.Printing.{State, remarks_of}
-use Rattle.yf_emit.specs.Pages.{work_on}
+use Rattle.yf_emit.specs.Pages.{no_event, placed_at, work_on}
+use Rattle.yf_emit.proofs.LookLemmas.{stands}
 use Rattle.yf_emit.proofs.PrintLemmas.{passed_on, passed_end}
 use Rattle.yf_emit.proofs.print.layout.text_of.Goals as goal
 
 pub loop-i-preserved : goal.loop-i-preserved
 loop-i-preserved c =
-    passed_on (work_on c.args.page.now) c.loop-i.i c.args.page.now.reading.now.events (view_value c.at.result) _ _ _ (ap (λ (w : Lists). slice_get w.events c.loop-i.i) (sym c.lists.ensures.same) ∙ c.at.ensures)
-    c.in_ok-advance.ensures c.loop-i.invariant
+    passed_on (work_on c.args.page.now) c.loop-i.i c.args.page.now.reading.now.events (placed_at c.args.page.now c.loop-i.i) _ _ _
+    (stands c.args.page.now.reading.now.events c.loop-i.i no_event (omega arith)) c.in_ok-advance.ensures c.loop-i.invariant
 
 pub returns : goal.returns
 returns c =
