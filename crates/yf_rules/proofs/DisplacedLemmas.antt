@@ -182,6 +182,20 @@ pub record Bracketed (src : Table) (r : Lists) (i : ℕ) (inside : Span) : Type 
   pub span : (standing x).span ≡ Some s
   pub is : inside ≡ bracketed src.text (props_of x) s
 
+pub begins_no_flow : (t : List ℕ) (e : EventValue) (span : Option Span) → starts_flow e ≡ false → None ≡ brackets t e span
+begins_no_flow t stream_starts span f = refl
+begins_no_flow t stream_ends span f = refl
+begins_no_flow t (document_starts marked) span f = refl
+begins_no_flow t (document_ends closed) span f = refl
+begins_no_flow t (sequence_starts true props) span f = absurd (true≢false f)
+begins_no_flow t (sequence_starts false props) span f = refl
+begins_no_flow t sequence_ends span f = refl
+begins_no_flow t (mapping_starts true props) span f = absurd (true≢false f)
+begins_no_flow t (mapping_starts false props) span f = refl
+begins_no_flow t mapping_ends span f = refl
+begins_no_flow t (scalar_node props style text) span f = refl
+begins_no_flow t (alias_node name) span f = refl
+
 pub no_brackets : (src : Table) (r : Lists) (i : ℕ)
     → ((e : EventValue) (o : Option Span) → slice_get (events_of r) i ≡ Some e → slice_get (spans_of r) i ≡ Some o → None ≡ brackets src.text e o)
     → (house : Style) (offset : ℕ) → Displaced src r house i offset → ⊥

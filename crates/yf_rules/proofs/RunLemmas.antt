@@ -11,7 +11,7 @@ use Rattle.yf_chars.proofs.TextLemmas.{next_later}
 use Rattle.yf_lines.proofs.MarkLemmas.{marks_unique}
 use Rattle.yf_lines.proofs.TableLemmas.{some_same}
 use Rattle.yf_lines.specs.declared.line.Line.{Line}
-use Rattle.yf_lines.specs.Lines.{Marks, Table, is_char}
+use Rattle.yf_lines.specs.Lines.{Marks, Table, is_char, is_mark}
 use Rattle.yf_rules.specs.ByLine.{IsBehind, BeyondLimit}
 use Rattle.yf_rules.specs.ByLine.BeyondLimit.{beyond}
 use Rattle.yf_rules.specs.Exact.{Sole, Answers}
@@ -68,6 +68,15 @@ pub line_answers : (src : Table) (max k : ℕ) (l : Line) (start : ℕ) (answer 
     → Answers (IsBehind src.text start l.end max) answer → Answers (BeyondLimit src max k) answer
 line_answers src max k l start None e m a = λ o b. a o (in_line b l start e m)
 line_answers src max k l start (Some o) e m a = record { holds = beyond e m a.holds; only = λ p b. a.only p (in_line b l start e m) }
+
+-- a line that has no more bytes with its break
+pub short_line : (src : Table) (max k : ℕ) (l : Line) → slice_get src.lines k ≡ Some l → l.end ≤ l.next → l.next - l.start ≤ max → (o : ℕ) → BeyondLimit src max k o → ⊥
+short_line src max k l e w h o (beyond {l = n} {start = s} f m b) =
+    let same : n ≡ l = some_same (sym f ∙ e) in
+    let start = ap (λ (v : Line). v.start) same in
+    let end = ap (λ (v : Line). v.end) same in
+    let later : n.start ≤ s = chain_forward (one_functional src.text is_mark) m.run in
+    too_few_bytes src.text s n.end max (omega (arith, start, end, later, w, h)) o b
 
 pub beyond_within : {src : Table} {max k o : ℕ} → BeyondLimit src max k o → k < length src.lines
 beyond_within {src} {max} {k} (beyond {l} e m b) = slice_get_within src.lines k l e

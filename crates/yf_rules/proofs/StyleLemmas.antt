@@ -1,5 +1,5 @@
 -- Laws of scalars in another style than the one wanted.
-use Rattle.std.proofs.Common.{◌≡◌, ◌≢◌, ℕ, ◌<◌, List, Some, None, length, sym, subst, ap, ◌∙◌, arith}
+use Rattle.std.proofs.Common.{◌≡◌, ◌≢◌, ℕ, ◌<◌, List, Option, Some, None, length, sym, subst, ap, ◌∙◌, arith}
 use Rattle.std.specs.Prelude.{slice_get}
 use Rattle.std.proofs.lemmas.List.{length-map}
 use Rattle.std.proofs.lemmas.Option.{slice_get_within}
@@ -11,9 +11,14 @@ use Rattle.yf_events.specs.Reading.{events_of, spans_of}
 use Rattle.yf_events.specs.declared.event.ScalarStyle.{ScalarStyle}
 use Rattle.yf_events.specs.declared.event.Span.{Span}
 use Rattle.yf_events.specs.declared.lists.Lists.{Lists}
+use Rattle.yf_lines.specs.Lines.{Table}
 use Rattle.yf_props.specs.Props.{PropsValue}
-use Rattle.yf_rules.specs.Exact.{Sole}
+use Rattle.yf_rules.specs.Exact.{Answers, Sole}
 use Rattle.yf_rules.specs.Scalars.{IsScalar}
+use Rattle.yf_rules.specs.ScalarLines.{LinesOfScalar}
+use Rattle.yf_rules.specs.ScalarLines.LinesOfScalar.{has_none}
+use Rattle.yf_rules.specs.ScalarStarts.{StartOf}
+use Rattle.yf_rules.specs.ScalarStarts.StartOf.{no_part, of_part}
 use Rattle.yf_rules.specs.Styles.{Misquoted}
 use Rattle.yf_rules.specs.Styles.Misquoted.{other_style}
 use Rattle.yf_rules.proofs.BlockLemmas.{event_same, part_same, scalar_same, style_same, text_same}
@@ -43,11 +48,22 @@ pub misquoted_event : {t : List ℕ} {r : Lists} {house : Style} {i o : ℕ} →
 misquoted_event {r = r} {i = i} (other_style {props} {style} {text} h n) =
     let m = slice_get_within (events_of r) i (scalar_node props style text) h.event in omega (arith, m, length-map r.events (λ e. e.event))
 
--- the same as the code has it
-pub misquoted_read : (t u : List ℕ) (r : Lists) (house : Style) (i : ℕ) (props : PropsValue) (style result : ScalarStyle) (text bytes : List ℕ) (s : Span) (start : ℕ) → u ≡ t
-    → slice_get (events_of r) i ≡ Some (scalar_node props style text) → bytes ≡ text → result ≡ wanted style bytes house.quotes → (result ≡ style → ⊥)
-    → slice_get (spans_of r) i ≡ Some (Some s) → start ≡ content_start u s props → Sole (Misquoted t r house i) start
-misquoted_read t u r house i props style result text bytes s start q e b w n p c =
-    let is : result ≡ wanted style text house.quotes = w ∙ ap (λ x. wanted style x house.quotes) b in
-    let found : Sole (Misquoted t r house i) (content_start t s props) = misquoted_found t r house i props style text e s p (λ h. n (is ∙ h)) in
-    subst (λ o. Sole (Misquoted t r house i) o) (sym (c ∙ ap (λ v. content_start v s props) q)) found
+-- where the content begins, as the code has it
+pub start_told : (t u : List ℕ) (r : Lists) (i : ℕ) (props : PropsValue) (style : ScalarStyle) (text : List ℕ) (s : Span) (start : ℕ) → IsScalar r i props style text s → u ≡ t
+    → start ≡ content_start u s props → StartOf t r i (Some start)
+start_told t u r i props style text s start is e q = subst (λ o. StartOf t r i (Some o)) (sym (q ∙ ap (λ v. content_start v s props) e)) (of_part is)
+
+pub no_start : {src : Table} {r : Lists} {i : ℕ} → LinesOfScalar src r i None → StartOf src.text r i None
+no_start (has_none f) = no_part f
+
+misquoted_scalar : {t : List ℕ} {r : Lists} {house : Style} {i o : ℕ} → ((props : PropsValue) (style : ScalarStyle) (text : List ℕ) (s : Span) → IsScalar r i props style text s → ⊥)
+    → Misquoted t r house i o → ⊥
+misquoted_scalar f (other_style {props} {style} {text} {s} h n) = f props style text s h
+
+pub misquoted_told : (t : List ℕ) (r : Lists) (house : Style) (i : ℕ) (props : PropsValue) (style result : ScalarStyle) (text : List ℕ) (answer : Option ℕ)
+    → slice_get (events_of r) i ≡ Some (scalar_node props style text) → result ≡ wanted style text house.quotes → (result ≡ style → ⊥) → StartOf t r i answer
+    → Answers (Misquoted t r house i) answer
+misquoted_told t r house i props style result text None e w n (no_part f) = λ o h. misquoted_scalar f h
+misquoted_told t r house i props style result text (Some o) e w n (of_part {props = p} {style = v} {text = x} {s = s} is) =
+    let q = scalar_same (record { event = e; part = is.part }) is in
+    subst (λ y. Sole (Misquoted t r house i) (content_start t s y)) q.props (misquoted_found t r house i props style text e s is.part (λ h. n (w ∙ h)))

@@ -6,6 +6,7 @@ pub mod Noted
 pub mod Styles
 pub mod Cover
 pub mod BlockLines
+pub mod ScalarStarts
 pub mod ByLine
 pub mod Documents
 pub mod BlankLines

@@ -13,7 +13,8 @@ use yf_events::event::Event;
 use yf_events::reading::Reading;
 
 /// Whether the event begins a flow collection.
-fn starts_flow(reading: &Reading, i: usize) -> bool
+#[inline(always)]
+pub fn starts_flow(reading: &Reading, i: usize) -> bool
     requires { i < length reading.now.events }
     ensures { (e : EventValue) → slice_get (events_of reading.now) i ≡ Some e → result ≡ OuterFlow.starts_flow e }
 {
@@ -26,6 +27,7 @@ fn starts_flow(reading: &Reading, i: usize) -> bool
 
 /// Goes past the event at an index: `done` is the index of the last event of the flow collections before it, and so is what is
 /// answered of those up to it. It is 0 where there is none.
+#[inline(always)]
 pub fn past_flow(reading: &Reading, measures: &Measures, i: usize, done: usize) -> usize
     requires { i < length reading.now.events }
     ensures { (t : List ℕ) (c : Setting) (trees : List DocumentTree) → TreesOf reading.now trees

@@ -58,6 +58,7 @@ struct OpenCollection {
 }
 
 /// The byte offset at which the entry begins that the event begins, where a character begins there or the text ends.
+#[inline(always)]
 fn entry_start(src: &Src, reading: &Reading, i: usize) -> Option<usize>
     requires { i < length reading.now.events }
     ensures { result ≡ start_at src.now.text (Entries.first_entry (drop i reading.now.events)) }
@@ -74,6 +75,7 @@ fn entry_start(src: &Src, reading: &Reading, i: usize) -> Option<usize>
 }
 
 /// Whether the event begins a block collection.
+#[inline(always)]
 fn starts_block(reading: &Reading, i: usize) -> bool
     requires { i < length reading.now.events }
     ensures { (e : EventValue) → slice_get (events_of reading.now) i ≡ Some e → result ≡ Entries.starts_block e }
@@ -86,6 +88,7 @@ fn starts_block(reading: &Reading, i: usize) -> bool
 }
 
 /// The byte offset of the first entry of the block collection that the event begins.
+#[inline(always)]
 fn first_entry(src: &Src, reading: &Reading, i: usize) -> Option<usize>
     requires { i < length reading.now.events }
     ensures { result ≡ entries_from src.now.text (drop i reading.now.events) }
@@ -111,6 +114,7 @@ fn first_entries(alloc: Global, src: &Src, reading: &Reading) -> Result<Vec<usiz
 }
 
 /// Whether the next node is the value of a key without `?`; the collection then waits for what comes after the node.
+#[inline(always)]
 fn next_in(collection: &mut OpenCollection, src: &Src, reading: &Reading, i: usize) -> bool
     requires { i < length reading.now.events }
     ensures collection { collection.new ≡ past (unmarked_at src.now.text reading.now.events i) collection.old }
@@ -135,6 +139,7 @@ fn next_in(collection: &mut OpenCollection, src: &Src, reading: &Reading, i: usi
 }
 
 /// What holds the next node, in the innermost open collection.
+#[inline(always)]
 fn held_by(collection: &OpenCollection) -> Around
     ensures { result ≡ held collection.now.column }
 {
@@ -145,6 +150,7 @@ fn held_by(collection: &OpenCollection) -> Around
 }
 
 /// Where the next node stands, a block collection's own entries left out.
+#[inline(always)]
 fn next_stand(stack: &mut Vec<OpenCollection>, src: &Src, reading: &Reading, i: usize) -> Stand
     requires { i < length reading.now.events }
     ensures stack { reverse stack.new.items ≡ after (unmarked_at src.now.text reading.now.events i) (reverse stack.old.items) }
@@ -194,6 +200,7 @@ impl Pass {
     }
 
     /// Goes past the event at an index, which is the next one: where the node stands that it begins.
+    #[inline(always)]
     pub fn next(&mut self, src: &Src, reading: &Reading, i: usize) -> Result<Stand, AllocError>
         requires { i < length reading.now.events }
         ensures { IfOk result (λ stand. (e : EventValue) → slice_get (events_of reading.now) i ≡ Some e
@@ -215,6 +222,7 @@ impl Pass {
     }
 
     /// Goes past the start of a collection.
+    #[inline(always)]
     fn open(
         &mut self,
         src: &Src,

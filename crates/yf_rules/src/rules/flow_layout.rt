@@ -14,7 +14,7 @@ ghost use Rattle.yf_rules.specs.OuterFlow as OuterFlow;
 ghost use Rattle.yf_rules.specs.OuterFlow.{FlowsDone, is_flow};
 ghost use Rattle.yf_rules.specs.Sets.{flow_layout_at};
 
-use crate::facts::outer_flow::past_flow;
+use crate::facts::outer_flow::{past_flow, starts_flow};
 use crate::rule::{AllocError, Global, Offsets, Reading, Src, Style, push_found};
 pub use crate::rules::StyleRule::FlowLayout;
 use yf_emit::form::kept::kept_text_of;
@@ -96,6 +96,7 @@ fn is_empty(measures: &Measures, i: usize) -> bool
 }
 
 /// Whether the flow collection, whose text from bracket to bracket is that part, is at fault.
+#[inline(never)]
 fn is_displaced(
     alloc: Global,
     src: &Src,
@@ -129,7 +130,7 @@ fn is_displaced(
 }
 
 /// From bracket to bracket the flow collection that the event begins.
-#[inline(always)]
+#[inline(never)]
 fn brackets(src: &Src, reading: &Reading, i: usize) -> Option<Span>
     requires { i < length reading.now.events }
     ensures { (e : EventValue) (span : Option Span) → slice_get (events_of reading.now) i ≡ Some e
@@ -149,12 +150,25 @@ fn brackets(src: &Src, reading: &Reading, i: usize) -> Option<Span>
     }
 }
 
+/// The same. Events that begin none, which are most, are passed by at once.
+#[inline(always)]
+fn brackets_at(src: &Src, reading: &Reading, i: usize) -> Option<Span>
+    requires { i < length reading.now.events }
+    ensures { (e : EventValue) (span : Option Span) → slice_get (events_of reading.now) i ≡ Some e
+        → slice_get (spans_of reading.now) i ≡ Some span → result ≡ OuterFlow.brackets src.now.text e span }
+{
+    if !starts_flow(reading, i) {
+        return None;
+    }
+    brackets(src, reading, i)
+}
+
 /// Whether the text has any flow collection.
 fn has_brackets(src: &Src, reading: &Reading) -> bool
     ensures { result ≡ false → (house : Style) (i o : ℕ) → Displaced src.now reading.now house i o → ⊥ }
 {
     for i in 0..reading.len() {
-        match brackets(src, reading, i) {
+        match brackets_at(src, reading, i) {
             Some(_) => return true,
             None => {}
         }
@@ -164,6 +178,7 @@ fn has_brackets(src: &Src, reading: &Reading) -> bool
 
 /// The opening bracket of the flow collection that the event begins, if it is at fault; those that begin up to the index `done` stand in
 /// another one.
+#[inline(always)]
 fn displaced(
     alloc: Global,
     src: &Src,
@@ -181,7 +196,7 @@ fn displaced(
     if i <= done {
         return Ok(None);
     }
-    match brackets(src, reading, i) {
+    match brackets_at(src, reading, i) {
         Some(inside) => {
             if is_displaced(alloc, src, reading, measures, i, inside, style)? {
                 return Ok(Some(inside.start));

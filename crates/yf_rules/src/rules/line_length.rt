@@ -22,6 +22,7 @@ pub fn offsets(alloc: Global, src: &Src, style: &Style) -> Offsets
 
 /// The byte offset after so many characters of a line, where at least one more stands before the line's end. A line of so
 /// many bytes has no more characters, so that these are counted of longer lines alone.
+#[inline(never)]
 fn behind_chars(text: &str, start: usize, end: usize, count: usize) -> Option<usize>
     requires start { IsCharBoundary text.now start }
     requires end { end ≤ length text.now }
@@ -48,12 +49,17 @@ fn behind_chars(text: &str, start: usize, end: usize, count: usize) -> Option<us
     None
 }
 
-/// The first character of the line of that index after the longest line that is allowed, if it is longer.
+/// The first character of the line of that index after the longest line that is allowed, if it is longer. Most lines have no
+/// more bytes than that with their break.
+#[inline(always)]
 fn beyond(src: &Src, k: usize, max_line: usize) -> Option<usize>
     requires { k < length src.now.lines }
     ensures { Answers (BeyondLimit src.now max_line k) result }
 {
     let line = src.lines().line(k);
+    if line.next.saturating_sub(line.start) <= max_line {
+        return None;
+    }
     let start = skip_marks(src.text(), line.start);
     behind_chars(src.text(), start, line.end, max_line)
 }

@@ -1,6 +1,7 @@
 //! Rule 3, quoting.
 ghost use Rattle.std.specs.Prelude.{◌<◌, length, IfOk};
 ghost use Rattle.yf_rules.specs.Exact.{Answers, Exactly};
+ghost use Rattle.yf_rules.specs.ScalarStarts.{StartOf};
 ghost use Rattle.yf_rules.specs.Styles.{Misquoted};
 
 use crate::rule::{Global, Offsets, Reading, Src, Style, push_found};
@@ -20,24 +21,37 @@ pub fn offsets(alloc: Global, src: &Src, reading: &Reading, style: &Style) -> Of
     Ok(offsets)
 }
 
+/// Where the content begins of the scalar that the event is, if it has characters. Few scalars are asked for it.
+#[inline(never)]
+fn start_of(src: &Src, reading: &Reading, i: usize) -> Option<usize>
+    requires { i < length reading.now.events }
+    ensures { StartOf src.now.text reading.now i result }
+{
+    match reading.event(i) {
+        Event::Scalar { props, .. } => match reading.span(i) {
+            Some(span) => Some(content_start(src.text(), span, &props)),
+            None => None,
+        },
+        _ => None,
+    }
+}
+
 /// The first character of the scalar, if its style is not the one wanted.
+#[inline(always)]
 fn misquoted(src: &Src, reading: &Reading, i: usize, style: &Style) -> Option<usize>
     requires { i < length reading.now.events }
     ensures { Answers (Misquoted src.now.text reading.now style.now i) result }
 {
     match reading.event(i) {
         Event::Scalar {
-            props,
             style: written,
             text,
+            ..
         } => {
             if wanted_of(written, text, style.quotes) == written {
                 return None;
             }
-            match reading.span(i) {
-                Some(span) => Some(content_start(src.text(), span, &props)),
-                None => None,
-            }
+            start_of(src, reading, i)
         }
         _ => None,
     }

@@ -5,7 +5,7 @@ use Rattle.yf_events.specs.declared.event.ScalarStyle.{ScalarStyle}
 use Rattle.yf_events.specs.declared.event.ScalarStyle.TheVariants.{Plain, Single, Double, Literal, Folded}
 use Rattle.yf_props.specs.Props.{props_value}
 use Rattle.yf_rules.proofs.MarkPassLemmas.{scalar_event}
-use Rattle.yf_rules.proofs.StyleLemmas.{misquoted_read}
+use Rattle.yf_rules.proofs.StyleLemmas.{misquoted_told}
 use Rattle.yf_rules.proofs.rules.quoting.misquoted.Goals as goal
 
 alike : (style : ScalarStyle) → sameb the_type style style ≡ true
@@ -15,12 +15,10 @@ alike Double = refl
 alike Literal = refl
 alike Folded = refl
 
-pub returns-in-Some : goal.returns-in-Some
-returns-in-Some c =
+pub returns-else-eq : goal.returns-else-eq
+returns-else-eq c =
     let w = c.in-Scalar in
     let z : c.eq.result ≡ sameb the_type c.wanted_of.result w.written = c.eq.ensures in
     let n : c.wanted_of.result ≡ w.written → ⊥ = λ e. true≢false (sym (z ∙ ap (λ v. sameb the_type v w.written) e ∙ alike w.written) ∙ c.if-eq.false) in
-    misquoted_read c.args.src.now.text c.text.result.now c.args.reading.now c.args.style.now c.args.i (props_value w.props) w.written c.wanted_of.result w.text.now
-    w.text.now c.in-Some.span c.content_start.result c.text.ensures
-    (scalar_event c.args.reading.now c.args.i c.event.result w.props w.written w.text c.event.ensures w.is) refl c.wanted_of.ensures n c.in-Some.ensures
-    c.content_start.ensures
+    misquoted_told c.args.src.now.text c.args.reading.now c.args.style.now c.args.i (props_value w.props) w.written c.wanted_of.result w.text.now c.start_of.result
+    (scalar_event c.args.reading.now c.args.i c.event.result w.props w.written w.text c.event.ensures w.is) c.wanted_of.ensures n c.start_of.ensures
