@@ -1,13 +1,12 @@
 -- The innermost open collection, which is the last of the stack.
 use Rattle.std.proofs.Common.{◌≡◌, ℕ, ◌+◌, ◌-◌, ◌<◌, List, [], ◌∷◌, ◌++◌, length, set, get_or, reverse, refl, sym, ap, ◌∙◌, arith}
-use Rattle.std.specs.Prelude.{Option, true}
 use Rattle.std.proofs.Math.Seq.{set-append_seam, get_or-append_seam}
 use Rattle.std.proofs.lemmas.List.{length-append, reverse-append}
 use Rattle.yf_events.specs.Event.{EventValue}
-use Rattle.yf_emit.specs.declared.form.keys.Key.{Key}
 use Rattle.yf_emit.specs.declared.form.places.Level.{Level}
+use Rattle.yf_emit.specs.declared.form.places.Place.{Place}
 use Rattle.yf_emit.specs.declared.form.measure.Measure.{Measure}
-use Rattle.yf_emit.specs.Deciding.{Given, next_stack, key_behind}
+use Rattle.yf_emit.specs.Deciding.{Given, next_place, next_stack}
 
 last_level : (x : Level) (xs : List Level) → (zs : List Level) × (y : Level) × (x ∷ xs ≡ zs ++ (y ∷ []))
 last_level x [] = ([], x, refl)
@@ -34,14 +33,13 @@ top (x ∷ xs) n o l p g =
           ∙ ap reverse (set-append_seam s.0 s.1 [] w) ∙ reverse-append s.0 (w ∷ []);
     }
 
--- a node was counted in the innermost mapping
-counted : (g : Given) (e : EventValue) (i : ℕ) (m : Measure) (o : Level) (others : List Level) (key : Option Key) → o.is_map ≡ true
-    → key ≡ key_behind g e i m o.column o.key
-    → record { is_map = true; column = o.column; key = key } ∷ others ≡ next_stack g e i m (o ∷ others)
-counted g e i m o others key b k = rw (b, k) refl
+-- where the next node stands in the innermost collection, and how that is noted there
 
-pub count_in_map : (g : Given) (e : EventValue) (i : ℕ) (m : Measure) (xs : List Level) (n : ℕ) (o : Level) (key : Option Key)
-    → n ≡ length xs → 0 < n → o ≡ get_or xs (n - 1) o → o.is_map ≡ true → key ≡ key_behind g e i m o.column o.key
-    → reverse (set xs (n - 1) (record { is_map = true; column = o.column; key = key })) ≡ next_stack g e i m (reverse xs)
-count_in_map g e i m xs n o key l p q b k =
-    let t = top xs n o l p q in t.changed _ ∙ counted g e i m o t.others key b k ∙ ap (next_stack g e i m) (sym t.is)
+pub placed_on_top : (g : Given) (e : EventValue) (i : ℕ) (m : Measure) (xs : List Level) (n : ℕ) (o : Level) (p : Place)
+    → n ≡ length xs → 0 < n → o ≡ get_or xs (n - 1) o → ((others : List Level) → p ≡ next_place g e i m (o ∷ others)) → p ≡ next_place g e i m (reverse xs)
+placed_on_top g e i m xs n o p l q b h = let t = top xs n o l q b in h t.others ∙ ap (next_place g e i m) (sym t.is)
+
+pub noted_on_top : (g : Given) (e : EventValue) (i : ℕ) (m : Measure) (xs : List Level) (n : ℕ) (o w : Level)
+    → n ≡ length xs → 0 < n → o ≡ get_or xs (n - 1) o → ((others : List Level) → w ∷ others ≡ next_stack g e i m (o ∷ others))
+    → reverse (set xs (n - 1) w) ≡ next_stack g e i m (reverse xs)
+noted_on_top g e i m xs n o w l q b h = let t = top xs n o l q b in t.changed w ∙ h t.others ∙ ap (next_stack g e i m) (sym t.is)

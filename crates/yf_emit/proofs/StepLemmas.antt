@@ -15,7 +15,7 @@ use Rattle.yf_emit.specs.declared.form.measure.Measure.{Measure}
 use Rattle.yf_emit.specs.declared.form.collection.Open.{Open}
 use Rattle.yf_emit.specs.FoundInPass.{FoundInPass}
 use Rattle.yf_emit.specs.Measures.{up_to_greatest, width_if, joined_width, no_measure, Measured}
-use Rattle.yf_emit.specs.Measuring.{found, handed, with_node, passed, past, pass, has_text, have_texts}
+use Rattle.yf_emit.specs.Measuring.{found, handed, noted, with_node, passed, past, pass, has_text, have_texts}
 use Rattle.yf_emit.specs.Normal.{Setting}
 use Rattle.yf_emit.specs.OneLine.{width, spaced}
 use Rattle.yf_emit.proofs.OffsetLemmas.{none_passes, one_passes}
@@ -101,6 +101,14 @@ handed_set (x ∷ xs) n o w e l p g q =
     ap (λ v. reverse (set v (n - 1) w)) s.2 ∙ ap (λ k. reverse (set (s.0 ++ (s.1 ∷ [])) k w)) last
     ∙ handed_last s.0 s.1 w e (q ∙ ap (λ v. with_node v e) same) ∙ sym (ap (λ v. handed e (reverse v)) s.2)
 
+-- a leaf is added with its measure at once
+pub leaf_added : (list next : List Measure) (i : ℕ) (e : Ended) (stack above : List Open) → length list ≡ i → next ≡ list ++ (e.measure ∷ [])
+    → above ≡ handed e stack → found next above ≡ noted i e (found (list ++ (no_measure ∷ [])) stack)
+leaf_added list next i e stack above l n a =
+    let s : set (list ++ (no_measure ∷ [])) i e.measure ≡ list ++ (e.measure ∷ []) =
+    ap (λ k. set (list ++ (no_measure ∷ [])) k e.measure) (sym l) ∙ set-append_seam list no_measure [] e.measure in
+    ap (λ w. found w above) (n ∙ sym s) ∙ ap (λ w. found (set (list ++ (no_measure ∷ [])) i e.measure) w) a
+
 -- the loop over the events
 
 abbrev pub Runs : List ℕ → Setting → List Placed → ℕ → List Measure → List Open → Type 0
@@ -127,14 +135,14 @@ stands (e ∷ es) (suc i) v s h k =
     let r = stands es i v s h k in
     record { e = r.e; event = r.event; span = r.span; cut = r.cut }
 
-pub runs_on : (t : List ℕ) (c : Setting) (es : List Placed) (i : ℕ) (v : EventValue) (s : Option Span) (list first next : List Measure) (stack above : List Open)
-    → slice_get (map (λ e. e.event) es) i ≡ Some v → slice_get (map (λ e. e.span) es) i ≡ Some s → Runs t c es i list stack → first ≡ list ++ (no_measure ∷ [])
-    → found next above ≡ passed t c i s v (found first stack) → Runs t c es (i + 1) next above
+pub runs_on : (t : List ℕ) (c : Setting) (es : List Placed) (i : ℕ) (v : EventValue) (s : Option Span) (list next : List Measure) (stack above : List Open)
+    → slice_get (map (λ e. e.event) es) i ≡ Some v → slice_get (map (λ e. e.span) es) i ≡ Some s → Runs t c es i list stack
+    → found next above ≡ passed t c i s v (found (list ++ (no_measure ∷ [])) stack) → Runs t c es (i + 1) next above
 unfolding pass
-runs_on t c es i v s list first next stack above h k r f p =
+runs_on t c es i v s list next stack above h k r p =
     let x = stands es i v s h k in
     let step : found next above ≡ past t c x.e (found list stack) =
-    p ∙ ap (λ w. passed t c i s v (found w stack)) f
+    p
     ∙ ap (λ n. passed t c n s v (found (list ++ (no_measure ∷ [])) stack)) (sym r.0)
     ∙ ap (λ w. passed t c (length list) w v (found (list ++ (no_measure ∷ [])) stack)) (sym x.span)
     ∙ ap (λ w. passed t c (length list) x.e.span w (found (list ++ (no_measure ∷ [])) stack)) (sym x.event) in

@@ -39,7 +39,8 @@ fn has_comment(text: &str, comments: &[Comment], span: Option<Span>, props: &Pro
 {
     match span {
         Some(span) => {
-            let start = content_start(text, span, props);
+            let written = *props;
+            let start = content_start(text, span, &written);
             first_between(comments, start, span.end).is_some()
         }
         None => false,
@@ -68,6 +69,7 @@ fn first_sum(
 }
 
 /// The collection that the event at an index begins, before its first node.
+#[inline(always)]
 pub(crate) fn opened(
     text: &str,
     comments: &[Comment],
@@ -94,8 +96,8 @@ pub(crate) fn opened(
 }
 
 /// An empty collection, which is a leaf.
-fn empty_collection(collection: Open, end: usize) -> Ended
-    ensures { result ≡ Measuring.closed_empty collection end }
+fn empty_collection(collection: &Open, end: usize) -> Ended
+    ensures { result ≡ Measuring.closed_empty collection.now end }
 {
     let width = Some(joined_width(collection.props_width, 2));
     let measure = Measure {
@@ -124,13 +126,13 @@ fn joined_sum(collection: &Open) -> Option<usize>
 
 /// The node that a collection is, which ends with the event at that index.
 #[inline(always)]
-pub(crate) fn closed(collection: Open, end: usize) -> Ended
-    ensures { result ≡ Measuring.closed collection end }
+pub(crate) fn closed(collection: &Open, end: usize) -> Ended
+    ensures { result ≡ Measuring.closed collection.now end }
 {
     if collection.is_empty {
         return empty_collection(collection, end);
     }
-    let width = joined_sum(&collection);
+    let width = joined_sum(collection);
     let measure = Measure {
         last: end,
         width,
@@ -176,28 +178,20 @@ fn sum_with(collection: &Open, node: &Ended) -> Option<usize>
     ))))
 }
 
-fn or_else(one: Option<usize>, other: Option<usize>) -> Option<usize>
-    ensures { result ≡ Measuring.or_else one other }
-{
-    match one {
-        Some(leaf) => Some(leaf),
-        None => other,
-    }
-}
-
-/// The collection with one more node.
+/// Adds one more node to the collection.
 #[inline(always)]
-pub(crate) fn with_node(collection: Open, node: &Ended) -> Open
-    ensures { result ≡ Measuring.with_node collection node.now }
+pub(crate) fn add_node(collection: &mut Open, node: &Ended)
+    ensures { collection.new ≡ Measuring.with_node collection.old node.now }
 {
-    Open {
-        start: collection.start,
-        is_map: collection.is_map,
-        props_width: collection.props_width,
-        sum: sum_with(&collection, node),
-        is_empty: false,
-        is_key: collection.is_map && !collection.is_key,
-        first_leaf: or_else(collection.first_leaf, node.measure.first_leaf),
-        last_leaf: or_else(node.measure.last_leaf, collection.last_leaf),
+    if collection.sum.is_some() {
+        collection.sum = sum_with(collection, node);
+    }
+    collection.is_empty = false;
+    collection.is_key = collection.is_map && !collection.is_key;
+    if collection.first_leaf.is_none() {
+        collection.first_leaf = node.measure.first_leaf;
+    }
+    if node.measure.last_leaf.is_some() {
+        collection.last_leaf = node.measure.last_leaf;
     }
 }

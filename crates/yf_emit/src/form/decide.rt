@@ -12,7 +12,7 @@ ghost use Rattle.yf_emit.specs.ImplicitKeys.{TellsImplicit};
 use crate::form::forms::Forms;
 use crate::form::measure::{Measure, measure_all};
 use crate::form::measures::Measures;
-use crate::form::places::{EventFacts, Level, count_node, fits, next_place};
+use crate::form::places::{EventFacts, Level, fits, place_node};
 use crate::style::Style;
 use std::alloc::{AllocError, Global};
 use yf_events::event::Event;
@@ -81,8 +81,7 @@ fn node(
         facts.now.measure.now is_map list.old (reverse stack.old.items)) }
 {
     let measure = facts.measure;
-    let place = next_place(stack.as_slice(), facts);
-    count_node(stack, facts);
+    let place = place_node(stack, facts);
     let is_kept = measure.can_be_kept && fits(place.column, measure.width, facts.style);
     list.push(Form {
         is_kept,

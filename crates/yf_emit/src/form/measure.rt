@@ -1,16 +1,16 @@
 //! How wide each node is where it is written on one line: one pass over the events, inner nodes before outer ones.
-ghost use Rattle.std.specs.Prelude.{◌≡◌, [], map, reverse, true, IfOk};
+ghost use Rattle.std.specs.Prelude.{◌≡◌, [], ◌∷◌, ◌++◌, length, map, reverse, true, IfOk};
 ghost use Rattle.std.specs.List.Sorted.{IsNonDecreasingBy};
 ghost use Rattle.yf_comments.specs.Comment.{comment_value};
 ghost use Rattle.yf_events.specs.Event.{event_value};
 ghost use Rattle.yf_emit.specs.Deciding.{is_leaf_at};
 ghost use Rattle.yf_emit.specs.FoundInPass.{FoundInPass};
-ghost use Rattle.yf_emit.specs.Measures.{Measured};
+ghost use Rattle.yf_emit.specs.Measures.{no_measure, Measured};
 ghost use Rattle.yf_emit.specs.Measuring as Measuring;
 ghost use Rattle.yf_emit.specs.Measuring.{found, has_text, setting};
 ghost use Rattle.yf_emit.specs.Normal.{setting_of};
 
-use crate::form::collection::{Open, closed, opened, with_node};
+use crate::form::collection::{Open, add_node, closed, opened};
 use crate::form::ended::{Ended, alias, scalar};
 use crate::form::measures::Measures;
 use crate::style::Style;
@@ -64,23 +64,22 @@ fn hand(stack: &mut Vec<Open>, node: &Ended)
 {
     let count = stack.len();
     if count > 0 {
-        let collection = stack[count - 1];
-        stack[count - 1] = with_node(collection, node);
+        add_node(&mut stack[count - 1], node);
     }
 }
 
-/// Notes a node that has ended, in the list and in the collection that holds it.
+/// Adds the measure of a leaf, and notes the leaf in the collection that holds it.
 #[inline(always)]
-fn end_node(
+fn add_leaf(
     list: &mut Measures,
     stack: &mut Vec<Open>,
     i: usize,
     node: &Ended,
 ) -> Result<(), AllocError>
-    ensures { IfOk result (λ _. found list.new (reverse stack.new.items) ≡ Measuring.noted i node.now
-        (found list.old (reverse stack.old.items))) }
+    ensures { IfOk result (λ _. length list.old ≡ i → found list.new (reverse stack.new.items) ≡ Measuring.noted i node.now
+        (found (list.old ++ no_measure ∷ []) (reverse stack.old.items))) }
 {
-    list.set(i, &node.measure)?;
+    list.push(&node.measure)?;
     hand(stack, node);
     Ok(())
 }
@@ -88,18 +87,33 @@ fn end_node(
 /// Ends the innermost collection.
 #[inline(always)]
 fn close(list: &mut Measures, stack: &mut Vec<Open>, i: usize) -> Result<(), AllocError>
-    ensures { IfOk result (λ _. found list.new (reverse stack.new.items) ≡ Measuring.popped i list.old (reverse stack.old.items)) }
+    ensures { IfOk result (λ _. found list.new (reverse stack.new.items) ≡ Measuring.popped i (list.old ++ no_measure ∷ [])
+        (reverse stack.old.items)) }
 {
+    list.push_none()?;
     match stack.pop() {
         Some(collection) => {
-            let node = closed(collection, i);
-            end_node(list, stack, collection.start, &node)
+            let node = closed(&collection, i);
+            list.set(collection.start, &node.measure)?;
+            hand(stack, &node);
+            Ok(())
         }
         None => Ok(()),
     }
 }
 
-/// Goes past one event, whose place in the list is there already.
+/// Adds a collection to those whose end has not come yet.
+#[inline(always)]
+fn begin(list: &mut Measures, stack: &mut Vec<Open>, collection: Open) -> Result<(), AllocError>
+    ensures { IfOk result (λ _. found list.new (reverse stack.new.items) ≡ Measuring.begun collection
+        (found (list.old ++ no_measure ∷ []) (reverse stack.old.items))) }
+{
+    list.push_none()?;
+    stack.push(collection)?;
+    Ok(())
+}
+
+/// Goes past one event.
 #[inline(always)]
 fn pass(
     list: &mut Measures,
@@ -111,10 +125,10 @@ fn pass(
     style: &Style,
     i: usize,
 ) -> Result<(), AllocError>
-    ensures passed { IfOk result (λ _. IsNonDecreasingBy (λ c. c.offset) comments.now
+    ensures passed { IfOk result (λ _. IsNonDecreasingBy (λ c. c.offset) comments.now → length list.old ≡ i
         → found list.new (reverse stack.new.items) ≡ Measuring.passed text.now
         (setting style.now (map comment_value comments.now)) i span (event_value event.now)
-        (found list.old (reverse stack.old.items))) }
+        (found (list.old ++ no_measure ∷ []) (reverse stack.old.items))) }
     ensures utf8 { IfOk result (λ _. has_text (event_value event.now) ≡ true) }
 {
     match event {
@@ -124,28 +138,26 @@ fn pass(
             text: content,
         } => {
             let node = scalar(i, span, props, *written, content, style);
-            end_node(list, stack, i, &node)?;
-            Ok(())
+            add_leaf(list, stack, i, &node)
         }
         Event::Alias { name } => {
             let node = alias(i, name);
-            end_node(list, stack, i, &node)?;
-            Ok(())
+            add_leaf(list, stack, i, &node)
         }
         Event::SeqStart { flow, props } => {
-            stack.push(opened(text, comments, i, span, props, *flow, false))?;
-            Ok(())
+            let collection = opened(text, comments, i, span, props, *flow, false);
+            begin(list, stack, collection)
         }
         Event::MapStart { flow, props } => {
-            stack.push(opened(text, comments, i, span, props, *flow, true))?;
-            Ok(())
+            let collection = opened(text, comments, i, span, props, *flow, true);
+            begin(list, stack, collection)
         }
         Event::SeqEnd => close(list, stack, i),
         Event::MapEnd => close(list, stack, i),
-        Event::StreamStart => Ok(()),
-        Event::StreamEnd => Ok(()),
-        Event::DocStart { .. } => Ok(()),
-        Event::DocEnd { .. } => Ok(()),
+        Event::StreamStart => list.push_none(),
+        Event::StreamEnd => list.push_none(),
+        Event::DocStart { .. } => list.push_none(),
+        Event::DocEnd { .. } => list.push_none(),
     }
 }
 
@@ -163,7 +175,6 @@ fn measured(
     let mut list = Measures::new(alloc);
     let mut stack: Vec<Open> = Vec::new(alloc);
     for i in 0..reading.len() {
-        list.push_none()?;
         pass(
             &mut list,
             &mut stack,

@@ -92,6 +92,7 @@ impl Measures {
     }
 
     /// Adds that of an event that begins no node, or whose node has not ended yet.
+    #[inline(always)]
     pub(crate) fn push_none(&mut self) -> Result<(), AllocError>
         ensures { IfOk result (λ _. self.new ≡ self.old ++ no_measure ∷ []) }
     {
@@ -99,7 +100,18 @@ impl Measures {
         Ok(())
     }
 
+    /// Adds the measure of the node that the next event begins, and ends.
+    #[inline(always)]
+    pub(crate) fn push(&mut self, measure: &Measure) -> Result<(), AllocError>
+        ensures { IfOk result (λ _. self.new ≡ self.old ++ measure.now ∷ []) }
+    {
+        let row = packed(measure)?;
+        self.list.push(row)?;
+        Ok(())
+    }
+
     /// Notes the measure of the node that the event at an index begins.
+    #[inline(always)]
     pub(crate) fn set(&mut self, i: usize, measure: &Measure) -> Result<(), AllocError>
         ensures { IfOk result (λ _. self.new ≡ set self.old i measure.now) }
     {

@@ -1,5 +1,5 @@
 //! Where each node stands in the block collections that are open round it. Columns count from 0 here.
-ghost use Rattle.std.specs.Prelude.{◌<◌, ◌≡◌, ◌||◌, length, map, reverse};
+ghost use Rattle.std.specs.Prelude.{◌<◌, ◌≡◌, ◌∷◌, ◌||◌, length, map, reverse, List};
 ghost use Rattle.std.specs.List.Sorted.{IsNonDecreasingBy};
 ghost use Rattle.yf_comments.specs.Comment.{comment_value};
 ghost use Rattle.yf_events.specs.Event.{event_value};
@@ -175,15 +175,23 @@ fn key_place(column: usize, is_implicit: bool, style: &Style) -> Place
     }
 }
 
-/// Where a key or a value stands.
+/// Where a key or a value stands that is the next node of a mapping. A key waits there for its value from here on.
 #[inline(always)]
-fn place_in_map(facts: &EventFacts, level: &Level) -> Place
-    ensures { IsNonDecreasingBy (λ c. c.offset) facts.now.reading.now.comments
+fn place_in_map(level: &mut Level, facts: &EventFacts) -> Place
+    requires { facts.now.i < length facts.now.reading.now.events }
+    ensures place { IsNonDecreasingBy (λ c. c.offset) facts.now.reading.now.comments
         → result ≡ Deciding.place_in_map (given_in facts.now) (event_value facts.now.event.now) facts.now.i facts.now.measure.now
-        level.now.column level.now.key }
+        level.old.column level.old.key }
+    ensures level { level.new ≡ record {
+      is_map = level.old.is_map;
+      column = level.old.column;
+      key = Deciding.key_behind (given_in facts.now) (event_value facts.now.event.now) facts.now.i facts.now.measure.now
+          level.old.column level.old.key;
+    } }
 {
     match level.key {
         Some(key) => {
+            level.key = None;
             if key.is_implicit {
                 return value_place(facts, &key, level.column);
             }
@@ -191,61 +199,42 @@ fn place_in_map(facts: &EventFacts, level: &Level) -> Place
         }
         None => {
             let is_implicit = is_implicit_key(facts.measure, level.column, facts.style);
+            level.key = Some(key_of(facts, is_implicit));
             key_place(level.column, is_implicit, facts.style)
         }
     }
 }
 
-/// The key that waits for its value after a key or a value.
+/// Where the next node of a collection stands, which is noted there.
 #[inline(always)]
-fn key_behind(facts: &EventFacts, level: &Level) -> Option<Key>
+fn place_within(level: &mut Level, facts: &EventFacts) -> Place
     requires { facts.now.i < length facts.now.reading.now.events }
-    ensures { result ≡ Deciding.key_behind (given_in facts.now) (event_value facts.now.event.now) facts.now.i facts.now.measure.now
-        level.now.column level.now.key }
-{
-    match level.key {
-        Some(_) => None,
-        None => {
-            let is_implicit = is_implicit_key(facts.measure, level.column, facts.style);
-            Some(key_of(facts, is_implicit))
-        }
-    }
-}
-
-/// Where the next node stands that holds no other.
-#[inline(always)]
-pub(crate) fn next_place(stack: &[Level], facts: &EventFacts) -> Place
-    ensures { IsNonDecreasingBy (λ c. c.offset) facts.now.reading.now.comments
+    ensures place { (others : List Level) → IsNonDecreasingBy (λ c. c.offset) facts.now.reading.now.comments
         → result ≡ Deciding.next_place (given_in facts.now) (event_value facts.now.event.now) facts.now.i facts.now.measure.now
-        (reverse stack.now) }
+        (level.old ∷ others) }
+    ensures level { (others : List Level) → level.new ∷ others
+        ≡ Deciding.next_stack (given_in facts.now) (event_value facts.now.event.now) facts.now.i facts.now.measure.now
+        (level.old ∷ others) }
 {
-    let count = stack.len();
-    if count > 0 {
-        let level = stack[count - 1];
-        if level.is_map {
-            return place_in_map(facts, &level);
-        }
-        return Place::at(level.column.saturating_add(facts.style.indent));
+    if level.is_map {
+        return place_in_map(level, facts);
     }
-    Place::at(0)
+    Place::at(level.column.saturating_add(facts.style.indent))
 }
 
-/// Notes in the innermost open collection that a node is a key or a value.
+/// Where the next node stands that holds no other. That it is a key or a value is noted in the innermost open collection.
 #[inline(always)]
-pub(crate) fn count_node(stack: &mut Vec<Level>, facts: &EventFacts)
+pub(crate) fn place_node(stack: &mut Vec<Level>, facts: &EventFacts) -> Place
     requires { facts.now.i < length facts.now.reading.now.events }
-    ensures { reverse stack.new.items ≡ Deciding.next_stack (given_in facts.now) (event_value facts.now.event.now) facts.now.i
+    ensures place { IsNonDecreasingBy (λ c. c.offset) facts.now.reading.now.comments
+        → result ≡ Deciding.next_place (given_in facts.now) (event_value facts.now.event.now) facts.now.i facts.now.measure.now
+        (reverse stack.old.items) }
+    ensures stack { reverse stack.new.items ≡ Deciding.next_stack (given_in facts.now) (event_value facts.now.event.now) facts.now.i
         facts.now.measure.now (reverse stack.old.items) }
 {
     let count = stack.len();
     if count > 0 {
-        let level = stack[count - 1];
-        if level.is_map {
-            stack[count - 1] = Level {
-                is_map: true,
-                column: level.column,
-                key: key_behind(facts, &level),
-            };
-        }
+        return place_within(&mut stack[count - 1], facts);
     }
+    Place::at(0)
 }

@@ -4,5 +4,5 @@ use Rattle.yf_emit.proofs.form.measure.hand.Goals as goal
 
 pub returns-then-count-gt0 : goal.returns-then-count-gt0
 returns-then-count-gt0 c =
-    handed_set c.args.stack.now.items c.len-count.result c.index-collection.result.now c.with_node.result c.args.node.now (omega (arith, c.len-count.ensures, c.args.stack.now.ok.0)) c.if-count-gt0.true
-    c.index-collection.ensures c.with_node.ensures
+    handed_set c.args.stack.now.items c.len-count.result c.index_mut.result.now c.add_node.new.collection c.args.node.now (omega (arith, c.len-count.ensures, c.args.stack.now.ok.0)) c.if-count-gt0.true
+    c.index_mut.ensures.value c.add_node.ensures
