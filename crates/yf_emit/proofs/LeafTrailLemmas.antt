@@ -1,5 +1,5 @@
 -- Comments as their index and one.
-use Rattle.std.proofs.Common.{◌≡◌, ◌∙◌, ◌+◌, ap, arith, map, set, List, Option, Some, ℕ}
+use Rattle.std.proofs.Common.{◌≡◌, ◌∙◌, ◌+◌, ◌∷◌, ap, arith, map, refl, replicate, set, suc, zero, List, Option, None, Some, ℕ}
 use Rattle.std.proofs.lemmas.List.{map-set}
 use Rattle.yf_emit.specs.LeafTrails.{counted}
 
@@ -13,3 +13,8 @@ noted xs ys i n row k s r h =
     map-set counted xs i row
     ∙ (ap (λ w. set (map counted xs) i (counted w)) (r ∙ h)
     ∙ (ap (set (map counted xs) i) (counted_next k) ∙ ap (λ w. set w i (Some k)) s))
+
+-- a list of no comments, as it is kept
+pub none_counted : (n : ℕ) → map counted (replicate n 0) ≡ replicate n None
+none_counted zero = refl
+none_counted (suc n) = ap (λ w. None ∷ w) (none_counted n)

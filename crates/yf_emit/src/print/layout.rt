@@ -58,12 +58,12 @@ impl Printer {
         page: &Page,
         i: usize,
         spot: Spot,
-        props: &Props,
+        props: Props,
         first: Awaited,
     ) -> Result<(), AllocError>
         requires { i < length page.now.reading.now.events }
         ensures { OnOk result (state_of self.new ≡ Printing.collection_if (Printing.is_whole i (measure_at page.now i) (form_at page.now i))
-            (work_on page.now) i (measure_at page.now i) (form_at page.now i) (placed_at page.now i) (props_value props.now)
+            (work_on page.now) i (measure_at page.now i) (form_at page.now i) (placed_at page.now i) (props_value props.entry)
             first spot (state_of self.old)) }
     {
         let form = page.plan.forms.at(i);
@@ -76,7 +76,7 @@ impl Printer {
             page,
             &form,
             spot,
-            props,
+            &props,
             first,
         )?;
         self.done = i;
@@ -85,16 +85,10 @@ impl Printer {
 
     /// Prints the node that the event begins, or begins it where it is a block collection.
     #[inline(always)]
-    fn node_at(
-        &mut self,
-        page: &Page,
-        i: usize,
-        event: &Event,
-        spot: Spot,
-    ) -> Result<(), AllocError>
+    fn node_at(&mut self, page: &Page, i: usize, event: Event, spot: Spot) -> Result<(), AllocError>
         requires { i < length page.now.reading.now.events }
         ensures { OnOk result (state_of self.new ≡ Printing.node_in (work_on page.now) i (measure_at page.now i) (form_at page.now i)
-            (placed_at page.now i) (event_value event.now) spot (state_of self.old)) }
+            (placed_at page.now i) (event_value event.entry) spot (state_of self.old)) }
     {
         match event {
             Event::SeqStart { props, .. } => {
@@ -118,7 +112,7 @@ impl Printer {
             &page.plan.forms.at(i),
             entry_at(page, i),
         )?;
-        self.node_at(page, i, &event_at(page, i), spot)
+        self.node_at(page, i, event_at(page, i), spot)
     }
 
     /// Begins the next document.

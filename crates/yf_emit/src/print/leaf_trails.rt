@@ -27,10 +27,7 @@ impl LeafTrails {
     pub(crate) fn none(alloc: Global, count: usize) -> Result<LeafTrails, AllocError>
         ensures { IfOk result (λ trails. trails ≡ replicate count None) }
     {
-        let mut list = Vec::new(alloc);
-        for _done in 0..count {
-            list.push(0u32)?;
-        }
+        let list = vec![in alloc; 0u32; count]?;
         Ok(LeafTrails { list })
     }
 

@@ -16,7 +16,7 @@ use crate::print::looks::{entry_at, event_at, folded_at, span_at};
 use crate::print::output::Output;
 use crate::print::printer::{Page, Plan, Spot};
 use crate::text::block::{is_kept_whole, push_folded, push_header, push_literal, push_spaces};
-use crate::text::written::{push_props, push_props_before, push_scalar};
+use crate::text::written::{push_props_alone, push_props_before, push_scalar};
 use std::alloc::AllocError;
 use yf_events::event::{Event, ScalarStyle, Span};
 use yf_props::props::Props;
@@ -89,6 +89,7 @@ fn push_block_scalar(
 }
 
 /// Prints the scalar that the event is.
+#[inline(always)]
 fn push_scalar_node(
     output: &mut Output,
     plan: &Plan,
@@ -104,7 +105,7 @@ fn push_scalar_node(
     match style {
         ScalarStyle::Plain => {
             if text.is_empty() {
-                return push_props(&mut output.line, props);
+                return push_props_alone(&mut output.line, *props);
             }
             push_props_before(&mut output.line, props)?;
             push_scalar(&mut output.line, style, text)
@@ -126,11 +127,11 @@ fn push_collection(
     page: &Page,
     i: usize,
     last: usize,
-    props: &Props,
+    props: Props,
 ) -> Result<(), AllocError>
-    ensures { OnOk result (draft output.new ≡ with_kept (work_on page.now) i last (props_value props.now) (draft output.old)) }
+    ensures { OnOk result (draft output.new ≡ with_kept (work_on page.now) i last (props_value props.entry) (draft output.old)) }
 {
-    push_props_before(&mut output.line, props)?;
+    push_props_before(&mut output.line, &props)?;
     push_kept(
         page.alloc,
         &mut output.line,
@@ -148,11 +149,11 @@ fn push_node(
     page: &Page,
     i: usize,
     last: usize,
-    event: &Event,
+    event: Event,
     spot: Spot,
 ) -> Result<(), AllocError>
     requires { i < length page.now.reading.now.events }
-    ensures { OnOk result (draft output.new ≡ with_node_event (work_on page.now) i last (event_value event.now)
+    ensures { OnOk result (draft output.new ≡ with_node_event (work_on page.now) i last (event_value event.entry)
         (placed_at page.now i).folded spot (draft output.old)) }
 {
     match event {
@@ -161,8 +162,8 @@ fn push_node(
                 output,
                 page.plan,
                 spot,
-                props,
-                *style,
+                &props,
+                style,
                 text,
                 folded_at(page, i),
             )
@@ -271,7 +272,7 @@ pub(crate) fn push_leaf(
     let measure = page.plan.measures.at(i);
     if measure.first_leaf.is_some() {
         before_text(output, page, &page.plan.forms.at(i), spot)?;
-        push_node(output, page, i, measure.last, &event_at(page, i), spot)?;
+        push_node(output, page, i, measure.last, event_at(page, i), spot)?;
         note_leaf(output, page, i, span_at(page, i))?;
         note_within(output, page, i, measure.last)?;
     }

@@ -85,6 +85,17 @@ fn push_blank(out: &mut String, is_blank: bool) -> Result<(), AllocError>
     Ok(())
 }
 
+/// Appends a text that is most often empty.
+#[inline(always)]
+fn push_if_filled(out: &mut String, text: &str) -> Result<(), AllocError>
+    ensures { OnOk result (string_bytes out.new ≡ string_bytes out.old ++ text.now) }
+{
+    if text.is_empty() {
+        return Ok(());
+    }
+    out.push_str(text)
+}
+
 impl Output {
     pub fn new(alloc: Global) -> Output
         ensures { draft result ≡ no_draft }
@@ -179,9 +190,9 @@ impl Output {
         push_blank(&mut self.text, self.blank_before && self.blank_may_follow)?;
         push_spaces(&mut self.text, self.column)?;
         self.text.push_str(self.line.as_str())?;
-        self.text.push_str(self.trails.as_str())?;
+        push_if_filled(&mut self.text, self.trails.as_str())?;
         self.text.push('\n')?;
-        self.text.push_str(self.body.as_str())?;
+        push_if_filled(&mut self.text, self.body.as_str())?;
         self.line.clear();
         self.trails.clear();
         self.body.clear();
@@ -191,6 +202,7 @@ impl Output {
     }
 
     /// Prints the comments that were met and do not trail, each on a line of its own at that column.
+    #[inline(always)]
     fn push_own_lines(
         &mut self,
         reading: &Reading,

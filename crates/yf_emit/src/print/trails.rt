@@ -179,10 +179,7 @@ fn comment_count(reading: &Reading) -> usize
 fn none_trailing(alloc: Global, count: usize) -> Result<Vec<bool>, AllocError>
     ensures { IfOk result (λ list. list.items ≡ replicate count false) }
 {
-    let mut list = Vec::new(alloc);
-    for _done in 0..count {
-        list.push(false)?;
-    }
+    let list = vec![in alloc; false; count]?;
     Ok(list)
 }
 

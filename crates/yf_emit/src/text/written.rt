@@ -42,7 +42,9 @@ fn push_tag(out: &mut String, tag: Tag) -> Result<(), AllocError>
         Tag::NonSpecific => out.push('!'),
     }
 }
+
 /// Whether one of two texts has a character.
+#[inline(always)]
 fn is_one_filled(one: &str, other: &str) -> bool
     ensures { result ≡ not (is_empty_text (one.now ++ other.now)) }
 {
@@ -53,6 +55,7 @@ fn is_one_filled(one: &str, other: &str) -> bool
 }
 
 /// Whether a tag is written.
+#[inline(always)]
 fn has_tag(tag: &Option<Tag>) -> bool
     ensures { result ≡ not (is_empty_text (tag_text (optional_tag_value tag.now))) }
 {
@@ -65,6 +68,7 @@ fn has_tag(tag: &Option<Tag>) -> bool
 }
 
 /// Whether a node has properties.
+#[inline(always)]
 pub fn has_props(props: &Props) -> bool
     ensures { result ≡ not (is_empty_text (props_text (props_value props.now))) }
 {
@@ -109,13 +113,22 @@ pub fn push_props(out: &mut String, props: &Props) -> Result<(), AllocError>
     }
 }
 
+/// The same of properties by value: what is handed on by address stands in memory whether they are written or not.
+#[inline(never)]
+pub(crate) fn push_props_alone(out: &mut String, props: Props) -> Result<(), AllocError>
+    ensures { OnOk result (string_bytes out.new ≡ string_bytes out.old ++ props_text (props_value props.entry)) }
+{
+    push_props(out, &props)
+}
+
 /// Appends properties with a space after them; nothing where there are none.
+#[inline(always)]
 pub fn push_props_before(out: &mut String, props: &Props) -> Result<(), AllocError>
     ensures { OnOk result (string_bytes out.new ≡ string_bytes out.old ++ space_behind (props_text (props_value props.now))) }
 {
     if !has_props(props) {
         return Ok(());
     }
-    push_props(out, props)?;
+    push_props_alone(out, *props)?;
     out.push(' ')
 }
