@@ -19,7 +19,7 @@ use crate::inline::read_inline;
 use crate::line::read_line_end;
 use crate::look::{line_ends, sign_stands};
 use crate::properties::{
-    PlacedProperties, joined, joined_after, lead_of, line_properties, place_after,
+    PlacedProperties, joined, joined_after, lead_of, line_properties, place_after, property_stands,
 };
 use std::alloc::AllocError;
 use yf_chars::text::stands;
@@ -78,9 +78,35 @@ pub(crate) fn is_apart(belonging: Belonging) -> bool
 }
 
 impl<'a> Reader<'a> {
-    /// Begins the content of a node at a place of a line.
+    /// Begins the content of a node at a place of a line. Few nodes have properties.
     #[inline(always)]
     pub(crate) fn take_content(
+        &mut self,
+        scope: Scope<'a>,
+        node_start: NodeStart,
+    ) -> Result<Step, AllocError>
+        requires { Standing scope.text.now node_start.at self.old }
+        ensures { Answers (AtUndashed node_start.column) CountedAt scope.entry node_start.at 0 self.old self.new result }
+    {
+        if property_stands(scope.text, node_start.at) {
+            return self.take_held_content(scope, node_start);
+        }
+        match signed_column(scope.text, node_start) {
+            Some(column) => self.open_collection(scope, Kind::Mapping, node_start.at, column),
+            None => {
+                let after = AfterProperties {
+                    at: node_start.at,
+                    inner: None,
+                    node_start,
+                };
+                self.take_after_properties(scope, &after)
+            }
+        }
+    }
+
+    // The same where its first character is that of a property.
+    #[inline(never)]
+    fn take_held_content(
         &mut self,
         scope: Scope<'a>,
         node_start: NodeStart,
@@ -104,7 +130,7 @@ impl<'a> Reader<'a> {
         }
     }
 
-    // A flow node, a key or a block scalar, after the properties of its line.
+    // A flow node, a key or a block scalar, after the properties of its line. Few nodes have properties on lines before.
     #[inline(always)]
     fn take_after_properties(
         &mut self,
@@ -116,7 +142,49 @@ impl<'a> Reader<'a> {
         requires properties { PropertiesTo scope.text.now after.now.node_start.at after.now.at after.now.inner }
         ensures { Answers (AtAfterProperties after.now) CountedAt scope.entry after.now.node_start.at 0 self.old self.new result }
     {
+        match self.progress.wanted.outer {
+            Some(_) => self.take_after_lines(scope, after),
+            None => {
+                let facts = facts_alone(after, self.progress.wanted.entry, &self.part);
+                self.take_text(scope, after, &facts)
+            }
+        }
+    }
+
+    // The same where properties may stand on lines before.
+    #[inline(never)]
+    fn take_after_lines(
+        &mut self,
+        scope: Scope<'a>,
+        after: &AfterProperties<'a>,
+    ) -> Result<Step, AllocError>
+        requires standing { Standing scope.text.now after.now.at self.old }
+        requires start { IsCharBoundary scope.text.now after.now.node_start.at }
+        requires properties { PropertiesTo scope.text.now after.now.node_start.at after.now.at after.now.inner }
+        ensures { Answers (AtAfterProperties after.now) CountedAt scope.entry after.now.node_start.at 0 self.old self.new result }
+    {
         let facts = facts_of(scope.text, after, &self.progress.wanted, &self.part);
+        self.take_text(scope, after, &facts)
+    }
+
+    // The text of a node or key of which the facts are known.
+    #[inline(always)]
+    fn take_text(
+        &mut self,
+        scope: Scope<'a>,
+        after: &AfterProperties<'a>,
+        facts: &NodeFacts<'a>,
+    ) -> Result<Step, AllocError>
+        requires standing { Standing scope.text.now after.now.at self.old }
+        requires start { IsCharBoundary scope.text.now after.now.node_start.at }
+        requires properties { PropertiesTo scope.text.now after.now.node_start.at after.now.at after.now.inner }
+        requires counts { CountsOf self.old.part facts.now.before }
+        requires belonging { (a : Ahead) → AheadTied a self.old.progress.wanted.outer
+            → ((h : PropertiesThere) → after.now.inner ≡ Some h → LineProperties scope.text.now after.now.node_start.at h)
+            → BelongingTied scope.text.now after.now.node_start.at after.now.at a after.now.inner self.old.progress.wanted.entry
+            facts.now.lead facts.now.belonging }
+        ensures { Answers (AtAfterProperties after.now) CountedAt scope.entry after.now.node_start.at 0 self.old self.new result }
+    {
         if block_scalar_stands(scope.text, after.at) {
             if is_apart(facts.belonging) {
                 return Ok(Step::Failed(after.node_start.at));
@@ -132,7 +200,7 @@ impl<'a> Reader<'a> {
             self.frames.len(),
             &mut self.part,
         )? {
-            Ending::End(node) => self.finish_inline(scope, after, &facts, node),
+            Ending::End(node) => self.finish_inline(scope, after, facts, node),
             Ending::Nothing => Ok(Step::Failed(after.at)),
             Ending::TooDeep(place) => Ok(Step::TooDeep(place)),
         }
@@ -227,12 +295,26 @@ fn facts_of<'a>(
         → BelongingTied text.now after.now.node_start.at after.now.at a after.now.inner wanted.now.entry result.lead result.belonging }
 {
     match wanted.outer {
-        None => NodeFacts {
-            lead: lead_of(after.node_start.at, after.inner, wanted.entry),
-            belonging: Belonging::Nothing,
-            before: Counts::of(part),
-        },
+        None => facts_alone(after, wanted.entry, part),
         Some(outer) => facts_with_outer(text, after, outer, wanted.entry, Counts::of(part)),
+    }
+}
+
+// The same where none stand on lines before.
+#[inline(always)]
+fn facts_alone<'a>(
+    after: &AfterProperties<'a>,
+    entry: Option<Entry>,
+    part: &Part<'a>,
+) -> NodeFacts<'a>
+    ensures counts { CountsOf part.now result.before }
+    ensures lead { result.lead ≡ lead_at after.now.node_start.at after.now.inner entry }
+    ensures belonging { result.belonging ≡ Belonging.Nothing }
+{
+    NodeFacts {
+        lead: lead_of(after.node_start.at, after.inner, entry),
+        belonging: Belonging::Nothing,
+        before: Counts::of(part),
     }
 }
 

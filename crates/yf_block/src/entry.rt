@@ -1,9 +1,11 @@
 //! Block collections and their entries (YAML 1.2.2, section 8.2).
-ghost use Rattle.std.specs.Prelude.{◌≡◌, ◌≢◌, ◌+◌, ◌-◌, ◌^◌, ◌<◌, true, false, None, IfOk, IfSome};
+ghost use Rattle.std.specs.Prelude.{◌≡◌, ◌≢◌, ◌+◌, ◌-◌, ◌^◌, ◌<◌, pos, true, false, None, IfOk, IfSome, MatchOption};
 ghost use Rattle.std.specs.Str.{IsCharBoundary};
+ghost use Rattle.yf_chars.specs.Chain.{Stuck};
 ghost use Rattle.yf_chars.specs.Text.{code};
 ghost use Rattle.yf_comments.specs.Comments.{Blank};
 ghost use Rattle.yf_events.specs.Event.{placed_value};
+ghost use Rattle.yf_props.specs.Names as Names;
 ghost use Rattle.yf_grammar.specs.BlockParser.{DashAt};
 ghost use Rattle.yf_grammar.specs.Part.{NotedSince};
 ghost use Rattle.yf_flow.specs.Machine.{Place};
@@ -14,14 +16,16 @@ ghost use Rattle.yf_block.specs.KeyAwaited.{KeyAwaited};
 ghost use Rattle.yf_block.specs.KeyTexts.{KeyTextAt, KeyTextPlace};
 ghost use Rattle.yf_block.specs.Machine.{Standing};
 ghost use Rattle.yf_block.specs.OpeningTied.{AtItem, AtOpening, AtPairEntry, SignOf};
+ghost use Rattle.yf_block.specs.PropertiesAnswers.{LineProperties};
 ghost use Rattle.yf_block.specs.StepAnswers.{Answers};
 
 use crate::frame::{Frame, Kind, Progress, Reader, Scope, Slot, Step, Wanted};
 use crate::inline::read_inline;
 use crate::line::read_line_end;
 use crate::look::{is_blank_after, key_ends, sign_stands};
-use crate::properties::{PlacedProperties, lead_of, line_properties, place_after};
+use crate::properties::{PlacedProperties, lead_of, line_properties, place_after, property_stands};
 use std::alloc::{AllocError, Global};
+use yf_chars::context::Ctx;
 use yf_events::event::{Entry, NewEvent, PlacedEvent};
 use yf_flow::node::empty_node;
 use yf_flow::nodes::Ending;
@@ -148,21 +152,58 @@ impl<'a> Reader<'a> {
         self.take_key(scope, frame.column, entry)
     }
 
-    // An implicit key of an open mapping (ns-s-block-map-implicit-key, production 193), from its properties on.
+    // An implicit key of an open mapping (ns-s-block-map-implicit-key, production 193), from its properties on. Few keys have
+    // any.
+    #[inline(always)]
     fn take_key(&mut self, scope: Scope<'a>, column: usize, key: Entry) -> Result<Step, AllocError>
         requires { Standing scope.text.now key.start self.old }
         ensures { Answers (KeyAwaited column key) CountedAt scope.entry key.start 0 self.old self.new result }
     {
+        if property_stands(scope.text, key.start) {
+            return self.take_held_key(scope, column, key);
+        }
+        self.take_key_after(scope, column, key, &None)
+    }
+
+    // The same where its first character is that of a property.
+    #[inline(never)]
+    fn take_held_key(
+        &mut self,
+        scope: Scope<'a>,
+        column: usize,
+        key: Entry,
+    ) -> Result<Step, AllocError>
+        requires { Standing scope.text.now key.start self.old }
+        ensures { Answers (KeyAwaited column key) CountedAt scope.entry key.start 0 self.old self.new result }
+    {
+        let inner = line_properties(scope.alloc, scope.text, key.start)?;
+        self.take_key_after(scope, column, key, &inner)
+    }
+
+    // An implicit key whose properties have been read.
+    #[inline(always)]
+    fn take_key_after(
+        &mut self,
+        scope: Scope<'a>,
+        column: usize,
+        key: Entry,
+        inner: &Option<PlacedProperties<'a>>,
+    ) -> Result<Step, AllocError>
+        requires standing { Standing scope.text.now key.start self.old }
+        requires place { IfSome inner.now (λ h. Place scope.text.now (key.start + 1) h.end) }
+        requires reads { MatchOption inner.now (Stuck (Names.Properties scope.text.now (pos 0) Ctx.FlowKey key.start))
+            (LineProperties scope.text.now key.start) }
+        ensures { Answers (KeyAwaited column key) CountedAt scope.entry key.start 0 self.old self.new result }
+    {
         let start = key.start;
-        let inner = line_properties(scope.alloc, scope.text, start)?;
-        match key_text(scope, start, &inner)? {
+        match key_text(scope, start, inner)? {
             KeyText::Nowhere(place) => Ok(Step::Failed(place)),
             KeyText::At(at) => {
                 let event = self.part.events.len();
-                let lead = lead_of(start, inner, Some(key));
+                let lead = lead_of(start, *inner, Some(key));
                 let least = column.saturating_add(1);
                 let depth = self.frames.len();
-                match read_inline(scope, least, at, &inner, &lead, depth, &mut self.part)? {
+                match read_inline(scope, least, at, inner, &lead, depth, &mut self.part)? {
                     Ending::End(node) => {
                         let colon = skip_whites(scope.text, node.end);
                         if key_ends(scope.text, start, colon) {
@@ -192,13 +233,14 @@ pub(crate) fn await_node<'a>(
     ensures { NodeAwaited at column compact out entry progress.old progress.new result }
 {
     progress.last = at + 1;
-    progress.wanted = Wanted {
-        least: column.saturating_add(1),
-        out,
-        compact,
-        entry,
-        outer: None,
-    };
+    let wanted = &mut progress.wanted;
+    wanted.least = column.saturating_add(1);
+    wanted.out = out;
+    wanted.compact = compact;
+    wanted.entry = entry;
+    if wanted.outer.is_some() {
+        wanted.outer = None;
+    }
     Step::Node(at + 1)
 }
 
@@ -211,6 +253,7 @@ pub(crate) fn await_value<'a>(colon: usize, column: usize, progress: &mut Progre
 }
 
 // Where the text of a key stands after its properties, whose line goes on.
+#[inline(always)]
 fn key_text<'a>(
     scope: Scope<'a>,
     start: usize,

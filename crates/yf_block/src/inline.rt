@@ -27,14 +27,15 @@ use yf_comments::comments::Separation;
 use yf_events::event::{Entry, NewEvent, PlacedEvent, ScalarStyle};
 use yf_events::part::Part;
 use yf_flow::frame::{Node, Scene};
-use yf_flow::node::{Lead, push_scalar};
-use yf_flow::nodes::{Ending, read_content};
+use yf_flow::node::{Lead, push_scalar_with};
+use yf_flow::nodes::{Ending, read_content_with};
 use yf_lines::basic::skip_whites;
 use yf_lines::text::Text;
 use yf_props::alias::alias_node;
 
 /// Reads what stands there: nothing before a `:`, an alias, which has no properties, or the content of a flow node. `depth`
 /// collections are open.
+#[inline(always)]
 pub(crate) fn read_inline<'a>(
     scope: Scope<'a>,
     least: usize,
@@ -58,7 +59,7 @@ pub(crate) fn read_inline<'a>(
     match empty_key_end(scope.text, at, inner) {
         Some(end) => {
             let style = ScalarStyle::Plain;
-            push_scalar(scope.alloc, *lead, style, Text::Part(""), end, part)?;
+            push_scalar_with(scope.alloc, lead, style, Text::Part(""), end, part)?;
             Ok(inline_end(end, depth))
         }
         None => {
@@ -74,7 +75,7 @@ pub(crate) fn read_inline<'a>(
                 context: Ctx::FlowOut,
                 limit: scope.limit,
             };
-            read_content(scope.alloc, scene, at, *lead, depth, part)
+            read_content_with(scope.alloc, &scene, at, lead, depth, part)
         }
     }
 }

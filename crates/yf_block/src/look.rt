@@ -36,6 +36,7 @@ pub(crate) fn dash_stands(text: &str, at: usize) -> bool
 }
 
 /// Whether that sign of an entry, `?` or `:`, stands there, with white, a break or the end of the text after it.
+#[inline(always)]
 pub(crate) fn sign_stands(text: &str, at: usize, sign: u8) -> bool
     requires { sign < 128 }
     ensures boundary { result ≡ true → IsCharBoundary text.now (at + 1) }

@@ -5,13 +5,13 @@ use Rattle.yf_block.proofs.InlineLemmas.{alias_there, content_ends, empty_writte
 use Rattle.yf_block.proofs.CountedSteps.{later, held_below}
 use Rattle.yf_block.proofs.inline.read_inline.Goals as goal
 
-pub returns-in_ok-push_scalar-in-Some-clause-answers : goal.returns-in_ok-push_scalar-in-Some-clause-answers
-returns-in_ok-push_scalar-in-Some-clause-answers c = λ u l room r.
-    let e = c.in_ok-push_scalar-in-Some.ensures in
+pub returns-in_ok-push_scalar_with-in-Some-clause-answers : goal.returns-in_ok-push_scalar_with-in-Some-clause-answers
+returns-in_ok-push_scalar_with-in-Some-clause-answers c = λ u l room r.
+    let e = c.in_ok-push_scalar_with-in-Some.ensures in
     rw c.inline_end.ensures (empty_key_read c.in-Some.ensures.reads refl refl (empty_written c.in-Some.end e.pushed e.comments e.escapes))
 
-pub returns-in_ok-push_scalar-in-Some-clause-counted : goal.returns-in_ok-push_scalar-in-Some-clause-counted
-returns-in_ok-push_scalar-in-Some-clause-counted c = λ u total start l q.
+pub returns-in_ok-push_scalar_with-in-Some-clause-counted : goal.returns-in_ok-push_scalar_with-in-Some-clause-counted
+returns-in_ok-push_scalar_with-in-Some-clause-counted c = λ u total start l q.
     let k : start ≤ c.in-Some.end = omega (arith, l, c.in-Some.ensures.place.order) in
     rw c.inline_end.ensures (later _ c.args.depth total start c.in-Some.end k q)
 
@@ -24,8 +24,8 @@ returns-in-None-inner-clause-answers c = λ u l room r. rw c.in-None-inner.is (c
 pub returns-else-stands-clause-answers : goal.returns-else-stands-clause-answers
 returns-else-stands-clause-answers c = λ u l room r.
     let fits : SFits w32 c.flow_indentation.result = search rules in
-    let e = rw (to_z-of_z fits, c.flow_indentation.ensures.same l) at (c.read_content.ensures.answers u refl room r) in
-    IfOk-weaker _ _ _ (λ e f. content_ends room (pos c.args.least) c.args.depth c.args.lead.now c.args.part.now c.read_content.new.part e c.in-None.ensures.reads c.if-stands.ensures.cases f) e
+    let e = rw (to_z-of_z fits, c.flow_indentation.ensures.same l) at (c.read_content_with.ensures.answers u refl room r) in
+    IfOk-weaker _ _ _ (λ e f. content_ends room (pos c.args.least) c.args.depth c.args.lead.now c.args.part.now c.read_content_with.new.part e c.in-None.ensures.reads c.if-stands.ensures.cases f) e
 
 pub returns-in-None-inner-clause-counted : goal.returns-in-None-inner-clause-counted
 returns-in-None-inner-clause-counted c = λ u total start l q.
@@ -33,4 +33,4 @@ returns-in-None-inner-clause-counted c = λ u total start l q.
 
 pub returns-else-stands-clause-counted : goal.returns-else-stands-clause-counted
 returns-else-stands-clause-counted c = λ u total start l q.
-    c.read_content.ensures.counted u total (later _ c.args.depth total start c.args.at (held_below _ _ _ c.args.inner.now c.requires.properties l) q)
+    c.read_content_with.ensures.counted u total (later _ c.args.depth total start c.args.at (held_below _ _ _ c.args.inner.now c.requires.properties l) q)

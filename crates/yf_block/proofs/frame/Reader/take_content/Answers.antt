@@ -1,6 +1,7 @@
-use Rattle.std.proofs.Common.{◌∙◌}
+use Rattle.std.proofs.Common.{sym, ◌∙◌}
 use Rattle.yf_block.specs.ContentTied.{text_alone}
 use Rattle.yf_block.proofs.ContentSteps.{signless_there}
+use Rattle.yf_block.proofs.PropertiesLemmas.{no_properties}
 use Rattle.yf_block.proofs.frame.Reader.take_content.Goals as goal
 
 pub returns-in-Some : goal.returns-in-Some
@@ -10,23 +11,12 @@ returns-in-Some c = record {
   counted = c.open_collection.ensures.counted;
 }
 
-pub returns-in-Some-2 : goal.returns-in-Some-2
-returns-in-Some-2 c = record {
-  tied = λ d root before j r a.
-      c.take_propertied.ensures.tied d root before j r (record {
-        properties = rw c.in-Some-2.is at c.in_ok-inner-in-None.ensures.reads;
-        content = record { cols = a.cols; start = a.start; column_is = a.column_is; signless = signless_there a.column_is a.undashed c.in-None.ensures };
-      });
-  stepped = c.take_propertied.ensures.stepped;
-  counted = c.take_propertied.ensures.counted;
-}
-
-pub returns-in-None-2 : goal.returns-in-None-2
-returns-in-None-2 c = record {
+pub returns-in-None : goal.returns-in-None
+returns-in-None c = record {
   tied = λ d root before j r a.
       c.take_after_properties.ensures.tied d root before j r (record {
         content = record { cols = a.cols; start = a.start; column_is = a.column_is; signless = signless_there a.column_is a.undashed c.in-None.ensures };
-        text = text_alone (rw c.in-None-2.is at c.in_ok-inner-in-None.ensures.reads);
+        text = text_alone (no_properties (sym c.if-property_stands.false ∙ c.property_stands.ensures));
       });
   stepped = c.take_after_properties.ensures.stepped;
   counted = c.take_after_properties.ensures.counted;

@@ -1,0 +1,82 @@
+use Rattle.std.proofs.Common.{◌≡◌, ◌+◌, reverse, length, arith}
+use Rattle.std.proofs.lemmas.List.{length-reverse}
+use Rattle.yf_block.proofs.ContentSteps.{text_properties, scalar_apart, scalar_there, nothing_read}
+use Rattle.yf_block.proofs.TiedOpenings.{room_there}
+use Rattle.yf_block.proofs.CountedSteps.{later, held_later, held_after}
+use Rattle.yf_block.proofs.MovedLemmas.{deep_moved, failed_moved, moved_later}
+use Rattle.yf_block.proofs.frame.Reader.take_text.Goals as goal
+
+pub returns-then-is_apart : goal.returns-then-is_apart
+returns-then-is_apart c = record {
+  tied = λ d root before j r a.
+      let s = a.content.start in
+      let belonging = c.requires.belonging s.ahead s.wanted.outer (text_properties a.text) in
+      scalar_apart a c.args.self.now.progress.wanted.entry c.args.facts.now.lead c.args.facts.now.belonging belonging c.if-is_apart.ensures c.if-block_scalar_stands.ensures;
+  stepped = failed_moved c.requires.standing.progress c.requires.standing.escapes c.requires.start;
+  counted = λ u total q. tt;
+}
+
+pub returns-then-block_scalar_stands : goal.returns-then-block_scalar_stands
+returns-then-block_scalar_stands c = record {
+  tied = λ d root before j r a.
+      let s = a.content.start in
+      let belonging = c.requires.belonging s.ahead s.wanted.outer (text_properties a.text) in
+      c.take_block_scalar.ensures.tied d root before j r (scalar_there a c.args.facts.now.belonging belonging c.if-is_apart.ensures c.if-block_scalar_stands.ensures);
+  stepped = moved_later {at = c.args.after.now.node_start.at} {place = c.args.after.now.at} {more = 0} {less = 0} _ _ _ (held_after _ _ _ c.args.after.now.inner c.requires.properties) (omega arith) c.take_block_scalar.ensures.stepped;
+  counted = λ u total q.
+      c.take_block_scalar.ensures.counted u total (later _ (length c.args.self.now.frames.items) total c.args.after.now.node_start.at c.args.after.now.at (held_after _ _ _ c.args.after.now.inner c.requires.properties) q);
+}
+
+pub returns-in-End : goal.returns-in-End
+returns-in-End c = record {
+  tied = λ d root before j r a.
+      let s = a.content.start in
+      let belonging = c.requires.belonging s.ahead s.wanted.outer (text_properties a.text) in
+      let n = length-reverse c.args.self.now.frames.items in
+      let o = room_there s in
+      let there : c.len.result + s.room ≡ c.args.scope.limit = omega (arith, n, o, r, c.len.ensures.value) in
+      let depth : c.len.result ≡ length (reverse c.args.self.now.frames.items) = omega (arith, n, c.len.ensures.value) in
+      c.finish_inline.ensures.tied d root before j r (record {
+        depth = c.len.result;
+        earlier = c.args.self.now.part;
+        inline = record {
+          there = a;
+          belonging = belonging;
+          counts = c.requires.counts;
+          depth_is = depth;
+          read = rw c.in-End.is at (c.in_ok-node.ensures.answers s.read.text.utf8 s.wanted.narrow s.room there);
+          no_scalar = c.if-block_scalar_stands.ensures;
+        };
+      });
+  stepped = c.finish_inline.ensures.stepped;
+  counted = λ u total q.
+      c.finish_inline.ensures.counted u total (record {
+        deepest = rw c.in-End.is at (c.in_ok-node.ensures.counted u total c.args.after.now.node_start.at (held_later _ _ _ c.args.after.now.inner c.requires.properties) (omega (arith, q, c.len.ensures.value)));
+        opened = q;
+      });
+}
+
+pub returns-in-Nothing : goal.returns-in-Nothing
+returns-in-Nothing c = record {
+  tied = λ d root before j r a.
+      let s = a.content.start in
+      let n = length-reverse c.args.self.now.frames.items in
+      let o = room_there s in
+      let there : c.len.result + s.room ≡ c.args.scope.limit = omega (arith, n, o, r, c.len.ensures.value) in
+      nothing_read a (rw c.in-Nothing.is at (c.in_ok-node.ensures.answers s.read.text.utf8 s.wanted.narrow s.room there)) c.if-block_scalar_stands.ensures;
+  stepped = failed_moved c.requires.standing.progress c.in_ok-node.ensures.escapes c.requires.standing.boundary;
+  counted = λ u total q. tt;
+}
+
+pub returns-in-TooDeep : goal.returns-in-TooDeep
+returns-in-TooDeep c = record {
+  tied = λ d root before j r a.
+      let s = a.content.start in
+      let n = length-reverse c.args.self.now.frames.items in
+      let o = room_there s in
+      let there : c.len.result + s.room ≡ c.args.scope.limit = omega (arith, n, o, r, c.len.ensures.value) in
+      nothing_read a (rw c.in-TooDeep.is at (c.in_ok-node.ensures.answers s.read.text.utf8 s.wanted.narrow s.room there)) c.if-block_scalar_stands.ensures;
+  stepped = deep_moved c.requires.standing.progress c.in_ok-node.ensures.escapes (rw c.in-TooDeep.is at c.in_ok-node.ensures.found);
+  counted = λ u total q.
+      rw c.in-TooDeep.is at (c.in_ok-node.ensures.counted u total c.args.after.now.node_start.at (held_later _ _ _ c.args.after.now.inner c.requires.properties) (omega (arith, q, c.len.ensures.value)));
+}
