@@ -18,6 +18,7 @@ pub mod PutLemmas
 pub mod PackedRows
 pub mod TagLists
 pub mod FormedRows
+pub mod SilentRows
 -- trees of events: at most one list of them, and one exactly where the places are those of trees
 pub mod TreeLemmas
 pub mod TreesExist

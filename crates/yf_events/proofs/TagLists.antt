@@ -1,5 +1,5 @@
 -- Tags that are kept for the events that have one, and the list that has for each event its tag or none.
-use Rattle.std.proofs.Common.{ℕ, zero, suc, ◌+◌, ◌<◌, ◌≤◌, ◌≡◌, ◌≢◌, ◌==◌, List, [], ◌∷◌, ◌++◌, length, get_or, Option, Some, None, Result, Ok, Err, if◌then◌else◌, inl, inr, refl, sym, ap, ◌∙◌, subst, arith}
+use Rattle.std.proofs.Common.{ℕ, zero, suc, ◌+◌, ◌<◌, ◌≤◌, ◌≡◌, ◌≢◌, ◌==◌, List, [], ◌∷◌, ◌++◌, length, get_or, Option, Some, None, Result, Ok, Err, if◌then◌else◌, inl, inr, refl, sym, ap, ◌∙◌, subst, arith, append-nil, append_assoc, replicate}
 use Rattle.std.specs.Prelude.{slice_get, MatchResult}
 use Rattle.std.specs.List.Sorted.{IsSearchInRange, IsBinarySearchResult, IsNonDecreasingBy}
 use Rattle.std.specs.Ordering.{nat_cmp, ordering_index}
@@ -122,3 +122,14 @@ pub no_tag_found : (n : ℕ) (ts : List TaggedEvent) (v : List (Option (List ℕ
 no_tag_found n ts v i seen l none =
     let inside : i < n = omega (arith, l, ap length seen, listed_length n ts) in
     ap (λ w. slice_get w i) (sym seen) ∙ listed_at n ts i inside ∙ ap Some none
+
+-- the next events have no tag
+pub next_all_untagged : (j n count : ℕ) (ts : List TaggedEvent) → Rises n ts → count ≡ n + j → tags_listed count ts ≡ tags_listed n ts ++ replicate j None
+next_all_untagged zero n count ts r e =
+    let same : count ≡ n = omega (arith, e) in
+    ap (λ w. tags_listed w ts) same ∙ sym (append-nil (tags_listed n ts))
+next_all_untagged (suc j) n count ts r e =
+    let more : Rises (suc n) ts = record { rise = r.rise; within = λ k l. omega (arith, r.within k l) } in
+    next_all_untagged j (suc n) count ts more (omega (arith, e))
+    ∙ ap (λ w. w ++ replicate j None) (next_untagged n (suc n) ts r (omega arith))
+    ∙ append_assoc (tags_listed n ts) (None ∷ []) (replicate j None)

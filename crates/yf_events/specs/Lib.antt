@@ -11,6 +11,7 @@ pub mod Pieces
 pub mod Plain
 pub mod Puts
 pub mod Reading
+pub mod Silent
 pub mod Tags
 pub mod Tree
 pub mod WellPlaced

@@ -1,9 +1,10 @@
 //! Lists of events.
-ghost use Rattle.std.specs.Prelude.{◌≡◌, ◌<◌, ◌≤◌, [], ◌∷◌, ◌++◌, drop, take, length, map, slice_get, if◌then◌else◌, is_ok};
+ghost use Rattle.std.specs.Prelude.{◌≡◌, ℕ, ◌<◌, ◌≤◌, [], ◌∷◌, ◌++◌, drop, take, length, map, slice_get, if◌then◌else◌, is_ok};
 
 use crate::event::{Entry, Event, PlacedEvent, ScalarStyle, Span, View};
 use crate::packed::{
-    More, PackedRow, entry_of, event_of, folded_of, keyed, more_in, shift, span_of, tag_of, view_of,
+    More, PackedRow, entry_of, event_of, folded_of, keyed, more_in, naming_from, shift, span_of,
+    tag_of, view_of,
 };
 use crate::packing::{narrow, narrow_entry, row_of};
 use crate::relined::{formed, is_folded, relined};
@@ -33,6 +34,7 @@ impl<'a> Model for Events<'a> {
 impl<'a> Events<'a> {
     ghost use Rattle.yf_events.specs.Edit.{edited, ended, coloned};
     ghost use Rattle.yf_events.specs.Formed.{formed};
+    ghost use Rattle.yf_events.specs.Silent.{NothingAt};
     ghost use Rattle.yf_events.specs.Tags.{written_tag};
     ghost use Rattle.yf_props.specs.Props.{optional_tag_value};
     ghost use Rattle.yf_events.specs.Event.{event_value, placed_value, view_value, with_entry};
@@ -118,6 +120,17 @@ impl<'a> Events<'a> {
         ensures { slice_get (map (λ e. e.folded) self.now) i ≡ Some (map (λ line. line.now) result.now) }
     {
         folded_of(more_in(self.more.as_slice(), self.rows[i].more))
+    }
+
+    /// The first index from `start` on whose event may name something, or how many events there are: what comes before it begins no
+    /// document and no node with an anchor or a tag, and is no alias.
+    #[inline(always)]
+    pub fn naming_from(&self, start: usize) -> usize
+        requires { start ≤ length self.now }
+        ensures within { (start ≤ result) × (result ≤ length self.now) }
+        ensures silent { (k : ℕ) → start ≤ k → k < result → NothingAt self.now k }
+    {
+        naming_from(self.rows.as_slice(), start)
     }
 
     /// Moves all events of another list to the end.

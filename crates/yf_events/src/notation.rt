@@ -1,6 +1,6 @@
 //! The notation of events: one line for each, as the YAML test suite writes them.
-ghost use Rattle.std.specs.Prelude.{◌≡◌, ◌<◌, length, slice_get, None, Some};
-ghost use Rattle.std.specs.List.{flat_map};
+ghost use Rattle.std.specs.Prelude.{◌≡◌, ◌<◌, length, slice_get, None, Some, [], ◌∷◌, codes};
+ghost use Rattle.std.specs.List.{concat, flat_map};
 ghost use Rattle.yf_events.specs.Event.{event_value};
 ghost use Rattle.yf_events.specs.Notation as Notation;
 ghost use Rattle.yf_events.specs.Pieces.{bare_head, bare_line, piece_bytes, scalar_line, start_line};
@@ -222,6 +222,15 @@ fn put_start<'x, W: Sink>(
     }
 }
 
+// Writes a line of two parts.
+#[inline(never)]
+fn put_parts<'x, W: Sink>(writer: &mut W, first: &'x str, second: &'x str) -> bool
+    ensures { Puts (W.contents writer.old) (W.contents writer.new) (W.has_failed writer.old) (W.has_failed writer.new)
+        (concat (first.now ∷ second.now ∷ codes "\n" ∷ [])) result }
+{
+    put_texts(writer, &[first, second, "\n"])
+}
+
 /// Writes the line of an event, with the resolved tag of the node that it begins, and tells whether that was done.
 #[inline(always)]
 #[tactic(auto, unfolding(crate::specs::Notation::event_line))]
@@ -255,7 +264,7 @@ fn put_event<'x, W: Sink>(
             (None, None) => put_bare_scalar(writer, style, text),
             (anchor, tag) => put_scalar(writer, anchor, tag, style, text),
         },
-        Event::Alias { name } => put_texts(writer, &["=ALI *", name, "\n"]),
+        Event::Alias { name } => put_parts(writer, "=ALI *", name),
     }
 }
 

@@ -1,8 +1,11 @@
 //! Events in rows of forty bytes, with a table of what most nodes lack: properties, texts of their own, folded lines.
-ghost use Rattle.std.specs.Prelude.{◌≡◌, map, IfOk};
+ghost use Rattle.std.specs.Prelude.{◌≡◌, ℕ, ◌≤◌, ◌<◌, length, map, IfOk};
+ghost use Rattle.std.specs.Bool.{OnTrue};
 ghost use Rattle.yf_events.specs.Event.{event_value, view_value};
 ghost use Rattle.yf_events.specs.Packed.{entry_at, folded_in, more_at, more_value, props_in, row_with, shape_value, shifted, span_at, text_in};
 ghost use Rattle.yf_events.specs.Packed as Packed;
+ghost use Rattle.yf_events.specs.Silent.{SilentAt, SilentRow};
+ghost use Rattle.yf_events.specs.Silent as Silent;
 ghost use Rattle.yf_events.specs.Tags.{written_tag};
 ghost use Rattle.yf_props.specs.Props.{optional_tag_value};
 
@@ -247,4 +250,48 @@ fn moved_on(number: u32, by: u32) -> Result<u32, AllocError>
         Some(moved) => Ok(moved),
         None => Err(AllocError),
     }
+}
+
+// Whether an event of this shape names nothing, where the node that it begins has no properties.
+#[inline(always)]
+fn names_nothing(shape: Shape) -> bool
+    ensures { result ≡ Silent.names_nothing shape }
+{
+    match shape {
+        Shape::DocStart { .. } | Shape::Alias => false,
+        Shape::StreamStart
+        | Shape::StreamEnd
+        | Shape::DocEnd { .. }
+        | Shape::SeqStart { .. }
+        | Shape::SeqEnd
+        | Shape::MapStart { .. }
+        | Shape::MapEnd
+        | Shape::Scalar { .. } => true,
+    }
+}
+
+#[inline(always)]
+fn is_silent(row: &PackedRow) -> bool
+    ensures { OnTrue result (SilentRow row.now) }
+{
+    if row.more != 0 {
+        return false;
+    }
+    names_nothing(row.shape)
+}
+
+/// The first index from `start` on whose row may name something, or how many rows there are.
+pub fn naming_from(rows: &[PackedRow], start: usize) -> usize
+    requires { start ≤ length rows.now }
+    ensures within { (start ≤ result) × (result ≤ length rows.now) }
+    ensures silent { (k : ℕ) → start ≤ k → k < result → SilentAt rows.now k }
+{
+    let mut at = start;
+    'rows: while at < rows.len() {
+        if !is_silent(&rows[at]) {
+            return at;
+        }
+        at += 1;
+    }
+    at
 }

@@ -20,7 +20,6 @@ pub fn put_text<W: Sink>(writer: &mut W, bytes: &[u8]) -> bool
 }
 
 /// Writes the texts one after another, and tells whether that was done.
-#[inline(never)]
 pub fn put_texts<W: Sink>(writer: &mut W, parts: &[&str]) -> bool
     ensures { Puts (W.contents writer.old) (W.contents writer.new) (W.has_failed writer.old) (W.has_failed writer.new) (texts parts.now) result }
 {

@@ -1,5 +1,5 @@
 //! The resolved tags of events.
-ghost use Rattle.std.specs.Prelude.{◌≡◌, ◌<◌, ℕ, [], ◌∷◌, ◌++◌, length, slice_get, Some, None, IfOk, MatchResult, if◌then◌else◌, is_ok};
+ghost use Rattle.std.specs.Prelude.{◌≡◌, ◌<◌, ℕ, [], ◌∷◌, ◌++◌, length, slice_get, Some, None, IfOk, MatchResult, if◌then◌else◌, is_ok, replicate};
 ghost use Rattle.yf_events.specs.Tags.{event_at, tag_at};
 ghost use Rattle.yf_props.specs.Props.{name_value};
 
@@ -61,6 +61,18 @@ impl<'a> Tags<'a> {
         if let Some(tag) = tag {
             self.tagged.push(TaggedEvent { event, tag })?;
         }
+        self.count = count;
+        Ok(())
+    }
+
+    /// Adds that so many further events have none.
+    #[inline(always)]
+    pub fn push_none(&mut self, count: usize) -> Result<(), AllocError>
+        ensures { self.new ≡ (if is_ok result then self.old ++ replicate count None else self.old) }
+    {
+        let Some(count) = self.count.checked_add(count) else {
+            return Err(AllocError);
+        };
         self.count = count;
         Ok(())
     }

@@ -45,6 +45,7 @@ pub mod DeclaredLemmas
 pub mod FirstLemmas
 pub mod PassLemmas
 pub mod PassSteps
+pub mod BareRuns
 pub mod TagPlaces
 pub mod BreachBoundaries
 pub mod BreachPlaces

@@ -1,3 +1,4 @@
+pub mod BareRun
 pub mod CommentLaws
 pub mod FewHandles
 pub mod DerivedParts

@@ -1,8 +1,9 @@
 //! The resolved tags of a stream (YAML 1.2.2, section 6.9.1), and the first breach in it.
-ghost use Rattle.std.specs.Prelude.{◌≡◌, ◌≤◌, ◌<◌, [], ◌∷◌, ◌++◌, false, drop, length, IfOk, MatchBool};
-ghost use Rattle.yf_props.specs.Props.{name_value, no_props, optional_tag_value, props_value};
+ghost use Rattle.std.specs.Prelude.{◌≡◌, ◌≤◌, ◌<◌, [], ◌∷◌, ◌++◌, false, drop, length, IfOk};
+ghost use Rattle.yf_props.specs.Props.{name_value, optional_tag_value};
 ghost use Rattle.yf_events.specs.Event.{event_value};
-ghost use Rattle.yf_stream.specs.TagPass.{AllPassed, Bare, EventAt, FirstOf, Finds, PassTags, Passed, Resolves, SameDeclarations, SameNames, StartsDocument, TagAdded, TagOf, directives_of, stream_breaches};
+ghost use Rattle.yf_stream.specs.TagPass.{AllPassed, EventAt, FirstOf, Finds, PassTags, Passed, Resolves, SameDeclarations, SameNames, StartsDocument, TagAdded, TagOf, directives_of, stream_breaches};
+ghost use Rattle.yf_stream.specs.BareRun.{BarePassed};
 ghost use Rattle.yf_stream.specs.TagPass as TagPass;
 ghost use Rattle.yf_stream.specs.WellFormed.{alias_breaches, alias_of, breach_if, declarations, directive_breaches, is_unknown, offset_or, props_of, start_or, with_name};
 
@@ -89,15 +90,10 @@ fn resolve_from<'e, 'a>(
     ensures passes { IfOk result (λ end. AllPassed events.now handles.now start end resolved.old.first resolved.new.first
         anchors.old anchors.new resolved.old.tags resolved.new.tags) }
 {
-    let mut at = start;
+    let mut at = pass_bare(events, start, &mut resolved.tags)?;
     'events: while at < events.len() {
         if document_starts(events, at) {
             return Ok(at);
-        }
-        if is_bare(&events.event(at)) {
-            resolved.tags.push(None)?;
-            at += 1;
-            continue;
         }
         add_tag(alloc, events, at, handles, resolved)?;
         note_event(
@@ -106,9 +102,21 @@ fn resolve_from<'e, 'a>(
             anchors,
             &mut resolved.first,
         )?;
-        at += 1;
+        at = pass_bare(events, at + 1, &mut resolved.tags)?;
     }
     Ok(at)
+}
+
+// Goes past the events that name nothing, up to the next one that may, or the end.
+#[inline(always)]
+fn pass_bare(events: &Events, at: usize, tags: &mut Tags) -> Result<usize, AllocError>
+    requires { at ≤ length events.now }
+    ensures end { IfOk result (λ end. (at ≤ end) × (end ≤ length events.now)) }
+    ensures passed { IfOk result (λ end. BarePassed events.now at end tags.old tags.new) }
+{
+    let end = events.naming_from(at);
+    tags.push_none(end - at)?;
+    Ok(end)
 }
 
 // Whether a document starts at an index.
@@ -125,30 +133,6 @@ fn starts_document(event: &Event) -> bool
     ensures { result ≡ TagPass.starts_document (event_value event.now) }
 {
     matches!(event, Event::DocStart { .. })
-}
-
-// Whether the event begins no node with a tag or an anchor, and is no alias.
-#[inline(always)]
-fn is_bare(event: &Event) -> bool
-    ensures { MatchBool result (Bare (event_value event.now)) (Unit {0}) }
-{
-    match event {
-        Event::Scalar { props, .. }
-        | Event::SeqStart { props, .. }
-        | Event::MapStart { props, .. } => has_none(props),
-        Event::Alias { .. } => false,
-        _ => true,
-    }
-}
-
-#[inline(always)]
-fn has_none(props: &Props) -> bool
-    ensures { MatchBool result (props_value props.now ≡ no_props) (Unit {0}) }
-{
-    if props.anchor.is_some() {
-        return false;
-    }
-    props.tag.is_none()
 }
 
 // Adds what the tag of an event stands for.

@@ -1,28 +1,24 @@
 use Rattle.std.proofs.Common.{arith}
-use Rattle.yf_stream.proofs.PassLemmas.{none_passed}
-use Rattle.yf_stream.proofs.PassSteps.{bare_passed, event_at, named_passed, none_starts, passing_step, starts_at}
+use Rattle.yf_stream.proofs.BareRuns.{all_then}
+use Rattle.yf_stream.proofs.PassSteps.{event_at, named_passed, none_starts, passing_step, starts_at}
 use Rattle.yf_stream.proofs.resolve.resolve_from.Goals as goal
 
 pub events-init : goal.events-init
-events-init c = record { passed = none_passed c.args.start c.args.resolved.now.tags; later = omega arith; within = omega arith }
-
-pub events-preserved-then-is_bare : goal.events-preserved-then-is_bare
-events-preserved-then-is_bare c =
-    let passed = bare_passed c.args.handles.now (event_at c.args.events.now c.events.at (omega (arith, c.len.ensures, c.events-test.true)) c.event.ensures) c.if-is_bare.ensures c.in_ok-push.ensures in
-    record {
-      passed = passing_step c.events.invariant.passed c.document_starts.ensures c.if-document_starts.false passed;
-      later = omega arith;
-      within = omega (arith, c.len.ensures, c.events-test.true);
-    }
+events-init c = record {
+  passed = c.in_ok-at.ensures.passed.passed c.args.handles.now _ _;
+  later = c.in_ok-at.ensures.end.0;
+  within = c.in_ok-at.ensures.end.1;
+}
 
 pub events-preserved : goal.events-preserved
 events-preserved c =
-    let event = event_at c.args.events.now c.events.at (omega (arith, c.len.ensures, c.events-test.true)) c.event-in-events.ensures in
+    let event = event_at c.args.events.now c.events.at (omega (arith, c.len.ensures, c.events-test.true)) c.event.ensures in
     record {
-      passed = passing_step c.events.invariant.passed c.document_starts.ensures c.if-document_starts.false
-          (named_passed c.in_ok-add_tag.ensures event c.start_of.ensures c.in_ok-note_event.ensures.found c.in_ok-note_event.ensures.names);
-      later = omega arith;
-      within = omega (arith, c.len.ensures, c.events-test.true);
+      passed = all_then (passing_step c.events.invariant.passed c.document_starts.ensures c.if-document_starts.false
+          (named_passed c.in_ok-add_tag.ensures event c.start_of.ensures c.in_ok-note_event.ensures.found c.in_ok-note_event.ensures.names))
+          (c.in_ok-at-2.ensures.passed.passed c.args.handles.now _ _);
+      later = omega (arith, c.in_ok-at-2.ensures.end.0, c.events.invariant.later);
+      within = c.in_ok-at-2.ensures.end.1;
     }
 
 pub returns-then-document_starts-clause-next : goal.returns-then-document_starts-clause-next
