@@ -1,14 +1,19 @@
 -- Laws of the cursors of a pass over a text.
-use Rattle.std.proofs.Common.{◌≡◌, ℕ, ◌+◌, ◌<◌, ◌≤◌, List, [], ◌++◌, Bool, length, sym, subst, refl, arith, length-append, Some}
+use Rattle.std.proofs.Common.{◌≡◌, ℕ, ◌+◌, ◌<◌, ◌≤◌, List, [], ◌∷◌, ◌++◌, Bool, zero, suc, length, sym, subst, ap, refl, arith, length-append, Some}
 use Rattle.std.specs.Prelude.{IfSome, slice_get}
-use Rattle.std.specs.Str.{IsCharBoundary}
+use Rattle.std.specs.Str.{IsCharBoundary, IsUtf8}
+use Rattle.std.proofs.lemmas.List.{length_push}
 use Rattle.std.proofs.lemmas.Option.{slice_get_past}
 use Rattle.yf_chars.specs.Chain.{Many}
 use Rattle.yf_chars.specs.Chain.Chain.{done, step}
 use Rattle.yf_chars.specs.Chain.One.{one}
 use Rattle.yf_chars.proofs.ChainLemmas.{chain_append}
 use Rattle.yf_lines.specs.declared.line.Line.{Line}
-use Rattle.yf_lines.specs.Lines.{AreLines, Marks, PlaceOf, ColumnOf, is_char}
+use Rattle.yf_chars.specs.Text.{code}
+use Rattle.yf_chars.proofs.TextLemmas.{reads_byte}
+use Rattle.yf_lines.proofs.PlaceLemmas.{characters_more}
+use Rattle.yf_lines.specs.Basic.{Spaces}
+use Rattle.yf_lines.specs.Lines.{AreLines, Marks, PlaceOf, ColumnOf, is_char, is_mark}
 use Rattle.yf_lines.specs.Lines.ColumnOf.{among_marks, behind_marks}
 use Rattle.yf_lines.specs.Lines.Holds.{inside}
 use Rattle.yf_lines.specs.Lines.PlaceOf.{in_line}
@@ -30,6 +35,32 @@ no_cursor t ls s h = record { reached = subst (λ o. IfSome o (λ (m : Line). Re
 pub reached_first : (t : List ℕ) (start at : ℕ) → Marks t start at → IsCharBoundary t at → Reached t start at 1
 reached_first t start at m b =
     record { behind = at; marks = m; characters = []; run = done; count = omega arith; boundary = b; room = omega arith }
+
+-- after the spaces of a line
+spaces_run : (t : List ℕ) (i k : ℕ) → IsUtf8 t → IsCharBoundary t i → Spaces t i k → (x : List ℕ) × Many t is_char i (i + k) x × (length x ≡ k) × IsCharBoundary t (i + k)
+spaces_run t i zero u b f = ([], subst (λ j. Many t is_char i j []) (omega arith) done, refl, subst (IsCharBoundary t) (omega arith) b)
+spaces_run t i (suc k) u b f =
+    let r = spaces_run t i k u b (record { each = λ m l. f.each m (omega (arith, l)) }) in
+    let s = reads_byte t (i + k) 32 u (f.each k (omega arith)) (omega arith) in (
+      r.0 ++ code t (i + k) ∷ [],
+      subst (λ j. Many t is_char i j (r.0 ++ code t (i + k) ∷ [])) (omega arith) (characters_more t i (i + k) 32 (i + k + 1) r.0 r.1 s),
+      omega (arith, r.2, length_push r.0 (code t (i + k))),
+      subst (IsCharBoundary t) (omega arith) s.boundary,
+    )
+
+pub reached_indent : (t : List ℕ) (i k at : ℕ) → IsUtf8 t → IsCharBoundary t i → Spaces t i k → 0 < k → at ≡ i + k → Reached t i at (k + 1)
+reached_indent t i k at u b f h e =
+    let r = spaces_run t i k u b f in
+    let first : code t i ≡ 32 = subst (λ j. code t j ≡ 32) (omega arith) (f.each 0 h) in
+    subst (λ j. Reached t i j (k + 1)) (sym e) (record {
+      behind = i;
+      marks = record { marks = []; run = done; stops = ap is_mark first };
+      characters = r.0;
+      run = r.1;
+      count = omega (arith, r.2);
+      boundary = r.3;
+      room = omega arith;
+    })
 
 -- more characters of the line
 pub reached_more : (t : List ℕ) (start at column offset d : ℕ) (x : List ℕ) → Reached t start at column → Many t is_char at offset x

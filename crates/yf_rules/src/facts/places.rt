@@ -30,6 +30,28 @@ fn line_cursor(src: &Src, line: usize) -> Cursor
     }
 }
 
+/// The cursor in the line of that index, for a byte offset in it: after the spaces with which the line begins, unless the
+/// offset stands among them.
+#[inline(always)]
+fn indent_cursor(src: &Src, line: usize, offset: usize) -> Cursor
+    ensures { IsCursor src.now.text src.now.lines result }
+{
+    if line < src.lines().len() {
+        let _text = src.text();
+        let found = src.lines().line(line);
+        if 0 < found.indent && found.indent < offset && found.start <= offset {
+            if found.indent <= offset - found.start {
+                return Cursor {
+                    line,
+                    at: found.start + found.indent,
+                    column: found.indent + 1,
+                };
+            }
+        }
+    }
+    line_cursor(src, line)
+}
+
 /// The cursor in the line that holds the byte offset. The line is looked for from that of the first cursor on.
 fn forward(src: &Src, cursor: Cursor, offset: usize) -> Cursor
     requires { IsCursor src.now.text src.now.lines cursor }
@@ -39,7 +61,7 @@ fn forward(src: &Src, cursor: Cursor, offset: usize) -> Cursor
     if line == cursor.line {
         return cursor;
     }
-    line_cursor(src, line)
+    indent_cursor(src, line, offset)
 }
 
 /// The place of a byte offset, from a cursor before it on.
