@@ -144,6 +144,7 @@ impl<'a> Events<'a> {
     }
 
     /// Puts an event before the one at an index, or at the end.
+    #[inline(always)]
     pub fn insert(&mut self, i: usize, event: PlacedEvent<'a>) -> Result<(), AllocError>
         requires { i ≤ length self.old }
         ensures { self.new ≡ (if is_ok result then take i self.old ++ placed_value event.entry ∷ drop i self.old else self.old) }

@@ -145,12 +145,12 @@ on_line_found {t} {c = c} {m = m} end a d p l k x =
 
 -- The last leaf before an offset.
 
-record EventAt (es : List Placed) (i : ℕ) (o : Option Span) : Type 0 where
-  event : Placed
-  here : drop i es ≡ event ∷ drop (i + 1) es
-  span : event.span ≡ o
+pub record EventAt (es : List Placed) (i : ℕ) (o : Option Span) : Type 0 where
+  pub event : Placed
+  pub here : drop i es ≡ event ∷ drop (i + 1) es
+  pub span : event.span ≡ o
 
-event_at : (es : List Placed) (i : ℕ) {o : Option Span} → slice_get (map (λ (e : Placed). e.span) es) i ≡ Some o → EventAt es i o
+pub event_at : (es : List Placed) (i : ℕ) {o : Option Span} → slice_get (map (λ (e : Placed). e.span) es) i ≡ Some o → EventAt es i o
 event_at es i {o} f = go (slice_get es i) refl (sym (slice_get-map (λ (e : Placed). e.span) es i) ∙ f) where
   go : (q : Option Placed) → slice_get es i ≡ q → option_map (λ (e : Placed). e.span) q ≡ Some o → EventAt es i o
   go None e g = absurd cc

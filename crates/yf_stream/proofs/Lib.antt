@@ -51,6 +51,7 @@ pub mod BreachBoundaries
 pub mod BreachPlaces
 pub mod DeclaringLemmas
 pub mod LeafLemmas
+pub mod LeafSearches
 pub mod LeafTrees
 pub mod EventsInOrder
 pub mod CommentLines

@@ -11,6 +11,7 @@ pub mod HasReading
 pub mod InLine
 pub mod Laws
 pub mod LeafPass
+pub mod LeafSearch
 pub mod MadeReadings
 pub mod NodeLaws
 pub mod NotedLists

@@ -1,15 +1,14 @@
 //! Which comments stand on the line on which a leaf ends. A leaf is a scalar, an alias or an empty collection.
-ghost use Rattle.std.specs.Prelude.{◌≡◌, ℕ, ◌<◌, ◌≤◌, List, None, Some, drop, length, map, if◌then◌else◌, IfOk};
+ghost use Rattle.std.specs.Prelude.{◌≡◌, ℕ, ◌<◌, ◌≤◌, List, None, drop, length, map, IfOk, MatchBool};
 ghost use Rattle.yf_comments.specs.Comment.{comment_value};
-ghost use Rattle.yf_events.specs.Reading.{first_begins_leaf};
 ghost use Rattle.yf_lines.specs.Lines.{AreLines};
 ghost use Rattle.yf_lines.specs.declared.line.Line.{Line};
+ghost use Rattle.yf_stream.specs.LeafSearch.{BegunAt, LastLeaf};
 ghost use Rattle.yf_stream.specs.LeafPass.{BeginsLine, NextLine, StandInOrder, StandsInLine, StopsAt, end_on_line, last_end, leaf_spans};
 
 use std::alloc::{AllocError, Global};
 use yf_comments::comment::Comment;
 use yf_comments::comments::Comments;
-use yf_events::event::Span;
 use yf_events::events::Events;
 use yf_events::leaves::begins_leaf;
 use yf_events::row::Row;
@@ -52,37 +51,61 @@ fn leaves_before(events: &Events, offset: usize, seen: Seen) -> Seen
         ≡ last_end result.leaf_end o (leaf_spans (drop result.events events.now)) }
     ensures stops { StopsAt offset (drop result.events events.now) }
 {
-    let mut at = seen.events;
-    let mut leaf_end = seen.leaf_end;
-    'events: while at < events.len() {
-        if let Some(span) = events.span(at) {
-            if offset <= span.start {
-                return Seen {
-                    events: at,
-                    leaf_end,
-                };
-            }
-            leaf_end = later_end(events, at, span, leaf_end);
-            at += 1;
-            continue;
-        }
-        at += 1;
-    }
+    let end = begun_before(events, offset, seen.events);
+    let leaf_end = last_leaf(events, seen.events, end, seen.leaf_end);
     Seen {
-        events: at,
+        events: end,
         leaf_end,
     }
 }
 
-// Where the last leaf ends, after one more event with a place.
-fn later_end(events: &Events, i: usize, span: Span, leaf_end: Option<usize>) -> Option<usize>
-    requires { i < length events.now }
-    ensures { result ≡ (if first_begins_leaf (drop i events.now) then Some span.end else leaf_end) }
+// Goes past the events that begin before the offset, and past those without a place.
+#[inline(always)]
+fn begun_before(events: &Events, offset: usize, start: usize) -> usize
+    ensures later { start ≤ result }
+    ensures begun { (k : ℕ) → start ≤ k → k < result → BegunAt offset events.now k }
+    ensures stops { StopsAt offset (drop result events.now) }
 {
-    if begins_leaf(events, i) {
-        return Some(span.end);
+    let mut at = start;
+    'events: while at < events.len() {
+        if !has_begun(events, at, offset) {
+            return at;
+        }
+        at += 1;
     }
-    leaf_end
+    at
+}
+
+#[inline(always)]
+fn has_begun(events: &Events, at: usize, offset: usize) -> bool
+    requires { at < length events.now }
+    ensures { MatchBool result (BegunAt offset events.now at) (StopsAt offset (drop at events.now)) }
+{
+    match events.span(at) {
+        Some(span) => span.start < offset,
+        None => true,
+    }
+}
+
+// Where the last leaf with characters ends among these events, which is looked for from their end; the end that was found before, where
+// there is none.
+#[inline(always)]
+fn last_leaf(events: &Events, start: usize, end: usize, found: Option<usize>) -> Option<usize>
+    requires order { start ≤ end }
+    requires within { (k : ℕ) → start ≤ k → k < end → k < length events.now }
+    ensures { LastLeaf events.now start end found result }
+{
+    let mut at = end;
+    'events: while start < at {
+        at -= 1;
+        if let Some(span) = events.span(at) {
+            if begins_leaf(events, at) {
+                return Some(span.end);
+            }
+            continue 'events;
+        }
+    }
+    found
 }
 
 // Whether the last character before the end stands on the comment's line.
