@@ -14,6 +14,7 @@ pub mod NotedFloor
 pub mod BegunLemmas
 pub mod NodeBegunLemmas
 pub mod ContentEnds
+pub mod EndsAlone
 pub mod EntriesFrom
 -- `read_flow_node` and `read_implicit_key`: the stack and the recursive reader agree (`Tied`)
 pub mod TiedBase

@@ -4,6 +4,7 @@ pub mod ContentAnswers
 pub mod Counted
 pub mod Ending
 pub mod Ends
+pub mod EndsAlone
 pub mod EntryBegun
 pub mod KeyThere
 pub mod Leaves

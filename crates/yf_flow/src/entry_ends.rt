@@ -110,6 +110,7 @@ impl<'a> Reader<'a> {
 
     // What stands after the `:` at an offset: a node, or nothing. After a key that is not like JSON's, separation must
     // come before the node (c-ns-flow-map-separate-value, production 147; c-ns-flow-map-adjacent-value, production 149).
+    #[inline(always)]
     fn await_value(&mut self, scene: Scene<'a>, at: usize, json: bool) -> Result<Step, AllocError>
         requires { Standing Indexed scene.text.now (at + 1) self.old }
         ensures { IfOk result (Leads (At (AtValueOf json) scene.entry self.old at) (Room scene.entry self.old (at + 1)) scene.entry at self.old self.new) }
@@ -131,6 +132,7 @@ impl<'a> Reader<'a> {
 
     /// An entry has been read whose last node or indicator ends at `finish`; what follows is read from `at` on. A single pair
     /// ends with it, and what follows belongs to its sequence.
+    #[inline(always)]
     pub(crate) fn end_entry(
         &mut self,
         scene: Scene<'a>,
@@ -172,6 +174,7 @@ impl<'a> Reader<'a> {
     }
 
     /// Closes the collection by the bracket at an offset.
+    #[inline(always)]
     pub(crate) fn close(&mut self, scene: Scene<'a>, at: usize) -> Result<Step, AllocError>
         requires { Standing EventThere scene.text.now (at + 1) self.old }
         ensures { IfOk result (Leads (At AtClosing scene.entry self.old at) (Room scene.entry self.old at) scene.entry at self.old self.new) }

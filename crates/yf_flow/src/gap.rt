@@ -17,6 +17,7 @@ pub(crate) struct Gap {
 }
 
 /// Reads the separation at an offset, if there is one (s-separate(n,c), production 80), and keeps its comments.
+#[inline(always)]
 pub(crate) fn read_gap<'a>(
     alloc: Global,
     scene: Scene<'a>,

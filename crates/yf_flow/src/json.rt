@@ -21,6 +21,7 @@ use yf_quoted::double::{Double, double_in};
 use yf_quoted::single::{Single, single_in};
 
 /// A quoted scalar, or the opening bracket of a flow collection (c-flow-json-content, production 157).
+#[inline(always)]
 pub(crate) fn json_content<'a>(
     spot: &Spot<'a>,
     lead: &Lead<'a>,
@@ -85,6 +86,7 @@ fn collection_start<'a>(kind: Kind, props: Props<'a>) -> NewEvent<'a>
 }
 
 // Opens the collection whose bracket stands there, if there is room for it. Where it ends is noted once it is closed.
+#[inline(always)]
 fn open<'a>(
     spot: &Spot<'a>,
     kind: Kind,

@@ -61,6 +61,7 @@ pub(crate) fn content_begins(text: &str, at: usize) -> bool
 /// Whether the `:` of a value stands there, after a node like those of JSON or another one, or no node at all: after
 /// the others no plain character may follow it.
 #[tactic(auto, using(crate::proofs::LeafLemmas::colon_json, crate::proofs::LeafLemmas::colon_safe, crate::proofs::LeafLemmas::no_colon, crate::proofs::LeafLemmas::colon_at_end))]
+#[inline(always)]
 pub(crate) fn colon_stands(scene: Scene, at: usize, json: bool) -> bool
     ensures behind { result ≡ true → IsCharBoundary scene.entry.text.now (at + 1) }
     ensures cases { MatchBool result (ColonAt scene.entry.text.now json scene.entry.context at)

@@ -3,7 +3,8 @@ ghost use Rattle.std.specs.Prelude.{◌≡◌, ℕ, [], ◌+◌, ◌≤◌, leng
 ghost use Rattle.std.specs.List.{All};
 ghost use Rattle.std.specs.Str.{IsCharBoundary, IsUtf8};
 ghost use Rattle.yf_lines.specs.Basic.{is_block};
-ghost use Rattle.yf_grammar.specs.Parser.{ANode, Parses};
+ghost use Rattle.yf_chars.specs.Text.{code};
+ghost use Rattle.yf_grammar.specs.Parser.{ANode, Parses, begins_content};
 ghost use Rattle.yf_flow.specs.ContentAnswers.{ContentEnds};
 ghost use Rattle.yf_flow.specs.Counted.{AllCounted, BegunCounted, EndCounted, openers_from};
 ghost use Rattle.yf_flow.specs.Ends.{BegunTied, EndTied, EndsAs};
@@ -11,12 +12,16 @@ ghost use Rattle.yf_flow.specs.Machine.{Awaiting, BegunAt, EndingAt, OutcomeAt};
 ghost use Rattle.yf_flow.specs.NodeAnswers.{InnerContext, NodeAnswers};
 ghost use Rattle.yf_flow.specs.NodeRead.{NodeLost};
 ghost use Rattle.yf_flow.specs.Stepped.{CollectionEnds, Standing};
+ghost use Rattle.yf_flow.specs.Spots.{Awaited, Begins, SpotContent};
+ghost use Rattle.yf_flow.specs.EndsAlone.{begun_of};
 ghost use Rattle.yf_flow.specs.Steps.{Reading};
 ghost use Rattle.yf_flow.specs.Tied.{AtEntry, Base};
 
 use crate::frame::{Frame, Node, Reader, Scene, Spot, Step};
-use crate::leaf::read_properties;
-use crate::node::{Begun, Lead, begin_content, begin_node, push_scalar};
+use crate::json::json_content;
+use crate::leaf::{Scalar, read_plain, read_properties};
+use crate::look::content_begins;
+use crate::node::{Begun, Lead, begin_node, push_scalar, push_scalar_with};
 use smallvec::SmallVec;
 use std::alloc::{AllocError, Global};
 use std::mem::swap;
@@ -160,19 +165,43 @@ pub fn read_content_with<'a>(
                 at,
                 depth,
             };
-            let begun = begin_content(&spot, lead, part)?;
-            end_node(
-                Spot {
+            if content_begins(scene.text, at) {
+                let begun = json_content(&spot, lead, part)?;
+                let inside = Spot {
                     scene: Scene {
                         context: inner,
                         ..*scene
                     },
                     ..spot
-                },
-                begun,
-                part,
-            )
+                };
+                return end_node(inside, begun, part);
+            }
+            plain_ending(&spot, lead, part)
         }
+    }
+}
+
+// A plain scalar as a whole node (ns-plain, production 131).
+#[inline(always)]
+fn plain_ending<'a>(
+    spot: &Spot<'a>,
+    lead: &Lead<'a>,
+    part: &mut Part<'a>,
+) -> Result<Ending, AllocError>
+    requires awaited { Awaited spot.now part.old }
+    requires other { begins_content (code spot.now.scene.text.now spot.now.at) ≡ false }
+    ensures { IfOk result (λ e. Begins (SpotContent spot.now lead.now) spot.now part.old part.new (begun_of e)) }
+{
+    match read_plain(spot)? {
+        Some(Scalar { text, end }) => {
+            push_scalar_with(spot.alloc, lead, ScalarStyle::Plain, text, end, part)?;
+            Ok(Ending::End(Node {
+                end,
+                json: false,
+                deepest: spot.depth,
+            }))
+        }
+        None => Ok(Ending::Nothing),
     }
 }
 

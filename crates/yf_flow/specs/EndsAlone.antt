@@ -1,0 +1,10 @@
+-- A node without nodes in it has ended once it has begun: what had begun, by how it ended.
+use Rattle.yf_flow.specs.declared.node.Begun.{Begun}
+use Rattle.yf_flow.specs.declared.node.Begun.TheVariants.{Leaf, Nothing as NoneBegun, TooDeep as TooDeepAt}
+use Rattle.yf_flow.specs.declared.nodes.Ending.{Ending}
+use Rattle.yf_flow.specs.declared.nodes.Ending.TheVariants.{End, Nothing, TooDeep}
+
+abbrev pub begun_of : Ending → Begun
+begun_of (End node) = Leaf node
+begun_of Nothing = NoneBegun
+begun_of (TooDeep p) = TooDeepAt p
