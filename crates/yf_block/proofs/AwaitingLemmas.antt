@@ -5,7 +5,7 @@ use Rattle.yf_block.specs.declared.frame.Frame.{Frame}
 use Rattle.yf_block.specs.Awaiting.{AwaitsAt, awaits_here, awaits_round, AwaitsAlike}
 
 -- the frame before an index is the first of those up to it
-pub up_to_frame : (xs : List Frame) (k : ℕ) (d : Frame) → 0 < k → k ≤ length xs → reverse (take k xs) ≡ get_or xs (k - 1) d ∷ reverse (take (k - 1) xs)
+up_to_frame : (xs : List Frame) (k : ℕ) (d : Frame) → 0 < k → k ≤ length xs → reverse (take k xs) ≡ get_or xs (k - 1) d ∷ reverse (take (k - 1) xs)
 up_to_frame xs k d n l =
     let e : k ≡ (k - 1) + 1 = omega arith in
     ap (λ z. reverse (take z xs)) e ∙ ap (λ z. reverse z) (take_more xs (k - 1) d (omega arith)) ∙ reverse-append (take (k - 1) xs) (get_or xs (k - 1) d ∷ [])

@@ -1,6 +1,5 @@
 -- The next key of the innermost mapping, whose frame stays on the stack.
-use Rattle.std.proofs.Common.{◌≡◌, ◌≢◌, ℕ, ◌-◌, ◌<◌, ◌≤◌, Bool, true, false, List, ◌∷◌, ◌++◌, Option, Some, None, length, reverse, take, get_or, sym, ap, ◌∙◌, subst, arith, append-nil, true≢false, refl}
-use Rattle.std.proofs.lemmas.List.{take_all}
+use Rattle.std.proofs.Common.{◌≡◌, ◌≢◌, ℕ, ◌-◌, ◌<◌, ◌≤◌, Bool, false, List, ◌∷◌, ◌++◌, Option, None, length, sym, ap, ◌∙◌, subst, arith, append-nil, true≢false, refl}
 use Rattle.yf_chars.specs.Text.{code}
 use Rattle.yf_comments.specs.Comments.{Blank}
 use Rattle.yf_events.specs.declared.event.Entry as TheEntry
@@ -8,29 +7,16 @@ use Rattle.yf_events.specs.declared.part.Part.{Part}
 use Rattle.yf_grammar.specs.Part.{NotedSince}
 use Rattle.yf_grammar.specs.BlockParser.{BlockTask, SignAt}
 use Rattle.yf_block.specs.declared.frame.Frame.{Frame}
-use Rattle.yf_block.specs.declared.frame.Kind.TheVariants.{Mapping}
 use Rattle.yf_block.specs.declared.frame.Progress.{Progress}
 use Rattle.yf_block.specs.BlockStepTied.{AtResume, AtTop, AtEntry}
 use Rattle.yf_block.specs.BlockTied.{colons_if}
 use Rattle.yf_block.specs.Closing.{value_missing}
 use Rattle.yf_block.specs.Fits.{PlaceTied}
 use Rattle.yf_block.specs.KeyAwaited.{KeyAwaited}
-use Rattle.yf_block.specs.NextKeys.{TopMapping, KeyBelow}
-use Rattle.yf_block.proofs.AwaitingLemmas.{up_to_frame}
+use Rattle.yf_block.specs.NextKeys.{KeyBelow}
 use Rattle.yf_block.proofs.FitLemmas.{fits_pair}
 use Rattle.yf_block.proofs.TiedEntries.{pair_follows_top}
 use Rattle.yf_block.proofs.TiedResume.{top_of}
-
-pub top_there : {xs ys : List Frame} (d : Frame) (k : ℕ) → ys ≡ xs → k ≡ length ys → 0 < k → (get_or ys (k - 1) d).kind ≡ Mapping → (get_or ys (k - 1) d).awaits_colon ≡ false
-    → TopMapping (reverse xs) (get_or ys (k - 1) d).column
-top_there {xs} {ys} d k s e n m a = record {
-  frame = get_or ys (k - 1) d;
-  outer = reverse (take (k - 1) ys);
-  stack = ap reverse (sym s) ∙ ap reverse (sym (take_all k ys (omega (arith, e)))) ∙ up_to_frame ys k d n (omega (arith, e));
-  mapping = m;
-  settled = a;
-  column_is = refl;
-}
 
 none_awaited : (n : ℕ) (b : Bool) → b ≡ false → n ≡ n - colons_if b
 none_awaited n b e = let q : colons_if b ≡ 0 = ap colons_if e in omega (arith, q)

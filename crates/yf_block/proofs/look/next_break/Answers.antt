@@ -1,4 +1,3 @@
-use Rattle.std.proofs.Common.{◌<◌, length}
 use Rattle.yf_block.proofs.NextBreaks.{quiet_until, boundary_until, within_rest}
 use Rattle.yf_block.proofs.look.next_break.Goals as goal
 

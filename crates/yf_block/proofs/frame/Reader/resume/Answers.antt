@@ -1,5 +1,4 @@
 use Rattle.std.proofs.Common.{length, arith, ◌≤◌}
-use Rattle.yf_block.specs.Machine.{MayPlace}
 use Rattle.yf_block.proofs.TiedNext.{next_key}
 use Rattle.yf_block.proofs.TiedResume.{place_tied}
 use Rattle.yf_block.proofs.CountedSteps.{later}
