@@ -28,6 +28,7 @@ pub mod ContentLines
 pub mod ContentMappings
 pub mod ContentEnds
 pub mod LeafEnds
+pub mod NextBreaks
 pub mod ScalarLines
 pub mod TiedScalar
 pub mod ContentSteps
@@ -52,6 +53,7 @@ pub mod TiedOpenings
 pub mod OpeningLemmas
 pub mod TiedReads
 pub mod TiedResume
+pub mod TiedNext
 pub mod TiedResumed
 pub mod TiedRoot
 mod TiedShown

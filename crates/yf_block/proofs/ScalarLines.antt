@@ -168,6 +168,18 @@ module _ {t : List ℕ} {left place e : ℕ} (w : LinesLeft t left place e) (som
     rest = w.rest;
   }
 
+  -- over a run without breaks
+  pub walk_run : {end : ℕ} → place ≤ end → ((h : ℕ) → place ≤ h → h < end → is_break_char (code t h) ≡ false) → LinesLeft t left end e
+  walk_run o q = record {
+    start = w.start;
+    line = record {
+      order = let l = w.line.order in omega (arith, o, l);
+      none = λ h l m. ⊎_elim (λ (x : h < place). w.line.none h l x) (λ (x : place ≤ h). q h x m) (cases_lt h place);
+    };
+    begins = λ z. absurd (omega (arith, z, some));
+    rest = w.rest;
+  }
+
   pub walk_past : place ≡ length t → place ≡ e
   walk_past z = go w.rest w.line where
     go : {i : ℕ} → LinesBetween t left i e → Unbroken t i place → place ≡ e

@@ -262,8 +262,9 @@ fn signed_column(text: &str, node_start: NodeStart) -> Option<usize>
     }
 }
 
-// Whether an entry begins there with its `?` or its `:`.
-fn entry_sign_stands(text: &str, at: usize) -> bool
+/// Whether an entry begins there with its `?` or its `:`.
+#[inline(always)]
+pub(crate) fn entry_sign_stands(text: &str, at: usize) -> bool
     ensures { MatchBool result (EntrySignAt text.now at) (EntrySignAt text.now at → ⊥) }
 {
     if sign_stands(text, at, b'?') {

@@ -152,10 +152,15 @@ impl<'a> Reader<'a> {
         self.take_key(scope, frame.column, entry)
     }
 
-    // An implicit key of an open mapping (ns-s-block-map-implicit-key, production 193), from its properties on. Few keys have
-    // any.
+    /// An implicit key of an open mapping (ns-s-block-map-implicit-key, production 193), from its properties on. Few keys
+    /// have any.
     #[inline(always)]
-    fn take_key(&mut self, scope: Scope<'a>, column: usize, key: Entry) -> Result<Step, AllocError>
+    pub(crate) fn take_key(
+        &mut self,
+        scope: Scope<'a>,
+        column: usize,
+        key: Entry,
+    ) -> Result<Step, AllocError>
         requires { Standing scope.text.now key.start self.old }
         ensures { Answers (KeyAwaited column key) CountedAt scope.entry key.start 0 self.old self.new result }
     {

@@ -1,6 +1,7 @@
 //! Tests of what stands at a place of a block node, and walks that read nothing.
-ghost use Rattle.std.specs.Prelude.{◌≡◌, ◌≢◌, ◌+◌, ◌-◌, ◌<◌, true, ℕ, IfSome, MatchBool, MatchOption};
+ghost use Rattle.std.specs.Prelude.{◌≡◌, ◌≢◌, ◌+◌, ◌-◌, ◌<◌, ◌≤◌, true, false, ℕ, IfSome, MatchBool, MatchOption};
 ghost use Rattle.std.specs.Str.{IsCharBoundary};
+ghost use Rattle.yf_chars.specs.Class.{is_break_char};
 ghost use Rattle.yf_chars.specs.Text.{code};
 ghost use Rattle.yf_lines.specs.Basic.{Break};
 ghost use Rattle.yf_comments.specs.Comments.{Blank};
@@ -13,6 +14,7 @@ ghost use Rattle.yf_block.specs.InlineAnswers.{KeyEnds};
 ghost use Rattle.yf_block.specs.LastStarts.{LastStartIs};
 ghost use Rattle.yf_block.specs.Looks.{EntryPlace, LineEndsAt, NotWithinBreak};
 
+use memchr::memchr2;
 use yf_chars::classes::is_ns_char;
 use yf_chars::text::{peek, stands};
 use yf_flow::look::is_key_line;
@@ -224,16 +226,31 @@ pub(crate) fn skip_lines(text: &str, at: usize, count: usize) -> usize
     let mut place = at;
     let mut left = count;
     'characters: while left > 0 {
-        match line_break(text, place) {
+        let end = next_break(text, place);
+        match line_break(text, end) {
             Some(next) => {
                 place = next;
                 left -= 1;
             }
-            None => match peek(text, place) {
+            None => match peek(text, end) {
                 Some((_, next)) => place = next,
-                None => return place,
+                None => return end,
             },
         }
     }
     place
+}
+
+// The first place from the offset on where a character of a line break stands, or the end of the text.
+fn next_break(text: &str, at: usize) -> usize
+    requires { IsCharBoundary text.now at }
+    ensures boundary { IsCharBoundary text.now result }
+    ensures order { at ≤ result }
+    ensures quiet { (h : ℕ) → at ≤ h → h < result → is_break_char (code text.now h) ≡ false }
+{
+    let bytes = text.as_bytes();
+    match memchr2(b'\n', b'\r', &bytes[at..]) {
+        Some(count) => at + count,
+        None => bytes.len(),
+    }
 }

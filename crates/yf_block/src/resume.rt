@@ -7,11 +7,14 @@ ghost use Rattle.yf_block.specs.BlockTied.{colons_if};
 ghost use Rattle.yf_block.specs.Closing.{closing};
 ghost use Rattle.yf_block.specs.Counted.{CountedAt, CountedInside};
 ghost use Rattle.yf_block.specs.Fits.{FitsLine, PlaceTied};
+ghost use Rattle.yf_block.specs.Looks.{NotWithinBreak};
 ghost use Rattle.yf_block.specs.Machine.{Standing, MayPlace, FitsAt};
+ghost use Rattle.yf_block.specs.NextKeys.{KeyBelow, TopMapping};
 ghost use Rattle.yf_block.specs.StepAnswers.{Answers};
 
-use crate::entry::await_node;
-use crate::frame::{Frame, Kind, Reader, Scope, Slot, Step};
+use crate::content::entry_sign_stands;
+use crate::entry::{await_node, entry_at};
+use crate::frame::{Frame, Frames, Kind, Reader, Scope, Slot, Step};
 use crate::look::{dash_stands, entry_place, sign_stands};
 use std::alloc::{AllocError, Global};
 use yf_events::event::NewEvent;
@@ -39,12 +42,34 @@ struct Next {
 }
 
 impl<'a> Reader<'a> {
-    /// Goes on at the start of a line after a node.
+    /// Goes on at the start of a line after a node. Most often a key of the innermost mapping begins there.
     pub(crate) fn resume(&mut self, scope: Scope<'a>, at: usize) -> Result<Step, AllocError>
         requires { Standing scope.text.now at self.old }
         ensures { Answers AtResume CountedAt scope.entry at 0 self.old self.new result }
     {
-        match self.end_collections(scope, at)? {
+        let place = entry_place(scope.text, at);
+        match key_below(scope.text, at, place, &self.frames) {
+            Some(start) => {
+                let entry = entry_at(scope.text, self.progress.floor, start, None);
+                self.take_key(scope, start - at, entry)
+            }
+            None => self.resume_below(scope, at, place),
+        }
+    }
+
+    // The same for any line; the place is that of its first character, if an entry may begin there.
+    fn resume_below(
+        &mut self,
+        scope: Scope<'a>,
+        at: usize,
+        place: Option<usize>,
+    ) -> Result<Step, AllocError>
+        requires standing { Standing scope.text.now at self.old }
+        requires place { MayPlace scope.text.now at place }
+        requires entry { NotWithinBreak scope.text.now at → PlaceTied scope.text.now at place }
+        ensures { Answers AtResume CountedAt scope.entry at 0 self.old self.new result }
+    {
+        match self.end_collections(scope, at, place)? {
             None => Ok(Step::Done(at)),
             Some(Next { frame, fit }) => match fit {
                 Fit::Item(start) => self.take_item(scope, Slot { frame, at: start }),
@@ -56,8 +81,15 @@ impl<'a> Reader<'a> {
     }
 
     // Ends the collections that end before the line at an offset; `None` where all of them do.
-    fn end_collections(&mut self, scope: Scope<'a>, at: usize) -> Result<Option<Next>, AllocError>
-        requires { Standing scope.text.now at self.old }
+    fn end_collections(
+        &mut self,
+        scope: Scope<'a>,
+        at: usize,
+        place: Option<usize>,
+    ) -> Result<Option<Next>, AllocError>
+        requires standing { Standing scope.text.now at self.old }
+        requires place { MayPlace scope.text.now at place }
+        requires entry { NotWithinBreak scope.text.now at → PlaceTied scope.text.now at place }
         ensures standing { IfOk result (λ _. Standing scope.entry.text.now at self.new) }
         ensures places { IfOk result (λ o. IfSome o (λ n. FitsAt scope.entry.text.now at n.fit)) }
         ensures tied { (d : ℕ) → (root : BlockTask) → (before : Part)
@@ -66,7 +98,6 @@ impl<'a> Reader<'a> {
             (λ n. AtFit scope.entry.text.now d root before (reverse self.new.frames.items) at n self.new.progress self.new.part)) }
         ensures fewer { IfOk result (λ o. IfSome o (λ _. length self.new.frames.items < length self.old.frames.items)) }
     {
-        let place = entry_place(scope.text, at);
         'frames: while let Some(frame) = self.frames.pop() {
             self.progress.colons = colons_without(&frame, self.progress.colons);
             let fit = fit_of(scope.text, at, place, &frame);
@@ -101,6 +132,50 @@ impl<'a> Reader<'a> {
             return self.take_entry(scope, slot);
         }
         self.take_entry(scope, slot)
+    }
+}
+
+// Where a key of the innermost collection begins on the line at an offset, with no sign before it; the place is that of the
+// first character of the line, if an entry may begin there.
+#[inline(always)]
+fn key_below(text: &str, at: usize, place: Option<usize>, frames: &Frames) -> Option<usize>
+    requires { MayPlace text.now at place }
+    ensures { IfSome result (λ start. KeyBelow text.now at place (reverse frames.now.items) start) }
+{
+    match place {
+        None => None,
+        Some(start) => match top_mapping(frames) {
+            None => None,
+            Some(column) => {
+                if start - at != column {
+                    return None;
+                }
+                if entry_sign_stands(text, start) {
+                    return None;
+                }
+                Some(start)
+            }
+        },
+    }
+}
+
+// The column of the innermost collection, if it is a mapping that awaits no `:`.
+#[inline(always)]
+fn top_mapping(frames: &Frames) -> Option<usize>
+    ensures { IfSome result (λ column. TopMapping (reverse frames.now.items) column) }
+{
+    let items = frames.as_slice();
+    let count = items.len();
+    if count == 0 {
+        return None;
+    }
+    let frame = items[count - 1];
+    if frame.awaits_colon {
+        return None;
+    }
+    match frame.kind {
+        Kind::Sequence => None,
+        Kind::Mapping => Some(frame.column),
     }
 }
 

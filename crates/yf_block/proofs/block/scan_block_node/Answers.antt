@@ -1,7 +1,6 @@
-use Rattle.std.proofs.Common.{ap, to_z-of_z}
+use Rattle.std.proofs.Common.{to_z-of_z}
 use Rattle.std.proofs.lemmas.List.Elements.{All-nil, All-same}
 use Rattle.std.specs.Str.{IsCharBoundary}
-use Rattle.yf_events.specs.declared.part.Part.{Part}
 use Rattle.yf_grammar.specs.Refusal.{for_memory}
 use Rattle.yf_block.proofs.NodesGiven.{node_alone, too_deep_given}
 use Rattle.yf_block.proofs.block.scan_block_node.Goals as goal

@@ -1,7 +1,6 @@
-use Rattle.std.proofs.Common.{ap, ◌∙◌}
+use Rattle.std.proofs.Common.{◌∙◌}
 use Rattle.std.proofs.lemmas.List.Elements.{All-nil, All-same}
 use Rattle.std.specs.Str.{IsCharBoundary}
-use Rattle.yf_events.specs.declared.part.Part.{Part}
 use Rattle.yf_block.proofs.NodesGiven.{prefix_text, prefix_stops, prefix_given, given_after}
 use Rattle.yf_block.proofs.PrefixLemmas.{prefix_of, uncut_boundaries}
 use Rattle.yf_block.proofs.nodes.read_prefix.Goals as goal

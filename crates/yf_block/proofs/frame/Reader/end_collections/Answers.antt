@@ -3,7 +3,7 @@ use Rattle.std.proofs.lemmas.List.Elements.{All-same}
 use Rattle.std.specs.Str.{IsCharBoundary}
 use Rattle.yf_flow.proofs.TiedClose.{popped, none_left}
 use Rattle.yf_block.proofs.CountedSteps.{fewer_left}
-use Rattle.yf_block.proofs.TiedResume.{place_tied, top_of, one_ended, all_ended}
+use Rattle.yf_block.proofs.TiedResume.{top_of, one_ended, all_ended}
 use Rattle.yf_block.proofs.frame.Reader.end_collections.Goals as goal
 
 pub frames-preserved : goal.frames-preserved
@@ -19,7 +19,7 @@ frames-preserved c = record {
   tied = λ d root before a.
       let r = c.frames.invariant.tied d root before a in
       let top = top_of r (popped _ _ _ c.in-Some.ensures.items) c.colons_without-self.ensures refl refl refl in
-      let line = rw c.in-EndsBefore.is at (c.fit_of-fit.ensures.line (place_tied _ r.outside c.entry_place-place.ensures.entry)) in
+      let line = rw c.in-EndsBefore.is at (c.fit_of-fit.ensures.line (c.requires.entry r.outside)) in
       one_ended top line c.in_ok-end_collection-in-EndsBefore.ensures.events c.in_ok-end_collection-in-EndsBefore.ensures.comments c.in_ok-end_collection-in-EndsBefore.ensures.escapes;
 }
 
@@ -28,7 +28,7 @@ returns-in_default-fit-clause-tied c = λ d root before a.
     let r = c.frames.invariant.tied d root before a in
     record {
       top = top_of r (popped _ _ _ c.in-Some.ensures.items) c.colons_without-self.ensures refl refl refl;
-      line = c.fit_of-fit.ensures.line (place_tied _ r.outside c.entry_place-place.ensures.entry);
+      line = c.fit_of-fit.ensures.line (c.requires.entry r.outside);
       goes_on = c.in_default-fit.not-EndsBefore;
     }
 
