@@ -16,6 +16,7 @@ pub mod SingleReadLemmas
 pub mod MarkLemmas
 -- `write_single` and `write_double`: what is written is read again
 pub mod WriteLemmas
+pub mod OwnLemmas
 pub mod QuotedBack
 -- the definitions by small texts
 mod QuotedShown
