@@ -13,9 +13,11 @@ pub mod QuotedLemmas
 -- `read_single` and `single_in`
 pub mod SingleLemmas
 pub mod SingleReadLemmas
+pub mod UnquotedLemmas
 pub mod MarkLemmas
 -- `write_single` and `write_double`: what is written is read again
 pub mod WriteLemmas
+pub mod OwnLemmas
 pub mod QuotedBack
 -- the definitions by small texts
 mod QuotedShown

@@ -1,7 +1,10 @@
 -- Characters that stand for themselves between quotes in one byte, at whatever place: all that are printed and ASCII, but
 -- the quote, in double quotes the backslash, and - and . with which a document marker may begin.
-use Rattle.std.specs.Prelude.{◌≡◌, ℕ, Bool, ◌||◌, List, Option, slice_range, encode_utf8_all}
-use Rattle.yf_chars.specs.Class.{is_between}
+use Rattle.std.specs.Prelude.{◌≡◌, ◌≢◌, ℕ, Bool, true, ◌||◌, List, Option, slice_range, encode_utf8_all}
+use Rattle.yf_chars.specs.Signs.{SINGLE_QUOTE}
+use Rattle.yf_chars.specs.Class.{is_between, is_nb_json}
+use Rattle.yf_chars.specs.Text.{code, Reads}
+use Rattle.yf_lines.specs.Basic.{Forbidden}
 use Rattle.yf_chars.specs.Chain.{Chain}
 use Rattle.yf_quoted.specs.Quoted.{DoubleChar, goods}
 use Rattle.yf_quoted.specs.Body.{Step, DoubleBreaks}
@@ -14,3 +17,14 @@ pub record Words (t : List ℕ) (i j : ℕ) : Type 0 where
   pub text : List ℕ
   pub steps : (o : Option ℕ) → Chain (Step t goods (DoubleChar t) (DoubleBreaks t o)) i j (goods text)
   pub bytes : slice_range t i j ≡ encode_utf8_all text
+
+-- the same in single quotes, where a double quote and a backslash stand for themselves
+unfoldable pub is_unquoted : ℕ → Bool
+is_unquoted c = is_between 0x20 0x26 c || is_between 0x28 0x2C c || is_between 0x2F 0x7E c
+
+-- a character that stands for itself in single quotes, where no forbidden line begins
+pub record Unquoted (t : List ℕ) (i j : ℕ) : Type 0 where
+  pub json : is_nb_json (code t i) ≡ true
+  pub no_quote : code t i ≢ SINGLE_QUOTE
+  pub reads : Reads t i (code t i) j
+  pub allowed : Forbidden t i → ⊥

@@ -4,6 +4,7 @@
 pub mod double;
 pub mod gap;
 pub mod offsets;
+mod own;
 mod simple;
 pub mod single;
 pub mod write;

@@ -9,6 +9,7 @@ ghost use Rattle.yf_chars.specs.Text.{Reads, code};
 ghost use Rattle.yf_lines.specs.Basic.{Clear};
 ghost use Rattle.yf_lines.specs.Text.{text_bytes};
 ghost use Rattle.yf_quoted.specs.Body.{NoSingleChar, NoSingleBody, SingleRead};
+ghost use Rattle.yf_quoted.specs.Ordinary.{is_unquoted, Unquoted};
 ghost use Rattle.yf_quoted.specs.Quoted as Q;
 
 use crate::gap::{Found, is_block, lines_width, push_gap, single_gap};
@@ -90,17 +91,44 @@ fn simple_end(s: &str, at: usize) -> Option<usize>
 {
     let mut end = at;
     'chars: loop {
-        if stands(s, end, b'\'') {
+        if ordinary_stands(s, end) {
+            end += 1;
+        } else if stands(s, end, b'\'') {
             if stands(s, end + 1, b'\'') {
                 return None;
             }
             return Some(end);
-        }
-        match single_char(s, end) {
-            None => return None,
-            Some(next) => end = next.end,
+        } else {
+            match single_char(s, end) {
+                None => return None,
+                Some(next) => end = next.end,
+            }
         }
     }
+}
+
+// Whether the ASCII character stands for itself at whatever place. Most are lower-case letters, which take one test.
+#[tactic(auto, unfolding(crate::specs::Ordinary::is_unquoted, yf_chars::specs::Class::is_between))]
+#[inline(always)]
+fn is_unquoted(byte: u8) -> bool
+    ensures { result ≡ is_unquoted byte }
+{
+    if byte < b'/' {
+        return matches!(byte, b' '..=b'&' | b'('..=b',');
+    }
+    byte <= b'~'
+}
+
+// Whether such a character begins at the offset.
+#[inline(always)]
+fn ordinary_stands(s: &str, at: usize) -> bool
+    ensures { result ≡ true → Unquoted s.now at (at + 1) }
+{
+    let bytes = s.as_bytes();
+    if at < bytes.len() {
+        return is_unquoted(bytes[at]);
+    }
+    false
 }
 
 // A character, the offset after it, and whether it is written as two quotes.

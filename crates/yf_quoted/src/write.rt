@@ -1,13 +1,15 @@
 //! Writes quoted scalars on one line (YAML 1.2.2, sections 7.3.1 and 7.3.2).
-ghost use Rattle.std.specs.Prelude.{◌≡◌, ◌++◌, ◌∷◌, [], IfErr, OnErr, OnOk, chars, encode_utf8_all, flat_map};
+ghost use Rattle.std.specs.Prelude.{◌≡◌, ◌++◌, ◌∷◌, [], IfErr, IsCharBoundary, OnErr, OnOk, chars, drop, encode_utf8_all, flat_map};
 ghost use Rattle.std.specs.String.{string_bytes};
 ghost use Rattle.yf_chars.specs.Escape.{spelled};
 ghost use Rattle.yf_quoted.specs.Written.{DoubleBack, Grown, SingleBack, all_nb, double_bytes, quotes_for, single_bytes, twice};
 
+use crate::own::own_run;
 use std::alloc::AllocError;
 use yf_chars::classes::is_nb_char;
 use yf_chars::error::NoMemory;
-use yf_chars::escapes::{are_common, push_escaped};
+use yf_chars::escapes::push_escaped;
+use yf_chars::text::peek;
 use yf_lines::fault::Fault;
 use yf_lines::quotes::Quotes;
 
@@ -128,12 +130,32 @@ fn push_spelled(out: &mut String, text: &str) -> Result<(), NoMemory>
     ensures written { OnOk result (string_bytes out.new ≡ string_bytes out.old ++ encode_utf8_all (flat_map spelled (chars text.now))) }
     ensures grown { Grown (string_bytes out.old) (string_bytes out.new) }
 {
-    if are_common(text) {
+    let end = own_run(text, 0);
+    if end == text.len() {
         out.push_str(text)?;
         return Ok(());
     }
-    for c in text.chars() {
-        push_escaped(out, c)?;
-    }
+    out.push_str(&text[..end])?;
+    push_runs(out, text, end)?;
     Ok(())
+}
+
+// The same for what stands from that place on: runs of characters that are spelled by themselves at once.
+fn push_runs(out: &mut String, text: &str, at: usize) -> Result<(), NoMemory>
+    requires { IsCharBoundary text.now at }
+    ensures written { OnOk result
+        (string_bytes out.new ≡ string_bytes out.old ++ encode_utf8_all (flat_map spelled (chars (drop at text.now)))) }
+    ensures grown { Grown (string_bytes out.old) (string_bytes out.new) }
+{
+    let mut end = at;
+    'runs: loop {
+        match peek(text, end) {
+            None => return Ok(()),
+            Some((c, next)) => {
+                push_escaped(out, c)?;
+                end = own_run(text, next);
+                out.push_str(&text[next..end])?;
+            }
+        }
+    }
 }

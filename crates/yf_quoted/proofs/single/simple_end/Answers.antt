@@ -1,5 +1,6 @@
 use Rattle.std.proofs.Common.{arith}
 use Rattle.yf_quoted.proofs.SingleReadLemmas.{row_nothing, row_more, row_slice}
+use Rattle.yf_quoted.proofs.UnquotedLemmas.{unquoted_char}
 use Rattle.yf_quoted.proofs.single.simple_end.Goals as goal
 
 pub chars-init : goal.chars-init
@@ -7,6 +8,15 @@ chars-init c = record { row = row_nothing c.args.s.now c.args.at; boundary = c.r
 
 pub returns-then-stands-clause-reads : goal.returns-then-stands-clause-reads
 returns-then-stands-clause-reads c = row_slice c.chars.invariant.boundary.0 c.chars.invariant.row
+
+pub chars-preserved-then-ordinary_stands : goal.chars-preserved-then-ordinary_stands
+chars-preserved-then-ordinary_stands c =
+    let o = c.ordinary_stands.ensures c.if-ordinary_stands.true in
+    record {
+      row = row_more c.utf8.s c.chars.invariant.row o.no_quote (unquoted_char c.utf8.s o);
+      boundary = o.reads.boundary;
+      order = omega (arith, c.chars.invariant.order);
+    }
 
 pub chars-preserved : goal.chars-preserved
 chars-preserved c = record {

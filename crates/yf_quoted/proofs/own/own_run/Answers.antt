@@ -1,0 +1,27 @@
+use Rattle.std.proofs.Common.{arith}
+use Rattle.yf_quoted.proofs.OwnLemmas.{no_run, run_more, run_found}
+use Rattle.yf_quoted.proofs.own.own_run.Goals as goal
+
+pub chars-init : goal.chars-init
+chars-init c = record { run = no_run c.args.text.now c.args.at; boundary = c.requires; order = omega arith }
+
+pub chars-preserved-then-common_stands : goal.chars-preserved-then-common_stands
+chars-preserved-then-common_stands c =
+    let o = c.common_stands.ensures c.if-common_stands.true in
+    record {
+      run = run_more c.utf8.text c.chars.invariant.boundary c.chars.invariant.run o;
+      boundary = o.reads.boundary;
+      order = omega (arith, c.chars.invariant.order);
+    }
+
+pub returns-in-None-clause-reads : goal.returns-in-None-clause-reads
+returns-in-None-clause-reads c = run_found c.chars.invariant.boundary.0 c.chars.invariant.run
+
+pub chars-preserved : goal.chars-preserved
+chars-preserved c =
+    let o = c.in-Some.ensures in
+    record {
+      run = run_more c.utf8.text c.chars.invariant.boundary c.chars.invariant.run o;
+      boundary = o.reads.boundary;
+      order = omega (arith, c.chars.invariant.order, o.reads.later);
+    }

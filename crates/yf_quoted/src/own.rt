@@ -1,0 +1,84 @@
+//! Characters that are spelled by themselves in double quotes, in runs. Offsets count bytes.
+ghost use Rattle.std.specs.Prelude.{◌≡◌, ◌∷◌, [], ◌+◌, ◌≤◌, true, IfSome, IsCharBoundary};
+ghost use Rattle.yf_chars.specs.Common.{is_common};
+ghost use Rattle.yf_chars.specs.Escape.{spelled};
+ghost use Rattle.yf_quoted.specs.Own.{OwnAt, OwnRun};
+
+use yf_chars::escapes::is_by_four;
+use yf_chars::text::peek;
+
+// Whether the ASCII character is one. Most are lower-case letters, which take two tests.
+#[tactic(auto, unfolding(yf_chars::specs::Common::is_common, yf_chars::specs::Class::is_between))]
+#[inline(always)]
+fn is_common(byte: u8) -> bool
+    ensures { result ≡ is_common byte }
+{
+    if byte < b']' {
+        return matches!(byte, b' ' | b'!' | b'#'..=b'[');
+    }
+    byte <= b'~'
+}
+
+// Whether such an ASCII character begins at the offset.
+#[inline(always)]
+fn common_stands(text: &str, at: usize) -> bool
+    ensures { result ≡ true → OwnAt text.now at (at + 1) }
+{
+    let bytes = text.as_bytes();
+    if at < bytes.len() {
+        return is_common(bytes[at]);
+    }
+    false
+}
+
+// Whether the character is one that is not ASCII.
+#[inline(always)]
+fn is_wide(c: char) -> bool
+    ensures { result ≡ true → spelled c ≡ c ∷ [] }
+{
+    if c <= '\u{A0}' {
+        return false;
+    }
+    if is_by_four(c) {
+        return false;
+    }
+    true
+}
+
+// The offset after such a character.
+#[inline(always)]
+fn wide_end(text: &str, at: usize) -> Option<usize>
+    requires { IsCharBoundary text.now at }
+    ensures { IfSome result (λ j. OwnAt text.now at j) }
+{
+    match peek(text, at) {
+        None => None,
+        Some((c, end)) => {
+            if is_wide(c) {
+                return Some(end);
+            }
+            None
+        }
+    }
+}
+
+// The offset after all characters there that are spelled by themselves.
+#[inline(always)]
+pub(crate) fn own_run(text: &str, at: usize) -> usize
+    requires { IsCharBoundary text.now at }
+    ensures reads { OwnRun text.now at result }
+    ensures boundary { IsCharBoundary text.now result }
+    ensures order { at ≤ result }
+{
+    let mut end = at;
+    'chars: loop {
+        if common_stands(text, end) {
+            end += 1;
+        } else {
+            match wide_end(text, end) {
+                None => return end,
+                Some(next) => end = next,
+            }
+        }
+    }
+}
