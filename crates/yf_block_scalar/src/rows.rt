@@ -6,7 +6,7 @@ ghost use Rattle.yf_block_scalar.specs.Body.{SpaceLine, Content, Taken};
 
 use crate::lines::Lines;
 use std::alloc::{AllocError, Global};
-use yf_chars::runs::{NbChars, skip_while};
+use yf_chars::nb_runs::skip_nb_chars;
 use yf_lines::basic::{line_break, marker_stands, skip_spaces};
 
 // A line of spaces alone: how many they are, and the offset after its break.
@@ -86,7 +86,7 @@ pub(crate) fn content_line(s: &str, at: usize, indent: usize) -> Option<ContentP
         return None;
     }
     let from = at + indent;
-    let end = skip_while::<NbChars>(s, from);
+    let end = skip_nb_chars(s, from);
     if end == from {
         return None;
     }

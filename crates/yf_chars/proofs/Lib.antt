@@ -4,6 +4,8 @@
 pub mod TextLemmas
 pub mod CharBounds
 pub mod BreakChars
+-- `skip_nb_chars`
+mod NbLemmas
 -- a reader takes the longest part, with one meaning (`Chosen` of all readers above)
 pub mod ChainLemmas
 -- escapes: `read_escape` and `push_escaped`, and that what is spelled is read again

@@ -10,6 +10,7 @@ pub mod SeparateLemmas
 mod SolidLemmas
 -- `is_blank_before`, and that its answer is known of every text (`ReadingOf` of yf_stream)
 pub mod BlankLemmas
+mod VisibleLemmas
 pub mod NoteKnown
 -- what is written is read again (the laws of layouts of yf_emit)
 pub mod SpaceLemmas

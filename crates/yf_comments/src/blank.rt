@@ -1,5 +1,5 @@
 //! Whether a blank line stands before a place.
-ghost use Rattle.std.specs.Prelude.{◌≡◌, ◌≢◌, ◌-◌, ◌<◌, ◌≤◌, ℕ, MatchBool, MatchOption, length};
+ghost use Rattle.std.specs.Prelude.{◌≡◌, ◌≢◌, ◌-◌, ◌<◌, ◌≤◌, ℕ, MatchBool, MatchOption, length, ⊤};
 ghost use Rattle.yf_chars.specs.Signs.{CARRIAGE_RETURN, LINE_FEED};
 ghost use Rattle.yf_chars.specs.Text.{code};
 ghost use Rattle.yf_lines.specs.Basic.{Break};
@@ -33,7 +33,49 @@ fn break_before(s: &str, at: usize) -> Option<usize>
 /// Whether, going back from the offset over white space, line breaks and byte order marks, a line of white space alone is met.
 ///
 /// The walk ends at the first other character, so walks from different comments do not overlap.
+#[inline]
 pub fn is_blank_before(s: &str, at: usize) -> bool
+    requires { code s.now at ≡ LINE_FEED → code s.now (at - 1) ≢ CARRIAGE_RETURN }
+    ensures { MatchBool result (BlankBefore s.now at) (BlankBefore s.now at → ⊥) }
+{
+    if visible_ends(s, at) {
+        return false;
+    }
+    if at == 0 {
+        return false;
+    }
+    if stands(s, at - 1, b' ') {
+        if visible_ends(s, at - 1) {
+            return false;
+        }
+    }
+    walk_back(s, at)
+}
+
+// Whether a visible ASCII character ends at the offset.
+#[inline(always)]
+fn visible_ends(s: &str, at: usize) -> bool
+    ensures { MatchBool result (BlankBefore s.now at → ⊥) ⊤ }
+{
+    let bytes = s.as_bytes();
+    if at == 0 {
+        return false;
+    }
+    if at > bytes.len() {
+        return false;
+    }
+    if bytes[at - 1] <= b' ' {
+        return false;
+    }
+    if bytes[at - 1] > b'~' {
+        return false;
+    }
+    true
+}
+
+// Whether a line of white space alone is met going back from the offset.
+#[inline(never)]
+fn walk_back(s: &str, at: usize) -> bool
     requires { code s.now at ≡ LINE_FEED → code s.now (at - 1) ≢ CARRIAGE_RETURN }
     ensures { MatchBool result (BlankBefore s.now at) (BlankBefore s.now at → ⊥) }
 {

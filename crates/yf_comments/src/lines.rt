@@ -13,7 +13,7 @@ use crate::blank::is_blank_before;
 use crate::comment::Comment;
 use crate::comments::{Comments, Separation};
 use std::alloc::{AllocError, Global};
-use yf_chars::runs::{NbChars, skip_while};
+use yf_chars::nb_runs::skip_nb_chars;
 use yf_chars::text::stands;
 use yf_lines::basic::{is_line_start, line_break, skip_whites, white_stands};
 
@@ -38,7 +38,7 @@ fn comment_text<'a>(s: &'a str, at: usize) -> Option<CommentPart<'a>>
     ensures boundary { IfSome result (λ p. IsCharBoundary s.now p.end) }
 {
     if stands(s, at, b'#') {
-        let end = skip_while::<NbChars>(s, at + 1);
+        let end = skip_nb_chars(s, at + 1);
         let comment = Comment {
             text: &s[at..end],
             offset: at,

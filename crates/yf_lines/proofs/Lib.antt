@@ -16,3 +16,5 @@ pub mod OutputLemmas
 -- what is written is read again (the laws of layouts of yf_emit)
 pub mod RestLemmas
 pub mod VisibleLines
+-- `LineTable::build` and `is_line_start` by bytes
+mod SearchLemmas

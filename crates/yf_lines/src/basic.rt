@@ -1,6 +1,6 @@
 //! The basic structures that all readers share (YAML 1.2.2, 5.4 and 6.1 to 6.5): line breaks, white space, indentation, the
 //! start of a line and document markers. Offsets count bytes.
-ghost use Rattle.std.specs.Prelude.{◌≡◌, ◌≢◌, ◌+◌, ◌-◌, ◌<◌, ◌≤◌, ◌==◌, ℕ, Bool, true, false, List, length, IfSome, MatchOption, MatchBool};
+ghost use Rattle.std.specs.Prelude.{◌≡◌, ◌≢◌, ◌+◌, ◌-◌, ◌<◌, ◌≤◌, ◌==◌, ℕ, Bool, true, false, List, length, IfSome, MatchOption, MatchBool, ⊤};
 ghost use Rattle.std.specs.Str.{IsCharBoundary};
 ghost use Rattle.yf_chars.specs.Signs.{BYTE_ORDER_MARK, SPACE};
 ghost use Rattle.yf_chars.specs.Chain.{Many, Nowhere};
@@ -123,10 +123,34 @@ pub fn break_ends(s: &str, at: usize) -> bool
     false
 }
 
+// Whether an ASCII character that is no control ends at the offset: no line starts there.
+#[inline(always)]
+fn text_ends(s: &str, at: usize) -> bool
+    ensures { MatchBool result (LineStart s.now at → ⊥) ⊤ }
+{
+    let bytes = s.as_bytes();
+    if at == 0 {
+        return false;
+    }
+    if at > bytes.len() {
+        return false;
+    }
+    if bytes[at - 1] < b' ' {
+        return false;
+    }
+    if bytes[at - 1] > b'~' {
+        return false;
+    }
+    true
+}
+
 /// Whether the offset is the start of a line: of the text, after a break, or after byte order marks that stand there.
 pub fn is_line_start(s: &str, at: usize) -> bool
     ensures { MatchBool result (LineStart s.now at) (LineStart s.now at → ⊥) }
 {
+    if text_ends(s, at) {
+        return false;
+    }
     let mut start = at;
     while mark_ends(s, start) {
         start -= 3;

@@ -12,9 +12,10 @@ use crate::basic::{line_break, mark_stands, marker_stands, skip_spaces};
 use crate::line::Line;
 use crate::place::Place;
 use crate::rows::{LineRow, line_at, lines_begun, row_of};
+use memchr::memchr2;
 use std::alloc::{AllocError, Global};
 use std::marker::Model;
-use yf_chars::text::{peek, stands};
+use yf_chars::text::peek;
 
 /// A text and all its lines. In a contract it is a record of the text's bytes and the list of the lines.
 #[derive(Drop)]
@@ -222,27 +223,15 @@ fn read_line(text: &str, start: usize) -> Line
 }
 
 // The offset of the first character of a break from there on, or the end of the text.
+#[inline(always)]
 fn line_end(text: &str, at: usize) -> usize
     requires { at ≤ length text.now }
     ensures unbroken { Unbroken text.now at result }
     ensures stops { (is_break_char (code text.now result) ≡ true) ⊎ (result ≡ length text.now) }
 {
-    let mut end = at;
-    while end < text.len() {
-        if break_char_stands(text, end) {
-            return end;
-        }
-        end += 1;
+    let bytes = text.as_bytes();
+    match memchr2(b'\n', b'\r', &bytes[at..]) {
+        Some(passed) => at + passed,
+        None => bytes.len(),
     }
-    end
-}
-
-// Whether a character of a line break begins at the offset.
-fn break_char_stands(text: &str, at: usize) -> bool
-    ensures { result ≡ is_break_char (code text.now at) }
-{
-    if stands(text, at, b'\n') {
-        return true;
-    }
-    stands(text, at, b'\r')
 }

@@ -9,35 +9,35 @@ returns-then-first-at-clause-reads c = λ j x o d. few_spaces c.skip_spaces-firs
 pub returns-then-marker_stands-clause-reads : goal.returns-then-marker_stands-clause-reads
 returns-then-marker_stands-clause-reads c = λ j x o d. no_marker_line (sym c.marker_stands.ensures ∙ c.if-marker_stands.true) d
 
-pub skip_while-end-requires : goal.skip_while-end-requires
-skip_while-end-requires c = spaces_boundary c.args.s.now c.args.at c.args.indent c.utf8.s c.requires (spaces_fewer c.args.indent c.if-first-at.false c.skip_spaces-first.ensures.spaces)
+pub skip_nb_chars-end-requires : goal.skip_nb_chars-end-requires
+skip_nb_chars-end-requires c = spaces_boundary c.args.s.now c.args.at c.args.indent c.utf8.s c.requires (spaces_fewer c.args.indent c.if-first-at.false c.skip_spaces-first.ensures.spaces)
 
 pub returns-then-end-from-clause-reads : goal.returns-then-end-from-clause-reads
-returns-then-end-from-clause-reads c = λ j x o d. no_text c.skip_while-end.result c.skip_while-end.ensures.chars.1 c.skip_while-end.ensures.all c.if-end-from.true d
+returns-then-end-from-clause-reads c = λ j x o d. no_text c.skip_nb_chars-end.result c.skip_nb_chars-end.ensures.chars.1 c.skip_nb_chars-end.ensures.all c.if-end-from.true d
 
 pub returns-then-end-s-clause-reads : goal.returns-then-end-s-clause-reads
 returns-then-end-s-clause-reads c =
-    content_there c.skip_while-end.result c.if-first-at.false c.skip_spaces-first.ensures.spaces c.skip_while-end.ensures.chars.1 c.skip_while-end.ensures.order c.if-end-from.false
+    content_there c.skip_nb_chars-end.result c.if-first-at.false c.skip_spaces-first.ensures.spaces c.skip_nb_chars-end.ensures.chars.1 c.skip_nb_chars-end.ensures.order c.if-end-from.false
     (by_text c.if-end-s.true) (sym c.marker_stands.ensures ∙ c.if-marker_stands.false)
 
 pub returns-then-end-s-clause-boundary : goal.returns-then-end-s-clause-boundary
 returns-then-end-s-clause-boundary c = (
   spaces_boundary c.args.s.now c.args.at c.args.indent c.utf8.s c.requires (spaces_fewer c.args.indent c.if-first-at.false c.skip_spaces-first.ensures.spaces),
-  c.skip_while-end.ensures.boundary,
-  c.skip_while-end.ensures.boundary,
+  c.skip_nb_chars-end.ensures.boundary,
+  c.skip_nb_chars-end.ensures.boundary,
 )
 
 pub returns-in-Some-clause-reads : goal.returns-in-Some-clause-reads
 returns-in-Some-clause-reads c =
-    content_there c.skip_while-end.result c.if-first-at.false c.skip_spaces-first.ensures.spaces c.skip_while-end.ensures.chars.1 c.skip_while-end.ensures.order c.if-end-from.false
+    content_there c.skip_nb_chars-end.result c.if-first-at.false c.skip_spaces-first.ensures.spaces c.skip_nb_chars-end.ensures.chars.1 c.skip_nb_chars-end.ensures.order c.if-end-from.false
     (by_break c.in-Some.ensures.reads) (sym c.marker_stands.ensures ∙ c.if-marker_stands.false)
 
 pub returns-in-Some-clause-boundary : goal.returns-in-Some-clause-boundary
 returns-in-Some-clause-boundary c = (
   spaces_boundary c.args.s.now c.args.at c.args.indent c.utf8.s c.requires (spaces_fewer c.args.indent c.if-first-at.false c.skip_spaces-first.ensures.spaces),
-  c.skip_while-end.ensures.boundary,
+  c.skip_nb_chars-end.ensures.boundary,
   c.in-Some.ensures.boundary,
 )
 
 pub returns-in-None-clause-reads : goal.returns-in-None-clause-reads
-returns-in-None-clause-reads c = λ j x o d. no_end c.skip_while-end.result c.skip_while-end.ensures.chars.1 c.skip_while-end.ensures.all c.if-end-s.false c.in-None.ensures.reads d
+returns-in-None-clause-reads c = λ j x o d. no_end c.skip_nb_chars-end.result c.skip_nb_chars-end.ensures.chars.1 c.skip_nb_chars-end.ensures.all c.if-end-s.false c.in-None.ensures.reads d

@@ -1,0 +1,18 @@
+-- Printable ASCII among the characters within a line.
+use Rattle.std.proofs.Common.{◌≡◌, ℕ, ◌+◌, ◌<◌, ◌≤◌, true, List, length, get_or, sym, ap, ◌∙◌, subst, arith}
+use Rattle.std.proofs.lemmas.Bool.Decides.{nat_tests}
+use Rattle.std.specs.Str.{IsUtf8}
+use Rattle.yf_chars.specs.Class.{is_nb_char, is_printable, is_between, is_break_char}
+use Rattle.yf_chars.specs.Text.{code, Reads}
+use Rattle.yf_chars.proofs.TextLemmas.{reads_ascii, code_from_byte}
+
+ascii_nb : (c : ℕ) → 32 ≤ c → c ≤ 126 → is_nb_char c ≡ true
+unfolding is_nb_char is_printable is_between is_break_char
+ascii_nb c l h = grind (arith, nat_tests)
+
+pub ascii_class : (t : List ℕ) (i : ℕ) → IsUtf8 t → i < length t → 32 ≤ get_or t i 0 → get_or t i 0 ≤ 126 → is_nb_char (code t i) ≡ true
+ascii_class t i u l a b = ap is_nb_char (code_from_byte t i u l (omega arith)) ∙ ascii_nb (get_or t i 0) a b
+
+pub ascii_reads : (t : List ℕ) (i : ℕ) → IsUtf8 t → i < length t → get_or t i 0 ≤ 126 → Reads t i (code t i) (i + 1)
+ascii_reads t i u l b =
+    subst (λ c. Reads t i c (i + 1)) (sym (code_from_byte t i u l (omega arith))) (reads_ascii t i u l (omega arith))

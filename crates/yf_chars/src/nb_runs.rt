@@ -1,0 +1,67 @@
+//! Runs of characters within a line (nb-char, production 27), ASCII byte by byte.
+ghost use Rattle.std.specs.Prelude.{◌≡◌, ◌+◌, ◌≤◌, ℕ, List, true, false, MatchBool, ⊤};
+ghost use Rattle.std.specs.Str.{IsCharBoundary};
+ghost use Rattle.yf_chars.specs.Chain.{Many};
+ghost use Rattle.yf_chars.specs.Class as Class;
+ghost use Rattle.yf_chars.specs.Text.{code, Reads};
+
+use crate::classes::is_nb_char;
+use crate::text::peek;
+
+// Whether a printable ASCII character stands there, from the space to `~`.
+#[inline(always)]
+fn ascii_stands(s: &str, at: usize) -> bool
+    ensures class { MatchBool result (Class.is_nb_char (code s.now at) ≡ true) ⊤ }
+    ensures read { MatchBool result (Reads s.now at (code s.now at) (at + 1)) ⊤ }
+{
+    let bytes = s.as_bytes();
+    if at >= bytes.len() {
+        return false;
+    }
+    if bytes[at] < b' ' {
+        return false;
+    }
+    if bytes[at] > b'~' {
+        return false;
+    }
+    true
+}
+
+// The offset after all such characters that stand at the offset.
+#[inline(always)]
+fn ascii_run(s: &str, at: usize) -> usize
+    requires { IsCharBoundary s.now at }
+    ensures chars { (x : List ℕ) × Many s.now Class.is_nb_char at result x }
+    ensures boundary { IsCharBoundary s.now result }
+    ensures order { at ≤ result }
+{
+    let mut end = at;
+    while ascii_stands(s, end) {
+        end += 1;
+    }
+    end
+}
+
+/// The offset after all characters within a line (nb-char, production 27) that stand at the offset.
+#[inline]
+pub fn skip_nb_chars(s: &str, at: usize) -> usize
+    requires { IsCharBoundary s.now at }
+    ensures chars { (x : List ℕ) × Many s.now Class.is_nb_char at result x }
+    ensures all { Class.is_nb_char (code s.now result) ≡ false }
+    ensures boundary { IsCharBoundary s.now result }
+    ensures order { at ≤ result }
+{
+    let mut end = ascii_run(s, at);
+    'chars: loop {
+        match peek(s, end) {
+            Some((c, next)) => {
+                if is_nb_char(c) {
+                    end = ascii_run(s, next);
+                } else {
+                    return end;
+                }
+            }
+            None => return end,
+        }
+    }
+}
