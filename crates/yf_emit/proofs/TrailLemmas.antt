@@ -1,12 +1,17 @@
 -- The steps of the pass that finds the comments that trail, as the code takes them.
-use Rattle.std.proofs.Common.{◌≡◌, ℕ, zero, suc, ◌+◌, ◌≤◌, List, [], ◌∷◌, length, map, drop, Option, Some, sym, ap, ◌∙◌, add-one}
-use Rattle.std.specs.Prelude.{slice_get}
+use Rattle.std.proofs.Common.{◌≡◌, ℕ, zero, suc, ◌+◌, ◌≤◌, Bool, true, false, List, [], ◌∷◌, length, map, get_or, drop, Option, None, Some, refl, sym, ap, ◌∙◌, add-one, arith}
+use Rattle.std.specs.Prelude.{◌&&◌, nat_lt, not, slice_get}
+use Rattle.std.proofs.lemmas.Bool.Decides.{nat_tests}
 use Rattle.std.proofs.lemmas.List.{drop_all}
+use Rattle.yf_comments.specs.Comment.{CommentValue}
 use Rattle.yf_events.specs.Event.{Placed}
 use Rattle.yf_events.specs.declared.event.Span.{Span}
 use Rattle.yf_events.specs.declared.lists.Lists.{Lists}
+use Rattle.yf_emit.specs.declared.form.decide.Form.{Form}
 use Rattle.yf_emit.specs.declared.form.measure.Measure.{Measure}
-use Rattle.yf_emit.specs.Trailing.{State, next, pass}
+use Rattle.yf_emit.specs.Drafts.{count_to}
+use Rattle.yf_emit.specs.Trailing.{Found, State, all_found, ended, first_of, given, given_if, is_at, is_leaf, leaf_if, next, pass, start, state, with_leaf}
+use Rattle.yf_emit.specs.declared.print.trails.Leaf.{Leaf}
 
 step_at : (r : Lists) (ms : List Measure) (n i : ℕ) (es : List Placed) (s : Option Span) (w : State) → slice_get (map (λ e. e.span) es) i ≡ Some s
     → pass r ms n (drop i es) w ≡ pass r ms (n + 1) (drop (suc i) es) (next r ms n s w)
@@ -25,3 +30,43 @@ passed_on r ms i es s w new all h n g =
 pub passed_end : (r : Lists) (ms : List Measure) (i : ℕ) (es : List Placed) (w all : State) → length es ≤ i → pass r ms i (drop i es) w ≡ all → w ≡ all
 unfolding pass
 passed_end r ms i es w all l h = ap (λ v. pass r ms i v w) (sym (drop_all i es l)) ∙ h
+
+-- Where no comment is left behind the last leaf, nothing more is found.
+
+none_left : (cs : List CommentValue) (from offset : ℕ) → length cs ≤ from → from + count_to offset (drop from cs) ≡ from
+none_left cs from offset l =
+    let none : count_to offset (drop from cs) ≡ 0 = ap (count_to offset) (drop_all from cs l) in
+    omega arith
+
+gives_none : (r : Lists) (last : Option Leaf) (until : ℕ) (f : Found) → until ≤ first_of last → given r last until f ≡ f
+gives_none r None until f l = refl
+gives_none r (Some leaf) until f l =
+    let behind : nat_lt leaf.first until ≡ false = grind (arith, nat_tests) in
+    ap (λ b. given_if (b && (not (get_or f.trailing leaf.first false) && is_at r leaf.end leaf.first)) leaf f) behind
+
+finds_none : (r : Lists) (b : Bool) (i : ℕ) (s : Option Span) (w : State) → length r.comments ≤ first_of w.last
+    → (with_leaf r (leaf_if b r.comments i (first_of w.last) s) w).found ≡ w.found
+finds_none r false i s w l = refl
+finds_none r true i None w l = refl
+finds_none r true i (Some span) w l =
+    let same = none_left r.comments (first_of w.last) span.start l in
+    gives_none r w.last (first_of w.last + count_to span.start (drop (first_of w.last) r.comments)) w.found (omega arith)
+
+stays_behind : (r : Lists) (b : Bool) (i : ℕ) (s : Option Span) (w : State) → length r.comments ≤ first_of w.last
+    → length r.comments ≤ first_of (with_leaf r (leaf_if b r.comments i (first_of w.last) s) w).last
+stays_behind r false i s w l = l
+stays_behind r true i None w l = l
+stays_behind r true i (Some span) w l =
+    let same = none_left r.comments (first_of w.last) span.start l in
+    omega arith
+
+settled : (r : Lists) (ms : List Measure) (i : ℕ) (es : List Placed) (w : State) → length r.comments ≤ first_of w.last
+    → ended r (pass r ms i es w) ≡ w.found
+unfolding pass
+settled r ms i [] w l = gives_none r w.last (length r.comments) w.found l
+settled r ms i (e ∷ es) w l =
+    settled r ms (i + 1) es (next r ms i e.span w) (stays_behind r (is_leaf ms i) i e.span w l) ∙ finds_none r (is_leaf ms i) i e.span w l
+
+pub settled_at : (r : Lists) (ms : List Measure) (fs : List Form) (i : ℕ) (f : Found) (last : Option Leaf) → length r.comments ≤ first_of last
+    → pass r ms i (drop i r.events) (state f last) ≡ pass r ms 0 r.events (start r fs) → f ≡ all_found r ms fs
+settled_at r ms fs i f last l h = sym (settled r ms i (drop i r.events) (state f last) l) ∙ ap (ended r) h

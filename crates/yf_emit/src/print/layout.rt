@@ -112,6 +112,9 @@ impl Printer {
             &page.plan.forms.at(i),
             entry_at(page, i),
         )?;
+        if page.plan.measures.at(i).is_leaf(i) {
+            return self.leaf(page, i, spot);
+        }
         self.node_at(page, i, event_at(page, i), spot)
     }
 

@@ -108,7 +108,7 @@ fn push_scalar_node(
                 return push_props_alone(&mut output.line, *props);
             }
             push_props_before(&mut output.line, props)?;
-            push_scalar(&mut output.line, style, text)
+            output.line.push_str(text)
         }
         ScalarStyle::Single | ScalarStyle::Double => {
             push_props_before(&mut output.line, props)?;

@@ -219,9 +219,13 @@ pub fn find_trails(
 {
     let mut trails = trails_of_keys(alloc, reading, forms)?;
     let mut last: Option<Leaf> = None;
+    let count = comment_count(reading);
     for i in 0..reading.len() {
+        if count <= first_of(last) {
+            return Ok(trails);
+        }
         last = pass(&mut trails, reading, measures, i, reading.span(i), last)?;
     }
-    close(&mut trails, reading, last, comment_count(reading))?;
+    close(&mut trails, reading, last, count)?;
     Ok(trails)
 }

@@ -1,7 +1,7 @@
 use Rattle.std.proofs.Common.{◌≡◌, ◌≤◌, ◌∙◌, ap, arith, length}
-use Rattle.yf_emit.specs.Trailing.{all_found, ended, found, given, state}
+use Rattle.yf_emit.specs.Trailing.{all_found, ended, first_of, found, given, state}
 use Rattle.yf_emit.proofs.LayoutHolds.{trails_are}
-use Rattle.yf_emit.proofs.TrailLemmas.{passed_on, passed_end}
+use Rattle.yf_emit.proofs.TrailLemmas.{passed_on, passed_end, settled_at}
 use Rattle.yf_emit.proofs.print.trails.find_trails.Goals as goal
 
 pub loop-i-preserved : goal.loop-i-preserved
@@ -13,9 +13,20 @@ found_is : (c : goal.In_ok-close) → found c.close.new.trails ≡ all_found c.a
 found_is c =
     let past : length c.args.reading.now.events ≤ c.loop-i.i = omega arith in
     c.in_ok-close.ensures
-    ∙ (ap (λ n. given c.args.reading.now c.loop-i.last n (found c.loop-i.trails)) c.comment_count.ensures
+    ∙ (ap (λ n. given c.args.reading.now c.loop-i.last n (found c.loop-i.trails)) c.comment_count-count.ensures
     ∙ ap (ended c.args.reading.now)
     (passed_end c.args.reading.now c.args.measures.now c.loop-i.i c.args.reading.now.events (state (found c.loop-i.trails) c.loop-i.last) _ past c.loop-i.invariant))
+
+pub returns-then-count-first_of-clause-found : goal.returns-then-count-first_of-clause-found
+returns-then-count-first_of-clause-found c =
+    let none_left : length c.args.reading.now.comments ≤ first_of c.loop-i.last = omega arith in
+    settled_at c.args.reading.now c.args.measures.now c.args.forms.now c.loop-i.i (found c.loop-i.trails) c.loop-i.last none_left c.loop-i.invariant
+
+pub returns-then-count-first_of-clause-layout : goal.returns-then-count-first_of-clause-layout
+returns-then-count-first_of-clause-layout c =
+    let none_left : length c.args.reading.now.comments ≤ first_of c.loop-i.last = omega arith in
+    trails_are c.args.reading.now c.args.measures.now c.args.forms.now _
+    (settled_at c.args.reading.now c.args.measures.now c.args.forms.now c.loop-i.i (found c.loop-i.trails) c.loop-i.last none_left c.loop-i.invariant)
 
 pub returns-clause-found : goal.returns-clause-found
 returns-clause-found c = found_is c
