@@ -182,6 +182,7 @@ pub mod FixedNodes
 pub mod FixedRows
 pub mod FixedFormats
 pub mod PlacedRows
+pub mod HalvingLemmas
 pub mod HeadRows
 pub mod FoundNodes
 -- the lines of what formatting gives, which the rules of style look at

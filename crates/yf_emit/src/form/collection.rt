@@ -39,7 +39,10 @@ fn has_comment(text: &str, comments: &[Comment], span: Option<Span>, props: &Pro
 {
     match span {
         Some(span) => {
-            let written = *props;
+            let written = Props {
+                anchor: props.anchor,
+                tag: props.tag,
+            };
             let start = content_start(text, span, &written);
             first_between(comments, start, span.end).is_some()
         }

@@ -1,5 +1,5 @@
 //! Where comments stand among the nodes.
-ghost use Rattle.std.specs.Prelude.{◌≡◌, ◌+◌, ◌<◌, ◌≤◌, drop, false, length, map, nat_lt, true, IfSome, MatchOption};
+ghost use Rattle.std.specs.Prelude.{◌≡◌, ◌+◌, ◌<◌, ◌≤◌, drop, false, length, map, nat_lt, true, ℕ, IfSome, MatchOption};
 ghost use Rattle.std.specs.List.{AllWithin, HoldsAt};
 ghost use Rattle.std.specs.List.Sorted.{IsNonDecreasingBy, IsPartitionPoint};
 ghost use Rattle.yf_comments.specs.Comment.{comment_value};
@@ -8,14 +8,49 @@ ghost use Rattle.yf_emit.specs.Kept.{is_within};
 
 use yf_comments::comment::Comment;
 
-/// How many comments begin before the byte offset, found by halving; the comments are in the order of the text.
-pub fn count_before(comments: &[Comment], offset: usize) -> usize
+/// An index before which each comment begins before the byte offset, as far as the comment before `near` tells.
+#[inline(always)]
+fn low_by(comments: &[Comment], near: usize, offset: usize) -> usize
+    ensures near { result ≤ near }
+    ensures within { result ≤ length comments.now }
+    ensures before { IsNonDecreasingBy (λ c. c.offset) comments.now → AllWithin (λ c. nat_lt c.offset offset ≡ true) comments.now 0 result }
+{
+    if near > 0 {
+        if near <= comments.len() {
+            if comments[near - 1].offset < offset {
+                return near;
+            }
+        }
+    }
+    0
+}
+
+/// An index from which on no comment begins before the byte offset, as far as the comment at `near` tells.
+#[inline(always)]
+fn high_by(comments: &[Comment], near: usize, offset: usize) -> usize
+    ensures near { (k : ℕ) → k ≤ near → k ≤ length comments.now → k ≤ result }
+    ensures within { result ≤ length comments.now }
+    ensures behind { IsNonDecreasingBy (λ c. c.offset) comments.now
+        → AllWithin (λ c. nat_lt c.offset offset ≡ false) comments.now result (length comments.now) }
+{
+    if near < comments.len() {
+        if offset <= comments[near].offset {
+            return near;
+        }
+    }
+    comments.len()
+}
+
+/// How many comments begin before the byte offset, found at once where it is `near`, else by halving; the comments are in
+/// the order of the text.
+#[inline(always)]
+pub(crate) fn count_near(comments: &[Comment], near: usize, offset: usize) -> usize
     ensures within { result ≤ length comments.now }
     ensures halves { IsNonDecreasingBy (λ c. c.offset) comments.now
         → IsPartitionPoint (λ c. nat_lt c.offset offset ≡ true) (λ c. nat_lt c.offset offset ≡ false) comments.now result }
 {
-    let mut low = 0;
-    let mut high = comments.len();
+    let mut low = low_by(comments, near, offset);
+    let mut high = high_by(comments, near, offset);
     while low < high {
         let middle = low + (high - low) / 2;
         if comments[middle].offset < offset {
@@ -27,6 +62,40 @@ pub fn count_before(comments: &[Comment], offset: usize) -> usize
     low
 }
 
+/// How many comments begin before the byte offset, found by halving; the comments are in the order of the text.
+pub fn count_before(comments: &[Comment], offset: usize) -> usize
+    ensures within { result ≤ length comments.now }
+    ensures halves { IsNonDecreasingBy (λ c. c.offset) comments.now
+        → IsPartitionPoint (λ c. nat_lt c.offset offset ≡ true) (λ c. nat_lt c.offset offset ≡ false) comments.now result }
+{
+    count_near(comments, comments.len(), offset)
+}
+
+/// The first comment that begins at the byte offset `from` or later and before `to`, as an index. `near` is where the
+/// search begins, and where it ended from then on.
+#[inline(always)]
+pub(crate) fn first_near(
+    comments: &[Comment],
+    near: &mut usize,
+    from: usize,
+    to: usize,
+) -> Option<usize>
+    ensures within { IfSome result (λ k. k < length comments.now) }
+    ensures first { IsNonDecreasingBy (λ c. c.offset) comments.now
+        → MatchOption result (AllWithin (λ c. is_within from to (comment_value c) ≡ false) comments.now 0 (length comments.now))
+        (λ k. AllWithin (λ c. is_within from to (comment_value c) ≡ false) comments.now 0 k
+        × HoldsAt (λ c. is_within from to (comment_value c) ≡ true) comments.now k) }
+{
+    let k = count_near(comments, *near, from);
+    *near = k;
+    if k < comments.len() {
+        if comments[k].offset < to {
+            return Some(k);
+        }
+    }
+    None
+}
+
 /// The first comment that begins at the byte offset `from` or later and before `to`, as an index.
 pub fn first_between(comments: &[Comment], from: usize, to: usize) -> Option<usize>
     ensures within { IfSome result (λ k. k < length comments.now) }
@@ -35,13 +104,8 @@ pub fn first_between(comments: &[Comment], from: usize, to: usize) -> Option<usi
         (λ k. AllWithin (λ c. is_within from to (comment_value c) ≡ false) comments.now 0 k
         × HoldsAt (λ c. is_within from to (comment_value c) ≡ true) comments.now k) }
 {
-    let k = count_before(comments, from);
-    if k < comments.len() {
-        if comments[k].offset < to {
-            return Some(k);
-        }
-    }
-    None
+    let mut near = comments.len();
+    first_near(comments, &mut near, from, to)
 }
 
 /// The index of the first comment, from an index on, that does not begin before the byte offset.

@@ -72,6 +72,7 @@ fn is_whole(measure: &Measure, i: usize, is_kept: bool) -> bool
 fn node(
     list: &mut Forms,
     stack: &mut Vec<Level>,
+    near: &mut usize,
     facts: &EventFacts,
     is_map: bool,
 ) -> Result<usize, AllocError>
@@ -81,7 +82,7 @@ fn node(
         facts.now.measure.now is_map list.old (reverse stack.old.items)) }
 {
     let measure = facts.measure;
-    let place = place_node(stack, facts);
+    let place = place_node(stack, near, facts);
     let is_kept = measure.can_be_kept && fits(place.column, measure.width, facts.style);
     list.push(Form {
         is_kept,
@@ -102,17 +103,22 @@ fn node(
 
 /// Goes past one event, and answers the index of the last one that needs no look.
 #[inline(always)]
-fn pass(list: &mut Forms, stack: &mut Vec<Level>, facts: &EventFacts) -> Result<usize, AllocError>
+fn pass(
+    list: &mut Forms,
+    stack: &mut Vec<Level>,
+    near: &mut usize,
+    facts: &EventFacts,
+) -> Result<usize, AllocError>
     requires { facts.now.i < length facts.now.reading.now.events }
     ensures { IfOk result (λ done. IsNonDecreasingBy (λ c. c.offset) facts.now.reading.now.comments
         → state list.new (reverse stack.new.items) done ≡ Deciding.past (given_in facts.now) (event_value facts.now.event.now) facts.now.i
         facts.now.measure.now list.old (reverse stack.old.items)) }
 {
     match facts.event {
-        Event::Scalar { .. } => node(list, stack, facts, false),
-        Event::Alias { .. } => node(list, stack, facts, false),
-        Event::SeqStart { .. } => node(list, stack, facts, false),
-        Event::MapStart { .. } => node(list, stack, facts, true),
+        Event::Scalar { .. } => node(list, stack, near, facts, false),
+        Event::Alias { .. } => node(list, stack, near, facts, false),
+        Event::SeqStart { .. } => node(list, stack, near, facts, false),
+        Event::MapStart { .. } => node(list, stack, near, facts, true),
         Event::SeqEnd => {
             list.push(Form::NONE)?;
             let _ = stack.pop();
@@ -135,6 +141,7 @@ fn pass(list: &mut Forms, stack: &mut Vec<Level>, facts: &EventFacts) -> Result<
 fn advance(
     list: &mut Forms,
     stack: &mut Vec<Level>,
+    near: &mut usize,
     measured: &MeasuredReading,
     event: &Event,
     i: usize,
@@ -155,7 +162,7 @@ fn advance(
             measure: &measure,
             style: measured.style,
         };
-        return pass(list, stack, &facts);
+        return pass(list, stack, near, &facts);
     }
     list.push(Form::NONE)?;
     Ok(done)
@@ -173,6 +180,7 @@ pub fn decide(
     let mut list = Forms::new(alloc);
     let mut stack: Vec<Level> = Vec::new(alloc);
     let mut done = 0;
+    let mut near = 0;
     let measured = MeasuredReading {
         reading,
         measures,
@@ -180,7 +188,7 @@ pub fn decide(
     };
     for i in 0..reading.len() {
         let event = reading.event(i);
-        done = advance(&mut list, &mut stack, &measured, &event, i, done)?;
+        done = advance(&mut list, &mut stack, &mut near, &measured, &event, i, done)?;
     }
     Ok(list)
 }

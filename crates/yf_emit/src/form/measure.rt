@@ -175,13 +175,14 @@ fn measured(
     let mut list = Measures::new(alloc);
     let mut stack: Vec<Open> = Vec::new(alloc);
     for i in 0..reading.len() {
+        let span = reading.span(i);
         pass(
             &mut list,
             &mut stack,
             text,
             comments,
             &reading.event(i),
-            reading.span(i),
+            span,
             style,
             i,
         )?;

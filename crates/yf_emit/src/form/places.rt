@@ -6,7 +6,7 @@ ghost use Rattle.yf_events.specs.Event.{event_value};
 ghost use Rattle.yf_emit.specs.Deciding as Deciding;
 ghost use Rattle.yf_emit.specs.EventsGiven.{given_in};
 
-use crate::form::comments_before::first_between;
+use crate::form::comments_before::first_near;
 use crate::form::keys::{Key, is_implicit_key, key_of, leaf_start};
 use crate::form::measure::Measure;
 use crate::style::Style;
@@ -67,21 +67,28 @@ pub(crate) fn fits(column: usize, width: Option<usize>, style: &Style) -> bool
     }
 }
 
-/// The first comment after the one byte offset and before the other.
-fn comment_between(comments: &[Comment], from: usize, to: usize) -> Option<usize>
+/// The first comment after the one byte offset and before the other; `near` is where the last search ended.
+#[inline(always)]
+fn comment_between(comments: &[Comment], near: &mut usize, from: usize, to: usize) -> Option<usize>
     ensures { IsNonDecreasingBy (λ c. c.offset) (map comment_value comments.now)
         → result ≡ Deciding.comment_between (map comment_value comments.now) from (Some to) }
 {
-    first_between(comments, from.saturating_add(1), to)
+    first_near(comments, near, from.saturating_add(1), to)
 }
 
 /// The same, where there is something before which a comment may stand.
-fn comment_before(comments: &[Comment], from: usize, to: Option<usize>) -> Option<usize>
+#[inline(always)]
+fn comment_before(
+    comments: &[Comment],
+    near: &mut usize,
+    from: usize,
+    to: Option<usize>,
+) -> Option<usize>
     ensures { IsNonDecreasingBy (λ c. c.offset) (map comment_value comments.now)
         → result ≡ Deciding.comment_between (map comment_value comments.now) from to }
 {
     match to {
-        Some(to) => comment_between(comments, from, to),
+        Some(to) => comment_between(comments, near, from, to),
         None => None,
     }
 }
@@ -89,16 +96,22 @@ fn comment_before(comments: &[Comment], from: usize, to: Option<usize>) -> Optio
 /// The comment that trails an implicit key, whose last leaf begins at that offset, before a value that begins on the next
 /// line if there is one.
 #[inline(always)]
-fn trailing_comment(reading: &Reading, start: usize, i: usize, measure: &Measure) -> Option<usize>
+fn trailing_comment(
+    reading: &Reading,
+    near: &mut usize,
+    start: usize,
+    i: usize,
+    measure: &Measure,
+) -> Option<usize>
     ensures { IsNonDecreasingBy (λ c. c.offset) reading.now.comments
         → result ≡ Deciding.trailing_comment reading.now.comments reading.now.events start i measure.now }
 {
     let to = leaf_start(reading, measure.first_leaf);
     if measure.is_leaf(i) {
-        return comment_before(reading.comments(), start, to);
+        return comment_before(reading.comments(), near, start, to);
     }
     if measure.can_be_kept {
-        return comment_before(reading.comments(), start, to);
+        return comment_before(reading.comments(), near, start, to);
     }
     None
 }
@@ -137,12 +150,12 @@ fn comment_if(
 
 /// Where the value of an implicit key stands.
 #[inline(always)]
-fn value_place(facts: &EventFacts, key: &Key, column: usize) -> Place
+fn value_place(facts: &EventFacts, near: &mut usize, key: &Key, column: usize) -> Place
     ensures { IsNonDecreasingBy (λ c. c.offset) facts.now.reading.now.comments
         → result ≡ Deciding.value_place (given_in facts.now) (event_value facts.now.event.now) facts.now.i facts.now.measure.now key.now column }
 {
     let entries = value_entries(facts.event, column, facts.style);
-    match trailing_comment(facts.reading, key.start, facts.i, facts.measure) {
+    match trailing_comment(facts.reading, near, key.start, facts.i, facts.measure) {
         Some(comment) => {
             let next = column.saturating_add(facts.style.indent);
             Place {
@@ -177,7 +190,7 @@ fn key_place(column: usize, is_implicit: bool, style: &Style) -> Place
 
 /// Where a key or a value stands that is the next node of a mapping. A key waits there for its value from here on.
 #[inline(always)]
-fn place_in_map(level: &mut Level, facts: &EventFacts) -> Place
+fn place_in_map(level: &mut Level, near: &mut usize, facts: &EventFacts) -> Place
     requires { facts.now.i < length facts.now.reading.now.events }
     ensures place { IsNonDecreasingBy (λ c. c.offset) facts.now.reading.now.comments
         → result ≡ Deciding.place_in_map (given_in facts.now) (event_value facts.now.event.now) facts.now.i facts.now.measure.now
@@ -193,7 +206,7 @@ fn place_in_map(level: &mut Level, facts: &EventFacts) -> Place
         Some(key) => {
             level.key = None;
             if key.is_implicit {
-                return value_place(facts, &key, level.column);
+                return value_place(facts, near, &key, level.column);
             }
             Place::at(level.column.saturating_add(facts.style.indent))
         }
@@ -207,7 +220,7 @@ fn place_in_map(level: &mut Level, facts: &EventFacts) -> Place
 
 /// Where the next node of a collection stands, which is noted there.
 #[inline(always)]
-fn place_within(level: &mut Level, facts: &EventFacts) -> Place
+fn place_within(level: &mut Level, near: &mut usize, facts: &EventFacts) -> Place
     requires { facts.now.i < length facts.now.reading.now.events }
     ensures place { (others : List Level) → IsNonDecreasingBy (λ c. c.offset) facts.now.reading.now.comments
         → result ≡ Deciding.next_place (given_in facts.now) (event_value facts.now.event.now) facts.now.i facts.now.measure.now
@@ -217,14 +230,15 @@ fn place_within(level: &mut Level, facts: &EventFacts) -> Place
         (level.old ∷ others) }
 {
     if level.is_map {
-        return place_in_map(level, facts);
+        return place_in_map(level, near, facts);
     }
     Place::at(level.column.saturating_add(facts.style.indent))
 }
 
 /// Where the next node stands that holds no other. That it is a key or a value is noted in the innermost open collection.
+/// Among the comments `near` is where the last search ended.
 #[inline(always)]
-pub(crate) fn place_node(stack: &mut Vec<Level>, facts: &EventFacts) -> Place
+pub(crate) fn place_node(stack: &mut Vec<Level>, near: &mut usize, facts: &EventFacts) -> Place
     requires { facts.now.i < length facts.now.reading.now.events }
     ensures place { IsNonDecreasingBy (λ c. c.offset) facts.now.reading.now.comments
         → result ≡ Deciding.next_place (given_in facts.now) (event_value facts.now.event.now) facts.now.i facts.now.measure.now
@@ -234,7 +248,7 @@ pub(crate) fn place_node(stack: &mut Vec<Level>, facts: &EventFacts) -> Place
 {
     let count = stack.len();
     if count > 0 {
-        return place_within(&mut stack[count - 1], facts);
+        return place_within(&mut stack[count - 1], near, facts);
     }
     Place::at(0)
 }

@@ -3,4 +3,4 @@ use Rattle.yf_emit.proofs.IndexLemmas.{between_is}
 use Rattle.yf_emit.proofs.form.places.comment_between.Goals as goal
 
 pub returns : goal.returns
-returns c = λ s. between_is c.args.comments.now c.args.from c.args.to _ _ s (omega arith) (omega arith) c.saturating_add.ensures c.first_between.ensures.within c.first_between.ensures.first
+returns c = λ s. between_is c.args.comments.now c.args.from c.args.to _ _ s (omega arith) (omega arith) c.saturating_add.ensures c.first_near.ensures.within c.first_near.ensures.first

@@ -5,7 +5,7 @@ use Rattle.std.proofs.lemmas.List.{get_or_default}
 use Rattle.std.specs.List.{AllWithin}
 use Rattle.std.specs.List.Sorted.{IsNonDecreasingBy}
 use Rattle.yf_comments.specs.declared.comment.Comment.{Comment}
-use Rattle.yf_emit.proofs.form.comments_before.first_between.Goals as goal
+use Rattle.yf_emit.proofs.form.comments_before.first_near.Goals as goal
 
 is_outside : (from to offset : ℕ) → nat_lt offset from ≡ true → (nat_le from offset && nat_lt offset to) ≡ false
 is_outside from to offset e = grind (arith, nat_tests)
@@ -31,4 +31,4 @@ none_within xs k from to e s within l before j d b =
 
 pub returns-else-comments-k-clause-first : goal.returns-else-comments-k-clause-first
 returns-else-comments-k-clause-first c =
-    λ s j d a b. none_within c.args.comments.now c.count_before-k.result c.args.from c.args.to _ s (omega arith) c.if-comments-k.false (c.count_before-k.ensures.halves s).0 j d b
+    λ s j d a b. none_within c.args.comments.now c.count_near-k.result c.args.from c.args.to _ s (omega arith) c.if-comments-k.false (c.count_near-k.ensures.halves s).0 j d b

@@ -1,9 +1,9 @@
+-- What one comment tells of those before it and behind it.
 use Rattle.std.proofs.Common.{arith, ◌≡◌, ◌+◌, ◌<◌, ◌≤◌, ap, false, get_or, length, List, nat_lt, true, ℕ}
 use Rattle.std.proofs.lemmas.Bool.Decides.{nat_tests}
 use Rattle.std.proofs.lemmas.List.{get_or_default}
 use Rattle.std.specs.List.Sorted.{IsNonDecreasingBy}
 use Rattle.yf_comments.specs.declared.comment.Comment.{Comment}
-use Rattle.yf_emit.proofs.form.comments_before.count_before.Goals as goal
 
 is_below : (a b : ℕ) → a < b → nat_lt a b ≡ true
 is_below a b l = grind (arith, nat_tests)
@@ -11,32 +11,16 @@ is_below a b l = grind (arith, nat_tests)
 is_not_below : (a b : ℕ) → b ≤ a → nat_lt a b ≡ false
 is_not_below a b l = grind (arith, nat_tests)
 
-all_before : (xs : List Comment) (m t : ℕ) (e : Comment) → IsNonDecreasingBy (λ c. c.offset) xs → m < length xs → (get_or xs m e).offset < t
+pub all_before : (xs : List Comment) (m t : ℕ) (e : Comment) → IsNonDecreasingBy (λ c. c.offset) xs → m < length xs → (get_or xs m e).offset < t
     → (k : ℕ) (d : Comment) → k < m + 1 → nat_lt (get_or xs k d).offset t ≡ true
 all_before xs m t e s within l k d b =
     let rising : (get_or xs k d).offset ≤ (get_or xs m d).offset = s k m d (omega (arith, b)) within in
     let same : (get_or xs m d).offset ≡ (get_or xs m e).offset = ap (λ (c : Comment). c.offset) (get_or_default xs m d e within) in
     is_below (get_or xs k d).offset t (omega (arith, rising, same, l))
 
-all_behind : (xs : List Comment) (m t : ℕ) (e : Comment) → IsNonDecreasingBy (λ c. c.offset) xs → m < length xs → t ≤ (get_or xs m e).offset
+pub all_behind : (xs : List Comment) (m t : ℕ) (e : Comment) → IsNonDecreasingBy (λ c. c.offset) xs → m < length xs → t ≤ (get_or xs m e).offset
     → (k : ℕ) (d : Comment) → m ≤ k → k < length xs → nat_lt (get_or xs k d).offset t ≡ false
 all_behind xs m t e s within l k d a b =
     let rising : (get_or xs m d).offset ≤ (get_or xs k d).offset = s m k d a b in
     let same : (get_or xs m d).offset ≡ (get_or xs m e).offset = ap (λ (c : Comment). c.offset) (get_or_default xs m d e within) in
     is_not_below (get_or xs k d).offset t (omega (arith, rising, same, l))
-
-pub loop-low-preserved-then-comments-middle : goal.loop-low-preserved-then-comments-middle
-loop-low-preserved-then-comments-middle c = record {
-  order = omega arith;
-  within = c.loop-low.invariant.within;
-  before = λ s k d a b. all_before c.args.comments.now _ c.args.offset _ s (omega arith) c.if-comments-middle.true k d b;
-  behind = c.loop-low.invariant.behind;
-}
-
-pub loop-low-preserved : goal.loop-low-preserved
-loop-low-preserved c = record {
-  order = omega arith;
-  within = omega arith;
-  before = c.loop-low.invariant.before;
-  behind = λ s k d a b. all_behind c.args.comments.now _ c.args.offset _ s (omega arith) c.if-comments-middle.false k d a b;
-}

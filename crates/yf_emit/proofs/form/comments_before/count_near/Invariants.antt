@@ -1,7 +1,7 @@
 use Rattle.std.proofs.Common.{◌≡◌, ◌-◌, ◌≤◌, false, length, nat_lt, true}
 use Rattle.std.specs.List.Sorted.{IsNonDecreasingBy}
 use Rattle.std.specs.List.{AllWithin}
-use Rattle.yf_emit.proofs.form.comments_before.count_before.Given as goal
+use Rattle.yf_emit.proofs.form.comments_before.count_near.Given as goal
 
 abbrev pub invariant-loop-low : goal.invariant-loop-low
 invariant-loop-low l = record {
