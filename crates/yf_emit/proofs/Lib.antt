@@ -17,6 +17,7 @@ pub mod MeasuredLemmas
 -- `decide` and `implicit_key`: the form of each node
 pub mod IndexLemmas
 pub mod AmongLemmas
+pub mod CommonWidths
 pub mod CountLemmas
 pub mod LeafLemmas
 pub mod RunLemmas

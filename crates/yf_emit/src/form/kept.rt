@@ -14,7 +14,7 @@ use crate::form::measure::measure_all;
 use crate::form::measures::Measures;
 use crate::style::Style;
 use crate::text::wanted::wanted_of;
-use crate::text::written::{push_props_before, push_scalar};
+use crate::text::written::{has_props, push_props_before, push_scalar};
 use std::alloc::{AllocError, Global};
 use yf_events::event::Event;
 use yf_events::reading::Reading;
@@ -35,15 +35,16 @@ enum Expected {
     ValueOfAlias,
 }
 
-/// What stands before a node: nothing, a comma, or the `:` of its key.
-fn separator(expected: Expected) -> &'static str
-    ensures { result.now ≡ OneLineRun.separator expected }
+/// Appends what stands before a node: nothing, a comma, or the `:` of its key.
+#[inline(always)]
+fn push_separator(out: &mut String, expected: Expected) -> Result<(), AllocError>
+    ensures { OnOk result (string_bytes out.new ≡ string_bytes out.old ++ OneLineRun.separator expected) }
 {
     match expected {
-        Expected::FirstItem | Expected::FirstKey => "",
-        Expected::Item | Expected::Key => ", ",
-        Expected::Value => ": ",
-        Expected::ValueOfAlias => " : ",
+        Expected::FirstItem | Expected::FirstKey => Ok(()),
+        Expected::Item | Expected::Key => out.push_str(", "),
+        Expected::Value => out.push_str(": "),
+        Expected::ValueOfAlias => out.push_str(" : "),
     }
 }
 
@@ -77,7 +78,7 @@ impl Brackets {
     {
         match self.open.pop() {
             Some(expected) => {
-                out.push_str(separator(expected))?;
+                push_separator(out, expected)?;
                 self.open.push(behind(is_alias, expected))?;
                 Ok(())
             }
@@ -86,16 +87,25 @@ impl Brackets {
     }
 
     /// Appends what stands before the text of a node that is no alias.
+    #[inline(always)]
     fn before_text(&mut self, out: &mut String, props: &Props) -> Result<(), AllocError>
         ensures adds { OnOk result (string_bytes out.new ≡ string_bytes out.old ++ OneLineRun.before_text (reverse self.old.open.items)
             (props_value props.now)) }
         ensures next { OnOk result (reverse self.new.open.items ≡ behind_in false (reverse self.old.open.items)) }
     {
         self.before_node(out, false)?;
-        push_props_before(out, props)
+        if !has_props(props) {
+            return Ok(());
+        }
+        let written = Props {
+            anchor: props.anchor,
+            tag: props.tag,
+        };
+        push_props_before(out, &written)
     }
 
     /// Appends what stands before a collection's bracket. The properties of the outermost one are left out.
+    #[inline(always)]
     fn before_bracket(&mut self, out: &mut String, props: &Props) -> Result<(), AllocError>
         ensures adds { OnOk result (string_bytes out.new ≡ string_bytes out.old ++ OneLineRun.before_bracket (reverse self.old.open.items)
             (props_value props.now)) }
@@ -108,6 +118,7 @@ impl Brackets {
     }
 
     /// Begins a collection with these properties, between whose brackets `first` comes first.
+    #[inline(always)]
     fn begin(
         &mut self,
         out: &mut String,
@@ -135,6 +146,7 @@ impl Brackets {
     }
 
     /// Appends what one event adds.
+    #[inline(always)]
     fn push_event(
         &mut self,
         out: &mut String,

@@ -1,6 +1,7 @@
 //! How many characters a node's text has that is written on one line. Numbers are cut at the greatest `usize`.
 ghost use Rattle.std.specs.Prelude.{◌≡◌, chars, is_some, length, Some};
 ghost use Rattle.std.specs.Str.{IsUtf8};
+ghost use Rattle.yf_chars.specs.Common.{is_common};
 ghost use Rattle.yf_chars.specs.Escape as Escape;
 ghost use Rattle.yf_chars.specs.Escape.{spelled};
 ghost use Rattle.yf_emit.specs.Measures as Measures;
@@ -21,7 +22,8 @@ fn byte_count(text: &str) -> usize
 }
 
 /// How many characters a text has.
-pub fn char_count(text: &str) -> usize
+#[inline(always)]
+fn counted(text: &str) -> usize
     ensures count { result ≡ up_to_greatest (width text.now) }
     ensures utf8 { IsUtf8 text.now }
 {
@@ -29,6 +31,14 @@ pub fn char_count(text: &str) -> usize
         return byte_count(text);
     }
     text.chars().count()
+}
+
+/// How many characters a text has.
+pub fn char_count(text: &str) -> usize
+    ensures count { result ≡ up_to_greatest (width text.now) }
+    ensures utf8 { IsUtf8 text.now }
+{
+    counted(text)
 }
 
 /// Whether a character is spelled by a backslash and a letter.
@@ -39,10 +49,22 @@ fn is_by_letter(c: char) -> bool
     matches!(c, '"' | '\\' | '\n' | '\t' | '\r' | '\0')
 }
 
+/// Whether it is an ASCII character that is spelled by itself, as most are.
+#[inline(always)]
+#[tactic(auto, unfolding(yf_chars::specs::Common::is_common, yf_chars::specs::Class::is_between))]
+fn is_common(c: char) -> bool
+    ensures { result ≡ is_common c }
+{
+    matches!(c, '#'..='[' | ']'..='~' | ' ' | '!')
+}
+
 /// How many characters the spelling of one has in double quotes.
 fn spelled_width(c: char) -> usize
     ensures { result ≡ length (spelled c) }
 {
+    if is_common(c) {
+        return 1;
+    }
     if is_by_letter(c) {
         return 2;
     }
@@ -94,7 +116,7 @@ pub fn scalar_width(style: ScalarStyle, text: &str) -> Option<usize>
     ensures utf8 { IsUtf8 text.now }
 {
     match style {
-        ScalarStyle::Plain => Some(char_count(text)),
+        ScalarStyle::Plain => Some(counted(text)),
         ScalarStyle::Single => Some(single_width(text)),
         ScalarStyle::Double => Some(double_width(text)),
         ScalarStyle::Literal | ScalarStyle::Folded => None,
