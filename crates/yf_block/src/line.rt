@@ -27,6 +27,7 @@ use yf_lines::basic::{skip_spaces, skip_whites};
 use yf_lines::text::Text;
 
 /// Reads the end of a line, and the comment lines after it (s-l-comments, production 79).
+#[inline(always)]
 pub(crate) fn read_line_end<'a>(
     alloc: Global,
     text: &'a str,

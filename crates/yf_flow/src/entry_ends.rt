@@ -159,6 +159,7 @@ impl<'a> Reader<'a> {
     }
 
     // After an entry: a comma, or the bracket that closes the collection.
+    #[inline(always)]
     fn after_entry(&mut self, scene: Scene<'a>, at: usize) -> Result<Step, AllocError>
         requires { Standing Indexed scene.text.now at self.old }
         ensures { IfOk result (Leads (At AtEntryEnd scene.entry self.old at) (Room scene.entry self.old at) scene.entry at self.old self.new) }

@@ -139,6 +139,7 @@ pub fn read_content<'a>(
 /// # Errors
 ///
 /// `AllocError` where a growth of memory was refused.
+#[inline(always)]
 pub fn read_content_with<'a>(
     alloc: Global,
     scene: &Scene<'a>,

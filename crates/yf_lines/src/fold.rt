@@ -35,6 +35,7 @@ pub fn indent_width(n: i32) -> Option<usize>
 ///
 /// `None` where the line does not end there, or the next line that is not empty is indented by fewer than `width` spaces.
 /// Whether that line is forbidden is not asked.
+#[inline(always)]
 pub fn flow_folded(s: &str, at: usize, width: usize) -> Option<Fold>
     requires { IsCharBoundary s.now at }
     ensures reads { MatchOption result (Stuck (FoldsTo s.now (pos width) at))

@@ -8,14 +8,14 @@ ghost use Rattle.yf_chars.specs.Text.{code, before, Reads};
 ghost use Rattle.yf_lines.specs.Basic.{Forbidden, is_block, is_flow, is_key};
 ghost use Rattle.yf_lines.specs.Fold.{fold_text};
 ghost use Rattle.yf_lines.specs.Text.{text_bytes};
-ghost use Rattle.yf_plain.specs.Ordinary.{is_ordinary, EndAt, LetterAt, OrdinaryAt};
 ghost use Rattle.yf_plain.specs.Plain as P;
 ghost use Rattle.yf_plain.specs.Plain.{is_plain_first, is_plain_char, is_sign, Plain, PlainItem, PlainLine, PlainFront, NoNextLine};
 
+use crate::ordinary::{end_stands, letter_stands, ordinary_stands};
 use std::alloc::{AllocError, Global};
 use yf_chars::classes::{is_indicator, is_ns_char, is_plain_safe};
 use yf_chars::context::Ctx;
-use yf_chars::text::{peek, stands};
+use yf_chars::text::peek;
 use yf_lines::basic::{is_forbidden_at, skip_whites};
 use yf_lines::fault::Fault;
 use yf_lines::fold::{flow_folded, indent_width};
@@ -150,6 +150,7 @@ struct NextLine {
 }
 
 // The next line of a plain scalar after the end of one of its lines (s-ns-plain-next-line(n,c), production 134).
+#[inline(always)]
 fn next_line(s: &str, at: usize, width: usize, ctx: Ctx) -> Option<NextLine>
     requires { IsCharBoundary s.now at }
     ensures reads { MatchOption result (NoNextLine s.now (pos width) ctx at)
@@ -232,65 +233,7 @@ fn plain_in_line(s: &str, at: usize, ctx: Ctx) -> usize
     }
 }
 
-// Whether the ASCII character may stand in a plain scalar, whatever stands beside it. Most are lower-case letters, which take two
-// tests.
-#[tactic(auto, unfolding(crate::specs::Ordinary::is_ordinary, yf_chars::specs::Class::is_between))]
-#[inline(always)]
-fn is_ordinary(byte: u8) -> bool
-    ensures { result ≡ is_ordinary byte }
-{
-    if byte < b'a' {
-        return matches!(byte, b'-'..=b'9' | b'A'..=b'Z' | b'_');
-    }
-    byte <= b'z'
-}
-
-// Whether such a character begins at the offset.
-#[inline(always)]
-fn ordinary_stands(s: &str, at: usize) -> bool
-    ensures { result ≡ true → OrdinaryAt s.now at }
-{
-    let bytes = s.as_bytes();
-    if at < bytes.len() {
-        return is_ordinary(bytes[at]);
-    }
-    false
-}
-
-// Whether a letter or a digit stands there, which may begin a plain scalar.
-#[inline(always)]
-fn letter_stands(s: &str, at: usize) -> bool
-    ensures { result ≡ true → LetterAt s.now at }
-{
-    let bytes = s.as_bytes();
-    if at < bytes.len() {
-        if bytes[at] >= b'0' {
-            return is_ordinary(bytes[at]);
-        }
-    }
-    false
-}
-
-// Whether a line feed stands there, or a `:` before a space or a line feed, which end the line of a plain scalar.
-#[inline(always)]
-fn end_stands(s: &str, at: usize) -> bool
-    ensures { result ≡ true → EndAt s.now at }
-{
-    if stands(s, at, b'\n') {
-        return true;
-    }
-    if stands(s, at, b':') {
-        if stands(s, at + 1, b' ') {
-            return true;
-        }
-        if stands(s, at + 1, b'\n') {
-            return true;
-        }
-    }
-    false
-}
-
-// The offset after all such characters that stand there after a character of content; in block contexts, in which no scalar
+// The offset after all ordinary characters that stand there after a character of content; in block contexts, in which no scalar
 // stands, none is looked for.
 #[inline(always)]
 fn ordinary_run(s: &str, at: usize, ctx: Ctx) -> usize

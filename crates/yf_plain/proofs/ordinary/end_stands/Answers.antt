@@ -1,5 +1,5 @@
 use Rattle.yf_plain.proofs.OrdinaryLemmas.{feed_ends, colon_space, colon_feed}
-use Rattle.yf_plain.proofs.plain.end_stands.Goals as goal
+use Rattle.yf_plain.proofs.ordinary.end_stands.Goals as goal
 
 pub returns-then-stands : goal.returns-then-stands
 returns-then-stands c = λ e. feed_ends c.args.s.now c.args.at c.if-stands.ensures.cases.char

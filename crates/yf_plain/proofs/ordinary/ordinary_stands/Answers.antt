@@ -1,7 +1,7 @@
 use Rattle.std.proofs.Common.{ap, sym, ◌∙◌, get_or, arith}
 use Rattle.yf_plain.specs.Ordinary.{is_ordinary}
 use Rattle.yf_plain.proofs.OrdinaryLemmas.{ordinary_at}
-use Rattle.yf_plain.proofs.plain.ordinary_stands.Goals as goal
+use Rattle.yf_plain.proofs.ordinary.ordinary_stands.Goals as goal
 
 pub returns-then-at-bytes : goal.returns-then-at-bytes
 returns-then-at-bytes c = λ e. ordinary_at c.args.s.now c.args.at c.utf8.s (omega (arith, c.as_bytes-bytes.ensures.len))

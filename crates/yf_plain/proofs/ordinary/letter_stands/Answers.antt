@@ -1,7 +1,7 @@
 use Rattle.std.proofs.Common.{ap, sym, ◌∙◌, get_or, arith}
 use Rattle.yf_plain.specs.Ordinary.{is_ordinary}
 use Rattle.yf_plain.proofs.OrdinaryLemmas.{letter_at}
-use Rattle.yf_plain.proofs.plain.letter_stands.Goals as goal
+use Rattle.yf_plain.proofs.ordinary.letter_stands.Goals as goal
 
 pub returns-then-bytes-at-ge48 : goal.returns-then-bytes-at-ge48
 returns-then-bytes-at-ge48 c = λ e.
