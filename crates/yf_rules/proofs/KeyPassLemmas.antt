@@ -9,20 +9,22 @@ use Rattle.yf_events.specs.Reading.{events_of}
 use Rattle.yf_events.specs.Tree.{DocumentTree, TreesOf}
 use Rattle.yf_events.specs.declared.lists.Lists.{Lists}
 use Rattle.yf_rules.specs.Exact.{Exactly}
-use Rattle.yf_rules.specs.KeyPass.{AreCollections, IsCollection, KeyValue, Opened, after, event_place, has_key, is_repeat, new_collection, next, offset_if, past_key, repeats_in, run, takes_key, without_first}
+use Rattle.yf_rules.specs.KeyPass.{AreCollections, IsCollection, IsLast, KeyValue, Opened, after, event_place, has_key, is_repeat, new_collection, next, offset_if, past_key, repeats_in, run, takes_key, without_first}
 use Rattle.yf_rules.specs.KeyPass.AreCollections.{no_collections, one_collection}
 use Rattle.yf_rules.specs.Nodes.{RepeatedKey}
+use Rattle.yf_rules.specs.declared.rules.repeated_keys.Key.{Key}
 use Rattle.yf_rules.specs.declared.rules.repeated_keys.KeyedCollection.{KeyedCollection}
 use Rattle.yf_rules.proofs.KeySetLemmas.{exactly_repeated}
 use Rattle.yf_rules.proofs.KeyTreeLemmas.{run_stream}
 
 -- the innermost collection
-record First (a : KeyedCollection) (more : List KeyedCollection) (st : List Opened) : Type 0 where
+record First (ks : List Key) (a : KeyedCollection) (more : List KeyedCollection) (st : List Opened) : Type 0 where
   l : Opened
   ls : List Opened
+  outer : List Key
   is : st ≡ l ∷ ls
-  collection : IsCollection a l
-  collections : AreCollections more ls
+  collection : IsLast outer ks a l
+  collections : AreCollections outer more ls
 
 head_same : {a b : KeyedCollection} {xs ys : List KeyedCollection} → a ∷ xs ≡ b ∷ ys → a ≡ b
 head_same e = cc
@@ -33,32 +35,39 @@ tail_same e = cc
 nil_cons : {b : KeyedCollection} {ys : List KeyedCollection} → [] ≡ b ∷ ys → ⊥
 nil_cons e = cc
 
-first_collection : {xs : List KeyedCollection} {st : List Opened} (a : KeyedCollection) (more : List KeyedCollection) → xs ≡ a ∷ more → AreCollections xs st → First a more st
+first_collection : {ks : List Key} {xs : List KeyedCollection} {st : List Opened} (a : KeyedCollection) (more : List KeyedCollection) → xs ≡ a ∷ more → AreCollections ks xs st → First ks a more st
 first_collection a more e no_collections = absurd (nil_cons e)
-first_collection a more e (one_collection {l = l} {ls = ls} p q) = record {
+first_collection {ks} a more e (one_collection {outer = outer} {l = l} {ls = ls} p q) = record {
   l = l;
   ls = ls;
+  outer = outer;
   is = refl;
-  collection = subst (λ x. IsCollection x l) (head_same e) p;
-  collections = subst (λ xs. AreCollections xs ls) (tail_same e) q;
+  collection = subst (λ x. IsLast outer ks x l) (head_same e) p;
+  collections = subst (λ xs. AreCollections outer xs ls) (tail_same e) q;
 }
 
 reverse_push : (xs : List KeyedCollection) (x : KeyedCollection) → reverse (xs ++ x ∷ []) ≡ x ∷ reverse xs
 reverse_push xs x = reverse-append xs (x ∷ [])
 
 module _ (old rest new : List KeyedCollection) (a b : KeyedCollection) (p : old ≡ rest ++ a ∷ []) (q : new ≡ rest ++ b ∷ []) where
-  pub node_passed : (w : Option KeyValue) → ((l : Opened) → IsCollection a l → IsCollection b (past_key w l)) → (st : List Opened) → AreCollections (reverse old) st
-      → AreCollections (reverse new) (after w st)
-  node_passed w g st h =
+  pub last_passed : (ks ms : List Key) (w : Option KeyValue) → ((outer : List Key) (l : Opened) → IsLast outer ks a l → IsLast outer ms b (past_key w l)) → (st : List Opened)
+      → AreCollections ks (reverse old) st → AreCollections ms (reverse new) (after w st)
+  last_passed ks ms w g st h =
       let f = first_collection a (reverse rest) (ap reverse p ∙ reverse_push rest a) h in
-      subst (λ s. AreCollections (reverse new) (after w s)) (sym f.is)
-      (subst (λ xs. AreCollections xs (past_key w f.l ∷ f.ls)) (sym (ap reverse q ∙ reverse_push rest b)) (one_collection (g f.l f.collection) f.collections))
+      subst (λ s. AreCollections ms (reverse new) (after w s)) (sym f.is)
+      (subst (λ xs. AreCollections ms xs (past_key w f.l ∷ f.ls)) (sym (ap reverse q ∙ reverse_push rest b)) (one_collection (g f.outer f.l f.collection) f.collections))
 
-  pub scalar_passed : (w : KeyValue) (hit : Bool) → ((l : Opened) → IsCollection a l → IsCollection b (past_key (Some w) l) × (hit ≡ (takes_key l && has_key w l.keys)))
-      → (st : List Opened) → AreCollections (reverse old) st → AreCollections (reverse new) (after (Some w) st) × (hit ≡ repeats_in w st)
-  scalar_passed w hit g st h =
+  pub node_passed : b.first ≡ a.first → ((own : List Key) (l : Opened) → IsCollection own a l → IsCollection own b (past_key None l)) → (ks : List Key) (st : List Opened)
+      → AreCollections ks (reverse old) st → AreCollections ks (reverse new) (after None st)
+  node_passed e g ks st h = last_passed ks ks None
+      (λ outer l i. record { own = i.own; keys = i.keys; begins = i.begins ∙ sym e; collection_is = g i.own l i.collection_is }) st h
+
+  pub scalar_passed : (ks ms : List Key) (w : KeyValue) (hit : Bool)
+      → ((outer : List Key) (l : Opened) → IsLast outer ks a l → IsLast outer ms b (past_key (Some w) l) × (hit ≡ (takes_key l && has_key w l.keys)))
+      → (st : List Opened) → AreCollections ks (reverse old) st → AreCollections ms (reverse new) (after (Some w) st) × (hit ≡ repeats_in w st)
+  scalar_passed ks ms w hit g st h =
       let f = first_collection a (reverse rest) (ap reverse p ∙ reverse_push rest a) h in
-      (node_passed (Some w) (λ l k. (g l k).0) st h, (g f.l f.collection).1 ∙ ap (λ s. repeats_in w s) (sym f.is))
+      (last_passed ks ms (Some w) (λ outer l i. (g outer l i).0) st h, (g f.outer f.l f.collection).1 ∙ ap (λ s. repeats_in w s) (sym f.is))
 
 -- the innermost collection changed in place
 module _ {A : Type 0} (xs : List A) (n : ℕ) (l : A) (c : length xs ≡ n) (h : 0 < n) (e : l ≡ get_or xs (n - 1) l) where
@@ -75,14 +84,22 @@ module _ {A : Type 0} (xs : List A) (n : ℕ) (l : A) (c : length xs ≡ n) (h :
       let k : length p ≡ n - 1 = length-take-le (n - 1) xs (omega (arith, c)) in
       ap (λ ys. set ys (n - 1) new) last_is ∙ ap (λ j. set (p ++ l ∷ []) j new) (sym k) ∙ set-append_seam p l [] new
 
-pub end_passed : (old rest : List KeyedCollection) (a : KeyedCollection) → old ≡ rest ++ a ∷ [] → (st : List Opened) → AreCollections (reverse old) st → AreCollections (reverse rest) (without_first st)
-end_passed old rest a p st h =
-    let f = first_collection a (reverse rest) (ap reverse p ∙ reverse_push rest a) h in
-    subst (λ s. AreCollections (reverse rest) (without_first s)) (sym f.is) f.collections
+pub take_outer : (outer own : List Key) → take (length outer) (outer ++ own) ≡ outer
+take_outer [] own = refl
+take_outer (x ∷ xs) own = ap (λ ys. x ∷ ys) (take_outer xs own)
 
-pub start_passed : (mid new : List KeyedCollection) (a : KeyedCollection) (is_map : Bool) (st : List Opened) → new ≡ mid ++ a ∷ [] → IsCollection a (new_collection is_map) → AreCollections (reverse mid) st
-    → AreCollections (reverse new) (new_collection is_map ∷ st)
-start_passed mid new a is_map st q i h = subst (λ xs. AreCollections xs (new_collection is_map ∷ st)) (sym (ap reverse q ∙ reverse_push mid a)) (one_collection i h)
+pub end_passed : (old rest : List KeyedCollection) (a : KeyedCollection) (ks ms : List Key) → old ≡ rest ++ a ∷ [] → ms ≡ take a.first ks → (st : List Opened)
+    → AreCollections ks (reverse old) st → AreCollections ms (reverse rest) (without_first st)
+end_passed old rest a ks ms p q st h =
+    let f = first_collection a (reverse rest) (ap reverse p ∙ reverse_push rest a) h in
+    let i = f.collection in
+    let e : ms ≡ f.outer = q ∙ ap (λ n. take n ks) (sym i.begins) ∙ ap (λ ys. take (length f.outer) ys) i.keys ∙ take_outer f.outer i.own in
+    subst (λ s. AreCollections ms (reverse rest) (without_first s)) (sym f.is) (subst (λ ys. AreCollections ys (reverse rest) f.ls) (sym e) f.collections)
+
+pub start_passed : (mid new : List KeyedCollection) (a : KeyedCollection) (is_map : Bool) (ks : List Key) (st : List Opened) → new ≡ mid ++ a ∷ [] → length ks ≡ a.first
+    → IsCollection [] a (new_collection is_map) → AreCollections ks (reverse mid) st → AreCollections ks (reverse new) (new_collection is_map ∷ st)
+start_passed mid new a is_map ks st q e i h = subst (λ xs. AreCollections ks xs (new_collection is_map ∷ st)) (sym (ap reverse q ∙ reverse_push mid a))
+    (one_collection (record { own = []; keys = sym (append-nil ks); begins = e; collection_is = i }) h)
 
 -- one event more
 pub event_at : (r : Lists) (i : ℕ) → i < length r.events → (x : Placed) × (slice_get r.events i ≡ Some x) × (slice_get (events_of r) i ≡ Some x.event)

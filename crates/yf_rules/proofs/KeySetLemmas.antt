@@ -86,7 +86,7 @@ exact_option R x None (Some b) e = absurd (not_less e)
 exact_option R x (Some a) None e = absurd (not_greater e)
 exact_option R x (Some a) (Some b) e = ap (λ v. Some v) (x a b e)
 
-exact_value : CmpEqualImpliesEq value_cmp
+pub exact_value : CmpEqualImpliesEq value_cmp
 exact_value = exact_pairs (slice_cmp nat_cmp) (option_cmp (option_cmp (slice_cmp nat_cmp))) exact_bytes
     (exact_option (option_cmp (slice_cmp nat_cmp)) (exact_option (slice_cmp nat_cmp) exact_bytes))
 

@@ -36,6 +36,7 @@ pub mod RunLemmas
 pub mod KeyTreeLemmas
 pub mod KeySetLemmas
 pub mod KeyPassLemmas
+pub mod KeyListLemmas
 -- key-mark
 pub mod NeedlessLemmas
 -- the definitions by small readings

@@ -134,11 +134,32 @@ key_value k = (k.text.now, Some (name_value k.tag))
 abbrev pub key_cmp : Key → Key → Ordering
 key_cmp a b = ordering_then (slice_cmp nat_cmp a.text.now b.text.now) (option_cmp (λ x y. slice_cmp nat_cmp x.now y.now) a.tag b.tag)
 
-pub record IsCollection (collection : KeyedCollection) (l : Opened) : Type 0 where
+-- whether two keys are the same
+abbrev pub same_value : KeyValue → KeyValue → Bool
+same_value a b = eq_by_cmp value_cmp a b
+
+-- whether a key is among those of a list
+abbrev pub holds_key : KeyValue → List Key → Bool
+holds_key w [] = false
+holds_key w (k ∷ ks) = if same_value (key_value k) w then true else holds_key w ks
+
+-- with one key more
+abbrev pub with_key : KeyValue → Opened → Opened
+with_key w l = record { is_map = l.is_map; at_value = l.at_value; keys = w ∷ l.keys }
+
+-- of a collection that is open: its first few keys, which stand in a list with those of the others, and what else is kept of it
+pub record IsCollection (own : List Key) (collection : KeyedCollection) (l : Opened) : Type 0 where
   pub same_kind : collection.is_map ≡ l.is_map
   pub same_turn : collection.at_value ≡ l.at_value
-  pub same_keys : (k : Key) → contains key_cmp collection.keys k ≡ has_key (key_value k) l.keys
+  pub same_keys : (k : Key) → (if holds_key (key_value k) own then true else contains key_cmp collection.more k) ≡ has_key (key_value k) l.keys
 
-pub data AreCollections : List KeyedCollection → List Opened → Type 0 where
-  no_collections : AreCollections [] []
-  one_collection : {collection : KeyedCollection} {l : Opened} {collections : List KeyedCollection} {ls : List Opened} → IsCollection collection l → AreCollections collections ls → AreCollections (collection ∷ collections) (l ∷ ls)
+-- the innermost one, after the keys of the others
+pub record IsLast (outer ks : List Key) (collection : KeyedCollection) (l : Opened) : Type 0 where
+  pub own : List Key
+  pub keys : ks ≡ outer ++ own
+  pub begins : length outer ≡ collection.first
+  pub collection_is : IsCollection own collection l
+
+pub data AreCollections : List Key → List KeyedCollection → List Opened → Type 0 where
+  no_collections : {ks : List Key} → AreCollections ks [] []
+  one_collection : {outer ks : List Key} {collection : KeyedCollection} {l : Opened} {collections : List KeyedCollection} {ls : List Opened} → IsLast outer ks collection l → AreCollections outer collections ls → AreCollections ks (collection ∷ collections) (l ∷ ls)

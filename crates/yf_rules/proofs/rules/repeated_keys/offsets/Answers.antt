@@ -9,7 +9,7 @@ use Rattle.yf_rules.proofs.rules.repeated_keys.offsets.Goals.{then-branch+in_ok-
 pub loop-i-init : goal.loop-i-init
 loop-i-init c =
     let r = c.args.reading.now in
-    ([], subst (λ xs. AreCollections (reverse xs) []) (sym c.new-stack.ensures.items) no_collections, ap (λ os. os ++ run r.resolved 0 [] r.events) c.new-offsets.ensures.items)
+    ([], subst (λ xs. AreCollections c.new-keys.result.items (reverse xs) []) (sym c.new-stack.ensures.items) no_collections, ap (λ os. os ++ run r.resolved 0 [] r.events) c.new-offsets.ensures.items)
 
 pub loop-i-preserved : goal.loop-i-preserved
 loop-i-preserved c =

@@ -1,4 +1,4 @@
-use Rattle.std.proofs.Common.{◌≡◌, ◌<◌, None, length, refl, arith}
+use Rattle.std.proofs.Common.{◌≡◌, ◌<◌, length, refl, arith}
 use Rattle.yf_rules.proofs.KeyPassLemmas.{last_is, last_set, node_passed}
 use Rattle.yf_rules.proofs.rules.repeated_keys.pass_node.Goals as goal
 
@@ -9,4 +9,4 @@ returns-in-Some c =
     let h : 0 < n = c.in-Some.ensures.variant.0 refl in
     let e : length xs ≡ n = omega (arith, c.args.stack.now.ok) in
     node_passed xs _ _ c.in-Some.collection.now c.turn.new.collection
-    (last_is xs n c.in-Some.collection.now e h c.in-Some.ensures.value) (last_set xs n c.in-Some.collection.now e h c.in-Some.ensures.value c.turn.new.collection) None c.turn.ensures
+    (last_is xs n c.in-Some.collection.now e h c.in-Some.ensures.value) (last_set xs n c.in-Some.collection.now e h c.in-Some.ensures.value c.turn.new.collection) c.turn.ensures.first c.turn.ensures.turned

@@ -13,5 +13,5 @@ returns-in-Some c =
     let v = c.in-Some.ensures.value in
     IfOk-weaker c.turn_scalar.result _ _
     (λ hit g. scalar_passed xs _ _ c.in-Some.collection.now c.turn_scalar.new.collection (last_is xs n c.in-Some.collection.now e h v)
-    (last_set xs n c.in-Some.collection.now e h v c.turn_scalar.new.collection) (key_value c.args.scalar) hit g)
+    (last_set xs n c.in-Some.collection.now e h v c.turn_scalar.new.collection) _ _ (key_value c.args.scalar) hit g)
     c.turn_scalar.ensures

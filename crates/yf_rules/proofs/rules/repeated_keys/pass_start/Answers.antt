@@ -7,6 +7,6 @@ use Rattle.yf_rules.proofs.KeyPassLemmas.{start_passed}
 use Rattle.yf_rules.proofs.rules.repeated_keys.pass_start.Goals as goal
 
 pub returns : goal.returns
-returns c = λ st h.
-    start_passed c.pass_node.new.stack.items c.push.new.self.items (record { is_map = c.args.is_map; at_value = false; keys = c.new.result }) c.args.is_map (after None st) c.in_ok-push.ensures.items
-    (record { same_kind = refl; same_turn = refl; same_keys = λ k. ap (λ (ks : List Key). list_any (is_at (key_cmp k)) ks) c.new.ensures.empty }) (c.pass_node.ensures st h)
+returns c = λ ks st e h.
+    start_passed c.pass_node.new.stack.items c.push.new.self.items (record { is_map = c.args.is_map; at_value = false; first = c.args.first; more = c.new.result }) c.args.is_map ks (after None st) c.in_ok-push.ensures.items e
+    (record { same_kind = refl; same_turn = refl; same_keys = λ k. ap (λ (ks : List Key). list_any (is_at (key_cmp k)) ks) c.new.ensures.empty }) (c.pass_node.ensures ks st h)
