@@ -8,20 +8,20 @@ use Rattle.yf_emit.specs.declared.form.places.Place.{Place}
 use Rattle.yf_emit.specs.declared.form.measure.Measure.{Measure}
 use Rattle.yf_emit.specs.Deciding.{Given, next_place, next_stack}
 
-last_level : (x : Level) (xs : List Level) → (zs : List Level) × (y : Level) × (x ∷ xs ≡ zs ++ (y ∷ []))
-last_level x [] = ([], x, refl)
-last_level x (z ∷ zs) = let s = last_level z zs in (x ∷ s.0, s.1, ap (λ w. x ∷ w) s.2)
+last_one : {A : Type 0} (x : A) (xs : List A) → (zs : List A) × (y : A) × (x ∷ xs ≡ zs ++ (y ∷ []))
+last_one x [] = ([], x, refl)
+last_one x (z ∷ zs) = let s = last_one z zs in (x ∷ s.0, s.1, ap (λ w. x ∷ w) s.2)
 
 -- the others, and the stack with that level changed
-pub record Top (xs : List Level) (n : ℕ) (o : Level) : Type 0 where
-  pub others : List Level
+pub record Top {A : Type 0} (xs : List A) (n : ℕ) (o : A) : Type 0 where
+  pub others : List A
   pub is : reverse xs ≡ o ∷ others
-  pub changed : (w : Level) → reverse (set xs (n - 1) w) ≡ w ∷ others
+  pub changed : (w : A) → reverse (set xs (n - 1) w) ≡ w ∷ others
 
-pub top : (xs : List Level) (n : ℕ) (o : Level) → n ≡ length xs → 0 < n → o ≡ get_or xs (n - 1) o → Top xs n o
+pub top : {A : Type 0} (xs : List A) (n : ℕ) (o : A) → n ≡ length xs → 0 < n → o ≡ get_or xs (n - 1) o → Top xs n o
 top [] n o l p g = absurd (omega arith)
 top (x ∷ xs) n o l p g =
-    let s = last_level x xs in
+    let s = last_one x xs in
     let long : length (x ∷ xs) ≡ length s.0 + 1 = ap length s.2 ∙ length-append s.0 (s.1 ∷ []) in
     let last : n - 1 ≡ length s.0 = omega (arith, l, long) in
     let same : o ≡ s.1 =

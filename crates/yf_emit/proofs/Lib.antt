@@ -8,6 +8,7 @@ pub mod WhiteLemmas
 pub mod GapLemmas
 -- `measure_all`: how wide each node is
 pub mod LevelLemmas
+pub mod SpotLemmas
 pub mod OffsetLemmas
 pub mod SumLemmas
 pub mod EndedLemmas

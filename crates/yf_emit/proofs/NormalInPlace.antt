@@ -66,7 +66,7 @@ drop_edited f [] i = refl
 drop_edited f (e ∷ es) zero = refl
 drop_edited f (e ∷ es) (suc i) = drop_edited f es i
 
-some_is : {X : Type 0} {x y : X} → Some x ≡ Some y → x ≡ y
+pub some_is : {X : Type 0} {x y : X} → Some x ≡ Some y → x ≡ y
 some_is h = cc
 
 take_edited : (f : Placed → Placed) (es : List Placed) (i : ℕ) (x : Placed) → slice_get es i ≡ Some x
@@ -89,7 +89,7 @@ found (x ∷ es) (suc i) v e = let f = found es i v e in record { placed = f.pla
 -- one more event, of a list in which those before it are in their normal form
 pub step_in_place : (q : Quotes) (ms : List Measure) (fs : List Form) (es after all : List Placed) (i u v : ℕ) (event : EventValue) (m : Measure) (g : Form)
     (b : Bool) (s : ScalarStyle) → slice_get (map (λ e. e.event) es) i ≡ Some event → m ≡ get_or ms i no_measure → g ≡ get_or fs i no_form
-    → v ≡ kept_until u m g → b ≡ is_flow_at i v m → s ≡ wanted_of_event event q → after ≡ edited (formed b s) i es
+    → v ≡ kept_until u m g → ((q : Quotes) → restyled_event q b event ≡ restyled_event q (is_flow_at i v m) event) → s ≡ wanted_of_event event q → after ≡ edited (formed b s) i es
     → take i es ++ normal_from q ms i u (drop i fs) (drop i es) ≡ all
     → take (i + 1) after ++ normal_from q ms (i + 1) v (drop (i + 1) fs) (drop (i + 1) after) ≡ all
 step_in_place q ms fs es after all i u v event m g b s at k n w c styles is before =
@@ -100,8 +100,10 @@ step_in_place q ms fs es after all i u v event m g b s at k n w c styles is befo
     (ap (λ n. take n (edited (formed b s) i es)) next ∙ take_edited (formed b s) es i x.placed x.at)
     ∙ ap (λ w. (take i es ++ formed b s x.placed ∷ []) ++ normal_from q ms (i + 1) v (drop (i + 1) fs) w)
     (ap (λ n. drop n (edited (formed b s) i es)) next ∙ drop_edited (formed b s) es i ∙ ap (λ n. drop n es) (sym next))
-    ∙ pass_step q ms fs es i u v x.placed m g b (take i es) (formed b s x.placed) x.at k n w c
-    (ap (λ s. formed b s x.placed) (styles ∙ ap (λ e. wanted_of_event e q) (sym x.is)) ∙ formed_restyled q b x.placed)
+    ∙ pass_step q ms fs es i u v x.placed m g (is_flow_at i v m) (take i es) (formed b s x.placed) x.at k n w refl
+    (ap (λ s. formed b s x.placed) (styles ∙ ap (λ e. wanted_of_event e q) (sym x.is)) ∙ formed_restyled q b x.placed
+    ∙ ap (λ w. record x.placed { event = w; folded = lines_of w x.placed.folded })
+    (ap (restyled_event q b) x.is ∙ c q ∙ ap (restyled_event q (is_flow_at i v m)) (sym x.is)))
     ∙ before
 
 pub same_long : (f : Placed → Placed) (es after : List Placed) (i : ℕ) → after ≡ edited f i es → length after ≡ length es

@@ -1,15 +1,17 @@
 //! The normal form of a reading: each scalar in the style, and each collection in the form, that the house style gives it.
-ghost use Rattle.std.specs.Prelude.{◌≡◌, IfErr, IfOk};
+ghost use Rattle.std.specs.Prelude.{◌≡◌, get_or, IfErr, IfOk};
 ghost use Rattle.yf_events.specs.Content.{content_of};
 ghost use Rattle.yf_events.specs.Event.{event_value};
 ghost use Rattle.yf_events.specs.Nested.{IsStream};
 ghost use Rattle.yf_events.specs.Reading.{events_of};
 ghost use Rattle.yf_events.specs.declared.reading.TheConstants.{DEPTH};
 ghost use Rattle.yf_emit.specs.Normal.{Normal};
-ghost use Rattle.yf_emit.specs.NormalEvents.{normal_from};
-ghost use Rattle.yf_emit.specs.Restyled.{IsRestyled};
+ghost use Rattle.yf_emit.specs.NormalEvents.{is_flow_at, normal_from};
+ghost use Rattle.yf_emit.specs.Measures.{no_measure};
+ghost use Rattle.yf_emit.specs.Restyled.{IsRestyled, restyled_event};
 ghost use Rattle.yf_emit.specs.Textual.{IsTextual};
 ghost use Rattle.yf_emit.specs.Wanted.{wanted_of_event};
+ghost use Rattle.yf_lines.specs.declared.quotes.Quotes.{Quotes};
 
 pub mod copies;
 
@@ -39,6 +41,19 @@ fn style_of(event: Event, quotes: Quotes) -> ScalarStyle
     }
 }
 
+/// Whether the collection that the event begins stands between brackets: where it is empty, or before the end of a collection on one
+/// line. Of any other event the answer says nothing.
+#[inline(always)]
+fn flow_of(event: Event, measures: &Measures, i: usize, kept_until: usize) -> bool
+    ensures { (quotes : Quotes) → restyled_event quotes result (event_value event.entry)
+        ≡ restyled_event quotes (is_flow_at i kept_until (get_or measures.now i no_measure)) (event_value event.entry) }
+{
+    match event {
+        Event::Scalar { .. } => false,
+        _ => measures.at(i).is_leaf(i) || i < kept_until,
+    }
+}
+
 /// Puts the events into their normal form. A collection is written between brackets where it is empty, or kept, or stands in a kept
 /// one. After a refusal the events are of no use.
 fn normalize<'a>(
@@ -52,11 +67,11 @@ fn normalize<'a>(
 {
     let mut kept_until = 0;
     for i in 0..events.len() {
-        let measure = measures.at(i);
         if forms.at(i).is_kept {
+            let measure = measures.at(i);
             kept_until = measure.last;
         }
-        let flow = measure.is_leaf(i) || i < kept_until;
+        let flow = flow_of(events.event(i), measures, i, kept_until);
         let wanted = style_of(events.event(i), style.quotes);
         events.set_form(alloc, i, flow, wanted)?;
     }

@@ -15,7 +15,7 @@ use crate::form::forms::Forms;
 use crate::form::measure::measure_normal;
 use crate::form::measures::Measures;
 use crate::print::leaves::push_leaf;
-use crate::print::looks::{entry_at, event_at};
+use crate::print::looks::event_at;
 use crate::print::output::Output;
 use crate::print::printer::{
     Awaited, Level, Page, Plan, Spot, begin_collection, next_document, next_spot,
@@ -105,13 +105,7 @@ impl Printer {
         ensures { OnOk result (state_of self.new ≡ Printing.node (work_on page.now) i (measure_at page.now i) (form_at page.now i)
             (placed_at page.now i) (state_of self.old)) }
     {
-        let spot = next_spot(
-            &mut self.output,
-            &mut self.levels,
-            page,
-            &page.plan.forms.at(i),
-            entry_at(page, i),
-        )?;
+        let spot = next_spot(&mut self.output, &mut self.levels, page, i)?;
         if page.plan.measures.at(i).is_leaf(i) {
             return self.leaf(page, i, spot);
         }

@@ -220,6 +220,7 @@ impl Output {
     }
 
     /// Prints the comments between two indices that do not trail, each on a line of its own at that column.
+    #[inline(always)]
     fn push_between(
         &mut self,
         comments: &[Comment],

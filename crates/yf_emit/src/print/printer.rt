@@ -1,17 +1,18 @@
 //! The printer between two events of a normal reading, and what it prints round nodes: documents, entries, and the
 //! beginning of block collections. Columns count from 0 here.
-ghost use Rattle.std.specs.Prelude.{◌≡◌, ◌++◌, ◌∷◌, ◌==◌, map, not, reverse, slice_get, OnOk, IfOk};
+ghost use Rattle.std.specs.Prelude.{◌<◌, ◌≡◌, ◌++◌, ◌∷◌, ◌==◌, false, length, map, not, reverse, slice_get, OnOk, IfOk};
 ghost use Rattle.std.specs.String.{string_bytes};
 ghost use Rattle.yf_props.specs.Props.{props_value};
 ghost use Rattle.yf_emit.specs.Drafts.{draft};
 ghost use Rattle.yf_emit.specs.Printing as Printing;
-ghost use Rattle.yf_emit.specs.Pages.{work_on};
+ghost use Rattle.yf_emit.specs.Pages.{form_at, placed_at, work_on};
 ghost use Rattle.yf_emit.specs.Printing.{level_of, levels_behind, marked, sign, space_text};
 ghost use Rattle.yf_emit.specs.Rows.{joined_words};
 
 use crate::form::decide::Form;
 use crate::form::forms::Forms;
 use crate::form::measures::Measures;
+use crate::print::looks::entry_at;
 use crate::print::output::Output;
 use crate::print::trails::Trails;
 use crate::style::Style;
@@ -195,34 +196,6 @@ fn begin_explicit_value(
     output.line.push(':')
 }
 
-/// Prints what stands before the node that comes next in a block collection.
-fn push_sign(
-    output: &mut Output,
-    page: &Page,
-    form: &Form,
-    entry: Option<Entry>,
-    level: &Level,
-) -> Result<(), AllocError>
-    ensures { OnOk result (draft output.new ≡ Printing.sign_in
-        (work_on page.now) form.now entry level.now.is_inline level.now.column level.now.awaited (draft output.old)) }
-{
-    match level.awaited {
-        Awaited::Item => {
-            begin_entry(output, page, level.is_inline, level.column, entry)?;
-            output.line.push('-')
-        }
-        Awaited::Key => {
-            begin_entry(output, page, level.is_inline, level.column, entry)?;
-            if form.is_implicit {
-                return Ok(());
-            }
-            output.line.push('?')
-        }
-        Awaited::Value => Ok(()),
-        Awaited::ExplicitValue(colon) => { begin_explicit_value(output, page, level.column, colon) }
-    }
-}
-
 /// The byte offset of the `:` after a key.
 fn colon_of(entry: Option<Entry>) -> Option<usize>
     ensures { result ≡ Printing.colon_of entry }
@@ -233,63 +206,77 @@ fn colon_of(entry: Option<Entry>) -> Option<usize>
     }
 }
 
-/// Where the node goes that comes next in a block collection.
-fn spot_in(form: &Form, level: &Level) -> Spot
-    ensures { result ≡ Printing.spot_in form.now level.now.column level.now.awaited }
+/// Prints what stands before the next node of a block collection, notes the node there, and answers where it goes. What the event
+/// at an index says of an entry is looked at where an item or a key begins.
+#[inline(always)]
+fn next_in(
+    output: &mut Output,
+    level: &mut Level,
+    page: &Page,
+    i: usize,
+) -> Result<Spot, AllocError>
+    requires { i < length page.now.reading.now.events }
+    ensures spot { IfOk result (λ spot. spot ≡ Printing.spot_in (form_at page.now i) level.old.column level.old.awaited) }
+    ensures printed { OnOk result (draft output.new ≡ Printing.sign_in (work_on page.now) (form_at page.now i)
+        (placed_at page.now i).entry level.old.is_inline level.old.column level.old.awaited (draft output.old)) }
+    ensures level { OnOk result (level.new ≡ record {
+      column = level.old.column;
+      awaited = Printing.awaited_behind (form_at page.now i) (placed_at page.now i).entry level.old.awaited;
+      is_inline = false;
+    }) }
 {
+    let column = level.column;
+    let is_inline = level.is_inline;
+    level.is_inline = false;
     match level.awaited {
-        Awaited::Key => {
-            if form.is_implicit {
-                return Spot::Key;
-            }
-            Spot::Behind(level.column)
+        Awaited::Item => {
+            begin_entry(output, page, is_inline, column, entry_at(page, i))?;
+            output.line.push('-')?;
+            Ok(Spot::Behind(column))
         }
-        Awaited::Value => Spot::Value(level.column),
-        Awaited::Item | Awaited::ExplicitValue(_) => Spot::Behind(level.column),
+        Awaited::Key => {
+            let entry = entry_at(page, i);
+            begin_entry(output, page, is_inline, column, entry)?;
+            if page.plan.forms.at(i).is_implicit {
+                level.awaited = Awaited::Value;
+                return Ok(Spot::Key);
+            }
+            level.awaited = Awaited::ExplicitValue(colon_of(entry));
+            output.line.push('?')?;
+            Ok(Spot::Behind(column))
+        }
+        Awaited::Value => {
+            level.awaited = Awaited::Key;
+            Ok(Spot::Value(column))
+        }
+        Awaited::ExplicitValue(colon) => {
+            level.awaited = Awaited::Key;
+            begin_explicit_value(output, page, column, colon)?;
+            Ok(Spot::Behind(column))
+        }
     }
 }
 
-/// What a block collection awaits after the node that comes next.
-fn awaited_behind(form: &Form, entry: Option<Entry>, awaited: Awaited) -> Awaited
-    ensures { result ≡ Printing.awaited_behind form.now entry awaited }
-{
-    match awaited {
-        Awaited::Item => Awaited::Item,
-        Awaited::Key => {
-            if form.is_implicit {
-                return Awaited::Value;
-            }
-            Awaited::ExplicitValue(colon_of(entry))
-        }
-        Awaited::Value | Awaited::ExplicitValue(_) => Awaited::Key,
-    }
-}
-
-/// Prints what stands before the next node, and answers where the node goes.
+/// Prints what stands before the node that the event at an index begins, and answers where the node goes.
+#[inline(always)]
 pub(crate) fn next_spot(
     output: &mut Output,
     levels: &mut Vec<Level>,
     page: &Page,
-    form: &Form,
-    entry: Option<Entry>,
+    i: usize,
 ) -> Result<Spot, AllocError>
-    ensures spot { IfOk result (λ spot. spot ≡ Printing.spot form.now (reverse levels.old.items)) }
-    ensures printed { OnOk result (draft output.new ≡ sign (work_on page.now) form.now entry (reverse levels.old.items)
-        (draft output.old)) }
-    ensures levels { OnOk result (reverse levels.new.items ≡ levels_behind form.now entry (reverse levels.old.items)) }
+    requires { i < length page.now.reading.now.events }
+    ensures spot { IfOk result (λ spot. spot ≡ Printing.spot (form_at page.now i) (reverse levels.old.items)) }
+    ensures printed { OnOk result (draft output.new ≡ sign (work_on page.now) (form_at page.now i) (placed_at page.now i).entry
+        (reverse levels.old.items) (draft output.old)) }
+    ensures levels { OnOk result (reverse levels.new.items ≡ levels_behind (form_at page.now i) (placed_at page.now i).entry
+        (reverse levels.old.items)) }
 {
-    match levels.pop() {
-        Some(level) => {
-            push_sign(output, page, form, entry, &level)?;
-            levels.push(Level {
-                column: level.column,
-                awaited: awaited_behind(form, entry, level.awaited),
-                is_inline: false,
-            })?;
-            Ok(spot_in(form, &level))
-        }
-        None => Ok(Spot::Root),
+    let count = levels.len();
+    if count > 0 {
+        return next_in(output, &mut levels[count - 1], page, i);
     }
+    Ok(Spot::Root)
 }
 
 /// Prints what stands before the properties of a block collection, or before its entries where it has none.
