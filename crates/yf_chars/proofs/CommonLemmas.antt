@@ -9,7 +9,7 @@ use Rattle.yf_chars.specs.Common.{AreCommon, is_common}
 use Rattle.yf_chars.specs.Escape.{is_by_two, is_by_four, short_name, spelled}
 use Rattle.yf_chars.proofs.EscapeLemmas.{spelled_none, spelled_self}
 
-common_below : (c : ℕ) → is_common c ≡ true → c < 128
+pub common_below : (c : ℕ) → is_common c ≡ true → c < 128
 unfolding is_common is_between
 common_below c e = grind (arith, nat_tests)
 
@@ -25,11 +25,11 @@ common_not_by_four : (c : ℕ) → is_common c ≡ true → is_by_four c ≡ fal
 unfolding is_common is_between is_by_four
 common_not_by_four c e = grind (arith, nat_tests)
 
-none_there : (o : Option ℕ) → is_some o ≡ false → o ≡ None
+pub none_there : (o : Option ℕ) → is_some o ≡ false → o ≡ None
 none_there None e = refl
 none_there (Some x) e = absurd (true≢false e)
 
-common_spelled : (c : ℕ) → is_common c ≡ true → spelled c ≡ c ∷ []
+pub common_spelled : (c : ℕ) → is_common c ≡ true → spelled c ≡ c ∷ []
 common_spelled c e = spelled_none c (none_there (short_name c) (common_no_letter c e)) ∙ spelled_self c (common_not_by_two c e) (common_not_by_four c e)
 
 common_ascii : (t : List ℕ) → AreCommon t → IsAscii t

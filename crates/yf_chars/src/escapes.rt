@@ -276,10 +276,10 @@ fn upper_digit(digit: u32) -> char
     char::from(b'A' + (digit - 10) as u8)
 }
 
-// Whether it is an ASCII character that is spelled by itself, as most are. Lower-case letters take two tests.
+/// Whether it is an ASCII character that is spelled by itself, as most are. Lower-case letters take two tests.
 #[inline(always)]
 #[tactic(auto, unfolding(crate::specs::Common::is_common, crate::specs::Class::is_between))]
-fn is_common(byte: u8) -> bool
+pub fn is_common(byte: u8) -> bool
     ensures { result ≡ is_common byte }
 {
     if byte < b']' {

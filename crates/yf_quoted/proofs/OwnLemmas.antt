@@ -1,5 +1,5 @@
 -- Characters that are spelled by themselves are written in runs.
-use Rattle.std.proofs.Common.{◌≡◌, ℕ, ◌+◌, ◌-◌, ◌<◌, ◌≤◌, true, false, List, [], ◌∷◌, ◌++◌, Option, Some, None, refl, sym, ap, ◌∙◌, subst, arith, append_assoc, append-nil, get_or, length, take, drop, chars, flat_map, encode_utf8, encode_utf8_all, true≢false}
+use Rattle.std.proofs.Common.{◌≡◌, ℕ, ◌+◌, ◌-◌, ◌<◌, ◌≤◌, true, false, List, [], ◌∷◌, ◌++◌, refl, sym, ap, ◌∙◌, subst, arith, append_assoc, append-nil, get_or, length, take, drop, chars, flat_map, encode_utf8, encode_utf8_all}
 use Rattle.std.specs.Prelude.{is_some}
 use Rattle.std.proofs.lemmas.Bool.Decides.{nat_tests}
 use Rattle.std.proofs.lemmas.Grind.{flat_map-append}
@@ -11,26 +11,11 @@ use Rattle.yf_chars.specs.Class.{is_between}
 use Rattle.yf_chars.specs.Common.{is_common}
 use Rattle.yf_chars.specs.Escape.{is_by_two, is_by_four, short_name, spelled}
 use Rattle.yf_chars.specs.Text.{code, Reads}
+use Rattle.yf_chars.proofs.CommonLemmas.{common_below, common_spelled, none_there}
 use Rattle.yf_chars.proofs.EscapeLemmas.{spelled_none, spelled_self}
 use Rattle.yf_chars.proofs.TextLemmas.{reads_ascii}
 use Rattle.yf_lines.proofs.ClearLemmas.{Spelled, spelled_nothing, spelled_join, spelled_char, spelled_slice}
 use Rattle.yf_quoted.specs.Own.{OwnAt, OwnRun}
-
-common_below : (c : ℕ) → is_common c ≡ true → c < 128
-unfolding is_common is_between
-common_below c e = grind (arith, nat_tests)
-
-common_no_letter : (c : ℕ) → is_common c ≡ true → is_some (short_name c) ≡ false
-unfolding is_common is_between short_name
-common_no_letter c e = grind (arith, nat_tests)
-
-common_not_by_two : (c : ℕ) → is_common c ≡ true → is_by_two c ≡ false
-unfolding is_common is_between is_by_two
-common_not_by_two c e = grind (arith, nat_tests)
-
-common_not_by_four : (c : ℕ) → is_common c ≡ true → is_by_four c ≡ false
-unfolding is_common is_between is_by_four
-common_not_by_four c e = grind (arith, nat_tests)
 
 wide_no_letter : (c : ℕ) → 160 < c → is_some (short_name c) ≡ false
 unfolding short_name
@@ -39,10 +24,6 @@ wide_no_letter c l = grind (arith, nat_tests)
 wide_not_by_two : (c : ℕ) → 160 < c → is_by_two c ≡ false
 unfolding is_between is_by_two
 wide_not_by_two c l = grind (arith, nat_tests)
-
-none_there : (o : Option ℕ) → is_some o ≡ false → o ≡ None
-none_there None e = refl
-none_there (Some x) e = absurd (true≢false e)
 
 pub wide_spelled : (c : ℕ) → 160 < c → is_by_four c ≡ false → spelled c ≡ c ∷ []
 wide_spelled c l e = spelled_none c (none_there (short_name c) (wide_no_letter c l)) ∙ spelled_self c (wide_not_by_two c l) e
@@ -55,7 +36,7 @@ common_at t i u l e =
     let o : is_common c ≡ true = ap is_common r.char ∙ e in
     record {
       reads = subst (λ c. Reads t i c (i + 1)) (sym r.char) r;
-      self = spelled_none c (none_there (short_name c) (common_no_letter c o)) ∙ spelled_self c (common_not_by_two c o) (common_not_by_four c o);
+      self = common_spelled c o;
     }
 
 pub wide_at : {t : List ℕ} {i c j : ℕ} → Reads t i c j → spelled c ≡ c ∷ [] → OwnAt t i j

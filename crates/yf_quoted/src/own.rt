@@ -1,25 +1,12 @@
 //! Characters that are spelled by themselves in double quotes, in runs. Offsets count bytes.
 ghost use Rattle.std.specs.Prelude.{◌≡◌, ◌∷◌, [], ◌+◌, ◌≤◌, true, IfSome, IsCharBoundary};
-ghost use Rattle.yf_chars.specs.Common.{is_common};
 ghost use Rattle.yf_chars.specs.Escape.{spelled};
 ghost use Rattle.yf_quoted.specs.Own.{OwnAt, OwnRun};
 
-use yf_chars::escapes::is_by_four;
+use yf_chars::escapes::{is_by_four, is_common};
 use yf_chars::text::peek;
 
-// Whether the ASCII character is one. Most are lower-case letters, which take two tests.
-#[tactic(auto, unfolding(yf_chars::specs::Common::is_common, yf_chars::specs::Class::is_between))]
-#[inline(always)]
-fn is_common(byte: u8) -> bool
-    ensures { result ≡ is_common byte }
-{
-    if byte < b']' {
-        return matches!(byte, b' ' | b'!' | b'#'..=b'[');
-    }
-    byte <= b'~'
-}
-
-// Whether such an ASCII character begins at the offset.
+// Whether an ASCII character that is one begins at the offset.
 #[inline(always)]
 fn common_stands(text: &str, at: usize) -> bool
     ensures { result ≡ true → OwnAt text.now at (at + 1) }

@@ -10,7 +10,7 @@ ghost use Rattle.yf_emit.specs.OneLine.{anchor_text, props_text, tag_text, width
 ghost use Rattle.yf_props.specs.Props.{name_value, optional_tag_value, props_value, tag_value};
 ghost use Rattle.yf_quoted.specs.Written.{double_bytes, single_bytes, twice};
 
-use yf_chars::escapes::{are_common, is_by_four, is_by_two};
+use yf_chars::escapes::{are_common, is_by_four, is_by_two, is_common};
 use yf_events::event::ScalarStyle;
 use yf_props::props::{Props, Tag};
 
@@ -52,17 +52,20 @@ fn is_by_letter(c: char) -> bool
 /// Whether it is an ASCII character that is spelled by itself, as most are.
 #[inline(always)]
 #[tactic(auto, unfolding(yf_chars::specs::Common::is_common, yf_chars::specs::Class::is_between))]
-fn is_common(c: char) -> bool
+fn is_common_char(c: char) -> bool
     ensures { result ≡ is_common c }
 {
-    matches!(c, '#'..='[' | ']'..='~' | ' ' | '!')
+    if c > '~' {
+        return false;
+    }
+    is_common(c as u8)
 }
 
 /// How many characters the spelling of one has in double quotes.
 fn spelled_width(c: char) -> usize
     ensures { result ≡ length (spelled c) }
 {
-    if is_common(c) {
+    if is_common_char(c) {
         return 1;
     }
     if is_by_letter(c) {

@@ -3,8 +3,8 @@ use Rattle.yf_emit.proofs.CommonWidths.{common_width}
 use Rattle.yf_emit.proofs.WidthLemmas.{by_letter, by_two, by_four, by_itself}
 use Rattle.yf_emit.proofs.text.width.spelled_width.Goals as goal
 
-pub returns-then-is_common : goal.returns-then-is_common
-returns-then-is_common c = sym (common_width c.args.c (sym c.is_common.ensures ∙ c.if-is_common.true))
+pub returns-then-is_common_char : goal.returns-then-is_common_char
+returns-then-is_common_char c = sym (common_width c.args.c (sym c.is_common_char.ensures ∙ c.if-is_common_char.true))
 
 pub returns-then-is_by_letter : goal.returns-then-is_by_letter
 returns-then-is_by_letter c = sym (by_letter c.args.c (sym c.is_by_letter.ensures ∙ c.if-is_by_letter.true))
