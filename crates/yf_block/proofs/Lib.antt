@@ -28,7 +28,6 @@ pub mod ContentLines
 pub mod ContentMappings
 pub mod ContentEnds
 pub mod LeafEnds
-pub mod NextBreaks
 pub mod ScalarLines
 pub mod TiedScalar
 pub mod ContentSteps

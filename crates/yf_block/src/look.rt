@@ -1,7 +1,6 @@
 //! Tests of what stands at a place of a block node, and walks that read nothing.
-ghost use Rattle.std.specs.Prelude.{◌≡◌, ◌≢◌, ◌+◌, ◌-◌, ◌<◌, ◌≤◌, true, false, ℕ, IfSome, MatchBool, MatchOption};
+ghost use Rattle.std.specs.Prelude.{◌≡◌, ◌≢◌, ◌+◌, ◌-◌, ◌<◌, ◌≤◌, true, ℕ, IfSome, MatchBool, MatchOption};
 ghost use Rattle.std.specs.Str.{IsCharBoundary};
-ghost use Rattle.yf_chars.specs.Class.{is_break_char};
 ghost use Rattle.yf_chars.specs.Text.{code};
 ghost use Rattle.yf_lines.specs.Basic.{Break};
 ghost use Rattle.yf_comments.specs.Comments.{Blank};
@@ -14,13 +13,12 @@ ghost use Rattle.yf_block.specs.InlineAnswers.{KeyEnds};
 ghost use Rattle.yf_block.specs.LastStarts.{LastStartIs};
 ghost use Rattle.yf_block.specs.Looks.{EntryPlace, LineEndsAt, NotWithinBreak};
 
-use memchr::memchr2;
 use yf_chars::classes::is_ns_char;
 use yf_chars::text::{peek, stands};
 use yf_flow::look::is_key_line;
 use yf_lines::basic::{
-    break_ends, is_forbidden_at, line_break, mark_ends, mark_stands, skip_spaces, skip_whites,
-    white_or_end_stands, white_stands,
+    break_ends, is_forbidden_at, line_break, mark_ends, mark_stands, next_break, skip_spaces,
+    skip_whites, white_or_end_stands, white_stands,
 };
 
 /// Whether the `-` of an entry stands there (c-l-block-seq-entry, production 184).
@@ -239,18 +237,4 @@ pub(crate) fn skip_lines(text: &str, at: usize, count: usize) -> usize
         }
     }
     place
-}
-
-// The first place from the offset on where a character of a line break stands, or the end of the text.
-fn next_break(text: &str, at: usize) -> usize
-    requires { IsCharBoundary text.now at }
-    ensures boundary { IsCharBoundary text.now result }
-    ensures order { at ≤ result }
-    ensures quiet { (h : ℕ) → at ≤ h → h < result → is_break_char (code text.now h) ≡ false }
-{
-    let bytes = text.as_bytes();
-    match memchr2(b'\n', b'\r', &bytes[at..]) {
-        Some(count) => at + count,
-        None => bytes.len(),
-    }
 }

@@ -1,8 +1,9 @@
 -- What bytes tell of the ends and starts of lines.
 use Rattle.std.proofs.Common.{◌≡◌, ◌≢◌, ℕ, ◌+◌, ◌-◌, ◌<◌, ◌≤◌, true, false, ◌⊎◌, ⊎_elim, List, length, drop, take, get_or, sym, ap, ◌∙◌, subst, arith}
 use Rattle.std.proofs.lemmas.Bool.{cases_Bool}
+use Rattle.std.proofs.lemmas.Bool.Decides.{nat_tests}
 use Rattle.std.proofs.lemmas.List.{get_or-drop, length-drop, take_all}
-use Rattle.std.specs.Str.{IsUtf8}
+use Rattle.std.specs.Str.{IsCharBoundary, IsUtf8}
 use Rattle.memchr.specs.Find.{Nowhere, Passes, is_byte2}
 use Rattle.yf_chars.specs.Class.{is_break_char}
 use Rattle.yf_chars.specs.Text.{code}
@@ -21,6 +22,16 @@ break_behind t at k u l = ap (is_byte2 10 13) (get_or-drop at t k 0) ∙ break_b
 
 pub break_found : (t : List ℕ) (at k : ℕ) → IsUtf8 t → at + k < length t → Passes (is_byte2 10 13) (drop at t) k → is_break_char (code t (at + k)) ≡ true
 break_found t at k u l p = sym (break_behind t at k u l) ∙ p
+
+-- such a byte begins a character
+low_byte : (x : ℕ) → is_byte2 10 13 x ≡ true → x < 128
+low_byte x e = grind (arith, nat_tests)
+
+pub boundary_found : (t : List ℕ) (at k : ℕ) → at + k < length t → Passes (is_byte2 10 13) (drop at t) k → IsCharBoundary t (at + k)
+boundary_found t at k l p =
+    let b : get_or (drop at t) k 0 < 128 = low_byte (get_or (drop at t) k 0) p in
+    let e = get_or-drop at t k 0 in
+    (omega arith, λ (s : at + k < length t) (q : 128 ≤ get_or t (at + k) 0). absurd (omega (arith, b, e, q)))
 
 pub unbroken_from : (t : List ℕ) (at k : ℕ) → IsUtf8 t → at + k ≤ length t → Nowhere (Passes (is_byte2 10 13) (drop at t)) 0 k → Unbroken t at (at + k)
 unbroken_from t at k u l none = record {

@@ -1,13 +1,15 @@
 //! The basic structures that all readers share (YAML 1.2.2, 5.4 and 6.1 to 6.5): line breaks, white space, indentation, the
 //! start of a line and document markers. Offsets count bytes.
-ghost use Rattle.std.specs.Prelude.{◌≡◌, ◌≢◌, ◌+◌, ◌-◌, ◌<◌, ◌≤◌, ◌==◌, ℕ, Bool, true, false, List, length, IfSome, MatchOption, MatchBool, ⊤};
+ghost use Rattle.std.specs.Prelude.{◌≡◌, ◌≢◌, ◌+◌, ◌-◌, ◌<◌, ◌≤◌, ◌⊎◌, ◌==◌, ℕ, Bool, true, false, List, length, IfSome, MatchOption, MatchBool, ⊤};
 ghost use Rattle.std.specs.Str.{IsCharBoundary};
 ghost use Rattle.yf_chars.specs.Signs.{BYTE_ORDER_MARK, SPACE};
 ghost use Rattle.yf_chars.specs.Chain.{Many, Nowhere};
-ghost use Rattle.yf_chars.specs.Class.{is_white, is_white_or_end};
+ghost use Rattle.yf_chars.specs.Class.{is_break_char, is_white, is_white_or_end};
 ghost use Rattle.yf_chars.specs.Text.{code, Reads};
 ghost use Rattle.yf_lines.specs.Basic.{Break, LineStart, Spaces, Forbidden, is_marker, is_three};
+ghost use Rattle.yf_lines.specs.Lines.{Unbroken};
 
+use memchr::memchr2;
 use yf_chars::text::stands;
 
 /// Reads a line break (b-break, production 28): the offset after it, or `None` where no break begins.
@@ -31,6 +33,21 @@ pub fn line_break(s: &str, at: usize) -> Option<usize>
         return Some(at + 1);
     }
     None
+}
+
+/// The first offset from there on at which a character of a line break stands, or the end of the text.
+#[inline(always)]
+pub fn next_break(s: &str, at: usize) -> usize
+    requires { at ≤ length s.now }
+    ensures unbroken { Unbroken s.now at result }
+    ensures stops { (is_break_char (code s.now result) ≡ true) ⊎ (result ≡ length s.now) }
+    ensures boundary { IsCharBoundary s.now result }
+{
+    let bytes = s.as_bytes();
+    match memchr2(b'\n', b'\r', &bytes[at..]) {
+        Some(passed) => at + passed,
+        None => bytes.len(),
+    }
 }
 
 /// Whether a white (space or tab) begins at the offset.

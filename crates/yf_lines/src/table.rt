@@ -1,18 +1,15 @@
 //! The lines of a text, found once and kept.
-ghost use Rattle.std.specs.Prelude.{◌≡◌, ◌↔◌, ◌≢◌, ◌+◌, ◌-◌, ◌<◌, ◌≤◌, ◌⊎◌, ℕ, true, false, Some, List, [], ◌∷◌, length, slice_get, IfOk, IfSome, IsTrue, MatchBool};
+ghost use Rattle.std.specs.Prelude.{◌≡◌, ◌↔◌, ◌≢◌, ◌+◌, ◌-◌, ◌<◌, ◌≤◌, ℕ, true, false, Some, List, [], ◌∷◌, length, slice_get, IfOk, IfSome, IsTrue, MatchBool};
 ghost use Rattle.std.specs.Str.{IsCharBoundary};
 ghost use Rattle.yf_chars.specs.Chain.{Many};
-ghost use Rattle.yf_chars.specs.Class.{is_break_char};
-ghost use Rattle.yf_chars.specs.Text.{code};
 ghost use Rattle.yf_lines.specs.Basic.{LineStart, Forbidden, Clear};
 ghost use Rattle.yf_lines.specs.declared.line.Line.{Line};
-ghost use Rattle.yf_lines.specs.Lines.{AreLines, IsLine, IsCutAt, OneLine, Unbroken, Apart, Marks, IsForbiddenLine, PlaceOf, ColumnOf, is_char};
+ghost use Rattle.yf_lines.specs.Lines.{AreLines, IsLine, IsCutAt, OneLine, Apart, Marks, IsForbiddenLine, PlaceOf, ColumnOf, is_char};
 
-use crate::basic::{line_break, mark_stands, marker_stands, skip_spaces};
+use crate::basic::{line_break, mark_stands, marker_stands, next_break, skip_spaces};
 use crate::line::Line;
 use crate::place::Place;
 use crate::rows::{LineRow, line_at, lines_begun, row_of};
-use memchr::memchr2;
 use std::alloc::{AllocError, Global};
 use std::marker::Model;
 use yf_chars::text::peek;
@@ -205,7 +202,7 @@ fn read_line(text: &str, start: usize) -> Line
 {
     let past_spaces = skip_spaces(text, start);
     let indent = past_spaces - start;
-    let end = line_end(text, past_spaces);
+    let end = next_break(text, past_spaces);
     match line_break(text, end) {
         Some(next) => Line {
             start,
@@ -219,19 +216,5 @@ fn read_line(text: &str, start: usize) -> Line
             next: end,
             indent,
         },
-    }
-}
-
-// The offset of the first character of a break from there on, or the end of the text.
-#[inline(always)]
-fn line_end(text: &str, at: usize) -> usize
-    requires { at ≤ length text.now }
-    ensures unbroken { Unbroken text.now at result }
-    ensures stops { (is_break_char (code text.now result) ≡ true) ⊎ (result ≡ length text.now) }
-{
-    let bytes = text.as_bytes();
-    match memchr2(b'\n', b'\r', &bytes[at..]) {
-        Some(passed) => at + passed,
-        None => bytes.len(),
     }
 }
