@@ -12,3 +12,5 @@ pub mod ChainLemmas
 pub mod EscapeLemmas
 pub mod SpelledLemmas
 pub mod CommonLemmas
+-- bytes that are looked at 16 at once, in the crates above
+pub mod LaneLemmas

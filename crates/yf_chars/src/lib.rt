@@ -6,6 +6,7 @@ pub mod classes;
 pub mod context;
 pub mod error;
 pub mod escapes;
+pub mod lanes;
 pub mod nb_runs;
 pub mod runs;
 pub mod text;

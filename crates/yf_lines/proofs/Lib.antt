@@ -17,4 +17,4 @@ pub mod OutputLemmas
 pub mod RestLemmas
 pub mod VisibleLines
 -- `LineTable::build` and `is_line_start` by bytes
-mod SearchLemmas
+pub mod SearchLemmas

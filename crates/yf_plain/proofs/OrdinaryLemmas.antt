@@ -1,19 +1,22 @@
 -- Ordinary characters stand in plain scalars.
-use Rattle.std.proofs.Common.{◌≡◌, ◌≢◌, ℕ, ◌+◌, ◌<◌, ◌≤◌, ⊎_elim, true, false, List, refl, sym, ap, ◌∙◌, subst, arith, get_or, length}
+use Rattle.std.proofs.Common.{◌≡◌, ◌≢◌, ℕ, zero, suc, ◌+◌, ◌<◌, ◌≤◌, ⊎_elim, true, false, List, refl, sym, ap, ◌∙◌, subst, arith, get_or, length}
 use Rattle.std.proofs.lemmas.Bool.{cases_Bool, true≢false}
 use Rattle.std.proofs.lemmas.Bool.Decides.{nat_tests}
-use Rattle.std.specs.Str.{IsUtf8}
+use Rattle.std.specs.Str.{IsCharBoundary, IsUtf8}
 use Rattle.yf_chars.specs.declared.context.Ctx.{Ctx}
 use Rattle.yf_chars.specs.declared.context.Ctx.TheVariants.{BlockOut, BlockIn, FlowOut, FlowIn, BlockKey, FlowKey}
 use Rattle.yf_chars.specs.Class.{is_indicator, is_ns_char, is_nb_char, is_printable, is_between, is_break_char, is_white, is_plain_safe, is_flow_indicator}
-use Rattle.yf_chars.specs.Text.{code, Reads}
+use Rattle.yf_chars.specs.Lanes.{LaneRun}
+use Rattle.yf_chars.specs.Text.{before, code, Reads}
+use Rattle.yf_chars.proofs.ChainLemmas.{chain_more}
 use Rattle.yf_chars.proofs.TextLemmas.{reads_ascii}
+use Rattle.yf_chars.specs.Chain.{Chain}
 use Rattle.yf_chars.specs.Chain.Chain.{done}
 use Rattle.yf_lines.specs.Basic.{is_block}
 use Rattle.yf_lines.proofs.ClearLemmas.{not_forbidden}
 use Rattle.yf_plain.specs.Ordinary.{is_ordinary, EndAt, LetterAt, OrdinaryAt}
-use Rattle.yf_plain.specs.Plain.{is_sign}
-use Rattle.yf_plain.proofs.PlainLemmas.{plain_other, plain_colon, first_other, char_first, safe_is_ns, item_stuck}
+use Rattle.yf_plain.specs.Plain.{is_sign, PlainItem}
+use Rattle.yf_plain.proofs.PlainLemmas.{plain_other, plain_colon, first_other, char_first, safe_is_ns, item_stuck, item_found, plain_is_ns}
 
 ordinary_below : (c : ℕ) → is_ordinary c ≡ true → c < 128
 unfolding is_ordinary is_between
@@ -53,6 +56,35 @@ ordinary_at t i u l e =
       reads = subst (λ c. Reads t i c (i + 1)) (sym r.char) r;
       plain = λ c n. plain_other t c i (ordinary_no_colon (code t i) o) (ordinary_no_sign (code t i) o) ∙ ordinary_safe (code t i) c o n;
     }
+
+-- such characters up to j, after a character of content
+pub record OrdinaryRun (t : List ℕ) (c : Ctx) (i j : ℕ) : Type 0 where
+  pub reads : (x : List ℕ) × Chain (PlainItem t c) i j x
+  pub behind : is_ns_char (before t j) ≡ true
+  pub boundary : IsCharBoundary t j
+
+run_more : {t : List ℕ} {c : Ctx} {i j : ℕ} → is_block c ≡ false → OrdinaryRun t c i j → OrdinaryAt t j → OrdinaryRun t c i (j + 1)
+run_more {t} {c} {j = j} n r o =
+    let e = o.plain c n in
+    record {
+      reads = (_, chain_more r.reads.1 (item_found done e o.reads).1);
+      behind = ap is_ns_char o.reads.back ∙ plain_is_ns t c j e;
+      boundary = o.reads.boundary;
+    }
+
+run_on : (t : List ℕ) (c : Ctx) (i n : ℕ) → IsUtf8 t → is_block c ≡ false → i + n ≤ length t
+    → ((k : ℕ) → i ≤ k → k < i + n → is_ordinary (get_or t k 0) ≡ true) → OrdinaryRun t c i i → OrdinaryRun t c i (i + n)
+run_on t c i zero u b w p r = subst (λ j. OrdinaryRun t c i j) (omega arith) r
+run_on t c i (suc n) u b w p r =
+    let here : OrdinaryRun t c i (i + n) = run_on t c i n u b (omega arith) (λ k l m. p k l (omega arith)) r in
+    let next : i + n + 1 ≡ i + suc n = omega arith in
+    subst (λ j. OrdinaryRun t c i j) next (run_more b here (ordinary_at t (i + n) u (omega arith) (p (i + n) (omega arith) (omega arith))))
+
+pub run_found : (t b : List ℕ) (c : Ctx) (i n : ℕ) → b ≡ t → IsUtf8 t → is_block c ≡ false → i + 16 ≤ length t → LaneRun is_ordinary b i n
+    → is_ns_char (before t i) ≡ true → IsCharBoundary t i → OrdinaryRun t c i (i + n)
+run_found t b c i n e u f w r a z =
+    let few = r.few in
+    run_on t c i n u f (omega arith) (λ k l m. sym (ap (λ v. is_ordinary (get_or v k 0)) e) ∙ r.pass k l m) (record { reads = (_, done); behind = a; boundary = z })
 
 -- of a byte that is a letter or a digit
 letter_no_sign : (c : ℕ) → 48 ≤ c → is_ordinary c ≡ true → is_sign c ≡ false

@@ -1,7 +1,10 @@
 //! Characters of which one test tells what they are to a plain scalar. Offsets count bytes.
-ghost use Rattle.std.specs.Prelude.{◌≡◌, true};
+ghost use Rattle.std.specs.Prelude.{◌≡◌, ◌+◌, ◌≤◌, length, true};
+ghost use Rattle.yf_chars.specs.Lanes.{LaneRun};
 ghost use Rattle.yf_plain.specs.Ordinary.{is_ordinary, EndAt, LetterAt, OrdinaryAt};
 
+use std::simd::prelude::*;
+use yf_chars::lanes::lanes_before;
 use yf_chars::text::stands;
 
 // Whether the ASCII character may stand in a plain scalar, whatever stands beside it. Most are lower-case letters, which take two
@@ -27,6 +30,21 @@ pub(crate) fn ordinary_stands(s: &str, at: usize) -> bool
         return is_ordinary(bytes[at]);
     }
     false
+}
+
+/// How many such characters stand at the offset, of 16 bytes.
+#[inline(always)]
+pub(crate) fn ordinary_lanes(bytes: &[u8], at: usize) -> usize
+    requires { at + 16 ≤ length bytes.now }
+    ensures { LaneRun is_ordinary bytes.now at result }
+{
+    let lanes = u8x16::from_slice(&bytes[at..]);
+    let from_letter = (lanes | u8x16::splat(0x20)) - u8x16::splat(b'a');
+    let from_dash = lanes - u8x16::splat(b'-');
+    let others = from_letter.simd_ge(u8x16::splat(26))
+        & from_dash.simd_ge(u8x16::splat(13))
+        & lanes.simd_ne(u8x16::splat(b'_'));
+    lanes_before(others.to_bitmask())
 }
 
 /// Whether a letter or a digit stands there, which may begin a plain scalar.

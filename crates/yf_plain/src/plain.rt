@@ -11,7 +11,7 @@ ghost use Rattle.yf_lines.specs.Text.{text_bytes};
 ghost use Rattle.yf_plain.specs.Plain as P;
 ghost use Rattle.yf_plain.specs.Plain.{is_plain_first, is_plain_char, is_sign, Plain, PlainItem, PlainLine, PlainFront, NoNextLine};
 
-use crate::ordinary::{end_stands, letter_stands, ordinary_stands};
+use crate::ordinary::{end_stands, letter_stands, ordinary_lanes, ordinary_stands};
 use std::alloc::{AllocError, Global};
 use yf_chars::classes::{is_indicator, is_ns_char, is_plain_safe};
 use yf_chars::context::Ctx;
@@ -233,8 +233,8 @@ fn plain_in_line(s: &str, at: usize, ctx: Ctx) -> usize
     }
 }
 
-// The offset after all ordinary characters that stand there after a character of content; in block contexts, in which no scalar
-// stands, none is looked for.
+// The offset after ordinary characters that stand there after a character of content: after all, or where a letter begins 16
+// bytes after all of these. In block contexts, in which no scalar stands, none is looked for.
 #[inline(always)]
 fn ordinary_run(s: &str, at: usize, ctx: Ctx) -> usize
     requires boundary { IsCharBoundary s.now at }
@@ -246,6 +246,12 @@ fn ordinary_run(s: &str, at: usize, ctx: Ctx) -> usize
 {
     if is_block(ctx) {
         return at;
+    }
+    let bytes = s.as_bytes();
+    if bytes.len() - at >= 16 {
+        if bytes[at] > b':' {
+            return at + ordinary_lanes(bytes, at);
+        }
     }
     let mut end = at;
     while ordinary_stands(s, end) {

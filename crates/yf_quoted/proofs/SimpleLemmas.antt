@@ -1,16 +1,22 @@
 -- Ordinary characters stand for themselves, and runs of them are read at once.
-use Rattle.std.proofs.Common.{◌≡◌, ◌≢◌, ℕ, ◌+◌, ◌<◌, ◌≤◌, false, true, List, [], ◌∷◌, ◌++◌, Option, refl, sym, ap, ◌∙◌, subst, arith, get_or, length, encode_utf8_all, slice_range}
+use Rattle.std.proofs.Common.{◌≡◌, ◌≢◌, ℕ, zero, suc, ◌+◌, ◌-◌, ◌<◌, ◌≤◌, false, true, List, [], ◌∷◌, ◌++◌, Option, refl, sym, ap, ◌∙◌, subst, arith, get_or, length, encode_utf8_all, slice_range}
 use Rattle.std.proofs.lemmas.Bool.Decides.{nat_tests}
-use Rattle.std.specs.Str.{IsUtf8}
+use Rattle.std.specs.Str.{IsCharBoundary, IsUtf8}
 use Rattle.yf_chars.specs.Class.{is_white, is_nb_json, is_between}
 use Rattle.yf_chars.specs.Chain.{Chain, Many}
 use Rattle.yf_chars.specs.Chain.Chain.{done}
+use Rattle.yf_chars.specs.Common.{is_common}
+use Rattle.yf_chars.specs.Lanes.{LaneRun}
 use Rattle.yf_chars.specs.Text.{code, Reads}
 use Rattle.yf_chars.proofs.ChainLemmas.{chain_append, chain_more, many_more}
+use Rattle.yf_chars.proofs.CommonLemmas.{common_below}
 use Rattle.yf_chars.proofs.TextLemmas.{reads_ascii}
+use Rattle.yf_lines.specs.Basic.{Forbidden}
+use Rattle.yf_lines.proofs.SearchLemmas.{no_start_behind}
 use Rattle.yf_lines.proofs.BasicLemmas.{clear_join}
 use Rattle.yf_lines.proofs.ClearLemmas.{clear_whites, not_forbidden, Spelled, spelled_nothing, spelled_join, spelled_char, spelled_whites, spelled_slice}
-use Rattle.yf_quoted.specs.Body.{Step, DoubleBreaks, Simple}
+use Rattle.yf_quoted.specs.Body.{Step, DoubleBreaks, Simple, SimpleChar}
+use Rattle.yf_quoted.specs.Body.SimpleChar.{simply}
 use Rattle.yf_quoted.specs.Body.Gap.{by_whites}
 use Rattle.yf_quoted.specs.Ordinary.{is_ordinary, Words}
 use Rattle.yf_quoted.specs.Quoted.{DoubleChar, goods, text_of}
@@ -55,6 +61,75 @@ ordinary_at t i u l e =
       reads = subst (λ c. Reads t i c (i + 1)) (sym r.char) r;
       allowed = not_forbidden t i (ordinary_no_dash (code t i) o) (ordinary_no_dot (code t i) o);
     }
+
+-- of bytes that are ASCII characters other than " and \, of which the first is one: after such a byte no line starts
+common_json : (c : ℕ) → is_common c ≡ true → is_nb_json c ≡ true
+unfolding is_common is_between is_nb_json
+common_json c e = grind (arith, nat_tests)
+
+common_no_backslash : (c : ℕ) → is_common c ≡ true → c ≢ 92
+unfolding is_common is_between
+common_no_backslash c e q = grind (arith, nat_tests)
+
+common_no_quote : (c : ℕ) → is_common c ≡ true → c ≢ 34
+unfolding is_common is_between
+common_no_quote c e q = grind (arith, nat_tests)
+
+common_from : (c : ℕ) → is_common c ≡ true → 32 ≤ c
+unfolding is_common is_between
+common_from c e = grind (arith, nat_tests)
+
+common_upto : (c : ℕ) → is_common c ≡ true → c ≤ 126
+unfolding is_common is_between
+common_upto c e = grind (arith, nat_tests)
+
+common_at : (t : List ℕ) (i : ℕ) → IsUtf8 t → i < length t → is_common (get_or t i 0) ≡ true → (Forbidden t i → ⊥) → Simple t i (i + 1)
+common_at t i u l e f =
+    let r = reads_ascii t i u l (common_below (get_or t i 0) e) in
+    let o : is_common (code t i) ≡ true = ap is_common r.char ∙ e in
+    record {
+      json = common_json (code t i) o;
+      no_backslash = common_no_backslash (code t i) o;
+      no_quote = common_no_quote (code t i) o;
+      reads = subst (λ c. Reads t i c (i + 1)) (sym r.char) r;
+      allowed = f;
+    }
+
+pub record SimpleRun (t : List ℕ) (i j : ℕ) : Type 0 where
+  pub reads : (x : List ℕ) × Chain (SimpleChar t) i j x
+  pub boundary : IsCharBoundary t j
+
+simple_more : {t : List ℕ} {i j : ℕ} → SimpleRun t i j → Simple t j (j + 1) → SimpleRun t i (j + 1)
+simple_more r s = record { reads = (_, chain_more r.reads.1 (simply s)); boundary = s.reads.boundary }
+
+module _ (t : List ℕ) (i : ℕ) (u : IsUtf8 t) (first : is_ordinary (get_or t i 0) ≡ true) where
+  allowed_on : (n : ℕ) → i + n < length t → ((k : ℕ) → i ≤ k → k < i + n → is_common (get_or t k 0) ≡ true) → Forbidden t (i + n) → ⊥
+  allowed_on zero l p f =
+      let same : i + 0 ≡ i = omega arith in
+      (ordinary_at t i u (omega arith) first).allowed (subst (λ k. Forbidden t k) same f)
+  allowed_on (suc n) l p f =
+      let same : i + suc n - 1 ≡ i + n = omega arith in
+      let last = ap (λ k. get_or t k 0) same in
+      let c = p (i + n) (omega arith) (omega arith) in
+      let low = common_from (get_or t (i + n) 0) c in
+      let high = common_upto (get_or t (i + n) 0) c in
+      no_start_behind t (i + suc n) u (λ z. omega arith) (omega arith) (omega (arith, last, low)) (omega (arith, last, high)) f.start
+
+  run_on : (n : ℕ) → i + n ≤ length t → ((k : ℕ) → i ≤ k → k < i + n → is_common (get_or t k 0) ≡ true) → SimpleRun t i i → SimpleRun t i (i + n)
+  run_on zero w p r = subst (λ j. SimpleRun t i j) (omega arith) r
+  run_on (suc n) w p r =
+      let before : (k : ℕ) → i ≤ k → k < i + n → is_common (get_or t k 0) ≡ true = λ k l m. p k l (omega arith) in
+      let here : SimpleRun t i (i + n) = run_on n (omega arith) before r in
+      let next : i + n + 1 ≡ i + suc n = omega arith in
+      subst (λ j. SimpleRun t i j) next
+      (simple_more here (common_at t (i + n) u (omega arith) (p (i + n) (omega arith) (omega arith)) (allowed_on n (omega arith) before)))
+
+pub run_found : (t b : List ℕ) (i n : ℕ) → b ≡ t → IsUtf8 t → i + 16 ≤ length t → is_ordinary (get_or b i 0) ≡ true → LaneRun is_common b i n → IsCharBoundary t i
+    → SimpleRun t i (i + n)
+run_found t b i n e u w f r z =
+    let few = r.few in
+    run_on t i u (sym (ap (λ v. is_ordinary (get_or v i 0)) e) ∙ f) n (omega arith) (λ k l m. sym (ap (λ v. is_common (get_or v k 0)) e) ∙ r.pass k l m)
+    (record { reads = (_, done); boundary = z })
 
 -- the words so far
 pub record WordsSoFar (t : List ℕ) (i j : ℕ) : Type 0 where

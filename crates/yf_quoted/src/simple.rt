@@ -1,10 +1,14 @@
 //! Characters that stand for themselves in double quotes, one by one and in runs. Offsets count bytes.
-ghost use Rattle.std.specs.Prelude.{◌≡◌, ◌+◌, ◌<◌, ◌≤◌, ℕ, Bool, true, List, IfSome, IsCharBoundary, MatchOption};
+ghost use Rattle.std.specs.Prelude.{◌≡◌, ◌+◌, ◌<◌, ◌≤◌, ℕ, Bool, true, List, IfSome, IsCharBoundary, MatchOption, length};
 ghost use Rattle.yf_chars.specs.Chain.{Chain};
+ghost use Rattle.yf_chars.specs.Common.{is_common};
+ghost use Rattle.yf_chars.specs.Lanes.{LaneRun};
 ghost use Rattle.yf_quoted.specs.Body.{Simple, NoSimple, SimpleChar};
 ghost use Rattle.yf_quoted.specs.Ordinary.{is_ordinary, Words};
 
+use std::simd::prelude::*;
 use yf_chars::classes::is_nb_json;
+use yf_chars::lanes::lanes_before;
 use yf_chars::text::peek;
 use yf_lines::basic::{is_forbidden_at, white_stands};
 
@@ -32,7 +36,22 @@ fn ordinary_stands(s: &str, at: usize) -> bool
     false
 }
 
-// The offset after all such characters that stand there.
+// How many ASCII characters other than `"` and `\` stand at the offset, of 16 bytes.
+#[inline(always)]
+fn common_lanes(bytes: &[u8], at: usize) -> usize
+    requires { at + 16 ≤ length bytes.now }
+    ensures { LaneRun is_common bytes.now at result }
+{
+    let lanes = u8x16::from_slice(&bytes[at..]);
+    let from_space = lanes - u8x16::splat(b' ');
+    let others = from_space.simd_ge(u8x16::splat(95))
+        | lanes.simd_eq(u8x16::splat(b'"'))
+        | lanes.simd_eq(u8x16::splat(b'\\'));
+    lanes_before(others.to_bitmask())
+}
+
+// The offset after such characters that stand there: after all, or where one begins 16 bytes after all of these, among which - and .
+// may stand then.
 #[inline(always)]
 pub(crate) fn ordinary_run(s: &str, at: usize) -> usize
     requires { IsCharBoundary s.now at }
@@ -40,6 +59,13 @@ pub(crate) fn ordinary_run(s: &str, at: usize) -> usize
     ensures boundary { IsCharBoundary s.now result }
     ensures order { at ≤ result }
 {
+    let bytes = s.as_bytes();
+    if bytes.len() - at >= 16 {
+        if is_ordinary(bytes[at]) {
+            return at + common_lanes(bytes, at);
+        }
+        return at;
+    }
     let mut end = at;
     while ordinary_stands(s, end) {
         end += 1;

@@ -2,11 +2,27 @@ use Rattle.std.proofs.Common.{arith, ap, ◌∙◌, sym}
 use Rattle.yf_chars.specs.Chain.Chain.{done}
 use Rattle.yf_chars.specs.Class.{is_ns_char}
 use Rattle.yf_chars.proofs.ChainLemmas.{chain_more}
+use Rattle.yf_plain.proofs.OrdinaryLemmas.{run_found}
 use Rattle.yf_plain.proofs.PlainLemmas.{item_found, plain_is_ns}
 use Rattle.yf_plain.proofs.plain.ordinary_run.Goals as goal
 
 pub returns-then-is_block-clause-reads : goal.returns-then-is_block-clause-reads
 returns-then-is_block-clause-reads c = (_, done)
+
+pub returns-then-bytes-at-gt58-clause-reads : goal.returns-then-bytes-at-gt58-clause-reads
+returns-then-bytes-at-gt58-clause-reads c =
+    (run_found c.args.s.now c.as_bytes-bytes.result.now c.args.ctx c.args.at _ c.as_bytes-bytes.ensures.value c.utf8.s (sym c.is_block.ensures ∙ c.if-is_block.false)
+    (omega (arith, c.as_bytes-bytes.ensures.len)) c.ordinary_lanes.ensures c.requires.behind c.requires.boundary).reads
+
+pub returns-then-bytes-at-gt58-clause-behind : goal.returns-then-bytes-at-gt58-clause-behind
+returns-then-bytes-at-gt58-clause-behind c =
+    (run_found c.args.s.now c.as_bytes-bytes.result.now c.args.ctx c.args.at _ c.as_bytes-bytes.ensures.value c.utf8.s (sym c.is_block.ensures ∙ c.if-is_block.false)
+    (omega (arith, c.as_bytes-bytes.ensures.len)) c.ordinary_lanes.ensures c.requires.behind c.requires.boundary).behind
+
+pub returns-then-bytes-at-gt58-clause-boundary : goal.returns-then-bytes-at-gt58-clause-boundary
+returns-then-bytes-at-gt58-clause-boundary c =
+    (run_found c.args.s.now c.as_bytes-bytes.result.now c.args.ctx c.args.at _ c.as_bytes-bytes.ensures.value c.utf8.s (sym c.is_block.ensures ∙ c.if-is_block.false)
+    (omega (arith, c.as_bytes-bytes.ensures.len)) c.ordinary_lanes.ensures c.requires.behind c.requires.boundary).boundary
 
 pub loop-end-init : goal.loop-end-init
 loop-end-init c = record { flowing = sym c.is_block.ensures ∙ c.if-is_block.false; so_far = (_, done); behind = c.requires.behind; boundary = c.requires.boundary; order = omega arith }
