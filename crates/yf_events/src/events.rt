@@ -122,15 +122,16 @@ impl<'a> Events<'a> {
         folded_of(more_in(self.more.as_slice(), self.rows[i].more))
     }
 
-    /// The first index from `start` on whose event may name something, or how many events there are: what comes before it begins no
-    /// document and no node with an anchor or a tag, and is no alias.
+    /// The first index from `start` on whose event names something, or how many events there are. An event that begins a document, or a
+    /// node with an anchor or a tag, names something, and so does an alias.
     #[inline(always)]
     pub fn naming_from(&self, start: usize) -> usize
         requires { start ≤ length self.now }
         ensures within { (start ≤ result) × (result ≤ length self.now) }
         ensures silent { (k : ℕ) → start ≤ k → k < result → NothingAt self.now k }
+        ensures ends { NothingAt self.now result → ⊥ }
     {
-        naming_from(self.rows.as_slice(), start)
+        naming_from(self.rows.as_slice(), self.more.as_slice(), start)
     }
 
     /// Moves all events of another list to the end.
