@@ -1,4 +1,5 @@
 pub mod Alike
+pub mod BareScalar
 pub mod Content
 pub mod Edit
 pub mod Event

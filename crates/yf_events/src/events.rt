@@ -6,7 +6,7 @@ use crate::packed::{
     More, PackedRow, entry_of, event_of, folded_of, keyed, more_in, naming_from, shift, span_of,
     tag_of, view_of,
 };
-use crate::packing::{narrow, narrow_entry, row_of};
+use crate::packing::{narrow, narrow_entry, row_of, scalar_row};
 use crate::relined::{formed, is_folded, relined};
 use std::alloc::{AllocError, Global};
 use std::marker::Model;
@@ -32,6 +32,7 @@ impl<'a> Model for Events<'a> {
 }
 
 impl<'a> Events<'a> {
+    ghost use Rattle.yf_events.specs.BareScalar.{bare_scalar};
     ghost use Rattle.yf_events.specs.Edit.{edited, ended, coloned};
     ghost use Rattle.yf_events.specs.Formed.{formed};
     ghost use Rattle.yf_events.specs.Silent.{NothingAt};
@@ -54,6 +55,24 @@ impl<'a> Events<'a> {
         ensures { self.new ≡ (if is_ok result then self.old ++ placed_value event.entry ∷ [] else self.old) }
     {
         let row = row_of(&mut self.more, event)?;
+        self.rows.push(row)?;
+        Ok(())
+    }
+
+    /// Adds a scalar without properties at the end, whose text is a slice of the source, with the part of the text that it has, and the
+    /// entry that it begins.
+    #[inline(always)]
+    pub fn push_scalar(
+        &mut self,
+        style: ScalarStyle,
+        text: &'a str,
+        start: usize,
+        end: usize,
+        entry: Option<Entry>,
+    ) -> Result<(), AllocError>
+        ensures { self.new ≡ (if is_ok result then self.old ++ bare_scalar style text.now start end entry ∷ [] else self.old) }
+    {
+        let row = scalar_row(style, text, start, end, entry)?;
         self.rows.push(row)?;
         Ok(())
     }
