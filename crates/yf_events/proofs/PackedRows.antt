@@ -241,6 +241,13 @@ event_seen more lent rows vs i r m e l is seen same at event =
     seen_at (λ w. w.event) more rows vs i r l is seen
     ∙ ap Some (sym (event ∙ ap (λ w. shape_value r.shape (props_in w) (text_in w r.text.now)) (at ∙ ap (λ w. more_at w r.more) same)))
 
+-- of a row that has nothing in the table
+pub alone_seen : (more : List More) (rows : List PackedRow) (vs : List Placed) (i : ℕ) (r : PackedRow) → i < length vs → r ≡ get_or rows i r
+    → map (row_value more) rows ≡ vs → r.more ≡ 0 → slice_get (map (λ w. w.event) vs) i ≡ Some (shape_value r.shape no_props r.text.now)
+alone_seen more rows vs i r l is seen alone =
+    seen_at (λ w. w.event) more rows vs i r l is seen
+    ∙ ap (λ n. Some (shape_value r.shape (props_in (more_at more n)) (text_in (more_at more n) r.text.now))) alone
+
 pub tag_seen : (more lent : List More) (rows : List PackedRow) (vs : List Placed) (i : ℕ) (r : PackedRow) (m : Option More) (tag : Option TagValue) → i < length vs
     → r ≡ get_or rows i r → map (row_value more) rows ≡ vs → lent ≡ more → m ≡ more_at lent r.more → tag ≡ written_tag (shape_value r.shape (props_in m) (text_in m r.text.now))
     → slice_get (map (λ w. written_tag w.event) vs) i ≡ Some tag

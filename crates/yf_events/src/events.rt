@@ -1,10 +1,10 @@
 //! Lists of events.
-ghost use Rattle.std.specs.Prelude.{◌≡◌, ℕ, ◌<◌, ◌≤◌, [], ◌∷◌, ◌++◌, drop, take, length, map, slice_get, if◌then◌else◌, is_ok};
+ghost use Rattle.std.specs.Prelude.{◌≡◌, ℕ, ◌<◌, ◌≤◌, [], ◌∷◌, ◌++◌, drop, take, length, map, slice_get, if◌then◌else◌, is_ok, IfSome};
 
 use crate::event::{Entry, Event, PlacedEvent, ScalarStyle, Span, View};
 use crate::packed::{
-    More, PackedRow, entry_of, event_of, folded_of, keyed, more_in, naming_from, shift, span_of,
-    tag_of, view_of,
+    More, PackedRow, Shape, entry_of, event_of, folded_of, keyed, more_in, naming_from, shift,
+    span_of, tag_of, view_of,
 };
 use crate::packing::{narrow, narrow_entry, row_of, scalar_row};
 use crate::relined::{formed, is_folded, relined};
@@ -35,9 +35,10 @@ impl<'a> Events<'a> {
     ghost use Rattle.yf_events.specs.BareScalar.{bare_scalar};
     ghost use Rattle.yf_events.specs.Edit.{edited, ended, coloned};
     ghost use Rattle.yf_events.specs.Formed.{formed};
+    ghost use Rattle.yf_events.specs.Packed.{shape_value};
     ghost use Rattle.yf_events.specs.Silent.{NothingAt};
     ghost use Rattle.yf_events.specs.Tags.{written_tag};
-    ghost use Rattle.yf_props.specs.Props.{optional_tag_value};
+    ghost use Rattle.yf_props.specs.Props.{no_props, optional_tag_value};
     ghost use Rattle.yf_events.specs.Event.{event_value, placed_value, view_value, with_entry};
 
     pub fn new(alloc: Global) -> Events<'a>
@@ -102,6 +103,19 @@ impl<'a> Events<'a> {
     {
         let row = &self.rows[i];
         event_of(row, more_in(self.more.as_slice(), row.more))
+    }
+
+    /// The kind of the event at an index and its text, where it has nothing in the table.
+    #[inline(always)]
+    pub(crate) fn alone(&self, i: usize) -> Option<(Shape, &str)>
+        requires { i < length self.now }
+        ensures { IfSome result (λ a. slice_get (map (λ e. e.event) self.now) i ≡ Some (shape_value a.0 no_props a.1.now)) }
+    {
+        let row = &self.rows[i];
+        if row.more == 0 {
+            return Some((row.shape, row.text));
+        }
+        None
     }
 
     /// The tag of the node that the event at an index begins, as it is written.
