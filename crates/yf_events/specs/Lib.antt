@@ -12,6 +12,7 @@ pub mod Pieces
 pub mod Plain
 pub mod Puts
 pub mod Reading
+pub mod Shapes
 pub mod Silent
 pub mod Tags
 pub mod Tree
