@@ -1,15 +1,17 @@
 -- Rows and their table: a table that has grown changes nothing of the rows before it.
-use Rattle.std.proofs.Common.{◌≡◌, ℕ, zero, suc, ◌+◌, ◌<◌, ◌≤◌, Bool, true, false, List, [], ◌∷◌, ◌++◌, Option, Some, None, length, map, take, drop, get_or, refl, sym, ap, ◌∙◌, subst, arith, length-append}
+use Rattle.std.proofs.Common.{◌≡◌, ℕ, zero, suc, ◌+◌, ◌<◌, ◌≤◌, Bool, true, false, List, [], ◌∷◌, ◌++◌, Option, Some, None, length, map, take, drop, get_or, refl, sym, ap, ◌∙◌, subst, arith, append-nil, length-append}
 use Rattle.std.proofs.Math.ListN.{set}
 use Rattle.std.specs.Prelude.{slice_get}
 use Rattle.std.proofs.lemmas.Option.{slice_get_within}
 use Rattle.std.proofs.lemmas.List.{map-append, take-map, drop-map, length-map}
-use Rattle.yf_events.specs.Event.{EventValue, Placed, with_entry}
+use Rattle.yf_events.specs.BareScalar.{bare_scalar}
+use Rattle.yf_events.specs.Event.{EventValue, Placed, scalar_node, with_entry}
 use Rattle.yf_events.specs.Edit.{edited, span_to, with_colon}
 use Rattle.yf_events.specs.Packed.{Grown, Kept, kept_none, kept_at, Lacks, RowOf, RowsFit, entry_at, folded_in, keyed, more_at, moved_on, props_in, row_value, row_with, shape_value, shifted, span_at, text_in, text_or}
 use Rattle.yf_events.specs.Tags.{written_tag}
-use Rattle.yf_props.specs.Props.{PropsValue, TagValue}
+use Rattle.yf_props.specs.Props.{PropsValue, TagValue, no_props}
 use Rattle.yf_events.specs.declared.event.Entry.{Entry}
+use Rattle.yf_events.specs.declared.event.ScalarStyle.{ScalarStyle}
 use Rattle.yf_events.specs.declared.event.Span.{Span}
 use Rattle.yf_events.specs.declared.packed.Begins.{Begins}
 use Rattle.yf_events.specs.declared.packed.Begins.TheVariants.{Nothing, Item, ItemAfterBlank, Keyed, KeyedAfterBlank}
@@ -57,6 +59,10 @@ grown_rows old new (r ∷ rows) g f =
 pub grown_seen : (old new : List More) (rows : List PackedRow) (vs : List Placed) → Grown old new → RowsFit old rows
     → map (row_value old) rows ≡ vs → map (row_value new) rows ≡ vs
 grown_seen old new rows vs g f seen = grown_rows old new rows g f ∙ seen
+
+-- a table that stays
+pub same_table : (more : List More) → Grown more more
+same_table more = record { added = []; is = sym (append-nil more) }
 
 -- parts of rows that fit
 
@@ -235,6 +241,13 @@ event_seen more lent rows vs i r m e l is seen same at event =
     seen_at (λ w. w.event) more rows vs i r l is seen
     ∙ ap Some (sym (event ∙ ap (λ w. shape_value r.shape (props_in w) (text_in w r.text.now)) (at ∙ ap (λ w. more_at w r.more) same)))
 
+-- of a row that has nothing in the table
+pub alone_seen : (more : List More) (rows : List PackedRow) (vs : List Placed) (i : ℕ) (r : PackedRow) → i < length vs → r ≡ get_or rows i r
+    → map (row_value more) rows ≡ vs → r.more ≡ 0 → slice_get (map (λ w. w.event) vs) i ≡ Some (shape_value r.shape no_props r.text.now)
+alone_seen more rows vs i r l is seen alone =
+    seen_at (λ w. w.event) more rows vs i r l is seen
+    ∙ ap (λ n. Some (shape_value r.shape (props_in (more_at more n)) (text_in (more_at more n) r.text.now))) alone
+
 pub tag_seen : (more lent : List More) (rows : List PackedRow) (vs : List Placed) (i : ℕ) (r : PackedRow) (m : Option More) (tag : Option TagValue) → i < length vs
     → r ≡ get_or rows i r → map (row_value more) rows ≡ vs → lent ≡ more → m ≡ more_at lent r.more → tag ≡ written_tag (shape_value r.shape (props_in m) (text_in m r.text.now))
     → slice_get (map (λ w. written_tag w.event) vs) i ≡ Some tag
@@ -295,3 +308,8 @@ pub placed_is : (event event' : EventValue) (span span' : Option Span) (entry en
     → placed event span tag_offset entry folded ≡ placed event' span' tag_offset entry' folded
 placed_is event event' span span' entry entry' tag_offset folded a b c =
     ap (λ w. placed w span tag_offset entry folded) a ∙ ap (λ w. placed event' w tag_offset entry folded) b ∙ ap (λ w. placed event' span' tag_offset w folded) c
+
+pub scalar_made : (style : ScalarStyle) (text : List ℕ) (a b start end : ℕ) (entry entry' : Option Entry) → a ≡ start → b ≡ end → entry ≡ entry'
+    → placed (scalar_node no_props style text) (span_at true a b) None entry [] ≡ bare_scalar style text start end entry'
+scalar_made style text a b start end entry entry' p q e =
+    placed_is _ _ _ _ _ _ None [] refl (ap (λ w. span_at true w b) p ∙ ap (λ w. span_at true start w) q) e

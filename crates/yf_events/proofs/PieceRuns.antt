@@ -3,9 +3,9 @@ use Rattle.std.proofs.Common.{ℕ, zero, suc, arith, refl, Some, ◌+◌, ◌<�
 use Rattle.std.specs.List.{flat_map, zip}
 use Rattle.std.specs.Prelude.{slice_get}
 use Rattle.std.proofs.lemmas.List.{length-map}
-use Rattle.std.proofs.lemmas.Option.{same_Some}
+use Rattle.std.proofs.lemmas.Option.{same_Some, slice_get-get_or}
 use Rattle.yf_lines.specs.Output.{Wrote}
-use Rattle.yf_events.specs.Event.{EventValue}
+use Rattle.yf_events.specs.Event.{EventValue, stream_starts}
 use Rattle.yf_events.specs.Notation.{event_line, notation, notation_of}
 use Rattle.yf_events.specs.Reading.{events_of}
 use Rattle.yf_events.specs.declared.lists.Lists.{Lists}
@@ -46,6 +46,10 @@ unfolding notation
 next_event old new before after text r i e tag p q progress =
     let cut : drop i (zip (events_of r) r.resolved) ≡ (e, tag) ∷ drop (i + 1) (zip (events_of r) r.resolved) = rw add-one (zip_at (events_of r) r.resolved i e tag p q) in
     subst (Progress old new before after text) (ap notation cut) progress
+
+-- what is left once the line of the event at an index is written
+pub there_is_event : (r : Lists) (i : ℕ) → i < length r.events → slice_get (events_of r) i ≡ Some (get_or (events_of r) i stream_starts)
+there_is_event r i l = slice_get-get_or (events_of r) i stream_starts (omega (arith, l, length-map r.events (λ e. e.event)))
 
 pub no_event : (old new : Option (List ℕ)) (before after : Bool) (text : List ℕ) (r : Lists) (i : ℕ) → length r.events ≤ i
     → Progress old new before after text (notation (drop i (zip (events_of r) r.resolved))) → Wrote old new before after text

@@ -3,6 +3,8 @@ use Rattle.std.proofs.Common.{◌≡◌, ℕ, ◌++◌, Bool, true, false, List,
 use Rattle.std.proofs.KnownBytes.{Appends-trans}
 use Rattle.yf_lines.specs.Output.{Wrote}
 use Rattle.yf_lines.proofs.OutputLemmas.{broke_second}
+use Rattle.yf_events.specs.Event.{EventValue}
+use Rattle.yf_events.specs.Notation.{event_line}
 use Rattle.yf_events.specs.Puts.{Puts}
 
 -- one text written, and then another
@@ -18,3 +20,8 @@ puts_second old mid new before between after text more false p q = broke_second 
 pub puts_same : (old new : Option (List ℕ)) (before after : Bool) (text same : List ℕ) (done : Bool) → text ≡ same
     → Puts old new before after text done → Puts old new before after same done
 puts_same old new before after text same done e p = subst (λ t. Puts old new before after t done) e p
+
+-- the line of an event that is the same
+pub puts_line : (old new : Option (List ℕ)) (before after : Bool) (e same : EventValue) (tag : Option (List ℕ)) (done : Bool) → e ≡ same
+    → Puts old new before after (event_line e tag) done → Puts old new before after (event_line same tag) done
+puts_line old new before after e same tag done is p = subst (λ w. Puts old new before after (event_line w tag) done) is p

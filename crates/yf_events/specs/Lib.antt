@@ -1,4 +1,5 @@
 pub mod Alike
+pub mod BareScalar
 pub mod Content
 pub mod Edit
 pub mod Event
@@ -11,6 +12,7 @@ pub mod Pieces
 pub mod Plain
 pub mod Puts
 pub mod Reading
+pub mod Shapes
 pub mod Silent
 pub mod Tags
 pub mod Tree

@@ -1,7 +1,9 @@
 -- Events that name nothing: they begin no document, and no node with an anchor or a tag, and are no alias.
-use Rattle.std.specs.Prelude.{◌≡◌, ℕ, Bool, true, false, List, Option, Some, map, slice_get}
+use Rattle.std.specs.Prelude.{◌≡◌, ℕ, Bool, true, false, List, Some, map, slice_get}
 use Rattle.yf_props.specs.Props.{no_props}
 use Rattle.yf_events.specs.Event.{EventValue, Placed, stream_starts, stream_ends, document_starts, document_ends, sequence_starts, sequence_ends, mapping_starts, mapping_ends, scalar_node, alias_node}
+use Rattle.yf_events.specs.Packed.{more_at, props_in, shape_value, text_in}
+use Rattle.yf_events.specs.declared.packed.More.{More}
 use Rattle.yf_events.specs.declared.packed.PackedRow.{PackedRow}
 use Rattle.yf_events.specs.declared.packed.Shape.{Shape}
 use Rattle.yf_events.specs.declared.packed.Shape.TheVariants.{StreamStart, StreamEnd, DocStart, DocEnd, SeqStart, SeqEnd, MapStart, MapEnd, Scalar, Alias}
@@ -24,7 +26,7 @@ pub record NothingAt (es : List Placed) (i : ℕ) : Type 0 where
   pub there : slice_get (map (λ e. e.event) es) i ≡ Some event
   pub names : NamesNothing event
 
--- the same of a row: it needs nothing of the table, and its shape is none that names something by itself
+-- the same of a shape, where the node that it begins has no properties
 abbrev pub names_nothing : Shape → Bool
 names_nothing StreamStart = true
 names_nothing StreamEnd = true
@@ -37,11 +39,11 @@ names_nothing MapEnd = true
 names_nothing (Scalar style) = true
 names_nothing Alias = false
 
-pub record SilentRow (r : PackedRow) : Type 0 where
-  pub alone : r.more ≡ 0
-  pub shape : names_nothing r.shape ≡ true
+-- the same of a row
+abbrev pub SilentRow : List More → PackedRow → Type 0
+SilentRow more r = NamesNothing (shape_value r.shape (props_in (more_at more r.more)) (text_in (more_at more r.more) r.text.now))
 
-pub record SilentAt (rows : List PackedRow) (i : ℕ) : Type 0 where
+pub record SilentAt (more : List More) (rows : List PackedRow) (i : ℕ) : Type 0 where
   pub row : PackedRow
   pub there : slice_get rows i ≡ Some row
-  pub silent : SilentRow row
+  pub silent : SilentRow more row

@@ -4,6 +4,7 @@ ghost use Rattle.yf_chars.specs.Signs.{BACKSLASH};
 ghost use Rattle.yf_events.specs.Notation as Notation;
 ghost use Rattle.yf_lines.specs.Output.{Writes};
 
+use crate::plain::plain_runs;
 use yf_lines::fault::Fault;
 use yf_lines::output::write_text;
 use yf_lines::watched::Sink;
@@ -36,7 +37,7 @@ fn plain_len(bytes: &[u8]) -> usize
     ensures plain { (k : ℕ) → k < result → Notation.is_escaped (slice_index bytes.now k) ≡ false }
     ensures stop { result < length bytes.now → Notation.is_escaped (slice_index bytes.now result) ≡ true }
 {
-    for i in 0..bytes.len() {
+    for i in plain_runs(bytes)..bytes.len() {
         if is_escaped(bytes[i]) {
             return i;
         }

@@ -1,12 +1,12 @@
 //! Lists of events.
-ghost use Rattle.std.specs.Prelude.{◌≡◌, ℕ, ◌<◌, ◌≤◌, [], ◌∷◌, ◌++◌, drop, take, length, map, slice_get, if◌then◌else◌, is_ok};
+ghost use Rattle.std.specs.Prelude.{◌≡◌, ℕ, ◌<◌, ◌≤◌, [], ◌∷◌, ◌++◌, drop, take, length, map, slice_get, if◌then◌else◌, is_ok, IfSome};
 
 use crate::event::{Entry, Event, PlacedEvent, ScalarStyle, Span, View};
 use crate::packed::{
-    More, PackedRow, entry_of, event_of, folded_of, keyed, more_in, naming_from, shift, span_of,
-    tag_of, view_of,
+    More, PackedRow, Shape, entry_of, event_of, folded_of, keyed, more_in, naming_from, shift,
+    span_of, tag_of, view_of,
 };
-use crate::packing::{narrow, narrow_entry, row_of};
+use crate::packing::{narrow, narrow_entry, row_of, scalar_row};
 use crate::relined::{formed, is_folded, relined};
 use std::alloc::{AllocError, Global};
 use std::marker::Model;
@@ -32,11 +32,14 @@ impl<'a> Model for Events<'a> {
 }
 
 impl<'a> Events<'a> {
+    ghost use Rattle.yf_events.specs.BareScalar.{bare_scalar};
     ghost use Rattle.yf_events.specs.Edit.{edited, ended, coloned};
     ghost use Rattle.yf_events.specs.Formed.{formed};
+    ghost use Rattle.yf_events.specs.Packed.{shape_value};
+    ghost use Rattle.yf_events.specs.Shapes.{shape_of};
     ghost use Rattle.yf_events.specs.Silent.{NothingAt};
     ghost use Rattle.yf_events.specs.Tags.{written_tag};
-    ghost use Rattle.yf_props.specs.Props.{optional_tag_value};
+    ghost use Rattle.yf_props.specs.Props.{no_props, optional_tag_value};
     ghost use Rattle.yf_events.specs.Event.{event_value, placed_value, view_value, with_entry};
 
     pub fn new(alloc: Global) -> Events<'a>
@@ -54,6 +57,24 @@ impl<'a> Events<'a> {
         ensures { self.new ≡ (if is_ok result then self.old ++ placed_value event.entry ∷ [] else self.old) }
     {
         let row = row_of(&mut self.more, event)?;
+        self.rows.push(row)?;
+        Ok(())
+    }
+
+    /// Adds a scalar without properties at the end, whose text is a slice of the source, with the part of the text that it has, and the
+    /// entry that it begins.
+    #[inline(always)]
+    pub fn push_scalar(
+        &mut self,
+        style: ScalarStyle,
+        text: &'a str,
+        start: usize,
+        end: usize,
+        entry: Option<Entry>,
+    ) -> Result<(), AllocError>
+        ensures { self.new ≡ (if is_ok result then self.old ++ bare_scalar style text.now start end entry ∷ [] else self.old) }
+    {
+        let row = scalar_row(style, text, start, end, entry)?;
         self.rows.push(row)?;
         Ok(())
     }
@@ -83,6 +104,28 @@ impl<'a> Events<'a> {
     {
         let row = &self.rows[i];
         event_of(row, more_in(self.more.as_slice(), row.more))
+    }
+
+    /// What kind of event the one at an index is.
+    #[inline(always)]
+    pub(crate) fn shape(&self, i: usize) -> Shape
+        requires { i < length self.now }
+        ensures { slice_get (map (λ e. shape_of e.event) self.now) i ≡ Some result }
+    {
+        self.rows[i].shape
+    }
+
+    /// The kind of the event at an index and its text, where it has nothing in the table.
+    #[inline(always)]
+    pub(crate) fn alone(&self, i: usize) -> Option<(Shape, &str)>
+        requires { i < length self.now }
+        ensures { IfSome result (λ a. slice_get (map (λ e. e.event) self.now) i ≡ Some (shape_value a.0 no_props a.1.now)) }
+    {
+        let row = &self.rows[i];
+        if row.more == 0 {
+            return Some((row.shape, row.text));
+        }
+        None
     }
 
     /// The tag of the node that the event at an index begins, as it is written.
@@ -122,15 +165,16 @@ impl<'a> Events<'a> {
         folded_of(more_in(self.more.as_slice(), self.rows[i].more))
     }
 
-    /// The first index from `start` on whose event may name something, or how many events there are: what comes before it begins no
-    /// document and no node with an anchor or a tag, and is no alias.
+    /// The first index from `start` on whose event names something, or how many events there are. An event that begins a document, or a
+    /// node with an anchor or a tag, names something, and so does an alias.
     #[inline(always)]
     pub fn naming_from(&self, start: usize) -> usize
         requires { start ≤ length self.now }
         ensures within { (start ≤ result) × (result ≤ length self.now) }
         ensures silent { (k : ℕ) → start ≤ k → k < result → NothingAt self.now k }
+        ensures ends { NothingAt self.now result → ⊥ }
     {
-        naming_from(self.rows.as_slice(), start)
+        naming_from(self.rows.as_slice(), self.more.as_slice(), start)
     }
 
     /// Moves all events of another list to the end.

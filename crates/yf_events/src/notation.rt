@@ -1,15 +1,18 @@
 //! The notation of events: one line for each, as the YAML test suite writes them.
-ghost use Rattle.std.specs.Prelude.{◌≡◌, ◌<◌, length, slice_get, None, Some, [], ◌∷◌, codes};
+ghost use Rattle.std.specs.Prelude.{◌≡◌, ◌<◌, length, map, slice_get, None, Some, [], ◌∷◌, codes};
 ghost use Rattle.std.specs.List.{concat, flat_map};
-ghost use Rattle.yf_events.specs.Event.{event_value};
+ghost use Rattle.yf_events.specs.Event.{EventValue, event_value};
 ghost use Rattle.yf_events.specs.Notation as Notation;
+ghost use Rattle.yf_events.specs.Packed.{shape_value};
 ghost use Rattle.yf_events.specs.Pieces.{bare_head, bare_line, piece_bytes, scalar_line, start_line};
 ghost use Rattle.yf_events.specs.Puts.{Puts};
 ghost use Rattle.yf_lines.specs.Output.{Writes};
-ghost use Rattle.yf_props.specs.Props.{name_value};
+ghost use Rattle.yf_props.specs.Props.{name_value, no_props};
 
 use crate::escapes::write_escaped;
 use crate::event::{Event, ScalarStyle};
+use crate::events::Events;
+use crate::packed::Shape;
 use crate::puts::{put_escaped, put_text, put_texts};
 use crate::reading::Reading;
 use yf_lines::fault::Fault;
@@ -171,21 +174,8 @@ fn put_scalar<'x, W: Sink>(
     )
 }
 
-// Writes the line of the start of a collection without properties.
-#[inline(always)]
-fn put_bare_start<W: Sink>(writer: &mut W, name: &str) -> bool
-    ensures { Puts (W.contents writer.old) (W.contents writer.new) (W.has_failed writer.old) (W.has_failed writer.new)
-        (start_line name.now None None) result }
-{
-    if !put_text(writer, name.as_bytes()) {
-        return false;
-    }
-    put_text(writer, b"\n")
-}
-
-// Writes the line of the start of a collection with an anchor or a tag.
-#[inline(never)]
-fn put_marked_start<'x, W: Sink>(
+// Writes the line of the start of a collection.
+fn put_start<'x, W: Sink>(
     writer: &mut W,
     name: &'x str,
     anchor: Option<&'x str>,
@@ -205,23 +195,6 @@ fn put_marked_start<'x, W: Sink>(
     )
 }
 
-// Writes the line of the start of a collection.
-#[inline(always)]
-fn put_start<'x, W: Sink>(
-    writer: &mut W,
-    name: &'x str,
-    anchor: Option<&'x str>,
-    tag: Option<&'x ResolvedTag<'x>>,
-) -> bool
-    ensures { Puts (W.contents writer.old) (W.contents writer.new) (W.has_failed writer.old) (W.has_failed writer.new)
-        (start_line name.now (name_value anchor.entry) (name_value tag.entry)) result }
-{
-    match (anchor, tag) {
-        (None, None) => put_bare_start(writer, name),
-        (anchor, tag) => put_marked_start(writer, name, anchor, tag),
-    }
-}
-
 // Writes a line of two parts.
 #[inline(never)]
 fn put_parts<'x, W: Sink>(writer: &mut W, first: &'x str, second: &'x str) -> bool
@@ -232,7 +205,7 @@ fn put_parts<'x, W: Sink>(writer: &mut W, first: &'x str, second: &'x str) -> bo
 }
 
 /// Writes the line of an event, with the resolved tag of the node that it begins, and tells whether that was done.
-#[inline(always)]
+#[inline(never)]
 #[tactic(auto, unfolding(crate::specs::Notation::event_line))]
 fn put_event<'x, W: Sink>(
     writer: &mut W,
@@ -268,6 +241,47 @@ fn put_event<'x, W: Sink>(
     }
 }
 
+// Writes the line of an event of this kind with this text and without properties, as most are.
+#[inline(always)]
+#[tactic(auto, unfolding(crate::specs::Notation::event_line))]
+fn put_alone<W: Sink>(writer: &mut W, shape: Shape, text: &str) -> bool
+    ensures { Puts (W.contents writer.old) (W.contents writer.new) (W.has_failed writer.old) (W.has_failed writer.new)
+        (Notation.event_line (shape_value shape no_props text.now) None) result }
+{
+    match shape {
+        Shape::Scalar { style } => put_bare_scalar(writer, style, text),
+        Shape::MapStart { flow: false } => put_text(writer, b"+MAP\n"),
+        Shape::MapStart { flow: true } => put_text(writer, b"+MAP {}\n"),
+        Shape::MapEnd => put_text(writer, b"-MAP\n"),
+        Shape::SeqStart { flow: false } => put_text(writer, b"+SEQ\n"),
+        Shape::SeqStart { flow: true } => put_text(writer, b"+SEQ []\n"),
+        Shape::SeqEnd => put_text(writer, b"-SEQ\n"),
+        Shape::StreamStart => put_text(writer, b"+STR\n"),
+        Shape::StreamEnd => put_text(writer, b"-STR\n"),
+        Shape::DocStart { explicit: false } => put_text(writer, b"+DOC\n"),
+        Shape::DocStart { explicit: true } => put_text(writer, b"+DOC ---\n"),
+        Shape::DocEnd { explicit: false } => put_text(writer, b"-DOC\n"),
+        Shape::DocEnd { explicit: true } => put_text(writer, b"-DOC ...\n"),
+        Shape::Alias => put_parts(writer, "=ALI *", text),
+    }
+}
+
+// Writes the line of the event at an index.
+#[inline(always)]
+fn put_at<W: Sink>(writer: &mut W, events: &Events, i: usize, tag: Option<&ResolvedTag>) -> bool
+    requires { i < length events.now }
+    ensures { (e : EventValue) → slice_get (map (λ e. e.event) events.now) i ≡ Some e
+        → Puts (W.contents writer.old) (W.contents writer.new) (W.has_failed writer.old) (W.has_failed writer.new)
+        (Notation.event_line e (name_value tag.entry)) result }
+{
+    if tag.is_none() {
+        if let Some((shape, text)) = events.alone(i) {
+            return put_alone(writer, shape, text);
+        }
+    }
+    put_event(writer, events.event(i), tag)
+}
+
 /// Writes the notation of all events of a reading.
 ///
 /// Answers `Fault::WriteFailed` where a write fails or takes no bytes; a prefix of the notation has then been written.
@@ -276,8 +290,9 @@ pub fn write_events<W: Sink>(reading: &Reading, writer: &mut W) -> Result<(), Fa
     ensures { Writes (W.contents writer.old) (W.contents writer.new) (W.has_failed writer.old) (W.has_failed writer.new)
         (Notation.notation_of reading.now) result }
 {
+    let events = &reading.lists().events;
     for i in 0..reading.len() {
-        if !put_event(writer, reading.event(i), reading.resolved(i)) {
+        if !put_at(writer, events, i, reading.resolved(i)) {
             return Err(Fault::WriteFailed);
         }
     }

@@ -1,13 +1,12 @@
 //! Events in rows of forty bytes, with a table of what most nodes lack: properties, texts of their own, folded lines.
-ghost use Rattle.std.specs.Prelude.{◌≡◌, ℕ, ◌≤◌, ◌<◌, length, map, IfOk};
-ghost use Rattle.std.specs.Bool.{OnTrue};
+ghost use Rattle.std.specs.Prelude.{◌≡◌, ℕ, ◌≤◌, ◌<◌, length, map, IfOk, MatchBool};
 ghost use Rattle.yf_events.specs.Event.{event_value, view_value};
 ghost use Rattle.yf_events.specs.Packed.{entry_at, folded_in, more_at, more_value, props_in, row_with, shape_value, shifted, span_at, text_in};
 ghost use Rattle.yf_events.specs.Packed as Packed;
-ghost use Rattle.yf_events.specs.Silent.{SilentAt, SilentRow};
+ghost use Rattle.yf_events.specs.Silent.{NamesNothing, SilentAt, SilentRow};
 ghost use Rattle.yf_events.specs.Silent as Silent;
 ghost use Rattle.yf_events.specs.Tags.{written_tag};
-ghost use Rattle.yf_props.specs.Props.{optional_tag_value};
+ghost use Rattle.yf_props.specs.Props.{no_props, optional_tag_value, props_value};
 
 use crate::event::{Entry, Event, ScalarStyle, Span, View};
 use crate::slices::Slices;
@@ -270,25 +269,62 @@ fn names_nothing(shape: Shape) -> bool
     }
 }
 
-#[inline(always)]
-fn is_silent(row: &PackedRow) -> bool
-    ensures { OnTrue result (SilentRow row.now) }
+// Whether neither an anchor nor a tag is written.
+fn are_none(props: &Props) -> bool
+    ensures { MatchBool result (props_value props.now ≡ no_props) (props_value props.now ≡ no_props → ⊥) }
 {
-    if row.more != 0 {
+    if props.anchor.is_some() {
         return false;
     }
-    names_nothing(row.shape)
+    props.tag.is_none()
 }
 
-/// The first index from `start` on whose row may name something, or how many rows there are.
-pub fn naming_from(rows: &[PackedRow], start: usize) -> usize
+// Whether an event names nothing.
+fn is_bare(event: &Event) -> bool
+    ensures { MatchBool result (NamesNothing (event_value event.now)) (NamesNothing (event_value event.now) → ⊥) }
+{
+    match event {
+        Event::DocStart { .. } | Event::Alias { .. } => false,
+        Event::SeqStart { props, .. }
+        | Event::MapStart { props, .. }
+        | Event::Scalar { props, .. } => are_none(props),
+        Event::StreamStart
+        | Event::StreamEnd
+        | Event::DocEnd { .. }
+        | Event::SeqEnd
+        | Event::MapEnd => true,
+    }
+}
+
+// Whether the event of a row names nothing, where the table may have something of it.
+#[inline(never)]
+fn is_silent_with(row: &PackedRow, table: &[More]) -> bool
+    ensures { MatchBool result (SilentRow table.now row.now) (SilentRow table.now row.now → ⊥) }
+{
+    is_bare(&event_of(row, more_in(table, row.more)))
+}
+
+// Whether the event of a row names nothing. Most rows have nothing in the table.
+#[inline(always)]
+fn is_silent(row: &PackedRow, table: &[More]) -> bool
+    ensures { MatchBool result (SilentRow table.now row.now) (SilentRow table.now row.now → ⊥) }
+{
+    if row.more == 0 {
+        return names_nothing(row.shape);
+    }
+    is_silent_with(row, table)
+}
+
+/// The first index from `start` on whose row names something, or how many rows there are.
+pub fn naming_from(rows: &[PackedRow], table: &[More], start: usize) -> usize
     requires { start ≤ length rows.now }
     ensures within { (start ≤ result) × (result ≤ length rows.now) }
-    ensures silent { (k : ℕ) → start ≤ k → k < result → SilentAt rows.now k }
+    ensures silent { (k : ℕ) → start ≤ k → k < result → SilentAt table.now rows.now k }
+    ensures ends { SilentAt table.now rows.now result → ⊥ }
 {
     let mut at = start;
     'rows: while at < rows.len() {
-        if !is_silent(&rows[at]) {
+        if !is_silent(&rows[at], table) {
             return at;
         }
         at += 1;

@@ -1,5 +1,6 @@
 //! Events put into rows and their table.
 ghost use Rattle.std.specs.Prelude.{◌≡◌, [], IfOk, MatchBool};
+ghost use Rattle.yf_events.specs.BareScalar.{RowAlone, bare_scalar};
 ghost use Rattle.yf_events.specs.Event.{new_event_value, placed_value, scalar_node};
 ghost use Rattle.yf_lines.specs.Text.{text_bytes};
 ghost use Rattle.yf_events.specs.Packed.{Grown, Kept, Lacks, RowOf, entry_at, shape_value, span_at, text_or};
@@ -260,5 +261,32 @@ pub fn row_of<'a>(
         colon: beginning.colon,
         more,
         text: part,
+    })
+}
+
+/// The row of a scalar without properties whose text is a slice of the source, and which needs no table.
+#[inline(always)]
+pub fn scalar_row<'a>(
+    style: ScalarStyle,
+    text: &'a str,
+    start: usize,
+    end: usize,
+    entry: Option<Entry>,
+) -> Result<PackedRow<'a>, AllocError>
+    ensures { IfOk result (λ r. RowAlone r (bare_scalar style text.now start end entry)) }
+{
+    let start = narrow(start)?;
+    let end = narrow(end)?;
+    let beginning = narrow_entry(entry)?;
+    Ok(PackedRow {
+        shape: Shape::Scalar { style },
+        placed: true,
+        begins: beginning.begins,
+        start,
+        end,
+        entry: beginning.start,
+        colon: beginning.colon,
+        more: 0,
+        text,
     })
 }

@@ -68,6 +68,21 @@ fn plain_long(text: &[u8]) -> bool
     plain_16(text, text.len() - 16)
 }
 
+/// How many bytes from the front on are surely not escaped: whole runs of sixteen.
+pub fn plain_runs(text: &[u8]) -> usize
+    ensures within { result ≤ length text.now }
+    ensures plain { PlainBetween text.now 0 result }
+{
+    let mut at = 0;
+    while text.len() - at >= 16 {
+        if !plain_16(text, at) {
+            return at;
+        }
+        at += 16;
+    }
+    at
+}
+
 /// Whether no byte of it is escaped.
 #[inline(always)]
 pub fn is_plain(text: &[u8]) -> bool

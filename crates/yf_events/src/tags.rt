@@ -77,8 +77,21 @@ impl<'a> Tags<'a> {
         Ok(())
     }
 
-    /// The resolved tag of the event at an index.
+    /// The resolved tag of the event at an index. In most texts no tag is written.
+    #[inline(always)]
     pub fn at(&self, i: usize) -> Option<&ResolvedTag<'a>>
+        requires { i < length self.now }
+        ensures { slice_get self.now i ≡ Some (name_value result) }
+    {
+        if self.tagged.is_empty() {
+            return None;
+        }
+        self.found(i)
+    }
+
+    // The same, looked for among those that are kept.
+    #[inline(never)]
+    fn found(&self, i: usize) -> Option<&ResolvedTag<'a>>
         requires { i < length self.now }
         ensures { slice_get self.now i ≡ Some (name_value result) }
     {

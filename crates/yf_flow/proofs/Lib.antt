@@ -11,6 +11,7 @@ pub mod EntryNotes
 pub mod NotedLemmas
 pub mod NotedFloor
 -- `read_content`: what is found where a node is awaited
+pub mod BareLeads
 pub mod BegunLemmas
 pub mod NodeBegunLemmas
 pub mod ContentEnds

@@ -1,5 +1,6 @@
 //! Nodes: what may stand as an item, a key or a value, and the events of them.
 ghost use Rattle.std.specs.Prelude.{◌≡◌, ◌+◌, length, false, [], ◌∷◌, ◌++◌, IfOk};
+ghost use Rattle.std.specs.Bool.{OnTrue};
 ghost use Rattle.yf_lines.specs.Text.{text_bytes};
 ghost use Rattle.yf_props.specs.Props.{no_props};
 ghost use Rattle.yf_events.specs.Event.{new_event_value, placed_value, scalar_node};
@@ -260,6 +261,48 @@ pub fn push_scalar<'a>(
 /// The same for what is known of a node that stays where it is.
 #[inline(always)]
 pub fn push_scalar_with<'a>(
+    alloc: Global,
+    lead: &Lead<'a>,
+    style: ScalarStyle,
+    text: Text<'a>,
+    end: usize,
+    part: &mut Part<'a>,
+) -> Result<(), AllocError>
+    ensures pushed { IfOk result (λ _. part.new.events ≡ part.old.events ++
+        (leaf_event lead.now style (text_bytes text.entry) end ∷ [])) }
+    ensures found { IfOk result (λ _. length part.new.events ≡ length part.old.events + 1) }
+    ensures comments { IfOk result (λ _. part.new.comments ≡ part.old.comments) }
+    ensures escapes { IfOk result (λ _. part.new.escapes ≡ part.old.escapes) }
+{
+    match text {
+        Text::Part(words) => {
+            if is_bare(lead) {
+                let (start, entry) = (lead.start, lead.entry);
+                return part.events.push_scalar(style, words, start, end, entry);
+            }
+            push_marked(alloc, lead, style, Text::Part(words), end, part)
+        }
+        Text::Owned(words) => push_marked(alloc, lead, style, Text::Owned(words), end, part),
+    }
+}
+
+// Whether no properties are known of the node.
+#[inline(always)]
+fn is_bare(lead: &Lead) -> bool
+    ensures { OnTrue result (lead.now ≡ bare_lead lead.now.start lead.now.entry) }
+{
+    if lead.props.anchor.is_some() {
+        return false;
+    }
+    if lead.props.tag.is_some() {
+        return false;
+    }
+    lead.tag_offset.is_none()
+}
+
+// The same for a scalar with properties, or with a text of its own.
+#[inline(never)]
+fn push_marked<'a>(
     alloc: Global,
     lead: &Lead<'a>,
     style: ScalarStyle,

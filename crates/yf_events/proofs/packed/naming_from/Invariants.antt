@@ -6,7 +6,7 @@ abbrev pub invariant-rows : goal.invariant-rows
 invariant-rows l = record {
   later : l.start ≤ l.at;
   within : l.at ≤ length l.rows;
-  silent : (k : ℕ) → l.start ≤ k → k < l.at → SilentAt l.rows k;
+  silent : (k : ℕ) → l.start ≤ k → k < l.at → SilentAt l.table l.rows k;
 }
 
 abbrev pub decreases-rows : goal.decreases-rows

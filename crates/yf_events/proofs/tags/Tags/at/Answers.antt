@@ -1,11 +1,8 @@
-use Rattle.yf_events.proofs.TagLists.{no_tag_found, tag_found}
+use Rattle.std.proofs.Common.{ap, sym, ◌∙◌, ◌==◌}
+use Rattle.yf_events.proofs.TagLists.{none_kept}
 use Rattle.yf_events.proofs.tags.Tags.at.Goals as goal
 
-pub returns-in-Ok : goal.returns-in-Ok
-returns-in-Ok c =
-    tag_found c.self.inside.count c.self.inside.tagged.items c.args.self.now c.args.i c.in-Ok.place c.index.result.now c.self.view_is c.self.invariant.rise c.requires
-    (rw c.as_slice.ensures.value at c.in-Ok.ensures) c.index.ensures
-
-pub returns-in-Err : goal.returns-in-Err
-returns-in-Err c =
-    no_tag_found c.self.inside.count c.self.inside.tagged.items c.args.self.now c.args.i c.self.view_is c.requires (rw c.as_slice.ensures.value at c.in-Err.ensures)
+pub returns-then-is_empty : goal.returns-then-is_empty
+returns-then-is_empty c =
+    none_kept c.self.inside.count c.self.inside.tagged.items c.args.self.now c.args.i c.self.view_is c.requires
+    (sym (ap (λ n. n == 0) c.self.inside.tagged.ok.0) ∙ sym c.is_empty.ensures ∙ c.if-is_empty.true)

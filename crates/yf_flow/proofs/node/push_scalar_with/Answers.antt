@@ -1,0 +1,5 @@
+use Rattle.yf_flow.proofs.BareLeads.{bare_pushed}
+use Rattle.yf_flow.proofs.node.push_scalar_with.Goals as goal
+
+pub returns-then-is_bare-clause-pushed : goal.returns-then-is_bare-clause-pushed
+returns-then-is_bare-clause-pushed c = bare_pushed c.args.style c.args.end _ _ c.in-Part.is c.if-is_bare.ensures c.push_scalar.ensures
