@@ -12,3 +12,5 @@ pub mod ChainLemmas
 pub mod EscapeLemmas
 pub mod SpelledLemmas
 pub mod CommonLemmas
+pub mod LaneMasks
+mod CommonLanes
