@@ -14,3 +14,5 @@ pub mod SpelledLemmas
 pub mod CommonLemmas
 -- bytes that are looked at 16 at once, in the crates above
 pub mod LaneLemmas
+pub mod LaneMasks
+mod CommonLanes

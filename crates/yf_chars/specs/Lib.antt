@@ -7,3 +7,4 @@ pub mod Spelled
 pub mod Text
 pub mod Signs
 pub mod ClassEnds
+pub mod CommonParts

@@ -7,6 +7,7 @@ ghost use Rattle.yf_chars.specs.Common.{AreCommon, is_common};
 ghost use Rattle.yf_chars.specs.Escape as Escapes;
 ghost use Rattle.yf_chars.specs.Spelled.{ReadsBack};
 
+use crate::common::all_common;
 use crate::error::NoMemory;
 use crate::text::{peek, stands};
 
@@ -288,17 +289,13 @@ pub fn is_common(byte: u8) -> bool
     byte <= b'~'
 }
 
-/// Whether it is told that each character is an ASCII one that is spelled by itself, so that the text stands in double quotes as it is.
+/// Whether each character is an ASCII one that is spelled by itself, so that the text stands in double quotes as it is.
+#[inline]
 pub fn are_common(text: &str) -> bool
-    ensures { result ≡ true → AreCommon text.now }
+    ensures common { result ≡ true → AreCommon text.now }
+    ensures all { AreCommon text.now → result ≡ true }
 {
-    let bytes = text.as_bytes();
-    for i in 0..bytes.len() {
-        if !is_common(bytes[i]) {
-            return false;
-        }
-    }
-    true
+    all_common(text.as_bytes())
 }
 
 /// Whether a character that has no letter is spelled by two digits.

@@ -3,6 +3,7 @@
 #![tactic(auto)]
 
 pub mod classes;
+mod common;
 pub mod context;
 pub mod error;
 pub mod escapes;

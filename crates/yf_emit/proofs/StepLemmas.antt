@@ -8,7 +8,7 @@ use Rattle.std.proofs.lemmas.List.{length-append, reverse-append, drop_all}
 use Rattle.std.proofs.lemmas.Str.{IsUtf8-append, IsUtf8-nil, is_utf8-from_IsUtf8}
 use Rattle.yf_comments.specs.Comment.{CommentValue, comment_value}
 use Rattle.yf_comments.specs.declared.comment.Comment.{Comment}
-use Rattle.yf_events.specs.Event.{EventValue, Placed}
+use Rattle.yf_events.specs.Event.{EventValue, Placed, stream_starts}
 use Rattle.yf_events.specs.declared.event.Span.{Span}
 use Rattle.yf_emit.specs.declared.form.ended.Ended.{Ended}
 use Rattle.yf_emit.specs.declared.form.measure.Measure.{Measure}
@@ -150,6 +150,16 @@ runs_on t c es i v s list next stack above h k r p =
       long ∙ ap (λ n. n + 1) r.0,
       rw add-one (ap (pass t c (drop (suc i) es)) step ∙ ap (λ w. pass t c w (found list stack)) (sym x.cut) ∙ r.1),
     )
+
+-- what the event at an index is, and its place
+pub no_place : Placed
+no_place = record { event = stream_starts; span = None; tag_offset = None; entry = None; folded = [] }
+
+pub there : (es : List Placed) (i : ℕ) → i < length es
+    → (slice_get (map (λ e. e.event) es) i ≡ Some (get_or es i no_place).event) × (slice_get (map (λ e. e.span) es) i ≡ Some (get_or es i no_place).span)
+there [] i l = absurd (omega (arith, l))
+there (e ∷ es) zero l = (refl, refl)
+there (e ∷ es) (suc i) l = there es i (omega (arith, l))
 
 pub texts_on : (es : List Placed) (i : ℕ) (v : EventValue) (s : Option Span) → slice_get (map (λ e. e.event) es) i ≡ Some v
     → slice_get (map (λ e. e.span) es) i ≡ Some s → Texts es i → has_text v ≡ true → Texts es (i + 1)

@@ -128,6 +128,20 @@ impl<'a> Events<'a> {
         None
     }
 
+    /// The event at an index, where the table has nothing of it: it begins no node with properties, and its text is a slice of the
+    /// source.
+    #[inline(always)]
+    pub fn bare_event(&self, i: usize) -> Option<Event<'_>>
+        requires { i < length self.now }
+        ensures { IfSome result (λ e. slice_get (map (λ e. e.event) self.now) i ≡ Some (event_value e)) }
+    {
+        let row = &self.rows[i];
+        if row.more == 0 {
+            return Some(event_of(row, None));
+        }
+        None
+    }
+
     /// The tag of the node that the event at an index begins, as it is written.
     #[inline(always)]
     pub fn tag(&self, i: usize) -> Option<Tag<'a>>

@@ -1,5 +1,5 @@
 //! Readings.
-ghost use Rattle.std.specs.Prelude.{◌≡◌, ◌<◌, count_by, length, map, nat_lt, slice_get, IfOk, MatchOption, MatchResult};
+ghost use Rattle.std.specs.Prelude.{◌≡◌, ◌<◌, count_by, length, map, nat_lt, slice_get, IfOk, IfSome, MatchOption, MatchResult};
 
 use crate::document::Doc;
 use crate::event::{Entry, Event, Span};
@@ -101,6 +101,16 @@ impl<'a> Reading<'a> {
         ensures { slice_get (events_of self.now) i ≡ Some (event_value result) }
     {
         self.lists.events.event(i)
+    }
+
+    /// The same, where it begins no node with properties and its text is a slice of the source, as of most events. `None` where it is
+    /// not told so.
+    #[inline(always)]
+    pub fn bare_event(&self, i: usize) -> Option<Event<'_>>
+        requires { i < length self.now.events }
+        ensures { IfSome result (λ e. slice_get (events_of self.now) i ≡ Some (event_value e)) }
+    {
+        self.lists.events.bare_event(i)
     }
 
     /// The part of the text that the node has which the event begins, with its properties. An empty node has none.

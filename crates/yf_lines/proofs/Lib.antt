@@ -18,3 +18,5 @@ pub mod RestLemmas
 pub mod VisibleLines
 -- `LineTable::build` and `is_line_start` by bytes
 pub mod SearchLemmas
+-- `is_steady`
+mod FeedLanes

@@ -9,3 +9,4 @@ pub mod Watched
 pub mod LineText
 pub mod Rest
 pub mod Rows
+pub mod Feeds

@@ -4,6 +4,7 @@
 
 pub mod basic;
 pub mod fault;
+mod feeds;
 pub mod fold;
 pub mod line;
 pub mod output;

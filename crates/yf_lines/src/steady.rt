@@ -2,6 +2,8 @@
 ghost use Rattle.std.specs.Prelude.{◌≡◌, ◌<◌};
 ghost use Rattle.yf_lines.specs.Steady as Steady;
 
+use crate::feeds::has_feed;
+
 /// Whether the bytes begin with three times the same one, and then end or go on with a white.
 #[tactic(auto, unfolding(crate::specs::Steady::is_marker_of))]
 fn is_marker_of(byte: u8, bytes: &[u8]) -> bool
@@ -40,13 +42,6 @@ fn ends_with_colon(bytes: &[u8]) -> bool
     bytes[bytes.len() - 1] == b':'
 }
 
-#[tactic(auto, unfolding(crate::specs::Steady::has_line_feed))]
-fn has_line_feed(bytes: &[u8]) -> bool
-    ensures { result ≡ Steady.has_line_feed bytes.now }
-{
-    bytes.contains(&b'\n')
-}
-
 /// Whether a plain scalar of this text may stay plain on one line: it holds no line feed, does not end with `:`, is
 /// not `-` or `?`, and does not begin with `---` or `...` followed by white or the end.
 #[tactic(auto, unfolding(crate::specs::Steady::is_steady))]
@@ -54,7 +49,7 @@ pub fn is_steady(text: &str) -> bool
     ensures { result ≡ Steady.is_steady text.now }
 {
     let bytes = text.as_bytes();
-    if has_line_feed(bytes) {
+    if has_feed(bytes) {
         return false;
     }
     if ends_with_colon(bytes) {

@@ -1,8 +1,9 @@
 //! How wide each node is where it is written on one line: one pass over the events, inner nodes before outer ones.
-ghost use Rattle.std.specs.Prelude.{◌≡◌, [], ◌∷◌, ◌++◌, length, map, reverse, true, IfOk};
+ghost use Rattle.std.specs.Prelude.{◌<◌, ◌≡◌, [], ◌∷◌, ◌++◌, length, map, reverse, slice_get, true, IfOk, Option, Some};
 ghost use Rattle.std.specs.List.Sorted.{IsNonDecreasingBy};
 ghost use Rattle.yf_comments.specs.Comment.{comment_value};
-ghost use Rattle.yf_events.specs.Event.{event_value};
+ghost use Rattle.yf_events.specs.Event.{EventValue, event_value};
+ghost use Rattle.yf_events.specs.Reading.{events_of, spans_of};
 ghost use Rattle.yf_emit.specs.Deciding.{is_leaf_at};
 ghost use Rattle.yf_emit.specs.FoundInPass.{FoundInPass};
 ghost use Rattle.yf_emit.specs.Measures.{no_measure, Measured};
@@ -115,7 +116,7 @@ fn begin(list: &mut Measures, stack: &mut Vec<Open>, collection: Open) -> Result
 
 /// Goes past one event.
 #[inline(always)]
-fn pass(
+pub(crate) fn pass(
     list: &mut Measures,
     stack: &mut Vec<Open>,
     text: &str,
@@ -161,6 +162,40 @@ fn pass(
     }
 }
 
+/// Goes past the event at an index. That most nodes have no properties is known before one of them is looked at.
+#[inline(always)]
+fn pass_at(
+    list: &mut Measures,
+    stack: &mut Vec<Open>,
+    text: &str,
+    comments: &[Comment],
+    reading: &Reading,
+    style: &Style,
+    i: usize,
+) -> Result<(), AllocError>
+    requires { i < length reading.now.events }
+    ensures passed { IfOk result (λ _. (e : EventValue) (s : Option Span) → slice_get (events_of reading.now) i ≡ Some e
+        → slice_get (spans_of reading.now) i ≡ Some s → IsNonDecreasingBy (λ c. c.offset) comments.now → length list.old ≡ i
+        → found list.new (reverse stack.new.items) ≡ Measuring.passed text.now
+        (setting style.now (map comment_value comments.now)) i s e (found (list.old ++ no_measure ∷ []) (reverse stack.old.items))) }
+    ensures utf8 { IfOk result (λ _. (e : EventValue) → slice_get (events_of reading.now) i ≡ Some e → has_text e ≡ true) }
+{
+    let span = reading.span(i);
+    match reading.bare_event(i) {
+        Some(event) => pass(list, stack, text, comments, &event, span, style, i),
+        None => pass(
+            list,
+            stack,
+            text,
+            comments,
+            &reading.event(i),
+            span,
+            style,
+            i,
+        ),
+    }
+}
+
 /// Measures all nodes of a reading of the text, which has these comments.
 fn measured(
     alloc: Global,
@@ -175,17 +210,7 @@ fn measured(
     let mut list = Measures::new(alloc);
     let mut stack: Vec<Open> = Vec::new(alloc);
     for i in 0..reading.len() {
-        let span = reading.span(i);
-        pass(
-            &mut list,
-            &mut stack,
-            text,
-            comments,
-            &reading.event(i),
-            span,
-            style,
-            i,
-        )?;
+        pass_at(&mut list, &mut stack, text, comments, reading, style, i)?;
     }
     Ok(list)
 }

@@ -9,7 +9,7 @@ use Rattle.yf_emit.proofs.text.width.double_width.Goals as goal
 
 pub returns-then-are_common : goal.returns-then-are_common
 returns-then-are_common c =
-    let spelling = common_spelling c.args.text.now (c.are_common.ensures c.if-are_common.true) in
+    let spelling = common_spelling c.args.text.now (c.are_common.ensures.common c.if-are_common.true) in
     let count : length (flat_map spelled (chars c.args.text.now)) ≡ length c.args.text.now = ap length spelling in
     c.saturating_add.ensures ∙ ap (λ n. up_to_greatest n) (omega (arith, c.byte_count.ensures, count, double_width c.args.text.now c.utf8.text))
 
