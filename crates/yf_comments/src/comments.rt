@@ -76,10 +76,15 @@ impl<'a> Comments<'a> {
         self.list.truncate(count);
     }
 
-    /// Moves all comments of another list to the end; where memory is refused, the list is as it was.
+    /// Moves all comments of another list to the end; where memory is refused, the list is as it was. Most lists that are
+    /// appended have none.
+    #[inline(always)]
     pub fn append(&mut self, mut other: Comments<'a>) -> Result<(), AllocError>
         ensures { self.new ≡ (if is_ok result then self.old ++ other.entry else self.old) }
     {
+        if other.len() == 0 {
+            return Ok(());
+        }
         self.list.append(&mut other.list)?;
         Ok(())
     }

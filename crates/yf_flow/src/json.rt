@@ -54,6 +54,7 @@ pub(crate) fn json_content<'a>(
 }
 
 // A double-quoted scalar (c-double-quoted(n,c), production 109), whose escapes that are no character are kept.
+#[inline(always)]
 fn double_node<'a>(
     spot: &Spot<'a>,
     lead: &Lead<'a>,

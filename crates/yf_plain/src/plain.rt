@@ -42,6 +42,7 @@ pub fn read_plain<'a>(alloc: Global, src: &Src<'a>, at: usize, n: i32, ctx: Ctx)
 }
 
 /// The same in a text without its lines.
+#[inline(always)]
 pub fn read_plain_in<'a>(alloc: Global, s: &'a str, at: usize, n: i32, ctx: Ctx) -> FoundText<'a>
     requires { IsCharBoundary s.now at }
     ensures reads { IfOk result (λ o. MatchOption o (Stuck (Plain s.now n ctx at))
@@ -180,6 +181,7 @@ fn next_line(s: &str, at: usize, width: usize, ctx: Ctx) -> Option<NextLine>
 /// offset after it, or `None` where no plain scalar begins.
 ///
 /// In a key this is the whole scalar.
+#[inline(always)]
 pub fn read_plain_line(s: &str, at: usize, ctx: Ctx) -> Option<usize>
     requires { IsCharBoundary s.now at }
     ensures reads { MatchOption result (Stuck (PlainFront s.now ctx at)) (λ j. (x : List ℕ) × Chosen (PlainFront s.now ctx at) j x) }

@@ -92,6 +92,7 @@ pub struct Double<'a> {
 }
 
 /// The same in a text without its lines.
+#[inline(always)]
 pub fn double_in<'a>(alloc: Global, s: &'a str, at: usize, n: i32, ctx: Ctx) -> Found<Double<'a>>
     requires { IsCharBoundary s.now at }
     ensures reads { IfOk result (λ o. MatchOption o (Stuck (Q.DoubleQuoted s.now n ctx at))
