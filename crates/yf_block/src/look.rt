@@ -1,10 +1,11 @@
 //! Tests of what stands at a place of a block node, and walks that read nothing.
-ghost use Rattle.std.specs.Prelude.{◌≡◌, ◌≢◌, ◌+◌, ◌-◌, ◌<◌, ◌≤◌, true, false, ℕ, IfSome, MatchBool, MatchOption};
+ghost use Rattle.std.specs.Prelude.{◌≡◌, ◌≢◌, ◌+◌, ◌-◌, ◌<◌, ◌≤◌, true, false, ℕ, IfSome, MatchBool, MatchOption, length, ⊤};
 ghost use Rattle.std.specs.Str.{IsCharBoundary};
 ghost use Rattle.yf_chars.specs.Class.{is_break_char};
+ghost use Rattle.yf_chars.specs.Signs.{SPACE};
 ghost use Rattle.yf_chars.specs.Text.{code};
-ghost use Rattle.yf_lines.specs.Basic.{Break};
-ghost use Rattle.yf_comments.specs.Comments.{Blank};
+ghost use Rattle.yf_lines.specs.Basic.{Break, Spaces};
+ghost use Rattle.yf_comments.specs.Comments.{Blank, BlankBefore};
 ghost use Rattle.yf_grammar.specs.BlockParser.{DashAt, LineText, LinesEnd, SignAt};
 ghost use Rattle.yf_grammar.specs.BlockScalar.{LinesBetween};
 ghost use Rattle.yf_grammar.specs.Part.{NotedSince};
@@ -149,6 +150,69 @@ pub(crate) fn entry_place(text: &str, at: usize) -> Option<usize>
 ///
 /// The walk ends at the first other character, so walks from different entries do not overlap.
 pub fn is_blank_after(text: &str, floor: usize, at: usize) -> bool
+    ensures { (code text.now at ≡ 10 → code text.now (at - 1) ≢ 13) → (floor < at → Blank text.now floor)
+        → NotedSince text.now floor at result }
+{
+    if follows_text(text, at) {
+        return false;
+    }
+    walk_back(text, floor, at)
+}
+
+// Whether spaces alone stand between a visible ASCII character and the offset, or a line feed and then spaces alone.
+fn follows_text(text: &str, at: usize) -> bool
+    ensures { MatchBool result (BlankBefore text.now at → ⊥) ⊤ }
+{
+    let bytes = text.as_bytes();
+    if at > bytes.len() {
+        return false;
+    }
+    let line = spaces_start(text, at);
+    if line < 2 {
+        return false;
+    }
+    if bytes[line - 1] == b'\n' {
+        return is_visible(bytes[line - 2]);
+    }
+    is_visible(bytes[line - 1])
+}
+
+// Where the spaces begin that end at the offset.
+#[inline(always)]
+fn spaces_start(text: &str, at: usize) -> usize
+    requires { at ≤ length text.now }
+    ensures order { result ≤ at }
+    ensures spaces { Spaces text.now result (at - result) }
+    ensures first { 0 < result → code text.now (result - 1) ≢ SPACE }
+{
+    let bytes = text.as_bytes();
+    let mut place = at;
+    'spaces: while place > 0 {
+        if bytes[place - 1] != b' ' {
+            return place;
+        }
+        place -= 1;
+    }
+    0
+}
+
+// Whether the byte is an ASCII character other than a space or a control.
+#[inline(always)]
+fn is_visible(byte: u8) -> bool
+    ensures { MatchBool result ((32 < byte) × (byte ≤ 126)) ⊤ }
+{
+    if byte <= b' ' {
+        return false;
+    }
+    if byte > b'~' {
+        return false;
+    }
+    true
+}
+
+// Whether a line of white space alone is met going back from the offset.
+#[inline(never)]
+fn walk_back(text: &str, floor: usize, at: usize) -> bool
     ensures { (code text.now at ≡ 10 → code text.now (at - 1) ≢ 13) → (floor < at → Blank text.now floor)
         → NotedSince text.now floor at result }
 {
