@@ -1,5 +1,7 @@
 //! Tests of what stands at a place of a block node, and walks that read nothing.
-ghost use Rattle.std.specs.Prelude.{◌≡◌, ◌≢◌, ◌+◌, ◌-◌, ◌<◌, ◌≤◌, true, false, ℕ, IfSome, MatchBool, MatchOption, length, ⊤};
+ghost use Rattle.std.specs.List.{prefix_len};
+ghost use Rattle.std.specs.Prelude.{◌≡◌, ◌≢◌, ◌+◌, ◌-◌, ◌<◌, ◌≤◌, true, false, not, nat_lt, ℕ, IfSome, MatchBool, MatchOption, length, ⊤};
+ghost use Rattle.std.specs.Simd.Lanes.{chunk};
 ghost use Rattle.std.specs.Str.{IsCharBoundary};
 ghost use Rattle.yf_chars.specs.Class.{is_break_char};
 ghost use Rattle.yf_chars.specs.Signs.{SPACE};
@@ -16,6 +18,7 @@ ghost use Rattle.yf_block.specs.LastStarts.{LastStartIs};
 ghost use Rattle.yf_block.specs.Looks.{EntryPlace, LineEndsAt, NotWithinBreak};
 
 use memchr::memchr2;
+use std::simd::prelude::*;
 use yf_chars::classes::is_ns_char;
 use yf_chars::text::{peek, stands};
 use yf_flow::look::is_key_line;
@@ -70,7 +73,8 @@ pub(crate) fn key_ends(text: &str, start: usize, at: usize) -> bool
 // An implicit key may have as many characters, so it may always have as many bytes.
 const SHORT: usize = 1024;
 
-// Whether the bytes between the offsets are all on one line, and no more than a short key has.
+// Whether the bytes between the offsets are all on one line, and no more than a short key has. Where the text ends soon after
+// them, or a tab is among them, it may say no of such bytes too.
 fn is_short_line(text: &str, start: usize, end: usize) -> bool
     requires { IsCharBoundary text.now start }
     ensures { result ≡ true → IsCharBoundary text.now end → KeyLine text.now start end }
@@ -81,17 +85,33 @@ fn is_short_line(text: &str, start: usize, end: usize) -> bool
     if end - start > SHORT {
         return false;
     }
+    let bytes = text.as_bytes();
     let mut at = start;
-    'bytes: while at < end {
-        if stands(text, at, b'\n') {
+    'lanes: while at < end {
+        if bytes.len() - at < 16 {
             return false;
         }
-        if stands(text, at, b'\r') {
-            return false;
+        let clear = clear_bytes(bytes, at);
+        if clear < 16 {
+            return at + clear >= end;
         }
-        at += 1;
+        at += 16;
     }
     true
+}
+
+// How many of the 16 bytes from the offset on stand before the first one below 14, as breaks are.
+#[inline(always)]
+fn clear_bytes(bytes: &[u8], at: usize) -> usize
+    requires { at + 16 ≤ length bytes.now }
+    ensures { result ≡ prefix_len (λ x. not (nat_lt x 14)) (chunk at 16 bytes.now) }
+{
+    let lanes = u8x16::from_slice(&bytes[at..]);
+    let low = lanes.simd_lt(u8x16::splat(14)).to_bitmask();
+    if low == 0 {
+        return 16;
+    }
+    low.trailing_zeros() as usize
 }
 
 /// Whether nothing more stands on the line from the offset on; a comment stands after a white.
