@@ -17,9 +17,10 @@ use crate::frame::{Kind, Reader, Scope, Step, Wanted};
 use crate::halt::Counts;
 use crate::inline::read_inline;
 use crate::line::read_line_end;
-use crate::look::{line_ends, sign_stands};
+use crate::look::{line_ends, sign_stands, word_stands};
 use crate::properties::{
-    PlacedProperties, joined, joined_after, lead_of, line_properties, place_after, property_stands,
+    PlacedProperties, copied, joined, joined_after, lead_of, line_properties, place_after,
+    property_stands,
 };
 use std::alloc::AllocError;
 use yf_chars::text::stands;
@@ -78,9 +79,39 @@ pub(crate) fn is_apart(belonging: Belonging) -> bool
 }
 
 impl<'a> Reader<'a> {
-    /// Begins the content of a node at a place of a line. Few nodes have properties.
+    /// Begins the content of a node at a place of a line. Most nodes begin as words do, which settles most of what is asked of
+    /// their first character, so they have a way of their own.
     #[inline(always)]
     pub(crate) fn take_content(
+        &mut self,
+        scope: Scope<'a>,
+        node_start: NodeStart,
+    ) -> Result<Step, AllocError>
+        requires { Standing scope.text.now node_start.at self.old }
+        ensures { Answers (AtUndashed node_start.column) CountedAt scope.entry node_start.at 0 self.old self.new result }
+    {
+        if word_stands(scope.text, node_start.at) {
+            return self.take_any_content(scope, node_start);
+        }
+        self.take_other_content(scope, node_start)
+    }
+
+    // The same where another character stands there.
+    #[inline(never)]
+    fn take_other_content(
+        &mut self,
+        scope: Scope<'a>,
+        node_start: NodeStart,
+    ) -> Result<Step, AllocError>
+        requires { Standing scope.text.now node_start.at self.old }
+        ensures { Answers (AtUndashed node_start.column) CountedAt scope.entry node_start.at 0 self.old self.new result }
+    {
+        self.take_any_content(scope, node_start)
+    }
+
+    // The same whatever stands there. Few nodes have properties.
+    #[inline(always)]
+    fn take_any_content(
         &mut self,
         scope: Scope<'a>,
         node_start: NodeStart,
@@ -143,7 +174,14 @@ impl<'a> Reader<'a> {
         ensures { Answers (AtAfterProperties after.now) CountedAt scope.entry after.now.node_start.at 0 self.old self.new result }
     {
         match self.progress.wanted.outer {
-            Some(_) => self.take_after_lines(scope, after),
+            Some(_) => {
+                let held = AfterProperties {
+                    at: after.at,
+                    inner: after.inner,
+                    node_start: after.node_start,
+                };
+                self.take_after_lines(scope, &held)
+            }
             None => {
                 let facts = facts_alone(after, self.progress.wanted.entry, &self.part);
                 self.take_text(scope, after, &facts)
@@ -189,7 +227,7 @@ impl<'a> Reader<'a> {
             if is_apart(facts.belonging) {
                 return Ok(Step::Failed(after.node_start.at));
             }
-            return self.take_block_scalar(scope, after.at, &facts.lead);
+            return self.take_block_scalar(scope, after.at, &copied(&facts.lead));
         }
         match read_inline(
             scope,

@@ -1,6 +1,6 @@
 //! Tests of what stands at a place of a block node, and walks that read nothing.
 ghost use Rattle.std.specs.List.{prefix_len};
-ghost use Rattle.std.specs.Prelude.{◌≡◌, ◌≢◌, ◌+◌, ◌-◌, ◌<◌, ◌≤◌, true, false, not, nat_lt, ℕ, IfSome, MatchBool, MatchOption, length, ⊤};
+ghost use Rattle.std.specs.Prelude.{◌≡◌, ◌≢◌, ◌+◌, ◌-◌, ◌<◌, ◌≤◌, true, false, not, nat_lt, ℕ, IfSome, MatchBool, MatchOption, length, slice_index, ⊤};
 ghost use Rattle.std.specs.Simd.Lanes.{chunk};
 ghost use Rattle.std.specs.Str.{IsCharBoundary};
 ghost use Rattle.yf_chars.specs.Class.{is_break_char};
@@ -52,6 +52,25 @@ pub(crate) fn sign_stands(text: &str, at: usize, sign: u8) -> bool
         return white_or_end_stands(text, at + 1);
     }
     false
+}
+
+/// Whether one of the characters from `0` to `z` stands there: neither a property nor an alias nor a quoted node begins with one.
+#[inline(always)]
+pub(crate) fn word_stands(text: &str, at: usize) -> bool
+    ensures { MatchBool result ((48 ≤ slice_index text.now at) × (slice_index text.now at ≤ 122))
+        (48 ≤ slice_index text.now at → slice_index text.now at ≤ 122 → ⊥) }
+{
+    let bytes = text.as_bytes();
+    if at >= bytes.len() {
+        return false;
+    }
+    if bytes[at] < b'0' {
+        return false;
+    }
+    if bytes[at] > b'z' {
+        return false;
+    }
+    true
 }
 
 /// Whether the `:` after an implicit key stands there, on the line on which the key starts.
