@@ -1,14 +1,12 @@
 -- Where an implicit key ends: at a `:` on its line, after no more characters than a key may have.
-use Rattle.std.proofs.Common.{◌≡◌, ◌≢◌, ℕ, ◌+◌, ◌-◌, ◌<◌, ◌≤◌, Bool, true, false, List, length, take, drop, MatchBool, sym, ap, ◌∙◌, subst, arith, ⊎_elim}
-use Rattle.std.proofs.lemmas.Bool.{cases_lt, cases_Bool}
+use Rattle.std.proofs.Common.{◌≡◌, ℕ, ◌-◌, ◌<◌, ◌≤◌, Bool, true, false, List, length, take, drop, MatchBool, ap, arith, ⊎_elim}
+use Rattle.std.proofs.lemmas.Bool.{cases_Bool}
 use Rattle.std.proofs.lemmas.List.{length-take}
 use Rattle.std.proofs.lemmas.Str as S
 use Rattle.std.proofs.lemmas.Str.{length-le-encodes, encodes-chars}
 use Rattle.std.specs.Str.{IsUtf8, IsCharBoundary, chars}
 use Rattle.yf_chars.specs.Text.{begins, code, no_char}
 use Rattle.yf_chars.proofs.TextLemmas.{boundary_from_begins, code-nowhere}
-use Rattle.yf_chars.specs.Class.{is_break_char}
-use Rattle.yf_chars.proofs.BreakChars.{no_break}
 use Rattle.yf_grammar.specs.Grammar.{characters_between}
 use Rattle.yf_grammar.specs.BlockParser.{SignAt}
 use Rattle.yf_grammar.specs.Parser.{OnOneLine}

@@ -1,12 +1,12 @@
 //! What a node has on one line: the sign of an entry, properties, a block scalar, or a flow node.
-ghost use Rattle.std.specs.Prelude.{◌≡◌, ◌+◌, Some, MatchBool, ◌⊎◌, ℕ, MatchOption};
+ghost use Rattle.std.specs.Prelude.{◌≡◌, ◌+◌, Some, MatchBool, ℕ, MatchOption};
 ghost use Rattle.std.specs.Str.{IsCharBoundary};
 ghost use Rattle.yf_flow.specs.Machine.{Place};
 ghost use Rattle.yf_grammar.specs.BlockParser.{Ahead};
 ghost use Rattle.yf_block.specs.declared.properties.PlacedProperties.{PlacedProperties as PropertiesThere};
 ghost use Rattle.yf_block.specs.BlockStepTied.{AheadTied};
 ghost use Rattle.yf_block.specs.BelongingTied.{BelongingTied};
-ghost use Rattle.yf_block.specs.ContentTied.{AtAfterProperties, AtProperties, AtUndashed, CountsOf, ScalarSignAt};
+ghost use Rattle.yf_block.specs.ContentTied.{AtAfterProperties, AtProperties, AtUndashed, CountsOf};
 ghost use Rattle.yf_block.specs.Counted.{CountedAt};
 ghost use Rattle.yf_block.specs.PropertiesAnswers.{Holds, LineProperties, held_lead, lead_at};
 ghost use Rattle.yf_block.specs.InlineTied.{EntrySignAt};
@@ -17,11 +17,12 @@ use crate::frame::{Kind, Reader, Scope, Step, Wanted};
 use crate::halt::Counts;
 use crate::inline::read_inline;
 use crate::line::read_line_end;
-use crate::look::{line_ends, sign_stands, word_stands};
+use crate::look::{entry_sign_stands, line_ends, word_stands};
 use crate::properties::{
     PlacedProperties, copied, joined, joined_after, lead_of, line_properties, place_after,
     property_stands,
 };
+use crate::scalar::block_scalar_stands;
 use std::alloc::AllocError;
 use yf_chars::text::stands;
 use yf_events::event::Entry;
@@ -298,27 +299,6 @@ fn signed_column(text: &str, node_start: NodeStart) -> Option<usize>
         }
         None => None,
     }
-}
-
-/// Whether an entry begins there with its `?` or its `:`.
-#[inline(always)]
-pub(crate) fn entry_sign_stands(text: &str, at: usize) -> bool
-    ensures { MatchBool result (EntrySignAt text.now at) (EntrySignAt text.now at → ⊥) }
-{
-    if sign_stands(text, at, b'?') {
-        return true;
-    }
-    sign_stands(text, at, b':')
-}
-
-// Whether the header of a block scalar begins there.
-fn block_scalar_stands(text: &str, at: usize) -> bool
-    ensures { MatchBool result (ScalarSignAt text.now at) (ScalarSignAt text.now at → ⊥) }
-{
-    if stands(text, at, b'|') {
-        return true;
-    }
-    stands(text, at, b'>')
 }
 
 // What is known of the node after the properties of a line, as long as it is not known whether it is a key.

@@ -14,6 +14,7 @@ ghost use Rattle.yf_grammar.specs.Part.{NotedSince};
 ghost use Rattle.yf_flow.specs.Leaves.{KeyLine};
 ghost use Rattle.yf_flow.specs.Machine.{Place};
 ghost use Rattle.yf_block.specs.InlineAnswers.{KeyEnds};
+ghost use Rattle.yf_block.specs.InlineTied.{EntrySignAt};
 ghost use Rattle.yf_block.specs.LastStarts.{LastStartIs};
 ghost use Rattle.yf_block.specs.Looks.{EntryPlace, LineEndsAt, NotWithinBreak};
 
@@ -52,6 +53,17 @@ pub(crate) fn sign_stands(text: &str, at: usize, sign: u8) -> bool
         return white_or_end_stands(text, at + 1);
     }
     false
+}
+
+/// Whether an entry begins there with its `?` or its `:`.
+#[inline(always)]
+pub(crate) fn entry_sign_stands(text: &str, at: usize) -> bool
+    ensures { MatchBool result (EntrySignAt text.now at) (EntrySignAt text.now at → ⊥) }
+{
+    if sign_stands(text, at, b'?') {
+        return true;
+    }
+    sign_stands(text, at, b':')
 }
 
 /// Whether one of the characters from `0` to `z` stands there: neither a property nor an alias nor a quoted node begins with one.

@@ -14,10 +14,9 @@ ghost use Rattle.yf_block.specs.NextItems.{ItemBelow, TopSequence};
 ghost use Rattle.yf_block.specs.NextKeys.{KeyBelow, TopMapping};
 ghost use Rattle.yf_block.specs.StepAnswers.{Answers};
 
-use crate::content::entry_sign_stands;
 use crate::entry::{await_node, entry_at};
 use crate::frame::{Frame, Frames, Kind, Reader, Scope, Slot, Step};
-use crate::look::{dash_stands, entry_place, sign_stands};
+use crate::look::{dash_stands, entry_place, entry_sign_stands, sign_stands};
 use std::alloc::{AllocError, Global};
 use yf_events::event::NewEvent;
 use yf_events::part::Part;
