@@ -1,14 +1,12 @@
 -- Where an implicit key ends: at a `:` on its line, after no more characters than a key may have.
-use Rattle.std.proofs.Common.{◌≡◌, ◌≢◌, ℕ, ◌+◌, ◌-◌, ◌<◌, ◌≤◌, Bool, true, false, List, length, take, drop, MatchBool, sym, ap, ◌∙◌, subst, arith, ⊎_elim}
-use Rattle.std.proofs.lemmas.Bool.{cases_lt, cases_Bool}
+use Rattle.std.proofs.Common.{◌≡◌, ℕ, ◌-◌, ◌<◌, ◌≤◌, Bool, true, false, List, length, take, drop, MatchBool, ap, arith, ⊎_elim}
+use Rattle.std.proofs.lemmas.Bool.{cases_Bool}
 use Rattle.std.proofs.lemmas.List.{length-take}
 use Rattle.std.proofs.lemmas.Str as S
 use Rattle.std.proofs.lemmas.Str.{length-le-encodes, encodes-chars}
 use Rattle.std.specs.Str.{IsUtf8, IsCharBoundary, chars}
 use Rattle.yf_chars.specs.Text.{begins, code, no_char}
 use Rattle.yf_chars.proofs.TextLemmas.{boundary_from_begins, code-nowhere}
-use Rattle.yf_chars.specs.Class.{is_break_char}
-use Rattle.yf_chars.proofs.BreakChars.{no_break}
 use Rattle.yf_grammar.specs.Grammar.{characters_between}
 use Rattle.yf_grammar.specs.BlockParser.{SignAt}
 use Rattle.yf_grammar.specs.Parser.{OnOneLine}
@@ -28,16 +26,8 @@ sign_boundary {t} {i} s = let c = s.sign_stands in boundary_there t i (omega ari
 pub line_begins : (t : List ℕ) (i : ℕ) → OnOneLine t i i
 line_begins t i = record { each = λ h l m. absurd (omega arith) }
 
-pub line_more : {t : List ℕ} {i j : ℕ} → OnOneLine t i j → code t j ≢ 10 → code t j ≢ 13 → OnOneLine t i (j + 1)
-line_more {t} {j = j} o a b = record {
-  each = λ h l m. ⊎_elim
-      (λ (s : h < j). o.each h l s)
-      (λ (s : j ≤ h). let e : h ≡ j = omega arith in ap (λ k. is_break_char (code t k)) e ∙ no_break (code t j) a b)
-      (cases_lt h j);
-}
-
-pub line_upto : {t : List ℕ} {i j k : ℕ} → OnOneLine t i j → k ≡ j → OnOneLine t i k
-line_upto {t} {i} o e = subst (λ z. OnOneLine t i z) (sym e) o
+pub line_upto : {t : List ℕ} {i j k : ℕ} → OnOneLine t i j → k ≤ j → OnOneLine t i k
+line_upto o l = record { each = λ h a b. o.each h a (omega arith) }
 
 -- of so many bytes there are no more characters
 short_between : {t : List ℕ} {i j : ℕ} → IsUtf8 t → IsCharBoundary t i → IsCharBoundary t j → i ≤ j → characters_between t i j ≤ j - i

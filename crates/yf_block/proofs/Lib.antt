@@ -5,6 +5,8 @@ pub mod Forward
 pub mod PropertiesLemmas
 pub mod InlineLemmas
 pub mod KeyEndLemmas
+pub mod ShortLines
+pub mod SpacesBack
 pub mod KeyNodes
 pub mod LookLemmas
 pub mod EntryLineLemmas

@@ -13,9 +13,10 @@ use Rattle.yf_block.specs.BlockTied.{colons_if}
 use Rattle.yf_block.specs.Closing.{value_missing}
 use Rattle.yf_block.specs.Fits.{PlaceTied}
 use Rattle.yf_block.specs.KeyAwaited.{KeyAwaited}
+use Rattle.yf_block.specs.NextItems.{ItemBelow}
 use Rattle.yf_block.specs.NextKeys.{KeyBelow}
-use Rattle.yf_block.proofs.FitLemmas.{fits_pair}
-use Rattle.yf_block.proofs.TiedEntries.{pair_follows_top}
+use Rattle.yf_block.proofs.FitLemmas.{fits_item, fits_pair}
+use Rattle.yf_block.proofs.TiedEntries.{item_follows_top, pair_follows_top}
 use Rattle.yf_block.proofs.TiedResume.{top_of}
 
 none_awaited : (n : ℕ) (b : Bool) → b ≡ false → n ≡ n - colons_if b
@@ -53,3 +54,12 @@ module _ {t : List ℕ} {d : ℕ} {root : BlockTask} {before part : Part} {frame
         no_question = λ v. b.no_question (subst (λ (z : ℕ). SignAt t 63 z) s v);
         no_colon = λ v. b.no_colon (subst (λ (z : ℕ). SignAt t 58 z) s v);
       }
+
+-- and the next item of the innermost sequence
+module _ {t : List ℕ} {d : ℕ} {root : BlockTask} {before part : Part} {frames : List Frame} {at p : ℕ} {place : Option ℕ} {progress : Progress}
+    (a : AtResume t d root before frames at progress part) (b : ItemBelow t at place frames p) (m : PlaceTied t at place) where
+  item_top : AtTop t d root before b.top.outer at b.top.frame progress part
+  item_top = top_of a b.top.stack (none_awaited progress.colons b.top.frame.awaits_colon b.top.settled) refl refl refl
+
+  pub next_item : AtEntry t d root before b.top.outer b.top.frame p progress part
+  next_item = item_follows_top item_top (fits_item b.top.frame (subst (λ z. PlaceTied t at z) b.starts m) b.top.column_is b.top.sequence b.dash) b.top.settled

@@ -17,6 +17,7 @@ pub mod LineStepTied
 pub mod LineTied
 pub mod Looks
 pub mod Machine
+pub mod NextItems
 pub mod NextKeys
 pub mod NodeGiven
 pub mod NodeReaders

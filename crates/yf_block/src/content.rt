@@ -1,12 +1,12 @@
 //! What a node has on one line: the sign of an entry, properties, a block scalar, or a flow node.
-ghost use Rattle.std.specs.Prelude.{◌≡◌, ◌+◌, Some, MatchBool, ◌⊎◌, ℕ, MatchOption};
+ghost use Rattle.std.specs.Prelude.{◌≡◌, ◌+◌, Some, MatchBool, ℕ, MatchOption};
 ghost use Rattle.std.specs.Str.{IsCharBoundary};
 ghost use Rattle.yf_flow.specs.Machine.{Place};
 ghost use Rattle.yf_grammar.specs.BlockParser.{Ahead};
 ghost use Rattle.yf_block.specs.declared.properties.PlacedProperties.{PlacedProperties as PropertiesThere};
 ghost use Rattle.yf_block.specs.BlockStepTied.{AheadTied};
 ghost use Rattle.yf_block.specs.BelongingTied.{BelongingTied};
-ghost use Rattle.yf_block.specs.ContentTied.{AtAfterProperties, AtProperties, AtUndashed, CountsOf, ScalarSignAt};
+ghost use Rattle.yf_block.specs.ContentTied.{AtAfterProperties, AtProperties, AtUndashed, CountsOf};
 ghost use Rattle.yf_block.specs.Counted.{CountedAt};
 ghost use Rattle.yf_block.specs.PropertiesAnswers.{Holds, LineProperties, held_lead, lead_at};
 ghost use Rattle.yf_block.specs.InlineTied.{EntrySignAt};
@@ -17,10 +17,12 @@ use crate::frame::{Kind, Reader, Scope, Step, Wanted};
 use crate::halt::Counts;
 use crate::inline::read_inline;
 use crate::line::read_line_end;
-use crate::look::{line_ends, sign_stands};
+use crate::look::{entry_sign_stands, line_ends, word_stands};
 use crate::properties::{
-    PlacedProperties, joined, joined_after, lead_of, line_properties, place_after, property_stands,
+    PlacedProperties, copied, joined, joined_after, lead_of, line_properties, place_after,
+    property_stands,
 };
+use crate::scalar::block_scalar_stands;
 use std::alloc::AllocError;
 use yf_chars::text::stands;
 use yf_events::event::Entry;
@@ -78,9 +80,39 @@ pub(crate) fn is_apart(belonging: Belonging) -> bool
 }
 
 impl<'a> Reader<'a> {
-    /// Begins the content of a node at a place of a line. Few nodes have properties.
+    /// Begins the content of a node at a place of a line. Most nodes begin as words do, which settles most of what is asked of
+    /// their first character, so they have a way of their own.
     #[inline(always)]
     pub(crate) fn take_content(
+        &mut self,
+        scope: Scope<'a>,
+        node_start: NodeStart,
+    ) -> Result<Step, AllocError>
+        requires { Standing scope.text.now node_start.at self.old }
+        ensures { Answers (AtUndashed node_start.column) CountedAt scope.entry node_start.at 0 self.old self.new result }
+    {
+        if word_stands(scope.text, node_start.at) {
+            return self.take_any_content(scope, node_start);
+        }
+        self.take_other_content(scope, node_start)
+    }
+
+    // The same where another character stands there.
+    #[inline(never)]
+    fn take_other_content(
+        &mut self,
+        scope: Scope<'a>,
+        node_start: NodeStart,
+    ) -> Result<Step, AllocError>
+        requires { Standing scope.text.now node_start.at self.old }
+        ensures { Answers (AtUndashed node_start.column) CountedAt scope.entry node_start.at 0 self.old self.new result }
+    {
+        self.take_any_content(scope, node_start)
+    }
+
+    // The same whatever stands there. Few nodes have properties.
+    #[inline(always)]
+    fn take_any_content(
         &mut self,
         scope: Scope<'a>,
         node_start: NodeStart,
@@ -143,7 +175,14 @@ impl<'a> Reader<'a> {
         ensures { Answers (AtAfterProperties after.now) CountedAt scope.entry after.now.node_start.at 0 self.old self.new result }
     {
         match self.progress.wanted.outer {
-            Some(_) => self.take_after_lines(scope, after),
+            Some(_) => {
+                let held = AfterProperties {
+                    at: after.at,
+                    inner: after.inner,
+                    node_start: after.node_start,
+                };
+                self.take_after_lines(scope, &held)
+            }
             None => {
                 let facts = facts_alone(after, self.progress.wanted.entry, &self.part);
                 self.take_text(scope, after, &facts)
@@ -189,7 +228,7 @@ impl<'a> Reader<'a> {
             if is_apart(facts.belonging) {
                 return Ok(Step::Failed(after.node_start.at));
             }
-            return self.take_block_scalar(scope, after.at, &facts.lead);
+            return self.take_block_scalar(scope, after.at, &copied(&facts.lead));
         }
         match read_inline(
             scope,
@@ -260,27 +299,6 @@ fn signed_column(text: &str, node_start: NodeStart) -> Option<usize>
         }
         None => None,
     }
-}
-
-/// Whether an entry begins there with its `?` or its `:`.
-#[inline(always)]
-pub(crate) fn entry_sign_stands(text: &str, at: usize) -> bool
-    ensures { MatchBool result (EntrySignAt text.now at) (EntrySignAt text.now at → ⊥) }
-{
-    if sign_stands(text, at, b'?') {
-        return true;
-    }
-    sign_stands(text, at, b':')
-}
-
-// Whether the header of a block scalar begins there.
-fn block_scalar_stands(text: &str, at: usize) -> bool
-    ensures { MatchBool result (ScalarSignAt text.now at) (ScalarSignAt text.now at → ⊥) }
-{
-    if stands(text, at, b'|') {
-        return true;
-    }
-    stands(text, at, b'>')
 }
 
 // What is known of the node after the properties of a line, as long as it is not known whether it is a key.

@@ -6,12 +6,15 @@ ghost use Rattle.yf_chars.specs.Text.{code};
 ghost use Rattle.yf_comments.specs.Comments.{Blank};
 ghost use Rattle.yf_events.specs.Event.{placed_value};
 ghost use Rattle.yf_props.specs.Names as Names;
+ghost use Rattle.yf_props.specs.Props.{props_value};
 ghost use Rattle.yf_grammar.specs.BlockParser.{DashAt};
+ghost use Rattle.yf_grammar.specs.Meaning.{event_with, start_of};
 ghost use Rattle.yf_grammar.specs.Part.{NotedSince};
+ghost use Rattle.yf_flow.specs.Begun.{lead_event};
 ghost use Rattle.yf_flow.specs.Machine.{Place};
 ghost use Rattle.yf_block.specs.BlockTied.{NodeAwaited};
 ghost use Rattle.yf_block.specs.Counted.{CountedAt, EntryCounted};
-ghost use Rattle.yf_block.specs.InlineTied.{started};
+ghost use Rattle.yf_block.specs.InlineTied.{is_sequence, started};
 ghost use Rattle.yf_block.specs.KeyAwaited.{KeyAwaited};
 ghost use Rattle.yf_block.specs.KeyTexts.{KeyTextAt, KeyTextPlace};
 ghost use Rattle.yf_block.specs.Machine.{Standing};
@@ -22,12 +25,12 @@ ghost use Rattle.yf_block.specs.StepAnswers.{Answers};
 use crate::frame::{Frame, Kind, Progress, Reader, Scope, Slot, Step, Wanted};
 use crate::inline::read_inline;
 use crate::line::read_line_end;
-use crate::look::{is_blank_after, key_ends, sign_stands};
+use crate::look::{is_blank_after, key_ends, sign_stands, word_stands};
 use crate::properties::{PlacedProperties, lead_of, line_properties, place_after, property_stands};
 use std::alloc::{AllocError, Global};
 use yf_chars::context::Ctx;
 use yf_events::event::{Entry, NewEvent, PlacedEvent};
-use yf_flow::node::empty_node;
+use yf_flow::node::{Lead, empty_node};
 use yf_flow::nodes::Ending;
 use yf_lines::basic::skip_whites;
 
@@ -62,7 +65,19 @@ pub(crate) fn collection_start<'a>(
 ) -> PlacedEvent<'a>
     ensures { placed_value result ≡ started kind at wanted.now }
 {
-    let lead = lead_of(at, wanted.outer, wanted.entry);
+    start_with(alloc, kind, at, lead_of(at, wanted.outer, wanted.entry))
+}
+
+/// The same of a node of which that is known.
+#[inline(always)]
+pub(crate) fn start_with<'a>(
+    alloc: Global,
+    kind: Kind,
+    at: usize,
+    lead: Lead<'a>,
+) -> PlacedEvent<'a>
+    ensures { placed_value result ≡ lead_event lead.entry (event_with (props_value lead.entry.props) (start_of (is_sequence kind) false)) at }
+{
     let event = match kind {
         Kind::Sequence => NewEvent::SeqStart {
             flow: false,
@@ -152,10 +167,41 @@ impl<'a> Reader<'a> {
         self.take_key(scope, frame.column, entry)
     }
 
-    /// An implicit key of an open mapping (ns-s-block-map-implicit-key, production 193), from its properties on. Few keys
-    /// have any.
+    /// An implicit key of an open mapping (ns-s-block-map-implicit-key, production 193), from its properties on. Most keys begin
+    /// as words do.
     #[inline(always)]
     pub(crate) fn take_key(
+        &mut self,
+        scope: Scope<'a>,
+        column: usize,
+        key: Entry,
+    ) -> Result<Step, AllocError>
+        requires { Standing scope.text.now key.start self.old }
+        ensures { Answers (KeyAwaited column key) CountedAt scope.entry key.start 0 self.old self.new result }
+    {
+        if word_stands(scope.text, key.start) {
+            return self.take_any_key(scope, column, key);
+        }
+        self.take_other_key(scope, column, key)
+    }
+
+    // The same where another character stands there.
+    #[inline(never)]
+    fn take_other_key(
+        &mut self,
+        scope: Scope<'a>,
+        column: usize,
+        key: Entry,
+    ) -> Result<Step, AllocError>
+        requires { Standing scope.text.now key.start self.old }
+        ensures { Answers (KeyAwaited column key) CountedAt scope.entry key.start 0 self.old self.new result }
+    {
+        self.take_any_key(scope, column, key)
+    }
+
+    // The same whatever stands there. Few keys have properties.
+    #[inline(always)]
+    fn take_any_key(
         &mut self,
         scope: Scope<'a>,
         column: usize,

@@ -14,12 +14,12 @@ ghost use Rattle.yf_block.specs.Machine.{Standing, StandingAfter, PropertiesBefo
 ghost use Rattle.yf_block.specs.StepAnswers.{Answers};
 
 use crate::content::{AfterProperties, Belonging, NodeFacts, NodeStart, is_apart};
-use crate::entry::{await_value, collection_start, entry_at};
+use crate::entry::{await_value, collection_start, entry_at, start_with};
 use crate::frame::{Frame, Kind, Reader, Scope, Step, Wanted};
 use crate::halt::{note_node, note_shorter};
-use crate::line::read_line_end;
+use crate::line::{keep_comments, read_line_end};
 use crate::look::{key_ends, sign_stands};
-use crate::properties::{PlacedProperties, lead_of};
+use crate::properties::{PlacedProperties, copied, lead_of};
 use std::alloc::AllocError;
 use yf_chars::context::Ctx;
 use yf_chars::text::stands;
@@ -66,7 +66,7 @@ pub(crate) fn read_inline<'a>(
             if stands(scope.text, at, b'*') {
                 return match *inner {
                     Some(_) => Ok(Ending::Nothing),
-                    None => read_alias(scope, at, lead, depth, part),
+                    None => read_alias(scope, at, &copied(lead), depth, part),
                 };
             }
             let scene = Scene {
@@ -146,7 +146,9 @@ pub(crate) fn flow_indentation(least: usize) -> i32
 }
 
 impl<'a> Reader<'a> {
-    /// After a flow node on its line: it is the first key of a mapping, or the end of the line follows.
+    /// After a flow node on its line: it is the first key of a mapping, or the end of the line follows. What is lent to a first
+    /// key is copied for it, so that of other nodes it need not stand in memory.
+    #[inline(always)]
     pub(crate) fn finish_inline(
         &mut self,
         scope: Scope<'a>,
@@ -164,7 +166,17 @@ impl<'a> Reader<'a> {
                 if node.deepest.max(self.frames.len()) >= scope.limit {
                     return Ok(Step::TooDeep(after.node_start.at));
                 }
-                self.take_first_key(scope, column, colon, after, facts)
+                let key_after = AfterProperties {
+                    at: after.at,
+                    inner: after.inner,
+                    node_start: after.node_start,
+                };
+                let key_facts = NodeFacts {
+                    lead: copied(&facts.lead),
+                    belonging: facts.belonging,
+                    before: facts.before,
+                };
+                self.take_first_key(scope, column, colon, &key_after, &key_facts)
             }
             None => {
                 if is_apart(facts.belonging) {
@@ -225,7 +237,7 @@ impl<'a> Reader<'a> {
         let text = scope.text;
         match read_line_end(scope.alloc, text, at)? {
             Some(Separation { comments, end }) => {
-                self.part.comments.append(comments)?;
+                keep_comments(comments, &mut self.part.comments)?;
                 note_node(text, plain, at, end, &mut self.progress, &self.frames);
                 Ok(Step::Resume(end))
             }
@@ -273,8 +285,44 @@ fn plain_place(node: Node, at: usize) -> Option<usize>
     if node.json { None } else { Some(at) }
 }
 
-// Puts a mapping's beginning before its first key. Properties of lines before are its own: a key read with them is read again.
+// Puts a mapping's beginning before its first key. Properties of lines before are its own; few mappings have any.
+#[inline(always)]
 fn begin_mapping<'a>(
+    scope: Scope<'a>,
+    after: &AfterProperties<'a>,
+    facts: &NodeFacts<'a>,
+    entry: Entry,
+    wanted: &Wanted<'a>,
+    depth: usize,
+    part: &mut Part<'a>,
+) -> Result<(), AllocError>
+    requires place { IsCharBoundary scope.text.now after.now.at }
+    requires properties { PropertiesBefore scope.text.now after.now.at after.now.inner }
+    requires escapes { All (IsCharBoundary scope.text.now) part.old.escapes }
+    ensures key { (earlier : Part) → (room : ℕ) → IsUtf8 scope.entry.text.now → wanted.now.least ≤ 2 ^ 30
+        → depth + room ≡ scope.entry.limit
+        → KeyRead scope.entry.text.now room (pos wanted.now.least) depth after.now facts.now wanted.now earlier part.old
+        → IfOk result (λ _. KeyOrLost scope.entry.text.now room (pos wanted.now.least) depth after.now entry
+        (started Kind.Mapping after.now.node_start.at wanted.now) earlier part.new) }
+    ensures escapes { IfOk result (λ _. All (IsCharBoundary scope.entry.text.now) part.new.escapes) }
+{
+    if is_joined(facts.belonging) {
+        return begin_held_mapping(scope, after, facts, entry, wanted, depth, part);
+    }
+    match wanted.outer {
+        Some(_) => begin_held_mapping(scope, after, facts, entry, wanted, depth, part),
+        None => {
+            let at = after.node_start.at;
+            let start = start_with(scope.alloc, Kind::Mapping, at, Lead::bare(at, wanted.entry));
+            put_before(facts.before.events, start, entry, part)?;
+            Ok(())
+        }
+    }
+}
+
+// The same where properties stand on lines before: a key read with them is read again.
+#[inline(never)]
+fn begin_held_mapping<'a>(
     scope: Scope<'a>,
     after: &AfterProperties<'a>,
     facts: &NodeFacts<'a>,

@@ -1,18 +1,23 @@
 //! Tests of what stands at a place of a block node, and walks that read nothing.
-ghost use Rattle.std.specs.Prelude.{◌≡◌, ◌≢◌, ◌+◌, ◌-◌, ◌<◌, ◌≤◌, true, ℕ, IfSome, MatchBool, MatchOption};
+ghost use Rattle.std.specs.List.{prefix_len};
+ghost use Rattle.std.specs.Prelude.{◌≡◌, ◌≢◌, ◌+◌, ◌-◌, ◌<◌, ◌≤◌, true, false, not, nat_lt, ℕ, IfSome, MatchBool, MatchOption, length, slice_index, ⊤};
+ghost use Rattle.std.specs.Simd.Lanes.{chunk};
 ghost use Rattle.std.specs.Str.{IsCharBoundary};
+ghost use Rattle.yf_chars.specs.Signs.{SPACE};
 ghost use Rattle.yf_chars.specs.Text.{code};
-ghost use Rattle.yf_lines.specs.Basic.{Break};
-ghost use Rattle.yf_comments.specs.Comments.{Blank};
+ghost use Rattle.yf_lines.specs.Basic.{Break, Spaces};
+ghost use Rattle.yf_comments.specs.Comments.{Blank, BlankBefore};
 ghost use Rattle.yf_grammar.specs.BlockParser.{DashAt, LineText, LinesEnd, SignAt};
 ghost use Rattle.yf_grammar.specs.BlockScalar.{LinesBetween};
 ghost use Rattle.yf_grammar.specs.Part.{NotedSince};
 ghost use Rattle.yf_flow.specs.Leaves.{KeyLine};
 ghost use Rattle.yf_flow.specs.Machine.{Place};
 ghost use Rattle.yf_block.specs.InlineAnswers.{KeyEnds};
+ghost use Rattle.yf_block.specs.InlineTied.{EntrySignAt};
 ghost use Rattle.yf_block.specs.LastStarts.{LastStartIs};
 ghost use Rattle.yf_block.specs.Looks.{EntryPlace, LineEndsAt, NotWithinBreak};
 
+use std::simd::prelude::*;
 use yf_chars::classes::is_ns_char;
 use yf_chars::text::{peek, stands};
 use yf_flow::look::is_key_line;
@@ -48,6 +53,36 @@ pub(crate) fn sign_stands(text: &str, at: usize, sign: u8) -> bool
     false
 }
 
+/// Whether an entry begins there with its `?` or its `:`.
+#[inline(always)]
+pub(crate) fn entry_sign_stands(text: &str, at: usize) -> bool
+    ensures { MatchBool result (EntrySignAt text.now at) (EntrySignAt text.now at → ⊥) }
+{
+    if sign_stands(text, at, b'?') {
+        return true;
+    }
+    sign_stands(text, at, b':')
+}
+
+/// Whether one of the characters from `0` to `z` stands there: neither a property nor an alias nor a quoted node begins with one.
+#[inline(always)]
+pub(crate) fn word_stands(text: &str, at: usize) -> bool
+    ensures { MatchBool result ((48 ≤ slice_index text.now at) × (slice_index text.now at ≤ 122))
+        (48 ≤ slice_index text.now at → slice_index text.now at ≤ 122 → ⊥) }
+{
+    let bytes = text.as_bytes();
+    if at >= bytes.len() {
+        return false;
+    }
+    if bytes[at] < b'0' {
+        return false;
+    }
+    if bytes[at] > b'z' {
+        return false;
+    }
+    true
+}
+
 /// Whether the `:` after an implicit key stands there, on the line on which the key starts.
 #[inline(always)]
 pub(crate) fn key_ends(text: &str, start: usize, at: usize) -> bool
@@ -67,7 +102,8 @@ pub(crate) fn key_ends(text: &str, start: usize, at: usize) -> bool
 // An implicit key may have as many characters, so it may always have as many bytes.
 const SHORT: usize = 1024;
 
-// Whether the bytes between the offsets are all on one line, and no more than a short key has.
+// Whether the bytes between the offsets are all on one line, and no more than a short key has. Where the text ends soon after
+// them, or a tab is among them, it may say no of such bytes too.
 fn is_short_line(text: &str, start: usize, end: usize) -> bool
     requires { IsCharBoundary text.now start }
     ensures { result ≡ true → IsCharBoundary text.now end → KeyLine text.now start end }
@@ -78,17 +114,33 @@ fn is_short_line(text: &str, start: usize, end: usize) -> bool
     if end - start > SHORT {
         return false;
     }
+    let bytes = text.as_bytes();
     let mut at = start;
-    'bytes: while at < end {
-        if stands(text, at, b'\n') {
+    'lanes: while at < end {
+        if bytes.len() - at < 16 {
             return false;
         }
-        if stands(text, at, b'\r') {
-            return false;
+        let clear = clear_bytes(bytes, at);
+        if clear < 16 {
+            return at + clear >= end;
         }
-        at += 1;
+        at += 16;
     }
     true
+}
+
+// How many of the 16 bytes from the offset on stand before the first one below 14, as breaks are.
+#[inline(always)]
+fn clear_bytes(bytes: &[u8], at: usize) -> usize
+    requires { at + 16 ≤ length bytes.now }
+    ensures { result ≡ prefix_len (λ x. not (nat_lt x 14)) (chunk at 16 bytes.now) }
+{
+    let lanes = u8x16::from_slice(&bytes[at..]);
+    let low = lanes.simd_lt(u8x16::splat(14)).to_bitmask();
+    if low == 0 {
+        return 16;
+    }
+    low.trailing_zeros() as usize
 }
 
 /// Whether nothing more stands on the line from the offset on; a comment stands after a white.
@@ -147,6 +199,69 @@ pub(crate) fn entry_place(text: &str, at: usize) -> Option<usize>
 ///
 /// The walk ends at the first other character, so walks from different entries do not overlap.
 pub fn is_blank_after(text: &str, floor: usize, at: usize) -> bool
+    ensures { (code text.now at ≡ 10 → code text.now (at - 1) ≢ 13) → (floor < at → Blank text.now floor)
+        → NotedSince text.now floor at result }
+{
+    if follows_text(text, at) {
+        return false;
+    }
+    walk_back(text, floor, at)
+}
+
+// Whether spaces alone stand between a visible ASCII character and the offset, or a line feed and then spaces alone.
+fn follows_text(text: &str, at: usize) -> bool
+    ensures { MatchBool result (BlankBefore text.now at → ⊥) ⊤ }
+{
+    let bytes = text.as_bytes();
+    if at > bytes.len() {
+        return false;
+    }
+    let line = spaces_start(text, at);
+    if line < 2 {
+        return false;
+    }
+    if bytes[line - 1] == b'\n' {
+        return is_visible(bytes[line - 2]);
+    }
+    is_visible(bytes[line - 1])
+}
+
+// Where the spaces begin that end at the offset.
+#[inline(always)]
+fn spaces_start(text: &str, at: usize) -> usize
+    requires { at ≤ length text.now }
+    ensures order { result ≤ at }
+    ensures spaces { Spaces text.now result (at - result) }
+    ensures first { 0 < result → code text.now (result - 1) ≢ SPACE }
+{
+    let bytes = text.as_bytes();
+    let mut place = at;
+    'spaces: while place > 0 {
+        if bytes[place - 1] != b' ' {
+            return place;
+        }
+        place -= 1;
+    }
+    0
+}
+
+// Whether the byte is an ASCII character other than a space or a control.
+#[inline(always)]
+fn is_visible(byte: u8) -> bool
+    ensures { MatchBool result ((32 < byte) × (byte ≤ 126)) ⊤ }
+{
+    if byte <= b' ' {
+        return false;
+    }
+    if byte > b'~' {
+        return false;
+    }
+    true
+}
+
+// Whether a line of white space alone is met going back from the offset.
+#[inline(never)]
+fn walk_back(text: &str, floor: usize, at: usize) -> bool
     ensures { (code text.now at ≡ 10 → code text.now (at - 1) ≢ 13) → (floor < at → Blank text.now floor)
         → NotedSince text.now floor at result }
 {

@@ -1,5 +1,6 @@
 //! After a node, at the start of a line: the next entry of an open collection, or the end of collections.
-ghost use Rattle.std.specs.Prelude.{◌≡◌, ℕ, ◌-◌, ◌<◌, ◌++◌, IfOk, IfSome, MatchOption, reverse, length};
+ghost use Rattle.std.specs.Prelude.{◌≡◌, ℕ, ◌+◌, ◌-◌, ◌<◌, ◌++◌, IfOk, IfSome, MatchOption, reverse, length};
+ghost use Rattle.std.specs.Str.{IsCharBoundary};
 ghost use Rattle.yf_events.specs.Edit.{edited, ended};
 ghost use Rattle.yf_grammar.specs.BlockParser.{BlockTask};
 ghost use Rattle.yf_block.specs.BlockStepTied.{AtResume, AtDone, AtFit, AtPair};
@@ -9,13 +10,13 @@ ghost use Rattle.yf_block.specs.Counted.{CountedAt, CountedInside};
 ghost use Rattle.yf_block.specs.Fits.{FitsLine, PlaceTied};
 ghost use Rattle.yf_block.specs.Looks.{NotWithinBreak};
 ghost use Rattle.yf_block.specs.Machine.{Standing, MayPlace, FitsAt};
+ghost use Rattle.yf_block.specs.NextItems.{ItemBelow, TopSequence};
 ghost use Rattle.yf_block.specs.NextKeys.{KeyBelow, TopMapping};
 ghost use Rattle.yf_block.specs.StepAnswers.{Answers};
 
-use crate::content::entry_sign_stands;
 use crate::entry::{await_node, entry_at};
 use crate::frame::{Frame, Frames, Kind, Reader, Scope, Slot, Step};
-use crate::look::{dash_stands, entry_place, sign_stands};
+use crate::look::{dash_stands, entry_place, entry_sign_stands, sign_stands};
 use std::alloc::{AllocError, Global};
 use yf_events::event::NewEvent;
 use yf_events::part::Part;
@@ -42,7 +43,8 @@ struct Next {
 }
 
 impl<'a> Reader<'a> {
-    /// Goes on at the start of a line after a node. Most often a key of the innermost mapping begins there.
+    /// Goes on at the start of a line after a node. Most often a key of the innermost mapping begins there, or an item of the
+    /// innermost sequence.
     pub(crate) fn resume(&mut self, scope: Scope<'a>, at: usize) -> Result<Step, AllocError>
         requires { Standing scope.text.now at self.old }
         ensures { Answers AtResume CountedAt scope.entry at 0 self.old self.new result }
@@ -53,7 +55,14 @@ impl<'a> Reader<'a> {
                 let entry = entry_at(scope.text, self.progress.floor, start, None);
                 self.take_key(scope, start - at, entry)
             }
-            None => self.resume_below(scope, at, place),
+            None => match item_below(scope.text, at, place, &self.frames) {
+                Some(start) => {
+                    let item = entry_at(scope.text, self.progress.floor, start, None);
+                    let progress = &mut self.progress;
+                    Ok(await_node(start, true, false, start - at, Some(item), progress))
+                }
+                None => self.resume_below(scope, at, place),
+            },
         }
     }
 
@@ -176,6 +185,50 @@ fn top_mapping(frames: &Frames) -> Option<usize>
     match frame.kind {
         Kind::Sequence => None,
         Kind::Mapping => Some(frame.column),
+    }
+}
+
+// Where an item of the innermost collection begins on the line at an offset; the place is that of the first character of the
+// line, if an entry may begin there.
+#[inline(always)]
+fn item_below(text: &str, at: usize, place: Option<usize>, frames: &Frames) -> Option<usize>
+    requires { MayPlace text.now at place }
+    ensures item { IfSome result (λ start. ItemBelow text.now at place (reverse frames.now.items) start) }
+    ensures boundary { IfSome result (λ start. IsCharBoundary text.now (start + 1)) }
+{
+    match place {
+        None => None,
+        Some(start) => match top_sequence(frames) {
+            None => None,
+            Some(column) => {
+                if start - at == column {
+                    if dash_stands(text, start) {
+                        return Some(start);
+                    }
+                }
+                None
+            }
+        },
+    }
+}
+
+// The column of the innermost collection, if it is a sequence.
+#[inline(always)]
+fn top_sequence(frames: &Frames) -> Option<usize>
+    ensures { IfSome result (λ column. TopSequence (reverse frames.now.items) column) }
+{
+    let items = frames.as_slice();
+    let count = items.len();
+    if count == 0 {
+        return None;
+    }
+    let frame = items[count - 1];
+    if frame.awaits_colon {
+        return None;
+    }
+    match frame.kind {
+        Kind::Sequence => Some(frame.column),
+        Kind::Mapping => None,
     }
 }
 

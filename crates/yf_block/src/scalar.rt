@@ -1,5 +1,5 @@
 //! Block scalars as nodes (YAML 1.2.2, section 8.1).
-ghost use Rattle.std.specs.Prelude.{◌≡◌, IfOk, IfSome, MatchOption, ℤ, pos, ◌+ℤ◌, ◌+◌, ◌≤◌, ◌≤ℤ◌, length, ◌^◌, ◌<◌, ◌++◌};
+ghost use Rattle.std.specs.Prelude.{◌≡◌, IfOk, IfSome, MatchBool, MatchOption, ℤ, pos, ◌+ℤ◌, ◌+◌, ◌≤◌, ◌≤ℤ◌, length, ◌^◌, ◌<◌, ◌++◌};
 ghost use Rattle.std.specs.Str.{IsCharBoundary};
 ghost use Rattle.yf_chars.specs.Chain.{Chosen, Stuck};
 ghost use Rattle.yf_lines.specs.Basic.{LineStart};
@@ -8,6 +8,7 @@ ghost use Rattle.yf_block_scalar.specs.Body.{Body, body_value};
 ghost use Rattle.yf_events.specs.Event.{placed_value};
 ghost use Rattle.yf_grammar.specs.BlockScalar.{kept_lines as kept_of, reach as reach_of, style_of as style_by};
 ghost use Rattle.yf_flow.specs.Machine.{Place};
+ghost use Rattle.yf_block.specs.ContentTied.{ScalarSignAt};
 ghost use Rattle.yf_block.specs.Counted.{CountedAt};
 ghost use Rattle.yf_block.specs.Machine.{Standing};
 ghost use Rattle.yf_block.specs.ScalarTied.{AtBody, AtHeader, scalar_event};
@@ -24,6 +25,7 @@ use yf_block_scalar::header::{Chomp, Header};
 use yf_block_scalar::header_reader::{HeaderLine, block_header};
 use yf_block_scalar::lines::Lines;
 use yf_block_scalar::reader::block_body;
+use yf_chars::text::stands;
 use yf_comments::comment::Comment;
 use yf_events::event::{NewEvent, PlacedEvent, ScalarStyle, Span};
 use yf_events::part::Part;
@@ -85,6 +87,16 @@ impl<'a> Reader<'a> {
         note_node(text, None, next, next, &mut self.progress, &self.frames);
         Ok(Step::Resume(next))
     }
+}
+
+/// Whether the header of a block scalar begins there.
+pub(crate) fn block_scalar_stands(text: &str, at: usize) -> bool
+    ensures { MatchBool result (ScalarSignAt text.now at) (ScalarSignAt text.now at → ⊥) }
+{
+    if stands(text, at, b'|') {
+        return true;
+    }
+    stands(text, at, b'>')
 }
 
 // Adds the comment after a header.

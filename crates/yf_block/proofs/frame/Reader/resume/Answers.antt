@@ -1,8 +1,10 @@
-use Rattle.std.proofs.Common.{length, arith, ◌≤◌}
-use Rattle.yf_block.proofs.TiedNext.{next_key}
+use Rattle.std.proofs.Common.{ℕ, ◌+◌, ◌-◌, true, false, Some, None, length, ap, ◌∙◌, arith, ◌≤◌}
+use Rattle.yf_block.specs.BlockTied.{wanted_after}
+use Rattle.yf_block.proofs.TiedNext.{next_item, next_key}
+use Rattle.yf_block.proofs.TiedNodes.{node_tied, entry_same, floor_blank, item_awaited}
 use Rattle.yf_block.proofs.TiedResume.{place_tied}
 use Rattle.yf_block.proofs.CountedSteps.{later}
-use Rattle.yf_block.proofs.MovedLemmas.{moved_later}
+use Rattle.yf_block.proofs.MovedLemmas.{awaited_moved, moved_later}
 use Rattle.yf_block.proofs.frame.Reader.resume.Goals as goal
 
 pub returns-in-Some : goal.returns-in-Some
@@ -16,6 +18,26 @@ returns-in-Some c =
           c.take_key.ensures.tied d root before j r (next_key a b (place_tied _ a.outside c.entry_place-place.ensures.entry) p.order p.boundary.0 c.entry_at-entry.result e.start e.colon e.note);
       stepped = moved_later {at = c.args.at} {place = c.entry_at-entry.result.start} {more = 0} {less = 0} _ _ _ l (omega arith) c.take_key.ensures.stepped;
       counted = λ u total q. c.take_key.ensures.counted u total (later _ (length c.args.self.now.frames.items) total c.args.at c.entry_at-entry.result.start l q);
+    }
+
+pub returns-in-Some-item_below : goal.returns-in-Some-item_below
+returns-in-Some-item_below c =
+    let b = c.in-Some-item_below.ensures.item in
+    let p = rw b.starts at c.entry_place-place.ensures.place in
+    let e = c.entry_at-item.ensures in
+    let v = c.await_node.ensures in
+    let y = b.dash in
+    let o = p.order in
+    record {
+      tied = λ d root before j r a.
+          let i = next_item a b (place_tied _ a.outside c.entry_place-place.ensures.entry) in
+          let n = e.note (λ q. omega (arith, q, y.dash)) (floor_blank i (omega (arith, y.dash))) in
+          node_tied _ v.step (item_awaited i y b.top.sequence b.top.settled b.top.stack n
+          (v.wanted (omega arith) ∙ ap (λ x. wanted_after (c.in-Some-item_below.start - c.args.at) true false (Some x)) (entry_same c.entry_at-item.result c.in-Some-item_below.start None e.start e.colon)
+          ∙ ap (λ (k : ℕ). wanted_after k true false (Some (record { start = c.in-Some-item_below.start; colon = None; blank_before = c.entry_at-item.result.blank_before }))) b.top.column_is)
+          v.last v.floor v.colons v.halt);
+      stepped = awaited_moved v c.requires.progress c.requires.escapes o c.in-Some-item_below.ensures.boundary;
+      counted = λ u total q. rw v.step (later _ (length c.args.self.now.frames.items) total c.args.at (c.in-Some-item_below.start + 1) (omega (arith, o)) q);
     }
 
 pub resume_below-requires-clause-entry : goal.resume_below-requires-clause-entry

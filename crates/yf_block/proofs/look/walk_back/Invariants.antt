@@ -2,7 +2,7 @@ use Rattle.std.proofs.Common.{◌≡◌, ◌≢◌, ◌-◌, ◌<◌}
 use Rattle.yf_chars.specs.Text.{code}
 use Rattle.yf_comments.specs.Comments.{Blank}
 use Rattle.yf_grammar.proofs.SinceWalk.{WalkedSince}
-use Rattle.yf_block.proofs.look.is_blank_after.Given as goal
+use Rattle.yf_block.proofs.look.walk_back.Given as goal
 
 abbrev pub decreases-back : goal.decreases-back
 decreases-back l = l.place

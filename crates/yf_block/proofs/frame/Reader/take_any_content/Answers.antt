@@ -2,7 +2,7 @@ use Rattle.std.proofs.Common.{sym, ◌∙◌}
 use Rattle.yf_block.specs.ContentTied.{text_alone}
 use Rattle.yf_block.proofs.ContentSteps.{signless_there}
 use Rattle.yf_block.proofs.PropertiesLemmas.{no_properties}
-use Rattle.yf_block.proofs.frame.Reader.take_content.Goals as goal
+use Rattle.yf_block.proofs.frame.Reader.take_any_content.Goals as goal
 
 pub returns-in-Some : goal.returns-in-Some
 returns-in-Some c = record {
