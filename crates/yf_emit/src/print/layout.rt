@@ -1,7 +1,7 @@
 //! The layout of a normal reading: one pass over its events. Columns count from 0 here.
 ghost use Rattle.std.specs.Prelude.{◌<◌, ◌≡◌, length, OnOk, IfOk};
 ghost use Rattle.std.specs.String.{string_bytes};
-ghost use Rattle.yf_props.specs.Props.{props_value};
+ghost use Rattle.yf_stream.specs.WellFormed.{props_of};
 ghost use Rattle.yf_events.specs.Event.{event_value};
 ghost use Rattle.yf_emit.specs.Printing as Printing;
 ghost use Rattle.yf_emit.specs.Pages.{form_at, measure_at, placed_at, work_on};
@@ -25,7 +25,6 @@ use crate::style::Style;
 use std::alloc::{AllocError, Global};
 use yf_events::event::Event;
 use yf_events::reading::Reading;
-use yf_props::props::Props;
 
 /// The printer between two events.
 #[derive(Drop)]
@@ -47,54 +46,42 @@ impl Printer {
         ensures { OnOk result (state_of self.new ≡ Printing.leaf_at (work_on page.now) i (measure_at page.now i) (form_at page.now i)
             (placed_at page.now i) spot (state_of self.old)) }
     {
-        push_leaf(&mut self.output, page, i, spot)?;
-        self.done = page.plan.measures.at(i).last;
+        self.done = push_leaf(&mut self.output, page, i, spot)?;
         Ok(())
     }
 
     /// Begins a block collection, or prints a collection that is kept or empty.
+    #[inline(always)]
     fn collection(
         &mut self,
         page: &Page,
         i: usize,
         spot: Spot,
-        props: Props,
         first: Awaited,
     ) -> Result<(), AllocError>
         requires { i < length page.now.reading.now.events }
         ensures { OnOk result (state_of self.new ≡ Printing.collection_if (Printing.is_whole i (measure_at page.now i) (form_at page.now i))
-            (work_on page.now) i (measure_at page.now i) (form_at page.now i) (placed_at page.now i) (props_value props.entry)
-            first spot (state_of self.old)) }
+            (work_on page.now) i (measure_at page.now i) (form_at page.now i) (placed_at page.now i)
+            (props_of (placed_at page.now i).event) first spot (state_of self.old)) }
     {
-        let form = page.plan.forms.at(i);
-        if form.is_kept || page.plan.measures.at(i).is_leaf(i) {
+        if page.plan.forms.at(i).is_kept || page.plan.measures.at(i).is_leaf(i) {
             return self.leaf(page, i, spot);
         }
-        begin_collection(
-            &mut self.output,
-            &mut self.levels,
-            page,
-            &form,
-            spot,
-            &props,
-            first,
-        )?;
+        begin_collection(&mut self.output, &mut self.levels, page, i, spot, first)?;
         self.done = i;
         Ok(())
     }
 
     /// Prints the node that the event begins, or begins it where it is a block collection.
     #[inline(always)]
-    fn node_at(&mut self, page: &Page, i: usize, event: Event, spot: Spot) -> Result<(), AllocError>
+    fn node_at(&mut self, page: &Page, i: usize, spot: Spot) -> Result<(), AllocError>
         requires { i < length page.now.reading.now.events }
         ensures { OnOk result (state_of self.new ≡ Printing.node_in (work_on page.now) i (measure_at page.now i) (form_at page.now i)
-            (placed_at page.now i) (event_value event.entry) spot (state_of self.old)) }
+            (placed_at page.now i) (placed_at page.now i).event spot (state_of self.old)) }
     {
-        match event {
-            Event::SeqStart { props, .. } => {
-                self.collection(page, i, spot, props, Awaited::Item)
-            }
-            Event::MapStart { props, .. } => { self.collection(page, i, spot, props, Awaited::Key) }
+        match event_at(page, i) {
+            Event::SeqStart { .. } => self.collection(page, i, spot, Awaited::Item),
+            Event::MapStart { .. } => self.collection(page, i, spot, Awaited::Key),
             _ => self.leaf(page, i, spot),
         }
     }
@@ -109,7 +96,7 @@ impl Printer {
         if page.plan.measures.at(i).is_leaf(i) {
             return self.leaf(page, i, spot);
         }
-        self.node_at(page, i, event_at(page, i), spot)
+        self.node_at(page, i, spot)
     }
 
     /// Begins the next document.

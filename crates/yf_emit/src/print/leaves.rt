@@ -1,25 +1,24 @@
 //! Printing the nodes whose text goes to a line: scalars, aliases, and flow collections that are kept or empty. Columns
 //! count from 0 here.
-ghost use Rattle.std.specs.Prelude.{◌<◌, ◌≡◌, ◌+◌, drop, length, map, slice_get, OnOk, Some};
-ghost use Rattle.yf_props.specs.Props.{props_value};
-ghost use Rattle.yf_events.specs.Event.{event_value};
+ghost use Rattle.std.specs.Prelude.{◌<◌, ◌≡◌, ◌+◌, drop, length, map, slice_get, OnOk, IfOk, Some};
+ghost use Rattle.yf_stream.specs.WellFormed.{props_of};
 ghost use Rattle.yf_emit.specs.Deciding as Deciding;
 ghost use Rattle.yf_emit.specs.Drafts.{draft, with_text};
 ghost use Rattle.yf_emit.specs.Pages.{form_at, measure_at, placed_at, work_on};
 ghost use Rattle.yf_emit.specs.Printing as Printing;
 ghost use Rattle.yf_emit.specs.Printing.{colon_text, event_noted, events_noted, leaf_noted_if, lines_column, node_noted, with_kept, with_node_event};
 
-use crate::form::decide::Form;
 use crate::form::kept::push_kept;
 use crate::form::keys::has_space;
-use crate::print::looks::{entry_at, event_at, folded_at, span_at};
+use crate::print::looks::{
+    entry_at, event_at, folded_at, push_props_at, push_props_before_at, span_at,
+};
 use crate::print::output::Output;
 use crate::print::printer::{Page, Plan, Spot};
 use crate::text::block::{is_kept_whole, push_folded, push_header, push_literal, push_spaces};
-use crate::text::written::{push_props_alone, push_props_before, push_scalar};
+use crate::text::written::push_scalar;
 use std::alloc::AllocError;
 use yf_events::event::{Event, ScalarStyle, Span};
-use yf_props::props::Props;
 
 /// Prints what stands before the value of a key without `?`, in an entry at that column.
 fn before_value(
@@ -42,15 +41,18 @@ fn before_value(
     )
 }
 
-/// Prints what stands between the line so far and a node that has characters.
-fn before_text(output: &mut Output, page: &Page, form: &Form, spot: Spot) -> Result<(), AllocError>
-    ensures { OnOk result (draft output.new ≡ Printing.before_text (work_on page.now) form.now spot (draft output.old)) }
+/// Prints what stands between the line so far and a node that has characters, which the event at an index begins.
+#[inline(always)]
+fn before_text(output: &mut Output, page: &Page, i: usize, spot: Spot) -> Result<(), AllocError>
+    ensures { OnOk result (draft output.new ≡ Printing.before_text (work_on page.now) (form_at page.now i) spot (draft output.old)) }
 {
     match spot {
         Spot::Root => output.open_line(page.reading, &page.plan.trails, 0),
         Spot::Behind(_) => push_spaces(&mut output.line, page.plan.style.indent.saturating_sub(1)),
         Spot::Key => Ok(()),
-        Spot::Value(column) => before_value(output, page, form.key_comment, column),
+        Spot::Value(column) => {
+            before_value(output, page, page.plan.forms.at(i).key_comment, column)
+        }
     }
 }
 
@@ -88,35 +90,35 @@ fn push_block_scalar(
     }
 }
 
-/// Prints the scalar that the event is.
+/// Prints the scalar that the event at an index is: its lines are looked up where it is written on them.
 #[inline(always)]
 fn push_scalar_node(
     output: &mut Output,
-    plan: &Plan,
+    page: &Page,
+    i: usize,
     spot: Spot,
-    props: &Props,
     style: ScalarStyle,
     text: &str,
-    lines: &[&str],
 ) -> Result<(), AllocError>
-    ensures { OnOk result (draft output.new ≡ Printing.with_scalar plan.now.style spot (props_value props.now) style text.now
-        (map (λ line. line.now) lines.now) (draft output.old)) }
+    requires { i < length page.now.reading.now.events }
+    ensures { OnOk result (draft output.new ≡ Printing.with_scalar page.now.plan.now.style spot (props_of (placed_at page.now i).event) style text.now
+        (placed_at page.now i).folded (draft output.old)) }
 {
     match style {
         ScalarStyle::Plain => {
             if text.is_empty() {
-                return push_props_alone(&mut output.line, *props);
+                return push_props_at(&mut output.line, page, i);
             }
-            push_props_before(&mut output.line, props)?;
+            push_props_before_at(&mut output.line, page, i)?;
             output.line.push_str(text)
         }
         ScalarStyle::Single | ScalarStyle::Double => {
-            push_props_before(&mut output.line, props)?;
+            push_props_before_at(&mut output.line, page, i)?;
             push_scalar(&mut output.line, style, text)
         }
         ScalarStyle::Literal | ScalarStyle::Folded => {
-            push_props_before(&mut output.line, props)?;
-            push_block_scalar(output, plan, spot, style, text, lines)
+            push_props_before_at(&mut output.line, page, i)?;
+            push_block_scalar(output, page.plan, spot, style, text, folded_at(page, i))
         }
     }
 }
@@ -127,11 +129,11 @@ fn push_collection(
     page: &Page,
     i: usize,
     last: usize,
-    props: Props,
 ) -> Result<(), AllocError>
-    ensures { OnOk result (draft output.new ≡ with_kept (work_on page.now) i last (props_value props.entry) (draft output.old)) }
+    requires { i < length page.now.reading.now.events }
+    ensures { OnOk result (draft output.new ≡ with_kept (work_on page.now) i last (props_of (placed_at page.now i).event) (draft output.old)) }
 {
-    push_props_before(&mut output.line, &props)?;
+    push_props_before_at(&mut output.line, page, i)?;
     push_kept(
         page.alloc,
         &mut output.line,
@@ -149,32 +151,19 @@ fn push_node(
     page: &Page,
     i: usize,
     last: usize,
-    event: Event,
     spot: Spot,
 ) -> Result<(), AllocError>
     requires { i < length page.now.reading.now.events }
-    ensures { OnOk result (draft output.new ≡ with_node_event (work_on page.now) i last (event_value event.entry)
+    ensures { OnOk result (draft output.new ≡ with_node_event (work_on page.now) i last (placed_at page.now i).event
         (placed_at page.now i).folded spot (draft output.old)) }
 {
-    match event {
-        Event::Scalar { props, style, text } => {
-            push_scalar_node(
-                output,
-                page.plan,
-                spot,
-                &props,
-                style,
-                text,
-                folded_at(page, i),
-            )
-        }
+    match event_at(page, i) {
+        Event::Scalar { style, text, .. } => push_scalar_node(output, page, i, spot, style, text),
         Event::Alias { name } => {
             output.line.push('*')?;
             output.line.push_str(name)
         }
-        Event::SeqStart { props, .. } | Event::MapStart { props, .. } => {
-            push_collection(output, page, i, last, props)
-        }
+        Event::SeqStart { .. } | Event::MapStart { .. } => push_collection(output, page, i, last),
         _ => Ok(()),
     }
 }
@@ -185,12 +174,12 @@ fn note_leaf(
     output: &mut Output,
     page: &Page,
     i: usize,
+    is_leaf: bool,
     span: Option<Span>,
 ) -> Result<(), AllocError>
-    ensures { OnOk result (draft output.new ≡ leaf_noted_if (Printing.is_leaf (work_on page.now) i) (work_on page.now) i span
-        (draft output.old)) }
+    ensures { OnOk result (draft output.new ≡ leaf_noted_if is_leaf (work_on page.now) i span (draft output.old)) }
 {
-    if page.plan.measures.at(i).is_leaf(i) {
+    if is_leaf {
         if let Some(span) = span {
             output.meet(page.reading, span.start);
             output.add_trail(page.reading, page.plan.trails.of_leaf(i))?;
@@ -208,7 +197,8 @@ fn note_event(output: &mut Output, page: &Page, i: usize) -> Result<(), AllocErr
     if let Some(entry) = entry_at(page, i) {
         output.meet(page.reading, entry.start);
     }
-    note_leaf(output, page, i, span_at(page, i))
+    let is_leaf = page.plan.measures.at(i).is_leaf(i);
+    note_leaf(output, page, i, is_leaf, span_at(page, i))
 }
 
 /// Goes past the entries and leaves within a node that is printed, whose events stand from the one index to the other.
@@ -244,37 +234,44 @@ fn push_mark(output: &mut Output, with_space: bool) -> Result<(), AllocError>
 
 /// Prints the `:` after the node that the event at an index begins, where it is a key without `?`.
 #[inline(always)]
-fn push_colon(output: &mut Output, page: &Page, i: usize, spot: Spot) -> Result<(), AllocError>
+fn push_colon(
+    output: &mut Output,
+    page: &Page,
+    i: usize,
+    is_leaf: bool,
+    spot: Spot,
+) -> Result<(), AllocError>
     requires { i < length page.now.reading.now.events }
-    ensures { OnOk result (draft output.new ≡ Printing.colon_if spot (Deciding.has_space (placed_at page.now i).event
-        (Printing.is_leaf (work_on page.now) i)) (draft output.old)) }
+    ensures { OnOk result (draft output.new ≡ Printing.colon_if spot (Deciding.has_space (placed_at page.now i).event is_leaf)
+        (draft output.old)) }
 {
     match spot {
-        Spot::Key => {
-            let is_leaf = page.plan.measures.at(i).is_leaf(i);
-            push_mark(output, has_space(&event_at(page, i), is_leaf))
-        }
+        Spot::Key => push_mark(output, has_space(&event_at(page, i), is_leaf)),
         _ => Ok(()),
     }
 }
 
-/// Prints a leaf, an empty node or a flow collection that is kept, and the `:` after a key.
+/// Prints a leaf, an empty node or a flow collection that is kept, and the `:` after a key, and answers the index of its last event.
 pub(crate) fn push_leaf(
     output: &mut Output,
     page: &Page,
     i: usize,
     spot: Spot,
-) -> Result<(), AllocError>
+) -> Result<usize, AllocError>
     requires { i < length page.now.reading.now.events }
-    ensures { OnOk result (draft output.new ≡ Printing.leaf (work_on page.now) i (measure_at page.now i) (form_at page.now i)
+    ensures printed { OnOk result (draft output.new ≡ Printing.leaf (work_on page.now) i (measure_at page.now i) (form_at page.now i)
         (placed_at page.now i) spot (draft output.old)) }
+    ensures last { IfOk result (λ last. last ≡ (measure_at page.now i).last) }
 {
     let measure = page.plan.measures.at(i);
+    let is_leaf = measure.is_leaf(i);
+    let last = measure.last;
     if measure.first_leaf.is_some() {
-        before_text(output, page, &page.plan.forms.at(i), spot)?;
-        push_node(output, page, i, measure.last, event_at(page, i), spot)?;
-        note_leaf(output, page, i, span_at(page, i))?;
-        note_within(output, page, i, measure.last)?;
+        before_text(output, page, i, spot)?;
+        push_node(output, page, i, last, spot)?;
+        note_leaf(output, page, i, is_leaf, span_at(page, i))?;
+        note_within(output, page, i, last)?;
     }
-    push_colon(output, page, i, spot)
+    push_colon(output, page, i, is_leaf, spot)?;
+    Ok(last)
 }

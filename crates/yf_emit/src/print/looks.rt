@@ -1,9 +1,15 @@
 //! What a printer looks at of the event at an index: each part alone, so that no more of the event is put together than is printed.
-ghost use Rattle.std.specs.Prelude.{◌<◌, ◌≡◌, length, map};
+ghost use Rattle.std.specs.Prelude.{◌<◌, ◌≡◌, ◌++◌, length, map, not, OnOk};
+ghost use Rattle.std.specs.String.{string_bytes};
 ghost use Rattle.yf_events.specs.Event.{event_value};
+ghost use Rattle.yf_stream.specs.WellFormed.{props_of};
+ghost use Rattle.yf_emit.specs.OneLine.{props_text, space_behind};
 ghost use Rattle.yf_emit.specs.Pages.{placed_at};
+ghost use Rattle.yf_emit.specs.Rows.{is_empty_text};
 
 use crate::print::printer::Page;
+use crate::text::written::{has_props, push_props};
+use std::alloc::AllocError;
 use yf_events::event::{Entry, Event, Span};
 
 /// The event at an index.
@@ -39,4 +45,67 @@ pub(crate) fn folded_at<'r>(page: &Page<'r, '_>, i: usize) -> &'r [&'r str]
     ensures { map (λ line. line.now) result.now ≡ (placed_at page.now i).folded }
 {
     page.reading.folded_lines(i)
+}
+
+/// Whether the node that the event at an index begins has properties.
+#[inline(always)]
+pub(crate) fn has_props_at(page: &Page, i: usize) -> bool
+    requires { i < length page.now.reading.now.events }
+    ensures { result ≡ not (is_empty_text (props_text (props_of (placed_at page.now i).event))) }
+{
+    match event_at(page, i) {
+        Event::Scalar { props, .. } => has_props(&props),
+        Event::SeqStart { props, .. } => has_props(&props),
+        Event::MapStart { props, .. } => has_props(&props),
+        _ => false,
+    }
+}
+
+/// Appends the properties of that node. They are put together here alone, since most nodes have none.
+#[inline(never)]
+pub(crate) fn push_props_at(out: &mut String, page: &Page, i: usize) -> Result<(), AllocError>
+    requires { i < length page.now.reading.now.events }
+    ensures { OnOk result (string_bytes out.new ≡ string_bytes out.old ++ props_text (props_of (placed_at page.now i).event)) }
+{
+    match event_at(page, i) {
+        Event::Scalar { props, .. } => push_props(out, &props),
+        Event::SeqStart { props, .. } => push_props(out, &props),
+        Event::MapStart { props, .. } => push_props(out, &props),
+        _ => Ok(()),
+    }
+}
+
+/// Appends the properties of that node with a space after them; nothing where there are none.
+#[inline(always)]
+pub(crate) fn push_props_before_at(
+    out: &mut String,
+    page: &Page,
+    i: usize,
+) -> Result<(), AllocError>
+    requires { i < length page.now.reading.now.events }
+    ensures { OnOk result (string_bytes out.new ≡ string_bytes out.old ++ space_behind (props_text (props_of (placed_at page.now i).event))) }
+{
+    if !has_props_at(page, i) {
+        return Ok(());
+    }
+    push_props_at(out, page, i)?;
+    out.push(' ')
+}
+
+/// Appends the properties of that node, where it has any.
+#[inline(always)]
+pub(crate) fn push_props_if(
+    out: &mut String,
+    page: &Page,
+    i: usize,
+    with_props: bool,
+) -> Result<(), AllocError>
+    requires within { i < length page.now.reading.now.events }
+    requires props { with_props ≡ not (is_empty_text (props_text (props_of (placed_at page.now i).event))) }
+    ensures { OnOk result (string_bytes out.new ≡ string_bytes out.old ++ props_text (props_of (placed_at page.now i).event)) }
+{
+    if !with_props {
+        return Ok(());
+    }
+    push_props_at(out, page, i)
 }

@@ -52,6 +52,7 @@ fn push_comment(out: &mut String, comment: &Comment) -> Result<(), AllocError>
 }
 
 /// Appends a comment after a text, two spaces from it.
+#[inline(never)]
 fn push_behind(out: &mut String, comment: &Comment) -> Result<(), AllocError>
     ensures { OnOk result (string_bytes out.new ≡ string_bytes out.old ++ behind_two_spaces (comment_value comment.now)) }
 {
@@ -60,6 +61,7 @@ fn push_behind(out: &mut String, comment: &Comment) -> Result<(), AllocError>
 }
 
 /// Appends the comment at an index, where there is one, after a text.
+#[inline(always)]
 fn push_behind_if(
     out: &mut String,
     comments: &[Comment],
@@ -155,6 +157,7 @@ impl Output {
     }
 
     /// Ends the line by a comment, if there is one.
+    #[inline(always)]
     pub fn add_trail(&mut self, reading: &Reading, comment: Option<usize>) -> Result<(), AllocError>
         ensures { OnOk result (draft self.new ≡ Drafts.with_trail reading.now.comments comment (draft self.old)) }
     {

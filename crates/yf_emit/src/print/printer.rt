@@ -2,28 +2,25 @@
 //! beginning of block collections. Columns count from 0 here.
 ghost use Rattle.std.specs.Prelude.{◌<◌, ◌≡◌, ◌++◌, ◌∷◌, ◌==◌, false, length, map, not, reverse, slice_get, OnOk, IfOk};
 ghost use Rattle.std.specs.String.{string_bytes};
-ghost use Rattle.yf_props.specs.Props.{props_value};
+ghost use Rattle.yf_stream.specs.WellFormed.{props_of};
 ghost use Rattle.yf_emit.specs.Drafts.{draft};
 ghost use Rattle.yf_emit.specs.Printing as Printing;
 ghost use Rattle.yf_emit.specs.Pages.{form_at, placed_at, work_on};
 ghost use Rattle.yf_emit.specs.Printing.{level_of, levels_behind, marked, sign, space_text};
 ghost use Rattle.yf_emit.specs.Rows.{joined_words};
 
-use crate::form::decide::Form;
 use crate::form::forms::Forms;
 use crate::form::measures::Measures;
-use crate::print::looks::entry_at;
+use crate::print::looks::{entry_at, has_props_at, push_props_if};
 use crate::print::output::Output;
 use crate::print::trails::Trails;
 use crate::style::Style;
 use crate::text::block::push_spaces;
-use crate::text::written::{has_props, push_props};
 use std::alloc::{AllocError, Global};
 use yf_events::directive::Directive;
 use yf_events::document::Doc;
 use yf_events::event::Entry;
 use yf_events::reading::Reading;
-use yf_props::props::Props;
 
 /// What is decided of a reading before it is printed.
 #[derive(Drop)]
@@ -314,25 +311,26 @@ fn before_collection(
 }
 
 /// Prints a block collection's properties, and begins it.
+#[inline(always)]
 pub(crate) fn begin_collection(
     output: &mut Output,
     levels: &mut Vec<Level>,
     page: &Page,
-    form: &Form,
+    i: usize,
     spot: Spot,
-    props: &Props,
     first: Awaited,
 ) -> Result<(), AllocError>
+    requires { i < length page.now.reading.now.events }
     ensures printed { OnOk result (draft output.new ≡ Printing.collection_begun (work_on page.now)
-        (props_value props.now) spot (draft output.old)) }
-    ensures levels { OnOk result (reverse levels.new.items ≡ level_of form.now
-        (Printing.has_props (props_value props.now)) first spot ∷ reverse levels.old.items) }
+        (props_of (placed_at page.now i).event) spot (draft output.old)) }
+    ensures levels { OnOk result (reverse levels.new.items ≡ level_of (form_at page.now i)
+        (Printing.has_props (props_of (placed_at page.now i).event)) first spot ∷ reverse levels.old.items) }
 {
-    let with_props = has_props(props);
+    let with_props = has_props_at(page, i);
     before_collection(output, page, with_props, spot)?;
-    push_props(&mut output.line, props)?;
+    push_props_if(&mut output.line, page, i, with_props)?;
     levels.push(Level {
-        column: form.column,
+        column: page.plan.forms.at(i).column,
         awaited: first,
         is_inline: !with_props && matches!(spot, Spot::Behind(_)),
     })?;

@@ -1,5 +1,5 @@
 //! The text of a block scalar (YAML 1.2.2, section 8.1): its header and its lines.
-ghost use Rattle.std.specs.Prelude.{◌≡◌, ◌≤◌, ◌++◌, ◌∷◌, [], flat_map, map, replicate, OnOk};
+ghost use Rattle.std.specs.Prelude.{◌≡◌, ◌<◌, ◌≤◌, ◌++◌, ◌∷◌, [], flat_map, map, replicate, OnOk};
 ghost use Rattle.std.specs.String.{string_bytes};
 ghost use Rattle.yf_events.specs.declared.event.ScalarStyle.TheVariants.{Folded, Literal};
 ghost use Rattle.yf_emit.specs.BlockLines as BlockLines;
@@ -10,13 +10,34 @@ use std::alloc::AllocError;
 use yf_events::event::ScalarStyle;
 
 /// Appends spaces.
+#[inline(always)]
 pub fn push_spaces(out: &mut String, count: usize) -> Result<(), AllocError>
     ensures { OnOk result (string_bytes out.new ≡ string_bytes out.old ++ replicate count 32) }
 {
-    for _done in 0..count {
-        out.push(' ')?;
+    let mut left = count;
+    while left >= 8 {
+        out.push_str("        ")?;
+        left -= 8;
     }
-    Ok(())
+    push_few_spaces(out, left)
+}
+
+/// Appends less than eight spaces.
+#[inline(always)]
+fn push_few_spaces(out: &mut String, count: usize) -> Result<(), AllocError>
+    requires { count < 8 }
+    ensures { OnOk result (string_bytes out.new ≡ string_bytes out.old ++ replicate count 32) }
+{
+    match count {
+        0 => Ok(()),
+        1 => out.push(' '),
+        2 => out.push_str("  "),
+        3 => out.push_str("   "),
+        4 => out.push_str("    "),
+        5 => out.push_str("     "),
+        6 => out.push_str("      "),
+        _ => out.push_str("       "),
+    }
 }
 
 /// The text up to its last character that is no line feed.

@@ -2,5 +2,8 @@ use Rattle.std.proofs.Common.{◌≡◌, ◌++◌, replicate}
 use Rattle.std.specs.String.{string_bytes}
 use Rattle.yf_emit.proofs.text.block.push_spaces.Given as goal
 
-abbrev pub invariant-loop-done : goal.invariant-loop-done
-invariant-loop-done l = string_bytes l.out ≡ string_bytes l.initial.out ++ replicate l._done 32
+abbrev pub invariant-loop-left : goal.invariant-loop-left
+invariant-loop-left l = string_bytes l.out ++ replicate l.left 32 ≡ string_bytes l.initial.out ++ replicate l.count 32
+
+abbrev pub decreases-loop-left : goal.decreases-loop-left
+decreases-loop-left l = l.left
