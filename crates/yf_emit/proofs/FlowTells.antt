@@ -1,0 +1,36 @@
+-- The text of a flow collection from the measures of flow collections alone.
+use Rattle.std.proofs.Common.{◌≡◌, ℕ, ◌+◌, ◌-◌, ◌≤◌, true, false, ◌&&◌, List, [], Some, None, length, get_or, sym, ap, ◌∙◌, subst, arith}
+use Rattle.std.proofs.lemmas.Option.{get_or_from_slice_get}
+use Rattle.yf_events.specs.Event.{Placed}
+use Rattle.yf_events.specs.Tree.{Node, flat}
+use Rattle.yf_emit.specs.declared.form.measure.Measure.{Measure}
+use Rattle.yf_emit.specs.declared.style.Style.{Style}
+use Rattle.yf_emit.specs.FlowTexts.{TellsFlow}
+use Rattle.yf_emit.specs.FlowsAlone.{flows_alone, is_flow}
+use Rattle.yf_emit.specs.Keys.{AddsKept, NodeAt}
+use Rattle.yf_emit.specs.Measures.{Measured, measure_of, no_measure}
+use Rattle.yf_emit.specs.Normal.{Setting}
+use Rattle.yf_emit.proofs.FlowParts.{flow_at}
+use Rattle.yf_emit.proofs.KeptLemmas.{kept_text_none, kept_text_some, last_then}
+use Rattle.yf_emit.proofs.OneLineRuns.{flat_filled}
+
+measure_here : (t : List ℕ) (c : Setting) (es : List Placed) (ms : List Measure) (i : ℕ) (x : Node) → Measured t c (flows_alone 0 es) ms → NodeAt es i x
+    → is_flow x ≡ true → get_or ms i no_measure ≡ measure_of t c i x
+measure_here t c es ms i x m n f = get_or_from_slice_get ms i (measure_of t c i x) no_measure (m.each i x (flow_at n f))
+
+pub flow_tells_some : (es : List Placed) (s : Style) (ms : List Measure) (i : ℕ) (m : Measure) (old new : List ℕ) → m ≡ get_or ms i no_measure → old ≡ []
+    → AddsKept es s i m.last old new → m.can_be_kept ≡ true → TellsFlow es s ms i (Some new)
+flow_tells_some es s ms i m old new f b a k = record {
+  tells = λ t c e d x n w.
+      let here : m ≡ measure_of t c i x = f ∙ measure_here t c es ms i x d n w in
+      sym (kept_text_some t c x es s i m.last new (subst (λ v. AddsKept es s i m.last v new) b a) e n
+      (ap (λ v. v.last + 1) here ∙ last_then i (length (flat x)) (flat_filled x)) (sym (ap (λ v. v.can_be_kept) here) ∙ k));
+}
+
+pub flow_tells_none : (es : List Placed) (s : Style) (ms : List Measure) (i : ℕ) (m : Measure) → m ≡ get_or ms i no_measure → m.can_be_kept ≡ false
+    → TellsFlow es s ms i None
+flow_tells_none es s ms i m f k = record {
+  tells = λ t c e d x n w.
+      let here : m ≡ measure_of t c i x = f ∙ measure_here t c es ms i x d n w in
+      sym (kept_text_none t c x (sym (ap (λ v. v.can_be_kept) here) ∙ k));
+}
