@@ -1,12 +1,12 @@
 -- Flow collections stand whole among the events of which the others say nothing.
-use Rattle.std.proofs.Common.{◌≡◌, ℕ, zero, suc, ◌+◌, ◌<◌, ◌≤◌, Bool, true, false, true≢false, List, [], ◌∷◌, ◌++◌, Option, Some, None, length, map, take, refl, sym, ap, ◌∙◌, arith, append_assoc, add-one}
+use Rattle.std.proofs.Common.{◌≡◌, ℕ, zero, suc, ◌+◌, ◌≤◌, Bool, true, false, true≢false, List, [], ◌∷◌, ◌++◌, Option, Some, length, map, take, refl, sym, ap, ◌∙◌, arith, append_assoc, add-one}
 use Rattle.std.specs.Prelude.{slice_get, if◌then◌else◌}
 use Rattle.yf_events.specs.Event.{EventValue, Placed, sequence_starts, sequence_ends, mapping_starts, mapping_ends, scalar_node, alias_node, stream_starts, stream_ends, document_starts, document_ends}
 use Rattle.yf_events.specs.declared.event.Span.{Span}
 use Rattle.yf_events.specs.Tree.{Node, scalar, alias, sequence, mapping, Items, no_items, item, Pairs, no_pairs, pair, flat, flat_items, flat_pairs, placed, unplaced}
 use Rattle.yf_emit.specs.declared.form.measure.Measure.{Measure}
 use Rattle.yf_emit.specs.declared.form.collection.Open.{Open}
-use Rattle.yf_emit.specs.FlowsAlone.{depth_after, depth_behind, depths, event_seen, flows_alone, is_flow, is_outside, seen, span_seen}
+use Rattle.yf_emit.specs.FlowsAlone.{depth_after, next_depth, depths, event_seen, flows_alone, is_flow, is_outside, seen, span_seen}
 use Rattle.yf_emit.specs.Keys.{NodeAt}
 use Rattle.yf_emit.specs.Measures.{no_measure}
 use Rattle.yf_emit.specs.Measuring.{Found, found, has_text, passed}
@@ -55,11 +55,11 @@ flow_kept zero (alias at name) rest f = absurd (true≢false (sym f))
 
 seen_append : (d : ℕ) (xs ys : List Placed) → flows_alone d (xs ++ ys) ≡ flows_alone d xs ++ flows_alone (depths d xs) ys
 seen_append d [] ys = refl
-seen_append d (x ∷ xs) ys = ap (λ w. seen d x ∷ w) (seen_append (depth_behind d x.event) xs ys)
+seen_append d (x ∷ xs) ys = ap (λ w. seen d x ∷ w) (seen_append (next_depth d x.event) xs ys)
 
 pub seen_length : (d : ℕ) (xs : List Placed) → length (flows_alone d xs) ≡ length xs
 seen_length d [] = refl
-seen_length d (x ∷ xs) = ap suc (seen_length (depth_behind d x.event) xs)
+seen_length d (x ∷ xs) = ap suc (seen_length (next_depth d x.event) xs)
 
 -- a flow collection stands among them at its index
 pub flow_at : {es : List Placed} {i : ℕ} {x : Node} → NodeAt es i x → is_flow x ≡ true → NodeAt (flows_alone 0 es) i x
@@ -77,13 +77,13 @@ pub seen_there : (es : List Placed) (d i : ℕ) (v : EventValue) (s : Option Spa
     × (slice_get (map (λ e. e.span) (flows_alone d es)) i ≡ Some (span_seen (depths d (take i es)) v s))
 seen_there [] d i v s h k = cc
 seen_there (e ∷ es) d zero v s h k = (ap (λ w. Some (event_seen d w)) (some_one h), rw (some_one h, some_one k) refl)
-seen_there (e ∷ es) d (suc i) v s h k = seen_there es (depth_behind d e.event) i v s h k
+seen_there (e ∷ es) d (suc i) v s h k = seen_there es (next_depth d e.event) i v s h k
 
 pub depths_on : (es : List Placed) (d i : ℕ) (v : EventValue) → slice_get (map (λ e. e.event) es) i ≡ Some v
-    → depth_behind (depths d (take i es)) v ≡ depths d (take (suc i) es)
+    → next_depth (depths d (take i es)) v ≡ depths d (take (suc i) es)
 depths_on [] d i v h = cc
-depths_on (e ∷ es) d zero v h = ap (depth_behind d) (sym (some_one h))
-depths_on (e ∷ es) d (suc i) v h = depths_on es (depth_behind d e.event) i v h
+depths_on (e ∷ es) d zero v h = ap (next_depth d) (sym (some_one h))
+depths_on (e ∷ es) d (suc i) v h = depths_on es (next_depth d e.event) i v h
 
 -- the steps of the pass over them, as the code takes them
 
@@ -92,9 +92,9 @@ pub seen_with : (es : List Placed) (n i : ℕ) (v : EventValue) (s : Option Span
     → (slice_get (map (λ e. e.event) (flows_alone 0 es)) i ≡ Some (event_seen n v)) × (slice_get (map (λ e. e.span) (flows_alone 0 es)) i ≡ Some (span_seen n v s))
 seen_with es n i v s q h k = let a = seen_there es 0 i v s h k in (a.0 ∙ ap (λ m. Some (event_seen m v)) (sym q), a.1 ∙ ap (λ m. Some (span_seen m v s)) (sym q))
 
-pub depth_on : (es : List Placed) (n m i : ℕ) (v : EventValue) → n ≡ depths 0 (take i es) → slice_get (map (λ e. e.event) es) i ≡ Some v → m ≡ depth_behind n v
+pub depth_on : (es : List Placed) (n m i : ℕ) (v : EventValue) → n ≡ depths 0 (take i es) → slice_get (map (λ e. e.event) es) i ≡ Some v → m ≡ next_depth n v
     → m ≡ depths 0 (take (i + 1) es)
-depth_on es n m i v q h e = e ∙ ap (λ k. depth_behind k v) q ∙ depths_on es 0 i v h ∙ ap (λ k. depths 0 (take k es)) (sym (add-one i))
+depth_on es n m i v q h e = e ∙ ap (λ k. next_depth k v) q ∙ depths_on es 0 i v h ∙ ap (λ k. depths 0 (take k es)) (sym (add-one i))
 
 after_bound : (d : ℕ) (v : EventValue) → depth_after d v ≤ d + 1
 after_bound d (sequence_starts flow props) = omega arith
@@ -114,13 +114,13 @@ cut_bound : (b : Bool) (n m : ℕ) → n ≤ m → (if b then 0 else n) ≤ m
 cut_bound true n m l = omega arith
 cut_bound false n m l = l
 
-pub behind_bound : (d m : ℕ) (v : EventValue) → m ≡ depth_behind d v → m ≤ d + 1
-behind_bound d m v e = let l = cut_bound (is_outside d v) (depth_after d v) (d + 1) (after_bound d v) in omega (arith, e, l)
+pub next_bound : (d m : ℕ) (v : EventValue) → m ≡ next_depth d v → m ≤ d + 1
+next_bound d m v e = let l = cut_bound (is_outside d v) (depth_after d v) (d + 1) (after_bound d v) in omega (arith, e, l)
 
-pub outside_depth : (d : ℕ) (v : EventValue) → is_outside d v ≡ true → 0 ≡ depth_behind d v
+pub outside_depth : (d : ℕ) (v : EventValue) → is_outside d v ≡ true → 0 ≡ next_depth d v
 outside_depth d v e = rw e refl
 
-pub inside_depth : (d n : ℕ) (v : EventValue) → is_outside d v ≡ false → n ≡ depth_after d v → n ≡ depth_behind d v
+pub inside_depth : (d n : ℕ) (v : EventValue) → is_outside d v ≡ false → n ≡ depth_after d v → n ≡ next_depth d v
 inside_depth d n v e q = rw e q
 
 pub outside_passed : (t : List ℕ) (c : Setting) (i d : ℕ) (s : Option Span) (v : EventValue) (list next : List Measure) (stack : List Open) → is_outside d v ≡ true

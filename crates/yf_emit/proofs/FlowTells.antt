@@ -1,15 +1,17 @@
 -- The text of a flow collection from the measures of flow collections alone.
-use Rattle.std.proofs.Common.{◌≡◌, ℕ, ◌+◌, ◌-◌, ◌≤◌, true, false, ◌&&◌, List, [], Some, None, length, get_or, sym, ap, ◌∙◌, subst, arith}
+use Rattle.std.proofs.Common.{◌≡◌, ℕ, ◌+◌, true, false, List, [], ◌++◌, Some, None, length, get_or, refl, sym, ap, ◌∙◌, subst}
 use Rattle.std.proofs.lemmas.Option.{get_or_from_slice_get}
+use Rattle.yf_lines.specs.declared.quotes.Quotes.{Quotes}
 use Rattle.yf_events.specs.Event.{Placed}
 use Rattle.yf_events.specs.Tree.{Node, flat}
 use Rattle.yf_emit.specs.declared.form.measure.Measure.{Measure}
 use Rattle.yf_emit.specs.declared.style.Style.{Style}
-use Rattle.yf_emit.specs.FlowTexts.{TellsFlow}
+use Rattle.yf_emit.specs.FlowTexts.{TellsFlow, text_measured}
 use Rattle.yf_emit.specs.FlowsAlone.{flows_alone, is_flow}
 use Rattle.yf_emit.specs.Keys.{AddsKept, NodeAt}
 use Rattle.yf_emit.specs.Measures.{Measured, measure_of, no_measure}
 use Rattle.yf_emit.specs.Normal.{Setting}
+use Rattle.yf_emit.specs.OneLineRun.{between, run}
 use Rattle.yf_emit.proofs.FlowParts.{flow_at}
 use Rattle.yf_emit.proofs.KeptLemmas.{kept_text_none, kept_text_some, last_then}
 use Rattle.yf_emit.proofs.OneLineRuns.{flat_filled}
@@ -34,3 +36,14 @@ flow_tells_none es s ms i m f k = record {
       let here : m ≡ measure_of t c i x = f ∙ measure_here t c es ms i x d n w in
       sym (kept_text_none t c x (sym (ap (λ v. v.can_be_kept) here) ∙ k));
 }
+
+pub text_some : (q : Quotes) (es : List Placed) (i : ℕ) (m n : Measure) (old new : List ℕ) → m ≡ n → old ≡ [] → new ≡ old ++ run q [] (between i m.last es)
+    → m.can_be_kept ≡ true → Some new ≡ text_measured q es i n
+text_some q es i m n old new e b a k =
+    let h : n.can_be_kept ≡ true = sym (ap (λ w. w.can_be_kept) e) ∙ k in
+    rw h (ap Some (a ∙ ap (λ w. w ++ run q [] (between i m.last es)) b ∙ ap (λ w. run q [] (between i w.last es)) e))
+
+pub text_none : (q : Quotes) (es : List Placed) (i : ℕ) (m n : Measure) → m ≡ n → m.can_be_kept ≡ false → None ≡ text_measured q es i n
+text_none q es i m n e k =
+    let h : n.can_be_kept ≡ false = sym (ap (λ w. w.can_be_kept) e) ∙ k in
+    rw h refl

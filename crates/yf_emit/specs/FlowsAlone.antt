@@ -1,5 +1,5 @@
 -- The events of a reading of which those outside of its flow collections say nothing.
-use Rattle.std.specs.Prelude.{ℕ, zero, suc, Bool, true, false, not, if◌then◌else◌, List, [], ◌∷◌, Option, None}
+use Rattle.std.specs.Prelude.{ℕ, zero, suc, Bool, false, not, if◌then◌else◌, List, [], ◌∷◌, Option, None}
 use Rattle.yf_events.specs.Event.{EventValue, Placed, sequence_starts, sequence_ends, mapping_starts, mapping_ends, stream_starts}
 use Rattle.yf_events.specs.Tree.{Node, scalar, alias, sequence, mapping}
 use Rattle.yf_events.specs.declared.event.Span.{Span}
@@ -32,8 +32,8 @@ abbrev pub is_outside : ℕ → EventValue → Bool
 is_outside zero e = not (begins_flow e)
 is_outside (suc d) e = false
 
-abbrev pub depth_behind : ℕ → EventValue → ℕ
-depth_behind d e = if is_outside d e then zero else depth_after d e
+abbrev pub next_depth : ℕ → EventValue → ℕ
+next_depth d e = if is_outside d e then zero else depth_after d e
 
 abbrev pub event_seen : ℕ → EventValue → EventValue
 event_seen d e = if is_outside d e then stream_starts else e
@@ -46,9 +46,9 @@ seen d e = record e { event = event_seen d e.event; span = span_seen d e.event e
 
 abbrev pub flows_alone : ℕ → List Placed → List Placed
 flows_alone d [] = []
-flows_alone d (e ∷ es) = seen d e ∷ flows_alone (depth_behind d e.event) es
+flows_alone d (e ∷ es) = seen d e ∷ flows_alone (next_depth d e.event) es
 
 -- how many are open after all these events
 abbrev pub depths : ℕ → List Placed → ℕ
 depths d [] = d
-depths d (e ∷ es) = depths (depth_behind d e.event) es
+depths d (e ∷ es) = depths (next_depth d e.event) es

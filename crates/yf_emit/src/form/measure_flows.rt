@@ -4,7 +4,7 @@ ghost use Rattle.std.specs.List.Sorted.{IsNonDecreasingBy};
 ghost use Rattle.yf_comments.specs.Comment.{comment_value};
 ghost use Rattle.yf_events.specs.Event.{event_value};
 ghost use Rattle.yf_emit.specs.FlowsAlone as FlowsAlone;
-ghost use Rattle.yf_emit.specs.FlowsAlone.{depth_behind, event_seen, flows_alone, span_seen};
+ghost use Rattle.yf_emit.specs.FlowsAlone.{next_depth, event_seen, flows_alone, span_seen};
 ghost use Rattle.yf_emit.specs.FoundInPass.{FoundInPass};
 ghost use Rattle.yf_emit.specs.Measures.{no_measure, Measured};
 ghost use Rattle.yf_emit.specs.Measuring as Measuring;
@@ -65,7 +65,7 @@ fn pass_seen(
     i: usize,
 ) -> Result<usize, AllocError>
     requires { depth + 1 < 2 ^ 64 }
-    ensures depth { IfOk result (λ d. d ≡ depth_behind depth (event_value event.now)) }
+    ensures depth { IfOk result (λ d. d ≡ next_depth depth (event_value event.now)) }
     ensures passed { IfOk result (λ _. IsNonDecreasingBy (λ c. c.offset) comments.now → length list.old ≡ i
         → found list.new (reverse stack.new.items) ≡ Measuring.passed text.now
         (setting style.now (map comment_value comments.now)) i (span_seen depth (event_value event.now) span)
@@ -119,7 +119,9 @@ pub fn measure_flows(
     reading: &Reading,
     style: &Style,
 ) -> Result<Measures, AllocError>
-    ensures { IfOk result (λ m. IsNonDecreasingBy (λ c. c.offset) reading.now.comments
+    ensures found { IfOk result (λ m. IsNonDecreasingBy (λ c. c.offset) reading.now.comments
+        → FoundInPass src.now.text (setting_of reading.now style.now) (flows_alone 0 reading.now.events) m) }
+    ensures measured { IfOk result (λ m. IsNonDecreasingBy (λ c. c.offset) reading.now.comments
         → Measured src.now.text (setting_of reading.now style.now) (flows_alone 0 reading.now.events) m) }
 {
     let measures = measured_flows(alloc, src.text(), reading.comments(), reading, style)?;

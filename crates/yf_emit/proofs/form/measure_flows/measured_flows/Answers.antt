@@ -4,7 +4,7 @@ use Rattle.yf_comments.specs.Comment.{comment_value}
 use Rattle.yf_events.specs.Event.{event_value}
 use Rattle.yf_emit.specs.FlowsAlone.{flows_alone}
 use Rattle.yf_emit.specs.Measuring.{setting}
-use Rattle.yf_emit.proofs.FlowParts.{behind_bound, depth_on, seen_length, seen_with}
+use Rattle.yf_emit.proofs.FlowParts.{next_bound, depth_on, seen_length, seen_with}
 use Rattle.yf_emit.proofs.StepLemmas.{at_last, runs_on, texts_on}
 use Rattle.yf_emit.proofs.form.measure_flows.measured_flows.Goals as goal
 
@@ -15,7 +15,7 @@ loop-i-preserved c =
     let v = event_value c.event.result in
     let at = seen_with es c.loop-i.depth c.loop-i.i v c.span-span.result c.loop-i.invariant.depth c.event.ensures c.span-span.ensures in
     let now = c.in_ok-depth.ensures in
-    let l = behind_bound c.loop-i.depth c.in_ok-depth.depth v now.depth in
+    let l = next_bound c.loop-i.depth c.in_ok-depth.depth v now.depth in
     let m = c.loop-i.invariant.bound in record {
       depth = depth_on es c.loop-i.depth c.in_ok-depth.depth c.loop-i.i v c.loop-i.invariant.depth c.event.ensures now.depth;
       bound = omega (arith, l, m);
