@@ -45,7 +45,7 @@ measure_at : (t : List ℕ) (c : Setting) (es : List Placed) (ms : List Measure)
     → get_or ms i no_measure ≡ measure_of t c i x
 measure_at t c es ms i x m n = get_or_from_slice_get ms i (measure_of t c i x) no_measure (m.each i x n)
 
-last_then : (i n : ℕ) → 1 ≤ n → i + n - 1 + 1 ≡ i + n
+pub last_then : (i n : ℕ) → 1 ≤ n → i + n - 1 + 1 ≡ i + n
 last_then i n l = omega (arith, l)
 
 pub tells_some : (es : List Placed) (s : Style) (ms : List Measure) (i : ℕ) (m : Measure) (old new : List ℕ) → m ≡ get_or ms i no_measure → old ≡ []

@@ -15,6 +15,7 @@ pub mod EndedLemmas
 pub mod PassLemmas
 pub mod StepLemmas
 pub mod MeasuredLemmas
+pub mod FlowParts
 -- `decide` and `implicit_key`: the form of each node
 pub mod IndexLemmas
 pub mod AmongLemmas
@@ -34,6 +35,7 @@ pub mod FlagLemmas
 pub mod WantedLemmas
 pub mod OneLineRuns
 pub mod KeptLemmas
+pub mod FlowTells
 -- `normal`: the normal form of a reading, which is settled, and the only one
 pub mod RestyledLemmas
 pub mod NormalLemmas

@@ -54,3 +54,5 @@ pub mod Undisturbed
 pub mod FoundTrees
 pub mod AlikeBlocks
 pub mod FixedLaws
+pub mod FlowsAlone
+pub mod FlowTexts

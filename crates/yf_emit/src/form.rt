@@ -8,6 +8,7 @@ pub mod forms;
 pub mod kept;
 pub mod keys;
 pub mod measure;
+pub mod measure_flows;
 pub mod measures;
 pub(crate) mod narrow;
 pub(crate) mod places;

@@ -5,7 +5,10 @@ use Rattle.std.proofs.lemmas.Bool.{cases_lt}
 use Rattle.std.proofs.lemmas.List.{length-map}
 use Rattle.std.proofs.lemmas.Option.{get_or_from_slice_get, slice_get-map, slice_get_cases}
 use Rattle.yf_emit.specs.Keys.{NodeAt}
+use Rattle.yf_emit.specs.FlowsAlone as FlowsAlone
+use Rattle.yf_emit.specs.FlowsAlone.{flows_alone}
 use Rattle.yf_emit.specs.Measures.{Measured, measure_of, no_measure}
+use Rattle.yf_emit.proofs.FlowParts.{flow_at}
 use Rattle.yf_emit.specs.Normal.{Setting}
 use Rattle.yf_emit.specs.declared.form.measure.Measure.{Measure}
 use Rattle.yf_emit.proofs.AmongLemmas.{Among, first_at}
@@ -148,6 +151,18 @@ last_there {i = i} {x = x} m d n e =
     let q = ap (λ w. w.last) (measure_there m d n e) in
     omega (arith, s, q)
 
+-- with measures of flow collections alone
+
+pub same_flow : (x : Node) → is_flow x ≡ true → FlowsAlone.is_flow x ≡ true
+same_flow (scalar at props style text lines) f = f
+same_flow (alias at name) f = f
+same_flow (sequence at flow props items) f = f
+same_flow (mapping at flow props pairs) f = f
+
+pub last_alone : {t : List ℕ} {c : Setting} {es : List Placed} {ms : List Measure} {i : ℕ} {x : Node} (m : Measure) → Measured t c (flows_alone 0 es) ms
+    → NodeAt es i x → is_flow x ≡ true → m ≡ get_or ms i no_measure → m.last + 1 ≡ i + length (flat x)
+last_alone {x = x} m d n f e = last_there m d (flow_at n (same_flow x f)) e
+
 -- as the code passes an event
 
 pub item_at : {X : Type 0} (xs : List X) (i : ℕ) → i < length xs → (x : X) × (slice_get xs i ≡ Some x)
@@ -166,6 +181,14 @@ flow_done r trees i done starts m l t ms d h f s q =
     let e = event_at r i l in
     let b = flow_begun r trees i e.0 t e.1 (sym (f e.0 e.1) ∙ s) in
     flow_passed b.0 m.last d h b.1 b.2 (last_there m ms b.1 q)
+
+pub alone_done : (r : Lists) (trees : List DocumentTree) (i done : ℕ) (starts : Bool) (m : Measure) {t : List ℕ} {c : Setting} {ms : List Measure} → i < length r.events
+    → TreesOf r trees → Measured t c (flows_alone 0 r.events) ms → FlowsDone r.events i done → done < i
+    → ((e : EventValue) → slice_get (events_of r) i ≡ Some e → starts ≡ starts_flow e) → starts ≡ true → m ≡ get_or ms i no_measure → FlowsDone r.events (i + 1) m.last
+alone_done r trees i done starts m l t ms d h f s q =
+    let e = event_at r i l in
+    let b = flow_begun r trees i e.0 t e.1 (sym (f e.0 e.1) ∙ s) in
+    flow_passed b.0 m.last d h b.1 b.2 (last_alone m ms b.1 b.2 q)
 
 pub no_flow_done : (r : Lists) (i done : ℕ) (starts : Bool) → i < length r.events → FlowsDone r.events i done → done < i
     → ((e : EventValue) → slice_get (events_of r) i ≡ Some e → starts ≡ starts_flow e) → starts ≡ false → FlowsDone r.events (i + 1) done

@@ -1,10 +1,11 @@
 //! The text of a flow collection that is kept on one line.
-ghost use Rattle.std.specs.Prelude.{◌≡◌, [], ◌∷◌, ◌++◌, encode_utf8, false, option_map, reverse, IfErr, IfOk, OnOk};
+ghost use Rattle.std.specs.Prelude.{◌≡◌, [], ◌∷◌, ◌++◌, encode_utf8, false, get_or, option_map, reverse, IfErr, IfOk, OnOk};
 ghost use Rattle.std.specs.String.{string_bytes};
 ghost use Rattle.yf_props.specs.Props.{props_value};
 ghost use Rattle.yf_events.specs.Event.{event_value};
+ghost use Rattle.yf_emit.specs.FlowTexts.{TellsFlow, text_measured};
 ghost use Rattle.yf_emit.specs.Keys.{AddsKept};
-ghost use Rattle.yf_emit.specs.Measures.{IsKeptText, TellsKept};
+ghost use Rattle.yf_emit.specs.Measures.{IsKeptText, TellsKept, no_measure};
 ghost use Rattle.yf_emit.specs.Normal.{setting_of};
 ghost use Rattle.yf_emit.specs.Textual.{CommentsAscend};
 ghost use Rattle.yf_emit.specs.OneLineRun as OneLineRun;
@@ -210,6 +211,27 @@ pub fn kept_text_of(
     style: &Style,
 ) -> Result<Option<String>, AllocError>
     ensures { IfOk result (λ o. TellsKept reading.now.events style.now measures.now i (option_map string_bytes o)) }
+{
+    let measure = measures.at(i);
+    if !measure.can_be_kept {
+        return Ok(None);
+    }
+    let mut text = String::new(alloc);
+    push_kept(alloc, &mut text, reading, i, measure.last, style)?;
+    Ok(Some(text))
+}
+
+/// The same of an event that begins a flow collection. The measures may be those of flow collections alone.
+pub fn kept_flow_text(
+    alloc: Global,
+    measures: &Measures,
+    reading: &Reading,
+    i: usize,
+    style: &Style,
+) -> Result<Option<String>, AllocError>
+    ensures exact { IfOk result (λ o. option_map string_bytes o
+        ≡ text_measured style.now.quotes reading.now.events i (get_or measures.now i no_measure)) }
+    ensures tells { IfOk result (λ o. TellsFlow reading.now.events style.now measures.now i (option_map string_bytes o)) }
 {
     let measure = measures.at(i);
     if !measure.can_be_kept {

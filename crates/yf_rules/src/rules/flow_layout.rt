@@ -1,5 +1,6 @@
 //! Rule 9, flow-layout.
-ghost use Rattle.std.specs.Prelude.{◌≡◌, ◌≢◌, ◌<◌, ℕ, true, false, List, Option, Some, length, slice_get, slice_range, IfOk, MatchBool};
+ghost use Rattle.std.specs.Prelude.{◌≡◌, ◌≢◌, ◌<◌, ◌+◌, ℕ, true, false, List, Option, Some, length, slice_get, slice_range, IfOk, MatchBool};
+ghost use Rattle.yf_emit.specs.FlowsAlone.{flows_alone};
 ghost use Rattle.yf_emit.specs.Keys.{NodeAt};
 ghost use Rattle.yf_emit.specs.Measures.{Measured};
 ghost use Rattle.yf_emit.specs.Normal.{Setting, setting_of};
@@ -14,11 +15,11 @@ ghost use Rattle.yf_rules.specs.OuterFlow as OuterFlow;
 ghost use Rattle.yf_rules.specs.OuterFlow.{FlowsDone, is_flow};
 ghost use Rattle.yf_rules.specs.Sets.{flow_layout_at};
 
-use crate::facts::outer_flow::{past_flow, starts_flow};
+use crate::facts::outer_flow::starts_flow;
 use crate::rule::{AllocError, Global, Offsets, Reading, Src, Style, push_found};
 pub use crate::rules::StyleRule::FlowLayout;
-use yf_emit::form::kept::kept_text_of;
-use yf_emit::form::measure::measure_all;
+use yf_emit::form::kept::kept_flow_text;
+use yf_emit::form::measure_flows::measure_flows;
 use yf_emit::form::measures::Measures;
 use yf_emit::text::content_start::content_start;
 use yf_events::event::{Event, Span};
@@ -30,7 +31,7 @@ pub fn offsets(alloc: Global, src: &Src, reading: &Reading, style: &Style) -> Of
     if !has_brackets(src, reading) {
         return Ok(Vec::new(alloc));
     }
-    let measures = measure_all(alloc, src, reading, style)?;
+    let measures = measure_flows(alloc, src, reading, style)?;
     let mut offsets = Vec::new(alloc);
     let mut done = 0;
     for i in 0..reading.len() {
@@ -38,9 +39,26 @@ pub fn offsets(alloc: Global, src: &Src, reading: &Reading, style: &Style) -> Of
             &mut offsets,
             displaced(alloc, src, reading, &measures, i, done, style)?,
         )?;
-        done = past_flow(reading, &measures, i, done);
+        done = past_alone(reading, &measures, i, done);
     }
     Ok(offsets)
+}
+
+/// Goes past the event at an index as `past_flow` does, with the measures of flow collections alone.
+#[inline(always)]
+fn past_alone(reading: &Reading, measures: &Measures, i: usize, done: usize) -> usize
+    requires { i < length reading.now.events }
+    ensures { (t : List ℕ) (c : Setting) (trees : List DocumentTree) → TreesOf reading.now trees
+        → Measured t c (flows_alone 0 reading.now.events) measures.now → FlowsDone reading.now.events i done
+        → FlowsDone reading.now.events (i + 1) result }
+{
+    if i <= done {
+        return done;
+    }
+    if starts_flow(reading, i) {
+        return measures.at(i).last;
+    }
+    done
 }
 
 /// Whether that text is this part of the text, which ends with the text at the latest.
@@ -86,7 +104,7 @@ fn empty_text(reading: &Reading, i: usize) -> &'static str
 
 /// Whether the collection that the event begins is empty: its end is the next event.
 fn is_empty(measures: &Measures, i: usize) -> bool
-    ensures { (t : List ℕ) (c : Setting) (es : List Placed) (x : Node) → Measured t c es measures.now → NodeAt es i x
+    ensures { (t : List ℕ) (c : Setting) (es : List Placed) (x : Node) → Measured t c (flows_alone 0 es) measures.now → NodeAt es i x
         → is_flow x ≡ true → MatchBool result (is_filled_flow x ≡ false) (is_filled_flow x ≡ true) }
 {
     if measures.at(i).last.saturating_sub(i) <= 1 {
@@ -108,7 +126,7 @@ fn is_displaced(
 ) -> Result<bool, AllocError>
     requires { i < length reading.now.events }
     ensures { IfOk result (λ wrong. (x : Node) → Measured src.now.text
-        (setting_of reading.now style.now) reading.now.events measures.now → NodeAt reading.now.events i x → is_flow x ≡ true
+        (setting_of reading.now style.now) (flows_alone 0 reading.now.events) measures.now → NodeAt reading.now.events i x → is_flow x ≡ true
         → MatchBool wrong (IsDisplaced src.now (setting_of reading.now style.now) x inside)
         (IsDisplaced src.now (setting_of reading.now style.now) x inside → ⊥)) }
 {
@@ -118,7 +136,7 @@ fn is_displaced(
         }
         return Ok(true);
     }
-    match kept_text_of(alloc, measures, reading, i, style)? {
+    match kept_flow_text(alloc, measures, reading, i, style)? {
         Some(text) => {
             if is_text(src.text(), inside, text.as_str()) {
                 return Ok(ends_behind(src, inside.end, style));
@@ -190,7 +208,7 @@ fn displaced(
 ) -> Result<Option<usize>, AllocError>
     requires { i < length reading.now.events }
     ensures { IfOk result (λ answer. (trees : List DocumentTree) → TreesOf reading.now trees
-        → Measured src.now.text (setting_of reading.now style.now) reading.now.events measures.now
+        → Measured src.now.text (setting_of reading.now style.now) (flows_alone 0 reading.now.events) measures.now
         → FlowsDone reading.now.events i done → Answers (Displaced src.now reading.now style.now i) answer) }
 {
     if i <= done {
