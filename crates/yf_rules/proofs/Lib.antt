@@ -10,6 +10,7 @@ pub mod ExactLemmas
 pub mod BegunLemmas
 pub mod NotedLemmas
 pub mod WhitesLemmas
+pub mod LastLemmas
 pub mod ColumnLemmas
 pub mod NodeLemmas
 pub mod FlowLemmas
