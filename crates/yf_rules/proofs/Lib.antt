@@ -40,12 +40,14 @@ pub mod KeyPassLemmas
 pub mod KeyListLemmas
 -- key-mark
 pub mod NeedlessLemmas
+pub mod SignLemmas
 -- the definitions by small readings
 pub mod ShownMarks
 mod ShownKeys
 -- for further theorems
 pub mod EntryLemmas
 pub mod FaultLemmas
+pub mod QuietLemmas
 pub mod EntryColumns
 pub mod MisindentLemmas
 pub mod NodePlaceLemmas

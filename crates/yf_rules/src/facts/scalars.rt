@@ -72,7 +72,7 @@ fn content_of(src: &Src, text: &str, after: usize) -> Option<ContentStart>
 
 /// Whether a scalar of this style is a block scalar.
 #[inline(always)]
-fn is_block_style(style: ScalarStyle) -> bool
+pub fn is_block_style(style: ScalarStyle) -> bool
     ensures { result ≡ Scalars.is_block_style style }
 {
     match style {
