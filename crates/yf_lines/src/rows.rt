@@ -35,6 +35,7 @@ pub fn row_of(line: Line) -> Result<LineRow, AllocError>
 }
 
 /// Where the text of a line ends after which the next line begins at that offset: before the break that ends there.
+#[inline(always)]
 pub fn text_end(text: &str, next: usize) -> usize
     ensures { result ≡ end_before text.now next }
 {
@@ -53,6 +54,7 @@ pub fn text_end(text: &str, next: usize) -> usize
 }
 
 /// Where the line after that of an index begins; the end of the text after the last one.
+#[inline(always)]
 fn start_after(rows: &[LineRow], i: usize, end: usize) -> usize
     requires { i < length rows.now }
     ensures { result ≡ next_start rows.now i end }
@@ -65,6 +67,7 @@ fn start_after(rows: &[LineRow], i: usize, end: usize) -> usize
 }
 
 /// The line of an index, from 0.
+#[inline(always)]
 pub fn line_at(text: &str, rows: &[LineRow], i: usize) -> Line
     requires { i < length rows.now }
     ensures { slice_get (lines_of text.now (length text.now) rows.now) i ≡ Some result }

@@ -39,6 +39,7 @@ impl<'a> Src<'a> {
     }
 
     /// The text.
+    #[inline(always)]
     pub fn text(&self) -> &'a str
         ensures { result.now ≡ self.now.text }
     {
@@ -46,6 +47,7 @@ impl<'a> Src<'a> {
     }
 
     /// The text's lines.
+    #[inline(always)]
     pub fn lines(&self) -> &LineTable<'a>
         ensures { result.now ≡ self.now }
     {

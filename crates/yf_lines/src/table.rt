@@ -56,6 +56,7 @@ impl<'a> LineTable<'a> {
     }
 
     /// The text that the table was built of.
+    #[inline(always)]
     pub fn text(&self) -> &'a str
         ensures { result.now ≡ self.now.text }
     {
@@ -63,6 +64,7 @@ impl<'a> LineTable<'a> {
     }
 
     /// How many lines the text has.
+    #[inline(always)]
     pub fn len(&self) -> usize
         ensures count { result ≡ length self.now.lines }
         ensures lines { AreLines self.now.text self.now.lines }
@@ -78,6 +80,7 @@ impl<'a> LineTable<'a> {
     }
 
     /// The line of that index, from 0.
+    #[inline(always)]
     pub fn line(&self, i: usize) -> Line
         requires { i < length self.now.lines }
         ensures item { slice_get self.now.lines i ≡ Some result }

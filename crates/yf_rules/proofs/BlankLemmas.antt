@@ -34,6 +34,7 @@ use Rattle.yf_rules.specs.ScalarLines.{InRange}
 use Rattle.yf_rules.specs.Scalars.{IsScalar}
 use Rattle.yf_rules.specs.Whites.{WhitesEnd}
 use Rattle.yf_rules.proofs.BlockLemmas.{scalar_same}
+use Rattle.yf_rules.proofs.LastLemmas.{EndsInText, no_white_end}
 use Rattle.yf_rules.proofs.NotedLemmas.{sole_noted, none_noted}
 
 -- the lines of a scalar are told by where its content begins and where it ends
@@ -157,6 +158,10 @@ unless_parts {src} l e (is_white {l = m} f w) = (refl, subst (λ (x : Line). Whi
 
 pub other_no_blank : (src : Table) (k : ℕ) (b : Bool) (l : Line) → slice_get src.lines k ≡ Some l → (WhitesEnd src.text l.start l.end l.start → ⊥) → BlankUnless src k b → ⊥
 other_no_blank src k b l e n u = n (unless_parts l e u).1
+
+-- a line that ends in text is none of white space
+pub text_unless : (src : Table) (k : ℕ) (b : Bool) → EndsInText src k → BlankUnless src k b → ⊥
+text_unless src k b f (is_white {l} e w) = let p = f l e in no_white_end src.text l.start l.end l.start p.1 w p.0
 
 pub white_unless : (src : Table) (k : ℕ) (b white : Bool) (l : Line) → b ≡ false → slice_get src.lines k ≡ Some l
     → MatchBool white (WhitesEnd src.text l.start l.end l.start) (WhitesEnd src.text l.start l.end l.start → ⊥) → MatchBool white (BlankUnless src k b) (BlankUnless src k b → ⊥)

@@ -10,6 +10,7 @@ pub mod ExactLemmas
 pub mod BegunLemmas
 pub mod NotedLemmas
 pub mod WhitesLemmas
+pub mod LastLemmas
 pub mod ColumnLemmas
 pub mod NodeLemmas
 pub mod FlowLemmas
@@ -39,12 +40,14 @@ pub mod KeyPassLemmas
 pub mod KeyListLemmas
 -- key-mark
 pub mod NeedlessLemmas
+pub mod SignLemmas
 -- the definitions by small readings
 pub mod ShownMarks
 mod ShownKeys
 -- for further theorems
 pub mod EntryLemmas
 pub mod FaultLemmas
+pub mod QuietLemmas
 pub mod EntryColumns
 pub mod MisindentLemmas
 pub mod NodePlaceLemmas

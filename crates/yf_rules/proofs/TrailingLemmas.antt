@@ -1,5 +1,5 @@
 -- Laws of the white space at the ends of lines.
-use Rattle.std.proofs.Common.{◌≡◌, ℕ, ◌<◌, ◌≤◌, Bool, true, false, List, Option, Some, None, length, get_or, refl, sym, subst, ◌∙◌, ⊎_elim, arith, true≢false}
+use Rattle.std.proofs.Common.{◌≡◌, ℕ, ◌<◌, ◌≤◌, Bool, true, false, List, [], Option, Some, None, length, get_or, refl, sym, subst, ◌∙◌, ⊎_elim, arith, true≢false}
 use Rattle.std.specs.Prelude.{slice_get}
 use Rattle.std.proofs.lemmas.Bool.{cases_Bool}
 use Rattle.std.proofs.lemmas.List.{length-map}
@@ -13,11 +13,12 @@ use Rattle.yf_lines.proofs.TableLemmas.{some_same}
 use Rattle.yf_rules.specs.ByLine.{BlankEnd, TrailingBlank}
 use Rattle.yf_rules.specs.ByLine.BlankEnd.{at_line_end}
 use Rattle.yf_rules.specs.ByLine.TrailingBlank.{trailing}
-use Rattle.yf_rules.specs.Exact.{Answers, Sole}
+use Rattle.yf_rules.specs.Exact.{Answers, Exactly, Sole}
 use Rattle.yf_rules.specs.Noted.{NotedBy}
 use Rattle.yf_rules.specs.Scalars.{ContentLine}
 use Rattle.yf_rules.specs.Scalars.ContentLine.{of_block}
 use Rattle.yf_rules.specs.Whites.{WhitesEnd}
+use Rattle.yf_rules.proofs.ExactLemmas.{none_yet}
 use Rattle.yf_rules.proofs.WhitesLemmas.{whites_unique}
 
 not_of_content : {src : Table} {k o : ℕ} {b : Bool} → BlankEnd src k b o → b ≡ false
@@ -68,3 +69,18 @@ module _ (src : Table) (r : Lists) (list : List Bool) (k : ℕ) (b : Bool) (insi
 
 pub trailing_line : {src : Table} {r : Lists} {k o : ℕ} → TrailingBlank src r k o → k < length src.lines
 trailing_line {src} {r} {k} (trailing (at_line_end {l} e w h) n) = slice_get_within src.lines k l e
+
+pub blank_line : {src : Table} {k o : ℕ} {b : Bool} → BlankEnd src k b o → k < length src.lines
+blank_line {src} {k} (at_line_end {l} e w h) = slice_get_within src.lines k l e
+
+no_end : {src : Table} {r : Lists} {k o : ℕ} → ((j x : ℕ) → BlankEnd src j false x → ⊥) → TrailingBlank src r k o → ⊥
+no_end {k = k} {o = o} f (trailing h n) = f k o h
+
+-- where white space ends no line, nothing is found
+pub no_trailing : (src : Table) (r : Lists) (xs : List ℕ) → xs ≡ [] → ((k o : ℕ) → BlankEnd src k false o → ⊥) → Exactly (TrailingBlank src r) xs
+no_trailing src r xs e f =
+    let empty = none_yet (TrailingBlank src r) xs e in
+    record {
+      only = λ x c. let w = empty.only x c in (w.0, w.2);
+      all = λ k x h. absurd (no_end f h);
+    }

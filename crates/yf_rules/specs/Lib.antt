@@ -7,6 +7,7 @@ pub mod Styles
 pub mod Cover
 pub mod BlockLines
 pub mod ScalarStarts
+pub mod Quiet
 pub mod ByLine
 pub mod Documents
 pub mod BlankLines

@@ -7,7 +7,7 @@ ghost use Rattle.yf_rules.specs.Whites.{IsAlone};
 
 use crate::facts::begun::lines_begun;
 use crate::facts::noted_lines::scalar_lines;
-use crate::facts::whites::is_white_line;
+use crate::facts::whites::{ends_in_text, is_white_line};
 use crate::rules::document_start::markers;
 use std::alloc::{AllocError, Global};
 use yf_chars::text::stands;
@@ -124,6 +124,9 @@ fn is_blank(src: &Src, k: usize, is_inside: bool) -> bool
     ensures { MatchBool result (BlankUnless src.now k is_inside) (BlankUnless src.now k is_inside → ⊥) }
 {
     if is_inside {
+        return false;
+    }
+    if ends_in_text(src, k) {
         return false;
     }
     is_white_line(src.text(), src.lines().line(k))

@@ -72,7 +72,7 @@ fn content_of(src: &Src, text: &str, after: usize) -> Option<ContentStart>
 
 /// Whether a scalar of this style is a block scalar.
 #[inline(always)]
-fn is_block_style(style: ScalarStyle) -> bool
+pub fn is_block_style(style: ScalarStyle) -> bool
     ensures { result ≡ Scalars.is_block_style style }
 {
     match style {
@@ -96,7 +96,7 @@ fn block_content(src: &Src, style: ScalarStyle, text: &str, after: usize) -> Opt
 /// The lines of the scalar that the event at an index is; `None` of any other event and of an empty scalar. They are looked for
 /// from the line of that index on, so that a pass over the events goes over the lines once: `first` of one scalar is the line
 /// for the next one.
-#[inline(always)]
+#[inline(never)]
 pub fn scalar_lines_at(src: &Src, reading: &Reading, i: usize, line: usize) -> Option<ScalarLines>
     requires { i < length reading.now.events }
     ensures { LinesOfScalar src.now reading.now i result }

@@ -1,8 +1,10 @@
 //! In which block collection each node stands, and at which column its entries do. Columns count from 0 here. It is told in
 //! one pass over the events, and kept of the open collections alone.
-ghost use Rattle.std.specs.Prelude.{◌≡◌, ◌<◌, ◌+◌, ◌&&◌, Some, None, [], drop, get_or, length, reverse, slice_get, IfOk};
-ghost use Rattle.yf_events.specs.Event.{EventValue};
+ghost use Rattle.std.specs.Prelude.{◌≡◌, ◌<◌, ◌+◌, ◌&&◌, ℕ, List, Some, None, [], drop, get_or, length, reverse, slice_get, IfOk};
+ghost use Rattle.yf_events.specs.Event.{EventValue, scalar_node};
 ghost use Rattle.yf_events.specs.Reading.{events_of};
+ghost use Rattle.yf_events.specs.declared.event.ScalarStyle.{ScalarStyle};
+ghost use Rattle.yf_props.specs.Props.{PropsValue};
 ghost use Rattle.yf_rules.specs.Entries as Entries;
 ghost use Rattle.yf_rules.specs.Entries.{all_entries, entries_from, start_at, unmarked_at};
 ghost use Rattle.yf_rules.specs.Passing.{IsPass, Opens, Passes};
@@ -219,6 +221,16 @@ impl Pass {
             Event::StreamStart | Event::StreamEnd | Event::DocStart { .. } | Event::DocEnd { .. } =>
                 Ok(Stand::NONE),
         }
+    }
+
+    /// Goes past a scalar, the event at an index, which is the next one, where it isn't asked where the scalar stands.
+    #[inline(always)]
+    pub fn go_by(&mut self, src: &Src, reading: &Reading, i: usize)
+        requires { i < length reading.now.events }
+        ensures { (props : PropsValue) (style : ScalarStyle) (text : List ℕ) → slice_get (events_of reading.now) i ≡ Some (scalar_node props style text)
+            → Passes src.now.text reading.now.events i (scalar_node props style text) self.old self.new (stand_in (reverse self.old.stack.items) None 0) }
+    {
+        let _ = next_stand(&mut self.stack, src, reading, i);
     }
 
     /// Goes past the start of a collection.

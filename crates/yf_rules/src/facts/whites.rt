@@ -1,5 +1,8 @@
 //! White space at the ends of lines and before comments.
-ghost use Rattle.std.specs.Prelude.{◌≡◌, ◌≤◌, MatchBool};
+ghost use Rattle.std.specs.Prelude.{◌≡◌, ◌-◌, ◌<◌, ◌≤◌, Some, true, false, length, slice_get, MatchBool};
+ghost use Rattle.yf_chars.specs.Class.{is_white};
+ghost use Rattle.yf_chars.specs.Text.{code};
+ghost use Rattle.yf_lines.specs.declared.line.Line.{Line};
 ghost use Rattle.yf_rules.specs.QuestionMarks.{HasQuestionMark};
 ghost use Rattle.yf_rules.specs.Whites.{WhitesEnd};
 
@@ -7,6 +10,7 @@ use yf_chars::text::stands;
 use yf_events::event::Entry;
 use yf_lines::basic::{white_or_end_stands, white_stands};
 use yf_lines::line::Line;
+use yf_lines::source_text::Src;
 
 /// The byte offset of the first of the white space that stands directly before `end`, and not before `start`.
 pub fn whites_before(text: &str, start: usize, end: usize) -> usize
@@ -35,7 +39,27 @@ pub fn is_white_line(text: &str, line: Line) -> bool
     whites_before(text, line.start, line.end) == line.start
 }
 
+/// Whether the line of that index has text and does not end with white space, as the byte before its line feed tells of most
+/// lines that do.
+#[inline(always)]
+pub fn ends_in_text(src: &Src, k: usize) -> bool
+    requires { k < length src.now.lines }
+    ensures { result ≡ true → (l : Line) → slice_get src.now.lines k ≡ Some l
+        → (l.start < l.end) × (is_white (code src.now.text (l.end - 1)) ≡ false) }
+{
+    let bytes = src.text().as_bytes();
+    let line = src.lines().line(k);
+    if line.next - line.start < 2 {
+        return false;
+    }
+    if bytes[line.next - 1] != b'\n' {
+        return false;
+    }
+    bytes[line.next - 2] > b' '
+}
+
 /// Whether an entry of a block mapping is written with a `?`.
+#[inline(always)]
 pub fn has_question_mark(text: &str, entry: Entry) -> bool
     ensures { MatchBool result (HasQuestionMark text.now entry.start) (HasQuestionMark text.now entry.start → ⊥) }
 {

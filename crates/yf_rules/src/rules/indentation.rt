@@ -1,14 +1,15 @@
 //! Rule 2, indentation.
-ghost use Rattle.std.specs.Prelude.{◌≡◌, ◌+◌, ◌<◌, ◌&&◌, Some, length, slice_get, IfOk};
+ghost use Rattle.std.specs.Prelude.{◌≡◌, ◌+◌, ◌<◌, ◌&&◌, true, Some, length, reverse, slice_get, IfOk};
 ghost use Rattle.yf_events.specs.Event.{EventValue};
 ghost use Rattle.yf_events.specs.Reading.{events_of};
-ghost use Rattle.yf_rules.specs.IndentFaults.{content_fault, content_in, entry_fault, fault_of};
+ghost use Rattle.yf_rules.specs.IndentFaults.{Reached, content_fault, content_in, entry_fault, fault_of};
+ghost use Rattle.yf_rules.specs.Quiet.{IsQuiet};
 ghost use Rattle.yf_rules.specs.Sets.{indentation_at};
 ghost use Rattle.yf_rules.specs.Stands.{is_other, wanted_column, wanted_indent};
 
-use crate::facts::scalars::{ScalarLines, block_lines_at};
+use crate::facts::scalars::{ScalarLines, block_lines_at, is_block_style};
 use crate::facts::stands::{Around, Pass, Stand};
-use crate::rule::{Global, Offsets, Reading, Src, Style, push_found};
+use crate::rule::{AllocError, Global, Offsets, Reading, Src, Style, push_found};
 pub use crate::rules::StyleRule::Indentation;
 use yf_events::event::Event;
 
@@ -20,14 +21,49 @@ pub fn offsets(alloc: Global, src: &Src, reading: &Reading, style: &Style) -> Of
     let mut offsets = Vec::new(alloc);
     let mut line = 0;
     for i in 0..reading.len() {
-        let stand = pass.next(src, reading, i)?;
-        let scalar = block_lines_at(src, reading, i, line);
-        if let Some(lines) = scalar {
-            line = lines.first;
-        }
-        push_found(&mut offsets, misplaced(reading, stand, scalar, i, style))?;
+        line = step(&mut pass, &mut offsets, src, reading, i, line, style)?;
     }
     Ok(offsets)
+}
+
+/// Whether the event is a scalar that is no block scalar: it can't be at fault.
+#[inline(always)]
+fn is_quiet(reading: &Reading, i: usize) -> bool
+    requires { i < length reading.now.events }
+    ensures { result ≡ true → IsQuiet reading.now i }
+{
+    match reading.event(i) {
+        Event::Scalar { style, .. } => !is_block_style(style),
+        _ => false,
+    }
+}
+
+/// Goes past the event at an index: adds what is found of it. The line from which on the next block scalar is looked for.
+#[inline(always)]
+fn step(
+    pass: &mut Pass,
+    offsets: &mut Vec<usize>,
+    src: &Src,
+    reading: &Reading,
+    i: usize,
+    line: usize,
+    style: &Style,
+) -> Result<usize, AllocError>
+    requires { i < length reading.now.events }
+    ensures { IfOk result (λ _. Reached src.now reading.now style.now pass.old.columns.items pass.old.begun i (reverse pass.old.stack.items) offsets.old.items
+        → Reached src.now reading.now style.now pass.new.columns.items pass.new.begun (i + 1) (reverse pass.new.stack.items) offsets.new.items) }
+{
+    if is_quiet(reading, i) {
+        pass.go_by(src, reading, i);
+        return Ok(line);
+    }
+    let stand = pass.next(src, reading, i)?;
+    let scalar = block_lines_at(src, reading, i, line);
+    push_found(offsets, misplaced(reading, stand, scalar, i, style))?;
+    match scalar {
+        Some(lines) => Ok(lines.first),
+        None => Ok(line),
+    }
 }
 
 /// Whether the one column is not so many columns to the right of the other.

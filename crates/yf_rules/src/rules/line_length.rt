@@ -22,7 +22,6 @@ pub fn offsets(alloc: Global, src: &Src, style: &Style) -> Offsets
 
 /// The byte offset after so many characters of a line, where at least one more stands before the line's end. A line of so
 /// many bytes has no more characters, so that these are counted of longer lines alone.
-#[inline(never)]
 fn behind_chars(text: &str, start: usize, end: usize, count: usize) -> Option<usize>
     requires start { IsCharBoundary text.now start }
     requires end { end ≤ length text.now }
@@ -49,8 +48,19 @@ fn behind_chars(text: &str, start: usize, end: usize, count: usize) -> Option<us
     None
 }
 
-/// The first character of the line of that index after the longest line that is allowed, if it is longer. Most lines have no
-/// more bytes than that with their break.
+/// The first character of the line of that index after the longest line that is allowed, if it is longer. Few lines are asked
+/// for it.
+#[inline(never)]
+fn beyond_far(src: &Src, k: usize, max_line: usize) -> Option<usize>
+    requires { k < length src.now.lines }
+    ensures { Answers (BeyondLimit src.now max_line k) result }
+{
+    let line = src.lines().line(k);
+    let start = skip_marks(src.text(), line.start);
+    behind_chars(src.text(), start, line.end, max_line)
+}
+
+/// The same. Most lines have no more bytes than that with their break, so that where a line ends before it is not looked for.
 #[inline(always)]
 fn beyond(src: &Src, k: usize, max_line: usize) -> Option<usize>
     requires { k < length src.now.lines }
@@ -60,6 +70,5 @@ fn beyond(src: &Src, k: usize, max_line: usize) -> Option<usize>
     if line.next.saturating_sub(line.start) <= max_line {
         return None;
     }
-    let start = skip_marks(src.text(), line.start);
-    behind_chars(src.text(), start, line.end, max_line)
+    beyond_far(src, k, max_line)
 }

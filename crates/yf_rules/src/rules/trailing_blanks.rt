@@ -1,10 +1,10 @@
 //! Rule 1, trailing-blanks.
-ghost use Rattle.std.specs.Prelude.{◌<◌, length, IfOk};
+ghost use Rattle.std.specs.Prelude.{◌≡◌, ◌<◌, ℕ, false, length, IfOk};
 ghost use Rattle.yf_rules.specs.ByLine.{BlankEnd, TrailingBlank};
 ghost use Rattle.yf_rules.specs.Exact.{Answers, Exactly};
 
 use crate::facts::noted_lines::content_lines;
-use crate::facts::whites::whites_before;
+use crate::facts::whites::{ends_in_text, whites_before};
 use crate::rule::{Global, Offsets, Reading, Src, push_found};
 pub use crate::rules::StyleRule::TrailingBlanks;
 
@@ -12,6 +12,9 @@ pub use crate::rules::StyleRule::TrailingBlanks;
 pub fn offsets(alloc: Global, src: &Src, reading: &Reading) -> Offsets
     ensures { IfOk result (λ offsets. Exactly (TrailingBlank src.now reading.now) offsets.items) }
 {
+    if !has_blank_ends(src) {
+        return Ok(Vec::new(alloc));
+    }
     let content = content_lines(alloc, src, reading)?;
     let mut offsets = Vec::new(alloc);
     for k in 0..content.len() {
@@ -20,12 +23,29 @@ pub fn offsets(alloc: Global, src: &Src, reading: &Reading) -> Offsets
     Ok(offsets)
 }
 
+/// Whether white space ends any line, of block scalars or not; it does in few texts.
+fn has_blank_ends(src: &Src) -> bool
+    ensures { result ≡ false → (k o : ℕ) → BlankEnd src.now k false o → ⊥ }
+{
+    for k in 0..src.lines().len() {
+        match blank_end(src, k, false) {
+            Some(_) => return true,
+            None => {}
+        }
+    }
+    false
+}
+
 /// Where the white space begin that end the line of that index, unless it is a content line of a block scalar.
+#[inline(always)]
 fn blank_end(src: &Src, k: usize, is_content: bool) -> Option<usize>
     requires { k < length src.now.lines }
     ensures { Answers (BlankEnd src.now k is_content) result }
 {
     if is_content {
+        return None;
+    }
+    if ends_in_text(src, k) {
         return None;
     }
     let line = src.lines().line(k);

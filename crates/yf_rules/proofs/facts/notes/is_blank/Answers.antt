@@ -1,8 +1,11 @@
 use Rattle.std.proofs.Common.{◌≡◌, Some, subst}
 use Rattle.std.specs.Prelude.{slice_get, MatchBool}
 use Rattle.yf_rules.specs.Whites.{WhitesEnd}
-use Rattle.yf_rules.proofs.BlankLemmas.{white_unless}
+use Rattle.yf_rules.proofs.BlankLemmas.{text_unless, white_unless}
 use Rattle.yf_rules.proofs.facts.notes.is_blank.Goals as goal
+
+pub returns-then-ends_in_text : goal.returns-then-ends_in_text
+returns-then-ends_in_text c = text_unless c.args.src.now c.args.k c.args.is_inside (c.ends_in_text.ensures c.if-ends_in_text.true)
 
 pub returns : goal.returns
 returns c =

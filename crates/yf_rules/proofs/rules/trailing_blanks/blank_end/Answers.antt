@@ -1,11 +1,15 @@
 use Rattle.std.proofs.Common.{◌≡◌, Some, subst}
 use Rattle.std.specs.Prelude.{slice_get}
 use Rattle.yf_rules.specs.Whites.{WhitesEnd}
+use Rattle.yf_rules.proofs.LastLemmas.{text_no_blank_end}
 use Rattle.yf_rules.proofs.TrailingLemmas.{blank_found, blank_none, content_has_none}
 use Rattle.yf_rules.proofs.rules.trailing_blanks.blank_end.Goals as goal
 
 pub returns-then-is_content : goal.returns-then-is_content
 returns-then-is_content c = content_has_none c.args.src.now c.args.k c.args.is_content c.if-is_content.true
+
+pub returns-then-ends_in_text : goal.returns-then-ends_in_text
+returns-then-ends_in_text c = text_no_blank_end c.args.src.now c.args.k c.args.is_content (c.ends_in_text.ensures c.if-ends_in_text.true)
 
 pub returns-then-at-line : goal.returns-then-at-line
 returns-then-at-line c =

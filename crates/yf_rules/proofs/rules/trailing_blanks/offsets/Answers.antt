@@ -2,8 +2,11 @@ use Rattle.std.proofs.Common.{◌≡◌, ◌<◌, ◌∙◌, false, get_or, leng
 use Rattle.std.proofs.lemmas.List.{get_or_default}
 use Rattle.yf_rules.specs.ByLine.{TrailingBlank}
 use Rattle.yf_rules.proofs.ExactLemmas.{answer_found, all_found_upto}
-use Rattle.yf_rules.proofs.TrailingLemmas.{trailing_answered, trailing_line}
+use Rattle.yf_rules.proofs.TrailingLemmas.{no_trailing, trailing_answered, trailing_line}
 use Rattle.yf_rules.proofs.rules.trailing_blanks.offsets.Goals as goal
+
+pub returns-then-not-has_blank_ends : goal.returns-then-not-has_blank_ends
+returns-then-not-has_blank_ends c = no_trailing c.args.src.now c.args.reading.now c.new.result.items c.new.ensures.items (c.has_blank_ends.ensures c.if-not-has_blank_ends.true)
 
 pub loop-k-preserved : goal.loop-k-preserved
 loop-k-preserved c =
