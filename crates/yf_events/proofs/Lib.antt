@@ -4,7 +4,6 @@
 pub mod Nests
 pub mod Rests
 pub mod Advances
-pub mod ShapeRuns
 pub mod Build
 -- `begins_leaf`, `leaves_before` and `place_of`
 pub mod LeafRuns

@@ -12,7 +12,6 @@ pub mod Pieces
 pub mod Plain
 pub mod Puts
 pub mod Reading
-pub mod Shapes
 pub mod Silent
 pub mod Tags
 pub mod Tree

@@ -36,7 +36,6 @@ impl<'a> Events<'a> {
     ghost use Rattle.yf_events.specs.Edit.{edited, ended, coloned};
     ghost use Rattle.yf_events.specs.Formed.{formed};
     ghost use Rattle.yf_events.specs.Packed.{shape_value};
-    ghost use Rattle.yf_events.specs.Shapes.{shape_of};
     ghost use Rattle.yf_events.specs.Silent.{NothingAt};
     ghost use Rattle.yf_events.specs.Tags.{written_tag};
     ghost use Rattle.yf_props.specs.Props.{no_props, optional_tag_value};
@@ -104,15 +103,6 @@ impl<'a> Events<'a> {
     {
         let row = &self.rows[i];
         event_of(row, more_in(self.more.as_slice(), row.more))
-    }
-
-    /// What kind of event the one at an index is.
-    #[inline(always)]
-    pub(crate) fn shape(&self, i: usize) -> Shape
-        requires { i < length self.now }
-        ensures { slice_get (map (λ e. shape_of e.event) self.now) i ≡ Some result }
-    {
-        self.rows[i].shape
     }
 
     /// The kind of the event at an index and its text, where it has nothing in the table.

@@ -1,10 +1,10 @@
 //! The test whether events are a well nested stream, in one pass.
 ghost use Rattle.std.specs.Prelude.{◌≡◌, ◌+◌, ◌≤◌, [], map, IfOk, MatchOption, vec_len};
+ghost use Rattle.yf_events.specs.Event.{event_value};
 ghost use Rattle.yf_events.specs.Nesting as Nesting;
-ghost use Rattle.yf_events.specs.Shapes.{shaped};
 
+use crate::event::Event;
 use crate::events::Events;
-use crate::packed::Shape;
 use std::alloc::{AllocError, Global};
 
 /// What may come next.
@@ -63,56 +63,56 @@ fn open(top: Awaited, within: Awaited) -> Move
     }
 }
 
-fn move_at(top: Awaited, shape: Shape) -> Move
-    ensures { result ≡ Nesting.move_at top (shaped shape) }
+fn move_at(top: Awaited, event: &Event) -> Move
+    ensures { result ≡ Nesting.move_at top (event_value event.now) }
 {
-    match shape {
-        Shape::Scalar { .. } | Shape::Alias => match after_node(top) {
-            Some(next) => Move::Stay(next),
-            None => Move::Refuse,
-        },
-        Shape::SeqStart { .. } => open(top, Awaited::Items),
-        Shape::MapStart { .. } => open(top, Awaited::Keys),
-        Shape::SeqEnd => match top {
-            Awaited::Items => Move::Close,
-            _ => Move::Refuse,
-        },
-        Shape::MapEnd => match top {
-            Awaited::Keys => Move::Close,
-            _ => Move::Refuse,
-        },
-        Shape::StreamStart => match top {
+    match event {
+        Event::StreamStart => match top {
             Awaited::Stream => Move::Stay(Awaited::Documents),
             _ => Move::Refuse,
         },
-        Shape::StreamEnd => match top {
+        Event::StreamEnd => match top {
             Awaited::Documents => Move::Stay(Awaited::Nothing),
             _ => Move::Refuse,
         },
-        Shape::DocStart { .. } => match top {
+        Event::DocStart { .. } => match top {
             Awaited::Documents => Move::Stay(Awaited::Root),
             _ => Move::Refuse,
         },
-        Shape::DocEnd { .. } => match top {
+        Event::DocEnd { .. } => match top {
             Awaited::Closing => Move::Stay(Awaited::Documents),
             _ => Move::Refuse,
+        },
+        Event::SeqStart { .. } => open(top, Awaited::Items),
+        Event::MapStart { .. } => open(top, Awaited::Keys),
+        Event::SeqEnd => match top {
+            Awaited::Items => Move::Close,
+            _ => Move::Refuse,
+        },
+        Event::MapEnd => match top {
+            Awaited::Keys => Move::Close,
+            _ => Move::Refuse,
+        },
+        Event::Scalar { .. } | Event::Alias { .. } => match after_node(top) {
+            Some(next) => Move::Stay(next),
+            None => Move::Refuse,
         },
     }
 }
 
-/// Goes past one event of that kind: what is awaited after it, or None where it may not come. `below` holds what is awaited after
+/// Goes past one event: what is awaited after it, or None where it may not come. `below` holds what is awaited after
 /// each open collection, the innermost last.
 fn advance(
     top: Awaited,
     below: &mut Vec<Awaited>,
-    shape: Shape,
+    event: &Event,
     limit: usize,
 ) -> Result<Option<Awaited>, AllocError>
     requires { vec_len below.old ≤ limit }
     ensures room { IfOk result (λ o. vec_len below.new ≤ limit) }
-    ensures runs { IfOk result (λ o. Nesting.Advances limit top below.old.items (shaped shape) o below.new.items) }
+    ensures runs { IfOk result (λ o. Nesting.Advances limit top below.old.items (event_value event.now) o below.new.items) }
 {
-    match move_at(top, shape) {
+    match move_at(top, event) {
         Move::Refuse => Ok(None),
         Move::Stay(next) => Ok(Some(next)),
         Move::Open { behind, within } => {
@@ -136,7 +136,7 @@ pub fn is_stream(alloc: Global, events: &Events, limit: usize) -> Result<bool, A
     let mut below: Vec<Awaited> = Vec::new(alloc);
     let mut top = Awaited::Stream;
     for i in 0..events.len() {
-        match advance(top, &mut below, events.shape(i), limit)? {
+        match advance(top, &mut below, &events.event(i), limit)? {
             Some(next) => {
                 top = next;
             }

@@ -1,8 +1,7 @@
 use Rattle.std.proofs.Common.{◌∙◌, ◌-◌, sym, ap, arith, add-one, drop, length, map, suc, ◌==◌}
 use Rattle.std.specs.Prelude.{reverse}
 use Rattle.yf_events.specs.Nesting.{runs_on}
-use Rattle.yf_events.proofs.Advances.{over_at, not_over_at, past_end}
-use Rattle.yf_events.proofs.ShapeRuns.{shape_goes_on}
+use Rattle.yf_events.proofs.Advances.{over_at, not_over_at, past_end, goes_on}
 use Rattle.yf_events.proofs.nesting.is_stream.Goals as goal
 
 pub returns-in-Nothing : goal.returns-in-Nothing
@@ -18,11 +17,11 @@ returns c =
 pub returns-in-None : goal.returns-in-None
 returns-in-None c =
     ap (λ o. runs_on o (c.args.limit - length c.advance.new.below.items) (reverse c.advance.new.below.items) (map (λ e. e.event) (drop (suc c.loop-i.i) c.args.events.now))) (sym c.in-None.is)
-    ∙ shape_goes_on c.args.limit c.loop-i.top c.loop-i.below.items c.advance.new.below.items _ c.in_ok-next.field-0 c.args.events.now c.loop-i.i _ c.in_ok-next.ensures.runs c.shape.ensures c.loop-i.invariant.1
+    ∙ goes_on c.args.limit c.loop-i.top c.loop-i.below.items c.advance.new.below.items _ c.in_ok-next.field-0 c.args.events.now c.loop-i.i _ c.in_ok-next.ensures.runs c.event.ensures c.loop-i.invariant.1
 
 pub loop-i-preserved : goal.loop-i-preserved
 loop-i-preserved c = (
   c.in_ok-next.ensures.room,
   rw add-one (ap (λ o. runs_on o (c.args.limit - length c.advance.new.below.items) (reverse c.advance.new.below.items) (map (λ e. e.event) (drop (suc c.loop-i.i) c.args.events.now))) (sym c.in-Some.is)
-      ∙ shape_goes_on c.args.limit c.loop-i.top c.loop-i.below.items c.advance.new.below.items _ c.in_ok-next.field-0 c.args.events.now c.loop-i.i _ c.in_ok-next.ensures.runs c.shape.ensures c.loop-i.invariant.1),
+      ∙ goes_on c.args.limit c.loop-i.top c.loop-i.below.items c.advance.new.below.items _ c.in_ok-next.field-0 c.args.events.now c.loop-i.i _ c.in_ok-next.ensures.runs c.event.ensures c.loop-i.invariant.1),
 )
