@@ -224,6 +224,7 @@ impl<'a> Reader<'a> {
     }
 
     // The end of the line after a flow node that is no key. Of a plain scalar it is known where it begins.
+    #[inline(always)]
     fn end_inline(
         &mut self,
         scope: Scope<'a>,
@@ -362,6 +363,7 @@ fn begin_held_mapping<'a>(
 }
 
 // Puts an event before the one at an index, which begins that entry. Past the end nothing is changed.
+#[inline(always)]
 fn put_before<'a>(
     event: usize,
     start: PlacedEvent<'a>,

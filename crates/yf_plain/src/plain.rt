@@ -42,7 +42,6 @@ pub fn read_plain<'a>(alloc: Global, src: &Src<'a>, at: usize, n: i32, ctx: Ctx)
 }
 
 /// The same in a text without its lines.
-#[inline(always)]
 pub fn read_plain_in<'a>(alloc: Global, s: &'a str, at: usize, n: i32, ctx: Ctx) -> FoundText<'a>
     requires { IsCharBoundary s.now at }
     ensures reads { IfOk result (λ o. MatchOption o (Stuck (Plain s.now n ctx at))
