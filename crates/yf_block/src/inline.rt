@@ -17,7 +17,7 @@ use crate::content::{AfterProperties, Belonging, NodeFacts, NodeStart, is_apart}
 use crate::entry::{await_value, collection_start, entry_at, start_with};
 use crate::frame::{Frame, Kind, Reader, Scope, Step, Wanted};
 use crate::halt::{note_node, note_shorter};
-use crate::line::{keep_comments, read_line_end};
+use crate::line::read_line_end;
 use crate::look::{key_ends, sign_stands};
 use crate::properties::{PlacedProperties, copied, lead_of};
 use std::alloc::AllocError;
@@ -238,7 +238,7 @@ impl<'a> Reader<'a> {
         let text = scope.text;
         match read_line_end(scope.alloc, text, at)? {
             Some(Separation { comments, end }) => {
-                keep_comments(comments, &mut self.part.comments)?;
+                self.part.comments.append(comments)?;
                 note_node(text, plain, at, end, &mut self.progress, &self.frames);
                 Ok(Step::Resume(end))
             }

@@ -1,5 +1,5 @@
 //! Nodes where they are awaited: after an indicator, or at the start of a line (s-l+block-node, production 196).
-ghost use Rattle.std.specs.Prelude.{◌≡◌, ◌<◌, ◌≤◌, ℕ, IfOk, IfSome, ◌+◌, ◌++◌, Some, true, false, ◌⊎◌, MatchBool, MatchOption};
+ghost use Rattle.std.specs.Prelude.{◌≡◌, ◌<◌, ◌≤◌, ℕ, IfOk, IfSome, ◌+◌, Some, true, false, ◌⊎◌, MatchBool, MatchOption};
 ghost use Rattle.std.specs.Str.{IsCharBoundary};
 ghost use Rattle.yf_chars.specs.Chain.{Chosen, Stuck};
 ghost use Rattle.yf_comments.specs.Comments.{LineEnd};
@@ -19,7 +19,7 @@ use crate::halt::note_empty;
 use crate::look::{dash_stands, line_ends, node_ends};
 use std::alloc::{AllocError, Global};
 use yf_chars::text::stands;
-use yf_comments::comments::{Comments, Separation};
+use yf_comments::comments::Separation;
 use yf_comments::lines::line_end;
 use yf_events::event::ScalarStyle;
 use yf_flow::node::{empty_node, push_scalar};
@@ -43,21 +43,6 @@ pub(crate) fn read_line_end<'a>(
     }
 }
 
-/// Moves comments to the end of a list. After most lines there are none.
-#[inline(always)]
-pub(crate) fn keep_comments<'a>(
-    comments: Comments<'a>,
-    kept: &mut Comments<'a>,
-) -> Result<(), AllocError>
-    ensures { IfOk result (λ _. kept.new ≡ kept.old ++ comments.entry) }
-{
-    if comments.len() == 0 {
-        return Ok(());
-    }
-    kept.append(comments)?;
-    Ok(())
-}
-
 impl<'a> Reader<'a> {
     /// Reads the end of a line, and the comment lines after it, where a node is awaited that may have properties.
     pub(crate) fn end_line(&mut self, scope: Scope<'a>, at: usize) -> Result<Step, AllocError>
@@ -66,7 +51,7 @@ impl<'a> Reader<'a> {
     {
         match read_line_end(scope.alloc, scope.text, at)? {
             Some(Separation { comments, end }) => {
-                keep_comments(comments, &mut self.part.comments)?;
+                self.part.comments.append(comments)?;
                 self.progress.from = at;
                 self.progress.first = end == at;
                 Ok(Step::Line(end))

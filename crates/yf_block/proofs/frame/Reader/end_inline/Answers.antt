@@ -5,10 +5,10 @@ use Rattle.yf_block.proofs.CountedSteps.{later}
 use Rattle.yf_block.proofs.MovedLemmas.{failed_moved, resume_moved}
 use Rattle.yf_block.proofs.frame.Reader.end_inline.Goals as goal
 
-pub returns-in_ok-keep_comments-in-Some : goal.returns-in_ok-keep_comments-in-Some
-returns-in_ok-keep_comments-in-Some c = record {
+pub returns-in_ok-append-in-Some : goal.returns-in_ok-append-in-Some
+returns-in_ok-append-in-Some c = record {
   tied = λ d root before j r l.
-      leaf_finishes l (rw c.in-Some.is at c.in_ok-comments.ensures.reads) c.note_node.ensures.noted refl c.in_ok-keep_comments-in-Some.ensures refl
+      leaf_finishes l (rw c.in-Some.is at c.in_ok-comments.ensures.reads) c.note_node.ensures.noted refl c.in_ok-append-in-Some.ensures refl
       (ap (λ (p : Progress). p.last) c.note_node.ensures.others) (ap (λ (p : Progress). p.floor) c.note_node.ensures.others) (ap (λ (p : Progress). p.colons) c.note_node.ensures.others);
   stepped = resume_moved c.note_node.ensures.progress c.requires.standing.escapes (omega arith) (rw c.in-Some.is at c.in_ok-comments.ensures.place);
   counted = λ u total q.

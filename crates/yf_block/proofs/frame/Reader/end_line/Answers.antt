@@ -5,10 +5,10 @@ use Rattle.yf_block.proofs.CountedSteps.{later}
 use Rattle.yf_block.proofs.MovedLemmas.{failed_moved, line_moved}
 use Rattle.yf_block.proofs.frame.Reader.end_line.Goals as goal
 
-pub returns-in_ok-keep_comments-in-Some : goal.returns-in_ok-keep_comments-in-Some
-returns-in_ok-keep_comments-in-Some c = record {
+pub returns-in_ok-append-in-Some : goal.returns-in_ok-append-in-Some
+returns-in_ok-append-in-Some c = record {
   tied = λ d root before j r a.
-      line_ended _ (eqb-true c.in-Some.field-0.end c.args.at) (eqb-false c.in-Some.field-0.end c.args.at) a (rw c.in-Some.is at c.in_ok-comments.ensures.reads) refl c.in_ok-keep_comments-in-Some.ensures refl refl;
+      line_ended _ (eqb-true c.in-Some.field-0.end c.args.at) (eqb-false c.in-Some.field-0.end c.args.at) a (rw c.in-Some.is at c.in_ok-comments.ensures.reads) refl c.in_ok-append-in-Some.ensures refl refl;
   stepped = line_moved (record { floor = c.requires.progress.floor; from = c.requires.boundary; halt = c.requires.progress.halt }) c.requires.escapes (omega arith) (rw c.in-Some.is at c.in_ok-comments.ensures.place);
   counted = λ u total q.
       let p = rw c.in-Some.is at c.in_ok-comments.ensures.place in
