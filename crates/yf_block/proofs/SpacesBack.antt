@@ -5,7 +5,7 @@ use Rattle.std.specs.Bool.{⊤}
 use Rattle.std.specs.Str.{IsUtf8}
 use Rattle.yf_chars.specs.Class.{is_white}
 use Rattle.yf_chars.specs.Text.{code, next}
-use Rattle.yf_chars.proofs.TextLemmas.{code_from_byte, byte_from_code, bytes_from_mark, next_ascii}
+use Rattle.yf_chars.proofs.TextLemmas.{code_from_byte, bytes_from_mark, next_ascii}
 use Rattle.yf_lines.specs.Basic.{Break, Spaces}
 use Rattle.yf_lines.specs.Basic.Break.{lone_lf}
 use Rattle.yf_lines.proofs.BasicLemmas.{break_end, white_cases}
@@ -61,9 +61,6 @@ module _ (t : List ℕ) (u : IsUtf8 t) where
           (λ (p : 1 ≤ m). let same : i - 1 + m ≡ i + (m - 1) = omega arith in ap (code t) same ∙ s.each (m - 1) (omega arith))
           (cases_lt m 1);
     }
-
-    pub no_space : (i : ℕ) → get_or w i 0 ≢ 32 → code t i ≢ 32
-    no_space i n c = let b = byte_from_code t i u (omega arith) in n (ap (λ z. get_or z i 0) e ∙ b.1 ∙ c)
 
     module _ (i at : ℕ) (l : i ≤ at) (r : at ≤ length t) (s : Spaces t i (at - i)) where
       to_line : BlankBefore t at → BlankBefore t i

@@ -3,7 +3,6 @@ ghost use Rattle.std.specs.List.{prefix_len};
 ghost use Rattle.std.specs.Prelude.{◌≡◌, ◌≢◌, ◌+◌, ◌-◌, ◌<◌, ◌≤◌, true, false, not, nat_lt, ℕ, IfSome, MatchBool, MatchOption, length, slice_index, ⊤};
 ghost use Rattle.std.specs.Simd.Lanes.{chunk};
 ghost use Rattle.std.specs.Str.{IsCharBoundary};
-ghost use Rattle.yf_chars.specs.Signs.{SPACE};
 ghost use Rattle.yf_chars.specs.Text.{code};
 ghost use Rattle.yf_lines.specs.Basic.{Break, Spaces};
 ghost use Rattle.yf_comments.specs.Comments.{Blank, BlankBefore};
@@ -202,22 +201,23 @@ pub fn is_blank_after(text: &str, floor: usize, at: usize) -> bool
     ensures { (code text.now at ≡ 10 → code text.now (at - 1) ≢ 13) → (floor < at → Blank text.now floor)
         → NotedSince text.now floor at result }
 {
-    if follows_text(text, at) {
+    if follows_text(text, floor, at) {
         return false;
     }
     walk_back(text, floor, at)
 }
 
-// Whether spaces alone stand between a visible ASCII character and the offset, or a line feed and then spaces alone.
-fn follows_text(text: &str, at: usize) -> bool
+// Whether after the floor a visible ASCII character stands before the offset, and between them spaces alone, or a line feed and
+// then spaces alone.
+fn follows_text(text: &str, floor: usize, at: usize) -> bool
     ensures { MatchBool result (BlankBefore text.now at → ⊥) ⊤ }
 {
     let bytes = text.as_bytes();
     if at > bytes.len() {
         return false;
     }
-    let line = spaces_start(text, at);
-    if line < 2 {
+    let line = spaces_start(text, floor, at);
+    if line.saturating_sub(floor) < 2 {
         return false;
     }
     if bytes[line - 1] == b'\n' {
@@ -226,23 +226,22 @@ fn follows_text(text: &str, at: usize) -> bool
     is_visible(bytes[line - 1])
 }
 
-// Where the spaces begin that end at the offset.
+// Where the spaces begin that stand after the floor and end at the offset.
 #[inline(always)]
-fn spaces_start(text: &str, at: usize) -> usize
+fn spaces_start(text: &str, floor: usize, at: usize) -> usize
     requires { at ≤ length text.now }
     ensures order { result ≤ at }
     ensures spaces { Spaces text.now result (at - result) }
-    ensures first { 0 < result → code text.now (result - 1) ≢ SPACE }
 {
     let bytes = text.as_bytes();
     let mut place = at;
-    'spaces: while place > 0 {
+    'spaces: while place > floor {
         if bytes[place - 1] != b' ' {
             return place;
         }
         place -= 1;
     }
-    0
+    place
 }
 
 // Whether the byte is an ASCII character other than a space or a control.

@@ -1,16 +1,12 @@
-use Rattle.std.proofs.Common.{◌-◌, arith}
-use Rattle.yf_block.proofs.SpacesBack.{no_space, space_more}
+use Rattle.std.proofs.Common.{◌<◌, ◌-◌, arith}
+use Rattle.yf_block.proofs.SpacesBack.{space_more}
 use Rattle.yf_block.proofs.look.spaces_start.Goals as goal
-
-pub returns-then-bytes-place-ne32-clause-first : goal.returns-then-bytes-place-ne32-clause-first
-returns-then-bytes-place-ne32-clause-first c = λ l.
-    no_space c.args.text.now c.utf8.text c.as_bytes-bytes.result.now c.as_bytes-bytes.ensures.value (c.spaces.place - 1) c.if-bytes-place-ne32.true
 
 pub spaces-preserved : goal.spaces-preserved
 spaces-preserved c =
     let v = c.spaces.invariant in
     let o = v.order in
-    let z = c.spaces-test.true in
+    let z : 0 < c.spaces.place = omega (arith, c.spaces-test.true) in
     record {
       order = omega (arith, o);
       spaces = space_more c.args.text.now c.utf8.text c.as_bytes-bytes.result.now c.as_bytes-bytes.ensures.value c.spaces.place (c.args.at - c.spaces.place) _
