@@ -8,6 +8,24 @@ ghost use Rattle.yf_emit.specs.Kept.{is_within};
 
 use yf_comments::comment::Comment;
 
+/// Where a search begins that goes by halving alone: no list has as many comments.
+const UNKNOWN: usize = usize::MAX;
+
+/// Where the first search for an offset begins: at the first comment, where the comments are in the order of the text. Where they
+/// are not, which no reading of a text has, what a search finds would depend on where it begins.
+pub(crate) fn first_search(comments: &[Comment]) -> usize
+    ensures { result ≡ 0 → IsNonDecreasingBy (λ c. c.offset) comments.now }
+{
+    let mut k = 1;
+    while k < comments.len() {
+        if comments[k].offset < comments[k - 1].offset {
+            return UNKNOWN;
+        }
+        k += 1;
+    }
+    0
+}
+
 /// An index before which each comment begins before the byte offset, as far as the comment before `near` tells.
 #[inline(always)]
 fn low_by(comments: &[Comment], near: usize, offset: usize) -> usize
@@ -68,11 +86,11 @@ pub fn count_before(comments: &[Comment], offset: usize) -> usize
     ensures halves { IsNonDecreasingBy (λ c. c.offset) comments.now
         → IsPartitionPoint (λ c. nat_lt c.offset offset ≡ true) (λ c. nat_lt c.offset offset ≡ false) comments.now result }
 {
-    count_near(comments, comments.len(), offset)
+    count_near(comments, UNKNOWN, offset)
 }
 
 /// The first comment that begins at the byte offset `from` or later and before `to`, as an index. `near` is where the
-/// search begins, and where it ended from then on.
+/// search begins, and where it ended from then on, unless it is unknown.
 #[inline(always)]
 pub(crate) fn first_near(
     comments: &[Comment],
@@ -87,7 +105,9 @@ pub(crate) fn first_near(
         × HoldsAt (λ c. is_within from to (comment_value c) ≡ true) comments.now k) }
 {
     let k = count_near(comments, *near, from);
-    *near = k;
+    if *near != UNKNOWN {
+        *near = k;
+    }
     if k < comments.len() {
         if comments[k].offset < to {
             return Some(k);
@@ -104,7 +124,7 @@ pub fn first_between(comments: &[Comment], from: usize, to: usize) -> Option<usi
         (λ k. AllWithin (λ c. is_within from to (comment_value c) ≡ false) comments.now 0 k
         × HoldsAt (λ c. is_within from to (comment_value c) ≡ true) comments.now k) }
 {
-    let mut near = comments.len();
+    let mut near = UNKNOWN;
     first_near(comments, &mut near, from, to)
 }
 

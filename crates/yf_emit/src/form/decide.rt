@@ -9,6 +9,7 @@ ghost use Rattle.yf_emit.specs.EventsGiven.{given_in};
 ghost use Rattle.yf_emit.specs.Forms.{no_form, Decided};
 ghost use Rattle.yf_emit.specs.ImplicitKeys.{TellsImplicit};
 
+use crate::form::comments_before::first_search;
 use crate::form::forms::Forms;
 use crate::form::measure::{Measure, measure_all};
 use crate::form::measures::Measures;
@@ -180,7 +181,7 @@ pub fn decide(
     let mut list = Forms::new(alloc);
     let mut stack: Vec<Level> = Vec::new(alloc);
     let mut done = 0;
-    let mut near = 0;
+    let mut near = first_search(reading.comments());
     let measured = MeasuredReading {
         reading,
         measures,
