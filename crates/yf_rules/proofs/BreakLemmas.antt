@@ -1,10 +1,5 @@
 -- Laws of the first line whose break begins with a carriage return.
-use Rattle.std.proofs.Common.{◌≡◌, ◌≢◌, ℕ, ◌+◌, ◌<◌, Bool, true, false, List, [], ◌∷◌, length, drop, get_or, ap, ◌∙◌, sym, subst, refl, ⊎_elim, arith, add-one, Some, eqb, if◌then◌else◌, true≢false}
-use Rattle.std.specs.List.{list_any}
-use Rattle.std.specs.Str.{IsUtf8}
-use Rattle.std.proofs.lemmas.Bool.{cases_eq, ne_eqb}
-use Rattle.std.proofs.lemmas.List.Folds.{list_any_at}
-use Rattle.yf_chars.proofs.TextLemmas.{byte_from_code}
+use Rattle.std.proofs.Common.{◌≡◌, ℕ, ◌+◌, ◌<◌, true, false, List, [], ◌∷◌, length, drop, get_or, ap, ◌∙◌, sym, subst, add-one, Some, eqb, if◌then◌else◌}
 use Rattle.std.specs.Prelude.{slice_get}
 use Rattle.std.proofs.Math.Seq.{drop-cons}
 use Rattle.std.proofs.lemmas.Option.{slice_get_within, get_or_from_slice_get}
@@ -27,15 +22,3 @@ pub return_here : (t : List ℕ) (ls : List Line) (i : ℕ) (l : Line) → slice
     → first_return t (drop i ls) ≡ l.end ∷ []
 return_here t ls i l e y =
     ap (first_return t) (drop_here ls i l e) ∙ ap (λ b. if b then l.end ∷ [] else first_return t (drop (i + 1) ls)) y
-
--- a text without that byte has none
-pub no_return_byte : (t bytes : List ℕ) (b : Bool) → IsUtf8 t → bytes ≡ t → b ≡ list_any (λ y. eqb y 13) bytes → b ≡ false → (k : ℕ) → code t k ≢ 13
-no_return_byte t bytes b u e v f = λ k h.
-    let w = byte_from_code t k u (omega (arith, h)) in
-    true≢false (sym (list_any_at (λ y. eqb y 13) t k 0 w.0 (ap (λ y. eqb y 13) (w.1 ∙ h))) ∙ ap (list_any (λ y. eqb y 13)) (sym e) ∙ sym v ∙ f)
-
-pub no_return : (t : List ℕ) (ls : List Line) → ((k : ℕ) → code t k ≢ 13) → first_return t ls ≡ []
-no_return t [] f = refl
-no_return t (l ∷ ls) f = ⊎_elim (λ (h : code t l.end ≡ 13). absurd (f l.end h))
-    (λ (h : code t l.end ≢ 13). ap (λ b. if b then l.end ∷ [] else first_return t ls) (ne_eqb (code t l.end) 13 h) ∙ no_return t ls f)
-    (cases_eq (code t l.end) 13)

@@ -40,7 +40,6 @@ pub mod KeyPassLemmas
 pub mod KeyListLemmas
 -- key-mark
 pub mod NeedlessLemmas
-pub mod SignLemmas
 -- the definitions by small readings
 pub mod ShownMarks
 mod ShownKeys

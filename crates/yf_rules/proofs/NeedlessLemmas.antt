@@ -75,9 +75,6 @@ pub marked_within : {t : List ℕ} {r : Lists} {i o : ℕ} → IsMarked t r i o 
 marked_within {r = r} {i = i} (marked {entry = entry} at mark) =
     let w = slice_get_within (entries_of r) i (Some entry) at in omega (arith, w, length-map r.events (λ e. e.entry))
 
-pub no_mark_there : (t : List ℕ) (r : Lists) (i o : ℕ) → ((k : ℕ) → HasQuestionMark t k → ⊥) → IsMarked t r i o → ⊥
-no_mark_there t r i o f (marked {entry = entry} at mark) = f entry.start mark
-
 some_same : {X : Type 0} {a b : X} → Some a ≡ Some b → a ≡ b
 some_same e = cc
 

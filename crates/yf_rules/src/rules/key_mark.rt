@@ -5,7 +5,7 @@ ghost use Rattle.yf_events.specs.Tree.{DocumentTree};
 ghost use Rattle.yf_rules.specs.Exact.{Answers};
 ghost use Rattle.yf_rules.specs.Layouts.{NeedlessMark};
 ghost use Rattle.yf_rules.specs.MarkedKeys.{TellsKeys};
-ghost use Rattle.yf_rules.specs.QuestionMarks.{HasQuestionMark, IsMarked};
+ghost use Rattle.yf_rules.specs.QuestionMarks.{IsMarked};
 ghost use Rattle.yf_rules.specs.OuterFlow.{FlowsDone};
 ghost use Rattle.yf_rules.specs.Sets.{key_mark_at};
 
@@ -13,7 +13,6 @@ use crate::facts::outer_flow::past_flow;
 use crate::facts::whites::has_question_mark;
 use crate::rule::{Global, Offsets, Reading, Src, Style, push_found};
 pub use crate::rules::StyleRule::KeyMark;
-use memchr::memchr;
 use yf_emit::form::decide::decide;
 use yf_emit::form::forms::Forms;
 use yf_emit::form::measure::measure_all;
@@ -52,41 +51,10 @@ fn mark_of(src: &Src, reading: &Reading, i: usize) -> Option<usize>
     }
 }
 
-/// Whether a `?` may stand in the text before white space, a break or the end of the text, as before a key. In most texts none
-/// does.
-fn may_mark(text: &str) -> bool
-    ensures { result ≡ false → (i : ℕ) → HasQuestionMark text.now i → ⊥ }
-{
-    let bytes = text.as_bytes();
-    let mut at = 0;
-    while at < bytes.len() {
-        match memchr(b'?', &bytes[at..]) {
-            Some(passed) => {
-                let next = at + passed + 1;
-                if next >= bytes.len() {
-                    return true;
-                }
-                if bytes[next] <= b' ' {
-                    return true;
-                }
-                if bytes[next] > b'~' {
-                    return true;
-                }
-                at = next;
-            }
-            None => return false,
-        }
-    }
-    false
-}
-
 /// Whether any entry is written with a `?`.
 fn has_marks(src: &Src, reading: &Reading) -> bool
     ensures { result ≡ false → (i o : ℕ) → IsMarked src.now.text reading.now i o → ⊥ }
 {
-    if !may_mark(src.text()) {
-        return false;
-    }
     for i in 0..reading.len() {
         match mark_of(src, reading, i) {
             Some(_) => return true,

@@ -1,7 +1,6 @@
 //! Rule 6, line-breaks.
 ghost use Rattle.std.specs.Option.{option_to_list};
-ghost use Rattle.std.specs.Prelude.{◌≡◌, ◌≢◌, ℕ, false, IfOk};
-ghost use Rattle.yf_chars.specs.Text.{code};
+ghost use Rattle.std.specs.Prelude.{◌≡◌, IfOk};
 ghost use Rattle.yf_rules.specs.Sets as Sets;
 
 use crate::rule::{Global, Offsets, Src, listed};
@@ -12,17 +11,7 @@ use yf_chars::text::stands;
 pub fn offsets(alloc: Global, src: &Src) -> Offsets
     ensures { IfOk result (λ offsets. offsets.items ≡ Sets.first_return src.now.text src.now.lines) }
 {
-    if !has_return(src.text()) {
-        return Ok(Vec::new(alloc));
-    }
     listed(alloc, first_return(src))
-}
-
-/// Whether the text has a carriage return; few texts have one.
-fn has_return(text: &str) -> bool
-    ensures { result ≡ false → (k : ℕ) → code text.now k ≢ 13 }
-{
-    text.as_bytes().contains(&b'\r')
 }
 
 /// The first offset at which a line ends with a break that begins with a carriage return.

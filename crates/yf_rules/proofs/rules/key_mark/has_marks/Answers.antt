@@ -1,12 +1,8 @@
-use Rattle.std.proofs.Common.{◌≡◌, ◌<◌, ◌≤◌, ℕ, subst, ⊎_elim, arith}
+use Rattle.std.proofs.Common.{◌≡◌, ◌<◌, ◌≤◌, subst, ⊎_elim, arith}
 use Rattle.std.proofs.lemmas.Bool.{cases_lt}
-use Rattle.yf_rules.specs.QuestionMarks.{HasQuestionMark, IsMarked}
-use Rattle.yf_rules.proofs.NeedlessLemmas.{marked_within, no_mark_there}
+use Rattle.yf_rules.specs.QuestionMarks.{IsMarked}
+use Rattle.yf_rules.proofs.NeedlessLemmas.{marked_within}
 use Rattle.yf_rules.proofs.rules.key_mark.has_marks.Goals as goal
-
-pub returns-then-not-may_mark : goal.returns-then-not-may_mark
-returns-then-not-may_mark c = λ e k o m.
-    no_mark_there c.args.src.now.text c.args.reading.now k o (subst (λ t. (i : ℕ) → HasQuestionMark t i → ⊥) c.text.ensures (c.may_mark.ensures c.if-not-may_mark.true)) m
 
 pub loop-i-preserved : goal.loop-i-preserved
 loop-i-preserved c = λ k o l m.

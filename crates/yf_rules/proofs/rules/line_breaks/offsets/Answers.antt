@@ -1,15 +1,8 @@
-use Rattle.std.proofs.Common.{◌≡◌, ◌≢◌, ℕ, sym, subst, ◌∙◌}
+use Rattle.std.proofs.Common.{◌≡◌, sym, ◌∙◌}
 use Rattle.std.specs.Option.{option_to_list}
 use Rattle.std.proofs.lemmas.Result.{IfOk-weaker}
-use Rattle.yf_chars.specs.Text.{code}
-use Rattle.yf_rules.proofs.BreakLemmas.{no_return}
 use Rattle.yf_rules.specs.Sets.{first_return}
 use Rattle.yf_rules.proofs.rules.line_breaks.offsets.Goals as goal
-
-pub returns-then-not-has_return : goal.returns-then-not-has_return
-returns-then-not-has_return c =
-    let v = c.args.src.now in
-    c.new.ensures.items ∙ sym (no_return v.text v.lines (subst (λ t. (k : ℕ) → code t k ≢ 13) c.text.ensures (c.has_return.ensures c.if-not-has_return.true)))
 
 pub returns : goal.returns
 returns c =
