@@ -65,3 +65,17 @@ EndsInText src k = (l : Line) → slice_get src.lines k ≡ Some l → (l.start 
 
 pub text_no_blank_end : (src : Table) (k : ℕ) (b : Bool) → EndsInText src k → (o : ℕ) → BlankEnd src k b o → ⊥
 text_no_blank_end src k b f o (at_line_end {l} e w h) = no_white_end src.text l.start l.end o (f l e).1 w h
+
+-- the line of that index has no text, or a last character that is no white space
+pub empty_no_blank_end : (src : Table) (k : ℕ) (l : Line) → slice_get src.lines k ≡ Some l → l.end ≤ l.start → (o : ℕ) → BlankEnd src k false o → ⊥
+empty_no_blank_end src k l e n o (at_line_end {l = m} f w h) =
+    let same : l ≡ m = some_same (sym e ∙ f) in
+    let z : m.end ≤ m.start = subst (λ (x : Line). x.end ≤ x.start) same n in
+    let from = w.from in
+    omega (arith, from, h, z)
+
+pub last_no_blank_end : (src : Table) (k : ℕ) (l : Line) → slice_get src.lines k ≡ Some l → is_white (code src.text (l.end - 1)) ≡ false
+    → (o : ℕ) → BlankEnd src k false o → ⊥
+last_no_blank_end src k l e n o (at_line_end {l = m} f w h) =
+    let same : l ≡ m = some_same (sym e ∙ f) in
+    no_white_end src.text m.start m.end o (subst (λ (x : Line). is_white (code src.text (x.end - 1)) ≡ false) same n) w h

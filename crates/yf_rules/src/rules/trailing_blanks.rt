@@ -7,6 +7,7 @@ use crate::facts::noted_lines::content_lines;
 use crate::facts::whites::{ends_in_text, whites_before};
 use crate::rule::{Global, Offsets, Reading, Src, push_found};
 pub use crate::rules::StyleRule::TrailingBlanks;
+use yf_lines::basic::white_stands;
 
 /// The first of the white space that ends a line, unless it is a content line of a block scalar.
 pub fn offsets(alloc: Global, src: &Src, reading: &Reading) -> Offsets
@@ -28,12 +29,27 @@ fn has_blank_ends(src: &Src) -> bool
     ensures { result ≡ false → (k o : ℕ) → BlankEnd src.now k false o → ⊥ }
 {
     for k in 0..src.lines().len() {
-        match blank_end(src, k, false) {
-            Some(_) => return true,
-            None => {}
+        if ends_in_white(src, k) {
+            return true;
         }
     }
     false
+}
+
+/// Whether white space ends the line of that index, as its last byte tells.
+#[inline(always)]
+fn ends_in_white(src: &Src, k: usize) -> bool
+    requires { k < length src.now.lines }
+    ensures { result ≡ false → (o : ℕ) → BlankEnd src.now k false o → ⊥ }
+{
+    if ends_in_text(src, k) {
+        return false;
+    }
+    let line = src.lines().line(k);
+    if line.end <= line.start {
+        return false;
+    }
+    white_stands(src.text(), line.end - 1)
 }
 
 /// Where the white space begin that end the line of that index, unless it is a content line of a block scalar.

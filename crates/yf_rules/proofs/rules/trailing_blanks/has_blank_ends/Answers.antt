@@ -8,7 +8,7 @@ pub loop-k-preserved : goal.loop-k-preserved
 loop-k-preserved c = λ j o l e.
     ⊎_elim (λ (h : j < c.loop-k.k). c.loop-k.invariant j o h e)
     (λ (h : c.loop-k.k ≤ j).
-    c.in-None.ensures o (subst (λ n. BlankEnd c.args.src.now n false o) (let q : j ≡ c.loop-k.k = omega (arith, l, h) in q) e))
+    c.ends_in_white.ensures c.if-ends_in_white.false o (subst (λ n. BlankEnd c.args.src.now n false o) (let q : j ≡ c.loop-k.k = omega (arith, l, h) in q) e))
     (cases_lt j c.loop-k.k)
 
 pub returns : goal.returns
