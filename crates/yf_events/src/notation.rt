@@ -195,6 +195,15 @@ fn put_start<'x, W: Sink>(
     )
 }
 
+// Writes a line of one part.
+#[inline(never)]
+fn put_line<'x, W: Sink>(writer: &mut W, part: &'x str) -> bool
+    ensures { Puts (W.contents writer.old) (W.contents writer.new) (W.has_failed writer.old) (W.has_failed writer.new)
+        (concat (part.now ∷ codes "\n" ∷ [])) result }
+{
+    put_texts(writer, &[part, "\n"])
+}
+
 // Writes a line of two parts.
 #[inline(never)]
 fn put_parts<'x, W: Sink>(writer: &mut W, first: &'x str, second: &'x str) -> bool
@@ -241,7 +250,8 @@ fn put_event<'x, W: Sink>(
     }
 }
 
-// Writes the line of an event of this kind with this text and without properties, as most are.
+// Writes the line of an event of this kind with this text and without properties, as most are, by the writes by which `put_event`
+// does.
 #[inline(always)]
 #[tactic(auto, unfolding(crate::specs::Notation::event_line))]
 fn put_alone<W: Sink>(writer: &mut W, shape: Shape, text: &str) -> bool
@@ -250,18 +260,18 @@ fn put_alone<W: Sink>(writer: &mut W, shape: Shape, text: &str) -> bool
 {
     match shape {
         Shape::Scalar { style } => put_bare_scalar(writer, style, text),
-        Shape::MapStart { flow: false } => put_text(writer, b"+MAP\n"),
-        Shape::MapStart { flow: true } => put_text(writer, b"+MAP {}\n"),
+        Shape::MapStart { flow: false } => put_line(writer, "+MAP"),
+        Shape::MapStart { flow: true } => put_line(writer, "+MAP {}"),
         Shape::MapEnd => put_text(writer, b"-MAP\n"),
-        Shape::SeqStart { flow: false } => put_text(writer, b"+SEQ\n"),
-        Shape::SeqStart { flow: true } => put_text(writer, b"+SEQ []\n"),
+        Shape::SeqStart { flow: false } => put_line(writer, "+SEQ"),
+        Shape::SeqStart { flow: true } => put_line(writer, "+SEQ []"),
         Shape::SeqEnd => put_text(writer, b"-SEQ\n"),
         Shape::StreamStart => put_text(writer, b"+STR\n"),
         Shape::StreamEnd => put_text(writer, b"-STR\n"),
-        Shape::DocStart { explicit: false } => put_text(writer, b"+DOC\n"),
-        Shape::DocStart { explicit: true } => put_text(writer, b"+DOC ---\n"),
-        Shape::DocEnd { explicit: false } => put_text(writer, b"-DOC\n"),
-        Shape::DocEnd { explicit: true } => put_text(writer, b"-DOC ...\n"),
+        Shape::DocStart { explicit: false } => put_line(writer, "+DOC"),
+        Shape::DocStart { explicit: true } => put_parts(writer, "+DOC", " ---"),
+        Shape::DocEnd { explicit: false } => put_line(writer, "-DOC"),
+        Shape::DocEnd { explicit: true } => put_parts(writer, "-DOC", " ..."),
         Shape::Alias => put_parts(writer, "=ALI *", text),
     }
 }
