@@ -66,6 +66,12 @@ pub(crate) fn letter_stands(s: &str, at: usize) -> bool
 pub(crate) fn end_stands(s: &str, at: usize) -> bool
     ensures { result ≡ true → EndAt s.now at }
 {
+    let bytes = s.as_bytes();
+    if at < bytes.len() {
+        if bytes[at] > b':' {
+            return false;
+        }
+    }
     if stands(s, at, b'\n') {
         return true;
     }

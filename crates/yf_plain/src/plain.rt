@@ -234,8 +234,8 @@ fn plain_in_line(s: &str, at: usize, ctx: Ctx) -> usize
     }
 }
 
-// The offset after ordinary characters that stand there after a character of content: after all, or where a letter begins 16
-// bytes after all of these. In block contexts, in which no scalar stands, none is looked for.
+// The offset after ordinary characters that stand there after a character of content: after all, or after those among the next 16
+// bytes. In block contexts, in which no scalar stands, none is looked for.
 #[inline(always)]
 fn ordinary_run(s: &str, at: usize, ctx: Ctx) -> usize
     requires boundary { IsCharBoundary s.now at }
@@ -248,11 +248,12 @@ fn ordinary_run(s: &str, at: usize, ctx: Ctx) -> usize
     if is_block(ctx) {
         return at;
     }
+    if !ordinary_stands(s, at) {
+        return at;
+    }
     let bytes = s.as_bytes();
     if bytes.len() - at >= 16 {
-        if bytes[at] > b':' {
-            return at + ordinary_lanes(bytes, at);
-        }
+        return at + ordinary_lanes(bytes, at);
     }
     let mut end = at;
     while ordinary_stands(s, end) {

@@ -9,18 +9,21 @@ use Rattle.yf_plain.proofs.plain.ordinary_run.Goals as goal
 pub returns-then-is_block-clause-reads : goal.returns-then-is_block-clause-reads
 returns-then-is_block-clause-reads c = (_, done)
 
-pub returns-then-bytes-at-gt58-clause-reads : goal.returns-then-bytes-at-gt58-clause-reads
-returns-then-bytes-at-gt58-clause-reads c =
+pub returns-then-not-ordinary_stands-clause-reads : goal.returns-then-not-ordinary_stands-clause-reads
+returns-then-not-ordinary_stands-clause-reads c = (_, done)
+
+pub returns-then-bytes-at-ge16-clause-reads : goal.returns-then-bytes-at-ge16-clause-reads
+returns-then-bytes-at-ge16-clause-reads c =
     (run_found c.args.s.now c.as_bytes-bytes.result.now c.args.ctx c.args.at _ c.as_bytes-bytes.ensures.value c.utf8.s (sym c.is_block.ensures ∙ c.if-is_block.false)
     (omega (arith, c.as_bytes-bytes.ensures.len)) c.ordinary_lanes.ensures c.requires.behind c.requires.boundary).reads
 
-pub returns-then-bytes-at-gt58-clause-behind : goal.returns-then-bytes-at-gt58-clause-behind
-returns-then-bytes-at-gt58-clause-behind c =
+pub returns-then-bytes-at-ge16-clause-behind : goal.returns-then-bytes-at-ge16-clause-behind
+returns-then-bytes-at-ge16-clause-behind c =
     (run_found c.args.s.now c.as_bytes-bytes.result.now c.args.ctx c.args.at _ c.as_bytes-bytes.ensures.value c.utf8.s (sym c.is_block.ensures ∙ c.if-is_block.false)
     (omega (arith, c.as_bytes-bytes.ensures.len)) c.ordinary_lanes.ensures c.requires.behind c.requires.boundary).behind
 
-pub returns-then-bytes-at-gt58-clause-boundary : goal.returns-then-bytes-at-gt58-clause-boundary
-returns-then-bytes-at-gt58-clause-boundary c =
+pub returns-then-bytes-at-ge16-clause-boundary : goal.returns-then-bytes-at-ge16-clause-boundary
+returns-then-bytes-at-ge16-clause-boundary c =
     (run_found c.args.s.now c.as_bytes-bytes.result.now c.args.ctx c.args.at _ c.as_bytes-bytes.ensures.value c.utf8.s (sym c.is_block.ensures ∙ c.if-is_block.false)
     (omega (arith, c.as_bytes-bytes.ensures.len)) c.ordinary_lanes.ensures c.requires.behind c.requires.boundary).boundary
 
@@ -29,7 +32,7 @@ loop-end-init c = record { flowing = sym c.is_block.ensures ∙ c.if-is_block.fa
 
 pub loop-end-preserved : goal.loop-end-preserved
 loop-end-preserved c =
-    let o = c.ordinary_stands.ensures c.loop-end-test.true in
+    let o = c.ordinary_stands-in-loop-end.ensures c.loop-end-test.true in
     let e = o.plain c.args.ctx c.loop-end.invariant.flowing in
     record {
       flowing = c.loop-end.invariant.flowing;
