@@ -1,5 +1,6 @@
 //! The reader of double-quoted scalars. Offsets count bytes.
 ghost use Rattle.std.specs.Prelude.{◌≡◌, ◌<◌, ◌≤◌, ◌++◌, ◌+◌, ◌∷◌, [], ℕ, Bool, true, false, List, All, IfSome, IfOk, IfErr, IsCharBoundary, MatchOption, length, encode_utf8_all};
+ghost use Rattle.std.specs.String.{string_bytes};
 ghost use Rattle.yf_chars.specs.Signs.{DOUBLE_QUOTE};
 ghost use Rattle.yf_lines.specs.Basic.{Clear};
 ghost use Rattle.yf_lines.specs.FaultPlaces.{IsFirstPlace};
@@ -190,7 +191,7 @@ fn double_body<'a>(alloc: Global, s: &'a str, at: usize, width: Option<usize>) -
     let mut end = at;
     'chars: loop {
         let word_end = words_end(s, end);
-        text.push_str(&s[end..word_end])?;
+        push_if_filled(&mut text, &s[end..word_end])?;
         let gap = match double_gap(s, word_end, width) {
             None => return Ok(None),
             Some(gap) => gap,
@@ -212,6 +213,17 @@ fn double_body<'a>(alloc: Global, s: &'a str, at: usize, width: Option<usize>) -
             }
         }
     }
+}
+
+// Appends a text, which is empty where one escape follows another.
+#[inline(always)]
+fn push_if_filled(out: &mut String, text: &str) -> Result<(), AllocError>
+    ensures { IfOk result (λ _. string_bytes out.new ≡ string_bytes out.old ++ text.now) }
+{
+    if text.is_empty() {
+        return Ok(());
+    }
+    out.push_str(text)
 }
 
 // The character that is shown for a value: U+FFFD where an escape is none.

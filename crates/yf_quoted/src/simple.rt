@@ -9,7 +9,7 @@ ghost use Rattle.yf_quoted.specs.Ordinary.{is_ordinary, Words};
 use std::simd::prelude::*;
 use yf_chars::classes::is_nb_json;
 use yf_chars::lanes::lanes_before;
-use yf_chars::text::peek;
+use yf_chars::text::{peek, stands};
 use yf_lines::basic::{is_forbidden_at, white_stands};
 
 // Whether the ASCII character stands for itself at whatever place. Most are lower-case letters, which take two tests.
@@ -101,13 +101,17 @@ pub(crate) fn simple_char(s: &str, at: usize) -> Option<usize>
     }
 }
 
-// The offset after the last of all characters that stand for themselves there, with white space between them.
+// The offset after the last of all characters that stand for themselves there, with white space between them. None stand where an
+// escape begins.
 pub(crate) fn words_end(s: &str, at: usize) -> usize
     requires { IsCharBoundary s.now at }
     ensures reads { Words s.now at result }
     ensures boundary { IsCharBoundary s.now result }
     ensures order { at ≤ result }
 {
+    if stands(s, at, b'\\') {
+        return at;
+    }
     let mut end = at;
     let mut next = at;
     'chars: loop {

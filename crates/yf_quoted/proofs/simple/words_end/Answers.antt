@@ -3,6 +3,9 @@ use Rattle.yf_chars.specs.Chain.Chain.{done}
 use Rattle.yf_quoted.proofs.SimpleLemmas.{no_words, words_more, words_found, whites_more}
 use Rattle.yf_quoted.proofs.simple.words_end.Goals as goal
 
+pub returns-then-stands-clause-reads : goal.returns-then-stands-clause-reads
+returns-then-stands-clause-reads c = words_found c.requires.0 (no_words c.args.s.now c.args.at)
+
 pub chars-init : goal.chars-init
 chars-init c = record { words = no_words c.args.s.now c.args.at; whites = (_, done); boundary = c.requires; next = c.requires; order = omega arith; behind = omega arith }
 
