@@ -1,5 +1,5 @@
 -- Tags that are kept for the events that have one, and the list that has for each event its tag or none.
-use Rattle.std.proofs.Common.{ℕ, zero, suc, true, false, true≢false, ◌+◌, ◌<◌, ◌≤◌, ◌≡◌, ◌≢◌, ◌==◌, List, [], ◌∷◌, ◌++◌, length, get_or, Option, Some, None, Result, Ok, Err, if◌then◌else◌, inl, inr, refl, sym, ap, ◌∙◌, subst, arith, append-nil, append_assoc, replicate}
+use Rattle.std.proofs.Common.{ℕ, zero, suc, ◌+◌, ◌<◌, ◌≤◌, ◌≡◌, ◌≢◌, ◌==◌, List, [], ◌∷◌, ◌++◌, length, get_or, Option, Some, None, Result, Ok, Err, if◌then◌else◌, inl, inr, refl, sym, ap, ◌∙◌, subst, arith, append-nil, append_assoc, replicate}
 use Rattle.std.specs.Prelude.{slice_get, MatchResult}
 use Rattle.std.specs.List.Sorted.{IsSearchInRange, IsBinarySearchResult, IsNonDecreasingBy}
 use Rattle.std.specs.Ordering.{nat_cmp, ordering_index}
@@ -123,11 +123,10 @@ no_tag_found n ts v i seen l none =
     let inside : i < n = omega (arith, l, ap length seen, listed_length n ts) in
     ap (λ w. slice_get w i) (sym seen) ∙ listed_at n ts i inside ∙ ap Some none
 
-pub none_kept : (n : ℕ) (ts : List TaggedEvent) (v : List (Option (List ℕ))) (i : ℕ) → tags_listed n ts ≡ v → i < length v → (length ts == 0) ≡ true → slice_get v i ≡ Some None
-none_kept n [] v i seen l none = no_tag_found n [] v i seen l refl
-none_kept n (t ∷ ts) v i seen l none =
-    let some : (suc (length ts) == 0) ≡ false = grind (arith, nat_tests) in
-    absurd (true≢false (sym none ∙ some))
+-- where no tag is kept
+pub none_kept : (n : ℕ) (ts : List TaggedEvent) (i : ℕ) → i < length (tags_listed n ts) → length ts ≡ 0 → slice_get (tags_listed n ts) i ≡ Some None
+none_kept n [] i l none = no_tag_found n [] (tags_listed n []) i refl l refl
+none_kept n (t ∷ ts) i l none = absurd (omega (arith, none))
 
 -- the next events have no tag
 pub next_all_untagged : (j n count : ℕ) (ts : List TaggedEvent) → Rises n ts → count ≡ n + j → tags_listed count ts ≡ tags_listed n ts ++ replicate j None

@@ -79,6 +79,7 @@ impl<'a> Tags<'a> {
 
     /// The resolved tag of the event at an index. In most texts no tag is written.
     #[inline(always)]
+    #[tactic(auto, using(crate::proofs::TagLists::none_kept))]
     pub fn at(&self, i: usize) -> Option<&ResolvedTag<'a>>
         requires { i < length self.now }
         ensures { slice_get self.now i ≡ Some (name_value result) }
