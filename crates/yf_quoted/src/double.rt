@@ -1,6 +1,5 @@
 //! The reader of double-quoted scalars. Offsets count bytes.
 ghost use Rattle.std.specs.Prelude.{◌≡◌, ◌<◌, ◌≤◌, ◌++◌, ◌+◌, ◌∷◌, [], ℕ, Bool, true, false, List, All, IfSome, IfOk, IfErr, IsCharBoundary, MatchOption, length, encode_utf8_all};
-ghost use Rattle.std.specs.String.{string_bytes};
 ghost use Rattle.yf_chars.specs.Signs.{DOUBLE_QUOTE};
 ghost use Rattle.yf_lines.specs.Basic.{Clear};
 ghost use Rattle.yf_lines.specs.FaultPlaces.{IsFirstPlace};
@@ -11,6 +10,7 @@ ghost use Rattle.yf_quoted.specs.Quoted as Q;
 ghost use Rattle.yf_quoted.specs.Fault.{DoubleFault};
 ghost use Rattle.yf_chars.specs.Text.{Reads};
 
+use crate::filled::push_if_filled;
 use crate::gap::{Found, double_gap, is_block, lines_width, push_gap};
 use crate::offsets::Offsets;
 use crate::simple::{ordinary_run, simple_char, words_end};
@@ -213,17 +213,6 @@ fn double_body<'a>(alloc: Global, s: &'a str, at: usize, width: Option<usize>) -
             }
         }
     }
-}
-
-// Appends a text, which is empty where one escape follows another.
-#[inline(always)]
-fn push_if_filled(out: &mut String, text: &str) -> Result<(), AllocError>
-    ensures { IfOk result (λ _. string_bytes out.new ≡ string_bytes out.old ++ text.now) }
-{
-    if text.is_empty() {
-        return Ok(());
-    }
-    out.push_str(text)
 }
 
 // The character that is shown for a value: U+FFFD where an escape is none.

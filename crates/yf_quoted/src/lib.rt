@@ -2,6 +2,7 @@
 #![tactic(auto)]
 
 pub mod double;
+pub mod filled;
 pub mod gap;
 pub mod offsets;
 mod own;

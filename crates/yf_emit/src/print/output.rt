@@ -12,6 +12,7 @@ use crate::text::block::push_spaces;
 use std::alloc::{AllocError, Global};
 use yf_comments::comment::Comment;
 use yf_events::reading::Reading;
+use yf_quoted::filled::push_if_filled;
 
 /// What has been printed, and the line that is being made: comments that are met meanwhile stand before that line.
 #[derive(Drop)]
@@ -85,17 +86,6 @@ fn push_blank(out: &mut String, is_blank: bool) -> Result<(), AllocError>
         return out.push('\n');
     }
     Ok(())
-}
-
-/// Appends a text that is most often empty.
-#[inline(always)]
-fn push_if_filled(out: &mut String, text: &str) -> Result<(), AllocError>
-    ensures { OnOk result (string_bytes out.new ≡ string_bytes out.old ++ text.now) }
-{
-    if text.is_empty() {
-        return Ok(());
-    }
-    out.push_str(text)
 }
 
 impl Output {
